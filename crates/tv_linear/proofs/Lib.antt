@@ -1,0 +1,13 @@
+pub mod Ring
+pub mod Euclid
+pub mod Tightened
+pub mod PlainLists
+pub mod Entries
+pub mod Building
+pub mod Adding
+pub mod Depths
+pub mod Summing
+pub mod RowValues
+pub mod KnownLemmas
+pub mod Covered
+pub mod FallLemmas

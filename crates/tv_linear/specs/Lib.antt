@@ -1,0 +1,13 @@
+pub mod Linear
+pub mod Arithmetic
+pub mod Tight
+pub mod Fits
+pub mod Totals
+pub mod Depth
+pub mod ChoiceDepth
+pub mod Regions
+pub mod Known
+pub mod Refutation
+pub mod Covers
+pub mod Terms
+pub mod Falls

@@ -1,0 +1,27 @@
+//! Rows of whole numbers, regions made of them, and the proof trees of certificates over them.
+//!
+//! A row is whole coefficients and a constant. As a term it has a value at a list of numbers, one for each
+//! column. As a condition it is met where that value is at most 0.
+#![tactic(auto)]
+
+mod choice;
+mod columns;
+mod cover;
+mod fault;
+pub mod held;
+mod lists;
+mod narrow;
+mod region;
+mod row;
+pub mod sums;
+#[cfg(test)]
+mod tests;
+mod tight;
+mod total;
+
+pub use choice::{Choice, ChoiceTree};
+pub use cover::{Cover, CoverTree};
+pub use fault::RowFault;
+pub use region::{Piece, Poly, Region, Update};
+pub use row::Row;
+pub use total::Total;

@@ -1,0 +1,42 @@
+ghost use Rattle.std.specs.Prelude.{◌≡◌, ◌^◌, ◌<◌, ◌≤◌, neg_ℤ, unsigned_abs, All, IfOk, map, length};
+ghost use Rattle.tv_linear.specs.Linear.{IsWithin};
+ghost use Rattle.tv_linear.specs.Arithmetic.{zeros, unit};
+
+use crate::narrow::opposite;
+use std::alloc::{AllocError, Global};
+
+/// So many zeros.
+pub fn all_zero(alloc: Global, columns: u32) -> Result<Vec<i128>, AllocError>
+    ensures exact { IfOk result (λ v. v.items ≡ zeros columns) }
+    ensures counted { IfOk result (λ v. length v.items ≡ columns) }
+    ensures small { IfOk result (λ v. All (λ z. unsigned_abs z ≤ 0) v.items) }
+{
+    let numbers = vec![in alloc; 0; columns as usize]?;
+    Ok(numbers)
+}
+
+/// 1 in the one column and 0 in the others.
+pub fn one_at(alloc: Global, columns: u32, column: u32) -> Result<Vec<i128>, AllocError>
+    requires { column < columns }
+    ensures exact { IfOk result (λ v. v.items ≡ unit columns column) }
+    ensures counted { IfOk result (λ v. length v.items ≡ columns) }
+    ensures narrow { IfOk result (λ v. All (IsWithin 62) v.items) }
+{
+    let mut numbers = vec![in alloc; 0; columns as usize]?;
+    numbers[column as usize] = 1;
+    Ok(numbers)
+}
+
+/// Each number with its sign turned.
+pub fn all_opposite(alloc: Global, numbers: &[i128]) -> Result<Vec<i128>, AllocError>
+    requires { All (IsWithin 62) numbers.now }
+    ensures exact { IfOk result (λ v. v.items ≡ map neg_ℤ numbers.now) }
+    ensures counted { IfOk result (λ v. length v.items ≡ length numbers.now) }
+    ensures narrow { IfOk result (λ v. All (IsWithin 62) v.items) }
+{
+    let mut turned = Vec::new(alloc);
+    for number in numbers {
+        turned.push(opposite(*number))?;
+    }
+    Ok(turned)
+}
