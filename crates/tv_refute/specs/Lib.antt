@@ -1,0 +1,5 @@
+pub mod Terms
+pub mod Built
+pub mod Frames
+pub mod Points
+pub mod Wide

@@ -1,0 +1,24 @@
+//! Whether multipliers refute rows and whether covers are met, without memory.
+//!
+//! A row to be shown is never built. It is described by how it is made from the rows of the certificate,
+//! and its numbers are read one by one. The rows known at a place of a cover are a chain of frames on the
+//! stack.
+#![tactic(auto)]
+
+mod built;
+mod cover;
+mod frames;
+mod met;
+mod refute;
+mod shown;
+mod terms;
+#[cfg(test)]
+mod tests;
+
+pub use built::{Built, number_of};
+pub use cover::{Targets, cover_is_met};
+pub use frames::Frames;
+pub use met::meets;
+pub use refute::{refutes, refutes_denial};
+pub use shown::{Change, shown_rows, shows};
+pub use terms::Terms;

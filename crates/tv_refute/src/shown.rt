@@ -1,0 +1,73 @@
+ghost use Rattle.std.specs.Prelude.{◌↔◌, ◌++◌, ◌∷◌, [], IsTrue, map};
+ghost use Rattle.tv_linear.specs.Known.{denied};
+ghost use Rattle.tv_linear.specs.Refutation.{Refutes};
+ghost use Rattle.tv_linear.specs.Covers.{Shown};
+ghost use Rattle.tv_refute.specs.Built.{change_of};
+ghost use Rattle.tv_refute.specs.Frames.{known_at};
+ghost use Rattle.tv_refute.specs.Points.{Imply, ImplyAll};
+
+use crate::built::Built;
+use crate::frames::Frames;
+use crate::refute::refutes_denial;
+use crate::terms::Terms;
+use tv_linear::Row;
+
+/// How the rows of a target are changed before they are shown: terms are put in for their columns, once or
+/// twice.
+#[derive(Drop)]
+pub enum Change<'a> {
+    Kept,
+    Once(&'a Terms<'a>),
+    Twice(&'a Terms<'a>, &'a Terms<'a>),
+}
+
+/// Whether the multipliers refute the known rows together with the denial of the changed row.
+pub fn shows(
+    columns: usize,
+    frames: &Frames,
+    change: &Change,
+    row: &Row,
+    multipliers: &[i128],
+) -> bool
+    ensures exact { let rows = known_at frames.now ++ denied (change_of change.now row.now) ∷ [] in
+        IsTrue result ↔ Refutes columns rows multipliers.now }
+    ensures sound { IsTrue result → Imply columns (known_at frames.now) (change_of change.now row.now) }
+{
+    let first = Built::Given(row);
+    match change {
+        Change::Kept => refutes_denial(columns, frames, &first, multipliers),
+        Change::Once(terms) => {
+            let second = Built::Composed(&first, terms);
+            refutes_denial(columns, frames, &second, multipliers)
+        }
+        Change::Twice(inner, outer) => {
+            let second = Built::Composed(&first, inner);
+            let third = Built::Composed(&second, outer);
+            refutes_denial(columns, frames, &third, multipliers)
+        }
+    }
+}
+
+/// Whether there is a list of multipliers for each row, and it shows the changed row.
+pub fn shown_rows(
+    columns: usize,
+    frames: &Frames,
+    change: &Change,
+    owed: &[Row],
+    lists: &[Vec<i128>],
+) -> bool
+    ensures exact { IsTrue result ↔ Shown columns (known_at frames.now)
+        (map (change_of change.now) owed.now) (map (λ l. l.items) lists.now) }
+    ensures sound { IsTrue result →
+        ImplyAll columns (known_at frames.now) (map (change_of change.now) owed.now) }
+{
+    if owed.len() != lists.len() {
+        return false;
+    }
+    for (i, multipliers) in lists.iter().enumerate() {
+        if !shows(columns, frames, change, &owed[i], multipliers) {
+            return false;
+        }
+    }
+    true
+}
