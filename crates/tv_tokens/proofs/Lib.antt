@@ -1,0 +1,5 @@
+pub mod FrontLemmas
+pub mod GapLemmas
+pub mod NumberLemmas
+pub mod ScanLemmas
+pub mod OneList

@@ -1,0 +1,5 @@
+pub mod Gaps
+pub mod Numbers
+pub mod WordTexts
+pub mod Fronts
+pub mod Tokens
