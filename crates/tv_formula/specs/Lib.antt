@@ -1,0 +1,5 @@
+pub mod Properties
+pub mod Views
+pub mod Normal
+pub mod Limits
+pub mod Formulas
