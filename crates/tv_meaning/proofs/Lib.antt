@@ -1,0 +1,3 @@
+pub mod Negation
+pub mod RunLemmas
+pub mod SameSteps
