@@ -1,0 +1,5 @@
+pub mod StateLemmas
+pub mod StackLemmas
+pub mod ReachLemmas
+pub mod SearchLemmas
+pub mod Numbering

@@ -1,0 +1,13 @@
+// An addition to a vector whose only refusal is want of memory.
+
+ghost use Rattle.std.specs.Prelude.{◌≡◌, ◌++◌, ◌∷◌, [], IfOk};
+
+use std::alloc::AllocError;
+
+/// Puts an item at the end of a vector.
+pub fn push_item<T: Copy>(items: &mut Vec<T>, item: T) -> Result<(), AllocError>
+    ensures { IfOk result (λ _. items.new.items ≡ items.old.items ++ item ∷ []) }
+{
+    items.push(item)?;
+    Ok(())
+}
