@@ -1,0 +1,5 @@
+pub mod Ring
+pub mod LowestTerms
+pub mod Products
+pub mod CrossProducts
+pub mod Lowest
