@@ -1,0 +1,17 @@
+pub mod Listed
+pub mod NarrowRows
+pub mod RowValues
+pub mod ProductLemmas
+pub mod FormLemmas
+pub mod CodeForms
+pub mod AmountLemmas
+pub mod FormValues
+pub mod ListsMet
+pub mod Executed
+pub mod Updated
+pub mod SameSteps
+pub mod EvenRows
+pub mod EdgeLimits
+pub mod EdgeRoom
+pub mod CaseLimits
+pub mod BeforeValue

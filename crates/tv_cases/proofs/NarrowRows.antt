@@ -1,0 +1,85 @@
+-- a narrow row is one that is narrow at each of its columns
+use Rattle.std.proofs.Common.{◌≡◌, ℕ, zero, suc, ◌<◌, ◌≤◌, ◌∙◌, ◌⊎◌, inl, inr, refl, sym, ap, arith, subst, ℤ, pos, Bool, true, false}
+use Rattle.std.specs.Prelude.{◌&&◌, All, Option, SomeIff, Some, None}
+use Rattle.std.specs.List.{list_all}
+use Rattle.std.proofs.lemmas.Bool.Decides.{nat_tests}
+use Rattle.std.proofs.lemmas.Bool.{cases_lt}
+use Rattle.std.proofs.lemmas.List.Elements.{All-from_get_or, All-get_or}
+use Rattle.tv_linear.specs.Linear.{Linear, columns, IsWithin, IsNarrow}
+use Rattle.std.specs.Prelude.{Result, Ok, Err}
+use Rattle.tv_linear.specs.Fits.{IsNarrowAt, IsFirstWide, GivesWhere}
+use Rattle.tv_linear.specs.declared.fault.RowFault.{RowFault}
+use Rattle.tv_linear.specs.Arithmetic.{zeros, constant_row}
+use Rattle.std.specs.Prelude.{IfOk}
+use Rattle.tv_cases.specs.declared.fault.PartFault.{PartFault}
+use Rattle.tv_cases.specs.Given.{IsMade, Gives}
+use Rattle.tv_linear.proofs.Entries.{entry-last}
+use Rattle.tv_cases.specs.Forms.{is_narrow_number, is_narrow}
+use Rattle.tv_cases.proofs.Listed.{both_true, All-from_test, test_from-All}
+
+within-test : (z : ℤ) → IsWithin 62 z → is_narrow_number z ≡ true
+within-test z h = grind (arith, nat_tests)
+
+test-within : (z : ℤ) → is_narrow_number z ≡ true → IsWithin 62 z
+test-within z h = grind (arith, nat_tests)
+
+is_narrow-both : (r : Linear) → All (IsWithin 62) r.coefficients → IsWithin 62 r.constant → is_narrow r ≡ true
+is_narrow-both r h k = (λ i. test_from-All (IsWithin 62) is_narrow_number within-test r.coefficients h i && within-test r.constant k i)
+
+pub is_narrow-row : (r : Linear) → IsNarrow r → is_narrow r ≡ true
+is_narrow-row r h = is_narrow-both r h.coefficients h.constant
+
+pub is_narrow-columns : (r : Linear) → ((k : ℕ) → k ≤ columns r → IsNarrowAt r k) → is_narrow r ≡ true
+is_narrow-columns r h =
+    is_narrow-both r (All-from_get_or (IsWithin 62) r.coefficients r.constant (λ i l. h i (omega arith)))
+    (subst (IsWithin 62) (entry-last r (columns r) (omega arith)) (h (columns r) (omega arith)))
+
+columns-is_narrow : (r : Linear) → is_narrow r ≡ true → (k : ℕ) → k ≤ columns r → IsNarrowAt r k
+columns-is_narrow r h k l =
+    let both = both_true (list_all is_narrow_number r.coefficients) (is_narrow_number r.constant) h in
+    by_place (All-from_test (IsWithin 62) is_narrow_number test-within r.coefficients both.0) (test-within r.constant both.1) where
+      open_place : All (IsWithin 62) r.coefficients → IsWithin 62 r.constant → (k < columns r) ⊎ (columns r ≤ k) → IsNarrowAt r k
+      open_place all last place = elim place [
+        | inl inside ↦ All-get_or (IsWithin 62) r.coefficients k r.constant inside all
+        | inr past ↦ subst (IsWithin 62) (sym (entry-last r k past)) last
+      ]
+
+      by_place : All (IsWithin 62) r.coefficients → IsWithin 62 r.constant → IsNarrowAt r k
+      by_place all last = open_place all last (cases_lt k (columns r))
+
+not_true : (b : Bool) → (b ≡ true → ⊥) → b ≡ false
+not_true true h = absurd (h refl)
+not_true false h = refl
+
+pub is_narrow-first_wide : (r : Linear) (column : ℕ) → IsFirstWide (IsNarrowAt r) (columns r) column → is_narrow r ≡ false
+is_narrow-first_wide r column h = not_true (is_narrow r) (λ narrow. h.wide (columns-is_narrow r narrow column h.inside))
+
+pub is_narrow-not : (r : Linear) → columns r < 4294967295 → (IsNarrow r → ⊥) → is_narrow r ≡ false
+is_narrow-not r few h =
+    not_true (is_narrow r) (λ narrow.
+    let both = both_true (list_all is_narrow_number r.coefficients) (is_narrow_number r.constant) narrow in
+    h (record {
+      coefficients = All-from_test (IsWithin 62) is_narrow_number test-within r.coefficients both.0;
+      constant = test-within r.constant both.1;
+      few = few;
+    }))
+
+-- a row that was made column by column
+pub made-narrow : (exact meant row : Linear) (made : Result Linear RowFault) → made ≡ Ok row → GivesWhere (IsNarrowAt exact) (columns exact) meant made → (is_narrow exact ≡ true) × (row ≡ meant)
+made-narrow exact meant row made is h = let k = subst (GivesWhere (IsNarrowAt exact) (columns exact) meant) is h in (is_narrow-columns exact k.fits, k.same)
+
+pub row-made : (r : Linear) (o : Option Linear) → columns r < 4294967295 → SomeIff o (IsNarrow r) r → IsMade (is_narrow r) r o
+row-made r (Some row) few h = (is_narrow-row r h.0, h.1)
+row-made r None few h = is_narrow-not r few h
+
+-- a row that is given is as wide as what is meant
+pub given-columns : (w : ℕ) (narrow : Bool) (meant : Linear) (result : Result Linear PartFault) → columns meant ≡ w → Gives narrow meant result → IfOk result (λ row. columns row ≡ w)
+given-columns w narrow meant (Ok row) e h = ap (λ (r : Linear). columns r) h.1 ∙ e
+given-columns w narrow meant (Err fault) e h = tt
+
+zeros-are_narrow : (w : ℕ) → list_all is_narrow_number (zeros w) ≡ true
+zeros-are_narrow zero = refl
+zeros-are_narrow (suc w) = zeros-are_narrow w
+
+pub one-narrow : (w : ℕ) → is_narrow (constant_row w (pos 1)) ≡ true
+one-narrow w = ap (λ b. b && true) (zeros-are_narrow w)

@@ -1,0 +1,16 @@
+pub mod LinearCases
+pub mod Views
+pub mod Systems
+pub mod Forms
+pub mod Lists
+pub mod EdgeCases
+pub mod ProgramCases
+pub mod Given
+pub mod Partial
+pub mod Amounts
+pub mod Linearity
+pub mod Reached
+pub mod Assigned
+pub mod EdgeFaults
+pub mod Answers
+pub mod Before

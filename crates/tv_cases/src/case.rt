@@ -1,0 +1,109 @@
+ghost use Rattle.tv_cases.specs.LinearCases.{AreCases};
+ghost use Rattle.tv_cases.specs.Views.{case_views};
+
+use std::alloc::{AllocError, AllocFailed};
+use tv_linear::{Poly, Update};
+
+/// One way to take an edge: it is taken where the guards are met, with any whole numbers as draws, and each variable then has the
+/// value of its update. A variable without an update keeps its value.
+///
+/// Guards and terms are rows over the variables and then the draws.
+#[derive(Drop)]
+pub struct Case {
+    pub from: u32,
+    pub to: u32,
+    pub draws: u32,
+    pub guards: Poly,
+    /// In the order of the variables.
+    pub updates: Vec<Update>,
+}
+
+/// The cases of a program, in the order of its edges.
+#[derive(Drop)]
+pub struct Cases {
+    variables: u32,
+    locations: u32,
+    start: u32,
+    list: Vec<Case>,
+    pub ghost are_cases: { AreCases (record { variables = variables; locations = locations; start = start; cases = case_views list.items }) },
+}
+
+impl Cases {
+    ghost use Rattle.std.specs.Prelude.{◌≡◌};
+    ghost use Rattle.tv_cases.specs.Systems.{cases_of};
+
+    pub(crate) fn of(list: Vec<Case>, variables: u32, locations: u32, start: u32) -> Cases
+        requires { AreCases (record { variables = variables; locations = locations; start = start; cases = case_views list.items }) }
+        ensures { cases_of result ≡ record { variables = variables; locations = locations; start = start; cases = case_views list.items } }
+    {
+        Cases {
+            variables,
+            locations,
+            start,
+            list,
+        }
+    }
+
+    /// How many variables the program has.
+    pub fn variables(&self) -> u32
+        ensures same { result ≡ (cases_of self.now).variables }
+        ensures limits { AreCases (cases_of self.now) }
+    {
+        self.variables
+    }
+
+    /// How many locations the program has.
+    pub fn locations(&self) -> u32
+        ensures same { result ≡ (cases_of self.now).locations }
+        ensures limits { AreCases (cases_of self.now) }
+    {
+        self.locations
+    }
+
+    /// The number of the location where runs begin.
+    pub fn start(&self) -> u32
+        ensures same { result ≡ (cases_of self.now).start }
+        ensures limits { AreCases (cases_of self.now) }
+    {
+        self.start
+    }
+
+    pub fn list(&self) -> &[Case]
+        ensures same { case_views result.now ≡ (cases_of self.now).cases }
+        ensures limits { AreCases (cases_of self.now) }
+    {
+        &self.list
+    }
+}
+
+/// Why a program has no cases.
+#[derive(Clone, Copy, Debug, PartialEq, Eq)]
+pub enum CaseFault {
+    /// The linear form of some part of an expression of the edge, or a row of it, has a number of 2^62 or more in magnitude.
+    Wide { edge: u32 },
+    /// With the edge there are more than 8,192 cases or 8,000,000 coefficients.
+    TooMany { edge: u32 },
+    Memory,
+}
+
+impl From<AllocError> for CaseFault {
+    ghost use Rattle.std.specs.Prelude.{◌≡◌};
+    ghost use Rattle.tv_cases.specs.declared.case.CaseFault.TheVariants.{Memory};
+
+    ghost from_gives = { λ _ fault. fault ≡ Memory };
+
+    fn from(_: AllocError) -> CaseFault {
+        CaseFault::Memory
+    }
+}
+
+impl<T: Drop> From<AllocFailed<T>> for CaseFault {
+    ghost use Rattle.std.specs.Prelude.{◌≡◌};
+    ghost use Rattle.tv_cases.specs.declared.case.CaseFault.TheVariants.{Memory};
+
+    ghost from_gives = { λ _ fault. fault ≡ Memory };
+
+    fn from(_: AllocFailed<T>) -> CaseFault {
+        CaseFault::Memory
+    }
+}

@@ -1,0 +1,22 @@
+//! Programs as linear cases: each way to take an edge, by rows of whole numbers.
+#![tactic(auto)]
+
+mod amount;
+mod backward;
+mod case;
+mod conditions;
+mod edges;
+mod fault;
+mod linear_form;
+mod lists;
+mod products;
+mod program;
+mod relations;
+mod rows;
+#[cfg(test)]
+mod tests;
+
+pub use backward::before;
+pub use case::{Case, CaseFault, Cases};
+pub use program::cases;
+pub use tv_linear::Update;
