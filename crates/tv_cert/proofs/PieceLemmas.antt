@@ -1,0 +1,28 @@
+use Rattle.std.proofs.Common.{◌≡◌, ℕ, zero, suc, ◌+◌, ◌-◌, ◌<◌, List, ◌∷◌, length, drop, get_or, arith, refl, sym, ap, ◌∙◌, Some, ◌==◌, cond, drop-cons, true, false}
+use Rattle.std.proofs.lemmas.Bool.Decides.{nat_tests}
+use Rattle.std.specs.Prelude.{slice_get}
+use Rattle.tv_cert.specs.declared.node.Marked.{Marked}
+use Rattle.tv_cert.specs.Pieces.{place_of, pieces_at}
+
+test_true : (a b : ℕ) → a ≡ b → (a == b) ≡ true
+test_true a b h = grind (arith, nat_tests)
+
+test_false : (a b : ℕ) → (a ≡ b → ⊥) → (a == b) ≡ false
+test_false a b h = grind (arith, nat_tests)
+
+module _ (ps : List Marked) (l i : ℕ) (p : Marked) (below : i < length ps) (is : p ≡ get_or ps i p) where
+  there : drop i ps ≡ p ∷ drop (i + 1) ps
+  there = drop-cons ps i p below ∙ (let k : suc i ≡ i + 1 = omega arith in λ j. sym is j ∷ drop (k j) ps)
+
+  pub target_first : place_of p ≡ l → pieces_at (drop i ps) l ≡ p ∷ pieces_at (drop (i + 1) ps) l
+  target_first e = ap (λ qs. pieces_at qs l) there ∙ ap (λ b. cond b (p ∷ pieces_at (drop (i + 1) ps) l) (pieces_at (drop (i + 1) ps) l)) (test_true (place_of p) l e)
+
+  pub target_skipped : (place_of p ≡ l → ⊥) → pieces_at (drop i ps) l ≡ pieces_at (drop (i + 1) ps) l
+  target_skipped e = ap (λ qs. pieces_at qs l) there ∙ ap (λ b. cond b (p ∷ pieces_at (drop (i + 1) ps) l) (pieces_at (drop (i + 1) ps) l)) (test_false (place_of p) l e)
+
+  pub found_here : (left : ℕ) → place_of p ≡ l → left ≡ 0 → slice_get (pieces_at (drop i ps) l) left ≡ Some p
+  found_here left e z = (λ j. slice_get (target_first e j) (z j))
+
+  pub passed_here : (left : ℕ) → place_of p ≡ l → (left ≡ 0 → ⊥) → slice_get (pieces_at (drop i ps) l) left ≡ slice_get (pieces_at (drop (i + 1) ps) l) (left - 1)
+  passed_here zero e z = absurd (z refl)
+  passed_here (suc left) e z = ap (λ qs. slice_get qs (suc left)) (target_first e) ∙ ap (λ k. slice_get (pieces_at (drop (i + 1) ps) l) k) (let k : left ≡ suc left - 1 = omega arith in k)

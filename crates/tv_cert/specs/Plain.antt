@@ -1,0 +1,29 @@
+use Rattle.std.specs.Prelude.{false, ℕ, ◌<◌, ◌^◌, [], length}
+use Rattle.tv_formula.specs.declared.tree.Path.TheVariants.{Every}
+use Rattle.tv_formula.specs.declared.tree.Shape.TheVariants.{Weak}
+use Rattle.tv_formula.specs.Properties.{Property, truth, at, negated, fix}
+use Rattle.tv_linear.specs.declared.cover.CoverTree.{CoverTree}
+use Rattle.tv_cases.specs.LinearCases.{CaseSystem}
+use Rattle.tv_cert.specs.declared.node.Node.{Node}
+use Rattle.tv_cert.specs.declared.node.Verdict.TheVariants.{Proved}
+use Rattle.tv_cert.specs.Obligations.{About, AllMet}
+use Rattle.tv_cert.specs.Nodes.{size, obligations}
+use Rattle.tv_cert.specs.Fits.{NodeFits}
+
+-- what a certificate of a formula without comparisons is about
+abbrev pub about_of : CaseSystem → About
+about_of system = record { system = system; tests = λ r a b. [] }
+
+-- on every run, always, the location is another than this one
+abbrev pub never_at : ℕ → Property
+never_at l = fix Every Weak (negated (at l)) (truth false)
+
+-- the certificate fits the cases and the location, and its nodes and obligations can be counted
+pub record PlainFits (system : CaseSystem) (location : ℕ) (root : Node) (start : CoverTree) : Type 0 where
+  pub fits : NodeFits system.variables (never_at location) root
+  pub nodes : size root < 2 ^ 32
+  pub room : length (obligations (about_of system) (never_at location) root (Proved start)) < 2 ^ 64
+
+-- every obligation of the certificate is met
+abbrev pub PlainMet : CaseSystem → ℕ → Node → CoverTree → Type 0
+PlainMet system location root start = AllMet (obligations (about_of system) (never_at location) root (Proved start))
