@@ -1,0 +1,5 @@
+pub mod AheadLemmas
+pub mod SettlingLemmas
+pub mod ShownLemmas
+pub mod StepLemmas
+pub mod WalkLemmas

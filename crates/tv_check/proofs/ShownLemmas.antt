@@ -1,0 +1,61 @@
+use Rattle.std.proofs.Common.{◌≡◌, ◌↔◌, ℕ, zero, suc, ◌≤◌, List, [], ◌∷◌, ◌++◌, length, map, take, drop, arith, refl, sym, ap, ◌∙◌, subst, ℤ, Option, None, Some, Vec, Global, Bool, IsTrue}
+use Rattle.std.specs.Borrow.{Bor}
+use Rattle.std.specs.Option.{option_map}
+use Rattle.tv_linear.specs.Linear.{Linear}
+use Rattle.tv_linear.specs.Known.{Known, given, composed}
+use Rattle.tv_linear.specs.Covers.{Shown, ShownAt, IsMetCover}
+use Rattle.tv_linear.specs.Terms.{terms_after}
+use Rattle.tv_linear.specs.declared.cover.CoverTree.{CoverTree}
+use Rattle.tv_linear.specs.declared.region.Update.{Update}
+use Rattle.tv_cert.specs.declared.node.Marked.{Marked}
+use Rattle.tv_cert.specs.Targets.{owed_into}
+use Rattle.tv_check.specs.Owes.{falls_of}
+
+-- rows joined are shown by lists joined
+shown_join : (n : ℕ) (known : List Known) (xs ys : List Known) (ls ms : List (List ℤ)) → length xs ≡ length ls → Shown n known (xs ++ ys) (ls ++ ms) ↔ (Shown n known xs ls × Shown n known ys ms)
+shown_join n known [] ys [] ms e = (λ h. (tt, h), λ h. h.1)
+shown_join n known [] ys (l ∷ ls) ms e = absurd (omega arith)
+shown_join n known (x ∷ xs) ys [] ms e = absurd (omega arith)
+shown_join n known (x ∷ xs) ys (l ∷ ls) ms e =
+    let h = shown_join n known xs ys ls ms (omega arith) in
+    (λ k. let r = h.0 k.1 in ((k.0, r.0), r.1), λ k. (k.0.0, h.1 (k.0.1, k.1)))
+
+few_lists : (n : ℕ) (known : List Known) (xs ys : List Known) (ls : List (List ℤ)) → Shown n known (xs ++ ys) ls → length xs ≤ length ls
+few_lists n known [] ys ls h = omega arith
+few_lists n known (x ∷ xs) ys [] h = absurd h
+few_lists n known (x ∷ xs) ys (l ∷ ls) h = let k = few_lists n known xs ys ls h.1 in omega arith
+
+-- there are at least as many lists as first rows
+pub few_at : (n : ℕ) (known : List Known) (xs : List Known) (falls : Option (List Known)) (ls : List (List ℤ)) → ShownAt n known (option_map (λ ys. xs ++ ys) falls) ls → length xs ≤ length ls
+few_at n known xs None ls h = absurd h
+few_at n known xs (Some ys) ls h = few_lists n known xs ys ls h
+
+-- the first lists show the first rows, and the others what follows
+pub shown_with : (n : ℕ) (known : List Known) (xs : List Known) (falls : Option (List Known)) (all ls ms : List (List ℤ)) → all ≡ ls ++ ms → length xs ≡ length ls → ShownAt n known (option_map (λ ys. xs ++ ys) falls) all ↔ (Shown n known xs ls × ShownAt n known falls ms)
+shown_with n known xs None all ls ms p e = (λ h. absurd h, λ h. absurd h.1)
+shown_with n known xs (Some ys) all ls ms p e =
+    let j = shown_join n known xs ys ls ms e in
+    (λ h. j.0 (subst (Shown n known (xs ++ ys)) p h), λ h. subst (Shown n known (xs ++ ys)) (sym p) (j.1 h))
+
+map_join : {A B : Type 0} (f : A → B) (xs ys : List A) → map f (xs ++ ys) ≡ map f xs ++ map f ys
+map_join f [] ys = refl
+map_join f (x ∷ xs) ys = ap (λ zs. f x ∷ zs) (map_join f xs ys)
+
+split_is : {A : Type 0} (xs : List A) (k : ℕ) → xs ≡ take k xs ++ drop k xs
+split_is [] zero = refl
+split_is [] (suc k) = refl
+split_is (x ∷ xs) zero = refl
+split_is (x ∷ xs) (suc k) = ap (λ ys. x ∷ ys) (split_is xs k)
+
+pub lists_split : (lists front back : List (Vec ℤ Global)) (k : ℕ) → front ≡ take k lists → back ≡ drop k lists → map (λ l. l.items) lists ≡ map (λ l. l.items) front ++ map (λ l. l.items) back
+lists_split lists front back k p q = ap (map (λ l. l.items)) (split_is lists k ∙ (λ i. sym p i ++ sym q i)) ∙ map_join (λ l. l.items) front back
+
+-- no row more than the first
+pub shown_alone : (n : ℕ) (known : List Known) (xs : List Known) (ls : List (List ℤ)) → Shown n known xs ls ↔ Shown n known (xs ++ []) ls
+shown_alone n known [] ls = (λ h. h, λ h. h)
+shown_alone n known (x ∷ xs) [] = (λ h. h, λ h. h)
+shown_alone n known (x ∷ xs) (l ∷ ls) = let e = shown_alone n known xs ls in (λ h. (h.0, e.0 h.1), λ h. (h.0, e.1 h.1))
+
+-- the updates and the rows as they lie in the case
+pub updates_moved : (t : Bool) (n m : ℕ) (into : List Marked) (to : ℕ) (ranks : Option (Bor (List Linear))) (known known' : List Known) (tree : CoverTree) (us vs : List Update) → us ≡ vs → known ≡ known' → (IsTrue t ↔ IsMetCover m (owed_into into to (λ r. composed (given r) (terms_after n us)) (falls_of (λ r. composed (given r) (terms_after n us)) ranks)) known tree) → IsTrue t ↔ IsMetCover m (owed_into into to (λ r. composed (given r) (terms_after n vs)) (falls_of (λ r. composed (given r) (terms_after n vs)) ranks)) known' tree
+updates_moved t n m into to ranks known known' tree us vs e k h = subst (λ (x : Type 0). x) (λ i. IsTrue t ↔ IsMetCover m (owed_into into to (λ r. composed (given r) (terms_after n (e i))) (falls_of (λ r. composed (given r) (terms_after n (e i))) ranks)) (k i) tree) h

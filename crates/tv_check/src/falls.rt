@@ -1,0 +1,116 @@
+ghost use Rattle.std.specs.Prelude.{◌≡◌, ◌↔◌, ℕ, ◌+◌, IsTrue, map, pos, ◌++◌, ◌∷◌, []};
+ghost use Rattle.std.specs.Option.{option_map};
+ghost use Rattle.tv_linear.specs.Known.{Known, denied, given, less, as_given};
+ghost use Rattle.tv_linear.specs.Refutation.{Refutes};
+ghost use Rattle.tv_linear.specs.Covers.{ShownAt};
+ghost use Rattle.tv_linear.specs.Falls.{zero_row, fall_rows, fall_rows_at};
+ghost use Rattle.tv_refute.specs.Frames.{known_at};
+ghost use Rattle.tv_refute.specs.Built.{change_of};
+
+use tv_linear::Row;
+use tv_refute::{Built, Change, Frames, refutes_denial, shown_rows};
+
+/// Whether the multipliers show that the changed row, less another and plus a number, is met.
+fn shows_less(
+    columns: usize,
+    frames: &Frames,
+    change: &Change,
+    new: &Row,
+    old: &Row,
+    more: i128,
+    multipliers: &[i128],
+) -> bool
+    ensures { IsTrue result ↔ Refutes columns (known_at frames.now ++ denied (less (change_of change.now new.now) (given old.now) more) ∷ []) multipliers.now }
+{
+    let first = Built::Given(new);
+    let from = Built::Given(old);
+    match change {
+        Change::Kept => {
+            let fall = Built::Less(&first, &from, more);
+            refutes_denial(columns, frames, &fall, multipliers)
+        }
+        Change::Once(terms) => {
+            let second = Built::Composed(&first, terms);
+            let fall = Built::Less(&second, &from, more);
+            refutes_denial(columns, frames, &fall, multipliers)
+        }
+        Change::Twice(inner, outer) => {
+            let second = Built::Composed(&first, inner);
+            let third = Built::Composed(&second, outer);
+            let fall = Built::Less(&third, &from, more);
+            refutes_denial(columns, frames, &fall, multipliers)
+        }
+    }
+}
+
+/// Whether the multipliers show that the row is not below 0.
+fn shows_not_below(columns: usize, frames: &Frames, old: &Row, multipliers: &[i128]) -> bool
+    ensures { IsTrue result ↔ Refutes columns (known_at frames.now ++ denied (less (given zero_row) (given old.now) (pos 0)) ∷ []) multipliers.now }
+{
+    let zero = Built::Zero;
+    let from = Built::Given(old);
+    let fall = Built::Less(&zero, &from, 0);
+    refutes_denial(columns, frames, &fall, multipliers)
+}
+
+/// Whether the lists show the fall at place `j`, from 0, from the ranks before to the changed ranks after.
+fn shown_fall_at(
+    columns: usize,
+    frames: &Frames,
+    change: &Change,
+    old: &[Row],
+    new: &[Row],
+    j: u32,
+    lists: &[Vec<i128>],
+) -> bool
+    ensures { IsTrue result ↔ ShownAt columns (known_at frames.now) (fall_rows_at (as_given old.now) (map (change_of change.now) new.now) j) (map (λ l. l.items) lists.now) }
+{
+    match old {
+        [] => false,
+        [f, before @ ..] => match new {
+            [] => false,
+            [g, after @ ..] => {
+                if j == 0 {
+                    match lists {
+                        [first, second] => {
+                            shows_less(columns, frames, change, g, f, 1, first)
+                                && shows_not_below(columns, frames, f, second)
+                        }
+                        _ => false,
+                    }
+                } else {
+                    match lists {
+                        [] => false,
+                        [first, rest @ ..] => {
+                            shows_less(columns, frames, change, g, f, 0, first)
+                                && shown_fall_at(
+                                    columns,
+                                    frames,
+                                    change,
+                                    before,
+                                    after,
+                                    j - 1,
+                                    rest,
+                                )
+                        }
+                    }
+                }
+            }
+        },
+    }
+}
+
+/// Whether the lists show fall `j`, from 1, from the ranks before to the changed ranks after.
+pub fn shown_fall(
+    columns: usize,
+    frames: &Frames,
+    change: &Change,
+    old: &[Row],
+    new: &[Row],
+    j: u32,
+    lists: &[Vec<i128>],
+) -> bool
+    ensures { IsTrue result ↔ ShownAt columns (known_at frames.now) (fall_rows (as_given old.now) (map (change_of change.now) new.now) j) (map (λ l. l.items) lists.now) }
+{
+    j > 0 && shown_fall_at(columns, frames, change, old, new, j - 1, lists)
+}
