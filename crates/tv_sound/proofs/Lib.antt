@@ -1,0 +1,4 @@
+mod Found
+mod Owing
+mod Invariant
+mod Soundness
