@@ -1,0 +1,9 @@
+pub mod PieceLemmas
+pub mod ValueLemmas
+pub mod NumberedLemmas
+pub mod TextLemmas
+pub mod FitLemmas
+pub mod SpellingLemmas
+pub mod LongLines
+pub mod NumberAgain
+pub mod ReadAgain
