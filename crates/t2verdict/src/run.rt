@@ -1,0 +1,84 @@
+ghost use Rattle.std.specs.Prelude.{◌≡◌, ◌≢◌, ◌<◌, ◌≤◌, length};
+ghost use Rattle.t2verdict.specs.Answers.{Answers};
+ghost use Rattle.tv_text.specs.Stream.{Rose};
+
+use crate::answer::Answer;
+use crate::status::Status;
+use crate::texts::split_texts;
+use crate::words::Question;
+use std::alloc::Global;
+use tv_cases::{CaseFault, cases};
+use tv_cert_text::{PlainFault, read_plain_certificate};
+use tv_sound::check_safety;
+use tv_syntax::read_plain;
+use tv_text::{ReadError, Sink, Source, read_all, write_all};
+
+/// How many bytes are read at most.
+const LIMIT: usize = 16_777_216;
+
+fn decide(alloc: Global, text: &[u8], label: &str) -> Answer
+    requires { length text.now ≤ 16777216 }
+    ensures { result ≢ Answer.ReadFault }
+{
+    let (text, certificate) = split_texts(text);
+    let program = match read_plain(alloc, text) {
+        Ok(program) => program,
+        Err(tv_syntax::PlainFault::Unbuilt) => return Answer::TextUnbuilt,
+        Err(tv_syntax::PlainFault::Memory) => return Answer::Memory,
+    };
+    let about = match cases(alloc, &program) {
+        Ok(about) => about,
+        Err(CaseFault::Memory) => return Answer::Memory,
+        Err(_) => return Answer::TextUnbuilt,
+    };
+    let Some(location) = program.locations().find(label.as_bytes()) else {
+        return Answer::UnknownName;
+    };
+    let plain = match read_plain_certificate(alloc, certificate, &about, location) {
+        Ok(plain) => plain,
+        Err(PlainFault::Unbuilt) => return Answer::CertificateUnbuilt,
+        Err(PlainFault::Memory) => return Answer::Memory,
+    };
+    match check_safety(&program, &about, location, &plain) {
+        Ok(()) => Answer::Proved,
+        Err(failing) => Answer::Obligation(failing),
+    }
+}
+
+fn answered<S: Source>(alloc: Global, words: &[&str], source: &mut S) -> Answer
+    ensures read { result ≡ Answer.ReadFault → Rose (S.faults source.old) (S.faults source.new) }
+    ensures later { S.faults source.old ≤ S.faults source.new }
+{
+    let Some(Question::CheckSafety(label)) = Question::read(words) else {
+        return Answer::Words;
+    };
+    match read_all(alloc, source, LIMIT) {
+        Ok(text) => decide(alloc, &text, label),
+        Err(ReadError::Fault) => Answer::ReadFault,
+        Err(ReadError::TooLong) => Answer::TooLong,
+        Err(ReadError::Memory) => Answer::Memory,
+    }
+}
+
+/// Answers the question of the words about the text that the source holds, with one line that is written at the end.
+pub fn run<S: Source, K: Sink>(
+    alloc: Global,
+    words: &[&str],
+    source: &mut S,
+    sink: &mut K,
+) -> Status
+    ensures read { result ≡ Status.ReadFault → Rose (S.faults source.old) (S.faults source.new) }
+    ensures write { result ≡ Status.WriteFault → Rose (K.faults sink.old) (K.faults sink.new) }
+    ensures answer { result ≢ Status.WriteFault → Answers (K.written sink.old) (K.written sink.new) result }
+    ensures later_source { S.faults source.old ≤ S.faults source.new }
+    ensures later_sink { K.faults sink.old ≤ K.faults sink.new }
+{
+    let answer = answered(alloc, words, source);
+    let Ok(line) = answer.line(alloc) else {
+        return Status::Memory;
+    };
+    match write_all(sink, line.as_bytes()) {
+        Ok(()) => answer.status(),
+        Err(_) => Status::WriteFault,
+    }
+}

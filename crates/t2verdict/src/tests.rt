@@ -1,0 +1,169 @@
+ghost use Rattle.std.specs.Prelude.{◌<◌};
+
+use crate::run::run;
+use crate::status::Status;
+use std::alloc::{AllocError, Global};
+use std::test::Fail;
+use tv_text::{MemSink, MemSource};
+
+const COUNTER: &str =
+    "START: 0; FROM: 0; x := 0; TO: 1; FROM: 1; assume(x < 5); x := x + 1; TO: 1; FROM: 1; assume(x > 5); TO: 2;\n";
+
+const HEADING: &str = "CERTIFICATE:\n";
+
+const FRONT: &str =
+    "T2CERT 1\nproved\nnode fix 2 0\npiece 0 go 0\npiece 1 go 1\nrow 1 -5\nnode atom 2 0\npiece 0 go 0\npiece 1 go 0\ninto 0 0\ninto 0 0\nnode atom 0 0\ninto 0 0\ninto 0 0\nby 1\ninto 0 0\ninto 0 0\n";
+
+const STEP: &str = "by 0 1 1\n";
+
+const WRONG_STEP: &str = "by 1 1 1\n";
+
+const BACK: &str = "empty 1 1\ninto 0 0\nend\n";
+
+const DRAWN: &str =
+    "START: 0; FROM: 0; x := nondet(); TO: 1; FROM: 1; assume(x > 0); x := x - 1; TO: 1;";
+
+const UNMET: &str = "Certificate refused obligation 6 node 0 step\n";
+
+const UNKNOWN: &str = "Refused property unknown name column 1\n";
+
+const UNBUILT: &str = "Refused text unbuilt\n";
+
+const NO_CERTIFICATE: &str = "Refused certificate unbuilt\n";
+
+// A source of these texts in a row.
+fn source(alloc: Global, texts: &[&str], piece: usize, fails: u64) -> Result<MemSource, AllocError>
+    requires { 0 < piece }
+{
+    let mut bytes = Vec::new(alloc);
+    for text in texts {
+        bytes.extend_from_slice(text.as_bytes())?;
+    }
+    Ok(MemSource::new(bytes, piece, vec![in alloc; fails]?))
+}
+
+fn sink(alloc: Global, piece: usize, fails: u64) -> Result<MemSink, AllocError>
+    requires { 0 < piece }
+{
+    MemSink::new(alloc, 100, piece, vec![in alloc; fails]?)
+}
+
+// The words, the text in parts, the answer and the status.
+#[test]
+fn answers_with_one_line(rt: HostRuntime) -> Result<(), Fail> {
+    let alloc = rt.alloc();
+    let check_2: &[&str] = &["--check", "--safety", "2"];
+    let check_9: &[&str] = &["--check", "--safety", "9"];
+    let check_0: &[&str] = &["--check", "--safety", "0"];
+    let proof: &[&str] = &[COUNTER, HEADING, FRONT, STEP, BACK];
+    let wrong: &[&str] = &[COUNTER, HEADING, FRONT, WRONG_STEP, BACK];
+    let returns: &[&str] = &[COUNTER, "CERTIFICATE:\r\n", FRONT, STEP, BACK];
+    let two_lines: &[&str] = &[COUNTER, HEADING, HEADING, FRONT, STEP, BACK];
+    let inside: &[&str] = &[COUNTER, " CERTIFICATE:\n", FRONT, STEP, BACK];
+    let nothing: &[&str] = &[COUNTER, "CERTIFICATE:"];
+    for (words, texts, line, status) in [
+        (check_2, proof, "Proved\n", Status::Proved),
+        (check_2, returns, "Proved\n", Status::Proved),
+        (check_2, wrong, UNMET, Status::CertificateRefused),
+        (check_9, proof, UNKNOWN, Status::Refused),
+        (check_0, [DRAWN].as_slice(), UNBUILT, Status::Refused),
+        (
+            check_2,
+            [COUNTER].as_slice(),
+            NO_CERTIFICATE,
+            Status::Refused,
+        ),
+        (check_2, nothing, NO_CERTIFICATE, Status::Refused),
+        (check_2, two_lines, NO_CERTIFICATE, Status::Refused),
+        (check_2, inside, UNBUILT, Status::Refused),
+        (check_2, [].as_slice(), UNBUILT, Status::Refused),
+    ] {
+        let mut source = source(alloc, texts, 4096, 0)?;
+        let mut sink = sink(alloc, 4096, 0)?;
+        assert_eq!(rt; run(alloc, words, &mut source, &mut sink), status, "{line}");
+        assert_eq!(rt; sink.written(), line.as_bytes());
+    }
+    Ok(())
+}
+
+// Each other form of words.
+#[test]
+fn refuses_other_words(rt: HostRuntime) -> Result<(), Fail> {
+    let alloc = rt.alloc();
+    let none: &[&str] = &[];
+    let one: &[&str] = &["--check"];
+    let unchecked: &[&str] = &["--safety", "2"];
+    let unlabelled: &[&str] = &["--check", "--safety"];
+    let turned: &[&str] = &["--safety", "--check", "2"];
+    let four: &[&str] = &["--check", "--safety", "2", "3"];
+    let other: &[&str] = &["--check", "--termination", "2"];
+    let capital: &[&str] = &["--check", "--Safety", "2"];
+    for words in [
+        none, one, unchecked, unlabelled, turned, four, other, capital,
+    ] {
+        let mut source = source(alloc, [COUNTER].as_slice(), 4096, 0)?;
+        let mut sink = sink(alloc, 4096, 0)?;
+        assert_eq!(rt; run(alloc, words, &mut source, &mut sink), Status::Refused);
+        assert_eq!(rt; sink.written(), b"Refused words\n".as_slice());
+    }
+    Ok(())
+}
+
+// One byte over the limit.
+#[test]
+fn refuses_a_long_text(rt: HostRuntime) -> Result<(), Fail> {
+    let alloc = rt.alloc();
+    let blanks = vec![in alloc; b' '; 16777217]?;
+    let mut source = MemSource::new(blanks, 65536, Vec::new(alloc));
+    let mut sink = sink(alloc, 4096, 0)?;
+    let words: &[&str] = &["--check", "--safety", "2"];
+    assert_eq!(rt; run(alloc, words, &mut source, &mut sink), Status::Refused);
+    assert_eq!(rt; sink.written(), b"Refused text too long\n".as_slice());
+    Ok(())
+}
+
+// A source of ten bytes a call, of 330, that fails at a call: nothing is written.
+#[test]
+fn a_read_fault_writes_nothing(rt: HostRuntime) -> Result<(), Fail> {
+    let alloc = rt.alloc();
+    let words: &[&str] = &["--check", "--safety", "2"];
+    for call in 1..35 {
+        let mut source = source(
+            alloc,
+            [COUNTER, HEADING, FRONT, STEP, BACK].as_slice(),
+            10,
+            call,
+        )?;
+        let mut sink = sink(alloc, 4096, 0)?;
+        assert_eq!(rt;
+            run(alloc, words, &mut source, &mut sink),
+            Status::ReadFault
+        );
+        assert!(rt; sink.written().is_empty());
+    }
+    Ok(())
+}
+
+// A sink of three bytes a call that fails at a call: a front of the line is written.
+#[test]
+fn a_write_fault_leaves_a_front(rt: HostRuntime) -> Result<(), Fail> {
+    let alloc = rt.alloc();
+    let words: &[&str] = &["--check", "--safety", "2"];
+    for (call, written, status) in [
+        (1, "", Status::WriteFault),
+        (2, "Pro", Status::WriteFault),
+        (3, "Proved", Status::WriteFault),
+        (4, "Proved\n", Status::Proved),
+    ] {
+        let mut source = source(
+            alloc,
+            [COUNTER, HEADING, FRONT, STEP, BACK].as_slice(),
+            4096,
+            0,
+        )?;
+        let mut sink = sink(alloc, 3, call)?;
+        assert_eq!(rt; run(alloc, words, &mut source, &mut sink), status);
+        assert_eq!(rt; sink.written(), written.as_bytes());
+    }
+    Ok(())
+}
