@@ -1,0 +1,56 @@
+-- What fits an edge without draws has none.
+use Rattle.std.proofs.Common.{◌≡◌, ℕ, suc, ◌+◌, Bool, true, false, List, [], ◌∷◌, map, sum, refl, ap, ◌∙◌, arith}
+use Rattle.std.proofs.lemmas.Bool.{ltb-true}
+use Rattle.std.specs.Prelude.{◌&&◌, IsTrue, nat_lt, nat_le}
+use Rattle.std.specs.List.{list_all}
+use Rattle.tv_program.specs.Trees as trees
+use Rattle.tv_program.specs.Trees.{Expression, number, variable, draw, minus, product, Expressions, no_part, part, Condition, truth, compare, negated, all_of, some_of, Conditions, no_test, test, Instruction, assume, assign}
+use Rattle.tv_program.specs.Limits.{is_linear_product, expression_fits, expressions_fit, condition_fits, conditions_fit, condition_depth, expression_depth, instruction_fits}
+use Rattle.tv_language.specs.Programs.{draws_in, draws_among, draws_tested, draws_of_tests, draws_of, draws_counted}
+
+first_of : (a b : Bool) → IsTrue (a && b) → IsTrue a
+first_of true b h = refl
+first_of false b h = absurd cc
+
+second_of : (a b : Bool) → IsTrue (a && b) → IsTrue b
+second_of true b h = h
+second_of false b h = absurd cc
+
+none_below : (d : ℕ) → IsTrue (nat_lt d 0) → ⊥
+none_below d h = absurd (omega (arith, ltb-true d 0 h))
+
+both_none : (a b : ℕ) → a ≡ 0 → b ≡ 0 → a + b ≡ 0
+both_none a b h k = omega (arith, h, k)
+
+mutual
+  none_in : (v : ℕ) (e : Expression) → IsTrue (expression_fits v 0 e) → draws_in e ≡ 0
+  none_in v (number z) h = refl
+  none_in v (variable n) h = refl
+  none_in v (draw d) h = absurd (none_below d h)
+  none_in v (minus e) h = none_in v e h
+  none_in v (trees.sum es) h = none_among v es h
+  none_in v (product es) h = none_among v es (second_of (is_linear_product es) (expressions_fit v 0 es) h)
+
+  none_among : (v : ℕ) (es : Expressions) → IsTrue (expressions_fit v 0 es) → draws_among es ≡ 0
+  none_among v no_part h = refl
+  none_among v (part e es) h = both_none _ _ (none_in v e (first_of (expression_fits v 0 e) (expressions_fit v 0 es) h)) (none_among v es (second_of (expression_fits v 0 e) (expressions_fit v 0 es) h))
+
+mutual
+  none_tested : (v : ℕ) (c : Condition) → IsTrue (condition_fits v 0 c) → draws_tested c ≡ 0
+  none_tested v (truth b) h = refl
+  none_tested v (compare r a b) h = both_none _ _ (none_in v a (first_of (expression_fits v 0 a) (expression_fits v 0 b) h)) (none_in v b (second_of (expression_fits v 0 a) (expression_fits v 0 b) h))
+  none_tested v (negated c) h = none_tested v c h
+  none_tested v (all_of cs) h = none_of_tests v cs h
+  none_tested v (some_of cs) h = none_of_tests v cs h
+
+  none_of_tests : (v : ℕ) (cs : Conditions) → IsTrue (conditions_fit v 0 cs) → draws_of_tests cs ≡ 0
+  none_of_tests v no_test h = refl
+  none_of_tests v (test c cs) h = both_none _ _ (none_tested v c (first_of (condition_fits v 0 c) (conditions_fit v 0 cs) h)) (none_of_tests v cs (second_of (condition_fits v 0 c) (conditions_fit v 0 cs) h))
+
+none_of : (v : ℕ) (c : Instruction) → IsTrue (instruction_fits v 0 c) → draws_of c ≡ 0
+none_of v (assume c) h = none_tested v c (first_of (condition_fits v 0 c) (nat_le (condition_depth c) 400) h)
+none_of v (assign n e) h = none_in v e (second_of (nat_lt n v) (expression_fits v 0 e) (first_of (nat_lt n v && expression_fits v 0 e) (nat_le (expression_depth e) 400) h))
+
+pub no_draws : (v : ℕ) (cs : List Instruction) → IsTrue (list_all (instruction_fits v 0) cs) → draws_counted cs ≡ 0
+no_draws v [] h = refl
+no_draws v (c ∷ cs) h = both_none _ _ (none_of v c (first_of (instruction_fits v 0 c) (list_all (instruction_fits v 0) cs) h)) (no_draws v cs (second_of (instruction_fits v 0 c) (list_all (instruction_fits v 0) cs) h))

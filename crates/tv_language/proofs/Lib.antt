@@ -1,0 +1,3 @@
+pub mod DrawLemmas
+pub mod PlaceLemmas
+pub mod GrammarLemmas

@@ -1,0 +1,4 @@
+pub mod Symbols
+pub mod Sums
+pub mod Conditions
+pub mod Programs

@@ -1,0 +1,8 @@
+//! What the texts of sums, conditions and programs are, and the words and numbers of their tokens.
+#![tactic(auto)]
+
+mod lexeme;
+#[cfg(test)]
+mod tests;
+
+pub use lexeme::{is_colon, is_label, is_name, number_of, word_of};
