@@ -1,0 +1,11 @@
+pub mod Results
+pub mod ExactLemmas
+pub mod TurnLemmas
+pub mod TurningLemmas
+pub mod GoesLemmas
+pub mod KindLemmas
+pub mod LooseLemmas
+pub mod WholeTexts
+pub mod NarrowLemmas
+pub mod OutsideLemmas
+pub mod LongestLemmas

@@ -1,0 +1,5 @@
+pub mod Reads
+pub mod Langs
+pub mod Exact
+pub mod Faults
+pub mod Longest
