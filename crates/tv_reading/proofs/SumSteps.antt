@@ -1,0 +1,99 @@
+-- What one step of the code that reads sums does.
+use Rattle.std.proofs.Common.{◌≡◌, ℕ, zero, suc, ◌<◌, Bool, true, List, [], ◌∷◌, drop, length, Option, Some, None, Result, Ok, Err, refl, sym, ap, subst, ◌∙◌, arith}
+use Rattle.tv_tokens.specs.declared.token.TokenKind.{TokenKind}
+use Rattle.tv_tokens.specs.declared.token.TokenKind.TheVariants as kinds
+use Rattle.tv_program.specs.Trees as trees
+use Rattle.tv_program.specs.Trees.{Expression}
+use Rattle.tv_language.specs.Symbols.{number, name, label, drawn, fixed}
+use Rattle.tv_grammar.specs.Reads.{Fault, faulty, fault, next}
+use Rattle.tv_grammar.specs.Langs.{branch_read, headed_read, goes_at, then, mapped, turns}
+use Rattle.tv_grammar.specs.Exact.{ExactBranch}
+use Rattle.tv_grammar.proofs.TurningLemmas.{loop_ends, loop_fails, loop_goes, turn_shrinks}
+use Rattle.tv_reading.specs.Marks as marks
+use Rattle.tv_reading.specs.Marks.{Kind, Mark, plain, refused}
+use Rattle.tv_reading.specs.SumGrammar.{Behind, every, closed, leaf_cases, factor_cases, below, factor_at, sum_at}
+use Rattle.tv_reading.specs.declared.reason.Reason.{Reason}
+use Rattle.tv_reading.specs.declared.reason.Reason.TheVariants.{Syntax, Wide, Deep, NotLinear, TooMany, UnknownName, Memory}
+use Rattle.tv_reading.specs.declared.reason.Turn.TheVariants.{On, Off}
+use Rattle.tv_reading.specs.Views.{kind_at}
+use Rattle.tv_reading.specs.Answers.{kind_of, Unless, Gives, Turned}
+
+pub gives_along : {X Y : Type 0} (view : X → Y) (r : Result X Reason) (left : List Mark) (a b : Result (Y × List Mark) (Fault Mark Kind)) → a ≡ b → Gives view r left b → Gives view r left a
+gives_along view r left a b e h = subst (Gives view r left) (sym e) h
+
+-- at a mark, and at the end
+pub at_mark : {X : Type 0} (cases : Mark → Behind X) (ts : List Mark) (m : Mark) → Some m ≡ next ts → headed_read marks.Syntax cases ts ≡ branch_read (cases m) ts (drop 1 ts)
+at_mark cases [] m e = absurd cc
+at_mark cases (t ∷ ts) m e = let is : m ≡ t = cc in ap (λ (u : Mark). branch_read (cases u) (t ∷ ts) ts) (sym is)
+
+pub at_none : {X : Type 0} (cases : Mark → Behind X) (ts : List Mark) → None ≡ next ts → headed_read marks.Syntax cases ts ≡ fault marks.Syntax ts
+at_none cases [] e = refl
+at_none cases (t ∷ ts) e = absurd cc
+
+factor_read : (n : ℕ) (free : Bool) (ts : List Mark) → (factor_at every n free).read ts ≡ headed_read marks.Syntax (factor_cases every free (below every n free)) ts
+unfolding factor_at
+factor_read zero free ts = refl
+factor_read (suc n) free ts = refl
+
+pub factor_mark : (n : ℕ) (free : Bool) (ts : List Mark) (m : Mark) → Some m ≡ next ts → (factor_at every n free).read ts ≡ branch_read (factor_cases every free (below every n free) m) ts (drop 1 ts)
+factor_mark n free ts m e = factor_read n free ts ∙ at_mark (factor_cases every free (below every n free)) ts m e
+
+pub deep_left : (n : ℕ) (free : Bool) (ts : List Mark) → n ≡ 0 → Some (plain (fixed kinds.LeftRound)) ≡ next ts → (factor_at every n free).read ts ≡ fault marks.Deep ts
+deep_left zero free ts e b = factor_mark zero free ts (plain (fixed kinds.LeftRound)) b
+deep_left (suc n) free ts e b = absurd (omega arith)
+
+pub deep_minus : (n : ℕ) (free : Bool) (ts : List Mark) → n ≡ 0 → Some (plain (fixed kinds.Minus)) ≡ next ts → (factor_at every n free).read ts ≡ fault marks.Deep ts
+deep_minus zero free ts e b = factor_mark zero free ts (plain (fixed kinds.Minus)) b
+deep_minus (suc n) free ts e b = absurd (omega arith)
+
+pub left_read : (n m : ℕ) (free : Bool) (ts us : List Mark) → n ≡ suc m → Some (plain (fixed kinds.LeftRound)) ≡ next ts → us ≡ drop 1 ts → (factor_at every n free).read ts ≡ (then (sum_at every m free) closed).read us
+left_read n m free ts us is b e = subst (λ (k : ℕ). (factor_at every k free).read ts ≡ (then (sum_at every m free) closed).read us) (sym is) (factor_mark (suc m) free ts (plain (fixed kinds.LeftRound)) b ∙ ap (then (sum_at every m free) closed).read (sym e))
+
+pub minus_read : (n m : ℕ) (free : Bool) (ts us : List Mark) → n ≡ suc m → Some (plain (fixed kinds.Minus)) ≡ next ts → us ≡ drop 1 ts → (factor_at every n free).read ts ≡ (mapped trees.minus (factor_at every m free)).read us
+minus_read n m free ts us is b e = subst (λ (k : ℕ). (factor_at every k free).read ts ≡ (mapped trees.minus (factor_at every m free)).read us) (sym is) (factor_mark (suc m) free ts (plain (fixed kinds.Minus)) b ∙ ap (mapped trees.minus (factor_at every m free)).read (sym e))
+
+pub none_read : (n : ℕ) (free : Bool) (ts : List Mark) → None ≡ next ts → (factor_at every n free).read ts ≡ fault marks.Syntax ts
+none_read n free ts e = factor_read n free ts ∙ at_none (factor_cases every free (below every n free)) ts e
+
+leaf_at : (n : ℕ) (free : Bool) (m : Mark) → (kind_at (Some m) ≡ kinds.LeftRound → ⊥) → (kind_at (Some m) ≡ kinds.Minus → ⊥) → factor_cases every free (below every n free) m ≡ leaf_cases every free m
+leaf_at n free (plain (fixed kinds.LeftRound)) l m = absurd (l refl)
+leaf_at n free (plain (fixed kinds.Minus)) l m = absurd (m refl)
+leaf_at zero free p l m = refl
+leaf_at (suc n) free p l m = refl
+
+pub leaf_read : (n : ℕ) (free : Bool) (ts : List Mark) (p : Mark) (k : TokenKind) → Some p ≡ next ts → k ≡ kind_at (Some p) → (k ≡ kinds.LeftRound → ⊥) → (k ≡ kinds.Minus → ⊥) → (factor_at every n free).read ts ≡ branch_read (leaf_cases every free p) ts (drop 1 ts)
+leaf_read n free ts p k b is l m = factor_mark n free ts p b ∙ ap (λ (c : Behind Expression). branch_read c ts (drop 1 ts)) (leaf_at n free p (λ w. l (is ∙ w)) (λ w. m (is ∙ w)))
+
+-- the mark of a kind that stands in the grammar
+pub kind_is : (o : Option Mark) (k : TokenKind) → k ≡ kind_at o → (k ≡ kinds.Unread → ⊥) → Some (plain (fixed k)) ≡ o
+kind_is None k e n = absurd (n e)
+kind_is (Some (plain (fixed j))) k e n = ap (λ (i : TokenKind). Some (plain (fixed i))) e
+kind_is (Some (plain (number v))) k e n = absurd (n e)
+kind_is (Some (plain (name v))) k e n = absurd (n e)
+kind_is (Some (plain (label v))) k e n = absurd (n e)
+kind_is (Some (plain (drawn v))) k e n = absurd (n e)
+kind_is (Some (refused j kind)) k e n = absurd (n e)
+
+-- ---- turns
+
+module _ {X S : Type 0} (view : X → S) (cases : S → Mark → Behind S) (h : (s : S) (m : Mark) → ExactBranch (cases s m)) (all : Result (S × List Mark) (Fault Mark Kind)) (s : S) (ts left : List Mark) (so_far : (turns cases s).read ts ≡ all) where
+  failed_by : (k : Kind) → (goes_at (cases s) (next ts) ≡ true) × (headed_read marks.Syntax (cases s) ts ≡ fault k left) → all ≡ fault k left
+  failed_by k t = sym so_far ∙ loop_fails cases h marks.Syntax s ts (faulty k left) t.0 t.1
+
+  pub turn_failed : (e : Reason) → Turned view (Err e) left cases s ts → Unless e (all ≡ fault (kind_of e) left)
+  turn_failed Memory t = tt
+  turn_failed Syntax t = failed_by _ t
+  turn_failed Wide t = failed_by _ t
+  turn_failed Deep t = failed_by _ t
+  turn_failed NotLinear t = failed_by _ t
+  turn_failed TooMany t = failed_by _ t
+  turn_failed UnknownName t = failed_by _ t
+
+  pub turn_on : (x : X) → Turned view (Ok (On x)) left cases s ts → (turns cases (view x)).read left ≡ all
+  turn_on x t = sym (loop_goes cases h marks.Syntax s ts (view x) left t.0 t.1) ∙ so_far
+
+  pub turn_less : (x : X) → Turned view (Ok (On x)) left cases s ts → length left < length ts
+  turn_less x t = turn_shrinks cases h marks.Syntax s ts (view x) left t.1
+
+  pub turn_off : (x : X) → Turned view (Ok (Off x)) left cases s ts → all ≡ Ok (view x, left)
+  turn_off x t = sym so_far ∙ loop_ends cases h s ts t.0 ∙ rw (t.1, t.2) refl

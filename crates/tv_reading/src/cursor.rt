@@ -1,0 +1,126 @@
+ghost use Rattle.std.specs.Prelude.{◌≡◌, ℕ, ◌+◌, ◌<◌, length, drop, OnOk, OnErr, List, Option};
+ghost use Rattle.std.specs.Option.{option_map};
+ghost use Rattle.tv_language.specs.Symbols.{lexeme};
+ghost use Rattle.tv_grammar.specs.Reads.{next};
+ghost use Rattle.tv_reading.specs.Marks.{name_mark, mark_by, names_behind, draws_behind, left, first};
+ghost use Rattle.tv_reading.specs.Views.{mark_of, kind_at, stand, Keeps};
+
+use crate::marks::{
+    MOST_DRAWS, MOST_NAMES, Part, draw, is_formula_word, known_name, new_name, number,
+};
+use std::alloc::{AllocError, Global};
+use tv_language::word_of;
+use tv_program::Names;
+use tv_tokens::{Token, TokenKind};
+
+/// A text and its tokens, whether names are added, and the level that brackets count from.
+#[derive(Drop)]
+pub struct Source<'a> {
+    pub text: &'a [u8],
+    pub list: &'a [Token],
+    pub grows: bool,
+    pub level: u32,
+    pub alloc: Global,
+}
+
+/// How many tokens are taken, and the names and draws up to there.
+#[derive(Drop)]
+pub struct Cursor {
+    pub at: usize,
+    pub names: Names,
+    pub draws: u32,
+}
+
+/// A name, told those that are known.
+fn name(grows: bool, names: &Names, word: &[u8]) -> Part
+    ensures { mark_of result ≡ name_mark grows word.now names.now }
+{
+    if grows {
+        new_name(names.find(word), names.len())
+    } else {
+        known_name(is_formula_word(word), names.find(word))
+    }
+}
+
+fn see(source: &Source, cursor: &Cursor, token: Token) -> Part
+    ensures { mark_of result ≡ mark_by source.now.grows cursor.now.names cursor.now.draws token.kind (lexeme source.now.text.now token).word }
+{
+    match token.kind {
+        TokenKind::Name => name(source.grows, &cursor.names, word_of(source.text, token)),
+        TokenKind::Number => number(word_of(source.text, token)),
+        TokenKind::Nondet => draw(source.grows, cursor.draws),
+        kind => Part::Fixed(kind),
+    }
+}
+
+/// The token with this number, if there is one.
+pub fn current(list: &[Token], at: usize) -> Option<Token>
+    ensures { result ≡ first (drop at list.now) }
+{
+    if at >= list.len() {
+        return None;
+    }
+    Some(list[at])
+}
+
+/// The next token as the grammar sees it.
+pub fn peek(source: &Source, cursor: &Cursor) -> Option<Part>
+    ensures { option_map mark_of result ≡ next (left (stand source.now cursor.now)) }
+{
+    match current(source.list, cursor.at) {
+        Some(token) => Some(see(source, cursor, token)),
+        None => None,
+    }
+}
+
+/// The kind of a token that is neither a number, nor a name, nor a draw.
+pub fn kind_of(part: Option<Part>) -> TokenKind
+    ensures { result ≡ kind_at (option_map mark_of part) }
+{
+    match part {
+        Some(Part::Fixed(kind)) => kind,
+        _ => TokenKind::Unread,
+    }
+}
+
+/// Counts what the token brings in.
+fn count(
+    source: &Source,
+    names: &mut Names,
+    draws: &mut u32,
+    token: Token,
+) -> Result<(), AllocError>
+    ensures names { OnOk result (names.new ≡ names_behind source.now.grows token.kind (lexeme source.now.text.now token).word names.old) }
+    ensures draws { OnOk result (draws.new ≡ draws_behind token.kind draws.old) }
+    ensures unchanged { OnErr result ((names.new ≡ names.old) × (draws.new ≡ draws.old)) }
+{
+    match token.kind {
+        TokenKind::Name => {
+            if source.grows && names.len() < MOST_NAMES {
+                names.put(word_of(source.text, token))?;
+            }
+        }
+        TokenKind::Nondet => {
+            if *draws < MOST_DRAWS {
+                *draws += 1;
+            }
+        }
+        _ => {}
+    }
+    Ok(())
+}
+
+/// Takes a token, and what it brings in.
+pub fn pass(source: &Source, cursor: &mut Cursor) -> Result<(), AllocError>
+    ensures rest { OnOk result (left (stand source.now cursor.new) ≡ drop 1 (left (stand source.now cursor.old))) }
+    ensures passed { Keeps source.now cursor.old cursor.new }
+{
+    match current(source.list, cursor.at) {
+        Some(token) => {
+            count(source, &mut cursor.names, &mut cursor.draws, token)?;
+            cursor.at += 1;
+        }
+        None => {}
+    }
+    Ok(())
+}

@@ -1,0 +1,93 @@
+ghost use Rattle.std.specs.Prelude.{◌≡◌, ◌||◌, codes};
+ghost use Rattle.std.specs.Str.{bytes_eq};
+ghost use Rattle.tv_tokens.specs.Numbers.{value_of_digits};
+ghost use Rattle.tv_reading.specs.Marks.{new_name, known_name, is_formula_word, draw_mark, number_mark};
+ghost use Rattle.tv_reading.specs.Views.{mark_of};
+
+use tv_language::number_of;
+use tv_tokens::TokenKind;
+
+/// A token as the grammar sees it: a name and a draw have a number, or are refused.
+#[derive(Clone, Copy)]
+pub enum Part {
+    Number(u64),
+    Variable(u32),
+    Draw(u32),
+    /// A name beside 512 others.
+    NameTooMany,
+    UnknownName,
+    /// A draw behind 64 others.
+    DrawTooMany,
+    Fixed(TokenKind),
+}
+
+/// At most so many names are added.
+pub const MOST_NAMES: u32 = 512;
+
+/// At most so many draws stand in an edge.
+pub const MOST_DRAWS: u32 = 64;
+
+/// A name where names are added: its number, or that of the next one.
+pub fn new_name(number: Option<u32>, count: u32) -> Part
+    ensures { mark_of result ≡ new_name number count }
+{
+    match number {
+        Some(number) => Part::Variable(number),
+        None => {
+            if count < MOST_NAMES {
+                Part::Variable(count)
+            } else {
+                Part::NameTooMany
+            }
+        }
+    }
+}
+
+/// A name where none is added.
+pub fn known_name(reserved: bool, number: Option<u32>) -> Part
+    ensures { mark_of result ≡ known_name reserved number }
+{
+    if reserved {
+        return Part::Fixed(TokenKind::Name);
+    }
+    match number {
+        Some(number) => Part::Variable(number),
+        None => Part::UnknownName,
+    }
+}
+
+fn is_word(word: &[u8], other: &[u8]) -> bool
+    ensures { result ≡ bytes_eq word.now other.now }
+{
+    word == other
+}
+
+/// Whether the word is one of the two of formulas that are no names there.
+pub fn is_formula_word(word: &[u8]) -> bool
+    ensures { result ≡ is_formula_word word.now }
+{
+    is_word(word, b"at") || is_word(word, b"term")
+}
+
+/// The word `nondet`, told how many draws there are before it.
+pub fn draw(grows: bool, draws: u32) -> Part
+    ensures { mark_of result ≡ draw_mark grows draws }
+{
+    if !grows {
+        Part::Fixed(TokenKind::Nondet)
+    } else if draws < MOST_DRAWS {
+        Part::Draw(draws)
+    } else {
+        Part::DrawTooMany
+    }
+}
+
+/// The number that digits write.
+pub fn number(digits: &[u8]) -> Part
+    ensures { mark_of result ≡ number_mark (value_of_digits digits.now) }
+{
+    match number_of(digits) {
+        Some(number) => Part::Number(number as u64),
+        None => Part::Fixed(TokenKind::Wide),
+    }
+}

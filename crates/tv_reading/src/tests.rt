@@ -1,0 +1,187 @@
+ghost use Rattle.std.specs.Prelude.{◌+◌, ◌^◌, ◌<◌, length};
+ghost use Rattle.tv_reading.specs.Readings.{IsKept};
+
+use crate::PartFault::{Deep, Memory, NotLinear, Syntax, TooMany, UnknownName, Wide};
+use crate::{PartFault, Reading};
+use std::alloc::{AllocError, Global};
+use std::test::Fail;
+use tv_program::{Expr, Names};
+use tv_tokens::{TokenKind, scan};
+
+/// How many tokens a condition has at the front of a text where names are added.
+fn condition_taken(alloc: Global, text: &[u8]) -> Result<u32, PartFault>
+    requires { length text.now + 1 < 2 ^ 32 }
+{
+    let Ok(list) = scan(alloc, text) else {
+        return Err(Memory);
+    };
+    let mut reading = Reading::new(alloc, text, &list, Names::new(alloc), true);
+    match reading.condition() {
+        Ok(_) => Ok(reading.place()),
+        Err(fault) => Err(fault),
+    }
+}
+
+/// How many tokens a sum has at the front of a text where no name is known and none is added.
+fn sum_taken(alloc: Global, text: &[u8]) -> Result<u32, PartFault>
+    requires { length text.now + 1 < 2 ^ 32 }
+{
+    let Ok(list) = scan(alloc, text) else {
+        return Err(Memory);
+    };
+    let mut reading = Reading::new(alloc, text, &list, Names::new(alloc), false);
+    match reading.sum() {
+        Ok(_) => Ok(reading.place()),
+        Err(fault) => Err(fault),
+    }
+}
+
+/// The bytes so many times, and `end`.
+fn repeated(alloc: Global, bytes: &[u8], times: u32, end: &[u8]) -> Result<Vec<u8>, AllocError> {
+    let mut text = Vec::new(alloc);
+    for _ in 0..times {
+        text.extend_from_slice(bytes)?;
+    }
+    text.extend_from_slice(end)?;
+    Ok(text)
+}
+
+// A condition of each form, and the first fault of others.
+#[test]
+fn reads_conditions(rt: HostRuntime) -> Result<(), Fail> {
+    for (text, want) in [
+        ("x > 0", Ok(3)),
+        ("x > 0 )", Ok(3)),
+        ("(x > 0) + 1", Ok(5)),
+        ("true && false || !(x == nondet())", Ok(12)),
+        ("((x)) * 2 != -(3 - y) && z <= 4611686018427387903", Ok(18)),
+        ("x > 0 @", Ok(3)),
+        ("x", Err(Syntax { at: 1 })),
+        ("(x) + 1", Err(Syntax { at: 7 })),
+        ("x > 0 && )", Err(Syntax { at: 9 })),
+        ("x + ) > 0", Err(Syntax { at: 4 })),
+        ("x < y < z", Ok(3)),
+        ("(x && y)", Err(Syntax { at: 3 })),
+        ("x > @", Err(Syntax { at: 4 })),
+        ("x > 4611686018427387904", Err(Wide { at: 4 })),
+        (
+            "4611686018427387904 4611686018427387904",
+            Err(Wide { at: 0 }),
+        ),
+        ("x 4611686018427387904", Err(Syntax { at: 2 })),
+        ("x * y > 0", Err(NotLinear { at: 4 })),
+        ("0 * x * (2 + y) > 0", Err(NotLinear { at: 13 })),
+        ("2 * nondet() * nondet() < 1", Err(NotLinear { at: 15 })),
+        ("nondet() > nondet", Err(Syntax { at: 17 })),
+    ] {
+        assert!(rt; text.len() < 200);
+        assert_eq!(rt;
+            condition_taken(rt.alloc(), text.as_bytes()),
+            want,
+            "{text}"
+        );
+    }
+    Ok(())
+}
+
+// Where no name is added, draws and two words of formulas stand in no sum.
+#[test]
+fn adds_no_name(rt: HostRuntime) -> Result<(), Fail> {
+    for (text, want) in [
+        ("1 - 2 * 3", Ok(5)),
+        ("y", Err(UnknownName { at: 0 })),
+        ("2 + nondet()", Err(Syntax { at: 4 })),
+        ("at", Err(Syntax { at: 0 })),
+        ("2 * term", Err(Syntax { at: 4 })),
+    ] {
+        assert!(rt; text.len() < 200);
+        assert_eq!(rt; sum_taken(rt.alloc(), text.as_bytes()), want, "{text}");
+    }
+    Ok(())
+}
+
+// The level and the draw that are one too many.
+#[test]
+fn keeps_the_limits(rt: HostRuntime) -> Result<(), Fail> {
+    for (bytes, times, end, want) in [
+        ("!", 63, "true", Ok(64)),
+        ("!", 64, "true", Err(Deep { at: 63 })),
+        ("(", 64, "x > 0", Err(Deep { at: 63 })),
+        ("-", 64, "x > 0", Err(Deep { at: 63 })),
+        ("nondet()+", 63, "nondet() > 0", Ok(257)),
+        ("nondet()+", 64, "nondet() > 0", Err(TooMany { at: 576 })),
+    ] {
+        let text = repeated(rt.alloc(), bytes.as_bytes(), times, end.as_bytes())?;
+        assert!(rt; text.len() < 2000);
+        assert_eq!(rt; condition_taken(rt.alloc(), &text), want, "{bytes} {times}");
+    }
+    for (times, want) in [(64, Ok(65)), (65, Err(Deep { at: 64 }))] {
+        let text = repeated(rt.alloc(), b"-", times, b"1")?;
+        assert!(rt; text.len() < 2000);
+        assert_eq!(rt; sum_taken(rt.alloc(), &text), want, "{times}");
+    }
+    Ok(())
+}
+
+/// How many parts a sum has.
+fn parts_of(expr: &Expr) -> usize {
+    match expr {
+        Expr::Sum(parts) => parts.len(),
+        _ => 1,
+    }
+}
+
+/// How many parts the sum at the front of what is left has.
+fn next_sum(reading: &mut Reading) -> Result<usize, PartFault>
+    ensures { IsKept reading.old reading.new }
+{
+    match reading.sum() {
+        Ok(expr) => Ok(parts_of(&expr)),
+        Err(fault) => Err(fault),
+    }
+}
+
+/// Whether a condition is at the front of what is left.
+fn next_condition(reading: &mut Reading) -> Result<(), PartFault>
+    ensures { IsKept reading.old reading.new }
+{
+    match reading.condition() {
+        Ok(_) => Ok(()),
+        Err(fault) => Err(fault),
+    }
+}
+
+// Each call once: the parts of an assignment, and names that stay after a refusal.
+#[test]
+fn goes_over_a_text(rt: HostRuntime) -> Result<(), Fail> {
+    let text = b"x := y - 2; x * y".as_slice();
+    let list = scan(rt.alloc(), text)?;
+    let mut reading = Reading::new(rt.alloc(), text, &list, Names::new(rt.alloc()), true);
+    reading.edge();
+    assert_eq!(rt; reading.variable(), Ok(0));
+    assert!(rt; reading.peek().kind == TokenKind::Assign);
+    reading.take();
+    assert_eq!(rt; next_sum(&mut reading), Ok(2));
+    assert_eq!(rt; reading.place(), 5);
+    reading.take();
+    assert_eq!(rt; next_sum(&mut reading), Err(NotLinear { at: 16 }));
+    assert_eq!(rt; reading.place(), 8);
+    assert_eq!(rt; reading.finish().len(), 2);
+    Ok(())
+}
+
+// Places and levels are set where no name is added.
+#[test]
+fn goes_to_a_place(rt: HostRuntime) -> Result<(), Fail> {
+    let text = b"1 + (2) == 3".as_slice();
+    let list = scan(rt.alloc(), text)?;
+    assert!(rt; list.len() == 8);
+    let mut reading = Reading::new(rt.alloc(), text, &list, Names::new(rt.alloc()), false);
+    reading.go(2, 64);
+    assert_eq!(rt; next_condition(&mut reading), Err(Deep { at: 4 }));
+    reading.go(0, 63);
+    assert_eq!(rt; next_condition(&mut reading), Ok(()));
+    reading.take();
+    assert_eq!(rt; reading.place(), 7);
+    Ok(())
+}
