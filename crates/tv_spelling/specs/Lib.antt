@@ -1,0 +1,5 @@
+pub mod Named
+pub mod Sums
+pub mod Conditions
+pub mod ReadAgain
+pub mod Programs

@@ -1,0 +1,13 @@
+//! The one spelling of sums, conditions and programs.
+#![tactic(auto)]
+
+mod conditions;
+mod programs;
+mod sums;
+#[cfg(test)]
+mod tests;
+mod writing;
+
+pub use conditions::{append_condition, write_condition};
+pub use programs::write_program;
+pub use sums::{append_sum, write_sum};
