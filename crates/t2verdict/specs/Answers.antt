@@ -1,6 +1,5 @@
 -- What a run writes, and how it ends.
-use Rattle.std.specs.Prelude.{◌≡◌, ℕ, List, [], ◌∷◌, ◌++◌, Option, codes, decimal}
-use Rattle.tv_text.specs.Stream.{after}
+use Rattle.std.specs.Prelude.{ℕ, List, [], ◌∷◌, ◌++◌, codes, decimal}
 use Rattle.tv_cert.specs.declared.node.Kind.{Kind}
 use Rattle.tv_cert.specs.declared.node.Kind.TheVariants as kinds
 use Rattle.t2verdict.specs.declared.answer.Answer.{Answer}
@@ -43,8 +42,13 @@ status_of CertificateUnbuilt = statuses.Refused
 status_of ReadFault = statuses.ReadFault
 status_of Memory = statuses.Memory
 
--- a run has written the line of an answer and ended with its status
-pub record Answers (before now : Option (List ℕ)) (status : Status) : Type 0 where
-  pub answer : Answer
-  pub line : now ≡ after before (line_of answer)
-  pub ends : status ≡ status_of answer
+-- what the program ends with
+abbrev pub status_number : Status → ℕ
+status_number statuses.Proved = 0
+status_number statuses.Disproved = 1
+status_number statuses.Unknown = 2
+status_number statuses.Refused = 3
+status_number statuses.ReadFault = 4
+status_number statuses.WriteFault = 5
+status_number statuses.Memory = 6
+status_number statuses.CertificateRefused = 7

@@ -6,7 +6,6 @@ mod run;
 mod status;
 #[cfg(test)]
 mod tests;
-mod texts;
 mod words;
 
 use run::run;

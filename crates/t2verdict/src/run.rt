@@ -1,14 +1,14 @@
-ghost use Rattle.std.specs.Prelude.{◌≡◌, ◌≢◌, ◌<◌, ◌≤◌, length};
-ghost use Rattle.t2verdict.specs.Answers.{Answers};
+ghost use Rattle.std.specs.Prelude.{◌≡◌, ◌≤◌, map, length};
 ghost use Rattle.tv_text.specs.Stream.{Rose};
+ghost use Rattle.t2verdict.specs.Headline.{Means, IsAnswer, Concludes};
 
 use crate::answer::Answer;
 use crate::status::Status;
-use crate::texts::split_texts;
 use crate::words::Question;
 use std::alloc::Global;
 use tv_cases::{CaseFault, cases};
 use tv_cert_text::{PlainFault, read_plain_certificate};
+use tv_given::split_texts;
 use tv_sound::check_safety;
 use tv_syntax::read_plain;
 use tv_text::{ReadError, Sink, Source, read_all, write_all};
@@ -16,11 +16,12 @@ use tv_text::{ReadError, Sink, Source, read_all, write_all};
 /// How many bytes are read at most.
 const LIMIT: usize = 16_777_216;
 
-fn decide(alloc: Global, text: &[u8], label: &str) -> Answer
-    requires { length text.now ≤ 16777216 }
-    ensures { result ≢ Answer.ReadFault }
+/// The answer to whether the certificate in the bytes shows that no run of the program in them reaches the location.
+fn decide(alloc: Global, bytes: &[u8], label: &str) -> Answer
+    requires { length bytes.now ≤ 16777216 }
+    ensures { Means label.now bytes.now result }
 {
-    let (text, certificate) = split_texts(text);
+    let (text, certificate) = split_texts(bytes);
     let program = match read_plain(alloc, text) {
         Ok(program) => program,
         Err(tv_syntax::PlainFault::Unbuilt) => return Answer::TextUnbuilt,
@@ -31,8 +32,9 @@ fn decide(alloc: Global, text: &[u8], label: &str) -> Answer
         Err(CaseFault::Memory) => return Answer::Memory,
         Err(_) => return Answer::TextUnbuilt,
     };
-    let Some(location) = program.locations().find(label.as_bytes()) else {
-        return Answer::UnknownName;
+    let location = match program.locations().find(label.as_bytes()) {
+        Some(location) => location,
+        None => return Answer::UnknownName,
     };
     let plain = match read_plain_certificate(alloc, certificate, &about, location) {
         Ok(plain) => plain,
@@ -45,15 +47,18 @@ fn decide(alloc: Global, text: &[u8], label: &str) -> Answer
     }
 }
 
+/// The answer to the words about the text that the source holds.
 fn answered<S: Source>(alloc: Global, words: &[&str], source: &mut S) -> Answer
+    ensures answer { IsAnswer (map (λ word. word.now) words.now) (S.held source.old) (S.held source.new) result }
     ensures read { result ≡ Answer.ReadFault → Rose (S.faults source.old) (S.faults source.new) }
     ensures later { S.faults source.old ≤ S.faults source.new }
 {
-    let Some(Question::CheckSafety(label)) = Question::read(words) else {
-        return Answer::Words;
+    let question = match Question::read(words) {
+        Some(question) => question,
+        None => return Answer::Words,
     };
     match read_all(alloc, source, LIMIT) {
-        Ok(text) => decide(alloc, &text, label),
+        Ok(bytes) => decide(alloc, &bytes, question.label()),
         Err(ReadError::Fault) => Answer::ReadFault,
         Err(ReadError::TooLong) => Answer::TooLong,
         Err(ReadError::Memory) => Answer::Memory,
@@ -67,15 +72,16 @@ pub fn run<S: Source, K: Sink>(
     source: &mut S,
     sink: &mut K,
 ) -> Status
+    ensures headline { Concludes (map (λ word. word.now) words.now) (S.held source.old) (S.held source.new) (K.written sink.old) (K.written sink.new) result }
     ensures read { result ≡ Status.ReadFault → Rose (S.faults source.old) (S.faults source.new) }
     ensures write { result ≡ Status.WriteFault → Rose (K.faults sink.old) (K.faults sink.new) }
-    ensures answer { result ≢ Status.WriteFault → Answers (K.written sink.old) (K.written sink.new) result }
     ensures later_source { S.faults source.old ≤ S.faults source.new }
     ensures later_sink { K.faults sink.old ≤ K.faults sink.new }
 {
     let answer = answered(alloc, words, source);
-    let Ok(line) = answer.line(alloc) else {
-        return Status::Memory;
+    let line = match answer.line(alloc) {
+        Ok(line) => line,
+        Err(_) => return Status::Memory,
     };
     match write_all(sink, line.as_bytes()) {
         Ok(()) => answer.status(),

@@ -1,3 +1,7 @@
+ghost use Rattle.std.specs.Prelude.{◌≡◌};
+ghost use Rattle.std.specs.Process.{exit_status};
+ghost use Rattle.t2verdict.specs.Answers.{status_number};
+
 use std::process::ExitCode;
 
 /// How a run ended.
@@ -22,7 +26,9 @@ pub enum Status {
 }
 
 impl Status {
-    fn number(self) -> u8 {
+    fn number(self) -> u8
+        ensures { result ≡ status_number self }
+    {
         match self {
             Status::Proved => 0,
             Status::Disproved => 1,
@@ -36,7 +42,9 @@ impl Status {
     }
 
     /// What the program ends with.
-    pub fn exit_code(self) -> ExitCode {
+    pub fn exit_code(self) -> ExitCode
+        ensures { exit_status result ≡ status_number self }
+    {
         ExitCode::from(self.number())
     }
 }

@@ -20,6 +20,14 @@ const WRONG_STEP: &str = "by 1 1 1\n";
 
 const BACK: &str = "empty 1 1\ninto 0 0\nend\n";
 
+/// The start is split at 0, and the same piece is entered on both sides.
+const SPLIT_BACK: &str = "empty 1 1\nsplit 1 0\ninto 0 0\ninto 0 0\nend\n";
+
+/// The denied side of the split refutes nothing.
+const UNMET_BACK: &str = "empty 1 1\nsplit 1 0\ninto 0 0\nempty 1\nend\n";
+
+const UNMET_ROOT: &str = "Certificate refused obligation 8 node 0 root\n";
+
 const DRAWN: &str =
     "START: 0; FROM: 0; x := nondet(); TO: 1; FROM: 1; assume(x > 0); x := x - 1; TO: 1;";
 
@@ -57,6 +65,8 @@ fn answers_with_one_line(rt: HostRuntime) -> Result<(), Fail> {
     let check_0: &[&str] = &["--check", "--safety", "0"];
     let proof: &[&str] = &[COUNTER, HEADING, FRONT, STEP, BACK];
     let wrong: &[&str] = &[COUNTER, HEADING, FRONT, WRONG_STEP, BACK];
+    let split: &[&str] = &[COUNTER, HEADING, FRONT, STEP, SPLIT_BACK];
+    let unmet_side: &[&str] = &[COUNTER, HEADING, FRONT, STEP, UNMET_BACK];
     let returns: &[&str] = &[COUNTER, "CERTIFICATE:\r\n", FRONT, STEP, BACK];
     let two_lines: &[&str] = &[COUNTER, HEADING, HEADING, FRONT, STEP, BACK];
     let inside: &[&str] = &[COUNTER, " CERTIFICATE:\n", FRONT, STEP, BACK];
@@ -64,6 +74,8 @@ fn answers_with_one_line(rt: HostRuntime) -> Result<(), Fail> {
     for (words, texts, line, status) in [
         (check_2, proof, "Proved\n", Status::Proved),
         (check_2, returns, "Proved\n", Status::Proved),
+        (check_2, split, "Proved\n", Status::Proved),
+        (check_2, unmet_side, UNMET_ROOT, Status::CertificateRefused),
         (check_2, wrong, UNMET, Status::CertificateRefused),
         (check_9, proof, UNKNOWN, Status::Refused),
         (check_0, [DRAWN].as_slice(), UNBUILT, Status::Refused),

@@ -1,2 +1,4 @@
 pub mod NodeLemmas
 pub mod PieceLemmas
+pub mod ShapeLemmas
+pub mod ShapeFits

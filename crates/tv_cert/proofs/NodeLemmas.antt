@@ -42,7 +42,7 @@ fits_is n none (more_of-Node a kids) h = absurd h
 fits_is n (more f fs) end_of-Node h = absurd h
 fits_is n (more f fs) (more_of-Node a kids) h = (h.0, fits_is n fs kids h.1)
 
-out_is : (ps : _) (m : _) (shape : _) (kids : _) (proofs : _) → kids_of (Node' ps m shape kids proofs) ≡ items-the_row-Node _ kids
+pub out_is : (ps : _) (m : _) (shape : _) (kids : _) (proofs : _) → kids_of (Node' ps m shape kids proofs) ≡ items-the_row-Node _ kids
 out_is ps m shape kids proofs = ap (λ x. x.children.items) (outs-Node' ps m shape kids proofs) ∙ items_shown-the_row-Node-0 shape kids
 
 -- a node by the list of its children
@@ -59,10 +59,10 @@ fits_are n f (Node' ps m shape kids proofs) h = subst (fits_list n (parts f)) (s
 abbrev pub proofs_list : Node → List Proof
 proofs_list node = (out-Node node).proofs.items
 
-pieces_are : (node : Node) → pieces_of node ≡ pieces_list node
+pub pieces_are : (node : Node) → pieces_of node ≡ pieces_list node
 pieces_are (Node' ps m shape kids proofs) = sym (ap (λ x. x.pieces.items) (outs-Node' ps m shape kids proofs))
 
-kid_pieces_are : {k : _} (kids : Row_of-Node k) → kid_pieces kids ≡ map pieces_list (items-the_row-Node k kids)
+pub kid_pieces_are : {k : _} (kids : Row_of-Node k) → kid_pieces kids ≡ map pieces_list (items-the_row-Node k kids)
 kid_pieces_are end_of-Node = refl
 kid_pieces_are (more_of-Node a kids) = (λ i. pieces_are a i ∷ kid_pieces_are kids i)
 

@@ -6,3 +6,4 @@ pub mod Nodes
 pub mod Fits
 pub mod Plain
 pub mod Listed
+pub mod Shapes

@@ -1,70 +1,61 @@
-use Rattle.std.proofs.Common.{◌≡◌, ℕ, suc, ◌+◌, ◌*◌, ◌<◌, ◌≤◌, ◌^◌, Bool, true, false, List, [], ◌∷◌, ◌++◌, length, map, All, arith, refl, sym, ap, ◌∙◌, subst, length-append}
-use Rattle.std.specs.Prelude.{◌==◌, cond}
+-- The shape of a plain certificate, and what soundness asks of it.
+use Rattle.std.proofs.Common.{◌≡◌, ℕ, suc, ◌+◌, ◌*◌, ◌<◌, ◌≤◌, ◌^◌, Bool, true, false, List, [], ◌∷◌, ◌++◌, length, map, arith, refl, ap, ◌∙◌, length-append, cond, None, Some}
+use Rattle.std.specs.Prelude.{◌==◌}
 use Rattle.std.specs.List.{filter, flat_map}
 use Rattle.std.proofs.lemmas.Nat.{row_fits}
 use Rattle.std.proofs.lemmas.List.{length-map}
-use Rattle.std.proofs.lemmas.List.Elements.{All-nil, All-cons, All-head, All-tail, All-contains}
+use Rattle.tv_lines.specs.Lines.{PlainLine}
+use Rattle.tv_lines.specs.declared.head.NodeKind.{NodeKind}
+use Rattle.tv_lines.specs.declared.head.NodeKind.TheVariants as kinds
 use Rattle.tv_formula.specs.Properties.{Property, truth, at, negated, none}
-use Rattle.tv_linear.specs.Linear.{Linear, columns}
+use Rattle.tv_formula.specs.declared.tree.Path.TheVariants.{Every}
+use Rattle.tv_formula.specs.declared.tree.Shape.TheVariants.{Weak}
 use Rattle.tv_linear.specs.declared.cover.CoverTree.{CoverTree}
 use Rattle.tv_cases.specs.LinearCases.{CaseSystem, AreCases}
 use Rattle.tv_cert.specs.declared.node.Marked.{Marked}
-use Rattle.tv_cert.specs.declared.node.Proof.{Proof}
-use Rattle.tv_cert.specs.declared.node.Proof.TheVariants.{Covered, Chosen}
-use Rattle.tv_cert.specs.declared.node.Node.{Node, out-Node}
+use Rattle.tv_cert.specs.declared.node.Node.{Node}
 use Rattle.tv_cert.specs.declared.node.Verdict.TheVariants.{Proved}
-use Rattle.tv_cert.specs.Pieces.{place_of, rows_of, goes}
+use Rattle.tv_cert.specs.Pieces.{place_of, goes}
+use Rattle.tv_cert.specs.Targets.{no_fall}
 use Rattle.tv_cert.specs.Choices.{cases_from}
 use Rattle.tv_cert.specs.Obligations.{About, own_of, piece_of, step_of, steps_of, fix_of}
 use Rattle.tv_cert.specs.Nodes.{size, entries, obligations, parts, pieces_of, root_entry}
-use Rattle.tv_cert.specs.Fits.{PieceFits, ProofFits, OwnFits, NodeFits, MarksFit}
 use Rattle.tv_cert.specs.Listed.{pieces_list, own_entries}
 use Rattle.tv_cert.specs.Plain.{about_of, never_at, PlainFits}
-use Rattle.tv_formula.specs.declared.tree.Path.TheVariants.{Every}
-use Rattle.tv_formula.specs.declared.tree.Shape.TheVariants.{Weak}
-use Rattle.tv_cert.specs.Targets.{no_fall}
-use Rattle.tv_cert_text.specs.Read.{IsRanklessPiece, IsCover, IsPlainNode, IsPlainAtom, IsPlainRoot}
-use Rattle.tv_cert.proofs.NodeLemmas.{node_fits, kids_of, proofs_list, entries_are, own_are, size_is, sizes_list, fits_list, kid_list, length-paired}
+use Rattle.tv_cert.specs.Shapes.{HasShape}
+use Rattle.tv_cert.proofs.ShapeFits.{shape_fits}
+use Rattle.tv_cert.proofs.NodeLemmas.{entries_are, own_are, size_is, sizes_list, kid_list, kids_of, proofs_list, length-paired}
+use Rattle.tv_cert_text.specs.CertificateLines.{piece_lines, proof_lines, node_lines}
+use Rattle.tv_cert_text.specs.Parts.{headed_pieces}
+use Rattle.tv_cert_text.specs.Wanted.{Wanted, outlines, IsWanted}
+use Rattle.tv_cert_text.specs.Wanted as wanted
+use Rattle.tv_cert_text.specs.Nodes.{IsRoot}
+use Rattle.tv_cert_text.proofs.PartLemmas.{few_pieces}
+use Rattle.tv_cert_text.proofs.NodeTexts.{atom_opened, root_opened}
 
--- ---- shape
+-- ---- what a plain certificate consists of
 
-at_most : (n : ℕ) (rows : List Linear) → All (λ r. columns r ≡ n) rows → All (λ r. columns r ≤ n) rows
-at_most n [] h = All-nil (λ r. columns r ≤ n)
-at_most n (r ∷ rows) h = All-cons (λ r. columns r ≤ n) r rows (let e = All-head (λ r. columns r ≡ n) r rows h in omega (arith, e)) (at_most n rows (All-tail (λ r. columns r ≡ n) r rows h))
+-- a node without children whose pieces can be counted
+pub record IsFewAtom (node : Node) : Type 0 where
+  pub few : length (pieces_list node) < 2 ^ 32
+  pub leaf : kids_of node ≡ []
 
-piece_fits : (n : ℕ) (p : Marked) → IsRanklessPiece n p → PieceFits n 0 p
-piece_fits n p h = record {
-  rows = at_most n (rows_of p) h.rows;
-  ranks = subst (λ rows. All (λ r. columns r ≤ n) rows) (sym h.no_ranks) (All-nil (λ r. columns r ≤ n));
-  many = λ goes. ap length h.no_ranks;
-}
-
-proof_fits : (n : ℕ) (p : Proof) → IsCover p → ProofFits n p
-proof_fits n (Covered tree) h = tt
-proof_fits n (Chosen tree) h = absurd h
-
-own_fits : (n : ℕ) (f : Property) (node : Node) → IsPlainNode n node → MarksFit f (pieces_list node) → OwnFits n (out-Node node).ranks f (pieces_list node) (proofs_list node)
-own_fits n f node h marks = record {
-  pieces = λ p among. subst (λ m. PieceFits n m p) (sym h.no_ranks) (piece_fits n p (All-contains (IsRanklessPiece n) (pieces_list node) p h.pieces among));
-  widths = λ p among. proof_fits n p (All-contains IsCover (proofs_list node) p h.proofs among);
-  marks = marks;
-}
-
-atom_fits : (n : ℕ) (f : Property) (node : Node) → IsPlainAtom n node → MarksFit f (pieces_list node) → fits_list n (parts f) [] → NodeFits n f node
-atom_fits n f node h marks leafless = node_fits n f node (own_fits n f node h.plain marks) (subst (fits_list n (parts f)) (sym h.leaf) leafless)
-
-root_fits : (n l : ℕ) (root : Node) → IsPlainRoot n root → NodeFits n (never_at l) root
-root_fits n l root h =
-    node_fits n (never_at l) root (own_fits n (never_at l) root h.plain tt)
-    (subst (fits_list n (parts (never_at l))) (sym h.kids) (atom_fits n (negated (at l)) h.hold h.hold_atom tt tt, (atom_fits n (truth false) h.end h.end_atom tt tt, tt)))
+-- a node over two such atoms
+pub record IsFewRoot (node : Node) : Type 0 where
+  pub few : length (pieces_list node) < 2 ^ 32
+  pub hold : Node
+  pub end : Node
+  pub kids : kids_of node ≡ hold ∷ end ∷ []
+  pub hold_atom : IsFewAtom hold
+  pub end_atom : IsFewAtom end
 
 -- ---- size
 
 leaf_size : (node : Node) → kids_of node ≡ [] → size node ≡ 1
 leaf_size node leaf = size_is node ∙ ap (λ kids. suc (sizes_list kids)) leaf
 
-root_size : (n : ℕ) (root : Node) → IsPlainRoot n root → size root ≡ 3
-root_size n root h =
+root_size : (root : Node) → IsFewRoot root → size root ≡ 3
+root_size root h =
     let kids = size_is root ∙ ap (λ kids. suc (sizes_list kids)) h.kids in
     let a = leaf_size h.hold h.hold_atom.leaf in
     let b = leaf_size h.end h.end_atom.leaf in
@@ -115,12 +106,12 @@ atom_few number about f node atom each few leaf =
 bounded : (a b : ℕ) → a < 2 ^ 32 → b ≤ 8193 → a * b < 2 ^ 46
 bounded a b small few = (let h = row_fits a b (2 ^ 32) 8193 small few in omega (arith, h))
 
-root_few : (system : CaseSystem) (l : ℕ) (root : Node) (start : CoverTree) → AreCases system → IsPlainRoot system.variables root → length (obligations (about_of system) (never_at l) root (Proved start)) < 2 ^ 64
+root_few : (system : CaseSystem) (l : ℕ) (root : Node) (start : CoverTree) → AreCases system → IsFewRoot root → length (obligations (about_of system) (never_at l) root (Proved start)) < 2 ^ 64
 root_few system l root start limits h =
     let about = about_of system in
     let f = never_at l in
-    let hold = atom_few 1 about (negated (at l)) h.hold refl (λ p ps kids. omega arith) h.hold_atom.plain.few h.hold_atom.leaf in
-    let end = atom_few (1 + size h.hold) about (truth false) h.end refl (λ p ps kids. omega arith) h.end_atom.plain.few h.end_atom.leaf in
+    let hold = atom_few 1 about (negated (at l)) h.hold refl (λ p ps kids. omega arith) h.hold_atom.few h.hold_atom.leaf in
+    let end = atom_few (1 + size h.hold) about (truth false) h.end refl (λ p ps kids. omega arith) h.end_atom.few h.end_atom.leaf in
     let below = entries_are 0 about f root ∙ ap (λ kids. kid_list 1 about (parts f) kids ++ own_entries 0 about f root) h.kids in
     let own = own_few 0 about f (1 + length system.cases) root (λ p. fix_few 0 about (pieces_list root) _ _ p (goes p)) in
     let whole = length-append (entries 0 about f root) (root_entry about (pieces_of root) (Proved start) ∷ []) in
@@ -128,12 +119,50 @@ root_few system l root start limits h =
     let kids = length-append (entries 1 about (negated (at l)) h.hold) (entries (1 + size h.hold) about (truth false) h.end ++ []) in
     let last = length-append (entries (1 + size h.hold) about (truth false) h.end) [] in
     let cases : length system.cases ≤ 8192 = limits.few_cases in
-    let product = bounded (length (pieces_list root)) (1 + length system.cases) h.plain.few (omega (arith, cases)) in
+    let product = bounded (length (pieces_list root)) (1 + length system.cases) h.few (omega (arith, cases)) in
     omega (arith, whole, parted, kids, last, hold, end, own, product)
 
-pub plain_fits : (system : CaseSystem) (l : ℕ) (root : Node) (start : CoverTree) → AreCases system → IsPlainRoot system.variables root → PlainFits system l root start
-plain_fits system l root start limits h = record {
-  fits = root_fits system.variables l root h;
-  nodes = (let three = root_size system.variables root h in omega (arith, three));
+pub plain_fits : (system : CaseSystem) (l : ℕ) (root : Node) (start : CoverTree) → AreCases system → HasShape (about_of system) (never_at l) root → IsFewRoot root → PlainFits system l root start
+plain_fits system l root start limits shape h = record {
+  fits = shape_fits (about_of system) (never_at l) root shape;
+  nodes = (let three = root_size root h in omega (arith, three));
   room = root_few system l root start limits h;
 }
+
+-- ---- from the lines
+
+few_headed : (kind : NodeKind) (ps : List Marked) (text rest : List PlainLine) → text ≡ headed_pieces kind ps ++ rest → length ps ≤ length text
+few_headed kind ps text rest e =
+    let a = ap length e in
+    let b = length-append (flat_map piece_lines ps) rest in
+    let c = few_pieces ps in
+    omega (arith, a, b, c)
+
+few_atom : (system : CaseSystem) (away : _) (node : Node) (text rest : List PlainLine) → HasShape (about_of system) (wanted.atom_of away) node → text ≡ node_lines (wanted.atom_of away) node ++ rest → length text < 2 ^ 32 → IsFewAtom node
+few_atom system away node text rest h e small =
+    let p = atom_opened system away node text rest h e in
+    let few = few_headed kinds.Atom (pieces_list node) text _ p.lines in
+    record { few = omega (arith, few, small); leaf = p.kids }
+
+behind_headed : (kind : NodeKind) (ps : List Marked) (text rest : List PlainLine) → text ≡ headed_pieces kind ps ++ rest → length rest ≤ length text
+behind_headed kind ps text rest e =
+    let a = ap length e in
+    let b = length-append (flat_map piece_lines ps) rest in
+    omega (arith, a, b)
+
+-- the pieces are no more than the lines
+pub few_root : (system : CaseSystem) (l : ℕ) (node : Node) (text rest : List PlainLine) → IsRoot system l node → text ≡ node_lines (never_at l) node ++ rest → length text < 2 ^ 32 → IsFewRoot node
+few_root system l node text rest h e small =
+    let p = root_opened system l node text rest h e in
+    let few = few_headed kinds.Fix (pieces_list node) text _ p.lines in
+    let one = behind_headed kinds.Fix (pieces_list node) text _ p.lines in
+    let last = node_lines (truth false) p.end ++ (flat_map proof_lines (proofs_list node) ++ rest) in
+    let two = length-append (node_lines (negated (at l)) p.hold) last in
+    record {
+      few = omega (arith, few, small);
+      hold = p.hold;
+      end = p.end;
+      kids = p.kids;
+      hold_atom = few_atom system (Some l) p.hold (node_lines (negated (at l)) p.hold ++ last) last p.hold_shape refl (omega (arith, one, small));
+      end_atom = few_atom system None p.end last (flat_map proof_lines (proofs_list node) ++ rest) p.end_shape refl (omega (arith, one, two, small));
+    }

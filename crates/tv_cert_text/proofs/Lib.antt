@@ -1,1 +1,9 @@
+pub mod ReadingLemmas
+pub mod PartLemmas
+pub mod CoverLemmas
+pub mod ProofLemmas
+pub mod NodeTexts
+pub mod OneEachLemmas
+pub mod RootLemmas
+pub mod PublicLemmas
 pub mod FitLemmas

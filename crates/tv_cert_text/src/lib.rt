@@ -9,3 +9,6 @@ mod plain;
 
 pub use fault::PlainFault;
 pub use plain::read_plain_certificate;
+
+#[cfg(test)]
+mod tests;

@@ -1,5 +1,36 @@
-use Rattle.t2verdict.proofs.Written.{without_memory}
+use Rattle.std.proofs.Common.{ℕ, ◌<◌, List, length, take, sym, ap, ◌∙◌, subst}
+use Rattle.tv_text.specs.Stream.{after}
+use Rattle.t2verdict.specs.declared.answer.Answer.TheVariants.{Memory}
+use Rattle.t2verdict.specs.Headline.{without_memory, IsWritten, whole, front}
+use Rattle.t2verdict.proofs.Written.{nothing_more}
 use Rattle.t2verdict.proofs.run.run.Goals as goal
 
-pub returns-in_default-clause-answer : goal.returns-in_default-clause-answer
-returns-in_default-clause-answer g c = λ other. without_memory (g.K.Sink.written c.args.sink.now)
+pub returns-in-Err-clause-headline : goal.returns-in-Err-clause-headline
+returns-in-Err-clause-headline g c = record {
+  answer = Memory;
+  is_answer = without_memory;
+  is_written = whole (nothing_more (g.K.Sink.written c.args.sink.now));
+}
+
+pub returns-in-Ok-write_all-clause-headline : goal.returns-in-Ok-write_all-clause-headline
+returns-in-Ok-write_all-clause-headline g c =
+    let old = g.K.Sink.written c.args.sink.now in
+    let new = g.K.Sink.written c.write_all.new.sink in
+    let answer = c.answered-answer.result in
+    let line = c.as_bytes.ensures.value ∙ c.in-Ok.ensures in
+    record {
+      answer = answer;
+      is_answer = c.answered-answer.ensures.answer;
+      is_written = subst (λ status. IsWritten old new answer status) (sym c.status.ensures) (whole (c.in-Ok-write_all.ensures.all ∙ ap (λ (bytes : List ℕ). after old bytes) line));
+    }
+
+pub returns-clause-headline : goal.returns-clause-headline
+returns-clause-headline g c =
+    let old = g.K.Sink.written c.args.sink.now in
+    let line = c.as_bytes.ensures.value ∙ c.in-Ok.ensures in
+    let some = c.in-Err-write_all.ensures.front in
+    record {
+      answer = c.answered-answer.result;
+      is_answer = c.answered-answer.ensures.answer;
+      is_written = front some.0 (subst (λ (bytes : List ℕ). some.0 < length bytes) line some.1) (some.2 ∙ ap (λ (bytes : List ℕ). after old (take some.0 bytes)) line);
+    }

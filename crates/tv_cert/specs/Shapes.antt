@@ -1,0 +1,122 @@
+-- The shape of certificates: which pieces, counts, indices and proofs stand where, whether or not the obligations are met.
+use Rattle.std.specs.Prelude.{◌≡◌, ℕ, ◌+◌, ◌^◌, ◌<◌, ◌≤◌, List, length, map, All, ℤ, slice_get, Option, None, Some, IsSome, Bool, true, false, IsTrue, if◌then◌else◌}
+use Rattle.std.specs.List.{AllZip}
+use Rattle.std.specs.Option.{option_map}
+use Rattle.tv_formula.specs.declared.tree.Shape.TheVariants.{Until, Strong}
+use Rattle.tv_formula.specs.Properties.{Property, at, term, negated, fix, Properties, none, more}
+use Rattle.tv_linear.specs.declared.cover.CoverTree.{CoverTree}
+use Rattle.tv_linear.specs.declared.cover.CoverTree as cover
+use Rattle.tv_linear.specs.declared.choice.ChoiceTree.{ChoiceTree}
+use Rattle.tv_linear.specs.declared.choice.ChoiceTree as choice
+use Rattle.tv_linear.specs.Linear.{Linear, columns}
+use Rattle.tv_linear.specs.Known.{Known}
+use Rattle.tv_linear.specs.Depth.{splits}
+use Rattle.tv_linear.specs.ChoiceDepth.{choice_splits}
+use Rattle.tv_cases.specs.LinearCases.{LinearCase, CaseSystem}
+use Rattle.tv_cert.specs.declared.node.Marked.{Marked}
+use Rattle.tv_cert.specs.declared.node.Proof.{Proof}
+use Rattle.tv_cert.specs.declared.node.Proof.TheVariants.{Covered, Chosen}
+use Rattle.tv_cert.specs.declared.node.Node.{Node, Node', Row_of-Node, end_of-Node, more_of-Node}
+use Rattle.tv_cert.specs.declared.node.Verdict.{Verdict}
+use Rattle.tv_cert.specs.declared.node.Verdict.TheVariants.{Proved, Disproved}
+use Rattle.tv_cert.specs.Pieces.{place_of, rows_of, ranks_of, goes, pieces_at}
+use Rattle.tv_cert.specs.Targets.{no_target}
+use Rattle.tv_cert.specs.Choices.{cases_from}
+use Rattle.tv_cert.specs.Obligations.{About, Owed, a_cover, a_choice, a_point, own_of}
+use Rattle.tv_cert.specs.Nodes.{parts, kid_pieces, root_entry}
+
+-- how many rows are owed on entering a target by a fall, where there is such a target and fall
+abbrev pub owed_count : (ℕ → ℕ → Option (List Known)) → ℕ → ℕ → Option ℕ
+owed_count owed k j = option_map length (owed k j)
+
+-- as many lists as rows are owed, each of so many multipliers
+abbrev pub ListsShape : ℕ → Option ℕ → List (List ℤ) → Type 0
+ListsShape count None lists = ⊥
+ListsShape count (Some rows) lists = (length lists ≡ rows) × All (λ ms. length ms ≡ count) lists
+
+-- The shape of a cover at a place with so many known rows: split rows have n columns, there is one multiplier for each row of the
+-- place, and one more for the denial of a row to be shown. `counts` tells how many rows a target and fall owe.
+abbrev pub CoverShape : ℕ → (ℕ → ℕ → Option ℕ) → ℕ → CoverTree → Type 0
+CoverShape n counts known (cover.Split' r p a q b) = (columns r ≡ n) × CoverShape n counts (known + 1) a × CoverShape n counts (known + 1) b
+CoverShape n counts known (cover.Empty ms) = length ms.items ≡ known
+CoverShape n counts known (cover.Into k j lists) = ListsShape (known + 1) (counts k j) (map (λ l. l.items) lists.items)
+
+-- a cover without targets for each case: its split rows speak of the draws too
+abbrev pub NoStepShape : ℕ → ℕ → List LinearCase → List CoverTree → Type 0
+NoStepShape n known cases covers = AllZip (λ c tree. CoverShape (n + c.draws) (owed_count no_target) (known + length c.guards) tree) cases covers
+
+-- there is such a case, with one term over n variables for each of its draws; its guards and the rows owed have their lists
+abbrev pub TakeShape : ℕ → (LinearCase → List Linear → ℕ → ℕ → Option (List Known)) → ℕ → Option LinearCase → ℕ → ℕ → List Linear → List (List ℤ) → Type 0
+TakeShape n owed known None k j draws lists = ⊥
+TakeShape n owed known (Some c) k j draws lists =
+    (length draws ≡ c.draws) × All (λ r. columns r ≡ n) draws × ListsShape (known + 1) (option_map (λ rows. length c.guards + length rows) (owed c draws k j)) lists
+
+-- the shape of a choice at a place with so many known rows over n variables, at a location
+abbrev pub ChoiceShape : ℕ → List LinearCase → ℕ → Bool → (LinearCase → List Linear → ℕ → ℕ → Option (List Known)) → ℕ → ChoiceTree → Type 0
+ChoiceShape n cases l stop owed known (choice.Split' r p a q b) =
+    (columns r ≡ n) × ChoiceShape n cases l stop owed (known + 1) a × ChoiceShape n cases l stop owed (known + 1) b
+ChoiceShape n cases l stop owed known (choice.Empty ms) = length ms.items ≡ known
+ChoiceShape n cases l stop owed known (choice.NoStep covers) = IsTrue stop × NoStepShape n known (cases_from l cases) covers.items
+ChoiceShape n cases l stop owed known (choice.Take k target j draws lists) = TakeShape n owed known (slice_get cases k) target j draws.items (map (λ x. x.items) lists.items)
+
+-- what is offered has the shape of what is owed, with at most 128 splits on a path
+abbrev pub ProofShape : Owed → Proof → Type 0
+ProofShape (a_cover n known owed) (Covered tree) = CoverShape n (owed_count owed) (length known) tree × (splits tree ≤ 128)
+ProofShape (a_cover n known owed) (Chosen tree) = ⊥
+ProofShape (a_choice n cases l stop owed known) (Covered tree) = ⊥
+ProofShape (a_choice n cases l stop owed known) (Chosen tree) = ChoiceShape n cases l stop owed (length known) tree × (choice_splits tree ≤ 128)
+ProofShape (a_point xs rows) proof = ⊥
+
+-- whether pieces may be done: in fixed points alone
+abbrev pub may_be_done : Property → Bool
+may_be_done (fix path shape f g) = true
+may_be_done f = false
+
+-- whether pieces may have ranks: where what is claimed is that something comes at last
+abbrev pub may_rank : Property → Bool
+may_rank term = true
+may_rank (fix path Until f g) = true
+may_rank (fix path Strong f g) = true
+may_rank f = false
+
+-- a negation is of a location test or of termination
+abbrev pub IsNormalHead : Property → Type 0
+IsNormalHead (negated (at l)) = Unit {0}
+IsNormalHead (negated term) = Unit {0}
+IsNormalHead (negated f) = ⊥
+IsNormalHead f = Unit {0}
+
+-- The shape of a piece of a node with m ranks: its location is one of the program's, its rows and ranks are over the variables,
+-- and it has m ranks where it goes on.
+pub record PieceShape (system : CaseSystem) (m : ℕ) (ends : Bool) (p : Marked) : Type 0 where
+  pub place : place_of p < system.locations
+  pub poly : p.piece.poly.columns ≡ system.variables
+  pub rows : All (λ r. columns r ≡ system.variables) (rows_of p)
+  pub ranks : All (λ r. columns r ≡ system.variables) (ranks_of p)
+  pub many : length (ranks_of p) ≡ (if goes p then m else 0)
+  pub marks : ends ≡ false → goes p ≡ true
+
+-- the shape of a node's own parts: the number of its ranks has 32 bits, and there are its pieces and a proof for each of its
+-- obligations
+pub record OwnShape (about : About) (f : Property) (m : ℕ) (ps : List Marked) (kids : List (List Marked)) (proofs : List Proof) : Type 0 where
+  pub normal : IsNormalHead f
+  pub ranked : may_rank f ≡ false → m ≡ 0
+  pub small : m < 2 ^ 32
+  pub each : All (PieceShape about.system m (may_be_done f)) ps
+  pub offered : AllZip (λ o p. ProofShape o.owed p) (own_of 0 about f ps kids) proofs
+
+abbrev mutual
+  -- the node has the shape of a node of the formula, and its children are those of the arguments
+  pub HasShape : About → Property → Node → Type 0
+  HasShape about f (Node' ps m shape kids proofs) = OwnShape about f m ps.items (kid_pieces kids) proofs.items × HaveShapes about (parts f) kids
+
+  pub HaveShapes : {k : _} → About → Properties → Row_of-Node k → Type 0
+  HaveShapes about none end_of-Node = Unit {0}
+  HaveShapes about none (more_of-Node a kids) = ⊥
+  HaveShapes about (more f fs) end_of-Node = ⊥
+  HaveShapes about (more f fs) (more_of-Node a kids) = HasShape about f a × HaveShapes about fs kids
+
+-- the shape of what a certificate says over the pieces of its root: a cover of the start, or a piece there and as many values as variables
+abbrev pub VerdictShape : About → List Marked → Verdict → Type 0
+VerdictShape about ps (Proved tree) = ProofShape (root_entry about ps (Proved tree)).obligation.owed (Covered tree)
+VerdictShape about ps (Disproved k values) = (length values.items ≡ about.system.variables) × IsSome (slice_get (pieces_at ps about.system.start) k)
