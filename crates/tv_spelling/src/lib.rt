@@ -8,6 +8,6 @@ mod sums;
 mod tests;
 mod writing;
 
-pub use conditions::{append_condition, write_condition};
+pub use conditions::write_condition;
 pub use programs::write_program;
-pub use sums::{append_sum, write_sum};
+pub use sums::write_sum;

@@ -7,6 +7,8 @@ ghost use Rattle.tv_program.specs.Views.{condition, expression, transitions};
 ghost use Rattle.tv_program.specs.declared.tree.Relation.TheVariants.{Greater};
 
 use super::*;
+use crate::conditions::append_condition;
+use crate::sums::append_sum;
 use std::alloc::{AllocError, Global};
 use std::test::Fail;
 use tv_program::{Command, Cond, Edge, Expr, Names, Program, Relation};
