@@ -9,9 +9,9 @@ use Rattle.tv_program.specs.Views.{transition, transitions}
 use Rattle.tv_program.specs.Trees.{Expression, number, variable, draw, minus, sum as added, product, Expressions, no_part, part, Condition, truth, compare, negated, all_of, some_of, Conditions, no_test, test, Instruction, assume, assign, Transition}
 use Rattle.tv_program.specs.Limits.{is_linear_product, expression_fits, expressions_fit, expression_depth, condition_fits, conditions_fit, condition_depth, instruction_fits, transition_fits, IsWithinLimits}
 use Rattle.tv_cases.specs.Linearity.{is_linear, are_linear, condition_is_linear, conditions_are_linear, instruction_is_linear, instructions_are_linear, IsLinearEdge}
-use Rattle.tv_cases.specs.LinearCases.{LinearCase, IsCase, AreCases}
+use Rattle.tv_cases.specs.LinearCases.{LinearCase, IsCase, AreCases, coefficients}
 use Rattle.tv_cases.specs.EdgeCases.{edge_cases}
-use Rattle.tv_cases.specs.ProgramCases.{coefficients, are_few, cases_from}
+use Rattle.tv_cases.specs.ProgramCases.{are_few, cases_from}
 use Rattle.std.specs.Prelude.{IfOk}
 use Rattle.tv_program.specs.Systems.{System, IsLimited}
 use Rattle.tv_cases.specs.declared.case.Cases.{Cases}
@@ -142,6 +142,7 @@ are-cases n locations start es all h ok =
       few_locations = at_most locations 1024 h.few_locations;
       starts = under start locations h.starts;
       few_cases = at_most (length all) 8192 few.0;
+      few_coefficients = at_most (sum (map coefficients all)) 8000000 few.1;
       cases = cases-are n locations 0 [] es all ok (fits-edges n locations es h.edges_fit) (All-nil (IsCase n locations));
     }
 

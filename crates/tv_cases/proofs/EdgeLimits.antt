@@ -6,9 +6,9 @@ use Rattle.std.proofs.lemmas.List.Elements.{All-nil, All-cons}
 use Rattle.tv_linear.specs.Linear.{Linear, columns}
 use Rattle.tv_linear.specs.declared.region.Update.{Update}
 use Rattle.tv_program.specs.Trees.{Instruction, Transition}
-use Rattle.tv_cases.specs.LinearCases.{ascends, IsCase}
+use Rattle.tv_cases.specs.LinearCases.{ascends, IsCase, coefficients}
 use Rattle.tv_cases.specs.EdgeCases.{assigns, update, updates_from, case_of, edge_end, edge_cases, beginning}
-use Rattle.tv_cases.specs.ProgramCases.{coefficients}
+use Rattle.tv_cases.specs.ProgramCases.{}
 use Rattle.tv_cases.specs.Assigned.{assigned_below}
 use Rattle.tv_cases.proofs.AmountLemmas.{sum-cons}
 use Rattle.tv_cases.proofs.Executed.{after-kept}

@@ -10,11 +10,11 @@ use Rattle.tv_cases.specs.declared.amount.Amount.{Amount}
 use Rattle.tv_cases.specs.declared.case.Case.{Case}
 use Rattle.tv_cases.specs.declared.program.Collected.{Collected}
 use Rattle.tv_cases.specs.Views.{case_view, case_views}
-use Rattle.tv_cases.specs.LinearCases.{LinearCase}
+use Rattle.tv_cases.specs.LinearCases.{LinearCase, coefficients}
 use Rattle.tv_cases.specs.Amounts.{capped, amount, counted, amount_after}
 use Rattle.tv_cases.specs.Assigned.{assigned_below}
 use Rattle.tv_cases.specs.EdgeCases.{case_of, beginning, edge_end, edge_cases, edge_is_narrow}
-use Rattle.tv_cases.specs.ProgramCases.{coefficients, are_few}
+use Rattle.tv_cases.specs.ProgramCases.{are_few}
 use Rattle.tv_cases.specs.Answers.{IsCollected, IsAdded}
 use Rattle.tv_cases.proofs.AmountLemmas.{sum-cons, no_lists, after-counted, same-times, same-plus, capped-twice}
 use Rattle.tv_cases.proofs.Listed.{both_true}

@@ -10,11 +10,11 @@ use Rattle.tv_cases.specs.declared.case.CaseFault.TheVariants.{Wide, TooMany, Me
 use Rattle.tv_cases.specs.declared.fault.EdgeFault.{EdgeFault}
 use Rattle.tv_cases.specs.declared.program.Collected.{Collected}
 use Rattle.tv_cases.specs.EdgeFaults.{IsEdgeFault}
-use Rattle.tv_cases.specs.LinearCases.{LinearCase, CaseSystem, CaseSteps}
+use Rattle.tv_cases.specs.LinearCases.{LinearCase, CaseSystem, CaseSteps, coefficients}
 use Rattle.tv_cases.specs.Views.{case_views}
 use Rattle.tv_cases.specs.Systems.{cases_of}
 use Rattle.tv_cases.specs.EdgeCases.{edge_cases, edge_is_narrow}
-use Rattle.tv_cases.specs.ProgramCases.{LinearFault, wide, too_many, coefficients, are_few, cases_from, linear_cases}
+use Rattle.tv_cases.specs.ProgramCases.{LinearFault, wide, too_many, are_few, cases_from, linear_cases}
 
 -- the fault is that of the definition, or memory is wanting
 abbrev pub IsFaultIn : Result (List LinearCase) LinearFault → CaseFault → Type 0

@@ -1,4 +1,4 @@
-use Rattle.std.specs.Prelude.{◌≡◌, ℕ, suc, ◌+◌, ◌<◌, ◌≤◌, List, [], ◌∷◌, ◌++◌, length, map, All, ℤ, Contains, Bool, true, ◌&&◌, nat_le, IsTrue}
+use Rattle.std.specs.Prelude.{◌≡◌, ℕ, suc, ◌+◌, ◌<◌, ◌≤◌, List, [], ◌∷◌, ◌++◌, length, map, sum, All, ℤ, Contains, Bool, true, ◌&&◌, nat_le, IsTrue}
 use Rattle.tv_linear.specs.Linear.{Linear, columns, IsMet}
 use Rattle.tv_linear.specs.Known.{term_value}
 use Rattle.tv_linear.specs.Terms.{terms_after}
@@ -50,10 +50,15 @@ pub record IsCase (variables locations : ℕ) (c : LinearCase) : Type 0 where
   pub assigned : All (λ u. u.variable < variables) c.updates
   pub in_order : IsTrue (ascends 0 c.updates)
 
+-- how many coefficients the guards and updates of a case have
+abbrev pub coefficients : LinearCase → ℕ
+coefficients c = sum (map (λ r. columns r) c.guards) + sum (map (λ u. columns u.term) c.updates)
+
 -- the limits of the cases of a program
 pub record AreCases (about : CaseSystem) : Type 0 where
   pub few_variables : about.variables ≤ 512
   pub few_locations : about.locations ≤ 1024
   pub starts : about.start < about.locations
   pub few_cases : length about.cases ≤ 8192
+  pub few_coefficients : sum (map coefficients about.cases) ≤ 8000000
   pub cases : All (IsCase about.variables about.locations) about.cases

@@ -1,17 +1,13 @@
-use Rattle.std.specs.Prelude.{ℕ, suc, ◌+◌, List, [], ◌∷◌, ◌++◌, length, map, sum, Bool, ◌&&◌, nat_le, cond, Result, Ok, Err}
-use Rattle.tv_linear.specs.Linear.{columns}
+use Rattle.std.specs.Prelude.{ℕ, suc, List, [], ◌∷◌, ◌++◌, length, map, sum, Bool, ◌&&◌, nat_le, cond, Result, Ok, Err}
 use Rattle.tv_program.specs.Trees.{Transition}
 use Rattle.tv_program.specs.Systems.{System}
-use Rattle.tv_cases.specs.LinearCases.{LinearCase}
+use Rattle.tv_cases.specs.LinearCases.{LinearCase, coefficients}
 use Rattle.tv_cases.specs.EdgeCases.{edge_cases, edge_is_narrow}
 
 -- why a program has no cases, with the edge's number
 pub data LinearFault : Type 0 where
   wide : ℕ → LinearFault
   too_many : ℕ → LinearFault
-
-abbrev pub coefficients : LinearCase → ℕ
-coefficients c = sum (map (λ r. columns r) c.guards) + sum (map (λ u. columns u.term) c.updates)
 
 -- at most 8,192 cases, with at most 8,000,000 coefficients of guards and updates
 abbrev pub are_few : List LinearCase → Bool

@@ -165,7 +165,7 @@ fn executed(
         terms: first,
         lists: truth_lists(alloc, true)?,
     };
-    for command in commands {
+    for command in commands.iter() {
         so_far = match progressed(alloc, command, so_far, width) {
             Ok(next) => next,
             Err(fault) => return Err(fault),

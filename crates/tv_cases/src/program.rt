@@ -7,7 +7,8 @@ ghost use Rattle.tv_cases.specs.Amounts.{capped, amount, amount_after, IsCapped}
 ghost use Rattle.tv_cases.specs.Assigned.{assigned_below};
 ghost use Rattle.tv_cases.specs.Linearity.{IsLinearEdge};
 ghost use Rattle.tv_cases.specs.EdgeCases.{edge_cases, edge_is_narrow};
-ghost use Rattle.tv_cases.specs.ProgramCases.{coefficients, are_few, cases_from};
+ghost use Rattle.tv_cases.specs.LinearCases.{coefficients};
+ghost use Rattle.tv_cases.specs.ProgramCases.{are_few, cases_from};
 ghost use Rattle.tv_cases.specs.EdgeFaults.{IsEdgeFault};
 ghost use Rattle.tv_program.specs.Limits.{IsWithinLimits};
 ghost use Rattle.tv_program.specs.Programs.{system_of};
