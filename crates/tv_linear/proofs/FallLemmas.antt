@@ -1,18 +1,19 @@
 -- the rows that show a fall
-use Rattle.std.proofs.Common.{◌≡◌, ℕ, zero, suc, ◌<◌, ◌≤◌, List, [], ◌∷◌, map, get_or, refl, sym, arith, subst, ℤ, pos, ◌+ℤ◌, ◌-ℤ◌, ◌≤ℤ◌, negsuc, inl, inr, ⊎_elim, Option, None, Some}
+use Rattle.std.proofs.Common.{◌≡◌, ℕ, zero, suc, ◌<◌, ◌≤◌, List, [], ◌∷◌, map, get_or, refl, sym, ap, ◌∙◌, arith, length, subst, ℤ, pos, ◌+ℤ◌, ◌-ℤ◌, ◌≤ℤ◌, negsuc, inl, inr, ⊎_elim, Option, None, Some}
 use Rattle.std.specs.Prelude.{All}
 use Rattle.std.specs.Option.{option_map}
 use Rattle.std.proofs.lemmas.Bool.{cases_lt}
 use Rattle.std.proofs.lemmas.Int.{ints}
+use Rattle.std.proofs.lemmas.List.{length-map}
 use Rattle.std.proofs.lemmas.List.Elements.{All-head, All-tail}
 use Rattle.tv_linear.specs.Known.{Known, given, less, known_value, IsKnownMet}
 use Rattle.tv_linear.specs.Falls.{FallsAt, Falls, measure_of, rank_measure, IsLexicographicallyBelow, zero_row, fall_rows_at, fall_rows}
 use Rattle.tv_linear.proofs.KnownLemmas.{value-less, value-given}
 
-first_falls : (f g : ℤ) (old new : List ℤ) → (g -ℤ f +ℤ pos 1) ≤ℤ pos 0 → (pos 0 -ℤ f +ℤ pos 0) ≤ℤ pos 0 → FallsAt (f ∷ old) (g ∷ new) 0
-first_falls f g old new falls above = record {
-  inside_old = omega arith;
-  inside_new = omega arith;
+first_falls : (f g : ℤ) (old new : List ℤ) → length new ≡ length old → (g -ℤ f +ℤ pos 1) ≤ℤ pos 0 → (pos 0 -ℤ f +ℤ pos 0) ≤ℤ pos 0 → FallsAt (f ∷ old) (g ∷ new) 0
+first_falls f g old new same falls above = record {
+  as_many = ap suc same;
+  inside = omega arith;
   none_grows = λ i h. absurd (omega arith);
   falls = omega (arith, ints);
   not_below = omega (arith, ints);
@@ -20,8 +21,8 @@ first_falls f g old new falls above = record {
 
 later_falls : (f g : ℤ) (old new : List ℤ) (j : ℕ) → (g -ℤ f +ℤ pos 0) ≤ℤ pos 0 → FallsAt old new j → FallsAt (f ∷ old) (g ∷ new) (suc j)
 later_falls f g old new j kept later = record {
-  inside_old = let h = later.inside_old in omega arith;
-  inside_new = let h = later.inside_new in omega arith;
+  as_many = ap suc later.as_many;
+  inside = let h = later.inside in omega arith;
   none_grows = grows;
   falls = later.falls;
   not_below = later.not_below;
@@ -30,10 +31,10 @@ later_falls f g old new j kept later = record {
   grows zero h = omega (arith, ints)
   grows (suc i) h = later.none_grows i (omega arith)
 
-at_place : (xs : List ℤ) (old new : List Known) (j : ℕ) (rows : List Known) → fall_rows_at old new j ≡ Some rows → All (IsKnownMet xs) rows → FallsAt (map (known_value xs) old) (map (known_value xs) new) j
-at_place xs [] new j rows e h = cc
-at_place xs (f ∷ old) [] j rows e h = cc
-at_place xs (f ∷ old) (g ∷ new) zero rows e h =
+at_place : (xs : List ℤ) (old new : List Known) (j : ℕ) (rows : List Known) → length new ≡ length old → fall_rows_at old new j ≡ Some rows → All (IsKnownMet xs) rows → FallsAt (map (known_value xs) old) (map (known_value xs) new) j
+at_place xs [] new j rows same e h = cc
+at_place xs (f ∷ old) [] j rows same e h = cc
+at_place xs (f ∷ old) (g ∷ new) zero rows same e h =
     let is : less g f (pos 1) ∷ less (given zero_row) f (pos 0) ∷ [] ≡ rows = cc in
     let all = subst (All (IsKnownMet xs)) (sym is) h in
     let falls = All-head (IsKnownMet xs) (less g f (pos 1)) (less (given zero_row) f (pos 0) ∷ []) all in
@@ -41,8 +42,8 @@ at_place xs (f ∷ old) (g ∷ new) zero rows e h =
     let one = value-less xs g f (pos 1) in
     let two = value-less xs (given zero_row) f (pos 0) in
     let none : known_value xs (given zero_row) ≡ pos 0 = value-given xs zero_row in
-    first_falls (known_value xs f) (known_value xs g) (map (known_value xs) old) (map (known_value xs) new) (omega (arith, ints, falls, one)) (omega (arith, ints, above, two, none))
-at_place xs (f ∷ old) (g ∷ new) (suc j) rows e h = later (fall_rows_at old new j) (λ rest here all. at_place xs old new j rest here all) refl e where
+    first_falls (known_value xs f) (known_value xs g) (map (known_value xs) old) (map (known_value xs) new) (length-map new (known_value xs) ∙ omega (arith, same) ∙ sym (length-map old (known_value xs))) (omega (arith, ints, falls, one)) (omega (arith, ints, above, two, none))
+at_place xs (f ∷ old) (g ∷ new) (suc j) rows same e h = later (fall_rows_at old new j) (λ rest here all. at_place xs old new j rest (omega (arith, same)) here all) refl e where
   later : (o : Option (List Known)) → ((rest : List Known) → o ≡ Some rest → All (IsKnownMet xs) rest → FallsAt (map (known_value xs) old) (map (known_value xs) new) j) → fall_rows_at old new j ≡ o → option_map (λ rows. less g f (pos 0) ∷ rows) o ≡ Some rows → FallsAt (map (known_value xs) (f ∷ old)) (map (known_value xs) (g ∷ new)) (suc j)
   later None earlier here is = cc
   later (Some rest) earlier here is =
@@ -54,9 +55,9 @@ at_place xs (f ∷ old) (g ∷ new) (suc j) rows e h = later (fall_rows_at old n
       (earlier rest refl (All-tail (IsKnownMet xs) (less g f (pos 0)) rest all))
 
 -- where the rows of a fall are met, the values of the ranks fall
-pub falls-shown : (xs : List ℤ) (old new : List Known) (j : ℕ) (rows : List Known) → fall_rows old new j ≡ Some rows → All (IsKnownMet xs) rows → Falls (map (known_value xs) old) (map (known_value xs) new)
-falls-shown xs old new zero rows e h = cc
-falls-shown xs old new (suc j) rows e h = (j, at_place xs old new j rows e h)
+pub falls-shown : (xs : List ℤ) (old new : List Known) (j : ℕ) (rows : List Known) → length new ≡ length old → fall_rows old new j ≡ Some rows → All (IsKnownMet xs) rows → Falls (map (known_value xs) old) (map (known_value xs) new)
+falls-shown xs old new zero rows same e h = cc
+falls-shown xs old new (suc j) rows same e h = (j, at_place xs old new j rows same e h)
 
 -- ---- the measure of the ranks
 measure-grows : (f g : ℤ) → g ≤ℤ f → measure_of g ≤ measure_of f
@@ -72,14 +73,14 @@ measure-falls (negsuc m) g h k = absurd (omega (arith, ints))
 
 -- where the ranks fall their measure gets lexicographically less
 pub falls-below : (old new : List ℤ) (j : ℕ) → FallsAt old new j → IsLexicographicallyBelow (rank_measure new) (rank_measure old)
-falls-below [] new j h = absurd (let k = h.inside_old in omega arith)
-falls-below (f ∷ old) [] j h = absurd (let k = h.inside_new in omega arith)
+falls-below [] new j h = absurd (let k = h.inside in omega arith)
+falls-below (f ∷ old) [] j h = absurd (let k = h.as_many in omega arith)
 falls-below (f ∷ old) (g ∷ new) zero h = inl (measure-falls f g h.falls h.not_below)
 falls-below (f ∷ old) (g ∷ new) (suc j) h =
     let at_most = measure-grows f g (h.none_grows 0 (omega arith)) in
     let later = falls-below old new j (record {
-      inside_old = (let k = h.inside_old in omega arith);
-      inside_new = (let k = h.inside_new in omega arith);
+      as_many = (let k = h.as_many in omega arith);
+      inside = (let k = h.inside in omega arith);
       none_grows = (λ i k. h.none_grows (suc i) (omega arith));
       falls = h.falls;
       not_below = h.not_below;

@@ -3,10 +3,11 @@ use Rattle.std.specs.Option.{option_map}
 use Rattle.tv_linear.specs.Linear.{Linear, linear}
 use Rattle.tv_linear.specs.Known.{Known, given, less}
 
--- at place j, counted from 0: no rank before it grows, it falls by at least 1, and it is at least 0 before
+-- The ranks, as many before as after, fall at place j, counted from 0: no rank before it grows, it falls by at least 1, and it is at
+-- least 0 before.
 pub record FallsAt (old new : List ℤ) (j : ℕ) : Type 0 where
-  pub inside_old : j < length old
-  pub inside_new : j < length new
+  pub as_many : length new ≡ length old
+  pub inside : j < length old
   pub none_grows : (i : ℕ) → i < j → slice_index_or new i (pos 0) ≤ℤ slice_index_or old i (pos 0)
   pub falls : (slice_index_or new j (pos 0) +ℤ pos 1) ≤ℤ slice_index_or old j (pos 0)
   pub not_below : pos 0 ≤ℤ slice_index_or old j (pos 0)

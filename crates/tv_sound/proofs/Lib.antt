@@ -1,4 +1,9 @@
-mod Found
-mod Owing
-mod Invariant
+mod Membership
+mod RankLemmas
+mod Shown
+mod Entering
+mod Choosing
+mod Offered
+mod Regions
+mod NodesSound
 mod Soundness

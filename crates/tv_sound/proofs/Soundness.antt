@@ -1,145 +1,83 @@
-use Rattle.std.proofs.Common.{◌≡◌, inr, ℕ, zero, suc, ◌+◌, ◌≤◌, Bool, true, false, List, [], ◌∷◌, ◌++◌, length, map, All, Some, refl, sym, ap, ◌∙◌, subst}
-use Rattle.std.specs.Prelude.{Contains}
-use Rattle.std.proofs.lemmas.List.{length-map}
-use Rattle.std.proofs.lemmas.List.Elements.{All-contains, All-nil}
-use Rattle.tv_linear.specs.Linear.{columns}
-use Rattle.tv_linear.specs.Known.{given, IsKnownMet, term_value}
-use Rattle.tv_linear.specs.Terms.{table, update_of, terms_after}
+-- What a certificate all of whose obligations are met shows of a program.
+use Rattle.std.proofs.Common.{◌≡◌, ℕ, List, [], ◌∷◌, ◌++◌, length, Option, None, Some, arith, refl, sym, ◌∙◌, slice_get, ◌==◌}
+use Rattle.std.proofs.lemmas.List.Elements.{All-nil}
+use Rattle.tv_linear.specs.Linear.{IsMet}
+use Rattle.tv_linear.specs.Known.{given, IsKnownMet}
 use Rattle.tv_linear.specs.declared.cover.CoverTree.{CoverTree}
+use Rattle.tv_linear.proofs.KnownLemmas.{met-as_given}
+use Rattle.std.specs.Option.{option_map}
 use Rattle.tv_program.specs.Systems.{System}
-use Rattle.tv_program.specs.Steps.{State}
-use Rattle.tv_formula.specs.declared.tree.Path.TheVariants.{Every}
-use Rattle.tv_formula.specs.declared.tree.Shape.TheVariants.{Weak}
-use Rattle.tv_formula.specs.Properties.{Property, truth, at, negated}
-use Rattle.tv_meaning.specs.Meaning.{HoldsInitially}
-use Rattle.tv_meaning.proofs.RunLemmas.{Weak_every_by}
+use Rattle.tv_program.specs.Steps.{State, Steps, IsInitial}
+use Rattle.tv_formula.specs.Properties.{Property}
+use Rattle.tv_formula.specs.Normal.{normal, negation}
+use Rattle.tv_meaning.specs.Meaning.{Holds, HoldsInitially}
+use Rattle.tv_meaning.proofs.Negation.{negation_excludes, normal_holds}
+use Rattle.tv_meaning.proofs.SameSteps.{SameOn, turned, Holds_along}
 use Rattle.tv_cases.specs.LinearCases.{CaseSystem, CaseSteps}
 use Rattle.tv_cases.specs.Answers.{IsOfProgram, HaveSameSteps}
 use Rattle.tv_cert.specs.declared.node.Marked.{Marked}
-use Rattle.tv_cert.specs.declared.node.Node.{Node, Node'}
-use Rattle.tv_cert.specs.declared.node.Node.{outs-Node'}
-use Rattle.tv_cert.specs.declared.node.Kind.TheVariants as kind
-use Rattle.tv_cert.specs.declared.node.Proof.TheVariants.{Covered}
-use Rattle.tv_cert.specs.declared.node.Verdict.TheVariants.{Proved}
-use Rattle.tv_cert.specs.Pieces.{rows_of, goes, InMarked, InPieces}
-use Rattle.tv_cert.specs.Targets.{owed_into, no_fall}
-use Rattle.tv_cert.specs.Obligations.{own_of, piece_of, fix_of, AllMet}
-use Rattle.tv_cert.specs.Nodes.{parts, size, entries, pieces_of, root_entry}
+use Rattle.tv_cert.specs.declared.node.Node.{Node}
+use Rattle.tv_cert.specs.declared.node.Verdict.{Verdict}
+use Rattle.tv_cert.specs.declared.node.Verdict.TheVariants.{Proved, Disproved}
+use Rattle.tv_cert.specs.Pieces.{place_of, rows_of, pieces_at, InPieces}
+use Rattle.tv_cert.specs.Targets.{no_fall}
+use Rattle.tv_cert.specs.Obligations.{About, IsMetEntry, AllMet, PointMet}
+use Rattle.tv_cert.specs.Nodes.{pieces_of, entries, root_entry, obligations}
 use Rattle.tv_cert.specs.Fits.{NodeFits}
-use Rattle.tv_cert.specs.Listed.{pieces_list}
 use Rattle.tv_cert.specs.Plain.{about_of, never_at, PlainFits, PlainMet}
-use Rattle.tv_cert.proofs.NodeLemmas.{kids_of, kid_list, fits_list, fits_are}
-use Rattle.tv_sound.proofs.Owing.{AllOwed, owed_each, all_split, node_owed, entered, inside}
-use Rattle.tv_sound.proofs.Invariant.{in_pieces, means_given, elsewhere, nowhere, covered_into, stepped_into}
+use Rattle.tv_sound.proofs.Membership.{filter_got, eq_true}
+use Rattle.tv_sound.proofs.Entering.{entered, wide_after}
+use Rattle.tv_sound.proofs.NodesSound.{TestsShow, node_sound, AllMet-left, AllMet-right}
 
--- ---- the certificate's parts
+-- ---- the steps of the program, where there is a number for each variable
 
-kid_shape : (n l : ℕ) (kids : List Node) → fits_list n (parts (never_at l)) kids → (hold : Node) × (end : Node) × (kids ≡ hold ∷ end ∷ [])
-kid_shape n l [] h = absurd h
-kid_shape n l (a ∷ []) h = absurd h.1
-kid_shape n l (a ∷ b ∷ []) h = (a, b, refl)
-kid_shape n l (a ∷ b ∷ c ∷ kids) h = absurd h.1.1
+abbrev Wide : ℕ → State → Type 0
+Wide n s = length s.values ≡ n
 
-pieces_same : (node : Node) → pieces_of node ≡ pieces_list node
-pieces_same (Node' ps m shape kids proofs) = sym (ap (λ x. x.pieces.items) (outs-Node' ps m shape kids proofs))
-
-rows_fit : (n : ℕ) (f : Property) (node : Node) → NodeFits n f node → (q : Marked) → Contains (pieces_list node) q → All (λ r. columns r ≤ n) (rows_of q)
-rows_fit n f (Node' ps m shape kids proofs) h q among = (h.0.pieces q (subst (λ l. Contains l q) (ap (λ x. x.pieces.items) (outs-Node' ps m shape kids proofs)) among)).rows
-
--- what is owed at the pieces of the root and of its two children is met
-record Parts (system : CaseSystem) (l : ℕ) (ps : List Marked) : Type 0 where
-  away : List Marked
-  none : List Marked
-  away_number : ℕ
-  none_number : ℕ
-  away_kids : List (List Marked)
-  none_kids : List (List Marked)
-  away_owed : AllOwed (own_of away_number (about_of system) (negated (at l)) away away_kids)
-  none_owed : AllOwed (own_of none_number (about_of system) (truth false) none none_kids)
-  root_owed : All (λ p. AllOwed (fix_of 0 (about_of system) Every Weak ps away none p (goes p))) ps
-  fit : (q : Marked) → Contains ps q → All (λ r. columns r ≤ system.variables) (rows_of q)
-
-parts_of : (system : CaseSystem) (l : ℕ) (root : Node) → NodeFits system.variables (never_at l) root → AllMet (entries 0 (about_of system) (never_at l) root) → Parts system l (pieces_list root)
-parts_of system l root fits met =
-    let about = about_of system in
-    let f = never_at l in
-    let own = node_owed 0 about f root met in
-    let kids = kid_shape system.variables l (kids_of root) (fits_are system.variables f root fits) in
-    let hold = kids.0 in
-    let end = kids.1 in
-    let below : AllMet (kid_list 1 about (parts f) (hold ∷ end ∷ [])) = subst (λ ks. AllMet (kid_list 1 about (parts f) ks)) kids.2 own.0 in
-    let first = all_split (entries 1 about (negated (at l)) hold) (entries (1 + size hold) about (truth false) end ++ []) below in
-    let second = all_split (entries (1 + size hold) about (truth false) end) [] first.1 in
-    let root_owed = subst (λ ks. AllOwed (own_of 0 about f (pieces_list root) (map pieces_list ks))) kids.2 own.1 in
-    record {
-      away = pieces_list hold;
-      none = pieces_list end;
-      away_number = 1;
-      none_number = 1 + size hold;
-      away_kids = map pieces_list (kids_of hold);
-      none_kids = map pieces_list (kids_of end);
-      away_owed = (node_owed 1 about (negated (at l)) hold first.0).1;
-      none_owed = (node_owed (1 + size hold) about (truth false) end second.0).1;
-      root_owed = owed_each (piece_of 0 about f (pieces_list root) (pieces_list hold ∷ pieces_list end ∷ [])) (pieces_list root) root_owed;
-      fit = rows_fit system.variables f root fits;
-    }
-
--- ---- the invariant
-
-length-table : {A : Type 0} (n : ℕ) (f : ℕ → A) → length (table n f) ≡ n
-length-table zero f = refl
-length-table (suc n) f = ap suc (length-table n (λ j. f (suc j)))
-
-stays_counted : (system : CaseSystem) (s t : State) → CaseSteps system s t → length t.values ≡ length s.values
-stays_counted system s t step =
-    let xs = s.values ++ step.draws in
-    ap length step.does.gives ∙ length-map (terms_after (length s.values) step.taken.updates) (term_value xs) ∙ length-table (length s.values) (update_of step.taken.updates)
-
--- a number for each variable, in some piece
-record Kept (system : CaseSystem) (ps : List Marked) (s : State) : Type 0 where
-  counted : length s.values ≡ system.variables
-  inside : InPieces ps s
-
--- away from the location, and every step is kept
-record Goes (system : CaseSystem) (l : ℕ) (ps : List Marked) (s : State) : Type 0 where
-  away : s.location ≡ l → ⊥
-  steps : (t : State) → CaseSteps system s t → InPieces ps t
-
-piece_goes : (system : CaseSystem) (l : ℕ) (ps : List Marked) (all : Parts system l ps) (p : Marked) (s : State) (go : Bool) → AllOwed (fix_of 0 (about_of system) Every Weak ps all.away all.none p go) → Contains ps p → length s.values ≡ system.variables → InMarked p s → Goes system l ps s
-piece_goes system l ps all p s false h among e in_p =
-    absurd (nowhere all.none_number (about_of system) all.none all.none_kids s all.none_owed e (covered_into 0 (about_of system) kind.Done p all.none s h.0 e in_p))
-piece_goes system l ps all p s true h among e in_p = record {
-  away = elsewhere all.away_number (about_of system) l all.away all.away_kids s all.away_owed e (covered_into 0 (about_of system) kind.Hold p all.away s h.0 e in_p);
-  steps = λ t step. stepped_into 0 (about_of system) p ps s t h.1 (all.fit p among) e in_p step;
+same_on : (p : System) (system : CaseSystem) → IsOfProgram p system → HaveSameSteps p system → SameOn (Wide system.variables) (CaseSteps system) (Steps p)
+same_on p system of_program steps = record {
+  to = λ s t wide step. (steps s t (wide ∙ of_program.variables)).1 step;
+  back = λ s t wide step. (steps s t (wide ∙ of_program.variables)).0 step;
+  stays = λ s t wide step. wide_after system.variables step.taken step.draws s t step.does wide;
 }
 
-goes_on : (system : CaseSystem) (l : ℕ) (ps : List Marked) → Parts system l ps → (s : State) → Kept system ps s → Goes system l ps s
-goes_on system l ps all s kept =
-    let p = kept.inside.piece in
-    let one = All-contains (λ q. AllOwed (fix_of 0 (about_of system) Every Weak ps all.away all.none q (goes q))) ps p all.root_owed kept.inside.among in
-    piece_goes system l ps all p s (goes p) one kept.inside.among kept.counted kept.inside.inside
+-- ---- the root
 
--- ---- soundness
+root_met : (about : About) (f : Property) (root : Node) (verdict : Verdict) → AllMet (obligations about f root verdict) → IsMetEntry (root_entry about (pieces_of root) verdict)
+root_met about f root verdict met = (AllMet-right (entries 0 about f root) (root_entry about (pieces_of root) verdict ∷ []) met).0
 
-begins : (system : CaseSystem) (l : ℕ) (root : Node) (start : CoverTree) (s : State) → AllMet (root_entry (about_of system) (pieces_of root) (Proved start) ∷ []) → s.location ≡ system.start → length s.values ≡ system.variables → InPieces (pieces_list root) s
-begins system l root start s met there e =
-    let w = entered system.variables [] (owed_into (pieces_of root) system.start given no_fall) (Some (Covered start)) met.0 s.values e (All-nil (IsKnownMet s.values)) in
-    let found = inside (pieces_of root) system.start given s.values s.values (means_given s.values) w in
-    subst (λ ps. InPieces ps s) (pieces_same root) (in_pieces (pieces_of root) s (found.0, found.1, found.2 ∙ sym there, found.3))
+-- proved: the property holds at every initial state
+pub proved_sound : (p : System) (about : About) → IsOfProgram p about.system → HaveSameSteps p about.system → TestsShow about → (property : Property) (root : Node) (tree : CoverTree) → NodeFits about.system.variables (normal property) root → AllMet (obligations about (normal property) root (Proved tree)) → HoldsInitially p property
+proved_sound p about of_program steps tests property root tree fits met s initial =
+    let n = about.system.variables in
+    let wide : length s.values ≡ n = initial.counted ∙ sym of_program.variables in
+    let e = entered n s.values (pieces_of root) about.system.start given no_fall [] tree (root_met about (normal property) root (Proved tree) met) wide (All-nil (IsKnownMet s.values)) in
+    let rows = (met-as_given s.values (rows_of e.piece)).1 e.rows in
+    let place = initial.place ∙ sym of_program.start ∙ sym e.place in
+    let here = node_sound about tests 0 (normal property) root fits (AllMet-left (entries 0 about (normal property) root) _ met) s wide (record { piece = e.piece; among = e.among; inside = record { place = place; rows = rows } }) in
+    Holds_along (Wide n) (CaseSteps about.system) (Steps p) (same_on p about.system of_program steps) property s wide (normal_holds (CaseSteps about.system) property s here)
+
+point_inside : (about : About) (ps : List Marked) (s : State) (k : ℕ) (o : Option Marked) → s.location ≡ about.system.start → slice_get (pieces_at ps about.system.start) k ≡ o → PointMet s.values (option_map rows_of o) → InPieces ps s
+point_inside about ps s k None start e h = absurd h
+point_inside about ps s k (Some q) start e h =
+    let got = filter_got (λ p. place_of p == about.system.start) ps k q e in
+    record { piece = q; among = got.1; inside = record { place = start ∙ sym (eq_true (place_of q) about.system.start got.0); rows = h } }
+
+-- disproved: it fails at the initial state with the values
+pub disproved_sound : (p : System) (about : About) → IsOfProgram p about.system → HaveSameSteps p about.system → TestsShow about → (property : Property) (root : Node) (k : ℕ) (values : _) → NodeFits about.system.variables (negation property) root → AllMet (obligations about (negation property) root (Disproved k values)) → length values.items ≡ about.system.variables → Holds (Steps p) property (record { location = p.start; values = values.items }) → ⊥
+disproved_sound p about of_program steps tests property root k values fits met wide h =
+    let n = about.system.variables in
+    let s : State = record { location = p.start; values = values.items } in
+    let inside = point_inside about (pieces_of root) s k (slice_get (pieces_at (pieces_of root) about.system.start) k) (sym of_program.start) refl (root_met about (negation property) root (Disproved k values) met) in
+    let here = node_sound about tests 0 (negation property) root fits (AllMet-left (entries 0 about (negation property) root) _ met) s wide inside in
+    negation_excludes (CaseSteps about.system) property s here (Holds_along (Wide n) (Steps p) (CaseSteps about.system) (turned (same_on p about.system of_program steps)) property s wide h)
+
+-- ---- formulas without comparisons
+
+no_tests : (system : CaseSystem) → TestsShow (about_of system)
+no_tests system = record { shows = λ r a b lines xs among wide met. absurd (omega (arith, among.1)) }
 
 -- a certificate all of whose obligations are met shows that no run from an initial state reaches the location
 pub never_reached : (p : System) (system : CaseSystem) (l : ℕ) (root : Node) (start : CoverTree) → IsOfProgram p system → HaveSameSteps p system → PlainFits system l root start → PlainMet system l root start → HoldsInitially p (never_at l)
-never_reached p system l root start same steps fits met s initial =
-    let about = about_of system in
-    let split = all_split (entries 0 about (never_at l) root) (root_entry about (pieces_of root) (Proved start) ∷ []) met in
-    let all = parts_of system l root fits.fits split.0 in
-    let e : length s.values ≡ system.variables = initial.counted ∙ sym same.variables in
-    let first = begins system l root start s split.1 (initial.place ∙ sym same.start) e in
-    Weak_every_by (Kept system (pieces_list root)) (λ t kept.
-    let on = goes_on system l (pieces_list root) all t kept in
-    inr (
-      on.away,
-      λ u step.
-          let taken = (steps t u (kept.counted ∙ same.variables)).0 step in
-          record { counted = stays_counted system t u taken ∙ kept.counted; inside = on.steps u taken },
-    )) s (record { counted = e; inside = first })
+never_reached p system l root start of_program steps fits met =
+    proved_sound p (about_of system) of_program steps (no_tests system) (never_at l) root start fits.fits met

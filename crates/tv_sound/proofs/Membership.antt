@@ -1,0 +1,46 @@
+-- What a list contains, by what it was made from.
+use Rattle.std.proofs.Common.{◌≡◌, ℕ, zero, suc, List, [], ◌∷◌, Bool, true, false, arith, refl, sym, ap, subst, ◌==◌, cond, ◌∙◌, slice_get, Some}
+use Rattle.std.specs.Prelude.{Contains}
+use Rattle.std.specs.List.{filter, flat_map, AllZip}
+use Rattle.std.proofs.lemmas.Bool.Decides.{nat_tests}
+use Rattle.std.proofs.lemmas.Option.{slice_get_within, get_or_from_slice_get}
+use Rattle.std.proofs.lemmas.List.Elements.{Contains-append_left, Contains-append_right, All-filter, All-contains_itself, filter_passes}
+use Rattle.tv_cases.proofs.Listed.{Contains-here, Contains-later}
+
+pub got_in : {X : Type 0} (xs : List X) (k : ℕ) (x : X) → slice_get xs k ≡ Some x → Contains xs x
+got_in xs k x e = (k, slice_get_within xs k x e, get_or_from_slice_get xs k x x e)
+
+pub zip_some : {A B : Type 0} (R : A → B → Type 0) (xs : List A) (ys : List B) (x : A) → AllZip R xs ys → Contains xs x → (y : B) × R x y
+zip_some R [] ys x h c = absurd (omega arith)
+zip_some R (a ∷ xs) [] x h c = absurd h
+zip_some R (a ∷ xs) (b ∷ ys) x h (zero, l, e) = (b, subst (λ z. R z b) e h.0)
+zip_some R (a ∷ xs) (b ∷ ys) x h (suc k, l, e) = zip_some R xs ys x h.1 (k, omega arith, e)
+
+kept_later : {X : Type 0} (b : Bool) (a x : X) (xs : List X) → Contains xs x → Contains (cond b (a ∷ xs) xs) x
+kept_later true a x xs c = Contains-later a x xs c
+kept_later false a x xs c = c
+
+pub Contains-filter : {X : Type 0} (test : X → Bool) (xs : List X) (x : X) → test x ≡ true → Contains xs x → Contains (filter test xs) x
+Contains-filter test [] x t c = absurd (omega arith)
+Contains-filter test (a ∷ xs) x t (zero, l, e) =
+    let ta : test a ≡ true = ap test e ∙ t in
+    subst (λ b. Contains (cond b (a ∷ filter test xs) (filter test xs)) x) (sym ta) (subst (Contains (a ∷ filter test xs)) e (Contains-here a (filter test xs)))
+Contains-filter test (a ∷ xs) x t (suc k, l, e) = kept_later (test a) a x (filter test xs) (Contains-filter test xs x t (k, omega arith, e))
+
+pub Contains-flat_map : {A B : Type 0} (f : A → List B) (xs : List A) (x : A) (y : B) → Contains xs x → Contains (f x) y → Contains (flat_map f xs) y
+Contains-flat_map f [] x y c d = absurd (omega arith)
+Contains-flat_map f (a ∷ xs) x y (zero, l, e) d = Contains-append_left (f a) (flat_map f xs) y (subst (λ z. Contains (f z) y) (sym e) d)
+Contains-flat_map f (a ∷ xs) x y (suc k, l, e) d = Contains-append_right (f a) (flat_map f xs) y (Contains-flat_map f xs x y (k, omega arith, e) d)
+
+pub eq_is : (a b : ℕ) → a ≡ b → (a == b) ≡ true
+eq_is a b h = grind (arith, nat_tests)
+
+pub eq_true : (a b : ℕ) → (a == b) ≡ true → a ≡ b
+eq_true a b h = grind (arith, nat_tests)
+
+-- what is gotten from a filtered list passes, and is in the list
+pub filter_got : {X : Type 0} (test : X → Bool) (xs : List X) (k : ℕ) (x : X) → slice_get (filter test xs) k ≡ Some x → (test x ≡ true) × Contains xs x
+filter_got test xs k x e =
+    let within = slice_get_within (filter test xs) k x e in
+    let is = get_or_from_slice_get (filter test xs) k x x e in
+    (subst (λ y. test y ≡ true) is (filter_passes test xs k x within), subst (Contains xs) is (All-filter test (Contains xs) xs (All-contains_itself xs) k x within))
