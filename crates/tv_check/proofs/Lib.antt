@@ -3,3 +3,4 @@ pub mod SettlingLemmas
 pub mod ShownLemmas
 pub mod StepLemmas
 pub mod WalkLemmas
+mod DestinationLemmas

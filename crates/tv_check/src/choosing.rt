@@ -1,0 +1,236 @@
+ghost use Rattle.std.specs.Prelude.{◌≡◌, ◌↔◌, ℕ, ◌++◌, ◌∷◌, [], IsTrue, List, Option, None, Some, slice_get, map};
+ghost use Rattle.std.specs.Option.{option_map};
+ghost use Rattle.tv_linear.specs.Linear.{Linear};
+ghost use Rattle.tv_linear.specs.Known.{Known};
+ghost use Rattle.tv_linear.specs.Covers.{ShownAt};
+ghost use Rattle.tv_refute.specs.Frames.{known_at};
+ghost use Rattle.tv_cases.specs.LinearCases.{LinearCase};
+ghost use Rattle.tv_cases.specs.Views.{case_view, case_views};
+ghost use Rattle.tv_cert.specs.Targets.{no_target, owed_nothing};
+ghost use Rattle.tv_cert.specs.Choices.{NoStepMet, TakeMet, IsMetChoice, cases_from, drawn_guards};
+ghost use Rattle.tv_check.specs.Owes.{destination_owes};
+
+use crate::pieces::Pieces;
+use tv_cases::Case;
+use tv_cert::Marked;
+use tv_linear::{ChoiceTree, Cover, Row};
+use tv_refute::{Built, Change, Frames, Targets, Terms, cover_is_met, refutes, shown_rows};
+
+/// Where a choice leads: anywhere, or into pieces, with a fall from these ranks where there are some.
+#[derive(Drop)]
+pub enum Destination<'a> {
+    Anywhere,
+    Into {
+        pieces: &'a [Marked],
+        ranks: Option<&'a [Row]>,
+    },
+}
+
+/// Whether the one target without rows is named, and no list is left.
+fn nothing_is_shown(target: u32, fall: u32, lists: &[Vec<i128>]) -> bool
+    ensures { (n : ℕ) → (known : List Known) → IsTrue result ↔ ShownAt n known (owed_nothing target fall) (map (λ l. l.items) lists.now) }
+{
+    target == 0 && fall == 0 && lists.is_empty()
+}
+
+/// Whether the lists show the target after the case, with terms for its draws.
+fn destination_is_shown(
+    columns: u32,
+    frames: &Frames,
+    case: &Case,
+    destination: &Destination,
+    draws: &[Row],
+    target: u32,
+    fall: u32,
+    lists: &[Vec<i128>],
+) -> bool
+    ensures { IsTrue result ↔ ShownAt columns (known_at frames.now) (destination_owes columns destination.now (case_view case.now) draws.now target fall) (map (λ l. l.items) lists.now) }
+{
+    match destination {
+        Destination::Anywhere => nothing_is_shown(target, fall, lists),
+        Destination::Into { pieces, ranks } => {
+            let after = Terms::After {
+                columns,
+                updates: &case.updates,
+            };
+            let drawn = Terms::Drawn { columns, draws };
+            let change = Change::Twice(&after, &drawn);
+            let targets = Pieces {
+                pieces,
+                location: case.to,
+                change: &change,
+                ranks: *ranks,
+            };
+            targets.are_shown(columns as usize, frames, target, fall, lists)
+        }
+    }
+}
+
+/// No target at all.
+#[derive(Drop)]
+struct Nowhere;
+
+impl Targets for Nowhere {
+    ghost owed = { λ t. no_target };
+
+    fn are_shown(
+        &self,
+        columns: usize,
+        frames: &Frames,
+        target: u32,
+        fall: u32,
+        lists: &[Vec<i128>],
+    ) -> bool {
+        false
+    }
+}
+
+/// Whether the covers show that no case from the location can be taken.
+fn no_step_is_met(
+    columns: u32,
+    frames: &Frames,
+    location: u32,
+    cases: &[Case],
+    covers: &[Cover],
+) -> bool
+    ensures { IsTrue result ↔ NoStepMet columns (known_at frames.now) (cases_from location (case_views cases.now)) covers.now }
+{
+    match cases {
+        [] => covers.is_empty(),
+        [case, later @ ..] => {
+            if case.from == location {
+                match covers {
+                    [] => false,
+                    [cover, rest @ ..] => {
+                        let place = Frames::Rows {
+                            rows: &case.guards.rows,
+                            above: &*frames,
+                        };
+                        cover_is_met(
+                            columns as usize + case.draws as usize,
+                            &place,
+                            &Nowhere,
+                            cover.tree(),
+                        ) && no_step_is_met(columns, frames, location, later, rest)
+                    }
+                }
+            } else {
+                no_step_is_met(columns, frames, location, later, covers)
+            }
+        }
+    }
+}
+
+/// Whether the lists show the guards of the case, with terms for its draws, and then the target.
+fn take_is_shown(
+    columns: u32,
+    frames: &Frames,
+    case: &Case,
+    destination: &Destination,
+    draws: &[Row],
+    target: u32,
+    fall: u32,
+    lists: &[Vec<i128>],
+) -> bool
+    ensures { IsTrue result ↔ ShownAt columns (known_at frames.now) (option_map (λ rows. drawn_guards columns (case_view case.now) draws.now ++ rows) (destination_owes columns destination.now (case_view case.now) draws.now target fall)) (map (λ l. l.items) lists.now) }
+{
+    let guards: &[Row] = &case.guards.rows;
+    if lists.len() < guards.len() {
+        return false;
+    }
+    let (first, rest) = lists.split_at(guards.len());
+    let drawn = Terms::Drawn { columns, draws };
+    let change = Change::Once(&drawn);
+    if !shown_rows(columns as usize, frames, &change, guards, first) {
+        return false;
+    }
+    destination_is_shown(columns, frames, case, destination, draws, target, fall, rest)
+}
+
+/// Whether there is this case from the location, a term for each of its draws, and the lists show its guards and the target.
+fn take_is_met(
+    columns: u32,
+    cases: &[Case],
+    location: u32,
+    destination: &Destination,
+    frames: &Frames,
+    taken: u32,
+    target: u32,
+    fall: u32,
+    draws: &[Row],
+    lists: &[Vec<i128>],
+) -> bool
+    ensures { IsTrue result ↔ TakeMet columns location (destination_owes columns destination.now) (known_at frames.now) (slice_get (case_views cases.now) taken) target fall draws.now (map (λ l. l.items) lists.now) }
+{
+    match cases.get(taken as usize) {
+        None => false,
+        Some(case) => {
+            if case.from != location {
+                return false;
+            }
+            if draws.len() != case.draws as usize {
+                return false;
+            }
+            take_is_shown(
+                columns,
+                frames,
+                case,
+                destination,
+                draws,
+                target,
+                fall,
+                lists,
+            )
+        }
+    }
+}
+
+/// Whether the choice is met at the place; `stop` tells whether it may show that there is no step.
+pub fn choice_is_met(
+    columns: u32,
+    cases: &[Case],
+    location: u32,
+    stop: bool,
+    destination: &Destination,
+    frames: &Frames,
+    tree: &ChoiceTree,
+) -> bool
+    ensures { IsTrue result ↔ IsMetChoice columns (case_views cases.now) location stop (destination_owes columns destination.now) (known_at frames.now) tree.now }
+{
+    match tree {
+        ChoiceTree::Split(row, holds, fails) => {
+            let known = Built::Given(row);
+            let denied = Built::Denied(&known);
+            let met = Frames::More {
+                row: &known,
+                above: &*frames,
+            };
+            let not_met = Frames::More {
+                row: &denied,
+                above: &*frames,
+            };
+            choice_is_met(columns, cases, location, stop, destination, &met, holds)
+                && choice_is_met(columns, cases, location, stop, destination, &not_met, fails)
+        }
+        ChoiceTree::Empty(multipliers) => refutes(columns as usize, frames, multipliers),
+        ChoiceTree::NoStep(covers) => stop && no_step_is_met(columns, frames, location, cases, covers),
+        ChoiceTree::Take {
+            taken,
+            target,
+            fall,
+            draws,
+            refutations,
+        } => take_is_met(
+            columns,
+            cases,
+            location,
+            destination,
+            frames,
+            *taken,
+            *target,
+            *fall,
+            draws,
+            refutations,
+        ),
+    }
+}
