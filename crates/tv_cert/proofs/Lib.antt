@@ -2,3 +2,4 @@ pub mod NodeLemmas
 pub mod PieceLemmas
 pub mod ShapeLemmas
 pub mod ShapeFits
+pub mod SaidLemmas

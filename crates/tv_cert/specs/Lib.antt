@@ -7,3 +7,5 @@ pub mod Fits
 pub mod Plain
 pub mod Listed
 pub mod Shapes
+pub mod Statements
+pub mod Said
