@@ -3,3 +3,5 @@ pub mod PieceLemmas
 pub mod ShapeLemmas
 pub mod ShapeFits
 pub mod SaidLemmas
+pub mod VisitLemmas
+pub mod VisitedCases

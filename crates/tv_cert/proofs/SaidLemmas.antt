@@ -7,7 +7,7 @@ use Rattle.tv_cert.specs.declared.node.Marked.{Marked}
 use Rattle.tv_cert.specs.declared.node.Node.{Node, Node', Row_of-Node, end_of-Node, more_of-Node}
 use Rattle.tv_cert.specs.Obligations.{About, Obligation, piece_of, own_of, paired}
 use Rattle.tv_cert.specs.Nodes.{parts, kid_pieces, size, entries, kid_entries}
-use Rattle.tv_cert.specs.Statements.{Statement, stated, stated_all, parts_of}
+use Rattle.tv_cert.specs.Statements.{stated, stated_all, parts_of}
 use Rattle.tv_cert.specs.Said.{said_at, said_own, said_entries, said_kids}
 
 parts-stated : (about : About) (f : Property) → parts_of (stated about.tests f) ≡ stated_all about.tests (parts f)
@@ -29,7 +29,7 @@ parts-stated about (some_of fs) = refl
 parts-stated about (next path f) = refl
 parts-stated about (fix path shape f g) = refl
 
-piece-stated : (number : ℕ) (about : About) (f : Property) (ps : List Marked) (kids : List (List Marked)) (p : Marked) → said_at number about (stated about.tests f) ps kids p ≡ piece_of number about f ps kids p
+piece-stated : (number : ℕ) (about : About) (f : Property) (ps : List Marked) (kids : List (List Marked)) (p : Marked) → said_at number about.system (stated about.tests f) ps kids p ≡ piece_of number about f ps kids p
 piece-stated number about (truth b) ps kids p = refl
 piece-stated number about (compare r a b) ps kids p = refl
 piece-stated number about (at l) ps kids p = refl
@@ -53,15 +53,15 @@ each_same : (f g : Marked → List Obligation) → ((p : Marked) → f p ≡ g p
 each_same f g same [] = refl
 each_same f g same (p ∷ ps) = (λ i. same p i ++ each_same f g same ps i)
 
-pub own-stated : (number : ℕ) (about : About) (f : Property) (ps : List Marked) (kids : List (List Marked)) → said_own number about (stated about.tests f) ps kids ≡ own_of number about f ps kids
-own-stated number about f ps kids = each_same (said_at number about (stated about.tests f) ps kids) (piece_of number about f ps kids) (piece-stated number about f ps kids) ps
+pub own-stated : (number : ℕ) (about : About) (f : Property) (ps : List Marked) (kids : List (List Marked)) → said_own number about.system (stated about.tests f) ps kids ≡ own_of number about f ps kids
+own-stated number about f ps kids = each_same (said_at number about.system (stated about.tests f) ps kids) (piece_of number about f ps kids) (piece-stated number about f ps kids) ps
 
 mutual
-  pub entries-stated : (number : ℕ) (about : About) (f : Property) (node : Node) → said_entries number about (stated about.tests f) node ≡ entries number about f node
+  pub entries-stated : (number : ℕ) (about : About) (f : Property) (node : Node) → said_entries number about.system (stated about.tests f) node ≡ entries number about f node
   entries-stated number about f (Node' ps m shape kids proofs) =
-      (λ i. (ap (λ ss. said_kids (number + 1) about ss kids) (parts-stated about f) ∙ kids-stated (number + 1) about (parts f) kids) i ++ paired (own-stated number about f ps.items (kid_pieces kids) i) proofs.items)
+      (λ i. (ap (λ ss. said_kids (number + 1) about.system ss kids) (parts-stated about f) ∙ kids-stated (number + 1) about (parts f) kids) i ++ paired (own-stated number about f ps.items (kid_pieces kids) i) proofs.items)
 
-  kids-stated : {k : _} (number : ℕ) (about : About) (fs : Properties) (kids : Row_of-Node k) → said_kids number about (stated_all about.tests fs) kids ≡ kid_entries number about fs kids
+  kids-stated : {k : _} (number : ℕ) (about : About) (fs : Properties) (kids : Row_of-Node k) → said_kids number about.system (stated_all about.tests fs) kids ≡ kid_entries number about fs kids
   kids-stated number about none end_of-Node = refl
   kids-stated number about (more f fs) end_of-Node = refl
   kids-stated number about none (more_of-Node a kids) = refl

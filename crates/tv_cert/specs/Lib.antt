@@ -9,3 +9,6 @@ pub mod Listed
 pub mod Shapes
 pub mod Statements
 pub mod Said
+pub mod AimViews
+pub mod Owing
+pub mod Visits

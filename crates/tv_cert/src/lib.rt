@@ -1,10 +1,18 @@
 //! Certificates: trees of nodes over a formula, and the obligations that they have to meet.
 #![tactic(auto)]
 
+mod aim;
 mod node;
+mod owes;
 mod pieces;
 mod plain;
+mod visiting;
+mod visitor;
 
+pub use aim::Aim;
 pub use node::{Kind, Mark, Marked, Node, Proof, Verdict};
+pub use owes::{Destination, Owes};
 pub use pieces::piece_at;
 pub use plain::Plain;
+pub use visiting::visit_pieces;
+pub use visitor::Visitor;

@@ -1,0 +1,46 @@
+-- The obligations of a piece, one case, child or piece after another.
+use Rattle.std.proofs.Common.{◌≡◌, ◌⊎◌, inl, inr, ℕ, Bool, true, false, List, [], ◌∷◌, ◌++◌, map, cond, refl, ap, sym, ◌==◌, arith}
+use Rattle.std.proofs.lemmas.Bool.Decides.{nat_tests}
+use Rattle.std.specs.List.{flat_map}
+use Rattle.tv_cases.specs.declared.case.Case.{Case}
+use Rattle.tv_cases.specs.LinearCases.{LinearCase}
+use Rattle.tv_cases.specs.Views.{case_view, case_views}
+use Rattle.tv_cert.specs.Choices.{cases_from}
+use Rattle.tv_cert.specs.Obligations.{Obligation, end_sides}
+use Rattle.tv_formula.specs.declared.tree.Shape.{Shape}
+use Rattle.tv_formula.specs.declared.tree.Shape.TheVariants.{Release, Strong}
+
+eq_true : (a b : ℕ) → a ≡ b → (a == b) ≡ true
+eq_true a b h = grind (arith, nat_tests)
+
+eq_false : (a b : ℕ) → (a ≡ b → ⊥) → (a == b) ≡ false
+eq_false a b h = grind (arith, nat_tests)
+
+pub case-here : (step : LinearCase → Obligation) (l : ℕ) (c : Case) → c.from ≡ l → map step (cases_from l (case_views (c ∷ []))) ≡ step (case_view c) ∷ []
+case-here step l c e = ap (λ b. map step (cond b (case_view c ∷ []) [])) (eq_true c.from l e)
+
+pub case-elsewhere : (step : LinearCase → Obligation) (l : ℕ) (c : Case) → (c.from ≡ l → ⊥) → map step (cases_from l (case_views (c ∷ []))) ≡ []
+case-elsewhere step l c e = ap (λ b. map step (cond b (case_view c ∷ []) [])) (eq_false c.from l e)
+
+one_more : (step : LinearCase → Obligation) (t : Bool) (c : LinearCase) (cs : List LinearCase) → map step (cond t (c ∷ cs) cs) ≡ map step (cond t (c ∷ []) []) ++ map step cs
+one_more step true c cs = refl
+one_more step false c cs = refl
+
+-- what the first case owes, and then what the others owe
+pub cases-cons : (step : LinearCase → Obligation) (l : ℕ) (c : Case) (cs : List Case) → map step (cases_from l (case_views (c ∷ cs))) ≡ map step (cases_from l (case_views (c ∷ []))) ++ map step (cases_from l (case_views cs))
+cases-cons step l c cs = one_more step (c.from == l) (case_view c) (cases_from l (case_views cs))
+
+append_nil : {A : Type 0} (xs : List A) → xs ++ [] ≡ xs
+append_nil [] = refl
+append_nil (x ∷ xs) = ap (λ ys. x ∷ ys) (append_nil xs)
+
+pub flat_map-one : {A : Type 0} (f : A → List Obligation) (x : A) → flat_map f (x ∷ []) ≡ f x
+flat_map-one f x = append_nil (f x)
+
+pub flat_map-cons : {A : Type 0} (f : A → List Obligation) (x : A) (xs : List A) → flat_map f (x ∷ xs) ≡ flat_map f (x ∷ []) ++ flat_map f xs
+flat_map-cons f x xs = ap (λ os. os ++ flat_map f xs) (sym (flat_map-one f x))
+
+-- release and strong release ask for both sides at the end
+pub sides_both : (shape : Shape) → (shape ≡ Release) ⊎ (shape ≡ Strong) → {A : Type 0} (a b : A) → end_sides shape a b ≡ a ∷ b ∷ []
+sides_both shape (inl e) a b = ap (λ s. end_sides s a b) e
+sides_both shape (inr e) a b = ap (λ s. end_sides s a b) e

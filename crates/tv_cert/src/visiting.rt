@@ -1,0 +1,387 @@
+ghost use Rattle.std.specs.Prelude.{◌≡◌, ◌≤◌, ◌∷◌, [], length, map, false};
+ghost use Rattle.std.specs.List.{flat_map};
+ghost use Rattle.tv_formula.specs.declared.tree.Path.TheVariants.{Every, Any};
+ghost use Rattle.tv_cases.specs.Systems.{cases_of};
+ghost use Rattle.tv_cases.specs.Views.{case_views};
+ghost use Rattle.tv_cert.specs.Pieces.{place_of, goes};
+ghost use Rattle.tv_cert.specs.Targets.{owed_nothing};
+ghost use Rattle.tv_cert.specs.Obligations.{atom_of, step_of, steps_of, cover_of, choice_of, truth_targets, hold_side, end_sides, go_of, fix_of, step_fall, first_of, second_of};
+ghost use Rattle.tv_cert.specs.Choices.{cases_from};
+ghost use Rattle.tv_cert.specs.Plain.{about_of};
+ghost use Rattle.tv_cert.specs.Listed.{pieces_list};
+ghost use Rattle.tv_cert.specs.AimViews.{aim_states};
+ghost use Rattle.tv_cert.specs.Said.{said_at, said_own};
+ghost use Rattle.tv_cert.specs.Owing.{case_falls, destination_owes, obligation_by};
+ghost use Rattle.tv_cert.specs.Visits.{Visits};
+
+use crate::aim::Aim;
+use crate::node::{Kind, Mark, Marked, Node};
+use crate::owes::{Destination, Owes};
+use crate::visitor::Visitor;
+use tv_cases::{Case, Cases};
+use tv_formula::{Path, Shape};
+
+/// Visits one obligation.
+fn visit<V: Visitor>(visitor: &mut V, about: &Cases, number: u32, kind: Kind, owes: &Owes) -> bool
+    requires { length (obligation_by (cases_of about.now) number kind owes.now ∷ []) ≤ V.room visitor.old }
+    ensures { Visits (V.passes (cases_of about.now)) (V.stops (cases_of about.now)) V.room result visitor.old (obligation_by (cases_of about.now) number kind owes.now ∷ []) visitor.new }
+{
+    visitor.visit(about, number, kind, owes)
+}
+
+/// Visits a cover of a piece into the pieces of a region.
+fn visit_cover<V: Visitor>(
+    visitor: &mut V,
+    about: &Cases,
+    number: u32,
+    kind: Kind,
+    piece: &Marked,
+    into: &[Marked],
+) -> bool
+    requires { length (cover_of number kind (about_of (cases_of about.now)) piece.now into.now ∷ []) ≤ V.room visitor.old }
+    ensures { Visits (V.passes (cases_of about.now)) (V.stops (cases_of about.now)) V.room result visitor.old (cover_of number kind (about_of (cases_of about.now)) piece.now into.now ∷ []) visitor.new }
+{
+    visit(visitor, about, number, kind, &Owes::Pieces { piece, into })
+}
+
+/// Visits a cover of a piece by a location test that is true or false there.
+fn visit_truth<V: Visitor>(
+    visitor: &mut V,
+    about: &Cases,
+    number: u32,
+    piece: &Marked,
+    truth: bool,
+) -> bool
+    requires { length (atom_of number (about_of (cases_of about.now)) piece.now (truth_targets truth) ∷ []) ≤ V.room visitor.old }
+    ensures { Visits (V.passes (cases_of about.now)) (V.stops (cases_of about.now)) V.room result visitor.old (atom_of number (about_of (cases_of about.now)) piece.now (truth_targets truth) ∷ []) visitor.new }
+{
+    visit(visitor, about, number, Kind::Atom, &Owes::Truth { piece, truth })
+}
+
+/// Visits a choice at a piece.
+fn visit_choice<V: Visitor>(
+    visitor: &mut V,
+    about: &Cases,
+    number: u32,
+    kind: Kind,
+    piece: &Marked,
+    stop: bool,
+    destination: Destination,
+) -> bool
+    requires { length (choice_of number kind (about_of (cases_of about.now)) piece.now stop (destination_owes (cases_of about.now).variables piece.now destination) ∷ []) ≤ V.room visitor.old }
+    ensures { Visits (V.passes (cases_of about.now)) (V.stops (cases_of about.now)) V.room result visitor.old (choice_of number kind (about_of (cases_of about.now)) piece.now stop (destination_owes (cases_of about.now).variables piece.now destination.entry) ∷ []) visitor.new }
+{
+    let owes = Owes::Choice {
+        piece,
+        stop,
+        destination,
+    };
+    visit(visitor, about, number, kind, &owes)
+}
+
+/// Visits what a piece owes for a case, where the case is from its location.
+fn visit_case<V: Visitor>(
+    visitor: &mut V,
+    about: &Cases,
+    number: u32,
+    piece: &Marked,
+    case: &Case,
+    into: &[Marked],
+    falls: bool,
+) -> bool
+    requires { length (map (step_of number (about_of (cases_of about.now)) piece.now into.now (case_falls falls (cases_of about.now) piece.now)) (cases_from (place_of piece.now) (case_views (case.now ∷ [])))) ≤ V.room visitor.old }
+    ensures { Visits (V.passes (cases_of about.now)) (V.stops (cases_of about.now)) V.room result visitor.old (map (step_of number (about_of (cases_of about.now)) piece.now into.now (case_falls falls (cases_of about.now) piece.now)) (cases_from (place_of piece.now) (case_views (case.now ∷ [])))) visitor.new }
+{
+    if case.from != piece.piece.location {
+        return true;
+    }
+    let owes = Owes::Step {
+        piece,
+        case,
+        into,
+        falls,
+    };
+    visit(visitor, about, number, Kind::Step, &owes)
+}
+
+/// Visits the steps that a piece owes for these cases.
+fn visit_cases<V: Visitor>(
+    visitor: &mut V,
+    about: &Cases,
+    number: u32,
+    piece: &Marked,
+    cases: &[Case],
+    into: &[Marked],
+    falls: bool,
+) -> bool
+    requires { length (map (step_of number (about_of (cases_of about.now)) piece.now into.now (case_falls falls (cases_of about.now) piece.now)) (cases_from (place_of piece.now) (case_views cases.now))) ≤ V.room visitor.old }
+    ensures { Visits (V.passes (cases_of about.now)) (V.stops (cases_of about.now)) V.room result visitor.old (map (step_of number (about_of (cases_of about.now)) piece.now into.now (case_falls falls (cases_of about.now) piece.now)) (cases_from (place_of piece.now) (case_views cases.now))) visitor.new }
+{
+    for case in cases {
+        if !visit_case(visitor, about, number, piece, case, into, falls) {
+            return false;
+        }
+    }
+    true
+}
+
+/// Visits the steps that a piece owes: one for each case from its location.
+fn visit_steps<V: Visitor>(
+    visitor: &mut V,
+    about: &Cases,
+    number: u32,
+    piece: &Marked,
+    into: &[Marked],
+    falls: bool,
+) -> bool
+    requires { length (steps_of number (about_of (cases_of about.now)) piece.now into.now (case_falls falls (cases_of about.now) piece.now)) ≤ V.room visitor.old }
+    ensures { Visits (V.passes (cases_of about.now)) (V.stops (cases_of about.now)) V.room result visitor.old (steps_of number (about_of (cases_of about.now)) piece.now into.now (case_falls falls (cases_of about.now) piece.now)) visitor.new }
+{
+    visit_cases(visitor, about, number, piece, about.list(), into, falls)
+}
+
+/// Visits the covers of a piece into the pieces of each child.
+fn visit_children<V: Visitor>(
+    visitor: &mut V,
+    about: &Cases,
+    number: u32,
+    piece: &Marked,
+    children: &[Node],
+) -> bool
+    requires { length (map (cover_of number Kind.Child (about_of (cases_of about.now)) piece.now) (map pieces_list children.now)) ≤ V.room visitor.old }
+    ensures { Visits (V.passes (cases_of about.now)) (V.stops (cases_of about.now)) V.room result visitor.old (map (cover_of number Kind.Child (about_of (cases_of about.now)) piece.now) (map pieces_list children.now)) visitor.new }
+{
+    for child in children {
+        if !visit_cover(visitor, about, number, Kind::Child, piece, &child.pieces) {
+            return false;
+        }
+    }
+    true
+}
+
+/// Visits the covers of a piece that is done: into each side that holds at the end.
+fn visit_done<V: Visitor>(
+    visitor: &mut V,
+    about: &Cases,
+    number: u32,
+    shape: Shape,
+    piece: &Marked,
+    first: &[Marked],
+    second: &[Marked],
+) -> bool
+    requires { length (map (cover_of number Kind.Done (about_of (cases_of about.now)) piece.now) (end_sides shape first.now second.now)) ≤ V.room visitor.old }
+    ensures { Visits (V.passes (cases_of about.now)) (V.stops (cases_of about.now)) V.room result visitor.old (map (cover_of number Kind.Done (about_of (cases_of about.now)) piece.now) (end_sides shape first.now second.now)) visitor.new }
+{
+    match shape {
+        Shape::Until | Shape::Weak => {
+            visit_cover(visitor, about, number, Kind::Done, piece, second)
+        }
+        Shape::Release | Shape::Strong => {
+            if !visit_cover(visitor, about, number, Kind::Done, piece, first) {
+                return false;
+            }
+            visit_cover(visitor, about, number, Kind::Done, piece, second)
+        }
+    }
+}
+
+/// Visits a choice that shows a successor, and then the steps, each of which makes the ranks fall.
+fn visit_ranked<V: Visitor>(
+    visitor: &mut V,
+    about: &Cases,
+    number: u32,
+    pieces: &[Marked],
+    piece: &Marked,
+) -> bool
+    requires { length (choice_of number Kind.Successor (about_of (cases_of about.now)) piece.now false (λ c draws. owed_nothing) ∷ steps_of number (about_of (cases_of about.now)) piece.now pieces.now (step_fall (about_of (cases_of about.now)) piece.now)) ≤ V.room visitor.old }
+    ensures { Visits (V.passes (cases_of about.now)) (V.stops (cases_of about.now)) V.room result visitor.old (choice_of number Kind.Successor (about_of (cases_of about.now)) piece.now false (λ c draws. owed_nothing) ∷ steps_of number (about_of (cases_of about.now)) piece.now pieces.now (step_fall (about_of (cases_of about.now)) piece.now)) visitor.new }
+{
+    let anywhere = Destination::Anywhere;
+    if !visit_choice(
+        visitor,
+        about,
+        number,
+        Kind::Successor,
+        piece,
+        false,
+        anywhere,
+    ) {
+        return false;
+    }
+    visit_steps(visitor, about, number, piece, pieces, true)
+}
+
+/// Visits what follows the hold cover of a piece that goes on.
+fn visit_onward<V: Visitor>(
+    visitor: &mut V,
+    about: &Cases,
+    number: u32,
+    path: Path,
+    shape: Shape,
+    pieces: &[Marked],
+    piece: &Marked,
+) -> bool
+    requires { length (go_of number (about_of (cases_of about.now)) path shape pieces.now piece.now) ≤ V.room visitor.old }
+    ensures { Visits (V.passes (cases_of about.now)) (V.stops (cases_of about.now)) V.room result visitor.old (go_of number (about_of (cases_of about.now)) path shape pieces.now piece.now) visitor.new }
+{
+    let falls = matches!(shape, Shape::Until | Shape::Strong);
+    match path {
+        Path::Every => {
+            if falls {
+                visit_ranked(visitor, about, number, pieces, piece)
+            } else {
+                visit_steps(visitor, about, number, piece, pieces, false)
+            }
+        }
+        Path::Any => {
+            let into = Destination::Into { pieces, falls };
+            visit_choice(visitor, about, number, Kind::Choice, piece, !falls, into)
+        }
+    }
+}
+
+/// Visits the cover of a piece that goes on into what holds on the way.
+fn visit_hold<V: Visitor>(
+    visitor: &mut V,
+    about: &Cases,
+    number: u32,
+    shape: Shape,
+    piece: &Marked,
+    first: &[Marked],
+    second: &[Marked],
+) -> bool
+    requires { length (cover_of number Kind.Hold (about_of (cases_of about.now)) piece.now (hold_side shape first.now second.now) ∷ []) ≤ V.room visitor.old }
+    ensures { Visits (V.passes (cases_of about.now)) (V.stops (cases_of about.now)) V.room result visitor.old (cover_of number Kind.Hold (about_of (cases_of about.now)) piece.now (hold_side shape first.now second.now) ∷ []) visitor.new }
+{
+    match shape {
+        Shape::Until | Shape::Weak => {
+            visit_cover(visitor, about, number, Kind::Hold, piece, first)
+        }
+        Shape::Release | Shape::Strong => {
+            visit_cover(visitor, about, number, Kind::Hold, piece, second)
+        }
+    }
+}
+
+/// Visits what a piece of a fixed point owes.
+fn visit_fix<V: Visitor>(
+    visitor: &mut V,
+    about: &Cases,
+    number: u32,
+    path: Path,
+    shape: Shape,
+    pieces: &[Marked],
+    first: &[Marked],
+    second: &[Marked],
+    piece: &Marked,
+) -> bool
+    requires { length (fix_of number (about_of (cases_of about.now)) path shape pieces.now first.now second.now piece.now (goes piece.now)) ≤ V.room visitor.old }
+    ensures { Visits (V.passes (cases_of about.now)) (V.stops (cases_of about.now)) V.room result visitor.old (fix_of number (about_of (cases_of about.now)) path shape pieces.now first.now second.now piece.now (goes piece.now)) visitor.new }
+{
+    match piece.mark {
+        Mark::Done => visit_done(visitor, about, number, shape, piece, first, second),
+        Mark::Go => {
+            if !visit_hold(visitor, about, number, shape, piece, first, second) {
+                return false;
+            }
+            visit_onward(visitor, about, number, path, shape, pieces, piece)
+        }
+    }
+}
+
+/// The pieces of the first of the nodes, or none.
+fn first_pieces(nodes: &[Node]) -> &[Marked]
+    ensures { result.now ≡ first_of (map pieces_list nodes.now) }
+{
+    match nodes {
+        [] => &[],
+        [node, ..] => &node.pieces,
+    }
+}
+
+/// The pieces of the second of the nodes, or none.
+fn second_pieces(nodes: &[Node]) -> &[Marked]
+    ensures { result.now ≡ second_of (map pieces_list nodes.now) }
+{
+    match nodes {
+        [] => &[],
+        [_, rest @ ..] => first_pieces(rest),
+    }
+}
+
+/// Visits what a piece owes for what its node is to show.
+fn visit_piece<V: Visitor>(
+    visitor: &mut V,
+    about: &Cases,
+    number: u32,
+    aim: &Aim,
+    pieces: &[Marked],
+    children: &[Node],
+    piece: &Marked,
+) -> bool
+    requires { length (said_at number (cases_of about.now) (aim_states aim.now) pieces.now (map pieces_list children.now) piece.now) ≤ V.room visitor.old }
+    ensures { Visits (V.passes (cases_of about.now)) (V.stops (cases_of about.now)) V.room result visitor.old (said_at number (cases_of about.now) (aim_states aim.now) pieces.now (map pieces_list children.now) piece.now) visitor.new }
+{
+    let first = first_pieces(children);
+    match aim {
+        Aim::Rows(lists) => {
+            visit(visitor, about, number, Kind::Atom, &Owes::Rows { piece, lists })
+        }
+        Aim::Here(l) => visit_truth(visitor, about, number, piece, piece.piece.location == *l),
+        Aim::Elsewhere(l) => visit_truth(visitor, about, number, piece, piece.piece.location != *l),
+        Aim::Ends => visit_steps(visitor, about, number, piece, pieces, true),
+        Aim::NeverEnds => {
+            let falls = false;
+            let into = Destination::Into { pieces, falls };
+            visit_choice(visitor, about, number, Kind::Choice, piece, false, into)
+        }
+        Aim::EachOf(_) => visit_children(visitor, about, number, piece, children),
+        Aim::OneOf(_) => {
+            let nodes = children;
+            visit(visitor, about, number, Kind::Child, &Owes::Joined { piece, nodes })
+        }
+        Aim::After(Path::Every, _) => visit_steps(visitor, about, number, piece, first, false),
+        Aim::After(Path::Any, _) => {
+            let falls = false;
+            let into = Destination::Into {
+                pieces: first,
+                falls,
+            };
+            visit_choice(visitor, about, number, Kind::Choice, piece, false, into)
+        }
+        Aim::Along(path, shape, _, _) => {
+            let second = second_pieces(children);
+            visit_fix(
+                visitor,
+                about,
+                number,
+                *path,
+                *shape,
+                pieces,
+                first,
+                second,
+                piece,
+            )
+        }
+    }
+}
+
+/// Visits the own obligations of a node, by its pieces in order.
+pub fn visit_pieces<V: Visitor>(
+    visitor: &mut V,
+    about: &Cases,
+    number: u32,
+    aim: &Aim,
+    pieces: &[Marked],
+    children: &[Node],
+) -> bool
+    requires { length (said_own number (cases_of about.now) (aim_states aim.now) pieces.now (map pieces_list children.now)) ≤ V.room visitor.old }
+    ensures { Visits (V.passes (cases_of about.now)) (V.stops (cases_of about.now)) V.room result visitor.old (said_own number (cases_of about.now) (aim_states aim.now) pieces.now (map pieces_list children.now)) visitor.new }
+{
+    for piece in pieces {
+        if !visit_piece(visitor, about, number, aim, pieces, children, piece) {
+            return false;
+        }
+    }
+    true
+}
