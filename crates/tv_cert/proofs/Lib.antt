@@ -5,3 +5,4 @@ pub mod ShapeFits
 pub mod SaidLemmas
 pub mod VisitLemmas
 pub mod VisitedCases
+pub mod JoinedLemmas

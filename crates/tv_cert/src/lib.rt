@@ -12,7 +12,7 @@ mod visitor;
 pub use aim::Aim;
 pub use node::{Kind, Mark, Marked, Node, Proof, Verdict};
 pub use owes::{Destination, Owes};
-pub use pieces::piece_at;
+pub use pieces::{joined_piece_at, piece_at};
 pub use plain::Plain;
 pub use visiting::visit_pieces;
 pub use visitor::Visitor;

@@ -6,25 +6,17 @@ ghost use Rattle.tv_linear.specs.Covers.{ShownAt};
 ghost use Rattle.tv_refute.specs.Frames.{known_at};
 ghost use Rattle.tv_cases.specs.LinearCases.{LinearCase};
 ghost use Rattle.tv_cases.specs.Views.{case_view, case_views};
-ghost use Rattle.tv_cert.specs.Targets.{no_target, owed_nothing};
-ghost use Rattle.tv_cert.specs.Choices.{NoStepMet, TakeMet, IsMetChoice, cases_from, drawn_guards};
-ghost use Rattle.tv_check.specs.Owes.{destination_owes};
+ghost use Rattle.tv_cert.specs.Targets.{owed_into, no_target, owed_nothing};
+ghost use Rattle.tv_cert.specs.Choices.{NoStepMet, TakeMet, IsMetChoice, cases_from, drawn_guards, drawn_change};
+ghost use Rattle.tv_cert.specs.Pieces.{place_of};
+ghost use Rattle.tv_cert.specs.Owing.{destination_owes};
+ghost use Rattle.tv_check.specs.Owes.{falls_of};
 
 use crate::pieces::Pieces;
 use tv_cases::Case;
-use tv_cert::Marked;
+use tv_cert::{Destination, Marked};
 use tv_linear::{ChoiceTree, Cover, Row};
 use tv_refute::{Built, Change, Frames, Targets, Terms, cover_is_met, refutes, shown_rows};
-
-/// Where a choice leads: anywhere, or into pieces, with a fall from these ranks where there are some.
-#[derive(Drop)]
-pub enum Destination<'a> {
-    Anywhere,
-    Into {
-        pieces: &'a [Marked],
-        ranks: Option<&'a [Row]>,
-    },
-}
 
 /// Whether the one target without rows is named, and no list is left.
 fn nothing_is_shown(target: u32, fall: u32, lists: &[Vec<i128>]) -> bool
@@ -33,10 +25,41 @@ fn nothing_is_shown(target: u32, fall: u32, lists: &[Vec<i128>]) -> bool
     target == 0 && fall == 0 && lists.is_empty()
 }
 
+/// Whether the lists show a piece that is entered by the case, with terms for its draws, and a fall from these ranks where there
+/// are some.
+fn entering_is_shown(
+    columns: u32,
+    frames: &Frames,
+    case: &Case,
+    into: &[Marked],
+    ranks: Option<&[Row]>,
+    draws: &[Row],
+    target: u32,
+    fall: u32,
+    lists: &[Vec<i128>],
+) -> bool
+    ensures { IsTrue result ↔ ShownAt columns (known_at frames.now) (owed_into into.now case.now.to (drawn_change columns (case_view case.now) draws.now) (falls_of (drawn_change columns (case_view case.now) draws.now) ranks.entry) target fall) (map (λ l. l.items) lists.now) }
+{
+    let after = Terms::After {
+        columns,
+        updates: &case.updates,
+    };
+    let drawn = Terms::Drawn { columns, draws };
+    let change = Change::Twice(&after, &drawn);
+    let targets = Pieces {
+        pieces: into,
+        location: case.to,
+        change: &change,
+        ranks,
+    };
+    targets.are_shown(columns as usize, frames, target, fall, lists)
+}
+
 /// Whether the lists show the target after the case, with terms for its draws.
 fn destination_is_shown(
     columns: u32,
     frames: &Frames,
+    piece: &Marked,
     case: &Case,
     destination: &Destination,
     draws: &[Row],
@@ -44,24 +67,23 @@ fn destination_is_shown(
     fall: u32,
     lists: &[Vec<i128>],
 ) -> bool
-    ensures { IsTrue result ↔ ShownAt columns (known_at frames.now) (destination_owes columns destination.now (case_view case.now) draws.now target fall) (map (λ l. l.items) lists.now) }
+    ensures { IsTrue result ↔ ShownAt columns (known_at frames.now) (destination_owes columns piece.now destination.now (case_view case.now) draws.now target fall) (map (λ l. l.items) lists.now) }
 {
     match destination {
         Destination::Anywhere => nothing_is_shown(target, fall, lists),
-        Destination::Into { pieces, ranks } => {
-            let after = Terms::After {
+        Destination::Into { pieces, falls } => {
+            let ranks: Option<&[Row]> = if *falls { Some(&piece.ranks) } else { None };
+            entering_is_shown(
                 columns,
-                updates: &case.updates,
-            };
-            let drawn = Terms::Drawn { columns, draws };
-            let change = Change::Twice(&after, &drawn);
-            let targets = Pieces {
+                frames,
+                case,
                 pieces,
-                location: case.to,
-                change: &change,
-                ranks: *ranks,
-            };
-            targets.are_shown(columns as usize, frames, target, fall, lists)
+                ranks,
+                draws,
+                target,
+                fall,
+                lists,
+            )
         }
     }
 }
@@ -125,6 +147,7 @@ fn no_step_is_met(
 fn take_is_shown(
     columns: u32,
     frames: &Frames,
+    piece: &Marked,
     case: &Case,
     destination: &Destination,
     draws: &[Row],
@@ -132,7 +155,7 @@ fn take_is_shown(
     fall: u32,
     lists: &[Vec<i128>],
 ) -> bool
-    ensures { IsTrue result ↔ ShownAt columns (known_at frames.now) (option_map (λ rows. drawn_guards columns (case_view case.now) draws.now ++ rows) (destination_owes columns destination.now (case_view case.now) draws.now target fall)) (map (λ l. l.items) lists.now) }
+    ensures { IsTrue result ↔ ShownAt columns (known_at frames.now) (option_map (λ rows. drawn_guards columns (case_view case.now) draws.now ++ rows) (destination_owes columns piece.now destination.now (case_view case.now) draws.now target fall)) (map (λ l. l.items) lists.now) }
 {
     let guards: &[Row] = &case.guards.rows;
     if lists.len() < guards.len() {
@@ -144,14 +167,24 @@ fn take_is_shown(
     if !shown_rows(columns as usize, frames, &change, guards, first) {
         return false;
     }
-    destination_is_shown(columns, frames, case, destination, draws, target, fall, rest)
+    destination_is_shown(
+        columns,
+        frames,
+        piece,
+        case,
+        destination,
+        draws,
+        target,
+        fall,
+        rest,
+    )
 }
 
 /// Whether there is this case from the location, a term for each of its draws, and the lists show its guards and the target.
 fn take_is_met(
     columns: u32,
     cases: &[Case],
-    location: u32,
+    piece: &Marked,
     destination: &Destination,
     frames: &Frames,
     taken: u32,
@@ -160,12 +193,12 @@ fn take_is_met(
     draws: &[Row],
     lists: &[Vec<i128>],
 ) -> bool
-    ensures { IsTrue result ↔ TakeMet columns location (destination_owes columns destination.now) (known_at frames.now) (slice_get (case_views cases.now) taken) target fall draws.now (map (λ l. l.items) lists.now) }
+    ensures { IsTrue result ↔ TakeMet columns (place_of piece.now) (destination_owes columns piece.now destination.now) (known_at frames.now) (slice_get (case_views cases.now) taken) target fall draws.now (map (λ l. l.items) lists.now) }
 {
     match cases.get(taken as usize) {
         None => false,
         Some(case) => {
-            if case.from != location {
+            if case.from != piece.piece.location {
                 return false;
             }
             if draws.len() != case.draws as usize {
@@ -174,6 +207,7 @@ fn take_is_met(
             take_is_shown(
                 columns,
                 frames,
+                piece,
                 case,
                 destination,
                 draws,
@@ -189,13 +223,13 @@ fn take_is_met(
 pub fn choice_is_met(
     columns: u32,
     cases: &[Case],
-    location: u32,
+    piece: &Marked,
     stop: bool,
     destination: &Destination,
     frames: &Frames,
     tree: &ChoiceTree,
 ) -> bool
-    ensures { IsTrue result ↔ IsMetChoice columns (case_views cases.now) location stop (destination_owes columns destination.now) (known_at frames.now) tree.now }
+    ensures { IsTrue result ↔ IsMetChoice columns (case_views cases.now) (place_of piece.now) stop (destination_owes columns piece.now destination.now) (known_at frames.now) tree.now }
 {
     match tree {
         ChoiceTree::Split(row, holds, fails) => {
@@ -209,11 +243,13 @@ pub fn choice_is_met(
                 row: &denied,
                 above: &*frames,
             };
-            choice_is_met(columns, cases, location, stop, destination, &met, holds)
-                && choice_is_met(columns, cases, location, stop, destination, &not_met, fails)
+            choice_is_met(columns, cases, piece, stop, destination, &met, holds)
+                && choice_is_met(columns, cases, piece, stop, destination, &not_met, fails)
         }
         ChoiceTree::Empty(multipliers) => refutes(columns as usize, frames, multipliers),
-        ChoiceTree::NoStep(covers) => stop && no_step_is_met(columns, frames, location, cases, covers),
+        ChoiceTree::NoStep(covers) => {
+            stop && no_step_is_met(columns, frames, piece.piece.location, cases, covers)
+        }
         ChoiceTree::Take {
             taken,
             target,
@@ -223,7 +259,7 @@ pub fn choice_is_met(
         } => take_is_met(
             columns,
             cases,
-            location,
+            piece,
             destination,
             frames,
             *taken,

@@ -5,6 +5,7 @@ mod checking;
 mod choosing;
 mod duty;
 mod falls;
+mod judging;
 mod pieces;
 mod progress;
 mod safety;
@@ -12,7 +13,7 @@ mod steps;
 mod walking;
 
 pub use checking::check_plain;
-pub use choosing::{Destination, choice_is_met};
+pub use choosing::choice_is_met;
 pub use pieces::Pieces;
 pub use steps::{rows_are_covered, step_is_covered, truth_is_covered};
 pub use walking::{Duty, Failing, walk};

@@ -122,7 +122,7 @@ impl Targets for Standing<'_> {
 }
 
 /// Whether the lists show the rows of a piece.
-fn kept_is_shown(
+pub fn kept_is_shown(
     columns: usize,
     frames: &Frames,
     piece: &Marked,

@@ -6,7 +6,7 @@ use Rattle.tv_linear.specs.Terms.{draw_terms}
 use Rattle.tv_refute.specs.Frames.{known_at}
 use Rattle.tv_cases.specs.Views.{case_view}
 use Rattle.tv_cert.specs.Choices.{drawn_guards}
-use Rattle.tv_check.specs.Owes.{destination_owes}
+use Rattle.tv_cert.specs.Owing.{destination_owes}
 use Rattle.tv_check.proofs.ShownLemmas.{few_at, shown_with, lists_split}
 use Rattle.tv_check.proofs.choosing.take_is_shown.Goals as goal
 
@@ -14,7 +14,7 @@ pub returns-then-lists-guards : goal.returns-then-lists-guards
 returns-then-lists-guards c = (
   λ t. cc,
   λ h.
-      let few = few_at c.args.columns (known_at c.args.frames.now) (drawn_guards c.args.columns (case_view c.args.case.now) c.args.draws.now) (destination_owes c.args.columns c.args.destination.now (case_view c.args.case.now) c.args.draws.now c.args.target c.args.fall) (map (λ l. l.items) c.args.lists.now) h in
+      let few = few_at c.args.columns (known_at c.args.frames.now) (drawn_guards c.args.columns (case_view c.args.case.now) c.args.draws.now) (destination_owes c.args.columns c.args.piece.now c.args.destination.now (case_view c.args.case.now) c.args.draws.now c.args.target c.args.fall) (map (λ l. l.items) c.args.lists.now) h in
       let a = length-map c.args.case.now.guards.rows.items (λ r. composed (given r) (draw_terms c.args.columns c.args.draws.now)) in
       let b = length-map c.args.lists.now (λ l. l.items) in
       let v = ap length c.deref-guards.ensures.value in
@@ -27,7 +27,7 @@ returns-then-not-shown_rows c =
     let p = lists_split c.args.lists.now c.split_at.result.0.now c.split_at.result.1.now (length c.deref-guards.result.now) c.split_at.ensures.front c.split_at.ensures.back in
     let same : map (λ r. composed (given r) (draw_terms c.args.columns c.args.draws.now)) c.deref-guards.result.now ≡ guards = ap (map (λ r. composed (given r) (draw_terms c.args.columns c.args.draws.now))) c.deref-guards.ensures.value in
     let many : length guards ≡ length (map (λ l. l.items) c.split_at.result.0.now) = ap length (sym same) ∙ length-map c.deref-guards.result.now (λ r. composed (given r) (draw_terms c.args.columns c.args.draws.now)) ∙ sym (length-map c.split_at.result.0.now (λ l. l.items) ∙ c.split_at.ensures.front_len) in
-    let w = shown_with c.args.columns (known_at c.args.frames.now) guards (destination_owes c.args.columns c.args.destination.now (case_view c.args.case.now) c.args.draws.now c.args.target c.args.fall) (map (λ l. l.items) c.args.lists.now) (map (λ l. l.items) c.split_at.result.0.now) (map (λ l. l.items) c.split_at.result.1.now) p many in
+    let w = shown_with c.args.columns (known_at c.args.frames.now) guards (destination_owes c.args.columns c.args.piece.now c.args.destination.now (case_view c.args.case.now) c.args.draws.now c.args.target c.args.fall) (map (λ l. l.items) c.args.lists.now) (map (λ l. l.items) c.split_at.result.0.now) (map (λ l. l.items) c.split_at.result.1.now) p many in
     (λ t. cc, λ h. let k = c.if-not-shown_rows.ensures.exact.1 (subst (λ xs. Shown c.args.columns (known_at c.args.frames.now) xs (map (λ l. l.items) c.split_at.result.0.now)) (sym same) (w.0 h).0) in cc)
 
 pub returns : goal.returns
@@ -36,5 +36,5 @@ returns c =
     let p = lists_split c.args.lists.now c.split_at.result.0.now c.split_at.result.1.now (length c.deref-guards.result.now) c.split_at.ensures.front c.split_at.ensures.back in
     let same : map (λ r. composed (given r) (draw_terms c.args.columns c.args.draws.now)) c.deref-guards.result.now ≡ guards = ap (map (λ r. composed (given r) (draw_terms c.args.columns c.args.draws.now))) c.deref-guards.ensures.value in
     let many : length guards ≡ length (map (λ l. l.items) c.split_at.result.0.now) = ap length (sym same) ∙ length-map c.deref-guards.result.now (λ r. composed (given r) (draw_terms c.args.columns c.args.draws.now)) ∙ sym (length-map c.split_at.result.0.now (λ l. l.items) ∙ c.split_at.ensures.front_len) in
-    let w = shown_with c.args.columns (known_at c.args.frames.now) guards (destination_owes c.args.columns c.args.destination.now (case_view c.args.case.now) c.args.draws.now c.args.target c.args.fall) (map (λ l. l.items) c.args.lists.now) (map (λ l. l.items) c.split_at.result.0.now) (map (λ l. l.items) c.split_at.result.1.now) p many in
+    let w = shown_with c.args.columns (known_at c.args.frames.now) guards (destination_owes c.args.columns c.args.piece.now c.args.destination.now (case_view c.args.case.now) c.args.draws.now c.args.target c.args.fall) (map (λ l. l.items) c.args.lists.now) (map (λ l. l.items) c.split_at.result.0.now) (map (λ l. l.items) c.split_at.result.1.now) p many in
     (λ t. w.1 (subst (λ xs. Shown c.args.columns (known_at c.args.frames.now) xs (map (λ l. l.items) c.split_at.result.0.now)) same (c.if-not-shown_rows.ensures.exact.0 refl), c.destination_is_shown.ensures.0 t), λ h. c.destination_is_shown.ensures.1 (w.0 h).1)

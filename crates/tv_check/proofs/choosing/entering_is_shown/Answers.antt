@@ -1,0 +1,7 @@
+use Rattle.std.proofs.Common.{map}
+use Rattle.tv_refute.specs.Frames.{known_at}
+use Rattle.tv_check.proofs.DestinationLemmas.{entering_moved}
+use Rattle.tv_check.proofs.choosing.entering_is_shown.Goals as goal
+
+pub returns : goal.returns
+returns c = entering_moved c.are_shown.result c.args.columns (known_at c.args.frames.now) c.args.into.now c.args.case.now.to c.args.ranks c.args.draws.now c.args.target c.args.fall (map (λ l. l.items) c.args.lists.now) c.deref.result.now c.args.case.now.updates.items c.deref.ensures.value c.are_shown.ensures
