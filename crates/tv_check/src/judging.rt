@@ -1,4 +1,4 @@
-ghost use Rattle.std.specs.Prelude.{◌≡◌, ◌↔◌, IsTrue, Some, map};
+ghost use Rattle.std.specs.Prelude.{◌≡◌, ◌↔◌, ◌+◌, ◌++◌, IsTrue, Some, map};
 ghost use Rattle.std.specs.List.{flat_map};
 ghost use Rattle.tv_linear.specs.Known.{as_given, given};
 ghost use Rattle.tv_linear.specs.Covers.{Shown, IsMetCover};
@@ -6,15 +6,18 @@ ghost use Rattle.tv_refute.specs.Frames.{known_at};
 ghost use Rattle.tv_cases.specs.Systems.{cases_of};
 ghost use Rattle.tv_cert.specs.Targets.{owed_into, owed_lists, no_fall};
 ghost use Rattle.tv_cert.specs.Listed.{pieces_list};
-ghost use Rattle.tv_cert.specs.Obligations.{OwedMet};
-ghost use Rattle.tv_cert.specs.Owing.{owed_by};
+ghost use Rattle.tv_cases.specs.Views.{case_view};
+ghost use Rattle.tv_cert.specs.Pieces.{place_of, rows_of};
+ghost use Rattle.tv_cert.specs.Choices.{IsMetChoice};
+ghost use Rattle.tv_cert.specs.Obligations.{OwedMet, case_change};
+ghost use Rattle.tv_cert.specs.Owing.{owed_by, falls_where, destination_owes};
 ghost use Rattle.tv_cert.specs.declared.node.Proof.TheVariants.{Covered, Chosen};
 ghost use Rattle.tv_check.specs.Settling.{first_proof};
 
-use crate::choosing::{self, choice_is_met};
+use crate::choosing::choice_is_met;
 use crate::pieces::kept_is_shown;
 use crate::steps::{rows_are_covered, step_is_covered, truth_is_covered};
-use tv_cases::Cases;
+use tv_cases::{Case, Cases};
 use tv_cert::{Destination, Marked, Node, Owes, Proof, joined_piece_at};
 use tv_linear::{ChoiceTree, CoverTree, Row};
 use tv_refute::{Change, Frames, Targets, cover_is_met, shown_rows};
@@ -104,3 +107,109 @@ fn joined_are_covered(
     cover_is_met(columns as usize, &place, &targets, tree)
 }
 
+
+/// Whether the step of the piece over the case is covered by pieces, with a fall where it is owed.
+fn step_is_judged(
+    columns: u32,
+    piece: &Marked,
+    case: &Case,
+    into: &[Marked],
+    falls: bool,
+    tree: &CoverTree,
+) -> bool
+    ensures { IsTrue result ↔ IsMetCover (columns + case.now.draws) (owed_into into.now case.now.to (case_change columns (case_view case.now)) (falls_where falls (case_change columns (case_view case.now)) piece.now)) (as_given (rows_of piece.now) ++ as_given (case_view case.now).guards) tree.now }
+{
+    let rows: &[Row] = &piece.piece.poly.rows;
+    if falls {
+        step_is_covered(columns, rows, case, into, Some(&piece.ranks), tree)
+    } else {
+        step_is_covered(columns, rows, case, into, None, tree)
+    }
+}
+
+/// Whether the choice shows a step from the piece to the destination, or that there is none.
+fn choice_is_judged(
+    about: &Cases,
+    piece: &Marked,
+    stop: bool,
+    destination: &Destination,
+    tree: &ChoiceTree,
+) -> bool
+    ensures { IsTrue result ↔ IsMetChoice (cases_of about.now).variables (cases_of about.now).cases (place_of piece.now) stop (destination_owes (cases_of about.now).variables piece.now destination.now) (as_given (rows_of piece.now)) tree.now }
+{
+    let end = Frames::End;
+    let place = Frames::Rows {
+        rows: &piece.piece.poly.rows,
+        above: &end,
+    };
+    choice_is_met(
+        about.variables(),
+        about.list(),
+        piece,
+        stop,
+        destination,
+        &place,
+        tree,
+    )
+}
+
+/// Whether the tree covers what is owed.
+fn is_covered(about: &Cases, owes: &Owes, tree: &CoverTree) -> bool
+    ensures { IsTrue result ↔ OwedMet (owed_by (cases_of about.now) owes.now) (Some (Covered tree.now)) }
+{
+    let columns = about.variables();
+    match owes {
+        Owes::Rows { piece, lists } => {
+            lists_are_covered(columns, &piece.piece.poly.rows, lists, tree)
+        }
+        Owes::Truth { piece, truth } => {
+            truth_is_covered(columns, &piece.piece.poly.rows, *truth, tree)
+        }
+        Owes::Pieces { piece, into } => rows_are_covered(
+            columns,
+            &piece.piece.poly.rows,
+            piece.piece.location,
+            into,
+            tree,
+        ),
+        Owes::Joined { piece, nodes } => joined_are_covered(
+            columns,
+            &piece.piece.poly.rows,
+            piece.piece.location,
+            nodes,
+            tree,
+        ),
+        Owes::Step {
+            piece,
+            case,
+            into,
+            falls,
+        } => step_is_judged(columns, piece, case, into, *falls, tree),
+        Owes::Choice { .. } => false,
+    }
+}
+
+/// Whether the tree chooses as is owed.
+fn is_chosen(about: &Cases, owes: &Owes, tree: &ChoiceTree) -> bool
+    ensures { IsTrue result ↔ OwedMet (owed_by (cases_of about.now) owes.now) (Some (Chosen tree.now)) }
+{
+    match owes {
+        Owes::Choice {
+            piece,
+            stop,
+            destination,
+        } => choice_is_judged(about, piece, *stop, destination, tree),
+        _ => false,
+    }
+}
+
+/// Whether the first of the proofs meets what is owed.
+pub fn is_met(about: &Cases, owes: &Owes, proofs: &[Proof]) -> bool
+    ensures { IsTrue result ↔ OwedMet (owed_by (cases_of about.now) owes.now) (first_proof proofs.now) }
+{
+    match proofs {
+        [] => false,
+        [Proof::Covered(cover), ..] => is_covered(about, owes, cover.tree()),
+        [Proof::Chosen(choice), ..] => is_chosen(about, owes, choice.tree()),
+    }
+}
