@@ -6,3 +6,5 @@ pub mod SaidLemmas
 pub mod VisitLemmas
 pub mod VisitedCases
 pub mod JoinedLemmas
+pub mod SaidNodes
+pub mod AimLemmas

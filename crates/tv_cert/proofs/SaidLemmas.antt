@@ -10,7 +10,7 @@ use Rattle.tv_cert.specs.Nodes.{parts, kid_pieces, size, entries, kid_entries}
 use Rattle.tv_cert.specs.Statements.{stated, stated_all, parts_of}
 use Rattle.tv_cert.specs.Said.{said_at, said_own, said_entries, said_kids}
 
-parts-stated : (about : About) (f : Property) → parts_of (stated about.tests f) ≡ stated_all about.tests (parts f)
+pub parts-stated : (about : About) (f : Property) → parts_of (stated about.tests f) ≡ stated_all about.tests (parts f)
 parts-stated about (truth b) = refl
 parts-stated about (compare r a b) = refl
 parts-stated about (at l) = refl

@@ -41,3 +41,18 @@ abbrev mutual
   said_kids number system ss end_of-Node = []
   said_kids number system no_statement (more_of-Node a kids) = []
   said_kids number system (statement s ss) (more_of-Node a kids) = said_entries number system s a ++ said_kids (number + size a) system ss kids
+
+-- the node's own entries
+abbrev pub said_own_entries : ℕ → CaseSystem → Statement → Node → List Entry
+said_own_entries number system s (Node' ps m shape kids proofs) = paired (said_own number system s ps.items (kid_pieces kids)) proofs.items
+
+abbrev mutual
+  -- the node and those below it have a child for each argument of what they are to show
+  pub HasParts : Statement → Node → Type 0
+  HasParts s (Node' ps m shape kids proofs) = HaveParts (parts_of s) kids
+
+  pub HaveParts : {k : _} → Statements → Row_of-Node k → Type 0
+  HaveParts no_statement end_of-Node = Unit {0}
+  HaveParts no_statement (more_of-Node a kids) = ⊥
+  HaveParts (statement s ss) end_of-Node = ⊥
+  HaveParts (statement s ss) (more_of-Node a kids) = HasParts s a × HaveParts ss kids

@@ -1,5 +1,5 @@
 -- What a node of a certificate is to show: a normal formula, whose comparisons stand as lists of rows.
-use Rattle.std.specs.Prelude.{ℕ, List}
+use Rattle.std.specs.Prelude.{ℕ, zero, suc, List}
 use Rattle.tv_formula.specs.declared.tree.Path.{Path}
 use Rattle.tv_formula.specs.declared.tree.Shape.{Shape}
 use Rattle.tv_formula.specs.Properties.{Property, truth, compare, at, term, negated, all_of, some_of, next, fix, Properties, none, more}
@@ -62,3 +62,12 @@ parts_of (one_of ss) = ss
 parts_of (after path s) = statement s no_statement
 parts_of (along path shape s t) = statement s (statement t no_statement)
 parts_of unsaid = no_statement
+
+abbrev pub count : Statements → ℕ
+count no_statement = 0
+count (statement s ss) = suc (count ss)
+
+abbrev pub part_at : ℕ → Statements → Statement
+part_at i no_statement = unsaid
+part_at zero (statement s ss) = s
+part_at (suc i) (statement s ss) = part_at i ss

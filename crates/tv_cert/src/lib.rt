@@ -4,6 +4,7 @@
 mod aim;
 mod node;
 mod owes;
+mod parts;
 mod pieces;
 mod plain;
 mod visiting;
@@ -11,6 +12,7 @@ mod visitor;
 
 pub use aim::Aim;
 pub use node::{Kind, Mark, Marked, Node, Proof, Verdict};
+pub use parts::part;
 pub use owes::{Destination, Owes};
 pub use pieces::{joined_piece_at, piece_at};
 pub use plain::Plain;

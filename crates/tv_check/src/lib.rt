@@ -9,6 +9,7 @@ mod judging;
 mod pieces;
 mod progress;
 mod safety;
+mod settler;
 mod steps;
 mod walking;
 
