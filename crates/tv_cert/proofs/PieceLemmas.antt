@@ -1,14 +1,27 @@
-use Rattle.std.proofs.Common.{◌≡◌, ℕ, zero, suc, ◌+◌, ◌-◌, ◌<◌, List, ◌∷◌, length, drop, get_or, arith, refl, sym, ap, ◌∙◌, Some, ◌==◌, cond, drop-cons, true, false}
+use Rattle.std.proofs.Common.{◌≡◌, ℕ, Bool, subst, zero, suc, ◌+◌, ◌-◌, ◌<◌, List, ◌∷◌, length, drop, get_or, arith, refl, sym, ap, ◌∙◌, Some, ◌==◌, cond, drop-cons, true, false}
 use Rattle.std.proofs.lemmas.Bool.Decides.{nat_tests}
-use Rattle.std.specs.Prelude.{slice_get}
+use Rattle.std.proofs.lemmas.Option.{slice_get_within, get_or_from_slice_get}
+use Rattle.std.proofs.lemmas.List.Elements.{All-filter, All-contains_itself, filter_passes}
+use Rattle.std.specs.Prelude.{slice_get, Contains}
 use Rattle.tv_cert.specs.declared.node.Marked.{Marked}
 use Rattle.tv_cert.specs.Pieces.{place_of, pieces_at}
 
-test_true : (a b : ℕ) → a ≡ b → (a == b) ≡ true
+pub test_true : (a b : ℕ) → a ≡ b → (a == b) ≡ true
 test_true a b h = grind (arith, nat_tests)
 
-test_false : (a b : ℕ) → (a ≡ b → ⊥) → (a == b) ≡ false
+pub test_false : (a b : ℕ) → (a ≡ b → ⊥) → (a == b) ≡ false
 test_false a b h = grind (arith, nat_tests)
+
+pub true_test : (a b : ℕ) → (a == b) ≡ true → a ≡ b
+true_test a b h = grind (arith, nat_tests)
+
+-- what stands among the pieces at a location is there, and is one of the pieces
+pub piece_got : (ps : List Marked) (l k : ℕ) (p : Marked) → slice_get (pieces_at ps l) k ≡ Some p → (place_of p ≡ l) × Contains ps p
+piece_got ps l k p e =
+    let test : Marked → Bool = λ q. place_of q == l in
+    let within = slice_get_within (pieces_at ps l) k p e in
+    let is = get_or_from_slice_get (pieces_at ps l) k p p e in
+    (true_test (place_of p) l (subst (λ q. test q ≡ true) is (filter_passes test ps k p within)), subst (Contains ps) is (All-filter test (Contains ps) ps (All-contains_itself ps) k p within))
 
 module _ (ps : List Marked) (l i : ℕ) (p : Marked) (below : i < length ps) (is : p ≡ get_or ps i p) where
   there : drop i ps ≡ p ∷ drop (i + 1) ps

@@ -6,21 +6,16 @@ use Rattle.tv_cases.specs.declared.case.Case.{Case}
 use Rattle.tv_cases.specs.LinearCases.{LinearCase}
 use Rattle.tv_cases.specs.Views.{case_view, case_views}
 use Rattle.tv_cert.specs.Choices.{cases_from}
+use Rattle.tv_cert.proofs.PieceLemmas.{test_true, test_false}
 use Rattle.tv_cert.specs.Obligations.{Obligation, end_sides}
 use Rattle.tv_formula.specs.declared.tree.Shape.{Shape}
 use Rattle.tv_formula.specs.declared.tree.Shape.TheVariants.{Release, Strong}
 
-eq_true : (a b : ℕ) → a ≡ b → (a == b) ≡ true
-eq_true a b h = grind (arith, nat_tests)
-
-eq_false : (a b : ℕ) → (a ≡ b → ⊥) → (a == b) ≡ false
-eq_false a b h = grind (arith, nat_tests)
-
 pub case-here : (step : LinearCase → Obligation) (l : ℕ) (c : Case) → c.from ≡ l → map step (cases_from l (case_views (c ∷ []))) ≡ step (case_view c) ∷ []
-case-here step l c e = ap (λ b. map step (cond b (case_view c ∷ []) [])) (eq_true c.from l e)
+case-here step l c e = ap (λ b. map step (cond b (case_view c ∷ []) [])) (test_true c.from l e)
 
 pub case-elsewhere : (step : LinearCase → Obligation) (l : ℕ) (c : Case) → (c.from ≡ l → ⊥) → map step (cases_from l (case_views (c ∷ []))) ≡ []
-case-elsewhere step l c e = ap (λ b. map step (cond b (case_view c ∷ []) [])) (eq_false c.from l e)
+case-elsewhere step l c e = ap (λ b. map step (cond b (case_view c ∷ []) [])) (test_false c.from l e)
 
 one_more : (step : LinearCase → Obligation) (t : Bool) (c : LinearCase) (cs : List LinearCase) → map step (cond t (c ∷ cs) cs) ≡ map step (cond t (c ∷ []) []) ++ map step cs
 one_more step true c cs = refl

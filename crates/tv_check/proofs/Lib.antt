@@ -1,6 +1,5 @@
-pub mod AheadLemmas
+pub mod WalkLemmas
 pub mod SettlingLemmas
 pub mod ShownLemmas
-pub mod StepLemmas
-pub mod WalkLemmas
 mod DestinationLemmas
+mod RowLemmas

@@ -1,16 +1,6 @@
-use Rattle.std.specs.Prelude.{◌≡◌, ℕ, zero, suc, ◌+◌, List, ◌∷◌, ◌++◌, length}
-use Rattle.tv_formula.specs.Properties.{Property, term, Properties, none, more}
+use Rattle.std.specs.Prelude.{◌≡◌, ℕ, ◌+◌, List, ◌∷◌, ◌++◌, length, Result, MatchResult}
 use Rattle.tv_cert.specs.Obligations.{Entry, IsMetEntry, AllMet}
 use Rattle.tv_check.specs.declared.walking.Failing.{Failing}
-
-abbrev pub count : Properties → ℕ
-count none = 0
-count (more f fs) = suc (count fs)
-
-abbrev pub part_at : ℕ → Properties → Property
-part_at i none = term
-part_at zero (more f fs) = f
-part_at (suc i) (more f fs) = part_at i fs
 
 -- the first entry that is not met, where `from` entries come before the list
 pub record IsFirstFailing (es : List Entry) (from : ℕ) (f : Failing) : Type 0 where
@@ -23,3 +13,7 @@ pub record IsFirstFailing (es : List Entry) (from : ℕ) (f : Failing) : Type 0 
   pub number : f.number ≡ from + length before + 1
   pub node : f.node ≡ failing.obligation.node
   pub kind : f.kind ≡ failing.obligation.kind
+
+-- the answer is that every obligation of the entries is met, or the first that is not
+abbrev pub Checks : List Entry → Result (Unit {0}) Failing → Type 0
+Checks es result = MatchResult result (λ done. AllMet es) (λ f. IsFirstFailing es 0 f)

@@ -1,38 +1,29 @@
-ghost use Rattle.std.specs.Prelude.{◌≡◌, ◌+◌, ◌<◌, ◌^◌, MatchResult};
+ghost use Rattle.std.specs.Prelude.{◌≡◌, ◌↔◌, ◌+◌, ◌++◌, ◌∷◌, [], ◌<◌, ◌^◌, length, All, IsTrue, slice_get};
+ghost use Rattle.std.specs.Option.{option_map};
+ghost use Rattle.tv_linear.specs.Linear.{columns, IsMet};
 ghost use Rattle.tv_cases.specs.Systems.{cases_of};
-ghost use Rattle.tv_check.specs.Plain.{Checks, StartMet};
-ghost use Rattle.tv_cert.specs.Plain.{PlainFits};
+ghost use Rattle.tv_cert.specs.declared.node.Verdict.TheVariants.{Proved, Disproved};
+ghost use Rattle.tv_cert.specs.Pieces.{rows_of, pieces_at};
+ghost use Rattle.tv_cert.specs.Obligations.{PointMet};
+ghost use Rattle.tv_cert.specs.Nodes.{size, pieces_of, root_entry};
+ghost use Rattle.tv_cert.specs.AimViews.{aim_states};
+ghost use Rattle.tv_cert.specs.Listed.{pieces_list};
+ghost use Rattle.tv_cert.specs.Said.{said_entries, HasParts};
+ghost use Rattle.tv_cert.specs.Plain.{about_of};
+ghost use Rattle.tv_check.specs.Walks.{Checks};
+ghost use Rattle.tv_check.specs.Roots.{AreOver, ValuesFit, SettlesRoot};
 
-use crate::duty::Safety;
-use crate::safety::Role;
 use crate::steps::rows_are_covered;
 use crate::walking::{Failing, walk};
 use tv_cases::Cases;
-use tv_cert::{Kind, Node, Plain};
-use tv_linear::Cover;
+use tv_cert::{Aim, Kind, Marked, Node, Verdict, piece_at};
+use tv_linear::{Cover, Row};
+use tv_refute::meets;
 
-/// Checks a certificate that no run reaches the location: `Ok` where all its obligations are met, and else the first that is not.
-///
-/// It takes no memory.
-pub fn check_plain(about: &Cases, location: u32, plain: &Plain) -> Result<(), Failing>
-    requires { PlainFits (cases_of about.now) location plain.now.root plain.now.start }
-    ensures { Checks (cases_of about.now) location plain.now.root plain.now.start result }
-{
-    let duty = Safety {
-        about,
-        location,
-        role: Role::Invariant,
-    };
-    match walk(&duty, 0, &plain.root, 0) {
-        Err(failing) => Err(failing),
-        Ok((seen, _)) => check_start(about, &plain.root, &plain.start, seen),
-    }
-}
-
-/// Settles the last obligation, that the pieces of the root cover the start.
+/// Settles the last obligation where the property is proved: that the pieces of the root cover the start.
 fn check_start(about: &Cases, root: &Node, start: &Cover, seen: u64) -> Result<(), Failing>
     requires { seen + 1 < 2 ^ 64 }
-    ensures { MatchResult result (λ done. StartMet (cases_of about.now) root.now start.now) (λ f. (¬ (StartMet (cases_of about.now) root.now start.now)) × (f ≡ record { number = seen + 1; node = 0; kind = Kind.Root })) }
+    ensures { SettlesRoot (cases_of about.now) root.now (Proved start.now) seen result }
 {
     if rows_are_covered(
         about.variables(),
@@ -43,10 +34,119 @@ fn check_start(about: &Cases, root: &Node, start: &Cover, seen: u64) -> Result<(
     ) {
         Ok(())
     } else {
-        Err(Failing {
-            number: seen + 1,
-            node: 0,
-            kind: Kind::Root,
-        })
+        Err(root_failing(seen))
+    }
+}
+
+/// The root's obligation, where it is not met behind so many others.
+fn root_failing(seen: u64) -> Failing
+    requires { seen + 1 < 2 ^ 64 }
+    ensures { result ≡ record { number = seen + 1; node = 0; kind = Kind.Root } }
+{
+    Failing {
+        number: seen + 1,
+        node: 0,
+        kind: Kind::Root,
+    }
+}
+
+/// Whether the values meet all of the rows.
+fn meets_all(values: &[i128], rows: &[Row]) -> bool
+    requires { All (λ r. columns r ≡ length values.now) rows.now }
+    ensures { IsTrue result ↔ All (IsMet values.now) rows.now }
+{
+    for row in rows {
+        if !meets(values, row) {
+            return false;
+        }
+    }
+    true
+}
+
+/// Whether the values are in the piece at this place among those at the location.
+fn is_inside(pieces: &[Marked], location: u32, piece: u32, values: &[i128]) -> bool
+    requires { AreOver (length values.now) pieces.now }
+    ensures { IsTrue result ↔ PointMet values.now (option_map rows_of (slice_get (pieces_at pieces.now location) piece)) }
+{
+    match piece_at(pieces, location, piece) {
+        None => false,
+        Some(inside) => meets_all(values, &inside.piece.poly.rows),
+    }
+}
+
+/// Settles the last obligation where the property is disproved: that the values are in this piece of the root at the start.
+fn check_values(
+    about: &Cases,
+    root: &Node,
+    piece: u32,
+    values: &Vec<i128>,
+    seen: u64,
+) -> Result<(), Failing>
+    requires room { seen + 1 < 2 ^ 64 }
+    requires over { AreOver (length values.now.items) (pieces_list root.now) }
+    ensures { SettlesRoot (cases_of about.now) root.now (Disproved piece values.now) seen result }
+{
+    if is_inside(&root.pieces, about.start(), piece, values) {
+        Ok(())
+    } else {
+        Err(root_failing(seen))
+    }
+}
+
+/// Checks a certificate that what the root is to show holds at the start: `Ok` where all its obligations are met, and else the first that is not.
+///
+/// It takes no memory.
+pub fn check_proved(
+    about: &Cases,
+    aim: &Aim,
+    root: &Node,
+    start: &Cover,
+) -> Result<(), Failing>
+    requires parts { HasParts (aim_states aim.now) root.now }
+    requires room { length (said_entries 0 (cases_of about.now) (aim_states aim.now) root.now) + 1 < 2 ^ 64 }
+    requires nodes { size root.now < 2 ^ 32 }
+    ensures { Checks (said_entries 0 (cases_of about.now) (aim_states aim.now) root.now ++ root_entry (about_of (cases_of about.now)) (pieces_of root.now) (Proved start.now) ∷ []) result }
+{
+    match walk(about, aim, 0, root, 0) {
+        Err(failing) => Err(failing),
+        Ok((seen, _)) => check_start(about, root, start, seen),
+    }
+}
+
+/// Checks a certificate that what the root is to show holds at the start with these values, which are in this piece of the root there.
+///
+/// It takes no memory.
+pub fn check_disproved(
+    about: &Cases,
+    aim: &Aim,
+    root: &Node,
+    piece: u32,
+    values: &Vec<i128>,
+) -> Result<(), Failing>
+    requires parts { HasParts (aim_states aim.now) root.now }
+    requires room { length (said_entries 0 (cases_of about.now) (aim_states aim.now) root.now) + 1 < 2 ^ 64 }
+    requires nodes { size root.now < 2 ^ 32 }
+    requires over { AreOver (length values.now.items) (pieces_list root.now) }
+    ensures { Checks (said_entries 0 (cases_of about.now) (aim_states aim.now) root.now ++ root_entry (about_of (cases_of about.now)) (pieces_of root.now) (Disproved piece values.now) ∷ []) result }
+{
+    match walk(about, aim, 0, root, 0) {
+        Err(failing) => Err(failing),
+        Ok((seen, _)) => check_values(about, root, piece, values, seen),
+    }
+}
+
+/// Checks a certificate against what its root is to show: `Ok` where all its obligations are met, and else the first that is not.
+///
+/// It takes no memory.
+pub fn check(about: &Cases, aim: &Aim, root: &Node, verdict: &Verdict) -> Result<(), Failing>
+    requires parts { HasParts (aim_states aim.now) root.now }
+    requires room { length (said_entries 0 (cases_of about.now) (aim_states aim.now) root.now) + 1 < 2 ^ 64 }
+    requires nodes { size root.now < 2 ^ 32 }
+    requires over { ValuesFit verdict.now (pieces_list root.now) }
+    ensures { Checks (said_entries 0 (cases_of about.now) (aim_states aim.now) root.now ++ root_entry (about_of (cases_of about.now)) (pieces_of root.now) verdict.now ∷ []) result }
+{
+    match verdict {
+        Verdict::Proved(start) => check_proved(about, aim, root, start),
+        Verdict::Disproved { piece, values } => check_disproved(about, aim, root, *piece, values),
     }
 }

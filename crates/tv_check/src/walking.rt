@@ -1,12 +1,14 @@
-ghost use Rattle.std.specs.Prelude.{◌≡◌, ℕ, ◌+◌, ◌<◌, ◌^◌, length, MatchResult};
-ghost use Rattle.tv_formula.specs.Properties.{Property};
-ghost use Rattle.tv_cert.specs.Obligations.{About, AllMet};
-ghost use Rattle.tv_cert.specs.Nodes.{parts, size, entries};
-ghost use Rattle.tv_cert.specs.Fits.{NodeFits};
-ghost use Rattle.tv_check.specs.Walks.{count, part_at, IsFirstFailing};
-ghost use Rattle.tv_cert.specs.Listed.{own_entries};
+ghost use Rattle.std.specs.Prelude.{◌≡◌, ◌+◌, ◌<◌, ◌^◌, length, MatchResult};
+ghost use Rattle.tv_cases.specs.Systems.{cases_of};
+ghost use Rattle.tv_cert.specs.Obligations.{AllMet};
+ghost use Rattle.tv_cert.specs.Nodes.{size};
+ghost use Rattle.tv_cert.specs.AimViews.{aim_states};
+ghost use Rattle.tv_cert.specs.Said.{said_entries, said_own_entries, HasParts};
+ghost use Rattle.tv_check.specs.Walks.{IsFirstFailing};
 
-use tv_cert::{Kind, Node};
+use crate::settler::Settler;
+use tv_cases::Cases;
+use tv_cert::{Aim, Kind, Node, part, visit_pieces};
 
 /// An obligation that is not met.
 #[derive(Clone, Copy, Debug, PartialEq, Eq)]
@@ -16,36 +18,55 @@ pub struct Failing {
     pub kind: Kind,
 }
 
-/// What a node is to show.
-pub trait Duty: Drop + Sized {
-    ghost about: { Self → About };
-
-    ghost formula: { Self → Property };
-
-    /// What a child is to show.
-    fn part(&self, i: usize) -> Self
-        requires { i < count (parts (formula self.now)) }
-        ensures is { formula result ≡ part_at i (parts (formula self.now)) }
-        ensures same { about result ≡ about self.now };
-
-    /// The first of the node's own obligations that is not met, or how many have been seen.
-    fn own(&self, number: u32, node: &Node, from: u64) -> Result<u64, Failing>
-        requires { from + length (own_entries number (about self.now) (formula self.now) node.now) < 2 ^ 64 }
-        ensures { MatchResult result (λ n. AllMet (own_entries number (about self.now) (formula self.now) node.now) × (n ≡ from + length (own_entries number (about self.now) (formula self.now) node.now))) (λ f. IsFirstFailing (own_entries number (about self.now) (formula self.now) node.now) from f) };
+/// The first of the node's own obligations that is not met, or how many obligations have been seen.
+fn settle_node(
+    about: &Cases,
+    aim: &Aim,
+    number: u32,
+    node: &Node,
+    seen: u64,
+) -> Result<u64, Failing>
+    requires { seen + length (said_own_entries number (cases_of about.now) (aim_states aim.now) node.now) < 2 ^ 64 }
+    ensures { MatchResult result (λ n. AllMet (said_own_entries number (cases_of about.now) (aim_states aim.now) node.now) × (n ≡ seen + length (said_own_entries number (cases_of about.now) (aim_states aim.now) node.now))) (λ f. IsFirstFailing (said_own_entries number (cases_of about.now) (aim_states aim.now) node.now) seen f) }
+{
+    let mut settler = Settler {
+        seen,
+        proofs: &node.proofs,
+        failing: None,
+    };
+    if visit_pieces(
+        &mut settler,
+        about,
+        number,
+        aim,
+        &node.pieces,
+        &node.children,
+    ) {
+        return Ok(settler.seen);
+    }
+    match settler.failing {
+        Some(failing) => Err(failing),
+        None => unreachable!(),
+    }
 }
 
 /// The first obligation of the node and of those below it that is not met, or how many have been seen, and the next node's number.
-pub fn walk<D: Duty>(duty: &D, number: u32, node: &Node, from: u64) -> Result<(u64, u32), Failing>
-    requires fits { NodeFits (D.about duty.now).system.variables (D.formula duty.now) node.now }
-    requires room { from + length (entries number (D.about duty.now) (D.formula duty.now) node.now) < 2 ^ 64 }
+pub fn walk(
+    about: &Cases,
+    aim: &Aim,
+    number: u32,
+    node: &Node,
+    from: u64,
+) -> Result<(u64, u32), Failing>
+    requires parts { HasParts (aim_states aim.now) node.now }
+    requires room { from + length (said_entries number (cases_of about.now) (aim_states aim.now) node.now) < 2 ^ 64 }
     requires nodes { number + size node.now < 2 ^ 32 }
-    ensures { MatchResult result (λ p. AllMet (entries number (D.about duty.now) (D.formula duty.now) node.now) × (p.0 ≡ from + length (entries number (D.about duty.now) (D.formula duty.now) node.now)) × (p.1 ≡ number + size node.now)) (λ f. IsFirstFailing (entries number (D.about duty.now) (D.formula duty.now) node.now) from f) }
+    ensures { MatchResult result (λ p. AllMet (said_entries number (cases_of about.now) (aim_states aim.now) node.now) × (p.0 ≡ from + length (said_entries number (cases_of about.now) (aim_states aim.now) node.now)) × (p.1 ≡ number + size node.now)) (λ f. IsFirstFailing (said_entries number (cases_of about.now) (aim_states aim.now) node.now) from f) }
 {
     let mut seen = from;
     let mut next = number + 1;
     for (i, child) in node.children.iter().enumerate() {
-        let part = duty.part(i);
-        match walk(&part, next, child, seen) {
+        match walk(about, part(aim, i), next, child, seen) {
             Err(failing) => return Err(failing),
             Ok((more, after)) => {
                 seen = more;
@@ -53,7 +74,7 @@ pub fn walk<D: Duty>(duty: &D, number: u32, node: &Node, from: u64) -> Result<(u
             }
         }
     }
-    match duty.own(number, node, seen) {
+    match settle_node(about, aim, number, node, seen) {
         Err(failing) => Err(failing),
         Ok(more) => Ok((more, next)),
     }

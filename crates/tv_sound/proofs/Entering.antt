@@ -23,7 +23,7 @@ use Rattle.tv_cert.specs.Pieces.{place_of, rows_of, ranks_of, goes, InMarked, In
 use Rattle.tv_cert.specs.Targets.{owed_into, target_rows, no_fall, fall_from}
 use Rattle.tv_cert.specs.Obligations.{case_change}
 use Rattle.tv_cert.specs.Fits.{PieceFits}
-use Rattle.tv_sound.proofs.Membership.{filter_got, eq_true}
+use Rattle.tv_cert.proofs.PieceLemmas.{piece_got}
 use Rattle.tv_sound.proofs.Shown.{PieceCovered, StepCovered}
 
 -- ---- lists
@@ -60,13 +60,13 @@ pub record Entered (xs : List ℤ) (into : List Marked) (l : ℕ) (change : Line
 
 entered_some : (xs : List ℤ) (into : List Marked) (l : ℕ) (change : Linear → Known) (fall : Marked → ℕ → Option (List Known)) (q : Marked) (k j : ℕ) (rows : List Known) → slice_get (pieces_at into l) k ≡ Some q → option_map (λ falls. map change (rows_of q) ++ falls) (fall q j) ≡ Some rows → All (IsKnownMet xs) rows → Entered xs into l change fall
 entered_some xs into l change fall q k j rows g e h =
-    let got = filter_got (λ p. place_of p == l) into k q g in
+    let got = piece_got into l k q g in
     let w = joined_is (map change (rows_of q)) (fall q j) rows e in
     let all = subst (All (IsKnownMet xs)) (sym w.2) h in
     record {
       piece = q;
       among = got.1;
-      place = eq_true (place_of q) l got.0;
+      place = got.0;
       rows = All-left (IsKnownMet xs) (map change (rows_of q)) w.0 all;
       number = j;
       falls = w.0;

@@ -31,16 +31,3 @@ pub Contains-flat_map : {A B : Type 0} (f : A → List B) (xs : List A) (x : A) 
 Contains-flat_map f [] x y c d = absurd (omega arith)
 Contains-flat_map f (a ∷ xs) x y (zero, l, e) d = Contains-append_left (f a) (flat_map f xs) y (subst (λ z. Contains (f z) y) (sym e) d)
 Contains-flat_map f (a ∷ xs) x y (suc k, l, e) d = Contains-append_right (f a) (flat_map f xs) y (Contains-flat_map f xs x y (k, omega arith, e) d)
-
-pub eq_is : (a b : ℕ) → a ≡ b → (a == b) ≡ true
-eq_is a b h = grind (arith, nat_tests)
-
-pub eq_true : (a b : ℕ) → (a == b) ≡ true → a ≡ b
-eq_true a b h = grind (arith, nat_tests)
-
--- what is gotten from a filtered list passes, and is in the list
-pub filter_got : {X : Type 0} (test : X → Bool) (xs : List X) (k : ℕ) (x : X) → slice_get (filter test xs) k ≡ Some x → (test x ≡ true) × Contains xs x
-filter_got test xs k x e =
-    let within = slice_get_within (filter test xs) k x e in
-    let is = get_or_from_slice_get (filter test xs) k x x e in
-    (subst (λ y. test y ≡ true) is (filter_passes test xs k x within), subst (Contains xs) is (All-filter test (Contains xs) xs (All-contains_itself xs) k x within))

@@ -28,7 +28,7 @@ use Rattle.tv_cert.specs.Obligations as obligations
 use Rattle.tv_cert.specs.Obligations.{About, Obligation, Entry, AllMet, cover_of, atom_of, steps_of, choice_of, choice_into, step_fall, choice_fall, truth_targets, hold_side, end_sides, go_of, fix_of, piece_of, own_of, paired}
 use Rattle.tv_cert.specs.Nodes.{pieces_of, kid_pieces, parts, entries, kid_entries, size}
 use Rattle.tv_cert.specs.Fits.{PieceFits, ProofFits, MarksFit, OwnFits, NodeFits, KidsFit}
-use Rattle.tv_sound.proofs.Membership.{eq_true, eq_is}
+use Rattle.tv_cert.proofs.PieceLemmas.{true_test, test_true}
 use Rattle.tv_sound.proofs.Shown.{PieceCovered, AtomCovered, AllStepsCovered, HasChoice}
 use Rattle.tv_sound.proofs.Entering.{piece_covered}
 use Rattle.tv_sound.proofs.Regions.{Placed, lands, onward, term_sound, noterm_sound, weak_every_sound, until_every_sound, until_any_sound, weak_any_sound}
@@ -51,11 +51,11 @@ truth_target true lines h = refl
 truth_target false lines h = absurd (omega arith)
 
 same_place : (here l : ℕ) → IsTrue (here == l) → here ≡ l
-same_place here l h = eq_true here l h
+same_place here l h = true_test here l h
 
 not_same : (here l : ℕ) (b : Bool) → (here == l) ≡ b → IsTrue (not b) → here ≡ l → ⊥
 not_same here l true e h k = cc
-not_same here l false e h k = let t = eq_is here l k in cc
+not_same here l false e h k = let t = test_true here l k in cc
 
 placed : (n : ℕ) (ps : List Marked) (s : State) → length s.values ≡ n → (h : InPieces ps s) → Placed n ps s
 placed n ps s wide h = record { piece = h.piece; among = h.among; inside = h.inside; wide = wide }

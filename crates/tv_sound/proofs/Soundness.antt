@@ -25,7 +25,7 @@ use Rattle.tv_cert.specs.Obligations.{About, IsMetEntry, AllMet, PointMet}
 use Rattle.tv_cert.specs.Nodes.{pieces_of, entries, root_entry, obligations}
 use Rattle.tv_cert.specs.Fits.{NodeFits}
 use Rattle.tv_cert.specs.Plain.{about_of, never_at, PlainFits, PlainMet}
-use Rattle.tv_sound.proofs.Membership.{filter_got, eq_true}
+use Rattle.tv_cert.proofs.PieceLemmas.{piece_got}
 use Rattle.tv_sound.proofs.Entering.{entered, wide_after}
 use Rattle.tv_sound.proofs.NodesSound.{TestsShow, node_sound, AllMet-left, AllMet-right}
 
@@ -60,8 +60,8 @@ proved_sound p about of_program steps tests property root tree fits met s initia
 point_inside : (about : About) (ps : List Marked) (s : State) (k : ℕ) (o : Option Marked) → s.location ≡ about.system.start → slice_get (pieces_at ps about.system.start) k ≡ o → PointMet s.values (option_map rows_of o) → InPieces ps s
 point_inside about ps s k None start e h = absurd h
 point_inside about ps s k (Some q) start e h =
-    let got = filter_got (λ p. place_of p == about.system.start) ps k q e in
-    record { piece = q; among = got.1; inside = record { place = start ∙ sym (eq_true (place_of q) about.system.start got.0); rows = h } }
+    let got = piece_got ps about.system.start k q e in
+    record { piece = q; among = got.1; inside = record { place = start ∙ sym got.0; rows = h } }
 
 -- disproved: it fails at the initial state with the values
 pub disproved_sound : (p : System) (about : About) → IsOfProgram p about.system → HaveSameSteps p about.system → TestsShow about → (property : Property) (root : Node) (k : ℕ) (values : _) → NodeFits about.system.variables (negation property) root → AllMet (obligations about (negation property) root (Disproved k values)) → length values.items ≡ about.system.variables → Holds (Steps p) property (record { location = p.start; values = values.items }) → ⊥

@@ -1,0 +1,1 @@
+use Rattle.tv_check.proofs.checking.check.Goals as goal
