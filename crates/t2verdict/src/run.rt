@@ -7,6 +7,7 @@ use crate::status::Status;
 use crate::words::Question;
 use std::alloc::Global;
 use tv_cases::{CaseFault, cases};
+use tv_cert::Aim;
 use tv_cert_text::{PlainFault, read_plain_certificate};
 use tv_given::split_texts;
 use tv_sound::check_safety;
@@ -41,7 +42,11 @@ fn decide(alloc: Global, bytes: &[u8], label: &str) -> Answer
         Err(PlainFault::Unbuilt) => return Answer::CertificateUnbuilt,
         Err(PlainFault::Memory) => return Answer::Memory,
     };
-    match check_safety(&program, &about, location, &plain) {
+    let aim = match Aim::never_at(alloc, location) {
+        Ok(aim) => aim,
+        Err(_) => return Answer::Memory,
+    };
+    match check_safety(&program, &about, &aim, location, &plain) {
         Ok(()) => Answer::Proved,
         Err(failing) => Answer::Obligation(failing),
     }

@@ -1,5 +1,5 @@
 -- What an aim with a list of parts states.
-use Rattle.std.proofs.Common.{◌≡◌, ℕ, zero, suc, ◌<◌, List, [], ◌∷◌, length, map, get_or, Vec, Global, refl, sym, ap, ◌∙◌, subst, arith}
+use Rattle.std.proofs.Common.{◌≡◌, ℕ, zero, suc, ◌<◌, List, [], ◌∷◌, length, get_or, refl, ap, arith}
 use Rattle.tv_cert.specs.declared.aim.Aim.{Aim}
 use Rattle.tv_cert.specs.Statements.{Statement, count, part_at}
 use Rattle.tv_cert.specs.AimViews.{statements_of, aim_states, aims_state}

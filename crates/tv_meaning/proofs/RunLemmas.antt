@@ -1,4 +1,4 @@
-use Rattle.std.proofs.Common.{◌≡◌, ℕ, ◌⊎◌, inl, inr, ◌+◌, List, [], ◌∷◌, arith, refl, subst, ◌≤◌, sym}
+use Rattle.std.proofs.Common.{◌≡◌, ℕ, ◌⊎◌, inl, inr, ◌+◌, [], ◌∷◌, arith, refl, subst, ◌≤◌, sym}
 use Rattle.tv_meaning.specs.Runs.{WeakEvery, UntilAny, WeakAnyFails, Must, reached, further, Ends, all_end}
 
 -- no endless list of steps begins at a state of Ends

@@ -1,10 +1,9 @@
 -- What a list contains, by what it was made from.
-use Rattle.std.proofs.Common.{◌≡◌, ℕ, zero, suc, List, [], ◌∷◌, Bool, true, false, arith, refl, sym, ap, subst, ◌==◌, cond, ◌∙◌, slice_get, Some}
+use Rattle.std.proofs.Common.{◌≡◌, ℕ, zero, suc, List, [], ◌∷◌, Bool, true, false, arith, sym, ap, subst, cond, ◌∙◌, slice_get, Some}
 use Rattle.std.specs.Prelude.{Contains}
 use Rattle.std.specs.List.{filter, flat_map, AllZip}
-use Rattle.std.proofs.lemmas.Bool.Decides.{nat_tests}
 use Rattle.std.proofs.lemmas.Option.{slice_get_within, get_or_from_slice_get}
-use Rattle.std.proofs.lemmas.List.Elements.{Contains-append_left, Contains-append_right, All-filter, All-contains_itself, filter_passes}
+use Rattle.std.proofs.lemmas.List.Elements.{Contains-append_left, Contains-append_right}
 use Rattle.tv_cases.proofs.Listed.{Contains-here, Contains-later}
 
 pub got_in : {X : Type 0} (xs : List X) (k : ℕ) (x : X) → slice_get xs k ≡ Some x → Contains xs x

@@ -1,10 +1,9 @@
 -- Where the obligations of a node and of those below it are met, its formula holds at every state of its pieces.
-use Rattle.std.proofs.Common.{◌≡◌, ℕ, zero, suc, ◌+◌, ◌⊎◌, inl, inr, List, [], ◌∷◌, ◌++◌, length, Option, None, Some, Bool, true, false, not, IsTrue, All, arith, refl, sym, subst, ℤ, ◌==◌, ◌∙◌}
-use Rattle.std.specs.Prelude.{slice_get, Contains}
+use Rattle.std.proofs.Common.{◌≡◌, ℕ, zero, suc, ◌+◌, ◌⊎◌, inl, inr, List, [], ◌∷◌, ◌++◌, length, Option, Bool, true, false, not, IsTrue, All, arith, refl, sym, subst, ℤ, ◌==◌, ◌∙◌}
+use Rattle.std.specs.Prelude.{Contains}
 use Rattle.std.specs.List.{flat_map}
-use Rattle.std.proofs.lemmas.List.Elements.{All-nil}
-use Rattle.tv_linear.specs.Linear.{Linear, IsMet}
-use Rattle.tv_linear.specs.Known.{Known, given, IsKnownMet, as_given}
+use Rattle.tv_linear.specs.Linear.{Linear}
+use Rattle.tv_linear.specs.Known.{Known, IsKnownMet, as_given}
 use Rattle.tv_program.specs.declared.tree.Relation.{Relation}
 use Rattle.tv_program.specs.Trees.{Expression}
 use Rattle.tv_program.specs.Meaning.{value_of, compares}
@@ -22,14 +21,14 @@ use Rattle.tv_cert.specs.declared.node.Kind.TheVariants as kind
 use Rattle.tv_cert.specs.declared.node.Marked.{Marked}
 use Rattle.tv_cert.specs.declared.node.Proof.{Proof}
 use Rattle.tv_cert.specs.declared.node.Node.{Node, Node', Row_of-Node, end_of-Node, more_of-Node}
-use Rattle.tv_cert.specs.Pieces.{place_of, rows_of, goes, InMarked, InPieces}
+use Rattle.tv_cert.specs.Pieces.{place_of, goes, InMarked, InPieces}
 use Rattle.tv_cert.specs.Targets.{no_fall, owed_nothing}
 use Rattle.tv_cert.specs.Obligations as obligations
 use Rattle.tv_cert.specs.Obligations.{About, Obligation, Entry, AllMet, cover_of, atom_of, steps_of, choice_of, choice_into, step_fall, choice_fall, truth_targets, hold_side, end_sides, go_of, fix_of, piece_of, own_of, paired}
 use Rattle.tv_cert.specs.Nodes.{pieces_of, kid_pieces, parts, entries, kid_entries, size}
-use Rattle.tv_cert.specs.Fits.{PieceFits, ProofFits, MarksFit, OwnFits, NodeFits, KidsFit}
+use Rattle.tv_cert.specs.Fits.{PieceFits, ProofFits, OwnFits, NodeFits, KidsFit}
 use Rattle.tv_cert.proofs.PieceLemmas.{true_test, test_true}
-use Rattle.tv_sound.proofs.Shown.{PieceCovered, AtomCovered, AllStepsCovered, HasChoice}
+use Rattle.tv_sound.proofs.Shown.{AllStepsCovered, HasChoice}
 use Rattle.tv_sound.proofs.Entering.{piece_covered}
 use Rattle.tv_sound.proofs.Regions.{Placed, lands, onward, term_sound, noterm_sound, weak_every_sound, until_every_sound, until_any_sound, weak_any_sound}
 use Rattle.tv_sound.proofs.Offered.{has_cover, has_atom, has_steps, has_choice, atom_meets}

@@ -1,5 +1,5 @@
 -- No list of ranks falls for ever.
-use Rattle.std.proofs.Common.{◌≡◌, ℕ, zero, suc, ◌⊎◌, inl, inr, ◌+◌, List, [], ◌∷◌, arith, refl, ◌<◌, ◌≤◌, sym, ap, ◌∙◌, length, ℤ, pos, ◌+ℤ◌, ◌≤ℤ◌}
+use Rattle.std.proofs.Common.{◌≡◌, ℕ, zero, suc, ◌⊎◌, inl, inr, List, [], ◌∷◌, arith, refl, ◌<◌, ◌≤◌, sym, ap, ◌∙◌, length, ℤ, pos, ◌+ℤ◌, ◌≤ℤ◌}
 use Rattle.std.proofs.lemmas.Int.{ints}
 use borrow.Author.Differences.{up}
 use Rattle.tv_linear.specs.Falls.{FallsAt, Falls}

@@ -1,13 +1,12 @@
 -- What a certificate all of whose obligations are met shows of a program.
-use Rattle.std.proofs.Common.{◌≡◌, ℕ, List, [], ◌∷◌, ◌++◌, length, Option, None, Some, arith, refl, sym, ◌∙◌, slice_get, ◌==◌}
+use Rattle.std.proofs.Common.{◌≡◌, ℕ, List, [], ◌∷◌, length, Option, None, Some, arith, refl, sym, ◌∙◌, slice_get}
 use Rattle.std.proofs.lemmas.List.Elements.{All-nil}
-use Rattle.tv_linear.specs.Linear.{IsMet}
 use Rattle.tv_linear.specs.Known.{given, IsKnownMet}
 use Rattle.tv_linear.specs.declared.cover.CoverTree.{CoverTree}
 use Rattle.tv_linear.proofs.KnownLemmas.{met-as_given}
 use Rattle.std.specs.Option.{option_map}
 use Rattle.tv_program.specs.Systems.{System}
-use Rattle.tv_program.specs.Steps.{State, Steps, IsInitial}
+use Rattle.tv_program.specs.Steps.{State, Steps}
 use Rattle.tv_formula.specs.Properties.{Property}
 use Rattle.tv_formula.specs.Normal.{normal, negation}
 use Rattle.tv_meaning.specs.Meaning.{Holds, HoldsInitially}
@@ -19,7 +18,7 @@ use Rattle.tv_cert.specs.declared.node.Marked.{Marked}
 use Rattle.tv_cert.specs.declared.node.Node.{Node}
 use Rattle.tv_cert.specs.declared.node.Verdict.{Verdict}
 use Rattle.tv_cert.specs.declared.node.Verdict.TheVariants.{Proved, Disproved}
-use Rattle.tv_cert.specs.Pieces.{place_of, rows_of, pieces_at, InPieces}
+use Rattle.tv_cert.specs.Pieces.{rows_of, pieces_at, InPieces}
 use Rattle.tv_cert.specs.Targets.{no_fall}
 use Rattle.tv_cert.specs.Obligations.{About, IsMetEntry, AllMet, PointMet}
 use Rattle.tv_cert.specs.Nodes.{pieces_of, entries, root_entry, obligations}

@@ -1,4 +1,4 @@
-use Rattle.std.proofs.Common.{◌≡◌, ◌<◌, get_or, length, sym, arith, rules}
+use Rattle.std.proofs.Common.{◌≡◌, get_or, arith}
 use Rattle.std.proofs.lemmas.Grind.{common_steps}
 use Rattle.tv_cert.proofs.AimLemmas.{many_parts, nth_part}
 use Rattle.tv_cert.proofs.parts.nth.Goals as goal

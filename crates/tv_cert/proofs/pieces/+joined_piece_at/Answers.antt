@@ -1,4 +1,4 @@
-use Rattle.std.proofs.Common.{◌≡◌, ◌+◌, ◌-◌, ◌<◌, ◌∙◌, length, subst, sym, ap, arith, slice_get, Some, None}
+use Rattle.std.proofs.Common.{◌≡◌, ◌-◌, ◌<◌, ◌∙◌, length, subst, sym, ap, arith, slice_get, Some, None}
 use Rattle.std.specs.Prelude.{MatchOption}
 use Rattle.tv_cert.specs.Pieces.{pieces_at}
 use Rattle.tv_cert.specs.Listed.{pieces_list}

@@ -1,1 +1,0 @@
-use Rattle.tv_check.proofs.checking.check.Goals as goal

@@ -1,4 +1,3 @@
-use Rattle.std.proofs.Common.{◌∷◌, [], ◌++◌}
 use Rattle.tv_cases.specs.Systems.{cases_of}
 use Rattle.tv_cert.specs.declared.node.Verdict.TheVariants.{Disproved}
 use Rattle.tv_cert.specs.AimViews.{aim_states}

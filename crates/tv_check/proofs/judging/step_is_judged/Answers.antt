@@ -1,4 +1,4 @@
-use Rattle.std.proofs.Common.{◌≡◌, ◌↔◌, ◌+◌, ◌++◌, IsTrue, Bool, List, Option, ℕ, subst, sym}
+use Rattle.std.proofs.Common.{◌↔◌, ◌+◌, ◌++◌, IsTrue, List, Option, ℕ, subst, sym}
 use Rattle.tv_linear.specs.Known.{Known, as_given}
 use Rattle.tv_linear.specs.Covers.{IsMetCover}
 use Rattle.tv_cases.specs.Views.{case_view}

@@ -3,7 +3,7 @@ use Rattle.tv_cases.specs.Systems.{cases_of}
 use Rattle.tv_cert.specs.Obligations.{AllMet}
 use Rattle.tv_cert.specs.Nodes.{size}
 use Rattle.tv_cert.specs.AimViews.{aim_states}
-use Rattle.tv_cert.specs.Statements.{Statement, parts_of, part_at}
+use Rattle.tv_cert.specs.Statements.{Statement, parts_of}
 use Rattle.tv_cert.specs.Said.{said_entries, said_own_entries, HasParts}
 use Rattle.tv_check.specs.Walks.{IsFirstFailing}
 use Rattle.tv_cert.proofs.NodeLemmas.{kids_of, size_is}
