@@ -1,5 +1,5 @@
 ghost use Rattle.std.specs.Prelude.{◌≡◌, ◌<◌, ◌≤◌, ◌↔◌, ◌∷◌, ◌++◌, ℕ, List, [], IfOk, IfSome, OnOk, OnErr, IsTrue, Some, is_some, false, length, slice_get};
-ghost use Rattle.std.specs.List.{list_any};
+ghost use Rattle.std.specs.List.{list_any, IsDistinct};
 ghost use Rattle.std.specs.Str.{bytes_eq};
 ghost use Rattle.tv_program.specs.Words.{number_of, number_with, words_with};
 
@@ -40,6 +40,8 @@ impl Names {
     pub fn len(&self) -> u32
         ensures counted { result ≡ length self.now }
         ensures few { result ≤ 65536 }
+        // No two of the texts are the same.
+        ensures distinct { IsDistinct bytes_eq self.now }
     {
         self.texts.len() as u32
     }
@@ -60,6 +62,17 @@ impl Names {
             Some(text) => text.as_slice(),
             None => b"",
         }
+    }
+
+    /// The same texts, in memory of their own.
+    pub fn copy(&self) -> Result<Names, AllocError>
+        ensures { IfOk result (λ copy. copy ≡ self.now) }
+    {
+        let mut copy = Names::new(self.alloc);
+        for number in 0..self.len() {
+            copy.append(self.text(number))?;
+        }
+        Ok(copy)
     }
 
     /// The number of a text.

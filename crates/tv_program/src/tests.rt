@@ -17,6 +17,9 @@ fn numbers_texts_in_the_order_first_seen(rt: HostRuntime) -> Result<(), Fail> {
     if names.len() > 1 {
         assert!(rt; names.text(1) == b"y".as_slice());
     }
+    let copy = names.copy()?;
+    assert_eq!(rt; copy.find(b"y"), Some(1));
+    assert_eq!(rt; copy.len(), 3);
     Ok(())
 }
 
