@@ -15,3 +15,4 @@ pub mod EdgeLimits
 pub mod EdgeRoom
 pub mod CaseLimits
 pub mod BeforeValue
+pub mod ComparisonLemmas

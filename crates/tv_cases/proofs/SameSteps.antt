@@ -36,7 +36,7 @@ only_if-some false vs ys h = cc
 at_most-true : (z : ℤ) → int_le z (pos 0) ≡ true → z ≤ℤ pos 0
 at_most-true z h = grind (arith, ints)
 
-true-at_most : (z : ℤ) → z ≤ℤ pos 0 → int_le z (pos 0) ≡ true
+pub true-at_most : (z : ℤ) → z ≤ℤ pos 0 → int_le z (pos 0) ≡ true
 true-at_most z h = grind (arith, ints)
 
 get_or-values : (point : List ℤ) (ts : List Linear) (k : ℕ) (d : Linear) → k < length ts → get_or (values point ts) k (pos 0) ≡ value (get_or ts k d) point

@@ -14,3 +14,4 @@ pub mod Assigned
 pub mod EdgeFaults
 pub mod Answers
 pub mod Before
+pub mod Comparisons

@@ -19,7 +19,7 @@ use tv_linear::Row;
 use tv_program::{Cond, Expr, Relation};
 
 /// The lists of rows of a comparison of two expressions.
-fn comparison(
+pub(crate) fn comparison(
     alloc: Global,
     relation: Relation,
     left: &Expr,

@@ -27,7 +27,7 @@ pub(crate) struct Reached {
 }
 
 /// At first each variable's term is itself.
-fn identity(alloc: Global, variables: u32, width: u32) -> Result<Vec<Row>, AllocError>
+pub(crate) fn identity(alloc: Global, variables: u32, width: u32) -> Result<Vec<Row>, AllocError>
     requires few { width < 2 ^ 32 - 1 }
     requires within { variables ≤ width }
     ensures exact { IfOk result (λ v. v.items ≡ columns_from width 0 variables) }

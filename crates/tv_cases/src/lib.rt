@@ -4,6 +4,7 @@
 mod amount;
 mod backward;
 mod case;
+mod comparisons;
 mod conditions;
 mod edges;
 mod fault;
@@ -18,5 +19,6 @@ mod tests;
 
 pub use backward::before;
 pub use case::{Case, CaseFault, Cases};
+pub use comparisons::comparison_lists;
 pub use program::cases;
 pub use tv_linear::Update;

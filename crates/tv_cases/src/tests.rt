@@ -4,7 +4,7 @@ use super::*;
 use std::alloc::Global;
 use std::test::Fail;
 use tv_linear::{Poly, Row, Update};
-use tv_program::{Edge, Names, Program};
+use tv_program::{Edge, Expr, Names, Program, Relation};
 
 fn row(alloc: Global, coefficients: &[i128], constant: i128) -> Result<Row, Fail>
     requires { length coefficients.now < 2 ^ 32 - 1 }
@@ -62,5 +62,36 @@ fn an_edge_without_commands_is_one_case(rt: HostRuntime) -> Result<(), Fail> {
     assert_eq!(rt; cases.list().len(), 1);
     assert_eq!(rt; cases.list()[0].draws, 2);
     assert_eq!(rt; cases.list()[0].guards.columns, 2);
+    Ok(())
+}
+
+/// Whether the first of the lists is one row over one variable.
+fn begins_with(lists: &[Vec<Row>], coefficient: i128, constant: i128) -> bool {
+    match lists {
+        [] => false,
+        [list, ..] => match list.as_slice() {
+            [row] => is(row, &[coefficient], constant),
+            _ => false,
+        },
+    }
+}
+
+#[test]
+fn comparisons_have_the_rows_of_assumptions(rt: HostRuntime) -> Result<(), Fail> {
+    let alloc = rt.alloc();
+    for (relation, lists, coefficient, constant) in [
+        (Relation::Less, 1, 1, -4),
+        (Relation::LessEqual, 1, 1, -5),
+        (Relation::Greater, 1, -1, 6),
+        (Relation::GreaterEqual, 1, -1, 5),
+        (Relation::NotEqual, 2, 1, -4),
+    ] {
+        let rows = comparison_lists(alloc, relation, &Expr::Variable(0), &Expr::Number(5), 1)?;
+        assert_eq!(rt; rows.len(), lists);
+        assert!(rt; begins_with(&rows, coefficient, constant));
+    }
+    let wide = Expr::Number(1 << 62);
+    let rows = comparison_lists(alloc, Relation::Less, &Expr::Variable(0), &wide, 1)?;
+    assert!(rt; rows.is_empty());
     Ok(())
 }

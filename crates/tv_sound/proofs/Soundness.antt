@@ -12,6 +12,8 @@ use Rattle.tv_formula.specs.Normal.{normal, negation}
 use Rattle.tv_meaning.specs.Meaning.{Holds, HoldsInitially}
 use Rattle.tv_meaning.proofs.Negation.{negation_excludes, normal_holds}
 use Rattle.tv_meaning.proofs.SameSteps.{SameOn, turned, Holds_along}
+use Rattle.tv_cases.specs.Comparisons.{comparison_lists}
+use Rattle.tv_cases.proofs.ComparisonLemmas.{comparison_shows}
 use Rattle.tv_cases.specs.LinearCases.{CaseSystem, CaseSteps}
 use Rattle.tv_cases.specs.Answers.{IsOfProgram, HaveSameSteps}
 use Rattle.tv_cert.specs.declared.node.Marked.{Marked}
@@ -75,6 +77,15 @@ disproved_sound p about of_program steps tests property root k values fits met w
 
 no_tests : (system : CaseSystem) → TestsShow (about_of system)
 no_tests system = record { shows = λ r a b lines xs among wide met. absurd (omega (arith, among.1)) }
+
+-- ---- formulas with comparisons
+
+-- a certificate with the rows of comparisons as those of assumptions
+abbrev pub about_with : CaseSystem → About
+about_with system = record { system = system; tests = comparison_lists system.variables }
+
+pub comparisons_show : (system : CaseSystem) → TestsShow (about_with system)
+comparisons_show system = record { shows = λ r a b lines xs among wide met. comparison_shows system.variables r a b xs wide lines among ((met-as_given xs lines).1 met) }
 
 -- a certificate all of whose obligations are met shows that no run from an initial state reaches the location
 pub never_reached : (p : System) (system : CaseSystem) (l : ℕ) (root : Node) (start : CoverTree) → IsOfProgram p system → HaveSameSteps p system → PlainFits system l root start → PlainMet system l root start → HoldsInitially p (never_at l)
