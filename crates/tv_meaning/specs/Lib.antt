@@ -1,3 +1,4 @@
 pub mod Runs
 pub mod Ranks
 pub mod Meaning
+pub mod Laws
