@@ -16,7 +16,9 @@ use Rattle.tv_reading.specs.SumGrammar.{sum_goes}
 use Rattle.tv_reading.proofs.SumLemmas.{sum_goes_on}
 use Rattle.tv_formula_text.specs.Seen.{Seen}
 use Rattle.tv_formula_text.specs.Choice.{Grammar, Behind, mark_at, either}
-use Rattle.tv_formula_text.specs.Operators.{Operator, one, two, operator_of, applied}
+use Rattle.tv_formula_text.specs.declared.operators.Operator.{Operator}
+use Rattle.tv_formula_text.specs.declared.operators.Operator.TheVariants.{One, Two}
+use Rattle.tv_formula_text.specs.Operators.{operator_of, applied}
 use Rattle.tv_formula_text.specs.FormulaTexts.{joined}
 use Rattle.tv_formula_text.specs.FormulaGrammar.{at_kind, at_end, end_by, summed, relation_by, related_by, related, comparison, is_and, is_or, more_by, more_cases, conjunction_from, conjunction_over, formula_from, formula_over, plain_at, literal_at, formula_at, text_at, plain_over, plain_by, below, Under, ground, level, closed, close_by, opened, open_by, place, label_cases, word_by, argument, operated, operator_by, behind_square, square_by, refuse_by}
 use Rattle.tv_formula_text.proofs.ChoiceLemmas.{either_outside}
@@ -145,8 +147,8 @@ argument_outside formula h = open_outside (then formula closed) (closing_outside
 
 operator_outside : (formula : Grammar Property) → Outside formula goes_or → (o : Option Operator) → BranchOutside (operator_by formula o) nowhere
 operator_outside formula h None d t e = absurd d
-operator_outside formula h (Some (one p k)) d t e = square_outside (mapped (applied p k) (argument formula)) (mapped_outside (applied p k) (argument formula) nowhere (argument_outside formula h)) d t e
-operator_outside formula h (Some (two p s)) d t e =
+operator_outside formula h (Some (One p k)) d t e = square_outside (mapped (applied p k) (argument formula)) (mapped_outside (applied p k) (argument formula) nowhere (argument_outside formula h)) d t e
+operator_outside formula h (Some (Two p s)) d t e =
     square_outside (then (argument formula) (λ f. mapped (fix p s f) (argument formula)))
     (then_outside (argument formula) (λ f. mapped (fix p s f) (argument formula)) nowhere nowhere (argument_outside formula h) (λ f. mapped_outside (fix p s f) (argument formula) nowhere (argument_outside formula h)) (λ f c u i. refl)) d t e
 

@@ -18,7 +18,9 @@ use Rattle.tv_reading.specs.SumGrammar.{sum_at, sum_goes}
 use Rattle.tv_reading.proofs.SumLemmas.{sum_exact, sum_goes_on}
 use Rattle.tv_formula_text.specs.Seen.{Seen, marks}
 use Rattle.tv_formula_text.specs.Choice.{Grammar, Behind, lifted, OfEither, either}
-use Rattle.tv_formula_text.specs.Operators.{Operator, one, two, operator_of, applied}
+use Rattle.tv_formula_text.specs.declared.operators.Operator.{Operator}
+use Rattle.tv_formula_text.specs.declared.operators.Operator.TheVariants.{One, Two}
+use Rattle.tv_formula_text.specs.Operators.{operator_of, applied}
 use Rattle.tv_formula_text.specs.FormulaTexts.{joined}
 use Rattle.tv_formula_text.specs.FormulaGrammar.{refuse_by, at_kind, open_by, close_by, square_by, end_by, opened, closed, behind_square, at_end, summed, relation_by, related_by, related, comparison, label_cases, place, word_by, word_cases, argument, operator_by, operated, Under, ground, level, plain_by, plain_over, is_and, is_or, more_by, more_cases, conjunction_from, conjunction_over, formula_from, formula_over, plain_at, literal_at, formula_at, below, text_at}
 use Rattle.tv_formula_text.proofs.ChoiceLemmas.{of_mark, lifted_exact, Halts, either_exact}
@@ -115,8 +117,8 @@ argument_exact formula h = opened_exact (then formula closed) (closing_exact for
 
 pub operator_branch : (formula : Grammar Property) → Exact formula → (o : Option Operator) → ExactBranch (operator_by formula o)
 operator_branch formula h None = tt
-operator_branch formula h (Some (one p k)) = square_exact (mapped (applied p k) (argument formula)) (mapped_exact (applied p k) (argument formula) (argument_exact formula h))
-operator_branch formula h (Some (two p s)) = square_exact (then (argument formula) (λ f. mapped (fix p s f) (argument formula))) (then_exact (argument formula) (λ f. mapped (fix p s f) (argument formula)) (argument_exact formula h) (λ f. mapped_exact (fix p s f) (argument formula) (argument_exact formula h)))
+operator_branch formula h (Some (One p k)) = square_exact (mapped (applied p k) (argument formula)) (mapped_exact (applied p k) (argument formula) (argument_exact formula h))
+operator_branch formula h (Some (Two p s)) = square_exact (then (argument formula) (λ f. mapped (fix p s f) (argument formula))) (then_exact (argument formula) (λ f. mapped (fix p s f) (argument formula)) (argument_exact formula h) (λ f. mapped_exact (fix p s f) (argument formula) (argument_exact formula h)))
 
 -- AX
 abbrev next_word : Word

@@ -21,7 +21,9 @@ use Rattle.tv_reading.proofs.SumLemmas.{sum_exact}
 use Rattle.tv_reading.proofs.LooseSums.{levels_less, no_levels, sums_loose}
 use Rattle.tv_formula_text.specs.Seen.{Seen}
 use Rattle.tv_formula_text.specs.Choice.{Grammar, Behind, either}
-use Rattle.tv_formula_text.specs.Operators.{Operator, one, two, operator_of, applied}
+use Rattle.tv_formula_text.specs.declared.operators.Operator.{Operator}
+use Rattle.tv_formula_text.specs.declared.operators.Operator.TheVariants.{One, Two}
+use Rattle.tv_formula_text.specs.Operators.{operator_of, applied}
 use Rattle.tv_formula_text.specs.FormulaTexts.{joined}
 use Rattle.tv_formula_text.specs.FormulaGrammar.{refuse_by, at_kind, open_by, close_by, square_by, end_by, opened, closed, behind_square, at_end, summed, relation_by, related_by, related, comparison, label_cases, place, word_by, argument, operator_by, operated, Under, ground, level, plain_by, plain_over, is_and, is_or, more_by, more_cases, conjunction_from, conjunction_over, formula_from, formula_over, plain_at, literal_at, formula_at, text_at}
 use Rattle.tv_formula_text.specs.Refusals.{Refuses}
@@ -109,8 +111,8 @@ module _ (kept : Kind → Bool) (syntax : kept Syntax ≡ true) where
 
   operator_loose : (l m : Grammar Property) → Loosens kept l m → Exact m → (o : Option Operator) → LoosensBranch kept (operator_by l o) (operator_by m o)
   operator_loose l m h e None = (syntax, refl)
-  operator_loose l m h e (Some (one p k)) = square_loose (mapped (applied p k) (argument l)) (mapped (applied p k) (argument m)) (mapped_loose kept (applied p k) (argument l) (argument m) (argument_loose l m h))
-  operator_loose l m h e (Some (two p s)) =
+  operator_loose l m h e (Some (One p k)) = square_loose (mapped (applied p k) (argument l)) (mapped (applied p k) (argument m)) (mapped_loose kept (applied p k) (argument l) (argument m) (argument_loose l m h))
+  operator_loose l m h e (Some (Two p s)) =
       square_loose (then (argument l) (λ f. mapped (fix p s f) (argument l))) (then (argument m) (λ f. mapped (fix p s f) (argument m)))
       (then_loose kept (argument l) (argument m) (λ f. mapped (fix p s f) (argument l)) (λ f. mapped (fix p s f) (argument m)) (argument_loose l m h)
       (λ f. mapped_loose kept (fix p s f) (argument l) (argument m) (argument_loose l m h)) (λ f. mapped_exact (fix p s f) (argument m) (argument_exact m e)))

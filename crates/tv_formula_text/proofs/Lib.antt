@@ -6,3 +6,5 @@ pub mod FormulaExact
 pub mod FormulaEnds
 pub mod PlainOrSum
 pub mod FormulaLoose
+pub mod SourceLemmas
+pub mod SumRead

@@ -44,7 +44,7 @@ module _ (kept : Kind → Bool) where
   plain_read zero ts = refl
   plain_read (suc n) ts = refl
 
-  nothing_read : (n : ℕ) → (summed kept n).read [] ≡ fault Syntax []
+  pub nothing_read : (n : ℕ) → (summed kept n).read [] ≡ fault Syntax []
   unfolding factor_at
   nothing_read zero = refl
   nothing_read (suc n) = refl

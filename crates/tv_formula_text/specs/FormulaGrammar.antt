@@ -9,13 +9,18 @@ use Rattle.tv_program.specs.Words.{Word}
 use Rattle.tv_program.specs.Trees.{Expression}
 use Rattle.tv_language.specs.Symbols.{label, fixed}
 use Rattle.tv_language.specs.Conditions.{relation_of}
+use Rattle.tv_formula.specs.declared.tree.Path.{Path}
+use Rattle.tv_formula.specs.declared.tree.Shape.{Shape}
+use Rattle.tv_formula_text.specs.declared.operators.Single.{Single}
 use Rattle.tv_formula.specs.Properties.{Property, truth, compare, at, term, negated, all_of, some_of, fix}
 use Rattle.tv_grammar.specs.Langs.{unit, then, mapped, stop, go, headed, turns}
 use Rattle.tv_reading.specs.Marks.{Kind, Syntax, Wide, Deep, UnknownName, Mark, plain, refused}
 use Rattle.tv_reading.specs.SumGrammar.{sum_at}
 use Rattle.tv_formula_text.specs.Seen.{Seen}
 use Rattle.tv_formula_text.specs.Choice.{Grammar, Behind, lifted, either}
-use Rattle.tv_formula_text.specs.Operators.{Operator, one, two, operator_of, applied}
+use Rattle.tv_formula_text.specs.declared.operators.Operator.{Operator}
+use Rattle.tv_formula_text.specs.declared.operators.Operator.TheVariants.{One, Two}
+use Rattle.tv_formula_text.specs.Operators.{operator_of, applied}
 use Rattle.tv_formula_text.specs.FormulaTexts.{joined}
 
 abbrev pub refuse_by : {X : Type 0} → Bool → Kind → Grammar X → Behind X
@@ -88,9 +93,13 @@ label_cases kept (plain (fixed kinds.Wide)) = refuse_by (kept Wide) Wide (closed
 label_cases kept (refused k kinds.Name) = refuse_by (kept UnknownName) UnknownName (closed (at 0))
 label_cases kept _ = stop Syntax
 
+-- label ")"
+abbrev pub labelled : (Kind → Bool) → Grammar Property
+labelled kept = headed Syntax (λ t. label_cases kept t.label)
+
 -- "(" label ")"
 abbrev pub place : (Kind → Bool) → Grammar Property
-place kept = opened (headed Syntax (λ t. label_cases kept t.label))
+place kept = opened (labelled kept)
 
 -- the words `at` and `term`
 abbrev pub word_by : (Kind → Bool) → Bool → Bool → Behind Property
@@ -106,10 +115,24 @@ abbrev pub argument : Grammar Property → Grammar Property
 argument formula = opened (then formula closed)
 
 -- what stands behind an operator
+abbrev pub of_one : Grammar Property → Path → Single → Grammar Property
+of_one formula p k = behind_square (mapped (applied p k) (argument formula))
+
+abbrev pub of_two : Grammar Property → Path → Shape → Grammar Property
+of_two formula p s = behind_square (then (argument formula) (λ f. mapped (fix p s f) (argument formula)))
+
 abbrev pub operator_by : Grammar Property → Option Operator → Behind Property
 operator_by formula None = stop Syntax
-operator_by formula (Some (one p k)) = go (behind_square (mapped (applied p k) (argument formula)))
-operator_by formula (Some (two p s)) = go (behind_square (then (argument formula) (λ f. mapped (fix p s f) (argument formula))))
+operator_by formula (Some (One p k)) = go (of_one formula p k)
+operator_by formula (Some (Two p s)) = go (of_two formula p s)
+
+-- the word of an operator alone
+abbrev pub operator_cases : Option Operator → Behind Operator
+operator_cases None = stop Syntax
+operator_cases (Some o) = go (unit o)
+
+abbrev pub operator_word : Grammar Operator
+operator_word = headed Syntax (λ t. operator_cases (operator_of t.word))
 
 -- what stands behind a "["
 abbrev pub operated : Grammar Property → Grammar Property
@@ -131,6 +154,16 @@ plain_by kept (level formula plainly) w kinds.Not = go (mapped negated plainly)
 plain_by kept (level formula plainly) w kinds.LeftRound = go (then formula closed)
 plain_by kept (level formula plainly) w kinds.LeftSquare = go (operated formula)
 plain_by kept u w kind = stop Syntax
+
+-- a plain formula that opens no level
+abbrev pub leaf_by : (Kind → Bool) → Word → TokenKind → Behind Property
+leaf_by kept w kinds.True = go (unit (truth true))
+leaf_by kept w kinds.False = go (unit (truth false))
+leaf_by kept w kinds.Name = word_cases kept w
+leaf_by kept w kind = stop Syntax
+
+abbrev pub leaves : (Kind → Bool) → Grammar Property
+leaves kept = headed Syntax (λ t. at_kind (leaf_by kept t.word) t.mark)
 
 abbrev pub plain_over : (Kind → Bool) → Under → Grammar Property
 plain_over kept u = headed Syntax (λ t. at_kind (plain_by kept u t.word) t.mark)

@@ -23,7 +23,9 @@ use Rattle.tv_formula.specs.declared.tree.Shape.{Shape}
 use Rattle.tv_formula.specs.Properties.{Property, truth, compare, at, term, negated, all_of, some_of, fix, Properties}
 use Rattle.tv_formula.specs.Views.{properties_of}
 use Rattle.tv_formula_text.specs.Signs.{Sign, signs, symbols_of}
-use Rattle.tv_formula_text.specs.Operators.{Single, one, two, operator_of, applied}
+use Rattle.tv_formula_text.specs.declared.operators.Single.{Single}
+use Rattle.tv_formula_text.specs.declared.operators.Operator.TheVariants.{One, Two}
+use Rattle.tv_formula_text.specs.Operators.{operator_of, applied}
 
 -- a list of one part is that part
 abbrev pub joined : (Properties → Property) → List Property → Property
@@ -39,8 +41,8 @@ mutual
     located : {n l : ℕ} {a o t c : Sign} {rest : List Sign} → a.symbol ≡ fixed kinds.Name → a.word ≡ codes "at" → o.symbol ≡ fixed kinds.LeftRound → t.label ≡ label l → c.symbol ≡ fixed kinds.RightRound → IsPlain n (at l) (a ∷ o ∷ t ∷ c ∷ rest) rest
     denied : {n : ℕ} {t : Sign} {f : Property} {ts rest : List Sign} → t.symbol ≡ fixed kinds.Not → IsPlain n f ts rest → IsPlain (suc n) (negated f) (t ∷ ts) rest
     bracketed : {n : ℕ} {f : Property} {ts rest : List Sign} → IsArgument n f ts rest → IsPlain (suc n) f ts rest
-    of_one : {n : ℕ} {o t c : Sign} {p : Path} {k : Single} {f : Property} {ts rest : List Sign} → o.symbol ≡ fixed kinds.LeftSquare → operator_of t.word ≡ Some (one p k) → c.symbol ≡ fixed kinds.RightSquare → IsArgument n f ts rest → IsPlain (suc n) (applied p k f) (o ∷ t ∷ c ∷ ts) rest
-    of_two : {n : ℕ} {o t c : Sign} {p : Path} {s : Shape} {f g : Property} {ts us rest : List Sign} → o.symbol ≡ fixed kinds.LeftSquare → operator_of t.word ≡ Some (two p s) → c.symbol ≡ fixed kinds.RightSquare → IsArgument n f ts us → IsArgument n g us rest → IsPlain (suc n) (fix p s f g) (o ∷ t ∷ c ∷ ts) rest
+    of_one : {n : ℕ} {o t c : Sign} {p : Path} {k : Single} {f : Property} {ts rest : List Sign} → o.symbol ≡ fixed kinds.LeftSquare → operator_of t.word ≡ Some (One p k) → c.symbol ≡ fixed kinds.RightSquare → IsArgument n f ts rest → IsPlain (suc n) (applied p k f) (o ∷ t ∷ c ∷ ts) rest
+    of_two : {n : ℕ} {o t c : Sign} {p : Path} {s : Shape} {f g : Property} {ts us rest : List Sign} → o.symbol ≡ fixed kinds.LeftSquare → operator_of t.word ≡ Some (Two p s) → c.symbol ≡ fixed kinds.RightSquare → IsArgument n f ts us → IsArgument n g us rest → IsPlain (suc n) (fix p s f g) (o ∷ t ∷ c ∷ ts) rest
 
   -- "(" formula ")"
   pub data IsArgument : ℕ → Property → List Sign → List Sign → Type 0 where

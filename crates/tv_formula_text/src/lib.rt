@@ -2,5 +2,11 @@
 #![tactic(auto)]
 
 mod fault;
+mod operators;
+mod plain;
+mod reason;
+mod source;
+mod sums;
+mod trees;
 
 pub use fault::FormulaFault;
