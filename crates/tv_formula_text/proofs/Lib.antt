@@ -8,3 +8,4 @@ pub mod PlainOrSum
 pub mod FormulaLoose
 pub mod SourceLemmas
 pub mod SumRead
+pub mod Steps

@@ -1,5 +1,5 @@
 -- Where a reading stands, and what it takes.
-use Rattle.std.proofs.Common.{◌≡◌, ℕ, zero, suc, ◌+◌, ◌-◌, ◌^◌, ◌<◌, ◌≤◌, Bool, true, false, List, [], ◌∷◌, map, drop, length, cond, Option, Some, None, refl, sym, ap, subst, ◌∙◌, get_or, arith}
+use Rattle.std.proofs.Common.{◌≡◌, ℕ, zero, suc, ◌+◌, ◌-◌, ◌^◌, ◌<◌, ◌≤◌, Bool, true, false, List, [], ◌∷◌, map, drop, length, cond, Option, Some, None, refl, sym, ap, subst, ◌∙◌, get_or, length-drop, arith}
 use Rattle.std.proofs.lemmas.List.{drop-drop}
 use Rattle.std.proofs.lemmas.Bool.Decides.{nat_tests}
 use Rattle.std.specs.Prelude.{nat_lt, slice_index_or}
@@ -103,3 +103,31 @@ kind_more source s (t ∷ ts) e h i = by (is_last t.kind) refl
 
 pub pass_more : (source : Source) (s : Stand) → IsOver source s → is_last (kind_seen (next (left source s))) ≡ false → s.at + 1 < length source.list.now
 pass_more source s h i = kind_more source s (drop s.at s.tokens) refl h i
+
+-- ---- going back
+
+-- at the place where another reading stands
+pub back_left : (source : Source) (s u g : Stand) (n level : ℕ) → IsOver source s → IsOver source u → u.names ≡ s.names → n ≡ s.at → g ≡ moved u n level → left source g ≡ left source s
+back_left source s u g n level h i names at e =
+    let text : u.text ≡ s.text = i.text ∙ sym h.text in
+    let tokens : u.tokens ≡ s.tokens = i.tokens ∙ sym h.tokens in
+    ap (left source) e ∙ rw (names, text, tokens, at) refl
+
+length-seen : (v : Vocabulary) (text : List ℕ) (ts : List Token) → length (seen_all v text ts) ≡ length ts
+length-seen v text [] = refl
+length-seen v text (t ∷ ts) = ap suc (length-seen v text ts)
+
+pub length-left : (source : Source) (s : Stand) → IsOver source s → length (left source s) ≡ length source.list.now - s.at
+length-left source s h = length-seen (words source s) s.text (drop s.at s.tokens) ∙ length-drop s.at s.tokens ∙ ap (λ (ts : List Token). length ts - s.at) h.tokens
+
+pub place_is : (source : Source) (s : Stand) (n : ℕ) → IsOver source s → (s.at < 2 ^ 32 → n ≡ s.at) → n ≡ s.at
+place_is source s n h e =
+    let l = few source s h in
+    let i = h.inside in
+    e (omega arith)
+
+pub left_less : (source : Source) (u v : Stand) → IsOver source u → IsOver source v → u.at ≤ v.at → length (left source v) ≤ length (left source u)
+left_less source u v h i l = omega (arith, length-left source u h, length-left source v i)
+
+pub left_more : (source : Source) (u v : Stand) → IsOver source u → IsOver source v → v.at < u.at → length (left source u) < length (left source v)
+left_more source u v h i l = let inside = h.inside in omega (arith, length-left source u h, length-left source v i, ap length h.tokens)

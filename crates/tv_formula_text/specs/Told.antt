@@ -1,5 +1,5 @@
 -- The reason of a fault of a part.
-use Rattle.std.specs.Prelude.{◌≡◌}
+use Rattle.std.specs.Prelude.{◌≡◌, Bool, true, false}
 use Rattle.tv_reading.specs.declared.fault.PartFault.{PartFault}
 use Rattle.tv_reading.specs.declared.fault.PartFault.TheVariants as parts
 use Rattle.tv_formula_text.specs.declared.reason.Reason.{Reason}
@@ -13,3 +13,7 @@ IsReasonFor (parts.NotLinear at) r = r ≡ reasons.NotLinear
 IsReasonFor (parts.TooMany at) r = r ≡ reasons.TooMany
 IsReasonFor (parts.UnknownName at) r = r ≡ reasons.UnknownName
 IsReasonFor parts.Memory r = r ≡ reasons.Memory
+
+abbrev pub is_memory : Reason → Bool
+is_memory reasons.Memory = true
+is_memory reason = false

@@ -2,6 +2,7 @@
 #![tactic(auto)]
 
 mod fault;
+mod formulas;
 mod operators;
 mod plain;
 mod reason;

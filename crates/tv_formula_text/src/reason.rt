@@ -1,4 +1,5 @@
-ghost use Rattle.tv_formula_text.specs.Told.{IsReasonFor};
+ghost use Rattle.std.specs.Prelude.{◌≡◌};
+ghost use Rattle.tv_formula_text.specs.Told.{IsReasonFor, is_memory};
 
 use std::alloc::{AllocError, AllocFailed};
 use tv_reading::PartFault;
@@ -57,4 +58,11 @@ pub fn reason_of(fault: PartFault) -> Reason
         PartFault::UnknownName { at: _ } => Reason::UnknownName,
         PartFault::Memory => Reason::Memory,
     }
+}
+
+/// Whether memory is wanting.
+pub fn is_memory(reason: Reason) -> bool
+    ensures { result ≡ is_memory reason }
+{
+    matches!(reason, Reason::Memory)
 }
