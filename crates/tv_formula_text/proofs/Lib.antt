@@ -9,3 +9,4 @@ pub mod FormulaLoose
 pub mod SourceLemmas
 pub mod SumRead
 pub mod Steps
+pub mod FormulaTexts
