@@ -10,3 +10,6 @@ pub mod SourceLemmas
 pub mod SumRead
 pub mod Steps
 pub mod FormulaTexts
+pub mod LimitLemmas
+pub mod ReadLemmas
+pub mod CopyLemmas

@@ -5,13 +5,16 @@ use Rattle.tv_tokens.specs.Tokens.{IsTokens}
 use Rattle.tv_program.specs.Systems.{System}
 use Rattle.tv_grammar.specs.Reads.{next}
 use Rattle.tv_grammar.specs.Faults.{NoneIn, Begins}
-use Rattle.tv_reading.specs.Marks.{Kind, Syntax, Wide, Deep, NotLinear, UnknownName}
+use Rattle.tv_reading.specs.Marks.{Kind, Syntax, Wide, Deep, NotLinear, UnknownName, first}
+use Rattle.tv_reading.specs.Readings.{or_end}
 use Rattle.tv_reading.specs.Refusals.{upto, under, Levels}
 use Rattle.tv_reading.specs.SumGrammar.{every}
 use Rattle.tv_formula_text.specs.Seen.{Seen, seen_all}
 use Rattle.tv_formula_text.specs.Choice.{Grammar}
 use Rattle.tv_formula_text.specs.FormulaGrammar.{text_at}
 use Rattle.tv_formula_text.specs.FormulaTexts.{words_of}
+use Rattle.tv_formula_text.specs.declared.reason.Reason.{Reason}
+use Rattle.tv_formula_text.specs.declared.reason.Reason.TheVariants as reasons
 use Rattle.tv_formula_text.specs.declared.fault.FormulaFault.{FormulaFault}
 use Rattle.tv_formula_text.specs.declared.fault.FormulaFault.TheVariants as faults
 
@@ -31,11 +34,10 @@ pub record IsFirstFault (p : System) (text : List ℕ) (k : Kind) (at : ℕ) : T
   pub tokens : List Token
   pub scanned : IsTokens 0 text tokens
   pub before : List Token
-  pub token : Token
   pub behind : List Token
-  pub parts : tokens ≡ before ++ (token ∷ behind)
-  pub place : token.at ≡ at
-  pub refuses : Refuses text_at 64 k (seen_all (words_of p) text tokens) (seen_all (words_of p) text (token ∷ behind))
+  pub parts : tokens ≡ before ++ behind
+  pub place : (or_end (first behind)).at ≡ at
+  pub refuses : Refuses text_at 64 k (seen_all (words_of p) text tokens) (seen_all (words_of p) text behind)
 
 -- what a refusal says of the text, unless memory is wanting
 abbrev pub IsRefusal : System → List ℕ → FormulaFault → Type 0
@@ -52,3 +54,12 @@ abbrev pub IsGiven : {X : Type 0} → Result X FormulaFault → (X → Type 0) �
 IsGiven (Ok x) P = P x
 IsGiven (Err faults.Memory) P = Unit {0}
 IsGiven (Err fault) P = ⊥
+
+-- the fault for a reason, at this place
+abbrev pub IsTold : Reason → FormulaFault → ℕ → Type 0
+IsTold reasons.Syntax f at = f ≡ faults.Syntax at
+IsTold reasons.Wide f at = f ≡ faults.Wide at
+IsTold reasons.Deep f at = f ≡ faults.Deep at
+IsTold reasons.NotLinear f at = f ≡ faults.NotLinear at
+IsTold reasons.UnknownName f at = f ≡ faults.UnknownName at
+IsTold reason f at = f ≡ faults.Memory

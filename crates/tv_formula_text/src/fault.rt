@@ -1,3 +1,5 @@
+use std::alloc::AllocError;
+
 /// Why a text is no formula, with the place of the token at fault: its first byte.
 #[derive(Clone, Copy, Debug, PartialEq, Eq)]
 pub enum FormulaFault {
@@ -14,4 +16,15 @@ pub enum FormulaFault {
     /// The text has more than 65,536 bytes.
     Long,
     Memory,
+}
+
+impl From<AllocError> for FormulaFault {
+    ghost use Rattle.std.specs.Prelude.{◌≡◌};
+    ghost use Rattle.tv_formula_text.specs.declared.fault.FormulaFault.TheVariants.{Memory};
+
+    ghost from_gives = { λ _ fault. fault ≡ Memory };
+
+    fn from(_: AllocError) -> FormulaFault {
+        FormulaFault::Memory
+    }
 }
