@@ -13,3 +13,4 @@ pub mod FormulaTexts
 pub mod LimitLemmas
 pub mod ReadLemmas
 pub mod CopyLemmas
+pub mod FormulaRead

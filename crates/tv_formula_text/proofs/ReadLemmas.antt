@@ -5,6 +5,7 @@ use Rattle.tv_tokens.specs.declared.token.TokenKind.TheVariants as kinds
 use Rattle.tv_tokens.specs.declared.token.Token.{Token}
 use Rattle.tv_tokens.specs.Numbers.{value_of_digits}
 use Rattle.tv_tokens.specs.Tokens.{IsTokens}
+use Rattle.tv_tokens.proofs.OneList.{one_list}
 use Rattle.tv_tokens.proofs.TokenCounts.{is_end, last_token}
 use Rattle.tv_program.specs.Words.{Word, number_of}
 use Rattle.tv_program.specs.Systems.{System}
@@ -14,6 +15,7 @@ use Rattle.tv_formula.specs.Limits as limits
 use Rattle.tv_grammar.specs.Reads.{Fault, fault}
 use Rattle.tv_grammar.specs.Langs.{OfBranch}
 use Rattle.tv_grammar.proofs.ExactLemmas.{apart}
+use Rattle.tv_grammar.proofs.Results.{good, ok_is}
 use Rattle.tv_grammar.proofs.LooseLemmas.{none_in, begun}
 use Rattle.tv_reading.specs.Marks.{Kind, Syntax, Deep, Mark, plain, symbol_of, Stand, known_name, number_mark, mark_by, is_formula_word, first}
 use Rattle.tv_reading.specs.SumGrammar.{every}
@@ -25,7 +27,7 @@ use Rattle.tv_formula_text.specs.Signs.{Sign, sign, signs}
 use Rattle.tv_formula_text.specs.Seen.{Seen, known_label, seen, seen_all}
 use Rattle.tv_formula_text.specs.FormulaGrammar.{at_kind, end_by, at_end, formula_at, text_at}
 use Rattle.tv_formula_text.specs.FormulaTexts.{IsFormula, words_of, ended, IsFormulaText}
-use Rattle.tv_formula_text.specs.Refusals.{Refuses, IsFirstFault, IsRefusal, IsTold}
+use Rattle.tv_formula_text.specs.Refusals.{Refuses, IsFirstFault, IsRefusal, IsTold, IsGiven}
 use Rattle.tv_formula_text.specs.Answers.{left, IsOver, Stays, kind_of, Unless}
 use Rattle.tv_formula_text.specs.declared.fault.FormulaFault.{FormulaFault}
 use Rattle.tv_formula_text.specs.declared.fault.FormulaFault.TheVariants as faults
@@ -36,6 +38,7 @@ use Rattle.tv_formula_text.proofs.FormulaExact.{formula_exact, text_exact}
 use Rattle.tv_formula_text.proofs.FormulaEnds.{text_ends}
 use Rattle.tv_formula_text.proofs.FormulaLoose.{text_loose}
 use Rattle.tv_formula_text.proofs.FormulaTexts.{sign_of, signs_of, formula_is}
+use Rattle.tv_formula_text.proofs.FormulaRead.{back_text}
 use Rattle.tv_formula_text.proofs.LimitLemmas.{formula_limits}
 
 -- ---- the signs of a text
@@ -213,3 +216,47 @@ module _ (p : System) (source : Source) (text : List ℕ) (list : List Token) (n
       (subst (λ (ts : List Seen). Unless reason ((text_at every 64).read ts ≡ fault (kind_of reason) (seen_all (words_of p) text (drop u.at list)))) begun_left
       (subst (λ (ts : List Seen). Unless reason ((text_at every 64).read (left source s) ≡ fault (kind_of reason) ts)) (now_left u is same h) r))
       (subst (λ (x : Token). IsTold reason f x.at) (at ∙ ap (λ (ts : List Token). or_end (first (drop u.at ts))) (h.over.tokens ∙ same)) told)
+
+-- ---- a text of a formula is read
+
+no_signs : (ts : List Seen) → signs_of ts ≡ [] → ts ≡ []
+no_signs [] e = refl
+no_signs (t ∷ ts) e = absurd cc
+
+text_read : (p : System) (text : List ℕ) (ts : List Token) (f : Property) → IsTokens 0 text ts → IsFormulaText p text f → (text_at every 64).read (seen_all (words_of p) text ts) ≡ Ok (f, [])
+text_read p text ts f h w =
+    let same : w.tokens ≡ ts = one_list 0 text w.tokens ts w.scanned h in
+    let signs_are : signs_of (seen_all (words_of p) text ts) ≡ signs (words_of p) (lexemes text w.tokens) = signs_same (words_of p) text ts ∙ ap (λ (us : List Token). signs (words_of p) (lexemes text us)) (sym same) in
+    let b = back_text w.derived refl (seen_all (words_of p) text ts) signs_are in
+    let none : b.left ≡ [] = no_signs b.left b.same in
+    let whole : seen_all (words_of p) text ts ≡ (text_at every 64).text b.it [] = b.text ∙ ap ((text_at every 64).text b.it) none in
+    ap (text_at every 64).read whole ∙ (text_exact every 64).only b.it [] (text_ends every 64 b.it) ∙ ap (λ (g : Property). Ok (g, [])) b.is
+
+same_value : (f g : Property) (r s : List Seen) → good {E = Fault Seen Kind} {A = Property × List Seen} (f, r) ≡ Ok (g, s) → f ≡ g
+same_value f g r s e = ap (λ (q : Property × List Seen). q.0) (ok_is {E = Fault Seen Kind} {A = Property × List Seen} (f, r) (g, s) e)
+
+not_refused : (f : Property) (r : List Seen) (k : Kind) (s : List Seen) → good {E = Fault Seen Kind} {A = Property × List Seen} (f, r) ≡ fault k s → ⊥
+not_refused f r k s e = cc
+
+memory_only : {X : Type 0} (f : FormulaFault) (P : X → Type 0) → f ≡ faults.Memory → IsGiven (Err f) P
+memory_only f P e = subst (λ (g : FormulaFault). IsGiven (Err g) P) (sym e) tt
+
+-- a text of a formula is refused for want of memory alone
+only_memory : {X : Type 0} (P : X → Type 0) (e : Reason) (g : FormulaFault) (at : ℕ) (out : Result (Property × List Seen) (Fault Seen Kind)) (f : Property) (s : List Seen) → out ≡ Ok (f, []) → Unless e (out ≡ fault (kind_of e) s) → IsTold e g at → IsGiven (Err g) P
+only_memory P reasons.Syntax g at out f s o u t = absurd (not_refused f [] _ s (sym o ∙ u))
+only_memory P reasons.Wide g at out f s o u t = absurd (not_refused f [] _ s (sym o ∙ u))
+only_memory P reasons.Deep g at out f s o u t = absurd (not_refused f [] _ s (sym o ∙ u))
+only_memory P reasons.NotLinear g at out f s o u t = absurd (not_refused f [] _ s (sym o ∙ u))
+only_memory P reasons.UnknownName g at out f s o u t = absurd (not_refused f [] _ s (sym o ∙ u))
+only_memory P reasons.TooMany g at out f s o u t = memory_only g P t
+only_memory P reasons.Memory g at out f s o u t = memory_only g P t
+
+module _ (p : System) (source : Source) (text : List ℕ) (list : List Token) (names : List Word) (s : Stand) (e : s ≡ readings.begun text list names false) (variables : names ≡ p.variables) (labels : source.labels.now ≡ p.locations) (scanned : IsTokens 0 text list) (f : Property) (w : IsFormulaText p text f) where
+  whole_read : (text_at every 64).read (left source s) ≡ Ok (f, [])
+  whole_read = ap (text_at every 64).read (begun_left p source text list names s e variables labels scanned) ∙ text_read p text list f scanned w
+
+  pub read_same : (g : Property) (r : List Seen) → (text_at every 64).read (left source s) ≡ Ok (g, r) → g ≡ f
+  read_same g r h = same_value g f r [] (sym h ∙ whole_read)
+
+  pub read_only : {X : Type 0} (P : X → Type 0) (reason : Reason) (g : FormulaFault) (at : ℕ) (r : List Seen) → Unless reason ((text_at every 64).read (left source s) ≡ fault (kind_of reason) r) → IsTold reason g at → IsGiven (Err g) P
+  read_only P reason g at r h t = only_memory P reason g at ((text_at every 64).read (left source s)) f r whole_read h t

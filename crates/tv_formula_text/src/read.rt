@@ -67,6 +67,7 @@ fn fault_at(reason: Reason, at: u32) -> FormulaFault
 fn read(alloc: Global, text: &[u8], program: &Program) -> Result<Formula, FormulaFault>
     requires { length text.now + 1 < 2 ^ 32 }
     ensures found { IfOk result (λ f. IsFormulaText (system_of program.now) text.now (property_of f)) }
+    ensures only { (f : Property) → IsFormulaText (system_of program.now) text.now f → IsGiven result (λ g. property_of g ≡ f) }
     ensures refused { IfErr result (λ fault. IsRefusal (system_of program.now) text.now fault) }
     ensures not_long { result ≢ Err FormulaFault.Long }
     ensures variables { IfOk result (λ f. variables_of f ≡ length (system_of program.now).variables) }
@@ -102,6 +103,8 @@ pub fn read_formula(
     requires { length text.now + 1 < 2 ^ 32 }
     // What is read is the formula of the text.
     ensures found { IfOk result (λ f. IsFormulaText (system_of program.now) text.now (property_of f)) }
+    // The text of a formula is read, unless it is long.
+    ensures only { (f : Property) → length text.now ≤ 65536 → IsFormulaText (system_of program.now) text.now f → IsGiven result (λ g. property_of g ≡ f) }
     // Else the first fault is told, with the first kind of fault that it is.
     ensures refused { IfErr result (λ fault. IsRefusal (system_of program.now) text.now fault) }
     ensures long { (result ≡ Err FormulaFault.Long) ↔ (65536 < length text.now) }
