@@ -1,5 +1,6 @@
 pub mod Properties
 pub mod Views
 pub mod Normal
+pub mod Forms
 pub mod Limits
 pub mod Formulas

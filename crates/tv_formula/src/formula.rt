@@ -1,9 +1,7 @@
 ghost use Rattle.tv_formula.specs.Limits.{IsFormula};
 ghost use Rattle.tv_formula.specs.Views.{property};
 
-use crate::tree::{Path, Shape, Tree};
-use std::alloc::{AllocError, Global};
-use tv_program::Program;
+use crate::tree::Tree;
 
 /// A formula over the variables and locations of a program.
 ///
@@ -18,12 +16,40 @@ pub struct Formula {
 
 impl Formula {
     ghost use Rattle.std.specs.Prelude.{◌≡◌};
-    ghost use Rattle.tv_formula.specs.Formulas.{property_of};
+    ghost use Rattle.tv_formula.specs.Formulas.{property_of, variables_of, locations_of};
+
+    /// The formula of a tree over so many variables and locations.
+    pub fn new(tree: Tree, variables: u32, locations: u32) -> Formula
+        requires { IsFormula variables locations (property tree) }
+        ensures same { property_of result ≡ property tree }
+        ensures variables { variables_of result ≡ variables }
+        ensures locations { locations_of result ≡ locations }
+    {
+        Formula {
+            tree,
+            variables,
+            locations,
+        }
+    }
 
     pub fn tree(&self) -> &Tree
         ensures same { property result.now ≡ property_of self.now }
-        ensures limits { IsFormula self.now.variables self.now.locations (property_of self.now) }
+        ensures limits { IsFormula (variables_of self.now) (locations_of self.now) (property_of self.now) }
     {
         &self.tree
+    }
+
+    /// How many variables there are to speak of.
+    pub fn variables(&self) -> u32
+        ensures { result ≡ variables_of self.now }
+    {
+        self.variables
+    }
+
+    /// How many locations there are to speak of.
+    pub fn locations(&self) -> u32
+        ensures { result ≡ locations_of self.now }
+    {
+        self.locations
     }
 }

@@ -1,3 +1,4 @@
 pub mod Negation
 pub mod RunLemmas
 pub mod SameSteps
+pub mod LocalNegation

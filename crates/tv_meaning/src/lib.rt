@@ -2,5 +2,7 @@
 #![tactic(auto)]
 
 mod endless;
+mod laws;
 
 pub use endless::{Endless, never_endless};
+pub use laws::{negation_excludes, normal_implies};

@@ -8,7 +8,7 @@ use Rattle.tv_reading.specs.Marks.{Kind, Syntax, Wide, Deep, NotLinear, TwoStart
 use Rattle.tv_reading.specs.SumGrammar.{Grammar, every}
 use Rattle.tv_reading.specs.Refusals.{upto, under, Levels, Refuses}
 
-kept_itself : (k : Kind) → upto k k ≡ true
+pub kept_itself : (k : Kind) → upto k k ≡ true
 kept_itself Syntax = refl
 kept_itself Wide = refl
 kept_itself Deep = refl
@@ -17,7 +17,7 @@ kept_itself TwoStarts = refl
 kept_itself TooMany = refl
 kept_itself UnknownName = refl
 
-syntax_kept : (k : Kind) → upto k Syntax ≡ true
+pub syntax_kept : (k : Kind) → upto k Syntax ≡ true
 syntax_kept Syntax = refl
 syntax_kept Wide = refl
 syntax_kept Deep = refl
@@ -26,7 +26,7 @@ syntax_kept TwoStarts = refl
 syntax_kept TooMany = refl
 syntax_kept UnknownName = refl
 
-itself_not : (k : Kind) → under k k ≡ false
+pub itself_not : (k : Kind) → under k k ≡ false
 itself_not Syntax = refl
 itself_not Wide = refl
 itself_not Deep = refl
@@ -35,7 +35,7 @@ itself_not TwoStarts = refl
 itself_not TooMany = refl
 itself_not UnknownName = refl
 
-syntax_under : (k : Kind) → (k ≡ Syntax → ⊥) → under k Syntax ≡ true
+pub syntax_under : (k : Kind) → (k ≡ Syntax → ⊥) → under k Syntax ≡ true
 syntax_under Syntax n = absurd (n refl)
 syntax_under Wide n = refl
 syntax_under Deep n = refl

@@ -10,4 +10,4 @@ mod writing;
 
 pub use conditions::write_condition;
 pub use programs::write_program;
-pub use sums::write_sum;
+pub use sums::{append_sum, write_sum};

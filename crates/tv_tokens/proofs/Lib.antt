@@ -3,3 +3,4 @@ pub mod GapLemmas
 pub mod NumberLemmas
 pub mod ScanLemmas
 pub mod OneList
+pub mod TokenCounts

@@ -1,0 +1,8 @@
+//! Writing formulas in their one spelling.
+#![tactic(auto)]
+
+mod formulas;
+#[cfg(test)]
+mod tests;
+
+pub use formulas::write_formula;

@@ -1,0 +1,15 @@
+pub mod ChoiceLemmas
+pub mod LooseChoice
+pub mod SumHalts
+pub mod FormulaLemmas
+pub mod FormulaExact
+pub mod FormulaEnds
+pub mod PlainOrSum
+pub mod FormulaLoose
+pub mod SourceLemmas
+pub mod SumRead
+pub mod Steps
+pub mod FormulaTexts
+pub mod LimitLemmas
+pub mod ReadLemmas
+pub mod FormulaRead

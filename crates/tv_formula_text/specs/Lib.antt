@@ -1,0 +1,9 @@
+pub mod Signs
+pub mod Operators
+pub mod FormulaTexts
+pub mod Seen
+pub mod Choice
+pub mod FormulaGrammar
+pub mod Refusals
+pub mod Told
+pub mod Answers
