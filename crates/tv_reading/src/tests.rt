@@ -166,6 +166,7 @@ fn goes_over_a_text(rt: HostRuntime) -> Result<(), Fail> {
     reading.take();
     assert_eq!(rt; next_sum(&mut reading), Err(NotLinear { at: 16 }));
     assert_eq!(rt; reading.place(), 8);
+    assert_eq!(rt; reading.index(), 8);
     assert_eq!(rt; reading.finish().len(), 2);
     Ok(())
 }

@@ -1,0 +1,5 @@
+pub mod UntilLemmas
+pub mod ProgramExact
+pub mod ProgramEnds
+pub mod ProgramLoose
+pub mod ProgramTexts

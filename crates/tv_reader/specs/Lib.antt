@@ -1,0 +1,4 @@
+pub mod ProgramMarks
+pub mod ProgramGrammar
+pub mod Places
+pub mod FirstFaults
