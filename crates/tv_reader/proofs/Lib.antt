@@ -3,3 +3,4 @@ pub mod ProgramExact
 pub mod ProgramEnds
 pub mod ProgramLoose
 pub mod ProgramTexts
+pub mod ProgramsRead

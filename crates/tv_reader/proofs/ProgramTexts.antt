@@ -162,3 +162,132 @@ commands_are cs (turn (plain (fixed kinds.Mark)) d ds) rest =
     | inr e ↦ record { more = w.more; are = subst (λ (us : List Mark). AreCommands w.more (fixed kinds.Mark ∷ symbols_of us) (symbols_of rest)) (sym e) (programs.AreCommands.ended_mark w.are); joined = w.joined }
     ]
 commands_are cs (turn m d ds) rest = absurd d
+
+-- ---- edges
+
+-- the edge stands in front of what other items there are
+pub record Edged (s all : Items) (ts rest : List Symbol) : Type 0 where
+  pub it : Transition
+  pub is : (starts : List ℕ) (edges : List Transition) → AreItems starts edges rest → AreItems starts (it ∷ edges) (fixed kinds.From ∷ ts)
+  pub starts_stay : all.starts ≡ s.starts
+  pub joined : all.edges ≡ s.edges ++ it ∷ []
+
+record Lasted (s : Items) (from : ℕ) (cs : List Instruction) (all : Items) (ts rest : List Symbol) : Type 0 where
+  to : ℕ
+  text : ts ≡ fixed kinds.To ∷ fixed kinds.Colon ∷ label to ∷ fixed kinds.Semicolon ∷ rest
+  value : all ≡ with_edge s from cs to
+
+last_is : (s : Items) (from : ℕ) (cs : List Instruction) (d : (headed Syntax (last_of_edge every s from cs)).Of) (rest : List Mark) → Lasted s from cs ((headed Syntax (last_of_edge every s from cs)).value d) (symbols_of ((headed Syntax (last_of_edge every s from cs)).text d rest)) (symbols_of rest)
+last_is s from cs d rest = at d.0 d.1
+  where
+    at : (m : Mark) (e : OfBranch (last_of_edge every s from cs m)) → Lasted s from cs (branch_value (last_of_edge every s from cs m) e) (symbols_of (m ∷ branch_text (last_of_edge every s from cs m) e rest)) (symbols_of rest)
+    at (plain (fixed kinds.To)) e = record { to = (place every).value e.0; text = ap (λ (ss : List Symbol). fixed kinds.To ∷ ss) (place_is e.0 rest); value = refl }
+    at (refused k kinds.Name) e = absurd e
+    at _ e = absurd e
+
+edge_is : (s : Items) (d : (grammar.edge every 63 s).Of) (rest : List Mark) → Edged s ((grammar.edge every 63 s).value d) (symbols_of ((grammar.edge every 63 s).text d rest)) (symbols_of rest)
+edge_is s d rest =
+    let from : ℕ = (place every).value d.0 in
+    let all : List Instruction = turns_value (command_cases every 63) [] d.1.0 in
+    let end : List Mark = (headed Syntax (last_of_edge every s from all)).text d.1.1 rest in
+    let l = last_is s from all d.1.1 rest in
+    let cs = commands_are [] d.1.0 end in
+    let behind : List Mark = turns_text (command_cases every 63) [] d.1.0 end in
+    record {
+      it = edge_of from l.to cs.more;
+      is = λ starts edges are.
+          let commands : AreCommands cs.more (symbols_of behind) (fixed kinds.To ∷ fixed kinds.Colon ∷ label l.to ∷ fixed kinds.Semicolon ∷ symbols_of rest) = subst (λ (ss : List Symbol). AreCommands cs.more (symbols_of behind) ss) l.text cs.are in
+          subst (λ (ss : List Symbol). AreItems starts (edge_of from l.to cs.more ∷ edges) (fixed kinds.From ∷ ss)) (sym (place_is d.0 behind)) (programs.AreItems.edge commands are);
+      starts_stay = ap (λ (x : Items). x.starts) l.value;
+      joined = ap (λ (x : Items). x.edges) l.value ∙ ap (λ (xs : List Instruction). s.edges ++ edge_of from l.to xs ∷ []) cs.joined;
+    }
+
+-- ---- items
+
+-- the items that turns add, up to the end of the text
+pub record Listed (s all : Items) (ts : List Symbol) : Type 0 where
+  pub starts : List ℕ
+  pub edges : List Transition
+  pub are : AreItems starts edges ts
+  pub starts_joined : all.starts ≡ s.starts ++ starts
+  pub edges_joined : all.edges ≡ s.edges ++ edges
+
+record Refusable {X : Type 0} (b : Bool) (k : Kind) (l : Grammar X) (d : OfBranch (refuse_by b k l)) : Type 0 where
+  it : l.Of
+  text : (rest : List Mark) → branch_text (refuse_by b k l) d rest ≡ l.text it rest
+  value : branch_value (refuse_by b k l) d ≡ l.value it
+  is : b ≡ false
+
+refusable : {X : Type 0} (b : Bool) (k : Kind) (l : Grammar X) (d : OfBranch (refuse_by b k l)) → Refusable b k l d
+refusable true k l d = absurd d
+refusable false k l d = record { it = d; text = λ rest. refl; value = refl; is = refl }
+
+abbrev Final : List Mark
+Final = plain (fixed kinds.End) ∷ []
+
+items_are : (s : Items) (d : Turns (item_cases every 63) s) → Listed s (turns_value (item_cases every 63) s d) (symbols_of (turns_text (item_cases every 63) s d Final))
+items_are s done = record { starts = []; edges = []; are = no_item; starts_joined = sym (append-nil s.starts); edges_joined = sym (append-nil s.edges) }
+items_are s (turn (plain (fixed kinds.Start)) d ds) =
+    let one : Grammar Items = mapped (with_start s) (place every) in
+    let b : Bool = has_start s.starts && true in
+    let r = refusable b TwoStarts one d in
+    let all : Items = branch_value (refuse_by b TwoStarts one) d in
+    let w = items_are all ds in
+    let behind : List Mark = turns_text (item_cases every 63) all ds Final in
+    let l : ℕ = (place every).value r.it.0 in
+    let text : symbols_of (branch_text (refuse_by b TwoStarts one) d behind) ≡ fixed kinds.Colon ∷ label l ∷ fixed kinds.Semicolon ∷ symbols_of behind = ap symbols_of (r.text behind) ∙ place_is r.it.0 behind in
+    record {
+      starts = l ∷ w.starts;
+      edges = w.edges;
+      are = subst (λ (ss : List Symbol). AreItems (l ∷ w.starts) w.edges (fixed kinds.Start ∷ ss)) (sym text) (start w.are);
+      starts_joined = w.starts_joined ∙ ap (λ (x : Items). x.starts ++ w.starts) r.value ∙ append_assoc s.starts (l ∷ []) w.starts;
+      edges_joined = w.edges_joined ∙ ap (λ (x : Items). x.edges ++ w.edges) r.value;
+    }
+items_are s (turn (plain (fixed kinds.From)) d ds) =
+    let one : Grammar Items = grammar.edge every 63 s in
+    let b : Bool = is_full s.edges && true in
+    let r = refusable b TooMany one d in
+    let all : Items = branch_value (refuse_by b TooMany one) d in
+    let w = items_are all ds in
+    let behind : List Mark = turns_text (item_cases every 63) all ds Final in
+    let e = edge_is s r.it behind in
+    record {
+      starts = w.starts;
+      edges = e.it ∷ w.edges;
+      are = subst (λ (us : List Mark). AreItems w.starts (e.it ∷ w.edges) (fixed kinds.From ∷ symbols_of us)) (sym (r.text behind)) (e.is w.starts w.edges w.are);
+      starts_joined = w.starts_joined ∙ ap (λ (x : Items). x.starts ++ w.starts) r.value ∙ ap (λ (xs : List ℕ). xs ++ w.starts) e.starts_stay;
+      edges_joined = w.edges_joined ∙ ap (λ (x : Items). x.edges ++ w.edges) r.value ∙ ap (λ (xs : List Transition). xs ++ w.edges) e.joined ∙ append_assoc s.edges (e.it ∷ []) w.edges;
+    }
+items_are s (turn (plain (fixed kinds.Passed)) d ds) =
+    let w = items_are s ds in
+    record { starts = w.starts; edges = w.edges; are = passed w.are; starts_joined = w.starts_joined; edges_joined = w.edges_joined }
+items_are s (turn (plain (fixed kinds.Mark)) d ds) =
+    let w = items_are s ds in
+    let behind : List Mark = turns_text (item_cases every 63) s ds Final in
+    elim (perhaps_is s d behind) [
+    | inl e ↦ record { starts = w.starts; edges = w.edges; are = subst (λ (us : List Mark). AreItems w.starts w.edges (fixed kinds.Mark ∷ symbols_of us)) (sym e) (programs.AreItems.mark w.are); starts_joined = w.starts_joined; edges_joined = w.edges_joined }
+    | inr e ↦ record { starts = w.starts; edges = w.edges; are = subst (λ (us : List Mark). AreItems w.starts w.edges (fixed kinds.Mark ∷ symbols_of us)) (sym e) (programs.AreItems.ended_mark w.are); starts_joined = w.starts_joined; edges_joined = w.edges_joined }
+    ]
+items_are s (turn m d ds) = absurd d
+
+end_text : (s : Items) (d : (headed Syntax (last_of_program s)).Of) → ((headed Syntax (last_of_program s)).text d [] ≡ Final) × ((headed Syntax (last_of_program s)).value d ≡ s)
+end_text s d = at d.0 d.1
+  where
+    at : (m : Mark) (e : OfBranch (last_of_program s m)) → (m ∷ branch_text (last_of_program s m) e [] ≡ Final) × (branch_value (last_of_program s m) e ≡ s)
+    at (plain (fixed kinds.End)) e = (refl, refl)
+    at (plain (fixed kinds.Start)) e = absurd e
+    at (plain (fixed kinds.From)) e = absurd e
+    at _ e = absurd e
+
+-- The text of a program's grammar is items up to the end.
+pub program_is : (ms : List Mark) (x : Items) → IsText (program_at every 63) ms x → AreItems x.starts x.edges (symbols_of ms)
+program_is ms x t =
+    let d = t.it in
+    let all : Items = turns_value (item_cases every 63) no_items d.0 in
+    let e = end_text all d.1 in
+    let w = items_are no_items d.0 in
+    let value : x ≡ all = sym t.is ∙ e.1 in
+    let text : ms ≡ turns_text (item_cases every 63) no_items d.0 Final = t.text ∙ ap (turns_text (item_cases every 63) no_items d.0) e.0 in
+    let starts : w.starts ≡ x.starts = sym w.starts_joined ∙ ap (λ (y : Items). y.starts) (sym value) in
+    let edges : w.edges ≡ x.edges = sym w.edges_joined ∙ ap (λ (y : Items). y.edges) (sym value) in
+    subst (λ (ls : List ℕ). AreItems ls x.edges (symbols_of ms)) starts (subst (λ (es : List Transition). AreItems w.starts es (symbols_of ms)) edges (subst (λ (us : List Mark). AreItems w.starts w.edges (symbols_of us)) (sym text) w.are))
