@@ -4,3 +4,4 @@ pub mod ProgramEnds
 pub mod ProgramLoose
 pub mod ProgramTexts
 pub mod ProgramsRead
+pub mod SymbolLemmas
