@@ -5,3 +5,6 @@ pub mod ProgramLoose
 pub mod ProgramTexts
 pub mod ProgramsRead
 pub mod SymbolLemmas
+pub mod WordLemmas
+pub mod VocabularyLemmas
+pub mod WholeTexts
