@@ -8,3 +8,8 @@ pub mod SymbolLemmas
 pub mod WordLemmas
 pub mod VocabularyLemmas
 pub mod WholeTexts
+pub mod StepLemmas
+pub mod KindsOfFaults
+pub mod TokenSteps
+pub mod ReadLemmas
+pub mod CallLemmas

@@ -45,23 +45,23 @@ taken {X} is kind one l d = at d.0 d.1
         record { it = o.it; text = λ rest. ap (λ (us : List Mark). plain (fixed k) ∷ us) (o.text rest) ∙ ap (λ (j : TokenKind). plain (fixed j) ∷ l.text o.it rest) (one k o.is); value = o.value }
     at _ e = absurd e
 
-one_colon : (k : TokenKind) → is_colon k ≡ true → k ≡ kinds.Colon
+pub one_colon : (k : TokenKind) → is_colon k ≡ true → k ≡ kinds.Colon
 one_colon kinds.Colon e = refl
 one_colon k e = absurd cc
 
-one_semicolon : (k : TokenKind) → is_semicolon k ≡ true → k ≡ kinds.Semicolon
+pub one_semicolon : (k : TokenKind) → is_semicolon k ≡ true → k ≡ kinds.Semicolon
 one_semicolon kinds.Semicolon e = refl
 one_semicolon k e = absurd cc
 
-one_left : (k : TokenKind) → is_left k ≡ true → k ≡ kinds.LeftRound
+pub one_left : (k : TokenKind) → is_left k ≡ true → k ≡ kinds.LeftRound
 one_left kinds.LeftRound e = refl
 one_left k e = absurd cc
 
-one_right : (k : TokenKind) → is_right k ≡ true → k ≡ kinds.RightRound
+pub one_right : (k : TokenKind) → is_right k ≡ true → k ≡ kinds.RightRound
 one_right kinds.RightRound e = refl
 one_right k e = absurd cc
 
-one_assign : (k : TokenKind) → is_assign k ≡ true → k ≡ kinds.Assign
+pub one_assign : (k : TokenKind) → is_assign k ≡ true → k ≡ kinds.Assign
 one_assign kinds.Assign e = refl
 one_assign k e = absurd cc
 

@@ -2,3 +2,4 @@ pub mod ProgramMarks
 pub mod ProgramGrammar
 pub mod Places
 pub mod FirstFaults
+pub mod Readers

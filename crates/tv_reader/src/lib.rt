@@ -2,5 +2,8 @@
 #![tactic(auto)]
 
 mod fault;
+mod items;
+mod reader;
+mod reason;
 
 pub use fault::{ReadFault, What};
