@@ -13,3 +13,5 @@ pub mod KindsOfFaults
 pub mod TokenSteps
 pub mod ReadLemmas
 pub mod CallLemmas
+pub mod MoreLemmas
+pub mod TurnSteps

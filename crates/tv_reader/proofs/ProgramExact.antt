@@ -35,7 +35,7 @@ token_exact is kind e l h = headed_exact Syntax (token_cases is l) (token_branch
 pub ended_exact : {X : Type 0} (x : X) → Exact (ended x)
 ended_exact x = token_exact is_semicolon kinds.Semicolon refl (unit x) (unit_exact x)
 
-semicolon_branch : (may_come : Bool) (m : Mark) → ExactBranch (semicolon_cases may_come m)
+pub semicolon_branch : (may_come : Bool) (m : Mark) → ExactBranch (semicolon_cases may_come m)
 semicolon_branch true (plain (fixed kinds.Semicolon)) = unit_exact false
 semicolon_branch true _ = tt
 semicolon_branch false _ = tt

@@ -1,5 +1,5 @@
 -- Where a reader of programs stands, and what it answers.
-use Rattle.std.specs.Prelude.{◌≡◌, ℕ, ◌≤◌, ◌<◌, ◌+◌, Bool, true, false, ◌||◌, ◌&&◌, not, List, [], ◌∷◌, length, drop, is_some, nat_le, map, Option, Some, None, Result, Ok, Err, Vec}
+use Rattle.std.specs.Prelude.{◌≡◌, ℕ, ◌≤◌, ◌<◌, ◌+◌, Bool, true, false, ◌||◌, ◌&&◌, not, List, [], ◌∷◌, ◌++◌, length, drop, is_some, nat_le, map, Option, Some, None, Result, Ok, Err, Vec}
 use Rattle.std.specs.List.{list_all}
 use Rattle.std.specs.Global.{Global}
 use Rattle.tv_tokens.specs.declared.token.TokenKind.{TokenKind}
@@ -9,7 +9,7 @@ use Rattle.tv_program.specs.Words.{Word, number_of}
 use Rattle.tv_program.specs.declared.tree.Command.{Command}
 use Rattle.tv_program.specs.declared.tree.Edge.{Edge}
 use Rattle.tv_program.specs.Trees.{Instruction}
-use Rattle.tv_program.specs.Views.{instruction, transitions}
+use Rattle.tv_program.specs.Views.{instruction, transition, transitions}
 use Rattle.tv_program.specs.Limits.{instruction_fits, transition_fits}
 use Rattle.tv_language.specs.Symbols.{Vocabulary, lexeme, lexemes, variable_words}
 use Rattle.tv_language.specs.Programs.{draws_counted}
@@ -172,3 +172,7 @@ items_view x = record { starts = starts_view x.start; edges = transitions x.edge
 
 abbrev pub EdgesFit : Reader → Vec Edge Global → Type 0
 EdgesFit r edges = list_all (transition_fits (length r.reading.names) (length r.labels)) (transitions edges.items) ≡ true
+
+-- items with one more edge
+abbrev pub edge_added : Items → Edge → Items
+edge_added s e = record { starts = s.starts; edges = s.edges ++ transition e ∷ [] }

@@ -1,6 +1,7 @@
 //! Reading whole texts of programs.
 #![tactic(auto)]
 
+mod commands;
 mod fault;
 mod items;
 mod reader;

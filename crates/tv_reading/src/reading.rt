@@ -159,6 +159,13 @@ impl<'a> Reading<'a> {
         self.cursor.at
     }
 
+    /// The names that are known.
+    pub fn names(&self) -> &Names
+        ensures { result.now ≡ self.now.names }
+    {
+        &self.cursor.names
+    }
+
     /// How many draws were come by since the edge began.
     pub fn draws(&self) -> u32
         ensures { result ≡ self.now.draws }
