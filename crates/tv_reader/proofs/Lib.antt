@@ -15,3 +15,5 @@ pub mod ReadLemmas
 pub mod CallLemmas
 pub mod MoreLemmas
 pub mod TurnSteps
+pub mod FitSteps
+pub mod TokenLemmas

@@ -279,3 +279,23 @@ same_next labels u w =
     ap (λ (ts : List Token). next (marks_from v false u.draws (lexemes u.text ts))) g.parts
     ∙ ap (λ (m : Mark). Some m) (sym (same_mark u.names labels u.draws g.token.kind word (variable_words (is_colon g.token.kind) (lexemes u.text g.rest)) known) ∙ ap (λ (b : Bool). marks.mark_by b u.names u.draws g.token.kind word) (sym w.grows))
     ∙ sym (ap (λ (ts : List Token). next (marks.marks_from u.text u.grows u.names u.draws ts)) g.parts)
+
+-- ---- the last token
+
+-- the token that ends a list stands alone
+pub last_alone : (labels : List Word) (b : Bool) (s : Stand) → is_closed (drop s.at s.tokens) ≡ true → is_last (token_at s).kind ≡ true → left_of labels b s ≡ mark_of labels b s ∷ []
+unfolding marks_from
+last_alone labels b s c l =
+    let v : Vocabulary = record { variables = s.names; labels = labels } in
+    let h = here s c in
+    let rest : h.rest ≡ [] = alone h.token h.rest (ap is_closed (sym h.parts) ∙ c) (ap (λ (t : Token). is_last t.kind) (sym h.is) ∙ l) in
+    ap (λ (ts : List Token). marks_from v b s.draws (lexemes s.text ts)) (h.parts ∙ ap (λ (ts : List Token). h.token ∷ ts) rest)
+    ∙ ap (λ (t : Token). mark_by v b s.draws t.kind (lexeme s.text t).word ∷ []) (sym h.is)
+  where
+    alone : (t : Token) (ts : List Token) → is_closed (t ∷ ts) ≡ true → is_last t.kind ≡ true → ts ≡ []
+    alone t [] c l = refl
+    alone t (u ∷ us) c l = let first : not (is_last t.kind) ≡ true = and_left _ _ c in absurd (never (is_last t.kind) first l)
+      where
+        never : (b : Bool) → not b ≡ true → b ≡ true → ⊥
+        never true e f = cc
+        never false e f = cc

@@ -1,6 +1,6 @@
 -- One turn of the commands of an edge, or of the items of a program.
 use Rattle.std.proofs.Common.{◌≡◌, ℕ, ◌^◌, ◌<◌, ◌≤◌, Bool, true, false, cond, List, [], ◌∷◌, ◌++◌, length, drop, Option, Some, None, Result, Ok, Err, refl, ap, sym, subst, ◌∙◌, arith}
-use Rattle.std.specs.Prelude.{nat_lt, ◌&&◌}
+use Rattle.std.specs.Prelude.{nat_lt, ◌&&◌, MatchOption}
 use Rattle.tv_tokens.specs.declared.token.TokenKind.{TokenKind}
 use Rattle.tv_tokens.specs.declared.token.TokenKind.TheVariants as kinds
 use Rattle.tv_tokens.specs.Numbers.{value_of_digits}
@@ -237,3 +237,9 @@ module _ {X S : Type 0} (view : X → S) (cases : S → Mark → Behind S) (exac
 
   pub turn_off : (x : X) → Turned view (Ok (Off x)) rest cases s ms → out ≡ Ok (view x, rest)
   turn_off x w = sym whole ∙ loop_ends cases exact s ms w.0 ∙ ap (λ (y : S). Ok (y, ms)) (sym w.1) ∙ ap (λ (us : List Mark). Ok (view x, us)) (sym w.2)
+
+-- ---- a name
+
+pub name_marked : (o : Option ℕ) (ms : List Mark) → next ms ≡ Some (numbered kinds.Name name o) → MatchOption o (next ms ≡ Some (refused TooMany kinds.Name)) (λ v. next ms ≡ Some (plain (name v)))
+name_marked (Some v) ms e = e
+name_marked None ms e = e

@@ -1,9 +1,9 @@
 -- Words by their first place, up to a limit and with one of them in front.
-use Rattle.std.proofs.Common.{◌≡◌, ℕ, zero, suc, ◌+◌, ◌-◌, ◌<◌, ◌≤◌, Bool, true, false, cond, List, [], ◌∷◌, ◌++◌, length, take, Option, Some, None, refl, ap, sym, subst, ◌∙◌, append_assoc, length-append, arith}
+use Rattle.std.proofs.Common.{◌≡◌, ℕ, zero, suc, ◌+◌, ◌-◌, ◌<◌, ◌≤◌, Bool, true, false, cond, List, [], ◌∷◌, ◌++◌, length, take, drop, Option, Some, None, refl, ap, sym, subst, ◌∙◌, append_assoc, length-append, arith}
 use Rattle.std.proofs.lemmas.List.{append-nil}
 use Rattle.std.proofs.lemmas.Bool.Decides.{nat_tests}
 use Rattle.std.proofs.lemmas.Slice.Eq.{bytes_eq-Decides}
-use Rattle.std.specs.Prelude.{is_some, nat_lt, ◌&&◌}
+use Rattle.std.specs.Prelude.{is_some, nat_lt, ◌&&◌, slice_get}
 use Rattle.std.specs.List.{list_all}
 use Rattle.std.specs.Str.{bytes_eq}
 use Rattle.tv_program.specs.Words.{Word, number_of, words_with, with_new}
@@ -193,3 +193,34 @@ led_has (Some w) ws u h = by (number_of w ws) refl h
     by : (o : Option ℕ) → number_of w ws ≡ o → has (moved_in_front o w ws) u ≡ true → has ws u ≡ true
     by None e k = k
     by (Some n) e k = self ws (has_itself ws) k (one_has ws w (ap is_some e))
+
+-- ---- where there are as many as may be
+
+-- one more word changes nothing
+pub full_stays : (known ws : List Word) (w : Word) (most : ℕ) → length known ≡ most → take most (by_first_place known ws) ≡ take most (by_first_place (words_with w known) ws)
+full_stays known ws w most e = by (number_of w known)
+  where
+    by : (o : Option ℕ) → take most (by_first_place known ws) ≡ take most (by_first_place (with_new o w known) ws)
+    by (Some n) = refl
+    by None =
+        let c = begins (known ++ w ∷ []) ws in
+        take_known known ws most e ∙ sym (ap (λ (n : ℕ). take n (by_first_place (known ++ w ∷ []) ws)) (sym e) ∙ ap (take (length known)) (c.1 ∙ append_assoc known (w ∷ []) c.0) ∙ take_front known (w ∷ c.0))
+
+pub length_more : (known : List Word) (w : Word) → length (words_with w known) ≤ length known + 1
+length_more known w = by (number_of w known)
+  where
+    by : (o : Option ℕ) → length (with_new o w known) ≤ length known + 1
+    by (Some n) = omega arith
+    by None = omega (arith, length-append known (w ∷ []))
+
+-- the word behind those that are placed
+pub place_next : (known ws : List Word) (n : ℕ) (w : Word) → slice_get ws n ≡ Some w → by_first_place known (take (suc n) ws) ≡ words_with w (by_first_place known (take n ws))
+place_next known [] n w e = absurd cc
+place_next known (x ∷ ws) zero w e = let is : x ≡ w = cc in ap (λ (y : Word). words_with y known) is
+place_next known (x ∷ ws) (suc n) w e = place_next (words_with x known) ws n w e
+
+pub past_all : {X : Type 0} (xs : List X) (n : ℕ) → length xs ≤ n → drop n xs ≡ []
+past_all [] zero h = refl
+past_all [] (suc n) h = refl
+past_all (x ∷ xs) zero h = absurd (omega arith)
+past_all (x ∷ xs) (suc n) h = past_all xs n (omega arith)

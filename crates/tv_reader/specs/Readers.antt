@@ -1,6 +1,7 @@
 -- Where a reader of programs stands, and what it answers.
-use Rattle.std.specs.Prelude.{◌≡◌, ℕ, ◌≤◌, ◌<◌, ◌+◌, Bool, true, false, ◌||◌, ◌&&◌, not, List, [], ◌∷◌, ◌++◌, length, drop, is_some, nat_le, map, Option, Some, None, Result, Ok, Err, Vec}
+use Rattle.std.specs.Prelude.{◌≡◌, ℕ, ◌≤◌, ◌<◌, ◌+◌, Bool, true, false, ◌||◌, ◌&&◌, not, List, [], ◌∷◌, ◌++◌, length, drop, is_some, nat_le, map, Option, Some, None, Result, Ok, Err, Vec, IfSome}
 use Rattle.std.specs.List.{list_all}
+use Rattle.std.specs.Borrow.{Bor}
 use Rattle.std.specs.Global.{Global}
 use Rattle.tv_tokens.specs.declared.token.TokenKind.{TokenKind}
 use Rattle.tv_tokens.specs.declared.token.TokenKind.TheVariants as kinds
@@ -14,14 +15,14 @@ use Rattle.tv_program.specs.Limits.{instruction_fits, transition_fits}
 use Rattle.tv_language.specs.Symbols.{Vocabulary, lexeme, lexemes, variable_words}
 use Rattle.tv_language.specs.Programs.{draws_counted}
 use Rattle.tv_grammar.specs.Reads.{Fault, fault, next}
-use Rattle.tv_grammar.specs.Langs.{Branch, headed_read, goes_at}
+use Rattle.tv_grammar.specs.Langs.{Branch, headed, headed_read, goes_at}
 use Rattle.tv_reading.specs.Marks as marks
 use Rattle.tv_reading.specs.Marks.{Kind, Mark, Stand}
 use Rattle.tv_reading.specs.Readings.{token_at, IsWithin}
 use Rattle.tv_reading.specs.declared.fault.PartFault.{PartFault}
 use Rattle.tv_reading.specs.declared.fault.PartFault.TheVariants as parts
-use Rattle.tv_reader.specs.ProgramMarks.{mark_by, marks_from}
-use Rattle.tv_reader.specs.ProgramGrammar.{Items}
+use Rattle.tv_reader.specs.ProgramMarks.{mark_by, marks_from, led_by}
+use Rattle.tv_reader.specs.ProgramGrammar.{Items, last_of_program}
 use Rattle.tv_reader.specs.declared.reason.Reason.{Reason}
 use Rattle.tv_reader.specs.declared.reason.Reason.TheVariants.{Syntax, Wide, Deep, NotLinear, TwoStarts, TooMany, Memory}
 use Rattle.tv_reader.specs.declared.reason.Turn.{Turn}
@@ -170,9 +171,27 @@ starts_view (Some l) = l ∷ []
 abbrev pub items_view : ItemsRead → Items
 items_view x = record { starts = starts_view x.start; edges = transitions x.edges.items }
 
-abbrev pub EdgesFit : Reader → Vec Edge Global → Type 0
-EdgesFit r edges = list_all (transition_fits (length r.reading.names) (length r.labels)) (transitions edges.items) ≡ true
-
 -- items with one more edge
 abbrev pub edge_added : Items → Edge → Items
 edge_added s e = record { starts = s.starts; edges = s.edges ++ transition e ∷ [] }
+
+-- the items so far fit: there are not too many edges, and each fits; the location of START is one of those that have labels
+pub record ItemsFit (r : Reader) (x : ItemsRead) : Type 0 where
+  pub edges : list_all (transition_fits (length r.reading.names) (length r.labels)) (transitions x.edges.items) ≡ true
+  pub few : length x.edges.items ≤ 4096
+  pub started : IfSome x.start (λ l. l < length r.labels)
+
+-- the end of the text comes, and nothing else is left, or what comes is at fault behind these items
+abbrev pub Ends : Items → Result (Unit {0}) Reason → List Mark → Type 0
+Ends s (Ok x) ms = (headed marks.Syntax (last_of_program s)).read ms ≡ Ok (s, [])
+Ends s (Err e) ms = Unless e ((headed marks.Syntax (last_of_program s)).read ms ≡ fault (kind_of e) ms)
+
+-- nothing is left of a text that is read whole
+abbrev pub rest_of : {X : Type 0} → Result X Reason → List Mark → List Mark
+rest_of (Ok x) ms = []
+rest_of (Err e) ms = ms
+
+-- words with the one that is told in front, if it is one of them
+abbrev pub led : Option (Bor (List ℕ)) → List Word → List Word
+led None ws = ws
+led (Some w) ws = led_by (Some w.now) ws

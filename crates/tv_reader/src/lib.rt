@@ -4,7 +4,9 @@
 mod commands;
 mod fault;
 mod items;
+mod program;
 mod reader;
 mod reason;
+mod words;
 
 pub use fault::{ReadFault, What};

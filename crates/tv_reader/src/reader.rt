@@ -91,7 +91,7 @@ impl<'a> Reader<'a> {
         ensures steady { IsSteady self.new }
         ensures kept { IsKept self.old self.new }
         ensures taken { MatchResult result (λ _. left self.old ≡ plain (fixed kind) ∷ left self.new) (λ e. (e ≡ reasons.Syntax) × (left self.new ≡ left self.old) × (kind_at (next (left self.old)) ≡ kind → ⊥)) }
-        ensures colon { OnOk result (self.new.behind_colon ≡ is_colon kind) }
+        ensures colon { MatchResult result (λ _. self.new.behind_colon ≡ is_colon kind) (λ _. self.new.behind_colon ≡ self.old.behind_colon) }
         ensures draws { self.new.reading.draws ≡ self.old.reading.draws }
     {
         if self.kind() != kind {
