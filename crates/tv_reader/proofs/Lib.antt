@@ -17,3 +17,4 @@ pub mod MoreLemmas
 pub mod TurnSteps
 pub mod FitSteps
 pub mod TokenLemmas
+pub mod FinalLemmas

@@ -94,6 +94,7 @@ perhaps_is x d rest = at d.0
     last : (t : Turns semicolon_cases false) → turns_text semicolon_cases false t rest ≡ rest
     last done = refl
     last (turn m e es) = absurd e
+
     at : (t : Turns semicolon_cases true) → (turns_text semicolon_cases true t rest ≡ rest) ⊎ (turns_text semicolon_cases true t rest ≡ plain (fixed kinds.Semicolon) ∷ rest)
     at done = inl refl
     at (turn (plain (fixed kinds.Semicolon)) e es) = inr (ap (λ (us : List Mark). plain (fixed kinds.Semicolon) ∷ us) (last es))
@@ -140,7 +141,6 @@ pub record Commanded (cs all : List Instruction) (ts rest : List Symbol) : Type 
   pub are : AreCommands more ts rest
   pub joined : all ≡ cs ++ more
 
-
 commands_are : (cs : List Instruction) (d : Turns (command_cases every 63) cs) (rest : List Mark) → Commanded cs (turns_value (command_cases every 63) cs d) (symbols_of (turns_text (command_cases every 63) cs d rest)) (symbols_of rest)
 commands_are cs done rest = record { more = []; are = no_command; joined = sym (append-nil cs) }
 commands_are cs (turn (plain (fixed kinds.Assume)) d ds) rest =
@@ -158,8 +158,8 @@ commands_are cs (turn (plain (fixed kinds.Mark)) d ds) rest =
     let w = commands_are cs ds rest in
     let behind : List Mark = turns_text (command_cases every 63) cs ds rest in
     elim (perhaps_is cs d behind) [
-    | inl e ↦ record { more = w.more; are = subst (λ (us : List Mark). AreCommands w.more (fixed kinds.Mark ∷ symbols_of us) (symbols_of rest)) (sym e) (programs.AreCommands.mark w.are); joined = w.joined }
-    | inr e ↦ record { more = w.more; are = subst (λ (us : List Mark). AreCommands w.more (fixed kinds.Mark ∷ symbols_of us) (symbols_of rest)) (sym e) (programs.AreCommands.ended_mark w.are); joined = w.joined }
+      | inl e ↦ record { more = w.more; are = subst (λ (us : List Mark). AreCommands w.more (fixed kinds.Mark ∷ symbols_of us) (symbols_of rest)) (sym e) (programs.AreCommands.mark w.are); joined = w.joined }
+      | inr e ↦ record { more = w.more; are = subst (λ (us : List Mark). AreCommands w.more (fixed kinds.Mark ∷ symbols_of us) (symbols_of rest)) (sym e) (programs.AreCommands.ended_mark w.are); joined = w.joined }
     ]
 commands_are cs (turn m d ds) rest = absurd d
 
@@ -265,8 +265,8 @@ items_are s (turn (plain (fixed kinds.Mark)) d ds) =
     let w = items_are s ds in
     let behind : List Mark = turns_text (item_cases every 63) s ds Final in
     elim (perhaps_is s d behind) [
-    | inl e ↦ record { starts = w.starts; edges = w.edges; are = subst (λ (us : List Mark). AreItems w.starts w.edges (fixed kinds.Mark ∷ symbols_of us)) (sym e) (programs.AreItems.mark w.are); starts_joined = w.starts_joined; edges_joined = w.edges_joined }
-    | inr e ↦ record { starts = w.starts; edges = w.edges; are = subst (λ (us : List Mark). AreItems w.starts w.edges (fixed kinds.Mark ∷ symbols_of us)) (sym e) (programs.AreItems.ended_mark w.are); starts_joined = w.starts_joined; edges_joined = w.edges_joined }
+      | inl e ↦ record { starts = w.starts; edges = w.edges; are = subst (λ (us : List Mark). AreItems w.starts w.edges (fixed kinds.Mark ∷ symbols_of us)) (sym e) (programs.AreItems.mark w.are); starts_joined = w.starts_joined; edges_joined = w.edges_joined }
+      | inr e ↦ record { starts = w.starts; edges = w.edges; are = subst (λ (us : List Mark). AreItems w.starts w.edges (fixed kinds.Mark ∷ symbols_of us)) (sym e) (programs.AreItems.ended_mark w.are); starts_joined = w.starts_joined; edges_joined = w.edges_joined }
     ]
 items_are s (turn m d ds) = absurd d
 

@@ -122,6 +122,7 @@ no_fewer s known front (w ∷ ws) h i =
     flipped : (b : Bool) → bytes_eq s w ≡ b → bytes_eq w s ≡ false → b ≡ false
     flipped true e g = let same : s ≡ w = (bytes_eq-Decides s w).0 e in let back : bytes_eq w s ≡ true = (bytes_eq-Decides w s).1 (sym same) in absurd cc
     flipped false e g = refl
+
     counted : (b : Bool) → bytes_eq w s ≡ b → length front + one (not (has front w)) + one (has (words_with w known) s) ≡ length known + one (not (has known w)) + 1
     counted true e =
         let same : w ≡ s = (bytes_eq-Decides w s).0 e in
@@ -153,6 +154,7 @@ first_word w s ws h = by (bytes_eq w s) refl (sym (number_first w s ws) ∙ h)
     never : (o : Option ℕ) → shifted o ≡ Some 0 → ⊥
     never (Some n) e = absurd cc
     never None e = absurd cc
+
     by : (b : Bool) → bytes_eq w s ≡ b → here_or b (number_of w ws) ≡ Some 0 → w ≡ s
     by true e g = (bytes_eq-Decides w s).0 e
     by false e g = absurd (never (number_of w ws) g)
@@ -178,12 +180,12 @@ program_only text p w =
     let firsts : take 1024 (by_first_place [] labels) ≡ by_first_place [] labels = take_all (by_first_place [] labels) 1024 few in
     let inside : has (by_first_place [] labels) s.word ≡ true = among (by_first_place [] labels) labels s.word s.among (has_each [] labels) in
     let locations : (vocabulary xs).labels ≡ p.locations =
-        ap (λ (o : Option Word). led_by o (take 1024 (by_first_place [] labels))) s.is
-        ∙ ap (led_by (Some s.word)) firsts
-        ∙ led_in_front s.word (by_first_place [] labels) inside
-        ∙ place-place (s.word ∷ []) [] labels
-        ∙ ap (λ (x : Word). by_first_place (x ∷ []) labels) word_is
-        ∙ sym w.locations in
+    ap (λ (o : Option Word). led_by o (take 1024 (by_first_place [] labels))) s.is
+    ∙ ap (led_by (Some s.word)) firsts
+    ∙ led_in_front s.word (by_first_place [] labels) inside
+    ∙ place-place (s.word ∷ []) [] labels
+    ∙ ap (λ (x : Word). by_first_place (x ∷ []) labels) word_is
+    ∙ sym w.locations in
     let variables : (vocabulary xs).variables ≡ p.variables = take_all (by_first_place [] names) 512 few_names ∙ sym w.variables in
     let vocabulary_is : vocabulary xs ≡ own = ap (λ (ws : List Word). record { variables = ws; labels = (vocabulary xs).labels }) variables ∙ ap (λ (ws : List Word). record { variables = p.variables; labels = ws }) locations in
     let clean : all_fine (symbols_of (marks_from own false 0 xs)) ≡ true = symbols_marked own false 0 xs (items_fine w.items) (items_sound (length p.variables) (length p.locations) w.items w.limits.edges_fit) in

@@ -3,7 +3,7 @@ use Rattle.std.proofs.Common.{◌≡◌, ℕ, zero, suc, ◌+◌, ◌-◌, ◌<�
 use Rattle.std.proofs.lemmas.List.{append-nil}
 use Rattle.std.proofs.lemmas.Bool.Decides.{nat_tests}
 use Rattle.std.proofs.lemmas.Slice.Eq.{bytes_eq-Decides}
-use Rattle.std.specs.Prelude.{is_some, nat_lt, ◌&&◌, slice_get}
+use Rattle.std.specs.Prelude.{is_some, IsSome, nat_lt, ◌&&◌, slice_get}
 use Rattle.std.specs.List.{list_all}
 use Rattle.std.specs.Str.{bytes_eq}
 use Rattle.tv_program.specs.Words.{Word, number_of, words_with, with_new}
@@ -67,6 +67,7 @@ placed_among all known (v ∷ ws) w h i j = placed_among all (words_with v known
     last : (u : Word) (b : Bool) → bytes_eq u v ≡ b → is_some (or_last (number_of u known) b (length known)) ≡ true → has all u ≡ true
     last u true same e = subst (λ (x : Word). has all x ≡ true) (sym ((bytes_eq-Decides u v).0 same)) (and_left _ _ i)
     last u false same e = h u (has_of (number_of u known) false (length known) e refl)
+
     by : (u : Word) (o : Option ℕ) → is_some (number_of u (with_new o v known)) ≡ true → has all u ≡ true
     by u (Some n) e = h u e
     by u None e = last u (bytes_eq u v) refl (sym (ap is_some (number_more u v known)) ∙ e)
@@ -110,6 +111,7 @@ all_first most known (w ∷ ws) few h = by (number_of w known) refl (and_left _ 
         let no : is_some (number_of w known) ≡ true = sym (ap (λ (us : List Word). has us w) cut) ∙ one in
         let none : is_some (number_of w known) ≡ false = ap is_some e in
         absurd cc
+
     by : (o : Option ℕ) → number_of w known ≡ o → has (take most (by_first_place (with_new o w known) ws)) w ≡ true → has_all (take most (by_first_place (with_new o w known) ws)) ws ≡ true → ((names : List Word) → length names ≤ most → has_all (take most (by_first_place names ws)) ws ≡ true → take most (by_first_place names ws) ≡ by_first_place names ws) → take most (by_first_place (with_new o w known) ws) ≡ by_first_place (with_new o w known) ws
     by (Some n) e one rest again = again known few rest
     by None e one rest again = full (nat_lt (length known) most) refl e one rest again
@@ -124,6 +126,7 @@ among all (x ∷ us) u h i = by (bytes_eq u x) refl (sym (ap is_some (number_fir
     rest : (o : Option ℕ) → is_some (shifted o) ≡ true → is_some o ≡ true
     rest (Some n) e = refl
     rest None e = absurd cc
+
     by : (b : Bool) → bytes_eq u x ≡ b → is_some (here_or b (number_of u us)) ≡ true → (has us u ≡ true → has all u ≡ true) → has all u ≡ true
     by true e w again = subst (λ (y : Word). has all y ≡ true) (sym ((bytes_eq-Decides u x).0 e)) (and_left _ _ i)
     by false e w again = again (rest (number_of u us) w)
@@ -190,6 +193,7 @@ led_has (Some w) ws u h = by (number_of w ws) refl h
   where
     self : (vs : List Word) → has_all vs vs ≡ true → has (by_first_place (w ∷ []) vs) u ≡ true → ((x : Word) → has (w ∷ []) x ≡ true → has vs x ≡ true) → has vs u ≡ true
     self vs all e one = placed_among vs (w ∷ []) vs u one all e
+
     by : (o : Option ℕ) → number_of w ws ≡ o → has (moved_in_front o w ws) u ≡ true → has ws u ≡ true
     by None e k = k
     by (Some n) e k = self ws (has_itself ws) k (one_has ws w (ap is_some e))
@@ -224,3 +228,56 @@ past_all [] zero h = refl
 past_all [] (suc n) h = refl
 past_all (x ∷ xs) zero h = absurd (omega arith)
 past_all (x ∷ xs) (suc n) h = past_all xs n (omega arith)
+
+-- ---- one in front
+
+abbrev one : Bool → ℕ
+one true = 1
+one false = 0
+
+-- how many of the words are among these
+abbrev hits : List Word → List Word → ℕ
+hits known [] = 0
+hits known (w ∷ ws) = one (has known w) + hits known ws
+
+one_more : (a b : Bool) → (a ≡ true → b ≡ true) → one a ≤ one b
+one_more true true h = omega arith
+one_more true false h = absurd (let e : false ≡ true = h refl in cc)
+one_more false b h = omega arith
+
+hits_more : (known : List Word) (u : Word) (ws : List Word) → hits known ws ≤ hits (words_with u known) ws
+hits_more known u [] = omega arith
+hits_more known u (w ∷ ws) = let a = one_more (has known w) (has (words_with u known) w) (has_more known u w) in let b = hits_more known u ws in omega arith
+
+few_placed : (known ws : List Word) → length (by_first_place known ws) + hits known ws ≤ length known + length ws
+few_placed known [] = omega arith
+few_placed known (w ∷ ws) = by (number_of w known) refl (λ names. few_placed names ws)
+  where
+    by : (o : Option ℕ) → number_of w known ≡ o → ((names : List Word) → length (by_first_place names ws) + hits names ws ≤ length names + length ws) → length (by_first_place (with_new o w known) ws) + (one (has known w) + hits known ws) ≤ length known + length (w ∷ ws)
+    by (Some n) e again = let b = again known in let h : has known w ≡ true = ap is_some e in let k : one (has known w) ≡ 1 = ap one h in omega (arith, b, k)
+    by None e again =
+        let b = again (known ++ w ∷ []) in
+        let h : has known w ≡ false = ap is_some e in
+        let k : one (has known w) ≡ 0 = ap one h in
+        let same : words_with w known ≡ known ++ w ∷ [] = ap (λ (o : Option ℕ). with_new o w known) e in
+        let more : hits known ws ≤ hits (known ++ w ∷ []) ws = subst (λ (names : List Word). hits known ws ≤ hits names ws) same (hits_more known w ws) in
+        omega (arith, b, k, more, length-append known (w ∷ []))
+
+hit : (known ws : List Word) (w : Word) → has ws w ≡ true → has known w ≡ true → 1 ≤ hits known ws
+hit known [] w h i = absurd cc
+hit known (x ∷ ws) w h i = by (bytes_eq w x) refl (sym (ap is_some (number_first w x ws)) ∙ h) (λ j. hit known ws w j i)
+  where
+    rest : (o : Option ℕ) → is_some (shifted o) ≡ true → is_some o ≡ true
+    rest (Some n) e = refl
+    rest None e = absurd cc
+    by : (b : Bool) → bytes_eq w x ≡ b → is_some (here_or b (number_of w ws)) ≡ true → (has ws w ≡ true → 1 ≤ hits known ws) → 1 ≤ one (has known x) + hits known ws
+    by true e g again = let same : has known x ≡ true = ap (has known) (sym ((bytes_eq-Decides w x).0 e)) ∙ i in let k : one (has known x) ≡ 1 = ap one same in omega (arith, k)
+    by false e g again = let l = again (rest (number_of w ws) g) in omega arith
+
+-- a word of a list, placed in front of it, makes it no longer
+pub led_no_longer : (w : Word) (ws : List Word) → has ws w ≡ true → length (by_first_place (w ∷ []) ws) ≤ length ws
+led_no_longer w ws h = let a = few_placed (w ∷ []) ws in let b = hit (w ∷ []) ws w h (has_here [] w) in omega arith
+
+pub some_is : {X : Type 0} (o : Option X) → IsSome o → is_some o ≡ true
+some_is (Some x) h = refl
+some_is None h = h

@@ -1,11 +1,11 @@
 -- The first fault of a text that is no program.
-use Rattle.std.specs.Prelude.{◌≡◌, ℕ, Bool, true, false, List, [], ◌∷◌, ◌++◌, length, drop, Result, Ok, Err}
+use Rattle.std.specs.Prelude.{◌≡◌, ℕ, Bool, true, false, List, [], ◌∷◌, ◌++◌, length, drop, IsSome, Result, Ok, Err}
 use Rattle.tv_tokens.specs.declared.token.TokenKind.{TokenKind}
 use Rattle.tv_tokens.specs.declared.token.TokenKind.TheVariants.{From, Nondet}
 use Rattle.tv_tokens.specs.declared.token.Token.{Token}
 use Rattle.tv_tokens.specs.Tokens.{IsTokens}
 use Rattle.tv_program.specs.declared.program.Program.{Program}
-use Rattle.tv_program.specs.Systems.{System}
+use Rattle.tv_program.specs.Systems.{System, IsLimited}
 use Rattle.tv_program.specs.Programs.{system_of}
 use Rattle.tv_language.specs.Symbols.{is_colon}
 use Rattle.tv_grammar.specs.Exact.{IsText}
@@ -17,9 +17,14 @@ use Rattle.tv_reader.specs.declared.fault.What.{What}
 use Rattle.tv_reader.specs.declared.fault.What.TheVariants.{Variables, Locations, Edges, Draws}
 use Rattle.tv_reader.specs.declared.fault.ReadFault.{ReadFault}
 use Rattle.tv_reader.specs.declared.fault.ReadFault.TheVariants.{Syntax, NoStart, TwoStarts, NotLinear, Wide, TooMany, Deep, Memory}
+use Rattle.tv_reader.specs.declared.reason.Reason.{Reason}
+use Rattle.tv_reader.specs.declared.reason.Reason.TheVariants as reasons
+use Rattle.tv_reader.specs.declared.items.ItemsRead.{ItemsRead}
+use Rattle.tv_reader.specs.declared.reader.Reader.{Reader}
+use Rattle.tv_program.specs.Views.{transitions}
 use Rattle.tv_reader.specs.ProgramMarks.{program_marks}
 use Rattle.tv_reader.specs.ProgramGrammar.{Items, program_at}
-use Rattle.tv_reader.specs.Places.{IsPlace}
+use Rattle.tv_reader.specs.Places.{line_of, column_of}
 
 -- whether the last of these tokens is a colon
 abbrev pub ends_with_colon : Bool → List Token → Bool
@@ -42,7 +47,8 @@ pub record HasFault (text : List ℕ) (kind : Kind) (line column : ℕ) : Type 0
   pub behind : List Token
   pub scanned : IsTokens 0 text (before ++ here ∷ behind)
   pub refused : Refuses program_at 63 kind (program_marks text (before ++ here ∷ behind)) (drop (length before) (program_marks text (before ++ here ∷ behind)))
-  pub place : IsPlace text here.at line column
+  pub is_line : line ≡ line_of text here.at
+  pub is_column : column ≡ column_of text here.at
 
 -- There are items up to the end of the text, and no START among them.
 pub record HasNoStart (text : List ℕ) : Type 0 where
@@ -73,3 +79,21 @@ abbrev pub IsReadAs : System → Result Program ReadFault → Type 0
 IsReadAs p (Ok program) = system_of program ≡ p
 IsReadAs p (Err Memory) = Unit {0}
 IsReadAs p (Err fault) = ⊥
+
+-- ---- the answer for what was read
+
+-- the refusal for a reason at this place
+abbrev pub fault_at : Reason → What → ℕ → ℕ → ReadFault
+fault_at reasons.Syntax what line column = Syntax line column
+fault_at reasons.Wide what line column = Wide line column
+fault_at reasons.Deep what line column = Deep line column
+fault_at reasons.NotLinear what line column = NotLinear line column
+fault_at reasons.TwoStarts what line column = TwoStarts line column
+fault_at reasons.TooMany what line column = TooMany what line column
+fault_at reasons.Memory what line column = Memory
+
+-- the program of these items, one of which is START
+pub record IsMade (r : Reader) (x : ItemsRead) (p : Program) : Type 0 where
+  pub started : IsSome x.start
+  pub same : system_of p ≡ record { variables = r.reading.names; locations = r.labels; start = 0; edges = transitions x.edges.items }
+  pub limited : IsLimited (system_of p)

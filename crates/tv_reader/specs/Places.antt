@@ -1,14 +1,11 @@
--- Places of a text as lines and columns.
-use Rattle.std.specs.Prelude.{◌≡◌, ℕ, ◌+◌, List, [], ◌∷◌, ◌++◌, ◌⊎◌, length, count_by, take, ◌==◌}
+-- Places of a text as lines and columns. Both count from 1; a line ends after LF, and a column counts bytes.
+use Rattle.std.specs.Prelude.{ℕ, ◌+◌, List, take, reverse, not, ◌==◌, count_by}
+use Rattle.std.specs.List.{prefix_len}
 
--- The byte with this place, from 0, or the end of the text, stands in this line and column, both from 1. A line ends after LF, and a
--- column counts bytes.
-pub record IsPlace (text : List ℕ) (at line column : ℕ) : Type 0 where
-  -- the lines before, each with its LF, and what stands before the place in its own line
-  pub before : List ℕ
-  pub within : List ℕ
-  pub parts : take at text ≡ before ++ within
-  pub ends : before ≡ [] ⊎ ((front : List ℕ) × (before ≡ front ++ 10 ∷ []))
-  pub no_end : count_by (λ b. b == 10) within ≡ 0
-  pub is_line : line ≡ 1 + count_by (λ b. b == 10) before
-  pub is_column : column ≡ 1 + length within
+-- one more than there are LFs before the place
+abbrev pub line_of : List ℕ → ℕ → ℕ
+line_of text at = 1 + count_by (λ b. b == 10) (take at text)
+
+-- one more than there are bytes from the place back to the LF before it, or to the front of the text
+abbrev pub column_of : List ℕ → ℕ → ℕ
+column_of text at = 1 + prefix_len (λ b. not (b == 10)) (reverse (take at text))

@@ -112,11 +112,7 @@ impl Reader<'_> {
     }
 
     /// Adds the assignment behind its variable.
-    fn assigned(
-        &mut self,
-        variable: u32,
-        commands: Vec<Command>,
-    ) -> Result<Vec<Command>, Reason>
+    fn assigned(&mut self, variable: u32, commands: Vec<Command>) -> Result<Vec<Command>, Reason>
         requires steady { IsSteady self.old }
         requires behind { self.old.behind_colon ≡ false }
         requires known { variable < length self.old.reading.names }

@@ -4,9 +4,12 @@
 mod commands;
 mod fault;
 mod items;
+mod place;
 mod program;
+mod read;
 mod reader;
 mod reason;
 mod words;
 
 pub use fault::{ReadFault, What};
+pub use read::read_program;

@@ -1,5 +1,5 @@
-ghost use Rattle.std.specs.Prelude.{◌≡◌, ◌≤◌, ◌∷◌, [], List, length, take, false, None, Some, IfOk, OnOk, MatchOption};
-ghost use Rattle.tv_program.specs.Words.{Word, words_with};
+ghost use Rattle.std.specs.Prelude.{◌≡◌, ◌≤◌, ◌∷◌, [], List, length, take, false, None, Some, IfOk, OnOk, IsSome, MatchOption};
+ghost use Rattle.tv_program.specs.Words.{Word, number_of, words_with};
 ghost use Rattle.tv_language.specs.Symbols.{lexemes, variable_by, label_by, variable_words, label_words, by_first_place};
 ghost use Rattle.tv_reader.specs.ProgramMarks.{start_word, second_word, moved_in_front, vocabulary};
 ghost use Rattle.tv_reader.specs.Readers.{led};
@@ -105,7 +105,9 @@ fn start_word<'a>(text: &'a [u8], list: &[Token]) -> Option<&'a [u8]>
 /// The labels with one of them in front.
 fn moved_in_front(alloc: Global, labels: &Names, word: &[u8]) -> Result<Names, AllocError>
     requires few { length labels.now ≤ 1024 }
-    ensures { IfOk result (λ names. names ≡ by_first_place (word.now ∷ []) labels.now) }
+    requires among { IsSome (number_of word.now labels.now) }
+    ensures moved { IfOk result (λ names. names ≡ by_first_place (word.now ∷ []) labels.now) }
+    ensures few { IfOk result (λ names. length names ≤ 1024) }
 {
     let mut names = Names::new(alloc);
     names.put(word)?;
@@ -118,7 +120,8 @@ fn moved_in_front(alloc: Global, labels: &Names, word: &[u8]) -> Result<Names, A
 /// The labels with this one in front, if it is one of them.
 fn led(alloc: Global, labels: Names, start: Option<&[u8]>) -> Result<Names, AllocError>
     requires few { length labels ≤ 1024 }
-    ensures { IfOk result (λ names. names ≡ led start.entry labels) }
+    ensures led { IfOk result (λ names. names ≡ led start.entry labels) }
+    ensures few { IfOk result (λ names. length names ≤ 1024) }
 {
     match start {
         Some(word) => match labels.find(word) {
@@ -133,7 +136,8 @@ fn led(alloc: Global, labels: Names, start: Option<&[u8]>) -> Result<Names, Allo
 pub fn known_words(alloc: Global, text: &[u8], list: &[Token]) -> Result<Known, AllocError>
     ensures variables { IfOk result (λ known. known.variables ≡ (vocabulary (lexemes text.now list.now)).variables) }
     ensures labels { IfOk result (λ known. known.labels ≡ (vocabulary (lexemes text.now list.now)).labels) }
-    ensures few { IfOk result (λ known. length known.variables ≤ 512) }
+    ensures few_variables { IfOk result (λ known. length known.variables ≤ 512) }
+    ensures few_labels { IfOk result (λ known. length known.labels ≤ 1024) }
 {
     let Known { variables, labels } = first_words(alloc, text, list)?;
     let labels = led(alloc, labels, start_word(text, list))?;

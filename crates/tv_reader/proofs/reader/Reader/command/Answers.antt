@@ -20,13 +20,13 @@ returns-in-Mark-clause-reads c =
     let kind : (token_at r.reading).kind ≡ kinds.Mark = sym c.kind.ensures ∙ c.in-Mark.is in
     let word = (lexeme r.reading.text (token_at r.reading)).word in
     let mark : left r ≡ plain (fixed kinds.Mark) ∷ left c.advance-in-Mark.new.self =
-        c.advance-in-Mark.ensures.taken
-        ∙ ap (λ (b : Bool). mark_by (words_of r) b r.reading.draws (token_at r.reading).kind word ∷ left c.advance-in-Mark.new.self) c.requires.behind
-        ∙ ap (λ k. mark_by (words_of r) false r.reading.draws k word ∷ left c.advance-in-Mark.new.self) kind in
+    c.advance-in-Mark.ensures.taken
+    ∙ ap (λ (b : Bool). mark_by (words_of r) b r.reading.draws (token_at r.reading).kind word ∷ left c.advance-in-Mark.new.self) c.requires.behind
+    ∙ ap (λ k. mark_by (words_of r) false r.reading.draws k word ∷ left c.advance-in-Mark.new.self) kind in
     turn_given instructions (command_cases every 63) cs (left r) (left c.perhaps_ended.new.self) c.args.commands _ (mark_begins cs (left r) (left c.advance-in-Mark.new.self) mark)
     (elim c.perhaps_ended.ensures.taken [
-    | inl e ↦ semicolon_came cs (left c.advance-in-Mark.new.self) (left c.perhaps_ended.new.self) e
-    | inr e ↦ no_semicolon cs (left c.advance-in-Mark.new.self) (semicolon_off (left c.advance-in-Mark.new.self) e.1) ∙ ap (λ (us : List Mark). Ok (cs, us)) (sym e.0)
+      | inl e ↦ semicolon_came cs (left c.advance-in-Mark.new.self) (left c.perhaps_ended.new.self) e
+      | inr e ↦ no_semicolon cs (left c.advance-in-Mark.new.self) (semicolon_off (left c.advance-in-Mark.new.self) e.1) ∙ ap (λ (us : List Mark). Ok (cs, us)) (sym e.0)
     ])
 
 pub returns-in_default : goal.returns-in_default
@@ -36,7 +36,7 @@ returns-in_default c =
     let kind = (token_at r.reading).kind in
     let word = (lexeme r.reading.text (token_at r.reading)).word in
     let off : goes_at (command_cases every 63 cs) (next (left r)) ≡ false =
-        ap (goes_at (command_cases every 63 cs)) (next_is r.labels r.behind_colon r.reading c.requires.steady.reads.closed)
-        ∙ ap (λ (b : Bool). goes_at (command_cases every 63 cs) (Some (mark_by (words_of r) b r.reading.draws kind word))) c.requires.behind
-        ∙ other_off (words_of r) r.reading.draws kind word cs (λ e. c.in_default.not-Assume (c.kind.ensures ∙ e)) (λ e. c.in_default.not-Name (c.kind.ensures ∙ e)) (λ e. c.in_default.not-Mark (c.kind.ensures ∙ e)) in
+    ap (goes_at (command_cases every 63 cs)) (next_is r.labels r.behind_colon r.reading c.requires.steady.reads.closed)
+    ∙ ap (λ (b : Bool). goes_at (command_cases every 63 cs) (Some (mark_by (words_of r) b r.reading.draws kind word))) c.requires.behind
+    ∙ other_off (words_of r) r.reading.draws kind word cs (λ e. c.in_default.not-Assume (c.kind.ensures ∙ e)) (λ e. c.in_default.not-Name (c.kind.ensures ∙ e)) (λ e. c.in_default.not-Mark (c.kind.ensures ∙ e)) in
     record { steady = c.requires.steady; kept = λ x is. is; reads = (off, refl, refl); colon = c.requires.behind; fits = c.requires.fits }

@@ -18,9 +18,9 @@ returns-in-End c = λ s.
     let kind : (token_at r.reading).kind ≡ kinds.End = sym c.kind.ensures ∙ c.in-End.is in
     let word = (lexeme r.reading.text (token_at r.reading)).word in
     let alone : left r ≡ plain (fixed kinds.End) ∷ [] =
-        last_alone r.labels r.behind_colon r.reading c.requires.steady.reads.closed (ap is_last kind)
-        ∙ ap (λ (b : Bool). mark_by (words_of r) b r.reading.draws (token_at r.reading).kind word ∷ []) c.requires.behind
-        ∙ ap (λ k. mark_by (words_of r) false r.reading.draws k word ∷ []) kind in
+    last_alone r.labels r.behind_colon r.reading c.requires.steady.reads.closed (ap is_last kind)
+    ∙ ap (λ (b : Bool). mark_by (words_of r) b r.reading.draws (token_at r.reading).kind word ∷ []) c.requires.behind
+    ∙ ap (λ k. mark_by (words_of r) false r.reading.draws k word ∷ []) kind in
     ap (headed_read Syntax (last_of_program s)) alone
 
 pub returns-in-Start : goal.returns-in-Start

@@ -17,9 +17,9 @@ returns-in-None-clause-reads c =
     let r = c.args.self.now in
     let t = c.peek-token.result in
     let next_mark : next (left r) ≡ Some (mark_by (words_of r) true r.reading.draws t.kind (lexeme r.reading.text t).word) =
-        next_is r.labels r.behind_colon r.reading c.requires.steady.reads.closed
-        ∙ ap (λ (x : Token). Some (mark_by (words_of r) r.behind_colon r.reading.draws x.kind (lexeme r.reading.text x).word)) (sym c.peek-token.ensures)
-        ∙ ap (λ (b : Bool). Some (mark_by (words_of r) b r.reading.draws t.kind (lexeme r.reading.text t).word)) c.requires.behind in
+    next_is r.labels r.behind_colon r.reading c.requires.steady.reads.closed
+    ∙ ap (λ (x : Token). Some (mark_by (words_of r) r.behind_colon r.reading.draws x.kind (lexeme r.reading.text x).word)) (sym c.peek-token.ensures)
+    ∙ ap (λ (b : Bool). Some (mark_by (words_of r) b r.reading.draws t.kind (lexeme r.reading.text t).word)) c.requires.behind in
     let word : c.word_of.result.now ≡ (lexeme r.reading.text t).word = c.word_of.ensures ∙ ap (λ text. (lexeme text t).word) c.requires.steady.text in
     let none : number_of (lexeme r.reading.text t).word r.labels ≡ None = ap (λ w. number_of w r.labels) (sym word) ∙ sym c.find.ensures.number ∙ c.in-None.is in
     label_refused (left r) (next_mark ∙ ap (λ m. Some m) (label_many (words_of r) r.reading.draws t.kind (lexeme r.reading.text t).word c.in-Name.is none))
@@ -29,9 +29,9 @@ returns-in-Wide-clause-reads c =
     let r = c.args.self.now in
     let t = c.peek-token.result in
     let next_mark : next (left r) ≡ Some (mark_by (words_of r) true r.reading.draws t.kind (lexeme r.reading.text t).word) =
-        next_is r.labels r.behind_colon r.reading c.requires.steady.reads.closed
-        ∙ ap (λ (x : Token). Some (mark_by (words_of r) r.behind_colon r.reading.draws x.kind (lexeme r.reading.text x).word)) (sym c.peek-token.ensures)
-        ∙ ap (λ (b : Bool). Some (mark_by (words_of r) b r.reading.draws t.kind (lexeme r.reading.text t).word)) c.requires.behind in
+    next_is r.labels r.behind_colon r.reading c.requires.steady.reads.closed
+    ∙ ap (λ (x : Token). Some (mark_by (words_of r) r.behind_colon r.reading.draws x.kind (lexeme r.reading.text x).word)) (sym c.peek-token.ensures)
+    ∙ ap (λ (b : Bool). Some (mark_by (words_of r) b r.reading.draws t.kind (lexeme r.reading.text t).word)) c.requires.behind in
     label_wide (left r) (next_mark ∙ ap (λ k. Some (mark_by (words_of r) true r.reading.draws k (lexeme r.reading.text t).word)) c.in-Wide.is)
 
 pub returns-in_default : goal.returns-in_default
@@ -39,9 +39,9 @@ returns-in_default c =
     let r = c.args.self.now in
     let t = c.peek-token.result in
     let next_mark : next (left r) ≡ Some (mark_by (words_of r) true r.reading.draws t.kind (lexeme r.reading.text t).word) =
-        next_is r.labels r.behind_colon r.reading c.requires.steady.reads.closed
-        ∙ ap (λ (x : Token). Some (mark_by (words_of r) r.behind_colon r.reading.draws x.kind (lexeme r.reading.text x).word)) (sym c.peek-token.ensures)
-        ∙ ap (λ (b : Bool). Some (mark_by (words_of r) b r.reading.draws t.kind (lexeme r.reading.text t).word)) c.requires.behind in
+    next_is r.labels r.behind_colon r.reading c.requires.steady.reads.closed
+    ∙ ap (λ (x : Token). Some (mark_by (words_of r) r.behind_colon r.reading.draws x.kind (lexeme r.reading.text x).word)) (sym c.peek-token.ensures)
+    ∙ ap (λ (b : Bool). Some (mark_by (words_of r) b r.reading.draws t.kind (lexeme r.reading.text t).word)) c.requires.behind in
     record {
       steady = c.requires.steady;
       kept = λ x is. is;

@@ -14,7 +14,7 @@ returns-in_default c =
     let kind = (token_at r.reading).kind in
     let word = (lexeme r.reading.text (token_at r.reading)).word in
     let next_mark : next (left r) ≡ Some (mark_by (words_of r) false r.reading.draws kind word) =
-        next_is r.labels r.behind_colon r.reading c.requires.steady.reads.closed ∙ ap (λ (b : Bool). Some (mark_by (words_of r) b r.reading.draws kind word)) c.requires.behind in
+    next_is r.labels r.behind_colon r.reading c.requires.steady.reads.closed ∙ ap (λ (b : Bool). Some (mark_by (words_of r) b r.reading.draws kind word)) c.requires.behind in
     record {
       steady = c.requires.steady;
       kept = λ x is. is;

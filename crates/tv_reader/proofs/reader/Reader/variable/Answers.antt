@@ -16,10 +16,10 @@ returns-clause-marked c =
     let r = c.args.self.now in
     let t = c.peek.result in
     let next_mark : next (left r) ≡ Some (numbered kinds.Name name (number_of (lexeme r.reading.text t).word r.reading.names)) =
-        next_is r.labels r.behind_colon r.reading c.requires.steady.reads.closed
-        ∙ ap (λ (b : Bool). Some (mark_by (words_of r) b r.reading.draws (token_at r.reading).kind (lexeme r.reading.text (token_at r.reading)).word)) c.requires.behind
-        ∙ ap (λ k. Some (mark_by (words_of r) false r.reading.draws k (lexeme r.reading.text (token_at r.reading)).word)) c.requires.named
-        ∙ ap (λ (x : Token). Some (numbered kinds.Name name (number_of (lexeme r.reading.text x).word r.reading.names))) (sym c.peek.ensures) in
+    next_is r.labels r.behind_colon r.reading c.requires.steady.reads.closed
+    ∙ ap (λ (b : Bool). Some (mark_by (words_of r) b r.reading.draws (token_at r.reading).kind (lexeme r.reading.text (token_at r.reading)).word)) c.requires.behind
+    ∙ ap (λ k. Some (mark_by (words_of r) false r.reading.draws k (lexeme r.reading.text (token_at r.reading)).word)) c.requires.named
+    ∙ ap (λ (x : Token). Some (numbered kinds.Name name (number_of (lexeme r.reading.text x).word r.reading.names))) (sym c.peek.ensures) in
     let word : c.word_of-word.result.now ≡ (lexeme r.reading.text t).word = c.word_of-word.ensures ∙ ap (λ text. (lexeme text t).word) c.requires.steady.text in
     let found : c.find.result ≡ number_of (lexeme r.reading.text t).word r.reading.names = c.find.ensures.number ∙ ap (λ w. number_of w c.names.result.now) word ∙ ap (λ ns. number_of (lexeme r.reading.text t).word ns) c.names.ensures in
     name_marked c.find.result (left r) (next_mark ∙ ap (λ o. Some (numbered kinds.Name name o)) (sym found))
