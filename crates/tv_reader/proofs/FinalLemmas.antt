@@ -89,6 +89,7 @@ all_full names (w ∷ ws) h = and_both _ _ (either (has names w)) (all_full name
   where
     many : nat_le 512 (length names) ≡ true
     many = grind (arith, nat_tests)
+
     either : (b : Bool) → (b || nat_le 512 (length names)) ≡ true
     either true = refl
     either false = many
@@ -243,16 +244,19 @@ module _ (text : List ℕ) (tokens : List Token) (scanned : IsTokens 0 text toke
         let left_is : left u ≡ drop (length before) (left r) = sym (drop_front f.before (left u)) ∙ ap (λ (n : ℕ). drop n (f.before ++ left u)) even ∙ ap (drop (length before)) (sym f.parts) in
         let marks_are : left r ≡ program_marks text (before ++ h.token ∷ h.rest) = begun_left ∙ ap (program_marks text) (sym parts) in
         let refused : Refuses program_at 63 k (program_marks text (before ++ h.token ∷ h.rest)) (drop (length before) (program_marks text (before ++ h.token ∷ h.rest))) =
-            subst (λ (ms : List Mark). Refuses program_at 63 k ms (drop (length before) ms)) marks_are (subst (λ (ms : List Mark). Refuses program_at 63 k (left r) ms) left_is f) in
-        (record {
-          before = before;
-          here = h.token;
-          behind = h.rest;
-          scanned = subst (λ (ts : List Token). IsTokens 0 text ts) (sym parts) scanned;
-          refused = refused;
-          is_line = is_line ∙ ap (λ (t : Token). line_of text t.at) h.is;
-          is_column = is_column ∙ ap (λ (t : Token). column_of text t.at) h.is;
-        }, refl, sym h.is)
+        subst (λ (ms : List Mark). Refuses program_at 63 k ms (drop (length before) ms)) marks_are (subst (λ (ms : List Mark). Refuses program_at 63 k (left r) ms) left_is f) in (
+          record {
+            before = before;
+            here = h.token;
+            behind = h.rest;
+            scanned = subst (λ (ts : List Token). IsTokens 0 text ts) (sym parts) scanned;
+            refused = refused;
+            is_line = is_line ∙ ap (λ (t : Token). line_of text t.at) h.is;
+            is_column = is_column ∙ ap (λ (t : Token). column_of text t.at) h.is;
+          },
+          refl,
+          sym h.is,
+        )
 
     pub fault_told : (e : Reason) (line column : ℕ) → Unless e ((program_at every 63).read (left r) ≡ fault (kind_of e) (left u)) → line ≡ line_of text (token_at u.reading).at → column ≡ column_of text (token_at u.reading).at → IsRefused text (fault_at e (brought_in (ends_with_colon false (take u.reading.at tokens)) (token_at u.reading).kind) line column)
     fault_told reasons.Memory line column h is_line is_column = tt

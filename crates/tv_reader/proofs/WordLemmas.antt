@@ -270,6 +270,7 @@ hit known (x ∷ ws) w h i = by (bytes_eq w x) refl (sym (ap is_some (number_fir
     rest : (o : Option ℕ) → is_some (shifted o) ≡ true → is_some o ≡ true
     rest (Some n) e = refl
     rest None e = absurd cc
+
     by : (b : Bool) → bytes_eq w x ≡ b → is_some (here_or b (number_of w ws)) ≡ true → (has ws w ≡ true → 1 ≤ hits known ws) → 1 ≤ one (has known x) + hits known ws
     by true e g again = let same : has known x ≡ true = ap (has known) (sym ((bytes_eq-Decides w x).0 e)) ∙ i in let k : one (has known x) ≡ 1 = ap one same in omega (arith, k)
     by false e g again = let l = again (rest (number_of w ws) g) in omega arith

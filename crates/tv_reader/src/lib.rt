@@ -9,6 +9,8 @@ mod program;
 mod read;
 mod reader;
 mod reason;
+#[cfg(test)]
+mod tests;
 mod words;
 
 pub use fault::{ReadFault, What};
