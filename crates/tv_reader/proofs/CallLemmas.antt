@@ -1,12 +1,11 @@
 -- What a reader's calls of its reading tell.
-use Rattle.std.proofs.Common.{◌≡◌, ℕ, ◌+◌, ◌-◌, Bool, true, false, cond, List, Result, Ok, Err, refl, ap, sym, subst, ◌∙◌}
+use Rattle.std.proofs.Common.{◌≡◌, ℕ, ◌-◌, Bool, true, false, cond, List, Result, Ok, Err, ap, subst, ◌∙◌}
 use Rattle.tv_program.specs.Words.{Word}
 use Rattle.tv_program.specs.declared.tree.Expr.{Expr}
 use Rattle.tv_program.specs.declared.tree.Cond.{Cond}
-use Rattle.tv_program.specs.Trees.{Expression, Condition}
 use Rattle.tv_program.specs.Views.{expression, condition}
 use Rattle.tv_language.specs.Programs.{draws_in, draws_tested}
-use Rattle.tv_grammar.specs.Reads.{Fault, fault}
+use Rattle.tv_grammar.specs.Reads.{fault}
 use Rattle.tv_reading.specs.Marks as marks
 use Rattle.tv_reading.specs.Marks.{Kind, Mark, Stand, Passes}
 use Rattle.tv_reading.specs.Readings.{IsRead, sum_levels, condition_levels}
@@ -16,11 +15,11 @@ use Rattle.tv_reading.specs.declared.fault.PartFault.{PartFault}
 use Rattle.tv_reading.proofs.PassedLemmas.{passes_kept}
 use Rattle.tv_reading.proofs.SumLemmas.{sum_exact}
 use Rattle.tv_reading.proofs.ConditionLemmas.{condition_exact}
-use Rattle.tv_reader.specs.Readers.{Steady, Unless, kind_of, IsTold, Fixture, Settled}
+use Rattle.tv_reader.specs.Readers.{Steady, Unless, kind_of, IsTold, Fixture}
 use Rattle.tv_reader.specs.declared.reason.Reason.{Reason}
 use Rattle.tv_reader.proofs.StepLemmas.{left_of}
 use Rattle.tv_reader.proofs.KindsOfFaults.{sums_kinded, conditions_kinded}
-use Rattle.tv_reader.proofs.ReadLemmas.{Went, Found, found_there, Refused, refused_there, reason_told, sum_body, sum_draws, condition_body, condition_draws}
+use Rattle.tv_reader.proofs.ReadLemmas.{Went, Found, found_there, reason_told, sum_body, sum_draws, condition_body, condition_draws}
 
 abbrev pub fixture_of : List Word → Stand → Fixture
 fixture_of labels s = record { text = s.text; tokens = s.tokens; names = s.names; labels = labels }

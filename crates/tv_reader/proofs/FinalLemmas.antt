@@ -1,17 +1,14 @@
 -- What the reading of a whole text tells of the text.
-use Rattle.std.proofs.Common.{◌≡◌, ℕ, zero, suc, ◌+◌, ◌-◌, ◌<◌, ◌≤◌, Bool, true, false, List, [], ◌∷◌, ◌++◌, length, take, drop, Option, Some, None, Result, Ok, Err, IfOk, refl, ap, sym, subst, ◌∙◌, length-append, arith}
-use Rattle.std.specs.Prelude.{is_some, nat_le, nat_lt, ◌&&◌, ◌||◌, IsSome, IfErr, MatchResult, map}
-use Rattle.std.specs.List.{list_all}
+use Rattle.std.proofs.Common.{◌≡◌, ℕ, zero, suc, ◌+◌, ◌≤◌, Bool, true, false, List, [], ◌∷◌, ◌++◌, length, take, drop, Option, Some, None, Result, Ok, Err, IfOk, refl, ap, sym, subst, ◌∙◌, length-append, arith}
+use Rattle.std.specs.Prelude.{nat_le, ◌||◌, IsSome, IfErr, MatchResult}
 use Rattle.std.proofs.lemmas.Bool.Decides.{nat_tests}
-use Rattle.tv_tokens.specs.declared.token.TokenKind.{TokenKind}
 use Rattle.tv_tokens.specs.declared.token.Token.{Token}
 use Rattle.tv_tokens.specs.Tokens.{IsTokens}
 use Rattle.tv_tokens.proofs.OneList.{one_list}
 use Rattle.tv_program.specs.declared.program.Program.{Program}
 use Rattle.tv_program.specs.Programs.{system_of}
 use Rattle.tv_program.specs.Systems.{System, IsLimited}
-use Rattle.tv_program.specs.Words.{Word, number_of}
-use Rattle.tv_program.specs.Trees.{Transition}
+use Rattle.tv_program.specs.Words.{Word}
 use Rattle.tv_program.specs.Views.{transitions}
 use Rattle.tv_language.specs.Symbols.{Lexeme, lexemes, Vocabulary, is_colon, variable_words, by_first_place}
 use Rattle.tv_language.specs.Programs.{IsProgramText}
@@ -35,11 +32,11 @@ use Rattle.tv_reader.specs.ProgramMarks.{vocabulary, draws_behind, marks_from, p
 use Rattle.tv_reader.specs.ProgramGrammar.{Items, program_at}
 use Rattle.tv_reader.specs.Places.{line_of, column_of}
 use Rattle.tv_reader.specs.Readers.{is_closed, are_known, left, Fixture, fixture, Steady, IsSteady, Unless, kind_of, starts_view, items_view}
-use Rattle.tv_reader.specs.FirstFaults.{ends_with_colon, brought_in, HasFault, HasNoStart, IsFirstFault, IsRefused, IsReadAs, fault_at, IsMade}
+use Rattle.tv_reader.specs.FirstFaults.{ends_with_colon, brought_in, HasFault, IsRefused, IsReadAs, fault_at, IsMade}
 use Rattle.tv_reading.proofs.LinearLemmas.{and_left, and_right, and_both}
-use Rattle.tv_reader.proofs.WordLemmas.{has, has_all, has_each, take_all, past_all}
+use Rattle.tv_reader.proofs.WordLemmas.{has, has_all, has_each, take_all}
 use Rattle.tv_reader.proofs.TokenLemmas.{tokens_closed}
-use Rattle.tv_reader.proofs.StepLemmas.{Here, here}
+use Rattle.tv_reader.proofs.StepLemmas.{here}
 use Rattle.tv_reader.proofs.ProgramExact.{program_exact}
 use Rattle.tv_reader.proofs.ProgramEnds.{program_ends}
 use Rattle.tv_reader.proofs.ProgramLoose.{program_loose}

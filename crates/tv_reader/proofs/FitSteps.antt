@@ -1,6 +1,6 @@
 -- Commands and edges that are added fit as those before.
-use Rattle.std.proofs.Common.{◌≡◌, ℕ, ◌+◌, ◌<◌, ◌≤◌, Bool, true, false, List, [], ◌∷◌, ◌++◌, length, Vec, Option, Some, None, Result, Ok, Err, refl, ap, sym, subst, ◌∙◌, arith}
-use Rattle.std.specs.Prelude.{IsTrue, is_some, nat_lt, nat_le, ◌&&◌, MatchResult}
+use Rattle.std.proofs.Common.{◌≡◌, ℕ, ◌+◌, ◌≤◌, Bool, true, false, List, [], ◌∷◌, ◌++◌, length, Vec, Option, Some, None, Result, Ok, Err, refl, ap, sym, ◌∙◌, arith}
+use Rattle.std.specs.Prelude.{IsTrue, is_some, nat_lt, MatchResult}
 use Rattle.std.specs.List.{list_all}
 use Rattle.std.specs.Global.{Global}
 use Rattle.std.proofs.lemmas.Bool.Decides.{nat_tests}
@@ -9,10 +9,9 @@ use Rattle.std.proofs.lemmas.List.{length-map}
 use Rattle.tv_program.specs.declared.tree.Edge.{Edge}
 use Rattle.tv_program.specs.Views.{transition, transitions}
 use Rattle.tv_program.specs.Words.{Word}
-use Rattle.tv_program.specs.Trees.{Instruction, Transition}
-use Rattle.tv_program.specs.Limits.{instruction_fits, transition_fits}
+use Rattle.tv_program.specs.Trees.{Instruction}
+use Rattle.tv_program.specs.Limits.{instruction_fits}
 use Rattle.tv_language.specs.Programs.{draws_of, draws_counted}
-use Rattle.tv_reading.proofs.LinearLemmas.{and_both}
 use Rattle.tv_reader.specs.Readers.{instructions, CommandsFit, starts_view}
 use Rattle.tv_reader.specs.ProgramGrammar.{has_start, is_full}
 use Rattle.tv_reader.specs.declared.reader.Reader.{Reader}

@@ -1,5 +1,5 @@
 -- A name that is not known is at fault only where a token is marked so.
-use Rattle.std.proofs.Common.{◌≡◌, ℕ, zero, suc, Bool, true, false, List, [], ◌∷◌, ◌++◌, Option, Some, None, refl, pos}
+use Rattle.std.proofs.Common.{◌≡◌, ℕ, zero, suc, Bool, true, false, List, [], ◌∷◌, ◌++◌, Option, Some, None, pos}
 use Rattle.std.specs.Prelude.{◌&&◌}
 use Rattle.tv_tokens.specs.declared.token.TokenKind.{TokenKind}
 use Rattle.tv_tokens.specs.declared.token.TokenKind.TheVariants as kinds
@@ -11,11 +11,11 @@ use Rattle.tv_program.specs.Limits.{are_constant}
 use Rattle.tv_language.specs.Symbols.{number, name, drawn, fixed}
 use Rattle.tv_language.specs.Sums.{gathered}
 use Rattle.tv_language.specs.Conditions.{relation_of, joined}
-use Rattle.tv_grammar.specs.Langs.{unit, then, mapped, stop, go, headed, turns, narrowed}
+use Rattle.tv_grammar.specs.Langs.{unit, then, mapped, stop, go, turns}
 use Rattle.tv_grammar.specs.Faults.{Kinded, KindedBranch, KindedTurn}
 use Rattle.tv_grammar.proofs.KindLemmas.{unit_kinded, then_kinded, mapped_kinded, headed_kinded, turns_kinded}
 use Rattle.tv_grammar.proofs.NarrowLemmas.{narrowed_kinded}
-use Rattle.tv_reading.specs.Marks.{Kind, Syntax, Wide, Deep, NotLinear, UnknownName, Mark, plain, refused}
+use Rattle.tv_reading.specs.Marks.{Kind, Syntax, UnknownName, Mark, plain, refused}
 use Rattle.tv_reading.specs.SumGrammar.{Grammar, Behind, every, close_cases, open_cases, closed, brackets, named_by, refused_by, leaf_cases, Inner, bottom, deeper, factor_cases, below, star_cases, product_over, sum_cases, sum_over, factor_at, product_at, sum_at}
 use Rattle.tv_reading.specs.ConditionGrammar.{Thing, value, tested, relation_by, compared, relation_cases, tail, opened, as_test, literal_over, is_and, is_or, more_by, more_cases, conjunction_from, conjunction_over, condition_from, condition_over, continued, after_factor, Under, ground, level, plain_cases, in_brackets, thing_cases, thing_at, plain_at, literal_at, condition_at}
 

@@ -1,10 +1,9 @@
 -- What fits fewer draws fits more, and commands one by one.
-use Rattle.std.proofs.Common.{◌≡◌, ℕ, ◌+◌, ◌<◌, ◌≤◌, Bool, true, false, List, [], ◌∷◌, ◌++◌, refl, ap, sym, ◌∙◌, arith}
-use Rattle.std.specs.Prelude.{◌&&◌, nat_lt, nat_le, IsTrue}
+use Rattle.std.proofs.Common.{◌≡◌, ℕ, ◌+◌, ◌<◌, ◌≤◌, Bool, true, List, [], ◌∷◌, ◌++◌, refl, arith}
 use Rattle.std.specs.List.{list_all}
 use Rattle.std.proofs.lemmas.Bool.Decides.{nat_tests}
 use Rattle.tv_program.specs.Trees.{Expression, number, variable, draw, minus, sum, product, Expressions, no_part, part, Condition, truth, compare, negated, all_of, some_of, Conditions, no_test, test, Instruction, assume, assign}
-use Rattle.tv_program.specs.Limits.{is_linear_product, expression_fits, expressions_fit, expression_depth, condition_fits, conditions_fit, condition_depth, instruction_fits}
+use Rattle.tv_program.specs.Limits.{expression_fits, expressions_fit, condition_fits, conditions_fit, instruction_fits}
 use Rattle.tv_language.specs.Programs.{draws_of, draws_counted}
 use Rattle.tv_reading.proofs.LinearLemmas.{and_left, and_right, and_both}
 

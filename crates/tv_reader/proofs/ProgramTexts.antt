@@ -1,5 +1,5 @@
 -- What is read as a program is one.
-use Rattle.std.proofs.Common.{◌≡◌, ℕ, suc, Bool, true, false, List, [], ◌∷◌, ◌++◌, ◌⊎◌, inl, inr, refl, sym, ap, subst, ◌∙◌, append_assoc}
+use Rattle.std.proofs.Common.{◌≡◌, ℕ, Bool, true, false, List, [], ◌∷◌, ◌++◌, ◌⊎◌, inl, inr, refl, sym, ap, subst, ◌∙◌, append_assoc}
 use Rattle.std.proofs.lemmas.List.{append-nil}
 use Rattle.std.specs.Prelude.{◌&&◌}
 use Rattle.tv_tokens.specs.declared.token.TokenKind.{TokenKind}
@@ -8,9 +8,9 @@ use Rattle.tv_program.specs.Trees.{Instruction, assume, assign, Transition}
 use Rattle.tv_language.specs.Symbols.{Symbol, name, label, fixed}
 use Rattle.tv_language.specs.Programs as programs
 use Rattle.tv_language.specs.Programs.{edge_of, IsCommand, assumption, assignment, AreCommands, no_command, command, AreItems, no_item, start, passed}
-use Rattle.tv_grammar.specs.Langs.{unit, then, mapped, OfBranch, branch_text, branch_value, headed, Turns, done, turn, turns, turns_text, turns_value}
+use Rattle.tv_grammar.specs.Langs.{unit, then, mapped, OfBranch, branch_text, branch_value, headed, Turns, done, turn, turns_text, turns_value}
 use Rattle.tv_grammar.specs.Exact.{IsText}
-use Rattle.tv_reading.specs.Marks.{Kind, Syntax, Wide, TwoStarts, TooMany, Mark, plain, refused, symbols_of}
+use Rattle.tv_reading.specs.Marks.{Kind, Syntax, TwoStarts, TooMany, Mark, plain, refused, symbols_of}
 use Rattle.tv_reading.specs.SumGrammar.{Grammar, every, refuse_by, sum_at}
 use Rattle.tv_reading.specs.ConditionGrammar.{condition_at}
 use Rattle.tv_reading.proofs.SumTexts.{sum_is}

@@ -1,20 +1,19 @@
 -- What is a program is read as one.
-use Rattle.std.proofs.Common.{◌≡◌, ℕ, suc, ◌+◌, ◌<◌, ◌≤◌, Bool, true, false, List, [], ◌∷◌, ◌++◌, length, Ok, refl, sym, ap, subst, ◌∙◌, append_assoc, length-append, arith}
+use Rattle.std.proofs.Common.{◌≡◌, ℕ, ◌+◌, ◌≤◌, Bool, true, false, List, [], ◌∷◌, ◌++◌, length, refl, sym, ap, ◌∙◌, append_assoc, length-append, arith}
 use Rattle.std.proofs.lemmas.List.{append-nil}
 use Rattle.std.proofs.lemmas.Bool.Decides.{nat_tests}
-use Rattle.std.specs.Prelude.{◌&&◌, not, nat_lt}
-use Rattle.tv_tokens.specs.declared.token.TokenKind.{TokenKind}
+use Rattle.std.specs.Prelude.{◌&&◌, nat_lt}
 use Rattle.tv_tokens.specs.declared.token.TokenKind.TheVariants as kinds
 use Rattle.tv_program.specs.Trees.{Instruction, assume, assign, Transition}
 use Rattle.tv_language.specs.Symbols.{Symbol, name, label, fixed}
 use Rattle.tv_language.specs.Programs as programs
 use Rattle.tv_language.specs.Programs.{edge_of, IsCommand, assumption, assignment, AreCommands, no_command, command, AreItems, no_item, start, passed}
-use Rattle.tv_grammar.specs.Langs.{unit, then, mapped, OfBranch, branch_text, branch_value, headed, Turns, done, turn, turns, turns_text, turns_value}
+use Rattle.tv_grammar.specs.Langs.{mapped, OfBranch, branch_text, branch_value, Turns, done, turn, turns_text, turns_value}
 use Rattle.tv_grammar.specs.Exact.{IsText}
-use Rattle.tv_reading.specs.Marks.{Kind, Syntax, Wide, TwoStarts, TooMany, Mark, plain, refused, symbols_of}
+use Rattle.tv_reading.specs.Marks.{Kind, TwoStarts, TooMany, Mark, plain, symbols_of}
 use Rattle.tv_reading.specs.SumGrammar.{Grammar, every, refuse_by, sum_at}
 use Rattle.tv_reading.specs.ConditionGrammar.{condition_at}
-use Rattle.tv_reading.proofs.SumTexts.{Back, Front, front, sum_is_read}
+use Rattle.tv_reading.proofs.SumTexts.{Back, front, sum_is_read}
 use Rattle.tv_reading.proofs.ConditionsRead.{condition_is_read}
 use Rattle.tv_reader.specs.ProgramGrammar as grammar
 use Rattle.tv_reader.specs.ProgramGrammar.{token, is_right, ended, label_cases, place, command_cases, Items, no_items, with_start, with_edge, last_of_edge, has_start, is_full, item_cases, last_of_program, program_at}

@@ -1,15 +1,14 @@
 -- A sum or a condition is read from the text as from its own marks.
-use Rattle.std.proofs.Common.{◌≡◌, ℕ, zero, suc, ◌+◌, ◌-◌, ◌^◌, Bool, true, false, cond, List, [], ◌∷◌, ◌++◌, Option, Some, None, Result, Ok, Err, IfOk, refl, ap, sym, subst, ◌∙◌, arith}
-use Rattle.std.proofs.lemmas.List.{append-nil, append_cancel_right}
+use Rattle.std.proofs.Common.{◌≡◌, ℕ, ◌+◌, ◌^◌, Bool, true, false, cond, List, [], ◌++◌, Option, Some, None, Ok, Err, refl, ap, sym, subst, ◌∙◌}
+use Rattle.std.proofs.lemmas.List.{append-nil}
 use Rattle.std.specs.Prelude.{nat_lt}
 use Rattle.tv_tokens.specs.declared.token.TokenKind.{TokenKind}
 use Rattle.tv_tokens.specs.declared.token.TokenKind.TheVariants as kinds
 use Rattle.tv_tokens.specs.Numbers.{value_of_digits}
 use Rattle.tv_program.specs.Words.{Word, number_of}
-use Rattle.tv_program.specs.Trees.{Expression, Condition}
-use Rattle.tv_language.specs.Symbols.{Symbol, number, name, label, drawn, fixed, lexeme, Vocabulary}
+use Rattle.tv_language.specs.Symbols.{Symbol, number, name, drawn, fixed, lexeme, Vocabulary}
 use Rattle.tv_language.specs.Programs.{draws_in, draws_tested}
-use Rattle.tv_grammar.specs.Reads.{Fault, fault, next}
+use Rattle.tv_grammar.specs.Reads.{fault, next}
 use Rattle.tv_grammar.specs.Exact.{Exact}
 use Rattle.tv_grammar.specs.Faults.{Kinded}
 use Rattle.tv_grammar.proofs.ExactLemmas.{apart}
@@ -21,15 +20,14 @@ use Rattle.tv_reading.specs.SumGrammar.{Grammar, every, sum_at}
 use Rattle.tv_reading.specs.ConditionGrammar.{condition_at}
 use Rattle.tv_reading.specs.declared.fault.PartFault.{PartFault}
 use Rattle.tv_reading.specs.declared.fault.PartFault.TheVariants as parts
-use Rattle.tv_reading.proofs.PassedLemmas.{symbols-append, passes_kept}
+use Rattle.tv_reading.proofs.PassedLemmas.{symbols-append}
 use Rattle.tv_reading.proofs.SumTexts.{sum_is}
 use Rattle.tv_reading.proofs.ConditionTexts.{condition_is}
 use Rattle.tv_reader.specs.ProgramMarks.{numbered, mark_by}
 use Rattle.tv_reader.specs.Readers.{Steady, Unless, kind_of, IsTold}
 use Rattle.tv_reader.specs.declared.reason.Reason.{Reason}
-use Rattle.tv_reader.specs.declared.reason.Reason.TheVariants as reasons
 use Rattle.tv_reader.proofs.SymbolLemmas.{all_body, body_front, draws_at_all, Uses, sum_uses, condition_uses}
-use Rattle.tv_reader.proofs.StepLemmas.{left_of, mark_of, next_is, Travels, travels, same_next}
+use Rattle.tv_reader.proofs.StepLemmas.{left_of, next_is, Travels, travels, same_next}
 use Rattle.tv_reader.proofs.KindsOfFaults.{is_unknown, unknown, Marked}
 
 -- ---- no mark of a program is an unknown name

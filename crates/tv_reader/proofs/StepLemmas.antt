@@ -1,30 +1,25 @@
 -- One token that is taken, and the tokens of a sum or a condition.
-use Rattle.std.proofs.Common.{◌≡◌, ℕ, zero, suc, ◌+◌, ◌-◌, ◌^◌, ◌<◌, ◌≤◌, Bool, true, false, cond, List, [], ◌∷◌, ◌++◌, length, drop, Option, Some, None, Result, Ok, Err, refl, ap, sym, subst, ◌∙◌, append_assoc, arith}
-use Rattle.std.proofs.lemmas.List.{append-nil, drop-drop, length-drop, append_cancel_right}
+use Rattle.std.proofs.Common.{◌≡◌, ℕ, suc, ◌+◌, ◌-◌, ◌^◌, ◌<◌, Bool, true, false, cond, List, [], ◌∷◌, ◌++◌, length, drop, Option, Some, None, refl, ap, sym, subst, ◌∙◌, append_assoc, arith}
+use Rattle.std.proofs.lemmas.List.{drop-drop, length-drop, append_cancel_right}
 use Rattle.std.proofs.lemmas.Bool.Decides.{nat_tests}
 use Rattle.std.specs.Prelude.{is_some, nat_lt, nat_le, ◌&&◌, ◌||◌, not}
-use Rattle.std.specs.List.{list_all}
 use Rattle.tv_tokens.specs.declared.token.TokenKind.{TokenKind}
 use Rattle.tv_tokens.specs.declared.token.TokenKind.TheVariants as kinds
 use Rattle.tv_tokens.specs.declared.token.Token.{Token}
 use Rattle.tv_tokens.specs.Numbers.{value_of_digits}
-use Rattle.tv_program.specs.Words.{Word, number_of, words_with, with_new}
+use Rattle.tv_program.specs.Words.{Word, number_of, with_new}
 use Rattle.tv_language.specs.Symbols as symbols
 use Rattle.tv_language.specs.Symbols.{Symbol, name, drawn, fixed, lexeme, Lexeme, lexemes, Vocabulary, is_colon, variable_words, variable_by}
-use Rattle.tv_grammar.specs.Reads.{Fault, fault, next}
-use Rattle.tv_grammar.specs.Exact.{Exact}
-use Rattle.tv_grammar.proofs.ExactLemmas.{apart}
-use Rattle.tv_grammar.proofs.LongestLemmas.{elsewhere_ok, elsewhere_fault}
+use Rattle.tv_grammar.specs.Reads.{next}
 use Rattle.tv_reading.specs.Marks as marks
 use Rattle.tv_reading.specs.Marks.{Kind, Mark, plain, refused, symbol_of, symbols_of, TooMany, Stand, past, first, Passes, stay, pass}
-use Rattle.tv_reading.specs.Readings.{taken, token_at, or_end, IsWithin}
-use Rattle.tv_reading.specs.SumGrammar.{Grammar}
+use Rattle.tv_reading.specs.Readings.{taken, token_at, or_end}
 use Rattle.tv_reading.proofs.LinearLemmas.{and_left, and_right, and_both}
 use Rattle.tv_reading.proofs.PassedLemmas.{between, here_is, symbols-append, passes_kept}
 use Rattle.tv_reader.specs.ProgramMarks.{mark_by, draws_behind, marks_from}
 use Rattle.tv_reader.specs.ProgramMarks as own
 use Rattle.tv_reader.specs.Readers.{is_last, is_closed, are_known, is_passing, Steady}
-use Rattle.tv_reader.proofs.SymbolLemmas.{body, all_body, body_front, draws_at, draws_at_all, draws-append}
+use Rattle.tv_reader.proofs.SymbolLemmas.{body, all_body, draws_at, draws_at_all, draws-append}
 
 -- ---- the token that comes
 

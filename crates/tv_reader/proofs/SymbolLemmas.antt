@@ -1,16 +1,15 @@
 -- The symbols that sums, conditions and commands have: none of them begins or ends an item, their draws are those of the tree, and
 -- where the tree fits, so do they.
-use Rattle.std.proofs.Common.{◌≡◌, ℕ, ◌+◌, ◌^◌, ◌<◌, ◌≤◌, Bool, true, false, List, [], ◌∷◌, ◌++◌, Option, Some, None, refl, sym, ap, subst, ◌∙◌, append_assoc, arith}
-use Rattle.std.specs.Prelude.{◌&&◌, nat_lt, nat_le, IsTrue}
+use Rattle.std.proofs.Common.{◌≡◌, ℕ, ◌+◌, ◌^◌, Bool, true, false, List, [], ◌∷◌, ◌++◌, Some, refl, sym, ap, ◌∙◌, append_assoc, arith}
+use Rattle.std.specs.Prelude.{◌&&◌, nat_lt}
 use Rattle.std.specs.List.{list_all}
-use Rattle.std.proofs.lemmas.Bool.Decides.{nat_tests}
 use Rattle.tv_tokens.specs.declared.token.TokenKind.{TokenKind}
 use Rattle.tv_tokens.specs.declared.token.TokenKind.TheVariants as kinds
 use Rattle.tv_program.specs.declared.tree.Relation.{Relation}
 use Rattle.tv_program.specs.Trees as trees
 use Rattle.tv_program.specs.Trees.{Expression, Condition, Instruction, assume, assign}
 use Rattle.tv_program.specs.Views.{parts_of, tests_of}
-use Rattle.tv_program.specs.Limits.{is_linear_product, expression_fits, expressions_fit, expression_depth, condition_fits, conditions_fit, condition_depth, instruction_fits}
+use Rattle.tv_program.specs.Limits.{expression_fits, expressions_fit, condition_fits, conditions_fit, instruction_fits}
 use Rattle.tv_language.specs.Symbols.{Symbol, number, name, label, drawn, fixed}
 use Rattle.tv_language.specs.Sums.{gathered, IsFactor, constant, variable, draw, bracketed, negative, AreFactors, no_factor, times, IsProduct, factors, AreProducts, no_product, plus, less, IsSum, products}
 use Rattle.tv_language.specs.Conditions as conditions

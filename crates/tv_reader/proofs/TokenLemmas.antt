@@ -12,7 +12,7 @@ use Rattle.tv_tokens.specs.declared.front.Front.TheVariants as fronts
 use Rattle.tv_tokens.specs.Gaps.{gap_of}
 use Rattle.tv_tokens.specs.Numbers.{value_of_digits}
 use Rattle.tv_tokens.specs.WordTexts.{begins_name, continues_name, word_kind, command_kind}
-use Rattle.tv_tokens.specs.Fronts.{span, section, word_front, number_front, single_front, symbol_front, solid_front, gap_or, front_of}
+use Rattle.tv_tokens.specs.Fronts.{span, section, word_front, single_front, symbol_front, solid_front, gap_or, front_of}
 use Rattle.tv_tokens.specs.Tokens.{IsTokens, end, gap, solid, unread}
 use Rattle.tv_reading.proofs.LinearLemmas.{and_both}
 use Rattle.tv_reader.specs.Readers.{is_last, is_closed}

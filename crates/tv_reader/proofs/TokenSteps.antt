@@ -1,5 +1,5 @@
 -- What single tokens do to the grammar.
-use Rattle.std.proofs.Common.{◌≡◌, ℕ, ◌^◌, Bool, true, false, cond, List, [], ◌∷◌, Option, Some, None, Ok, ◌⊎◌, inl, inr, refl, ap, sym, subst, ◌∙◌}
+use Rattle.std.proofs.Common.{◌≡◌, ℕ, ◌^◌, Bool, true, false, cond, List, [], ◌∷◌, Option, Some, None, Ok, ◌⊎◌, inl, inr, refl, ap, sym, ◌∙◌}
 use Rattle.std.specs.Prelude.{nat_lt}
 use Rattle.tv_tokens.specs.declared.token.TokenKind.{TokenKind}
 use Rattle.tv_tokens.specs.declared.token.TokenKind.TheVariants as kinds
@@ -7,12 +7,12 @@ use Rattle.tv_tokens.specs.Numbers.{value_of_digits}
 use Rattle.tv_program.specs.Words.{Word, number_of}
 use Rattle.tv_language.specs.Symbols.{Symbol, number, name, label, drawn, fixed, Vocabulary}
 use Rattle.tv_grammar.specs.Reads.{fault, next}
-use Rattle.tv_grammar.specs.Langs.{branch_read, headed_read, headed}
+use Rattle.tv_grammar.specs.Langs.{branch_read, headed}
 use Rattle.tv_reading.specs.Marks.{Mark, plain, refused, Syntax, Wide, TooMany}
 use Rattle.tv_reading.specs.SumGrammar.{Grammar, every}
 use Rattle.tv_reading.specs.Views.{kind_at}
 use Rattle.tv_reader.specs.ProgramMarks.{numbered, mark_by}
-use Rattle.tv_reader.specs.ProgramGrammar.{go_if, token_cases, token, label_cases}
+use Rattle.tv_reader.specs.ProgramGrammar.{go_if, token, label_cases}
 use Rattle.tv_reader.specs.Readers.{is_fixed, is_passing}
 
 -- ---- the mark of a token of a fixed kind

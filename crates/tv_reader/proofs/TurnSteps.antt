@@ -1,27 +1,26 @@
 -- One turn of the commands of an edge, or of the items of a program.
-use Rattle.std.proofs.Common.{◌≡◌, ℕ, ◌^◌, ◌<◌, ◌≤◌, Bool, true, false, cond, List, [], ◌∷◌, ◌++◌, length, drop, Option, Some, None, Result, Ok, Err, refl, ap, sym, subst, ◌∙◌, arith}
+use Rattle.std.proofs.Common.{◌≡◌, ℕ, ◌^◌, ◌<◌, Bool, true, false, cond, List, [], ◌∷◌, length, Option, Some, None, Result, Ok, Err, refl, ap, sym, ◌∙◌}
 use Rattle.std.specs.Prelude.{nat_lt, ◌&&◌, MatchOption}
 use Rattle.tv_tokens.specs.declared.token.TokenKind.{TokenKind}
 use Rattle.tv_tokens.specs.declared.token.TokenKind.TheVariants as kinds
 use Rattle.tv_tokens.specs.Numbers.{value_of_digits}
 use Rattle.tv_program.specs.Words.{Word, number_of}
-use Rattle.tv_program.specs.Trees.{Instruction, Transition}
-use Rattle.tv_language.specs.Symbols.{Symbol, number, name, label, drawn, fixed, Vocabulary}
+use Rattle.tv_program.specs.Trees.{Instruction}
+use Rattle.tv_language.specs.Symbols.{number, name, drawn, fixed, Vocabulary}
 use Rattle.tv_grammar.specs.Reads.{Fault, faulty, fault, next, ◌>>=◌}
-use Rattle.tv_grammar.specs.Langs.{Branch, is_go, branch_read, headed_read, headed, goes_at, turns, turns_read, mapped}
+use Rattle.tv_grammar.specs.Langs.{is_go, branch_read, headed_read, headed, goes_at, turns, mapped}
 use Rattle.tv_grammar.specs.Exact.{ExactBranch}
 use Rattle.tv_grammar.proofs.TurningLemmas.{loop_ends, loop_fails, loop_goes, turn_shrinks}
-use Rattle.tv_reading.specs.Marks.{Mark, plain, refused, Syntax, Wide, TwoStarts, TooMany, Kind}
+use Rattle.tv_reading.specs.Marks.{Mark, plain, refused, Syntax, TwoStarts, TooMany, Kind}
 use Rattle.tv_reading.specs.SumGrammar.{Grammar, Behind, every, refuse_by}
 use Rattle.tv_reading.specs.Views.{kind_at}
 use Rattle.tv_reader.proofs.ProgramExact.{semicolon_branch}
 use Rattle.tv_reader.specs.ProgramMarks.{numbered, mark_by}
 use Rattle.tv_reader.specs.ProgramGrammar as grammar
 use Rattle.tv_reader.specs.ProgramGrammar.{command_cases, Items, with_start, with_edge, place, perhaps_ended, semicolon_cases, last_of_edge, has_start, is_full, item_cases, last_of_program}
-use Rattle.tv_reader.specs.Readers.{Unless, kind_of, Gives, Turned, is_last}
+use Rattle.tv_reader.specs.Readers.{Unless, kind_of, Turned}
 use Rattle.tv_reader.specs.declared.reason.Reason.{Reason}
 use Rattle.tv_reader.specs.declared.reason.Reason.TheVariants as reasons
-use Rattle.tv_reader.specs.declared.reason.Turn.{Turn}
 use Rattle.tv_reader.specs.declared.reason.Turn.TheVariants.{On, Off}
 
 -- ---- a turn that is taken

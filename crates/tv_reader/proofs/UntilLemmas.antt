@@ -1,14 +1,11 @@
 -- Turns up to a token that ends them: they are read exactly, and ask less where what stands in them asks less.
-use Rattle.std.proofs.Common.{◌≡◌, ℕ, zero, suc, ◌<◌, ◌≤◌, Bool, true, false, List, [], ◌∷◌, ◌++◌, length, Result, Ok, Err, Option, Some, None, refl, sym, ap, subst, ◌∙◌, arith}
-use Rattle.tv_grammar.specs.Reads.{Fault, faulty, fault, ◌>>=◌, next, first_or}
-use Rattle.tv_grammar.specs.Langs.{Lang, Branch, stop, go, OfBranch, branch_read, is_go, headed_read, headed, goes_at, then, turns}
-use Rattle.tv_grammar.specs.Exact.{Exact, ExactBranch, Outside, nowhere}
+use Rattle.std.proofs.Common.{◌≡◌, ℕ, zero, suc, ◌<◌, ◌≤◌, Bool, true, false, List, [], ◌∷◌, length, Result, Ok, Err, refl, ap, subst, arith}
+use Rattle.tv_grammar.specs.Reads.{Fault, faulty, ◌>>=◌, next}
+use Rattle.tv_grammar.specs.Langs.{stop, go, branch_read, is_go, headed_read, goes_at}
+use Rattle.tv_grammar.specs.Exact.{Exact, ExactBranch}
 use Rattle.tv_grammar.specs.Faults.{Below, AfterFault, Follows, Loosens, LoosensBranch}
-use Rattle.tv_grammar.proofs.ExactLemmas.{then_exact, headed_exact}
-use Rattle.tv_grammar.proofs.TurnLemmas.{turns_exact}
 use Rattle.tv_grammar.proofs.TurningLemmas.{shrinks, loop_ends, loop_goes, loop_fails}
 use Rattle.tv_grammar.proofs.LooseLemmas.{reach, headed_loose}
-use Rattle.tv_grammar.proofs.OutsideLemmas.{BranchOutside, headed_outside, then_outside, turns_outside}
 use Rattle.tv_reading.specs.Marks.{Kind, Syntax, Mark}
 use Rattle.tv_reading.specs.SumGrammar.{Grammar, Behind}
 use Rattle.tv_reader.specs.ProgramGrammar.{until}

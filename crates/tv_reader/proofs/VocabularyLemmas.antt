@@ -1,25 +1,22 @@
 -- The marks of a text without a fault have the symbols of its vocabulary, in which START's label has the number 0.
-use Rattle.std.proofs.Common.{◌≡◌, ℕ, zero, suc, ◌+◌, ◌^◌, ◌<◌, ◌≤◌, Bool, true, false, cond, List, [], ◌∷◌, ◌++◌, length, take, Option, Some, None, refl, ap, sym, subst, ◌∙◌, arith}
+use Rattle.std.proofs.Common.{◌≡◌, ℕ, suc, ◌^◌, ◌<◌, ◌≤◌, Bool, true, false, cond, List, [], ◌∷◌, ◌++◌, Option, Some, None, refl, ap, sym, ◌∙◌, arith}
 use Rattle.std.proofs.lemmas.Bool.Decides.{nat_tests}
-use Rattle.std.proofs.lemmas.Slice.Eq.{bytes_eq-Decides}
-use Rattle.std.specs.Prelude.{is_some, nat_lt, nat_le, ◌&&◌, IsTrue}
+use Rattle.std.specs.Prelude.{is_some, nat_lt, nat_le, ◌&&◌}
 use Rattle.std.specs.List.{list_all}
-use Rattle.std.specs.Str.{bytes_eq}
 use Rattle.tv_tokens.specs.declared.token.TokenKind.{TokenKind}
 use Rattle.tv_tokens.specs.declared.token.TokenKind.TheVariants as kinds
 use Rattle.tv_tokens.specs.Numbers.{value_of_digits}
 use Rattle.tv_program.specs.Words.{Word, number_of}
 use Rattle.tv_program.specs.Trees.{Transition}
-use Rattle.tv_program.specs.Limits.{instruction_fits, transition_fits}
+use Rattle.tv_program.specs.Limits.{transition_fits}
 use Rattle.tv_language.specs.Symbols as symbols
 use Rattle.tv_language.specs.Symbols.{Symbol, number, name, label, drawn, fixed, Lexeme, Vocabulary, symbol_by, is_colon, symbols_from, is_label, is_name, in_front, label_words, variable_words}
 use Rattle.tv_language.specs.Programs as programs
 use Rattle.tv_language.specs.Programs.{edge_of, AreItems, no_item, start, passed, draws_counted}
-use Rattle.tv_reading.specs.Marks.{Mark, plain, refused, symbol_of, symbols_of, TooMany, number_mark, draw_mark}
+use Rattle.tv_reading.specs.Marks.{plain, refused, symbol_of, symbols_of, TooMany}
 use Rattle.tv_reading.proofs.LinearLemmas.{and_left, and_right, and_both}
-use Rattle.tv_language.proofs.PlaceOfWords.{number_first}
-use Rattle.tv_reader.specs.ProgramMarks.{second_word, label_behind, start_word, numbered, mark_by, draws_behind, marks_from}
-use Rattle.tv_reader.proofs.SymbolLemmas.{body_kind, body, all_body, sound, all_sound, commands_uses}
+use Rattle.tv_reader.specs.ProgramMarks.{label_behind, start_word, numbered, mark_by, draws_behind, marks_from}
+use Rattle.tv_reader.proofs.SymbolLemmas.{body, all_body, sound, all_sound, commands_uses}
 use Rattle.tv_reader.proofs.WordLemmas.{has, has_all, has_behind, has_here}
 
 -- ---- what stands in a program

@@ -1,17 +1,15 @@
 -- The texts of programs are those that the grammar reads.
-use Rattle.std.proofs.Common.{◌≡◌, ℕ, zero, suc, ◌+◌, ◌<◌, ◌≤◌, Bool, true, false, not, List, [], ◌∷◌, ◌++◌, length, take, Option, Some, None, refl, ap, sym, subst, ◌∙◌, length-append, arith}
+use Rattle.std.proofs.Common.{◌≡◌, ℕ, ◌+◌, ◌≤◌, Bool, true, false, not, List, [], ◌∷◌, length, take, Option, Some, None, refl, ap, sym, subst, ◌∙◌, length-append, arith}
 use Rattle.std.proofs.lemmas.Bool.Decides.{nat_tests}
 use Rattle.std.proofs.lemmas.Slice.Eq.{bytes_eq-Decides}
-use Rattle.std.specs.Prelude.{is_some, nat_le, cond, ◌||◌, ◌&&◌}
+use Rattle.std.specs.Prelude.{is_some, nat_le, ◌||◌}
 use Rattle.std.specs.Str.{bytes_eq}
 use Rattle.tv_tokens.specs.declared.token.Token.{Token}
 use Rattle.tv_tokens.specs.Tokens.{IsTokens}
-use Rattle.tv_tokens.proofs.OneList.{one_list}
 use Rattle.tv_program.specs.Words.{Word, number_of, words_with, with_new}
-use Rattle.tv_program.specs.Trees.{Transition}
 use Rattle.tv_program.specs.Systems.{System, IsLimited}
 use Rattle.tv_reading.proofs.LinearLemmas.{and_left, and_right, and_both}
-use Rattle.tv_language.specs.Symbols.{Symbol, Lexeme, lexemes, Vocabulary, symbols, symbols_from, variable_words, label_words, by_first_place}
+use Rattle.tv_language.specs.Symbols.{Symbol, Lexeme, lexemes, Vocabulary, symbols_from, variable_words, label_words, by_first_place}
 use Rattle.tv_language.specs.Programs.{AreItems, IsProgramText}
 use Rattle.tv_language.proofs.PlaceOfWords.{shifted, here_or, number_first, or_last, number_more}
 use Rattle.tv_language.proofs.PlaceLemmas.{leads}
@@ -20,7 +18,7 @@ use Rattle.tv_reading.specs.Marks.{Mark, symbols_of}
 use Rattle.tv_reading.specs.SumGrammar.{every}
 use Rattle.tv_reader.specs.ProgramMarks.{start_word, led_by, vocabulary, marks_from, program_marks}
 use Rattle.tv_reader.specs.ProgramGrammar.{Items, program_at}
-use Rattle.tv_reader.proofs.WordLemmas.{has, has_all, has_each, among, all_first, take_all, place-place, led_in_front, led_first, led_has, has_new, has_more}
+use Rattle.tv_reader.proofs.WordLemmas.{has, has_all, has_each, among, all_first, take_all, place-place, led_in_front, led_first, led_has}
 use Rattle.tv_reader.proofs.VocabularyLemmas.{all_fine, items_fine, items_sound, marks_fine, symbols_marked, labels_numbered, variables_numbered, Starts, items_starts}
 use Rattle.tv_reader.proofs.ProgramTexts.{program_is}
 use Rattle.tv_reader.proofs.ProgramsRead.{program_is_read}

@@ -5,7 +5,7 @@ use Rattle.tv_tokens.specs.declared.token.TokenKind.TheVariants as kinds
 use Rattle.tv_program.specs.Trees.{Instruction, assume, assign, Transition}
 use Rattle.tv_language.specs.Symbols.{name, label, fixed}
 use Rattle.tv_language.specs.Programs.{edge_of}
-use Rattle.tv_grammar.specs.Langs.{unit, then, mapped, Branch, stop, go, headed, turns}
+use Rattle.tv_grammar.specs.Langs.{unit, then, mapped, stop, go, headed, turns}
 use Rattle.tv_reading.specs.Marks.{Kind, Syntax, Wide, TwoStarts, TooMany, Mark, plain, refused}
 use Rattle.tv_reading.specs.SumGrammar.{Grammar, Behind, refuse_by, sum_at}
 use Rattle.tv_reading.specs.ConditionGrammar.{condition_at}

@@ -1,10 +1,10 @@
-use Rattle.std.proofs.Common.{◌≡◌, ◌≤◌, ◌<◌, ◌+◌, false, true, ℕ, List, length, take, Ok, Err, refl, ap, sym, subst, ◌∙◌, arith}
+use Rattle.std.proofs.Common.{◌≡◌, ◌≤◌, false, true, ℕ, List, length, take, Err, refl, ap, sym, subst, ◌∙◌}
 use Rattle.tv_tokens.specs.declared.token.Token.{Token}
 use Rattle.tv_program.specs.Words.{Word}
 use Rattle.tv_language.specs.Symbols.{lexemes}
 use Rattle.tv_reading.specs.Readings.{begun, token_at}
 use Rattle.tv_reader.specs.ProgramMarks.{vocabulary}
-use Rattle.tv_reader.specs.Readers.{left, Fixture, fixture}
+use Rattle.tv_reader.specs.Readers.{left, Fixture}
 use Rattle.tv_reader.specs.Places.{line_of, column_of}
 use Rattle.tv_reader.specs.FirstFaults.{ends_with_colon, brought_in, fault_at, IsRefused, IsReadAs}
 use Rattle.tv_reader.proofs.FinalLemmas.{Begun, begun_steady, found_in, refused_in, only_found, only_fault, fault_answer}

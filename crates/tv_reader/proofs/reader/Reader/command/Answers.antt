@@ -7,7 +7,7 @@ use Rattle.tv_reading.specs.Marks.{Mark, plain}
 use Rattle.tv_reading.specs.Readings.{token_at}
 use Rattle.tv_reading.specs.SumGrammar.{every}
 use Rattle.tv_reader.specs.ProgramMarks.{mark_by}
-use Rattle.tv_reader.specs.ProgramGrammar.{command_cases, perhaps_ended}
+use Rattle.tv_reader.specs.ProgramGrammar.{command_cases}
 use Rattle.tv_reader.specs.Readers.{left, words_of, instructions}
 use Rattle.tv_reader.proofs.StepLemmas.{next_is}
 use Rattle.tv_reader.proofs.TurnSteps.{turn_given, mark_begins, other_off, semicolon_came, no_semicolon, semicolon_off}

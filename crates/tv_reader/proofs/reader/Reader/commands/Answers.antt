@@ -1,4 +1,3 @@
-use Rattle.std.proofs.Common.{[], ap, ◌∙◌}
 use Rattle.std.proofs.lemmas.Result.{err_from_is_err_and}
 use Rattle.tv_reading.specs.SumGrammar.{every}
 use Rattle.tv_reader.specs.ProgramGrammar.{command_cases}

@@ -1,4 +1,3 @@
-use Rattle.std.proofs.Common.{ap, ◌∙◌}
 use Rattle.std.proofs.lemmas.Result.{err_from_is_err_and}
 use Rattle.tv_reader.specs.Readers.{instructions}
 use Rattle.tv_reader.proofs.reader.Reader.edge.Goals as goal

@@ -1,7 +1,6 @@
-use Rattle.std.proofs.Common.{◌≡◌, ◌∷◌, [], Bool, true, false, Some, Ok, refl, ap, sym, ◌∙◌}
+use Rattle.std.proofs.Common.{◌≡◌, ◌∷◌, [], Bool, false, Some, ap, sym, ◌∙◌}
 use Rattle.tv_tokens.specs.declared.token.TokenKind.TheVariants as kinds
 use Rattle.tv_language.specs.Symbols.{lexeme, fixed}
-use Rattle.tv_grammar.specs.Reads.{next}
 use Rattle.tv_grammar.specs.Langs.{headed_read}
 use Rattle.tv_reading.specs.Marks.{Syntax, plain}
 use Rattle.tv_reading.specs.Readings.{token_at}

@@ -7,7 +7,7 @@ use Rattle.tv_reading.specs.Marks.{Mark, plain}
 use Rattle.tv_reading.specs.Readings.{token_at}
 use Rattle.tv_reading.specs.SumGrammar.{every}
 use Rattle.tv_reader.specs.ProgramMarks.{mark_by}
-use Rattle.tv_reader.specs.ProgramGrammar.{item_cases, perhaps_ended}
+use Rattle.tv_reader.specs.ProgramGrammar.{item_cases}
 use Rattle.tv_reader.specs.Readers.{left, words_of, items_view}
 use Rattle.tv_reader.proofs.StepLemmas.{next_is}
 use Rattle.tv_reader.proofs.FitSteps.{has_start_of, full}

@@ -1,14 +1,11 @@
 use Rattle.std.proofs.Common.{◌≡◌, Bool, true, Some, None, refl, ap, sym, ◌∙◌}
-use Rattle.tv_tokens.specs.declared.token.TokenKind.TheVariants as kinds
 use Rattle.tv_tokens.specs.declared.token.Token.{Token}
 use Rattle.tv_program.specs.Words.{number_of}
-use Rattle.tv_language.specs.Symbols.{lexeme, fixed}
+use Rattle.tv_language.specs.Symbols.{lexeme}
 use Rattle.tv_grammar.specs.Reads.{next}
-use Rattle.tv_reading.specs.Marks.{plain}
-use Rattle.tv_reading.specs.Readings.{token_at}
 use Rattle.tv_reader.specs.ProgramMarks.{mark_by}
 use Rattle.tv_reader.specs.Readers.{left, words_of}
-use Rattle.tv_reader.proofs.StepLemmas.{next_is, mark_of}
+use Rattle.tv_reader.proofs.StepLemmas.{next_is}
 use Rattle.tv_reader.proofs.TokenSteps.{label_many, label_refused, label_wide, label_syntax}
 use Rattle.tv_reader.proofs.reader.Reader.label.Goals as goal
 

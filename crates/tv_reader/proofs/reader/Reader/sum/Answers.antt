@@ -1,12 +1,8 @@
-use Rattle.std.proofs.Common.{◌≡◌, ◌+◌, ℕ, Bool, true, false, List, Ok, Err, ap, sym, subst, ◌∙◌}
-use Rattle.std.specs.Prelude.{◌∷◌}
-use Rattle.tv_program.specs.Views.{expression, condition}
-use Rattle.tv_language.specs.Programs.{draws_in, draws_tested}
+use Rattle.std.proofs.Common.{◌≡◌, Bool, true, false, Ok, ap, sym, subst, ◌∙◌}
+use Rattle.tv_program.specs.Views.{expression}
 use Rattle.tv_grammar.specs.Reads.{fault}
-use Rattle.tv_reading.specs.Marks.{Stand}
 use Rattle.tv_reading.specs.SumGrammar.{every, sum_at}
-use Rattle.tv_reading.specs.ConditionGrammar.{condition_at}
-use Rattle.tv_reader.specs.Readers.{left, Steady, IsSteady, Fixture}
+use Rattle.tv_reader.specs.Readers.{Steady, IsSteady}
 use Rattle.tv_reader.proofs.StepLemmas.{left_of}
 use Rattle.tv_reading.proofs.PassedLemmas.{passes_kept}
 use Rattle.tv_reader.proofs.CallLemmas.{fixture_of, same_fixture, sum_found, sum_refused}
