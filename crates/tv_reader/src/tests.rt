@@ -90,7 +90,7 @@ fn reads_a_file(rt: HostRuntime) -> Result<(), Fail> {
     assert_eq!(rt; program.locations().len(), 14);
     assert_eq!(rt; program.locations().find(b"13"), Some(13));
     assert_eq!(rt; program.edges().len(), 17);
-    for (number, draws) in [(0, 1), (1, 0), (6, 1), (16, 0)] {
+    for (number, draws) in [(0, 1), (1, 0), (7, 1), (16, 0)] {
         match program.edges().get(number) {
             Some(edge) => assert_eq!(rt; edge.draws, draws),
             None => assert!(rt; false),
