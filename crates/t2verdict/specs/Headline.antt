@@ -1,13 +1,15 @@
 -- What an answer says of the words and of the bytes that were read.
-use Rattle.std.specs.Prelude.{◌≡◌, ℕ, ◌<◌, ◌≤◌, List, length, take, Option, None, Some, Ok, IfSome}
+use Rattle.std.specs.Prelude.{◌≡◌, ℕ, ◌<◌, ◌≤◌, List, length, take, Option, None, Some, Ok, Err, IfSome}
 use Rattle.tv_text.specs.Stream.{before, after, count_read, IsAtEnd}
 use Rattle.tv_given.specs.Headings.{IsSplit}
 use Rattle.tv_program.specs.Words.{number_of}
 use Rattle.tv_program.specs.Systems.{System}
 use Rattle.tv_language.specs.Programs.{IsProgramText}
+use Rattle.tv_reader.specs.declared.fault.ReadFault.{ReadFault as TextFault}
+use Rattle.tv_reader.specs.FirstFaults.{IsFirstFault}
 use Rattle.tv_meaning.specs.Meaning.{HoldsInitially}
 use Rattle.tv_cases.specs.LinearCases.{CaseSystem}
-use Rattle.tv_cases.specs.ProgramCases.{linear_cases}
+use Rattle.tv_cases.specs.ProgramCases.{LinearFault, wide, too_many, linear_cases}
 use Rattle.tv_cases.specs.Answers.{IsOfProgram}
 use Rattle.tv_cert.specs.declared.plain.Plain.{Plain}
 use Rattle.tv_cert.specs.declared.node.Verdict.TheVariants as verdicts
@@ -16,7 +18,7 @@ use Rattle.tv_cert.specs.Plain.{about_of, never_at, PlainMet}
 use Rattle.tv_cert_text.specs.PlainTexts.{IsPlainText}
 use Rattle.tv_check.specs.Walks.{IsFirstFailing}
 use Rattle.t2verdict.specs.declared.answer.Answer.{Answer}
-use Rattle.t2verdict.specs.declared.answer.Answer.TheVariants.{Proved, Obligation, Words, TooLong, TextUnbuilt, UnknownName, CertificateUnbuilt, ReadFault, Memory}
+use Rattle.t2verdict.specs.declared.answer.Answer.TheVariants.{Proved, Obligation, Words, TooLong, Text, WideEdge, TooManyInEdge, UnknownName, CertificateUnbuilt, ReadFault, Memory}
 use Rattle.t2verdict.specs.declared.status.Status.{Status}
 use Rattle.t2verdict.specs.declared.status.Status.TheVariants as statuses
 use Rattle.t2verdict.specs.Answers.{line_of, status_of}
@@ -49,6 +51,20 @@ pub record Offered (label bytes : List ℕ) : Type 0 where
   pub certificate : Plain
   pub is_certificate : IsPlainText question.cases question.location question.given.certificate_text certificate
 
+-- the text of the program, which is none, has this as its first fault
+pub record IsRefusedText (bytes : List ℕ) (fault : TextFault) : Type 0 where
+  pub program_text : List ℕ
+  pub certificate_text : List ℕ
+  pub split : IsSplit bytes program_text certificate_text
+  pub first : IsFirstFault program_text fault
+
+-- the words name a location of the program, which has no linear cases: this is why
+pub record HasNoCases (label bytes : List ℕ) (fault : LinearFault) : Type 0 where
+  pub given : Given bytes
+  pub location : ℕ
+  pub is_location : number_of label given.program.locations ≡ Some location
+  pub fault_is : linear_cases given.program ≡ Err fault
+
 -- every obligation of the certificate is met, and the property of the words holds at every initial state of the program, over all runs
 pub record IsProved (label bytes : List ℕ) : Type 0 where
   pub offer : Offered label bytes
@@ -63,7 +79,9 @@ Means label bytes (Obligation failing) =
 Means label bytes CertificateUnbuilt =
     (question : Asked label bytes) × ((certificate : Plain) → IsPlainText question.cases question.location question.given.certificate_text certificate → ⊥)
 Means label bytes UnknownName = (given : Given bytes) × (number_of label given.program.locations ≡ None)
-Means label bytes TextUnbuilt = Unit {0}
+Means label bytes (Text fault) = IsRefusedText bytes fault
+Means label bytes (WideEdge edge) = HasNoCases label bytes (wide edge)
+Means label bytes (TooManyInEdge edge) = HasNoCases label bytes (too_many edge)
 Means label bytes Memory = Unit {0}
 Means label bytes Words = ⊥
 Means label bytes TooLong = ⊥

@@ -1,5 +1,6 @@
 ghost use Rattle.std.specs.Prelude.{◌≡◌, ◌≤◌, map, length};
 ghost use Rattle.tv_text.specs.Stream.{Rose};
+ghost use Rattle.t2verdict.specs.Answers.{without_cases};
 ghost use Rattle.t2verdict.specs.Headline.{Means, IsAnswer, Concludes};
 
 use crate::answer::Answer;
@@ -10,12 +11,23 @@ use tv_cases::{CaseFault, cases};
 use tv_cert::Aim;
 use tv_cert_text::{PlainFault, read_plain_certificate};
 use tv_given::split_texts;
+use tv_reader::{ReadFault, read_program};
 use tv_sound::check_safety;
-use tv_syntax::read_plain;
 use tv_text::{ReadError, Sink, Source, read_all, write_all};
 
 /// How many bytes are read at most.
 const LIMIT: usize = 16_777_216;
+
+/// The answer for a program that has no linear cases.
+fn without_cases(fault: CaseFault) -> Answer
+    ensures { result ≡ without_cases fault }
+{
+    match fault {
+        CaseFault::Wide { edge } => Answer::WideEdge(edge),
+        CaseFault::TooMany { edge } => Answer::TooManyInEdge(edge),
+        CaseFault::Memory => Answer::Memory,
+    }
+}
 
 /// The answer to whether the certificate in the bytes shows that no run of the program in them reaches the location.
 fn decide(alloc: Global, bytes: &[u8], label: &str) -> Answer
@@ -23,19 +35,18 @@ fn decide(alloc: Global, bytes: &[u8], label: &str) -> Answer
     ensures { Means label.now bytes.now result }
 {
     let (text, certificate) = split_texts(bytes);
-    let program = match read_plain(alloc, text) {
+    let program = match read_program(alloc, text) {
         Ok(program) => program,
-        Err(tv_syntax::PlainFault::Unbuilt) => return Answer::TextUnbuilt,
-        Err(tv_syntax::PlainFault::Memory) => return Answer::Memory,
-    };
-    let about = match cases(alloc, &program) {
-        Ok(about) => about,
-        Err(CaseFault::Memory) => return Answer::Memory,
-        Err(_) => return Answer::TextUnbuilt,
+        Err(ReadFault::Memory) => return Answer::Memory,
+        Err(fault) => return Answer::Text(fault),
     };
     let location = match program.locations().find(label.as_bytes()) {
         Some(location) => location,
         None => return Answer::UnknownName,
+    };
+    let about = match cases(alloc, &program) {
+        Ok(about) => about,
+        Err(fault) => return without_cases(fault),
     };
     let plain = match read_plain_certificate(alloc, certificate, &about, location) {
         Ok(plain) => plain,

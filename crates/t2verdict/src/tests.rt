@@ -35,7 +35,19 @@ const UNMET: &str = "Certificate refused obligation 6 node 0 step\n";
 
 const UNKNOWN: &str = "Refused property unknown name column 1\n";
 
-const UNBUILT: &str = "Refused text unbuilt\n";
+const NO_START: &str = "Refused text no start\n";
+
+/// Behind the text of `COUNTER` in line 1.
+const INSIDE: &str = "Refused text syntax line 2 column 2\n";
+
+const DRAWN_FRONT: &str =
+    "T2CERT 1\nproved\nnode fix 2 0\npiece 0 go 0\npiece 1 go 1\nrow -1 4\nnode atom 2 0\npiece 0 go 0\npiece 1 go 0\ninto 0 0\ninto 0 0\nnode atom 0 0\ninto 0 0\ninto 0 0\n";
+
+const DRAWN_BACK: &str = "into 0 0\nempty 1 1\ninto 0 0\nend\n";
+
+/// A drawn value above 3 is never below 0.
+const DRAWN_ABOVE: &str =
+    "START: 0; FROM: 0; x := nondet(); assume(x > 3); TO: 1; FROM: 1; assume(x < 0); TO: 2;\n";
 
 const NO_CERTIFICATE: &str = "Refused certificate unbuilt\n";
 
@@ -71,6 +83,8 @@ fn answers_with_one_line(rt: HostRuntime) -> Result<(), Fail> {
     let two_lines: &[&str] = &[COUNTER, HEADING, HEADING, FRONT, STEP, BACK];
     let inside: &[&str] = &[COUNTER, " CERTIFICATE:\n", FRONT, STEP, BACK];
     let nothing: &[&str] = &[COUNTER, "CERTIFICATE:"];
+    let drawn: &[&str] = &[DRAWN_ABOVE, HEADING, DRAWN_FRONT, "by 1 1\n", DRAWN_BACK];
+    let drawn_wrong: &[&str] = &[DRAWN_ABOVE, HEADING, DRAWN_FRONT, "by 1 2\n", DRAWN_BACK];
     for (words, texts, line, status) in [
         (check_2, proof, "Proved\n", Status::Proved),
         (check_2, returns, "Proved\n", Status::Proved),
@@ -78,7 +92,7 @@ fn answers_with_one_line(rt: HostRuntime) -> Result<(), Fail> {
         (check_2, unmet_side, UNMET_ROOT, Status::CertificateRefused),
         (check_2, wrong, UNMET, Status::CertificateRefused),
         (check_9, proof, UNKNOWN, Status::Refused),
-        (check_0, [DRAWN].as_slice(), UNBUILT, Status::Refused),
+        (check_0, [DRAWN].as_slice(), NO_CERTIFICATE, Status::Refused),
         (
             check_2,
             [COUNTER].as_slice(),
@@ -87,13 +101,67 @@ fn answers_with_one_line(rt: HostRuntime) -> Result<(), Fail> {
         ),
         (check_2, nothing, NO_CERTIFICATE, Status::Refused),
         (check_2, two_lines, NO_CERTIFICATE, Status::Refused),
-        (check_2, inside, UNBUILT, Status::Refused),
-        (check_2, [].as_slice(), UNBUILT, Status::Refused),
+        (check_2, inside, INSIDE, Status::Refused),
+        (check_2, [].as_slice(), NO_START, Status::Refused),
+        (check_2, drawn, "Proved\n", Status::Proved),
+        (
+            check_2,
+            drawn_wrong,
+            "Certificate refused obligation 4 node 0 step\n",
+            Status::CertificateRefused,
+        ),
     ] {
         let mut source = source(alloc, texts, 4096, 0)?;
         let mut sink = sink(alloc, 4096, 0)?;
         assert_eq!(rt; run(alloc, words, &mut source, &mut sink), status, "{line}");
         assert_eq!(rt; sink.written(), line.as_bytes());
+    }
+    Ok(())
+}
+
+// A text of a program, and the line for what is at fault in it.
+#[test]
+fn tells_what_is_at_fault(rt: HostRuntime) -> Result<(), Fail> {
+    let alloc = rt.alloc();
+    let words: &[&str] = &["--check", "--safety", "0"];
+    for (text, line) in [
+        ("START: 0; FROM: 0; assume(x", "syntax line 1 column 28"),
+        ("", "no start"),
+        (
+            "START: 0; FROM: 0; TO: 1; FROM: 1; assume(x > 0); x := x * y; TO: 1;",
+            "not linear line 1 column 60",
+        ),
+        (
+            "START: 0; FROM: 0; assume(x > 4611686018427387904); TO: 0;",
+            "wide line 1 column 31",
+        ),
+        ("START: 0; START: 0;", "two starts line 1 column 11"),
+        (
+            "START: 0; FROM: 0; x := 4611686018427387903 * 2; TO: 0;",
+            "wide edge 0",
+        ),
+        (
+            "START: 0; FROM: 0; assume(x != 0); assume(x != 0); assume(x != 0); assume(x != 0); assume(x != 0); assume(x != 0); assume(x != 0); assume(x != 0); assume(x != 0); assume(x != 0); assume(x != 0); assume(x != 0); assume(x != 0); assume(x != 0); TO: 0;",
+            "too many edge 0",
+        ),
+        (
+            "START: 0; FROM: 0; x := ((((((((((((((((((((((((((((((((((((((((((((((((((((((((((((((((( 1",
+            "deep line 1 column 89",
+        ),
+        (
+            "START: 0; FROM: 0; x := nondet()+nondet()+nondet()+nondet()+nondet()+nondet()+nondet()+nondet()+nondet()+nondet()+nondet()+nondet()+nondet()+nondet()+nondet()+nondet()+nondet()+nondet()+nondet()+nondet()+nondet()+nondet()+nondet()+nondet()+nondet()+nondet()+nondet()+nondet()+nondet()+nondet()+nondet()+nondet()+nondet()+nondet()+nondet()+nondet()+nondet()+nondet()+nondet()+nondet()+nondet()+nondet()+nondet()+nondet()+nondet()+nondet()+nondet()+nondet()+nondet()+nondet()+nondet()+nondet()+nondet()+nondet()+nondet()+nondet()+nondet()+nondet()+nondet()+nondet()+nondet()+nondet()+nondet()+nondet()+nondet()",
+            "too many draws line 1 column 601",
+        ),
+    ] {
+        let mut source = source(alloc, [text].as_slice(), 4096, 0)?;
+        let mut sink = sink(alloc, 4096, 0)?;
+        assert_eq!(rt;
+            run(alloc, words, &mut source, &mut sink),
+            Status::Refused,
+            "{line}"
+        );
+        let written = format!(in alloc; "Refused text {line}\n")?;
+        assert_eq!(rt; sink.written(), written.as_bytes(), "{line}");
     }
     Ok(())
 }

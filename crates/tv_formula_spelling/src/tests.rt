@@ -7,12 +7,15 @@ use tv_formula::{Formula, negate, normal, termination, unreachable};
 use tv_formula_text::FormulaFault::{Deep, Long, NotLinear, Syntax, UnknownName, Wide};
 use tv_formula_text::{FormulaFault, read_formula};
 use tv_program::Program;
-use tv_syntax::read_plain;
+use tv_reader::read_program;
 
 /// A program that counts a number down.
 fn countdown(alloc: Global) -> Result<Program, Fail> {
     let text = b"START: 0; FROM: 0; TO: 1; FROM: 1; assume(x > 0); x := x - 1; TO: 1;".as_slice();
-    Ok(read_plain(alloc, text)?)
+    match read_program(alloc, text) {
+        Ok(program) => Ok(program),
+        Err(_) => Err(Fail::from("no program")),
+    }
 }
 
 /// The fault of a text, if it has one.

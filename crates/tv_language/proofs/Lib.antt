@@ -1,3 +1,4 @@
 pub mod DrawLemmas
 pub mod PlaceLemmas
 pub mod GrammarLemmas
+pub mod PlaceOfWords

@@ -152,6 +152,27 @@ impl<'a> Reading<'a> {
         u32::try_from(self.cursor.at).unwrap_or(u32::MAX)
     }
 
+    /// How many tokens are taken.
+    pub fn index(&self) -> usize
+        ensures { result ≡ self.now.at }
+    {
+        self.cursor.at
+    }
+
+    /// The names that are known.
+    pub fn names(&self) -> &Names
+        ensures { result.now ≡ self.now.names }
+    {
+        &self.cursor.names
+    }
+
+    /// How many draws were come by since the edge began.
+    pub fn draws(&self) -> u32
+        ensures { result ≡ self.now.draws }
+    {
+        self.cursor.draws
+    }
+
     /// Goes to the place behind so many tokens, and counts brackets from this level on.
     pub fn go(&mut self, place: u32, level: u32)
         requires fixed { self.old.grows ≡ false }

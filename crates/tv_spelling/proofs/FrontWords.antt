@@ -20,7 +20,7 @@ use Rattle.tv_tokens.specs.Tokens.{IsTokens, end, gap, solid, unread}
 use Rattle.tv_language.specs.Symbols.{Lexeme, lexemes, is_colon, variable_by, label_by, variable_words, label_words}
 use Rattle.tv_program.specs.Words.{Word}
 use Rattle.tv_spelling.specs.ReadAgain.{IsName}
-use Rattle.tv_spelling.proofs.PlaceOfWords.{Each}
+use Rattle.tv_language.proofs.PlaceOfWords.{Each}
 
 -- the digits of a number below 2^62
 pub record IsNumberWord (word : Word) : Type 0 where

@@ -8,7 +8,7 @@ use Rattle.tv_language.specs.Symbols.{Symbol, fixed, label, by_first_place}
 use Rattle.tv_language.specs.Programs.{AreItems, no_item, start, edge, passed, mark, ended_mark}
 use Rattle.tv_language.proofs.PlaceLemmas.{Leads, leads, leader-number}
 use Rattle.tv_spelling.proofs.Mentioned.{variables_in, locations_in, AreKnown, variables_commanded, commands_mention}
-use Rattle.tv_spelling.proofs.PlaceOfWords.{Each}
+use Rattle.tv_language.proofs.PlaceOfWords.{Each}
 use Rattle.tv_spelling.proofs.WordsOfSymbols.{words_at}
 
 abbrev pub edge_variables : List Transition → List ℕ

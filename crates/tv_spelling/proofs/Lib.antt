@@ -12,7 +12,6 @@ pub mod ConditionDerived
 pub mod ConditionLeast
 pub mod ConditionAgain
 pub mod Ordered
-pub mod PlaceOfWords
 pub mod FrontWords
 pub mod Mentioned
 pub mod WordsOfSymbols

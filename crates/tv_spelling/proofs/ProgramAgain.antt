@@ -12,7 +12,7 @@ use Rattle.tv_spelling.specs.ReadAgain.{IsName, AreNames}
 use Rattle.tv_spelling.proofs.Pieces.{laid, laid_tokens, laid_symbols}
 use Rattle.tv_spelling.proofs.SumPieces.{below}
 use Rattle.tv_spelling.proofs.Ordered.{symbols_numbered}
-use Rattle.tv_spelling.proofs.PlaceOfWords.{Each, each_once, each_placed, each_index, Differ}
+use Rattle.tv_language.proofs.PlaceOfWords.{Each, each_once, each_placed, each_index, Differ}
 use Rattle.tv_spelling.proofs.FrontWords.{IsLabelWord, words_read, names_read, labels_read}
 use Rattle.tv_spelling.proofs.WordsOfSymbols.{words_at, variables_are, labels_are}
 use Rattle.tv_spelling.proofs.ItemWords.{edge_variables, edge_locations, items_variables, items_locations, start_among}

@@ -22,7 +22,7 @@ use Rattle.tv_spelling.proofs.ConditionLevels.{condition_levels, is_regular_test
 use Rattle.tv_spelling.proofs.ConditionLeast.{condition_least}
 use Rattle.tv_spelling.proofs.ConditionDerived.{condition_shown}
 use Rattle.tv_spelling.proofs.Ordered.{AreNumbered, GoesOn, sum_ordered, condition_ordered}
-use Rattle.tv_spelling.proofs.PlaceOfWords.{Differ}
+use Rattle.tv_language.proofs.PlaceOfWords.{Differ}
 use Rattle.tv_spelling.proofs.ProgramPieces.{kind_by, location_pieces, command_pieces, commands_pieces, edges_pieces, program_pieces, edge_fits}
 
 -- ---- what some text of a program shows of its edges

@@ -5,7 +5,7 @@ use Rattle.tv_tokens.specs.declared.token.TokenKind.{TokenKind}
 use Rattle.tv_tokens.specs.declared.token.TokenKind.TheVariants.{Name, Number, Unread}
 use Rattle.tv_program.specs.Words.{Word, number_of}
 use Rattle.tv_language.specs.Symbols.{Symbol, fixed, name, label, numbered, Vocabulary, Lexeme, symbol_by, symbols_from, is_colon, draws_behind, variable_by, label_by, variable_words, label_words}
-use Rattle.tv_spelling.proofs.PlaceOfWords.{found}
+use Rattle.tv_language.proofs.PlaceOfWords.{found}
 use Rattle.tv_spelling.proofs.Mentioned.{variables_in, locations_in, AreKnown}
 
 -- the words at these places

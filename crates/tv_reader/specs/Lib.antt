@@ -1,0 +1,5 @@
+pub mod ProgramMarks
+pub mod ProgramGrammar
+pub mod Places
+pub mod FirstFaults
+pub mod Readers

@@ -1,0 +1,295 @@
+use crate::{ReadFault, What, read_program};
+use std::alloc::{AllocError, Global};
+use std::test::Fail;
+use tv_program::Program;
+
+fn read(alloc: Global, text: &[u8]) -> Result<Program, ReadFault> {
+    if text.len() >= 4294967295 {
+        return Err(ReadFault::Memory);
+    }
+    read_program(alloc, text)
+}
+
+fn fault_of(alloc: Global, text: &[u8]) -> Option<ReadFault> {
+    match read(alloc, text) {
+        Ok(_) => None,
+        Err(fault) => Some(fault),
+    }
+}
+
+// A text of a front, of so many parts with their numbers in three letters, and of an end.
+fn text_of(
+    alloc: Global,
+    front: &[u8],
+    part: &[u8],
+    times: u32,
+    end: &[u8],
+) -> Result<Vec<u8>, AllocError> {
+    let mut text = Vec::new(alloc);
+    text.extend_from_slice(front)?;
+    for number in 0..times {
+        for byte in part {
+            if *byte == b'#' {
+                let digits = [
+                    b'a' + (number / 26 / 26 % 26) as u8,
+                    b'a' + (number / 26 % 26) as u8,
+                    b'a' + (number % 26) as u8,
+                ];
+                text.extend_from_slice(digits.as_slice())?;
+            } else {
+                text.push(*byte)?;
+            }
+        }
+    }
+    text.extend_from_slice(end)?;
+    Ok(text)
+}
+
+const FILE: &str = "// nested loops, a branch and a countdown\r
+START: 0;\r
+CUTPOINT: 1;\r
+FROM: 0;\r
+AT(0, \"demo.c:3\")\r
+n := nondet();\r
+i := 0;\r
+TO: 1;\r
+FROM: 1;\r
+AT(1, \"demo.c:4\");\r
+assume(i < n);\r
+TO: 2;\r
+FROM: 2; j := 0; TO: 3;\r
+FROM: 3; assume(j < i); TO: 4;\r
+FROM: 4; j := j + 1; TO: 5;\r
+FROM: 5; TO: 3;\r
+FROM: 3; assume(j >= i); TO: 6;\r
+FROM: 6; c := nondet(); assume(c > 0); i := i + 1; TO: 7;\r
+FROM: 6; /* the other branch */ i := i + 2; TO: 8;\r
+FROM: 7; TO: 1;\r
+FROM: 8; TO: 1;\r
+FROM: 1; assume(i >= n); TO: 9;\r
+FROM: 9; k := n; TO: 10;\r
+FROM: 10; assume(k > 0); TO: 11;\r
+FROM: 11; k := k - 1; TO: 10;\r
+FROM: 10; assume(k <= 0); TO: 12;\r
+FROM: 12; TO: 13;\r
+ERROR: 99;\r
+";
+
+#[test]
+fn reads_a_file(rt: HostRuntime) -> Result<(), Fail> {
+    let alloc = rt.alloc();
+    let Ok(program) = read(alloc, FILE.as_bytes()) else {
+        assert!(rt; false, "it is read");
+        return Ok(());
+    };
+    assert_eq!(rt; program.start(), 0);
+    for (name, number) in [("n", 0), ("i", 1), ("j", 2), ("c", 3), ("k", 4)] {
+        assert_eq!(rt; program.variables().find(name.as_bytes()), Some(number));
+    }
+    assert_eq!(rt; program.variables().len(), 5);
+    assert_eq!(rt; program.locations().len(), 14);
+    assert_eq!(rt; program.locations().find(b"13"), Some(13));
+    assert_eq!(rt; program.edges().len(), 17);
+    for (number, draws) in [(0, 1), (1, 0), (7, 1), (16, 0)] {
+        match program.edges().get(number) {
+            Some(edge) => assert_eq!(rt; edge.draws, draws),
+            None => assert!(rt; false),
+        }
+    }
+    Ok(())
+}
+
+// START stands last, and its label is number 0.
+#[test]
+fn numbers_the_start_first(rt: HostRuntime) -> Result<(), Fail> {
+    let text = b"FROM: a; x := 1; TO: b; FROM: b; TO: c; START: c;".as_slice();
+    let Ok(program) = read(rt.alloc(), text) else {
+        assert!(rt; false, "it is read");
+        return Ok(());
+    };
+    for (label, number) in [("c", 0), ("a", 1), ("b", 2)] {
+        assert_eq!(rt; program.locations().find(label.as_bytes()), Some(number));
+    }
+    for (number, from, to) in [(0, 1, 2), (1, 2, 0)] {
+        match program.edges().get(number) {
+            Some(edge) => assert_eq!(rt; (edge.from, edge.to), (from, to)),
+            None => assert!(rt; false),
+        }
+    }
+    Ok(())
+}
+
+// A text and its first fault.
+#[test]
+fn tells_the_first_fault(rt: HostRuntime) -> Result<(), Fail> {
+    let alloc = rt.alloc();
+    for (text, fault) in [
+        ("START: 0;", None),
+        (
+            "START: 0; START: 0",
+            Some(ReadFault::TwoStarts {
+                line: 1,
+                column: 11,
+            }),
+        ),
+        ("START 0;", Some(ReadFault::Syntax { line: 1, column: 7 })),
+        ("", Some(ReadFault::NoStart)),
+        ("FROM: 0; TO: 0;", Some(ReadFault::NoStart)),
+        (
+            "START: 0; FROM: 0; assume(x",
+            Some(ReadFault::Syntax {
+                line: 1,
+                column: 28,
+            }),
+        ),
+        (
+            "START: 0; FROM: 0; TO: 1; FROM: 1; assume(x > 0); x := x * y; TO: 1;",
+            Some(ReadFault::NotLinear {
+                line: 1,
+                column: 60,
+            }),
+        ),
+        (
+            "START: 0; FROM: 0; assume(x > 4611686018427387904); TO: 0;",
+            Some(ReadFault::Wide {
+                line: 1,
+                column: 31,
+            }),
+        ),
+        (
+            "START: 4611686018427387904;",
+            Some(ReadFault::Wide { line: 1, column: 8 }),
+        ),
+        (
+            "START 4611686018427387904;",
+            Some(ReadFault::Syntax { line: 1, column: 7 }),
+        ),
+        (
+            "START: 0;\nSTART: 0;",
+            Some(ReadFault::TwoStarts { line: 2, column: 1 }),
+        ),
+        (
+            "START: 0;\r\nFROM 0; ?",
+            Some(ReadFault::Syntax { line: 2, column: 6 }),
+        ),
+        (
+            "START: 0; ; ",
+            Some(ReadFault::Syntax {
+                line: 1,
+                column: 11,
+            }),
+        ),
+        ("START: 0; AT(1); ERROR: ; AT(2)", None),
+        (
+            "START: 0; /* open",
+            Some(ReadFault::Syntax {
+                line: 1,
+                column: 11,
+            }),
+        ),
+        (
+            "START: 0; FROM: 0; x := 1; TO: 1",
+            Some(ReadFault::Syntax {
+                line: 1,
+                column: 33,
+            }),
+        ),
+        (
+            "START: 0; FROM: 0; TO: 1; TO: 2;",
+            Some(ReadFault::Syntax {
+                line: 1,
+                column: 27,
+            }),
+        ),
+        ("START: TO;", Some(ReadFault::Syntax { line: 1, column: 8 })),
+        (
+            "START: 0; FROM: 0; true := 1; TO: 1;",
+            Some(ReadFault::Syntax {
+                line: 1,
+                column: 20,
+            }),
+        ),
+    ] {
+        assert_eq!(rt; fault_of(alloc, text.as_bytes()), fault, "{text:?}");
+    }
+    Ok(())
+}
+
+// What is passed, at most so many of it, and the place of one more.
+#[test]
+fn keeps_the_limits(rt: HostRuntime) -> Result<(), Fail> {
+    let alloc = rt.alloc();
+    for (front, part, most, end, what, column) in [
+        (
+            "START: 0; FROM: 0; ",
+            "#:=0;",
+            512,
+            "TO: 0;",
+            What::Variables,
+            20 + 512 * 7,
+        ),
+        (
+            "",
+            "FROM:#;TO:0;",
+            1022,
+            "START: z; ",
+            What::Locations,
+            8 + 1023 * 14,
+        ),
+        (
+            "START: 0; ",
+            "FROM:0;TO:0;",
+            4096,
+            "",
+            What::Edges,
+            11 + 4096 * 12,
+        ),
+        (
+            "START: 0; FROM: 0; ",
+            "x:=nondet();",
+            64,
+            "TO: 0;",
+            What::Draws,
+            23 + 64 * 12,
+        ),
+    ] {
+        let text = text_of(
+            alloc,
+            front.as_bytes(),
+            part.as_bytes(),
+            most,
+            end.as_bytes(),
+        )?;
+        assert_eq!(rt; fault_of(alloc, &text), None, "{front} {part}");
+        let more = text_of(
+            alloc,
+            front.as_bytes(),
+            part.as_bytes(),
+            most + 1,
+            end.as_bytes(),
+        )?;
+        let fault = ReadFault::TooMany {
+            what,
+            line: 1,
+            column,
+        };
+        assert_eq!(rt; fault_of(alloc, &more), Some(fault), "{front} {part}");
+    }
+    Ok(())
+}
+
+// Each byte that no token can hold, at the front and behind a START.
+#[test]
+fn refuses_bytes_that_no_token_holds(rt: HostRuntime) -> Result<(), Fail> {
+    let alloc = rt.alloc();
+    for byte in 0..=255u8 {
+        let known = byte.is_ascii_alphanumeric() || b" \t\r\n\x0c_:;()[]+-*<>!".contains(&byte);
+        if !known {
+            let mut text = b"START: 0;\n ".as_slice().to_vec(alloc)?;
+            text.push(byte)?;
+            let fault = ReadFault::Syntax { line: 2, column: 2 };
+            assert_eq!(rt; fault_of(alloc, &text), Some(fault), "{byte}");
+        }
+    }
+    Ok(())
+}
