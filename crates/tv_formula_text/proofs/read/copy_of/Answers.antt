@@ -1,4 +1,4 @@
-use Rattle.std.proofs.Common.{◌≡◌, ◌<◌, [], length, arith, sym, ◌∙◌}
+use Rattle.std.proofs.Common.{◌<◌, [], length, arith}
 use Rattle.std.proofs.lemmas.Option.{get_or_from_slice_get}
 use Rattle.tv_formula_text.proofs.CopyLemmas.{few_so_far, copied}
 use Rattle.tv_formula_text.proofs.read.copy_of.Goals as goal
