@@ -65,7 +65,11 @@ fn tells_the_first_fault(rt: HostRuntime) -> Result<(), Fail> {
         ("[AF](true)(true)", Syntax { at: 10 }),
     ] {
         assert!(rt; text.len() < 200);
-        assert_eq!(rt; fault_of(rt.alloc(), &program, text.as_bytes()), Some(want), "{text}");
+        assert_eq!(rt;
+            fault_of(rt.alloc(), &program, text.as_bytes()),
+            Some(want),
+            "{text}"
+        );
     }
     Ok(())
 }
@@ -76,16 +80,56 @@ fn writes_formulas(rt: HostRuntime) -> Result<(), Fail> {
     let alloc = rt.alloc();
     let program = countdown(alloc)?;
     for (text, same, plain, denied) in [
-        ("[AG](x >= 0)", "[AG](x >= 0)", "[AG](x >= 0)", "[EM](x < 0)(true)"),
-        ("[AF](x<=0)", "[AF](x <= 0)", "[AF](x <= 0)", "[ER](false)(x > 0)"),
-        ("!(x > 0 && at(0))", "!(x > 0 && at(0))", "x <= 0 || !at(0)", "x > 0 && at(0)"),
+        (
+            "[AG](x >= 0)",
+            "[AG](x >= 0)",
+            "[AG](x >= 0)",
+            "[EM](x < 0)(true)",
+        ),
+        (
+            "[AF](x<=0)",
+            "[AF](x <= 0)",
+            "[AF](x <= 0)",
+            "[ER](false)(x > 0)",
+        ),
+        (
+            "!(x > 0 && at(0))",
+            "!(x > 0 && at(0))",
+            "x <= 0 || !at(0)",
+            "x > 0 && at(0)",
+        ),
         ("term", "term", "term", "!term"),
         ("!!term", "!!term", "term", "!term"),
-        ("[AU](true)(x == 1)", "[AF](x == 1)", "[AF](x == 1)", "[ER](false)(x != 1)"),
-        ("[EW](at(1))(false)", "[EG](at(1))", "[EG](at(1))", "[AM](!at(1))(true)"),
-        ("[EX](![AX](x < 2))", "[EX](![AX](x < 2))", "[EX]([EX](x >= 2))", "[AX]([AX](x < 2))"),
-        ("[AR](at(0))(x + 1 > 2 || term)", "[AR](at(0))(x + 1 > 2 || term)", "[AR](at(0))(x + 1 > 2 || term)", "[EU](!at(0))(x + 1 <= 2 && !term)"),
-        ("(true || false) && ((x)) * 2 > -3", "(true || false) && x * 2 > -3", "(true || false) && x * 2 > -3", "false && true || x * 2 <= -3"),
+        (
+            "[AU](true)(x == 1)",
+            "[AF](x == 1)",
+            "[AF](x == 1)",
+            "[ER](false)(x != 1)",
+        ),
+        (
+            "[EW](at(1))(false)",
+            "[EG](at(1))",
+            "[EG](at(1))",
+            "[AM](!at(1))(true)",
+        ),
+        (
+            "[EX](![AX](x < 2))",
+            "[EX](![AX](x < 2))",
+            "[EX]([EX](x >= 2))",
+            "[AX]([AX](x < 2))",
+        ),
+        (
+            "[AR](at(0))(x + 1 > 2 || term)",
+            "[AR](at(0))(x + 1 > 2 || term)",
+            "[AR](at(0))(x + 1 > 2 || term)",
+            "[EU](!at(0))(x + 1 <= 2 && !term)",
+        ),
+        (
+            "(true || false) && ((x)) * 2 > -3",
+            "(true || false) && x * 2 > -3",
+            "(true || false) && x * 2 > -3",
+            "false && true || x * 2 <= -3",
+        ),
     ] {
         assert!(rt; text.len() < 200);
         let formula = read_formula(alloc, text.as_bytes(), &program)?;
@@ -130,7 +174,11 @@ fn nests_64_levels(rt: HostRuntime) -> Result<(), Fail> {
             let mut text = front;
             text.extend_from_slice(&behind)?;
             assert!(rt; text.len() < 5000);
-            assert_eq!(rt; fault_of(rt.alloc(), &program, &text), want, "{bytes} {times}");
+            assert_eq!(rt;
+                fault_of(rt.alloc(), &program, &text),
+                want,
+                "{bytes} {times}"
+            );
         }
     }
     Ok(())

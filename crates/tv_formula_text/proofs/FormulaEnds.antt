@@ -1,5 +1,5 @@
 -- Where a formula goes on, and where it ends.
-use Rattle.std.proofs.Common.{◌≡◌, inl, inr, ℕ, zero, suc, Bool, true, false, List, [], ◌∷◌, ◌++◌, Option, Some, None, refl, ap, ◌∙◌}
+use Rattle.std.proofs.Common.{◌≡◌, ℕ, zero, suc, Bool, true, false, List, [], ◌∷◌, Option, Some, None, refl, ◌∙◌}
 use Rattle.tv_tokens.specs.declared.token.TokenKind.{TokenKind}
 use Rattle.tv_tokens.specs.declared.token.TokenKind.TheVariants as kinds
 use Rattle.tv_program.specs.declared.tree.Relation.{Relation}
@@ -7,20 +7,19 @@ use Rattle.tv_program.specs.Trees.{Expression}
 use Rattle.tv_program.specs.Words.{Word}
 use Rattle.tv_language.specs.Symbols.{fixed, label}
 use Rattle.tv_language.specs.Conditions.{relation_of}
-use Rattle.tv_formula.specs.Properties.{Property, truth, compare, at, term, negated, all_of, some_of, fix}
-use Rattle.tv_grammar.specs.Langs.{unit, then, mapped, stop, go, headed, turns, OfBranch, Turns, goes_at, is_go, branch_goes_on}
+use Rattle.tv_formula.specs.Properties.{Property, at, fix}
+use Rattle.tv_grammar.specs.Langs.{then, mapped, headed, OfBranch, goes_at, is_go, branch_goes_on}
 use Rattle.tv_grammar.specs.Exact.{Outside, Ends, nowhere}
-use Rattle.tv_grammar.proofs.OutsideLemmas.{BranchOutside, outside_ends, mapped_outside, headed_outside, then_outside, turns_first, turns_outside}
+use Rattle.tv_grammar.proofs.OutsideLemmas.{BranchOutside, outside_ends, mapped_outside, then_outside, turns_first, turns_outside}
 use Rattle.tv_reading.specs.Marks.{Kind, Syntax, Wide, UnknownName, Mark, plain, refused}
 use Rattle.tv_reading.specs.SumGrammar.{sum_goes}
 use Rattle.tv_reading.proofs.SumLemmas.{sum_goes_on}
 use Rattle.tv_formula_text.specs.Seen.{Seen}
-use Rattle.tv_formula_text.specs.Choice.{Grammar, Behind, mark_at, either}
+use Rattle.tv_formula_text.specs.Choice.{Grammar, Behind, mark_at}
 use Rattle.tv_formula_text.specs.declared.operators.Operator.{Operator}
 use Rattle.tv_formula_text.specs.declared.operators.Operator.TheVariants.{One, Two}
 use Rattle.tv_formula_text.specs.Operators.{operator_of, applied}
-use Rattle.tv_formula_text.specs.FormulaTexts.{joined}
-use Rattle.tv_formula_text.specs.FormulaGrammar.{at_kind, at_end, end_by, summed, relation_by, related_by, related, comparison, is_and, is_or, more_by, more_cases, conjunction_from, conjunction_over, formula_from, formula_over, plain_at, literal_at, formula_at, text_at, plain_over, plain_by, below, Under, ground, level, closed, close_by, opened, open_by, place, label_cases, word_by, argument, operated, operator_by, behind_square, square_by, refuse_by}
+use Rattle.tv_formula_text.specs.FormulaGrammar.{at_kind, at_end, end_by, summed, relation_by, related_by, related, comparison, is_and, is_or, more_by, more_cases, conjunction_from, conjunction_over, formula_from, formula_over, plain_at, literal_at, formula_at, text_at, plain_over, plain_by, Under, ground, level, closed, close_by, opened, open_by, place, label_cases, word_by, argument, operator_by, behind_square, square_by, refuse_by}
 use Rattle.tv_formula_text.proofs.ChoiceLemmas.{either_outside}
 use Rattle.tv_formula_text.proofs.FormulaLemmas.{related_goes}
 

@@ -1,20 +1,18 @@
 -- Formulas of each level are read exactly: a plain formula is never a comparison.
-use Rattle.std.proofs.Common.{◌≡◌, ◌⊎◌, inl, inr, ℕ, zero, suc, ◌≤◌, Bool, true, false, List, [], ◌∷◌, ◌++◌, length, Option, Some, None, Result, Ok, Err, refl, sym, ap, subst, ◌∙◌, length-append, arith}
+use Rattle.std.proofs.Common.{◌≡◌, inl, inr, ℕ, zero, suc, ◌≤◌, Bool, true, false, List, [], ◌∷◌, ◌++◌, length, Some, refl, ap, ◌∙◌, length-append, arith}
 use Rattle.tv_tokens.specs.declared.token.TokenKind.TheVariants as kinds
-use Rattle.tv_program.specs.Trees.{Expression}
 use Rattle.tv_program.specs.Words.{Word}
 use Rattle.tv_language.specs.Symbols.{fixed}
 use Rattle.tv_formula.specs.Properties.{Property}
-use Rattle.tv_grammar.specs.Reads.{Fault, faulty, fault, next}
-use Rattle.tv_grammar.specs.Langs.{then, OfBranch, branch_text, turns_text}
+use Rattle.tv_grammar.specs.Reads.{next}
+use Rattle.tv_grammar.specs.Langs.{then, OfBranch, branch_text}
 use Rattle.tv_grammar.specs.Exact.{Exact}
 use Rattle.tv_grammar.proofs.ExactLemmas.{branch_append, then_exact}
 use Rattle.tv_reading.specs.Marks.{Kind, Syntax, Mark, plain}
-use Rattle.tv_reading.specs.SumGrammar.{sum_goes}
 use Rattle.tv_reading.proofs.SumLemmas.{sum_goes_on}
 use Rattle.tv_formula_text.specs.Seen.{Seen}
-use Rattle.tv_formula_text.specs.Choice.{Grammar, mark_at, OfEither, text_of_either, either}
-use Rattle.tv_formula_text.specs.FormulaGrammar.{at_kind, closed, summed, related, comparison, Under, ground, level, plain_by, plain_over, conjunction_from, conjunction_over, formula_from, formula_over, plain_at, literal_at, formula_at, at_end, text_at}
+use Rattle.tv_formula_text.specs.Choice.{Grammar, OfEither, text_of_either}
+use Rattle.tv_formula_text.specs.FormulaGrammar.{at_kind, closed, summed, related, comparison, Under, ground, level, plain_by, conjunction_from, conjunction_over, formula_from, plain_at, literal_at, formula_at, at_end, text_at}
 use Rattle.tv_formula_text.proofs.ChoiceLemmas.{Halts, either_exact}
 use Rattle.tv_formula_text.proofs.SumHalts.{sum_opens, sum_unclosed, no_sum, NoSum, true_stops, false_stops, name_stops, not_stops, square_stops}
 use Rattle.tv_formula_text.proofs.FormulaLemmas.{text_longer, closed_exact, end_exact, summed_exact, comparison_exact, ExactUnder, plain_branch, plain_exact_over, conjunction_from_exact, conjunction_exact, formula_from_exact, formula_exact_over, related_exact, related_goes, related_right, kind_branch}

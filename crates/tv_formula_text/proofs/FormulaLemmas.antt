@@ -1,29 +1,28 @@
 -- Formulas are read exactly.
-use Rattle.std.proofs.Common.{◌≡◌, ◌⊎◌, inl, inr, ℕ, zero, suc, ◌≤◌, Bool, true, false, List, [], ◌∷◌, ◌++◌, length, Option, Some, None, Result, Ok, Err, refl, sym, ap, subst, ◌∙◌, length-append, arith}
+use Rattle.std.proofs.Common.{◌≡◌, ℕ, ◌≤◌, Bool, true, false, List, [], ◌∷◌, ◌++◌, length, Option, Some, None, refl, ap, length-append, arith}
 use Rattle.tv_tokens.specs.declared.token.TokenKind.{TokenKind}
 use Rattle.tv_tokens.specs.declared.token.TokenKind.TheVariants as kinds
 use Rattle.tv_program.specs.declared.tree.Relation.{Relation}
 use Rattle.tv_program.specs.Trees.{Expression}
 use Rattle.tv_program.specs.Words.{Word}
-use Rattle.tv_language.specs.Symbols.{number, name, label, drawn, fixed}
+use Rattle.tv_language.specs.Symbols.{label, fixed}
 use Rattle.tv_language.specs.Conditions.{relation_of}
 use Rattle.tv_formula.specs.Properties.{Property, truth, compare, at, term, negated, all_of, some_of, fix}
-use Rattle.tv_grammar.specs.Reads.{Fault, faulty, fault, next}
-use Rattle.tv_grammar.specs.Langs.{unit, then, mapped, stop, go, headed, turns, OfBranch}
+use Rattle.tv_grammar.specs.Langs.{then, mapped, headed, turns, OfBranch}
 use Rattle.tv_grammar.specs.Exact.{Exact, ExactBranch}
 use Rattle.tv_grammar.proofs.ExactLemmas.{unit_exact, then_exact, mapped_exact, headed_exact}
 use Rattle.tv_grammar.proofs.TurnLemmas.{turns_exact}
-use Rattle.tv_reading.specs.Marks.{Kind, Syntax, Wide, Deep, UnknownName, Mark, plain, refused}
+use Rattle.tv_reading.specs.Marks.{Kind, Syntax, Wide, UnknownName, Mark, plain, refused}
 use Rattle.tv_reading.specs.SumGrammar.{sum_at, sum_goes}
-use Rattle.tv_reading.proofs.SumLemmas.{sum_exact, sum_goes_on}
-use Rattle.tv_formula_text.specs.Seen.{Seen, marks}
-use Rattle.tv_formula_text.specs.Choice.{Grammar, Behind, lifted, OfEither, either}
+use Rattle.tv_reading.proofs.SumLemmas.{sum_exact}
+use Rattle.tv_formula_text.specs.Seen.{Seen}
+use Rattle.tv_formula_text.specs.Choice.{Grammar, Behind}
 use Rattle.tv_formula_text.specs.declared.operators.Operator.{Operator}
 use Rattle.tv_formula_text.specs.declared.operators.Operator.TheVariants.{One, Two}
 use Rattle.tv_formula_text.specs.Operators.{operator_of, applied}
 use Rattle.tv_formula_text.specs.FormulaTexts.{joined}
-use Rattle.tv_formula_text.specs.FormulaGrammar.{refuse_by, at_kind, open_by, close_by, square_by, end_by, opened, closed, behind_square, at_end, summed, relation_by, related_by, related, comparison, label_cases, place, word_by, word_cases, argument, operator_by, operated, Under, ground, level, plain_by, plain_over, is_and, is_or, more_by, more_cases, conjunction_from, conjunction_over, formula_from, formula_over, plain_at, literal_at, formula_at, below, text_at}
-use Rattle.tv_formula_text.proofs.ChoiceLemmas.{of_mark, lifted_exact, Halts, either_exact}
+use Rattle.tv_formula_text.specs.FormulaGrammar.{refuse_by, at_kind, open_by, close_by, square_by, end_by, opened, closed, behind_square, at_end, summed, relation_by, related_by, related, comparison, label_cases, place, word_by, argument, operator_by, operated, Under, ground, level, plain_by, plain_over, is_and, is_or, more_by, more_cases, conjunction_from, conjunction_over, formula_from, formula_over}
+use Rattle.tv_formula_text.proofs.ChoiceLemmas.{lifted_exact}
 use Rattle.tv_formula_text.proofs.SumHalts.{is_right_mark}
 
 -- a text is no shorter than what stands behind it

@@ -8,11 +8,10 @@ use Rattle.tv_program.specs.Words.{Word}
 use Rattle.tv_language.specs.Symbols.{label, fixed}
 use Rattle.tv_language.specs.Conditions.{relation_of}
 use Rattle.tv_formula.specs.Properties.{Property, truth, compare, at, term, negated, all_of, some_of, fix}
-use Rattle.tv_grammar.specs.Reads.{fault}
-use Rattle.tv_grammar.specs.Langs.{then, mapped, stop, go, headed, turns}
+use Rattle.tv_grammar.specs.Langs.{then, mapped, stop, headed, turns}
 use Rattle.tv_grammar.specs.Exact.{Exact}
 use Rattle.tv_grammar.specs.Faults.{Loosens, LoosensBranch, LoosensTurn}
-use Rattle.tv_grammar.proofs.ExactLemmas.{then_exact, mapped_exact}
+use Rattle.tv_grammar.proofs.ExactLemmas.{mapped_exact}
 use Rattle.tv_grammar.proofs.LooseLemmas.{unit_loose, then_loose, mapped_loose, headed_loose, turns_loose}
 use Rattle.tv_reading.specs.Marks.{Kind, Syntax, Wide, Deep, UnknownName, Mark, plain, refused}
 use Rattle.tv_reading.specs.SumGrammar.{every, sum_at}
@@ -20,15 +19,14 @@ use Rattle.tv_reading.specs.Refusals.{Levels}
 use Rattle.tv_reading.proofs.SumLemmas.{sum_exact}
 use Rattle.tv_reading.proofs.LooseSums.{levels_less, no_levels, sums_loose}
 use Rattle.tv_formula_text.specs.Seen.{Seen}
-use Rattle.tv_formula_text.specs.Choice.{Grammar, Behind, either}
+use Rattle.tv_formula_text.specs.Choice.{Grammar, Behind}
 use Rattle.tv_formula_text.specs.declared.operators.Operator.{Operator}
 use Rattle.tv_formula_text.specs.declared.operators.Operator.TheVariants.{One, Two}
 use Rattle.tv_formula_text.specs.Operators.{operator_of, applied}
 use Rattle.tv_formula_text.specs.FormulaTexts.{joined}
 use Rattle.tv_formula_text.specs.FormulaGrammar.{refuse_by, at_kind, open_by, close_by, square_by, end_by, opened, closed, behind_square, at_end, summed, relation_by, related_by, related, comparison, label_cases, place, word_by, argument, operator_by, operated, Under, ground, level, plain_by, plain_over, is_and, is_or, more_by, more_cases, conjunction_from, conjunction_over, formula_from, formula_over, plain_at, literal_at, formula_at, text_at}
-use Rattle.tv_formula_text.specs.Refusals.{Refuses}
 use Rattle.tv_formula_text.proofs.LooseChoice.{lifted_loose, either_loose}
-use Rattle.tv_formula_text.proofs.FormulaLemmas.{closed_exact, end_exact, label_exact, place_exact, closing_exact, argument_exact, operated_exact, summed_exact, related_exact, comparison_exact, conjunction_from_exact, conjunction_exact, formula_from_exact}
+use Rattle.tv_formula_text.proofs.FormulaLemmas.{closed_exact, end_exact, closing_exact, argument_exact, operated_exact, summed_exact, related_exact, conjunction_from_exact, conjunction_exact, formula_from_exact}
 use Rattle.tv_formula_text.proofs.FormulaExact.{plain_exact, plain_halts, comparison_halts, literal_exact, formula_exact}
 use Rattle.tv_formula_text.proofs.PlainOrSum.{together}
 

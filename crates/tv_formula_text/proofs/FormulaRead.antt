@@ -1,5 +1,5 @@
 -- Each formula is read.
-use Rattle.std.proofs.Common.{◌≡◌, ℕ, zero, suc, Bool, true, false, List, [], ◌∷◌, ◌++◌, map, inl, inr, Option, Some, None, refl, sym, ap, subst, ◌∙◌, append_assoc}
+use Rattle.std.proofs.Common.{◌≡◌, ℕ, zero, suc, Bool, true, false, List, [], ◌∷◌, ◌++◌, inl, inr, Option, Some, None, refl, sym, ap, subst, ◌∙◌, append_assoc}
 use Rattle.std.proofs.lemmas.List.{append-nil}
 use Rattle.std.proofs.lemmas.Slice.Eq.{bytes_eq-Decides}
 use Rattle.std.specs.Prelude.{codes}
@@ -9,13 +9,13 @@ use Rattle.tv_tokens.specs.declared.token.TokenKind.TheVariants as kinds
 use Rattle.tv_program.specs.declared.tree.Relation.{Relation}
 use Rattle.tv_program.specs.Words.{Word}
 use Rattle.tv_program.specs.Trees.{Expression}
-use Rattle.tv_language.specs.Symbols.{Symbol, label, fixed}
+use Rattle.tv_language.specs.Symbols.{label, fixed}
 use Rattle.tv_language.specs.Sums.{IsSum}
 use Rattle.tv_language.specs.Conditions.{relation_of}
 use Rattle.tv_formula.specs.declared.tree.Path.{Path}
 use Rattle.tv_formula.specs.declared.tree.Shape.{Shape}
 use Rattle.tv_formula.specs.Properties.{Property, truth, compare, at, term, negated, all_of, some_of, fix}
-use Rattle.tv_grammar.specs.Langs.{unit, then, mapped, headed, go, turns, OfBranch, branch_text, branch_value, Turns, done, turn, turns_text, turns_value}
+use Rattle.tv_grammar.specs.Langs.{unit, then, mapped, headed, go, turns, OfBranch, branch_text, branch_value, done, turn, turns_text}
 use Rattle.tv_reading.specs.Marks as marking
 use Rattle.tv_reading.specs.Marks.{Syntax, Mark, plain, refused, symbol_of}
 use Rattle.tv_reading.specs.SumGrammar.{every, sum_at}
@@ -26,7 +26,7 @@ use Rattle.tv_formula_text.specs.declared.operators.Operator.TheVariants.{One, T
 use Rattle.tv_formula_text.specs.Operators.{operator_of, applied}
 use Rattle.tv_formula_text.specs.Signs.{Sign, symbols_of}
 use Rattle.tv_formula_text.specs.Seen.{Seen, marks}
-use Rattle.tv_formula_text.specs.Choice.{Grammar, Behind, Marked}
+use Rattle.tv_formula_text.specs.Choice.{Grammar, Behind}
 use Rattle.tv_formula_text.specs.FormulaTexts as texts
 use Rattle.tv_formula_text.specs.FormulaTexts.{joined, IsPlain, always, never, ends, located, denied, bracketed, IsArgument, enclosed, IsLiteral, comparison, AreLiterals, no_literal, and, IsConjunction, literals, AreConjunctions, no_conjunction, or, IsFormula, conjunctions}
 use Rattle.tv_formula_text.specs.FormulaGrammar as grammar

@@ -8,12 +8,11 @@ use Rattle.tv_tokens.specs.declared.token.TokenKind.{TokenKind}
 use Rattle.tv_tokens.specs.declared.token.TokenKind.TheVariants as kinds
 use Rattle.tv_program.specs.declared.tree.Relation.{Relation}
 use Rattle.tv_program.specs.Words.{Word}
-use Rattle.tv_program.specs.Trees.{Expression}
 use Rattle.tv_language.specs.Symbols.{Symbol, label, fixed}
 use Rattle.tv_language.specs.Sums.{IsSum}
 use Rattle.tv_language.specs.Conditions.{relation_of}
-use Rattle.tv_formula.specs.Properties.{Property, truth, compare, at, term, negated, all_of, some_of, fix}
-use Rattle.tv_grammar.specs.Langs.{then, mapped, turns, OfBranch, branch_text, branch_value, Turns, done, turn, turns_text, turns_value}
+use Rattle.tv_formula.specs.Properties.{Property, compare, at, all_of, some_of, fix}
+use Rattle.tv_grammar.specs.Langs.{then, mapped, OfBranch, branch_text, branch_value, Turns, done, turn, turns_text, turns_value}
 use Rattle.tv_reading.specs.Marks as marking
 use Rattle.tv_reading.specs.Marks.{Mark, plain, refused, symbol_of}
 use Rattle.tv_reading.specs.SumGrammar.{every, sum_at}
@@ -26,7 +25,7 @@ use Rattle.tv_formula_text.specs.declared.operators.Single.{Single}
 use Rattle.tv_formula_text.specs.Operators.{operator_of, applied}
 use Rattle.tv_formula_text.specs.Signs.{Sign, symbols_of}
 use Rattle.tv_formula_text.specs.Seen.{Seen, marks}
-use Rattle.tv_formula_text.specs.Choice.{Grammar, Marked, OfEither, text_of_either, value_of_either}
+use Rattle.tv_formula_text.specs.Choice.{Grammar, Marked}
 use Rattle.tv_formula_text.specs.FormulaTexts as texts
 use Rattle.tv_formula_text.specs.FormulaTexts.{joined, IsPlain, always, never, ends, located, denied, bracketed, IsArgument, enclosed, IsLiteral, comparison, AreLiterals, no_literal, and, IsConjunction, literals, AreConjunctions, no_conjunction, or, IsFormula, conjunctions}
 use Rattle.tv_formula_text.specs.FormulaGrammar as grammar

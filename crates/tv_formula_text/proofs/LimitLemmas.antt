@@ -1,8 +1,8 @@
 -- A formula within 64 levels whose names are those of a program keeps its limits.
-use Rattle.std.proofs.Common.{◌≡◌, ℕ, zero, suc, ◌+◌, ◌*◌, ◌^◌, ◌≤◌, cond, Bool, true, false, List, [], ◌∷◌, ◌++◌, length, Option, Some, None, refl, sym, ap, subst, ◌∙◌, arith}
+use Rattle.std.proofs.Common.{◌≡◌, ℕ, ◌+◌, ◌*◌, ◌^◌, ◌≤◌, cond, Bool, true, false, List, [], ◌∷◌, ◌++◌, length, Option, Some, None, refl, sym, subst, arith}
 use Rattle.std.proofs.lemmas.Bool.Decides.{nat_tests}
 use Rattle.std.proofs.lemmas.List.Quantifiers.{position-Some}
-use Rattle.std.specs.Prelude.{◌&&◌, nat_lt, nat_le, max}
+use Rattle.std.specs.Prelude.{◌&&◌, nat_lt, nat_le}
 use Rattle.std.specs.Str.{bytes_eq}
 use Rattle.tv_tokens.specs.declared.token.TokenKind.{TokenKind}
 use Rattle.tv_tokens.specs.declared.token.TokenKind.TheVariants as kinds
@@ -10,8 +10,8 @@ use Rattle.tv_tokens.specs.declared.token.Token.{Token}
 use Rattle.tv_tokens.specs.Numbers.{value_of_digits}
 use Rattle.tv_program.specs.Words.{Word, number_of}
 use Rattle.tv_program.specs.Trees.{Expression}
-use Rattle.tv_program.specs.Limits.{expression_fits, expression_depth}
-use Rattle.tv_language.specs.Symbols.{Symbol, number, label, fixed, lexeme, lexemes, Vocabulary}
+use Rattle.tv_program.specs.Limits.{expression_depth}
+use Rattle.tv_language.specs.Symbols.{Symbol, number, label, fixed, lexeme, Vocabulary}
 use Rattle.tv_language.specs.Sums.{IsSum}
 use Rattle.tv_formula.specs.Properties.{Property, all_of, some_of}
 use Rattle.tv_formula.specs.Views.{properties_of}
@@ -21,13 +21,13 @@ use Rattle.tv_formula_text.specs.declared.operators.Single.{Single}
 use Rattle.tv_formula_text.specs.declared.operators.Single.TheVariants.{Successor, Finally, Globally}
 use Rattle.tv_formula_text.specs.Operators.{applied}
 use Rattle.tv_formula_text.specs.Signs.{Sign, symbols_of}
-use Rattle.tv_formula_text.specs.Seen.{Seen, known_label, label_by, seen, seen_all}
+use Rattle.tv_formula_text.specs.Seen.{known_label, label_by, seen_all}
 use Rattle.tv_formula_text.specs.FormulaTexts as texts
 use Rattle.tv_formula_text.specs.FormulaTexts.{joined, IsPlain, always, never, ends, located, denied, bracketed, of_one, of_two, IsArgument, enclosed, IsLiteral, comparison, AreLiterals, no_literal, and, IsConjunction, literals, AreConjunctions, no_conjunction, or, conjunctions}
-use Rattle.tv_reading.specs.Marks.{Mark, plain, symbol_of, known_name, mark_by, is_formula_word}
+use Rattle.tv_reading.specs.Marks.{plain, symbol_of, known_name, mark_by, is_formula_word}
 use Rattle.tv_reading.proofs.FitLemmas.{symbol_fits, all_fit, sum_fits, sum_shallow}
 use Rattle.tv_reading.proofs.LinearLemmas.{and_left, and_right, and_both}
-use Rattle.tv_formula_text.proofs.FormulaTexts.{sign_of, signs_of}
+use Rattle.tv_formula_text.proofs.FormulaTexts.{signs_of}
 
 -- ---- how many operators and negations lie on a path
 

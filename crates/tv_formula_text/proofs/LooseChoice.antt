@@ -1,5 +1,5 @@
 -- A grammar that asks less, where it is one of marks or has two sides.
-use Rattle.std.proofs.Common.{◌≡◌, ◌⊎◌, inl, inr, ℕ, ◌<◌, ◌≤◌, Bool, true, false, List, ◌++◌, length, cond, Result, Ok, Err, refl, sym, ap, subst, ◌∙◌, length-append, arith}
+use Rattle.std.proofs.Common.{◌≡◌, inl, inr, ℕ, ◌<◌, ◌≤◌, Bool, true, false, List, length, cond, Result, Ok, Err, refl, sym, ap, subst, ◌∙◌, length-append, arith}
 use Rattle.std.specs.Prelude.{nat_lt}
 use Rattle.tv_grammar.specs.Reads.{Fault, faulty, fault}
 use Rattle.tv_grammar.specs.Exact.{Exact}

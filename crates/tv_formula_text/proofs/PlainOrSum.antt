@@ -1,5 +1,5 @@
 -- Where a sum and a plain formula both may begin, and both are at fault.
-use Rattle.std.proofs.Common.{◌≡◌, ◌⊎◌, inl, inr, ℕ, zero, suc, ◌<◌, ◌≤◌, Bool, true, false, List, [], ◌∷◌, ◌++◌, length, cond, Option, Some, None, Result, Ok, Err, refl, sym, ap, subst, ◌∙◌, length-append, arith}
+use Rattle.std.proofs.Common.{◌≡◌, ◌⊎◌, inl, inr, ℕ, zero, suc, ◌≤◌, Bool, true, false, List, [], ◌∷◌, length, Some, Result, Ok, Err, refl, sym, ap, subst, ◌∙◌, length-append, arith}
 use Rattle.std.specs.Prelude.{nat_lt}
 use Rattle.tv_tokens.specs.declared.token.TokenKind.TheVariants as kinds
 use Rattle.tv_program.specs.Trees.{Expression}
@@ -12,13 +12,13 @@ use Rattle.tv_grammar.specs.Faults.{Below}
 use Rattle.tv_grammar.proofs.ExactLemmas.{then_exact}
 use Rattle.tv_grammar.proofs.LooseLemmas.{reach}
 use Rattle.tv_reading.specs.Marks.{Kind, Syntax, Deep, Mark, plain}
-use Rattle.tv_reading.specs.SumGrammar.{factor_at, sum_at}
+use Rattle.tv_reading.specs.SumGrammar.{factor_at}
 use Rattle.tv_formula_text.specs.Seen.{Seen}
-use Rattle.tv_formula_text.specs.Choice.{Grammar, mark_at, further, or_further, either_read}
+use Rattle.tv_formula_text.specs.Choice.{Grammar, mark_at, either_read}
 use Rattle.tv_formula_text.specs.FormulaGrammar.{at_kind, closed, summed, related, comparison, plain_by, conjunction_from, conjunction_over, formula_from, plain_at, literal_at, formula_at, below}
-use Rattle.tv_formula_text.proofs.ChoiceLemmas.{IsOther, is_other, other_kept, shorter_not}
+use Rattle.tv_formula_text.proofs.ChoiceLemmas.{is_other, other_kept, shorter_not}
 use Rattle.tv_formula_text.proofs.LooseChoice.{Together}
-use Rattle.tv_formula_text.proofs.SumHalts.{is_right_at, sum_opens, sum_unclosed, no_sum, too_deep, Sorted, opening, beginning, outside, sorted}
+use Rattle.tv_formula_text.proofs.SumHalts.{is_right_at, sum_opens, sum_unclosed, no_sum, too_deep, opening, beginning, outside, sorted}
 use Rattle.tv_formula_text.proofs.FormulaLemmas.{closed_exact, related_exact, summed_exact, conjunction_from_exact, conjunction_exact, formula_from_exact}
 use Rattle.tv_formula_text.proofs.FormulaExact.{plain_exact, plain_halts, literal_exact}
 

@@ -1,5 +1,5 @@
 -- What is answered for a whole text.
-use Rattle.std.proofs.Common.{◌≡◌, ℕ, zero, suc, Bool, true, false, List, [], ◌∷◌, ◌++◌, map, take, drop, cond, Option, Some, None, Result, Ok, Err, refl, sym, ap, subst, ◌∙◌, length}
+use Rattle.std.proofs.Common.{◌≡◌, ℕ, zero, suc, Bool, true, false, List, [], ◌∷◌, ◌++◌, take, drop, cond, Option, Some, None, Result, Ok, Err, refl, sym, ap, subst, ◌∙◌, length}
 use Rattle.tv_tokens.specs.declared.token.TokenKind.{TokenKind}
 use Rattle.tv_tokens.specs.declared.token.TokenKind.TheVariants as kinds
 use Rattle.tv_tokens.specs.declared.token.Token.{Token}
@@ -9,7 +9,7 @@ use Rattle.tv_tokens.proofs.OneList.{one_list}
 use Rattle.tv_tokens.proofs.TokenCounts.{is_end, last_token}
 use Rattle.tv_program.specs.Words.{Word, number_of}
 use Rattle.tv_program.specs.Systems.{System}
-use Rattle.tv_language.specs.Symbols.{number, name, label, fixed, numbered, Lexeme, lexeme, lexemes, Vocabulary}
+use Rattle.tv_language.specs.Symbols.{number, name, label, fixed, numbered, lexeme, lexemes, Vocabulary}
 use Rattle.tv_formula.specs.Properties.{Property}
 use Rattle.tv_formula.specs.Limits as limits
 use Rattle.tv_grammar.specs.Reads.{Fault, fault}
@@ -17,18 +17,18 @@ use Rattle.tv_grammar.specs.Langs.{OfBranch}
 use Rattle.tv_grammar.proofs.ExactLemmas.{apart}
 use Rattle.tv_grammar.proofs.Results.{good, ok_is}
 use Rattle.tv_grammar.proofs.LooseLemmas.{none_in, begun}
-use Rattle.tv_reading.specs.Marks.{Kind, Syntax, Deep, Mark, plain, symbol_of, Stand, known_name, number_mark, mark_by, is_formula_word, first}
+use Rattle.tv_reading.specs.Marks.{Kind, Mark, plain, symbol_of, Stand, known_name, mark_by, is_formula_word, first}
 use Rattle.tv_reading.specs.SumGrammar.{every}
 use Rattle.tv_reading.specs.Readings as readings
 use Rattle.tv_reading.specs.Readings.{or_end, token_at}
-use Rattle.tv_reading.specs.Refusals.{upto, under, Levels}
+use Rattle.tv_reading.specs.Refusals.{upto, under}
 use Rattle.tv_reading.proofs.RefusalLemmas.{kept_itself, syntax_kept, itself_not, syntax_under}
 use Rattle.tv_formula_text.specs.Signs.{Sign, sign, signs}
 use Rattle.tv_formula_text.specs.Seen.{Seen, known_label, seen, seen_all}
 use Rattle.tv_formula_text.specs.FormulaGrammar.{at_kind, end_by, at_end, formula_at, text_at}
 use Rattle.tv_formula_text.specs.FormulaTexts.{IsFormula, words_of, ended, IsFormulaText}
 use Rattle.tv_formula_text.specs.Refusals.{Refuses, IsFirstFault, IsRefusal, IsTold, IsGiven}
-use Rattle.tv_formula_text.specs.Answers.{left, IsOver, Stays, kind_of, Unless}
+use Rattle.tv_formula_text.specs.Answers.{left, Stays, kind_of, Unless}
 use Rattle.tv_formula_text.specs.declared.fault.FormulaFault.{FormulaFault}
 use Rattle.tv_formula_text.specs.declared.fault.FormulaFault.TheVariants as faults
 use Rattle.tv_formula_text.specs.declared.reason.Reason.{Reason}

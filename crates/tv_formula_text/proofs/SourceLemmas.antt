@@ -1,5 +1,5 @@
 -- Where a reading stands, and what it takes.
-use Rattle.std.proofs.Common.{◌≡◌, ℕ, zero, suc, ◌+◌, ◌-◌, ◌^◌, ◌<◌, ◌≤◌, Bool, true, false, List, [], ◌∷◌, map, drop, length, cond, Option, Some, None, refl, sym, ap, subst, ◌∙◌, get_or, length-drop, arith}
+use Rattle.std.proofs.Common.{◌≡◌, ℕ, zero, suc, ◌+◌, ◌-◌, ◌^◌, ◌<◌, ◌≤◌, Bool, true, false, List, [], ◌∷◌, map, drop, length, Some, refl, sym, ap, subst, ◌∙◌, length-drop, arith}
 use Rattle.std.proofs.lemmas.List.{drop-drop}
 use Rattle.std.proofs.lemmas.Bool.Decides.{nat_tests}
 use Rattle.std.specs.Prelude.{nat_lt, slice_index_or}
@@ -9,11 +9,11 @@ use Rattle.tv_tokens.specs.declared.token.Token.{Token}
 use Rattle.tv_tokens.specs.Tokens.{token, IsTokens, end, gap, solid, unread}
 use Rattle.tv_tokens.proofs.TokenCounts.{few_tokens}
 use Rattle.tv_program.specs.Words.{Word}
-use Rattle.tv_language.specs.Symbols.{Lexeme, lexeme, lexemes, Vocabulary}
+use Rattle.tv_language.specs.Symbols.{lexeme, lexemes, Vocabulary}
 use Rattle.tv_grammar.specs.Reads.{next}
 use Rattle.tv_reading.specs.Marks.{Stand, first}
 use Rattle.tv_reading.specs.Readings.{moved, taken}
-use Rattle.tv_formula_text.specs.Seen.{Seen, seen, seen_all}
+use Rattle.tv_formula_text.specs.Seen.{seen, seen_all}
 use Rattle.tv_formula_text.specs.Answers.{left, IsOver, Stays, kind_seen, is_last}
 use Rattle.tv_formula_text.specs.declared.source.Source.{Source}
 

@@ -1,14 +1,12 @@
 -- What one step of the code that reads formulas does.
-use Rattle.std.proofs.Common.{◌≡◌, ℕ, zero, suc, ◌<◌, ◌≤◌, Bool, true, false, List, [], ◌∷◌, drop, length, cond, Option, Some, None, Result, Ok, Err, refl, sym, ap, subst, ◌∙◌, arith}
-use Rattle.std.proofs.lemmas.Bool.Decides.{nat_tests}
-use Rattle.std.specs.Prelude.{nat_lt}
+use Rattle.std.proofs.Common.{◌≡◌, ℕ, zero, suc, ◌<◌, ◌≤◌, true, false, List, [], ◌∷◌, drop, length, Some, Result, Ok, Err, refl, sym, ap, subst, ◌∙◌}
 use Rattle.tv_tokens.specs.declared.token.TokenKind.{TokenKind}
 use Rattle.tv_tokens.specs.declared.token.TokenKind.TheVariants as kinds
 use Rattle.tv_language.specs.Symbols.{number, name, label, drawn, fixed}
 use Rattle.tv_program.specs.Words.{Word}
 use Rattle.tv_formula.specs.Properties.{Property, negated}
 use Rattle.tv_grammar.specs.Reads.{Fault, faulty, fault, next}
-use Rattle.tv_grammar.specs.Langs.{unit, branch_read, headed_read, goes_at, then, mapped, headed, turns}
+use Rattle.tv_grammar.specs.Langs.{unit, branch_read, headed_read, goes_at, then, mapped, turns}
 use Rattle.tv_grammar.specs.Exact.{ExactBranch}
 use Rattle.tv_grammar.proofs.TurningLemmas.{loop_ends, loop_fails, loop_goes, turn_shrinks}
 use Rattle.tv_reading.specs.Marks as marks
@@ -21,10 +19,10 @@ use Rattle.tv_formula_text.specs.declared.reason.Turn.TheVariants.{On, Off}
 use Rattle.tv_formula_text.specs.Told.{is_memory}
 use Rattle.tv_grammar.proofs.Results.{ok_is}
 use Rattle.tv_formula_text.specs.Seen.{Seen}
-use Rattle.tv_formula_text.specs.Choice.{Grammar, Behind, either_read, or_further}
-use Rattle.tv_formula_text.specs.FormulaGrammar.{at_kind, open_by, opened, closed, operated, Under, plain_by, leaf_by, leaves, below, is_and, is_or, more_by, more_cases, comparison, plain_at, literal_at, formula_at}
+use Rattle.tv_formula_text.specs.Choice.{Grammar, Behind, either_read}
+use Rattle.tv_formula_text.specs.FormulaGrammar.{at_kind, open_by, opened, closed, operated, plain_by, leaf_by, leaves, below, comparison, plain_at, literal_at, formula_at}
 use Rattle.tv_formula_text.specs.Answers.{kind_seen, kind_of, Unless, Gives, Turned, the_nothing}
-use Rattle.tv_formula_text.proofs.ChoiceLemmas.{IsOther, is_other, other_kept, first_further, second_further}
+use Rattle.tv_formula_text.proofs.ChoiceLemmas.{IsOther, other_kept, first_further, second_further}
 use Rattle.tv_formula_text.proofs.PlainOrSum.{plain_read, nothing_read}
 
 pub gives_along : {X Y : Type 0} (view : X → Y) (r : Result X Reason) (left : List Seen) (a b : Result (Y × List Seen) (Fault Seen Kind)) → a ≡ b → Gives view r left b → Gives view r left a

@@ -1,20 +1,20 @@
 -- What a sum does at the tokens of a formula.
-use Rattle.std.proofs.Common.{◌≡◌, ℕ, zero, suc, ◌≤◌, Bool, true, false, List, [], ◌∷◌, ◌++◌, length, Option, Some, None, Result, Ok, Err, refl, sym, ap, ◌∙◌, length-append, arith}
+use Rattle.std.proofs.Common.{◌≡◌, ℕ, zero, suc, ◌≤◌, Bool, true, false, List, [], ◌∷◌, length, Option, Some, None, Result, Ok, Err, refl, sym, ap, ◌∙◌, length-append, arith}
 use Rattle.tv_tokens.specs.declared.token.TokenKind.TheVariants as kinds
 use Rattle.tv_program.specs.Trees.{Expression}
 use Rattle.tv_program.specs.Words.{Word}
 use Rattle.tv_language.specs.Symbols.{number, name, label, drawn, fixed}
 use Rattle.tv_grammar.specs.Reads.{Fault, faulty, fault, next}
-use Rattle.tv_grammar.specs.Langs.{OfBranch, branch_read}
+use Rattle.tv_grammar.specs.Langs.{branch_read}
 use Rattle.tv_grammar.proofs.Results.{ok_is}
 use Rattle.tv_reading.specs.Marks.{Kind, Syntax, Deep, Mark, plain, refused}
 use Rattle.tv_reading.specs.SumGrammar as sums
 use Rattle.tv_reading.specs.SumGrammar.{factor_cases, factor_at, sum_at}
 use Rattle.tv_reading.proofs.SumLemmas.{sum_exact}
 use Rattle.tv_formula_text.specs.Seen.{Seen, marks}
-use Rattle.tv_formula_text.specs.Choice.{Grammar, mark_at, last, lifted_read, lifted}
+use Rattle.tv_formula_text.specs.Choice.{mark_at, last, lifted_read}
 use Rattle.tv_formula_text.specs.FormulaGrammar.{summed, at_kind, plain_by, below}
-use Rattle.tv_formula_text.proofs.ChoiceLemmas.{length-marks, next-marks, last_all, last_behind, length-last, Parted, parted, last_of}
+use Rattle.tv_formula_text.proofs.ChoiceLemmas.{length-marks, next-marks, last_all, last_behind, parted, last_of}
 
 abbrev pub is_right_mark : Mark → Bool
 is_right_mark (plain (fixed kinds.RightRound)) = true

@@ -1,5 +1,5 @@
 -- A sum of a formula is read as a sum of its marks.
-use Rattle.std.proofs.Common.{◌≡◌, ℕ, zero, suc, ◌+◌, ◌-◌, ◌≤◌, Bool, true, false, List, [], ◌∷◌, ◌++◌, map, drop, length, Option, Some, None, Result, Ok, Err, refl, sym, ap, subst, ◌∙◌, arith}
+use Rattle.std.proofs.Common.{◌≡◌, ℕ, zero, suc, ◌+◌, ◌-◌, ◌≤◌, Bool, true, false, List, [], ◌∷◌, ◌++◌, drop, length, Ok, Err, refl, sym, ap, ◌∙◌, arith}
 use Rattle.std.proofs.lemmas.List.{drop-drop}
 use Rattle.tv_tokens.specs.declared.token.TokenKind.{TokenKind}
 use Rattle.tv_tokens.specs.declared.token.TokenKind.TheVariants as kinds
@@ -7,12 +7,11 @@ use Rattle.tv_tokens.specs.declared.token.Token.{Token}
 use Rattle.tv_program.specs.Words.{Word}
 use Rattle.tv_program.specs.Trees.{Expression}
 use Rattle.tv_language.specs.Symbols.{lexeme, Vocabulary}
-use Rattle.tv_grammar.specs.Reads.{Fault, fault}
+use Rattle.tv_grammar.specs.Reads.{fault}
 use Rattle.tv_reading.specs.Marks as marking
 use Rattle.tv_reading.specs.Marks.{Kind, Mark, Stand, Passes, stay, pass, past, mark_by, names_behind, draws_behind, marks_from}
 use Rattle.tv_reading.specs.SumGrammar.{every, sum_at}
 use Rattle.tv_reading.specs.Readings.{moved, sum_levels, IsKept, IsRead}
-use Rattle.tv_reading.specs.Readings as readings
 use Rattle.tv_reading.specs.declared.fault.PartFault.{PartFault}
 use Rattle.tv_reading.specs.declared.fault.PartFault.TheVariants as parts
 use Rattle.tv_reading.proofs.PassedLemmas.{passes_kept}
@@ -22,7 +21,6 @@ use Rattle.tv_formula_text.specs.FormulaGrammar.{summed}
 use Rattle.tv_formula_text.specs.Answers.{left, IsOver, Stays, kind_of, Unless}
 use Rattle.tv_formula_text.specs.Told.{IsReasonFor}
 use Rattle.tv_formula_text.specs.declared.reason.Reason.{Reason}
-use Rattle.tv_formula_text.specs.declared.reason.Reason.TheVariants as reasons
 use Rattle.tv_formula_text.specs.declared.source.Source.{Source}
 use Rattle.tv_formula_text.proofs.ChoiceLemmas.{last_of, length-marks}
 use Rattle.tv_formula_text.proofs.SourceLemmas.{words, none_at}

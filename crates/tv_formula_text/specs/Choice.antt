@@ -1,9 +1,9 @@
 -- Two grammars side by side, and a grammar of marks as one of tokens.
 use Rattle.std.proofs.Common.{inl, inr}
-use Rattle.std.specs.Prelude.{◌≡◌, ◌⊎◌, ℕ, ◌-◌, Bool, true, false, List, [], ◌++◌, length, drop, Option, Some, None, Result, Ok, Err, nat_lt, cond}
+use Rattle.std.specs.Prelude.{◌≡◌, ◌⊎◌, ℕ, ◌-◌, Bool, List, [], ◌++◌, length, drop, Option, Some, None, Result, Ok, Err, nat_lt, cond}
 use Rattle.tv_grammar.specs.Reads.{Fault, faulty, fault}
 use Rattle.tv_grammar.specs.Langs.{Lang, Branch}
-use Rattle.tv_reading.specs.Marks.{Kind, Syntax, Wide, Deep, NotLinear, TwoStarts, TooMany, UnknownName, Mark}
+use Rattle.tv_reading.specs.Marks.{Kind, Syntax, Mark}
 use Rattle.tv_reading.specs.SumGrammar as sums
 use Rattle.tv_formula_text.specs.Seen.{Seen, marks}
 

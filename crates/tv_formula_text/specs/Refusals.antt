@@ -1,5 +1,5 @@
 -- The first fault of a text, and what its kind says.
-use Rattle.std.specs.Prelude.{◌≡◌, ℕ, Bool, List, [], ◌∷◌, ◌++◌, Some, length, Result, Ok, Err}
+use Rattle.std.specs.Prelude.{◌≡◌, ℕ, Bool, List, [], ◌∷◌, ◌++◌, Some, Result, Ok, Err}
 use Rattle.tv_tokens.specs.declared.token.Token.{Token}
 use Rattle.tv_tokens.specs.Tokens.{IsTokens}
 use Rattle.tv_program.specs.Systems.{System}

@@ -1,8 +1,7 @@
-use Rattle.std.proofs.Common.{◌≡◌, List, refl, sym, ap, subst, ◌∙◌}
+use Rattle.std.proofs.Common.{List, refl, sym, subst, ◌∙◌}
 use Rattle.tv_tokens.specs.declared.token.Token.{Token}
 use Rattle.tv_tokens.specs.Tokens.{IsTokens}
 use Rattle.tv_program.specs.Programs.{system_of}
-use Rattle.tv_formula.specs.Limits.{IsFormula}
 use Rattle.tv_formula.specs.Properties.{Property}
 use Rattle.tv_formula.specs.Views.{property}
 use Rattle.tv_formula_text.specs.FormulaTexts.{IsFormulaText}

@@ -1,4 +1,4 @@
-use Rattle.std.proofs.Common.{◌≡◌, ◌≤◌, ◌<◌, length, drop, ap, sym, ◌∙◌, arith}
+use Rattle.std.proofs.Common.{◌≡◌, length, drop, ap, ◌∙◌, arith}
 use Rattle.tv_reading.specs.Marks.{first}
 use Rattle.tv_formula_text.proofs.SourceLemmas.{few, first_at}
 use Rattle.tv_formula_text.proofs.source.next_token.Goals as goal

@@ -1,4 +1,4 @@
-use Rattle.std.proofs.Common.{◌≡◌, ℕ, ◌-◌, ◌≤◌, length, ap, sym, subst, ◌∙◌, arith, true, Ok, Err}
+use Rattle.std.proofs.Common.{◌≡◌, ℕ, ◌-◌, length, ap, subst, ◌∙◌, arith, true, Ok, Err}
 use Rattle.tv_program.specs.Views.{expression}
 use Rattle.tv_reading.specs.Marks as marking
 use Rattle.tv_reading.specs.Marks.{Stand, Passes}
