@@ -16,13 +16,13 @@ use Rattle.tv_tableau.specs.Answers.{IsBarrier, barrier_of}
 use Rattle.tv_tableau.specs.Outcomes.{IsShort, IsSolutionOf, IsBarrierOf, InChain, EndsInBarrier, GivesSolution, GivesBarrier, solution_number, barrier_number}
 
 -- a factor above 0 keeps the sign
-at_least : (a v : ℤ) → pos 0 <ℤ a → pos 0 ≤ℤ (a *ℤ v) → pos 0 ≤ℤ v
+pub at_least : (a v : ℤ) → pos 0 <ℤ a → pos 0 ≤ℤ (a *ℤ v) → pos 0 ≤ℤ v
 at_least a v h e = elim (by_sign v) [
   | inl n ↦ (let k = under_times v a n h in let c = *ℤ_comm a v in absurd (omega (arith, ints, k, c, e)))
   | inr w ↦ elim w [ inl z ↦ omega (arith, ints, z) | inr p ↦ omega (arith, ints, p) ]
 ]
 
-times_at_least : (a v : ℤ) → pos 0 <ℤ a → pos 0 ≤ℤ v → pos 0 ≤ℤ (a *ℤ v)
+pub times_at_least : (a v : ℤ) → pos 0 <ℤ a → pos 0 ≤ℤ v → pos 0 ≤ℤ (a *ℤ v)
 times_at_least a v h k = grind (arith, ints)
 
 is_below : (a v : ℤ) → pos 0 <ℤ a → (a *ℤ v) <ℤ pos 0 → v <ℤ pos 0
@@ -35,7 +35,7 @@ is_below a v h e = elim (by_sign v) [
 ]
 
 -- numbers over one scale, summed up with the same factors
-scaled_sum : (n : ℕ) (x y f : ℕ → ℤ) (s t : ℤ) → ((j : ℕ) → j < n → x j *ℤ s ≡ t *ℤ y j) → s *ℤ total n (λ j. f j *ℤ x j) ≡ t *ℤ total n (λ j. f j *ℤ y j)
+pub scaled_sum : (n : ℕ) (x y f : ℕ → ℤ) (s t : ℤ) → ((j : ℕ) → j < n → x j *ℤ s ≡ t *ℤ y j) → s *ℤ total n (λ j. f j *ℤ x j) ≡ t *ℤ total n (λ j. f j *ℤ y j)
 scaled_sum n x y f s t h =
     sym (total-times n s (λ j. f j *ℤ x j))
     ∙ total-same n (λ j. s *ℤ (f j *ℤ x j)) (λ j. t *ℤ (f j *ℤ y j)) (λ j l. mul_swap s (f j) (x j) ∙ ap (λ z. f j *ℤ z) (*ℤ_comm s (x j) ∙ h j l) ∙ mul_swap (f j) t (y j))

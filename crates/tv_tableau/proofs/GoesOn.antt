@@ -10,7 +10,7 @@ use Rattle.tv_tableau.proofs.Steps.{joined}
 use Rattle.tv_tableau.specs.Sums.{total, delta}
 use Rattle.tv_tableau.specs.Tableaus.{Tableau}
 use Rattle.tv_tableau.specs.Chains.{LeadsAbove, order, cost, objective, column, Step, Solves, Settles}
-use Rattle.tv_tableau.specs.Orders.{Feasible}
+use Rattle.tv_tableau.specs.Orders.{Feasible, against, LeastOf}
 
 last_or_below : (n j : ℕ) → j < suc n → (j ≡ n) ⊎ (j < n)
 last_or_below n j h = grind arith
@@ -106,14 +106,8 @@ module _ (a : ℕ → ℕ → ℤ) (m n : ℕ) (b : ℕ → ℕ) (x : Tableau a 
       let z = times_zero x.scale (cost m n c) (cost-none m n c c_in) in
       absurd (omega (arith, ints, s, z))
 
-  abbrev pub ratio : ℕ → ℕ → ℕ → ℕ → ℤ
-  ratio c r i q = x.entry r c *ℤ x.entry i (order m n q) -ℤ x.entry i c *ℤ x.entry r (order m n q)
-
-  -- the least of the first k rows
-  pub record LeastOf (c k r : ℕ) : Type 0 where
-    pub within : r < k
-    pub above : pos 0 <ℤ x.entry r c
-    pub least : (i : ℕ) → i < k → (i ≡ r → ⊥) → pos 0 <ℤ x.entry i c → LeadsAbove m (ratio c r i)
+  abbrev ratio : ℕ → ℕ → ℕ → ℕ → ℤ
+  ratio c r i q = against a m n b x c r i q
 
   ratio-trans : (c r s i : ℕ) → pos 0 <ℤ x.entry r c → pos 0 <ℤ x.entry s c → pos 0 <ℤ x.entry i c → LeadsAbove m (ratio c r i) → LeadsAbove m (ratio c s r) → LeadsAbove m (ratio c s i)
   ratio-trans c r s i pr ps pi h k =
@@ -122,74 +116,80 @@ module _ (a : ℕ → ℕ → ℤ) (m n : ℕ) (b : ℕ → ℕ) (x : Tableau a 
       (leads-add m (λ q. x.entry s c *ℤ ratio c r i q) (λ q. x.entry i c *ℤ ratio c s r q) (leads-times m (x.entry s c) (ratio c r i) ps h) (leads-times m (x.entry i c) (ratio c s r) pi k))
       (λ q l. joined (x.entry s c) (x.entry r c) (x.entry i c) (x.entry s (order m n q)) (x.entry r (order m n q)) (x.entry i (order m n q))))
 
-  pub least_of : (c k : ℕ) → k ≤ m → ((i : ℕ) → i < k → x.entry i c ≤ℤ pos 0) ⊎ ((r : ℕ) × LeastOf c k r)
+  -- a first row with an entry above 0
+  pub least_first : (c k : ℕ) → pos 0 <ℤ x.entry k c → ((i : ℕ) → i < k → x.entry i c ≤ℤ pos 0) → LeastOf a m n b x c (suc k) k
+  least_first c k p none = record {
+    within = omega arith;
+    above = p;
+    least = λ i l o q. elim (last_or_below k i l) [
+      | inl e ↦ absurd (o e)
+      | inr g ↦ (let u = none i g in absurd (omega (arith, ints, u)))
+    ];
+  }
+
+  -- a row without an entry above 0 is passed over
+  pub least_skips : (c k r : ℕ) → x.entry k c ≤ℤ pos 0 → LeastOf a m n b x c k r → LeastOf a m n b x c (suc k) r
+  least_skips c k r low old = record {
+    within = (let l = old.within in omega arith);
+    above = old.above;
+    least = λ i l o p. elim (last_or_below k i l) [
+      | inl e ↦ (let u = ap (λ y. x.entry y c) e in absurd (omega (arith, ints, u)))
+      | inr g ↦ old.least i g o p
+    ];
+  }
+
+  -- a row with greater quotients is passed over
+  pub least_stays : (c k r : ℕ) → LeadsAbove m (ratio c r k) → LeastOf a m n b x c k r → LeastOf a m n b x c (suc k) r
+  least_stays c k r up old = record {
+    within = (let l = old.within in omega arith);
+    above = old.above;
+    least = λ i l o q. elim (last_or_below k i l) [
+      | inl e ↦ subst (λ y. LeadsAbove m (ratio c r y)) (sym e) up
+      | inr g ↦ old.least i g o q
+    ];
+  }
+
+  -- a row with lesser quotients takes the place
+  pub least_taken : (c k r : ℕ) → pos 0 <ℤ x.entry k c → LeadsAbove m (ratio c k r) → LeastOf a m n b x c k r → LeastOf a m n b x c (suc k) k
+  least_taken c k r p turned old = record {
+    within = omega arith;
+    above = p;
+    least = λ i l o q. elim (last_or_below k i l) [
+      | inl e ↦ absurd (o e)
+      | inr g ↦ elim (same_or_other i r) [
+        | inl e ↦ subst (λ y. LeadsAbove m (ratio c k y)) (sym e) turned
+        | inr e ↦ ratio-trans c r k i old.above p q (old.least i g e q) turned
+      ]
+    ];
+  }
+
+  -- no two rows have the same quotients
+  pub never_tied : (c k r : ℕ) → k < m → LeastOf a m n b x c k r → ((q : ℕ) → q ≤ m → ratio c r k q ≡ pos 0) → ⊥
+  never_tied c k r k_in old none = independent k r k_in (let l = old.within in omega arith) (λ e. let l = old.within in absurd (omega arith)) (x.entry r c) (x.entry k c) old.above none
+
+  pub least_of : (c k : ℕ) → k ≤ m → ((i : ℕ) → i < k → x.entry i c ≤ℤ pos 0) ⊎ ((r : ℕ) × LeastOf a m n b x c k r)
   least_of c zero h = inl (λ i l. absurd (omega arith))
   least_of c (suc k) h = elim (by_sign (x.entry k c)) [
     | inl low ↦ skip (omega (arith, ints)) (least_of c k (omega arith))
     | inr w ↦ elim w [
       | inl e ↦ skip (omega (arith, ints, e)) (least_of c k (omega arith))
       | inr p ↦ inr (elim (least_of c k (omega arith)) [
-        | inl none ↦ (
-          k,
-          record {
-            within = omega arith;
-            above = p;
-            least = λ i l o q. elim (last_or_below k i l) [
-              | inl e ↦ absurd (o e)
-              | inr g ↦ (let u = none i g in absurd (omega (arith, ints, u)))
-            ];
-          },
-        )
+        | inl none ↦ (k, least_first c k p none)
         | inr old ↦ better p old.0 old.1
       ])
     ]
   ]
     where
-      skip : x.entry k c ≤ℤ pos 0 → ((i : ℕ) → i < k → x.entry i c ≤ℤ pos 0) ⊎ ((r : ℕ) × LeastOf c k r) → ((i : ℕ) → i < suc k → x.entry i c ≤ℤ pos 0) ⊎ ((r : ℕ) × LeastOf c (suc k) r)
+      skip : x.entry k c ≤ℤ pos 0 → ((i : ℕ) → i < k → x.entry i c ≤ℤ pos 0) ⊎ ((r : ℕ) × LeastOf a m n b x c k r) → ((i : ℕ) → i < suc k → x.entry i c ≤ℤ pos 0) ⊎ ((r : ℕ) × LeastOf a m n b x c (suc k) r)
       skip low (inl none) = inl (λ i l. elim (last_or_below k i l) [ inl e ↦ subst (λ y. x.entry y c ≤ℤ pos 0) (sym e) low | inr g ↦ none i g ])
-      skip low (inr old) = inr (
-        old.0,
-        record {
-          within = (let l = old.1.within in omega arith);
-          above = old.1.above;
-          least = λ i l o p. elim (last_or_below k i l) [
-            | inl e ↦ (let u = ap (λ y. x.entry y c) e in absurd (omega (arith, ints, u)))
-            | inr g ↦ old.1.least i g o p
-          ];
-        },
-      )
+      skip low (inr old) = inr (old.0, least_skips c k old.0 low old.1)
 
-      better : pos 0 <ℤ x.entry k c → (r : ℕ) → LeastOf c k r → (s : ℕ) × LeastOf c (suc k) s
+      better : pos 0 <ℤ x.entry k c → (r : ℕ) → LeastOf a m n b x c k r → (s : ℕ) × LeastOf a m n b x c (suc k) s
       better p r old = elim (leads-cases m (ratio c r k)) [
-        | inl up ↦ (
-          r,
-          record {
-            within = (let l = old.within in omega arith);
-            above = old.above;
-            least = λ i l o q. elim (last_or_below k i l) [
-              | inl e ↦ subst (λ y. LeadsAbove m (ratio c r y)) (sym e) up
-              | inr g ↦ old.least i g o q
-            ];
-          },
-        )
+        | inl up ↦ (r, least_stays c k r up old)
         | inr w ↦ elim w [
-          | inl down ↦ (
-            k,
-            record {
-              within = omega arith;
-              above = p;
-              least = λ i l o q. elim (last_or_below k i l) [
-                | inl e ↦ absurd (o e)
-                | inr g ↦ (
-                    let turned = leads-same m (λ q. pos 0 -ℤ ratio c r k q) (ratio c k r) down (λ q l. omega (arith, ints)) in
-                    elim (same_or_other i r) [
-                      | inl e ↦ subst (λ y. LeadsAbove m (ratio c k y)) (sym e) turned
-                      | inr e ↦ ratio-trans c r k i old.above p q (old.least i g e q) turned
-                    ])
-              ];
-            },
-          )
-          | inr none ↦ absurd (independent k r (omega arith) (let l = old.within in omega arith) (λ e. let l = old.within in absurd (omega arith)) (x.entry r c) (x.entry k c) old.above none)
+          | inl down ↦ (k, least_taken c k r p (leads-same m (λ q. pos 0 -ℤ ratio c r k q) (ratio c k r) down (λ q l. omega (arith, ints))) old)
+          | inr none ↦ absurd (never_tied c k r (omega arith) old none)
         ]
       ]
 

@@ -20,3 +20,4 @@ pub mod Starts
 pub mod Signed
 pub mod Faults
 pub mod AnswersMet
+pub mod Transferred

@@ -47,9 +47,9 @@ rest f g h k u v w t s p rg rh rk q =
     (record { positive = q.positive; same = q.same })
 
 -- what is read of a row, over a scale
-module _ (m : ℕ) (n : ℕ) (c : ℕ) (s : ℤ) (positive : pos 0 <ℤ s) (f g : ℕ → Ratio) (u v : ℕ → ℤ) (c_in : c ≤ n + m) (fs : (j : ℕ) → j ≤ n + m → IsRatio (f j) (u j) s) (gs : (j : ℕ) → j ≤ n + m → IsRatio (g j) (v j) s) where
+module _ (last c : ℕ) (s : ℤ) (positive : pos 0 <ℤ s) (f g : ℕ → Ratio) (u v : ℕ → ℤ) (c_in : c ≤ last) (fs : (j : ℕ) → j ≤ last → IsRatio (f j) (u j) s) (gs : (j : ℕ) → j ≤ last → IsRatio (g j) (v j) s) where
   -- two quotients are compared as the products of what they are
-  pub quotients_compared : (o : ℕ) → o ≤ n + m → (p q : Ratio) → IsQuotient p (f o) (f c) → IsQuotient q (g o) (g c) → (u c *ℤ v c) *ℤ compared p q ≡ (p.denominator *ℤ q.denominator) *ℤ (v c *ℤ u o -ℤ u c *ℤ v o)
+  pub quotients_compared : (o : ℕ) → o ≤ last → (p q : Ratio) → IsQuotient p (f o) (f c) → IsQuotient q (g o) (g c) → (u c *ℤ v c) *ℤ compared p q ≡ (p.denominator *ℤ q.denominator) *ℤ (v c *ℤ u o -ℤ u c *ℤ v o)
   quotients_compared o o_in p q hp hq = crossed p q (u o) (v o) (u c) (v c) (quotient p (f o) (f c) (u o) (u c) s positive (fs o o_in) (fs c c_in) hp) (quotient q (g o) (g c) (v o) (v c) s positive (gs o o_in) (gs c c_in) hq)
 
 module _ (a : ℕ → ℕ → ℤ) (m n : ℕ) (sys : IsSystem a m n) (b : List ℕ) (bs : List (List ℕ)) (read : ℕ → ℕ → Ratio) (shows : Shows a m n b bs read) where

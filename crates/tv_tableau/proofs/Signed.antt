@@ -24,7 +24,7 @@ matrix-right_is s k = at (nat_lt (s.columns + s.rows) s.columns) (nat_lt (s.colu
     at false true e f = cc
     at false false e f = refl
 
-sign-twice : (s : Equations) (k : ℕ) → sign s k *ℤ sign s k ≡ pos 1
+pub sign-twice : (s : Equations) (k : ℕ) → sign s k *ℤ sign s k ≡ pos 1
 sign-twice s k = at (int_lt (right_at s k) (pos 0))
   where
     at : (p : Bool) → cond p (neg_ℤ (pos 1)) (pos 1) *ℤ cond p (neg_ℤ (pos 1)) (pos 1) ≡ pos 1

@@ -22,9 +22,13 @@ pub record IsWhole (s : Equations) : Type 0 where
   pub few_columns : s.columns < 2 ^ 32
   pub size : s.rows * s.columns ≤ 4000000
 
--- -1 for a row with a negative right side, else 1
+-- -1 for a negative number, else 1
+abbrev pub sign_of : ℤ → ℤ
+sign_of z = cond (int_lt z (pos 0)) (neg_ℤ (pos 1)) (pos 1)
+
+-- the sign of the right side of a row
 abbrev pub sign : Equations → ℕ → ℤ
-sign s k = cond (int_lt (right_at s k) (pos 0)) (neg_ℤ (pos 1)) (pos 1)
+sign s k = sign_of (right_at s k)
 
 -- The system that is solved: the rows with a negative right side are multiplied by -1. Behind the columns of
 -- the system stand an artificial column for each row, which is the unit column of that row, and the right side.

@@ -1,0 +1,4 @@
+pub mod RefutationSystem
+pub mod Refuting
+pub mod Paths
+pub mod Emptying
