@@ -1,22 +1,17 @@
-use Rattle.std.proofs.Common.{FitsSigned, ◌≡◌, ◌⊎◌, inl, inr, ℕ, zero, suc, ◌+◌, ◌<◌, ◌≤◌, ◌^◌, List, [], ◌∷◌, ◌++◌, length, length-append, get_or, set, Vec, Bool, true, false, cond, arith, refl, sym, ap, ◌∙◌, subst, ℤ, pos, ◌+ℤ◌, ◌-ℤ◌, ◌*ℤ◌, ◌<ℤ◌, unsigned_abs}
-use Rattle.std.specs.Prelude.{nat_lt, int_lt, neg_ℤ}
+use Rattle.std.proofs.Common.{FitsSigned, ◌≡◌, ◌⊎◌, inl, inr, ℕ, suc, ◌+◌, ◌<◌, ◌≤◌, ◌^◌, List, [], ◌∷◌, ◌++◌, length, length-append, get_or, set, Vec, arith, refl, sym, ap, ◌∙◌, subst, ℤ, pos, ◌+ℤ◌, ◌*ℤ◌, unsigned_abs}
 use Rattle.std.specs.Int.{w128}
 use Rattle.std.proofs.lemmas.Int.{ints, fits_signed_from_abs}
-use Rattle.std.proofs.lemmas.Bool.Decides.{nat_tests}
 use Rattle.std.proofs.lemmas.List.{length-set, get_or-set_same, get_or-set_other}
-use Rattle.std.proofs.Math.IntN.{*ℤ_comm}
-use Rattle.tv_fraction.proofs.Ring.{mul_assoc_z}
 use Rattle.tv_fraction.specs.declared.Fraction.{Fraction}
-use Rattle.tv_tableau.proofs.Ring.{mul_swap, same_factor, times_zero, zero_times, less_times, times_less}
-use Rattle.tv_tableau.proofs.Sums.{total-same, total-zero, total-delta, delta-same, delta-other}
+use Rattle.tv_tableau.proofs.Ring.{zero_times}
+use Rattle.tv_tableau.proofs.Sums.{total-zero, delta-same, delta-other}
 use Rattle.tv_tableau.specs.Sums.{total, delta}
 use Rattle.tv_tableau.specs.Systems.{Equations, sign}
 use Rattle.tv_tableau.specs.Chains.{column}
-use Rattle.tv_tableau.specs.Ratios.{Ratio}
 use Rattle.tv_tableau.specs.Outcomes.{IsShort}
 use Rattle.tv_simplex.proofs.ScaleLemmas.{get_or-append-last, get_or-append-before}
 use Rattle.tv_simplex.proofs.StartLemmas.{at_end, before_end}
-use Rattle.tv_simplex.specs.Rows.{ratio, ratio_at, row_of, read}
+use Rattle.tv_simplex.specs.Rows.{ratio, ratio_at, read}
 use Rattle.tv_simplex.specs.Scales.{AreBounded}
 use Rattle.tv_simplex.specs.Walking.{AreOfColumn, IsLessOne, AreOfObjective, AreDistinct, AreValues, AreSigned}
 

@@ -1,4 +1,4 @@
-use Rattle.std.proofs.Common.{◌≡◌, ◌⊎◌, inl, inr, ℕ, zero, suc, ◌+◌, ◌<◌, ◌≤◌, ◌^◌, List, length, get_or, Bool, true, false, cond, arith, refl, sym, ap, ◌∙◌, subst, ℤ, pos, ◌+ℤ◌, ◌-ℤ◌, ◌*ℤ◌, ◌<ℤ◌, unsigned_abs}
+use Rattle.std.proofs.Common.{◌≡◌, ◌⊎◌, inl, inr, ℕ, ◌+◌, ◌<◌, ◌≤◌, ◌^◌, List, length, get_or, Bool, true, false, cond, arith, refl, sym, ap, ◌∙◌, subst, ℤ, pos, ◌-ℤ◌, ◌*ℤ◌, ◌<ℤ◌, unsigned_abs}
 use Rattle.std.specs.Prelude.{nat_lt, int_lt, neg_ℤ, ◌*◌}
 use Rattle.std.proofs.lemmas.Int.{ints, unsigned_abs-mul}
 use Rattle.std.proofs.lemmas.Bool.Decides.{nat_tests}
@@ -14,9 +14,9 @@ use Rattle.tv_tableau.proofs.Signed.{sign-twice}
 use Rattle.tv_tableau.proofs.AnswersMet.{scaled_sum, solution_met, barrier_met}
 use Rattle.tv_tableau.specs.Sums.{total, delta}
 use Rattle.tv_tableau.specs.Systems.{Equations, matrix, sign, right_at}
-use Rattle.tv_tableau.specs.Chains.{column, objective, Solves, NoneNegative}
-use Rattle.tv_tableau.specs.Answers.{values_of, barrier_of}
-use Rattle.tv_tableau.specs.Ratios.{Ratio, IsRatio, Shows}
+use Rattle.tv_tableau.specs.Chains.{column, objective}
+use Rattle.tv_tableau.specs.Answers.{barrier_of}
+use Rattle.tv_tableau.specs.Ratios.{IsRatio}
 use Rattle.tv_tableau.specs.Outcomes.{IsShort, IsSolutionOf, IsBarrierOf, InChain, GivesSolution, GivesBarrier, HasScale, HasNoScale, solution_number, barrier_number, EndsInSolution, EndsInBarrier}
 use Rattle.tv_simplex.specs.declared.stop.Stop.{Stop}
 use Rattle.tv_simplex.specs.declared.stop.Stop.TheVariants.{Wide, Scale, Memory}

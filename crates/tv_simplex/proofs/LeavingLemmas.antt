@@ -1,4 +1,4 @@
-use Rattle.std.proofs.Common.{Option, None, Some, MatchOption, ◌≡◌, ◌⊎◌, inl, inr, ℕ, zero, suc, ◌+◌, ◌<◌, ◌≤◌, List, length, Vec, arith, refl, sym, ap, ◌∙◌, subst, ℤ, pos, ◌-ℤ◌, ◌*ℤ◌, ◌<ℤ◌, ◌≤ℤ◌}
+use Rattle.std.proofs.Common.{Option, None, Some, MatchOption, ◌≡◌, ◌⊎◌, inl, inr, ℕ, suc, ◌+◌, ◌<◌, ◌≤◌, List, Vec, arith, refl, sym, ap, ◌∙◌, subst, ℤ, pos, ◌-ℤ◌, ◌*ℤ◌, ◌<ℤ◌, ◌≤ℤ◌}
 use Rattle.std.specs.declared.cmp.Ordering.{Ordering}
 use Rattle.std.specs.declared.cmp.Ordering.TheVariants.{Less, Equal, Greater}
 use Rattle.std.specs.Ordering.{MatchOrdering, int_cmp}
@@ -6,15 +6,15 @@ use Rattle.std.proofs.lemmas.Cmp.{int_ranked}
 use Rattle.std.proofs.lemmas.Int.{ints}
 use Rattle.tv_fraction.specs.declared.Fraction.{Fraction}
 use Rattle.tv_tableau.proofs.Ring.{by_sign, above_times, is_above, is_zero, times_zero, times_less}
-use Rattle.tv_tableau.proofs.RatioLemmas.{value_above, value_below, num_above}
+use Rattle.tv_tableau.proofs.RatioLemmas.{value_above, num_above}
 use Rattle.tv_tableau.proofs.Shown.{quotients_compared}
 use Rattle.tv_tableau.proofs.GoesOn.{least_first, least_skips, least_stays, least_taken, never_tied}
 use Rattle.tv_tableau.proofs.Leads.{leads-same}
-use Rattle.tv_tableau.specs.Chains.{LeadsAbove, order, column}
+use Rattle.tv_tableau.specs.Chains.{order, column}
 use Rattle.tv_tableau.specs.Orders.{LeastOf, against}
-use Rattle.tv_tableau.specs.Ratios.{Ratio, IsRatio, IsQuotient, compared, Shows}
+use Rattle.tv_tableau.specs.Ratios.{Ratio, IsRatio, IsQuotient, Shows}
 use Rattle.tv_simplex.specs.Rows.{ratio, ratio_at, row_of, read}
-use Rattle.tv_simplex.specs.Choosing.{IsPicture, IsSignOf, ComparesAt, difference_at, IsLexicographic, Compares, NoneAbove, IsLeast}
+use Rattle.tv_simplex.specs.Choosing.{IsSignOf, ComparesAt, difference_at, IsLexicographic, Compares, NoneAbove, IsLeast}
 
 turned : (k e x y w d : ℤ) → k *ℤ (x -ℤ y) ≡ e *ℤ w → d ≡ pos 0 -ℤ w → k *ℤ (y -ℤ x) ≡ e *ℤ d
 turned k e x y w d h g =

@@ -1,12 +1,12 @@
-use Rattle.std.proofs.Common.{Bool, true, false, IsTrue, ◌≡◌, ◌⊎◌, inl, inr, ℕ, zero, suc, ◌+◌, ◌<◌, ◌≤◌, List, [], ◌∷◌, length, get_or, set, arith, refl, sym, ap, ◌∙◌, subst, ℤ, pos, ◌-ℤ◌, ◌*ℤ◌, ◌<ℤ◌}
+use Rattle.std.proofs.Common.{Bool, true, false, IsTrue, ◌≡◌, ◌⊎◌, inl, inr, ℕ, zero, suc, ◌+◌, ◌<◌, ◌≤◌, List, [], ◌∷◌, length, get_or, set, arith, refl, sym, ap, ◌∙◌, subst, pos, ◌*ℤ◌, ◌<ℤ◌}
 use Rattle.std.proofs.lemmas.Int.{ints}
 use Rattle.std.proofs.Math.IntN.{*ℤ_comm}
 use Rattle.std.proofs.lemmas.List.{length-set}
 use Rattle.tv_fraction.proofs.Ring.{mul_assoc_z}
 use Rattle.tv_fraction.specs.declared.Fraction.{Fraction}
-use Rattle.tv_tableau.proofs.Ring.{mul_swap, zero_times, times_zero, less_times}
-use Rattle.tv_tableau.specs.Ratios.{Ratio, IsQuotient, IsRest}
-use Rattle.tv_simplex.specs.Rows.{ratio, ratio_at, IsNarrowRatio, IsNarrowRow, AreQuotients, AreRests, IsWideRest}
+use Rattle.tv_tableau.proofs.Ring.{zero_times, less_times}
+use Rattle.tv_tableau.specs.Ratios.{Ratio, IsRest}
+use Rattle.tv_simplex.specs.Rows.{ratio, ratio_at, IsNarrowRatio, IsNarrowRow, AreRests, IsWideRest}
 
 pub at_get : (xs : List Fraction) (j : ℕ) (d : Fraction) → j < length xs → ratio (get_or xs j d) ≡ ratio_at xs j
 at_get [] j d h = absurd (omega arith)

@@ -10,7 +10,7 @@ use Rattle.tv_fraction.proofs.LowestTerms.{gcd_above, lowest_same, lowest_above,
 use Rattle.tv_fraction.specs.Coprime.{AreCoprime}
 use Rattle.tv_fraction.specs.declared.Fraction.{Fraction}
 use Rattle.tv_simplex.specs.Rows.{ratio, ratio_at}
-use Rattle.tv_simplex.specs.Scales.{numerator_at, denominator_at, IsMultiple, IsCommon, HasNoCommon, IsLarger, HasNoLarger, IsTimes, AreScaled, HaveScale}
+use Rattle.tv_simplex.specs.Scales.{numerator_at, denominator_at, IsMultiple, IsCommon, HasNoCommon, IsLarger, HasNoLarger, IsTimes, HaveScale}
 
 pub get_or-append-last : {A : Type 0} (xs : List A) (x : A) (n : ℕ) (d : A) → length xs ≡ n → get_or (xs ++ x ∷ []) n d ≡ x
 get_or-append-last [] x zero d e = refl

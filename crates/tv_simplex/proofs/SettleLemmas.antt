@@ -1,10 +1,9 @@
-use Rattle.std.proofs.Common.{◌≡◌, ◌⊎◌, inl, inr, ℕ, zero, suc, ◌+◌, ◌*◌, ◌<◌, ◌≤◌, ◌^◌, List, [], ◌∷◌, length, Vec, Bool, true, false, cond, arith, refl, sym, ap, ◌∙◌, subst, ℤ, pos, ◌*ℤ◌, ◌<ℤ◌, unsigned_abs}
+use Rattle.std.proofs.Common.{◌≡◌, ◌⊎◌, inl, inr, ℕ, zero, suc, ◌+◌, ◌*◌, ◌<◌, ◌≤◌, ◌^◌, List, [], length, Bool, true, false, cond, arith, refl, sym, ap, ◌∙◌, subst, ℤ, pos, ◌*ℤ◌, ◌<ℤ◌, unsigned_abs}
 use Rattle.std.specs.Prelude.{nat_lt}
 use Rattle.std.proofs.lemmas.Int.{ints, unsigned_abs-mul}
 use Rattle.std.proofs.lemmas.Bool.Decides.{nat_tests}
 use Rattle.std.proofs.Math.IntN.{*ℤ_comm}
 use Rattle.tv_fraction.proofs.Ring.{mul_assoc_z}
-use Rattle.tv_fraction.specs.declared.Fraction.{Fraction}
 use Rattle.tv_tableau.proofs.Ring.{mul_swap, same_factor}
 use Rattle.tv_tableau.proofs.Faults.{fewer}
 use Rattle.tv_tableau.proofs.Matrices.{matrix_is_system}
@@ -15,14 +14,14 @@ use Rattle.tv_tableau.specs.Choices.{choices}
 use Rattle.tv_tableau.specs.Systems.{Equations, IsWhole, entry_at, right_at, sign, matrix}
 use Rattle.tv_tableau.specs.Chains.{column, objective, IsArtificial}
 use Rattle.tv_tableau.specs.Ratios.{Ratio, IsRatio, Shows}
-use Rattle.tv_tableau.specs.Outcomes.{IsNarrow, HasNarrow, IsWide, InChain, IsGivenColumn, IsFirstWide, AreUnsettled, HasNoScale, given, full_entry}
+use Rattle.tv_tableau.specs.Outcomes.{IsNarrow, HasNarrow, IsWide, InChain, IsGivenColumn, IsFirstWide, AreUnsettled, HasNoScale, given}
 use Rattle.tv_simplex.specs.declared.table.Table.{Table}
 use Rattle.tv_simplex.specs.declared.fault.SolveFault.{SolveFault}
 use Rattle.tv_simplex.specs.declared.fault.SolveFault.TheVariants as faults
 use Rattle.tv_simplex.specs.declared.stop.Stop.{Stop}
 use Rattle.tv_simplex.specs.declared.stop.Stop.TheVariants.{Wide, Scale, Memory}
 use Rattle.tv_simplex.specs.Views.{IsFault}
-use Rattle.tv_simplex.specs.Rows.{ratio, row_of, read, IsGrid, IsNarrowRow}
+use Rattle.tv_simplex.specs.Rows.{row_of, read, IsNarrowRow}
 use Rattle.tv_simplex.specs.Starting.{first_objective, IsFirstTable, IsWideObjective, IsStartStop}
 use Rattle.tv_simplex.specs.Stops.{HasNumberedPlace, IsFaultAt}
 use Rattle.tv_simplex.specs.Walking.{StandsAt, IsWalkStop}
@@ -134,7 +133,7 @@ wide_objective s basis i j b w = record {
     at true e h = cc
     at false e h = w.wide (lowest_narrow w.fraction (objective (matrix s) s.rows s.columns (column basis) x.table j) x.table.scale x.table.positive same h)
 
-given_left : (s : Equations) (k j : ℕ) → j < s.columns → given s k j ≡ entry_at s k j
+pub given_left : (s : Equations) (k j : ℕ) → j < s.columns → given s k j ≡ entry_at s k j
 given_left s k j l = at (nat_lt j s.columns) (grind (arith, nat_tests))
   where
     at : (p : Bool) → p ≡ true → cond p (entry_at s k j) (right_at s k) ≡ entry_at s k j

@@ -1,13 +1,10 @@
-use Rattle.std.proofs.Common.{◌≡◌, ◌⊎◌, inl, inr, ℕ, zero, suc, ◌+◌, ◌-◌, ◌*◌, ◌<◌, ◌≤◌, ◌^◌, List, [], ◌∷◌, ◌++◌, length, length-append, get_or, Vec, arith, refl, sym, ap, ◌∙◌, subst, ℤ, pos, ◌-ℤ◌, ◌*ℤ◌, ◌<ℤ◌, unsigned_abs}
-use Rattle.std.proofs.lemmas.Int.{ints}
+use Rattle.std.proofs.Common.{◌≡◌, ◌⊎◌, inl, inr, ℕ, zero, suc, ◌+◌, ◌-◌, ◌<◌, ◌≤◌, List, [], ◌∷◌, ◌++◌, length, length-append, Vec, arith, refl, sym, ap, ◌∙◌, subst, ℤ, pos}
 use Rattle.std.proofs.lemmas.Bool.Decides.{nat_tests}
-use Rattle.std.specs.Prelude.{nat_lt}
 use Rattle.tv_fraction.specs.declared.Fraction.{Fraction}
 use Rattle.tv_tableau.proofs.Sums.{delta-same, delta-other}
-use Rattle.tv_tableau.proofs.GoesOn.{cost-none}
 use Rattle.tv_tableau.proofs.Answered.{cost-one, cost-right}
 use Rattle.tv_tableau.proofs.Matrices.{matrix_is_system}
-use Rattle.tv_tableau.specs.Systems.{Equations, matrix, right_at, IsWhole}
+use Rattle.tv_tableau.specs.Systems.{Equations, matrix, right_at}
 use Rattle.tv_tableau.specs.Chains.{cost}
 use Rattle.tv_tableau.specs.Ratios.{IsRatio}
 use Rattle.tv_simplex.specs.Rows.{ratio, ratio_at, row_of, IsNarrowRatio}

@@ -1,11 +1,11 @@
 use Rattle.std.proofs.Common.{◌≡◌, ◌⊎◌, inl, inr, ℕ, zero, suc, ◌+◌, ◌<◌, ◌≤◌, List, [], ◌∷◌, length, get_or, set, Vec, arith, refl, sym, ap, ◌∙◌, subst}
 use Rattle.std.proofs.lemmas.List.{length-set}
 use Rattle.tv_fraction.specs.declared.Fraction.{Fraction}
-use Rattle.tv_tableau.specs.Ratios.{Ratio, IsQuotient, IsRest, IsExchanged}
+use Rattle.tv_tableau.specs.Ratios.{IsQuotient, IsRest, IsExchanged}
 use Rattle.tv_simplex.specs.declared.stop.Stop.{Stop}
 use Rattle.tv_simplex.specs.declared.stop.Stop.TheVariants.{Wide, Scale, Memory}
 use Rattle.tv_simplex.specs.Stops.{IsClearingStop, IsExchangeStop}
-use Rattle.tv_simplex.specs.Rows.{ratio, ratio_at, row_of, read, IsNarrowRatio, IsNarrowRow, IsGrid, AreRests, AreQuotients, AreCleared, IsNext, IsWideRest, IsWideQuotient, IsWideNext}
+use Rattle.tv_simplex.specs.Rows.{ratio, ratio_at, row_of, read, IsNarrowRow, IsGrid, AreRests, AreQuotients, AreCleared, IsNext, IsWideQuotient, IsWideNext}
 
 pub row_set-same : {A : Type 0} (rows : List (Vec Fraction A)) (i : ℕ) (v : Vec Fraction A) → i < length rows → row_of (set rows i v) i ≡ v.items
 row_set-same [] i v h = absurd (omega arith)
@@ -140,7 +140,7 @@ wide_clearing r c rows v (Wide i j) l size quotients grid h =
           ratio_at v.items j,
           quotients j j_in,
           subst (λ z. IsRest (ratio w.fraction) (ratio_at z j) (ratio_at z c) (ratio_at v.items j)) other
-          (subst (λ z. IsRest (ratio w.fraction) (ratio_at (row_of (set rows r v) i) j) (ratio_at (row_of (set rows r v) i) c) (ratio_at z j)) pivots w.is),
+              (subst (λ z. IsRest (ratio w.fraction) (ratio_at (row_of (set rows r v) i) j) (ratio_at (row_of (set rows r v) i) c) (ratio_at z j)) pivots w.is),
         ),
       );
       wide = w.wide;

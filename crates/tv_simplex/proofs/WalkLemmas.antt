@@ -1,27 +1,23 @@
-use Rattle.std.proofs.Common.{◌≡◌, ◌⊎◌, inl, inr, ℕ, zero, suc, ◌+◌, ◌<◌, ◌≤◌, List, [], ◌∷◌, length, set, Vec, Bool, true, false, cond, arith, refl, sym, ap, ◌∙◌, subst, ℤ, pos, ◌<ℤ◌, ◌≤ℤ◌}
+use Rattle.std.proofs.Common.{◌≡◌, ◌⊎◌, inl, inr, ℕ, suc, ◌+◌, ◌<◌, ◌≤◌, List, [], ◌∷◌, length, set, Bool, true, false, cond, arith, refl, sym, ap, ◌∙◌, subst}
 use Rattle.std.specs.Prelude.{nat_lt}
 use Rattle.std.specs.List.{AllByRecursion}
 use Rattle.std.proofs.lemmas.Bool.Decides.{nat_tests}
 use Rattle.std.proofs.lemmas.List.{length-set}
-use Rattle.tv_fraction.specs.declared.Fraction.{Fraction}
 use Rattle.tv_tableau.proofs.GoesOn.{entry_above}
 use Rattle.tv_tableau.proofs.Matrices.{matrix_is_system}
 use Rattle.tv_tableau.proofs.Reduced.{lowest_narrow}
 use Rattle.tv_tableau.proofs.Shown.{enters, unsolved, next_chain, next_is, next_row, next_objective, shows_next}
-use Rattle.tv_tableau.proofs.Starts.{shows_start}
 use Rattle.tv_tableau.proofs.Transferred.{settles_any}
 use Rattle.tv_tableau.specs.Systems.{Equations, matrix}
-use Rattle.tv_tableau.specs.Tableaus.{Tableau}
-use Rattle.tv_tableau.specs.Chains.{column, objective, Enters, Leaves, Solves, NoneNegative, Settles, Step, IsChain, IsArtificial}
-use Rattle.tv_tableau.specs.Orders.{LeastOf}
-use Rattle.tv_tableau.specs.Ratios.{Ratio, IsRatio, Shows, IsExchanged}
-use Rattle.tv_tableau.specs.Outcomes.{IsNarrow, HasNarrow, InChain, IsWide, TableauOf, AreUnsettled, full_entry}
+use Rattle.tv_tableau.specs.Chains.{column, objective, Enters, Leaves, Solves, Settles, IsChain}
+use Rattle.tv_tableau.specs.Ratios.{Shows, IsExchanged}
+use Rattle.tv_tableau.specs.Outcomes.{HasNarrow, IsWide, TableauOf, AreUnsettled}
 use Rattle.tv_simplex.specs.declared.table.Table.{Table}
 use Rattle.tv_simplex.specs.declared.stop.Stop.{Stop}
 use Rattle.tv_simplex.specs.declared.stop.Stop.TheVariants.{Wide, Scale, Memory}
-use Rattle.tv_simplex.specs.Rows.{ratio, ratio_at, row_of, read, IsNarrowRatio, IsGrid, IsNext, IsWideNext}
+use Rattle.tv_simplex.specs.Rows.{ratio, read, IsNext, IsWideNext}
 use Rattle.tv_simplex.specs.Stops.{IsExchangeStop}
-use Rattle.tv_simplex.specs.Choosing.{NoneAbove, IsLeast, IsFirstNegative}
+use Rattle.tv_simplex.specs.Choosing.{NoneAbove, IsLeast}
 use Rattle.tv_simplex.specs.Walking.{StandsAt, IsEntering, IsStepStop}
 use Rattle.tv_simplex.proofs.LeavingLemmas.{entry_not_above}
 

@@ -1,12 +1,11 @@
-use Rattle.std.specs.Prelude.{◌≡◌, ℕ, ◌+◌, ◌<◌, ◌≤◌, List, length, Vec, ℤ, pos, ◌-ℤ◌, ◌*ℤ◌, ◌<ℤ◌, ◌≤ℤ◌}
+use Rattle.std.specs.Prelude.{◌≡◌, ℕ, ◌+◌, ◌<◌, ◌≤◌, List, Vec, ℤ, pos, ◌-ℤ◌, ◌*ℤ◌, ◌<ℤ◌, ◌≤ℤ◌}
 use Rattle.std.specs.declared.cmp.Ordering.{Ordering}
 use Rattle.std.specs.declared.cmp.Ordering.TheVariants.{Less, Equal, Greater}
 use Rattle.tv_fraction.specs.declared.Fraction.{Fraction}
-use Rattle.tv_tableau.specs.Tableaus.{Tableau}
 use Rattle.tv_tableau.specs.Chains.{LeadsAbove, order, column}
 use Rattle.tv_tableau.specs.Orders.{LeastOf}
-use Rattle.tv_tableau.specs.Ratios.{Ratio, IsRatio, Shows}
-use Rattle.tv_simplex.specs.Rows.{ratio_at, row_of, read}
+use Rattle.tv_tableau.specs.Ratios.{IsRatio, Shows}
+use Rattle.tv_simplex.specs.Rows.{ratio_at, read}
 
 -- no entry of the row in the first n columns is negative
 abbrev pub NoneNegative : List Fraction → ℕ → Type 0

@@ -1,4 +1,4 @@
-use Rattle.std.specs.Prelude.{◌≡◌, ◌⊎◌, ℕ, ◌+◌, ◌<◌, ◌≤◌, List, length, Vec, ℤ, pos, ◌-ℤ◌}
+use Rattle.std.specs.Prelude.{◌≡◌, ℕ, ◌+◌, ◌<◌, ◌≤◌, List, length, Vec, ℤ, pos, ◌-ℤ◌}
 use Rattle.tv_fraction.specs.declared.Fraction.{Fraction}
 use Rattle.tv_tableau.specs.Sums.{total}
 use Rattle.tv_tableau.specs.Systems.{Equations, matrix}
@@ -7,7 +7,7 @@ use Rattle.tv_tableau.specs.Ratios.{IsRatio}
 use Rattle.tv_tableau.specs.Outcomes.{IsNarrow, IsGivenColumn, given}
 use Rattle.tv_simplex.specs.declared.stop.Stop.{Stop}
 use Rattle.tv_simplex.specs.declared.stop.Stop.TheVariants.{Wide, Scale, Memory}
-use Rattle.tv_simplex.specs.Rows.{ratio, ratio_at, row_of, read, IsNarrowRatio, IsNarrowRow, IsGrid}
+use Rattle.tv_simplex.specs.Rows.{ratio, ratio_at, row_of, IsNarrowRatio, IsNarrowRow}
 
 -- every number of the row is narrow
 abbrev pub IsNarrowRowOf : Equations → ℕ → Type 0

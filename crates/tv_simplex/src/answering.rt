@@ -9,9 +9,9 @@ ghost use Rattle.tv_simplex.specs.Choosing.{NoneNegative};
 ghost use Rattle.tv_simplex.specs.Walking.{AreOfColumn, IsLessOne, AreOfObjective, AreDistinct, AreValues, AreSigned, Stands, IsSolved, IsUnsolvedAt, IsRight, IsSettledBy, IsAnswerStop};
 ghost use Rattle.tv_fraction.specs.Fraction.{IsNarrow, numerator_of};
 
+use crate::entering::entering_column;
 use crate::numbers::{right_at, signed};
 use crate::push::push_item;
-use crate::entering::entering_column;
 use crate::rows::{entry_at, fraction_at, is_zero, row_at};
 use crate::scaling::bring_to_scale;
 use crate::stop::Stop;
@@ -95,11 +95,7 @@ fn basis_values(
 }
 
 /// The numbers with the signs of the rows.
-fn signed_numbers(
-    alloc: Global,
-    system: &System,
-    numbers: &[i128],
-) -> Result<Vec<i128>, AllocError>
+fn signed_numbers(alloc: Global, system: &System, numbers: &[i128]) -> Result<Vec<i128>, AllocError>
     requires whole { IsWhole (equations system.now) }
     requires same { length numbers.now ≡ system.now.rows }
     requires short { (i : ℕ) → i < length numbers.now → IsShort (get_or numbers.now i (pos 0)) }
@@ -169,7 +165,9 @@ fn unsolved_row(system: &System, table: &Table) -> Option<usize>
     let columns = system.columns as usize;
     let rows = system.rows as usize;
     'rows: for i in 0..rows {
-        if table.basis[i] as usize >= columns && !is_zero(&entry_at(&table.rows, i, columns + rows)) {
+        if table.basis[i] as usize >= columns
+            && !is_zero(&entry_at(&table.rows, i, columns + rows))
+        {
             return Some(i);
         }
     }

@@ -11,11 +11,18 @@ pub enum SolveFault {
         column: u32,
     },
     /// The last basis of the chain gives an answer that no scale brings to whole numbers below 2^62.
-    Scale { basis: Vec<u32> },
+    Scale {
+        basis: Vec<u32>,
+    },
     /// As many bases of the chain as the budget allows do not settle the system.
-    Pivots { bases: u64 },
+    Pivots {
+        bases: u64,
+    },
     /// A system of this size has too many entries. Only calls that build a system answer so.
-    Size { rows: u64, columns: u64 },
+    Size {
+        rows: u64,
+        columns: u64,
+    },
     /// There is no memory.
     Memory,
 }

@@ -94,7 +94,13 @@ fn better_row(
     match best {
         None => Some(row),
         Some(least) => {
-            match compare_rows(row_at(rows, least), row_at(rows, row), column, height, columns) {
+            match compare_rows(
+                row_at(rows, least),
+                row_at(rows, row),
+                column,
+                height,
+                columns,
+            ) {
                 Ordering::Greater => Some(row),
                 _ => Some(least),
             }

@@ -26,3 +26,6 @@ pub use answer::Answer;
 pub use fault::SolveFault;
 pub use settling::solve;
 pub use system::System;
+
+#[cfg(test)]
+mod tests;

@@ -29,13 +29,7 @@ fn larger_scale(scale: u128, denominator: u128) -> Option<u128>
     let common = gcd(scale, denominator);
     match (scale / common).checked_mul(denominator) {
         None => None,
-        Some(larger) => {
-            if larger < 1 << 62 {
-                Some(larger)
-            } else {
-                None
-            }
-        }
+        Some(larger) => { if larger < 1 << 62 { Some(larger) } else { None } }
     }
 }
 
@@ -80,7 +74,10 @@ fn times(fraction: &Fraction, scale: u128) -> i128
     requires divisor { unsigned_abs (denominator_of fraction.now) ∣ scale }
     ensures { IsTimes fraction.now (pos scale) result }
 {
-    product(fraction.numerator(), scale / fraction.denominator().unsigned_abs())
+    product(
+        fraction.numerator(),
+        scale / fraction.denominator().unsigned_abs(),
+    )
 }
 
 /// The fractions as whole numbers below 2^62 over a scale below 2^62.

@@ -1,8 +1,7 @@
-use Rattle.std.proofs.Common.{◌≡◌, ◌+◌, subst, sym, ◌∙◌}
+use Rattle.std.proofs.Common.{subst, sym, ◌∙◌}
 use Rattle.tv_simplex.specs.Views.{equations}
 use Rattle.tv_simplex.specs.Rows.{row_of}
 use Rattle.tv_simplex.specs.Walking.{AreOfObjective, AreSigned}
-use Rattle.tv_simplex.specs.Scales.{AreScaled}
 use Rattle.tv_simplex.proofs.EndLemmas.{gives_barrier, right_barrier, barrier_unscaled, scaling_stops}
 use Rattle.tv_simplex.proofs.answering.barrier.Goals as goal
 

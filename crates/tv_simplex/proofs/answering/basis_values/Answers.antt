@@ -1,6 +1,6 @@
-use Rattle.std.proofs.Common.{◌≡◌, ◌<◌, ◌+◌, length, pos, get_or, set, sym, subst, arith, ap, ◌∙◌}
+use Rattle.std.proofs.Common.{◌<◌, ◌+◌, length, pos, get_or, set, sym, subst, arith}
 use Rattle.std.specs.Int.{w128}
-use Rattle.std.proofs.lemmas.Int.{to_z-of_z, fits_signed_from_abs}
+use Rattle.std.proofs.lemmas.Int.{to_z-of_z}
 use Rattle.tv_tableau.specs.Chains.{column}
 use Rattle.tv_simplex.specs.Walking.{AreValues}
 use Rattle.tv_simplex.proofs.AnswerLemmas.{values_more, values_same, short_fits}

@@ -1,4 +1,4 @@
-use Rattle.std.proofs.Common.{◌≡◌, ◌<◌, ◌^◌, ◌+◌, ap, sym, subst, unsigned_abs, arith}
+use Rattle.std.proofs.Common.{◌<◌, ◌^◌, unsigned_abs, arith}
 use Rattle.tv_simplex.proofs.AnswerLemmas.{column_more}
 use Rattle.tv_simplex.proofs.answering.column_of.Goals as goal
 

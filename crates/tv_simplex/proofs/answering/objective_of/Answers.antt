@@ -1,4 +1,4 @@
-use Rattle.std.proofs.Common.{◌+◌, subst}
+use Rattle.std.proofs.Common.{subst}
 use Rattle.tv_simplex.specs.Rows.{ratio}
 use Rattle.tv_simplex.specs.Walking.{IsLessOne}
 use Rattle.tv_simplex.proofs.AnswerLemmas.{objective_more}

@@ -1,10 +1,9 @@
-use Rattle.std.proofs.Common.{◌≡◌, ◌+◌, length, rules, FitsSigned, subst, sym, ap, ◌∙◌}
+use Rattle.std.proofs.Common.{◌+◌, length, subst, sym}
 use Rattle.std.specs.Int.{w128}
 use Rattle.std.proofs.lemmas.Int.{to_z-of_z}
 use Rattle.tv_simplex.specs.declared.answer.Answer.TheVariants.{Solution}
 use Rattle.tv_simplex.specs.Views.{equations}
 use Rattle.tv_simplex.specs.Walking.{AreOfColumn, AreValues, IsRight}
-use Rattle.tv_simplex.specs.Scales.{AreScaled}
 use Rattle.tv_simplex.proofs.EndLemmas.{distinct_basis, gives_solution, right_solution, solution_unscaled, scaling_stops}
 use Rattle.tv_simplex.proofs.AnswerLemmas.{short_fits}
 use Rattle.tv_simplex.proofs.answering.solution.Goals as goal

@@ -1,4 +1,4 @@
-use Rattle.std.proofs.Common.{◌≡◌, ◌<◌, ◌+◌, slice_index_or, length, refl, arith, ◌∙◌, ap, sym, subst}
+use Rattle.std.proofs.Common.{◌<◌, ◌+◌, slice_index_or, length, refl, arith, ◌∙◌, ap, sym, subst}
 use Rattle.std.proofs.lemmas.List.{with_items_is}
 use Rattle.tv_simplex.specs.Rows.{ratio, ratio_at, row_of, read, IsNarrowRow, AreRests}
 use Rattle.tv_simplex.proofs.RowLemmas.{rests_moved, wide_moved}

@@ -1,8 +1,8 @@
-use Rattle.std.proofs.Common.{◌≡◌, ◌<◌, ◌+◌, slice_index_or, slice_set, length, refl, arith, ◌∙◌, ap, sym, subst}
+use Rattle.std.proofs.Common.{◌≡◌, ◌<◌, slice_index_or, slice_set, length, refl, arith, ◌∙◌, ap, sym, subst}
 use Rattle.std.proofs.lemmas.List.{with_items_is, length-set}
 use Rattle.std.specs.Vec.{with_items}
 use Rattle.std.proofs.lemmas.Result.{MatchResult-weaker}
-use Rattle.tv_simplex.specs.Rows.{ratio, ratio_at, row_of, read, IsNarrowRow, IsGrid, AreQuotients, AreCleared, IsWideQuotient}
+use Rattle.tv_simplex.specs.Rows.{ratio_at, row_of, read, IsNarrowRow, IsGrid, AreQuotients, AreCleared, IsWideQuotient}
 use Rattle.tv_simplex.proofs.TableLemmas.{row_at, row_set-same, divided_grid, wide_quotient, wide_clearing, exchanged}
 use Rattle.tv_simplex.proofs.exchanging.exchange.Goals as goal
 

@@ -1,6 +1,3 @@
-use Rattle.std.proofs.Common.{subst}
-use Rattle.tv_tableau.specs.Ratios.{IsQuotient}
-use Rattle.tv_simplex.specs.Rows.{ratio, ratio_at}
 use Rattle.tv_simplex.proofs.LeavingLemmas.{compares_at, quotient_of}
 use Rattle.tv_simplex.proofs.leaving.compare_at.Goals as goal
 

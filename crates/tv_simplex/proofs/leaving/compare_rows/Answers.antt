@@ -1,4 +1,4 @@
-use Rattle.std.proofs.Common.{◌≤◌, ◌+◌, arith, subst}
+use Rattle.std.proofs.Common.{◌+◌, arith, subst}
 use Rattle.std.specs.declared.cmp.Ordering.TheVariants.{Less, Equal, Greater}
 use Rattle.tv_simplex.specs.Choosing.{ComparesAt}
 use Rattle.tv_simplex.proofs.LeavingLemmas.{ends_less, ends_greater, equal_more}

@@ -1,4 +1,4 @@
-use Rattle.std.proofs.Common.{◌≤◌, ◌+◌, sym, arith}
+use Rattle.std.proofs.Common.{sym}
 use Rattle.tv_tableau.proofs.GoesOn.{cost-none}
 use Rattle.tv_simplex.proofs.StartLemmas.{cost_artificial, cost_last}
 use Rattle.tv_simplex.proofs.numbers.cost_at.Goals as goal

@@ -1,5 +1,5 @@
-use Rattle.std.proofs.Common.{◌≡◌, sym, ap, ◌∙◌, subst}
-use Rattle.tv_simplex.specs.Rows.{ratio, ratio_at, IsNarrowRatio}
+use Rattle.std.proofs.Common.{sym, ap, ◌∙◌, subst}
+use Rattle.tv_simplex.specs.Rows.{ratio, IsNarrowRatio}
 use Rattle.tv_simplex.proofs.RowLemmas.{at_get}
 use Rattle.tv_simplex.proofs.rows.fraction_at.Goals as goal
 

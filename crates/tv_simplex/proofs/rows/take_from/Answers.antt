@@ -1,5 +1,4 @@
-use Rattle.std.proofs.Common.{◌<◌, length, subst, arith, ◌∙◌}
-use Rattle.tv_tableau.specs.Ratios.{Ratio, IsRest}
+use Rattle.std.proofs.Common.{arith}
 use Rattle.tv_simplex.specs.Rows.{ratio, ratio_at}
 use Rattle.tv_tableau.proofs.Ring.{zero_times}
 use Rattle.tv_simplex.proofs.RowLemmas.{made_more, at_reached, rest_of, rest_zero, ratio_above, tested_true, tested_false}
@@ -19,5 +18,8 @@ places-preserved c = made_more _ c.places.j c.args.row.now c.places.row c.rest-n
     (tested_true c.is_narrow.result c.is_narrow.ensures c.if-not-is_narrow.false)
 
 pub returns-then-is_zero-clause-taken : goal.returns-then-is_zero-clause-taken
-returns-then-is_zero-clause-taken c = λ _. (c.requires.row, λ j l. rest_zero (ratio_at c.args.row.now j) (ratio c.args.factor.now) (ratio_at c.args.pivots.now j) (ratio_above c.args.row.now j)
-    (zero_times c.args.factor.now.numerator (ratio_at c.args.pivots.now j).numerator (tested_true c.is_zero.result c.is_zero.ensures c.if-is_zero.true)))
+returns-then-is_zero-clause-taken c = λ _. (
+  c.requires.row,
+  λ j l. rest_zero (ratio_at c.args.row.now j) (ratio c.args.factor.now) (ratio_at c.args.pivots.now j) (ratio_above c.args.row.now j)
+      (zero_times c.args.factor.now.numerator (ratio_at c.args.pivots.now j).numerator (tested_true c.is_zero.result c.is_zero.ensures c.if-is_zero.true)),
+)

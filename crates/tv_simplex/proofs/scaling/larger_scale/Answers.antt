@@ -1,4 +1,4 @@
-use Rattle.std.proofs.Common.{ℕ, ◌≡◌, ◌<◌, ◌≤◌, ◌*◌, ◌/◌, ◌^◌, ◌⊎◌, inl, inr, arith, subst, sym}
+use Rattle.std.proofs.Common.{ℕ, ◌<◌, ◌≤◌, ◌*◌, ◌/◌, ◌^◌, ◌⊎◌, inl, inr, arith, subst, sym}
 use Rattle.tv_fraction.proofs.LowestTerms.{gcd_above}
 use Rattle.tv_simplex.specs.Scales.{IsLarger}
 use Rattle.tv_simplex.proofs.ScaleLemmas.{is_larger, no_larger}

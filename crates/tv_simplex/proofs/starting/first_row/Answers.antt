@@ -1,4 +1,4 @@
-use Rattle.std.proofs.Common.{rules, FitsSigned, ◌≡◌, ◌∙◌, subst, sym, pos}
+use Rattle.std.proofs.Common.{rules, FitsSigned, ◌∙◌, subst, sym}
 use Rattle.std.specs.Int.{w128}
 use Rattle.std.proofs.lemmas.Int.{to_z-of_z}
 use Rattle.tv_tableau.specs.Systems.{matrix}

@@ -1,4 +1,0 @@
-pub mod RefutationSystem
-pub mod Refuting
-pub mod Paths
-pub mod Emptying
