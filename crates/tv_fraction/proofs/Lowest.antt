@@ -19,7 +19,7 @@ dvd_less x y d le h =
     (dvd-add_iff_right y (dvd-mul_right y d)).1 (subst (λ z. y ∣ z) e h)
 
 -- what divides a product and is coprime to one factor divides the other; the sum of both numbers is below the fuel
-divides : (fuel x y d : ℕ) → x + y < fuel → 0 < y → AreCoprime x y → y ∣ x * d → y ∣ d
+pub divides : (fuel x y d : ℕ) → x + y < fuel → 0 < y → AreCoprime x y → y ∣ x * d → y ∣ d
 divides zero x y d le some co h = absurd (omega arith)
 divides (suc fuel) x y d le some co h = elim (cases_lt 0 x) [
   | inr none ↦

@@ -13,7 +13,7 @@ use Rattle.tv_linear.proofs.Ring.{mul_assoc_z, distribute_z, neg_times_z}
 use Rattle.std.proofs.Math.IntN.{*ℤ_comm}
 
 -- the quotient by a natural number, rounded down
-floor-bounds : (g : ℕ) (z : ℤ) → 0 < g → ((pos g *ℤ int_div_euclid z (pos g)) ≤ℤ z) × (z <ℤ (pos g *ℤ int_div_euclid z (pos g) +ℤ pos g))
+pub floor-bounds : (g : ℕ) (z : ℤ) → 0 < g → ((pos g *ℤ int_div_euclid z (pos g)) ≤ℤ z) × (z <ℤ (pos g *ℤ int_div_euclid z (pos g) +ℤ pos g))
 floor-bounds g (pos n) h = (omega (arith, ints), omega (arith, ints))
 floor-bounds g (negsuc n) h = (omega (arith, ints), omega (arith, ints))
 

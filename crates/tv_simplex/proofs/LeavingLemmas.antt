@@ -1,0 +1,143 @@
+use Rattle.std.proofs.Common.{Option, None, Some, MatchOption, ◌≡◌, ◌⊎◌, inl, inr, ℕ, suc, ◌+◌, ◌<◌, ◌≤◌, List, Vec, arith, refl, sym, ap, ◌∙◌, subst, ℤ, pos, ◌-ℤ◌, ◌*ℤ◌, ◌<ℤ◌, ◌≤ℤ◌}
+use Rattle.std.specs.declared.cmp.Ordering.{Ordering}
+use Rattle.std.specs.declared.cmp.Ordering.TheVariants.{Less, Equal, Greater}
+use Rattle.std.specs.Ordering.{MatchOrdering, int_cmp}
+use Rattle.std.proofs.lemmas.Cmp.{int_ranked}
+use Rattle.std.proofs.lemmas.Int.{ints}
+use Rattle.tv_fraction.specs.declared.Fraction.{Fraction}
+use Rattle.tv_tableau.proofs.Ring.{by_sign, above_times, is_above, is_zero, times_zero, times_less}
+use Rattle.tv_tableau.proofs.RatioLemmas.{value_above, num_above}
+use Rattle.tv_tableau.proofs.Shown.{quotients_compared}
+use Rattle.tv_tableau.proofs.GoesOn.{least_first, least_skips, least_stays, least_taken, never_tied}
+use Rattle.tv_tableau.proofs.Leads.{leads-same}
+use Rattle.tv_tableau.specs.Chains.{order, column}
+use Rattle.tv_tableau.specs.Orders.{LeastOf, against}
+use Rattle.tv_tableau.specs.Ratios.{Ratio, IsRatio, IsQuotient, Shows}
+use Rattle.tv_simplex.specs.Rows.{ratio, ratio_at, row_of, read}
+use Rattle.tv_simplex.specs.Choosing.{IsSignOf, ComparesAt, difference_at, IsLexicographic, Compares, NoneAbove, IsLeast}
+
+turned : (k e x y w d : ℤ) → k *ℤ (x -ℤ y) ≡ e *ℤ w → d ≡ pos 0 -ℤ w → k *ℤ (y -ℤ x) ≡ e *ℤ d
+turned k e x y w d h g =
+    let a = times_less k x y in
+    let b = times_less k y x in
+    let p = times_less e (pos 0) w in
+    let q = ap (λ z. e *ℤ z) g in
+    let z = times_zero e (pos 0) refl in
+    omega (arith, ints, h, a, b, p, q, z)
+
+sign_of : (o : Ordering) (x y k e w d : ℤ) → MatchOrdering o (x <ℤ y) (x ≡ y) (y <ℤ x) → pos 0 <ℤ k → pos 0 <ℤ e → k *ℤ (x -ℤ y) ≡ e *ℤ w → d ≡ pos 0 -ℤ w → IsSignOf o d
+sign_of Less x y k e w d m pk pe h g = is_above e d pe (let p = above_times k (y -ℤ x) pk (omega (arith, ints, m)) in subst (λ z. pos 0 <ℤ z) (turned k e x y w d h g) p)
+sign_of Equal x y k e w d m pk pe h g = is_zero e d pe (sym (turned k e x y w d h g) ∙ times_zero k (y -ℤ x) (omega (arith, ints, m)))
+sign_of Greater x y k e w d m pk pe h g =
+    let p = subst (λ z. pos 0 <ℤ z) h (above_times k (x -ℤ y) pk (omega (arith, ints, m))) in
+    let q = is_above e w pe p in
+    omega (arith, ints, q, g)
+
+-- what the order of the quotients says of the pictures
+pub compares_at : (last c o : ℕ) (first second : List Fraction) (p q : Fraction) (result : Ordering) → c ≤ last → o ≤ last →
+    pos 0 <ℤ (ratio_at first c).numerator → pos 0 <ℤ (ratio_at second c).numerator →
+    IsQuotient (ratio p) (ratio_at first o) (ratio_at first c) → IsQuotient (ratio q) (ratio_at second o) (ratio_at second c) →
+    result ≡ int_cmp (p.numerator *ℤ q.denominator) (q.numerator *ℤ p.denominator) → ComparesAt last c o first second result
+compares_at last c o first second p q result c_in o_in pf ps hp hq e u v scale positive fs gs =
+    sign_of result (p.numerator *ℤ q.denominator) (q.numerator *ℤ p.denominator) (u c *ℤ v c) (p.denominator *ℤ q.denominator) (v c *ℤ u o -ℤ u c *ℤ v o) (difference_at c u v o)
+    (int_ranked (p.numerator *ℤ q.denominator) (q.numerator *ℤ p.denominator) result e)
+    (above_times (u c) (v c) (value_above (ratio_at first c) (u c) scale positive (fs c c_in) pf) (value_above (ratio_at second c) (v c) scale positive (gs c c_in) ps))
+    (above_times p.denominator q.denominator p.positive q.positive)
+    (quotients_compared last c scale positive (ratio_at first) (ratio_at second) u v c_in fs gs o o_in (ratio p) (ratio q) hp hq)
+    (omega (arith, ints))
+
+pub quotient_of : {f g g' h h' : Ratio} → g ≡ g' → h ≡ h' → IsQuotient f g h → IsQuotient f g' h'
+quotient_of {f = f} {g' = g'} {h = h} e d r = subst (λ z. IsQuotient f g' z) d (subst (λ z. IsQuotient f z h) e r)
+
+-- ---- the order of two rows, place by place
+module _ (m n c : ℕ) (first second : List Fraction) where
+  pub ends_less : (place : ℕ) → place ≤ m → ((q : ℕ) → q < place → ComparesAt (n + m) c (order m n q) first second Equal) → ComparesAt (n + m) c (order m n place) first second Less → Compares m n c first second Less
+  ends_less place l before here u v scale p fs gs = record { place = place; within = l; before = λ q g. before q g u v scale p fs gs; here = here u v scale p fs gs }
+
+  pub ends_greater : (place : ℕ) → place ≤ m → ((q : ℕ) → q < place → ComparesAt (n + m) c (order m n q) first second Equal) → ComparesAt (n + m) c (order m n place) first second Greater → Compares m n c first second Greater
+  ends_greater place l before here u v scale p fs gs = record {
+    place = place;
+    within = l;
+    before = λ q g. (let e = before q g u v scale p fs gs in omega (arith, ints, e));
+    here = (let e = here u v scale p fs gs in omega (arith, ints, e));
+  }
+
+  pub equal_more : (place : ℕ) → ((q : ℕ) → q < place → ComparesAt (n + m) c (order m n q) first second Equal) → ComparesAt (n + m) c (order m n place) first second Equal → (q : ℕ) → q < place + 1 → ComparesAt (n + m) c (order m n q) first second Equal
+  equal_more place before here q l = elim (last_or_below place q l) [
+    | inl e ↦ subst (λ z. ComparesAt (n + m) c (order m n z) first second Equal) (sym e) here
+    | inr g ↦ before q g
+  ]
+    where
+      last_or_below : (p j : ℕ) → j < p + 1 → (j ≡ p) ⊎ (j < p)
+      last_or_below p j h = grind arith
+
+-- ---- the least row
+pub entry_not_above : (f : Ratio) (v s : ℤ) → pos 0 <ℤ s → IsRatio f v s → f.numerator ≤ℤ pos 0 → v ≤ℤ pos 0
+entry_not_above f v s p h l = elim (by_sign v) [
+  | inl k ↦ omega (arith, ints, k)
+  | inr w ↦ elim w [ inl k ↦ omega (arith, ints, k) | inr k ↦ (let u = num_above f v s p h k in absurd (omega (arith, ints, u, l))) ]
+]
+
+last_or_below : (p j : ℕ) → j < p + 1 → (j ≡ p) ⊎ (j < p)
+last_or_below p j h = grind arith
+
+module _ {A : Type 0} (m n : ℕ) (rows : List (Vec Fraction A)) (c k : ℕ) (c_in : c ≤ n + m) (k_in : k < m) where
+  counted : (a : ℕ → ℕ → ℤ) (b : List ℕ) (bs : List (List ℕ)) (x : Shows a m n b bs (read rows)) (r : ℕ) → LeastOf a m n (column b) x.table c (suc k) r → LeastOf a m n (column b) x.table c (k + 1) r
+  counted a b bs x r h = (let e : suc k ≡ k + 1 = omega arith in subst (λ z. LeastOf a m n (column b) x.table c z r) e h)
+
+  pub none_more : (read rows k c).numerator ≤ℤ pos 0 → NoneAbove rows c k → NoneAbove rows c (k + 1)
+  none_more low h i l = elim (last_or_below k i l) [
+    | inl e ↦ subst (λ z. (read rows z c).numerator ≤ℤ pos 0) (sym e) low
+    | inr g ↦ h i g
+  ]
+
+  pub passed_over : (r : ℕ) → (read rows k c).numerator ≤ℤ pos 0 → IsLeast m n rows c k r → IsLeast m n rows c (k + 1) r
+  passed_over r low h = record {
+    within = (let l = h.within in omega arith);
+    above = h.above;
+    least = λ a b bs x. counted a b bs x r (least_skips a m n (column b) x.table c k r (entry_not_above (read rows k c) (x.table.entry k c) x.table.scale x.table.positive (x.rows k c k_in c_in) low) (h.least a b bs x));
+  }
+
+  pub best_more : (best : Option ℕ) → (read rows k c).numerator ≤ℤ pos 0 → MatchOption best (NoneAbove rows c k) (λ r. IsLeast m n rows c k r) → MatchOption best (NoneAbove rows c (k + 1)) (λ r. IsLeast m n rows c (k + 1) r)
+  best_more None low h = none_more low h
+  best_more (Some r) low h = passed_over r low h
+
+  pub first_best : pos 0 <ℤ (read rows k c).numerator → NoneAbove rows c k → IsLeast m n rows c (k + 1) k
+  first_best above none = record {
+    within = omega arith;
+    above = above;
+    least = λ a b bs x. counted a b bs x k (least_first a m n (column b) x.table c k (value_above (read rows k c) (x.table.entry k c) x.table.scale x.table.positive (x.rows k c k_in c_in) above)
+        (λ i l. entry_not_above (read rows i c) (x.table.entry i c) x.table.scale x.table.positive (x.rows i c (omega arith) c_in) (none i l)));
+  }
+
+  -- what the comparison says of the tableaus that the rows show
+  compared_in : (o : Ordering) (r : ℕ) → r < m → Compares m n c (row_of rows r) (row_of rows k) o → (a : ℕ → ℕ → ℤ) (b : List ℕ) (bs : List (List ℕ)) (x : Shows a m n b bs (read rows)) → IsLexicographic m (against a m n (column b) x.table c r k) o
+  compared_in o r r_in h a b bs x = h (x.table.entry r) (x.table.entry k) x.table.scale x.table.positive (λ j l. x.rows r j r_in l) (λ j l. x.rows k j k_in l)
+
+  pub taken_over : (r : ℕ) → pos 0 <ℤ (read rows k c).numerator → Compares m n c (row_of rows r) (row_of rows k) Greater → IsLeast m n rows c k r → IsLeast m n rows c (k + 1) k
+  taken_over r above less h = record {
+    within = omega arith;
+    above = above;
+    least = λ a b bs x. counted a b bs x k (least_taken a m n (column b) x.table c k r (value_above (read rows k c) (x.table.entry k c) x.table.scale x.table.positive (x.rows k c k_in c_in) above)
+        (leads-same m (λ q. pos 0 -ℤ against a m n (column b) x.table c r k q) (against a m n (column b) x.table c k r) (compared_in Greater r (let l = h.within in omega arith) less a b bs x) (λ q l. omega (arith, ints)))
+        (h.least a b bs x));
+  }
+
+  pub stays : (o : Ordering) (r : ℕ) → (o ≡ Greater → ⊥) → Compares m n c (row_of rows r) (row_of rows k) o → IsLeast m n rows c k r → IsLeast m n rows c (k + 1) r
+  stays Greater r never less h = absurd (never refl)
+  stays Less r never less h = record {
+    within = (let l = h.within in omega arith);
+    above = h.above;
+    least = λ a b bs x. counted a b bs x r (least_stays a m n (column b) x.table c k r (compared_in Less r (let l = h.within in omega arith) less a b bs x) (h.least a b bs x));
+  }
+  stays Equal r never less h = record {
+    within = (let l = h.within in omega arith);
+    above = h.above;
+    least = λ a b bs x. absurd (never_tied a m n (column b) x.table c k r k_in (h.least a b bs x) (compared_in Equal r (let l = h.within in omega arith) less a b bs x));
+  }
+
+pub not_above_as : (v w : ℤ) → v ≡ w → (pos 0 <ℤ v → ⊥) → w ≤ℤ pos 0
+not_above_as v w e h = elim (by_sign v) [
+  | inl k ↦ omega (arith, ints, k, e)
+  | inr u ↦ elim u [ inl k ↦ omega (arith, ints, k, e) | inr k ↦ absurd (h k) ]
+]

@@ -1,0 +1,9 @@
+pub mod RowLemmas
+pub mod TableLemmas
+pub mod LeavingLemmas
+pub mod ScaleLemmas
+pub mod StartLemmas
+pub mod AnswerLemmas
+pub mod EndLemmas
+pub mod WalkLemmas
+pub mod SettleLemmas

@@ -1,0 +1,6 @@
+use Rattle.std.proofs.Common.{MatchOption}
+use Rattle.tv_simplex.specs.Choosing.{NoneAbove, IsLeast}
+use Rattle.tv_simplex.proofs.leaving.leaving_row.Given as goal
+
+abbrev pub invariant-rows : goal.invariant-rows
+invariant-rows l = MatchOption l.best (NoneAbove l.rows l.column l.row) (λ r. IsLeast l.height l.columns l.rows l.column l.row r)

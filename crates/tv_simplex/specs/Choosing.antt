@@ -1,0 +1,61 @@
+use Rattle.std.specs.Prelude.{◌≡◌, ℕ, ◌+◌, ◌<◌, ◌≤◌, List, Vec, ℤ, pos, ◌-ℤ◌, ◌*ℤ◌, ◌<ℤ◌, ◌≤ℤ◌}
+use Rattle.std.specs.declared.cmp.Ordering.{Ordering}
+use Rattle.std.specs.declared.cmp.Ordering.TheVariants.{Less, Equal, Greater}
+use Rattle.tv_fraction.specs.declared.Fraction.{Fraction}
+use Rattle.tv_tableau.specs.Chains.{LeadsAbove, order, column}
+use Rattle.tv_tableau.specs.Orders.{LeastOf}
+use Rattle.tv_tableau.specs.Ratios.{IsRatio, Shows}
+use Rattle.tv_simplex.specs.Rows.{ratio_at, read}
+
+-- no entry of the row in the first n columns is negative
+abbrev pub NoneNegative : List Fraction → ℕ → Type 0
+NoneNegative row n = (j : ℕ) → j < n → pos 0 ≤ℤ (ratio_at row j).numerator
+
+-- c is the first of the first n columns with a negative entry in the row
+pub record IsFirstNegative (row : List Fraction) (n c : ℕ) : Type 0 where
+  pub within : c < n
+  pub negative : (ratio_at row c).numerator <ℤ pos 0
+  pub first : NoneNegative row c
+
+-- the numbers v over the scale are the fractions of the row, of which there are n + m + 1
+abbrev pub IsPicture : ℕ → List Fraction → (ℕ → ℤ) → ℤ → Type 0
+IsPicture last row v scale = (j : ℕ) → j ≤ last → IsRatio (ratio_at row j) (v j) scale
+
+-- the sign of a number as an order: a difference above 0 says that the first is less
+abbrev pub IsSignOf : Ordering → ℤ → Type 0
+IsSignOf Less z = pos 0 <ℤ z
+IsSignOf Equal z = z ≡ pos 0
+IsSignOf Greater z = z <ℤ pos 0
+
+-- how the quotients of two rows by their entries in column c compare at the place o
+abbrev pub difference_at : ℕ → (ℕ → ℤ) → (ℕ → ℤ) → ℕ → ℤ
+difference_at c u v o = u c *ℤ v o -ℤ v c *ℤ u o
+
+-- the order of the quotients of two rows at a column, in every picture of the rows over one scale
+abbrev pub ComparesAt : ℕ → ℕ → ℕ → List Fraction → List Fraction → Ordering → Type 0
+ComparesAt last c o first second order =
+    (u v : ℕ → ℤ) (scale : ℤ) → pos 0 <ℤ scale → IsPicture last first u scale → IsPicture last second v scale →
+    IsSignOf order (difference_at c u v o)
+
+-- the lexicographic order of two lists of numbers by their differences
+abbrev pub IsLexicographic : ℕ → (ℕ → ℤ) → Ordering → Type 0
+IsLexicographic m d Less = LeadsAbove m d
+IsLexicographic m d Equal = (q : ℕ) → q ≤ m → d q ≡ pos 0
+IsLexicographic m d Greater = LeadsAbove m (λ q. pos 0 -ℤ d q)
+
+-- the lexicographic order of the quotients of two rows: the right side first, then the artificial columns
+abbrev pub Compares : ℕ → ℕ → ℕ → List Fraction → List Fraction → Ordering → Type 0
+Compares m n c first second result =
+    (u v : ℕ → ℤ) (scale : ℤ) → pos 0 <ℤ scale → IsPicture (n + m) first u scale → IsPicture (n + m) second v scale →
+    IsLexicographic m (λ q. difference_at c u v (order m n q)) result
+
+-- none of the first k rows has an entry above 0 in the column
+abbrev pub NoneAbove : {A : Type 0} → List (Vec Fraction A) → ℕ → ℕ → Type 0
+NoneAbove rows c k = (i : ℕ) → i < k → (read rows i c).numerator ≤ℤ pos 0
+
+-- in every tableau that the rows show, r is the least of the first k rows
+pub record IsLeast {A : Type 0} (m n : ℕ) (rows : List (Vec Fraction A)) (c k r : ℕ) : Type 0 where
+  pub within : r < k
+  pub above : pos 0 <ℤ (read rows r c).numerator
+  pub least : (a : ℕ → ℕ → ℤ) (b : List ℕ) (bs : List (List ℕ)) (x : Shows a m n b bs (read rows)) →
+      LeastOf a m n (column b) x.table c k r

@@ -1,0 +1,53 @@
+use Rattle.std.specs.Prelude.{◌≡◌, ℕ, ◌+◌, ◌<◌, ◌≤◌, List, length, Vec, ℤ, pos, ◌-ℤ◌}
+use Rattle.tv_fraction.specs.declared.Fraction.{Fraction}
+use Rattle.tv_tableau.specs.Sums.{total}
+use Rattle.tv_tableau.specs.Systems.{Equations, matrix}
+use Rattle.tv_tableau.specs.Chains.{cost}
+use Rattle.tv_tableau.specs.Ratios.{IsRatio}
+use Rattle.tv_tableau.specs.Outcomes.{IsNarrow, IsGivenColumn, given}
+use Rattle.tv_simplex.specs.declared.stop.Stop.{Stop}
+use Rattle.tv_simplex.specs.declared.stop.Stop.TheVariants.{Wide, Scale, Memory}
+use Rattle.tv_simplex.specs.Rows.{ratio, ratio_at, row_of, IsNarrowRatio, IsNarrowRow}
+
+-- every number of the row is narrow
+abbrev pub IsNarrowRowOf : Equations → ℕ → Type 0
+IsNarrowRowOf s k = (j : ℕ) → IsGivenColumn s j → IsNarrow (given s k j)
+
+-- the first column of the row whose number is not narrow
+pub record IsFirstWideColumn (s : Equations) (k column : ℕ) : Type 0 where
+  pub column_given : IsGivenColumn s column
+  pub wide : IsNarrow (given s k column) → ⊥
+  pub before : (j : ℕ) → IsGivenColumn s j → j < column → IsNarrow (given s k j)
+
+-- the last column of the tableau, the right side
+abbrev pub last : Equations → ℕ
+last s = s.columns + s.rows
+
+-- the objective row of the artificial basis
+abbrev pub first_objective : Equations → ℕ → ℤ
+first_objective s j = cost s.rows s.columns j -ℤ total s.rows (λ k. matrix s k j)
+
+-- the row holds these numbers, and is narrow
+pub record IsRowOf (s : Equations) (numbers : ℕ → ℤ) (row : List Fraction) : Type 0 where
+  pub size : length row ≡ last s + 1
+  pub narrow : IsNarrowRow row
+  pub same : (j : ℕ) → j ≤ last s → IsRatio (ratio_at row j) (numbers j) (pos 1)
+
+-- the rows hold the system and the objective of the artificial basis
+pub record IsFirstTable {A : Type 0} (s : Equations) (rows : List (Vec Fraction A)) : Type 0 where
+  pub height : length rows ≡ s.rows + 1
+  pub row : (i : ℕ) → i < s.rows → IsRowOf s (matrix s i) (row_of rows i)
+  pub objective : IsRowOf s (first_objective s) (row_of rows s.rows)
+
+-- the number of the objective row in the column is not narrow
+pub record IsWideObjective (s : Equations) (row column : ℕ) : Type 0 where
+  pub row_is : row ≡ s.rows
+  pub column_within : column ≤ last s
+  pub fraction : Fraction
+  pub same : IsRatio (ratio fraction) (first_objective s column) (pos 1)
+  pub wide : IsNarrowRatio (ratio fraction) → ⊥
+
+abbrev pub IsStartStop : Equations → Stop → Type 0
+IsStartStop s (Wide row column) = IsWideObjective s row column
+IsStartStop s Scale = ⊥
+IsStartStop s Memory = Unit {0}

@@ -1,0 +1,31 @@
+//! An exact solver of linear equations with two sides: numbers of at least 0 that meet the equations, or
+//! multipliers that show that there are none.
+//!
+//! It walks the chain of bases of the simplex method under a lexicographic rule, so that no basis comes twice,
+//! over a tableau of exact fractions.
+#![tactic(auto)]
+
+mod answer;
+mod answering;
+mod entering;
+mod exchanging;
+mod fault;
+mod leaving;
+mod numbers;
+mod push;
+mod rows;
+mod scaling;
+mod settling;
+mod starting;
+mod stop;
+mod system;
+mod table;
+mod walking;
+
+pub use answer::Answer;
+pub use fault::SolveFault;
+pub use settling::solve;
+pub use system::System;
+
+#[cfg(test)]
+mod tests;

@@ -1,0 +1,139 @@
+// The numbers of a system, and those of the tableau of its artificial basis.
+
+ghost use Rattle.std.specs.Prelude.{◌≡◌, ◌+◌, ◌*◌, ◌^◌, ◌<◌, ◌≤◌, ℕ, ℤ, pos, ◌*ℤ◌, IsTrue, ◌↔◌, MatchOption, unsigned_abs};
+ghost use Rattle.tv_tableau.specs.Sums.{total};
+ghost use Rattle.tv_tableau.specs.Systems.{IsWhole, entry_at as spec_entry, right_at as spec_right, sign_of, matrix};
+ghost use Rattle.tv_tableau.specs.Chains.{cost};
+ghost use Rattle.tv_tableau.specs.Outcomes.{IsShort, IsNarrow, IsNarrowSystem, IsFirstWide};
+ghost use Rattle.tv_simplex.specs.Views.{equations};
+ghost use Rattle.tv_simplex.specs.Starting.{IsNarrowRowOf, IsFirstWideColumn, first_objective};
+
+use crate::System;
+
+pub fn right_at(system: &System, row: usize) -> i128
+    requires whole { IsWhole (equations system.now) }
+    requires row { row < system.now.rows }
+    ensures { result ≡ spec_right (equations system.now) row }
+{
+    system.right[row]
+}
+
+pub fn entry_at(system: &System, row: usize, column: usize) -> i128
+    requires whole { IsWhole (equations system.now) }
+    requires row { row < system.now.rows }
+    requires column { column < system.now.columns }
+    ensures { result ≡ spec_entry (equations system.now) row column }
+{
+    system.entries[row * system.columns as usize + column]
+}
+
+fn is_narrow(number: i128) -> bool
+    ensures { IsTrue result ↔ IsNarrow number }
+{
+    number.unsigned_abs() < 1 << 40
+}
+
+/// The first column of the row whose number is not narrow; the right side has the number of the last column of
+/// the tableau.
+fn first_wide_column(system: &System, row: usize) -> Option<u32>
+    requires whole { IsWhole (equations system.now) }
+    requires row { row < system.now.rows }
+    ensures { MatchOption result
+        (IsNarrowRowOf (equations system.now) row)
+        (λ column. IsFirstWideColumn (equations system.now) row column) }
+{
+    'columns: for column in 0..system.columns {
+        if !is_narrow(entry_at(system, row, column as usize)) {
+            return Some(column);
+        }
+    }
+    if is_narrow(right_at(system, row)) {
+        return None;
+    }
+    Some(system.columns + system.rows)
+}
+
+/// The first place, row by row, with a number of the system that is not narrow.
+pub fn first_wide(system: &System) -> Option<(u32, u32)>
+    requires { IsWhole (equations system.now) }
+    ensures { MatchOption result
+        (IsNarrowSystem (equations system.now))
+        (λ place. IsFirstWide (equations system.now) place.0 place.1) }
+{
+    'rows: for row in 0..system.rows {
+        if let Some(column) = first_wide_column(system, row as usize) {
+            return Some((row, column));
+        }
+    }
+    None
+}
+
+/// The number with its sign turned where the right side is negative.
+pub fn signed(right: i128, number: i128) -> i128
+    requires { IsShort number }
+    ensures value { result ≡ sign_of right *ℤ number }
+    ensures magnitude { unsigned_abs result ≡ unsigned_abs number }
+{
+    if right < 0 { -number } else { number }
+}
+
+/// The number in a row and a column of the system with its artificial columns and its right side.
+pub fn number_at(system: &System, row: usize, column: usize) -> i128
+    requires whole { IsWhole (equations system.now) }
+    requires narrow { IsNarrowSystem (equations system.now) }
+    requires row { row < system.now.rows }
+    requires column { column ≤ system.now.columns + system.now.rows }
+    ensures value { result ≡ matrix (equations system.now) row column }
+    ensures narrow { IsNarrow result }
+{
+    let columns = system.columns as usize;
+    let rows = system.rows as usize;
+    let right = right_at(system, row);
+    if column < columns {
+        return signed(right, entry_at(system, row, column));
+    }
+    if column == columns + rows {
+        return signed(right, right);
+    }
+    if column == columns + row { 1 } else { 0 }
+}
+
+/// The sum of the numbers in a column.
+fn column_sum(system: &System, column: usize) -> i128
+    requires whole { IsWhole (equations system.now) }
+    requires narrow { IsNarrowSystem (equations system.now) }
+    requires column { column ≤ system.now.columns + system.now.rows }
+    ensures value { result ≡ total system.now.rows (λ k. matrix (equations system.now) k column) }
+    ensures bound { unsigned_abs result ≤ 2 ^ 40 * system.now.rows }
+{
+    let mut sum = 0;
+    'rows: for row in 0..system.rows as usize {
+        sum += number_at(system, row, column);
+    }
+    sum
+}
+
+fn cost_at(system: &System, column: usize) -> i128
+    requires whole { IsWhole (equations system.now) }
+    requires column { column ≤ system.now.columns + system.now.rows }
+    ensures value { result ≡ cost system.now.rows system.now.columns column }
+    ensures bound { unsigned_abs result < 2 }
+{
+    let columns = system.columns as usize;
+    let rows = system.rows as usize;
+    if column < columns {
+        return 0;
+    }
+    if column < columns + rows { 1 } else { 0 }
+}
+
+/// The number in a column of the objective row of the artificial basis.
+pub fn objective_at(system: &System, column: usize) -> i128
+    requires whole { IsWhole (equations system.now) }
+    requires narrow { IsNarrowSystem (equations system.now) }
+    requires column { column ≤ system.now.columns + system.now.rows }
+    ensures value { result ≡ first_objective (equations system.now) column }
+    ensures bound { unsigned_abs result < 2 ^ 80 }
+{
+    cost_at(system, column) - column_sum(system, column)
+}

@@ -1,0 +1,90 @@
+// The tableau of the artificial basis.
+
+ghost use Rattle.std.specs.Prelude.{◌≡◌, ◌+◌, ◌*◌, ◌^◌, ◌<◌, ◌≤◌, ℕ, pos, length, IfOk, MatchResult, unsigned_abs};
+ghost use Rattle.tv_tableau.specs.Systems.{IsWhole, matrix};
+ghost use Rattle.tv_tableau.specs.Chains.{IsArtificial};
+ghost use Rattle.tv_tableau.specs.Ratios.{IsRatio};
+ghost use Rattle.tv_tableau.specs.Outcomes.{IsNarrow, IsNarrowSystem};
+ghost use Rattle.tv_simplex.specs.Views.{equations};
+ghost use Rattle.tv_simplex.specs.Rows.{ratio, IsNarrowRatio};
+ghost use Rattle.tv_simplex.specs.Starting.{IsRowOf, IsFirstTable, IsStartStop, first_objective};
+
+use crate::System;
+use crate::numbers::{number_at, objective_at};
+use crate::push::push_item;
+use crate::stop::Stop;
+use std::alloc::{AllocError, Global};
+use tv_fraction::Fraction;
+
+/// The basis of one artificial column for each row.
+pub fn artificial_basis(alloc: Global, system: &System) -> Result<Vec<u32>, AllocError>
+    requires { IsWhole (equations system.now) }
+    ensures { IfOk result (λ basis. IsArtificial system.now.rows system.now.columns basis.items) }
+{
+    let mut basis = Vec::new(alloc);
+    'rows: for row in 0..system.rows {
+        push_item(&mut basis, system.columns + row)?;
+    }
+    Ok(basis)
+}
+
+/// A whole number as a fraction.
+fn whole(number: i128) -> Fraction
+    requires { unsigned_abs number < 2 ^ 80 }
+    ensures same { IsRatio (ratio result) number (pos 1) }
+    ensures narrow { IsNarrow number → IsNarrowRatio (ratio result) }
+{
+    Fraction::new(number, 1)
+}
+
+/// A row of the system as fractions.
+fn first_row(alloc: Global, system: &System, row: usize) -> Result<Vec<Fraction>, AllocError>
+    requires whole { IsWhole (equations system.now) }
+    requires narrow { IsNarrowSystem (equations system.now) }
+    requires row { row < system.now.rows }
+    ensures { IfOk result (λ v. IsRowOf (equations system.now) (matrix (equations system.now) row) v.items) }
+{
+    let mut fractions = Vec::new(alloc);
+    'columns: for column in 0..system.columns as usize + system.rows as usize + 1 {
+        push_item(&mut fractions, whole(number_at(system, row, column)))?;
+    }
+    Ok(fractions)
+}
+
+/// The objective row of the artificial basis, up to the first place that is not narrow.
+fn objective_row(alloc: Global, system: &System) -> Result<Vec<Fraction>, Stop>
+    requires whole { IsWhole (equations system.now) }
+    requires narrow { IsNarrowSystem (equations system.now) }
+    ensures { MatchResult result
+        (λ v. IsRowOf (equations system.now) (first_objective (equations system.now)) v.items)
+        (λ stop. IsStartStop (equations system.now) stop) }
+{
+    let mut fractions = Vec::new(alloc);
+    'columns: for column in 0..system.columns as usize + system.rows as usize + 1 {
+        let entry = whole(objective_at(system, column));
+        if !entry.is_narrow() {
+            return Err(Stop::Wide {
+                row: system.rows as usize,
+                column,
+            });
+        }
+        push_item(&mut fractions, entry)?;
+    }
+    Ok(fractions)
+}
+
+/// The rows of the tableau of the artificial basis, the objective last.
+pub fn first_rows(alloc: Global, system: &System) -> Result<Vec<Vec<Fraction>>, Stop>
+    requires whole { IsWhole (equations system.now) }
+    requires narrow { IsNarrowSystem (equations system.now) }
+    ensures { MatchResult result
+        (λ rows. IsFirstTable (equations system.now) rows.items)
+        (λ stop. IsStartStop (equations system.now) stop) }
+{
+    let mut rows = Vec::new(alloc);
+    'rows: for row in 0..system.rows as usize {
+        push_item(&mut rows, first_row(alloc, system, row)?)?;
+    }
+    push_item(&mut rows, objective_row(alloc, system)?)?;
+    Ok(rows)
+}

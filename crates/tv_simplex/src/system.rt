@@ -1,0 +1,8 @@
+/// Linear equations for numbers of at least 0: the entries stand row by row, and each row has a right side.
+#[derive(Drop)]
+pub struct System {
+    pub rows: u32,
+    pub columns: u32,
+    pub entries: Vec<i128>,
+    pub right: Vec<i128>,
+}

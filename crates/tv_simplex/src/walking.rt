@@ -1,0 +1,72 @@
+// The walk along the chain of bases.
+
+ghost use Rattle.std.specs.Prelude.{◌≡◌, ℕ, ◌+◌, ◌<◌, ◌^◌, length, slice_set, MatchOption, MatchResult};
+ghost use Rattle.tv_tableau.specs.Systems.{IsWhole};
+ghost use Rattle.tv_tableau.specs.Outcomes.{AreUnsettled};
+ghost use Rattle.tv_simplex.specs.Views.{equations};
+ghost use Rattle.tv_simplex.specs.Walking.{StandsAt, Stands, IsEntering, IsRight, IsStepStop, IsWalkStop};
+
+use crate::answering::settle;
+use crate::exchanging::exchange;
+use crate::leaving::leaving_row;
+use crate::stop::Stop;
+use crate::table::{Settled, Table};
+use crate::{Answer, System};
+use std::alloc::Global;
+
+/// Puts the column into the basis, in place of that of the row.
+fn put_column(basis: &mut [u32], row: usize, column: usize)
+    requires row { row < length basis.old }
+    requires column { column < 2 ^ 32 }
+    ensures { basis.new ≡ slice_set basis.old row column }
+{
+    basis[row] = column as u32;
+}
+
+/// Goes on to the next basis of the chain, where the column enters. After a refusal the basis is that next one.
+fn step(alloc: Global, system: &System, table: &mut Table, column: usize) -> Result<(), Stop>
+    requires whole { IsWhole (equations system.now) }
+    requires stands { Stands (equations system.now) table.old }
+    requires entering { IsEntering (equations system.now) table.old column }
+    ensures { MatchResult result
+        (λ _. (n : ℕ) → StandsAt (equations system.now) n table.old → StandsAt (equations system.now) (n + 1) table.new)
+        (λ stop. IsStepStop (equations system.now) table.new.basis.items stop) }
+{
+    let columns = system.columns as usize;
+    let rows = system.rows as usize;
+    match leaving_row(&table.rows, column, rows, columns) {
+        None => unreachable!(),
+        Some(row) => {
+            put_column(&mut table.basis, row, column);
+            exchange(alloc, &mut table.rows, row, column)
+        }
+    }
+}
+
+/// Walks along the chain, for so many bases, to the first that settles the system. After a refusal the basis
+/// is the one that it speaks of.
+pub fn walk(
+    alloc: Global,
+    system: &System,
+    table: &mut Table,
+    pivots: u64,
+) -> Result<Option<Answer>, Stop>
+    requires whole { IsWhole (equations system.now) }
+    requires stands { StandsAt (equations system.now) 0 table.old }
+    ensures { MatchResult result
+        (λ found. MatchOption found (AreUnsettled (equations system.now) pivots) (λ a. IsRight (equations system.now) a))
+        (λ stop. IsWalkStop (equations system.now) table.new.basis.items stop) }
+{
+    'bases: for _used in 0..pivots {
+        match settle(alloc, system, table) {
+            Err(stop) => return Err(stop),
+            Ok(Settled::Done(answer)) => return Ok(Some(answer)),
+            Ok(Settled::Enters(column)) => {
+                if let Err(stop) = step(alloc, system, table, column) {
+                    return Err(stop);
+                }
+            }
+        }
+    }
+    Ok(None)
+}
