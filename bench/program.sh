@@ -1,7 +1,8 @@
 #!/usr/bin/env bash
 # How long the built program takes to read whole programs, and how much memory: 512 KiB with 2,048 edges, 1 MiB with 4,096 edges, and
 # 2 MiB with 4,096 edges, each over 1,024 locations and 512 variables. The best of 10 runs, in which its start and the reading of its
-# input are counted, and the ratio to the line before.
+# input are counted, and the ratio to the line before. First with commands as a translator writes them, and then with commands as short
+# as can be, for as many tokens as a text of that size may have.
 # Build it first: (cd crates/reading_bench && rt run -- sum < /dev/null)
 set -eu
 cd "$(dirname "$0")/.."
@@ -9,17 +10,23 @@ exec python3 - crates/reading_bench/out/reading_bench <<'END'
 import os, subprocess, sys, tempfile, time
 
 
-def text(size, edges):
+def spaced(name):
+    return f"{name} := 2 * {name} + 17; "
+
+
+def dense(name):
+    return f"{name}:=a+a;"
+
+
+def text(size, edges, assigned):
     each = size // edges
     made = ["START: 0;\n"]
     for edge in range(edges):
         head = f"FROM: {edge % 1024}; "
         tail = f"TO: {(edge + 1) % 1024};\n"
         room = each - len(head) - len(tail)
-        name = f"name_{edge % 512}"
-        command = f"assume({name} > 0); "
-        while len(command) + 70 < room:
-            command += f"{name} := 2 * {name} + 17; "
+        one = assigned(f"v{edge % 511}")
+        command = one * (room // len(one))
         made.append(head + command + " " * (room - len(command)) + tail)
     return "".join(made).encode()
 
@@ -33,15 +40,17 @@ def run(file):
         return time.monotonic() - before, answer, used.ru_maxrss
 
 
-last = None
-for size, edges in [(524288, 2048), (1048576, 4096), (2097152, 4096)]:
-    with tempfile.NamedTemporaryFile() as file:
-        made = text(size, edges)
-        file.write(made)
-        file.flush()
-        runs = [run(file.name) for _ in range(10)]
-    best = min(seconds for seconds, _, _ in runs)
-    ratio = "" if last is None else f"  {best / last:4.2f} times"
-    last = best
-    print(f"{len(made):8d} bytes  {edges} edges  {runs[0][1]:8s} {best * 1000:6.1f} ms  {max(kib for _, _, kib in runs) // 1024:3d} MB{ratio}")
+for assigned in (spaced, dense):
+    last = None
+    for size, edges in [(524288, 2048), (1048576, 4096), (2097152, 4096)]:
+        with tempfile.NamedTemporaryFile() as file:
+            made = text(size, edges, assigned)
+            file.write(made)
+            file.flush()
+            runs = [run(file.name) for _ in range(10)]
+        best = min(seconds for seconds, _, _ in runs)
+        ratio = "" if last is None else f"  {best / last:4.2f} times"
+        last = best
+        most = max(kib for _, _, kib in runs) // 1024
+        print(f"{assigned.__name__:6s} {len(made):8d} bytes  {edges} edges  {runs[0][1]:8s} {best * 1000:6.1f} ms  {most:3d} MB{ratio}")
 END
