@@ -1,4 +1,4 @@
-//! Reads a sum or a condition from standard input, as the first word says, and tells what came of it.
+//! Reads a sum, a condition or a whole program from standard input, as the first word says, and tells what came of it.
 #![tactic(auto)]
 
 ghost use Rattle.std.specs.Prelude.{◌<◌, ◌^◌, ◌+◌, length};
@@ -6,6 +6,7 @@ ghost use Rattle.std.specs.Prelude.{◌<◌, ◌^◌, ◌+◌, length};
 use std::alloc::{AllocError, Global};
 use std::{env, io};
 use tv_program::Names;
+use tv_reader::read_program;
 use tv_reading::{PartFault, Reading};
 use tv_text::{ReaderSource, read_all};
 use tv_tokens::scan;
@@ -43,15 +44,33 @@ fn front(alloc: Global, text: &[u8], condition: bool) -> Result<&'static str, Al
     Ok(told(read))
 }
 
+/// Whether the text is a program.
+fn whole(alloc: Global, text: &[u8]) -> &'static str
+    requires { length text.now + 1 < 2 ^ 32 }
+{
+    match read_program(alloc, text) {
+        Ok(_) => "read",
+        Err(_) => "refused",
+    }
+}
+
 fn main(rt: HostRuntime) -> io::Result<()> {
     let alloc = rt.alloc();
     let mut condition = false;
+    let mut program = false;
     for word in env::args(&rt)?.skip(1) {
         condition = word.as_str() == "condition";
+        program = word.as_str() == "program";
     }
     let mut source = ReaderSource::new(rt.stdin());
     let answer = match read_all(alloc, &mut source, LIMIT) {
-        Ok(text) => front(alloc, &text, condition)?,
+        Ok(text) => {
+            if program {
+                whole(alloc, &text)
+            } else {
+                front(alloc, &text, condition)?
+            }
+        }
         Err(_) => "no text",
     };
     println!(rt; "{answer}")?;

@@ -1,0 +1,56 @@
+#!/usr/bin/env bash
+# How long the built program takes to read whole programs, and how much memory: 512 KiB with 2,048 edges, 1 MiB with 4,096 edges, and
+# 2 MiB with 4,096 edges, each over 1,024 locations and 512 variables. The best of 10 runs, in which its start and the reading of its
+# input are counted, and the ratio to the line before. First with commands as a translator writes them, and then with commands as short
+# as can be, for as many tokens as a text of that size may have.
+# Build it first: (cd crates/reading_bench && rt run -- sum < /dev/null)
+set -eu
+cd "$(dirname "$0")/.."
+exec python3 - crates/reading_bench/out/reading_bench <<'END'
+import os, subprocess, sys, tempfile, time
+
+
+def spaced(name):
+    return f"{name} := 2 * {name} + 17; "
+
+
+def dense(name):
+    return f"{name}:=a+a;"
+
+
+def text(size, edges, assigned):
+    each = size // edges
+    made = ["START: 0;\n"]
+    for edge in range(edges):
+        head = f"FROM: {edge % 1024}; "
+        tail = f"TO: {(edge + 1) % 1024};\n"
+        room = each - len(head) - len(tail)
+        one = assigned(f"v{edge % 511}")
+        command = one * (room // len(one))
+        made.append(head + command + " " * (room - len(command)) + tail)
+    return "".join(made).encode()
+
+
+def run(file):
+    with open(file) as given:
+        before = time.monotonic()
+        child = subprocess.Popen([sys.argv[1], "program"], stdin=given, stdout=subprocess.PIPE)
+        answer = child.stdout.read().decode().strip()
+        _, status, used = os.wait4(child.pid, 0)
+        return time.monotonic() - before, answer, used.ru_maxrss
+
+
+for assigned in (spaced, dense):
+    last = None
+    for size, edges in [(524288, 2048), (1048576, 4096), (2097152, 4096)]:
+        with tempfile.NamedTemporaryFile() as file:
+            made = text(size, edges, assigned)
+            file.write(made)
+            file.flush()
+            runs = [run(file.name) for _ in range(10)]
+        best = min(seconds for seconds, _, _ in runs)
+        ratio = "" if last is None else f"  {best / last:4.2f} times"
+        last = best
+        most = max(kib for _, _, kib in runs) // 1024
+        print(f"{assigned.__name__:6s} {len(made):8d} bytes  {edges} edges  {runs[0][1]:8s} {best * 1000:6.1f} ms  {most:3d} MB{ratio}")
+END
