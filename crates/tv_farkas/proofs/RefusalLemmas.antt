@@ -42,8 +42,7 @@ pub point_short : (n : ℕ) (rows : List Linear) (y : List ℤ) (point : Refuted
 point_short n rows y (Empty m) b h = absurd h
 point_short n rows y (Point values scale) b h =
     let b' = subst (λ z. IsBarrierOf (refutation_system n rows) z) h b in
-    let size = count_of values.items scale n b'.as_many in
-    (
+    let size = count_of values.items scale n b'.as_many in (
       λ j l. opposite_short (get_or values.items j (pos 0)) (subst (λ z. IsShort z) (inner_is values.items scale j l) (b'.short j (omega (arith, size, l)))),
       opposite_short scale (subst (λ z. IsShort z) (last_is values.items scale n size) (b'.short n (omega arith))),
     )

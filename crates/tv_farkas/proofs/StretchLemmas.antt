@@ -67,8 +67,7 @@ sides_held n column l sum (m ∷ ms) [] [] s h = tt
 sides_held n column l sum (m ∷ ms) [] (k ∷ sides) s h = absurd s
 sides_held n column l sum (m ∷ ms) (r ∷ rows) [] s h = absurd s
 sides_held n column l sum (m ∷ ms) (r ∷ rows) (k ∷ sides) s h =
-    let e = side_number n column r k l s.0 in
-    (
+    let e = side_number n column r k l s.0 in (
       s.0.held column,
       subst (λ z. IsHeld (m *ℤ z)) (sym e) h.1,
       subst (λ z. IsHeld (sum +ℤ m *ℤ z)) (sym e) h.2,
@@ -82,8 +81,7 @@ stretched_held n column l sum [] (r ∷ rows) kept tail sides ms b t s e h = abs
 stretched_held n column l sum (m ∷ marks) [] kept tail sides ms b t s e h = absurd t
 stretched_held n column l sum (true ∷ marks) (r ∷ rows) kept tail sides ms b t s e h =
     let z = zero_times (pos 0) (number column r) refl in
-    let q : sum +ℤ pos 0 *ℤ number column r ≡ sum = omega (arith, ints, z) in
-    (
+    let q : sum +ℤ pos 0 *ℤ number column r ≡ sum = omega (arith, ints, z) in (
       tt,
       subst (λ v. IsHeld v) (sym z) (omega arith),
       subst (λ v. IsHeld v) (sym q) b,
@@ -92,13 +90,12 @@ stretched_held n column l sum (true ∷ marks) (r ∷ rows) kept tail sides ms b
 stretched_held n column l sum (false ∷ marks) (r ∷ rows) [] tail sides ms b t s e h = absurd t
 stretched_held n column l sum (false ∷ marks) (r ∷ rows) (k ∷ kept) tail sides [] b t s e h = absurd (omega (arith, e))
 stretched_held n column l sum (false ∷ marks) (r ∷ rows) (k ∷ kept) tail sides (m ∷ ms) b t s e h =
-    let g = ap (λ q. number column q) t.0 in
-    (
+    let g = ap (λ q. number column q) t.0 in (
       tt,
       subst (λ z. IsHeld (m *ℤ z)) g h.1,
       subst (λ z. IsHeld (sum +ℤ m *ℤ z)) g h.2,
       subst (λ z. RowsHeld (λ q. KnownHeld q column) (sum +ℤ m *ℤ z) (λ q. known_number q column) (stretched marks ms) (as_given rows ++ sides)) g
-      (stretched_held n column l (sum +ℤ m *ℤ number column k) marks rows kept tail sides ms h.2 t.1 s (omega (arith, e)) h.3),
+          (stretched_held n column l (sum +ℤ m *ℤ number column k) marks rows kept tail sides ms h.2 t.1 s (omega (arith, e)) h.3),
     )
 
 -- what refutes the kept rows refutes all, with 0 at each repeated row

@@ -115,10 +115,10 @@ column_total n rows ms column even e h =
     ∙ ap (λ z. total z (λ k. get_or ms k (pos 0) *ℤ get_or (map (λ r. number column r) rows) k (pos 0))) e
     ∙ total-same (length rows) (λ k. get_or ms k (pos 0) *ℤ get_or (map (λ r. number column r) rows) k (pos 0)) (λ i. entry_at (refutation_system n rows) (place_of n column) i *ℤ get_or ms i (pos 0))
     (λ i l. *ℤ_comm (get_or ms i (pos 0)) (get_or (map (λ r. number column r) rows) i (pos 0)) ∙ ap (λ z. z *ℤ get_or ms i (pos 0)) (
-        get_or-map (λ r. number column r) rows i (record { coefficients = []; constant = pos 0 }) (pos 0) l
-        ∙ number_entry n column (row_at rows i) (at_of (λ r. columns r ≡ n) rows (record { coefficients = []; constant = pos 0 }) even i l) h
-        ∙ sym (entry_is n rows (place_of n column) i (within column h) l)
-        ))
+    get_or-map (λ r. number column r) rows i (record { coefficients = []; constant = pos 0 }) (pos 0) l
+    ∙ number_entry n column (row_at rows i) (at_of (λ r. columns r ≡ n) rows (record { coefficients = []; constant = pos 0 }) even i l) h
+    ∙ sym (entry_is n rows (place_of n column) i (within column h) l)
+    ))
   where
     within : (c : Option ℕ) → (place_of n c < n) ⊎ (c ≡ None) → place_of n c < n + 1
     within None k = omega arith
@@ -133,8 +133,7 @@ rows_held column many sum (m ∷ ms) (r ∷ rows) l b short narrow =
     let p = All-head IsShort m ms short in
     let q = All-head (λ r. unsigned_abs (number column r) < 2 ^ 40) r rows narrow in
     let z : unsigned_abs (m *ℤ number column r) < 2 ^ 102 = small_product m (number column r) p q in
-    let s : unsigned_abs (sum +ℤ m *ℤ number column r) ≤ (many + 1) * 2 ^ 102 = sum_below sum (m *ℤ number column r) many b z in
-    (
+    let s : unsigned_abs (sum +ℤ m *ℤ number column r) ≤ (many + 1) * 2 ^ 102 = sum_below sum (m *ℤ number column r) many b z in (
       tt,
       (let w : unsigned_abs (m *ℤ number column r) < 2 ^ 127 = omega (arith, z) in w),
       (let w : unsigned_abs (sum +ℤ m *ℤ number column r) < 2 ^ 127 = omega (arith, s, l) in w),
@@ -174,8 +173,8 @@ solution_refutes n rows ms scale even size narrow h = record {
     held column k = rows_held column 0 (pos 0) ms rows (omega (arith, few)) (omega arith)
         (all_of IsShort ms (pos 0) (λ i l. h.short i (let e = h.as_many in omega (arith, e, l))))
         (all_of (λ r. unsigned_abs (number column r) < 2 ^ 40) rows (record { coefficients = []; constant = pos 0 }) (λ i l.
-            subst (λ z. unsigned_abs z < 2 ^ 40) (sym (number_entry n column (row_at rows i) (at_of (λ r. columns r ≡ n) rows (record { coefficients = []; constant = pos 0 }) even i l) k) )
-            (subst (λ z. unsigned_abs z < 2 ^ 40) (entry_is n rows (place_of n column) i (within column k) l) (subst (λ z. unsigned_abs z < 2 ^ 40) (given_left (refutation_system n rows) (place_of n column) i l) (narrow (place_of n column) i (within column k) (inl l))))))
+        subst (λ z. unsigned_abs z < 2 ^ 40) (sym (number_entry n column (row_at rows i) (at_of (λ r. columns r ≡ n) rows (record { coefficients = []; constant = pos 0 }) even i l) k))
+        (subst (λ z. unsigned_abs z < 2 ^ 40) (entry_is n rows (place_of n column) i (within column k) l) (subst (λ z. unsigned_abs z < 2 ^ 40) (given_left (refutation_system n rows) (place_of n column) i l) (narrow (place_of n column) i (within column k) (inl l))))))
       where
         within : (c : Option ℕ) → (place_of n c < n) ⊎ (c ≡ None) → place_of n c < n + 1
         within None z = omega arith

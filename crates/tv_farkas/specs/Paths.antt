@@ -49,7 +49,7 @@ pub record IsPointSplit (n : ℕ) (settled : List ℤ → Type 0) (above : List 
   pub side :
       (row ≡ at_most_row n column floor)
       ⊎ ((row ≡ at_least_row n column floor)
-        × ((xs : List ℤ) → IsWholePoint n above xs → IsMet xs (at_most_row n column floor) → settled xs))
+      × ((xs : List ℤ) → IsWholePoint n above xs → IsMet xs (at_most_row n column floor) → settled xs))
 
 -- the row splits at the point that is kept beside it
 abbrev pub SplitsAt : ℕ → (List ℤ → Type 0) → List Linear → Linear → {A : Type 0} → Option (Vec ℤ A × ℤ) → Type 0

@@ -81,8 +81,8 @@ fn settle(question: &Question, place: &mut Place, left: u32) -> Result<Found, Co
     requires searches { (rows : List Linear) × SearchesAt question.now.columns rows question.now.repeated.now place.old }
     ensures { (rows : List Linear) → SearchesAt question.now.columns rows question.now.repeated.now place.old →
         MatchResult result
-            (λ found. IsFound question.now.columns rows left place.old place.new found)
-            (λ fault. IsEmptyFault question.now.columns rows question.now.pivots (length place.old.path.items + left) fault) }
+        (λ found. IsFound question.now.columns rows left place.old place.new found)
+        (λ fault. IsEmptyFault question.now.columns rows question.now.pivots (length place.old.path.items + left) fault) }
 {
     let alloc = question.alloc;
     match refute(alloc, &place.rows, question.columns, question.pivots) {
@@ -120,8 +120,8 @@ fn split(
     requires fraction { IsFractionAt question.now.columns place.old.rows.items column values.now scale }
     ensures { (rows : List Linear) → SearchesAt question.now.columns rows question.now.repeated.now place.old →
         MatchResult result
-            (λ found. IsFound question.now.columns rows (left + 1) place.old place.new found)
-            (λ fault. IsEmptyFault question.now.columns rows question.now.pivots (length place.old.path.items + (left + 1)) fault) }
+        (λ found. IsFound question.now.columns rows (left + 1) place.old place.new found)
+        (λ fault. IsEmptyFault question.now.columns rows question.now.pivots (length place.old.path.items + (left + 1)) fault) }
 {
     let alloc = question.alloc;
     let floor = floor_of(values[column as usize], scale);
@@ -156,8 +156,8 @@ fn settle_side(
     ensures { (rows : List Linear) → SearchesAt question.now.columns rows question.now.repeated.now place.old →
         MaySplit question.now.columns rows place.old row.now values.now scale →
         MatchResult result
-            (λ found. IsSideFound question.now.columns rows left place.old place.new row.now found)
-            (λ fault. IsEmptyFault question.now.columns rows question.now.pivots (length place.old.path.items + (left + 1)) fault) }
+        (λ found. IsSideFound question.now.columns rows left place.old place.new row.now found)
+        (λ fault. IsEmptyFault question.now.columns rows question.now.pivots (length place.old.path.items + (left + 1)) fault) }
 {
     let alloc = question.alloc;
     push_item(&mut place.rows, row.copy(alloc)?)?;

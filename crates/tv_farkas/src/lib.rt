@@ -7,9 +7,9 @@ mod budget;
 mod emptied;
 mod emptying;
 mod fault;
+mod points;
 mod refutation;
 mod refuted;
-mod points;
 mod refuting;
 mod rows;
 mod stretching;
@@ -21,3 +21,6 @@ pub use emptying::empty;
 pub use fault::CoverFault;
 pub use refuted::Refuted;
 pub use refuting::refute;
+
+#[cfg(test)]
+mod tests;

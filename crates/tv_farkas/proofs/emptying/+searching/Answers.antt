@@ -74,8 +74,7 @@ settle-split-requires t c =
       within = (let l = first.0 in let a = answers.0 in omega (arith, l, a));
       before = λ j l. subst (λ y. IsWholeAt v y j) e (first.1 j l);
       fraction = λ w. first.2 (subst (λ y. IsWholeAt v y c.in-Some.column) (sym e) w);
-    } in
-    (
+    } in (
       (let d = c.decreases in let l = c.if-left-eq0.false in omega (arith, d, l)),
       (
         c.requires.few,
@@ -100,16 +99,15 @@ settle-returns t c = λ rows s.
 
 pub settle_side-settle-requires : goal.settle_side-settle-requires
 settle_side-settle-requires t c =
-    let d = c.decreases in
-    (
+    let d = c.decreases in (
       omega (arith, d),
       (
         c.requires.few,
         (
           c.requires.searches.0,
           side_search c.args.question.now.columns c.requires.searches.0 c.args.question.now.repeated.now c.args.place.now c.args.row.now c.args.values.now c.args.scale _ _ _ _ _ c.requires.searches.1 c.requires.searches.2
-          c.in_ok-copy-2.ensures refl c.in_ok-from_slice.ensures.items (to_z-of_z w128 c.args.scale c.ranges.scale)
-          (c.in_ok-push_item.ensures ∙ ap (λ r. c.args.place.now.rows.items ++ r ∷ []) c.in_ok-copy.ensures) c.in_ok-push_item-2.ensures
+              c.in_ok-copy-2.ensures refl c.in_ok-from_slice.ensures.items (to_z-of_z w128 c.args.scale c.ranges.scale)
+              (c.in_ok-push_item.ensures ∙ ap (λ r. c.args.place.now.rows.items ++ r ∷ []) c.in_ok-copy.ensures) c.in_ok-push_item-2.ensures,
         ),
       ),
     )
@@ -137,7 +135,7 @@ settle_side-returns-in-Ok t c = λ rows s m.
     side_found n rows c.args.left c.args.place.now _ c.settle.new.place _ c.args.row.now _ c.in-Ok.found h c.in_ok-copy-2.ensures rows_is path_is c.pop.ensures.rest c.pop-in-Ok.ensures.rest
 
 pub split-settle_side-requires : goal.split-settle_side-requires
-split-settle_side-requires t c = 
+split-settle_side-requires t c =
     let n = c.args.question.now.columns in
     let marks = c.args.question.now.repeated.now in
     let place = c.args.place.now in
@@ -153,8 +151,7 @@ split-settle_side-requires t c =
     let floor = subst (λ y. IsFloor v y k) z (subst (λ x. IsFloor x (to_z w128 (of_z w128 c.args.scale)) k) zv c.floor_of-floor.ensures.floor) in
     let low = c.in_ok-low.ensures ∙ ap (λ y. at_most_row n col y) zk in
     let rows = c.requires.searches.0 in
-    let s = c.requires.searches.1 in
-    (
+    let s = c.requires.searches.1 in (
       (let d = c.decreases in omega (arith, d)),
       (c.requires.few, (rows, s, subst (λ r. MaySplit n rows place r vs (to_z w128 (of_z w128 c.args.scale))) (sym low) (subst (λ q. MaySplit n rows place (at_most_row n col k) vs q) (sym z) (low_splits n rows marks place s col vs c.args.scale k f floor)))),
     )
@@ -197,7 +194,7 @@ split-returns-in-Ok-Whole t c = λ rows s.
     subst (λ x. IsSideFound n rows c.args.left place c.settle_side.new.place c.in_ok-low.low x) c.in-Ok-Whole.field-0-is w
 
 pub split-at_least-requires-clause-short : goal.split-at_least-requires-clause-short
-split-at_least-requires-clause-short t c = 
+split-at_least-requires-clause-short t c =
     let n = c.args.question.now.columns in
     let marks = c.args.question.now.repeated.now in
     let place = c.args.place.now in
@@ -215,7 +212,7 @@ split-at_least-requires-clause-short t c =
     subst (λ y. IsShort (y +ℤ pos 1)) (sym zk) (floor_short v c.args.scale k sv f.met.positive c.floor_of-floor.ensures.short floor (λ e. f.fraction (k, sym e)))
 
 pub split-settle_side-requires-2 : goal.split-settle_side-requires-2
-split-settle_side-requires-2 t c = 
+split-settle_side-requires-2 t c =
     let n = c.args.question.now.columns in
     let marks = c.args.question.now.repeated.now in
     let place = c.args.place.now in
@@ -239,8 +236,7 @@ split-settle_side-requires-2 t c =
     let f' = same_fraction n col place mid vs c.args.scale lower'.same_rows f in
     let high = c.in_ok-high.ensures ∙ ap (λ y. at_least_row n col y) zk in
     let never = λ (xs : List ℤ) (p : IsWholePoint n (rows_after rows mid.path.items) xs) (q : IsMet xs (at_most_row n col k)). side_empty n rows c.args.left place mid (at_most_row n col k) c.in-Ok-Tree.tree lower' xs (subst (λ b. IsWholePoint n (rows_after rows b) xs) lower'.same_path p) q in
-    let high_may = subst (λ r. MaySplit n rows mid r vs (to_z w128 (of_z w128 c.args.scale))) (sym high) (subst (λ q. MaySplit n rows mid (at_least_row n col k) vs q) (sym z) (high_splits n rows marks mid s' col vs c.args.scale k f' floor never)) in
-    (
+    let high_may = subst (λ r. MaySplit n rows mid r vs (to_z w128 (of_z w128 c.args.scale))) (sym high) (subst (λ q. MaySplit n rows mid (at_least_row n col k) vs q) (sym z) (high_splits n rows marks mid s' col vs c.args.scale k f' floor never)) in (
       (let d = c.decreases in omega (arith, d)),
       (c.requires.few, (rows, s', high_may)),
     )
@@ -327,4 +323,3 @@ split-returns t c = λ rows s.
     let upper' = subst (λ r. IsSideTree n rows c.args.left mid c.settle_side-2.new.place r c.in-Ok-Tree-settle_side.tree) high upper in
     split_tree n rows c.args.left col k place mid c.settle_side-2.new.place c.in-Ok-Tree.tree c.in-Ok-Tree-settle_side.tree c.in_ok-split_of.field-0 c.floor_of-floor.ensures.short lower' upper'
     (subst (λ r. IsSplitOf r c.in-Ok-Tree.tree c.in-Ok-Tree-settle_side.tree c.in_ok-split_of.field-0) low c.in_ok-split_of.ensures)
-

@@ -17,8 +17,7 @@ returns-then-not-is_product c =
     let fk : FitsSigned w128 c.floor_of-floor.result = search rules in
     let zk = to_z-of_z w128 c.floor_of-floor.result fk in
     let floor = subst (λ s. IsFloor v s c.floor_of-floor.result) z (subst (λ x. IsFloor x (to_z w128 (of_z w128 c.args.scale)) c.floor_of-floor.result) zv c.floor_of-floor.ensures.floor) in
-    let never = tested_false c.is_product.result c.is_product.ensures c.if-not-is_product.true in
-    (
+    let never = tested_false c.is_product.result c.is_product.ensures c.if-not-is_product.true in (
       c.columns-test.true,
       λ i l. subst (λ s. IsWholeAt c.args.values.now s i) z (c.columns.invariant i l),
       not_whole c.args.values.now c.args.scale c.floor_of-floor.result c.columns.column c.requires.positive floor (λ e. never ((λ i. zk i *ℤ z i) ∙ e ∙ sym zv)),
