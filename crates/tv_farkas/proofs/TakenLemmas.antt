@@ -1,0 +1,70 @@
+use Rattle.std.proofs.Common.{◌≡◌, ℕ, zero, suc, ◌+◌, ◌<◌, List, [], ◌∷◌, ◌++◌, length, get_or, take, All, Bool, true, false, IsTrue, arith, refl, sym, ap, ◌∙◌, subst, append_assoc}
+use Rattle.std.specs.List.{Contains}
+use Rattle.std.proofs.Math.Seq.{take-suc}
+use Rattle.std.proofs.lemmas.List.Elements.{All-nil, All-cons, All-head, All-tail, All-push}
+use Rattle.tv_linear.specs.Linear.{Linear}
+use Rattle.tv_farkas.specs.Paths.{TakenOnce, none, first, again}
+use Rattle.tv_farkas.specs.Stretching.{IsTakenBy}
+use Rattle.tv_farkas.proofs.SystemLemmas.{at_of}
+
+all_front : {A : Type 0} (P : A → Type 0) (xs : List A) (x : A) → All P (xs ++ x ∷ []) → All P xs
+all_front P [] x h = All-nil P
+all_front P (y ∷ ys) x h = All-cons P y ys (All-head P y (ys ++ x ∷ []) h) (all_front P ys x (All-tail P y (ys ++ x ∷ []) h))
+
+all_last : {A : Type 0} (P : A → Type 0) (xs : List A) (x : A) → All P (xs ++ x ∷ []) → P x
+all_last P [] x h = All-head P x [] h
+all_last P (y ∷ ys) x h = all_last P ys x (All-tail P y (ys ++ x ∷ []) h)
+
+all_among : {A : Type 0} (P : A → Type 0) (xs : List A) (x : A) → Contains xs x → All P xs → P x
+all_among P xs x c h = subst P c.2 (at_of P xs x h c.0 c.1)
+
+-- what holds of the kept rows holds of all
+pub all_taken : (P : Linear → Type 0) (rows kept : List Linear) → TakenOnce rows kept → All P kept → All P rows
+all_taken P rows kept none h = h
+all_taken P rows kept (first rs ks r t never) h = All-push P rs r (all_taken P rs ks t (all_front P ks r h)) (all_last P ks r h)
+all_taken P rows kept (again rs ks r t among) h = All-push P rs r (all_taken P rs ks t h) (all_among P ks r among h)
+
+pub marked_again : (marks : List Bool) (rows kept : List Linear) (r : Linear) → IsTakenBy marks rows kept → IsTakenBy (marks ++ true ∷ []) (rows ++ r ∷ []) kept
+marked_again [] [] kept r h = h
+marked_again [] (x ∷ rows) kept r h = absurd h
+marked_again (b ∷ marks) [] kept r h = absurd h
+marked_again (true ∷ marks) (x ∷ rows) kept r h = marked_again marks rows kept r h
+marked_again (false ∷ marks) (x ∷ rows) [] r h = absurd h
+marked_again (false ∷ marks) (x ∷ rows) (k ∷ kept) r h = (h.0, marked_again marks rows kept r h.1)
+
+pub marked_first : (marks : List Bool) (rows kept : List Linear) (r : Linear) → IsTakenBy marks rows kept → IsTakenBy (marks ++ false ∷ []) (rows ++ r ∷ []) (kept ++ r ∷ [])
+marked_first [] [] [] r h = (refl, refl)
+marked_first [] [] (k ∷ kept) r h = cc
+marked_first [] (x ∷ rows) kept r h = absurd h
+marked_first (b ∷ marks) [] kept r h = absurd h
+marked_first (true ∷ marks) (x ∷ rows) kept r h = marked_first marks rows kept r h
+marked_first (false ∷ marks) (x ∷ rows) [] r h = absurd h
+marked_first (false ∷ marks) (x ∷ rows) (k ∷ kept) r h = (h.0, marked_first marks rows kept r h.1)
+
+-- one more row
+pub record TakenTo (rows : List Linear) (marks : List Bool) (kept : List Linear) : Type 0 where
+  pub taken : TakenOnce rows kept
+  pub marked : IsTakenBy marks rows kept
+
+pub taken_none : (marks : List Bool) (kept : List Linear) → marks ≡ [] → kept ≡ [] → TakenTo [] marks kept
+taken_none marks kept e g = record {
+  taken = subst (λ k. TakenOnce [] k) (sym g) none;
+  marked = subst (λ m. IsTakenBy m [] kept) (sym e) g;
+}
+
+one_more_row : (rows : List Linear) (i : ℕ) (r : Linear) → i < length rows → r ≡ get_or rows i r → take (i + 1) rows ≡ take i rows ++ r ∷ []
+one_more_row rows i r l e = (let g : i + 1 ≡ suc i = omega arith in ap (λ k. take k rows) g) ∙ take-suc rows i r l ∙ ap (λ x. take i rows ++ x ∷ []) (sym e)
+
+pub taken_again : (rows : List Linear) (i : ℕ) (r : Linear) (marks new : List Bool) (kept : List Linear) → i < length rows → r ≡ get_or rows i r → new ≡ marks ++ true ∷ [] → Contains kept r → TakenTo (take i rows) marks kept → TakenTo (take (i + 1) rows) new kept
+taken_again rows i r marks new kept l e m among h =
+    subst (λ rs. TakenTo rs new kept) (sym (one_more_row rows i r l e)) (subst (λ b. TakenTo (take i rows ++ r ∷ []) b kept) (sym m) record {
+      taken = again (take i rows) kept r h.taken among;
+      marked = marked_again marks (take i rows) kept r h.marked;
+    })
+
+pub taken_first : (rows : List Linear) (i : ℕ) (r : Linear) (marks new : List Bool) (kept more : List Linear) → i < length rows → r ≡ get_or rows i r → new ≡ marks ++ false ∷ [] → more ≡ kept ++ r ∷ [] → (Contains kept r → ⊥) → TakenTo (take i rows) marks kept → TakenTo (take (i + 1) rows) new more
+taken_first rows i r marks new kept more l e m k never h =
+    subst (λ rs. TakenTo rs new more) (sym (one_more_row rows i r l e)) (subst (λ b. TakenTo (take i rows ++ r ∷ []) b more) (sym m) (subst (λ q. TakenTo (take i rows ++ r ∷ []) (marks ++ false ∷ []) q) (sym k) record {
+      taken = first (take i rows) kept r h.taken never;
+      marked = marked_first marks (take i rows) kept r h.marked;
+    }))

@@ -1,0 +1,53 @@
+use Rattle.std.proofs.Common.{◌≡◌, ℕ, List, length, arith, ap, sym, subst, ◌∙◌}
+use Rattle.tv_linear.specs.Linear.{Linear}
+use Rattle.tv_linear.specs.Known.{as_given}
+use Rattle.tv_linear.specs.Covers.{IsMetCover}
+use Rattle.tv_farkas.specs.Emptying.{no_target, IsEmptyFault}
+use Rattle.tv_farkas.specs.Stretching.{Searches, IsTakenBy}
+use Rattle.tv_farkas.specs.Searching.{IsFound}
+use Rattle.tv_farkas.proofs.SearchLemmas.{first_search, tree_met, tree_none}
+use Rattle.tv_farkas.proofs.emptying.empty.Goals as goal
+
+pub settle-requires-clause-searches : goal.settle-requires-clause-searches
+settle-requires-clause-searches c =
+    (c.args.rows.now, first_search c.args.columns c.args.rows.now c.deref.result.now record { rows = c.in_ok-kept.field-0.rows; path = c.new.result } c.requires.even c.in_ok-kept.ensures.taken (subst (λ b. IsTakenBy b c.args.rows.now c.in_ok-kept.field-0.rows.items) (sym c.deref.ensures.value) c.in_ok-kept.ensures.marked) c.new.ensures.items)
+
+pub returns-in-Err-clause-refusals : goal.returns-in-Err-clause-refusals
+returns-in-Err-clause-refusals c =
+    let s = first_search c.args.columns c.args.rows.now c.deref.result.now record { rows = c.in_ok-kept.field-0.rows; path = c.new.result } c.requires.even c.in_ok-kept.ensures.taken (subst (λ b. IsTakenBy b c.args.rows.now c.in_ok-kept.field-0.rows.items) (sym c.deref.ensures.value) c.in_ok-kept.ensures.marked) c.new.ensures.items in
+    let h = c.in-Err.ensures c.args.rows.now s in
+    let e = ap length c.new.ensures.items in
+    subst (λ k. IsEmptyFault c.args.columns c.args.rows.now c.args.budget.now.pivots k c.in-Err.fault) (omega (arith, e)) h
+
+pub returns-in-Ok-Whole-clause-answers : goal.returns-in-Ok-Whole-clause-answers
+returns-in-Ok-Whole-clause-answers c =
+    let s = first_search c.args.columns c.args.rows.now c.deref.result.now record { rows = c.in_ok-kept.field-0.rows; path = c.new.result } c.requires.even c.in_ok-kept.ensures.taken (subst (λ b. IsTakenBy b c.args.rows.now c.in_ok-kept.field-0.rows.items) (sym c.deref.ensures.value) c.in_ok-kept.ensures.marked) c.new.ensures.items in
+    let h = subst (λ x. IsFound c.args.columns c.args.rows.now c.args.budget.now.splits record { rows = c.in_ok-kept.field-0.rows; path = c.new.result } c.settle.new.place x) c.in-Ok-Whole.field-0-is (c.in-Ok-Whole.ensures c.args.rows.now s) in
+    h.meets
+
+pub returns-in-Ok-Whole-clause-first : goal.returns-in-Ok-Whole-clause-first
+returns-in-Ok-Whole-clause-first c =
+    let s = first_search c.args.columns c.args.rows.now c.deref.result.now record { rows = c.in_ok-kept.field-0.rows; path = c.new.result } c.requires.even c.in_ok-kept.ensures.taken (subst (λ b. IsTakenBy b c.args.rows.now c.in_ok-kept.field-0.rows.items) (sym c.deref.ensures.value) c.in_ok-kept.ensures.marked) c.new.ensures.items in
+    let h = subst (λ x. IsFound c.args.columns c.args.rows.now c.args.budget.now.splits record { rows = c.in_ok-kept.field-0.rows; path = c.new.result } c.settle.new.place x) c.in-Ok-Whole.field-0-is (c.in-Ok-Whole.ensures c.args.rows.now s) in
+    h.origin
+
+pub returns-in-Some-clause-answers : goal.returns-in-Some-clause-answers
+returns-in-Some-clause-answers c =
+    let s = first_search c.args.columns c.args.rows.now c.deref.result.now record { rows = c.in_ok-kept.field-0.rows; path = c.new.result } c.requires.even c.in_ok-kept.ensures.taken (subst (λ b. IsTakenBy b c.args.rows.now c.in_ok-kept.field-0.rows.items) (sym c.deref.ensures.value) c.in_ok-kept.ensures.marked) c.new.ensures.items in
+    let h = subst (λ x. IsFound c.args.columns c.args.rows.now c.args.budget.now.splits record { rows = c.in_ok-kept.field-0.rows; path = c.new.result } c.settle.new.place x) c.in-Ok-Tree.field-0-is (c.in-Ok-Tree.ensures c.args.rows.now s) in
+    let m = tree_met c.args.columns c.args.rows.now c.args.budget.now.splits record { rows = c.in_ok-kept.field-0.rows; path = c.new.result } c.settle.new.place c.in-Ok-Tree.tree c.new.ensures.items h in
+    subst (λ t. IsMetCover c.args.columns no_target (as_given c.args.rows.now) t) (sym c.in-Some.ensures.1) m
+
+pub returns-in-Some-clause-none : goal.returns-in-Some-clause-none
+returns-in-Some-clause-none c =
+    let s = first_search c.args.columns c.args.rows.now c.deref.result.now record { rows = c.in_ok-kept.field-0.rows; path = c.new.result } c.requires.even c.in_ok-kept.ensures.taken (subst (λ b. IsTakenBy b c.args.rows.now c.in_ok-kept.field-0.rows.items) (sym c.deref.ensures.value) c.in_ok-kept.ensures.marked) c.new.ensures.items in
+    let h = subst (λ x. IsFound c.args.columns c.args.rows.now c.args.budget.now.splits record { rows = c.in_ok-kept.field-0.rows; path = c.new.result } c.settle.new.place x) c.in-Ok-Tree.field-0-is (c.in-Ok-Tree.ensures c.args.rows.now s) in
+    tree_none c.args.columns c.args.rows.now c.in-Ok-Tree.tree (tree_met c.args.columns c.args.rows.now c.args.budget.now.splits record { rows = c.in_ok-kept.field-0.rows; path = c.new.result } c.settle.new.place c.in-Ok-Tree.tree c.new.ensures.items h)
+
+pub unreachable-requires : goal.unreachable-requires
+unreachable-requires c =
+    let s = first_search c.args.columns c.args.rows.now c.deref.result.now record { rows = c.in_ok-kept.field-0.rows; path = c.new.result } c.requires.even c.in_ok-kept.ensures.taken (subst (λ b. IsTakenBy b c.args.rows.now c.in_ok-kept.field-0.rows.items) (sym c.deref.ensures.value) c.in_ok-kept.ensures.marked) c.new.ensures.items in
+    let h = subst (λ x. IsFound c.args.columns c.args.rows.now c.args.budget.now.splits record { rows = c.in_ok-kept.field-0.rows; path = c.new.result } c.settle.new.place x) c.in-Ok-Tree.field-0-is (c.in-Ok-Tree.ensures c.args.rows.now s) in
+    let b = c.requires.splits in
+    let l = h.shallow in
+    c.in-None.ensures (omega (arith, b, l))

@@ -1,0 +1,6 @@
+use Rattle.std.proofs.Common.{◌≡◌}
+use Rattle.tv_farkas.specs.RefutationSystem.{numbers_below}
+use Rattle.tv_farkas.proofs.refutation.numbers_of.Given as goal
+
+abbrev pub invariant-columns : goal.invariant-columns
+invariant-columns l = l.numbers.items ≡ numbers_below l.column l.rows

@@ -1,0 +1,6 @@
+pub mod RefutationSystem
+pub mod Refuting
+pub mod Paths
+pub mod Emptying
+pub mod Stretching
+pub mod Searching

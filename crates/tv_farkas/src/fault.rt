@@ -1,0 +1,29 @@
+use crate::Branch;
+use std::alloc::AllocError;
+use tv_linear::Row;
+use tv_simplex::SolveFault;
+
+/// Why no cover and no whole point was found.
+#[derive(Drop)]
+pub enum CoverFault {
+    /// A path has as many splits as the budget allows, and the rows at its end still have a point that is not
+    /// whole.
+    Splits { path: Vec<Branch> },
+    /// The refutation system of these rows was not settled.
+    Solve { rows: Vec<Row>, fault: SolveFault },
+    /// A row reaches 2^62 at this column when it is denied or composed.
+    Wide { column: u32 },
+    /// There is no memory.
+    Memory,
+}
+
+impl From<AllocError> for CoverFault {
+    ghost use Rattle.std.specs.Prelude.{◌≡◌};
+    ghost use Rattle.tv_farkas.specs.declared.fault.CoverFault.TheVariants.{Memory};
+
+    ghost from_gives = { λ _ fault. fault ≡ Memory };
+
+    fn from(_: AllocError) -> CoverFault {
+        CoverFault::Memory
+    }
+}

@@ -1,0 +1,87 @@
+// Rows that are taken once, and rows of one column.
+
+ghost use Rattle.std.specs.Prelude.{◌≡◌, ◌+◌, ◌-◌, ◌^◌, ◌<◌, ◌≤◌, length, IfOk, IsTrue, ◌↔◌, neg_ℤ, pos, ◌+ℤ◌};
+ghost use Rattle.std.specs.List.{Contains};
+ghost use Rattle.tv_linear.specs.Linear.{linear, columns as width, IsNarrow, IsWithin};
+ghost use Rattle.tv_farkas.specs.Paths.{TakenOnce, at_most_row, at_least_row};
+ghost use Rattle.tv_farkas.specs.Stretching.{IsTakenBy};
+
+use crate::refutation::push_item;
+use std::alloc::{AllocError, Global};
+use tv_linear::Row;
+
+/// Rows that are taken once, and for each row of the list that they come from whether it was taken before.
+#[derive(Drop)]
+pub struct Distinct {
+    pub rows: Vec<Row>,
+    pub repeated: Vec<bool>,
+}
+
+fn is_same(first: &Row, second: &Row) -> bool
+    ensures { IsTrue result ↔ first.now ≡ second.now }
+{
+    first.constant() == second.constant() && first.coefficients() == second.coefficients()
+}
+
+fn is_among(rows: &[Row], row: &Row) -> bool
+    ensures { IsTrue result ↔ Contains rows.now row.now }
+{
+    'rows: for other in rows {
+        if is_same(other, row) {
+            return true;
+        }
+    }
+    false
+}
+
+/// Takes each row once, at its first place.
+pub fn take_once(alloc: Global, rows: &[Row]) -> Result<Distinct, AllocError>
+    ensures taken { IfOk result (λ d. TakenOnce rows.now d.rows.items) }
+    ensures marked { IfOk result (λ d. IsTakenBy d.repeated.items rows.now d.rows.items) }
+{
+    let mut kept = Vec::new(alloc);
+    let mut repeated = Vec::new(alloc);
+    'rows: for row in rows {
+        let again = is_among(&kept, row);
+        push_item(&mut repeated, again)?;
+        if !again {
+            push_item(&mut kept, row.copy(alloc)?)?;
+        }
+    }
+    Ok(Distinct {
+        rows: kept,
+        repeated,
+    })
+}
+
+/// The row with another constant.
+fn with_constant(alloc: Global, row: &Row, constant: i128) -> Result<Row, AllocError>
+    requires { IsWithin 62 constant }
+    ensures { IfOk result (λ r. r ≡ linear row.now.coefficients constant) }
+{
+    match Row::new(Vec::from_slice(alloc, row.coefficients())?, constant) {
+        Some(row) => Ok(row),
+        None => unreachable!(),
+    }
+}
+
+/// The row `x - floor` of a column.
+pub fn at_most(alloc: Global, columns: u32, column: u32, floor: i128) -> Result<Row, AllocError>
+    requires few { columns < 2 ^ 32 - 1 }
+    requires column { column < columns }
+    requires short { IsWithin 62 floor }
+    ensures { IfOk result (λ r. r ≡ at_most_row columns column floor) }
+{
+    with_constant(alloc, &Row::column(alloc, columns, column)?, -floor)
+}
+
+/// The row `floor + 1 - x` of a column.
+pub fn at_least(alloc: Global, columns: u32, column: u32, floor: i128) -> Result<Row, AllocError>
+    requires few { columns < 2 ^ 32 - 1 }
+    requires column { column < columns }
+    requires short { IsWithin 62 (floor +ℤ pos 1) }
+    ensures { IfOk result (λ r. r ≡ at_least_row columns column floor) }
+{
+    let row = Row::column(alloc, columns, column)?.opposite(alloc)?;
+    with_constant(alloc, &row, floor + 1)
+}
