@@ -12,8 +12,8 @@ mod visitor;
 
 pub use aim::Aim;
 pub use node::{Kind, Mark, Marked, Node, Proof, Verdict};
-pub use parts::part;
 pub use owes::{Destination, Owes};
+pub use parts::part;
 pub use pieces::{joined_piece_at, piece_at};
 pub use plain::Plain;
 pub use visiting::visit_pieces;

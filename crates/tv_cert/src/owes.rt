@@ -18,7 +18,10 @@ pub enum Owes<'a> {
         lists: &'a [Vec<Row>],
     },
     /// A cover into one target without rows where the location test is true, and into none where it is false.
-    Truth { piece: &'a Marked, truth: bool },
+    Truth {
+        piece: &'a Marked,
+        truth: bool,
+    },
     /// A cover into the pieces of a region at the piece's location.
     Pieces {
         piece: &'a Marked,

@@ -55,7 +55,13 @@ fn visit_truth<V: Visitor>(
     requires { length (atom_of number (about_of (cases_of about.now)) piece.now (truth_targets truth) ∷ []) ≤ V.room visitor.old }
     ensures { Visits (V.passes (cases_of about.now)) (V.stops (cases_of about.now)) V.room result visitor.old (atom_of number (about_of (cases_of about.now)) piece.now (truth_targets truth) ∷ []) visitor.new }
 {
-    visit(visitor, about, number, Kind::Atom, &Owes::Truth { piece, truth })
+    visit(
+        visitor,
+        about,
+        number,
+        Kind::Atom,
+        &Owes::Truth { piece, truth },
+    )
 }
 
 /// Visits a choice at a piece.
@@ -325,7 +331,13 @@ fn visit_piece<V: Visitor>(
     let first = first_pieces(children);
     match aim {
         Aim::Rows(lists) => {
-            visit(visitor, about, number, Kind::Atom, &Owes::Rows { piece, lists })
+            visit(
+                visitor,
+                about,
+                number,
+                Kind::Atom,
+                &Owes::Rows { piece, lists },
+            )
         }
         Aim::Here(l) => visit_truth(visitor, about, number, piece, piece.piece.location == *l),
         Aim::Elsewhere(l) => visit_truth(visitor, about, number, piece, piece.piece.location != *l),
@@ -338,7 +350,13 @@ fn visit_piece<V: Visitor>(
         Aim::EachOf(_) => visit_children(visitor, about, number, piece, children),
         Aim::OneOf(_) => {
             let nodes = children;
-            visit(visitor, about, number, Kind::Child, &Owes::Joined { piece, nodes })
+            visit(
+                visitor,
+                about,
+                number,
+                Kind::Child,
+                &Owes::Joined { piece, nodes },
+            )
         }
         Aim::After(Path::Every, _) => visit_steps(visitor, about, number, piece, first, false),
         Aim::After(Path::Any, _) => {
@@ -352,15 +370,7 @@ fn visit_piece<V: Visitor>(
         Aim::Along(path, shape, _, _) => {
             let second = second_pieces(children);
             visit_fix(
-                visitor,
-                about,
-                number,
-                *path,
-                *shape,
-                pieces,
-                first,
-                second,
-                piece,
+                visitor, about, number, *path, *shape, pieces, first, second, piece,
             )
         }
     }

@@ -172,4 +172,3 @@ module _ (system : CaseSystem) (s : Statement) (node : Node) (number from next s
         omega (arith, l, so_far, e, length-append (said_list (number + 1) system (parts_of s) (kids_of node)) (said_own_entries number system s node)),
         omega (arith, n, z),
       )
-

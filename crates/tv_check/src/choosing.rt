@@ -74,15 +74,7 @@ fn destination_is_shown(
         Destination::Into { pieces, falls } => {
             let ranks: Option<&[Row]> = if *falls { Some(&piece.ranks) } else { None };
             entering_is_shown(
-                columns,
-                frames,
-                case,
-                pieces,
-                ranks,
-                draws,
-                target,
-                fall,
-                lists,
+                columns, frames, case, pieces, ranks, draws, target, fall, lists,
             )
         }
     }

@@ -107,7 +107,6 @@ fn joined_are_covered(
     cover_is_met(columns as usize, &place, &targets, tree)
 }
 
-
 /// Whether the step of the piece over the case is covered by pieces, with a fall where it is owed.
 fn step_is_judged(
     columns: u32,

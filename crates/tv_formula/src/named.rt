@@ -31,11 +31,7 @@ fn never_at(alloc: Global, location: u32) -> Result<Tree, AllocError>
 }
 
 /// `[AG](!at(l))`: no run from the state comes to the location.
-pub fn unreachable(
-    alloc: Global,
-    program: &Program,
-    location: u32,
-) -> Result<Formula, AllocError>
+pub fn unreachable(alloc: Global, program: &Program, location: u32) -> Result<Formula, AllocError>
     requires { location < length (system_of program.now).locations }
     ensures gives { IfOk result (λ f. property_of f ≡ never_at location) }
     ensures variables { IfOk result (λ f. variables_of f ≡ length (system_of program.now).variables) }

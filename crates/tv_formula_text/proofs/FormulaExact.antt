@@ -59,10 +59,13 @@ module _ (kept : Kind → Bool) (n : ℕ) (w : Levelled kept n) where
       record {
         at = h.at;
         stops = h.stops;
-        within = omega (arith, h.within,
-            text_longer (closed ((formula_at kept n).value d.0)) (closed_exact ((formula_at kept n).value d.0)) d.1 r,
-            text_longer (formula_from conjunction (conjunction.value d.0.0)) (formula_from_exact conjunction (conjunction_exact literal e) (conjunction.value d.0.0)) d.0.1 z,
-            text_longer (conjunction_from literal (literal.value d.0.0.0)) (conjunction_from_exact literal e (literal.value d.0.0.0)) d.0.0.1 y);
+        within = omega (
+          arith,
+          h.within,
+          text_longer (closed ((formula_at kept n).value d.0)) (closed_exact ((formula_at kept n).value d.0)) d.1 r,
+          text_longer (formula_from conjunction (conjunction.value d.0.0)) (formula_from_exact conjunction (conjunction_exact literal e) (conjunction.value d.0.0)) d.0.1 z,
+          text_longer (conjunction_from literal (literal.value d.0.0.0)) (conjunction_from_exact literal e (literal.value d.0.0.0)) d.0.0.1 y,
+        );
       }
 
 -- at a token at which no sum begins

@@ -108,7 +108,6 @@ module _ (source : Source) (s u : Stand) (level : ℕ) (h : IsOver source s) (ke
   sum_refused view n l (parts.UnknownName at) e is r = rw is (fault_given n l marking.UnknownName r.0)
   sum_refused view n l parts.Memory e is r = rw is tt
 
-
 pub sum_at_end : (source : Source) (s : Stand) (n : ℕ) → IsOver source s → length source.list.now ≤ s.at → (summed every n).read (left source s) ≡ fault marking.Syntax (left source s)
 sum_at_end source s n h l =
     let none : left source s ≡ [] = ap (seen_all (words source s) s.text) (none_at s.tokens s.at (omega (arith, ap length h.tokens))) in

@@ -80,11 +80,7 @@ fn read(alloc: Global, text: &[u8], program: &Program) -> Result<Formula, Formul
 /// The formula of a text over the words of a program.
 ///
 /// The time is that of the text times how deep brackets nest.
-pub fn read_formula(
-    alloc: Global,
-    text: &[u8],
-    program: &Program,
-) -> Result<Formula, FormulaFault>
+pub fn read_formula(alloc: Global, text: &[u8], program: &Program) -> Result<Formula, FormulaFault>
     requires { length text.now + 1 < 2 ^ 32 }
     // What is read is the formula of the text.
     ensures found { IfOk result (λ f. IsFormulaText (system_of program.now) text.now (property_of f)) }

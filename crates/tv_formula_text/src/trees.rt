@@ -37,12 +37,7 @@ pub fn fixed_point(
 }
 
 /// An operator of one argument; `F` and `G` are short for operators of two.
-pub fn applied(
-    alloc: Global,
-    path: Path,
-    single: Single,
-    tree: Tree,
-) -> Result<Tree, AllocError>
+pub fn applied(alloc: Global, path: Path, single: Single, tree: Tree) -> Result<Tree, AllocError>
     ensures { IfOk result (λ t. property t ≡ applied path single (property tree)) }
 {
     match single {

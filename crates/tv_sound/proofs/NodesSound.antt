@@ -237,4 +237,3 @@ mutual
     λ s wide h. node_sound about tests number f a fits.0 (AllMet-left (entries number about f a) _ met) s wide h,
     kids_sound about tests (number + size a) fs kids fits.1 (AllMet-right (entries number about f a) _ met),
   )
-

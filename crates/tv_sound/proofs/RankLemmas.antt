@@ -46,13 +46,16 @@ from_front : (old new : List ℤ) (j : ℕ) → FallsAt old new j → FrontFalls
 from_front [] new j h = absurd (let k = h.inside in omega arith)
 from_front (a ∷ old) [] j h = absurd (let k = h.as_many in omega arith)
 from_front (a ∷ old) (b ∷ new) zero h = inl (h.not_below, h.falls, (let k = h.as_many in omega arith))
-from_front (a ∷ old) (b ∷ new) (suc j) h = inr (h.none_grows 0 (omega arith), from_front old new j (record {
-  as_many = (let k = h.as_many in omega arith);
-  inside = (let k = h.inside in omega arith);
-  none_grows = (λ i k. h.none_grows (suc i) (omega arith));
-  falls = h.falls;
-  not_below = h.not_below;
-}))
+from_front (a ∷ old) (b ∷ new) (suc j) h = inr (
+  h.none_grows 0 (omega arith),
+  from_front old new j (record {
+    as_many = (let k = h.as_many in omega arith);
+    inside = (let k = h.inside in omega arith);
+    none_grows = (λ i k. h.none_grows (suc i) (omega arith));
+    falls = h.falls;
+    not_below = h.not_below;
+  }),
+)
 
 ends_with : {old : List ℤ} → Ends FrontFalls old → Ends Falls old
 ends_with {old} (all_end h) = all_end (λ new k. ends_with (h new (from_front old new k.0 k.1)))

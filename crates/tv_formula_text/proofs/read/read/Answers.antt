@@ -11,13 +11,13 @@ use Rattle.tv_formula_text.proofs.read.read.Goals as goal
 pub new-requires : goal.new-requires
 new-requires c =
     let given = read_given (system_of c.args.program.now) (record { text = c.args.text; list = c.deref.result; labels = c.locations.result; alloc = c.args.alloc }) c.args.text.now c.deref-2.result.now c.in_ok-names.names c.new-reading.result c.new-reading.ensures (c.in_ok-names.ensures ∙ c.variables.ensures.same) c.locations.ensures.same
-        (subst (λ (ts : List Token). IsTokens 0 c.args.text.now ts) (sym c.deref-2.ensures.value) c.in_ok-list.ensures) (property c.in-Ok.tree) _ c.in-Ok.ensures.reads in
+    (subst (λ (ts : List Token). IsTokens 0 c.args.text.now ts) (sym c.deref-2.ensures.value) c.in_ok-list.ensures) (property c.in-Ok.tree) _ c.in-Ok.ensures.reads in
     rw (c.len-variables.ensures.counted, c.len-locations.ensures.counted, c.variables-in-Ok.ensures.same, c.locations-in-Ok.ensures.same) given.limits
 
 pub returns-in-Ok-clause-found : goal.returns-in-Ok-clause-found
 returns-in-Ok-clause-found c =
     let given = read_given (system_of c.args.program.now) (record { text = c.args.text; list = c.deref.result; labels = c.locations.result; alloc = c.args.alloc }) c.args.text.now c.deref-2.result.now c.in_ok-names.names c.new-reading.result c.new-reading.ensures (c.in_ok-names.ensures ∙ c.variables.ensures.same) c.locations.ensures.same
-        (subst (λ (ts : List Token). IsTokens 0 c.args.text.now ts) (sym c.deref-2.ensures.value) c.in_ok-list.ensures) (property c.in-Ok.tree) _ c.in-Ok.ensures.reads in
+    (subst (λ (ts : List Token). IsTokens 0 c.args.text.now ts) (sym c.deref-2.ensures.value) c.in_ok-list.ensures) (property c.in-Ok.tree) _ c.in-Ok.ensures.reads in
     subst (λ (f : Property). IsFormulaText (system_of c.args.program.now) c.args.text.now f) (sym c.new.ensures.same) given.whole
 
 pub returns-clause-refused : goal.returns-clause-refused
