@@ -1,16 +1,14 @@
-use Rattle.std.proofs.Common.{take, ◌≡◌, ◌⊎◌, inl, inr, ℕ, zero, suc, ◌+◌, ◌*◌, ◌<◌, ◌≤◌, ◌^◌, List, [], ◌∷◌, ◌++◌, length, length-append, map, get_or, All, arith, refl, sym, ap, ◌∙◌, subst, ℤ, pos, neg_ℤ, ◌+ℤ◌, ◌-ℤ◌, ◌*ℤ◌, ◌<ℤ◌, ◌≤ℤ◌}
+use Rattle.std.proofs.Common.{take, ◌≡◌, ℕ, zero, suc, ◌+◌, ◌<◌, ◌≤◌, List, [], ◌∷◌, ◌++◌, length, length-append, map, get_or, All, arith, refl, sym, ap, ◌∙◌, ℤ, pos, neg_ℤ, ◌*ℤ◌, ◌<ℤ◌, ◌≤ℤ◌}
 use Rattle.std.proofs.lemmas.Int.{ints}
 use Rattle.std.proofs.Math.IntN.{*ℤ_comm}
-use Rattle.tv_linear.specs.Linear.{Linear, columns, entry, dot, scaled_value, IsScaledPoint}
+use Rattle.tv_linear.specs.Linear.{Linear, columns, entry, scaled_value, IsScaledPoint}
 use Rattle.tv_refute.proofs.Places.{get_or-left, get_or-right, get_or-map}
 use Rattle.tv_linear.proofs.Ring.{neg_times_z}
-use Rattle.tv_tableau.proofs.Ring.{times_less}
-use Rattle.tv_tableau.proofs.Sums.{total-same, total-times}
 use Rattle.tv_tableau.specs.Sums.{total}
 use Rattle.tv_tableau.specs.Systems.{entry_at, right_at}
-use Rattle.tv_tableau.specs.Outcomes.{IsBarrierOf, GivesBarrier}
-use Rattle.tv_farkas.specs.RefutationSystem.{refutation_system, IsPointOf}
-use Rattle.tv_farkas.proofs.SystemLemmas.{row_at, length-map, get_or-any, all_of, at_of, entry_is, right_inner, right_last, total-last, dot-total}
+use Rattle.tv_tableau.specs.Outcomes.{IsBarrierOf}
+use Rattle.tv_farkas.specs.RefutationSystem.{refutation_system}
+use Rattle.tv_farkas.proofs.SystemLemmas.{row_at, get_or-any, all_of, at_of, entry_is, right_inner, right_last, total-last, dot-total}
 
 opposite_at : (xs : List ℤ) (k : ℕ) → k < length xs → get_or (map neg_ℤ xs) k (pos 0) ≡ neg_ℤ (get_or xs k (pos 0))
 opposite_at xs k l = get_or-map neg_ℤ xs k (pos 0) (pos 0) l

@@ -1,17 +1,15 @@
-use Rattle.std.proofs.Common.{◌≡◌, ℕ, ◌+◌, List, [], ◌∷◌, ◌++◌, length, length-append, map, All, get_or, arith, refl, sym, ap, ◌∙◌, subst, ℤ, pos, neg_ℤ, ◌≤◌, ◌*◌}
+use Rattle.std.proofs.Common.{◌≡◌, ℕ, ◌+◌, List, [], ◌∷◌, ◌++◌, length, length-append, map, All, get_or, arith, subst, ℤ, pos, neg_ℤ}
 use Rattle.std.proofs.lemmas.Int.{ints}
-use Rattle.tv_linear.specs.Linear.{Linear, columns, IsScaledPoint}
+use Rattle.tv_linear.specs.Linear.{Linear, columns}
 use Rattle.tv_tableau.specs.Systems.{Equations}
-use Rattle.tv_tableau.specs.Outcomes.{IsShort, IsBarrierOf, GivesBarrier, IsSolutionOf, GivesSolution, IsNarrowSystem}
-use Rattle.tv_simplex.specs.declared.answer.Answer.{Answer}
-use Rattle.tv_simplex.specs.declared.answer.Answer.TheVariants as answers
+use Rattle.tv_tableau.specs.Outcomes.{IsShort, IsBarrierOf, GivesBarrier}
 use Rattle.tv_simplex.specs.declared.fault.SolveFault.{SolveFault}
 use Rattle.tv_simplex.specs.declared.fault.SolveFault.TheVariants.{Width, Scale, Pivots, Size, Memory}
-use Rattle.tv_simplex.specs.Views.{IsAnswer, GivesAnswer, IsFault}
+use Rattle.tv_simplex.specs.Views.{IsFault}
 use Rattle.tv_farkas.specs.declared.refuted.Refuted.{Refuted}
 use Rattle.tv_farkas.specs.declared.refuted.Refuted.TheVariants.{Empty, Point}
 use Rattle.tv_farkas.specs.RefutationSystem.{refutation_system}
-use Rattle.tv_farkas.specs.Refuting.{IsRefuted, GivesRefuted, IsRefusal, IsSystemFault, IsOppositePoint, IsShortRefuted}
+use Rattle.tv_farkas.specs.Refuting.{IsRefuted, GivesRefuted, IsRefusal, IsOppositePoint, IsShortRefuted}
 use Rattle.tv_farkas.proofs.SystemLemmas.{length-map}
 use Rattle.tv_farkas.proofs.PointLemmas.{point_meets, inner_is, last_is}
 

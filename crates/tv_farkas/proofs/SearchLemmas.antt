@@ -1,19 +1,19 @@
-use Rattle.std.proofs.Common.{Global, true, false, ◌≡◌, ◌⊎◌, inl, inr, ℕ, zero, suc, ◌+◌, ◌-◌, ◌<◌, ◌≤◌, ◌^◌, List, [], ◌∷◌, ◌++◌, take, vec_len, length, length-append, map, get_or, All, Bool, Option, None, Some, Vec, arith, refl, sym, ap, ◌∙◌, subst, append_assoc, ℤ, pos, neg_ℤ, ◌+ℤ◌, ◌-ℤ◌, ◌*ℤ◌, ◌<ℤ◌, ◌≤ℤ◌, unsigned_abs}
+use Rattle.std.proofs.Common.{Global, true, false, ◌≡◌, inl, inr, ℕ, zero, suc, ◌+◌, ◌-◌, ◌<◌, ◌≤◌, ◌^◌, List, [], ◌∷◌, ◌++◌, take, vec_len, length, length-append, map, get_or, All, Bool, Option, None, Some, Vec, arith, refl, sym, ap, ◌∙◌, subst, append_assoc, ℤ, pos, neg_ℤ, ◌+ℤ◌, ◌-ℤ◌, ◌*ℤ◌, ◌<ℤ◌, ◌≤ℤ◌, unsigned_abs}
 use Rattle.std.specs.List.{Contains}
 use Rattle.std.proofs.lemmas.Int.{ints}
-use Rattle.std.proofs.lemmas.List.Elements.{All-nil, All-cons, All-head, All-tail, All-push, All-append}
+use Rattle.std.proofs.lemmas.List.Elements.{All-nil, All-cons, All-head, All-tail, All-push}
 use Rattle.tv_linear.proofs.Covered.{covered}
 use Rattle.tv_linear.proofs.KnownLemmas.{met-as_given}
 use Rattle.tv_linear.proofs.PlainLists.{length-unit, unit-narrow}
 use Rattle.tv_linear.proofs.RowValues.{value-column_row, value-denial}
-use Rattle.tv_linear.specs.Arithmetic.{unit, column_row, raised, denial}
+use Rattle.tv_linear.specs.Arithmetic.{unit}
 use Rattle.tv_linear.specs.Covers.{IsMetCover}
 use Rattle.tv_linear.specs.declared.cover.CoverTree.{CoverTree, Split', Empty, Into}
 use Rattle.tv_linear.specs.Refutation.{Refutes}
 use Rattle.tv_linear.specs.Depth.{splits}
 use Rattle.tv_linear.specs.Fits.{IsHeld}
 use Rattle.tv_linear.specs.Linear.{Linear, columns, dot, value, IsMet, IsWithin, scaled_value, IsScaledPoint}
-use Rattle.tv_linear.specs.Known.{Known, given, denied, number, known_number, as_given, KnownHeld, IsKnownMet}
+use Rattle.tv_linear.specs.Known.{Known, given, denied, as_given, KnownHeld, IsKnownMet}
 use Rattle.tv_linear.proofs.Ring.{mul_assoc_z, distribute_right_z}
 use Rattle.tv_tableau.proofs.Ring.{by_sign, above_times, less_times, zero_times}
 use Rattle.tv_tableau.specs.Outcomes.{IsShort}
@@ -22,8 +22,8 @@ use Rattle.tv_farkas.specs.declared.emptying.Place.{Place}
 use Rattle.tv_farkas.specs.declared.emptying.Found.{Found}
 use Rattle.tv_farkas.specs.declared.emptying.Found.TheVariants.{Tree, Whole}
 use Rattle.tv_farkas.specs.RefutationSystem.{IsPointOf}
-use Rattle.tv_farkas.specs.Paths.{TakenOnce, first, IsWholeAt, IsFirstFraction, IsWholePoint, IsPointSplit, IsCoordinateSplit, SplitsAt, at_most_row, at_least_row, rows_after}
-use Rattle.tv_farkas.specs.Emptying.{no_target, IsEmptyPath, IsWholePointOf, IsEmptyFault}
+use Rattle.tv_farkas.specs.Paths.{TakenOnce, first, IsFirstFraction, IsWholePoint, IsPointSplit, IsCoordinateSplit, SplitsAt, at_most_row, at_least_row, rows_after}
+use Rattle.tv_farkas.specs.Emptying.{no_target, IsEmptyFault}
 use Rattle.tv_farkas.specs.Stretching.{IsFloor, IsTakenBy, stretched, Searches, IsSide, AreSides, AreDivided, IsSplitOf, rows_of}
 use Rattle.tv_farkas.specs.Searching.{SearchesAt, IsTreeOf, IsFound, IsSideFound, IsSideTree, IsWholeFound, IsFractionAt, MaySplit, IsShown, IsHandedOn}
 use Rattle.tv_farkas.specs.Refuting.{IsRefusal, IsSystemFault}
@@ -32,9 +32,8 @@ use Rattle.tv_simplex.specs.declared.fault.SolveFault.TheVariants as faults
 use Rattle.tv_farkas.specs.declared.fault.CoverFault.{CoverFault}
 use Rattle.tv_farkas.specs.declared.fault.CoverFault.TheVariants.{Splits, Solve, Wide, Memory}
 use Rattle.tv_farkas.proofs.StretchLemmas.{stretched_refutes}
-use Rattle.tv_farkas.proofs.SystemLemmas.{all_of, at_of}
+use Rattle.tv_farkas.proofs.SystemLemmas.{at_of}
 use Rattle.tv_farkas.proofs.TakenLemmas.{all_taken}
-use Rattle.tv_farkas.proofs.FloorLemmas.{one_more}
 use Rattle.tv_farkas.proofs.PathLemmas.{append-nil, after_is, after_more, path_more, rows_more}
 
 -- ---- the rows of a split

@@ -1,19 +1,17 @@
-use Rattle.std.proofs.Common.{◌≡◌, ◌⊎◌, inl, inr, ℕ, zero, suc, ◌+◌, ◌*◌, ◌<◌, ◌≤◌, ◌-◌, ◌^◌, List, [], ◌∷◌, ◌++◌, length, length-append, map, get_or, All, Option, None, Some, arith, refl, sym, ap, ◌∙◌, subst, ℤ, pos, neg_ℤ, ◌+ℤ◌, ◌-ℤ◌, ◌*ℤ◌, ◌<ℤ◌, ◌≤ℤ◌, unsigned_abs}
+use Rattle.std.proofs.Common.{◌≡◌, ◌⊎◌, inl, inr, ℕ, zero, suc, ◌+◌, ◌*◌, ◌<◌, ◌≤◌, ◌-◌, ◌^◌, List, [], ◌∷◌, ◌++◌, length, length-append, map, get_or, All, Option, None, Some, arith, refl, sym, ap, ◌∙◌, subst, ℤ, pos, ◌+ℤ◌, ◌*ℤ◌, ◌≤ℤ◌, unsigned_abs}
 use Rattle.std.proofs.lemmas.Int.{ints, unsigned_abs-mul}
 use Rattle.std.proofs.lemmas.List.Elements.{All-nil, All-cons, All-head, All-tail}
 use Rattle.std.proofs.Math.IntN.{*ℤ_comm}
 use Rattle.tv_linear.proofs.PlainLists.{length-zeros, get_or-zeros}
 use Rattle.tv_linear.specs.Arithmetic.{zeros}
-use Rattle.tv_linear.specs.Linear.{Linear, columns, entry, dot, scaled_value, IsScaledPoint}
-use Rattle.tv_linear.specs.Fits.{IsHeld}
-use Rattle.tv_linear.specs.Known.{Known, given, number, known_number, as_given, KnownHeld}
+use Rattle.tv_linear.specs.Linear.{Linear, columns, entry, dot}
+use Rattle.tv_linear.specs.Known.{given, number, known_number, as_given, KnownHeld}
 use Rattle.tv_linear.specs.Refutation.{RowsHeld, column_sum, ColumnHeld, Refutes}
 use Rattle.tv_refute.proofs.Places.{get_or-left, get_or-right, get_or-map}
-use Rattle.tv_linear.proofs.Ring.{neg_times_z}
 use Rattle.tv_tableau.proofs.Sums.{total-same}
 use Rattle.tv_tableau.specs.Sums.{total}
 use Rattle.tv_tableau.specs.Systems.{Equations, IsWhole, entry_at, right_at}
-use Rattle.tv_tableau.specs.Outcomes.{IsShort, IsSolutionOf, IsBarrierOf, IsNarrowSystem}
+use Rattle.tv_tableau.specs.Outcomes.{IsShort, IsSolutionOf, IsNarrowSystem}
 use Rattle.tv_simplex.proofs.SettleLemmas.{given_left}
 use Rattle.tv_farkas.specs.RefutationSystem.{numbers_below, refutation_system}
 

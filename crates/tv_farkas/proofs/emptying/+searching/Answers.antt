@@ -6,21 +6,20 @@ use mir.Val.{to_z, of_z}
 use Rattle.tv_linear.specs.Linear.{IsScaledPoint}
 use Rattle.tv_simplex.proofs.AnswerLemmas.{short_fits}
 use Rattle.tv_farkas.specs.RefutationSystem.{IsPointOf}
-use Rattle.tv_farkas.specs.declared.refuted.Refuted.TheVariants.{Empty, Point}
 use Rattle.tv_farkas.specs.Refuting.{IsRefuted, GivesRefuted, IsShortRefuted}
 use Rattle.tv_linear.specs.Refutation.{Refutes}
 use Rattle.tv_linear.specs.Known.{as_given}
 use Rattle.tv_farkas.specs.Stretching.{stretched, AreWhole, AreDivided}
 use Rattle.tv_farkas.proofs.SearchLemmas.{empty_tree, whole_found}
-use Rattle.std.proofs.Common.{ℕ, zero, suc, List, ◌++◌, ◌∷◌, [], ◌-◌, ◌<◌, ◌≤◌, get_or, ℤ, pos, ◌+ℤ◌}
+use Rattle.std.proofs.Common.{ℕ, zero, suc, List, ◌++◌, ◌∷◌, [], ◌-◌, ◌<◌, get_or, ℤ, pos, ◌+ℤ◌}
 use Rattle.tv_linear.specs.Linear.{IsMet}
 use Rattle.tv_tableau.specs.Outcomes.{IsShort}
 use Rattle.tv_farkas.specs.Paths.{IsWholeAt, IsWholePoint, at_most_row, at_least_row, rows_after}
 use Rattle.tv_farkas.specs.Emptying.{IsEmptyFault}
 use Rattle.tv_farkas.specs.Searching.{IsFound, IsSideFound, IsSideTree, IsFractionAt, MaySplit}
-use Rattle.tv_farkas.specs.Stretching.{IsFloor, Searches, IsSplitOf}
+use Rattle.tv_farkas.specs.Stretching.{IsFloor, IsSplitOf}
 use Rattle.tv_farkas.proofs.FloorLemmas.{floor_short}
-use Rattle.tv_farkas.proofs.SearchLemmas.{low_splits, high_splits, same_search, same_fraction, side_empty, search_more, side_found, side_search, one_branch, split_tree}
+use Rattle.tv_farkas.proofs.SearchLemmas.{low_splits, high_splits, same_search, same_fraction, side_empty, side_found, side_search, one_branch, split_tree}
 use Rattle.tv_farkas.proofs.emptying.+searching.Goals as goal
 
 pub settle-returns-in-Ok-Empty : goal.settle-returns-in-Ok-Empty

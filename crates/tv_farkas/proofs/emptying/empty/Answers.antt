@@ -1,9 +1,8 @@
-use Rattle.std.proofs.Common.{◌≡◌, ℕ, List, length, arith, ap, sym, subst, ◌∙◌}
-use Rattle.tv_linear.specs.Linear.{Linear}
+use Rattle.std.proofs.Common.{length, arith, ap, sym, subst}
 use Rattle.tv_linear.specs.Known.{as_given}
 use Rattle.tv_linear.specs.Covers.{IsMetCover}
 use Rattle.tv_farkas.specs.Emptying.{no_target, IsEmptyFault}
-use Rattle.tv_farkas.specs.Stretching.{Searches, IsTakenBy}
+use Rattle.tv_farkas.specs.Stretching.{IsTakenBy}
 use Rattle.tv_farkas.specs.Searching.{IsFound}
 use Rattle.tv_farkas.proofs.SearchLemmas.{first_search, tree_met, tree_none}
 use Rattle.tv_farkas.proofs.emptying.empty.Goals as goal

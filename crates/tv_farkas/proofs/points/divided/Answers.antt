@@ -1,4 +1,4 @@
-use Rattle.std.proofs.Common.{rules, FitsSigned, ◌≡◌, ◌<◌, ◌++◌, ◌∷◌, [], ◌∙◌, ap, sym, subst, arith, get_or, pos, ◌<ℤ◌}
+use Rattle.std.proofs.Common.{rules, FitsSigned, ◌++◌, ◌∷◌, [], ◌∙◌, ap, sym, subst, get_or, pos, ◌<ℤ◌}
 use Rattle.std.specs.Int.{w128}
 use Rattle.std.proofs.lemmas.Int.{to_z-of_z}
 use mir.Val.{to_z, of_z}

@@ -1,4 +1,4 @@
-use Rattle.std.proofs.Common.{rules, FitsSigned, ◌≡◌, ◌<◌, ◌∙◌, ◌*ℤ◌, ap, sym, subst, arith, get_or, pos, ℕ}
+use Rattle.std.proofs.Common.{rules, FitsSigned, ◌∙◌, ◌*ℤ◌, sym, subst, arith, get_or, pos}
 use Rattle.std.specs.Int.{w128}
 use Rattle.std.proofs.lemmas.Int.{to_z-of_z}
 use mir.Val.{to_z, of_z}

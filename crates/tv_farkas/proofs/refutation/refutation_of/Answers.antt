@@ -1,7 +1,4 @@
-use Rattle.std.proofs.Common.{◌+◌, length, ◌≡◌, ◌∙◌, ap, sym, subst}
-use Rattle.tv_simplex.specs.Views.{equations}
-use Rattle.tv_tableau.specs.Systems.{IsWhole}
-use Rattle.tv_farkas.specs.RefutationSystem.{refutation_system}
+use Rattle.std.proofs.Common.{◌+◌, length}
 use Rattle.tv_farkas.proofs.SystemLemmas.{system_whole}
 use Rattle.tv_farkas.proofs.refutation.refutation_of.Goals as goal
 

@@ -1,4 +1,4 @@
-use Rattle.std.proofs.Common.{◌≡◌, ◌++◌, ◌∷◌, [], ◌∙◌, ap, sym, pos}
+use Rattle.std.proofs.Common.{◌++◌, ◌∷◌, [], ◌∙◌, ap, sym, pos}
 use Rattle.tv_linear.proofs.PlainLists.{zeros-are}
 use Rattle.tv_farkas.proofs.refutation.right_of.Goals as goal
 

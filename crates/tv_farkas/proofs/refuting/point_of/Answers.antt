@@ -1,4 +1,4 @@
-use Rattle.std.proofs.Common.{rules, FitsSigned, ◌≡◌, ◌++◌, ◌∷◌, [], ◌∙◌, ap, sym, pos, arith, get_or, take, map, neg_ℤ}
+use Rattle.std.proofs.Common.{rules, FitsSigned, ◌≡◌, ◌∙◌, ap, arith, take, map, neg_ℤ}
 use Rattle.std.specs.Int.{w128}
 use Rattle.std.proofs.lemmas.Int.{to_z-of_z}
 use Rattle.tv_farkas.proofs.PointLemmas.{opposites}

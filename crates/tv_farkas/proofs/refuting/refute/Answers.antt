@@ -1,8 +1,7 @@
-use Rattle.std.proofs.Common.{ℕ, ◌≡◌, ◌⊎◌, inl, inr, ◌+◌, ◌*◌, ◌<◌, ◌≤◌, length, subst, sym, arith}
+use Rattle.std.proofs.Common.{ℕ, ◌⊎◌, inl, inr, ◌+◌, ◌*◌, ◌<◌, ◌≤◌, length, subst, arith}
 use Rattle.tv_tableau.specs.Outcomes.{IsSolutionOf, IsBarrierOf, IsNarrowSystem}
 use Rattle.tv_simplex.specs.Views.{equations, IsAnswer}
 use Rattle.tv_simplex.proofs.RowLemmas.{tested_false}
-use Rattle.tv_farkas.specs.RefutationSystem.{refutation_system}
 use Rattle.tv_farkas.specs.Refuting.{IsOppositePoint}
 use Rattle.tv_farkas.proofs.SystemLemmas.{solution_refutes}
 use Rattle.tv_farkas.proofs.RefusalLemmas.{point_answers, point_short}

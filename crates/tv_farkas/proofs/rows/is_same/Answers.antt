@@ -1,4 +1,4 @@
-use Rattle.std.proofs.Common.{rules, FitsSigned, ◌≡◌, ◌∙◌, ap, sym}
+use Rattle.std.proofs.Common.{rules, FitsSigned, ◌∙◌, ap, sym}
 use Rattle.std.specs.Int.{w128}
 use Rattle.std.specs.Cmp.Rules.{signed_items}
 use Rattle.std.proofs.lemmas.Int.{to_z-of_z}

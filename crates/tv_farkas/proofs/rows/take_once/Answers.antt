@@ -1,4 +1,4 @@
-use Rattle.std.proofs.Common.{◌≡◌, ◌∙◌, ◌+◌, ◌++◌, ◌∷◌, [], take, true, false, sym, subst, ap}
+use Rattle.std.proofs.Common.{◌∙◌, ◌+◌, ◌++◌, ◌∷◌, [], take, sym, subst, ap}
 use Rattle.std.specs.List.{Contains}
 use Rattle.tv_simplex.proofs.RowLemmas.{tested_true, tested_false}
 use Rattle.tv_farkas.proofs.TakenLemmas.{TakenTo, taken_none, taken_again, taken_first}
