@@ -24,7 +24,7 @@ use Rattle.tv_cases.proofs.EdgeLimits.{edge-are_cases}
 
 module _ (variables draws : ℕ) where
   mutual
-    fits-linear : (e : Expression) → expression_fits variables draws e ≡ true → is_linear e ≡ true
+    pub fits-linear : (e : Expression) → expression_fits variables draws e ≡ true → is_linear e ≡ true
     fits-linear (number z) h = refl
     fits-linear (variable v) h = refl
     fits-linear (draw d) h = refl

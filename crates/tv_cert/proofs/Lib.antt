@@ -8,3 +8,4 @@ pub mod VisitedCases
 pub mod JoinedLemmas
 pub mod SaidNodes
 pub mod AimLemmas
+pub mod AimedLemmas

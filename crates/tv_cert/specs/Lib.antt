@@ -1,3 +1,4 @@
+pub mod Statable
 pub mod Pieces
 pub mod Targets
 pub mod Choices
@@ -12,3 +13,4 @@ pub mod Said
 pub mod AimViews
 pub mod Owing
 pub mod Visits
+pub mod Claims

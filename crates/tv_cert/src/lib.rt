@@ -2,6 +2,8 @@
 #![tactic(auto)]
 
 mod aim;
+mod aims;
+mod claim;
 mod node;
 mod owes;
 mod parts;
@@ -11,6 +13,8 @@ mod visiting;
 mod visitor;
 
 pub use aim::Aim;
+pub use aims::aim_of;
+pub use claim::Claim;
 pub use node::{Kind, Mark, Marked, Node, Proof, Verdict};
 pub use owes::{Destination, Owes};
 pub use parts::part;
