@@ -58,25 +58,36 @@ pub record Taken (n : ℕ) (cases : List LinearCase) (l : ℕ) (owed : LinearCas
   pub owes : owed taken draws target fall ≡ Some rows
   pub met : All (IsKnownMet xs) rows
 
+-- what a take of this case, with these terms for its draws, shows of its target
+pub record TakenInto (n : ℕ) (l : ℕ) (owed : LinearCase → List Linear → ℕ → ℕ → Option (List Known)) (xs : List ℤ) (c : LinearCase) (draws : List Linear) (target : ℕ) : Type 0 where
+  pub from : c.from ≡ l
+  pub many : length draws ≡ c.draws
+  pub guards : All (IsKnownMet xs) (drawn_guards n c draws)
+  pub fall : ℕ
+  pub rows : List Known
+  pub owes : owed c draws target fall ≡ Some rows
+  pub met : All (IsKnownMet xs) rows
+
+pub taken_into : (n : ℕ) (l : ℕ) (owed : LinearCase → List Linear → ℕ → ℕ → Option (List Known)) (known : List Known) (xs : List ℤ) (c : LinearCase) (k j : ℕ) (draws : List Linear) (lists : List (List ℤ)) → TakeMet n l owed known (Some c) k j draws lists → length xs ≡ n → All (IsKnownMet xs) known → TakenInto n l owed xs c draws k
+taken_into n l owed known xs c k j draws lists h e a =
+    let s = shown_at_met n known (option_map (λ rows. drawn_guards n c draws ++ rows) (owed c draws k j)) lists xs h.2 e a in
+    let w = joined_is (drawn_guards n c draws) (owed c draws k j) s.0 s.1 in
+    let all = subst (All (IsKnownMet xs)) (sym w.2) s.2 in
+    record {
+      from = h.0;
+      many = h.1;
+      guards = All-left (IsKnownMet xs) (drawn_guards n c draws) w.0 all;
+      fall = j;
+      rows = w.0;
+      owes = w.1;
+      met = All-right (IsKnownMet xs) (drawn_guards n c draws) w.0 all;
+    }
+
 module _ (n : ℕ) (cases : List LinearCase) (l : ℕ) (owed : LinearCase → List Linear → ℕ → ℕ → Option (List Known)) where
   take_some : (known : List Known) (xs : List ℤ) (c : LinearCase) (i k j : ℕ) (draws : List Linear) (lists : List (List ℤ)) → slice_get cases i ≡ Some c → TakeMet n l owed known (Some c) k j draws lists → length xs ≡ n → All (IsKnownMet xs) known → Taken n cases l owed xs
   take_some known xs c i k j draws lists g h e a =
-      let s = shown_at_met n known (option_map (λ rows. drawn_guards n c draws ++ rows) (owed c draws k j)) lists xs h.2 e a in
-      let w = joined_is (drawn_guards n c draws) (owed c draws k j) s.0 s.1 in
-      let all = subst (All (IsKnownMet xs)) (sym w.2) s.2 in
-      record {
-        taken = c;
-        among = got_in cases i c g;
-        from = h.0;
-        draws = draws;
-        many = h.1;
-        guards = All-left (IsKnownMet xs) (drawn_guards n c draws) w.0 all;
-        target = k;
-        fall = j;
-        rows = w.0;
-        owes = w.1;
-        met = All-right (IsKnownMet xs) (drawn_guards n c draws) w.0 all;
-      }
+      let t = taken_into n l owed known xs c k j draws lists h e a in
+      record { taken = c; among = got_in cases i c g; from = t.from; draws = draws; many = t.many; guards = t.guards; target = k; fall = t.fall; rows = t.rows; owes = t.owes; met = t.met }
 
   take_is : (known : List Known) (xs : List ℤ) (i k j : ℕ) (draws : List Linear) (lists : List (List ℤ)) → length xs ≡ n → All (IsKnownMet xs) known → (o : Option LinearCase) → slice_get cases i ≡ o → TakeMet n l owed known o k j draws lists → Taken n cases l owed xs
   take_is known xs i k j draws lists e a None g h = absurd h
@@ -123,7 +134,7 @@ module _ (n : ℕ) (cases : List LinearCase) (l : ℕ) (stop : Bool) (owed : Lin
   chosen_or_stopped known (Take i k' j draws lists) xs w h e k stays = inl (take_is n cases l owed known xs i k' j draws.items (map (λ x. x.items) lists.items) e k (slice_get cases i) refl h)
 
 -- the values of the draws, and the point with them
-abbrev drawn : List ℤ → List Linear → List ℤ
+abbrev pub drawn : List ℤ → List Linear → List ℤ
 drawn xs draws = map (λ d. known_value xs (given d)) draws
 
 point_is : (n : ℕ) (xs : List ℤ) (draws : List Linear) → length xs ≡ n → map (term_value xs) (draw_terms n draws) ≡ xs ++ drawn xs draws

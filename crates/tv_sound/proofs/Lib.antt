@@ -6,4 +6,6 @@ mod Choosing
 mod Offered
 mod Regions
 mod NodesSound
+mod Following
 mod Soundness
+mod Claimed

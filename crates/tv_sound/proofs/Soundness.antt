@@ -44,7 +44,7 @@ same_on p system of_program steps = record {
 
 -- ---- the root
 
-root_met : (about : About) (f : Property) (root : Node) (verdict : Verdict) → AllMet (obligations about f root verdict) → IsMetEntry (root_entry about (pieces_of root) verdict)
+pub root_met : (about : About) (f : Property) (root : Node) (verdict : Verdict) → AllMet (obligations about f root verdict) → IsMetEntry (root_entry about (pieces_of root) verdict)
 root_met about f root verdict met = (AllMet-right (entries 0 about f root) (root_entry about (pieces_of root) verdict ∷ []) met).0
 
 -- proved: the property holds at every initial state
