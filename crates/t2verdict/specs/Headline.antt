@@ -14,7 +14,8 @@ use Rattle.tv_cases.specs.Answers.{IsOfProgram}
 use Rattle.tv_cert.specs.declared.plain.Plain.{Plain}
 use Rattle.tv_cert.specs.declared.node.Verdict.TheVariants as verdicts
 use Rattle.tv_cert.specs.Nodes.{obligations}
-use Rattle.tv_cert.specs.Plain.{about_of, never_at, PlainMet}
+use Rattle.tv_formula.specs.Forms.{never_at}
+use Rattle.tv_cert.specs.Plain.{about_of, PlainMet}
 use Rattle.tv_cert_text.specs.PlainTexts.{IsPlainText}
 use Rattle.tv_check.specs.Walks.{IsFirstFailing}
 use Rattle.t2verdict.specs.declared.answer.Answer.{Answer}

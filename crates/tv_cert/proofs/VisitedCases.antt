@@ -1,5 +1,6 @@
 -- The obligations of a piece, one case, child or piece after another.
 use Rattle.std.proofs.Common.{◌≡◌, ◌⊎◌, inl, inr, ℕ, Bool, true, false, List, [], ◌∷◌, ◌++◌, map, cond, refl, ap, sym, ◌==◌}
+use Rattle.std.proofs.lemmas.List.{append-nil}
 use Rattle.std.specs.List.{flat_map}
 use Rattle.tv_cases.specs.declared.case.Case.{Case}
 use Rattle.tv_cases.specs.LinearCases.{LinearCase}
@@ -24,12 +25,8 @@ one_more step false c cs = refl
 pub cases-cons : (step : LinearCase → Obligation) (l : ℕ) (c : Case) (cs : List Case) → map step (cases_from l (case_views (c ∷ cs))) ≡ map step (cases_from l (case_views (c ∷ []))) ++ map step (cases_from l (case_views cs))
 cases-cons step l c cs = one_more step (c.from == l) (case_view c) (cases_from l (case_views cs))
 
-append_nil : {A : Type 0} (xs : List A) → xs ++ [] ≡ xs
-append_nil [] = refl
-append_nil (x ∷ xs) = ap (λ ys. x ∷ ys) (append_nil xs)
-
 pub flat_map-one : {A : Type 0} (f : A → List Obligation) (x : A) → flat_map f (x ∷ []) ≡ f x
-flat_map-one f x = append_nil (f x)
+flat_map-one f x = append-nil (f x)
 
 pub flat_map-cons : {A : Type 0} (f : A → List Obligation) (x : A) (xs : List A) → flat_map f (x ∷ xs) ≡ flat_map f (x ∷ []) ++ flat_map f xs
 flat_map-cons f x xs = ap (λ os. os ++ flat_map f xs) (sym (flat_map-one f x))

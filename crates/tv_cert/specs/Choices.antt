@@ -6,10 +6,9 @@ use Rattle.tv_linear.specs.declared.cover.CoverTree.{CoverTree}
 use Rattle.tv_linear.specs.Linear.{Linear, columns}
 use Rattle.tv_linear.specs.Known.{Known, given, denied, composed, as_given}
 use Rattle.tv_linear.specs.Refutation.{Refutes}
-use Rattle.tv_linear.specs.Covers.{ShownAt, IsMetCover}
+use Rattle.tv_linear.specs.Covers.{no_target, ShownAt, IsMetCover}
 use Rattle.tv_linear.specs.Terms.{terms_after, draw_terms}
 use Rattle.tv_cases.specs.LinearCases.{LinearCase}
-use Rattle.tv_cert.specs.Targets.{no_target}
 
 -- the cases from a location, in order
 abbrev pub cases_from : ℕ → List LinearCase → List LinearCase

@@ -1,7 +1,5 @@
-use Rattle.std.specs.Prelude.{false, ℕ, ◌<◌, ◌^◌, [], length}
-use Rattle.tv_formula.specs.declared.tree.Path.TheVariants.{Every}
-use Rattle.tv_formula.specs.declared.tree.Shape.TheVariants.{Weak}
-use Rattle.tv_formula.specs.Properties.{Property, truth, at, negated, fix}
+use Rattle.std.specs.Prelude.{ℕ, ◌<◌, ◌^◌, [], length}
+use Rattle.tv_formula.specs.Forms.{never_at}
 use Rattle.tv_linear.specs.declared.cover.CoverTree.{CoverTree}
 use Rattle.tv_cases.specs.LinearCases.{CaseSystem}
 use Rattle.tv_cert.specs.declared.node.Node.{Node}
@@ -13,10 +11,6 @@ use Rattle.tv_cert.specs.Fits.{NodeFits}
 -- what a certificate of a formula without comparisons is about
 abbrev pub about_of : CaseSystem → About
 about_of system = record { system = system; tests = λ r a b. [] }
-
--- on every run, always, the location is another than this one
-abbrev pub never_at : ℕ → Property
-never_at l = fix Every Weak (negated (at l)) (truth false)
 
 -- the certificate fits the cases and the location, and its nodes and obligations can be counted
 pub record PlainFits (system : CaseSystem) (location : ℕ) (root : Node) (start : CoverTree) : Type 0 where

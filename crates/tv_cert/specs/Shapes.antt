@@ -20,7 +20,7 @@ use Rattle.tv_cert.specs.declared.node.Node.{Node, Node', Row_of-Node, end_of-No
 use Rattle.tv_cert.specs.declared.node.Verdict.{Verdict}
 use Rattle.tv_cert.specs.declared.node.Verdict.TheVariants.{Proved, Disproved}
 use Rattle.tv_cert.specs.Pieces.{place_of, rows_of, ranks_of, goes, pieces_at}
-use Rattle.tv_cert.specs.Targets.{no_target}
+use Rattle.tv_linear.specs.Covers.{no_target}
 use Rattle.tv_cert.specs.Choices.{cases_from}
 use Rattle.tv_cert.specs.Obligations.{About, Owed, a_cover, a_choice, a_point, own_of}
 use Rattle.tv_cert.specs.Nodes.{parts, kid_pieces, root_entry}

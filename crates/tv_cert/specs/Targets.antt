@@ -25,10 +25,6 @@ owed_lists targets k (suc j) = None
 abbrev pub owed_nothing : ℕ → ℕ → Option (List Known)
 owed_nothing = owed_lists ([] ∷ [])
 
--- there is no target
-abbrev pub no_target : ℕ → ℕ → Option (List Known)
-no_target k j = None
-
 -- no fall is owed: j is 0
 abbrev pub no_fall : Marked → ℕ → Option (List Known)
 no_fall q zero = Some []

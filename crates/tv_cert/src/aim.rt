@@ -1,7 +1,7 @@
 ghost use Rattle.std.specs.Prelude.{◌≡◌, [], IfOk};
 ghost use Rattle.tv_cert.specs.AimViews.{aim_states};
 ghost use Rattle.tv_cert.specs.Statements.{stated};
-ghost use Rattle.tv_cert.specs.Plain.{never_at};
+ghost use Rattle.tv_formula.specs.Forms.{never_at};
 
 use std::alloc::{AllocError, Global};
 use tv_formula::{Path, Shape};

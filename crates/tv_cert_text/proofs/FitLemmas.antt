@@ -21,7 +21,8 @@ use Rattle.tv_cert.specs.Choices.{cases_from}
 use Rattle.tv_cert.specs.Obligations.{About, own_of, piece_of, step_of, steps_of, fix_of}
 use Rattle.tv_cert.specs.Nodes.{size, entries, obligations, parts, pieces_of, root_entry}
 use Rattle.tv_cert.specs.Listed.{pieces_list, own_entries}
-use Rattle.tv_cert.specs.Plain.{about_of, never_at, PlainFits}
+use Rattle.tv_formula.specs.Forms.{never_at}
+use Rattle.tv_cert.specs.Plain.{about_of, PlainFits}
 use Rattle.tv_cert.specs.Shapes.{HasShape}
 use Rattle.tv_cert.proofs.ShapeFits.{shape_fits}
 use Rattle.tv_cert.proofs.NodeLemmas.{entries_are, own_are, size_is, sizes_list, kid_list, kids_of, proofs_list, length-paired}

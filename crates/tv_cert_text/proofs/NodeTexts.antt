@@ -30,7 +30,8 @@ use Rattle.tv_cert.specs.Choices.{cases_from}
 use Rattle.tv_cert.specs.Obligations.{About, Obligation, a_cover, own_of, piece_of, atom_of, step_of, fix_of, truth_targets, case_change}
 use Rattle.tv_cert.specs.Nodes.{parts}
 use Rattle.tv_cert.specs.Listed.{pieces_list}
-use Rattle.tv_cert.specs.Plain.{about_of, never_at}
+use Rattle.tv_formula.specs.Forms.{never_at}
+use Rattle.tv_cert.specs.Plain.{about_of}
 use Rattle.tv_cert.specs.Shapes.{owed_count, CoverShape, ProofShape, PieceShape, OwnShape, HasShape, IsNormalHead, may_be_done, may_rank}
 use Rattle.tv_cert.proofs.NodeLemmas.{kids_of, proofs_list, out_is, pieces_are}
 use Rattle.tv_cert.proofs.ShapeLemmas.{shapes_list, own_shape, kid_shapes, has_shape}

@@ -15,7 +15,8 @@ use Rattle.tv_cert.specs.declared.plain.Plain.{Plain}
 use Rattle.tv_cert.specs.Targets.{owed_into, no_fall}
 use Rattle.tv_cert.specs.Nodes.{pieces_of}
 use Rattle.tv_cert.specs.Listed.{pieces_list}
-use Rattle.tv_cert.specs.Plain.{about_of, never_at}
+use Rattle.tv_formula.specs.Forms.{never_at}
+use Rattle.tv_cert.specs.Plain.{about_of}
 use Rattle.tv_cert.specs.Shapes.{owed_count, CoverShape, VerdictShape}
 use Rattle.tv_cert.proofs.NodeLemmas.{pieces_are}
 use Rattle.tv_cert_text.specs.declared.fault.PlainFault.{PlainFault}

@@ -8,7 +8,8 @@ use Rattle.tv_cases.specs.LinearCases.{CaseSystem}
 use Rattle.tv_cert.specs.declared.node.Marked.{Marked}
 use Rattle.tv_cert.specs.declared.node.Node.{Node}
 use Rattle.tv_cert.specs.Listed.{pieces_list}
-use Rattle.tv_cert.specs.Plain.{about_of, never_at}
+use Rattle.tv_formula.specs.Forms.{never_at}
+use Rattle.tv_cert.specs.Plain.{about_of}
 use Rattle.tv_cert.specs.Shapes.{PieceShape, HasShape}
 use Rattle.tv_cert.proofs.NodeLemmas.{proofs_list}
 use Rattle.tv_cert_text.specs.declared.fault.PlainFault.{PlainFault}

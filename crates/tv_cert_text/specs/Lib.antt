@@ -5,3 +5,4 @@ pub mod Parts
 pub mod Wanted
 pub mod Targets
 pub mod Nodes
+pub mod Writing

@@ -7,7 +7,8 @@ use Rattle.tv_cases.specs.LinearCases.{CaseSystem}
 use Rattle.tv_cert.specs.declared.node.Node.{Node}
 use Rattle.tv_cert.specs.declared.node.Proof.{Proof}
 use Rattle.tv_cert.specs.Nodes.{pieces_of}
-use Rattle.tv_cert.specs.Plain.{about_of, never_at}
+use Rattle.tv_formula.specs.Forms.{never_at}
+use Rattle.tv_cert.specs.Plain.{about_of}
 use Rattle.tv_cert.specs.Shapes.{HasShape}
 use Rattle.tv_cert_text.specs.declared.fault.PlainFault.{PlainFault}
 use Rattle.tv_cert_text.specs.CertificateLines.{proof_lines, node_lines}

@@ -7,7 +7,8 @@ use Rattle.tv_cert.specs.declared.node.Verdict.TheVariants.{Proved}
 use Rattle.tv_cert.specs.declared.plain.Plain.{Plain}
 use Rattle.tv_cert.specs.Pieces.{pieces_at}
 use Rattle.tv_cert.specs.Nodes.{pieces_of}
-use Rattle.tv_cert.specs.Plain.{about_of, never_at}
+use Rattle.tv_formula.specs.Forms.{never_at}
+use Rattle.tv_cert.specs.Plain.{about_of}
 use Rattle.tv_cert.specs.Shapes.{HasShape, VerdictShape}
 use Rattle.tv_cert_text.specs.declared.fault.PlainFault.{PlainFault}
 use Rattle.tv_cert_text.specs.declared.fault.PlainFault.TheVariants.{Unbuilt, Memory}

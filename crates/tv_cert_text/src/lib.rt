@@ -6,6 +6,7 @@ mod fault;
 mod lines;
 mod pieces;
 mod plain;
+mod writing;
 
 pub use fault::PlainFault;
 pub use plain::read_plain_certificate;

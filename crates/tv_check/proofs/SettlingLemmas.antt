@@ -41,10 +41,6 @@ went (o ∷ os) more v w (one {t = u} p h) =
           ∙ ap (λ es. es ++ paired more w.proofs.now) (sym (paired-one o os v.proofs.now));
     }
 
-nothing_more : (os : List Obligation) → os ++ [] ≡ os
-nothing_more [] = refl
-nothing_more (o ∷ os) = ap (λ xs. o ∷ xs) (nothing_more os)
-
 -- all are met
 pub settled_all : (os : List Obligation) (v w : Settler) → Passed Settles v os w → AllMet (paired os v.proofs.now) × (w.seen ≡ v.seen + length (paired os v.proofs.now))
 settled_all os v w h =

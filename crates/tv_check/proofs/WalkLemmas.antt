@@ -1,4 +1,5 @@
 use Rattle.std.proofs.Common.{◌≡◌, ◌^◌, ℕ, zero, suc, ◌+◌, ◌<◌, ◌≤◌, List, [], ◌∷◌, ◌++◌, length, drop, get_or, arith, refl, sym, ap, ◌∙◌, subst, append_assoc, length-append, drop-cons}
+use Rattle.std.proofs.lemmas.List.{append-nil}
 use Rattle.tv_cases.specs.LinearCases.{CaseSystem}
 use Rattle.tv_cert.specs.declared.node.Node.{Node}
 use Rattle.tv_cert.specs.Obligations.{Entry, AllMet}
@@ -125,10 +126,6 @@ drop_past [] (suc i) h = refl
 drop_past (x ∷ xs) zero h = absurd (omega arith)
 drop_past (x ∷ xs) (suc i) h = drop_past xs i (omega arith)
 
-append_nil : (es : List Entry) → es ++ [] ≡ es
-append_nil [] = refl
-append_nil (e ∷ es) = ap (λ ss. e ∷ ss) (append_nil es)
-
 no_kids : (next : ℕ) (system : CaseSystem) (ss : Statements) → said_list next system ss [] ≡ []
 no_kids next system no_statement = refl
 no_kids next system (statement s ss) = refl
@@ -142,7 +139,7 @@ pub record Ended (system : CaseSystem) (ss : Statements) (kids : List Node) (sta
 pub Stands_ends : (system : CaseSystem) (ss : Statements) (kids : List Node) (start from next seen i : ℕ) → length kids ≤ i → Stands system ss kids start from next seen i → Ended system ss kids start from next seen
 Stands_ends system ss kids start from next seen i l h =
     let last = drop_past kids i l in
-    let all : said_list start system ss kids ≡ h.done = h.whole ∙ ap (λ ks. h.done ++ said_list next system (past i ss) ks) last ∙ ap (λ es. h.done ++ es) (no_kids next system (past i ss)) ∙ append_nil h.done in
+    let all : said_list start system ss kids ≡ h.done = h.whole ∙ ap (λ ks. h.done ++ said_list next system (past i ss) ks) last ∙ ap (λ es. h.done ++ es) (no_kids next system (past i ss)) ∙ append-nil h.done in
     let n = h.nodes in
     let z : sizes_list (drop i kids) ≡ 0 = ap sizes_list last in
     record {

@@ -2,11 +2,11 @@ ghost use Rattle.std.specs.Prelude.{◌≡◌, ◌↔◌, ℕ, ◌++◌, ◌∷�
 ghost use Rattle.std.specs.Option.{option_map};
 ghost use Rattle.tv_linear.specs.Linear.{Linear};
 ghost use Rattle.tv_linear.specs.Known.{Known};
-ghost use Rattle.tv_linear.specs.Covers.{ShownAt};
+ghost use Rattle.tv_linear.specs.Covers.{no_target, ShownAt};
 ghost use Rattle.tv_refute.specs.Frames.{known_at};
 ghost use Rattle.tv_cases.specs.LinearCases.{LinearCase};
 ghost use Rattle.tv_cases.specs.Views.{case_view, case_views};
-ghost use Rattle.tv_cert.specs.Targets.{owed_into, no_target, owed_nothing};
+ghost use Rattle.tv_cert.specs.Targets.{owed_into, owed_nothing};
 ghost use Rattle.tv_cert.specs.Choices.{NoStepMet, TakeMet, IsMetChoice, cases_from, drawn_guards, drawn_change};
 ghost use Rattle.tv_cert.specs.Pieces.{place_of};
 ghost use Rattle.tv_cert.specs.Owing.{destination_owes};

@@ -7,7 +7,7 @@ use Rattle.tv_linear.proofs.KnownLemmas.{met-as_given}
 use Rattle.tv_linear.proofs.PlainLists.{length-unit, unit-narrow}
 use Rattle.tv_linear.proofs.RowValues.{value-column_row, value-denial}
 use Rattle.tv_linear.specs.Arithmetic.{unit}
-use Rattle.tv_linear.specs.Covers.{IsMetCover}
+use Rattle.tv_linear.specs.Covers.{no_target, IsMetCover}
 use Rattle.tv_linear.specs.declared.cover.CoverTree.{CoverTree, Split', Empty, Into}
 use Rattle.tv_linear.specs.Refutation.{Refutes}
 use Rattle.tv_linear.specs.Depth.{splits}
@@ -23,7 +23,7 @@ use Rattle.tv_farkas.specs.declared.emptying.Found.{Found}
 use Rattle.tv_farkas.specs.declared.emptying.Found.TheVariants.{Tree, Whole}
 use Rattle.tv_farkas.specs.RefutationSystem.{IsPointOf}
 use Rattle.tv_farkas.specs.Paths.{TakenOnce, first, IsFirstFraction, IsWholePoint, IsPointSplit, IsCoordinateSplit, SplitsAt, at_most_row, at_least_row, rows_after}
-use Rattle.tv_farkas.specs.Emptying.{no_target, IsEmptyFault}
+use Rattle.tv_farkas.specs.Emptying.{IsEmptyFault}
 use Rattle.tv_farkas.specs.Stretching.{IsFloor, IsTakenBy, stretched, Searches, IsSide, AreSides, AreDivided, IsSplitOf, rows_of}
 use Rattle.tv_farkas.specs.Searching.{SearchesAt, IsTreeOf, IsFound, IsSideFound, IsSideTree, IsWholeFound, IsFractionAt, MaySplit, IsShown, IsHandedOn}
 use Rattle.tv_farkas.specs.Refuting.{IsRefusal, IsSystemFault}

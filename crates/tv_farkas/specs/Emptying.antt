@@ -1,7 +1,7 @@
 use Rattle.std.specs.Prelude.{◌≡◌, ℕ, ◌<◌, List, length, get_or, ℤ, pos, ◌*ℤ◌, Option, None}
 use Rattle.tv_linear.specs.Linear.{Linear}
 use Rattle.tv_linear.specs.Known.{Known, as_given}
-use Rattle.tv_linear.specs.Covers.{IsMetCover}
+use Rattle.tv_linear.specs.Covers.{no_target, IsMetCover}
 use Rattle.tv_farkas.specs.declared.branch.Branch.{Branch}
 use Rattle.tv_farkas.specs.declared.emptied.Emptied.{Emptied}
 use Rattle.tv_farkas.specs.declared.emptied.Emptied.TheVariants.{Tree, Whole}
@@ -10,10 +10,6 @@ use Rattle.tv_farkas.specs.declared.fault.CoverFault.TheVariants.{Splits, Solve,
 use Rattle.tv_farkas.specs.RefutationSystem.{IsPointOf}
 use Rattle.tv_farkas.specs.Refuting.{IsSystemFault}
 use Rattle.tv_farkas.specs.Paths.{TakenOnce, IsWholePoint, IsCoordinateSplit, IsPath, rows_after}
-
--- no target is offered
-abbrev pub no_target : ℕ → ℕ → Option (List Known)
-no_target target fall = None
 
 -- a met cover without targets, or a whole point
 abbrev pub IsEmptied : ℕ → List Linear → Emptied → Type 0

@@ -2,7 +2,7 @@ use Rattle.std.specs.Prelude.{◌≡◌, ℕ, ◌<◌, ◌≤◌, List, [], ◌�
 use Rattle.std.specs.List.{Contains}
 use Rattle.tv_linear.specs.Linear.{Linear, columns, IsScaledPoint}
 use Rattle.tv_linear.specs.Known.{Known, as_given}
-use Rattle.tv_linear.specs.Covers.{IsMetCover}
+use Rattle.tv_linear.specs.Covers.{no_target, IsMetCover}
 use Rattle.tv_linear.specs.Depth.{splits}
 use Rattle.tv_linear.specs.declared.cover.CoverTree.{CoverTree}
 use Rattle.tv_tableau.specs.Outcomes.{IsShort}
@@ -15,7 +15,7 @@ use Rattle.tv_farkas.specs.declared.emptying.Found.TheVariants.{Tree, Whole}
 use Rattle.tv_farkas.specs.declared.emptying.Place.{Place}
 use Rattle.tv_farkas.specs.RefutationSystem.{IsPointOf}
 use Rattle.tv_farkas.specs.Paths.{IsWholeAt, IsWholePoint, IsPointSplit, rows_after}
-use Rattle.tv_farkas.specs.Emptying.{no_target, IsWholePointOf}
+use Rattle.tv_farkas.specs.Emptying.{IsWholePointOf}
 use Rattle.tv_farkas.specs.Stretching.{Searches, IsSide, AreSides, rows_of}
 
 abbrev pub SearchesAt : ℕ → List Linear → List Bool → Place → Type 0

@@ -22,3 +22,7 @@ IsMetCover n owed known (Split' r p holds q fails) =
     IsMetCover n owed (known ++ given r ∷ []) holds × IsMetCover n owed (known ++ denied (given r) ∷ []) fails
 IsMetCover n owed known (Empty ms) = Refutes n known ms.items
 IsMetCover n owed known (Into target fall lists) = ShownAt n known (owed target fall) (map (λ l. l.items) lists.items)
+
+-- there is no target
+abbrev pub no_target : ℕ → ℕ → Option (List Known)
+no_target k j = None

@@ -10,14 +10,13 @@ use Rattle.tv_linear.specs.declared.choice.ChoiceTree.{ChoiceTree, Split', Empty
 use Rattle.tv_linear.specs.Linear.{Linear, columns}
 use Rattle.tv_linear.specs.Known.{Term, kept, put, Known, given, denied, composed, known_value, term_value, IsKnownMet, as_given}
 use Rattle.tv_linear.specs.Terms.{table, terms_after, draw_terms}
-use Rattle.tv_linear.specs.Covers.{IsMetCover}
+use Rattle.tv_linear.specs.Covers.{no_target, IsMetCover}
 use Rattle.tv_linear.proofs.Covered.{covered, shown_at_met}
 use Rattle.tv_linear.proofs.KnownLemmas.{refuted, met_or_denied, value-composed, value-denied, value-given, met-as_given}
 use Rattle.tv_program.specs.Steps.{State}
 use Rattle.tv_cases.specs.LinearCases.{LinearCase, CaseSystem, CaseSteps}
 use Rattle.tv_cert.specs.declared.node.Marked.{Marked}
 use Rattle.tv_cert.specs.Pieces.{rows_of, InMarked}
-use Rattle.tv_cert.specs.Targets.{no_target}
 use Rattle.tv_cert.specs.Choices.{drawn_change, drawn_guards, cases_from, TakeMet, NoStepMet, IsMetChoice, ChoiceFits}
 use Rattle.tv_cert.proofs.PieceLemmas.{test_true}
 use Rattle.tv_sound.proofs.Membership.{got_in, zip_some, Contains-filter}

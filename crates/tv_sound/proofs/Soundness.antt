@@ -25,7 +25,8 @@ use Rattle.tv_cert.specs.Targets.{no_fall}
 use Rattle.tv_cert.specs.Obligations.{About, IsMetEntry, AllMet, PointMet}
 use Rattle.tv_cert.specs.Nodes.{pieces_of, entries, root_entry, obligations}
 use Rattle.tv_cert.specs.Fits.{NodeFits}
-use Rattle.tv_cert.specs.Plain.{about_of, never_at, PlainFits, PlainMet}
+use Rattle.tv_formula.specs.Forms.{never_at}
+use Rattle.tv_cert.specs.Plain.{about_of, PlainFits, PlainMet}
 use Rattle.tv_cert.proofs.PieceLemmas.{piece_got}
 use Rattle.tv_sound.proofs.Entering.{entered, wide_after}
 use Rattle.tv_sound.proofs.NodesSound.{TestsShow, node_sound, AllMet-left, AllMet-right}

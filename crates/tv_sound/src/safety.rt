@@ -7,7 +7,8 @@ ghost use Rattle.tv_cert.specs.declared.node.Verdict.TheVariants.{Proved};
 ghost use Rattle.tv_cert.specs.AimViews.{aim_states};
 ghost use Rattle.tv_cert.specs.Statements.{stated};
 ghost use Rattle.tv_cert.specs.Nodes.{obligations};
-ghost use Rattle.tv_cert.specs.Plain.{PlainFits, about_of, never_at};
+ghost use Rattle.tv_formula.specs.Forms.{never_at};
+ghost use Rattle.tv_cert.specs.Plain.{PlainFits, about_of};
 ghost use Rattle.tv_check.specs.Walks.{Checks};
 
 use tv_cases::Cases;

@@ -1,7 +1,7 @@
 use Rattle.std.proofs.Common.{length, arith, ap, sym, subst}
 use Rattle.tv_linear.specs.Known.{as_given}
-use Rattle.tv_linear.specs.Covers.{IsMetCover}
-use Rattle.tv_farkas.specs.Emptying.{no_target, IsEmptyFault}
+use Rattle.tv_linear.specs.Covers.{no_target, IsMetCover}
+use Rattle.tv_farkas.specs.Emptying.{IsEmptyFault}
 use Rattle.tv_farkas.specs.Stretching.{IsTakenBy}
 use Rattle.tv_farkas.specs.Searching.{IsFound}
 use Rattle.tv_farkas.proofs.SearchLemmas.{first_search, tree_met, tree_none}

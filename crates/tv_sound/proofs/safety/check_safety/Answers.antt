@@ -10,7 +10,8 @@ use Rattle.tv_cert.specs.Statements.{Statement, stated}
 use Rattle.tv_cert.specs.Said.{said_entries, HasParts}
 use Rattle.tv_cert.specs.AimViews.{aim_states}
 use Rattle.tv_cert.specs.Nodes.{entries, pieces_of, root_entry, obligations}
-use Rattle.tv_cert.specs.Plain.{PlainFits, about_of, never_at}
+use Rattle.tv_formula.specs.Forms.{never_at}
+use Rattle.tv_cert.specs.Plain.{PlainFits, about_of}
 use Rattle.tv_cert.proofs.SaidLemmas.{entries-stated}
 use Rattle.tv_cert.proofs.SaidNodes.{fits_parts}
 use Rattle.tv_check.specs.declared.walking.Failing.{Failing}
