@@ -9,3 +9,4 @@ pub mod JoinedLemmas
 pub mod SaidNodes
 pub mod AimLemmas
 pub mod AimedLemmas
+pub mod RoomLemmas

@@ -24,6 +24,7 @@ use Rattle.tv_cert.specs.Listed.{pieces_list, own_entries}
 use Rattle.tv_formula.specs.Forms.{never_at}
 use Rattle.tv_cert.specs.Plain.{about_of, PlainFits}
 use Rattle.tv_cert.specs.Shapes.{HasShape}
+use Rattle.tv_cert.proofs.RoomLemmas.{few_joined, fix_few}
 use Rattle.tv_cert.proofs.ShapeFits.{shape_fits}
 use Rattle.tv_cert.proofs.NodeLemmas.{entries_are, own_are, size_is, sizes_list, kid_list, kids_of, proofs_list, length-paired}
 use Rattle.tv_cert_text.specs.CertificateLines.{piece_lines, proof_lines, node_lines}
@@ -64,33 +65,6 @@ root_size root h =
 
 -- ---- room
 
-length_cond : {A : Type 0} (b : Bool) (x : A) (xs : List A) → length (cond b (x ∷ xs) xs) ≤ suc (length xs)
-length_cond true x xs = omega arith
-length_cond false x xs = omega arith
-
-few_left : {A : Type 0} (f : A → Bool) (xs : List A) → length (filter f xs) ≤ length xs
-few_left f [] = omega arith
-few_left f (x ∷ xs) = omega (arith, few_left f xs, length_cond (f x) x (filter f xs))
-
--- each element gives few, so all of them do
-few_joined : {A B : Type 0} (f : A → List B) (most : ℕ) → ((x : A) → length (f x) ≤ most) → (xs : List A) → length (flat_map f xs) ≤ length xs * most
-few_joined f most each [] = omega arith
-few_joined f most each (x ∷ xs) =
-    let joined = length-append (f x) (flat_map f xs) in
-    let first = each x in
-    let rest = few_joined f most each xs in
-    omega (arith, joined, first, rest)
-
-steps_few : (number : ℕ) (about : About) (p : Marked) (ps : List Marked) → length (steps_of number about p ps (λ c. no_fall)) ≤ length about.system.cases
-steps_few number about p ps =
-    let many = length-map (cases_from (place_of p) about.system.cases) (step_of number about p ps (λ c. no_fall)) in
-    let few = few_left (λ c. c.from == place_of p) about.system.cases in
-    omega (arith, many, few)
-
-fix_few : (number : ℕ) (about : About) (ps a b : List Marked) (p : Marked) (go : Bool) → length (fix_of number about Every Weak ps a b p go) ≤ 1 + length about.system.cases
-fix_few number about ps a b p false = omega arith
-fix_few number about ps a b p true = omega (arith, steps_few number about p ps)
-
 own_few : (number : ℕ) (about : About) (f : Property) (most : ℕ) (node : Node) → ((p : Marked) → length (piece_of number about f (pieces_list node) (map pieces_list (kids_of node)) p) ≤ most) → length (own_entries number about f node) ≤ length (pieces_list node) * most
 own_few number about f most node each =
     let os = own_of number about f (pieces_list node) (map pieces_list (kids_of node)) in
@@ -104,8 +78,8 @@ atom_few number about f node atom each few leaf =
     let own = own_few number about f 1 node (λ p. each p (pieces_list node) (map pieces_list (kids_of node))) in
     omega (arith, whole, own, few)
 
-bounded : (a b : ℕ) → a < 2 ^ 32 → b ≤ 8193 → a * b < 2 ^ 46
-bounded a b small few = (let h = row_fits a b (2 ^ 32) 8193 small few in omega (arith, h))
+bounded : (a b : ℕ) → a < 2 ^ 32 → b ≤ 8194 → a * b < 2 ^ 46
+bounded a b small few = (let h = row_fits a b (2 ^ 32) 8194 small few in omega (arith, h))
 
 root_few : (system : CaseSystem) (l : ℕ) (root : Node) (start : CoverTree) → AreCases system → IsFewRoot root → length (obligations (about_of system) (never_at l) root (Proved start)) < 2 ^ 64
 root_few system l root start limits h =
@@ -114,13 +88,13 @@ root_few system l root start limits h =
     let hold = atom_few 1 about (negated (at l)) h.hold refl (λ p ps kids. omega arith) h.hold_atom.few h.hold_atom.leaf in
     let end = atom_few (1 + size h.hold) about (truth false) h.end refl (λ p ps kids. omega arith) h.end_atom.few h.end_atom.leaf in
     let below = entries_are 0 about f root ∙ ap (λ kids. kid_list 1 about (parts f) kids ++ own_entries 0 about f root) h.kids in
-    let own = own_few 0 about f (1 + length system.cases) root (λ p. fix_few 0 about (pieces_list root) _ _ p (goes p)) in
+    let own = own_few 0 about f (2 + length system.cases) root (λ p. fix_few 0 about Every Weak (pieces_list root) _ _ p (goes p)) in
     let whole = length-append (entries 0 about f root) (root_entry about (pieces_of root) (Proved start) ∷ []) in
     let parted = ap length below ∙ length-append (kid_list 1 about (parts f) (h.hold ∷ h.end ∷ [])) (own_entries 0 about f root) in
     let kids = length-append (entries 1 about (negated (at l)) h.hold) (entries (1 + size h.hold) about (truth false) h.end ++ []) in
     let last = length-append (entries (1 + size h.hold) about (truth false) h.end) [] in
     let cases : length system.cases ≤ 8192 = limits.few_cases in
-    let product = bounded (length (pieces_list root)) (1 + length system.cases) h.few (omega (arith, cases)) in
+    let product = bounded (length (pieces_list root)) (2 + length system.cases) h.few (omega (arith, cases)) in
     omega (arith, whole, parted, kids, last, hold, end, own, product)
 
 pub plain_fits : (system : CaseSystem) (l : ℕ) (root : Node) (start : CoverTree) → AreCases system → HasShape (about_of system) (never_at l) root → IsFewRoot root → PlainFits system l root start
