@@ -1,0 +1,5 @@
+pub mod OfferedLemmas
+pub mod ShaperLemmas
+pub mod CountLemmas
+pub mod NumberLemmas
+pub mod StationLemmas

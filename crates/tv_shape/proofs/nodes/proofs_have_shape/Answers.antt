@@ -1,0 +1,31 @@
+use Rattle.std.proofs.Common.{◌≡◌, ◌∙◌, length, map, sym, subst}
+use Rattle.tv_cases.specs.Systems.{cases_of}
+use Rattle.tv_cert.specs.AimViews.{aim_states}
+use Rattle.tv_cert.specs.Listed.{pieces_list}
+use Rattle.tv_cert.specs.Said.{said_own}
+use Rattle.tv_cert.proofs.PieceLemmas.{test_true, true_test}
+use Rattle.tv_shape.specs.Parts.{children_of, proofs_of}
+use Rattle.tv_shape.proofs.ShaperLemmas.{Offered, taken_all, taken_fails, none_left, left_none}
+use Rattle.tv_shape.proofs.nodes.proofs_have_shape.Goals as goal
+
+pub returns-then-not-visit_pieces : goal.returns-then-not-visit_pieces
+returns-then-not-visit_pieces c =
+    let system = cases_of c.args.about.now in
+    let s = aim_states c.args.aim.now in
+    let node = c.args.node.now in
+    let os = said_own 0 system s c.deref-2.result.now (map pieces_list c.deref-3.result.now) in
+    let same : Offered os c.deref.result.now ≡ Offered (said_own 0 system s (pieces_list node) (map pieces_list (children_of node))) (proofs_of node) = (λ i. Offered (said_own 0 system s (c.deref-2.ensures.value i) (map pieces_list (c.deref-3.ensures.value i))) (c.deref.ensures.value i)) in
+    (λ t. cc, λ h. absurd (taken_fails os _ c.visit_pieces.new.visitor c.if-not-visit_pieces.ensures.0 (subst (λ (x : Type 0). x) (sym same) h)))
+
+pub returns : goal.returns
+returns c =
+    let system = cases_of c.args.about.now in
+    let s = aim_states c.args.aim.now in
+    let node = c.args.node.now in
+    let os = said_own 0 system s c.deref-2.result.now (map pieces_list c.deref-3.result.now) in
+    let same : Offered os c.deref.result.now ≡ Offered (said_own 0 system s (pieces_list node) (map pieces_list (children_of node))) (proofs_of node) = (λ i. Offered (said_own 0 system s (c.deref-2.ensures.value i) (map pieces_list (c.deref-3.ensures.value i))) (c.deref.ensures.value i)) in
+    let all = taken_all os _ c.visit_pieces.new.visitor c.if-not-visit_pieces.ensures.0 in
+    let left = c.visit_pieces.new.visitor.proofs.now in (
+      λ t. subst (λ (x : Type 0). x) same (all.0 (none_left left (true_test (length left) 0 (sym c.is_empty.ensures ∙ t)))),
+      λ h. c.is_empty.ensures ∙ test_true (length left) 0 (left_none left (all.1 (subst (λ (x : Type 0). x) (sym same) h))),
+    )

@@ -1,0 +1,28 @@
+-- How many rows are owed on entering a target by a fall.
+use Rattle.std.specs.Prelude.{ℕ, List, map, Option, None, Some}
+use Rattle.std.specs.Borrow.{Bor}
+use Rattle.std.specs.List.{flat_map}
+use Rattle.tv_linear.specs.Linear.{Linear}
+use Rattle.tv_linear.specs.Known.{Known, given}
+use Rattle.tv_cert.specs.declared.node.Marked.{Marked}
+use Rattle.tv_cert.specs.Listed.{pieces_list}
+use Rattle.tv_cert.specs.Obligations.{truth_targets}
+use Rattle.tv_cert.specs.Pieces.{ranks_of}
+use Rattle.tv_cert.specs.Shapes.{owed_count}
+use Rattle.tv_linear.specs.Covers.{no_target}
+use Rattle.tv_cert.specs.Targets.{owed_into, owed_lists, no_fall, fall_from}
+use Rattle.tv_shape.specs.declared.targets.Targets.{Targets}
+use Rattle.tv_shape.specs.declared.targets.Targets.TheVariants as targets
+
+-- the falls that are owed from a piece, or none
+abbrev pub falls_past : (Linear → Known) → Option (Bor Marked) → Marked → ℕ → Option (List Known)
+falls_past change None = no_fall
+falls_past change (Some p) = fall_from change (ranks_of p.now)
+
+-- how many rows are owed; it is the same whatever the rows become on the way
+abbrev pub counts_of : Targets → ℕ → ℕ → Option ℕ
+counts_of targets.Nowhere = owed_count no_target
+counts_of (targets.Lists lists) = owed_count (owed_lists (map (λ l. l.items) lists.now))
+counts_of (targets.Truth truth) = owed_count (owed_lists (truth_targets truth))
+counts_of (targets.Joined nodes location) = owed_count (owed_into (flat_map (λ a. a) (map pieces_list nodes.now)) location given no_fall)
+counts_of (targets.Pieces from into location) = owed_count (owed_into into.now location given (falls_past given from))

@@ -1,0 +1,17 @@
+//! The shape of certificates: whether each node has the parts that its formula asks for, before any obligation is looked at.
+#![tactic(auto)]
+
+mod choices;
+mod columns;
+mod covers;
+mod depths;
+mod fault;
+mod narrow;
+mod nodes;
+mod offered;
+mod pieces;
+mod shaper;
+mod targets;
+mod walking;
+
+pub use fault::ShapeFault;

@@ -1,0 +1,89 @@
+ghost use Rattle.std.specs.Prelude.{◌≡◌, ◌↔◌, ◌+◌, ◌≤◌, IsTrue};
+ghost use Rattle.tv_linear.specs.Depth.{splits};
+ghost use Rattle.tv_linear.specs.ChoiceDepth.{choice_splits};
+ghost use Rattle.tv_cases.specs.Systems.{cases_of};
+ghost use Rattle.tv_cert.specs.declared.node.Proof.TheVariants.{Covered, Chosen};
+ghost use Rattle.tv_cert.specs.Owing.{owed_by};
+ghost use Rattle.tv_cert.specs.Shapes.{ProofShape};
+ghost use Rattle.tv_shape.specs.Offered.{FirstShape};
+
+use crate::choices::choice_has_shape;
+use crate::covers::cover_has_shape;
+use crate::targets::{Targets, pieces_into};
+use tv_cases::Cases;
+use tv_cert::{Owes, Proof};
+use tv_linear::{ChoiceTree, CoverTree};
+
+/// Whether the cover has the shape that is owed.
+fn cover_is_owed(about: &Cases, owes: &Owes, tree: &CoverTree) -> bool
+    requires { splits tree.now ≤ 128 }
+    ensures { IsTrue result ↔ ProofShape (owed_by (cases_of about.now) owes.now) (Covered tree.now) }
+{
+    let columns = about.variables() as usize;
+    match owes {
+        Owes::Rows { piece, lists } => {
+            let known = piece.piece.poly.rows.len() as u128;
+            cover_has_shape(tree, columns, known, &Targets::Lists(lists))
+        }
+        Owes::Truth { piece, truth } => {
+            let known = piece.piece.poly.rows.len() as u128;
+            cover_has_shape(tree, columns, known, &Targets::Truth(*truth))
+        }
+        Owes::Pieces { piece, into } => {
+            let known = piece.piece.poly.rows.len() as u128;
+            let location = piece.piece.location;
+            let targets = pieces_into(piece, into, location, false);
+            cover_has_shape(tree, columns, known, &targets)
+        }
+        Owes::Joined { piece, nodes } => {
+            let known = piece.piece.poly.rows.len() as u128;
+            let location = piece.piece.location;
+            cover_has_shape(tree, columns, known, &Targets::Joined { nodes, location })
+        }
+        Owes::Step {
+            piece,
+            case,
+            into,
+            falls,
+        } => {
+            let known = piece.piece.poly.rows.len() as u128 + case.guards.rows.len() as u128;
+            let targets = pieces_into(piece, into, case.to, *falls);
+            cover_has_shape(tree, columns + case.draws as usize, known, &targets)
+        }
+        Owes::Choice { .. } => false,
+    }
+}
+
+/// Whether the choice has the shape that is owed.
+fn choice_is_owed(about: &Cases, owes: &Owes, tree: &ChoiceTree) -> bool
+    requires { choice_splits tree.now ≤ 128 }
+    ensures { IsTrue result ↔ ProofShape (owed_by (cases_of about.now) owes.now) (Chosen tree.now) }
+{
+    match owes {
+        Owes::Choice {
+            piece,
+            stop,
+            destination,
+        } => choice_has_shape(
+            tree,
+            about.variables(),
+            about.list(),
+            piece,
+            *stop,
+            destination,
+            piece.piece.poly.rows.len() as u128,
+        ),
+        _ => false,
+    }
+}
+
+/// Whether the first of the proofs has the shape that is owed.
+pub fn first_has_shape(about: &Cases, owes: &Owes, proofs: &[Proof]) -> bool
+    ensures { IsTrue result ↔ FirstShape (owed_by (cases_of about.now) owes.now) proofs.now }
+{
+    match proofs {
+        [] => false,
+        [Proof::Covered(cover), ..] => cover_is_owed(about, owes, cover.tree()),
+        [Proof::Chosen(choice), ..] => choice_is_owed(about, owes, choice.tree()),
+    }
+}
