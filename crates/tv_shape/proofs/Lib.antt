@@ -3,3 +3,4 @@ pub mod ShaperLemmas
 pub mod CountLemmas
 pub mod NumberLemmas
 pub mod StationLemmas
+pub mod FitLemmas

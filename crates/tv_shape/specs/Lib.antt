@@ -4,3 +4,4 @@ pub mod Narrow
 pub mod Depths
 pub mod Offered
 pub mod Stations
+pub mod Fitting

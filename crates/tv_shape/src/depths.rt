@@ -7,7 +7,7 @@ use tv_cert::Proof;
 use tv_linear::{ChoiceTree, Cover, CoverTree};
 
 /// Whether at most `most` splits lie on a path.
-fn cover_goes_within(tree: &CoverTree, most: u32) -> bool
+pub fn cover_goes_within(tree: &CoverTree, most: u32) -> bool
     ensures { IsTrue result ↔ (splits tree.now ≤ most) }
 {
     match tree {

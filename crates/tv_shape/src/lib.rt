@@ -6,12 +6,14 @@ mod columns;
 mod covers;
 mod depths;
 mod fault;
+mod fitting;
 mod narrow;
 mod nodes;
 mod offered;
 mod pieces;
 mod shaper;
 mod targets;
+mod verdicts;
 mod walking;
 
 pub use fault::ShapeFault;

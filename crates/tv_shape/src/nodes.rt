@@ -19,7 +19,7 @@ use tv_cert::{Aim, Node, visit_pieces};
 use tv_formula::Shape;
 
 /// How deep the nodes and the splits of their proofs may lie. The root has depth 1.
-const MAX_DEPTH: u32 = 384;
+pub const MAX_DEPTH: u32 = 384;
 
 /// Whether pieces may be done.
 fn may_be_done(aim: &Aim) -> bool
