@@ -1,5 +1,5 @@
 -- All nodes are right exactly where the certificate has the shape of its formula.
-use Rattle.std.proofs.Common.{inr, ◌≡◌, ◌↔◌, ℕ, suc, ◌+◌, ◌≤◌, List, [], ◌∷◌, ◌++◌, length, map, All, arith, refl, sym, ap, ◌∙◌, subst}
+use Rattle.std.proofs.Common.{inl, inr, ◌≡◌, ◌↔◌, ℕ, suc, ◌+◌, ◌≤◌, List, [], ◌∷◌, ◌++◌, length, map, All, arith, refl, sym, ap, ◌∙◌, subst}
 use Rattle.std.specs.List.{AllZip}
 use Rattle.std.specs.Prelude.{Result, Ok, Err, MatchResult}
 use Rattle.tv_formula.specs.declared.tree.Shape.TheVariants.{Until, Weak, Release, Strong}
@@ -24,6 +24,7 @@ use Rattle.tv_shape.specs.Stations.{Station, stations, kid_stations, OwnParts, I
 use Rattle.tv_shape.specs.Fitting.{NodeNarrow, KidsNarrow, GoesWithin, KidsGoWithin, NodesFit, VerdictFits, VerdictShallow, Fits, IsVerdictFault, IsFirstFault}
 use Rattle.tv_shape.specs.declared.fault.ShapeFault.{ShapeFault}
 use Rattle.tv_shape.specs.declared.fault.ShapeFault.TheVariants as fault
+use Rattle.tv_shape.specs.Certificates.{IsRefused}
 use Rattle.tv_shape.proofs.StationLemmas.{right_join}
 
 -- ---- a formula and what it states
@@ -223,3 +224,10 @@ verdict_fails about ps qs verdict fault.Memory e h = absurd h
 pub verdict_ends : {A : Type 0} (about : About) (f : Property) (root : Node) (ps : List Marked) (verdict : Verdict) (result : Result A ShapeFault) → AreRight about.system (stations 0 1 (stated about.tests f) root) → pieces_of root ≡ ps → MatchResult result (λ x. VerdictShallow verdict × VerdictFits (about_of about.system) ps verdict) (IsVerdictFault (about_of about.system) ps verdict) → MatchResult result (λ x. Fits about f root verdict) (IsFirstFault about f root verdict)
 verdict_ends about f root ps verdict (Ok x) right e h = record { nodes = (nodes_fit about f root).0 right; shallow = h.0; said = (verdict_fits about ps (pieces_of root) verdict e).0 h.1 }
 verdict_ends about f root ps verdict (Err x) right e h = inr (right, verdict_fails about ps (pieces_of root) verdict x e h)
+
+-- a first fault is why there is no certificate
+pub refused : (about : About) (f : Property) (root : Node) (verdict : Verdict) (x : ShapeFault) → IsFirstFault about f root verdict x → IsRefused about f root verdict x
+refused about f root verdict (fault.Shape n) h = h
+refused about f root verdict (fault.Deep n) h = h
+refused about f root verdict fault.Memory (inl h) = absurd h.fault
+refused about f root verdict fault.Memory (inr h) = absurd h.1

@@ -4,3 +4,5 @@ pub mod CountLemmas
 pub mod NumberLemmas
 pub mod StationLemmas
 pub mod FitLemmas
+pub mod AmountLemmas
+pub mod KindLemmas

@@ -5,3 +5,6 @@ pub mod Depths
 pub mod Offered
 pub mod Stations
 pub mod Fitting
+pub mod Kinds
+pub mod Amounts
+pub mod Certificates

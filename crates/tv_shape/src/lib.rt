@@ -1,12 +1,15 @@
 //! The shape of certificates: whether each node has the parts that its formula asks for, before any obligation is looked at.
 #![tactic(auto)]
 
+mod amounts;
+mod certificate;
 mod choices;
 mod columns;
 mod covers;
 mod depths;
 mod fault;
 mod fitting;
+mod kinds;
 mod narrow;
 mod nodes;
 mod offered;
@@ -16,4 +19,5 @@ mod targets;
 mod verdicts;
 mod walking;
 
+pub use certificate::Certificate;
 pub use fault::ShapeFault;

@@ -1,0 +1,74 @@
+-- How many proofs and obligations there are.
+use Rattle.std.proofs.Common.{◌≡◌, ℕ, zero, suc, ◌+◌, ◌<◌, ◌≤◌, List, [], ◌∷◌, length, drop, get_or, arith, refl, sym, ap, ◌∙◌, length-append, drop-cons}
+use Rattle.std.proofs.lemmas.Slice.Zip.{AllZip-long}
+use Rattle.tv_formula.specs.Properties.{Property, Properties, none, more}
+use Rattle.tv_cert.specs.declared.node.Node.{Node, Node', Row_of-Node, end_of-Node, more_of-Node, items-the_row-Node, outs-Node'}
+use Rattle.tv_cert.specs.declared.node.Verdict.{Verdict}
+use Rattle.tv_cert.specs.Obligations.{About, own_of, paired}
+use Rattle.tv_cert.specs.Nodes.{parts, kid_pieces, size, entries, kid_entries, obligations, root_entry, pieces_of}
+use Rattle.tv_cert.specs.Shapes.{ProofShape, HasShape, HaveShapes}
+use Rattle.tv_cert.proofs.NodeLemmas.{kids_of, proofs_list, out_is, length-paired}
+use Rattle.tv_cert.proofs.SaidLemmas.{own-stated}
+use Rattle.tv_cert.specs.Statements.{stated}
+use Rattle.tv_shape.specs.Amounts.{proofs_below, kid_proofs}
+use Rattle.tv_shape.proofs.NumberLemmas.{own_many}
+
+-- ---- the proofs of a node by the list of its children
+
+abbrev pub proofs_of_all : List Node → ℕ
+proofs_of_all [] = 0
+proofs_of_all (a ∷ kids) = proofs_below a + proofs_of_all kids
+
+proofs_listed : {k : _} (kids : Row_of-Node k) → kid_proofs kids ≡ proofs_of_all (items-the_row-Node k kids)
+proofs_listed end_of-Node = refl
+proofs_listed (more_of-Node a kids) = ap (λ n. proofs_below a + n) (proofs_listed kids)
+
+pub proofs_are : (node : Node) → proofs_below node ≡ proofs_of_all (kids_of node) + length (proofs_list node)
+proofs_are (Node' ps m shape kids proofs) =
+    let a = proofs_listed kids ∙ ap proofs_of_all (sym (out_is ps m shape kids proofs)) in
+    let b = ap (λ x. length x.proofs.items) (outs-Node' ps m shape kids proofs) in
+    omega (arith, a, b)
+
+-- a child has no more proofs than what is left of the children
+pub proofs_there : (kids : List Node) (i : ℕ) (a : Node) → i < length kids → a ≡ get_or kids i a → proofs_of_all (drop i kids) ≡ proofs_below a + proofs_of_all (drop (i + 1) kids)
+proofs_there kids i a below is = ap proofs_of_all (drop-cons kids i a below ∙ (let k : suc i ≡ i + 1 = omega arith in λ j. sym is j ∷ drop (k j) kids))
+
+pub proofs_end : (kids : List Node) (i : ℕ) → length kids ≤ i → proofs_of_all (drop i kids) ≡ 0
+proofs_end [] zero h = refl
+proofs_end [] (suc i) h = refl
+proofs_end (a ∷ kids) zero h = absurd (omega arith)
+proofs_end (a ∷ kids) (suc i) h = proofs_end kids i (omega arith)
+
+-- ---- as many proofs as obligations
+
+own_counted : (number : ℕ) (about : About) (f : Property) (ps : _) (kids : _) → length (own_of number about f ps kids) ≡ length (own_of 0 about f ps kids)
+own_counted number about f ps kids = sym (ap length (own-stated number about f ps kids)) ∙ own_many number about.system (stated about.tests f) ps kids ∙ ap length (own-stated 0 about f ps kids)
+
+mutual
+  pub entries_counted : (number : ℕ) (about : About) (f : Property) (node : Node) → HasShape about f node → length (entries number about f node) ≡ proofs_below node
+  entries_counted number about f (Node' ps m shape kids proofs) h =
+      let below = kid_entries_counted (number + 1) about (parts f) kids h.1 in
+      let own = length-paired (own_of number about f ps.items (kid_pieces kids)) proofs.items in
+      let same = own_counted number about f ps.items (kid_pieces kids) in
+      let long = AllZip-long (λ o p. ProofShape o.owed p) (own_of 0 about f ps.items (kid_pieces kids)) proofs.items h.0.offered in
+      let all = length-append (kid_entries (number + 1) about (parts f) kids) (paired (own_of number about f ps.items (kid_pieces kids)) proofs.items) in
+      omega (arith, below, own, same, long, all)
+
+  kid_entries_counted : {k : _} (number : ℕ) (about : About) (fs : Properties) (kids : Row_of-Node k) → HaveShapes about fs kids → length (kid_entries number about fs kids) ≡ kid_proofs kids
+  kid_entries_counted number about none end_of-Node h = refl
+  kid_entries_counted number about none (more_of-Node a kids) h = absurd h
+  kid_entries_counted number about (more f fs) end_of-Node h = absurd h
+  kid_entries_counted number about (more f fs) (more_of-Node a kids) h =
+      let one = entries_counted number about f a h.0 in
+      let rest = kid_entries_counted (number + size a) about fs kids h.1 in
+      omega (arith, one, rest, length-append (entries number about f a) (kid_entries (number + size a) about fs kids))
+
+-- and one more for the root
+pub obligations_long : (about : About) (f : Property) (root : Node) (verdict : Verdict) → length (obligations about f root verdict) ≡ length (entries 0 about f root) + 1
+obligations_long about f root verdict = length-append (entries 0 about f root) (root_entry about (pieces_of root) verdict ∷ [])
+
+pub obligations_counted : (about : About) (f : Property) (root : Node) (verdict : Verdict) → HasShape about f root → length (obligations about f root verdict) ≡ proofs_below root + 1
+obligations_counted about f root verdict h =
+    let a = obligations_long about f root verdict in
+    let b = entries_counted 0 about f root h in
+    omega (arith, a, b)
