@@ -1,13 +1,14 @@
 -- How many proofs and obligations there are.
-use Rattle.std.proofs.Common.{◌≡◌, ℕ, zero, suc, ◌+◌, ◌<◌, ◌≤◌, List, [], ◌∷◌, length, drop, get_or, arith, refl, sym, ap, ◌∙◌, length-append, drop-cons}
+use Rattle.std.proofs.Common.{true, Option, None, Some, ◌≡◌, ℕ, zero, suc, ◌+◌, ◌<◌, ◌≤◌, List, [], ◌∷◌, length, drop, get_or, arith, refl, sym, ap, ◌∙◌, length-append, drop-cons}
 use Rattle.std.proofs.lemmas.Slice.Zip.{AllZip-long}
+use Rattle.std.specs.Option.{SomeIff, is_some}
 use Rattle.tv_formula.specs.Properties.{Property, Properties, none, more}
 use Rattle.tv_cert.specs.declared.node.Node.{Node, Node', Row_of-Node, end_of-Node, more_of-Node, items-the_row-Node, outs-Node'}
 use Rattle.tv_cert.specs.declared.node.Verdict.{Verdict}
 use Rattle.tv_cert.specs.Obligations.{About, own_of, paired}
 use Rattle.tv_cert.specs.Nodes.{parts, kid_pieces, size, entries, kid_entries, obligations, root_entry, pieces_of}
 use Rattle.tv_cert.specs.Shapes.{ProofShape, HasShape, HaveShapes}
-use Rattle.tv_cert.proofs.NodeLemmas.{kids_of, proofs_list, out_is, length-paired}
+use Rattle.tv_cert.proofs.NodeLemmas.{kids_of, sizes_list, proofs_list, out_is, length-paired}
 use Rattle.tv_cert.proofs.SaidLemmas.{own-stated}
 use Rattle.tv_cert.specs.Statements.{stated}
 use Rattle.tv_shape.specs.Amounts.{proofs_below, kid_proofs}
@@ -38,6 +39,15 @@ proofs_end [] zero h = refl
 proofs_end [] (suc i) h = refl
 proofs_end (a ∷ kids) zero h = absurd (omega arith)
 proofs_end (a ∷ kids) (suc i) h = proofs_end kids i (omega arith)
+
+pub sizes_there : (kids : List Node) (i : ℕ) (a : Node) → i < length kids → a ≡ get_or kids i a → sizes_list (drop i kids) ≡ size a + sizes_list (drop (i + 1) kids)
+sizes_there kids i a below is = ap sizes_list (drop-cons kids i a below ∙ (let k : suc i ≡ i + 1 = omega arith in λ j. sym is j ∷ drop (k j) kids))
+
+pub sizes_end : (kids : List Node) (i : ℕ) → length kids ≤ i → sizes_list (drop i kids) ≡ 0
+sizes_end [] zero h = refl
+sizes_end [] (suc i) h = refl
+sizes_end (a ∷ kids) zero h = absurd (omega arith)
+sizes_end (a ∷ kids) (suc i) h = sizes_end kids i (omega arith)
 
 -- ---- as many proofs as obligations
 
@@ -72,3 +82,8 @@ obligations_counted about f root verdict h =
     let a = obligations_long about f root verdict in
     let b = entries_counted 0 about f root h in
     omega (arith, a, b)
+
+-- what is told where there is an answer
+pub told : (o : Option ℕ) (holds : Type 0) (n : ℕ) → is_some o ≡ true → SomeIff o holds n → holds
+told None holds n e h = absurd (let k : ⊥ = cc in k)
+told (Some m) holds n e h = h.0

@@ -1,7 +1,9 @@
 -- What a node owes does not depend on its number.
-use Rattle.std.proofs.Common.{◌≡◌, ℕ, Bool, true, false, List, [], ◌∷◌, ◌++◌, length, map, refl, sym, ap, ◌∙◌}
+use Rattle.std.proofs.Common.{arith, ◌+◌, ◌^◌, ◌<◌, ◌≤◌, ◌≡◌, ℕ, Bool, true, false, List, [], ◌∷◌, ◌++◌, length, map, refl, sym, ap, ◌∙◌}
 use Rattle.std.specs.List.{flat_map}
 use Rattle.std.proofs.lemmas.List.{length-map}
+use Rattle.std.proofs.lemmas.Nat.{mul-le}
+use Rattle.tv_cert.proofs.RoomLemmas.{own_few}
 use Rattle.tv_formula.specs.declared.tree.Path.{Path}
 use Rattle.tv_formula.specs.declared.tree.Path.TheVariants.{Every, Any}
 use Rattle.tv_formula.specs.declared.tree.Shape.{Shape}
@@ -72,3 +74,10 @@ own_renumbered n system s ps kids = each_renumbered n (said_at n system s ps kid
 -- there are as many obligations, whatever the number
 pub own_many : (n : ℕ) (system : CaseSystem) (s : Statement) (ps : List Marked) (kids : List (List Marked)) → length (said_own n system s ps kids) ≡ length (said_own 0 system s ps kids)
 own_many n system s ps kids = ap length (own_renumbered n system s ps kids) ∙ length-map (said_own 0 system s ps kids) (renumbered n)
+
+-- there is room for what a node owes, whose lists lie in memory
+pub own_within : (n : ℕ) (system : CaseSystem) (s : Statement) (ps : List Marked) (kids : List (List Marked)) → length ps < 2 ^ 63 → length kids < 2 ^ 63 → length system.cases < 2 ^ 63 → length (said_own n system s ps kids) ≤ 2 ^ 200
+own_within n system s ps kids a b c =
+    let few = own_few n system ps kids s in
+    let most = mul-le (length ps) (length kids + length system.cases + 2) (2 ^ 63) (2 ^ 65) (omega (arith, a)) (omega (arith, b, c)) in
+    omega (arith, few, most)

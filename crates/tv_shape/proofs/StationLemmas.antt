@@ -1,12 +1,10 @@
 -- The nodes of a certificate one after another.
-use Rattle.std.proofs.Common.{◌≡◌, ◌^◌, ℕ, zero, suc, ◌+◌, ◌<◌, ◌≤◌, List, [], ◌∷◌, ◌++◌, length, drop, get_or, arith, refl, sym, ap, ◌∙◌, subst, append_assoc, length-append, drop-cons}
+use Rattle.std.proofs.Common.{◌≡◌, ◌^◌, ℕ, zero, suc, ◌+◌, ◌<◌, ◌≤◌, List, [], ◌∷◌, ◌++◌, length, drop, get_or, arith, refl, sym, ap, ◌∙◌, subst, append_assoc, drop-cons}
 use Rattle.tv_cases.specs.LinearCases.{CaseSystem}
 use Rattle.tv_cert.specs.declared.node.Node.{Node, Node', Row_of-Node, end_of-Node, more_of-Node, items-the_row-Node}
 use Rattle.tv_cert.specs.Nodes.{size}
-use Rattle.tv_cert.specs.Said.{said_entries, said_own_entries}
 use Rattle.tv_cert.specs.Statements.{Statement, Statements, no_statement, statement, parts_of, count, part_at}
 use Rattle.tv_cert.proofs.NodeLemmas.{sizes_list, kids_of, out_is, size_is}
-use Rattle.tv_cert.proofs.SaidNodes.{said_list, said_are}
 use Rattle.tv_shape.specs.Stations.{Station, station, stations, kid_stations, AreRight, IsRight, IsFaultAt, IsFirstMisshapen}
 use Rattle.tv_shape.specs.declared.fault.ShapeFault.{ShapeFault}
 
@@ -63,10 +61,9 @@ pub record Stands (system : CaseSystem) (ss : Statements) (kids : List Node) (st
   pub whole : station_list start depth ss kids ≡ done ++ station_list next depth (past i ss) (drop i kids)
   pub right : AreRight system done
   pub nodes : start + sizes_list kids ≡ next + sizes_list (drop i kids)
-  pub room : length (said_list next system (past i ss) (drop i kids)) ≤ length (said_list start system ss kids)
 
 pub stands_all : (system : CaseSystem) (ss : Statements) (kids : List Node) (start depth : ℕ) → Stands system ss kids start depth start 0
-stands_all system ss kids start depth = record { done = []; whole = refl; right = tt; nodes = refl; room = omega arith }
+stands_all system ss kids start depth = record { done = []; whole = refl; right = tt; nodes = refl }
 
 -- a child has no more nodes than all of the children
 pub size_there : (kids : List Node) (i : ℕ) → i < length kids → (a : Node) → a ≡ get_or kids i a → size a ≤ sizes_list kids
@@ -84,21 +81,11 @@ module _ (system : CaseSystem) (ss : Statements) (kids : List Node) (start depth
   rest_there : station_list next depth (past i ss) (drop i kids) ≡ stations next depth (part_at i ss) a ++ station_list (next + size a) depth (past (suc i) ss) (drop (suc i) kids)
   rest_there = (λ k. station_list next depth (past_more i ss part_there k) (kids_there k))
 
-  said_there : said_list next system (past i ss) (drop i kids) ≡ said_entries next system (part_at i ss) a ++ said_list (next + size a) system (past (suc i) ss) (drop (suc i) kids)
-  said_there = (λ k. said_list next system (past_more i ss part_there k) (kids_there k))
-
   whole_there : station_list start depth ss kids ≡ (h.done ++ stations next depth (part_at i ss) a) ++ station_list (next + size a) depth (past (suc i) ss) (drop (suc i) kids)
   whole_there = h.whole ∙ ap (λ ts. h.done ++ ts) rest_there ∙ sym (append_assoc h.done (stations next depth (part_at i ss) a) _)
 
   sizes_there : sizes_list (drop i kids) ≡ size a + sizes_list (drop (suc i) kids)
   sizes_there = ap sizes_list kids_there
-
-  -- the room for the child
-  pub room_there : length (said_list start system ss kids) < 2 ^ 64 → length (said_entries next system (part_at i ss) a) < 2 ^ 64
-  room_there r =
-      let e = ap length said_there in
-      let s = h.room in
-      omega (arith, r, e, s, length-append (said_entries next system (part_at i ss) a) (said_list (next + size a) system (past (suc i) ss) (drop (suc i) kids)))
 
   pub nodes_there : start + sizes_list kids < 2 ^ 32 → next + size a < 2 ^ 32
   nodes_there r = let n = h.nodes in omega (arith, r, n, sizes_there)
@@ -112,15 +99,11 @@ module _ (system : CaseSystem) (ss : Statements) (kids : List Node) (start depth
   stands_next next' t k =
       let one : suc i ≡ i + 1 = omega arith in
       let n = h.nodes in
-      let e = ap length said_there in
-      let r = h.room in
-      let l = length-append (said_entries next system (part_at i ss) a) (said_list (next + size a) system (past (suc i) ss) (drop (suc i) kids)) in
       record {
         done = h.done ++ stations next depth (part_at i ss) a;
         whole = whole_there ∙ (λ j. (h.done ++ stations next depth (part_at i ss) a) ++ station_list (sym k j) depth (past (one j) ss) (drop (one j) kids));
         right = right_join system h.done (stations next depth (part_at i ss) a) h.right t;
         nodes = (let z = ap (λ j. sizes_list (drop j kids)) one in omega (arith, n, sizes_there, k, z));
-        room = subst (λ m. m ≤ length (said_list start system ss kids)) (λ j. length (said_list (sym k j) system (past (one j) ss) (drop (one j) kids))) (omega (arith, e, r, l));
       }
 
 drop_past : {A : Type 0} (xs : List A) (i : ℕ) → length xs ≤ i → drop i xs ≡ []
@@ -148,16 +131,6 @@ stands_ends system ss kids start depth next i l h =
 
 -- ---- the node itself, before its children
 module _ (system : CaseSystem) (s : Statement) (node : Node) (number depth : ℕ) where
-  pub kids_room : length (said_entries number system s node) < 2 ^ 64 → length (said_list (number + 1) system (parts_of s) (kids_of node)) < 2 ^ 64
-  kids_room r =
-      let e = ap length (said_are number system s node) in
-      omega (arith, r, e, length-append (said_list (number + 1) system (parts_of s) (kids_of node)) (said_own_entries number system s node))
-
-  pub own_room : length (said_entries number system s node) < 2 ^ 64 → length (said_own_entries number system s node) < 2 ^ 64
-  own_room r =
-      let e = ap length (said_are number system s node) in
-      omega (arith, r, e, length-append (said_list (number + 1) system (parts_of s) (kids_of node)) (said_own_entries number system s node))
-
   pub node_fails : (f : ShapeFault) → IsFaultAt system (station number depth s node) f → IsFirstMisshapen system (stations number depth s node) f
   node_fails f h = subst (λ ts. IsFirstMisshapen system ts f) (sym (stations_are number depth s node)) (misshapen_here system (station number depth s node) _ f h)
 

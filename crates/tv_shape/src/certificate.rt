@@ -1,4 +1,4 @@
-use crate::amounts::proof_count;
+use crate::amounts::{node_count, obligation_count};
 use crate::fault::ShapeFault;
 use crate::fitting::look_through;
 use crate::kinds::kinds_of;
@@ -17,17 +17,16 @@ pub struct Certificate {
 }
 
 impl Certificate {
-    ghost use Rattle.std.specs.Prelude.{◌≡◌, ◌<◌, ◌^◌, MatchResult, length};
+    ghost use Rattle.std.specs.Prelude.{◌≡◌, MatchResult};
     ghost use Rattle.tv_cases.specs.Systems.{cases_of};
     ghost use Rattle.tv_cert.specs.Claims.{StatesIts, about_with, claim_variables, shown};
-    ghost use Rattle.tv_cert.specs.Nodes.{size, obligations};
     ghost use Rattle.tv_shape.specs.Certificates.{IsOf, IsRefused};
 
     /// The certificate of these nodes: `Ok` exactly where they fit, for the property where the verdict is that it is proved, and for
     /// its negation where it is disproved.
     ///
     /// Else `Deep` or `Shape` names the first node at fault, each before its children; at one node `Deep` comes first. A fault of
-    /// the verdict is one of the root, and comes after all others. `Memory` can come for nodes that fit alone.
+    /// the verdict is one of the root, and comes after all others. `Memory` comes for nodes that fit, or 2^32 of them, alone.
     pub fn new(
         alloc: Global,
         about: &Cases,
@@ -37,25 +36,28 @@ impl Certificate {
     ) -> Result<Certificate, ShapeFault>
         requires states { StatesIts claim.now }
         requires variables { claim_variables claim.now ≡ (cases_of about.now).variables }
-        requires nodes { size root < 2 ^ 32 }
-        requires room { length (obligations (about_with (cases_of about.now)) (shown claim.now verdict) root verdict) < 2 ^ 64 }
         ensures { MatchResult result (λ c. IsOf (about_with (cases_of about.now)) (shown claim.now verdict) c × (c.root ≡ root) × (c.verdict ≡ verdict)) (IsRefused (about_with (cases_of about.now)) (shown claim.now verdict) root verdict) }
     {
+        if node_count(&root).is_none() {
+            return Err(ShapeFault::Memory);
+        }
         let aim = claim.aim(&verdict);
         match look_through(about, aim, &root, &verdict) {
-            Err(fault) => Err(fault),
-            Ok(()) => match kinds_of(alloc, aim) {
-                Err(_) => Err(ShapeFault::Memory),
-                Ok(kinds) => {
-                    let obligations = proof_count(&root) + 1;
-                    Ok(Certificate {
-                        verdict,
-                        root,
-                        kinds,
-                        obligations,
-                    })
-                }
-            },
+            Err(fault) => return Err(fault),
+            Ok(()) => {}
+        }
+        let obligations = match obligation_count(&root) {
+            None => return Err(ShapeFault::Memory),
+            Some(count) => count,
+        };
+        match kinds_of(alloc, aim) {
+            Err(_) => Err(ShapeFault::Memory),
+            Ok(kinds) => Ok(Certificate {
+                verdict,
+                root,
+                kinds,
+                obligations,
+            }),
         }
     }
 

@@ -1,12 +1,10 @@
-ghost use Rattle.std.specs.Prelude.{◌≡◌, ◌<◌, ◌^◌, MatchResult, length};
+ghost use Rattle.std.specs.Prelude.{◌≡◌, ◌<◌, ◌^◌, MatchResult};
 ghost use Rattle.tv_formula.specs.Properties.{Property};
 ghost use Rattle.tv_cases.specs.Systems.{cases_of};
 ghost use Rattle.tv_cert.specs.AimViews.{aim_states};
 ghost use Rattle.tv_cert.specs.Nodes.{size};
 ghost use Rattle.tv_cert.specs.Obligations.{About};
 ghost use Rattle.tv_cert.specs.Plain.{about_of};
-ghost use Rattle.tv_cert.specs.Listed.{pieces_list};
-ghost use Rattle.tv_cert.specs.Said.{said_entries};
 ghost use Rattle.tv_cert.specs.Statements.{stated};
 ghost use Rattle.tv_shape.specs.Fitting.{Fits, IsFirstFault, IsVerdictFault, VerdictFits, VerdictShallow};
 
@@ -38,8 +36,7 @@ pub fn look_through(
     root: &Node,
     verdict: &Verdict,
 ) -> Result<(), ShapeFault>
-    requires nodes { size root.now < 2 ^ 32 }
-    requires room { length (said_entries 0 (cases_of about.now) (aim_states aim.now) root.now) < 2 ^ 64 }
+    requires { size root.now < 2 ^ 32 }
     ensures { (of : About) → (f : Property) → of.system ≡ cases_of about.now → aim_states aim.now ≡ stated of.tests f → MatchResult result (λ _. Fits of f root.now verdict.now) (IsFirstFault of f root.now verdict.now) }
 {
     match walk(about, aim, 0, 1, root) {

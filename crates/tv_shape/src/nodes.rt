@@ -1,4 +1,4 @@
-ghost use Rattle.std.specs.Prelude.{◌≡◌, ◌↔◌, ◌<◌, ◌≤◌, ◌^◌, ℕ, IsTrue, MatchResult, length, map};
+ghost use Rattle.std.specs.Prelude.{◌≡◌, ◌↔◌, ℕ, IsTrue, MatchResult, map};
 ghost use Rattle.std.specs.List.{AllZip};
 ghost use Rattle.tv_cases.specs.Systems.{cases_of};
 ghost use Rattle.tv_cert.specs.AimViews.{aim_states, aims_state};
@@ -60,7 +60,6 @@ fn argument_count(aim: &Aim) -> usize
 
 /// Whether the proofs have the shapes that the node owes, one each, in order.
 fn proofs_have_shape(about: &Cases, aim: &Aim, node: &Node) -> bool
-    requires { length (said_own 0 (cases_of about.now) (aim_states aim.now) (pieces_list node.now) (map pieces_list (children_of node.now))) < 2 ^ 64 }
     ensures { IsTrue result ↔ AllZip (λ o p. ProofShape o.owed p) (said_own 0 (cases_of about.now) (aim_states aim.now) (pieces_list node.now) (map pieces_list (children_of node.now))) (proofs_of node.now) }
 {
     let mut shaper = Shaper {
@@ -74,7 +73,6 @@ fn proofs_have_shape(about: &Cases, aim: &Aim, node: &Node) -> bool
 
 /// Whether the node's own parts have the shape that its aim asks for.
 fn has_own_parts(about: &Cases, aim: &Aim, node: &Node) -> bool
-    requires { length (said_own 0 (cases_of about.now) (aim_states aim.now) (pieces_list node.now) (map pieces_list (children_of node.now))) < 2 ^ 64 }
     ensures { IsTrue result ↔ OwnParts (cases_of about.now) (aim_states aim.now) (ranks_at node.now) (pieces_list node.now) (map pieces_list (children_of node.now)) (proofs_of node.now) }
 {
     let done = may_be_done(aim);
@@ -88,7 +86,6 @@ fn has_own_parts(about: &Cases, aim: &Aim, node: &Node) -> bool
 
 /// Whether nothing but its depth is at fault at the node.
 fn is_shaped(about: &Cases, aim: &Aim, node: &Node) -> bool
-    requires { length (said_own 0 (cases_of about.now) (aim_states aim.now) (pieces_list node.now) (map pieces_list (children_of node.now))) < 2 ^ 64 }
     ensures { (number depth : ℕ) → IsTrue result ↔ IsShaped (cases_of about.now) (station number depth (aim_states aim.now) node.now) }
 {
     node.children.len() == argument_count(aim)
@@ -111,7 +108,6 @@ pub fn look_at(
     depth: u32,
     node: &Node,
 ) -> Result<(), ShapeFault>
-    requires { length (said_own 0 (cases_of about.now) (aim_states aim.now) (pieces_list node.now) (map pieces_list (children_of node.now))) < 2 ^ 64 }
     ensures { MatchResult result (λ _. IsRight (cases_of about.now) (station number depth (aim_states aim.now) node.now)) (IsFaultAt (cases_of about.now) (station number depth (aim_states aim.now) node.now)) }
 {
     if !is_shallow(depth, node) {

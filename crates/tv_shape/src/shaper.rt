@@ -1,4 +1,4 @@
-ghost use Rattle.std.specs.Prelude.{◌≡◌, drop};
+ghost use Rattle.std.specs.Prelude.{◌≡◌, ◌^◌, drop};
 ghost use Rattle.tv_shape.specs.Offered.{FirstShape};
 
 use crate::offered::first_has_shape;
@@ -26,7 +26,7 @@ impl Visitor for Shaper<'_> {
 
     ghost stops = { λ system v o w. ¬ (FirstShape o.owed v.proofs.now) };
 
-    ghost room = { λ v. 18446744073709551615 };
+    ghost room = { λ v. 2 ^ 200 };
 
     fn visit(&mut self, about: &Cases, node: u32, kind: Kind, owes: &Owes) -> bool {
         if first_has_shape(about, owes, self.proofs) {

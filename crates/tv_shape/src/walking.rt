@@ -1,8 +1,7 @@
-ghost use Rattle.std.specs.Prelude.{◌≡◌, ◌+◌, ◌<◌, ◌^◌, length, MatchResult};
+ghost use Rattle.std.specs.Prelude.{◌≡◌, ◌+◌, ◌<◌, ◌^◌, MatchResult};
 ghost use Rattle.tv_cases.specs.Systems.{cases_of};
 ghost use Rattle.tv_cert.specs.Nodes.{size};
 ghost use Rattle.tv_cert.specs.AimViews.{aim_states};
-ghost use Rattle.tv_cert.specs.Said.{said_entries};
 ghost use Rattle.tv_shape.specs.Stations.{stations, AreRight, IsFirstMisshapen};
 
 use crate::fault::ShapeFault;
@@ -18,8 +17,7 @@ pub fn walk(
     depth: u32,
     node: &Node,
 ) -> Result<u32, ShapeFault>
-    requires nodes { number + size node.now < 2 ^ 32 }
-    requires room { length (said_entries number (cases_of about.now) (aim_states aim.now) node.now) < 2 ^ 64 }
+    requires { number + size node.now < 2 ^ 32 }
     ensures { MatchResult result (λ next. AreRight (cases_of about.now) (stations number depth (aim_states aim.now) node.now) × (next ≡ number + size node.now)) (λ f. IsFirstMisshapen (cases_of about.now) (stations number depth (aim_states aim.now) node.now) f) }
 {
     match look_at(about, aim, number, depth, node) {

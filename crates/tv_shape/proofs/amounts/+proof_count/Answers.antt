@@ -6,8 +6,15 @@ use Rattle.tv_shape.proofs.AmountLemmas.{proofs_are, proofs_there, proofs_end}
 use Rattle.tv_shape.proofs.StationLemmas.{size_there}
 use Rattle.tv_shape.proofs.amounts.+proof_count.Goals as goal
 
-pub proof_count-count-requires : goal.proof_count-count-requires
-proof_count-count-requires t c =
+pub loop-child-init : goal.loop-child-init
+loop-child-init t c =
+    let b = proofs_are c.args.node.now in
+    let e = c.len-count.ensures in
+    let l = (out-Node c.args.node.now).proofs.ok.0 in
+    (let o = (out-Node c.args.node.now).proofs in let u = o.ok in omega (arith, e, u, o.small), (let k : c.len-count.result ≡ length (proofs_list c.args.node.now) = e ∙ l in omega (arith, b, k)))
+
+pub proof_count-requires : goal.proof_count-requires
+proof_count-requires t c =
     let node = c.args.node.now in
     let kids = kids_of node in
     let value = c.deref-child-items.ensures.value in
@@ -16,49 +23,22 @@ proof_count-count-requires t c =
     let is = c.child-item.is ∙ ap (λ xs. get_or xs c.loop-child.child-index child) value in
     let smaller = size_there kids c.loop-child.child-index below child is in
     let falls : size child < t = (let z = size_is node in let d = c.decreases in omega (arith, smaller, z, d)) in
-    (falls, (let a = proofs_there kids c.loop-child.child-index child below is in let b = proofs_are node in let i = c.loop-child.invariant in omega (arith, a, b, i, c.requires)))
+    (falls, tt)
 
-pub overflow_add-count : goal.overflow_add-count
-overflow_add-count t c =
-    let node = c.args.node.now in
-    let kids = kids_of node in
-    let value = c.deref-child-items.ensures.value in
-    let below = subst (λ xs. c.loop-child.child-index < length xs) value c.loop-child-test.true in
-    let child = c.child-item.result in
-    let is = c.child-item.is ∙ ap (λ xs. get_or xs c.loop-child.child-index child) value in
-    let a = proofs_there kids c.loop-child.child-index child below is in
-    let b = proofs_are node in
-    let i = c.loop-child.invariant in
-    let e = c.proof_count-count.ensures in
-    omega (arith, a, b, i, e, c.requires)
-
-pub loop-child-preserved : goal.loop-child-preserved
-loop-child-preserved t c =
-    let node = c.args.node.now in
-    let kids = kids_of node in
+pub returns-in-None : goal.returns-in-None
+returns-in-None t c =
+    let kids = kids_of c.args.node.now in
     let value = c.deref-child-items.ensures.value in
     let below = subst (λ xs. c.loop-child.child-index < length xs) value c.loop-child-test.true in
     let child = c.child-item.result in
     let is = c.child-item.is ∙ ap (λ xs. get_or xs c.loop-child.child-index child) value in
     let a = proofs_there kids c.loop-child.child-index child below is in
     let i = c.loop-child.invariant in
-    let e = c.proof_count-count.ensures in
-    omega (arith, a, i, e)
-
-pub overflow_add-result : goal.overflow_add-result
-overflow_add-result t c =
-    let node = c.args.node.now in
-    let i = c.loop-child.invariant in
-    let z = proofs_end (kids_of node) c.loop-child.child-index (subst (λ xs. length xs ≤ c.loop-child.child-index) c.deref-child-items.ensures.value c.loop-child-test.false) in
-    let b = proofs_are node in
-    let l : c.len.result ≡ length (proofs_list node) = c.len.ensures ∙ (out-Node node).proofs.ok.0 in
-    omega (arith, i, z, b, l, c.requires)
+    λ h. c.in-None.ensures (omega (arith, a, i, h))
 
 pub returns : goal.returns
 returns t c =
     let node = c.args.node.now in
     let i = c.loop-child.invariant in
     let z = proofs_end (kids_of node) c.loop-child.child-index (subst (λ xs. length xs ≤ c.loop-child.child-index) c.deref-child-items.ensures.value c.loop-child-test.false) in
-    let b = proofs_are node in
-    let l : c.len.result ≡ length (proofs_list node) = c.len.ensures ∙ (out-Node node).proofs.ok.0 in
-    omega (arith, i, z, b, l)
+    (omega (arith, i.0, i.1, z), omega (arith, i.1, z))

@@ -1,5 +1,9 @@
-use Rattle.std.proofs.Common.{◌≡◌, ◌∙◌, length, map, sym, subst}
+use Rattle.std.proofs.Common.{arith, ap, ◌^◌, ◌<◌, ◌≡◌, ◌∙◌, length, map, sym, subst}
+use Rattle.std.proofs.lemmas.List.{length-map}
 use Rattle.tv_cases.specs.Systems.{cases_of}
+use Rattle.tv_cases.specs.Views.{case_view}
+use Rattle.tv_cert.specs.declared.node.Node.{out-Node}
+use Rattle.tv_shape.proofs.NumberLemmas.{own_within}
 use Rattle.tv_cert.specs.AimViews.{aim_states}
 use Rattle.tv_cert.specs.Listed.{pieces_list}
 use Rattle.tv_cert.specs.Said.{said_own}
@@ -7,6 +11,17 @@ use Rattle.tv_cert.proofs.PieceLemmas.{test_true, true_test}
 use Rattle.tv_shape.specs.Parts.{children_of, proofs_of}
 use Rattle.tv_shape.proofs.ShaperLemmas.{Offered, taken_all, taken_fails, none_left, left_none}
 use Rattle.tv_shape.proofs.nodes.proofs_have_shape.Goals as goal
+
+pub visit_pieces-requires : goal.visit_pieces-requires
+visit_pieces-requires c =
+    let system = cases_of c.args.about.now in
+    let node = out-Node c.args.node.now in
+    let pieces : length c.deref-2.result.now < 2 ^ 63 = (let e = ap length c.deref-2.ensures.value in let o = node.pieces.ok in omega (arith, e, o, node.pieces.small)) in
+    let many = length-map c.deref-3.result.now pieces_list in
+    let children : length (map pieces_list c.deref-3.result.now) < 2 ^ 63 = (let e = ap length c.deref-3.ensures.value in let o = node.children.ok in omega (arith, many, e, o, node.children.small)) in
+    let list = c.args.about.now.list in
+    let cases : length system.cases < 2 ^ 63 = (let e = length-map list.items case_view in let o = list.ok in omega (arith, e, o, list.small)) in
+    own_within 0 system (aim_states c.args.aim.now) c.deref-2.result.now (map pieces_list c.deref-3.result.now) pieces children cases
 
 pub returns-then-not-visit_pieces : goal.returns-then-not-visit_pieces
 returns-then-not-visit_pieces c =

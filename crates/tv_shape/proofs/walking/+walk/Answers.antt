@@ -1,33 +1,18 @@
-use Rattle.std.proofs.Common.{arith, ◌≡◌, ◌+◌, ◌<◌, ◌≤◌, ◌^◌, length, map, sym, ap, ◌∙◌, subst, get_or}
+use Rattle.std.proofs.Common.{arith, ◌≡◌, ◌+◌, ◌<◌, ◌≤◌, length, ap, ◌∙◌, subst, get_or}
 use Rattle.tv_cases.specs.Systems.{cases_of}
 use Rattle.tv_cert.specs.AimViews.{aim_states}
-use Rattle.tv_cert.specs.Listed.{pieces_list}
 use Rattle.tv_cert.specs.Nodes.{size}
-use Rattle.tv_cert.specs.Said.{said_entries, said_own}
 use Rattle.tv_cert.specs.Statements.{Statement, parts_of}
-use Rattle.tv_cert.proofs.NodeLemmas.{kids_of, proofs_list, size_is, length-paired}
-use Rattle.tv_cert.proofs.SaidNodes.{said_own_are}
+use Rattle.tv_cert.proofs.NodeLemmas.{kids_of, size_is}
 use Rattle.tv_shape.specs.Stations.{stations, AreRight, IsFirstMisshapen}
-use Rattle.tv_shape.proofs.NumberLemmas.{own_many}
-use Rattle.tv_shape.proofs.StationLemmas.{size_there, part_there, room_there, nodes_there, child_fails, stands_next, stands_ends, kids_room, own_room, node_fails, kids_fail, node_right}
+use Rattle.tv_shape.proofs.StationLemmas.{size_there, part_there, nodes_there, child_fails, stands_next, stands_ends, node_fails, kids_fail, node_right}
 use Rattle.tv_shape.proofs.walking.+walk.Goals as goal
-
-pub look_at-requires : goal.look_at-requires
-look_at-requires t c =
-    let system = cases_of c.args.about.now in
-    let s = aim_states c.args.aim.now in
-    let node = c.args.node.now in
-    let r = own_room system s node c.args.number 0 c.requires.room in
-    let e = ap length (said_own_are c.args.number system s node) in
-    let p = length-paired (said_own c.args.number system s (pieces_list node) (map pieces_list (kids_of node))) (proofs_list node) in
-    let m = own_many c.args.number system s (pieces_list node) (map pieces_list (kids_of node)) in
-    omega (arith, r, e, p, m)
 
 pub returns-in-Err : goal.returns-in-Err
 returns-in-Err t c = node_fails (cases_of c.args.about.now) (aim_states c.args.aim.now) c.args.node.now c.args.number c.args.depth c.in-Err.fault c.in-Err.ensures
 
 pub overflow_add-next : goal.overflow_add-next
-overflow_add-next t c = let z = size_is c.args.node.now in omega (arith, z, c.requires.nodes)
+overflow_add-next t c = let z = size_is c.args.node.now in omega (arith, z, c.requires)
 
 pub part-requires : goal.part-requires
 part-requires t c =
@@ -53,12 +38,10 @@ walk-requires t c =
     let below = subst (λ xs. c.loop-i.i < length xs) value c.loop-i-test.true in
     let child = c.child-item.result in
     let is = c.child-item.is ∙ ap (λ xs. get_or xs c.loop-i.i child) value in
-    let room = room_there system (parts_of s) kids (c.args.number + 1) (c.args.depth + 1) c.loop-i.next c.loop-i.i many below child is c.loop-i.invariant (kids_room system s node c.args.number c.args.depth c.requires.room) in
-    let nodes = nodes_there system (parts_of s) kids (c.args.number + 1) (c.args.depth + 1) c.loop-i.next c.loop-i.i many below child is c.loop-i.invariant (let z = size_is node in omega (arith, z, c.requires.nodes)) in
-    let child_room = subst (λ p. length (said_entries c.loop-i.next system p child) < 2 ^ 64) (sym c.part.ensures) room in
+    let nodes = nodes_there system (parts_of s) kids (c.args.number + 1) (c.args.depth + 1) c.loop-i.next c.loop-i.i many below child is c.loop-i.invariant (let z = size_is node in omega (arith, z, c.requires)) in
     let smaller = size_there kids c.loop-i.i below child is in
     let falls : size child < t = (let z = size_is node in let d = c.decreases in omega (arith, smaller, z, d)) in
-    (falls, (nodes, child_room))
+    (falls, nodes)
 
 pub returns-in-Err-walk : goal.returns-in-Err-walk
 returns-in-Err-walk t c =
