@@ -7,3 +7,4 @@ pub mod OneEachLemmas
 pub mod RootLemmas
 pub mod PublicLemmas
 pub mod FitLemmas
+mod NodeWriting

@@ -4,6 +4,7 @@
 mod covers;
 mod fault;
 mod lines;
+mod node_writing;
 mod pieces;
 mod plain;
 mod writing;

@@ -18,7 +18,7 @@ fn numbers_of(alloc: Global, row: &Row) -> Result<Vec<i128>, AllocError>
     Ok(numbers)
 }
 
-fn append_line(
+pub fn append_line(
     alloc: Global,
     out: &mut Vec<u8>,
     head: Head,
@@ -67,7 +67,7 @@ fn append_lists(alloc: Global, out: &mut Vec<u8>, lists: &[Vec<i128>]) -> Result
 }
 
 /// Adds a cover; of a split the side where its row holds comes first.
-fn append_cover(alloc: Global, out: &mut Vec<u8>, tree: &CoverTree) -> Result<(), AllocError>
+pub fn append_cover(alloc: Global, out: &mut Vec<u8>, tree: &CoverTree) -> Result<(), AllocError>
     ensures { OnOk result (out.new.items ≡ out.old.items ++ all_spelled (cover_lines tree.now)) }
 {
     match tree {
@@ -141,7 +141,7 @@ fn append_proof(alloc: Global, out: &mut Vec<u8>, proof: &Proof) -> Result<(), A
     }
 }
 
-fn append_proofs(alloc: Global, out: &mut Vec<u8>, proofs: &[Proof]) -> Result<(), AllocError>
+pub fn append_proofs(alloc: Global, out: &mut Vec<u8>, proofs: &[Proof]) -> Result<(), AllocError>
     ensures { OnOk result (out.new.items ≡ out.old.items ++ all_spelled (flat_map proof_lines proofs.now)) }
 {
     for proof in proofs {
@@ -170,7 +170,7 @@ fn append_piece(alloc: Global, out: &mut Vec<u8>, piece: &Marked) -> Result<(), 
     append_rows(alloc, out, Head::Rank, &piece.ranks)
 }
 
-fn append_pieces(alloc: Global, out: &mut Vec<u8>, pieces: &[Marked]) -> Result<(), AllocError>
+pub fn append_pieces(alloc: Global, out: &mut Vec<u8>, pieces: &[Marked]) -> Result<(), AllocError>
     ensures { OnOk result (out.new.items ≡ out.old.items ++ all_spelled (flat_map piece_lines pieces.now)) }
 {
     for piece in pieces {
