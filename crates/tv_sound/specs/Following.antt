@@ -14,6 +14,8 @@ use Rattle.tv_cert.specs.declared.node.Marked.{Marked}
 use Rattle.tv_cert.specs.declared.node.Node.{Node, Node'}
 use Rattle.tv_cert.specs.declared.node.Proof.{Proof}
 use Rattle.tv_cert.specs.declared.node.Proof.TheVariants.{Covered, Chosen}
+use Rattle.tv_cert.specs.declared.node.Verdict.{Verdict}
+use Rattle.tv_cert.specs.declared.node.Verdict.TheVariants.{Proved, Disproved}
 use Rattle.tv_cert.specs.Pieces.{place_of}
 
 -- a state in a piece, at which this choice is offered
@@ -84,3 +86,8 @@ pub record Follows (p : System) (system : CaseSystem) (root : Node) (k : ℕ) (v
   pub piece : slice_get (offered_at (all_offered root) system.start) k ≡ Some (first.piece, first.proof)
   pub begins : first.state ≡ record { location = p.start; values = values }
   pub runs : (n : ℕ) → IsRun (Steps p) first.state (followed (onward system (all_offered root)) first n)
+
+-- what a certificate that says disproved leads along
+abbrev pub FollowsFrom : System → CaseSystem → Node → Verdict → Type 0
+FollowsFrom p system root (Proved start) = Unit {0}
+FollowsFrom p system root (Disproved k values) = Follows p system root k values.items
