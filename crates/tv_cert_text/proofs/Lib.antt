@@ -8,3 +8,4 @@ pub mod RootLemmas
 pub mod PublicLemmas
 pub mod FitLemmas
 mod NodeWriting
+mod KindLines

@@ -10,6 +10,10 @@ use Rattle.tv_cert.specs.declared.node.Node.{Node, Node', Row_of-Node, end_of-No
 use Rattle.tv_cert.specs.declared.node.Verdict.{Verdict}
 use Rattle.tv_cert.specs.declared.node.Verdict.TheVariants.{Proved, Disproved}
 use Rattle.tv_cert.specs.Nodes.{size}
+use Rattle.tv_cert.specs.Obligations.{About}
+use Rattle.tv_formula.specs.Properties.{Property}
+use Rattle.tv_shape.specs.declared.certificate.Certificate.{Certificate}
+use Rattle.tv_shape.specs.Certificates.{IsOf}
 use Rattle.tv_cert_text.specs.CertificateLines.{piece_lines, proof_lines, cover_lines}
 
 -- a line with the LF that ends it
@@ -37,9 +41,18 @@ abbrev mutual
   kid_lines_with ks end_of-Node = []
   kid_lines_with ks (more_of-Node a kids) = lines_with ks a ++ kid_lines_with (drop (size a) ks) kids
 
--- the lines of a certificate, told the kinds of its nodes
-abbrev pub certificate_lines_with : List NodeKind → Node → Verdict → List PlainLine
-certificate_lines_with ks root (Proved tree) =
-    formed heads.Header [] ∷ formed heads.Proved [] ∷ (lines_with ks root ++ (cover_lines tree ++ formed heads.End [] ∷ []))
-certificate_lines_with ks root (Disproved k values) =
-    formed heads.Header [] ∷ formed heads.Disproved [] ∷ (lines_with ks root ++ formed heads.At (pos k ∷ values.items) ∷ formed heads.End [] ∷ [])
+-- the line that says whether it is proved or disproved
+abbrev pub said_lines : Verdict → List PlainLine
+said_lines (Proved tree) = formed heads.Proved [] ∷ []
+said_lines (Disproved k values) = formed heads.Disproved [] ∷ []
+
+-- what is said of the start: its cover, or a piece and the values in it
+abbrev pub at_lines : Verdict → List PlainLine
+at_lines (Proved tree) = cover_lines tree
+at_lines (Disproved k values) = formed heads.At (pos k ∷ values.items) ∷ []
+
+-- the certificate is one of some formula
+pub record IsMade (c : Certificate) : Type 0 where
+  pub about : About
+  pub formula : Property
+  pub is : IsOf about formula c

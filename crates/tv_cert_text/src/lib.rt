@@ -1,6 +1,7 @@
-//! The texts of certificates that no run reaches a location.
+//! The texts of certificates: those of safety are read, and each is written.
 #![tactic(auto)]
 
+mod certificate_writing;
 mod covers;
 mod fault;
 mod lines;
@@ -9,6 +10,7 @@ mod pieces;
 mod plain;
 mod writing;
 
+pub use certificate_writing::write_certificate;
 pub use fault::PlainFault;
 pub use plain::read_plain_certificate;
 
