@@ -16,6 +16,8 @@ mod offered;
 mod pieces;
 mod shaper;
 mod targets;
+#[cfg(test)]
+mod tests;
 mod verdicts;
 mod walking;
 
