@@ -10,6 +10,7 @@ mod depths;
 mod fault;
 mod fitting;
 mod kinds;
+mod laws;
 mod narrow;
 mod nodes;
 mod offered;
@@ -23,3 +24,4 @@ mod walking;
 
 pub use certificate::Certificate;
 pub use fault::ShapeFault;
+pub use laws::{faulty_is_unfit, one_first_fault, right_nodes_fit};
