@@ -2,10 +2,16 @@
 #![tactic(auto)]
 
 mod answer;
+#[cfg(test)]
+mod case_tests;
+#[cfg(test)]
+mod limit_tests;
 mod run;
 mod status;
 #[cfg(test)]
 mod tests;
+#[cfg(test)]
+mod texts;
 mod words;
 
 use run::run;

@@ -189,19 +189,6 @@ fn refuses_other_words(rt: HostRuntime) -> Result<(), Fail> {
     Ok(())
 }
 
-// One byte over the limit.
-#[test]
-fn refuses_a_long_text(rt: HostRuntime) -> Result<(), Fail> {
-    let alloc = rt.alloc();
-    let blanks = vec![in alloc; b' '; 16777217]?;
-    let mut source = MemSource::new(blanks, 65536, Vec::new(alloc));
-    let mut sink = sink(alloc, 4096, 0)?;
-    let words: &[&str] = &["--check", "--safety", "2"];
-    assert_eq!(rt; run(alloc, words, &mut source, &mut sink), Status::Refused);
-    assert_eq!(rt; sink.written(), b"Refused text too long\n".as_slice());
-    Ok(())
-}
-
 // A source of ten bytes a call, of 330, that fails at a call: nothing is written.
 #[test]
 fn a_read_fault_writes_nothing(rt: HostRuntime) -> Result<(), Fail> {
