@@ -4,6 +4,7 @@ pub mod RowValues
 pub mod ProductLemmas
 pub mod FormLemmas
 pub mod CodeForms
+pub mod AssignedLemmas
 pub mod AmountLemmas
 pub mod FormValues
 pub mod ListsMet

@@ -4,6 +4,7 @@ pub mod Systems
 pub mod Forms
 pub mod Lists
 pub mod EdgeCases
+pub mod AssignedTerms
 pub mod ProgramCases
 pub mod Given
 pub mod Partial

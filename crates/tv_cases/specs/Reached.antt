@@ -5,7 +5,7 @@ use Rattle.tv_cases.specs.EdgeCases.{Progress, progress}
 use Rattle.tv_cases.specs.Given.{lists, IsFaultOf}
 
 abbrev pub progress_view : Reached → Progress
-progress_view p = progress p.terms.items (lists p.lists)
+progress_view p = progress p.terms (lists p.lists)
 
 -- the result is what is reached, where all of it is narrow, and else the fault
 abbrev pub GivesProgress : Bool → Progress → Result Reached PartFault → Type 0

@@ -7,8 +7,8 @@ ghost use Rattle.tv_cases.specs.Given.{lists};
 ghost use Rattle.tv_cases.specs.Linearity.{is_linear};
 
 use crate::conditions::comparison;
-use crate::edges::identity;
 use crate::fault::PartFault;
+use crate::terms::Terms;
 use std::alloc::{AllocError, Global};
 use tv_linear::Row;
 use tv_program::{Expr, Relation};
@@ -26,7 +26,7 @@ pub fn comparison_lists(
     requires linear { IsTrue (is_linear (expression left.now) && is_linear (expression right.now)) }
     ensures { IfOk result (λ v. lists v ≡ comparison_lists variables relation (expression left.now) (expression right.now)) }
 {
-    let terms = identity(alloc, variables, variables)?;
+    let terms = Terms::new(alloc, variables, variables)?;
     match comparison(alloc, relation, left, right, &terms, variables) {
         Ok(rows) => Ok(rows),
         Err(PartFault::Wide) => Ok(Vec::new(alloc)),

@@ -14,6 +14,7 @@ use crate::fault::PartFault;
 use crate::linear_form::form_of;
 use crate::lists::{appended, compared, pairs, truth_lists};
 use crate::relations::relation_for;
+use crate::terms::Terms;
 use std::alloc::Global;
 use tv_linear::Row;
 use tv_program::{Cond, Expr, Relation};
@@ -24,7 +25,7 @@ pub(crate) fn comparison(
     relation: Relation,
     left: &Expr,
     right: &Expr,
-    terms: &[Row],
+    terms: &Terms,
     width: u32,
 ) -> Result<Vec<Vec<Row>>, PartFault>
     requires few { width < 2 ^ 32 - 1 }
@@ -49,7 +50,7 @@ pub(crate) fn test(
     alloc: Global,
     cond: &Cond,
     wanted: bool,
-    terms: &[Row],
+    terms: &Terms,
     width: u32,
 ) -> Result<(), PartFault>
     requires few { width < 2 ^ 32 - 1 }
@@ -83,7 +84,7 @@ fn test_all(
     alloc: Global,
     parts: &[Cond],
     wanted: bool,
-    terms: &[Row],
+    terms: &Terms,
     width: u32,
 ) -> Result<(), PartFault>
     requires few { width < 2 ^ 32 - 1 }
@@ -106,7 +107,7 @@ pub(crate) fn lists_of(
     alloc: Global,
     cond: &Cond,
     wanted: bool,
-    terms: &[Row],
+    terms: &Terms,
     width: u32,
 ) -> Result<Vec<Vec<Row>>, PartFault>
     requires few { width < 2 ^ 32 - 1 }
@@ -150,7 +151,7 @@ fn paired(
     alloc: Global,
     parts: &[Cond],
     wanted: bool,
-    terms: &[Row],
+    terms: &Terms,
     width: u32,
 ) -> Result<Vec<Vec<Row>>, PartFault>
     requires few { width < 2 ^ 32 - 1 }
@@ -177,7 +178,7 @@ fn none_paired(
     alloc: Global,
     parts: &[Cond],
     wanted: bool,
-    terms: &[Row],
+    terms: &Terms,
     width: u32,
 ) -> Result<Vec<Vec<Row>>, PartFault>
     requires few { width < 2 ^ 32 - 1 }
@@ -197,7 +198,7 @@ fn joined(
     alloc: Global,
     parts: &[Cond],
     wanted: bool,
-    terms: &[Row],
+    terms: &Terms,
     width: u32,
 ) -> Result<Vec<Vec<Row>>, PartFault>
     requires few { width < 2 ^ 32 - 1 }

@@ -1,13 +1,13 @@
 //! The cases of one edge.
 
-ghost use Rattle.std.specs.Prelude.{◌≡◌, [], ◌∷◌, ◌++◌, if◌then◌else◌, slice_set, ◌+◌, ◌-◌, ◌^◌, ◌<◌, ◌≤◌, All, length, map, MatchResult, IfOk, IsTrue, true};
-ghost use Rattle.tv_linear.specs.Linear.{columns};
+ghost use Rattle.std.specs.Prelude.{◌≡◌, [], ◌∷◌, ◌++◌, if◌then◌else◌, slice_get, slice_set, Some, ◌+◌, ◌-◌, ◌^◌, ◌<◌, ◌≤◌, All, length, map, MatchResult, IfOk, IsTrue, true};
+ghost use Rattle.tv_linear.specs.Linear.{Linear, columns};
 ghost use Rattle.tv_program.specs.Views.{expression, instruction, transition};
 ghost use Rattle.tv_cases.specs.Views.{case_views};
 ghost use Rattle.tv_cases.specs.Forms.{form, form_is_narrow};
-ghost use Rattle.tv_cases.specs.Given.{Tests, IsFaultOf};
+ghost use Rattle.tv_cases.specs.Given.{Tests, IsFaultOf, lists as lists_in};
 ghost use Rattle.tv_cases.specs.Linearity.{is_linear, instruction_is_linear, instructions_are_linear};
-ghost use Rattle.tv_cases.specs.EdgeCases.{progress, progressed, columns_from, after, instruction_is_narrow, next_terms, instructions_are_narrow, assigns, update, updates_from, edge_cases, edge_is_narrow};
+ghost use Rattle.tv_cases.specs.EdgeCases.{progress, progressed, after, instruction_is_narrow, next_terms, instructions_are_narrow, assigns, update, updates_from, case_of, edge_cases, edge_is_narrow};
 ghost use Rattle.tv_cases.specs.Reached.{GivesProgress, progress_view};
 
 use crate::case::Case;
@@ -15,6 +15,7 @@ use crate::conditions::{lists_of, test};
 use crate::fault::PartFault;
 use crate::linear_form::form_of;
 use crate::lists::{pairs, truth_lists};
+use crate::terms::Terms;
 use std::alloc::{AllocError, Global};
 use tv_linear::{Poly, Row, Update};
 use tv_program::{Command, Edge, Expr};
@@ -22,68 +23,39 @@ use tv_program::{Command, Edge, Expr};
 /// The term of each variable, and the lists of rows of the assumptions so far.
 #[derive(Drop)]
 pub(crate) struct Reached {
-    pub terms: Vec<Row>,
+    pub terms: Terms,
     pub lists: Vec<Vec<Row>>,
-}
-
-/// At first each variable's term is itself.
-pub(crate) fn identity(alloc: Global, variables: u32, width: u32) -> Result<Vec<Row>, AllocError>
-    requires few { width < 2 ^ 32 - 1 }
-    requires within { variables ≤ width }
-    ensures exact { IfOk result (λ v. v.items ≡ columns_from width 0 variables) }
-    ensures counted { IfOk result (λ v. length v.items ≡ variables) }
-    ensures even { IfOk result (λ v. All (λ t. columns t ≡ width) v.items) }
-{
-    let mut terms = Vec::new(alloc);
-    for variable in 0..variables {
-        terms.push(Row::column(alloc, width, variable)?)?;
-    }
-    Ok(terms)
-}
-
-fn replaced(mut terms: Vec<Row>, variable: u32, term: Row) -> Vec<Row>
-    ensures { result.items ≡ slice_set terms.items variable term }
-{
-    if (variable as usize) < terms.len() {
-        terms[variable as usize] = term;
-    }
-    terms
 }
 
 /// The terms after an assignment.
 fn assigned(
     alloc: Global,
-    terms: Vec<Row>,
+    terms: Terms,
     variable: u32,
     expr: &Expr,
     width: u32,
-) -> Result<Vec<Row>, PartFault>
+) -> Result<Terms, PartFault>
     requires few { width < 2 ^ 32 - 1 }
-    requires even { All (λ t. columns t ≡ width) terms.items }
+    requires even { All (λ t. columns t ≡ width) terms }
     requires linear { IsTrue (is_linear (expression expr.now)) }
-    ensures exact { MatchResult result (λ v. (form_is_narrow (length terms.items) width terms.items (expression expr.now) ≡ true) × (v.items ≡ slice_set terms.items variable (form (length terms.items) width terms.items (expression expr.now)))) (IsFaultOf (form_is_narrow (length terms.items) width terms.items (expression expr.now))) }
-    ensures counted { IfOk result (λ v. length v.items ≡ length terms.items) }
-    ensures even { IfOk result (λ v. All (λ t. columns t ≡ width) v.items) }
+    ensures exact { MatchResult result (λ v. (form_is_narrow (length terms) width terms (expression expr.now) ≡ true) × (v ≡ slice_set terms variable (form (length terms) width terms (expression expr.now)))) (IsFaultOf (form_is_narrow (length terms) width terms (expression expr.now))) }
+    ensures counted { IfOk result (λ v. length v ≡ length terms) }
+    ensures even { IfOk result (λ v. All (λ t. columns t ≡ width) v) }
 {
     match form_of(alloc, expr, &terms, width) {
-        Ok(term) => Ok(replaced(terms, variable, term)),
+        Ok(term) => Ok(terms.replaced(variable, term)),
         Err(fault) => Err(fault),
     }
 }
 
 /// The terms after a command, where each part and each row of it is narrow.
-fn tested(
-    alloc: Global,
-    command: &Command,
-    terms: Vec<Row>,
-    width: u32,
-) -> Result<Vec<Row>, PartFault>
+fn tested(alloc: Global, command: &Command, terms: Terms, width: u32) -> Result<Terms, PartFault>
     requires few { width < 2 ^ 32 - 1 }
-    requires even { All (λ t. columns t ≡ width) terms.items }
+    requires even { All (λ t. columns t ≡ width) terms }
     requires linear { IsTrue (instruction_is_linear (instruction command.now)) }
-    ensures exact { MatchResult result (λ v. (instruction_is_narrow (length terms.items) width (instruction command.now) terms.items ≡ true) × (v.items ≡ next_terms (length terms.items) width (instruction command.now) terms.items)) (IsFaultOf (instruction_is_narrow (length terms.items) width (instruction command.now) terms.items)) }
-    ensures counted { IfOk result (λ v. length v.items ≡ length terms.items) }
-    ensures even { IfOk result (λ v. All (λ t. columns t ≡ width) v.items) }
+    ensures exact { MatchResult result (λ v. (instruction_is_narrow (length terms) width (instruction command.now) terms ≡ true) × (v ≡ next_terms (length terms) width (instruction command.now) terms)) (IsFaultOf (instruction_is_narrow (length terms) width (instruction command.now) terms)) }
+    ensures counted { IfOk result (λ v. length v ≡ length terms) }
+    ensures even { IfOk result (λ v. All (λ t. columns t ≡ width) v) }
 {
     match command {
         Command::Assume(cond) => match test(alloc, cond, true, &terms, width) {
@@ -98,13 +70,13 @@ fn tested(
 fn test_commands(
     alloc: Global,
     commands: &[Command],
-    first: Vec<Row>,
+    first: Terms,
     width: u32,
 ) -> Result<(), PartFault>
     requires few { width < 2 ^ 32 - 1 }
-    requires even { All (λ t. columns t ≡ width) first.items }
+    requires even { All (λ t. columns t ≡ width) first }
     requires linear { IsTrue (instructions_are_linear (map instruction commands.now)) }
-    ensures { Tests (instructions_are_narrow (length first.items) width (map instruction commands.now) first.items) result }
+    ensures { Tests (instructions_are_narrow (length first) width (map instruction commands.now) first) result }
 {
     let mut terms = first;
     for command in commands {
@@ -124,11 +96,11 @@ fn progressed(
     width: u32,
 ) -> Result<Reached, PartFault>
     requires few { width < 2 ^ 32 - 1 }
-    requires even { All (λ t. columns t ≡ width) so_far.terms.items }
+    requires even { All (λ t. columns t ≡ width) so_far.terms }
     requires linear { IsTrue (instruction_is_linear (instruction command.now)) }
-    ensures exact { GivesProgress (instruction_is_narrow (length so_far.terms.items) width (instruction command.now) so_far.terms.items) (progressed (length so_far.terms.items) width (instruction command.now) (progress_view so_far)) result }
-    ensures counted { IfOk result (λ p. length p.terms.items ≡ length so_far.terms.items) }
-    ensures even { IfOk result (λ p. All (λ t. columns t ≡ width) p.terms.items) }
+    ensures exact { GivesProgress (instruction_is_narrow (length so_far.terms) width (instruction command.now) so_far.terms) (progressed (length so_far.terms) width (instruction command.now) (progress_view so_far)) result }
+    ensures counted { IfOk result (λ p. length p.terms ≡ length so_far.terms) }
+    ensures even { IfOk result (λ p. All (λ t. columns t ≡ width) p.terms) }
 {
     let Reached { terms, lists } = so_far;
     match command {
@@ -152,14 +124,14 @@ fn progressed(
 fn executed(
     alloc: Global,
     commands: &[Command],
-    first: Vec<Row>,
+    first: Terms,
     width: u32,
 ) -> Result<Reached, PartFault>
     requires few { width < 2 ^ 32 - 1 }
-    requires even { All (λ t. columns t ≡ width) first.items }
+    requires even { All (λ t. columns t ≡ width) first }
     requires linear { IsTrue (instructions_are_linear (map instruction commands.now)) }
-    ensures exact { GivesProgress (instructions_are_narrow (length first.items) width (map instruction commands.now) first.items) (after (length first.items) width (map instruction commands.now) (progress first.items ([] ∷ []))) result }
-    ensures counted { IfOk result (λ p. length p.terms.items ≡ length first.items) }
+    ensures exact { GivesProgress (instructions_are_narrow (length first) width (map instruction commands.now) first) (after (length first) width (map instruction commands.now) (progress first ([] ∷ []))) result }
+    ensures counted { IfOk result (λ p. length p.terms ≡ length first) }
 {
     let mut so_far = Reached {
         terms: first,
@@ -193,44 +165,53 @@ fn with_update(
     mut updates: Vec<Update>,
     commands: &[Command],
     variable: u32,
-    term: &Row,
+    terms: &Terms,
 ) -> Result<Vec<Update>, AllocError>
-    ensures { IfOk result (λ v. v.items ≡ updates.items ++ (if assigns (map instruction commands.now) variable then update variable term.now ∷ [] else [])) }
+    ensures { IfOk result (λ v. (t : Linear) → slice_get terms.now variable ≡ Some t → v.items ≡ updates.items ++ (if assigns (map instruction commands.now) variable then update variable t ∷ [] else [])) }
 {
     if is_assigned(commands, variable) {
-        updates.push(Update {
-            variable,
-            term: term.copy(alloc)?,
-        })?;
+        if let Some(term) = terms.get(alloc, variable)? {
+            updates.push(Update { variable, term })?;
+        }
         return Ok(updates);
     }
     Ok(updates)
 }
 
-fn updates_of(alloc: Global, commands: &[Command], terms: &[Row]) -> Result<Vec<Update>, AllocError>
-    requires { length terms.now < 2 ^ 32 }
+fn updates_of(alloc: Global, commands: &[Command], terms: &Terms) -> Result<Vec<Update>, AllocError>
     ensures { IfOk result (λ v. v.items ≡ updates_from (map instruction commands.now) 0 terms.now) }
 {
     let mut updates = Vec::new(alloc);
-    for i in 0..terms.len() {
-        updates = with_update(alloc, updates, commands, i as u32, &terms[i])?;
+    for variable in 0..terms.len() {
+        updates = with_update(alloc, updates, commands, variable, terms)?;
     }
     Ok(updates)
 }
 
-/// The cases of an edge, one for each list of rows.
-pub(crate) fn edge_cases(alloc: Global, edge: &Edge, variables: u32) -> Result<Vec<Case>, PartFault>
-    requires few { variables + edge.now.draws < 2 ^ 32 - 1 }
-    requires linear { IsTrue (instructions_are_linear (transition edge.now).instructions) }
-    ensures { MatchResult result (λ v. (edge_is_narrow variables (transition edge.now) ≡ true) × (case_views v.items ≡ edge_cases variables (transition edge.now))) (IsFaultOf (edge_is_narrow variables (transition edge.now))) }
+fn copied(alloc: Global, updates: &[Update]) -> Result<Vec<Update>, AllocError>
+    ensures { IfOk result (λ v. v.items ≡ updates.now) }
 {
-    let width = variables + edge.draws;
-    let first = identity(alloc, variables, width)?;
-    let reached = match executed(alloc, &edge.commands, first, width) {
-        Ok(reached) => reached,
-        Err(fault) => return Err(fault),
-    };
-    let Reached { terms, lists } = reached;
+    let mut copies = Vec::new(alloc);
+    for update in updates {
+        copies.push(Update {
+            variable: update.variable,
+            term: update.term.copy(alloc)?,
+        })?;
+    }
+    Ok(copies)
+}
+
+/// The cases of an edge with these terms at its end, one for each list of rows.
+fn listed(
+    alloc: Global,
+    edge: &Edge,
+    terms: &Terms,
+    lists: Vec<Vec<Row>>,
+    width: u32,
+) -> Result<Vec<Case>, AllocError>
+    ensures { IfOk result (λ v. case_views v.items ≡ map (case_of (transition edge.now) terms.now) (lists_in lists)) }
+{
+    let updates = updates_of(alloc, &edge.commands, terms)?;
     let mut cases = Vec::new(alloc);
     for rows in lists {
         cases.push(Case {
@@ -241,10 +222,25 @@ pub(crate) fn edge_cases(alloc: Global, edge: &Edge, variables: u32) -> Result<V
                 columns: width,
                 rows,
             },
-            updates: updates_of(alloc, &edge.commands, &terms)?,
+            updates: copied(alloc, &updates)?,
         })?;
     }
     Ok(cases)
+}
+
+/// The cases of an edge, one for each list of rows.
+pub(crate) fn edge_cases(alloc: Global, edge: &Edge, variables: u32) -> Result<Vec<Case>, PartFault>
+    requires few { variables + edge.now.draws < 2 ^ 32 - 1 }
+    requires linear { IsTrue (instructions_are_linear (transition edge.now).instructions) }
+    ensures { MatchResult result (λ v. (edge_is_narrow variables (transition edge.now) ≡ true) × (case_views v.items ≡ edge_cases variables (transition edge.now))) (IsFaultOf (edge_is_narrow variables (transition edge.now))) }
+{
+    let width = variables + edge.draws;
+    let first = Terms::new(alloc, variables, width)?;
+    let Reached { terms, lists } = match executed(alloc, &edge.commands, first, width) {
+        Ok(reached) => reached,
+        Err(fault) => return Err(fault),
+    };
+    Ok(listed(alloc, edge, &terms, lists, width)?)
 }
 
 /// Whether each part and each row of an edge is narrow: `Ok` where it is. No list is made.
@@ -254,6 +250,6 @@ pub(crate) fn test_edge(alloc: Global, edge: &Edge, variables: u32) -> Result<()
     ensures { Tests (edge_is_narrow variables (transition edge.now)) result }
 {
     let width = variables + edge.draws;
-    let first = identity(alloc, variables, width)?;
+    let first = Terms::new(alloc, variables, width)?;
     test_commands(alloc, &edge.commands, first, width)
 }

@@ -14,6 +14,7 @@ mod products;
 mod program;
 mod relations;
 mod rows;
+mod terms;
 #[cfg(test)]
 mod tests;
 

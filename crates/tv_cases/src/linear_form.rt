@@ -1,17 +1,18 @@
 //! Linear forms of expressions.
 
-ghost use Rattle.std.specs.Prelude.{◌≡◌, ◌+◌, ◌-◌, ◌^◌, ◌<◌, ◌≤◌, ◌&&◌, All, length, IfOk, IsTrue};
+ghost use Rattle.std.specs.Prelude.{◌≡◌, ◌+◌, ◌-◌, ◌^◌, ◌<◌, ◌≤◌, ◌&&◌, All, length, slice_index_or, pos, IfOk, IsTrue};
 ghost use Rattle.tv_linear.specs.Linear.{Linear, columns};
 ghost use Rattle.tv_program.specs.Trees.{sum, product};
 ghost use Rattle.tv_program.specs.Views.{expression, expressions};
-ghost use Rattle.tv_linear.specs.Arithmetic.{column_row};
+ghost use Rattle.tv_linear.specs.Arithmetic.{column_row, constant_row};
 ghost use Rattle.tv_cases.specs.Forms.{form, form_is_narrow, is_narrow};
 ghost use Rattle.tv_cases.specs.Given.{Gives};
 ghost use Rattle.tv_cases.specs.Linearity.{is_linear};
 
 use crate::fault::PartFault;
 use crate::products::{Partial, multiplied};
-use crate::rows::{column_row, copy_of, number_row, one_row, opposite_row, sum_row};
+use crate::rows::{column_row, known, number_row, one_row, opposite_row, sum_row};
+use crate::terms::Terms;
 use std::alloc::Global;
 use tv_linear::{Row, Total};
 use tv_program::Expr;
@@ -21,7 +22,7 @@ use tv_program::Expr;
 pub(crate) fn form_of(
     alloc: Global,
     expr: &Expr,
-    terms: &[Row],
+    terms: &Terms,
     width: u32,
 ) -> Result<Row, PartFault>
     requires few { width < 2 ^ 32 - 1 }
@@ -32,11 +33,8 @@ pub(crate) fn form_of(
 {
     match expr {
         Expr::Number(number) => number_row(alloc, width, *number),
-        Expr::Variable(variable) => match terms.get(*variable as usize) {
-            Some(term) => copy_of(alloc, term),
-            None => number_row(alloc, width, 0),
-        },
-        Expr::Draw(draw) => draw_row(alloc, terms.len(), *draw, width),
+        Expr::Variable(variable) => variable_row(alloc, terms, *variable, width),
+        Expr::Draw(draw) => draw_row(alloc, terms.len() as usize, *draw, width),
         Expr::Minus(inner) => match form_of(alloc, inner, terms, width) {
             Ok(row) => opposite_row(alloc, &row),
             Err(fault) => Err(fault),
@@ -47,7 +45,7 @@ pub(crate) fn form_of(
 }
 
 #[cycle(forms)]
-fn sum_of(alloc: Global, parts: &[Expr], terms: &[Row], width: u32) -> Result<Row, PartFault>
+fn sum_of(alloc: Global, parts: &[Expr], terms: &Terms, width: u32) -> Result<Row, PartFault>
     requires few { width < 2 ^ 32 - 1 }
     requires even { All (λ t. columns t ≡ width) terms.now }
     requires linear { IsTrue (is_linear (sum (expressions parts.now))) }
@@ -69,7 +67,7 @@ fn sum_of(alloc: Global, parts: &[Expr], terms: &[Row], width: u32) -> Result<Ro
 }
 
 #[cycle(forms)]
-fn product_of(alloc: Global, parts: &[Expr], terms: &[Row], width: u32) -> Result<Row, PartFault>
+fn product_of(alloc: Global, parts: &[Expr], terms: &Terms, width: u32) -> Result<Row, PartFault>
     requires few { width < 2 ^ 32 - 1 }
     requires even { All (λ t. columns t ≡ width) terms.now }
     requires linear { IsTrue (is_linear (product (expressions parts.now))) }
@@ -90,6 +88,19 @@ fn product_of(alloc: Global, parts: &[Expr], terms: &[Row], width: u32) -> Resul
     match total {
         Partial::Narrow(row) => Ok(row),
         Partial::Wide(_) => Err(PartFault::Wide),
+    }
+}
+
+/// The term of a variable, 0 where it is none of them.
+fn variable_row(alloc: Global, terms: &Terms, variable: u32, width: u32) -> Result<Row, PartFault>
+    requires few { width < 2 ^ 32 - 1 }
+    requires even { All (λ t. columns t ≡ width) terms.now }
+    ensures exact { let term = slice_index_or terms.now variable (constant_row width (pos 0)) in Gives (is_narrow term) term result }
+    ensures even { IfOk result (λ row. columns row ≡ width) }
+{
+    match terms.get(alloc, variable)? {
+        Some(term) => known(term),
+        None => number_row(alloc, width, 0),
     }
 }
 

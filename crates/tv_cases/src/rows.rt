@@ -24,7 +24,7 @@ fn as_part(made: Result<Row, RowFault>) -> Result<Row, PartFault>
 }
 
 /// A row, of which it is known that it is narrow.
-fn known(row: Row) -> Result<Row, PartFault>
+pub(crate) fn known(row: Row) -> Result<Row, PartFault>
     ensures { Gives (is_narrow row) row result }
 {
     let _columns = row.columns();
@@ -55,12 +55,6 @@ pub(crate) fn column_row(alloc: Global, width: u32, column: u32) -> Result<Row, 
     ensures even { IfOk result (λ row. columns row ≡ width) }
 {
     known(Row::column(alloc, width, column)?)
-}
-
-pub(crate) fn copy_of(alloc: Global, row: &Row) -> Result<Row, PartFault>
-    ensures { Gives (is_narrow row.now) row.now result }
-{
-    known(row.copy(alloc)?)
 }
 
 pub(crate) fn opposite_row(alloc: Global, row: &Row) -> Result<Row, PartFault>
