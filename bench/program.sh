@@ -1,8 +1,8 @@
 #!/usr/bin/env bash
 # How long the built program takes to read whole programs, and how much memory: 512 KiB with 2,048 edges, 1 MiB with 4,096 edges, and
 # 2 MiB with 4,096 edges, each over 1,024 locations and 512 variables. The best of 10 runs, in which its start and the reading of its
-# input are counted, and the ratio to the line before. First with commands as a translator writes them, and then with commands as short
-# as can be, for as many tokens as a text of that size may have.
+# input are counted, and the least time of a processor that one of them took, with its ratio to the line before. First with commands as a
+# translator writes them, and then with commands as short as can be, for as many tokens as a text of that size may have.
 # Build it first: (cd crates/reading_bench && rt run -- sum < /dev/null)
 set -eu
 cd "$(dirname "$0")/.."
@@ -37,7 +37,7 @@ def run(file):
         child = subprocess.Popen([sys.argv[1], "program"], stdin=given, stdout=subprocess.PIPE)
         answer = child.stdout.read().decode().strip()
         _, status, used = os.wait4(child.pid, 0)
-        return time.monotonic() - before, answer, used.ru_maxrss
+        return time.monotonic() - before, answer, used.ru_maxrss, used.ru_utime + used.ru_stime
 
 
 for assigned in (spaced, dense):
@@ -48,9 +48,11 @@ for assigned in (spaced, dense):
             file.write(made)
             file.flush()
             runs = [run(file.name) for _ in range(10)]
-        best = min(seconds for seconds, _, _ in runs)
-        ratio = "" if last is None else f"  {best / last:4.2f} times"
-        last = best
-        most = max(kib for _, _, kib in runs) // 1024
-        print(f"{assigned.__name__:6s} {len(made):8d} bytes  {edges} edges  {runs[0][1]:8s} {best * 1000:6.1f} ms  {most:3d} MB{ratio}")
+        best = min(run[0] for run in runs)
+        processor = min(run[3] for run in runs)
+        ratio = "" if last is None else f"  {processor / last:4.2f} times"
+        last = processor
+        most = max(run[2] for run in runs) // 1024
+        told = f"{best * 1000:6.1f} ms, {processor * 1000:6.1f} ms of a processor"
+        print(f"{assigned.__name__:6s} {len(made):8d} bytes  {edges} edges  {runs[0][1]:8s} {told}  {most:3d} MB{ratio}")
 END

@@ -1,0 +1,136 @@
+#!/usr/bin/env bash
+# How long the built program takes to settle linear equations and to refute rows, and how much memory: systems of small whole numbers,
+# dense and sparse, flows in networks, whose tableaux stay narrow, rows of differences around a cycle, and systems with as many entries
+# as there may be. The best of 3 runs, in which its start and the reading of the text are counted, and the least time of a processor that
+# one of them took, beside that of a run that tries no basis. The word tells how many bases are tried, 4,000 if left out. Where glpsol is
+# installed, it solves the same equations by exact arithmetic.
+# Build it first: (cd crates/solving_bench && rt run -- solve 99 < stdin)
+set -eu
+cd "$(dirname "$0")/.."
+exec python3 - crates/solving_bench/out/solving_bench "${1:-4000}" <<'END_OF_PROGRAM'
+import os, random, resource, shutil, subprocess, sys, tempfile, time
+
+PROGRAM, PIVOTS = sys.argv[1], sys.argv[2]
+MOST_MEMORY = 4 << 30
+ROOM = 60
+
+
+def product(rows, values):
+    return [sum(entry * value for entry, value in zip(row, values) if entry) for row in rows]
+
+
+def drawn(rows, columns, density, seed):
+    """Equations of small numbers, with a solution."""
+    draw = random.Random(seed)
+    table = [[draw.randint(-3, 3) if draw.random() < density else 0 for _ in range(columns)] for _ in range(rows)]
+    return table, product(table, [draw.randint(0, 2) for _ in range(columns)])
+
+
+def flow(nodes, arcs, balanced, seed):
+    """The flow into each node less the flow out of it: with a solution, or with one more at a node."""
+    draw = random.Random(seed)
+    table = [[0] * arcs for _ in range(nodes)]
+    right = [0 if balanced else 1] + [0] * (nodes - 1)
+    for arc in range(arcs):
+        source, target = draw.sample(range(nodes), 2)
+        table[source][arc], table[target][arc] = -1, 1
+        if arc < nodes:
+            right[source] -= 1
+            right[target] += 1
+    return table, right
+
+
+def differences(columns, closed):
+    """Rows that say that each column is above the one before, and perhaps the first above the last."""
+    rows = []
+    for column in range(columns - (0 if closed else 1)):
+        row = [0] * columns
+        row[column], row[(column + 1) % columns] = 1, -1
+        rows.append(row)
+    return rows, [1] * len(rows)
+
+
+def text_of(table, right):
+    lines = [f"{len(table)} {len(table[0])}"]
+    lines += [" ".join(map(str, row)) + f" {last}" for row, last in zip(table, right)]
+    return "\n".join(lines) + "\n"
+
+
+def run(words, given):
+    def limit():
+        resource.setrlimit(resource.RLIMIT_AS, (MOST_MEMORY, MOST_MEMORY))
+
+    with open(given) as text:
+        before = time.monotonic()
+        child = subprocess.Popen([PROGRAM, *words], stdin=text, stdout=subprocess.PIPE, preexec_fn=limit)
+        answer = child.stdout.read().decode().strip()
+        _, status, used = os.wait4(child.pid, 0)
+        took = time.monotonic() - before
+        return took, answer or f"status {status >> 8}", used.ru_maxrss // 1024, used.ru_utime + used.ru_stime
+
+
+def best(words, given):
+    """The best of three runs, or the only one where it takes long."""
+    runs = [run(words, given)]
+    while len(runs) < 3 and runs[0][0] < 2:
+        runs.append(run(words, given))
+    return min(run[0] for run in runs), runs[0][1], max(run[2] for run in runs), min(run[3] for run in runs)
+
+
+def term(entries):
+    return " ".join(f"{entry:+d} x{number}" for number, entry in enumerate(entries) if entry) or "0 x0"
+
+
+def other_solver(table, right):
+    """How long glpsol takes for the equations, and what it says."""
+    with tempfile.NamedTemporaryFile("w", suffix=".lp") as file:
+        file.write("Minimize\n o: 0 x0\nSubject To\n")
+        file.writelines(f" r{number}: {term(row)} = {last}\n" for number, (row, last) in enumerate(zip(table, right)))
+        file.write("End\n")
+        file.flush()
+        times = []
+        for _ in range(3):
+            before = time.monotonic()
+            try:
+                ended = subprocess.run(["glpsol", "--exact", "--lp", file.name], capture_output=True, text=True, timeout=ROOM)
+            except subprocess.TimeoutExpired:
+                return ROOM, f"not within {ROOM} s"
+            times.append(time.monotonic() - before)
+    return min(times), "none" if "NO" in ended.stdout and "FEASIBLE" in ended.stdout else "solution"
+
+
+SYSTEMS = [
+    ("dense 6 x 9", "solve", lambda: drawn(6, 9, 1.0, 1)),
+    ("dense 10 x 15", "solve", lambda: drawn(10, 15, 1.0, 2)),
+    ("dense 20 x 30", "solve", lambda: drawn(20, 30, 1.0, 3)),
+    ("sparse 20 x 30", "solve", lambda: drawn(20, 30, 0.1, 4)),
+    ("sparse 60 x 90", "solve", lambda: drawn(60, 90, 0.03, 5)),
+    ("flow 50 x 150", "solve", lambda: flow(50, 150, True, 6)),
+    ("flow 200 x 600", "solve", lambda: flow(200, 600, True, 7)),
+    ("flow 200 x 600, no solution", "solve", lambda: flow(200, 600, False, 7)),
+    ("cycle of 50 differences", "refute", lambda: differences(50, True)),
+    ("chain of 50 differences", "refute", lambda: differences(50, False)),
+    ("cycle of 300 differences", "refute", lambda: differences(300, True)),
+    ("flow 200 x 20,000", "solve", lambda: flow(200, 20_000, True, 8)),
+    ("flow 2,000 x 2,000", "solve", lambda: flow(2_000, 2_000, True, 9)),
+    ("flow 4,000 x 1,000", "solve", lambda: flow(4_000, 1_000, True, 10)),
+    ("flow 8,000 x 500", "solve", lambda: flow(8_000, 500, True, 11)),
+]
+
+compares = shutil.which("glpsol") is not None
+if not compares:
+    print("glpsol is not installed: times of this program alone")
+for name, word, made in SYSTEMS:
+    table, right = made()
+    with tempfile.NamedTemporaryFile("w") as file:
+        file.write(text_of(table, right))
+        file.flush()
+        reading = best([word, "0"], file.name)[3]
+        seconds, answer, memory, processor = best([word, PIVOTS], file.name)
+    line = f"{name:28s} {answer:22s} {seconds * 1000:8.1f} ms, {processor * 1000:8.1f} ms of a processor"
+    line += f" ({reading * 1000:8.1f} ms where no basis is tried)  {memory:5d} MB"
+    if compares and word == "solve":
+        other, said = other_solver(table, right)
+        line += f"  glpsol {said} {other * 1000:9.1f} ms, ratio {seconds / other:6.2f}"
+    print(line, flush=True)
+END_OF_PROGRAM
