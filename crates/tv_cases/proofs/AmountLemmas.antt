@@ -19,6 +19,11 @@ use Rattle.tv_cases.specs.Amounts.{capped, amount, counted, paired_amounts, join
 
 -- ---- one list
 
+-- the one list without rows adds nothing
+pub pairs-truth : (ms : List (List Linear)) → pairs ([] ∷ []) ms ≡ ms
+pairs-truth [] = refl
+pairs-truth (m ∷ ms) = ap (λ ns. m ∷ ns) (pairs-truth ms)
+
 pairs-one : (ls : List (List Linear)) (m : List Linear) → pairs ls (m ∷ []) ≡ map (λ l. l ++ m) ls
 pairs-one [] m = refl
 pairs-one (l ∷ ls) m = ap (λ ns. (l ++ m) ∷ ns) (pairs-one ls m)

@@ -168,7 +168,7 @@ fn paired(
             Ok(lists) => lists,
             Err(fault) => return Err(fault),
         };
-        so_far = pairs(alloc, so_far, &next)?;
+        so_far = pairs(alloc, so_far, next)?;
     }
     Ok(so_far)
 }

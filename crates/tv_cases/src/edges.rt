@@ -111,7 +111,7 @@ fn progressed(
             };
             Ok(Reached {
                 terms,
-                lists: pairs(alloc, lists, &next)?,
+                lists: pairs(alloc, lists, next)?,
             })
         }
         Command::Assign(variable, expr) => match assigned(alloc, terms, *variable, expr, width) {

@@ -1,6 +1,6 @@
 //! Lists of rows.
 
-ghost use Rattle.std.specs.Prelude.{◌≡◌, ◌++◌, ◌∷◌, [], ◌-◌, ◌^◌, ◌<◌, ◌&&◌, true, map, IfOk, MatchResult};
+ghost use Rattle.std.specs.Prelude.{◌≡◌, ◌++◌, ◌∷◌, [], ◌-◌, ◌^◌, ◌<◌, ◌&&◌, true, map, IfOk, IsTrue, MatchResult};
 ghost use Rattle.tv_linear.specs.Linear.{columns, IsWithin};
 ghost use Rattle.tv_cases.specs.Given.{lists, row_lists, GivesLists, IsFaultOf};
 ghost use Rattle.tv_cases.specs.Forms.{is_narrow};
@@ -164,7 +164,7 @@ fn extended(alloc: Global, first: Vec<Vec<Row>>, rows: &[Row]) -> Result<Vec<Vec
 }
 
 /// Each list of the first with each list of the second, the first varying slowest.
-pub(crate) fn pairs(
+fn all_pairs(
     alloc: Global,
     first: Vec<Vec<Row>>,
     second: &[Vec<Row>],
@@ -175,6 +175,30 @@ pub(crate) fn pairs(
         [only] => extended(alloc, first, only),
         _ => copied_pairs(alloc, &first, second),
     }
+}
+
+/// Whether there is one list, without rows.
+fn are_truth(lists: &[Vec<Row>]) -> bool
+    ensures { IsTrue result → row_lists lists.now ≡ [] ∷ [] }
+{
+    match lists {
+        [only] => only.is_empty(),
+        _ => false,
+    }
+}
+
+/// The same. Where the first have nothing to add, none is copied.
+pub(crate) fn pairs(
+    alloc: Global,
+    first: Vec<Vec<Row>>,
+    second: Vec<Vec<Row>>,
+) -> Result<Vec<Vec<Row>>, AllocError>
+    ensures { IfOk result (λ v. lists v ≡ pairs (lists first) (lists second)) }
+{
+    if are_truth(&first) {
+        return Ok(second);
+    }
+    all_pairs(alloc, first, &second)
 }
 
 /// The lists of the first and those of the second.
