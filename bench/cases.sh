@@ -21,6 +21,12 @@ def unequal(variables, times):
     return one_edge(f"assume({total} != 0); " * times)
 
 
+def unequal_at_once(variables, times):
+    """The same as one assumption."""
+    total = " + ".join(f"v{number}" for number in range(variables))
+    return one_edge("assume(" + " && ".join([f"{total} != 0"] * times) + ");")
+
+
 def many_edges(edges, variables, rows):
     """So many edges around the locations, over so many variables, with so many rows in all: a guard first, and then updates."""
     made = ["START: 0;\n"]
@@ -48,6 +54,7 @@ TEXTS = [
     ("16,384 lists of an edge", unequal(1, 14)),
     ("8,192 cases of an edge, 75 variables", unequal(75, 13)),
     ("8,192 cases of an edge, 76 variables", unequal(76, 13)),
+    ("8,192 cases of one assumption", unequal_at_once(75, 13)),
     ("4,096 edges, 512 variables, 4,096 rows", many_edges(4096, 512, 4096)),
     ("4,096 edges, 512 variables, 15,625 rows", many_edges(4096, 512, LIMIT // 512)),
     ("4,096 edges, 512 variables, 15,626 rows", many_edges(4096, 512, LIMIT // 512 + 1)),
