@@ -1,4 +1,4 @@
-use Rattle.std.proofs.Common.{◌≡◌, ℕ, suc, ◌+◌, List, [], ◌∷◌, ◌++◌, length, map, refl, sym, ap, ◌∙◌, subst}
+use Rattle.std.proofs.Common.{◌≡◌, ℕ, zero, suc, ◌+◌, ◌<◌, ◌≤◌, List, [], ◌∷◌, ◌++◌, length, map, get_or, arith, refl, sym, ap, ◌∙◌, subst}
 use Rattle.tv_formula.specs.Properties.{Property, Properties, none, more}
 use Rattle.tv_cert.specs.declared.node.Proof.{Proof}
 use Rattle.tv_cert.specs.declared.node.Node.{Node, Node', Row_of-Node, end_of-Node, more_of-Node, items-the_row-Node, out-Node}
@@ -93,3 +93,9 @@ pub length-paired : (os : List Obligation) (proofs : List Proof) → length (pai
 length-paired [] proofs = refl
 length-paired (o ∷ os) [] = ap suc (length-paired os [])
 length-paired (o ∷ os) (p ∷ proofs) = ap suc (length-paired os proofs)
+
+-- a child has no more nodes than the children together
+pub size_there : (kids : List Node) (i : ℕ) → i < length kids → (a : Node) → a ≡ get_or kids i a → size a ≤ sizes_list kids
+size_there [] i below a is = absurd (omega arith)
+size_there (b ∷ kids) zero below a is = let z = ap size is in omega (arith, z)
+size_there (b ∷ kids) (suc i) below a is = let z = size_there kids i (omega arith) a is in omega (arith, z)

@@ -7,5 +7,3 @@ pub mod OneEachLemmas
 pub mod RootLemmas
 pub mod PublicLemmas
 pub mod FitLemmas
-mod NodeWriting
-mod KindLines

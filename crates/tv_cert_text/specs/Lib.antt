@@ -5,4 +5,3 @@ pub mod Parts
 pub mod Wanted
 pub mod Targets
 pub mod Nodes
-pub mod Writing

@@ -67,12 +67,6 @@ pub record Stands (system : CaseSystem) (ss : Statements) (kids : List Node) (st
 pub Stands_all : (system : CaseSystem) (ss : Statements) (kids : List Node) (start from : ℕ) → Stands system ss kids start from start from 0
 Stands_all system ss kids start from = record { done = []; whole = refl; true = tt; so_far = omega arith; nodes = refl }
 
--- a child has no more nodes than all of the children
-pub size_there : (kids : List Node) (i : ℕ) → i < length kids → (a : Node) → a ≡ get_or kids i a → size a ≤ sizes_list kids
-size_there [] i below a is = absurd (omega arith)
-size_there (b ∷ kids) zero below a is = let z = ap size is in omega (arith, z)
-size_there (b ∷ kids) (suc i) below a is = let z = size_there kids i (omega arith) a is in omega (arith, z)
-
 module _ (system : CaseSystem) (ss : Statements) (kids : List Node) (start from next seen i : ℕ) (fits : parts_list ss kids) (below : i < length kids) (a : Node) (is : a ≡ get_or kids i a) (h : Stands system ss kids start from next seen i) where
   pub part_there : i < count ss
   part_there = omega (arith, fits_many ss kids fits, below)

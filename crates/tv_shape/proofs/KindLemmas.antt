@@ -1,13 +1,10 @@
 -- The kinds of aims, one after another.
 use Rattle.std.proofs.Common.{◌≡◌, ℕ, zero, suc, ◌+◌, ◌<◌, ◌≤◌, List, [], ◌∷◌, ◌++◌, length, drop, get_or, arith, refl, sym, ap, ◌∙◌, append_assoc, drop-cons}
+use Rattle.std.proofs.lemmas.List.{append-nil}
 use Rattle.tv_lines.specs.declared.head.NodeKind.{NodeKind}
 use Rattle.tv_cert.specs.declared.aim.Aim.{Aim}
 use Rattle.tv_cert.specs.AimViews.{aim_states, aims_state}
 use Rattle.tv_shape.specs.Kinds.{kinds_stated, all_kinds}
-
-append_nil : (ks : List NodeKind) → ks ++ [] ≡ ks
-append_nil [] = refl
-append_nil (k ∷ ks) = ap (λ rest. k ∷ rest) (append_nil ks)
 
 drop_past : (aims : List Aim) (i : ℕ) → length aims ≤ i → drop i aims ≡ []
 drop_past [] zero h = refl
@@ -21,4 +18,4 @@ kinds_next first now next aims i a below is so_far e =
     so_far ∙ ap (λ rest. now ++ all_kinds (aims_state rest)) there ∙ sym (append_assoc now (kinds_stated (aim_states a)) (all_kinds (aims_state (drop (i + 1) aims)))) ∙ ap (λ ks. ks ++ all_kinds (aims_state (drop (i + 1) aims))) (sym e)
 
 pub kinds_end : (first now : List NodeKind) (aims : List Aim) (i : ℕ) → length aims ≤ i → first ++ all_kinds (aims_state aims) ≡ now ++ all_kinds (aims_state (drop i aims)) → now ≡ first ++ all_kinds (aims_state aims)
-kinds_end first now aims i past so_far = sym (so_far ∙ ap (λ rest. now ++ all_kinds (aims_state rest)) (drop_past aims i past) ∙ append_nil now)
+kinds_end first now aims i past so_far = sym (so_far ∙ ap (λ rest. now ++ all_kinds (aims_state rest)) (drop_past aims i past) ∙ append-nil now)

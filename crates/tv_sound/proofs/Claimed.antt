@@ -63,7 +63,7 @@ module _ (p : System) (system : CaseSystem) (of_program : IsOfProgram p system) 
         piece = ap (λ os. slice_get (offered_at os system.start) k) same ∙ o.1;
         begins = refl;
         runs = λ n. subst (λ os. IsRun (Steps p) first.state (followed (onward system os) first n)) (sym same)
-        (runs_on about qs proofs 0 met (Steps p) (λ s t wide step. (steps s t (wide ∙ of_program.variables)).1 step) first stands n);
+            (runs_on about qs proofs 0 met (Steps p) (λ s t wide step. (steps s t (wide ∙ of_program.variables)).1 step) first stands n);
       }
 
   pub claim_followed : (root : Node) (k : ℕ) (values : _) → AllMet (obligations (about_with system) (negated term) root (Disproved k values)) → length values.items ≡ system.variables → Follows p system root k values.items

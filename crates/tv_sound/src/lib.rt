@@ -3,6 +3,8 @@
 
 mod claims;
 mod safety;
+#[cfg(test)]
+mod tests;
 
 pub use claims::check_claim;
 pub use safety::check_safety;

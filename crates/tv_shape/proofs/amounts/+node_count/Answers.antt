@@ -1,8 +1,7 @@
 use Rattle.std.proofs.Common.{arith, ◌<◌, ◌≤◌, length, ap, ◌∙◌, subst, get_or}
 use Rattle.tv_cert.specs.Nodes.{size}
-use Rattle.tv_cert.proofs.NodeLemmas.{kids_of, size_is}
+use Rattle.tv_cert.proofs.NodeLemmas.{kids_of, size_is, size_there}
 use Rattle.tv_shape.proofs.AmountLemmas.{sizes_there, sizes_end}
-use Rattle.tv_shape.proofs.StationLemmas.{size_there}
 use Rattle.tv_shape.proofs.amounts.+node_count.Goals as goal
 
 pub loop-child-init : goal.loop-child-init

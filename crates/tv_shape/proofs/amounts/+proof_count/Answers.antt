@@ -1,9 +1,8 @@
 use Rattle.std.proofs.Common.{arith, ◌≡◌, ◌<◌, ◌≤◌, length, ap, ◌∙◌, subst, get_or}
 use Rattle.tv_cert.specs.declared.node.Node.{out-Node}
 use Rattle.tv_cert.specs.Nodes.{size}
-use Rattle.tv_cert.proofs.NodeLemmas.{kids_of, proofs_list, size_is}
+use Rattle.tv_cert.proofs.NodeLemmas.{size_there, kids_of, proofs_list, size_is}
 use Rattle.tv_shape.proofs.AmountLemmas.{proofs_are, proofs_there, proofs_end}
-use Rattle.tv_shape.proofs.StationLemmas.{size_there}
 use Rattle.tv_shape.proofs.amounts.+proof_count.Goals as goal
 
 pub loop-child-init : goal.loop-child-init

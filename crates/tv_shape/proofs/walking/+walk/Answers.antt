@@ -3,9 +3,9 @@ use Rattle.tv_cases.specs.Systems.{cases_of}
 use Rattle.tv_cert.specs.AimViews.{aim_states}
 use Rattle.tv_cert.specs.Nodes.{size}
 use Rattle.tv_cert.specs.Statements.{Statement, parts_of}
-use Rattle.tv_cert.proofs.NodeLemmas.{kids_of, size_is}
+use Rattle.tv_cert.proofs.NodeLemmas.{kids_of, size_is, size_there}
 use Rattle.tv_shape.specs.Stations.{stations, AreRight, IsFirstMisshapen}
-use Rattle.tv_shape.proofs.StationLemmas.{size_there, part_there, nodes_there, child_fails, stands_next, stands_ends, node_fails, kids_fail, node_right}
+use Rattle.tv_shape.proofs.StationLemmas.{part_there, nodes_there, child_fails, stands_next, stands_ends, node_fails, kids_fail, node_right}
 use Rattle.tv_shape.proofs.walking.+walk.Goals as goal
 
 pub returns-in-Err : goal.returns-in-Err

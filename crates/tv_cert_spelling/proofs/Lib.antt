@@ -1,0 +1,2 @@
+mod NodeLines
+mod KindLines

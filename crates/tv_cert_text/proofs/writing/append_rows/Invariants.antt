@@ -1,8 +1,0 @@
-use Rattle.std.proofs.Common.{◌≡◌, ◌++◌, drop, map}
-use Rattle.std.specs.List.{flat_map}
-use Rattle.tv_cert_text.specs.CertificateLines.{row_lines, by_lines, cover_lines, proof_lines, piece_lines}
-use Rattle.tv_cert_text.specs.Writing.{all_spelled}
-use Rattle.tv_cert_text.proofs.writing.append_rows.Given as goal
-
-abbrev pub invariant-loop-row : goal.invariant-loop-row
-invariant-loop-row l = l.out.items ++ all_spelled (row_lines l.head (drop l.row-index l.rows)) ≡ l.fn.out.items ++ all_spelled (row_lines l.head l.rows)
