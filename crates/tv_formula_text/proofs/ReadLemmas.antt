@@ -195,7 +195,6 @@ refusal_is p text ts n reasons.Wide f h r t = rw t (first_fault p text ts n _ h 
 refusal_is p text ts n reasons.Deep f h r t = rw t (first_fault p text ts n _ h r)
 refusal_is p text ts n reasons.NotLinear f h r t = rw t (first_fault p text ts n _ h r)
 refusal_is p text ts n reasons.UnknownName f h r t = rw t (first_fault p text ts n _ h r)
-refusal_is p text ts n reasons.TooMany f h r t = rw t tt
 refusal_is p text ts n reasons.Memory f h r t = rw t tt
 
 -- ---- a reading from the front of the text
@@ -248,7 +247,6 @@ only_memory P reasons.Wide g at out f s o u t = absurd (not_refused f [] _ s (sy
 only_memory P reasons.Deep g at out f s o u t = absurd (not_refused f [] _ s (sym o ∙ u))
 only_memory P reasons.NotLinear g at out f s o u t = absurd (not_refused f [] _ s (sym o ∙ u))
 only_memory P reasons.UnknownName g at out f s o u t = absurd (not_refused f [] _ s (sym o ∙ u))
-only_memory P reasons.TooMany g at out f s o u t = memory_only g P t
 only_memory P reasons.Memory g at out f s o u t = memory_only g P t
 
 module _ (p : System) (source : Source) (text : List ℕ) (list : List Token) (names : List Word) (s : Stand) (e : s ≡ readings.begun text list names false) (variables : names ≡ p.variables) (labels : source.labels.now ≡ p.locations) (scanned : IsTokens 0 text list) (f : Property) (w : IsFormulaText p text f) where

@@ -1,5 +1,5 @@
 -- Where a reading stands, and what it takes.
-use Rattle.std.proofs.Common.{◌≡◌, ℕ, zero, suc, ◌+◌, ◌-◌, ◌^◌, ◌<◌, ◌≤◌, Bool, true, false, List, [], ◌∷◌, map, drop, length, Some, refl, sym, ap, subst, ◌∙◌, length-drop, arith}
+use Rattle.std.proofs.Common.{◌≡◌, ℕ, zero, suc, ◌+◌, ◌-◌, ◌<◌, ◌≤◌, Bool, true, false, List, [], ◌∷◌, map, drop, length, Some, refl, sym, ap, subst, ◌∙◌, length-drop, arith}
 use Rattle.std.proofs.lemmas.List.{drop-drop}
 use Rattle.std.proofs.lemmas.Bool.Decides.{nat_tests}
 use Rattle.std.specs.Prelude.{nat_lt, slice_index_or}
@@ -7,7 +7,6 @@ use Rattle.tv_tokens.specs.declared.token.TokenKind.{TokenKind}
 use Rattle.tv_tokens.specs.declared.token.TokenKind.TheVariants as kinds
 use Rattle.tv_tokens.specs.declared.token.Token.{Token}
 use Rattle.tv_tokens.specs.Tokens.{token, IsTokens, end, gap, solid, unread}
-use Rattle.tv_tokens.proofs.TokenCounts.{few_tokens}
 use Rattle.tv_program.specs.Words.{Word}
 use Rattle.tv_language.specs.Symbols.{lexeme, lexemes, Vocabulary}
 use Rattle.tv_grammar.specs.Reads.{next}
@@ -18,9 +17,6 @@ use Rattle.tv_formula_text.specs.Answers.{left, IsOver, Stays, kind_seen, is_las
 use Rattle.tv_formula_text.specs.declared.source.Source.{Source}
 
 -- ---- tokens
-
-pub few : (source : Source) (s : Stand) → IsOver source s → length s.tokens < 2 ^ 32
-few source s h = omega (arith, few_tokens 0 s.text s.tokens h.scanned, h.short)
 
 pub first_at : (ts : List Token) (at : ℕ) (d : Token) → at < length ts → Some (slice_index_or ts at d) ≡ first (drop at ts)
 first_at [] at d l = absurd (omega arith)
@@ -83,7 +79,7 @@ pass_left source s u e h l =
 pub pass_stays : (source : Source) (s u : Stand) → u ≡ taken s → IsOver source s → s.at + 1 < length source.list.now → Stays source s u
 pass_stays source s u e h l =
     let inside : s.at + 1 < length s.tokens = subst (λ (ts : List Token). s.at + 1 < length ts) (sym h.tokens) l in
-    subst (Stays source s) (sym (e ∙ taken_at s inside)) (record { over = record { text = h.text; tokens = h.tokens; scanned = h.scanned; short = h.short; fixed = h.fixed; inside = omega arith }; names = refl })
+    subst (Stays source s) (sym (e ∙ taken_at s inside)) (record { over = record { text = h.text; tokens = h.tokens; scanned = h.scanned; fixed = h.fixed; inside = omega arith }; names = refl })
 
 -- ---- the kind that is seen
 
@@ -119,12 +115,6 @@ length-seen v text (t ∷ ts) = ap suc (length-seen v text ts)
 
 pub length-left : (source : Source) (s : Stand) → IsOver source s → length (left source s) ≡ length source.list.now - s.at
 length-left source s h = length-seen (words source s) s.text (drop s.at s.tokens) ∙ length-drop s.at s.tokens ∙ ap (λ (ts : List Token). length ts - s.at) h.tokens
-
-pub place_is : (source : Source) (s : Stand) (n : ℕ) → IsOver source s → (s.at < 2 ^ 32 → n ≡ s.at) → n ≡ s.at
-place_is source s n h e =
-    let l = few source s h in
-    let i = h.inside in
-    e (omega arith)
 
 pub left_less : (source : Source) (u v : Stand) → IsOver source u → IsOver source v → u.at ≤ v.at → length (left source v) ≤ length (left source u)
 left_less source u v h i l = omega (arith, length-left source u h, length-left source v i)

@@ -14,7 +14,7 @@ use Rattle.tv_reading.specs.Marks.{Kind, Mark, plain, refused}
 use Rattle.tv_reading.specs.Views.{kind_at}
 use Rattle.tv_reading.specs.SumGrammar.{every}
 use Rattle.tv_formula_text.specs.declared.reason.Reason.{Reason}
-use Rattle.tv_formula_text.specs.declared.reason.Reason.TheVariants.{Syntax, Wide, Deep, NotLinear, TooMany, UnknownName, Memory}
+use Rattle.tv_formula_text.specs.declared.reason.Reason.TheVariants.{Syntax, Wide, Deep, NotLinear, UnknownName, Memory}
 use Rattle.tv_formula_text.specs.declared.reason.Turn.TheVariants.{On, Off}
 use Rattle.tv_formula_text.specs.Told.{is_memory}
 use Rattle.tv_grammar.proofs.Results.{ok_is}
@@ -120,7 +120,6 @@ unless_map Syntax p q f h = f h
 unless_map Wide p q f h = f h
 unless_map Deep p q f h = f h
 unless_map NotLinear p q f h = f h
-unless_map TooMany p q f h = f h
 unless_map UnknownName p q f h = f h
 
 pub literal_further : (n : ℕ) (ts s : List Seen) (e : Reason) (r : List Seen) → (comparison every n).read ts ≡ fault marks.Syntax s → length r ≤ length s → Unless e ((plain_at every n).read ts ≡ fault (kind_of e) r) → Unless e ((literal_at every n).read ts ≡ fault (kind_of e) r)
@@ -135,7 +134,6 @@ literal_other n ts Memory r o h = tt
 literal_other n ts Wide r o h = other_first n ts marks.Wide r (λ w. cc) h
 literal_other n ts Deep r o h = other_first n ts marks.Deep r (λ w. cc) h
 literal_other n ts NotLinear r o h = other_first n ts marks.NotLinear r (λ w. cc) h
-literal_other n ts TooMany r o h = other_first n ts marks.TooMany r (λ w. cc) h
 literal_other n ts UnknownName r o h = other_first n ts marks.UnknownName r (λ w. cc) h
 
 -- the comparison is read again, since its fault is further on
@@ -148,7 +146,6 @@ again_at Syntax n p h = h
 again_at Wide n p h = h
 again_at Deep n p h = h
 again_at NotLinear n p h = h
-again_at TooMany n p h = h
 again_at UnknownName n p h = h
 
 pub literal_again : (n : ℕ) (ts s : List Seen) (e : Reason) (r : List Seen) → is_memory e ≡ false → (comparison every n).read ts ≡ fault marks.Syntax s → Unless e ((plain_at every n).read ts ≡ fault (kind_of e) r) → length s < length r → (literal_at every n).read ts ≡ (comparison every n).read ts
@@ -179,7 +176,6 @@ module _ {X S : Type 0} (view : X → S) (cases : S → Seen → Behind S) (h : 
   turn_failed Wide t = failed_by _ t
   turn_failed Deep t = failed_by _ t
   turn_failed NotLinear t = failed_by _ t
-  turn_failed TooMany t = failed_by _ t
   turn_failed UnknownName t = failed_by _ t
 
   pub turn_on : (x : X) → Turned view (Ok (On x)) left cases s ts → (turns cases (view x)).read left ≡ all

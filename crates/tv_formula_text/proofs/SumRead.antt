@@ -9,12 +9,12 @@ use Rattle.tv_program.specs.Trees.{Expression}
 use Rattle.tv_language.specs.Symbols.{lexeme, Vocabulary}
 use Rattle.tv_grammar.specs.Reads.{fault}
 use Rattle.tv_reading.specs.Marks as marking
-use Rattle.tv_reading.specs.Marks.{Kind, Mark, Stand, Passes, stay, pass, past, mark_by, names_behind, draws_behind, marks_from}
+use Rattle.tv_reading.specs.Marks.{Kind, Mark, Stand, Passes, mark_by, names_behind, draws_behind, marks_from}
 use Rattle.tv_reading.specs.SumGrammar.{every, sum_at}
 use Rattle.tv_reading.specs.Readings.{moved, sum_levels, IsKept, IsRead}
 use Rattle.tv_reading.specs.declared.fault.PartFault.{PartFault}
 use Rattle.tv_reading.specs.declared.fault.PartFault.TheVariants as parts
-use Rattle.tv_reading.proofs.PassedLemmas.{passes_kept}
+use Rattle.tv_reading.proofs.RoomLemmas.{passed_names}
 use Rattle.tv_formula_text.specs.Seen.{Seen, seen, seen_all, marks}
 use Rattle.tv_formula_text.specs.Choice.{last, lifted_read}
 use Rattle.tv_formula_text.specs.FormulaGrammar.{summed}
@@ -43,15 +43,6 @@ marks_left source s e = marks_all (words source s) s.text (drop s.at s.tokens) s
 
 -- ---- what is passed
 
-names_same : (b : Bool) → b ≡ false → (kind : TokenKind) (w : Word) (names : List Word) → names_behind b kind w names ≡ names
-names_same false e kinds.Name w names = refl
-names_same false e kind w names = refl
-names_same true e kind w names = absurd cc
-
-passed_names : {s u : Stand} → Passes s u → s.grows ≡ false → u.names ≡ s.names
-passed_names (stay s) e = refl
-passed_names (pass {s} {u} {t} p f) e = names_same u.grows ((passes_kept s u p).grows ∙ e) t.kind (lexeme u.text t).word u.names ∙ passed_names p e
-
 record Front (v : Vocabulary) (text : List ℕ) (xs : List Token) (k : ℕ) : Type 0 where
   front : List Seen
   parts : seen_all v text xs ≡ front ++ seen_all v text (drop k xs)
@@ -71,7 +62,6 @@ module _ (source : Source) (s u : Stand) (level : ℕ) (h : IsOver source s) (ke
       text = kept.text ∙ h.text;
       tokens = kept.tokens ∙ h.tokens;
       scanned = rw (kept.text, kept.tokens) h.scanned;
-      short = rw kept.text h.short;
       fixed = kept.grows ∙ h.fixed;
       inside = kept.inside h.inside;
     };
@@ -104,7 +94,7 @@ module _ (source : Source) (s u : Stand) (level : ℕ) (h : IsOver source s) (ke
   sum_refused view n l (parts.Wide at) e is r = rw is (fault_given n l marking.Wide r.0)
   sum_refused view n l (parts.Deep at) e is r = rw is (fault_given n l marking.Deep r.0)
   sum_refused view n l (parts.NotLinear at) e is r = rw is (fault_given n l marking.NotLinear r.0)
-  sum_refused view n l (parts.TooMany at) e is r = rw is (fault_given n l marking.TooMany r.0)
+  sum_refused view n l (parts.TooMany at) e is r = absurd is
   sum_refused view n l (parts.UnknownName at) e is r = rw is (fault_given n l marking.UnknownName r.0)
   sum_refused view n l parts.Memory e is r = rw is tt
 

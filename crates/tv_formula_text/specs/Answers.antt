@@ -1,5 +1,5 @@
 -- Where the reading of a formula stands, and what it answers.
-use Rattle.std.specs.Prelude.{◌≡◌, ◌+◌, ◌^◌, ◌<◌, ◌≤◌, ℕ, Bool, true, false, List, [], length, drop, Option, Some, None, Result, Ok, Err, Vec, map}
+use Rattle.std.specs.Prelude.{◌≡◌, ◌≤◌, ℕ, Bool, true, false, List, [], length, drop, Option, Some, None, Result, Ok, Err, Vec, map}
 use Rattle.std.specs.Global.{Global}
 use Rattle.tv_tokens.specs.declared.token.TokenKind.{TokenKind}
 use Rattle.tv_tokens.specs.declared.token.TokenKind.TheVariants as kinds
@@ -17,7 +17,7 @@ use Rattle.tv_formula.specs.Views.{property}
 use Rattle.tv_formula_text.specs.Seen.{Seen, seen_all}
 use Rattle.tv_formula_text.specs.Choice.{mark_at}
 use Rattle.tv_formula_text.specs.declared.reason.Reason.{Reason}
-use Rattle.tv_formula_text.specs.declared.reason.Reason.TheVariants.{Syntax, Wide, Deep, NotLinear, TooMany, UnknownName, Memory}
+use Rattle.tv_formula_text.specs.declared.reason.Reason.TheVariants.{Syntax, Wide, Deep, NotLinear, UnknownName, Memory}
 use Rattle.tv_formula_text.specs.declared.reason.Turn.{Turn}
 use Rattle.tv_formula_text.specs.declared.reason.Turn.TheVariants.{On, Off}
 use Rattle.tv_formula_text.specs.declared.source.Source.{Source}
@@ -31,7 +31,6 @@ pub record IsOver (source : Source) (s : Stand) : Type 0 where
   pub text : s.text ≡ source.text.now
   pub tokens : s.tokens ≡ source.list.now
   pub scanned : IsTokens 0 s.text s.tokens
-  pub short : length s.text + 1 < 2 ^ 32
   pub fixed : s.grows ≡ false
   pub inside : s.at ≤ length s.tokens
 
@@ -60,7 +59,6 @@ kind_of Syntax = marks.Syntax
 kind_of Wide = marks.Wide
 kind_of Deep = marks.Deep
 kind_of NotLinear = marks.NotLinear
-kind_of TooMany = marks.TooMany
 kind_of UnknownName = marks.UnknownName
 kind_of Memory = marks.Syntax
 

@@ -62,4 +62,4 @@ IsTold reasons.Wide f at = f ≡ faults.Wide at
 IsTold reasons.Deep f at = f ≡ faults.Deep at
 IsTold reasons.NotLinear f at = f ≡ faults.NotLinear at
 IsTold reasons.UnknownName f at = f ≡ faults.UnknownName at
-IsTold reason f at = f ≡ faults.Memory
+IsTold reasons.Memory f at = f ≡ faults.Memory

@@ -10,7 +10,7 @@ IsReasonFor (parts.Syntax at) r = r ≡ reasons.Syntax
 IsReasonFor (parts.Wide at) r = r ≡ reasons.Wide
 IsReasonFor (parts.Deep at) r = r ≡ reasons.Deep
 IsReasonFor (parts.NotLinear at) r = r ≡ reasons.NotLinear
-IsReasonFor (parts.TooMany at) r = r ≡ reasons.TooMany
+IsReasonFor (parts.TooMany at) r = ⊥
 IsReasonFor (parts.UnknownName at) r = r ≡ reasons.UnknownName
 IsReasonFor parts.Memory r = r ≡ reasons.Memory
 

@@ -44,7 +44,7 @@ fn fault_at(reason: Reason, at: u32) -> FormulaFault
         Reason::Deep => FormulaFault::Deep { at },
         Reason::NotLinear => FormulaFault::NotLinear { at },
         Reason::UnknownName => FormulaFault::UnknownName { at },
-        Reason::TooMany | Reason::Memory => FormulaFault::Memory,
+        Reason::Memory => FormulaFault::Memory,
     }
 }
 

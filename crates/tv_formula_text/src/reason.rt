@@ -1,4 +1,4 @@
-ghost use Rattle.std.specs.Prelude.{◌≡◌};
+ghost use Rattle.std.specs.Prelude.{◌≡◌, ◌≢◌, ℕ};
 ghost use Rattle.tv_formula_text.specs.Told.{IsReasonFor, is_memory};
 
 use std::alloc::{AllocError, AllocFailed};
@@ -11,7 +11,6 @@ pub enum Reason {
     Wide,
     Deep,
     NotLinear,
-    TooMany,
     UnknownName,
     Memory,
 }
@@ -45,8 +44,9 @@ pub enum Turn<T> {
     Off(T),
 }
 
-/// The reason of a fault.
+/// The reason of a fault where no name is added, so that none is too many.
 pub fn reason_of(fault: PartFault) -> Reason
+    requires { (at : ℕ) → fault ≢ PartFault.TooMany at }
     ensures { IsReasonFor fault result }
 {
     match fault {
@@ -54,7 +54,7 @@ pub fn reason_of(fault: PartFault) -> Reason
         PartFault::Wide { at: _ } => Reason::Wide,
         PartFault::Deep { at: _ } => Reason::Deep,
         PartFault::NotLinear { at: _ } => Reason::NotLinear,
-        PartFault::TooMany { at: _ } => Reason::TooMany,
+        PartFault::TooMany { at: _ } => unreachable!(),
         PartFault::UnknownName { at: _ } => Reason::UnknownName,
         PartFault::Memory => Reason::Memory,
     }

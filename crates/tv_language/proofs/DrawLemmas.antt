@@ -54,3 +54,43 @@ none_of v (assign n e) h = none_in v e (second_of (nat_lt n v) (expression_fits 
 pub no_draws : (v : ℕ) (cs : List Instruction) → IsTrue (list_all (instruction_fits v 0) cs) → draws_counted cs ≡ 0
 no_draws v [] h = refl
 no_draws v (c ∷ cs) h = both_none _ _ (none_of v c (first_of (instruction_fits v 0 c) (list_all (instruction_fits v 0) cs) h)) (no_draws v cs (second_of (instruction_fits v 0 c) (list_all (instruction_fits v 0) cs) h))
+
+-- ---- what has no draw fits an edge without draws
+
+both_zero : (a b : ℕ) → a + b ≡ 0 → (a ≡ 0) × (b ≡ 0)
+both_zero a b h = (omega (arith, h), omega (arith, h))
+
+both_of : (a b : Bool) → IsTrue a → IsTrue b → IsTrue (a && b)
+both_of true b h k = k
+both_of false b h k = absurd cc
+
+mutual
+  pub undrawn_fits : (v d : ℕ) (e : Expression) → IsTrue (expression_fits v d e) → draws_in e ≡ 0 → IsTrue (expression_fits v 0 e)
+  undrawn_fits v d (number z) h n = h
+  undrawn_fits v d (variable k) h n = h
+  undrawn_fits v d (draw k) h n = cc
+  undrawn_fits v d (minus e) h n = undrawn_fits v d e h n
+  undrawn_fits v d (trees.sum es) h n = all_undrawn_fit v d es h n
+  undrawn_fits v d (product es) h n = both_of (is_linear_product es) (expressions_fit v 0 es) (first_of (is_linear_product es) (expressions_fit v d es) h) (all_undrawn_fit v d es (second_of (is_linear_product es) (expressions_fit v d es) h) n)
+
+  all_undrawn_fit : (v d : ℕ) (es : Expressions) → IsTrue (expressions_fit v d es) → draws_among es ≡ 0 → IsTrue (expressions_fit v 0 es)
+  all_undrawn_fit v d no_part h n = h
+  all_undrawn_fit v d (part e es) h n =
+      let w = both_zero (draws_in e) (draws_among es) n in
+      both_of (expression_fits v 0 e) (expressions_fit v 0 es) (undrawn_fits v d e (first_of (expression_fits v d e) (expressions_fit v d es) h) w.0) (all_undrawn_fit v d es (second_of (expression_fits v d e) (expressions_fit v d es) h) w.1)
+
+mutual
+  pub undrawn_test_fits : (v d : ℕ) (c : Condition) → IsTrue (condition_fits v d c) → draws_tested c ≡ 0 → IsTrue (condition_fits v 0 c)
+  undrawn_test_fits v d (truth b) h n = h
+  undrawn_test_fits v d (compare r a b) h n =
+      let w = both_zero (draws_in a) (draws_in b) n in
+      both_of (expression_fits v 0 a) (expression_fits v 0 b) (undrawn_fits v d a (first_of (expression_fits v d a) (expression_fits v d b) h) w.0) (undrawn_fits v d b (second_of (expression_fits v d a) (expression_fits v d b) h) w.1)
+  undrawn_test_fits v d (negated c) h n = undrawn_test_fits v d c h n
+  undrawn_test_fits v d (all_of cs) h n = all_undrawn_tests_fit v d cs h n
+  undrawn_test_fits v d (some_of cs) h n = all_undrawn_tests_fit v d cs h n
+
+  all_undrawn_tests_fit : (v d : ℕ) (cs : Conditions) → IsTrue (conditions_fit v d cs) → draws_of_tests cs ≡ 0 → IsTrue (conditions_fit v 0 cs)
+  all_undrawn_tests_fit v d no_test h n = h
+  all_undrawn_tests_fit v d (test c cs) h n =
+      let w = both_zero (draws_tested c) (draws_of_tests cs) n in
+      both_of (condition_fits v 0 c) (conditions_fit v 0 cs) (undrawn_test_fits v d c (first_of (condition_fits v d c) (conditions_fit v d cs) h) w.0) (all_undrawn_tests_fit v d cs (second_of (condition_fits v d c) (conditions_fit v d cs) h) w.1)

@@ -18,7 +18,7 @@ use Rattle.tv_reading.proofs.ConditionLemmas.{condition_exact}
 use Rattle.tv_reader.specs.Readers.{Steady, Unless, kind_of, IsTold, Fixture}
 use Rattle.tv_reader.specs.declared.reason.Reason.{Reason}
 use Rattle.tv_reader.proofs.StepLemmas.{left_of}
-use Rattle.tv_reader.proofs.KindsOfFaults.{sums_kinded, conditions_kinded}
+use Rattle.tv_reading.proofs.KindsOfFaults.{sums_kinded, conditions_kinded}
 use Rattle.tv_reader.proofs.ReadLemmas.{Went, Found, found_there, reason_told, sum_body, sum_draws, condition_body, condition_draws}
 
 abbrev pub fixture_of : List Word → Stand → Fixture

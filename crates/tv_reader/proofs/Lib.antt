@@ -4,12 +4,10 @@ pub mod ProgramEnds
 pub mod ProgramLoose
 pub mod ProgramTexts
 pub mod ProgramsRead
-pub mod SymbolLemmas
 pub mod WordLemmas
 pub mod VocabularyLemmas
 pub mod WholeTexts
 pub mod StepLemmas
-pub mod KindsOfFaults
 pub mod TokenSteps
 pub mod ReadLemmas
 pub mod CallLemmas

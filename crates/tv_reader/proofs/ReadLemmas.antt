@@ -26,11 +26,29 @@ use Rattle.tv_reading.proofs.ConditionTexts.{condition_is}
 use Rattle.tv_reader.specs.ProgramMarks.{numbered, mark_by}
 use Rattle.tv_reader.specs.Readers.{Steady, Unless, kind_of, IsTold}
 use Rattle.tv_reader.specs.declared.reason.Reason.{Reason}
-use Rattle.tv_reader.proofs.SymbolLemmas.{all_body, body_front, draws_at_all, Uses, sum_uses, condition_uses}
+use Rattle.tv_reading.proofs.SymbolLemmas.{all_body, body_front, draws_at_all, Uses, sum_uses, condition_uses}
 use Rattle.tv_reader.proofs.StepLemmas.{left_of, next_is, Travels, travels, same_next}
-use Rattle.tv_reader.proofs.KindsOfFaults.{is_unknown, unknown, Marked}
+use Rattle.tv_reading.proofs.KindsOfFaults.{refusal, Marked}
 
 -- ---- no mark of a program is an unknown name
+
+abbrev is_unknown : Kind → Bool
+is_unknown marks.UnknownName = true
+is_unknown k = false
+
+abbrev unknown : Option Mark → Bool
+unknown (Some (refused k kind)) = is_unknown k
+unknown _ = false
+
+unknown_by : (t : Option Mark) → refusal t ≡ Some marks.UnknownName → unknown t ≡ true
+unknown_by None e = absurd cc
+unknown_by (Some (plain s)) e = absurd cc
+unknown_by (Some (refused marks.UnknownName kind)) e = refl
+unknown_by (Some (refused k kind)) e = absurd cc
+
+is_unknown_name : (k : Kind) → is_unknown k ≡ true → k ≡ marks.UnknownName
+is_unknown_name marks.UnknownName e = refl
+is_unknown_name k e = absurd cc
 
 numbered_known : (kind : TokenKind) (make : ℕ → Symbol) (o : Option ℕ) → unknown (Some (numbered kind make o)) ≡ false
 numbered_known kind make (Some n) = refl
@@ -80,7 +98,10 @@ module _ {Y : Type 0} (l : Grammar Y) (exact : Exact l) (plainly : (d : l.Of) �
     pub read : l.read (left_of labels false s) ≡ fault k (left_of labels false u)
 
   known_by : (b : Bool) (k : Kind) → is_unknown k ≡ b → Marked k (next (marks.left u)) → unknown (next (marks.left u)) ≡ false → is_unknown k ≡ false
-  known_by true k e h g = let yes_is : unknown (next (marks.left u)) ≡ true = h e in absurd cc
+  known_by true k e h g =
+      let is = is_unknown_name k e in
+      let yes_is : unknown (next (marks.left u)) ≡ true = unknown_by (next (marks.left u)) (subst (λ (j : Kind). Marked j (next (marks.left u))) is h) in
+      absurd cc
   known_by false k e h g = e
 
   pub refused_there : (k : Kind) → l.read (marks.left s) ≡ fault k (marks.left u) → Refused k

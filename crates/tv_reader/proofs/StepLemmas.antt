@@ -19,7 +19,7 @@ use Rattle.tv_reading.proofs.PassedLemmas.{between, here_is, symbols-append, pas
 use Rattle.tv_reader.specs.ProgramMarks.{mark_by, draws_behind, marks_from}
 use Rattle.tv_reader.specs.ProgramMarks as own
 use Rattle.tv_reader.specs.Readers.{is_last, is_closed, are_known, is_passing, Steady}
-use Rattle.tv_reader.proofs.SymbolLemmas.{body, all_body, draws_at, draws_at_all, draws-append}
+use Rattle.tv_reading.proofs.SymbolLemmas.{body, all_body, draws_at, draws_at_all, draws-append}
 
 -- ---- the token that comes
 

@@ -16,7 +16,7 @@ use Rattle.tv_language.specs.Programs.{edge_of, AreItems, no_item, start, passed
 use Rattle.tv_reading.specs.Marks.{plain, refused, symbol_of, symbols_of, TooMany}
 use Rattle.tv_reading.proofs.LinearLemmas.{and_left, and_right, and_both}
 use Rattle.tv_reader.specs.ProgramMarks.{label_behind, start_word, numbered, mark_by, draws_behind, marks_from}
-use Rattle.tv_reader.proofs.SymbolLemmas.{body, all_body, sound, all_sound, commands_uses}
+use Rattle.tv_reading.proofs.SymbolLemmas.{body, all_body, sound, all_sound, commands_uses}
 use Rattle.tv_reader.proofs.WordLemmas.{has, has_all, has_behind, has_here}
 
 -- ---- what stands in a program

@@ -55,7 +55,8 @@ pub fn read_program(alloc: Global, text: &[u8]) -> Result<Program, ReadFault>
         Ok(items) => finished(reader, items),
         Err(reason) => {
             let token = reader.reading.peek();
-            Err(located(text, &list, reader.reading.index(), token, reason))
+            let place = reader.reading.place() as usize;
+            Err(located(text, &list, place, token, reason))
         }
     }
 }

@@ -263,6 +263,9 @@ mutual
 pub condition_ends : (kept : Kind → Bool) (n : ℕ) → Ends (condition_at kept n)
 condition_ends kept n = outside_ends (condition_at kept n) or_goes (condition_outside (literal_at kept n) (narrowed_outside Syntax as_test (thing_at kept n) thing_goes (things_outside kept n))) refl
 
--- a condition does not go on at a ")"
+-- a condition does not go on at the end of a text, nor at a ")"
+pub condition_stops : (kept : Kind → Bool) (n : ℕ) (d : (condition_at kept n).Of) → (condition_at kept n).goes_on d (Some (plain (fixed kinds.End))) ≡ false
+condition_stops kept n d = condition_outside (literal_at kept n) (narrowed_outside Syntax as_test (thing_at kept n) thing_goes (things_outside kept n)) d (Some (plain (fixed kinds.End))) refl
+
 pub condition_closes : (kept : Kind → Bool) (n : ℕ) (d : (condition_at kept n).Of) → (condition_at kept n).goes_on d (Some (plain (fixed kinds.RightRound))) ≡ false
 condition_closes kept n d = condition_outside (literal_at kept n) (narrowed_outside Syntax as_test (thing_at kept n) thing_goes (things_outside kept n)) d (Some (plain (fixed kinds.RightRound))) refl

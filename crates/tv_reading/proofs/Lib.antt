@@ -18,3 +18,6 @@ pub mod FitLemmas
 pub mod PassedLemmas
 pub mod Told
 pub mod Vocabularies
+pub mod KindsOfFaults
+pub mod RoomLemmas
+pub mod SymbolLemmas

@@ -12,11 +12,11 @@ use Rattle.tv_reading.specs.Texts.{IsLongest}
 use Rattle.tv_reading.proofs.SumTexts.{Back}
 use Rattle.tv_reading.proofs.PassedLemmas.{symbols-append}
 
-plains : (ss : List Symbol) → symbols_of (map plain ss) ≡ ss
+pub plains : (ss : List Symbol) → symbols_of (map plain ss) ≡ ss
 plains [] = refl
 plains (s ∷ ss) = ap (λ (us : List Symbol). s ∷ us) (plains ss)
 
-no_symbols : (ms : List Mark) → symbols_of ms ≡ [] → ms ≡ []
+pub no_symbols : (ms : List Mark) → symbols_of ms ≡ [] → ms ≡ []
 no_symbols [] e = refl
 no_symbols (m ∷ ms) e = absurd cc
 

@@ -6,7 +6,7 @@ use Rattle.tv_reading.specs.Marks as marks
 use Rattle.tv_reading.specs.Marks.{Kind, Mark, Stand, left, Passes, stay}
 use Rattle.tv_reading.specs.SumGrammar.{every, sum_at}
 use Rattle.tv_reading.specs.ConditionGrammar.{condition_at}
-use Rattle.tv_reading.specs.declared.cursor.Source.{Source}
+use Rattle.tv_reading.specs.declared.source.Source.{Source}
 use Rattle.tv_reading.specs.declared.cursor.Cursor.{Cursor}
 use Rattle.tv_reading.specs.declared.reason.Reason.{Reason}
 use Rattle.tv_reading.specs.declared.reason.Reason.TheVariants as reasons

@@ -95,7 +95,7 @@ abbrev Sums : ℕ → Grammar Expression
 Sums n = sum_at every n true
 
 module _ (n : ℕ) where
-  sum_longest : (ms : List Mark) (e : Expression) (r : List Mark) → (Sums n).read ms ≡ Ok (e, r) → IsLongest (IsSum n) e ms r
+  pub sum_longest : (ms : List Mark) (e : Expression) (r : List Mark) → (Sums n).read ms ≡ Ok (e, r) → IsLongest (IsSum n) e ms r
   sum_longest ms e r h = text_found (Sums n) (IsSum n) (sum_exact every n true) (sum_ends every n true) (sum_further every n true) (sum_is n true) (λ x ts rest is ms same. sum_is_read is ms same) ms e r h
 
   sum_only : (ms : List Mark) (e : Expression) (r : List Mark) → IsLongest (IsSum n) e ms r → (Sums n).read ms ≡ Ok (e, r)
@@ -138,7 +138,7 @@ module _ (old now : Stand) (result : Result Expr PartFault) (reads : IsRead expr
 -- ---- conditions
 
 module _ (n : ℕ) where
-  condition_longest : (ms : List Mark) (c : Condition) (r : List Mark) → (condition_at every n).read ms ≡ Ok (c, r) → IsLongest (IsCondition n) c ms r
+  pub condition_longest : (ms : List Mark) (c : Condition) (r : List Mark) → (condition_at every n).read ms ≡ Ok (c, r) → IsLongest (IsCondition n) c ms r
   condition_longest ms c r h = text_found (condition_at every n) (IsCondition n) (condition_exact every n) (condition_ends every n) (condition_further every n) (condition_is n) (λ x ts rest is ms same. condition_is_read is ms same) ms c r h
 
   condition_only : (ms : List Mark) (c : Condition) (r : List Mark) → IsLongest (IsCondition n) c ms r → (condition_at every n).read ms ≡ Ok (c, r)

@@ -15,7 +15,7 @@ use Rattle.tv_reading.specs.declared.trees.Made.{Made}
 use Rattle.tv_reading.specs.declared.trees.Run.{Run}
 use Rattle.tv_reading.specs.declared.marks.Part.{Part}
 use Rattle.tv_reading.specs.declared.marks.Part.TheVariants as parts
-use Rattle.tv_reading.specs.declared.cursor.Source.{Source}
+use Rattle.tv_reading.specs.declared.source.Source.{Source}
 use Rattle.tv_reading.specs.declared.cursor.Cursor.{Cursor}
 
 abbrev pub mark_of : Part → Mark

@@ -10,10 +10,11 @@ ghost use Rattle.tv_reading.specs.ConditionGrammar.{value, tested, relation_case
 ghost use Rattle.tv_reading.specs.Views.{stand, Keeps, made_view, piece_view, conds_view};
 ghost use Rattle.tv_reading.specs.Answers.{Gives, Turned};
 
-use crate::cursor::{Cursor, Source, kind_of, pass, peek};
+use crate::cursor::{Cursor, kind_of, pass, peek};
 use crate::joined::{Piece, add_cond, all_of, comparison, conds_of, negation, some_of};
 use crate::marks::Part;
 use crate::reason::{Reason, Turn};
+use crate::source::Source;
 use crate::sums::{close, factor, signs, stars, sum};
 use crate::trees::{Made, product_of, run_of, sum_of};
 use tv_program::{Cond, Relation};

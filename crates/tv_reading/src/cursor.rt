@@ -8,25 +8,16 @@ ghost use Rattle.tv_reading.specs.Views.{mark_of, kind_at, stand, Keeps};
 use crate::marks::{
     MOST_DRAWS, MOST_NAMES, Part, draw, is_formula_word, known_name, new_name, number,
 };
-use std::alloc::{AllocError, Global};
+use crate::source::Source;
+use std::alloc::AllocError;
 use tv_language::word_of;
 use tv_program::Names;
 use tv_tokens::{Token, TokenKind};
 
-/// A text and its tokens, whether names are added, and the level that brackets count from.
-#[derive(Drop)]
-pub struct Source<'a> {
-    pub text: &'a [u8],
-    pub list: &'a [Token],
-    pub grows: bool,
-    pub level: u32,
-    pub alloc: Global,
-}
-
 /// How many tokens are taken, and the names and draws up to there.
 #[derive(Drop)]
 pub struct Cursor {
-    pub at: usize,
+    pub at: u32,
     pub names: Names,
     pub draws: u32,
 }
@@ -54,13 +45,14 @@ fn see(source: &Source, cursor: &Cursor, token: Token) -> Part
 }
 
 /// The token with this number, if there is one.
-pub fn current(list: &[Token], at: usize) -> Option<Token>
+pub fn current(list: &[Token], at: u32) -> Option<Token>
     ensures { result ≡ first (drop at list.now) }
 {
-    if at >= list.len() {
+    let place = at as usize;
+    if place >= list.len() {
         return None;
     }
-    Some(list[at])
+    Some(list[place])
 }
 
 /// The next token as the grammar sees it.

@@ -12,6 +12,7 @@ mod joined;
 mod marks;
 mod reading;
 mod reason;
+mod source;
 mod sums;
 #[cfg(test)]
 mod tests;

@@ -1,4 +1,4 @@
-ghost use Rattle.std.specs.Prelude.{◌≡◌, ◌-◌, ◌^◌, ◌<◌, ◌≤◌, ℕ, List, length, IfOk, IsTrue, cond, true, false};
+ghost use Rattle.std.specs.Prelude.{◌≡◌, ◌+◌, ◌-◌, ◌^◌, ◌<◌, ◌≤◌, ◌≢◌, ℕ, Err, List, length, IfOk, IsTrue, cond, true, false};
 ghost use Rattle.tv_tokens.specs.Tokens.{IsTokens};
 ghost use Rattle.tv_program.specs.Trees.{Expression, Condition};
 ghost use Rattle.tv_program.specs.Views.{expression, condition};
@@ -15,10 +15,11 @@ ghost use Rattle.tv_reading.specs.Views.{stand, Keeps};
 ghost use Rattle.tv_reading.specs.Answers as answers;
 
 use crate::conditions::condition;
-use crate::cursor::{Cursor, Source, current, pass, peek};
+use crate::cursor::{Cursor, current, pass, peek};
 use crate::fault::PartFault;
 use crate::marks::Part;
 use crate::reason::Reason;
+use crate::source::Source;
 use crate::sums::sum;
 use std::alloc::Global;
 use std::marker::Model;
@@ -105,6 +106,7 @@ impl<'a> Reading<'a> {
         names: Names,
         grows: bool,
     ) -> Reading<'a>
+        requires short { length text.now + 1 < 2 ^ 32 }
         requires scanned { IsTokens 0 text.now list.now }
         requires few { length names ≤ 512 }
         ensures { result ≡ begun text.now list.now names grows }
@@ -140,20 +142,13 @@ impl<'a> Reading<'a> {
     pub fn take(&mut self)
         ensures { self.new ≡ taken self.old }
     {
-        if self.cursor.at < self.source.list.len().saturating_sub(1) {
+        if (self.cursor.at as usize) < self.source.list.len().saturating_sub(1) {
             self.cursor.at += 1;
         }
     }
 
-    /// How many tokens are taken; a list within the limits has fewer than 2^32.
-    pub fn place(&self) -> u32
-        ensures { self.now.at < 2 ^ 32 → result ≡ self.now.at }
-    {
-        u32::try_from(self.cursor.at).unwrap_or(u32::MAX)
-    }
-
     /// How many tokens are taken.
-    pub fn index(&self) -> usize
+    pub fn place(&self) -> u32
         ensures { result ≡ self.now.at }
     {
         self.cursor.at
@@ -180,7 +175,7 @@ impl<'a> Reading<'a> {
         requires few { level ≤ 64 }
         ensures { self.new ≡ moved self.old place level }
     {
-        self.cursor.at = place as usize;
+        self.cursor.at = place;
         self.source.level = level;
     }
 
@@ -220,6 +215,8 @@ impl<'a> Reading<'a> {
         ensures passed { Passes self.old self.new }
         ensures kept { IsKept self.old self.new }
         ensures fits { IfOk result (λ v. v < length self.new.names) }
+        // Where no name is added, none is too many.
+        ensures room { self.old.grows ≡ false → (at : ℕ) → result ≢ Err (PartFault.TooMany at) }
     {
         self.read_name()
     }
@@ -261,6 +258,8 @@ impl<'a> Reading<'a> {
         ensures kept { IsKept self.old self.new }
         ensures fits { IfOk result (λ e. IsTrue (expression_fits (length self.new.names) self.new.draws (expression e))) }
         ensures shallow { IfOk result (λ e. expression_depth (expression e) ≤ 400) }
+        // Where no name is added, none is too many, and no draw.
+        ensures room { self.old.grows ≡ false → (at : ℕ) → result ≢ Err (PartFault.TooMany at) }
         // The same by the grammar of sums, for grammars that it stands in.
         ensures reads { IsRead expression result self.new ((sum_at every (sum_levels self.old) true).read (left self.old)) }
     {
@@ -277,6 +276,8 @@ impl<'a> Reading<'a> {
         ensures kept { IsKept self.old self.new }
         ensures fits { IfOk result (λ c. IsTrue (condition_fits (length self.new.names) self.new.draws (condition c))) }
         ensures shallow { IfOk result (λ c. condition_depth (condition c) ≤ 400) }
+        // Where no name is added, none is too many, and no draw.
+        ensures room { self.old.grows ≡ false → (at : ℕ) → result ≢ Err (PartFault.TooMany at) }
         ensures reads { IsRead condition result self.new ((condition_at every (condition_levels self.old)).read (left self.old)) }
     {
         self.read_condition()

@@ -7,9 +7,10 @@ ghost use Rattle.tv_reading.specs.SumGrammar.{every, closed, brackets, leaf_case
 ghost use Rattle.tv_reading.specs.Views.{mark_of, IsNamed, stand, Keeps, made_view, parts_view};
 ghost use Rattle.tv_reading.specs.Answers.{Gives, Turned};
 
-use crate::cursor::{Cursor, Source, kind_of, pass, peek};
+use crate::cursor::{Cursor, kind_of, pass, peek};
 use crate::marks::Part;
 use crate::reason::{Reason, Turn};
+use crate::source::Source;
 use crate::trees::{
     Made, Run, add, draw_of, minus_of, number_of, product_of, run_of, sum_of, variable_of,
 };

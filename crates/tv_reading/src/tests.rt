@@ -166,7 +166,6 @@ fn goes_over_a_text(rt: HostRuntime) -> Result<(), Fail> {
     reading.take();
     assert_eq!(rt; next_sum(&mut reading), Err(NotLinear { at: 16 }));
     assert_eq!(rt; reading.place(), 8);
-    assert_eq!(rt; reading.index(), 8);
     assert_eq!(rt; reading.draws(), 0);
     assert_eq!(rt; reading.names().find(b"y"), Some(1));
     assert_eq!(rt; reading.finish().len(), 2);

@@ -11,7 +11,7 @@ use Rattle.tv_formula_text.specs.Seen.{seen_all}
 use Rattle.tv_formula_text.specs.FormulaGrammar.{closed, comparison, is_and, is_or, more_cases, conjunction_over, plain_at, literal_at, formula_at}
 use Rattle.tv_formula_text.proofs.FormulaLemmas.{turn_branch, conjunction_exact}
 use Rattle.tv_formula_text.proofs.FormulaExact.{literal_exact}
-use Rattle.tv_formula_text.proofs.SourceLemmas.{words, none_at, place_is, back_left, left_less, left_more}
+use Rattle.tv_formula_text.proofs.SourceLemmas.{words, none_at, back_left, left_less, left_more}
 use Rattle.tv_formula_text.proofs.Steps.{gives_along, opened_on, literal_none, literal_second, literal_further, literal_again, plain_left, plain_not, plain_square, deep_left, deep_not, deep_square, plain_flat, turn_failed, turn_on, turn_less, turn_off}
 use Rattle.tv_formula_text.proofs.formulas.+formulas.Goals as goal
 
@@ -79,7 +79,7 @@ argument-returns-clause-reads t c = gives_along property c.enclosed.result (left
 pub literal-returns-then-start-source-clause-reads : goal.literal-returns-then-start-source-clause-reads
 literal-returns-then-start-source-clause-reads t c =
     let s = c.args.reading.now in
-    let at = place_is c.args.source.now s c.place-start.result c.requires.over c.place-start.ensures in
+    let at = c.place-start.ensures in
     let tokens = ap length c.requires.over.tokens in
     literal_none c.args.levels (left c.args.source.now s) (ap (seen_all (words c.args.source.now s) s.text) (none_at s.tokens s.at (omega arith)))
 
@@ -89,10 +89,10 @@ literal-returns-then-place-stop-clause-reads t c =
     let s = c.args.reading.now in
     let u = c.comparison.new.reading in
     let v = c.plain.new.reading in
-    let start = place_is source s c.place-start.result c.requires.over c.place-start.ensures in
+    let start = c.place-start.ensures in
     let halted : (comparison every c.args.levels).read (left source s) ≡ fault marks.Syntax (left source u) = rw c.in-Err-Syntax.field-0-is at c.in-Err-Syntax.ensures.reads in
-    let stop = place_is source u c.place-stop.result c.comparison.ensures.stays.over c.place-stop.ensures in
-    let here = place_is source v c.place.result c.plain.ensures.stays.over c.place.ensures in
+    let stop = c.place-stop.ensures in
+    let here = c.place.ensures in
     let back = back_left source s u c.go.new.self c.place-start.result 0 c.requires.over c.comparison.ensures.stays.over c.comparison.ensures.stays.names start c.go.ensures in
     let less = left_less source u v c.comparison.ensures.stays.over c.plain.ensures.stays.over (omega arith) in
     literal_further c.args.levels (left source s) (left source u) c.in-Err-plain.reason (left source v) halted less
@@ -104,7 +104,7 @@ literal-returns-in-Ok-plain-clause-reads t c =
     let s = c.args.reading.now in
     let u = c.comparison.new.reading in
     let v = c.plain.new.reading in
-    let start = place_is source s c.place-start.result c.requires.over c.place-start.ensures in
+    let start = c.place-start.ensures in
     let halted : (comparison every c.args.levels).read (left source s) ≡ fault marks.Syntax (left source u) = rw c.in-Err-Syntax.field-0-is at c.in-Err-Syntax.ensures.reads in
     let back = back_left source s u c.go.new.self c.place-start.result 0 c.requires.over c.comparison.ensures.stays.over c.comparison.ensures.stays.names start c.go.ensures in
     literal_second c.args.levels (left source s) (left source u) (property c.in-Ok-plain.tree) (left source v) halted
@@ -116,10 +116,10 @@ literal-returns-else-place-stop-clause-reads t c =
     let s = c.args.reading.now in
     let u = c.comparison.new.reading in
     let v = c.plain.new.reading in
-    let start = place_is source s c.place-start.result c.requires.over c.place-start.ensures in
+    let start = c.place-start.ensures in
     let halted : (comparison every c.args.levels).read (left source s) ≡ fault marks.Syntax (left source u) = rw c.in-Err-Syntax.field-0-is at c.in-Err-Syntax.ensures.reads in
-    let stop = place_is source u c.place-stop.result c.comparison.ensures.stays.over c.place-stop.ensures in
-    let here = place_is source v c.place.result c.plain.ensures.stays.over c.place.ensures in
+    let stop = c.place-stop.ensures in
+    let here = c.place.ensures in
     let back = back_left source s u c.go.new.self c.place-start.result 0 c.requires.over c.comparison.ensures.stays.over c.comparison.ensures.stays.names start c.go.ensures in
     let names = c.plain.ensures.stays.names ∙ ap (λ (g : Stand). g.names) c.go.ensures ∙ c.comparison.ensures.stays.names in
     let again = back_left source s v c.go-in-Err-plain.new.self c.place-start.result 0 c.requires.over c.plain.ensures.stays.over names start c.go-in-Err-plain.ensures in

@@ -1,12 +1,11 @@
 use Rattle.std.proofs.Common.{◌≡◌, length, drop, ap, ◌∙◌, arith}
 use Rattle.tv_reading.specs.Marks.{first}
-use Rattle.tv_formula_text.proofs.SourceLemmas.{few, first_at}
+use Rattle.tv_formula_text.proofs.SourceLemmas.{first_at}
 use Rattle.tv_formula_text.proofs.source.next_token.Goals as goal
 
 pub returns : goal.returns
 returns c =
-    let short = few c.args.source.now c.args.reading.now c.requires.over in
     let tokens = ap length c.requires.over.tokens in
     let inside = c.requires.over.inside in
-    let at : c.place-at.result ≡ c.args.reading.now.at = c.place-at.ensures (omega arith) in
+    let at : c.place-at.result ≡ c.args.reading.now.at = c.place-at.ensures in
     first_at c.args.source.now.list.now c.place-at.result _ (omega arith) ∙ ap (λ n. first (drop n c.args.source.now.list.now)) at

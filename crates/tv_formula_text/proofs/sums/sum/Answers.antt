@@ -4,24 +4,21 @@ use Rattle.tv_reading.specs.Marks as marking
 use Rattle.tv_reading.specs.Marks.{Stand, Passes}
 use Rattle.tv_reading.specs.SumGrammar.{every, sum_at}
 use Rattle.tv_reading.specs.Readings.{moved, sum_levels, IsKept, IsRead}
-use Rattle.tv_formula_text.proofs.SourceLemmas.{few}
 use Rattle.tv_formula_text.proofs.SumRead.{sum_stays, sum_given, sum_refused, sum_at_end}
 use Rattle.tv_formula_text.proofs.sums.sum.Goals as goal
 
 pub returns-then-at-source-clause-reads : goal.returns-then-at-source-clause-reads
 returns-then-at-source-clause-reads c =
-    let short = few c.args.source.now c.args.reading.now c.requires.over in
     let tokens = ap length c.requires.over.tokens in
     let inside = c.requires.over.inside in
-    let at : c.place-at.result ≡ c.args.reading.now.at = c.place-at.ensures (omega arith) in
+    let at : c.place-at.result ≡ c.args.reading.now.at = c.place-at.ensures in
     sum_at_end c.args.source.now c.args.reading.now c.args.levels c.requires.over (omega arith)
 
 pub returns-in-Ok-clause-reads : goal.returns-in-Ok-clause-reads
 returns-in-Ok-clause-reads c =
     let s = c.args.reading.now in
-    let short = few c.args.source.now s c.requires.over in
     let inside = c.requires.over.inside in
-    let at : c.place-at.result ≡ c.args.reading.now.at = c.place-at.ensures (omega arith) in
+    let at : c.place-at.result ≡ c.args.reading.now.at = c.place-at.ensures in
     let is : c.go.new.self ≡ moved s s.at (64 - c.args.levels) = c.go.ensures ∙ ap (λ (n : ℕ). moved s n (64 - c.args.levels)) at in
     sum_given c.args.source.now s c.sum.new.self (64 - c.args.levels) c.requires.over
     (subst (λ (g : Stand). IsKept g c.sum.new.self) is c.sum.ensures.kept) (subst (λ (g : Stand). Passes g c.sum.new.self) is c.sum.ensures.passed)
@@ -31,9 +28,8 @@ returns-in-Ok-clause-reads c =
 pub returns-in-Ok-clause-stays : goal.returns-in-Ok-clause-stays
 returns-in-Ok-clause-stays c =
     let s = c.args.reading.now in
-    let short = few c.args.source.now s c.requires.over in
     let inside = c.requires.over.inside in
-    let at : c.place-at.result ≡ c.args.reading.now.at = c.place-at.ensures (omega arith) in
+    let at : c.place-at.result ≡ c.args.reading.now.at = c.place-at.ensures in
     let is : c.go.new.self ≡ moved s s.at (64 - c.args.levels) = c.go.ensures ∙ ap (λ (n : ℕ). moved s n (64 - c.args.levels)) at in
     sum_stays c.args.source.now s c.sum.new.self (64 - c.args.levels) c.requires.over
     (subst (λ (g : Stand). IsKept g c.sum.new.self) is c.sum.ensures.kept) (subst (λ (g : Stand). Passes g c.sum.new.self) is c.sum.ensures.passed)
@@ -41,9 +37,8 @@ returns-in-Ok-clause-stays c =
 pub returns-in-Err-clause-reads : goal.returns-in-Err-clause-reads
 returns-in-Err-clause-reads c =
     let s = c.args.reading.now in
-    let short = few c.args.source.now s c.requires.over in
     let inside = c.requires.over.inside in
-    let at : c.place-at.result ≡ c.args.reading.now.at = c.place-at.ensures (omega arith) in
+    let at : c.place-at.result ≡ c.args.reading.now.at = c.place-at.ensures in
     let is : c.go.new.self ≡ moved s s.at (64 - c.args.levels) = c.go.ensures ∙ ap (λ (n : ℕ). moved s n (64 - c.args.levels)) at in
     sum_refused c.args.source.now s c.sum.new.self (64 - c.args.levels) c.requires.over
     (subst (λ (g : Stand). IsKept g c.sum.new.self) is c.sum.ensures.kept) (subst (λ (g : Stand). Passes g c.sum.new.self) is c.sum.ensures.passed)
@@ -53,9 +48,8 @@ returns-in-Err-clause-reads c =
 pub returns-in-Err-clause-stays : goal.returns-in-Err-clause-stays
 returns-in-Err-clause-stays c =
     let s = c.args.reading.now in
-    let short = few c.args.source.now s c.requires.over in
     let inside = c.requires.over.inside in
-    let at : c.place-at.result ≡ c.args.reading.now.at = c.place-at.ensures (omega arith) in
+    let at : c.place-at.result ≡ c.args.reading.now.at = c.place-at.ensures in
     let is : c.go.new.self ≡ moved s s.at (64 - c.args.levels) = c.go.ensures ∙ ap (λ (n : ℕ). moved s n (64 - c.args.levels)) at in
     sum_stays c.args.source.now s c.sum.new.self (64 - c.args.levels) c.requires.over
     (subst (λ (g : Stand). IsKept g c.sum.new.self) is c.sum.ensures.kept) (subst (λ (g : Stand). Passes g c.sum.new.self) is c.sum.ensures.passed)

@@ -95,7 +95,7 @@ returns-clause-refused c =
     let answer = fault_answer text tokens c.in_ok-list.ensures _ w u c.in-Err.reason (line_of text (token_at u.reading).at) (column_of text (token_at u.reading).at) (c.in-Err.ensures.kept _ refl) c.in-Err.ensures.steady c.in-Err.ensures.reads refl refl in
     let same : c.located.result ≡ fault_at c.in-Err.reason (brought_in (ends_with_colon false (take u.reading.at tokens)) (token_at u.reading).kind) (line_of text (token_at u.reading).at) (column_of text (token_at u.reading).at) =
     c.located.ensures
-    ∙ ap (λ (ts : List Token). fault_at c.in-Err.reason (brought_in (ends_with_colon false (take c.index.result ts)) c.peek-token.result.kind) (line_of text c.peek-token.result.at) (column_of text c.peek-token.result.at)) c.deref-in-Err.ensures.value
-    ∙ ap (λ (n : ℕ). fault_at c.in-Err.reason (brought_in (ends_with_colon false (take n tokens)) c.peek-token.result.kind) (line_of text c.peek-token.result.at) (column_of text c.peek-token.result.at)) c.index.ensures
+    ∙ ap (λ (ts : List Token). fault_at c.in-Err.reason (brought_in (ends_with_colon false (take c.place-place.result ts)) c.peek-token.result.kind) (line_of text c.peek-token.result.at) (column_of text c.peek-token.result.at)) c.deref-in-Err.ensures.value
+    ∙ ap (λ (n : ℕ). fault_at c.in-Err.reason (brought_in (ends_with_colon false (take n tokens)) c.peek-token.result.kind) (line_of text c.peek-token.result.at) (column_of text c.peek-token.result.at)) c.place-place.ensures
     ∙ ap (λ (t : Token). fault_at c.in-Err.reason (brought_in (ends_with_colon false (take u.reading.at tokens)) t.kind) (line_of text t.at) (column_of text t.at)) c.peek-token.ensures in
     subst (λ f. IsRefused text f) (sym same) answer

@@ -1,5 +1,6 @@
 use Rattle.tv_reading.proofs.PassedLemmas.{passes_kept}
 use Rattle.tv_reading.proofs.Told.{condition_found, condition_given, condition_refused, condition_fit_now, condition_depth_now}
+use Rattle.tv_reading.proofs.RoomLemmas.{condition_room}
 use Rattle.tv_reading.proofs.reading.Reading.condition.Goals as goal
 
 pub returns-clause-found : goal.returns-clause-found
@@ -19,3 +20,6 @@ returns-clause-shallow c = condition_depth_now c.args.self.now c.read_condition.
 
 pub returns-clause-kept : goal.returns-clause-kept
 returns-clause-kept c = passes_kept c.args.self.now c.read_condition.new.self c.read_condition.ensures.passed
+
+pub returns-clause-room : goal.returns-clause-room
+returns-clause-room c = condition_room c.args.self.now c.read_condition.new.self c.read_condition.result c.read_condition.ensures.reads c.read_condition.ensures.passed

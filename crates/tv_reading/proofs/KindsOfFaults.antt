@@ -1,5 +1,5 @@
--- A name that is not known is at fault only where a token is marked so.
-use Rattle.std.proofs.Common.{◌≡◌, ℕ, zero, suc, Bool, true, false, List, [], ◌∷◌, ◌++◌, Option, Some, None, pos}
+-- A name is too many or not known only where a token is marked so.
+use Rattle.std.proofs.Common.{◌≡◌, ℕ, zero, suc, Bool, true, false, List, [], ◌∷◌, ◌++◌, Option, Some, None, refl, pos}
 use Rattle.std.specs.Prelude.{◌&&◌}
 use Rattle.tv_tokens.specs.declared.token.TokenKind.{TokenKind}
 use Rattle.tv_tokens.specs.declared.token.TokenKind.TheVariants as kinds
@@ -15,24 +15,28 @@ use Rattle.tv_grammar.specs.Langs.{unit, then, mapped, stop, go, turns}
 use Rattle.tv_grammar.specs.Faults.{Kinded, KindedBranch, KindedTurn}
 use Rattle.tv_grammar.proofs.KindLemmas.{unit_kinded, then_kinded, mapped_kinded, headed_kinded, turns_kinded}
 use Rattle.tv_grammar.proofs.NarrowLemmas.{narrowed_kinded}
-use Rattle.tv_reading.specs.Marks.{Kind, Syntax, UnknownName, Mark, plain, refused}
+use Rattle.tv_reading.specs.Marks.{Kind, Syntax, TooMany, UnknownName, Mark, plain, refused}
 use Rattle.tv_reading.specs.SumGrammar.{Grammar, Behind, every, close_cases, open_cases, closed, brackets, named_by, refused_by, leaf_cases, Inner, bottom, deeper, factor_cases, below, star_cases, product_over, sum_cases, sum_over, factor_at, product_at, sum_at}
 use Rattle.tv_reading.specs.ConditionGrammar.{Thing, value, tested, relation_by, compared, relation_cases, tail, opened, as_test, literal_over, is_and, is_or, more_by, more_cases, conjunction_from, conjunction_over, condition_from, condition_over, continued, after_factor, Under, ground, level, plain_cases, in_brackets, thing_cases, thing_at, plain_at, literal_at, condition_at}
 
-abbrev pub is_unknown : Kind → Bool
-is_unknown UnknownName = true
-is_unknown k = false
+-- the kind with which the token is refused
+abbrev pub refusal : Option Mark → Option Kind
+refusal (Some (refused k kind)) = Some k
+refusal t = None
 
-abbrev pub unknown : Option Mark → Bool
-unknown (Some (refused k kind)) = is_unknown k
-unknown _ = false
-
--- a fault of this kind comes only at such a mark
+-- a fault of either kind comes only at a mark of it
 abbrev pub Marked : Kind → Option Mark → Type 0
-Marked k t = is_unknown k ≡ true → unknown t ≡ true
+Marked TooMany t = refusal t ≡ Some TooMany
+Marked UnknownName t = refusal t ≡ Some UnknownName
+Marked k t = Unit {0}
 
 none_such : (t : Option Mark) → Marked Syntax t
-none_such t e = absurd cc
+none_such t = tt
+
+pub marked : (k : Kind) (kind : TokenKind) → Marked k (Some (refused k kind))
+marked TooMany kind = refl
+marked UnknownName kind = refl
+marked k kind = tt
 
 -- ---- sums
 
@@ -55,7 +59,7 @@ named_kinded m true l h = h
 named_kinded m false l h = none_such (Some m)
 
 refused_kinded : (free : Bool) (k : Kind) (kind : TokenKind) (l : Grammar Expression) → KindedBranch Marked (refused k kind) (refused_by every free k l)
-refused_kinded true k kind l = λ e. e
+refused_kinded true k kind l = marked k kind
 refused_kinded false k kind l = none_such (Some (refused k kind))
 
 leaf_kinded : (free : Bool) (m : Mark) → KindedBranch Marked m (leaf_cases every free m)
