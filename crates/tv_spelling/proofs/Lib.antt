@@ -14,8 +14,12 @@ pub mod ConditionAgain
 pub mod Ordered
 pub mod FrontWords
 pub mod Mentioned
+pub mod KnownNames
+pub mod SettledMarks
+pub mod NamesKept
 pub mod WordsOfSymbols
 pub mod ItemWords
 pub mod ProgramPieces
 pub mod ProgramDerived
 pub mod ProgramAgain
+pub mod FoundAgain

@@ -95,11 +95,11 @@ program_bytes p =
 
 -- ---- each word is the token at the front
 
-number_begins_no_name : (w : Word) → IsNumberWord w → begins_name (slice_index w 0) ≡ false
+pub number_begins_no_name : (w : Word) → IsNumberWord w → begins_name (slice_index w 0) ≡ false
 number_begins_no_name [] h = let s = h.some in absurd (omega (arith, s))
 number_begins_no_name (d ∷ ds) h = digit_begins_no_name d (both_hold (is_ascii_digit d) (list_all is_ascii_digit ds) h.digits).0
 
-label_front : (w x : List ℕ) → IsLabelWord w → continues_name (slice_index x 0) ≡ false → front_of (w ++ x) ≡ fronts.Token (label_kind w) (length w)
+pub label_front : (w x : List ℕ) → IsLabelWord w → continues_name (slice_index x 0) ≡ false → front_of (w ++ x) ≡ fronts.Token (label_kind w) (length w)
 label_front w x (named h) stops = name_front w x h stops ∙ ap (λ (b : Bool). fronts.Token (kind_by b) (length w)) (sym h.begins)
 label_front w x (numbered h) stops = number_front_is w x h.some h.digits h.narrow stops ∙ ap (λ (b : Bool). fronts.Token (kind_by b) (length w)) (sym (number_begins_no_name w h))
 

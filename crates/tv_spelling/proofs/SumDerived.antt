@@ -13,8 +13,9 @@ use Rattle.tv_language.specs.Sums.{gathered, IsFactor, AreFactors, IsProduct, Ar
 use Rattle.tv_spelling.specs.Sums.{is_sum, is_product}
 use Rattle.tv_spelling.specs.ReadAgain.{AreNames, draws_after, draws_after_all, IsOrdered, AreOrdered}
 use Rattle.tv_spelling.proofs.Pieces.{Piece, word, symbols_of, bracket_pieces}
+use Rattle.tv_spelling.proofs.KnownNames.{AreKnownIn, AreKnownAmong}
 use Rattle.tv_spelling.proofs.FrontLemmas.{decimal_value}
-use Rattle.tv_spelling.proofs.SumPieces.{expression_pieces, further_parts_pieces, further_factors_pieces, both_hold, narrow, below}
+use Rattle.tv_spelling.proofs.SumPieces.{expression_pieces, further_parts_pieces, further_factors_pieces, both_hold, narrow, known_by_fits}
 use Rattle.tv_spelling.proofs.SumLevels.{bracket_levels, sum_levels, parts_levels, further_levels, factors_levels, part_levels, factor_levels, is_regular, are_regular}
 
 -- the expressions in a list
@@ -132,41 +133,44 @@ factor_added v e es n draws rest shown others o p l =
     grammar.times (shown.as_factor n draws (further_factors_pieces v.variables es rest) o (omega arith)) (others n (draws_after e draws) rest p (omega arith))
 
 mutual
-  pub expression_shown : (v : Vocabulary) (ds : ℕ) → AreNames v.variables → (e : Expression) → IsTrue (expression_fits (length v.variables) ds e) → is_regular e ≡ true → IsShown v e
-  expression_shown v ds names (number (pos k)) h r = bare v (number (pos k)) refl refl (natural v k (narrow k h))
-  expression_shown v ds names (number (negsuc k)) h r = absurd cc
-  expression_shown v ds names (variable k) h r = bare v (variable k) refl refl (known v k (names.differ k (below k (length v.variables) h)))
-  expression_shown v ds names (draw k) h r = bare v (draw k) refl refl (drawn v k)
-  expression_shown v ds names (minus e) h r = bare v (minus e) refl refl (signed v e (expression_shown v ds names e h r))
-  expression_shown v ds names (sum no_part) h r = absurd cc
-  expression_shown v ds names (sum (part e no_part)) h r = absurd cc
-  expression_shown v ds names (sum (part e (part f es))) h r =
+  pub known_shown : (v : Vocabulary) (ds : ℕ) (e : Expression) → IsTrue (expression_fits (length v.variables) ds e) → AreKnownIn v.variables e → is_regular e ≡ true → IsShown v e
+  known_shown v ds (number (pos k)) h m r = bare v (number (pos k)) refl refl (natural v k (narrow k h))
+  known_shown v ds (number (negsuc k)) h m r = absurd cc
+  known_shown v ds (variable k) h m r = bare v (variable k) refl refl (known v k m.placed)
+  known_shown v ds (draw k) h m r = bare v (draw k) refl refl (drawn v k)
+  known_shown v ds (minus e) h m r = bare v (minus e) refl refl (signed v e (known_shown v ds e h m r))
+  known_shown v ds (sum no_part) h m r = absurd cc
+  known_shown v ds (sum (part e no_part)) h m r = absurd cc
+  known_shown v ds (sum (part e (part f es))) h m r =
       let t = both_hold (expression_fits (length v.variables) ds e) (expressions_fit (length v.variables) ds (part f es)) h in
       let s = both_hold (is_regular e) (are_regular (part f es)) r in
-      shown_sum v (part e (part f es)) (all_parts v e f es (expression_shown v ds names e t.0 s.0) (parts_shown v ds names (part f es) t.1 s.1))
-  expression_shown v ds names (product no_part) h r = absurd cc
-  expression_shown v ds names (product (part e no_part)) h r = absurd cc
-  expression_shown v ds names (product (part e (part f es))) h r =
+      shown_sum v (part e (part f es)) (all_parts v e f es (known_shown v ds e t.0 m.0 s.0) (parts_shown v ds (part f es) t.1 m.1 s.1))
+  known_shown v ds (product no_part) h m r = absurd cc
+  known_shown v ds (product (part e no_part)) h m r = absurd cc
+  known_shown v ds (product (part e (part f es))) h m r =
       let l = both_hold (is_linear_product (part e (part f es))) (expressions_fit (length v.variables) ds (part e (part f es))) h in
       let t = both_hold (expression_fits (length v.variables) ds e) (expressions_fit (length v.variables) ds (part f es)) l.1 in
       let q = both_hold (is_linear_product (part e (part f es))) (are_regular (part e (part f es))) r in
       let s = both_hold (is_regular e) (are_regular (part f es)) q.1 in
-      shown_product v (part e (part f es)) (all_factors v e f es l.0 (expression_shown v ds names e t.0 s.0) (factors_shown v ds names (part f es) t.1 s.1))
+      shown_product v (part e (part f es)) (all_factors v e f es l.0 (known_shown v ds e t.0 m.0 s.0) (factors_shown v ds (part f es) t.1 m.1 s.1))
 
-  parts_shown : (v : Vocabulary) (ds : ℕ) → AreNames v.variables → (es : Expressions) → IsTrue (expressions_fit (length v.variables) ds es) → are_regular es ≡ true → ShowsParts v es
-  parts_shown v ds names no_part h r n draws rest o l = grammar.no_product
-  parts_shown v ds names (part (minus e) es) h r n draws rest o l =
+  parts_shown : (v : Vocabulary) (ds : ℕ) (es : Expressions) → IsTrue (expressions_fit (length v.variables) ds es) → AreKnownAmong v.variables es → are_regular es ≡ true → ShowsParts v es
+  parts_shown v ds no_part h m r n draws rest o l = grammar.no_product
+  parts_shown v ds (part (minus e) es) h m r n draws rest o l =
       let t = both_hold (expression_fits (length v.variables) ds e) (expressions_fit (length v.variables) ds es) h in
       let s = both_hold (is_regular e) (are_regular es) r in
-      part_taken_off v e es n draws rest (expression_shown v ds names e t.0 s.0) (parts_shown v ds names es t.1 s.1) o.0 o.1 l
-  parts_shown v ds names (part e es) h r n draws rest o l =
+      part_taken_off v e es n draws rest (known_shown v ds e t.0 m.0 s.0) (parts_shown v ds es t.1 m.1 s.1) o.0 o.1 l
+  parts_shown v ds (part e es) h m r n draws rest o l =
       let t = both_hold (expression_fits (length v.variables) ds e) (expressions_fit (length v.variables) ds es) h in
       let s = both_hold (is_regular e) (are_regular es) r in
-      part_added v e es n draws rest (expression_shown v ds names e t.0 s.0) (parts_shown v ds names es t.1 s.1) o.0 o.1 l
+      part_added v e es n draws rest (known_shown v ds e t.0 m.0 s.0) (parts_shown v ds es t.1 m.1 s.1) o.0 o.1 l
 
-  factors_shown : (v : Vocabulary) (ds : ℕ) → AreNames v.variables → (es : Expressions) → IsTrue (expressions_fit (length v.variables) ds es) → are_regular es ≡ true → ShowsFactors v es
-  factors_shown v ds names no_part h r n draws rest o l = grammar.no_factor
-  factors_shown v ds names (part e es) h r n draws rest o l =
+  factors_shown : (v : Vocabulary) (ds : ℕ) (es : Expressions) → IsTrue (expressions_fit (length v.variables) ds es) → AreKnownAmong v.variables es → are_regular es ≡ true → ShowsFactors v es
+  factors_shown v ds no_part h m r n draws rest o l = grammar.no_factor
+  factors_shown v ds (part e es) h m r n draws rest o l =
       let t = both_hold (expression_fits (length v.variables) ds e) (expressions_fit (length v.variables) ds es) h in
       let s = both_hold (is_regular e) (are_regular es) r in
-      factor_added v e es n draws rest (expression_shown v ds names e t.0 s.0) (factors_shown v ds names es t.1 s.1) o.0 o.1 l
+      factor_added v e es n draws rest (known_shown v ds e t.0 m.0 s.0) (factors_shown v ds es t.1 m.1 s.1) o.0 o.1 l
+
+pub expression_shown : (v : Vocabulary) (ds : ℕ) → AreNames v.variables → (e : Expression) → IsTrue (expression_fits (length v.variables) ds e) → is_regular e ≡ true → IsShown v e
+expression_shown v ds names e h r = known_shown v ds e h (known_by_fits v.variables ds names e h) r

@@ -12,6 +12,7 @@ use Rattle.tv_program.specs.Limits.{expression_fits, expressions_fit, is_linear_
 use Rattle.tv_spelling.specs.Sums.{in_brackets, is_sum, is_product, as_part, as_factor, expression_text, sum_text, further_parts_text, product_text, further_factors_text}
 use Rattle.tv_spelling.specs.ReadAgain.{AreNames}
 use Rattle.tv_spelling.proofs.Pieces.{Piece, blank, word, bytes, AreFronts, IsReady, bracket_pieces}
+use Rattle.tv_spelling.proofs.KnownNames.{AreKnownIn, AreKnownAmong}
 use Rattle.tv_spelling.proofs.FrontLemmas.{name_front, decimal_digits, decimal_value, number_front_is}
 
 abbrev pub number_pieces : ℤ → List Piece → List Piece
@@ -144,37 +145,97 @@ both_hold true b h = (refl, h)
 both_hold false b h = absurd cc
 
 mutual
-  pub expression_fronts : (ws : List Word) (ds : ℕ) → AreNames ws → (e : Expression) → IsTrue (expression_fits (length ws) ds e) → Lays (expression_pieces ws e)
-  expression_fronts ws ds names (number (pos n)) h rest r = number_fronts n (narrow n h) rest r
-  expression_fronts ws ds names (number (negsuc n)) h rest r = sign_fronts (word Number (decimal (suc n)) ∷ rest) (number_fronts (suc n) (narrow (suc n) h) rest r)
-  expression_fronts ws ds names (variable v) h rest r = (name_front (slice_index_or ws v []) (bytes rest) (names.are_names v (below v (length ws) h)) r.stops, r.fronts)
-  expression_fronts ws ds names (draw d) h rest r = draw_fronts rest r.fronts
-  expression_fronts ws ds names (minus e) h rest r =
-      sign_fronts (bracket_pieces (is_sum e || is_product e) (expression_pieces ws e) rest) (bracket_fronts (expression_pieces ws e) (expression_fronts ws ds names e h) (is_sum e || is_product e) rest r)
-  expression_fronts ws ds names (sum no_part) h rest r = r.fronts
-  expression_fronts ws ds names (sum (part e es)) h rest r =
+  -- all names are known
+  pub known_by_fits : (ws : List Word) (ds : ℕ) → AreNames ws → (e : Expression) → IsTrue (expression_fits (length ws) ds e) → AreKnownIn ws e
+  known_by_fits ws ds names (number z) h = tt
+  known_by_fits ws ds names (variable v) h = record { name = names.are_names v (below v (length ws) h); placed = names.differ v (below v (length ws) h) }
+  known_by_fits ws ds names (draw d) h = tt
+  known_by_fits ws ds names (minus e) h = known_by_fits ws ds names e h
+  known_by_fits ws ds names (sum es) h = all_known_by_fits ws ds names es h
+  known_by_fits ws ds names (product es) h = all_known_by_fits ws ds names es (both_hold (is_linear_product es) (expressions_fit (length ws) ds es) h).1
+
+  all_known_by_fits : (ws : List Word) (ds : ℕ) → AreNames ws → (es : Expressions) → IsTrue (expressions_fit (length ws) ds es) → AreKnownAmong ws es
+  all_known_by_fits ws ds names no_part h = tt
+  all_known_by_fits ws ds names (part e es) h =
       let t = both_hold (expression_fits (length ws) ds e) (expressions_fit (length ws) ds es) h in
-      bracket_fronts (expression_pieces ws e) (expression_fronts ws ds names e t.0) (is_sum e) (further_parts_pieces ws es rest) (parts_ready ws ds names es t.1 rest r)
-  expression_fronts ws ds names (product no_part) h rest r = r.fronts
-  expression_fronts ws ds names (product (part e es)) h rest r =
+      (known_by_fits ws ds names e t.0, all_known_by_fits ws ds names es t.1)
+
+mutual
+  pub known_fronts : (ws : List Word) (ds : ℕ) (e : Expression) → IsTrue (expression_fits (length ws) ds e) → AreKnownIn ws e → Lays (expression_pieces ws e)
+  known_fronts ws ds (number (pos n)) h k rest r = number_fronts n (narrow n h) rest r
+  known_fronts ws ds (number (negsuc n)) h k rest r = sign_fronts (word Number (decimal (suc n)) ∷ rest) (number_fronts (suc n) (narrow (suc n) h) rest r)
+  known_fronts ws ds (variable v) h k rest r = (name_front (slice_index_or ws v []) (bytes rest) k.name r.stops, r.fronts)
+  known_fronts ws ds (draw d) h k rest r = draw_fronts rest r.fronts
+  known_fronts ws ds (minus e) h k rest r =
+      sign_fronts (bracket_pieces (is_sum e || is_product e) (expression_pieces ws e) rest) (bracket_fronts (expression_pieces ws e) (known_fronts ws ds e h k) (is_sum e || is_product e) rest r)
+  known_fronts ws ds (sum no_part) h k rest r = r.fronts
+  known_fronts ws ds (sum (part e es)) h k rest r =
+      let t = both_hold (expression_fits (length ws) ds e) (expressions_fit (length ws) ds es) h in
+      bracket_fronts (expression_pieces ws e) (known_fronts ws ds e t.0 k.0) (is_sum e) (further_parts_pieces ws es rest) (parts_ready ws ds es t.1 k.1 rest r)
+  known_fronts ws ds (product no_part) h k rest r = r.fronts
+  known_fronts ws ds (product (part e es)) h k rest r =
       let s = both_hold (is_linear_product (part e es)) (expressions_fit (length ws) ds (part e es)) h in
       let t = both_hold (expression_fits (length ws) ds e) (expressions_fit (length ws) ds es) s.1 in
-      bracket_fronts (expression_pieces ws e) (expression_fronts ws ds names e t.0) (is_sum e || is_product e) (further_factors_pieces ws es rest) (factors_ready ws ds names es t.1 rest r)
+      bracket_fronts (expression_pieces ws e) (known_fronts ws ds e t.0 k.0) (is_sum e || is_product e) (further_factors_pieces ws es rest) (factors_ready ws ds es t.1 k.1 rest r)
 
-  parts_ready : (ws : List Word) (ds : ℕ) → AreNames ws → (es : Expressions) → IsTrue (expressions_fit (length ws) ds es) → (rest : List Piece) → IsReady rest → IsReady (further_parts_pieces ws es rest)
-  parts_ready ws ds names no_part h rest r = r
-  parts_ready ws ds names (part (minus e) es) h rest r =
+  parts_ready : (ws : List Word) (ds : ℕ) (es : Expressions) → IsTrue (expressions_fit (length ws) ds es) → AreKnownAmong ws es → (rest : List Piece) → IsReady rest → IsReady (further_parts_pieces ws es rest)
+  parts_ready ws ds no_part h k rest r = r
+  parts_ready ws ds (part (minus e) es) h k rest r =
       let t = both_hold (expression_fits (length ws) ds e) (expressions_fit (length ws) ds es) h in
       minus_ready (bracket_pieces (is_sum e) (expression_pieces ws e) (further_parts_pieces ws es rest))
-      (bracket_fronts (expression_pieces ws e) (expression_fronts ws ds names e t.0) (is_sum e) (further_parts_pieces ws es rest) (parts_ready ws ds names es t.1 rest r))
-  parts_ready ws ds names (part e es) h rest r =
+      (bracket_fronts (expression_pieces ws e) (known_fronts ws ds e t.0 k.0) (is_sum e) (further_parts_pieces ws es rest) (parts_ready ws ds es t.1 k.1 rest r))
+  parts_ready ws ds (part e es) h k rest r =
       let t = both_hold (expression_fits (length ws) ds e) (expressions_fit (length ws) ds es) h in
       plus_ready (bracket_pieces (is_sum e) (expression_pieces ws e) (further_parts_pieces ws es rest))
-      (bracket_fronts (expression_pieces ws e) (expression_fronts ws ds names e t.0) (is_sum e) (further_parts_pieces ws es rest) (parts_ready ws ds names es t.1 rest r))
+      (bracket_fronts (expression_pieces ws e) (known_fronts ws ds e t.0 k.0) (is_sum e) (further_parts_pieces ws es rest) (parts_ready ws ds es t.1 k.1 rest r))
 
-  factors_ready : (ws : List Word) (ds : ℕ) → AreNames ws → (es : Expressions) → IsTrue (expressions_fit (length ws) ds es) → (rest : List Piece) → IsReady rest → IsReady (further_factors_pieces ws es rest)
-  factors_ready ws ds names no_part h rest r = r
-  factors_ready ws ds names (part e es) h rest r =
+  factors_ready : (ws : List Word) (ds : ℕ) (es : Expressions) → IsTrue (expressions_fit (length ws) ds es) → AreKnownAmong ws es → (rest : List Piece) → IsReady rest → IsReady (further_factors_pieces ws es rest)
+  factors_ready ws ds no_part h k rest r = r
+  factors_ready ws ds (part e es) h k rest r =
       let t = both_hold (expression_fits (length ws) ds e) (expressions_fit (length ws) ds es) h in
       star_ready (bracket_pieces (is_sum e || is_product e) (expression_pieces ws e) (further_factors_pieces ws es rest))
-      (bracket_fronts (expression_pieces ws e) (expression_fronts ws ds names e t.0) (is_sum e || is_product e) (further_factors_pieces ws es rest) (factors_ready ws ds names es t.1 rest r))
+      (bracket_fronts (expression_pieces ws e) (known_fronts ws ds e t.0 k.0) (is_sum e || is_product e) (further_factors_pieces ws es rest) (factors_ready ws ds es t.1 k.1 rest r))
+
+pub expression_fronts : (ws : List Word) (ds : ℕ) → AreNames ws → (e : Expression) → IsTrue (expression_fits (length ws) ds e) → Lays (expression_pieces ws e)
+expression_fronts ws ds names e h = known_fronts ws ds e h (known_by_fits ws ds names e h)
+
+-- ---- what stands behind them stays
+
+-- the pieces, and others behind them
+abbrev pub Leads : (List Piece → List Piece) → Type 0
+Leads pieces = (rest : List Piece) → pieces rest ≡ pieces [] ++ rest
+
+pub bracket_leads : (pieces : List Piece → List Piece) → Leads pieces → (b : Bool) → Leads (bracket_pieces b pieces)
+bracket_leads pieces h true rest =
+    ap (λ (x : List Piece). word LeftRound (40 ∷ []) ∷ x) (h (word RightRound (41 ∷ []) ∷ rest) ∙ sym (append_assoc (pieces []) (word RightRound (41 ∷ []) ∷ []) rest) ∙ ap (λ (x : List Piece). x ++ rest) (sym (h (word RightRound (41 ∷ []) ∷ []))))
+bracket_leads pieces h false rest = h rest
+
+pub joined_leads : (first : List Piece → List Piece) → Leads first → (before : List Piece) (more : List Piece → List Piece) → Leads more → Leads (λ rest. before ++ first (more rest))
+joined_leads first h before more k rest =
+    ap (λ (x : List Piece). before ++ x)
+    (h (more rest) ∙ ap (λ (x : List Piece). first [] ++ x) (k rest) ∙ sym (append_assoc (first []) (more []) rest) ∙ ap (λ (x : List Piece). x ++ rest) (sym (h (more []))))
+    ∙ sym (append_assoc before (first (more [])) rest)
+
+number_leads : (z : ℤ) → Leads (number_pieces z)
+number_leads (pos n) rest = refl
+number_leads (negsuc n) rest = refl
+
+mutual
+  pub expression_leads : (ws : List Word) (e : Expression) → Leads (expression_pieces ws e)
+  expression_leads ws (number z) rest = number_leads z rest
+  expression_leads ws (variable v) rest = refl
+  expression_leads ws (draw d) rest = refl
+  expression_leads ws (minus e) rest = ap (λ (x : List Piece). word Minus (45 ∷ []) ∷ x) (bracket_leads (expression_pieces ws e) (expression_leads ws e) (is_sum e || is_product e) rest)
+  expression_leads ws (sum no_part) rest = refl
+  expression_leads ws (sum (part e es)) rest = joined_leads (bracket_pieces (is_sum e) (expression_pieces ws e)) (bracket_leads (expression_pieces ws e) (expression_leads ws e) (is_sum e)) [] (further_parts_pieces ws es) (parts_lead ws es) rest
+  expression_leads ws (product no_part) rest = refl
+  expression_leads ws (product (part e es)) rest = joined_leads (bracket_pieces (is_sum e || is_product e) (expression_pieces ws e)) (bracket_leads (expression_pieces ws e) (expression_leads ws e) (is_sum e || is_product e)) [] (further_factors_pieces ws es) (factors_lead ws es) rest
+
+  parts_lead : (ws : List Word) (es : Expressions) → Leads (further_parts_pieces ws es)
+  parts_lead ws no_part rest = refl
+  parts_lead ws (part (minus e) es) rest = joined_leads (bracket_pieces (is_sum e) (expression_pieces ws e)) (bracket_leads (expression_pieces ws e) (expression_leads ws e) (is_sum e)) (blank ∷ word Minus (45 ∷ []) ∷ blank ∷ []) (further_parts_pieces ws es) (parts_lead ws es) rest
+  parts_lead ws (part e es) rest = joined_leads (bracket_pieces (is_sum e) (expression_pieces ws e)) (bracket_leads (expression_pieces ws e) (expression_leads ws e) (is_sum e)) (blank ∷ word Plus (43 ∷ []) ∷ blank ∷ []) (further_parts_pieces ws es) (parts_lead ws es) rest
+
+  factors_lead : (ws : List Word) (es : Expressions) → Leads (further_factors_pieces ws es)
+  factors_lead ws no_part rest = refl
+  factors_lead ws (part e es) rest = joined_leads (bracket_pieces (is_sum e || is_product e) (expression_pieces ws e)) (bracket_leads (expression_pieces ws e) (expression_leads ws e) (is_sum e || is_product e)) (blank ∷ word Star (42 ∷ []) ∷ blank ∷ []) (further_factors_pieces ws es) (factors_lead ws es) rest

@@ -1,5 +1,5 @@
 -- When the text of a tree is read as that tree again.
-use Rattle.std.specs.Prelude.{◌≡◌, ℕ, suc, true, List, [], ◌∷◌, slice_index, slice_index_or, EachIndex, Some, IsTrue, length}
+use Rattle.std.specs.Prelude.{◌≡◌, ℕ, suc, true, List, [], ◌∷◌, slice_index, slice_index_or, Bool, EachIndex, Some, IsTrue, length}
 use Rattle.std.specs.List.{list_all}
 use Rattle.tv_tokens.specs.declared.token.TokenKind.TheVariants.{Name, End}
 use Rattle.tv_tokens.specs.declared.token.Token.{Token}
@@ -11,6 +11,10 @@ use Rattle.tv_program.specs.Limits.{expression_fits, condition_fits}
 use Rattle.tv_language.specs.Symbols.{Symbol, fixed, lexemes, symbols}
 use Rattle.tv_language.specs.Sums.{IsSum}
 use Rattle.tv_language.specs.Conditions.{IsCondition}
+use Rattle.tv_language.specs.Programs.{draws_in, draws_tested}
+use Rattle.tv_reading.specs.Marks.{plain, Stand, left, Passes}
+use Rattle.tv_reading.specs.Readings.{begun, sum_levels, condition_levels}
+use Rattle.tv_reading.specs.Texts.{IsLongest}
 
 -- a word that is a name and not reserved
 pub record IsName (word : Word) : Type 0 where
@@ -96,3 +100,30 @@ IsSumAgain words e text =
 abbrev pub IsConditionAgain : List Word → Condition → List ℕ → Type 0
 IsConditionAgain words c text =
     (draws n : ℕ) (ts rest : List Symbol) → AreNames words → IsTrue (condition_fits (length words) draws c) → IsOrderedTest c 0 → IsCondition n c ts rest → IsConditionText words n c text
+
+-- ---- as it is read
+
+-- A reading from the front of the text, with these names, has the expression in front of it, and behind it the end of the text.
+abbrev pub IsSumInFront : Bool → List Word → Expression → List ℕ → Type 0
+IsSumInFront grows words e text = (tokens : List Token) → IsTokens 0 text tokens → IsLongest (IsSum (sum_levels (begun text tokens words grows))) e (left (begun text tokens words grows)) (plain (fixed End) ∷ [])
+
+abbrev pub IsConditionInFront : Bool → List Word → Condition → List ℕ → Type 0
+IsConditionInFront grows words c text = (tokens : List Token) → IsTokens 0 text tokens → IsLongest (IsCondition (condition_levels (begun text tokens words grows))) c (left (begun text tokens words grows)) (plain (fixed End) ∷ [])
+
+-- a reading of a text that began with names went from the one place to the other, and has these names there
+pub record Went (s u : Stand) (words : List Word) : Type 0 where
+  pub scanned : IsTokens 0 s.text s.tokens
+  pub began : AreNames s.names
+  pub passes : Passes s u
+  pub names : u.names ≡ words
+
+-- The expression that a reading found is found again at the front of this text, by a reading that begins with the names known then, and
+-- adds names if that one did. It has no draw; where no name is added, none has.
+abbrev pub IsSumReadAgain : List Word → Expression → List ℕ → Type 0
+IsSumReadAgain words e text =
+    (s u : Stand) → Went s u words → (s.grows ≡ true → draws_in e ≡ 0) → IsLongest (IsSum (sum_levels s)) e (left s) (left u) → IsSumInFront s.grows words e text
+
+-- the same of a condition
+abbrev pub IsConditionReadAgain : List Word → Condition → List ℕ → Type 0
+IsConditionReadAgain words c text =
+    (s u : Stand) → Went s u words → (s.grows ≡ true → draws_tested c ≡ 0) → IsLongest (IsCondition (condition_levels s)) c (left s) (left u) → IsConditionInFront s.grows words c text

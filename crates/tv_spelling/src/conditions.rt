@@ -6,7 +6,7 @@ ghost use Rattle.tv_program.specs.Trees.{compare};
 ghost use Rattle.tv_program.specs.Views.{condition, conditions, expression};
 ghost use Rattle.tv_spelling.specs.Conditions.{is_truth, is_negated, is_all, is_some, as_denied, as_literal, as_conjunction, truth_text, relation_text, condition_text, all_text, some_text};
 ghost use Rattle.tv_spelling.specs.Named.{test_is_named};
-ghost use Rattle.tv_spelling.specs.ReadAgain.{IsConditionAgain};
+ghost use Rattle.tv_spelling.specs.ReadAgain.{IsConditionAgain, IsConditionReadAgain};
 ghost use Rattle.tv_spelling.specs.Sums.{in_brackets};
 
 use crate::sums::append_sum;
@@ -186,7 +186,10 @@ pub fn write_condition(alloc: Global, written: &Cond, names: &Names) -> Result<V
     requires named { IsTrue (test_is_named (length names.now) (condition written.now)) }
     requires shallow { condition_depth (condition written.now) ≤ 400 }
     ensures spelled { IfOk result (λ text. text.items ≡ condition_text names.now (condition written.now)) }
+    // Where some text stands for the condition, this one does.
     ensures again { IfOk result (λ text. IsConditionAgain names.now (condition written.now) text.items) }
+    // What a reading with these names found is found again, with the end of the text behind it.
+    ensures read { IfOk result (λ text. IsConditionReadAgain names.now (condition written.now) text.items) }
 {
     let mut text = Vec::new(alloc);
     append_condition(alloc, &mut text, written, names)?;

@@ -4,7 +4,7 @@ ghost use Rattle.std.specs.Prelude.{◌≡◌, ◌++◌, ◌≤◌, true, IfOk, 
 ghost use Rattle.tv_program.specs.Limits.{expression_depth};
 ghost use Rattle.tv_program.specs.Views.{expression, expressions};
 ghost use Rattle.tv_spelling.specs.Named.{are_named};
-ghost use Rattle.tv_spelling.specs.ReadAgain.{IsSumAgain};
+ghost use Rattle.tv_spelling.specs.ReadAgain.{IsSumAgain, IsSumReadAgain};
 ghost use Rattle.tv_spelling.specs.Sums.{in_brackets, is_sum, is_product, as_part, as_factor, expression_text, sum_text, product_text, further_part_text, further_factors_text};
 
 use crate::writing::{append_name, append_number, append_text};
@@ -169,7 +169,10 @@ pub fn write_sum(alloc: Global, expr: &Expr, names: &Names) -> Result<Vec<u8>, A
     requires named { IsTrue (are_named (length names.now) (expression expr.now)) }
     requires shallow { expression_depth (expression expr.now) ≤ 400 }
     ensures spelled { IfOk result (λ text. text.items ≡ expression_text names.now (expression expr.now)) }
+    // Where some text stands for the expression, this one does.
     ensures again { IfOk result (λ text. IsSumAgain names.now (expression expr.now) text.items) }
+    // What a reading with these names found is found again, with the end of the text behind it.
+    ensures read { IfOk result (λ text. IsSumReadAgain names.now (expression expr.now) text.items) }
 {
     let mut text = Vec::new(alloc);
     append_sum(alloc, &mut text, expr, names)?;
