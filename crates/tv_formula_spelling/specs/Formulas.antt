@@ -9,6 +9,7 @@ use Rattle.tv_formula.specs.declared.tree.Shape.TheVariants.{Until, Weak, Releas
 use Rattle.tv_formula.specs.Properties.{Property, truth, compare, at, term, negated, all_of, some_of, next, fix, Properties, none, more}
 use Rattle.tv_formula_spelling.specs.declared.formulas.Form.{Form}
 use Rattle.tv_formula_spelling.specs.declared.formulas.Form.TheVariants.{Finally, Globally, Both}
+use Rattle.tv_formula_text.specs.FormulaTexts.{IsFormulaText}
 use Rattle.tv_spelling.specs.Sums.{in_brackets, expression_text}
 use Rattle.tv_spelling.specs.Conditions.{truth_text, relation_text}
 
@@ -108,3 +109,7 @@ abbrev mutual
 -- the text over the words of a program
 abbrev pub text_of : System → Property → List ℕ
 text_of p f = formula_text p.variables p.locations f
+
+-- where some text is a text of the formula over the words of the program, this one is, too
+abbrev pub IsFormulaAgain : System → Property → List ℕ → Type 0
+IsFormulaAgain p f text = (t : List ℕ) → IsFormulaText p t f → IsFormulaText p text f

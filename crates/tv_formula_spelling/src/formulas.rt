@@ -6,7 +6,7 @@ ghost use Rattle.tv_formula.specs.Properties.{compare, truth};
 ghost use Rattle.tv_formula.specs.Views.{property, properties};
 ghost use Rattle.tv_spelling.specs.Sums.{in_brackets};
 ghost use Rattle.tv_spelling.specs.Conditions.{truth_text, relation_text};
-ghost use Rattle.tv_formula_spelling.specs.Formulas.{path_letter, shape_letter, operator_text, is_joined, is_all, is_some, as_denied, as_literal, as_conjunction, is_truth, form_of, formula_text, all_text, some_text, text_of};
+ghost use Rattle.tv_formula_spelling.specs.Formulas.{path_letter, shape_letter, operator_text, is_joined, is_all, is_some, as_denied, as_literal, as_conjunction, is_truth, form_of, formula_text, all_text, some_text, text_of, IsFormulaAgain};
 
 use std::alloc::{AllocError, Global};
 use tv_formula::{Formula, Path, Shape, Tree};
@@ -265,7 +265,9 @@ pub fn write_formula(
     formula: &Formula,
     program: &Program,
 ) -> Result<Vec<u8>, AllocError>
-    ensures { IfOk result (λ text. text.items ≡ text_of (system_of program.now) (property_of formula.now)) }
+    ensures spelled { IfOk result (λ text. text.items ≡ text_of (system_of program.now) (property_of formula.now)) }
+    // Where some text is one of the formula, this one is.
+    ensures again { IfOk result (λ text. IsFormulaAgain (system_of program.now) (property_of formula.now) text.items) }
 {
     let words = Words {
         variables: program.variables(),

@@ -3,6 +3,8 @@
 
 mod formulas;
 #[cfg(test)]
+mod read_again;
+#[cfg(test)]
 mod tests;
 
 pub use formulas::write_formula;

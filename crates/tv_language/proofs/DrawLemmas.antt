@@ -23,7 +23,7 @@ both_none : (a b : ℕ) → a ≡ 0 → b ≡ 0 → a + b ≡ 0
 both_none a b h k = omega (arith, h, k)
 
 mutual
-  none_in : (v : ℕ) (e : Expression) → IsTrue (expression_fits v 0 e) → draws_in e ≡ 0
+  pub none_in : (v : ℕ) (e : Expression) → IsTrue (expression_fits v 0 e) → draws_in e ≡ 0
   none_in v (number z) h = refl
   none_in v (variable n) h = refl
   none_in v (draw d) h = absurd (none_below d h)

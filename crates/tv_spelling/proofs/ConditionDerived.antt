@@ -78,7 +78,7 @@ bare_negated v c shown = record {
   as_denied = denial v c shown;
 }
 
-relation_known : (r : Relation) → relation_of (relation_kind r) ≡ Some r
+pub relation_known : (r : Relation) → relation_of (relation_kind r) ≡ Some r
 relation_known Less = refl
 relation_known LessEqual = refl
 relation_known Greater = refl

@@ -63,11 +63,11 @@ abbrev mutual
 
 -- ---- their bytes are the text
 
-truth_bytes : (b : Bool) → Writes (truth_pieces b) (truth_text b)
+pub truth_bytes : (b : Bool) → Writes (truth_pieces b) (truth_text b)
 truth_bytes true rest = refl
 truth_bytes false rest = refl
 
-relation_bytes : (r : Relation) (bs : List Piece) → bytes (blank ∷ word (relation_kind r) (relation_word r) ∷ blank ∷ bs) ≡ relation_text r ++ bytes bs
+pub relation_bytes : (r : Relation) (bs : List Piece) → bytes (blank ∷ word (relation_kind r) (relation_word r) ∷ blank ∷ bs) ≡ relation_text r ++ bytes bs
 relation_bytes Less bs = refl
 relation_bytes LessEqual bs = refl
 relation_bytes Greater bs = refl
@@ -111,11 +111,11 @@ mutual
 
 -- ---- each word is the token at the front
 
-truth_fronts : (b : Bool) → Lays (truth_pieces b)
+pub truth_fronts : (b : Bool) → Lays (truth_pieces b)
 truth_fronts true rest r = (word_at_front True (λ n x. refl) 116 (114 ∷ 117 ∷ 101 ∷ []) (bytes rest) refl refl refl r.stops, r.fronts)
 truth_fronts false rest r = (word_at_front False (λ n x. refl) 102 (97 ∷ 108 ∷ 115 ∷ 101 ∷ []) (bytes rest) refl refl refl r.stops, r.fronts)
 
-relation_ready : (r : Relation) (bs : List Piece) → AreFronts bs → IsReady (blank ∷ word (relation_kind r) (relation_word r) ∷ blank ∷ bs)
+pub relation_ready : (r : Relation) (bs : List Piece) → AreFronts bs → IsReady (blank ∷ word (relation_kind r) (relation_word r) ∷ blank ∷ bs)
 unfolding front_of
 relation_ready Less bs h = record { stops = refl; fronts = (refl, h) }
 relation_ready LessEqual bs h = record { stops = refl; fronts = (refl, h) }
@@ -124,11 +124,11 @@ relation_ready GreaterEqual bs h = record { stops = refl; fronts = (refl, h) }
 relation_ready Equal bs h = record { stops = refl; fronts = (refl, h) }
 relation_ready NotEqual bs h = record { stops = refl; fronts = (refl, h) }
 
-and_ready : (bs : List Piece) → AreFronts bs → IsReady (blank ∷ word And (38 ∷ 38 ∷ []) ∷ blank ∷ bs)
+pub and_ready : (bs : List Piece) → AreFronts bs → IsReady (blank ∷ word And (38 ∷ 38 ∷ []) ∷ blank ∷ bs)
 unfolding front_of
 and_ready bs h = record { stops = refl; fronts = (refl, h) }
 
-or_ready : (bs : List Piece) → AreFronts bs → IsReady (blank ∷ word Or (124 ∷ 124 ∷ []) ∷ blank ∷ bs)
+pub or_ready : (bs : List Piece) → AreFronts bs → IsReady (blank ∷ word Or (124 ∷ 124 ∷ []) ∷ blank ∷ bs)
 unfolding front_of
 or_ready bs h = record { stops = refl; fronts = (refl, h) }
 

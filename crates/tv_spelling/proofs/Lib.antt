@@ -23,3 +23,4 @@ pub mod ProgramPieces
 pub mod ProgramDerived
 pub mod ProgramAgain
 pub mod FoundAgain
+pub mod NamedLemmas

@@ -64,7 +64,7 @@ either_same : (b : Bool) (xs ys : List Word) → xs ≡ ys → cond b xs ys ≡ 
 either_same true xs ys e = e
 either_same false xs ys e = refl
 
-not_true : (b : Bool) → not b ≡ true → b ≡ false
+pub not_true : (b : Bool) → not b ≡ true → b ≡ false
 not_true false e = refl
 not_true true e = cc
 
