@@ -36,7 +36,7 @@ mutual
   none_among v (part e es) h = both_none _ _ (none_in v e (first_of (expression_fits v 0 e) (expressions_fit v 0 es) h)) (none_among v es (second_of (expression_fits v 0 e) (expressions_fit v 0 es) h))
 
 mutual
-  none_tested : (v : ℕ) (c : Condition) → IsTrue (condition_fits v 0 c) → draws_tested c ≡ 0
+  pub none_tested : (v : ℕ) (c : Condition) → IsTrue (condition_fits v 0 c) → draws_tested c ≡ 0
   none_tested v (truth b) h = refl
   none_tested v (compare r a b) h = both_none _ _ (none_in v a (first_of (expression_fits v 0 a) (expression_fits v 0 b) h)) (none_in v b (second_of (expression_fits v 0 a) (expression_fits v 0 b) h))
   none_tested v (negated c) h = none_tested v c h

@@ -24,3 +24,4 @@ pub mod ProgramDerived
 pub mod ProgramAgain
 pub mod FoundAgain
 pub mod NamedLemmas
+pub mod ReadTwice

@@ -3,6 +3,8 @@
 
 mod conditions;
 mod programs;
+#[cfg(test)]
+mod read_again;
 mod sums;
 #[cfg(test)]
 mod tests;

@@ -1,4 +1,4 @@
-ghost use Rattle.std.specs.Prelude.{◌≡◌, ◌+◌, ◌^◌, ◌<◌, ◌≤◌, ◌∷◌, [], IfOk, IsTrue, length, pos, true};
+ghost use Rattle.std.specs.Prelude.{◌≡◌, ◌≤◌, ◌∷◌, [], IfOk, IsTrue, length, pos, true};
 ghost use Rattle.std.specs.List.{list_all};
 ghost use Rattle.tv_program.specs.Limits.{transition_fits};
 ghost use Rattle.tv_program.specs.Trees as trees;
@@ -12,8 +12,6 @@ use crate::sums::append_sum;
 use std::alloc::{AllocError, Global};
 use std::test::Fail;
 use tv_program::{Command, Cond, Edge, Expr, Names, Program, Relation};
-use tv_reading::Reading;
-use tv_tokens::{TokenKind, scan};
 
 /// `x - 1`
 fn one_less(alloc: Global) -> Result<Expr, AllocError>
@@ -341,60 +339,5 @@ fn two_variables_draws_and_brackets(rt: HostRuntime) -> Result<(), Fail> {
     let wanted =
         "START: a;\nFROM: b;\nassume(nondet() > x || !(x > 0));\ny := 2 * (x + y);\nx := nondet();\nTO: a;\n";
     assert!(rt; text.as_slice() == wanted.as_bytes());
-    Ok(())
-}
-
-/// The spelling of the sum that a whole text is, and the names behind it.
-fn sum_respelled(
-    alloc: Global,
-    text: &[u8],
-    names: Names,
-    grows: bool,
-) -> Result<(Vec<u8>, Names), Fail>
-    requires { length text.now + 1 < 2 ^ 32 }
-{
-    if names.len() > 512 {
-        return Err(Fail::from("few names"));
-    }
-    let list = scan(alloc, text)?;
-    let mut reading = Reading::new(alloc, text, &list, names, grows);
-    let Ok(expr) = reading.sum() else {
-        return Err(Fail::from("a sum"));
-    };
-    if reading.peek().kind != TokenKind::End {
-        return Err(Fail::from("a sum up to the end"));
-    }
-    let names = reading.finish();
-    let mut spelling = Vec::new(alloc);
-    append_sum(alloc, &mut spelling, &expr, &names)?;
-    Ok((spelling, names))
-}
-
-// What is written of a sum that was read is read again, whether names are added or not.
-#[test]
-fn sums_are_read_again(rt: HostRuntime) -> Result<(), Fail> {
-    let alloc = rt.alloc();
-    for (text, wanted) in [
-        ("((x)) + - -(y-1)", "x - -(y - 1)"),
-        ("2*(3*x)-(x*4)*5", "2 * (3 * x) - (x * 4) * 5"),
-        ("-(-a) - (b - (c))", "--a - (b - c)"),
-        (
-            "4611686018427387903 - /* most */ 00",
-            "4611686018427387903 - 0",
-        ),
-        ("at - term", "at - term"),
-    ] {
-        assert!(rt; text.len() < 200);
-        let (once, names) = sum_respelled(alloc, text.as_bytes(), Names::new(alloc), true)?;
-        assert_eq!(rt; once.as_slice(), wanted.as_bytes());
-        assert!(rt; once.len() < 200);
-        let (twice, names) = sum_respelled(alloc, &once, names, true)?;
-        assert_eq!(rt; twice.as_slice(), wanted.as_bytes());
-        assert!(rt; twice.len() < 200);
-        if !text.starts_with("at") {
-            let (thrice, _) = sum_respelled(alloc, &twice, names, false)?;
-            assert_eq!(rt; thrice.as_slice(), wanted.as_bytes());
-        }
-    }
     Ok(())
 }
