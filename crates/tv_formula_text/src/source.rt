@@ -1,16 +1,16 @@
-ghost use Rattle.std.specs.Prelude.{◌≡◌, false, ◌+◌, ◌<◌, ◌||◌, Option, length, drop, codes};
+ghost use Rattle.std.specs.Prelude.{◌≡◌, false, ◌+◌, ◌<◌, Option, length, drop};
 ghost use Rattle.std.specs.Option.{option_map};
 ghost use Rattle.std.specs.Str.{bytes_eq};
 ghost use Rattle.tv_language.specs.Symbols.{lexeme};
 ghost use Rattle.tv_grammar.specs.Reads.{next};
-ghost use Rattle.tv_reading.specs.Marks.{is_formula_word, first};
+ghost use Rattle.tv_reading.specs.Marks.{first};
 ghost use Rattle.tv_formula_text.specs.Answers.{left, IsOver, Stays, kind_seen, is_last};
 ghost use Rattle.tv_formula_text.specs.Seen.{seen};
 
 use std::alloc::Global;
 use tv_language::{number_of, word_of};
 use tv_program::Names;
-use tv_reading::Reading;
+use tv_reading::{Reading, is_formula_word};
 use tv_tokens::{Token, TokenKind};
 
 /// A text and its tokens, and the labels of the locations.
@@ -38,13 +38,6 @@ pub fn is_word(word: &[u8], other: &[u8]) -> bool
     ensures { result ≡ bytes_eq word.now other.now }
 {
     word == other
-}
-
-/// Whether the word is one of the two that are no names in formulas.
-pub fn is_formula_word(word: &[u8]) -> bool
-    ensures { result ≡ is_formula_word word.now }
-{
-    is_word(word, b"at") || is_word(word, b"term")
 }
 
 /// The kind of a token, where it is neither a number below 2^62 nor a variable.

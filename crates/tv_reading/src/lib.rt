@@ -19,4 +19,5 @@ mod tests;
 mod trees;
 
 pub use fault::PartFault;
+pub use marks::is_formula_word;
 pub use reading::Reading;
