@@ -1,12 +1,11 @@
 -- The signs of the spelling are a formula that stands for the property.
-use Rattle.std.proofs.Common.{◌≡◌, ℕ, zero, suc, ◌≤◌, Bool, true, false, cond, List, [], ◌∷◌, ◌++◌, max, Some, refl, sym, ap, subst, ◌∙◌, append_assoc, arith}
-use Rattle.std.specs.Prelude.{◌||◌, ◌&&◌, slice_index_or}
-use Rattle.tv_tokens.specs.declared.token.TokenKind.TheVariants.{LeftRound, RightRound, Name}
+use Rattle.std.proofs.Common.{◌≡◌, ℕ, zero, suc, ◌≤◌, Bool, true, false, cond, List, [], ◌∷◌, ◌++◌, max, Some, refl, sym, ap, subst, ◌∙◌, arith}
+use Rattle.std.specs.Prelude.{◌||◌}
+use Rattle.tv_tokens.specs.declared.token.TokenKind.TheVariants.{RightRound}
 use Rattle.tv_program.specs.declared.tree.Relation.{Relation}
 use Rattle.tv_program.specs.declared.tree.Relation.TheVariants.{Less, LessEqual, Greater, GreaterEqual, Equal, NotEqual}
-use Rattle.tv_program.specs.Words.{Word}
 use Rattle.tv_program.specs.Trees.{Expression}
-use Rattle.tv_language.specs.Symbols.{Vocabulary, fixed, label}
+use Rattle.tv_language.specs.Symbols.{Vocabulary, fixed}
 use Rattle.tv_formula.specs.declared.tree.Path.{Path}
 use Rattle.tv_formula.specs.declared.tree.Path.TheVariants.{Every, Any}
 use Rattle.tv_formula.specs.declared.tree.Shape.{Shape}
@@ -17,7 +16,7 @@ use Rattle.tv_formula_text.specs.declared.operators.Single.{Single}
 use Rattle.tv_formula_text.specs.declared.operators.Single.TheVariants as singles
 use Rattle.tv_formula_text.specs.declared.operators.Operator.TheVariants.{One, Two}
 use Rattle.tv_formula_text.specs.Operators.{operator_of, applied}
-use Rattle.tv_formula_text.specs.Signs.{Sign, sign, symbols_of}
+use Rattle.tv_formula_text.specs.Signs.{Sign}
 use Rattle.tv_formula_text.specs.FormulaTexts as grammar
 use Rattle.tv_formula_text.specs.FormulaTexts.{IsPlain, IsArgument, IsLiteral, AreLiterals, IsConjunction, AreConjunctions, IsFormula}
 use Rattle.tv_spelling.proofs.Pieces.{Piece, blank, word, bracket_pieces}
@@ -28,9 +27,9 @@ use Rattle.tv_spelling.proofs.ConditionDerived.{relation_known}
 use Rattle.tv_formula_spelling.specs.declared.formulas.Form.{Form}
 use Rattle.tv_formula_spelling.specs.declared.formulas.Form.TheVariants.{Finally, Globally, Both}
 use Rattle.tv_formula_spelling.specs.Formulas.{path_letter, shape_letter, is_joined, is_all, is_some, is_truth, form_of}
-use Rattle.tv_formula_spelling.proofs.FormulaPieces.{operator_pieces, letter_by, arguments_by, fix_pieces, formula_pieces, further_all_pieces, further_some_pieces}
-use Rattle.tv_formula_spelling.proofs.FormulaReady.{SumReady, Ready, AllReady, are_two, formula_levels, all_levels, some_levels, plain_levels, literal_levels, conjunction_levels}
-use Rattle.tv_formula_spelling.proofs.SumSigns.{sign_of, signs_of, SumSigns, sum_signs}
+use Rattle.tv_formula_spelling.proofs.FormulaPieces.{operator_pieces, fix_pieces, formula_pieces, further_all_pieces, further_some_pieces}
+use Rattle.tv_formula_spelling.proofs.FormulaReady.{SumReady, Ready, AllReady, formula_levels, all_levels, some_levels, plain_levels, literal_levels, conjunction_levels}
+use Rattle.tv_formula_spelling.proofs.SumSigns.{sign_of, signs_of, sum_signs}
 
 -- the properties in a list
 abbrev listed : Properties → List Property

@@ -1,10 +1,10 @@
 -- Each word of a formula is the token at the front of its text from there on.
-use Rattle.std.proofs.Common.{◌≡◌, ℕ, Bool, true, false, List, [], ◌∷◌, ◌++◌, length, refl}
+use Rattle.std.proofs.Common.{◌≡◌, ℕ, true, false, List, [], ◌∷◌, ◌++◌, refl}
 use Rattle.std.specs.Prelude.{◌||◌, codes, slice_index, slice_index_or}
 use Rattle.tv_tokens.specs.declared.token.TokenKind.TheVariants.{LeftRound, RightRound, LeftSquare, RightSquare, Name, Not}
 use Rattle.tv_tokens.specs.declared.front.Front.TheVariants as fronts
 use Rattle.tv_tokens.specs.Fronts.{front_of}
-use Rattle.tv_tokens.specs.WordTexts.{begins_name, continues_name, word_kind}
+use Rattle.tv_tokens.specs.WordTexts.{continues_name, word_kind}
 use Rattle.tv_program.specs.Words.{Word}
 use Rattle.tv_reading.proofs.LinearLemmas.{and_both}
 use Rattle.tv_language.specs.Symbols.{Vocabulary}
@@ -21,7 +21,7 @@ use Rattle.tv_spelling.proofs.ProgramPieces.{label_front}
 use Rattle.tv_formula_spelling.specs.declared.formulas.Form.{Form}
 use Rattle.tv_formula_spelling.specs.declared.formulas.Form.TheVariants.{Finally, Globally, Both}
 use Rattle.tv_formula_spelling.specs.Formulas.{path_letter, shape_letter, is_joined, is_all, is_some, form_of}
-use Rattle.tv_formula_spelling.proofs.FormulaPieces.{operator_pieces, place_pieces, letter_by, arguments_by, fix_pieces, formula_pieces, further_all_pieces, further_some_pieces}
+use Rattle.tv_formula_spelling.proofs.FormulaPieces.{operator_pieces, place_pieces, letter_by, arguments_by, formula_pieces, further_all_pieces, further_some_pieces}
 use Rattle.tv_formula_spelling.proofs.FormulaReady.{IsPlace, Ready, AllReady}
 use Rattle.tv_formula_spelling.proofs.SumSigns.{ready_fits, ready_known}
 

@@ -1,26 +1,20 @@
 -- The words and spaces of a formula.
-use Rattle.std.proofs.Common.{◌≡◌, ℕ, Bool, true, false, List, [], ◌∷◌, ◌++◌, length, refl, sym, ap, ◌∙◌, append_assoc}
-use Rattle.std.specs.Prelude.{◌||◌, codes, IsTrue, slice_index_or}
+use Rattle.std.proofs.Common.{◌≡◌, ℕ, true, List, [], ◌∷◌, ◌++◌, refl, sym, ap, ◌∙◌, append_assoc}
+use Rattle.std.specs.Prelude.{◌||◌, codes, slice_index_or}
 use Rattle.tv_tokens.specs.declared.token.TokenKind.TheVariants.{LeftRound, RightRound, LeftSquare, RightSquare, Name, And, Or, Not}
-use Rattle.tv_tokens.specs.declared.front.Front.TheVariants as fronts
-use Rattle.tv_tokens.specs.Fronts.{front_of}
 use Rattle.tv_program.specs.Words.{Word}
-use Rattle.tv_program.specs.Trees.{Expression}
 use Rattle.tv_formula.specs.declared.tree.Path.{Path}
-use Rattle.tv_formula.specs.declared.tree.Path.TheVariants.{Every, Any}
 use Rattle.tv_formula.specs.declared.tree.Shape.{Shape}
-use Rattle.tv_formula.specs.declared.tree.Shape.TheVariants.{Until, Weak, Release, Strong}
 use Rattle.tv_formula.specs.Properties.{Property, truth, compare, at, term, negated, all_of, some_of, next, fix, Properties, none, more}
-use Rattle.tv_spelling.specs.Sums.{in_brackets, expression_text}
+use Rattle.tv_spelling.specs.Sums.{expression_text}
 use Rattle.tv_spelling.specs.Conditions.{relation_text}
-use Rattle.tv_spelling.proofs.Pieces.{Piece, blank, word, bytes, AreFronts, IsReady, bracket_pieces}
-use Rattle.tv_spelling.proofs.FrontLemmas.{word_at_front}
-use Rattle.tv_spelling.proofs.SumPieces.{Writes, bracket_bytes, joined_bytes, expression_pieces, expression_bytes, Lays, bracket_fronts}
-use Rattle.tv_spelling.proofs.ConditionPieces.{truth_pieces, truth_bytes, truth_fronts, relation_kind, relation_word, relation_bytes, relation_ready, and_ready, or_ready}
+use Rattle.tv_spelling.proofs.Pieces.{Piece, blank, word, bytes, bracket_pieces}
+use Rattle.tv_spelling.proofs.SumPieces.{Writes, bracket_bytes, joined_bytes, expression_pieces, expression_bytes}
+use Rattle.tv_spelling.proofs.ConditionPieces.{truth_pieces, truth_bytes, relation_kind, relation_word, relation_bytes}
 use Rattle.tv_spelling.proofs.ProgramPieces.{label_kind}
 use Rattle.tv_formula_spelling.specs.declared.formulas.Form.{Form}
 use Rattle.tv_formula_spelling.specs.declared.formulas.Form.TheVariants.{Finally, Globally, Both}
-use Rattle.tv_formula_spelling.specs.Formulas.{path_letter, shape_letter, operator_text, is_joined, is_all, is_some, as_denied, as_literal, as_conjunction, argument_text, form_of, text_by, fix_text, formula_text, all_text, further_all_text, some_text, further_some_text}
+use Rattle.tv_formula_spelling.specs.Formulas.{path_letter, shape_letter, operator_text, is_joined, is_all, is_some, as_literal, as_conjunction, argument_text, form_of, text_by, formula_text, all_text, further_all_text, some_text, further_some_text}
 
 -- "[" and the two letters of an operator, and "]"
 abbrev pub operator_pieces : Path → ℕ → List Piece → List Piece

@@ -1,20 +1,17 @@
 -- What a text shows of a formula, so that its spelling is a text of it, too.
-use Rattle.std.proofs.Common.{◌≡◌, ℕ, suc, ◌^◌, ◌≤◌, ◌<◌, Bool, true, false, cond, List, [], ◌∷◌, ◌++◌, max, length, Option, Some, None, refl, sym, ap, subst, ◌∙◌, arith}
+use Rattle.std.proofs.Common.{◌≡◌, ℕ, suc, ◌^◌, ◌≤◌, Bool, true, false, cond, List, [], ◌∷◌, ◌++◌, max, length, Option, Some, None, refl, sym, ap, subst, ◌∙◌, arith}
 use Rattle.std.proofs.lemmas.Bool.Decides.{nat_tests}
-use Rattle.std.specs.Prelude.{◌||◌, nat_lt, slice_index, slice_index_or}
+use Rattle.std.specs.Prelude.{◌||◌, nat_lt, slice_index_or}
 use Rattle.std.specs.Str.{bytes_eq}
 use Rattle.tv_tokens.specs.declared.token.TokenKind.{TokenKind}
 use Rattle.tv_tokens.specs.declared.token.TokenKind.TheVariants as kinds
 use Rattle.tv_tokens.specs.Numbers.{value_of_digits}
-use Rattle.tv_tokens.specs.WordTexts.{begins_name}
 use Rattle.tv_program.specs.Words.{Word, number_of}
 use Rattle.tv_program.specs.Trees.{Expression}
 use Rattle.tv_language.specs.Symbols.{Symbol, number, name, label, drawn, fixed, numbered, Vocabulary, Lexeme}
 use Rattle.tv_language.specs.Sums.{IsSum}
 use Rattle.tv_language.proofs.PlaceOfWords.{found}
 use Rattle.tv_formula.specs.declared.tree.Path.{Path}
-use Rattle.tv_formula.specs.declared.tree.Shape.{Shape}
-use Rattle.tv_formula.specs.declared.tree.Shape.TheVariants.{Until, Weak}
 use Rattle.tv_formula.specs.Properties.{Property, truth, compare, at, term, negated, all_of, some_of, next, fix, Properties, none, more}
 use Rattle.tv_formula.specs.Views.{properties_of}
 use Rattle.tv_reading.specs.Marks.{is_formula_word}
@@ -22,7 +19,7 @@ use Rattle.tv_reading.proofs.PassedLemmas.{position_within}
 use Rattle.tv_formula_text.specs.declared.operators.Single.{Single}
 use Rattle.tv_formula_text.specs.declared.operators.Single.TheVariants.{Successor, Finally, Globally}
 use Rattle.tv_formula_text.specs.Operators.{applied}
-use Rattle.tv_formula_text.specs.Signs.{Sign, symbol_in, label_in, sign, signs, symbols_of}
+use Rattle.tv_formula_text.specs.Signs.{Sign, symbol_in, label_in, signs, symbols_of}
 use Rattle.tv_formula_text.specs.FormulaTexts.{joined, IsPlain, always, never, ends, located, denied, bracketed, of_one, of_two, IsArgument, enclosed, IsLiteral, plain, comparison, AreLiterals, no_literal, and, IsConjunction, literals, AreConjunctions, no_conjunction, or, IsFormula, conjunctions}
 use Rattle.tv_spelling.proofs.SumLevels.{bracket_levels, sum_levels}
 use Rattle.tv_spelling.proofs.SumLeast.{bracket_most, bracket_least, sum_least}

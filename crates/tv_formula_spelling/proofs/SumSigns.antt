@@ -1,28 +1,25 @@
 -- The signs of a sum that is written into a formula.
-use Rattle.std.proofs.Common.{◌≡◌, ℕ, ◌≤◌, Bool, true, false, cond, not, List, [], ◌∷◌, ◌++◌, length, Option, None, Some, refl, sym, ap, subst, ◌∙◌, append_assoc}
+use Rattle.std.proofs.Common.{◌≡◌, ℕ, ◌≤◌, Bool, true, false, cond, not, List, [], ◌∷◌, ◌++◌, length, Option, None, Some, refl, sym, ap, subst, ◌∙◌}
 use Rattle.std.proofs.lemmas.List.{append-nil, append_cancel_right}
-use Rattle.std.specs.Prelude.{◌&&◌, ◌^◌, nat_lt, slice_index_or}
+use Rattle.std.specs.Prelude.{◌^◌, nat_lt, slice_index_or}
 use Rattle.tv_tokens.specs.declared.token.TokenKind.{TokenKind}
 use Rattle.tv_tokens.specs.declared.token.TokenKind.TheVariants as kinds
-use Rattle.tv_tokens.specs.declared.token.Token.{Token}
 use Rattle.tv_tokens.specs.Numbers.{value_of_digits}
 use Rattle.tv_program.specs.Words.{Word, number_of}
 use Rattle.tv_program.specs.Trees.{Expression}
 use Rattle.tv_program.specs.Limits.{expression_fits}
-use Rattle.tv_language.specs.Symbols.{Symbol, number, name, label, drawn, fixed, numbered, Vocabulary, Lexeme, lexemes, symbol_by, is_colon, draws_behind}
+use Rattle.tv_language.specs.Symbols.{Symbol, number, name, label, drawn, fixed, numbered, Vocabulary, symbol_by, is_colon, draws_behind}
 use Rattle.tv_language.specs.Sums.{IsSum}
-use Rattle.tv_language.specs.Programs.{draws_in}
 use Rattle.tv_language.proofs.DrawLemmas.{none_in}
 use Rattle.tv_language.proofs.PlaceOfWords.{found}
 use Rattle.tv_reading.specs.Marks as marks
 use Rattle.tv_reading.specs.Marks.{Mark, plain, is_formula_word}
-use Rattle.tv_reading.specs.Texts.{IsLongest}
 use Rattle.tv_reading.proofs.FitLemmas.{all_fit, sum_fits}
 use Rattle.tv_reading.proofs.LinearLemmas.{and_left, and_right, and_both}
 use Rattle.tv_reading.proofs.LongestTexts.{plains}
 use Rattle.tv_reading.proofs.PassedLemmas.{symbols-append}
-use Rattle.tv_reading.proofs.SymbolLemmas.{Uses, sum_uses}
-use Rattle.tv_formula_text.specs.Signs.{Sign, symbol_in, sign, signs, symbols_of}
+use Rattle.tv_reading.proofs.SymbolLemmas.{sum_uses}
+use Rattle.tv_formula_text.specs.Signs.{Sign, symbol_in, sign, symbols_of}
 use Rattle.tv_formula_text.specs.FormulaTexts.{ended}
 use Rattle.tv_spelling.proofs.Pieces as pieces
 use Rattle.tv_spelling.proofs.Pieces.{Piece, blank, line_feed, word, bytes, laid}
@@ -35,7 +32,7 @@ use Rattle.tv_spelling.proofs.Mentioned.{variables_in, variables_of, sum_mention
 use Rattle.tv_spelling.proofs.KnownNames.{AreKnownIn, EachKnown, known_in}
 use Rattle.tv_spelling.proofs.SettledMarks.{AreFree, settled, all_settled, settled_before_end, not_true}
 use Rattle.tv_spelling.proofs.FoundAgain.{sum_to_end}
-use Rattle.tv_formula_spelling.proofs.FormulaReady.{IsGood, AreGood, SumReady}
+use Rattle.tv_formula_spelling.proofs.FormulaReady.{AreGood, SumReady}
 
 -- ---- the signs of words and spaces
 

@@ -1,5 +1,5 @@
 -- The one spelling of formulas.
-use Rattle.std.specs.Prelude.{ℕ, Bool, true, false, ◌||◌, ◌&&◌, not, List, [], ◌∷◌, ◌++◌, codes, slice_index_or, if◌then◌else◌}
+use Rattle.std.specs.Prelude.{ℕ, Bool, true, false, ◌||◌, not, List, [], ◌∷◌, ◌++◌, codes, slice_index_or, if◌then◌else◌}
 use Rattle.tv_program.specs.Words.{Word}
 use Rattle.tv_program.specs.Systems.{System}
 use Rattle.tv_formula.specs.declared.tree.Path.{Path}

@@ -5,13 +5,12 @@ ghost use Rattle.tv_formula.specs.Formulas.{property_of};
 ghost use Rattle.tv_formula.specs.Properties.{compare, truth};
 ghost use Rattle.tv_formula.specs.Views.{property, properties};
 ghost use Rattle.tv_spelling.specs.Sums.{in_brackets};
-ghost use Rattle.tv_spelling.specs.Conditions.{truth_text, relation_text};
 ghost use Rattle.tv_formula_spelling.specs.Formulas.{path_letter, shape_letter, operator_text, is_joined, is_all, is_some, as_denied, as_literal, as_conjunction, is_truth, form_of, formula_text, all_text, some_text, text_of, IsFormulaAgain};
 
 use std::alloc::{AllocError, Global};
 use tv_formula::{Formula, Path, Shape, Tree};
 use tv_program::{Expr, Names, Program, Relation};
-use tv_spelling::append_sum;
+use tv_spelling::{append_name, append_sum, append_text, relation_text, truth_text};
 
 /// The words of the variables and the labels of the locations.
 #[derive(Drop)]
@@ -19,31 +18,6 @@ struct Words<'a> {
     variables: &'a Names,
     labels: &'a Names,
     alloc: Global,
-}
-
-fn append_text(out: &mut Vec<u8>, text: &[u8]) -> Result<(), AllocError>
-    ensures { OnOk result (out.new.items ≡ out.old.items ++ text.now) }
-{
-    out.extend_from_slice(text)
-}
-
-fn truth_text(holds: bool) -> &'static [u8]
-    ensures { result.now ≡ truth_text holds }
-{
-    if holds { b"true" } else { b"false" }
-}
-
-fn relation_text(relation: Relation) -> &'static [u8]
-    ensures { result.now ≡ relation_text relation }
-{
-    match relation {
-        Relation::Less => b" < ",
-        Relation::LessEqual => b" <= ",
-        Relation::Greater => b" > ",
-        Relation::GreaterEqual => b" >= ",
-        Relation::Equal => b" == ",
-        Relation::NotEqual => b" != ",
-    }
 }
 
 fn path_letter(path: Path) -> u8
@@ -73,21 +47,11 @@ fn append_operator(out: &mut Vec<u8>, path: Path, letter: u8) -> Result<(), Allo
 }
 
 /// The label of a location is added; one that has none is passed over.
-fn label_of(labels: &Names, location: u32) -> &[u8]
-    ensures { result.now ≡ slice_index_or labels.now location [] }
-{
-    if location < labels.len() {
-        labels.text(location)
-    } else {
-        b""
-    }
-}
-
 fn append_place(out: &mut Vec<u8>, labels: &Names, location: u32) -> Result<(), AllocError>
     ensures { OnOk result (out.new.items ≡ out.old.items ++ (codes "at(" ++ (slice_index_or labels.now location [] ++ codes ")"))) }
 {
     append_text(out, b"at(")?;
-    append_text(out, label_of(labels, location))?;
+    append_name(out, labels, location)?;
     append_text(out, b")")
 }
 

@@ -1,10 +1,8 @@
 -- What a reading found is found again in the text that is written of it.
 use Rattle.std.proofs.Common.{◌≡◌, ℕ, ◌-◌, ◌≤◌, Bool, true, false, cond, List, [], ◌∷◌, ◌++◌, map, drop, length, Ok, Some, refl, sym, ap, subst, ◌∙◌, arith}
 use Rattle.std.proofs.lemmas.List.{append-nil}
-use Rattle.std.specs.Prelude.{IsTrue}
 use Rattle.tv_tokens.specs.declared.token.TokenKind.TheVariants.{End, Unread}
 use Rattle.tv_tokens.specs.declared.token.Token.{Token}
-use Rattle.tv_tokens.specs.Tokens.{IsTokens}
 use Rattle.tv_tokens.proofs.OneList.{one_list}
 use Rattle.tv_program.specs.Words.{Word}
 use Rattle.tv_program.specs.Trees.{Expression, Condition}
@@ -20,10 +18,10 @@ use Rattle.tv_reading.specs.SumGrammar.{Grammar, every, sum_at}
 use Rattle.tv_reading.specs.ConditionGrammar.{condition_at}
 use Rattle.tv_reading.specs.Readings.{begun, sum_levels, condition_levels}
 use Rattle.tv_reading.specs.Texts.{IsLongest}
-use Rattle.tv_reading.proofs.PassedLemmas.{passed_fit, passes_kept, symbols-append}
+use Rattle.tv_reading.proofs.PassedLemmas.{passed_fit, symbols-append}
 use Rattle.tv_reading.proofs.FitLemmas.{all_fit, sum_fits, condition_fit}
 use Rattle.tv_reading.proofs.SumLemmas.{sum_exact, sum_goes_on}
-use Rattle.tv_reading.proofs.SumTexts.{Back, Front, front, sum_is_read}
+use Rattle.tv_reading.proofs.SumTexts.{Back, front, sum_is_read}
 use Rattle.tv_reading.proofs.ConditionLemmas.{condition_exact}
 use Rattle.tv_reading.proofs.ConditionEnds.{condition_stops}
 use Rattle.tv_reading.proofs.ConditionsRead.{condition_is_read}
@@ -33,9 +31,9 @@ use Rattle.tv_reading.proofs.SymbolLemmas.{draws_at_all, Uses, sum_uses, conditi
 use Rattle.tv_reading.proofs.Told.{sum_longest, condition_longest}
 use Rattle.tv_spelling.specs.Sums.{expression_text}
 use Rattle.tv_spelling.specs.Conditions.{condition_text}
-use Rattle.tv_spelling.specs.ReadAgain.{AreNames, IsSumInFront, IsConditionInFront, Went, IsSumReadAgain, IsConditionReadAgain}
+use Rattle.tv_spelling.specs.ReadAgain.{AreNames, IsSumInFront, IsConditionInFront, IsSumReadAgain, IsConditionReadAgain}
 use Rattle.tv_spelling.proofs.Ordered.{ordered_without_draws, tests_without_draws}
-use Rattle.tv_spelling.proofs.Mentioned.{variables_in, variables_of, variables_tested, sum_mentions, condition_mentions}
+use Rattle.tv_spelling.proofs.Mentioned.{variables_in, sum_mentions, condition_mentions}
 use Rattle.tv_spelling.proofs.SettledMarks.{AreFree, all_settled, settled_before_end, marks_are, all_quiet, marks_quiet, quiet_front, quiet_free, quiet_undrawn, all_free}
 use Rattle.tv_spelling.proofs.NamesKept.{names_kept}
 use Rattle.tv_spelling.proofs.SumAgain.{sum_written}

@@ -1,5 +1,5 @@
 -- The marks of tokens that are known numbers and names, and no draws, are their symbols.
-use Rattle.std.proofs.Common.{◌≡◌, ℕ, suc, ◌+◌, ◌^◌, Bool, true, false, cond, not, List, [], ◌∷◌, ◌++◌, map, Option, Some, None, refl, sym, ap, subst, ◌∙◌, arith}
+use Rattle.std.proofs.Common.{◌≡◌, ℕ, ◌^◌, Bool, true, false, cond, not, List, [], ◌∷◌, ◌++◌, map, Option, Some, None, refl, sym, ap, ◌∙◌, arith}
 use Rattle.std.specs.Prelude.{◌&&◌, ◌||◌, nat_lt, slice_index_or, length}
 use Rattle.tv_tokens.specs.declared.token.TokenKind.{TokenKind}
 use Rattle.tv_tokens.specs.declared.token.TokenKind.TheVariants as kinds
@@ -9,9 +9,9 @@ use Rattle.tv_program.specs.Words.{Word, number_of, words_with, with_new}
 use Rattle.tv_language.specs.Symbols as symbols
 use Rattle.tv_language.specs.Symbols.{Symbol, number, name, label, drawn, fixed, lexeme, lexemes, Vocabulary, numbered, symbol_by, is_colon, symbols_from}
 use Rattle.tv_language.proofs.PlaceOfWords.{found}
-use Rattle.tv_reading.specs.Marks.{Mark, plain, refused, UnknownName, symbol_of, symbols_of, is_formula_word, new_name, known_name, name_mark, number_mark, draw_mark, mark_by, names_behind, draws_behind, marks_from}
+use Rattle.tv_reading.specs.Marks.{Mark, plain, symbol_of, symbols_of, is_formula_word, new_name, known_name, number_mark, mark_by, names_behind, draws_behind, marks_from}
 use Rattle.tv_reading.proofs.LinearLemmas.{and_left, and_right, and_both}
-use Rattle.tv_reading.proofs.SymbolLemmas.{body, body_kind, all_body, sound, all_sound, draws_at, draws_at_all}
+use Rattle.tv_reading.proofs.SymbolLemmas.{body_kind, all_body, all_sound, draws_at_all}
 use Rattle.tv_spelling.proofs.Mentioned.{variables_in}
 
 -- ---- symbols that are marks

@@ -14,13 +14,15 @@ use crate::writing::append_text;
 use std::alloc::{AllocError, Global};
 use tv_program::{Cond, Expr, Names, Relation};
 
-fn truth_text(holds: bool) -> &'static [u8]
+/// The word of a truth value.
+pub fn truth_text(holds: bool) -> &'static [u8]
     ensures { result.now ≡ truth_text holds }
 {
     if holds { b"true" } else { b"false" }
 }
 
-fn relation_text(relation: Relation) -> &'static [u8]
+/// The sign of a relation between single spaces.
+pub fn relation_text(relation: Relation) -> &'static [u8]
     ensures { result.now ≡ relation_text relation }
 {
     match relation {

@@ -10,6 +10,7 @@ mod sums;
 mod tests;
 mod writing;
 
-pub use conditions::write_condition;
+pub use conditions::{relation_text, truth_text, write_condition};
 pub use programs::write_program;
 pub use sums::{append_sum, write_sum};
+pub use writing::{append_name, append_text};

@@ -6,7 +6,8 @@ ghost use Rattle.std.specs.Fmt.{signed_decimal};
 use std::alloc::{AllocError, Global};
 use tv_program::Names;
 
-pub(crate) fn append_text(out: &mut Vec<u8>, text: &[u8]) -> Result<(), AllocError>
+/// The bytes are added.
+pub fn append_text(out: &mut Vec<u8>, text: &[u8]) -> Result<(), AllocError>
     ensures { OnOk result (out.new.items ≡ out.old.items ++ text.now) }
 {
     out.extend_from_slice(text)
@@ -39,8 +40,8 @@ fn word_of(names: &Names, variable: u32) -> &[u8]
     }
 }
 
-/// The word of a variable is added; one that has none is passed over.
-pub(crate) fn append_name(out: &mut Vec<u8>, names: &Names, variable: u32) -> Result<(), AllocError>
+/// The word with this number is added; a number that has none is passed over.
+pub fn append_name(out: &mut Vec<u8>, names: &Names, variable: u32) -> Result<(), AllocError>
     ensures { OnOk result (out.new.items ≡ out.old.items ++ slice_index_or names.now variable []) }
 {
     out.extend_from_slice(word_of(names, variable))

@@ -1,4 +1,4 @@
-use Rattle.std.proofs.Common.{◌≡◌, ℕ, List, sym, subst, ◌∙◌, rules}
+use Rattle.std.proofs.Common.{◌≡◌, ℕ, List, sym, subst, rules}
 use Rattle.tv_program.specs.Programs.{system_of}
 use Rattle.tv_formula.specs.Formulas.{property_of}
 use Rattle.tv_formula_spelling.specs.Formulas.{text_of, IsFormulaAgain}
