@@ -22,7 +22,7 @@ fn push_part(text: &mut Vec<u8>, part: &str, number: u32) -> Result<(), AllocErr
 }
 
 /// A text of a front, of so many parts, and of an end. Each `#` of a part stands for three letters, others in each part.
-pub fn repeated(
+pub(crate) fn repeated(
     alloc: Global,
     front: &str,
     part: &str,
