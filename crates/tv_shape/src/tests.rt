@@ -59,6 +59,44 @@ fn program(alloc: Global) -> Result<Program, Fail>
     Ok(Program::new(variables, locations, 0, edges))
 }
 
+/// The program with another location, where it can go from 1 as long as x is positive.
+fn with_exit(alloc: Global) -> Result<Program, Fail>
+    ensures variables { IfOk result (λ p. length (system_of p).variables ≡ 1) }
+    ensures locations { IfOk result (λ p. length (system_of p).locations ≡ 3) }
+{
+    let mut variables = Names::new(alloc);
+    variables.put(b"x")?;
+    let mut locations = Names::new(alloc);
+    for label in [b"0", b"1", b"2"] {
+        if locations.len() < 65536 {
+            locations.put(label)?;
+        }
+    }
+    if variables.len() != 1 || locations.len() != 3 {
+        return Err(Fail::from("names"));
+    }
+    let mut edges = Vec::new(alloc);
+    edges.push(Edge {
+        from: 0,
+        to: 1,
+        draws: 0,
+        commands: Vec::new(alloc),
+    })?;
+    edges.push(Edge {
+        from: 1,
+        to: 1,
+        draws: 0,
+        commands: turning(alloc)?,
+    })?;
+    edges.push(Edge {
+        from: 1,
+        to: 2,
+        draws: 0,
+        commands: turning(alloc)?,
+    })?;
+    Ok(Program::new(variables, locations, 0, edges))
+}
+
 /// What is made of the nodes for this property of the program, where there is memory.
 fn made_for(
     alloc: Global,
@@ -353,5 +391,66 @@ fn the_first_fault_comes_before_others(rt: HostRuntime) -> Result<(), Fail> {
     assert!(rt; is_misshapen(&made_of_three(alloc, 0, 1)?, 2));
     assert!(rt; is_misshapen(&made_of_three(alloc, 1, 0)?, 1));
     assert!(rt; is_misshapen(&made_of_three(alloc, 1, 1)?, 1));
+    Ok(())
+}
+
+/// The node of a location test with a piece at each of two locations.
+fn elsewhere(alloc: Global, ranks: u32) -> Result<Node, Fail> {
+    let mut pieces = Vec::new(alloc);
+    let mut proofs = Vec::new(alloc);
+    for location in 0..2 {
+        pieces.push(piece(alloc, location, Mark::Go, Vec::new(alloc), Vec::new(alloc)))?;
+        proofs.push(Proof::Covered(into(alloc, 0, 0, &[])?))?;
+    }
+    Ok(Node {
+        pieces,
+        ranks,
+        children: Vec::new(alloc),
+        proofs,
+    })
+}
+
+/// What is made of an invariant that keeps the third location away, with this fall in a step and so many ranks in a child.
+fn invariant(
+    alloc: Global,
+    fall: u32,
+    ranks: u32,
+) -> Result<Result<Certificate, ShapeFault>, Fail> {
+    let program = with_exit(alloc)?;
+    let property = unreachable(alloc, &program, 2)?;
+    let mut rows = Vec::new(alloc);
+    rows.push(term(alloc, 1, -5)?)?;
+    let mut pieces = Vec::new(alloc);
+    pieces.push(piece(alloc, 0, Mark::Go, Vec::new(alloc), Vec::new(alloc)))?;
+    pieces.push(piece(alloc, 1, Mark::Go, rows, Vec::new(alloc)))?;
+    let mut proofs = Vec::new(alloc);
+    proofs.push(Proof::Covered(into(alloc, 0, 0, &[])?))?;
+    proofs.push(Proof::Covered(into(alloc, 0, fall, &[&[1]])?))?;
+    proofs.push(Proof::Covered(into(alloc, 0, 0, &[])?))?;
+    proofs.push(Proof::Covered(into(alloc, 0, 0, &[&[0, 1, 1]])?))?;
+    let refuted = CoverTree::Empty(Vec::from_slice(alloc, &[1, 1])?);
+    proofs.push(Proof::Covered(Cover::new(refuted).ok_or("deep")?))?;
+    let mut children = Vec::new(alloc);
+    children.push(elsewhere(alloc, ranks)?)?;
+    children.push(bare(alloc, 0, Vec::new(alloc)))?;
+    let root = Node {
+        pieces,
+        ranks: 0,
+        children,
+        proofs,
+    };
+    let start = Verdict::Proved(into(alloc, 0, 0, &[])?);
+    made_for(alloc, &program, &property, start, root)
+}
+
+#[test]
+fn an_invariant_fits_without_falls(rt: HostRuntime) -> Result<(), Fail> {
+    let alloc = rt.alloc();
+    match invariant(alloc, 0, 0)? {
+        Ok(certificate) => assert_eq!(rt; certificate.obligations(), 8),
+        Err(_) => assert!(rt; false, "it fits"),
+    }
+    assert!(rt; is_misshapen(&invariant(alloc, 1, 0)?, 0));
+    assert!(rt; is_misshapen(&invariant(alloc, 0, 1)?, 1));
     Ok(())
 }
