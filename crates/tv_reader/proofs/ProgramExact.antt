@@ -4,7 +4,7 @@ use Rattle.std.specs.Prelude.{◌&&◌}
 use Rattle.tv_tokens.specs.declared.token.TokenKind.{TokenKind}
 use Rattle.tv_tokens.specs.declared.token.TokenKind.TheVariants as kinds
 use Rattle.tv_program.specs.Trees.{Instruction, assume, assign}
-use Rattle.tv_language.specs.Symbols.{name, label, fixed}
+use Rattle.tv_language.specs.Symbols.{name, label, fixed, is_colon}
 use Rattle.tv_grammar.specs.Langs.{unit, then, mapped, OfBranch, headed, turns}
 use Rattle.tv_grammar.specs.Exact.{Exact, ExactBranch}
 use Rattle.tv_grammar.proofs.ExactLemmas.{unit_exact, then_exact, mapped_exact, headed_exact}
@@ -14,7 +14,7 @@ use Rattle.tv_reading.specs.SumGrammar.{Grammar, Behind, refuse_by, sum_at}
 use Rattle.tv_reading.specs.ConditionGrammar.{condition_at}
 use Rattle.tv_reading.proofs.SumLemmas.{sum_exact}
 use Rattle.tv_reading.proofs.ConditionLemmas.{condition_exact}
-use Rattle.tv_reader.specs.ProgramGrammar.{go_if, token_cases, token, is_colon, is_semicolon, is_left, is_right, is_assign, ended, semicolon_cases, perhaps_ended, label_cases, place, assumption, assignment, command_cases, Items, no_items, with_start, with_edge, until, last_of_edge, edge, has_start, is_full, item_cases, last_of_program, program_at}
+use Rattle.tv_reader.specs.ProgramGrammar.{go_if, token_cases, token, is_semicolon, is_left, is_right, is_assign, ended, semicolon_cases, perhaps_ended, label_cases, place, assumption, assignment, command_cases, Items, no_items, with_start, with_edge, until, last_of_edge, edge, has_start, is_full, item_cases, last_of_program, program_at}
 
 go_if_exact : {X : Type 0} (b : Bool) (l : Grammar X) → Exact l → ExactBranch (go_if b l)
 go_if_exact true l h = h

@@ -4,7 +4,7 @@ use Rattle.std.specs.Prelude.{◌&&◌}
 use Rattle.tv_tokens.specs.declared.token.TokenKind.{TokenKind}
 use Rattle.tv_tokens.specs.declared.token.TokenKind.TheVariants as kinds
 use Rattle.tv_program.specs.Trees.{Instruction, assume, assign}
-use Rattle.tv_language.specs.Symbols.{name, label, fixed}
+use Rattle.tv_language.specs.Symbols.{name, label, fixed, is_colon}
 use Rattle.tv_grammar.specs.Langs.{unit, then, mapped, stop, headed, turns}
 use Rattle.tv_grammar.specs.Exact.{Exact}
 use Rattle.tv_grammar.specs.Faults.{Loosens, LoosensBranch, LoosensTurn}
@@ -16,7 +16,7 @@ use Rattle.tv_reading.specs.ConditionGrammar.{condition_at}
 use Rattle.tv_reading.specs.Refusals.{Levels}
 use Rattle.tv_reading.proofs.LooseSums.{sums_loose}
 use Rattle.tv_reading.proofs.LooseConditions.{conditions_loose}
-use Rattle.tv_reader.specs.ProgramGrammar.{go_if, token_cases, token, is_colon, is_semicolon, is_left, is_right, is_assign, ended, semicolon_cases, perhaps_ended, label_cases, place, assumption, assignment, command_cases, Items, no_items, with_start, with_edge, until, last_of_edge, edge, has_start, is_full, item_cases, last_of_program, program_at}
+use Rattle.tv_reader.specs.ProgramGrammar.{go_if, token_cases, token, is_semicolon, is_left, is_right, is_assign, ended, semicolon_cases, perhaps_ended, label_cases, place, assumption, assignment, command_cases, Items, no_items, with_start, with_edge, until, last_of_edge, edge, has_start, is_full, item_cases, last_of_program, program_at}
 use Rattle.tv_reader.proofs.UntilLemmas.{LoosensStep, until_loose}
 use Rattle.tv_reader.proofs.ProgramExact.{token_exact, ended_exact, perhaps_exact, place_exact, assumption_exact, assignment_exact, command_branch, commands_exact, edge_exact, item_branch, items_exact}
 

@@ -5,7 +5,7 @@ use Rattle.std.specs.Prelude.{◌&&◌}
 use Rattle.tv_tokens.specs.declared.token.TokenKind.{TokenKind}
 use Rattle.tv_tokens.specs.declared.token.TokenKind.TheVariants as kinds
 use Rattle.tv_program.specs.Trees.{Instruction, assume, assign, Transition}
-use Rattle.tv_language.specs.Symbols.{Symbol, name, label, fixed}
+use Rattle.tv_language.specs.Symbols.{Symbol, name, label, fixed, is_colon}
 use Rattle.tv_language.specs.Programs as programs
 use Rattle.tv_language.specs.Programs.{edge_of, IsCommand, assumption, assignment, AreCommands, no_command, command, AreItems, no_item, start, passed}
 use Rattle.tv_grammar.specs.Langs.{unit, then, mapped, OfBranch, branch_text, branch_value, headed, Turns, done, turn, turns_text, turns_value}
@@ -16,7 +16,7 @@ use Rattle.tv_reading.specs.ConditionGrammar.{condition_at}
 use Rattle.tv_reading.proofs.SumTexts.{sum_is}
 use Rattle.tv_reading.proofs.ConditionTexts.{condition_is}
 use Rattle.tv_reader.specs.ProgramGrammar as grammar
-use Rattle.tv_reader.specs.ProgramGrammar.{go_if, token_cases, token, is_colon, is_semicolon, is_left, is_right, is_assign, is_to, ended, semicolon_cases, perhaps_ended, label_cases, place, command_cases, Items, no_items, with_start, with_edge, until, last_of_edge, has_start, is_full, item_cases, last_of_program, program_at}
+use Rattle.tv_reader.specs.ProgramGrammar.{go_if, token_cases, token, is_semicolon, is_left, is_right, is_assign, is_to, ended, semicolon_cases, perhaps_ended, label_cases, place, command_cases, Items, no_items, with_start, with_edge, until, last_of_edge, has_start, is_full, item_cases, last_of_program, program_at}
 
 -- ---- one token
 

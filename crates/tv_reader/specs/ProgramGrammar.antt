@@ -3,7 +3,7 @@ use Rattle.std.specs.Prelude.{ℕ, suc, Bool, true, false, not, ◌&&◌, List, 
 use Rattle.tv_tokens.specs.declared.token.TokenKind.{TokenKind}
 use Rattle.tv_tokens.specs.declared.token.TokenKind.TheVariants as kinds
 use Rattle.tv_program.specs.Trees.{Instruction, assume, assign, Transition}
-use Rattle.tv_language.specs.Symbols.{name, label, fixed}
+use Rattle.tv_language.specs.Symbols.{name, label, fixed, is_colon}
 use Rattle.tv_language.specs.Programs.{edge_of}
 use Rattle.tv_grammar.specs.Langs.{unit, then, mapped, stop, go, headed, turns}
 use Rattle.tv_reading.specs.Marks.{Kind, Syntax, Wide, TwoStarts, TooMany, Mark, plain, refused}
@@ -23,10 +23,6 @@ token_cases is l _ = stop Syntax
 -- a token of this kind, and l behind it
 abbrev pub token : {X : Type 0} → (TokenKind → Bool) → Grammar X → Grammar X
 token is l = headed Syntax (token_cases is l)
-
-abbrev pub is_colon : TokenKind → Bool
-is_colon kinds.Colon = true
-is_colon kind = false
 
 abbrev pub is_semicolon : TokenKind → Bool
 is_semicolon kinds.Semicolon = true
