@@ -331,7 +331,7 @@ fn comes_to_1(alloc: Global, met: &[Numbers], shown: &[&[i128]]) -> Result<Node,
     let proofs = vec![in alloc;
         enters(alloc, 0, &[])?,
         chosen(take(alloc, 0, 0, &[])?)?,
-        enters(alloc, 0, shown)?
+        enters(alloc, 0, shown)?,
     ]?;
     Ok(Node {
         pieces: vec![in alloc; on, done]?,
@@ -361,17 +361,19 @@ fn goes_on_or_stops(alloc: Global, none: &[i128]) -> Result<Proof, Fail> {
     chosen(ChoiceTree::Split(row(alloc, [-1, 1])?, on, stops))
 }
 
+/// That 0 is never left on some run, which goes on or stops.
+fn stays_or_stops(alloc: Global, none: &[i128]) -> Result<Node, Fail> {
+    let pieces = vec![in alloc; going(alloc, 0, &[])?]?;
+    let children = vec![in alloc; atom(alloc, 0, &[], &[])?, nowhere(alloc)]?;
+    let proofs = vec![in alloc; enters(alloc, 0, &[])?, goes_on_or_stops(alloc, none)?]?;
+    Ok(node(pieces, children, proofs))
+}
+
 #[test]
 fn some_run_stays(rt: HostRuntime) -> Result<(), Fail> {
     let alloc = rt.alloc();
     for (none, wanted) in [([1, 1], Ok(())), ([1, 0], fails(3, 0, Kind::Choice))] {
-        let pieces = vec![in alloc; going(alloc, 0, &[])?]?;
-        let children = vec![in alloc; atom(alloc, 0, &[], &[])?, nowhere(alloc)]?;
-        let proofs = vec![in alloc;
-            enters(alloc, 0, &[])?,
-            goes_on_or_stops(alloc, none.as_slice())?,
-        ]?;
-        let root = node(pieces, children, proofs);
+        let root = stays_or_stops(alloc, none.as_slice())?;
         let found = answer(alloc, LOOP, "[EG](at(0))", proved(alloc)?, root)?;
         assert_eq!(rt; found, wanted);
     }
@@ -443,23 +445,34 @@ fn text(
 }
 
 #[test]
-fn certificates_are_written(rt: HostRuntime) -> Result<(), Fail> {
+fn a_proof_of_termination_is_written(rt: HostRuntime) -> Result<(), Fail> {
     let alloc = rt.alloc();
     let root = countdown_ends(alloc, &[1, 1])?;
-    let countdown = text(alloc, COUNTDOWN, "term", proved(alloc)?, root)?;
-    let wanted = "T2CERT 1\nproved\nnode term 2 2\npiece 0 go 0\nrank 0 1\nrank 0 0\npiece 1 go 0\nrank 0 0\nrank 1 0\ninto 0 1\nby 1\nby 1\ninto 0 2\nby 0 1\nby 0 1\nby 1 1\ninto 0 0\nend\n";
-    assert_eq!(rt; countdown.as_slice(), wanted.as_bytes());
+    let found = text(alloc, COUNTDOWN, "term", proved(alloc)?, root)?;
+    let wanted =
+        "T2CERT 1\nproved\nnode term 2 2\npiece 0 go 0\nrank 0 1\nrank 0 0\npiece 1 go 0\nrank 0 0\nrank 1 0\ninto 0 1\nby 1\nby 1\ninto 0 2\nby 0 1\nby 0 1\nby 1 1\ninto 0 0\nend\n";
+    assert!(rt; found.as_slice() == wanted.as_bytes());
+    Ok(())
+}
+
+#[test]
+fn a_disproof_of_termination_is_written(rt: HostRuntime) -> Result<(), Fail> {
+    let alloc = rt.alloc();
     let root = climber_climbs(alloc, &[1, 1])?;
-    let climber = text(alloc, CLIMBER, "term", fails_at(alloc, 1)?, root)?;
-    let wanted = "T2CERT 1\ndisproved\nnode noterm 2 0\npiece 0 go 1\nrow -1 1\npiece 1 go 1\nrow -1 1\ntake 0 0 0\nby 1 1\ntake 1 0 0\nby 1 1\nby 1 1\nat 0 1\nend\n";
-    assert_eq!(rt; climber.as_slice(), wanted.as_bytes());
-    let root = node(
-        vec![in alloc; going(alloc, 0, &[])?]?,
-        vec![in alloc; atom(alloc, 0, &[], &[])?, nowhere(alloc)]?,
-        vec![in alloc; enters(alloc, 0, &[])?, goes_on_or_stops(alloc, &[1, 1])?]?,
-    );
-    let stays = text(alloc, LOOP, "[EG](at(0))", proved(alloc)?, root)?;
-    let wanted = "T2CERT 1\nproved\nnode fix 1 0\npiece 0 go 0\nnode atom 1 0\npiece 0 go 0\ninto 0 0\nnode atom 0 0\ninto 0 0\nsplit -1 1\ntake 0 0 0\nby 1 1\nnostep\nempty 1 1\ninto 0 0\nend\n";
-    assert_eq!(rt; stays.as_slice(), wanted.as_bytes());
+    let found = text(alloc, CLIMBER, "term", fails_at(alloc, 1)?, root)?;
+    let wanted =
+        "T2CERT 1\ndisproved\nnode noterm 2 0\npiece 0 go 1\nrow -1 1\npiece 1 go 1\nrow -1 1\ntake 0 0 0\nby 1 1\ntake 1 0 0\nby 1 1\nby 1 1\nat 0 1\nend\n";
+    assert!(rt; found.as_slice() == wanted.as_bytes());
+    Ok(())
+}
+
+#[test]
+fn a_choice_is_written(rt: HostRuntime) -> Result<(), Fail> {
+    let alloc = rt.alloc();
+    let root = stays_or_stops(alloc, &[1, 1])?;
+    let found = text(alloc, LOOP, "[EG](at(0))", proved(alloc)?, root)?;
+    let wanted =
+        "T2CERT 1\nproved\nnode fix 1 0\npiece 0 go 0\nnode atom 1 0\npiece 0 go 0\ninto 0 0\nnode atom 0 0\ninto 0 0\nsplit -1 1\ntake 0 0 0\nby 1 1\nnostep\nempty 1 1\ninto 0 0\nend\n";
+    assert!(rt; found.as_slice() == wanted.as_bytes());
     Ok(())
 }
