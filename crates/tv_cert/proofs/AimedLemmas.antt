@@ -1,5 +1,5 @@
 -- What the aim of a formula states.
-use Rattle.std.proofs.Common.{◌≡◌, ℕ, Bool, true, false, ◌&&◌, List, [], ◌∷◌, map, refl, ap}
+use Rattle.std.proofs.Common.{◌≡◌, ℕ, true, ◌&&◌, List, [], ◌∷◌, map, refl, ap}
 use Rattle.tv_program.specs.declared.tree.Relation.{Relation}
 use Rattle.tv_program.specs.Trees.{Expression}
 use Rattle.tv_program.specs.Limits.{expression_fits}

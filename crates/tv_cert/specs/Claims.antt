@@ -1,11 +1,8 @@
 -- What is claimed of a program, and what a certificate of it shows.
-use Rattle.std.specs.Prelude.{◌≡◌, ℕ, List}
-use Rattle.tv_program.specs.declared.tree.Relation.{Relation}
-use Rattle.tv_program.specs.Trees.{Expression}
+use Rattle.std.specs.Prelude.{◌≡◌, ℕ}
 use Rattle.tv_formula.specs.Formulas.{property_of, variables_of, locations_of}
 use Rattle.tv_formula.specs.Normal.{normal, negation}
 use Rattle.tv_formula.specs.Properties.{Property}
-use Rattle.tv_linear.specs.Linear.{Linear}
 use Rattle.tv_cases.specs.Comparisons.{comparison_lists}
 use Rattle.tv_cases.specs.LinearCases.{CaseSystem}
 use Rattle.tv_cert.specs.declared.claim.Claim.{Claim}

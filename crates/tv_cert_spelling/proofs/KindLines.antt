@@ -1,8 +1,8 @@
 -- A node's lines, told the kinds of its formula, are those of the formula.
-use Rattle.std.proofs.Common.{◌≡◌, ℕ, zero, suc, ◌+◌, List, [], ◌∷◌, ◌++◌, length, drop, pos, arith, refl, sym, ap, ◌∙◌, subst, length-append}
+use Rattle.std.proofs.Common.{◌≡◌, ℕ, zero, suc, List, [], ◌∷◌, ◌++◌, length, drop, pos, arith, refl, sym, ap, ◌∙◌, length-append}
 use Rattle.std.specs.List.{flat_map}
 use Rattle.std.proofs.lemmas.List.{append-nil, append_assoc}
-use Rattle.tv_lines.specs.Lines.{PlainLine, formed}
+use Rattle.tv_lines.specs.Lines.{formed}
 use Rattle.tv_lines.specs.declared.head.Head.TheVariants as heads
 use Rattle.tv_lines.specs.declared.head.NodeKind.{NodeKind}
 use Rattle.tv_lines.specs.declared.head.NodeKind.TheVariants as kinds
@@ -11,7 +11,7 @@ use Rattle.tv_cert.specs.declared.node.Node.{Node, Node', Row_of-Node, end_of-No
 use Rattle.tv_cert.specs.Nodes.{parts, size, sizes}
 use Rattle.tv_cert.specs.Obligations.{About}
 use Rattle.tv_cert.specs.Shapes.{HasShape, HaveShapes, IsNormalHead}
-use Rattle.tv_cert.specs.Statements.{Statement, rows, here, elsewhere, ends, never_ends, each_of, one_of, after, along, unsaid, Statements, no_statement, statement, stated, stated_all, parts_of}
+use Rattle.tv_cert.specs.Statements.{Statement, rows, here, elsewhere, ends, never_ends, each_of, one_of, after, along, unsaid, stated, stated_all, parts_of}
 use Rattle.tv_cert.proofs.SaidLemmas.{parts-stated}
 use Rattle.tv_shape.specs.Kinds.{kinds_stated, all_kinds}
 use Rattle.tv_cert_text.specs.CertificateLines.{piece_lines, proof_lines, kind_named, node_lines, kid_lines}

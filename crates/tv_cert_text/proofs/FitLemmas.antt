@@ -1,9 +1,7 @@
 -- The shape of a plain certificate, and what soundness asks of it.
-use Rattle.std.proofs.Common.{◌≡◌, ℕ, suc, ◌+◌, ◌*◌, ◌<◌, ◌≤◌, ◌^◌, Bool, true, false, List, [], ◌∷◌, ◌++◌, length, map, arith, refl, ap, ◌∙◌, length-append, cond, None, Some}
-use Rattle.std.specs.Prelude.{◌==◌}
-use Rattle.std.specs.List.{filter, flat_map}
+use Rattle.std.proofs.Common.{◌≡◌, ℕ, suc, ◌+◌, ◌*◌, ◌<◌, ◌≤◌, ◌^◌, false, List, [], ◌∷◌, ◌++◌, length, map, arith, refl, ap, ◌∙◌, length-append, None, Some}
+use Rattle.std.specs.List.{flat_map}
 use Rattle.std.proofs.lemmas.Nat.{row_fits}
-use Rattle.std.proofs.lemmas.List.{length-map}
 use Rattle.tv_lines.specs.Lines.{PlainLine}
 use Rattle.tv_lines.specs.declared.head.NodeKind.{NodeKind}
 use Rattle.tv_lines.specs.declared.head.NodeKind.TheVariants as kinds
@@ -15,10 +13,8 @@ use Rattle.tv_cases.specs.LinearCases.{CaseSystem, AreCases}
 use Rattle.tv_cert.specs.declared.node.Marked.{Marked}
 use Rattle.tv_cert.specs.declared.node.Node.{Node}
 use Rattle.tv_cert.specs.declared.node.Verdict.TheVariants.{Proved}
-use Rattle.tv_cert.specs.Pieces.{place_of, goes}
-use Rattle.tv_cert.specs.Targets.{no_fall}
-use Rattle.tv_cert.specs.Choices.{cases_from}
-use Rattle.tv_cert.specs.Obligations.{About, own_of, piece_of, step_of, steps_of, fix_of}
+use Rattle.tv_cert.specs.Pieces.{goes}
+use Rattle.tv_cert.specs.Obligations.{About, own_of, piece_of}
 use Rattle.tv_cert.specs.Nodes.{size, entries, obligations, parts, pieces_of, root_entry}
 use Rattle.tv_cert.specs.Listed.{pieces_list, own_entries}
 use Rattle.tv_formula.specs.Forms.{never_at}

@@ -1,11 +1,11 @@
 -- What a certificate of a claim shows where all its obligations are met.
-use Rattle.std.proofs.Common.{◌≡◌, ℕ, List, [], ◌∷◌, ◌++◌, map, length, Option, None, Some, refl, sym, ap, subst, ◌∙◌, slice_get, ℤ, ◌==◌}
+use Rattle.std.proofs.Common.{◌≡◌, ℕ, List, [], length, Option, None, Some, refl, sym, ap, subst, ◌∙◌, slice_get, ℤ, ◌==◌}
 use Rattle.std.specs.Option.{option_map}
 use Rattle.tv_program.specs.Systems.{System}
-use Rattle.tv_program.specs.Steps.{State, Steps}
+use Rattle.tv_program.specs.Steps.{Steps}
 use Rattle.tv_formula.specs.Properties.{Property, term, negated}
 use Rattle.tv_formula.specs.Normal.{normal, negation}
-use Rattle.tv_cases.specs.LinearCases.{CaseSystem, CaseSteps}
+use Rattle.tv_cases.specs.LinearCases.{CaseSystem}
 use Rattle.tv_cases.specs.Answers.{IsOfProgram, HaveSameSteps}
 use Rattle.tv_cert.specs.declared.node.Marked.{Marked}
 use Rattle.tv_cert.specs.declared.node.Node.{Node, Node'}
@@ -14,7 +14,7 @@ use Rattle.tv_cert.specs.declared.node.Verdict.TheVariants.{Proved, Disproved}
 use Rattle.tv_cert.specs.Claims.{about_with}
 use Rattle.tv_cert.specs.Pieces.{place_of, rows_of, pieces_at}
 use Rattle.tv_cert.specs.Obligations.{AllMet, PointMet, own_of, paired}
-use Rattle.tv_cert.specs.Nodes.{kid_pieces, parts, kid_entries, entries, obligations, pieces_of}
+use Rattle.tv_cert.specs.Nodes.{kid_pieces, parts, kid_entries, entries, obligations}
 use Rattle.tv_cert.specs.Fits.{NodeFits}
 use Rattle.tv_cert.proofs.PieceLemmas.{piece_got}
 use Rattle.tv_sound.specs.Following.{Spot, offered, offered_at, all_offered, onward, followed, Follows}

@@ -1,5 +1,5 @@
 -- Following the choices of a node that shows an endless run.
-use Rattle.std.proofs.Common.{◌≡◌, ℕ, zero, suc, ◌⊎◌, inl, inr, ◌+◌, ◌≤◌, List, [], ◌∷◌, ◌++◌, length, All, map, Option, None, Some, Bool, true, false, IsTrue, arith, cond, refl, subst, sym, ap, ◌∙◌, ℤ, pos, ◌≤ℤ◌, ◌-ℤ◌, slice_get, ◌==◌}
+use Rattle.std.proofs.Common.{◌≡◌, ℕ, zero, suc, List, [], ◌∷◌, ◌++◌, length, All, map, Option, None, Some, Bool, true, false, IsTrue, arith, cond, refl, subst, sym, ap, ◌∙◌, ℤ, pos, ◌≤ℤ◌, ◌-ℤ◌, slice_get, ◌==◌}
 use Rattle.std.specs.Prelude.{Contains, if◌then◌else◌}
 use Rattle.std.specs.List.{filter, flat_map}
 use Rattle.std.specs.Option.{option_map}
@@ -8,12 +8,11 @@ use Rattle.std.proofs.lemmas.Int.{ints}
 use Rattle.std.proofs.lemmas.Option.{slice_get-map}
 use Rattle.std.proofs.lemmas.List.Elements.{All-push}
 use Rattle.tv_linear.specs.declared.choice.ChoiceTree.{ChoiceTree, Split', Empty, NoStep, Take}
-use Rattle.tv_linear.specs.Linear.{Linear, columns, value}
-use Rattle.tv_linear.specs.Known.{Known, given, denied, known_value, term_value, IsKnownMet, as_given}
+use Rattle.tv_linear.specs.Linear.{Linear, value}
+use Rattle.tv_linear.specs.Known.{Known, given, denied, term_value, IsKnownMet, as_given}
 use Rattle.tv_linear.specs.Terms.{terms_after}
 use Rattle.tv_linear.proofs.KnownLemmas.{refuted, value-denied, value-given}
-use Rattle.tv_program.specs.Steps.{State, Steps}
-use Rattle.tv_program.specs.Systems.{System}
+use Rattle.tv_program.specs.Steps.{State}
 use Rattle.tv_meaning.specs.Runs.{IsRun, last_of, follow}
 use Rattle.tv_cases.specs.LinearCases.{LinearCase, CaseSystem, CaseSteps}
 use Rattle.tv_cert.specs.declared.node.Marked.{Marked}
@@ -21,13 +20,12 @@ use Rattle.tv_cert.specs.declared.node.Proof.{Proof}
 use Rattle.tv_cert.specs.declared.node.Proof.TheVariants.{Covered, Chosen}
 use Rattle.tv_cert.specs.Pieces.{place_of, rows_of, InMarked, pieces_at}
 use Rattle.tv_cert.specs.Targets.{target_rows, no_fall}
-use Rattle.tv_cert.specs.Choices.{drawn_change, TakeMet, IsMetChoice, ChoiceFits}
+use Rattle.tv_cert.specs.Choices.{drawn_change, TakeMet, IsMetChoice}
 use Rattle.tv_cert.specs.Obligations.{About, Obligation, AllMet, OwedMet, choice_of, choice_into, paired}
-use Rattle.tv_cert.specs.Fits.{ProofFits}
 use Rattle.tv_cert.specs.declared.node.Kind.TheVariants as kind
 use Rattle.tv_cert.proofs.PieceLemmas.{piece_got}
-use Rattle.tv_cases.proofs.Listed.{Contains-here, Contains-later}
-use Rattle.tv_sound.specs.Following.{Spot, offered, offered_at, chosen_at, after_case, entering, taking, going, going_by, onward, followed}
+use Rattle.tv_cases.proofs.Listed.{Contains-later}
+use Rattle.tv_sound.specs.Following.{Spot, offered, offered_at, chosen_at, after_case, entering, taking, going, onward, followed}
 use Rattle.tv_sound.proofs.Membership.{got_in}
 use Rattle.tv_sound.proofs.Entering.{Entered, joined_is, All-left, All-right, seen, wide_after}
 use Rattle.tv_sound.proofs.Choosing.{Taken, TakenInto, taken_into, Stepped, taken_step, stepped_in, drawn}

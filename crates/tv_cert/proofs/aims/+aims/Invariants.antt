@@ -1,4 +1,4 @@
-use Rattle.std.proofs.Common.{◌≡◌, ◌++◌, ◌∷◌, [], drop, map}
+use Rattle.std.proofs.Common.{◌≡◌, ◌++◌, drop, map}
 use Rattle.tv_formula.specs.Views.{property, properties}
 use Rattle.tv_cases.specs.Comparisons.{comparison_lists}
 use Rattle.tv_cert.specs.AimViews.{aim_states}

@@ -1,6 +1,5 @@
-use Rattle.std.proofs.Common.{sym, subst, ◌≡◌, true}
+use Rattle.std.proofs.Common.{sym, subst}
 use Rattle.tv_formula.specs.Formulas.{property_of, variables_of, locations_of}
-use Rattle.tv_formula.specs.Forms.{is_normal}
 use Rattle.tv_cert.specs.Statable.{IsStatable}
 use Rattle.tv_cert.proofs.AimedLemmas.{is_statable}
 use Rattle.tv_cert.proofs.aims.aim_of.Goals as goal
