@@ -29,12 +29,7 @@ pub fn append_line(
     write_line(alloc, out, head, numbers)
 }
 
-fn append_row(
-    alloc: Global,
-    out: &mut Vec<u8>,
-    head: Head,
-    row: &Row,
-) -> Result<(), AllocError>
+fn append_row(alloc: Global, out: &mut Vec<u8>, head: Head, row: &Row) -> Result<(), AllocError>
     ensures { OnOk result (out.new.items ≡ out.old.items ++ spelled (row_line head row.now)) }
 {
     let numbers = numbers_of(alloc, row)?;
@@ -42,12 +37,7 @@ fn append_row(
 }
 
 /// Adds a line for each of the rows.
-fn append_rows(
-    alloc: Global,
-    out: &mut Vec<u8>,
-    head: Head,
-    rows: &[Row],
-) -> Result<(), AllocError>
+fn append_rows(alloc: Global, out: &mut Vec<u8>, head: Head, rows: &[Row]) -> Result<(), AllocError>
     ensures { OnOk result (out.new.items ≡ out.old.items ++ all_spelled (row_lines head rows.now)) }
 {
     for row in rows {
@@ -82,12 +72,7 @@ pub fn append_cover(alloc: Global, out: &mut Vec<u8>, tree: &CoverTree) -> Resul
             fall,
             refutations,
         } => {
-            append_line(
-                alloc,
-                out,
-                Head::Into,
-                &[*target as i128, *fall as i128],
-            )?;
+            append_line(alloc, out, Head::Into, &[*target as i128, *fall as i128])?;
             append_lists(alloc, out, refutations)
         }
     }

@@ -59,6 +59,7 @@ returns t c =
     (all_spelled (kids_with (drop c.loop-child.count ks) (drop c.loop-child.child-index items)))
     head
     (flat_map piece_lines (pieces_list node)) (kids_with (drop 1 ks) items) (flat_map proof_lines (proofs_list node))
-    line pieces kept.0 (ap (λ kids. all_spelled (kids_with (drop c.loop-child.count ks) kids)) none) proofs in
-    (added ∙ ap (λ kids. c.args.out.now.items ++ all_spelled (head ∷ (flat_map piece_lines (pieces_list node) ++ (kids_with (drop 1 ks) kids ++ flat_map proof_lines (proofs_list node))))) value ∙ ap (λ ls. c.args.out.now.items ++ all_spelled ls) (sym (lines_are ks node)),
-    (let left = ap sizes_list none in let count = kept.1 in omega (arith, z, all, left, count)))
+    line pieces kept.0 (ap (λ kids. all_spelled (kids_with (drop c.loop-child.count ks) kids)) none) proofs in (
+      added ∙ ap (λ kids. c.args.out.now.items ++ all_spelled (head ∷ (flat_map piece_lines (pieces_list node) ++ (kids_with (drop 1 ks) kids ++ flat_map proof_lines (proofs_list node))))) value ∙ ap (λ ls. c.args.out.now.items ++ all_spelled ls) (sym (lines_are ks node)),
+      (let left = ap sizes_list none in let count = kept.1 in omega (arith, z, all, left, count)),
+    )
