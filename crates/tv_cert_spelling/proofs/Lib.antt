@@ -1,2 +1,3 @@
 mod NodeLines
 mod KindLines
+mod Again

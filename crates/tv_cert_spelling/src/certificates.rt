@@ -1,5 +1,5 @@
-ghost use Rattle.std.specs.Prelude.{◌≡◌, ◌++◌, ◌∷◌, [], pos, IfOk, OnOk};
-ghost use Rattle.tv_lines.specs.Lines.{formed};
+ghost use Rattle.std.specs.Prelude.{◌≡◌, ◌++◌, ◌∷◌, [], ℕ, List, pos, IfOk, OnOk};
+ghost use Rattle.tv_lines.specs.Lines.{formed, lines_of};
 ghost use Rattle.tv_lines.specs.declared.head.Head.TheVariants as heads;
 ghost use Rattle.tv_formula.specs.Properties.{Property};
 ghost use Rattle.tv_cert.specs.Obligations.{About};
@@ -50,9 +50,13 @@ fn append_start(alloc: Global, out: &mut Vec<u8>, verdict: &Verdict) -> Result<(
 }
 
 /// The text of a certificate, in its one spelling.
+///
+/// It is read again as a certificate with the same lines.
 pub fn write_certificate(alloc: Global, certificate: &Certificate) -> Result<Vec<u8>, AllocError>
     requires made { IsMade certificate.now }
     ensures spelled { (about : About) → (f : Property) → IsOf about f certificate.now → IfOk result (λ text. text.items ≡ all_spelled (certificate_lines f certificate.now.root certificate.now.verdict)) }
+    // Where some text has the lines of the certificate, the one that is written has.
+    ensures again { (about : About) → (f : Property) → IsOf about f certificate.now → (some : List ℕ) → lines_of some ≡ certificate_lines f certificate.now.root certificate.now.verdict → IfOk result (λ text. lines_of text.items ≡ certificate_lines f certificate.now.root certificate.now.verdict) }
 {
     let mut text = Vec::new(alloc);
     append_line(alloc, &mut text, Head::Header, &[])?;

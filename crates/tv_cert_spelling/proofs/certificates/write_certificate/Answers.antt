@@ -16,6 +16,7 @@ use Rattle.tv_shape.specs.declared.certificate.Certificate.{Certificate}
 use Rattle.tv_cert_text.specs.CertificateLines.{node_lines, certificate_lines}
 use Rattle.tv_cert_spelling.specs.Spelling.{spelled, all_spelled, lines_with, said_lines, at_lines}
 use Rattle.tv_cert_spelling.proofs.KindLines.{size_is_kinds, lines_again}
+use Rattle.tv_cert_spelling.proofs.Again.{written_again}
 use Rattle.tv_cert_spelling.proofs.certificates.write_certificate.Goals as goal
 
 parted : (f : Property) (root : Node) (verdict : Verdict) → certificate_lines f root verdict ≡ formed heads.Header [] ∷ (said_lines verdict ++ (node_lines f root ++ (at_lines verdict ++ formed heads.End [] ∷ [])))
@@ -49,17 +50,19 @@ append_node-requires c =
     let root = ap size c.root.ensures in
     omega (arith, same, long, kinds, root)
 
-pub returns : goal.returns
-returns c = record {
-  spelled = λ about f h. (
-      let cert = c.args.certificate.now in
-      let first : c.append_line.new.out.items ≡ spelled (formed heads.Header []) = grind (arith, common_steps) in
-      let said : c.append_said.new.out.items ≡ c.append_line.new.out.items ++ all_spelled (said_lines cert.verdict) = grind (arith, common_steps) in
-      let nodes : c.append_node.new.out.items ≡ c.append_said.new.out.items ++ all_spelled (lines_with cert.kinds.items cert.root) = grind (arith, common_steps) in
-      let start : c.append_start.new.out.items ≡ c.append_node.new.out.items ++ all_spelled (at_lines cert.verdict) = grind (arith, common_steps) in
-      let last : c.append_line-2.new.out.items ≡ c.append_start.new.out.items ++ spelled (formed heads.End []) = grind (arith, common_steps) in
-      whole c.append_line.new.out.items c.append_said.new.out.items c.append_node.new.out.items c.append_start.new.out.items c.append_line-2.new.out.items
-      (formed heads.Header []) (formed heads.End []) (said_lines cert.verdict) (node_lines f cert.root) (at_lines cert.verdict)
-      first said (nodes ∙ ap (λ ls. c.append_said.new.out.items ++ all_spelled ls) (lines_kept about f cert h)) start last
-      ∙ ap all_spelled (sym (parted f cert.root cert.verdict)));
-}
+pub returns-clause-spelled : goal.returns-clause-spelled
+returns-clause-spelled c about f h =
+    let cert = c.args.certificate.now in
+    let first : c.append_line.new.out.items ≡ spelled (formed heads.Header []) = grind (arith, common_steps) in
+    let said : c.append_said.new.out.items ≡ c.append_line.new.out.items ++ all_spelled (said_lines cert.verdict) = grind (arith, common_steps) in
+    let nodes : c.append_node.new.out.items ≡ c.append_said.new.out.items ++ all_spelled (lines_with cert.kinds.items cert.root) = grind (arith, common_steps) in
+    let start : c.append_start.new.out.items ≡ c.append_node.new.out.items ++ all_spelled (at_lines cert.verdict) = grind (arith, common_steps) in
+    let last : c.append_line-2.new.out.items ≡ c.append_start.new.out.items ++ spelled (formed heads.End []) = grind (arith, common_steps) in
+    whole c.append_line.new.out.items c.append_said.new.out.items c.append_node.new.out.items c.append_start.new.out.items c.append_line-2.new.out.items
+    (formed heads.Header []) (formed heads.End []) (said_lines cert.verdict) (node_lines f cert.root) (at_lines cert.verdict)
+    first said (nodes ∙ ap (λ ls. c.append_said.new.out.items ++ all_spelled ls) (lines_kept about f cert h)) start last
+    ∙ ap all_spelled (sym (parted f cert.root cert.verdict))
+
+pub returns-clause-again : goal.returns-clause-again
+returns-clause-again c about f h some e =
+    written_again f c.args.certificate.now.root c.args.certificate.now.verdict some c.append_line-2.new.out.items e (returns-clause-spelled c about f h)
