@@ -1,5 +1,5 @@
-//! Reads a sum, a condition or a whole program from standard input, as the first word says, or makes the cases of a program, and
-//! tells what came of it.
+//! Reads a sum, a condition or a whole program from standard input, as the first word says, or makes the cases of a program, or goes
+//! over the numbers of a certificate, and tells what came of it.
 #![tactic(auto)]
 
 ghost use Rattle.std.specs.Prelude.{◌<◌, ◌^◌, ◌+◌, length};
@@ -7,6 +7,8 @@ ghost use Rattle.std.specs.Prelude.{◌<◌, ◌^◌, ◌+◌, length};
 use std::alloc::{AllocError, Global};
 use std::{env, io};
 use tv_cases::{CaseFault, cases};
+use tv_given::split_texts;
+use tv_lines::{Line, Lines};
 use tv_program::Names;
 use tv_reader::read_program;
 use tv_reading::{PartFault, Reading};
@@ -23,6 +25,7 @@ enum Task {
     Condition,
     Program,
     Cases,
+    Numbers,
 }
 
 /// The task that a word names, a sum where it names none.
@@ -31,6 +34,7 @@ fn named(word: &str) -> Task {
         "condition" => Task::Condition,
         "program" => Task::Program,
         "cases" => Task::Cases,
+        "numbers" => Task::Numbers,
         _ => Task::Sum,
     }
 }
@@ -90,6 +94,34 @@ fn counted(alloc: Global, text: &[u8]) -> Result<String, AllocError>
     }
 }
 
+/// A product and a sum for each number.
+fn added(total: i128, numbers: &[i128]) -> i128 {
+    let mut sum = total;
+    for number in numbers {
+        sum = sum.wrapping_add(number.wrapping_mul(3));
+    }
+    sum
+}
+
+/// What the numbers of the lines behind the heading come to, and how many there are: a plain scan of a certificate.
+fn scanned(alloc: Global, text: &[u8]) -> Result<String, AllocError> {
+    let (_, certificate) = split_texts(text);
+    let mut lines = Lines::new(certificate);
+    let mut total = 0;
+    let mut count = 0u64;
+    for _ in 0..LIMIT {
+        match lines.next(alloc)? {
+            None => break,
+            Some(Line::Formed(_, numbers)) => {
+                total = added(total, &numbers);
+                count = count.wrapping_add(numbers.len() as u64);
+            }
+            Some(_) => {}
+        }
+    }
+    format!(in alloc; "{count} numbers, {total}")
+}
+
 /// What comes of the task on the text.
 fn answer(alloc: Global, task: Task, text: &[u8]) -> Result<String, AllocError>
     requires { length text.now + 1 < 2 ^ 32 }
@@ -99,6 +131,7 @@ fn answer(alloc: Global, task: Task, text: &[u8]) -> Result<String, AllocError>
         Task::Condition => front(alloc, text, true)?.to_string(alloc),
         Task::Program => whole(alloc, text).to_string(alloc),
         Task::Cases => counted(alloc, text),
+        Task::Numbers => scanned(alloc, text),
     }
 }
 
