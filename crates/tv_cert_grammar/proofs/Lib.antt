@@ -1,0 +1,2 @@
+pub mod CompleteReads
+pub mod CompleteParts
