@@ -1,11 +1,11 @@
 -- The lines of the pieces of a node are read.
-use Rattle.std.proofs.Common.{◌≡◌, ℕ, zero, suc, ◌+◌, ◌<◌, ◌^◌, ℤ, pos, Bool, true, false, List, [], ◌∷◌, ◌++◌, length, map, All, Option, Some, None, Ok, refl, sym, ap, ◌∙◌, arith, length-append, cond}
+use Rattle.std.proofs.Common.{◌≡◌, ℕ, ◌+◌, ◌<◌, ◌^◌, ℤ, pos, Bool, true, false, List, [], ◌∷◌, ◌++◌, length, map, All, Option, Some, Ok, refl, sym, ap, ◌∙◌, arith, length-append, cond}
 use Rattle.std.specs.Prelude.{◌==◌, ◌&&◌, ◌||◌, nat_lt}
 use Rattle.std.specs.List.{flat_map}
 use Rattle.std.proofs.lemmas.List.{append_assoc}
 use Rattle.std.proofs.lemmas.List.Concat.{flat_map_single}
 use Rattle.std.proofs.lemmas.Bool.Decides.{nat_tests}
-use Rattle.tv_grammar.specs.Langs.{Lang, unit, then, mapped, headed, branch_read, times}
+use Rattle.tv_grammar.specs.Langs.{then, mapped, branch_read, times}
 use Rattle.tv_lines.specs.Lines.{PlainLine, formed}
 use Rattle.tv_lines.specs.declared.head.Head.{Head}
 use Rattle.tv_lines.specs.declared.head.Head.TheVariants as heads
@@ -23,7 +23,7 @@ use Rattle.tv_cert.proofs.PieceLemmas.{test_true}
 use Rattle.tv_shape.specs.Stations.{done_may_be, ranks_may_be}
 use Rattle.tv_cert_text.specs.CertificateLines.{row_line, row_lines, by_lines, mark_named, piece_lines}
 use Rattle.tv_cert_grammar.specs.Demands.{Outline, outline, outlines}
-use Rattle.tv_cert_grammar.specs.Lines.{Grammar, line, line_branch, guarded, is_row, is_rank, is_by, is_draw, sized, row, rank, draw, by, many, same_kind, kind_of, NodeHead, node_numbers, node_line, is_going, piece_numbers, piece_line, rank_count, piece, Region, region_of, region}
+use Rattle.tv_cert_grammar.specs.Lines.{Grammar, line, line_branch, guarded, is_row, is_rank, is_by, is_draw, sized, row, rank, draw, by, many, same_kind, kind_of, NodeHead, node_line, is_going, piece_numbers, piece_line, rank_count, piece, region_of, region}
 use Rattle.tv_cert_grammar.proofs.CompleteReads.{then_read, mapped_read, times_read}
 
 -- ---- one line

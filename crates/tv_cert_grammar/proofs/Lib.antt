@@ -1,2 +1,3 @@
 pub mod CompleteReads
 pub mod CompleteParts
+pub mod CompleteCovers

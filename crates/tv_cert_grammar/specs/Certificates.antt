@@ -1,7 +1,7 @@
 -- The lines of certificates, and the first line at fault.
-use Rattle.std.specs.Prelude.{◌≡◌, ◌⊎◌, ℕ, ◌+◌, ℤ, pos, Bool, true, false, List, [], ◌∷◌, ◌++◌, length, Option, Some, None, slice_get, ◌==◌}
+use Rattle.std.specs.Prelude.{◌≡◌, ℕ, ◌+◌, ℤ, pos, Bool, true, false, List, [], ◌∷◌, ◌++◌, length, Option, Some, None, slice_get, ◌==◌}
 use Rattle.tv_grammar.specs.Reads.{next}
-use Rattle.tv_grammar.specs.Langs.{Lang, unit, then, Branch, stop, go, headed}
+use Rattle.tv_grammar.specs.Langs.{unit, then}
 use Rattle.tv_grammar.specs.Exact.{StopsAt, Ended}
 use Rattle.tv_grammar.specs.Faults.{Begins, NoneIn}
 use Rattle.tv_lines.specs.Lines.{PlainLine, formed, formless, wide}

@@ -1,11 +1,11 @@
 -- The lines of choices.
-use Rattle.std.specs.Prelude.{ℕ, zero, suc, ◌+◌, ℤ, Bool, true, false, List, [], length, Option, Some, None, slice_get, ◌==◌}
-use Rattle.tv_grammar.specs.Langs.{Lang, unit, then, mapped, Branch, stop, go, headed, each}
+use Rattle.std.specs.Prelude.{ℕ, zero, suc, ◌+◌, Bool, true, false, List, length, Option, Some, None, slice_get, ◌==◌}
+use Rattle.tv_grammar.specs.Langs.{mapped, stop, go, headed, each}
 use Rattle.tv_lines.specs.Lines.{PlainLine, formed, formless, wide}
 use Rattle.tv_lines.specs.declared.head.Head.TheVariants as heads
 use Rattle.tv_cases.specs.LinearCases.{LinearCase}
 use Rattle.tv_cert.specs.Choices.{cases_from}
-use Rattle.tv_cert_grammar.specs.declared.kind.LineKind.TheVariants.{Syntax, Wide, Deep, Shape}
+use Rattle.tv_cert_grammar.specs.declared.kind.LineKind.TheVariants.{Syntax, Wide, Shape}
 use Rattle.tv_cert_grammar.specs.Demands.{Demand, a_cover, a_choice, no_counts}
 use Rattle.tv_cert_grammar.specs.Lines.{Grammar, Behind, many, by, draw, with_three}
 use Rattle.tv_cert_grammar.specs.Covers.{cover, both, empty_behind, sides_behind, too_deep}

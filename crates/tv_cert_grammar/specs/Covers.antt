@@ -1,6 +1,6 @@
 -- The lines of covers.
-use Rattle.std.specs.Prelude.{ℕ, zero, suc, ◌+◌, ℤ, Bool, true, false, List, length, Option, Some, None, ◌==◌}
-use Rattle.tv_grammar.specs.Langs.{Lang, unit, then, Branch, stop, go, headed}
+use Rattle.std.specs.Prelude.{ℕ, zero, suc, ◌+◌, Bool, true, false, length, Option, Some, None, ◌==◌}
+use Rattle.tv_grammar.specs.Langs.{unit, then, stop, go, headed}
 use Rattle.tv_lines.specs.Lines.{PlainLine, formed, formless, wide}
 use Rattle.tv_lines.specs.declared.head.Head.TheVariants as heads
 use Rattle.tv_cert_grammar.specs.declared.kind.LineKind.TheVariants.{Syntax, Wide, Deep, Shape}

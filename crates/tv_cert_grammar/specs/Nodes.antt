@@ -1,6 +1,6 @@
 -- The lines of nodes.
 use Rattle.std.specs.Prelude.{Bool, List, [], ◌∷◌}
-use Rattle.tv_grammar.specs.Langs.{Lang, unit, then, mapped, each}
+use Rattle.tv_grammar.specs.Langs.{unit, then, mapped, each}
 use Rattle.tv_cases.specs.LinearCases.{CaseSystem}
 use Rattle.tv_cert.specs.Statements.{Statement, rows, here, elsewhere, ends, never_ends, each_of, one_of, after, along, unsaid, Statements, no_statement, statement}
 use Rattle.tv_cert_grammar.specs.Demands.{Outline, demands}

@@ -1,5 +1,5 @@
 -- The shape and the lines of a node by what it is to show.
-use Rattle.std.specs.Prelude.{◌≡◌, ℕ, pos, List, [], ◌∷◌, ◌++◌, length}
+use Rattle.std.specs.Prelude.{◌≡◌, pos, List, [], ◌∷◌, ◌++◌, length}
 use Rattle.std.specs.List.{flat_map}
 use Rattle.tv_lines.specs.Lines.{PlainLine, formed}
 use Rattle.tv_lines.specs.declared.head.Head.TheVariants as heads
