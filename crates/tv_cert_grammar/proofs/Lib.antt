@@ -1,3 +1,4 @@
 pub mod CompleteReads
 pub mod CompleteParts
 pub mod CompleteCovers
+pub mod CompleteDemands
