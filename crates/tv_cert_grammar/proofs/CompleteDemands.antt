@@ -4,8 +4,8 @@ use Rattle.std.specs.Prelude.{◌==◌, not, nat_lt}
 use Rattle.std.specs.List.{flat_map}
 use Rattle.std.specs.Option.{option_map}
 use Rattle.std.proofs.lemmas.Bool.Decides.{nat_tests}
-use Rattle.std.proofs.lemmas.List.{append-nil, length-map, map-append}
-use Rattle.std.proofs.lemmas.List.Elements.{All-nil, All-cons, All-append, All-head, All-tail, All-contains}
+use Rattle.std.proofs.lemmas.List.{append-nil, length-map}
+use Rattle.std.proofs.lemmas.List.Elements.{All-nil, All-cons, All-append, All-contains}
 use Rattle.std.proofs.lemmas.Option.{slice_get-map}
 use Rattle.tv_formula.specs.declared.tree.Path.{Path}
 use Rattle.tv_formula.specs.declared.tree.Path.TheVariants.{Every, Any}
@@ -22,14 +22,13 @@ use Rattle.tv_cert.specs.Pieces.{place_of, rows_of, ranks_of, goes, pieces_at}
 use Rattle.tv_cert.specs.Plain.{about_of}
 use Rattle.tv_cert.specs.Targets.{owed_into, owed_lists, owed_nothing, target_rows, no_fall, fall_from}
 use Rattle.tv_cert.specs.Choices.{cases_from, drawn_change}
-use Rattle.tv_cert.specs.Obligations.{Obligation, case_change, step_fall, choice_fall, atom_of, cover_of, step_of, steps_of, choice_of, choice_into, truth_targets, hold_side, end_sides, go_of, fix_of, first_of, second_of}
+use Rattle.tv_cert.specs.Obligations.{Obligation, step_fall, choice_fall, atom_of, cover_of, step_of, steps_of, choice_of, choice_into, truth_targets, hold_side, end_sides, go_of, fix_of, first_of, second_of}
 use Rattle.tv_cert.specs.Said.{said_at, said_own}
 use Rattle.tv_cert.specs.Shapes.{owed_count, PieceShape}
 use Rattle.tv_cert.specs.Statements.{Statement, rows, here, elsewhere, ends, never_ends, each_of, one_of, after, along, unsaid}
 use Rattle.tv_cert.proofs.PieceLemmas.{piece_got}
-use Rattle.tv_shape.specs.Stations.{done_may_be}
 use Rattle.tv_shape.proofs.CountLemmas.{count_same, fall_long, fall_some}
-use Rattle.tv_cert_grammar.specs.Demands.{Outline, outline, outlines, outlines_at, fall_count, entered_count, into_counts, list_counts, truth_counts, Demand, a_cover, a_choice, demand_of, cover_demand, into_demand, step_demand, step_demands, choice_demand, case_counts, go_demands, fix_demands, first_outlines, second_outlines, demands_at, demands}
+use Rattle.tv_cert_grammar.specs.Demands.{outline, outlines, outlines_at, fall_count, entered_count, into_counts, list_counts, truth_counts}
 use Rattle.tv_cert_grammar.specs.Shaped.{IsDrawFree}
 
 -- ---- how many rows a choice owes does not depend on the terms of its draws
@@ -105,7 +104,7 @@ outline_filter (p ∷ ps) l = kept (outline_filter ps l) (place_of p == l) where
 pub outline_got : (ps : List Marked) (l k : ℕ) → slice_get (outlines_at (outlines ps) l) k ≡ option_map outline (slice_get (pieces_at ps l) k)
 outline_got ps l k = ap (λ os. slice_get os k) (outline_filter ps l) ∙ slice_get-map outline (pieces_at ps l) k
 
-given_long : (rs : List Linear) → length (as_given rs) ≡ length rs
+pub given_long : (rs : List Linear) → length (as_given rs) ≡ length rs
 given_long rs = length-map rs given
 
 entered_plain : (change : Linear → Known) (q : Option Marked) (j : ℕ) → option_map length (target_rows change no_fall q j) ≡ entered_count None (option_map outline q) j
@@ -156,7 +155,7 @@ into_falls system m done p h going into all l change = λ i k j. (at k j) i
         ∙ entered_falls system m done (ranks_of p) (ranks_there system m done p h going) (slice_get (pieces_at into l) k) (λ x got. All-contains (PieceShape system m done) into x all (piece_got into l k x got).1) j
         ∙ ap (λ o. entered_count (Some m) o j) (sym (outline_got into l k))
 
-lists_counted : (lists : List (List Linear)) (k j : ℕ) → owed_count (owed_lists lists) k j ≡ list_counts (map length lists) k j
+pub lists_counted : (lists : List (List Linear)) (k j : ℕ) → owed_count (owed_lists lists) k j ≡ list_counts (map length lists) k j
 lists_counted lists k (suc j) = refl
 lists_counted lists k zero = each (slice_get lists k) ∙ sym (slice_get-map length lists k)
   where
@@ -164,6 +163,6 @@ lists_counted lists k zero = each (slice_get lists k) ∙ sym (slice_get-map len
     each None = refl
     each (Some rs) = ap Some (given_long rs)
 
-truth_counted : (b : Bool) → list_counts (map length (truth_targets b)) ≡ truth_counts b
+pub truth_counted : (b : Bool) → list_counts (map length (truth_targets b)) ≡ truth_counts b
 truth_counted true = refl
 truth_counted false = refl

@@ -2,3 +2,4 @@ pub mod CompleteReads
 pub mod CompleteParts
 pub mod CompleteCovers
 pub mod CompleteDemands
+pub mod CompleteWanted
