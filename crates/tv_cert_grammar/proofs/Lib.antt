@@ -3,3 +3,5 @@ pub mod CompleteParts
 pub mod CompleteCovers
 pub mod CompleteDemands
 pub mod CompleteWanted
+pub mod CompleteNodes
+pub mod CompleteStated

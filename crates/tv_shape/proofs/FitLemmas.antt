@@ -90,7 +90,7 @@ module _ (about : About) where
   said_stated (next path f) = refl
   said_stated (fix path shape f g) = refl
 
-  own_shaped : (f : Property) (m : ℕ) (ps : List Marked) (kids : List (List Marked)) (proofs : List Proof) → OwnParts about.system (stated about.tests f) m ps kids proofs → OwnShape about f m ps kids proofs
+  pub own_shaped : (f : Property) (m : ℕ) (ps : List Marked) (kids : List (List Marked)) (proofs : List Proof) → OwnParts about.system (stated about.tests f) m ps kids proofs → OwnShape about f m ps kids proofs
   own_shaped f m ps kids proofs h = record {
     normal = subst (λ (x : Type 0). x) (said_stated f) h.said;
     ranked = λ e. h.ranked (rank_stated f ∙ e);
@@ -99,7 +99,7 @@ module _ (about : About) where
     offered = subst (λ os. AllZip (λ o p. ProofShape o.owed p) os proofs) (own-stated 0 about f ps kids) h.offered;
   }
 
-  own_back : (f : Property) (m : ℕ) (ps : List Marked) (kids : List (List Marked)) (proofs : List Proof) → OwnShape about f m ps kids proofs → OwnParts about.system (stated about.tests f) m ps kids proofs
+  pub own_back : (f : Property) (m : ℕ) (ps : List Marked) (kids : List (List Marked)) (proofs : List Proof) → OwnShape about f m ps kids proofs → OwnParts about.system (stated about.tests f) m ps kids proofs
   own_back f m ps kids proofs h = record {
     said = subst (λ (x : Type 0). x) (sym (said_stated f)) h.normal;
     ranked = λ e. h.ranked (sym (rank_stated f) ∙ e);
