@@ -5,3 +5,4 @@ pub mod CompleteDemands
 pub mod CompleteWanted
 pub mod CompleteNodes
 pub mod CompleteStated
+pub mod CompleteCertificates
