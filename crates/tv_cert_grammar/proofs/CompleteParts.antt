@@ -1,10 +1,10 @@
 -- The lines of the pieces of a node are read.
 use Rattle.std.proofs.Common.{◌≡◌, ℕ, ◌+◌, ◌<◌, ◌^◌, ℤ, pos, Bool, true, false, List, [], ◌∷◌, ◌++◌, length, map, All, Option, Some, Ok, refl, sym, ap, ◌∙◌, arith, length-append, cond}
-use Rattle.std.specs.Prelude.{◌==◌, ◌&&◌, ◌||◌, nat_lt}
+use Rattle.std.specs.Prelude.{◌==◌, ◌&&◌, ◌||◌}
 use Rattle.std.specs.List.{flat_map}
 use Rattle.std.proofs.lemmas.List.{append_assoc}
 use Rattle.std.proofs.lemmas.List.Concat.{flat_map_single}
-use Rattle.std.proofs.lemmas.Bool.Decides.{nat_tests}
+use Rattle.std.proofs.lemmas.Bool.{lt-ltb}
 use Rattle.tv_grammar.specs.Langs.{then, mapped, branch_read, times}
 use Rattle.tv_lines.specs.Lines.{PlainLine, formed}
 use Rattle.tv_lines.specs.declared.head.Head.{Head}
@@ -81,9 +81,6 @@ lists_read count n lists rest e all =
 
 -- ---- pieces
 
-below : (a b : ℕ) → a < b → nat_lt a b ≡ true
-below a b h = grind (arith, nat_tests)
-
 mark_going : (k : Mark) → is_going (mark_named k) ≡ is_go k
 mark_going Done = refl
 mark_going Go = refl
@@ -99,7 +96,7 @@ rank_many m false = refl
 module _ (system : CaseSystem) (m : ℕ) (done : Bool) where
   head_read : (p : Marked) (rest : List PlainLine) → PieceShape system m done p → (line (piece_line system.locations done)).read (formed (heads.Piece (mark_named p.mark)) (pos (place_of p) ∷ pos (length (rows_of p)) ∷ []) ∷ rest) ≡ Ok (outline p, rest)
   head_read p rest h =
-      let place = below (place_of p) system.locations h.place in
+      let place = lt-ltb (place_of p) system.locations h.place in
       let mark = marked done (goes p) h.marks in
       line_read (piece_line system.locations done) (heads.Piece (mark_named p.mark)) (pos (place_of p) ∷ pos (length (rows_of p)) ∷ []) (outline p) rest
       (ap (λ going. piece_numbers system.locations done going (place_of p) (length (rows_of p))) (mark_going p.mark) ∙ (λ i. guarded (place i && mark i) (outline p)))
@@ -144,7 +141,7 @@ pub opening_read : (s : Statement) (m count : ℕ) (rest : List PlainLine) → (
 opening_read s m count rest may small =
     let a = kind_same (kind_of s) in
     let b = ranked m (ranks_may_be s) may in
-    let c = below m (2 ^ 32) small in
+    let c = lt-ltb m (2 ^ 32) small in
     let x : NodeHead = record { pieces = count; ranks = m } in
     line_read (node_line (kind_of s) (ranks_may_be s)) (heads.Node (kind_of s)) (pos count ∷ pos m ∷ []) x rest (λ i. guarded (a i && b i && c i) x)
 
