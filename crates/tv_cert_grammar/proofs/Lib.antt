@@ -1,3 +1,14 @@
+pub mod ExactLines
+pub mod ExactCovers
+pub mod ExactNodes
+pub mod Closed
+pub mod LineKinds
+pub mod Loose
+pub mod Faults
+pub mod Places
+pub mod OneFault
+pub mod FirstFaults
+pub mod RightOrFaulty
 pub mod CompleteReads
 pub mod CompleteParts
 pub mod CompleteCovers

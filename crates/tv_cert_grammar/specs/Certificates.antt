@@ -1,8 +1,8 @@
 -- The lines of certificates, and the first line at fault.
-use Rattle.std.specs.Prelude.{◌≡◌, ℕ, ◌+◌, ℤ, pos, Bool, true, false, List, [], ◌∷◌, ◌++◌, length, Option, Some, None, slice_get, ◌==◌}
+use Rattle.std.specs.Prelude.{◌≡◌, ◌⊎◌, ℕ, ◌+◌, ◌≤◌, ℤ, pos, Bool, true, false, List, [], ◌∷◌, ◌++◌, length, Option, Some, None, slice_get, ◌==◌}
 use Rattle.tv_grammar.specs.Reads.{next}
 use Rattle.tv_grammar.specs.Langs.{unit, then}
-use Rattle.tv_grammar.specs.Exact.{StopsAt, Ended}
+use Rattle.tv_grammar.specs.Exact.{IsText, StopsAt, Ended}
 use Rattle.tv_grammar.specs.Faults.{Begins, NoneIn}
 use Rattle.tv_lines.specs.Lines.{PlainLine, formed, formless, wide}
 use Rattle.tv_lines.specs.declared.head.Head.{Head}
@@ -69,10 +69,11 @@ abbrev pub IsOneTooMany : CaseSystem → Sides → LineKind → List PlainLine �
 IsOneTooMany system sides Deep before rest = (t : PlainLine) → next rest ≡ Some t → Begins (certificate true system sides) (before ++ t ∷ [])
 IsOneTooMany system sides k before rest = NoneIn (certificate true system sides) before rest
 
--- No certificate begins with the lines up to the first of the rest, and one does with those before. The kind is the first that the line
--- can have.
+-- No certificate begins with the lines up to the first of the rest, one does with those before, and they are not the whole of one. The
+-- kind is the first that the line can have.
 pub record Stops (system : CaseSystem) (sides : Sides) (ls rest : List PlainLine) (k : LineKind) : Type 0 where
   pub stops : StopsAt (certificate false system sides) ls rest
+  pub unfinished : (d : (certificate false system sides).Of) → (certificate false system sides).text d [] ≡ stops.before → ⊥
   pub can_be : CanBe k (next rest)
   pub deep : IsOneTooMany system sides k stops.before rest
 
@@ -90,11 +91,29 @@ pub record NamesNoPiece (system : CaseSystem) (sides : Sides) (ls rest : List Pl
 -- what is at fault at the first of the rest
 pub data IsFault (system : CaseSystem) (sides : Sides) (ls rest : List PlainLine) : LineKind → Type 0 where
   goes_no_further : {k : LineKind} → Stops system sides ls rest k → IsFault system sides ls rest k
-  behind_the_last : Ended (certificate false system sides) Syntax Syntax ls rest → IsFault system sides ls rest Syntax
+  behind_the_last : (t : PlainLine) → next rest ≡ Some t → Ended (certificate false system sides) Syntax Syntax ls rest → IsFault system sides ls rest Syntax
   no_piece : NamesNoPiece system sides ls rest → IsFault system sides ls rest Shape
 
--- the first line at fault has this number, from 1
+-- The first line at fault has this number, from 1. The lines behind one that names a piece that is not there may be at fault too.
 pub record IsFirstFault (system : CaseSystem) (sides : Sides) (ls : List PlainLine) (k : LineKind) (number : ℕ) : Type 0 where
   pub rest : List PlainLine
   pub fault : IsFault system sides ls rest k
+  pub first : (other : List PlainLine) → NamesNoPiece system sides ls other → length other ≤ length rest
   pub counted : number + length rest ≡ length ls + 1
+
+-- every text has one first line at fault at most, and of one kind
+abbrev pub HaveOneFault : CaseSystem → Sides → Type 0
+HaveOneFault system sides = (ls : List PlainLine) (j k : LineKind) (m n : ℕ) → IsFirstFault system sides ls j m → IsFirstFault system sides ls k n → (j ≡ k) × (m ≡ n)
+
+-- the lines of a certificate, whose values lie in a piece that is there
+pub record IsRight (system : CaseSystem) (sides : Sides) (ls : List PlainLine) : Type 0 where
+  pub text : IsText (certificate false system sides) ls tt
+  pub there : (rest : List PlainLine) → NamesNoPiece system sides ls rest → ⊥
+
+-- lines are right, or one of them is the first at fault
+abbrev pub AreRightOrAtFault : CaseSystem → Sides → Type 0
+AreRightOrAtFault system sides = (ls : List PlainLine) → IsRight system sides ls ⊎ ((k : LineKind) × ((number : ℕ) × IsFirstFault system sides ls k number))
+
+-- right lines have none at fault
+abbrev pub RightAreFaultless : CaseSystem → Sides → Type 0
+RightAreFaultless system sides = (ls : List PlainLine) (k : LineKind) (number : ℕ) → IsRight system sides ls → IsFirstFault system sides ls k number → ⊥
