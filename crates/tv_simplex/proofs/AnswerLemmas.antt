@@ -1,4 +1,4 @@
-use Rattle.std.proofs.Common.{FitsSigned, ◌≡◌, ◌⊎◌, inl, inr, ℕ, suc, ◌+◌, ◌<◌, ◌≤◌, ◌^◌, List, [], ◌∷◌, ◌++◌, length, length-append, get_or, set, Vec, arith, refl, sym, ap, ◌∙◌, subst, ℤ, pos, ◌+ℤ◌, ◌*ℤ◌, unsigned_abs}
+use Rattle.std.proofs.Common.{FitsSigned, ◌≡◌, ◌⊎◌, inl, inr, ℕ, suc, ◌+◌, ◌<◌, ◌≤◌, ◌^◌, List, [], ◌∷◌, ◌++◌, length, length-append, get_or, set, arith, refl, sym, ap, ◌∙◌, subst, ℤ, pos, ◌+ℤ◌, ◌*ℤ◌, unsigned_abs}
 use Rattle.std.specs.Int.{w128}
 use Rattle.std.proofs.lemmas.Int.{ints, fits_signed_from_abs}
 use Rattle.std.proofs.lemmas.List.{length-set, get_or-set_same, get_or-set_other}
@@ -8,10 +8,11 @@ use Rattle.tv_tableau.proofs.Sums.{total-zero, delta-same, delta-other}
 use Rattle.tv_tableau.specs.Sums.{total, delta}
 use Rattle.tv_tableau.specs.Systems.{Equations, sign}
 use Rattle.tv_tableau.specs.Chains.{column}
+use Rattle.tv_tableau.specs.Ratios.{Ratio}
 use Rattle.tv_tableau.specs.Outcomes.{IsShort}
 use Rattle.tv_simplex.proofs.ScaleLemmas.{get_or-append-last, get_or-append-before}
 use Rattle.tv_simplex.proofs.StartLemmas.{at_end, before_end}
-use Rattle.tv_simplex.specs.Rows.{ratio, ratio_at, read}
+use Rattle.tv_simplex.specs.Rows.{ratio, ratio_at}
 use Rattle.tv_simplex.specs.Scales.{AreBounded}
 use Rattle.tv_simplex.specs.Walking.{AreOfColumn, IsLessOne, AreOfObjective, AreDistinct, AreValues, AreSigned}
 
@@ -28,25 +29,25 @@ bounded_more fractions f n size h bound i l = elim (last_or_below n i (let s = l
   | inr k ↦ subst (λ r. unsigned_abs r.numerator < 2 ^ 41) (sym (before_end fractions f i (omega (arith, size, k)))) (h i (omega (arith, size, k)))
 ]
 
-pub column_more : {A : Type 0} (n c : ℕ) (rows : List (Vec Fraction A)) (fractions new : List Fraction) (f : Fraction) → AreOfColumn n c rows fractions → new ≡ fractions ++ f ∷ [] → ratio f ≡ read rows n c → unsigned_abs f.numerator < 2 ^ 41 → AreOfColumn (n + 1) c rows new
-column_more n c rows fractions new f h e g bound = subst (λ r. AreOfColumn (n + 1) c rows r) (sym e) record {
+pub column_more : (n c : ℕ) (read : ℕ → ℕ → Ratio) (fractions new : List Fraction) (f : Fraction) → AreOfColumn n c read fractions → new ≡ fractions ++ f ∷ [] → ratio f ≡ read n c → unsigned_abs f.numerator < 2 ^ 41 → AreOfColumn (n + 1) c read new
+column_more n c read fractions new f h e g bound = subst (λ r. AreOfColumn (n + 1) c read r) (sym e) record {
   size = length-append fractions (f ∷ []) ∙ (let s = h.size in let k : length fractions + 1 ≡ n + 1 = omega (arith, s) in k);
   same = λ i l. elim (last_or_below n i l) [
-    | inl k ↦ subst (λ j. ratio_at (fractions ++ f ∷ []) j ≡ read rows j c) (sym k) (at_end fractions f n h.size ∙ g)
+    | inl k ↦ subst (λ j. ratio_at (fractions ++ f ∷ []) j ≡ read j c) (sym k) (at_end fractions f n h.size ∙ g)
     | inr k ↦ before_end fractions f i (let s = h.size in omega (arith, s, k)) ∙ h.same i k
   ];
   bounded = bounded_more fractions f n h.size h.bounded bound;
 }
 
-pub column_none : {A : Type 0} (c : ℕ) (rows : List (Vec Fraction A)) → AreOfColumn 0 c rows []
-column_none c rows = record { size = refl; same = λ i l. absurd (omega arith); bounded = λ i l. absurd (omega arith) }
+pub column_none : (c : ℕ) (read : ℕ → ℕ → Ratio) → AreOfColumn 0 c read []
+column_none c read = record { size = refl; same = λ i l. absurd (omega arith); bounded = λ i l. absurd (omega arith) }
 
-pub objective_more : (n c : ℕ) (objective fractions new : List Fraction) (f : Fraction) → AreOfObjective n c objective fractions → new ≡ fractions ++ f ∷ [] → IsLessOne (ratio f) (ratio_at objective (c + n)) → unsigned_abs f.numerator < 2 ^ 41 → AreOfObjective (n + 1) c objective new
+pub objective_more : (n c : ℕ) (objective : ℕ → Ratio) (fractions new : List Fraction) (f : Fraction) → AreOfObjective n c objective fractions → new ≡ fractions ++ f ∷ [] → IsLessOne (ratio f) (objective (c + n)) → unsigned_abs f.numerator < 2 ^ 41 → AreOfObjective (n + 1) c objective new
 objective_more n c objective fractions new f h e g bound = subst (λ r. AreOfObjective (n + 1) c objective r) (sym e) record {
   size = length-append fractions (f ∷ []) ∙ (let s = h.size in let k : length fractions + 1 ≡ n + 1 = omega (arith, s) in k);
   same = λ i l. elim (last_or_below n i l) [
-    | inl k ↦ subst (λ j. IsLessOne (ratio_at (fractions ++ f ∷ []) j) (ratio_at objective (c + j))) (sym k) (subst (λ r. IsLessOne r (ratio_at objective (c + n))) (sym (at_end fractions f n h.size)) g)
-    | inr k ↦ subst (λ r. IsLessOne r (ratio_at objective (c + i))) (sym (before_end fractions f i (let s = h.size in omega (arith, s, k)))) (h.same i k)
+    | inl k ↦ subst (λ j. IsLessOne (ratio_at (fractions ++ f ∷ []) j) (objective (c + j))) (sym k) (subst (λ r. IsLessOne r (objective (c + n))) (sym (at_end fractions f n h.size)) g)
+    | inr k ↦ subst (λ r. IsLessOne r (objective (c + i))) (sym (before_end fractions f i (let s = h.size in omega (arith, s, k)))) (h.same i k)
   ];
   bounded = bounded_more fractions f n h.size h.bounded bound;
 }

@@ -21,10 +21,11 @@ use Rattle.tv_tableau.specs.Outcomes.{IsShort, IsSolutionOf, IsBarrierOf, InChai
 use Rattle.tv_simplex.specs.declared.stop.Stop.{Stop}
 use Rattle.tv_simplex.specs.declared.stop.Stop.TheVariants.{Wide, Scale, Memory}
 use Rattle.tv_simplex.specs.declared.table.Table.{Table}
-use Rattle.tv_simplex.specs.Rows.{ratio_at, row_of, read}
+use Rattle.tv_simplex.specs.Rows.{ratio_at}
+use Rattle.tv_simplex.specs.Tables.{shown}
 use Rattle.tv_simplex.specs.Choosing.{NoneNegative as NoneBelow}
 use Rattle.tv_simplex.specs.Scales.{AreScaled, HaveScale, IsScalingStop, numerator_at, denominator_at}
-use Rattle.tv_simplex.specs.Walking.{AreOfColumn, IsLessOne, AreOfObjective, AreDistinct, AreValues, AreSigned, StandsAt, IsSolved, IsUnsolvedAt, IsAnswerStop}
+use Rattle.tv_simplex.specs.Walking.{AreOfColumn, AreOfObjective, AreDistinct, AreValues, AreSigned, StandsAt, IsSolved, IsUnsolvedAt, IsAnswerStop}
 
 -- w over a scale is a fraction, which is e / d
 over_scale : (w den scale num d e : ℤ) → pos 0 <ℤ den → w *ℤ den ≡ scale *ℤ num → num *ℤ d ≡ e *ℤ den → w *ℤ d ≡ scale *ℤ e
@@ -68,22 +69,22 @@ module _ (s : Equations) (n : ℕ) (t : Table) (st : StandsAt s n t) where
   basis_distinct i l i_in l_in e = columns_apart (matrix s) s.rows s.columns (column t.basis.items) st.shows.table i l i_in l_in e
 
   pub distinct_basis : (b : List ℕ) → b ≡ t.basis.items → AreDistinct (length b) b
-  distinct_basis b e = subst (λ z. AreDistinct (length z) z) (sym e) (subst (λ k. AreDistinct k t.basis.items) (sym st.size) basis_distinct)
+  distinct_basis b e = subst (λ z. AreDistinct (length z) z) (sym e) (subst (λ k. AreDistinct k t.basis.items) (sym st.size.basis) basis_distinct)
 
   abbrev in_chain : InChain s t.basis.items
   in_chain = record { earlier = st.earlier; chain = st.shows.chain; table = st.shows.table }
 
   ends_in_solution : IsSolved s t → EndsInSolution s t.basis.items st.shows.table
-  ends_in_solution h = solves (matrix s) s.rows s.columns (matrix_is_system s) t.basis.items st.earlier (read t.rows.items) st.shows h
+  ends_in_solution h = solves (matrix s) s.rows s.columns (matrix_is_system s) t.basis.items st.earlier (shown t) st.shows h
 
-  ends_in_barrier : (i : ℕ) → IsUnsolvedAt s t i → NoneBelow (row_of t.rows.items s.rows) s.columns → EndsInBarrier s t.basis.items st.shows.table
+  ends_in_barrier : (i : ℕ) → IsUnsolvedAt s t i → NoneBelow (shown t s.rows) s.columns → EndsInBarrier s t.basis.items st.shows.table
   ends_in_barrier i u h = (
-    unsolved (matrix s) s.rows s.columns (matrix_is_system s) t.basis.items st.earlier (read t.rows.items) st.shows i u.within u.artificial u.valued,
-    none_negative (matrix s) s.rows s.columns (matrix_is_system s) t.basis.items st.earlier (read t.rows.items) st.shows h,
+    unsolved (matrix s) s.rows s.columns (matrix_is_system s) t.basis.items st.earlier (shown t) st.shows i u.within u.artificial u.valued,
+    none_negative (matrix s) s.rows s.columns (matrix_is_system s) t.basis.items st.earlier (shown t) st.shows h,
   )
 
   -- ---- solutions
-  module _ (fractions : List Fraction) (of : AreOfColumn s.rows (s.columns + s.rows) t.rows.items fractions) (solved : IsSolved s t) where
+  module _ (fractions : List Fraction) (of : AreOfColumn s.rows (s.columns + s.rows) (shown t) fractions) (solved : IsSolved s t) where
     value_read : (i : ℕ) → i < s.rows → IsRatio (ratio_at fractions i) (st.shows.table.entry i (s.columns + s.rows)) st.shows.table.scale
     value_read i l = subst (λ r. IsRatio r (st.shows.table.entry i (s.columns + s.rows)) st.shows.table.scale) (sym (of.same i l)) (st.shows.rows i (s.columns + s.rows) l (omega arith))
 
@@ -153,14 +154,14 @@ module _ (s : Equations) (n : ℕ) (t : Table) (st : StandsAt s n t) where
     solution_unscaled never = record { in_chain = in_chain; none = inl (ends_in_solution solved, λ h. never (have_scale h)) }
 
   -- ---- barriers
-  module _ (objective_row fractions : List Fraction) (is_row : objective_row ≡ row_of t.rows.items s.rows) (of : AreOfObjective s.rows s.columns objective_row fractions) (i : ℕ) (u : IsUnsolvedAt s t i) (none : NoneBelow (row_of t.rows.items s.rows) s.columns) where
+  module _ (fractions : List Fraction) (of : AreOfObjective s.rows s.columns (shown t s.rows) fractions) (i : ℕ) (u : IsUnsolvedAt s t i) (none : NoneBelow (shown t s.rows) s.columns) where
     factor_read : (k : ℕ) → k < s.rows → IsRatio (ratio_at fractions k) (barrier_of (matrix s) s.rows s.columns (column t.basis.items) st.shows.table k) st.shows.table.scale
     factor_read k l =
         let o = st.shows.objective_row (s.columns + k) (omega arith) in
-        let less = subst (λ r. IsLessOne (ratio_at fractions k) (ratio_at r (s.columns + k))) is_row (of.same k l) in
+        let less = of.same k l in
         record {
           positive = less.positive;
-          same = less_one (ratio_at fractions k).numerator (ratio_at fractions k).denominator (read t.rows.items s.rows (s.columns + k)).numerator (read t.rows.items s.rows (s.columns + k)).denominator (objective (matrix s) s.rows s.columns (column t.basis.items) st.shows.table (s.columns + k)) st.shows.table.scale o.positive less.same o.same;
+          same = less_one (ratio_at fractions k).numerator (ratio_at fractions k).denominator (shown t s.rows (s.columns + k)).numerator (shown t s.rows (s.columns + k)).denominator (objective (matrix s) s.rows s.columns (column t.basis.items) st.shows.table (s.columns + k)) st.shows.table.scale o.positive less.same o.same;
         }
       where
         less_one : (x dx y dy v d : ℤ) → pos 0 <ℤ dy → x *ℤ dy ≡ (y -ℤ dy) *ℤ dx → y *ℤ d ≡ v *ℤ dy → x *ℤ d ≡ (v -ℤ d) *ℤ dx

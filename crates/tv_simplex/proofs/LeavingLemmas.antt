@@ -1,4 +1,4 @@
-use Rattle.std.proofs.Common.{Option, None, Some, MatchOption, ◌≡◌, ◌⊎◌, inl, inr, ℕ, suc, ◌+◌, ◌<◌, ◌≤◌, List, Vec, arith, refl, sym, ap, ◌∙◌, subst, ℤ, pos, ◌-ℤ◌, ◌*ℤ◌, ◌<ℤ◌, ◌≤ℤ◌}
+use Rattle.std.proofs.Common.{Option, None, Some, MatchOption, ◌≡◌, ◌⊎◌, inl, inr, ℕ, suc, ◌+◌, ◌<◌, ◌≤◌, List, arith, refl, sym, ap, ◌∙◌, subst, ℤ, pos, ◌-ℤ◌, ◌*ℤ◌, ◌<ℤ◌, ◌≤ℤ◌}
 use Rattle.std.specs.declared.cmp.Ordering.{Ordering}
 use Rattle.std.specs.declared.cmp.Ordering.TheVariants.{Less, Equal, Greater}
 use Rattle.std.specs.Ordering.{MatchOrdering, int_cmp}
@@ -13,7 +13,7 @@ use Rattle.tv_tableau.proofs.Leads.{leads-same}
 use Rattle.tv_tableau.specs.Chains.{order, column}
 use Rattle.tv_tableau.specs.Orders.{LeastOf, against}
 use Rattle.tv_tableau.specs.Ratios.{Ratio, IsRatio, IsQuotient, Shows}
-use Rattle.tv_simplex.specs.Rows.{ratio, ratio_at, row_of, read}
+use Rattle.tv_simplex.specs.Rows.{ratio}
 use Rattle.tv_simplex.specs.Choosing.{IsSignOf, ComparesAt, difference_at, IsLexicographic, Compares, NoneAbove, IsLeast}
 
 turned : (k e x y w d : ℤ) → k *ℤ (x -ℤ y) ≡ e *ℤ w → d ≡ pos 0 -ℤ w → k *ℤ (y -ℤ x) ≡ e *ℤ d
@@ -34,23 +34,23 @@ sign_of Greater x y k e w d m pk pe h g =
     omega (arith, ints, q, g)
 
 -- what the order of the quotients says of the pictures
-pub compares_at : (last c o : ℕ) (first second : List Fraction) (p q : Fraction) (result : Ordering) → c ≤ last → o ≤ last →
-    pos 0 <ℤ (ratio_at first c).numerator → pos 0 <ℤ (ratio_at second c).numerator →
-    IsQuotient (ratio p) (ratio_at first o) (ratio_at first c) → IsQuotient (ratio q) (ratio_at second o) (ratio_at second c) →
+pub compares_at : (last c o : ℕ) (first second : ℕ → Ratio) (p q : Fraction) (result : Ordering) → c ≤ last → o ≤ last →
+    pos 0 <ℤ (first c).numerator → pos 0 <ℤ (second c).numerator →
+    IsQuotient (ratio p) (first o) (first c) → IsQuotient (ratio q) (second o) (second c) →
     result ≡ int_cmp (p.numerator *ℤ q.denominator) (q.numerator *ℤ p.denominator) → ComparesAt last c o first second result
 compares_at last c o first second p q result c_in o_in pf ps hp hq e u v scale positive fs gs =
     sign_of result (p.numerator *ℤ q.denominator) (q.numerator *ℤ p.denominator) (u c *ℤ v c) (p.denominator *ℤ q.denominator) (v c *ℤ u o -ℤ u c *ℤ v o) (difference_at c u v o)
     (int_ranked (p.numerator *ℤ q.denominator) (q.numerator *ℤ p.denominator) result e)
-    (above_times (u c) (v c) (value_above (ratio_at first c) (u c) scale positive (fs c c_in) pf) (value_above (ratio_at second c) (v c) scale positive (gs c c_in) ps))
+    (above_times (u c) (v c) (value_above (first c) (u c) scale positive (fs c c_in) pf) (value_above (second c) (v c) scale positive (gs c c_in) ps))
     (above_times p.denominator q.denominator p.positive q.positive)
-    (quotients_compared last c scale positive (ratio_at first) (ratio_at second) u v c_in fs gs o o_in (ratio p) (ratio q) hp hq)
+    (quotients_compared last c scale positive first second u v c_in fs gs o o_in (ratio p) (ratio q) hp hq)
     (omega (arith, ints))
 
 pub quotient_of : {f g g' h h' : Ratio} → g ≡ g' → h ≡ h' → IsQuotient f g h → IsQuotient f g' h'
 quotient_of {f = f} {g' = g'} {h = h} e d r = subst (λ z. IsQuotient f g' z) d (subst (λ z. IsQuotient f z h) e r)
 
 -- ---- the order of two rows, place by place
-module _ (m n c : ℕ) (first second : List Fraction) where
+module _ (m n c : ℕ) (first second : ℕ → Ratio) where
   pub ends_less : (place : ℕ) → place ≤ m → ((q : ℕ) → q < place → ComparesAt (n + m) c (order m n q) first second Equal) → ComparesAt (n + m) c (order m n place) first second Less → Compares m n c first second Less
   ends_less place l before here u v scale p fs gs = record { place = place; within = l; before = λ q g. before q g u v scale p fs gs; here = here u v scale p fs gs }
 
@@ -81,49 +81,49 @@ entry_not_above f v s p h l = elim (by_sign v) [
 last_or_below : (p j : ℕ) → j < p + 1 → (j ≡ p) ⊎ (j < p)
 last_or_below p j h = grind arith
 
-module _ {A : Type 0} (m n : ℕ) (rows : List (Vec Fraction A)) (c k : ℕ) (c_in : c ≤ n + m) (k_in : k < m) where
-  counted : (a : ℕ → ℕ → ℤ) (b : List ℕ) (bs : List (List ℕ)) (x : Shows a m n b bs (read rows)) (r : ℕ) → LeastOf a m n (column b) x.table c (suc k) r → LeastOf a m n (column b) x.table c (k + 1) r
+module _ (m n : ℕ) (read : ℕ → ℕ → Ratio) (c k : ℕ) (c_in : c ≤ n + m) (k_in : k < m) where
+  counted : (a : ℕ → ℕ → ℤ) (b : List ℕ) (bs : List (List ℕ)) (x : Shows a m n b bs read) (r : ℕ) → LeastOf a m n (column b) x.table c (suc k) r → LeastOf a m n (column b) x.table c (k + 1) r
   counted a b bs x r h = (let e : suc k ≡ k + 1 = omega arith in subst (λ z. LeastOf a m n (column b) x.table c z r) e h)
 
-  pub none_more : (read rows k c).numerator ≤ℤ pos 0 → NoneAbove rows c k → NoneAbove rows c (k + 1)
+  pub none_more : (read k c).numerator ≤ℤ pos 0 → NoneAbove read c k → NoneAbove read c (k + 1)
   none_more low h i l = elim (last_or_below k i l) [
-    | inl e ↦ subst (λ z. (read rows z c).numerator ≤ℤ pos 0) (sym e) low
+    | inl e ↦ subst (λ z. (read z c).numerator ≤ℤ pos 0) (sym e) low
     | inr g ↦ h i g
   ]
 
-  pub passed_over : (r : ℕ) → (read rows k c).numerator ≤ℤ pos 0 → IsLeast m n rows c k r → IsLeast m n rows c (k + 1) r
+  pub passed_over : (r : ℕ) → (read k c).numerator ≤ℤ pos 0 → IsLeast m n read c k r → IsLeast m n read c (k + 1) r
   passed_over r low h = record {
     within = (let l = h.within in omega arith);
     above = h.above;
-    least = λ a b bs x. counted a b bs x r (least_skips a m n (column b) x.table c k r (entry_not_above (read rows k c) (x.table.entry k c) x.table.scale x.table.positive (x.rows k c k_in c_in) low) (h.least a b bs x));
+    least = λ a b bs x. counted a b bs x r (least_skips a m n (column b) x.table c k r (entry_not_above (read k c) (x.table.entry k c) x.table.scale x.table.positive (x.rows k c k_in c_in) low) (h.least a b bs x));
   }
 
-  pub best_more : (best : Option ℕ) → (read rows k c).numerator ≤ℤ pos 0 → MatchOption best (NoneAbove rows c k) (λ r. IsLeast m n rows c k r) → MatchOption best (NoneAbove rows c (k + 1)) (λ r. IsLeast m n rows c (k + 1) r)
+  pub best_more : (best : Option ℕ) → (read k c).numerator ≤ℤ pos 0 → MatchOption best (NoneAbove read c k) (λ r. IsLeast m n read c k r) → MatchOption best (NoneAbove read c (k + 1)) (λ r. IsLeast m n read c (k + 1) r)
   best_more None low h = none_more low h
   best_more (Some r) low h = passed_over r low h
 
-  pub first_best : pos 0 <ℤ (read rows k c).numerator → NoneAbove rows c k → IsLeast m n rows c (k + 1) k
+  pub first_best : pos 0 <ℤ (read k c).numerator → NoneAbove read c k → IsLeast m n read c (k + 1) k
   first_best above none = record {
     within = omega arith;
     above = above;
-    least = λ a b bs x. counted a b bs x k (least_first a m n (column b) x.table c k (value_above (read rows k c) (x.table.entry k c) x.table.scale x.table.positive (x.rows k c k_in c_in) above)
-        (λ i l. entry_not_above (read rows i c) (x.table.entry i c) x.table.scale x.table.positive (x.rows i c (omega arith) c_in) (none i l)));
+    least = λ a b bs x. counted a b bs x k (least_first a m n (column b) x.table c k (value_above (read k c) (x.table.entry k c) x.table.scale x.table.positive (x.rows k c k_in c_in) above)
+        (λ i l. entry_not_above (read i c) (x.table.entry i c) x.table.scale x.table.positive (x.rows i c (omega arith) c_in) (none i l)));
   }
 
   -- what the comparison says of the tableaus that the rows show
-  compared_in : (o : Ordering) (r : ℕ) → r < m → Compares m n c (row_of rows r) (row_of rows k) o → (a : ℕ → ℕ → ℤ) (b : List ℕ) (bs : List (List ℕ)) (x : Shows a m n b bs (read rows)) → IsLexicographic m (against a m n (column b) x.table c r k) o
+  compared_in : (o : Ordering) (r : ℕ) → r < m → Compares m n c (read r) (read k) o → (a : ℕ → ℕ → ℤ) (b : List ℕ) (bs : List (List ℕ)) (x : Shows a m n b bs read) → IsLexicographic m (against a m n (column b) x.table c r k) o
   compared_in o r r_in h a b bs x = h (x.table.entry r) (x.table.entry k) x.table.scale x.table.positive (λ j l. x.rows r j r_in l) (λ j l. x.rows k j k_in l)
 
-  pub taken_over : (r : ℕ) → pos 0 <ℤ (read rows k c).numerator → Compares m n c (row_of rows r) (row_of rows k) Greater → IsLeast m n rows c k r → IsLeast m n rows c (k + 1) k
+  pub taken_over : (r : ℕ) → pos 0 <ℤ (read k c).numerator → Compares m n c (read r) (read k) Greater → IsLeast m n read c k r → IsLeast m n read c (k + 1) k
   taken_over r above less h = record {
     within = omega arith;
     above = above;
-    least = λ a b bs x. counted a b bs x k (least_taken a m n (column b) x.table c k r (value_above (read rows k c) (x.table.entry k c) x.table.scale x.table.positive (x.rows k c k_in c_in) above)
+    least = λ a b bs x. counted a b bs x k (least_taken a m n (column b) x.table c k r (value_above (read k c) (x.table.entry k c) x.table.scale x.table.positive (x.rows k c k_in c_in) above)
         (leads-same m (λ q. pos 0 -ℤ against a m n (column b) x.table c r k q) (against a m n (column b) x.table c k r) (compared_in Greater r (let l = h.within in omega arith) less a b bs x) (λ q l. omega (arith, ints)))
         (h.least a b bs x));
   }
 
-  pub stays : (o : Ordering) (r : ℕ) → (o ≡ Greater → ⊥) → Compares m n c (row_of rows r) (row_of rows k) o → IsLeast m n rows c k r → IsLeast m n rows c (k + 1) r
+  pub stays : (o : Ordering) (r : ℕ) → (o ≡ Greater → ⊥) → Compares m n c (read r) (read k) o → IsLeast m n read c k r → IsLeast m n read c (k + 1) r
   stays Greater r never less h = absurd (never refl)
   stays Less r never less h = record {
     within = (let l = h.within in omega arith);

@@ -1,9 +1,12 @@
 pub mod RowLemmas
 pub mod TableLemmas
+pub mod TakenLemmas
+pub mod EnterLemmas
 pub mod LeavingLemmas
 pub mod ScaleLemmas
 pub mod StartLemmas
 pub mod AnswerLemmas
 pub mod EndLemmas
 pub mod WalkLemmas
+pub mod PlaceLemmas
 pub mod SettleLemmas

@@ -15,16 +15,14 @@ use Rattle.tv_tableau.specs.Systems.{Equations, IsWhole, entry_at, right_at, sig
 use Rattle.tv_tableau.specs.Chains.{column, objective, IsArtificial}
 use Rattle.tv_tableau.specs.Ratios.{Ratio, IsRatio, Shows}
 use Rattle.tv_tableau.specs.Outcomes.{IsNarrow, HasNarrow, IsWide, InChain, IsGivenColumn, IsFirstWide, AreUnsettled, HasNoScale, given}
-use Rattle.tv_simplex.specs.declared.table.Table.{Table}
 use Rattle.tv_simplex.specs.declared.fault.SolveFault.{SolveFault}
 use Rattle.tv_simplex.specs.declared.fault.SolveFault.TheVariants as faults
 use Rattle.tv_simplex.specs.declared.stop.Stop.{Stop}
 use Rattle.tv_simplex.specs.declared.stop.Stop.TheVariants.{Wide, Scale, Memory}
 use Rattle.tv_simplex.specs.Views.{IsFault}
-use Rattle.tv_simplex.specs.Rows.{row_of, read, IsNarrowRow}
-use Rattle.tv_simplex.specs.Starting.{first_objective, IsFirstTable, IsWideObjective, IsStartStop}
+use Rattle.tv_simplex.specs.Starting.{first_objective, IsWideObjective, IsStartStop}
 use Rattle.tv_simplex.specs.Stops.{HasNumberedPlace, IsFaultAt}
-use Rattle.tv_simplex.specs.Walking.{StandsAt, IsWalkStop}
+use Rattle.tv_simplex.specs.Walking.{IsWalkStop}
 use Rattle.tv_simplex.proofs.EndLemmas.{sign_size}
 
 -- the columns are counted by 32 bits, the artificial ones and the right side too
@@ -66,29 +64,6 @@ start_shows s basis h = shows_start (matrix s) s.rows s.columns (matrix_is_syste
 start_chain : (s : Equations) (basis : List ℕ) → IsArtificial s.rows s.columns basis → InChain s basis
 unfolding start_shows
 start_chain s basis h = (let x = start_shows s basis h in record { earlier = []; chain = x.chain; table = x.table })
-
--- the table of the artificial basis stands
-pub first_stands : (s : Equations) (t : Table) → IsArtificial s.rows s.columns t.basis.items → IsFirstTable s t.rows.items → StandsAt s 0 t
-first_stands s t b h = record {
-  height = h.height;
-  grid = record {
-    wide = λ i l. elim (last_or_below s.rows i (let k = h.height in omega (arith, k, l))) [
-      | inl e ↦ ap (λ z. length (row_of t.rows.items z)) e ∙ h.objective.size
-      | inr g ↦ (h.row i g).size
-    ];
-    narrow = λ i l. elim (last_or_below s.rows i (let k = h.height in omega (arith, k, l))) [
-      | inl e ↦ subst (λ z. IsNarrowRow (row_of t.rows.items z)) (sym e) h.objective.narrow
-      | inr g ↦ (h.row i g).narrow
-    ];
-  };
-  size = b.size;
-  earlier = [];
-  many = refl;
-  shows = shows_start (matrix s) s.rows s.columns (matrix_is_system s) t.basis.items b (read t.rows.items) (λ i j l k. (h.row i l).same j k) (λ j k. h.objective.same j k);
-}
-  where
-    last_or_below : (n j : ℕ) → j < n + 1 → (j ≡ n) ⊎ (j < n)
-    last_or_below n j g = grind arith
 
 -- ---- refusals of the start
 same_ratio : (x d z e s : ℤ) → z *ℤ s ≡ e *ℤ pos 1 → x *ℤ pos 1 ≡ z *ℤ d → x *ℤ s ≡ e *ℤ d

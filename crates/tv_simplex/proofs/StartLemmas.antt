@@ -8,7 +8,7 @@ use Rattle.tv_tableau.specs.Systems.{Equations, matrix, right_at}
 use Rattle.tv_tableau.specs.Chains.{cost}
 use Rattle.tv_tableau.specs.Ratios.{IsRatio}
 use Rattle.tv_simplex.specs.Rows.{ratio, ratio_at, row_of, IsNarrowRatio}
-use Rattle.tv_simplex.specs.Starting.{IsRowOf, IsFirstTable, first_objective}
+use Rattle.tv_simplex.specs.Starting.{IsRowOf, IsFirstTable, first_objective, first_slot}
 use Rattle.tv_tableau.specs.Outcomes.{IsNarrow, IsNarrowSystem, given}
 
 pub cost_artificial : (m n j : ℕ) → n ≤ j → j < n + m → cost m n j ≡ pos 1
@@ -73,7 +73,7 @@ row_more numbers n row new f z h e g same narrow = subst (λ r. RowSoFar numbers
   ];
 }
 
-pub row_done : (s : Equations) (numbers : ℕ → ℤ) (n : ℕ) (row : List Fraction) → n ≡ s.columns + s.rows + 1 → RowSoFar numbers n row → IsRowOf s numbers row
+pub row_done : (s : Equations) (numbers : ℕ → ℤ) (n : ℕ) (row : List Fraction) → n ≡ s.columns + 1 → RowSoFar (λ k. numbers (first_slot s k)) n row → IsRowOf s numbers row
 row_done s numbers n row e h = record {
   size = h.size ∙ e;
   narrow = λ j l. h.narrow j (let g = h.size in omega (arith, g, l));

@@ -1,11 +1,11 @@
 use Rattle.std.proofs.Common.{◌≡◌, ◌⊎◌, inl, inr, ℕ, zero, suc, ◌+◌, ◌<◌, ◌≤◌, List, [], ◌∷◌, length, get_or, set, Vec, arith, refl, sym, ap, ◌∙◌, subst}
 use Rattle.std.proofs.lemmas.List.{length-set}
 use Rattle.tv_fraction.specs.declared.Fraction.{Fraction}
-use Rattle.tv_tableau.specs.Ratios.{IsQuotient, IsRest, IsExchanged}
+use Rattle.tv_tableau.specs.Ratios.{Ratio, IsQuotient, IsRest}
 use Rattle.tv_simplex.specs.declared.stop.Stop.{Stop}
 use Rattle.tv_simplex.specs.declared.stop.Stop.TheVariants.{Wide, Scale, Memory}
 use Rattle.tv_simplex.specs.Stops.{IsClearingStop, IsExchangeStop}
-use Rattle.tv_simplex.specs.Rows.{ratio, ratio_at, row_of, read, IsNarrowRow, IsGrid, AreRests, AreQuotients, AreCleared, IsNext, IsWideQuotient, IsWideNext}
+use Rattle.tv_simplex.specs.Rows.{ratio, ratio_at, row_of, read, IsNarrowRow, IsGrid, AreRests, AreQuotients, IsMoved, AreCleared, IsNext, IsWideQuotient, IsWideNext}
 
 pub row_set-same : {A : Type 0} (rows : List (Vec Fraction A)) (i : ℕ) (v : Vec Fraction A) → i < length rows → row_of (set rows i v) i ≡ v.items
 row_set-same [] i v h = absurd (omega arith)
@@ -44,104 +44,107 @@ grid_set width rows i v i_in g size narrow = record {
     same_or_other p q = grind arith
 
 -- the rows below i are cleared, the others stand as before
-pub record ClearedTo {A : Type 0} (r c i : ℕ) (old rows : List (Vec Fraction A)) : Type 0 where
+pub record ClearedTo {A : Type 0} (r : ℕ) (g : ℕ → Ratio) (i : ℕ) (old rows : List (Vec Fraction A)) : Type 0 where
   pub size : length rows ≡ length old
   pub grid : IsGrid (length (row_of old r)) rows
   pub kept : row_of rows r ≡ row_of old r
-  pub before : (k : ℕ) → k < i → (k ≡ r → ⊥) → AreRests (row_of old k) (read old k c) (row_of old r) (row_of rows k)
+  pub before : (k : ℕ) → k < i → (k ≡ r → ⊥) → AreRests (row_of old k) (g k) (row_of old r) (row_of rows k)
   pub after : (k : ℕ) → i ≤ k → row_of rows k ≡ row_of old k
 
-pub cleared_none : {A : Type 0} (r c : ℕ) (old : List (Vec Fraction A)) → IsGrid (length (row_of old r)) old → ClearedTo r c 0 old old
-cleared_none r c old g = record { size = refl; grid = g; kept = refl; before = λ k l. absurd (omega arith); after = λ k l. refl }
+pub cleared_none : {A : Type 0} (r : ℕ) (g : ℕ → Ratio) (old : List (Vec Fraction A)) → IsGrid (length (row_of old r)) old → ClearedTo r g 0 old old
+cleared_none r g old grid = record { size = refl; grid = grid; kept = refl; before = λ k l. absurd (omega arith); after = λ k l. refl }
 
-pub cleared_skip : {A : Type 0} (r c i : ℕ) (old rows : List (Vec Fraction A)) → i ≡ r → ClearedTo r c i old rows → ClearedTo r c (i + 1) old rows
-cleared_skip r c i old rows e h = record {
+pub cleared_skip : {A : Type 0} (r : ℕ) (g : ℕ → Ratio) (i : ℕ) (old rows : List (Vec Fraction A)) → i ≡ r → ClearedTo r g i old rows → ClearedTo r g (i + 1) old rows
+cleared_skip r g i old rows e h = record {
   size = h.size;
   grid = h.grid;
   kept = h.kept;
-  before = λ k k_in o. elim (last_or_below i k k_in) [ inl g ↦ absurd (o (g ∙ e)) | inr g ↦ h.before k g o ];
+  before = λ k k_in o. elim (last_or_below i k k_in) [ inl q ↦ absurd (o (q ∙ e)) | inr q ↦ h.before k q o ];
   after = λ k k_in. h.after k (omega arith);
 }
 
-pub cleared_more : {A : Type 0} (r c i : ℕ) (old rows : List (Vec Fraction A)) (v : Vec Fraction A) → (i ≡ r → ⊥) → i < length rows → ClearedTo r c i old rows → length v.items ≡ length (row_of old i) → IsNarrowRow v.items → AreRests (row_of old i) (read old i c) (row_of old r) v.items → ClearedTo r c (i + 1) old (set rows i v)
-cleared_more r c i old rows v o i_in h size narrow rests = record {
+pub cleared_more : {A : Type 0} (r : ℕ) (g : ℕ → Ratio) (i : ℕ) (old rows : List (Vec Fraction A)) (v : Vec Fraction A) → (i ≡ r → ⊥) → i < length rows → ClearedTo r g i old rows → length v.items ≡ length (row_of old i) → IsNarrowRow v.items → AreRests (row_of old i) (g i) (row_of old r) v.items → ClearedTo r g (i + 1) old (set rows i v)
+cleared_more r g i old rows v o i_in h size narrow rests = record {
   size = length-set rows i v ∙ h.size;
   grid = grid_set (length (row_of old r)) rows i v i_in h.grid (size ∙ ap length (sym (h.after i (omega arith))) ∙ h.grid.wide i i_in) narrow;
   kept = row_set-other rows i r v (λ e. o (sym e)) ∙ h.kept;
   before = λ k k_in q. elim (last_or_below i k k_in) [
-    | inl g ↦ subst (λ z. AreRests (row_of old z) (read old z c) (row_of old r) (row_of (set rows i v) z)) (sym g) (subst (λ z. AreRests (row_of old i) (read old i c) (row_of old r) z) (sym (row_set-same rows i v i_in)) rests)
-    | inr g ↦ subst (λ z. AreRests (row_of old k) (read old k c) (row_of old r) z) (sym (row_set-other rows i k v (λ e. absurd (omega arith)))) (h.before k g q)
+    | inl y ↦ subst (λ z. AreRests (row_of old z) (g z) (row_of old r) (row_of (set rows i v) z)) (sym y) (subst (λ z. AreRests (row_of old i) (g i) (row_of old r) z) (sym (row_set-same rows i v i_in)) rests)
+    | inr y ↦ subst (λ z. AreRests (row_of old k) (g k) (row_of old r) z) (sym (row_set-other rows i k v (λ e. absurd (omega arith)))) (h.before k y q)
   ];
   after = λ k k_in. row_set-other rows i k v (λ e. absurd (omega arith)) ∙ h.after k (omega arith);
 }
 
--- a place of the pivot row that is not narrow
-pub wide_quotient : {A : Type 0} (r c : ℕ) (rows : List (Vec Fraction A)) (j : ℕ) → r < length rows → IsWideQuotient (row_of rows r) (read rows r c) j → IsWideNext (length (row_of rows r)) r c rows r j
-wide_quotient r c rows j l h = record {
-  row_within = l;
-  column_within = h.within;
-  fraction = h.fraction;
-  is = inl (refl, h.is);
-  wide = h.wide;
-}
+module _ {A : Type 0} (r : ℕ) (g : ℕ → Ratio) (rows : List (Vec Fraction A)) (l : r < length rows) where
+  -- a place of the pivot row that is not narrow
+  pub wide_quotient : (j : ℕ) → IsWideQuotient (row_of rows r) (g r) j → IsWideNext (length (row_of rows r)) r g rows r j
+  wide_quotient j h = record {
+    row_within = l;
+    column_within = h.within;
+    fraction = h.fraction;
+    is = inl (refl, h.is);
+    wide = h.wide;
+  }
 
--- the grid after the pivot row was divided
-pub divided_grid : {A : Type 0} (r c : ℕ) (rows : List (Vec Fraction A)) (v : Vec Fraction A) → r < length rows → IsGrid (length (row_of rows r)) rows → length v.items ≡ length (row_of rows r) → IsNarrowRow v.items → IsGrid (length v.items) (set rows r v)
-divided_grid r c rows v l g size narrow = subst (λ z. IsGrid z (set rows r v)) (sym size) (grid_set (length (row_of rows r)) rows r v l g size narrow)
+  module _ (v : Vec Fraction A) (grid : IsGrid (length (row_of rows r)) rows) (size : length v.items ≡ length (row_of rows r)) where
+    -- the grid after the pivot row was divided
+    pub divided_grid : IsNarrowRow v.items → IsGrid (length v.items) (set rows r v)
+    divided_grid narrow = subst (λ z. IsGrid z (set rows r v)) (sym size) (grid_set (length (row_of rows r)) rows r v l grid size narrow)
 
--- the pivot row is divided, and then taken out of the others
-pub exchanged : {A : Type 0} (r c : ℕ) (rows new : List (Vec Fraction A)) (v : Vec Fraction A) → r < length rows → c < length (row_of rows r) → length v.items ≡ length (row_of rows r) → AreQuotients (row_of rows r) (read rows r c) v.items → IsGrid (length (row_of rows r)) rows → AreCleared (length v.items) r c (set rows r v) new → IsNext (length (row_of rows r)) r c rows new
-exchanged r c rows new v l c_in size quotients grid h =
-    let n = length-set rows r v in record {
-      size = h.size ∙ n;
-      grid = subst (λ z. IsGrid z new) size h.grid;
-      exchanged = λ i j i_in j_in. at i j i_in j_in (same_or_other i r);
-    }
-  where
-    same_or_other : (p q : ℕ) → (p ≡ q) ⊎ (p ≡ q → ⊥)
-    same_or_other p q = grind arith
+    module _ (quotients : AreQuotients (row_of rows r) (g r) v.items) where
+      -- the pivot row is divided, and then taken out of the others
+      pub exchanged : (new : List (Vec Fraction A)) → AreCleared (length v.items) r g (set rows r v) new → IsNext (length (row_of rows r)) r g rows new
+      exchanged new h =
+          let n = length-set rows r v in record {
+            size = h.size ∙ n;
+            grid = subst (λ z. IsGrid z new) size h.grid;
+            exchanged = λ i j i_in j_in. at i j i_in j_in (same_or_other i r);
+          }
+        where
+          same_or_other : (p q : ℕ) → (p ≡ q) ⊎ (p ≡ q → ⊥)
+          same_or_other p q = grind arith
 
-    kept : row_of new r ≡ v.items
-    kept = h.kept ∙ row_set-same rows r v l
+          kept : row_of new r ≡ v.items
+          kept = h.kept ∙ row_set-same rows r v l
 
-    at : (i j : ℕ) → i < length rows → j < length (row_of rows r) → (i ≡ r) ⊎ (i ≡ r → ⊥) → IsExchanged r c (read rows) i j (read new i j)
-    at i j i_in j_in (inl e) = inl (e, subst (λ z. IsQuotient (ratio_at (row_of new z) j) (read rows r j) (read rows r c)) (sym e) (subst (λ z. IsQuotient (ratio_at z j) (read rows r j) (read rows r c)) (sym kept) (quotients j j_in)))
-    at i j i_in j_in (inr o) = inr (
-      o,
-      (
-        ratio_at v.items j,
-        quotients j j_in,
-        (
-            let other = row_set-other rows r i v o in
-            let pivots = row_set-same rows r v l in
-            let rests = h.cleared i (let n = length-set rows r v in omega (arith, n, i_in)) o j (let w = grid.wide i i_in in let e = ap length other in omega (arith, w, e, j_in)) in
-            subst (λ z. IsRest (read new i j) (ratio_at z j) (ratio_at z c) (ratio_at v.items j)) other
-            (subst (λ z. IsRest (read new i j) (ratio_at (row_of (set rows r v) i) j) (ratio_at (row_of (set rows r v) i) c) (ratio_at z j)) pivots rests)),
-      ),
-    )
+          at : (i j : ℕ) → i < length rows → j < length (row_of rows r) → (i ≡ r) ⊎ (i ≡ r → ⊥) → IsMoved r (λ k. read rows k j) g i (read new i j)
+          at i j i_in j_in (inl e) = inl (e, subst (λ z. IsQuotient (ratio_at (row_of new z) j) (read rows r j) (g r)) (sym e) (subst (λ z. IsQuotient (ratio_at z j) (read rows r j) (g r)) (sym kept) (quotients j j_in)))
+          at i j i_in j_in (inr o) = inr (
+            o,
+            (
+              ratio_at v.items j,
+              quotients j j_in,
+              (
+                  let other = row_set-other rows r i v o in
+                  let pivots = row_set-same rows r v l in
+                  let rests = h.cleared i (let n = length-set rows r v in omega (arith, n, i_in)) o j (let w = grid.wide i i_in in let e = ap length other in omega (arith, w, e, j_in)) in
+                  subst (λ z. IsRest (read new i j) (ratio_at z j) (g i) (ratio_at v.items j)) other
+                  (subst (λ z. IsRest (read new i j) (ratio_at (row_of (set rows r v) i) j) (g i) (ratio_at z j)) pivots rests)),
+            ),
+          )
 
--- a place of another row that is not narrow
-pub wide_clearing : {A : Type 0} (r c : ℕ) (rows : List (Vec Fraction A)) (v : Vec Fraction A) (stop : Stop) → r < length rows → length v.items ≡ length (row_of rows r) → AreQuotients (row_of rows r) (read rows r c) v.items → IsGrid (length (row_of rows r)) rows → IsClearingStop r c (set rows r v) stop → IsExchangeStop (length (row_of rows r)) r c rows stop
-wide_clearing r c rows v Scale l size quotients grid h = h
-wide_clearing r c rows v Memory l size quotients grid h = tt
-wide_clearing r c rows v (Wide i j) l size quotients grid h =
-    let i_in : i < length rows = (let n = length-set rows r v in let k = h.0 in omega (arith, n, k)) in
-    let other = row_set-other rows r i v h.1 in
-    let pivots = row_set-same rows r v l in
-    let w = h.2 in
-    let j_in : j < length (row_of rows r) = (let a = grid.wide i i_in in let e = ap length other in let b = w.within in omega (arith, a, e, b)) in
-    record {
-      row_within = i_in;
-      column_within = j_in;
-      fraction = w.fraction;
-      is = inr (
-        h.1,
-        (
-          ratio_at v.items j,
-          quotients j j_in,
-          subst (λ z. IsRest (ratio w.fraction) (ratio_at z j) (ratio_at z c) (ratio_at v.items j)) other
-              (subst (λ z. IsRest (ratio w.fraction) (ratio_at (row_of (set rows r v) i) j) (ratio_at (row_of (set rows r v) i) c) (ratio_at z j)) pivots w.is),
-        ),
-      );
-      wide = w.wide;
-    }
+      -- a place of another row that is not narrow
+      pub wide_clearing : (stop : Stop) → IsClearingStop r g (set rows r v) stop → IsExchangeStop (length (row_of rows r)) r g rows stop
+      wide_clearing Scale h = h
+      wide_clearing Memory h = tt
+      wide_clearing (Wide i j) h =
+          let i_in : i < length rows = (let n = length-set rows r v in let k = h.0 in omega (arith, n, k)) in
+          let other = row_set-other rows r i v h.1 in
+          let pivots = row_set-same rows r v l in
+          let w = h.2 in
+          let j_in : j < length (row_of rows r) = (let a = grid.wide i i_in in let e = ap length other in let b = w.within in omega (arith, a, e, b)) in
+          record {
+            row_within = i_in;
+            column_within = j_in;
+            fraction = w.fraction;
+            is = inr (
+              h.1,
+              (
+                ratio_at v.items j,
+                quotients j j_in,
+                subst (λ z. IsRest (ratio w.fraction) (ratio_at z j) (g i) (ratio_at v.items j)) other
+                    (subst (λ z. IsRest (ratio w.fraction) (ratio_at (row_of (set rows r v) i) j) (g i) (ratio_at z j)) pivots w.is),
+              ),
+            );
+            wide = w.wide;
+          }

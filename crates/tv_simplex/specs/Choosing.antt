@@ -1,25 +1,23 @@
-use Rattle.std.specs.Prelude.{◌≡◌, ℕ, ◌+◌, ◌<◌, ◌≤◌, List, Vec, ℤ, pos, ◌-ℤ◌, ◌*ℤ◌, ◌<ℤ◌, ◌≤ℤ◌}
+use Rattle.std.specs.Prelude.{◌≡◌, ℕ, ◌+◌, ◌<◌, ◌≤◌, List, ℤ, pos, ◌-ℤ◌, ◌*ℤ◌, ◌<ℤ◌, ◌≤ℤ◌}
 use Rattle.std.specs.declared.cmp.Ordering.{Ordering}
 use Rattle.std.specs.declared.cmp.Ordering.TheVariants.{Less, Equal, Greater}
-use Rattle.tv_fraction.specs.declared.Fraction.{Fraction}
 use Rattle.tv_tableau.specs.Chains.{LeadsAbove, order, column}
 use Rattle.tv_tableau.specs.Orders.{LeastOf}
-use Rattle.tv_tableau.specs.Ratios.{IsRatio, Shows}
-use Rattle.tv_simplex.specs.Rows.{ratio_at, read}
+use Rattle.tv_tableau.specs.Ratios.{Ratio, IsRatio, Shows}
 
 -- no entry of the row in the first n columns is negative
-abbrev pub NoneNegative : List Fraction → ℕ → Type 0
-NoneNegative row n = (j : ℕ) → j < n → pos 0 ≤ℤ (ratio_at row j).numerator
+abbrev pub NoneNegative : (ℕ → Ratio) → ℕ → Type 0
+NoneNegative row n = (j : ℕ) → j < n → pos 0 ≤ℤ (row j).numerator
 
 -- c is the first of the first n columns with a negative entry in the row
-pub record IsFirstNegative (row : List Fraction) (n c : ℕ) : Type 0 where
+pub record IsFirstNegative (row : ℕ → Ratio) (n c : ℕ) : Type 0 where
   pub within : c < n
-  pub negative : (ratio_at row c).numerator <ℤ pos 0
+  pub negative : (row c).numerator <ℤ pos 0
   pub first : NoneNegative row c
 
 -- the numbers v over the scale are the fractions of the row, of which there are n + m + 1
-abbrev pub IsPicture : ℕ → List Fraction → (ℕ → ℤ) → ℤ → Type 0
-IsPicture last row v scale = (j : ℕ) → j ≤ last → IsRatio (ratio_at row j) (v j) scale
+abbrev pub IsPicture : ℕ → (ℕ → Ratio) → (ℕ → ℤ) → ℤ → Type 0
+IsPicture last row v scale = (j : ℕ) → j ≤ last → IsRatio (row j) (v j) scale
 
 -- the sign of a number as an order: a difference above 0 says that the first is less
 abbrev pub IsSignOf : Ordering → ℤ → Type 0
@@ -32,7 +30,7 @@ abbrev pub difference_at : ℕ → (ℕ → ℤ) → (ℕ → ℤ) → ℕ → �
 difference_at c u v o = u c *ℤ v o -ℤ v c *ℤ u o
 
 -- the order of the quotients of two rows at a column, in every picture of the rows over one scale
-abbrev pub ComparesAt : ℕ → ℕ → ℕ → List Fraction → List Fraction → Ordering → Type 0
+abbrev pub ComparesAt : ℕ → ℕ → ℕ → (ℕ → Ratio) → (ℕ → Ratio) → Ordering → Type 0
 ComparesAt last c o first second order =
     (u v : ℕ → ℤ) (scale : ℤ) → pos 0 <ℤ scale → IsPicture last first u scale → IsPicture last second v scale →
     IsSignOf order (difference_at c u v o)
@@ -44,18 +42,18 @@ IsLexicographic m d Equal = (q : ℕ) → q ≤ m → d q ≡ pos 0
 IsLexicographic m d Greater = LeadsAbove m (λ q. pos 0 -ℤ d q)
 
 -- the lexicographic order of the quotients of two rows: the right side first, then the artificial columns
-abbrev pub Compares : ℕ → ℕ → ℕ → List Fraction → List Fraction → Ordering → Type 0
+abbrev pub Compares : ℕ → ℕ → ℕ → (ℕ → Ratio) → (ℕ → Ratio) → Ordering → Type 0
 Compares m n c first second result =
     (u v : ℕ → ℤ) (scale : ℤ) → pos 0 <ℤ scale → IsPicture (n + m) first u scale → IsPicture (n + m) second v scale →
     IsLexicographic m (λ q. difference_at c u v (order m n q)) result
 
 -- none of the first k rows has an entry above 0 in the column
-abbrev pub NoneAbove : {A : Type 0} → List (Vec Fraction A) → ℕ → ℕ → Type 0
-NoneAbove rows c k = (i : ℕ) → i < k → (read rows i c).numerator ≤ℤ pos 0
+abbrev pub NoneAbove : (ℕ → ℕ → Ratio) → ℕ → ℕ → Type 0
+NoneAbove read c k = (i : ℕ) → i < k → (read i c).numerator ≤ℤ pos 0
 
--- in every tableau that the rows show, r is the least of the first k rows
-pub record IsLeast {A : Type 0} (m n : ℕ) (rows : List (Vec Fraction A)) (c k r : ℕ) : Type 0 where
+-- in every tableau that is read, r is the least of the first k rows
+pub record IsLeast (m n : ℕ) (read : ℕ → ℕ → Ratio) (c k r : ℕ) : Type 0 where
   pub within : r < k
-  pub above : pos 0 <ℤ (read rows r c).numerator
-  pub least : (a : ℕ → ℕ → ℤ) (b : List ℕ) (bs : List (List ℕ)) (x : Shows a m n b bs (read rows)) →
+  pub above : pos 0 <ℤ (read r c).numerator
+  pub least : (a : ℕ → ℕ → ℤ) (b : List ℕ) (bs : List (List ℕ)) (x : Shows a m n b bs read) →
       LeastOf a m n (column b) x.table c k r

@@ -1,5 +1,7 @@
 pub mod Views
 pub mod Rows
+pub mod Tables
+pub mod Exchanges
 pub mod Stops
 pub mod Choosing
 pub mod Scales

@@ -1,12 +1,15 @@
-use Rattle.std.specs.Prelude.{◌≡◌, ℕ, ◌+◌, ◌<◌, ◌≤◌, List, length, Vec, ℤ, pos, ◌-ℤ◌}
+use Rattle.std.specs.Prelude.{◌≡◌, ℕ, ◌+◌, ◌-◌, ◌<◌, ◌≤◌, List, length, Vec, ℤ, pos, ◌-ℤ◌, cond, nat_lt}
 use Rattle.tv_fraction.specs.declared.Fraction.{Fraction}
 use Rattle.tv_tableau.specs.Sums.{total}
 use Rattle.tv_tableau.specs.Systems.{Equations, matrix}
-use Rattle.tv_tableau.specs.Chains.{cost}
+use Rattle.tv_tableau.specs.Chains.{column, cost}
 use Rattle.tv_tableau.specs.Ratios.{IsRatio}
 use Rattle.tv_tableau.specs.Outcomes.{IsNarrow, IsGivenColumn, given}
 use Rattle.tv_simplex.specs.declared.stop.Stop.{Stop}
 use Rattle.tv_simplex.specs.declared.stop.Stop.TheVariants.{Wide, Scale, Memory}
+use Rattle.tv_simplex.specs.declared.table.Place.{Place}
+use Rattle.tv_simplex.specs.declared.table.Place.TheVariants.{Slot, Row}
+use Rattle.tv_simplex.specs.Tables.{place_of}
 use Rattle.tv_simplex.specs.Rows.{ratio, ratio_at, row_of, IsNarrowRatio, IsNarrowRow}
 
 -- every number of the row is narrow
@@ -27,11 +30,27 @@ last s = s.columns + s.rows
 abbrev pub first_objective : Equations → ℕ → ℤ
 first_objective s j = cost s.rows s.columns j -ℤ total s.rows (λ k. matrix s k j)
 
--- the row holds these numbers, and is narrow
+-- the columns outside of the artificial basis: those of the system, and the right side
+abbrev pub first_slot : Equations → ℕ → ℕ
+first_slot s k = cond (nat_lt k s.columns) k (last s)
+
+pub record AreFirstSlots (s : Equations) (slots : List ℕ) : Type 0 where
+  pub size : length slots ≡ s.columns + 1
+  pub each : (k : ℕ) → k < s.columns + 1 → column slots k ≡ first_slot s k
+
+-- where each column of the tableau of the artificial basis stands
+abbrev pub first_place : Equations → ℕ → Place
+first_place s j = cond (nat_lt j s.columns) (Slot j) (cond (nat_lt j (last s)) (Row (j - s.columns)) (Slot s.columns))
+
+pub record AreFirstPlaces (s : Equations) (places : List Place) : Type 0 where
+  pub size : length places ≡ last s + 1
+  pub each : (j : ℕ) → j < last s + 1 → place_of places j ≡ first_place s j
+
+-- the row holds these numbers of the columns outside of the artificial basis, and is narrow
 pub record IsRowOf (s : Equations) (numbers : ℕ → ℤ) (row : List Fraction) : Type 0 where
-  pub size : length row ≡ last s + 1
+  pub size : length row ≡ s.columns + 1
   pub narrow : IsNarrowRow row
-  pub same : (j : ℕ) → j ≤ last s → IsRatio (ratio_at row j) (numbers j) (pos 1)
+  pub same : (k : ℕ) → k < s.columns + 1 → IsRatio (ratio_at row k) (numbers (first_slot s k)) (pos 1)
 
 -- the rows hold the system and the objective of the artificial basis
 pub record IsFirstTable {A : Type 0} (s : Equations) (rows : List (Vec Fraction A)) : Type 0 where

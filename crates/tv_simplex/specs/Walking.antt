@@ -1,4 +1,4 @@
-use Rattle.std.specs.Prelude.{◌≡◌, ℕ, ◌+◌, ◌<◌, ◌≤◌, List, length, get_or, Vec, ℤ, pos, ◌-ℤ◌, ◌*ℤ◌, ◌<ℤ◌}
+use Rattle.std.specs.Prelude.{◌≡◌, ℕ, ◌+◌, ◌<◌, ◌≤◌, List, length, get_or, ℤ, pos, ◌-ℤ◌, ◌*ℤ◌, ◌<ℤ◌}
 use Rattle.tv_fraction.specs.declared.Fraction.{Fraction}
 use Rattle.tv_tableau.specs.Sums.{total, delta}
 use Rattle.tv_tableau.specs.Systems.{Equations, matrix, sign}
@@ -12,14 +12,15 @@ use Rattle.tv_simplex.specs.declared.table.Table.{Table}
 use Rattle.tv_simplex.specs.declared.table.Settled.{Settled}
 use Rattle.tv_simplex.specs.declared.table.Settled.TheVariants.{Done, Enters}
 use Rattle.tv_simplex.specs.Views.{IsAnswer, GivesAnswer}
-use Rattle.tv_simplex.specs.Rows.{ratio_at, row_of, read, IsGrid}
+use Rattle.tv_simplex.specs.Rows.{ratio_at}
+use Rattle.tv_simplex.specs.Tables.{shown, IsTable, HasSize}
 use Rattle.tv_simplex.specs.Choosing.{IsFirstNegative}
 use Rattle.tv_simplex.specs.Scales.{AreBounded}
 
 -- the fractions are those of the first rows in a column
-pub record AreOfColumn {A : Type 0} (height column : ℕ) (rows : List (Vec Fraction A)) (fractions : List Fraction) : Type 0 where
+pub record AreOfColumn (height column : ℕ) (read : ℕ → ℕ → Ratio) (fractions : List Fraction) : Type 0 where
   pub size : length fractions ≡ height
-  pub same : (i : ℕ) → i < height → ratio_at fractions i ≡ read rows i column
+  pub same : (i : ℕ) → i < height → ratio_at fractions i ≡ read i column
   pub bounded : AreBounded fractions
 
 -- f is g less 1
@@ -28,9 +29,9 @@ pub record IsLessOne (f g : Ratio) : Type 0 where
   pub same : f.numerator *ℤ g.denominator ≡ (g.numerator -ℤ g.denominator) *ℤ f.denominator
 
 -- the fractions are those of the objective row in the artificial columns, less 1
-pub record AreOfObjective (rows columns : ℕ) (objective fractions : List Fraction) : Type 0 where
+pub record AreOfObjective (rows columns : ℕ) (objective : ℕ → Ratio) (fractions : List Fraction) : Type 0 where
   pub size : length fractions ≡ rows
-  pub same : (k : ℕ) → k < rows → IsLessOne (ratio_at fractions k) (ratio_at objective (columns + k))
+  pub same : (k : ℕ) → k < rows → IsLessOne (ratio_at fractions k) (objective (columns + k))
   pub bounded : AreBounded fractions
 
 -- no column stands twice in the first n places of the basis
@@ -52,31 +53,30 @@ pub record AreSigned (s : Equations) (n : ℕ) (numbers y : List ℤ) : Type 0 w
 
 -- the table is the tableau of the last of n + 1 bases of the chain of the system
 pub record StandsAt (s : Equations) (n : ℕ) (t : Table) : Type 0 where
-  pub height : length t.rows.items ≡ s.rows + 1
-  pub grid : IsGrid (s.columns + s.rows + 1) t.rows.items
-  pub size : length t.basis.items ≡ s.rows
+  pub table : IsTable t
+  pub size : HasSize s.rows s.columns t
   pub earlier : List (List ℕ)
   pub many : length earlier ≡ n
-  pub shows : Shows (matrix s) s.rows s.columns t.basis.items earlier (read t.rows.items)
+  pub shows : Shows (matrix s) s.rows s.columns t.basis.items earlier (shown t)
 
 abbrev pub Stands : Equations → Table → Type 0
 Stands s t = (n : ℕ) × StandsAt s n t
 
 -- each artificial column of the basis has the value 0
 abbrev pub IsSolved : Equations → Table → Type 0
-IsSolved s t = (i : ℕ) → i < s.rows → s.columns ≤ column t.basis.items i → (read t.rows.items i (s.columns + s.rows)).numerator ≡ pos 0
+IsSolved s t = (i : ℕ) → i < s.rows → s.columns ≤ column t.basis.items i → (shown t i (s.columns + s.rows)).numerator ≡ pos 0
 
 -- the artificial column of this row has another value than 0
 pub record IsUnsolvedAt (s : Equations) (t : Table) (i : ℕ) : Type 0 where
   pub within : i < s.rows
   pub artificial : s.columns ≤ column t.basis.items i
-  pub valued : (read t.rows.items i (s.columns + s.rows)).numerator ≡ pos 0 → ⊥
+  pub valued : (shown t i (s.columns + s.rows)).numerator ≡ pos 0 → ⊥
 
 -- the basis does not settle the system, and this column enters
 pub record IsEntering (s : Equations) (t : Table) (c : ℕ) : Type 0 where
   pub place : ℕ
   pub unsolved : IsUnsolvedAt s t place
-  pub first : IsFirstNegative (row_of t.rows.items s.rows) s.columns c
+  pub first : IsFirstNegative (shown t s.rows) s.columns c
 
 -- the answer is right, and is that of the last basis of the chain
 pub record IsRight (s : Equations) (a : Answer) : Type 0 where

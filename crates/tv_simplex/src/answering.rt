@@ -4,7 +4,8 @@ ghost use Rattle.std.specs.Prelude.{◌≡◌, ◌+◌, ◌^◌, ◌<◌, ◌≤
 ghost use Rattle.tv_tableau.specs.Systems.{IsWhole};
 ghost use Rattle.tv_tableau.specs.Outcomes.{IsShort};
 ghost use Rattle.tv_simplex.specs.Views.{equations};
-ghost use Rattle.tv_simplex.specs.Rows.{ratio, row_of, IsGrid, IsNarrowRow};
+ghost use Rattle.tv_simplex.specs.Rows.{ratio};
+ghost use Rattle.tv_simplex.specs.Tables.{shown, IsTable};
 ghost use Rattle.tv_simplex.specs.Choosing.{NoneNegative};
 ghost use Rattle.tv_simplex.specs.Walking.{AreOfColumn, IsLessOne, AreOfObjective, AreDistinct, AreValues, AreSigned, Stands, IsSolved, IsUnsolvedAt, IsRight, IsSettledBy, IsAnswerStop};
 ghost use Rattle.tv_fraction.specs.Fraction.{IsNarrow, numerator_of};
@@ -12,10 +13,10 @@ ghost use Rattle.tv_fraction.specs.Fraction.{IsNarrow, numerator_of};
 use crate::entering::entering_column;
 use crate::numbers::{right_at, signed};
 use crate::push::push_item;
-use crate::rows::{entry_at, fraction_at, is_zero, row_at};
+use crate::rows::is_zero;
 use crate::scaling::bring_to_scale;
 use crate::stop::Stop;
-use crate::table::{Settled, Table};
+use crate::table::{Settled, Table, entry_at};
 use crate::{Answer, System};
 use std::alloc::{AllocError, Global};
 use tv_fraction::Fraction;
@@ -23,17 +24,18 @@ use tv_fraction::Fraction;
 /// The fractions of so many rows in a column.
 fn column_of(
     alloc: Global,
-    rows: &[Vec<Fraction>],
+    table: &Table,
     height: usize,
     column: usize,
 ) -> Result<Vec<Fraction>, AllocError>
-    requires height { height ≤ length rows.now }
-    requires grid { IsGrid (column + 1) rows.now }
-    ensures { IfOk result (λ v. AreOfColumn height column rows.now v.items) }
+    requires table { IsTable table.now }
+    requires height { height ≤ length table.now.rows.items }
+    requires column { column < length table.now.places.items }
+    ensures { IfOk result (λ v. AreOfColumn height column (shown table.now) v.items) }
 {
-    let mut fractions = Vec::new(alloc);
+    let mut fractions = Vec::with_capacity(alloc, height)?;
     'rows: for row in 0..height {
-        push_item(&mut fractions, entry_at(rows, row, column))?;
+        push_item(&mut fractions, entry_at(table, row, column))?;
     }
     Ok(fractions)
 }
@@ -53,20 +55,21 @@ fn less_one(fraction: &Fraction) -> Fraction
 /// The objective row in the artificial columns, less 1.
 fn objective_of(
     alloc: Global,
-    objective: &[Fraction],
+    table: &Table,
     rows: usize,
     columns: usize,
 ) -> Result<Vec<Fraction>, AllocError>
     requires few { (rows < 2 ^ 32) × (columns < 2 ^ 32) }
-    requires wide { columns + rows < length objective.now }
-    requires narrow { IsNarrowRow objective.now }
-    ensures { IfOk result (λ v. AreOfObjective rows columns objective.now v.items) }
+    requires table { IsTable table.now }
+    requires height { rows < length table.now.rows.items }
+    requires wide { columns + rows < length table.now.places.items }
+    ensures { IfOk result (λ v. AreOfObjective rows columns (shown table.now rows) v.items) }
 {
-    let mut fractions = Vec::new(alloc);
+    let mut fractions = Vec::with_capacity(alloc, rows)?;
     'rows: for row in 0..rows {
         push_item(
             &mut fractions,
-            less_one(&fraction_at(objective, columns + row)),
+            less_one(&entry_at(table, rows, columns + row)),
         )?;
     }
     Ok(fractions)
@@ -101,7 +104,7 @@ fn signed_numbers(alloc: Global, system: &System, numbers: &[i128]) -> Result<Ve
     requires short { (i : ℕ) → i < length numbers.now → IsShort (get_or numbers.now i (pos 0)) }
     ensures { IfOk result (λ y. AreSigned (equations system.now) system.now.rows numbers.now y.items) }
 {
-    let mut y = Vec::new(alloc);
+    let mut y = Vec::with_capacity(alloc, numbers.len())?;
     'rows: for row in 0..numbers.len() {
         push_item(&mut y, signed(right_at(system, row), numbers[row]))?;
     }
@@ -119,7 +122,7 @@ fn solution(alloc: Global, system: &System, table: &Table) -> Result<Answer, Sto
 {
     let columns = system.columns as usize;
     let rows = system.rows as usize;
-    let right = column_of(alloc, &table.rows, rows, columns + rows)?;
+    let right = column_of(alloc, table, rows, columns + rows)?;
     match bring_to_scale(alloc, &right) {
         Err(stop) => Err(stop),
         Ok(scaled) => {
@@ -137,14 +140,14 @@ fn barrier(alloc: Global, system: &System, table: &Table) -> Result<Answer, Stop
     requires whole { IsWhole (equations system.now) }
     requires stands { Stands (equations system.now) table.now }
     requires unsolved { (i : ℕ) × IsUnsolvedAt (equations system.now) table.now i }
-    requires none { NoneNegative (row_of table.now.rows.items system.now.rows) system.now.columns }
+    requires none { NoneNegative (shown table.now system.now.rows) system.now.columns }
     ensures { MatchResult result
         (λ a. IsRight (equations system.now) a)
         (λ stop. IsAnswerStop (equations system.now) table.now.basis.items stop) }
 {
     let columns = system.columns as usize;
     let rows = system.rows as usize;
-    let fractions = objective_of(alloc, row_at(&table.rows, rows), rows, columns)?;
+    let fractions = objective_of(alloc, table, rows, columns)?;
     match bring_to_scale(alloc, &fractions) {
         Err(stop) => Err(stop),
         Ok(scaled) => {
@@ -165,9 +168,7 @@ fn unsolved_row(system: &System, table: &Table) -> Option<usize>
     let columns = system.columns as usize;
     let rows = system.rows as usize;
     'rows: for i in 0..rows {
-        if table.basis[i] as usize >= columns
-            && !is_zero(&entry_at(&table.rows, i, columns + rows))
-        {
+        if table.basis[i] as usize >= columns && !is_zero(&entry_at(table, i, columns + rows)) {
             return Some(i);
         }
     }
@@ -187,15 +188,12 @@ pub fn settle(alloc: Global, system: &System, table: &Table) -> Result<Settled, 
             Err(stop) => Err(stop),
             Ok(answer) => Ok(Settled::Done(answer)),
         },
-        Some(_) => {
-            let objective = row_at(&table.rows, system.rows as usize);
-            match entering_column(objective, system.columns as usize) {
-                Some(column) => Ok(Settled::Enters(column)),
-                None => match barrier(alloc, system, table) {
-                    Err(stop) => Err(stop),
-                    Ok(answer) => Ok(Settled::Done(answer)),
-                },
-            }
-        }
+        Some(_) => match entering_column(table, system.rows as usize, system.columns as usize) {
+            Some(column) => Ok(Settled::Enters(column)),
+            None => match barrier(alloc, system, table) {
+                Err(stop) => Err(stop),
+                Ok(answer) => Ok(Settled::Done(answer)),
+            },
+        },
     }
 }

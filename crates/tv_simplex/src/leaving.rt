@@ -3,10 +3,11 @@
 ghost use Rattle.std.specs.Prelude.{◌≡◌, ℕ, ◌+◌, ◌<◌, ◌≤◌, ◌^◌, length, IsTrue, ◌↔◌, pos, ◌<ℤ◌, ◌≤ℤ◌, MatchOption};
 ghost use Rattle.tv_fraction.specs.Fraction.{numerator_of};
 ghost use Rattle.tv_tableau.specs.Chains.{order};
-ghost use Rattle.tv_simplex.specs.Rows.{row_of, read, ratio_at, IsNarrowRow, IsGrid};
+ghost use Rattle.tv_simplex.specs.Tables.{shown, IsTable};
 ghost use Rattle.tv_simplex.specs.Choosing.{ComparesAt, Compares, NoneAbove, IsLeast};
 
-use crate::rows::{entry_at, fraction_at, quotient, row_at};
+use crate::rows::quotient;
+use crate::table::{Table, entry_at};
 use std::cmp::Ordering;
 use tv_fraction::{Fraction, cmp};
 
@@ -17,15 +18,21 @@ pub fn is_positive(fraction: &Fraction) -> bool
 }
 
 /// Compares the quotients of two rows by their entries in the column, at one place.
-fn compare_at(first: &[Fraction], second: &[Fraction], column: usize, place: usize) -> Ordering
-    requires column { (column < length first.now) × (column < length second.now) }
-    requires place { (place < length first.now) × (place < length second.now) }
-    requires narrow { IsNarrowRow first.now × IsNarrowRow second.now }
-    requires above { (pos 0 <ℤ (ratio_at first.now column).numerator) × (pos 0 <ℤ (ratio_at second.now column).numerator) }
-    ensures { (last : ℕ) → column ≤ last → place ≤ last → ComparesAt last column place first.now second.now result }
+fn compare_at(table: &Table, first: usize, second: usize, column: usize, place: usize) -> Ordering
+    requires table { IsTable table.now }
+    requires rows { (first < length table.now.rows.items) × (second < length table.now.rows.items) }
+    requires columns { (column < length table.now.places.items) × (place < length table.now.places.items) }
+    requires above { (pos 0 <ℤ (shown table.now first column).numerator) × (pos 0 <ℤ (shown table.now second column).numerator) }
+    ensures { (last : ℕ) → column ≤ last → place ≤ last → ComparesAt last column place (shown table.now first) (shown table.now second) result }
 {
-    let left = quotient(&fraction_at(first, place), &fraction_at(first, column));
-    let right = quotient(&fraction_at(second, place), &fraction_at(second, column));
+    let left = quotient(
+        &entry_at(table, first, place),
+        &entry_at(table, first, column),
+    );
+    let right = quotient(
+        &entry_at(table, second, place),
+        &entry_at(table, second, column),
+    );
     cmp(&left, &right)
 }
 
@@ -46,22 +53,24 @@ fn column_at(rows: usize, columns: usize, place: usize) -> usize
 /// Compares the quotients of two rows by their entries in the column: the right side first, then the
 /// artificial columns.
 fn compare_rows(
-    first: &[Fraction],
-    second: &[Fraction],
+    table: &Table,
+    first: usize,
+    second: usize,
     column: usize,
     rows: usize,
     columns: usize,
 ) -> Ordering
     requires few { rows + columns < 2 ^ 32 }
-    requires wide { (length first.now ≡ columns + rows + 1) × (length second.now ≡ columns + rows + 1) }
+    requires table { IsTable table.now }
+    requires wide { length table.now.places.items ≡ columns + rows + 1 }
+    requires rows { (first < length table.now.rows.items) × (second < length table.now.rows.items) }
     requires column { column < columns }
-    requires narrow { IsNarrowRow first.now × IsNarrowRow second.now }
-    requires above { (pos 0 <ℤ (ratio_at first.now column).numerator) × (pos 0 <ℤ (ratio_at second.now column).numerator) }
-    ensures { Compares rows columns column first.now second.now result }
+    requires above { (pos 0 <ℤ (shown table.now first column).numerator) × (pos 0 <ℤ (shown table.now second column).numerator) }
+    ensures { Compares rows columns column (shown table.now first) (shown table.now second) result }
 {
     'places: for place in 0..rows + 1 {
         let at = column_at(rows, columns, place);
-        match compare_at(first, second, column, at) {
+        match compare_at(table, first, second, column, at) {
             Ordering::Equal => {}
             Ordering::Less => return Ordering::Less,
             Ordering::Greater => return Ordering::Greater,
@@ -72,7 +81,7 @@ fn compare_rows(
 
 /// The row of the least quotients so far, after one more row.
 fn better_row(
-    rows: &[Vec<Fraction>],
+    table: &Table,
     column: usize,
     height: usize,
     columns: usize,
@@ -80,27 +89,22 @@ fn better_row(
     row: usize,
 ) -> Option<usize>
     requires few { height + columns < 2 ^ 32 }
+    requires table { IsTable table.now }
+    requires wide { length table.now.places.items ≡ columns + height + 1 }
     requires column { column < columns }
-    requires row { (row < height) × (height ≤ length rows.now) }
-    requires grid { IsGrid (columns + height + 1) rows.now }
-    requires best { MatchOption best (NoneAbove rows.now column row) (λ r. IsLeast height columns rows.now column row r) }
+    requires row { (row < height) × (height ≤ length table.now.rows.items) }
+    requires best { MatchOption best (NoneAbove (shown table.now) column row) (λ r. IsLeast height columns (shown table.now) column row r) }
     ensures { MatchOption result
-        (NoneAbove rows.now column (row + 1))
-        (λ r. IsLeast height columns rows.now column (row + 1) r) }
+        (NoneAbove (shown table.now) column (row + 1))
+        (λ r. IsLeast height columns (shown table.now) column (row + 1) r) }
 {
-    if !is_positive(&entry_at(rows, row, column)) {
+    if !is_positive(&entry_at(table, row, column)) {
         return best;
     }
     match best {
         None => Some(row),
         Some(least) => {
-            match compare_rows(
-                row_at(rows, least),
-                row_at(rows, row),
-                column,
-                height,
-                columns,
-            ) {
+            match compare_rows(table, least, row, column, height, columns) {
                 Ordering::Greater => Some(row),
                 _ => Some(least),
             }
@@ -109,23 +113,19 @@ fn better_row(
 }
 
 /// The row that leaves where the column enters: that of the least quotients among those with an entry above 0.
-pub fn leaving_row(
-    rows: &[Vec<Fraction>],
-    column: usize,
-    height: usize,
-    columns: usize,
-) -> Option<usize>
+pub fn leaving_row(table: &Table, column: usize, height: usize, columns: usize) -> Option<usize>
     requires few { height + columns < 2 ^ 32 }
+    requires table { IsTable table.now }
+    requires wide { length table.now.places.items ≡ columns + height + 1 }
     requires column { column < columns }
-    requires height { height ≤ length rows.now }
-    requires grid { IsGrid (columns + height + 1) rows.now }
+    requires height { height ≤ length table.now.rows.items }
     ensures { MatchOption result
-        (NoneAbove rows.now column height)
-        (λ r. IsLeast height columns rows.now column height r) }
+        (NoneAbove (shown table.now) column height)
+        (λ r. IsLeast height columns (shown table.now) column height r) }
 {
     let mut best = None;
     'rows: for row in 0..height {
-        best = better_row(rows, column, height, columns, best, row);
+        best = better_row(table, column, height, columns, best, row);
     }
     best
 }

@@ -1,9 +1,9 @@
 // Rows of fractions, and what an exchange does to them.
 
-ghost use Rattle.std.specs.Prelude.{◌≡◌, ℕ, ◌<◌, length, pos, ◌<ℤ◌, IsTrue, ◌↔◌, MatchOption, Option, None};
+ghost use Rattle.std.specs.Prelude.{◌≡◌, ℕ, ◌<◌, length, pos, ◌<ℤ◌, IsTrue, ◌↔◌, MatchOption, Option, None, slice_set};
 ghost use Rattle.tv_fraction.specs.Fraction.{numerator_of, IsNarrow};
 ghost use Rattle.tv_tableau.specs.Ratios.{IsQuotient, IsRest};
-ghost use Rattle.tv_simplex.specs.Rows.{ratio, ratio_at, row_of, read, IsNarrowRatio, IsNarrowRow, AreQuotients, AreRests, IsWideQuotient, IsWideRest};
+ghost use Rattle.tv_simplex.specs.Rows.{ratio, ratio_at, row_of, IsNarrowRatio, IsNarrowRow, AreQuotients, AreRests, IsWideQuotient, IsWideRest};
 
 use tv_fraction::{Fraction, div, mul_sub};
 
@@ -14,16 +14,6 @@ pub fn row_at(rows: &[Vec<Fraction>], row: usize) -> &[Fraction]
     &rows[row]
 }
 
-/// The fraction in a row and a column.
-pub fn entry_at(rows: &[Vec<Fraction>], row: usize, column: usize) -> Fraction
-    requires row { row < length rows.now }
-    requires column { column < length (row_of rows.now row) }
-    ensures is { ratio result ≡ read rows.now row column }
-    ensures narrow { IsNarrowRatio (read rows.now row column) → IsNarrow result }
-{
-    fraction_at(row_at(rows, row), column)
-}
-
 /// The fraction at a place.
 pub fn fraction_at(row: &[Fraction], place: usize) -> Fraction
     requires { place < length row.now }
@@ -31,6 +21,13 @@ pub fn fraction_at(row: &[Fraction], place: usize) -> Fraction
     ensures narrow { IsNarrowRatio (ratio_at row.now place) → IsNarrow result }
 {
     row[place]
+}
+
+pub fn put_fraction(row: &mut [Fraction], place: usize, fraction: Fraction)
+    requires { place < length row.old }
+    ensures { row.new ≡ slice_set row.old place fraction }
+{
+    row[place] = fraction;
 }
 
 /// A fraction divided by one above 0.

@@ -91,7 +91,7 @@ pub fn bring_to_scale(alloc: Global, fractions: &[Fraction]) -> Result<Scaled, S
         Some(scale) => scale,
         None => return Err(Stop::Scale),
     };
-    let mut numbers = Vec::new(alloc);
+    let mut numbers = Vec::with_capacity(alloc, fractions.len())?;
     'places: for j in 0..fractions.len() {
         let whole = times(&fraction_at(fractions, j), scale);
         if whole.unsigned_abs() >= 1 << 62 {

@@ -9,7 +9,7 @@ ghost use Rattle.tv_simplex.specs.Stops.{HasNumberedPlace, IsFaultAt};
 ghost use Rattle.tv_simplex.specs.Views.{equations, IsAnswer, GivesAnswer, IsFault, IsFirstRefusal, IsNotSpent};
 
 use crate::numbers::first_wide;
-use crate::starting::{artificial_basis, first_rows};
+use crate::starting::{artificial_basis, first_places, first_rows, first_slots};
 use crate::stop::Stop;
 use crate::table::Table;
 use crate::walking::walk;
@@ -60,7 +60,20 @@ pub fn solve(alloc: Global, system: &System, pivots: u64) -> Result<Answer, Solv
         Ok(rows) => rows,
         Err(stop) => return Err(fault_at(stop, basis)),
     };
-    let mut table = Table { rows, basis };
+    let slots = match first_slots(alloc, system) {
+        Ok(slots) => slots,
+        Err(_) => return Err(SolveFault::Memory),
+    };
+    let places = match first_places(alloc, system) {
+        Ok(places) => places,
+        Err(_) => return Err(SolveFault::Memory),
+    };
+    let mut table = Table {
+        rows,
+        basis,
+        slots,
+        places,
+    };
     match walk(alloc, system, &mut table, pivots) {
         Ok(Some(answer)) => Ok(answer),
         Ok(None) => Err(SolveFault::Pivots { bases: pivots }),

@@ -7,12 +7,14 @@ ghost use Rattle.tv_tableau.specs.Ratios.{IsRatio};
 ghost use Rattle.tv_tableau.specs.Outcomes.{IsNarrow, IsNarrowSystem};
 ghost use Rattle.tv_simplex.specs.Views.{equations};
 ghost use Rattle.tv_simplex.specs.Rows.{ratio, IsNarrowRatio};
-ghost use Rattle.tv_simplex.specs.Starting.{IsRowOf, IsFirstTable, IsStartStop, first_objective};
+ghost use Rattle.tv_simplex.specs.Starting.{AreFirstSlots, AreFirstPlaces, IsRowOf, IsFirstTable, IsStartStop, first_objective, first_slot};
+ghost use Rattle.tv_simplex.specs.Starting.{first_place as spec_place};
 
 use crate::System;
 use crate::numbers::{number_at, objective_at};
 use crate::push::push_item;
 use crate::stop::Stop;
+use crate::table::Place;
 use std::alloc::{AllocError, Global};
 use tv_fraction::Fraction;
 
@@ -21,11 +23,66 @@ pub fn artificial_basis(alloc: Global, system: &System) -> Result<Vec<u32>, Allo
     requires { IsWhole (equations system.now) }
     ensures { IfOk result (λ basis. IsArtificial system.now.rows system.now.columns basis.items) }
 {
-    let mut basis = Vec::new(alloc);
+    let mut basis = Vec::with_capacity(alloc, system.rows as usize)?;
     'rows: for row in 0..system.rows {
         push_item(&mut basis, system.columns + row)?;
     }
     Ok(basis)
+}
+
+/// The column at a slot outside of the artificial basis: those of the system come first, and then the right side.
+fn slot_column(system: &System, slot: usize) -> usize
+    requires whole { IsWhole (equations system.now) }
+    requires slot { slot ≤ system.now.columns }
+    ensures is { result ≡ first_slot (equations system.now) slot }
+    ensures within { result ≤ system.now.columns + system.now.rows }
+{
+    if slot < system.columns as usize {
+        slot
+    } else {
+        system.columns as usize + system.rows as usize
+    }
+}
+
+/// The columns outside of the artificial basis.
+pub fn first_slots(alloc: Global, system: &System) -> Result<Vec<u32>, AllocError>
+    requires { IsWhole (equations system.now) }
+    ensures { IfOk result (λ slots. AreFirstSlots (equations system.now) slots.items) }
+{
+    let mut slots = Vec::with_capacity(alloc, system.columns as usize + 1)?;
+    'slots: for slot in 0..system.columns as usize + 1 {
+        push_item(&mut slots, slot_column(system, slot) as u32)?;
+    }
+    Ok(slots)
+}
+
+/// Where a column of the tableau of the artificial basis stands.
+fn first_place(system: &System, column: usize) -> Place
+    requires whole { IsWhole (equations system.now) }
+    requires column { column ≤ system.now.columns + system.now.rows }
+    ensures { result ≡ spec_place (equations system.now) column }
+{
+    let columns = system.columns as usize;
+    if column < columns {
+        return Place::Slot(column as u32);
+    }
+    if column < columns + system.rows as usize {
+        return Place::Row((column - columns) as u32);
+    }
+    Place::Slot(system.columns)
+}
+
+/// The places of the columns in the tableau of the artificial basis.
+pub fn first_places(alloc: Global, system: &System) -> Result<Vec<Place>, AllocError>
+    requires { IsWhole (equations system.now) }
+    ensures { IfOk result (λ places. AreFirstPlaces (equations system.now) places.items) }
+{
+    let count = system.columns as usize + system.rows as usize + 1;
+    let mut places = Vec::with_capacity(alloc, count)?;
+    'columns: for column in 0..count {
+        push_item(&mut places, first_place(system, column))?;
+    }
+    Ok(places)
 }
 
 /// A whole number as a fraction.
@@ -44,9 +101,10 @@ fn first_row(alloc: Global, system: &System, row: usize) -> Result<Vec<Fraction>
     requires row { row < system.now.rows }
     ensures { IfOk result (λ v. IsRowOf (equations system.now) (matrix (equations system.now) row) v.items) }
 {
-    let mut fractions = Vec::new(alloc);
-    'columns: for column in 0..system.columns as usize + system.rows as usize + 1 {
-        push_item(&mut fractions, whole(number_at(system, row, column)))?;
+    let mut fractions = Vec::with_capacity(alloc, system.columns as usize + 1)?;
+    'slots: for slot in 0..system.columns as usize + 1 {
+        let number = number_at(system, row, slot_column(system, slot));
+        push_item(&mut fractions, whole(number))?;
     }
     Ok(fractions)
 }
@@ -59,8 +117,9 @@ fn objective_row(alloc: Global, system: &System) -> Result<Vec<Fraction>, Stop>
         (λ v. IsRowOf (equations system.now) (first_objective (equations system.now)) v.items)
         (λ stop. IsStartStop (equations system.now) stop) }
 {
-    let mut fractions = Vec::new(alloc);
-    'columns: for column in 0..system.columns as usize + system.rows as usize + 1 {
+    let mut fractions = Vec::with_capacity(alloc, system.columns as usize + 1)?;
+    'slots: for slot in 0..system.columns as usize + 1 {
+        let column = slot_column(system, slot);
         let entry = whole(objective_at(system, column));
         if !entry.is_narrow() {
             return Err(Stop::Wide {
@@ -81,7 +140,7 @@ pub fn first_rows(alloc: Global, system: &System) -> Result<Vec<Vec<Fraction>>, 
         (λ rows. IsFirstTable (equations system.now) rows.items)
         (λ stop. IsStartStop (equations system.now) stop) }
 {
-    let mut rows = Vec::new(alloc);
+    let mut rows = Vec::with_capacity(alloc, system.rows as usize + 1)?;
     'rows: for row in 0..system.rows as usize {
         push_item(&mut rows, first_row(alloc, system, row)?)?;
     }

@@ -1,27 +1,18 @@
 // The walk along the chain of bases.
 
-ghost use Rattle.std.specs.Prelude.{◌≡◌, ℕ, ◌+◌, ◌<◌, ◌^◌, length, slice_set, MatchOption, MatchResult};
+ghost use Rattle.std.specs.Prelude.{ℕ, ◌+◌, MatchOption, MatchResult};
 ghost use Rattle.tv_tableau.specs.Systems.{IsWhole};
 ghost use Rattle.tv_tableau.specs.Outcomes.{AreUnsettled};
 ghost use Rattle.tv_simplex.specs.Views.{equations};
 ghost use Rattle.tv_simplex.specs.Walking.{StandsAt, Stands, IsEntering, IsRight, IsStepStop, IsWalkStop};
 
 use crate::answering::settle;
-use crate::exchanging::exchange;
+use crate::exchanging::enter;
 use crate::leaving::leaving_row;
 use crate::stop::Stop;
 use crate::table::{Settled, Table};
 use crate::{Answer, System};
 use std::alloc::Global;
-
-/// Puts the column into the basis, in place of that of the row.
-fn put_column(basis: &mut [u32], row: usize, column: usize)
-    requires row { row < length basis.old }
-    requires column { column < 2 ^ 32 }
-    ensures { basis.new ≡ slice_set basis.old row column }
-{
-    basis[row] = column as u32;
-}
 
 /// Goes on to the next basis of the chain, where the column enters. After a refusal the basis is that next one.
 fn step(alloc: Global, system: &System, table: &mut Table, column: usize) -> Result<(), Stop>
@@ -34,12 +25,9 @@ fn step(alloc: Global, system: &System, table: &mut Table, column: usize) -> Res
 {
     let columns = system.columns as usize;
     let rows = system.rows as usize;
-    match leaving_row(&table.rows, column, rows, columns) {
+    match leaving_row(table, column, rows, columns) {
         None => unreachable!(),
-        Some(row) => {
-            put_column(&mut table.basis, row, column);
-            exchange(alloc, &mut table.rows, row, column)
-        }
+        Some(row) => enter(alloc, table, row, column),
     }
 }
 

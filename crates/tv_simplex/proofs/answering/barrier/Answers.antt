@@ -1,6 +1,6 @@
 use Rattle.std.proofs.Common.{subst, sym, ◌∙◌}
 use Rattle.tv_simplex.specs.Views.{equations}
-use Rattle.tv_simplex.specs.Rows.{row_of}
+use Rattle.tv_simplex.specs.Tables.{shown}
 use Rattle.tv_simplex.specs.Walking.{AreOfObjective, AreSigned}
 use Rattle.tv_simplex.proofs.EndLemmas.{gives_barrier, right_barrier, barrier_unscaled, scaling_stops}
 use Rattle.tv_simplex.proofs.answering.barrier.Goals as goal
@@ -9,20 +9,18 @@ pub returns-in-Err : goal.returns-in-Err
 returns-in-Err c =
     let s = equations c.args.system.now in
     let t = c.args.table.now in
-    let row = c.row_at.ensures ∙ (λ i. row_of (c.deref.ensures.value i) s.rows) in
-    let of = subst (λ f. AreOfObjective s.rows s.columns c.row_at.result.now f) (sym c.deref-2.ensures.value) c.in_ok-fractions.ensures in
-    scaling_stops s t.basis.items c.deref-2.result.now c.in-Err.stop (barrier_unscaled s c.requires.stands.0 t c.requires.stands.1 c.row_at.result.now c.deref-2.result.now row of c.requires.unsolved.0 c.requires.unsolved.1 c.requires.none) c.in-Err.ensures
+    let of = subst (λ f. AreOfObjective s.rows s.columns (shown t s.rows) f) (sym c.deref.ensures.value) c.in_ok-fractions.ensures in
+    scaling_stops s t.basis.items c.deref.result.now c.in-Err.stop (barrier_unscaled s c.requires.stands.0 t c.requires.stands.1 c.deref.result.now of c.requires.unsolved.0 c.requires.unsolved.1 c.requires.none) c.in-Err.ensures
 
 pub returns : goal.returns
 returns c =
     let s = equations c.args.system.now in
     let t = c.args.table.now in
-    let row = c.row_at.ensures ∙ (λ i. row_of (c.deref.ensures.value i) s.rows) in
-    let of = subst (λ f. AreOfObjective s.rows s.columns c.row_at.result.now f) (sym c.deref-2.ensures.value) c.in_ok-fractions.ensures in
+    let of = subst (λ f. AreOfObjective s.rows s.columns (shown t s.rows) f) (sym c.deref.ensures.value) c.in_ok-fractions.ensures in
     let n = c.in-Ok.scaled.numbers.items in
     let y = c.in_ok-y-in-Ok.y.items in
     let signed = subst (λ m. AreSigned s s.rows m y) c.deref-in-Ok.ensures.value c.in_ok-y-in-Ok.ensures in
     record {
-      answers = right_barrier s c.requires.stands.0 t c.requires.stands.1 c.row_at.result.now c.deref-2.result.now row of c.requires.unsolved.0 c.requires.unsolved.1 c.requires.none n y c.in-Ok.scaled.scale c.in-Ok.ensures signed;
-      last = gives_barrier s c.requires.stands.0 t c.requires.stands.1 c.row_at.result.now c.deref-2.result.now row of c.requires.unsolved.0 c.requires.unsolved.1 c.requires.none n y c.in-Ok.scaled.scale c.in-Ok.ensures signed;
+      answers = right_barrier s c.requires.stands.0 t c.requires.stands.1 c.deref.result.now of c.requires.unsolved.0 c.requires.unsolved.1 c.requires.none n y c.in-Ok.scaled.scale c.in-Ok.ensures signed;
+      last = gives_barrier s c.requires.stands.0 t c.requires.stands.1 c.deref.result.now of c.requires.unsolved.0 c.requires.unsolved.1 c.requires.none n y c.in-Ok.scaled.scale c.in-Ok.ensures signed;
     }
