@@ -115,6 +115,7 @@ SYSTEMS = [
     ("flow 2,000 x 2,000", "solve", lambda: flow(2_000, 2_000, True, 9)),
     ("flow 4,000 x 1,000", "solve", lambda: flow(4_000, 1_000, True, 10)),
     ("flow 8,000 x 500", "solve", lambda: flow(8_000, 500, True, 11)),
+    ("flow 100,000 x 40", "solve", lambda: flow(100_000, 40, True, 12)),
 ]
 
 compares = shutil.which("glpsol") is not None

@@ -5,7 +5,8 @@ use Rattle.std.specs.Ordering.{MatchOrdering, int_cmp}
 use Rattle.std.proofs.lemmas.Cmp.{int_ranked}
 use Rattle.std.proofs.lemmas.Int.{ints}
 use Rattle.tv_fraction.specs.declared.Fraction.{Fraction}
-use Rattle.tv_tableau.proofs.Ring.{by_sign, above_times, is_above, is_zero, times_zero, times_less}
+use Rattle.std.proofs.Math.IntN.{*ℤ_comm}
+use Rattle.tv_tableau.proofs.Ring.{zero_times, by_sign, above_times, is_above, is_zero, times_zero, times_less}
 use Rattle.tv_tableau.proofs.RatioLemmas.{value_above, num_above}
 use Rattle.tv_tableau.proofs.Shown.{quotients_compared}
 use Rattle.tv_tableau.proofs.GoesOn.{least_first, least_skips, least_stays, least_taken, never_tied}
@@ -45,6 +46,18 @@ compares_at last c o first second p q result c_in o_in pf ps hp hq e u v scale p
     (above_times p.denominator q.denominator p.positive q.positive)
     (quotients_compared last c scale positive first second u v c_in fs gs o o_in (ratio p) (ratio q) hp hq)
     (omega (arith, ints))
+
+-- where both rows have 0 their quotients are equal
+pub both_zero : (last c o : ℕ) (first second : ℕ → Ratio) (f g : Fraction) → o ≤ last → ratio f ≡ first o → ratio g ≡ second o → f.numerator ≡ pos 0 → g.numerator ≡ pos 0 → ComparesAt last c o first second Equal
+both_zero last c o first second f g o_in fe ge fz gz u v scale positive fs gs =
+    let a = value_zero (first o) (u o) scale (fs o o_in) (sym (ap (λ z. z.numerator) fe) ∙ fz) in
+    let b = value_zero (second o) (v o) scale (gs o o_in) (sym (ap (λ z. z.numerator) ge) ∙ gz) in
+    let d = times_zero (u c) (v o) b in
+    let e = times_zero (v c) (u o) a in
+    omega (arith, ints, d, e)
+  where
+    value_zero : (h : Ratio) (w s : ℤ) → IsRatio h w s → h.numerator ≡ pos 0 → w ≡ pos 0
+    value_zero h w s r z = is_zero h.denominator w r.positive (*ℤ_comm h.denominator w ∙ sym r.same ∙ zero_times h.numerator s z)
 
 pub quotient_of : {f g g' h h' : Ratio} → g ≡ g' → h ≡ h' → IsQuotient f g h → IsQuotient f g' h'
 quotient_of {f = f} {g' = g'} {h = h} e d r = subst (λ z. IsQuotient f g' z) d (subst (λ z. IsQuotient f z h) e r)

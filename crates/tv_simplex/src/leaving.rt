@@ -6,7 +6,7 @@ ghost use Rattle.tv_tableau.specs.Chains.{order};
 ghost use Rattle.tv_simplex.specs.Tables.{shown, IsTable};
 ghost use Rattle.tv_simplex.specs.Choosing.{ComparesAt, Compares, NoneAbove, IsLeast};
 
-use crate::rows::quotient;
+use crate::rows::{is_zero, quotient};
 use crate::table::{Table, entry_at};
 use std::cmp::Ordering;
 use tv_fraction::{Fraction, cmp};
@@ -25,15 +25,15 @@ fn compare_at(table: &Table, first: usize, second: usize, column: usize, place: 
     requires above { (pos 0 <ℤ (shown table.now first column).numerator) × (pos 0 <ℤ (shown table.now second column).numerator) }
     ensures { (last : ℕ) → column ≤ last → place ≤ last → ComparesAt last column place (shown table.now first) (shown table.now second) result }
 {
-    let left = quotient(
-        &entry_at(table, first, place),
-        &entry_at(table, first, column),
-    );
-    let right = quotient(
-        &entry_at(table, second, place),
-        &entry_at(table, second, column),
-    );
-    cmp(&left, &right)
+    let left = entry_at(table, first, place);
+    let right = entry_at(table, second, place);
+    if is_zero(&left) && is_zero(&right) {
+        return Ordering::Equal;
+    }
+    cmp(
+        &quotient(&left, &entry_at(table, first, column)),
+        &quotient(&right, &entry_at(table, second, column)),
+    )
 }
 
 /// The column at a place of the lexicographic order: the right side first, then the artificial columns.
