@@ -1,4 +1,4 @@
-use Rattle.std.proofs.Common.{Global, Bool, ◌∷◌, true, false, ◌≡◌, ◌⊎◌, inl, inr, ℕ, zero, suc, ◌+◌, ◌<◌, ◌≤◌, List, [], length, get_or, set, Vec, arith, refl, sym, ap, ◌∙◌, subst, ℤ, pos, ◌-ℤ◌, ◌*ℤ◌, ◌<ℤ◌}
+use Rattle.std.proofs.Common.{Global, Bool, ◌∷◌, true, false, ◌≡◌, ◌⊎◌, inl, inr, ℕ, zero, suc, ◌+◌, ◌<◌, List, [], length, get_or, set, Vec, arith, refl, sym, ap, ◌∙◌, subst, ℤ, pos, ◌-ℤ◌, ◌*ℤ◌, ◌<ℤ◌}
 use Rattle.std.proofs.lemmas.Int.{ints}
 use Rattle.std.proofs.Math.IntN.{*ℤ_comm}
 use Rattle.std.proofs.lemmas.List.{length-set, get_or-set_same, get_or-set_other}
@@ -15,7 +15,7 @@ use Rattle.tv_simplex.specs.declared.stop.Stop.TheVariants.{Wide}
 use Rattle.tv_simplex.specs.Stops.{IsExchangeStop}
 use Rattle.tv_simplex.specs.Rows.{ratio, ratio_at, row_of, read, unit_at, IsGrid, IsMoved, IsTaken, IsNext, IsWideNext}
 use Rattle.tv_simplex.specs.Tables.{at_place, place_of, shown, IsPlace, column_at, IsTable}
-use Rattle.tv_simplex.specs.Exchanges.{AreSwapped, IsEntered, IsWideEntry}
+use Rattle.tv_simplex.specs.Exchanges.{IsEntered, IsWideEntry}
 use Rattle.tv_simplex.proofs.RowLemmas.{rest_zero}
 
 same_or_other : (p q : ℕ) → (p ≡ q) ⊎ (p ≡ q → ⊥)

@@ -1,4 +1,4 @@
-use Rattle.std.proofs.Common.{◌≡◌, ◌⊎◌, inl, inr, ℕ, ◌+◌, ◌-◌, ◌<◌, ◌≤◌, List, [], length, Bool, true, false, cond, arith, refl, sym, ap, ◌∙◌, subst, ℤ, pos, ◌-ℤ◌, ◌*ℤ◌}
+use Rattle.std.proofs.Common.{◌≡◌, ◌⊎◌, inl, inr, ℕ, ◌+◌, ◌-◌, ◌<◌, ◌≤◌, List, [], length, Bool, true, false, cond, arith, refl, sym, ap, ◌∙◌, subst, ℤ, pos, ◌*ℤ◌}
 use Rattle.std.specs.Prelude.{nat_lt}
 use Rattle.std.proofs.lemmas.Int.{ints}
 use Rattle.std.proofs.lemmas.Bool.Decides.{nat_tests}
@@ -7,14 +7,14 @@ use Rattle.tv_tableau.proofs.Answered.{cost-one}
 use Rattle.tv_tableau.proofs.Matrices.{matrix_is_system}
 use Rattle.tv_tableau.proofs.Starts.{shows_start}
 use Rattle.tv_tableau.proofs.Sums.{total-same, total-delta, delta-above}
-use Rattle.tv_tableau.specs.Sums.{total, delta}
+use Rattle.tv_tableau.specs.Sums.{delta}
 use Rattle.tv_tableau.specs.Systems.{Equations, matrix}
 use Rattle.tv_tableau.specs.Chains.{column, IsArtificial}
-use Rattle.tv_tableau.specs.Ratios.{Ratio, IsRatio}
+use Rattle.tv_tableau.specs.Ratios.{IsRatio}
 use Rattle.tv_simplex.specs.declared.table.Table.{Table}
 use Rattle.tv_simplex.specs.declared.table.Place.{Place}
 use Rattle.tv_simplex.specs.declared.table.Place.TheVariants.{Slot, Row}
-use Rattle.tv_simplex.specs.Rows.{ratio_at, row_of, unit_at, IsGrid, IsNarrowRow}
+use Rattle.tv_simplex.specs.Rows.{ratio_at, row_of, IsGrid, IsNarrowRow}
 use Rattle.tv_simplex.specs.Tables.{at_place, place_of, shown, IsPlace, column_at, IsTable}
 use Rattle.tv_simplex.specs.Starting.{first_slot, first_place, first_objective, AreFirstSlots, AreFirstPlaces, IsRowOf, IsFirstTable}
 use Rattle.tv_simplex.specs.Walking.{StandsAt}

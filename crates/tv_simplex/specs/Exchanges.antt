@@ -5,7 +5,7 @@ use Rattle.tv_tableau.specs.Ratios.{IsExchanged}
 use Rattle.tv_simplex.specs.declared.table.Table.{Table}
 use Rattle.tv_simplex.specs.declared.table.Place.TheVariants.{Slot, Row}
 use Rattle.tv_simplex.specs.Rows.{ratio, IsNarrowRatio}
-use Rattle.tv_simplex.specs.Tables.{shown, place_of, IsTable}
+use Rattle.tv_simplex.specs.Tables.{shown, IsTable}
 
 -- the column at slot k and that of row r change their places
 pub record AreSwapped (r c k : ℕ) (old new : Table) : Type 0 where

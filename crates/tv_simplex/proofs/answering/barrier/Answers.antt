@@ -1,4 +1,4 @@
-use Rattle.std.proofs.Common.{subst, sym, ◌∙◌}
+use Rattle.std.proofs.Common.{subst, sym}
 use Rattle.tv_simplex.specs.Views.{equations}
 use Rattle.tv_simplex.specs.Tables.{shown}
 use Rattle.tv_simplex.specs.Walking.{AreOfObjective, AreSigned}

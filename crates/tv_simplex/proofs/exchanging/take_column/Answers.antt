@@ -1,7 +1,6 @@
-use Rattle.std.proofs.Common.{◌≡◌, ◌<◌, length, slice_index_or, slice_set, arith, ap, subst, sym, ◌∙◌}
+use Rattle.std.proofs.Common.{◌<◌, length, slice_index_or, slice_set, arith, ap, ◌∙◌}
 use Rattle.std.proofs.lemmas.List.{with_items_is, length-set}
-use Rattle.std.specs.Vec.{with_items}
-use Rattle.tv_simplex.specs.Rows.{ratio_at, row_of}
+use Rattle.tv_simplex.specs.Rows.{ratio_at}
 use Rattle.tv_simplex.proofs.TableLemmas.{row_at}
 use Rattle.tv_simplex.proofs.TakenLemmas.{taken_more, taken_inside}
 use Rattle.tv_simplex.proofs.exchanging.take_column.Goals as goal

@@ -1,4 +1,4 @@
-use Rattle.std.proofs.Common.{rules, FitsSigned, ◌∙◌, arith, subst, ap, pos, refl}
+use Rattle.std.proofs.Common.{rules, FitsSigned, ◌∙◌, subst, ap, pos, refl}
 use Rattle.std.specs.Int.{w128}
 use Rattle.std.proofs.lemmas.Int.{to_z-of_z}
 use Rattle.tv_tableau.specs.Ratios.{IsRatio}

@@ -1,7 +1,6 @@
-use Rattle.std.proofs.Common.{arith, subst, ◌∙◌}
 use Rattle.std.proofs.lemmas.Result.{MatchResult-weaker}
 use Rattle.tv_simplex.specs.Views.{equations}
-use Rattle.tv_simplex.proofs.WalkLemmas.{height, width, some_leaves, enters_outside, next_stands, step_stops}
+use Rattle.tv_simplex.proofs.WalkLemmas.{some_leaves, enters_outside, next_stands, step_stops}
 use Rattle.tv_simplex.proofs.walking.step.Goals as goal
 
 pub unreachable-requires : goal.unreachable-requires
