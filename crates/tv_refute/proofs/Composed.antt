@@ -1,58 +1,78 @@
-use Rattle.std.proofs.Common.{◌≡◌, ◌↔◌, ℕ, ◌+◌, ◌<◌, ◌≤◌, List, map, length, get_or, drop, arith, sym, ap, ◌∙◌, ℤ, pos, ◌+ℤ◌, ◌*ℤ◌, subst, Option, Some, None, SomeIff}
+-- sums over terms, for several columns at once, as far as they have come
+use Rattle.std.proofs.Common.{◌≡◌, ◌↔◌, ℕ, zero, suc, ◌+◌, ◌<◌, ◌≤◌, List, [], ◌∷◌, map, length, get_or, drop, arith, sym, ap, ◌∙◌, ℤ, pos, ◌+ℤ◌, ◌*ℤ◌, subst, Option, Some, None, Bool, true, false, refl}
 use Rattle.std.proofs.lemmas.List.{length-map}
 use Rattle.tv_linear.specs.Fits.{IsHeld}
 use Rattle.tv_linear.specs.Known.{Term, kept, term_number, place_sum, PlacesHeld, Known, composed, KnownHeld, known_number}
+use Rattle.tv_refute.specs.Blocks.{AreTold, IsAddedHeld, TermsHeld, terms_sum, further, ConstantHeld, with_constant}
 use Rattle.tv_refute.proofs.Going.{Going_all, Going_fit, Going_next, Going_end, Composing, term_there}
+use Rattle.tv_refute.proofs.Telling.{told_always}
 
-pub held_places : (k : Known) (terms : List Term) (column : Option ℕ) → KnownHeld (composed k terms) column → PlacesHeld (λ v. KnownHeld k (Some v)) (λ v. known_number k (Some v)) (pos 0) 0 (map (term_number column) terms)
-held_places k terms None h = h.0
-held_places k terms (Some j) h = h
+-- each sum has come as far as the place, and is held
+abbrev pub AreComposing : Known → List Term → Option ℕ → ℕ → List ℤ → ℕ → Type 0
+AreComposing k terms column count totals v = (c : ℕ) → c < count → Composing k terms (further column c) (get_or totals c (pos 0)) v × IsHeld (get_or totals c (pos 0))
 
-pub Composing_all : (k : Known) (terms : List Term) (column : Option ℕ) → Composing k terms column (pos 0) 0
-Composing_all k terms column = Going_all (λ v. KnownHeld k (Some v)) (λ v. known_number k (Some v)) (map (term_number column) terms)
+module _ (k : Known) (terms : List Term) (column : Option ℕ) (count : ℕ) where
+  pub all_cleared : (r : Bool) (totals : List ℤ) → AreTold r count (λ c. Unit {0}) (λ c. pos 0) totals → AreComposing k terms column count totals 0
+  all_cleared r totals told = λ c h.
+      let e = told_always r count (λ c. pos 0) totals told c h in
+      let small : IsHeld (pos 0) = omega arith in
+      (subst (λ z. Composing k terms (further column c) z 0) (sym e) (Going_all (λ v. KnownHeld k (Some v)) (λ v. known_number k (Some v)) (map (term_number (further column c)) terms)), subst IsHeld (sym e) small)
 
-module _ (K k : Known) (terms : List Term) (column : Option ℕ) (sum : ℤ) (v : ℕ) (is : K ≡ composed k terms) (below : v < length terms) (h : Composing k terms column sum v) where
-  abbrev x : ℤ
-  x = term_number column (get_or terms v (kept 0))
+  module _ (totals : List ℤ) (v : ℕ) (h : AreComposing k terms column count totals v) (below : v < length terms) (a : ℤ) (is : a ≡ known_number k (Some v)) (xs : List ℤ) where
+    inside : (c : ℕ) → v < length (map (term_number (further column c)) terms)
+    inside c = let e = length-map terms (term_number (further column c)) in omega (arith, e, below)
 
-  fits_on : KnownHeld K column → KnownHeld k (Some v) × IsHeld (known_number k (Some v) *ℤ x) × IsHeld (sum +ℤ known_number k (Some v) *ℤ x) × PlacesHeld (λ v. KnownHeld k (Some v)) (λ v. known_number k (Some v)) (sum +ℤ known_number k (Some v) *ℤ x) (v + 1) (drop (v + 1) (map (term_number column) terms))
-  fits_on held =
-      Going_fit (λ v. KnownHeld k (Some v)) (λ v. known_number k (Some v)) (map (term_number column) terms) sum v (term_number column (get_or terms v (kept 0))) (let e = length-map terms (term_number column) in omega (arith, e, below)) (term_there column terms v below) h
-      (held_places k terms column (subst (λ x. KnownHeld x column) is held))
+    pub composed_next : KnownHeld k (Some v) → AreTold true count (λ c. IsAddedHeld (get_or totals c (pos 0)) a (term_number (further column c) (get_or terms v (kept 0)))) (λ c. get_or totals c (pos 0) +ℤ a *ℤ term_number (further column c) (get_or terms v (kept 0))) xs → AreComposing k terms column count xs (v + 1)
+    composed_next told added = λ c l.
+        let w = added c l in
+        let x : ℤ = term_number (further column c) (get_or terms v (kept 0)) in
+        let total : ℤ = get_or totals c (pos 0) in (
+          subst (λ z. Composing k terms (further column c) z (v + 1)) (ap (λ b. total +ℤ b *ℤ x) (sym is) ∙ sym w.1)
+              (Going_next (λ v. KnownHeld k (Some v)) (λ v. known_number k (Some v)) (map (term_number (further column c)) terms) total v x (inside c) (term_there (further column c) terms v below) (h c l).0
+              told (subst (λ b. IsHeld (b *ℤ x)) is w.0.0) (subst (λ b. IsHeld (total +ℤ b *ℤ x)) is w.0.1)),
+          subst IsHeld (sym w.1) w.0.1,
+        )
 
-  pub number_fails : (KnownHeld k (Some v) → ⊥) → KnownHeld K column → ⊥
-  number_fails never held = never (fits_on held).0
+    pub compose_fails : (ys : List ℤ) → AreTold false count (λ c. IsAddedHeld (get_or totals c (pos 0)) a (term_number (further column c) (get_or terms v (kept 0)))) (λ c. get_or totals c (pos 0) +ℤ a *ℤ term_number (further column c) (get_or terms v (kept 0))) xs → AreTold false count (λ c. TermsHeld k terms (further column c)) (λ c. terms_sum k terms (further column c)) ys
+    compose_fails ys never = λ all. never (λ c l.
+        let x : ℤ = term_number (further column c) (get_or terms v (kept 0)) in
+        let total : ℤ = get_or totals c (pos 0) in
+        let w = Going_fit (λ v. KnownHeld k (Some v)) (λ v. known_number k (Some v)) (map (term_number (further column c)) terms) total v x (inside c) (term_there (further column c) terms v below) (h c l).0 (all c l) in
+        (subst (λ b. IsHeld (b *ℤ x)) (sym is) w.1, subst (λ b. IsHeld (total +ℤ b *ℤ x)) (sym is) w.2))
 
-  pub product_fails : (a t : ℤ) → a ≡ known_number k (Some v) → t ≡ term_number column (get_or terms v (kept 0)) → (IsHeld (a *ℤ t) × IsHeld (sum +ℤ a *ℤ t) → ⊥) → KnownHeld K column → ⊥
-  product_fails a t e f never held =
-      let w = fits_on held in
-      let same : known_number k (Some v) *ℤ term_number column (get_or terms v (kept 0)) ≡ a *ℤ t = (λ i. sym e i *ℤ sym f i) in
-      never (subst IsHeld same w.1, subst IsHeld (ap (λ z. sum +ℤ z) same) w.2)
+  pub composed_all : (totals : List ℤ) (v : ℕ) → AreComposing k terms column count totals v → length terms ≤ v → AreTold true count (λ c. TermsHeld k terms (further column c)) (λ c. terms_sum k terms (further column c)) totals
+  composed_all totals v h past = λ c l.
+      Going_end (λ v. KnownHeld k (Some v)) (λ v. known_number k (Some v)) (map (term_number (further column c)) terms) (get_or totals c (pos 0)) v (let e = length-map terms (term_number (further column c)) in omega (arith, e, past)) (h c l).0
 
-  pub number_next : (a t s : ℤ) → a ≡ known_number k (Some v) → t ≡ term_number column (get_or terms v (kept 0)) → KnownHeld k (Some v) → IsHeld (a *ℤ t) → IsHeld (sum +ℤ a *ℤ t) → s ≡ sum +ℤ a *ℤ t → Composing k terms column s (v + 1)
-  number_next a t s e f held p q r =
-      let same : a *ℤ t ≡ known_number k (Some v) *ℤ term_number column (get_or terms v (kept 0)) = (λ i. e i *ℤ f i) in
-      subst (λ z. Composing k terms column z (v + 1)) (ap (λ z. sum +ℤ z) (sym same) ∙ sym r)
-      (Going_next (λ v. KnownHeld k (Some v)) (λ v. known_number k (Some v)) (map (term_number column) terms) sum v (term_number column (get_or terms v (kept 0))) (let l = length-map terms (term_number column) in omega (arith, l, below)) (term_there column terms v below) h
-      held (subst IsHeld same p) (subst IsHeld (ap (λ z. sum +ℤ z) same) q))
+  places_told : (told : ℕ → Type 0) (f : ℕ → ℤ) (sum : ℤ) (v : ℕ) (xs : List ℤ) (i : ℕ) → i < length xs → PlacesHeld told f sum v xs → told (v + i)
+  places_told told f sum v [] i h p = absurd (omega arith)
+  places_told told f sum v (x ∷ xs) zero h p = let e : v ≡ v + 0 = omega arith in subst told e p.0
+  places_told told f sum v (x ∷ xs) (suc i) h p = let e : suc v + i ≡ v + suc i = omega arith in subst told e (places_told told f (sum +ℤ f v *ℤ x) (suc v) xs i (omega arith) p.3)
 
-SomeIff_iff : {T : Type 0} (r : Option T) (P Q : Type 0) (v w : T) → P ↔ Q → v ≡ w → SomeIff r P v → SomeIff r Q w
-SomeIff_iff None P Q v w h e k = λ q. k (h.1 q)
-SomeIff_iff (Some x) P Q v w h e k = (h.0 k.0, k.1 ∙ e)
+  pub read_fails : (first width : ℕ) (f : ℕ → ℤ) (xs ys : List ℤ) → first + width ≤ length terms → 0 < count → AreTold false width (λ i. KnownHeld k (further (Some first) i)) f xs → AreTold false count (λ c. TermsHeld k terms (further column c)) (λ c. terms_sum k terms (further column c)) ys
+  read_fails first width f xs ys fits some never = λ all. never (λ i l.
+      let e = length-map terms (term_number (further column 0)) in
+      let z : 0 + (first + i) ≡ first + i = omega arith in
+      subst (λ v. KnownHeld k (Some v)) z (places_told (λ v. KnownHeld k (Some v)) (λ v. known_number k (Some v)) (pos 0) 0 (map (term_number (further column 0)) terms) (first + i) (omega (arith, e, fits, l)) (all 0 some)))
 
-module _ (K k : Known) (terms : List Term) (sum : ℤ) (v : ℕ) (is : K ≡ composed k terms) (past : length terms ≤ v) where
-  pub end_of : (column : Option ℕ) → Composing k terms column sum v → PlacesHeld (λ v. KnownHeld k (Some v)) (λ v. known_number k (Some v)) (pos 0) 0 (map (term_number column) terms) × (sum ≡ place_sum (λ v. known_number k (Some v)) (map (term_number column) terms))
-  end_of column h = Going_end (λ v. KnownHeld k (Some v)) (λ v. known_number k (Some v)) (map (term_number column) terms) sum v (let l = length-map terms (term_number column) in omega (arith, l, past)) h
+-- the sums over the terms, and the constant: the numbers of the composed row
+with_constant_held : (k : Known) (terms : List Term) (column : Option ℕ) (c : ℕ) → (TermsHeld k terms (further column c) × ConstantHeld k column (terms_sum k terms (further column c))) ↔ KnownHeld (composed k terms) (further column c)
+with_constant_held k terms None c = (λ h. (h.0, h.1.0, h.1.1), λ h. (h.0, (h.1, h.2)))
+with_constant_held k terms (Some j) c = (λ h. h.0, λ h. (h, tt))
 
-  pub constant_end : Composing k terms None sum v → (z : ℤ) (r : Option ℤ) → z ≡ known_number k None → KnownHeld k None → SomeIff r (IsHeld (sum +ℤ z)) (sum +ℤ z) → SomeIff r (KnownHeld K None) (known_number K None)
-  constant_end h z r e held s =
-      let w = end_of None h in
-      let same : sum +ℤ z ≡ place_sum (λ v. known_number k (Some v)) (map (term_number None) terms) +ℤ known_number k None = (λ i. w.1 i +ℤ e i) in
-      subst (λ x. SomeIff r (KnownHeld x None) (known_number x None)) (sym is)
-      (SomeIff_iff r (IsHeld (sum +ℤ z)) (KnownHeld (composed k terms) None) (sum +ℤ z) (known_number (composed k terms) None) (λ p. (w.0, held, subst IsHeld same p), λ p. subst IsHeld (sym same) p.2) same s)
+with_constant_is : (k : Known) (terms : List Term) (column : Option ℕ) (c : ℕ) → with_constant k column (terms_sum k terms (further column c)) ≡ known_number (composed k terms) (further column c)
+with_constant_is k terms None c = refl
+with_constant_is k terms (Some j) c = refl
 
-  pub constant_fails : (KnownHeld k None → ⊥) → KnownHeld K None → ⊥
-  constant_fails never held = never (subst (λ x. KnownHeld x None) is held).1
+module _ (K k : Known) (terms : List Term) (column : Option ℕ) (count : ℕ) (is : K ≡ composed k terms) where
+  pub sums_fail : (xs ys : List ℤ) → AreTold false count (λ c. TermsHeld k terms (further column c)) (λ c. terms_sum k terms (further column c)) xs → AreTold false count (λ c. KnownHeld K (further column c)) (λ c. known_number K (further column c)) ys
+  sums_fail xs ys never = λ all. never (λ c l. ((with_constant_held k terms column c).1 (subst (λ x. KnownHeld x (further column c)) is (all c l))).0)
 
-  pub column_end : (j : ℕ) → Composing k terms (Some j) sum v → KnownHeld K (Some j) × (sum ≡ known_number K (Some j))
-  column_end j h = let w = end_of (Some j) h in (subst (λ x. KnownHeld x (Some j)) (sym is) w.0, w.1 ∙ ap (λ x. known_number x (Some j)) (sym is))
+  pub constant_added : (r : Bool) (xs ys : List ℤ) → AreTold true count (λ c. TermsHeld k terms (further column c)) (λ c. terms_sum k terms (further column c)) xs → AreTold r count (λ c. ConstantHeld k column (get_or xs c (pos 0))) (λ c. with_constant k column (get_or xs c (pos 0))) ys → AreTold r count (λ c. KnownHeld K (further column c)) (λ c. known_number K (further column c)) ys
+  constant_added false xs ys sums never = λ all. never (λ c l.
+      subst (ConstantHeld k column) (sym (sums c l).1) ((with_constant_held k terms column c).1 (subst (λ x. KnownHeld x (further column c)) is (all c l))).1)
+  constant_added true xs ys sums told = λ c l.
+      let w = told c l in (
+        subst (λ x. KnownHeld x (further column c)) (sym is) ((with_constant_held k terms column c).0 ((sums c l).0, subst (ConstantHeld k column) (sums c l).1 w.0)),
+        w.1 ∙ ap (with_constant k column) (sums c l).1 ∙ with_constant_is k terms column c ∙ ap (λ x. known_number x (further column c)) (sym is),
+      )

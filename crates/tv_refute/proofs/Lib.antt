@@ -1,4 +1,6 @@
 pub mod Places
+pub mod Telling
+pub mod Stepping
 pub mod Going
 pub mod Composed
 pub mod Sums

@@ -3,3 +3,4 @@ pub mod Built
 pub mod Frames
 pub mod Points
 pub mod Wide
+pub mod Blocks

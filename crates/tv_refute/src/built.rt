@@ -1,10 +1,13 @@
-ghost use Rattle.std.specs.Prelude.{SomeIff};
+ghost use Rattle.std.specs.Prelude.{◌≡◌, ◌≤◌, ◌<◌, pos, length, get_or, SomeIff};
 ghost use Rattle.tv_linear.specs.Known.{KnownHeld, known_number};
+ghost use Rattle.tv_refute.specs.Blocks.{further, AreTold, LessHeld, lessened, ConstantHeld, with_constant, TermsHeld, terms_sum};
 ghost use Rattle.tv_refute.specs.Built.{built};
+ghost use Rattle.tv_refute.specs.Terms.{terms_of};
 
-use crate::terms::{Terms, row_number, term_count, term_number};
+use crate::blocks::{add_term, put_row};
+use crate::steps::{Deny, Lessen, PutSame, SameMore, change_each};
+use crate::terms::{Terms, term_count};
 use tv_linear::Row;
-use tv_linear::held::{add_product, difference, opposite, sum};
 
 /// A row by how it is made. It is never built: its numbers are read one by one.
 #[derive(Drop)]
@@ -20,52 +23,144 @@ pub enum Built<'a> {
     Less(&'a Built<'a>, &'a Built<'a>, i128),
 }
 
+/// How many columns are read at once.
+pub(crate) const BLOCK: usize = 32;
+
 /// The number of a row in a column, 0 past the last, or its constant where no column is named; `None` where
 /// a number on the way is 2^127 or more in magnitude.
 pub fn number_of(known: &Built, column: Option<usize>) -> Option<i128>
     ensures { SomeIff result (KnownHeld (built known.now) column) (known_number (built known.now) column) }
 {
+    let mut numbers = [0; 1];
+    if read_numbers(known, column, 1, &mut numbers) {
+        Some(numbers[0])
+    } else {
+        None
+    }
+}
+
+/// Puts the numbers of a row in so many columns from one on, or its constant; whether no number on the way is
+/// 2^127 or more in magnitude.
+#[cycle(numbers)]
+pub(crate) fn read_numbers(
+    known: &Built,
+    column: Option<usize>,
+    count: usize,
+    numbers: &mut [i128],
+) -> bool
+    requires size { count ≤ length numbers.old }
+    requires some { 0 < count }
+    requires few { count ≤ 32 }
+    ensures size { length numbers.new ≡ length numbers.old }
+    ensures told { AreTold result count (λ k. KnownHeld (built known.now) (further column k))
+        (λ k. known_number (built known.now) (further column k)) numbers.new }
+{
     match known {
-        Built::Zero => Some(0),
-        Built::Given(row) => Some(row_number(row, column)),
-        Built::Denied(inner) => match number_of(inner, column) {
-            None => None,
-            Some(z) => match column {
-                None => difference(1, z),
-                Some(_) => opposite(z),
-            },
-        },
-        Built::Less(first, second, more) => match number_of(first, column) {
-            None => None,
-            Some(a) => match number_of(second, column) {
-                None => None,
-                Some(b) => match difference(a, b) {
-                    None => None,
-                    Some(d) => match column {
-                        None => sum(d, *more),
-                        Some(_) => Some(d),
-                    },
-                },
-            },
-        },
+        Built::Zero => change_each(numbers, count, &PutSame(0)),
+        Built::Given(row) => put_row(row, column, count, numbers),
+        Built::Denied(inner) => {
+            if !read_numbers(inner, column, count, numbers) {
+                return false;
+            }
+            change_each(numbers, count, &Deny { column })
+        }
         Built::Composed(inner, terms) => {
-            let mut total = 0;
-            for v in 0..term_count(terms) {
-                match number_of(inner, Some(v)) {
-                    None => return None,
-                    Some(a) => match add_product(total, a, term_number(terms, v, column)) {
-                        None => return None,
-                        Some(next) => total = next,
-                    },
-                }
+            if !compose(inner, terms, column, count, numbers) {
+                return false;
             }
-            match column {
-                Some(_) => Some(total),
-                None => match number_of(inner, None) {
-                    None => None,
-                    Some(z) => sum(total, z),
-                },
+            add_constant(inner, column, count, numbers)
+        }
+        Built::Less(first, second, more) => {
+            if !read_numbers(first, column, count, numbers) {
+                return false;
             }
+            lessen(second, *more, column, count, numbers)
         }
     }
+}
+
+/// Takes the numbers of a row away, and adds a number to the constant.
+#[cycle(numbers)]
+fn lessen(
+    second: &Built,
+    more: i128,
+    column: Option<usize>,
+    count: usize,
+    numbers: &mut [i128],
+) -> bool
+    requires size { count ≤ length numbers.old }
+    requires some { 0 < count }
+    requires few { count ≤ 32 }
+    ensures size { length numbers.new ≡ length numbers.old }
+    ensures told { let k = built second.now in AreTold result count
+        (λ i. KnownHeld k (further column i) × LessHeld column more (get_or numbers.old i (pos 0)) (known_number k (further column i)))
+        (λ i. lessened column more (get_or numbers.old i (pos 0)) (known_number k (further column i))) numbers.new }
+{
+    let mut others = [0; BLOCK];
+    if !read_numbers(second, column, count, &mut others) {
+        return false;
+    }
+    let step = Lessen {
+        column,
+        second: &others,
+        more,
+    };
+    change_each(numbers, count, &step)
+}
+
+/// Adds the constant of a row, where no column is named.
+#[cycle(numbers)]
+fn add_constant(inner: &Built, column: Option<usize>, count: usize, numbers: &mut [i128]) -> bool
+    requires size { count ≤ length numbers.old }
+    requires some { 0 < count }
+    ensures size { length numbers.new ≡ length numbers.old }
+    ensures told { let k = built inner.now in AreTold result count
+        (λ i. ConstantHeld k column (get_or numbers.old i (pos 0)))
+        (λ i. with_constant k column (get_or numbers.old i (pos 0))) numbers.new }
+{
+    match column {
+        Some(_) => true,
+        None => {
+            let mut constant = [0; 1];
+            if !read_numbers(inner, None, 1, &mut constant) {
+                return false;
+            }
+            change_each(numbers, count, &SameMore(constant[0]))
+        }
+    }
+}
+
+/// Puts the sums over the terms that are put in for the columns of a row. Each number of the row is read once,
+/// and a term is passed where it is 0.
+#[cycle(numbers)]
+fn compose(
+    inner: &Built,
+    terms: &Terms,
+    column: Option<usize>,
+    count: usize,
+    totals: &mut [i128],
+) -> bool
+    requires size { count ≤ length totals.old }
+    requires some { 0 < count }
+    ensures size { length totals.new ≡ length totals.old }
+    ensures told { let k = built inner.now in let ts = terms_of terms.now in AreTold result count
+        (λ i. TermsHeld k ts (further column i)) (λ i. terms_sum k ts (further column i)) totals.new }
+{
+    change_each(totals, count, &PutSame(0));
+    let places = term_count(terms);
+    let mut first = 0;
+    'blocks: while first < places {
+        let width = BLOCK.min(places - first);
+        let mut numbers = [0; BLOCK];
+        if !read_numbers(inner, Some(first), width, &mut numbers) {
+            return false;
+        }
+        'places: for i in 0..width {
+            if !add_term(totals, count, numbers[i], terms, first + i, column) {
+                return false;
+            }
+        }
+        first += width;
+    }
+    true
 }

@@ -5,12 +5,14 @@
 //! stack.
 #![tactic(auto)]
 
+mod blocks;
 mod built;
 mod cover;
 mod frames;
 mod met;
 mod refute;
 mod shown;
+mod steps;
 mod terms;
 #[cfg(test)]
 mod tests;

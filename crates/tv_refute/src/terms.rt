@@ -1,6 +1,6 @@
-ghost use Rattle.std.specs.Prelude.{◌≡◌, ◌+◌, ◌<◌, length, get_or};
+ghost use Rattle.std.specs.Prelude.{◌≡◌, ◌+◌, ◌<◌, length, get_or, MatchOption};
 ghost use Rattle.tv_linear.specs.Linear.{IsWithin};
-ghost use Rattle.tv_linear.specs.Known.{kept, number, term_number};
+ghost use Rattle.tv_linear.specs.Known.{kept, put, number};
 ghost use Rattle.tv_linear.specs.Terms.{update_of, draw_terms};
 ghost use Rattle.tv_refute.specs.Terms.{terms_of};
 
@@ -29,26 +29,16 @@ pub(crate) fn row_number(row: &Row, column: Option<usize>) -> i128
     }
 }
 
-/// 1 in the one column and 0 elsewhere.
-fn unit(v: usize, column: Option<usize>) -> i128
-    ensures { result ≡ term_number column (kept v) }
-{
-    match column {
-        None => 0,
-        Some(j) => { if j == v { 1 } else { 0 } }
-    }
-}
-
-/// The number of what the updates put for a variable.
-fn update_number(updates: &[Update], v: usize, column: Option<usize>) -> i128
-    ensures { result ≡ term_number column (update_of updates.now v) }
+/// The row that the updates put for a variable; `None` where it is kept.
+fn updated(updates: &[Update], v: usize) -> Option<&Row>
+    ensures { MatchOption result (update_of updates.now v ≡ kept v) (λ row. update_of updates.now v ≡ put row.now) }
 {
     for update in updates {
         if update.variable as usize == v {
-            return row_number(&update.term, column);
+            return Some(&update.term);
         }
     }
-    unit(v, column)
+    None
 }
 
 /// How many variables and draws there are.
@@ -58,16 +48,17 @@ fn joined(columns: u32, draws: &[Row]) -> usize
     columns as usize + draws.len()
 }
 
-/// The number of a kept variable or of the term for a draw.
-fn drawn_number(columns: u32, draws: &[Row], v: usize, column: Option<usize>) -> i128
+/// The term for a draw; `None` for a variable.
+fn drawn(columns: u32, draws: &[Row], v: usize) -> Option<&Row>
     requires { v < columns + length draws.now }
-    ensures { result ≡ term_number column (get_or (draw_terms columns draws.now) v (kept 0)) }
+    ensures { let term = get_or (draw_terms columns draws.now) v (kept 0) in
+        MatchOption result (term ≡ kept v) (λ row. term ≡ put row.now) }
 {
     let first = columns as usize;
     if v < first {
-        unit(v, column)
+        None
     } else {
-        row_number(&draws[v - first], column)
+        Some(&draws[v - first])
     }
 }
 
@@ -81,13 +72,14 @@ pub(crate) fn term_count(terms: &Terms) -> usize
     }
 }
 
-/// The number of one of the terms.
-pub(crate) fn term_number(terms: &Terms, v: usize, column: Option<usize>) -> i128
+/// The row that is put; `None` where the term is the variable itself.
+pub(crate) fn row_put<'a>(terms: &Terms<'a>, v: usize) -> Option<&'a Row>
     requires { v < length (terms_of terms.now) }
-    ensures { result ≡ term_number column (get_or (terms_of terms.now) v (kept 0)) }
+    ensures { let term = get_or (terms_of terms.now) v (kept 0) in
+        MatchOption result (term ≡ kept v) (λ row. term ≡ put row.now) }
 {
     match terms {
-        Terms::After { updates, .. } => update_number(updates, v, column),
-        Terms::Drawn { columns, draws } => drawn_number(*columns, draws, v, column),
+        Terms::After { updates, .. } => updated(updates, v),
+        Terms::Drawn { columns, draws } => drawn(*columns, draws, v),
     }
 }

@@ -1,0 +1,125 @@
+//! Numbers of rows and terms, for several columns at once.
+
+ghost use Rattle.std.specs.Prelude.{◌≡◌, ◌≤◌, ◌<◌, pos, ◌+ℤ◌, ◌*ℤ◌, length, drop, get_or};
+ghost use Rattle.tv_linear.specs.Known.{number, kept, term_number};
+ghost use Rattle.tv_refute.specs.Blocks.{further, AreTold, IsAddedHeld, AreHeld};
+ghost use Rattle.tv_refute.specs.Terms.{terms_of};
+
+use crate::steps::{Products, Put, PutSame, SameProduct, change_each};
+use crate::terms::{Terms, row_put};
+use tv_linear::Row;
+use tv_linear::held::add_product;
+
+/// What is left from a place on.
+fn tail(numbers: &[i128], from: usize) -> &[i128]
+    ensures { result.now ≡ drop from numbers.now }
+{
+    if from <= numbers.len() {
+        let (_, after) = numbers.split_at(from);
+        after
+    } else {
+        &[]
+    }
+}
+
+/// Puts the numbers of a row from a column on, or its constant.
+pub(crate) fn put_row(row: &Row, column: Option<usize>, count: usize, numbers: &mut [i128]) -> bool
+    requires { count ≤ length numbers.old }
+    ensures size { length numbers.new ≡ length numbers.old }
+    ensures told { AreTold result count (λ k. Unit {0}) (λ k. number (further column k) row.now) numbers.new }
+{
+    match column {
+        None => change_each(numbers, count, &PutSame(row.constant())),
+        Some(j) => change_each(numbers, count, &Put(tail(row.coefficients(), j))),
+    }
+}
+
+/// Adds the products of a factor and the numbers of a row from a column on, or its constant.
+pub(crate) fn add_row(
+    totals: &mut [i128],
+    count: usize,
+    factor: i128,
+    row: &Row,
+    column: Option<usize>,
+) -> bool
+    requires { count ≤ length totals.old }
+    ensures size { length totals.new ≡ length totals.old }
+    ensures told { AreTold result count
+        (λ k. IsAddedHeld (get_or totals.old k (pos 0)) factor (number (further column k) row.now))
+        (λ k. get_or totals.old k (pos 0) +ℤ factor *ℤ number (further column k) row.now) totals.new }
+{
+    match column {
+        None => {
+            let product = SameProduct {
+                factor,
+                number: row.constant(),
+            };
+            change_each(totals, count, &product)
+        }
+        Some(j) => {
+            let products = Products {
+                factor,
+                numbers: tail(row.coefficients(), j),
+            };
+            change_each(totals, count, &products)
+        }
+    }
+}
+
+/// Adds the product of a factor and a variable, which stands in its own column alone.
+fn add_kept(
+    totals: &mut [i128],
+    count: usize,
+    factor: i128,
+    v: usize,
+    column: Option<usize>,
+) -> bool
+    requires size { count ≤ length totals.old }
+    requires held { AreHeld count totals.old }
+    ensures size { length totals.new ≡ length totals.old }
+    ensures told { AreTold result count
+        (λ k. IsAddedHeld (get_or totals.old k (pos 0)) factor (term_number (further column k) (kept v)))
+        (λ k. get_or totals.old k (pos 0) +ℤ factor *ℤ term_number (further column k) (kept v)) totals.new }
+{
+    match column {
+        None => true,
+        Some(j) => {
+            if v < j || v - j >= count {
+                return true;
+            }
+            match add_product(totals[v - j], factor, 1) {
+                None => false,
+                Some(sum) => {
+                    totals[v - j] = sum;
+                    true
+                }
+            }
+        }
+    }
+}
+
+/// Adds the products of a factor and the numbers of a term from a column on, or its constant.
+pub(crate) fn add_term(
+    totals: &mut [i128],
+    count: usize,
+    factor: i128,
+    terms: &Terms,
+    v: usize,
+    column: Option<usize>,
+) -> bool
+    requires size { count ≤ length totals.old }
+    requires held { AreHeld count totals.old }
+    requires there { v < length (terms_of terms.now) }
+    ensures size { length totals.new ≡ length totals.old }
+    ensures told { let term = get_or (terms_of terms.now) v (kept 0) in AreTold result count
+        (λ k. IsAddedHeld (get_or totals.old k (pos 0)) factor (term_number (further column k) term))
+        (λ k. get_or totals.old k (pos 0) +ℤ factor *ℤ term_number (further column k) term) totals.new }
+{
+    if factor == 0 {
+        return true;
+    }
+    match row_put(terms, v) {
+        None => add_kept(totals, count, factor, v, column),
+        Some(row) => add_row(totals, count, factor, row, column),
+    }
+}
