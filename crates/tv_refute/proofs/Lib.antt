@@ -6,4 +6,5 @@ pub mod Composed
 pub mod Sums
 pub mod ShownLemmas
 pub mod Soundness
+pub mod Refuting
 pub mod Wholes

@@ -1,11 +1,16 @@
-use Rattle.std.proofs.Common.{◌≡◌, ◌↔◌, ℕ, suc, zero, ◌+◌, ◌-◌, ◌<◌, ◌≤◌, List, [], ◌∷◌, ◌++◌, map, length, take, drop, get_or, arith, refl, sym, ap, ◌∙◌, ℤ, pos, ◌+ℤ◌, ◌*ℤ◌, subst, Option, None, Some, SomeIff, length-take, length-append, length-drop}
+use Rattle.std.proofs.Common.{◌≡◌, ◌↔◌, ℕ, suc, zero, ◌+◌, ◌-◌, ◌<◌, ◌≤◌, List, [], ◌∷◌, ◌++◌, map, length, take, drop, get_or, arith, refl, sym, ap, ◌∙◌, ℤ, pos, ◌+ℤ◌, ◌*ℤ◌, subst, Option, None, Some, Bool, true, false, length-take, length-append, length-drop}
 use Rattle.std.proofs.lemmas.Int.{ints}
 use Rattle.std.proofs.lemmas.List.{take_more, length-map}
 use Rattle.tv_linear.specs.Fits.{SumsHeld, IsHeld}
 use Rattle.tv_linear.specs.Known.{number, Known, KnownHeld, known_number, given, as_given}
 use Rattle.tv_linear.specs.Linear.{Linear}
 use Rattle.tv_linear.specs.Refutation.{RowsHeld}
+use Rattle.tv_linear.specs.Linear.{dot}
 use Rattle.tv_linear.proofs.KnownLemmas.{weighted}
+use Rattle.tv_linear.proofs.Summing.{IsSummedTo, none_summed, one_summed, held_here, all_summed}
+use Rattle.tv_refute.specs.Blocks.{AreTold, AreHeld, IsAddedHeld, further}
+use Rattle.tv_refute.proofs.Telling.{AreTold_iff}
+use Rattle.tv_refute.proofs.Places.{get_or-map}
 use Rattle.tv_refute.specs.Built.{built}
 use Rattle.tv_refute.specs.Frames.{known_at}
 use Rattle.tv_refute.specs.declared.frames.Frames.{Frames}
@@ -60,10 +65,6 @@ last_is ms h =
     let l : length ms - 1 < length ms = omega arith in
     sym (take_all ms) ∙ ap (λ k. take k ms) (sym n) ∙ take_more ms (length ms - 1) (pos 0) l
 
-SomeIff_iff : {T : Type 0} (r : Option T) (P Q : Type 0) (v w : T) → P ↔ Q → v ≡ w → SomeIff r P v → SomeIff r Q w
-SomeIff_iff None P Q v w h e k = λ q. k (h.1 q)
-SomeIff_iff (Some x) P Q v w h e k = (h.0 k.0, k.1 ∙ e)
-
 -- ---- the sum at a place: `above` and what follows
 abbrev pub Fit : Option ℕ → ℤ → List ℤ → List Known → Type 0
 Fit column sum ms rows = RowsHeld (λ k. KnownHeld k column) sum (λ k. known_number k column) ms rows
@@ -79,30 +80,66 @@ module _ (column : Option ℕ) (all rows qs : List Known) (ms before after : Lis
       let same : Fit column (pos 0) ms all ≡ Fit column (pos 0) (before ++ after) (rows ++ qs) = (λ i. Fit column (pos 0) (split i) (parts i)) in
       (λ h. j.0 (subst (λ (t : Type 0). t) same h), λ h. subst (λ (t : Type 0). t) (sym same) (j.1 h))
 
-  pub above_fails : (Fit column (pos 0) before rows → ⊥) → Fit column (pos 0) ms all → ⊥
-  above_fails never h = never (joins.0 h).0
-
-  pub rest_is : (sum : ℤ) → Fit column (pos 0) before rows → sum ≡ Sum column before rows → (r : Option ℤ) → SomeIff r (Fit column sum after qs) (sum +ℤ Sum column after qs) → SomeIff r (Fit column (pos 0) ms all) (Sum column ms all)
-  rest_is sum fit e r h =
+  pub rest_iff : (sum : ℤ) → Fit column (pos 0) before rows → sum ≡ Sum column before rows → Fit column sum after qs ↔ Fit column (pos 0) ms all
+  rest_iff sum fit e =
       let same : sum ≡ pos 0 +ℤ Sum column before rows = omega (arith, ints, e) in
-      let w = weighted-join (λ k. known_number k column) before after rows qs many in
-      SomeIff_iff r (Fit column sum after qs) (Fit column (pos 0) ms all) (sum +ℤ Sum column after qs) (Sum column ms all)
       (λ k. joins.1 (fit, subst (λ z. Fit column z after qs) same k), λ k. subst (λ z. Fit column z after qs) (sym same) (joins.0 k).1)
-      (ap (λ z. z +ℤ Sum column after qs) e ∙ sym w ∙ (λ i. Sum column (sym split i) (sym parts i))) h
 
-pub given_rest : (column : Option ℕ) (sum : ℤ) (ms : List ℤ) (rows : List Linear) (r : Option ℤ) → SomeIff r (SumsHeld sum ms (map (number column) rows)) (sum +ℤ weighted (number column) ms rows) → SomeIff r (Fit column sum ms (as_given rows)) (sum +ℤ Sum column ms (as_given rows))
-given_rest column sum ms rows r h =
-    let g = RowsHeld-given column sum ms rows in
-    SomeIff_iff r (SumsHeld sum ms (map (number column) rows)) (Fit column sum ms (as_given rows)) _ _ (g.1, g.0) (ap (λ z. sum +ℤ z) (sym (weighted-given column ms rows))) h
+  pub rest_sum : (sum : ℤ) → sum ≡ Sum column before rows → sum +ℤ Sum column after qs ≡ Sum column ms all
+  rest_sum sum e =
+      let w = weighted-join (λ k. known_number k column) before after rows qs many in
+      ap (λ z. z +ℤ Sum column after qs) e ∙ sym w ∙ (λ i. Sum column (sym split i) (sym parts i))
 
-pub one_rest : (column : Option ℕ) (sum m z : ℤ) (k : Known) (r : Option ℤ) → KnownHeld k column → z ≡ known_number k column → SomeIff r (IsHeld (m *ℤ z) × IsHeld (sum +ℤ m *ℤ z)) (sum +ℤ m *ℤ z) → SomeIff r (Fit column sum (m ∷ []) (k ∷ [])) (sum +ℤ Sum column (m ∷ []) (k ∷ []))
-one_rest column sum m z k r held e h =
-    let product : m *ℤ z ≡ m *ℤ known_number k column = ap (λ x. m *ℤ x) e in
-    let total : sum +ℤ m *ℤ z ≡ sum +ℤ m *ℤ known_number k column = ap (λ x. sum +ℤ x) product in
-    SomeIff_iff r _ _ _ _ (λ p. (held, subst IsHeld product p.0, subst IsHeld total p.1, tt), λ p. (subst IsHeld (sym product) p.1, subst IsHeld (sym total) p.2)) (let x : sum +ℤ m *ℤ z ≡ sum +ℤ (m *ℤ known_number k column +ℤ pos 0) = omega (arith, ints, product) in x) h
+-- ---- the same for several columns at once
+module _ (column : Option ℕ) (count : ℕ) (all rows qs : List Known) (ms before after : List ℤ) (parts : all ≡ rows ++ qs) (split : ms ≡ before ++ after) (many : length before ≡ length rows) where
+  pub above_fails : (xs ys : List ℤ) → AreTold false count (λ k. Fit (further column k) (pos 0) before rows) (λ k. Sum (further column k) before rows) xs → AreTold false count (λ k. Fit (further column k) (pos 0) ms all) (λ k. Sum (further column k) ms all) ys
+  above_fails xs ys never = λ fits. never (λ k l. ((joins (further column k) all rows qs ms before after parts split many).0 (fits k l)).0)
 
-pub one_fails : (column : Option ℕ) (sum m : ℤ) (k : Known) → (KnownHeld k column → ⊥) → Fit column sum (m ∷ []) (k ∷ []) → ⊥
-one_fails column sum m k never h = never h.0
+  pub rest_is : (r : Bool) (mid xs : List ℤ) → AreTold true count (λ k. Fit (further column k) (pos 0) before rows) (λ k. Sum (further column k) before rows) mid → AreTold r count (λ k. Fit (further column k) (get_or mid k (pos 0)) after qs) (λ k. get_or mid k (pos 0) +ℤ Sum (further column k) after qs) xs → AreTold r count (λ k. Fit (further column k) (pos 0) ms all) (λ k. Sum (further column k) ms all) xs
+  rest_is r mid xs told =
+      AreTold_iff r count (λ k. Fit (further column k) (get_or mid k (pos 0)) after qs) (λ k. Fit (further column k) (pos 0) ms all) (λ k. get_or mid k (pos 0) +ℤ Sum (further column k) after qs) (λ k. Sum (further column k) ms all) xs
+      (λ k l. rest_iff (further column k) all rows qs ms before after parts split many (get_or mid k (pos 0)) (told k l).0 (told k l).1)
+      (λ k l p. rest_sum (further column k) all rows qs ms before after parts split many (get_or mid k (pos 0)) (told k l).1)
+
+pub given_rest : (column : Option ℕ) (count : ℕ) (mid ms : List ℤ) (rows : List Linear) (r : Bool) (xs : List ℤ) → AreTold r count (λ k. SumsHeld (get_or mid k (pos 0)) ms (map (number (further column k)) rows)) (λ k. get_or mid k (pos 0) +ℤ weighted (number (further column k)) ms rows) xs → AreTold r count (λ k. Fit (further column k) (get_or mid k (pos 0)) ms (as_given rows)) (λ k. get_or mid k (pos 0) +ℤ Sum (further column k) ms (as_given rows)) xs
+given_rest column count mid ms rows r xs =
+    AreTold_iff r count (λ k. SumsHeld (get_or mid k (pos 0)) ms (map (number (further column k)) rows)) (λ k. Fit (further column k) (get_or mid k (pos 0)) ms (as_given rows)) (λ k. get_or mid k (pos 0) +ℤ weighted (number (further column k)) ms rows) (λ k. get_or mid k (pos 0) +ℤ Sum (further column k) ms (as_given rows)) xs
+    (λ k l. let g = RowsHeld-given (further column k) (get_or mid k (pos 0)) ms rows in (g.1, g.0))
+    (λ k l p. ap (λ z. get_or mid k (pos 0) +ℤ z) (sym (weighted-given (further column k) ms rows)))
+
+pub one_rest : (column : Option ℕ) (count : ℕ) (mid : List ℤ) (m : ℤ) (row : Known) (r : Bool) (xs : List ℤ) → AreTold r count (λ k. KnownHeld row (further column k) × IsAddedHeld (get_or mid k (pos 0)) m (known_number row (further column k))) (λ k. get_or mid k (pos 0) +ℤ m *ℤ known_number row (further column k)) xs → AreTold r count (λ k. Fit (further column k) (get_or mid k (pos 0)) (m ∷ []) (row ∷ [])) (λ k. get_or mid k (pos 0) +ℤ Sum (further column k) (m ∷ []) (row ∷ [])) xs
+one_rest column count mid m row r xs =
+    AreTold_iff r count (λ k. KnownHeld row (further column k) × IsAddedHeld (get_or mid k (pos 0)) m (known_number row (further column k))) (λ k. Fit (further column k) (get_or mid k (pos 0)) (m ∷ []) (row ∷ [])) (λ k. get_or mid k (pos 0) +ℤ m *ℤ known_number row (further column k)) (λ k. get_or mid k (pos 0) +ℤ Sum (further column k) (m ∷ []) (row ∷ [])) xs
+    (λ k l. (λ p. (p.0, p.1.0, p.1.1, tt), λ p. (p.0, (p.1, p.2))))
+    (λ k l p. omega (arith, ints))
+
+-- ---- given rows, as far as they are added
+abbrev pub AreSummed : Option ℕ → ℕ → List ℤ → List Linear → List ℤ → List ℤ → ℕ → Type 0
+AreSummed column count ms rows old now i = (k : ℕ) → k < count → IsSummedTo ms (map (number (further column k)) rows) (get_or old k (pos 0)) (get_or now k (pos 0)) i × IsHeld (get_or now k (pos 0))
+
+module _ (column : Option ℕ) (count : ℕ) (ms : List ℤ) (rows : List Linear) (old now : List ℤ) (i : ℕ) (so_far : AreSummed column count ms rows old now i) where
+  module _ (many : length ms ≡ length rows) (inside : i < length ms) (row : Linear) (row_is : row ≡ get_or rows i row) (xs : List ℤ) where
+    number_there : (k : ℕ) → number (further column k) row ≡ get_or (map (number (further column k)) rows) i (pos 0)
+    number_there k = ap (number (further column k)) row_is ∙ sym (get_or-map (number (further column k)) rows i row (pos 0) (omega (arith, many, inside)))
+
+    long : (k : ℕ) → i < length (map (number (further column k)) rows)
+    long k = let e = length-map rows (number (further column k)) in omega (arith, e, many, inside)
+
+    pub summed_next : AreTold true count (λ k. IsAddedHeld (get_or now k (pos 0)) (get_or ms i (pos 0)) (number (further column k) row)) (λ k. get_or now k (pos 0) +ℤ get_or ms i (pos 0) *ℤ number (further column k) row) xs → AreSummed column count ms rows old xs (i + 1)
+    summed_next added = λ k l.
+        let w = added k l in
+        (one_summed ms (map (number (further column k)) rows) (get_or old k (pos 0)) (get_or now k (pos 0)) i (so_far k l).0 (get_or ms i (pos 0)) (number (further column k) row) inside (long k) refl (number_there k) (get_or xs k (pos 0)) w.0.0 w.0.1 w.1, subst IsHeld (sym w.1) w.0.1)
+
+    pub summed_fails : (ys : List ℤ) → AreTold false count (λ k. IsAddedHeld (get_or now k (pos 0)) (get_or ms i (pos 0)) (number (further column k) row)) (λ k. get_or now k (pos 0) +ℤ get_or ms i (pos 0) *ℤ number (further column k) row) xs → AreTold false count (λ k. SumsHeld (get_or old k (pos 0)) ms (map (number (further column k)) rows)) (λ k. get_or old k (pos 0) +ℤ dot ms (map (number (further column k)) rows)) ys
+    summed_fails ys never = λ fits. never (λ k l.
+        let w = held_here ms (map (number (further column k)) rows) (get_or old k (pos 0)) (get_or now k (pos 0)) i (so_far k l).0 (get_or ms i (pos 0)) (number (further column k) row) inside (long k) refl (number_there k) (fits k l) in
+        (w.0, w.1))
+
+  pub summed_all : length ms ≤ i → AreTold true count (λ k. SumsHeld (get_or old k (pos 0)) ms (map (number (further column k)) rows)) (λ k. get_or old k (pos 0) +ℤ dot ms (map (number (further column k)) rows)) now
+  summed_all past = λ k l. all_summed ms (map (number (further column k)) rows) (get_or old k (pos 0)) (get_or now k (pos 0)) i (so_far k l).0 past
+
+pub none_added : (column : Option ℕ) (count : ℕ) (ms : List ℤ) (rows : List Linear) (old : List ℤ) → AreHeld count old → AreSummed column count ms rows old old 0
+none_added column count ms rows old held = λ k l. (none_summed ms (map (number (further column k)) rows) (get_or old k (pos 0)), held k l)
 
 -- ---- the parts at a frame
 module _ (frames : Frames) (ms : List ℤ) (many : length ms ≡ length (known_at frames)) where

@@ -123,3 +123,24 @@ pub(crate) fn add_term(
         Some(row) => add_row(totals, count, factor, row, column),
     }
 }
+
+/// The same as [`add_row`], where a factor 0 costs nothing.
+pub(crate) fn add_given(
+    totals: &mut [i128],
+    count: usize,
+    factor: i128,
+    row: &Row,
+    column: Option<usize>,
+) -> bool
+    requires size { count ≤ length totals.old }
+    requires held { AreHeld count totals.old }
+    ensures size { length totals.new ≡ length totals.old }
+    ensures told { AreTold result count
+        (λ k. IsAddedHeld (get_or totals.old k (pos 0)) factor (number (further column k) row.now))
+        (λ k. get_or totals.old k (pos 0) +ℤ factor *ℤ number (further column k) row.now) totals.new }
+{
+    if factor == 0 {
+        return true;
+    }
+    add_row(totals, count, factor, row, column)
+}

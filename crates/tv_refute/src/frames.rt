@@ -1,15 +1,16 @@
-ghost use Rattle.std.specs.Prelude.{◌≡◌, ◌↔◌, ℕ, length, pos, ◌+ℤ◌, SomeIff, IsTrue, map, slice_index_or};
+ghost use Rattle.std.specs.Prelude.{◌≡◌, ◌↔◌, ◌≤◌, ◌<◌, ◌+ℤ◌, ◌*ℤ◌, length, get_or, pos, IsTrue, map};
 ghost use Rattle.tv_linear.specs.Linear.{dot};
 ghost use Rattle.tv_linear.specs.Fits.{SumsHeld};
-ghost use Rattle.tv_linear.specs.Known.{number};
+ghost use Rattle.tv_linear.specs.Known.{number, KnownHeld, known_number};
 ghost use Rattle.tv_linear.specs.Refutation.{column_sum, ColumnHeld};
+ghost use Rattle.tv_refute.specs.Blocks.{further, AreTold, AreHeld, IsAddedHeld};
+ghost use Rattle.tv_refute.specs.Built.{built};
 ghost use Rattle.tv_refute.specs.Frames.{known_at};
 
-use crate::built::{Built, number_of};
-use crate::terms::row_number;
+use crate::blocks::add_given;
+use crate::built::{BLOCK, Built, read_numbers};
+use crate::steps::{Products, PutSame, change_each};
 use tv_linear::Row;
-use tv_linear::held::add_product;
-use tv_linear::sums::{Numbers, dot_from};
 
 /// The rows known at a place, the last first.
 #[derive(Drop)]
@@ -25,58 +26,97 @@ pub enum Frames<'a> {
     },
 }
 
-/// What rows have in one column, or their constants.
-#[derive(Drop)]
-struct AtColumn<'a> {
-    rows: &'a [Row],
+/// Puts the sums of the products with the rows known at a place, in so many columns from one on, or of the
+/// constants.
+pub(crate) fn sums_at(
+    frames: &Frames,
+    multipliers: &[i128],
     column: Option<usize>,
-}
-
-impl Numbers for AtColumn<'_> {
-    ghost numbers = { λ a. map (number a.column) a.rows.now };
-
-    fn number(&self, i: usize) -> i128 {
-        row_number(&self.rows[i], self.column)
-    }
-}
-
-/// The sum of the products with the rows known at a place.
-pub(crate) fn sum_at(frames: &Frames, multipliers: &[i128], column: Option<usize>) -> Option<i128>
-    requires { length multipliers.now ≡ length (known_at frames.now) }
-    ensures { let rows = known_at frames.now in
-        SomeIff result (ColumnHeld multipliers.now rows column)
-        (column_sum multipliers.now rows column) }
+    count: usize,
+    totals: &mut [i128],
+) -> bool
+    requires many { length multipliers.now ≡ length (known_at frames.now) }
+    requires size { count ≤ length totals.old }
+    requires some { 0 < count }
+    requires few { count ≤ 32 }
+    ensures size { length totals.new ≡ length totals.old }
+    ensures told { let rows = known_at frames.now in AreTold result count
+        (λ k. ColumnHeld multipliers.now rows (further column k))
+        (λ k. column_sum multipliers.now rows (further column k)) totals.new }
+    ensures held { IsTrue result → AreHeld count totals.new }
 {
     match frames {
-        Frames::End => Some(0),
+        Frames::End => change_each(totals, count, &PutSame(0)),
         Frames::Rows { rows, above } => {
             let first = multipliers.len() - rows.len();
             let (before, after) = multipliers.split_at(first);
-            match sum_at(above, before, column) {
-                None => None,
-                Some(total) => sum_rows(rows, after, column, total),
+            if !sums_at(above, before, column, count, totals) {
+                return false;
             }
+            add_rows(rows, after, column, count, totals)
         }
         Frames::More { row, above } => match multipliers {
-            [] => None,
-            [before @ .., m] => match sum_at(above, before, column) {
-                None => None,
-                Some(total) => match number_of(row, column) {
-                    None => None,
-                    Some(z) => add_product(total, *m, z),
-                },
-            },
+            [] => false,
+            [before @ .., m] => {
+                if !sums_at(above, before, column, count, totals) {
+                    return false;
+                }
+                add_known(row, *m, column, count, totals)
+            }
         },
     }
 }
 
-/// A sum so far and the products with the rows.
-fn sum_rows(rows: &[Row], multipliers: &[i128], column: Option<usize>, start: i128) -> Option<i128>
-    requires { length multipliers.now ≡ length rows.now }
-    ensures { let xs = map (number column) rows.now in
-        SomeIff result (SumsHeld start multipliers.now xs) (start +ℤ dot multipliers.now xs) }
+/// Adds the products of multipliers and rows. A row whose multiplier is 0 is passed.
+fn add_rows(
+    rows: &[Row],
+    multipliers: &[i128],
+    column: Option<usize>,
+    count: usize,
+    totals: &mut [i128],
+) -> bool
+    requires many { length multipliers.now ≡ length rows.now }
+    requires size { count ≤ length totals.old }
+    requires held { AreHeld count totals.old }
+    ensures size { length totals.new ≡ length totals.old }
+    ensures told { AreTold result count
+        (λ k. SumsHeld (get_or totals.old k (pos 0)) multipliers.now (map (number (further column k)) rows.now))
+        (λ k. get_or totals.old k (pos 0) +ℤ dot multipliers.now (map (number (further column k)) rows.now)) totals.new }
+    ensures held { IsTrue result → AreHeld count totals.new }
 {
-    dot_from(start, multipliers, &AtColumn { rows, column })
+    for i in 0..multipliers.len() {
+        if !add_given(totals, count, multipliers[i], &rows[i], column) {
+            return false;
+        }
+    }
+    true
+}
+
+/// Adds the products of a multiplier and a row that is read.
+fn add_known(
+    row: &Built,
+    multiplier: i128,
+    column: Option<usize>,
+    count: usize,
+    totals: &mut [i128],
+) -> bool
+    requires size { count ≤ length totals.old }
+    requires some { 0 < count }
+    requires few { count ≤ 32 }
+    ensures size { length totals.new ≡ length totals.old }
+    ensures told { let k = built row.now in AreTold result count
+        (λ i. KnownHeld k (further column i) × IsAddedHeld (get_or totals.old i (pos 0)) multiplier (known_number k (further column i)))
+        (λ i. get_or totals.old i (pos 0) +ℤ multiplier *ℤ known_number k (further column i)) totals.new }
+{
+    let mut numbers = [0; BLOCK];
+    if !read_numbers(row, column, count, &mut numbers) {
+        return false;
+    }
+    let products = Products {
+        factor: multiplier,
+        numbers: &numbers,
+    };
+    change_each(totals, count, &products)
 }
 
 /// Whether so many rows are known at the place.

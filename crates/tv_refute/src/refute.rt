@@ -1,12 +1,12 @@
-ghost use Rattle.std.specs.Prelude.{◌↔◌, ◌++◌, ◌∷◌, [], IsTrue, All, pos, ◌≤ℤ◌};
+ghost use Rattle.std.specs.Prelude.{◌≡◌, ◌↔◌, ◌≤◌, ◌<◌, ℕ, ◌++◌, ◌∷◌, [], length, get_or, IsTrue, All, pos, ◌≤ℤ◌};
 ghost use Rattle.tv_linear.specs.Known.{denied};
 ghost use Rattle.tv_linear.specs.Refutation.{Refutes};
 ghost use Rattle.tv_refute.specs.Built.{built};
 ghost use Rattle.tv_refute.specs.Frames.{known_at};
 ghost use Rattle.tv_refute.specs.Points.{ShareNoPoint, Imply};
 
-use crate::built::Built;
-use crate::frames::{Frames, is_count, sum_at};
+use crate::built::{BLOCK, Built};
+use crate::frames::{Frames, is_count, sums_at};
 
 /// Whether no multiplier is below 0.
 fn none_negative(multipliers: &[i128]) -> bool
@@ -26,20 +26,33 @@ pub fn refutes(columns: usize, frames: &Frames, multipliers: &[i128]) -> bool
     if !none_negative(multipliers) {
         return false;
     }
-    for j in 0..columns {
-        match sum_at(frames, multipliers, Some(j)) {
-            None => return false,
-            Some(total) => {
-                if total != 0 {
-                    return false;
-                }
-            }
+    let mut totals = [0; BLOCK];
+    let mut first = 0;
+    while first < columns {
+        let width = BLOCK.min(columns - first);
+        if !sums_at(frames, multipliers, Some(first), width, &mut totals) {
+            return false;
+        }
+        if !are_zero(&totals, width) {
+            return false;
+        }
+        first += width;
+    }
+    let mut constant = [0; 1];
+    sums_at(frames, multipliers, None, 1, &mut constant) && constant[0] > 0
+}
+
+/// Whether so many numbers are 0.
+fn are_zero(numbers: &[i128], count: usize) -> bool
+    requires { count ≤ length numbers.now }
+    ensures { IsTrue result ↔ ((k : ℕ) → k < count → get_or numbers.now k (pos 0) ≡ pos 0) }
+{
+    for k in 0..count {
+        if numbers[k] != 0 {
+            return false;
         }
     }
-    match sum_at(frames, multipliers, None) {
-        None => false,
-        Some(total) => total > 0,
-    }
+    true
 }
 
 /// Whether the multipliers refute the known rows together with the denial of a row.

@@ -1,6 +1,5 @@
 ghost use Rattle.std.specs.Prelude.{◌≡◌, ◌+◌, ◌<◌, length, get_or, MatchOption};
-ghost use Rattle.tv_linear.specs.Linear.{IsWithin};
-ghost use Rattle.tv_linear.specs.Known.{kept, put, number};
+ghost use Rattle.tv_linear.specs.Known.{kept, put};
 ghost use Rattle.tv_linear.specs.Terms.{update_of, draw_terms};
 ghost use Rattle.tv_refute.specs.Terms.{terms_of};
 
@@ -13,20 +12,6 @@ pub enum Terms<'a> {
     After { columns: u32, updates: &'a [Update] },
     /// Each variable by itself, and each draw by its term.
     Drawn { columns: u32, draws: &'a [Row] },
-}
-
-/// The number of a row in a column, 0 past the last, or its constant where no column is named.
-pub(crate) fn row_number(row: &Row, column: Option<usize>) -> i128
-    ensures is { result ≡ number column row.now }
-    ensures narrow { IsWithin 62 result }
-{
-    match column {
-        None => row.constant(),
-        Some(j) => match row.coefficients().get(j) {
-            None => 0,
-            Some(coefficient) => *coefficient,
-        },
-    }
 }
 
 /// The row that the updates put for a variable; `None` where it is kept.
