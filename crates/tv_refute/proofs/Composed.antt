@@ -1,8 +1,8 @@
 -- sums over terms, for several columns at once, as far as they have come
-use Rattle.std.proofs.Common.{◌≡◌, ◌↔◌, ℕ, zero, suc, ◌+◌, ◌<◌, ◌≤◌, List, [], ◌∷◌, map, length, get_or, drop, arith, sym, ap, ◌∙◌, ℤ, pos, ◌+ℤ◌, ◌*ℤ◌, subst, Option, Some, None, Bool, true, false, refl}
+use Rattle.std.proofs.Common.{◌≡◌, ◌↔◌, ℕ, zero, suc, ◌+◌, ◌<◌, ◌≤◌, List, [], ◌∷◌, map, length, get_or, arith, sym, ap, ◌∙◌, ℤ, pos, ◌+ℤ◌, ◌*ℤ◌, subst, Option, Some, None, Bool, true, false, refl}
 use Rattle.std.proofs.lemmas.List.{length-map}
 use Rattle.tv_linear.specs.Fits.{IsHeld}
-use Rattle.tv_linear.specs.Known.{Term, kept, term_number, place_sum, PlacesHeld, Known, composed, KnownHeld, known_number}
+use Rattle.tv_linear.specs.Known.{Term, kept, term_number, PlacesHeld, Known, composed, KnownHeld, known_number}
 use Rattle.tv_refute.specs.Blocks.{AreTold, IsAddedHeld, TermsHeld, terms_sum, further, ConstantHeld, with_constant}
 use Rattle.tv_refute.proofs.Going.{Going_all, Going_fit, Going_next, Going_end, Composing, term_there}
 use Rattle.tv_refute.proofs.Telling.{told_always}

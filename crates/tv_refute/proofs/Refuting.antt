@@ -1,8 +1,8 @@
 -- columns in which the sum is 0, block by block
-use Rattle.std.proofs.Common.{◌≡◌, ℕ, ◌+◌, ◌-◌, ◌<◌, ◌≤◌, List, get_or, arith, subst, sym, ⊎_elim, ◌∙◌, ℤ, pos, Some, true, false}
+use Rattle.std.proofs.Common.{◌≡◌, ℕ, ◌+◌, ◌-◌, ◌<◌, List, get_or, arith, subst, sym, ⊎_elim, ◌∙◌, ℤ, pos, Some, true}
 use Rattle.std.proofs.lemmas.Bool.{cases_lt}
 use Rattle.tv_linear.specs.Known.{Known}
-use Rattle.tv_linear.specs.Refutation.{ColumnHeld, column_sum, Refutes}
+use Rattle.tv_linear.specs.Refutation.{ColumnHeld, column_sum}
 use Rattle.tv_refute.specs.Blocks.{AreTold, further}
 
 -- the sum is 0 in each column before the first

@@ -1,5 +1,5 @@
 -- numbers of several columns at once
-use Rattle.std.proofs.Common.{⊎_elim, set, ◌≡◌, ◌↔◌, ℕ, zero, suc, ◌+◌, ◌<◌, ◌∙◌, List, [], ◌∷◌, length, drop, get_or, refl, sym, ap, arith, subst, ℤ, pos, ◌+ℤ◌, ◌*ℤ◌, Bool, true, false, Option, None, Some}
+use Rattle.std.proofs.Common.{⊎_elim, set, ◌≡◌, ◌↔◌, ℕ, ◌+◌, ◌<◌, ◌∙◌, List, length, drop, get_or, sym, ap, arith, subst, ℤ, pos, ◌+ℤ◌, ◌*ℤ◌, Bool, true, false, Option, None, Some}
 use Rattle.std.proofs.lemmas.Bool.{cases_eq}
 use Rattle.std.proofs.lemmas.Int.{ints}
 use Rattle.std.proofs.lemmas.List.{get_or-drop, get_or-set_same, get_or-set_other}

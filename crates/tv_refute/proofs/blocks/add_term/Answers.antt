@@ -1,4 +1,4 @@
-use Rattle.std.proofs.Common.{rules, ap, sym, get_or, pos, FitsSigned}
+use Rattle.std.proofs.Common.{rules, ap, sym, get_or, FitsSigned}
 use Rattle.std.specs.Int.{w128}
 use Rattle.std.proofs.lemmas.Int.{to_z-of_z}
 use Rattle.tv_linear.specs.Known.{kept, number, term_number}

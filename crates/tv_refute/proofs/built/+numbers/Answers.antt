@@ -1,7 +1,7 @@
-use Rattle.std.proofs.Common.{rules, arith, ◌≡◌, ◌+◌, ◌<◌, ◌≤◌, ◌∙◌, Some, ap, subst, length, get_or, pos, FitsSigned}
+use Rattle.std.proofs.Common.{rules, arith, ◌≡◌, ◌+◌, ◌<◌, ◌∙◌, Some, ap, subst, length, get_or, pos, FitsSigned}
 use Rattle.std.specs.Int.{w128}
 use Rattle.std.proofs.lemmas.Int.{to_z-of_z}
-use Rattle.tv_linear.specs.Known.{KnownHeld, known_number}
+use Rattle.tv_linear.specs.Known.{known_number}
 use Rattle.tv_refute.specs.Blocks.{further}
 use Rattle.tv_refute.specs.Built.{built}
 use Rattle.tv_refute.specs.Terms.{terms_of}

@@ -1,4 +1,4 @@
-use Rattle.std.proofs.Common.{◌≡◌, ◌-◌, length}
+use Rattle.std.proofs.Common.{◌-◌}
 use Rattle.tv_refute.specs.Frames.{known_at}
 use Rattle.tv_refute.proofs.Refuting.{AreCancelled}
 use Rattle.tv_refute.proofs.refute.refutes.Given as goal
