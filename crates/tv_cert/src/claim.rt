@@ -54,6 +54,22 @@ impl Claim {
         &self.denied
     }
 
+    /// What the root of a certificate states that says proved.
+    pub fn proved_aim(&self) -> &Aim
+        requires states { StatesIts self.now }
+        ensures { aim_states result.now ≡ stated (comparison_lists (claim_variables self.now)) (property_of self.now.proved) }
+    {
+        &self.proved_aim
+    }
+
+    /// What the root of a certificate states that says disproved.
+    pub fn denied_aim(&self) -> &Aim
+        requires states { StatesIts self.now }
+        ensures { aim_states result.now ≡ stated (comparison_lists (claim_variables self.now)) (property_of self.now.denied) }
+    {
+        &self.denied_aim
+    }
+
     /// What the root of a certificate with this verdict states.
     pub fn aim(&self, verdict: &Verdict) -> &Aim
         requires states { StatesIts self.now }

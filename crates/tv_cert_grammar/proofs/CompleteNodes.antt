@@ -51,7 +51,7 @@ module _ (over : Bool) (system : CaseSystem) where
 
   -- ---- nodes and their children
 
-  node_is : (s : Statement) (ts : List PlainLine) → (node over system s).read ts ≡ (over_children over system s (nodes over system (parts_of s))).read ts
+  pub node_is : (s : Statement) (ts : List PlainLine) → (node over system s).read ts ≡ (over_children over system s (nodes over system (parts_of s))).read ts
   node_is (rows lists) ts = refl
   node_is (here l) ts = refl
   node_is (elsewhere l) ts = refl

@@ -25,3 +25,4 @@ mod walking;
 pub use certificate::Certificate;
 pub use fault::ShapeFault;
 pub use laws::{faulty_is_unfit, one_first_fault, right_nodes_fit};
+pub use nodes::{argument_count, may_be_done, may_rank};

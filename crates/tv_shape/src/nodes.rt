@@ -22,14 +22,14 @@ use tv_formula::Shape;
 pub const MAX_DEPTH: u32 = 384;
 
 /// Whether pieces may be done.
-fn may_be_done(aim: &Aim) -> bool
+pub fn may_be_done(aim: &Aim) -> bool
     ensures { result ≡ done_may_be (aim_states aim.now) }
 {
     matches!(aim, Aim::Along(..))
 }
 
 /// Whether pieces may have ranks.
-fn may_rank(aim: &Aim) -> bool
+pub fn may_rank(aim: &Aim) -> bool
     ensures { result ≡ ranks_may_be (aim_states aim.now) }
 {
     matches!(
@@ -46,7 +46,7 @@ fn part_count(parts: &[Aim]) -> usize
 }
 
 /// How many arguments it has.
-fn argument_count(aim: &Aim) -> usize
+pub fn argument_count(aim: &Aim) -> usize
     ensures { result ≡ count (parts_of (aim_states aim.now)) }
 {
     match aim {

@@ -1,0 +1,263 @@
+-- What is read of choices.
+use Rattle.std.proofs.Common.{◌≡◌, ℕ, zero, suc, ◌+◌, ◌-◌, ◌<◌, ◌≤◌, ◌^◌, ℤ, pos, negsuc, Bool, true, false, List, [], ◌∷◌, ◌++◌, length, All, Option, Some, None, refl, sym, ap, ◌∙◌, subst, arith, slice_get}
+use Rattle.std.specs.Prelude.{◌==◌}
+use Rattle.std.specs.Global.{Vec}
+use Rattle.std.specs.List.{AllZip, flat_map}
+use Rattle.std.specs.Option.{option_map, ForSome}
+use Rattle.std.proofs.lemmas.List.Elements.{All-nil, All-cons}
+use Rattle.tv_grammar.specs.Langs.{headed, mapped, each, go, stop}
+use Rattle.tv_lines.specs.Lines.{PlainLine, formed, count_of, FitsHead}
+use Rattle.tv_lines.specs.declared.head.Head.{Head}
+use Rattle.tv_lines.specs.declared.head.Head.TheVariants as heads
+use Rattle.tv_linear.specs.Linear.{Linear, columns}
+use Rattle.tv_linear.specs.Known.{Known, given}
+use Rattle.tv_linear.specs.ChoiceDepth.{most_splits, choice_splits}
+use Rattle.tv_linear.specs.declared.row.Row.{Row}
+use Rattle.tv_linear.specs.declared.cover.CoverTree.{CoverTree}
+use Rattle.tv_linear.specs.declared.choice.ChoiceTree.{ChoiceTree, Split', Empty, NoStep, Take}
+use Rattle.tv_cases.specs.LinearCases.{LinearCase, CaseSystem}
+use Rattle.tv_cert.specs.declared.node.Marked.{Marked}
+use Rattle.tv_cert.specs.declared.owes.Destination.{Destination}
+use Rattle.tv_cert.specs.declared.owes.Destination.TheVariants.{Anywhere, Into}
+use Rattle.tv_cert.specs.Choices.{cases_from, drawn_change}
+use Rattle.tv_cert.specs.Owing.{destination_owes, falls_where}
+use Rattle.tv_cert.specs.Pieces.{place_of, ranks_of}
+use Rattle.tv_cert.specs.Shapes.{ChoiceShape, ListsShape, NoStepShape, TakeShape, owed_count}
+use Rattle.tv_cert.specs.Targets.{owed_into}
+use Rattle.tv_cert.proofs.PieceLemmas.{test_true, test_false}
+use Rattle.tv_shape.specs.Narrow.{ChoiceNarrow, CoverNarrow}
+use Rattle.tv_shape.proofs.CountLemmas.{count_same}
+use Rattle.tv_cert_text.specs.CertificateLines.{row_lines, row_line, by_lines, cover_lines, choice_lines}
+use Rattle.tv_cert_grammar.specs.declared.kind.LineKind.{LineKind}
+use Rattle.tv_cert_grammar.specs.declared.kind.LineKind.TheVariants.{Syntax, Deep, Shape}
+use Rattle.tv_cert_grammar.specs.Lines.{Grammar, Behind, many, by, draw, with_three}
+use Rattle.tv_cert_grammar.specs.Covers.{both, empty_behind}
+use Rattle.tv_cert_grammar.specs.Choices.{Choosing, choice, choice_cases, stop_cover, no_step, no_step_behind, taken_rows, taken_case, take_behind, Taken}
+use Rattle.tv_cert_grammar.proofs.CompleteParts.{draws_read, numbers_long}
+use Rattle.tv_cert_grammar.proofs.CompleteCovers.{choice_read}
+use Rattle.tv_cert_reader.specs.declared.cursor.Cursor.{Cursor}
+use Rattle.tv_cert_reader.specs.declared.failure.Failure.{Failure}
+use Rattle.tv_cert_reader.specs.declared.failure.Failure.TheVariants.{Fault}
+use Rattle.tv_cert_reader.specs.Reading.{Takes, FaultAt, FailsBy, IsFailedLine}
+use Rattle.tv_cert_reader.specs.Parts.{AreMany, AreNumbers, IsWide, IsRowOf, lists_in}
+use Rattle.tv_cert_reader.specs.Covers.{IsBehind}
+use Rattle.tv_cert_reader.specs.Choices.{choosing_of, IsChoiceSplitOf, IsChoiceWithin, IsStop, AreFewAt, IsTaken, NamesNoCase}
+use Rattle.tv_cert_reader.proofs.ReadingLemmas.{line_fails, line_stops, behind_fails, first_fails, second_fails, takes_both, takes_as}
+use Rattle.tv_cert_reader.proofs.SideLemmas.{sides_at, sides_deep, sides_wrong, sides_go}
+use Rattle.tv_cert_reader.proofs.CountLemmas.{few_into, few_ranked, few_lists}
+use Rattle.tv_cert_reader.proofs.CoverLemmas.{listed_narrow, listed_wide}
+
+-- ---- a case that is taken, its target and its fall are few
+
+falls_few : (p : Marked) (into : List Marked) (l k j n : ℕ) (falls : Bool) → length into < 2 ^ 32 → length (ranks_of p) < 2 ^ 32 → owed_count (owed_into into l given (falls_where falls given p)) k j ≡ Some n → (k < 2 ^ 32) × (j < 2 ^ 32)
+falls_few p into l k j n true a b e = (let h = few_ranked p into l k j n e in (omega (arith, h.0, a), omega (arith, h.1, b)))
+falls_few p into l k j n false a b e = (let h = few_into None into l k j n e in (omega (arith, h.0, a), omega (arith, h.1)))
+
+pub few_taken : (system : CaseSystem) (p : Marked) (destination : Destination) (case : LinearCase) (draws : List Linear) (k j n : ℕ) → AreFewAt p destination → owed_count (destination_owes system.variables p destination case draws) k j ≡ Some n → (k < 2 ^ 32) × (j < 2 ^ 32)
+few_taken system p Anywhere case draws k j n few e = (let h = few_lists ([] ∷ []) k j n e in (omega (arith, h.0), omega (arith, h.1)))
+few_taken system p (Into pieces falls) case draws k j n few e =
+    falls_few p pieces.now case.to k j n falls few.0 few.1 (sym (count_same (drawn_change system.variables case draws) given falls p pieces.now case.to k j) ∙ e)
+
+-- ---- the numbers of a line that takes a case
+
+taken_none : (counts : LinearCase → ℕ → ℕ → Option ℕ) (o : Option LinearCase) (k j : ℕ) → ((case : LinearCase) (n : ℕ) → o ≡ Some case → counts case k j ≡ Some n → ⊥) → taken_case counts o k j ≡ None
+taken_none counts None k j h = refl
+taken_none counts (Some case) k j h = rows (counts case k j) (λ n e. h case n refl e) where
+  rows : (o : Option ℕ) → ((n : ℕ) → o ≡ Some n → ⊥) → taken_rows case o ≡ None
+  rows None h = refl
+  rows (Some n) h = absurd (h n refl)
+
+three_none : (cases : List LinearCase) (counts : LinearCase → ℕ → ℕ → Option ℕ) (zs : List ℤ) → ((case : LinearCase) (c k j n : ℕ) → zs ≡ pos c ∷ pos k ∷ pos j ∷ [] → slice_get cases c ≡ Some case → counts case k j ≡ Some n → ⊥) → with_three zs (λ c k j. taken_case counts (slice_get cases c) k j) ≡ None
+three_none cases counts (pos c ∷ pos k ∷ pos j ∷ []) h = taken_none counts (slice_get cases c) k j (λ case n e f. h case c k j n refl e f)
+three_none cases counts (pos c ∷ pos k ∷ negsuc j ∷ []) h = refl
+three_none cases counts (pos c ∷ negsuc k ∷ j ∷ []) h = refl
+three_none cases counts (negsuc c ∷ k ∷ j ∷ []) h = refl
+three_none cases counts [] h = refl
+three_none cases counts (a ∷ []) h = refl
+three_none cases counts (a ∷ b ∷ []) h = refl
+three_none cases counts (a ∷ b ∷ c ∷ d ∷ zs) h = refl
+
+guards_and : (guards n : ℕ) (o : Option (List Known)) → option_map length o ≡ Some n → option_map (λ rows. guards + length rows) o ≡ Some (guards + n)
+guards_and guards n None e = absurd (let h : ⊥ = cc in h)
+guards_and guards n (Some rows) e = (let h : length rows ≡ n = cc in ap (λ m. Some (guards + m)) h)
+
+-- how many rows are owed does not depend on the terms of the draws
+owes_free : (n : ℕ) (p : Marked) (destination : Destination) (case : LinearCase) (draws : List Linear) → owed_count (destination_owes n p destination case draws) ≡ owed_count (destination_owes n p destination case [])
+owes_free n p Anywhere case draws = refl
+owes_free n p (Into pieces falls) case draws = λ i k j. count_same (drawn_change n case draws) (drawn_change n case []) falls p pieces.now case.to k j i
+
+-- ---- covers without targets, one for each of some cases
+
+stops_shape : (n known left : ℕ) (cases : List LinearCase) (trees : List CoverTree) → AllZip (IsStop n known left) cases trees → NoStepShape n known cases trees
+stops_shape n known left [] [] h = tt
+stops_shape n known left [] (t ∷ trees) h = absurd h
+stops_shape n known left (c ∷ cases) [] h = absurd h
+stops_shape n known left (c ∷ cases) (t ∷ trees) h = (h.0.shape, stops_shape n known left cases trees h.1)
+
+stops_shallow : (n known left : ℕ) (cases : List LinearCase) (trees : List CoverTree) → AllZip (IsStop n known left) cases trees → most_splits trees ≤ left
+stops_shallow n known left [] [] h = omega arith
+stops_shallow n known left [] (t ∷ trees) h = absurd h
+stops_shallow n known left (c ∷ cases) [] h = absurd h
+stops_shallow n known left (c ∷ cases) (t ∷ trees) h = (let later = stops_shallow n known left cases trees h.1 in omega (arith, h.0.shallow, later))
+
+stops_narrow : (n known left : ℕ) (cases : List LinearCase) (trees : List CoverTree) → AllZip (IsStop n known left) cases trees → All CoverNarrow trees
+stops_narrow n known left [] [] h = All-nil CoverNarrow
+stops_narrow n known left [] (t ∷ trees) h = absurd h
+stops_narrow n known left (c ∷ cases) [] h = absurd h
+stops_narrow n known left (c ∷ cases) (t ∷ trees) h = All-cons CoverNarrow t trees h.0.narrow (stops_narrow n known left cases trees h.1)
+
+-- no numbers stand on the line that there is no step
+pub no_numbers_fit : (head : Head) (zs : List ℤ) → head ≡ heads.NoStep → FitsHead head zs → zs ≡ []
+no_numbers_fit head [] e fit = refl
+no_numbers_fit head (z ∷ zs) e fit = absurd (let h = subst (λ h. ForSome (count_of h) (λ count. length (z ∷ zs) ≡ count)) e fit.counted 0 refl in omega (arith, h))
+
+module _ (system : CaseSystem) (p : Marked) (may_stop : Bool) (destination : Destination) where
+  abbrev pub x : Choosing
+  x = choosing_of system p may_stop destination
+
+  abbrev pub side : ℕ → ℕ → Grammar (Unit {0})
+  side known left = choice false left x known
+
+  pub choice_fails : (known left : ℕ) (c : Cursor) (f : Failure) → FailsBy (headed Syntax (choice_cases (sides_at side known left) (no_step false left x known) x known)) c f → FailsBy (side known left) c f
+  unfolding choice
+  choice_fails known zero c f h = h
+  choice_fails known (suc left) c f h = h
+
+  module _ (known left : ℕ) (old : Cursor) where
+    abbrev cases : PlainLine → Behind (Unit {0})
+    cases = choice_cases (sides_at side known left) (no_step false left x known) x known
+
+    pub choice_line_fails : (f : Failure) → IsFailedLine old f → FailsBy (side known left) old f
+    choice_line_fails f h = choice_fails known left old f (line_fails cases old f refl refl h)
+
+    module _ (mid : Cursor) (head : Head) (zs : List ℤ) (at : IsBehind head zs old mid) where
+      pub choice_stops : (k : LineKind) → cases (formed head zs) ≡ stop k → FaultAt (side known left) old k mid.taken
+      choice_stops k e = choice_fails known left old (Fault k mid.taken) (line_stops cases old mid head zs k at.front at.one e)
+
+      pub choice_goes : (g : Grammar (Unit {0})) (f : Failure) → cases (formed head zs) ≡ go g → FailsBy g mid f → FailsBy (side known left) old f
+      choice_goes g f e h = choice_fails known left old f (behind_fails cases g old mid head zs f at.front e h)
+
+    -- ---- a case that is taken
+
+    pub take_stops : (mid : Cursor) (zs : List ℤ) → IsBehind heads.Take zs old mid → NamesNoCase system p destination zs → FaultAt (side known left) old Shape mid.taken
+    take_stops mid zs at none =
+        choice_stops mid heads.Take zs at Shape (ap (take_behind system.variables known) (three_none system.cases x.counts zs none))
+
+    module _ (mid : Cursor) (zs : List ℤ) (at : IsBehind heads.Take zs old mid) (case : LinearCase) (c k j n : ℕ) (is : IsTaken system p destination zs case c k j n) where
+      abbrev found : Taken
+      found = record { case = case; owed = n }
+
+      named : with_three zs (λ c k j. taken_case x.counts (slice_get system.cases c) k j) ≡ Some found
+      named = ap (λ ys. with_three ys (λ c k j. taken_case x.counts (slice_get system.cases c) k j)) is.numbers
+          ∙ ap (λ o. taken_case x.counts o k j) is.there
+          ∙ ap (taken_rows case) (is.owes [])
+
+      abbrev terms : Grammar (Unit {0})
+      terms = many case.draws (draw system.variables)
+
+      abbrev shown : Grammar (Unit {0})
+      shown = many (length case.guards + n) (by (known + 1))
+
+      pub draws_stop : (f : Failure) → FailsBy terms mid f → FailsBy (side known left) old f
+      draws_stop f h = choice_goes mid heads.Take zs at (both terms shown) f (ap (take_behind system.variables known) named) (first_fails terms (λ _. shown) mid f h)
+
+      module _ (draws : Vec Row) (next : Cursor) (are : AreMany (IsWide system.variables) case.draws draws.items) (first : Takes (row_lines heads.Draw draws.items) mid next) where
+        pub shown_stop : (f : Failure) → FailsBy shown next f → FailsBy (side known left) old f
+        shown_stop f h =
+            choice_goes mid heads.Take zs at (both terms shown) f (ap (take_behind system.variables known) named)
+            (second_fails terms (λ _. shown) tt mid next f (ap terms.read first.lines ∙ draws_read system.variables case.draws draws.items next.lines are.many are.each) first.last h)
+
+        pub take_read : (lists : Vec (Vec ℤ)) (new : Cursor) → AreMany (AreNumbers (known + 1)) (length case.guards + n) (lists_in lists) → Takes (by_lines (lists_in lists)) next new → (tree : ChoiceTree) → tree ≡ Take c k j draws lists → IsChoiceWithin system p may_stop destination known left tree × Takes (choice_lines tree) old new
+        take_read lists new many t tree made = subst (λ t. IsChoiceWithin system p may_stop destination known left t × Takes (choice_lines t) old new) (sym made) (
+          record {
+            shape = subst (λ o. TakeShape system.variables (destination_owes system.variables p destination) known o k j draws.items (lists_in lists)) (sym is.there) (
+              are.many,
+              are.each,
+              subst (λ o. ListsShape (known + 1) o (lists_in lists)) (sym (guards_and (length case.guards) n (destination_owes system.variables p destination case draws.items k j) (is.owes draws.items))) (many.many, listed_wide (known + 1) (lists_in lists) many.each),
+            );
+            shallow = omega arith;
+            narrow = listed_narrow (known + 1) lists.items many.each;
+          },
+          takes_as ((formed heads.Take zs ∷ []) ++ (row_lines heads.Draw draws.items ++ by_lines (lists_in lists))) (choice_lines (Take c k j draws lists)) old new (λ i. formed heads.Take (is.numbers i) ∷ (row_lines heads.Draw draws.items ++ by_lines (lists_in lists)))
+              (takes_both (formed heads.Take zs ∷ []) (row_lines heads.Draw draws.items ++ by_lines (lists_in lists)) old mid new at.front (takes_both (row_lines heads.Draw draws.items) (by_lines (lists_in lists)) mid next new first t)),
+        )
+
+    -- ---- a refutation, and a split
+
+    pub empty_stops : (mid : Cursor) (zs : List ℤ) → IsBehind heads.Empty zs old mid → (length zs ≡ known → ⊥) → FaultAt (side known left) old Shape mid.taken
+    empty_stops mid zs at none = choice_stops mid heads.Empty zs at Shape (ap empty_behind (test_false (length zs) known none))
+
+    module _ (mid : Cursor) (zs : List ℤ) (at : IsBehind heads.Split zs old mid) where
+      pub deep_stops : left ≡ 0 → FaultAt (side known left) old Deep mid.taken
+      deep_stops e = choice_stops mid heads.Split zs at Deep (sides_deep side known left (length zs == system.variables + 1) e)
+
+      pub row_stops : (left ≡ 0 → ⊥) → (length zs ≡ system.variables + 1 → ⊥) → FaultAt (side known left) old Shape mid.taken
+      row_stops some none = choice_stops mid heads.Split zs at Shape (sides_wrong side known left (length zs == system.variables + 1) some (test_false (length zs) (system.variables + 1) none))
+
+      module _ (row : Linear) (is : IsRowOf system.variables zs row) (some : left ≡ 0 → ⊥) where
+        split_goes : cases (formed heads.Split zs) ≡ go (both (side (known + 1) (left - 1)) (side (known + 1) (left - 1)))
+        split_goes =
+            sides_go side known left (length zs == system.variables + 1) some
+            (test_true (length zs) (system.variables + 1) (ap length is.numbers ∙ numbers_long system.variables row is.wide))
+
+        pub holds_fail : (f : Failure) → FailsBy (side (known + 1) (left - 1)) mid f → FailsBy (side known left) old f
+        holds_fail f h =
+            choice_goes mid heads.Split zs at (both (side (known + 1) (left - 1)) (side (known + 1) (left - 1))) f split_goes (first_fails (side (known + 1) (left - 1)) (λ _. side (known + 1) (left - 1)) mid f h)
+
+        module _ (holds : ChoiceTree) (next : Cursor) (one : IsChoiceWithin system p may_stop destination (known + 1) (left - 1) holds) (first : Takes (choice_lines holds) mid next) where
+          pub fails_fail : (f : Failure) → FailsBy (side (known + 1) (left - 1)) next f → FailsBy (side known left) old f
+          fails_fail f h =
+              choice_goes mid heads.Split zs at (both (side (known + 1) (left - 1)) (side (known + 1) (left - 1))) f split_goes
+              (second_fails (side (known + 1) (left - 1)) (λ _. side (known + 1) (left - 1)) tt mid next f
+              (ap (side (known + 1) (left - 1)).read first.lines
+              ∙ choice_read false system.variables system.cases (place_of p) may_stop (destination_owes system.variables p destination) (owes_free system.variables p destination) (left - 1) (known + 1) holds next.lines one.shape one.shallow) first.last h)
+
+          pub split_read : (fails tree : ChoiceTree) (new : Cursor) → IsChoiceWithin system p may_stop destination (known + 1) (left - 1) fails → Takes (choice_lines fails) next new → IsChoiceSplitOf row holds fails tree → IsChoiceWithin system p may_stop destination known left tree × Takes (choice_lines tree) old new
+          split_read fails (Split' r q a s b) new two second split = (
+            record {
+              shape = (
+                ap columns split.0 ∙ is.wide,
+                subst (ChoiceShape system.variables system.cases (place_of p) may_stop (destination_owes system.variables p destination) (known + 1)) (sym split.1) one.shape,
+                subst (ChoiceShape system.variables system.cases (place_of p) may_stop (destination_owes system.variables p destination) (known + 1)) (sym split.2) two.shape,
+              );
+              shallow = (let x = ap choice_splits split.1 in let y = ap choice_splits split.2 in omega (arith, x, y, one.shallow, two.shallow, some));
+              narrow = (subst ChoiceNarrow (sym split.1) one.narrow, subst ChoiceNarrow (sym split.2) two.narrow);
+            },
+            takes_as ((formed heads.Split zs ∷ []) ++ (choice_lines holds ++ choice_lines fails)) (choice_lines (Split' r q a s b)) old new
+                ((λ i. formed heads.Split (is.numbers i) ∷ (choice_lines holds ++ choice_lines fails)) ∙ (λ i. row_line heads.Split (sym split.0 i) ∷ (choice_lines (sym split.1 i) ++ choice_lines (sym split.2 i))))
+                (takes_both (formed heads.Split zs ∷ []) (choice_lines holds ++ choice_lines fails) old mid new at.front (takes_both (choice_lines holds) (choice_lines fails) mid next new first second)),
+          )
+          split_read fails (Empty ms) new two second split = absurd split
+          split_read fails (NoStep covers) new two second split = absurd split
+          split_read fails (Take c k j draws lists) new two second split = absurd split
+
+    -- ---- no step, and a line that begins no choice
+
+    module _ (mid : Cursor) (at : IsBehind heads.NoStep [] old mid) where
+      pub no_step_stops : may_stop ≡ false → FaultAt (side known left) old Shape mid.taken
+      no_step_stops never = choice_stops mid heads.NoStep [] at Shape (ap (no_step_behind (no_step false left x known)) never)
+
+      module _ (may : may_stop ≡ true) (views : List LinearCase) (same : views ≡ system.cases) where
+        pub covers_fail : (f : Failure) → FailsBy (mapped (λ all. tt {0}) (each (stop_cover false left system.variables known) (cases_from (place_of p) views))) mid f → FailsBy (side known left) old f
+        covers_fail f h =
+            choice_goes mid heads.NoStep [] at (no_step false left x known) f (ap (no_step_behind (no_step false left x known)) may)
+            (subst (λ cs. FailsBy (mapped (λ all. tt {0}) (each (stop_cover false left system.variables known) (cases_from (place_of p) cs))) mid f) same h)
+
+        pub covers_read : (covers : Vec CoverTree) (new : Cursor) → AllZip (IsStop system.variables known left) (cases_from (place_of p) views) covers.items → Takes (flat_map cover_lines covers.items) mid new → IsChoiceWithin system p may_stop destination known left (NoStep covers) × Takes (choice_lines (NoStep covers)) old new
+        covers_read covers new zip t =
+            let all = subst (λ cs. AllZip (IsStop system.variables known left) (cases_from (place_of p) cs) covers.items) same zip in
+            let from = cases_from (place_of p) system.cases in (
+              record {
+                shape = (may, stops_shape system.variables known left from covers.items all);
+                shallow = stops_shallow system.variables known left from covers.items all;
+                narrow = stops_narrow system.variables known left from covers.items all;
+              },
+              takes_both (formed heads.NoStep [] ∷ []) (flat_map cover_lines covers.items) old mid new at.front t,
+            )
+
+    pub other_head : (head : Head) (zs : List ℤ) → (head ≡ heads.Split → ⊥) → (head ≡ heads.Empty → ⊥) → (head ≡ heads.NoStep → ⊥) → (head ≡ heads.Take → ⊥) → cases (formed head zs) ≡ stop Shape
+    other_head heads.Split zs a b c d = absurd (a refl)
+    other_head heads.Empty zs a b c d = absurd (b refl)
+    other_head heads.NoStep zs a b c d = absurd (c refl)
+    other_head heads.Take zs a b c d = absurd (d refl)
+    other_head head zs a b c d = refl

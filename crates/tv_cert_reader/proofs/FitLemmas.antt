@@ -1,0 +1,129 @@
+-- What is read fits, and its lines are those of its certificate.
+use Rattle.std.proofs.Common.{◌≡◌, ℕ, ◌+◌, ◌≤◌, List, [], ◌∷◌, ◌++◌, All, refl, sym, ap, ◌∙◌, subst, arith}
+use Rattle.std.specs.Prelude.{max, IsTrue, nat_le}
+use Rattle.std.specs.List.{AllZip}
+use Rattle.std.proofs.lemmas.Bool.Decides.{nat_tests}
+use Rattle.std.proofs.lemmas.List.Elements.{All-nil, All-cons}
+use Rattle.tv_lines.specs.Lines.{PlainLine}
+use Rattle.tv_formula.specs.Formulas.{property_of}
+use Rattle.tv_formula.specs.Limits.{operators, most_operators}
+use Rattle.tv_formula.specs.Properties.{Property, truth, compare, at, term, negated, all_of, some_of, next, fix, Properties, none, more}
+use Rattle.tv_cases.specs.Comparisons.{comparison_lists}
+use Rattle.tv_cases.specs.LinearCases.{CaseSystem}
+use Rattle.tv_cert.specs.declared.claim.Claim.{Claim}
+use Rattle.tv_cert.specs.declared.node.Node.{Node, Node', Row_of-Node, end_of-Node, more_of-Node}
+use Rattle.tv_cert.specs.declared.node.Proof.{Proof}
+use Rattle.tv_cert.specs.declared.node.Proof.TheVariants.{Covered, Chosen}
+use Rattle.tv_cert.specs.declared.node.Verdict.{Verdict}
+use Rattle.tv_cert.specs.declared.node.Verdict.TheVariants.{Proved, Disproved}
+use Rattle.tv_cert.specs.Claims.{about_with, claim_variables, shown}
+use Rattle.tv_cert.specs.Nodes.{parts, pieces_of}
+use Rattle.tv_cert.specs.Obligations.{About, Obligation, Owed, a_cover, a_choice, a_point}
+use Rattle.tv_cert.specs.Shapes.{HasShape, HaveShapes, ProofShape}
+use Rattle.tv_cert.specs.Statements.{stated}
+use Rattle.tv_cert.proofs.NodeLemmas.{pieces_are}
+use Rattle.tv_shape.specs.Depths.{proof_splits}
+use Rattle.tv_shape.specs.Fitting.{GoesWithin, KidsGoWithin, Fits, VerdictFits, VerdictShallow}
+use Rattle.tv_cert_text.specs.CertificateLines.{node_lines, certificate_lines}
+use Rattle.tv_cert_grammar.specs.Shaped.{IsShapedAs, stated_lines}
+use Rattle.tv_cert_grammar.proofs.CompleteStated.{shaped_back, lines_as}
+use Rattle.tv_cert_reader.specs.Texts.{sides_of}
+use Rattle.tv_cert_reader.specs.Wholes.{IsVerdictOver, behind_root, says, IsBehindSaid, begun, side}
+
+-- ---- how deep it goes
+
+shallow : (o : Owed) (p : Proof) → ProofShape o p → proof_splits p ≤ 128
+shallow (a_cover n known owed) (Covered tree) h = h.1
+shallow (a_cover n known owed) (Chosen tree) h = absurd h
+shallow (a_choice n cases l stop owed known) (Covered tree) h = absurd h
+shallow (a_choice n cases l stop owed known) (Chosen tree) h = h.1
+shallow (a_point xs rows) p h = absurd h
+
+all_shallow : (depth : ℕ) → depth ≤ 256 → (os : List Obligation) (proofs : List Proof) → AllZip (λ o p. ProofShape o.owed p) os proofs → All (λ p. depth + proof_splits p ≤ 384) proofs
+all_shallow depth few [] [] h = All-nil (λ p. depth + proof_splits p ≤ 384)
+all_shallow depth few [] (p ∷ proofs) h = absurd h
+all_shallow depth few (o ∷ os) [] h = absurd h
+all_shallow depth few (o ∷ os) (p ∷ proofs) h =
+    All-cons (λ q. depth + proof_splits q ≤ 384) p proofs (let n = shallow o.owed p h.0 in omega (arith, few, n)) (all_shallow depth few os proofs h.1)
+
+-- each of the formulas has few operators
+abbrev AreShort : ℕ → Properties → Type 0
+AreShort depth none = Unit {0}
+AreShort depth (more f fs) = (depth + operators f ≤ 256) × AreShort depth fs
+
+max_left : (a b : ℕ) → a ≤ max a b
+max_left a b = grind (arith, nat_tests)
+
+max_right : (a b : ℕ) → b ≤ max a b
+max_right a b = grind (arith, nat_tests)
+
+short : (depth : ℕ) (fs : Properties) → depth + most_operators fs ≤ 256 → AreShort depth fs
+short depth none h = tt
+short depth (more f fs) h =
+    (let a = max_left (operators f) (most_operators fs) in omega (arith, a, h), short depth fs (let a = max_right (operators f) (most_operators fs) in omega (arith, a, h)))
+
+parts_short : (depth : ℕ) (f : Property) → depth + operators f ≤ 256 → AreShort (depth + 1) (parts f)
+parts_short depth (truth b) h = tt
+parts_short depth (compare r a b) h = tt
+parts_short depth (at l) h = tt
+parts_short depth term h = tt
+parts_short depth (negated f) h = tt
+parts_short depth (all_of fs) h = short (depth + 1) fs (omega (arith, h))
+parts_short depth (some_of fs) h = short (depth + 1) fs (omega (arith, h))
+parts_short depth (next path f) h = (omega (arith, h), tt)
+parts_short depth (fix path shape f g) h =
+    (let a = max_left (operators f) (operators g) in omega (arith, a, h), (let a = max_right (operators f) (operators g) in omega (arith, a, h), tt))
+
+mutual
+  goes_within : (about : About) (f : Property) (n : Node) (depth : ℕ) → HasShape about f n → depth + operators f ≤ 256 → GoesWithin depth n
+  goes_within about f (Node' ps m shape kids proofs) depth h few =
+      (omega (arith, few), all_shallow depth (omega (arith, few)) _ proofs.items h.0.offered, kids_within about (parts f) kids (depth + 1) h.1 (parts_short depth f few))
+
+  kids_within : {k : _} (about : About) (fs : Properties) (kids : Row_of-Node k) (depth : ℕ) → HaveShapes about fs kids → AreShort depth fs → KidsGoWithin depth kids
+  kids_within about none end_of-Node depth h few = tt
+  kids_within about none (more_of-Node a kids) depth h few = absurd h
+  kids_within about (more f fs) end_of-Node depth h few = absurd h
+  kids_within about (more f fs) (more_of-Node a kids) depth h few = (goes_within about f a depth h.0 few.0, kids_within about fs kids depth h.1 few.1)
+
+few_steps : (n : ℕ) → IsTrue (nat_le n 200) → 1 + n ≤ 256
+few_steps n h = grind (arith, nat_tests)
+
+-- ---- what is read
+
+module _ (system : CaseSystem) (claim : Claim) (variables : claim_variables claim ≡ system.variables) where
+  abbrev about : About
+  about = about_with system
+
+  shows : (verdict : Verdict) → side (sides_of claim) (says verdict) ≡ stated about.tests (shown claim verdict)
+  shows (Proved tree) = ap (λ n. stated (comparison_lists n) (property_of claim.proved)) variables
+  shows (Disproved k values) = ap (λ n. stated (comparison_lists n) (property_of claim.denied)) variables
+
+  short_claim : (verdict : Verdict) → 1 + operators (shown claim verdict) ≤ 256
+  short_claim (Proved tree) = few_steps (operators (property_of claim.proved)) claim.proved.within_limits.few_operators
+  short_claim (Disproved k values) = few_steps (operators (property_of claim.denied)) claim.denied.within_limits.few_operators
+
+  verdict_fits : (root : Node) (verdict : Verdict) → IsVerdictOver system root verdict → VerdictFits about (pieces_of root) verdict
+  verdict_fits root (Proved tree) h = subst (λ ps. VerdictFits about ps (Proved tree)) (sym (pieces_are root)) (record { shape = (h.shape, h.shallow); narrow = h.narrow })
+  verdict_fits root (Disproved k values) h = subst (λ ps. VerdictFits about ps (Disproved k values)) (sym (pieces_are root)) (record { shape = (h.0, h.1); narrow = h.2 })
+
+  shallow_verdict : (root : Node) (verdict : Verdict) → IsVerdictOver system root verdict → VerdictShallow verdict
+  shallow_verdict root (Proved tree) h = (let n = h.shallow in omega (arith, n))
+  shallow_verdict root (Disproved k values) h = tt
+
+  pub read_fits : (rest : List PlainLine) (root : Node) (verdict : Verdict) → IsBehindSaid system (side (sides_of claim) (says verdict)) (says verdict) rest root verdict → Fits about (shown claim verdict) root verdict
+  read_fits rest root verdict h =
+      let shaped = shaped_back about (shown claim verdict) root (subst (λ s. IsShapedAs system s root) (shows verdict) h.root_is.shape) in
+      record {
+        nodes = record { shape = shaped; narrow = h.root_is.narrow; depth = goes_within about (shown claim verdict) root 1 shaped (short_claim verdict) };
+        shallow = shallow_verdict root verdict h.verdict_is;
+        said = verdict_fits root verdict h.verdict_is;
+      }
+
+  lines_with : (verdict : Verdict) (root : Node) → begun (says verdict) (node_lines (shown claim verdict) root ++ behind_root verdict) ≡ certificate_lines (shown claim verdict) root verdict
+  lines_with (Proved tree) root = refl
+  lines_with (Disproved k values) root = refl
+
+  pub read_lines : (rest : List PlainLine) (root : Node) (verdict : Verdict) → IsBehindSaid system (side (sides_of claim) (says verdict)) (says verdict) rest root verdict → begun (says verdict) rest ≡ certificate_lines (shown claim verdict) root verdict
+  read_lines rest root verdict h =
+      ap (begun (says verdict)) (h.lines ∙ ap (λ s. stated_lines s root ++ behind_root verdict) (shows verdict) ∙ ap (λ ls. ls ++ behind_root verdict) (lines_as about (shown claim verdict) root))
+      ∙ lines_with verdict root

@@ -1,0 +1,15 @@
+pub mod ReadingLemmas
+pub mod PartLemmas
+pub mod HeadLemmas
+pub mod RegionLemmas
+pub mod CountLemmas
+pub mod SideLemmas
+pub mod CoverLemmas
+pub mod NodeLemmas
+pub mod RestLemmas
+pub mod FitLemmas
+pub mod ReadLemmas
+pub mod ChoiceLemmas
+pub mod TakenLemmas
+pub mod StopLemmas
+pub mod ProofLemmas

@@ -1,0 +1,107 @@
+-- What is read where there is no step.
+use Rattle.std.proofs.Common.{◌≡◌, ℕ, zero, suc, ◌+◌, ◌<◌, ◌≤◌, true, false, List, [], ◌∷◌, ◌++◌, length, All, drop, get_or, Ok, refl, sym, ap, ◌∙◌, subst, arith, cond, drop-cons}
+use Rattle.std.specs.Prelude.{◌==◌}
+use Rattle.std.specs.List.{AllZip, flat_map}
+use Rattle.std.proofs.Math.ListN.{drop_of_length-le}
+use Rattle.std.proofs.lemmas.List.{append_assoc, append-nil}
+use Rattle.std.proofs.lemmas.List.Elements.{All-head, All-tail}
+use Rattle.tv_grammar.specs.Reads.{fault, ◌>>=◌}
+use Rattle.tv_grammar.specs.Langs.{mapped, each}
+use Rattle.tv_lines.specs.Lines.{PlainLine}
+use Rattle.tv_linear.specs.declared.cover.CoverTree.{CoverTree}
+use Rattle.tv_cases.specs.declared.case.Case.{Case}
+use Rattle.tv_cases.specs.LinearCases.{LinearCase, IsCase}
+use Rattle.tv_cases.specs.Views.{case_view, case_views}
+use Rattle.tv_cert.specs.Choices.{cases_from}
+use Rattle.tv_cert_text.specs.CertificateLines.{cover_lines}
+use Rattle.tv_cert_grammar.specs.declared.kind.LineKind.{LineKind}
+use Rattle.tv_cert_grammar.specs.Demands.{no_counts}
+use Rattle.tv_cert_grammar.specs.Lines.{Grammar}
+use Rattle.tv_cert_grammar.specs.Choices.{stop_cover}
+use Rattle.tv_cert_grammar.proofs.CompleteReads.{then_read}
+use Rattle.tv_cert_grammar.proofs.CompleteCovers.{cover_read}
+use Rattle.tv_cert_reader.specs.declared.cursor.Cursor.{Cursor}
+use Rattle.tv_cert_reader.specs.declared.failure.Failure.{Failure}
+use Rattle.tv_cert_reader.specs.declared.failure.Failure.TheVariants.{Fault, Memory}
+use Rattle.tv_cert_reader.specs.Reading.{Takes, FailsBy}
+use Rattle.tv_cert_reader.specs.Choices.{IsStop}
+use Rattle.tv_cert_reader.proofs.ReadingLemmas.{mapped_fails, takes_none, takes_both, takes_as, last_text}
+
+-- what was read for some of a list, and what of the list is left
+pub record Stepped {B A : Type 0} (R : B → A → Type 0) (text : A → List PlainLine) (all left : List B) (old now : Cursor) (xs : List A) : Type 0 where
+  pub done : List B
+  pub parts : all ≡ done ++ left
+  pub zip : AllZip R done xs
+  pub took : Takes (flat_map text xs) old now
+
+zip_last : {B A : Type 0} (R : B → A → Type 0) (bs : List B) (xs : List A) (b : B) (x : A) → AllZip R bs xs → R b x → AllZip R (bs ++ b ∷ []) (xs ++ x ∷ [])
+zip_last R [] [] b x h r = (r, tt)
+zip_last R [] (y ∷ xs) b x h r = absurd h
+zip_last R (c ∷ bs) [] b x h r = absurd h
+zip_last R (c ∷ bs) (y ∷ xs) b x h r = (h.0, zip_last R bs xs b x h.1 r)
+
+module _ {B A : Type 0} (R : B → A → Type 0) (text : A → List PlainLine) (all : List B) (old : Cursor) where
+  pub stepped_none : Stepped R text all all old old []
+  stepped_none = record { done = []; parts = refl; zip = tt; took = takes_none old }
+
+  pub stepped_next : (b : B) (left more : List B) (now new : Cursor) (xs ys : List A) (x : A) → Stepped R text all more old now xs → more ≡ b ∷ left → R b x → Takes (text x) now new → ys ≡ xs ++ x ∷ [] → Stepped R text all left old new ys
+  stepped_next b left more now new xs ys x s is r t e = subst (Stepped R text all left old new) (sym e) (record {
+    done = s.done ++ b ∷ [];
+    parts = s.parts ∙ ap (λ l. s.done ++ l) is ∙ sym (append_assoc s.done (b ∷ []) left);
+    zip = zip_last R s.done xs b x s.zip r;
+    took = takes_as (flat_map text xs ++ text x) (flat_map text (xs ++ x ∷ [])) old new (last_text text xs x) (takes_both (flat_map text xs) (text x) old now new s.took t);
+  })
+
+  pub stepped_as : (left more : List B) (now : Cursor) (xs : List A) → Stepped R text all more old now xs → more ≡ left → Stepped R text all left old now xs
+  stepped_as left more now xs s e = subst (λ l. Stepped R text all l old now xs) e s
+
+  pub stepped_all : (now : Cursor) (xs : List A) → Stepped R text all [] old now xs → AllZip R all xs × Takes (flat_map text xs) old now
+  stepped_all now xs s = (subst (λ bs. AllZip R bs xs) (sym (s.parts ∙ append-nil s.done)) s.zip, s.took)
+
+-- some are read, and the next one fails
+module _ {B A X : Type 0} (l : B → Grammar X) (R : B → A → Type 0) (text : A → List PlainLine) (value : A → X) (reads : (b : B) (a : A) (r : List PlainLine) → R b a → (l b).read (text a ++ r) ≡ Ok (value a, r)) where
+  each_fault : (bs left : List B) (b : B) (xs : List A) (now r : List PlainLine) (k : LineKind) → AllZip R bs xs → (l b).read now ≡ fault k r → (each l (bs ++ b ∷ left)).read (flat_map text xs ++ now) ≡ fault k r
+  unfolding each
+  each_fault [] left b [] now r k all e = ap (λ o. o >>= λ x. (mapped (λ xs. x.0 ∷ xs) (each l left)).read x.1) e
+  each_fault [] left b (a ∷ xs) now r k all e = absurd all
+  each_fault (c ∷ bs) left b [] now r k all e = absurd all
+  each_fault (c ∷ bs) left b (a ∷ xs) now r k all e =
+      ap (each l (c ∷ (bs ++ b ∷ left))).read (append_assoc (text a) (flat_map text xs) now)
+      ∙ then_read (l c) (λ x. mapped (λ more. x ∷ more) (each l (bs ++ b ∷ left))) (text a ++ (flat_map text xs ++ now)) (value a) (flat_map text xs ++ now) (reads c a (flat_map text xs ++ now) all.0)
+      ∙ ap (λ o. o >>= λ y. Ok (value a ∷ y.0, y.1)) (each_fault bs left b xs now r k all.1 e)
+
+  pub each_fails : (all left more : List B) (b : B) (old now : Cursor) (xs : List A) (f : Failure) → Stepped R text all more old now xs → more ≡ b ∷ left → FailsBy (l b) now f → FailsBy (each l all) old f
+  each_fails all left more b old now xs (Fault k line) s is h = record {
+    rest = h.rest;
+    read = (λ i. (each l ((s.parts ∙ ap (λ m. s.done ++ m) is) i)).read (s.took.lines i)) ∙ each_fault s.done left b xs now.lines h.rest k s.zip h.read;
+    counted = omega (arith, s.took.last, h.counted);
+  }
+  each_fails all left more b old now xs Memory s is h = tt
+
+-- ---- the cases from a location
+
+left_at : (cs : List Case) (i : ℕ) (c : Case) → i < length cs → c ≡ get_or cs i c → drop i cs ≡ c ∷ drop (i + 1) cs
+left_at cs i c below is = drop-cons cs i c below ∙ (let k : suc i ≡ i + 1 = omega arith in λ j. sym is j ∷ drop (k j) cs)
+
+abbrev pub from_left : ℕ → List Case → ℕ → List LinearCase
+from_left l cs i = cases_from l (case_views (drop i cs))
+
+module _ (l : ℕ) (cs : List Case) (i : ℕ) (c : Case) (below : i < length cs) (is : c ≡ get_or cs i c) where
+  pub case_from : (c.from == l) ≡ true → from_left l cs i ≡ case_view c ∷ from_left l cs (i + 1)
+  case_from t = ap (λ ds. cases_from l (case_views ds)) (left_at cs i c below is) ∙ ap (λ b. cond b (case_view c ∷ from_left l cs (i + 1)) (from_left l cs (i + 1))) t
+
+  pub case_elsewhere : (c.from == l) ≡ false → from_left l cs i ≡ from_left l cs (i + 1)
+  case_elsewhere t = ap (λ ds. cases_from l (case_views ds)) (left_at cs i c below is) ∙ ap (λ b. cond b (case_view c ∷ from_left l cs (i + 1)) (from_left l cs (i + 1))) t
+
+pub none_from : (l : ℕ) (cs : List Case) (i : ℕ) → length cs ≤ i → from_left l cs i ≡ []
+none_from l cs i over = ap (λ ds. cases_from l (case_views ds)) (drop_of_length-le cs over)
+
+pub stop_fails : (n known left : ℕ) (all later more : List LinearCase) (c : LinearCase) (old now : Cursor) (xs : List CoverTree) (f : Failure) → Stepped (IsStop n known left) cover_lines all more old now xs → more ≡ c ∷ later → FailsBy (stop_cover false left n known c) now f → FailsBy (mapped (λ all. tt {0}) (each (stop_cover false left n known) all)) old f
+stop_fails n known left all later more c old now xs f s is h =
+    mapped_fails (λ all. tt {0}) (each (stop_cover false left n known) all) old f
+    (each_fails (stop_cover false left n known) (IsStop n known left) cover_lines (λ t. tt {0}) (λ c t r w. cover_read false left (n + c.draws) (known + length c.guards) no_counts t r w.shape w.shallow) all later more c old now xs f s is h)
+
+pub case_at : (v l : ℕ) (cs : List Case) (i : ℕ) (c : Case) → i < length cs → c ≡ get_or cs i c → All (IsCase v l) (case_views cs) → IsCase v l (case_view c)
+case_at v l [] i c below is all = absurd (omega arith)
+case_at v l (d ∷ cs) zero c below is all = subst (λ x. IsCase v l (case_view x)) (sym is) (All-head (IsCase v l) (case_view d) (case_views cs) all)
+case_at v l (d ∷ cs) (suc i) c below is all = case_at v l cs i c (omega arith) is (All-tail (IsCase v l) (case_view d) (case_views cs) all)

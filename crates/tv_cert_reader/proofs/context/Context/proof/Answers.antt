@@ -1,0 +1,48 @@
+use Rattle.std.proofs.Common.{map, refl, sym, ◌∙◌, subst}
+use Rattle.std.specs.List.{flat_map}
+use Rattle.std.proofs.lemmas.List.{length-map}
+use Rattle.tv_linear.specs.Known.{given, as_given}
+use Rattle.tv_cases.specs.Systems.{cases_of}
+use Rattle.tv_cert.specs.Listed.{pieces_list}
+use Rattle.tv_cert.specs.Obligations.{a_cover, truth_targets}
+use Rattle.tv_cert.specs.Owing.{owed_by}
+use Rattle.tv_cert.specs.Pieces.{rows_of, place_of}
+use Rattle.tv_cert.specs.Targets.{owed_into, owed_lists, no_fall}
+use Rattle.tv_cert_reader.specs.Proofs.{ReadsProof}
+use Rattle.tv_cert_reader.proofs.context.Context.proof.Goals as goal
+
+pub returns-in-Rows : goal.returns-in-Rows
+returns-in-Rows c =
+    let p = c.in-Rows.piece.now in
+    let owed = owed_lists (map (λ l. l.items) c.in-Rows.lists.now) in
+    subst (λ o. ReadsProof (owed_by (cases_of c.args.self.now.about.now) o) c.args.cursor.now c.cover.new.cursor c.cover.result) (sym c.in-Rows.is)
+    (subst (λ n. ReadsProof (a_cover n (as_given (rows_of p)) owed) c.args.cursor.now c.cover.new.cursor c.cover.result) c.variables-columns.ensures.same
+    (c.cover.ensures (as_given (rows_of p)) owed (length-map (rows_of p) given ∙ sym (c.len-known.ensures ∙ p.piece.poly.rows.ok.0)) refl))
+
+pub returns-in-Truth : goal.returns-in-Truth
+returns-in-Truth c =
+    let p = c.in-Truth.piece.now in
+    let owed = owed_lists (truth_targets c.in-Truth.truth) in
+    subst (λ o. ReadsProof (owed_by (cases_of c.args.self.now.about.now) o) c.args.cursor.now c.cover-in-Truth.new.cursor c.cover-in-Truth.result) (sym c.in-Truth.is)
+    (subst (λ n. ReadsProof (a_cover n (as_given (rows_of p)) owed) c.args.cursor.now c.cover-in-Truth.new.cursor c.cover-in-Truth.result) c.variables-columns.ensures.same
+    (c.cover-in-Truth.ensures (as_given (rows_of p)) owed (length-map (rows_of p) given ∙ sym (c.len-known-in-Truth.ensures ∙ p.piece.poly.rows.ok.0)) refl))
+
+pub returns-in-Pieces : goal.returns-in-Pieces
+returns-in-Pieces c =
+    let p = c.in-Pieces.piece.now in
+    let owed = owed_into c.in-Pieces.into.now (place_of p) given no_fall in
+    subst (λ o. ReadsProof (owed_by (cases_of c.args.self.now.about.now) o) c.args.cursor.now c.cover-in-Pieces.new.cursor c.cover-in-Pieces.result) (sym c.in-Pieces.is)
+    (subst (λ n. ReadsProof (a_cover n (as_given (rows_of p)) owed) c.args.cursor.now c.cover-in-Pieces.new.cursor c.cover-in-Pieces.result) c.variables-columns.ensures.same
+    (c.cover-in-Pieces.ensures (as_given (rows_of p)) owed (length-map (rows_of p) given ∙ sym (c.len-known-in-Pieces.ensures ∙ p.piece.poly.rows.ok.0)) (λ i x y. c.pieces_into-targets.ensures.counts given x y i)))
+
+pub returns-in-Joined : goal.returns-in-Joined
+returns-in-Joined c =
+    let p = c.in-Joined.piece.now in
+    let owed = owed_into (flat_map (λ a. a) (map pieces_list c.in-Joined.nodes.now)) (place_of p) given no_fall in
+    subst (λ o. ReadsProof (owed_by (cases_of c.args.self.now.about.now) o) c.args.cursor.now c.cover-in-Joined.new.cursor c.cover-in-Joined.result) (sym c.in-Joined.is)
+    (subst (λ n. ReadsProof (a_cover n (as_given (rows_of p)) owed) c.args.cursor.now c.cover-in-Joined.new.cursor c.cover-in-Joined.result) c.variables-columns.ensures.same
+    (c.cover-in-Joined.ensures (as_given (rows_of p)) owed (length-map (rows_of p) given ∙ sym (c.len-known-in-Joined.ensures ∙ p.piece.poly.rows.ok.0)) refl))
+
+pub returns-in-Choice : goal.returns-in-Choice
+returns-in-Choice c =
+    subst (λ o. ReadsProof (owed_by (cases_of c.args.self.now.about.now) o) c.args.cursor.now c.choice.new.cursor c.choice.result) (sym c.in-Choice.is) c.choice.ensures

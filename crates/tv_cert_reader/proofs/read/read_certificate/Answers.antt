@@ -1,0 +1,29 @@
+use Rattle.std.proofs.Common.{length, refl, sym, ap, ◌∙◌, subst, arith}
+use Rattle.tv_cases.specs.Systems.{cases_of}
+use Rattle.tv_cert_reader.specs.Texts.{IsRefusedText}
+use Rattle.tv_cert_reader.proofs.FitLemmas.{read_fits, read_lines}
+use Rattle.tv_cert_reader.proofs.ReadLemmas.{lines_few, found, refused}
+use Rattle.tv_cert_reader.proofs.read.read_certificate.Goals as goal
+
+pub invariant_of-cursor : goal.invariant_of-cursor
+invariant_of-cursor c = record {
+  room = (let f = lines_few c.args.text.now in let e = ap length c.new.ensures in let r = c.requires.few in omega (arith, f, e, r));
+}
+
+pub certified-requires-clause-fits : goal.certified-requires-clause-fits
+certified-requires-clause-fits c =
+    read_fits (cases_of c.args.about.now) c.args.claim.now c.requires.variables c.in-Ok.ensures.0 c.in-Ok.root c.in-Ok.verdict c.in-Ok.ensures.2
+
+pub returns-in-Ok-clause-found : goal.returns-in-Ok-clause-found
+returns-in-Ok-clause-found c =
+    let system = cases_of c.args.about.now in
+    let a = c.args.about.now.are_cases.starts in
+    found system (omega (arith, a)) c.args.claim.now c.requires.variables c.args.text.now c.in-Ok.root c.in-Ok.verdict c.certified.result
+    (sym c.new.ensures ∙ c.in-Ok.ensures.1 ∙ read_lines system c.args.claim.now c.requires.variables c.in-Ok.ensures.0 c.in-Ok.root c.in-Ok.verdict c.in-Ok.ensures.2) c.certified.ensures
+
+pub returns-in-Err-clause-refused : goal.returns-in-Err-clause-refused
+returns-in-Err-clause-refused c =
+    let system = cases_of c.args.about.now in
+    let a = c.args.about.now.are_cases.starts in
+    subst (λ f. IsRefusedText system c.args.claim.now c.args.text.now f) (sym c.fault_of.ensures) (refused system (omega (arith, a)) c.args.claim.now c.requires.variables c.args.text.now c.in-Err.failure
+    (record { lines = c.new.result; taken = 0; room = (let f = lines_few c.args.text.now in let e = ap length c.new.ensures in let r = c.requires.few in omega (arith, f, e, r)) }) c.new.ensures refl c.in-Err.ensures)

@@ -1,0 +1,50 @@
+-- How many rows are owed on entering a target by a fall.
+use Rattle.std.specs.Prelude.{◌≡◌, ℕ, ◌<◌, ◌^◌, ℤ, pos, List, [], ◌∷◌, length, map, Option, None, Some}
+use Rattle.std.specs.Borrow.{Bor}
+use Rattle.std.specs.List.{flat_map}
+use Rattle.tv_linear.specs.Linear.{Linear}
+use Rattle.tv_linear.specs.Known.{Known, given}
+use Rattle.tv_linear.specs.Covers.{no_target}
+use Rattle.tv_cert.specs.declared.node.Marked.{Marked}
+use Rattle.tv_cert.specs.Listed.{pieces_list}
+use Rattle.tv_cert.specs.Obligations.{truth_targets}
+use Rattle.tv_cert.specs.Pieces.{ranks_of}
+use Rattle.tv_cert.specs.Shapes.{owed_count}
+use Rattle.tv_cert.specs.Targets.{owed_into, owed_lists, no_fall, fall_from}
+use Rattle.tv_cert_reader.specs.declared.targets.Targets.{Targets}
+use Rattle.tv_cert_reader.specs.declared.targets.Targets.TheVariants as targets
+
+-- the falls that are owed from a piece, or none
+abbrev pub falls_past : (Linear → Known) → Option (Bor Marked) → Marked → ℕ → Option (List Known)
+falls_past change None = no_fall
+falls_past change (Some p) = fall_from change (ranks_of p.now)
+
+-- how many rows are owed; it is the same whatever the rows become on the way
+abbrev pub counts_of : Targets → ℕ → ℕ → Option ℕ
+counts_of targets.Nowhere = owed_count no_target
+counts_of (targets.Lists lists) = owed_count (owed_lists (map (λ l. l.items) lists.now))
+counts_of (targets.Truth truth) = owed_count (owed_lists (truth_targets truth))
+counts_of (targets.Joined nodes location) = owed_count (owed_into (flat_map (λ a. a) (map pieces_list nodes.now)) location given no_fall)
+counts_of (targets.Pieces from into location) = owed_count (owed_into into.now location given (falls_past given from))
+
+-- the ranks of a piece, or none
+abbrev pub ranks_past : Option (Bor Marked) → List Linear
+ranks_past None = []
+ranks_past (Some p) = ranks_of p.now
+
+-- the targets and their falls can be counted with 32 bits
+abbrev pub AreFew : Targets → Type 0
+AreFew targets.Nowhere = Unit {0}
+AreFew (targets.Lists lists) = length lists.now < 2 ^ 32
+AreFew (targets.Truth truth) = Unit {0}
+AreFew (targets.Joined nodes location) = length (flat_map (λ a. a) (map pieces_list nodes.now)) < 2 ^ 32
+AreFew (targets.Pieces from into location) = (length into.now < 2 ^ 32) × (length (ranks_past from) < 2 ^ 32)
+
+-- the numbers name this target and fall, which owe so many rows
+pub record IsTarget (counts : ℕ → ℕ → Option ℕ) (zs : List ℤ) (target fall rows : ℕ) : Type 0 where
+  pub numbers : zs ≡ pos target ∷ pos fall ∷ []
+  pub owes : counts target fall ≡ Some rows
+
+-- the numbers name no target and fall
+abbrev pub NamesNone : (ℕ → ℕ → Option ℕ) → List ℤ → Type 0
+NamesNone counts zs = (target fall rows : ℕ) → zs ≡ pos target ∷ pos fall ∷ [] → counts target fall ≡ Some rows → ⊥

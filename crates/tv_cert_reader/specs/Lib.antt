@@ -1,0 +1,14 @@
+pub mod Reading
+pub mod Sorts
+pub mod Parts
+pub mod Heads
+pub mod Regions
+pub mod Counts
+pub mod Covers
+pub mod Choices
+pub mod Texts
+pub mod Proofs
+pub mod Nodes
+pub mod Wholes
+pub mod Values
+pub mod Visits

@@ -1,0 +1,38 @@
+-- What is read of nodes.
+use Rattle.std.specs.Prelude.{false, List, [], ◌∷◌, ◌++◌, Result}
+use Rattle.tv_lines.specs.Lines.{PlainLine}
+use Rattle.tv_cases.specs.LinearCases.{CaseSystem}
+use Rattle.tv_cert.specs.declared.node.Node.{Node}
+use Rattle.tv_cert.specs.Statements.{Statement, Statements, no_statement, statement}
+use Rattle.tv_shape.specs.Fitting.{NodeNarrow}
+use Rattle.tv_cert_grammar.specs.Nodes.{node}
+use Rattle.tv_cert_grammar.specs.Shaped.{IsShapedAs, stated_lines}
+use Rattle.tv_cert_reader.specs.declared.cursor.Cursor.{Cursor}
+use Rattle.tv_cert_reader.specs.declared.failure.Failure.{Failure}
+use Rattle.tv_cert_reader.specs.Reading.{Reads, Takes}
+
+-- a node that is to show this, of narrow numbers
+pub record IsNodeOf (system : CaseSystem) (s : Statement) (n : Node) : Type 0 where
+  pub shape : IsShapedAs system s n
+  pub narrow : NodeNarrow n
+
+-- such a node is read
+abbrev pub ReadsNode : CaseSystem → Statement → Cursor → Cursor → Result Node Failure → Type 0
+ReadsNode system s old new result = Reads (λ n. n) (IsNodeOf system s) (stated_lines s) (node false system s) old new result
+
+-- the nodes are those of the first arguments
+abbrev pub AreFirstOf : CaseSystem → Statements → List Node → Type 0
+AreFirstOf system ss [] = Unit {0}
+AreFirstOf system no_statement (a ∷ kids) = ⊥
+AreFirstOf system (statement s ss) (a ∷ kids) = IsNodeOf system s a × AreFirstOf system ss kids
+
+-- the lines of nodes, told what they are to show
+abbrev pub nodes_lines : Statements → List Node → List PlainLine
+nodes_lines ss [] = []
+nodes_lines no_statement (a ∷ kids) = []
+nodes_lines (statement s ss) (a ∷ kids) = stated_lines s a ++ nodes_lines ss kids
+
+-- the first children are read
+pub record HaveRead (system : CaseSystem) (ss : Statements) (old now : Cursor) (kids : List Node) : Type 0 where
+  pub first : AreFirstOf system ss kids
+  pub took : Takes (nodes_lines ss kids) old now

@@ -1,0 +1,65 @@
+-- What is read of the parts of a certificate.
+use Rattle.std.specs.Prelude.{◌≡◌, ℕ, ◌+◌, ℤ, List, [], ◌∷◌, ◌++◌, length, map, All, Result}
+use Rattle.std.specs.Global.{Vec}
+use Rattle.tv_lines.specs.Lines.{PlainLine, formed}
+use Rattle.tv_lines.specs.Numbers.{IsNarrow}
+use Rattle.tv_linear.specs.Linear.{Linear, columns}
+use Rattle.tv_linear.specs.declared.row.Row.{Row}
+use Rattle.tv_cert_text.specs.CertificateLines.{row_line, row_lines, by_lines}
+use Rattle.tv_cert_grammar.specs.Lines.{many}
+use Rattle.tv_cert_reader.specs.declared.sort.Sort.{Sort}
+use Rattle.tv_cert_reader.specs.declared.sort.Sort.TheVariants.{By}
+use Rattle.tv_cert_reader.specs.declared.cursor.Cursor.{Cursor}
+use Rattle.tv_cert_reader.specs.declared.failure.Failure.{Failure}
+use Rattle.tv_cert_reader.specs.Sorts.{head_of, line_with}
+use Rattle.tv_cert_reader.specs.Reading.{Reads}
+
+-- the row has these numbers, the last of which is its constant, over so many columns
+pub record IsRowOf (width : ℕ) (zs : List ℤ) (row : Linear) : Type 0 where
+  pub wide : columns row ≡ width
+  pub numbers : zs ≡ row.coefficients ++ row.constant ∷ []
+
+-- so many things of one kind
+pub record AreMany {Y : Type 0} (Has : Y → Type 0) (count : ℕ) (ys : List Y) : Type 0 where
+  pub many : length ys ≡ count
+  pub each : All Has ys
+
+-- so many narrow numbers
+pub record AreNumbers (count : ℕ) (zs : List ℤ) : Type 0 where
+  pub many : length zs ≡ count
+  pub narrow : All IsNarrow zs
+
+abbrev pub numbers_of : Vec ℤ → List ℤ
+numbers_of v = v.items
+
+abbrev pub numbers_line : Sort → List ℤ → List PlainLine
+numbers_line sort zs = formed (head_of sort) zs ∷ []
+
+-- a line of so many numbers is read
+abbrev pub ReadsNumbers : Sort → ℕ → Cursor → Cursor → Result (Vec ℤ) Failure → Type 0
+ReadsNumbers sort count old new result = Reads numbers_of (AreNumbers count) (numbers_line sort) (line_with sort count) old new result
+
+-- a row over so many columns
+abbrev pub IsWide : ℕ → Linear → Type 0
+IsWide width r = columns r ≡ width
+
+abbrev pub one_row : Sort → Linear → List PlainLine
+one_row sort r = row_line (head_of sort) r ∷ []
+
+-- a row is read
+abbrev pub ReadsRow : Sort → ℕ → Cursor → Cursor → Result Row Failure → Type 0
+ReadsRow sort width old new result = Reads (λ r. r) (IsWide width) (one_row sort) (line_with sort (width + 1)) old new result
+
+abbrev pub rows_in : Vec Row → List Linear
+rows_in v = v.items
+
+-- so many rows are read
+abbrev pub ReadsRows : Sort → ℕ → ℕ → Cursor → Cursor → Result (Vec Row) Failure → Type 0
+ReadsRows sort width count old new result = Reads rows_in (AreMany (IsWide width) count) (row_lines (head_of sort)) (many count (line_with sort (width + 1))) old new result
+
+abbrev pub lists_in : Vec (Vec ℤ) → List (List ℤ)
+lists_in v = map (λ l. l.items) v.items
+
+-- so many lines of multipliers are read
+abbrev pub ReadsLists : ℕ → ℕ → Cursor → Cursor → Result (Vec (Vec ℤ)) Failure → Type 0
+ReadsLists wide count old new result = Reads lists_in (AreMany (AreNumbers wide) count) by_lines (many count (line_with By wide)) old new result

@@ -1,0 +1,35 @@
+-- What is read of the proofs of a node.
+use Rattle.std.specs.Prelude.{List, map, false, Result}
+use Rattle.std.specs.List.{AllZip, flat_map}
+use Rattle.std.specs.Global.{Vec}
+use Rattle.tv_grammar.specs.Langs.{each}
+use Rattle.tv_cert.specs.declared.node.Proof.{Proof}
+use Rattle.tv_cert.specs.Obligations.{Obligation, Owed}
+use Rattle.tv_cert.specs.Shapes.{ProofShape}
+use Rattle.tv_shape.specs.Narrow.{ProofNarrow}
+use Rattle.tv_cert_text.specs.CertificateLines.{proof_lines}
+use Rattle.tv_cert_grammar.specs.Demands.{demand_of}
+use Rattle.tv_cert_grammar.specs.Choices.{demanded}
+use Rattle.tv_cert_reader.specs.declared.cursor.Cursor.{Cursor}
+use Rattle.tv_cert_reader.specs.declared.failure.Failure.{Failure}
+use Rattle.tv_cert_reader.specs.Reading.{Reads}
+
+-- a proof of the shape that is owed, of narrow numbers
+pub record IsProofOf (o : Owed) (p : Proof) : Type 0 where
+  pub shape : ProofShape o p
+  pub narrow : ProofNarrow p
+
+-- such a proof is read
+abbrev pub ReadsProof : Owed → Cursor → Cursor → Result Proof Failure → Type 0
+ReadsProof o old new result = Reads (λ p. p) (IsProofOf o) proof_lines (demanded false (demand_of o)) old new result
+
+-- one for each obligation, in order
+abbrev pub AreProofsOf : List Obligation → List Proof → Type 0
+AreProofsOf os proofs = AllZip (λ o p. IsProofOf o.owed p) os proofs
+
+abbrev pub proofs_in : Vec Proof → List Proof
+proofs_in v = v.items
+
+-- they are read
+abbrev pub ReadsProofs : List Obligation → Cursor → Cursor → Result (Vec Proof) Failure → Type 0
+ReadsProofs os old new result = Reads proofs_in (AreProofsOf os) (flat_map proof_lines) (each (demanded false) (map (λ o. demand_of o.owed) os)) old new result

@@ -1,0 +1,157 @@
+ghost use Rattle.std.specs.Prelude.{◌≡◌, ◌+◌, ◌-◌, ◌<◌, ◌≤◌, ◌^◌, ℕ, Bool, [], All, IfOk, length};
+ghost use Rattle.tv_lines.specs.Numbers.{IsNarrow};
+ghost use Rattle.tv_linear.specs.Linear.{Linear};
+ghost use Rattle.tv_cases.specs.LinearCases.{CaseSystem, IsCase};
+ghost use Rattle.tv_cases.specs.Systems.{cases_of};
+ghost use Rattle.tv_cases.specs.Views.{case_view, case_views};
+ghost use Rattle.tv_cert.specs.declared.node.Marked.{Marked};
+ghost use Rattle.tv_cert.specs.declared.owes.Destination.{Destination};
+ghost use Rattle.tv_cert.specs.Choices.{cases_from};
+ghost use Rattle.tv_cert_reader.specs.declared.cursor.Cursor.{Cursor};
+ghost use Rattle.tv_cert_reader.specs.Covers.{IsBehind};
+ghost use Rattle.tv_cert_reader.specs.Choices.{AreFewAt, IsChoiceSplitOf, ReadsChoice, ReadsStop, ReadsStops};
+
+use crate::context::Context;
+use crate::cursor::Cursor;
+use crate::failure::Failure;
+use crate::lines::take;
+use crate::rows::row_of;
+use crate::targets::Targets;
+use std::alloc::{AllocError, Global};
+use tv_cases::Case;
+use tv_cert::{Destination, Marked};
+use tv_cert_grammar::LineKind;
+use tv_linear::{ChoiceTree, Cover, Row};
+use tv_lines::Head;
+
+/// A split at the row.
+fn split_of(
+    alloc: Global,
+    row: Row,
+    holds: ChoiceTree,
+    fails: ChoiceTree,
+) -> Result<ChoiceTree, AllocError>
+    ensures { IfOk result (IsChoiceSplitOf row holds fails) }
+{
+    let holds = Box::new(alloc, holds)?;
+    let fails = Box::new(alloc, fails)?;
+    Ok(ChoiceTree::Split(row, holds, fails))
+}
+
+/// A refutation of the place by the multipliers of a line, if there are as many as rows.
+fn empty_of(multipliers: Vec<i128>, known: u128, line: u32) -> Result<ChoiceTree, Failure>
+    requires { All IsNarrow multipliers.items }
+    ensures { (system : CaseSystem) (piece : Marked) (stop : Bool) (destination : Destination) (left : ℕ) (old new : Cursor) → IsBehind Head.Empty multipliers.items old new → new.taken ≡ line → ReadsChoice system piece stop destination known left old new result }
+{
+    if multipliers.len() as u128 == known {
+        Ok(ChoiceTree::Empty(multipliers))
+    } else {
+        Err(Failure::Fault(LineKind::Shape, line))
+    }
+}
+
+impl Context<'_> {
+    /// A cover without targets of the place and the guards of a case.
+    fn stop_cover(
+        &self,
+        cursor: &mut Cursor,
+        left: u32,
+        known: u128,
+        case: &Case,
+    ) -> Result<Cover, Failure>
+        requires shallow { left ≤ 128 }
+        requires draws { case.now.draws ≤ 64 }
+        requires room { known < 2 ^ 125 }
+        ensures { ReadsStop (cases_of self.now.about.now).variables known left (case_view case.now) cursor.old cursor.new result }
+    {
+        let width = self.about.variables() + case.draws;
+        let rows = known + case.guards.rows.len() as u128;
+        let tree = self.cover_tree(cursor, left, width, rows, &Targets::Nowhere)?;
+        match Cover::new(tree) {
+            Some(cover) => Ok(cover),
+            None => unreachable!(),
+        }
+    }
+
+    /// One for each of the cases that are from the location.
+    fn stop_covers(
+        &self,
+        cursor: &mut Cursor,
+        left: u32,
+        known: u128,
+        location: u32,
+        cases: &[Case],
+    ) -> Result<Vec<Cover>, Failure>
+        requires shallow { left ≤ 128 }
+        requires draws { All (IsCase (cases_of self.now.about.now).variables (cases_of self.now.about.now).locations) (case_views cases.now) }
+        requires room { known < 2 ^ 125 }
+        ensures { ReadsStops (cases_of self.now.about.now).variables known left (cases_from location (case_views cases.now)) cursor.old cursor.new result }
+    {
+        let mut covers = Vec::new(self.alloc);
+        for case in cases {
+            if case.from == location {
+                let cover = self.stop_cover(cursor, left, known, case)?;
+                covers.push(cover)?;
+            }
+        }
+        Ok(covers)
+    }
+
+    /// A choice whose first line says that there is no step.
+    fn no_step(
+        &self,
+        cursor: &mut Cursor,
+        left: u32,
+        piece: &Marked,
+        stop: bool,
+        known: u128,
+    ) -> Result<ChoiceTree, Failure>
+        requires shallow { left ≤ 128 }
+        requires room { known < 2 ^ 125 }
+        ensures { (destination : Destination) (old : Cursor) → IsBehind Head.NoStep [] old cursor.old → ReadsChoice (cases_of self.now.about.now) piece.now stop destination known left old cursor.new result }
+    {
+        if !stop {
+            return Err(Failure::Fault(LineKind::Shape, cursor.taken));
+        }
+        let cases = self.about.list();
+        let covers = self.stop_covers(cursor, left, known, piece.piece.location, cases)?;
+        Ok(ChoiceTree::NoStep(covers))
+    }
+
+    /// A choice with at most `left` splits on a path, counting into its covers, at a place with so many rows.
+    pub fn choice_tree(
+        &self,
+        cursor: &mut Cursor,
+        left: u32,
+        piece: &Marked,
+        stop: bool,
+        destination: &Destination,
+        known: u128,
+    ) -> Result<ChoiceTree, Failure>
+        requires few { AreFewAt piece.now destination.now }
+        requires shallow { left ≤ 128 }
+        requires room { known + left < 2 ^ 125 }
+        ensures { ReadsChoice (cases_of self.now.about.now) piece.now stop destination.now known left cursor.old cursor.new result }
+    {
+        let (head, numbers) = take(self.alloc, cursor)?;
+        match head {
+            Head::Split => {
+                if left == 0 {
+                    return Err(Failure::Fault(LineKind::Deep, cursor.taken));
+                }
+                let Some(row) = row_of(numbers, self.about.variables()) else {
+                    return Err(Failure::Fault(LineKind::Shape, cursor.taken));
+                };
+                let (below, rows) = (left - 1, known + 1);
+                let holds = self.choice_tree(cursor, below, piece, stop, destination, rows)?;
+                let fails = self.choice_tree(cursor, below, piece, stop, destination, rows)?;
+                let split = split_of(self.alloc, row, holds, fails)?;
+                Ok(split)
+            }
+            Head::Empty => empty_of(numbers, known, cursor.taken),
+            Head::NoStep => self.no_step(cursor, left, piece, stop, known),
+            Head::Take => self.takes(cursor, &numbers, piece, stop, destination, known),
+            _ => Err(Failure::Fault(LineKind::Shape, cursor.taken)),
+        }
+    }
+}

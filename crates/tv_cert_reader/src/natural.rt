@@ -1,0 +1,14 @@
+ghost use Rattle.std.specs.Prelude.{◌≡◌, ◌^◌, ℕ, pos, MatchOption};
+ghost use Rattle.tv_lines.specs.Numbers.{IsNarrow};
+
+/// A number of at least 0 that counts or names something.
+pub fn natural(number: i128) -> Option<u64>
+    requires { IsNarrow number }
+    ensures { MatchOption result ((n : ℕ) → number ≡ pos n → ⊥) (λ n. number ≡ pos n) }
+{
+    if number < 0 {
+        None
+    } else {
+        Some(number as u64)
+    }
+}

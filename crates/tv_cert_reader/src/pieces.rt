@@ -1,0 +1,96 @@
+ghost use Rattle.std.specs.Prelude.{◌≡◌, ◌^◌, ◌<◌, IfOk, vec_len};
+ghost use Rattle.tv_cases.specs.Systems.{cases_of};
+ghost use Rattle.tv_cert.specs.Pieces.{is_go};
+ghost use Rattle.tv_cert_grammar.specs.Lines.{rank_count};
+ghost use Rattle.tv_cert_reader.specs.Regions.{ReadsPiece, ReadsPieces, ReadsRegion};
+
+use crate::context::Context;
+use crate::cursor::Cursor;
+use crate::failure::Failure;
+use crate::heads::{node_head, piece_head};
+use crate::lines::take;
+use crate::rows::rows;
+use crate::sort::Sort;
+use tv_cert::{Mark, Marked};
+use tv_cert_grammar::LineKind;
+use tv_linear::{Piece, Poly};
+use tv_lines::NodeKind;
+
+/// How many ranks a piece has of a node with so many.
+fn rank_count(ranks: u32, mark: Mark) -> u64
+    ensures { result ≡ rank_count ranks (is_go mark) }
+{
+    match mark {
+        Mark::Go => ranks as u64,
+        Mark::Done => 0,
+    }
+}
+
+impl Context<'_> {
+    /// A piece of a node with so many ranks, which may be done where `done` is true.
+    fn piece(&self, cursor: &mut Cursor, ranks: u32, done: bool) -> Result<Marked, Failure>
+        ensures { ReadsPiece (cases_of self.now.about.now) ranks done cursor.old cursor.new result }
+    {
+        let (head, numbers) = take(self.alloc, cursor)?;
+        let Some((mark, location, count)) = piece_head(head, &numbers, self.about.locations(), done)
+        else {
+            return Err(Failure::Fault(LineKind::Shape, cursor.taken));
+        };
+        let columns = self.about.variables();
+        let rows_there = rows(self.alloc, cursor, Sort::Row, columns, count)?;
+        let ranks_there = rows(
+            self.alloc,
+            cursor,
+            Sort::Rank,
+            columns,
+            rank_count(ranks, mark),
+        )?;
+        Ok(Marked {
+            piece: Piece {
+                location,
+                poly: Poly {
+                    columns,
+                    rows: rows_there,
+                },
+            },
+            mark,
+            ranks: ranks_there,
+        })
+    }
+
+    fn pieces(
+        &self,
+        cursor: &mut Cursor,
+        count: u64,
+        ranks: u32,
+        done: bool,
+    ) -> Result<Vec<Marked>, Failure>
+        ensures { ReadsPieces (cases_of self.now.about.now) ranks done count cursor.old cursor.new result }
+    {
+        let mut pieces = Vec::new(self.alloc);
+        'pieces: for _ in 0..count {
+            let piece = self.piece(cursor, ranks, done)?;
+            pieces.push(piece)?;
+        }
+        Ok(pieces)
+    }
+
+    /// The head of a node of this kind, and its pieces; and how many ranks it has. There may be some where `ranked` is true, and
+    /// pieces may be done where `done` is true.
+    pub fn region(
+        &self,
+        cursor: &mut Cursor,
+        kind: NodeKind,
+        ranked: bool,
+        done: bool,
+    ) -> Result<(Vec<Marked>, u32), Failure>
+        ensures { ReadsRegion (cases_of self.now.about.now) kind ranked done cursor.old cursor.new result }
+    {
+        let (head, numbers) = take(self.alloc, cursor)?;
+        let Some((count, ranks)) = node_head(head, &numbers, kind, ranked) else {
+            return Err(Failure::Fault(LineKind::Shape, cursor.taken));
+        };
+        let pieces = self.pieces(cursor, count, ranks, done)?;
+        Ok((pieces, ranks))
+    }
+}

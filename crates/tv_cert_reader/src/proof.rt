@@ -1,0 +1,128 @@
+ghost use Rattle.std.specs.Prelude.{◌≡◌, ◌^◌, ◌-◌, ◌<◌, ℕ, List, Option, length};
+ghost use Rattle.tv_linear.specs.Known.{Known};
+ghost use Rattle.tv_cases.specs.Systems.{cases_of};
+ghost use Rattle.tv_cert.specs.Obligations.{a_cover};
+ghost use Rattle.tv_cert.specs.Owing.{owed_by};
+ghost use Rattle.tv_cert.specs.Shapes.{owed_count};
+ghost use Rattle.tv_cert.specs.declared.owes.Owes.TheVariants as owing;
+ghost use Rattle.tv_cert_reader.specs.Counts.{counts_of};
+ghost use Rattle.tv_cert_reader.specs.Proofs.{ReadsProof};
+
+use crate::context::Context;
+use crate::cursor::Cursor;
+use crate::failure::Failure;
+use crate::few::chosen_are_few;
+use crate::targets::{Targets, pieces_into};
+use tv_cases::Case;
+use tv_cert::{Destination, Marked, Owes, Proof};
+use tv_linear::{Choice, Cover};
+
+/// How many splits may lie on a path.
+const MAX_SPLITS: u32 = 128;
+
+impl Context<'_> {
+    /// A cover of a place with so many rows of so many columns.
+    ///
+    /// More targets than can be counted with 32 bits are more than memory holds.
+    fn cover(
+        &self,
+        cursor: &mut Cursor,
+        columns: u32,
+        known: u128,
+        targets: &Targets,
+    ) -> Result<Proof, Failure>
+        requires narrow { columns < 2 ^ 32 - 1 }
+        requires room { known < 2 ^ 126 }
+        ensures { (rows : List Known) (owed : ℕ → ℕ → Option (List Known)) → length rows ≡ known → counts_of targets.now ≡ owed_count owed → ReadsProof (a_cover columns rows owed) cursor.old cursor.new result }
+    {
+        if !targets.are_few() {
+            return Err(Failure::Memory);
+        }
+        let tree = self.cover_tree(cursor, MAX_SPLITS, columns, known, targets)?;
+        match Cover::new(tree) {
+            Some(cover) => Ok(Proof::Covered(cover)),
+            None => unreachable!(),
+        }
+    }
+
+    /// A cover of a piece and the guards of a case.
+    ///
+    /// No case of a program has more than 64 draws.
+    fn step(
+        &self,
+        cursor: &mut Cursor,
+        piece: &Marked,
+        case: &Case,
+        into: &[Marked],
+        falls: bool,
+    ) -> Result<Proof, Failure>
+        ensures { ReadsProof (owed_by (cases_of self.now.about.now) (owing.Step piece.entry case.entry into.entry falls)) cursor.old cursor.new result }
+    {
+        if case.draws > 64 {
+            return Err(Failure::Memory);
+        }
+        let columns = self.about.variables() + case.draws;
+        let known = piece.piece.poly.rows.len() as u128 + case.guards.rows.len() as u128;
+        let targets = pieces_into(piece, into, case.to, falls);
+        self.cover(cursor, columns, known, &targets)
+    }
+
+    /// A choice at a piece.
+    fn choice(
+        &self,
+        cursor: &mut Cursor,
+        piece: &Marked,
+        stop: bool,
+        destination: &Destination,
+    ) -> Result<Proof, Failure>
+        ensures { ReadsProof (owed_by (cases_of self.now.about.now) (owing.Choice piece.entry stop destination.now)) cursor.old cursor.new result }
+    {
+        if !chosen_are_few(piece, destination) {
+            return Err(Failure::Memory);
+        }
+        let known = piece.piece.poly.rows.len() as u128;
+        let tree = self.choice_tree(cursor, MAX_SPLITS, piece, stop, destination, known)?;
+        match Choice::new(tree) {
+            Some(choice) => Ok(Proof::Chosen(choice)),
+            None => unreachable!(),
+        }
+    }
+
+    /// A proof of what is owed.
+    pub fn proof(&self, cursor: &mut Cursor, owes: &Owes) -> Result<Proof, Failure>
+        ensures { ReadsProof (owed_by (cases_of self.now.about.now) owes.now) cursor.old cursor.new result }
+    {
+        let columns = self.about.variables();
+        match owes {
+            Owes::Rows { piece, lists } => {
+                let known = piece.piece.poly.rows.len() as u128;
+                self.cover(cursor, columns, known, &Targets::Lists(lists))
+            }
+            Owes::Truth { piece, truth } => {
+                let known = piece.piece.poly.rows.len() as u128;
+                self.cover(cursor, columns, known, &Targets::Truth(*truth))
+            }
+            Owes::Pieces { piece, into } => {
+                let known = piece.piece.poly.rows.len() as u128;
+                let targets = pieces_into(piece, into, piece.piece.location, false);
+                self.cover(cursor, columns, known, &targets)
+            }
+            Owes::Joined { piece, nodes } => {
+                let known = piece.piece.poly.rows.len() as u128;
+                let location = piece.piece.location;
+                self.cover(cursor, columns, known, &Targets::Joined { nodes, location })
+            }
+            Owes::Step {
+                piece,
+                case,
+                into,
+                falls,
+            } => self.step(cursor, piece, case, into, *falls),
+            Owes::Choice {
+                piece,
+                stop,
+                destination,
+            } => self.choice(cursor, piece, *stop, destination),
+        }
+    }
+}

@@ -1,0 +1,97 @@
+ghost use Rattle.std.specs.Prelude.{◌≡◌, ◌-◌, ◌<◌, ◌^◌, length, IfOk, IfErr, MatchResult};
+ghost use Rattle.tv_cases.specs.Systems.{cases_of};
+ghost use Rattle.tv_cert.specs.Claims.{StatesIts, about_with, claim_variables, shown};
+ghost use Rattle.tv_shape.specs.Certificates.{IsOf};
+ghost use Rattle.tv_shape.specs.Fitting.{Fits};
+ghost use Rattle.tv_cert_reader.specs.Texts.{IsCertificateText, IsRefusedText, fault_of, sides_of};
+ghost use Rattle.tv_cert_reader.specs.Wholes.{ReadsAll};
+
+use crate::context::Context;
+use crate::cursor::Cursor;
+use crate::failure::Failure;
+use crate::fault::CertFault;
+use crate::rest::said;
+use crate::rows::numbers;
+use crate::sort::Sort;
+use std::alloc::Global;
+use tv_cases::Cases;
+use tv_cert::{Claim, Node, Verdict};
+use tv_cert_grammar::LineKind;
+use tv_lines::Lines;
+use tv_shape::{Certificate, ShapeFault};
+
+impl Context<'_> {
+    /// The nodes and the verdict of a certificate of what is claimed, whose lines these are.
+    fn whole(&self, cursor: &mut Cursor, claim: &Claim) -> Result<(Node, Verdict), Failure>
+        requires { StatesIts claim.now }
+        ensures { ReadsAll (cases_of self.now.about.now) (sides_of claim.now) cursor.old result }
+    {
+        numbers(self.alloc, cursor, Sort::Header, 0)?;
+        if said(self.alloc, cursor)? {
+            self.proved(cursor, claim.proved_aim())
+        } else {
+            self.denied(cursor, claim.denied_aim())
+        }
+    }
+}
+
+/// The fault of a text in which this is at fault.
+fn fault_of(failure: Failure) -> CertFault
+    ensures { result ≡ fault_of failure }
+{
+    match failure {
+        Failure::Fault(LineKind::Syntax, line) => CertFault::Syntax { line },
+        Failure::Fault(LineKind::Wide, line) => CertFault::Wide { line },
+        Failure::Fault(LineKind::Deep, line) => CertFault::Deep { line },
+        Failure::Fault(LineKind::Shape, line) => CertFault::Shape { line },
+        Failure::Memory => CertFault::Memory,
+    }
+}
+
+/// The certificate of nodes that fit.
+fn certified(
+    alloc: Global,
+    about: &Cases,
+    claim: &Claim,
+    root: Node,
+    verdict: Verdict,
+) -> Result<Certificate, CertFault>
+    requires states { StatesIts claim.now }
+    requires variables { claim_variables claim.now ≡ (cases_of about.now).variables }
+    requires fits { Fits (about_with (cases_of about.now)) (shown claim.now verdict) root verdict }
+    ensures { MatchResult result (λ c. IsOf (about_with (cases_of about.now)) (shown claim.now verdict) c × (c.root ≡ root) × (c.verdict ≡ verdict)) (λ f. f ≡ CertFault.Memory) }
+{
+    match Certificate::new(alloc, about, claim, verdict, root) {
+        Ok(certificate) => Ok(certificate),
+        Err(ShapeFault::Memory) => Err(CertFault::Memory),
+        Err(ShapeFault::Shape { .. }) => unreachable!(),
+        Err(ShapeFault::Deep { .. }) => unreachable!(),
+    }
+}
+
+/// Reads the text of a certificate of what is claimed, over these cases: the certificate where the text is one, and else the first
+/// line at fault.
+pub fn read_certificate(
+    alloc: Global,
+    text: &[u8],
+    about: &Cases,
+    claim: &Claim,
+) -> Result<Certificate, CertFault>
+    requires few { length text.now < 2 ^ 32 - 1 }
+    requires states { StatesIts claim.now }
+    requires variables { claim_variables claim.now ≡ (cases_of about.now).variables }
+    // What is read is the certificate of the text.
+    ensures found { IfOk result (λ c. IsCertificateText (cases_of about.now) claim.now text.now c) }
+    // Else the text is one of no certificate, and the first line at fault is told, unless memory is wanting.
+    ensures refused { IfErr result (λ fault. IsRefusedText (cases_of about.now) claim.now text.now fault) }
+{
+    let context = Context { alloc, about };
+    let mut cursor = Cursor {
+        lines: Lines::new(text),
+        taken: 0,
+    };
+    match context.whole(&mut cursor, claim) {
+        Ok((root, verdict)) => certified(alloc, about, claim, root, verdict),
+        Err(failure) => Err(fault_of(failure)),
+    }
+}

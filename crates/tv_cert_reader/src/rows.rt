@@ -1,0 +1,94 @@
+ghost use Rattle.std.specs.Prelude.{◌≡◌, ◌+◌, ◌-◌, ◌<◌, ◌^◌, All, MatchOption, length};
+ghost use Rattle.tv_lines.specs.Numbers.{IsNarrow};
+ghost use Rattle.tv_cert_reader.specs.Parts.{IsRowOf, ReadsLists, ReadsNumbers, ReadsRow, ReadsRows};
+
+use crate::cursor::Cursor;
+use crate::failure::Failure;
+use crate::lines::take;
+use crate::sort::Sort;
+use std::alloc::Global;
+use tv_cert_grammar::LineKind;
+use tv_linear::Row;
+
+/// The numbers of a line of this sort that has so many.
+pub fn numbers(
+    alloc: Global,
+    cursor: &mut Cursor,
+    sort: Sort,
+    count: u128,
+) -> Result<Vec<i128>, Failure>
+    ensures { ReadsNumbers sort count cursor.old cursor.new result }
+{
+    let (head, numbers) = take(alloc, cursor)?;
+    if head != sort.head() {
+        return Err(Failure::Fault(LineKind::Shape, cursor.taken));
+    }
+    if numbers.len() as u128 != count {
+        return Err(Failure::Fault(LineKind::Shape, cursor.taken));
+    }
+    Ok(numbers)
+}
+
+/// The row of these numbers, the last of which is its constant, over so many columns.
+pub fn row_of(numbers: Vec<i128>, width: u32) -> Option<Row>
+    requires few { width < 2 ^ 32 - 1 }
+    requires narrow { All IsNarrow numbers.items }
+    ensures { MatchOption result (¬ (length numbers.items ≡ width + 1)) (IsRowOf width numbers.items) }
+{
+    let mut coefficients = numbers;
+    let Some(constant) = coefficients.pop() else {
+        return None;
+    };
+    if coefficients.len() != width as usize {
+        return None;
+    }
+    Row::new(coefficients, constant)
+}
+
+/// A row, a rank or a term over so many columns.
+fn row(alloc: Global, cursor: &mut Cursor, sort: Sort, width: u32) -> Result<Row, Failure>
+    requires { width < 2 ^ 32 - 1 }
+    ensures { ReadsRow sort width cursor.old cursor.new result }
+{
+    let numbers = numbers(alloc, cursor, sort, width as u128 + 1)?;
+    match row_of(numbers, width) {
+        Some(row) => Ok(row),
+        None => unreachable!(),
+    }
+}
+
+/// So many of them.
+pub fn rows(
+    alloc: Global,
+    cursor: &mut Cursor,
+    sort: Sort,
+    width: u32,
+    count: u64,
+) -> Result<Vec<Row>, Failure>
+    requires { width < 2 ^ 32 - 1 }
+    ensures { ReadsRows sort width count cursor.old cursor.new result }
+{
+    let mut rows = Vec::new(alloc);
+    'rows: for _ in 0..count {
+        let row = row(alloc, cursor, sort, width)?;
+        rows.push(row)?;
+    }
+    Ok(rows)
+}
+
+/// So many lines of multipliers, each of so many.
+pub fn lists(
+    alloc: Global,
+    cursor: &mut Cursor,
+    wide: u128,
+    count: u128,
+) -> Result<Vec<Vec<i128>>, Failure>
+    ensures { ReadsLists wide count cursor.old cursor.new result }
+{
+    let mut lists = Vec::new(alloc);
+    'lists: for _ in 0..count {
+        let list = numbers(alloc, cursor, Sort::By, wide)?;
+        lists.push(list)?;
+    }
+    Ok(lists)
+}

@@ -1,0 +1,121 @@
+ghost use Rattle.std.specs.Prelude.{◌≡◌, ◌+◌, ◌<◌, ◌^◌, ℕ, ℤ, Bool, pos, [], ◌∷◌, List, MatchOption, slice_get, Some, length};
+ghost use Rattle.tv_linear.specs.Known.{Known};
+ghost use Rattle.tv_linear.specs.Linear.{Linear};
+ghost use Rattle.tv_cases.specs.Systems.{cases_of};
+ghost use Rattle.tv_cases.specs.Views.{case_view};
+ghost use Rattle.tv_cert.specs.Owing.{destination_owes, falls_where};
+ghost use Rattle.tv_cert.specs.Shapes.{owed_count};
+ghost use Rattle.tv_cert.specs.Targets.{owed_into};
+ghost use Rattle.tv_cert_reader.specs.declared.cursor.Cursor.{Cursor};
+ghost use Rattle.tv_cert_reader.specs.Counts.{counts_of, AreFew};
+ghost use Rattle.tv_cert_reader.specs.Covers.{IsBehind};
+ghost use Rattle.tv_cert_reader.specs.Choices.{AreFewAt, IsTaken, NamesNoCase, ReadsChoice};
+
+use crate::context::Context;
+use crate::covers::small;
+use crate::cursor::Cursor;
+use crate::failure::Failure;
+use crate::rows::{lists, rows};
+use crate::sort::Sort;
+use crate::targets::{Targets, pieces_into};
+use tv_cases::Case;
+use tv_cert::{Destination, Marked};
+use tv_cert_grammar::LineKind;
+use tv_linear::ChoiceTree;
+use tv_lines::Head;
+
+/// Where a choice leads by a case.
+fn taken_into<'a>(piece: &'a Marked, case: &Case, destination: &Destination<'a>) -> Targets<'a>
+    ensures counts { (n : ℕ) → (draws : List Linear) → (target fall : ℕ) → counts_of result target fall ≡ owed_count (destination_owes n piece.now destination.now (case_view case.now) draws) target fall }
+    ensures few { AreFewAt piece.now destination.now → AreFew result }
+{
+    match destination {
+        Destination::Anywhere => Targets::Truth(true),
+        Destination::Into { pieces, falls } => pieces_into(piece, pieces, case.to, *falls),
+    }
+}
+
+/// Three numbers of 32 bits.
+fn three_small(numbers: &[i128]) -> Option<(u32, u32, u32)>
+    ensures { MatchOption result ((c k j : ℕ) → numbers.now ≡ pos c ∷ pos k ∷ pos j ∷ [] → c < 2 ^ 32 → k < 2 ^ 32 → j < 2 ^ 32 → ⊥) (λ x. numbers.now ≡ pos x.0 ∷ pos x.1 ∷ pos x.2 ∷ []) }
+{
+    let [first, second, third] = numbers else {
+        return None;
+    };
+    match (small(*first), small(*second), small(*third)) {
+        (Some(first), Some(second), Some(third)) => Some((first, second, third)),
+        _ => None,
+    }
+}
+
+/// The case that is taken, the target and the fall, and how many rows they owe.
+#[derive(Drop)]
+pub struct Taken<'a> {
+    pub case: &'a Case,
+    pub taken: u32,
+    pub target: u32,
+    pub fall: u32,
+    pub owed: usize,
+}
+
+impl Context<'_> {
+    /// The case, the target and the fall that the numbers name.
+    fn taken_of(
+        &self,
+        numbers: &[i128],
+        piece: &Marked,
+        destination: &Destination,
+    ) -> Option<Taken<'_>>
+        requires { AreFewAt piece.now destination.now }
+        ensures { MatchOption result (NamesNoCase (cases_of self.now.about.now) piece.now destination.now numbers.now) (λ x. IsTaken (cases_of self.now.about.now) piece.now destination.now numbers.now (case_view x.case.now) x.taken x.target x.fall x.owed) }
+    {
+        let list = self.about.list();
+        let Some((taken, target, fall)) = three_small(numbers) else {
+            return None;
+        };
+        let Some(case) = list.get(taken as usize) else {
+            return None;
+        };
+        match taken_into(piece, case, destination).rows(target, fall) {
+            None => None,
+            Some(owed) => Some(Taken {
+                case,
+                taken,
+                target,
+                fall,
+                owed,
+            }),
+        }
+    }
+
+    /// A choice whose line that takes a case has these numbers.
+    pub fn takes(
+        &self,
+        cursor: &mut Cursor,
+        numbers: &[i128],
+        piece: &Marked,
+        stop: bool,
+        destination: &Destination,
+        known: u128,
+    ) -> Result<ChoiceTree, Failure>
+        requires few { AreFewAt piece.now destination.now }
+        requires room { known < 2 ^ 126 }
+        ensures { (left : ℕ) (old : Cursor) → IsBehind Head.Take numbers.now old cursor.old → ReadsChoice (cases_of self.now.about.now) piece.now stop destination.now known left old cursor.new result }
+    {
+        let Some(taken) = self.taken_of(numbers, piece, destination) else {
+            return Err(Failure::Fault(LineKind::Shape, cursor.taken));
+        };
+        let case = taken.case;
+        let columns = self.about.variables();
+        let draws = rows(self.alloc, cursor, Sort::Draw, columns, case.draws as u64)?;
+        let count = case.guards.rows.len() as u128 + taken.owed as u128;
+        let refutations = lists(self.alloc, cursor, known + 1, count)?;
+        Ok(ChoiceTree::Take {
+            taken: taken.taken,
+            target: taken.target,
+            fall: taken.fall,
+            draws,
+            refutations,
+        })
+    }
+}
