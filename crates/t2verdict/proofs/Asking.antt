@@ -1,30 +1,57 @@
-use Rattle.std.proofs.Common.{◌≡◌, ℕ, List, Option, None, Some, sym, ap, ◌∙◌, subst}
+use Rattle.std.proofs.Common.{◌≡◌, ℕ, List, Option, None, Some, subst, Ok}
 use Rattle.std.specs.Prelude.{IfSome, ◌↔◌}
-use Rattle.tv_program.specs.Words.{Word, number_of}
-use Rattle.t2verdict.specs.declared.answer.Answer.{Answer}
 use Rattle.tv_cases.specs.declared.case.CaseFault.{CaseFault}
 use Rattle.tv_cases.specs.declared.case.CaseFault.TheVariants as cases
-use Rattle.tv_cases.specs.Answers.{IsFaultIn}
+use Rattle.tv_cases.specs.Answers.{IsFaultIn, IsOfProgram}
+use Rattle.tv_cases.specs.LinearCases.{CaseSystem}
 use Rattle.tv_cases.specs.ProgramCases.{linear_cases}
-use Rattle.t2verdict.specs.Answers.{without_cases}
-use Rattle.t2verdict.specs.Headline.{Given, Means}
-
--- what is found among names is found among the same names
-pub found_among : (found number : Option ℕ) (w label : Word) (ls locations : List Word) → found ≡ number_of w ls → w ≡ label → ls ≡ locations → found ≡ number → number_of label locations ≡ number
-found_among found number w label ls locations is word names result =
-    ap (λ ls. number_of label ls) (sym names) ∙ ap (λ w. number_of w ls) (sym word) ∙ sym is ∙ result
+use Rattle.tv_formula_text.specs.declared.fault.FormulaFault.{FormulaFault}
+use Rattle.tv_formula_text.specs.declared.fault.FormulaFault.TheVariants as faults
+use Rattle.t2verdict.specs.declared.answer.Answer.{Answer}
+use Rattle.t2verdict.specs.declared.answer.Answer.TheVariants.{Proved, Disproved, Obligation, CertificateLine, Words, TooLong, Text, Property, WideEdge, TooManyInEdge, ReadFault, Memory}
+use Rattle.t2verdict.specs.Answers.{without_cases, without_property}
+use Rattle.t2verdict.specs.Headline.{Given, Asked, Means}
+use Rattle.t2verdict.specs.Judging.{Judges}
+use Rattle.t2verdict.specs.Properties.{IsUnnamed, UnlessMemory}
+use Rattle.t2verdict.specs.Questions.{Query}
 
 -- a count that is told is above the limit
 pub above : (A : Type 0) (B : ℕ → Type 0) (count : Option ℕ) → IfSome count (λ n. A ↔ B n) → A → IfSome count B
 above A B None h a = h
 above A B (Some n) h a = h.0 a
 
--- the same is meant of the same label and bytes
-pub means_same : (label label' bytes bytes' : List ℕ) (answer : Answer) → label ≡ label' → bytes ≡ bytes' → Means label bytes answer → Means label' bytes' answer
-means_same label label' bytes bytes' answer l b h = subst (λ (bs : List ℕ). Means label' bs answer) b (subst (λ (ls : List ℕ). Means ls bytes answer) l h)
+-- the same is meant of the same bytes
+pub means_same : (query : Query) (bytes bytes' : List ℕ) (answer : Answer) → bytes ≡ bytes' → Means query bytes answer → Means query bytes' answer
+means_same query bytes bytes' answer b h = subst (λ (bs : List ℕ). Means query bs answer) b h
 
 -- what a program without linear cases is answered
-pub no_cases : (label bytes : List ℕ) (given : Given bytes) (location : ℕ) → number_of label given.program.locations ≡ Some location → (fault : CaseFault) → IsFaultIn (linear_cases given.program) fault → Means label bytes (without_cases fault)
-no_cases label bytes given location is (cases.Wide edge) h = record { given = given; location = location; is_location = is; fault_is = h }
-no_cases label bytes given location is (cases.TooMany edge) h = record { given = given; location = location; is_location = is; fault_is = h }
-no_cases label bytes given location is cases.Memory h = tt
+pub no_cases : (query : Query) (bytes : List ℕ) (asked : Asked query bytes) (fault : CaseFault) → IsFaultIn (linear_cases asked.given.program) fault → Means query bytes (without_cases fault)
+no_cases query bytes asked (cases.Wide edge) h = record { asked = asked; fault_is = h }
+no_cases query bytes asked (cases.TooMany edge) h = record { asked = asked; fault_is = h }
+no_cases query bytes asked cases.Memory h = tt
+
+-- what words that name no property are answered
+pub no_property : (query : Query) (bytes : List ℕ) (given : Given bytes) (fault : FormulaFault) → UnlessMemory fault (IsUnnamed given.program query fault) → Means query bytes (without_property fault)
+no_property query bytes given (faults.Syntax at) h = record { given = given; unnamed = h }
+no_property query bytes given (faults.UnknownName at) h = record { given = given; unnamed = h }
+no_property query bytes given (faults.NotLinear at) h = record { given = given; unnamed = h }
+no_property query bytes given (faults.Wide at) h = record { given = given; unnamed = h }
+no_property query bytes given (faults.Deep at) h = record { given = given; unnamed = h }
+no_property query bytes given faults.Long h = record { given = given; unnamed = h }
+no_property query bytes given faults.Memory h = tt
+
+-- what is said of the certificate's text is meant
+pub judged : (query : Query) (bytes : List ℕ) (asked : Asked query bytes) (cases : CaseSystem) → linear_cases asked.given.program ≡ Ok cases.cases → IsOfProgram asked.given.program cases
+    → (answer : Answer) → Judges asked.given.program asked.property cases asked.given.certificate_text answer → Means query bytes answer
+judged query bytes asked cases are of Proved h = record { asked = asked; cases = cases; are_cases = are; of_program = of; says = h }
+judged query bytes asked cases are of (Disproved at) h = record { asked = asked; cases = cases; are_cases = are; of_program = of; says = h }
+judged query bytes asked cases are of (Obligation failing) h = record { asked = asked; cases = cases; are_cases = are; of_program = of; says = h }
+judged query bytes asked cases are of (CertificateLine line) h = record { asked = asked; cases = cases; are_cases = are; of_program = of; says = h }
+judged query bytes asked cases are of Memory h = tt
+judged query bytes asked cases are of Words h = h
+judged query bytes asked cases are of TooLong h = h
+judged query bytes asked cases are of (Text fault) h = absurd h
+judged query bytes asked cases are of (Property fault) h = absurd h
+judged query bytes asked cases are of (WideEdge edge) h = absurd h
+judged query bytes asked cases are of (TooManyInEdge edge) h = absurd h
+judged query bytes asked cases are of ReadFault h = h

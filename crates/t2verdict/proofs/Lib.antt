@@ -1,2 +1,5 @@
 pub mod Written
 pub mod Asking
+pub mod Settling
+pub mod Lines
+pub mod Reading

@@ -1,29 +1,24 @@
 -- What an answer says of the words and of the bytes that were read.
-use Rattle.std.specs.Prelude.{◌≡◌, ℕ, ◌<◌, ◌≤◌, List, length, take, Option, None, Some, Ok, Err, IfSome}
+use Rattle.std.specs.Prelude.{◌≡◌, ℕ, ◌<◌, ◌≤◌, List, length, take, Option, Ok, Err, IfSome}
 use Rattle.tv_text.specs.Stream.{before, after, count_read, IsAtEnd}
 use Rattle.tv_given.specs.Headings.{IsSplit}
-use Rattle.tv_program.specs.Words.{number_of}
 use Rattle.tv_program.specs.Systems.{System}
 use Rattle.tv_language.specs.Programs.{IsProgramText}
 use Rattle.tv_reader.specs.declared.fault.ReadFault.{ReadFault as TextFault}
 use Rattle.tv_reader.specs.FirstFaults.{IsFirstFault}
-use Rattle.tv_meaning.specs.Meaning.{HoldsInitially}
+use Rattle.tv_formula.specs.Properties.{Property as Formula}
+use Rattle.tv_formula_text.specs.declared.fault.FormulaFault.{FormulaFault}
 use Rattle.tv_cases.specs.LinearCases.{CaseSystem}
 use Rattle.tv_cases.specs.ProgramCases.{LinearFault, wide, too_many, linear_cases}
 use Rattle.tv_cases.specs.Answers.{IsOfProgram}
-use Rattle.tv_cert.specs.declared.plain.Plain.{Plain}
-use Rattle.tv_cert.specs.declared.node.Verdict.TheVariants as verdicts
-use Rattle.tv_cert.specs.Nodes.{obligations}
-use Rattle.tv_formula.specs.Forms.{never_at}
-use Rattle.tv_cert.specs.Plain.{about_of, PlainMet}
-use Rattle.tv_cert_text.specs.PlainTexts.{IsPlainText}
-use Rattle.tv_check.specs.Walks.{IsFirstFailing}
 use Rattle.t2verdict.specs.declared.answer.Answer.{Answer}
-use Rattle.t2verdict.specs.declared.answer.Answer.TheVariants.{Proved, Obligation, Words, TooLong, Text, WideEdge, TooManyInEdge, UnknownName, CertificateUnbuilt, ReadFault, Memory}
+use Rattle.t2verdict.specs.declared.answer.Answer.TheVariants.{Proved, Disproved, Obligation, CertificateLine, Words, TooLong, Text, Property, WideEdge, TooManyInEdge, ReadFault, Memory}
 use Rattle.t2verdict.specs.declared.status.Status.{Status}
 use Rattle.t2verdict.specs.declared.status.Status.TheVariants as statuses
-use Rattle.t2verdict.specs.Answers.{line_of, status_of}
-use Rattle.t2verdict.specs.Questions.{asked}
+use Rattle.t2verdict.specs.Answers.{lines_of, status_of}
+use Rattle.t2verdict.specs.Judging.{Judges}
+use Rattle.t2verdict.specs.Properties.{IsNamed, IsUnnamed}
+use Rattle.t2verdict.specs.Questions.{Query, Asks, AskNothing}
 
 -- how many bytes are read at most
 abbrev pub most_bytes : ℕ
@@ -37,20 +32,19 @@ pub record Given (bytes : List ℕ) : Type 0 where
   pub program : System
   pub is_program : IsProgramText program_text program
 
--- the words name a location of the program, and the cases are the program's
-pub record Asked (label bytes : List ℕ) : Type 0 where
+-- the words name a property of the program
+pub record Asked (query : Query) (bytes : List ℕ) : Type 0 where
   pub given : Given bytes
-  pub location : ℕ
-  pub is_location : number_of label given.program.locations ≡ Some location
-  pub cases : CaseSystem
-  pub are_cases : linear_cases given.program ≡ Ok cases.cases
-  pub of_program : IsOfProgram given.program cases
+  pub property : Formula
+  pub named : IsNamed given.program query property
 
--- the certificate's text is one of this certificate, that no run reaches the location
-pub record Offered (label bytes : List ℕ) : Type 0 where
-  pub question : Asked label bytes
-  pub certificate : Plain
-  pub is_certificate : IsPlainText question.cases question.location question.given.certificate_text certificate
+-- The answer says this of the certificate's text, where the words name a property of the program. The cases are the program's.
+pub record Judged (query : Query) (bytes : List ℕ) (answer : Answer) : Type 0 where
+  pub asked : Asked query bytes
+  pub cases : CaseSystem
+  pub are_cases : linear_cases asked.given.program ≡ Ok cases.cases
+  pub of_program : IsOfProgram asked.given.program cases
+  pub says : Judges asked.given.program asked.property cases asked.given.certificate_text answer
 
 -- the text of the program, which is none, has this as its first fault
 pub record IsRefusedText (bytes : List ℕ) (fault : TextFault) : Type 0 where
@@ -59,51 +53,47 @@ pub record IsRefusedText (bytes : List ℕ) (fault : TextFault) : Type 0 where
   pub split : IsSplit bytes program_text certificate_text
   pub first : IsFirstFault program_text fault
 
--- the words name a location of the program, which has no linear cases: this is why
-pub record HasNoCases (label bytes : List ℕ) (fault : LinearFault) : Type 0 where
+-- the words name no property of the program: this is why
+pub record HasNoProperty (query : Query) (bytes : List ℕ) (fault : FormulaFault) : Type 0 where
   pub given : Given bytes
-  pub location : ℕ
-  pub is_location : number_of label given.program.locations ≡ Some location
-  pub fault_is : linear_cases given.program ≡ Err fault
+  pub unnamed : IsUnnamed given.program query fault
 
--- every obligation of the certificate is met, and the property of the words holds at every initial state of the program, over all runs
-pub record IsProved (label bytes : List ℕ) : Type 0 where
-  pub offer : Offered label bytes
-  pub met : PlainMet offer.question.cases offer.question.location offer.certificate.root offer.certificate.start
-  pub holds : HoldsInitially offer.question.given.program (never_at offer.question.location)
+-- the words name a property of the program, which has no linear cases: this is why
+pub record HasNoCases (query : Query) (bytes : List ℕ) (fault : LinearFault) : Type 0 where
+  pub asked : Asked query bytes
+  pub fault_is : linear_cases asked.given.program ≡ Err fault
 
--- What the answer says where the words ask about a label, and these are all bytes that the source held.
-abbrev pub Means : List ℕ → List ℕ → Answer → Type 0
-Means label bytes Proved = IsProved label bytes
-Means label bytes (Obligation failing) =
-    (offer : Offered label bytes) × IsFirstFailing (obligations (about_of offer.question.cases) (never_at offer.question.location) offer.certificate.root (verdicts.Proved offer.certificate.start)) 0 failing
-Means label bytes CertificateUnbuilt =
-    (question : Asked label bytes) × ((certificate : Plain) → IsPlainText question.cases question.location question.given.certificate_text certificate → ⊥)
-Means label bytes UnknownName = (given : Given bytes) × (number_of label given.program.locations ≡ None)
-Means label bytes (Text fault) = IsRefusedText bytes fault
-Means label bytes (WideEdge edge) = HasNoCases label bytes (wide edge)
-Means label bytes (TooManyInEdge edge) = HasNoCases label bytes (too_many edge)
-Means label bytes Memory = Unit {0}
-Means label bytes Words = ⊥
-Means label bytes TooLong = ⊥
-Means label bytes ReadFault = ⊥
+-- What the answer says where the words ask this, and these are all bytes that the source held.
+abbrev pub Means : Query → List ℕ → Answer → Type 0
+Means query bytes Proved = Judged query bytes Proved
+Means query bytes (Disproved at) = Judged query bytes (Disproved at)
+Means query bytes (Obligation failing) = Judged query bytes (Obligation failing)
+Means query bytes (CertificateLine line) = Judged query bytes (CertificateLine line)
+Means query bytes (Text fault) = IsRefusedText bytes fault
+Means query bytes (Property fault) = HasNoProperty query bytes fault
+Means query bytes (WideEdge edge) = HasNoCases query bytes (wide edge)
+Means query bytes (TooManyInEdge edge) = HasNoCases query bytes (too_many edge)
+Means query bytes Memory = Unit {0}
+Means query bytes Words = ⊥
+Means query bytes TooLong = ⊥
+Means query bytes ReadFault = ⊥
 
 -- Why an answer is given, told what the source held before and holds after.
 pub data IsAnswer (words : List (List ℕ)) (old new : Option (List ℕ)) : Answer → Type 0 where
   -- the words ask nothing, and nothing is read
-  unasked : asked words ≡ None → new ≡ old → IsAnswer words old new Words
+  unasked : AskNothing words → new ≡ old → IsAnswer words old new Words
   -- more bytes came than are read
-  too_long : {label : List ℕ} → asked words ≡ Some label → IfSome (count_read old new) (λ count. most_bytes < count) → IsAnswer words old new TooLong
+  too_long : {query : Query} → Asks words query → IfSome (count_read old new) (λ count. most_bytes < count) → IsAnswer words old new TooLong
   -- the source was read to its end
-  decided : {label : List ℕ} {answer : Answer} (bytes : List ℕ) → asked words ≡ Some label → old ≡ before bytes new → IsAtEnd new → length bytes ≤ most_bytes → Means label bytes answer → IsAnswer words old new answer
+  decided : {query : Query} {answer : Answer} (bytes : List ℕ) → Asks words query → old ≡ before bytes new → IsAtEnd new → length bytes ≤ most_bytes → Means query bytes answer → IsAnswer words old new answer
   -- the source failed
-  failed : {label : List ℕ} → asked words ≡ Some label → IsAnswer words old new ReadFault
+  failed : {query : Query} → Asks words query → IsAnswer words old new ReadFault
   without_memory : IsAnswer words old new Memory
 
--- The answer is written: its line and its status, or under a write fault a front of the line.
+-- The answer is written: its lines and its status, or under a write fault a front of the lines.
 pub data IsWritten (old new : Option (List ℕ)) (answer : Answer) : Status → Type 0 where
-  whole : new ≡ after old (line_of answer) → IsWritten old new answer (status_of answer)
-  front : (count : ℕ) → count < length (line_of answer) → new ≡ after old (take count (line_of answer)) → IsWritten old new answer statuses.WriteFault
+  whole : new ≡ after old (lines_of answer) → IsWritten old new answer (status_of answer)
+  front : (count : ℕ) → count < length (lines_of answer) → new ≡ after old (take count (lines_of answer)) → IsWritten old new answer statuses.WriteFault
 
 -- How a run ends: it has written an answer to the words and to what the source held.
 pub record Concludes (words : List (List ℕ)) (held_old held_new written_old written_new : Option (List ℕ)) (status : Status) : Type 0 where

@@ -1,3 +1,5 @@
 pub mod Answers
 pub mod Questions
+pub mod Properties
+pub mod Judging
 pub mod Headline

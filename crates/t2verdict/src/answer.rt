@@ -1,27 +1,33 @@
 ghost use Rattle.std.specs.Prelude.{◌≡◌, IfOk, string_bytes};
-ghost use Rattle.t2verdict.specs.Answers.{kind_word, what_word, placed_line, too_many_line, text_line, line_of, status_of};
+ghost use Rattle.t2verdict.specs.Answers.{kind_word, what_word, placed_line, too_many_line, text_line, column_line, property_line, plain_line, lines_of, status_of};
 
+use crate::assignment::Assignment;
 use crate::status::Status;
 use std::alloc::{AllocError, Global};
 use tv_cert::Kind;
 use tv_check::Failing;
+use tv_formula_text::FormulaFault;
 use tv_reader::{ReadFault, What};
 
 /// What is written, and how the run ends.
-#[derive(Clone, Copy)]
+#[derive(Drop)]
 pub enum Answer {
     Proved,
+    /// The property fails at the initial state with these values.
+    Disproved(Assignment),
     Obligation(Failing),
+    /// The text of the certificate is refused at this line.
+    CertificateLine(u32),
     Words,
     TooLong,
     /// The program's text is refused.
     Text(ReadFault),
+    /// The words name no property of the program.
+    Property(FormulaFault),
     /// A number of the linear form of an edge is too wide.
     WideEdge(u32),
     /// With an edge there are too many linear cases.
     TooManyInEdge(u32),
-    UnknownName,
-    CertificateUnbuilt,
     ReadFault,
     Memory,
 }
@@ -42,7 +48,7 @@ fn kind_word(kind: Kind) -> &'static str
 }
 
 fn refusal(alloc: Global, failing: Failing) -> Result<String, AllocError>
-    ensures { IfOk result (λ line. string_bytes line ≡ line_of (Answer.Obligation failing)) }
+    ensures { IfOk result (λ line. string_bytes line ≡ plain_line (Answer.Obligation failing)) }
 {
     let number = failing.number;
     let node = failing.node;
@@ -90,32 +96,71 @@ fn text_refusal(alloc: Global, fault: ReadFault) -> Result<String, AllocError>
     }
 }
 
+/// A refusal of the property for a fault at a byte, counted from 0. Its column counts from 1.
+fn at_column(alloc: Global, cause: &str, at: u32) -> Result<String, AllocError>
+    ensures { IfOk result (λ text. string_bytes text ≡ column_line cause.now at) }
+{
+    let column = at as u64 + 1;
+    format!(in alloc; "Refused property {cause} column {column}\n")
+}
+
+fn property_refusal(alloc: Global, fault: FormulaFault) -> Result<String, AllocError>
+    ensures { IfOk result (λ line. string_bytes line ≡ property_line fault) }
+{
+    match fault {
+        FormulaFault::Syntax { at } => at_column(alloc, "syntax", at),
+        FormulaFault::UnknownName { at } => at_column(alloc, "unknown name", at),
+        FormulaFault::NotLinear { at } => at_column(alloc, "not linear", at),
+        FormulaFault::Wide { at } => at_column(alloc, "wide", at),
+        FormulaFault::Deep { at } => at_column(alloc, "deep", at),
+        FormulaFault::Long => format!(in alloc; "Refused property too long\n"),
+        FormulaFault::Memory => Ok(String::new(alloc)),
+    }
+}
+
 impl Answer {
-    /// The line that is written, if any.
-    pub fn line(self, alloc: Global) -> Result<String, AllocError>
-        ensures { IfOk result (λ line. string_bytes line ≡ line_of self) }
+    /// The first line that is written, if any.
+    fn plain_line(&self, alloc: Global) -> Result<String, AllocError>
+        ensures { IfOk result (λ line. string_bytes line ≡ plain_line self.now) }
     {
         match self {
             Answer::Proved => format!(in alloc; "Proved\n"),
-            Answer::Obligation(failing) => refusal(alloc, failing),
+            Answer::Disproved(_) => format!(in alloc; "Disproved\n"),
+            Answer::Obligation(failing) => refusal(alloc, *failing),
+            Answer::CertificateLine(line) => {
+                format!(in alloc; "Certificate refused line {line}\n")
+            }
             Answer::Words => format!(in alloc; "Refused words\n"),
             Answer::TooLong => format!(in alloc; "Refused text too long\n"),
-            Answer::Text(fault) => text_refusal(alloc, fault),
+            Answer::Text(fault) => text_refusal(alloc, *fault),
+            Answer::Property(fault) => property_refusal(alloc, *fault),
             Answer::WideEdge(edge) => format!(in alloc; "Refused text wide edge {edge}\n"),
             Answer::TooManyInEdge(edge) => format!(in alloc; "Refused text too many edge {edge}\n"),
-            Answer::UnknownName => { format!(in alloc; "Refused property unknown name column 1\n") }
-            Answer::CertificateUnbuilt => format!(in alloc; "Refused certificate unbuilt\n"),
             Answer::ReadFault | Answer::Memory => Ok(String::new(alloc)),
         }
     }
 
+    /// The lines that are written, if any.
+    pub fn lines(&self, alloc: Global) -> Result<Vec<u8>, AllocError>
+        ensures { IfOk result (λ lines. lines.items ≡ lines_of self.now) }
+    {
+        let line = self.plain_line(alloc)?;
+        let mut lines = Vec::from_slice(alloc, line.as_bytes())?;
+        match self {
+            Answer::Disproved(assignment) => assignment.append_lines(alloc, &mut lines)?,
+            _ => {}
+        }
+        Ok(lines)
+    }
+
     /// How a run with this answer ends, where it was written.
-    pub fn status(self) -> Status
-        ensures { result ≡ status_of self }
+    pub fn status(&self) -> Status
+        ensures { result ≡ status_of self.now }
     {
         match self {
             Answer::Proved => Status::Proved,
-            Answer::Obligation(_) => Status::CertificateRefused,
+            Answer::Disproved(_) => Status::Disproved,
+            Answer::Obligation(_) | Answer::CertificateLine(_) => Status::CertificateRefused,
             Answer::ReadFault => Status::ReadFault,
             Answer::Memory => Status::Memory,
             _ => Status::Refused,

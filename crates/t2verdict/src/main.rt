@@ -2,10 +2,13 @@
 #![tactic(auto)]
 
 mod answer;
+mod assignment;
 #[cfg(test)]
 mod case_tests;
+mod judging;
 #[cfg(test)]
 mod limit_tests;
+mod property;
 mod run;
 mod status;
 #[cfg(test)]

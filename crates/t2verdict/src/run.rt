@@ -1,18 +1,19 @@
-ghost use Rattle.std.specs.Prelude.{◌≡◌, ◌≤◌, map, length};
+ghost use Rattle.std.specs.Prelude.{◌≡◌, ◌<◌, ◌≤◌, ◌^◌, map, length};
 ghost use Rattle.tv_text.specs.Stream.{Rose};
-ghost use Rattle.t2verdict.specs.Answers.{without_cases};
+ghost use Rattle.t2verdict.specs.Answers.{without_cases, without_property};
+ghost use Rattle.t2verdict.specs.Questions.{query_of};
 ghost use Rattle.t2verdict.specs.Headline.{Means, IsAnswer, Concludes};
 
 use crate::answer::Answer;
+use crate::judging::judge;
+use crate::property::property;
 use crate::status::Status;
 use crate::words::Question;
 use std::alloc::Global;
 use tv_cases::{CaseFault, cases};
-use tv_cert::Aim;
-use tv_cert_text::{PlainFault, read_plain_certificate};
+use tv_formula_text::FormulaFault;
 use tv_given::split_texts;
 use tv_reader::{ReadFault, read_program};
-use tv_sound::check_safety;
 use tv_text::{ReadError, Sink, Source, read_all, write_all};
 
 /// How many bytes are read at most.
@@ -29,10 +30,20 @@ fn without_cases(fault: CaseFault) -> Answer
     }
 }
 
-/// The answer to whether the certificate in the bytes shows that no run of the program in them reaches the location.
-fn decide(alloc: Global, bytes: &[u8], label: &str) -> Answer
+/// The answer where the words name no property of the program.
+fn without_property(fault: FormulaFault) -> Answer
+    ensures { result ≡ without_property fault }
+{
+    match fault {
+        FormulaFault::Memory => Answer::Memory,
+        fault => Answer::Property(fault),
+    }
+}
+
+/// The answer to whether the certificate in the bytes settles the property of the program in them.
+fn decide(alloc: Global, bytes: &[u8], question: Question) -> Answer
     requires { length bytes.now ≤ 16777216 }
-    ensures { Means label.now bytes.now result }
+    ensures { Means (query_of question.entry) bytes.now result }
 {
     let (text, certificate) = split_texts(bytes);
     let program = match read_program(alloc, text) {
@@ -40,27 +51,15 @@ fn decide(alloc: Global, bytes: &[u8], label: &str) -> Answer
         Err(ReadFault::Memory) => return Answer::Memory,
         Err(fault) => return Answer::Text(fault),
     };
-    let location = match program.locations().find(label.as_bytes()) {
-        Some(location) => location,
-        None => return Answer::UnknownName,
+    let property = match property(alloc, question, &program) {
+        Ok(property) => property,
+        Err(fault) => return without_property(fault),
     };
     let about = match cases(alloc, &program) {
         Ok(about) => about,
         Err(fault) => return without_cases(fault),
     };
-    let plain = match read_plain_certificate(alloc, certificate, &about, location) {
-        Ok(plain) => plain,
-        Err(PlainFault::Unbuilt) => return Answer::CertificateUnbuilt,
-        Err(PlainFault::Memory) => return Answer::Memory,
-    };
-    let aim = match Aim::never_at(alloc, location) {
-        Ok(aim) => aim,
-        Err(_) => return Answer::Memory,
-    };
-    match check_safety(&program, &about, &aim, location, &plain) {
-        Ok(()) => Answer::Proved,
-        Err(failing) => Answer::Obligation(failing),
-    }
+    judge(alloc, &program, &property, &about, certificate)
 }
 
 /// The answer to the words about the text that the source holds.
@@ -74,14 +73,14 @@ fn answered<S: Source>(alloc: Global, words: &[&str], source: &mut S) -> Answer
         None => return Answer::Words,
     };
     match read_all(alloc, source, LIMIT) {
-        Ok(bytes) => decide(alloc, &bytes, question.label()),
+        Ok(bytes) => decide(alloc, &bytes, question),
         Err(ReadError::Fault) => Answer::ReadFault,
         Err(ReadError::TooLong) => Answer::TooLong,
         Err(ReadError::Memory) => Answer::Memory,
     }
 }
 
-/// Answers the question of the words about the text that the source holds, with one line that is written at the end.
+/// Answers the question of the words about the text that the source holds, with lines that are written at the end.
 pub fn run<S: Source, K: Sink>(
     alloc: Global,
     words: &[&str],
@@ -95,11 +94,11 @@ pub fn run<S: Source, K: Sink>(
     ensures later_sink { K.faults sink.old ≤ K.faults sink.new }
 {
     let answer = answered(alloc, words, source);
-    let line = match answer.line(alloc) {
-        Ok(line) => line,
+    let lines = match answer.lines(alloc) {
+        Ok(lines) => lines,
         Err(_) => return Status::Memory,
     };
-    match write_all(sink, line.as_bytes()) {
+    match write_all(sink, &lines) {
         Ok(()) => answer.status(),
         Err(_) => Status::WriteFault,
     }

@@ -6,18 +6,18 @@ use Rattle.t2verdict.proofs.Asking.{above, means_same}
 use Rattle.t2verdict.proofs.run.answered.Goals as goal
 
 pub returns-in-None-clause-answer : goal.returns-in-None-clause-answer
-returns-in-None-clause-answer g c = unasked c.in-None.ensures refl
+returns-in-None-clause-answer g c = unasked c.in-None.ensures.asked refl
 
 pub returns-in-Ok-clause-answer : goal.returns-in-Ok-clause-answer
 returns-in-Ok-clause-answer g c =
     let short : length c.in-Ok.bytes.items ≤ most_bytes = search rules in
-    decided c.in-Ok.bytes.items c.in-Some.ensures c.in-Ok.ensures.whole c.in-Ok.ensures.end short (means_same _ _ _ _ c.decide.result c.label.ensures c.deref.ensures.value c.decide.ensures)
+    decided c.in-Ok.bytes.items c.in-Some.ensures.asked c.in-Ok.ensures.whole c.in-Ok.ensures.end short (means_same _ _ _ c.decide.result c.deref.ensures.value c.decide.ensures)
 
 pub returns-in-Err-Fault-clause-answer : goal.returns-in-Err-Fault-clause-answer
-returns-in-Err-Fault-clause-answer g c = failed c.in-Some.ensures
+returns-in-Err-Fault-clause-answer g c = failed c.in-Some.ensures.asked
 
 pub returns-in-Err-TooLong-clause-answer : goal.returns-in-Err-TooLong-clause-answer
-returns-in-Err-TooLong-clause-answer g c = too_long c.in-Some.ensures (above (c.read_all.result ≡ Err ReadError.TooLong) (λ count. most_bytes < count) (count_read (g.S.Source.held c.args.source.now) (g.S.Source.held c.read_all.new.source)) c.read_all.ensures.long (c.in-Err-TooLong.is ∙ ap (λ e. Err e) c.in-Err-TooLong.field-0-is))
+returns-in-Err-TooLong-clause-answer g c = too_long c.in-Some.ensures.asked (above (c.read_all.result ≡ Err ReadError.TooLong) (λ count. most_bytes < count) (count_read (g.S.Source.held c.args.source.now) (g.S.Source.held c.read_all.new.source)) c.read_all.ensures.long (c.in-Err-TooLong.is ∙ ap (λ e. Err e) c.in-Err-TooLong.field-0-is))
 
 pub returns-in-Err-Memory-clause-answer : goal.returns-in-Err-Memory-clause-answer
 returns-in-Err-Memory-clause-answer g c = without_memory

@@ -17,20 +17,20 @@ returns-in-Ok-write_all-clause-headline g c =
     let old = g.K.Sink.written c.args.sink.now in
     let new = g.K.Sink.written c.write_all.new.sink in
     let answer = c.answered-answer.result in
-    let line = c.as_bytes.ensures.value ∙ c.in-Ok.ensures in
+    let lines = c.deref.ensures.value ∙ c.in-Ok.ensures in
     record {
       answer = answer;
       is_answer = c.answered-answer.ensures.answer;
-      is_written = subst (λ status. IsWritten old new answer status) (sym c.status.ensures) (whole (c.in-Ok-write_all.ensures.all ∙ ap (λ (bytes : List ℕ). after old bytes) line));
+      is_written = subst (λ status. IsWritten old new answer status) (sym c.status.ensures) (whole (c.in-Ok-write_all.ensures.all ∙ ap (λ (bytes : List ℕ). after old bytes) lines));
     }
 
 pub returns-clause-headline : goal.returns-clause-headline
 returns-clause-headline g c =
     let old = g.K.Sink.written c.args.sink.now in
-    let line = c.as_bytes.ensures.value ∙ c.in-Ok.ensures in
+    let lines = c.deref.ensures.value ∙ c.in-Ok.ensures in
     let some = c.in-Err-write_all.ensures.front in
     record {
       answer = c.answered-answer.result;
       is_answer = c.answered-answer.ensures.answer;
-      is_written = front some.0 (subst (λ (bytes : List ℕ). some.0 < length bytes) line some.1) (some.2 ∙ ap (λ (bytes : List ℕ). after old (take some.0 bytes)) line);
+      is_written = front some.0 (subst (λ (bytes : List ℕ). some.0 < length bytes) lines some.1) (some.2 ∙ ap (λ (bytes : List ℕ). after old (take some.0 bytes)) lines);
     }
