@@ -1,26 +1,24 @@
-ghost use Rattle.std.specs.Prelude.{◌<◌};
-
-use crate::run::run;
 use crate::status::Status;
-use crate::texts::repeated;
+use crate::texts::{answer, repeated};
 use std::alloc::{AllocError, Global};
 use std::test::Fail;
-use tv_text::{MemSink, MemSource};
 
-const UNBUILT: &str = "Refused certificate unbuilt\n";
+/// A certificate is wanted and none is there.
+const MISSING: &str = "Certificate refused line 1\n";
 
-/// What is answered to the words on the text: the status, and the line that is written.
-fn answer(alloc: Global, words: &[&str], text: Vec<u8>) -> Result<(Status, MemSink), AllocError> {
-    let mut source = MemSource::new(text, 4096, Vec::new(alloc));
-    let mut sink = MemSink::new(alloc, 100, 4096, Vec::new(alloc))?;
-    let status = run(alloc, words, &mut source, &mut sink);
-    Ok((status, sink))
+/// How a run ends that writes this line.
+fn status_with(line: &str) -> Status {
+    if line == MISSING {
+        Status::CertificateRefused
+    } else {
+        Status::Refused
+    }
 }
 
 /// What closes 64 brackets behind a number.
 const CLOSED: &str = "1)))))))))))))))))))))))))))))))))))))))))))))))))))))))))))))))); TO: 0;";
 
-// A front, a part so many times, an end, and the line: at each limit no certificate is there, past it the text is refused.
+// A front, a part so many times, an end, and the line: at each limit the certificate is missing, past it the text is refused.
 #[test]
 fn texts_keep_their_limits(rt: HostRuntime) -> Result<(), Fail> {
     let alloc = rt.alloc();
@@ -28,7 +26,7 @@ fn texts_keep_their_limits(rt: HostRuntime) -> Result<(), Fail> {
     let edge = "START: 0; FROM: 0; ";
     let drawn = "TO: 0; FROM: 0; x := nondet(); TO: 0;";
     for (front, part, times, end, line) in [
-        (edge, "#:=0;", 512, "TO: 0;", UNBUILT),
+        (edge, "#:=0;", 512, "TO: 0;", MISSING),
         (
             edge,
             "#:=0;",
@@ -43,7 +41,7 @@ fn texts_keep_their_limits(rt: HostRuntime) -> Result<(), Fail> {
             "assume(z > 0); TO: 0;",
             "Refused text too many variables line 1 column 3611\n",
         ),
-        ("START: 0; ", "FROM:#;TO:0;", 1023, "", UNBUILT),
+        ("START: 0; ", "FROM:#;TO:0;", 1023, "", MISSING),
         (
             "START: 0; ",
             "FROM:#;TO:0;",
@@ -51,7 +49,7 @@ fn texts_keep_their_limits(rt: HostRuntime) -> Result<(), Fail> {
             "",
             "Refused text too many locations line 1 column 14338\n",
         ),
-        ("", "FROM:#;TO:#;", 1023, "START: 0;", UNBUILT),
+        ("", "FROM:#;TO:#;", 1023, "START: 0;", MISSING),
         (
             "",
             "FROM:#;TO:#;",
@@ -59,7 +57,7 @@ fn texts_keep_their_limits(rt: HostRuntime) -> Result<(), Fail> {
             "START: 0;",
             "Refused text too many locations line 1 column 16392\n",
         ),
-        ("START: 0;\n", "FROM: 0; TO: 0;\n", 4096, "", UNBUILT),
+        ("START: 0;\n", "FROM: 0; TO: 0;\n", 4096, "", MISSING),
         (
             "START: 0;\n",
             "FROM: 0; TO: 0;\n",
@@ -67,7 +65,7 @@ fn texts_keep_their_limits(rt: HostRuntime) -> Result<(), Fail> {
             "",
             "Refused text too many edges line 4098 column 1\n",
         ),
-        (edge, "x:=nondet();", 64, "TO: 0;", UNBUILT),
+        (edge, "x:=nondet();", 64, "TO: 0;", MISSING),
         (
             edge,
             "x:=nondet();",
@@ -75,8 +73,8 @@ fn texts_keep_their_limits(rt: HostRuntime) -> Result<(), Fail> {
             "TO: 0;",
             "Refused text too many draws line 1 column 791\n",
         ),
-        (edge, "x:=nondet();", 64, drawn, UNBUILT),
-        ("START: 0; FROM: 0; x := ", "(", 64, CLOSED, UNBUILT),
+        (edge, "x:=nondet();", 64, drawn, MISSING),
+        ("START: 0; FROM: 0; x := ", "(", 64, CLOSED, MISSING),
         (
             "START: 0; FROM: 0; x := ",
             "(",
@@ -84,7 +82,7 @@ fn texts_keep_their_limits(rt: HostRuntime) -> Result<(), Fail> {
             CLOSED,
             "Refused text deep line 1 column 89\n",
         ),
-        ("START: 0; FROM: 0; x := ", "-", 64, "1; TO: 0;", UNBUILT),
+        ("START: 0; FROM: 0; x := ", "-", 64, "1; TO: 0;", MISSING),
         (
             "START: 0; FROM: 0; x := ",
             "-",
@@ -98,7 +96,7 @@ fn texts_keep_their_limits(rt: HostRuntime) -> Result<(), Fail> {
             "!",
             63,
             "true); TO: 0;",
-            UNBUILT,
+            MISSING,
         ),
         (
             "START: 0; FROM: 0; assume(",
@@ -111,7 +109,7 @@ fn texts_keep_their_limits(rt: HostRuntime) -> Result<(), Fail> {
         let text = repeated(alloc, front, part, times, end)?;
         let (status, sink) = answer(alloc, words, text)?;
         assert_eq!(rt; sink.written(), line.as_bytes(), "{times} {part}");
-        assert_eq!(rt; status, Status::Refused, "{times} {part}");
+        assert_eq!(rt; status, status_with(line), "{times} {part}");
     }
     Ok(())
 }
@@ -149,14 +147,14 @@ fn bytes_that_begin_no_token_are_refused(rt: HostRuntime) -> Result<(), Fail> {
     for byte in (0..=255u8).filter(|byte| begins_no_token(*byte)) {
         for (front, end, line) in [
             ("START: 0; ", "", "Refused text syntax line 1 column 11\n"),
-            ("START: 0; /*", "*/", UNBUILT),
+            ("START: 0; /*", "*/", MISSING),
         ] {
             let mut text = Vec::from_slice(alloc, front.as_bytes())?;
             text.push(byte)?;
             text.extend_from_slice(end.as_bytes())?;
             let (status, sink) = answer(alloc, words, text)?;
             assert_eq!(rt; sink.written(), line.as_bytes(), "{byte}");
-            assert_eq!(rt; status, Status::Refused, "{byte}");
+            assert_eq!(rt; status, status_with(line), "{byte}");
         }
     }
     Ok(())
@@ -241,8 +239,8 @@ fn both_line_ends_are_read(rt: HostRuntime) -> Result<(), Fail> {
     for line_end in ["\n", "\r\n"] {
         let bare = with_line_ends(alloc, FILE.as_bytes(), line_end)?;
         let (status, sink) = answer(alloc, words, bare)?;
-        assert_eq!(rt; sink.written(), UNBUILT.as_bytes(), "{line_end:?}");
-        assert_eq!(rt; status, Status::Refused, "{line_end:?}");
+        assert_eq!(rt; sink.written(), MISSING.as_bytes(), "{line_end:?}");
+        assert_eq!(rt; status, Status::CertificateRefused, "{line_end:?}");
         let whole = with_line_ends(alloc, &text, line_end)?;
         let (status, sink) = answer(alloc, words, whole)?;
         assert_eq!(rt; sink.written(), unmet.as_bytes(), "{line_end:?}");

@@ -5,10 +5,14 @@ mod answer;
 mod assignment;
 #[cfg(test)]
 mod case_tests;
+#[cfg(test)]
+mod certificate_tests;
 mod judging;
 #[cfg(test)]
 mod limit_tests;
 mod property;
+#[cfg(test)]
+mod property_tests;
 mod run;
 mod status;
 #[cfg(test)]

@@ -49,7 +49,7 @@ const DRAWN_BACK: &str = "into 0 0\nempty 1 1\ninto 0 0\nend\n";
 const DRAWN_ABOVE: &str =
     "START: 0; FROM: 0; x := nondet(); assume(x > 3); TO: 1; FROM: 1; assume(x < 0); TO: 2;\n";
 
-const NO_CERTIFICATE: &str = "Refused certificate unbuilt\n";
+const NO_CERTIFICATE: &str = "Certificate refused line 1\n";
 
 // A source of these texts in a row.
 fn source(alloc: Global, texts: &[&str], piece: usize, fails: u64) -> Result<MemSource, AllocError>
@@ -92,15 +92,25 @@ fn answers_with_one_line(rt: HostRuntime) -> Result<(), Fail> {
         (check_2, unmet_side, UNMET_ROOT, Status::CertificateRefused),
         (check_2, wrong, UNMET, Status::CertificateRefused),
         (check_9, proof, UNKNOWN, Status::Refused),
-        (check_0, [DRAWN].as_slice(), NO_CERTIFICATE, Status::Refused),
+        (
+            check_0,
+            [DRAWN].as_slice(),
+            NO_CERTIFICATE,
+            Status::CertificateRefused,
+        ),
         (
             check_2,
             [COUNTER].as_slice(),
             NO_CERTIFICATE,
-            Status::Refused,
+            Status::CertificateRefused,
         ),
-        (check_2, nothing, NO_CERTIFICATE, Status::Refused),
-        (check_2, two_lines, NO_CERTIFICATE, Status::Refused),
+        (check_2, nothing, NO_CERTIFICATE, Status::CertificateRefused),
+        (
+            check_2,
+            two_lines,
+            NO_CERTIFICATE,
+            Status::CertificateRefused,
+        ),
         (check_2, inside, INSIDE, Status::Refused),
         (check_2, [].as_slice(), NO_START, Status::Refused),
         (check_2, drawn, "Proved\n", Status::Proved),
@@ -162,29 +172,6 @@ fn tells_what_is_at_fault(rt: HostRuntime) -> Result<(), Fail> {
         );
         let written = format!(in alloc; "Refused text {line}\n")?;
         assert_eq!(rt; sink.written(), written.as_bytes(), "{line}");
-    }
-    Ok(())
-}
-
-// Each other form of words.
-#[test]
-fn refuses_other_words(rt: HostRuntime) -> Result<(), Fail> {
-    let alloc = rt.alloc();
-    let none: &[&str] = &[];
-    let one: &[&str] = &["--check"];
-    let unchecked: &[&str] = &["--safety", "2"];
-    let unlabelled: &[&str] = &["--check", "--safety"];
-    let turned: &[&str] = &["--safety", "--check", "2"];
-    let four: &[&str] = &["--check", "--safety", "2", "3"];
-    let other: &[&str] = &["--check", "--termination", "2"];
-    let capital: &[&str] = &["--check", "--Safety", "2"];
-    for words in [
-        none, one, unchecked, unlabelled, turned, four, other, capital,
-    ] {
-        let mut source = source(alloc, [COUNTER].as_slice(), 4096, 0)?;
-        let mut sink = sink(alloc, 4096, 0)?;
-        assert_eq!(rt; run(alloc, words, &mut source, &mut sink), Status::Refused);
-        assert_eq!(rt; sink.written(), b"Refused words\n".as_slice());
     }
     Ok(())
 }

@@ -1,4 +1,63 @@
+use crate::run::run;
+use crate::status::Status;
 use std::alloc::{AllocError, Global};
+use tv_text::{MemSink, MemSource};
+
+/// What is answered to the words on the text: the status, and what is written.
+pub(crate) fn answer(
+    alloc: Global,
+    words: &[&str],
+    text: Vec<u8>,
+) -> Result<(Status, MemSink), AllocError> {
+    let mut source = MemSource::new(text, 4096, Vec::new(alloc));
+    let mut sink = MemSink::new(alloc, 100, 4096, Vec::new(alloc))?;
+    let status = run(alloc, words, &mut source, &mut sink);
+    Ok((status, sink))
+}
+
+/// The front, and behind it the lines of the certificate, with this text in place of the line with the number.
+pub(crate) fn with_line(
+    alloc: Global,
+    front: &str,
+    certificate: &str,
+    number: u32,
+    line: &str,
+) -> Result<Vec<u8>, AllocError> {
+    let mut text = Vec::from_slice(alloc, front.as_bytes())?;
+    let mut at: u32 = 1;
+    for byte in certificate.as_bytes() {
+        if at != number {
+            text.push(*byte)?;
+        }
+        if *byte == b'\n' {
+            if at == number {
+                text.extend_from_slice(line.as_bytes())?;
+            }
+            at = at.saturating_add(1);
+        }
+    }
+    Ok(text)
+}
+
+/// The front, and behind it so many lines of the certificate.
+pub(crate) fn with_lines(
+    alloc: Global,
+    front: &str,
+    certificate: &str,
+    count: u32,
+) -> Result<Vec<u8>, AllocError> {
+    let mut text = Vec::from_slice(alloc, front.as_bytes())?;
+    let mut at: u32 = 0;
+    for byte in certificate.as_bytes() {
+        if at < count {
+            text.push(*byte)?;
+        }
+        if *byte == b'\n' {
+            at = at.saturating_add(1);
+        }
+    }
+    Ok(text)
+}
 
 /// The letters of a number below 17,576, with the same length for each.
 fn letters(number: u32) -> [u8; 3] {
