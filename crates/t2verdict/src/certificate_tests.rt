@@ -41,18 +41,19 @@ const TERMINATION: [&str; 2] = ["--check", "--termination"];
 #[test]
 fn certificates_are_checked(rt: HostRuntime) -> Result<(), Fail> {
     let alloc = rt.alloc();
-    let below = ["--check", "--ctl", "[AF](x < 0)"];
-    let down = ["--ctl", "[AF](x <= 0)", "--check"];
-    let term = ["--check", "--ctl", "term"];
-    let backwards = ["--termination", "--check"];
-    let no = ["--check", "--ctl", "false"];
-    let yes = ["--check", "--ctl", "true"];
+    let termination: &[&str] = &["--check", "--termination"];
+    let below: &[&str] = &["--check", "--ctl", "[AF](x < 0)"];
+    let down: &[&str] = &["--ctl", "[AF](x <= 0)", "--check"];
+    let term: &[&str] = &["--check", "--ctl", "term"];
+    let backwards: &[&str] = &["--termination", "--check"];
+    let no: &[&str] = &["--check", "--ctl", "false"];
+    let yes: &[&str] = &["--check", "--ctl", "true"];
     for (program, certificate, end, words, written, status) in [
         (
             COUNTDOWN,
             UNENDED,
             ENDED,
-            TERMINATION.as_slice(),
+            termination,
             "Proved\n",
             Status::Proved,
         ),
@@ -60,23 +61,16 @@ fn certificates_are_checked(rt: HostRuntime) -> Result<(), Fail> {
             COUNTDOWN,
             UNENDED,
             ENDED,
-            backwards.as_slice(),
+            backwards,
             "Proved\n",
             Status::Proved,
         ),
-        (
-            COUNTDOWN,
-            UNENDED,
-            ENDED,
-            term.as_slice(),
-            "Proved\n",
-            Status::Proved,
-        ),
+        (COUNTDOWN, UNENDED, ENDED, term, "Proved\n", Status::Proved),
         (
             CLIMBER,
             ENDLESS,
             "",
-            TERMINATION.as_slice(),
+            termination,
             "Disproved\nx = 1\n",
             Status::Disproved,
         ),
@@ -84,16 +78,16 @@ fn certificates_are_checked(rt: HostRuntime) -> Result<(), Fail> {
             CLIMBER,
             ENDLESS,
             "",
-            term.as_slice(),
+            term,
             "Disproved\nx = 1\n",
             Status::Disproved,
         ),
-        (LOOP, DOWN, "", down.as_slice(), "Proved\n", Status::Proved),
+        (LOOP, DOWN, "", down, "Proved\n", Status::Proved),
         (
             LOOP,
             NEVER_BELOW,
             "",
-            below.as_slice(),
+            below,
             "Disproved\nx = 0\n",
             Status::Disproved,
         ),
@@ -101,7 +95,7 @@ fn certificates_are_checked(rt: HostRuntime) -> Result<(), Fail> {
             LOOP,
             BELOW,
             "",
-            below.as_slice(),
+            below,
             "Certificate refused obligation 5 node 0 successor\n",
             Status::CertificateRefused,
         ),
@@ -109,7 +103,7 @@ fn certificates_are_checked(rt: HostRuntime) -> Result<(), Fail> {
             "START: 0; FROM: 0; assume(y > x); TO: 0;\nCERTIFICATE:\n",
             "T2CERT 1\ndisproved\nnode atom 1 0\npiece 0 go 0\ninto 0 0\nat 0 5 -3\n",
             ENDED,
-            no.as_slice(),
+            no,
             "Disproved\ny = 5\nx = -3\n",
             Status::Disproved,
         ),
@@ -117,7 +111,7 @@ fn certificates_are_checked(rt: HostRuntime) -> Result<(), Fail> {
             "START: 0; FROM: 0; TO: 0;\nCERTIFICATE:\n",
             "T2CERT 1\ndisproved\nnode noterm 1 0\npiece 0 go 0\ntake 0 0 0\nat 0\n",
             ENDED,
-            TERMINATION.as_slice(),
+            termination,
             "Disproved\n",
             Status::Disproved,
         ),
@@ -125,7 +119,7 @@ fn certificates_are_checked(rt: HostRuntime) -> Result<(), Fail> {
             "START: 0;\nCERTIFICATE:\n",
             "T2CERT 1\nproved\nnode atom 1 0\npiece 0 go 0\ninto 0 0\ninto 0 0\n",
             ENDED,
-            yes.as_slice(),
+            yes,
             "Proved\n",
             Status::Proved,
         ),
