@@ -8,7 +8,6 @@ mod node;
 mod owes;
 mod parts;
 mod pieces;
-mod plain;
 mod visiting;
 mod visitor;
 
@@ -19,6 +18,5 @@ pub use node::{Kind, Mark, Marked, Node, Proof, Verdict};
 pub use owes::{Destination, Owes};
 pub use parts::part;
 pub use pieces::{joined_piece_at, piece_at};
-pub use plain::Plain;
 pub use visiting::visit_pieces;
 pub use visitor::Visitor;

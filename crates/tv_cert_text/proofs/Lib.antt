@@ -1,9 +1,0 @@
-pub mod ReadingLemmas
-pub mod PartLemmas
-pub mod CoverLemmas
-pub mod ProofLemmas
-pub mod NodeTexts
-pub mod OneEachLemmas
-pub mod RootLemmas
-pub mod PublicLemmas
-pub mod FitLemmas

@@ -1,14 +1,3 @@
-//! The texts of certificates that no run reaches a location.
+//! The lines of certificates: what each node, piece, cover and choice is written as. They are used in contracts and proofs alone, so there
+//! is no code here.
 #![tactic(auto)]
-
-mod covers;
-mod fault;
-mod lines;
-mod pieces;
-mod plain;
-
-pub use fault::PlainFault;
-pub use plain::read_plain_certificate;
-
-#[cfg(test)]
-mod tests;

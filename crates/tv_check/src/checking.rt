@@ -96,7 +96,7 @@ fn check_values(
 /// Checks a certificate that what the root is to show holds at the start: `Ok` where all its obligations are met, and else the first that is not.
 ///
 /// It takes no memory.
-pub fn check_proved(about: &Cases, aim: &Aim, root: &Node, start: &Cover) -> Result<(), Failing>
+fn check_proved(about: &Cases, aim: &Aim, root: &Node, start: &Cover) -> Result<(), Failing>
     requires parts { HasParts (aim_states aim.now) root.now }
     requires room { length (said_entries 0 (cases_of about.now) (aim_states aim.now) root.now) + 1 < 2 ^ 64 }
     requires nodes { size root.now < 2 ^ 32 }
@@ -111,7 +111,7 @@ pub fn check_proved(about: &Cases, aim: &Aim, root: &Node, start: &Cover) -> Res
 /// Checks a certificate that what the root is to show holds at the start with these values, which are in this piece of the root there.
 ///
 /// It takes no memory.
-pub fn check_disproved(
+fn check_disproved(
     about: &Cases,
     aim: &Aim,
     root: &Node,

@@ -10,5 +10,5 @@ mod settler;
 mod steps;
 mod walking;
 
-pub use checking::{check, check_disproved, check_proved};
+pub use checking::check;
 pub use walking::Failing;

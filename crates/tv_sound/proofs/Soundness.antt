@@ -1,5 +1,5 @@
 -- What a certificate all of whose obligations are met shows of a program.
-use Rattle.std.proofs.Common.{◌≡◌, ℕ, List, [], ◌∷◌, length, Option, None, Some, arith, refl, sym, ◌∙◌, slice_get}
+use Rattle.std.proofs.Common.{◌≡◌, ℕ, List, [], ◌∷◌, length, Option, None, Some, refl, sym, ◌∙◌, slice_get}
 use Rattle.std.proofs.lemmas.List.Elements.{All-nil}
 use Rattle.tv_linear.specs.Known.{given, IsKnownMet}
 use Rattle.tv_linear.specs.declared.cover.CoverTree.{CoverTree}
@@ -25,8 +25,6 @@ use Rattle.tv_cert.specs.Targets.{no_fall}
 use Rattle.tv_cert.specs.Obligations.{About, IsMetEntry, AllMet, PointMet}
 use Rattle.tv_cert.specs.Nodes.{pieces_of, entries, root_entry, obligations}
 use Rattle.tv_cert.specs.Fits.{NodeFits}
-use Rattle.tv_formula.specs.Forms.{never_at}
-use Rattle.tv_cert.specs.Plain.{about_of, PlainFits, PlainMet}
 use Rattle.tv_cert.proofs.PieceLemmas.{piece_got}
 use Rattle.tv_sound.proofs.Entering.{entered, wide_after}
 use Rattle.tv_sound.proofs.NodesSound.{TestsShow, node_sound, AllMet-left, AllMet-right}
@@ -74,11 +72,6 @@ disproved_sound p about of_program steps tests property root k values fits met w
     let here = node_sound about tests 0 (negation property) root fits (AllMet-left (entries 0 about (negation property) root) _ met) s wide inside in
     negation_excludes (CaseSteps about.system) property s here (Holds_along (Wide n) (Steps p) (CaseSteps about.system) (turned (same_on p about.system of_program steps)) property s wide h)
 
--- ---- formulas without comparisons
-
-no_tests : (system : CaseSystem) → TestsShow (about_of system)
-no_tests system = record { shows = λ r a b lines xs among wide met. absurd (omega (arith, among.1)) }
-
 -- ---- formulas with comparisons
 
 -- a certificate with the rows of comparisons as those of assumptions
@@ -87,8 +80,3 @@ about_with system = record { system = system; tests = comparison_lists system.va
 
 pub comparisons_show : (system : CaseSystem) → TestsShow (about_with system)
 comparisons_show system = record { shows = λ r a b lines xs among wide met. comparison_shows system.variables r a b xs wide lines among ((met-as_given xs lines).1 met) }
-
--- a certificate all of whose obligations are met shows that no run from an initial state reaches the location
-pub never_reached : (p : System) (system : CaseSystem) (l : ℕ) (root : Node) (start : CoverTree) → IsOfProgram p system → HaveSameSteps p system → PlainFits system l root start → PlainMet system l root start → HoldsInitially p (never_at l)
-never_reached p system l root start of_program steps fits met =
-    proved_sound p (about_of system) of_program steps (no_tests system) (never_at l) root start fits.fits met

@@ -2,9 +2,7 @@
 #![tactic(auto)]
 
 mod claims;
-mod safety;
 #[cfg(test)]
 mod tests;
 
 pub use claims::check_claim;
-pub use safety::check_safety;

@@ -1,4 +1,0 @@
-use Rattle.tv_cert_text.proofs.pieces.Context.+cover_tree.Given as goal
-
-abbrev pub decreases-cover_tree : goal.decreases-cover_tree
-decreases-cover_tree l = l.left
