@@ -11,7 +11,7 @@ use Rattle.tv_formula_text.specs.declared.fault.FormulaFault.{FormulaFault}
 use Rattle.tv_formula_text.specs.declared.fault.FormulaFault.TheVariants as faults
 use Rattle.t2verdict.specs.Questions.{Query, safety, termination, ctl}
 
--- at no run a state at the location with the label
+-- no run comes to the location with the label
 pub record IsNeverAt (p : System) (label : Word) (f : Property) : Type 0 where
   pub location : ℕ
   pub is_location : number_of label p.locations ≡ Some location
