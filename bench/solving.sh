@@ -13,6 +13,7 @@ import os, random, resource, shutil, subprocess, sys, tempfile, time
 PROGRAM, PIVOTS = sys.argv[1], sys.argv[2]
 MOST_MEMORY = 4 << 30
 ROOM = 60
+resource.setrlimit(resource.RLIMIT_AS, (MOST_MEMORY, MOST_MEMORY))
 
 
 def product(rows, values):
@@ -57,12 +58,9 @@ def text_of(table, right):
 
 
 def run(words, given):
-    def limit():
-        resource.setrlimit(resource.RLIMIT_AS, (MOST_MEMORY, MOST_MEMORY))
-
     with open(given) as text:
         before = time.monotonic()
-        child = subprocess.Popen([PROGRAM, *words], stdin=text, stdout=subprocess.PIPE, preexec_fn=limit)
+        child = subprocess.Popen([PROGRAM, *words], stdin=text, stdout=subprocess.PIPE)
         answer = child.stdout.read().decode().strip()
         _, status, used = os.wait4(child.pid, 0)
         took = time.monotonic() - before
