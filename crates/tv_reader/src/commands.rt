@@ -23,6 +23,7 @@ use tv_language::word_of;
 use tv_program::{Command, Edge};
 use tv_tokens::TokenKind;
 
+#[inline(always)]
 fn with_command(
     commands: Vec<Command>,
     command: Command,
@@ -32,6 +33,16 @@ fn with_command(
     let mut commands = commands;
     commands.push(command)?;
     Ok(commands)
+}
+
+/// The same edge, with no room for more commands.
+#[inline(always)]
+fn fitted(edge: Edge) -> Edge
+    ensures { transition result ≡ transition edge }
+{
+    let mut edge = edge;
+    edge.commands.shrink_to_fit();
+    edge
 }
 
 impl Reader<'_> {
@@ -218,11 +229,11 @@ impl Reader<'_> {
         let from = self.place()?;
         let commands = self.commands()?;
         let to = self.to()?;
-        Ok(Edge {
+        Ok(fitted(Edge {
             from,
             to,
             draws: self.reading.draws(),
             commands,
-        })
+        }))
     }
 }

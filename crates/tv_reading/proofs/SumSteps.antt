@@ -1,22 +1,24 @@
 -- What one step of the code that reads sums does.
-use Rattle.std.proofs.Common.{◌≡◌, ℕ, zero, suc, ◌<◌, Bool, true, List, [], ◌∷◌, drop, length, Option, Some, None, Result, Ok, Err, refl, sym, ap, subst, ◌∙◌, arith}
+use Rattle.std.proofs.Common.{◌≡◌, ℕ, zero, suc, ◌<◌, Bool, true, false, List, [], ◌∷◌, drop, length, Option, Some, None, Result, Ok, Err, refl, sym, ap, subst, ◌∙◌, arith}
 use Rattle.tv_tokens.specs.declared.token.TokenKind.{TokenKind}
 use Rattle.tv_tokens.specs.declared.token.TokenKind.TheVariants as kinds
 use Rattle.tv_program.specs.Trees as trees
 use Rattle.tv_program.specs.Trees.{Expression}
 use Rattle.tv_language.specs.Symbols.{number, name, label, drawn, fixed}
-use Rattle.tv_grammar.specs.Reads.{Fault, faulty, fault, next}
-use Rattle.tv_grammar.specs.Langs.{branch_read, headed_read, goes_at, then, mapped, turns}
+use Rattle.tv_language.specs.Sums.{gathered}
+use Rattle.tv_grammar.specs.Reads.{Fault, faulty, ◌>>=◌, fault, next}
+use Rattle.tv_grammar.specs.Langs.{unit, branch_read, headed_read, goes_at, then, mapped, turns}
 use Rattle.tv_grammar.specs.Exact.{ExactBranch}
 use Rattle.tv_grammar.proofs.TurningLemmas.{loop_ends, loop_fails, loop_goes, turn_shrinks}
 use Rattle.tv_reading.specs.Marks as marks
 use Rattle.tv_reading.specs.Marks.{Kind, Mark, plain, refused}
-use Rattle.tv_reading.specs.SumGrammar.{Behind, every, closed, leaf_cases, factor_cases, below, factor_at, sum_at}
+use Rattle.tv_reading.specs.SumGrammar.{Grammar, Behind, every, closed, leaf_cases, factor_cases, below, star_cases, sum_cases, factor_at, product_at, sum_at}
 use Rattle.tv_reading.specs.declared.reason.Reason.{Reason}
 use Rattle.tv_reading.specs.declared.reason.Reason.TheVariants.{Syntax, Wide, Deep, NotLinear, TooMany, UnknownName, Memory}
 use Rattle.tv_reading.specs.declared.reason.Turn.TheVariants.{On, Off}
 use Rattle.tv_reading.specs.Views.{kind_at}
 use Rattle.tv_reading.specs.Answers.{kind_of, Unless, Gives, Turned}
+use Rattle.tv_reading.proofs.SumLemmas.{star_branch, sum_branch, factor_exact, product_exact}
 
 pub gives_along : {X Y : Type 0} (view : X → Y) (r : Result X Reason) (left : List Mark) (a b : Result (Y × List Mark) (Fault Mark Kind)) → a ≡ b → Gives view r left b → Gives view r left a
 gives_along view r left a b e h = subst (Gives view r left) (sym e) h
@@ -97,3 +99,26 @@ module _ {X S : Type 0} (view : X → S) (cases : S → Mark → Behind S) (h : 
 
   pub turn_off : (x : X) → Turned view (Ok (Off x)) left cases s ts → all ≡ Ok (view x, left)
   turn_off x t = sym so_far ∙ loop_ends cases h s ts t.0 ∙ rw (t.1, t.2) refl
+
+-- ---- a factor and a product with nothing behind them
+
+no_star : (factor : Bool → Grammar Expression) (free : Bool) (es : List Expression) (o : Option Mark) → (kind_at o ≡ kinds.Star → ⊥) → goes_at (star_cases factor free es) o ≡ false
+no_star factor free es None s = refl
+no_star factor free es (Some (plain (fixed kinds.Star))) s = absurd (s refl)
+no_star factor free es (Some m) s = refl
+
+no_sign : (product : Grammar Expression) (es : List Expression) (o : Option Mark) → (kind_at o ≡ kinds.Plus → ⊥) → (kind_at o ≡ kinds.Minus → ⊥) → goes_at (sum_cases product es) o ≡ false
+no_sign product es None p m = refl
+no_sign product es (Some (plain (fixed kinds.Plus))) p m = absurd (p refl)
+no_sign product es (Some (plain (fixed kinds.Minus))) p m = absurd (m refl)
+no_sign product es (Some s) p m = refl
+
+pub one_factor : (n : ℕ) (free : Bool) (e : Expression) (ts : List Mark) (k : TokenKind) → k ≡ kind_at (next ts) → (k ≡ kinds.Star → ⊥) → (mapped (gathered trees.product) (turns (star_cases (factor_at every n) free) (e ∷ []))).read ts ≡ Ok (e, ts)
+one_factor n free e ts k is s =
+    ap (λ (r : Result (List Expression × List Mark) (Fault Mark Kind)). r >>= λ x. (unit (gathered trees.product x.0)).read x.1)
+    (loop_ends (star_cases (factor_at every n) free) (star_branch (factor_at every n) (factor_exact every n) free) (e ∷ []) ts (no_star (factor_at every n) free (e ∷ []) (next ts) (λ w. s (is ∙ w))))
+
+pub one_product : (n : ℕ) (free : Bool) (e : Expression) (ts : List Mark) (k : TokenKind) → k ≡ kind_at (next ts) → (k ≡ kinds.Plus → ⊥) → (k ≡ kinds.Minus → ⊥) → (mapped (gathered trees.sum) (turns (sum_cases (product_at every n free)) (e ∷ []))).read ts ≡ Ok (e, ts)
+one_product n free e ts k is p m =
+    ap (λ (r : Result (List Expression × List Mark) (Fault Mark Kind)). r >>= λ x. (unit (gathered trees.sum x.0)).read x.1)
+    (loop_ends (sum_cases (product_at every n free)) (sum_branch (product_at every n free) (product_exact every n free)) (e ∷ []) ts (no_sign (product_at every n free) (e ∷ []) (next ts) (λ w. p (is ∙ w)) (λ w. m (is ∙ w))))

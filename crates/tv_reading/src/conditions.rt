@@ -15,8 +15,8 @@ use crate::joined::{Piece, add_cond, all_of, comparison, conds_of, negation, som
 use crate::marks::Part;
 use crate::reason::{Reason, Turn};
 use crate::source::Source;
-use crate::sums::{close, factor, signs, stars, sum};
-use crate::trees::{Made, product_of, run_of, sum_of};
+use crate::sums::{close, factor, product_from, sum, sum_from};
+use crate::trees::Made;
 use tv_program::{Cond, Relation};
 use tv_tokens::TokenKind;
 
@@ -55,11 +55,9 @@ fn tail(source: &Source, cursor: &mut Cursor, levels: u32, first: Made) -> Resul
     ensures reads { Gives piece_view result (left (stand source.now cursor.new)) ((tail every levels (made_view first)).read (left (stand source.now cursor.old))) }
     ensures passed { Keeps source.now cursor.old cursor.new }
 {
-    let run = run_of(source.alloc, first)?;
-    let factors = stars(source, cursor, levels, true, run)?;
-    let run = run_of(source.alloc, product_of(factors))?;
-    let products = signs(source, cursor, levels, true, run)?;
-    related(source, cursor, levels, sum_of(products))
+    let product = product_from(source, cursor, levels, true, first)?;
+    let made = sum_from(source, cursor, levels, true, product)?;
+    related(source, cursor, levels, made)
 }
 
 /// What may follow a `)`.

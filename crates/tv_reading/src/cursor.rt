@@ -1,8 +1,8 @@
-ghost use Rattle.std.specs.Prelude.{◌≡◌, ℕ, ◌+◌, ◌<◌, length, drop, OnOk, OnErr, List, Option};
+ghost use Rattle.std.specs.Prelude.{◌≡◌, ℕ, ◌+◌, ◌<◌, length, drop, OnOk, OnErr, List, Option, Some};
 ghost use Rattle.std.specs.Option.{option_map};
-ghost use Rattle.tv_language.specs.Symbols.{lexeme};
+ghost use Rattle.tv_language.specs.Symbols.{name, lexeme};
 ghost use Rattle.tv_grammar.specs.Reads.{next};
-ghost use Rattle.tv_reading.specs.Marks.{name_mark, mark_by, names_behind, draws_behind, left, first};
+ghost use Rattle.tv_reading.specs.Marks.{plain, name_mark, mark_by, names_behind, draws_behind, left, first};
 ghost use Rattle.tv_reading.specs.Views.{mark_of, kind_at, stand, Keeps};
 
 use crate::marks::{
@@ -45,6 +45,7 @@ fn see(source: &Source, cursor: &Cursor, token: Token) -> Part
 }
 
 /// The token with this number, if there is one.
+#[inline(always)]
 pub fn current(list: &[Token], at: u32) -> Option<Token>
     ensures { result ≡ first (drop at list.now) }
 {
@@ -56,6 +57,7 @@ pub fn current(list: &[Token], at: u32) -> Option<Token>
 }
 
 /// The next token as the grammar sees it.
+#[inline(always)]
 pub fn peek(source: &Source, cursor: &Cursor) -> Option<Part>
     ensures { option_map mark_of result ≡ next (left (stand source.now cursor.now)) }
 {
@@ -75,7 +77,32 @@ pub fn kind_of(part: Option<Part>) -> TokenKind
     }
 }
 
+/// The kind of a token, as `kind_of` tells it of what the grammar sees.
+#[inline(always)]
+fn kind_seen(source: &Source, cursor: &Cursor, token: Token) -> TokenKind
+    ensures { result ≡ kind_at (Some (mark_by source.now.grows cursor.now.names cursor.now.draws token.kind (lexeme source.now.text.now token).word)) }
+{
+    match token.kind {
+        TokenKind::Name | TokenKind::Number | TokenKind::Nondet => {
+            kind_of(Some(see(source, cursor, token)))
+        }
+        kind => kind,
+    }
+}
+
+/// The kind of the next token, if it is neither a number, nor a name, nor a draw.
+#[inline(always)]
+pub fn next_kind(source: &Source, cursor: &Cursor) -> TokenKind
+    ensures { result ≡ kind_at (next (left (stand source.now cursor.now))) }
+{
+    match current(source.list, cursor.at) {
+        Some(token) => kind_seen(source, cursor, token),
+        None => TokenKind::Unread,
+    }
+}
+
 /// Counts what the token brings in.
+#[inline(always)]
 fn count(
     source: &Source,
     names: &mut Names,
@@ -103,6 +130,7 @@ fn count(
 }
 
 /// Takes a token, and what it brings in.
+#[inline(always)]
 pub fn pass(source: &Source, cursor: &mut Cursor) -> Result<(), AllocError>
     ensures rest { OnOk result (left (stand source.now cursor.new) ≡ drop 1 (left (stand source.now cursor.old))) }
     ensures passed { Keeps source.now cursor.old cursor.new }
@@ -110,6 +138,43 @@ pub fn pass(source: &Source, cursor: &mut Cursor) -> Result<(), AllocError>
     match current(source.list, cursor.at) {
         Some(token) => {
             count(source, &mut cursor.names, &mut cursor.draws, token)?;
+            cursor.at += 1;
+        }
+        None => {}
+    }
+    Ok(())
+}
+
+/// Counts what a name of this number brings in: nothing where it is known.
+#[inline(always)]
+fn count_name(
+    source: &Source,
+    names: &mut Names,
+    draws: &mut u32,
+    token: Token,
+    number: u32,
+) -> Result<(), AllocError>
+    requires seen { mark_by source.now.grows names.old draws.old token.kind (lexeme source.now.text.now token).word ≡ plain (name number) }
+    ensures names { OnOk result (names.new ≡ names_behind source.now.grows token.kind (lexeme source.now.text.now token).word names.old) }
+    ensures draws { OnOk result (draws.new ≡ draws_behind token.kind draws.old) }
+    ensures unchanged { OnErr result ((names.new ≡ names.old) × (draws.new ≡ draws.old)) }
+{
+    if number < names.len() {
+        return Ok(());
+    }
+    count(source, names, draws, token)
+}
+
+/// Takes the name of this number, and what it brings in.
+#[inline(always)]
+pub fn pass_name(source: &Source, cursor: &mut Cursor, number: u32) -> Result<(), AllocError>
+    requires named { next (left (stand source.now cursor.old)) ≡ Some (plain (name number)) }
+    ensures rest { OnOk result (left (stand source.now cursor.new) ≡ drop 1 (left (stand source.now cursor.old))) }
+    ensures passed { Keeps source.now cursor.old cursor.new }
+{
+    match current(source.list, cursor.at) {
+        Some(token) => {
+            count_name(source, &mut cursor.names, &mut cursor.draws, token, number)?;
             cursor.at += 1;
         }
         None => {}

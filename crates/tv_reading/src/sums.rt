@@ -1,5 +1,7 @@
-ghost use Rattle.std.specs.Prelude.{◌≡◌, ℕ, drop, Ok, true, false};
+ghost use Rattle.std.specs.Prelude.{◌≡◌, ◌∷◌, [], ℕ, drop, Ok, Some, true, false};
+ghost use Rattle.tv_program.specs.Trees as trees;
 ghost use Rattle.tv_program.specs.Trees.{minus};
+ghost use Rattle.tv_language.specs.Sums.{gathered};
 ghost use Rattle.tv_grammar.specs.Reads.{next};
 ghost use Rattle.tv_grammar.specs.Langs.{turns, then, mapped, branch_read};
 ghost use Rattle.tv_reading.specs.Marks.{left};
@@ -7,7 +9,7 @@ ghost use Rattle.tv_reading.specs.SumGrammar.{every, closed, brackets, leaf_case
 ghost use Rattle.tv_reading.specs.Views.{mark_of, IsNamed, stand, Keeps, made_view, parts_view};
 ghost use Rattle.tv_reading.specs.Answers.{Gives, Turned};
 
-use crate::cursor::{Cursor, kind_of, pass, peek};
+use crate::cursor::{Cursor, kind_of, next_kind, pass, pass_name, peek};
 use crate::marks::Part;
 use crate::reason::{Reason, Turn};
 use crate::source::Source;
@@ -47,7 +49,9 @@ fn draw_brackets(source: &Source, cursor: &mut Cursor, made: Made) -> Result<Mad
 /// A factor that begins with this token, which is neither `(` nor `-`.
 ///
 /// Where `free` is false, an earlier factor of a product has a name or a draw.
+#[inline(always)]
 fn leaf(source: &Source, cursor: &mut Cursor, free: bool, part: Part) -> Result<Made, Reason>
+    requires seen { next (left (stand source.now cursor.old)) ≡ Some (mark_of part) }
     ensures reads { Gives made_view result (left (stand source.now cursor.new)) (branch_read (leaf_cases every free (mark_of part)) (left (stand source.now cursor.old)) (drop 1 (left (stand source.now cursor.old)))) }
     ensures passed { Keeps source.now cursor.old cursor.new }
 {
@@ -63,8 +67,10 @@ fn leaf(source: &Source, cursor: &mut Cursor, free: bool, part: Part) -> Result<
 }
 
 /// A name or a draw.
+#[inline(always)]
 fn named(source: &Source, cursor: &mut Cursor, free: bool, part: Part) -> Result<Made, Reason>
     requires numbered { IsNamed part }
+    requires seen { next (left (stand source.now cursor.old)) ≡ Some (mark_of part) }
     ensures reads { Gives made_view result (left (stand source.now cursor.new)) (branch_read (leaf_cases every free (mark_of part)) (left (stand source.now cursor.old)) (drop 1 (left (stand source.now cursor.old)))) }
     ensures passed { Keeps source.now cursor.old cursor.new }
 {
@@ -73,7 +79,7 @@ fn named(source: &Source, cursor: &mut Cursor, free: bool, part: Part) -> Result
     }
     match part {
         Part::Variable(number) => {
-            pass(source, cursor)?;
+            pass_name(source, cursor, number)?;
             Ok(variable_of(number))
         }
         Part::Draw(number) => {
@@ -135,6 +141,7 @@ fn signed(source: &Source, cursor: &mut Cursor, levels: u32, free: bool) -> Resu
 }
 
 #[cycle(sums)]
+#[inline(always)]
 fn star(
     source: &Source,
     cursor: &mut Cursor,
@@ -157,7 +164,7 @@ fn star(
 
 /// The factors behind the first ones of a product.
 #[cycle(sums)]
-pub fn stars(
+fn stars(
     source: &Source,
     cursor: &mut Cursor,
     levels: u32,
@@ -176,18 +183,40 @@ pub fn stars(
     }
 }
 
+/// The product that begins with this factor.
 #[cycle(sums)]
+pub fn product_from(
+    source: &Source,
+    cursor: &mut Cursor,
+    levels: u32,
+    free: bool,
+    first: Made,
+) -> Result<Made, Reason>
+    ensures reads { Gives made_view result (left (stand source.now cursor.new)) ((mapped (gathered trees.product) (turns (star_cases (factor_at every levels) free) (made_view first ∷ []))).read (left (stand source.now cursor.old))) }
+    ensures passed { Keeps source.now cursor.old cursor.new }
+{
+    match next_kind(source, cursor) {
+        TokenKind::Star => {
+            let run = run_of(source.alloc, first)?;
+            let all = stars(source, cursor, levels, free, run)?;
+            Ok(product_of(all))
+        }
+        _ => Ok(first),
+    }
+}
+
+#[cycle(sums)]
+#[inline(always)]
 fn product(source: &Source, cursor: &mut Cursor, levels: u32, free: bool) -> Result<Made, Reason>
     ensures reads { Gives made_view result (left (stand source.now cursor.new)) ((product_at every levels free).read (left (stand source.now cursor.old))) }
     ensures passed { Keeps source.now cursor.old cursor.new }
 {
     let first = factor(source, cursor, levels, free)?;
-    let run = run_of(source.alloc, first)?;
-    let all = stars(source, cursor, levels, free, run)?;
-    Ok(product_of(all))
+    product_from(source, cursor, levels, free, first)
 }
 
 #[cycle(sums)]
+#[inline(always)]
 fn sign(
     source: &Source,
     cursor: &mut Cursor,
@@ -216,7 +245,7 @@ fn sign(
 
 /// The products behind the first ones of a sum.
 #[cycle(sums)]
-pub fn signs(
+fn signs(
     source: &Source,
     cursor: &mut Cursor,
     levels: u32,
@@ -235,14 +264,35 @@ pub fn signs(
     }
 }
 
+/// The sum that begins with this product.
+#[cycle(sums)]
+pub fn sum_from(
+    source: &Source,
+    cursor: &mut Cursor,
+    levels: u32,
+    free: bool,
+    first: Made,
+) -> Result<Made, Reason>
+    ensures reads { Gives made_view result (left (stand source.now cursor.new)) ((mapped (gathered trees.sum) (turns (sum_cases (product_at every levels free)) (made_view first ∷ []))).read (left (stand source.now cursor.old))) }
+    ensures passed { Keeps source.now cursor.old cursor.new }
+{
+    match next_kind(source, cursor) {
+        TokenKind::Plus | TokenKind::Minus => {
+            let run = run_of(source.alloc, first)?;
+            let all = signs(source, cursor, levels, free, run)?;
+            Ok(sum_of(all))
+        }
+        _ => Ok(first),
+    }
+}
+
 /// A sum that nests at most `levels` deep.
 #[cycle(sums)]
+#[inline(always)]
 pub fn sum(source: &Source, cursor: &mut Cursor, levels: u32, free: bool) -> Result<Made, Reason>
     ensures reads { Gives made_view result (left (stand source.now cursor.new)) ((sum_at every levels free).read (left (stand source.now cursor.old))) }
     ensures passed { Keeps source.now cursor.old cursor.new }
 {
     let first = product(source, cursor, levels, free)?;
-    let run = run_of(source.alloc, first)?;
-    let all = signs(source, cursor, levels, free, run)?;
-    Ok(sum_of(all))
+    sum_from(source, cursor, levels, free, first)
 }

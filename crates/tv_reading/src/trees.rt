@@ -23,6 +23,7 @@ pub struct Run {
     pub ghost told: { are_constant (expressions parts.items) ≡ not named },
 }
 
+#[inline(always)]
 pub fn number_of(value: u64) -> Made
     ensures { expression result.expr ≡ number (pos value) }
 {
@@ -32,6 +33,7 @@ pub fn number_of(value: u64) -> Made
     }
 }
 
+#[inline(always)]
 pub fn variable_of(number: u32) -> Made
     ensures { expression result.expr ≡ variable number }
 {
@@ -60,10 +62,11 @@ pub fn minus_of(alloc: Global, made: Made) -> Result<Made, AllocError>
     })
 }
 
+#[inline(always)]
 pub fn run_of(alloc: Global, made: Made) -> Result<Run, AllocError>
     ensures { IfOk result (λ r. map expression r.parts.items ≡ expression made.expr ∷ []) }
 {
-    let mut parts = Vec::new(alloc);
+    let mut parts = Vec::with_capacity(alloc, 2)?;
     let named = made.named;
     parts.push(made.expr)?;
     Ok(Run { parts, named })
@@ -75,6 +78,7 @@ fn either(first: bool, second: bool) -> bool
     first || second
 }
 
+#[inline(always)]
 pub fn add(run: Run, made: Made) -> Result<Run, AllocError>
     ensures { IfOk result (λ r. map expression r.parts.items ≡ map expression run.parts.items ++ expression made.expr ∷ []) }
 {
@@ -84,6 +88,7 @@ pub fn add(run: Run, made: Made) -> Result<Run, AllocError>
     Ok(Run { parts, named })
 }
 
+#[inline(always)]
 pub fn product_of(run: Run) -> Made
     ensures { expression result.expr ≡ gathered product (map expression run.parts.items) }
 {
@@ -100,6 +105,7 @@ pub fn product_of(run: Run) -> Made
     }
 }
 
+#[inline(always)]
 pub fn sum_of(run: Run) -> Made
     ensures { expression result.expr ≡ gathered sum (map expression run.parts.items) }
 {

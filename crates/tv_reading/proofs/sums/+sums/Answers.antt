@@ -6,7 +6,7 @@ use Rattle.tv_reading.specs.Marks.{left}
 use Rattle.tv_reading.specs.SumGrammar.{every, factor_at, product_at, star_cases, sum_cases}
 use Rattle.tv_reading.specs.Views.{stand, mark_of, kind_at, made_view, parts_view}
 use Rattle.tv_reading.proofs.SumLemmas.{star_branch, sum_branch, factor_exact, product_exact}
-use Rattle.tv_reading.proofs.SumSteps.{gives_along, deep_left, deep_minus, left_read, minus_read, none_read, leaf_read, kind_is, turn_failed, turn_on, turn_less, turn_off}
+use Rattle.tv_reading.proofs.SumSteps.{gives_along, deep_left, deep_minus, left_read, minus_read, none_read, leaf_read, kind_is, turn_failed, turn_on, turn_less, turn_off, one_factor, one_product}
 use Rattle.tv_reading.proofs.sums.+sums.Goals as goal
 
 pub factor-returns-then-levels-eq0-clause-reads : goal.factor-returns-then-levels-eq0-clause-reads
@@ -66,3 +66,15 @@ stars-turns-preserved t c = record {
 
 pub stars-returns-in-Off-clause-reads : goal.stars-returns-in-Off-clause-reads
 stars-returns-in-Off-clause-reads t c = turn_off parts_view (star_cases (factor_at every c.args.levels) c.args.free) (star_branch (factor_at every c.args.levels) (factor_exact every c.args.levels) c.args.free) _ (parts_view c.turns.run) (left (stand c.args.source.now c.turns.cursor)) (left (stand c.args.source.now c.star.new.cursor)) c.turns.invariant.reads c.in-Off.all (rw c.in-Off.is at c.in_ok-more.ensures.reads)
+
+pub product_from-returns-in_default : goal.product_from-returns-in_default
+product_from-returns-in_default t c = record {
+  reads = one_factor c.args.levels c.args.free (made_view c.args.first) (left (stand c.args.source.now c.args.cursor.now)) c.next_kind.result c.next_kind.ensures c.in_default.not-Star;
+  passed = λ from h. h;
+}
+
+pub sum_from-returns-in_default : goal.sum_from-returns-in_default
+sum_from-returns-in_default t c = record {
+  reads = one_product c.args.levels c.args.free (made_view c.args.first) (left (stand c.args.source.now c.args.cursor.now)) c.next_kind.result c.next_kind.ensures c.in_default.not-Plus c.in_default.not-Minus;
+  passed = λ from h. h;
+}

@@ -6,31 +6,37 @@ use Rattle.tv_reading.specs.Views.{stand, Keeps, parts_view}
 use Rattle.tv_reading.proofs.sums.+sums.Given as goal
 
 abbrev pub decreases-factor : goal.decreases-factor
-decreases-factor l = 8 * l.levels
+decreases-factor l = 16 * l.levels
 
 abbrev pub decreases-star : goal.decreases-star
-decreases-star l = 8 * l.levels + 1
+decreases-star l = 16 * l.levels + 1
 
 abbrev pub decreases-stars : goal.decreases-stars
-decreases-stars l = 8 * l.levels + 2
+decreases-stars l = 16 * l.levels + 2
+
+abbrev pub decreases-product_from : goal.decreases-product_from
+decreases-product_from l = 16 * l.levels + 3
 
 abbrev pub decreases-product : goal.decreases-product
-decreases-product l = 8 * l.levels + 3
+decreases-product l = 16 * l.levels + 4
 
 abbrev pub decreases-sign : goal.decreases-sign
-decreases-sign l = 8 * l.levels + 4
+decreases-sign l = 16 * l.levels + 5
 
 abbrev pub decreases-signs : goal.decreases-signs
-decreases-signs l = 8 * l.levels + 5
+decreases-signs l = 16 * l.levels + 6
+
+abbrev pub decreases-sum_from : goal.decreases-sum_from
+decreases-sum_from l = 16 * l.levels + 7
 
 abbrev pub decreases-sum : goal.decreases-sum
-decreases-sum l = 8 * l.levels + 6
+decreases-sum l = 16 * l.levels + 8
 
 abbrev pub decreases-bracketed : goal.decreases-bracketed
-decreases-bracketed l = 8 * l.levels + 7
+decreases-bracketed l = 16 * l.levels + 9
 
 abbrev pub decreases-signed : goal.decreases-signed
-decreases-signed l = 8 * l.levels + 1
+decreases-signed l = 16 * l.levels + 1
 
 abbrev pub invariant-stars-turns : goal.invariant-stars-turns
 invariant-stars-turns l = record {
