@@ -1,6 +1,7 @@
 -- The obligations of a piece, one case, child or piece after another.
-use Rattle.std.proofs.Common.{◌≡◌, ◌⊎◌, inl, inr, ℕ, Bool, true, false, List, [], ◌∷◌, ◌++◌, map, cond, refl, ap, sym, ◌==◌}
+use Rattle.std.proofs.Common.{◌≡◌, ◌⊎◌, inl, inr, ℕ, zero, suc, ◌<◌, Bool, true, false, List, [], ◌∷◌, ◌++◌, length, map, All, get_or, cond, refl, ap, sym, subst, arith, ◌==◌}
 use Rattle.std.proofs.lemmas.List.{append-nil}
+use Rattle.std.proofs.lemmas.List.Elements.{All-head, All-tail}
 use Rattle.std.specs.List.{flat_map}
 use Rattle.tv_cases.specs.declared.case.Case.{Case}
 use Rattle.tv_cases.specs.LinearCases.{LinearCase}
@@ -24,6 +25,12 @@ one_more step false c cs = refl
 -- what the first case owes, and then what the others owe
 pub cases-cons : (step : LinearCase → Obligation) (l : ℕ) (c : Case) (cs : List Case) → map step (cases_from l (case_views (c ∷ cs))) ≡ map step (cases_from l (case_views (c ∷ []))) ++ map step (cases_from l (case_views cs))
 cases-cons step l c cs = one_more step (c.from == l) (case_view c) (cases_from l (case_views cs))
+
+-- what is so of all cases is so of the one at a place
+pub case_at : (P : LinearCase → Type 0) (cs : List Case) (i : ℕ) (c : Case) → i < length cs → c ≡ get_or cs i c → All P (case_views cs) → P (case_view c)
+case_at P [] i c below is all = absurd (omega arith)
+case_at P (d ∷ cs) zero c below is all = subst (λ x. P (case_view x)) (sym is) (All-head P (case_view d) (case_views cs) all)
+case_at P (d ∷ cs) (suc i) c below is all = case_at P cs i c (omega arith) is (All-tail P (case_view d) (case_views cs) all)
 
 pub flat_map-one : {A : Type 0} (f : A → List Obligation) (x : A) → flat_map f (x ∷ []) ≡ f x
 flat_map-one f x = append-nil (f x)

@@ -1,5 +1,5 @@
 -- What is owed, as a piece and the cases have it.
-use Rattle.std.specs.Prelude.{ℕ, ◌+◌, ◌++◌, List, map, Bool, true, false, Option}
+use Rattle.std.specs.Prelude.{ℕ, ◌+◌, ◌++◌, List, map, Bool, true, false, Option, Contains}
 use Rattle.std.specs.List.{flat_map}
 use Rattle.tv_linear.specs.Linear.{Linear}
 use Rattle.tv_linear.specs.Known.{Known, given, as_given}
@@ -39,6 +39,15 @@ owed_by system (owes.Step p c into falls) =
     (owed_into into.now c.now.to (case_change system.variables (case_view c.now)) (falls_where falls (case_change system.variables (case_view c.now)) p.now))
 owed_by system (owes.Choice p stop destination) =
     a_choice system.variables system.cases (place_of p.now) stop (destination_owes system.variables p.now destination) (as_given (rows_of p.now))
+
+-- what is owed is owed in the system: a step is one by a case of its own
+abbrev pub OwedIn : CaseSystem → Owes → Type 0
+OwedIn system (owes.Rows p lists) = Unit {0}
+OwedIn system (owes.Truth p truth) = Unit {0}
+OwedIn system (owes.Pieces p into) = Unit {0}
+OwedIn system (owes.Joined p nodes) = Unit {0}
+OwedIn system (owes.Step p c into falls) = Contains system.cases (case_view c.now)
+OwedIn system (owes.Choice p stop destination) = Unit {0}
 
 abbrev pub obligation_by : CaseSystem → ℕ → Kind → Owes → Obligation
 obligation_by system number kind o = record { node = number; kind = kind; owed = owed_by system o }

@@ -1,8 +1,8 @@
-ghost use Rattle.std.specs.Prelude.{◌≡◌, ◌≤◌, ◌∷◌, [], length, map, false};
+ghost use Rattle.std.specs.Prelude.{◌≡◌, ◌≤◌, ◌∷◌, [], length, map, false, All, Contains};
 ghost use Rattle.std.specs.List.{flat_map};
 ghost use Rattle.tv_formula.specs.declared.tree.Path.TheVariants.{Every, Any};
 ghost use Rattle.tv_cases.specs.Systems.{cases_of};
-ghost use Rattle.tv_cases.specs.Views.{case_views};
+ghost use Rattle.tv_cases.specs.Views.{case_view, case_views};
 ghost use Rattle.tv_cert.specs.Pieces.{place_of, goes};
 ghost use Rattle.tv_cert.specs.Targets.{owed_nothing};
 ghost use Rattle.tv_cert.specs.Obligations.{atom_of, step_of, steps_of, cover_of, choice_of, truth_targets, hold_side, end_sides, go_of, fix_of, step_fall, first_of, second_of};
@@ -11,7 +11,7 @@ ghost use Rattle.tv_cert.specs.Plain.{about_of};
 ghost use Rattle.tv_cert.specs.Listed.{pieces_list};
 ghost use Rattle.tv_cert.specs.AimViews.{aim_states};
 ghost use Rattle.tv_cert.specs.Said.{said_at, said_own};
-ghost use Rattle.tv_cert.specs.Owing.{case_falls, destination_owes, obligation_by};
+ghost use Rattle.tv_cert.specs.Owing.{OwedIn, case_falls, destination_owes, obligation_by};
 ghost use Rattle.tv_cert.specs.Visits.{Visits};
 
 use crate::aim::Aim;
@@ -23,7 +23,8 @@ use tv_formula::{Path, Shape};
 
 /// Visits one obligation.
 fn visit<V: Visitor>(visitor: &mut V, about: &Cases, number: u32, kind: Kind, owes: &Owes) -> bool
-    requires { length (obligation_by (cases_of about.now) number kind owes.now ∷ []) ≤ V.room visitor.old }
+    requires owed { OwedIn (cases_of about.now) owes.now }
+    requires room { length (obligation_by (cases_of about.now) number kind owes.now ∷ []) ≤ V.room visitor.old }
     ensures { Visits (V.passes (cases_of about.now)) (V.stops (cases_of about.now)) V.room result visitor.old (obligation_by (cases_of about.now) number kind owes.now ∷ []) visitor.new }
 {
     visitor.visit(about, number, kind, owes)
@@ -95,7 +96,8 @@ fn visit_case<V: Visitor>(
     into: &[Marked],
     falls: bool,
 ) -> bool
-    requires { length (map (step_of number (about_of (cases_of about.now)) piece.now into.now (case_falls falls (cases_of about.now) piece.now)) (cases_from (place_of piece.now) (case_views (case.now ∷ [])))) ≤ V.room visitor.old }
+    requires among { Contains (cases_of about.now).cases (case_view case.now) }
+    requires room { length (map (step_of number (about_of (cases_of about.now)) piece.now into.now (case_falls falls (cases_of about.now) piece.now)) (cases_from (place_of piece.now) (case_views (case.now ∷ [])))) ≤ V.room visitor.old }
     ensures { Visits (V.passes (cases_of about.now)) (V.stops (cases_of about.now)) V.room result visitor.old (map (step_of number (about_of (cases_of about.now)) piece.now into.now (case_falls falls (cases_of about.now) piece.now)) (cases_from (place_of piece.now) (case_views (case.now ∷ [])))) visitor.new }
 {
     if case.from != piece.piece.location {
@@ -120,7 +122,8 @@ fn visit_cases<V: Visitor>(
     into: &[Marked],
     falls: bool,
 ) -> bool
-    requires { length (map (step_of number (about_of (cases_of about.now)) piece.now into.now (case_falls falls (cases_of about.now) piece.now)) (cases_from (place_of piece.now) (case_views cases.now))) ≤ V.room visitor.old }
+    requires among { All (Contains (cases_of about.now).cases) (case_views cases.now) }
+    requires room { length (map (step_of number (about_of (cases_of about.now)) piece.now into.now (case_falls falls (cases_of about.now) piece.now)) (cases_from (place_of piece.now) (case_views cases.now))) ≤ V.room visitor.old }
     ensures { Visits (V.passes (cases_of about.now)) (V.stops (cases_of about.now)) V.room result visitor.old (map (step_of number (about_of (cases_of about.now)) piece.now into.now (case_falls falls (cases_of about.now) piece.now)) (cases_from (place_of piece.now) (case_views cases.now))) visitor.new }
 {
     for case in cases {

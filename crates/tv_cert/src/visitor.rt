@@ -3,7 +3,7 @@ ghost use Rattle.std.specs.Bool.{OnTrue, OnFalse};
 ghost use Rattle.tv_cases.specs.LinearCases.{CaseSystem};
 ghost use Rattle.tv_cases.specs.Systems.{cases_of};
 ghost use Rattle.tv_cert.specs.Obligations.{Obligation};
-ghost use Rattle.tv_cert.specs.Owing.{obligation_by};
+ghost use Rattle.tv_cert.specs.Owing.{OwedIn, obligation_by};
 
 use crate::node::Kind;
 use crate::owes::Owes;
@@ -22,7 +22,8 @@ pub trait Visitor {
 
     /// Whether the visitor goes on behind this obligation of the node.
     fn visit(&mut self, about: &Cases, node: u32, kind: Kind, owes: &Owes) -> bool
-        requires { 0 < room self.old }
+        requires owed { OwedIn (cases_of about.now) owes.now }
+        requires room { 0 < room self.old }
         ensures passes { OnTrue result (passes (cases_of about.now) self.old (obligation_by (cases_of about.now) node kind owes.now) self.new) }
         ensures stops { OnFalse result (stops (cases_of about.now) self.old (obligation_by (cases_of about.now) node kind owes.now) self.new) }
         ensures room { room self.old ≤ room self.new + 1 };

@@ -25,6 +25,7 @@ use Rattle.tv_cert.specs.Pieces.{place_of, ranks_of}
 use Rattle.tv_cert.specs.Shapes.{ChoiceShape, ListsShape, NoStepShape, TakeShape, owed_count}
 use Rattle.tv_cert.specs.Targets.{owed_into}
 use Rattle.tv_cert.proofs.PieceLemmas.{test_true, test_false}
+use Rattle.tv_shape.specs.Counts.{AreFewAt}
 use Rattle.tv_shape.specs.Narrow.{ChoiceNarrow, CoverNarrow}
 use Rattle.tv_shape.proofs.CountLemmas.{count_same}
 use Rattle.tv_cert_text.specs.CertificateLines.{row_lines, row_line, by_lines, cover_lines, choice_lines}
@@ -41,7 +42,7 @@ use Rattle.tv_cert_reader.specs.declared.failure.Failure.TheVariants.{Fault}
 use Rattle.tv_cert_reader.specs.Reading.{Takes, FaultAt, FailsBy, IsFailedLine}
 use Rattle.tv_cert_reader.specs.Parts.{AreMany, AreNumbers, IsWide, IsRowOf, lists_in}
 use Rattle.tv_cert_reader.specs.Covers.{IsBehind}
-use Rattle.tv_cert_reader.specs.Choices.{choosing_of, IsChoiceSplitOf, IsChoiceWithin, IsStop, AreFewAt, IsTaken, NamesNoCase}
+use Rattle.tv_cert_reader.specs.Choices.{choosing_of, IsChoiceSplitOf, IsChoiceWithin, IsStop, IsTaken, NamesNoCase}
 use Rattle.tv_cert_reader.proofs.ReadingLemmas.{line_fails, line_stops, behind_fails, first_fails, second_fails, takes_both, takes_as}
 use Rattle.tv_cert_reader.proofs.SideLemmas.{sides_at, sides_deep, sides_wrong, sides_go}
 use Rattle.tv_cert_reader.proofs.CountLemmas.{few_into, few_ranked, few_lists}

@@ -15,18 +15,12 @@ use Rattle.tv_cert.specs.Listed.{pieces_list}
 use Rattle.tv_cert.specs.Obligations.{truth_targets}
 use Rattle.tv_cert.specs.Pieces.{place_of, rows_of, ranks_of, goes, pieces_at}
 use Rattle.tv_cert.specs.Targets.{target_rows, owed_into, owed_lists, no_fall, fall_from}
-use Rattle.tv_shape.proofs.CountLemmas.{fall_some}
+use Rattle.tv_shape.specs.declared.targets.Targets.{Targets}
+use Rattle.tv_shape.specs.declared.targets.Targets.TheVariants as targets
+use Rattle.tv_shape.specs.Counts.{falls_past, counts_of, ranks_past, AreFew}
+use Rattle.tv_shape.proofs.CountLemmas.{fall_some, none_or}
 use Rattle.tv_cert_grammar.specs.Lines.{with_two}
-use Rattle.tv_cert_reader.specs.declared.targets.Targets.{Targets}
-use Rattle.tv_cert_reader.specs.declared.targets.Targets.TheVariants as targets
-use Rattle.tv_cert_reader.specs.Counts.{falls_past, counts_of, ranks_past, AreFew, IsTarget, NamesNone}
-
-none_or : {X : Type 0} (o : Option X) → ((x : X) → o ≡ Some x → ⊥) → o ≡ None
-none_or None h = refl
-none_or (Some x) h = absurd (h x refl)
-
-pub no_fall_rows : (old new : List Linear) (j : ℕ) → ((1 ≤ j) × (j ≤ length old) × (j ≤ length new) → ⊥) → option_map length (fall_rows (as_given old) (map given new) j) ≡ None
-no_fall_rows old new j h = none_or (option_map length (fall_rows (as_given old) (map given new) j)) (λ n e. h (fall_some old new j n e))
+use Rattle.tv_cert_reader.specs.Covers.{IsTarget, NamesNone}
 
 -- ---- targets and falls that are there are few
 

@@ -26,8 +26,7 @@ use Rattle.tv_cert_reader.specs.declared.failure.Failure.{Failure}
 use Rattle.tv_cert_reader.specs.declared.failure.Failure.TheVariants.{Fault}
 use Rattle.tv_cert_reader.specs.Reading.{Takes, FaultAt, FailsBy, IsFailedLine}
 use Rattle.tv_cert_reader.specs.Parts.{AreMany, AreNumbers, IsRowOf, lists_in}
-use Rattle.tv_cert_reader.specs.Counts.{IsTarget, NamesNone}
-use Rattle.tv_cert_reader.specs.Covers.{IsBehind, IsSplitOf, IsCoverWithin}
+use Rattle.tv_cert_reader.specs.Covers.{IsBehind, IsSplitOf, IsCoverWithin, IsTarget, NamesNone}
 use Rattle.tv_cert_reader.proofs.ReadingLemmas.{line_fails, line_stops, behind_fails, first_fails, second_fails, takes_both, takes_as}
 use Rattle.tv_cert_reader.proofs.SideLemmas.{sides_at, sides_deep, sides_wrong, sides_go}
 use Rattle.tv_cert_reader.proofs.CountLemmas.{two_none, two_some}

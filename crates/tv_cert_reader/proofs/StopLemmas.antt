@@ -1,16 +1,15 @@
 -- What is read where there is no step.
-use Rattle.std.proofs.Common.{◌≡◌, ℕ, zero, suc, ◌+◌, ◌<◌, ◌≤◌, true, false, List, [], ◌∷◌, ◌++◌, length, All, drop, get_or, Ok, refl, sym, ap, ◌∙◌, subst, arith, cond, drop-cons}
+use Rattle.std.proofs.Common.{◌≡◌, ℕ, suc, ◌+◌, ◌<◌, ◌≤◌, true, false, List, [], ◌∷◌, ◌++◌, length, drop, get_or, Ok, refl, sym, ap, ◌∙◌, subst, arith, cond, drop-cons}
 use Rattle.std.specs.Prelude.{◌==◌}
 use Rattle.std.specs.List.{AllZip, flat_map}
 use Rattle.std.proofs.Math.ListN.{drop_of_length-le}
 use Rattle.std.proofs.lemmas.List.{append_assoc, append-nil}
-use Rattle.std.proofs.lemmas.List.Elements.{All-head, All-tail}
 use Rattle.tv_grammar.specs.Reads.{fault, ◌>>=◌}
 use Rattle.tv_grammar.specs.Langs.{mapped, each}
 use Rattle.tv_lines.specs.Lines.{PlainLine}
 use Rattle.tv_linear.specs.declared.cover.CoverTree.{CoverTree}
 use Rattle.tv_cases.specs.declared.case.Case.{Case}
-use Rattle.tv_cases.specs.LinearCases.{LinearCase, IsCase}
+use Rattle.tv_cases.specs.LinearCases.{LinearCase}
 use Rattle.tv_cases.specs.Views.{case_view, case_views}
 use Rattle.tv_cert.specs.Choices.{cases_from}
 use Rattle.tv_cert_text.specs.CertificateLines.{cover_lines}
@@ -100,8 +99,3 @@ pub stop_fails : (n known left : ℕ) (all later more : List LinearCase) (c : Li
 stop_fails n known left all later more c old now xs f s is h =
     mapped_fails (λ all. tt {0}) (each (stop_cover false left n known) all) old f
     (each_fails (stop_cover false left n known) (IsStop n known left) cover_lines (λ t. tt {0}) (λ c t r w. cover_read false left (n + c.draws) (known + length c.guards) no_counts t r w.shape w.shallow) all later more c old now xs f s is h)
-
-pub case_at : (v l : ℕ) (cs : List Case) (i : ℕ) (c : Case) → i < length cs → c ≡ get_or cs i c → All (IsCase v l) (case_views cs) → IsCase v l (case_view c)
-case_at v l [] i c below is all = absurd (omega arith)
-case_at v l (d ∷ cs) zero c below is all = subst (λ x. IsCase v l (case_view x)) (sym is) (All-head (IsCase v l) (case_view d) (case_views cs) all)
-case_at v l (d ∷ cs) (suc i) c below is all = case_at v l cs i c (omega arith) is (All-tail (IsCase v l) (case_view d) (case_views cs) all)

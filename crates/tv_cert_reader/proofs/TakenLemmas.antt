@@ -9,7 +9,8 @@ use Rattle.tv_cert.specs.declared.node.Marked.{Marked}
 use Rattle.tv_cert.specs.declared.owes.Destination.{Destination}
 use Rattle.tv_cert.specs.Owing.{destination_owes}
 use Rattle.tv_cert.specs.Shapes.{owed_count}
-use Rattle.tv_cert_reader.specs.Choices.{AreFewAt, IsTaken, NamesNoCase}
+use Rattle.tv_shape.specs.Counts.{AreFewAt}
+use Rattle.tv_cert_reader.specs.Choices.{IsTaken, NamesNoCase}
 use Rattle.tv_cert_reader.proofs.CountLemmas.{within_list}
 use Rattle.tv_cert_reader.proofs.ChoiceLemmas.{few_taken}
 

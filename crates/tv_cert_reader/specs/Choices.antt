@@ -1,5 +1,5 @@
 -- What is read of choices.
-use Rattle.std.specs.Prelude.{◌≡◌, ℕ, ◌+◌, ◌≤◌, ◌<◌, ◌^◌, ℤ, pos, Bool, false, List, [], ◌∷◌, length, slice_get, Some, Result}
+use Rattle.std.specs.Prelude.{◌≡◌, ℕ, ◌+◌, ◌≤◌, ℤ, pos, Bool, false, List, [], ◌∷◌, length, slice_get, Some, Result}
 use Rattle.std.specs.List.{AllZip, flat_map}
 use Rattle.std.specs.Global.{Vec}
 use Rattle.tv_grammar.specs.Langs.{mapped, each}
@@ -11,9 +11,8 @@ use Rattle.tv_linear.specs.Covers.{no_target}
 use Rattle.tv_cases.specs.LinearCases.{LinearCase, CaseSystem}
 use Rattle.tv_cert.specs.declared.node.Marked.{Marked}
 use Rattle.tv_cert.specs.declared.owes.Destination.{Destination}
-use Rattle.tv_cert.specs.declared.owes.Destination.TheVariants.{Anywhere, Into}
 use Rattle.tv_cert.specs.Owing.{destination_owes}
-use Rattle.tv_cert.specs.Pieces.{place_of, ranks_of}
+use Rattle.tv_cert.specs.Pieces.{place_of}
 use Rattle.tv_cert.specs.Shapes.{ChoiceShape, owed_count}
 use Rattle.tv_shape.specs.Narrow.{ChoiceNarrow}
 use Rattle.tv_cert_text.specs.CertificateLines.{choice_lines, cover_lines}
@@ -37,11 +36,6 @@ pub record IsChoiceWithin (system : CaseSystem) (p : Marked) (stop : Bool) (dest
 -- such a choice is read
 abbrev pub ReadsChoice : CaseSystem → Marked → Bool → Destination → ℕ → ℕ → Cursor → Cursor → Result ChoiceTree Failure → Type 0
 ReadsChoice system p stop destination known left old new result = Reads (λ t. t) (IsChoiceWithin system p stop destination known left) choice_lines (choice false left (choosing_of system p stop destination) known) old new result
-
--- the pieces that are chosen from, and the ranks that fall, can be counted with 32 bits
-abbrev pub AreFewAt : Marked → Destination → Type 0
-AreFewAt p Anywhere = Unit {0}
-AreFewAt p (Into pieces falls) = (length pieces.now < 2 ^ 32) × (length (ranks_of p) < 2 ^ 32)
 
 -- the numbers name this case, target and fall, which owe so many rows whatever the terms of its draws
 pub record IsTaken (system : CaseSystem) (p : Marked) (destination : Destination) (zs : List ℤ) (case : LinearCase) (c target fall rows : ℕ) : Type 0 where

@@ -1,5 +1,5 @@
 -- What is read of covers.
-use Rattle.std.specs.Prelude.{◌≡◌, ℕ, ◌≤◌, ◌+◌, ℤ, false, List, [], ◌∷◌, Option, Result}
+use Rattle.std.specs.Prelude.{◌≡◌, ℕ, ◌≤◌, ◌+◌, ℤ, pos, false, List, [], ◌∷◌, Option, Some, Result}
 use Rattle.tv_lines.specs.Lines.{formed}
 use Rattle.tv_lines.specs.declared.head.Head.{Head}
 use Rattle.tv_linear.specs.Linear.{Linear}
@@ -17,6 +17,15 @@ use Rattle.tv_cert_reader.specs.Reading.{Reads, Takes}
 pub record IsBehind (head : Head) (zs : List ℤ) (old new : Cursor) : Type 0 where
   pub front : Takes (formed head zs ∷ []) old new
   pub one : new.taken ≡ old.taken + 1
+
+-- the numbers name this target and fall, which owe so many rows
+pub record IsTarget (counts : ℕ → ℕ → Option ℕ) (zs : List ℤ) (target fall rows : ℕ) : Type 0 where
+  pub numbers : zs ≡ pos target ∷ pos fall ∷ []
+  pub owes : counts target fall ≡ Some rows
+
+-- the numbers name no target and fall
+abbrev pub NamesNone : (ℕ → ℕ → Option ℕ) → List ℤ → Type 0
+NamesNone counts zs = (target fall rows : ℕ) → zs ≡ pos target ∷ pos fall ∷ [] → counts target fall ≡ Some rows → ⊥
 
 -- the tree is a split at the row, with these sides
 abbrev pub IsSplitOf : Linear → CoverTree → CoverTree → CoverTree → Type 0

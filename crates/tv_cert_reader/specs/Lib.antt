@@ -3,7 +3,6 @@ pub mod Sorts
 pub mod Parts
 pub mod Heads
 pub mod Regions
-pub mod Counts
 pub mod Covers
 pub mod Choices
 pub mod Texts

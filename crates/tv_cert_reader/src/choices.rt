@@ -7,22 +7,23 @@ ghost use Rattle.tv_cases.specs.Views.{case_view, case_views};
 ghost use Rattle.tv_cert.specs.declared.node.Marked.{Marked};
 ghost use Rattle.tv_cert.specs.declared.owes.Destination.{Destination};
 ghost use Rattle.tv_cert.specs.Choices.{cases_from};
+ghost use Rattle.tv_shape.specs.Counts.{AreFewAt};
 ghost use Rattle.tv_cert_reader.specs.declared.cursor.Cursor.{Cursor};
 ghost use Rattle.tv_cert_reader.specs.Covers.{IsBehind};
-ghost use Rattle.tv_cert_reader.specs.Choices.{AreFewAt, IsChoiceSplitOf, ReadsChoice, ReadsStop, ReadsStops};
+ghost use Rattle.tv_cert_reader.specs.Choices.{IsChoiceSplitOf, ReadsChoice, ReadsStop, ReadsStops};
 
 use crate::context::Context;
 use crate::cursor::Cursor;
 use crate::failure::Failure;
 use crate::lines::take;
 use crate::rows::row_of;
-use crate::targets::Targets;
 use std::alloc::{AllocError, Global};
 use tv_cases::Case;
 use tv_cert::{Destination, Marked};
 use tv_cert_grammar::LineKind;
 use tv_linear::{ChoiceTree, Cover, Row};
 use tv_lines::Head;
+use tv_shape::Targets;
 
 /// A split at the row.
 fn split_of(

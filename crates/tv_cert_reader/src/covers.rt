@@ -1,19 +1,19 @@
 ghost use Rattle.std.specs.Prelude.{◌≡◌, ◌+◌, ◌-◌, ◌<◌, ◌≤◌, ◌^◌, ℕ, ℤ, pos, List, [], ◌∷◌, All, Option, IfOk, MatchOption, length};
 ghost use Rattle.tv_lines.specs.Numbers.{IsNarrow};
+ghost use Rattle.tv_shape.specs.Counts.{counts_of, AreFew};
 ghost use Rattle.tv_cert_reader.specs.declared.cursor.Cursor.{Cursor};
-ghost use Rattle.tv_cert_reader.specs.Counts.{counts_of, AreFew, IsTarget, NamesNone};
-ghost use Rattle.tv_cert_reader.specs.Covers.{IsBehind, IsSplitOf, ReadsTree};
+ghost use Rattle.tv_cert_reader.specs.Covers.{IsBehind, IsSplitOf, IsTarget, NamesNone, ReadsTree};
 
 use crate::context::Context;
 use crate::cursor::Cursor;
 use crate::failure::Failure;
 use crate::lines::take;
 use crate::rows::{lists, row_of};
-use crate::targets::Targets;
 use std::alloc::{AllocError, Global};
 use tv_cert_grammar::LineKind;
 use tv_linear::{CoverTree, Row};
 use tv_lines::Head;
+use tv_shape::Targets;
 
 /// A number of 32 bits.
 pub fn small(number: i128) -> Option<u32>

@@ -1,11 +1,10 @@
 ghost use Rattle.std.specs.Prelude.{◌↔◌, ◌≤◌, ◌<◌, ◌^◌, IsTrue, length, map};
 ghost use Rattle.std.specs.List.{flat_map};
 ghost use Rattle.tv_cert.specs.Listed.{pieces_list};
-ghost use Rattle.tv_cert_reader.specs.Choices.{AreFewAt};
-ghost use Rattle.tv_cert_reader.specs.Counts.{AreFew, ranks_past};
+ghost use Rattle.tv_shape.specs.Counts.{AreFew, AreFewAt, ranks_past};
 
-use crate::targets::Targets;
 use tv_cert::{Destination, Marked, Node};
+use tv_shape::Targets;
 
 /// How many targets there may be at most, and falls into one: they have numbers of 32 bits.
 const MOST: usize = (1 << 32) - 1;
@@ -33,18 +32,16 @@ fn falls_are_few(from: Option<&Marked>) -> bool
     }
 }
 
-impl Targets<'_> {
-    /// Whether the targets and their falls can be counted with 32 bits.
-    pub fn are_few(&self) -> bool
-        ensures { IsTrue result ↔ AreFew self.now }
-    {
-        match self {
-            Targets::Nowhere => true,
-            Targets::Lists(lists) => lists.len() <= MOST,
-            Targets::Truth(_) => true,
-            Targets::Joined { nodes, .. } => joined_within(nodes, MOST),
-            Targets::Pieces { from, into, .. } => into.len() <= MOST && falls_are_few(*from),
-        }
+/// Whether the targets and their falls can be counted with 32 bits.
+pub fn are_few(targets: &Targets) -> bool
+    ensures { IsTrue result ↔ AreFew targets.now }
+{
+    match targets {
+        Targets::Nowhere => true,
+        Targets::Lists(lists) => lists.len() <= MOST,
+        Targets::Truth(_) => true,
+        Targets::Joined { nodes, .. } => joined_within(nodes, MOST),
+        Targets::Pieces { from, into, .. } => into.len() <= MOST && falls_are_few(*from),
     }
 }
 

@@ -20,7 +20,6 @@ mod rest;
 mod rows;
 mod sort;
 mod takes;
-mod targets;
 mod visitor;
 
 pub use fault::CertFault;

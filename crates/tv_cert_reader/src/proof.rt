@@ -1,21 +1,21 @@
-ghost use Rattle.std.specs.Prelude.{◌≡◌, ◌^◌, ◌-◌, ◌<◌, ℕ, List, Option, length};
+ghost use Rattle.std.specs.Prelude.{◌≡◌, ◌^◌, ◌-◌, ◌<◌, ◌≤◌, ℕ, List, Option, length};
 ghost use Rattle.tv_linear.specs.Known.{Known};
 ghost use Rattle.tv_cases.specs.Systems.{cases_of};
 ghost use Rattle.tv_cert.specs.Obligations.{a_cover};
-ghost use Rattle.tv_cert.specs.Owing.{owed_by};
+ghost use Rattle.tv_cert.specs.Owing.{OwedIn, owed_by};
 ghost use Rattle.tv_cert.specs.Shapes.{owed_count};
 ghost use Rattle.tv_cert.specs.declared.owes.Owes.TheVariants as owing;
-ghost use Rattle.tv_cert_reader.specs.Counts.{counts_of};
+ghost use Rattle.tv_shape.specs.Counts.{counts_of};
 ghost use Rattle.tv_cert_reader.specs.Proofs.{ReadsProof};
 
 use crate::context::Context;
 use crate::cursor::Cursor;
 use crate::failure::Failure;
-use crate::few::chosen_are_few;
-use crate::targets::{Targets, pieces_into};
+use crate::few::{are_few, chosen_are_few};
 use tv_cases::Case;
 use tv_cert::{Destination, Marked, Owes, Proof};
 use tv_linear::{Choice, Cover};
+use tv_shape::{Targets, pieces_into};
 
 /// How many splits may lie on a path.
 const MAX_SPLITS: u32 = 128;
@@ -35,7 +35,7 @@ impl Context<'_> {
         requires room { known < 2 ^ 126 }
         ensures { (rows : List Known) (owed : ℕ → ℕ → Option (List Known)) → length rows ≡ known → counts_of targets.now ≡ owed_count owed → ReadsProof (a_cover columns rows owed) cursor.old cursor.new result }
     {
-        if !targets.are_few() {
+        if !are_few(targets) {
             return Err(Failure::Memory);
         }
         let tree = self.cover_tree(cursor, MAX_SPLITS, columns, known, targets)?;
@@ -46,8 +46,6 @@ impl Context<'_> {
     }
 
     /// A cover of a piece and the guards of a case.
-    ///
-    /// No case of a program has more than 64 draws.
     fn step(
         &self,
         cursor: &mut Cursor,
@@ -56,11 +54,9 @@ impl Context<'_> {
         into: &[Marked],
         falls: bool,
     ) -> Result<Proof, Failure>
+        requires { case.now.draws ≤ 64 }
         ensures { ReadsProof (owed_by (cases_of self.now.about.now) (owing.Step piece.entry case.entry into.entry falls)) cursor.old cursor.new result }
     {
-        if case.draws > 64 {
-            return Err(Failure::Memory);
-        }
         let columns = self.about.variables() + case.draws;
         let known = piece.piece.poly.rows.len() as u128 + case.guards.rows.len() as u128;
         let targets = pieces_into(piece, into, case.to, falls);
@@ -90,6 +86,7 @@ impl Context<'_> {
 
     /// A proof of what is owed.
     pub fn proof(&self, cursor: &mut Cursor, owes: &Owes) -> Result<Proof, Failure>
+        requires { OwedIn (cases_of self.now.about.now) owes.now }
         ensures { ReadsProof (owed_by (cases_of self.now.about.now) owes.now) cursor.old cursor.new result }
     {
         let columns = self.about.variables();

@@ -12,12 +12,12 @@ use crate::lines::take;
 use crate::natural::natural;
 use crate::rows::numbers;
 use crate::sort::Sort;
-use crate::targets::Targets;
 use std::alloc::Global;
 use tv_cert::{Aim, Marked, Node, Verdict, piece_at};
 use tv_cert_grammar::LineKind;
 use tv_linear::Cover;
 use tv_lines::Head;
+use tv_shape::Targets;
 
 /// How many splits may lie on a path.
 const MAX_SPLITS: u32 = 128;

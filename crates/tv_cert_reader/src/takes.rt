@@ -1,15 +1,10 @@
-ghost use Rattle.std.specs.Prelude.{◌≡◌, ◌+◌, ◌<◌, ◌^◌, ℕ, ℤ, Bool, pos, [], ◌∷◌, List, MatchOption, slice_get, Some, length};
-ghost use Rattle.tv_linear.specs.Known.{Known};
-ghost use Rattle.tv_linear.specs.Linear.{Linear};
+ghost use Rattle.std.specs.Prelude.{◌≡◌, ◌+◌, ◌<◌, ◌^◌, ℕ, pos, [], ◌∷◌, MatchOption};
 ghost use Rattle.tv_cases.specs.Systems.{cases_of};
 ghost use Rattle.tv_cases.specs.Views.{case_view};
-ghost use Rattle.tv_cert.specs.Owing.{destination_owes, falls_where};
-ghost use Rattle.tv_cert.specs.Shapes.{owed_count};
-ghost use Rattle.tv_cert.specs.Targets.{owed_into};
+ghost use Rattle.tv_shape.specs.Counts.{AreFewAt};
 ghost use Rattle.tv_cert_reader.specs.declared.cursor.Cursor.{Cursor};
-ghost use Rattle.tv_cert_reader.specs.Counts.{counts_of, AreFew};
 ghost use Rattle.tv_cert_reader.specs.Covers.{IsBehind};
-ghost use Rattle.tv_cert_reader.specs.Choices.{AreFewAt, IsTaken, NamesNoCase, ReadsChoice};
+ghost use Rattle.tv_cert_reader.specs.Choices.{IsTaken, NamesNoCase, ReadsChoice};
 
 use crate::context::Context;
 use crate::covers::small;
@@ -17,23 +12,12 @@ use crate::cursor::Cursor;
 use crate::failure::Failure;
 use crate::rows::{lists, rows};
 use crate::sort::Sort;
-use crate::targets::{Targets, pieces_into};
 use tv_cases::Case;
 use tv_cert::{Destination, Marked};
 use tv_cert_grammar::LineKind;
 use tv_linear::ChoiceTree;
 use tv_lines::Head;
-
-/// Where a choice leads by a case.
-fn taken_into<'a>(piece: &'a Marked, case: &Case, destination: &Destination<'a>) -> Targets<'a>
-    ensures counts { (n : ℕ) → (draws : List Linear) → (target fall : ℕ) → counts_of result target fall ≡ owed_count (destination_owes n piece.now destination.now (case_view case.now) draws) target fall }
-    ensures few { AreFewAt piece.now destination.now → AreFew result }
-{
-    match destination {
-        Destination::Anywhere => Targets::Truth(true),
-        Destination::Into { pieces, falls } => pieces_into(piece, pieces, case.to, *falls),
-    }
-}
+use tv_shape::taken_into;
 
 /// Three numbers of 32 bits.
 fn three_small(numbers: &[i128]) -> Option<(u32, u32, u32)>

@@ -82,6 +82,14 @@ pub fall_some : (old new : List Linear) (j n : ℕ) → option_map length (fall_
 fall_some old new zero n e = absurd (let h : ⊥ = cc in h)
 fall_some old new (suc j) n e = let k = fall_at_some old new j n e in (omega arith, k.0, k.1)
 
+-- what is not there
+pub none_or : {X : Type 0} (o : Option X) → ((x : X) → o ≡ Some x → ⊥) → o ≡ None
+none_or None h = refl
+none_or (Some x) h = absurd (h x refl)
+
+pub no_fall_rows : (old new : List Linear) (j : ℕ) → ((1 ≤ j) × (j ≤ length old) × (j ≤ length new) → ⊥) → option_map length (fall_rows (as_given old) (map given new) j) ≡ None
+no_fall_rows old new j h = none_or (option_map length (fall_rows (as_given old) (map given new) j)) (λ n e. h (fall_some old new j n e))
+
 -- ---- each item of a list, and of what it is seen as
 pub all_seen : {A B : Type 0} (P : B → Type 0) (f : A → B) (xs : List A) → All (λ x. P (f x)) xs ↔ All P (map f xs)
 all_seen P f xs = (λ h. All-map P f xs h, λ h. back P f xs h)

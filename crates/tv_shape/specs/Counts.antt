@@ -1,10 +1,12 @@
 -- How many rows are owed on entering a target by a fall.
-use Rattle.std.specs.Prelude.{ℕ, List, map, Option, None, Some}
+use Rattle.std.specs.Prelude.{ℕ, ◌<◌, ◌^◌, List, [], length, map, Option, None, Some}
 use Rattle.std.specs.Borrow.{Bor}
 use Rattle.std.specs.List.{flat_map}
 use Rattle.tv_linear.specs.Linear.{Linear}
 use Rattle.tv_linear.specs.Known.{Known, given}
 use Rattle.tv_cert.specs.declared.node.Marked.{Marked}
+use Rattle.tv_cert.specs.declared.owes.Destination.{Destination}
+use Rattle.tv_cert.specs.declared.owes.Destination.TheVariants.{Anywhere, Into}
 use Rattle.tv_cert.specs.Listed.{pieces_list}
 use Rattle.tv_cert.specs.Obligations.{truth_targets}
 use Rattle.tv_cert.specs.Pieces.{ranks_of}
@@ -26,3 +28,21 @@ counts_of (targets.Lists lists) = owed_count (owed_lists (map (λ l. l.items) li
 counts_of (targets.Truth truth) = owed_count (owed_lists (truth_targets truth))
 counts_of (targets.Joined nodes location) = owed_count (owed_into (flat_map (λ a. a) (map pieces_list nodes.now)) location given no_fall)
 counts_of (targets.Pieces from into location) = owed_count (owed_into into.now location given (falls_past given from))
+
+-- the ranks of a piece, or none
+abbrev pub ranks_past : Option (Bor Marked) → List Linear
+ranks_past None = []
+ranks_past (Some p) = ranks_of p.now
+
+-- the targets and their falls can be counted with 32 bits
+abbrev pub AreFew : Targets → Type 0
+AreFew targets.Nowhere = Unit {0}
+AreFew (targets.Lists lists) = length lists.now < 2 ^ 32
+AreFew (targets.Truth truth) = Unit {0}
+AreFew (targets.Joined nodes location) = length (flat_map (λ a. a) (map pieces_list nodes.now)) < 2 ^ 32
+AreFew (targets.Pieces from into location) = (length into.now < 2 ^ 32) × (length (ranks_past from) < 2 ^ 32)
+
+-- the pieces that are chosen from, and the ranks that fall, can be counted with 32 bits
+abbrev pub AreFewAt : Marked → Destination → Type 0
+AreFewAt p Anywhere = Unit {0}
+AreFewAt p (Into pieces falls) = (length pieces.now < 2 ^ 32) × (length (ranks_of p) < 2 ^ 32)

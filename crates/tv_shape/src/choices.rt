@@ -6,18 +6,19 @@ ghost use Rattle.tv_cases.specs.Views.{case_view, case_views};
 ghost use Rattle.tv_cert.specs.Choices.{cases_from};
 ghost use Rattle.tv_cert.specs.Owing.{destination_owes};
 ghost use Rattle.tv_cert.specs.Shapes.{ChoiceShape, NoStepShape, TakeShape, owed_count};
-ghost use Rattle.tv_shape.specs.Counts.{counts_of};
+ghost use Rattle.tv_shape.specs.Counts.{counts_of, AreFew, AreFewAt};
 
 use crate::columns::have_columns;
 use crate::covers::{cover_has_shape, have_length};
-use crate::targets::{Targets, owe_rows, pieces_into};
+use crate::targets::{Targets, pieces_into};
 use tv_cases::Case;
 use tv_cert::{Destination, Marked};
 use tv_linear::{ChoiceTree, Cover, Row};
 
 /// Where a choice leads by a case.
-fn taken_into<'a>(piece: &'a Marked, case: &Case, destination: &Destination<'a>) -> Targets<'a>
-    ensures { (n : ℕ) → (draws : List Linear) → (target fall : ℕ) → counts_of result target fall ≡ owed_count (destination_owes n piece.now destination.now (case_view case.now) draws) target fall }
+pub fn taken_into<'a>(piece: &'a Marked, case: &Case, destination: &Destination<'a>) -> Targets<'a>
+    ensures counts { (n : ℕ) → (draws : List Linear) → (target fall : ℕ) → counts_of result target fall ≡ owed_count (destination_owes n piece.now destination.now (case_view case.now) draws) target fall }
+    ensures few { AreFewAt piece.now destination.now → AreFew result }
 {
     match destination {
         Destination::Anywhere => Targets::Truth(true),
@@ -38,7 +39,7 @@ fn destination_owes_rows(
 ) -> bool
     ensures { IsTrue result ↔ (owed_count (destination_owes columns piece.now destination.now (case_view case.now) draws.now) target fall ≡ Some rows) }
 {
-    owe_rows(&taken_into(piece, case, destination), target, fall, rows)
+    taken_into(piece, case, destination).rows(target, fall) == Some(rows)
 }
 
 /// Whether the taken case has these terms for its draws, and the lists are as many as the rows of its guards and the target.

@@ -1,17 +1,19 @@
-ghost use Rattle.std.specs.Prelude.{◌≡◌, ◌↔◌, ◌≤◌, ℕ, IsTrue, Some, length, map};
+ghost use Rattle.std.specs.Prelude.{◌≡◌, ◌↔◌, ◌^◌, ◌<◌, ◌≤◌, ℕ, IsTrue, Some, IfSome, length, map};
 ghost use Rattle.std.specs.Option.{option_map};
 ghost use Rattle.tv_linear.specs.Known.{Known, as_given, given};
 ghost use Rattle.tv_linear.specs.Linear.{Linear};
 ghost use Rattle.tv_linear.specs.Falls.{fall_rows};
-ghost use Rattle.tv_cert.specs.Targets.{target_rows, owed_into};
 ghost use Rattle.tv_cert.specs.Owing.{falls_where};
+ghost use Rattle.tv_cert.specs.Pieces.{ranks_of};
 ghost use Rattle.tv_cert.specs.Shapes.{owed_count};
-ghost use Rattle.tv_shape.specs.Counts.{counts_of, falls_past};
+ghost use Rattle.tv_cert.specs.Targets.{target_rows, owed_into, no_fall};
+ghost use Rattle.tv_cert.specs.declared.node.Marked.{Marked};
+ghost use Rattle.tv_shape.specs.Counts.{counts_of, falls_past, AreFew};
 
 use tv_cert::{Mark, Marked, Node, joined_piece_at, piece_at};
 use tv_linear::Row;
 
-/// What a cover or a choice leads into, by the rows that are owed there.
+/// What a cover or a choice leads into.
 #[derive(Drop)]
 pub enum Targets<'a> {
     /// There is no target.
@@ -40,7 +42,8 @@ pub fn pieces_into<'a>(
     location: u32,
     falls: bool,
 ) -> Targets<'a>
-    ensures { (change : Linear → Known) → (k j : ℕ) → counts_of result k j ≡ owed_count (owed_into into.now location change (falls_where falls change piece.now)) k j }
+    ensures counts { (change : Linear → Known) → (k j : ℕ) → counts_of result k j ≡ owed_count (owed_into into.now location change (falls_where falls change piece.now)) k j }
+    ensures few { length into.now < 2 ^ 32 → length (ranks_of piece.now) < 2 ^ 32 → AreFew result }
 {
     if falls {
         let from = Some(piece);
@@ -67,56 +70,82 @@ fn has_fall(old: &[Row], new: &[Row], fall: u32) -> bool
     place >= 1 && place <= old.len() && place <= new.len()
 }
 
-/// Whether there is this fall from ranks to others, and it owes so many rows.
-fn fall_owes(old: &[Row], new: &[Row], fall: u32, rows: usize) -> bool
-    ensures { IsTrue result ↔ (option_map length (fall_rows (as_given old.now) (map given new.now) fall) ≡ Some rows) }
+/// How many rows a fall owes from ranks to others.
+fn fall_owes(old: &[Row], new: &[Row], fall: u32) -> Option<usize>
+    ensures rows { result ≡ option_map length (fall_rows (as_given old.now) (map given new.now) fall) }
+    ensures small { IfSome result (λ n. n < 2 ^ 33) }
 {
-    if !has_fall(old, new, fall) {
-        return false;
+    if has_fall(old, new, fall) {
+        Some(fall as usize + 1)
+    } else {
+        None
     }
-    rows == fall as usize + 1
 }
 
-/// Whether the fall to a piece owes so many rows.
-fn entering_owes(from: Option<&Marked>, piece: &Marked, fall: u32, rows: usize) -> bool
-    ensures { IsTrue result ↔ (option_map length (falls_past given from.entry piece.now fall) ≡ Some rows) }
+/// How many rows are owed where no fall is.
+fn no_fall_owes(fall: u32) -> Option<usize>
+    ensures rows { (piece : Marked) → result ≡ option_map length (no_fall piece fall) }
+    ensures small { IfSome result (λ n. n < 2 ^ 33) }
+{
+    if fall == 0 { Some(0) } else { None }
+}
+
+/// How many rows the fall to a piece owes.
+fn entering_owes(from: Option<&Marked>, piece: &Marked, fall: u32) -> Option<usize>
+    ensures rows { result ≡ option_map length (falls_past given from.entry piece.now fall) }
+    ensures small { IfSome result (λ n. n < 2 ^ 33) }
 {
     match from {
-        Some(left) if piece.mark == Mark::Go => fall_owes(&left.ranks, &piece.ranks, fall, rows),
-        _ => fall == 0 && rows == 0,
+        None => no_fall_owes(fall),
+        Some(left) => match piece.mark {
+            Mark::Go => fall_owes(&left.ranks, &piece.ranks, fall),
+            Mark::Done => no_fall_owes(fall),
+        },
     }
 }
 
-/// Whether a piece that is entered by the fall owes so many rows.
-fn piece_owes(from: Option<&Marked>, piece: &Marked, fall: u32, rows: usize) -> bool
-    ensures { IsTrue result ↔ (option_map length (target_rows given (falls_past given from.entry) (Some piece.now) fall) ≡ Some rows) }
+/// How many rows a piece owes that is entered by the fall.
+fn piece_owes(from: Option<&Marked>, piece: &Marked, fall: u32) -> Option<usize>
+    ensures { result ≡ option_map length (target_rows given (falls_past given from.entry) (Some piece.now) fall) }
 {
-    let own = piece.piece.poly.rows.len();
-    rows >= own && entering_owes(from, piece, fall, rows - own)
+    match entering_owes(from, piece, fall) {
+        Some(falls) => Some(piece.piece.poly.rows.len() + falls),
+        None => None,
+    }
 }
 
-/// Whether there are this target and fall, and they owe so many rows.
-pub fn owe_rows(targets: &Targets, target: u32, fall: u32, rows: usize) -> bool
-    ensures { IsTrue result ↔ (counts_of targets.now target fall ≡ Some rows) }
-{
-    match targets {
-        Targets::Nowhere => false,
-        Targets::Lists(lists) => match lists.get(target as usize) {
-            None => false,
-            Some(list) => fall == 0 && rows == list.len(),
-        },
-        Targets::Truth(truth) => *truth && target == 0 && fall == 0 && rows == 0,
-        Targets::Joined { nodes, location } => match joined_piece_at(nodes, *location, target) {
-            None => false,
-            Some(piece) => piece_owes(None, piece, fall, rows),
-        },
-        Targets::Pieces {
-            from,
-            into,
-            location,
-        } => match piece_at(into, *location, target) {
-            None => false,
-            Some(piece) => piece_owes(*from, piece, fall, rows),
-        },
+impl Targets<'_> {
+    /// How many rows the target owes that is entered by the fall, if there are such.
+    pub fn rows(&self, target: u32, fall: u32) -> Option<usize>
+        ensures { result ≡ counts_of self.now target fall }
+    {
+        match self {
+            Targets::Nowhere => None,
+            Targets::Lists(lists) => match lists.get(target as usize) {
+                Some(list) => { if fall == 0 { Some(list.len()) } else { None } }
+                None => None,
+            },
+            Targets::Truth(truth) => {
+                if *truth && target == 0 && fall == 0 {
+                    Some(0)
+                } else {
+                    None
+                }
+            }
+            Targets::Joined { nodes, location } => {
+                match joined_piece_at(nodes, *location, target) {
+                    None => None,
+                    Some(piece) => piece_owes(None, piece, fall),
+                }
+            }
+            Targets::Pieces {
+                from,
+                into,
+                location,
+            } => match piece_at(into, *location, target) {
+                None => None,
+                Some(piece) => piece_owes(*from, piece, fall),
+            },
+        }
     }
 }

@@ -9,12 +9,12 @@ use Rattle.tv_cert.proofs.VisitLemmas.{visits_none}
 use Rattle.tv_cert.proofs.VisitedCases.{case-here, case-elsewhere}
 use Rattle.tv_cert.proofs.visiting.visit_case.Goals as goal
 
-pub visit-requires : goal.visit-requires
-visit-requires g c =
+pub visit-requires-clause-room : goal.visit-requires-clause-room
+visit-requires-clause-room g c =
     let system = cases_of c.args.about.now in
     let step = step_of c.args.number (about_of system) c.args.piece.now c.args.into.now (case_falls c.args.falls system c.args.piece.now) in
     let e = ap length (case-here step (place_of c.args.piece.now) c.args.case.now c.if-case-piece.false) in
-    omega (arith, e, c.requires)
+    omega (arith, e, c.requires.room)
 
 pub returns-then-case-piece : goal.returns-then-case-piece
 returns-then-case-piece g c =

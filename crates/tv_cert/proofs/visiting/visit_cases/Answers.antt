@@ -1,4 +1,5 @@
 use Rattle.std.proofs.Common.{List, ◌∷◌, [], subst, refl, map}
+use Rattle.std.specs.Prelude.{Contains}
 use Rattle.tv_cases.specs.declared.case.Case.{Case}
 use Rattle.tv_cases.specs.Systems.{cases_of}
 use Rattle.tv_cases.specs.Views.{case_views}
@@ -9,8 +10,12 @@ use Rattle.tv_cert.specs.Plain.{about_of}
 use Rattle.tv_cert.specs.Owing.{case_falls}
 use Rattle.tv_cert.specs.Visits.{Visits}
 use Rattle.tv_cert.proofs.VisitLemmas.{ahead_end, ahead_fails, ahead_next}
-use Rattle.tv_cert.proofs.VisitedCases.{cases-cons}
+use Rattle.tv_cert.proofs.VisitedCases.{case_at, cases-cons}
 use Rattle.tv_cert.proofs.visiting.visit_cases.Goals as goal
+
+pub visit_case-requires-clause-among : goal.visit_case-requires-clause-among
+visit_case-requires-clause-among g c =
+    case_at (Contains (cases_of c.args.about.now).cases) c.args.cases.now c.loop-case.case-index c.case-item.result c.loop-case-test.true c.case-item.is c.requires.among
 
 pub returns-then-not-visit_case : goal.returns-then-not-visit_case
 returns-then-not-visit_case g c =

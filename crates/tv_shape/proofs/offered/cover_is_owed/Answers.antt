@@ -26,7 +26,7 @@ returns-in-Pieces c =
     let p = c.in-Pieces.piece.now in
     subst (λ o. IsTrue c.cover_has_shape-in-Pieces.result ↔ ProofShape (owed_by (cases_of c.args.about.now) o) (Covered c.args.tree.now)) (sym c.in-Pieces.is)
     (cover_owed c.cover_has_shape-in-Pieces.result c.variables-columns.result _ c.len-known-in-Pieces.result (as_given (rows_of p)) (owed_into c.in-Pieces.into.now (place_of p) given no_fall) _ c.args.tree.now c.variables-columns.ensures.same
-    (c.len-known-in-Pieces.ensures ∙ p.piece.poly.rows.ok.0 ∙ sym (length-map (rows_of p) given)) (c.pieces_into-targets.ensures given) c.requires c.cover_has_shape-in-Pieces.ensures)
+    (c.len-known-in-Pieces.ensures ∙ p.piece.poly.rows.ok.0 ∙ sym (length-map (rows_of p) given)) (c.pieces_into-targets.ensures.counts given) c.requires c.cover_has_shape-in-Pieces.ensures)
 
 pub returns-in-Joined : goal.returns-in-Joined
 returns-in-Joined c =
@@ -45,4 +45,4 @@ returns-in-Step c =
     let many : c.len.result + c.len-in-Step.result ≡ length (as_given (rows_of p) ++ as_given k.guards.rows.items) = omega (arith, a, b, length-map (rows_of p) given, length-map k.guards.rows.items given, length-append (as_given (rows_of p)) (as_given k.guards.rows.items)) in
     subst (λ o. IsTrue c.cover_has_shape-in-Step.result ↔ ProofShape (owed_by (cases_of c.args.about.now) o) (Covered c.args.tree.now)) (sym c.in-Step.is)
     (cover_owed c.cover_has_shape-in-Step.result (c.variables-columns.result + k.draws) _ _ (as_given (rows_of p) ++ as_given k.guards.rows.items) (owed_into c.in-Step.into.now k.to change (falls_where c.in-Step.falls change p)) _ c.args.tree.now (ap (λ n. n + k.draws) c.variables-columns.ensures.same)
-    many (c.pieces_into-targets-in-Step.ensures change) c.requires c.cover_has_shape-in-Step.ensures)
+    many (c.pieces_into-targets-in-Step.ensures.counts change) c.requires c.cover_has_shape-in-Step.ensures)

@@ -1,15 +1,26 @@
 use Rattle.std.proofs.Common.{map, refl, sym, ◌∙◌, subst}
+use Rattle.std.specs.Prelude.{Contains}
 use Rattle.std.specs.List.{flat_map}
 use Rattle.std.proofs.lemmas.List.{length-map}
+use Rattle.std.proofs.lemmas.List.Elements.{All-contains}
 use Rattle.tv_linear.specs.Known.{given, as_given}
+use Rattle.tv_cases.specs.LinearCases.{IsCase}
 use Rattle.tv_cases.specs.Systems.{cases_of}
+use Rattle.tv_cases.specs.Views.{case_view}
 use Rattle.tv_cert.specs.Listed.{pieces_list}
 use Rattle.tv_cert.specs.Obligations.{a_cover, truth_targets}
-use Rattle.tv_cert.specs.Owing.{owed_by}
+use Rattle.tv_cert.specs.Owing.{OwedIn, owed_by}
 use Rattle.tv_cert.specs.Pieces.{rows_of, place_of}
 use Rattle.tv_cert.specs.Targets.{owed_into, owed_lists, no_fall}
 use Rattle.tv_cert_reader.specs.Proofs.{ReadsProof}
 use Rattle.tv_cert_reader.proofs.context.Context.proof.Goals as goal
+
+pub step-requires : goal.step-requires
+step-requires c =
+    let system = cases_of c.args.self.now.about.now in
+    let case = case_view c.in-Step.case.now in
+    let among : Contains system.cases case = subst (OwedIn system) c.in-Step.is c.requires in
+    (All-contains (IsCase system.variables system.locations) system.cases case c.args.self.now.about.now.are_cases.cases among).few_draws
 
 pub returns-in-Rows : goal.returns-in-Rows
 returns-in-Rows c =

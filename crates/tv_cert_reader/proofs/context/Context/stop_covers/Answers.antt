@@ -1,19 +1,21 @@
 use Rattle.std.proofs.Common.{◌+◌, sym, subst}
+use Rattle.tv_cases.specs.LinearCases.{IsCase}
 use Rattle.tv_cases.specs.Systems.{cases_of}
 use Rattle.tv_cases.specs.Views.{case_view, case_views}
 use Rattle.tv_cert.specs.Choices.{cases_from}
 use Rattle.tv_cert.proofs.PieceLemmas.{test_true, test_false}
+use Rattle.tv_cert.proofs.VisitedCases.{case_at}
 use Rattle.tv_cert_text.specs.CertificateLines.{cover_lines}
 use Rattle.tv_cert_reader.specs.Choices.{IsStop, ReadsStops}
 use Rattle.tv_cert_reader.proofs.ReadingLemmas.{at_exit}
-use Rattle.tv_cert_reader.proofs.StopLemmas.{Stepped, stepped_next, stepped_as, from_left, case_from, case_elsewhere, stop_fails, case_at}
+use Rattle.tv_cert_reader.proofs.StopLemmas.{Stepped, stepped_next, stepped_as, from_left, case_from, case_elsewhere, stop_fails}
 use Rattle.tv_cert_reader.proofs.context.Context.stop_covers.Goals as goal
 use Rattle.tv_cert_reader.proofs.context.Context.stop_covers.Goals.{then-case-location+in_ok-cover+in_ok-push, else-case-location}
 
 pub stop_cover-requires-clause-draws : goal.stop_cover-requires-clause-draws
 stop_cover-requires-clause-draws c =
     let system = cases_of c.args.self.now.about.now in
-    (case_at system.variables system.locations c.args.cases.now c.loop-case.case-index c.case-item.result c.loop-case-test.true c.case-item.is c.requires.draws).few_draws
+    (case_at (IsCase system.variables system.locations) c.args.cases.now c.loop-case.case-index c.case-item.result c.loop-case-test.true c.case-item.is c.requires.draws).few_draws
 
 pub returns-in_err-cover : goal.returns-in_err-cover
 returns-in_err-cover c =
