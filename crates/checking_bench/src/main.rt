@@ -86,7 +86,7 @@ fn next_row(alloc: Global, words: &mut SplitWhitespace<'_>, columns: u32) -> Res
     if coefficients.len() >= 4_000_000 {
         return Err(Fault::Form);
     }
-    match Row::new(coefficients, next_number(words)?) {
+    match Row::new(alloc, &coefficients, next_number(words)?)? {
         Some(row) => Ok(row),
         None => Err(Fault::Form),
     }
@@ -145,7 +145,7 @@ fn showing_of(alloc: Global, words: &mut SplitWhitespace<'_>) -> Result<Showing,
 fn scanned(total: i128, factor: i128, row: &Row) -> Option<i128> {
     let mut sum = total;
     for number in row.coefficients() {
-        match add_product(sum, factor, *number) {
+        match add_product(sum, factor, i128::from(*number)) {
             None => return None,
             Some(next) => sum = next,
         }

@@ -90,7 +90,7 @@ fn next_row(alloc: Global, words: &mut SplitWhitespace<'_>, columns: u32) -> Res
     if coefficients.len() >= 4_000_000 {
         return Err(Fault::Form);
     }
-    match Row::new(coefficients, next_number(words)?) {
+    match Row::new(alloc, &coefficients, next_number(words)?)? {
         Some(row) => Ok(row),
         None => Err(Fault::Form),
     }

@@ -6,7 +6,7 @@ use tv_linear::{Row, Update};
 use tv_reader::read_program;
 
 /// A row by its coefficients and its constant.
-type Numbers = (&'static [i128], i128);
+type Numbers = (&'static [i64], i128);
 
 /// What a case is to be: its draws, its guards, and its updates, each with its variable.
 type Wanted = (u32, &'static [Numbers], &'static [(u32, Numbers)]);

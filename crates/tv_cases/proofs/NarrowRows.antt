@@ -68,9 +68,10 @@ is_narrow-not r few h =
 pub made-narrow : (exact meant row : Linear) (made : Result Linear RowFault) → made ≡ Ok row → GivesWhere (IsNarrowAt exact) (columns exact) meant made → (is_narrow exact ≡ true) × (row ≡ meant)
 made-narrow exact meant row made is h = let k = subst (GivesWhere (IsNarrowAt exact) (columns exact) meant) is h in (is_narrow-columns exact k.fits, k.same)
 
-pub row-made : (r : Linear) (o : Option Linear) → columns r < 4294967295 → SomeIff o (IsNarrow r) r → IsMade (is_narrow r) r o
-row-made r (Some row) few h = (is_narrow-row r h.0, h.1)
-row-made r None few h = is_narrow-not r few h
+pub row-made : {E : Type 0} (r : Linear) (o : Result (Option Linear) E) → columns r < 4294967295 → IfOk o (λ made. SomeIff made (IsNarrow r) r) → IfOk o (IsMade (is_narrow r) r)
+row-made r (Ok (Some row)) few h = (is_narrow-row r h.0, h.1)
+row-made r (Ok None) few h = is_narrow-not r few h
+row-made r (Err fault) few h = tt
 
 -- a row that is given is as wide as what is meant
 pub given-columns : (w : ℕ) (narrow : Bool) (meant : Linear) (result : Result Linear PartFault) → columns meant ≡ w → Gives narrow meant result → IfOk result (λ row. columns row ≡ w)

@@ -60,7 +60,7 @@ fn sum_of(alloc: Global, parts: &[Expr], terms: &Terms, width: u32) -> Result<Ro
         };
         total.add(&row);
     }
-    match sum_row(total) {
+    match sum_row(alloc, total)? {
         Some(row) => Ok(row),
         None => Err(PartFault::Wide),
     }

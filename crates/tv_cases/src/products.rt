@@ -28,7 +28,9 @@ fn is_zero(number: i128) -> bool
 fn is_number(row: &Row) -> bool
     ensures { result ≡ is_number row.now }
 {
-    row.coefficients().iter().all(|number| is_zero(*number))
+    row.coefficients()
+        .iter()
+        .all(|number| is_zero(i128::from(*number)))
 }
 
 fn times(left: i128, right: i128) -> i128
@@ -39,25 +41,29 @@ fn times(left: i128, right: i128) -> i128
     left * right
 }
 
-fn all_times(alloc: Global, factor: i128, numbers: &[i128]) -> Result<Vec<i128>, AllocError>
+fn all_times(alloc: Global, factor: i128, numbers: &[i64]) -> Result<Vec<i128>, AllocError>
     requires factor { IsWithin 62 factor }
     requires numbers { All (IsWithin 62) numbers.now }
     ensures exact { IfOk result (λ v. v.items ≡ map (λ c. factor *ℤ c) numbers.now) }
     ensures counted { IfOk result (λ v. length v.items ≡ length numbers.now) }
 {
-    let mut products = Vec::new(alloc);
+    let mut products = Vec::with_capacity(alloc, numbers.len())?;
     for number in numbers {
-        products.push(times(factor, *number))?;
+        products.push(times(factor, i128::from(*number)))?;
     }
     Ok(products)
 }
 
 /// The row of these numbers; `None` where it is too wide.
-fn narrow_row(coefficients: Vec<i128>, constant: i128) -> Option<Row>
-    requires { length coefficients.items < 2 ^ 32 - 1 }
-    ensures { IsMade (is_narrow (linear coefficients.items constant)) (linear coefficients.items constant) result }
+fn narrow_row(
+    alloc: Global,
+    coefficients: &[i128],
+    constant: i128,
+) -> Result<Option<Row>, AllocError>
+    requires { length coefficients.now < 2 ^ 32 - 1 }
+    ensures { let row = linear coefficients.now constant in IfOk result (IsMade (is_narrow row) row) }
 {
-    Row::new(coefficients, constant)
+    Row::new(alloc, coefficients, constant)
 }
 
 /// The row times a number; `None` where it is too wide.
@@ -67,7 +73,7 @@ fn scaled(alloc: Global, factor: i128, row: &Row) -> Result<Option<Row>, AllocEr
 {
     let _columns = row.columns();
     let coefficients = all_times(alloc, factor, row.coefficients())?;
-    Ok(narrow_row(coefficients, times(factor, row.constant())))
+    narrow_row(alloc, &coefficients, times(factor, row.constant()))
 }
 
 /// The row of 0.

@@ -9,7 +9,7 @@ ghost use Rattle.tv_cases.specs.Lists.{difference, at_most};
 ghost use Rattle.tv_cases.specs.Given.{Gives, IsMade};
 
 use crate::fault::PartFault;
-use std::alloc::Global;
+use std::alloc::{AllocError, Global};
 use tv_linear::{Row, RowFault, Total};
 
 /// A row that was made column by column, without the column of its fault.
@@ -73,9 +73,9 @@ pub(crate) fn at_most(alloc: Global, less: i128, left: &Row, right: &Row) -> Res
 }
 
 /// The row of a sum; `None` where it is too wide.
-pub(crate) fn sum_row(total: Total) -> Option<Row>
+pub(crate) fn sum_row(alloc: Global, total: Total) -> Result<Option<Row>, AllocError>
     requires { columns total.row < 2 ^ 32 - 1 }
-    ensures { IsMade (is_narrow total.row) total.row result }
+    ensures { IfOk result (IsMade (is_narrow total.row) total.row) }
 {
-    total.into_row()
+    total.into_row(alloc)
 }

@@ -9,11 +9,11 @@ use tv_program::{Edge, Expr, Names, Program, Relation};
 fn row(alloc: Global, coefficients: &[i128], constant: i128) -> Result<Row, Fail>
     requires { length coefficients.now < 2 ^ 32 - 1 }
 {
-    let row = Row::new(Vec::from_slice(alloc, coefficients)?, constant).ok_or("wide")?;
+    let row = Row::new(alloc, coefficients, constant)?.ok_or("wide")?;
     Ok(row)
 }
 
-fn is(row: &Row, coefficients: &[i128], constant: i128) -> bool {
+fn is(row: &Row, coefficients: &[i64], constant: i128) -> bool {
     row.coefficients() == coefficients && row.constant() == constant
 }
 
@@ -66,7 +66,7 @@ fn an_edge_without_commands_is_one_case(rt: HostRuntime) -> Result<(), Fail> {
 }
 
 /// Whether the first of the lists is one row over one variable.
-fn begins_with(lists: &[Vec<Row>], coefficient: i128, constant: i128) -> bool {
+fn begins_with(lists: &[Vec<Row>], coefficient: i64, constant: i128) -> bool {
     match lists {
         [] => false,
         [list, ..] => match list.as_slice() {

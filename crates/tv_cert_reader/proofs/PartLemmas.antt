@@ -1,5 +1,5 @@
 -- What is read of rows and multipliers.
-use Rattle.std.proofs.Common.{◌≡◌, ℕ, ◌+◌, ◌<◌, ℤ, true, List, [], ◌∷◌, ◌++◌, length, map, Ok, refl, ap, ◌∙◌}
+use Rattle.std.proofs.Common.{◌≡◌, ℕ, ◌+◌, ◌<◌, ℤ, true, List, [], ◌∷◌, ◌++◌, length, map, Ok, Option, None, Some, MatchOption, refl, ap, subst, ◌∙◌}
 use Rattle.std.specs.List.{flat_map}
 use Rattle.std.specs.Global.{Vec}
 use Rattle.std.proofs.lemmas.List.{length-map}
@@ -17,7 +17,7 @@ use Rattle.tv_cert_reader.specs.declared.sort.Sort.{Sort}
 use Rattle.tv_cert_reader.specs.declared.sort.Sort.TheVariants as sorts
 use Rattle.tv_cert_reader.specs.Sorts.{head_of, tells, line_with}
 use Rattle.tv_cert_reader.specs.Reading.{Takes, FailsBy}
-use Rattle.tv_cert_reader.specs.Parts.{AreMany, AreNumbers, IsWide, one_row, numbers_line}
+use Rattle.tv_cert_reader.specs.Parts.{AreMany, AreNumbers, IsRowOf, IsWide, one_row, numbers_line}
 use Rattle.tv_cert_reader.proofs.ReadingLemmas.{Gathered, takes_as, many_fails}
 
 told : (s : Sort) → tells s (head_of s) ≡ true
@@ -42,6 +42,14 @@ module _ (s : Sort) (width : ℕ) where
 
   pub rows_end : (n i : ℕ) (old now : Cursor) (xs : List Linear) → Gathered (IsWide width) (one_row s) old i now xs → i ≡ n → AreMany (IsWide width) n xs × Takes (row_lines (head_of s) xs) old now
   rows_end n i old now xs g e = (record { many = g.many ∙ e; each = g.each }, takes_as _ (row_lines (head_of s) xs) old now (flat_map_single (row_line (head_of s)) xs) g.took)
+
+-- the numbers of a line, as a row where they are one
+module _ (width : ℕ) (zs : List ℤ) (made : Option Linear) (told : MatchOption made (length zs ≡ width + 1 → ⊥) (IsRowOf width zs)) where
+  pub row_there : (row : Linear) → made ≡ Some row → IsRowOf width zs row
+  row_there row e = subst (λ o. MatchOption o (length zs ≡ width + 1 → ⊥) (IsRowOf width zs)) e told
+
+  pub no_row : made ≡ None → length zs ≡ width + 1 → ⊥
+  no_row e = subst (λ o. MatchOption o (length zs ≡ width + 1 → ⊥) (IsRowOf width zs)) e told
 
 -- ---- multipliers
 

@@ -140,7 +140,7 @@ impl Context<'_> {
                 if left == 0 {
                     return Err(Failure::Fault(LineKind::Deep, cursor.taken));
                 }
-                let Some(row) = row_of(numbers, self.about.variables()) else {
+                let Some(row) = row_of(self.alloc, numbers, self.about.variables())? else {
                     return Err(Failure::Fault(LineKind::Shape, cursor.taken));
                 };
                 let (below, rows) = (left - 1, known + 1);

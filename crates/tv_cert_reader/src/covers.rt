@@ -123,7 +123,7 @@ impl Context<'_> {
                 if left == 0 {
                     return Err(Failure::Fault(LineKind::Deep, cursor.taken));
                 }
-                let Some(row) = row_of(numbers, width) else {
+                let Some(row) = row_of(self.alloc, numbers, width)? else {
                     return Err(Failure::Fault(LineKind::Shape, cursor.taken));
                 };
                 let holds = self.cover_tree(cursor, left - 1, width, known + 1, targets)?;

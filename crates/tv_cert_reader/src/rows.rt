@@ -1,4 +1,4 @@
-ghost use Rattle.std.specs.Prelude.{◌≡◌, ◌+◌, ◌-◌, ◌<◌, ◌^◌, All, MatchOption, length};
+ghost use Rattle.std.specs.Prelude.{◌≡◌, ◌+◌, ◌-◌, ◌<◌, ◌^◌, All, IfOk, MatchOption, length};
 ghost use Rattle.tv_lines.specs.Numbers.{IsNarrow};
 ghost use Rattle.tv_cert_reader.specs.Parts.{IsRowOf, ReadsLists, ReadsNumbers, ReadsRow, ReadsRows};
 
@@ -6,7 +6,7 @@ use crate::cursor::Cursor;
 use crate::failure::Failure;
 use crate::lines::take;
 use crate::sort::Sort;
-use std::alloc::Global;
+use std::alloc::{AllocError, Global};
 use tv_cert_grammar::LineKind;
 use tv_linear::Row;
 
@@ -30,19 +30,19 @@ pub fn numbers(
 }
 
 /// The row of these numbers, the last of which is its constant, over so many columns.
-pub fn row_of(numbers: Vec<i128>, width: u32) -> Option<Row>
+pub fn row_of(alloc: Global, numbers: Vec<i128>, width: u32) -> Result<Option<Row>, AllocError>
     requires few { width < 2 ^ 32 - 1 }
     requires narrow { All IsNarrow numbers.items }
-    ensures { MatchOption result (¬ (length numbers.items ≡ width + 1)) (IsRowOf width numbers.items) }
+    ensures { IfOk result (λ made. MatchOption made (¬ (length numbers.items ≡ width + 1)) (IsRowOf width numbers.items)) }
 {
     let mut coefficients = numbers;
     let Some(constant) = coefficients.pop() else {
-        return None;
+        return Ok(None);
     };
     if coefficients.len() != width as usize {
-        return None;
+        return Ok(None);
     }
-    Row::new(coefficients, constant)
+    Row::new(alloc, &coefficients, constant)
 }
 
 /// A row, a rank or a term over so many columns.
@@ -51,7 +51,7 @@ fn row(alloc: Global, cursor: &mut Cursor, sort: Sort, width: u32) -> Result<Row
     ensures { ReadsRow sort width cursor.old cursor.new result }
 {
     let numbers = numbers(alloc, cursor, sort, width as u128 + 1)?;
-    match row_of(numbers, width) {
+    match row_of(alloc, numbers, width)? {
         Some(row) => Ok(row),
         None => unreachable!(),
     }

@@ -13,7 +13,11 @@ use tv_lines::{Head, PieceMark, write_line};
 fn numbers_of(alloc: Global, row: &Row) -> Result<Vec<i128>, AllocError>
     ensures { IfOk result (λ numbers. numbers.items ≡ row.now.coefficients ++ row.now.constant ∷ []) }
 {
-    let mut numbers = Vec::from_slice(alloc, row.coefficients())?;
+    let coefficients = row.coefficients();
+    let mut numbers = Vec::with_capacity(alloc, coefficients.len() + 1)?;
+    for coefficient in coefficients {
+        numbers.push(i128::from(*coefficient))?;
+    }
     numbers.push(row.constant())?;
     Ok(numbers)
 }

@@ -54,12 +54,25 @@ pub fn take_once(alloc: Global, rows: &[Row]) -> Result<Distinct, AllocError>
     })
 }
 
+/// The coefficients of a row in twice the bits.
+fn wide_coefficients(alloc: Global, row: &Row) -> Result<Vec<i128>, AllocError>
+    ensures same { IfOk result (λ wide. wide.items ≡ row.now.coefficients) }
+    ensures narrow { IsNarrow row.now }
+{
+    let coefficients = row.coefficients();
+    let mut wide = Vec::with_capacity(alloc, coefficients.len())?;
+    'coefficients: for coefficient in coefficients {
+        push_item(&mut wide, i128::from(*coefficient))?;
+    }
+    Ok(wide)
+}
+
 /// The row with another constant.
 fn with_constant(alloc: Global, row: &Row, constant: i128) -> Result<Row, AllocError>
     requires { IsWithin 62 constant }
     ensures { IfOk result (λ r. r ≡ linear row.now.coefficients constant) }
 {
-    match Row::new(Vec::from_slice(alloc, row.coefficients())?, constant) {
+    match Row::new(alloc, &wide_coefficients(alloc, row)?, constant)? {
         Some(row) => Ok(row),
         None => unreachable!(),
     }

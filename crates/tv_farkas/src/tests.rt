@@ -15,7 +15,7 @@ type Numbers = (&'static [i128], i128);
 fn row(alloc: Global, coefficients: &[i128], constant: i128) -> Result<Row, Fail>
     requires { length coefficients.now < 2 ^ 32 - 1 }
 {
-    let row = Row::new(Vec::from_slice(alloc, coefficients)?, constant).ok_or("wide")?;
+    let row = Row::new(alloc, coefficients, constant)?.ok_or("wide")?;
     Ok(row)
 }
 
@@ -35,7 +35,13 @@ fn are_even(rows: &[Row], columns: u32) -> bool
 }
 
 fn is_row(row: &Row, coefficients: &[i128], constant: i128) -> bool {
-    row.coefficients() == coefficients && row.constant() == constant
+    let numbers = row.coefficients();
+    numbers.len() == coefficients.len()
+        && numbers
+            .iter()
+            .zip(coefficients)
+            .all(|(number, wanted)| i128::from(*number) == *wanted)
+        && row.constant() == constant
 }
 
 /// What `refute` is to give.

@@ -2,11 +2,11 @@ ghost use Rattle.std.specs.Prelude.{◌≡◌, ◌^◌, ◌<◌, ◌≤◌, neg_
 ghost use Rattle.tv_linear.specs.Linear.{IsWithin};
 ghost use Rattle.tv_linear.specs.Arithmetic.{zeros, unit};
 
-use crate::narrow::opposite;
+use crate::narrow::{opposite, short};
 use std::alloc::{AllocError, Global};
 
 /// So many zeros.
-pub fn all_zero(alloc: Global, columns: u32) -> Result<Vec<i128>, AllocError>
+pub fn all_zero(alloc: Global, columns: u32) -> Result<Vec<i64>, AllocError>
     ensures exact { IfOk result (λ v. v.items ≡ zeros columns) }
     ensures counted { IfOk result (λ v. length v.items ≡ columns) }
     ensures small { IfOk result (λ v. All (λ z. unsigned_abs z ≤ 0) v.items) }
@@ -16,7 +16,7 @@ pub fn all_zero(alloc: Global, columns: u32) -> Result<Vec<i128>, AllocError>
 }
 
 /// 1 in the one column and 0 in the others.
-pub fn one_at(alloc: Global, columns: u32, column: u32) -> Result<Vec<i128>, AllocError>
+pub fn one_at(alloc: Global, columns: u32, column: u32) -> Result<Vec<i64>, AllocError>
     requires { column < columns }
     ensures exact { IfOk result (λ v. v.items ≡ unit columns column) }
     ensures counted { IfOk result (λ v. length v.items ≡ columns) }
@@ -27,16 +27,28 @@ pub fn one_at(alloc: Global, columns: u32, column: u32) -> Result<Vec<i128>, All
     Ok(numbers)
 }
 
+/// The narrow numbers in half the bits.
+pub fn all_short(alloc: Global, numbers: &[i128]) -> Result<Vec<i64>, AllocError>
+    requires { All (IsWithin 62) numbers.now }
+    ensures { IfOk result (λ v. v.items ≡ numbers.now) }
+{
+    let mut shortened = Vec::with_capacity(alloc, numbers.len())?;
+    for number in numbers {
+        shortened.push(short(*number))?;
+    }
+    Ok(shortened)
+}
+
 /// Each number with its sign turned.
-pub fn all_opposite(alloc: Global, numbers: &[i128]) -> Result<Vec<i128>, AllocError>
+pub fn all_opposite(alloc: Global, numbers: &[i64]) -> Result<Vec<i64>, AllocError>
     requires { All (IsWithin 62) numbers.now }
     ensures exact { IfOk result (λ v. v.items ≡ map neg_ℤ numbers.now) }
     ensures counted { IfOk result (λ v. length v.items ≡ length numbers.now) }
     ensures narrow { IfOk result (λ v. All (IsWithin 62) v.items) }
 {
-    let mut turned = Vec::new(alloc);
+    let mut turned = Vec::with_capacity(alloc, numbers.len())?;
     for number in numbers {
-        turned.push(opposite(*number))?;
+        turned.push(short(opposite(i128::from(*number))))?;
     }
     Ok(turned)
 }

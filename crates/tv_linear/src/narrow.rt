@@ -29,6 +29,15 @@ pub fn narrow(number: i128) -> Option<i128>
     }
 }
 
+/// The narrow number in half the bits.
+pub fn short(number: i128) -> i64
+    requires { IsWithin 62 number }
+    ensures exact { result ≡ number }
+    ensures narrow { IsWithin 62 result }
+{
+    number as i64
+}
+
 pub fn opposite(number: i128) -> i128
     requires { IsWithin 62 number }
     ensures exact { result ≡ neg_ℤ number }

@@ -7,8 +7,8 @@ ghost use Rattle.tv_linear.specs.Fits.{ValueHeld, GivesWhere, GivesRow, GivesTig
 use crate::columns::{Added, Columns, Composed, Constant, Denied, Difference};
 use crate::fault::RowFault;
 use crate::held;
-use crate::lists::{all_opposite, all_zero, one_at};
-use crate::narrow::{are_narrow, is_narrow, opposite};
+use crate::lists::{all_opposite, all_short, all_zero, one_at};
+use crate::narrow::{are_narrow, is_narrow, opposite, short};
 use crate::sums::{Listed, dot_from};
 use crate::tight::{all_rounded_up, common_divisor, rounded_up};
 use std::alloc::{AllocError, Global};
@@ -20,8 +20,8 @@ use std::marker::Model;
 /// value is at most 0.
 #[derive(Drop)]
 pub struct Row {
-    coefficients: Vec<i128>,
-    constant: i128,
+    coefficients: Vec<i64>,
+    constant: i64,
 }
 
 impl Model for Row {
@@ -39,10 +39,10 @@ fn build<C: Columns>(alloc: Global, wanted: &C) -> Result<Row, RowFault>
     ensures { GivesWhere (C.fits wanted.now) (columns (C.meant wanted.now)) (C.meant wanted.now) result }
 {
     let width = wanted.width();
-    let mut coefficients = Vec::new(alloc);
+    let mut coefficients = Vec::with_capacity(alloc, width)?;
     for column in 0..width {
         match wanted.number(column) {
-            Some(number) => coefficients.push(number)?,
+            Some(number) => coefficients.push(short(number))?,
             None => return Err(RowFault::Wide {
                 column: column as u32,
             }),
@@ -51,7 +51,7 @@ fn build<C: Columns>(alloc: Global, wanted: &C) -> Result<Row, RowFault>
     match wanted.number(width) {
         Some(constant) => Ok(Row {
             coefficients,
-            constant,
+            constant: short(constant),
         }),
         None => Err(RowFault::Wide {
             column: width as u32,
@@ -60,18 +60,23 @@ fn build<C: Columns>(alloc: Global, wanted: &C) -> Result<Row, RowFault>
 }
 
 impl Row {
-    /// The row of these numbers; `None` where one is 2^62 or more in magnitude.
-    pub fn new(coefficients: Vec<i128>, constant: i128) -> Option<Row>
-        requires { length coefficients.items < 2 ^ 32 - 1 }
-        ensures { let row = linear coefficients.items constant in SomeIff result (IsNarrow row) row }
+    /// The row of these numbers; `None` where one is 2^62 or more in magnitude, for which no memory is taken.
+    pub fn new(
+        alloc: Global,
+        coefficients: &[i128],
+        constant: i128,
+    ) -> Result<Option<Row>, AllocError>
+        requires { length coefficients.now < 2 ^ 32 - 1 }
+        ensures { let row = linear coefficients.now constant in
+            IfOk result (λ made. SomeIff made (IsNarrow row) row) }
     {
-        if are_narrow(&coefficients) && is_narrow(constant) {
-            Some(Row {
-                coefficients,
-                constant,
-            })
+        if are_narrow(coefficients) && is_narrow(constant) {
+            Ok(Some(Row {
+                coefficients: all_short(alloc, coefficients)?,
+                constant: short(constant),
+            }))
         } else {
-            None
+            Ok(None)
         }
     }
 
@@ -119,10 +124,10 @@ impl Row {
         ensures is { result ≡ entry self.now column }
         ensures narrow { IsWithin 62 result }
     {
-        self.coefficients[column as usize]
+        i128::from(self.coefficients[column as usize])
     }
 
-    pub fn coefficients(&self) -> &[i128]
+    pub fn coefficients(&self) -> &[i64]
         ensures is { result.now ≡ self.now.coefficients }
         ensures narrow { IsNarrow self.now }
     {
@@ -133,7 +138,7 @@ impl Row {
         ensures is { result ≡ self.now.constant }
         ensures narrow { IsWithin 62 result }
     {
-        self.constant
+        i128::from(self.constant)
     }
 
     /// The number at a column, of which the constant's is the last.
@@ -142,9 +147,9 @@ impl Row {
         ensures narrow { IsWithin 62 result }
     {
         if column < self.coefficients.len() {
-            self.coefficients[column]
+            i128::from(self.coefficients[column])
         } else {
-            self.constant
+            i128::from(self.constant)
         }
     }
 
@@ -166,7 +171,7 @@ impl Row {
     {
         match dot_from(0, &self.coefficients, &Listed(values)) {
             None => None,
-            Some(total) => match held::sum(total, self.constant) {
+            Some(total) => match held::sum(total, i128::from(self.constant)) {
                 None => None,
                 Some(value) => Some(value <= 0),
             },
@@ -187,7 +192,7 @@ impl Row {
     {
         Ok(Row {
             coefficients: all_opposite(alloc, &self.coefficients)?,
-            constant: opposite(self.constant),
+            constant: short(opposite(i128::from(self.constant))),
         })
     }
 

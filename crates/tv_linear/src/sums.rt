@@ -28,14 +28,14 @@ impl Numbers for Listed<'_> {
 }
 
 /// The products of factors and numbers, added to a first number from the left.
-pub fn dot_from<N: Numbers>(start: i128, factors: &[i128], numbers: &N) -> Option<i128>
+pub fn dot_from<N: Numbers>(start: i128, factors: &[i64], numbers: &N) -> Option<i128>
     requires { length (N.numbers numbers.now) ≡ length factors.now }
     ensures { let xs = N.numbers numbers.now in
         SomeIff result (SumsHeld start factors.now xs) (start +ℤ dot factors.now xs) }
 {
     let mut total = start;
     for i in 0..factors.len() {
-        match add_product(total, factors[i], numbers.number(i)) {
+        match add_product(total, i128::from(factors[i]), numbers.number(i)) {
             None => return None,
             Some(sum) => total = sum,
         }

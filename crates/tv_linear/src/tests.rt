@@ -7,11 +7,11 @@ use std::test::Fail;
 fn row(alloc: Global, coefficients: &[i128], constant: i128) -> Result<Row, Fail>
     requires { length coefficients.now < 2 ^ 32 - 1 }
 {
-    let row = Row::new(Vec::from_slice(alloc, coefficients)?, constant).ok_or("wide")?;
+    let row = Row::new(alloc, coefficients, constant)?.ok_or("wide")?;
     Ok(row)
 }
 
-fn is(row: &Row, coefficients: &[i128], constant: i128) -> bool {
+fn is(row: &Row, coefficients: &[i64], constant: i128) -> bool {
     row.coefficients() == coefficients && row.constant() == constant
 }
 
@@ -62,7 +62,7 @@ fn numbers_and_columns(rt: HostRuntime) -> Result<(), Fail> {
     assert!(rt; is(&second, &[0, 1], 0));
     assert_eq!(rt; second.columns(), 2);
     assert_eq!(rt; second.coefficient(1), 1);
-    assert!(rt; Row::new(vec![in alloc; 1]?, MOST + 1).is_none());
+    assert!(rt; Row::new(alloc, &[1], MOST + 1)?.is_none());
     Ok(())
 }
 
@@ -77,8 +77,8 @@ fn rows_add_up(rt: HostRuntime) -> Result<(), Fail> {
     total.add(&most);
     total.add(&most);
     total.add(&other);
-    let sum = total.into_row().ok_or("wide")?;
-    assert!(rt; is(&sum, &[MOST, 3], 7));
+    let sum = total.into_row(alloc)?.ok_or("wide")?;
+    assert!(rt; is(&sum, &[MOST as i64, 3], 7));
     Ok(())
 }
 

@@ -5,7 +5,7 @@ ghost use Rattle.tv_linear.specs.Tight.{gcd, divisor, rounded_up};
 use std::alloc::{AllocError, Global};
 
 /// The greatest number that divides each number, 0 where these are all 0.
-pub fn common_divisor(numbers: &[i128]) -> u128
+pub fn common_divisor(numbers: &[i64]) -> u64
     requires { All (IsWithin 62) numbers.now }
     ensures exact { result ≡ divisor numbers.now }
     ensures narrow { result < 2 ^ 62 }
@@ -17,7 +17,7 @@ pub fn common_divisor(numbers: &[i128]) -> u128
     divisor
 }
 
-fn greatest_common_divisor(left: u128, right: u128) -> u128
+fn greatest_common_divisor(left: u64, right: u64) -> u64
     requires left { left < 2 ^ 62 }
     requires right { right < 2 ^ 62 }
     ensures exact { result ≡ gcd left right }
@@ -34,29 +34,25 @@ fn greatest_common_divisor(left: u128, right: u128) -> u128
 }
 
 /// The least whole number at or above `number / divisor`.
-pub fn rounded_up(divisor: u128, number: i128) -> i128
+pub fn rounded_up(divisor: u64, number: i64) -> i64
     requires narrow { IsWithin 62 number }
     requires positive { 1 ≤ divisor }
     requires small { divisor < 2 ^ 62 }
     ensures exact { result ≡ rounded_up divisor number }
     ensures narrow { IsWithin 62 result }
 {
-    -(-number).div_euclid(divisor as i128)
+    -(-number).div_euclid(divisor as i64)
 }
 
 /// Each number divided and rounded up.
-pub fn all_rounded_up(
-    alloc: Global,
-    divisor: u128,
-    numbers: &[i128],
-) -> Result<Vec<i128>, AllocError>
+pub fn all_rounded_up(alloc: Global, divisor: u64, numbers: &[i64]) -> Result<Vec<i64>, AllocError>
     requires narrow { All (IsWithin 62) numbers.now }
     requires positive { 1 ≤ divisor }
     requires small { divisor < 2 ^ 62 }
     ensures exact { IfOk result (λ v. v.items ≡ map (rounded_up divisor) numbers.now) }
     ensures narrow { IfOk result (λ v. All (IsWithin 62) v.items) }
 {
-    let mut rounded = Vec::new(alloc);
+    let mut rounded = Vec::with_capacity(alloc, numbers.len())?;
     for number in numbers {
         rounded.push(rounded_up(divisor, *number))?;
     }

@@ -1,11 +1,10 @@
 ghost use Rattle.std.specs.Prelude.{◌≡◌, ◌+◌, ◌-◌, ◌^◌, ◌<◌, pos, IfOk, SomeIff};
 ghost use Rattle.tv_linear.specs.Linear.{columns, IsNarrow};
-ghost use Rattle.tv_linear.specs.Arithmetic.{constant_row, plus, plus_each};
+ghost use Rattle.tv_linear.specs.Arithmetic.{constant_row, plus, plus_each, zeros};
 ghost use Rattle.tv_linear.specs.Totals.{Sum};
 ghost use Rattle.std.specs.Prelude.{◌*◌, ◌≤◌, All, length, unsigned_abs};
 ghost use Rattle.tv_linear.specs.Linear.{IsWithin};
 
-use crate::lists::all_zero;
 use crate::narrow::one_more;
 use crate::row::Row;
 use std::alloc::{AllocError, Global};
@@ -38,7 +37,7 @@ impl Total {
         ensures none { IfOk result (λ total. total.parts ≡ 0) }
     {
         Ok(Total {
-            coefficients: all_zero(alloc, columns)?,
+            coefficients: wide_zeros(alloc, columns)?,
             constant: 0,
             parts: 0,
         })
@@ -57,15 +56,25 @@ impl Total {
     }
 
     /// The sum as a row; `None` where a number is 2^62 or more in magnitude.
-    pub fn into_row(self) -> Option<Row>
-        ensures { SomeIff result (IsNarrow self.row) self.row }
+    pub fn into_row(self, alloc: Global) -> Result<Option<Row>, AllocError>
+        ensures { IfOk result (λ made. SomeIff made (IsNarrow self.row) self.row) }
     {
-        Row::new(self.coefficients, self.constant)
+        Row::new(alloc, &self.coefficients, self.constant)
     }
 }
 
+/// So many zeros, each with room for a sum.
+fn wide_zeros(alloc: Global, columns: u32) -> Result<Vec<i128>, AllocError>
+    ensures exact { IfOk result (λ v. v.items ≡ zeros columns) }
+    ensures counted { IfOk result (λ v. length v.items ≡ columns) }
+    ensures small { IfOk result (λ v. All (λ z. unsigned_abs z ≤ 0) v.items) }
+{
+    let numbers = vec![in alloc; 0; columns as usize]?;
+    Ok(numbers)
+}
+
 /// Adds a number at each place.
-fn add_each(parts: u64, totals: &mut [i128], numbers: &[i128])
+fn add_each(parts: u64, totals: &mut [i128], numbers: &[i64])
     requires even { length totals.old ≡ length numbers.now }
     requires small { All (λ z. unsigned_abs z ≤ parts * 2 ^ 62) totals.old }
     requires few { parts < 2 ^ 64 - 1 }
@@ -74,6 +83,6 @@ fn add_each(parts: u64, totals: &mut [i128], numbers: &[i128])
     ensures small { All (λ z. unsigned_abs z ≤ (parts + 1) * 2 ^ 62) totals.new }
 {
     for i in 0..totals.len() {
-        totals[i] = one_more(parts, totals[i], numbers[i]);
+        totals[i] = one_more(parts, totals[i], i128::from(numbers[i]));
     }
 }

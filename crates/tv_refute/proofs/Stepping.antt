@@ -30,6 +30,19 @@ module _ (told : ℕ → ℤ → Type 0) (value : ℕ → ℤ → ℤ) (old : Li
           after = λ k h. get_or-set_other now i k z (pos 0) (λ e. absurd (omega arith)) ∙ so_far.after k (omega arith);
         }
 
+    -- a number that is to stay as it is
+    pub one_kept : i < length old → told i (get_or now i (pos 0)) → get_or now i (pos 0) ≡ value i (get_or now i (pos 0)) → AreChanged now (i + 1)
+    one_kept inside held is =
+        let there = so_far.after i (omega arith) in
+        record {
+          counted = so_far.counted;
+          before = λ k h. ⊎_elim
+              (λ l. so_far.before k l)
+              (λ l. let e : i ≡ k = omega arith in subst (λ k. told k (get_or old k (pos 0)) × (get_or now k (pos 0) ≡ value k (get_or old k (pos 0)))) e (subst (told i) there held, is ∙ ap (value i) there))
+              (cases_lt k i);
+          after = λ k h. so_far.after k (omega arith);
+        }
+
     pub not_changed : (count : ℕ) → i < count → (told i (get_or now i (pos 0)) → ⊥) → AreTold false count (λ k. told k (get_or old k (pos 0))) (λ k. value k (get_or old k (pos 0))) now
     not_changed count inside never = λ all. never (subst (told i) (sym (so_far.after i (omega arith))) (all i inside))
 

@@ -1,17 +1,18 @@
-//! Numbers of rows and terms, for several columns at once.
+//! Numbers of rows and terms, for many columns at once.
 
 ghost use Rattle.std.specs.Prelude.{◌≡◌, ◌≤◌, ◌<◌, pos, ◌+ℤ◌, ◌*ℤ◌, length, drop, get_or};
-ghost use Rattle.tv_linear.specs.Known.{number, kept, term_number};
-ghost use Rattle.tv_refute.specs.Blocks.{further, AreTold, IsAddedHeld, AreHeld};
+ghost use Rattle.tv_linear.specs.Known.{number, kept, term_number, given};
+ghost use Rattle.tv_refute.specs.Blocks.{further, AreTold, IsAddedHeld, AreHeld, TermsHeld, terms_sum};
 ghost use Rattle.tv_refute.specs.Terms.{terms_of};
 
-use crate::steps::{Products, Put, PutSame, SameProduct, change_each};
-use crate::terms::{Terms, row_put};
+use crate::addends::{Listed, Same, add_each};
+use crate::steps::{Put, PutSame, at, change_each};
+use crate::terms::{Terms, row_put, term_count};
 use tv_linear::Row;
 use tv_linear::held::add_product;
 
 /// What is left from a place on.
-fn tail(numbers: &[i128], from: usize) -> &[i128]
+fn tail(numbers: &[i64], from: usize) -> &[i64]
     ensures { result.now ≡ drop from numbers.now }
 {
     if from <= numbers.len() {
@@ -34,7 +35,7 @@ pub(crate) fn put_row(row: &Row, column: Option<usize>, count: usize, numbers: &
     }
 }
 
-/// Adds the products of a factor and the numbers of a row from a column on, or its constant.
+/// Adds the products of a factor and the numbers of a row from a column on, or its constant. A factor 0 costs nothing.
 pub(crate) fn add_row(
     totals: &mut [i128],
     count: usize,
@@ -42,27 +43,19 @@ pub(crate) fn add_row(
     row: &Row,
     column: Option<usize>,
 ) -> bool
-    requires { count ≤ length totals.old }
+    requires size { count ≤ length totals.old }
+    requires held { AreHeld count totals.old }
     ensures size { length totals.new ≡ length totals.old }
     ensures told { AreTold result count
         (λ k. IsAddedHeld (get_or totals.old k (pos 0)) factor (number (further column k) row.now))
         (λ k. get_or totals.old k (pos 0) +ℤ factor *ℤ number (further column k) row.now) totals.new }
 {
+    if factor == 0 {
+        return true;
+    }
     match column {
-        None => {
-            let product = SameProduct {
-                factor,
-                number: row.constant(),
-            };
-            change_each(totals, count, &product)
-        }
-        Some(j) => {
-            let products = Products {
-                factor,
-                numbers: tail(row.coefficients(), j),
-            };
-            change_each(totals, count, &products)
-        }
+        None => add_each(totals, count, factor, &Same(row.constant())),
+        Some(j) => add_each(totals, count, factor, &Listed(tail(row.coefficients(), j))),
     }
 }
 
@@ -124,23 +117,26 @@ pub(crate) fn add_term(
     }
 }
 
-/// The same as [`add_row`], where a factor 0 costs nothing.
-pub(crate) fn add_given(
-    totals: &mut [i128],
-    count: usize,
-    factor: i128,
+/// Puts the sums over the terms that are put in for the columns of a row. A term is passed where the row's number
+/// is 0.
+pub(crate) fn compose_row(
     row: &Row,
+    terms: &Terms,
     column: Option<usize>,
+    count: usize,
+    totals: &mut [i128],
 ) -> bool
-    requires size { count ≤ length totals.old }
-    requires held { AreHeld count totals.old }
+    requires { count ≤ length totals.old }
     ensures size { length totals.new ≡ length totals.old }
-    ensures told { AreTold result count
-        (λ k. IsAddedHeld (get_or totals.old k (pos 0)) factor (number (further column k) row.now))
-        (λ k. get_or totals.old k (pos 0) +ℤ factor *ℤ number (further column k) row.now) totals.new }
+    ensures told { let k = given row.now in let ts = terms_of terms.now in AreTold result count
+        (λ i. TermsHeld k ts (further column i)) (λ i. terms_sum k ts (further column i)) totals.new }
 {
-    if factor == 0 {
-        return true;
+    change_each(totals, count, &PutSame(0));
+    let coefficients = row.coefficients();
+    for v in 0..term_count(terms) {
+        if !add_term(totals, count, at(coefficients, v), terms, v, column) {
+            return false;
+        }
     }
-    add_row(totals, count, factor, row, column)
+    true
 }

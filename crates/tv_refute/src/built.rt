@@ -4,7 +4,7 @@ ghost use Rattle.tv_refute.specs.Blocks.{further, AreTold, LessHeld, lessened, C
 ghost use Rattle.tv_refute.specs.Built.{built};
 ghost use Rattle.tv_refute.specs.Terms.{terms_of};
 
-use crate::blocks::{add_term, put_row};
+use crate::blocks::{add_term, compose_row, put_row};
 use crate::steps::{Deny, Lessen, PutSame, SameMore, change_each};
 use crate::terms::{Terms, term_count};
 use tv_linear::Row;
@@ -23,8 +23,8 @@ pub enum Built<'a> {
     Less(&'a Built<'a>, &'a Built<'a>, i128),
 }
 
-/// How many columns are read at once.
-pub(crate) const BLOCK: usize = 32;
+/// How many columns are read at once: as many as a program's variables and an edge's draws are at most.
+pub(crate) const BLOCK: usize = 576;
 
 /// The number of a row in a column, 0 past the last, or its constant where no column is named; `None` where
 /// a number on the way is 2^127 or more in magnitude.
@@ -50,7 +50,7 @@ pub(crate) fn read_numbers(
 ) -> bool
     requires size { count ≤ length numbers.old }
     requires some { 0 < count }
-    requires few { count ≤ 32 }
+    requires few { count ≤ 576 }
     ensures size { length numbers.new ≡ length numbers.old }
     ensures told { AreTold result count (λ k. KnownHeld (built known.now) (further column k))
         (λ k. known_number (built known.now) (further column k)) numbers.new }
@@ -90,7 +90,7 @@ fn lessen(
 ) -> bool
     requires size { count ≤ length numbers.old }
     requires some { 0 < count }
-    requires few { count ≤ 32 }
+    requires few { count ≤ 576 }
     ensures size { length numbers.new ≡ length numbers.old }
     ensures told { let k = built second.now in AreTold result count
         (λ i. KnownHeld k (further column i) × LessHeld column more (get_or numbers.old i (pos 0)) (known_number k (further column i)))
@@ -130,8 +130,8 @@ fn add_constant(inner: &Built, column: Option<usize>, count: usize, numbers: &mu
     }
 }
 
-/// Puts the sums over the terms that are put in for the columns of a row. Each number of the row is read once,
-/// and a term is passed where it is 0.
+/// Puts the sums over the terms that are put in for the columns of a row. Each number of the row is read once
+/// for so many columns, and its term is passed where it is 0.
 #[cycle(numbers)]
 fn compose(
     inner: &Built,
@@ -146,6 +146,9 @@ fn compose(
     ensures told { let k = built inner.now in let ts = terms_of terms.now in AreTold result count
         (λ i. TermsHeld k ts (further column i)) (λ i. terms_sum k ts (further column i)) totals.new }
 {
+    if let Built::Given(row) = inner {
+        return compose_row(row, terms, column, count, totals);
+    }
     change_each(totals, count, &PutSame(0));
     let places = term_count(terms);
     let mut first = 0;

@@ -7,9 +7,10 @@ ghost use Rattle.tv_refute.specs.Blocks.{further, AreTold, AreHeld, IsAddedHeld}
 ghost use Rattle.tv_refute.specs.Built.{built};
 ghost use Rattle.tv_refute.specs.Frames.{known_at};
 
-use crate::blocks::add_given;
+use crate::addends::{Denial, Read, add_each};
+use crate::blocks::add_row;
 use crate::built::{BLOCK, Built, read_numbers};
-use crate::steps::{Products, PutSame, change_each};
+use crate::steps::{PutSame, change_each};
 use tv_linear::Row;
 
 /// The rows known at a place, the last first.
@@ -38,7 +39,7 @@ pub(crate) fn sums_at(
     requires many { length multipliers.now ≡ length (known_at frames.now) }
     requires size { count ≤ length totals.old }
     requires some { 0 < count }
-    requires few { count ≤ 32 }
+    requires few { count ≤ 576 }
     ensures size { length totals.new ≡ length totals.old }
     ensures told { let rows = known_at frames.now in AreTold result count
         (λ k. ColumnHeld multipliers.now rows (further column k))
@@ -85,7 +86,7 @@ fn add_rows(
     ensures held { IsTrue result → AreHeld count totals.new }
 {
     for i in 0..multipliers.len() {
-        if !add_given(totals, count, multipliers[i], &rows[i], column) {
+        if !add_row(totals, count, multipliers[i], &rows[i], column) {
             return false;
         }
     }
@@ -102,21 +103,28 @@ fn add_known(
 ) -> bool
     requires size { count ≤ length totals.old }
     requires some { 0 < count }
-    requires few { count ≤ 32 }
+    requires few { count ≤ 576 }
+    requires held { AreHeld count totals.old }
     ensures size { length totals.new ≡ length totals.old }
     ensures told { let k = built row.now in AreTold result count
         (λ i. KnownHeld k (further column i) × IsAddedHeld (get_or totals.old i (pos 0)) multiplier (known_number k (further column i)))
         (λ i. get_or totals.old i (pos 0) +ℤ multiplier *ℤ known_number k (further column i)) totals.new }
 {
     let mut numbers = [0; BLOCK];
+    if let Built::Denied(inner) = row {
+        if !read_numbers(inner, column, count, &mut numbers) {
+            return false;
+        }
+        let denial = Denial {
+            column,
+            numbers: &numbers,
+        };
+        return add_each(totals, count, multiplier, &denial);
+    }
     if !read_numbers(row, column, count, &mut numbers) {
         return false;
     }
-    let products = Products {
-        factor: multiplier,
-        numbers: &numbers,
-    };
-    change_each(totals, count, &products)
+    add_each(totals, count, multiplier, &Read(&numbers))
 }
 
 /// Whether so many rows are known at the place.

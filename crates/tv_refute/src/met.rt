@@ -26,7 +26,7 @@ pub fn meets(values: &[i128], row: &Row) -> bool
         low: 0,
     };
     for i in 0..values.len() {
-        total = plus(i, total, product(coefficients[i], values[i]));
+        total = plus(i, total, product(i128::from(coefficients[i]), values[i]));
     }
     is_at_most_zero(plus(values.len(), total, product(row.constant(), 1)))
 }

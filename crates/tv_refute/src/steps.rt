@@ -1,10 +1,10 @@
-//! What becomes of numbers, for several columns at once.
+//! What becomes of numbers, for many columns at once.
 
-ghost use Rattle.std.specs.Prelude.{◌≡◌, ◌≤◌, ℕ, ℤ, pos, ◌+ℤ◌, ◌*ℤ◌, Option, SomeIff, length, get_or};
+ghost use Rattle.std.specs.Prelude.{◌≡◌, ◌≤◌, ℕ, ℤ, pos, ◌+ℤ◌, Option, SomeIff, length, get_or};
 ghost use Rattle.tv_linear.specs.Fits.{IsHeld};
-ghost use Rattle.tv_refute.specs.Blocks.{AreTold, IsAddedHeld, DenialHeld, denial, LessHeld, lessened};
+ghost use Rattle.tv_refute.specs.Blocks.{AreTold, DenialHeld, denial, LessHeld, lessened};
 
-use tv_linear::held::{add_product, difference, opposite, sum};
+use tv_linear::held::{difference, opposite, sum};
 
 /// What becomes of the number at a place, where it can be told.
 pub(crate) trait Step {
@@ -33,7 +33,17 @@ pub(crate) fn change_each<S: Step>(numbers: &mut [i128], count: usize, step: &S)
 }
 
 /// The number of a list at a place, 0 past it.
-fn at(numbers: &[i128], k: usize) -> i128
+pub(crate) fn at(numbers: &[i64], k: usize) -> i128
+    ensures { result ≡ get_or numbers.now k (pos 0) }
+{
+    match numbers.get(k) {
+        None => 0,
+        Some(number) => i128::from(*number),
+    }
+}
+
+/// The same of a list of numbers that were read.
+pub(crate) fn read_at(numbers: &[i128], k: usize) -> i128
     ensures { result ≡ get_or numbers.now k (pos 0) }
 {
     match numbers.get(k) {
@@ -44,7 +54,7 @@ fn at(numbers: &[i128], k: usize) -> i128
 
 /// The numbers of a list are put.
 #[derive(Drop)]
-pub(crate) struct Put<'a>(pub(crate) &'a [i128]);
+pub(crate) struct Put<'a>(pub(crate) &'a [i64]);
 
 impl Step for Put<'_> {
     ghost told = { λ p k old. Unit {0} };
@@ -70,40 +80,6 @@ impl Step for PutSame {
     }
 }
 
-/// The products of a factor and the numbers of a list are added.
-#[derive(Drop)]
-pub(crate) struct Products<'a> {
-    pub(crate) factor: i128,
-    pub(crate) numbers: &'a [i128],
-}
-
-impl Step for Products<'_> {
-    ghost told = { λ p k old. IsAddedHeld old p.factor (get_or p.numbers.now k (pos 0)) };
-
-    ghost value = { λ p k old. old +ℤ p.factor *ℤ get_or p.numbers.now k (pos 0) };
-
-    fn next(&self, k: usize, old: i128) -> Option<i128> {
-        add_product(old, self.factor, at(self.numbers, k))
-    }
-}
-
-/// One product is added everywhere.
-#[derive(Drop)]
-pub(crate) struct SameProduct {
-    pub(crate) factor: i128,
-    pub(crate) number: i128,
-}
-
-impl Step for SameProduct {
-    ghost told = { λ p k old. IsAddedHeld old p.factor p.number };
-
-    ghost value = { λ p k old. old +ℤ p.factor *ℤ p.number };
-
-    fn next(&self, _: usize, old: i128) -> Option<i128> {
-        add_product(old, self.factor, self.number)
-    }
-}
-
 /// One number is added everywhere.
 #[derive(Drop)]
 pub(crate) struct SameMore(pub(crate) i128);
@@ -115,6 +91,16 @@ impl Step for SameMore {
 
     fn next(&self, _: usize, old: i128) -> Option<i128> {
         sum(old, self.0)
+    }
+}
+
+/// The number of a denied row in a column, or its constant.
+pub(crate) fn denied(column: Option<usize>, number: i128) -> Option<i128>
+    ensures { SomeIff result (DenialHeld column number) (denial column number) }
+{
+    match column {
+        None => difference(1, number),
+        Some(_) => opposite(number),
     }
 }
 
@@ -130,10 +116,7 @@ impl Step for Deny {
     ghost value = { λ d k old. denial d.column old };
 
     fn next(&self, _: usize, old: i128) -> Option<i128> {
-        match self.column {
-            None => difference(1, old),
-            Some(_) => opposite(old),
-        }
+        denied(self.column, old)
     }
 }
 
@@ -151,7 +134,7 @@ impl Step for Lessen<'_> {
     ghost value = { λ l k old. lessened l.column l.more old (get_or l.second.now k (pos 0)) };
 
     fn next(&self, k: usize, old: i128) -> Option<i128> {
-        match difference(old, at(self.second, k)) {
+        match difference(old, read_at(self.second, k)) {
             None => None,
             Some(less) => match self.column {
                 None => sum(less, self.more),

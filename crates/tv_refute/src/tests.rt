@@ -9,7 +9,7 @@ use tv_linear::{CoverTree, Row, Update};
 fn row(alloc: Global, coefficients: &[i128], constant: i128) -> Result<Row, Fail>
     requires { length coefficients.now < 2 ^ 32 - 1 }
 {
-    let row = Row::new(Vec::from_slice(alloc, coefficients)?, constant).ok_or("wide")?;
+    let row = Row::new(alloc, coefficients, constant)?.ok_or("wide")?;
     Ok(row)
 }
 

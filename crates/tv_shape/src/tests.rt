@@ -140,7 +140,7 @@ fn is_misshapen(made: &Result<Certificate, ShapeFault>, at: u32) -> bool {
 
 /// The term `c * x + k`.
 fn term(alloc: Global, coefficient: i128, constant: i128) -> Result<Row, Fail> {
-    let row = Row::new(Vec::from_slice(alloc, &[coefficient])?, constant).ok_or("wide")?;
+    let row = Row::new(alloc, &[coefficient], constant)?.ok_or("wide")?;
     Ok(row)
 }
 

@@ -24,7 +24,7 @@ type Numbers = [i128; 2];
 
 fn row(alloc: Global, numbers: Numbers) -> Result<Row, Fail> {
     let [coefficient, constant] = numbers;
-    let row = Row::new(Vec::from_slice(alloc, &[coefficient])?, constant).ok_or("wide")?;
+    let row = Row::new(alloc, &[coefficient], constant)?.ok_or("wide")?;
     Ok(row)
 }
 

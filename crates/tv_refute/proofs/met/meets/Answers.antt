@@ -1,5 +1,5 @@
-use Rattle.std.proofs.Common.{arith, rules, ap, subst, length, get_or, pos, ◌≡◌, ◌↔◌, ◌*ℤ◌, ◌≤ℤ◌, FitsSigned}
-use Rattle.std.specs.Int.{w128}
+use Rattle.std.proofs.Common.{arith, rules, ap, subst, length, get_or, pos, ◌≡◌, ◌∙◌, ◌↔◌, ◌*ℤ◌, ◌≤ℤ◌, FitsSigned}
+use Rattle.std.specs.Int.{w64, w128}
 use Rattle.std.proofs.lemmas.Int.{ints, to_z-of_z}
 use Rattle.std.specs.Prelude.{IsTrue}
 use Rattle.tv_linear.specs.Linear.{dot, value}
@@ -11,9 +11,12 @@ pub loop-i-preserved : goal.loop-i-preserved
 loop-i-preserved c =
     let cs = c.coefficients-coefficients.result.now in
     let xs = c.args.values.now in
-    let factor_fits : FitsSigned w128 (get_or c.coefficients-coefficients.result.now c.loop-i.i (pos 0)) = search rules in
+    let listed_fits : FitsSigned w64 (get_or c.coefficients-coefficients.result.now c.loop-i.i (pos 0)) = search rules in
+    let factor_fits : FitsSigned w128 c.from.result = search rules in
+    let factor_is : c.from.result ≡ get_or cs c.loop-i.i (pos 0) = simp to_z-of_z at c.from.ensures in
     let value_fits : FitsSigned w128 (get_or c.args.values.now c.loop-i.i (pos 0)) = search rules in
-    let product : whole_of c.product.result ≡ get_or cs c.loop-i.i (pos 0) *ℤ get_or xs c.loop-i.i (pos 0) = simp to_z-of_z at c.product.ensures.whole in
+    let times : whole_of c.product.result ≡ c.from.result *ℤ get_or xs c.loop-i.i (pos 0) = simp to_z-of_z at c.product.ensures.whole in
+    let product : whole_of c.product.result ≡ get_or cs c.loop-i.i (pos 0) *ℤ get_or xs c.loop-i.i (pos 0) = times ∙ ap (λ z. z *ℤ get_or xs c.loop-i.i (pos 0)) factor_is in
     let counted = ap length c.coefficients-coefficients.ensures.is in
     record {
       summed = summed_more cs xs c.loop-i.i (whole_of c.loop-i.total) (whole_of c.product.result) (whole_of c.plus-total.result) (omega (arith, counted)) c.loop-i-test.true c.loop-i.invariant.summed product c.plus-total.ensures.whole;

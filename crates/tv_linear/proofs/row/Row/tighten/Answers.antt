@@ -1,5 +1,5 @@
 use Rattle.std.proofs.Common.{◌≡◌, rules, to_z, of_z}
-use mir.Syntax.{w128}
+use mir.Syntax.{w64}
 use Rattle.tv_linear.specs.Linear.{linear}
 use Rattle.tv_linear.specs.Tight.{divisor}
 use Rattle.tv_linear.proofs.Tightened.{tight-same_points, tight-tightened, tight-copied}
@@ -7,7 +7,7 @@ use Rattle.tv_linear.proofs.row.Row.tighten.Goals as goal
 
 pub returns-clause-same_points : goal.returns-clause-same_points
 returns-clause-same_points c =
-    tight-same_points c.args.self.now (linear c.in_ok-all_rounded_up.field-0.items (to_z w128 (of_z w128 c.rounded_up.result))) (search rules)
+    tight-same_points c.args.self.now (linear c.in_ok-all_rounded_up.field-0.items (to_z w64 (of_z w64 c.rounded_up.result))) (search rules)
 
 pub returns-then-divisor-eq0-clause-divided : goal.returns-then-divisor-eq0-clause-divided
 returns-then-divisor-eq0-clause-divided c =
@@ -16,4 +16,4 @@ returns-then-divisor-eq0-clause-divided c =
 
 pub returns-clause-divided : goal.returns-clause-divided
 returns-clause-divided c =
-    tight-tightened c.args.self.now (linear c.in_ok-all_rounded_up.field-0.items (to_z w128 (of_z w128 c.rounded_up.result))) (search rules)
+    tight-tightened c.args.self.now (linear c.in_ok-all_rounded_up.field-0.items (to_z w64 (of_z w64 c.rounded_up.result))) (search rules)
