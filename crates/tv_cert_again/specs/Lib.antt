@@ -1,0 +1,4 @@
+pub mod CoverValues
+pub mod ChoiceValues
+pub mod NodeValues
+pub mod CertificateValues
