@@ -1,15 +1,16 @@
 #!/usr/bin/env bash
 # How long the built program takes to read a certificate of up to 16 MiB and to check it, and how much memory: an invariant over many
-# variables, most of whose text is rows, and one over few, most of whose text is short lines. Beside it a plain scan of the same lines,
-# which takes one product and one sum for each number. The best of 3 runs, start and reading of the input counted.
-# Build both first: (cd crates/t2verdict && rt run < stdin -- $(cat args)) and (cd crates/reading_bench && rt run -- sum < stdin)
+# variables, most of whose text is rows, and one over few, most of whose text is lines of multipliers. Beside it a plain scan of the same
+# lines, which takes one product and one sum for each number. The best of 5 runs, start and reading of the input counted. First with the
+# heading of a certificate alone, which takes what the program and its cases take; then what comes on top is told.
+# It needs /usr/bin/time, and what is built first by (cd crates/t2verdict && rt run < stdin -- $(cat args)) and
+# (cd crates/reading_bench && rt run -- sum < stdin).
 set -eu
 cd "$(dirname "$0")/.."
-exec python3 - crates/t2verdict/out/t2verdict crates/reading_bench/out/reading_bench <<'END_OF_PROGRAM'
-import os, subprocess, sys, tempfile, time
-
-CHECKER, SCANNER = sys.argv[1], sys.argv[2]
-
+folder=$(mktemp -d)
+trap 'rm -r "$folder"' EXIT
+python3 - "$folder" <<'END_OF_TEXTS'
+import sys
 
 def line(word, numbers):
     return word + "".join(f" {number}" for number in numbers)
@@ -54,35 +55,60 @@ def certificate_of(variables, locations, edges, kept, met):
     return lines + ["into 0 0", "end"]
 
 
-def run(words, text):
-    with open(text) as given:
-        before = time.monotonic()
-        child = subprocess.Popen(words, stdin=given, stdout=subprocess.PIPE)
-        answer = child.stdout.read().decode().strip()
-        _, _, used = os.wait4(child.pid, 0)
-        return time.monotonic() - before, answer, used.ru_maxrss // 1024
-
-
-def best(words, text):
-    runs = [run(words, text) for _ in range(3)]
-    return min(run[0] for run in runs), runs[0][1], max(run[2] for run in runs)
-
-
 for name, variables, locations, count, kept in [
-    ("512 variables, 4,096 edges", 512, 1023, 4096, 13),
-    ("512 variables, 1,024 edges", 512, 256, 1024, 13),
-    ("16 variables, 4,096 edges", 16, 1023, 4096, 16),
-    ("4 variables, 4,096 edges", 4, 1023, 4096, 4),
+    ("1", 512, 1023, 4096, 13),
+    ("2", 512, 256, 1024, 13),
+    ("3", 16, 1023, 4096, 16),
+    ("4", 4, 1023, 4096, 4),
 ]:
     edges = edges_of(variables, locations, count)
     program = program_of(variables, edges)
-    for what, met in [("read", False), ("read and checked", True)]:
-        certificate = certificate_of(variables, locations, edges, kept, met)
-        with tempfile.NamedTemporaryFile("w") as file:
+    texts = {"bare": ["CERTIFICATE:"]}
+    texts["read"] = certificate_of(variables, locations, edges, kept, False)
+    texts["checked"] = certificate_of(variables, locations, edges, kept, True)
+    for what, certificate in texts.items():
+        with open(f"{sys.argv[1]}/{name}.{what}", "w") as file:
             file.write("\n".join(program + certificate) + "\n")
-            file.flush()
-            size = sum(len(text) + 1 for text in certificate) / 2**20
-            seconds, answer, memory = best([CHECKER, "--check", "--safety", "bad"], file.name)
-            scan, counted, _ = best([SCANNER, "numbers"], file.name)
-        print(f"{name}, {what}: {answer.splitlines()[0]}, {size:.1f} MiB, {seconds * 1000:.0f} ms, {size / seconds:.1f} MiB/s, {memory} MB; scan {scan * 1000:.0f} ms ({counted.split(',')[0]}), ratio {seconds / scan:.2f}", flush=True)
-END_OF_PROGRAM
+END_OF_TEXTS
+python3 - crates/t2verdict/out/t2verdict crates/reading_bench/out/reading_bench "$folder" <<'END_OF_RUNS'
+import os, subprocess, sys, time
+
+CHECKER, SCANNER, FOLDER = sys.argv[1:]
+
+
+def run(words, text):
+    """The time, the answer and the most memory held, in MiB."""
+    with open(text) as given:
+        before = time.monotonic()
+        ended = subprocess.run(["/usr/bin/time", "-f", "%M", *words], stdin=given, capture_output=True, text=True)
+        spent = time.monotonic() - before
+    return spent, ended.stdout.splitlines()[0], int(ended.stderr.split()[-1]) / 1024
+
+
+def best(words, text):
+    runs = [run(words, text) for _ in range(5)]
+    return min(run[0] for run in runs), runs[0][1], max(run[2] for run in runs)
+
+
+for name, told in [
+    ("1", "512 variables, 4,096 edges"),
+    ("2", "512 variables, 1,024 edges"),
+    ("3", "16 variables, 4,096 edges"),
+    ("4", "4 variables, 4,096 edges"),
+]:
+    text = f"{FOLDER}/{name}"
+    size = (os.path.getsize(f"{text}.checked") - os.path.getsize(f"{text}.bare")) / 2**20
+    scan, counted, _ = best([SCANNER, "numbers"], f"{text}.checked")
+    print(f"{told}: {size:.1f} MiB, {counted.split(',')[0]}, scan {scan * 1000:.0f} ms", flush=True)
+    spent, held = 0, 0
+    for what in ("bare", "read", "checked"):
+        seconds, answer, memory = best([CHECKER, "--check", "--safety", "bad"], f"{text}.{what}")
+        more = seconds - spent
+        shown = f"{seconds * 1000:.0f} ms, {memory:.0f} MiB"
+        if what == "read":
+            shown += f"; more: {more * 1000:.0f} ms ({size / more:.0f} MiB/s, {more / scan:.2f} scans), {(memory - held) / size:.1f} times the text"
+        if what == "checked":
+            shown += f"; more: {more * 1000:.0f} ms ({more / scan:.2f} scans)"
+        print(f"  {what}: {answer}: {shown}", flush=True)
+        spent, held = seconds, memory
+END_OF_RUNS
