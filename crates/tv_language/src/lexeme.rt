@@ -5,6 +5,7 @@ ghost use Rattle.tv_language.specs.Symbols.{lexeme, is_name, is_label, is_colon}
 use tv_tokens::{Token, TokenKind};
 
 /// The bytes of a token of the text.
+#[inline(always)]
 pub fn word_of(text: &[u8], token: Token) -> &[u8]
     ensures { result.now ≡ (lexeme text.now token).word }
 {
@@ -14,6 +15,7 @@ pub fn word_of(text: &[u8], token: Token) -> &[u8]
 }
 
 /// The number that digits write, where it is below 2^62.
+#[inline(always)]
 pub fn number_of(digits: &[u8]) -> Option<i128>
     ensures { MatchOption result (2 ^ 62 ≤ value_of_digits digits.now)
         (λ n. (n ≡ pos (value_of_digits digits.now)) × (value_of_digits digits.now < 2 ^ 62)) }
@@ -29,6 +31,7 @@ pub fn number_of(digits: &[u8]) -> Option<i128>
 }
 
 /// Whether it is a name, which is no reserved word.
+#[inline(always)]
 pub fn is_name(kind: TokenKind) -> bool
     ensures { result ≡ is_name kind }
 {
@@ -36,6 +39,7 @@ pub fn is_name(kind: TokenKind) -> bool
 }
 
 /// Whether a label is of this kind: a name or a number.
+#[inline(always)]
 pub fn is_label(kind: TokenKind) -> bool
     ensures { result ≡ is_label kind }
 {
@@ -43,6 +47,7 @@ pub fn is_label(kind: TokenKind) -> bool
 }
 
 /// Whether a label follows.
+#[inline(always)]
 pub fn is_colon(kind: TokenKind) -> bool
     ensures { result ≡ is_colon kind }
 {

@@ -1,5 +1,6 @@
-use crate::{is_colon, is_label, is_name, number_of, word_of};
+use crate::{Recent, behind, find_near, is_colon, is_label, is_name, number_of, word_of};
 use std::test::Fail;
+use tv_program::Names;
 use tv_tokens::{Token, TokenKind};
 
 #[test]
@@ -37,6 +38,24 @@ fn names_and_numbers_are_labels(rt: HostRuntime) -> Result<(), Fail> {
         assert_eq!(rt;
             (is_name(kind), is_label(kind), is_colon(kind)),
             (name, label, colon)
+        );
+    }
+    Ok(())
+}
+
+#[test]
+fn words_are_found_near_and_far(rt: HostRuntime) -> Result<(), Fail> {
+    let mut names = Names::new(rt.alloc());
+    names.put(b"a")?;
+    assert!(rt; names.len() < 100);
+    names.put(b"b")?;
+    let recent = behind(Recent { last: 5, before: 6 }, 1);
+    assert_eq!(rt; (recent.last, recent.before), (1, 5));
+    for (word, number) in [("a", Some(0)), ("b", Some(1)), ("c", None)] {
+        assert_eq!(rt;
+            find_near(&names, recent, word.as_bytes()),
+            number,
+            "{word}"
         );
     }
     Ok(())

@@ -23,6 +23,9 @@ use tv_language::word_of;
 use tv_program::{Command, Edge};
 use tv_tokens::TokenKind;
 
+/// There is room for so many commands before their list grows.
+const ROOM: usize = 32;
+
 #[inline(always)]
 fn with_command(
     commands: Vec<Command>,
@@ -65,6 +68,7 @@ impl Reader<'_> {
     }
 
     /// `:= sum ;`
+    #[inline(always)]
     fn assignment(&mut self, variable: u32) -> Result<Command, Reason>
         requires steady { IsSteady self.old }
         requires behind { self.old.behind_colon ≡ false }
@@ -83,6 +87,7 @@ impl Reader<'_> {
     }
 
     /// The number of the variable that the next token names, where it is one of those that have a number.
+    #[inline(always)]
     fn variable(&self) -> Option<u32>
         requires steady { IsSteady self.now }
         requires behind { self.now.behind_colon ≡ false }
@@ -123,6 +128,7 @@ impl Reader<'_> {
     }
 
     /// Adds the assignment behind its variable.
+    #[inline(always)]
     fn assigned(&mut self, variable: u32, commands: Vec<Command>) -> Result<Vec<Command>, Reason>
         requires steady { IsSteady self.old }
         requires behind { self.old.behind_colon ≡ false }
@@ -139,6 +145,7 @@ impl Reader<'_> {
     }
 
     /// Adds one command, if one comes.
+    #[inline(always)]
     fn command(&mut self, commands: Vec<Command>) -> Result<Turn<Vec<Command>>, Reason>
         requires steady { IsSteady self.old }
         requires behind { self.old.behind_colon ≡ false }
@@ -181,7 +188,7 @@ impl Reader<'_> {
         ensures colon { OnOk result (self.new.behind_colon ≡ false) }
         ensures fits { IfOk result (λ cs. CommandsFit self.new cs) }
     {
-        let mut commands = Vec::new(self.alloc);
+        let mut commands = Vec::with_capacity(self.alloc, ROOM)?;
         'turns: loop {
             match self.command(commands)? {
                 Turn::On(more) => commands = more,

@@ -49,6 +49,7 @@ fn reason_of(fault: PartFault) -> Reason
 
 impl<'a> Reader<'a> {
     /// What the next token is.
+    #[inline(always)]
     pub fn kind(&self) -> TokenKind
         ensures { result ≡ next_kind self.now }
     {
@@ -56,6 +57,7 @@ impl<'a> Reader<'a> {
     }
 
     /// Takes the next token.
+    #[inline(always)]
     pub fn advance(&mut self)
         requires steady { IsSteady self.old }
         requires passing { is_passing (next_kind self.old) ≡ true }
@@ -85,6 +87,7 @@ impl<'a> Reader<'a> {
     }
 
     /// Takes a token of this kind.
+    #[inline(always)]
     pub fn expect(&mut self, kind: TokenKind) -> Result<(), Reason>
         requires steady { IsSteady self.old }
         requires constant { is_fixed kind ≡ true }
@@ -145,6 +148,7 @@ impl<'a> Reader<'a> {
     }
 
     /// A sum.
+    #[inline(always)]
     pub fn sum(&mut self) -> Result<Expr, Reason>
         requires steady { IsSteady self.old }
         requires behind { self.old.behind_colon ≡ false }

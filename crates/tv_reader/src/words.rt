@@ -23,6 +23,7 @@ pub struct Known {
 }
 
 /// Adds a word, where fewer than `most` are there.
+#[inline(always)]
 fn put_within(names: &mut Names, word: &[u8], most: u32) -> Result<(), AllocError>
     requires few { most ≤ 1024 }
     requires within { length names.old ≤ most }
@@ -36,6 +37,7 @@ fn put_within(names: &mut Names, word: &[u8], most: u32) -> Result<(), AllocErro
 }
 
 /// Adds the word of a token, if it is a name or a label.
+#[inline(always)]
 fn put_word(
     known: &mut Known,
     behind_colon: bool,

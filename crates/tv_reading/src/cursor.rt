@@ -10,34 +10,43 @@ use crate::marks::{
 };
 use crate::source::Source;
 use std::alloc::AllocError;
-use tv_language::word_of;
+use tv_language::{Recent, behind, find_near, word_of};
 use tv_program::Names;
 use tv_tokens::{Token, TokenKind};
 
-/// How many tokens are taken, and the names and draws up to there.
+/// How many tokens are taken, the names and draws up to there, and the names that were taken last.
 #[derive(Drop)]
 pub struct Cursor {
     pub at: u32,
     pub names: Names,
     pub draws: u32,
+    pub recent: Recent,
 }
 
 /// A name, told those that are known.
-fn name(grows: bool, names: &Names, word: &[u8]) -> Part
+#[inline(always)]
+fn name(grows: bool, names: &Names, recent: Recent, word: &[u8]) -> Part
     ensures { mark_of result ≡ name_mark grows word.now names.now }
 {
+    let number = find_near(names, recent, word);
     if grows {
-        new_name(names.find(word), names.len())
+        new_name(number, names.len())
     } else {
-        known_name(is_formula_word(word), names.find(word))
+        known_name(is_formula_word(word), number)
     }
 }
 
+#[inline(always)]
 fn see(source: &Source, cursor: &Cursor, token: Token) -> Part
     ensures { mark_of result ≡ mark_by source.now.grows cursor.now.names cursor.now.draws token.kind (lexeme source.now.text.now token).word }
 {
     match token.kind {
-        TokenKind::Name => name(source.grows, &cursor.names, word_of(source.text, token)),
+        TokenKind::Name => name(
+            source.grows,
+            &cursor.names,
+            cursor.recent,
+            word_of(source.text, token),
+        ),
         TokenKind::Number => number(word_of(source.text, token)),
         TokenKind::Nondet => draw(source.grows, cursor.draws),
         kind => Part::Fixed(kind),
@@ -68,6 +77,7 @@ pub fn peek(source: &Source, cursor: &Cursor) -> Option<Part>
 }
 
 /// The kind of a token that is neither a number, nor a name, nor a draw.
+#[inline(always)]
 pub fn kind_of(part: Option<Part>) -> TokenKind
     ensures { result ≡ kind_at (option_map mark_of part) }
 {
@@ -175,6 +185,7 @@ pub fn pass_name(source: &Source, cursor: &mut Cursor, number: u32) -> Result<()
     match current(source.list, cursor.at) {
         Some(token) => {
             count_name(source, &mut cursor.names, &mut cursor.draws, token, number)?;
+            cursor.recent = behind(cursor.recent, number);
             cursor.at += 1;
         }
         None => {}

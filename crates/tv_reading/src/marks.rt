@@ -28,6 +28,7 @@ pub const MOST_NAMES: u32 = 512;
 pub const MOST_DRAWS: u32 = 64;
 
 /// A name where names are added: its number, or that of the next one.
+#[inline(always)]
 pub fn new_name(number: Option<u32>, count: u32) -> Part
     ensures { mark_of result ≡ new_name number count }
 {
@@ -44,6 +45,7 @@ pub fn new_name(number: Option<u32>, count: u32) -> Part
 }
 
 /// A name where none is added.
+#[inline(always)]
 pub fn known_name(reserved: bool, number: Option<u32>) -> Part
     ensures { mark_of result ≡ known_name reserved number }
 {
@@ -56,6 +58,7 @@ pub fn known_name(reserved: bool, number: Option<u32>) -> Part
     }
 }
 
+#[inline(always)]
 fn is_word(word: &[u8], other: &[u8]) -> bool
     ensures { result ≡ bytes_eq word.now other.now }
 {
@@ -63,6 +66,7 @@ fn is_word(word: &[u8], other: &[u8]) -> bool
 }
 
 /// Whether the word is one of the two of formulas that are no names there.
+#[inline(always)]
 pub fn is_formula_word(word: &[u8]) -> bool
     ensures { result ≡ is_formula_word word.now }
 {
@@ -70,6 +74,7 @@ pub fn is_formula_word(word: &[u8]) -> bool
 }
 
 /// The word `nondet`, told how many draws there are before it.
+#[inline(always)]
 pub fn draw(grows: bool, draws: u32) -> Part
     ensures { mark_of result ≡ draw_mark grows draws }
 {
@@ -83,6 +88,7 @@ pub fn draw(grows: bool, draws: u32) -> Part
 }
 
 /// The number that digits write.
+#[inline(always)]
 pub fn number(digits: &[u8]) -> Part
     ensures { mark_of result ≡ number_mark (value_of_digits digits.now) }
 {

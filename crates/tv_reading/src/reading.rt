@@ -23,6 +23,7 @@ use crate::source::Source;
 use crate::sums::sum;
 use std::alloc::Global;
 use std::marker::Model;
+use tv_language::Recent;
 use tv_program::{Cond, Expr, Names};
 use tv_tokens::{Token, TokenKind};
 
@@ -46,6 +47,7 @@ impl<'a> Model for Reading<'a> {
 }
 
 /// How many levels a sum may open.
+#[inline(always)]
 fn sum_levels(level: u32) -> u32
     ensures { result ≡ 64 - level }
 {
@@ -123,11 +125,13 @@ impl<'a> Reading<'a> {
                 at: 0,
                 names,
                 draws: 0,
+                recent: Recent { last: 0, before: 1 },
             },
         }
     }
 
     /// The next token.
+    #[inline(always)]
     pub fn peek(&self) -> Token
         ensures { result ≡ token_at self.now }
     {
@@ -139,6 +143,7 @@ impl<'a> Reading<'a> {
     }
 
     /// Takes one token; the last one stays. A name that is taken is not added.
+    #[inline(always)]
     pub fn take(&mut self)
         ensures { self.new ≡ taken self.old }
     {
@@ -148,6 +153,7 @@ impl<'a> Reading<'a> {
     }
 
     /// How many tokens are taken.
+    #[inline(always)]
     pub fn place(&self) -> u32
         ensures { result ≡ self.now.at }
     {
@@ -155,6 +161,7 @@ impl<'a> Reading<'a> {
     }
 
     /// The names that are known.
+    #[inline(always)]
     pub fn names(&self) -> &Names
         ensures { result.now ≡ self.now.names }
     {
@@ -162,6 +169,7 @@ impl<'a> Reading<'a> {
     }
 
     /// How many draws were come by since the edge began.
+    #[inline(always)]
     pub fn draws(&self) -> u32
         ensures { result ≡ self.now.draws }
     {
@@ -180,6 +188,7 @@ impl<'a> Reading<'a> {
     }
 
     /// Begins an edge, whose draws are counted from 0.
+    #[inline(always)]
     pub fn edge(&mut self)
         ensures { self.new ≡ at_edge self.old }
     {
@@ -221,6 +230,7 @@ impl<'a> Reading<'a> {
         self.read_name()
     }
 
+    #[inline(always)]
     fn read_sum(&mut self) -> Result<Expr, PartFault>
         ensures reads { IsRead expression result self.new ((sum_at every (sum_levels self.old) true).read (left self.old)) }
         ensures passed { Passes self.old self.new }
@@ -246,6 +256,7 @@ impl<'a> Reading<'a> {
     /// The longest front that is a sum: it is read on as long as its next token can go on.
     ///
     /// The time is linear in the tokens that are passed.
+    #[inline(always)]
     pub fn sum(&mut self) -> Result<Expr, PartFault>
         // What is passed is a sum, and none begins with it and the next token.
         ensures found { IfOk result (λ e. IsLongest (IsSum (sum_levels self.old)) (expression e) (left self.old) (left self.new)) }

@@ -72,6 +72,7 @@ pub fn run_of(alloc: Global, made: Made) -> Result<Run, AllocError>
     Ok(Run { parts, named })
 }
 
+#[inline(always)]
 fn either(first: bool, second: bool) -> bool
     ensures { result ≡ (first || second) }
 {

@@ -71,6 +71,7 @@ fn section(whole: TokenKind, bare: TokenKind, len: usize, more: Option<usize>) -
 }
 
 /// What a word of `len` bytes is, with the text behind it.
+#[inline(always)]
 fn word_front(kind: TokenKind, len: usize, rest: &[u8], reach: Reach) -> Front
     requires positive { 0 < len }
     requires short { len + length rest.now + 1 < 2 ^ 32 }
@@ -99,6 +100,7 @@ fn word_front(kind: TokenKind, len: usize, rest: &[u8], reach: Reach) -> Front
 }
 
 /// The number at the front.
+#[inline(always)]
 fn number_front(text: &[u8]) -> Front
     requires { IsTrue (is_ascii_digit (slice_index text.now 0)) }
     ensures exact { result ≡ number_front (prefix_len is_ascii_digit text.now) (take (prefix_len is_ascii_digit text.now) text.now) }
@@ -114,6 +116,7 @@ fn number_front(text: &[u8]) -> Front
 }
 
 /// The first byte, 0 where there is none.
+#[inline(always)]
 fn first_byte(text: &[u8]) -> u8
     ensures exact { result ≡ slice_index text.now 0 }
     ensures some { 0 < result → 0 < length text.now }
@@ -125,6 +128,7 @@ fn first_byte(text: &[u8]) -> u8
 }
 
 /// The symbol of two bytes or of the first of them.
+#[inline(always)]
 fn symbol_front(byte: u8, after: u8) -> Front
     ensures exact { result ≡ symbol_front byte after }
     ensures fits { (len : ℕ) → 0 < len → (0 < after → 1 < len) → Fits len result }
@@ -142,6 +146,7 @@ fn symbol_front(byte: u8, after: u8) -> Front
 }
 
 /// The symbol of one byte.
+#[inline(always)]
 fn single_front(byte: u8) -> Front
     ensures exact { result ≡ single_front byte }
     ensures fits { (len : ℕ) → 0 < len → Fits len result }
@@ -164,6 +169,7 @@ fn single_front(byte: u8) -> Front
 }
 
 /// The word at the front.
+#[inline(always)]
 fn name_front(text: &[u8], rest: &[u8], reach: Reach) -> Front
     requires text { (byte : ℕ) × (text.now ≡ byte ∷ rest.now) }
     requires short { length text.now + 1 < 2 ^ 32 }
@@ -184,6 +190,7 @@ fn name_front(text: &[u8], rest: &[u8], reach: Reach) -> Front
 
 /// What stands at the front of a text.
 #[tactic(auto, unfolding(crate::specs::Fronts::front_of))]
+#[inline(always)]
 pub fn front_at(text: &[u8], reach: Reach) -> Front
     requires short { length text.now + 1 < 2 ^ 32 }
     requires semicolon { reach.semicolon ≡ end_of_last 59 text.now }

@@ -2,10 +2,12 @@ ghost use Rattle.std.specs.Prelude.{◌≡◌, ℕ, ◌+◌, ◌-◌, ◌^◌, �
 ghost use Rattle.std.specs.List.{prefix_len};
 ghost use Rattle.tv_tokens.specs.Gaps.{is_blank, closing, gap_of, gap_length};
 
+#[inline(always)]
 fn is_blank(byte: u8) -> bool
     ensures { result ≡ is_blank byte }
 {
-    byte == b' ' || byte == b'\t' || byte == b'\r' || byte == b'\n' || byte == 12
+    // Most bytes are no blanks, and pass one test.
+    byte <= b' ' && (byte == b' ' || byte == b'\t' || byte == b'\r' || byte == b'\n' || byte == 12)
 }
 
 /// How many bytes there are up to the end of the first `*/`.
@@ -34,6 +36,7 @@ fn line_length(bytes: &[u8]) -> usize
 }
 
 /// How many bytes the blank or the comment at the front has.
+#[inline(always)]
 pub fn gap(text: &[u8]) -> Option<usize>
     requires { length text.now + 1 < 2 ^ 32 }
     ensures exact { result ≡ gap_of text.now }

@@ -4,6 +4,7 @@ ghost use Rattle.std.specs.Char.{is_ascii_digit};
 ghost use Rattle.tv_tokens.specs.Numbers.{value_of_digits};
 
 /// How many digits stand at the front.
+#[inline(always)]
 pub fn number_length(bytes: &[u8]) -> usize
     ensures exact { result ≡ prefix_len is_ascii_digit bytes.now }
     ensures within { result ≤ length bytes.now }
@@ -15,6 +16,7 @@ pub fn number_length(bytes: &[u8]) -> usize
 }
 
 /// Whether the digits write a number of 2^62 or more.
+#[inline(always)]
 pub fn is_wide(digits: &[u8]) -> bool
     ensures { result ≡ nat_le (2 ^ 62) (value_of_digits digits.now) }
 {

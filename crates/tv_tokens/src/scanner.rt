@@ -1,4 +1,4 @@
-ghost use Rattle.std.specs.Prelude.{◌≡◌, ℕ, ◌+◌, ◌-◌, ◌^◌, ◌<◌, ◌≤◌, ◌==◌, if◌then◌else◌, List, length, IfOk, IfErr, drop, find};
+ghost use Rattle.std.specs.Prelude.{◌≡◌, ℕ, ◌+◌, ◌-◌, ◌^◌, ◌<◌, ◌≤◌, List, length, IfOk, IfErr, drop, find};
 ghost use Rattle.tv_tokens.specs.Fronts.{end_of_last};
 ghost use Rattle.tv_tokens.specs.Tokens.{IsTokens, is_fault, IsAnswer};
 
@@ -6,26 +6,20 @@ use crate::front::{Front, Reach, front_at};
 use crate::token::{Token, TokenFault, TokenKind};
 use std::alloc::{AllocError, Global};
 
-/// The place behind the last such byte, told the place behind those before and one more byte.
-fn end_with(end: usize, place: usize, byte: u8, close: u8) -> usize
-    requires { place < 2 ^ 32 }
-    ensures exact { result ≡ (if byte == close then place + 1 else end) }
-    ensures within { end ≤ place → result ≤ place + 1 }
-{
-    if byte == close { place + 1 } else { end }
-}
-
 /// The place behind the last such byte, 0 where there is none.
 fn end_of_last(text: &[u8], close: u8) -> usize
     requires { length text.now < 2 ^ 32 }
     ensures exact { result ≡ end_of_last close text.now }
     ensures within { result ≤ length text.now }
 {
-    let mut end = 0;
-    for (place, byte) in text.iter().enumerate() {
-        end = end_with(end, place, *byte, close);
+    let mut rest = text;
+    while let [front @ .., byte] = rest {
+        if *byte == close {
+            return rest.len();
+        }
+        rest = front;
     }
-    end
+    0
 }
 
 /// The tokens of a text, up to its end or to the first byte that no token can hold.
@@ -78,6 +72,7 @@ pub fn scan(alloc: Global, text: &[u8]) -> Result<Vec<Token>, AllocError>
 }
 
 /// Whether the token is a wide number or a byte that no token can hold.
+#[inline(always)]
 fn is_fault(token: Token) -> bool
     ensures { result ≡ is_fault token }
 {

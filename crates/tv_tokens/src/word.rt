@@ -5,12 +5,14 @@ ghost use Rattle.tv_tokens.specs.WordTexts.{begins_name, continues_name, word_ki
 
 use crate::token::TokenKind;
 
+#[inline(always)]
 pub fn begins_name(byte: u8) -> bool
     ensures { result ≡ begins_name byte }
 {
     byte.is_ascii_alphabetic() || byte == b'_'
 }
 
+#[inline(always)]
 fn continues_name(byte: u8) -> bool
     ensures { result ≡ continues_name byte }
 {
@@ -23,6 +25,7 @@ fn continues_name(byte: u8) -> bool
 }
 
 /// How many bytes at the front can go on with a name.
+#[inline(always)]
 pub fn name_length(bytes: &[u8]) -> usize
     ensures exact { result ≡ prefix_len continues_name bytes.now }
     ensures within { result ≤ length bytes.now }
@@ -33,6 +36,7 @@ pub fn name_length(bytes: &[u8]) -> usize
         .count()
 }
 
+#[inline(always)]
 fn is_word(word: &[u8], other: &[u8]) -> bool
     ensures { result ≡ bytes_eq word.now other.now }
 {
@@ -40,6 +44,7 @@ fn is_word(word: &[u8], other: &[u8]) -> bool
 }
 
 /// What a word of letters is: a reserved word or a name.
+#[inline(always)]
 pub fn word_kind(word: &[u8]) -> TokenKind
     ensures { result ≡ word_kind word.now }
 {
@@ -62,6 +67,7 @@ pub fn word_kind(word: &[u8]) -> TokenKind
     }
 }
 
+#[inline(always)]
 fn command_kind(word: &[u8]) -> TokenKind
     ensures { result ≡ command_kind word.now }
 {

@@ -8,7 +8,7 @@ use Rattle.tv_reader.proofs.reader.Reader.commands.Goals as goal
 
 pub returns-in_err-more-clause-reads : goal.returns-in_err-more-clause-reads
 returns-in_err-more-clause-reads c =
-    let p = err_from_is_err_and c.from_residual.result c.from_residual.ensures.1 in
+    let p = err_from_is_err_and c.from_residual-in_err-more.result c.from_residual-in_err-more.ensures.1 in
     rw (p.1, p.2) (turn_failed instructions (command_cases every 63) (command_branch every 63) _ (instructions c.turns.commands) (left c.turns.self) (left c.command.new.self) c.turns.invariant.reads c.in_err-more.field-0.0 c.in_err-more.ensures.reads)
 
 pub turns-smaller : goal.turns-smaller
