@@ -50,7 +50,7 @@ struct Showing {
     known: Vec<Row>,
     shown: Vec<Row>,
     updates: Vec<Update>,
-    lists: Vec<Vec<i128>>,
+    lists: Vec<Vec<i64>>,
 }
 
 fn next_count(words: &mut SplitWhitespace<'_>) -> Result<u32, Fault> {
@@ -78,6 +78,20 @@ fn next_numbers(
         numbers.push(next_number(words)?)?;
     }
     Ok(numbers)
+}
+
+/// So many multipliers.
+fn next_multipliers(
+    alloc: Global,
+    words: &mut SplitWhitespace<'_>,
+    count: u32,
+) -> Result<Vec<i64>, Fault> {
+    let mut multipliers = Vec::new(alloc);
+    for _ in 0..count {
+        let word = words.next().ok_or(Fault::Form)?;
+        multipliers.push(word.parse::<i64>().map_err(|_| Fault::Form)?)?;
+    }
+    Ok(multipliers)
 }
 
 /// The row of so many columns that comes next in the text.
@@ -130,7 +144,7 @@ fn showing_of(alloc: Global, words: &mut SplitWhitespace<'_>) -> Result<Showing,
     let assigned = next_count(words)?;
     let updates = next_updates(alloc, words, assigned, columns)?;
     let mut lists = Vec::new(alloc);
-    let multipliers = next_numbers(alloc, words, count.saturating_add(1))?;
+    let multipliers = next_multipliers(alloc, words, count.saturating_add(1))?;
     lists.push(multipliers)?;
     Ok(Showing {
         columns,

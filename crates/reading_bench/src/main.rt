@@ -95,10 +95,10 @@ fn counted(alloc: Global, text: &[u8]) -> Result<String, AllocError>
 }
 
 /// A product and a sum for each number.
-fn added(total: i128, numbers: &[i128]) -> i128 {
+fn added(total: i128, numbers: &[i64]) -> i128 {
     let mut sum = total;
     for number in numbers {
-        sum = sum.wrapping_add(number.wrapping_mul(3));
+        sum = sum.wrapping_add(i128::from(*number).wrapping_mul(3));
     }
     sum
 }

@@ -40,7 +40,7 @@ fn split_of(
 }
 
 /// A refutation of the place by the multipliers of a line, if there are as many as rows.
-fn empty_of(multipliers: Vec<i128>, known: u128, line: u32) -> Result<ChoiceTree, Failure>
+fn empty_of(multipliers: Vec<i64>, known: u128, line: u32) -> Result<ChoiceTree, Failure>
     requires { All IsNarrow multipliers.items }
     ensures { (system : CaseSystem) (piece : Marked) (stop : Bool) (destination : Destination) (left : ℕ) (old new : Cursor) → IsBehind Head.Empty multipliers.items old new → new.taken ≡ line → ReadsChoice system piece stop destination known left old new result }
 {
@@ -140,7 +140,7 @@ impl Context<'_> {
                 if left == 0 {
                     return Err(Failure::Fault(LineKind::Deep, cursor.taken));
                 }
-                let Some(row) = row_of(self.alloc, numbers, self.about.variables())? else {
+                let Some(row) = row_of(numbers, self.about.variables()) else {
                     return Err(Failure::Fault(LineKind::Shape, cursor.taken));
                 };
                 let (below, rows) = (left - 1, known + 1);

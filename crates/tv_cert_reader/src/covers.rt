@@ -16,7 +16,7 @@ use tv_lines::Head;
 use tv_shape::Targets;
 
 /// A number of 32 bits.
-pub fn small(number: i128) -> Option<u32>
+pub fn small(number: i64) -> Option<u32>
     ensures { MatchOption result ((n : ℕ) → number ≡ pos n → n < 2 ^ 32 → ⊥) (λ n. number ≡ pos n) }
 {
     if number < 0 || number >= 1 << 32 {
@@ -27,7 +27,7 @@ pub fn small(number: i128) -> Option<u32>
 }
 
 /// Two numbers of 32 bits.
-fn two_small(numbers: &[i128]) -> Option<(u32, u32)>
+fn two_small(numbers: &[i64]) -> Option<(u32, u32)>
     ensures { MatchOption result ((k j : ℕ) → numbers.now ≡ pos k ∷ pos j ∷ [] → k < 2 ^ 32 → j < 2 ^ 32 → ⊥) (λ x. numbers.now ≡ pos x.0 ∷ pos x.1 ∷ []) }
 {
     let [first, second] = numbers else {
@@ -40,7 +40,7 @@ fn two_small(numbers: &[i128]) -> Option<(u32, u32)>
 }
 
 /// The target and the fall that the numbers name, and how many rows they owe.
-fn target_of(numbers: &[i128], targets: &Targets) -> Option<(u32, u32, usize)>
+fn target_of(numbers: &[i64], targets: &Targets) -> Option<(u32, u32, usize)>
     requires { AreFew targets.now }
     ensures { MatchOption result (NamesNone (counts_of targets.now) numbers.now) (λ x. IsTarget (counts_of targets.now) numbers.now x.0 x.1 x.2) }
 {
@@ -68,7 +68,7 @@ fn split_of(
 }
 
 /// A refutation of the place by the multipliers of a line, if there are as many as rows.
-fn empty_of(multipliers: Vec<i128>, known: u128, line: u32) -> Result<CoverTree, Failure>
+fn empty_of(multipliers: Vec<i64>, known: u128, line: u32) -> Result<CoverTree, Failure>
     requires { All IsNarrow multipliers.items }
     ensures { (width left : ℕ) (counts : ℕ → ℕ → Option ℕ) (old new : Cursor) → IsBehind Head.Empty multipliers.items old new → new.taken ≡ line → ReadsTree width counts known left old new result }
 {
@@ -84,7 +84,7 @@ impl Context<'_> {
     fn entered(
         &self,
         cursor: &mut Cursor,
-        numbers: &[i128],
+        numbers: &[i64],
         known: u128,
         targets: &Targets,
     ) -> Result<CoverTree, Failure>
@@ -123,7 +123,7 @@ impl Context<'_> {
                 if left == 0 {
                     return Err(Failure::Fault(LineKind::Deep, cursor.taken));
                 }
-                let Some(row) = row_of(self.alloc, numbers, width)? else {
+                let Some(row) = row_of(numbers, width) else {
                     return Err(Failure::Fault(LineKind::Shape, cursor.taken));
                 };
                 let holds = self.cover_tree(cursor, left - 1, width, known + 1, targets)?;

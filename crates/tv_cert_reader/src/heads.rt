@@ -1,5 +1,4 @@
-ghost use Rattle.std.specs.Prelude.{◌≡◌, ◌^◌, ◌<◌, ℕ, [], ◌∷◌, pos, All, true, false, MatchOption};
-ghost use Rattle.tv_lines.specs.Numbers.{IsNarrow};
+ghost use Rattle.std.specs.Prelude.{◌≡◌, ◌^◌, ◌<◌, ℕ, [], ◌∷◌, pos, true, false, MatchOption};
 ghost use Rattle.tv_cert.specs.Pieces.{is_go};
 ghost use Rattle.tv_cert_text.specs.CertificateLines.{mark_named};
 ghost use Rattle.tv_cert_reader.specs.Heads.{IsNodeHead, IsPieceHead};
@@ -22,10 +21,10 @@ fn mark_of(head: Head, done: bool) -> Option<Mark>
 }
 
 /// The location that a number names.
-fn place_of(number: i128, locations: u32) -> Option<u32>
+fn place_of(number: i64, locations: u32) -> Option<u32>
     ensures { MatchOption result ((l : ℕ) → number ≡ pos l → l < locations → ⊥) (λ l. (number ≡ pos l) × (l < locations)) }
 {
-    if number < 0 || number >= locations as i128 {
+    if number < 0 || number >= i64::from(locations) {
         None
     } else {
         Some(number as u32)
@@ -33,8 +32,7 @@ fn place_of(number: i128, locations: u32) -> Option<u32>
 }
 
 /// The location and the number of rows of a piece.
-fn place_and_count(numbers: &[i128], locations: u32) -> Option<(u32, u64)>
-    requires { All IsNarrow numbers.now }
+fn place_and_count(numbers: &[i64], locations: u32) -> Option<(u32, u64)>
     ensures { MatchOption result
         ((l count : ℕ) → numbers.now ≡ pos l ∷ pos count ∷ [] → l < locations → ⊥)
         (λ x. (numbers.now ≡ pos x.0 ∷ pos x.1 ∷ []) × (x.0 < locations)) }
@@ -51,11 +49,10 @@ fn place_and_count(numbers: &[i128], locations: u32) -> Option<(u32, u64)>
 /// The mark, the location and the number of rows of a piece with this head and these numbers.
 pub fn piece_head(
     head: Head,
-    numbers: &[i128],
+    numbers: &[i64],
     locations: u32,
     done: bool,
 ) -> Option<(Mark, u32, u64)>
-    requires { All IsNarrow numbers.now }
     ensures { MatchOption result
         ((mark : Mark) (l count : ℕ) → IsPieceHead locations done head numbers.now mark l count → ⊥)
         (λ x. IsPieceHead locations done head numbers.now x.0 x.1 x.2) }
@@ -67,7 +64,7 @@ pub fn piece_head(
 }
 
 /// The number of ranks, which may be some where `ranked` is true.
-fn ranks_of(number: i128, ranked: bool) -> Option<u32>
+fn ranks_of(number: i64, ranked: bool) -> Option<u32>
     ensures { MatchOption result
         ((m : ℕ) → number ≡ pos m → (ranked ≡ false → m ≡ 0) → m < 2 ^ 32 → ⊥)
         (λ m. (number ≡ pos m) × (ranked ≡ false → m ≡ 0)) }
@@ -80,8 +77,7 @@ fn ranks_of(number: i128, ranked: bool) -> Option<u32>
 }
 
 /// How many pieces and ranks a node has.
-fn counts_of(numbers: &[i128], ranked: bool) -> Option<(u64, u32)>
-    requires { All IsNarrow numbers.now }
+fn counts_of(numbers: &[i64], ranked: bool) -> Option<(u64, u32)>
     ensures { MatchOption result
         ((count m : ℕ) → numbers.now ≡ pos count ∷ pos m ∷ [] → (ranked ≡ false → m ≡ 0) → m < 2 ^ 32 → ⊥)
         (λ x. (numbers.now ≡ pos x.0 ∷ pos x.1 ∷ []) × (ranked ≡ false → x.1 ≡ 0)) }
@@ -96,8 +92,7 @@ fn counts_of(numbers: &[i128], ranked: bool) -> Option<(u64, u32)>
 }
 
 /// How many pieces and ranks a node of this kind has, with this head and these numbers.
-pub fn node_head(head: Head, numbers: &[i128], kind: NodeKind, ranked: bool) -> Option<(u64, u32)>
-    requires { All IsNarrow numbers.now }
+pub fn node_head(head: Head, numbers: &[i64], kind: NodeKind, ranked: bool) -> Option<(u64, u32)>
     ensures { MatchOption result
         ((count m : ℕ) → IsNodeHead kind ranked head numbers.now count m → ⊥)
         (λ x. IsNodeHead kind ranked head numbers.now x.0 x.1) }

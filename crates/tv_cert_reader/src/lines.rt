@@ -9,7 +9,7 @@ use tv_cert_grammar::LineKind;
 use tv_lines::{Head, Line};
 
 /// The head and the numbers of the next line.
-pub fn take(alloc: Global, cursor: &mut Cursor) -> Result<(Head, Vec<i128>), Failure>
+pub fn take(alloc: Global, cursor: &mut Cursor) -> Result<(Head, Vec<i64>), Failure>
     ensures line { TakesLine cursor.old cursor.new result }
     ensures fit { IfOk result (λ x. FitsHead x.0 x.1.items) }
 {

@@ -1,9 +1,7 @@
 ghost use Rattle.std.specs.Prelude.{◌≡◌, ◌^◌, ℕ, pos, MatchOption};
-ghost use Rattle.tv_lines.specs.Numbers.{IsNarrow};
 
 /// A number of at least 0 that counts or names something.
-pub fn natural(number: i128) -> Option<u64>
-    requires { IsNarrow number }
+pub fn natural(number: i64) -> Option<u64>
     ensures { MatchOption result ((n : ℕ) → number ≡ pos n → ⊥) (λ n. number ≡ pos n) }
 {
     if number < 0 {

@@ -15,7 +15,7 @@ use crate::sort::Sort;
 use std::alloc::Global;
 use tv_cert::{Aim, Marked, Node, Verdict, piece_at};
 use tv_cert_grammar::LineKind;
-use tv_linear::Cover;
+use tv_linear::{Cover, widened};
 use tv_lines::Head;
 use tv_shape::Targets;
 
@@ -43,10 +43,11 @@ fn values(alloc: Global, cursor: &mut Cursor, count: u32) -> Result<(u64, Vec<i1
         return Err(Failure::Fault(LineKind::Shape, cursor.taken));
     }
     let first = numbers.remove(0);
-    match natural(first) {
-        Some(place) => Ok((place, numbers)),
-        None => Err(Failure::Fault(LineKind::Shape, cursor.taken)),
-    }
+    let Some(place) = natural(first) else {
+        return Err(Failure::Fault(LineKind::Shape, cursor.taken));
+    };
+    let values = widened(alloc, &numbers)?;
+    Ok((place, values))
 }
 
 /// Nothing is left.

@@ -6,7 +6,7 @@ use crate::cursor::Cursor;
 use crate::failure::Failure;
 use crate::lines::take;
 use crate::sort::Sort;
-use std::alloc::{AllocError, Global};
+use std::alloc::Global;
 use tv_cert_grammar::LineKind;
 use tv_linear::Row;
 
@@ -16,7 +16,7 @@ pub fn numbers(
     cursor: &mut Cursor,
     sort: Sort,
     count: u128,
-) -> Result<Vec<i128>, Failure>
+) -> Result<Vec<i64>, Failure>
     ensures { ReadsNumbers sort count cursor.old cursor.new result }
 {
     let (head, numbers) = take(alloc, cursor)?;
@@ -30,19 +30,17 @@ pub fn numbers(
 }
 
 /// The row of these numbers, the last of which is its constant, over so many columns.
-pub fn row_of(alloc: Global, numbers: Vec<i128>, width: u32) -> Result<Option<Row>, AllocError>
+pub fn row_of(numbers: Vec<i64>, width: u32) -> Option<Row>
     requires few { width < 2 ^ 32 - 1 }
     requires narrow { All IsNarrow numbers.items }
-    ensures { IfOk result (λ made. MatchOption made (¬ (length numbers.items ≡ width + 1)) (IsRowOf width numbers.items)) }
+    ensures { MatchOption result (¬ (length numbers.items ≡ width + 1)) (IsRowOf width numbers.items) }
 {
     let mut coefficients = numbers;
-    let Some(constant) = coefficients.pop() else {
-        return Ok(None);
-    };
+    let constant = coefficients.pop()?;
     if coefficients.len() != width as usize {
-        return Ok(None);
+        return None;
     }
-    Row::new(alloc, &coefficients, constant)
+    Some(Row::from_narrow(coefficients, constant))
 }
 
 /// A row, a rank or a term over so many columns.
@@ -51,7 +49,7 @@ fn row(alloc: Global, cursor: &mut Cursor, sort: Sort, width: u32) -> Result<Row
     ensures { ReadsRow sort width cursor.old cursor.new result }
 {
     let numbers = numbers(alloc, cursor, sort, width as u128 + 1)?;
-    match row_of(alloc, numbers, width)? {
+    match row_of(numbers, width) {
         Some(row) => Ok(row),
         None => unreachable!(),
     }
@@ -82,7 +80,7 @@ pub fn lists(
     cursor: &mut Cursor,
     wide: u128,
     count: u128,
-) -> Result<Vec<Vec<i128>>, Failure>
+) -> Result<Vec<Vec<i64>>, Failure>
     ensures { ReadsLists wide count cursor.old cursor.new result }
 {
     let mut lists = Vec::new(alloc);

@@ -20,7 +20,7 @@ use tv_lines::Head;
 use tv_shape::taken_into;
 
 /// Three numbers of 32 bits.
-fn three_small(numbers: &[i128]) -> Option<(u32, u32, u32)>
+fn three_small(numbers: &[i64]) -> Option<(u32, u32, u32)>
     ensures { MatchOption result ((c k j : ℕ) → numbers.now ≡ pos c ∷ pos k ∷ pos j ∷ [] → c < 2 ^ 32 → k < 2 ^ 32 → j < 2 ^ 32 → ⊥) (λ x. numbers.now ≡ pos x.0 ∷ pos x.1 ∷ pos x.2 ∷ []) }
 {
     let [first, second, third] = numbers else {
@@ -46,7 +46,7 @@ impl Context<'_> {
     /// The case, the target and the fall that the numbers name.
     fn taken_of(
         &self,
-        numbers: &[i128],
+        numbers: &[i64],
         piece: &Marked,
         destination: &Destination,
     ) -> Option<Taken<'_>>
@@ -76,7 +76,7 @@ impl Context<'_> {
     pub fn takes(
         &self,
         cursor: &mut Cursor,
-        numbers: &[i128],
+        numbers: &[i64],
         piece: &Marked,
         stop: bool,
         destination: &Destination,

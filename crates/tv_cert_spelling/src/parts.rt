@@ -6,18 +6,14 @@ ghost use Rattle.tv_cert_spelling.specs.Spelling.{spelled, all_spelled};
 
 use std::alloc::{AllocError, Global};
 use tv_cert::{Mark, Marked, Proof};
-use tv_linear::{ChoiceTree, Cover, CoverTree, Row};
+use tv_linear::{ChoiceTree, Cover, CoverTree, Row, widened};
 use tv_lines::{Head, PieceMark, write_line};
 
 /// The numbers of a row: its coefficients and then its constant.
 fn numbers_of(alloc: Global, row: &Row) -> Result<Vec<i128>, AllocError>
     ensures { IfOk result (λ numbers. numbers.items ≡ row.now.coefficients ++ row.now.constant ∷ []) }
 {
-    let coefficients = row.coefficients();
-    let mut numbers = Vec::with_capacity(alloc, coefficients.len() + 1)?;
-    for coefficient in coefficients {
-        numbers.push(i128::from(*coefficient))?;
-    }
+    let mut numbers = widened(alloc, row.coefficients())?;
     numbers.push(row.constant())?;
     Ok(numbers)
 }
@@ -50,12 +46,24 @@ fn append_rows(alloc: Global, out: &mut Vec<u8>, head: Head, rows: &[Row]) -> Re
     Ok(())
 }
 
+fn append_multipliers(
+    alloc: Global,
+    out: &mut Vec<u8>,
+    head: Head,
+    multipliers: &[i64],
+) -> Result<(), AllocError>
+    ensures { OnOk result (out.new.items ≡ out.old.items ++ spelled (formed head multipliers.now)) }
+{
+    let numbers = widened(alloc, multipliers)?;
+    append_line(alloc, out, head, &numbers)
+}
+
 /// Adds a line of multipliers for each row to be shown.
-fn append_lists(alloc: Global, out: &mut Vec<u8>, lists: &[Vec<i128>]) -> Result<(), AllocError>
+fn append_lists(alloc: Global, out: &mut Vec<u8>, lists: &[Vec<i64>]) -> Result<(), AllocError>
     ensures { OnOk result (out.new.items ≡ out.old.items ++ all_spelled (by_lines (map (λ l. l.items) lists.now))) }
 {
     for list in lists {
-        append_line(alloc, out, Head::By, list)?;
+        append_multipliers(alloc, out, Head::By, list)?;
     }
     Ok(())
 }
@@ -70,7 +78,7 @@ pub fn append_cover(alloc: Global, out: &mut Vec<u8>, tree: &CoverTree) -> Resul
             append_cover(alloc, out, holds)?;
             append_cover(alloc, out, fails)
         }
-        CoverTree::Empty(multipliers) => append_line(alloc, out, Head::Empty, multipliers),
+        CoverTree::Empty(multipliers) => append_multipliers(alloc, out, Head::Empty, multipliers),
         CoverTree::Into {
             target,
             fall,
@@ -101,7 +109,7 @@ fn append_choice(alloc: Global, out: &mut Vec<u8>, tree: &ChoiceTree) -> Result<
             append_choice(alloc, out, holds)?;
             append_choice(alloc, out, fails)
         }
-        ChoiceTree::Empty(multipliers) => append_line(alloc, out, Head::Empty, multipliers),
+        ChoiceTree::Empty(multipliers) => append_multipliers(alloc, out, Head::Empty, multipliers),
         ChoiceTree::NoStep(covers) => {
             append_line(alloc, out, Head::NoStep, &[])?;
             append_covers(alloc, out, covers)

@@ -19,7 +19,7 @@ use tv_linear::{ChoiceTree, Cover, Row};
 use tv_refute::{Built, Change, Frames, Targets, Terms, cover_is_met, refutes, shown_rows};
 
 /// Whether the one target without rows is named, and no list is left.
-fn nothing_is_shown(target: u32, fall: u32, lists: &[Vec<i128>]) -> bool
+fn nothing_is_shown(target: u32, fall: u32, lists: &[Vec<i64>]) -> bool
     ensures { (n : ℕ) → (known : List Known) → IsTrue result ↔ ShownAt n known (owed_nothing target fall) (map (λ l. l.items) lists.now) }
 {
     target == 0 && fall == 0 && lists.is_empty()
@@ -36,7 +36,7 @@ fn entering_is_shown(
     draws: &[Row],
     target: u32,
     fall: u32,
-    lists: &[Vec<i128>],
+    lists: &[Vec<i64>],
 ) -> bool
     ensures { IsTrue result ↔ ShownAt columns (known_at frames.now) (owed_into into.now case.now.to (drawn_change columns (case_view case.now) draws.now) (falls_of (drawn_change columns (case_view case.now) draws.now) ranks.entry) target fall) (map (λ l. l.items) lists.now) }
 {
@@ -65,7 +65,7 @@ fn destination_is_shown(
     draws: &[Row],
     target: u32,
     fall: u32,
-    lists: &[Vec<i128>],
+    lists: &[Vec<i64>],
 ) -> bool
     ensures { IsTrue result ↔ ShownAt columns (known_at frames.now) (destination_owes columns piece.now destination.now (case_view case.now) draws.now target fall) (map (λ l. l.items) lists.now) }
 {
@@ -93,7 +93,7 @@ impl Targets for Nowhere {
         frames: &Frames,
         target: u32,
         fall: u32,
-        lists: &[Vec<i128>],
+        lists: &[Vec<i64>],
     ) -> bool {
         false
     }
@@ -145,7 +145,7 @@ fn take_is_shown(
     draws: &[Row],
     target: u32,
     fall: u32,
-    lists: &[Vec<i128>],
+    lists: &[Vec<i64>],
 ) -> bool
     ensures { IsTrue result ↔ ShownAt columns (known_at frames.now) (option_map (λ rows. drawn_guards columns (case_view case.now) draws.now ++ rows) (destination_owes columns piece.now destination.now (case_view case.now) draws.now target fall)) (map (λ l. l.items) lists.now) }
 {
@@ -183,7 +183,7 @@ fn take_is_met(
     target: u32,
     fall: u32,
     draws: &[Row],
-    lists: &[Vec<i128>],
+    lists: &[Vec<i64>],
 ) -> bool
     ensures { IsTrue result ↔ TakeMet columns (place_of piece.now) (destination_owes columns piece.now destination.now) (known_at frames.now) (slice_get (case_views cases.now) taken) target fall draws.now (map (λ l. l.items) lists.now) }
 {

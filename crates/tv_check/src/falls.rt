@@ -18,7 +18,7 @@ fn shows_less(
     new: &Row,
     old: &Row,
     more: i128,
-    multipliers: &[i128],
+    multipliers: &[i64],
 ) -> bool
     ensures { IsTrue result ↔ Refutes columns (known_at frames.now ++ denied (less (change_of change.now new.now) (given old.now) more) ∷ []) multipliers.now }
 {
@@ -44,7 +44,7 @@ fn shows_less(
 }
 
 /// Whether the multipliers show that the row is not below 0.
-fn shows_not_below(columns: usize, frames: &Frames, old: &Row, multipliers: &[i128]) -> bool
+fn shows_not_below(columns: usize, frames: &Frames, old: &Row, multipliers: &[i64]) -> bool
     ensures { IsTrue result ↔ Refutes columns (known_at frames.now ++ denied (less (given zero_row) (given old.now) (pos 0)) ∷ []) multipliers.now }
 {
     let zero = Built::Zero;
@@ -61,7 +61,7 @@ fn shown_fall_at(
     old: &[Row],
     new: &[Row],
     j: u32,
-    lists: &[Vec<i128>],
+    lists: &[Vec<i64>],
 ) -> bool
     ensures { IsTrue result ↔ ShownAt columns (known_at frames.now) (fall_rows_at (as_given old.now) (map (change_of change.now) new.now) j) (map (λ l. l.items) lists.now) }
 {
@@ -108,7 +108,7 @@ pub fn shown_fall(
     old: &[Row],
     new: &[Row],
     j: u32,
-    lists: &[Vec<i128>],
+    lists: &[Vec<i64>],
 ) -> bool
     ensures { IsTrue result ↔ ShownAt columns (known_at frames.now) (fall_rows (as_given old.now) (map (change_of change.now) new.now) j) (map (λ l. l.items) lists.now) }
 {

@@ -23,7 +23,7 @@ use tv_linear::{ChoiceTree, CoverTree, Row};
 use tv_refute::{Change, Frames, Targets, cover_is_met, shown_rows};
 
 /// Whether the lists show the rows as they are.
-fn given_rows_are_shown(columns: usize, frames: &Frames, rows: &[Row], lists: &[Vec<i128>]) -> bool
+fn given_rows_are_shown(columns: usize, frames: &Frames, rows: &[Row], lists: &[Vec<i64>]) -> bool
     ensures { IsTrue result ↔ Shown columns (known_at frames.now) (as_given rows.now) (map (λ l. l.items) lists.now) }
 {
     let change = Change::Kept;
@@ -45,7 +45,7 @@ impl Targets for RowLists<'_> {
         frames: &Frames,
         target: u32,
         fall: u32,
-        lists: &[Vec<i128>],
+        lists: &[Vec<i64>],
     ) -> bool {
         if fall != 0 {
             return false;
@@ -73,7 +73,7 @@ impl Targets for Joined<'_> {
         frames: &Frames,
         target: u32,
         fall: u32,
-        lists: &[Vec<i128>],
+        lists: &[Vec<i64>],
     ) -> bool {
         match joined_piece_at(self.nodes, self.location, target) {
             None => false,

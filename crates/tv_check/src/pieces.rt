@@ -22,7 +22,7 @@ fn shown_piece(
     old: &[Row],
     new: &[Row],
     j: u32,
-    lists: &[Vec<i128>],
+    lists: &[Vec<i64>],
 ) -> bool
     ensures { IsTrue result ↔ ShownAt columns (known_at frames.now) (option_map (λ falls. map (change_of change.now) rows.now ++ falls) (fall_rows (as_given old.now) (map (change_of change.now) new.now) j)) (map (λ l. l.items) lists.now) }
 {
@@ -54,7 +54,7 @@ impl Targets for Pieces<'_> {
         frames: &Frames,
         target: u32,
         fall: u32,
-        lists: &[Vec<i128>],
+        lists: &[Vec<i64>],
     ) -> bool {
         match piece_at(self.pieces, self.location, target) {
             None => false,
@@ -71,7 +71,7 @@ fn entered_is_shown(
     ranks: Option<&[Row]>,
     piece: &Marked,
     fall: u32,
-    lists: &[Vec<i128>],
+    lists: &[Vec<i64>],
 ) -> bool
     ensures { IsTrue result ↔ ShownAt columns (known_at frames.now) (target_rows (change_of change.now) (falls_of (change_of change.now) ranks.entry) (Some piece.now) fall) (map (λ l. l.items) lists.now) }
 {
@@ -112,7 +112,7 @@ impl Targets for Standing<'_> {
         frames: &Frames,
         target: u32,
         fall: u32,
-        lists: &[Vec<i128>],
+        lists: &[Vec<i64>],
     ) -> bool {
         match piece_at(self.pieces, self.location, target) {
             None => false,
@@ -127,7 +127,7 @@ pub fn kept_is_shown(
     frames: &Frames,
     piece: &Marked,
     fall: u32,
-    lists: &[Vec<i128>],
+    lists: &[Vec<i64>],
 ) -> bool
     ensures { IsTrue result ↔ ShownAt columns (known_at frames.now) (target_rows given no_fall (Some piece.now) fall) (map (λ l. l.items) lists.now) }
 {

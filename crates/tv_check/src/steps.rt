@@ -83,7 +83,7 @@ impl Targets for TruthTarget {
         frames: &Frames,
         target: u32,
         fall: u32,
-        lists: &[Vec<i128>],
+        lists: &[Vec<i64>],
     ) -> bool {
         self.0 && target == 0 && fall == 0 && lists.is_empty()
     }

@@ -1,6 +1,6 @@
-use Rattle.std.specs.Prelude.{◌≡◌, ℕ, ◌<◌, List, length, get_or, ℤ, pos, ◌*ℤ◌, Option, None}
+use Rattle.std.specs.Prelude.{◌≡◌, ℕ, ◌<◌, List, length, get_or, ℤ, pos, ◌*ℤ◌}
 use Rattle.tv_linear.specs.Linear.{Linear}
-use Rattle.tv_linear.specs.Known.{Known, as_given}
+use Rattle.tv_linear.specs.Known.{as_given}
 use Rattle.tv_linear.specs.Covers.{no_target, IsMetCover}
 use Rattle.tv_farkas.specs.declared.branch.Branch.{Branch}
 use Rattle.tv_farkas.specs.declared.emptied.Emptied.{Emptied}

@@ -18,7 +18,7 @@ use crate::stretching::stretch;
 use crate::{Branch, Budget, CoverFault, Emptied, Refuted};
 use std::alloc::{AllocError, Global};
 use std::mem;
-use tv_linear::{Cover, CoverTree, Row};
+use tv_linear::{Cover, CoverTree, Row, shortened};
 use tv_simplex::SolveFault;
 
 /// What stays the same in a search.
@@ -88,7 +88,8 @@ fn settle(question: &Question, place: &mut Place, left: u32) -> Result<Found, Co
     match refute(alloc, &place.rows, question.columns, question.pivots) {
         Err(fault) => Err(unsolved(alloc, place, fault)),
         Ok(Refuted::Empty { multipliers }) => {
-            let all = stretch(alloc, question.repeated, &multipliers)?;
+            let short = shortened(alloc, &multipliers)?;
+            let all = stretch(alloc, question.repeated, &short)?;
             Ok(Found::Tree(CoverTree::Empty(all)))
         }
         Ok(Refuted::Point { values, scale }) => match first_fraction(&values, scale) {

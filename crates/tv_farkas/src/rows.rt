@@ -2,7 +2,7 @@
 
 ghost use Rattle.std.specs.Prelude.{◌≡◌, ◌+◌, ◌-◌, ◌^◌, ◌<◌, ◌≤◌, length, IfOk, IsTrue, ◌↔◌, neg_ℤ, pos, ◌+ℤ◌};
 ghost use Rattle.std.specs.List.{Contains};
-ghost use Rattle.tv_linear.specs.Linear.{linear, columns as width, IsNarrow, IsWithin};
+ghost use Rattle.tv_linear.specs.Linear.{columns as width, IsWithin};
 ghost use Rattle.tv_farkas.specs.Paths.{TakenOnce, at_most_row, at_least_row};
 ghost use Rattle.tv_farkas.specs.Stretching.{IsTakenBy};
 
@@ -54,30 +54,6 @@ pub fn take_once(alloc: Global, rows: &[Row]) -> Result<Distinct, AllocError>
     })
 }
 
-/// The coefficients of a row in twice the bits.
-fn wide_coefficients(alloc: Global, row: &Row) -> Result<Vec<i128>, AllocError>
-    ensures same { IfOk result (λ wide. wide.items ≡ row.now.coefficients) }
-    ensures narrow { IsNarrow row.now }
-{
-    let coefficients = row.coefficients();
-    let mut wide = Vec::with_capacity(alloc, coefficients.len())?;
-    'coefficients: for coefficient in coefficients {
-        push_item(&mut wide, i128::from(*coefficient))?;
-    }
-    Ok(wide)
-}
-
-/// The row with another constant.
-fn with_constant(alloc: Global, row: &Row, constant: i128) -> Result<Row, AllocError>
-    requires { IsWithin 62 constant }
-    ensures { IfOk result (λ r. r ≡ linear row.now.coefficients constant) }
-{
-    match Row::new(alloc, &wide_coefficients(alloc, row)?, constant)? {
-        Some(row) => Ok(row),
-        None => unreachable!(),
-    }
-}
-
 /// The row `x - floor` of a column.
 pub fn at_most(alloc: Global, columns: u32, column: u32, floor: i128) -> Result<Row, AllocError>
     requires few { columns < 2 ^ 32 - 1 }
@@ -85,7 +61,7 @@ pub fn at_most(alloc: Global, columns: u32, column: u32, floor: i128) -> Result<
     requires short { IsWithin 62 floor }
     ensures { IfOk result (λ r. r ≡ at_most_row columns column floor) }
 {
-    with_constant(alloc, &Row::column(alloc, columns, column)?, -floor)
+    Row::column(alloc, columns, column)?.with_constant(alloc, -floor)
 }
 
 /// The row `floor + 1 - x` of a column.
@@ -95,6 +71,7 @@ pub fn at_least(alloc: Global, columns: u32, column: u32, floor: i128) -> Result
     requires short { IsWithin 62 (floor +ℤ pos 1) }
     ensures { IfOk result (λ r. r ≡ at_least_row columns column floor) }
 {
-    let row = Row::column(alloc, columns, column)?.opposite(alloc)?;
-    with_constant(alloc, &row, floor + 1)
+    Row::column(alloc, columns, column)?
+        .opposite(alloc)?
+        .with_constant(alloc, floor + 1)
 }

@@ -7,7 +7,7 @@ use crate::refutation::push_item;
 use std::alloc::{AllocError, Global};
 
 /// Puts more numbers at the end of a list.
-fn append(numbers: &mut Vec<i128>, more: &[i128]) -> Result<(), AllocError>
+fn append(numbers: &mut Vec<i64>, more: &[i64]) -> Result<(), AllocError>
     ensures { IfOk result (λ _. numbers.new.items ≡ numbers.old.items ++ more.now) }
 {
     'more: for number in more {
@@ -20,8 +20,8 @@ fn append(numbers: &mut Vec<i128>, more: &[i128]) -> Result<(), AllocError>
 pub fn stretch(
     alloc: Global,
     repeated: &[bool],
-    multipliers: &[i128],
-) -> Result<Vec<i128>, AllocError>
+    multipliers: &[i64],
+) -> Result<Vec<i64>, AllocError>
     ensures { IfOk result (λ v. v.items ≡ stretched repeated.now multipliers.now) }
 {
     let mut stretched = Vec::new(alloc);

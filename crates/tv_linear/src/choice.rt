@@ -13,7 +13,7 @@ pub enum ChoiceTree {
     /// A proof where the row is met, and one where it is not.
     Split(Row, Box<ChoiceTree>, Box<ChoiceTree>),
     /// Multipliers that refute the rows of the place.
-    Empty(Vec<i128>),
+    Empty(Vec<i64>),
     /// For each case from the location a cover without targets.
     NoStep(Vec<Cover>),
     /// The case that is taken, with a term for each of its draws, and the refutations that show its guards,
@@ -23,7 +23,7 @@ pub enum ChoiceTree {
         target: u32,
         fall: u32,
         draws: Vec<Row>,
-        refutations: Vec<Vec<i128>>,
+        refutations: Vec<Vec<i64>>,
     },
 }
 

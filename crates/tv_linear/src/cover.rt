@@ -10,13 +10,13 @@ pub enum CoverTree {
     /// A proof where the row is met, and one where it is not.
     Split(Row, Box<CoverTree>, Box<CoverTree>),
     /// Multipliers that refute the rows of the place.
-    Empty(Vec<i128>),
+    Empty(Vec<i64>),
     /// For each row of the target, and each row of a fall of the ranks (0 where none is owed), multipliers
     /// that refute the rows of the place together with its denial.
     Into {
         target: u32,
         fall: u32,
-        refutations: Vec<Vec<i128>>,
+        refutations: Vec<Vec<i64>>,
     },
 }
 

@@ -22,6 +22,7 @@ mod total;
 pub use choice::{Choice, ChoiceTree};
 pub use cover::{Cover, CoverTree};
 pub use fault::RowFault;
+pub use lists::{shortened, widened};
 pub use region::{Piece, Poly, Region, Update};
 pub use row::Row;
 pub use total::Total;

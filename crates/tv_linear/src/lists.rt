@@ -28,15 +28,26 @@ pub fn one_at(alloc: Global, columns: u32, column: u32) -> Result<Vec<i64>, Allo
 }
 
 /// The narrow numbers in half the bits.
-pub fn all_short(alloc: Global, numbers: &[i128]) -> Result<Vec<i64>, AllocError>
+pub fn shortened(alloc: Global, numbers: &[i128]) -> Result<Vec<i64>, AllocError>
     requires { All (IsWithin 62) numbers.now }
     ensures { IfOk result (λ v. v.items ≡ numbers.now) }
 {
-    let mut shortened = Vec::with_capacity(alloc, numbers.len())?;
+    let mut half = Vec::with_capacity(alloc, numbers.len())?;
     for number in numbers {
-        shortened.push(short(*number))?;
+        half.push(short(*number))?;
     }
-    Ok(shortened)
+    Ok(half)
+}
+
+/// The numbers in twice the bits.
+pub fn widened(alloc: Global, numbers: &[i64]) -> Result<Vec<i128>, AllocError>
+    ensures { IfOk result (λ v. v.items ≡ numbers.now) }
+{
+    let mut wide = Vec::with_capacity(alloc, numbers.len())?;
+    for number in numbers {
+        wide.push(i128::from(*number))?;
+    }
+    Ok(wide)
 }
 
 /// Each number with its sign turned.

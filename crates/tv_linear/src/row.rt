@@ -7,7 +7,7 @@ ghost use Rattle.tv_linear.specs.Fits.{ValueHeld, GivesWhere, GivesRow, GivesTig
 use crate::columns::{Added, Columns, Composed, Constant, Denied, Difference};
 use crate::fault::RowFault;
 use crate::held;
-use crate::lists::{all_opposite, all_short, all_zero, one_at};
+use crate::lists::{all_opposite, all_zero, one_at, shortened};
 use crate::narrow::{are_narrow, is_narrow, opposite, short};
 use crate::sums::{Listed, dot_from};
 use crate::tight::{all_rounded_up, common_divisor, rounded_up};
@@ -72,11 +72,22 @@ impl Row {
     {
         if are_narrow(coefficients) && is_narrow(constant) {
             Ok(Some(Row {
-                coefficients: all_short(alloc, coefficients)?,
+                coefficients: shortened(alloc, coefficients)?,
                 constant: short(constant),
             }))
         } else {
             Ok(None)
+        }
+    }
+
+    /// The row of numbers that are narrow. It takes no memory, and keeps the list's.
+    pub fn from_narrow(coefficients: Vec<i64>, constant: i64) -> Row
+        requires { IsNarrow (linear coefficients.items constant) }
+        ensures { result ≡ linear coefficients.items constant }
+    {
+        Row {
+            coefficients,
+            constant,
         }
     }
 
@@ -159,6 +170,17 @@ impl Row {
         Ok(Row {
             coefficients: Vec::from_slice(alloc, &self.coefficients)?,
             constant: self.constant,
+        })
+    }
+
+    /// The row with another constant.
+    pub fn with_constant(&self, alloc: Global, constant: i128) -> Result<Row, AllocError>
+        requires { IsWithin 62 constant }
+        ensures { IfOk result (λ row. row ≡ linear self.now.coefficients constant) }
+    {
+        Ok(Row {
+            coefficients: Vec::from_slice(alloc, &self.coefficients)?,
+            constant: short(constant),
         })
     }
 

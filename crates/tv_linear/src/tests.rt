@@ -25,6 +25,11 @@ fn rows_are_made(rt: HostRuntime) -> Result<(), Fail> {
     assert_eq!(rt; five.columns(), six.columns());
     assert!(rt; is(&five.add(alloc, &six)?, &[0], 1));
     assert!(rt; is(&five.opposite(alloc)?, &[-1], 5));
+    assert!(rt; is(&five.with_constant(alloc, 7)?, &[1], 7));
+    assert!(rt; is(&Row::from_narrow(vec![in alloc; 1]?, -5), &[1], -5));
+    let wide = widened(alloc, &[3, -4])?;
+    assert!(rt; wide.as_slice() == [3i128, -4].as_slice());
+    assert!(rt; shortened(alloc, &wide)?.as_slice() == [3i64, -4].as_slice());
     assert!(rt; is(&Row::at_most(alloc, 0, &five, &six)?, &[1], -5));
     Ok(())
 }

@@ -11,7 +11,7 @@ use std::alloc::{AllocError, Global};
 #[derive(Drop)]
 pub enum Line {
     /// The head and the numbers, each below 2^62 in magnitude.
-    Formed(Head, Vec<i128>),
+    Formed(Head, Vec<i64>),
     /// A line that has none of the forms.
     Formless,
     /// A line that has one of the forms, with a number of 2^62 or more in magnitude.
@@ -24,7 +24,7 @@ fn numbered(alloc: Global, head: Head, behind: &[u8]) -> Result<Line, AllocError
 {
     // Each number takes a space and a digit at least, so at most half of the bytes are numbers.
     let most = word_count(behind).min(behind.len() / 2);
-    let mut numbers: Vec<i128> = Vec::with_capacity(alloc, most)?;
+    let mut numbers: Vec<i64> = Vec::with_capacity(alloc, most)?;
     let mut wide = false;
     let mut rest = behind;
     'words: while let Some((word, after)) = next_word(rest) {

@@ -31,7 +31,7 @@ impl<'a> Lines<'a> {
 
     /// The next line, if there is one.
     ///
-    /// The time is linear in the line. A line takes 16 bytes for each number on it, at most eight times its own length.
+    /// The time is linear in the line. A line takes 8 bytes for each number on it, at most four times its own length.
     pub fn next(&mut self, alloc: Global) -> Result<Option<Line>, AllocError>
         ensures first { IfOk result (λ line. TakesFirst self.old line self.new) }
         ensures fit { IfOk result (λ line. IfSome line (λ l. IsFit (plain l))) }

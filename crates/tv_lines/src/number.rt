@@ -7,7 +7,7 @@ ghost use Rattle.tv_lines.specs.Numbers.{is_numeral, value, Reads};
 #[derive(Clone, Copy)]
 pub enum NumberWord {
     /// A number below 2^62 in magnitude.
-    Narrow(i128),
+    Narrow(i64),
     /// A number of 2^62 or more in magnitude.
     Wide,
     /// No number.
@@ -58,7 +58,7 @@ pub(crate) fn number_word(word: &[u8]) -> NumberWord
                 return NumberWord::Missing;
             }
             match value(digits) {
-                Some(number) => NumberWord::Narrow(-(number as i128)),
+                Some(number) => NumberWord::Narrow(-(number as i64)),
                 None => NumberWord::Wide,
             }
         }
@@ -67,7 +67,7 @@ pub(crate) fn number_word(word: &[u8]) -> NumberWord
                 return NumberWord::Missing;
             }
             match value(word) {
-                Some(number) => NumberWord::Narrow(number as i128),
+                Some(number) => NumberWord::Narrow(number as i64),
                 None => NumberWord::Wide,
             }
         }

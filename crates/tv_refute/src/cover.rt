@@ -21,7 +21,7 @@ pub trait Targets {
         frames: &Frames,
         target: u32,
         fall: u32,
-        lists: &[Vec<i128>],
+        lists: &[Vec<i64>],
     ) -> bool
         ensures { IsTrue result ↔ ShownAt columns (known_at frames.now)
             (Self.owed self.now target fall) (map (λ l. l.items) lists.now) };

@@ -31,7 +31,7 @@ pub enum Frames<'a> {
 /// constants.
 pub(crate) fn sums_at(
     frames: &Frames,
-    multipliers: &[i128],
+    multipliers: &[i64],
     column: Option<usize>,
     count: usize,
     totals: &mut [i128],
@@ -62,7 +62,7 @@ pub(crate) fn sums_at(
                 if !sums_at(above, before, column, count, totals) {
                     return false;
                 }
-                add_known(row, *m, column, count, totals)
+                add_known(row, i128::from(*m), column, count, totals)
             }
         },
     }
@@ -71,7 +71,7 @@ pub(crate) fn sums_at(
 /// Adds the products of multipliers and rows. A row whose multiplier is 0 is passed.
 fn add_rows(
     rows: &[Row],
-    multipliers: &[i128],
+    multipliers: &[i64],
     column: Option<usize>,
     count: usize,
     totals: &mut [i128],
@@ -86,7 +86,7 @@ fn add_rows(
     ensures held { IsTrue result → AreHeld count totals.new }
 {
     for i in 0..multipliers.len() {
-        if !add_row(totals, count, multipliers[i], &rows[i], column) {
+        if !add_row(totals, count, i128::from(multipliers[i]), &rows[i], column) {
             return false;
         }
     }

@@ -9,14 +9,14 @@ use crate::built::{BLOCK, Built};
 use crate::frames::{Frames, is_count, sums_at};
 
 /// Whether no multiplier is below 0.
-fn none_negative(multipliers: &[i128]) -> bool
+fn none_negative(multipliers: &[i64]) -> bool
     ensures { IsTrue result ↔ All (λ m. pos 0 ≤ℤ m) multipliers.now }
 {
     multipliers.iter().all(|m| *m >= 0)
 }
 
 /// Whether the multipliers refute the rows known at the place.
-pub fn refutes(columns: usize, frames: &Frames, multipliers: &[i128]) -> bool
+pub fn refutes(columns: usize, frames: &Frames, multipliers: &[i64]) -> bool
     ensures exact { IsTrue result ↔ Refutes columns (known_at frames.now) multipliers.now }
     ensures sound { IsTrue result → ShareNoPoint columns (known_at frames.now) }
 {
@@ -56,7 +56,7 @@ fn are_zero(numbers: &[i128], count: usize) -> bool
 }
 
 /// Whether the multipliers refute the known rows together with the denial of a row.
-pub fn refutes_denial(columns: usize, frames: &Frames, row: &Built, multipliers: &[i128]) -> bool
+pub fn refutes_denial(columns: usize, frames: &Frames, row: &Built, multipliers: &[i64]) -> bool
     ensures exact { let rows = known_at frames.now ++ denied (built row.now) ∷ [] in
         IsTrue result ↔ Refutes columns rows multipliers.now }
     ensures sound { IsTrue result → Imply columns (known_at frames.now) (built row.now) }

@@ -27,7 +27,7 @@ pub fn shows(
     frames: &Frames,
     change: &Change,
     row: &Row,
-    multipliers: &[i128],
+    multipliers: &[i64],
 ) -> bool
     ensures exact { let rows = known_at frames.now ++ denied (change_of change.now row.now) ∷ [] in
         IsTrue result ↔ Refutes columns rows multipliers.now }
@@ -54,7 +54,7 @@ pub fn shown_rows(
     frames: &Frames,
     change: &Change,
     owed: &[Row],
-    lists: &[Vec<i128>],
+    lists: &[Vec<i64>],
 ) -> bool
     ensures exact { IsTrue result ↔ Shown columns (known_at frames.now)
         (map (change_of change.now) owed.now) (map (λ l. l.items) lists.now) }

@@ -100,7 +100,12 @@ pub(crate) fn denied(column: Option<usize>, number: i128) -> Option<i128>
 {
     match column {
         None => difference(1, number),
-        Some(_) => opposite(number),
+        Some(_) => {
+            if number == 0 {
+                return Some(0);
+            }
+            opposite(number)
+        }
     }
 }
 

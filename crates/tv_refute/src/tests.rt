@@ -26,7 +26,7 @@ struct Nowhere;
 impl Targets for Nowhere {
     ghost owed = { λ nowhere target fall. None };
 
-    fn are_shown(&self, _: usize, _: &Frames, _: u32, _: u32, _: &[Vec<i128>]) -> bool {
+    fn are_shown(&self, _: usize, _: &Frames, _: u32, _: u32, _: &[Vec<i64>]) -> bool {
         false
     }
 }

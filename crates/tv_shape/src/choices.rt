@@ -53,7 +53,7 @@ fn take_has_shape(
     target: u32,
     fall: u32,
     draws: &[Row],
-    lists: &[Vec<i128>],
+    lists: &[Vec<i64>],
 ) -> bool
     requires { known < 2 ^ 65 }
     ensures { IsTrue result ↔ TakeShape columns (destination_owes columns piece.now destination.now) known (slice_get (case_views cases.now) taken) target fall draws.now (map (λ l. l.items) lists.now) }

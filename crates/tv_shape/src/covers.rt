@@ -7,14 +7,14 @@ use crate::targets::Targets;
 use tv_linear::CoverTree;
 
 /// Whether each list has so many numbers.
-fn all_have_length(lists: &[Vec<i128>], count: u128) -> bool
+fn all_have_length(lists: &[Vec<i64>], count: u128) -> bool
     ensures { IsTrue result ↔ All (λ l. length l.items ≡ count) lists.now }
 {
     lists.iter().all(|list| list.len() as u128 == count)
 }
 
 /// Whether each list has so many numbers, as a contract reads the lists of a proof.
-pub fn have_length(lists: &[Vec<i128>], count: u128) -> bool
+pub fn have_length(lists: &[Vec<i64>], count: u128) -> bool
     ensures { IsTrue result ↔ All (λ ms. length ms ≡ count) (map (λ l. l.items) lists.now) }
 {
     all_have_length(lists, count)

@@ -21,10 +21,19 @@ pub fn are_narrow(numbers: &[i128]) -> bool
     numbers.iter().all(|number| is_narrow(*number))
 }
 
-fn lists_are_narrow(lists: &[Vec<i128>]) -> bool
+/// Whether each multiplier is.
+fn multipliers_are_narrow(multipliers: &[i64]) -> bool
+    ensures { IsTrue result ↔ AreNarrow multipliers.now }
+{
+    multipliers
+        .iter()
+        .all(|multiplier| is_narrow(i128::from(*multiplier)))
+}
+
+fn lists_are_narrow(lists: &[Vec<i64>]) -> bool
     ensures { IsTrue result ↔ ListsNarrow lists.now }
 {
-    lists.iter().all(|list| are_narrow(list))
+    lists.iter().all(|list| multipliers_are_narrow(list))
 }
 
 /// Whether each multiplier of the cover is.
@@ -33,7 +42,7 @@ pub fn cover_is_narrow(tree: &CoverTree) -> bool
 {
     match tree {
         CoverTree::Split(_, holds, fails) => cover_is_narrow(holds) && cover_is_narrow(fails),
-        CoverTree::Empty(multipliers) => are_narrow(multipliers),
+        CoverTree::Empty(multipliers) => multipliers_are_narrow(multipliers),
         CoverTree::Into { refutations, .. } => lists_are_narrow(refutations),
     }
 }
@@ -49,7 +58,7 @@ fn choice_is_narrow(tree: &ChoiceTree) -> bool
 {
     match tree {
         ChoiceTree::Split(_, holds, fails) => choice_is_narrow(holds) && choice_is_narrow(fails),
-        ChoiceTree::Empty(multipliers) => are_narrow(multipliers),
+        ChoiceTree::Empty(multipliers) => multipliers_are_narrow(multipliers),
         ChoiceTree::NoStep(covers) => covers_are_narrow(covers),
         ChoiceTree::Take { refutations, .. } => lists_are_narrow(refutations),
     }

@@ -144,7 +144,7 @@ fn term(alloc: Global, coefficient: i128, constant: i128) -> Result<Row, Fail> {
     Ok(row)
 }
 
-fn lists(alloc: Global, of: &[&[i128]]) -> Result<Vec<Vec<i128>>, AllocError> {
+fn lists(alloc: Global, of: &[&[i64]]) -> Result<Vec<Vec<i64>>, AllocError> {
     let mut lists = Vec::new(alloc);
     for numbers in of {
         lists.push(Vec::from_slice(alloc, numbers)?)?;
@@ -152,7 +152,7 @@ fn lists(alloc: Global, of: &[&[i128]]) -> Result<Vec<Vec<i128>>, AllocError> {
     Ok(lists)
 }
 
-fn into(alloc: Global, target: u32, fall: u32, of: &[&[i128]]) -> Result<Cover, Fail> {
+fn into(alloc: Global, target: u32, fall: u32, of: &[&[i64]]) -> Result<Cover, Fail> {
     let refutations = lists(alloc, of)?;
     let tree = CoverTree::Into {
         target,
@@ -179,7 +179,7 @@ struct Sketch<'a> {
     mark: Mark,
     ranks: u32,
     fall: u32,
-    shown: &'a [&'a [i128]],
+    shown: &'a [&'a [i64]],
 }
 
 const COUNTDOWN: Sketch = Sketch {
@@ -289,7 +289,7 @@ fn the_start_has_one_piece(rt: HostRuntime) -> Result<(), Fail> {
 }
 
 /// A step by the case into the only piece where it leads.
-fn take(alloc: Global, taken: u32, of: &[&[i128]]) -> Result<Proof, Fail> {
+fn take(alloc: Global, taken: u32, of: &[&[i64]]) -> Result<Proof, Fail> {
     let tree = ChoiceTree::Take {
         taken,
         target: 0,
@@ -302,7 +302,7 @@ fn take(alloc: Global, taken: u32, of: &[&[i128]]) -> Result<Proof, Fail> {
 }
 
 /// The node of a climber, with these multipliers for its second step.
-fn climbing(alloc: Global, of: &[&[i128]]) -> Result<Node, Fail> {
+fn climbing(alloc: Global, of: &[&[i64]]) -> Result<Node, Fail> {
     let mut pieces = Vec::new(alloc);
     for location in 0..2 {
         let mut rows = Vec::new(alloc);

@@ -36,7 +36,7 @@ fn rows(alloc: Global, all: &[Numbers]) -> Result<Vec<Row>, Fail> {
     Ok(made)
 }
 
-fn lists(alloc: Global, all: &[&[i128]]) -> Result<Vec<Vec<i128>>, AllocError> {
+fn lists(alloc: Global, all: &[&[i64]]) -> Result<Vec<Vec<i64>>, AllocError> {
     let mut made = Vec::new(alloc);
     for numbers in all {
         made.push(Vec::from_slice(alloc, numbers)?)?;
@@ -68,7 +68,7 @@ fn going(alloc: Global, location: u32, met: &[Numbers]) -> Result<Marked, Fail> 
     piece(alloc, location, Mark::Go, met, &[])
 }
 
-fn into(alloc: Global, target: u32, fall: u32, shown: &[&[i128]]) -> Result<CoverTree, AllocError> {
+fn into(alloc: Global, target: u32, fall: u32, shown: &[&[i64]]) -> Result<CoverTree, AllocError> {
     let refutations = lists(alloc, shown)?;
     Ok(CoverTree::Into {
         target,
@@ -78,7 +78,7 @@ fn into(alloc: Global, target: u32, fall: u32, shown: &[&[i128]]) -> Result<Cove
 }
 
 /// Into the first target where the row is met, and into the second where it is denied, which one row of each shows.
-fn halves(alloc: Global, at: Numbers, shown: &[i128]) -> Result<CoverTree, Fail> {
+fn halves(alloc: Global, at: Numbers, shown: &[i64]) -> Result<CoverTree, Fail> {
     let holds = Box::new(alloc, into(alloc, 0, 0, &[shown])?)?;
     let fails = Box::new(alloc, into(alloc, 1, 0, &[shown])?)?;
     Ok(CoverTree::Split(row(alloc, at)?, holds, fails))
@@ -90,7 +90,7 @@ fn covered(tree: CoverTree) -> Result<Proof, Fail> {
 }
 
 /// A cover into the target, one row of which each list shows.
-fn enters(alloc: Global, target: u32, shown: &[&[i128]]) -> Result<Proof, Fail> {
+fn enters(alloc: Global, target: u32, shown: &[&[i64]]) -> Result<Proof, Fail> {
     covered(into(alloc, target, 0, shown)?)
 }
 
@@ -98,7 +98,7 @@ fn take(
     alloc: Global,
     taken: u32,
     target: u32,
-    shown: &[&[i128]],
+    shown: &[&[i64]],
 ) -> Result<ChoiceTree, AllocError> {
     let refutations = lists(alloc, shown)?;
     Ok(ChoiceTree::Take {
@@ -136,7 +136,7 @@ fn node(pieces: Vec<Marked>, children: Vec<Node>, proofs: Vec<Proof>) -> Node {
 }
 
 /// An atom with one piece, which is shown to lie in a target.
-fn atom(alloc: Global, location: u32, met: &[Numbers], shown: &[&[i128]]) -> Result<Node, Fail> {
+fn atom(alloc: Global, location: u32, met: &[Numbers], shown: &[&[i64]]) -> Result<Node, Fail> {
     let pieces = vec![in alloc; going(alloc, location, met)?]?;
     let proofs = vec![in alloc; enters(alloc, 0, shown)?]?;
     Ok(node(pieces, Vec::new(alloc), proofs))
@@ -175,7 +175,7 @@ fn fails(number: u64, node: u32, kind: Kind) -> Result<(), Failing> {
 }
 
 /// That the countdown ends: first in its place, and then in x.
-fn countdown_ends(alloc: Global, last: &[i128]) -> Result<Node, Fail> {
+fn countdown_ends(alloc: Global, last: &[i64]) -> Result<Node, Fail> {
     let first = piece(alloc, 0, Mark::Go, &[], &[[0, 1], [0, 0]])?;
     let second = piece(alloc, 1, Mark::Go, &[], &[[0, 0], [1, 0]])?;
     let entered = covered(into(alloc, 0, 1, &[&[1], &[1]])?)?;
@@ -204,7 +204,7 @@ fn countdown_terminates(rt: HostRuntime) -> Result<(), Fail> {
 }
 
 /// That the climber climbs for ever.
-fn climber_climbs(alloc: Global, shown: &[i128]) -> Result<Node, Fail> {
+fn climber_climbs(alloc: Global, shown: &[i64]) -> Result<Node, Fail> {
     let pieces = vec![in alloc; going(alloc, 0, &[[-1, 1]])?, going(alloc, 1, &[[-1, 1]])?]?;
     let entered = chosen(take(alloc, 0, 0, &[&[1, 1]])?)?;
     let again = chosen(take(alloc, 1, 0, &[&[1, 1], shown])?)?;
@@ -235,7 +235,7 @@ fn loop_step(alloc: Global) -> Result<Proof, Fail> {
 }
 
 /// That the loop always comes to an x of at most 0.
-fn loop_comes_down(alloc: Global, taken: &[i128]) -> Result<Node, Fail> {
+fn loop_comes_down(alloc: Global, taken: &[i64]) -> Result<Node, Fail> {
     let done = piece(alloc, 0, Mark::Done, &[[1, 0]], &[])?;
     let on = piece(alloc, 0, Mark::Go, &[[-1, 1]], &[[1, 0]])?;
     let held = atom(alloc, 0, &[], &[])?;
@@ -267,7 +267,7 @@ fn loop_comes_to_its_end(rt: HostRuntime) -> Result<(), Fail> {
 }
 
 /// That the state is at 0, and x is above 0 or at most 0.
-fn all_and_one(alloc: Global, shown: &[i128]) -> Result<Node, Fail> {
+fn all_and_one(alloc: Global, shown: &[i64]) -> Result<Node, Fail> {
     let above = atom(alloc, 0, &[[-1, 1]], &[&[1, 1]])?;
     let below = atom(alloc, 0, &[[1, 0]], &[&[1, 1]])?;
     let either = node(
@@ -294,7 +294,7 @@ fn all_of_and_one_of_are_checked(rt: HostRuntime) -> Result<(), Fail> {
 }
 
 /// That a step leads to 1, and each step does.
-fn leads_on(alloc: Global, taken: u32, shown: &[&[i128]]) -> Result<Node, Fail> {
+fn leads_on(alloc: Global, taken: u32, shown: &[&[i64]]) -> Result<Node, Fail> {
     let some = node(
         vec![in alloc; going(alloc, 0, &[])?]?,
         vec![in alloc; atom(alloc, 1, &[], &[])?]?,
@@ -325,7 +325,7 @@ fn next_states_are_checked(rt: HostRuntime) -> Result<(), Fail> {
 }
 
 /// That some run comes to 1, by a rank that is at least 0 where it goes on. What holds at the end has these rows, each shown by a list.
-fn comes_to_1(alloc: Global, met: &[Numbers], shown: &[&[i128]]) -> Result<Node, Fail> {
+fn comes_to_1(alloc: Global, met: &[Numbers], shown: &[&[i64]]) -> Result<Node, Fail> {
     let on = piece(alloc, 0, Mark::Go, &[], &[[0, 0]])?;
     let done = piece(alloc, 1, Mark::Done, &[], &[])?;
     let proofs = vec![in alloc;
@@ -354,7 +354,7 @@ fn some_run_comes_to_a_location(rt: HostRuntime) -> Result<(), Fail> {
 }
 
 /// A case is taken where x is above 0, and else none can be.
-fn goes_on_or_stops(alloc: Global, none: &[i128]) -> Result<Proof, Fail> {
+fn goes_on_or_stops(alloc: Global, none: &[i64]) -> Result<Proof, Fail> {
     let on = Box::new(alloc, take(alloc, 0, 0, &[&[1, 1]])?)?;
     let stuck = Cover::new(CoverTree::Empty(Vec::from_slice(alloc, none)?)).ok_or("deep")?;
     let stops = Box::new(alloc, ChoiceTree::NoStep(vec![in alloc; stuck]?))?;
@@ -362,7 +362,7 @@ fn goes_on_or_stops(alloc: Global, none: &[i128]) -> Result<Proof, Fail> {
 }
 
 /// That 0 is never left on some run, which goes on or stops.
-fn stays_or_stops(alloc: Global, none: &[i128]) -> Result<Node, Fail> {
+fn stays_or_stops(alloc: Global, none: &[i64]) -> Result<Node, Fail> {
     let pieces = vec![in alloc; going(alloc, 0, &[])?]?;
     let children = vec![in alloc; atom(alloc, 0, &[], &[])?, nowhere(alloc)]?;
     let proofs = vec![in alloc; enters(alloc, 0, &[])?, goes_on_or_stops(alloc, none)?]?;
@@ -381,7 +381,7 @@ fn some_run_stays(rt: HostRuntime) -> Result<(), Fail> {
 }
 
 /// That 0 is never left, where what holds on the way has these rows, each shown by a list.
-fn stays_at_0(alloc: Global, met: &[Numbers], shown: &[&[i128]]) -> Result<Node, Fail> {
+fn stays_at_0(alloc: Global, met: &[Numbers], shown: &[&[i64]]) -> Result<Node, Fail> {
     let pieces = vec![in alloc; going(alloc, 0, &[])?]?;
     let children = vec![in alloc; nowhere(alloc), atom(alloc, 0, met, &[])?]?;
     let proofs = vec![in alloc; enters(alloc, 0, shown)?, enters(alloc, 0, &[])?]?;

@@ -28,7 +28,7 @@ settle-returns-in-Ok-Empty t c = λ rows s.
     let marks = c.args.question.now.repeated.now in
     let h : Refutes n (as_given c.deref.result.now) c.in-Ok-Empty.multipliers.items = subst (λ r. IsRefuted n c.deref.result.now r) c.in-Ok-Empty.field-0-is c.in-Ok-Empty.ensures.answers in
     empty_tree n rows marks c.args.left c.args.place.now _ c.in-Ok-Empty.multipliers.items c.in_ok-all-in-Ok-Empty.all s (subst (λ k. Refutes n (as_given k) c.in-Ok-Empty.multipliers.items) c.deref.ensures.value h)
-    (c.in_ok-all-in-Ok-Empty.ensures ∙ ap (λ m. stretched marks m) c.deref-in-Ok-Empty.ensures.value) refl refl
+    (c.in_ok-all-in-Ok-Empty.ensures ∙ ap (λ m. stretched marks m) (c.deref-in-Ok-Empty-2.ensures.value ∙ c.in_ok-short-in-Ok-Empty.ensures ∙ c.deref-in-Ok-Empty.ensures.value)) refl refl
 
 pub settle-divided-requires-clause-whole : goal.settle-divided-requires-clause-whole
 settle-divided-requires-clause-whole t c = subst (λ v. AreWhole v (to_z w128 (of_z w128 c.in-Ok-Point.scale))) (c.deref-in-Ok-Point.ensures.value ∙ sym c.deref-in-None.ensures.value) c.in-None.ensures

@@ -1,5 +1,5 @@
 use Rattle.std.proofs.Common.{rules, sym, ap, ◌∙◌, FitsSigned, take, get_or, length, ◌-◌, pos, ◌∷◌, [], ◌++◌}
-use Rattle.std.specs.Int.{w128}
+use Rattle.std.specs.Int.{w64, w128}
 use Rattle.std.proofs.lemmas.Int.{to_z-of_z}
 use Rattle.tv_linear.specs.Known.{as_given}
 use Rattle.tv_refute.specs.Built.{built}
@@ -36,7 +36,8 @@ pub returns-else-not-sums_at-2-clause-told : goal.returns-else-not-sums_at-2-cla
 returns-else-not-sums_at-2-clause-told t c =
     let ms = c.args.multipliers.now in
     let above = c.in-More.above.now in
+    let short_fits : FitsSigned w64 (get_or ms (length ms - 1) (pos 0)) = search rules in
     let multiplier_fits : FitsSigned w128 (get_or ms (length ms - 1) (pos 0)) = search rules in
-    let told = simp to_z-of_z at c.add_known.ensures.told in
+    let told = simp to_z-of_z at (simp c.from.ensures at c.add_known.ensures.told) in
     rest_is c.args.column c.args.count (known_at c.args.frames.now) (known_at above) (built c.in-More.row.now ∷ []) ms (take (length ms - 1) ms) (get_or ms (length ms - 1) (pos 0) ∷ []) (at_more c.args.frames.now ms c.requires.many c.in-More.row c.in-More.above c.in-More.is) (more_split c.args.frames.now ms c.requires.many c.in-More.row c.in-More.above c.in-More.is) (more_many c.args.frames.now ms c.requires.many c.in-More.row c.in-More.above c.in-More.is) c.add_known.result c.sums_at-in-len1-up.new.totals c.add_known.new.totals c.if-not-sums_at-2.ensures.told
     (one_rest c.args.column c.args.count c.sums_at-in-len1-up.new.totals (get_or ms (length ms - 1) (pos 0)) (built c.in-More.row.now) c.add_known.result c.add_known.new.totals told)

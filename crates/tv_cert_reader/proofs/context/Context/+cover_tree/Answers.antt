@@ -19,17 +19,17 @@ returns-then-left-eq0 t c =
     let at = behind_as c.in_ok-head.head heads.Split c.in_ok-head.numbers.items c.args.cursor.now c.take.new.cursor c.in-Split.is c.in_ok-head.ensures.line.0 c.in_ok-head.ensures.line.1 in
     deep_stops c.args.width (counts_of c.args.targets.now) c.args.known c.args.left c.args.cursor.now c.take.new.cursor c.in_ok-head.numbers.items at c.if-left-eq0.true
 
-pub returns-in_default-2 : goal.returns-in_default-2
-returns-in_default-2 t c =
+pub returns-in_default-row_of : goal.returns-in_default-row_of
+returns-in_default-row_of t c =
     let at = behind_as c.in_ok-head.head heads.Split c.in_ok-head.numbers.items c.args.cursor.now c.take.new.cursor c.in-Split.is c.in_ok-head.ensures.line.0 c.in_ok-head.ensures.line.1 in
-    let none = no_row c.args.width c.in_ok-head.numbers.items c.in_ok-row-in-Split.field-0 c.in_ok-row-in-Split.ensures c.in_default-2.is in
+    let none = no_row c.args.width c.in_ok-head.numbers.items c.row_of.result c.row_of.ensures c.in_default-row_of.is in
     row_stops c.args.width (counts_of c.args.targets.now) c.args.known c.args.left c.args.cursor.now c.take.new.cursor c.in_ok-head.numbers.items at c.if-left-eq0.false none
 
 pub returns-in_err-holds-in-Split : goal.returns-in_err-holds-in-Split
 returns-in_err-holds-in-Split t c =
     let counts = counts_of c.args.targets.now in
     let at = behind_as c.in_ok-head.head heads.Split c.in_ok-head.numbers.items c.args.cursor.now c.take.new.cursor c.in-Split.is c.in_ok-head.ensures.line.0 c.in_ok-head.ensures.line.1 in
-    let is = row_there c.args.width c.in_ok-head.numbers.items c.in_ok-row-in-Split.field-0 c.in_ok-row-in-Split.ensures c.in-Some.row c.in-Some.is in
+    let is = row_there c.args.width c.in_ok-head.numbers.items c.row_of.result c.row_of.ensures c.in-Some.row c.in-Some.is in
     at_exit (ReadsTree c.args.width counts c.args.known c.args.left c.args.cursor.now c.cover_tree.new.cursor) c.from_residual-in_err-holds-in-Split.result c.in_err-holds-in-Split.field-0.0 c.from_residual-in_err-holds-in-Split.ensures.1
     (holds_fail c.args.width counts c.args.known c.args.left c.args.cursor.now c.take.new.cursor c.in_ok-head.numbers.items at c.in-Some.row is c.if-left-eq0.false c.in_err-holds-in-Split.field-0.0 c.in_err-holds-in-Split.ensures)
 
@@ -37,7 +37,7 @@ pub returns-in_err-fails-in-Split : goal.returns-in_err-fails-in-Split
 returns-in_err-fails-in-Split t c =
     let counts = counts_of c.args.targets.now in
     let at = behind_as c.in_ok-head.head heads.Split c.in_ok-head.numbers.items c.args.cursor.now c.take.new.cursor c.in-Split.is c.in_ok-head.ensures.line.0 c.in_ok-head.ensures.line.1 in
-    let is = row_there c.args.width c.in_ok-head.numbers.items c.in_ok-row-in-Split.field-0 c.in_ok-row-in-Split.ensures c.in-Some.row c.in-Some.is in
+    let is = row_there c.args.width c.in_ok-head.numbers.items c.row_of.result c.row_of.ensures c.in-Some.row c.in-Some.is in
     at_exit (ReadsTree c.args.width counts c.args.known c.args.left c.args.cursor.now c.cover_tree-in-Split.new.cursor) c.from_residual-in_err-fails-in-Split.result c.in_err-fails-in-Split.field-0.0 c.from_residual-in_err-fails-in-Split.ensures.1
     (fails_fail c.args.width counts c.args.known c.args.left c.args.cursor.now c.take.new.cursor c.in_ok-head.numbers.items at c.in-Some.row is c.if-left-eq0.false c.in_ok-holds-in-Split.holds c.cover_tree.new.cursor c.in_ok-holds-in-Split.ensures.0 c.in_ok-holds-in-Split.ensures.1 c.in_err-fails-in-Split.field-0.0 c.in_err-fails-in-Split.ensures)
 
@@ -45,7 +45,7 @@ pub returns-in_ok-split-in-Split : goal.returns-in_ok-split-in-Split
 returns-in_ok-split-in-Split t c =
     let counts = counts_of c.args.targets.now in
     let at = behind_as c.in_ok-head.head heads.Split c.in_ok-head.numbers.items c.args.cursor.now c.take.new.cursor c.in-Split.is c.in_ok-head.ensures.line.0 c.in_ok-head.ensures.line.1 in
-    let is = row_there c.args.width c.in_ok-head.numbers.items c.in_ok-row-in-Split.field-0 c.in_ok-row-in-Split.ensures c.in-Some.row c.in-Some.is in
+    let is = row_there c.args.width c.in_ok-head.numbers.items c.row_of.result c.row_of.ensures c.in-Some.row c.in-Some.is in
     split_read c.args.width counts c.args.known c.args.left c.args.cursor.now c.take.new.cursor c.in_ok-head.numbers.items at c.in-Some.row is c.if-left-eq0.false c.in_ok-holds-in-Split.holds c.cover_tree.new.cursor c.in_ok-holds-in-Split.ensures.0 c.in_ok-holds-in-Split.ensures.1
     c.in_ok-fails-in-Split.fails c.in_ok-split-in-Split.split c.cover_tree-in-Split.new.cursor c.in_ok-fails-in-Split.ensures.0 c.in_ok-fails-in-Split.ensures.1 c.in_ok-split-in-Split.ensures
 
