@@ -58,8 +58,9 @@ def certificate_of(variables, locations, edges, kept, met):
 for name, variables, locations, count, kept in [
     ("1", 512, 1023, 4096, 13),
     ("2", 512, 256, 1024, 13),
-    ("3", 16, 1023, 4096, 16),
-    ("4", 4, 1023, 4096, 4),
+    ("3", 36, 1023, 4096, 36),
+    ("4", 16, 1023, 4096, 16),
+    ("5", 4, 1023, 4096, 4),
 ]:
     edges = edges_of(variables, locations, count)
     program = program_of(variables, edges)
@@ -93,8 +94,9 @@ def best(words, text):
 for name, told in [
     ("1", "512 variables, 4,096 edges"),
     ("2", "512 variables, 1,024 edges"),
-    ("3", "16 variables, 4,096 edges"),
-    ("4", "4 variables, 4,096 edges"),
+    ("3", "36 variables, 4,096 edges"),
+    ("4", "16 variables, 4,096 edges"),
+    ("5", "4 variables, 4,096 edges"),
 ]:
     text = f"{FOLDER}/{name}"
     size = (os.path.getsize(f"{text}.checked") - os.path.getsize(f"{text}.bare")) / 2**20

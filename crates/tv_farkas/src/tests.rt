@@ -137,15 +137,15 @@ fn large_systems_are_refused(rt: HostRuntime) -> Result<(), Fail> {
 /// What `empty` is to give.
 #[derive(Drop)]
 enum Found {
-    Leaf(&'static [i128]),
+    Leaf(&'static [i64]),
     /// A split at a row, with the multipliers of each side.
-    Sides(Numbers, &'static [i128], &'static [i128]),
+    Sides(Numbers, &'static [i64], &'static [i64]),
     Whole(&'static [i128]),
     Splits(&'static [Numbers]),
     Solve(usize),
 }
 
-fn is_leaf(tree: &CoverTree, numbers: &[i128]) -> bool {
+fn is_leaf(tree: &CoverTree, numbers: &[i64]) -> bool {
     match tree {
         CoverTree::Empty(multipliers) => multipliers.as_slice() == numbers,
         _ => false,
