@@ -1,8 +1,9 @@
 #!/usr/bin/env bash
 # How long the built program takes to read a certificate of up to 16 MiB and to check it, and how much memory: an invariant over many
-# variables, most of whose text is rows, and one over few, most of whose text is lines of multipliers. Beside it a plain scan of the same
-# lines, which takes one product and one sum for each number. The best of 5 runs, start and reading of the input counted. First with the
-# heading of a certificate alone, which takes what the program and its cases take; then what comes on top is told.
+# variables, most of whose text is rows, and one over few, most of whose text is lines of multipliers; and one of many pieces at one
+# location, and one that is shown by a tree of many splits, whose lines are short. Beside it a plain scan of the same lines, which takes
+# one product and one sum for each number. The best of 5 runs, start and reading of the input counted. First with the heading of a
+# certificate alone, which takes what the program and its cases take; then what comes on top is told.
 # It needs /usr/bin/time, and what is built first by (cd crates/t2verdict && rt run < stdin -- $(cat args)) and
 # (cd crates/reading_bench && rt run -- sum < stdin).
 set -eu
@@ -55,6 +56,46 @@ def certificate_of(variables, locations, edges, kept, met):
     return lines + ["into 0 0", "end"]
 
 
+def one_loop(variables):
+    """From 0 to 1, then v0 falls at 1 without end; one edge needs v0 above a million."""
+    lines = ["START: 0;", "FROM: 0; " + " ".join(f"v{i} := 0;" for i in range(variables)) + " TO: 1;"]
+    return lines + ["FROM: 1; v0 := v0 - 1; TO: 1;", "FROM: 1; assume(v0 > 1000000); TO: bad;"]
+
+
+def pieces_of(variables, kept, pieces, met):
+    """So many pieces at one location, in each of which the variables up to v(kept - 1) are at most its number."""
+    lines = ["CERTIFICATE:", "T2CERT 1", "proved", f"node fix {pieces + 1} 0", "piece 0 go 0"]
+    for bound in range(pieces):
+        lines += [f"piece 1 go {kept}"] + [line("row", unit(i, variables, -bound)) for i in range(kept)]
+    lines += ["node atom 2 0", "piece 0 go 0", "piece 1 go 0", "into 0 0" if met else "empty", "into 0 0", "node atom 0 0"]
+    lines += ["into 0 0", "into 0 0"] + ["by 1"] * kept
+    shown = [line("by", unit(i, kept, 1)) for i in range(kept)]
+    for bound in range(pieces):
+        lines += ["into 0 0", f"into {bound} 0", *shown, line("empty", unit(0, kept, 1))]
+    return lines + ["into 0 0", "end"]
+
+
+def splits(low, high, above):
+    """A tree that halves the values from low to high at each split; each leaf shows the row of the target by that of the piece."""
+    if high - low <= 1:
+        return ["into 0 0", line("by", [1] + [0] * above + [1])]
+    middle = (low + high) // 2
+    return [f"split 1 {-middle}"] + splits(low, middle, above + 1) + splits(middle, high, above + 1)
+
+
+def tree_of(leaves, met):
+    """Below a million v0 stays there; one obligation is shown by a tree with so many leaves."""
+    lines = ["CERTIFICATE:", "T2CERT 1", "proved", "node fix 2 0", "piece 0 go 0", "piece 1 go 1", "row 1 -1000000"]
+    lines += ["node atom 2 0", "piece 0 go 0", "piece 1 go 1", "row 1 -1000000", "into 0 0" if met else "empty", "into 0 0"]
+    lines += ["node atom 0 0", "into 0 0", "into 0 0", "by 1", *splits(0, leaves, 0)]
+    return lines + ["into 0 0", "by 1 1", "empty 1 1", "into 0 0", "end"]
+
+
+def write(name, what, lines):
+    with open(f"{sys.argv[1]}/{name}.{what}", "w") as file:
+        file.write("\n".join(lines) + "\n")
+
+
 for name, variables, locations, count, kept in [
     ("1", 512, 1023, 4096, 13),
     ("2", 512, 256, 1024, 13),
@@ -64,12 +105,18 @@ for name, variables, locations, count, kept in [
 ]:
     edges = edges_of(variables, locations, count)
     program = program_of(variables, edges)
-    texts = {"bare": ["CERTIFICATE:"]}
-    texts["read"] = certificate_of(variables, locations, edges, kept, False)
-    texts["checked"] = certificate_of(variables, locations, edges, kept, True)
-    for what, certificate in texts.items():
-        with open(f"{sys.argv[1]}/{name}.{what}", "w") as file:
-            file.write("\n".join(program + certificate) + "\n")
+    write(name, "bare", program + ["CERTIFICATE:"])
+    write(name, "read", program + certificate_of(variables, locations, edges, kept, False))
+    write(name, "checked", program + certificate_of(variables, locations, edges, kept, True))
+for name, variables, kept, pieces in [("6", 1, 1, 50000), ("7", 1, 1, 200000), ("8", 4, 4, 50000)]:
+    program = one_loop(variables)
+    write(name, "bare", program + ["CERTIFICATE:"])
+    write(name, "read", program + pieces_of(variables, kept, pieces, False))
+    write(name, "checked", program + pieces_of(variables, kept, pieces, True))
+program = one_loop(1)
+write("9", "bare", program + ["CERTIFICATE:"])
+write("9", "read", program + tree_of(2**17, False))
+write("9", "checked", program + tree_of(2**17, True))
 END_OF_TEXTS
 python3 - crates/t2verdict/out/t2verdict crates/reading_bench/out/reading_bench "$folder" <<'END_OF_RUNS'
 import os, subprocess, sys, time
@@ -97,6 +144,10 @@ for name, told in [
     ("3", "36 variables, 4,096 edges"),
     ("4", "16 variables, 4,096 edges"),
     ("5", "4 variables, 4,096 edges"),
+    ("6", "1 variable, 50,000 pieces at one location"),
+    ("7", "1 variable, 200,000 pieces at one location"),
+    ("8", "4 variables, 50,000 pieces at one location"),
+    ("9", "1 variable, a tree of 131,071 splits"),
 ]:
     text = f"{FOLDER}/{name}"
     size = (os.path.getsize(f"{text}.checked") - os.path.getsize(f"{text}.bare")) / 2**20

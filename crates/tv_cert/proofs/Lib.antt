@@ -5,6 +5,7 @@ pub mod ShapeFits
 pub mod SaidLemmas
 pub mod VisitLemmas
 pub mod VisitedCases
+pub mod IndexedLemmas
 pub mod JoinedLemmas
 pub mod SaidNodes
 pub mod AimLemmas

@@ -60,7 +60,7 @@ abbrev pub proofs_list : Node → List Proof
 proofs_list node = (out-Node node).proofs.items
 
 pub pieces_are : (node : Node) → pieces_of node ≡ pieces_list node
-pieces_are (Node' ps m shape kids proofs) = sym (ap (λ x. x.pieces.items) (outs-Node' ps m shape kids proofs))
+pieces_are (Node' ps m shape kids proofs) = sym (ap (λ x. x.pieces) (outs-Node' ps m shape kids proofs))
 
 pub kid_pieces_are : {k : _} (kids : Row_of-Node k) → kid_pieces kids ≡ map pieces_list (items-the_row-Node k kids)
 kid_pieces_are end_of-Node = refl
@@ -68,7 +68,7 @@ kid_pieces_are (more_of-Node a kids) = (λ i. pieces_are a i ∷ kid_pieces_are 
 
 pub own_are : (number : ℕ) (about : About) (f : Property) (node : Node) → own_entries number about f node ≡ paired (own_of number about f (pieces_list node) (map pieces_list (kids_of node))) (proofs_list node)
 own_are number about f (Node' ps m shape kids proofs) =
-    let a = ap (λ x. x.pieces.items) (outs-Node' ps m shape kids proofs) in
+    let a = ap (λ x. x.pieces) (outs-Node' ps m shape kids proofs) in
     let b = kid_pieces_are kids ∙ ap (map pieces_list) (sym (out_is ps m shape kids proofs)) in
     let c = ap (λ x. x.proofs.items) (outs-Node' ps m shape kids proofs) in
     (λ i. paired (own_of number about f (sym a i) (b i)) (sym c i))
@@ -86,7 +86,7 @@ own_moved n m m' f ps ps' proofs proofs' a b c h = subst (λ (x : Type 0). x) (�
 pub node_fits : (n : ℕ) (f : Property) (node : Node) → OwnFits n (out-Node node).ranks f (pieces_list node) (proofs_list node) → fits_list n (parts f) (kids_of node) → NodeFits n f node
 node_fits n f (Node' ps m shape kids proofs) own below =
     let e = outs-Node' ps m shape kids proofs in
-    (own_moved n _ m f _ ps.items _ proofs.items (ap (λ x. x.ranks) e) (ap (λ x. x.pieces.items) e) (ap (λ x. x.proofs.items) e) own, fits_back n (parts f) kids (subst (fits_list n (parts f)) (out_is ps m shape kids proofs) below))
+    (own_moved n _ m f _ ps _ proofs.items (ap (λ x. x.ranks) e) (ap (λ x. x.pieces) e) (ap (λ x. x.proofs.items) e) own, fits_back n (parts f) kids (subst (fits_list n (parts f)) (out_is ps m shape kids proofs) below))
 
 -- there are as many entries as obligations
 pub length-paired : (os : List Obligation) (proofs : List Proof) → length (paired os proofs) ≡ length os

@@ -59,7 +59,7 @@ own-stated number about f ps kids = each_same (said_at number about.system (stat
 mutual
   pub entries-stated : (number : ℕ) (about : About) (f : Property) (node : Node) → said_entries number about.system (stated about.tests f) node ≡ entries number about f node
   entries-stated number about f (Node' ps m shape kids proofs) =
-      (λ i. (ap (λ ss. said_kids (number + 1) about.system ss kids) (parts-stated about f) ∙ kids-stated (number + 1) about (parts f) kids) i ++ paired (own-stated number about f ps.items (kid_pieces kids) i) proofs.items)
+      (λ i. (ap (λ ss. said_kids (number + 1) about.system ss kids) (parts-stated about f) ∙ kids-stated (number + 1) about (parts f) kids) i ++ paired (own-stated number about f ps (kid_pieces kids) i) proofs.items)
 
   kids-stated : {k : _} (number : ℕ) (about : About) (fs : Properties) (kids : Row_of-Node k) → said_kids number about.system (stated_all about.tests fs) kids ≡ kid_entries number about fs kids
   kids-stated number about none end_of-Node = refl

@@ -45,7 +45,7 @@ parts_are s (Node' ps m shape kids proofs) h = subst (parts_list (parts_of s)) (
 
 pub said_own_are : (number : ℕ) (system : CaseSystem) (s : Statement) (node : Node) → said_own_entries number system s node ≡ paired (said_own number system s (pieces_list node) (map pieces_list (kids_of node))) (proofs_list node)
 said_own_are number system s (Node' ps m shape kids proofs) =
-    let a = ap (λ x. x.pieces.items) (outs-Node' ps m shape kids proofs) in
+    let a = ap (λ x. x.pieces) (outs-Node' ps m shape kids proofs) in
     let b = kid_pieces_are kids ∙ ap (map pieces_list) (sym (out_is ps m shape kids proofs)) in
     let c = ap (λ x. x.proofs.items) (outs-Node' ps m shape kids proofs) in
     (λ i. paired (said_own number system s (sym a i) (b i)) (sym c i))

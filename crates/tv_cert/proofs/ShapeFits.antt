@@ -143,7 +143,7 @@ own_fits about f m ps kids proofs h = record {
 
 mutual
   pub shape_fits : (about : About) (f : Property) (node : Node) → HasShape about f node → NodeFits about.system.variables f node
-  shape_fits about f (Node' ps m shape kids proofs) h = (own_fits about f m ps.items (kid_pieces kids) proofs.items h.0, kids_fit about (parts f) kids h.1)
+  shape_fits about f (Node' ps m shape kids proofs) h = (own_fits about f m ps (kid_pieces kids) proofs.items h.0, kids_fit about (parts f) kids h.1)
 
   kids_fit : {k : _} (about : About) (fs : Properties) (kids : Row_of-Node k) → HaveShapes about fs kids → KidsFit about.system.variables fs kids
   kids_fit about none end_of-Node h = tt

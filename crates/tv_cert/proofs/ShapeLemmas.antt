@@ -36,7 +36,7 @@ own_moved about f m m' ps ps' kids kids' proofs proofs' a b c d h = subst (λ (x
 pub own_shape : (about : About) (f : Property) (node : Node) → HasShape about f node → OwnShape about f (out-Node node).ranks (pieces_list node) (map pieces_list (kids_of node)) (proofs_list node)
 own_shape about f (Node' ps m shape kids proofs) h =
     let e = outs-Node' ps m shape kids proofs in
-    own_moved about f m _ ps.items _ (kid_pieces kids) _ proofs.items _ (sym (ap (λ x. x.ranks) e)) (sym (ap (λ x. x.pieces.items) e)) (kid_pieces_are kids ∙ ap (map pieces_list) (sym (out_is ps m shape kids proofs))) (sym (ap (λ x. x.proofs.items) e)) h.0
+    own_moved about f m _ ps _ (kid_pieces kids) _ proofs.items _ (sym (ap (λ x. x.ranks) e)) (sym (ap (λ x. x.pieces) e)) (kid_pieces_are kids ∙ ap (map pieces_list) (sym (out_is ps m shape kids proofs))) (sym (ap (λ x. x.proofs.items) e)) h.0
 
 -- its children
 pub kid_shapes : (about : About) (f : Property) (node : Node) → HasShape about f node → shapes_list about (parts f) (kids_of node)
@@ -46,6 +46,6 @@ kid_shapes about f (Node' ps m shape kids proofs) h = subst (shapes_list about (
 pub has_shape : (about : About) (f : Property) (node : Node) → OwnShape about f (out-Node node).ranks (pieces_list node) (map pieces_list (kids_of node)) (proofs_list node) → shapes_list about (parts f) (kids_of node) → HasShape about f node
 has_shape about f (Node' ps m shape kids proofs) own below =
     let e = outs-Node' ps m shape kids proofs in (
-      own_moved about f _ m _ ps.items _ (kid_pieces kids) _ proofs.items (ap (λ x. x.ranks) e) (ap (λ x. x.pieces.items) e) (sym (kid_pieces_are kids ∙ ap (map pieces_list) (sym (out_is ps m shape kids proofs)))) (ap (λ x. x.proofs.items) e) own,
+      own_moved about f _ m _ ps _ (kid_pieces kids) _ proofs.items (ap (λ x. x.ranks) e) (ap (λ x. x.pieces) e) (sym (kid_pieces_are kids ∙ ap (map pieces_list) (sym (out_is ps m shape kids proofs)))) (ap (λ x. x.proofs.items) e) own,
       shapes_back about (parts f) kids (subst (shapes_list about (parts f)) (out_is ps m shape kids proofs) below),
     )

@@ -42,7 +42,7 @@ pub record OwnFits (n m : ℕ) (f : Property) (ps : List Marked) (proofs : List 
 abbrev mutual
   -- the node and those below it fit the formula and its arguments, over n variables
   pub NodeFits : ℕ → Property → Node → Type 0
-  NodeFits n f (Node' ps m shape kids proofs) = OwnFits n m f ps.items proofs.items × KidsFit n (parts f) kids
+  NodeFits n f (Node' ps m shape kids proofs) = OwnFits n m f ps proofs.items × KidsFit n (parts f) kids
 
   pub KidsFit : {k : _} → ℕ → Properties → Row_of-Node k → Type 0
   KidsFit n none end_of-Node = Unit {0}

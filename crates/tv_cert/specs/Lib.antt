@@ -7,6 +7,7 @@ pub mod Nodes
 pub mod Fits
 pub mod Plain
 pub mod Listed
+pub mod Indexed
 pub mod Shapes
 pub mod Statements
 pub mod Said

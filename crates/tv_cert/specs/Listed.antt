@@ -7,8 +7,8 @@ use Rattle.tv_cert.specs.Nodes.{kid_pieces}
 
 -- the pieces of a node
 abbrev pub pieces_list : Node → List Marked
-pieces_list node = (out-Node node).pieces.items
+pieces_list node = (out-Node node).pieces
 
 -- the node's own entries
 abbrev pub own_entries : ℕ → About → Property → Node → List Entry
-own_entries number about f (Node' ps m shape kids proofs) = paired (own_of number about f ps.items (kid_pieces kids)) proofs.items
+own_entries number about f (Node' ps m shape kids proofs) = paired (own_of number about f ps (kid_pieces kids)) proofs.items

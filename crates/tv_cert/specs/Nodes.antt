@@ -14,7 +14,7 @@ use Rattle.tv_cert.specs.Obligations.{About, Entry, a_cover, a_point, own_of, pa
 
 -- the pieces of a node and of its children
 abbrev pub pieces_of : Node → List Marked
-pieces_of (Node' ps m shape kids proofs) = ps.items
+pieces_of (Node' ps m shape kids proofs) = ps
 
 abbrev pub kid_pieces : {k : _} → Row_of-Node k → List (List Marked)
 kid_pieces end_of-Node = []
@@ -45,7 +45,7 @@ abbrev mutual
   -- the entries of the node with this number and of those below it: the children's in order, then its own
   pub entries : ℕ → About → Property → Node → List Entry
   entries number about f (Node' ps m shape kids proofs) =
-      kid_entries (number + 1) about (parts f) kids ++ paired (own_of number about f ps.items (kid_pieces kids)) proofs.items
+      kid_entries (number + 1) about (parts f) kids ++ paired (own_of number about f ps (kid_pieces kids)) proofs.items
 
   pub kid_entries : {k : _} → ℕ → About → Properties → Row_of-Node k → List Entry
   kid_entries number about fs end_of-Node = []

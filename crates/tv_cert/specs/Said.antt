@@ -35,7 +35,7 @@ abbrev mutual
   -- the entries of the node with this number and of those below it
   pub said_entries : ℕ → CaseSystem → Statement → Node → List Entry
   said_entries number system s (Node' ps m shape kids proofs) =
-      said_kids (number + 1) system (parts_of s) kids ++ paired (said_own number system s ps.items (kid_pieces kids)) proofs.items
+      said_kids (number + 1) system (parts_of s) kids ++ paired (said_own number system s ps (kid_pieces kids)) proofs.items
 
   pub said_kids : {k : _} → ℕ → CaseSystem → Statements → Row_of-Node k → List Entry
   said_kids number system ss end_of-Node = []
@@ -44,7 +44,7 @@ abbrev mutual
 
 -- the node's own entries
 abbrev pub said_own_entries : ℕ → CaseSystem → Statement → Node → List Entry
-said_own_entries number system s (Node' ps m shape kids proofs) = paired (said_own number system s ps.items (kid_pieces kids)) proofs.items
+said_own_entries number system s (Node' ps m shape kids proofs) = paired (said_own number system s ps (kid_pieces kids)) proofs.items
 
 abbrev mutual
   -- the node and those below it have a child for each argument of what they are to show

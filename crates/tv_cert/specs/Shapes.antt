@@ -108,7 +108,7 @@ pub record OwnShape (about : About) (f : Property) (m : ℕ) (ps : List Marked) 
 abbrev mutual
   -- the node has the shape of a node of the formula, and its children are those of the arguments
   pub HasShape : About → Property → Node → Type 0
-  HasShape about f (Node' ps m shape kids proofs) = OwnShape about f m ps.items (kid_pieces kids) proofs.items × HaveShapes about (parts f) kids
+  HasShape about f (Node' ps m shape kids proofs) = OwnShape about f m ps (kid_pieces kids) proofs.items × HaveShapes about (parts f) kids
 
   pub HaveShapes : {k : _} → About → Properties → Row_of-Node k → Type 0
   HaveShapes about none end_of-Node = Unit {0}

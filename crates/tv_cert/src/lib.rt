@@ -8,6 +8,8 @@ mod node;
 mod owes;
 mod parts;
 mod pieces;
+#[cfg(test)]
+mod tests;
 mod visiting;
 mod visitor;
 
@@ -17,6 +19,6 @@ pub use claim::Claim;
 pub use node::{Kind, Mark, Marked, Node, Proof, Verdict};
 pub use owes::{Destination, Owes};
 pub use parts::part;
-pub use pieces::{joined_piece_at, piece_at};
+pub use pieces::{Pieces, joined_piece_at};
 pub use visiting::visit_pieces;
 pub use visitor::Visitor;

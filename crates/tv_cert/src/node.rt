@@ -1,3 +1,4 @@
+use crate::pieces::Pieces;
 use tv_linear::{Choice, Cover, Piece, Row};
 
 /// What a piece of a node is for: its states are done, or they go on.
@@ -25,7 +26,7 @@ pub enum Proof {
 /// One formula of the property: where it holds, the nodes of its arguments, and a proof for each of its own obligations.
 #[derive(Drop)]
 pub struct Node {
-    pub pieces: Vec<Marked>,
+    pub pieces: Pieces,
     /// How many ranks each piece has that goes on by ranks.
     pub ranks: u32,
     pub children: Vec<Node>,

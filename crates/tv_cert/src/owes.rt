@@ -1,4 +1,5 @@
 use crate::node::{Marked, Node};
+use crate::pieces::Pieces;
 use tv_cases::Case;
 use tv_linear::Row;
 
@@ -6,7 +7,7 @@ use tv_linear::Row;
 #[derive(Drop)]
 pub enum Destination<'a> {
     Anywhere,
-    Into { pieces: &'a [Marked], falls: bool },
+    Into { pieces: &'a Pieces, falls: bool },
 }
 
 /// What a piece of a node owes, as it lies in the certificate and the cases.
@@ -25,7 +26,7 @@ pub enum Owes<'a> {
     /// A cover into the pieces of a region at the piece's location.
     Pieces {
         piece: &'a Marked,
-        into: &'a [Marked],
+        into: &'a Pieces,
     },
     /// A cover into the pieces of all nodes, in order.
     Joined {
@@ -36,7 +37,7 @@ pub enum Owes<'a> {
     Step {
         piece: &'a Marked,
         case: &'a Case,
-        into: &'a [Marked],
+        into: &'a Pieces,
         falls: bool,
     },
     /// A choice, which may show that there is no step where `stop` is true.

@@ -1,12 +1,111 @@
-ghost use Rattle.std.specs.Prelude.{◌≡◌, MatchOption, None, Some, slice_get, length, map};
+ghost use Rattle.std.specs.Prelude.{◌≡◌, [], IfOk, MatchOption, None, Some, slice_get, length, map};
 ghost use Rattle.std.specs.List.{flat_map};
-ghost use Rattle.tv_cert.specs.Pieces.{pieces_at};
+ghost use Rattle.tv_cert.specs.Pieces.{place_of, pieces_at};
+ghost use Rattle.tv_cert.specs.Indexed.{IsIndexed};
 ghost use Rattle.tv_cert.specs.Listed.{pieces_list};
 
 use crate::node::{Marked, Node};
+use std::alloc::{AllocError, Global};
+use std::marker::Model;
+use tv_places::{Stand, count_of, index, place_at};
+
+/// The pieces of a node, in order. Those at a location are found in time logarithmic in how many there are.
+#[derive(Drop)]
+pub struct Pieces {
+    list: Vec<Marked>,
+    /// Where the pieces of each location stand in the list; nothing where the list is gone through instead.
+    index: Vec<Stand>,
+}
+
+impl Model for Pieces {
+    ghost use Rattle.std.specs.Prelude.{List};
+    ghost use Rattle.tv_cert.specs.declared.node.Marked.{Marked};
+    ghost use Rattle.tv_cert.specs.Indexed.{IsIndexed};
+
+    ghost Value = { List Marked };
+
+    ghost view = { λ p. p.list.items };
+
+    ghost invariant = { λ p. IsIndexed p.list.items p.index.items };
+}
+
+/// So many pieces are gone through in less time than they are looked up.
+const SHORT: usize = 16;
+
+/// The locations of the pieces, in order.
+fn locations(alloc: Global, list: &[Marked]) -> Result<Vec<u32>, AllocError>
+    ensures { IfOk result (λ v. v.items ≡ map place_of list.now) }
+{
+    let mut locations = Vec::with_capacity(alloc, list.len())?;
+    for piece in list {
+        locations.push(piece.piece.location)?;
+    }
+    Ok(locations)
+}
+
+/// Where the pieces of each location stand. There is no index of a short list, nor of 2^32 pieces or more.
+fn index_of(alloc: Global, list: &[Marked]) -> Result<Vec<Stand>, AllocError>
+    ensures { IfOk result (λ stands. IsIndexed list.now stands.items) }
+{
+    if list.len() <= SHORT || list.len() >= 1 << 32 {
+        return Ok(Vec::new(alloc));
+    }
+    let locations = locations(alloc, list)?;
+    let stands = index(alloc, &locations)?;
+    Ok(stands)
+}
+
+impl Pieces {
+    pub fn new(alloc: Global, list: Vec<Marked>) -> Result<Pieces, AllocError>
+        ensures { IfOk result (λ pieces. pieces ≡ list.items) }
+    {
+        let index = index_of(alloc, &list)?;
+        Ok(Pieces { list, index })
+    }
+
+    /// No pieces. It takes no memory.
+    pub fn none(&self) -> Pieces
+        ensures { result ≡ [] }
+    {
+        let alloc = *self.list.allocator();
+        Pieces {
+            list: Vec::new(alloc),
+            index: Vec::new(alloc),
+        }
+    }
+
+    pub fn list(&self) -> &[Marked]
+        ensures { result.now ≡ self.now }
+    {
+        &self.list
+    }
+
+    /// The piece at place `k` among those at the location.
+    pub fn at(&self, location: u32, k: u32) -> Option<&Marked>
+        ensures { MatchOption result (slice_get (pieces_at self.now location) k ≡ None) (λ q. slice_get (pieces_at self.now location) k ≡ Some q.now) }
+    {
+        if self.index.is_empty() {
+            return piece_at(&self.list, location, k);
+        }
+        match place_at(&self.index, location, k as usize) {
+            None => None,
+            Some(place) => self.list.get(place as usize),
+        }
+    }
+
+    /// How many of the pieces are at the location.
+    fn count_at(&self, location: u32) -> usize
+        ensures { result ≡ length (pieces_at self.now location) }
+    {
+        if self.index.is_empty() {
+            return count_at(&self.list, location);
+        }
+        count_of(&self.index, location)
+    }
+}
 
 /// The piece at place `k` among those at the location.
-pub fn piece_at(pieces: &[Marked], location: u32, k: u32) -> Option<&Marked>
+fn piece_at(pieces: &[Marked], location: u32, k: u32) -> Option<&Marked>
     ensures { MatchOption result (slice_get (pieces_at pieces.now location) k ≡ None) (λ q. slice_get (pieces_at pieces.now location) k ≡ Some q.now) }
 {
     let mut left = k;
@@ -38,9 +137,9 @@ pub fn joined_piece_at(nodes: &[Node], location: u32, k: u32) -> Option<&Marked>
     match nodes {
         [] => None,
         [node, rest @ ..] => {
-            let here = count_at(&node.pieces, location);
+            let here = node.pieces.count_at(location);
             if (k as usize) < here {
-                piece_at(&node.pieces, location, k)
+                node.pieces.at(location, k)
             } else {
                 joined_piece_at(rest, location, k - here as u32)
             }

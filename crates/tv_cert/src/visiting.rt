@@ -17,6 +17,7 @@ ghost use Rattle.tv_cert.specs.Visits.{Visits};
 use crate::aim::Aim;
 use crate::node::{Kind, Mark, Marked, Node};
 use crate::owes::{Destination, Owes};
+use crate::pieces::Pieces;
 use crate::visitor::Visitor;
 use tv_cases::{Case, Cases};
 use tv_formula::{Path, Shape};
@@ -37,7 +38,7 @@ fn visit_cover<V: Visitor>(
     number: u32,
     kind: Kind,
     piece: &Marked,
-    into: &[Marked],
+    into: &Pieces,
 ) -> bool
     requires { length (cover_of number kind (about_of (cases_of about.now)) piece.now into.now ∷ []) ≤ V.room visitor.old }
     ensures { Visits (V.passes (cases_of about.now)) (V.stops (cases_of about.now)) V.room result visitor.old (cover_of number kind (about_of (cases_of about.now)) piece.now into.now ∷ []) visitor.new }
@@ -93,7 +94,7 @@ fn visit_case<V: Visitor>(
     number: u32,
     piece: &Marked,
     case: &Case,
-    into: &[Marked],
+    into: &Pieces,
     falls: bool,
 ) -> bool
     requires among { Contains (cases_of about.now).cases (case_view case.now) }
@@ -119,7 +120,7 @@ fn visit_cases<V: Visitor>(
     number: u32,
     piece: &Marked,
     cases: &[Case],
-    into: &[Marked],
+    into: &Pieces,
     falls: bool,
 ) -> bool
     requires among { All (Contains (cases_of about.now).cases) (case_views cases.now) }
@@ -140,7 +141,7 @@ fn visit_steps<V: Visitor>(
     about: &Cases,
     number: u32,
     piece: &Marked,
-    into: &[Marked],
+    into: &Pieces,
     falls: bool,
 ) -> bool
     requires { length (steps_of number (about_of (cases_of about.now)) piece.now into.now (case_falls falls (cases_of about.now) piece.now)) ≤ V.room visitor.old }
@@ -175,8 +176,8 @@ fn visit_done<V: Visitor>(
     number: u32,
     shape: Shape,
     piece: &Marked,
-    first: &[Marked],
-    second: &[Marked],
+    first: &Pieces,
+    second: &Pieces,
 ) -> bool
     requires { length (map (cover_of number Kind.Done (about_of (cases_of about.now)) piece.now) (end_sides shape first.now second.now)) ≤ V.room visitor.old }
     ensures { Visits (V.passes (cases_of about.now)) (V.stops (cases_of about.now)) V.room result visitor.old (map (cover_of number Kind.Done (about_of (cases_of about.now)) piece.now) (end_sides shape first.now second.now)) visitor.new }
@@ -199,7 +200,7 @@ fn visit_ranked<V: Visitor>(
     visitor: &mut V,
     about: &Cases,
     number: u32,
-    pieces: &[Marked],
+    pieces: &Pieces,
     piece: &Marked,
 ) -> bool
     requires { length (choice_of number Kind.Successor (about_of (cases_of about.now)) piece.now false (λ c draws. owed_nothing) ∷ steps_of number (about_of (cases_of about.now)) piece.now pieces.now (step_fall (about_of (cases_of about.now)) piece.now)) ≤ V.room visitor.old }
@@ -227,7 +228,7 @@ fn visit_onward<V: Visitor>(
     number: u32,
     path: Path,
     shape: Shape,
-    pieces: &[Marked],
+    pieces: &Pieces,
     piece: &Marked,
 ) -> bool
     requires { length (go_of number (about_of (cases_of about.now)) path shape pieces.now piece.now) ≤ V.room visitor.old }
@@ -256,8 +257,8 @@ fn visit_hold<V: Visitor>(
     number: u32,
     shape: Shape,
     piece: &Marked,
-    first: &[Marked],
-    second: &[Marked],
+    first: &Pieces,
+    second: &Pieces,
 ) -> bool
     requires { length (cover_of number Kind.Hold (about_of (cases_of about.now)) piece.now (hold_side shape first.now second.now) ∷ []) ≤ V.room visitor.old }
     ensures { Visits (V.passes (cases_of about.now)) (V.stops (cases_of about.now)) V.room result visitor.old (cover_of number Kind.Hold (about_of (cases_of about.now)) piece.now (hold_side shape first.now second.now) ∷ []) visitor.new }
@@ -279,9 +280,9 @@ fn visit_fix<V: Visitor>(
     number: u32,
     path: Path,
     shape: Shape,
-    pieces: &[Marked],
-    first: &[Marked],
-    second: &[Marked],
+    pieces: &Pieces,
+    first: &Pieces,
+    second: &Pieces,
     piece: &Marked,
 ) -> bool
     requires { length (fix_of number (about_of (cases_of about.now)) path shape pieces.now first.now second.now piece.now (goes piece.now)) ≤ V.room visitor.old }
@@ -299,22 +300,24 @@ fn visit_fix<V: Visitor>(
 }
 
 /// The pieces of the first of the nodes, or none.
-fn first_pieces(nodes: &[Node]) -> &[Marked]
+fn first_pieces<'a>(nodes: &'a [Node], none: &'a Pieces) -> &'a Pieces
+    requires { none.now ≡ [] }
     ensures { result.now ≡ first_of (map pieces_list nodes.now) }
 {
     match nodes {
-        [] => &[],
+        [] => none,
         [node, ..] => &node.pieces,
     }
 }
 
 /// The pieces of the second of the nodes, or none.
-fn second_pieces(nodes: &[Node]) -> &[Marked]
+fn second_pieces<'a>(nodes: &'a [Node], none: &'a Pieces) -> &'a Pieces
+    requires { none.now ≡ [] }
     ensures { result.now ≡ second_of (map pieces_list nodes.now) }
 {
     match nodes {
-        [] => &[],
-        [_, rest @ ..] => first_pieces(rest),
+        [] => none,
+        [_, rest @ ..] => first_pieces(rest, none),
     }
 }
 
@@ -324,14 +327,15 @@ fn visit_piece<V: Visitor>(
     about: &Cases,
     number: u32,
     aim: &Aim,
-    pieces: &[Marked],
+    pieces: &Pieces,
     children: &[Node],
     piece: &Marked,
 ) -> bool
     requires { length (said_at number (cases_of about.now) (aim_states aim.now) pieces.now (map pieces_list children.now) piece.now) ≤ V.room visitor.old }
     ensures { Visits (V.passes (cases_of about.now)) (V.stops (cases_of about.now)) V.room result visitor.old (said_at number (cases_of about.now) (aim_states aim.now) pieces.now (map pieces_list children.now) piece.now) visitor.new }
 {
-    let first = first_pieces(children);
+    let none = pieces.none();
+    let first = first_pieces(children, &none);
     match aim {
         Aim::Rows(lists) => {
             visit(
@@ -371,7 +375,7 @@ fn visit_piece<V: Visitor>(
             visit_choice(visitor, about, number, Kind::Choice, piece, false, into)
         }
         Aim::Along(path, shape, _, _) => {
-            let second = second_pieces(children);
+            let second = second_pieces(children, &none);
             visit_fix(
                 visitor, about, number, *path, *shape, pieces, first, second, piece,
             )
@@ -385,13 +389,13 @@ pub fn visit_pieces<V: Visitor>(
     about: &Cases,
     number: u32,
     aim: &Aim,
-    pieces: &[Marked],
+    pieces: &Pieces,
     children: &[Node],
 ) -> bool
     requires { length (said_own number (cases_of about.now) (aim_states aim.now) pieces.now (map pieces_list children.now)) ≤ V.room visitor.old }
     ensures { Visits (V.passes (cases_of about.now)) (V.stops (cases_of about.now)) V.room result visitor.old (said_own number (cases_of about.now) (aim_states aim.now) pieces.now (map pieces_list children.now)) visitor.new }
 {
-    for piece in pieces {
+    for piece in pieces.list() {
         if !visit_piece(visitor, about, number, aim, pieces, children, piece) {
             return false;
         }

@@ -41,7 +41,7 @@ pieces_outlines (p ∷ ps) = λ i. outline p ∷ pieces_outlines ps i
 
 node_outlines : (n : Node) → outlines (pieces_of n) ≡ value_outlines (node_value n)
 unfolding value_outlines
-node_outlines (Node' ps m shape kids proofs) = pieces_outlines ps.items
+node_outlines (Node' ps m shape kids proofs) = pieces_outlines ps
 
 kid_outlines : {k : _} (kids : Row_of-Node k) → map outlines (kid_pieces kids) ≡ child_outlines (child_values kids)
 unfolding child_outlines
@@ -76,16 +76,16 @@ module _ (system : CaseSystem) where
   mutual
     pub node_told : (s : Statement) (a b : Node) (xs ys : List PlainLine) → IsShapedAs system s a → IsShapedAs system s b → stated_lines s a ++ xs ≡ stated_lines s b ++ ys → (node_value a ≡ node_value b) × (xs ≡ ys)
     node_told s (Node' ps m shape kids proofs) (Node' qs n other others offered) xs ys h g e =
-        let two = same_two (length ps.items) m (length qs.items) n (same_numbers _ _ _ _ (same_head _ _ _ _ e)) in
+        let two = same_two (length ps) m (length qs) n (same_numbers _ _ _ _ (same_head _ _ _ _ e)) in
         let mine = flat_map proof_lines proofs.items in
         let theirs = flat_map proof_lines offered.items in
         let kid = children_lines (parts_of s) kids in
         let twin = children_lines (parts_of s) others in
-        let behind = behind_first (flat_map piece_lines ps.items) (kid ++ mine) (flat_map piece_lines qs.items) (twin ++ theirs) xs ys (same_tail _ _ _ _ e) in
-        let each = subst (λ r. All (PieceShape system r (done_may_be s)) qs.items) (sym two.1) g.0.each in
-        let pieces = each_told piece_lines piece_value (PieceShape system m (done_may_be s)) (piece_told system m (done_may_be s)) ps.items qs.items ((kid ++ mine) ++ xs) ((twin ++ theirs) ++ ys) two.0 h.0.each each behind in
+        let behind = behind_first (flat_map piece_lines ps) (kid ++ mine) (flat_map piece_lines qs) (twin ++ theirs) xs ys (same_tail _ _ _ _ e) in
+        let each = subst (λ r. All (PieceShape system r (done_may_be s)) qs) (sym two.1) g.0.each in
+        let pieces = each_told piece_lines piece_value (PieceShape system m (done_may_be s)) (piece_told system m (done_may_be s)) ps qs ((kid ++ mine) ++ xs) ((twin ++ theirs) ++ ys) two.0 h.0.each each behind in
         let below = children_told (parts_of s) kids others (mine ++ xs) (theirs ++ ys) h.1 g.1 (behind_first kid mine twin theirs xs ys pieces.1) in
-        let shown = own_told s m n ps.items qs.items (kid_pieces kids) (kid_pieces others) proofs.items offered.items xs ys h.0 g.0 two.1 (same_pieces ps.items qs.items pieces.0) (same_kids kids others below.0) below.1 in
+        let shown = own_told s m n ps qs (kid_pieces kids) (kid_pieces others) proofs.items offered.items xs ys h.0 g.0 two.1 (same_pieces ps qs pieces.0) (same_kids kids others below.0) below.1 in
         (λ i. node (pieces.0 i) (two.1 i) (below.0 i) (shown.0 i), shown.1)
 
     pub children_told : {j : _} {k : _} (ss : Statements) (kids : Row_of-Node j) (others : Row_of-Node k) (xs ys : List PlainLine) → AreShapedAs system ss kids → AreShapedAs system ss others → children_lines ss kids ++ xs ≡ children_lines ss others ++ ys → (child_values kids ≡ child_values others) × (xs ≡ ys)

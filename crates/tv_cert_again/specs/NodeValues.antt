@@ -40,7 +40,7 @@ mutual
 
 abbrev mutual
   pub node_value : Node → NodeValue
-  node_value (Node' ps m shape kids proofs) = node (map piece_value ps.items) m (child_values kids) (map proof_value proofs.items)
+  node_value (Node' ps m shape kids proofs) = node (map piece_value ps) m (child_values kids) (map proof_value proofs.items)
 
   pub child_values : {k : _} → Row_of-Node k → NodeValues
   child_values end_of-Node = none

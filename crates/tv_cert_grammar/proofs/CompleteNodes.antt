@@ -67,7 +67,7 @@ module _ (over : Bool) (system : CaseSystem) where
     pub node_read : (s : Statement) (n : Node) (rest : List PlainLine) → IsShapedAs system s n → (node over system s).read (stated_lines s n ++ rest) ≡ Ok (outlines (pieces_of n), rest)
     node_read s (Node' ps m shape kids offered) rest h =
         node_is s (stated_lines s (Node' ps m shape kids offered) ++ rest)
-        ∙ own_read s m ps.items (kid_pieces kids) offered.items h.0 (nodes over system (parts_of s)) (children_lines (parts_of s) kids) (λ r. nodes_read (parts_of s) kids r h.1) rest
+        ∙ own_read s m ps (kid_pieces kids) offered.items h.0 (nodes over system (parts_of s)) (children_lines (parts_of s) kids) (λ r. nodes_read (parts_of s) kids r h.1) rest
 
     pub nodes_read : {k : _} (ss : Statements) (kids : Row_of-Node k) (rest : List PlainLine) → AreShapedAs system ss kids → (nodes over system ss).read (children_lines ss kids ++ rest) ≡ Ok (map outlines (kid_pieces kids), rest)
     nodes_read no_statement end_of-Node rest h = refl

@@ -19,7 +19,7 @@ module _ (about : About) where
   mutual
     pub shaped_as : (f : Property) (n : Node) → HasShape about f n → IsShapedAs about.system (stated about.tests f) n
     shaped_as f (Node' ps m shape kids proofs) h =
-        (own_back about f m ps.items (kid_pieces kids) proofs.items h.0, subst (λ ss. AreShapedAs about.system ss kids) (sym (parts-stated about f)) (all_shaped_as (parts f) kids h.1))
+        (own_back about f m ps (kid_pieces kids) proofs.items h.0, subst (λ ss. AreShapedAs about.system ss kids) (sym (parts-stated about f)) (all_shaped_as (parts f) kids h.1))
 
     pub all_shaped_as : {k : _} (fs : Properties) (kids : Row_of-Node k) → HaveShapes about fs kids → AreShapedAs about.system (stated_all about.tests fs) kids
     all_shaped_as none end_of-Node h = tt
@@ -30,7 +30,7 @@ module _ (about : About) where
   mutual
     pub shaped_back : (f : Property) (n : Node) → IsShapedAs about.system (stated about.tests f) n → HasShape about f n
     shaped_back f (Node' ps m shape kids proofs) h =
-        (own_shaped about f m ps.items (kid_pieces kids) proofs.items h.0, all_shaped_back (parts f) kids (subst (λ ss. AreShapedAs about.system ss kids) (parts-stated about f) h.1))
+        (own_shaped about f m ps (kid_pieces kids) proofs.items h.0, all_shaped_back (parts f) kids (subst (λ ss. AreShapedAs about.system ss kids) (parts-stated about f) h.1))
 
     pub all_shaped_back : {k : _} (fs : Properties) (kids : Row_of-Node k) → AreShapedAs about.system (stated_all about.tests fs) kids → HaveShapes about fs kids
     all_shaped_back none end_of-Node h = tt
@@ -61,7 +61,7 @@ module _ (about : About) where
     pub lines_as : (f : Property) (n : Node) → stated_lines (stated about.tests f) n ≡ node_lines f n
     lines_as f (Node' ps m shape kids proofs) =
         let below = ap (λ ss. children_lines ss kids) (parts-stated about f) ∙ all_lines_as (parts f) kids in
-        (λ i. formed (heads.Node (kind_stated f i)) (pos (length ps.items) ∷ pos m ∷ []) ∷ (flat_map piece_lines ps.items ++ (below i ++ flat_map proof_lines proofs.items)))
+        (λ i. formed (heads.Node (kind_stated f i)) (pos (length ps) ∷ pos m ∷ []) ∷ (flat_map piece_lines ps ++ (below i ++ flat_map proof_lines proofs.items)))
 
     pub all_lines_as : {k : _} (fs : Properties) (kids : Row_of-Node k) → children_lines (stated_all about.tests fs) kids ≡ kid_lines fs kids
     all_lines_as none end_of-Node = refl

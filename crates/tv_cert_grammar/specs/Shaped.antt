@@ -17,7 +17,7 @@ use Rattle.tv_cert_grammar.specs.Lines.{kind_of}
 abbrev mutual
   -- the node has the shape of one that is to show this, and its children are those of its arguments
   pub IsShapedAs : CaseSystem → Statement → Node → Type 0
-  IsShapedAs system s (Node' ps m shape kids proofs) = OwnParts system s m ps.items (kid_pieces kids) proofs.items × AreShapedAs system (parts_of s) kids
+  IsShapedAs system s (Node' ps m shape kids proofs) = OwnParts system s m ps (kid_pieces kids) proofs.items × AreShapedAs system (parts_of s) kids
 
   pub AreShapedAs : {k : _} → CaseSystem → Statements → Row_of-Node k → Type 0
   AreShapedAs system no_statement end_of-Node = Unit {0}
@@ -29,8 +29,8 @@ abbrev mutual
   -- the lines of the node
   pub stated_lines : Statement → Node → List PlainLine
   stated_lines s (Node' ps m shape kids proofs) =
-      formed (heads.Node (kind_of s)) (pos (length ps.items) ∷ pos m ∷ [])
-      ∷ (flat_map piece_lines ps.items ++ (children_lines (parts_of s) kids ++ flat_map proof_lines proofs.items))
+      formed (heads.Node (kind_of s)) (pos (length ps) ∷ pos m ∷ [])
+      ∷ (flat_map piece_lines ps ++ (children_lines (parts_of s) kids ++ flat_map proof_lines proofs.items))
 
   pub children_lines : {k : _} → Statements → Row_of-Node k → List PlainLine
   children_lines ss end_of-Node = []

@@ -135,8 +135,8 @@ listed s m ps kids shown = formed (heads.Node (kind_of s)) (pos (length ps) ∷ 
 stated_is : (system : CaseSystem) (s : Statement) (n : Node) → stated_lines s n ≡ listed s (out-Node n).ranks (pieces_list n) (kids_of n) (proofs_list n)
 stated_is system s (Node' ps m shape kids shown) =
     let e = outs-Node' ps m shape kids shown in
-    ap (λ ls. formed (heads.Node (kind_of s)) (pos (length ps.items) ∷ pos m ∷ []) ∷ (flat_map piece_lines ps.items ++ (ls ++ flat_map proof_lines shown.items))) (lines_row system (parts_of s) kids ∙ ap (nodes_lines (parts_of s)) (sym (out_is ps m shape kids shown)))
-    ∙ (λ i. listed s (sym (ap (λ x. x.ranks) e) i) (sym (ap (λ x. x.pieces.items) e) i) (kids_of (Node' ps m shape kids shown)) (sym (ap (λ x. x.proofs.items) e) i))
+    ap (λ ls. formed (heads.Node (kind_of s)) (pos (length ps) ∷ pos m ∷ []) ∷ (flat_map piece_lines ps ++ (ls ++ flat_map proof_lines shown.items))) (lines_row system (parts_of s) kids ∙ ap (nodes_lines (parts_of s)) (sym (out_is ps m shape kids shown)))
+    ∙ (λ i. listed s (sym (ap (λ x. x.ranks) e) i) (sym (ap (λ x. x.pieces) e) i) (kids_of (Node' ps m shape kids shown)) (sym (ap (λ x. x.proofs.items) e) i))
 
 node_shaped : (system : CaseSystem) (s : Statement) (n : Node) → OwnParts system s (out-Node n).ranks (pieces_list n) (map pieces_list (kids_of n)) (proofs_list n) → AreFirstOf system (parts_of s) (kids_of n) → length (kids_of n) ≡ count (parts_of s) → All ProofNarrow (proofs_list n) → IsNodeOf system s n
 node_shaped system s (Node' ps m shape kids shown) own first many narrow =
@@ -145,16 +145,16 @@ node_shaped system s (Node' ps m shape kids shown) own first many narrow =
     let below = ap (map pieces_list) out ∙ sym (kid_pieces_are kids) in
     let first_there = subst (AreFirstOf system (parts_of s)) out first in
     record {
-      shape = (subst (λ (x : Type 0). x) (λ i. OwnParts system s (ap (λ x. x.ranks) e i) (ap (λ x. x.pieces.items) e i) (below i) (ap (λ x. x.proofs.items) e i)) own, first_row system (parts_of s) kids first_there (ap length (sym out) ∙ many));
+      shape = (subst (λ (x : Type 0). x) (λ i. OwnParts system s (ap (λ x. x.ranks) e i) (ap (λ x. x.pieces) e i) (below i) (ap (λ x. x.proofs.items) e i)) own, first_row system (parts_of s) kids first_there (ap length (sym out) ∙ many));
       narrow = (subst (All ProofNarrow) (ap (λ x. x.proofs.items) e) narrow, narrow_row system (parts_of s) kids first_there);
     }
 
 -- a node made of its parts
-abbrev pub node_of : Vec Marked → ℕ → Vec Node → Vec Proof → Node
+abbrev pub node_of : List Marked → ℕ → Vec Node → Vec Proof → Node
 node_of ps m kids shown = roll-Node (record { pieces = ps; ranks = m; children = kids; proofs = shown })
 
-pub pieces_in_node : (ps : Vec Marked) (m : ℕ) (kids : Vec Node) (shown : Vec Proof) → ps.items ≡ pieces_list (node_of ps m kids shown)
-pieces_in_node ps m kids shown = sym (ap (λ x. x.pieces.items) (out-roll-Node (record { pieces = ps; ranks = m; children = kids; proofs = shown })))
+pub pieces_in_node : (ps : List Marked) (m : ℕ) (kids : Vec Node) (shown : Vec Proof) → ps ≡ pieces_list (node_of ps m kids shown)
+pieces_in_node ps m kids shown = sym (ap (λ x. x.pieces) (out-roll-Node (record { pieces = ps; ranks = m; children = kids; proofs = shown })))
 
 -- ---- the proofs
 
@@ -243,26 +243,26 @@ module _ (system : CaseSystem) (s : Statement) (old : Cursor) where
           let inner : FailsBy (each (demanded false) wanted) now f = subst (λ ds. FailsBy (each (demanded false) ds) now f) (demands_same 0 system s m ps (map pieces_list kids) o.region.each) h in
           by_all f (mapped_fails (λ _. outlines ps) (proofs false system s (region_of m (outlines ps)) (map outlines (map pieces_list kids))) now f (mapped_fails (λ all. tt) (each (demanded false) wanted) now f inner))
 
-pub node_built : (system : CaseSystem) (s : Statement) (old now new : Cursor) (ps : Vec Marked) (m : ℕ) (kids : Vec Node) (shown : Vec Proof) → IsSaid s → Opened system s old now ps.items m kids.items → length kids.items ≡ count (parts_of s) → AreProofsOf (said_own 0 system s ps.items (map pieces_list kids.items)) shown.items → Takes (flat_map proof_lines shown.items) now new → IsNodeOf system s (node_of ps m kids shown) × Takes (stated_lines s (node_of ps m kids shown)) old new
+pub node_built : (system : CaseSystem) (s : Statement) (old now new : Cursor) (ps : List Marked) (m : ℕ) (kids : Vec Node) (shown : Vec Proof) → IsSaid s → Opened system s old now ps m kids.items → length kids.items ≡ count (parts_of s) → AreProofsOf (said_own 0 system s ps (map pieces_list kids.items)) shown.items → Takes (flat_map proof_lines shown.items) now new → IsNodeOf system s (node_of ps m kids shown) × Takes (stated_lines s (node_of ps m kids shown)) old new
 node_built system s old now new ps m kids shown said o many offered took =
     let n = node_of ps m kids shown in
     let e = out-roll-Node (record { pieces = ps; ranks = m; children = kids; proofs = shown }) in
-    let p = sym (ap (λ x. x.pieces.items) e) in
+    let p = sym (ap (λ x. x.pieces) e) in
     let r = sym (ap (λ x. x.ranks) e) in
     let k = sym (ap (λ x. x.children.items) e) in
     let q = sym (ap (λ x. x.proofs.items) e) in
-    let own : OwnParts system s m ps.items (map pieces_list kids.items) shown.items = record {
+    let own : OwnParts system s m ps (map pieces_list kids.items) shown.items = record {
       said = said;
       ranked = o.region.ranks;
       small = o.region.small;
       each = o.region.each;
-      offered = shapes_in (said_own 0 system s ps.items (map pieces_list kids.items)) shown.items offered;
+      offered = shapes_in (said_own 0 system s ps (map pieces_list kids.items)) shown.items offered;
     } in
-    let lines = append_assoc (region_lines (kind_of s) (ps.items, m)) (nodes_lines (parts_of s) kids.items) (flat_map proof_lines shown.items) in (
-      node_shaped system s n (subst (λ (x : Type 0). x) (λ i. OwnParts system s (r i) (p i) (map pieces_list (k i)) (q i)) own) (subst (AreFirstOf system (parts_of s)) k o.first) (ap length (sym k) ∙ many) (subst (All ProofNarrow) q (narrow_in (said_own 0 system s ps.items (map pieces_list kids.items)) shown.items offered)),
-      takes_as ((region_lines (kind_of s) (ps.items, m) ++ nodes_lines (parts_of s) kids.items) ++ flat_map proof_lines shown.items) (stated_lines s n) old new
+    let lines = append_assoc (region_lines (kind_of s) (ps, m)) (nodes_lines (parts_of s) kids.items) (flat_map proof_lines shown.items) in (
+      node_shaped system s n (subst (λ (x : Type 0). x) (λ i. OwnParts system s (r i) (p i) (map pieces_list (k i)) (q i)) own) (subst (AreFirstOf system (parts_of s)) k o.first) (ap length (sym k) ∙ many) (subst (All ProofNarrow) q (narrow_in (said_own 0 system s ps (map pieces_list kids.items)) shown.items offered)),
+      takes_as ((region_lines (kind_of s) (ps, m) ++ nodes_lines (parts_of s) kids.items) ++ flat_map proof_lines shown.items) (stated_lines s n) old new
           (lines ∙ (λ i. listed s (r i) (p i) (k i) (q i)) ∙ sym (stated_is system s n))
-          (takes_both (region_lines (kind_of s) (ps.items, m) ++ nodes_lines (parts_of s) kids.items) (flat_map proof_lines shown.items) old now new o.took took),
+          (takes_both (region_lines (kind_of s) (ps, m) ++ nodes_lines (parts_of s) kids.items) (flat_map proof_lines shown.items) old now new o.took took),
     )
 
 -- ---- how many there are

@@ -1,5 +1,5 @@
 -- The case, the target and the fall that numbers name.
-use Rattle.std.proofs.Common.{◌≡◌, ℕ, zero, suc, ◌<◌, ◌≤◌, ◌^◌, ℤ, pos, List, [], ◌∷◌, length, Some, None, refl, sym, ap, ◌∙◌, arith, slice_get, get_or}
+use Rattle.std.proofs.Common.{◌≡◌, ℕ, zero, suc, ◌<◌, ◌≤◌, ◌^◌, ℤ, pos, List, [], ◌∷◌, length, Some, None, refl, sym, ap, ◌∙◌, arith, slice_get}
 use Rattle.std.specs.Option.{option_map}
 use Rattle.tv_linear.specs.Linear.{Linear}
 use Rattle.tv_cases.specs.declared.case.Case.{Case}
@@ -18,16 +18,6 @@ got_view : (list : List Case) (i : ℕ) → slice_get (case_views list) i ≡ op
 got_view [] i = refl
 got_view (c ∷ list) zero = refl
 got_view (c ∷ list) (suc i) = got_view list i
-
-pub none_got : {X : Type 0} (xs : List X) (i : ℕ) → length xs ≤ i → slice_get xs i ≡ None
-none_got [] i h = refl
-none_got (x ∷ xs) zero h = absurd (omega arith)
-none_got (x ∷ xs) (suc i) h = none_got xs i (omega arith)
-
-pub some_got : {X : Type 0} (xs : List X) (i : ℕ) (x : X) → i < length xs → x ≡ get_or xs i x → slice_get xs i ≡ Some x
-some_got [] i x h e = absurd (omega arith)
-some_got (y ∷ ys) zero x h e = ap Some (sym e)
-some_got (y ∷ ys) (suc i) x h e = some_got ys i x (omega arith) e
 
 first_is : (a b c x y z : ℕ) → pos a ∷ pos b ∷ pos c ∷ [] ≡ pos x ∷ pos y ∷ pos z ∷ [] → a ≡ x
 first_is a b c x y z e = cc

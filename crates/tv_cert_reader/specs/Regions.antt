@@ -31,9 +31,6 @@ ReadsPieces system m done count old new result = Reads pieces_in (AreMany (Piece
 abbrev pub Pieces : Type 0
 Pieces = List Marked × ℕ
 
-abbrev pub region_in : Vec Marked × ℕ → Pieces
-region_in x = (x.0.items, x.1)
-
 pub record IsRegion (system : CaseSystem) (ranked done : Bool) (x : Pieces) : Type 0 where
   pub ranks : ranked ≡ false → x.1 ≡ 0
   pub small : x.1 < 2 ^ 32
@@ -47,5 +44,5 @@ region_lines kind x = formed (heads.Node kind) (pos (length x.0) ∷ pos x.1 ∷
 abbrev pub region_with : CaseSystem → NodeKind → Bool → Bool → Grammar Region
 region_with system kind ranked done = then (line (node_line kind ranked)) (λ x. mapped (region_of x.ranks) (times x.pieces (piece system x.ranks done)))
 
-abbrev pub ReadsRegion : CaseSystem → NodeKind → Bool → Bool → Cursor → Cursor → Result (Vec Marked × ℕ) Failure → Type 0
-ReadsRegion system kind ranked done old new result = Reads region_in (IsRegion system ranked done) (region_lines kind) (region_with system kind ranked done) old new result
+abbrev pub ReadsRegion : CaseSystem → NodeKind → Bool → Bool → Cursor → Cursor → Result Pieces Failure → Type 0
+ReadsRegion system kind ranked done old new result = Reads (λ x. x) (IsRegion system ranked done) (region_lines kind) (region_with system kind ranked done) old new result

@@ -95,6 +95,7 @@ impl Context<'_> {
                 covers.push(cover)?;
             }
         }
+        covers.shrink_to_fit();
         Ok(covers)
     }
 

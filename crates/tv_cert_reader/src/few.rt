@@ -16,7 +16,7 @@ fn joined_within(nodes: &[Node], most: usize) -> bool
     match nodes {
         [] => true,
         [node, rest @ ..] => {
-            let here = node.pieces.len();
+            let here = node.pieces.list().len();
             here <= most && joined_within(rest, most - here)
         }
     }
@@ -41,7 +41,7 @@ pub fn are_few(targets: &Targets) -> bool
         Targets::Lists(lists) => lists.len() <= MOST,
         Targets::Truth(_) => true,
         Targets::Joined { nodes, .. } => joined_within(nodes, MOST),
-        Targets::Pieces { from, into, .. } => into.len() <= MOST && falls_are_few(*from),
+        Targets::Pieces { from, into, .. } => into.list().len() <= MOST && falls_are_few(*from),
     }
 }
 
@@ -51,6 +51,7 @@ pub fn chosen_are_few(piece: &Marked, destination: &Destination) -> bool
 {
     match destination {
         Destination::Anywhere => true,
-        Destination::Into { pieces, .. } => pieces.len() <= MOST && piece.ranks.len() <= MOST,
+        Destination::Into { pieces, .. } => pieces.list().len() <= MOST
+            && piece.ranks.len() <= MOST,
     }
 }

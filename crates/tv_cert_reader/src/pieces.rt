@@ -9,9 +9,9 @@ use crate::cursor::Cursor;
 use crate::failure::Failure;
 use crate::heads::{node_head, piece_head};
 use crate::lines::take;
-use crate::rows::rows;
+use crate::rows::{room, rows};
 use crate::sort::Sort;
-use tv_cert::{Mark, Marked};
+use tv_cert::{Mark, Marked, Pieces};
 use tv_cert_grammar::LineKind;
 use tv_linear::{Piece, Poly};
 use tv_lines::NodeKind;
@@ -67,7 +67,7 @@ impl Context<'_> {
     ) -> Result<Vec<Marked>, Failure>
         ensures { ReadsPieces (cases_of self.now.about.now) ranks done count cursor.old cursor.new result }
     {
-        let mut pieces = Vec::new(self.alloc);
+        let mut pieces = Vec::with_capacity(self.alloc, room(count as u128))?;
         'pieces: for _ in 0..count {
             let piece = self.piece(cursor, ranks, done)?;
             pieces.push(piece)?;
@@ -83,14 +83,15 @@ impl Context<'_> {
         kind: NodeKind,
         ranked: bool,
         done: bool,
-    ) -> Result<(Vec<Marked>, u32), Failure>
+    ) -> Result<(Pieces, u32), Failure>
         ensures { ReadsRegion (cases_of self.now.about.now) kind ranked done cursor.old cursor.new result }
     {
         let (head, numbers) = take(self.alloc, cursor)?;
         let Some((count, ranks)) = node_head(head, &numbers, kind, ranked) else {
             return Err(Failure::Fault(LineKind::Shape, cursor.taken));
         };
-        let pieces = self.pieces(cursor, count, ranks, done)?;
+        let list = self.pieces(cursor, count, ranks, done)?;
+        let pieces = Pieces::new(self.alloc, list)?;
         Ok((pieces, ranks))
     }
 }

@@ -13,7 +13,7 @@ use crate::cursor::Cursor;
 use crate::failure::Failure;
 use crate::few::{are_few, chosen_are_few};
 use tv_cases::Case;
-use tv_cert::{Destination, Marked, Owes, Proof};
+use tv_cert::{Destination, Marked, Owes, Pieces, Proof};
 use tv_linear::{Choice, Cover};
 use tv_shape::{Targets, pieces_into};
 
@@ -51,7 +51,7 @@ impl Context<'_> {
         cursor: &mut Cursor,
         piece: &Marked,
         case: &Case,
-        into: &[Marked],
+        into: &Pieces,
         falls: bool,
     ) -> Result<Proof, Failure>
         requires { case.now.draws ≤ 64 }

@@ -10,7 +10,7 @@ use crate::cursor::Cursor;
 use crate::failure::Failure;
 use crate::visitor::ProofReader;
 use std::mem;
-use tv_cert::{Aim, Marked, Node, Proof, visit_pieces};
+use tv_cert::{Aim, Node, Pieces, Proof, visit_pieces};
 use tv_lines::Lines;
 
 impl Context<'_> {
@@ -19,7 +19,7 @@ impl Context<'_> {
         &self,
         cursor: &mut Cursor,
         aim: &Aim,
-        pieces: &[Marked],
+        pieces: &Pieces,
         children: &[Node],
     ) -> Result<Vec<Proof>, Failure>
         requires pieces { length pieces.now < 2 ^ 63 }

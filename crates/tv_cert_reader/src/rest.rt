@@ -13,7 +13,7 @@ use crate::natural::natural;
 use crate::rows::numbers;
 use crate::sort::Sort;
 use std::alloc::Global;
-use tv_cert::{Aim, Marked, Node, Verdict, piece_at};
+use tv_cert::{Aim, Node, Pieces, Verdict};
 use tv_cert_grammar::LineKind;
 use tv_linear::{Cover, widened};
 use tv_lines::Head;
@@ -62,7 +62,7 @@ fn finish(alloc: Global, cursor: &mut Cursor) -> Result<(), Failure>
 
 impl Context<'_> {
     /// A cover of the start by these pieces.
-    fn start(&self, cursor: &mut Cursor, pieces: &[Marked]) -> Result<Cover, Failure>
+    fn start(&self, cursor: &mut Cursor, pieces: &Pieces) -> Result<Cover, Failure>
         requires { length pieces.now < 2 ^ 32 }
         ensures { ReadsStart (cases_of self.now.about.now) pieces.now cursor.old cursor.new result }
     {
@@ -99,7 +99,7 @@ impl Context<'_> {
             return Err(Failure::Fault(LineKind::Shape, cursor.taken));
         }
         let piece = place as u32;
-        if piece_at(&root.pieces, self.about.start(), piece).is_none() {
+        if root.pieces.at(self.about.start(), piece).is_none() {
             return Err(Failure::Fault(LineKind::Shape, cursor.taken));
         }
         numbers(self.alloc, cursor, Sort::End, 0)?;

@@ -1,4 +1,4 @@
-ghost use Rattle.std.specs.Prelude.{◌≡◌, ◌+◌, ◌-◌, ◌<◌, ◌^◌, All, IfOk, MatchOption, length};
+ghost use Rattle.std.specs.Prelude.{◌≡◌, ◌+◌, ◌-◌, ◌<◌, ◌^◌, All, MatchOption, length, min};
 ghost use Rattle.tv_lines.specs.Numbers.{IsNarrow};
 ghost use Rattle.tv_cert_reader.specs.Parts.{IsRowOf, ReadsLists, ReadsNumbers, ReadsRow, ReadsRows};
 
@@ -55,6 +55,14 @@ fn row(alloc: Global, cursor: &mut Cursor, sort: Sort, width: u32) -> Result<Row
     }
 }
 
+/// For how many parts room is made at first, where a line says that so many follow: no more than it takes them, and never much for
+/// a number that the text doesn't keep to.
+pub fn room(count: u128) -> usize
+    ensures { result ≡ min count 1024 }
+{
+    count.min(1024) as usize
+}
+
 /// So many of them.
 pub fn rows(
     alloc: Global,
@@ -66,7 +74,7 @@ pub fn rows(
     requires { width < 2 ^ 32 - 1 }
     ensures { ReadsRows sort width count cursor.old cursor.new result }
 {
-    let mut rows = Vec::new(alloc);
+    let mut rows = Vec::with_capacity(alloc, room(count as u128))?;
     'rows: for _ in 0..count {
         let row = row(alloc, cursor, sort, width)?;
         rows.push(row)?;
@@ -83,7 +91,7 @@ pub fn lists(
 ) -> Result<Vec<Vec<i64>>, Failure>
     ensures { ReadsLists wide count cursor.old cursor.new result }
 {
-    let mut lists = Vec::new(alloc);
+    let mut lists = Vec::with_capacity(alloc, room(count))?;
     'lists: for _ in 0..count {
         let list = numbers(alloc, cursor, Sort::By, wide)?;
         lists.push(list)?;

@@ -76,7 +76,7 @@ proof_formed (Chosen tree) = choice_formed tree
 mutual
   node_formed : (f : Property) (node : Node) → AreFormed (node_lines f node)
   node_formed f (Node' ps m shape kids proofs) =
-      (tt, joined _ _ (all_joined piece_lines piece_formed ps.items) (joined _ _ (kids_formed (parts f) kids) (all_joined proof_lines proof_formed proofs.items)))
+      (tt, joined _ _ (all_joined piece_lines piece_formed ps) (joined _ _ (kids_formed (parts f) kids) (all_joined proof_lines proof_formed proofs.items)))
 
   kids_formed : {k : _} (fs : Properties) (kids : Row_of-Node k) → AreFormed (kid_lines fs kids)
   kids_formed fs end_of-Node = tt

@@ -86,7 +86,7 @@ module _ (about : About) where
     lines_again f (Node' ps m shape kids proofs) ls h =
         let e = kinds_are f h.0.normal in
         ap (λ ks. lines_with (ks ++ ls) (Node' ps m shape kids proofs)) e
-        ∙ ap (λ ms. formed (heads.Node (kind_named f)) (pos (length ps.items) ∷ pos m ∷ []) ∷ (flat_map piece_lines ps.items ++ (ms ++ flat_map proof_lines proofs.items))) (kids_again (parts f) kids ls h.1)
+        ∙ ap (λ ms. formed (heads.Node (kind_named f)) (pos (length ps) ∷ pos m ∷ []) ∷ (flat_map piece_lines ps ++ (ms ++ flat_map proof_lines proofs.items))) (kids_again (parts f) kids ls h.1)
 
     kids_again : {k : _} (fs : Properties) (kids : Row_of-Node k) (ls : List NodeKind) → HaveShapes about fs kids → kid_lines_with (all_kinds (stated_all about.tests fs) ++ ls) kids ≡ kid_lines fs kids
     kids_again none end_of-Node ls h = refl

@@ -24,7 +24,7 @@ kids_with_is ks (more_of-Node a kids) = ap (λ ls. lines_with ks a ++ ls) (kids_
 pub lines_are : (ks : List NodeKind) (node : Node) → lines_with ks node ≡ formed (heads.Node (first_kind ks)) (pos (length (pieces_list node)) ∷ pos (out-Node node).ranks ∷ []) ∷ (flat_map piece_lines (pieces_list node) ++ (kids_with (drop 1 ks) (kids_of node) ++ flat_map proof_lines (proofs_list node)))
 lines_are ks (Node' ps m shape kids proofs) =
     let e = outs-Node' ps m shape kids proofs in
-    let a = ap (λ x. x.pieces.items) e in
+    let a = ap (λ x. x.pieces) e in
     let b = kids_with_is (drop 1 ks) kids ∙ ap (kids_with (drop 1 ks)) (sym (out_is ps m shape kids proofs)) in
     let c = ap (λ x. x.proofs.items) e in
     let d = ap (λ x. x.ranks) e in

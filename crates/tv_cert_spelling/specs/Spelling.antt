@@ -34,8 +34,8 @@ abbrev mutual
   -- the lines of a node, told the kinds of the node and of those below it, each before its children
   pub lines_with : List NodeKind → Node → List PlainLine
   lines_with ks (Node' ps m shape kids proofs) =
-      formed (heads.Node (first_kind ks)) (pos (length ps.items) ∷ pos m ∷ [])
-      ∷ (flat_map piece_lines ps.items ++ (kid_lines_with (drop 1 ks) kids ++ flat_map proof_lines proofs.items))
+      formed (heads.Node (first_kind ks)) (pos (length ps) ∷ pos m ∷ [])
+      ∷ (flat_map piece_lines ps ++ (kid_lines_with (drop 1 ks) kids ++ flat_map proof_lines proofs.items))
 
   pub kid_lines_with : {k : _} → List NodeKind → Row_of-Node k → List PlainLine
   kid_lines_with ks end_of-Node = []

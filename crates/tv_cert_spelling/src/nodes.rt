@@ -29,9 +29,9 @@ pub fn append_node(
     requires { size node.now ≤ length kinds.now }
     ensures { IfOk result (λ count. (out.new.items ≡ out.old.items ++ all_spelled (lines_with kinds.now node.now)) × (count ≡ size node.now)) }
 {
-    let numbers = [node.pieces.len() as i128, node.ranks as i128];
+    let numbers = [node.pieces.list().len() as i128, node.ranks as i128];
     append_line(alloc, out, Head::Node(first_kind(kinds)), &numbers)?;
-    append_pieces(alloc, out, &node.pieces)?;
+    append_pieces(alloc, out, node.pieces.list())?;
     let mut count = 1;
     for child in &node.children {
         let (_, rest) = kinds.split_at(count);

@@ -82,8 +82,8 @@ abbrev mutual
   -- a node: its kind, the numbers of its pieces and its ranks, then its pieces, its children and its proofs
   pub node_lines : Property → Node → List PlainLine
   node_lines f (Node' ps m shape kids proofs) =
-      formed (heads.Node (kind_named f)) (pos (length ps.items) ∷ pos m ∷ [])
-      ∷ (flat_map piece_lines ps.items ++ (kid_lines (parts f) kids ++ flat_map proof_lines proofs.items))
+      formed (heads.Node (kind_named f)) (pos (length ps) ∷ pos m ∷ [])
+      ∷ (flat_map piece_lines ps ++ (kid_lines (parts f) kids ++ flat_map proof_lines proofs.items))
 
   -- the children, told the formulas that they are of
   pub kid_lines : {k : _} → Properties → Row_of-Node k → List PlainLine

@@ -16,7 +16,7 @@ ghost use Rattle.tv_check.specs.Roots.{AreOver, ValuesFit, SettlesRoot};
 use crate::steps::rows_are_covered;
 use crate::walking::{Failing, walk};
 use tv_cases::Cases;
-use tv_cert::{Aim, Kind, Marked, Node, Verdict, piece_at};
+use tv_cert::{Aim, Kind, Node, Pieces, Verdict};
 use tv_linear::{Cover, Row};
 use tv_refute::meets;
 
@@ -64,11 +64,11 @@ fn meets_all(values: &[i128], rows: &[Row]) -> bool
 }
 
 /// Whether the values are in the piece at this place among those at the location.
-fn is_inside(pieces: &[Marked], location: u32, piece: u32, values: &[i128]) -> bool
+fn is_inside(pieces: &Pieces, location: u32, piece: u32, values: &[i128]) -> bool
     requires { AreOver (length values.now) pieces.now }
     ensures { IsTrue result ↔ PointMet values.now (option_map rows_of (slice_get (pieces_at pieces.now location) piece)) }
 {
-    match piece_at(pieces, location, piece) {
+    match pieces.at(location, piece) {
         None => false,
         Some(inside) => meets_all(values, &inside.piece.poly.rows),
     }

@@ -12,9 +12,9 @@ ghost use Rattle.tv_cert.specs.Pieces.{place_of};
 ghost use Rattle.tv_cert.specs.Owing.{destination_owes};
 ghost use Rattle.tv_check.specs.Owes.{falls_of};
 
-use crate::pieces::Pieces;
+use crate::pieces::Entered;
 use tv_cases::Case;
-use tv_cert::{Destination, Marked};
+use tv_cert::{Destination, Marked, Pieces};
 use tv_linear::{ChoiceTree, Cover, Row};
 use tv_refute::{Built, Change, Frames, Targets, Terms, cover_is_met, refutes, shown_rows};
 
@@ -31,7 +31,7 @@ fn entering_is_shown(
     columns: u32,
     frames: &Frames,
     case: &Case,
-    into: &[Marked],
+    into: &Pieces,
     ranks: Option<&[Row]>,
     draws: &[Row],
     target: u32,
@@ -46,7 +46,7 @@ fn entering_is_shown(
     };
     let drawn = Terms::Drawn { columns, draws };
     let change = Change::Twice(&after, &drawn);
-    let targets = Pieces {
+    let targets = Entered {
         pieces: into,
         location: case.to,
         change: &change,

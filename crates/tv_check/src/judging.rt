@@ -18,7 +18,7 @@ use crate::choosing::choice_is_met;
 use crate::pieces::kept_is_shown;
 use crate::steps::{rows_are_covered, step_is_covered, truth_is_covered};
 use tv_cases::{Case, Cases};
-use tv_cert::{Destination, Marked, Node, Owes, Proof, joined_piece_at};
+use tv_cert::{Destination, Marked, Node, Owes, Pieces, Proof, joined_piece_at};
 use tv_linear::{ChoiceTree, CoverTree, Row};
 use tv_refute::{Change, Frames, Targets, cover_is_met, shown_rows};
 
@@ -112,7 +112,7 @@ fn step_is_judged(
     columns: u32,
     piece: &Marked,
     case: &Case,
-    into: &[Marked],
+    into: &Pieces,
     falls: bool,
     tree: &CoverTree,
 ) -> bool

@@ -9,7 +9,7 @@ ghost use Rattle.tv_cert.specs.Targets.{owed_into, target_rows, no_fall};
 ghost use Rattle.tv_check.specs.Owes.{falls_of};
 
 use crate::falls::shown_fall;
-use tv_cert::{Mark, Marked, piece_at};
+use tv_cert::{Mark, Marked, Pieces};
 use tv_linear::Row;
 use tv_refute::{Change, Frames, Targets, shown_rows};
 
@@ -38,14 +38,14 @@ fn shown_piece(
 
 /// The pieces at a location, entered from a piece with these ranks, or without a fall.
 #[derive(Drop)]
-pub struct Pieces<'a> {
-    pub pieces: &'a [Marked],
+pub struct Entered<'a> {
+    pub pieces: &'a Pieces,
     pub location: u32,
     pub change: &'a Change<'a>,
     pub ranks: Option<&'a [Row]>,
 }
 
-impl Targets for Pieces<'_> {
+impl Targets for Entered<'_> {
     ghost owed = { λ t. owed_into t.pieces.now t.location (change_of t.change.now) (falls_of (change_of t.change.now) t.ranks) };
 
     fn are_shown(
@@ -56,7 +56,7 @@ impl Targets for Pieces<'_> {
         fall: u32,
         lists: &[Vec<i64>],
     ) -> bool {
-        match piece_at(self.pieces, self.location, target) {
+        match self.pieces.at(self.location, target) {
             None => false,
             Some(q) => entered_is_shown(columns, frames, self.change, self.ranks, q, fall, lists),
         }
@@ -99,7 +99,7 @@ fn entered_is_shown(
 /// The pieces at a location, entered without a step.
 #[derive(Drop)]
 pub struct Standing<'a> {
-    pub pieces: &'a [Marked],
+    pub pieces: &'a Pieces,
     pub location: u32,
 }
 
@@ -114,7 +114,7 @@ impl Targets for Standing<'_> {
         fall: u32,
         lists: &[Vec<i64>],
     ) -> bool {
-        match piece_at(self.pieces, self.location, target) {
+        match self.pieces.at(self.location, target) {
             None => false,
             Some(q) => kept_is_shown(columns, frames, q, fall, lists),
         }

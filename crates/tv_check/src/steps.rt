@@ -8,9 +8,9 @@ ghost use Rattle.tv_cert.specs.Targets.{owed_into, owed_lists, no_fall};
 ghost use Rattle.tv_cert.specs.Obligations.{case_change, truth_targets};
 ghost use Rattle.tv_check.specs.Owes.{falls_of};
 
-use crate::pieces::{Pieces, Standing};
+use crate::pieces::{Entered, Standing};
 use tv_cases::Case;
-use tv_cert::Marked;
+use tv_cert::Pieces;
 use tv_linear::{CoverTree, Row};
 use tv_refute::{Change, Frames, Targets, Terms, cover_is_met};
 
@@ -19,7 +19,7 @@ pub fn rows_are_covered(
     columns: u32,
     rows: &[Row],
     location: u32,
-    into: &[Marked],
+    into: &Pieces,
     tree: &CoverTree,
 ) -> bool
     ensures { IsTrue result ↔ IsMetCover columns (owed_into into.now location given no_fall) (as_given rows.now) tree.now }
@@ -39,7 +39,7 @@ pub fn step_is_covered(
     columns: u32,
     rows: &[Row],
     case: &Case,
-    into: &[Marked],
+    into: &Pieces,
     ranks: Option<&[Row]>,
     tree: &CoverTree,
 ) -> bool
@@ -56,7 +56,7 @@ pub fn step_is_covered(
         rows: &case.guards.rows,
         above: &known,
     };
-    let targets = Pieces {
+    let targets = Entered {
         pieces: into,
         location: case.to,
         change: &change,

@@ -13,11 +13,11 @@ ghost use Rattle.tv_formula_text.specs.FormulaGrammar.{opened, closed, behind_sq
 
 use crate::operators::{Operator, operator_of};
 use crate::reason::Reason;
-use crate::source::{Source, is_word, next_kind, next_token, pass, pass_kind};
+use crate::source::{Source, next_kind, next_token, pass, pass_kind};
 use tv_formula::Tree;
 use tv_language::word_of;
 use tv_reading::{Reading, is_formula_word};
-use tv_tokens::{Token, TokenKind};
+use tv_tokens::{Token, TokenKind, is_word};
 
 /// `(`.
 pub fn open(source: &Source, reading: &mut Reading) -> Result<(), Reason>

@@ -1,6 +1,5 @@
 ghost use Rattle.std.specs.Prelude.{◌≡◌, false, ◌+◌, ◌<◌, Option, length, drop};
 ghost use Rattle.std.specs.Option.{option_map};
-ghost use Rattle.std.specs.Str.{bytes_eq};
 ghost use Rattle.tv_language.specs.Symbols.{lexeme};
 ghost use Rattle.tv_grammar.specs.Reads.{next};
 ghost use Rattle.tv_reading.specs.Marks.{first};
@@ -32,12 +31,6 @@ pub fn next_token(source: &Source, reading: &Reading) -> Option<Token>
         return None;
     }
     Some(source.list[at])
-}
-
-pub fn is_word(word: &[u8], other: &[u8]) -> bool
-    ensures { result ≡ bytes_eq word.now other.now }
-{
-    word == other
 }
 
 /// The kind of a token, where it is neither a number below 2^62 nor a variable.

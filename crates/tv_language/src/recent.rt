@@ -1,21 +1,14 @@
 ghost use Rattle.std.specs.Prelude.{◌≡◌, ◌<◌, ◌⊎◌, IfSome, IsTrue, Some, length};
-ghost use Rattle.std.specs.Str.{bytes_eq};
 ghost use Rattle.tv_program.specs.Words.{number_of};
 
 use tv_program::Names;
+use tv_tokens::is_word;
 
 /// The numbers that were come by last, the latest first: words often stand near each other. Any other numbers do as well, in more time.
 #[derive(Clone, Copy)]
 pub struct Recent {
     pub last: u32,
     pub before: u32,
-}
-
-#[inline(always)]
-fn is_word(word: &[u8], other: &[u8]) -> bool
-    ensures { result ≡ bytes_eq word.now other.now }
-{
-    word == other
 }
 
 /// Whether the word is seen to have this number.
@@ -45,7 +38,9 @@ pub fn find_near(names: &Names, recent: Recent, word: &[u8]) -> Option<u32>
 /// The recent numbers behind this one.
 #[inline(always)]
 pub fn behind(recent: Recent, number: u32) -> Recent
-    ensures { (result.last ≡ number) ⊎ (result.before ≡ number) }
+    ensures kept { (number ≡ recent.last) ⊎ (number ≡ recent.before) → result ≡ recent }
+    ensures passed { ¬ (number ≡ recent.last) → ¬ (number ≡ recent.before) →
+        (result.last ≡ number) × (result.before ≡ recent.last) }
 {
     if number == recent.last || number == recent.before {
         return recent;

@@ -23,6 +23,7 @@ pub use choice::{Choice, ChoiceTree};
 pub use cover::{Cover, CoverTree};
 pub use fault::RowFault;
 pub use lists::{shortened, widened};
+pub use narrow::{are_narrow, is_narrow};
 pub use region::{Piece, Poly, Region, Update};
 pub use row::Row;
 pub use total::Total;

@@ -5,12 +5,14 @@ ghost use Rattle.tv_linear.specs.Linear.{IsWithin};
 
 const NARROW: u128 = 1 << 62;
 
+/// Whether the number is below 2^62 in magnitude.
 pub fn is_narrow(number: i128) -> bool
     ensures { IsTrue result ↔ IsWithin 62 number }
 {
     number.unsigned_abs() < NARROW
 }
 
+/// Whether each number is.
 pub fn are_narrow(numbers: &[i128]) -> bool
     ensures { IsTrue result ↔ All (IsWithin 62) numbers.now }
 {

@@ -30,6 +30,8 @@ fn rows_are_made(rt: HostRuntime) -> Result<(), Fail> {
     let wide = widened(alloc, &[3, -4])?;
     assert!(rt; wide.as_slice() == [3i128, -4].as_slice());
     assert!(rt; shortened(alloc, &wide)?.as_slice() == [3i64, -4].as_slice());
+    assert!(rt; is_narrow((1 << 62) - 1) && !is_narrow(1 << 62));
+    assert!(rt; are_narrow(&wide) && !are_narrow(&[0, -1 << 62]));
     assert!(rt; is(&Row::at_most(alloc, 0, &five, &six)?, &[1], -5));
     Ok(())
 }

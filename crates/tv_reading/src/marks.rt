@@ -1,11 +1,10 @@
 ghost use Rattle.std.specs.Prelude.{◌≡◌, ◌||◌, codes};
-ghost use Rattle.std.specs.Str.{bytes_eq};
 ghost use Rattle.tv_tokens.specs.Numbers.{value_of_digits};
 ghost use Rattle.tv_reading.specs.Marks.{new_name, known_name, is_formula_word, draw_mark, number_mark};
 ghost use Rattle.tv_reading.specs.Views.{mark_of};
 
 use tv_language::number_of;
-use tv_tokens::TokenKind;
+use tv_tokens::{TokenKind, is_word};
 
 /// A token as the grammar sees it: a name and a draw have a number, or are refused.
 #[derive(Clone, Copy)]
@@ -56,13 +55,6 @@ pub fn known_name(reserved: bool, number: Option<u32>) -> Part
         Some(number) => Part::Variable(number),
         None => Part::UnknownName,
     }
-}
-
-#[inline(always)]
-fn is_word(word: &[u8], other: &[u8]) -> bool
-    ensures { result ≡ bytes_eq word.now other.now }
-{
-    word == other
 }
 
 /// Whether the word is one of the two of formulas that are no names there.

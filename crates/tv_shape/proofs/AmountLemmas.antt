@@ -58,10 +58,10 @@ mutual
   pub entries_counted : (number : ℕ) (about : About) (f : Property) (node : Node) → HasShape about f node → length (entries number about f node) ≡ proofs_below node
   entries_counted number about f (Node' ps m shape kids proofs) h =
       let below = kid_entries_counted (number + 1) about (parts f) kids h.1 in
-      let own = length-paired (own_of number about f ps.items (kid_pieces kids)) proofs.items in
-      let same = own_counted number about f ps.items (kid_pieces kids) in
-      let long = AllZip-long (λ o p. ProofShape o.owed p) (own_of 0 about f ps.items (kid_pieces kids)) proofs.items h.0.offered in
-      let all = length-append (kid_entries (number + 1) about (parts f) kids) (paired (own_of number about f ps.items (kid_pieces kids)) proofs.items) in
+      let own = length-paired (own_of number about f ps (kid_pieces kids)) proofs.items in
+      let same = own_counted number about f ps (kid_pieces kids) in
+      let long = AllZip-long (λ o p. ProofShape o.owed p) (own_of 0 about f ps (kid_pieces kids)) proofs.items h.0.offered in
+      let all = length-append (kid_entries (number + 1) about (parts f) kids) (paired (own_of number about f ps (kid_pieces kids)) proofs.items) in
       omega (arith, below, own, same, long, all)
 
   kid_entries_counted : {k : _} (number : ℕ) (about : About) (fs : Properties) (kids : Row_of-Node k) → HaveShapes about fs kids → length (kid_entries number about fs kids) ≡ kid_proofs kids

@@ -116,11 +116,11 @@ module _ (about : About) where
   arguments_are : (ps : _) (m : _) (shape : _) (kids : _) (proofs : _) → length (children_of (Node' ps m shape kids proofs)) ≡ many kids
   arguments_are ps m shape kids proofs = ap length (out_is ps m shape kids proofs)
 
-  own_are : (s : _) (ps : _) (m : _) (shape : _) (kids : _) (proofs : _) → OwnParts about.system s (ranks_at (Node' ps m shape kids proofs)) (pieces_list (Node' ps m shape kids proofs)) (map pieces_list (children_of (Node' ps m shape kids proofs))) (proofs_of (Node' ps m shape kids proofs)) ≡ OwnParts about.system s m ps.items (kid_pieces kids) proofs.items
+  own_are : (s : _) (ps : _) (m : _) (shape : _) (kids : _) (proofs : _) → OwnParts about.system s (ranks_at (Node' ps m shape kids proofs)) (pieces_list (Node' ps m shape kids proofs)) (map pieces_list (children_of (Node' ps m shape kids proofs))) (proofs_of (Node' ps m shape kids proofs)) ≡ OwnParts about.system s m ps (kid_pieces kids) proofs.items
   own_are s ps m shape kids proofs =
       let e = outs-Node' ps m shape kids proofs in
       let b = ap (map pieces_list) (out_is ps m shape kids proofs) ∙ sym (kid_pieces_are kids) in
-      (λ i. OwnParts about.system s (e i).ranks (e i).pieces.items (b i) (e i).proofs.items)
+      (λ i. OwnParts about.system s (e i).ranks (e i).pieces (b i) (e i).proofs.items)
 
   proofs_are : (ps : _) (m : _) (shape : _) (kids : _) (proofs : _) → proofs_of (Node' ps m shape kids proofs) ≡ proofs.items
   proofs_are ps m shape kids proofs = ap (λ x. x.proofs.items) (outs-Node' ps m shape kids proofs)
@@ -147,7 +147,7 @@ module _ (about : About) where
         let shallow = h.0.0 in
         let counted = sym (arguments_are ps m shape kids proofs) ∙ own.arguments ∙ ap count (parts-stated about f) in
         let below = wholes_of (number + 1) (depth + 1) (parts f) kids counted (subst (λ ss. AreRight about.system (kid_stations (number + 1) (depth + 1) ss kids)) (parts-stated about f) h.1) in (
-          (own_shaped f m ps.items (kid_pieces kids) proofs.items (subst (λ (x : Type 0). x) (own_are (stated about.tests f) ps m shape kids proofs) own.own), below.0),
+          (own_shaped f m ps (kid_pieces kids) proofs.items (subst (λ (x : Type 0). x) (own_are (stated about.tests f) ps m shape kids proofs) own.own), below.0),
           (subst (All ProofNarrow) (proofs_are ps m shape kids proofs) own.narrow, below.1),
           (shallow.node, subst (All (λ p. depth + proof_splits p ≤ 384)) (proofs_are ps m shape kids proofs) shallow.splits, below.2),
         )
@@ -174,7 +174,7 @@ module _ (about : About) where
             record { node = within.0; splits = subst (All (λ p. depth + proof_splits p ≤ 384)) moved within.1 },
             record {
               arguments = arguments_are ps m shape kids proofs ∙ counted ∙ sym (ap count (parts-stated about f));
-              own = subst (λ (x : Type 0). x) (sym (own_are (stated about.tests f) ps m shape kids proofs)) (own_back f m ps.items (kid_pieces kids) proofs.items shape_of.0);
+              own = subst (λ (x : Type 0). x) (sym (own_are (stated about.tests f) ps m shape kids proofs)) (own_back f m ps (kid_pieces kids) proofs.items shape_of.0);
               narrow = subst (All ProofNarrow) moved narrow_of.0;
             },
           ),

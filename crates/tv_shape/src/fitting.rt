@@ -12,10 +12,10 @@ use crate::fault::ShapeFault;
 use crate::verdicts::{verdict_has_shape, verdict_is_shallow};
 use crate::walking::walk;
 use tv_cases::Cases;
-use tv_cert::{Aim, Marked, Node, Verdict};
+use tv_cert::{Aim, Node, Pieces, Verdict};
 
 /// What is at fault in the verdict over the pieces of the root.
-fn look_at_verdict(about: &Cases, pieces: &[Marked], verdict: &Verdict) -> Result<(), ShapeFault>
+fn look_at_verdict(about: &Cases, pieces: &Pieces, verdict: &Verdict) -> Result<(), ShapeFault>
     ensures { MatchResult result (λ _. VerdictShallow verdict.now × VerdictFits (about_of (cases_of about.now)) pieces.now verdict.now) (IsVerdictFault (about_of (cases_of about.now)) pieces.now verdict.now) }
 {
     if !verdict_is_shallow(verdict) {

@@ -1,27 +1,10 @@
 ghost use Rattle.std.specs.Prelude.{◌↔◌, IsTrue, All};
-ghost use Rattle.tv_linear.specs.Linear.{IsWithin};
 ghost use Rattle.tv_shape.specs.Narrow.{AreNarrow, ListsNarrow, CoverNarrow, ChoiceNarrow, ProofNarrow};
 
 use tv_cert::Proof;
-use tv_linear::{ChoiceTree, Cover, CoverTree};
+use tv_linear::{ChoiceTree, Cover, CoverTree, is_narrow};
 
-const LIMIT: u128 = 1 << 62;
-
-/// Whether the number is below 2^62 in magnitude.
-fn is_narrow(number: i128) -> bool
-    ensures { IsTrue result ↔ IsWithin 62 number }
-{
-    number.unsigned_abs() < LIMIT
-}
-
-/// Whether each number is.
-pub fn are_narrow(numbers: &[i128]) -> bool
-    ensures { IsTrue result ↔ AreNarrow numbers.now }
-{
-    numbers.iter().all(|number| is_narrow(*number))
-}
-
-/// Whether each multiplier is.
+/// Whether each multiplier is below 2^62 in magnitude.
 fn multipliers_are_narrow(multipliers: &[i64]) -> bool
     ensures { IsTrue result ↔ AreNarrow multipliers.now }
 {

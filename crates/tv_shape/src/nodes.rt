@@ -1,4 +1,4 @@
-ghost use Rattle.std.specs.Prelude.{◌≡◌, ◌↔◌, ℕ, IsTrue, MatchResult, map};
+ghost use Rattle.std.specs.Prelude.{◌≡◌, ◌↔◌, ◌<◌, ◌^◌, ℕ, IsTrue, MatchResult, length, map};
 ghost use Rattle.std.specs.List.{AllZip};
 ghost use Rattle.tv_cases.specs.Systems.{cases_of};
 ghost use Rattle.tv_cert.specs.AimViews.{aim_states, aims_state};
@@ -60,6 +60,7 @@ pub fn argument_count(aim: &Aim) -> usize
 
 /// Whether the proofs have the shapes that the node owes, one each, in order.
 fn proofs_have_shape(about: &Cases, aim: &Aim, node: &Node) -> bool
+    requires { length (pieces_list node.now) < 2 ^ 63 }
     ensures { IsTrue result ↔ AllZip (λ o p. ProofShape o.owed p) (said_own 0 (cases_of about.now) (aim_states aim.now) (pieces_list node.now) (map pieces_list (children_of node.now))) (proofs_of node.now) }
 {
     let mut shaper = Shaper {
@@ -79,6 +80,7 @@ fn has_own_parts(about: &Cases, aim: &Aim, node: &Node) -> bool
     (node.ranks == 0 || may_rank(aim))
         && node
             .pieces
+            .list()
             .iter()
             .all(|piece| piece_has_shape(about, piece, node.ranks, done))
         && proofs_have_shape(about, aim, node)

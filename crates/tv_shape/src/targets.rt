@@ -10,7 +10,7 @@ ghost use Rattle.tv_cert.specs.Targets.{target_rows, owed_into, no_fall};
 ghost use Rattle.tv_cert.specs.declared.node.Marked.{Marked};
 ghost use Rattle.tv_shape.specs.Counts.{counts_of, falls_past, AreFew};
 
-use tv_cert::{Mark, Marked, Node, joined_piece_at, piece_at};
+use tv_cert::{Mark, Marked, Node, Pieces, joined_piece_at};
 use tv_linear::Row;
 
 /// What a cover or a choice leads into.
@@ -30,7 +30,7 @@ pub enum Targets<'a> {
     /// The pieces at the location, with a fall from the ranks of another piece where one is owed.
     Pieces {
         from: Option<&'a Marked>,
-        into: &'a [Marked],
+        into: &'a Pieces,
         location: u32,
     },
 }
@@ -38,7 +38,7 @@ pub enum Targets<'a> {
 /// The pieces at a location, with a fall from the ranks of a piece where one is owed.
 pub fn pieces_into<'a>(
     piece: &'a Marked,
-    into: &'a [Marked],
+    into: &'a Pieces,
     location: u32,
     falls: bool,
 ) -> Targets<'a>
@@ -142,7 +142,7 @@ impl Targets<'_> {
                 from,
                 into,
                 location,
-            } => match piece_at(into, *location, target) {
+            } => match into.at(*location, target) {
                 None => None,
                 Some(piece) => piece_owes(*from, piece, fall),
             },

@@ -10,7 +10,7 @@ use crate::{Certificate, ShapeFault};
 use std::alloc::{AllocError, Global};
 use std::test::Fail;
 use tv_cases::cases;
-use tv_cert::{Claim, Mark, Marked, Node, Proof, Verdict};
+use tv_cert::{Claim, Mark, Marked, Node, Pieces, Proof, Verdict};
 use tv_formula::{Formula, termination, unreachable};
 use tv_linear::{Choice, ChoiceTree, Cover, CoverTree, Piece, Poly, Row};
 use tv_lines::NodeKind;
@@ -204,7 +204,7 @@ fn drawn(alloc: Global, sketch: Sketch) -> Result<Node, Fail> {
     proofs.push(Proof::Covered(into(alloc, 0, sketch.fall, sketch.shown)?))?;
     proofs.push(Proof::Covered(into(alloc, 0, 2, &[&[0, 1], &[0, 1], &[1, 1]])?))?;
     Ok(Node {
-        pieces,
+        pieces: Pieces::new(alloc, pieces)?,
         ranks: sketch.ranks,
         children: Vec::new(alloc),
         proofs,
@@ -313,7 +313,7 @@ fn climbing(alloc: Global, of: &[&[i64]]) -> Result<Node, Fail> {
     proofs.push(take(alloc, 0, &[&[1, 1]])?)?;
     proofs.push(take(alloc, 1, of)?)?;
     Ok(Node {
-        pieces,
+        pieces: Pieces::new(alloc, pieces)?,
         ranks: 0,
         children: Vec::new(alloc),
         proofs,
@@ -347,13 +347,13 @@ fn a_climber_fits_where_it_has_a_value_for_each_variable(rt: HostRuntime) -> Res
 }
 
 /// A node without pieces, of so many ranks and with these children.
-fn bare(alloc: Global, ranks: u32, children: Vec<Node>) -> Node {
-    Node {
-        pieces: Vec::new(alloc),
+fn bare(alloc: Global, ranks: u32, children: Vec<Node>) -> Result<Node, AllocError> {
+    Ok(Node {
+        pieces: Pieces::new(alloc, Vec::new(alloc))?,
         ranks,
         children,
         proofs: Vec::new(alloc),
-    }
+    })
 }
 
 /// What is made of a root without pieces over two children, each of so many ranks, for a location that no run comes to.
@@ -365,15 +365,15 @@ fn made_of_three(
     let program = program(alloc)?;
     let property = unreachable(alloc, &program, 1)?;
     let mut children = Vec::new(alloc);
-    children.push(bare(alloc, first, Vec::new(alloc)))?;
-    children.push(bare(alloc, second, Vec::new(alloc)))?;
+    children.push(bare(alloc, first, Vec::new(alloc))?)?;
+    children.push(bare(alloc, second, Vec::new(alloc))?)?;
     let nothing = Cover::new(CoverTree::Empty(Vec::new(alloc))).ok_or("deep")?;
     made_for(
         alloc,
         &program,
         &property,
         Verdict::Proved(nothing),
-        bare(alloc, 0, children),
+        bare(alloc, 0, children)?,
     )
 }
 
@@ -403,7 +403,7 @@ fn elsewhere(alloc: Global, ranks: u32) -> Result<Node, Fail> {
         proofs.push(Proof::Covered(into(alloc, 0, 0, &[])?))?;
     }
     Ok(Node {
-        pieces,
+        pieces: Pieces::new(alloc, pieces)?,
         ranks,
         children: Vec::new(alloc),
         proofs,
@@ -432,9 +432,9 @@ fn invariant(
     proofs.push(Proof::Covered(Cover::new(refuted).ok_or("deep")?))?;
     let mut children = Vec::new(alloc);
     children.push(elsewhere(alloc, ranks)?)?;
-    children.push(bare(alloc, 0, Vec::new(alloc)))?;
+    children.push(bare(alloc, 0, Vec::new(alloc))?)?;
     let root = Node {
-        pieces,
+        pieces: Pieces::new(alloc, pieces)?,
         ranks: 0,
         children,
         proofs,

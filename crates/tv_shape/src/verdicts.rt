@@ -11,15 +11,15 @@ ghost use Rattle.tv_shape.specs.Fitting.{VerdictFits, VerdictShallow};
 
 use crate::covers::cover_has_shape;
 use crate::depths::cover_goes_within;
-use crate::narrow::{are_narrow, cover_is_narrow};
+use crate::narrow::cover_is_narrow;
 use crate::nodes::MAX_DEPTH;
 use crate::targets::Targets;
 use tv_cases::Cases;
-use tv_cert::{Marked, Verdict, piece_at};
-use tv_linear::Cover;
+use tv_cert::{Pieces, Verdict};
+use tv_linear::{Cover, are_narrow};
 
 /// Whether the cover has the shape of one of the start by these pieces.
-fn start_has_shape(about: &Cases, pieces: &[Marked], start: &Cover) -> bool
+fn start_has_shape(about: &Cases, pieces: &Pieces, start: &Cover) -> bool
     ensures { IsTrue result ↔ ProofShape (a_cover (cases_of about.now).variables [] (owed_into pieces.now (cases_of about.now).start given no_fall)) (Covered start.now) }
 {
     let targets = Targets::Pieces {
@@ -31,14 +31,14 @@ fn start_has_shape(about: &Cases, pieces: &[Marked], start: &Cover) -> bool
 }
 
 /// Whether there is this piece at the start, and as many values as variables.
-fn values_have_shape(about: &Cases, pieces: &[Marked], piece: u32, values: &[i128]) -> bool
+fn values_have_shape(about: &Cases, pieces: &Pieces, piece: u32, values: &[i128]) -> bool
     ensures { IsTrue result ↔ ((length values.now ≡ (cases_of about.now).variables) × IsSome (slice_get (pieces_at pieces.now (cases_of about.now).start) piece)) }
 {
-    values.len() == about.variables() as usize && piece_at(pieces, about.start(), piece).is_some()
+    values.len() == about.variables() as usize && pieces.at(about.start(), piece).is_some()
 }
 
 /// Whether the verdict has its shape over the pieces of the root, and narrow numbers.
-pub fn verdict_has_shape(about: &Cases, pieces: &[Marked], verdict: &Verdict) -> bool
+pub fn verdict_has_shape(about: &Cases, pieces: &Pieces, verdict: &Verdict) -> bool
     ensures { IsTrue result ↔ VerdictFits (about_of (cases_of about.now)) pieces.now verdict.now }
 {
     match verdict {

@@ -70,5 +70,5 @@ module _ (p : System) (system : CaseSystem) (of_program : IsOfProgram p system) 
   claim_followed (Node' ps m shape kids proofs) k values met counted =
       let about = about_with system in
       let root = Node' ps m shape kids proofs in
-      let own = AllMet-right (kid_entries 1 about (parts (negated term)) kids) (paired (own_of 0 about (negated term) ps.items (kid_pieces kids)) proofs.items) (AllMet-left (entries 0 about (negated term) root) _ met) in
-      followed_from root ps.items proofs.items refl k values.items counted own (slice_get (pieces_at ps.items system.start) k) refl (root_met about (negated term) root (Disproved k values) met)
+      let own = AllMet-right (kid_entries 1 about (parts (negated term)) kids) (paired (own_of 0 about (negated term) ps (kid_pieces kids)) proofs.items) (AllMet-left (entries 0 about (negated term) root) _ met) in
+      followed_from root ps proofs.items refl k values.items counted own (slice_get (pieces_at ps system.start) k) refl (root_met about (negated term) root (Disproved k values) met)

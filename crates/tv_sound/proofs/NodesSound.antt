@@ -225,9 +225,9 @@ mutual
   -- where the entries of a node and of those below it are true, its formula holds at every state of its region
   pub node_sound : (about : About) → TestsShow about → (number : ℕ) (f : Property) (node : Node) → NodeFits about.system.variables f node → AllMet (entries number about f node) → (s : State) → length s.values ≡ about.system.variables → InPieces (pieces_of node) s → Holds (CaseSteps about.system) f s
   node_sound about tests number f (Node' ps m shape kids proofs) fits met s wide h =
-      own_sound number about tests m ps.items (kid_pieces kids) proofs.items f
+      own_sound number about tests m ps (kid_pieces kids) proofs.items f
       (kids_sound about tests (number + 1) (parts f) kids fits.1 (AllMet-left (kid_entries (number + 1) about (parts f) kids) _ met))
-      fits.0 (AllMet-right (kid_entries (number + 1) about (parts f) kids) _ met) s (placed about.system.variables ps.items s wide h)
+      fits.0 (AllMet-right (kid_entries (number + 1) about (parts f) kids) _ met) s (placed about.system.variables ps s wide h)
 
   kids_sound : {k : _} (about : About) → TestsShow about → (number : ℕ) (fs : Properties) (kids : Row_of-Node k) → KidsFit about.system.variables fs kids → AllMet (kid_entries number about fs kids) → KidsSound about fs (kid_pieces kids)
   kids_sound about tests number none end_of-Node fits met = tt

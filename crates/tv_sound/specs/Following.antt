@@ -31,7 +31,7 @@ offered (p ∷ ps) [] = []
 offered (p ∷ ps) (q ∷ proofs) = (p, q) ∷ offered ps proofs
 
 abbrev pub all_offered : Node → List (Marked × Proof)
-all_offered (Node' ps m shape kids proofs) = offered ps.items proofs.items
+all_offered (Node' ps m shape kids proofs) = offered ps proofs.items
 
 -- those at a location, in order
 abbrev pub offered_at : List (Marked × Proof) → ℕ → List (Marked × Proof)

@@ -2,7 +2,7 @@ use crate::check_claim;
 use std::alloc::{AllocError, Global};
 use std::test::Fail;
 use tv_cases::cases;
-use tv_cert::{Claim, Kind, Mark, Marked, Node, Proof, Verdict};
+use tv_cert::{Claim, Kind, Mark, Marked, Node, Pieces, Proof, Verdict};
 use tv_cert_spelling::write_certificate;
 use tv_check::Failing;
 use tv_formula_text::read_formula;
@@ -126,25 +126,30 @@ fn fails_at(alloc: Global, value: i128) -> Result<Verdict, AllocError> {
     Ok(Verdict::Disproved { piece: 0, values })
 }
 
-fn node(pieces: Vec<Marked>, children: Vec<Node>, proofs: Vec<Proof>) -> Node {
-    Node {
-        pieces,
+fn node(
+    alloc: Global,
+    pieces: Vec<Marked>,
+    children: Vec<Node>,
+    proofs: Vec<Proof>,
+) -> Result<Node, AllocError> {
+    Ok(Node {
+        pieces: Pieces::new(alloc, pieces)?,
         ranks: 0,
         children,
         proofs,
-    }
+    })
 }
 
 /// An atom with one piece, which is shown to lie in a target.
 fn atom(alloc: Global, location: u32, met: &[Numbers], shown: &[&[i64]]) -> Result<Node, Fail> {
     let pieces = vec![in alloc; going(alloc, location, met)?]?;
     let proofs = vec![in alloc; enters(alloc, 0, shown)?]?;
-    Ok(node(pieces, Vec::new(alloc), proofs))
+    Ok(node(alloc, pieces, Vec::new(alloc), proofs)?)
 }
 
 /// An atom that holds nowhere.
-fn nowhere(alloc: Global) -> Node {
-    node(Vec::new(alloc), Vec::new(alloc), Vec::new(alloc))
+fn nowhere(alloc: Global) -> Result<Node, AllocError> {
+    node(alloc, Vec::new(alloc), Vec::new(alloc), Vec::new(alloc))
 }
 
 /// What the check of these nodes answers, for the property of the program.
@@ -181,7 +186,7 @@ fn countdown_ends(alloc: Global, last: &[i64]) -> Result<Node, Fail> {
     let entered = covered(into(alloc, 0, 1, &[&[1], &[1]])?)?;
     let again = covered(into(alloc, 0, 2, &[&[0, 1], &[0, 1], last])?)?;
     Ok(Node {
-        pieces: vec![in alloc; first, second]?,
+        pieces: Pieces::new(alloc, vec![in alloc; first, second]?)?,
         ranks: 2,
         children: Vec::new(alloc),
         proofs: vec![in alloc; entered, again]?,
@@ -209,7 +214,7 @@ fn climber_climbs(alloc: Global, shown: &[i64]) -> Result<Node, Fail> {
     let entered = chosen(take(alloc, 0, 0, &[&[1, 1]])?)?;
     let again = chosen(take(alloc, 1, 0, &[&[1, 1], shown])?)?;
     let proofs = vec![in alloc; entered, again]?;
-    Ok(node(pieces, Vec::new(alloc), proofs))
+    Ok(node(alloc, pieces, Vec::new(alloc), proofs)?)
 }
 
 #[test]
@@ -247,7 +252,7 @@ fn loop_comes_down(alloc: Global, taken: &[i64]) -> Result<Node, Fail> {
         loop_step(alloc)?,
     ]?;
     Ok(Node {
-        pieces: vec![in alloc; done, on]?,
+        pieces: Pieces::new(alloc, vec![in alloc; done, on]?)?,
         ranks: 1,
         children: vec![in alloc; held, at_end]?,
         proofs,
@@ -271,14 +276,15 @@ fn all_and_one(alloc: Global, shown: &[i64]) -> Result<Node, Fail> {
     let above = atom(alloc, 0, &[[-1, 1]], &[&[1, 1]])?;
     let below = atom(alloc, 0, &[[1, 0]], &[&[1, 1]])?;
     let either = node(
+        alloc,
         vec![in alloc; going(alloc, 0, &[])?]?,
         vec![in alloc; above, below]?,
         vec![in alloc; covered(halves(alloc, [-1, 1], shown)?)?]?,
-    );
+    )?;
     let here = atom(alloc, 0, &[], &[])?;
     let proofs = vec![in alloc; enters(alloc, 0, &[])?, enters(alloc, 0, &[])?]?;
     let pieces = vec![in alloc; going(alloc, 0, &[])?]?;
-    Ok(node(pieces, vec![in alloc; here, either]?, proofs))
+    Ok(node(alloc, pieces, vec![in alloc; here, either]?, proofs)?)
 }
 
 #[test]
@@ -296,18 +302,20 @@ fn all_of_and_one_of_are_checked(rt: HostRuntime) -> Result<(), Fail> {
 /// That a step leads to 1, and each step does.
 fn leads_on(alloc: Global, taken: u32, shown: &[&[i64]]) -> Result<Node, Fail> {
     let some = node(
+        alloc,
         vec![in alloc; going(alloc, 0, &[])?]?,
         vec![in alloc; atom(alloc, 1, &[], &[])?]?,
         vec![in alloc; chosen(take(alloc, taken, 0, shown)?)?]?,
-    );
+    )?;
     let each = node(
+        alloc,
         vec![in alloc; going(alloc, 0, &[])?]?,
         vec![in alloc; atom(alloc, 1, &[], &[])?]?,
         vec![in alloc; enters(alloc, 0, &[])?]?,
-    );
+    )?;
     let proofs = vec![in alloc; enters(alloc, 0, &[])?, enters(alloc, 0, &[])?]?;
     let pieces = vec![in alloc; going(alloc, 0, &[])?]?;
-    Ok(node(pieces, vec![in alloc; some, each]?, proofs))
+    Ok(node(alloc, pieces, vec![in alloc; some, each]?, proofs)?)
 }
 
 #[test]
@@ -334,7 +342,7 @@ fn comes_to_1(alloc: Global, met: &[Numbers], shown: &[&[i64]]) -> Result<Node, 
         enters(alloc, 0, shown)?,
     ]?;
     Ok(Node {
-        pieces: vec![in alloc; on, done]?,
+        pieces: Pieces::new(alloc, vec![in alloc; on, done]?)?,
         ranks: 1,
         children: vec![in alloc; atom(alloc, 0, &[], &[])?, atom(alloc, 1, met, &[])?]?,
         proofs,
@@ -364,9 +372,9 @@ fn goes_on_or_stops(alloc: Global, none: &[i64]) -> Result<Proof, Fail> {
 /// That 0 is never left on some run, which goes on or stops.
 fn stays_or_stops(alloc: Global, none: &[i64]) -> Result<Node, Fail> {
     let pieces = vec![in alloc; going(alloc, 0, &[])?]?;
-    let children = vec![in alloc; atom(alloc, 0, &[], &[])?, nowhere(alloc)]?;
+    let children = vec![in alloc; atom(alloc, 0, &[], &[])?, nowhere(alloc)?]?;
     let proofs = vec![in alloc; enters(alloc, 0, &[])?, goes_on_or_stops(alloc, none)?]?;
-    Ok(node(pieces, children, proofs))
+    Ok(node(alloc, pieces, children, proofs)?)
 }
 
 #[test]
@@ -383,9 +391,9 @@ fn some_run_stays(rt: HostRuntime) -> Result<(), Fail> {
 /// That 0 is never left, where what holds on the way has these rows, each shown by a list.
 fn stays_at_0(alloc: Global, met: &[Numbers], shown: &[&[i64]]) -> Result<Node, Fail> {
     let pieces = vec![in alloc; going(alloc, 0, &[])?]?;
-    let children = vec![in alloc; nowhere(alloc), atom(alloc, 0, met, &[])?]?;
+    let children = vec![in alloc; nowhere(alloc)?, atom(alloc, 0, met, &[])?]?;
     let proofs = vec![in alloc; enters(alloc, 0, shown)?, enters(alloc, 0, &[])?]?;
-    Ok(node(pieces, children, proofs))
+    Ok(node(alloc, pieces, children, proofs)?)
 }
 
 // What holds on the way is the second argument.
@@ -413,7 +421,7 @@ fn both_sides_of_an_inequality_are_targets(rt: HostRuntime) -> Result<(), Fail> 
     ] {
         let pieces = vec![in alloc; going(alloc, 0, &[met])?]?;
         let proofs = vec![in alloc; enters(alloc, target, &[&[1, 1]])?]?;
-        let root = node(pieces, Vec::new(alloc), proofs);
+        let root = node(alloc, pieces, Vec::new(alloc), proofs)?;
         let found = answer(alloc, LOOP, "x == 3", fails_at(alloc, value)?, root)?;
         assert_eq!(rt; found, wanted);
     }

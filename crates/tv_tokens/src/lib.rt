@@ -12,3 +12,4 @@ mod word;
 
 pub use scanner::{scan, tokens};
 pub use token::{Token, TokenFault, TokenKind};
+pub use word::is_word;

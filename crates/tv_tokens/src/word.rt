@@ -36,8 +36,9 @@ pub fn name_length(bytes: &[u8]) -> usize
         .count()
 }
 
+/// Whether two words are the same.
 #[inline(always)]
-fn is_word(word: &[u8], other: &[u8]) -> bool
+pub fn is_word(word: &[u8], other: &[u8]) -> bool
     ensures { result ≡ bytes_eq word.now other.now }
 {
     word == other

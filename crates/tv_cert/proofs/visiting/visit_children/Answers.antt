@@ -20,22 +20,18 @@ returns-then-not-visit_cover g c =
     let system = cases_of c.args.about.now in
     let passes = g.V.Visitor.passes system in
     let stops = g.V.Visitor.stops system in
-    let cover = cover_of c.args.number kind.Child (about_of system) c.args.piece.now in
-    let owes = λ (kids : List Node). map cover (map pieces_list kids) in
-    let here = subst (λ ps. Visits passes stops g.V.Visitor.room c.visit_cover.result c.loop-child.visitor (cover ps ∷ []) c.visit_cover.new.visitor) c.deref.ensures.value c.visit_cover.ensures in
+    let owes = λ (kids : List Node). map (cover_of c.args.number kind.Child (about_of system) c.args.piece.now) (map pieces_list kids) in
     ahead_fails passes stops g.V.Visitor.room owes refl (λ x xs. refl) c.args.children.now c.args.visitor.now c.loop-child.visitor c.loop-child.child-index c.loop-child.invariant c.child-item.result c.loop-child-test.true c.child-item.is c.visit_cover.new.visitor
-    (subst (λ r. Visits passes stops g.V.Visitor.room r c.loop-child.visitor (owes (c.child-item.result ∷ [])) c.visit_cover.new.visitor) c.if-not-visit_cover.true here)
+    (subst (λ r. Visits passes stops g.V.Visitor.room r c.loop-child.visitor (owes (c.child-item.result ∷ [])) c.visit_cover.new.visitor) c.if-not-visit_cover.true c.visit_cover.ensures)
 
 pub loop-child-preserved : goal.loop-child-preserved
 loop-child-preserved g c =
     let system = cases_of c.args.about.now in
     let passes = g.V.Visitor.passes system in
     let stops = g.V.Visitor.stops system in
-    let cover = cover_of c.args.number kind.Child (about_of system) c.args.piece.now in
-    let owes = λ (kids : List Node). map cover (map pieces_list kids) in
-    let here = subst (λ ps. Visits passes stops g.V.Visitor.room c.visit_cover.result c.loop-child.visitor (cover ps ∷ []) c.visit_cover.new.visitor) c.deref.ensures.value c.visit_cover.ensures in
+    let owes = λ (kids : List Node). map (cover_of c.args.number kind.Child (about_of system) c.args.piece.now) (map pieces_list kids) in
     ahead_next passes stops g.V.Visitor.room owes refl (λ x xs. refl) c.args.children.now c.args.visitor.now c.loop-child.visitor c.loop-child.child-index c.loop-child.invariant c.child-item.result c.loop-child-test.true c.child-item.is c.visit_cover.new.visitor
-    (subst (λ r. Visits passes stops g.V.Visitor.room r c.loop-child.visitor (owes (c.child-item.result ∷ [])) c.visit_cover.new.visitor) c.if-not-visit_cover.false here)
+    (subst (λ r. Visits passes stops g.V.Visitor.room r c.loop-child.visitor (owes (c.child-item.result ∷ [])) c.visit_cover.new.visitor) c.if-not-visit_cover.false c.visit_cover.ensures)
 
 pub returns : goal.returns
 returns g c =

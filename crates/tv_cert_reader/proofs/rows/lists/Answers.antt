@@ -6,7 +6,7 @@ use Rattle.tv_cert_reader.proofs.rows.lists.Goals as goal
 
 pub returns-in_err-list : goal.returns-in_err-list
 returns-in_err-list c =
-    at_exit (ReadsLists c.args.wide c.args.count c.args.cursor.now c.numbers.new.cursor) c.from_residual.result c.in_err-list.field-0.0 c.from_residual.ensures.1
+    at_exit (ReadsLists c.args.wide c.args.count c.args.cursor.now c.numbers.new.cursor) c.from_residual-in_err-list.result c.in_err-list.field-0.0 c.from_residual-in_err-list.ensures.1
     (lists_fail c.args.wide c.args.count c.lists.counter c.args.cursor.now c.lists.cursor c.lists.lists.items c.in_err-list.field-0.0 c.lists.invariant.0 c.lists-test.true c.in_err-list.ensures)
 
 pub returns : goal.returns

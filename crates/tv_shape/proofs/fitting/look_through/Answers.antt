@@ -1,6 +1,7 @@
-use Rattle.std.proofs.Common.{◌∙◌, sym, subst}
+use Rattle.std.proofs.Common.{sym, subst}
 use Rattle.std.specs.Prelude.{MatchResult}
 use Rattle.tv_cert.specs.Plain.{about_of}
+use Rattle.tv_cert.specs.Listed.{pieces_list}
 use Rattle.tv_cert.proofs.NodeLemmas.{pieces_are}
 use Rattle.tv_shape.specs.Fitting.{IsVerdictFault, VerdictFits, VerdictShallow}
 use Rattle.tv_shape.specs.Stations.{stations, AreRight}
@@ -13,5 +14,5 @@ returns-in-Ok c =
     let root = c.args.root.now in
     let verdict = c.args.verdict.now in
     let right = subst (λ (x : Type 0). x) (λ i. AreRight (sym e i) (stations 0 1 (s i) root)) c.in-Ok.ensures.0 in
-    let ends = subst (λ system. MatchResult c.look_at_verdict.result (λ x. VerdictShallow verdict × VerdictFits (about_of system) c.deref.result.now verdict) (IsVerdictFault (about_of system) c.deref.result.now verdict)) (sym e) c.look_at_verdict.ensures in
-    verdict_ends of f root c.deref.result.now verdict c.look_at_verdict.result right (pieces_are root ∙ sym c.deref.ensures.value) ends
+    let ends = subst (λ system. MatchResult c.look_at_verdict.result (λ x. VerdictShallow verdict × VerdictFits (about_of system) (pieces_list root) verdict) (IsVerdictFault (about_of system) (pieces_list root) verdict)) (sym e) c.look_at_verdict.ensures in
+    verdict_ends of f root (pieces_list root) verdict c.look_at_verdict.result right (pieces_are root) ends

@@ -16,20 +16,19 @@ pub visit_pieces-requires : goal.visit_pieces-requires
 visit_pieces-requires c =
     let system = cases_of c.args.about.now in
     let node = out-Node c.args.node.now in
-    let pieces : length c.deref-2.result.now < 2 ^ 63 = (let e = ap length c.deref-2.ensures.value in let o = node.pieces.ok in omega (arith, e, o, node.pieces.small)) in
-    let many = length-map c.deref-3.result.now pieces_list in
-    let children : length (map pieces_list c.deref-3.result.now) < 2 ^ 63 = (let e = ap length c.deref-3.ensures.value in let o = node.children.ok in omega (arith, many, e, o, node.children.small)) in
+    let many = length-map c.deref-2.result.now pieces_list in
+    let children : length (map pieces_list c.deref-2.result.now) < 2 ^ 63 = (let e = ap length c.deref-2.ensures.value in let o = node.children.ok in omega (arith, many, e, o, node.children.small)) in
     let list = c.args.about.now.list in
     let cases : length system.cases < 2 ^ 63 = (let e = length-map list.items case_view in let o = list.ok in omega (arith, e, o, list.small)) in
-    own_within 0 system (aim_states c.args.aim.now) c.deref-2.result.now (map pieces_list c.deref-3.result.now) pieces children cases
+    own_within 0 system (aim_states c.args.aim.now) (pieces_list c.args.node.now) (map pieces_list c.deref-2.result.now) c.requires children cases
 
 pub returns-then-not-visit_pieces : goal.returns-then-not-visit_pieces
 returns-then-not-visit_pieces c =
     let system = cases_of c.args.about.now in
     let s = aim_states c.args.aim.now in
     let node = c.args.node.now in
-    let os = said_own 0 system s c.deref-2.result.now (map pieces_list c.deref-3.result.now) in
-    let same : Offered os c.deref.result.now ≡ Offered (said_own 0 system s (pieces_list node) (map pieces_list (children_of node))) (proofs_of node) = (λ i. Offered (said_own 0 system s (c.deref-2.ensures.value i) (map pieces_list (c.deref-3.ensures.value i))) (c.deref.ensures.value i)) in
+    let os = said_own 0 system s (pieces_list c.args.node.now) (map pieces_list c.deref-2.result.now) in
+    let same : Offered os c.deref.result.now ≡ Offered (said_own 0 system s (pieces_list node) (map pieces_list (children_of node))) (proofs_of node) = (λ i. Offered (said_own 0 system s (pieces_list c.args.node.now) (map pieces_list (c.deref-2.ensures.value i))) (c.deref.ensures.value i)) in
     (λ t. cc, λ h. absurd (taken_fails os _ c.visit_pieces.new.visitor c.if-not-visit_pieces.ensures.0 (subst (λ (x : Type 0). x) (sym same) h)))
 
 pub returns : goal.returns
@@ -37,8 +36,8 @@ returns c =
     let system = cases_of c.args.about.now in
     let s = aim_states c.args.aim.now in
     let node = c.args.node.now in
-    let os = said_own 0 system s c.deref-2.result.now (map pieces_list c.deref-3.result.now) in
-    let same : Offered os c.deref.result.now ≡ Offered (said_own 0 system s (pieces_list node) (map pieces_list (children_of node))) (proofs_of node) = (λ i. Offered (said_own 0 system s (c.deref-2.ensures.value i) (map pieces_list (c.deref-3.ensures.value i))) (c.deref.ensures.value i)) in
+    let os = said_own 0 system s (pieces_list c.args.node.now) (map pieces_list c.deref-2.result.now) in
+    let same : Offered os c.deref.result.now ≡ Offered (said_own 0 system s (pieces_list node) (map pieces_list (children_of node))) (proofs_of node) = (λ i. Offered (said_own 0 system s (pieces_list c.args.node.now) (map pieces_list (c.deref-2.ensures.value i))) (c.deref.ensures.value i)) in
     let all = taken_all os _ c.visit_pieces.new.visitor c.if-not-visit_pieces.ensures.0 in
     let left = c.visit_pieces.new.visitor.proofs.now in (
       λ t. subst (λ (x : Type 0). x) same (all.0 (none_left left (true_test (length left) 0 (sym c.is_empty.ensures ∙ t)))),

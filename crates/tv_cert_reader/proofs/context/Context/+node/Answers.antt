@@ -1,6 +1,7 @@
-use Rattle.std.proofs.Common.{◌∷◌, [], ◌<◌, ◌^◌, Err, false, length, length-append, map, sym, ap, ◌∙◌, subst, arith}
+use Rattle.std.proofs.Common.{List, ◌∷◌, [], ◌<◌, ◌^◌, Err, false, length, length-append, map, sym, ap, ◌∙◌, subst, arith}
 use Rattle.tv_cases.specs.Systems.{cases_of}
 use Rattle.tv_cert.specs.AimViews.{aim_states}
+use Rattle.tv_cert.specs.declared.node.Marked.{Marked}
 use Rattle.tv_cert.specs.Listed.{pieces_list}
 use Rattle.tv_cert.specs.Said.{said_own}
 use Rattle.tv_cert.specs.Statements.{parts_of, part_at, count}
@@ -11,7 +12,7 @@ use Rattle.tv_cert_reader.specs.Reading.{FailsBy, Takes}
 use Rattle.tv_cert_reader.specs.Regions.{region_with}
 use Rattle.tv_cert_grammar.specs.Shaped.{stated_lines}
 use Rattle.tv_cert_reader.proofs.ReadingLemmas.{at_exit}
-use Rattle.tv_cert_reader.proofs.NodeLemmas.{weight, part_lighter, region_fails, child_fails, opened_next, proofs_fail, node_built, few_pieces, pieces_in_node}
+use Rattle.tv_cert_reader.proofs.NodeLemmas.{Opened, weight, part_lighter, region_fails, child_fails, opened_next, proofs_fail, node_built, few_pieces, pieces_in_node}
 use Rattle.tv_cert_reader.proofs.context.Context.+node.Goals as goal
 
 pub returns-in_err-pieces-clause-read : goal.returns-in_err-pieces-clause-read
@@ -37,7 +38,7 @@ returns-in_err-child-clause-read t c =
     let o = c.children.invariant in
     let few : length c.children.children.items < count (parts_of s) = (let e = c.argument_count-i-end.ensures in let b = c.children-test.true in let n = o.1 in omega (arith, e, b, n)) in
     at_exit (ReadsNode system s c.args.cursor.now c.node.new.cursor) c.from_residual-in_err-child.result c.in_err-child.field-0.0 c.from_residual-in_err-child.ensures.1
-    (child_fails system s c.args.cursor.now c.children.cursor c.in_ok-pieces.pieces.items c.in_ok-pieces.ranks c.children.children.items o.0 c.in_err-child.field-0.0 few
+    (child_fails system s c.args.cursor.now c.children.cursor c.pieces.inside.list.items c.in_ok-pieces.ranks c.children.children.items o.0 c.in_err-child.field-0.0 few
     (subst (λ p. FailsBy (node false system p) c.children.cursor c.in_err-child.field-0.0) (c.part.ensures ∙ ap (λ i. part_at i (parts_of s)) (sym o.1)) c.in_err-child.ensures.read))
 
 pub children-preserved : goal.children-preserved
@@ -48,7 +49,7 @@ children-preserved t c =
     let few : length c.children.children.items < count (parts_of s) = (let e = c.argument_count-i-end.ensures in let b = c.children-test.true in let n = o.1 in omega (arith, e, b, n)) in
     let part = c.part.ensures ∙ ap (λ i. part_at i (parts_of s)) (sym o.1) in
     let long = ap length c.in_ok-push.ensures.items ∙ length-append c.children.children.items (c.in_ok-child.child ∷ []) in (
-      opened_next system s c.args.cursor.now c.children.cursor c.node.new.cursor c.in_ok-pieces.pieces.items c.in_ok-pieces.ranks c.children.children.items c.push.new.self.items c.in_ok-child.child o.0 few
+      opened_next system s c.args.cursor.now c.children.cursor c.node.new.cursor c.pieces.inside.list.items c.in_ok-pieces.ranks c.children.children.items c.push.new.self.items c.in_ok-child.child o.0 few
           (subst (λ p. IsNodeOf system p c.in_ok-child.child) part c.in_ok-child.ensures.read.0)
           (subst (λ p. Takes (stated_lines p c.in_ok-child.child) c.children.cursor c.node.new.cursor) part c.in_ok-child.ensures.read.1)
           c.in_ok-push.ensures.items,
@@ -61,22 +62,24 @@ returns-in_err-proofs-clause-read t c =
     let system = cases_of c.args.self.now.about.now in
     let s = aim_states c.args.aim.now in
     let o = c.children.invariant in
+    let opened = subst (λ (ps : List Marked). Opened system s c.args.cursor.now c.children.cursor ps c.in_ok-pieces.ranks c.children.children.items) c.pieces.view_is o.0 in
     at_exit (ReadsNode system s c.args.cursor.now c.proofs.new.cursor) c.from_residual-in_err-proofs.result c.in_err-proofs.field-0.0 c.from_residual-in_err-proofs.ensures.1
-    (proofs_fail system s c.args.cursor.now c.children.cursor c.in_ok-pieces.pieces.items c.in_ok-pieces.ranks c.children.children.items o.0 (let e = c.argument_count-i-end.ensures in let b = c.children-test.false in let n = o.1 in let m = o.2 in omega (arith, e, b, n, m)) c.in_err-proofs.field-0.0
-    (subst (λ (x : Type 0). x) (λ i. ReadsProofs (said_own 0 system s (c.deref.ensures.value i) (map pieces_list (c.deref-2.ensures.value i))) c.children.cursor c.proofs.new.cursor (Err c.in_err-proofs.field-0.0)) c.in_err-proofs.ensures))
+    (proofs_fail system s c.args.cursor.now c.children.cursor c.in_ok-pieces.pieces c.in_ok-pieces.ranks c.children.children.items opened (let e = c.argument_count-i-end.ensures in let b = c.children-test.false in let n = o.1 in let m = o.2 in omega (arith, e, b, n, m)) c.in_err-proofs.field-0.0
+    (subst (λ (x : Type 0). x) (λ i. ReadsProofs (said_own 0 system s c.in_ok-pieces.pieces (map pieces_list (c.deref.ensures.value i))) c.children.cursor c.proofs.new.cursor (Err c.in_err-proofs.field-0.0)) c.in_err-proofs.ensures))
 
 pub returns-clause-read : goal.returns-clause-read
 returns-clause-read t c =
     let system = cases_of c.args.self.now.about.now in
     let s = aim_states c.args.aim.now in
     let o = c.children.invariant in
-    node_built system s c.args.cursor.now c.children.cursor c.proofs.new.cursor c.in_ok-pieces.pieces c.in_ok-pieces.ranks c.children.children c.in_ok-proofs.proofs c.kind_of.ensures.said o.0
+    let opened = subst (λ (ps : List Marked). Opened system s c.args.cursor.now c.children.cursor ps c.in_ok-pieces.ranks c.children.children.items) c.pieces.view_is o.0 in
+    node_built system s c.args.cursor.now c.children.cursor c.proofs.new.cursor c.in_ok-pieces.pieces c.in_ok-pieces.ranks c.children.children c.in_ok-proofs.proofs c.kind_of.ensures.said opened
     (let e = c.argument_count-i-end.ensures in let b = c.children-test.false in let n = o.1 in let m = o.2 in omega (arith, e, b, n, m))
-    (subst (λ (x : Type 0). x) (λ i. AreProofsOf (said_own 0 system s (c.deref.ensures.value i) (map pieces_list (c.deref-2.ensures.value i))) c.in_ok-proofs.proofs.items) c.in_ok-proofs.ensures.0)
+    (subst (λ (x : Type 0). x) (λ i. AreProofsOf (said_own 0 system s c.in_ok-pieces.pieces (map pieces_list (c.deref.ensures.value i))) c.in_ok-proofs.proofs.items) c.in_ok-proofs.ensures.0)
     c.in_ok-proofs.ensures.1
 
 pub returns-clause-few : goal.returns-clause-few
 returns-clause-few t c =
     let system = cases_of c.args.self.now.about.now in
     let s = aim_states c.args.aim.now in
-    subst (λ ps. length ps < 2 ^ 32) (pieces_in_node c.in_ok-pieces.pieces c.in_ok-pieces.ranks c.children.children c.in_ok-proofs.proofs) (few_pieces system s c.args.cursor.now c.children.cursor c.in_ok-pieces.pieces.items c.in_ok-pieces.ranks c.children.children.items c.children.invariant.0)
+    subst (λ ps. length ps < 2 ^ 32) (pieces_in_node c.in_ok-pieces.pieces c.in_ok-pieces.ranks c.children.children c.in_ok-proofs.proofs) (few_pieces system s c.args.cursor.now c.children.cursor c.in_ok-pieces.pieces c.in_ok-pieces.ranks c.children.children.items (subst (λ (ps : List Marked). Opened system s c.args.cursor.now c.children.cursor ps c.in_ok-pieces.ranks c.children.children.items) c.pieces.view_is c.children.invariant.0))

@@ -9,4 +9,4 @@ abbrev pub decreases-node : goal.decreases-node
 decreases-node l = weight (aim_states l.aim.now)
 
 abbrev pub invariant-children : goal.invariant-children
-invariant-children l = Opened (cases_of l.self.about.now) (aim_states l.aim) l.fn.cursor l.cursor l.pieces.items l.ranks l.children.items × (length l.children.items ≡ l.i) × (l.i ≤ count (parts_of (aim_states l.aim)))
+invariant-children l = Opened (cases_of l.self.about.now) (aim_states l.aim) l.fn.cursor l.cursor l.pieces-inside.list.items l.ranks l.children.items × (length l.children.items ≡ l.i) × (l.i ≤ count (parts_of (aim_states l.aim)))

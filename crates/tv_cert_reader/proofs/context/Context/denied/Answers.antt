@@ -46,8 +46,8 @@ returns-then-is_none c =
     let s = aim_states c.args.aim.now in
     let a = c.args.self.now.about.now.are_cases.starts in
     piece_missing system (omega (arith, a)) s c.args.cursor.now c.in_ok-root.root c.node.new.cursor c.in_ok-root.ensures.read.0 c.in_ok-root.ensures.read.1 c.in_ok-place.place c.in_ok-place.values.items c.values.new.cursor
-    (c.in_ok-place.ensures.0.many ∙ c.variables.ensures.same) c.in_ok-place.ensures.1 (subst (λ (x : Type 0). x) (λ i. slice_get (pieces_at (c.deref.ensures.value i) (c.start.ensures.same i)) c.in_ok-place.place ≡ None)
-    (none_by c.piece_at.result (slice_get (pieces_at c.deref.result.now c.start.result) c.in_ok-place.place ≡ None) (λ q. slice_get (pieces_at c.deref.result.now c.start.result) c.in_ok-place.place ≡ Some q.now) c.piece_at.ensures c.if-is_none.ensures))
+    (c.in_ok-place.ensures.0.many ∙ c.variables.ensures.same) c.in_ok-place.ensures.1 (subst (λ (x : Type 0). x) (λ i. slice_get (pieces_at (pieces_list c.in_ok-root.root) (c.start.ensures.same i)) c.in_ok-place.place ≡ None)
+    (none_by c.at.result (slice_get (pieces_at (pieces_list c.in_ok-root.root) c.start.result) c.in_ok-place.place ≡ None) (λ q. slice_get (pieces_at (pieces_list c.in_ok-root.root) c.start.result) c.in_ok-place.place ≡ Some q.now) c.at.ensures c.if-is_none.ensures))
 
 pub returns-in_err-numbers : goal.returns-in_err-numbers
 returns-in_err-numbers c =
@@ -57,8 +57,8 @@ returns-in_err-numbers c =
     at_exit (ReadsRest system s false c.args.cursor.now) c.from_residual-in_err-numbers.result c.in_err-numbers.field-0.0 c.from_residual-in_err-numbers.ensures.1
     (denied_last_fails system (omega (arith, a)) s c.args.cursor.now c.in_ok-root.root c.node.new.cursor c.in_ok-root.ensures.read.0 c.in_ok-root.ensures.read.1 c.in_ok-place.place c.in_ok-place.values.items c.values.new.cursor
     (c.in_ok-place.ensures.0.many ∙ c.variables.ensures.same) c.in_ok-place.ensures.1
-    (subst (λ (x : Type 0). x) (λ i. slice_get (pieces_at (c.deref.ensures.value i) (c.start.ensures.same i)) c.in_ok-place.place ≡ None → ⊥)
-    (some_by (λ q. q.now) c.piece_at.result (slice_get (pieces_at c.deref.result.now c.start.result) c.in_ok-place.place) c.piece_at.ensures c.if-is_none.ensures)) c.in_err-numbers.field-0.0 c.in_err-numbers.ensures)
+    (subst (λ (x : Type 0). x) (λ i. slice_get (pieces_at (pieces_list c.in_ok-root.root) (c.start.ensures.same i)) c.in_ok-place.place ≡ None → ⊥)
+    (some_by (λ q. q.now) c.at.result (slice_get (pieces_at (pieces_list c.in_ok-root.root) c.start.result) c.in_ok-place.place) c.at.ensures c.if-is_none.ensures)) c.in_err-numbers.field-0.0 c.in_err-numbers.ensures)
 
 pub returns-in_err-finish : goal.returns-in_err-finish
 returns-in_err-finish c =
@@ -69,6 +69,6 @@ returns-in_err-finish c =
     at_exit (ReadsRest system s false c.args.cursor.now) c.from_residual-in_err-finish.result c.in_err-finish.field-0.0 c.from_residual-in_err-finish.ensures.1
     (denied_end_fails system (omega (arith, a)) s c.args.cursor.now c.in_ok-root.root c.node.new.cursor c.in_ok-root.ensures.read.0 c.in_ok-root.ensures.read.1 c.in_ok-place.place c.in_ok-place.values.items c.values.new.cursor
     (c.in_ok-place.ensures.0.many ∙ c.variables.ensures.same) c.in_ok-place.ensures.1
-    (subst (λ (x : Type 0). x) (λ i. slice_get (pieces_at (c.deref.ensures.value i) (c.start.ensures.same i)) c.in_ok-place.place ≡ None → ⊥)
-    (some_by (λ q. q.now) c.piece_at.result (slice_get (pieces_at c.deref.result.now c.start.result) c.in_ok-place.place) c.piece_at.ensures c.if-is_none.ensures)) c.numbers.new.cursor c.in_err-finish.field-0.0
+    (subst (λ (x : Type 0). x) (λ i. slice_get (pieces_at (pieces_list c.in_ok-root.root) (c.start.ensures.same i)) c.in_ok-place.place ≡ None → ⊥)
+    (some_by (λ q. q.now) c.at.result (slice_get (pieces_at (pieces_list c.in_ok-root.root) c.start.result) c.in_ok-place.place) c.at.ensures c.if-is_none.ensures)) c.numbers.new.cursor c.in_err-finish.field-0.0
     (subst (λ zs. Takes (formed heads.End zs ∷ []) c.values.new.cursor c.numbers.new.cursor) none c.in_ok-numbers.ensures.1) c.in_err-finish.ensures)

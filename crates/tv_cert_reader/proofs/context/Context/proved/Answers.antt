@@ -1,14 +1,11 @@
-use Rattle.std.proofs.Common.{[], ◌∷◌, true, false, subst, arith}
+use Rattle.std.proofs.Common.{[], ◌∷◌, true, subst, arith}
 use Rattle.tv_lines.specs.Lines.{formed}
 use Rattle.tv_lines.specs.declared.head.Head.TheVariants as heads
 use Rattle.tv_cases.specs.Systems.{cases_of}
 use Rattle.tv_cert.specs.AimViews.{aim_states}
-use Rattle.tv_cert_reader.specs.Reading.{Takes, FailsBy}
-use Rattle.tv_cert_reader.specs.Values.{start_counts}
+use Rattle.tv_cert_reader.specs.Reading.{Takes}
 use Rattle.tv_cert_reader.specs.Wholes.{ReadsRest}
-use Rattle.tv_cert_reader.specs.Covers.{IsCoverWithin}
 use Rattle.tv_cert_reader.proofs.ReadingLemmas.{at_exit}
-use Rattle.tv_cert_grammar.specs.Covers.{cover}
 use Rattle.tv_cert_reader.proofs.RestLemmas.{no_numbers, proved_root_fails, start_fails, last_fails, end_fails}
 use Rattle.tv_cert_reader.proofs.context.Context.proved.Goals as goal
 
@@ -27,7 +24,7 @@ returns-in_err-start c =
     let a = c.args.self.now.about.now.are_cases.starts in
     at_exit (ReadsRest system s true c.args.cursor.now) c.from_residual-in_err-start.result c.in_err-start.field-0.0 c.from_residual-in_err-start.ensures.1
     (start_fails system (omega (arith, a)) s c.args.cursor.now c.in_ok-root.root c.node.new.cursor c.in_ok-root.ensures.read.0 c.in_ok-root.ensures.read.1 c.in_err-start.field-0.0
-    (subst (λ ps. FailsBy (cover false 128 system.variables 0 (start_counts system ps)) c.node.new.cursor c.in_err-start.field-0.0) c.deref.ensures.value c.in_err-start.ensures))
+    c.in_err-start.ensures)
 
 pub returns-in_err-numbers : goal.returns-in_err-numbers
 returns-in_err-numbers c =
@@ -36,7 +33,7 @@ returns-in_err-numbers c =
     let a = c.args.self.now.about.now.are_cases.starts in
     at_exit (ReadsRest system s true c.args.cursor.now) c.from_residual-in_err-numbers.result c.in_err-numbers.field-0.0 c.from_residual-in_err-numbers.ensures.1
     (last_fails system (omega (arith, a)) s c.args.cursor.now c.in_ok-root.root c.node.new.cursor c.in_ok-root.ensures.read.0 c.in_ok-root.ensures.read.1 c.in_ok-start.start c.start.new.cursor
-    (subst (λ ps. IsCoverWithin system.variables (start_counts system ps) 0 128 c.in_ok-start.start) c.deref.ensures.value c.in_ok-start.ensures.0) c.in_ok-start.ensures.1 c.in_err-numbers.field-0.0 c.in_err-numbers.ensures)
+    c.in_ok-start.ensures.0 c.in_ok-start.ensures.1 c.in_err-numbers.field-0.0 c.in_err-numbers.ensures)
 
 pub returns-in_err-finish : goal.returns-in_err-finish
 returns-in_err-finish c =
@@ -46,5 +43,5 @@ returns-in_err-finish c =
     let none = no_numbers c.in_ok-numbers.field-0.items c.in_ok-numbers.ensures.0.many in
     at_exit (ReadsRest system s true c.args.cursor.now) c.from_residual-in_err-finish.result c.in_err-finish.field-0.0 c.from_residual-in_err-finish.ensures.1
     (end_fails system (omega (arith, a)) s c.args.cursor.now c.in_ok-root.root c.node.new.cursor c.in_ok-root.ensures.read.0 c.in_ok-root.ensures.read.1 c.in_ok-start.start c.start.new.cursor
-    (subst (λ ps. IsCoverWithin system.variables (start_counts system ps) 0 128 c.in_ok-start.start) c.deref.ensures.value c.in_ok-start.ensures.0) c.in_ok-start.ensures.1 c.numbers.new.cursor c.in_err-finish.field-0.0
+    c.in_ok-start.ensures.0 c.in_ok-start.ensures.1 c.numbers.new.cursor c.in_err-finish.field-0.0
     (subst (λ zs. Takes (formed heads.End zs ∷ []) c.start.new.cursor c.numbers.new.cursor) none c.in_ok-numbers.ensures.1) c.in_err-finish.ensures)

@@ -1,6 +1,7 @@
 use Rattle.std.proofs.Common.{[], sym, ◌∙◌}
 use Rattle.tv_cases.specs.Systems.{cases_of}
-use Rattle.tv_cert_reader.proofs.TakenLemmas.{none_got, some_got, no_numbers, no_case, no_target, is_taken}
+use Rattle.tv_cert.proofs.IndexedLemmas.{none_got, some_got}
+use Rattle.tv_cert_reader.proofs.TakenLemmas.{no_numbers, no_case, no_target, is_taken}
 use Rattle.tv_cert_reader.proofs.context.Context.taken_of.Goals as goal
 
 pub returns-in_default : goal.returns-in_default

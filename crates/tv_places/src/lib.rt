@@ -1,0 +1,8 @@
+//! The places of a list of numbers at which each number stands, found by binary search.
+#![tactic(auto)]
+
+mod places;
+#[cfg(test)]
+mod tests;
+
+pub use places::{Stand, count_of, index, place_at};
