@@ -62,6 +62,11 @@ def one_loop(variables):
     return lines + ["FROM: 1; v0 := v0 - 1; TO: 1;", "FROM: 1; assume(v0 > 1000000); TO: bad;"]
 
 
+def elsewhere(edges):
+    """So many edges that no run comes to."""
+    return [f"FROM: {2 + i % 500}; v0 := v0 + 1; TO: {2 + (i + 1) % 500};" for i in range(edges)]
+
+
 def pieces_of(variables, kept, pieces, met):
     """So many pieces at one location, in each of which the variables up to v(kept - 1) are at most its number."""
     lines = ["CERTIFICATE:", "T2CERT 1", "proved", f"node fix {pieces + 1} 0", "piece 0 go 0"]
@@ -108,15 +113,20 @@ for name, variables, locations, count, kept in [
     write(name, "bare", program + ["CERTIFICATE:"])
     write(name, "read", program + certificate_of(variables, locations, edges, kept, False))
     write(name, "checked", program + certificate_of(variables, locations, edges, kept, True))
-for name, variables, kept, pieces in [("6", 1, 1, 50000), ("7", 1, 1, 200000), ("8", 4, 4, 50000)]:
-    program = one_loop(variables)
+for name, variables, kept, pieces, others in [
+    ("6", 1, 1, 50000, 0),
+    ("7", 1, 1, 200000, 0),
+    ("8", 4, 4, 50000, 0),
+    ("9", 1, 1, 200000, 4093),
+]:
+    program = one_loop(variables) + elsewhere(others)
     write(name, "bare", program + ["CERTIFICATE:"])
     write(name, "read", program + pieces_of(variables, kept, pieces, False))
     write(name, "checked", program + pieces_of(variables, kept, pieces, True))
 program = one_loop(1)
-write("9", "bare", program + ["CERTIFICATE:"])
-write("9", "read", program + tree_of(2**17, False))
-write("9", "checked", program + tree_of(2**17, True))
+write("10", "bare", program + ["CERTIFICATE:"])
+write("10", "read", program + tree_of(2**17, False))
+write("10", "checked", program + tree_of(2**17, True))
 END_OF_TEXTS
 python3 - crates/t2verdict/out/t2verdict crates/reading_bench/out/reading_bench "$folder" <<'END_OF_RUNS'
 import os, subprocess, sys, time
@@ -147,7 +157,8 @@ for name, told in [
     ("6", "1 variable, 50,000 pieces at one location"),
     ("7", "1 variable, 200,000 pieces at one location"),
     ("8", "4 variables, 50,000 pieces at one location"),
-    ("9", "1 variable, a tree of 131,071 splits"),
+    ("9", "1 variable, 4,096 edges, 200,000 pieces at one location"),
+    ("10", "1 variable, a tree of 131,071 splits"),
 ]:
     text = f"{FOLDER}/{name}"
     size = (os.path.getsize(f"{text}.checked") - os.path.getsize(f"{text}.bare")) / 2**20

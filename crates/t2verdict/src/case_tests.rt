@@ -152,6 +152,16 @@ fn cases_follow_the_edges(rt: HostRuntime) -> Result<(), Fail> {
     for (case, (from, to)) in cases.list().iter().zip([(0, 1), (0, 1), (1, 2)]) {
         assert_eq!(rt; (case.from, case.to), (from, to));
     }
+    for (location, k, to) in [
+        (0, 0, Some(1)),
+        (0, 1, Some(1)),
+        (0, 2, None),
+        (1, 0, Some(2)),
+        (2, 0, None),
+    ] {
+        let found = cases.leaving(location, k).map(|case| case.to);
+        assert!(rt; found == to);
+    }
     Ok(())
 }
 

@@ -1,6 +1,6 @@
 -- a comparison is true where the rows of one of its lists are met
-use Rattle.std.proofs.Common.{◌≡◌, ℕ, ◌+◌, ◌∙◌, List, [], ◌∷◌, ◌++◌, length, get_or, refl, sym, ap, arith, ℤ, pos, Bool, true, false}
-use Rattle.std.specs.Prelude.{cond, All, Contains, ◌&&◌}
+use Rattle.std.proofs.Common.{◌≡◌, ℕ, ◌+◌, ◌∙◌, List, [], length, get_or, refl, sym, ap, arith, ℤ, pos, Bool, true, false}
+use Rattle.std.specs.Prelude.{cond, All, Contains}
 use Rattle.std.proofs.lemmas.List.{append-nil, get_or_past}
 use Rattle.tv_linear.specs.Linear.{Linear, value, IsMet}
 use Rattle.tv_program.specs.declared.tree.Relation.{Relation}

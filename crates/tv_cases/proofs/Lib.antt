@@ -15,5 +15,6 @@ pub mod EvenRows
 pub mod EdgeLimits
 pub mod EdgeRoom
 pub mod CaseLimits
+pub mod LeavingLemmas
 pub mod BeforeValue
 pub mod ComparisonLemmas

@@ -1,8 +1,11 @@
-ghost use Rattle.tv_cases.specs.LinearCases.{AreCases};
+ghost use Rattle.std.specs.Prelude.{◌≡◌, IfOk, map};
+ghost use Rattle.tv_places.specs.Places.{IsIndexOf};
+ghost use Rattle.tv_cases.specs.LinearCases.{AreCases, from_of};
 ghost use Rattle.tv_cases.specs.Views.{case_views};
 
-use std::alloc::{AllocError, AllocFailed};
+use std::alloc::{AllocError, AllocFailed, Global};
 use tv_linear::{Poly, Update};
+use tv_places::{Stand, index, place_at};
 
 /// One way to take an edge: it is taken where the guards are met, with any whole numbers as draws, and each variable then has the
 /// value of its update. A variable without an update keeps its value.
@@ -25,22 +28,58 @@ pub struct Cases {
     locations: u32,
     start: u32,
     list: Vec<Case>,
+    /// Where the cases from each location stand in the list.
+    index: Vec<Stand>,
+    pub ghost indexed: { IsIndexOf (map from_of (case_views list.items)) index.items },
     pub ghost are_cases: { AreCases (record { variables = variables; locations = locations; start = start; cases = case_views list.items }) },
 }
 
-impl Cases {
-    ghost use Rattle.std.specs.Prelude.{◌≡◌};
-    ghost use Rattle.tv_cases.specs.Systems.{cases_of};
+/// The locations that the cases are from, in order.
+fn locations_left(alloc: Global, list: &[Case]) -> Result<Vec<u32>, AllocError>
+    ensures { IfOk result (λ v. v.items ≡ map from_of (case_views list.now)) }
+{
+    let mut left = Vec::with_capacity(alloc, list.len())?;
+    for case in list {
+        left.push(case.from)?;
+    }
+    Ok(left)
+}
 
-    pub(crate) fn of(list: Vec<Case>, variables: u32, locations: u32, start: u32) -> Cases
+impl Cases {
+    ghost use Rattle.std.specs.Prelude.{◌≡◌, ◌≤◌, IfOk, MatchOption, length, slice_get, None, Some};
+    ghost use Rattle.tv_cases.specs.Systems.{cases_of};
+    ghost use Rattle.tv_cases.specs.LinearCases.{leaving};
+    ghost use Rattle.tv_cases.specs.Views.{case_view};
+
+    pub(crate) fn of(
+        alloc: Global,
+        list: Vec<Case>,
+        variables: u32,
+        locations: u32,
+        start: u32,
+    ) -> Result<Cases, AllocError>
         requires { AreCases (record { variables = variables; locations = locations; start = start; cases = case_views list.items }) }
-        ensures { cases_of result ≡ record { variables = variables; locations = locations; start = start; cases = case_views list.items } }
+        ensures { IfOk result (λ cases. cases_of cases ≡ record { variables = variables; locations = locations; start = start; cases = case_views list.items }) }
     {
-        Cases {
+        let left = locations_left(alloc, &list)?;
+        let index = index(alloc, &left)?;
+        Ok(Cases {
             variables,
             locations,
             start,
             list,
+            index,
+        })
+    }
+
+    /// Case `k` of those from the location. It is found in time logarithmic in the number of cases.
+    pub fn leaving(&self, location: u32, k: usize) -> Option<&Case>
+        ensures case { MatchOption result (slice_get (leaving location (cases_of self.now).cases) k ≡ None) (λ case. slice_get (leaving location (cases_of self.now).cases) k ≡ Some (case_view case.now)) }
+        ensures few { length (leaving location (cases_of self.now).cases) ≤ 8192 }
+    {
+        match place_at(&self.index, location, k) {
+            None => None,
+            Some(place) => self.list.get(place as usize),
         }
     }
 

@@ -173,7 +173,7 @@ fn of_edges(
     ensures same { IfOk result (λ c. ((cases_of c).variables ≡ variables) × ((cases_of c).locations ≡ locations) × ((cases_of c).start ≡ start)) }
 {
     match listed(alloc, edges, variables) {
-        Ok(list) => Ok(Cases::of(list, variables, locations, start)),
+        Ok(list) => Ok(Cases::of(alloc, list, variables, locations, start)?),
         Err(fault) => Err(fault),
     }
 }

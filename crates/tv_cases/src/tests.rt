@@ -62,6 +62,8 @@ fn an_edge_without_commands_is_one_case(rt: HostRuntime) -> Result<(), Fail> {
     assert_eq!(rt; cases.list().len(), 1);
     assert_eq!(rt; cases.list()[0].draws, 2);
     assert_eq!(rt; cases.list()[0].guards.columns, 2);
+    assert!(rt; cases.leaving(0, 0).map(|case| case.draws) == Some(2));
+    assert!(rt; cases.leaving(0, 1).is_none() && cases.leaving(1, 0).is_none());
     Ok(())
 }
 

@@ -1,30 +1,34 @@
 -- The obligations of a piece, one case, child or piece after another.
-use Rattle.std.proofs.Common.{◌≡◌, ◌⊎◌, inl, inr, ℕ, zero, suc, ◌<◌, Bool, true, false, List, [], ◌∷◌, ◌++◌, length, map, All, get_or, cond, refl, ap, sym, subst, arith, ◌==◌}
+use Rattle.std.proofs.Common.{◌≡◌, ◌⊎◌, inl, inr, ℕ, zero, suc, ◌<◌, ◌≤◌, List, [], ◌∷◌, ◌++◌, length, All, get_or, slice_get, None, Some, ap, sym, subst, arith, ◌==◌}
+use Rattle.std.specs.Prelude.{Contains}
 use Rattle.std.proofs.lemmas.List.{append-nil}
-use Rattle.std.proofs.lemmas.List.Elements.{All-head, All-tail}
+use Rattle.std.proofs.lemmas.List.Elements.{All-head, All-tail, All-filter, All-contains_itself}
+use Rattle.std.proofs.lemmas.Option.{slice_get_within, get_or_from_slice_get, none-some}
 use Rattle.std.specs.List.{flat_map}
 use Rattle.tv_cases.specs.declared.case.Case.{Case}
 use Rattle.tv_cases.specs.LinearCases.{LinearCase}
 use Rattle.tv_cases.specs.Views.{case_view, case_views}
 use Rattle.tv_cert.specs.Choices.{cases_from}
-use Rattle.tv_cert.proofs.PieceLemmas.{test_true, test_false}
 use Rattle.tv_cert.specs.Obligations.{Obligation, end_sides}
 use Rattle.tv_formula.specs.declared.tree.Shape.{Shape}
 use Rattle.tv_formula.specs.declared.tree.Shape.TheVariants.{Release, Strong}
 
-pub case-here : (step : LinearCase → Obligation) (l : ℕ) (c : Case) → c.from ≡ l → map step (cases_from l (case_views (c ∷ []))) ≡ step (case_view c) ∷ []
-case-here step l c e = ap (λ b. map step (cond b (case_view c ∷ []) [])) (test_true c.from l e)
+-- a case that is looked up among those from a location
+module _ (l : ℕ) (cs : List LinearCase) (k : ℕ) (c : LinearCase) (e : slice_get (cases_from l cs) k ≡ Some c) where
+  pub case_within : k < length (cases_from l cs)
+  case_within = slice_get_within (cases_from l cs) k c e
 
-pub case-elsewhere : (step : LinearCase → Obligation) (l : ℕ) (c : Case) → (c.from ≡ l → ⊥) → map step (cases_from l (case_views (c ∷ []))) ≡ []
-case-elsewhere step l c e = ap (λ b. map step (cond b (case_view c ∷ []) [])) (test_false c.from l e)
+  pub case_there : c ≡ get_or (cases_from l cs) k c
+  case_there = sym (get_or_from_slice_get (cases_from l cs) k c c e)
 
-one_more : (step : LinearCase → Obligation) (t : Bool) (c : LinearCase) (cs : List LinearCase) → map step (cond t (c ∷ cs) cs) ≡ map step (cond t (c ∷ []) []) ++ map step cs
-one_more step true c cs = refl
-one_more step false c cs = refl
+  pub case_among : Contains cs c
+  case_among = subst (Contains cs) (sym case_there) (All-filter (λ x. x.from == l) (Contains cs) cs (All-contains_itself cs) k c case_within)
 
--- what the first case owes, and then what the others owe
-pub cases-cons : (step : LinearCase → Obligation) (l : ℕ) (c : Case) (cs : List Case) → map step (cases_from l (case_views (c ∷ cs))) ≡ map step (cases_from l (case_views (c ∷ []))) ++ map step (cases_from l (case_views cs))
-cases-cons step l c cs = one_more step (c.from == l) (case_view c) (cases_from l (case_views cs))
+-- where none is found there are no more
+pub cases_past : (cs : List LinearCase) (k : ℕ) → slice_get cs k ≡ None → length cs ≤ k
+cases_past [] k e = omega arith
+cases_past (c ∷ cs) zero e = absurd (none-some c (sym e))
+cases_past (c ∷ cs) (suc k) e = let h = cases_past cs k e in omega (arith, h)
 
 -- what is so of all cases is so of the one at a place
 pub case_at : (P : LinearCase → Type 0) (cs : List Case) (i : ℕ) (c : Case) → i < length cs → c ≡ get_or cs i c → All P (case_views cs) → P (case_view c)

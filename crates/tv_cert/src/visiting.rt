@@ -1,12 +1,10 @@
-ghost use Rattle.std.specs.Prelude.{◌≡◌, ◌≤◌, ◌∷◌, [], length, map, false, All, Contains};
+ghost use Rattle.std.specs.Prelude.{◌≡◌, ◌≤◌, ◌∷◌, [], length, map, false};
 ghost use Rattle.std.specs.List.{flat_map};
 ghost use Rattle.tv_formula.specs.declared.tree.Path.TheVariants.{Every, Any};
 ghost use Rattle.tv_cases.specs.Systems.{cases_of};
-ghost use Rattle.tv_cases.specs.Views.{case_view, case_views};
 ghost use Rattle.tv_cert.specs.Pieces.{place_of, goes};
 ghost use Rattle.tv_cert.specs.Targets.{owed_nothing};
-ghost use Rattle.tv_cert.specs.Obligations.{atom_of, step_of, steps_of, cover_of, choice_of, truth_targets, hold_side, end_sides, go_of, fix_of, step_fall, first_of, second_of};
-ghost use Rattle.tv_cert.specs.Choices.{cases_from};
+ghost use Rattle.tv_cert.specs.Obligations.{atom_of, steps_of, cover_of, choice_of, truth_targets, hold_side, end_sides, go_of, fix_of, step_fall, first_of, second_of};
 ghost use Rattle.tv_cert.specs.Plain.{about_of};
 ghost use Rattle.tv_cert.specs.Listed.{pieces_list};
 ghost use Rattle.tv_cert.specs.AimViews.{aim_states};
@@ -19,7 +17,7 @@ use crate::node::{Kind, Mark, Marked, Node};
 use crate::owes::{Destination, Owes};
 use crate::pieces::Pieces;
 use crate::visitor::Visitor;
-use tv_cases::{Case, Cases};
+use tv_cases::Cases;
 use tv_formula::{Path, Shape};
 
 /// Visits one obligation.
@@ -87,54 +85,6 @@ fn visit_choice<V: Visitor>(
     visit(visitor, about, number, kind, &owes)
 }
 
-/// Visits what a piece owes for a case, where the case is from its location.
-fn visit_case<V: Visitor>(
-    visitor: &mut V,
-    about: &Cases,
-    number: u32,
-    piece: &Marked,
-    case: &Case,
-    into: &Pieces,
-    falls: bool,
-) -> bool
-    requires among { Contains (cases_of about.now).cases (case_view case.now) }
-    requires room { length (map (step_of number (about_of (cases_of about.now)) piece.now into.now (case_falls falls (cases_of about.now) piece.now)) (cases_from (place_of piece.now) (case_views (case.now ∷ [])))) ≤ V.room visitor.old }
-    ensures { Visits (V.passes (cases_of about.now)) (V.stops (cases_of about.now)) V.room result visitor.old (map (step_of number (about_of (cases_of about.now)) piece.now into.now (case_falls falls (cases_of about.now) piece.now)) (cases_from (place_of piece.now) (case_views (case.now ∷ [])))) visitor.new }
-{
-    if case.from != piece.piece.location {
-        return true;
-    }
-    let owes = Owes::Step {
-        piece,
-        case,
-        into,
-        falls,
-    };
-    visit(visitor, about, number, Kind::Step, &owes)
-}
-
-/// Visits the steps that a piece owes for these cases.
-fn visit_cases<V: Visitor>(
-    visitor: &mut V,
-    about: &Cases,
-    number: u32,
-    piece: &Marked,
-    cases: &[Case],
-    into: &Pieces,
-    falls: bool,
-) -> bool
-    requires among { All (Contains (cases_of about.now).cases) (case_views cases.now) }
-    requires room { length (map (step_of number (about_of (cases_of about.now)) piece.now into.now (case_falls falls (cases_of about.now) piece.now)) (cases_from (place_of piece.now) (case_views cases.now))) ≤ V.room visitor.old }
-    ensures { Visits (V.passes (cases_of about.now)) (V.stops (cases_of about.now)) V.room result visitor.old (map (step_of number (about_of (cases_of about.now)) piece.now into.now (case_falls falls (cases_of about.now) piece.now)) (cases_from (place_of piece.now) (case_views cases.now))) visitor.new }
-{
-    for case in cases {
-        if !visit_case(visitor, about, number, piece, case, into, falls) {
-            return false;
-        }
-    }
-    true
-}
-
 /// Visits the steps that a piece owes: one for each case from its location.
 fn visit_steps<V: Visitor>(
     visitor: &mut V,
@@ -147,7 +97,20 @@ fn visit_steps<V: Visitor>(
     requires { length (steps_of number (about_of (cases_of about.now)) piece.now into.now (case_falls falls (cases_of about.now) piece.now)) ≤ V.room visitor.old }
     ensures { Visits (V.passes (cases_of about.now)) (V.stops (cases_of about.now)) V.room result visitor.old (steps_of number (about_of (cases_of about.now)) piece.now into.now (case_falls falls (cases_of about.now) piece.now)) visitor.new }
 {
-    visit_cases(visitor, about, number, piece, about.list(), into, falls)
+    let mut k = 0;
+    'cases: while let Some(case) = about.leaving(piece.piece.location, k) {
+        let owes = Owes::Step {
+            piece,
+            case,
+            into,
+            falls,
+        };
+        if !visit(visitor, about, number, Kind::Step, &owes) {
+            return false;
+        }
+        k += 1;
+    }
+    true
 }
 
 /// Visits the covers of a piece into the pieces of each child.

@@ -1,9 +1,69 @@
-use Rattle.std.proofs.Common.{All, subst}
-use Rattle.std.specs.Prelude.{Contains}
-use Rattle.std.proofs.lemmas.List.Elements.{All-contains_itself}
-use Rattle.tv_cases.specs.Views.{case_views}
+use Rattle.std.proofs.Common.{◌∷◌, [], map, refl, subst, arith}
+use Rattle.tv_cases.specs.Systems.{cases_of}
+use Rattle.tv_cases.specs.Views.{case_view}
+use Rattle.tv_cert.specs.Pieces.{place_of}
+use Rattle.tv_cert.specs.Choices.{cases_from}
+use Rattle.tv_cert.specs.Obligations.{step_of}
+use Rattle.tv_cert.specs.Plain.{about_of}
+use Rattle.tv_cert.specs.Owing.{case_falls}
+use Rattle.tv_cert.specs.Visits.{Visits}
+use Rattle.tv_cert.proofs.VisitLemmas.{ahead_end, ahead_fails, ahead_next, ahead_room}
+use Rattle.tv_cert.proofs.VisitedCases.{case_among, case_within, case_there, cases_past}
 use Rattle.tv_cert.proofs.visiting.visit_steps.Goals as goal
 
-pub visit_cases-requires-clause-among : goal.visit_cases-requires-clause-among
-visit_cases-requires-clause-among g c =
-    subst (λ cs. All (Contains cs) (case_views c.list.result.now)) c.list.ensures.same (All-contains_itself (case_views c.list.result.now))
+pub visit-requires-clause-owed : goal.visit-requires-clause-owed
+visit-requires-clause-owed g c = case_among (place_of c.args.piece.now) (cases_of c.args.about.now).cases c.cases.k (case_view c.in-Some.case.now) c.in-Some.ensures.case
+
+pub visit-requires-clause-room : goal.visit-requires-clause-room
+visit-requires-clause-room g c =
+    let system = cases_of c.args.about.now in
+    let l = place_of c.args.piece.now in
+    let case = case_view c.in-Some.case.now in
+    let step = step_of c.args.number (about_of system) c.args.piece.now c.args.into.now (case_falls c.args.falls system c.args.piece.now) in
+    ahead_room (g.V.Visitor.passes system) (g.V.Visitor.stops system) g.V.Visitor.room (map step) refl (λ x xs. refl) (cases_from l system.cases) c.args.visitor.now c.cases.visitor c.cases.k c.cases.invariant case
+    (case_within l system.cases c.cases.k case c.in-Some.ensures.case) (case_there l system.cases c.cases.k case c.in-Some.ensures.case)
+
+pub returns-then-not-visit : goal.returns-then-not-visit
+returns-then-not-visit g c =
+    let system = cases_of c.args.about.now in
+    let passes = g.V.Visitor.passes system in
+    let stops = g.V.Visitor.stops system in
+    let l = place_of c.args.piece.now in
+    let case = case_view c.in-Some.case.now in
+    let step = step_of c.args.number (about_of system) c.args.piece.now c.args.into.now (case_falls c.args.falls system c.args.piece.now) in
+    ahead_fails passes stops g.V.Visitor.room (map step) refl (λ x xs. refl) (cases_from l system.cases) c.args.visitor.now c.cases.visitor c.cases.k c.cases.invariant case
+    (case_within l system.cases c.cases.k case c.in-Some.ensures.case) (case_there l system.cases c.cases.k case c.in-Some.ensures.case) c.visit.new.visitor
+    (subst (λ r. Visits passes stops g.V.Visitor.room r c.cases.visitor (step case ∷ []) c.visit.new.visitor) c.if-not-visit.true c.visit.ensures)
+
+pub overflow_add-k : goal.overflow_add-k
+overflow_add-k g c =
+    let system = cases_of c.args.about.now in
+    let below = case_within (place_of c.args.piece.now) system.cases c.cases.k (case_view c.in-Some.case.now) c.in-Some.ensures.case in
+    let few = c.in-Some.ensures.few in
+    omega (arith, below, few)
+
+pub cases-smaller : goal.cases-smaller
+cases-smaller g c =
+    let system = cases_of c.args.about.now in
+    let below = case_within (place_of c.args.piece.now) system.cases c.cases.k (case_view c.in-Some.case.now) c.in-Some.ensures.case in
+    omega (arith, below)
+
+pub cases-preserved : goal.cases-preserved
+cases-preserved g c =
+    let system = cases_of c.args.about.now in
+    let passes = g.V.Visitor.passes system in
+    let stops = g.V.Visitor.stops system in
+    let l = place_of c.args.piece.now in
+    let case = case_view c.in-Some.case.now in
+    let step = step_of c.args.number (about_of system) c.args.piece.now c.args.into.now (case_falls c.args.falls system c.args.piece.now) in
+    ahead_next passes stops g.V.Visitor.room (map step) refl (λ x xs. refl) (cases_from l system.cases) c.args.visitor.now c.cases.visitor c.cases.k c.cases.invariant case
+    (case_within l system.cases c.cases.k case c.in-Some.ensures.case) (case_there l system.cases c.cases.k case c.in-Some.ensures.case) c.visit.new.visitor
+    (subst (λ r. Visits passes stops g.V.Visitor.room r c.cases.visitor (step case ∷ []) c.visit.new.visitor) c.if-not-visit.false c.visit.ensures)
+
+pub returns : goal.returns
+returns g c =
+    let system = cases_of c.args.about.now in
+    let l = place_of c.args.piece.now in
+    let step = step_of c.args.number (about_of system) c.args.piece.now c.args.into.now (case_falls c.args.falls system c.args.piece.now) in
+    ahead_end (g.V.Visitor.passes system) (g.V.Visitor.stops system) g.V.Visitor.room (map step) refl (λ x xs. refl) (cases_from l system.cases) c.args.visitor.now c.cases.visitor c.cases.k c.cases.invariant
+    (cases_past (cases_from l system.cases) c.cases.k c.in_default.ensures.case)
