@@ -1,9 +1,9 @@
 #!/usr/bin/env bash
-# How long the built program takes to read a certificate of up to 16 MiB and to check it, and how much memory: an invariant over many
-# variables, most of whose text is rows, and one over few, most of whose text is lines of multipliers; and one of many pieces at one
-# location, and one that is shown by a tree of many splits, whose lines are short. Beside it a plain scan of the same lines, which takes
-# one product and one sum for each number. The best of 5 runs, start and reading of the input counted. First with the heading of a
-# certificate alone, which takes what the program and its cases take; then what comes on top is told.
+# How long the built program takes to read a certificate of up to 16 MiB and to check it, which it does at once, and how much memory: an
+# invariant over many variables, most of whose text is rows, and one over few, most of whose text is lines of multipliers; and some whose
+# lines are short: many pieces at one location, with and without rows, one piece of many rows, and a tree of many splits. Beside it a
+# plain scan of the same lines, which takes one product and one sum for each number. The best of 5 runs, start and reading of the input
+# counted. First with the heading of a certificate alone, which takes what the program and its cases take; then what comes on top is told.
 # It needs /usr/bin/time, and what is built first by (cd crates/t2verdict && rt run < stdin -- $(cat args)) and
 # (cd crates/reading_bench && rt run -- sum < stdin).
 set -eu
@@ -37,14 +37,14 @@ def program_of(variables, edges):
     return lines + ["FROM: 1; assume(v0 < 0); TO: bad;"]
 
 
-def certificate_of(variables, locations, edges, kept, met):
-    """At each location but the first the variables up to v(kept - 1) are at least 0. Where it is not met, the first obligation fails."""
+def certificate_of(variables, locations, edges, kept):
+    """At each location but the first the variables up to v(kept - 1) are at least 0."""
     lines = ["CERTIFICATE:", "T2CERT 1", "proved", f"node fix {locations} 0", "piece 0 go 0"]
     rows = [line("row", [-number for number in unit(i, variables)] + [0]) for i in range(kept)]
     for location in range(1, locations):
         lines += [f"piece {location} go {kept}", *rows]
     lines += [f"node atom {locations} 0"] + [f"piece {location} go 0" for location in range(locations)]
-    lines += ["into 0 0" if met else "empty"] + ["into 0 0"] * (locations - 1) + ["node atom 0 0"]
+    lines += ["into 0 0"] * locations + ["node atom 0 0"]
     shown = [line("by", unit(i, kept, 1)) for i in range(kept)]
     for location in range(locations):
         lines.append("into 0 0")
@@ -67,16 +67,17 @@ def elsewhere(edges):
     return [f"FROM: {2 + i % 500}; v0 := v0 + 1; TO: {2 + (i + 1) % 500};" for i in range(edges)]
 
 
-def pieces_of(variables, kept, pieces, met):
-    """So many pieces at one location, in each of which the variables up to v(kept - 1) are at most its number."""
+def pieces_of(variables, kept, pieces):
+    """So many pieces at one location, in each of which the variables up to v(kept - 1) are at most its number. Where none is kept, the
+    first step to `bad` is not shown to be impossible."""
     lines = ["CERTIFICATE:", "T2CERT 1", "proved", f"node fix {pieces + 1} 0", "piece 0 go 0"]
     for bound in range(pieces):
         lines += [f"piece 1 go {kept}"] + [line("row", unit(i, variables, -bound)) for i in range(kept)]
-    lines += ["node atom 2 0", "piece 0 go 0", "piece 1 go 0", "into 0 0" if met else "empty", "into 0 0", "node atom 0 0"]
+    lines += ["node atom 2 0", "piece 0 go 0", "piece 1 go 0", "into 0 0", "into 0 0", "node atom 0 0"]
     lines += ["into 0 0", "into 0 0"] + ["by 1"] * kept
     shown = [line("by", unit(i, kept, 1)) for i in range(kept)]
     for bound in range(pieces):
-        lines += ["into 0 0", f"into {bound} 0", *shown, line("empty", unit(0, kept, 1))]
+        lines += ["into 0 0", f"into {bound} 0", *shown, line("empty", unit(0, kept, 1) if kept else [1])]
     return lines + ["into 0 0", "end"]
 
 
@@ -88,10 +89,17 @@ def splits(low, high, above):
     return [f"split 1 {-middle}"] + splits(low, middle, above + 1) + splits(middle, high, above + 1)
 
 
-def tree_of(leaves, met):
+def rows_of(rows):
+    """One piece with so many rows, each of which says that v0 is at most 0."""
+    lines = ["CERTIFICATE:", "T2CERT 1", "proved", "node fix 2 0", "piece 0 go 0", f"piece 1 go {rows}", *["row 1 0"] * rows]
+    lines += ["node atom 2 0", "piece 0 go 0", "piece 1 go 0", "into 0 0", "into 0 0", "node atom 0 0"]
+    return lines + ["into 0 0", "into 0 0", *["by 1"] * rows, "into 0 0", "into 0 0", "end"]
+
+
+def tree_of(leaves):
     """Below a million v0 stays there; one obligation is shown by a tree with so many leaves."""
     lines = ["CERTIFICATE:", "T2CERT 1", "proved", "node fix 2 0", "piece 0 go 0", "piece 1 go 1", "row 1 -1000000"]
-    lines += ["node atom 2 0", "piece 0 go 0", "piece 1 go 1", "row 1 -1000000", "into 0 0" if met else "empty", "into 0 0"]
+    lines += ["node atom 2 0", "piece 0 go 0", "piece 1 go 1", "row 1 -1000000", "into 0 0", "into 0 0"]
     lines += ["node atom 0 0", "into 0 0", "into 0 0", "by 1", *splits(0, leaves, 0)]
     return lines + ["into 0 0", "by 1 1", "empty 1 1", "into 0 0", "end"]
 
@@ -111,22 +119,23 @@ for name, variables, locations, count, kept in [
     edges = edges_of(variables, locations, count)
     program = program_of(variables, edges)
     write(name, "bare", program + ["CERTIFICATE:"])
-    write(name, "read", program + certificate_of(variables, locations, edges, kept, False))
-    write(name, "checked", program + certificate_of(variables, locations, edges, kept, True))
+    write(name, "checked", program + certificate_of(variables, locations, edges, kept))
 for name, variables, kept, pieces, others in [
     ("6", 1, 1, 50000, 0),
     ("7", 1, 1, 200000, 0),
     ("8", 4, 4, 50000, 0),
     ("9", 1, 1, 200000, 4093),
+    ("10", 1, 0, 350000, 0),
 ]:
     program = one_loop(variables) + elsewhere(others)
     write(name, "bare", program + ["CERTIFICATE:"])
-    write(name, "read", program + pieces_of(variables, kept, pieces, False))
-    write(name, "checked", program + pieces_of(variables, kept, pieces, True))
+    write(name, "checked", program + pieces_of(variables, kept, pieces))
 program = one_loop(1)
-write("10", "bare", program + ["CERTIFICATE:"])
-write("10", "read", program + tree_of(2**17, False))
-write("10", "checked", program + tree_of(2**17, True))
+write("11", "bare", program + ["CERTIFICATE:"])
+write("11", "checked", program + tree_of(2**17))
+program = ["START: 0;", "FROM: 0; v0 := 0; TO: 1;", "FROM: bad; TO: bad;"]
+write("12", "bare", program + ["CERTIFICATE:"])
+write("12", "checked", program + rows_of(1000000))
 END_OF_TEXTS
 python3 - crates/t2verdict/out/t2verdict crates/reading_bench/out/reading_bench "$folder" <<'END_OF_RUNS'
 import os, subprocess, sys, time
@@ -158,21 +167,21 @@ for name, told in [
     ("7", "1 variable, 200,000 pieces at one location"),
     ("8", "4 variables, 50,000 pieces at one location"),
     ("9", "1 variable, 4,096 edges, 200,000 pieces at one location"),
-    ("10", "1 variable, a tree of 131,071 splits"),
+    ("10", "1 variable, 350,000 pieces without rows"),
+    ("11", "1 variable, a tree of 131,071 splits"),
+    ("12", "1 variable, one piece of 1,000,000 rows"),
 ]:
     text = f"{FOLDER}/{name}"
     size = (os.path.getsize(f"{text}.checked") - os.path.getsize(f"{text}.bare")) / 2**20
     scan, counted, _ = best([SCANNER, "numbers"], f"{text}.checked")
     print(f"{told}: {size:.1f} MiB, {counted.split(',')[0]}, scan {scan * 1000:.0f} ms", flush=True)
     spent, held = 0, 0
-    for what in ("bare", "read", "checked"):
+    for what in ("bare", "checked"):
         seconds, answer, memory = best([CHECKER, "--check", "--safety", "bad"], f"{text}.{what}")
         more = seconds - spent
         shown = f"{seconds * 1000:.0f} ms, {memory:.0f} MiB"
-        if what == "read":
-            shown += f"; more: {more * 1000:.0f} ms ({size / more:.0f} MiB/s, {more / scan:.2f} scans), {(memory - held) / size:.1f} times the text"
         if what == "checked":
-            shown += f"; more: {more * 1000:.0f} ms ({more / scan:.2f} scans)"
+            shown += f"; more: {more * 1000:.0f} ms ({size / more:.0f} MiB/s, {more / scan:.2f} scans), {(memory - held) / size:.1f} times the text"
         print(f"  {what}: {answer}: {shown}", flush=True)
         spent, held = seconds, memory
 END_OF_RUNS

@@ -11,6 +11,7 @@ use std::{env, io};
 use tv_linear::held::add_product;
 use tv_linear::{Row, Update};
 use tv_refute::{Change, Frames, Terms, shown_rows};
+use tv_rows::Rows;
 use tv_text::{ReaderSource, read_all};
 
 /// What is read at most.
@@ -182,7 +183,7 @@ fn scanned_rows(start: i128, factor: i128, rows: &[Row]) -> Option<i128> {
 fn is_done(task: Task, showing: &Showing, time: u64) -> bool {
     let end = Frames::End;
     let known = Frames::Rows {
-        rows: &showing.known,
+        rows: Rows::Each(&showing.known),
         above: &end,
     };
     let terms = Terms::After {
@@ -203,7 +204,7 @@ fn is_done(task: Task, showing: &Showing, time: u64) -> bool {
         showing.columns as usize,
         &known,
         &change,
-        &showing.shown,
+        Rows::Each(&showing.shown),
         &showing.lists,
     )
 }

@@ -12,8 +12,8 @@ use Rattle.tv_reader.specs.declared.fault.ReadFault.{ReadFault as TextFault}
 use Rattle.tv_reader.specs.declared.fault.ReadFault.TheVariants as faults
 use Rattle.tv_formula_text.specs.declared.fault.FormulaFault.{FormulaFault}
 use Rattle.tv_formula_text.specs.declared.fault.FormulaFault.TheVariants as formulas
-use Rattle.tv_cert_reader.specs.declared.fault.CertFault.{CertFault}
-use Rattle.tv_cert_reader.specs.declared.fault.CertFault.TheVariants as certs
+use Rattle.tv_check_text.specs.declared.text.TextFailing.{TextFailing}
+use Rattle.tv_check_text.specs.declared.text.TextFailing.TheVariants as certs
 use Rattle.t2verdict.specs.declared.answer.Answer.{Answer}
 use Rattle.t2verdict.specs.declared.answer.Answer.TheVariants.{Proved, Disproved, Obligation, CertificateLine, Words, TooLong, Text, Property, WideEdge, TooManyInEdge, ReadFault, Memory}
 use Rattle.t2verdict.specs.declared.status.Status.{Status}
@@ -144,10 +144,11 @@ without_property (formulas.Deep at) = Property (formulas.Deep at)
 without_property formulas.Long = Property formulas.Long
 without_property formulas.Memory = Memory
 
--- the answer for a text that is no certificate
-abbrev pub without_certificate : CertFault → Answer
+-- the answer for a text that is not accepted as a certificate
+abbrev pub without_certificate : TextFailing → Answer
 without_certificate (certs.Syntax line) = CertificateLine line
 without_certificate (certs.Wide line) = CertificateLine line
 without_certificate (certs.Deep line) = CertificateLine line
 without_certificate (certs.Shape line) = CertificateLine line
+without_certificate (certs.Obligation failing) = Obligation failing
 without_certificate certs.Memory = Memory

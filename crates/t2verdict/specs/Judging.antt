@@ -1,5 +1,5 @@
 -- What an answer says of a certificate's text.
-use Rattle.std.specs.Prelude.{◌≡◌, ℕ, ℤ, List, Vec}
+use Rattle.std.specs.Prelude.{◌≡◌, ℕ, ℤ, Bool, true, false, List, Vec}
 use Rattle.std.specs.Global.{Global}
 use Rattle.tv_linear.specs.declared.cover.Cover.{Cover}
 use Rattle.tv_program.specs.Systems.{System}
@@ -7,13 +7,12 @@ use Rattle.tv_formula.specs.Properties.{Property, term}
 use Rattle.tv_meaning.specs.Meaning.{HoldsInitially}
 use Rattle.tv_cases.specs.LinearCases.{CaseSystem}
 use Rattle.tv_cert.specs.declared.claim.Claim.{Claim}
-use Rattle.tv_cert.specs.declared.node.Verdict.{Verdict}
 use Rattle.tv_cert.specs.declared.node.Verdict.TheVariants as verdicts
-use Rattle.tv_cert.specs.Claims.{IsClaim, about_with, shown}
-use Rattle.tv_cert.specs.Nodes.{obligations}
-use Rattle.tv_cert.specs.Obligations.{Entry, AllMet}
-use Rattle.tv_cert_reader.specs.declared.fault.CertFault.{CertFault}
-use Rattle.tv_cert_reader.specs.Texts.{IsCertificateText, IsRefusedText}
+use Rattle.tv_cert.specs.Claims.{IsClaim}
+use Rattle.tv_cert.specs.Obligations.{AllMet}
+use Rattle.tv_cert_grammar.specs.declared.kind.LineKind.{LineKind}
+use Rattle.tv_cert_reader.specs.Texts.{IsCertificateText, IsAtFault}
+use Rattle.tv_check_text.specs.Texts.{owed}
 use Rattle.tv_check.specs.Walks.{IsFirstFailing}
 use Rattle.tv_shape.specs.declared.certificate.Certificate.{Certificate}
 use Rattle.tv_sound.specs.Following.{Follows}
@@ -21,7 +20,6 @@ use Rattle.tv_sound.specs.Settled.{FailsAt}
 use Rattle.t2verdict.specs.declared.answer.Answer.{Answer}
 use Rattle.t2verdict.specs.declared.answer.Answer.TheVariants as answers
 use Rattle.t2verdict.specs.declared.assignment.Assignment.{Assignment}
-use Rattle.t2verdict.specs.Answers.{without_certificate}
 
 -- the text is one of this certificate, of the property over the cases
 pub record Offered (f : Property) (system : CaseSystem) (text : List ℕ) : Type 0 where
@@ -29,10 +27,6 @@ pub record Offered (f : Property) (system : CaseSystem) (text : List ℕ) : Type
   pub is_claim : IsClaim claim f
   pub certificate : Certificate
   pub is_certificate : IsCertificateText system claim text certificate
-
--- the obligations of the certificate, with their proofs
-abbrev pub owed : CaseSystem → Claim → Certificate → List Entry
-owed system claim c = obligations (about_with system) (shown claim c.verdict) c.root c.verdict
 
 -- every obligation of the certificate is met
 pub record Accepted (f : Property) (system : CaseSystem) (text : List ℕ) : Type 0 where
@@ -62,9 +56,8 @@ pub record IsDisproved (p : System) (f : Property) (system : CaseSystem) (text :
 pub record IsNoCertificate (f : Property) (system : CaseSystem) (text : List ℕ) (line : ℕ) : Type 0 where
   pub claim : Claim
   pub is_claim : IsClaim claim f
-  pub fault : CertFault
-  pub at_line : without_certificate fault ≡ answers.CertificateLine line
-  pub refused : IsRefusedText system claim text fault
+  pub kind : LineKind
+  pub at_fault : IsAtFault system claim text kind line
 
 -- What the answer says of the text, as a certificate of the property f of the program p over its cases.
 abbrev pub Judges : System → Property → CaseSystem → List ℕ → Answer → Type 0
@@ -81,7 +74,7 @@ SaysValues p values (answers.Disproved at) = (at.names ≡ p.variables) × (at.v
 SaysValues p values answers.Memory = Unit {0}
 SaysValues p values answer = ⊥
 
--- the answer says what the verdict does
-abbrev pub Says : System → Verdict → Answer → Type 0
-Says p (verdicts.Proved start) answer = answer ≡ answers.Proved
-Says p (verdicts.Disproved piece values) answer = SaysValues p values.items answer
+-- the answer says what is accepted: that the property is proved, or else that it is disproved at these values
+abbrev pub Says : System → Bool → List ℤ → Answer → Type 0
+Says p true values answer = answer ≡ answers.Proved
+Says p false values answer = SaysValues p values answer

@@ -12,35 +12,36 @@ use crate::answer::Answer;
 use crate::assignment::Assignment;
 use std::alloc::Global;
 use tv_cases::Cases;
-use tv_cert::{Claim, Verdict};
-use tv_cert_reader::{CertFault, read_certificate};
+use tv_cert::Claim;
+use tv_check_text::{Accepted, TextFailing};
 use tv_formula::Formula;
 use tv_program::Program;
-use tv_sound::check_claim;
+use tv_sound::check_claim_text;
 
-/// The answer for a text that is no certificate.
-fn without_certificate(fault: CertFault) -> Answer
-    ensures { result ≡ without_certificate fault }
+/// The answer for a text that is not accepted as a certificate.
+fn without_certificate(failing: TextFailing) -> Answer
+    ensures { result ≡ without_certificate failing }
 {
-    match fault {
-        CertFault::Syntax { line } => Answer::CertificateLine(line),
-        CertFault::Wide { line } => Answer::CertificateLine(line),
-        CertFault::Deep { line } => Answer::CertificateLine(line),
-        CertFault::Shape { line } => Answer::CertificateLine(line),
-        CertFault::Memory => Answer::Memory,
+    match failing {
+        TextFailing::Syntax { line } => Answer::CertificateLine(line),
+        TextFailing::Wide { line } => Answer::CertificateLine(line),
+        TextFailing::Deep { line } => Answer::CertificateLine(line),
+        TextFailing::Shape { line } => Answer::CertificateLine(line),
+        TextFailing::Obligation(failing) => Answer::Obligation(failing),
+        TextFailing::Memory => Answer::Memory,
     }
 }
 
 /// The answer for what a certificate says all of whose obligations are met.
-fn said(alloc: Global, program: &Program, verdict: &Verdict) -> Answer
-    ensures { Says (system_of program.now) verdict.now result }
+fn said(alloc: Global, program: &Program, accepted: &Accepted) -> Answer
+    ensures { Says (system_of program.now) accepted.now.proved accepted.now.values.items result }
 {
-    match verdict {
-        Verdict::Proved(_) => Answer::Proved,
-        Verdict::Disproved { values, .. } => match Assignment::new(alloc, program, values) {
-            Ok(assignment) => Answer::Disproved(assignment),
-            Err(_) => Answer::Memory,
-        },
+    if accepted.proved {
+        return Answer::Proved;
+    }
+    match Assignment::new(alloc, program, &accepted.values) {
+        Ok(assignment) => Answer::Disproved(assignment),
+        Err(_) => Answer::Memory,
     }
 }
 
@@ -53,13 +54,9 @@ fn settle(alloc: Global, program: &Program, claim: &Claim, about: &Cases, text: 
     requires few { length text.now < 2 ^ 32 - 1 }
     ensures { (f : Property) → IsClaim claim.now f → Judges (system_of program.now) f (cases_of about.now) text.now result }
 {
-    let certificate = match read_certificate(alloc, text, about, claim) {
-        Ok(certificate) => certificate,
-        Err(fault) => return without_certificate(fault),
-    };
-    match check_claim(program, about, claim, &certificate) {
-        Ok(()) => said(alloc, program, certificate.verdict()),
-        Err(failing) => Answer::Obligation(failing),
+    match check_claim_text(alloc, program, about, claim, text) {
+        Ok(accepted) => said(alloc, program, &accepted),
+        Err(failing) => without_certificate(failing),
     }
 }
 

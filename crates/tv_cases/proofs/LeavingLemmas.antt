@@ -1,26 +1,46 @@
--- A case that is looked up.
-use Rattle.std.proofs.Common.{◌≡◌, ◌==◌, ℕ, zero, suc, ◌<◌, ◌≤◌, nat_lt, List, [], ◌∷◌, length, slice_get, get_or, Option, None, Some, MatchOption, Bor, Bool, true, false, cond, ltb-true, ltb-false, refl, sym, ap, arith}
-use Rattle.std.specs.Option.{is_some, IfSome}
+-- Cases that are looked up.
+use Rattle.std.proofs.Common.{◌≡◌, ◌==◌, ℕ, zero, suc, ◌+◌, ◌<◌, ◌≤◌, nat_lt, List, [], ◌∷◌, length, drop, slice_get, get_or, Option, None, Some, MatchOption, Bor, Bool, true, false, cond, ltb-true, ltb-false, refl, sym, ap, ◌∙◌, subst, arith, drop-cons}
+use Rattle.std.specs.Prelude.{Contains}
+use Rattle.std.specs.Option.{is_some, IfSome, option_map}
+use Rattle.std.proofs.Math.ListN.{drop_of_length-le}
+use Rattle.std.proofs.lemmas.List.Elements.{All-filter, All-contains_itself}
+use Rattle.std.proofs.lemmas.Option.{slice_get_past, slice_get_read, slice_get_within, slice_get-map, get_or_from_slice_get, none-some}
 use Rattle.tv_cases.specs.declared.case.Case.{Case}
 use Rattle.tv_cases.specs.declared.case.Cases.{Cases}
 use Rattle.tv_cases.specs.Systems.{cases_of}
 use Rattle.tv_cases.specs.LinearCases.{LinearCase, from_of, leaving}
 use Rattle.tv_cases.specs.Views.{case_view, case_views}
 
-none_got : (cs : List Case) (i : ℕ) → length cs ≤ i → slice_get (case_views cs) i ≡ None
-none_got [] i h = refl
-none_got (c ∷ cs) zero h = absurd (omega arith)
-none_got (c ∷ cs) (suc i) h = none_got cs i (omega arith)
-
-some_got : (cs : List Case) (i : ℕ) (c : Case) → i < length cs → c ≡ get_or cs i c → slice_get (case_views cs) i ≡ Some (case_view c)
-some_got [] i c h e = absurd (omega arith)
-some_got (d ∷ cs) zero c h e = ap (λ x. Some (case_view x)) (sym e)
-some_got (d ∷ cs) (suc i) c h e = some_got cs i c (omega arith) e
-
 -- what is got at a place of the cases
 pub got_case : (cs : List Case) (i : ℕ) (r : Option (Bor Case)) → is_some r ≡ nat_lt i (length cs) → IfSome r (λ q. q.now ≡ get_or cs i q.now) → MatchOption r (slice_get (case_views cs) i ≡ None) (λ q. slice_get (case_views cs) i ≡ Some (case_view q.now))
-got_case cs i None s h = none_got cs i (ltb-false _ _ (sym s))
-got_case cs i (Some q) s h = some_got cs i q.now (ltb-true _ _ (sym s)) h
+got_case cs i None s h = slice_get-map case_view cs i ∙ ap (option_map case_view) (slice_get_past cs i (ltb-false _ _ (sym s)))
+got_case cs i (Some q) s h = slice_get-map case_view cs i ∙ ap (option_map case_view) (slice_get_read cs (length cs) i q.now refl (ltb-true _ _ (sym s)) h)
+
+-- where none is got there are no more
+pub none_more : {X : Type 0} (xs : List X) (k : ℕ) → slice_get xs k ≡ None → length xs ≤ k
+none_more [] k e = omega arith
+none_more (x ∷ xs) zero e = absurd (none-some x (sym e))
+none_more (x ∷ xs) (suc k) e = let h = none_more xs k e in omega (arith, h)
+
+pub none_left : {X : Type 0} (xs : List X) (k : ℕ) → slice_get xs k ≡ None → drop k xs ≡ []
+none_left xs k e = drop_of_length-le xs (none_more xs k e)
+
+-- what is got is the first of those that are left
+pub first_left : {X : Type 0} (xs : List X) (k : ℕ) (x : X) → slice_get xs k ≡ Some x → drop k xs ≡ x ∷ drop (k + 1) xs
+first_left xs k x e =
+    let next : suc k ≡ k + 1 = omega arith in
+    drop-cons xs k x (slice_get_within xs k x e) ∙ (λ i. get_or_from_slice_get xs k x x e i ∷ drop (next i) xs)
+
+-- a case that is looked up among those from a location
+module _ (l : ℕ) (cs : List LinearCase) (k : ℕ) (c : LinearCase) (e : slice_get (leaving l cs) k ≡ Some c) where
+  pub case_within : k < length (leaving l cs)
+  case_within = slice_get_within (leaving l cs) k c e
+
+  pub case_there : c ≡ get_or (leaving l cs) k c
+  case_there = sym (get_or_from_slice_get (leaving l cs) k c c e)
+
+  pub case_among : Contains cs c
+  case_among = subst (Contains cs) (sym case_there) (All-filter (λ x. from_of x == l) (Contains cs) cs (All-contains_itself cs) k c case_within)
 
 fewer : (c : LinearCase) (cs rest : List LinearCase) (b : Bool) → length rest ≤ length cs → length (cond b (c ∷ rest) rest) ≤ length (c ∷ cs)
 fewer c cs rest true h = omega (arith, h)

@@ -1,5 +1,6 @@
 -- Pieces that are looked up.
-use Rattle.std.proofs.Common.{◌≡◌, ℕ, zero, suc, ◌<◌, ◌≤◌, nat_lt, Bool, true, false, List, [], ◌∷◌, length, map, slice_get, get_or, Option, None, Some, MatchOption, inl, inr, Bor, ltb-true, ltb-false, sym, ap, subst, refl, arith, ◌==◌}
+use Rattle.std.proofs.Common.{◌≡◌, ℕ, zero, suc, nat_lt, Bool, true, false, List, length, map, slice_get, get_or, Option, None, Some, MatchOption, inl, inr, Bor, ltb-true, ltb-false, sym, ap, subst, refl, arith, ◌==◌}
+use Rattle.std.proofs.lemmas.Option.{slice_get_past, slice_get_read}
 use Rattle.std.specs.Option.{is_some, IfSome}
 use Rattle.tv_places.specs.declared.places.Stand.{Stand}
 use Rattle.tv_places.specs.Places.{IsIndexOf}
@@ -20,17 +21,7 @@ pub index_used : (ps : List Marked) (stands told : List Stand) (n : ℕ) → tol
 index_used ps stands told n same many h (inl e) = absurd (none_empty n h (let t = ap length same in omega (arith, t, many, e)))
 index_used ps stands told n same many h (inr is) = subst (λ x. IsIndexOf (map place_of ps) x) (sym same) is
 
-pub none_got : {X : Type 0} (xs : List X) (i : ℕ) → length xs ≤ i → slice_get xs i ≡ None
-none_got [] i h = refl
-none_got (x ∷ xs) zero h = absurd (omega arith)
-none_got (x ∷ xs) (suc i) h = none_got xs i (omega arith)
-
-pub some_got : {X : Type 0} (xs : List X) (i : ℕ) (x : X) → i < length xs → x ≡ get_or xs i x → slice_get xs i ≡ Some x
-some_got [] i x h e = absurd (omega arith)
-some_got (y ∷ ys) zero x h e = ap Some (sym e)
-some_got (y ∷ ys) (suc i) x h e = some_got ys i x (omega arith) e
-
 -- what is got at a place of a list
 pub got_at : {X : Type 0} (xs : List X) (i : ℕ) (r : Option (Bor X)) → is_some r ≡ nat_lt i (length xs) → IfSome r (λ q. q.now ≡ get_or xs i q.now) → MatchOption r (slice_get xs i ≡ None) (λ q. slice_get xs i ≡ Some q.now)
-got_at xs i None s h = none_got xs i (ltb-false _ _ (sym s))
-got_at xs i (Some q) s h = some_got xs i q.now (ltb-true _ _ (sym s)) h
+got_at xs i None s h = slice_get_past xs i (ltb-false _ _ (sym s))
+got_at xs i (Some q) s h = slice_get_read xs (length xs) i q.now refl (ltb-true _ _ (sym s)) h

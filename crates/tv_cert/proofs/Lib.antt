@@ -1,3 +1,4 @@
+pub mod MarkedLemmas
 pub mod NodeLemmas
 pub mod PieceLemmas
 pub mod ShapeLemmas
@@ -6,6 +7,7 @@ pub mod SaidLemmas
 pub mod VisitLemmas
 pub mod VisitedCases
 pub mod IndexedLemmas
+pub mod ZipLemmas
 pub mod JoinedLemmas
 pub mod SaidNodes
 pub mod AimLemmas

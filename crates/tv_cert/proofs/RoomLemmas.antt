@@ -8,11 +8,10 @@ use Rattle.tv_formula.specs.declared.tree.Path.TheVariants.{Every, Any}
 use Rattle.tv_formula.specs.declared.tree.Shape.{Shape}
 use Rattle.tv_formula.specs.declared.tree.Shape.TheVariants.{Until, Weak, Release, Strong}
 use Rattle.tv_linear.specs.Known.{Known}
-use Rattle.tv_cases.specs.LinearCases.{LinearCase, CaseSystem}
+use Rattle.tv_cases.specs.LinearCases.{LinearCase, CaseSystem, leaving}
 use Rattle.tv_cert.specs.declared.node.Kind.TheVariants as kind
 use Rattle.tv_cert.specs.declared.node.Marked.{Marked}
 use Rattle.tv_cert.specs.Pieces.{place_of, goes}
-use Rattle.tv_cert.specs.Choices.{cases_from}
 use Rattle.tv_cert.specs.Targets.{no_fall}
 use Rattle.tv_cert.specs.Obligations.{About, step_of, steps_of, step_fall, cover_of, go_of, fix_of, first_of, second_of, end_sides}
 use Rattle.tv_cert.specs.Plain.{about_of}
@@ -39,7 +38,7 @@ few_joined f most each (x ∷ xs) =
 -- no more steps than cases
 pub steps_few : (number : ℕ) (about : About) (p : Marked) (ps : List Marked) (fall : LinearCase → Marked → ℕ → Option (List Known)) → length (steps_of number about p ps fall) ≤ length about.system.cases
 steps_few number about p ps fall =
-    let many = length-map (cases_from (place_of p) about.system.cases) (step_of number about p ps fall) in
+    let many = length-map (leaving (place_of p) about.system.cases) (step_of number about p ps fall) in
     let few = few_left (λ c. c.from == place_of p) about.system.cases in
     omega (arith, many, few)
 

@@ -1,5 +1,5 @@
-use Rattle.std.specs.Prelude.{◌≡◌, ℕ, ◌+◌, ◌≤◌, List, [], ◌∷◌, ◌++◌, length, map, ℤ, slice_get, Option, None, Some, Bool, IsTrue, ◌==◌}
-use Rattle.std.specs.List.{filter, AllZip}
+use Rattle.std.specs.Prelude.{◌≡◌, ℕ, ◌+◌, ◌≤◌, List, [], ◌∷◌, ◌++◌, length, map, ℤ, slice_get, Option, None, Some, Bool, IsTrue}
+use Rattle.std.specs.List.{AllZip}
 use Rattle.std.specs.Option.{option_map}
 use Rattle.tv_linear.specs.declared.choice.ChoiceTree.{ChoiceTree, Split', Empty, NoStep, Take}
 use Rattle.tv_linear.specs.declared.cover.CoverTree.{CoverTree}
@@ -8,11 +8,7 @@ use Rattle.tv_linear.specs.Known.{Known, given, denied, composed, as_given}
 use Rattle.tv_linear.specs.Refutation.{Refutes}
 use Rattle.tv_linear.specs.Covers.{no_target, ShownAt, IsMetCover}
 use Rattle.tv_linear.specs.Terms.{terms_after, draw_terms}
-use Rattle.tv_cases.specs.LinearCases.{LinearCase}
-
--- the cases from a location, in order
-abbrev pub cases_from : ℕ → List LinearCase → List LinearCase
-cases_from l cases = filter (λ c. c.from == l) cases
+use Rattle.tv_cases.specs.LinearCases.{LinearCase, leaving}
 
 -- a row of a target after a case, with terms put in for its draws
 abbrev pub drawn_change : ℕ → LinearCase → List Linear → Linear → Known
@@ -38,7 +34,7 @@ abbrev pub IsMetChoice : ℕ → List LinearCase → ℕ → Bool → (LinearCas
 IsMetChoice n cases l stop owed known (Split' r p a q b) =
     IsMetChoice n cases l stop owed (known ++ given r ∷ []) a × IsMetChoice n cases l stop owed (known ++ denied (given r) ∷ []) b
 IsMetChoice n cases l stop owed known (Empty ms) = Refutes n known ms.items
-IsMetChoice n cases l stop owed known (NoStep covers) = IsTrue stop × NoStepMet n known (cases_from l cases) covers.items
+IsMetChoice n cases l stop owed known (NoStep covers) = IsTrue stop × NoStepMet n known (leaving l cases) covers.items
 IsMetChoice n cases l stop owed known (Take k target j draws lists) =
     TakeMet n l owed known (slice_get cases k) target j draws.items (map (λ x. x.items) lists.items)
 

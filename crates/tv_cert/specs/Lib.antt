@@ -1,3 +1,4 @@
+pub mod MarkedRows
 pub mod Statable
 pub mod Pieces
 pub mod Targets

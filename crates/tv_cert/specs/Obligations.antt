@@ -11,7 +11,7 @@ use Rattle.tv_linear.specs.Linear.{Linear, IsMet}
 use Rattle.tv_linear.specs.Known.{Known, given, composed, as_given}
 use Rattle.tv_linear.specs.Covers.{IsMetCover}
 use Rattle.tv_linear.specs.Terms.{terms_after}
-use Rattle.tv_cases.specs.LinearCases.{LinearCase, CaseSystem}
+use Rattle.tv_cases.specs.LinearCases.{LinearCase, CaseSystem, leaving}
 use Rattle.tv_cert.specs.declared.node.Marked.{Marked}
 use Rattle.tv_cert.specs.declared.node.Proof.{Proof}
 use Rattle.tv_cert.specs.declared.node.Proof.TheVariants.{Covered, Chosen}
@@ -19,7 +19,7 @@ use Rattle.tv_cert.specs.declared.node.Kind.{Kind}
 use Rattle.tv_cert.specs.declared.node.Kind.TheVariants as kind
 use Rattle.tv_cert.specs.Pieces.{place_of, rows_of, ranks_of, goes}
 use Rattle.tv_cert.specs.Targets.{owed_into, owed_lists, owed_nothing, no_fall, fall_from}
-use Rattle.tv_cert.specs.Choices.{IsMetChoice, drawn_change, cases_from}
+use Rattle.tv_cert.specs.Choices.{IsMetChoice, drawn_change}
 
 -- what a certificate is about: the cases of a program, and the lists of rows of a comparison, one of which is met where it is true
 pub record About : Type 0 where
@@ -89,7 +89,7 @@ step_of number about p into fall c =
 
 -- one such cover for each case from the location of the piece
 abbrev pub steps_of : ℕ → About → Marked → List Marked → (LinearCase → Marked → ℕ → Option (List Known)) → List Obligation
-steps_of number about p into fall = map (step_of number about p into fall) (cases_from (place_of p) about.system.cases)
+steps_of number about p into fall = map (step_of number about p into fall) (leaving (place_of p) about.system.cases)
 
 -- a choice at the piece
 abbrev pub choice_of : ℕ → Kind → About → Marked → Bool → (LinearCase → List Linear → ℕ → ℕ → Option (List Known)) → Obligation

@@ -8,13 +8,13 @@ use Rattle.tv_cert.specs.declared.node.Marked.{Marked}
 
 -- the place and the rows of a piece
 abbrev pub place_of : Marked → ℕ
-place_of p = p.piece.location
+place_of p = p.location
 
 abbrev pub rows_of : Marked → List Linear
-rows_of p = p.piece.poly.rows.items
+rows_of p = p.rows
 
 abbrev pub ranks_of : Marked → List Linear
-ranks_of p = p.ranks.items
+ranks_of p = p.ranks
 
 abbrev pub is_go : Mark → Bool
 is_go Go = true

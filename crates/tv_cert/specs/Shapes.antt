@@ -12,7 +12,7 @@ use Rattle.tv_linear.specs.Linear.{Linear, columns}
 use Rattle.tv_linear.specs.Known.{Known}
 use Rattle.tv_linear.specs.Depth.{splits}
 use Rattle.tv_linear.specs.ChoiceDepth.{choice_splits}
-use Rattle.tv_cases.specs.LinearCases.{LinearCase, CaseSystem}
+use Rattle.tv_cases.specs.LinearCases.{LinearCase, CaseSystem, leaving}
 use Rattle.tv_cert.specs.declared.node.Marked.{Marked}
 use Rattle.tv_cert.specs.declared.node.Proof.{Proof}
 use Rattle.tv_cert.specs.declared.node.Proof.TheVariants.{Covered, Chosen}
@@ -21,7 +21,6 @@ use Rattle.tv_cert.specs.declared.node.Verdict.{Verdict}
 use Rattle.tv_cert.specs.declared.node.Verdict.TheVariants.{Proved, Disproved}
 use Rattle.tv_cert.specs.Pieces.{place_of, rows_of, ranks_of, goes, pieces_at}
 use Rattle.tv_linear.specs.Covers.{no_target}
-use Rattle.tv_cert.specs.Choices.{cases_from}
 use Rattle.tv_cert.specs.Obligations.{About, Owed, a_cover, a_choice, a_point, own_of}
 use Rattle.tv_cert.specs.Nodes.{parts, kid_pieces, root_entry}
 
@@ -56,7 +55,7 @@ abbrev pub ChoiceShape : ℕ → List LinearCase → ℕ → Bool → (LinearCas
 ChoiceShape n cases l stop owed known (choice.Split' r p a q b) =
     (columns r ≡ n) × ChoiceShape n cases l stop owed (known + 1) a × ChoiceShape n cases l stop owed (known + 1) b
 ChoiceShape n cases l stop owed known (choice.Empty ms) = length ms.items ≡ known
-ChoiceShape n cases l stop owed known (choice.NoStep covers) = IsTrue stop × NoStepShape n known (cases_from l cases) covers.items
+ChoiceShape n cases l stop owed known (choice.NoStep covers) = IsTrue stop × NoStepShape n known (leaving l cases) covers.items
 ChoiceShape n cases l stop owed known (choice.Take k target j draws lists) = TakeShape n owed known (slice_get cases k) target j draws.items (map (λ x. x.items) lists.items)
 
 -- what is offered has the shape of what is owed, with at most 128 splits on a path
@@ -90,7 +89,7 @@ IsNormalHead f = Unit {0}
 -- and it has m ranks where it goes on.
 pub record PieceShape (system : CaseSystem) (m : ℕ) (ends : Bool) (p : Marked) : Type 0 where
   pub place : place_of p < system.locations
-  pub poly : p.piece.poly.columns ≡ system.variables
+  pub poly : p.columns ≡ system.variables
   pub rows : All (λ r. columns r ≡ system.variables) (rows_of p)
   pub ranks : All (λ r. columns r ≡ system.variables) (ranks_of p)
   pub many : length (ranks_of p) ≡ (if goes p then m else 0)

@@ -1,5 +1,14 @@
+ghost use Rattle.std.specs.Prelude.{◌≡◌, ◌-◌, ◌^◌, ◌<◌, All, IfOk, SomeIff};
+ghost use Rattle.tv_linear.specs.Linear.{columns as columns_of};
+ghost use Rattle.tv_rows.specs.Packed.{ArePacked};
+ghost use Rattle.tv_rows.specs.Views.{rows_seen};
+ghost use Rattle.tv_cert.specs.MarkedRows.{marked, marked_in};
+
 use crate::pieces::Pieces;
-use tv_linear::{Choice, Cover, Piece, Row};
+use std::alloc::{AllocError, Global};
+use std::marker::Model;
+use tv_linear::{Choice, Cover, Row};
+use tv_rows::{PackedRows, Rows, append_rows, have_columns};
 
 /// What a piece of a node is for: its states are done, or they go on.
 #[derive(Clone, Copy, Debug, PartialEq, Eq)]
@@ -11,9 +20,112 @@ pub enum Mark {
 /// A piece of the region where the formula of a node holds, with its ranks where it goes on by ranks.
 #[derive(Drop)]
 pub struct Marked {
-    pub piece: Piece,
-    pub mark: Mark,
-    pub ranks: Vec<Row>,
+    location: u32,
+    columns: u32,
+    mark: Mark,
+    /// How many rows there are before the ranks.
+    rows: usize,
+    /// The numbers of the rows and then of the ranks, each constant behind the coefficients of its row.
+    numbers: Vec<i64>,
+}
+
+impl Model for Marked {
+    ghost use Rattle.tv_rows.specs.Packed.{ArePacked};
+    ghost use Rattle.tv_cert.specs.MarkedRows.{MarkedRows, marked_in};
+
+    ghost Value = { MarkedRows };
+
+    ghost view = { λ m. marked_in m.location m.columns m.mark m.rows m.numbers.items };
+
+    ghost invariant = { λ m. ArePacked m.columns m.rows m.numbers.items };
+}
+
+impl Marked {
+    /// The piece of so many rows with which the numbers begin; its ranks stand behind them. It takes no memory, and keeps the list's.
+    pub fn from_numbers(
+        location: u32,
+        mark: Mark,
+        columns: u32,
+        rows: usize,
+        numbers: Vec<i64>,
+    ) -> Marked
+        requires { ArePacked columns rows numbers.items }
+        ensures { result ≡ marked_in location columns mark rows numbers.items }
+    {
+        Marked {
+            location,
+            columns,
+            mark,
+            rows,
+            numbers,
+        }
+    }
+
+    /// The piece of these rows and ranks; `None` where one has another number of columns.
+    pub fn from_rows(
+        alloc: Global,
+        location: u32,
+        mark: Mark,
+        columns: u32,
+        rows: &[Row],
+        ranks: &[Row],
+    ) -> Result<Option<Marked>, AllocError>
+        requires { columns < 2 ^ 32 - 1 }
+        ensures { IfOk result (λ made. SomeIff made
+            (All (λ r. columns_of r ≡ columns) rows.now × All (λ r. columns_of r ≡ columns) ranks.now)
+            (marked location columns mark rows.now ranks.now)) }
+    {
+        if !have_columns(rows, columns) || !have_columns(ranks, columns) {
+            return Ok(None);
+        }
+        let mut numbers = Vec::new(alloc);
+        append_rows(&mut numbers, rows)?;
+        append_rows(&mut numbers, ranks)?;
+        numbers.shrink_to_fit();
+        Ok(Some(Marked {
+            location,
+            columns,
+            mark,
+            rows: rows.len(),
+            numbers,
+        }))
+    }
+
+    pub fn location(&self) -> u32
+        ensures { result ≡ self.now.location }
+    {
+        self.location
+    }
+
+    pub fn mark(&self) -> Mark
+        ensures { result ≡ self.now.mark }
+    {
+        self.mark
+    }
+
+    /// How many columns the rows and the ranks have.
+    pub fn columns(&self) -> u32
+        ensures is { result ≡ self.now.columns }
+        ensures rows { All (λ r. columns_of r ≡ self.now.columns) self.now.rows }
+        ensures ranks { All (λ r. columns_of r ≡ self.now.columns) self.now.ranks }
+    {
+        self.columns
+    }
+
+    pub fn rows(&self) -> Rows<'_>
+        ensures { rows_seen result ≡ self.now.rows }
+    {
+        Rows::Packed(PackedRows::new(self.columns, self.rows, &self.numbers))
+    }
+
+    pub fn ranks(&self) -> Rows<'_>
+        ensures { rows_seen result ≡ self.now.ranks }
+    {
+        let width = self.columns as usize + 1;
+        let count = self.numbers.len() / width - self.rows;
+        let (_, numbers) = self.numbers.split_at(self.rows * width);
+        Rows::Packed(PackedRows::new(self.columns, count, numbers))
+    }
 }
 
 /// What is offered for an obligation.

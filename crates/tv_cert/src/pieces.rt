@@ -38,7 +38,7 @@ fn locations(alloc: Global, list: &[Marked]) -> Result<Vec<u32>, AllocError>
 {
     let mut locations = Vec::with_capacity(alloc, list.len())?;
     for piece in list {
-        locations.push(piece.piece.location)?;
+        locations.push(piece.location())?;
     }
     Ok(locations)
 }
@@ -110,7 +110,7 @@ fn piece_at(pieces: &[Marked], location: u32, k: u32) -> Option<&Marked>
 {
     let mut left = k;
     for piece in pieces {
-        if piece.piece.location == location {
+        if piece.location() == location {
             if left == 0 {
                 return Some(piece);
             }
@@ -124,10 +124,7 @@ fn piece_at(pieces: &[Marked], location: u32, k: u32) -> Option<&Marked>
 fn count_at(pieces: &[Marked], location: u32) -> usize
     ensures { result ≡ length (pieces_at pieces.now location) }
 {
-    pieces
-        .iter()
-        .filter(|p| p.piece.location == location)
-        .count()
+    pieces.iter().filter(|p| p.location() == location).count()
 }
 
 /// The piece at place `k` among those of all nodes at the location, in the order of the nodes.

@@ -97,8 +97,9 @@ fn visit_steps<V: Visitor>(
     requires { length (steps_of number (about_of (cases_of about.now)) piece.now into.now (case_falls falls (cases_of about.now) piece.now)) ≤ V.room visitor.old }
     ensures { Visits (V.passes (cases_of about.now)) (V.stops (cases_of about.now)) V.room result visitor.old (steps_of number (about_of (cases_of about.now)) piece.now into.now (case_falls falls (cases_of about.now) piece.now)) visitor.new }
 {
+    let location = piece.location();
     let mut k = 0;
-    'cases: while let Some(case) = about.leaving(piece.piece.location, k) {
+    'cases: while let Some(case) = about.leaving(location, k) {
         let owes = Owes::Step {
             piece,
             case,
@@ -251,7 +252,7 @@ fn visit_fix<V: Visitor>(
     requires { length (fix_of number (about_of (cases_of about.now)) path shape pieces.now first.now second.now piece.now (goes piece.now)) ≤ V.room visitor.old }
     ensures { Visits (V.passes (cases_of about.now)) (V.stops (cases_of about.now)) V.room result visitor.old (fix_of number (about_of (cases_of about.now)) path shape pieces.now first.now second.now piece.now (goes piece.now)) visitor.new }
 {
-    match piece.mark {
+    match piece.mark() {
         Mark::Done => visit_done(visitor, about, number, shape, piece, first, second),
         Mark::Go => {
             if !visit_hold(visitor, about, number, shape, piece, first, second) {
@@ -309,8 +310,8 @@ fn visit_piece<V: Visitor>(
                 &Owes::Rows { piece, lists },
             )
         }
-        Aim::Here(l) => visit_truth(visitor, about, number, piece, piece.piece.location == *l),
-        Aim::Elsewhere(l) => visit_truth(visitor, about, number, piece, piece.piece.location != *l),
+        Aim::Here(l) => visit_truth(visitor, about, number, piece, piece.location() == *l),
+        Aim::Elsewhere(l) => visit_truth(visitor, about, number, piece, piece.location() != *l),
         Aim::Ends => visit_steps(visitor, about, number, piece, pieces, true),
         Aim::NeverEnds => {
             let falls = false;

@@ -10,10 +10,9 @@ use Rattle.tv_linear.specs.Linear.{Linear}
 use Rattle.tv_linear.specs.Known.{Known}
 use Rattle.tv_linear.specs.declared.choice.ChoiceTree.{ChoiceTree}
 use Rattle.tv_linear.specs.declared.choice.ChoiceTree as choice
-use Rattle.tv_cases.specs.LinearCases.{LinearCase}
+use Rattle.tv_cases.specs.LinearCases.{LinearCase, leaving}
 use Rattle.tv_cert.specs.declared.node.Proof.{Proof}
 use Rattle.tv_cert.specs.declared.node.Proof.TheVariants.{Covered, Chosen}
-use Rattle.tv_cert.specs.Choices.{cases_from}
 use Rattle.tv_cert.specs.Obligations.{Owed, Obligation}
 use Rattle.tv_cert.specs.Obligations as obligations
 use Rattle.tv_cert.specs.Shapes.{owed_count, ListsShape, CoverShape, NoStepShape, TakeShape, ChoiceShape, ProofShape}
@@ -41,7 +40,7 @@ TakeLong counts (Some c) k j draws lists = (length draws ≡ c.draws) × OwedLon
 abbrev ChoiceLong : ℕ → List LinearCase → ℕ → (LinearCase → ℕ → ℕ → Option ℕ) → ℕ → ChoiceTree → Type 0
 ChoiceLong n cases l counts known (choice.Split' r p a q b) = ChoiceLong n cases l counts (known + 1) a × ChoiceLong n cases l counts (known + 1) b
 ChoiceLong n cases l counts known (choice.Empty ms) = Unit {0}
-ChoiceLong n cases l counts known (choice.NoStep covers) = NoStepShape n known (cases_from l cases) covers.items
+ChoiceLong n cases l counts known (choice.NoStep covers) = NoStepShape n known (leaving l cases) covers.items
 ChoiceLong n cases l counts known (choice.Take c k j draws lists) = TakeLong counts (slice_get cases c) k j draws.items (map (λ l. l.items) lists.items)
 
 abbrev pub ProofLong : Demand → Proof → Type 0
@@ -110,7 +109,7 @@ module _ (n : ℕ) (cases : List LinearCase) (l : ℕ) (counts : LinearCase → 
   choice_told known (choice.NoStep ts) (choice.Split' r p a q b) xs ys h g e = other_head heads.NoStep heads.Split _ _ _ _ (λ n. cc) e
   choice_told known (choice.NoStep ts) (choice.Empty ms) xs ys h g e = other_head heads.NoStep heads.Empty _ _ _ _ (λ n. cc) e
   choice_told known (choice.NoStep ts) (choice.NoStep us) xs ys h g e =
-      let covers = covers_told n known (cases_from l cases) ts.items us.items xs ys h g (same_tail _ _ _ _ e) in
+      let covers = covers_told n known (leaving l cases) ts.items us.items xs ys h g (same_tail _ _ _ _ e) in
       (ap choices.no_step covers.0, covers.1)
   choice_told known (choice.NoStep ts) (choice.Take m k j es ws) xs ys h g e = other_head heads.NoStep heads.Take _ _ _ _ (λ n. cc) e
   choice_told known (choice.Take m k j ds vs) (choice.Split' r p a q b) xs ys h g e = other_head heads.Take heads.Split _ _ _ _ (λ n. cc) e

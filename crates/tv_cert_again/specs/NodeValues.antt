@@ -19,7 +19,7 @@ pub record PieceValue : Type 0 where
   pub ranks : List Linear
 
 abbrev pub piece_value : Marked → PieceValue
-piece_value p = record { location = place_of p; mark = p.mark; columns = p.piece.poly.columns; rows = rows_of p; ranks = ranks_of p }
+piece_value p = record { location = place_of p; mark = p.mark; columns = p.columns; rows = rows_of p; ranks = ranks_of p }
 
 pub data ProofValue : Type 0 where
   covered : CoverValue → ProofValue

@@ -7,8 +7,7 @@ use Rattle.tv_grammar.proofs.GoesLemmas.{unit_goes, mapped_goes, headed_goes, be
 use Rattle.tv_lines.specs.Lines.{PlainLine, formed, formless, wide}
 use Rattle.tv_lines.specs.declared.head.Head.{Head}
 use Rattle.tv_lines.specs.declared.head.Head.TheVariants as heads
-use Rattle.tv_cases.specs.LinearCases.{CaseSystem}
-use Rattle.tv_cert.specs.Choices.{cases_from}
+use Rattle.tv_cases.specs.LinearCases.{CaseSystem, leaving}
 use Rattle.tv_cert.specs.Statements.{Statement, rows, here, elsewhere, ends, never_ends, each_of, one_of, after, along, unsaid, Statements, no_statement, statement}
 use Rattle.tv_shape.specs.Stations.{done_may_be}
 use Rattle.tv_cert_grammar.specs.declared.kind.LineKind.{LineKind}
@@ -115,7 +114,7 @@ cover_closed over (suc left) width known counts =
     headed_closed _ (cover_branch (sides_behind (go (both a a))) (sides_closed (go (both a a)) (both_closed a a side side)) width known counts)
 
 no_step_closed : (over : Bool) (left : ℕ) (x : Choosing) (known : ℕ) → Closed (no_step over left x known)
-no_step_closed over left x known = mapped_closed (λ all. tt) (each (stop_cover over left x.variables known) (cases_from x.place x.cases)) (each_closed (stop_cover over left x.variables known) (cases_from x.place x.cases) (λ c. cover_closed over left (x.variables + c.draws) (known + length c.guards) no_counts))
+no_step_closed over left x known = mapped_closed (λ all. tt) (each (stop_cover over left x.variables known) (leaving x.place x.cases)) (each_closed (stop_cover over left x.variables known) (leaving x.place x.cases) (λ c. cover_closed over left (x.variables + c.draws) (known + length c.guards) no_counts))
 
 no_step_branch : (covers : Grammar (Unit {0})) → Closed covers → (may_stop : Bool) → ClosedBranch (no_step_behind covers may_stop)
 no_step_branch covers h true = h

@@ -17,10 +17,9 @@ use Rattle.tv_linear.specs.declared.cover.CoverTree.{CoverTree}
 use Rattle.tv_linear.specs.declared.cover.CoverTree as cover_trees
 use Rattle.tv_linear.specs.declared.choice.ChoiceTree.{ChoiceTree}
 use Rattle.tv_linear.specs.declared.choice.ChoiceTree as choice_trees
-use Rattle.tv_cases.specs.LinearCases.{LinearCase}
+use Rattle.tv_cases.specs.LinearCases.{LinearCase, leaving}
 use Rattle.tv_cert.specs.declared.node.Proof.{Proof}
 use Rattle.tv_cert.specs.declared.node.Proof.TheVariants.{Covered, Chosen}
-use Rattle.tv_cert.specs.Choices.{cases_from}
 use Rattle.tv_cert.specs.Obligations.{Owed, Obligation}
 use Rattle.tv_cert.specs.Obligations as obligations
 use Rattle.tv_cert.specs.Shapes.{owed_count, ListsShape, CoverShape, NoStepShape, TakeShape, ChoiceShape, ProofShape}
@@ -77,11 +76,11 @@ stop_shapes n known left [] (t ∷ trees) h deep = absurd h
 stop_shapes n known left (c ∷ cases) [] h deep = absurd h
 stop_shapes n known left (c ∷ cases) (t ∷ trees) h deep = (record { shape = h.0; shallow = omega (arith, deep) }, stop_shapes n known left cases trees h.1 (omega (arith, deep)))
 
-no_step_read : (over : Bool) (left known : ℕ) (x : Choosing) (trees : List CoverTree) (here rest : List PlainLine) → IsTrue x.may_stop → NoStepShape x.variables known (cases_from x.place x.cases) trees → most_splits trees ≤ left → branch_read (no_step_behind (no_step over left x known) x.may_stop) here (flat_map cover_lines trees ++ rest) ≡ Ok (tt, rest)
+no_step_read : (over : Bool) (left known : ℕ) (x : Choosing) (trees : List CoverTree) (here rest : List PlainLine) → IsTrue x.may_stop → NoStepShape x.variables known (leaving x.place x.cases) trees → most_splits trees ≤ left → branch_read (no_step_behind (no_step over left x known) x.may_stop) here (flat_map cover_lines trees ++ rest) ≡ Ok (tt, rest)
 no_step_read over left known x trees here rest may h deep =
     ap (λ b. branch_read (no_step_behind (no_step over left x known) b) here (flat_map cover_lines trees ++ rest)) may
-    ∙ mapped_read (λ all. tt) (each (stop_cover over left x.variables known) (cases_from x.place x.cases)) (flat_map cover_lines trees ++ rest) (map (λ t. tt) trees) rest
-    (each_read (stop_cover over left x.variables known) (StopShape x.variables known left) cover_lines (λ t. tt) stops (cases_from x.place x.cases) trees rest (stop_shapes x.variables known left (cases_from x.place x.cases) trees h deep))
+    ∙ mapped_read (λ all. tt) (each (stop_cover over left x.variables known) (leaving x.place x.cases)) (flat_map cover_lines trees ++ rest) (map (λ t. tt) trees) rest
+    (each_read (stop_cover over left x.variables known) (StopShape x.variables known left) cover_lines (λ t. tt) stops (leaving x.place x.cases) trees rest (stop_shapes x.variables known left (leaving x.place x.cases) trees h deep))
   where
     stops : (c : LinearCase) (t : CoverTree) (r : List PlainLine) → StopShape x.variables known left c t → (stop_cover over left x.variables known c).read (cover_lines t ++ r) ≡ Ok (tt, r)
     stops c t r s = cover_read over left (x.variables + c.draws) (known + length c.guards) no_counts t r s.shape s.shallow

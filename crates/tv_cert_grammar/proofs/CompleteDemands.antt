@@ -14,14 +14,14 @@ use Rattle.tv_formula.specs.declared.tree.Shape.TheVariants.{Until, Weak, Releas
 use Rattle.tv_linear.specs.Linear.{Linear}
 use Rattle.tv_linear.specs.Known.{Known, given, as_given}
 use Rattle.tv_linear.specs.Falls.{fall_rows}
-use Rattle.tv_cases.specs.LinearCases.{LinearCase, CaseSystem}
+use Rattle.tv_cases.specs.LinearCases.{LinearCase, CaseSystem, leaving}
 use Rattle.tv_cert.specs.declared.node.Marked.{Marked}
 use Rattle.tv_cert.specs.declared.node.Kind.{Kind}
 use Rattle.tv_cert.specs.declared.node.Kind.TheVariants as kind
 use Rattle.tv_cert.specs.Pieces.{place_of, rows_of, ranks_of, goes, pieces_at}
 use Rattle.tv_cert.specs.Plain.{about_of}
 use Rattle.tv_cert.specs.Targets.{owed_into, owed_lists, owed_nothing, target_rows, no_fall, fall_from}
-use Rattle.tv_cert.specs.Choices.{cases_from, drawn_change}
+use Rattle.tv_cert.specs.Choices.{drawn_change}
 use Rattle.tv_cert.specs.Obligations.{Obligation, step_fall, choice_fall, atom_of, cover_of, step_of, steps_of, choice_of, choice_into, truth_targets, hold_side, end_sides, go_of, fix_of, first_of, second_of}
 use Rattle.tv_cert.specs.Said.{said_at, said_own}
 use Rattle.tv_cert.specs.Shapes.{owed_count, PieceShape}
@@ -49,7 +49,7 @@ one_free o h = All-cons Free o [] h (All-nil Free)
 
 module _ (number : ℕ) (system : CaseSystem) (ps : List Marked) (p : Marked) where
   steps_free : (into : List Marked) (fall : LinearCase → Marked → ℕ → Option (List Known)) → All Free (steps_of number (about_of system) p into fall)
-  steps_free into fall = all_mapped Free (step_of number (about_of system) p into fall) (λ c. tt) (cases_from (place_of p) system.cases)
+  steps_free into fall = all_mapped Free (step_of number (about_of system) p into fall) (λ c. tt) (leaving (place_of p) system.cases)
 
   plain_free : (k : Kind) (stop : Bool) (into : List Marked) → Free (choice_of number k (about_of system) p stop (choice_into (about_of system) into (λ c draws. no_fall)))
   plain_free k stop into c draws = λ i n j. count_same (drawn_change system.variables c draws) (drawn_change system.variables c []) false p into c.to n j i

@@ -10,14 +10,14 @@ use Rattle.tv_formula.specs.declared.tree.Shape.{Shape}
 use Rattle.tv_formula.specs.declared.tree.Shape.TheVariants.{Until, Weak, Release, Strong}
 use Rattle.tv_linear.specs.Linear.{Linear}
 use Rattle.tv_linear.specs.Known.{Known, given, as_given}
-use Rattle.tv_cases.specs.LinearCases.{LinearCase, CaseSystem}
+use Rattle.tv_cases.specs.LinearCases.{LinearCase, CaseSystem, leaving}
 use Rattle.tv_cert.specs.declared.node.Marked.{Marked}
 use Rattle.tv_cert.specs.declared.node.Kind.{Kind}
 use Rattle.tv_cert.specs.declared.node.Kind.TheVariants as kind
 use Rattle.tv_cert.specs.Pieces.{place_of, rows_of, goes}
 use Rattle.tv_cert.specs.Plain.{about_of}
 use Rattle.tv_cert.specs.Targets.{owed_into, owed_nothing, no_fall}
-use Rattle.tv_cert.specs.Choices.{cases_from, drawn_change}
+use Rattle.tv_cert.specs.Choices.{drawn_change}
 use Rattle.tv_cert.specs.Obligations.{Obligation, case_change, step_fall, choice_fall, atom_of, cover_of, step_of, steps_of, choice_of, choice_into, truth_targets, hold_side, end_sides, go_of, fix_of, first_of, second_of}
 use Rattle.tv_cert.specs.Said.{said_at, said_own}
 use Rattle.tv_cert.specs.Shapes.{owed_count, PieceShape}
@@ -87,7 +87,7 @@ module _ (number : ℕ) (system : CaseSystem) (p : Marked) where
 
   steps_wanted : (falls : Option ℕ) (into : List Marked) (fall : LinearCase → Marked → ℕ → Option (List Known)) → ((c : LinearCase) → owed_count (owed_into into c.to (case_change system.variables c) (fall c)) ≡ into_counts falls (outlines into) c.to) → map wanted (steps_of number (about_of system) p into fall) ≡ step_demands system (outline p) falls (outlines into)
   steps_wanted falls into fall same =
-      stepped_same (step_of number (about_of system) p into fall) wanted (step_demand system (outline p) falls (outlines into)) (λ c i. a_cover (system.variables + c.draws) (known_long c i) (same c i)) (cases_from (place_of p) system.cases)
+      stepped_same (step_of number (about_of system) p into fall) wanted (step_demand system (outline p) falls (outlines into)) (λ c i. a_cover (system.variables + c.draws) (known_long c i) (same c i)) (leaving (place_of p) system.cases)
 
   plain_steps : (into : List Marked) → map wanted (steps_of number (about_of system) p into (λ c. no_fall)) ≡ step_demands system (outline p) None (outlines into)
   plain_steps into = steps_wanted None into (λ c. no_fall) (λ c. into_plain into c.to (case_change system.variables c))

@@ -7,8 +7,7 @@ use Rattle.tv_grammar.proofs.ExactLemmas.{unit_exact, then_exact, mapped_exact, 
 use Rattle.tv_lines.specs.Lines.{PlainLine, formed, formless, wide}
 use Rattle.tv_lines.specs.declared.head.Head.TheVariants as heads
 use Rattle.tv_linear.specs.Arithmetic.{zeros}
-use Rattle.tv_cases.specs.LinearCases.{LinearCase}
-use Rattle.tv_cert.specs.Choices.{cases_from}
+use Rattle.tv_cases.specs.LinearCases.{LinearCase, leaving}
 use Rattle.tv_cert_grammar.specs.declared.kind.LineKind.TheVariants.{Syntax}
 use Rattle.tv_cert_grammar.specs.Demands.{Demand, a_cover, a_choice, no_counts}
 use Rattle.tv_cert_grammar.specs.Lines.{Grammar, Behind, by, draw, with_two, with_three}
@@ -67,7 +66,7 @@ pub stop_cover_exact : (over : Bool) (left n known : ℕ) (c : LinearCase) → E
 stop_cover_exact over left n known c = cover_exact over left (n + c.draws) (known + length c.guards) no_counts
 
 pub no_step_exact : (over : Bool) (left : ℕ) (x : Choosing) (known : ℕ) → Exact (no_step over left x known)
-no_step_exact over left x known = mapped_exact (λ all. tt) (each (stop_cover over left x.variables known) (cases_from x.place x.cases)) (each_exact (stop_cover over left x.variables known) (cases_from x.place x.cases) (stop_cover_exact over left x.variables known))
+no_step_exact over left x known = mapped_exact (λ all. tt) (each (stop_cover over left x.variables known) (leaving x.place x.cases)) (each_exact (stop_cover over left x.variables known) (leaving x.place x.cases) (stop_cover_exact over left x.variables known))
 
 no_step_branch : (covers : Grammar (Unit {0})) → Exact covers → (may_stop : Bool) → ExactBranch (no_step_behind covers may_stop)
 no_step_branch covers h true = h

@@ -7,8 +7,7 @@ use Rattle.tv_grammar.proofs.KindLemmas.{unit_kinded, then_kinded, mapped_kinded
 use Rattle.tv_lines.specs.Lines.{PlainLine, formed, formless, wide}
 use Rattle.tv_lines.specs.declared.head.Head.{Head}
 use Rattle.tv_lines.specs.declared.head.Head.TheVariants as heads
-use Rattle.tv_cases.specs.LinearCases.{CaseSystem}
-use Rattle.tv_cert.specs.Choices.{cases_from}
+use Rattle.tv_cases.specs.LinearCases.{CaseSystem, leaving}
 use Rattle.tv_cert.specs.Statements.{Statement, rows, here, elsewhere, ends, never_ends, each_of, one_of, after, along, unsaid, Statements, no_statement, statement}
 use Rattle.tv_shape.specs.Stations.{done_may_be}
 use Rattle.tv_cert_grammar.specs.declared.kind.LineKind.{LineKind}
@@ -113,7 +112,7 @@ module _ (P : LineKind → Option PlainLine → Type 0) (allows : Allows P) wher
         headed_kinded P Syntax _ allows.none (cover_branch _ (sides_kinded (both (cover over left width (known + 1) counts) (cover over left width (known + 1) counts)) (both_kinded _ _ side side)) width known counts)
 
     pub no_step_kinded : (left : ℕ) (x : Choosing) (known : ℕ) → Kinded P (no_step over left x known)
-    no_step_kinded left x known = mapped_kinded P (λ all. tt) _ (each_kinded P (stop_cover over left x.variables known) (cases_from x.place x.cases) (λ c. cover_kinded left (x.variables + c.draws) (known + length c.guards) no_counts))
+    no_step_kinded left x known = mapped_kinded P (λ all. tt) _ (each_kinded P (stop_cover over left x.variables known) (leaving x.place x.cases) (λ c. cover_kinded left (x.variables + c.draws) (known + length c.guards) no_counts))
 
     pub choice_kinded : (left : ℕ) (x : Choosing) (known : ℕ) → Kinded P (choice over left x known)
     unfolding choice

@@ -9,8 +9,7 @@ use Rattle.tv_grammar.proofs.LooseLemmas.{unit_loose, then_loose, mapped_loose, 
 use Rattle.tv_lines.specs.Lines.{PlainLine, formed, formless, wide}
 use Rattle.tv_lines.specs.declared.head.Head.{Head}
 use Rattle.tv_lines.specs.declared.head.Head.TheVariants as heads
-use Rattle.tv_cases.specs.LinearCases.{CaseSystem}
-use Rattle.tv_cert.specs.Choices.{cases_from}
+use Rattle.tv_cases.specs.LinearCases.{CaseSystem, leaving}
 use Rattle.tv_cert.specs.Statements.{Statement, rows, here, elsewhere, ends, never_ends, each_of, one_of, after, along, unsaid, Statements, no_statement, statement}
 use Rattle.tv_cert_grammar.specs.declared.kind.LineKind.{LineKind}
 use Rattle.tv_cert_grammar.specs.declared.kind.LineKind.TheVariants.{Syntax, Wide, Deep, Shape}
@@ -99,7 +98,7 @@ cover_loose (suc left) width known counts =
 -- ---- choices
 
 no_step_loose : (left : ℕ) (x : Choosing) (known : ℕ) → Looser (no_step false left x known) (no_step true left x known)
-no_step_loose left x known = mapped_loose not_deep (λ all. tt) _ _ (each_loose not_deep (stop_cover false left x.variables known) (stop_cover true left x.variables known) (cases_from x.place x.cases) (stop_cover_exact true left x.variables known) (λ c. cover_loose left (x.variables + c.draws) (known + length c.guards) no_counts))
+no_step_loose left x known = mapped_loose not_deep (λ all. tt) _ _ (each_loose not_deep (stop_cover false left x.variables known) (stop_cover true left x.variables known) (leaving x.place x.cases) (stop_cover_exact true left x.variables known) (λ c. cover_loose left (x.variables + c.draws) (known + length c.guards) no_counts))
 
 no_step_branch : (l m : Grammar (Unit {0})) → Looser l m → (may_stop : Bool) → LooserBranch (no_step_behind l may_stop) (no_step_behind m may_stop)
 no_step_branch l m h true = h

@@ -3,8 +3,7 @@ use Rattle.std.specs.Prelude.{ℕ, zero, suc, ◌+◌, Bool, true, false, List, 
 use Rattle.tv_grammar.specs.Langs.{mapped, stop, go, headed, each}
 use Rattle.tv_lines.specs.Lines.{PlainLine, formed, formless, wide}
 use Rattle.tv_lines.specs.declared.head.Head.TheVariants as heads
-use Rattle.tv_cases.specs.LinearCases.{LinearCase}
-use Rattle.tv_cert.specs.Choices.{cases_from}
+use Rattle.tv_cases.specs.LinearCases.{LinearCase, leaving}
 use Rattle.tv_cert_grammar.specs.declared.kind.LineKind.TheVariants.{Syntax, Wide, Shape}
 use Rattle.tv_cert_grammar.specs.Demands.{Demand, a_cover, a_choice, no_counts}
 use Rattle.tv_cert_grammar.specs.Lines.{Grammar, Behind, many, by, draw, with_three}
@@ -25,7 +24,7 @@ stop_cover over left n known c = cover over left (n + c.draws) (known + length c
 
 -- one for each case from the location
 abbrev pub no_step : Bool → ℕ → Choosing → ℕ → Grammar (Unit {0})
-no_step over left x known = mapped (λ all. tt) (each (stop_cover over left x.variables known) (cases_from x.place x.cases))
+no_step over left x known = mapped (λ all. tt) (each (stop_cover over left x.variables known) (leaving x.place x.cases))
 
 abbrev pub no_step_behind : Grammar (Unit {0}) → Bool → Behind (Unit {0})
 no_step_behind covers true = go covers

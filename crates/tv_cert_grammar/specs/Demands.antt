@@ -6,10 +6,9 @@ use Rattle.tv_formula.specs.declared.tree.Path.{Path}
 use Rattle.tv_formula.specs.declared.tree.Path.TheVariants.{Every, Any}
 use Rattle.tv_formula.specs.declared.tree.Shape.{Shape}
 use Rattle.tv_formula.specs.declared.tree.Shape.TheVariants.{Until, Weak, Release, Strong}
-use Rattle.tv_cases.specs.LinearCases.{LinearCase, CaseSystem}
+use Rattle.tv_cases.specs.LinearCases.{LinearCase, CaseSystem, leaving}
 use Rattle.tv_cert.specs.declared.node.Marked.{Marked}
 use Rattle.tv_cert.specs.Pieces.{place_of, rows_of, goes}
-use Rattle.tv_cert.specs.Choices.{cases_from}
 use Rattle.tv_cert.specs.Obligations.{Owed, hold_side, end_sides}
 use Rattle.tv_cert.specs.Obligations as obligations
 use Rattle.tv_cert.specs.Shapes.{owed_count}
@@ -93,7 +92,7 @@ step_demand system o falls into c = a_cover (system.variables + c.draws) (o.rows
 
 -- one for each case from the location of the piece
 abbrev pub step_demands : CaseSystem → Outline → Option ℕ → List Outline → List Demand
-step_demands system o falls into = map (step_demand system o falls into) (cases_from o.place system.cases)
+step_demands system o falls into = map (step_demand system o falls into) (leaving o.place system.cases)
 
 abbrev pub choice_demand : CaseSystem → Outline → Bool → (LinearCase → ℕ → ℕ → Option ℕ) → Demand
 choice_demand system o stop counts = a_choice system.variables system.cases o.place stop o.rows counts

@@ -15,11 +15,11 @@ use Rattle.tv_linear.specs.ChoiceDepth.{most_splits, choice_splits}
 use Rattle.tv_linear.specs.declared.row.Row.{Row}
 use Rattle.tv_linear.specs.declared.cover.CoverTree.{CoverTree}
 use Rattle.tv_linear.specs.declared.choice.ChoiceTree.{ChoiceTree, Split', Empty, NoStep, Take}
-use Rattle.tv_cases.specs.LinearCases.{LinearCase, CaseSystem}
+use Rattle.tv_cases.specs.LinearCases.{LinearCase, CaseSystem, leaving}
 use Rattle.tv_cert.specs.declared.node.Marked.{Marked}
 use Rattle.tv_cert.specs.declared.owes.Destination.{Destination}
 use Rattle.tv_cert.specs.declared.owes.Destination.TheVariants.{Anywhere, Into}
-use Rattle.tv_cert.specs.Choices.{cases_from, drawn_change}
+use Rattle.tv_cert.specs.Choices.{drawn_change}
 use Rattle.tv_cert.specs.Owing.{destination_owes, falls_where}
 use Rattle.tv_cert.specs.Pieces.{place_of, ranks_of}
 use Rattle.tv_cert.specs.Shapes.{ChoiceShape, ListsShape, NoStepShape, TakeShape, owed_count}
@@ -83,7 +83,7 @@ guards_and guards n None e = absurd (let h : ⊥ = cc in h)
 guards_and guards n (Some rows) e = (let h : length rows ≡ n = cc in ap (λ m. Some (guards + m)) h)
 
 -- how many rows are owed does not depend on the terms of the draws
-owes_free : (n : ℕ) (p : Marked) (destination : Destination) (case : LinearCase) (draws : List Linear) → owed_count (destination_owes n p destination case draws) ≡ owed_count (destination_owes n p destination case [])
+pub owes_free : (n : ℕ) (p : Marked) (destination : Destination) (case : LinearCase) (draws : List Linear) → owed_count (destination_owes n p destination case draws) ≡ owed_count (destination_owes n p destination case [])
 owes_free n p Anywhere case draws = refl
 owes_free n p (Into pieces falls) case draws = λ i k j. count_same (drawn_change n case draws) (drawn_change n case []) falls p pieces.now case.to k j i
 
@@ -238,16 +238,13 @@ module _ (system : CaseSystem) (p : Marked) (may_stop : Bool) (destination : Des
       pub no_step_stops : may_stop ≡ false → FaultAt (side known left) old Shape mid.taken
       no_step_stops never = choice_stops mid heads.NoStep [] at Shape (ap (no_step_behind (no_step false left x known)) never)
 
-      module _ (may : may_stop ≡ true) (views : List LinearCase) (same : views ≡ system.cases) where
-        pub covers_fail : (f : Failure) → FailsBy (mapped (λ all. tt {0}) (each (stop_cover false left system.variables known) (cases_from (place_of p) views))) mid f → FailsBy (side known left) old f
-        covers_fail f h =
-            choice_goes mid heads.NoStep [] at (no_step false left x known) f (ap (no_step_behind (no_step false left x known)) may)
-            (subst (λ cs. FailsBy (mapped (λ all. tt {0}) (each (stop_cover false left system.variables known) (cases_from (place_of p) cs))) mid f) same h)
+      module _ (may : may_stop ≡ true) where
+        pub covers_fail : (f : Failure) → FailsBy (mapped (λ all. tt {0}) (each (stop_cover false left system.variables known) (leaving (place_of p) system.cases))) mid f → FailsBy (side known left) old f
+        covers_fail f h = choice_goes mid heads.NoStep [] at (no_step false left x known) f (ap (no_step_behind (no_step false left x known)) may) h
 
-        pub covers_read : (covers : Vec CoverTree) (new : Cursor) → AllZip (IsStop system.variables known left) (cases_from (place_of p) views) covers.items → Takes (flat_map cover_lines covers.items) mid new → IsChoiceWithin system p may_stop destination known left (NoStep covers) × Takes (choice_lines (NoStep covers)) old new
-        covers_read covers new zip t =
-            let all = subst (λ cs. AllZip (IsStop system.variables known left) (cases_from (place_of p) cs) covers.items) same zip in
-            let from = cases_from (place_of p) system.cases in (
+        pub covers_read : (covers : Vec CoverTree) (new : Cursor) → AllZip (IsStop system.variables known left) (leaving (place_of p) system.cases) covers.items → Takes (flat_map cover_lines covers.items) mid new → IsChoiceWithin system p may_stop destination known left (NoStep covers) × Takes (choice_lines (NoStep covers)) old new
+        covers_read covers new all t =
+            let from = leaving (place_of p) system.cases in (
               record {
                 shape = (may, stops_shape system.variables known left from covers.items all);
                 shallow = stops_shallow system.variables known left from covers.items all;

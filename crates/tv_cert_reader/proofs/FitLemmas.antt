@@ -94,7 +94,7 @@ module _ (system : CaseSystem) (claim : Claim) (variables : claim_variables clai
   abbrev about : About
   about = about_with system
 
-  shows : (verdict : Verdict) → side (sides_of claim) (says verdict) ≡ stated about.tests (shown claim verdict)
+  pub shows : (verdict : Verdict) → side (sides_of claim) (says verdict) ≡ stated about.tests (shown claim verdict)
   shows (Proved tree) = ap (λ n. stated (comparison_lists n) (property_of claim.proved)) variables
   shows (Disproved k values) = ap (λ n. stated (comparison_lists n) (property_of claim.denied)) variables
 

@@ -1,5 +1,6 @@
 pub mod ReadingLemmas
 pub mod PartLemmas
+pub mod AppendedLemmas
 pub mod HeadLemmas
 pub mod RegionLemmas
 pub mod CountLemmas

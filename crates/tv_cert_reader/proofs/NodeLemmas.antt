@@ -132,7 +132,7 @@ module _ (system : CaseSystem) where
 abbrev listed : Statement → ℕ → List Marked → List Node → List Proof → List PlainLine
 listed s m ps kids shown = formed (heads.Node (kind_of s)) (pos (length ps) ∷ pos m ∷ []) ∷ (flat_map piece_lines ps ++ (nodes_lines (parts_of s) kids ++ flat_map proof_lines shown))
 
-stated_is : (system : CaseSystem) (s : Statement) (n : Node) → stated_lines s n ≡ listed s (out-Node n).ranks (pieces_list n) (kids_of n) (proofs_list n)
+pub stated_is : (system : CaseSystem) (s : Statement) (n : Node) → stated_lines s n ≡ listed s (out-Node n).ranks (pieces_list n) (kids_of n) (proofs_list n)
 stated_is system s (Node' ps m shape kids shown) =
     let e = outs-Node' ps m shape kids shown in
     ap (λ ls. formed (heads.Node (kind_of s)) (pos (length ps) ∷ pos m ∷ []) ∷ (flat_map piece_lines ps ++ (ls ++ flat_map proof_lines shown.items))) (lines_row system (parts_of s) kids ∙ ap (nodes_lines (parts_of s)) (sym (out_is ps m shape kids shown)))
@@ -267,7 +267,7 @@ node_built system s old now new ps m kids shown said o many offered took =
 
 -- ---- how many there are
 
-pieces_long : (ps : List Marked) → length ps ≤ length (flat_map piece_lines ps)
+pub pieces_long : (ps : List Marked) → length ps ≤ length (flat_map piece_lines ps)
 pieces_long [] = omega arith
 pieces_long (p ∷ ps) = (let h = pieces_long ps in let e = length-append (piece_lines p) (flat_map piece_lines ps) in omega (arith, h, e))
 
@@ -306,7 +306,7 @@ all_ranks_few system m done n [] small h = All-nil (λ p. length (ranks_of p) < 
 all_ranks_few system m done n (p ∷ ps) small h = All-cons (λ q. length (ranks_of q) < n) p ps (ranks_few system m done n p small (All-head (PieceShape system m done) p ps h)) (all_ranks_few system m done n ps small (All-tail (PieceShape system m done) p ps h))
 
 module _ (system : CaseSystem) (s : Statement) (old now : Cursor) (ps : List Marked) (m : ℕ) (kids : List Node) (o : Opened system s old now ps m kids) where
-  took_long : length (flat_map piece_lines ps) + length (nodes_lines (parts_of s) kids) ≤ length old.lines
+  pub took_long : length (flat_map piece_lines ps) + length (nodes_lines (parts_of s) kids) ≤ length old.lines
   took_long =
       let a = ap length o.took.lines in
       let b = length-append (region_lines (kind_of s) (ps, m) ++ nodes_lines (parts_of s) kids) now.lines in

@@ -48,11 +48,11 @@ all_read (o ∷ os) v w (one {t = t} h rest) =
       added = later.added ∙ ap (λ ps. ps ++ later.proofs) h.added ∙ append_assoc v.proofs.items (h.proof ∷ []) later.proofs;
     }
 
-abbrev wanted : List Obligation → List Demand
+abbrev pub wanted : List Obligation → List Demand
 wanted os = map (λ o. demand_of o.owed) os
 
 -- the next one is not read
-next_fault : (os left : List Obligation) (o : Obligation) (ps : List Proof) (now r : List PlainLine) (k : _) → All (λ q. IsDrawFree q.owed) (os ++ o ∷ left) → AreProofsOf os ps → (demanded false (demand_of o.owed)).read now ≡ fault k r → (each (demanded false) (wanted (os ++ o ∷ left))).read (flat_map proof_lines ps ++ now) ≡ fault k r
+pub next_fault : (os left : List Obligation) (o : Obligation) (ps : List Proof) (now r : List PlainLine) (k : _) → All (λ q. IsDrawFree q.owed) (os ++ o ∷ left) → AreProofsOf os ps → (demanded false (demand_of o.owed)).read now ≡ fault k r → (each (demanded false) (wanted (os ++ o ∷ left))).read (flat_map proof_lines ps ++ now) ≡ fault k r
 unfolding each
 next_fault [] left o [] now r k free h e = ap (λ d. d >>= λ x. (mapped (λ xs. x.0 ∷ xs) (each (demanded false) (wanted left))).read x.1) e
 next_fault [] left o (p ∷ ps) now r k free h e = absurd h

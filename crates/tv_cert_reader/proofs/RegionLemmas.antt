@@ -1,5 +1,5 @@
 -- What is read of the pieces of a node.
-use Rattle.std.proofs.Common.{◌≡◌, ℕ, ◌+◌, ◌<◌, ℤ, Bool, List, [], ◌∷◌, Ok, ap, ◌∙◌}
+use Rattle.std.proofs.Common.{◌≡◌, ℕ, ◌+◌, ◌<◌, ℤ, pos, Bool, true, false, cond, List, [], ◌∷◌, ◌++◌, length, Ok, refl, sym, ap, ◌∙◌}
 use Rattle.std.specs.List.{flat_map}
 use Rattle.tv_grammar.specs.Langs.{then, mapped, times}
 use Rattle.tv_lines.specs.Lines.{formed}
@@ -10,9 +10,10 @@ use Rattle.tv_linear.specs.Linear.{Linear}
 use Rattle.tv_cases.specs.LinearCases.{CaseSystem}
 use Rattle.tv_cert.specs.declared.node.Mark.{Mark}
 use Rattle.tv_cert.specs.declared.node.Marked.{Marked}
+use Rattle.tv_cert.specs.MarkedRows.{marked}
 use Rattle.tv_cert.specs.Pieces.{is_go}
 use Rattle.tv_cert.specs.Shapes.{PieceShape}
-use Rattle.tv_cert_text.specs.CertificateLines.{row_lines, piece_lines}
+use Rattle.tv_cert_text.specs.CertificateLines.{mark_named, row_lines, piece_lines}
 use Rattle.tv_cert_grammar.specs.declared.kind.LineKind.TheVariants.{Shape}
 use Rattle.tv_cert_grammar.specs.Demands.{Outline, outline}
 use Rattle.tv_cert_grammar.specs.Lines.{Grammar, Region, line, line_cases, line_branch, many, row, rank, rank_count, piece_line, piece, node_line, region_of, NodeHead}
@@ -25,7 +26,7 @@ use Rattle.tv_cert_reader.specs.Parts.{AreMany, IsWide}
 use Rattle.tv_cert_reader.specs.Heads.{IsPieceHead, IsNodeHead}
 use Rattle.tv_cert_reader.specs.Regions.{region_with}
 use Rattle.tv_cert_reader.proofs.HeadLemmas.{piece_none, piece_some, begun, node_none, node_some, counted}
-use Rattle.tv_cert_reader.proofs.ReadingLemmas.{Gathered, line_stops, first_fails, second_fails, mapped_fails, times_fails}
+use Rattle.tv_cert_reader.proofs.ReadingLemmas.{Gathered, takes_as, takes_both, line_stops, first_fails, second_fails, mapped_fails, times_fails}
 
 -- ---- a piece
 
@@ -56,6 +57,27 @@ module _ (system : CaseSystem) (m : ℕ) (done : Bool) (old mid : Cursor) (head 
         (second_fails (many count (row system.variables)) (λ _. ranking (begun mark l count)) tt mid next f
         (ap (many count (row system.variables)).read t.lines ∙ rows_read system.variables count rows next.lines are.many are.each) t.last
         (mapped_fails (λ _. begun mark l count) (many (rank_count m (is_go mark)) (rank system.variables)) next f h))
+
+-- a piece that is read, by its head, its rows and its ranks
+module _ (system : CaseSystem) (m : ℕ) (done : Bool) (old mid next new : Cursor) (head : Head) (zs : List ℤ) (mark : Mark) (l count : ℕ) (rows ranks : List Linear) where
+  ranks_counted : (b : Bool) (k : ℕ) → k ≡ rank_count m b → k ≡ cond b m 0
+  ranks_counted true k e = e
+  ranks_counted false k e = e
+
+  pub piece_made : Takes (formed head zs ∷ []) old mid → IsPieceHead system.locations done head zs mark l count → AreMany (IsWide system.variables) count rows → AreMany (IsWide system.variables) (rank_count m (is_go mark)) ranks → Takes (row_lines heads.Row rows) mid next → Takes (row_lines heads.Rank ranks) next new → PieceShape system m done (marked l system.variables mark rows ranks) × Takes (piece_lines (marked l system.variables mark rows ranks)) old new
+  piece_made front is are others first second = (
+    record {
+      place = is.place;
+      poly = refl;
+      rows = are.each;
+      ranks = others.each;
+      many = ranks_counted (is_go mark) (length ranks) others.many;
+      marks = is.marked;
+    },
+    takes_both (formed (heads.Piece (mark_named mark)) (pos l ∷ pos (length rows) ∷ []) ∷ []) (row_lines heads.Row rows ++ row_lines heads.Rank ranks) old mid new
+        (takes_as (formed head zs ∷ []) (formed (heads.Piece (mark_named mark)) (pos l ∷ pos (length rows) ∷ []) ∷ []) old mid (λ i. formed (is.opening i) ((is.numbers ∙ ap (λ k. pos l ∷ pos k ∷ []) (sym are.many)) i) ∷ []) front)
+        (takes_both (row_lines heads.Row rows) (row_lines heads.Rank ranks) mid next new first second),
+  )
 
 -- ---- pieces
 

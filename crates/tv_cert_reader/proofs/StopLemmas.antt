@@ -1,17 +1,12 @@
 -- What is read where there is no step.
-use Rattle.std.proofs.Common.{◌≡◌, ℕ, suc, ◌+◌, ◌<◌, ◌≤◌, true, false, List, [], ◌∷◌, ◌++◌, length, drop, get_or, Ok, refl, sym, ap, ◌∙◌, subst, arith, cond, drop-cons}
-use Rattle.std.specs.Prelude.{◌==◌}
+use Rattle.std.proofs.Common.{◌≡◌, ℕ, ◌+◌, false, List, [], ◌∷◌, ◌++◌, length, Ok, refl, sym, ap, ◌∙◌, subst, arith}
 use Rattle.std.specs.List.{AllZip, flat_map}
-use Rattle.std.proofs.Math.ListN.{drop_of_length-le}
 use Rattle.std.proofs.lemmas.List.{append_assoc, append-nil}
 use Rattle.tv_grammar.specs.Reads.{fault, ◌>>=◌}
 use Rattle.tv_grammar.specs.Langs.{mapped, each}
 use Rattle.tv_lines.specs.Lines.{PlainLine}
 use Rattle.tv_linear.specs.declared.cover.CoverTree.{CoverTree}
-use Rattle.tv_cases.specs.declared.case.Case.{Case}
 use Rattle.tv_cases.specs.LinearCases.{LinearCase}
-use Rattle.tv_cases.specs.Views.{case_view, case_views}
-use Rattle.tv_cert.specs.Choices.{cases_from}
 use Rattle.tv_cert_text.specs.CertificateLines.{cover_lines}
 use Rattle.tv_cert_grammar.specs.declared.kind.LineKind.{LineKind}
 use Rattle.tv_cert_grammar.specs.Demands.{no_counts}
@@ -76,24 +71,6 @@ module _ {B A X : Type 0} (l : B → Grammar X) (R : B → A → Type 0) (text :
     counted = omega (arith, s.took.last, h.counted);
   }
   each_fails all left more b old now xs Memory s is h = tt
-
--- ---- the cases from a location
-
-left_at : (cs : List Case) (i : ℕ) (c : Case) → i < length cs → c ≡ get_or cs i c → drop i cs ≡ c ∷ drop (i + 1) cs
-left_at cs i c below is = drop-cons cs i c below ∙ (let k : suc i ≡ i + 1 = omega arith in λ j. sym is j ∷ drop (k j) cs)
-
-abbrev pub from_left : ℕ → List Case → ℕ → List LinearCase
-from_left l cs i = cases_from l (case_views (drop i cs))
-
-module _ (l : ℕ) (cs : List Case) (i : ℕ) (c : Case) (below : i < length cs) (is : c ≡ get_or cs i c) where
-  pub case_from : (c.from == l) ≡ true → from_left l cs i ≡ case_view c ∷ from_left l cs (i + 1)
-  case_from t = ap (λ ds. cases_from l (case_views ds)) (left_at cs i c below is) ∙ ap (λ b. cond b (case_view c ∷ from_left l cs (i + 1)) (from_left l cs (i + 1))) t
-
-  pub case_elsewhere : (c.from == l) ≡ false → from_left l cs i ≡ from_left l cs (i + 1)
-  case_elsewhere t = ap (λ ds. cases_from l (case_views ds)) (left_at cs i c below is) ∙ ap (λ b. cond b (case_view c ∷ from_left l cs (i + 1)) (from_left l cs (i + 1))) t
-
-pub none_from : (l : ℕ) (cs : List Case) (i : ℕ) → length cs ≤ i → from_left l cs i ≡ []
-none_from l cs i over = ap (λ ds. cases_from l (case_views ds)) (drop_of_length-le cs over)
 
 pub stop_fails : (n known left : ℕ) (all later more : List LinearCase) (c : LinearCase) (old now : Cursor) (xs : List CoverTree) (f : Failure) → Stepped (IsStop n known left) cover_lines all more old now xs → more ≡ c ∷ later → FailsBy (stop_cover false left n known c) now f → FailsBy (mapped (λ all. tt {0}) (each (stop_cover false left n known) all)) old f
 stop_fails n known left all later more c old now xs f s is h =

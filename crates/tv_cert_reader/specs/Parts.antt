@@ -1,9 +1,10 @@
 -- What is read of the parts of a certificate.
-use Rattle.std.specs.Prelude.{◌≡◌, ℕ, ◌+◌, ℤ, List, [], ◌∷◌, ◌++◌, length, map, All, Result}
+use Rattle.std.specs.Prelude.{◌≡◌, ℕ, ◌+◌, ℤ, List, [], ◌∷◌, ◌++◌, length, map, All, Result, Ok, Err}
 use Rattle.std.specs.Global.{Vec}
 use Rattle.tv_lines.specs.Lines.{PlainLine, formed}
 use Rattle.tv_lines.specs.Numbers.{IsNarrow}
-use Rattle.tv_linear.specs.Linear.{Linear, columns}
+use Rattle.tv_linear.specs.Linear.{Linear, columns, IsNarrow as IsNarrowRow}
+use Rattle.tv_rows.specs.Packed.{packed}
 use Rattle.tv_linear.specs.declared.row.Row.{Row}
 use Rattle.tv_cert_text.specs.CertificateLines.{row_line, row_lines, by_lines}
 use Rattle.tv_cert_grammar.specs.Lines.{many}
@@ -12,7 +13,7 @@ use Rattle.tv_cert_reader.specs.declared.sort.Sort.TheVariants.{By}
 use Rattle.tv_cert_reader.specs.declared.cursor.Cursor.{Cursor}
 use Rattle.tv_cert_reader.specs.declared.failure.Failure.{Failure}
 use Rattle.tv_cert_reader.specs.Sorts.{head_of, line_with}
-use Rattle.tv_cert_reader.specs.Reading.{Reads}
+use Rattle.tv_cert_reader.specs.Reading.{Reads, Takes, FailsBy}
 
 -- the row has these numbers, the last of which is its constant, over so many columns
 pub record IsRowOf (width : ℕ) (zs : List ℤ) (row : Linear) : Type 0 where
@@ -56,6 +57,28 @@ rows_in v = v.items
 -- so many rows are read
 abbrev pub ReadsRows : Sort → ℕ → ℕ → Cursor → Cursor → Result (Vec Row) Failure → Type 0
 ReadsRows sort width count old new result = Reads rows_in (AreMany (IsWide width) count) (row_lines (head_of sort)) (many count (line_with sort (width + 1))) old new result
+
+-- the numbers of a row over so many columns are put behind others
+pub record IsAppended (width : ℕ) (zs ys : List ℤ) (row : Linear) : Type 0 where
+  pub wide : columns row ≡ width
+  pub narrow : IsNarrowRow row
+  pub numbers : ys ≡ zs ++ (row.coefficients ++ row.constant ∷ [])
+
+-- a row is read, and its numbers are put behind others
+abbrev pub AppendsRow : Sort → ℕ → List ℤ → List ℤ → Cursor → Cursor → Result (Unit {0}) Failure → Type 0
+AppendsRow sort width zs ys old new (Ok done) = (row : Linear) × IsAppended width zs ys row × Takes (one_row sort row) old new
+AppendsRow sort width zs ys old new (Err f) = FailsBy (line_with sort (width + 1)) old f
+
+-- the numbers of so many rows over so many columns are put behind others
+pub record AreAppended (width count : ℕ) (zs ys : List ℤ) (rows : List Linear) : Type 0 where
+  pub wide : AreMany (IsWide width) count rows
+  pub narrow : All IsNarrowRow rows
+  pub numbers : ys ≡ zs ++ packed rows
+
+-- so many rows are read, and their numbers are put behind others
+abbrev pub AppendsRows : Sort → ℕ → ℕ → List ℤ → List ℤ → Cursor → Cursor → Result (Unit {0}) Failure → Type 0
+AppendsRows sort width count zs ys old new (Ok done) = (rows : List Linear) × AreAppended width count zs ys rows × Takes (row_lines (head_of sort) rows) old new
+AppendsRows sort width count zs ys old new (Err f) = FailsBy (many count (line_with sort (width + 1))) old f
 
 abbrev pub lists_in : Vec (Vec ℤ) → List (List ℤ)
 lists_in v = map (λ l. l.items) v.items

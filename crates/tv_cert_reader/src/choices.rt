@@ -1,12 +1,11 @@
 ghost use Rattle.std.specs.Prelude.{◌≡◌, ◌+◌, ◌-◌, ◌<◌, ◌≤◌, ◌^◌, ℕ, Bool, [], All, IfOk, length};
 ghost use Rattle.tv_lines.specs.Numbers.{IsNarrow};
 ghost use Rattle.tv_linear.specs.Linear.{Linear};
-ghost use Rattle.tv_cases.specs.LinearCases.{CaseSystem, IsCase};
+ghost use Rattle.tv_cases.specs.LinearCases.{CaseSystem, leaving};
 ghost use Rattle.tv_cases.specs.Systems.{cases_of};
-ghost use Rattle.tv_cases.specs.Views.{case_view, case_views};
+ghost use Rattle.tv_cases.specs.Views.{case_view};
 ghost use Rattle.tv_cert.specs.declared.node.Marked.{Marked};
 ghost use Rattle.tv_cert.specs.declared.owes.Destination.{Destination};
-ghost use Rattle.tv_cert.specs.Choices.{cases_from};
 ghost use Rattle.tv_shape.specs.Counts.{AreFewAt};
 ghost use Rattle.tv_cert_reader.specs.declared.cursor.Cursor.{Cursor};
 ghost use Rattle.tv_cert_reader.specs.Covers.{IsBehind};
@@ -81,19 +80,17 @@ impl Context<'_> {
         left: u32,
         known: u128,
         location: u32,
-        cases: &[Case],
     ) -> Result<Vec<Cover>, Failure>
         requires shallow { left ≤ 128 }
-        requires draws { All (IsCase (cases_of self.now.about.now).variables (cases_of self.now.about.now).locations) (case_views cases.now) }
         requires room { known < 2 ^ 125 }
-        ensures { ReadsStops (cases_of self.now.about.now).variables known left (cases_from location (case_views cases.now)) cursor.old cursor.new result }
+        ensures { ReadsStops (cases_of self.now.about.now).variables known left (leaving location (cases_of self.now.about.now).cases) cursor.old cursor.new result }
     {
         let mut covers = Vec::new(self.alloc);
-        for case in cases {
-            if case.from == location {
-                let cover = self.stop_cover(cursor, left, known, case)?;
-                covers.push(cover)?;
-            }
+        let mut k = 0;
+        'cases: while let Some(case) = self.about.leaving(location, k) {
+            let cover = self.stop_cover(cursor, left, known, case)?;
+            covers.push(cover)?;
+            k += 1;
         }
         covers.shrink_to_fit();
         Ok(covers)
@@ -115,8 +112,7 @@ impl Context<'_> {
         if !stop {
             return Err(Failure::Fault(LineKind::Shape, cursor.taken));
         }
-        let cases = self.about.list();
-        let covers = self.stop_covers(cursor, left, known, piece.piece.location, cases)?;
+        let covers = self.stop_covers(cursor, left, known, piece.location())?;
         Ok(ChoiceTree::NoStep(covers))
     }
 

@@ -27,7 +27,7 @@ pub fn small(number: i64) -> Option<u32>
 }
 
 /// Two numbers of 32 bits.
-fn two_small(numbers: &[i64]) -> Option<(u32, u32)>
+pub fn two_small(numbers: &[i64]) -> Option<(u32, u32)>
     ensures { MatchOption result ((k j : ℕ) → numbers.now ≡ pos k ∷ pos j ∷ [] → k < 2 ^ 32 → j < 2 ^ 32 → ⊥) (λ x. numbers.now ≡ pos x.0 ∷ pos x.1 ∷ []) }
 {
     let [first, second] = numbers else {

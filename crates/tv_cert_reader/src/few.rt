@@ -28,7 +28,7 @@ fn falls_are_few(from: Option<&Marked>) -> bool
 {
     match from {
         None => true,
-        Some(piece) => piece.ranks.len() <= MOST,
+        Some(piece) => piece.ranks().len() <= MOST,
     }
 }
 
@@ -52,6 +52,6 @@ pub fn chosen_are_few(piece: &Marked, destination: &Destination) -> bool
     match destination {
         Destination::Anywhere => true,
         Destination::Into { pieces, .. } => pieces.list().len() <= MOST
-            && piece.ranks.len() <= MOST,
+            && piece.ranks().len() <= MOST,
     }
 }

@@ -22,5 +22,16 @@ mod sort;
 mod takes;
 mod visitor;
 
+pub use context::Context;
+pub use covers::two_small;
+pub use cursor::Cursor;
+pub use failure::Failure;
 pub use fault::CertFault;
+pub use few::{are_few, chosen_are_few};
+pub use lines::take;
+pub use nodes::kind_of;
 pub use read::read_certificate;
+pub use rest::{finish, said, values};
+pub use rows::{numbers, row_of, rows as read_rows};
+pub use sort::Sort;
+pub use takes::Taken;

@@ -14,7 +14,7 @@ use tv_lines::NodeKind;
 use tv_shape::{argument_count, may_be_done, may_rank};
 
 /// The kind of a node that is to show this.
-fn kind_of(aim: &Aim) -> NodeKind
+pub fn kind_of(aim: &Aim) -> NodeKind
     ensures kind { result ≡ kind_of (aim_states aim.now) }
     ensures said { IsSaid (aim_states aim.now) }
 {

@@ -9,11 +9,10 @@ use crate::cursor::Cursor;
 use crate::failure::Failure;
 use crate::heads::{node_head, piece_head};
 use crate::lines::take;
-use crate::rows::{room, rows};
+use crate::rows::{append_rows, room};
 use crate::sort::Sort;
 use tv_cert::{Mark, Marked, Pieces};
 use tv_cert_grammar::LineKind;
-use tv_linear::{Piece, Poly};
 use tv_lines::NodeKind;
 
 /// How many ranks a piece has of a node with so many.
@@ -37,25 +36,13 @@ impl Context<'_> {
             return Err(Failure::Fault(LineKind::Shape, cursor.taken));
         };
         let columns = self.about.variables();
-        let rows_there = rows(self.alloc, cursor, Sort::Row, columns, count)?;
-        let ranks_there = rows(
-            self.alloc,
-            cursor,
-            Sort::Rank,
-            columns,
-            rank_count(ranks, mark),
-        )?;
-        Ok(Marked {
-            piece: Piece {
-                location,
-                poly: Poly {
-                    columns,
-                    rows: rows_there,
-                },
-            },
-            mark,
-            ranks: ranks_there,
-        })
+        let many = rank_count(ranks, mark);
+        let mut packed = Vec::new(self.alloc);
+        append_rows(self.alloc, cursor, Sort::Row, columns, count, &mut packed)?;
+        append_rows(self.alloc, cursor, Sort::Rank, columns, many, &mut packed)?;
+        packed.shrink_to_fit();
+        let rows = count as usize;
+        Ok(Marked::from_numbers(location, mark, columns, rows, packed))
     }
 
     fn pieces(

@@ -58,7 +58,7 @@ impl Context<'_> {
         ensures { ReadsProof (owed_by (cases_of self.now.about.now) (owing.Step piece.entry case.entry into.entry falls)) cursor.old cursor.new result }
     {
         let columns = self.about.variables() + case.draws;
-        let known = piece.piece.poly.rows.len() as u128 + case.guards.rows.len() as u128;
+        let known = piece.rows().len() as u128 + case.guards.rows.len() as u128;
         let targets = pieces_into(piece, into, case.to, falls);
         self.cover(cursor, columns, known, &targets)
     }
@@ -76,7 +76,7 @@ impl Context<'_> {
         if !chosen_are_few(piece, destination) {
             return Err(Failure::Memory);
         }
-        let known = piece.piece.poly.rows.len() as u128;
+        let known = piece.rows().len() as u128;
         let tree = self.choice_tree(cursor, MAX_SPLITS, piece, stop, destination, known)?;
         match Choice::new(tree) {
             Some(choice) => Ok(Proof::Chosen(choice)),
@@ -92,21 +92,21 @@ impl Context<'_> {
         let columns = self.about.variables();
         match owes {
             Owes::Rows { piece, lists } => {
-                let known = piece.piece.poly.rows.len() as u128;
+                let known = piece.rows().len() as u128;
                 self.cover(cursor, columns, known, &Targets::Lists(lists))
             }
             Owes::Truth { piece, truth } => {
-                let known = piece.piece.poly.rows.len() as u128;
+                let known = piece.rows().len() as u128;
                 self.cover(cursor, columns, known, &Targets::Truth(*truth))
             }
             Owes::Pieces { piece, into } => {
-                let known = piece.piece.poly.rows.len() as u128;
-                let targets = pieces_into(piece, into, piece.piece.location, false);
+                let known = piece.rows().len() as u128;
+                let targets = pieces_into(piece, into, piece.location(), false);
                 self.cover(cursor, columns, known, &targets)
             }
             Owes::Joined { piece, nodes } => {
-                let known = piece.piece.poly.rows.len() as u128;
-                let location = piece.piece.location;
+                let known = piece.rows().len() as u128;
+                let location = piece.location();
                 self.cover(cursor, columns, known, &Targets::Joined { nodes, location })
             }
             Owes::Step {

@@ -35,7 +35,7 @@ pub fn said(alloc: Global, cursor: &mut Cursor) -> Result<bool, Failure>
 }
 
 /// A place among the pieces at the start, and so many values.
-fn values(alloc: Global, cursor: &mut Cursor, count: u32) -> Result<(u64, Vec<i128>), Failure>
+pub fn values(alloc: Global, cursor: &mut Cursor, count: u32) -> Result<(u64, Vec<i128>), Failure>
     ensures { ReadsValues count cursor.old cursor.new result }
 {
     let (head, mut numbers) = take(alloc, cursor)?;
@@ -51,7 +51,7 @@ fn values(alloc: Global, cursor: &mut Cursor, count: u32) -> Result<(u64, Vec<i1
 }
 
 /// Nothing is left.
-fn finish(alloc: Global, cursor: &mut Cursor) -> Result<(), Failure>
+pub fn finish(alloc: Global, cursor: &mut Cursor) -> Result<(), Failure>
     ensures { ReadsEnd cursor.old result }
 {
     match cursor.lines.next(alloc)? {

@@ -1,6 +1,6 @@
 ghost use Rattle.std.specs.Prelude.{◌≡◌, ◌+◌, ◌-◌, ◌<◌, ◌^◌, All, MatchOption, length, min};
 ghost use Rattle.tv_lines.specs.Numbers.{IsNarrow};
-ghost use Rattle.tv_cert_reader.specs.Parts.{IsRowOf, ReadsLists, ReadsNumbers, ReadsRow, ReadsRows};
+ghost use Rattle.tv_cert_reader.specs.Parts.{AppendsRow, AppendsRows, IsRowOf, ReadsLists, ReadsNumbers, ReadsRow, ReadsRows};
 
 use crate::cursor::Cursor;
 use crate::failure::Failure;
@@ -43,7 +43,7 @@ pub fn row_of(numbers: Vec<i64>, width: u32) -> Option<Row>
     Some(Row::from_narrow(coefficients, constant))
 }
 
-/// A row, a rank or a term over so many columns.
+/// A term over so many columns.
 fn row(alloc: Global, cursor: &mut Cursor, sort: Sort, width: u32) -> Result<Row, Failure>
     requires { width < 2 ^ 32 - 1 }
     ensures { ReadsRow sort width cursor.old cursor.new result }
@@ -55,8 +55,8 @@ fn row(alloc: Global, cursor: &mut Cursor, sort: Sort, width: u32) -> Result<Row
     }
 }
 
-/// For how many parts room is made at first, where a line says that so many follow: no more than it takes them, and never much for
-/// a number that the text doesn't keep to.
+/// For how many parts room is made before they are read, where a line says that so many follow: for 1,024 at most, since the text may
+/// not have as many.
 pub fn room(count: u128) -> usize
     ensures { result ≡ min count 1024 }
 {
@@ -80,6 +80,40 @@ pub fn rows(
         rows.push(row)?;
     }
     Ok(rows)
+}
+
+/// Reads a row or a rank over so many columns, and puts its numbers behind others.
+fn append_row(
+    alloc: Global,
+    cursor: &mut Cursor,
+    sort: Sort,
+    width: u32,
+    packed: &mut Vec<i64>,
+) -> Result<(), Failure>
+    requires { width < 2 ^ 32 - 1 }
+    ensures { AppendsRow sort width packed.old.items packed.new.items cursor.old cursor.new result }
+{
+    let numbers = numbers(alloc, cursor, sort, width as u128 + 1)?;
+    packed.extend_from_slice(&numbers)?;
+    Ok(())
+}
+
+/// Reads so many of them.
+pub fn append_rows(
+    alloc: Global,
+    cursor: &mut Cursor,
+    sort: Sort,
+    width: u32,
+    count: u64,
+    packed: &mut Vec<i64>,
+) -> Result<(), Failure>
+    requires { width < 2 ^ 32 - 1 }
+    ensures { AppendsRows sort width count packed.old.items packed.new.items cursor.old cursor.new result }
+{
+    'rows: for _ in 0..count {
+        append_row(alloc, cursor, sort, width, packed)?;
+    }
+    Ok(())
 }
 
 /// So many lines of multipliers, each of so many.

@@ -44,7 +44,7 @@ pub struct Taken<'a> {
 
 impl Context<'_> {
     /// The case, the target and the fall that the numbers name.
-    fn taken_of(
+    pub fn taken_of(
         &self,
         numbers: &[i64],
         piece: &Marked,

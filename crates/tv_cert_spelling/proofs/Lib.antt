@@ -1,3 +1,3 @@
 mod NodeLines
-mod KindLines
+pub mod KindLines
 mod Again

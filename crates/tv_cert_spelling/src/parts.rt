@@ -3,15 +3,17 @@ ghost use Rattle.std.specs.List.{flat_map};
 ghost use Rattle.tv_lines.specs.Lines.{formed};
 ghost use Rattle.tv_cert_text.specs.CertificateLines.{row_line, row_lines, by_lines, mark_named, piece_lines, cover_lines, choice_lines, proof_lines};
 ghost use Rattle.tv_cert_spelling.specs.Spelling.{spelled, all_spelled};
+ghost use Rattle.tv_rows.specs.Views.{row_seen, rows_seen};
 
 use std::alloc::{AllocError, Global};
 use tv_cert::{Mark, Marked, Proof};
-use tv_linear::{ChoiceTree, Cover, CoverTree, Row, widened};
+use tv_linear::{ChoiceTree, Cover, CoverTree, widened};
 use tv_lines::{Head, PieceMark, write_line};
+use tv_rows::{RowView, Rows};
 
 /// The numbers of a row: its coefficients and then its constant.
-fn numbers_of(alloc: Global, row: &Row) -> Result<Vec<i128>, AllocError>
-    ensures { IfOk result (λ numbers. numbers.items ≡ row.now.coefficients ++ row.now.constant ∷ []) }
+fn numbers_of(alloc: Global, row: RowView) -> Result<Vec<i128>, AllocError>
+    ensures { IfOk result (λ numbers. numbers.items ≡ (row_seen row.entry).coefficients ++ (row_seen row.entry).constant ∷ []) }
 {
     let mut numbers = widened(alloc, row.coefficients())?;
     numbers.push(row.constant())?;
@@ -29,19 +31,19 @@ pub fn append_line(
     write_line(alloc, out, head, numbers)
 }
 
-fn append_row(alloc: Global, out: &mut Vec<u8>, head: Head, row: &Row) -> Result<(), AllocError>
-    ensures { OnOk result (out.new.items ≡ out.old.items ++ spelled (row_line head row.now)) }
+fn append_row(alloc: Global, out: &mut Vec<u8>, head: Head, row: RowView) -> Result<(), AllocError>
+    ensures { OnOk result (out.new.items ≡ out.old.items ++ spelled (row_line head (row_seen row.entry))) }
 {
     let numbers = numbers_of(alloc, row)?;
     append_line(alloc, out, head, &numbers)
 }
 
 /// Adds a line for each of the rows.
-fn append_rows(alloc: Global, out: &mut Vec<u8>, head: Head, rows: &[Row]) -> Result<(), AllocError>
-    ensures { OnOk result (out.new.items ≡ out.old.items ++ all_spelled (row_lines head rows.now)) }
+fn append_rows(alloc: Global, out: &mut Vec<u8>, head: Head, rows: Rows) -> Result<(), AllocError>
+    ensures { OnOk result (out.new.items ≡ out.old.items ++ all_spelled (row_lines head (rows_seen rows.entry))) }
 {
-    for row in rows {
-        append_row(alloc, out, head, row)?;
+    for i in 0..rows.len() {
+        append_row(alloc, out, head, rows.row(i))?;
     }
     Ok(())
 }
@@ -74,7 +76,7 @@ pub fn append_cover(alloc: Global, out: &mut Vec<u8>, tree: &CoverTree) -> Resul
 {
     match tree {
         CoverTree::Split(row, holds, fails) => {
-            append_row(alloc, out, Head::Split, row)?;
+            append_row(alloc, out, Head::Split, RowView::of(row))?;
             append_cover(alloc, out, holds)?;
             append_cover(alloc, out, fails)
         }
@@ -105,7 +107,7 @@ fn append_choice(alloc: Global, out: &mut Vec<u8>, tree: &ChoiceTree) -> Result<
 {
     match tree {
         ChoiceTree::Split(row, holds, fails) => {
-            append_row(alloc, out, Head::Split, row)?;
+            append_row(alloc, out, Head::Split, RowView::of(row))?;
             append_choice(alloc, out, holds)?;
             append_choice(alloc, out, fails)
         }
@@ -123,7 +125,7 @@ fn append_choice(alloc: Global, out: &mut Vec<u8>, tree: &ChoiceTree) -> Result<
         } => {
             let numbers = [*taken as i128, *target as i128, *fall as i128];
             append_line(alloc, out, Head::Take, &numbers)?;
-            append_rows(alloc, out, Head::Draw, draws)?;
+            append_rows(alloc, out, Head::Draw, Rows::Each(draws))?;
             append_lists(alloc, out, refutations)
         }
     }
@@ -160,11 +162,10 @@ fn mark_named(mark: Mark) -> PieceMark
 fn append_piece(alloc: Global, out: &mut Vec<u8>, piece: &Marked) -> Result<(), AllocError>
     ensures { OnOk result (out.new.items ≡ out.old.items ++ all_spelled (piece_lines piece.now)) }
 {
-    let rows = &piece.piece.poly.rows;
-    let numbers = [piece.piece.location as i128, rows.len() as i128];
-    append_line(alloc, out, Head::Piece(mark_named(piece.mark)), &numbers)?;
-    append_rows(alloc, out, Head::Row, rows)?;
-    append_rows(alloc, out, Head::Rank, &piece.ranks)
+    let numbers = [piece.location() as i128, piece.rows().len() as i128];
+    append_line(alloc, out, Head::Piece(mark_named(piece.mark())), &numbers)?;
+    append_rows(alloc, out, Head::Row, piece.rows())?;
+    append_rows(alloc, out, Head::Rank, piece.ranks())
 }
 
 pub fn append_pieces(alloc: Global, out: &mut Vec<u8>, pieces: &[Marked]) -> Result<(), AllocError>

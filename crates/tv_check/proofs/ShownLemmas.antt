@@ -1,18 +1,17 @@
 use Rattle.std.proofs.Common.{◌≡◌, ◌↔◌, ℕ, zero, suc, ◌≤◌, List, [], ◌∷◌, ◌++◌, length, map, take, drop, arith, refl, sym, ap, ◌∙◌, subst, ℤ, Option, None, Some, Vec, Global, Bool, IsTrue}
-use Rattle.std.specs.Borrow.{Bor}
 use Rattle.std.specs.Option.{option_map}
-use Rattle.tv_linear.specs.Linear.{Linear}
 use Rattle.tv_linear.specs.Known.{Known, given, composed}
 use Rattle.tv_linear.specs.Covers.{Shown, ShownAt, IsMetCover}
 use Rattle.tv_linear.specs.Terms.{terms_after}
 use Rattle.tv_linear.specs.declared.cover.CoverTree.{CoverTree}
 use Rattle.tv_linear.specs.declared.region.Update.{Update}
+use Rattle.tv_rows.specs.declared.rows.Rows.{Rows}
 use Rattle.tv_cert.specs.declared.node.Marked.{Marked}
 use Rattle.tv_cert.specs.Targets.{owed_into}
 use Rattle.tv_check.specs.Owes.{falls_of}
 
 -- rows joined are shown by lists joined
-shown_join : (n : ℕ) (known : List Known) (xs ys : List Known) (ls ms : List (List ℤ)) → length xs ≡ length ls → Shown n known (xs ++ ys) (ls ++ ms) ↔ (Shown n known xs ls × Shown n known ys ms)
+pub shown_join : (n : ℕ) (known : List Known) (xs ys : List Known) (ls ms : List (List ℤ)) → length xs ≡ length ls → Shown n known (xs ++ ys) (ls ++ ms) ↔ (Shown n known xs ls × Shown n known ys ms)
 shown_join n known [] ys [] ms e = (λ h. (tt, h), λ h. h.1)
 shown_join n known [] ys (l ∷ ls) ms e = absurd (omega arith)
 shown_join n known (x ∷ xs) ys [] ms e = absurd (omega arith)
@@ -57,5 +56,5 @@ shown_alone n known (x ∷ xs) [] = (λ h. h, λ h. h)
 shown_alone n known (x ∷ xs) (l ∷ ls) = let e = shown_alone n known xs ls in (λ h. (h.0, e.0 h.1), λ h. (h.0, e.1 h.1))
 
 -- the updates and the rows as they lie in the case
-pub updates_moved : (t : Bool) (n m : ℕ) (into : List Marked) (to : ℕ) (ranks : Option (Bor (List Linear))) (known known' : List Known) (tree : CoverTree) (us vs : List Update) → us ≡ vs → known ≡ known' → (IsTrue t ↔ IsMetCover m (owed_into into to (λ r. composed (given r) (terms_after n us)) (falls_of (λ r. composed (given r) (terms_after n us)) ranks)) known tree) → IsTrue t ↔ IsMetCover m (owed_into into to (λ r. composed (given r) (terms_after n vs)) (falls_of (λ r. composed (given r) (terms_after n vs)) ranks)) known' tree
+pub updates_moved : (t : Bool) (n m : ℕ) (into : List Marked) (to : ℕ) (ranks : Option Rows) (known known' : List Known) (tree : CoverTree) (us vs : List Update) → us ≡ vs → known ≡ known' → (IsTrue t ↔ IsMetCover m (owed_into into to (λ r. composed (given r) (terms_after n us)) (falls_of (λ r. composed (given r) (terms_after n us)) ranks)) known tree) → IsTrue t ↔ IsMetCover m (owed_into into to (λ r. composed (given r) (terms_after n vs)) (falls_of (λ r. composed (given r) (terms_after n vs)) ranks)) known' tree
 updates_moved t n m into to ranks known known' tree us vs e k h = subst (λ (x : Type 0). x) (λ i. IsTrue t ↔ IsMetCover m (owed_into into to (λ r. composed (given r) (terms_after n (e i))) (falls_of (λ r. composed (given r) (terms_after n (e i))) ranks)) (k i) tree) h

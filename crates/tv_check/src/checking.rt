@@ -12,13 +12,15 @@ ghost use Rattle.tv_cert.specs.Said.{said_entries, HasParts};
 ghost use Rattle.tv_cert.specs.Plain.{about_of};
 ghost use Rattle.tv_check.specs.Walks.{Checks};
 ghost use Rattle.tv_check.specs.Roots.{AreOver, ValuesFit, SettlesRoot};
+ghost use Rattle.tv_rows.specs.Views.{rows_seen};
 
 use crate::steps::rows_are_covered;
 use crate::walking::{Failing, walk};
 use tv_cases::Cases;
 use tv_cert::{Aim, Kind, Node, Pieces, Verdict};
-use tv_linear::{Cover, Row};
+use tv_linear::Cover;
 use tv_refute::meets;
+use tv_rows::Rows;
 
 /// Settles the last obligation where the property is proved: that the pieces of the root cover the start.
 fn check_start(about: &Cases, root: &Node, start: &Cover, seen: u64) -> Result<(), Failing>
@@ -27,7 +29,7 @@ fn check_start(about: &Cases, root: &Node, start: &Cover, seen: u64) -> Result<(
 {
     if rows_are_covered(
         about.variables(),
-        &[],
+        Rows::Each(&[]),
         about.start(),
         &root.pieces,
         start.tree(),
@@ -51,12 +53,12 @@ fn root_failing(seen: u64) -> Failing
 }
 
 /// Whether the values meet all of the rows.
-fn meets_all(values: &[i128], rows: &[Row]) -> bool
-    requires { All (λ r. columns r ≡ length values.now) rows.now }
-    ensures { IsTrue result ↔ All (IsMet values.now) rows.now }
+fn meets_all(values: &[i128], rows: Rows) -> bool
+    requires { All (λ r. columns r ≡ length values.now) (rows_seen rows) }
+    ensures { IsTrue result ↔ All (IsMet values.now) (rows_seen rows.entry) }
 {
-    for row in rows {
-        if !meets(values, row) {
+    for i in 0..rows.len() {
+        if !meets(values, rows.row(i)) {
             return false;
         }
     }
@@ -64,13 +66,13 @@ fn meets_all(values: &[i128], rows: &[Row]) -> bool
 }
 
 /// Whether the values are in the piece at this place among those at the location.
-fn is_inside(pieces: &Pieces, location: u32, piece: u32, values: &[i128]) -> bool
+pub fn is_inside(pieces: &Pieces, location: u32, piece: u32, values: &[i128]) -> bool
     requires { AreOver (length values.now) pieces.now }
     ensures { IsTrue result ↔ PointMet values.now (option_map rows_of (slice_get (pieces_at pieces.now location) piece)) }
 {
     match pieces.at(location, piece) {
         None => false,
-        Some(inside) => meets_all(values, &inside.piece.poly.rows),
+        Some(inside) => meets_all(values, inside.rows()),
     }
 }
 

@@ -1,22 +1,24 @@
-ghost use Rattle.std.specs.Prelude.{◌≡◌, ◌↔◌, ℕ, ◌++◌, ◌∷◌, [], IsTrue, List, Option, None, Some, slice_get, map};
+ghost use Rattle.std.specs.Prelude.{◌≡◌, ◌↔◌, ℕ, ◌+◌, ◌++◌, ◌∷◌, [], IsTrue, List, Option, None, Some, slice_get, map};
 ghost use Rattle.std.specs.Option.{option_map};
 ghost use Rattle.tv_linear.specs.Linear.{Linear};
-ghost use Rattle.tv_linear.specs.Known.{Known};
-ghost use Rattle.tv_linear.specs.Covers.{no_target, ShownAt};
+ghost use Rattle.tv_linear.specs.Known.{Known, as_given};
+ghost use Rattle.tv_linear.specs.Covers.{no_target, ShownAt, IsMetCover};
 ghost use Rattle.tv_refute.specs.Frames.{known_at};
-ghost use Rattle.tv_cases.specs.LinearCases.{LinearCase};
+ghost use Rattle.tv_cases.specs.LinearCases.{LinearCase, leaving};
+ghost use Rattle.tv_cases.specs.Systems.{cases_of};
 ghost use Rattle.tv_cases.specs.Views.{case_view, case_views};
 ghost use Rattle.tv_cert.specs.Targets.{owed_into, owed_nothing};
-ghost use Rattle.tv_cert.specs.Choices.{NoStepMet, TakeMet, IsMetChoice, cases_from, drawn_guards, drawn_change};
+ghost use Rattle.tv_cert.specs.Choices.{NoStepMet, TakeMet, IsMetChoice, drawn_guards, drawn_change};
 ghost use Rattle.tv_cert.specs.Pieces.{place_of};
 ghost use Rattle.tv_cert.specs.Owing.{destination_owes};
 ghost use Rattle.tv_check.specs.Owes.{falls_of};
 
 use crate::pieces::Entered;
-use tv_cases::Case;
+use tv_cases::{Case, Cases};
 use tv_cert::{Destination, Marked, Pieces};
 use tv_linear::{ChoiceTree, Cover, Row};
 use tv_refute::{Built, Change, Frames, Targets, Terms, cover_is_met, refutes, shown_rows};
+use tv_rows::{RowView, Rows};
 
 /// Whether the one target without rows is named, and no list is left.
 fn nothing_is_shown(target: u32, fall: u32, lists: &[Vec<i64>]) -> bool
@@ -32,7 +34,7 @@ fn entering_is_shown(
     frames: &Frames,
     case: &Case,
     into: &Pieces,
-    ranks: Option<&[Row]>,
+    ranks: Option<Rows>,
     draws: &[Row],
     target: u32,
     fall: u32,
@@ -72,7 +74,7 @@ fn destination_is_shown(
     match destination {
         Destination::Anywhere => nothing_is_shown(target, fall, lists),
         Destination::Into { pieces, falls } => {
-            let ranks: Option<&[Row]> = if *falls { Some(&piece.ranks) } else { None };
+            let ranks = if *falls { Some(piece.ranks()) } else { None };
             entering_is_shown(
                 columns, frames, case, pieces, ranks, draws, target, fall, lists,
             )
@@ -99,40 +101,43 @@ impl Targets for Nowhere {
     }
 }
 
+/// Whether the cover shows that the case cannot be taken.
+fn stop_is_met(columns: u32, frames: &Frames, case: &Case, cover: &Cover) -> bool
+    ensures { IsTrue result ↔ IsMetCover (columns + case.now.draws) no_target (known_at frames.now ++ as_given (case_view case.now).guards) cover.now }
+{
+    let place = Frames::Rows {
+        rows: Rows::Each(&case.guards.rows),
+        above: &*frames,
+    };
+    cover_is_met(
+        columns as usize + case.draws as usize,
+        &place,
+        &Nowhere,
+        cover.tree(),
+    )
+}
+
 /// Whether the covers show that no case from the location can be taken.
 fn no_step_is_met(
     columns: u32,
     frames: &Frames,
     location: u32,
-    cases: &[Case],
+    about: &Cases,
     covers: &[Cover],
 ) -> bool
-    ensures { IsTrue result ↔ NoStepMet columns (known_at frames.now) (cases_from location (case_views cases.now)) covers.now }
+    ensures { IsTrue result ↔ NoStepMet columns (known_at frames.now) (leaving location (cases_of about.now).cases) covers.now }
 {
-    match cases {
-        [] => covers.is_empty(),
-        [case, later @ ..] => {
-            if case.from == location {
-                match covers {
-                    [] => false,
-                    [cover, rest @ ..] => {
-                        let place = Frames::Rows {
-                            rows: &case.guards.rows,
-                            above: &*frames,
-                        };
-                        cover_is_met(
-                            columns as usize + case.draws as usize,
-                            &place,
-                            &Nowhere,
-                            cover.tree(),
-                        ) && no_step_is_met(columns, frames, location, later, rest)
-                    }
-                }
-            } else {
-                no_step_is_met(columns, frames, location, later, covers)
-            }
+    let mut k = 0;
+    'cases: while let Some(case) = about.leaving(location, k) {
+        let Some(cover) = covers.get(k) else {
+            return false;
+        };
+        if !stop_is_met(columns, frames, case, cover) {
+            return false;
         }
+        k += 1;
     }
+    covers.len() <= k
 }
 
 /// Whether the lists show the guards of the case, with terms for its draws, and then the target.
@@ -156,7 +161,7 @@ fn take_is_shown(
     let (first, rest) = lists.split_at(guards.len());
     let drawn = Terms::Drawn { columns, draws };
     let change = Change::Once(&drawn);
-    if !shown_rows(columns as usize, frames, &change, guards, first) {
+    if !shown_rows(columns as usize, frames, &change, Rows::Each(guards), first) {
         return false;
     }
     destination_is_shown(
@@ -190,7 +195,7 @@ fn take_is_met(
     match cases.get(taken as usize) {
         None => false,
         Some(case) => {
-            if case.from != piece.piece.location {
+            if case.from != piece.location() {
                 return false;
             }
             if draws.len() != case.draws as usize {
@@ -214,18 +219,18 @@ fn take_is_met(
 /// Whether the choice is met at the place; `stop` tells whether it may show that there is no step.
 pub fn choice_is_met(
     columns: u32,
-    cases: &[Case],
+    about: &Cases,
     piece: &Marked,
     stop: bool,
     destination: &Destination,
     frames: &Frames,
     tree: &ChoiceTree,
 ) -> bool
-    ensures { IsTrue result ↔ IsMetChoice columns (case_views cases.now) (place_of piece.now) stop (destination_owes columns piece.now destination.now) (known_at frames.now) tree.now }
+    ensures { IsTrue result ↔ IsMetChoice columns (cases_of about.now).cases (place_of piece.now) stop (destination_owes columns piece.now destination.now) (known_at frames.now) tree.now }
 {
     match tree {
         ChoiceTree::Split(row, holds, fails) => {
-            let known = Built::Given(row);
+            let known = Built::Given(RowView::of(row));
             let denied = Built::Denied(&known);
             let met = Frames::More {
                 row: &known,
@@ -235,12 +240,12 @@ pub fn choice_is_met(
                 row: &denied,
                 above: &*frames,
             };
-            choice_is_met(columns, cases, piece, stop, destination, &met, holds)
-                && choice_is_met(columns, cases, piece, stop, destination, &not_met, fails)
+            choice_is_met(columns, about, piece, stop, destination, &met, holds)
+                && choice_is_met(columns, about, piece, stop, destination, &not_met, fails)
         }
         ChoiceTree::Empty(multipliers) => refutes(columns as usize, frames, multipliers),
         ChoiceTree::NoStep(covers) => {
-            stop && no_step_is_met(columns, frames, piece.piece.location, cases, covers)
+            stop && no_step_is_met(columns, frames, piece.location(), about, covers)
         }
         ChoiceTree::Take {
             taken,
@@ -250,7 +255,7 @@ pub fn choice_is_met(
             refutations,
         } => take_is_met(
             columns,
-            cases,
+            about.list(),
             piece,
             destination,
             frames,

@@ -6,21 +6,22 @@ ghost use Rattle.tv_linear.specs.Covers.{ShownAt};
 ghost use Rattle.tv_linear.specs.Falls.{zero_row, fall_rows, fall_rows_at};
 ghost use Rattle.tv_refute.specs.Frames.{known_at};
 ghost use Rattle.tv_refute.specs.Built.{change_of};
+ghost use Rattle.tv_rows.specs.Views.{row_seen, rows_seen};
 
-use tv_linear::Row;
 use tv_refute::{Built, Change, Frames, refutes_denial, shown_rows};
+use tv_rows::{RowView, Rows};
 
 /// Whether the multipliers show that the changed row, less another and plus a number, is met.
-fn shows_less(
+pub fn shows_less(
     columns: usize,
     frames: &Frames,
     change: &Change,
-    new: &Row,
-    old: &Row,
+    new: RowView,
+    old: RowView,
     more: i128,
     multipliers: &[i64],
 ) -> bool
-    ensures { IsTrue result ↔ Refutes columns (known_at frames.now ++ denied (less (change_of change.now new.now) (given old.now) more) ∷ []) multipliers.now }
+    ensures { IsTrue result ↔ Refutes columns (known_at frames.now ++ denied (less (change_of change.now (row_seen new.entry)) (given (row_seen old.entry)) more) ∷ []) multipliers.now }
 {
     let first = Built::Given(new);
     let from = Built::Given(old);
@@ -44,8 +45,8 @@ fn shows_less(
 }
 
 /// Whether the multipliers show that the row is not below 0.
-fn shows_not_below(columns: usize, frames: &Frames, old: &Row, multipliers: &[i64]) -> bool
-    ensures { IsTrue result ↔ Refutes columns (known_at frames.now ++ denied (less (given zero_row) (given old.now) (pos 0)) ∷ []) multipliers.now }
+pub fn shows_not_below(columns: usize, frames: &Frames, old: RowView, multipliers: &[i64]) -> bool
+    ensures { IsTrue result ↔ Refutes columns (known_at frames.now ++ denied (less (given zero_row) (given (row_seen old.entry)) (pos 0)) ∷ []) multipliers.now }
 {
     let zero = Built::Zero;
     let from = Built::Given(old);
@@ -58,18 +59,18 @@ fn shown_fall_at(
     columns: usize,
     frames: &Frames,
     change: &Change,
-    old: &[Row],
-    new: &[Row],
+    old: Rows,
+    new: Rows,
     j: u32,
     lists: &[Vec<i64>],
 ) -> bool
-    ensures { IsTrue result ↔ ShownAt columns (known_at frames.now) (fall_rows_at (as_given old.now) (map (change_of change.now) new.now) j) (map (λ l. l.items) lists.now) }
+    ensures { IsTrue result ↔ ShownAt columns (known_at frames.now) (fall_rows_at (as_given (rows_seen old.entry)) (map (change_of change.now) (rows_seen new.entry)) j) (map (λ l. l.items) lists.now) }
 {
-    match old {
-        [] => false,
-        [f, before @ ..] => match new {
-            [] => false,
-            [g, after @ ..] => {
+    match old.split_first() {
+        None => false,
+        Some((f, before)) => match new.split_first() {
+            None => false,
+            Some((g, after)) => {
                 if j == 0 {
                     match lists {
                         [first, second] => {
@@ -105,12 +106,12 @@ pub fn shown_fall(
     columns: usize,
     frames: &Frames,
     change: &Change,
-    old: &[Row],
-    new: &[Row],
+    old: Rows,
+    new: Rows,
     j: u32,
     lists: &[Vec<i64>],
 ) -> bool
-    ensures { IsTrue result ↔ ShownAt columns (known_at frames.now) (fall_rows (as_given old.now) (map (change_of change.now) new.now) j) (map (λ l. l.items) lists.now) }
+    ensures { IsTrue result ↔ ShownAt columns (known_at frames.now) (fall_rows (as_given (rows_seen old.entry)) (map (change_of change.now) (rows_seen new.entry)) j) (map (λ l. l.items) lists.now) }
 {
     j > 0 && shown_fall_at(columns, frames, change, old, new, j - 1, lists)
 }

@@ -3,6 +3,7 @@ ghost use Rattle.std.specs.List.{flat_map};
 ghost use Rattle.tv_linear.specs.Known.{as_given, given};
 ghost use Rattle.tv_linear.specs.Covers.{Shown, IsMetCover};
 ghost use Rattle.tv_refute.specs.Frames.{known_at};
+ghost use Rattle.tv_rows.specs.Views.{rows_seen};
 ghost use Rattle.tv_cases.specs.Systems.{cases_of};
 ghost use Rattle.tv_cert.specs.Targets.{owed_into, owed_lists, no_fall};
 ghost use Rattle.tv_cert.specs.Listed.{pieces_list};
@@ -21,13 +22,14 @@ use tv_cases::{Case, Cases};
 use tv_cert::{Destination, Marked, Node, Owes, Pieces, Proof, joined_piece_at};
 use tv_linear::{ChoiceTree, CoverTree, Row};
 use tv_refute::{Change, Frames, Targets, cover_is_met, shown_rows};
+use tv_rows::Rows;
 
 /// Whether the lists show the rows as they are.
 fn given_rows_are_shown(columns: usize, frames: &Frames, rows: &[Row], lists: &[Vec<i64>]) -> bool
     ensures { IsTrue result ↔ Shown columns (known_at frames.now) (as_given rows.now) (map (λ l. l.items) lists.now) }
 {
     let change = Change::Kept;
-    shown_rows(columns, frames, &change, rows, lists)
+    shown_rows(columns, frames, &change, Rows::Each(rows), lists)
 }
 
 /// Lists of rows, which owe no fall.
@@ -83,8 +85,8 @@ impl Targets for Joined<'_> {
 }
 
 /// Whether the rows are covered by lists of rows.
-fn lists_are_covered(columns: u32, rows: &[Row], lists: &[Vec<Row>], tree: &CoverTree) -> bool
-    ensures { IsTrue result ↔ IsMetCover columns (owed_lists (map (λ l. l.items) lists.now)) (as_given rows.now) tree.now }
+fn lists_are_covered(columns: u32, rows: Rows, lists: &[Vec<Row>], tree: &CoverTree) -> bool
+    ensures { IsTrue result ↔ IsMetCover columns (owed_lists (map (λ l. l.items) lists.now)) (as_given (rows_seen rows.entry)) tree.now }
 {
     let end = Frames::End;
     let place = Frames::Rows { rows, above: &end };
@@ -94,12 +96,12 @@ fn lists_are_covered(columns: u32, rows: &[Row], lists: &[Vec<Row>], tree: &Cove
 /// Whether the rows are covered by the pieces of all nodes at a location.
 fn joined_are_covered(
     columns: u32,
-    rows: &[Row],
+    rows: Rows,
     location: u32,
     nodes: &[Node],
     tree: &CoverTree,
 ) -> bool
-    ensures { IsTrue result ↔ IsMetCover columns (owed_into (flat_map (λ a. a) (map pieces_list nodes.now)) location given no_fall) (as_given rows.now) tree.now }
+    ensures { IsTrue result ↔ IsMetCover columns (owed_into (flat_map (λ a. a) (map pieces_list nodes.now)) location given no_fall) (as_given (rows_seen rows.entry)) tree.now }
 {
     let end = Frames::End;
     let place = Frames::Rows { rows, above: &end };
@@ -118,9 +120,10 @@ fn step_is_judged(
 ) -> bool
     ensures { IsTrue result ↔ IsMetCover (columns + case.now.draws) (owed_into into.now case.now.to (case_change columns (case_view case.now)) (falls_where falls (case_change columns (case_view case.now)) piece.now)) (as_given (rows_of piece.now) ++ as_given (case_view case.now).guards) tree.now }
 {
-    let rows: &[Row] = &piece.piece.poly.rows;
+    let rows = piece.rows();
     if falls {
-        step_is_covered(columns, rows, case, into, Some(&piece.ranks), tree)
+        let ranks = piece.ranks();
+        step_is_covered(columns, rows, case, into, Some(ranks), tree)
     } else {
         step_is_covered(columns, rows, case, into, None, tree)
     }
@@ -138,12 +141,12 @@ fn choice_is_judged(
 {
     let end = Frames::End;
     let place = Frames::Rows {
-        rows: &piece.piece.poly.rows,
+        rows: piece.rows(),
         above: &end,
     };
     choice_is_met(
         about.variables(),
-        about.list(),
+        about,
         piece,
         stop,
         destination,
@@ -158,23 +161,19 @@ fn is_covered(about: &Cases, owes: &Owes, tree: &CoverTree) -> bool
 {
     let columns = about.variables();
     match owes {
-        Owes::Rows { piece, lists } => {
-            lists_are_covered(columns, &piece.piece.poly.rows, lists, tree)
-        }
-        Owes::Truth { piece, truth } => {
-            truth_is_covered(columns, &piece.piece.poly.rows, *truth, tree)
-        }
+        Owes::Rows { piece, lists } => { lists_are_covered(columns, piece.rows(), lists, tree) }
+        Owes::Truth { piece, truth } => { truth_is_covered(columns, piece.rows(), *truth, tree) }
         Owes::Pieces { piece, into } => rows_are_covered(
             columns,
-            &piece.piece.poly.rows,
-            piece.piece.location,
+            piece.rows(),
+            piece.location(),
             into,
             tree,
         ),
         Owes::Joined { piece, nodes } => joined_are_covered(
             columns,
-            &piece.piece.poly.rows,
-            piece.piece.location,
+            piece.rows(),
+            piece.location(),
             nodes,
             tree,
         ),

@@ -10,5 +10,6 @@ mod settler;
 mod steps;
 mod walking;
 
-pub use checking::check;
+pub use checking::{check, is_inside};
+pub use falls::{shows_less, shows_not_below};
 pub use walking::Failing;

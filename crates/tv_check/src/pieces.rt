@@ -5,26 +5,27 @@ ghost use Rattle.tv_linear.specs.Covers.{ShownAt};
 ghost use Rattle.tv_linear.specs.Falls.{fall_rows};
 ghost use Rattle.tv_refute.specs.Frames.{known_at};
 ghost use Rattle.tv_refute.specs.Built.{change_of};
+ghost use Rattle.tv_rows.specs.Views.{rows_seen};
 ghost use Rattle.tv_cert.specs.Targets.{owed_into, target_rows, no_fall};
 ghost use Rattle.tv_check.specs.Owes.{falls_of};
 
 use crate::falls::shown_fall;
 use tv_cert::{Mark, Marked, Pieces};
-use tv_linear::Row;
 use tv_refute::{Change, Frames, Targets, shown_rows};
+use tv_rows::Rows;
 
 /// Whether the lists show the changed rows of a piece and then the fall to its ranks.
 fn shown_piece(
     columns: usize,
     frames: &Frames,
     change: &Change,
-    rows: &[Row],
-    old: &[Row],
-    new: &[Row],
+    rows: Rows,
+    old: Rows,
+    new: Rows,
     j: u32,
     lists: &[Vec<i64>],
 ) -> bool
-    ensures { IsTrue result ↔ ShownAt columns (known_at frames.now) (option_map (λ falls. map (change_of change.now) rows.now ++ falls) (fall_rows (as_given old.now) (map (change_of change.now) new.now) j)) (map (λ l. l.items) lists.now) }
+    ensures { IsTrue result ↔ ShownAt columns (known_at frames.now) (option_map (λ falls. map (change_of change.now) (rows_seen rows.entry) ++ falls) (fall_rows (as_given (rows_seen old.entry)) (map (change_of change.now) (rows_seen new.entry)) j)) (map (λ l. l.items) lists.now) }
 {
     if lists.len() < rows.len() {
         return false;
@@ -42,7 +43,7 @@ pub struct Entered<'a> {
     pub pieces: &'a Pieces,
     pub location: u32,
     pub change: &'a Change<'a>,
-    pub ranks: Option<&'a [Row]>,
+    pub ranks: Option<Rows<'a>>,
 }
 
 impl Targets for Entered<'_> {
@@ -68,17 +69,17 @@ fn entered_is_shown(
     columns: usize,
     frames: &Frames,
     change: &Change,
-    ranks: Option<&[Row]>,
+    ranks: Option<Rows>,
     piece: &Marked,
     fall: u32,
     lists: &[Vec<i64>],
 ) -> bool
     ensures { IsTrue result ↔ ShownAt columns (known_at frames.now) (target_rows (change_of change.now) (falls_of (change_of change.now) ranks.entry) (Some piece.now) fall) (map (λ l. l.items) lists.now) }
 {
-    let rows = &piece.piece.poly.rows;
+    let rows = piece.rows();
     match ranks {
         None => fall == 0 && shown_rows(columns, frames, change, rows, lists),
-        Some(ranks) => match piece.mark {
+        Some(ranks) => match piece.mark() {
             Mark::Done => fall == 0 && shown_rows(columns, frames, change, rows, lists),
             Mark::Go => {
                 shown_piece(
@@ -87,7 +88,7 @@ fn entered_is_shown(
                     change,
                     rows,
                     ranks,
-                    &piece.ranks,
+                    piece.ranks(),
                     fall,
                     lists,
                 )

@@ -7,22 +7,24 @@ ghost use Rattle.tv_cert.specs.Pieces.{rows_of, place_of};
 ghost use Rattle.tv_cert.specs.Targets.{owed_into, owed_lists, no_fall};
 ghost use Rattle.tv_cert.specs.Obligations.{case_change, truth_targets};
 ghost use Rattle.tv_check.specs.Owes.{falls_of};
+ghost use Rattle.tv_rows.specs.Views.{rows_seen};
 
 use crate::pieces::{Entered, Standing};
 use tv_cases::Case;
 use tv_cert::Pieces;
-use tv_linear::{CoverTree, Row};
+use tv_linear::CoverTree;
 use tv_refute::{Change, Frames, Targets, Terms, cover_is_met};
+use tv_rows::Rows;
 
 /// Whether the rows are covered by the pieces at a location.
 pub fn rows_are_covered(
     columns: u32,
-    rows: &[Row],
+    rows: Rows,
     location: u32,
     into: &Pieces,
     tree: &CoverTree,
 ) -> bool
-    ensures { IsTrue result ↔ IsMetCover columns (owed_into into.now location given no_fall) (as_given rows.now) tree.now }
+    ensures { IsTrue result ↔ IsMetCover columns (owed_into into.now location given no_fall) (as_given (rows_seen rows.entry)) tree.now }
 {
     let end = Frames::End;
     let place = Frames::Rows { rows, above: &end };
@@ -37,13 +39,13 @@ pub fn rows_are_covered(
 /// from these ranks where there are some.
 pub fn step_is_covered(
     columns: u32,
-    rows: &[Row],
+    rows: Rows,
     case: &Case,
     into: &Pieces,
-    ranks: Option<&[Row]>,
+    ranks: Option<Rows>,
     tree: &CoverTree,
 ) -> bool
-    ensures { IsTrue result ↔ IsMetCover (columns + case.now.draws) (owed_into into.now case.now.to (case_change columns (case_view case.now)) (falls_of (case_change columns (case_view case.now)) ranks.entry)) (as_given rows.now ++ as_given (case_view case.now).guards) tree.now }
+    ensures { IsTrue result ↔ IsMetCover (columns + case.now.draws) (owed_into into.now case.now.to (case_change columns (case_view case.now)) (falls_of (case_change columns (case_view case.now)) ranks.entry)) (as_given (rows_seen rows.entry) ++ as_given (case_view case.now).guards) tree.now }
 {
     let terms = Terms::After {
         columns,
@@ -53,7 +55,7 @@ pub fn step_is_covered(
     let end = Frames::End;
     let known = Frames::Rows { rows, above: &end };
     let place = Frames::Rows {
-        rows: &case.guards.rows,
+        rows: Rows::Each(&case.guards.rows),
         above: &known,
     };
     let targets = Entered {
@@ -90,8 +92,8 @@ impl Targets for TruthTarget {
 }
 
 /// Whether the rows are covered by an atom that is true or false at their location.
-pub fn truth_is_covered(columns: u32, rows: &[Row], truth: bool, tree: &CoverTree) -> bool
-    ensures { IsTrue result ↔ IsMetCover columns (owed_lists (truth_targets truth)) (as_given rows.now) tree.now }
+pub fn truth_is_covered(columns: u32, rows: Rows, truth: bool, tree: &CoverTree) -> bool
+    ensures { IsTrue result ↔ IsMetCover columns (owed_lists (truth_targets truth)) (as_given (rows_seen rows.entry)) tree.now }
 {
     let end = Frames::End;
     let place = Frames::Rows { rows, above: &end };

@@ -14,8 +14,10 @@ use Rattle.tv_refute.proofs.Places.{get_or-map}
 use Rattle.tv_refute.specs.Built.{built}
 use Rattle.tv_refute.specs.Frames.{known_at}
 use Rattle.tv_refute.specs.declared.frames.Frames.{Frames}
-use Rattle.tv_refute.specs.declared.frames.Frames.TheVariants.{Rows, More}
+use Rattle.tv_refute.specs.declared.frames.Frames.TheVariants.{Rows as At, More}
 use Rattle.tv_refute.specs.declared.built.Built.{Built}
+use Rattle.tv_rows.specs.declared.rows.Rows.{Rows}
+use Rattle.tv_rows.specs.Views.{rows_seen}
 use Rattle.std.specs.Borrow.{Bor}
 
 -- ---- given rows
@@ -143,16 +145,16 @@ none_added column count ms rows old held = λ k l. (none_summed ms (map (number 
 
 -- ---- the parts at a frame
 module _ (frames : Frames) (ms : List ℤ) (many : length ms ≡ length (known_at frames)) where
-  pub at_rows : (rows : Bor (List Linear)) (above : Bor Frames) → frames ≡ Rows rows above → known_at frames ≡ known_at above.now ++ as_given rows.now
+  pub at_rows : (rows : Rows) (above : Bor Frames) → frames ≡ At rows above → known_at frames ≡ known_at above.now ++ as_given (rows_seen rows)
   at_rows rows above e = ap known_at e
 
-  pub rows_few : (rows : Bor (List Linear)) (above : Bor Frames) → frames ≡ Rows rows above → length rows.now ≤ length ms
-  rows_few rows above e = omega (arith, many, ap length (at_rows rows above e), length-append (known_at above.now) (as_given rows.now), length-map rows.now (λ r. given r))
+  pub rows_few : (rows : Rows) (above : Bor Frames) → frames ≡ At rows above → length (rows_seen rows) ≤ length ms
+  rows_few rows above e = omega (arith, many, ap length (at_rows rows above e), length-append (known_at above.now) (as_given (rows_seen rows)), length-map (rows_seen rows) (λ r. given r))
 
-  pub rows_many : (rows : Bor (List Linear)) (above : Bor Frames) → frames ≡ Rows rows above → length (take (length ms - length rows.now) ms) ≡ length (known_at above.now)
-  rows_many rows above e = omega (arith, length-take {A = ℤ}, many, ap length (at_rows rows above e), length-append (known_at above.now) (as_given rows.now), length-map rows.now (λ r. given r))
+  pub rows_many : (rows : Rows) (above : Bor Frames) → frames ≡ At rows above → length (take (length ms - length (rows_seen rows)) ms) ≡ length (known_at above.now)
+  rows_many rows above e = omega (arith, length-take {A = ℤ}, many, ap length (at_rows rows above e), length-append (known_at above.now) (as_given (rows_seen rows)), length-map (rows_seen rows) (λ r. given r))
 
-  pub rows_after : (rows : Bor (List Linear)) (above : Bor Frames) → frames ≡ Rows rows above → length (drop (length ms - length rows.now) ms) ≡ length rows.now
+  pub rows_after : (rows : Rows) (above : Bor Frames) → frames ≡ At rows above → length (drop (length ms - length (rows_seen rows)) ms) ≡ length (rows_seen rows)
   rows_after rows above e = omega (arith, length-drop {A = ℤ}, rows_few rows above e)
 
   pub at_more : (row : Bor Built) (above : Bor Frames) → frames ≡ More row above → known_at frames ≡ known_at above.now ++ built row.now ∷ []

@@ -4,12 +4,13 @@ ghost use Rattle.std.specs.Prelude.{◌≡◌, ◌≤◌, ◌<◌, pos, ◌+ℤ�
 ghost use Rattle.tv_linear.specs.Known.{number, kept, term_number, given};
 ghost use Rattle.tv_refute.specs.Blocks.{further, AreTold, IsAddedHeld, AreHeld, TermsHeld, terms_sum};
 ghost use Rattle.tv_refute.specs.Terms.{terms_of};
+ghost use Rattle.tv_rows.specs.Views.{row_seen};
 
 use crate::addends::{Listed, Same, add_each};
 use crate::steps::{Put, PutSame, at, change_each};
 use crate::terms::{Terms, row_put, term_count};
-use tv_linear::Row;
 use tv_linear::held::add_product;
+use tv_rows::RowView;
 
 /// What is left from a place on.
 fn tail(numbers: &[i64], from: usize) -> &[i64]
@@ -24,10 +25,15 @@ fn tail(numbers: &[i64], from: usize) -> &[i64]
 }
 
 /// Puts the numbers of a row from a column on, or its constant.
-pub(crate) fn put_row(row: &Row, column: Option<usize>, count: usize, numbers: &mut [i128]) -> bool
+pub(crate) fn put_row(
+    row: RowView,
+    column: Option<usize>,
+    count: usize,
+    numbers: &mut [i128],
+) -> bool
     requires { count ≤ length numbers.old }
     ensures size { length numbers.new ≡ length numbers.old }
-    ensures told { AreTold result count (λ k. Unit {0}) (λ k. number (further column k) row.now) numbers.new }
+    ensures told { AreTold result count (λ k. Unit {0}) (λ k. number (further column k) (row_seen row.entry)) numbers.new }
 {
     match column {
         None => change_each(numbers, count, &PutSame(row.constant())),
@@ -35,24 +41,21 @@ pub(crate) fn put_row(row: &Row, column: Option<usize>, count: usize, numbers: &
     }
 }
 
-/// Adds the products of a factor and the numbers of a row from a column on, or its constant. A factor 0 costs nothing.
+/// Adds the products of a factor and the numbers of a row from a column on, or its constant.
 pub(crate) fn add_row(
     totals: &mut [i128],
     count: usize,
     factor: i128,
-    row: &Row,
+    row: RowView,
     column: Option<usize>,
 ) -> bool
     requires size { count ≤ length totals.old }
     requires held { AreHeld count totals.old }
     ensures size { length totals.new ≡ length totals.old }
     ensures told { AreTold result count
-        (λ k. IsAddedHeld (get_or totals.old k (pos 0)) factor (number (further column k) row.now))
-        (λ k. get_or totals.old k (pos 0) +ℤ factor *ℤ number (further column k) row.now) totals.new }
+        (λ k. IsAddedHeld (get_or totals.old k (pos 0)) factor (number (further column k) (row_seen row.entry)))
+        (λ k. get_or totals.old k (pos 0) +ℤ factor *ℤ number (further column k) (row_seen row.entry)) totals.new }
 {
-    if factor == 0 {
-        return true;
-    }
     match column {
         None => add_each(totals, count, factor, &Same(row.constant())),
         Some(j) => add_each(totals, count, factor, &Listed(tail(row.coefficients(), j))),
@@ -113,14 +116,14 @@ pub(crate) fn add_term(
     }
     match row_put(terms, v) {
         None => add_kept(totals, count, factor, v, column),
-        Some(row) => add_row(totals, count, factor, row, column),
+        Some(row) => add_row(totals, count, factor, RowView::of(row), column),
     }
 }
 
 /// Puts the sums over the terms that are put in for the columns of a row. A term is passed where the row's number
 /// is 0.
 pub(crate) fn compose_row(
-    row: &Row,
+    row: RowView,
     terms: &Terms,
     column: Option<usize>,
     count: usize,
@@ -128,7 +131,7 @@ pub(crate) fn compose_row(
 ) -> bool
     requires { count ≤ length totals.old }
     ensures size { length totals.new ≡ length totals.old }
-    ensures told { let k = given row.now in let ts = terms_of terms.now in AreTold result count
+    ensures told { let k = given (row_seen row.entry) in let ts = terms_of terms.now in AreTold result count
         (λ i. TermsHeld k ts (further column i)) (λ i. terms_sum k ts (further column i)) totals.new }
 {
     change_each(totals, count, &PutSame(0));

@@ -7,14 +7,14 @@ ghost use Rattle.tv_refute.specs.Terms.{terms_of};
 use crate::blocks::{add_term, compose_row, put_row};
 use crate::steps::{Deny, Lessen, PutSame, SameMore, change_each};
 use crate::terms::{Terms, term_count};
-use tv_linear::Row;
+use tv_rows::RowView;
 
 /// A row by how it is made. It is never built: its numbers are read one by one.
 #[derive(Drop)]
 pub enum Built<'a> {
     /// The row without columns whose constant is 0.
     Zero,
-    Given(&'a Row),
+    Given(RowView<'a>),
     /// `1 - r`.
     Denied(&'a Built<'a>),
     /// The terms put in for the columns.
@@ -57,7 +57,7 @@ pub(crate) fn read_numbers(
 {
     match known {
         Built::Zero => change_each(numbers, count, &PutSame(0)),
-        Built::Given(row) => put_row(row, column, count, numbers),
+        Built::Given(row) => put_row(*row, column, count, numbers),
         Built::Denied(inner) => {
             if !read_numbers(inner, column, count, numbers) {
                 return false;
@@ -147,7 +147,7 @@ fn compose(
         (λ i. TermsHeld k ts (further column i)) (λ i. terms_sum k ts (further column i)) totals.new }
 {
     if let Built::Given(row) = inner {
-        return compose_row(row, terms, column, count, totals);
+        return compose_row(*row, terms, column, count, totals);
     }
     change_each(totals, count, &PutSame(0));
     let places = term_count(terms);

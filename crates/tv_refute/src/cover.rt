@@ -8,6 +8,7 @@ use crate::built::Built;
 use crate::frames::Frames;
 use crate::refute::refutes;
 use tv_linear::CoverTree;
+use tv_rows::RowView;
 
 /// What a cover leads into.
 pub trait Targets {
@@ -39,7 +40,7 @@ pub fn cover_is_met<T: Targets>(
 {
     match tree {
         CoverTree::Split(row, holds, fails) => {
-            let known = Built::Given(row);
+            let known = Built::Given(RowView::of(row));
             let denied = Built::Denied(&known);
             let met = Frames::More {
                 row: &known,

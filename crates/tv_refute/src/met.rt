@@ -1,8 +1,9 @@
 ghost use Rattle.std.specs.Prelude.{◌≡◌, ◌+◌, ◌^◌, ◌<◌, ◌≤◌, ◌↔◌, ◌+ℤ◌, ◌*ℤ◌, ◌≤ℤ◌, ◌<ℤ◌, pos, length, unsigned_abs, IsTrue};
 ghost use Rattle.tv_linear.specs.Linear.{columns, IsWithin, IsMet};
 ghost use Rattle.tv_refute.specs.Wide.{whole, whole_of, IsSmall};
+ghost use Rattle.tv_rows.specs.Views.{row_seen};
 
-use tv_linear::Row;
+use tv_rows::RowView;
 
 const PART: i128 = 1 << 62;
 
@@ -15,9 +16,9 @@ struct Wide {
 }
 
 /// Whether numbers meet a row. What is added up may leave `i128`.
-pub fn meets(values: &[i128], row: &Row) -> bool
-    requires { length values.now ≡ columns row.now }
-    ensures { IsTrue result ↔ IsMet values.now row.now }
+pub fn meets(values: &[i128], row: RowView) -> bool
+    requires { length values.now ≡ columns (row_seen row) }
+    ensures { IsTrue result ↔ IsMet values.now (row_seen row.entry) }
 {
     let coefficients = row.coefficients();
     let mut total = Wide {

@@ -5,12 +5,13 @@ ghost use Rattle.tv_linear.specs.Covers.{Shown};
 ghost use Rattle.tv_refute.specs.Built.{change_of};
 ghost use Rattle.tv_refute.specs.Frames.{known_at};
 ghost use Rattle.tv_refute.specs.Points.{Imply, ImplyAll};
+ghost use Rattle.tv_rows.specs.Views.{row_seen, rows_seen};
 
 use crate::built::Built;
 use crate::frames::Frames;
 use crate::refute::refutes_denial;
 use crate::terms::Terms;
-use tv_linear::Row;
+use tv_rows::{RowView, Rows};
 
 /// How the rows of a target are changed before they are shown: terms are put in for their columns, once or
 /// twice.
@@ -26,12 +27,12 @@ pub fn shows(
     columns: usize,
     frames: &Frames,
     change: &Change,
-    row: &Row,
+    row: RowView,
     multipliers: &[i64],
 ) -> bool
-    ensures exact { let rows = known_at frames.now ++ denied (change_of change.now row.now) ∷ [] in
+    ensures exact { let rows = known_at frames.now ++ denied (change_of change.now (row_seen row.entry)) ∷ [] in
         IsTrue result ↔ Refutes columns rows multipliers.now }
-    ensures sound { IsTrue result → Imply columns (known_at frames.now) (change_of change.now row.now) }
+    ensures sound { IsTrue result → Imply columns (known_at frames.now) (change_of change.now (row_seen row.entry)) }
 {
     let first = Built::Given(row);
     match change {
@@ -53,19 +54,19 @@ pub fn shown_rows(
     columns: usize,
     frames: &Frames,
     change: &Change,
-    owed: &[Row],
+    owed: Rows,
     lists: &[Vec<i64>],
 ) -> bool
     ensures exact { IsTrue result ↔ Shown columns (known_at frames.now)
-        (map (change_of change.now) owed.now) (map (λ l. l.items) lists.now) }
+        (map (change_of change.now) (rows_seen owed.entry)) (map (λ l. l.items) lists.now) }
     ensures sound { IsTrue result →
-        ImplyAll columns (known_at frames.now) (map (change_of change.now) owed.now) }
+        ImplyAll columns (known_at frames.now) (map (change_of change.now) (rows_seen owed.entry)) }
 {
     if owed.len() != lists.len() {
         return false;
     }
     for (i, multipliers) in lists.iter().enumerate() {
-        if !shows(columns, frames, change, &owed[i], multipliers) {
+        if !shows(columns, frames, change, owed.row(i), multipliers) {
             return false;
         }
     }

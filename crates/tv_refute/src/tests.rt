@@ -5,6 +5,7 @@ use super::*;
 use std::alloc::Global;
 use std::test::Fail;
 use tv_linear::{CoverTree, Row, Update};
+use tv_rows::{RowView, Rows};
 
 fn row(alloc: Global, coefficients: &[i128], constant: i128) -> Result<Row, Fail>
     requires { length coefficients.now < 2 ^ 32 - 1 }
@@ -44,11 +45,11 @@ fn the_counter_stays_at_most_five(rt: HostRuntime) -> Result<(), Fail> {
     })?;
     let end = Frames::End;
     let rows = Frames::Rows {
-        rows: &piece,
+        rows: Rows::Each(&piece),
         above: &end,
     };
     let place = Frames::Rows {
-        rows: &guards,
+        rows: Rows::Each(&guards),
         above: &rows,
     };
     let after = Terms::After {
@@ -64,11 +65,25 @@ fn the_counter_stays_at_most_five(rt: HostRuntime) -> Result<(), Fail> {
         ([0, 0, 0], false),
     ] {
         assert_eq!(rt;
-            shows(1, &place, &Change::Once(&after), &owed, &multipliers),
+            shows(
+                1,
+                &place,
+                &Change::Once(&after),
+                RowView::of(&owed),
+                &multipliers
+            ),
             shown
         );
     }
-    assert!(rt; !shows(1, &place, &Change::Once(&after), &owed, &[1, 1]));
+    assert!(rt;
+        !shows(
+            1,
+            &place,
+            &Change::Once(&after),
+            RowView::of(&owed),
+            &[1, 1]
+        )
+    );
     Ok(())
 }
 
@@ -79,11 +94,11 @@ fn covers_are_met(rt: HostRuntime) -> Result<(), Fail> {
     let above = one_row(alloc, -1, 6)?;
     let end = Frames::End;
     let rows = Frames::Rows {
-        rows: &below,
+        rows: Rows::Each(&below),
         above: &end,
     };
     let place = Frames::Rows {
-        rows: &above,
+        rows: Rows::Each(&above),
         above: &rows,
     };
     assert!(rt; refutes(1, &place, &[1, 1]));
@@ -125,8 +140,8 @@ fn values_have_no_bound(rt: HostRuntime) -> Result<(), Fail> {
     let most = (1 << 62) - 1;
     let nine = row(alloc, &[most; 9], 0)?;
     assert_eq!(rt; nine.columns(), 9);
-    assert!(rt; !meets(&[most; 9], &nine));
-    assert!(rt; meets(&[-most; 9], &nine));
+    assert!(rt; !meets(&[most; 9], RowView::of(&nine)));
+    assert!(rt; meets(&[-most; 9], RowView::of(&nine)));
     let two = row(alloc, &[most, -most], 0)?;
     assert_eq!(rt; two.columns(), 2);
     for (values, met) in [
@@ -134,7 +149,7 @@ fn values_have_no_bound(rt: HostRuntime) -> Result<(), Fail> {
         ([i128::MAX, i128::MAX - 1], false),
         ([i128::MIN, i128::MAX], true),
     ] {
-        assert_eq!(rt; meets(&values, &two), met);
+        assert_eq!(rt; meets(&values, RowView::of(&two)), met);
     }
     Ok(())
 }

@@ -8,19 +8,18 @@ use Rattle.tv_formula.specs.declared.tree.Path.{Path}
 use Rattle.tv_formula.specs.declared.tree.Path.TheVariants.{Every, Any}
 use Rattle.tv_formula.specs.declared.tree.Shape.{Shape}
 use Rattle.tv_formula.specs.declared.tree.Shape.TheVariants.{Until, Weak, Release, Strong}
-use Rattle.tv_cases.specs.LinearCases.{LinearCase, CaseSystem}
+use Rattle.tv_cases.specs.LinearCases.{LinearCase, CaseSystem, leaving}
 use Rattle.tv_cert.specs.declared.node.Kind.{Kind}
 use Rattle.tv_cert.specs.declared.node.Kind.TheVariants as kind
 use Rattle.tv_cert.specs.declared.node.Marked.{Marked}
 use Rattle.tv_cert.specs.Pieces.{place_of, goes}
-use Rattle.tv_cert.specs.Choices.{cases_from}
 use Rattle.tv_cert.specs.Obligations.{About, Obligation, cover_of, step_of, steps_of, choice_of, hold_side, end_sides, go_of, fix_of, first_of, second_of, step_fall}
 use Rattle.tv_cert.specs.Targets.{owed_nothing, no_fall}
 use Rattle.tv_cert.specs.Plain.{about_of}
 use Rattle.tv_cert.specs.Statements.{Statement, rows, here, elsewhere, ends, never_ends, each_of, one_of, after, along, unsaid}
 use Rattle.tv_cert.specs.Said.{said_at, said_own}
 
-abbrev renumbered : ℕ → Obligation → Obligation
+abbrev pub renumbered : ℕ → Obligation → Obligation
 renumbered n o = record { node = n; kind = o.kind; owed = o.owed }
 
 map_twice : {A B C : Type 0} (g : B → C) (f : A → B) (xs : List A) → map (λ x. g (f x)) xs ≡ map g (map f xs)
@@ -32,7 +31,7 @@ map_joined g [] ys = refl
 map_joined g (x ∷ xs) ys = ap (λ zs. g x ∷ zs) (map_joined g xs ys)
 
 steps_renumbered : (n : ℕ) (about : About) (p : Marked) (into : List Marked) (fall : LinearCase → _) → steps_of n about p into fall ≡ map (renumbered n) (steps_of 0 about p into fall)
-steps_renumbered n about p into fall = map_twice (renumbered n) (step_of 0 about p into fall) (cases_from (place_of p) about.system.cases)
+steps_renumbered n about p into fall = map_twice (renumbered n) (step_of 0 about p into fall) (leaving (place_of p) about.system.cases)
 
 covers_renumbered : (n : ℕ) (k : Kind) (about : About) (p : Marked) (kids : List (List Marked)) → map (cover_of n k about p) kids ≡ map (renumbered n) (map (cover_of 0 k about p) kids)
 covers_renumbered n k about p kids = map_twice (renumbered n) (cover_of 0 k about p) kids
@@ -68,7 +67,7 @@ each_renumbered : (n : ℕ) (f g : Marked → List Obligation) → ((p : Marked)
 each_renumbered n f g same [] = refl
 each_renumbered n f g same (p ∷ ps) = (λ i. same p i ++ each_renumbered n f g same ps i) ∙ sym (map_joined (renumbered n) (g p) (flat_map g ps))
 
-own_renumbered : (n : ℕ) (system : CaseSystem) (s : Statement) (ps : List Marked) (kids : List (List Marked)) → said_own n system s ps kids ≡ map (renumbered n) (said_own 0 system s ps kids)
+pub own_renumbered : (n : ℕ) (system : CaseSystem) (s : Statement) (ps : List Marked) (kids : List (List Marked)) → said_own n system s ps kids ≡ map (renumbered n) (said_own 0 system s ps kids)
 own_renumbered n system s ps kids = each_renumbered n (said_at n system s ps kids) (said_at 0 system s ps kids) (at_renumbered n system s ps kids) ps
 
 -- there are as many obligations, whatever the number

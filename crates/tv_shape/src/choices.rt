@@ -2,18 +2,20 @@ ghost use Rattle.std.specs.Prelude.{◌≡◌, ◌↔◌, ◌+◌, ◌<◌, ◌^
 ghost use Rattle.std.specs.Option.{option_map};
 ghost use Rattle.tv_linear.specs.ChoiceDepth.{choice_splits};
 ghost use Rattle.tv_linear.specs.Linear.{Linear};
+ghost use Rattle.tv_linear.specs.Covers.{no_target};
+ghost use Rattle.tv_cases.specs.LinearCases.{leaving};
+ghost use Rattle.tv_cases.specs.Systems.{cases_of};
 ghost use Rattle.tv_cases.specs.Views.{case_view, case_views};
-ghost use Rattle.tv_cert.specs.Choices.{cases_from};
 ghost use Rattle.tv_cert.specs.Owing.{destination_owes};
-ghost use Rattle.tv_cert.specs.Shapes.{ChoiceShape, NoStepShape, TakeShape, owed_count};
+ghost use Rattle.tv_cert.specs.Shapes.{ChoiceShape, CoverShape, NoStepShape, TakeShape, owed_count};
 ghost use Rattle.tv_shape.specs.Counts.{counts_of, AreFew, AreFewAt};
 
-use crate::columns::have_columns;
 use crate::covers::{cover_has_shape, have_length};
 use crate::targets::{Targets, pieces_into};
-use tv_cases::Case;
+use tv_cases::{Case, Cases};
 use tv_cert::{Destination, Marked};
 use tv_linear::{ChoiceTree, Cover, Row};
+use tv_rows::have_columns;
 
 /// Where a choice leads by a case.
 pub fn taken_into<'a>(piece: &'a Marked, case: &Case, destination: &Destination<'a>) -> Targets<'a>
@@ -80,58 +82,62 @@ fn take_has_shape(
     }
 }
 
+/// Whether the cover has the shape of one without targets of the place and the guards of the case.
+fn stop_has_shape(columns: u32, known: u128, case: &Case, cover: &Cover) -> bool
+    requires { known < 2 ^ 65 }
+    ensures { IsTrue result ↔ CoverShape (columns + case.now.draws) (owed_count no_target) (known + length (case_view case.now).guards) cover.now }
+{
+    let wide = columns as usize + case.draws as usize;
+    let guarded = known + case.guards.rows.len() as u128;
+    cover_has_shape(cover.tree(), wide, guarded, &Targets::Nowhere)
+}
+
 /// Whether there is a cover without targets for each case from the location.
 fn no_step_has_shape(
     columns: u32,
     known: u128,
     location: u32,
-    cases: &[Case],
+    about: &Cases,
     covers: &[Cover],
 ) -> bool
     requires { known < 2 ^ 65 }
-    ensures { IsTrue result ↔ NoStepShape columns known (cases_from location (case_views cases.now)) covers.now }
+    ensures { IsTrue result ↔ NoStepShape columns known (leaving location (cases_of about.now).cases) covers.now }
 {
-    match cases {
-        [] => covers.is_empty(),
-        [case, later @ ..] => {
-            if case.from != location {
-                return no_step_has_shape(columns, known, location, later, covers);
-            }
-            match covers {
-                [] => false,
-                [cover, rest @ ..] => {
-                    let wide = columns as usize + case.draws as usize;
-                    let guarded = known + case.guards.rows.len() as u128;
-                    cover_has_shape(cover.tree(), wide, guarded, &Targets::Nowhere)
-                        && no_step_has_shape(columns, known, location, later, rest)
-                }
-            }
+    let mut k = 0;
+    'cases: while let Some(case) = about.leaving(location, k) {
+        let Some(cover) = covers.get(k) else {
+            return false;
+        };
+        if !stop_has_shape(columns, known, case, cover) {
+            return false;
         }
+        k += 1;
     }
+    covers.len() <= k
 }
 
 /// Whether the choice has the shape that is owed at a place with so many known rows.
 pub fn choice_has_shape(
     tree: &ChoiceTree,
     columns: u32,
-    cases: &[Case],
+    about: &Cases,
     piece: &Marked,
     stop: bool,
     destination: &Destination,
     known: u128,
 ) -> bool
     requires { known + choice_splits tree.now < 2 ^ 65 }
-    ensures { IsTrue result ↔ ChoiceShape columns (case_views cases.now) piece.now.piece.location stop (destination_owes columns piece.now destination.now) known tree.now }
+    ensures { IsTrue result ↔ ChoiceShape columns (cases_of about.now).cases piece.now.location stop (destination_owes columns piece.now destination.now) known tree.now }
 {
     match tree {
         ChoiceTree::Split(row, holds, fails) => {
             row.columns() == columns
-                && choice_has_shape(holds, columns, cases, piece, stop, destination, known + 1)
-                && choice_has_shape(fails, columns, cases, piece, stop, destination, known + 1)
+                && choice_has_shape(holds, columns, about, piece, stop, destination, known + 1)
+                && choice_has_shape(fails, columns, about, piece, stop, destination, known + 1)
         }
         ChoiceTree::Empty(multipliers) => multipliers.len() as u128 == known,
         ChoiceTree::NoStep(covers) => {
-            stop && no_step_has_shape(columns, known, piece.piece.location, cases, covers)
+            stop && no_step_has_shape(columns, known, piece.location(), about, covers)
         }
         ChoiceTree::Take {
             taken,
@@ -141,7 +147,7 @@ pub fn choice_has_shape(
             refutations,
         } => take_has_shape(
             columns,
-            cases,
+            about.list(),
             piece,
             destination,
             known,

@@ -4,7 +4,6 @@
 mod amounts;
 mod certificate;
 mod choices;
-mod columns;
 mod covers;
 mod depths;
 mod fault;

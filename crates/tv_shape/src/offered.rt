@@ -22,22 +22,22 @@ fn cover_is_owed(about: &Cases, owes: &Owes, tree: &CoverTree) -> bool
     let columns = about.variables() as usize;
     match owes {
         Owes::Rows { piece, lists } => {
-            let known = piece.piece.poly.rows.len() as u128;
+            let known = piece.rows().len() as u128;
             cover_has_shape(tree, columns, known, &Targets::Lists(lists))
         }
         Owes::Truth { piece, truth } => {
-            let known = piece.piece.poly.rows.len() as u128;
+            let known = piece.rows().len() as u128;
             cover_has_shape(tree, columns, known, &Targets::Truth(*truth))
         }
         Owes::Pieces { piece, into } => {
-            let known = piece.piece.poly.rows.len() as u128;
-            let location = piece.piece.location;
+            let known = piece.rows().len() as u128;
+            let location = piece.location();
             let targets = pieces_into(piece, into, location, false);
             cover_has_shape(tree, columns, known, &targets)
         }
         Owes::Joined { piece, nodes } => {
-            let known = piece.piece.poly.rows.len() as u128;
-            let location = piece.piece.location;
+            let known = piece.rows().len() as u128;
+            let location = piece.location();
             cover_has_shape(tree, columns, known, &Targets::Joined { nodes, location })
         }
         Owes::Step {
@@ -46,7 +46,7 @@ fn cover_is_owed(about: &Cases, owes: &Owes, tree: &CoverTree) -> bool
             into,
             falls,
         } => {
-            let known = piece.piece.poly.rows.len() as u128 + case.guards.rows.len() as u128;
+            let known = piece.rows().len() as u128 + case.guards.rows.len() as u128;
             let targets = pieces_into(piece, into, case.to, *falls);
             cover_has_shape(tree, columns + case.draws as usize, known, &targets)
         }
@@ -67,11 +67,11 @@ fn choice_is_owed(about: &Cases, owes: &Owes, tree: &ChoiceTree) -> bool
         } => choice_has_shape(
             tree,
             about.variables(),
-            about.list(),
+            about,
             piece,
             *stop,
             destination,
-            piece.piece.poly.rows.len() as u128,
+            piece.rows().len() as u128,
         ),
         _ => false,
     }

@@ -3,7 +3,6 @@ ghost use Rattle.tv_cases.specs.Systems.{cases_of};
 ghost use Rattle.tv_cert.specs.Pieces.{ranks_of, goes};
 ghost use Rattle.tv_cert.specs.Shapes.{PieceShape};
 
-use crate::columns::have_columns;
 use tv_cases::Cases;
 use tv_cert::{Mark, Marked};
 
@@ -11,9 +10,9 @@ use tv_cert::{Mark, Marked};
 fn mark_has_ranks(piece: &Marked, ranks: u32, done: bool) -> bool
     ensures { IsTrue result ↔ ((length (ranks_of piece.now) ≡ (if goes piece.now then ranks else 0)) × (done ≡ false → goes piece.now ≡ true)) }
 {
-    match piece.mark {
-        Mark::Go => piece.ranks.len() == ranks as usize,
-        Mark::Done => done && piece.ranks.is_empty(),
+    match piece.mark() {
+        Mark::Go => piece.ranks().len() == ranks as usize,
+        Mark::Done => done && piece.ranks().is_empty(),
     }
 }
 
@@ -21,10 +20,7 @@ fn mark_has_ranks(piece: &Marked, ranks: u32, done: bool) -> bool
 pub fn piece_has_shape(about: &Cases, piece: &Marked, ranks: u32, done: bool) -> bool
     ensures { IsTrue result ↔ PieceShape (cases_of about.now) ranks done piece.now }
 {
-    let wide = about.variables();
-    piece.piece.location < about.locations()
-        && piece.piece.poly.columns == wide
-        && have_columns(&piece.piece.poly.rows, wide)
-        && have_columns(&piece.ranks, wide)
+    piece.location() < about.locations()
+        && piece.columns() == about.variables()
         && mark_has_ranks(piece, ranks, done)
 }

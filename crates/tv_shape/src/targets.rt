@@ -9,9 +9,11 @@ ghost use Rattle.tv_cert.specs.Shapes.{owed_count};
 ghost use Rattle.tv_cert.specs.Targets.{target_rows, owed_into, no_fall};
 ghost use Rattle.tv_cert.specs.declared.node.Marked.{Marked};
 ghost use Rattle.tv_shape.specs.Counts.{counts_of, falls_past, AreFew};
+ghost use Rattle.tv_rows.specs.Views.{rows_seen};
 
 use tv_cert::{Mark, Marked, Node, Pieces, joined_piece_at};
 use tv_linear::Row;
+use tv_rows::Rows;
 
 /// What a cover or a choice leads into.
 #[derive(Drop)]
@@ -63,16 +65,16 @@ pub fn pieces_into<'a>(
 }
 
 /// Whether there is a fall at this place, from 1, from ranks to others.
-fn has_fall(old: &[Row], new: &[Row], fall: u32) -> bool
-    ensures { IsTrue result ↔ ((1 ≤ fall) × (fall ≤ length old.now) × (fall ≤ length new.now)) }
+fn has_fall(old: Rows, new: Rows, fall: u32) -> bool
+    ensures { IsTrue result ↔ ((1 ≤ fall) × (fall ≤ length (rows_seen old.entry)) × (fall ≤ length (rows_seen new.entry))) }
 {
     let place = fall as usize;
     place >= 1 && place <= old.len() && place <= new.len()
 }
 
 /// How many rows a fall owes from ranks to others.
-fn fall_owes(old: &[Row], new: &[Row], fall: u32) -> Option<usize>
-    ensures rows { result ≡ option_map length (fall_rows (as_given old.now) (map given new.now) fall) }
+fn fall_owes(old: Rows, new: Rows, fall: u32) -> Option<usize>
+    ensures rows { result ≡ option_map length (fall_rows (as_given (rows_seen old.entry)) (map given (rows_seen new.entry)) fall) }
     ensures small { IfSome result (λ n. n < 2 ^ 33) }
 {
     if has_fall(old, new, fall) {
@@ -97,8 +99,8 @@ fn entering_owes(from: Option<&Marked>, piece: &Marked, fall: u32) -> Option<usi
 {
     match from {
         None => no_fall_owes(fall),
-        Some(left) => match piece.mark {
-            Mark::Go => fall_owes(&left.ranks, &piece.ranks, fall),
+        Some(left) => match piece.mark() {
+            Mark::Go => fall_owes(left.ranks(), piece.ranks(), fall),
             Mark::Done => no_fall_owes(fall),
         },
     }
@@ -109,7 +111,7 @@ fn piece_owes(from: Option<&Marked>, piece: &Marked, fall: u32) -> Option<usize>
     ensures { result ≡ option_map length (target_rows given (falls_past given from.entry) (Some piece.now) fall) }
 {
     match entering_owes(from, piece, fall) {
-        Some(falls) => Some(piece.piece.poly.rows.len() + falls),
+        Some(falls) => Some(piece.rows().len() + falls),
         None => None,
     }
 }

@@ -12,7 +12,7 @@ use std::test::Fail;
 use tv_cases::cases;
 use tv_cert::{Claim, Mark, Marked, Node, Pieces, Proof, Verdict};
 use tv_formula::{Formula, termination, unreachable};
-use tv_linear::{Choice, ChoiceTree, Cover, CoverTree, Piece, Poly, Row};
+use tv_linear::{Choice, ChoiceTree, Cover, CoverTree, Row};
 use tv_lines::NodeKind;
 use tv_program::{Command, Cond, Edge, Expr, Names, Program, Relation};
 
@@ -163,13 +163,16 @@ fn into(alloc: Global, target: u32, fall: u32, of: &[&[i64]]) -> Result<Cover, F
     Ok(cover)
 }
 
-fn piece(alloc: Global, location: u32, mark: Mark, rows: Vec<Row>, ranks: Vec<Row>) -> Marked {
-    let poly = Poly { columns: 1, rows };
-    Marked {
-        piece: Piece { location, poly },
-        mark,
-        ranks,
-    }
+fn piece(
+    alloc: Global,
+    location: u32,
+    mark: Mark,
+    rows: Vec<Row>,
+    ranks: Vec<Row>,
+) -> Result<Marked, Fail> {
+    let made = Marked::from_rows(alloc, location, mark, 1, &rows, &ranks)?;
+    let piece = made.ok_or("columns")?;
+    Ok(piece)
 }
 
 /// The node of a countdown, by what is told of its first piece and the proof of its first step.
@@ -198,8 +201,8 @@ fn drawn(alloc: Global, sketch: Sketch) -> Result<Node, Fail> {
     second.push(term(alloc, 0, 0)?)?;
     second.push(term(alloc, 1, 0)?)?;
     let mut pieces = Vec::new(alloc);
-    pieces.push(piece(alloc, sketch.location, sketch.mark, Vec::new(alloc), first))?;
-    pieces.push(piece(alloc, 1, Mark::Go, Vec::new(alloc), second))?;
+    pieces.push(piece(alloc, sketch.location, sketch.mark, Vec::new(alloc), first)?)?;
+    pieces.push(piece(alloc, 1, Mark::Go, Vec::new(alloc), second)?)?;
     let mut proofs = Vec::new(alloc);
     proofs.push(Proof::Covered(into(alloc, 0, sketch.fall, sketch.shown)?))?;
     proofs.push(Proof::Covered(into(alloc, 0, 2, &[&[0, 1], &[0, 1], &[1, 1]])?))?;
@@ -307,7 +310,7 @@ fn climbing(alloc: Global, of: &[&[i64]]) -> Result<Node, Fail> {
     for location in 0..2 {
         let mut rows = Vec::new(alloc);
         rows.push(term(alloc, -1, 1)?)?;
-        pieces.push(piece(alloc, location, Mark::Go, rows, Vec::new(alloc)))?;
+        pieces.push(piece(alloc, location, Mark::Go, rows, Vec::new(alloc))?)?;
     }
     let mut proofs = Vec::new(alloc);
     proofs.push(take(alloc, 0, &[&[1, 1]])?)?;
@@ -399,7 +402,7 @@ fn elsewhere(alloc: Global, ranks: u32) -> Result<Node, Fail> {
     let mut pieces = Vec::new(alloc);
     let mut proofs = Vec::new(alloc);
     for location in 0..2 {
-        pieces.push(piece(alloc, location, Mark::Go, Vec::new(alloc), Vec::new(alloc)))?;
+        pieces.push(piece(alloc, location, Mark::Go, Vec::new(alloc), Vec::new(alloc))?)?;
         proofs.push(Proof::Covered(into(alloc, 0, 0, &[])?))?;
     }
     Ok(Node {
@@ -421,8 +424,8 @@ fn invariant(
     let mut rows = Vec::new(alloc);
     rows.push(term(alloc, 1, -5)?)?;
     let mut pieces = Vec::new(alloc);
-    pieces.push(piece(alloc, 0, Mark::Go, Vec::new(alloc), Vec::new(alloc)))?;
-    pieces.push(piece(alloc, 1, Mark::Go, rows, Vec::new(alloc)))?;
+    pieces.push(piece(alloc, 0, Mark::Go, Vec::new(alloc), Vec::new(alloc))?)?;
+    pieces.push(piece(alloc, 1, Mark::Go, rows, Vec::new(alloc))?)?;
     let mut proofs = Vec::new(alloc);
     proofs.push(Proof::Covered(into(alloc, 0, 0, &[])?))?;
     proofs.push(Proof::Covered(into(alloc, 0, fall, &[&[1]])?))?;

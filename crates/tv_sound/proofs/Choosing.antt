@@ -14,10 +14,10 @@ use Rattle.tv_linear.specs.Covers.{no_target, IsMetCover}
 use Rattle.tv_linear.proofs.Covered.{covered, shown_at_met}
 use Rattle.tv_linear.proofs.KnownLemmas.{refuted, met_or_denied, value-composed, value-denied, value-given, met-as_given}
 use Rattle.tv_program.specs.Steps.{State}
-use Rattle.tv_cases.specs.LinearCases.{LinearCase, CaseSystem, CaseSteps}
+use Rattle.tv_cases.specs.LinearCases.{LinearCase, CaseSystem, CaseSteps, leaving}
 use Rattle.tv_cert.specs.declared.node.Marked.{Marked}
 use Rattle.tv_cert.specs.Pieces.{rows_of, InMarked}
-use Rattle.tv_cert.specs.Choices.{drawn_change, drawn_guards, cases_from, TakeMet, NoStepMet, IsMetChoice, ChoiceFits}
+use Rattle.tv_cert.specs.Choices.{drawn_change, drawn_guards, TakeMet, NoStepMet, IsMetChoice, ChoiceFits}
 use Rattle.tv_cert.proofs.PieceLemmas.{test_true}
 use Rattle.tv_sound.proofs.Membership.{got_in, zip_some, Contains-filter}
 use Rattle.tv_sound.proofs.Entering.{Entered, value-longer, met-after, joined_is, All-left, All-right}
@@ -99,10 +99,10 @@ pub record Stopped (n : ℕ) (cases : List LinearCase) (l : ℕ) (xs : List ℤ)
 no_rows_there : (rows : List Known) → ◌≡◌ {A = Option (List Known)} None (Some rows) → ⊥
 no_rows_there rows e = cc
 
-nostep_stops : (n : ℕ) (cases : List LinearCase) (l : ℕ) (known : List Known) (covers : List CoverTree) (xs : List ℤ) → NoStepMet n known (cases_from l cases) covers → length xs ≡ n → ((ds : List ℤ) → All (IsKnownMet (xs ++ ds)) known) → Stopped n cases l xs
+nostep_stops : (n : ℕ) (cases : List LinearCase) (l : ℕ) (known : List Known) (covers : List CoverTree) (xs : List ℤ) → NoStepMet n known (leaving l cases) covers → length xs ≡ n → ((ds : List ℤ) → All (IsKnownMet (xs ++ ds)) known) → Stopped n cases l xs
 nostep_stops n cases l known covers xs h e stays = record {
   none = λ c among from ds drawn guards. (
-      let p = zip_some (λ c cover. IsMetCover (n + c.draws) no_target (known ++ as_given c.guards) cover) (cases_from l cases) covers c h (Contains-filter (λ c. c.from == l) cases c (test_true c.from l from) among) in
+      let p = zip_some (λ c cover. IsMetCover (n + c.draws) no_target (known ++ as_given c.guards) cover) (leaving l cases) covers c h (Contains-filter (λ c. c.from == l) cases c (test_true c.from l from) among) in
       let long : length (xs ++ ds) ≡ n + c.draws = (let a = length-append xs ds in omega (arith, a, e, drawn)) in
       let w = covered (n + c.draws) no_target (known ++ as_given c.guards) p.0 (xs ++ ds) p.1 long (All-append (IsKnownMet (xs ++ ds)) known (as_given c.guards) (stays ds) guards) in
       no_rows_there w.2 w.3);

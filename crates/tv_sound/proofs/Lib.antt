@@ -9,3 +9,4 @@ mod NodesSound
 mod Following
 mod Soundness
 mod Claimed
+mod ClaimLemmas

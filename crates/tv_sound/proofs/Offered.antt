@@ -10,14 +10,14 @@ use Rattle.tv_linear.specs.Known.{Known, IsKnownMet, as_given}
 use Rattle.tv_linear.specs.Covers.{IsMetCover}
 use Rattle.tv_linear.proofs.Covered.{covered}
 use Rattle.tv_program.specs.Steps.{State}
-use Rattle.tv_cases.specs.LinearCases.{LinearCase}
+use Rattle.tv_cases.specs.LinearCases.{LinearCase, leaving}
 use Rattle.tv_cert.specs.declared.node.Kind.{Kind}
 use Rattle.tv_cert.specs.declared.node.Marked.{Marked}
 use Rattle.tv_cert.specs.declared.node.Proof.{Proof}
 use Rattle.tv_cert.specs.declared.node.Proof.TheVariants.{Covered, Chosen}
 use Rattle.tv_cert.specs.Pieces.{place_of, rows_of, InMarked}
 use Rattle.tv_cert.specs.Targets.{owed_lists}
-use Rattle.tv_cert.specs.Choices.{IsMetChoice, ChoiceFits, cases_from}
+use Rattle.tv_cert.specs.Choices.{IsMetChoice, ChoiceFits}
 use Rattle.tv_cert.specs.Obligations.{About, a_cover, a_choice, Obligation, OwedMet, AllMet, cover_of, atom_of, step_of, steps_of, choice_of, paired}
 use Rattle.tv_cert.specs.Fits.{ProofFits}
 use Rattle.tv_cases.proofs.Listed.{Contains-here, Contains-later, Contains-map}
@@ -70,7 +70,7 @@ module _ (number : ℕ) (about : About) (ps : List Marked) (os : Marked → List
 
   pub has_steps : (p : Marked) → Contains ps p → (into : List Marked) (fall : LinearCase → Marked → ℕ → Option (List Known)) → ((o : Obligation) → Contains (steps_of number about p into fall) o → Contains (os p) o) → AllStepsCovered about.system.variables about.system.cases p into fall
   has_steps p among into fall within c ca from =
-      let w = found p among (step_of number about p into fall c) (within _ (Contains-map (step_of number about p into fall) (cases_from (place_of p) about.system.cases) c (Contains-filter (λ c. c.from == place_of p) about.system.cases c (test_true c.from (place_of p) from) ca))) in
+      let w = found p among (step_of number about p into fall c) (within _ (Contains-map (step_of number about p into fall) (leaving (place_of p) about.system.cases) c (Contains-filter (λ c. c.from == place_of p) about.system.cases c (test_true c.from (place_of p) from) ca))) in
       let t = cover_shown _ _ _ w.proof w.met in
       record { tree = t.0; met = t.1 }
 

@@ -1,2 +1,3 @@
 pub mod Following
 pub mod Settled
+pub mod Accepted

@@ -4,5 +4,7 @@
 mod claims;
 #[cfg(test)]
 mod tests;
+mod texts;
 
 pub use claims::check_claim;
+pub use texts::check_claim_text;

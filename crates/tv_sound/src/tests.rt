@@ -6,7 +6,7 @@ use tv_cert::{Claim, Kind, Mark, Marked, Node, Pieces, Proof, Verdict};
 use tv_cert_spelling::write_certificate;
 use tv_check::Failing;
 use tv_formula_text::read_formula;
-use tv_linear::{Choice, ChoiceTree, Cover, CoverTree, Piece, Poly, Row};
+use tv_linear::{Choice, ChoiceTree, Cover, CoverTree, Row};
 use tv_reader::read_program;
 use tv_shape::Certificate;
 
@@ -52,15 +52,11 @@ fn piece(
     met: &[Numbers],
     ranks: &[Numbers],
 ) -> Result<Marked, Fail> {
-    let poly = Poly {
-        columns: 1,
-        rows: rows(alloc, met)?,
-    };
-    Ok(Marked {
-        piece: Piece { location, poly },
-        mark,
-        ranks: rows(alloc, ranks)?,
-    })
+    let met = rows(alloc, met)?;
+    let ranks = rows(alloc, ranks)?;
+    let made = Marked::from_rows(alloc, location, mark, 1, &met, &ranks)?;
+    let piece = made.ok_or("columns")?;
+    Ok(piece)
 }
 
 /// A piece that goes on, without ranks.

@@ -6,19 +6,19 @@ use Rattle.t2verdict.specs.Judging.{Offered, Judges, Says}
 use Rattle.t2verdict.proofs.Settling.{no_certificate, said_is_so}
 use Rattle.t2verdict.proofs.judging.settle.Goals as goal
 
+pub returns-in-Ok : goal.returns-in-Ok
+returns-in-Ok c = λ f is.
+    let p = system_of c.args.program.now in
+    let system = cases_of c.args.about.now in
+    let h = c.in-Ok.ensures.accepted in
+    let a = h.accepted in
+    let offer : Offered f system c.args.text.now =
+    record { claim = c.args.claim.now; is_claim = is; certificate = a.certificate; is_certificate = a.is_text } in
+    said_is_so p f system c.args.text.now (record { offer = offer; met = a.met }) a.certificate.verdict refl (h.settled f is)
+    (λ e. h.followed (subst (λ g. IsClaim c.args.claim.now g) e is))
+    c.said.result (subst (λ (x : Type 0). x) (λ i. Says p (a.proved i) (a.at_values i) c.said.result) c.said.ensures)
+
 pub returns-in-Err : goal.returns-in-Err
 returns-in-Err c = λ f is.
     subst (λ answer. Judges (system_of c.args.program.now) f (cases_of c.args.about.now) c.args.text.now answer) (sym c.without_certificate.ensures)
-    (no_certificate (system_of c.args.program.now) f (cases_of c.args.about.now) c.args.text.now c.args.claim.now is c.in-Err.fault c.in-Err.ensures.refused)
-
-pub returns-in-Ok-check_claim : goal.returns-in-Ok-check_claim
-returns-in-Ok-check_claim c = λ f is.
-    let offer : Offered f (cases_of c.args.about.now) c.args.text.now =
-    record { claim = c.args.claim.now; is_claim = is; certificate = c.in-Ok.certificate; is_certificate = c.in-Ok.ensures.found } in
-    said_is_so (system_of c.args.program.now) f (cases_of c.args.about.now) c.args.text.now
-    (record { offer = offer; met = c.in-Ok-check_claim.ensures.exact }) c.in-Ok.certificate.verdict refl (c.in-Ok-check_claim.ensures.settled f is)
-    (λ e. c.in-Ok-check_claim.ensures.followed (subst (λ g. IsClaim c.args.claim.now g) e is))
-    c.said.result (subst (λ verdict. Says (system_of c.args.program.now) verdict c.said.result) c.verdict.ensures c.said.ensures)
-
-pub returns : goal.returns
-returns c = λ f is. (record { claim = c.args.claim.now; is_claim = is; certificate = c.in-Ok.certificate; is_certificate = c.in-Ok.ensures.found }, c.in-Err-check_claim.ensures.exact)
+    (no_certificate (system_of c.args.program.now) f (cases_of c.args.about.now) c.args.text.now c.args.claim.now is c.in-Err.failing c.in-Err.ensures.refused)

@@ -1,18 +1,22 @@
-use Rattle.std.proofs.Common.{◌∷◌, [], map, refl, subst, arith}
+use Rattle.std.proofs.Common.{◌≡◌, ℕ, List, ◌∷◌, [], length, map, refl, sym, ap, ◌∙◌, subst, arith, Option, None, Some, slice_get}
+use Rattle.tv_cases.specs.LinearCases.{LinearCase, leaving}
 use Rattle.tv_cases.specs.Systems.{cases_of}
 use Rattle.tv_cases.specs.Views.{case_view}
+use Rattle.tv_cases.proofs.LeavingLemmas.{case_among, case_within, case_there, none_more}
 use Rattle.tv_cert.specs.Pieces.{place_of}
-use Rattle.tv_cert.specs.Choices.{cases_from}
 use Rattle.tv_cert.specs.Obligations.{step_of}
 use Rattle.tv_cert.specs.Plain.{about_of}
 use Rattle.tv_cert.specs.Owing.{case_falls}
 use Rattle.tv_cert.specs.Visits.{Visits}
 use Rattle.tv_cert.proofs.VisitLemmas.{ahead_end, ahead_fails, ahead_next, ahead_room}
-use Rattle.tv_cert.proofs.VisitedCases.{case_among, case_within, case_there, cases_past}
 use Rattle.tv_cert.proofs.visiting.visit_steps.Goals as goal
 
+-- the case from a location that is told
+case_at : (cases : List LinearCase) (k : ℕ) (case : Option LinearCase) (l m : ℕ) → l ≡ m → slice_get (leaving l cases) k ≡ case → slice_get (leaving m cases) k ≡ case
+case_at cases k case l m e h = ap (λ l. slice_get (leaving l cases) k) (sym e) ∙ h
+
 pub visit-requires-clause-owed : goal.visit-requires-clause-owed
-visit-requires-clause-owed g c = case_among (place_of c.args.piece.now) (cases_of c.args.about.now).cases c.cases.k (case_view c.in-Some.case.now) c.in-Some.ensures.case
+visit-requires-clause-owed g c = case_among (place_of c.args.piece.now) (cases_of c.args.about.now).cases c.cases.k (case_view c.in-Some.case.now) (case_at (cases_of c.args.about.now).cases c.cases.k (Some (case_view c.in-Some.case.now)) _ _ c.location-location.ensures c.in-Some.ensures.case)
 
 pub visit-requires-clause-room : goal.visit-requires-clause-room
 visit-requires-clause-room g c =
@@ -20,8 +24,8 @@ visit-requires-clause-room g c =
     let l = place_of c.args.piece.now in
     let case = case_view c.in-Some.case.now in
     let step = step_of c.args.number (about_of system) c.args.piece.now c.args.into.now (case_falls c.args.falls system c.args.piece.now) in
-    ahead_room (g.V.Visitor.passes system) (g.V.Visitor.stops system) g.V.Visitor.room (map step) refl (λ x xs. refl) (cases_from l system.cases) c.args.visitor.now c.cases.visitor c.cases.k c.cases.invariant case
-    (case_within l system.cases c.cases.k case c.in-Some.ensures.case) (case_there l system.cases c.cases.k case c.in-Some.ensures.case)
+    ahead_room (g.V.Visitor.passes system) (g.V.Visitor.stops system) g.V.Visitor.room (map step) refl (λ x xs. refl) (leaving l system.cases) c.args.visitor.now c.cases.visitor c.cases.k c.cases.invariant case
+    (case_within l system.cases c.cases.k case (case_at (cases_of c.args.about.now).cases c.cases.k (Some (case_view c.in-Some.case.now)) _ _ c.location-location.ensures c.in-Some.ensures.case)) (case_there l system.cases c.cases.k case (case_at (cases_of c.args.about.now).cases c.cases.k (Some (case_view c.in-Some.case.now)) _ _ c.location-location.ensures c.in-Some.ensures.case))
 
 pub returns-then-not-visit : goal.returns-then-not-visit
 returns-then-not-visit g c =
@@ -31,21 +35,22 @@ returns-then-not-visit g c =
     let l = place_of c.args.piece.now in
     let case = case_view c.in-Some.case.now in
     let step = step_of c.args.number (about_of system) c.args.piece.now c.args.into.now (case_falls c.args.falls system c.args.piece.now) in
-    ahead_fails passes stops g.V.Visitor.room (map step) refl (λ x xs. refl) (cases_from l system.cases) c.args.visitor.now c.cases.visitor c.cases.k c.cases.invariant case
-    (case_within l system.cases c.cases.k case c.in-Some.ensures.case) (case_there l system.cases c.cases.k case c.in-Some.ensures.case) c.visit.new.visitor
+    ahead_fails passes stops g.V.Visitor.room (map step) refl (λ x xs. refl) (leaving l system.cases) c.args.visitor.now c.cases.visitor c.cases.k c.cases.invariant case
+    (case_within l system.cases c.cases.k case (case_at (cases_of c.args.about.now).cases c.cases.k (Some (case_view c.in-Some.case.now)) _ _ c.location-location.ensures c.in-Some.ensures.case)) (case_there l system.cases c.cases.k case (case_at (cases_of c.args.about.now).cases c.cases.k (Some (case_view c.in-Some.case.now)) _ _ c.location-location.ensures c.in-Some.ensures.case)) c.visit.new.visitor
     (subst (λ r. Visits passes stops g.V.Visitor.room r c.cases.visitor (step case ∷ []) c.visit.new.visitor) c.if-not-visit.true c.visit.ensures)
 
 pub overflow_add-k : goal.overflow_add-k
 overflow_add-k g c =
     let system = cases_of c.args.about.now in
-    let below = case_within (place_of c.args.piece.now) system.cases c.cases.k (case_view c.in-Some.case.now) c.in-Some.ensures.case in
+    let below = case_within (place_of c.args.piece.now) system.cases c.cases.k (case_view c.in-Some.case.now) (case_at (cases_of c.args.about.now).cases c.cases.k (Some (case_view c.in-Some.case.now)) _ _ c.location-location.ensures c.in-Some.ensures.case) in
     let few = c.in-Some.ensures.few in
-    omega (arith, below, few)
+    let same = ap (λ l. length (leaving l system.cases)) c.location-location.ensures in
+    omega (arith, below, few, same)
 
 pub cases-smaller : goal.cases-smaller
 cases-smaller g c =
     let system = cases_of c.args.about.now in
-    let below = case_within (place_of c.args.piece.now) system.cases c.cases.k (case_view c.in-Some.case.now) c.in-Some.ensures.case in
+    let below = case_within (place_of c.args.piece.now) system.cases c.cases.k (case_view c.in-Some.case.now) (case_at (cases_of c.args.about.now).cases c.cases.k (Some (case_view c.in-Some.case.now)) _ _ c.location-location.ensures c.in-Some.ensures.case) in
     omega (arith, below)
 
 pub cases-preserved : goal.cases-preserved
@@ -56,8 +61,8 @@ cases-preserved g c =
     let l = place_of c.args.piece.now in
     let case = case_view c.in-Some.case.now in
     let step = step_of c.args.number (about_of system) c.args.piece.now c.args.into.now (case_falls c.args.falls system c.args.piece.now) in
-    ahead_next passes stops g.V.Visitor.room (map step) refl (λ x xs. refl) (cases_from l system.cases) c.args.visitor.now c.cases.visitor c.cases.k c.cases.invariant case
-    (case_within l system.cases c.cases.k case c.in-Some.ensures.case) (case_there l system.cases c.cases.k case c.in-Some.ensures.case) c.visit.new.visitor
+    ahead_next passes stops g.V.Visitor.room (map step) refl (λ x xs. refl) (leaving l system.cases) c.args.visitor.now c.cases.visitor c.cases.k c.cases.invariant case
+    (case_within l system.cases c.cases.k case (case_at (cases_of c.args.about.now).cases c.cases.k (Some (case_view c.in-Some.case.now)) _ _ c.location-location.ensures c.in-Some.ensures.case)) (case_there l system.cases c.cases.k case (case_at (cases_of c.args.about.now).cases c.cases.k (Some (case_view c.in-Some.case.now)) _ _ c.location-location.ensures c.in-Some.ensures.case)) c.visit.new.visitor
     (subst (λ r. Visits passes stops g.V.Visitor.room r c.cases.visitor (step case ∷ []) c.visit.new.visitor) c.if-not-visit.false c.visit.ensures)
 
 pub returns : goal.returns
@@ -65,5 +70,5 @@ returns g c =
     let system = cases_of c.args.about.now in
     let l = place_of c.args.piece.now in
     let step = step_of c.args.number (about_of system) c.args.piece.now c.args.into.now (case_falls c.args.falls system c.args.piece.now) in
-    ahead_end (g.V.Visitor.passes system) (g.V.Visitor.stops system) g.V.Visitor.room (map step) refl (λ x xs. refl) (cases_from l system.cases) c.args.visitor.now c.cases.visitor c.cases.k c.cases.invariant
-    (cases_past (cases_from l system.cases) c.cases.k c.in_default.ensures.case)
+    ahead_end (g.V.Visitor.passes system) (g.V.Visitor.stops system) g.V.Visitor.room (map step) refl (λ x xs. refl) (leaving l system.cases) c.args.visitor.now c.cases.visitor c.cases.k c.cases.invariant
+    (none_more (leaving l system.cases) c.cases.k (case_at (cases_of c.args.about.now).cases c.cases.k None _ _ c.location-location.ensures c.in_default.ensures.case))

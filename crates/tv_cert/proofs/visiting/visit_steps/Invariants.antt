@@ -1,7 +1,7 @@
 use Rattle.std.proofs.Common.{◌-◌, length, map}
+use Rattle.tv_cases.specs.LinearCases.{leaving}
 use Rattle.tv_cases.specs.Systems.{cases_of}
 use Rattle.tv_cert.specs.Pieces.{place_of}
-use Rattle.tv_cert.specs.Choices.{cases_from}
 use Rattle.tv_cert.specs.Obligations.{step_of}
 use Rattle.tv_cert.specs.Plain.{about_of}
 use Rattle.tv_cert.specs.Owing.{case_falls}
@@ -13,7 +13,7 @@ invariant-cases g l =
     let system = cases_of l.about in
     Ahead (g.V.Visitor.passes system) (g.V.Visitor.stops system) g.V.Visitor.room
     (map (step_of l.number (about_of system) l.piece l.into (case_falls l.falls system l.piece)))
-    (cases_from (place_of l.piece) system.cases) l.fn.visitor l.visitor l.k
+    (leaving (place_of l.piece) system.cases) l.fn.visitor l.visitor l.k
 
 abbrev pub decreases-cases : goal.decreases-cases
-decreases-cases g l = length (cases_from (place_of l.piece) (cases_of l.about).cases) - l.k
+decreases-cases g l = length (leaving (place_of l.piece) (cases_of l.about).cases) - l.k

@@ -7,4 +7,4 @@ use Rattle.tv_check.proofs.checking.is_inside.Goals as goal
 pub meets_all-requires : goal.meets_all-requires
 meets_all-requires c =
     let got = piece_got c.args.pieces.now c.args.location c.args.piece c.in-Some.inside.now c.in-Some.ensures in
-    subst (λ rows. All (λ r. columns r ≡ length c.args.values.now) rows) (sym c.deref.ensures.value) (c.requires c.in-Some.inside.now got.1)
+    subst (λ rows. All (λ r. columns r ≡ length c.args.values.now) rows) (sym c.rows.ensures) (c.requires c.in-Some.inside.now got.1)

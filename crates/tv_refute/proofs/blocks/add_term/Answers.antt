@@ -1,9 +1,10 @@
-use Rattle.std.proofs.Common.{rules, ap, sym, get_or, FitsSigned}
+use Rattle.std.proofs.Common.{rules, ap, sym, ◌∙◌, get_or, FitsSigned}
 use Rattle.std.specs.Int.{w128}
 use Rattle.std.proofs.lemmas.Int.{to_z-of_z}
-use Rattle.tv_linear.specs.Known.{kept, number, term_number}
+use Rattle.tv_linear.specs.Known.{kept, put, number, term_number}
 use Rattle.tv_refute.specs.Blocks.{further}
 use Rattle.tv_refute.specs.Terms.{terms_of}
+use Rattle.tv_rows.specs.Views.{row_seen}
 use Rattle.tv_refute.proofs.Telling.{AreTold_added, put_number}
 use Rattle.tv_refute.proofs.blocks.add_term.Goals as goal
 
@@ -18,5 +19,5 @@ pub returns-in-Some-clause-told : goal.returns-in-Some-clause-told
 returns-in-Some-clause-told c =
     let factor_fits : FitsSigned w128 c.args.factor = search rules in
     let w = simp to_z-of_z at c.add_row.ensures.told in
-    AreTold_added c.add_row.result c.args.count c.args.factor (λ k. number (further c.args.column k) c.in-Some.row.now) (λ k. term_number (further c.args.column k) (get_or (terms_of c.args.terms.now) c.args.v (kept 0))) c.args.totals.now c.add_row.new.totals
-    (λ k. put_number c.in-Some.row.now (further c.args.column k) (get_or (terms_of c.args.terms.now) c.args.v (kept 0)) c.in-Some.ensures) w
+    AreTold_added c.add_row.result c.args.count c.args.factor (λ k. number (further c.args.column k) (row_seen c.of.result)) (λ k. term_number (further c.args.column k) (get_or (terms_of c.args.terms.now) c.args.v (kept 0))) c.args.totals.now c.add_row.new.totals
+    (λ k. put_number (row_seen c.of.result) (further c.args.column k) (get_or (terms_of c.args.terms.now) c.args.v (kept 0)) (c.in-Some.ensures ∙ ap (λ r. put r) (sym c.of.ensures))) w

@@ -4,6 +4,7 @@ use Rattle.std.proofs.lemmas.Int.{ints, to_z-of_z}
 use Rattle.std.specs.Prelude.{IsTrue}
 use Rattle.tv_linear.specs.Linear.{dot, value}
 use Rattle.tv_refute.specs.Wide.{whole_of}
+use Rattle.tv_rows.specs.Views.{row_seen}
 use Rattle.tv_refute.proofs.Wholes.{summed_more, summed_all}
 use Rattle.tv_refute.proofs.met.meets.Goals as goal
 
@@ -32,5 +33,5 @@ returns c =
     let constant : whole_of c.product-2.result ≡ c.constant.result *ℤ pos 1 = simp to_z-of_z at c.product-2.ensures.whole in
     let summed = summed_all cs xs c.loop-i.i (whole_of c.loop-i.total) (omega (arith, counted)) c.loop-i.invariant.summed in
     let same = ap (λ ys. dot ys c.args.values.now) c.coefficients-coefficients.ensures.is in
-    let is : whole_of c.plus.result ≡ value c.args.row.now c.args.values.now = omega (arith, ints, c.plus.ensures.whole, constant, summed, same, c.constant.ensures.is) in
+    let is : whole_of c.plus.result ≡ value (row_seen c.args.row) c.args.values.now = omega (arith, ints, c.plus.ensures.whole, constant, summed, same, c.constant.ensures.is) in
     subst (λ z. IsTrue c.is_at_most_zero.result ↔ (z ≤ℤ pos 0)) is c.is_at_most_zero.ensures

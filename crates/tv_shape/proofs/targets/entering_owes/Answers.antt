@@ -14,5 +14,5 @@ pub returns-in-Done-clause-rows : goal.returns-in-Done-clause-rows
 returns-in-Done-clause-rows c =
     let p = c.args.piece.now in
     c.no_fall_owes-in-Done.ensures.rows p
-    ∙ ap (λ k. option_map length (cond (is_go k) (fall_rows (as_given (ranks_of c.in-Some.left.now)) (map given (ranks_of p)) c.args.fall) (no_fall p c.args.fall))) (sym c.in-Done.is)
+    ∙ ap (λ k. option_map length (cond (is_go k) (fall_rows (as_given (ranks_of c.in-Some.left.now)) (map given (ranks_of p)) c.args.fall) (no_fall p c.args.fall))) (sym c.in-Done.is ∙ c.mark.ensures)
     ∙ ap (λ o. option_map length (falls_past given o p c.args.fall)) (sym c.in-Some.is)

@@ -1,4 +1,4 @@
-use Rattle.std.proofs.Common.{map, refl, sym, ◌∙◌, subst}
+use Rattle.std.proofs.Common.{length, map, refl, sym, ap, ◌∙◌, subst}
 use Rattle.std.specs.Prelude.{Contains}
 use Rattle.std.specs.List.{flat_map}
 use Rattle.std.proofs.lemmas.List.{length-map}
@@ -11,6 +11,7 @@ use Rattle.tv_cert.specs.Listed.{pieces_list}
 use Rattle.tv_cert.specs.Obligations.{a_cover, truth_targets}
 use Rattle.tv_cert.specs.Owing.{OwedIn, owed_by}
 use Rattle.tv_cert.specs.Pieces.{rows_of, place_of}
+use Rattle.tv_cert.specs.Shapes.{owed_count}
 use Rattle.tv_cert.specs.Targets.{owed_into, owed_lists, no_fall}
 use Rattle.tv_cert_reader.specs.Proofs.{ReadsProof}
 use Rattle.tv_cert_reader.proofs.context.Context.proof.Goals as goal
@@ -28,7 +29,7 @@ returns-in-Rows c =
     let owed = owed_lists (map (λ l. l.items) c.in-Rows.lists.now) in
     subst (λ o. ReadsProof (owed_by (cases_of c.args.self.now.about.now) o) c.args.cursor.now c.cover.new.cursor c.cover.result) (sym c.in-Rows.is)
     (subst (λ n. ReadsProof (a_cover n (as_given (rows_of p)) owed) c.args.cursor.now c.cover.new.cursor c.cover.result) c.variables-columns.ensures.same
-    (c.cover.ensures (as_given (rows_of p)) owed (length-map (rows_of p) given ∙ sym (c.len-known.ensures ∙ p.piece.poly.rows.ok.0)) refl))
+    (c.cover.ensures (as_given (rows_of p)) owed (length-map (rows_of p) given ∙ sym (c.len-known.ensures.counted ∙ ap length c.rows.ensures)) refl))
 
 pub returns-in-Truth : goal.returns-in-Truth
 returns-in-Truth c =
@@ -36,7 +37,7 @@ returns-in-Truth c =
     let owed = owed_lists (truth_targets c.in-Truth.truth) in
     subst (λ o. ReadsProof (owed_by (cases_of c.args.self.now.about.now) o) c.args.cursor.now c.cover-in-Truth.new.cursor c.cover-in-Truth.result) (sym c.in-Truth.is)
     (subst (λ n. ReadsProof (a_cover n (as_given (rows_of p)) owed) c.args.cursor.now c.cover-in-Truth.new.cursor c.cover-in-Truth.result) c.variables-columns.ensures.same
-    (c.cover-in-Truth.ensures (as_given (rows_of p)) owed (length-map (rows_of p) given ∙ sym (c.len-known-in-Truth.ensures ∙ p.piece.poly.rows.ok.0)) refl))
+    (c.cover-in-Truth.ensures (as_given (rows_of p)) owed (length-map (rows_of p) given ∙ sym (c.len-known-in-Truth.ensures.counted ∙ ap length c.rows-in-Truth.ensures)) refl))
 
 pub returns-in-Pieces : goal.returns-in-Pieces
 returns-in-Pieces c =
@@ -44,7 +45,7 @@ returns-in-Pieces c =
     let owed = owed_into c.in-Pieces.into.now (place_of p) given no_fall in
     subst (λ o. ReadsProof (owed_by (cases_of c.args.self.now.about.now) o) c.args.cursor.now c.cover-in-Pieces.new.cursor c.cover-in-Pieces.result) (sym c.in-Pieces.is)
     (subst (λ n. ReadsProof (a_cover n (as_given (rows_of p)) owed) c.args.cursor.now c.cover-in-Pieces.new.cursor c.cover-in-Pieces.result) c.variables-columns.ensures.same
-    (c.cover-in-Pieces.ensures (as_given (rows_of p)) owed (length-map (rows_of p) given ∙ sym (c.len-known-in-Pieces.ensures ∙ p.piece.poly.rows.ok.0)) (λ i x y. c.pieces_into-targets.ensures.counts given x y i)))
+    (c.cover-in-Pieces.ensures (as_given (rows_of p)) owed (length-map (rows_of p) given ∙ sym (c.len-known-in-Pieces.ensures.counted ∙ ap length c.rows-in-Pieces.ensures)) (λ i x y. (c.pieces_into-targets.ensures.counts given x y ∙ ap (λ l. owed_count (owed_into c.in-Pieces.into.now l given no_fall) x y) c.location.ensures) i)))
 
 pub returns-in-Joined : goal.returns-in-Joined
 returns-in-Joined c =
@@ -52,7 +53,7 @@ returns-in-Joined c =
     let owed = owed_into (flat_map (λ a. a) (map pieces_list c.in-Joined.nodes.now)) (place_of p) given no_fall in
     subst (λ o. ReadsProof (owed_by (cases_of c.args.self.now.about.now) o) c.args.cursor.now c.cover-in-Joined.new.cursor c.cover-in-Joined.result) (sym c.in-Joined.is)
     (subst (λ n. ReadsProof (a_cover n (as_given (rows_of p)) owed) c.args.cursor.now c.cover-in-Joined.new.cursor c.cover-in-Joined.result) c.variables-columns.ensures.same
-    (c.cover-in-Joined.ensures (as_given (rows_of p)) owed (length-map (rows_of p) given ∙ sym (c.len-known-in-Joined.ensures ∙ p.piece.poly.rows.ok.0)) refl))
+    (c.cover-in-Joined.ensures (as_given (rows_of p)) owed (length-map (rows_of p) given ∙ sym (c.len-known-in-Joined.ensures.counted ∙ ap length c.rows-in-Joined.ensures)) (λ i x y. owed_count (owed_into (flat_map (λ a. a) (map pieces_list c.in-Joined.nodes.now)) (c.location-location.ensures i) given no_fall) x y)))
 
 pub returns-in-Choice : goal.returns-in-Choice
 returns-in-Choice c =

@@ -1,45 +1,58 @@
-use Rattle.std.proofs.Common.{◌+◌, sym, subst}
-use Rattle.tv_cases.specs.LinearCases.{IsCase}
+use Rattle.std.proofs.Common.{◌+◌, [], drop, sym, subst, arith}
+use Rattle.std.specs.List.{AllZip, flat_map}
+use Rattle.std.proofs.lemmas.List.Elements.{All-contains}
+use Rattle.tv_cases.specs.LinearCases.{IsCase, leaving}
 use Rattle.tv_cases.specs.Systems.{cases_of}
-use Rattle.tv_cases.specs.Views.{case_view, case_views}
-use Rattle.tv_cert.specs.Choices.{cases_from}
-use Rattle.tv_cert.proofs.PieceLemmas.{test_true, test_false}
-use Rattle.tv_cert.proofs.VisitedCases.{case_at}
+use Rattle.tv_cases.specs.Views.{case_view}
+use Rattle.tv_cases.proofs.LeavingLemmas.{case_within, case_among, first_left, none_left}
 use Rattle.tv_cert_text.specs.CertificateLines.{cover_lines}
+use Rattle.tv_cert_reader.specs.Reading.{Takes}
 use Rattle.tv_cert_reader.specs.Choices.{IsStop, ReadsStops}
 use Rattle.tv_cert_reader.proofs.ReadingLemmas.{at_exit}
-use Rattle.tv_cert_reader.proofs.StopLemmas.{Stepped, stepped_next, stepped_as, from_left, case_from, case_elsewhere, stop_fails}
+use Rattle.tv_cert_reader.proofs.StopLemmas.{stepped_next, stepped_as, stepped_all, stop_fails}
 use Rattle.tv_cert_reader.proofs.context.Context.stop_covers.Goals as goal
-use Rattle.tv_cert_reader.proofs.context.Context.stop_covers.Goals.{then-case-location+in_ok-cover+in_ok-push, else-case-location}
 
 pub stop_cover-requires-clause-draws : goal.stop_cover-requires-clause-draws
 stop_cover-requires-clause-draws c =
-    let system = cases_of c.args.self.now.about.now in
-    (case_at (IsCase system.variables system.locations) c.args.cases.now c.loop-case.case-index c.case-item.result c.loop-case-test.true c.case-item.is c.requires.draws).few_draws
+    let about = c.args.self.now.about.now in
+    let system = cases_of about in
+    let case = case_view c.in-Some.case.now in
+    (All-contains (IsCase system.variables system.locations) system.cases case about.are_cases.cases (case_among c.args.location system.cases c.cases.k case c.in-Some.ensures.case)).few_draws
 
 pub returns-in_err-cover : goal.returns-in_err-cover
 returns-in_err-cover c =
-    let n = (cases_of c.args.self.now.about.now).variables in
-    let l = c.args.location in
-    let cs = c.args.cases.now in
-    let i = c.loop-case.case-index in
-    at_exit (ReadsStops n c.args.known c.args.left (cases_from l (case_views cs)) c.args.cursor.now c.stop_cover.new.cursor) c.from_residual.result c.in_err-cover.field-0.0 c.from_residual.ensures.1
-    (stop_fails n c.args.known c.args.left (cases_from l (case_views cs)) (from_left l cs (i + 1)) (from_left l cs i) (case_view c.case-item.result) c.args.cursor.now c.loop-case.cursor c.loop-case.covers.items c.in_err-cover.field-0.0 c.loop-case.invariant
-    (case_from l cs i c.case-item.result c.loop-case-test.true c.case-item.is (test_true c.case-item.result.from l c.if-case-location.true)) c.in_err-cover.ensures)
+    let system = cases_of c.args.self.now.about.now in
+    let all = leaving c.args.location system.cases in
+    let case = case_view c.in-Some.case.now in
+    at_exit (ReadsStops system.variables c.args.known c.args.left all c.args.cursor.now c.stop_cover.new.cursor) c.from_residual.result c.in_err-cover.field-0.0 c.from_residual.ensures.1
+    (stop_fails system.variables c.args.known c.args.left all (drop (c.cases.k + 1) all) (drop c.cases.k all) case c.args.cursor.now c.cases.cursor c.cases.covers.items c.in_err-cover.field-0.0 c.cases.invariant
+    (first_left all c.cases.k case c.in-Some.ensures.case) c.in_err-cover.ensures)
 
-pub loop-case-preserved : goal.loop-case-preserved
-loop-case-preserved c =
-    let n = (cases_of c.args.self.now.about.now).variables in
-    let l = c.args.location in
-    let cs = c.args.cases.now in
-    let i = c.loop-case.case-index in
-    let all = cases_from l (case_views cs) in
-    let left = from_left l cs (i + 1) in
-    elim c.if-case-location.branch [
-      | then-case-location+in_ok-cover+in_ok-push w ↦ subst (λ (x : Type 0). x) (λ j. Stepped (IsStop n c.args.known c.args.left) cover_lines all left c.args.cursor.now (sym w.cursor-is j) (sym w.covers-is j).items)
-          (stepped_next (IsStop n c.args.known c.args.left) cover_lines all c.args.cursor.now (case_view c.case-item.result) left (from_left l cs i) c.loop-case.cursor w.stop_cover.new.cursor c.loop-case.covers.items _ w.in_ok-cover.cover c.loop-case.invariant
-          (case_from l cs i c.case-item.result c.loop-case-test.true c.case-item.is (test_true c.case-item.result.from l w.if-case-location.true)) w.in_ok-cover.ensures.0 w.in_ok-cover.ensures.1 w.in_ok-push.ensures.items)
-      | else-case-location w ↦ subst (λ (x : Type 0). x) (λ j. Stepped (IsStop n c.args.known c.args.left) cover_lines all left c.args.cursor.now (sym w.cursor-is j) (sym w.covers-is j).items)
-          (stepped_as (IsStop n c.args.known c.args.left) cover_lines all c.args.cursor.now left (from_left l cs i) c.loop-case.cursor c.loop-case.covers.items c.loop-case.invariant
-          (case_elsewhere l cs i c.case-item.result c.loop-case-test.true c.case-item.is (test_false c.case-item.result.from l w.if-case-location.false)))
-    ]
+pub overflow_add-k : goal.overflow_add-k
+overflow_add-k c =
+    let below = case_within c.args.location (cases_of c.args.self.now.about.now).cases c.cases.k (case_view c.in-Some.case.now) c.in-Some.ensures.case in
+    let few = c.in-Some.ensures.few in
+    omega (arith, below, few)
+
+pub cases-smaller : goal.cases-smaller
+cases-smaller c =
+    let below = case_within c.args.location (cases_of c.args.self.now.about.now).cases c.cases.k (case_view c.in-Some.case.now) c.in-Some.ensures.case in
+    omega (arith, below)
+
+pub cases-preserved : goal.cases-preserved
+cases-preserved c =
+    let system = cases_of c.args.self.now.about.now in
+    let all = leaving c.args.location system.cases in
+    let case = case_view c.in-Some.case.now in
+    stepped_next (IsStop system.variables c.args.known c.args.left) cover_lines all c.args.cursor.now case (drop (c.cases.k + 1) all) (drop c.cases.k all) c.cases.cursor c.stop_cover.new.cursor c.cases.covers.items _ c.in_ok-cover.cover c.cases.invariant
+    (first_left all c.cases.k case c.in-Some.ensures.case) c.in_ok-cover.ensures.0 c.in_ok-cover.ensures.1 c.in_ok-push.ensures.items
+
+pub returns : goal.returns
+returns c =
+    let system = cases_of c.args.self.now.about.now in
+    let all = leaving c.args.location system.cases in
+    let is = IsStop system.variables c.args.known c.args.left in
+    let covers = c.cases.covers.items in
+    subst (λ xs. AllZip is all xs × Takes (flat_map cover_lines xs) c.args.cursor.now c.cases.cursor) (sym c.shrink_to_fit.ensures.items)
+    (stepped_all is cover_lines all c.args.cursor.now c.cases.cursor covers
+    (stepped_as is cover_lines all c.args.cursor.now [] (drop c.cases.k all) c.cases.cursor covers c.cases.invariant (none_left all c.cases.k c.in_default.ensures.case)))

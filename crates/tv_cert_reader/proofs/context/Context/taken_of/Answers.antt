@@ -1,6 +1,6 @@
-use Rattle.std.proofs.Common.{[], sym, ◌∙◌}
+use Rattle.std.proofs.Common.{[], length, refl, sym, ◌∙◌}
+use Rattle.std.proofs.lemmas.Option.{slice_get_past, slice_get_read}
 use Rattle.tv_cases.specs.Systems.{cases_of}
-use Rattle.tv_cert.proofs.IndexedLemmas.{none_got, some_got}
 use Rattle.tv_cert_reader.proofs.TakenLemmas.{no_numbers, no_case, no_target, is_taken}
 use Rattle.tv_cert_reader.proofs.context.Context.taken_of.Goals as goal
 
@@ -9,16 +9,16 @@ returns-in_default c = no_numbers (cases_of c.args.self.now.about.now) c.args.pi
 
 pub returns-in_default-get : goal.returns-in_default-get
 returns-in_default-get c =
-    no_case (cases_of c.args.self.now.about.now) c.args.piece.now c.args.destination.now c.args.numbers.now c.requires c.list-list.result.now c.list-list.ensures.same c.in-Some.taken c.in-Some.target c.in-Some.fall c.in-Some.ensures (none_got c.list-list.result.now c.in-Some.taken c.in_default-get.ensures.lookup.3)
+    no_case (cases_of c.args.self.now.about.now) c.args.piece.now c.args.destination.now c.args.numbers.now c.requires c.list-list.result.now c.list-list.ensures.same c.in-Some.taken c.in-Some.target c.in-Some.fall c.in-Some.ensures (slice_get_past c.list-list.result.now c.in-Some.taken c.in_default-get.ensures.lookup.3)
 
 pub returns-in-None : goal.returns-in-None
 returns-in-None c =
     let system = cases_of c.args.self.now.about.now in
-    no_target system c.args.piece.now c.args.destination.now c.args.numbers.now c.requires c.list-list.result.now c.list-list.ensures.same c.in-Some.taken c.in-Some.target c.in-Some.fall c.in-Some.ensures c.in-Some-get.case.now (some_got c.list-list.result.now c.in-Some.taken c.in-Some-get.case.now c.in-Some-get.ensures.lookup.3.0 c.in-Some-get.ensures.lookup.1)
+    no_target system c.args.piece.now c.args.destination.now c.args.numbers.now c.requires c.list-list.result.now c.list-list.ensures.same c.in-Some.taken c.in-Some.target c.in-Some.fall c.in-Some.ensures c.in-Some-get.case.now (slice_get_read c.list-list.result.now (length c.list-list.result.now) c.in-Some.taken c.in-Some-get.case.now refl c.in-Some-get.ensures.lookup.3.0 c.in-Some-get.ensures.lookup.1)
     (sym (c.taken_into.ensures.counts system.variables [] c.in-Some.target c.in-Some.fall) ∙ sym c.in-None.ensures)
 
 pub returns-in-Some-rows : goal.returns-in-Some-rows
 returns-in-Some-rows c =
     let system = cases_of c.args.self.now.about.now in
-    is_taken system c.args.piece.now c.args.destination.now c.args.numbers.now c.requires c.list-list.result.now c.list-list.ensures.same c.in-Some.taken c.in-Some.target c.in-Some.fall c.in-Some.ensures c.in-Some-get.case.now (some_got c.list-list.result.now c.in-Some.taken c.in-Some-get.case.now c.in-Some-get.ensures.lookup.3.0 c.in-Some-get.ensures.lookup.1) c.in-Some-rows.owed
+    is_taken system c.args.piece.now c.args.destination.now c.args.numbers.now c.requires c.list-list.result.now c.list-list.ensures.same c.in-Some.taken c.in-Some.target c.in-Some.fall c.in-Some.ensures c.in-Some-get.case.now (slice_get_read c.list-list.result.now (length c.list-list.result.now) c.in-Some.taken c.in-Some-get.case.now refl c.in-Some-get.ensures.lookup.3.0 c.in-Some-get.ensures.lookup.1) c.in-Some-rows.owed
     (λ draws. sym (c.taken_into.ensures.counts system.variables draws c.in-Some.target c.in-Some.fall) ∙ sym c.in-Some-rows.ensures)

@@ -1,0 +1,107 @@
+use Rattle.std.proofs.Common.{◌≡◌, ◌+◌, ◌<◌, ◌^◌, Err, List, [], ◌∷◌, false, length, length-append, map, refl, sym, ap, ◌∙◌, subst, arith}
+use Rattle.tv_cases.specs.Systems.{cases_of}
+use Rattle.tv_cert.specs.AimViews.{aim_states}
+use Rattle.tv_cert.specs.declared.node.Marked.{Marked}
+use Rattle.tv_cert.specs.Listed.{pieces_list}
+use Rattle.tv_cert.specs.Said.{said_own}
+use Rattle.tv_cert.specs.Statements.{parts_of, part_at, count}
+use Rattle.tv_cert_grammar.specs.Nodes.{node}
+use Rattle.tv_cert_reader.specs.Reading.{FailsBy, Takes}
+use Rattle.tv_cert_reader.specs.Regions.{IsRegion, region_lines, region_with}
+use Rattle.tv_cert_reader.proofs.ReadingLemmas.{at_exit}
+use Rattle.tv_cert_reader.proofs.NodeLemmas.{weight, part_lighter, region_fails, pieces_in_node}
+use Rattle.tv_check_text.specs.Nodes.{IsJudgedNode, JudgesNode}
+use Rattle.tv_check_text.specs.Visits.{AreJudged, JudgesOwn}
+use Rattle.tv_check_text.proofs.NodeLemmas.{Stands, stands_first, child_stops, stands_next, few_parts, own_stops, node_judged}
+use Rattle.tv_check_text.proofs.nodes.+judge_node.Goals as goal
+
+pub returns-in_err-pieces-clause-judged : goal.returns-in_err-pieces-clause-judged
+returns-in_err-pieces-clause-judged t c =
+    let system = cases_of c.args.context.now.about.now in
+    let s = aim_states c.args.aim.now in
+    let f = c.in_err-pieces.field-0.0 in
+    at_exit (JudgesNode system s c.args.judge.now _) c.from_residual.result f c.from_residual.ensures.1
+    (region_fails system s c.args.judge.now.cursor f
+    (subst (λ (x : Type 0). x) (λ i. FailsBy (region_with system (c.kind_of.ensures.kind i) (c.may_rank.ensures i) (c.may_be_done.ensures i)) c.args.judge.now.cursor f) c.in_err-pieces.ensures))
+
+pub children-init : goal.children-init
+children-init t c =
+    let system = cases_of c.args.context.now.about.now in
+    let s = aim_states c.args.aim.now in
+    let inside = sym c.pieces.view_is in
+    let m = c.in_ok-pieces.ranks in
+    let is = subst (λ (x : Type 0). x) (λ i. IsRegion system (c.may_rank.ensures i) (c.may_be_done.ensures i) (inside i, m)) c.in_ok-pieces.ensures.0 in
+    let took = subst (λ (x : Type 0). x) (λ i. Takes (region_lines (c.kind_of.ensures.kind i) (inside i, m)) c.args.judge.now.cursor c.region.new.cursor) c.in_ok-pieces.ensures.1 in
+    (stands_first system s c.args.judge.now _ c.pieces.inside.list.items m c.new-children.result.items c.new-children.ensures.items is took refl refl refl c.requires, ap length c.new-children.ensures.items, omega arith)
+
+pub judge_node-requires : goal.judge_node-requires
+judge_node-requires t c =
+    let s = aim_states c.args.aim.now in
+    let few : c.children.i < count (parts_of s) = (let e = c.argument_count-i-end.ensures in let b = c.children-test.true in omega (arith, e, b)) in
+    let smaller : weight (aim_states c.part.result.now) < weight s = subst (λ p. weight p < weight s) (sym c.part.ensures) (part_lighter c.children.i s few) in
+    let d = c.decreases in
+    (omega (arith, smaller, d), c.children.invariant.0.counted)
+
+pub returns-in_err-child-clause-judged : goal.returns-in_err-child-clause-judged
+returns-in_err-child-clause-judged t c =
+    let system = cases_of c.args.context.now.about.now in
+    let s = aim_states c.args.aim.now in
+    let o = c.children.invariant in
+    let f = c.in_err-child.field-0.0 in
+    let few : length c.children.children.items < count (parts_of s) = (let e = c.argument_count-i-end.ensures in let b = c.children-test.true in let n = o.1 in omega (arith, e, b, n)) in
+    at_exit (JudgesNode system s c.args.judge.now c.judge_node.new.judge) c.from_residual-in_err-child.result f c.from_residual-in_err-child.ensures.1
+    (child_stops system s c.args.judge.now c.children.judge c.pieces.inside.list.items c.in_ok-pieces.ranks c.children.children.items o.0 f few
+    (subst (λ p. FailsBy (node false system p) c.children.judge.cursor f) (c.part.ensures ∙ ap (λ i. part_at i (parts_of s)) (sym o.1)) c.in_err-child.ensures.judged))
+
+pub children-preserved : goal.children-preserved
+children-preserved t c =
+    let system = cases_of c.args.context.now.about.now in
+    let s = aim_states c.args.aim.now in
+    let o = c.children.invariant in
+    let few : length c.children.children.items < count (parts_of s) = (let e = c.argument_count-i-end.ensures in let b = c.children-test.true in let n = o.1 in omega (arith, e, b, n)) in
+    let part = c.part.ensures ∙ ap (λ i. part_at i (parts_of s)) (sym o.1) in
+    let long = ap length c.in_ok-push.ensures.items ∙ length-append c.children.children.items (c.in_ok-child.child ∷ []) in (
+      stands_next system s c.args.judge.now c.children.judge c.pieces.inside.list.items c.in_ok-pieces.ranks c.children.children.items o.0 c.judge_node.new.judge c.push.new.self.items c.in_ok-child.child few
+          (subst (λ p. IsJudgedNode system p c.children.judge c.judge_node.new.judge c.in_ok-child.child) part c.in_ok-child.ensures.judged)
+          c.in_ok-push.ensures.items,
+      (let n = o.1 in omega (arith, long, n)),
+      (let n = o.1 in omega (arith, few, n)),
+    )
+
+pub judge_own-requires-clause-few : goal.judge_own-requires-clause-few
+judge_own-requires-clause-few t c =
+    let system = cases_of c.args.context.now.about.now in
+    let s = aim_states c.args.aim.now in
+    let h = few_parts system s c.args.judge.now c.children.judge c.pieces.inside.list.items c.in_ok-pieces.ranks c.children.children.items c.children.invariant.0 in
+    subst (λ (x : Type 0). x) (λ i. length (c.pieces.view_is i) + length (sym c.deref.ensures.value i) < 2 ^ 32) h
+
+pub returns-in_err-judge_own-clause-judged : goal.returns-in_err-judge_own-clause-judged
+returns-in_err-judge_own-clause-judged t c =
+    let system = cases_of c.args.context.now.about.now in
+    let s = aim_states c.args.aim.now in
+    let o = c.children.invariant in
+    let f = c.in_err-judge_own.field-0.0 in
+    let stands = subst (λ (ps : List Marked). Stands system s c.args.judge.now c.children.judge ps c.in_ok-pieces.ranks c.children.children.items) c.pieces.view_is o.0 in
+    let many : length c.children.children.items ≡ count (parts_of s) = (let e = c.argument_count-i-end.ensures in let b = c.children-test.false in let n = o.1 in let m = o.2 in omega (arith, e, b, n, m)) in
+    at_exit (JudgesNode system s c.args.judge.now c.judge_own.new.judge) c.from_residual-in_err-judge_own.result f c.from_residual-in_err-judge_own.ensures.1
+    (own_stops system s c.args.judge.now c.children.judge c.in_ok-pieces.pieces c.in_ok-pieces.ranks c.children.children.items stands many f
+    (subst (λ ks. JudgesOwn (said_own c.args.judge.now.nodes system s c.in_ok-pieces.pieces (map pieces_list ks)) c.children.judge c.judge_own.new.judge (Err f)) c.deref.ensures.value c.in_err-judge_own.ensures))
+
+pub returns-clause-judged : goal.returns-clause-judged
+returns-clause-judged t c =
+    let system = cases_of c.args.context.now.about.now in
+    let s = aim_states c.args.aim.now in
+    let o = c.children.invariant in
+    let stands = subst (λ (ps : List Marked). Stands system s c.args.judge.now c.children.judge ps c.in_ok-pieces.ranks c.children.children.items) c.pieces.view_is o.0 in
+    let many : length c.children.children.items ≡ count (parts_of s) = (let e = c.argument_count-i-end.ensures in let b = c.children-test.false in let n = o.1 in let m = o.2 in omega (arith, e, b, n, m)) in
+    node_judged system s c.args.judge.now c.children.judge c.judge_own.new.judge c.in_ok-pieces.pieces c.in_ok-pieces.ranks c.children.children c.kind_of.ensures.said stands many
+    (subst (λ ks. AreJudged (said_own c.args.judge.now.nodes system s c.in_ok-pieces.pieces (map pieces_list ks)) c.children.judge c.judge_own.new.judge) c.deref.ensures.value c.in_ok-judge_own.ensures)
+    _ (sym (pieces_in_node c.in_ok-pieces.pieces c.in_ok-pieces.ranks c.new.result c.new-2.result))
+
+pub returns-clause-few : goal.returns-clause-few
+returns-clause-few t c =
+    let system = cases_of c.args.context.now.about.now in
+    let s = aim_states c.args.aim.now in
+    let stands = subst (λ (ps : List Marked). Stands system s c.args.judge.now c.children.judge ps c.in_ok-pieces.ranks c.children.children.items) c.pieces.view_is c.children.invariant.0 in
+    let h = few_parts system s c.args.judge.now c.children.judge c.in_ok-pieces.pieces c.in_ok-pieces.ranks c.children.children.items stands in
+    subst (λ ps. length ps < 2 ^ 32) (pieces_in_node c.in_ok-pieces.pieces c.in_ok-pieces.ranks c.new.result c.new-2.result) (omega (arith, h))

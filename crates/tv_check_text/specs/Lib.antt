@@ -1,0 +1,5 @@
+pub mod Settling
+pub mod Visits
+pub mod Nodes
+pub mod Rest
+pub mod Texts

@@ -1,0 +1,31 @@
+-- What a judge has done that went over a node and those below it.
+use Rattle.std.specs.Prelude.{◌≡◌, ◌+◌, false, length, Result, Ok, Err}
+use Rattle.tv_cases.specs.LinearCases.{CaseSystem}
+use Rattle.tv_cert.specs.declared.node.Node.{Node}
+use Rattle.tv_cert.specs.Listed.{pieces_list}
+use Rattle.tv_cert.specs.Nodes.{size}
+use Rattle.tv_cert.specs.Said.{said_entries}
+use Rattle.tv_cert.specs.Statements.{Statement}
+use Rattle.tv_cert_grammar.specs.Nodes.{node}
+use Rattle.tv_cert_grammar.specs.Shaped.{stated_lines}
+use Rattle.tv_cert_reader.specs.declared.failure.Failure.{Failure}
+use Rattle.tv_cert_reader.specs.Nodes.{IsNodeOf}
+use Rattle.tv_cert_reader.specs.Reading.{Takes, FailsBy}
+use Rattle.tv_check_text.specs.declared.judge.Judge.{Judge}
+use Rattle.tv_check_text.specs.Settling.{Settles}
+use Rattle.tv_check_text.specs.Visits.{IsCounted}
+
+-- A node that is to show this is taken off and its obligations are judged, with those of the nodes below it; `head` keeps its pieces.
+pub record IsJudgedNode (system : CaseSystem) (s : Statement) (old new : Judge) (head : Node) : Type 0 where
+  pub node : Node
+  pub is_node : IsNodeOf system s node
+  pub took : Takes (stated_lines s node) old.cursor new.cursor
+  pub pieces : pieces_list head ≡ pieces_list node
+  pub nodes : new.nodes ≡ old.nodes + size node
+  pub seen : new.seen ≡ old.seen + length (said_entries old.nodes system s node)
+  pub counted : IsCounted new
+  pub settles : Settles old.seen old.failing (said_entries old.nodes system s node) new.failing
+
+abbrev pub JudgesNode : CaseSystem → Statement → Judge → Judge → Result Node Failure → Type 0
+JudgesNode system s old new (Ok head) = IsJudgedNode system s old new head
+JudgesNode system s old new (Err f) = FailsBy (node false system s) old.cursor f

@@ -1,0 +1,110 @@
+ghost use Rattle.std.specs.Prelude.{◌≡◌, ◌-◌, ◌<◌, ◌^◌, length, IfOk, IfErr};
+ghost use Rattle.tv_cases.specs.Systems.{cases_of};
+ghost use Rattle.tv_cert.specs.Claims.{StatesIts, claim_variables};
+ghost use Rattle.tv_check_text.specs.Texts.{IsAcceptedText, IsAcceptedWith, IsUnaccepted, failing_of};
+
+use crate::judge::Judge;
+use crate::rest::judge_whole;
+use std::alloc::Global;
+use tv_cases::Cases;
+use tv_cert::Claim;
+use tv_cert_grammar::LineKind;
+use tv_cert_reader::{Context, Cursor, Failure};
+use tv_check::Failing;
+use tv_lines::Lines;
+
+/// Why the text is not accepted as a certificate. A fault at a line comes before an obligation that is not met.
+#[derive(Clone, Copy, Debug, PartialEq, Eq)]
+pub enum TextFailing {
+    /// A line that has none of the forms, a line that is missing, or one behind the last.
+    Syntax { line: u32 },
+    /// A number of 2^62 or more in magnitude.
+    Wide { line: u32 },
+    /// The 129th split on a path.
+    Deep { line: u32 },
+    /// A line of another form, with other numbers or more or fewer of them than is wanted there.
+    Shape { line: u32 },
+    /// The first obligation that is not met.
+    Obligation(Failing),
+    Memory,
+}
+
+/// What a certificate says all of whose obligations are met.
+#[derive(Drop)]
+pub struct Accepted {
+    /// Whether the property is proved; else it is disproved.
+    pub proved: bool,
+    /// The values at which it is disproved, one for each variable; none where it is proved.
+    pub values: Vec<i128>,
+    /// How many obligations there are.
+    pub obligations: u64,
+}
+
+/// Why a text is not accepted that is not read to its end.
+fn failing_of(failure: Failure) -> TextFailing
+    ensures { result ≡ failing_of failure }
+{
+    match failure {
+        Failure::Fault(LineKind::Syntax, line) => TextFailing::Syntax { line },
+        Failure::Fault(LineKind::Wide, line) => TextFailing::Wide { line },
+        Failure::Fault(LineKind::Deep, line) => TextFailing::Deep { line },
+        Failure::Fault(LineKind::Shape, line) => TextFailing::Shape { line },
+        Failure::Memory => TextFailing::Memory,
+    }
+}
+
+/// What is accepted with these values at which it is disproved, if it is.
+fn accepted_with(alloc: Global, values: Option<Vec<i128>>, obligations: u64) -> Accepted
+    ensures { IsAcceptedWith values obligations result }
+{
+    match values {
+        None => Accepted {
+            proved: true,
+            values: Vec::new(alloc),
+            obligations,
+        },
+        Some(values) => Accepted {
+            proved: false,
+            values,
+            obligations,
+        },
+    }
+}
+
+/// Checks the text of a certificate of what is claimed, over these cases, while it is read. It holds the pieces of the nodes that are
+/// not finished and of their children, the split rows on the path of a proof, and one line.
+pub fn check_text(
+    alloc: Global,
+    text: &[u8],
+    about: &Cases,
+    claim: &Claim,
+) -> Result<Accepted, TextFailing>
+    requires few { length text.now < 2 ^ 32 - 1 }
+    requires states { StatesIts claim.now }
+    requires variables { claim_variables claim.now ≡ (cases_of about.now).variables }
+    // The text is that of a certificate all of whose obligations are met.
+    ensures accepted { IfOk result (λ a. IsAcceptedText (cases_of about.now) claim.now text.now a) }
+    // Else the first line at fault is told, or the first obligation that is not met, unless memory is wanting.
+    ensures refused { IfErr result (λ f. IsUnaccepted (cases_of about.now) claim.now text.now f) }
+{
+    let context = Context { alloc, about };
+    let cursor = Cursor {
+        lines: Lines::new(text),
+        taken: 0,
+    };
+    let mut judge = Judge {
+        alloc,
+        cursor,
+        nodes: 0,
+        seen: 0,
+        failing: None,
+        failure: None,
+    };
+    match judge_whole(&context, &mut judge, claim) {
+        Err(failure) => Err(failing_of(failure)),
+        Ok(values) => match judge.failing {
+            Some(failing) => Err(TextFailing::Obligation(failing)),
+            None => Ok(accepted_with(alloc, values, judge.seen)),
+        },
+    }
+}

@@ -1,0 +1,81 @@
+-- What the certificate of a claim says all of whose obligations are met.
+use Rattle.std.proofs.Common.{◌≡◌, ◌+◌, ◌++◌, ◌∷◌, [], ◌<◌, ◌^◌, OnOk, Result, Ok, Err, List, length, arith, refl, sym, ap, ◌∙◌, subst, length-append}
+use Rattle.std.specs.Prelude.{MatchResult}
+use Rattle.tv_program.specs.Systems.{System}
+use Rattle.tv_formula.specs.Properties.{Property, term}
+use Rattle.tv_cases.specs.Comparisons.{comparison_lists}
+use Rattle.tv_cases.specs.LinearCases.{CaseSystem}
+use Rattle.tv_cases.specs.Answers.{IsOfProgram, HaveSameSteps}
+use Rattle.tv_cert.specs.declared.claim.Claim.{Claim}
+use Rattle.tv_cert.specs.declared.node.Marked.{Marked}
+use Rattle.tv_cert.specs.declared.node.Verdict.{Verdict}
+use Rattle.tv_cert.specs.declared.node.Verdict.TheVariants.{Proved, Disproved}
+use Rattle.tv_cert.specs.Claims.{IsClaim, about_with, shown}
+use Rattle.tv_cert.specs.Nodes.{entries, pieces_of, root_entry, obligations}
+use Rattle.tv_cert.specs.Obligations.{AllMet}
+use Rattle.tv_cert.specs.Plain.{about_of}
+use Rattle.tv_cert.specs.Said.{said_entries, HasParts}
+use Rattle.tv_cert.specs.Shapes.{HasShape, VerdictShape}
+use Rattle.tv_cert.specs.Statements.{Statement, stated}
+use Rattle.tv_cert.proofs.SaidLemmas.{entries-stated}
+use Rattle.tv_cert.proofs.SaidNodes.{fits_parts}
+use Rattle.tv_cert.proofs.ShapeFits.{shape_fits}
+use Rattle.tv_check.specs.declared.walking.Failing.{Failing}
+use Rattle.tv_shape.specs.declared.certificate.Certificate.{Certificate}
+use Rattle.tv_shape.specs.Certificates.{IsOf}
+use Rattle.tv_sound.specs.Following.{FollowsFrom}
+use Rattle.tv_sound.specs.Settled.{IsSettled}
+use Rattle.tv_sound.proofs.Claimed.{shown_of, ValuesCounted, claim_sound, claim_followed}
+
+-- ---- the obligations by the statement of the root
+
+root_same : (system : CaseSystem) (ps : List Marked) (verdict : Verdict) → root_entry (about_of system) ps verdict ≡ root_entry (about_with system) ps verdict
+root_same system ps (Proved start) = refl
+root_same system ps (Disproved k values) = refl
+
+module _ (system : CaseSystem) (f : Property) (c : Certificate) (s : Statement) (same : s ≡ stated (comparison_lists system.variables) f) (fits : IsOf (about_with system) f c) where
+  said : said_entries 0 system s c.root ≡ entries 0 (about_with system) f c.root
+  said = ap (λ t. said_entries 0 system t c.root) same ∙ entries-stated 0 (about_with system) f c.root
+
+  pub owed : said_entries 0 system s c.root ++ root_entry (about_of system) (pieces_of c.root) c.verdict ∷ [] ≡ obligations (about_with system) f c.root c.verdict
+  owed = (λ i. said i ++ root_same system (pieces_of c.root) c.verdict i ∷ [])
+
+  pub has_parts : HasParts s c.root
+  has_parts = subst (λ t. HasParts t c.root) (sym same) (fits_parts (about_with system) system.variables f c.root (shape_fits (about_with system) f c.root fits.fits.nodes.shape))
+
+  pub has_room : length (said_entries 0 system s c.root) + 1 < 2 ^ 64
+  has_room =
+      let many = ap length owed in
+      let parts = length-append (said_entries 0 system s c.root) (root_entry (about_of system) (pieces_of c.root) c.verdict ∷ []) in
+      let room = fits.few_obligations in
+      omega (arith, many, parts, room)
+
+-- ---- what a met certificate says
+
+counted : (system : CaseSystem) (ps : List Marked) (verdict : Verdict) → VerdictShape (about_with system) ps verdict → ValuesCounted system.variables verdict
+counted system ps (Proved start) h = tt
+counted system ps (Disproved k values) h = h.0
+
+shown_is : (claim : Claim) (f : Property) (verdict : Verdict) → IsClaim claim f → shown claim verdict ≡ shown_of f verdict
+shown_is claim f (Proved start) h = h.proved
+shown_is claim f (Disproved k values) h = h.denied
+
+module _ (p : System) (system : CaseSystem) (of_program : IsOfProgram p system) (steps : HaveSameSteps p system) (claim : Claim) (c : Certificate) (fits : IsOf (about_with system) (shown claim c.verdict) c) (met : AllMet (obligations (about_with system) (shown claim c.verdict) c.root c.verdict)) where
+  pub settled : (f : Property) → IsClaim claim f → IsSettled p f c.verdict
+  settled f h =
+      let e = shown_is claim f c.verdict h in
+      claim_sound p system of_program steps f c.root c.verdict
+      (shape_fits (about_with system) (shown_of f c.verdict) c.root (subst (λ g. HasShape (about_with system) g c.root) e fits.fits.nodes.shape))
+      (subst (λ g. AllMet (obligations (about_with system) g c.root c.verdict)) e met)
+      (counted system (pieces_of c.root) c.verdict fits.fits.said.shape)
+
+  pub follows : (verdict : Verdict) → c.verdict ≡ verdict → IsClaim claim term → FollowsFrom p system c.root verdict
+  follows (Proved start) e h = tt
+  follows (Disproved k values) e h =
+      claim_followed p system of_program steps c.root k values
+      (subst (λ v. AllMet (obligations (about_with system) (shown_of term v) c.root v)) e (subst (λ g. AllMet (obligations (about_with system) g c.root c.verdict)) (shown_is claim term c.verdict h) met))
+      (subst (ValuesCounted system.variables) e (counted system (pieces_of c.root) c.verdict fits.fits.said.shape))
+
+pub on_ok : (A B : Type 0) (P : Failing → Type 0) (result : Result (Unit {0}) Failing) → MatchResult result (λ done. A) P → (A → B) → OnOk result B
+on_ok A B P (Ok done) h f = f h
+on_ok A B P (Err failing) h f = tt
