@@ -1,9 +1,10 @@
 #!/usr/bin/env bash
 # How long the built program takes to read a certificate of up to 16 MiB and to check it, which it does at once, and how much memory: an
 # invariant over many variables, most of whose text is rows, and one over few, most of whose text is lines of multipliers; and some whose
-# lines are short: many pieces at one location, with and without rows, one piece of many rows, and a tree of many splits. Beside it a
-# plain scan of the same lines, which takes one product and one sum for each number. The best of 5 runs, start and reading of the input
-# counted. First with the heading of a certificate alone, which takes what the program and its cases take; then what comes on top is told.
+# lines are short: many pieces at one location, with and without rows, one piece of many rows, and a tree of many splits; and some made to
+# take as much memory as they can: pieces that owe nothing, and a line of very many numbers that is at fault. Beside it a plain scan of the
+# same lines, which takes one product and one sum for each number. The best of 5 runs, start and reading of the input counted. First with
+# the heading of a certificate alone, which takes what the program and its cases take; then what comes on top is told.
 # It needs /usr/bin/time, and what is built first by (cd crates/t2verdict && rt run < stdin -- $(cat args)) and
 # (cd crates/reading_bench && rt run -- sum < stdin).
 set -eu
@@ -104,6 +105,20 @@ def tree_of(leaves):
     return lines + ["into 0 0", "by 1 1", "empty 1 1", "into 0 0", "end"]
 
 
+def idle_of(pieces, row):
+    """So many pieces, each with this row if there is one, at two locations that no edge leaves, so that they owe nothing."""
+    lines = ["CERTIFICATE:", "T2CERT 1", "proved", f"node next {pieces + 1} 0", "piece 0 go 0"]
+    for i in range(pieces):
+        lines += [f"piece {2 if 2 * i < pieces else 1} go {len(row)}", *row]
+    lines += ["node atom 2 0", "piece 1 go 0", "piece 2 go 0", "into 0 0", "into 0 0"]
+    return lines + ["into 0 0"] * 3 + ["end"]
+
+
+def fork_of(command):
+    """From 0 to 1 and to 2."""
+    return ["START: 0;", f"FROM: 0; {command}TO: 1;", f"FROM: 0; {command}TO: 2;"]
+
+
 def write(name, what, lines):
     with open(f"{sys.argv[1]}/{name}.{what}", "w") as file:
         file.write("\n".join(lines) + "\n")
@@ -136,6 +151,17 @@ write("11", "checked", program + tree_of(2**17))
 program = ["START: 0;", "FROM: 0; v0 := 0; TO: 1;", "FROM: bad; TO: bad;"]
 write("12", "bare", program + ["CERTIFICATE:"])
 write("12", "checked", program + rows_of(1000000))
+for name, command, pieces, row in [
+    ("13", "", 1150000, []),
+    ("14", "", 780000, ["row 0"]),
+    ("15", "v0 := 0; ", 700000, ["row 1 0"]),
+]:
+    program = fork_of(command)
+    write(name, "bare", program + ["CERTIFICATE:"])
+    write(name, "checked", program + idle_of(pieces, row))
+program = fork_of("")
+write("16", "bare", program + ["CERTIFICATE:"])
+write("16", "checked", program + ["CERTIFICATE:", "T2CERT 1", "proved", "node next 1 0", "piece 0 go 1", line("row", [1] * 8000000)])
 END_OF_TEXTS
 python3 - crates/t2verdict/out/t2verdict crates/reading_bench/out/reading_bench "$folder" <<'END_OF_RUNS'
 import os, subprocess, sys, time
@@ -170,14 +196,19 @@ for name, told in [
     ("10", "1 variable, 350,000 pieces without rows"),
     ("11", "1 variable, a tree of 131,071 splits"),
     ("12", "1 variable, one piece of 1,000,000 rows"),
+    ("13", "no variable, 1,150,000 pieces that owe nothing, without rows"),
+    ("14", "no variable, 780,000 pieces that owe nothing, one row each"),
+    ("15", "1 variable, 700,000 pieces that owe nothing, one row each"),
+    ("16", "no variable, one row of 8,000,000 numbers, which is at fault"),
 ]:
     text = f"{FOLDER}/{name}"
+    asked = ["--safety", "bad"] if int(name) <= 12 else ["--ctl", "[AX](true)"]
     size = (os.path.getsize(f"{text}.checked") - os.path.getsize(f"{text}.bare")) / 2**20
     scan, counted, _ = best([SCANNER, "numbers"], f"{text}.checked")
     print(f"{told}: {size:.1f} MiB, {counted.split(',')[0]}, scan {scan * 1000:.0f} ms", flush=True)
     spent, held = 0, 0
     for what in ("bare", "checked"):
-        seconds, answer, memory = best([CHECKER, "--check", "--safety", "bad"], f"{text}.{what}")
+        seconds, answer, memory = best([CHECKER, "--check", *asked], f"{text}.{what}")
         more = seconds - spent
         shown = f"{seconds * 1000:.0f} ms, {memory:.0f} MiB"
         if what == "checked":

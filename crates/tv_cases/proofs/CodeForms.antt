@@ -3,9 +3,8 @@ use Rattle.tv_linear.specs.Linear.{linear}
 use Rattle.tv_linear.specs.Arithmetic.{zeros, unit, constant_row, column_row}
 use Rattle.std.proofs.Common.{get_or, drop, drop-cons}
 use Rattle.tv_program.specs.declared.tree.Expr.{Expr}
-use Rattle.tv_program.specs.declared.tree.Cond.{Cond}
-use Rattle.tv_program.specs.Trees.{part, test}
-use Rattle.tv_program.specs.Views.{expression, expressions, condition, conditions}
+use Rattle.tv_program.specs.Trees.{part}
+use Rattle.tv_program.specs.Views.{expression, expressions}
 use Rattle.tv_cases.specs.EdgeCases.{columns_from}
 
 unit-outside : (w column : ℕ) → w ≤ column → unit w column ≡ zeros w
@@ -29,11 +28,5 @@ columns_from-push w n = columns_from-more w 0 n ∙ ap (λ u. columns_from w 0 n
 pub expressions-drop : (es : List Expr) (i : ℕ) (d : Expr) → i < length es → expressions (drop i es) ≡ part (expression (get_or es i d)) (expressions (drop (i + 1) es))
 expressions-drop es i d h = ap expressions (drop-cons es i d h) ∙ ap (λ k. part (expression (get_or es i d)) (expressions (drop k es))) (sym (add-one i))
 
-pub conditions-drop : (cs : List Cond) (i : ℕ) (d : Cond) → i < length cs → conditions (drop i cs) ≡ test (condition (get_or cs i d)) (conditions (drop (i + 1) cs))
-conditions-drop cs i d h = ap conditions (drop-cons cs i d h) ∙ ap (λ k. test (condition (get_or cs i d)) (conditions (drop k cs))) (sym (add-one i))
-
 pub expressions-next : (es : List Expr) (i : ℕ) (item : Expr) → i < length es → item ≡ get_or es i item → expressions (drop i es) ≡ part (expression item) (expressions (drop (i + 1) es))
 expressions-next es i item h is = expressions-drop es i item h ∙ ap (λ e. part (expression e) (expressions (drop (i + 1) es))) (sym is)
-
-pub conditions-next : (cs : List Cond) (i : ℕ) (item : Cond) → i < length cs → item ≡ get_or cs i item → conditions (drop i cs) ≡ test (condition item) (conditions (drop (i + 1) cs))
-conditions-next cs i item h is = conditions-drop cs i item h ∙ ap (λ c. test (condition c) (conditions (drop (i + 1) cs))) (sym is)

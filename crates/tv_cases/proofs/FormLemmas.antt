@@ -79,10 +79,6 @@ or_true : (a b : Bool) → b ≡ true → (a || b) ≡ true
 or_true true b h = refl
 or_true false b h = h
 
-or_same : (a : Bool) → (a || a) ≡ a
-or_same true = refl
-or_same false = refl
-
 -- t and f: the product and the factor are numbers, u: their product is; k, l, a: the factor is constant, the rest linear, constant
 factor_or_rest : (t f k l a : Bool) → (k ≡ true → f ≡ true) → ((t && ((k && l) || a)) || (k && a)) ≡ true → (t || f) ≡ true
 factor_or_rest true f k l a h e = refl

@@ -1,13 +1,12 @@
 -- a narrow row is one that is narrow at each of its columns
-use Rattle.std.proofs.Common.{◌≡◌, ℕ, zero, suc, ◌<◌, ◌≤◌, ◌∙◌, ◌⊎◌, inl, inr, refl, sym, ap, arith, subst, ℤ, pos, Bool, true, false}
+use Rattle.std.proofs.Common.{◌≡◌, ℕ, zero, suc, ◌<◌, ◌≤◌, ◌∙◌, refl, ap, arith, subst, ℤ, pos, Bool, true, false}
 use Rattle.std.specs.Prelude.{◌&&◌, All, Option, SomeIff, Some, None}
 use Rattle.std.specs.List.{list_all}
 use Rattle.std.proofs.lemmas.Bool.Decides.{nat_tests}
-use Rattle.std.proofs.lemmas.Bool.{cases_lt}
-use Rattle.std.proofs.lemmas.List.Elements.{All-from_get_or, All-get_or}
+use Rattle.std.proofs.lemmas.List.Elements.{All-from_get_or}
 use Rattle.tv_linear.specs.Linear.{Linear, columns, IsWithin, IsNarrow}
 use Rattle.std.specs.Prelude.{Result, Ok, Err}
-use Rattle.tv_linear.specs.Fits.{IsNarrowAt, IsFirstWide, GivesWhere}
+use Rattle.tv_linear.specs.Fits.{IsNarrowAt, GivesWhere}
 use Rattle.tv_linear.specs.declared.fault.RowFault.{RowFault}
 use Rattle.tv_linear.specs.Arithmetic.{zeros, constant_row}
 use Rattle.std.specs.Prelude.{IfOk}
@@ -34,25 +33,9 @@ is_narrow-columns r h =
     is_narrow-both r (All-from_get_or (IsWithin 62) r.coefficients r.constant (λ i l. h i (omega arith)))
     (subst (IsWithin 62) (entry-last r (columns r) (omega arith)) (h (columns r) (omega arith)))
 
-columns-is_narrow : (r : Linear) → is_narrow r ≡ true → (k : ℕ) → k ≤ columns r → IsNarrowAt r k
-columns-is_narrow r h k l =
-    let both = both_true (list_all is_narrow_number r.coefficients) (is_narrow_number r.constant) h in
-    by_place (All-from_test (IsWithin 62) is_narrow_number test-within r.coefficients both.0) (test-within r.constant both.1) where
-      open_place : All (IsWithin 62) r.coefficients → IsWithin 62 r.constant → (k < columns r) ⊎ (columns r ≤ k) → IsNarrowAt r k
-      open_place all last place = elim place [
-        | inl inside ↦ All-get_or (IsWithin 62) r.coefficients k r.constant inside all
-        | inr past ↦ subst (IsWithin 62) (sym (entry-last r k past)) last
-      ]
-
-      by_place : All (IsWithin 62) r.coefficients → IsWithin 62 r.constant → IsNarrowAt r k
-      by_place all last = open_place all last (cases_lt k (columns r))
-
 not_true : (b : Bool) → (b ≡ true → ⊥) → b ≡ false
 not_true true h = absurd (h refl)
 not_true false h = refl
-
-pub is_narrow-first_wide : (r : Linear) (column : ℕ) → IsFirstWide (IsNarrowAt r) (columns r) column → is_narrow r ≡ false
-is_narrow-first_wide r column h = not_true (is_narrow r) (λ narrow. h.wide (columns-is_narrow r narrow column h.inside))
 
 pub is_narrow-not : (r : Linear) → columns r < 4294967295 → (IsNarrow r → ⊥) → is_narrow r ≡ false
 is_narrow-not r few h =

@@ -4,7 +4,7 @@ use Rattle.std.specs.Prelude.{◌&&◌, ◌||◌, unsigned_abs, cond}
 use Rattle.std.proofs.lemmas.List.{length-map}
 use Rattle.tv_cases.specs.declared.products.Partial.TheVariants.{Narrow, Wide}
 use Rattle.tv_cases.specs.declared.products.Partial.{Partial}
-use Rattle.tv_cases.specs.Partial.{Stands, SizedAs}
+use Rattle.tv_cases.specs.Partial.{Stands}
 use Rattle.tv_cases.proofs.Listed.{both_true}
 use Rattle.std.specs.List.{list_all}
 use Rattle.std.proofs.lemmas.Int.{ints, unsigned_abs-mul}
@@ -123,9 +123,6 @@ partial-zero w z r h e =
     let same = scaled-of_zero z r h ∙ ap (λ k. constant_row k (pos 0)) e in
     record { sized = length-scaled z r ∙ e; is = (ap is_narrow same ∙ zero-narrow w, same) }
 
-pub partial-narrow : (z : ℤ) (r row : Linear) → is_narrow (scaled z r) ≡ true → row ≡ scaled z r → Stands (columns r) (scaled z r) (Narrow row)
-partial-narrow z r row h e = record { sized = length-scaled z r; is = (h, sym e) }
-
 pub partial-wide : (z : ℤ) (r : Linear) (b : Bool) → is_zero z ≡ false → b ≡ is_number r → is_narrow (scaled z r) ≡ false → Stands (columns r) (scaled z r) (Wide b)
 partial-wide z r b h e k = record { sized = length-scaled z r; is = (k, scaled-constant z r h ∙ sym e) }
 
@@ -176,13 +173,6 @@ times-stands_first w r s z p h e k = subst (λ t. Stands w t p) (ap (λ y. scale
 
 pub wide-stands : (w : ℕ) (t r : Linear) (b : Bool) → columns r ≡ w → is_number r ≡ false → (is_number t || is_number r) ≡ true → Stands w t (Wide b) → Stands w (times t r) (Wide false)
 wide-stands w t r b e h one s = times-stands_first w t r t.constant (Wide false) h refl (wide-by_row w t r e h s.is.0 (or_else (is_number t) (is_number r) one h))
-
-pub stands-sized : (w : ℕ) (t : Linear) (p : Partial) → Stands w t p → SizedAs w p
-stands-sized w t (Narrow r) s = ap (λ (x : Linear). columns x) (sym s.is.1) ∙ s.sized
-stands-sized w t (Wide b) s = tt
-
-pub narrow-multiplies : (w : ℕ) (left row t : Linear) (p : Partial) → Stands w (times left row) p → Stands w t (Narrow left) → Stands w (times t row) p
-narrow-multiplies w left row t p h s = subst (λ x. Stands w (times x row) p) (sym s.is.1) h
 
 -- one more factor, under the names that the loop gives
 pub stands-next : (w : ℕ) (row factor t : Linear) (kept next : Partial) → columns row ≡ w → row ≡ factor → ((t : Linear) → Stands (columns row) t kept → (is_number t || is_number row) ≡ true → Stands (columns row) (times t row) next) → Stands w t kept → (is_number t || is_number factor) ≡ true → Stands w (times t factor) next

@@ -1,12 +1,8 @@
 -- What an aim with a list of parts states.
-use Rattle.std.proofs.Common.{◌≡◌, ℕ, zero, suc, ◌<◌, List, [], ◌∷◌, length, get_or, refl, ap, arith}
+use Rattle.std.proofs.Common.{◌≡◌, ℕ, zero, suc, ◌<◌, List, [], ◌∷◌, length, get_or, ap, arith}
 use Rattle.tv_cert.specs.declared.aim.Aim.{Aim}
-use Rattle.tv_cert.specs.Statements.{Statement, count, part_at}
-use Rattle.tv_cert.specs.AimViews.{statements_of, aim_states, aims_state}
-
-count_of : (ss : List Statement) → count (statements_of ss) ≡ length ss
-count_of [] = refl
-count_of (s ∷ ss) = ap suc (count_of ss)
+use Rattle.tv_cert.specs.Statements.{count, part_at}
+use Rattle.tv_cert.specs.AimViews.{aim_states, aims_state}
 
 pub many_parts : (aims : List Aim) (i : ℕ) → i < count (aims_state aims) → i < length aims
 many_parts [] i h = h

@@ -1,7 +1,6 @@
 pub mod MarkedLemmas
 pub mod NodeLemmas
 pub mod PieceLemmas
-pub mod ShapeLemmas
 pub mod ShapeFits
 pub mod SaidLemmas
 pub mod VisitLemmas

@@ -1,18 +1,14 @@
 -- pieces whose numbers stand in one list
 use Rattle.std.proofs.Common.{◌≡◌, ℕ, ◌+◌, ◌*◌, ◌-◌, ◌/◌, ◌^◌, ◌<◌, ◌≤◌, List, [], ◌++◌, length, drop, arith, sym, ap, ◌∙◌, ℤ}
 use Rattle.std.specs.Prelude.{All}
-use Rattle.std.proofs.Math.Nat.{div-mul-le_self, le-div_iff_mul-le, mul-div_left, mul-sub}
+use Rattle.std.proofs.Math.Nat.{div-mul-le_self, mul-div_left, mul-sub}
 use Rattle.std.proofs.lemmas.List.{append-nil, length-append, length-drop}
-use Rattle.std.proofs.lemmas.List.Elements.{All-append, All-drop, All-nil}
+use Rattle.std.proofs.lemmas.List.Elements.{All-append, All-drop}
 use Rattle.tv_linear.specs.Linear.{Linear, IsNarrow, IsWithin, columns}
 use Rattle.tv_rows.specs.Packed.{ArePacked, packed, unpacked}
 use Rattle.tv_rows.proofs.PackedLemmas.{length-packed, narrow-packed, unpacked-packed, drop-packed, unpacked-columns}
 use Rattle.tv_cert.specs.declared.node.Mark.{Mark}
 use Rattle.tv_cert.specs.MarkedRows.{marked, marked_in}
-
--- as many rows as there is room for are enough
-pub rows_counted : (n count : ℕ) (zs : List ℤ) → count * (n + 1) ≤ length zs → count ≤ length zs / (n + 1)
-rows_counted n count zs enough = (le-div_iff_mul-le {k = n + 1} {x = count} {y = length zs} (omega arith)).1 enough
 
 -- the rows behind others
 pub ranks_enough : (n count : ℕ) (zs : List ℤ) → (length zs / (n + 1) - count) * (n + 1) ≤ length (drop (count * (n + 1)) zs)

@@ -1,4 +1,4 @@
-use Rattle.std.proofs.Common.{◌≡◌, ℕ, Bool, subst, zero, suc, ◌+◌, ◌-◌, ◌<◌, List, ◌∷◌, length, drop, get_or, arith, refl, sym, ap, ◌∙◌, Some, ◌==◌, cond, drop-cons, true, false}
+use Rattle.std.proofs.Common.{◌≡◌, ℕ, Bool, subst, suc, ◌+◌, ◌<◌, List, ◌∷◌, length, drop, get_or, arith, sym, ap, ◌∙◌, Some, ◌==◌, cond, drop-cons, true, false}
 use Rattle.std.proofs.lemmas.Bool.Decides.{nat_tests}
 use Rattle.std.proofs.lemmas.Option.{slice_get_within, get_or_from_slice_get}
 use Rattle.std.proofs.lemmas.List.Elements.{All-filter, All-contains_itself, filter_passes}
@@ -30,12 +30,5 @@ module _ (ps : List Marked) (l i : ℕ) (p : Marked) (below : i < length ps) (is
   pub target_first : place_of p ≡ l → pieces_at (drop i ps) l ≡ p ∷ pieces_at (drop (i + 1) ps) l
   target_first e = ap (λ qs. pieces_at qs l) there ∙ ap (λ b. cond b (p ∷ pieces_at (drop (i + 1) ps) l) (pieces_at (drop (i + 1) ps) l)) (test_true (place_of p) l e)
 
-  pub target_skipped : (place_of p ≡ l → ⊥) → pieces_at (drop i ps) l ≡ pieces_at (drop (i + 1) ps) l
-  target_skipped e = ap (λ qs. pieces_at qs l) there ∙ ap (λ b. cond b (p ∷ pieces_at (drop (i + 1) ps) l) (pieces_at (drop (i + 1) ps) l)) (test_false (place_of p) l e)
-
   pub found_here : (left : ℕ) → place_of p ≡ l → left ≡ 0 → slice_get (pieces_at (drop i ps) l) left ≡ Some p
   found_here left e z = (λ j. slice_get (target_first e j) (z j))
-
-  pub passed_here : (left : ℕ) → place_of p ≡ l → (left ≡ 0 → ⊥) → slice_get (pieces_at (drop i ps) l) left ≡ slice_get (pieces_at (drop (i + 1) ps) l) (left - 1)
-  passed_here zero e z = absurd (z refl)
-  passed_here (suc left) e z = ap (λ qs. slice_get qs (suc left)) (target_first e) ∙ ap (λ k. slice_get (pieces_at (drop (i + 1) ps) l) k) (let k : left ≡ suc left - 1 = omega arith in k)

@@ -59,9 +59,6 @@ pub record Ahead {S A : Type 0} (passes stops : S → Obligation → S → Type 
   pub leads : (result : Bool) (u : S) → Visits passes stops room result now (g (drop i xs)) u → Visits passes stops room result first (g xs) u
   pub space : length (g (drop i xs)) ≤ room now
 
-pub ahead_start : {S A : Type 0} (passes stops : S → Obligation → S → Type 0) (room : S → ℕ) (g : List A → List Obligation) (xs : List A) (first : S) → length (g xs) ≤ room first → Ahead passes stops room g xs first first 0
-ahead_start passes stops room g xs first r = record { leads = λ result u h. h; space = r }
-
 module _ {S A : Type 0} (passes stops : S → Obligation → S → Type 0) (room : S → ℕ) (g : List A → List Obligation) (nothing : g [] ≡ []) (each : (x : A) (xs : List A) → g (x ∷ xs) ≡ g (x ∷ []) ++ g xs) (xs : List A) (first now : S) (i : ℕ) (h : Ahead passes stops room g xs first now i) where
   pub ahead_end : length xs ≤ i → Visits passes stops room true first (g xs) now
   ahead_end l = h.leads true now (subst (λ os. Visits passes stops room true now os now) (sym (ap g (drop_past xs i l) ∙ nothing)) (visits_none passes stops room now))

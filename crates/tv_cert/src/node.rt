@@ -1,4 +1,4 @@
-ghost use Rattle.std.specs.Prelude.{◌≡◌, ◌-◌, ◌^◌, ◌<◌, All, IfOk, SomeIff};
+ghost use Rattle.std.specs.Prelude.{◌≡◌, ◌-◌, ◌^◌, ◌<◌, All, IfOk, SomeIff, length};
 ghost use Rattle.tv_linear.specs.Linear.{columns as columns_of};
 ghost use Rattle.tv_rows.specs.Packed.{ArePacked};
 ghost use Rattle.tv_rows.specs.Views.{rows_seen};
@@ -24,7 +24,7 @@ pub struct Marked {
     columns: u32,
     mark: Mark,
     /// How many rows there are before the ranks.
-    rows: usize,
+    rows: u32,
     /// The numbers of the rows and then of the ranks, each constant behind the coefficients of its row.
     numbers: Vec<i64>,
 }
@@ -46,7 +46,7 @@ impl Marked {
         location: u32,
         mark: Mark,
         columns: u32,
-        rows: usize,
+        rows: u32,
         numbers: Vec<i64>,
     ) -> Marked
         requires { ArePacked columns rows numbers.items }
@@ -61,7 +61,7 @@ impl Marked {
         }
     }
 
-    /// The piece of these rows and ranks; `None` where one has another number of columns.
+    /// The piece of these rows and ranks; `None` where one has another number of columns, or there are 2^32 rows or more.
     pub fn from_rows(
         alloc: Global,
         location: u32,
@@ -72,10 +72,10 @@ impl Marked {
     ) -> Result<Option<Marked>, AllocError>
         requires { columns < 2 ^ 32 - 1 }
         ensures { IfOk result (λ made. SomeIff made
-            (All (λ r. columns_of r ≡ columns) rows.now × All (λ r. columns_of r ≡ columns) ranks.now)
+            ((length rows.now < 2 ^ 32) × All (λ r. columns_of r ≡ columns) rows.now × All (λ r. columns_of r ≡ columns) ranks.now)
             (marked location columns mark rows.now ranks.now)) }
     {
-        if !have_columns(rows, columns) || !have_columns(ranks, columns) {
+        if rows.len() >= 1 << 32 || !have_columns(rows, columns) || !have_columns(ranks, columns) {
             return Ok(None);
         }
         let mut numbers = Vec::new(alloc);
@@ -86,7 +86,7 @@ impl Marked {
             location,
             columns,
             mark,
-            rows: rows.len(),
+            rows: rows.len() as u32,
             numbers,
         }))
     }
@@ -115,15 +115,16 @@ impl Marked {
     pub fn rows(&self) -> Rows<'_>
         ensures { rows_seen result ≡ self.now.rows }
     {
-        Rows::Packed(PackedRows::new(self.columns, self.rows, &self.numbers))
+        Rows::Packed(PackedRows::new(self.columns, self.rows as usize, &self.numbers))
     }
 
     pub fn ranks(&self) -> Rows<'_>
         ensures { rows_seen result ≡ self.now.ranks }
     {
         let width = self.columns as usize + 1;
-        let count = self.numbers.len() / width - self.rows;
-        let (_, numbers) = self.numbers.split_at(self.rows * width);
+        let rows = self.rows as usize;
+        let count = self.numbers.len() / width - rows;
+        let (_, numbers) = self.numbers.split_at(rows * width);
         Rows::Packed(PackedRows::new(self.columns, count, numbers))
     }
 }

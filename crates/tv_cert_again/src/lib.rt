@@ -4,4 +4,4 @@
 
 mod laws;
 
-pub use laws::{same_lines_of_one_claim, same_lines_same_certificate};
+pub use laws::{same_lines_of_one_claim, same_lines_same_certificate, written_is_read};

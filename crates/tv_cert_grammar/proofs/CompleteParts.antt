@@ -52,15 +52,6 @@ module _ (is : Head → Bool) (head : Head) (named : is head ≡ true) (width : 
       ∙ mapped_read (λ all. tt) (times n (line (sized is (width + 1)))) (flat_map (λ r. row_line head r ∷ []) rs ++ rest) (map (λ r. tt) rs) rest
       (times_read (line (sized is (width + 1))) (λ r. columns r ≡ width) (λ r. row_line head r ∷ []) (λ r. tt) one_read n rs rest e all)
 
-pub row_read : (width : ℕ) (r : Linear) (rest : List PlainLine) → columns r ≡ width → (row width).read (row_line heads.Row r ∷ rest) ≡ Ok (tt, rest)
-row_read width r rest e = one_read is_row heads.Row refl width r rest e
-
-pub rank_read : (width : ℕ) (r : Linear) (rest : List PlainLine) → columns r ≡ width → (rank width).read (row_line heads.Rank r ∷ rest) ≡ Ok (tt, rest)
-rank_read width r rest e = one_read is_rank heads.Rank refl width r rest e
-
-pub draw_read : (width : ℕ) (r : Linear) (rest : List PlainLine) → columns r ≡ width → (draw width).read (row_line heads.Draw r ∷ rest) ≡ Ok (tt, rest)
-draw_read width r rest e = one_read is_draw heads.Draw refl width r rest e
-
 pub rows_read : (width n : ℕ) (rs : List Linear) (rest : List PlainLine) → length rs ≡ n → All (λ r. columns r ≡ width) rs → (many n (row width)).read (row_lines heads.Row rs ++ rest) ≡ Ok (tt, rest)
 rows_read width n rs rest e all = all_read is_row heads.Row refl width n rs rest e all
 

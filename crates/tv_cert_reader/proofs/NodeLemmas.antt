@@ -1,9 +1,9 @@
 -- What is read of a node, by its lists.
-use Rattle.std.proofs.Common.{◌≡◌, ℕ, zero, suc, ◌+◌, ◌^◌, ◌≤◌, ◌<◌, pos, true, false, Bool, List, [], ◌∷◌, ◌++◌, length, map, All, Ok, refl, sym, ap, ◌∙◌, subst, cond, arith, length-append}
+use Rattle.std.proofs.Common.{◌≡◌, ℕ, zero, suc, ◌+◌, ◌^◌, ◌≤◌, ◌<◌, pos, false, List, [], ◌∷◌, ◌++◌, length, map, All, Ok, refl, sym, ap, ◌∙◌, subst, arith, length-append}
 use Rattle.std.specs.Global.{Vec}
 use Rattle.std.specs.List.{AllZip, flat_map}
 use Rattle.std.proofs.lemmas.List.{append_assoc, append-nil}
-use Rattle.std.proofs.lemmas.List.Elements.{All-nil, All-cons, All-head, All-tail}
+use Rattle.std.proofs.lemmas.List.Elements.{All-nil, All-cons}
 use Rattle.tv_grammar.specs.Reads.{fault, ◌>>=◌}
 use Rattle.tv_grammar.specs.Langs.{then, mapped, each}
 use Rattle.tv_lines.specs.Lines.{PlainLine, formed}
@@ -16,9 +16,8 @@ use Rattle.tv_cert.specs.declared.node.Node.TheViews.{roll-Node, out-roll-Node}
 use Rattle.tv_cert.specs.Listed.{pieces_list}
 use Rattle.tv_cert.specs.Nodes.{pieces_of}
 use Rattle.tv_cert.specs.Obligations.{Obligation}
-use Rattle.tv_cert.specs.Pieces.{ranks_of, goes}
 use Rattle.tv_cert.specs.Said.{said_own}
-use Rattle.tv_cert.specs.Shapes.{PieceShape, ProofShape}
+use Rattle.tv_cert.specs.Shapes.{ProofShape}
 use Rattle.tv_cert.specs.Statements.{Statement, rows, here, elsewhere, ends, never_ends, each_of, one_of, after, along, unsaid, Statements, no_statement, statement, parts_of, part_at, count}
 use Rattle.tv_cert.proofs.NodeLemmas.{kids_of, proofs_list, out_is, pieces_are, kid_pieces_are}
 use Rattle.tv_shape.specs.Fitting.{KidsNarrow}
@@ -271,40 +270,6 @@ pub pieces_long : (ps : List Marked) → length ps ≤ length (flat_map piece_li
 pieces_long [] = omega arith
 pieces_long (p ∷ ps) = (let h = pieces_long ps in let e = length-append (piece_lines p) (flat_map piece_lines ps) in omega (arith, h, e))
 
-stated_long : (system : CaseSystem) (s : Statement) (n : Node) → length (pieces_list n) ≤ length (stated_lines s n)
-stated_long system s n =
-    let h = pieces_long (pieces_list n) in
-    let e = ap length (stated_is system s n) in
-    let f = length-append (flat_map piece_lines (pieces_list n)) (nodes_lines (parts_of s) (kids_of n) ++ flat_map proof_lines (proofs_list n)) in
-    omega (arith, h, e, f)
-
-joined_long : (system : CaseSystem) (ss : Statements) (kids : List Node) → AreFirstOf system ss kids → length (flat_map (λ a. a) (map pieces_list kids)) ≤ length (nodes_lines ss kids)
-joined_long system ss [] h = omega arith
-joined_long system no_statement (a ∷ kids) h = absurd h
-joined_long system (statement s ss) (a ∷ kids) h =
-    let one = stated_long system s a in
-    let rest = joined_long system ss kids h.1 in
-    let e = length-append (pieces_list a) (flat_map (λ b. b) (map pieces_list kids)) in
-    let f = length-append (stated_lines s a) (nodes_lines ss kids) in
-    omega (arith, one, rest, e, f)
-
-each_few : (n : ℕ) (kids : List Node) → length (flat_map (λ a. a) (map pieces_list kids)) < n → All (λ a. length (pieces_list a) < n) kids
-each_few n [] h = All-nil (λ a. length (pieces_list a) < n)
-each_few n (a ∷ kids) h =
-    let e = length-append (pieces_list a) (flat_map (λ b. b) (map pieces_list kids)) in
-    All-cons (λ b. length (pieces_list b) < n) a kids (omega (arith, h, e)) (each_few n kids (omega (arith, h, e)))
-
-ranks_few : (system : CaseSystem) (m : ℕ) (done : Bool) (n : ℕ) (p : Marked) → m < n → PieceShape system m done p → length (ranks_of p) < n
-ranks_few system m done n p small shape = by (goes p) shape.many
-  where
-    by : (b : Bool) → length (ranks_of p) ≡ cond b m 0 → length (ranks_of p) < n
-    by true e = omega (arith, e, small)
-    by false e = omega (arith, e, small)
-
-pub all_ranks_few : (system : CaseSystem) (m : ℕ) (done : Bool) (n : ℕ) (ps : List Marked) → m < n → All (PieceShape system m done) ps → All (λ p. length (ranks_of p) < n) ps
-all_ranks_few system m done n [] small h = All-nil (λ p. length (ranks_of p) < n)
-all_ranks_few system m done n (p ∷ ps) small h = All-cons (λ q. length (ranks_of q) < n) p ps (ranks_few system m done n p small (All-head (PieceShape system m done) p ps h)) (all_ranks_few system m done n ps small (All-tail (PieceShape system m done) p ps h))
-
 module _ (system : CaseSystem) (s : Statement) (old now : Cursor) (ps : List Marked) (m : ℕ) (kids : List Node) (o : Opened system s old now ps m kids) where
   pub took_long : length (flat_map piece_lines ps) + length (nodes_lines (parts_of s) kids) ≤ length old.lines
   took_long =
@@ -315,9 +280,3 @@ module _ (system : CaseSystem) (s : Statement) (old now : Cursor) (ps : List Mar
 
   pub few_pieces : length ps < 2 ^ 32
   few_pieces = (let a = took_long in let b = pieces_long ps in let r = old.room in omega (arith, a, b, r))
-
-  pub few_joined : length (flat_map (λ a. a) (map pieces_list kids)) < 2 ^ 32
-  few_joined = (let a = took_long in let b = joined_long system (parts_of s) kids o.first in let r = old.room in omega (arith, a, b, r))
-
-  pub few_each : All (λ a. length (pieces_list a) < 2 ^ 32) kids
-  few_each = each_few (2 ^ 32) kids few_joined

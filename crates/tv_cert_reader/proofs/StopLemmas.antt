@@ -1,5 +1,5 @@
 -- What is read where there is no step.
-use Rattle.std.proofs.Common.{◌≡◌, ℕ, ◌+◌, false, List, [], ◌∷◌, ◌++◌, length, Ok, refl, sym, ap, ◌∙◌, subst, arith}
+use Rattle.std.proofs.Common.{◌≡◌, ℕ, ◌+◌, false, List, [], ◌∷◌, ◌++◌, length, Ok, sym, ap, ◌∙◌, subst, arith}
 use Rattle.std.specs.List.{AllZip, flat_map}
 use Rattle.std.proofs.lemmas.List.{append_assoc, append-nil}
 use Rattle.tv_grammar.specs.Reads.{fault, ◌>>=◌}
@@ -19,7 +19,7 @@ use Rattle.tv_cert_reader.specs.declared.failure.Failure.{Failure}
 use Rattle.tv_cert_reader.specs.declared.failure.Failure.TheVariants.{Fault, Memory}
 use Rattle.tv_cert_reader.specs.Reading.{Takes, FailsBy}
 use Rattle.tv_cert_reader.specs.Choices.{IsStop}
-use Rattle.tv_cert_reader.proofs.ReadingLemmas.{mapped_fails, takes_none, takes_both, takes_as, last_text}
+use Rattle.tv_cert_reader.proofs.ReadingLemmas.{mapped_fails, takes_both, takes_as, last_text}
 
 -- what was read for some of a list, and what of the list is left
 pub record Stepped {B A : Type 0} (R : B → A → Type 0) (text : A → List PlainLine) (all left : List B) (old now : Cursor) (xs : List A) : Type 0 where
@@ -35,9 +35,6 @@ zip_last R (c ∷ bs) [] b x h r = absurd h
 zip_last R (c ∷ bs) (y ∷ xs) b x h r = (h.0, zip_last R bs xs b x h.1 r)
 
 module _ {B A : Type 0} (R : B → A → Type 0) (text : A → List PlainLine) (all : List B) (old : Cursor) where
-  pub stepped_none : Stepped R text all all old old []
-  stepped_none = record { done = []; parts = refl; zip = tt; took = takes_none old }
-
   pub stepped_next : (b : B) (left more : List B) (now new : Cursor) (xs ys : List A) (x : A) → Stepped R text all more old now xs → more ≡ b ∷ left → R b x → Takes (text x) now new → ys ≡ xs ++ x ∷ [] → Stepped R text all left old new ys
   stepped_next b left more now new xs ys x s is r t e = subst (Stepped R text all left old new) (sym e) (record {
     done = s.done ++ b ∷ [];

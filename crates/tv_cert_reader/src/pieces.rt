@@ -1,4 +1,4 @@
-ghost use Rattle.std.specs.Prelude.{◌≡◌, ◌^◌, ◌<◌, IfOk, vec_len};
+ghost use Rattle.std.specs.Prelude.{◌≡◌, ◌^◌, ◌<◌, ◌+◌, ◌*◌, min, IfOk, vec_len};
 ghost use Rattle.tv_cases.specs.Systems.{cases_of};
 ghost use Rattle.tv_cert.specs.Pieces.{is_go};
 ghost use Rattle.tv_cert_grammar.specs.Lines.{rank_count};
@@ -25,6 +25,15 @@ fn rank_count(ranks: u32, mark: Mark) -> u64
     }
 }
 
+/// For how many numbers of a piece room is made at once: for all that its head announces, and for no more than some
+/// tens of thousands, since the lines of what is announced may be missing.
+fn room_of(rows: u64, ranks: u64, columns: u32) -> usize
+    ensures { result ≡ min ((rows + ranks) * (columns + 1)) 65536 }
+{
+    let numbers = (rows as u128 + ranks as u128) * (columns as u128 + 1);
+    numbers.min(65_536) as usize
+}
+
 impl Context<'_> {
     /// A piece of a node with so many ranks, which may be done where `done` is true.
     fn piece(&self, cursor: &mut Cursor, ranks: u32, done: bool) -> Result<Marked, Failure>
@@ -37,11 +46,11 @@ impl Context<'_> {
         };
         let columns = self.about.variables();
         let many = rank_count(ranks, mark);
-        let mut packed = Vec::new(self.alloc);
+        let mut packed = Vec::with_capacity(self.alloc, room_of(count, many, columns))?;
         append_rows(self.alloc, cursor, Sort::Row, columns, count, &mut packed)?;
         append_rows(self.alloc, cursor, Sort::Rank, columns, many, &mut packed)?;
         packed.shrink_to_fit();
-        let rows = count as usize;
+        let rows = count as u32;
         Ok(Marked::from_numbers(location, mark, columns, rows, packed))
     }
 

@@ -1,3 +1,3 @@
 mod NodeLines
 pub mod KindLines
-mod Again
+pub mod Again

@@ -49,12 +49,6 @@ split_is (x ∷ xs) (suc k) = ap (λ ys. x ∷ ys) (split_is xs k)
 pub lists_split : (lists front back : List (Vec ℤ Global)) (k : ℕ) → front ≡ take k lists → back ≡ drop k lists → map (λ l. l.items) lists ≡ map (λ l. l.items) front ++ map (λ l. l.items) back
 lists_split lists front back k p q = ap (map (λ l. l.items)) (split_is lists k ∙ (λ i. sym p i ++ sym q i)) ∙ map_join (λ l. l.items) front back
 
--- no row more than the first
-pub shown_alone : (n : ℕ) (known : List Known) (xs : List Known) (ls : List (List ℤ)) → Shown n known xs ls ↔ Shown n known (xs ++ []) ls
-shown_alone n known [] ls = (λ h. h, λ h. h)
-shown_alone n known (x ∷ xs) [] = (λ h. h, λ h. h)
-shown_alone n known (x ∷ xs) (l ∷ ls) = let e = shown_alone n known xs ls in (λ h. (h.0, e.0 h.1), λ h. (h.0, e.1 h.1))
-
 -- the updates and the rows as they lie in the case
 pub updates_moved : (t : Bool) (n m : ℕ) (into : List Marked) (to : ℕ) (ranks : Option Rows) (known known' : List Known) (tree : CoverTree) (us vs : List Update) → us ≡ vs → known ≡ known' → (IsTrue t ↔ IsMetCover m (owed_into into to (λ r. composed (given r) (terms_after n us)) (falls_of (λ r. composed (given r) (terms_after n us)) ranks)) known tree) → IsTrue t ↔ IsMetCover m (owed_into into to (λ r. composed (given r) (terms_after n vs)) (falls_of (λ r. composed (given r) (terms_after n vs)) ranks)) known' tree
 updates_moved t n m into to ranks known known' tree us vs e k h = subst (λ (x : Type 0). x) (λ i. IsTrue t ↔ IsMetCover m (owed_into into to (λ r. composed (given r) (terms_after n (e i))) (falls_of (λ r. composed (given r) (terms_after n (e i))) ranks)) (k i) tree) h

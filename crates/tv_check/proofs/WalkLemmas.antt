@@ -64,9 +64,6 @@ pub record Stands (system : CaseSystem) (ss : Statements) (kids : List Node) (st
   pub so_far : seen ≡ from + length done
   pub nodes : start + sizes_list kids ≡ next + sizes_list (drop i kids)
 
-pub Stands_all : (system : CaseSystem) (ss : Statements) (kids : List Node) (start from : ℕ) → Stands system ss kids start from start from 0
-Stands_all system ss kids start from = record { done = []; whole = refl; true = tt; so_far = omega arith; nodes = refl }
-
 module _ (system : CaseSystem) (ss : Statements) (kids : List Node) (start from next seen i : ℕ) (fits : parts_list ss kids) (below : i < length kids) (a : Node) (is : a ≡ get_or kids i a) (h : Stands system ss kids start from next seen i) where
   pub part_there : i < count ss
   part_there = omega (arith, fits_many ss kids fits, below)

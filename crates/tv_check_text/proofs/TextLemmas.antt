@@ -38,7 +38,7 @@ root_same system ps (Proved start) = refl
 root_same system ps (Disproved k values) = refl
 
 -- what is owed, by what the root is to show and by its formula
-owed_is : (system : CaseSystem) (f : Property) (s : Statement) (root : Node) (verdict : Verdict) → s ≡ stated (about_with system).tests f → all_entries system s root verdict ≡ obligations (about_with system) f root verdict
+pub owed_is : (system : CaseSystem) (f : Property) (s : Statement) (root : Node) (verdict : Verdict) → s ≡ stated (about_with system).tests f → all_entries system s root verdict ≡ obligations (about_with system) f root verdict
 owed_is system f s root verdict same =
     (λ i. said_entries 0 system (same i) root ++ root_entry (about_of system) (pieces_of root) verdict ∷ [])
     ∙ (λ i. entries-stated 0 (about_with system) f root i ++ root_same system (pieces_of root) verdict i ∷ [])

@@ -24,13 +24,7 @@ total-neg : (n : ℕ) (f g : ℕ → ℤ) → ((k : ℕ) → k < n → f k ≡ n
 total-neg zero f g h = refl
 total-neg (suc n) f g h = (let a = total-neg n f g (λ k l. h k (omega arith)) in let b = h n (omega arith) in omega (arith, ints, a, b))
 
-times_neg : (a b : ℤ) → a *ℤ neg_ℤ b ≡ neg_ℤ (a *ℤ b)
-times_neg a b = *ℤ_comm a (neg_ℤ b) ∙ neg_times_z b a ∙ ap neg_ℤ (*ℤ_comm b a)
-
 module _ (n : ℕ) (rows : List Linear) (even : All (λ r. columns r ≡ n) rows) (values : List ℤ) (scale : ℤ) (size : length values ≡ n) (h : IsBarrierOf (refutation_system n rows) (map neg_ℤ (values ++ scale ∷ []))) where
-  none : Linear
-  none = record { coefficients = []; constant = pos 0 }
-
   -- the sum of the barrier's numbers and those of a row is the opposite of the row's value at the point
   sum_is : (i : ℕ) → i < length rows → total (n + 1) (λ k. get_or (map neg_ℤ (values ++ scale ∷ [])) k (pos 0) *ℤ entry_at (refutation_system n rows) k i) ≡ neg_ℤ (scaled_value (row_at rows i) values scale)
   sum_is i l =

@@ -1,25 +1,13 @@
 use Rattle.std.proofs.Common.{◌≡◌, ℕ, ◌+◌, List, [], ◌∷◌, ◌++◌, length, length-append, map, All, get_or, arith, subst, ℤ, pos, neg_ℤ}
 use Rattle.std.proofs.lemmas.Int.{ints}
 use Rattle.tv_linear.specs.Linear.{Linear, columns}
-use Rattle.tv_tableau.specs.Systems.{Equations}
-use Rattle.tv_tableau.specs.Outcomes.{IsShort, IsBarrierOf, GivesBarrier}
-use Rattle.tv_simplex.specs.declared.fault.SolveFault.{SolveFault}
-use Rattle.tv_simplex.specs.declared.fault.SolveFault.TheVariants.{Width, Scale, Pivots, Size, Memory}
-use Rattle.tv_simplex.specs.Views.{IsFault}
+use Rattle.tv_tableau.specs.Outcomes.{IsShort, IsBarrierOf}
 use Rattle.tv_farkas.specs.declared.refuted.Refuted.{Refuted}
 use Rattle.tv_farkas.specs.declared.refuted.Refuted.TheVariants.{Empty, Point}
 use Rattle.tv_farkas.specs.RefutationSystem.{refutation_system}
-use Rattle.tv_farkas.specs.Refuting.{IsRefuted, GivesRefuted, IsRefusal, IsOppositePoint, IsShortRefuted}
+use Rattle.tv_farkas.specs.Refuting.{IsRefuted, IsOppositePoint, IsShortRefuted}
 use Rattle.tv_farkas.proofs.SystemLemmas.{length-map}
 use Rattle.tv_farkas.proofs.PointLemmas.{point_meets, inner_is, last_is}
-
--- a refusal of the solver is one of the rows
-pub refusal_of : (n : ℕ) (rows : List Linear) (pivots : ℕ) (s : Equations) (e : SolveFault) → s ≡ refutation_system n rows → IsFault s pivots e → IsRefusal n rows pivots e
-refusal_of n rows pivots s (Width basis row column) is h = subst (λ q. IsFault q pivots (Width basis row column)) is h
-refusal_of n rows pivots s (Scale basis) is h = subst (λ q. IsFault q pivots (Scale basis)) is h
-refusal_of n rows pivots s (Pivots bases) is h = subst (λ q. IsFault q pivots (Pivots bases)) is h
-refusal_of n rows pivots s (Size r c) is h = absurd h
-refusal_of n rows pivots s Memory is h = tt
 
 count_of : (values : List ℤ) (scale : ℤ) (n : ℕ) → length (map neg_ℤ (values ++ scale ∷ [])) ≡ n + 1 → length values ≡ n
 count_of values scale n e = (let a = length-map neg_ℤ (values ++ scale ∷ []) in let b = length-append values (scale ∷ []) in omega (arith, a, b, e))
@@ -31,10 +19,6 @@ point_answers n rows y (Point values scale) even b h =
     let b' = subst (λ z. IsBarrierOf (refutation_system n rows) z) h b in
     let size = count_of values.items scale n b'.as_many in
     (size, point_meets n rows even values.items scale size b')
-
-pub point_given : (n : ℕ) (rows : List Linear) (y : List ℤ) (point : Refuted) → GivesBarrier (refutation_system n rows) y → IsOppositePoint y point → GivesRefuted n rows point
-point_given n rows y (Empty m) g h = absurd h
-point_given n rows y (Point values scale) g h = subst (λ z. GivesBarrier (refutation_system n rows) z) h g
 
 pub point_short : (n : ℕ) (rows : List Linear) (y : List ℤ) (point : Refuted) → IsBarrierOf (refutation_system n rows) y → IsOppositePoint y point → IsShortRefuted point
 point_short n rows y (Empty m) b h = absurd h

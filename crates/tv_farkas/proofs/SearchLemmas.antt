@@ -23,14 +23,9 @@ use Rattle.tv_farkas.specs.declared.emptying.Found.{Found}
 use Rattle.tv_farkas.specs.declared.emptying.Found.TheVariants.{Tree, Whole}
 use Rattle.tv_farkas.specs.RefutationSystem.{IsPointOf}
 use Rattle.tv_farkas.specs.Paths.{TakenOnce, first, IsFirstFraction, IsWholePoint, IsPointSplit, IsCoordinateSplit, SplitsAt, at_most_row, at_least_row, rows_after}
-use Rattle.tv_farkas.specs.Emptying.{IsEmptyFault}
 use Rattle.tv_farkas.specs.Stretching.{IsFloor, IsTakenBy, stretched, Searches, IsSide, AreSides, AreDivided, IsSplitOf, rows_of}
-use Rattle.tv_farkas.specs.Searching.{SearchesAt, IsTreeOf, IsFound, IsSideFound, IsSideTree, IsWholeFound, IsFractionAt, MaySplit, IsShown, IsHandedOn}
-use Rattle.tv_farkas.specs.Refuting.{IsRefusal, IsSystemFault}
-use Rattle.tv_simplex.specs.declared.fault.SolveFault.{SolveFault}
+use Rattle.tv_farkas.specs.Searching.{SearchesAt, IsTreeOf, IsFound, IsSideFound, IsSideTree, IsWholeFound, IsFractionAt, MaySplit}
 use Rattle.tv_simplex.specs.declared.fault.SolveFault.TheVariants as faults
-use Rattle.tv_farkas.specs.declared.fault.CoverFault.{CoverFault}
-use Rattle.tv_farkas.specs.declared.fault.CoverFault.TheVariants.{Splits, Solve, Wide, Memory}
 use Rattle.tv_farkas.proofs.StretchLemmas.{stretched_refutes}
 use Rattle.tv_farkas.proofs.SystemLemmas.{at_of}
 use Rattle.tv_farkas.proofs.TakenLemmas.{all_taken}
@@ -317,25 +312,6 @@ whole_found n rows marks place values scale xs s point met size d = record {
     whole = d.same;
   };
 }
-
--- ---- refusals
-pub handed_on : (n : ℕ) (rows : List Linear) (marks : List Bool) (pivots splits : ℕ) (place : Place) (fault : SolveFault) (result : CoverFault) → SearchesAt n rows marks place → IsRefusal n place.rows.items pivots fault → IsHandedOn place.rows.items fault result → IsEmptyFault n rows pivots splits result
-handed_on n rows marks pivots splits place fault (Splits path) s r h = absurd h
-handed_on n rows marks pivots splits place fault (Wide column) s r h = absurd h
-handed_on n rows marks pivots splits place fault Memory s r h = tt
-handed_on n rows marks pivots splits place fault (Solve kept f) s r h = record {
-  path = place.path.items;
-  is_path = s.is_path;
-  taken = subst (λ k. TakenOnce (rows_after rows place.path.items) k) (sym h.0) s.taken;
-  fault = subst (λ k. IsSystemFault n k pivots f) (sym h.0) (shown f h.2 (subst (λ g. IsRefusal n place.rows.items pivots g) (sym h.1) r));
-}
-  where
-    shown : (g : SolveFault) → IsShown g → IsRefusal n place.rows.items pivots g → IsSystemFault n place.rows.items pivots g
-    shown (faults.Width basis row column) k q = q
-    shown (faults.Scale basis) k q = q
-    shown (faults.Pivots bases) k q = q
-    shown (faults.Size height width) k q = q
-    shown faults.Memory k q = absurd k
 
 -- ---- the first place
 pub first_search : (n : ℕ) (rows : List Linear) (marks : List Bool) (place : Place) → All (λ r. columns r ≡ n) rows → TakenOnce rows place.rows.items → IsTakenBy marks rows place.rows.items → place.path.items ≡ [] → SearchesAt n rows marks place

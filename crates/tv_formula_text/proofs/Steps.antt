@@ -19,10 +19,10 @@ use Rattle.tv_formula_text.specs.declared.reason.Turn.TheVariants.{On, Off}
 use Rattle.tv_formula_text.specs.Told.{is_memory}
 use Rattle.tv_grammar.proofs.Results.{ok_is}
 use Rattle.tv_formula_text.specs.Seen.{Seen}
-use Rattle.tv_formula_text.specs.Choice.{Grammar, Behind, either_read}
+use Rattle.tv_formula_text.specs.Choice.{Grammar, Behind}
 use Rattle.tv_formula_text.specs.FormulaGrammar.{at_kind, open_by, opened, closed, operated, plain_by, leaf_by, leaves, below, comparison, plain_at, literal_at, formula_at}
 use Rattle.tv_formula_text.specs.Answers.{kind_seen, kind_of, Unless, Gives, Turned, the_nothing}
-use Rattle.tv_formula_text.proofs.ChoiceLemmas.{IsOther, other_kept, first_further, second_further}
+use Rattle.tv_formula_text.proofs.ChoiceLemmas.{first_further, second_further}
 use Rattle.tv_formula_text.proofs.PlainOrSum.{plain_read, nothing_read}
 
 pub gives_along : {X Y : Type 0} (view : X → Y) (r : Result X Reason) (left : List Seen) (a b : Result (Y × List Seen) (Fault Seen Kind)) → a ≡ b → Gives view r left b → Gives view r left a
@@ -102,9 +102,6 @@ plain_flat n (t ∷ ts) k e a b c = plain_read every n (t ∷ ts) ∙ flat_mark 
 
 -- ---- a literal
 
-pub literal_first : (n : ℕ) (ts : List Seen) (x : Property) (r : List Seen) → (comparison every n).read ts ≡ Ok (x, r) → (literal_at every n).read ts ≡ Ok (x, r)
-literal_first n ts x r e = rw e refl
-
 pub literal_second : (n : ℕ) (ts s : List Seen) (x : Property) (r : List Seen) → (comparison every n).read ts ≡ fault marks.Syntax s → (plain_at every n).read ts ≡ Ok (x, r) → (literal_at every n).read ts ≡ Ok (x, r)
 literal_second n ts s x r e f = rw (e, f) refl
 
@@ -124,17 +121,6 @@ unless_map UnknownName p q f h = f h
 
 pub literal_further : (n : ℕ) (ts s : List Seen) (e : Reason) (r : List Seen) → (comparison every n).read ts ≡ fault marks.Syntax s → length r ≤ length s → Unless e ((plain_at every n).read ts ≡ fault (kind_of e) r) → Unless e ((literal_at every n).read ts ≡ fault (kind_of e) r)
 literal_further n ts s e r c l h = unless_map e ((plain_at every n).read ts ≡ fault (kind_of e) r) ((literal_at every n).read ts ≡ fault (kind_of e) r) (λ f. second_fault n ts s (kind_of e) r c f l) h
-
-other_first : (n : ℕ) (ts : List Seen) (k : Kind) (r : List Seen) → IsOther k → (comparison every n).read ts ≡ fault k r → (literal_at every n).read ts ≡ fault k r
-other_first n ts k r o e = ap (λ (x : Result (Property × List Seen) (Fault Seen Kind)). either_read x ((plain_at every n).read ts)) e ∙ other_kept k o r ((plain_at every n).read ts)
-
-pub literal_other : (n : ℕ) (ts : List Seen) (e : Reason) (r : List Seen) → (e ≡ Syntax → ⊥) → Unless e ((comparison every n).read ts ≡ fault (kind_of e) r) → Unless e ((literal_at every n).read ts ≡ fault (kind_of e) r)
-literal_other n ts Syntax r o h = absurd (o refl)
-literal_other n ts Memory r o h = tt
-literal_other n ts Wide r o h = other_first n ts marks.Wide r (λ w. cc) h
-literal_other n ts Deep r o h = other_first n ts marks.Deep r (λ w. cc) h
-literal_other n ts NotLinear r o h = other_first n ts marks.NotLinear r (λ w. cc) h
-literal_other n ts UnknownName r o h = other_first n ts marks.UnknownName r (λ w. cc) h
 
 -- the comparison is read again, since its fault is further on
 again_by : (n : ℕ) (ts s : List Seen) (k : Kind) (r : List Seen) → (comparison every n).read ts ≡ fault marks.Syntax s → (plain_at every n).read ts ≡ fault k r → length s < length r → (literal_at every n).read ts ≡ (comparison every n).read ts

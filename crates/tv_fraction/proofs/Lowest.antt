@@ -1,4 +1,4 @@
-use Rattle.std.proofs.Common.{◌≡◌, ℕ, zero, suc, ◌+◌, ◌-◌, ◌*◌, ◌/◌, ◌<◌, ◌≤◌, inl, inr, arith, ap, subst, sym, ◌∙◌, ℤ, pos, negsuc, ◌*ℤ◌, ◌<ℤ◌, unsigned_abs}
+use Rattle.std.proofs.Common.{◌≡◌, ℕ, zero, suc, ◌+◌, ◌-◌, ◌*◌, ◌/◌, ◌<◌, ◌≤◌, inl, inr, arith, ap, subst, sym, ◌∙◌, ℤ, pos, unsigned_abs}
 use Rattle.std.proofs.lemmas.Int.{ints, unsigned_abs-mul}
 use Rattle.std.proofs.lemmas.Bool.{cases_lt}
 use Rattle.std.proofs.lemmas.Nat.Gcd.{dvd_refl, dvd-zero}
@@ -56,23 +56,3 @@ lowest f n d e h =
     sym (unsigned_abs-mul f.numerator d) ∙ ap unsigned_abs e ∙ unsigned_abs-mul n f.denominator in
     let p : 0 < unsigned_abs f.denominator = (let q = f.positive in omega (arith, ints, q)) in
     lowest_parts (unsigned_abs f.numerator) (unsigned_abs f.denominator) (unsigned_abs n) (unsigned_abs d) p (above_none d h) f.reduced m
-
-above_is : (d : ℤ) → pos 0 <ℤ d → (d ≡ pos 0 → ⊥)
-above_is d p e = omega (arith, ints, p, e)
-
-signs_agree : (x n d : ℤ) → pos 0 <ℤ d → x *ℤ d ≡ n *ℤ d → unsigned_abs x ≡ unsigned_abs n → x ≡ n
-signs_agree x n (negsuc d) p e h = absurd (omega (arith, ints, p))
-signs_agree x n (pos zero) p e h = absurd (omega (arith, ints, p))
-signs_agree (pos a) (pos b) (pos (suc d)) p e h = ap pos h
-signs_agree (negsuc a) (negsuc b) (pos (suc d)) p e h = omega (arith, ints, h)
-signs_agree (pos a) (negsuc b) (pos (suc d)) p e h = absurd (omega (arith, ints, e))
-signs_agree (negsuc a) (pos b) (pos (suc d)) p e h = absurd (omega (arith, ints, e))
-
--- fractions of the same value have the same parts
-pub same_parts : (f g : Fraction) → IsRatio f g.numerator g.denominator → (f.numerator ≡ g.numerator) × (f.denominator ≡ g.denominator)
-same_parts f g e =
-    let l = lowest f g.numerator g.denominator e (above_is g.denominator g.positive) in
-    let m = lowest g f.numerator f.denominator (sym e) (above_is f.denominator f.positive) in
-    let under : f.denominator ≡ g.denominator = (let p = f.positive in let q = g.positive in omega (arith, ints, l.1, m.1, p, q)) in
-    let over : unsigned_abs f.numerator ≡ unsigned_abs g.numerator = omega (arith, l.0, m.0) in
-    (signs_agree f.numerator g.numerator g.denominator g.positive (e ∙ ap (λ z. g.numerator *ℤ z) under) over, under)

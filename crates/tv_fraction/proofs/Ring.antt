@@ -3,10 +3,6 @@ use Rattle.std.proofs.lemmas.Int.{ints}
 use borrow.Author.Differences.{up, down, sum_is_lem, product_is, neg_is}
 use Rattle.std.proofs.Math.IntN.{*ℤ_comm}
 
--- the laws of a ring for ℤ that std leaves out
-pub add_assoc_z : (a b c : ℤ) → (a +ℤ b) +ℤ c ≡ a +ℤ (b +ℤ c)
-add_assoc_z a b c = omega (arith, ints)
-
 pub distribute_right_z : (a b c : ℤ) → (a +ℤ b) *ℤ c ≡ a *ℤ c +ℤ b *ℤ c
 distribute_right_z a b c =
     let sum : up (a +ℤ b) + down a + down b ≡ up a + up b + down (a +ℤ b) = omega (arith, sum_is_lem) in

@@ -1,6 +1,6 @@
 use Rattle.std.proofs.Common.{◌≡◌, ℕ, zero, suc, ◌+◌, ◌<◌, ◌≤◌, List, [], ◌∷◌, length, take, refl, sym, ap, ◌∙◌, subst, arith, length-append, length-drop, inl, inr, ◌⊎◌}
 use Rattle.std.specs.Prelude.{codes}
-use Rattle.tv_given.specs.Headings.{EndsLine, at_end, feed, return_and_feed, BeginsWithHeading, IsHeadingAt, IsSplit, parted}
+use Rattle.tv_given.specs.Headings.{EndsLine, at_end, feed, return_and_feed, IsHeadingAt, IsSplit, parted}
 
 pub ends_at_end : (text : List ℕ) → text ≡ [] → EndsLine text text
 ends_at_end text e = subst (λ (bs : List ℕ). EndsLine bs bs) (sym e) at_end
@@ -41,11 +41,6 @@ none_up_to text at before here k rest below h = elim (less_or_same k at below) [
       | inl less ↦ inl (omega (arith, less))
       | inr same ↦ inr (ap suc same)
     ]
-
-no_heading : (text : List ℕ) (rest : List ℕ) → length text < 12 → BeginsWithHeading text rest → ⊥
-no_heading text rest short h =
-    let all = ap length h.heading ∙ length-append (codes "CERTIFICATE:") h.behind in
-    absurd (omega (arith, all, short))
 
 -- none is in the text
 pub none_anywhere : (text : List ℕ) → ((k : ℕ) (rest : List ℕ) → k < length text → IsHeadingAt text k rest → ⊥) → (k : ℕ) (rest : List ℕ) → IsHeadingAt text k rest → ⊥

@@ -1,15 +1,11 @@
 use Rattle.std.proofs.Common.{◌≡◌, ◌≢◌, ℕ, ◌+◌, ◌<◌, ◌≤◌, inl, inr, List, length, get_or, sym, ◌∙◌, ap, arith}
 use Rattle.std.specs.List.{All}
-use Rattle.std.proofs.lemmas.List.Elements.{All-contains, All-get_or, Contains-get_or}
+use Rattle.std.proofs.lemmas.List.Elements.{All-contains, Contains-get_or}
 use Rattle.std.proofs.lemmas.Bool.{cases_lt}
 use Rattle.tv_graph.specs.declared.Arc.{Arc}
-use Rattle.tv_graph.specs.Graph.{IsBetween, Reaches, here, along}
-use Rattle.tv_graph.specs.Arcs.{no_arc, from_at, to_at, InRange, IsPastLast}
+use Rattle.tv_graph.specs.Graph.{Reaches, here, along}
+use Rattle.tv_graph.specs.Arcs.{no_arc, from_at, to_at, IsPastLast}
 use Rattle.tv_graph.specs.Invariant.{Follows}
-
--- the link to the last arc from a node: over no arc, over one more that starts there, and over one more that does not
-pub last_none : (arcs : List Arc) (u : ℕ) → IsPastLast arcs u 0 0
-last_none arcs u = record { past = λ k a b e. omega arith; hits = λ k e. absurd (omega arith) }
 
 pub last_here : (arcs : List Arc) (u n : ℕ) → from_at arcs n ≡ u → IsPastLast arcs u (n + 1) (n + 1)
 last_here arcs u n e = record {
@@ -46,10 +42,3 @@ reaches_falls arcs number falls u v (along arc x inside rest) =
     let h : number v ≤ number arc.to = reaches_falls arcs number falls arc.to v rest in
     let g : number arc.to ≤ number arc.from = All-contains (λ arc. number arc.to ≤ number arc.from) arcs arc falls inside in
     omega arith
-
--- the ends of the arcs, place by place
-pub in_range : (nodes : ℕ) (arcs : List Arc) → All (IsBetween nodes) arcs → InRange nodes arcs
-in_range nodes arcs all = record {
-  from_in = λ a lt. (All-get_or (IsBetween nodes) arcs a no_arc lt all).0;
-  to_in = λ a lt. (All-get_or (IsBetween nodes) arcs a no_arc lt all).1;
-}

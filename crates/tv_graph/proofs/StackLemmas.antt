@@ -90,11 +90,6 @@ rising_take n xs r = record {
       omega (arith, get_or-take n xs i 0 inn, get_or-take n xs j 0 jn);
 }
 
--- what a cut leaves
-pub cuts_less : (q : ℕ) (xs ys : List ℕ) → Cuts q xs ys → (b : ℕ) → Has ys b → Has xs b
-cuts_less q xs ys (whole zs) b h = h
-cuts_less q xs ys (less old new some top rest) b h = has_less (length old - 1) old b (cuts_less q (take (length old - 1) old) new rest b h)
-
 pub cuts_rising : (q : ℕ) (xs ys : List ℕ) → Cuts q xs ys → IsRising xs → IsRising ys
 cuts_rising q xs ys (whole zs) r = r
 cuts_rising q xs ys (less old new some top rest) r = cuts_rising q (take (length old - 1) old) new rest (rising_take (length old - 1) old r)

@@ -1,7 +1,6 @@
 -- Rows that are lent one by one.
 use Rattle.std.proofs.Common.{◌≡◌, ◌↔◌, ℕ, zero, suc, ◌+◌, ◌-◌, ◌<◌, ◌≤◌, ℤ, pos, Bool, IsTrue, List, [], ◌∷◌, ◌++◌, length, map, get_or, slice_get, Option, None, Some, refl, sym, ap, ◌∙◌, subst, arith}
 use Rattle.std.specs.Option.{option_map}
-use Rattle.std.proofs.lemmas.Option.{slice_get_read, slice_get-map}
 use Rattle.tv_linear.specs.Linear.{Linear}
 use Rattle.tv_linear.specs.Known.{Known, given, denied, less, as_given}
 use Rattle.tv_linear.specs.Falls.{fall_rows, fall_rows_at, zero_row}
@@ -17,19 +16,10 @@ shows_as n known rows place ms shown row at h = λ other there. subst (λ r. IsT
 
 -- ---- one list behind another
 
-pub get_first : {A : Type 0} (xs ys : List A) (i : ℕ) → i < length xs → slice_get (xs ++ ys) i ≡ slice_get xs i
-get_first [] ys i h = absurd (omega (arith, h))
-get_first (x ∷ xs) ys zero h = refl
-get_first (x ∷ xs) ys (suc i) h = get_first xs ys i (omega (arith, h))
-
 pub get_second : {A : Type 0} (xs ys : List A) (i j : ℕ) → i ≡ length xs + j → slice_get (xs ++ ys) i ≡ slice_get ys j
 get_second [] ys i j e = (let k : i ≡ j = omega (arith, e) in ap (λ m. slice_get ys m) k)
 get_second (x ∷ xs) ys zero j e = absurd (omega (arith, e))
 get_second (x ∷ xs) ys (suc i) j e = get_second xs ys i j (omega (arith, e))
-
--- a changed row at a place
-pub changed_at : (change : Linear → Known) (rows : List Linear) (i : ℕ) (row : Linear) → i < length rows → row ≡ get_or rows i row → slice_get (map change rows) i ≡ Some (change row)
-changed_at change rows i row below is = slice_get-map change rows i ∙ ap (option_map change) (slice_get_read rows (length rows) i row refl below is)
 
 -- ---- falls
 

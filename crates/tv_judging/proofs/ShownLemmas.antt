@@ -12,7 +12,7 @@ use Rattle.tv_cert_reader.specs.declared.failure.Failure.{Failure}
 use Rattle.tv_cert_reader.specs.Reading.{Takes, FailsBy}
 use Rattle.tv_cert_reader.specs.Parts.{AreNumbers}
 use Rattle.tv_cert_reader.proofs.PartLemmas.{AreListed, by_line, lists_fail, lists_end}
-use Rattle.tv_cert_reader.proofs.ReadingLemmas.{Gathered, gathered_none, gathered_next}
+use Rattle.tv_cert_reader.proofs.ReadingLemmas.{Gathered, gathered_next}
 use Rattle.tv_judging.specs.Judging.{numbers_in, JudgedLists}
 use Rattle.tv_judging.specs.Owed.{ShowsRow}
 
@@ -47,17 +47,6 @@ module _ (n : ℕ) (known rows : List Known) (old : Cursor) where
     pub gathered : Gathered (AreListed (length known + 1)) by_line old i now lists
     pub told : IsTrue met ↔ Shown n known (take i rows) (numbers_in lists)
     pub within : i ≤ length rows
-
-  pub shown_none : ShownFirst 0 old true
-  shown_none = record {
-    lists = [];
-    gathered = gathered_none (AreListed (length known + 1)) by_line old;
-    told = (λ t. none rows, λ h. refl);
-    within = omega arith;
-  } where
-    none : (rs : List Known) → Shown n known (take 0 rs) []
-    none [] = tt
-    none (r ∷ rs) = tt
 
   module _ (i : ℕ) (now : Cursor) (met : Bool) (h : ShownFirst i now met) where
     pub lines_fail : (f : Failure) → i < length rows → FailsBy (by (length known + 1)) now f → FailsBy (many (length rows) (by (length known + 1))) old f

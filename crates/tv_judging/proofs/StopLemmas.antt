@@ -1,13 +1,12 @@
 -- Covers without targets that are read and judged one after another.
-use Rattle.std.proofs.Common.{◌≡◌, ◌↔◌, ℕ, zero, suc, ◌+◌, ◌≤◌, Bool, true, false, IsTrue, List, [], ◌∷◌, ◌++◌, length, take, drop, slice_get, None, Some, refl, sym, ap, ◌∙◌, subst, arith, length-append, cond}
-use Rattle.std.specs.Prelude.{◌==◌}
+use Rattle.std.proofs.Common.{◌≡◌, ◌↔◌, ℕ, zero, suc, ◌+◌, ◌≤◌, Bool, false, IsTrue, List, [], ◌∷◌, ◌++◌, length, take, drop, slice_get, None, Some, refl, sym, ap, ◌∙◌, subst, arith, length-append}
 use Rattle.std.specs.List.{AllZip, flat_map}
 use Rattle.std.proofs.lemmas.List.{length-map, take_all}
 use Rattle.tv_grammar.specs.Langs.{mapped, each}
 use Rattle.tv_linear.specs.Known.{Known, as_given, given}
 use Rattle.tv_linear.specs.Covers.{IsMetCover, no_target}
 use Rattle.tv_linear.specs.declared.cover.CoverTree.{CoverTree}
-use Rattle.tv_cases.specs.LinearCases.{LinearCase, leaving}
+use Rattle.tv_cases.specs.LinearCases.{LinearCase}
 use Rattle.tv_cert.specs.Choices.{NoStepMet}
 use Rattle.tv_cert.specs.Shapes.{owed_count}
 use Rattle.tv_cert_text.specs.CertificateLines.{cover_lines}
@@ -18,7 +17,7 @@ use Rattle.tv_cert_reader.specs.declared.failure.Failure.{Failure}
 use Rattle.tv_cert_reader.specs.Reading.{Takes, FailsBy}
 use Rattle.tv_cert_reader.specs.Covers.{IsCoverWithin}
 use Rattle.tv_cert_reader.specs.Choices.{IsStop}
-use Rattle.tv_cert_reader.proofs.ReadingLemmas.{takes_none, takes_both, takes_as, last_text}
+use Rattle.tv_cert_reader.proofs.ReadingLemmas.{takes_both, takes_as, last_text}
 use Rattle.tv_cert_reader.proofs.StopLemmas.{Stepped, stop_fails}
 use Rattle.tv_judging.specs.Judging.{JudgedCover, JudgedStops}
 use Rattle.tv_judging.proofs.ShownLemmas.{take_next}
@@ -60,16 +59,6 @@ module _ (n : ℕ) (known : List Known) (left : ℕ) (all : List LinearCase) (ol
     pub zip : AllZip (IsStop n (length known) left) (take k all) covers
     pub took : Takes (flat_map cover_lines covers) old now
     pub told : IsTrue met ↔ NoStepMet n known (take k all) covers
-
-  pub stops_none : StopsFirst 0 old true
-  stops_none = record { covers = []; zip = none all; took = takes_none old; told = (λ t. met all, λ h. refl) } where
-    none : (cs : List LinearCase) → AllZip Stop (take 0 cs) []
-    none [] = tt
-    none (c ∷ cs) = tt
-
-    met : (cs : List LinearCase) → NoStepMet n known (take 0 cs) []
-    met [] = tt
-    met (c ∷ cs) = tt
 
   module _ (k : ℕ) (now : Cursor) (met : Bool) (h : StopsFirst k now met) where
     pub stops_end : slice_get all k ≡ None → JudgedStops n known left all old now met

@@ -12,13 +12,14 @@ ghost use Rattle.tv_cert_reader.specs.Covers.{IsBehind};
 ghost use Rattle.tv_judging.specs.Judging.{JudgesChoice, JudgesChoiceSides, JudgesStop, JudgesStops};
 
 use crate::covers::Covering;
+use crate::empty::is_empty;
 use tv_cases::Case;
 use tv_cert::{Destination, Marked};
 use tv_cert_grammar::LineKind;
 use tv_cert_reader::{Context, Cursor, Failure, row_of, take};
 use tv_linear::Row;
 use tv_lines::Head;
-use tv_refute::{Built, Change, Frames, refutes};
+use tv_refute::{Built, Change, Frames};
 use tv_rows::{RowView, Rows};
 use tv_shape::Targets;
 
@@ -30,25 +31,6 @@ pub struct Choosing<'a> {
     pub piece: &'a Marked,
     pub stop: bool,
     pub destination: &'a Destination<'a>,
-}
-
-/// Whether the multipliers of a line refute the place, if there are as many as rows.
-fn is_empty(
-    columns: u32,
-    frames: &Frames,
-    known: u128,
-    multipliers: Vec<i64>,
-    line: u32,
-) -> Result<bool, Failure>
-    requires counted { known ≡ length (known_at frames.now) }
-    requires narrow { All IsNarrow multipliers.items }
-    ensures { (system : CaseSystem) (piece : Marked) (stop : Bool) (destination : Destination) (left : ℕ) (old new : Cursor) → columns ≡ system.variables → IsBehind Head.Empty multipliers.items old new → new.taken ≡ line → JudgesChoice system piece stop destination (known_at frames.now) left old new result }
-{
-    if multipliers.len() as u128 == known {
-        Ok(refutes(columns as usize, frames, &multipliers))
-    } else {
-        Err(Failure::Fault(LineKind::Shape, line))
-    }
 }
 
 /// Whether the cover that stands next is met: one without targets, of the place and the guards of a case.

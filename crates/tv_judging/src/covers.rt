@@ -10,6 +10,7 @@ ghost use Rattle.tv_cert_reader.specs.Covers.{IsBehind};
 ghost use Rattle.tv_judging.specs.Judging.{EntersNone, IsEntered, JudgesCover, JudgesSides};
 ghost use Rattle.tv_judging.specs.Targets.{owed_at};
 
+use crate::empty::is_empty;
 use crate::owed::{Entered, OwedRows};
 use crate::shown::rows_are_shown;
 use crate::targets::entered;
@@ -18,7 +19,7 @@ use tv_cert_grammar::LineKind;
 use tv_cert_reader::{Cursor, Failure, row_of, take, two_small};
 use tv_linear::Row;
 use tv_lines::Head;
-use tv_refute::{Built, Change, Frames, refutes};
+use tv_refute::{Built, Change, Frames};
 use tv_rows::RowView;
 use tv_shape::Targets;
 
@@ -30,25 +31,6 @@ pub struct Covering<'a> {
     pub targets: &'a Targets<'a>,
     /// How the rows of the targets are changed.
     pub change: &'a Change<'a>,
-}
-
-/// Whether the multipliers of a line refute the place, if there are as many as rows.
-fn is_empty(
-    columns: u32,
-    frames: &Frames,
-    known: u128,
-    multipliers: Vec<i64>,
-    line: u32,
-) -> Result<bool, Failure>
-    requires counted { known ≡ length (known_at frames.now) }
-    requires narrow { All IsNarrow multipliers.items }
-    ensures { (owed : ℕ → ℕ → Option (List Known)) (left : ℕ) (old new : Cursor) → IsBehind Head.Empty multipliers.items old new → new.taken ≡ line → JudgesCover columns owed (known_at frames.now) left old new result }
-{
-    if multipliers.len() as u128 == known {
-        Ok(refutes(columns as usize, frames, &multipliers))
-    } else {
-        Err(Failure::Fault(LineKind::Shape, line))
-    }
 }
 
 impl Covering<'_> {

@@ -5,6 +5,7 @@
 
 mod choices;
 mod covers;
+mod empty;
 mod fall;
 mod judging;
 mod owed;

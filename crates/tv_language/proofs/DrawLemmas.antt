@@ -1,12 +1,11 @@
 -- What fits an edge without draws has none.
-use Rattle.std.proofs.Common.{◌≡◌, ℕ, suc, ◌+◌, Bool, true, false, List, [], ◌∷◌, map, sum, refl, ap, ◌∙◌, arith}
+use Rattle.std.proofs.Common.{◌≡◌, ℕ, ◌+◌, Bool, true, false, sum, refl, arith}
 use Rattle.std.proofs.lemmas.Bool.{ltb-true}
-use Rattle.std.specs.Prelude.{◌&&◌, IsTrue, nat_lt, nat_le}
-use Rattle.std.specs.List.{list_all}
+use Rattle.std.specs.Prelude.{◌&&◌, IsTrue, nat_lt}
 use Rattle.tv_program.specs.Trees as trees
-use Rattle.tv_program.specs.Trees.{Expression, number, variable, draw, minus, product, Expressions, no_part, part, Condition, truth, compare, negated, all_of, some_of, Conditions, no_test, test, Instruction, assume, assign}
-use Rattle.tv_program.specs.Limits.{is_linear_product, expression_fits, expressions_fit, condition_fits, conditions_fit, condition_depth, expression_depth, instruction_fits}
-use Rattle.tv_language.specs.Programs.{draws_in, draws_among, draws_tested, draws_of_tests, draws_of, draws_counted}
+use Rattle.tv_program.specs.Trees.{Expression, number, variable, draw, minus, product, Expressions, no_part, part, Condition, truth, compare, negated, all_of, some_of, Conditions, no_test, test}
+use Rattle.tv_program.specs.Limits.{is_linear_product, expression_fits, expressions_fit, condition_fits, conditions_fit}
+use Rattle.tv_language.specs.Programs.{draws_in, draws_among, draws_tested, draws_of_tests}
 
 first_of : (a b : Bool) → IsTrue (a && b) → IsTrue a
 first_of true b h = refl
@@ -46,14 +45,6 @@ mutual
   none_of_tests : (v : ℕ) (cs : Conditions) → IsTrue (conditions_fit v 0 cs) → draws_of_tests cs ≡ 0
   none_of_tests v no_test h = refl
   none_of_tests v (test c cs) h = both_none _ _ (none_tested v c (first_of (condition_fits v 0 c) (conditions_fit v 0 cs) h)) (none_of_tests v cs (second_of (condition_fits v 0 c) (conditions_fit v 0 cs) h))
-
-none_of : (v : ℕ) (c : Instruction) → IsTrue (instruction_fits v 0 c) → draws_of c ≡ 0
-none_of v (assume c) h = none_tested v c (first_of (condition_fits v 0 c) (nat_le (condition_depth c) 400) h)
-none_of v (assign n e) h = none_in v e (second_of (nat_lt n v) (expression_fits v 0 e) (first_of (nat_lt n v && expression_fits v 0 e) (nat_le (expression_depth e) 400) h))
-
-pub no_draws : (v : ℕ) (cs : List Instruction) → IsTrue (list_all (instruction_fits v 0) cs) → draws_counted cs ≡ 0
-no_draws v [] h = refl
-no_draws v (c ∷ cs) h = both_none _ _ (none_of v c (first_of (instruction_fits v 0 c) (list_all (instruction_fits v 0) cs) h)) (no_draws v cs (second_of (instruction_fits v 0 c) (list_all (instruction_fits v 0) cs) h))
 
 -- ---- what has no draw fits an edge without draws
 

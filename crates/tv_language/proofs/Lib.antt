@@ -1,5 +1,4 @@
 pub mod DrawLemmas
 pub mod PlaceLemmas
-pub mod GrammarLemmas
 pub mod PlaceOfWords
 mod RecentLemmas

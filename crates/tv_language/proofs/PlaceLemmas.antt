@@ -1,5 +1,5 @@
 -- The word that was seen first keeps the number 0.
-use Rattle.std.proofs.Common.{◌≡◌, ℕ, suc, Bool, true, cond, List, [], ◌∷◌, ◌++◌, length, Option, Some, None, refl, ap, ◌∙◌, sym, arith}
+use Rattle.std.proofs.Common.{◌≡◌, ℕ, suc, true, List, [], ◌∷◌, ◌++◌, length, Option, Some, None, refl, ap, ◌∙◌, arith}
 use Rattle.std.proofs.lemmas.Bool.{lt-ltb}
 use Rattle.std.specs.Str.{bytes_eq}
 use Rattle.std.proofs.lemmas.Slice.Eq.{bytes_eq-Decides}
@@ -24,7 +24,3 @@ bytes-same w = (bytes_eq-Decides w w).1 refl
 
 pub leader-number : (w : Word) (ws : List Word) → Leads w ws → number_of w ws ≡ Some 0
 leader-number w ws h = ap (number_of w) h.same ∙ rw (bytes-same w, lt-ltb 0 (suc (length h.behind)) (omega arith)) refl
-
--- a word that is seen again changes nothing
-pub seen-again : (w : Word) (ws : List Word) → by_first_place [] (w ∷ ws) ≡ by_first_place (w ∷ []) (w ∷ ws)
-seen-again w ws = rw (bytes-same w) refl

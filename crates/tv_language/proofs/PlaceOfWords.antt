@@ -32,9 +32,6 @@ number_first w x xs = first_by (bytes_eq w x) (position_or_len (bytes_eq w) xs) 
 
 -- ---- the word at the place that was found
 
-some_is : (a b : ℕ) (o : Option ℕ) → o ≡ Some a → o ≡ Some b → a ≡ b
-some_is a b o h k = cc
-
 found_behind : (w x : Word) (xs : List Word) (o : Option ℕ) (n : ℕ) → ((m : ℕ) → o ≡ Some m → slice_index_or xs m [] ≡ w) → shifted o ≡ Some n → slice_index_or (x ∷ xs) n [] ≡ w
 found_behind w x xs None n again h = absurd cc
 found_behind w x xs (Some m) n again h = let e : suc m ≡ n = cc in subst (λ (k : ℕ). slice_index_or (x ∷ xs) k [] ≡ w) e (again m refl)

@@ -1,5 +1,5 @@
 -- numbers added place by place
-use Rattle.std.proofs.Common.{◌≡◌, ℕ, ◌+◌, ◌<◌, ◌≤◌, ◌∙◌, List, ⊎_elim, length, get_or, set, refl, sym, ap, arith, subst, ℤ, pos, ◌+ℤ◌}
+use Rattle.std.proofs.Common.{◌≡◌, ℕ, ◌+◌, ◌<◌, ◌≤◌, ◌∙◌, List, ⊎_elim, length, get_or, set, sym, ap, arith, subst, ℤ, pos, ◌+ℤ◌}
 use Rattle.std.specs.Prelude.{unsigned_abs}
 use Rattle.std.proofs.lemmas.Bool.{cases_lt}
 use Rattle.std.proofs.lemmas.List.{same_lists, get_or_default, length-set, get_or-set_same, get_or-set_other}
@@ -11,9 +11,6 @@ pub record IsAddedTo (old numbers now : List ℤ) (i : ℕ) : Type 0 where
   pub counted : length now ≡ length old
   pub before : (k : ℕ) → k < i → get_or now k (pos 0) ≡ get_or old k (pos 0) +ℤ get_or numbers k (pos 0)
   pub after : (k : ℕ) → i ≤ k → get_or now k (pos 0) ≡ get_or old k (pos 0)
-
-pub none_added : (old numbers : List ℤ) → IsAddedTo old numbers old 0
-none_added old numbers = record { counted = refl; before = λ k h. absurd (omega arith); after = λ k h. refl }
 
 module _ (old numbers now : List ℤ) (i : ℕ) (so_far : IsAddedTo old numbers now i) where
   pub one_added : (sum : ℤ) → i < length old → sum ≡ get_or now i (pos 0) +ℤ get_or numbers i (pos 0) → IsAddedTo old numbers (set now i sum) (i + 1)

@@ -1,5 +1,5 @@
 -- a row that is made column by column
-use Rattle.std.proofs.Common.{◌≡◌, ℕ, ◌+◌, ◌<◌, ◌≤◌, ◌∙◌, List, [], ◌∷◌, ◌++◌, ⊎_elim, length, get_or, refl, sym, ap, arith, subst, ℤ, pos}
+use Rattle.std.proofs.Common.{◌≡◌, ℕ, ◌+◌, ◌<◌, ◌≤◌, ◌∙◌, List, [], ◌∷◌, ◌++◌, ⊎_elim, length, get_or, sym, ap, arith, subst, ℤ, pos}
 use Rattle.std.specs.Prelude.{Result, Ok, Err, IfOk}
 use Rattle.std.proofs.lemmas.Grind.{common_steps}
 use Rattle.std.proofs.lemmas.Bool.{cases_lt}
@@ -15,9 +15,6 @@ pub record IsMadeTo (Fits : ℕ → Type 0) (meant : Linear) (made : List ℤ) (
   pub numbers : (k : ℕ) → k < column → get_or made k (pos 0) ≡ entry meant k
 
 module _ (Fits : ℕ → Type 0) (meant : Linear) where
-  pub none_made : IsMadeTo Fits meant [] 0
-  none_made = record { counted = refl; fits = λ k h. absurd (omega arith); numbers = λ k h. absurd (omega arith) }
-
   module _ (made : List ℤ) (column : ℕ) (so_far : IsMadeTo Fits meant made column) where
     at_or_before : (P : ℕ → Type 0) → ((k : ℕ) → k < column → P k) → P column → (k : ℕ) → k ≤ column → P k
     at_or_before P before here k h =

@@ -1,12 +1,12 @@
 -- the numbers of a row that is made, column by column
-use Rattle.std.proofs.Common.{◌≡◌, ℕ, ◌<◌, ◌≤◌, ◌∙◌, List, [], ◌∷◌, map, length, get_or, refl, sym, ap, arith, subst, ℤ, pos, neg_ℤ, ◌+ℤ◌, ◌-ℤ◌, ◌*ℤ◌, Option, None, Some, SomeIff}
+use Rattle.std.proofs.Common.{◌≡◌, ℕ, ◌<◌, ◌≤◌, ◌∙◌, List, [], ◌∷◌, map, length, get_or, refl, sym, ap, arith, subst, ℤ, pos, neg_ℤ, ◌+ℤ◌, ◌*ℤ◌, Option, None, Some, SomeIff}
 use Rattle.std.specs.Prelude.{All}
 use Rattle.std.proofs.lemmas.Int.{ints}
 use Rattle.std.proofs.lemmas.List.{length-map, get_or_past, get_or_default}
 use Rattle.std.proofs.lemmas.List.Elements.{All-head, All-tail}
 use Rattle.std.proofs.Math.ListN.{get_or-map}
 use Rattle.tv_linear.specs.Linear.{Linear, columns, entry, dot, IsWithin}
-use Rattle.tv_linear.specs.Arithmetic.{zeros, constant_row, plus, opposite, denial, scaled, raised, width_of, combined, composed}
+use Rattle.tv_linear.specs.Arithmetic.{zeros, constant_row, plus, opposite, scaled, raised, width_of, combined, composed}
 use Rattle.tv_linear.specs.Fits.{IsHeld, SumsHeld, FitsComposed, IsNarrowAt}
 use Rattle.tv_linear.proofs.PlainLists.{length-zeros, get_or-zeros, length-plus_each, get_or-plus_each}
 
@@ -27,14 +27,6 @@ entry-opposite r column = get_or-map neg_ℤ r.coefficients column r.constant
 pub columns-opposite : (r : Linear) → columns (opposite r) ≡ columns r
 columns-opposite r = length-map r.coefficients neg_ℤ
 
-pub entry-denial_inner : (r : Linear) (column : ℕ) → column < columns r → entry (denial r) column ≡ neg_ℤ (entry r column)
-entry-denial_inner r column h =
-    entry-inner (denial r) (opposite r) column refl (omega (arith, h, columns-opposite r)) ∙ entry-opposite r column
-
-pub entry-denial_last : (r : Linear) (column : ℕ) → columns r ≤ column → entry (denial r) column ≡ pos 1 -ℤ entry r column
-entry-denial_last r column h =
-    entry-last (denial r) column (omega (arith, h, columns-opposite r)) ∙ ap (λ z. pos 1 -ℤ z) (sym (entry-last r column h))
-
 pub columns-plus : (r s : Linear) → columns r ≡ columns s → columns (plus r s) ≡ columns r
 columns-plus r s e = length-plus_each r.coefficients s.coefficients e
 
@@ -50,9 +42,6 @@ entry-raised_last z r column h = entry-last (raised z r) column h ∙ ap (λ k. 
 -- ---- a number alone
 pub entry-constant_inner : (n : ℕ) (z : ℤ) (column : ℕ) → column < n → entry (constant_row n z) column ≡ pos 0
 entry-constant_inner n z column h = get_or_default (zeros n) column z (pos 0) (omega (arith, h, length-zeros n)) ∙ get_or-zeros n column
-
-pub entry-constant_last : (n : ℕ) (z : ℤ) (column : ℕ) → n ≤ column → entry (constant_row n z) column ≡ z
-entry-constant_last n z column h = entry-last (constant_row n z) column (omega (arith, h, length-zeros n))
 
 pub constant_inner : (n : ℕ) (z : ℤ) (column : ℕ) → column < n → IsNarrowAt (constant_row n z) column × (pos 0 ≡ entry (constant_row n z) column)
 constant_inner n z column h =

@@ -1,13 +1,12 @@
 -- the rows that show a fall
-use Rattle.std.proofs.Common.{◌≡◌, ℕ, zero, suc, ◌<◌, ◌≤◌, List, [], ◌∷◌, map, get_or, refl, sym, ap, ◌∙◌, arith, length, subst, ℤ, pos, ◌+ℤ◌, ◌-ℤ◌, ◌≤ℤ◌, negsuc, inl, inr, ⊎_elim, Option, None, Some}
+use Rattle.std.proofs.Common.{◌≡◌, ℕ, zero, suc, ◌<◌, ◌≤◌, List, [], ◌∷◌, map, get_or, refl, sym, ap, ◌∙◌, arith, length, subst, ℤ, pos, ◌+ℤ◌, ◌-ℤ◌, ◌≤ℤ◌, Option, None, Some}
 use Rattle.std.specs.Prelude.{All}
 use Rattle.std.specs.Option.{option_map}
-use Rattle.std.proofs.lemmas.Bool.{cases_lt}
 use Rattle.std.proofs.lemmas.Int.{ints}
 use Rattle.std.proofs.lemmas.List.{length-map}
 use Rattle.std.proofs.lemmas.List.Elements.{All-head, All-tail}
 use Rattle.tv_linear.specs.Known.{Known, given, less, known_value, IsKnownMet}
-use Rattle.tv_linear.specs.Falls.{FallsAt, Falls, measure_of, rank_measure, IsLexicographicallyBelow, zero_row, fall_rows_at, fall_rows}
+use Rattle.tv_linear.specs.Falls.{FallsAt, Falls, zero_row, fall_rows_at, fall_rows}
 use Rattle.tv_linear.proofs.KnownLemmas.{value-less, value-given}
 
 first_falls : (f g : ℤ) (old new : List ℤ) → length new ≡ length old → (g -ℤ f +ℤ pos 1) ≤ℤ pos 0 → (pos 0 -ℤ f +ℤ pos 0) ≤ℤ pos 0 → FallsAt (f ∷ old) (g ∷ new) 0
@@ -58,31 +57,3 @@ at_place xs (f ∷ old) (g ∷ new) (suc j) rows same e h = later (fall_rows_at 
 pub falls-shown : (xs : List ℤ) (old new : List Known) (j : ℕ) (rows : List Known) → length new ≡ length old → fall_rows old new j ≡ Some rows → All (IsKnownMet xs) rows → Falls (map (known_value xs) old) (map (known_value xs) new)
 falls-shown xs old new zero rows same e h = cc
 falls-shown xs old new (suc j) rows same e h = (j, at_place xs old new j rows same e h)
-
--- ---- the measure of the ranks
-measure-grows : (f g : ℤ) → g ≤ℤ f → measure_of g ≤ measure_of f
-measure-grows (pos m) (pos n) h = omega (arith, ints)
-measure-grows (pos m) (negsuc n) h = omega arith
-measure-grows (negsuc m) (pos n) h = absurd (omega (arith, ints))
-measure-grows (negsuc m) (negsuc n) h = omega arith
-
-measure-falls : (f g : ℤ) → (g +ℤ pos 1) ≤ℤ f → pos 0 ≤ℤ f → measure_of g < measure_of f
-measure-falls (pos m) (pos n) h k = omega (arith, ints)
-measure-falls (pos m) (negsuc n) h k = omega arith
-measure-falls (negsuc m) g h k = absurd (omega (arith, ints))
-
--- where the ranks fall their measure gets lexicographically less
-pub falls-below : (old new : List ℤ) (j : ℕ) → FallsAt old new j → IsLexicographicallyBelow (rank_measure new) (rank_measure old)
-falls-below [] new j h = absurd (let k = h.inside in omega arith)
-falls-below (f ∷ old) [] j h = absurd (let k = h.as_many in omega arith)
-falls-below (f ∷ old) (g ∷ new) zero h = inl (measure-falls f g h.falls h.not_below)
-falls-below (f ∷ old) (g ∷ new) (suc j) h =
-    let at_most = measure-grows f g (h.none_grows 0 (omega arith)) in
-    let later = falls-below old new j (record {
-      as_many = (let k = h.as_many in omega arith);
-      inside = (let k = h.inside in omega arith);
-      none_grows = (λ i k. h.none_grows (suc i) (omega arith));
-      falls = h.falls;
-      not_below = h.not_below;
-    }) in
-    ⊎_elim (λ less. inl less) (λ not_less. let same : measure_of g ≡ measure_of f = omega arith in inr (same, later)) (cases_lt (measure_of g) (measure_of f))

@@ -1,7 +1,7 @@
 -- a sum of products, as far as it has come
-use Rattle.std.proofs.Common.{◌≡◌, ◌↔◌, ℕ, ◌+◌, ◌<◌, ◌≤◌, ◌∙◌, List, [], ◌∷◌, length, drop, get_or, refl, sym, ap, arith, subst, ℤ, pos, ◌+ℤ◌, ◌*ℤ◌}
+use Rattle.std.proofs.Common.{◌≡◌, ◌↔◌, ℕ, ◌+◌, ◌<◌, ◌∙◌, List, ◌∷◌, length, drop, get_or, sym, ap, arith, subst, ℤ, pos, ◌+ℤ◌, ◌*ℤ◌}
 use Rattle.std.proofs.lemmas.Int.{ints}
-use Rattle.std.proofs.lemmas.List.{drop_more, drop_all}
+use Rattle.std.proofs.lemmas.List.{drop_more}
 use Rattle.tv_linear.specs.Linear.{dot}
 use Rattle.tv_linear.specs.Fits.{IsHeld, SumsHeld}
 
@@ -9,9 +9,6 @@ use Rattle.tv_linear.specs.Fits.{IsHeld, SumsHeld}
 pub record IsSummedTo (cs xs : List ℤ) (start sum : ℤ) (i : ℕ) : Type 0 where
   pub held : SumsHeld start cs xs ↔ SumsHeld sum (drop i cs) (drop i xs)
   pub total : start +ℤ dot cs xs ≡ sum +ℤ dot (drop i cs) (drop i xs)
-
-pub none_summed : (cs xs : List ℤ) (start : ℤ) → IsSummedTo cs xs start start 0
-none_summed cs xs start = record { held = (λ h. h, λ h. h); total = refl }
 
 module _ (cs xs : List ℤ) (start sum : ℤ) (i : ℕ) (so_far : IsSummedTo cs xs start sum i) where
   module _ (c x : ℤ) (in_cs : i < length cs) (in_xs : i < length xs) (c_is : c ≡ get_or cs i (pos 0)) (x_is : x ≡ get_or xs i (pos 0)) where
@@ -35,10 +32,3 @@ module _ (cs xs : List ℤ) (start sum : ℤ) (i : ℕ) (so_far : IsSummedTo cs 
           let here : dot (drop i cs) (drop i xs) ≡ (c *ℤ x) +ℤ dot (drop (i + 1) cs) (drop (i + 1) xs) = (λ k. dot (rest_cs k) (rest_xs k)) in
           omega (arith, ints, before, here));
     })
-
-  pub all_summed : length cs ≤ i → SumsHeld start cs xs × (sum ≡ start +ℤ dot cs xs)
-  all_summed past =
-      let none : drop i cs ≡ [] = drop_all i cs past in
-      let total = so_far.total in
-      let rest : dot (drop i cs) (drop i xs) ≡ pos 0 = ap (λ ys. dot ys (drop i xs)) none in
-      (so_far.held.1 (subst (λ ys. SumsHeld sum ys (drop i xs)) (sym none) tt), omega (arith, ints, total, rest))

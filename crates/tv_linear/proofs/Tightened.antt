@@ -3,7 +3,7 @@ use Prim.Native.Nat.{◌∣◌}
 use Rattle.std.specs.Prelude.{unsigned_abs, All, ◌<ℤ◌, Result, Ok, Err, IfOk}
 use Rattle.std.specs.Int.{int_div_euclid}
 use Rattle.std.proofs.lemmas.Int.{ints}
-use Rattle.tv_linear.specs.Linear.{Linear, linear, dot, IsMet}
+use Rattle.tv_linear.specs.Linear.{Linear, dot, IsMet}
 use Rattle.tv_linear.specs.Tight.{divisor, rounded_up, divided, divided_unless_zero, tight, IsTightened}
 use Rattle.tv_linear.proofs.Euclid.{AllMultiples, divisor_from-multiples, divisor_from-greatest}
 use Rattle.std.proofs.lemmas.Nat.Gcd.{mod-eq-zero_of_dvd, dvd-zero}
@@ -86,10 +86,6 @@ tight-met r xs = by_divisor (divisor r.coefficients) (divisor_from-multiples 0 r
   by_divisor : (g : ℕ) → AllMultiples g r.coefficients → IsMet xs (divided_unless_zero g r) ↔ IsMet xs r
   by_divisor zero k = (λ met. met, λ met. met)
   by_divisor (suc g) k = divided-met (suc g) r xs (omega arith) k
-
-pub tight-is : (r : Linear) (g : ℕ) (cs : List ℤ) (k : ℤ) → g ≡ divisor r.coefficients → 0 < g → cs ≡ map (rounded_up g) r.coefficients → k ≡ rounded_up g r.constant → linear cs k ≡ tight r
-tight-is r zero cs k e h is last = absurd (omega arith)
-tight-is r (suc g) cs k e h is last = (λ i. linear (is i) (last i)) ∙ ap (λ n. divided_unless_zero n r) e
 
 pub tight-of_zero : (r s : Linear) → divisor r.coefficients ≡ 0 → s ≡ r → s ≡ tight r
 tight-of_zero r s e is = is ∙ sym (ap (λ n. divided_unless_zero n r) e)

@@ -4,7 +4,7 @@ use Rattle.std.specs.Prelude.{◌&&◌}
 use Rattle.std.specs.List.{list_all}
 use Rattle.tv_lines.specs.declared.head.Head.{Head}
 use Rattle.tv_lines.specs.declared.number.NumberWord.TheVariants as words
-use Rattle.tv_lines.specs.Numbers.{is_number, number_of, is_narrow, Reads}
+use Rattle.tv_lines.specs.Numbers.{is_number, number_of, is_narrow}
 use Rattle.tv_lines.specs.Lines.{PlainLine, formed, formless, wide, numbered}
 
 -- the line, told the numbers so far, whether one was wide, and the words that are left
@@ -13,18 +13,6 @@ numbered_from h zs false [] = formed h zs
 numbered_from h zs true [] = wide
 numbered_from h zs w (word ∷ rest) =
     cond (is_number word) (cond (is_narrow (number_of word)) (numbered_from h (zs ++ number_of word ∷ []) w rest) (numbered_from h zs true rest)) formless
-
-pub narrow_step : (h : Head) (zs : List ℤ) (w : Bool) (word : List ℕ) (rest : List (List ℕ)) (z : ℤ) → Reads word (words.Narrow z)
-    → numbered_from h zs w (word ∷ rest) ≡ numbered_from h (zs ++ z ∷ []) w rest
-narrow_step h zs w word rest z r = rw (r.0, r.1, r.2) refl
-
-pub wide_step : (h : Head) (zs : List ℤ) (w : Bool) (word : List ℕ) (rest : List (List ℕ)) → Reads word words.Wide
-    → numbered_from h zs w (word ∷ rest) ≡ numbered_from h zs true rest
-wide_step h zs w word rest r = rw (r.0, r.1) refl
-
-pub missing_step : (h : Head) (zs : List ℤ) (w : Bool) (word : List ℕ) (rest : List (List ℕ)) → Reads word words.Missing
-    → numbered_from h zs w (word ∷ rest) ≡ formless
-missing_step h zs w word rest r = rw r refl
 
 after_wide : (h : Head) (zs : List ℤ) (ws : List (List ℕ)) → numbered_from h zs true ws ≡ cond (list_all is_number ws) wide formless
 after_wide h zs [] = refl

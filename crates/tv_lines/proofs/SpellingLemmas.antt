@@ -1,5 +1,5 @@
 -- The spelling of a line, as it is put together.
-use Rattle.std.proofs.Common.{◌≡◌, ℕ, ℤ, List, [], ◌∷◌, ◌++◌, length, map, ◌<◌, refl, sym, ap, ◌∙◌, append_assoc, arith}
+use Rattle.std.proofs.Common.{◌≡◌, ℕ, ℤ, List, [], ◌∷◌, ◌++◌, map, sym, ap, ◌∙◌, append_assoc}
 use Rattle.std.specs.Prelude.{None, codes}
 use Rattle.std.specs.Fmt.{signed_decimal}
 use Rattle.std.proofs.lemmas.List.{append-nil}
@@ -24,15 +24,6 @@ plain_spelling heads.Header zs e = sym (joined_spaced_2 (codes "T2CERT") (codes 
 plain_spelling (heads.Node kind) zs e = sym (joined_spaced_2 (codes "node") (kind_word kind) zs)
 plain_spelling (heads.Piece mark) zs e = absurd cc
 plain_spelling _ zs e = sym (joined_spaced _ zs)
-
-empty_words : (head : Head) → joined 32 (head_words head) ≡ spelling head []
-empty_words (heads.Piece mark) = refl
-empty_words _ = refl
-
--- a head without a number
-pub empty_spelling : (head : Head) (zs : List ℤ) → length zs < 1 → joined 32 (head_words head) ++ spaced zs ≡ spelling head zs
-empty_spelling head [] n = append-nil (joined 32 (head_words head)) ∙ empty_words head
-empty_spelling head (z ∷ zs) n = absurd (omega arith)
 
 -- a piece with numbers, put together part by part
 assembled : (p z m w s a b c d e f : List ℕ) → w ≡ m → a ≡ [] → b ≡ a ++ p → c ≡ b ++ 32 ∷ z → d ≡ c ++ 32 ∷ [] → e ≡ d ++ w → f ≡ e ++ s

@@ -1,22 +1,10 @@
-use Rattle.std.proofs.Common.{◌≡◌, ℕ, ◌⊎◌, inl, inr, ◌+◌, [], ◌∷◌, arith, refl, subst, ◌≤◌, sym}
+use Rattle.std.proofs.Common.{◌≡◌, ℕ, ◌⊎◌, inl, inr, ◌+◌, [], ◌∷◌, refl, subst, sym}
 use Rattle.tv_meaning.specs.Runs.{WeakEvery, UntilAny, WeakAnyFails, Must, reached, further, Ends, all_end}
 
 -- no endless list of steps begins at a state of Ends
 pub never_endless : {S : Type 0} {step : S → S → Type 0} {s : S} → Ends step s → (run : ℕ → S) → ((n : ℕ) → step (run n) (run (n + 1))) → (n : ℕ) → s ≡ run n → ⊥
 never_endless {step = step} (all_end h) run steps n e =
     never_endless (h (run (n + 1)) (subst (λ x. step x (run (n + 1))) (sym e) (steps n))) run steps (n + 1) refl
-
--- an endless list of steps from a state of Must meets g
-pub Must_meets : {S : Type 0} {step : S → S → Type 0} {f g : S → Type 0} {s : S} → Must step f g s → (run : ℕ → S) → ((n : ℕ) → step (run n) (run (n + 1))) → (n : ℕ) → s ≡ run n → (m : ℕ) × (n ≤ m) × g (run m)
-Must_meets {g = g} (reached h) run steps n e = (n, omega arith, subst g e h)
-Must_meets {step = step} (further t a b h) run steps n e =
-    let later = Must_meets (h (run (n + 1)) (subst (λ x. step x (run (n + 1))) (sym e) (steps n))) run steps (n + 1) refl in
-    (later.0, omega arith, later.2)
-
--- a state of Must where g does not hold has a successor
-pub Must_goes : {S : Type 0} {step : S → S → Type 0} {f g : S → Type 0} {s : S} → Must step f g s → (g s → ⊥) → (t : S) × step s t
-Must_goes (reached h) n = absurd (n h)
-Must_goes (further t a b h) n = (t, b)
 
 -- ---- what has a rank that falls along every step ends, where no rank falls for ever
 

@@ -156,9 +156,6 @@ module _ (text : List ℕ) (tokens : List Token) (scanned : IsTokens 0 text toke
     same_tokens : u.reading.tokens ≡ tokens
     same_tokens = ap (λ (x : Fixture). x.tokens) same ∙ ap (λ (s : Stand). s.tokens) w.reading
 
-    same_text : u.reading.text ≡ text
-    same_text = ap (λ (x : Fixture). x.text) same ∙ ap (λ (s : Stand). s.text) w.reading
-
     -- the system of what is read
     made_is : (x : ItemsRead) (p : Program) → IsMade u x p → system_of p ≡ record { variables = (vocabulary (lexemes text tokens)).variables; locations = (vocabulary (lexemes text tokens)).labels; start = 0; edges = transitions x.edges.items }
     made_is x p m =

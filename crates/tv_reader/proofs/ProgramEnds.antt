@@ -110,9 +110,6 @@ perhaps_outside x = mapped_outside (λ came. x) (turns semicolon_cases true) sem
 
 -- ---- commands
 
-widened : {X : Type 0} (b : Behind X) → BranchStops b → BranchOutside b semicolons
-widened b h d t e = h d t refl
-
 command_outside : (kept : Kind → Bool) (n : ℕ) (cs : List Instruction) (m : Mark) → BranchOutside (command_cases kept n cs m) semicolons
 command_outside kept n cs (plain (fixed kinds.Assume)) d t e = assumption_stops kept n cs d t refl
 command_outside kept n cs (plain (name v)) d t e = assignment_stops kept n cs v d t refl

@@ -1,5 +1,5 @@
 -- What single tokens do to the grammar.
-use Rattle.std.proofs.Common.{◌≡◌, ℕ, ◌^◌, Bool, true, false, cond, List, [], ◌∷◌, Option, Some, None, Ok, ◌⊎◌, inl, inr, refl, ap, sym, ◌∙◌}
+use Rattle.std.proofs.Common.{◌≡◌, ℕ, ◌^◌, Bool, true, false, cond, List, [], ◌∷◌, Option, Some, None, ◌⊎◌, inl, inr, refl, ap, sym, ◌∙◌}
 use Rattle.std.specs.Prelude.{nat_lt}
 use Rattle.tv_tokens.specs.declared.token.TokenKind.{TokenKind}
 use Rattle.tv_tokens.specs.declared.token.TokenKind.TheVariants as kinds
@@ -9,29 +9,13 @@ use Rattle.tv_language.specs.Symbols.{Symbol, number, name, label, drawn, fixed,
 use Rattle.tv_grammar.specs.Reads.{fault, next}
 use Rattle.tv_grammar.specs.Langs.{branch_read, headed}
 use Rattle.tv_reading.specs.Marks.{Mark, plain, refused, Syntax, Wide, TooMany}
-use Rattle.tv_reading.specs.SumGrammar.{Grammar, every}
+use Rattle.tv_reading.specs.SumGrammar.{every}
 use Rattle.tv_reading.specs.Views.{kind_at}
 use Rattle.tv_reader.specs.ProgramMarks.{numbered, mark_by}
-use Rattle.tv_reader.specs.ProgramGrammar.{go_if, token, label_cases}
-use Rattle.tv_reader.specs.Readers.{is_fixed, is_passing}
+use Rattle.tv_reader.specs.ProgramGrammar.{label_cases}
+use Rattle.tv_reader.specs.Readers.{is_fixed}
 
 -- ---- the mark of a token of a fixed kind
-
-pub fixed_mark : (v : Vocabulary) (b : Bool) (d : ℕ) (kind : TokenKind) (w : Word) → is_fixed kind ≡ true → mark_by v b d kind w ≡ plain (fixed kind)
-fixed_mark v true d kinds.Name w h = absurd cc
-fixed_mark v false d kinds.Name w h = absurd cc
-fixed_mark v true d kinds.Number w h = absurd cc
-fixed_mark v false d kinds.Number w h = absurd cc
-fixed_mark v true d kinds.Nondet w h = absurd cc
-fixed_mark v false d kinds.Nondet w h = absurd cc
-fixed_mark v true d kind w h = refl
-fixed_mark v false d kind w h = refl
-
-pub fixed_passing : (kind : TokenKind) → is_fixed kind ≡ true → is_passing kind ≡ true
-fixed_passing kinds.Name h = absurd cc
-fixed_passing kinds.Number h = absurd cc
-fixed_passing kinds.Wide h = absurd cc
-fixed_passing kind h = h
 
 not_fixed : (kind : TokenKind) → is_fixed kind ≡ true → kind ≡ kinds.Unread → ⊥
 not_fixed kind h e = let no : is_fixed kinds.Unread ≡ true = ap is_fixed (sym e) ∙ h in cc
@@ -64,47 +48,15 @@ kind_of_mark v false d k w kind h e = e
 
 -- ---- a token that is wanted
 
-go_read : {X : Type 0} (b : Bool) (l : Grammar X) (m : Mark) (us : List Mark) → b ≡ true → branch_read (go_if b l) (m ∷ us) us ≡ l.read us
-go_read true l m us e = refl
-go_read false l m us e = absurd cc
-
-stop_read : {X : Type 0} (b : Bool) (l : Grammar X) (m : Mark) (us : List Mark) → b ≡ false → branch_read (go_if b l) (m ∷ us) us ≡ fault Syntax (m ∷ us)
-stop_read true l m us e = absurd cc
-stop_read false l m us e = refl
-
-pub token_ok : {X : Type 0} (is : TokenKind → Bool) (kind : TokenKind) → is kind ≡ true → (l : Grammar X) (ms us : List Mark) → ms ≡ plain (fixed kind) ∷ us → (token is l).read ms ≡ l.read us
-token_ok is kind e l ms us h = ap (token is l).read h ∙ go_read (is kind) l (plain (fixed kind)) us e
-
-other : (is : TokenKind → Bool) (kind k : TokenKind) → ((k : TokenKind) → is k ≡ true → k ≡ kind) → (k ≡ kind → ⊥) → (b : Bool) → is k ≡ b → b ≡ false
-other is kind k one differs true e = absurd (differs (one k e))
-other is kind k one differs false e = refl
-
-pub token_no : {X : Type 0} (is : TokenKind → Bool) (kind : TokenKind) → ((k : TokenKind) → is k ≡ true → k ≡ kind) → (l : Grammar X) (ms : List Mark) → (kind_at (next ms) ≡ kind → ⊥) → (token is l).read ms ≡ fault Syntax ms
-token_no is kind one l [] differs = refl
-token_no is kind one l (plain (fixed k) ∷ us) differs = stop_read (is k) l (plain (fixed k)) us (other is kind k one differs (is k) refl)
-token_no is kind one l (plain (number k) ∷ us) differs = refl
-token_no is kind one l (plain (name k) ∷ us) differs = refl
-token_no is kind one l (plain (label k) ∷ us) differs = refl
-token_no is kind one l (plain (drawn k) ∷ us) differs = refl
-token_no is kind one l (refused j k ∷ us) differs = refl
-
 pub from_mark : (v : Vocabulary) (b : Bool) (d : ℕ) (w : Word) → mark_by v b d kinds.From w ≡ plain (fixed kinds.From)
 from_mark v true d w = refl
 from_mark v false d w = refl
 
 -- ---- a label
 
-pub label_ok : (v : Vocabulary) (d : ℕ) (kind : TokenKind) (w : Word) (n : ℕ) → (kind ≡ kinds.Name) ⊎ (kind ≡ kinds.Number) → number_of w v.labels ≡ Some n → mark_by v true d kind w ≡ plain (label n)
-label_ok v d kind w n (inl e) h = ap (λ k. mark_by v true d k w) e ∙ ap (numbered kinds.Number label) h
-label_ok v d kind w n (inr e) h = ap (λ k. mark_by v true d k w) e ∙ ap (numbered kinds.Number label) h
-
 pub label_many : (v : Vocabulary) (d : ℕ) (kind : TokenKind) (w : Word) → (kind ≡ kinds.Name) ⊎ (kind ≡ kinds.Number) → number_of w v.labels ≡ None → mark_by v true d kind w ≡ refused TooMany kinds.Number
 label_many v d kind w (inl e) h = ap (λ k. mark_by v true d k w) e ∙ ap (numbered kinds.Number label) h
 label_many v d kind w (inr e) h = ap (λ k. mark_by v true d k w) e ∙ ap (numbered kinds.Number label) h
-
--- what the grammar of labels reads at the next mark
-pub label_read : (ms us : List Mark) (n : ℕ) → ms ≡ plain (label n) ∷ us → (headed Syntax (label_cases every)).read ms ≡ Ok (n, us)
-label_read ms us n e = ap (headed Syntax (label_cases every)).read e
 
 pub label_refused : (ms : List Mark) → next ms ≡ Some (refused TooMany kinds.Number) → (headed Syntax (label_cases every)).read ms ≡ fault TooMany ms
 label_refused [] e = absurd cc

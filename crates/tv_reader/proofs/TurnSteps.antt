@@ -17,7 +17,7 @@ use Rattle.tv_reading.specs.Views.{kind_at}
 use Rattle.tv_reader.proofs.ProgramExact.{semicolon_branch}
 use Rattle.tv_reader.specs.ProgramMarks.{numbered, mark_by}
 use Rattle.tv_reader.specs.ProgramGrammar as grammar
-use Rattle.tv_reader.specs.ProgramGrammar.{command_cases, Items, with_start, with_edge, place, perhaps_ended, semicolon_cases, last_of_edge, has_start, is_full, item_cases, last_of_program}
+use Rattle.tv_reader.specs.ProgramGrammar.{command_cases, Items, with_start, place, perhaps_ended, semicolon_cases, last_of_edge, has_start, is_full, item_cases, last_of_program}
 use Rattle.tv_reader.specs.Readers.{Unless, kind_of, Turned}
 use Rattle.tv_reader.specs.declared.reason.Reason.{Reason}
 use Rattle.tv_reader.specs.declared.reason.Reason.TheVariants as reasons
@@ -44,23 +44,10 @@ unless_map reasons.TwoStarts p q f h = f h
 unless_map reasons.TooMany p q f h = f h
 unless_map reasons.Memory p q f h = tt
 
-pub turn_refused : {X S : Type 0} (view : X → S) (cases : S → Mark → Behind S) (s : S) (ms rest : List Mark) (e : Reason) (out : Out S) → Begins cases s ms out → Unless e (out ≡ fault (kind_of e) rest) → Turned view (Err e) rest cases s ms
-turn_refused view cases s ms rest e out b h = unless_map e (out ≡ fault (kind_of e) rest) ((goes_at (cases s) (next ms) ≡ true) × (headed_read Syntax (cases s) ms ≡ fault (kind_of e) rest)) (λ w. (b.0, b.1 ∙ w)) h
-
 -- ---- commands
-
-pub assume_begins : (cs : List Instruction) (ms us : List Mark) → ms ≡ plain (fixed kinds.Assume) ∷ us → Begins (command_cases every 63) cs ms ((grammar.assumption every 63 cs).read us)
-assume_begins cs ms us e = (ap (λ x. goes_at (command_cases every 63 cs) (next x)) e, ap (headed_read Syntax (command_cases every 63 cs)) e)
-
-pub name_begins : (cs : List Instruction) (v : ℕ) (ms us : List Mark) → ms ≡ plain (name v) ∷ us → Begins (command_cases every 63) cs ms ((grammar.assignment every 63 cs v).read us)
-name_begins cs v ms us e = (ap (λ x. goes_at (command_cases every 63 cs) (next x)) e, ap (headed_read Syntax (command_cases every 63 cs)) e)
 
 pub mark_begins : (cs : List Instruction) (ms us : List Mark) → ms ≡ plain (fixed kinds.Mark) ∷ us → Begins (command_cases every 63) cs ms ((perhaps_ended cs).read us)
 mark_begins cs ms us e = (ap (λ x. goes_at (command_cases every 63 cs) (next x)) e, ap (headed_read Syntax (command_cases every 63 cs)) e)
-
--- a name one too many begins no command
-pub many_off : (cs : List Instruction) (ms : List Mark) → next ms ≡ Some (refused TooMany kinds.Name) → goes_at (command_cases every 63 cs) (next ms) ≡ false
-many_off cs ms e = ap (goes_at (command_cases every 63 cs)) e
 
 pub other_off : (v : Vocabulary) (d : ℕ) (kind : TokenKind) (w : Word) (cs : List Instruction) → (kind ≡ kinds.Assume → ⊥) → (kind ≡ kinds.Name → ⊥) → (kind ≡ kinds.Mark → ⊥) → goes_at (command_cases every 63 cs) (Some (mark_by v false d kind w)) ≡ false
 other_off v d kinds.Assume w cs a b c = absurd (a refl)
@@ -79,17 +66,6 @@ other_off v d kinds.Nondet w cs a b c = by (nat_lt d 64)
 other_off v d kind w cs a b c = refl
 
 -- ---- what ends the commands
-
-pub to_read : (s : Items) (from : ℕ) (cs : List Instruction) (ms us : List Mark) → ms ≡ plain (fixed kinds.To) ∷ us → (headed Syntax (last_of_edge every s from cs)).read ms ≡ (mapped (with_edge s from cs) (place every)).read us
-to_read s from cs ms us e = ap (headed Syntax (last_of_edge every s from cs)).read e
-
-pub to_many : (s : Items) (from : ℕ) (cs : List Instruction) (ms : List Mark) → next ms ≡ Some (refused TooMany kinds.Name) → (headed Syntax (last_of_edge every s from cs)).read ms ≡ fault TooMany ms
-to_many s from cs [] e = absurd cc
-to_many s from cs (m ∷ us) e = let is : m ≡ refused TooMany kinds.Name = cc in ap (λ x. branch_read (last_of_edge every s from cs x) (m ∷ us) us) is
-
-pub to_name : (s : Items) (from : ℕ) (cs : List Instruction) (v : ℕ) (ms : List Mark) → next ms ≡ Some (plain (name v)) → (headed Syntax (last_of_edge every s from cs)).read ms ≡ fault Syntax ms
-to_name s from cs v [] e = absurd cc
-to_name s from cs v (m ∷ us) e = let is : m ≡ plain (name v) = cc in ap (λ x. branch_read (last_of_edge every s from cs x) (m ∷ us) us) is
 
 to_none : (v : Vocabulary) (d : ℕ) (kind : TokenKind) (w : Word) (s : Items) (from : ℕ) (cs : List Instruction) → (kind ≡ kinds.To → ⊥) → (kind ≡ kinds.Name → ⊥) → (ms us : List Mark) → branch_read (last_of_edge every s from cs (mark_by v false d kind w)) ms us ≡ fault Syntax ms
 to_none v d kinds.To w s from cs a b ms us = absurd (a refl)
@@ -112,10 +88,6 @@ to_syntax v d kind w s from cs a b (m ∷ us) e = let is : m ≡ mark_by v false
 
 -- ---- items
 
-go_refusable : {X : Type 0} (b : Bool) → b ≡ false → (k : Kind) (l : Grammar X) (here us : List Mark) → (is_go (refuse_by b k l) ≡ true) × (branch_read (refuse_by b k l) here us ≡ l.read us)
-go_refusable true e k l here us = absurd cc
-go_refusable false e k l here us = (refl, refl)
-
 stop_refusable : {X : Type 0} (b : Bool) → b ≡ true → (k : Kind) (l : Grammar X) → is_go (refuse_by b k l) ≡ false
 stop_refusable true e k l = refl
 stop_refusable false e k l = absurd cc
@@ -123,19 +95,6 @@ stop_refusable false e k l = absurd cc
 and_true : (b : Bool) → (b && true) ≡ b
 and_true true = refl
 and_true false = refl
-
-pub start_begins : (s : Items) (ms us : List Mark) → has_start s.starts ≡ false → ms ≡ plain (fixed kinds.Start) ∷ us → Begins (item_cases every 63) s ms ((mapped (with_start s) (place every)).read us)
-start_begins s ms us h e =
-    let w = go_refusable (has_start s.starts && true) (and_true (has_start s.starts) ∙ h) TwoStarts (mapped (with_start s) (place every)) (plain (fixed kinds.Start) ∷ us) us in
-    (ap (λ x. goes_at (item_cases every 63 s) (next x)) e ∙ w.0, ap (headed_read Syntax (item_cases every 63 s)) e ∙ w.1)
-
-pub from_begins : (s : Items) (ms us : List Mark) → is_full s.edges ≡ false → ms ≡ plain (fixed kinds.From) ∷ us → Begins (item_cases every 63) s ms ((grammar.edge every 63 s).read us)
-from_begins s ms us h e =
-    let w = go_refusable (is_full s.edges && true) (and_true (is_full s.edges) ∙ h) TooMany (grammar.edge every 63 s) (plain (fixed kinds.From) ∷ us) us in
-    (ap (λ x. goes_at (item_cases every 63 s) (next x)) e ∙ w.0, ap (headed_read Syntax (item_cases every 63 s)) e ∙ w.1)
-
-pub passed_begins : (s : Items) (ms us : List Mark) → ms ≡ plain (fixed kinds.Passed) ∷ us → Begins (item_cases every 63) s ms (Ok (s, us))
-passed_begins s ms us e = (ap (λ x. goes_at (item_cases every 63 s) (next x)) e, ap (headed_read Syntax (item_cases every 63 s)) e)
 
 pub item_mark_begins : (s : Items) (ms us : List Mark) → ms ≡ plain (fixed kinds.Mark) ∷ us → Begins (item_cases every 63) s ms ((perhaps_ended s).read us)
 item_mark_begins s ms us e = (ap (λ x. goes_at (item_cases every 63 s) (next x)) e, ap (headed_read Syntax (item_cases every 63 s)) e)

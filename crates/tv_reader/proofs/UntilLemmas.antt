@@ -13,9 +13,6 @@ use Rattle.tv_reader.specs.ProgramGrammar.{until}
 abbrev Out : Type 0 → Type 0
 Out X = Result (X × List Mark) (Fault Mark Kind)
 
-bind_same : {X Y : Type 0} (r : Out X) (f : X × List Mark → Out Y) (s : Out X) → r ≡ s → (r >>= f) ≡ (s >>= f)
-bind_same r f s e = ap (λ (o : Out _). o >>= f) e
-
 module _ {S X : Type 0} (cases : S → Mark → Behind S) (last : S → Mark → Behind X) (h : (s : S) (m : Mark) → ExactBranch (cases s m)) where
   -- a turn begins here
   pub until_turn : (s : S) (m : Mark) (ms : List Mark) → is_go (cases s m) ≡ true → (until cases last s).read (m ∷ ms) ≡ (branch_read (cases s m) (m ∷ ms) ms >>= λ x. (until cases last x.0).read x.1)

@@ -7,7 +7,7 @@ use Rattle.tv_tokens.specs.declared.token.TokenKind.{TokenKind}
 use Rattle.tv_tokens.specs.declared.token.TokenKind.TheVariants as kinds
 use Rattle.tv_program.specs.declared.tree.Relation.{Relation}
 use Rattle.tv_program.specs.Trees as trees
-use Rattle.tv_program.specs.Trees.{Expression, Condition, Instruction, assume, assign}
+use Rattle.tv_program.specs.Trees.{Expression, Condition, Instruction}
 use Rattle.tv_program.specs.Views.{parts_of, tests_of}
 use Rattle.tv_program.specs.Limits.{expression_fits, expressions_fit, condition_fits, conditions_fit, instruction_fits}
 use Rattle.tv_language.specs.Symbols.{Symbol, number, name, label, drawn, fixed}
@@ -116,12 +116,6 @@ bare : (kind : TokenKind) → body_kind kind ≡ true → IsBare (fixed kind)
 bare kind e = (e, refl, λ d. refl)
 
 -- ---- sums
-
-abbrev Fits : Expression → ℕ → ℕ → Bool
-Fits e v d = expression_fits v d e
-
-abbrev AllFit : List Expression → ℕ → ℕ → Bool
-AllFit es v d = expressions_fit v d (parts_of es)
 
 gathered_count : (make : trees.Expressions → Expression) → ((es : trees.Expressions) → draws_in (make es) ≡ draws_among es) → (e : Expression) (es : List Expression) → draws_in e + draws_among (parts_of es) ≡ draws_in (gathered make (e ∷ es))
 gathered_count make h e [] = omega arith

@@ -18,7 +18,7 @@ use Rattle.tv_reading.specs.Refusals.{Refuses}
 use Rattle.tv_reading.specs.Texts.{IsLongest}
 use Rattle.tv_reading.specs.declared.fault.PartFault.{PartFault}
 use Rattle.tv_reading.specs.declared.fault.PartFault.TheVariants.{Syntax, Wide, Deep, NotLinear, TooMany, UnknownName, Memory}
-use Rattle.tv_reading.specs.Readings.{one_name, sum_levels, condition_levels, IsRead, IsPlaced, IsGiven, OnRefusal}
+use Rattle.tv_reading.specs.Readings.{one_name, sum_levels, condition_levels, IsRead, IsGiven, OnRefusal}
 use Rattle.tv_reading.proofs.SumLemmas.{sum_exact, sum_ends}
 use Rattle.tv_reading.proofs.SumTexts.{sum_is, sum_is_read}
 use Rattle.tv_reading.proofs.LooseSums.{sums_loose}
@@ -36,16 +36,6 @@ use Rattle.tv_reading.proofs.LinearLemmas.{and_left}
 use Rattle.tv_tokens.specs.declared.token.TokenKind.TheVariants as kinds
 
 module _ {X Y : Type 0} (view : X → Y) (now : Stand) (read : Result (Y × List Mark) (Fault Mark Kind)) where
-  pub placed : (result : Result X PartFault) → IsRead view result now read → IsPlaced result now
-  placed (Ok x) h = tt
-  placed (Err Memory) h = tt
-  placed (Err (Syntax at)) h = h.1
-  placed (Err (Wide at)) h = h.1
-  placed (Err (Deep at)) h = h.1
-  placed (Err (NotLinear at)) h = h.1
-  placed (Err (TooMany at)) h = h.1
-  placed (Err (UnknownName at)) h = h.1
-
   pub on_value : (P : Y → List Mark → Type 0) → ((y : Y) (r : List Mark) → read ≡ Ok (y, r) → P y r) → (result : Result X PartFault) → IsRead view result now read → IfOk result (λ x. P (view x) (left now))
   on_value P f (Ok x) h = f (view x) (left now) h
   on_value P f (Err e) h = tt
@@ -115,9 +105,6 @@ module _ (old now : Stand) (result : Result Expr PartFault) (reads : IsRead expr
   pub sum_refused : OnRefusal result (λ k. Refuses (λ kept n. sum_at kept n true) (sum_levels old) k (left old) (left now))
   sum_refused = on_fault expression now ((Sums (sum_levels old)).read (left old)) (λ k. Refuses (λ kept n. sum_at kept n true) (sum_levels old) k (left old) (left now)) (λ k e. refuses (λ kept n. sum_at kept n true) (λ kept n. sum_exact kept n true) (λ kept n. sum_ends kept n true) (λ kept syntax n m w. sums_loose kept syntax n m w true) (sum_levels old) k (left old) (left now) e) result reads
 
-  pub sum_placed : IsPlaced result now
-  sum_placed = placed expression now ((Sums (sum_levels old)).read (left old)) result reads
-
   fit_by : Passes old now → (e : Expression) → IsLongest (IsSum (sum_levels old)) e (left old) (left now) → expression_fits (length now.names) now.draws e ≡ true
   fit_by p e w = (sum_fits (length now.names) now.draws (w.is []) (passed_text old now w.passed p w.parts)).0
 
@@ -157,9 +144,6 @@ module _ (old now : Stand) (result : Result Cond PartFault) (reads : IsRead cond
 
   pub condition_refused : OnRefusal result (λ k. Refuses condition_at (condition_levels old) k (left old) (left now))
   condition_refused = on_fault condition now ((condition_at every (condition_levels old)).read (left old)) (λ k. Refuses condition_at (condition_levels old) k (left old) (left now)) (λ k e. refuses condition_at condition_exact condition_ends conditions_loose (condition_levels old) k (left old) (left now) e) result reads
-
-  pub condition_placed : IsPlaced result now
-  condition_placed = placed condition now ((condition_at every (condition_levels old)).read (left old)) result reads
 
   fit_condition_by : Passes old now → (c : Condition) → IsLongest (IsCondition (condition_levels old)) c (left old) (left now) → condition_fits (length now.names) now.draws c ≡ true
   fit_condition_by p c w = (condition_fit (length now.names) now.draws (w.is []) (passed_text old now w.passed p w.parts)).0

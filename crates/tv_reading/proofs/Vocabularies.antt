@@ -1,6 +1,6 @@
 -- The symbols of the tokens that a sum or a condition has, under each vocabulary that the names behind it begin.
 use Rattle.std.proofs.Common.{◌≡◌, ℕ, suc, ◌+◌, ◌^◌, ◌<◌, Bool, true, false, List, [], ◌∷◌, ◌++◌, drop, length, Option, Some, None, cond, refl, sym, ap, subst, ◌∙◌, append_assoc, length-append, arith}
-use Rattle.std.proofs.lemmas.List.{append-nil, drop-drop, append_cancel_right}
+use Rattle.std.proofs.lemmas.List.{drop-drop}
 use Rattle.std.proofs.lemmas.Bool.Decides.{nat_tests}
 use Rattle.std.proofs.lemmas.Slice.Eq.{bytes_eq-Decides}
 use Rattle.std.specs.Prelude.{◌&&◌, nat_lt}
@@ -12,16 +12,15 @@ use Rattle.tv_tokens.specs.declared.token.Token.{Token}
 use Rattle.tv_tokens.specs.Numbers.{value_of_digits}
 use Rattle.tv_program.specs.declared.tree.Relation.{Relation}
 use Rattle.tv_program.specs.Trees.{Expression, Condition}
-use Rattle.tv_program.specs.Words.{Word, number_of, with_new, words_with}
+use Rattle.tv_program.specs.Words.{Word, number_of, with_new}
 use Rattle.tv_language.specs.Symbols as symbols
 use Rattle.tv_language.specs.Symbols.{Symbol, number, name, label, drawn, fixed, Lexeme, lexeme, lexemes, Vocabulary, numbered, symbol_by, is_colon, symbols_from}
 use Rattle.tv_language.specs.Sums.{IsFactor, constant, variable, draw, bracketed, negative, AreFactors, no_factor, times, IsProduct, factors, AreProducts, no_product, plus, less, IsSum, products}
 use Rattle.tv_language.specs.Conditions as conditions
 use Rattle.tv_language.specs.Conditions.{relation_of, IsPlain, always, never, denied, IsLiteral, comparison, AreLiterals, no_literal, and, IsConjunction, literals, AreConjunctions, no_conjunction, or, IsCondition, conjunctions}
-use Rattle.tv_reading.specs.Marks.{Mark, plain, refused, symbol_of, symbols_of, TooMany, new_name, number_mark, draw_mark, mark_by, names_behind, draws_behind, Stand, left, past, first, Passes, stay, pass}
-use Rattle.tv_reading.specs.Texts.{IsLongest}
-use Rattle.tv_reading.proofs.LinearLemmas.{and_left, and_right, and_both}
-use Rattle.tv_reading.proofs.PassedLemmas.{is_less, between, here_is, symbols-append, passes_kept}
+use Rattle.tv_reading.specs.Marks.{Mark, plain, refused, symbol_of, symbols_of, TooMany, new_name, number_mark, draw_mark, mark_by, names_behind, draws_behind, Stand, past, first}
+use Rattle.tv_reading.proofs.LinearLemmas.{and_both}
+use Rattle.tv_reading.proofs.PassedLemmas.{is_less, symbols-append}
 
 -- ---- symbols that sums and conditions have
 
@@ -192,18 +191,6 @@ one_same v names draws kind w b h = record { symbol = refl; no_colon = refl; cou
 
 -- ---- all tokens that are read
 
-begins_new : (o : Option ℕ) (w : Word) (names : List Word) (v : Vocabulary) → Begins v (with_new o w names) → Begins v names
-begins_new None w names v b = (w ∷ b.0, b.1 ∙ append_assoc names (w ∷ []) b.0)
-begins_new (Some k) w names v b = b
-
-begins_by : (t : Bool) (w : Word) (names : List Word) (v : Vocabulary) → Begins v (cond t (words_with w names) names) → Begins v names
-begins_by true w names v b = begins_new (number_of w names) w names v b
-begins_by false w names v b = b
-
-begins_before : (kind : TokenKind) (w : Word) (names : List Word) (v : Vocabulary) → Begins v (names_behind true kind w names) → Begins v names
-begins_before kinds.Name w names v b = begins_by (nat_lt (length names) 512) w names v b
-begins_before kind w names v b = b
-
 -- The tokens from the one place to the other have the symbols of the marks that are passed, and nothing else of the rest depends on
 -- them than the count of draws.
 pub record Spelled (v : Vocabulary) (s u : Stand) (passed : List Mark) : Type 0 where
@@ -218,10 +205,6 @@ lexemes-append text (t ∷ ts) us = ap (λ (xs : List Lexeme). lexeme text t ∷
 starts : (ts : List Token) (t : Token) → first ts ≡ Some t → ts ≡ t ∷ drop 1 ts
 starts [] t e = cc
 starts (x ∷ ts) t e = let is : x ≡ t = cc in ap (λ (y : Token). y ∷ ts) is
-
-ordinary_parts : (a : List Mark) (m : Mark) → all_ordinary (symbols_of (a ++ m ∷ [])) ≡ true → (all_ordinary (symbols_of a) ≡ true) × (ordinary (symbol_of m) ≡ true)
-ordinary_parts [] m h = (refl, and_left _ _ h)
-ordinary_parts (x ∷ a) m h = let w = ordinary_parts a m (and_right _ _ h) in (and_both _ _ (and_left _ _ h) w.0, w.1)
 
 one_more : (v : Vocabulary) (s u : Stand) (t : Token) (passed : List Mark) → s.text ≡ u.text → u.grows ≡ true → first (drop u.at u.tokens) ≡ Some t → Begins v (past u t).names → ordinary (symbol_of (mark_by u.grows u.names u.draws t.kind (lexeme u.text t).word)) ≡ true → Spelled v s u passed → Spelled v s (past u t) (passed ++ mark_by u.grows u.names u.draws t.kind (lexeme u.text t).word ∷ [])
 one_more v s u t passed text grows e b h w =
@@ -243,25 +226,6 @@ one_more v s u t passed text grows e b h w =
           ∙ ap (λ (ss : List Symbol). ss ++ symbols_from v false (past u t).draws rest) (sym (symbols-append passed (m ∷ [])));
     }
 
-spelled_by : {s u : Stand} → Passes s u → s.grows ≡ true → (v : Vocabulary) → Begins v u.names → (passed : List Mark) → left s ≡ passed ++ left u → all_ordinary (symbols_of passed) ≡ true → Spelled v s u passed
-spelled_by (stay s) grows v b passed e h =
-    let none : passed ≡ [] = append_cancel_right passed [] (left s) (sym e) in
-    subst (λ (ms : List Mark). Spelled v s s ms) (sym none) (record { tokens = []; parts = refl; same = λ rest. refl })
-spelled_by (pass {s} {u} {t} p at) grows v b passed e h =
-    let k = passes_kept s u p in
-    let c = between p in
-    let m : Mark = mark_by u.grows u.names u.draws t.kind (lexeme u.text t).word in
-    let parts : left s ≡ (c.passed ++ m ∷ []) ++ left (past u t) = c.parts ∙ ap (λ (ms : List Mark). c.passed ++ ms) (here_is u t at) ∙ sym (append_assoc c.passed (m ∷ []) (left (past u t))) in
-    let is : c.passed ++ m ∷ [] ≡ passed = append_cancel_right (c.passed ++ m ∷ []) passed (left (past u t)) (sym parts ∙ e) in
-    let o = ordinary_parts c.passed m (ap (λ (ms : List Mark). all_ordinary (symbols_of ms)) is ∙ h) in
-    let before : Begins v u.names = begins_before t.kind (lexeme u.text t).word u.names v (subst (λ (x : Bool). Begins v (names_behind x t.kind (lexeme u.text t).word u.names)) (k.grows ∙ grows) b) in
-    subst (λ (ms : List Mark). Spelled v s (past u t) ms) is (one_more v s u t c.passed (sym k.text) (k.grows ∙ grows) at b o.1 (spelled_by p grows v before c.passed c.parts o.0))
-
--- The tokens of a text that is read, where names are added, have the symbols of its marks under each vocabulary that begins with the
--- names behind it.
-pub spelled : (s u : Stand) → Passes s u → s.grows ≡ true → (v : Vocabulary) → Begins v u.names → (passed : List Mark) → left s ≡ passed ++ left u → all_ordinary (symbols_of passed) ≡ true → Spelled v s u passed
-spelled s u p grows v b passed e h = spelled_by p grows v b passed e h
-
 -- ---- what is read, as a text over a vocabulary
 
 -- The tokens from the one place to the other are a text that stands for x, over the vocabulary, whatever stands behind them.
@@ -269,15 +233,3 @@ pub record ReadOver {X : Type 0} (IsText : X → List Symbol → List Symbol →
   pub tokens : List Token
   pub parts : drop s.at s.tokens ≡ tokens ++ drop u.at u.tokens
   pub is : (rest : List Lexeme) → IsText x (symbols_from v false s.draws (lexemes s.text tokens ++ rest)) (symbols_from v false u.draws rest)
-
-over : {X : Type 0} (IsText : X → List Symbol → List Symbol → Type 0) → ((x : X) (ts rest : List Symbol) → IsText x ts rest → all_ordinary rest ≡ true → all_ordinary ts ≡ true) → (x : X) (v : Vocabulary) (s u : Stand) → Passes s u → s.grows ≡ true → Begins v u.names → IsLongest IsText x (left s) (left u) → ReadOver IsText x v s u
-over IsText plainly x v s u p grows b w =
-    let o : all_ordinary (symbols_of w.passed) ≡ true = ap all_ordinary (sym (append-nil (symbols_of w.passed))) ∙ plainly x (symbols_of w.passed ++ []) [] (w.is []) refl in
-    let sp = spelled s u p grows v b w.passed w.parts o in
-    record { tokens = sp.tokens; parts = sp.parts; is = λ rest. subst (λ (ss : List Symbol). IsText x ss (symbols_from v false u.draws rest)) (sym (sp.same rest)) (w.is (symbols_from v false u.draws rest)) }
-
-pub sum_over_vocabulary : (n : ℕ) (e : Expression) (v : Vocabulary) (s u : Stand) → Passes s u → s.grows ≡ true → Begins v u.names → IsLongest (IsSum n) e (left s) (left u) → ReadOver (IsSum n) e v s u
-sum_over_vocabulary n e v s u p grows b w = over (IsSum n) (λ x ts rest is h. sum_ordinary is h) e v s u p grows b w
-
-pub condition_over_vocabulary : (n : ℕ) (c : Condition) (v : Vocabulary) (s u : Stand) → Passes s u → s.grows ≡ true → Begins v u.names → IsLongest (IsCondition n) c (left s) (left u) → ReadOver (IsCondition n) c v s u
-condition_over_vocabulary n c v s u p grows b w = over (IsCondition n) (λ x ts rest is h. condition_ordinary is h) c v s u p grows b w

@@ -1,4 +1,4 @@
-use Rattle.std.proofs.Common.{◌≡◌, ℕ, zero, suc, ◌+◌, ◌<◌, ◌≤◌, List, [], ◌∷◌, ◌++◌, map, length, drop, get_or, arith, refl, sym, ap, ◌∙◌, pos, true, false, ◌==◌, if◌then◌else◌, drop-cons, length-append}
+use Rattle.std.proofs.Common.{◌≡◌, ℕ, zero, suc, ◌+◌, ◌<◌, List, [], ◌∷◌, ◌++◌, map, length, drop, get_or, arith, refl, sym, ap, ◌∙◌, pos, true, false, ◌==◌, if◌then◌else◌, drop-cons, length-append}
 use Rattle.std.proofs.lemmas.List.{length-map}
 use Rattle.std.proofs.lemmas.Bool.Decides.{nat_tests}
 use Rattle.tv_linear.specs.Known.{kept, put, unit_number}
@@ -67,12 +67,3 @@ pub update_past : (us : List Update) (i v : ℕ) (u : Update) → i < length us 
 update_past us i v u l e h =
     let a : drop i us ≡ u ∷ drop (suc i) us = drop-cons us i u l ∙ ap (λ x. x ∷ drop (suc i) us) (sym e) in
     ap (λ xs. update_of xs v) a ∙ ap (λ t. if t then put u.term else update_of (drop (suc i) us) v) (test_false u.variable v h) ∙ ap (λ k. update_of (drop k us) v) (let e : suc i ≡ i + 1 = omega arith in e)
-
-drop_past : {A : Type 0} (xs : List A) (i : ℕ) → length xs ≤ i → drop i xs ≡ []
-drop_past [] zero h = refl
-drop_past [] (suc i) h = refl
-drop_past (x ∷ xs) zero h = absurd (omega arith)
-drop_past (x ∷ xs) (suc i) h = drop_past xs i (omega arith)
-
-pub update_none : (us : List Update) (i v : ℕ) → length us ≤ i → update_of (drop i us) v ≡ kept v
-update_none us i v h = ap (λ xs. update_of xs v) (drop_past us i h)

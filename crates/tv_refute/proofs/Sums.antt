@@ -1,4 +1,4 @@
-use Rattle.std.proofs.Common.{◌≡◌, ◌↔◌, ℕ, suc, zero, ◌+◌, ◌-◌, ◌<◌, ◌≤◌, List, [], ◌∷◌, ◌++◌, map, length, take, drop, get_or, arith, refl, sym, ap, ◌∙◌, ℤ, pos, ◌+ℤ◌, ◌*ℤ◌, subst, Option, Bool, true, false, length-take, length-append, length-drop}
+use Rattle.std.proofs.Common.{◌≡◌, ◌↔◌, ℕ, suc, zero, ◌+◌, ◌-◌, ◌<◌, ◌≤◌, List, [], ◌∷◌, ◌++◌, map, length, take, drop, get_or, arith, refl, sym, ap, ◌∙◌, ℤ, pos, ◌+ℤ◌, ◌*ℤ◌, subst, Option, Bool, true, false, length-take, length-append}
 use Rattle.std.proofs.lemmas.Int.{ints}
 use Rattle.std.proofs.lemmas.List.{take_more, length-map}
 use Rattle.tv_linear.specs.Fits.{SumsHeld, IsHeld}
@@ -7,8 +7,8 @@ use Rattle.tv_linear.specs.Linear.{Linear}
 use Rattle.tv_linear.specs.Refutation.{RowsHeld}
 use Rattle.tv_linear.specs.Linear.{dot}
 use Rattle.tv_linear.proofs.KnownLemmas.{weighted}
-use Rattle.tv_linear.proofs.Summing.{IsSummedTo, none_summed, one_summed, held_here, all_summed}
-use Rattle.tv_refute.specs.Blocks.{AreTold, AreHeld, IsAddedHeld, further}
+use Rattle.tv_linear.proofs.Summing.{IsSummedTo, one_summed, held_here}
+use Rattle.tv_refute.specs.Blocks.{AreTold, IsAddedHeld, further}
 use Rattle.tv_refute.proofs.Telling.{AreTold_iff}
 use Rattle.tv_refute.proofs.Places.{get_or-map}
 use Rattle.tv_refute.specs.Built.{built}
@@ -137,25 +137,13 @@ module _ (column : Option ℕ) (count : ℕ) (ms : List ℤ) (rows : List Linear
         let w = held_here ms (map (number (further column k)) rows) (get_or old k (pos 0)) (get_or now k (pos 0)) i (so_far k l).0 (get_or ms i (pos 0)) (number (further column k) row) inside (long k) refl (number_there k) (fits k l) in
         (w.0, w.1))
 
-  pub summed_all : length ms ≤ i → AreTold true count (λ k. SumsHeld (get_or old k (pos 0)) ms (map (number (further column k)) rows)) (λ k. get_or old k (pos 0) +ℤ dot ms (map (number (further column k)) rows)) now
-  summed_all past = λ k l. all_summed ms (map (number (further column k)) rows) (get_or old k (pos 0)) (get_or now k (pos 0)) i (so_far k l).0 past
-
-pub none_added : (column : Option ℕ) (count : ℕ) (ms : List ℤ) (rows : List Linear) (old : List ℤ) → AreHeld count old → AreSummed column count ms rows old old 0
-none_added column count ms rows old held = λ k l. (none_summed ms (map (number (further column k)) rows) (get_or old k (pos 0)), held k l)
-
 -- ---- the parts at a frame
 module _ (frames : Frames) (ms : List ℤ) (many : length ms ≡ length (known_at frames)) where
   pub at_rows : (rows : Rows) (above : Bor Frames) → frames ≡ At rows above → known_at frames ≡ known_at above.now ++ as_given (rows_seen rows)
   at_rows rows above e = ap known_at e
 
-  pub rows_few : (rows : Rows) (above : Bor Frames) → frames ≡ At rows above → length (rows_seen rows) ≤ length ms
-  rows_few rows above e = omega (arith, many, ap length (at_rows rows above e), length-append (known_at above.now) (as_given (rows_seen rows)), length-map (rows_seen rows) (λ r. given r))
-
   pub rows_many : (rows : Rows) (above : Bor Frames) → frames ≡ At rows above → length (take (length ms - length (rows_seen rows)) ms) ≡ length (known_at above.now)
   rows_many rows above e = omega (arith, length-take {A = ℤ}, many, ap length (at_rows rows above e), length-append (known_at above.now) (as_given (rows_seen rows)), length-map (rows_seen rows) (λ r. given r))
-
-  pub rows_after : (rows : Rows) (above : Bor Frames) → frames ≡ At rows above → length (drop (length ms - length (rows_seen rows)) ms) ≡ length (rows_seen rows)
-  rows_after rows above e = omega (arith, length-drop {A = ℤ}, rows_few rows above e)
 
   pub at_more : (row : Bor Built) (above : Bor Frames) → frames ≡ More row above → known_at frames ≡ known_at above.now ++ built row.now ∷ []
   at_more row above e = ap known_at e

@@ -94,7 +94,31 @@ fn add_kept(
     }
 }
 
-/// Adds the products of a factor and the numbers of a term from a column on, or its constant.
+/// Adds the products of a factor and the numbers of a term, as `add_term` does: without a test for 0.
+fn add_multiple(
+    totals: &mut [i128],
+    count: usize,
+    factor: i128,
+    terms: &Terms,
+    v: usize,
+    column: Option<usize>,
+) -> bool
+    requires size { count ≤ length totals.old }
+    requires held { AreHeld count totals.old }
+    requires there { v < length (terms_of terms.now) }
+    ensures size { length totals.new ≡ length totals.old }
+    ensures told { let term = get_or (terms_of terms.now) v (kept 0) in AreTold result count
+        (λ k. IsAddedHeld (get_or totals.old k (pos 0)) factor (term_number (further column k) term))
+        (λ k. get_or totals.old k (pos 0) +ℤ factor *ℤ term_number (further column k) term) totals.new }
+{
+    match row_put(terms, v) {
+        None => add_kept(totals, count, factor, v, column),
+        Some(row) => add_row(totals, count, factor, RowView::of(row), column),
+    }
+}
+
+/// Adds the products of a factor and the numbers of a term from a column on, or its constant. Most factors are 0.
+#[inline(always)]
 pub(crate) fn add_term(
     totals: &mut [i128],
     count: usize,
@@ -111,13 +135,7 @@ pub(crate) fn add_term(
         (λ k. IsAddedHeld (get_or totals.old k (pos 0)) factor (term_number (further column k) term))
         (λ k. get_or totals.old k (pos 0) +ℤ factor *ℤ term_number (further column k) term) totals.new }
 {
-    if factor == 0 {
-        return true;
-    }
-    match row_put(terms, v) {
-        None => add_kept(totals, count, factor, v, column),
-        Some(row) => add_row(totals, count, factor, RowView::of(row), column),
-    }
+    factor == 0 || add_multiple(totals, count, factor, terms, v, column)
 }
 
 /// Puts the sums over the terms that are put in for the columns of a row. A term is passed where the row's number

@@ -5,5 +5,4 @@ pub mod NumberLemmas
 pub mod StationLemmas
 pub mod FitLemmas
 pub mod AmountLemmas
-pub mod KindLemmas
 pub mod FaultLemmas

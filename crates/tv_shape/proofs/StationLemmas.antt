@@ -62,9 +62,6 @@ pub record Stands (system : CaseSystem) (ss : Statements) (kids : List Node) (st
   pub right : AreRight system done
   pub nodes : start + sizes_list kids ≡ next + sizes_list (drop i kids)
 
-pub stands_all : (system : CaseSystem) (ss : Statements) (kids : List Node) (start depth : ℕ) → Stands system ss kids start depth start 0
-stands_all system ss kids start depth = record { done = []; whole = refl; right = tt; nodes = refl }
-
 module _ (system : CaseSystem) (ss : Statements) (kids : List Node) (start depth next i : ℕ) (many : length kids ≡ count ss) (below : i < length kids) (a : Node) (is : a ≡ get_or kids i a) (h : Stands system ss kids start depth next i) where
   pub part_there : i < count ss
   part_there = omega (arith, many, below)

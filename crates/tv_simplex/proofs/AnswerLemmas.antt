@@ -1,4 +1,4 @@
-use Rattle.std.proofs.Common.{FitsSigned, ◌≡◌, ◌⊎◌, inl, inr, ℕ, suc, ◌+◌, ◌<◌, ◌≤◌, ◌^◌, List, [], ◌∷◌, ◌++◌, length, length-append, get_or, set, arith, refl, sym, ap, ◌∙◌, subst, ℤ, pos, ◌+ℤ◌, ◌*ℤ◌, unsigned_abs}
+use Rattle.std.proofs.Common.{FitsSigned, ◌≡◌, ◌⊎◌, inl, inr, ℕ, suc, ◌+◌, ◌<◌, ◌≤◌, ◌^◌, List, [], ◌∷◌, ◌++◌, length, length-append, get_or, set, arith, sym, ap, ◌∙◌, subst, ℤ, pos, ◌+ℤ◌, ◌*ℤ◌, unsigned_abs}
 use Rattle.std.specs.Int.{w128}
 use Rattle.std.proofs.lemmas.Int.{ints, fits_signed_from_abs}
 use Rattle.std.proofs.lemmas.List.{length-set, get_or-set_same, get_or-set_other}
@@ -38,9 +38,6 @@ column_more n c read fractions new f h e g bound = subst (λ r. AreOfColumn (n +
   ];
   bounded = bounded_more fractions f n h.size h.bounded bound;
 }
-
-pub column_none : (c : ℕ) (read : ℕ → ℕ → Ratio) → AreOfColumn 0 c read []
-column_none c read = record { size = refl; same = λ i l. absurd (omega arith); bounded = λ i l. absurd (omega arith) }
 
 pub objective_more : (n c : ℕ) (objective : ℕ → Ratio) (fractions new : List Fraction) (f : Fraction) → AreOfObjective n c objective fractions → new ≡ fractions ++ f ∷ [] → IsLessOne (ratio f) (objective (c + n)) → unsigned_abs f.numerator < 2 ^ 41 → AreOfObjective (n + 1) c objective new
 objective_more n c objective fractions new f h e g bound = subst (λ r. AreOfObjective (n + 1) c objective r) (sym e) record {

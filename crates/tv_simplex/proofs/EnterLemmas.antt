@@ -228,9 +228,6 @@ module _ (t t' : Table) (r c k : ℕ) (h : IsTable t) (r_in : r < length t.basis
     factor_shown : (i : ℕ) → i < length t.rows.items → ratio_at factors i ≡ shown t i c
     factor_shown i l = taken.factor i l ∙ ap (at_place (row_of t.rows.items i) i) (sym at)
 
-    pub pivot_shown : ratio_at factors r ≡ shown t r c
-    pivot_shown = factor_shown r row_below
-
     entry_shown : (i l : ℕ) → i < length t.rows.items → l < length t.slots.items → read between i l ≡ shown t i (column t'.slots.items l)
     entry_shown i l i_in l_in = elim (same_or_other l k) [
       | inl e ↦ ap (read between i) e ∙ taken.unit i i_in ∙ ap (at_place (row_of t.rows.items i) i) (sym leaving_at) ∙ ap (shown t i) (sym (ap (column t'.slots.items) e ∙ slot_left))

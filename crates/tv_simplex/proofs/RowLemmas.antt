@@ -6,7 +6,7 @@ use Rattle.tv_fraction.proofs.Ring.{mul_assoc_z}
 use Rattle.tv_fraction.specs.declared.Fraction.{Fraction}
 use Rattle.tv_tableau.proofs.Ring.{zero_times, less_times}
 use Rattle.tv_tableau.specs.Ratios.{Ratio, IsRest}
-use Rattle.tv_simplex.specs.Rows.{ratio, ratio_at, IsNarrowRatio, IsNarrowRow, AreRests, IsWideRest}
+use Rattle.tv_simplex.specs.Rows.{ratio, ratio_at, IsNarrowRatio, AreRests, IsWideRest}
 
 pub at_get : (xs : List Fraction) (j : ℕ) (d : Fraction) → j < length xs → ratio (get_or xs j d) ≡ ratio_at xs j
 at_get [] j d h = absurd (omega arith)
@@ -35,9 +35,6 @@ pub record MadeTo (rule : ℕ → Ratio → Type 0) (i : ℕ) (old row : List Fr
   pub narrow : (k : ℕ) → k < i → IsNarrowRatio (ratio_at row k)
   pub after : (k : ℕ) → i ≤ k → ratio_at row k ≡ ratio_at old k
 
-pub made_none : (rule : ℕ → Ratio → Type 0) (old : List Fraction) → MadeTo rule 0 old old
-made_none rule old = record { size = refl; before = λ k l. absurd (omega arith); narrow = λ k l. absurd (omega arith); after = λ k l. refl }
-
 pub made_more : (rule : ℕ → Ratio → Type 0) (i : ℕ) (old row : List Fraction) (f : Fraction) → i < length row → MadeTo rule i old row → rule i (ratio f) → IsNarrowRatio (ratio f) → MadeTo rule (i + 1) old (set row i f)
 made_more rule i old row f i_in h here narrow = record {
   size = length-set row i f ∙ h.size;
@@ -51,10 +48,6 @@ made_more rule i old row f i_in h here narrow = record {
   ];
   after = λ k k_in. at_set-other row i k f (λ e. absurd (omega arith)) ∙ h.after k (omega arith);
 }
-
--- a place that is not reached is narrow as before
-pub made_narrow : (rule : ℕ → Ratio → Type 0) (i : ℕ) (old row : List Fraction) → i < length row → MadeTo rule i old row → IsNarrowRow old → IsNarrowRatio (ratio_at row i)
-made_narrow rule i old row i_in h narrow = subst (λ z. IsNarrowRatio z) (sym (h.after i (omega arith))) (narrow i (let e = h.size in omega arith))
 
 -- nothing is taken away where a factor is 0
 pub rest_zero : (g h k : Ratio) → pos 0 <ℤ g.denominator → (h.numerator *ℤ k.numerator) ≡ pos 0 → IsRest g g h k
@@ -72,9 +65,6 @@ rest_zero g h k p e = record {
 -- what was read at the place that is reached is the old fraction
 pub at_reached : {rule : ℕ → Ratio → Type 0} {i : ℕ} {old row : List Fraction} {f : Ratio} → MadeTo rule i old row → f ≡ ratio_at row i → f ≡ ratio_at old i
 at_reached {i = i} h e = e ∙ h.after i (omega arith)
-
-pub made_size : {rule : ℕ → Ratio → Type 0} {i j : ℕ} {old row : List Fraction} → MadeTo rule i old row → j < length row → j < length old
-made_size h l = (let e = h.size in omega arith)
 
 -- what a test that came out false says, and one that came out true
 pub tested_false : {P : Type 0} (b : Bool) → (IsTrue b → P) × (P → IsTrue b) → b ≡ false → P → ⊥

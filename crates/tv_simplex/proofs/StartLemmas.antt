@@ -1,4 +1,4 @@
-use Rattle.std.proofs.Common.{◌≡◌, ◌⊎◌, inl, inr, ℕ, zero, suc, ◌+◌, ◌-◌, ◌<◌, ◌≤◌, List, [], ◌∷◌, ◌++◌, length, length-append, Vec, arith, refl, sym, ap, ◌∙◌, subst, ℤ, pos}
+use Rattle.std.proofs.Common.{◌≡◌, ◌⊎◌, inl, inr, ℕ, zero, suc, ◌+◌, ◌-◌, ◌<◌, ◌≤◌, List, [], ◌∷◌, ◌++◌, length, length-append, arith, refl, sym, ap, ◌∙◌, subst, ℤ, pos}
 use Rattle.std.proofs.lemmas.Bool.Decides.{nat_tests}
 use Rattle.tv_fraction.specs.declared.Fraction.{Fraction}
 use Rattle.tv_tableau.proofs.Sums.{delta-same, delta-other}
@@ -7,8 +7,7 @@ use Rattle.tv_tableau.proofs.Matrices.{matrix_is_system}
 use Rattle.tv_tableau.specs.Systems.{Equations, matrix, right_at}
 use Rattle.tv_tableau.specs.Chains.{cost}
 use Rattle.tv_tableau.specs.Ratios.{IsRatio}
-use Rattle.tv_simplex.specs.Rows.{ratio, ratio_at, row_of, IsNarrowRatio}
-use Rattle.tv_simplex.specs.Starting.{IsRowOf, IsFirstTable, first_objective, first_slot}
+use Rattle.tv_simplex.specs.Rows.{ratio, ratio_at, IsNarrowRatio}
 use Rattle.tv_tableau.specs.Outcomes.{IsNarrow, IsNarrowSystem, given}
 
 pub cost_artificial : (m n j : ℕ) → n ≤ j → j < n + m → cost m n j ≡ pos 1
@@ -57,9 +56,6 @@ pub record RowSoFar (numbers : ℕ → ℤ) (n : ℕ) (row : List Fraction) : Ty
   pub narrow : (j : ℕ) → j < n → IsNarrowRatio (ratio_at row j)
   pub same : (j : ℕ) → j < n → IsRatio (ratio_at row j) (numbers j) (pos 1)
 
-pub row_none : (numbers : ℕ → ℤ) → RowSoFar numbers 0 []
-row_none numbers = record { size = refl; narrow = λ j l. absurd (omega arith); same = λ j l. absurd (omega arith) }
-
 pub row_more : (numbers : ℕ → ℤ) (n : ℕ) (row new : List Fraction) (f : Fraction) (z : ℤ) → RowSoFar numbers n row → new ≡ row ++ f ∷ [] → z ≡ numbers n → IsRatio (ratio f) z (pos 1) → IsNarrowRatio (ratio f) → RowSoFar numbers (n + 1) new
 row_more numbers n row new f z h e g same narrow = subst (λ r. RowSoFar numbers (n + 1) r) (sym e) record {
   size = length-append row (f ∷ []) ∙ (let s = h.size in let k : length row + 1 ≡ n + 1 = omega (arith, s) in k);
@@ -71,38 +67,4 @@ row_more numbers n row new f z h e g same narrow = subst (λ r. RowSoFar numbers
     | inl k ↦ subst (λ i. IsRatio (ratio_at (row ++ f ∷ []) i) (numbers i) (pos 1)) (sym k) (subst (λ r. IsRatio r (numbers n) (pos 1)) (sym (at_end row f n h.size)) (subst (λ v. IsRatio (ratio f) v (pos 1)) g same))
     | inr k ↦ subst (λ r. IsRatio r (numbers j) (pos 1)) (sym (before_end row f j (let s = h.size in omega (arith, s, k)))) (h.same j k)
   ];
-}
-
-pub row_done : (s : Equations) (numbers : ℕ → ℤ) (n : ℕ) (row : List Fraction) → n ≡ s.columns + 1 → RowSoFar (λ k. numbers (first_slot s k)) n row → IsRowOf s numbers row
-row_done s numbers n row e h = record {
-  size = h.size ∙ e;
-  narrow = λ j l. h.narrow j (let g = h.size in omega (arith, g, l));
-  same = λ j l. h.same j (omega (arith, e, l));
-}
-
-row_at_end : {A : Type 0} (rows : List (Vec Fraction A)) (v : Vec Fraction A) (n : ℕ) → length rows ≡ n → row_of (rows ++ v ∷ []) n ≡ v.items
-row_at_end [] v zero e = refl
-row_at_end [] v (suc n) e = absurd (omega (arith, e))
-row_at_end (x ∷ xs) v zero e = absurd (omega (arith, e))
-row_at_end (x ∷ xs) v (suc n) e = row_at_end xs v n (omega (arith, e))
-
-row_before_end : {A : Type 0} (rows : List (Vec Fraction A)) (v : Vec Fraction A) (j : ℕ) → j < length rows → row_of (rows ++ v ∷ []) j ≡ row_of rows j
-row_before_end [] v j h = absurd (omega (arith, h))
-row_before_end (x ∷ xs) v zero h = refl
-row_before_end (x ∷ xs) v (suc j) h = row_before_end xs v j (omega (arith, h))
-
-pub rows_more : {A : Type 0} (s : Equations) (n : ℕ) (rows new : List (Vec Fraction A)) (v : Vec Fraction A) → new ≡ rows ++ v ∷ [] → length rows ≡ n → ((i : ℕ) → i < n → IsRowOf s (matrix s i) (row_of rows i)) → IsRowOf s (matrix s n) v.items → (length new ≡ n + 1) × ((i : ℕ) → i < n + 1 → IsRowOf s (matrix s i) (row_of new i))
-rows_more s n rows new v e size h here = (
-  ap length e ∙ length-append rows (v ∷ []) ∙ (let k : length rows + 1 ≡ n + 1 = omega (arith, size) in k),
-  λ i l. elim (last_or_below n i l) [
-    | inl k ↦ subst (λ j. IsRowOf s (matrix s j) (row_of new j)) (sym k) (subst (λ r. IsRowOf s (matrix s n) r) (sym (ap (λ r. row_of r n) e ∙ row_at_end rows v n size)) here)
-    | inr k ↦ subst (λ r. IsRowOf s (matrix s i) r) (sym (ap (λ r. row_of r i) e ∙ row_before_end rows v i (omega (arith, size, k)))) (h i k)
-  ],
-)
-
-pub rows_done : {A : Type 0} (s : Equations) (n : ℕ) (rows new : List (Vec Fraction A)) (v : Vec Fraction A) → n ≡ s.rows → new ≡ rows ++ v ∷ [] → length rows ≡ n → ((i : ℕ) → i < n → IsRowOf s (matrix s i) (row_of rows i)) → IsRowOf s (first_objective s) v.items → IsFirstTable s new
-rows_done s n rows new v m e size h here = record {
-  height = ap length e ∙ length-append rows (v ∷ []) ∙ (let k : length rows + 1 ≡ s.rows + 1 = omega (arith, size, m) in k);
-  row = λ i l. subst (λ r. IsRowOf s (matrix s i) r) (sym (ap (λ r. row_of r i) e ∙ row_before_end rows v i (omega (arith, size, m, l)))) (h i (omega (arith, m, l)));
-  objective = subst (λ r. IsRowOf s (first_objective s) r) (sym (ap (λ r. row_of r s.rows) e ∙ row_at_end rows v s.rows (size ∙ m))) here;
 }

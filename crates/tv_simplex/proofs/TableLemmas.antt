@@ -51,9 +51,6 @@ pub record ClearedTo {A : Type 0} (r : ℕ) (g : ℕ → Ratio) (i : ℕ) (old r
   pub before : (k : ℕ) → k < i → (k ≡ r → ⊥) → AreRests (row_of old k) (g k) (row_of old r) (row_of rows k)
   pub after : (k : ℕ) → i ≤ k → row_of rows k ≡ row_of old k
 
-pub cleared_none : {A : Type 0} (r : ℕ) (g : ℕ → Ratio) (old : List (Vec Fraction A)) → IsGrid (length (row_of old r)) old → ClearedTo r g 0 old old
-cleared_none r g old grid = record { size = refl; grid = grid; kept = refl; before = λ k l. absurd (omega arith); after = λ k l. refl }
-
 pub cleared_skip : {A : Type 0} (r : ℕ) (g : ℕ → Ratio) (i : ℕ) (old rows : List (Vec Fraction A)) → i ≡ r → ClearedTo r g i old rows → ClearedTo r g (i + 1) old rows
 cleared_skip r g i old rows e h = record {
   size = h.size;

@@ -5,7 +5,7 @@ use Rattle.tv_fraction.specs.declared.Fraction.{Fraction}
 use Rattle.tv_tableau.proofs.Sums.{delta-same, delta-other}
 use Rattle.tv_tableau.specs.Sums.{delta}
 use Rattle.tv_tableau.specs.Ratios.{Ratio}
-use Rattle.tv_simplex.specs.Rows.{ratio, ratio_at, row_of, read, unit_at, IsNarrowRatio, IsNarrowRow, IsGrid, IsTaken}
+use Rattle.tv_simplex.specs.Rows.{ratio, ratio_at, row_of, read, unit_at, IsNarrowRatio, IsNarrowRow, IsGrid}
 use Rattle.tv_simplex.proofs.RowLemmas.{at_set-same, at_set-other}
 use Rattle.tv_simplex.proofs.StartLemmas.{at_end, before_end}
 use Rattle.tv_simplex.proofs.TableLemmas.{row_set-same, row_set-other, grid_set}
@@ -26,18 +26,6 @@ pub record TakenTo {A : Type 0} (r k i : ℕ) (old rows : List (Vec Fraction A))
   pub unit : (j : ℕ) → j < i → read rows j k ≡ unit_at j r
   pub kept : (j l : ℕ) → j < i → (l ≡ k → ⊥) → read rows j l ≡ read old j l
   pub after : (j : ℕ) → i ≤ j → row_of rows j ≡ row_of old j
-
-pub taken_none : {A : Type 0} (r k : ℕ) (old : List (Vec Fraction A)) → IsGrid (length (row_of old r)) old → TakenTo r k 0 old old []
-taken_none r k old g = record {
-  size = refl;
-  grid = g;
-  as_many = refl;
-  narrow = λ j l. absurd (omega arith);
-  factor = λ j l. absurd (omega arith);
-  unit = λ j l. absurd (omega arith);
-  kept = λ j x l. absurd (omega arith);
-  after = λ j l. refl;
-}
 
 narrow_set : (row : List Fraction) (k : ℕ) (f : Fraction) → k < length row → IsNarrowRow row → IsNarrowRatio (ratio f) → IsNarrowRow (set row k f)
 narrow_set row k f k_in h n j l = elim (same_or_other j k) [
@@ -87,19 +75,6 @@ taken_more r k i old rows factors new v f u k_in i_in h e is unit narrow items =
 
     before : (j : ℕ) → j < i → ratio_at new j ≡ ratio_at factors j
     before j g = ap (λ z. ratio_at z j) e ∙ before_end factors f j (let s = h.as_many in omega (arith, s, g))
-
-pub taken_done : {A : Type 0} (r k i : ℕ) (old rows : List (Vec Fraction A)) (factors : List Fraction) → i ≡ length rows → TakenTo r k i old rows factors → IsTaken (length (row_of old r)) r k old rows factors
-taken_done r k i old rows factors e h =
-    let s = h.size in
-    record {
-      size = h.size;
-      grid = h.grid;
-      as_many = h.as_many ∙ e ∙ h.size;
-      narrow = h.narrow;
-      factor = λ j l. h.factor j (omega (arith, e, s, l));
-      unit = λ j l. h.unit j (omega (arith, e, s, l));
-      kept = λ j x l o. h.kept j x (omega (arith, e, s, l)) o;
-    }
 
 -- a fraction of a whole number and 1
 pub whole_is : (f : Fraction) (n : Ratio) → f.numerator *ℤ pos 1 ≡ n.numerator *ℤ f.denominator → unsigned_abs f.denominator ≤ 1 → n.denominator ≡ pos 1 → ratio f ≡ n

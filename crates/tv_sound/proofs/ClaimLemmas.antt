@@ -1,5 +1,5 @@
 -- What the certificate of a claim says all of whose obligations are met.
-use Rattle.std.proofs.Common.{◌≡◌, ◌+◌, ◌++◌, ◌∷◌, [], ◌<◌, ◌^◌, OnOk, Result, Ok, Err, List, length, arith, refl, sym, ap, ◌∙◌, subst, length-append}
+use Rattle.std.proofs.Common.{◌≡◌, ◌+◌, ◌++◌, ◌∷◌, [], ◌<◌, ◌^◌, OnOk, Result, Ok, Err, List, length, arith, sym, ap, subst, length-append}
 use Rattle.std.specs.Prelude.{MatchResult}
 use Rattle.tv_program.specs.Systems.{System}
 use Rattle.tv_formula.specs.Properties.{Property, term}
@@ -11,34 +11,27 @@ use Rattle.tv_cert.specs.declared.node.Marked.{Marked}
 use Rattle.tv_cert.specs.declared.node.Verdict.{Verdict}
 use Rattle.tv_cert.specs.declared.node.Verdict.TheVariants.{Proved, Disproved}
 use Rattle.tv_cert.specs.Claims.{IsClaim, about_with, shown}
-use Rattle.tv_cert.specs.Nodes.{entries, pieces_of, root_entry, obligations}
+use Rattle.tv_cert.specs.Nodes.{pieces_of, root_entry, obligations}
 use Rattle.tv_cert.specs.Obligations.{AllMet}
 use Rattle.tv_cert.specs.Plain.{about_of}
 use Rattle.tv_cert.specs.Said.{said_entries, HasParts}
 use Rattle.tv_cert.specs.Shapes.{HasShape, VerdictShape}
 use Rattle.tv_cert.specs.Statements.{Statement, stated}
-use Rattle.tv_cert.proofs.SaidLemmas.{entries-stated}
 use Rattle.tv_cert.proofs.SaidNodes.{fits_parts}
 use Rattle.tv_cert.proofs.ShapeFits.{shape_fits}
 use Rattle.tv_check.specs.declared.walking.Failing.{Failing}
 use Rattle.tv_shape.specs.declared.certificate.Certificate.{Certificate}
 use Rattle.tv_shape.specs.Certificates.{IsOf}
+use Rattle.tv_check_text.proofs.TextLemmas.{owed_is}
 use Rattle.tv_sound.specs.Following.{FollowsFrom}
 use Rattle.tv_sound.specs.Settled.{IsSettled}
 use Rattle.tv_sound.proofs.Claimed.{shown_of, ValuesCounted, claim_sound, claim_followed}
 
 -- ---- the obligations by the statement of the root
 
-root_same : (system : CaseSystem) (ps : List Marked) (verdict : Verdict) → root_entry (about_of system) ps verdict ≡ root_entry (about_with system) ps verdict
-root_same system ps (Proved start) = refl
-root_same system ps (Disproved k values) = refl
-
 module _ (system : CaseSystem) (f : Property) (c : Certificate) (s : Statement) (same : s ≡ stated (comparison_lists system.variables) f) (fits : IsOf (about_with system) f c) where
-  said : said_entries 0 system s c.root ≡ entries 0 (about_with system) f c.root
-  said = ap (λ t. said_entries 0 system t c.root) same ∙ entries-stated 0 (about_with system) f c.root
-
   pub owed : said_entries 0 system s c.root ++ root_entry (about_of system) (pieces_of c.root) c.verdict ∷ [] ≡ obligations (about_with system) f c.root c.verdict
-  owed = (λ i. said i ++ root_same system (pieces_of c.root) c.verdict i ∷ [])
+  owed = owed_is system f s c.root c.verdict same
 
   pub has_parts : HasParts s c.root
   has_parts = subst (λ t. HasParts t c.root) (sym same) (fits_parts (about_with system) system.variables f c.root (shape_fits (about_with system) f c.root fits.fits.nodes.shape))

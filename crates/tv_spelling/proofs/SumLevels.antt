@@ -36,11 +36,6 @@ part_levels e = bracket_levels (is_sum e) (sum_levels e)
 abbrev pub factor_levels : Expression → ℕ
 factor_levels e = bracket_levels (is_sum e || is_product e) (sum_levels e)
 
--- a part behind the first: what is negative is taken off
-abbrev pub further_part_levels : Expression → ℕ
-further_part_levels (minus e) = part_levels e
-further_part_levels e = part_levels e
-
 -- no number is negative
 abbrev pub is_natural : ℤ → Bool
 is_natural (pos n) = true

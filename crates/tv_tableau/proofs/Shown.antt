@@ -1,8 +1,8 @@
-use Rattle.std.proofs.Common.{◌≤ℤ◌, ◌≡◌, ℕ, zero, suc, inl, inr, ◌+◌, ◌<◌, ◌≤◌, List, ◌∷◌, set, arith, refl, sym, ap, ◌∙◌, subst, ℤ, pos, ◌-ℤ◌, ◌*ℤ◌, ◌<ℤ◌}
+use Rattle.std.proofs.Common.{◌≤ℤ◌, ◌≡◌, ℕ, inl, inr, ◌+◌, ◌<◌, ◌≤◌, List, ◌∷◌, set, arith, refl, sym, ap, ◌∙◌, subst, ℤ, pos, ◌-ℤ◌, ◌*ℤ◌, ◌<ℤ◌}
 use Rattle.std.proofs.lemmas.Int.{ints}
 use Rattle.std.proofs.Math.IntN.{*ℤ_comm}
-use Rattle.tv_tableau.proofs.Ring.{times_zero, zero_times, above_times, is_above, is_zero, times_less}
-use Rattle.tv_tableau.proofs.RatioLemmas.{four, ratio_times, ratio_same, quotient, product, difference, value_above, value_below, value_not_under, num_zero}
+use Rattle.tv_tableau.proofs.Ring.{times_zero, zero_times, above_times, is_zero, times_less}
+use Rattle.tv_tableau.proofs.RatioLemmas.{four, ratio_times, ratio_same, quotient, product, difference, value_below, value_not_under, num_zero}
 use Rattle.tv_tableau.proofs.Exchanged.{after, after_at, reduced_after, exchanged}
 use Rattle.tv_tableau.proofs.Sums.{delta-other}
 use Rattle.tv_tableau.proofs.Steps.{next_tableau, feasible-any}
@@ -11,21 +11,8 @@ use Rattle.tv_tableau.proofs.GoesOn.{leads_value}
 use Rattle.tv_tableau.specs.Orders.{Feasible}
 use Rattle.tv_tableau.specs.Sums.{delta}
 use Rattle.tv_tableau.specs.Tableaus.{Tableau, Exchange}
-use Rattle.tv_tableau.specs.Chains.{LeadsAbove, order, objective, cost, column, Enters, Leaves, Step, IsChain, IsSystem, NoneNegative, Solves}
+use Rattle.tv_tableau.specs.Chains.{order, objective, cost, column, Enters, Leaves, Step, IsChain, IsSystem, NoneNegative, Solves}
 use Rattle.tv_tableau.specs.Ratios.{Ratio, IsRatio, IsQuotient, IsRest, Shows, compared, IsExchanged, Exchanges}
-
--- place by place, up to factors above 0
-pub leads-scaled : (m : ℕ) (w v k : ℕ → ℤ) (s : ℤ) → pos 0 <ℤ s → ((q : ℕ) → q ≤ m → pos 0 <ℤ k q) → ((q : ℕ) → q ≤ m → s *ℤ w q ≡ k q *ℤ v q) → LeadsAbove m w → LeadsAbove m v
-leads-scaled m w v k s p kp e h = record {
-  place = h.place;
-  within = h.within;
-  before = λ q l. (let g : q ≤ m = (let u = h.within in omega arith) in is_zero (k q) (v q) (kp q g) (sym (e q g) ∙ times_zero s (w q) (h.before q l)));
-  here = is_above (k h.place) (v h.place) (kp h.place h.within) (subst (λ z. pos 0 <ℤ z) (e h.place h.within) (above_times s (w h.place) p h.here));
-}
-
-pub order_within : (m n q : ℕ) → q ≤ m → order m n q ≤ n + m
-order_within m n zero l = omega arith
-order_within m n (suc q) l = omega arith
 
 -- two quotients are compared as the products of what they are
 pub crossed : (f g : Ratio) (v w p q : ℤ) → IsRatio f v p → IsRatio g w q → (p *ℤ q) *ℤ compared f g ≡ (f.denominator *ℤ g.denominator) *ℤ (q *ℤ v -ℤ p *ℤ w)
@@ -78,10 +65,6 @@ module _ (a : ℕ → ℕ → ℤ) (m n : ℕ) (sys : IsSystem a m n) (b : List 
         *ℤ_comm (read i (n + m)).denominator (shows.table.entry i (n + m)) ∙ sym (shows.rows i (n + m) l (omega arith)).same ∙ zero_times (read i (n + m)).numerator shows.table.scale (h i l g)
         );
   }
-
-  -- a row may leave only where an entry above 0 is read
-  pub entry_read : (i c : ℕ) → i < m → c ≤ n + m → pos 0 <ℤ (read i c).numerator → pos 0 <ℤ shows.table.entry i c
-  entry_read i c l g h = value_above (read i c) (shows.table.entry i c) shows.table.scale shows.table.positive (shows.rows i c l g) h
 
   pub step_to : (c r : ℕ) → (Solves a m n (column b) shows.table → ⊥) → Enters a m n (column b) shows.table c → Leaves a m n (column b) shows.table c r → Step a m n b (set b r c)
   step_to c r never enters leaves = record {

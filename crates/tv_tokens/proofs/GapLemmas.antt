@@ -1,4 +1,4 @@
-use Rattle.std.proofs.Common.{◌≡◌, ℕ, zero, suc, ◌+◌, ◌<◌, ◌≤◌, List, [], ◌∷◌, length, drop, Some, None, refl, ap, sym, ◌∙◌, arith, zero-add}
+use Rattle.std.proofs.Common.{◌≡◌, ℕ, zero, suc, ◌+◌, ◌<◌, ◌≤◌, List, [], ◌∷◌, length, drop, Some, ap, sym, ◌∙◌, arith, zero-add}
 use Rattle.tv_tokens.specs.Gaps.{gap_of, with_gap, gaps_after, gap_length}
 
 -- the bytes left of the present gap, and then those behind it
@@ -12,7 +12,3 @@ pub gap_length-gap : (n : ℕ) (bs : List ℕ) → gap_of bs ≡ Some n → 0 < 
 gap_length-gap n [] is h k = absurd (omega arith)
 gap_length-gap zero (b ∷ bs) is h k = absurd (omega arith)
 gap_length-gap (suc n) (b ∷ bs) is h k = ap (λ o. with_gap o (λ m. 1 + gaps_after m bs)) is ∙ (let again = gaps_after-drop n bs (omega arith) in omega arith)
-
-pub gap_length-none : (bs : List ℕ) → gap_of bs ≡ None → gap_length bs ≡ 0
-gap_length-none [] is = refl
-gap_length-none (b ∷ bs) is = ap (λ o. with_gap o (λ m. 1 + gaps_after m bs)) is

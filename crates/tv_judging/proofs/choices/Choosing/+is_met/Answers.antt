@@ -47,7 +47,7 @@ is_met-returns-in-Some t c =
 pub is_met-returns-in-Empty : goal.is_met-returns-in-Empty
 is_met-returns-in-Empty t c =
     let s = c.args.self.now in
-    c.is_empty.ensures (cases_of s.context.about.now) s.piece.now s.stop s.destination.now c.args.left c.args.cursor.now c.take.new.cursor c.variables-columns.ensures.same
+    c.is_empty.ensures.choice (cases_of s.context.about.now) s.piece.now s.stop s.destination.now c.args.left c.args.cursor.now c.take.new.cursor c.variables-columns.ensures.same
     (behind_as c.in_ok-head.head heads.Empty c.in_ok-head.numbers.items c.args.cursor.now c.take.new.cursor c.in-Empty.is c.in_ok-head.ensures.line.0 c.in_ok-head.ensures.line.1) refl
 
 pub is_met-returns-in-NoStep : goal.is_met-returns-in-NoStep

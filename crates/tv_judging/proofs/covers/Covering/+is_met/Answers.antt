@@ -49,7 +49,7 @@ is_met-returns-in-Some t c =
 pub is_met-returns-in-Empty : goal.is_met-returns-in-Empty
 is_met-returns-in-Empty t c =
     let s = c.args.self.now in
-    c.is_empty.ensures (owed_at (change_of s.change.now) s.targets.now) c.args.left c.args.cursor.now c.take.new.cursor
+    c.is_empty.ensures.cover (owed_at (change_of s.change.now) s.targets.now) c.args.left c.args.cursor.now c.take.new.cursor
     (behind_as c.in_ok-head.head heads.Empty c.in_ok-head.numbers.items c.args.cursor.now c.take.new.cursor c.in-Empty.is c.in_ok-head.ensures.line.0 c.in_ok-head.ensures.line.1) refl
 
 pub is_met-returns-in-Into : goal.is_met-returns-in-Into

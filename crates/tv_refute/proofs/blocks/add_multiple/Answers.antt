@@ -6,7 +6,7 @@ use Rattle.tv_refute.specs.Blocks.{further}
 use Rattle.tv_refute.specs.Terms.{terms_of}
 use Rattle.tv_rows.specs.Views.{row_seen}
 use Rattle.tv_refute.proofs.Telling.{AreTold_added, put_number}
-use Rattle.tv_refute.proofs.blocks.add_term.Goals as goal
+use Rattle.tv_refute.proofs.blocks.add_multiple.Goals as goal
 
 pub returns-in-None-clause-told : goal.returns-in-None-clause-told
 returns-in-None-clause-told c =
