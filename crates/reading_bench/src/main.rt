@@ -7,13 +7,13 @@ ghost use Rattle.std.specs.Prelude.{◌<◌, ◌^◌, ◌+◌, length};
 use std::alloc::{AllocError, Global};
 use std::{env, io};
 use tv_cases::{CaseFault, cases};
-use tv_given::split_texts;
+use tv_text::split_texts;
 use tv_lines::{Line, Lines};
 use tv_program::Names;
 use tv_reader::read_program;
 use tv_reading::{PartFault, Reading};
 use tv_text::{ReaderSource, read_all};
-use tv_tokens::scan;
+use tv_language::scan;
 
 /// What is read at most.
 const LIMIT: usize = 16_777_216;

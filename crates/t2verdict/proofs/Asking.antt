@@ -5,8 +5,8 @@ use Rattle.tv_cases.specs.declared.case.CaseFault.TheVariants as cases
 use Rattle.tv_cases.specs.Answers.{IsFaultIn, IsOfProgram}
 use Rattle.tv_cases.specs.LinearCases.{CaseSystem}
 use Rattle.tv_cases.specs.ProgramCases.{linear_cases}
-use Rattle.tv_formula_text.specs.declared.fault.FormulaFault.{FormulaFault}
-use Rattle.tv_formula_text.specs.declared.fault.FormulaFault.TheVariants as faults
+use Rattle.tv_formula_reader.specs.declared.fault.FormulaFault.{FormulaFault}
+use Rattle.tv_formula_reader.specs.declared.fault.FormulaFault.TheVariants as faults
 use Rattle.t2verdict.specs.declared.answer.Answer.{Answer}
 use Rattle.t2verdict.specs.declared.answer.Answer.TheVariants.{Proved, Disproved, Obligation, CertificateLine, Words, TooLong, Text, Property, WideEdge, TooManyInEdge, ReadFault, Memory}
 use Rattle.t2verdict.specs.Answers.{without_cases, without_property}

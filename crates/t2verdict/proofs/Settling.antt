@@ -6,7 +6,7 @@ use Rattle.tv_cert.specs.declared.claim.Claim.{Claim}
 use Rattle.tv_cert.specs.declared.node.Verdict.{Verdict}
 use Rattle.tv_cert.specs.declared.node.Verdict.TheVariants as verdicts
 use Rattle.tv_cert.specs.Claims.{IsClaim}
-use Rattle.tv_cert_grammar.specs.declared.kind.LineKind.TheVariants as kinds
+use Rattle.tv_cert_reader.specs.declared.kind.LineKind.TheVariants as kinds
 use Rattle.tv_cert_reader.specs.Wholes.{says}
 use Rattle.tv_check_text.specs.declared.text.TextFailing.{TextFailing}
 use Rattle.tv_check_text.specs.declared.text.TextFailing.TheVariants as certs

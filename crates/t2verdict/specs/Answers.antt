@@ -10,8 +10,8 @@ use Rattle.tv_reader.specs.declared.fault.What.{What}
 use Rattle.tv_reader.specs.declared.fault.What.TheVariants.{Variables, Locations, Edges, Draws}
 use Rattle.tv_reader.specs.declared.fault.ReadFault.{ReadFault as TextFault}
 use Rattle.tv_reader.specs.declared.fault.ReadFault.TheVariants as faults
-use Rattle.tv_formula_text.specs.declared.fault.FormulaFault.{FormulaFault}
-use Rattle.tv_formula_text.specs.declared.fault.FormulaFault.TheVariants as formulas
+use Rattle.tv_formula_reader.specs.declared.fault.FormulaFault.{FormulaFault}
+use Rattle.tv_formula_reader.specs.declared.fault.FormulaFault.TheVariants as formulas
 use Rattle.tv_check_text.specs.declared.text.TextFailing.{TextFailing}
 use Rattle.tv_check_text.specs.declared.text.TextFailing.TheVariants as certs
 use Rattle.t2verdict.specs.declared.answer.Answer.{Answer}

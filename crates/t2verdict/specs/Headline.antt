@@ -1,13 +1,13 @@
 -- What an answer says of the words and of the bytes that were read.
 use Rattle.std.specs.Prelude.{◌≡◌, ℕ, ◌<◌, ◌≤◌, List, length, take, Option, Ok, Err, IfSome}
 use Rattle.tv_text.specs.Stream.{before, after, count_read, IsAtEnd}
-use Rattle.tv_given.specs.Headings.{IsSplit}
+use Rattle.tv_text.specs.Headings.{IsSplit}
 use Rattle.tv_program.specs.Systems.{System}
 use Rattle.tv_language.specs.Programs.{IsProgramText}
 use Rattle.tv_reader.specs.declared.fault.ReadFault.{ReadFault as TextFault}
 use Rattle.tv_reader.specs.FirstFaults.{IsFirstFault}
 use Rattle.tv_formula.specs.Properties.{Property as Formula}
-use Rattle.tv_formula_text.specs.declared.fault.FormulaFault.{FormulaFault}
+use Rattle.tv_formula_reader.specs.declared.fault.FormulaFault.{FormulaFault}
 use Rattle.tv_cases.specs.LinearCases.{CaseSystem}
 use Rattle.tv_cases.specs.ProgramCases.{LinearFault, wide, too_many, linear_cases}
 use Rattle.tv_cases.specs.Answers.{IsOfProgram}

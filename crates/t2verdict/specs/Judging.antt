@@ -10,7 +10,7 @@ use Rattle.tv_cert.specs.declared.claim.Claim.{Claim}
 use Rattle.tv_cert.specs.declared.node.Verdict.TheVariants as verdicts
 use Rattle.tv_cert.specs.Claims.{IsClaim}
 use Rattle.tv_cert.specs.Obligations.{AllMet}
-use Rattle.tv_cert_grammar.specs.declared.kind.LineKind.{LineKind}
+use Rattle.tv_cert_reader.specs.declared.kind.LineKind.{LineKind}
 use Rattle.tv_cert_reader.specs.Texts.{IsCertificateText, IsAtFault}
 use Rattle.tv_check_text.specs.Texts.{owed}
 use Rattle.tv_check.specs.Walks.{IsFirstFailing}

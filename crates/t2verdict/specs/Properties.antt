@@ -5,10 +5,10 @@ use Rattle.tv_program.specs.Words.{Word, number_of}
 use Rattle.tv_program.specs.Systems.{System}
 use Rattle.tv_formula.specs.Forms.{never_at}
 use Rattle.tv_formula.specs.Properties.{Property, term}
-use Rattle.tv_formula_text.specs.FormulaTexts.{IsFormulaText}
-use Rattle.tv_formula_text.specs.Refusals.{IsFirstFault}
-use Rattle.tv_formula_text.specs.declared.fault.FormulaFault.{FormulaFault}
-use Rattle.tv_formula_text.specs.declared.fault.FormulaFault.TheVariants as faults
+use Rattle.tv_formula_reader.specs.FormulaTexts.{IsFormulaText}
+use Rattle.tv_formula_reader.specs.Refusals.{IsFirstFault}
+use Rattle.tv_formula_reader.specs.declared.fault.FormulaFault.{FormulaFault}
+use Rattle.tv_formula_reader.specs.declared.fault.FormulaFault.TheVariants as faults
 use Rattle.t2verdict.specs.Questions.{Query, safety, termination, ctl}
 
 -- no run comes to the location with the label

@@ -6,7 +6,7 @@ use crate::status::Status;
 use std::alloc::{AllocError, Global};
 use tv_cert::Kind;
 use tv_check::Failing;
-use tv_formula_text::FormulaFault;
+use tv_formula_reader::FormulaFault;
 use tv_reader::{ReadFault, What};
 
 /// What is written, and how the run ends.

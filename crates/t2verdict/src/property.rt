@@ -7,7 +7,7 @@ ghost use Rattle.t2verdict.specs.Properties.{IsNamed, IsUnnamed, UnlessMemory};
 use crate::words::Question;
 use std::alloc::Global;
 use tv_formula::{Formula, termination, unreachable};
-use tv_formula_text::{FormulaFault, read_formula};
+use tv_formula_reader::{FormulaFault, read_formula};
 use tv_program::Program;
 
 /// How many bytes the text of a formula has at most.

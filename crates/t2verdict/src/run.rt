@@ -11,8 +11,8 @@ use crate::status::Status;
 use crate::words::Question;
 use std::alloc::Global;
 use tv_cases::{CaseFault, cases};
-use tv_formula_text::FormulaFault;
-use tv_given::split_texts;
+use tv_formula_reader::FormulaFault;
+use tv_text::split_texts;
 use tv_reader::{ReadFault, read_program};
 use tv_text::{ReadError, Sink, Source, read_all, write_all};
 

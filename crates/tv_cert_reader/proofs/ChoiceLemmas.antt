@@ -28,14 +28,14 @@ use Rattle.tv_cert.proofs.PieceLemmas.{test_true, test_false}
 use Rattle.tv_shape.specs.Counts.{AreFewAt}
 use Rattle.tv_shape.specs.Narrow.{ChoiceNarrow, CoverNarrow}
 use Rattle.tv_shape.proofs.CountLemmas.{count_same}
-use Rattle.tv_cert_text.specs.CertificateLines.{row_lines, row_line, by_lines, cover_lines, choice_lines}
-use Rattle.tv_cert_grammar.specs.declared.kind.LineKind.{LineKind}
-use Rattle.tv_cert_grammar.specs.declared.kind.LineKind.TheVariants.{Syntax, Deep, Shape}
-use Rattle.tv_cert_grammar.specs.Lines.{Grammar, Behind, many, by, draw, with_three}
-use Rattle.tv_cert_grammar.specs.Covers.{both, empty_behind}
-use Rattle.tv_cert_grammar.specs.Choices.{Choosing, choice, choice_cases, stop_cover, no_step, no_step_behind, taken_rows, taken_case, take_behind, Taken}
-use Rattle.tv_cert_grammar.proofs.CompleteParts.{draws_read, numbers_long}
-use Rattle.tv_cert_grammar.proofs.CompleteCovers.{choice_read}
+use Rattle.tv_cert_reader.specs.CertificateLines.{row_lines, row_line, by_lines, cover_lines, choice_lines}
+use Rattle.tv_cert_reader.specs.declared.kind.LineKind.{LineKind}
+use Rattle.tv_cert_reader.specs.declared.kind.LineKind.TheVariants.{Syntax, Deep, Shape}
+use Rattle.tv_cert_reader.specs.LineGrammar.{Grammar, Behind, many, by, draw, with_three}
+use Rattle.tv_cert_reader.specs.CoverGrammar.{both, empty_behind}
+use Rattle.tv_cert_reader.specs.ChoiceGrammar.{Choosing, choice, choice_cases, stop_cover, no_step, no_step_behind, taken_rows, taken_case, take_behind, Taken}
+use Rattle.tv_cert_reader.proofs.CompleteParts.{draws_read, numbers_long}
+use Rattle.tv_cert_reader.proofs.CompleteCovers.{choice_read}
 use Rattle.tv_cert_reader.specs.declared.cursor.Cursor.{Cursor}
 use Rattle.tv_cert_reader.specs.declared.failure.Failure.{Failure}
 use Rattle.tv_cert_reader.specs.declared.failure.Failure.TheVariants.{Fault}

@@ -19,7 +19,7 @@ use Rattle.tv_shape.specs.declared.targets.Targets.{Targets}
 use Rattle.tv_shape.specs.declared.targets.Targets.TheVariants as targets
 use Rattle.tv_shape.specs.Counts.{falls_past, counts_of, ranks_past, AreFew}
 use Rattle.tv_shape.proofs.CountLemmas.{fall_some, none_or}
-use Rattle.tv_cert_grammar.specs.Lines.{with_two}
+use Rattle.tv_cert_reader.specs.LineGrammar.{with_two}
 use Rattle.tv_cert_reader.specs.Covers.{IsTarget, NamesNone}
 
 -- ---- targets and falls that are there are few

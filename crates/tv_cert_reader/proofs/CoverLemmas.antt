@@ -14,13 +14,13 @@ use Rattle.tv_cert.specs.Shapes.{CoverShape, ListsShape}
 use Rattle.tv_cert.proofs.PieceLemmas.{test_true, test_false}
 use Rattle.tv_shape.specs.Narrow.{AreNarrow, CoverNarrow, ListsNarrow}
 use Rattle.tv_shape.proofs.CountLemmas.{all_seen}
-use Rattle.tv_cert_text.specs.CertificateLines.{row_line, by_lines, cover_lines}
-use Rattle.tv_cert_grammar.specs.declared.kind.LineKind.{LineKind}
-use Rattle.tv_cert_grammar.specs.declared.kind.LineKind.TheVariants.{Syntax, Deep, Shape}
-use Rattle.tv_cert_grammar.specs.Lines.{Grammar, Behind, many, by}
-use Rattle.tv_cert_grammar.specs.Covers.{cover, cover_cases, both, lists_behind, empty_behind}
-use Rattle.tv_cert_grammar.proofs.CompleteParts.{numbers_long}
-use Rattle.tv_cert_grammar.proofs.CompleteCovers.{cover_read}
+use Rattle.tv_cert_reader.specs.CertificateLines.{row_line, by_lines, cover_lines}
+use Rattle.tv_cert_reader.specs.declared.kind.LineKind.{LineKind}
+use Rattle.tv_cert_reader.specs.declared.kind.LineKind.TheVariants.{Syntax, Deep, Shape}
+use Rattle.tv_cert_reader.specs.LineGrammar.{Grammar, Behind, many, by}
+use Rattle.tv_cert_reader.specs.CoverGrammar.{cover, cover_cases, both, lists_behind, empty_behind}
+use Rattle.tv_cert_reader.proofs.CompleteParts.{numbers_long}
+use Rattle.tv_cert_reader.proofs.CompleteCovers.{cover_read}
 use Rattle.tv_cert_reader.specs.declared.cursor.Cursor.{Cursor}
 use Rattle.tv_cert_reader.specs.declared.failure.Failure.{Failure}
 use Rattle.tv_cert_reader.specs.declared.failure.Failure.TheVariants.{Fault}

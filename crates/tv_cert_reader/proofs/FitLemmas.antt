@@ -24,9 +24,9 @@ use Rattle.tv_cert.specs.Statements.{stated}
 use Rattle.tv_cert.proofs.NodeLemmas.{pieces_are}
 use Rattle.tv_shape.specs.Depths.{proof_splits}
 use Rattle.tv_shape.specs.Fitting.{GoesWithin, KidsGoWithin, Fits, VerdictFits, VerdictShallow}
-use Rattle.tv_cert_text.specs.CertificateLines.{node_lines, certificate_lines}
-use Rattle.tv_cert_grammar.specs.Shaped.{IsShapedAs, stated_lines}
-use Rattle.tv_cert_grammar.proofs.CompleteStated.{shaped_back, lines_as}
+use Rattle.tv_cert_reader.specs.CertificateLines.{node_lines, certificate_lines}
+use Rattle.tv_cert_reader.specs.Shaped.{IsShapedAs, stated_lines}
+use Rattle.tv_cert_reader.proofs.CompleteStated.{shaped_back, lines_as}
 use Rattle.tv_cert_reader.specs.Texts.{sides_of}
 use Rattle.tv_cert_reader.specs.Wholes.{IsVerdictOver, behind_root, says, IsBehindSaid, begun, side}
 

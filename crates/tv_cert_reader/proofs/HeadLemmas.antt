@@ -12,9 +12,9 @@ use Rattle.tv_cert.specs.declared.node.Mark.{Mark}
 use Rattle.tv_cert.specs.declared.node.Mark.TheVariants.{Done, Go}
 use Rattle.tv_cert.specs.Pieces.{is_go}
 use Rattle.tv_cert.proofs.PieceLemmas.{test_true, true_test}
-use Rattle.tv_cert_text.specs.CertificateLines.{mark_named}
-use Rattle.tv_cert_grammar.specs.Demands.{Outline}
-use Rattle.tv_cert_grammar.specs.Lines.{guarded, same_kind, NodeHead, node_line, is_going, piece_numbers, piece_line}
+use Rattle.tv_cert_reader.specs.CertificateLines.{mark_named}
+use Rattle.tv_cert_reader.specs.Demands.{Outline}
+use Rattle.tv_cert_reader.specs.LineGrammar.{guarded, same_kind, NodeHead, node_line, is_going, piece_numbers, piece_line}
 use Rattle.tv_cert_reader.specs.Heads.{IsPieceHead, IsNodeHead}
 
 below : (a b : ℕ) → a < b → nat_lt a b ≡ true

@@ -23,16 +23,16 @@ use Rattle.tv_cert.proofs.NodeLemmas.{kids_of, proofs_list, out_is, pieces_are, 
 use Rattle.tv_shape.specs.Fitting.{KidsNarrow}
 use Rattle.tv_shape.specs.Narrow.{ProofNarrow}
 use Rattle.tv_shape.specs.Stations.{OwnParts, IsSaid, done_may_be, ranks_may_be}
-use Rattle.tv_cert_text.specs.CertificateLines.{piece_lines, proof_lines}
-use Rattle.tv_cert_grammar.specs.Demands.{Outline, outlines, demand_of, demands}
-use Rattle.tv_cert_grammar.specs.Lines.{Grammar, kind_of, Region, region_of, region}
-use Rattle.tv_cert_grammar.specs.Choices.{demanded}
-use Rattle.tv_cert_grammar.specs.Nodes.{proofs, node, nodes}
-use Rattle.tv_cert_grammar.specs.Shaped.{AreShapedAs, stated_lines, children_lines}
-use Rattle.tv_cert_grammar.proofs.CompleteReads.{then_read}
-use Rattle.tv_cert_grammar.proofs.CompleteParts.{region_read}
-use Rattle.tv_cert_grammar.proofs.CompleteNodes.{node_is, node_read}
-use Rattle.tv_cert_grammar.proofs.CompleteWanted.{demands_same}
+use Rattle.tv_cert_reader.specs.CertificateLines.{piece_lines, proof_lines}
+use Rattle.tv_cert_reader.specs.Demands.{Outline, outlines, demand_of, demands}
+use Rattle.tv_cert_reader.specs.LineGrammar.{Grammar, kind_of, Region, region_of, region}
+use Rattle.tv_cert_reader.specs.ChoiceGrammar.{demanded}
+use Rattle.tv_cert_reader.specs.NodeGrammar.{proofs, node, nodes}
+use Rattle.tv_cert_reader.specs.Shaped.{AreShapedAs, stated_lines, children_lines}
+use Rattle.tv_cert_reader.proofs.CompleteReads.{then_read}
+use Rattle.tv_cert_reader.proofs.CompleteParts.{region_read}
+use Rattle.tv_cert_reader.proofs.CompleteNodes.{node_is, node_read}
+use Rattle.tv_cert_reader.proofs.CompleteWanted.{demands_same}
 use Rattle.tv_cert_reader.specs.declared.cursor.Cursor.{Cursor}
 use Rattle.tv_cert_reader.specs.declared.failure.Failure.{Failure}
 use Rattle.tv_cert_reader.specs.declared.failure.Failure.TheVariants.{Fault, Memory}

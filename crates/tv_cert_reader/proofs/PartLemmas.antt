@@ -8,9 +8,9 @@ use Rattle.tv_lines.specs.Lines.{PlainLine, formed}
 use Rattle.tv_lines.specs.declared.head.Head.TheVariants as heads
 use Rattle.tv_linear.specs.Linear.{Linear}
 use Rattle.tv_shape.proofs.CountLemmas.{all_seen}
-use Rattle.tv_cert_text.specs.CertificateLines.{row_line, row_lines, by_lines}
-use Rattle.tv_cert_grammar.specs.Lines.{many}
-use Rattle.tv_cert_grammar.proofs.CompleteParts.{sized_read, numbers_long}
+use Rattle.tv_cert_reader.specs.CertificateLines.{row_line, row_lines, by_lines}
+use Rattle.tv_cert_reader.specs.LineGrammar.{many}
+use Rattle.tv_cert_reader.proofs.CompleteParts.{sized_read, numbers_long}
 use Rattle.tv_cert_reader.specs.declared.cursor.Cursor.{Cursor}
 use Rattle.tv_cert_reader.specs.declared.failure.Failure.{Failure}
 use Rattle.tv_cert_reader.specs.declared.sort.Sort.{Sort}

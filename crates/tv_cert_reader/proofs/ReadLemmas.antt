@@ -23,21 +23,21 @@ use Rattle.tv_cert.specs.Statements.{stated}
 use Rattle.tv_shape.specs.Certificates.{IsOf}
 use Rattle.tv_shape.specs.Fitting.{Fits}
 use Rattle.tv_shape.specs.declared.certificate.Certificate.{Certificate}
-use Rattle.tv_cert_text.specs.CertificateLines.{node_lines, certificate_lines}
-use Rattle.tv_cert_grammar.specs.declared.kind.LineKind.{LineKind}
-use Rattle.tv_cert_grammar.specs.declared.kind.LineKind.TheVariants as kinds
-use Rattle.tv_cert_grammar.specs.Demands.{outlines}
-use Rattle.tv_cert_grammar.specs.Lines.{line, header}
-use Rattle.tv_cert_grammar.specs.Nodes.{node}
-use Rattle.tv_cert_grammar.specs.Certificates.{Sides, said_line, said, certificate, IsRight, IsFirstFault}
-use Rattle.tv_cert_grammar.proofs.CompleteDemands.{outline_got}
-use Rattle.tv_cert_grammar.proofs.CompleteNodes.{node_read}
-use Rattle.tv_cert_grammar.proofs.CompleteStated.{shaped_as, lines_as}
-use Rattle.tv_cert_grammar.proofs.CompleteCertificates as complete
-use Rattle.tv_cert_grammar.proofs.CompleteCertificates.{header_read, certificate_read_proved, certificate_read_disproved}
-use Rattle.tv_cert_grammar.proofs.ExactNodes.{certificate_exact}
-use Rattle.tv_cert_grammar.proofs.FirstFaults.{header_fails, said_fails, proved_text, piece_there, first_stopped}
-use Rattle.tv_cert_grammar.proofs.RightOrFaulty.{right_are_faultless}
+use Rattle.tv_cert_reader.specs.CertificateLines.{node_lines, certificate_lines}
+use Rattle.tv_cert_reader.specs.declared.kind.LineKind.{LineKind}
+use Rattle.tv_cert_reader.specs.declared.kind.LineKind.TheVariants as kinds
+use Rattle.tv_cert_reader.specs.Demands.{outlines}
+use Rattle.tv_cert_reader.specs.LineGrammar.{line, header}
+use Rattle.tv_cert_reader.specs.NodeGrammar.{node}
+use Rattle.tv_cert_reader.specs.CertificateGrammar.{Sides, said_line, said, certificate, IsRight, IsFirstFault}
+use Rattle.tv_cert_reader.proofs.CompleteDemands.{outline_got}
+use Rattle.tv_cert_reader.proofs.CompleteNodes.{node_read}
+use Rattle.tv_cert_reader.proofs.CompleteStated.{shaped_as, lines_as}
+use Rattle.tv_cert_reader.proofs.CompleteCertificates as complete
+use Rattle.tv_cert_reader.proofs.CompleteCertificates.{header_read, certificate_read_proved, certificate_read_disproved}
+use Rattle.tv_cert_reader.proofs.ExactNodes.{certificate_exact}
+use Rattle.tv_cert_reader.proofs.FirstFaults.{header_fails, said_fails, proved_text, piece_there, first_stopped}
+use Rattle.tv_cert_reader.proofs.RightOrFaulty.{right_are_faultless}
 use Rattle.tv_cert_reader.specs.declared.cursor.Cursor.{Cursor}
 use Rattle.tv_cert_reader.specs.declared.failure.Failure.{Failure}
 use Rattle.tv_cert_reader.specs.declared.failure.Failure.TheVariants.{Fault, Memory}

@@ -11,10 +11,10 @@ use Rattle.tv_grammar.specs.Reads.{fault, ◌>>=◌}
 use Rattle.tv_grammar.specs.Langs.{unit, then, mapped, headed, times, stop, go, branch_read}
 use Rattle.tv_lines.specs.Lines.{PlainLine, formed, formless, wide}
 use Rattle.tv_lines.specs.declared.head.Head.{Head}
-use Rattle.tv_cert_grammar.specs.declared.kind.LineKind.{LineKind}
-use Rattle.tv_cert_grammar.specs.declared.kind.LineKind.TheVariants.{Syntax, Wide}
-use Rattle.tv_cert_grammar.specs.Lines.{Grammar, Behind, many}
-use Rattle.tv_cert_grammar.proofs.CompleteReads.{then_read}
+use Rattle.tv_cert_reader.specs.declared.kind.LineKind.{LineKind}
+use Rattle.tv_cert_reader.specs.declared.kind.LineKind.TheVariants.{Syntax, Wide}
+use Rattle.tv_cert_reader.specs.LineGrammar.{Grammar, Behind, many}
+use Rattle.tv_cert_reader.proofs.CompleteReads.{then_read}
 use Rattle.tv_cert_reader.specs.declared.cursor.Cursor.{Cursor}
 use Rattle.tv_cert_reader.specs.declared.failure.Failure.{Failure}
 use Rattle.tv_cert_reader.specs.declared.failure.Failure.TheVariants.{Fault, Memory}

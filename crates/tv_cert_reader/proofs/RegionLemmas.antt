@@ -13,11 +13,11 @@ use Rattle.tv_cert.specs.declared.node.Marked.{Marked}
 use Rattle.tv_cert.specs.MarkedRows.{marked}
 use Rattle.tv_cert.specs.Pieces.{is_go}
 use Rattle.tv_cert.specs.Shapes.{PieceShape}
-use Rattle.tv_cert_text.specs.CertificateLines.{mark_named, row_lines, piece_lines}
-use Rattle.tv_cert_grammar.specs.declared.kind.LineKind.TheVariants.{Shape}
-use Rattle.tv_cert_grammar.specs.Demands.{Outline, outline}
-use Rattle.tv_cert_grammar.specs.Lines.{Grammar, Region, line, line_cases, line_branch, many, row, rank, rank_count, piece_line, piece, node_line, region_of, NodeHead}
-use Rattle.tv_cert_grammar.proofs.CompleteParts.{line_read, rows_read, piece_read}
+use Rattle.tv_cert_reader.specs.CertificateLines.{mark_named, row_lines, piece_lines}
+use Rattle.tv_cert_reader.specs.declared.kind.LineKind.TheVariants.{Shape}
+use Rattle.tv_cert_reader.specs.Demands.{Outline, outline}
+use Rattle.tv_cert_reader.specs.LineGrammar.{Grammar, Region, line, line_cases, line_branch, many, row, rank, rank_count, piece_line, piece, node_line, region_of, NodeHead}
+use Rattle.tv_cert_reader.proofs.CompleteParts.{line_read, rows_read, piece_read}
 use Rattle.tv_cert_reader.specs.declared.cursor.Cursor.{Cursor}
 use Rattle.tv_cert_reader.specs.declared.failure.Failure.{Failure}
 use Rattle.tv_cert_reader.specs.declared.failure.Failure.TheVariants.{Fault}

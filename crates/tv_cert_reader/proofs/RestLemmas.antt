@@ -16,22 +16,22 @@ use Rattle.tv_cert.specs.Nodes.{pieces_of}
 use Rattle.tv_cert.specs.Pieces.{place_of, pieces_at}
 use Rattle.tv_cert.specs.Statements.{Statement}
 use Rattle.tv_cert.proofs.NodeLemmas.{pieces_are}
-use Rattle.tv_cert_text.specs.CertificateLines.{cover_lines}
-use Rattle.tv_cert_grammar.specs.declared.kind.LineKind.{LineKind}
-use Rattle.tv_cert_grammar.specs.declared.kind.LineKind.TheVariants.{Syntax, Shape}
-use Rattle.tv_cert_grammar.specs.Demands.{Outline, outline, outlines, into_counts}
-use Rattle.tv_cert_grammar.specs.Lines.{Grammar, line, last}
-use Rattle.tv_cert_grammar.specs.Covers.{cover, both}
-use Rattle.tv_cert_grammar.specs.Nodes.{node}
-use Rattle.tv_cert_grammar.specs.Shaped.{stated_lines}
-use Rattle.tv_cert_grammar.specs.Certificates.{Sides, at_line, at_values, proved, denied}
-use Rattle.tv_cert_grammar.proofs.CompleteReads.{then_read}
-use Rattle.tv_cert_grammar.proofs.CompleteCovers.{cover_read}
-use Rattle.tv_cert_grammar.proofs.CompleteDemands.{into_plain, outline_got}
-use Rattle.tv_cert_grammar.proofs.CompleteNodes.{node_read}
-use Rattle.tv_cert_grammar.proofs.CompleteCertificates.{last_read, begins_proved, begins_denied, at_values_read}
-use Rattle.tv_cert_grammar.proofs.Faults.{no_piece_fault}
-use Rattle.tv_cert_grammar.proofs.FirstFaults.{NamesPieces, proved_text, nodes_fail, values_fail, piece_there, first_stopped, first_no_piece}
+use Rattle.tv_cert_reader.specs.CertificateLines.{cover_lines}
+use Rattle.tv_cert_reader.specs.declared.kind.LineKind.{LineKind}
+use Rattle.tv_cert_reader.specs.declared.kind.LineKind.TheVariants.{Syntax, Shape}
+use Rattle.tv_cert_reader.specs.Demands.{Outline, outline, outlines, into_counts}
+use Rattle.tv_cert_reader.specs.LineGrammar.{Grammar, line, last}
+use Rattle.tv_cert_reader.specs.CoverGrammar.{cover, both}
+use Rattle.tv_cert_reader.specs.NodeGrammar.{node}
+use Rattle.tv_cert_reader.specs.Shaped.{stated_lines}
+use Rattle.tv_cert_reader.specs.CertificateGrammar.{Sides, at_line, at_values, proved, denied}
+use Rattle.tv_cert_reader.proofs.CompleteReads.{then_read}
+use Rattle.tv_cert_reader.proofs.CompleteCovers.{cover_read}
+use Rattle.tv_cert_reader.proofs.CompleteDemands.{into_plain, outline_got}
+use Rattle.tv_cert_reader.proofs.CompleteNodes.{node_read}
+use Rattle.tv_cert_reader.proofs.CompleteCertificates.{last_read, begins_proved, begins_denied, at_values_read}
+use Rattle.tv_cert_reader.proofs.Faults.{no_piece_fault}
+use Rattle.tv_cert_reader.proofs.FirstFaults.{NamesPieces, proved_text, nodes_fail, values_fail, piece_there, first_stopped, first_no_piece}
 use Rattle.tv_cert_reader.specs.declared.cursor.Cursor.{Cursor}
 use Rattle.tv_cert_reader.specs.declared.failure.Failure.{Failure}
 use Rattle.tv_cert_reader.specs.declared.failure.Failure.TheVariants.{Fault, Memory}

@@ -1,9 +1,9 @@
 -- What stands behind a split.
 use Rattle.std.proofs.Common.{◌≡◌, ℕ, zero, suc, ◌+◌, ◌-◌, Bool, true, false, ap, ◌∙◌, refl, arith}
 use Rattle.tv_grammar.specs.Langs.{go, stop}
-use Rattle.tv_cert_grammar.specs.declared.kind.LineKind.TheVariants.{Deep, Shape}
-use Rattle.tv_cert_grammar.specs.Lines.{Grammar, Behind}
-use Rattle.tv_cert_grammar.specs.Covers.{too_deep, sides_behind, both}
+use Rattle.tv_cert_reader.specs.declared.kind.LineKind.TheVariants.{Deep, Shape}
+use Rattle.tv_cert_reader.specs.LineGrammar.{Grammar, Behind}
+use Rattle.tv_cert_reader.specs.CoverGrammar.{too_deep, sides_behind, both}
 
 -- the grammar of a side, told how many rows are known and how many splits are left
 module _ (side : ℕ → ℕ → Grammar (Unit {0})) where

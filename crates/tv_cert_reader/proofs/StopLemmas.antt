@@ -7,13 +7,13 @@ use Rattle.tv_grammar.specs.Langs.{mapped, each}
 use Rattle.tv_lines.specs.Lines.{PlainLine}
 use Rattle.tv_linear.specs.declared.cover.CoverTree.{CoverTree}
 use Rattle.tv_cases.specs.LinearCases.{LinearCase}
-use Rattle.tv_cert_text.specs.CertificateLines.{cover_lines}
-use Rattle.tv_cert_grammar.specs.declared.kind.LineKind.{LineKind}
-use Rattle.tv_cert_grammar.specs.Demands.{no_counts}
-use Rattle.tv_cert_grammar.specs.Lines.{Grammar}
-use Rattle.tv_cert_grammar.specs.Choices.{stop_cover}
-use Rattle.tv_cert_grammar.proofs.CompleteReads.{then_read}
-use Rattle.tv_cert_grammar.proofs.CompleteCovers.{cover_read}
+use Rattle.tv_cert_reader.specs.CertificateLines.{cover_lines}
+use Rattle.tv_cert_reader.specs.declared.kind.LineKind.{LineKind}
+use Rattle.tv_cert_reader.specs.Demands.{no_counts}
+use Rattle.tv_cert_reader.specs.LineGrammar.{Grammar}
+use Rattle.tv_cert_reader.specs.ChoiceGrammar.{stop_cover}
+use Rattle.tv_cert_reader.proofs.CompleteReads.{then_read}
+use Rattle.tv_cert_reader.proofs.CompleteCovers.{cover_read}
 use Rattle.tv_cert_reader.specs.declared.cursor.Cursor.{Cursor}
 use Rattle.tv_cert_reader.specs.declared.failure.Failure.{Failure}
 use Rattle.tv_cert_reader.specs.declared.failure.Failure.TheVariants.{Fault, Memory}

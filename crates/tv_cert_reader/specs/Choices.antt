@@ -15,8 +15,8 @@ use Rattle.tv_cert.specs.Owing.{destination_owes}
 use Rattle.tv_cert.specs.Pieces.{place_of}
 use Rattle.tv_cert.specs.Shapes.{ChoiceShape, owed_count}
 use Rattle.tv_shape.specs.Narrow.{ChoiceNarrow}
-use Rattle.tv_cert_text.specs.CertificateLines.{choice_lines, cover_lines}
-use Rattle.tv_cert_grammar.specs.Choices.{Choosing, choice, stop_cover}
+use Rattle.tv_cert_reader.specs.CertificateLines.{choice_lines, cover_lines}
+use Rattle.tv_cert_reader.specs.ChoiceGrammar.{Choosing, choice, stop_cover}
 use Rattle.tv_cert_reader.specs.declared.cursor.Cursor.{Cursor}
 use Rattle.tv_cert_reader.specs.declared.failure.Failure.{Failure}
 use Rattle.tv_cert_reader.specs.Reading.{Reads}

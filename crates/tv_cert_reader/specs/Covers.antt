@@ -7,8 +7,8 @@ use Rattle.tv_linear.specs.Depth.{splits}
 use Rattle.tv_linear.specs.declared.cover.CoverTree.{CoverTree, Split'}
 use Rattle.tv_cert.specs.Shapes.{CoverShape}
 use Rattle.tv_shape.specs.Narrow.{CoverNarrow}
-use Rattle.tv_cert_text.specs.CertificateLines.{cover_lines}
-use Rattle.tv_cert_grammar.specs.Covers.{cover}
+use Rattle.tv_cert_reader.specs.CertificateLines.{cover_lines}
+use Rattle.tv_cert_reader.specs.CoverGrammar.{cover}
 use Rattle.tv_cert_reader.specs.declared.cursor.Cursor.{Cursor}
 use Rattle.tv_cert_reader.specs.declared.failure.Failure.{Failure}
 use Rattle.tv_cert_reader.specs.Reading.{Reads, Takes}

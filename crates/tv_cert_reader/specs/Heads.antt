@@ -5,7 +5,7 @@ use Rattle.tv_lines.specs.declared.head.Head.TheVariants as heads
 use Rattle.tv_lines.specs.declared.head.NodeKind.{NodeKind}
 use Rattle.tv_cert.specs.declared.node.Mark.{Mark}
 use Rattle.tv_cert.specs.Pieces.{is_go}
-use Rattle.tv_cert_text.specs.CertificateLines.{mark_named}
+use Rattle.tv_cert_reader.specs.CertificateLines.{mark_named}
 
 -- the head and the numbers of a piece with this mark, location and number of rows
 pub record IsPieceHead (locations : ℕ) (done : Bool) (head : Head) (zs : List ℤ) (mark : Mark) (location count : ℕ) : Type 0 where

@@ -1,3 +1,11 @@
+pub mod CertificateLines
+pub mod Demands
+pub mod LineGrammar
+pub mod CoverGrammar
+pub mod ChoiceGrammar
+pub mod NodeGrammar
+pub mod CertificateGrammar
+pub mod Shaped
 pub mod Reading
 pub mod Sorts
 pub mod Parts

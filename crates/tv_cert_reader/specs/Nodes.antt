@@ -5,8 +5,8 @@ use Rattle.tv_cases.specs.LinearCases.{CaseSystem}
 use Rattle.tv_cert.specs.declared.node.Node.{Node}
 use Rattle.tv_cert.specs.Statements.{Statement, Statements, no_statement, statement}
 use Rattle.tv_shape.specs.Fitting.{NodeNarrow}
-use Rattle.tv_cert_grammar.specs.Nodes.{node}
-use Rattle.tv_cert_grammar.specs.Shaped.{IsShapedAs, stated_lines}
+use Rattle.tv_cert_reader.specs.NodeGrammar.{node}
+use Rattle.tv_cert_reader.specs.Shaped.{IsShapedAs, stated_lines}
 use Rattle.tv_cert_reader.specs.declared.cursor.Cursor.{Cursor}
 use Rattle.tv_cert_reader.specs.declared.failure.Failure.{Failure}
 use Rattle.tv_cert_reader.specs.Reading.{Reads, Takes}

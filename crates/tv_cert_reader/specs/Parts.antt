@@ -6,8 +6,8 @@ use Rattle.tv_lines.specs.Numbers.{IsNarrow}
 use Rattle.tv_linear.specs.Linear.{Linear, columns, IsNarrow as IsNarrowRow}
 use Rattle.tv_rows.specs.Packed.{packed}
 use Rattle.tv_linear.specs.declared.row.Row.{Row}
-use Rattle.tv_cert_text.specs.CertificateLines.{row_line, row_lines, by_lines}
-use Rattle.tv_cert_grammar.specs.Lines.{many}
+use Rattle.tv_cert_reader.specs.CertificateLines.{row_line, row_lines, by_lines}
+use Rattle.tv_cert_reader.specs.LineGrammar.{many}
 use Rattle.tv_cert_reader.specs.declared.sort.Sort.{Sort}
 use Rattle.tv_cert_reader.specs.declared.sort.Sort.TheVariants.{By}
 use Rattle.tv_cert_reader.specs.declared.cursor.Cursor.{Cursor}

@@ -7,9 +7,9 @@ use Rattle.tv_cert.specs.declared.node.Proof.{Proof}
 use Rattle.tv_cert.specs.Obligations.{Obligation, Owed}
 use Rattle.tv_cert.specs.Shapes.{ProofShape}
 use Rattle.tv_shape.specs.Narrow.{ProofNarrow}
-use Rattle.tv_cert_text.specs.CertificateLines.{proof_lines}
-use Rattle.tv_cert_grammar.specs.Demands.{demand_of}
-use Rattle.tv_cert_grammar.specs.Choices.{demanded}
+use Rattle.tv_cert_reader.specs.CertificateLines.{proof_lines}
+use Rattle.tv_cert_reader.specs.Demands.{demand_of}
+use Rattle.tv_cert_reader.specs.ChoiceGrammar.{demanded}
 use Rattle.tv_cert_reader.specs.declared.cursor.Cursor.{Cursor}
 use Rattle.tv_cert_reader.specs.declared.failure.Failure.{Failure}
 use Rattle.tv_cert_reader.specs.Reading.{Reads}

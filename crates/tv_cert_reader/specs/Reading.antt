@@ -4,9 +4,9 @@ use Rattle.std.specs.Global.{Vec}
 use Rattle.tv_grammar.specs.Reads.{fault}
 use Rattle.tv_lines.specs.Lines.{PlainLine, formed, formless, wide}
 use Rattle.tv_lines.specs.declared.head.Head.{Head}
-use Rattle.tv_cert_grammar.specs.declared.kind.LineKind.{LineKind}
-use Rattle.tv_cert_grammar.specs.declared.kind.LineKind.TheVariants.{Syntax, Wide}
-use Rattle.tv_cert_grammar.specs.Lines.{Grammar}
+use Rattle.tv_cert_reader.specs.declared.kind.LineKind.{LineKind}
+use Rattle.tv_cert_reader.specs.declared.kind.LineKind.TheVariants.{Syntax, Wide}
+use Rattle.tv_cert_reader.specs.LineGrammar.{Grammar}
 use Rattle.tv_cert_reader.specs.declared.cursor.Cursor.{Cursor}
 use Rattle.tv_cert_reader.specs.declared.failure.Failure.{Failure}
 use Rattle.tv_cert_reader.specs.declared.failure.Failure.TheVariants.{Fault, Memory}

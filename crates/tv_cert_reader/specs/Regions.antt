@@ -9,8 +9,8 @@ use Rattle.tv_lines.specs.declared.head.NodeKind.{NodeKind}
 use Rattle.tv_cases.specs.LinearCases.{CaseSystem}
 use Rattle.tv_cert.specs.declared.node.Marked.{Marked}
 use Rattle.tv_cert.specs.Shapes.{PieceShape}
-use Rattle.tv_cert_text.specs.CertificateLines.{piece_lines}
-use Rattle.tv_cert_grammar.specs.Lines.{Grammar, line, node_line, piece, Region, region_of}
+use Rattle.tv_cert_reader.specs.CertificateLines.{piece_lines}
+use Rattle.tv_cert_reader.specs.LineGrammar.{Grammar, line, node_line, piece, Region, region_of}
 use Rattle.tv_cert_reader.specs.declared.cursor.Cursor.{Cursor}
 use Rattle.tv_cert_reader.specs.declared.failure.Failure.{Failure}
 use Rattle.tv_cert_reader.specs.Reading.{Reads}

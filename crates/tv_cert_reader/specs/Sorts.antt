@@ -2,7 +2,7 @@
 use Rattle.std.specs.Prelude.{ℕ, Bool}
 use Rattle.tv_lines.specs.declared.head.Head.{Head}
 use Rattle.tv_lines.specs.declared.head.Head.TheVariants as heads
-use Rattle.tv_cert_grammar.specs.Lines.{Grammar, line, sized, is_header, is_row, is_rank, is_draw, is_by, is_end}
+use Rattle.tv_cert_reader.specs.LineGrammar.{Grammar, line, sized, is_header, is_row, is_rank, is_draw, is_by, is_end}
 use Rattle.tv_cert_reader.specs.declared.sort.Sort.{Sort}
 use Rattle.tv_cert_reader.specs.declared.sort.Sort.TheVariants as sorts
 

@@ -7,12 +7,12 @@ use Rattle.tv_cases.specs.LinearCases.{CaseSystem}
 use Rattle.tv_cert.specs.declared.claim.Claim.{Claim}
 use Rattle.tv_cert.specs.Claims.{about_with, claim_variables, shown}
 use Rattle.tv_cert.specs.Statements.{stated}
-use Rattle.tv_cert_text.specs.CertificateLines.{certificate_lines}
+use Rattle.tv_cert_reader.specs.CertificateLines.{certificate_lines}
 use Rattle.tv_shape.specs.declared.certificate.Certificate.{Certificate}
 use Rattle.tv_shape.specs.Certificates.{IsOf}
-use Rattle.tv_cert_grammar.specs.declared.kind.LineKind.{LineKind}
-use Rattle.tv_cert_grammar.specs.declared.kind.LineKind.TheVariants as kinds
-use Rattle.tv_cert_grammar.specs.Certificates.{Sides, IsFirstFault}
+use Rattle.tv_cert_reader.specs.declared.kind.LineKind.{LineKind}
+use Rattle.tv_cert_reader.specs.declared.kind.LineKind.TheVariants as kinds
+use Rattle.tv_cert_reader.specs.CertificateGrammar.{Sides, IsFirstFault}
 use Rattle.tv_cert_reader.specs.declared.failure.Failure.{Failure}
 use Rattle.tv_cert_reader.specs.declared.failure.Failure.TheVariants as failures
 use Rattle.tv_cert_reader.specs.declared.fault.CertFault.{CertFault}

@@ -10,9 +10,9 @@ use Rattle.tv_cases.specs.LinearCases.{CaseSystem}
 use Rattle.tv_cert.specs.declared.node.Marked.{Marked}
 use Rattle.tv_cert.specs.Shapes.{owed_count}
 use Rattle.tv_cert.specs.Targets.{owed_into, no_fall}
-use Rattle.tv_cert_grammar.specs.declared.kind.LineKind.TheVariants.{Syntax}
-use Rattle.tv_cert_grammar.specs.Lines.{line}
-use Rattle.tv_cert_grammar.specs.Certificates.{at_line}
+use Rattle.tv_cert_reader.specs.declared.kind.LineKind.TheVariants.{Syntax}
+use Rattle.tv_cert_reader.specs.LineGrammar.{line}
+use Rattle.tv_cert_reader.specs.CertificateGrammar.{at_line}
 use Rattle.tv_cert_reader.specs.declared.cursor.Cursor.{Cursor}
 use Rattle.tv_cert_reader.specs.declared.failure.Failure.{Failure}
 use Rattle.tv_cert_reader.specs.declared.failure.Failure.TheVariants.{Fault, Memory}

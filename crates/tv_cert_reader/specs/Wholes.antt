@@ -13,10 +13,10 @@ use Rattle.tv_cert.specs.Shapes.{owed_count}
 use Rattle.tv_cert.specs.Statements.{Statement}
 use Rattle.tv_cert.specs.Targets.{owed_into, no_fall}
 use Rattle.tv_shape.specs.Narrow.{AreNarrow}
-use Rattle.tv_cert_text.specs.CertificateLines.{cover_lines}
-use Rattle.tv_cert_grammar.specs.Lines.{line}
-use Rattle.tv_cert_grammar.specs.Shaped.{stated_lines}
-use Rattle.tv_cert_grammar.specs.Certificates.{Sides, said_line, IsFirstFault}
+use Rattle.tv_cert_reader.specs.CertificateLines.{cover_lines}
+use Rattle.tv_cert_reader.specs.LineGrammar.{line}
+use Rattle.tv_cert_reader.specs.Shaped.{stated_lines}
+use Rattle.tv_cert_reader.specs.CertificateGrammar.{Sides, said_line, IsFirstFault}
 use Rattle.tv_cert_reader.specs.declared.cursor.Cursor.{Cursor}
 use Rattle.tv_cert_reader.specs.declared.failure.Failure.{Failure}
 use Rattle.tv_cert_reader.specs.declared.failure.Failure.TheVariants.{Fault, Memory}

@@ -19,7 +19,7 @@ use crate::rows::row_of;
 use std::alloc::{AllocError, Global};
 use tv_cases::Case;
 use tv_cert::{Destination, Marked};
-use tv_cert_grammar::LineKind;
+use crate::LineKind;
 use tv_linear::{ChoiceTree, Cover, Row};
 use tv_lines::Head;
 use tv_shape::Targets;

@@ -10,7 +10,7 @@ use crate::failure::Failure;
 use crate::lines::take;
 use crate::rows::{lists, row_of};
 use std::alloc::{AllocError, Global};
-use tv_cert_grammar::LineKind;
+use crate::LineKind;
 use tv_linear::{CoverTree, Row};
 use tv_lines::Head;
 use tv_shape::Targets;

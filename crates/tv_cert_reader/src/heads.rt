@@ -1,6 +1,6 @@
 ghost use Rattle.std.specs.Prelude.{◌≡◌, ◌^◌, ◌<◌, ℕ, [], ◌∷◌, pos, true, false, MatchOption};
 ghost use Rattle.tv_cert.specs.Pieces.{is_go};
-ghost use Rattle.tv_cert_text.specs.CertificateLines.{mark_named};
+ghost use Rattle.tv_cert_reader.specs.CertificateLines.{mark_named};
 ghost use Rattle.tv_cert_reader.specs.Heads.{IsNodeHead, IsPieceHead};
 
 use crate::natural::natural;

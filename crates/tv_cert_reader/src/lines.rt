@@ -5,7 +5,7 @@ ghost use Rattle.tv_cert_reader.specs.Reading.{TakesLine};
 use crate::cursor::Cursor;
 use crate::failure::Failure;
 use std::alloc::Global;
-use tv_cert_grammar::LineKind;
+use crate::LineKind;
 use tv_lines::{Head, Line};
 
 /// The head and the numbers of the next line.

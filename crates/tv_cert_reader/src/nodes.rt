@@ -3,7 +3,7 @@ ghost use Rattle.tv_cases.specs.Systems.{cases_of};
 ghost use Rattle.tv_cert.specs.AimViews.{aim_states};
 ghost use Rattle.tv_cert.specs.Listed.{pieces_list};
 ghost use Rattle.tv_shape.specs.Stations.{IsSaid};
-ghost use Rattle.tv_cert_grammar.specs.Lines.{kind_of};
+ghost use Rattle.tv_cert_reader.specs.LineGrammar.{kind_of};
 ghost use Rattle.tv_cert_reader.specs.Nodes.{ReadsNode};
 
 use crate::context::Context;

@@ -1,7 +1,7 @@
 ghost use Rattle.std.specs.Prelude.{◌≡◌, ◌^◌, ◌<◌, ◌+◌, ◌*◌, min, IfOk, vec_len};
 ghost use Rattle.tv_cases.specs.Systems.{cases_of};
 ghost use Rattle.tv_cert.specs.Pieces.{is_go};
-ghost use Rattle.tv_cert_grammar.specs.Lines.{rank_count};
+ghost use Rattle.tv_cert_reader.specs.LineGrammar.{rank_count};
 ghost use Rattle.tv_cert_reader.specs.Regions.{ReadsPiece, ReadsPieces, ReadsRegion};
 
 use crate::context::Context;
@@ -12,7 +12,7 @@ use crate::lines::take;
 use crate::rows::{append_rows, room};
 use crate::sort::Sort;
 use tv_cert::{Mark, Marked, Pieces};
-use tv_cert_grammar::LineKind;
+use crate::LineKind;
 use tv_lines::NodeKind;
 
 /// How many ranks a piece has of a node with so many.

@@ -16,7 +16,7 @@ use crate::sort::Sort;
 use std::alloc::Global;
 use tv_cases::Cases;
 use tv_cert::{Claim, Node, Verdict};
-use tv_cert_grammar::LineKind;
+use crate::LineKind;
 use tv_lines::Lines;
 use tv_shape::{Certificate, ShapeFault};
 

@@ -14,7 +14,7 @@ use crate::rows::numbers;
 use crate::sort::Sort;
 use std::alloc::Global;
 use tv_cert::{Aim, Node, Pieces, Verdict};
-use tv_cert_grammar::LineKind;
+use crate::LineKind;
 use tv_linear::{Cover, widened};
 use tv_lines::Head;
 use tv_shape::Targets;

@@ -7,7 +7,7 @@ use crate::failure::Failure;
 use crate::lines::take;
 use crate::sort::Sort;
 use std::alloc::Global;
-use tv_cert_grammar::LineKind;
+use crate::LineKind;
 use tv_linear::Row;
 
 /// The numbers of a line of this sort that has so many.

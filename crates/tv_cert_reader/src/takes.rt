@@ -14,7 +14,7 @@ use crate::rows::{lists, rows};
 use crate::sort::Sort;
 use tv_cases::Case;
 use tv_cert::{Destination, Marked};
-use tv_cert_grammar::LineKind;
+use crate::LineKind;
 use tv_linear::ChoiceTree;
 use tv_lines::Head;
 use tv_shape::taken_into;

@@ -23,7 +23,7 @@ use Rattle.tv_cert.specs.declared.node.Verdict.{Verdict}
 use Rattle.tv_cert.specs.declared.node.Verdict.TheVariants.{Proved, Disproved}
 use Rattle.tv_cert.specs.Nodes.{parts}
 use Rattle.tv_cert.specs.Pieces.{rows_of, ranks_of}
-use Rattle.tv_cert_text.specs.CertificateLines.{row_lines, by_lines, piece_lines, cover_lines, choice_lines, proof_lines, node_lines, kid_lines, certificate_lines}
+use Rattle.tv_cert_reader.specs.CertificateLines.{row_lines, by_lines, piece_lines, cover_lines, choice_lines, proof_lines, node_lines, kid_lines, certificate_lines}
 use Rattle.tv_cert_spelling.specs.Spelling.{all_spelled}
 
 abbrev IsFormed : PlainLine → Type 0

@@ -14,7 +14,7 @@ use Rattle.tv_cert.specs.Shapes.{HasShape, HaveShapes, IsNormalHead}
 use Rattle.tv_cert.specs.Statements.{Statement, rows, here, elsewhere, ends, never_ends, each_of, one_of, after, along, unsaid, stated, stated_all, parts_of}
 use Rattle.tv_cert.proofs.SaidLemmas.{parts-stated}
 use Rattle.tv_shape.specs.Kinds.{kinds_stated, all_kinds}
-use Rattle.tv_cert_text.specs.CertificateLines.{piece_lines, proof_lines, kind_named, node_lines, kid_lines}
+use Rattle.tv_cert_reader.specs.CertificateLines.{piece_lines, proof_lines, kind_named, node_lines, kid_lines}
 use Rattle.tv_cert_spelling.specs.Spelling.{first_kind, lines_with, kid_lines_with}
 
 -- the kind of the node alone

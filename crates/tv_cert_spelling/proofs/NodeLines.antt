@@ -10,7 +10,7 @@ use Rattle.tv_cert.specs.declared.node.Node.{Node, Node', Row_of-Node, end_of-No
 use Rattle.tv_cert.specs.Listed.{pieces_list}
 use Rattle.tv_cert.specs.Nodes.{size}
 use Rattle.tv_cert.proofs.NodeLemmas.{kids_of, sizes_list, proofs_list, out_is}
-use Rattle.tv_cert_text.specs.CertificateLines.{piece_lines, proof_lines}
+use Rattle.tv_cert_reader.specs.CertificateLines.{piece_lines, proof_lines}
 use Rattle.tv_cert_spelling.specs.Spelling.{spelled, all_spelled, first_kind, lines_with, kid_lines_with}
 
 abbrev pub kids_with : List NodeKind → List Node → List PlainLine

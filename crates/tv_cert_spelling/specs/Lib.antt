@@ -1,1 +1,5 @@
+pub mod CoverValues
+pub mod ChoiceValues
+pub mod NodeValues
+pub mod CertificateValues
 pub mod Spelling

@@ -14,7 +14,7 @@ use Rattle.tv_cert.specs.Obligations.{About}
 use Rattle.tv_formula.specs.Properties.{Property}
 use Rattle.tv_shape.specs.declared.certificate.Certificate.{Certificate}
 use Rattle.tv_shape.specs.Certificates.{IsOf}
-use Rattle.tv_cert_text.specs.CertificateLines.{piece_lines, proof_lines, cover_lines}
+use Rattle.tv_cert_reader.specs.CertificateLines.{piece_lines, proof_lines, cover_lines}
 
 -- a line with the LF that ends it
 abbrev pub spelled : PlainLine → List ℕ

@@ -4,7 +4,7 @@ ghost use Rattle.tv_lines.specs.declared.head.Head.TheVariants as heads;
 ghost use Rattle.tv_formula.specs.Properties.{Property};
 ghost use Rattle.tv_cert.specs.Obligations.{About};
 ghost use Rattle.tv_shape.specs.Certificates.{IsOf};
-ghost use Rattle.tv_cert_text.specs.CertificateLines.{certificate_lines};
+ghost use Rattle.tv_cert_reader.specs.CertificateLines.{certificate_lines};
 ghost use Rattle.tv_cert_spelling.specs.Spelling.{IsMade, all_spelled, said_lines, at_lines};
 
 use crate::nodes::append_node;

@@ -1,7 +1,7 @@
 ghost use Rattle.std.specs.Prelude.{◌≡◌, ◌++◌, ◌∷◌, [], pos, map, length, IfOk, OnOk};
 ghost use Rattle.std.specs.List.{flat_map};
 ghost use Rattle.tv_lines.specs.Lines.{formed};
-ghost use Rattle.tv_cert_text.specs.CertificateLines.{row_line, row_lines, by_lines, mark_named, piece_lines, cover_lines, choice_lines, proof_lines};
+ghost use Rattle.tv_cert_reader.specs.CertificateLines.{row_line, row_lines, by_lines, mark_named, piece_lines, cover_lines, choice_lines, proof_lines};
 ghost use Rattle.tv_cert_spelling.specs.Spelling.{spelled, all_spelled};
 ghost use Rattle.tv_rows.specs.Views.{row_seen, rows_seen};
 

@@ -1,3 +1,10 @@
+pub mod OwedLemmas
+pub mod ShownLemmas
+pub mod TreeLemmas
+pub mod StopLemmas
+pub mod ChoiceLemmas
+pub mod ProofLemmas
+pub mod TargetLemmas
 pub mod SettlingLemmas
 pub mod PassedLemmas
 pub mod NodeLemmas

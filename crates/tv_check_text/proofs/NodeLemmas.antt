@@ -21,13 +21,13 @@ use Rattle.tv_cert.proofs.NodeLemmas.{kids_of, proofs_list, sizes_list, size_is,
 use Rattle.tv_cert.proofs.SaidNodes.{said_list, said_are, said_own_are}
 use Rattle.tv_shape.specs.Stations.{IsSaid, done_may_be, ranks_may_be}
 use Rattle.tv_shape.proofs.NumberLemmas.{renumbered, own_renumbered}
-use Rattle.tv_cert_text.specs.CertificateLines.{proof_lines}
-use Rattle.tv_cert_grammar.specs.Demands.{demand_of}
-use Rattle.tv_cert_grammar.specs.Choices.{demanded}
-use Rattle.tv_cert_grammar.specs.Lines.{kind_of}
-use Rattle.tv_cert_grammar.specs.Nodes.{node}
-use Rattle.tv_cert_grammar.specs.Shaped.{stated_lines}
-use Rattle.tv_cert_grammar.proofs.CompleteWanted.{demands_same}
+use Rattle.tv_cert_reader.specs.CertificateLines.{proof_lines}
+use Rattle.tv_cert_reader.specs.Demands.{demand_of}
+use Rattle.tv_cert_reader.specs.ChoiceGrammar.{demanded}
+use Rattle.tv_cert_reader.specs.LineGrammar.{kind_of}
+use Rattle.tv_cert_reader.specs.NodeGrammar.{node}
+use Rattle.tv_cert_reader.specs.Shaped.{stated_lines}
+use Rattle.tv_cert_reader.proofs.CompleteWanted.{demands_same}
 use Rattle.tv_cert_reader.specs.declared.cursor.Cursor.{Cursor}
 use Rattle.tv_cert_reader.specs.declared.failure.Failure.{Failure}
 use Rattle.tv_cert_reader.specs.Nodes.{IsNodeOf, AreFirstOf, nodes_lines}
@@ -35,7 +35,7 @@ use Rattle.tv_cert_reader.specs.Proofs.{AreProofsOf}
 use Rattle.tv_cert_reader.specs.Reading.{Takes, FailsBy}
 use Rattle.tv_cert_reader.specs.Regions.{IsRegion, region_lines}
 use Rattle.tv_cert_reader.proofs.NodeLemmas.{Opened, took_long, pieces_long, stated_is, opened, opened_next, child_fails, proofs_fail, node_built, node_of}
-use Rattle.tv_judging.proofs.TreeLemmas.{vector}
+use Rattle.tv_check_text.proofs.TreeLemmas.{vector}
 use Rattle.tv_check_text.specs.declared.judge.Judge.{Judge}
 use Rattle.tv_check_text.specs.Nodes.{IsJudgedNode}
 use Rattle.tv_check_text.specs.Settling.{Settles}

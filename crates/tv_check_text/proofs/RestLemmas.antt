@@ -26,14 +26,14 @@ use Rattle.tv_cert.specs.Targets.{owed_into, no_fall}
 use Rattle.tv_cert.proofs.NodeLemmas.{pieces_are}
 use Rattle.tv_shape.specs.Stations.{done_may_be}
 use Rattle.tv_check.specs.Roots.{AreOver}
-use Rattle.tv_cert_text.specs.CertificateLines.{cover_lines}
-use Rattle.tv_cert_grammar.specs.Shaped.{IsShapedAs, stated_lines}
+use Rattle.tv_cert_reader.specs.CertificateLines.{cover_lines}
+use Rattle.tv_cert_reader.specs.Shaped.{IsShapedAs, stated_lines}
 use Rattle.tv_cert_reader.specs.declared.cursor.Cursor.{Cursor}
 use Rattle.tv_cert_reader.specs.Reading.{Takes}
 use Rattle.tv_cert_reader.specs.Covers.{IsCoverWithin}
 use Rattle.tv_cert_reader.specs.Values.{AreValues, start_counts, values_line}
 use Rattle.tv_check_text.specs.declared.judge.Judge.{Judge}
-use Rattle.tv_judging.specs.Judging.{JudgedCover}
+use Rattle.tv_check_text.specs.Judging.{JudgedCover}
 use Rattle.tv_check_text.specs.Nodes.{IsJudgedNode}
 use Rattle.tv_check_text.specs.Rest.{IsFresh, IsJudgedRest, all_entries}
 use Rattle.tv_check_text.specs.Settling.{Settles, first_failing}

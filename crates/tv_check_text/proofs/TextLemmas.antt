@@ -19,14 +19,14 @@ use Rattle.tv_shape.specs.declared.certificate.Certificate.{Certificate}
 use Rattle.tv_shape.specs.Fitting.{Fits}
 use Rattle.tv_shape.specs.Kinds.{kinds_stated}
 use Rattle.tv_cert_spelling.proofs.KindLines.{size_is_kinds}
-use Rattle.tv_cert_grammar.specs.declared.kind.LineKind.TheVariants as kinds
+use Rattle.tv_cert_reader.specs.declared.kind.LineKind.TheVariants as kinds
 use Rattle.tv_cert_reader.specs.declared.failure.Failure.{Failure}
 use Rattle.tv_cert_reader.specs.declared.failure.Failure.TheVariants as failures
 use Rattle.tv_cert_reader.specs.Texts.{IsCertificateText, IsRefusedText, fault_of, sides_of}
 use Rattle.tv_cert_reader.specs.Wholes.{IsBehindSaid, begun, side, says}
 use Rattle.tv_cert_reader.proofs.FitLemmas.{shows, read_fits, read_lines}
 use Rattle.tv_check.specs.declared.walking.Failing.{Failing}
-use Rattle.tv_judging.proofs.TreeLemmas.{vector}
+use Rattle.tv_check_text.proofs.TreeLemmas.{vector}
 use Rattle.tv_check_text.specs.declared.judge.Judge.{Judge}
 use Rattle.tv_check_text.specs.declared.text.Accepted.{Accepted}
 use Rattle.tv_check_text.specs.Rest.{IsJudgedRest, all_entries}

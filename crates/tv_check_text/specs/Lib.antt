@@ -1,3 +1,6 @@
+pub mod Owed
+pub mod Targets
+pub mod Judging
 pub mod Settling
 pub mod Visits
 pub mod Nodes

@@ -6,8 +6,8 @@ use Rattle.tv_cert.specs.Listed.{pieces_list}
 use Rattle.tv_cert.specs.Nodes.{size}
 use Rattle.tv_cert.specs.Said.{said_entries}
 use Rattle.tv_cert.specs.Statements.{Statement}
-use Rattle.tv_cert_grammar.specs.Nodes.{node}
-use Rattle.tv_cert_grammar.specs.Shaped.{stated_lines}
+use Rattle.tv_cert_reader.specs.NodeGrammar.{node}
+use Rattle.tv_cert_reader.specs.Shaped.{stated_lines}
 use Rattle.tv_cert_reader.specs.declared.failure.Failure.{Failure}
 use Rattle.tv_cert_reader.specs.Nodes.{IsNodeOf}
 use Rattle.tv_cert_reader.specs.Reading.{Takes, FailsBy}

@@ -11,7 +11,7 @@ use Rattle.tv_cert.specs.Obligations.{Entry}
 use Rattle.tv_cert.specs.Plain.{about_of}
 use Rattle.tv_cert.specs.Said.{said_entries}
 use Rattle.tv_cert.specs.Statements.{Statement}
-use Rattle.tv_cert_grammar.specs.Certificates.{Sides}
+use Rattle.tv_cert_reader.specs.CertificateGrammar.{Sides}
 use Rattle.tv_cert_reader.specs.declared.failure.Failure.{Failure}
 use Rattle.tv_cert_reader.specs.Wholes.{IsBehindSaid, ReadsRest, ReadsAll, begun, side}
 use Rattle.tv_check_text.specs.declared.judge.Judge.{Judge}

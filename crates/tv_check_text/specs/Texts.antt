@@ -7,7 +7,7 @@ use Rattle.tv_cert.specs.Claims.{about_with, shown}
 use Rattle.tv_cert.specs.Nodes.{obligations}
 use Rattle.tv_cert.specs.Obligations.{Entry, AllMet}
 use Rattle.tv_shape.specs.declared.certificate.Certificate.{Certificate}
-use Rattle.tv_cert_grammar.specs.declared.kind.LineKind.TheVariants as kinds
+use Rattle.tv_cert_reader.specs.declared.kind.LineKind.TheVariants as kinds
 use Rattle.tv_cert_reader.specs.declared.failure.Failure.{Failure}
 use Rattle.tv_cert_reader.specs.declared.failure.Failure.TheVariants as failures
 use Rattle.tv_cert_reader.specs.Texts.{IsCertificateText, IsAtFault}

@@ -4,9 +4,9 @@ use Rattle.std.specs.List.{flat_map}
 use Rattle.tv_grammar.specs.Langs.{each}
 use Rattle.tv_cert.specs.declared.node.Proof.{Proof}
 use Rattle.tv_cert.specs.Obligations.{Obligation, paired}
-use Rattle.tv_cert_text.specs.CertificateLines.{proof_lines}
-use Rattle.tv_cert_grammar.specs.Demands.{demand_of}
-use Rattle.tv_cert_grammar.specs.Choices.{demanded}
+use Rattle.tv_cert_reader.specs.CertificateLines.{proof_lines}
+use Rattle.tv_cert_reader.specs.Demands.{demand_of}
+use Rattle.tv_cert_reader.specs.ChoiceGrammar.{demanded}
 use Rattle.tv_cert_reader.specs.declared.failure.Failure.{Failure}
 use Rattle.tv_cert_reader.specs.Reading.{Takes, FailsBy}
 use Rattle.tv_cert_reader.specs.Proofs.{IsProofOf, AreProofsOf}

@@ -1,13 +1,26 @@
 //! The text of a certificate, checked while it is read, so that no proof of it is held in memory.
 #![tactic(auto)]
 
+mod choices;
+mod covers;
+mod empty;
+mod fall;
 mod judge;
+mod judging;
 mod nodes;
+mod owed;
 mod own;
 mod rest;
-#[cfg(test)]
-mod tests;
+mod shown;
+mod takes;
+mod targets;
 mod text;
 mod visiting;
 
+pub use judging::{judged, judged_start};
 pub use text::{Accepted, TextFailing, check_text};
+
+#[cfg(test)]
+mod tests;
+#[cfg(test)]
+mod judging_tests;

@@ -11,10 +11,10 @@ use crate::judge::Judge;
 use crate::nodes::judge_node;
 use crate::visiting::first_failing;
 use tv_cert::{Aim, Claim, Kind};
-use tv_cert_grammar::LineKind;
+use tv_cert_reader::LineKind;
 use tv_cert_reader::{Context, Failure, Sort, finish, numbers, said, values};
 use tv_check::{Failing, is_inside};
-use tv_judging::judged_start;
+use crate::judged_start;
 
 /// Takes note of the last obligation, which is the root's.
 fn settle_root(judge: &mut Judge, met: bool)

@@ -5,7 +5,7 @@ use tv_cases::cases;
 use tv_cert::{Claim, Kind};
 use tv_cert_reader::read_certificate;
 use tv_check::Failing;
-use tv_formula_text::read_formula;
+use tv_formula_reader::read_formula;
 use tv_reader::read_program;
 
 /// Counts x down to 0.

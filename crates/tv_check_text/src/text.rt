@@ -8,7 +8,7 @@ use crate::rest::judge_whole;
 use std::alloc::Global;
 use tv_cases::Cases;
 use tv_cert::Claim;
-use tv_cert_grammar::LineKind;
+use tv_cert_reader::LineKind;
 use tv_cert_reader::{Context, Cursor, Failure};
 use tv_check::Failing;
 use tv_lines::Lines;

@@ -8,7 +8,7 @@ use tv_cases::Cases;
 use tv_cert::{Kind, Owes, Visitor};
 use tv_cert_reader::Context;
 use tv_check::Failing;
-use tv_judging::judged;
+use crate::judged;
 
 /// The first obligation that is not met, where `failing` is the last that was judged.
 pub fn first_failing(earlier: Option<Failing>, met: bool, failing: Failing) -> Option<Failing>

@@ -1,13 +1,13 @@
 -- The spelling of a formula that has a text is a text of it, too.
 use Rattle.std.proofs.Common.{◌≡◌, ℕ, ◌+◌, ◌≤◌, List, [], ◌∷◌, ◌++◌, length, take, drop, refl, sym, ap, subst, ◌∙◌}
 use Rattle.std.proofs.lemmas.List.{append-nil, drop-drop}
-use Rattle.tv_tokens.specs.Tokens.{IsTokens}
+use Rattle.tv_language.specs.Tokens.{IsTokens}
 use Rattle.tv_program.specs.Systems.{System}
 use Rattle.tv_program.specs.Words.{Word}
 use Rattle.tv_language.specs.Symbols.{Vocabulary, lexemes}
 use Rattle.tv_formula.specs.Properties.{Property}
-use Rattle.tv_formula_text.specs.Signs.{Sign, signs}
-use Rattle.tv_formula_text.specs.FormulaTexts.{words_of, ended, IsFormula}
+use Rattle.tv_formula_reader.specs.Signs.{Sign, signs}
+use Rattle.tv_formula_reader.specs.FormulaTexts.{words_of, ended, IsFormula}
 use Rattle.tv_spelling.proofs.Pieces.{Piece, blank, line_feed, word, bytes, laid, laid_tokens, taken, dropped}
 use Rattle.tv_spelling.proofs.SumAgain.{ready_end}
 use Rattle.tv_spelling.proofs.FrontWords.{words_read}

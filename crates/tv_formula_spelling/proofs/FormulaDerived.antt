@@ -1,7 +1,7 @@
 -- The signs of the spelling are a formula that stands for the property.
 use Rattle.std.proofs.Common.{◌≡◌, ℕ, zero, suc, ◌≤◌, Bool, true, false, cond, List, [], ◌∷◌, ◌++◌, max, Some, refl, sym, ap, subst, ◌∙◌, arith}
 use Rattle.std.specs.Prelude.{◌||◌}
-use Rattle.tv_tokens.specs.declared.token.TokenKind.TheVariants.{RightRound}
+use Rattle.tv_language.specs.declared.token.TokenKind.TheVariants.{RightRound}
 use Rattle.tv_program.specs.declared.tree.Relation.{Relation}
 use Rattle.tv_program.specs.declared.tree.Relation.TheVariants.{Less, LessEqual, Greater, GreaterEqual, Equal, NotEqual}
 use Rattle.tv_program.specs.Trees.{Expression}
@@ -12,13 +12,13 @@ use Rattle.tv_formula.specs.declared.tree.Shape.{Shape}
 use Rattle.tv_formula.specs.declared.tree.Shape.TheVariants.{Until, Weak, Release, Strong}
 use Rattle.tv_formula.specs.Properties.{Property, truth, compare, at, term, negated, all_of, some_of, next, fix, Properties, none, more}
 use Rattle.tv_formula.specs.Views.{properties_of}
-use Rattle.tv_formula_text.specs.declared.operators.Single.{Single}
-use Rattle.tv_formula_text.specs.declared.operators.Single.TheVariants as singles
-use Rattle.tv_formula_text.specs.declared.operators.Operator.TheVariants.{One, Two}
-use Rattle.tv_formula_text.specs.Operators.{operator_of, applied}
-use Rattle.tv_formula_text.specs.Signs.{Sign}
-use Rattle.tv_formula_text.specs.FormulaTexts as grammar
-use Rattle.tv_formula_text.specs.FormulaTexts.{IsPlain, IsArgument, IsLiteral, AreLiterals, IsConjunction, AreConjunctions, IsFormula}
+use Rattle.tv_formula_reader.specs.declared.operators.Single.{Single}
+use Rattle.tv_formula_reader.specs.declared.operators.Single.TheVariants as singles
+use Rattle.tv_formula_reader.specs.declared.operators.Operator.TheVariants.{One, Two}
+use Rattle.tv_formula_reader.specs.Operators.{operator_of, applied}
+use Rattle.tv_formula_reader.specs.Signs.{Sign}
+use Rattle.tv_formula_reader.specs.FormulaTexts as grammar
+use Rattle.tv_formula_reader.specs.FormulaTexts.{IsPlain, IsArgument, IsLiteral, AreLiterals, IsConjunction, AreConjunctions, IsFormula}
 use Rattle.tv_spelling.proofs.Pieces.{Piece, blank, word, bracket_pieces}
 use Rattle.tv_spelling.proofs.SumPieces.{expression_pieces}
 use Rattle.tv_spelling.proofs.SumLevels.{bracket_levels, sum_levels}

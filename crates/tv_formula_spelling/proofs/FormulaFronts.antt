@@ -1,10 +1,10 @@
 -- Each word of a formula is the token at the front of its text from there on.
 use Rattle.std.proofs.Common.{◌≡◌, ℕ, true, false, List, [], ◌∷◌, ◌++◌, refl}
 use Rattle.std.specs.Prelude.{◌||◌, codes, slice_index, slice_index_or}
-use Rattle.tv_tokens.specs.declared.token.TokenKind.TheVariants.{LeftRound, RightRound, LeftSquare, RightSquare, Name, Not}
-use Rattle.tv_tokens.specs.declared.front.Front.TheVariants as fronts
-use Rattle.tv_tokens.specs.Fronts.{front_of}
-use Rattle.tv_tokens.specs.WordTexts.{continues_name, word_kind}
+use Rattle.tv_language.specs.declared.token.TokenKind.TheVariants.{LeftRound, RightRound, LeftSquare, RightSquare, Name, Not}
+use Rattle.tv_language.specs.declared.front.Front.TheVariants as fronts
+use Rattle.tv_language.specs.Fronts.{front_of}
+use Rattle.tv_language.specs.WordTexts.{continues_name, word_kind}
 use Rattle.tv_program.specs.Words.{Word}
 use Rattle.tv_reading.proofs.LinearLemmas.{and_both}
 use Rattle.tv_language.specs.Symbols.{Vocabulary}

@@ -1,7 +1,7 @@
 -- The words and spaces of a formula.
 use Rattle.std.proofs.Common.{◌≡◌, ℕ, true, List, [], ◌∷◌, ◌++◌, refl, sym, ap, ◌∙◌, append_assoc}
 use Rattle.std.specs.Prelude.{◌||◌, codes, slice_index_or}
-use Rattle.tv_tokens.specs.declared.token.TokenKind.TheVariants.{LeftRound, RightRound, LeftSquare, RightSquare, Name, And, Or, Not}
+use Rattle.tv_language.specs.declared.token.TokenKind.TheVariants.{LeftRound, RightRound, LeftSquare, RightSquare, Name, And, Or, Not}
 use Rattle.tv_program.specs.Words.{Word}
 use Rattle.tv_formula.specs.declared.tree.Path.{Path}
 use Rattle.tv_formula.specs.declared.tree.Shape.{Shape}

@@ -3,9 +3,9 @@ use Rattle.std.proofs.Common.{◌≡◌, ℕ, suc, ◌^◌, ◌≤◌, Bool, tru
 use Rattle.std.proofs.lemmas.Bool.Decides.{nat_tests}
 use Rattle.std.specs.Prelude.{◌||◌, nat_lt, slice_index_or}
 use Rattle.std.specs.Str.{bytes_eq}
-use Rattle.tv_tokens.specs.declared.token.TokenKind.{TokenKind}
-use Rattle.tv_tokens.specs.declared.token.TokenKind.TheVariants as kinds
-use Rattle.tv_tokens.specs.Numbers.{value_of_digits}
+use Rattle.tv_language.specs.declared.token.TokenKind.{TokenKind}
+use Rattle.tv_language.specs.declared.token.TokenKind.TheVariants as kinds
+use Rattle.tv_language.specs.Numbers.{value_of_digits}
 use Rattle.tv_program.specs.Words.{Word, number_of}
 use Rattle.tv_program.specs.Trees.{Expression}
 use Rattle.tv_language.specs.Symbols.{Symbol, number, name, label, drawn, fixed, numbered, Vocabulary, Lexeme}
@@ -16,11 +16,11 @@ use Rattle.tv_formula.specs.Properties.{Property, truth, compare, at, term, nega
 use Rattle.tv_formula.specs.Views.{properties_of}
 use Rattle.tv_reading.specs.Marks.{is_formula_word}
 use Rattle.tv_reading.proofs.PassedLemmas.{position_within}
-use Rattle.tv_formula_text.specs.declared.operators.Single.{Single}
-use Rattle.tv_formula_text.specs.declared.operators.Single.TheVariants.{Successor, Finally, Globally}
-use Rattle.tv_formula_text.specs.Operators.{applied}
-use Rattle.tv_formula_text.specs.Signs.{Sign, symbol_in, label_in, signs, symbols_of}
-use Rattle.tv_formula_text.specs.FormulaTexts.{joined, IsPlain, always, never, ends, located, denied, bracketed, of_one, of_two, IsArgument, enclosed, IsLiteral, plain, comparison, AreLiterals, no_literal, and, IsConjunction, literals, AreConjunctions, no_conjunction, or, IsFormula, conjunctions}
+use Rattle.tv_formula_reader.specs.declared.operators.Single.{Single}
+use Rattle.tv_formula_reader.specs.declared.operators.Single.TheVariants.{Successor, Finally, Globally}
+use Rattle.tv_formula_reader.specs.Operators.{applied}
+use Rattle.tv_formula_reader.specs.Signs.{Sign, symbol_in, label_in, signs, symbols_of}
+use Rattle.tv_formula_reader.specs.FormulaTexts.{joined, IsPlain, always, never, ends, located, denied, bracketed, of_one, of_two, IsArgument, enclosed, IsLiteral, plain, comparison, AreLiterals, no_literal, and, IsConjunction, literals, AreConjunctions, no_conjunction, or, IsFormula, conjunctions}
 use Rattle.tv_spelling.proofs.SumLevels.{bracket_levels, sum_levels}
 use Rattle.tv_spelling.proofs.SumLeast.{bracket_most, bracket_least, sum_least}
 use Rattle.tv_spelling.proofs.KnownNames.{IsKnown}

@@ -2,9 +2,9 @@
 use Rattle.std.proofs.Common.{◌≡◌, ℕ, ◌≤◌, Bool, true, false, cond, not, List, [], ◌∷◌, ◌++◌, length, Option, None, Some, refl, sym, ap, subst, ◌∙◌}
 use Rattle.std.proofs.lemmas.List.{append-nil, append_cancel_right}
 use Rattle.std.specs.Prelude.{◌^◌, nat_lt, slice_index_or}
-use Rattle.tv_tokens.specs.declared.token.TokenKind.{TokenKind}
-use Rattle.tv_tokens.specs.declared.token.TokenKind.TheVariants as kinds
-use Rattle.tv_tokens.specs.Numbers.{value_of_digits}
+use Rattle.tv_language.specs.declared.token.TokenKind.{TokenKind}
+use Rattle.tv_language.specs.declared.token.TokenKind.TheVariants as kinds
+use Rattle.tv_language.specs.Numbers.{value_of_digits}
 use Rattle.tv_program.specs.Words.{Word, number_of}
 use Rattle.tv_program.specs.Trees.{Expression}
 use Rattle.tv_program.specs.Limits.{expression_fits}
@@ -19,8 +19,8 @@ use Rattle.tv_reading.proofs.LinearLemmas.{and_left, and_right, and_both}
 use Rattle.tv_reading.proofs.LongestTexts.{plains}
 use Rattle.tv_reading.proofs.PassedLemmas.{symbols-append}
 use Rattle.tv_reading.proofs.SymbolLemmas.{sum_uses}
-use Rattle.tv_formula_text.specs.Signs.{Sign, symbol_in, sign, symbols_of}
-use Rattle.tv_formula_text.specs.FormulaTexts.{ended}
+use Rattle.tv_formula_reader.specs.Signs.{Sign, symbol_in, sign, symbols_of}
+use Rattle.tv_formula_reader.specs.FormulaTexts.{ended}
 use Rattle.tv_spelling.proofs.Pieces as pieces
 use Rattle.tv_spelling.proofs.Pieces.{Piece, blank, line_feed, word, bytes, laid}
 use Rattle.tv_spelling.proofs.SumPieces.{expression_pieces, expression_leads}

@@ -9,7 +9,7 @@ use Rattle.tv_formula.specs.declared.tree.Shape.TheVariants.{Until, Weak, Releas
 use Rattle.tv_formula.specs.Properties.{Property, truth, compare, at, term, negated, all_of, some_of, next, fix, Properties, none, more}
 use Rattle.tv_formula_spelling.specs.declared.formulas.Form.{Form}
 use Rattle.tv_formula_spelling.specs.declared.formulas.Form.TheVariants.{Finally, Globally, Both}
-use Rattle.tv_formula_text.specs.FormulaTexts.{IsFormulaText}
+use Rattle.tv_formula_reader.specs.FormulaTexts.{IsFormulaText}
 use Rattle.tv_spelling.specs.Sums.{in_brackets, expression_text}
 use Rattle.tv_spelling.specs.Conditions.{truth_text, relation_text}
 

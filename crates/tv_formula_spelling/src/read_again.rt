@@ -6,7 +6,7 @@ use crate::write_formula;
 use std::alloc::Global;
 use std::test::Fail;
 use tv_formula::Formula;
-use tv_formula_text::{FormulaFault, read_formula};
+use tv_formula_reader::{FormulaFault, read_formula};
 use tv_program::Program;
 use tv_reader::{ReadFault, read_program};
 use tv_spelling::write_program;

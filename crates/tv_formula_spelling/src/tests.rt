@@ -4,8 +4,8 @@ use crate::write_formula;
 use std::alloc::{AllocError, Global};
 use std::test::Fail;
 use tv_formula::{Formula, negate, normal, termination, unreachable};
-use tv_formula_text::FormulaFault::{Deep, Long, NotLinear, Syntax, UnknownName, Wide};
-use tv_formula_text::{FormulaFault, read_formula};
+use tv_formula_reader::FormulaFault::{Deep, Long, NotLinear, Syntax, UnknownName, Wide};
+use tv_formula_reader::{FormulaFault, read_formula};
 use tv_program::Program;
 use tv_reader::read_program;
 

@@ -3,8 +3,8 @@
 -- condition = conjunction { "||" conjunction }      conjunction = literal { "&&" literal }
 -- literal = plain | sum relation sum                plain = "!" plain | "true" | "false" | "(" condition ")"
 use Rattle.std.specs.Prelude.{◌≡◌, ℕ, suc, true, false, List, [], ◌∷◌, Option, None, Some}
-use Rattle.tv_tokens.specs.declared.token.TokenKind.{TokenKind}
-use Rattle.tv_tokens.specs.declared.token.TokenKind.TheVariants.{True, False, LeftRound, RightRound, And, Or, Not, Less, LessEqual, Greater, GreaterEqual, Equal, NotEqual}
+use Rattle.tv_language.specs.declared.token.TokenKind.{TokenKind}
+use Rattle.tv_language.specs.declared.token.TokenKind.TheVariants.{True, False, LeftRound, RightRound, And, Or, Not, Less, LessEqual, Greater, GreaterEqual, Equal, NotEqual}
 use Rattle.tv_program.specs.declared.tree.Relation.{Relation}
 use Rattle.tv_program.specs.declared.tree.Relation.TheVariants as relations
 use Rattle.tv_program.specs.Trees.{Expression, Condition, Conditions, truth, compare, negated, all_of, some_of}

@@ -1,3 +1,8 @@
+pub mod Gaps
+pub mod Numbers
+pub mod WordTexts
+pub mod Fronts
+pub mod Tokens
 pub mod Symbols
 pub mod Sums
 pub mod Conditions

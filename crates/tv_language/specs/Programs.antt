@@ -4,9 +4,9 @@
 -- item    = "START" ":" label ";" | "FROM" ":" label ";" { command } "TO" ":" label ";" | passed | mark [ ";" ]
 -- command = "assume" "(" condition ")" ";" | name ":=" sum ";" | mark [ ";" ]
 use Rattle.std.specs.Prelude.{◌≡◌, ℕ, ◌+◌, false, List, [], ◌∷◌}
-use Rattle.tv_tokens.specs.declared.token.TokenKind.TheVariants.{Start, From, To, Assume, Assign, Colon, Semicolon, LeftRound, RightRound, Passed, Mark, End}
-use Rattle.tv_tokens.specs.declared.token.Token.{Token}
-use Rattle.tv_tokens.specs.Tokens.{IsTokens}
+use Rattle.tv_language.specs.declared.token.TokenKind.TheVariants.{Start, From, To, Assume, Assign, Colon, Semicolon, LeftRound, RightRound, Passed, Mark, End}
+use Rattle.tv_language.specs.declared.token.Token.{Token}
+use Rattle.tv_language.specs.Tokens.{IsTokens}
 use Rattle.tv_program.specs.Words.{Word}
 use Rattle.tv_program.specs.Trees as trees
 use Rattle.tv_program.specs.Trees.{Expression, number, variable, draw, minus, product, Expressions, no_part, part, Condition, truth, compare, negated, all_of, some_of, Conditions, no_test, test, Instruction, assume, assign, Transition}

@@ -4,7 +4,7 @@
 -- sum = product { ("+" | "-") product }      product = factor { "*" factor }
 -- factor = number | name | "nondet" "(" ")" | "(" sum ")" | "-" factor
 use Rattle.std.specs.Prelude.{ℕ, suc, pos, List, [], ◌∷◌, IsTrue}
-use Rattle.tv_tokens.specs.declared.token.TokenKind.TheVariants.{LeftRound, RightRound, Plus, Minus, Star}
+use Rattle.tv_language.specs.declared.token.TokenKind.TheVariants.{LeftRound, RightRound, Plus, Minus, Star}
 use Rattle.tv_program.specs.Trees as trees
 use Rattle.tv_program.specs.Trees.{Expression, Expressions, part}
 use Rattle.tv_program.specs.Views.{parts_of}

@@ -1,8 +1,8 @@
 ghost use Rattle.std.specs.Prelude.{◌≡◌, ◌^◌, ◌<◌, ◌≤◌, MatchOption, ℤ, pos};
-ghost use Rattle.tv_tokens.specs.Numbers.{value_of_digits};
+ghost use Rattle.tv_language.specs.Numbers.{value_of_digits};
 ghost use Rattle.tv_language.specs.Symbols.{lexeme, is_name, is_label, is_colon};
 
-use tv_tokens::{Token, TokenKind};
+use crate::{Token, TokenKind};
 
 /// The bytes of a token of the text.
 #[inline(always)]

@@ -2,7 +2,7 @@ ghost use Rattle.std.specs.Prelude.{◌≡◌, ◌<◌, ◌⊎◌, IfSome, IsTru
 ghost use Rattle.tv_program.specs.Words.{number_of};
 
 use tv_program::Names;
-use tv_tokens::is_word;
+use crate::is_word;
 
 /// The numbers that were come by last, the latest first: words often stand near each other. Any other numbers do as well, in more time.
 #[derive(Clone, Copy)]

@@ -1,7 +1,7 @@
 use crate::{Recent, behind, find_near, is_colon, is_label, is_name, number_of, word_of};
 use std::test::Fail;
 use tv_program::Names;
-use tv_tokens::{Token, TokenKind};
+use crate::{Token, TokenKind};
 
 #[test]
 fn words_are_the_bytes_of_tokens(rt: HostRuntime) -> Result<(), Fail> {

@@ -2,9 +2,9 @@
 use Rattle.std.proofs.Common.{◌≡◌, ℕ, zero, suc, ◌+◌, ◌≤◌, Bool, true, false, List, [], ◌∷◌, ◌++◌, length, take, drop, Option, Some, None, Result, Ok, Err, IfOk, refl, ap, sym, subst, ◌∙◌, length-append, arith}
 use Rattle.std.specs.Prelude.{nat_le, ◌||◌, IsSome, IfErr, MatchResult}
 use Rattle.std.proofs.lemmas.Bool.Decides.{nat_tests}
-use Rattle.tv_tokens.specs.declared.token.Token.{Token}
-use Rattle.tv_tokens.specs.Tokens.{IsTokens}
-use Rattle.tv_tokens.proofs.OneList.{one_list}
+use Rattle.tv_language.specs.declared.token.Token.{Token}
+use Rattle.tv_language.specs.Tokens.{IsTokens}
+use Rattle.tv_language.proofs.OneList.{one_list}
 use Rattle.tv_program.specs.declared.program.Program.{Program}
 use Rattle.tv_program.specs.Programs.{system_of}
 use Rattle.tv_program.specs.Systems.{System, IsLimited}

@@ -1,8 +1,8 @@
 -- A grammar of programs with fewer kinds of fault asks less.
 use Rattle.std.proofs.Common.{◌≡◌, ℕ, suc, Bool, true, false, List, [], ◌∷◌, ◌++◌, refl, arith}
 use Rattle.std.specs.Prelude.{◌&&◌}
-use Rattle.tv_tokens.specs.declared.token.TokenKind.{TokenKind}
-use Rattle.tv_tokens.specs.declared.token.TokenKind.TheVariants as kinds
+use Rattle.tv_language.specs.declared.token.TokenKind.{TokenKind}
+use Rattle.tv_language.specs.declared.token.TokenKind.TheVariants as kinds
 use Rattle.tv_program.specs.Trees.{Instruction, assume, assign}
 use Rattle.tv_language.specs.Symbols.{name, label, fixed, is_colon}
 use Rattle.tv_grammar.specs.Langs.{unit, then, mapped, stop, headed, turns}

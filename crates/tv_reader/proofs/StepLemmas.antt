@@ -3,10 +3,10 @@ use Rattle.std.proofs.Common.{◌≡◌, ℕ, suc, ◌+◌, ◌-◌, ◌^◌, �
 use Rattle.std.proofs.lemmas.List.{drop-drop, length-drop, append_cancel_right}
 use Rattle.std.proofs.lemmas.Bool.Decides.{nat_tests}
 use Rattle.std.specs.Prelude.{is_some, nat_lt, nat_le, ◌&&◌, ◌||◌, not}
-use Rattle.tv_tokens.specs.declared.token.TokenKind.{TokenKind}
-use Rattle.tv_tokens.specs.declared.token.TokenKind.TheVariants as kinds
-use Rattle.tv_tokens.specs.declared.token.Token.{Token}
-use Rattle.tv_tokens.specs.Numbers.{value_of_digits}
+use Rattle.tv_language.specs.declared.token.TokenKind.{TokenKind}
+use Rattle.tv_language.specs.declared.token.TokenKind.TheVariants as kinds
+use Rattle.tv_language.specs.declared.token.Token.{Token}
+use Rattle.tv_language.specs.Numbers.{value_of_digits}
 use Rattle.tv_program.specs.Words.{Word, number_of, with_new}
 use Rattle.tv_language.specs.Symbols as symbols
 use Rattle.tv_language.specs.Symbols.{Symbol, name, drawn, fixed, lexeme, Lexeme, lexemes, Vocabulary, is_colon, variable_words, variable_by}

@@ -4,16 +4,16 @@ use Rattle.std.specs.Prelude.{codes, slice_index, take, not, ◌&&◌, ◌==◌,
 use Rattle.std.specs.List.{prefix_len}
 use Rattle.std.specs.Char.{is_ascii_digit}
 use Rattle.std.specs.Str.{bytes_eq}
-use Rattle.tv_tokens.specs.declared.token.TokenKind.{TokenKind}
-use Rattle.tv_tokens.specs.declared.token.TokenKind.TheVariants as kinds
-use Rattle.tv_tokens.specs.declared.token.Token.{Token}
-use Rattle.tv_tokens.specs.declared.front.Front.{Front}
-use Rattle.tv_tokens.specs.declared.front.Front.TheVariants as fronts
-use Rattle.tv_tokens.specs.Gaps.{gap_of}
-use Rattle.tv_tokens.specs.Numbers.{value_of_digits}
-use Rattle.tv_tokens.specs.WordTexts.{begins_name, continues_name, word_kind, command_kind}
-use Rattle.tv_tokens.specs.Fronts.{span, section, word_front, single_front, symbol_front, solid_front, gap_or, front_of}
-use Rattle.tv_tokens.specs.Tokens.{IsTokens, end, gap, solid, unread}
+use Rattle.tv_language.specs.declared.token.TokenKind.{TokenKind}
+use Rattle.tv_language.specs.declared.token.TokenKind.TheVariants as kinds
+use Rattle.tv_language.specs.declared.token.Token.{Token}
+use Rattle.tv_language.specs.declared.front.Front.{Front}
+use Rattle.tv_language.specs.declared.front.Front.TheVariants as fronts
+use Rattle.tv_language.specs.Gaps.{gap_of}
+use Rattle.tv_language.specs.Numbers.{value_of_digits}
+use Rattle.tv_language.specs.WordTexts.{begins_name, continues_name, word_kind, command_kind}
+use Rattle.tv_language.specs.Fronts.{span, section, word_front, single_front, symbol_front, solid_front, gap_or, front_of}
+use Rattle.tv_language.specs.Tokens.{IsTokens, end, gap, solid, unread}
 use Rattle.tv_reading.proofs.LinearLemmas.{and_both}
 use Rattle.tv_reader.specs.Readers.{is_last, is_closed}
 

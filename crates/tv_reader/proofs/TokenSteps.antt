@@ -1,9 +1,9 @@
 -- What single tokens do to the grammar.
 use Rattle.std.proofs.Common.{◌≡◌, ℕ, ◌^◌, Bool, true, false, cond, List, [], ◌∷◌, Option, Some, None, ◌⊎◌, inl, inr, refl, ap, sym, ◌∙◌}
 use Rattle.std.specs.Prelude.{nat_lt}
-use Rattle.tv_tokens.specs.declared.token.TokenKind.{TokenKind}
-use Rattle.tv_tokens.specs.declared.token.TokenKind.TheVariants as kinds
-use Rattle.tv_tokens.specs.Numbers.{value_of_digits}
+use Rattle.tv_language.specs.declared.token.TokenKind.{TokenKind}
+use Rattle.tv_language.specs.declared.token.TokenKind.TheVariants as kinds
+use Rattle.tv_language.specs.Numbers.{value_of_digits}
 use Rattle.tv_program.specs.Words.{Word, number_of}
 use Rattle.tv_language.specs.Symbols.{Symbol, number, name, label, drawn, fixed, Vocabulary}
 use Rattle.tv_grammar.specs.Reads.{fault, next}

@@ -3,9 +3,9 @@ use Rattle.std.proofs.Common.{◌≡◌, ℕ, suc, ◌^◌, ◌<◌, ◌≤◌, 
 use Rattle.std.proofs.lemmas.Bool.Decides.{nat_tests}
 use Rattle.std.specs.Prelude.{is_some, nat_lt, nat_le, ◌&&◌}
 use Rattle.std.specs.List.{list_all}
-use Rattle.tv_tokens.specs.declared.token.TokenKind.{TokenKind}
-use Rattle.tv_tokens.specs.declared.token.TokenKind.TheVariants as kinds
-use Rattle.tv_tokens.specs.Numbers.{value_of_digits}
+use Rattle.tv_language.specs.declared.token.TokenKind.{TokenKind}
+use Rattle.tv_language.specs.declared.token.TokenKind.TheVariants as kinds
+use Rattle.tv_language.specs.Numbers.{value_of_digits}
 use Rattle.tv_program.specs.Words.{Word, number_of}
 use Rattle.tv_program.specs.Trees.{Transition}
 use Rattle.tv_program.specs.Limits.{transition_fits}

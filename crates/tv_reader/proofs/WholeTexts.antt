@@ -4,8 +4,8 @@ use Rattle.std.proofs.lemmas.Bool.Decides.{nat_tests}
 use Rattle.std.proofs.lemmas.Slice.Eq.{bytes_eq-Decides}
 use Rattle.std.specs.Prelude.{is_some, nat_le, ◌||◌}
 use Rattle.std.specs.Str.{bytes_eq}
-use Rattle.tv_tokens.specs.declared.token.Token.{Token}
-use Rattle.tv_tokens.specs.Tokens.{IsTokens}
+use Rattle.tv_language.specs.declared.token.Token.{Token}
+use Rattle.tv_language.specs.Tokens.{IsTokens}
 use Rattle.tv_program.specs.Words.{Word, number_of, words_with, with_new}
 use Rattle.tv_program.specs.Systems.{System, IsLimited}
 use Rattle.tv_reading.proofs.LinearLemmas.{and_left, and_right, and_both}

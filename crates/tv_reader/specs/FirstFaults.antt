@@ -1,9 +1,9 @@
 -- The first fault of a text that is no program.
 use Rattle.std.specs.Prelude.{◌≡◌, ℕ, Bool, true, false, List, [], ◌∷◌, ◌++◌, length, drop, IsSome, Result, Ok, Err}
-use Rattle.tv_tokens.specs.declared.token.TokenKind.{TokenKind}
-use Rattle.tv_tokens.specs.declared.token.TokenKind.TheVariants.{From, Nondet}
-use Rattle.tv_tokens.specs.declared.token.Token.{Token}
-use Rattle.tv_tokens.specs.Tokens.{IsTokens}
+use Rattle.tv_language.specs.declared.token.TokenKind.{TokenKind}
+use Rattle.tv_language.specs.declared.token.TokenKind.TheVariants.{From, Nondet}
+use Rattle.tv_language.specs.declared.token.Token.{Token}
+use Rattle.tv_language.specs.Tokens.{IsTokens}
 use Rattle.tv_program.specs.declared.program.Program.{Program}
 use Rattle.tv_program.specs.Systems.{System, IsLimited}
 use Rattle.tv_program.specs.Programs.{system_of}

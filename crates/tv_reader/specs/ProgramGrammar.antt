@@ -1,7 +1,7 @@
 -- The grammar of programs as it is read from left to right. Faults of the kinds that are not kept are none.
 use Rattle.std.specs.Prelude.{ℕ, suc, Bool, true, false, not, ◌&&◌, List, [], ◌∷◌, ◌++◌, length, nat_lt}
-use Rattle.tv_tokens.specs.declared.token.TokenKind.{TokenKind}
-use Rattle.tv_tokens.specs.declared.token.TokenKind.TheVariants as kinds
+use Rattle.tv_language.specs.declared.token.TokenKind.{TokenKind}
+use Rattle.tv_language.specs.declared.token.TokenKind.TheVariants as kinds
 use Rattle.tv_program.specs.Trees.{Instruction, assume, assign, Transition}
 use Rattle.tv_language.specs.Symbols.{name, label, fixed, is_colon}
 use Rattle.tv_language.specs.Programs.{edge_of}

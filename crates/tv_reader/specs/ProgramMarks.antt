@@ -1,9 +1,9 @@
 -- The tokens of a program as they are read: a name, a label or a draw that passes a limit is marked as refused.
 use Rattle.std.specs.Prelude.{ℕ, Bool, true, false, List, [], ◌∷◌, take, Option, None, Some}
-use Rattle.tv_tokens.specs.declared.token.TokenKind.{TokenKind}
-use Rattle.tv_tokens.specs.declared.token.TokenKind.TheVariants.{Start, From, Name, Number, Nondet}
-use Rattle.tv_tokens.specs.declared.token.Token.{Token}
-use Rattle.tv_tokens.specs.Numbers.{value_of_digits}
+use Rattle.tv_language.specs.declared.token.TokenKind.{TokenKind}
+use Rattle.tv_language.specs.declared.token.TokenKind.TheVariants.{Start, From, Name, Number, Nondet}
+use Rattle.tv_language.specs.declared.token.Token.{Token}
+use Rattle.tv_language.specs.Numbers.{value_of_digits}
 use Rattle.tv_program.specs.Words.{Word, number_of}
 use Rattle.tv_language.specs.Symbols.{Symbol, name, label, fixed, Lexeme, lexemes, Vocabulary, is_colon, variable_words, label_words, by_first_place}
 use Rattle.tv_reading.specs.Marks as marks

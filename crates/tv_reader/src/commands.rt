@@ -1,5 +1,5 @@
 ghost use Rattle.std.specs.Prelude.{◌≡◌, ◌≤◌, ◌<◌, ◌+◌, ◌∷◌, ◌++◌, [], ℕ, List, length, true, false, Some, None, IfOk, OnOk, MatchOption, IfSome, IsTrue, ◌⊎◌};
-ghost use Rattle.tv_tokens.specs.declared.token.TokenKind.TheVariants as kinds;
+ghost use Rattle.tv_language.specs.declared.token.TokenKind.TheVariants as kinds;
 ghost use Rattle.tv_program.specs.Trees.{Instruction, assign};
 ghost use Rattle.tv_program.specs.Views.{instruction, transition};
 ghost use Rattle.tv_program.specs.Limits.{instruction_fits, transition_fits};
@@ -21,7 +21,7 @@ use crate::reason::{Reason, Turn};
 use std::alloc::AllocFailed;
 use tv_language::word_of;
 use tv_program::{Command, Edge};
-use tv_tokens::TokenKind;
+use tv_language::TokenKind;
 
 /// There is room for so many commands before their list grows.
 const ROOM: usize = 32;

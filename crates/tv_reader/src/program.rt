@@ -14,7 +14,7 @@ use crate::reader::Reader;
 use crate::reason::{Reason, Turn};
 use std::alloc::AllocFailed;
 use tv_program::Edge;
-use tv_tokens::TokenKind;
+use tv_language::TokenKind;
 
 /// A program has at most so many edges.
 const MOST_EDGES: usize = 4096;

@@ -14,7 +14,7 @@ use crate::words::{Known, known_words};
 use std::alloc::Global;
 use tv_program::Program;
 use tv_reading::Reading;
-use tv_tokens::scan;
+use tv_language::scan;
 
 /// The program of all items, if one of them is START.
 fn finished(reader: Reader, items: ItemsRead) -> Result<Program, ReadFault>

@@ -5,7 +5,7 @@ ghost use Rattle.tv_language.specs.Symbols.{is_colon, fixed, name};
 ghost use Rattle.tv_language.specs.Programs.{draws_in, draws_tested};
 ghost use Rattle.tv_grammar.specs.Reads.{next};
 ghost use Rattle.tv_grammar.specs.Langs.{headed};
-ghost use Rattle.tv_tokens.specs.declared.token.TokenKind.TheVariants as kinds;
+ghost use Rattle.tv_language.specs.declared.token.TokenKind.TheVariants as kinds;
 ghost use Rattle.tv_reading.specs.Marks as marks;
 ghost use Rattle.tv_reading.specs.Marks.{plain};
 ghost use Rattle.tv_reading.specs.SumGrammar.{every, sum_at};
@@ -20,7 +20,7 @@ use std::alloc::Global;
 use tv_language::{is_colon, word_of};
 use tv_program::{Cond, Expr, Names};
 use tv_reading::{PartFault, Reading};
-use tv_tokens::TokenKind;
+use tv_language::TokenKind;
 
 /// What reads a program from its tokens. The names of its variables are in the reading, and the labels beside it.
 #[derive(Drop)]

@@ -1,7 +1,7 @@
 -- Conditions are read exactly.
 use Rattle.std.proofs.Common.{◌≡◌, ℕ, zero, suc, Bool, true, false, List, [], ◌∷◌, ◌++◌, Option, Some, None, refl, ap, ◌∙◌}
-use Rattle.tv_tokens.specs.declared.token.TokenKind.{TokenKind}
-use Rattle.tv_tokens.specs.declared.token.TokenKind.TheVariants as kinds
+use Rattle.tv_language.specs.declared.token.TokenKind.{TokenKind}
+use Rattle.tv_language.specs.declared.token.TokenKind.TheVariants as kinds
 use Rattle.tv_program.specs.declared.tree.Relation.{Relation}
 use Rattle.tv_program.specs.Trees as trees
 use Rattle.tv_program.specs.Trees.{Expression, Condition, truth, compare, negated, all_of, some_of}

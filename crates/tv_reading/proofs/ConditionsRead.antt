@@ -1,8 +1,8 @@
 -- Each condition is read.
 use Rattle.std.proofs.Common.{◌≡◌, ℕ, zero, suc, Bool, true, false, List, [], ◌∷◌, ◌++◌, Option, Some, None, refl, sym, ap, subst, ◌∙◌, append_assoc}
 use Rattle.std.proofs.lemmas.List.{append-nil}
-use Rattle.tv_tokens.specs.declared.token.TokenKind.{TokenKind}
-use Rattle.tv_tokens.specs.declared.token.TokenKind.TheVariants as kinds
+use Rattle.tv_language.specs.declared.token.TokenKind.{TokenKind}
+use Rattle.tv_language.specs.declared.token.TokenKind.TheVariants as kinds
 use Rattle.tv_program.specs.declared.tree.Relation.{Relation}
 use Rattle.tv_program.specs.Trees.{Expression, Condition, truth, compare, negated, all_of, some_of}
 use Rattle.tv_language.specs.Symbols.{Symbol, fixed}

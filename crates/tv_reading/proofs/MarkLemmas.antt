@@ -2,7 +2,7 @@
 use Rattle.std.proofs.Common.{◌≡◌, ℕ, ◌+◌, Bool, List, [], ◌∷◌, drop, Some, None, refl, sym, ap, subst, ◌∙◌}
 use Rattle.std.proofs.lemmas.List.{drop-drop}
 use Rattle.tv_grammar.specs.Reads.{next}
-use Rattle.tv_tokens.specs.declared.token.Token.{Token}
+use Rattle.tv_language.specs.declared.token.Token.{Token}
 use Rattle.tv_program.specs.Words.{Word}
 use Rattle.tv_language.specs.Symbols.{lexeme}
 use Rattle.tv_reading.specs.Marks.{mark_by, names_behind, draws_behind, marks_from, Stand, left, past, first, Passes, pass}

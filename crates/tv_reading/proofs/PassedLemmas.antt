@@ -5,10 +5,10 @@ use Rattle.std.proofs.lemmas.Bool.Decides.{nat_tests}
 use Rattle.std.specs.Prelude.{nat_lt}
 use Rattle.std.specs.List.{position, position_or_len}
 use Rattle.std.specs.Str.{bytes_eq}
-use Rattle.tv_tokens.specs.declared.token.TokenKind.{TokenKind}
-use Rattle.tv_tokens.specs.declared.token.TokenKind.TheVariants as kinds
-use Rattle.tv_tokens.specs.declared.token.Token.{Token}
-use Rattle.tv_tokens.specs.Numbers.{value_of_digits}
+use Rattle.tv_language.specs.declared.token.TokenKind.{TokenKind}
+use Rattle.tv_language.specs.declared.token.TokenKind.TheVariants as kinds
+use Rattle.tv_language.specs.declared.token.Token.{Token}
+use Rattle.tv_language.specs.Numbers.{value_of_digits}
 use Rattle.tv_program.specs.Words.{Word, number_of, with_new, words_with}
 use Rattle.tv_language.specs.Symbols.{Symbol, number, name, label, drawn, fixed, lexeme}
 use Rattle.tv_grammar.specs.Reads.{next}

@@ -1,7 +1,7 @@
 -- Sums are read exactly, and where they go on.
 use Rattle.std.proofs.Common.{◌≡◌, ℕ, zero, suc, Bool, true, false, List, [], ◌∷◌, ◌++◌, Option, Some, refl, ap, ◌∙◌, pos}
 use Rattle.std.specs.Prelude.{◌&&◌, ◌||◌}
-use Rattle.tv_tokens.specs.declared.token.TokenKind.TheVariants as kinds
+use Rattle.tv_language.specs.declared.token.TokenKind.TheVariants as kinds
 use Rattle.tv_program.specs.Trees as trees
 use Rattle.tv_program.specs.Trees.{Expression}
 use Rattle.tv_program.specs.Views.{parts_of}

@@ -2,7 +2,7 @@
 use Rattle.std.proofs.Common.{◌≡◌, ℕ, zero, suc, Bool, true, false, List, [], ◌∷◌, ◌++◌, refl, sym, ap, subst, ◌∙◌, append_assoc, pos}
 use Rattle.std.proofs.lemmas.List.{append-nil}
 use Rattle.std.specs.Prelude.{◌&&◌}
-use Rattle.tv_tokens.specs.declared.token.TokenKind.TheVariants as kinds
+use Rattle.tv_language.specs.declared.token.TokenKind.TheVariants as kinds
 use Rattle.tv_program.specs.Trees as trees
 use Rattle.tv_program.specs.Trees.{Expression}
 use Rattle.tv_program.specs.Views.{parts_of}

@@ -33,7 +33,7 @@ use Rattle.tv_reading.proofs.LongestTexts.{text_found, text_only}
 use Rattle.tv_reading.proofs.FitLemmas.{all_fit, sum_fits, condition_fit, sum_shallow, condition_shallow}
 use Rattle.tv_reading.proofs.PassedLemmas.{passed_fit, is_less}
 use Rattle.tv_reading.proofs.LinearLemmas.{and_left}
-use Rattle.tv_tokens.specs.declared.token.TokenKind.TheVariants as kinds
+use Rattle.tv_language.specs.declared.token.TokenKind.TheVariants as kinds
 
 module _ {X Y : Type 0} (view : X → Y) (now : Stand) (read : Result (Y × List Mark) (Fault Mark Kind)) where
   pub on_value : (P : Y → List Mark → Type 0) → ((y : Y) (r : List Mark) → read ≡ Ok (y, r) → P y r) → (result : Result X PartFault) → IsRead view result now read → IfOk result (λ x. P (view x) (left now))

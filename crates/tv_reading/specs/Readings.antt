@@ -1,7 +1,7 @@
 -- What a reading is, and what it answers.
 use Rattle.std.specs.Prelude.{◌≡◌, ℕ, ◌+◌, ◌-◌, ◌≤◌, Bool, List, length, drop, Option, Some, None, nat_lt, Result, Ok, Err, cond}
-use Rattle.tv_tokens.specs.declared.token.TokenKind.TheVariants.{Name, End}
-use Rattle.tv_tokens.specs.declared.token.Token.{Token}
+use Rattle.tv_language.specs.declared.token.TokenKind.TheVariants.{Name, End}
+use Rattle.tv_language.specs.declared.token.Token.{Token}
 use Rattle.tv_program.specs.Words.{Word}
 use Rattle.tv_grammar.specs.Reads.{Fault, fault}
 use Rattle.tv_grammar.specs.Langs.{unit, stop, go, headed}

@@ -1,6 +1,6 @@
 -- The grammar of sums as it is read from left to right. Faults of the kinds that are not kept are none.
 use Rattle.std.specs.Prelude.{ℕ, zero, suc, pos, Bool, true, false, ◌&&◌, List, [], ◌∷◌, ◌++◌, Option, Some}
-use Rattle.tv_tokens.specs.declared.token.TokenKind.TheVariants as kinds
+use Rattle.tv_language.specs.declared.token.TokenKind.TheVariants as kinds
 use Rattle.tv_program.specs.Trees as trees
 use Rattle.tv_program.specs.Trees.{Expression}
 use Rattle.tv_program.specs.Views.{parts_of}

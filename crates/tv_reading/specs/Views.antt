@@ -1,7 +1,7 @@
 -- What the program's values stand for.
 use Rattle.std.specs.Prelude.{List, map, Option, Some, Vec}
-use Rattle.tv_tokens.specs.declared.token.TokenKind.{TokenKind}
-use Rattle.tv_tokens.specs.declared.token.TokenKind.TheVariants as kinds
+use Rattle.tv_language.specs.declared.token.TokenKind.{TokenKind}
+use Rattle.tv_language.specs.declared.token.TokenKind.TheVariants as kinds
 use Rattle.tv_language.specs.Symbols.{number, name, drawn, fixed}
 use Rattle.tv_reading.specs.Marks.{TooMany, UnknownName, Mark, plain, refused, Stand, Passes}
 use Rattle.std.specs.Global.{Global}

@@ -18,7 +18,7 @@ use crate::source::Source;
 use crate::sums::{close, factor, product_from, sum, sum_from};
 use crate::trees::Made;
 use tv_program::{Cond, Relation};
-use tv_tokens::TokenKind;
+use tv_language::TokenKind;
 
 /// The relation that a token stands for.
 fn relation_of(kind: TokenKind) -> Option<Relation>

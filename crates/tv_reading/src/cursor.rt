@@ -12,7 +12,7 @@ use crate::source::Source;
 use std::alloc::AllocError;
 use tv_language::{Recent, behind, find_near, word_of};
 use tv_program::Names;
-use tv_tokens::{Token, TokenKind};
+use tv_language::{Token, TokenKind};
 
 /// How many tokens are taken, the names and draws up to there, and the names that were taken last.
 #[derive(Drop)]

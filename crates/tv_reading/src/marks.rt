@@ -1,10 +1,10 @@
 ghost use Rattle.std.specs.Prelude.{◌≡◌, ◌||◌, codes};
-ghost use Rattle.tv_tokens.specs.Numbers.{value_of_digits};
+ghost use Rattle.tv_language.specs.Numbers.{value_of_digits};
 ghost use Rattle.tv_reading.specs.Marks.{new_name, known_name, is_formula_word, draw_mark, number_mark};
 ghost use Rattle.tv_reading.specs.Views.{mark_of};
 
 use tv_language::number_of;
-use tv_tokens::{TokenKind, is_word};
+use tv_language::{TokenKind, is_word};
 
 /// A token as the grammar sees it: a name and a draw have a number, or are refused.
 #[derive(Clone, Copy)]

@@ -1,5 +1,5 @@
 ghost use Rattle.std.specs.Prelude.{◌≡◌, ◌+◌, ◌-◌, ◌^◌, ◌<◌, ◌≤◌, ◌≢◌, ℕ, Err, List, length, IfOk, IsTrue, cond, true, false};
-ghost use Rattle.tv_tokens.specs.Tokens.{IsTokens};
+ghost use Rattle.tv_language.specs.Tokens.{IsTokens};
 ghost use Rattle.tv_program.specs.Trees.{Expression, Condition};
 ghost use Rattle.tv_program.specs.Views.{expression, condition};
 ghost use Rattle.tv_program.specs.Limits.{expression_fits, expression_depth, condition_fits, condition_depth};
@@ -25,7 +25,7 @@ use std::alloc::Global;
 use std::marker::Model;
 use tv_language::Recent;
 use tv_program::{Cond, Expr, Names};
-use tv_tokens::{Token, TokenKind};
+use tv_language::{Token, TokenKind};
 
 /// How deep brackets and signs may nest.
 const MOST_LEVELS: u32 = 64;
@@ -97,7 +97,7 @@ fn fault_at(reason: Reason, at: u32) -> PartFault
 }
 
 impl<'a> Reading<'a> {
-    /// A reading at the front of a text, told its tokens by `tv_tokens::scan`.
+    /// A reading at the front of a text, told its tokens by `tv_language::scan`.
     ///
     /// Where `grows` is true, a name that is not known is added, up to 512 of them, and there may be draws. Else no name is added,
     /// `nondet` stands in no text, and `at` and `term` are no names.

@@ -1,7 +1,7 @@
 ghost use Rattle.std.specs.Prelude.{◌^◌, ◌<◌, length};
 
 use std::alloc::Global;
-use tv_tokens::Token;
+use tv_language::Token;
 
 /// A text and its tokens, whether names are added, and the level that brackets count from.
 #[derive(Drop)]

@@ -16,7 +16,7 @@ use crate::source::Source;
 use crate::trees::{
     Made, Run, add, draw_of, minus_of, number_of, product_of, run_of, sum_of, variable_of,
 };
-use tv_tokens::TokenKind;
+use tv_language::TokenKind;
 
 /// `)` behind what is read.
 pub fn close<T: Drop>(source: &Source, cursor: &mut Cursor, value: T) -> Result<T, Reason>

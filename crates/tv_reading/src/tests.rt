@@ -6,7 +6,7 @@ use crate::{PartFault, Reading};
 use std::alloc::{AllocError, Global};
 use std::test::Fail;
 use tv_program::{Expr, Names};
-use tv_tokens::{TokenKind, scan};
+use tv_language::{TokenKind, scan};
 
 /// How many tokens a condition has at the front of a text where names are added.
 fn condition_taken(alloc: Global, text: &[u8]) -> Result<u32, PartFault>

@@ -5,7 +5,7 @@ use tv_cases::cases;
 use tv_cert::{Claim, Kind, Mark, Marked, Node, Pieces, Proof, Verdict};
 use tv_cert_spelling::write_certificate;
 use tv_check::Failing;
-use tv_formula_text::read_formula;
+use tv_formula_reader::read_formula;
 use tv_linear::{Choice, ChoiceTree, Cover, CoverTree, Row};
 use tv_reader::read_program;
 use tv_shape::Certificate;

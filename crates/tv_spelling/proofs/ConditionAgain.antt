@@ -2,8 +2,8 @@
 use Rattle.std.proofs.Common.{◌≡◌, ℕ, ◌≤◌, false, List, [], ◌∷◌, length, sym, subst, ◌∙◌, arith}
 use Rattle.std.proofs.lemmas.List.{append-nil}
 use Rattle.std.specs.Prelude.{IsTrue}
-use Rattle.tv_tokens.specs.declared.token.TokenKind.TheVariants.{End}
-use Rattle.tv_tokens.specs.Tokens.{IsTokens}
+use Rattle.tv_language.specs.declared.token.TokenKind.TheVariants.{End}
+use Rattle.tv_language.specs.Tokens.{IsTokens}
 use Rattle.tv_program.specs.Words.{Word}
 use Rattle.tv_program.specs.Trees.{Condition}
 use Rattle.tv_program.specs.Limits.{condition_fits}

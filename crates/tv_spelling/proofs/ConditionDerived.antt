@@ -1,7 +1,7 @@
 -- The symbols of the spelling are a condition that stands for the condition.
 use Rattle.std.proofs.Common.{◌≡◌, ℕ, zero, suc, ◌≤◌, Bool, true, false, List, [], ◌∷◌, length, max, refl, ap, subst, arith, Some}
 use Rattle.std.specs.Prelude.{◌||◌, not, IsTrue}
-use Rattle.tv_tokens.specs.declared.token.TokenKind.TheVariants.{RightRound}
+use Rattle.tv_language.specs.declared.token.TokenKind.TheVariants.{RightRound}
 use Rattle.tv_program.specs.declared.tree.Relation.{Relation}
 use Rattle.tv_program.specs.declared.tree.Relation.TheVariants.{Less, LessEqual, Greater, GreaterEqual, Equal, NotEqual}
 use Rattle.tv_program.specs.Trees.{Expression, Condition, truth, compare, negated, all_of, some_of, Conditions, no_test, test}

@@ -1,9 +1,9 @@
 -- What a reading found is found again in the text that is written of it.
 use Rattle.std.proofs.Common.{◌≡◌, ℕ, ◌-◌, ◌≤◌, Bool, true, false, cond, List, [], ◌∷◌, ◌++◌, map, drop, length, Ok, Some, refl, sym, ap, subst, ◌∙◌, arith}
 use Rattle.std.proofs.lemmas.List.{append-nil}
-use Rattle.tv_tokens.specs.declared.token.TokenKind.TheVariants.{End, Unread}
-use Rattle.tv_tokens.specs.declared.token.Token.{Token}
-use Rattle.tv_tokens.proofs.OneList.{one_list}
+use Rattle.tv_language.specs.declared.token.TokenKind.TheVariants.{End, Unread}
+use Rattle.tv_language.specs.declared.token.Token.{Token}
+use Rattle.tv_language.proofs.OneList.{one_list}
 use Rattle.tv_program.specs.Words.{Word}
 use Rattle.tv_program.specs.Trees.{Expression, Condition}
 use Rattle.tv_program.specs.Limits.{expression_fits, condition_fits}

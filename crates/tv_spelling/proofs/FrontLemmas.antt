@@ -7,13 +7,13 @@ use Rattle.std.specs.Fmt.{decimal}
 use Rattle.std.proofs.lemmas.Bool.Decides.{nat_tests}
 use Rattle.std.proofs.lemmas.Str.Parse.{IsNumeralModel, numerals_by_fold}
 use Rattle.std.proofs.lemmas.Fmt.{digits_decimal, digits_value-decimal}
-use Rattle.tv_tokens.specs.declared.token.TokenKind.{TokenKind}
-use Rattle.tv_tokens.specs.declared.token.TokenKind.TheVariants.{Name, Number}
-use Rattle.tv_tokens.specs.declared.front.Front.TheVariants as fronts
-use Rattle.tv_tokens.specs.Gaps.{gap_of, is_blank}
-use Rattle.tv_tokens.specs.Numbers.{value_of_digits}
-use Rattle.tv_tokens.specs.WordTexts.{begins_name, continues_name, word_kind}
-use Rattle.tv_tokens.specs.Fronts.{front_of, solid_front, word_front, number_front}
+use Rattle.tv_language.specs.declared.token.TokenKind.{TokenKind}
+use Rattle.tv_language.specs.declared.token.TokenKind.TheVariants.{Name, Number}
+use Rattle.tv_language.specs.declared.front.Front.TheVariants as fronts
+use Rattle.tv_language.specs.Gaps.{gap_of, is_blank}
+use Rattle.tv_language.specs.Numbers.{value_of_digits}
+use Rattle.tv_language.specs.WordTexts.{begins_name, continues_name, word_kind}
+use Rattle.tv_language.specs.Fronts.{front_of, solid_front, word_front, number_front}
 use Rattle.tv_spelling.specs.ReadAgain.{IsName}
 use Rattle.tv_spelling.proofs.Pieces.{taken}
 

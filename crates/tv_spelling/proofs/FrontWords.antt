@@ -6,17 +6,17 @@ use Rattle.std.specs.Str.{bytes_eq}
 use Rattle.std.specs.Prelude.{codes, slice_index, ◌&&◌, ◌||◌, ◌==◌, nat_le, if◌then◌else◌}
 use Rattle.std.specs.List.{prefix_len, list_all}
 use Rattle.std.specs.Char.{is_ascii_digit}
-use Rattle.tv_tokens.specs.declared.token.TokenKind.{TokenKind}
-use Rattle.tv_tokens.specs.declared.token.TokenKind.TheVariants.{Name, Number}
-use Rattle.tv_tokens.specs.declared.token.TokenKind.TheVariants as kinds
-use Rattle.tv_tokens.specs.declared.token.Token.{Token}
-use Rattle.tv_tokens.specs.declared.front.Front.{Front}
-use Rattle.tv_tokens.specs.declared.front.Front.TheVariants as fronts
-use Rattle.tv_tokens.specs.Gaps.{gap_of}
-use Rattle.tv_tokens.specs.Numbers.{value_of_digits}
-use Rattle.tv_tokens.specs.WordTexts.{begins_name, continues_name, word_kind, command_kind}
-use Rattle.tv_tokens.specs.Fronts.{front_of, gap_or, solid_front, word_front, number_front, symbol_front, single_front, section, span}
-use Rattle.tv_tokens.specs.Tokens.{IsTokens, end, gap, solid, unread}
+use Rattle.tv_language.specs.declared.token.TokenKind.{TokenKind}
+use Rattle.tv_language.specs.declared.token.TokenKind.TheVariants.{Name, Number}
+use Rattle.tv_language.specs.declared.token.TokenKind.TheVariants as kinds
+use Rattle.tv_language.specs.declared.token.Token.{Token}
+use Rattle.tv_language.specs.declared.front.Front.{Front}
+use Rattle.tv_language.specs.declared.front.Front.TheVariants as fronts
+use Rattle.tv_language.specs.Gaps.{gap_of}
+use Rattle.tv_language.specs.Numbers.{value_of_digits}
+use Rattle.tv_language.specs.WordTexts.{begins_name, continues_name, word_kind, command_kind}
+use Rattle.tv_language.specs.Fronts.{front_of, gap_or, solid_front, word_front, number_front, symbol_front, single_front, section, span}
+use Rattle.tv_language.specs.Tokens.{IsTokens, end, gap, solid, unread}
 use Rattle.tv_language.specs.Symbols.{Lexeme, lexemes, is_colon, variable_by, label_by, variable_words, label_words}
 use Rattle.tv_program.specs.Words.{Word}
 use Rattle.tv_spelling.specs.ReadAgain.{IsName}

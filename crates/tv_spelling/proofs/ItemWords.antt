@@ -1,7 +1,7 @@
 -- The variables and locations of a program's items are those of its edges, in order.
 use Rattle.std.proofs.Common.{◌≡◌, ℕ, List, [], ◌∷◌, Option, refl, ap, subst, ◌∙◌}
 use Rattle.std.specs.Prelude.{slice_index_or}
-use Rattle.tv_tokens.specs.declared.token.TokenKind.TheVariants.{To, Colon, Semicolon}
+use Rattle.tv_language.specs.declared.token.TokenKind.TheVariants.{To, Colon, Semicolon}
 use Rattle.tv_program.specs.Words.{Word, words_with, with_new}
 use Rattle.tv_program.specs.Trees.{Transition}
 use Rattle.tv_language.specs.Symbols.{Symbol, fixed, label, by_first_place}

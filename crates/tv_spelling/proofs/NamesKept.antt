@@ -1,10 +1,10 @@
 -- Where reading begins with names, there are names behind what it reads.
 use Rattle.std.proofs.Common.{◌≡◌, ℕ, zero, suc, Bool, true, false, cond, List, [], ◌∷◌, length, drop, Some, refl, sym, subst, arith}
 use Rattle.std.specs.Prelude.{slice_index_or, EachIndex, nat_lt}
-use Rattle.tv_tokens.specs.declared.token.TokenKind.{TokenKind}
-use Rattle.tv_tokens.specs.declared.token.TokenKind.TheVariants.{Name}
-use Rattle.tv_tokens.specs.declared.token.Token.{Token}
-use Rattle.tv_tokens.specs.Tokens.{IsTokens}
+use Rattle.tv_language.specs.declared.token.TokenKind.{TokenKind}
+use Rattle.tv_language.specs.declared.token.TokenKind.TheVariants.{Name}
+use Rattle.tv_language.specs.declared.token.Token.{Token}
+use Rattle.tv_language.specs.Tokens.{IsTokens}
 use Rattle.tv_program.specs.Words.{Word, words_with}
 use Rattle.tv_language.specs.Symbols.{lexeme, lexemes}
 use Rattle.tv_language.proofs.PlaceOfWords.{Each, each_once, each_placed, each_index}

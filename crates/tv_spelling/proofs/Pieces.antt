@@ -1,13 +1,13 @@
 -- Texts as words, single spaces and line feeds: their bytes, their tokens and their symbols.
 use Rattle.std.proofs.Common.{◌≡◌, ℕ, ◌+◌, Bool, true, false, List, [], ◌∷◌, ◌++◌, length, take, drop, refl, sym, ap, ◌∙◌}
 use Rattle.std.proofs.lemmas.List.{drop-drop}
-use Rattle.tv_tokens.specs.declared.token.TokenKind.{TokenKind}
-use Rattle.tv_tokens.specs.declared.token.TokenKind.TheVariants.{LeftRound, RightRound, End}
-use Rattle.tv_tokens.specs.declared.token.Token.{Token}
-use Rattle.tv_tokens.specs.declared.front.Front.TheVariants as fronts
-use Rattle.tv_tokens.specs.Fronts.{front_of}
-use Rattle.tv_tokens.specs.WordTexts.{continues_name}
-use Rattle.tv_tokens.specs.Tokens.{token, IsTokens, end, gap, solid}
+use Rattle.tv_language.specs.declared.token.TokenKind.{TokenKind}
+use Rattle.tv_language.specs.declared.token.TokenKind.TheVariants.{LeftRound, RightRound, End}
+use Rattle.tv_language.specs.declared.token.Token.{Token}
+use Rattle.tv_language.specs.declared.front.Front.TheVariants as fronts
+use Rattle.tv_language.specs.Fronts.{front_of}
+use Rattle.tv_language.specs.WordTexts.{continues_name}
+use Rattle.tv_language.specs.Tokens.{token, IsTokens, end, gap, solid}
 use Rattle.tv_language.specs.Symbols.{Symbol, Vocabulary, lexemes, symbol_by, symbols_from, is_colon, draws_behind}
 use Rattle.std.specs.Prelude.{slice_index}
 

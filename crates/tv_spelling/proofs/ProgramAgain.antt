@@ -1,7 +1,7 @@
 -- The spelling of a program that has a text is a text of it, too.
 use Rattle.std.proofs.Common.{◌≡◌, ℕ, zero, suc, ◌<◌, false, List, [], ◌∷◌, length, refl, sym, ap, subst, ◌∙◌, arith}
 use Rattle.std.specs.Prelude.{slice_index_or}
-use Rattle.tv_tokens.specs.Tokens.{IsTokens}
+use Rattle.tv_language.specs.Tokens.{IsTokens}
 use Rattle.tv_program.specs.Words.{Word}
 use Rattle.tv_program.specs.Systems.{System}
 use Rattle.tv_language.specs.Symbols.{Symbol, Vocabulary, Lexeme, lexemes, symbols, variable_words, label_words, by_first_place}

@@ -2,9 +2,9 @@
 use Rattle.std.proofs.Common.{◌≡◌, ℕ, ◌<◌, Bool, true, false, List, [], ◌∷◌, length, Some, refl, sym, ap, subst}
 use Rattle.std.specs.Prelude.{◌&&◌, codes, IsTrue, slice_index, slice_index_or, nat_lt, nat_le}
 use Rattle.std.specs.List.{list_all}
-use Rattle.tv_tokens.specs.declared.token.TokenKind.{TokenKind}
-use Rattle.tv_tokens.specs.declared.token.TokenKind.TheVariants.{Start, From, To, Colon, Semicolon, Assign, RightRound}
-use Rattle.tv_tokens.specs.WordTexts.{begins_name}
+use Rattle.tv_language.specs.declared.token.TokenKind.{TokenKind}
+use Rattle.tv_language.specs.declared.token.TokenKind.TheVariants.{Start, From, To, Colon, Semicolon, Assign, RightRound}
+use Rattle.tv_language.specs.WordTexts.{begins_name}
 use Rattle.tv_program.specs.Words.{Word, number_of}
 use Rattle.tv_program.specs.Trees.{Instruction, assume, assign, Transition}
 use Rattle.tv_program.specs.Limits.{condition_fits, condition_depth, expression_fits, expression_depth, instruction_fits, transition_fits}

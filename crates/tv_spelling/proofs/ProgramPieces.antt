@@ -3,11 +3,11 @@ use Rattle.std.proofs.Common.{◌≡◌, ℕ, Bool, true, false, List, [], ◌�
 use Rattle.std.specs.Prelude.{◌&&◌, codes, IsTrue, slice_index, slice_index_or, EachIndex, nat_lt, nat_le}
 use Rattle.std.specs.List.{list_all}
 use Rattle.std.specs.Char.{is_ascii_digit}
-use Rattle.tv_tokens.specs.declared.token.TokenKind.{TokenKind}
-use Rattle.tv_tokens.specs.declared.token.TokenKind.TheVariants.{Start, From, To, Assume, Assign, Colon, Semicolon, LeftRound, RightRound, Name, Number}
-use Rattle.tv_tokens.specs.declared.front.Front.TheVariants as fronts
-use Rattle.tv_tokens.specs.Fronts.{front_of}
-use Rattle.tv_tokens.specs.WordTexts.{begins_name, continues_name}
+use Rattle.tv_language.specs.declared.token.TokenKind.{TokenKind}
+use Rattle.tv_language.specs.declared.token.TokenKind.TheVariants.{Start, From, To, Assume, Assign, Colon, Semicolon, LeftRound, RightRound, Name, Number}
+use Rattle.tv_language.specs.declared.front.Front.TheVariants as fronts
+use Rattle.tv_language.specs.Fronts.{front_of}
+use Rattle.tv_language.specs.WordTexts.{begins_name, continues_name}
 use Rattle.tv_program.specs.Words.{Word}
 use Rattle.tv_program.specs.Trees.{Instruction, assume, assign, Transition}
 use Rattle.tv_program.specs.Limits.{condition_fits, condition_depth, expression_fits, expression_depth, instruction_fits, transition_fits}

@@ -1,8 +1,8 @@
 -- A reading that begins without names, and one of the text that is written of what it found.
 use Rattle.std.proofs.Common.{◌≡◌, ℕ, true, List, [], ◌∷◌, Err, refl, sym, ap, subst, ◌∙◌, arith}
-use Rattle.tv_tokens.specs.declared.token.TokenKind.TheVariants.{End}
-use Rattle.tv_tokens.specs.declared.token.Token.{Token}
-use Rattle.tv_tokens.specs.Tokens.{IsTokens}
+use Rattle.tv_language.specs.declared.token.TokenKind.TheVariants.{End}
+use Rattle.tv_language.specs.declared.token.Token.{Token}
+use Rattle.tv_language.specs.Tokens.{IsTokens}
 use Rattle.tv_program.specs.Words.{Word}
 use Rattle.tv_program.specs.Trees.{Expression, Condition}
 use Rattle.tv_language.specs.Symbols.{fixed}

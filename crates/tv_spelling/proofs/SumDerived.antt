@@ -1,7 +1,7 @@
 -- The symbols of the spelling are a sum that stands for the expression.
 use Rattle.std.proofs.Common.{◌≡◌, ℕ, zero, suc, ◌<◌, ◌≤◌, ◌^◌, pos, negsuc, Bool, true, false, List, [], ◌∷◌, length, max, refl, sym, ap, subst, arith, Some, Option}
 use Rattle.std.specs.Prelude.{slice_index_or, ◌||◌, ◌&&◌, IsTrue}
-use Rattle.tv_tokens.specs.declared.token.TokenKind.TheVariants.{LeftRound, RightRound, Plus, Minus, Star}
+use Rattle.tv_language.specs.declared.token.TokenKind.TheVariants.{LeftRound, RightRound, Plus, Minus, Star}
 use Rattle.tv_program.specs.Words.{number_of}
 use Rattle.tv_program.specs.Trees.{Expression, number, variable, draw, minus, sum, product, Expressions, no_part, part}
 use Rattle.tv_program.specs.Views.{parts_of}

@@ -4,8 +4,8 @@ use Rattle.std.specs.Prelude.{slice_index_or, ◌||◌, ◌&&◌, codes, IsTrue,
 use Rattle.std.specs.Fmt.{decimal, signed_decimal}
 use Rattle.std.proofs.lemmas.Bool.Decides.{nat_tests}
 use Rattle.std.proofs.lemmas.Fmt.{decimal_nonempty}
-use Rattle.tv_tokens.specs.declared.token.TokenKind.TheVariants.{LeftRound, RightRound, Name, Number, Nondet, Plus, Minus, Star}
-use Rattle.tv_tokens.specs.Fronts.{front_of}
+use Rattle.tv_language.specs.declared.token.TokenKind.TheVariants.{LeftRound, RightRound, Name, Number, Nondet, Plus, Minus, Star}
+use Rattle.tv_language.specs.Fronts.{front_of}
 use Rattle.tv_program.specs.Words.{Word}
 use Rattle.tv_program.specs.Trees.{Expression, number, variable, draw, minus, sum, product, Expressions, no_part, part}
 use Rattle.tv_program.specs.Limits.{expression_fits, expressions_fit, is_linear_product}

@@ -1,8 +1,8 @@
 -- The words of a text are those of the variables and locations that its symbols name.
 use Rattle.std.proofs.Common.{◌≡◌, ℕ, Bool, true, false, List, [], ◌∷◌, Option, None, Some, refl, ap, sym, ◌∙◌}
 use Rattle.std.specs.Prelude.{slice_index_or}
-use Rattle.tv_tokens.specs.declared.token.TokenKind.{TokenKind}
-use Rattle.tv_tokens.specs.declared.token.TokenKind.TheVariants.{Name, Number, Unread}
+use Rattle.tv_language.specs.declared.token.TokenKind.{TokenKind}
+use Rattle.tv_language.specs.declared.token.TokenKind.TheVariants.{Name, Number, Unread}
 use Rattle.tv_program.specs.Words.{Word, number_of}
 use Rattle.tv_language.specs.Symbols.{Symbol, fixed, name, label, numbered, Vocabulary, Lexeme, symbol_by, symbols_from, is_colon, draws_behind, variable_by, label_by, variable_words, label_words}
 use Rattle.tv_language.proofs.PlaceOfWords.{found}

@@ -1,10 +1,10 @@
 -- When the text of a tree is read as that tree again.
 use Rattle.std.specs.Prelude.{◌≡◌, ℕ, suc, true, List, [], ◌∷◌, slice_index, slice_index_or, Bool, EachIndex, Some, IsTrue, length}
 use Rattle.std.specs.List.{list_all}
-use Rattle.tv_tokens.specs.declared.token.TokenKind.TheVariants.{Name, End}
-use Rattle.tv_tokens.specs.declared.token.Token.{Token}
-use Rattle.tv_tokens.specs.WordTexts.{begins_name, continues_name, word_kind}
-use Rattle.tv_tokens.specs.Tokens.{IsTokens}
+use Rattle.tv_language.specs.declared.token.TokenKind.TheVariants.{Name, End}
+use Rattle.tv_language.specs.declared.token.Token.{Token}
+use Rattle.tv_language.specs.WordTexts.{begins_name, continues_name, word_kind}
+use Rattle.tv_language.specs.Tokens.{IsTokens}
 use Rattle.tv_program.specs.Words.{Word, number_of}
 use Rattle.tv_program.specs.Trees.{Expression, number, variable, draw, minus, sum, product, Expressions, no_part, part, Condition, truth, compare, negated, all_of, some_of, Conditions, no_test, test}
 use Rattle.tv_program.specs.Limits.{expression_fits, condition_fits}

@@ -7,7 +7,7 @@ use std::alloc::Global;
 use std::test::Fail;
 use tv_program::{Cond, Expr, Names};
 use tv_reading::{PartFault, Reading};
-use tv_tokens::scan;
+use tv_language::scan;
 
 /// The failure of a call that fails for want of memory alone.
 fn no_memory(fault: PartFault) -> Fail

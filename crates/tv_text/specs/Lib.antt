@@ -1,3 +1,4 @@
+pub mod Headings
 pub mod Calls
 pub mod Memory
 pub mod Stream

@@ -7,6 +7,7 @@ mod mem_sink;
 mod mem_source;
 mod reader_source;
 mod reading;
+mod split;
 mod streams;
 mod writer_sink;
 mod writing;
@@ -15,9 +16,12 @@ pub use mem_sink::MemSink;
 pub use mem_source::MemSource;
 pub use reader_source::ReaderSource;
 pub use reading::{ReadError, read_all};
+pub use split::split_texts;
 pub use streams::{Failed, Sink, Source};
 pub use writer_sink::WriterSink;
 pub use writing::{WriteError, write_all};
 
 #[cfg(test)]
 mod tests;
+#[cfg(test)]
+mod given_tests;

@@ -1,6 +1,6 @@
 use Rattle.std.proofs.Common.{arith, false, subst}
-use Rattle.tv_cert_grammar.specs.declared.kind.LineKind.TheVariants.{Shape}
-use Rattle.tv_cert_grammar.specs.Choices.{choice}
+use Rattle.tv_cert_reader.specs.declared.kind.LineKind.TheVariants.{Shape}
+use Rattle.tv_cert_reader.specs.ChoiceGrammar.{choice}
 use Rattle.tv_cert_reader.specs.Reading.{FaultAt}
 use Rattle.tv_cert_reader.specs.Choices.{choosing_of}
 use Rattle.tv_cert_reader.proofs.ChoiceLemmas.{empty_stops}

@@ -1,6 +1,6 @@
 use Rattle.std.proofs.Common.{arith, false, subst}
-use Rattle.tv_cert_grammar.specs.declared.kind.LineKind.TheVariants.{Shape}
-use Rattle.tv_cert_grammar.specs.Covers.{cover}
+use Rattle.tv_cert_reader.specs.declared.kind.LineKind.TheVariants.{Shape}
+use Rattle.tv_cert_reader.specs.CoverGrammar.{cover}
 use Rattle.tv_cert_reader.specs.Reading.{FaultAt}
 use Rattle.tv_cert_reader.proofs.CoverLemmas.{empty_stops}
 use Rattle.tv_cert_reader.proofs.covers.empty_of.Goals as goal

@@ -13,7 +13,7 @@ use Rattle.tv_cert.specs.Statements.{stated}
 use Rattle.tv_shape.specs.Kinds.{kinds_stated}
 use Rattle.tv_shape.specs.Certificates.{IsOf}
 use Rattle.tv_shape.specs.declared.certificate.Certificate.{Certificate}
-use Rattle.tv_cert_text.specs.CertificateLines.{node_lines, certificate_lines}
+use Rattle.tv_cert_reader.specs.CertificateLines.{node_lines, certificate_lines}
 use Rattle.tv_cert_spelling.specs.Spelling.{spelled, all_spelled, lines_with, said_lines, at_lines}
 use Rattle.tv_cert_spelling.proofs.KindLines.{size_is_kinds, lines_again}
 use Rattle.tv_cert_spelling.proofs.Again.{written_again}

@@ -3,7 +3,7 @@ use Rattle.std.proofs.lemmas.Grind.{common_steps}
 use Rattle.std.specs.List.{flat_map}
 use Rattle.tv_cert.specs.Nodes.{size}
 use Rattle.tv_cert.proofs.NodeLemmas.{sizes_list, size_is, proofs_list}
-use Rattle.tv_cert_text.specs.CertificateLines.{piece_lines, proof_lines}
+use Rattle.tv_cert_reader.specs.CertificateLines.{piece_lines, proof_lines}
 use Rattle.tv_lines.specs.Lines.{formed}
 use Rattle.tv_lines.specs.declared.head.Head.TheVariants as heads
 use Rattle.tv_cert.specs.declared.node.Node.{out-Node}

@@ -1,5 +1,5 @@
 use Rattle.std.proofs.Common.{◌≡◌, ◌++◌, drop, map}
-use Rattle.tv_cert_text.specs.CertificateLines.{by_lines}
+use Rattle.tv_cert_reader.specs.CertificateLines.{by_lines}
 use Rattle.tv_cert_spelling.specs.Spelling.{all_spelled}
 use Rattle.tv_cert_spelling.proofs.parts.append_lists.Given as goal
 

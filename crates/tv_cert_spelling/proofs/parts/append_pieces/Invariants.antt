@@ -1,6 +1,6 @@
 use Rattle.std.proofs.Common.{◌≡◌, ◌++◌, drop}
 use Rattle.std.specs.List.{flat_map}
-use Rattle.tv_cert_text.specs.CertificateLines.{piece_lines}
+use Rattle.tv_cert_reader.specs.CertificateLines.{piece_lines}
 use Rattle.tv_cert_spelling.specs.Spelling.{all_spelled}
 use Rattle.tv_cert_spelling.proofs.parts.append_pieces.Given as goal
 

@@ -5,7 +5,7 @@ use Rattle.tv_cert.specs.declared.node.Marked.{Marked}
 use Rattle.tv_cert.specs.Listed.{pieces_list}
 use Rattle.tv_cert.specs.Said.{said_own}
 use Rattle.tv_cert.specs.Statements.{parts_of, part_at, count}
-use Rattle.tv_cert_grammar.specs.Nodes.{node}
+use Rattle.tv_cert_reader.specs.NodeGrammar.{node}
 use Rattle.tv_cert_reader.specs.Reading.{FailsBy, Takes}
 use Rattle.tv_cert_reader.specs.Regions.{IsRegion, region_lines, region_with}
 use Rattle.tv_cert_reader.proofs.ReadingLemmas.{at_exit}

@@ -4,7 +4,7 @@ use Rattle.tv_cases.specs.Systems.{cases_of}
 use Rattle.tv_cert.specs.AimViews.{aim_states}
 use Rattle.tv_cert.specs.Listed.{pieces_list}
 use Rattle.tv_cert.specs.Said.{said_own}
-use Rattle.tv_cert_grammar.proofs.CompleteDemands.{draw_free}
+use Rattle.tv_cert_reader.proofs.CompleteDemands.{draw_free}
 use Rattle.tv_check_text.proofs.PassedLemmas.{all_judged, judging_stopped, own_room}
 use Rattle.tv_check_text.proofs.own.judge_own.Goals as goal
 

@@ -1,5 +1,5 @@
 use Rattle.std.proofs.Common.{◌+◌, arith}
-use Rattle.tv_tokens.proofs.NumberLemmas.{value-take, value-take_more}
+use Rattle.tv_language.proofs.NumberLemmas.{value-take, value-take_more}
 use Rattle.tv_language.proofs.lexeme.number_of.Goals as goal
 
 pub returns-then-total : goal.returns-then-total

@@ -1,5 +1,5 @@
 use Rattle.std.proofs.Common.{◌≡◌, ◌<◌, ◌^◌, take}
-use Rattle.tv_tokens.specs.Numbers.{value_of_digits}
+use Rattle.tv_language.specs.Numbers.{value_of_digits}
 use Rattle.tv_language.proofs.lexeme.number_of.Given as goal
 
 abbrev pub invariant-loop-digit : goal.invariant-loop-digit

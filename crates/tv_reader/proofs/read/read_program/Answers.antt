@@ -1,5 +1,5 @@
 use Rattle.std.proofs.Common.{◌≡◌, ◌≤◌, false, true, ℕ, List, length, take, Err, refl, ap, sym, subst, ◌∙◌}
-use Rattle.tv_tokens.specs.declared.token.Token.{Token}
+use Rattle.tv_language.specs.declared.token.Token.{Token}
 use Rattle.tv_program.specs.Words.{Word}
 use Rattle.tv_language.specs.Symbols.{lexemes}
 use Rattle.tv_reading.specs.Readings.{begun, token_at}

@@ -1,5 +1,5 @@
 use Rattle.std.proofs.Common.{◌≡◌, [], List, take, drop, ap, sym, ◌∙◌, arith}
-use Rattle.tv_tokens.specs.declared.token.Token.{Token}
+use Rattle.tv_language.specs.declared.token.Token.{Token}
 use Rattle.tv_language.specs.Symbols.{lexemes, variable_words, label_words, by_first_place}
 use Rattle.tv_reader.proofs.WordLemmas.{take_all, past_all}
 use Rattle.tv_reader.proofs.words.first_words.Goals as goal

@@ -1,8 +1,8 @@
 use Rattle.std.proofs.Common.{◌≡◌, ℕ, List, [], ◌∷◌, length, sym, ap, subst, ◌∙◌, arith, rules}
 use Rattle.std.specs.Prelude.{IsTrue}
-use Rattle.tv_tokens.specs.declared.token.TokenKind.TheVariants.{End}
-use Rattle.tv_tokens.specs.declared.token.Token.{Token}
-use Rattle.tv_tokens.specs.Tokens.{IsTokens}
+use Rattle.tv_language.specs.declared.token.TokenKind.TheVariants.{End}
+use Rattle.tv_language.specs.declared.token.Token.{Token}
+use Rattle.tv_language.specs.Tokens.{IsTokens}
 use Rattle.tv_program.specs.Limits.{condition_fits}
 use Rattle.tv_program.specs.Views.{condition}
 use Rattle.tv_program.specs.Words.{Word}

@@ -1,7 +1,7 @@
 use Rattle.std.proofs.Common.{◌≡◌, ◌+◌, length, refl, sym, subst}
 use Rattle.tv_lines.specs.declared.head.Head.TheVariants as heads
 use Rattle.tv_cases.specs.Systems.{cases_of}
-use Rattle.tv_cert_grammar.specs.declared.kind.LineKind.TheVariants.{Shape}
+use Rattle.tv_cert_reader.specs.declared.kind.LineKind.TheVariants.{Shape}
 use Rattle.tv_cert_reader.specs.Parts.{IsRowOf}
 use Rattle.tv_cert_reader.specs.Covers.{IsBehind}
 use Rattle.tv_cert_reader.specs.Choices.{ReadsChoice}

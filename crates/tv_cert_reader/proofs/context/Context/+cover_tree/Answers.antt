@@ -1,7 +1,7 @@
 use Rattle.std.proofs.Common.{refl, sym, subst}
 use Rattle.tv_lines.specs.declared.head.Head.TheVariants as heads
 use Rattle.tv_shape.specs.Counts.{counts_of}
-use Rattle.tv_cert_grammar.specs.declared.kind.LineKind.TheVariants.{Shape}
+use Rattle.tv_cert_reader.specs.declared.kind.LineKind.TheVariants.{Shape}
 use Rattle.tv_cert_reader.specs.Covers.{IsBehind, ReadsTree}
 use Rattle.tv_cert_reader.proofs.ReadingLemmas.{at_exit}
 use Rattle.tv_cert_reader.proofs.CoverLemmas.{behind_as, cover_line_fails, cover_stops, other_head, deep_stops, row_stops, holds_fail, fails_fail, split_read}

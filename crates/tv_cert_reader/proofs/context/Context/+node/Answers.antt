@@ -5,12 +5,12 @@ use Rattle.tv_cert.specs.declared.node.Marked.{Marked}
 use Rattle.tv_cert.specs.Listed.{pieces_list}
 use Rattle.tv_cert.specs.Said.{said_own}
 use Rattle.tv_cert.specs.Statements.{parts_of, part_at, count}
-use Rattle.tv_cert_grammar.specs.Nodes.{node}
+use Rattle.tv_cert_reader.specs.NodeGrammar.{node}
 use Rattle.tv_cert_reader.specs.Nodes.{ReadsNode, IsNodeOf}
 use Rattle.tv_cert_reader.specs.Proofs.{ReadsProofs, AreProofsOf}
 use Rattle.tv_cert_reader.specs.Reading.{FailsBy, Takes}
 use Rattle.tv_cert_reader.specs.Regions.{region_with}
-use Rattle.tv_cert_grammar.specs.Shaped.{stated_lines}
+use Rattle.tv_cert_reader.specs.Shaped.{stated_lines}
 use Rattle.tv_cert_reader.proofs.ReadingLemmas.{at_exit}
 use Rattle.tv_cert_reader.proofs.NodeLemmas.{Opened, weight, part_lighter, region_fails, child_fails, opened_next, proofs_fail, node_built, few_pieces, pieces_in_node}
 use Rattle.tv_cert_reader.proofs.context.Context.+node.Goals as goal

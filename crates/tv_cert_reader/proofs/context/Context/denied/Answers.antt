@@ -9,8 +9,8 @@ use Rattle.tv_cert.specs.Pieces.{pieces_at}
 use Rattle.tv_cert_reader.specs.Reading.{Takes, FailsBy}
 use Rattle.tv_cert_reader.specs.Wholes.{ReadsRest}
 use Rattle.tv_cert_reader.proofs.ReadingLemmas.{at_exit}
-use Rattle.tv_cert_grammar.specs.Lines.{line}
-use Rattle.tv_cert_grammar.specs.Certificates.{at_line}
+use Rattle.tv_cert_reader.specs.LineGrammar.{line}
+use Rattle.tv_cert_reader.specs.CertificateGrammar.{at_line}
 use Rattle.tv_cert_reader.proofs.RestLemmas.{no_numbers, none_past, none_by, some_by, denied_root_fails, values_stop, piece_missing, denied_last_fails, denied_end_fails}
 use Rattle.tv_cert_reader.proofs.context.Context.denied.Goals as goal
 

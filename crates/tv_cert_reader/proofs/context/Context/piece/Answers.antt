@@ -4,8 +4,8 @@ use Rattle.tv_cases.specs.Systems.{cases_of}
 use Rattle.tv_cert.specs.MarkedRows.{marked, marked_in}
 use Rattle.tv_cert.specs.Shapes.{PieceShape}
 use Rattle.tv_cert.proofs.MarkedLemmas.{both_packed, marked_packed}
-use Rattle.tv_cert_text.specs.CertificateLines.{piece_lines}
-use Rattle.tv_cert_grammar.specs.Lines.{many}
+use Rattle.tv_cert_reader.specs.CertificateLines.{piece_lines}
+use Rattle.tv_cert_reader.specs.LineGrammar.{many}
 use Rattle.tv_cert_reader.specs.declared.sort.Sort.TheVariants.{Row, Rank}
 use Rattle.tv_cert_reader.specs.Sorts.{line_with}
 use Rattle.tv_cert_reader.specs.Reading.{FailsBy, Takes}

@@ -2,7 +2,7 @@ use Rattle.std.proofs.Common.{arith}
 use Rattle.tv_cases.specs.Systems.{cases_of}
 use Rattle.tv_cert_reader.specs.Regions.{ReadsPieces}
 use Rattle.tv_cert.specs.Shapes.{PieceShape}
-use Rattle.tv_cert_text.specs.CertificateLines.{piece_lines}
+use Rattle.tv_cert_reader.specs.CertificateLines.{piece_lines}
 use Rattle.tv_cert_reader.proofs.ReadingLemmas.{at_exit, gathered_next}
 use Rattle.tv_cert_reader.proofs.RegionLemmas.{pieces_fail, pieces_end}
 use Rattle.tv_cert_reader.proofs.context.Context.pieces.Goals as goal

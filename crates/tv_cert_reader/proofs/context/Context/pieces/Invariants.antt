@@ -1,7 +1,7 @@
 use Rattle.std.proofs.Common.{◌≤◌}
 use Rattle.tv_cases.specs.Systems.{cases_of}
 use Rattle.tv_cert.specs.Shapes.{PieceShape}
-use Rattle.tv_cert_text.specs.CertificateLines.{piece_lines}
+use Rattle.tv_cert_reader.specs.CertificateLines.{piece_lines}
 use Rattle.tv_cert_reader.proofs.ReadingLemmas.{Gathered}
 use Rattle.tv_cert_reader.proofs.context.Context.pieces.Given as goal
 

@@ -2,9 +2,9 @@ use Rattle.std.proofs.Common.{◌<◌, ◌^◌, ◌++◌, false, length, map, sy
 use Rattle.std.proofs.lemmas.List.{length-map}
 use Rattle.std.specs.List.{flat_map}
 use Rattle.tv_grammar.specs.Langs.{each}
-use Rattle.tv_cert_text.specs.CertificateLines.{proof_lines}
-use Rattle.tv_cert_grammar.specs.Demands.{demand_of}
-use Rattle.tv_cert_grammar.specs.Choices.{demanded}
+use Rattle.tv_cert_reader.specs.CertificateLines.{proof_lines}
+use Rattle.tv_cert_reader.specs.Demands.{demand_of}
+use Rattle.tv_cert_reader.specs.ChoiceGrammar.{demanded}
 use Rattle.tv_cert_reader.specs.Proofs.{AreProofsOf}
 use Rattle.tv_cert_reader.specs.Reading.{Takes, FailsBy}
 use Rattle.tv_lines.proofs.TextLemmas.{no_lines}
@@ -14,7 +14,7 @@ use Rattle.tv_cert.specs.AimViews.{aim_states}
 use Rattle.tv_cert.specs.Listed.{pieces_list}
 use Rattle.tv_cert.specs.Said.{said_own}
 use Rattle.tv_shape.proofs.NumberLemmas.{own_within}
-use Rattle.tv_cert_grammar.proofs.CompleteDemands.{draw_free}
+use Rattle.tv_cert_reader.proofs.CompleteDemands.{draw_free}
 use Rattle.tv_cert_reader.proofs.ProofLemmas.{all_read, read_stopped}
 use Rattle.tv_cert_reader.proofs.context.Context.proofs.Goals as goal
 

@@ -5,7 +5,7 @@ use Rattle.tv_cases.specs.LinearCases.{IsCase, leaving}
 use Rattle.tv_cases.specs.Systems.{cases_of}
 use Rattle.tv_cases.specs.Views.{case_view}
 use Rattle.tv_cases.proofs.LeavingLemmas.{case_within, case_among, first_left, none_left}
-use Rattle.tv_cert_text.specs.CertificateLines.{cover_lines}
+use Rattle.tv_cert_reader.specs.CertificateLines.{cover_lines}
 use Rattle.tv_cert_reader.specs.Reading.{Takes}
 use Rattle.tv_cert_reader.specs.Choices.{IsStop, ReadsStops}
 use Rattle.tv_cert_reader.proofs.ReadingLemmas.{at_exit}

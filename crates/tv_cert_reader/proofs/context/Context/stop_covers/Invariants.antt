@@ -1,7 +1,7 @@
 use Rattle.std.proofs.Common.{◌-◌, drop, length}
 use Rattle.tv_cases.specs.LinearCases.{leaving}
 use Rattle.tv_cases.specs.Systems.{cases_of}
-use Rattle.tv_cert_text.specs.CertificateLines.{cover_lines}
+use Rattle.tv_cert_reader.specs.CertificateLines.{cover_lines}
 use Rattle.tv_cert_reader.specs.Choices.{IsStop}
 use Rattle.tv_cert_reader.proofs.StopLemmas.{Stepped}
 use Rattle.tv_cert_reader.proofs.context.Context.stop_covers.Given as goal

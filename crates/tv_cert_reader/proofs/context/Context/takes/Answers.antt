@@ -1,7 +1,7 @@
 use Rattle.std.proofs.Common.{◌+◌, refl, ◌∙◌, subst}
 use Rattle.tv_cases.specs.Systems.{cases_of}
 use Rattle.tv_cases.specs.Views.{case_view}
-use Rattle.tv_cert_grammar.specs.Lines.{many}
+use Rattle.tv_cert_reader.specs.LineGrammar.{many}
 use Rattle.tv_cert_reader.specs.declared.sort.Sort.TheVariants.{Draw, By}
 use Rattle.tv_cert_reader.specs.Sorts.{line_with}
 use Rattle.tv_cert_reader.specs.Reading.{FailsBy}

@@ -1,5 +1,5 @@
 use Rattle.std.proofs.Common.{◌≡◌, ◌∷◌, Bool, false, ap, sym, subst, ◌∙◌, arith}
-use Rattle.tv_tokens.specs.declared.token.TokenKind.TheVariants as kinds
+use Rattle.tv_language.specs.declared.token.TokenKind.TheVariants as kinds
 use Rattle.tv_language.specs.Symbols.{is_colon, fixed, lexeme}
 use Rattle.tv_reading.specs.Marks.{Stand, plain}
 use Rattle.tv_reading.specs.Readings.{taken, at_edge, token_at}

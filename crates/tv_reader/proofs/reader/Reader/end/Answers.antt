@@ -1,5 +1,5 @@
 use Rattle.std.proofs.Common.{◌≡◌, ◌∷◌, [], Bool, false, Some, ap, sym, ◌∙◌}
-use Rattle.tv_tokens.specs.declared.token.TokenKind.TheVariants as kinds
+use Rattle.tv_language.specs.declared.token.TokenKind.TheVariants as kinds
 use Rattle.tv_language.specs.Symbols.{lexeme, fixed}
 use Rattle.tv_grammar.specs.Langs.{headed_read}
 use Rattle.tv_reading.specs.Marks.{Syntax, plain}

@@ -1,5 +1,5 @@
 use Rattle.std.proofs.Common.{◌≡◌, ◌∷◌, ◌≤◌, length, Bool, false, List, Some, Ok, refl, ap, sym, ◌∙◌, inl, inr, rules}
-use Rattle.tv_tokens.specs.declared.token.TokenKind.TheVariants as kinds
+use Rattle.tv_language.specs.declared.token.TokenKind.TheVariants as kinds
 use Rattle.tv_language.specs.Symbols.{lexeme, fixed}
 use Rattle.tv_grammar.specs.Reads.{next}
 use Rattle.tv_grammar.specs.Langs.{goes_at}

@@ -1,5 +1,5 @@
 use Rattle.std.proofs.Common.{◌≡◌, Bool, true, Some, None, refl, ap, sym, ◌∙◌}
-use Rattle.tv_tokens.specs.declared.token.Token.{Token}
+use Rattle.tv_language.specs.declared.token.Token.{Token}
 use Rattle.tv_program.specs.Words.{number_of}
 use Rattle.tv_language.specs.Symbols.{lexeme}
 use Rattle.tv_grammar.specs.Reads.{next}

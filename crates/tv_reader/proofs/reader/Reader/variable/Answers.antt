@@ -1,6 +1,6 @@
 use Rattle.std.proofs.Common.{◌≡◌, Bool, false, Some, ap, sym, ◌∙◌}
-use Rattle.tv_tokens.specs.declared.token.TokenKind.TheVariants as kinds
-use Rattle.tv_tokens.specs.declared.token.Token.{Token}
+use Rattle.tv_language.specs.declared.token.TokenKind.TheVariants as kinds
+use Rattle.tv_language.specs.declared.token.Token.{Token}
 use Rattle.tv_program.specs.Words.{number_of}
 use Rattle.tv_language.specs.Symbols.{lexeme, name}
 use Rattle.tv_grammar.specs.Reads.{next}

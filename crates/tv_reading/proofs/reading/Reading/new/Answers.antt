@@ -1,5 +1,5 @@
 use Rattle.std.proofs.Common.{arith}
-use Rattle.tv_tokens.proofs.TokenCounts.{few_tokens}
+use Rattle.tv_language.proofs.TokenCounts.{few_tokens}
 use Rattle.tv_reading.proofs.reading.Reading.new.Goals as goal
 
 pub invariant_of-result : goal.invariant_of-result

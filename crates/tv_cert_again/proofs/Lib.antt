@@ -1,7 +1,0 @@
-pub mod Fronts
-pub mod ToldRows
-pub mod ToldCovers
-pub mod ToldProofs
-pub mod ToldNodes
-pub mod ToldAmounts
-pub mod ToldCertificates

@@ -1,5 +1,0 @@
-use Rattle.tv_cert_again.proofs.ToldCertificates.{same_claimed}
-use Rattle.tv_cert_again.proofs.laws.same_lines_of_one_claim.Goals as goal
-
-pub returns : goal.returns
-returns c = same_claimed

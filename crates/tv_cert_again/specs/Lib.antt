@@ -1,4 +1,0 @@
-pub mod CoverValues
-pub mod ChoiceValues
-pub mod NodeValues
-pub mod CertificateValues

@@ -1,5 +1,0 @@
-use Rattle.tv_cert_grammar.proofs.RightOrFaulty.{right_are_faultless}
-use Rattle.tv_cert_grammar.proofs.laws.right_lines_are_faultless.Goals as goal
-
-pub returns : goal.returns
-returns c = right_are_faultless

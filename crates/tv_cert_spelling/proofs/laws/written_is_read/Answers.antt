@@ -1,0 +1,18 @@
+use Rattle.std.proofs.Common.{refl, sym, ◌∙◌}
+use Rattle.tv_cert.specs.Claims.{about_with, shown}
+use Rattle.tv_cert_reader.specs.CertificateLines.{certificate_lines}
+use Rattle.tv_cert_spelling.specs.Spelling.{all_spelled}
+use Rattle.tv_cert_spelling.proofs.Again.{written_again}
+use Rattle.tv_cert_spelling.proofs.ToldCertificates.{same_claimed}
+use Rattle.tv_cert_spelling.proofs.laws.written_is_read.Goals as goal
+
+pub returns-clause-read : goal.returns-clause-read
+returns-clause-read v system claim c some h = record {
+  lines = written_again (shown claim c.verdict) c.root c.verdict some (all_spelled (certificate_lines (shown claim c.verdict) c.root c.verdict)) h.lines refl;
+  is = h.is;
+}
+
+pub returns-clause-equal : goal.returns-clause-equal
+returns-clause-equal v system claim c d some h g =
+    let written = written_again (shown claim c.verdict) c.root c.verdict some (all_spelled (certificate_lines (shown claim c.verdict) c.root c.verdict)) h.lines refl in
+    same_claimed (about_with system) claim d c g.is h.is (sym g.lines ∙ written)

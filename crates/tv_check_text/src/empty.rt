@@ -1,0 +1,35 @@
+ghost use Rattle.std.specs.Prelude.{◌≡◌, ℕ, Bool, List, All, Option, length};
+ghost use Rattle.tv_linear.specs.Known.{Known};
+ghost use Rattle.tv_lines.specs.Numbers.{IsNarrow};
+ghost use Rattle.tv_cases.specs.LinearCases.{CaseSystem};
+ghost use Rattle.tv_cert.specs.declared.node.Marked.{Marked};
+ghost use Rattle.tv_cert.specs.declared.owes.Destination.{Destination};
+ghost use Rattle.tv_refute.specs.Frames.{known_at};
+ghost use Rattle.tv_cert_reader.specs.declared.cursor.Cursor.{Cursor};
+ghost use Rattle.tv_cert_reader.specs.Covers.{IsBehind};
+ghost use Rattle.tv_check_text.specs.Judging.{JudgesChoice, JudgesCover};
+
+use tv_cert_reader::LineKind;
+use tv_cert_reader::Failure;
+use tv_lines::Head;
+use tv_refute::{Frames, refutes};
+
+/// Whether the multipliers of a line refute the place, if there are as many as rows: in a cover and in a choice.
+pub fn is_empty(
+    columns: u32,
+    frames: &Frames,
+    known: u128,
+    multipliers: Vec<i64>,
+    line: u32,
+) -> Result<bool, Failure>
+    requires counted { known ≡ length (known_at frames.now) }
+    requires narrow { All IsNarrow multipliers.items }
+    ensures cover { (owed : ℕ → ℕ → Option (List Known)) (left : ℕ) (old new : Cursor) → IsBehind Head.Empty multipliers.items old new → new.taken ≡ line → JudgesCover columns owed (known_at frames.now) left old new result }
+    ensures choice { (system : CaseSystem) (piece : Marked) (stop : Bool) (destination : Destination) (left : ℕ) (old new : Cursor) → columns ≡ system.variables → IsBehind Head.Empty multipliers.items old new → new.taken ≡ line → JudgesChoice system piece stop destination (known_at frames.now) left old new result }
+{
+    if multipliers.len() as u128 == known {
+        Ok(refutes(columns as usize, frames, &multipliers))
+    } else {
+        Err(Failure::Fault(LineKind::Shape, line))
+    }
+}

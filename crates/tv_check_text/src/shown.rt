@@ -1,0 +1,31 @@
+ghost use Rattle.std.specs.Prelude.{◌≡◌, ◌<◌, ◌+◌, ◌^◌, length};
+ghost use Rattle.tv_refute.specs.Frames.{known_at};
+ghost use Rattle.tv_check_text.specs.Judging.{JudgesLists};
+ghost use Rattle.tv_check_text.specs.Owed.{owed_listed};
+
+use crate::owed::OwedRows;
+use std::alloc::Global;
+use tv_cert_reader::{Cursor, Failure, Sort, numbers};
+use tv_refute::Frames;
+
+/// Reads a line of multipliers for each of the rows, and tells whether each line shows its row.
+pub fn rows_are_shown(
+    alloc: Global,
+    cursor: &mut Cursor,
+    columns: usize,
+    frames: &Frames,
+    known: u128,
+    owed: &OwedRows,
+) -> Result<bool, Failure>
+    requires counted { known ≡ length (known_at frames.now) }
+    requires room { known < 2 ^ 127 }
+    ensures { JudgesLists columns (known_at frames.now) (owed_listed owed.now) cursor.old cursor.new result }
+{
+    let mut met = true;
+    'rows: for place in 0..owed.count() {
+        let multipliers = numbers(alloc, cursor, Sort::By, known + 1)?;
+        let shown = owed.is_shown(columns, frames, place, &multipliers);
+        met = met && shown;
+    }
+    Ok(met)
+}

@@ -1,0 +1,30 @@
+use std::alloc::AllocError;
+
+/// Why a text is no formula, with the place of the token at fault: its first byte.
+#[derive(Clone, Copy, Debug, PartialEq, Eq)]
+pub enum FormulaFault {
+    /// The first token such that no formula begins with the tokens up to it.
+    Syntax { at: u32 },
+    /// A name that is no variable, or a label that is no location.
+    UnknownName { at: u32 },
+    /// A name in a product of which an earlier factor has one.
+    NotLinear { at: u32 },
+    /// A number of 2^62 or more.
+    Wide { at: u32 },
+    /// The token that opens level 65.
+    Deep { at: u32 },
+    /// The text has more than 65,536 bytes.
+    Long,
+    Memory,
+}
+
+impl From<AllocError> for FormulaFault {
+    ghost use Rattle.std.specs.Prelude.{◌≡◌};
+    ghost use Rattle.tv_formula_reader.specs.declared.fault.FormulaFault.TheVariants.{Memory};
+
+    ghost from_gives = { λ _ fault. fault ≡ Memory };
+
+    fn from(_: AllocError) -> FormulaFault {
+        FormulaFault::Memory
+    }
+}

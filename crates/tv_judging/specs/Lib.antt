@@ -1,3 +1,0 @@
-pub mod Owed
-pub mod Targets
-pub mod Judging

@@ -1,9 +1,0 @@
-use Rattle.std.proofs.Common.{◌≡◌, ◌≤◌, length}
-use Rattle.tv_tokens.specs.Fronts.{end_of_last}
-use Rattle.tv_tokens.proofs.scanner.end_of_last.Given as goal
-
-abbrev pub invariant-loop-rest : goal.invariant-loop-rest
-invariant-loop-rest l = record { same : end_of_last l.close l.text ≡ end_of_last l.close l.rest; within : length l.rest ≤ length l.text }
-
-abbrev pub decreases-loop-rest : goal.decreases-loop-rest
-decreases-loop-rest l = length l.rest
