@@ -57,12 +57,16 @@ whole_more values z k n e h j l = elim (last_or_below n j l) [
   | inr g ↦ h j g
 ]
 
-pub divided_more : (values : List ℤ) (z k : ℤ) (n : ℕ) (xs new : List ℤ) → pos 0 <ℤ z → IsFloor (get_or values n (pos 0)) z k → IsWholeAt values z n → new ≡ xs ++ k ∷ [] → AreDivided n values z xs → AreDivided (n + 1) values z new
-divided_more values z k n xs new p f w e h = subst (λ r. AreDivided (n + 1) values z r) (sym e) record {
+pub divided_more : (values : List ℤ) (z k : ℤ) (n : ℕ) (xs new : List ℤ) → pos 0 <ℤ z → IsFloor (get_or values n (pos 0)) z k → IsShort k → IsWholeAt values z n → new ≡ xs ++ k ∷ [] → AreDivided n values z xs → AreDivided (n + 1) values z new
+divided_more values z k n xs new p f s w e h = subst (λ r. AreDivided (n + 1) values z r) (sym e) record {
   size = length-append xs (k ∷ []) ∙ (let s = h.size in let g : length xs + 1 ≡ n + 1 = omega (arith, s) in g);
   same = λ j l. elim (last_or_below n j l) [
     | inl g ↦ subst (λ i. get_or values i (pos 0) ≡ get_or (xs ++ k ∷ []) i (pos 0) *ℤ z) (sym g) (sym (floor_same (get_or values n (pos 0)) z k w.0 p f w.1) ∙ ap (λ y. y *ℤ z) (sym (get_or-append-last xs k n (pos 0) h.size)))
     | inr g ↦ h.same j g ∙ ap (λ y. y *ℤ z) (sym (get_or-append-before xs k j (pos 0) (let s = h.size in omega (arith, s, g))))
+  ];
+  short = λ j l. elim (last_or_below n j l) [
+    | inl g ↦ subst (λ i. IsShort (get_or (xs ++ k ∷ []) i (pos 0))) (sym g) (subst (λ y. IsShort y) (sym (get_or-append-last xs k n (pos 0) h.size)) s)
+    | inr g ↦ subst (λ y. IsShort y) (sym (get_or-append-before xs k j (pos 0) (let s = h.size in omega (arith, s, g)))) (h.short j g)
   ];
 }
 

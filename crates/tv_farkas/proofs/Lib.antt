@@ -5,4 +5,5 @@ pub mod FloorLemmas
 pub mod TakenLemmas
 pub mod StretchLemmas
 pub mod PathLemmas
+pub mod JudgeLemmas
 pub mod SearchLemmas

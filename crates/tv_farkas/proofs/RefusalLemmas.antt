@@ -1,11 +1,11 @@
 use Rattle.std.proofs.Common.{◌≡◌, ℕ, ◌+◌, List, [], ◌∷◌, ◌++◌, length, length-append, map, All, get_or, arith, subst, ℤ, pos, neg_ℤ}
 use Rattle.std.proofs.lemmas.Int.{ints}
 use Rattle.tv_linear.specs.Linear.{Linear, columns}
-use Rattle.tv_tableau.specs.Outcomes.{IsShort, IsBarrierOf}
+use Rattle.tv_tableau.specs.Outcomes.{IsShort, IsBarrierOf, GivesBarrier}
 use Rattle.tv_farkas.specs.declared.refuted.Refuted.{Refuted}
 use Rattle.tv_farkas.specs.declared.refuted.Refuted.TheVariants.{Empty, Point}
 use Rattle.tv_farkas.specs.RefutationSystem.{refutation_system}
-use Rattle.tv_farkas.specs.Refuting.{IsRefuted, IsOppositePoint, IsShortRefuted}
+use Rattle.tv_farkas.specs.Refuting.{IsRefuted, GivesRefuted, IsOppositePoint, IsShortRefuted}
 use Rattle.tv_farkas.proofs.SystemLemmas.{length-map}
 use Rattle.tv_farkas.proofs.PointLemmas.{point_meets, inner_is, last_is}
 
@@ -19,6 +19,12 @@ point_answers n rows y (Point values scale) even b h =
     let b' = subst (λ z. IsBarrierOf (refutation_system n rows) z) h b in
     let size = count_of values.items scale n b'.as_many in
     (size, point_meets n rows even values.items scale size b')
+
+pub point_gives : (n : ℕ) (rows : List Linear) (y : List ℤ) (point : Refuted) → GivesBarrier (refutation_system n rows) y → IsOppositePoint y point → GivesRefuted n rows point
+point_gives n rows y (Empty m) b h = absurd h
+point_gives n rows y (Point values scale) b h =
+    let b' = subst (λ z. GivesBarrier (refutation_system n rows) z) h b in
+    record { as_many = count_of values.items scale n b'.as_many; barrier = b' }
 
 pub point_short : (n : ℕ) (rows : List Linear) (y : List ℤ) (point : Refuted) → IsBarrierOf (refutation_system n rows) y → IsOppositePoint y point → IsShortRefuted point
 point_short n rows y (Empty m) b h = absurd h

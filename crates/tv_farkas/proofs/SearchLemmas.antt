@@ -1,4 +1,4 @@
-use Rattle.std.proofs.Common.{Global, true, false, ◌≡◌, inl, inr, ℕ, zero, suc, ◌+◌, ◌-◌, ◌<◌, ◌≤◌, ◌^◌, List, [], ◌∷◌, ◌++◌, take, vec_len, length, length-append, map, get_or, All, Bool, Option, None, Some, Vec, arith, refl, sym, ap, ◌∙◌, subst, append_assoc, ℤ, pos, neg_ℤ, ◌+ℤ◌, ◌-ℤ◌, ◌*ℤ◌, ◌<ℤ◌, ◌≤ℤ◌, unsigned_abs}
+use Rattle.std.proofs.Common.{Global, ◌≡◌, inl, inr, ℕ, zero, suc, ◌+◌, ◌-◌, ◌<◌, ◌≤◌, ◌^◌, List, [], ◌∷◌, ◌++◌, take, vec_len, length, length-append, map, get_or, All, Bool, Option, None, Some, Vec, arith, refl, sym, ap, ◌∙◌, subst, append_assoc, ℤ, pos, neg_ℤ, ◌+ℤ◌, ◌-ℤ◌, ◌*ℤ◌, ◌<ℤ◌, ◌≤ℤ◌, unsigned_abs}
 use Rattle.std.specs.List.{Contains}
 use Rattle.std.proofs.lemmas.Int.{ints}
 use Rattle.std.proofs.lemmas.List.Elements.{All-nil, All-cons, All-head, All-tail, All-push}
@@ -22,20 +22,21 @@ use Rattle.tv_farkas.specs.declared.emptying.Place.{Place}
 use Rattle.tv_farkas.specs.declared.emptying.Found.{Found}
 use Rattle.tv_farkas.specs.declared.emptying.Found.TheVariants.{Tree, Whole}
 use Rattle.tv_farkas.specs.RefutationSystem.{IsPointOf}
+use Rattle.tv_farkas.specs.Refuting.{AreShort}
+use Rattle.tv_farkas.specs.Trees.{TreeRows, TreeNumbers}
 use Rattle.tv_farkas.specs.Paths.{TakenOnce, first, IsFirstFraction, IsWholePoint, IsPointSplit, IsCoordinateSplit, SplitsAt, at_most_row, at_least_row, rows_after}
 use Rattle.tv_farkas.specs.Stretching.{IsFloor, IsTakenBy, stretched, Searches, IsSide, AreSides, AreDivided, IsSplitOf, rows_of}
 use Rattle.tv_farkas.specs.Searching.{SearchesAt, IsTreeOf, IsFound, IsSideFound, IsSideTree, IsWholeFound, IsFractionAt, MaySplit}
-use Rattle.tv_simplex.specs.declared.fault.SolveFault.TheVariants as faults
-use Rattle.tv_farkas.proofs.StretchLemmas.{stretched_refutes}
+use Rattle.tv_farkas.proofs.StretchLemmas.{stretched_refutes, stretched_short}
 use Rattle.tv_farkas.proofs.SystemLemmas.{at_of}
-use Rattle.tv_farkas.proofs.TakenLemmas.{all_taken}
+use Rattle.tv_farkas.proofs.TakenLemmas.{all_taken, kept_even}
 use Rattle.tv_farkas.proofs.PathLemmas.{append-nil, after_is, after_more, path_more, rows_more}
 
 -- ---- the rows of a split
-unit_value : (n c : ℕ) (xs : List ℤ) → length xs ≡ n → dot (unit n c) xs ≡ get_or xs c (pos 0)
+pub unit_value : (n c : ℕ) (xs : List ℤ) → length xs ≡ n → dot (unit n c) xs ≡ get_or xs c (pos 0)
 unit_value n c xs e = (let h = value-column_row n c xs (omega (arith, e)) in omega (arith, ints, h))
 
-low_value : (n c : ℕ) (k : ℤ) (xs : List ℤ) (z : ℤ) → length xs ≡ n → scaled_value (at_most_row n c k) xs z ≡ get_or xs c (pos 0) -ℤ k *ℤ z
+pub low_value : (n c : ℕ) (k : ℤ) (xs : List ℤ) (z : ℤ) → length xs ≡ n → scaled_value (at_most_row n c k) xs z ≡ get_or xs c (pos 0) -ℤ k *ℤ z
 low_value n c k xs z e =
     let u = unit_value n c xs e in
     let m = constant_times (pos 0 +ℤ neg_ℤ k) k z (omega (arith, ints)) in
@@ -44,7 +45,7 @@ low_value n c k xs z e =
     constant_times : (a b y : ℤ) → a ≡ pos 0 -ℤ b → a *ℤ y ≡ pos 0 -ℤ b *ℤ y
     constant_times a b y g = ap (λ x. x *ℤ y) g ∙ less_times (pos 0) b y ∙ (let o = zero_times (pos 0) y refl in omega (arith, ints, o))
 
-high_value : (n c : ℕ) (k : ℤ) (xs : List ℤ) (z : ℤ) → length xs ≡ n → scaled_value (at_least_row n c k) xs z ≡ (k +ℤ pos 1) *ℤ z -ℤ get_or xs c (pos 0)
+pub high_value : (n c : ℕ) (k : ℤ) (xs : List ℤ) (z : ℤ) → length xs ≡ n → scaled_value (at_least_row n c k) xs z ≡ (k +ℤ pos 1) *ℤ z -ℤ get_or xs c (pos 0)
 high_value n c k xs z e =
     let v = value-denial (at_most_row n c k) xs in
     let u = unit_value n c xs e in
@@ -52,13 +53,13 @@ high_value n c k xs z e =
     omega (arith, ints, v, u, m)
 
 -- a row that the point does not meet is none of those that it meets
-fresh : (kept : List Linear) (r : Linear) (xs : List ℤ) (z : ℤ) → IsScaledPoint kept xs z → pos 0 <ℤ scaled_value r xs z → Contains kept r → ⊥
+pub fresh : (kept : List Linear) (r : Linear) (xs : List ℤ) (z : ℤ) → IsScaledPoint kept xs z → pos 0 <ℤ scaled_value r xs z → Contains kept r → ⊥
 fresh kept r xs z h above c =
     let m = subst (λ q. scaled_value q xs z ≤ℤ pos 0) c.2 (at_of (λ q. scaled_value q xs z ≤ℤ pos 0) kept r h.met c.0 c.1) in
     absurd (omega (arith, ints, m, above))
 
 -- ---- sides
-given_side : (n : ℕ) (r : Linear) → IsSide n r (given r)
+pub given_side : (n : ℕ) (r : Linear) → IsSide n r (given r)
 given_side n r = record { inner = λ j l. refl; constant = refl; held = λ column. tt }
 
 pub given_sides : (n : ℕ) (rows : List Linear) → AreSides n rows (as_given rows)
@@ -71,20 +72,20 @@ sides_more n [] (s ∷ sides) r k h g = absurd h
 sides_more n (q ∷ rows) [] r k h g = absurd h
 sides_more n (q ∷ rows) (s ∷ sides) r k h g = (h.0, sides_more n rows sides r k h.1 g)
 
-get_or-neg : (xs : List ℤ) (j : ℕ) → get_or (map neg_ℤ xs) j (pos 0) ≡ neg_ℤ (get_or xs j (pos 0))
+pub get_or-neg : (xs : List ℤ) (j : ℕ) → get_or (map neg_ℤ xs) j (pos 0) ≡ neg_ℤ (get_or xs j (pos 0))
 get_or-neg [] j = refl
 get_or-neg (x ∷ xs) zero = refl
 get_or-neg (x ∷ xs) (suc j) = get_or-neg xs j
 
-small_at : (xs : List ℤ) → All (IsWithin 62) xs → (j : ℕ) → unsigned_abs (get_or xs j (pos 0)) < 2 ^ 62
+pub small_at : (xs : List ℤ) → All (IsWithin 62) xs → (j : ℕ) → unsigned_abs (get_or xs j (pos 0)) < 2 ^ 62
 small_at [] h j = omega arith
 small_at (x ∷ xs) h zero = All-head (IsWithin 62) x xs h
 small_at (x ∷ xs) h (suc j) = small_at xs (All-tail (IsWithin 62) x xs h) j
 
-low_side : (n c : ℕ) (k : ℤ) → IsSide n (at_most_row n c k) (given (at_most_row n c k))
+pub low_side : (n c : ℕ) (k : ℤ) → IsSide n (at_most_row n c k) (given (at_most_row n c k))
 low_side n c k = given_side n (at_most_row n c k)
 
-high_side : (n c : ℕ) (k : ℤ) → IsShort k → IsSide n (at_least_row n c k) (denied (given (at_most_row n c k)))
+pub high_side : (n c : ℕ) (k : ℤ) → IsShort k → IsSide n (at_least_row n c k) (denied (given (at_most_row n c k)))
 high_side n c k short = record {
   inner = λ j l. sym (get_or-neg (unit n c) j);
   constant = refl;
@@ -102,7 +103,7 @@ high_side n c k short = record {
     held (Some j) = (tt, opposite_held (get_or (unit n c) j (pos 0)) (small_at (unit n c) (unit-narrow n c) j))
 
 -- ---- what a tree shows
-as_given-append : (xs ys : List Linear) → as_given (xs ++ ys) ≡ as_given xs ++ as_given ys
+pub as_given-append : (xs ys : List Linear) → as_given (xs ++ ys) ≡ as_given xs ++ as_given ys
 as_given-append [] ys = refl
 as_given-append (x ∷ xs) ys = ap (λ ks. given x ∷ ks) (as_given-append xs ys)
 
@@ -124,9 +125,9 @@ side_empty n rows left old new row tree h xs p m =
 
 -- ---- splitting
 module _ (n : ℕ) (rows : List Linear) (marks : List Bool) (place : Place) (s : SearchesAt n rows marks place) (c : ℕ) (values : List ℤ) (scale k : ℤ) (f : IsFractionAt n place.rows.items c values scale) (floor : IsFloor (get_or values c (pos 0)) scale k) where
-  first_fraction : IsFirstFraction values scale c k
+  first_fraction : IsFirstFraction n values scale c k
   first_fraction = record {
-    within = (let e = f.size in let l = f.within in omega (arith, e, l));
+    within = f.within;
     before = f.before;
     fraction = f.fraction;
     below = floor.below;
@@ -154,6 +155,8 @@ module _ (n : ℕ) (rows : List Linear) (marks : List Bool) (place : Place) (s :
       taken = s.taken;
       point = f.point;
       met = above_met;
+      short = f.short;
+      scale_short = f.scale_short;
       column = c;
       floor = k;
       fraction = first_fraction;
@@ -170,6 +173,8 @@ module _ (n : ℕ) (rows : List Linear) (marks : List Bool) (place : Place) (s :
       taken = s.taken;
       point = f.point;
       met = above_met;
+      short = f.short;
+      scale_short = f.scale_short;
       column = c;
       floor = k;
       fraction = first_fraction;
@@ -209,6 +214,8 @@ split_tree n rows left c k old mid new lower upper (Split' r p holds q fails) sh
     subst (λ x. IsMetCover n no_target ((as_given rows ++ sides) ++ denied (given x) ∷ []) fails) (sym h.0) (subst (λ t. IsMetCover n no_target ((as_given rows ++ sides) ++ denied (given (at_most_row n c k)) ∷ []) t) (sym h.2) (u.met sides (denied (given (at_most_row n c k))) (subst (λ b. AreSides n (rows_of b) sides) (sym l.same_path) a) (high_side n c k short))),
   );
   shallow = (let a = subst (λ t. splits t ≤ left) (sym h.1) l.shallow in let b = subst (λ t. splits t ≤ left) (sym h.2) u.shallow in grind (arith, a, b));
+  even = (ap columns h.0 ∙ length-unit n c, subst (λ t. TreeRows (λ x. columns x ≡ n) t) (sym h.1) l.even, subst (λ t. TreeRows (λ x. columns x ≡ n) t) (sym h.2) u.even);
+  short = (subst (λ t. TreeNumbers AreShort t) (sym h.1) l.short, subst (λ t. TreeNumbers AreShort t) (sym h.2) u.short);
   same_rows = u.same_rows ∙ l.same_rows;
   same_path = u.same_path ∙ l.same_path;
 }
@@ -219,6 +226,8 @@ side_tree n rows left old mid inner new row b tree e g r p h = record {
   met = λ sides side a d. subst (λ ks. IsMetCover n no_target ks tree) (sym (append_assoc (as_given rows) sides (side ∷ [])))
       (h.met (sides ++ side ∷ []) (subst (λ q. AreSides n q (sides ++ side ∷ [])) (ap (λ x. rows_of old.path.items ++ x ∷ []) (sym e) ∙ sym (rows_more old.path.items b) ∙ ap rows_of (sym g)) (sides_more n (rows_of old.path.items) sides row side a d)));
   shallow = h.shallow;
+  even = h.even;
+  short = h.short;
   same_rows = r;
   same_path = p;
 }
@@ -236,14 +245,14 @@ side_search n rows marks place row values scale b v z kept path s m e g f h k p 
 pub one_branch : (old : List Branch) (b : Branch) (new : List Branch) (left : ℕ) → new ≡ old ++ b ∷ [] → length new + left ≡ length old + (left + 1)
 one_branch old b new left e = let h = ap length e ∙ length-append old (b ∷ []) in omega (arith, h)
 
-take-init : {A : Type 0} (xs : List A) (x : A) → take (length (xs ++ x ∷ []) - 1) (xs ++ x ∷ []) ≡ xs
+pub take-init : {A : Type 0} (xs : List A) (x : A) → take (length (xs ++ x ∷ []) - 1) (xs ++ x ∷ []) ≡ xs
 take-init [] x = refl
 take-init (y ∷ xs) x =
     let e = length-append xs (x ∷ []) in
     let f : length (y ∷ (xs ++ x ∷ [])) - 1 ≡ suc (length (xs ++ x ∷ []) - 1) = omega (arith, e) in
     ap (λ k. take k (y ∷ (xs ++ x ∷ []))) f ∙ ap (λ r. y ∷ r) (take-init xs x)
 
-popped : {A : Type 0} (xs : List A) (x : A) (mid inner new : List A) → mid ≡ xs ++ x ∷ [] → inner ≡ mid → new ≡ take (length inner - 1) inner → new ≡ xs
+pub popped : {A : Type 0} (xs : List A) (x : A) (mid inner new : List A) → mid ≡ xs ++ x ∷ [] → inner ≡ mid → new ≡ take (length inner - 1) inner → new ≡ xs
 popped xs x mid inner new e f g = g ∙ ap (λ k. take (length k - 1) k) (f ∙ e) ∙ take-init xs x
 
 -- what a side has
@@ -253,16 +262,18 @@ side_found n rows left old mid inner new row b (Tree tree) h e g p gr gp =
 side_found n rows left old mid inner new row b (Whole values) h e g p gr gp = h
 
 -- ---- a place without a point
-pub empty_tree : (n : ℕ) (rows : List Linear) (marks : List Bool) (left : ℕ) (old new : Place) (ms : List ℤ) (all : Vec ℤ Global) → SearchesAt n rows marks old → Refutes n (as_given old.rows.items) ms → all.items ≡ stretched marks ms → new.rows.items ≡ old.rows.items → new.path.items ≡ old.path.items → IsTreeOf n rows left old new (Empty all)
-empty_tree n rows marks left old new ms all s h e r p = record {
+pub empty_tree : (n : ℕ) (rows : List Linear) (marks : List Bool) (left : ℕ) (old new : Place) (ms : List ℤ) (all : Vec ℤ Global) → SearchesAt n rows marks old → Refutes n (as_given old.rows.items) ms → AreShort ms → all.items ≡ stretched marks ms → new.rows.items ≡ old.rows.items → new.path.items ≡ old.path.items → IsTreeOf n rows left old new (Empty all)
+empty_tree n rows marks left old new ms all s h short e r p = record {
   met = λ sides a. subst (λ m. Refutes n (as_given rows ++ sides) m) (sym e) (stretched_refutes n marks rows s.first (rows_of old.path.items) sides ms s.marked a (subst (λ k. Refutes n (as_given k) ms) s.parts h));
   shallow = omega arith;
+  even = tt;
+  short = subst (λ m. AreShort m) (sym e) (stretched_short marks ms short);
   same_rows = r;
   same_path = p;
 }
 
 -- ---- a whole point
-dot-divided : (cs values xs : List ℤ) (z : ℤ) → length values ≡ length xs → ((j : ℕ) → j < length xs → get_or values j (pos 0) ≡ get_or xs j (pos 0) *ℤ z) → dot cs values ≡ dot cs xs *ℤ z
+pub dot-divided : (cs values xs : List ℤ) (z : ℤ) → length values ≡ length xs → ((j : ℕ) → j < length xs → get_or values j (pos 0) ≡ get_or xs j (pos 0) *ℤ z) → dot cs values ≡ dot cs xs *ℤ z
 dot-divided [] values xs z e h = sym (zero_times (pos 0) z refl)
 dot-divided (c ∷ cs) [] [] z e h = sym (zero_times (pos 0) z refl)
 dot-divided (c ∷ cs) [] (x ∷ xs) z e h = absurd (omega (arith, e))
@@ -273,7 +284,7 @@ dot-divided (c ∷ cs) (v ∷ values) (x ∷ xs) z e h =
     let d = distribute_right_z (c *ℤ x) (dot cs xs) z in
     omega (arith, ints, f, g, d)
 
-whole_met : (r : Linear) (values xs : List ℤ) (z : ℤ) → pos 0 <ℤ z → length values ≡ length xs → ((j : ℕ) → j < length xs → get_or values j (pos 0) ≡ get_or xs j (pos 0) *ℤ z) → scaled_value r values z ≤ℤ pos 0 → IsMet xs r
+pub whole_met : (r : Linear) (values xs : List ℤ) (z : ℤ) → pos 0 <ℤ z → length values ≡ length xs → ((j : ℕ) → j < length xs → get_or values j (pos 0) ≡ get_or xs j (pos 0) *ℤ z) → scaled_value r values z ≤ℤ pos 0 → IsMet xs r
 whole_met r values xs z p e h m =
     let f = dot-divided r.coefficients values xs z e h in
     let d = distribute_right_z (dot r.coefficients xs) r.constant z in
@@ -285,11 +296,11 @@ whole_met r values xs z p e h m =
       ]
     ]
 
-all_map : {A : Type 0} (P Q : A → Type 0) (xs : List A) → ((x : A) → P x → Q x) → All P xs → All Q xs
+pub all_map : {A : Type 0} (P Q : A → Type 0) (xs : List A) → ((x : A) → P x → Q x) → All P xs → All Q xs
 all_map P Q [] f h = All-nil Q
 all_map P Q (x ∷ xs) f h = All-cons Q x xs (f x (All-head P x xs h)) (all_map P Q xs f (All-tail P x xs h))
 
-all_left : {A : Type 0} (P : A → Type 0) (xs ys : List A) → All P (xs ++ ys) → All P xs
+pub all_left : {A : Type 0} (P : A → Type 0) (xs ys : List A) → All P (xs ++ ys) → All P xs
 all_left P [] ys h = All-nil P
 all_left P (x ∷ xs) ys h = All-cons P x xs (All-head P x (xs ++ ys) h) (all_left P xs ys (All-tail P x (xs ++ ys) h))
 
@@ -309,29 +320,22 @@ whole_found n rows marks place values scale xs s point met size d = record {
     values = values;
     scale = scale;
     point = point;
+    as_many = d.size;
     whole = d.same;
   };
+  short = λ j l. d.short j (let e = d.size in omega (arith, e, l));
 }
 
 -- ---- the first place
 pub first_search : (n : ℕ) (rows : List Linear) (marks : List Bool) (place : Place) → All (λ r. columns r ≡ n) rows → TakenOnce rows place.rows.items → IsTakenBy marks rows place.rows.items → place.path.items ≡ [] → SearchesAt n rows marks place
 first_search n rows marks place even t m e = subst (λ p. Searches n rows marks place.rows.items p) (sym e) record {
-  even = kept_even marks rows place.rows.items m even;
+  even = kept_even n marks rows place.rows.items m even;
   first = place.rows.items;
   parts = sym (append-nil place.rows.items);
   marked = m;
   taken = t;
   is_path = tt;
 }
-  where
-    kept_even : (b : List Bool) (rs ks : List Linear) → IsTakenBy b rs ks → All (λ r. columns r ≡ n) rs → All (λ r. columns r ≡ n) ks
-    kept_even [] [] [] k h = h
-    kept_even [] [] (x ∷ ks) k h = cc
-    kept_even [] (r ∷ rs) ks k h = absurd k
-    kept_even (c ∷ b) [] ks k h = absurd k
-    kept_even (true ∷ b) (r ∷ rs) ks k h = kept_even b rs ks k (All-tail (λ q. columns q ≡ n) r rs h)
-    kept_even (false ∷ b) (r ∷ rs) [] k h = absurd k
-    kept_even (false ∷ b) (r ∷ rs) (x ∷ ks) k h = All-cons (λ q. columns q ≡ n) x ks (ap columns k.0 ∙ All-head (λ q. columns q ≡ n) r rs h) (kept_even b rs ks k.1 (All-tail (λ q. columns q ≡ n) r rs h))
 
 -- a tree of the first place shows that no whole point meets the rows
 pub tree_met : (n : ℕ) (rows : List Linear) (left : ℕ) (old new : Place) (tree : CoverTree) → old.path.items ≡ [] → IsTreeOf n rows left old new tree → IsMetCover n no_target (as_given rows) tree

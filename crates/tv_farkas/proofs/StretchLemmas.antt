@@ -1,12 +1,15 @@
-use Rattle.std.proofs.Common.{◌≡◌, ℕ, suc, ◌<◌, List, [], ◌∷◌, ◌++◌, length, map, All, Bool, true, false, Option, None, Some, arith, refl, sym, ap, ◌∙◌, subst, ℤ, pos, ◌+ℤ◌, ◌*ℤ◌, ◌<ℤ◌, ◌≤ℤ◌}
+use Rattle.std.proofs.Common.{◌≡◌, ℕ, zero, suc, ◌<◌, List, [], ◌∷◌, ◌++◌, length, map, All, Bool, true, false, Option, None, Some, arith, refl, sym, ap, ◌∙◌, subst, ℤ, pos, ◌+ℤ◌, ◌*ℤ◌, ◌<ℤ◌, ◌≤ℤ◌}
 use Rattle.std.proofs.lemmas.Int.{ints}
-use Rattle.std.proofs.lemmas.List.Elements.{All-cons, All-head, All-tail}
-use Rattle.tv_linear.specs.Linear.{Linear, dot}
+use Rattle.std.proofs.lemmas.List.Elements.{All-nil, All-cons, All-head, All-tail}
+use Rattle.tv_linear.specs.Linear.{Linear, dot, IsWithin}
 use Rattle.tv_linear.specs.Fits.{IsHeld}
 use Rattle.tv_linear.specs.Known.{Known, number, known_number, as_given, KnownHeld}
 use Rattle.tv_linear.specs.Refutation.{RowsHeld, column_sum, Refutes}
 use Rattle.tv_tableau.proofs.Ring.{zero_times}
+use Rattle.tv_tableau.specs.Outcomes.{IsShort}
+use Rattle.tv_farkas.specs.Refuting.{AreShort}
 use Rattle.tv_farkas.specs.Stretching.{IsTakenBy, stretched, IsSide, AreSides}
+use Rattle.tv_farkas.proofs.PathLemmas.{append-nil}
 
 -- the columns that count
 abbrev pub IsColumn : ℕ → Option ℕ → Type 0
@@ -108,3 +111,24 @@ stretched_refutes n marks rows kept tail sides ms t s h = record {
   columns_held = λ j l. stretched_held n (Some j) l (pos 0) marks rows kept tail sides ms (omega arith) t s h.as_many (h.columns_held j l);
   constant_held = stretched_held n None tt (pos 0) marks rows kept tail sides ms (omega arith) t s h.as_many h.constant_held;
 }
+
+-- the multipliers stay short
+short_more : (x : ℤ) (xs : List ℤ) → IsShort x → AreShort xs → AreShort (x ∷ xs)
+short_more x xs s h zero l = s
+short_more x xs s h (suc j) l = h j (omega (arith, l))
+
+pub stretched_short : (marks : List Bool) (ms : List ℤ) → AreShort ms → AreShort (stretched marks ms)
+stretched_short [] ms h = h
+stretched_short (true ∷ marks) ms h = short_more (pos 0) (stretched marks ms) (omega arith) (stretched_short marks ms h)
+stretched_short (false ∷ marks) [] h = stretched_short marks [] h
+stretched_short (false ∷ marks) (m ∷ ms) h = short_more m (stretched marks ms) (h 0 (omega arith)) (stretched_short marks ms (λ j l. h (suc j) (omega (arith, l))))
+
+pub short_all : (xs : List ℤ) → AreShort xs → All (IsWithin 62) xs
+short_all [] h = All-nil (IsWithin 62)
+short_all (x ∷ xs) h = All-cons (IsWithin 62) x xs (h 0 (omega arith)) (short_all xs (λ j l. h (suc j) (omega (arith, l))))
+
+-- rows of which some are repeated are refuted where the rows, each taken once, are
+pub stretched_all : (n : ℕ) (marks : List Bool) (rows kept : List Linear) (ms : List ℤ) → IsTakenBy marks rows kept → Refutes n (as_given kept) ms → Refutes n (as_given rows) (stretched marks ms)
+stretched_all n marks rows kept ms t h =
+    subst (λ ks. Refutes n ks (stretched marks ms)) (append-nil (as_given rows))
+    (stretched_refutes n marks rows kept [] [] ms t tt (subst (λ k. Refutes n (as_given k) ms) (sym (append-nil kept)) h))

@@ -2,20 +2,20 @@ use Rattle.std.proofs.Common.{◌≡◌, ℕ, suc, ◌+◌, ◌<◌, List, [], �
 use Rattle.std.specs.List.{Contains}
 use Rattle.std.proofs.Math.Seq.{take-suc}
 use Rattle.std.proofs.lemmas.List.Elements.{All-nil, All-cons, All-head, All-tail, All-push}
-use Rattle.tv_linear.specs.Linear.{Linear}
+use Rattle.tv_linear.specs.Linear.{Linear, columns}
 use Rattle.tv_farkas.specs.Paths.{TakenOnce, none, first, again}
 use Rattle.tv_farkas.specs.Stretching.{IsTakenBy}
 use Rattle.tv_farkas.proofs.SystemLemmas.{at_of}
 
-all_front : {A : Type 0} (P : A → Type 0) (xs : List A) (x : A) → All P (xs ++ x ∷ []) → All P xs
+pub all_front : {A : Type 0} (P : A → Type 0) (xs : List A) (x : A) → All P (xs ++ x ∷ []) → All P xs
 all_front P [] x h = All-nil P
 all_front P (y ∷ ys) x h = All-cons P y ys (All-head P y (ys ++ x ∷ []) h) (all_front P ys x (All-tail P y (ys ++ x ∷ []) h))
 
-all_last : {A : Type 0} (P : A → Type 0) (xs : List A) (x : A) → All P (xs ++ x ∷ []) → P x
+pub all_last : {A : Type 0} (P : A → Type 0) (xs : List A) (x : A) → All P (xs ++ x ∷ []) → P x
 all_last P [] x h = All-head P x [] h
 all_last P (y ∷ ys) x h = all_last P ys x (All-tail P y (ys ++ x ∷ []) h)
 
-all_among : {A : Type 0} (P : A → Type 0) (xs : List A) (x : A) → Contains xs x → All P xs → P x
+pub all_among : {A : Type 0} (P : A → Type 0) (xs : List A) (x : A) → Contains xs x → All P xs → P x
 all_among P xs x c h = subst P c.2 (at_of P xs x h c.0 c.1)
 
 -- what holds of the kept rows holds of all
@@ -23,6 +23,17 @@ pub all_taken : (P : Linear → Type 0) (rows kept : List Linear) → TakenOnce 
 all_taken P rows kept none h = h
 all_taken P rows kept (first rs ks r t never) h = All-push P rs r (all_taken P rs ks t (all_front P ks r h)) (all_last P ks r h)
 all_taken P rows kept (again rs ks r t among) h = All-push P rs r (all_taken P rs ks t h) (all_among P ks r among h)
+
+-- the kept rows have as many columns as all
+pub kept_even : (n : ℕ) (marks : List Bool) (rows kept : List Linear) → IsTakenBy marks rows kept → All (λ r. columns r ≡ n) rows → All (λ r. columns r ≡ n) kept
+kept_even n [] [] [] k h = h
+kept_even n [] [] (x ∷ kept) k h = cc
+kept_even n [] (r ∷ rows) kept k h = absurd k
+kept_even n (c ∷ marks) [] kept k h = absurd k
+kept_even n (true ∷ marks) (r ∷ rows) kept k h = kept_even n marks rows kept k (All-tail (λ q. columns q ≡ n) r rows h)
+kept_even n (false ∷ marks) (r ∷ rows) [] k h = absurd k
+kept_even n (false ∷ marks) (r ∷ rows) (x ∷ kept) k h =
+    All-cons (λ q. columns q ≡ n) x kept (ap columns k.0 ∙ All-head (λ q. columns q ≡ n) r rows h) (kept_even n marks rows kept k.1 (All-tail (λ q. columns q ≡ n) r rows h))
 
 pub marked_again : (marks : List Bool) (rows kept : List Linear) (r : Linear) → IsTakenBy marks rows kept → IsTakenBy (marks ++ true ∷ []) (rows ++ r ∷ []) kept
 marked_again [] [] kept r h = h

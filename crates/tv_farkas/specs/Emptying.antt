@@ -1,14 +1,16 @@
-use Rattle.std.specs.Prelude.{◌≡◌, ℕ, ◌<◌, List, length, get_or, ℤ, pos, ◌*ℤ◌}
-use Rattle.tv_linear.specs.Linear.{Linear}
+use Rattle.std.specs.Prelude.{◌≡◌, ℕ, ◌<◌, ◌≤◌, List, length, get_or, ℤ, pos, ◌*ℤ◌}
+use Rattle.tv_linear.specs.Linear.{Linear, columns}
 use Rattle.tv_linear.specs.Known.{as_given}
 use Rattle.tv_linear.specs.Covers.{no_target, IsMetCover}
+use Rattle.tv_linear.specs.Depth.{splits as depth}
 use Rattle.tv_farkas.specs.declared.branch.Branch.{Branch}
 use Rattle.tv_farkas.specs.declared.emptied.Emptied.{Emptied}
 use Rattle.tv_farkas.specs.declared.emptied.Emptied.TheVariants.{Tree, Whole}
 use Rattle.tv_farkas.specs.declared.fault.CoverFault.{CoverFault}
 use Rattle.tv_farkas.specs.declared.fault.CoverFault.TheVariants.{Splits, Solve, Wide, Memory}
 use Rattle.tv_farkas.specs.RefutationSystem.{IsPointOf}
-use Rattle.tv_farkas.specs.Refuting.{IsSystemFault}
+use Rattle.tv_farkas.specs.Refuting.{AreShort, IsSystemFault}
+use Rattle.tv_farkas.specs.Trees.{TreeRows, TreeNumbers}
 use Rattle.tv_farkas.specs.Paths.{TakenOnce, IsWholePoint, IsCoordinateSplit, IsPath, rows_after}
 
 -- a met cover without targets, or a whole point
@@ -21,12 +23,28 @@ abbrev pub HasNoWholePoint : ℕ → List Linear → Emptied → Type 0
 HasNoWholePoint n rows (Tree cover) = (xs : List ℤ) → IsWholePoint n rows xs → ⊥
 HasNoWholePoint n rows (Whole values) = Unit {0}
 
+-- at most so many splits lie on a path of a tree
+abbrev pub IsShallow : ℕ → Emptied → Type 0
+IsShallow most (Tree cover) = depth cover ≤ most
+IsShallow most (Whole values) = Unit {0}
+
+-- each split row of a tree has n columns
+abbrev pub HasEvenSplits : ℕ → Emptied → Type 0
+HasEvenSplits n (Tree cover) = TreeRows (λ r. columns r ≡ n) cover
+HasEvenSplits n (Whole values) = Unit {0}
+
+-- each multiplier of a tree, and each number of a whole point, is below 2^62 in magnitude
+abbrev pub IsShortEmptied : Emptied → Type 0
+IsShortEmptied (Tree cover) = TreeNumbers AreShort cover
+IsShortEmptied (Whole values) = AreShort values.items
+
 -- a path without targets: the lower side of each split that is left has no whole point
 abbrev pub IsEmptyPath : ℕ → List Linear → List Branch → Type 0
 IsEmptyPath n rows path = IsPath (IsCoordinateSplit n (λ xs. ⊥)) rows path
 
--- the whole numbers are the point of the rows at the end of such a path, each taken once
+-- the n whole numbers are the point of the rows at the end of such a path, each taken once
 pub record IsWholePointOf (n : ℕ) (rows : List Linear) (xs : List ℤ) : Type 0 where
+  pub as_many : length xs ≡ n
   pub path : List Branch
   pub is_path : IsEmptyPath n rows path
   pub kept : List Linear

@@ -2,8 +2,10 @@ use Rattle.std.specs.Prelude.{◌≡◌, ◌⊎◌, ℕ, ◌<◌, List, [], ◌�
 use Rattle.std.specs.List.{Contains}
 use Rattle.tv_linear.specs.Linear.{Linear, IsMet, IsScaledPoint}
 use Rattle.tv_linear.specs.Arithmetic.{column_row, raised, denial}
+use Rattle.tv_tableau.specs.Outcomes.{IsShort}
 use Rattle.tv_farkas.specs.declared.branch.Branch.{Branch}
 use Rattle.tv_farkas.specs.RefutationSystem.{IsPointOf}
+use Rattle.tv_farkas.specs.Refuting.{AreShort}
 
 -- the second list is the first with each row taken once, at its first place
 pub data TakenOnce : List Linear → List Linear → Type 0 where
@@ -15,9 +17,9 @@ pub data TakenOnce : List Linear → List Linear → Type 0 where
 abbrev pub IsWholeAt : List ℤ → ℤ → ℕ → Type 0
 IsWholeAt values scale j = (q : ℤ) × (get_or values j (pos 0) ≡ q *ℤ scale)
 
--- column is the first coordinate of the point that is not whole, and floor the whole number just below it
-pub record IsFirstFraction (values : List ℤ) (scale : ℤ) (column : ℕ) (floor : ℤ) : Type 0 where
-  pub within : column < length values
+-- column is the first of the n coordinates of the point that is not whole, and floor the whole number just below it
+pub record IsFirstFraction (n : ℕ) (values : List ℤ) (scale : ℤ) (column : ℕ) (floor : ℤ) : Type 0 where
+  pub within : column < n
   pub before : (j : ℕ) → j < column → IsWholeAt values scale j
   pub fraction : IsWholeAt values scale column → ⊥
   pub below : (floor *ℤ scale) ≤ℤ get_or values column (pos 0)
@@ -36,16 +38,18 @@ pub record IsWholePoint (n : ℕ) (rows : List Linear) (xs : List ℤ) : Type 0 
   pub met : All (IsMet xs) rows
 
 -- The row splits below or above the first coordinate that is not whole of the point of the rows above it, each
--- of them taken once. The lower side is settled first: where the row is that of the upper side, each whole point
--- of the lower side is settled.
+-- of them taken once; the numbers of the point are short. The lower side is settled first: where the row is that of
+-- the upper side, each whole point of the lower side is settled.
 pub record IsPointSplit (n : ℕ) (settled : List ℤ → Type 0) (above : List Linear) (row : Linear) (values : List ℤ) (scale : ℤ) : Type 0 where
   pub kept : List Linear
   pub taken : TakenOnce above kept
   pub point : IsPointOf n kept values scale
   pub met : IsScaledPoint above values scale
+  pub short : AreShort values
+  pub scale_short : IsShort scale
   pub column : ℕ
   pub floor : ℤ
-  pub fraction : IsFirstFraction values scale column floor
+  pub fraction : IsFirstFraction n values scale column floor
   pub side :
       (row ≡ at_most_row n column floor)
       ⊎ ((row ≡ at_least_row n column floor)

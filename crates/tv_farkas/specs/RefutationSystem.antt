@@ -1,4 +1,4 @@
-use Rattle.std.specs.Prelude.{ℕ, zero, suc, ◌+◌, ◌*◌, ◌<◌, List, [], ◌∷◌, ◌++◌, length, map, ℤ, pos, neg_ℤ}
+use Rattle.std.specs.Prelude.{◌≡◌, ℕ, zero, suc, ◌+◌, ◌*◌, ◌<◌, List, [], ◌∷◌, ◌++◌, length, map, ℤ, pos, neg_ℤ}
 use Rattle.tv_linear.specs.Linear.{Linear, entry}
 use Rattle.tv_linear.specs.Arithmetic.{zeros}
 use Rattle.tv_tableau.specs.Systems.{Equations}
@@ -23,7 +23,8 @@ refutation_system n rows = record {
 abbrev pub IsLarge : ℕ → List Linear → Type 0
 IsLarge n rows = 4000000 < (n + 1) * length rows
 
--- the values over the scale are the point that the barrier of the last basis of the chain of the rows'
--- refutation system gives: each value, and the scale last, is the opposite of a multiplier
-abbrev pub IsPointOf : ℕ → List Linear → List ℤ → ℤ → Type 0
-IsPointOf n rows values scale = GivesBarrier (refutation_system n rows) (map neg_ℤ (values ++ scale ∷ []))
+-- a value for each of the n columns: over the scale they are the point that the barrier of the last basis of the
+-- chain of the rows' refutation system gives. Each value, and the scale last, is the opposite of a multiplier.
+pub record IsPointOf (n : ℕ) (rows : List Linear) (values : List ℤ) (scale : ℤ) : Type 0 where
+  pub as_many : length values ≡ n
+  pub barrier : GivesBarrier (refutation_system n rows) (map neg_ℤ (values ++ scale ∷ []))

@@ -1,4 +1,4 @@
-use Rattle.std.specs.Prelude.{◌≡◌, ℕ, ◌+◌, List, [], ◌∷◌, ◌++◌, length, map, get_or, ◌<◌, ℤ, pos, neg_ℤ, ◌<ℤ◌}
+use Rattle.std.specs.Prelude.{◌≡◌, ℕ, ◌+◌, List, [], ◌∷◌, ◌++◌, length, map, get_or, ◌<◌, ℤ, pos, neg_ℤ}
 use Rattle.tv_linear.specs.Linear.{Linear, IsScaledPoint}
 use Rattle.tv_linear.specs.Known.{as_given}
 use Rattle.tv_linear.specs.Refutation.{Refutes}
@@ -26,7 +26,7 @@ IsShortRefuted (Point values scale) = AreShort values.items × IsShort scale
 -- it is what the last basis of the chain of the refutation system gives
 abbrev pub GivesRefuted : ℕ → List Linear → Refuted → Type 0
 GivesRefuted n rows (Empty multipliers) =
-    (scale : ℤ) × (pos 0 <ℤ scale) × GivesSolution (refutation_system n rows) multipliers.items scale
+    (scale : ℤ) × GivesSolution (refutation_system n rows) multipliers.items scale
 GivesRefuted n rows (Point values scale) = IsPointOf n rows values.items scale
 
 -- the refusal is for the size of the system, or for want of memory

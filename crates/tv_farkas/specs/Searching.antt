@@ -6,14 +6,12 @@ use Rattle.tv_linear.specs.Covers.{no_target, IsMetCover}
 use Rattle.tv_linear.specs.Depth.{splits}
 use Rattle.tv_linear.specs.declared.cover.CoverTree.{CoverTree}
 use Rattle.tv_tableau.specs.Outcomes.{IsShort}
-use Rattle.tv_simplex.specs.declared.fault.SolveFault.{SolveFault}
-use Rattle.tv_simplex.specs.declared.fault.SolveFault.TheVariants as faults
-use Rattle.tv_farkas.specs.declared.fault.CoverFault.{CoverFault}
-use Rattle.tv_farkas.specs.declared.fault.CoverFault.TheVariants.{Splits, Solve, Wide, Memory}
 use Rattle.tv_farkas.specs.declared.emptying.Found.{Found}
 use Rattle.tv_farkas.specs.declared.emptying.Found.TheVariants.{Tree, Whole}
 use Rattle.tv_farkas.specs.declared.emptying.Place.{Place}
 use Rattle.tv_farkas.specs.RefutationSystem.{IsPointOf}
+use Rattle.tv_farkas.specs.Refuting.{AreShort}
+use Rattle.tv_farkas.specs.Trees.{TreeRows, TreeNumbers}
 use Rattle.tv_farkas.specs.Paths.{IsWholeAt, IsWholePoint, IsPointSplit, rows_after}
 use Rattle.tv_farkas.specs.Emptying.{IsWholePointOf}
 use Rattle.tv_farkas.specs.Stretching.{Searches, IsSide, AreSides, rows_of}
@@ -25,6 +23,8 @@ SearchesAt n rows marks place = Searches n rows marks place.rows.items place.pat
 pub record IsTreeOf (n : ℕ) (rows : List Linear) (left : ℕ) (old new : Place) (tree : CoverTree) : Type 0 where
   pub met : (sides : List Known) → AreSides n (rows_of old.path.items) sides → IsMetCover n no_target (as_given rows ++ sides) tree
   pub shallow : splits tree ≤ left
+  pub even : TreeRows (λ r. columns r ≡ n) tree
+  pub short : TreeNumbers AreShort tree
   pub same_rows : new.rows.items ≡ old.rows.items
   pub same_path : new.path.items ≡ old.path.items
 
@@ -33,6 +33,8 @@ pub record IsSideTree (n : ℕ) (rows : List Linear) (left : ℕ) (old new : Pla
   pub met : (sides : List Known) (side : Known) → AreSides n (rows_of old.path.items) sides → IsSide n row side →
       IsMetCover n no_target ((as_given rows ++ sides) ++ side ∷ []) tree
   pub shallow : splits tree ≤ left
+  pub even : TreeRows (λ r. columns r ≡ n) tree
+  pub short : TreeNumbers AreShort tree
   pub same_rows : new.rows.items ≡ old.rows.items
   pub same_path : new.path.items ≡ old.path.items
 
@@ -40,6 +42,7 @@ pub record IsSideTree (n : ℕ) (rows : List Linear) (left : ℕ) (old new : Pla
 pub record IsWholeFound (n : ℕ) (rows : List Linear) (xs : List ℤ) : Type 0 where
   pub meets : IsWholePoint n rows xs
   pub origin : IsWholePointOf n rows xs
+  pub short : AreShort xs
 
 abbrev pub IsFound : ℕ → List Linear → ℕ → Place → Place → Found → Type 0
 IsFound n rows left old new (Tree tree) = IsTreeOf n rows left old new tree
@@ -65,17 +68,3 @@ pub record MaySplit (n : ℕ) (rows : List Linear) (place : Place) (row : Linear
   pub even : columns row ≡ n
   pub fresh : Contains place.rows.items row → ⊥
   pub splits_at : IsPointSplit n (λ xs. ⊥) (rows_after rows place.path.items) row values scale
-
-abbrev pub IsShown : SolveFault → Type 0
-IsShown (faults.Width basis row column) = Unit {0}
-IsShown (faults.Scale basis) = Unit {0}
-IsShown (faults.Pivots bases) = Unit {0}
-IsShown (faults.Size rows columns) = Unit {0}
-IsShown faults.Memory = ⊥
-
--- the refusal hands the rows of the place on with the fault of the solver
-abbrev pub IsHandedOn : List Linear → SolveFault → CoverFault → Type 0
-IsHandedOn kept fault (Splits path) = ⊥
-IsHandedOn kept fault (Solve rows f) = (rows.items ≡ kept) × (f ≡ fault) × IsShown f
-IsHandedOn kept fault (Wide column) = ⊥
-IsHandedOn kept fault Memory = Unit {0}

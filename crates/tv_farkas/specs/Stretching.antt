@@ -2,6 +2,7 @@ use Rattle.std.specs.Prelude.{◌≡◌, ℕ, ◌<◌, List, [], ◌∷◌, ◌+
 use Rattle.tv_linear.specs.Linear.{Linear, columns}
 use Rattle.tv_linear.specs.declared.cover.CoverTree.{CoverTree, Split', Empty, Into}
 use Rattle.tv_linear.specs.Known.{Known, number, known_number, KnownHeld}
+use Rattle.tv_tableau.specs.Outcomes.{IsShort}
 use Rattle.tv_farkas.specs.declared.branch.Branch.{Branch}
 use Rattle.tv_farkas.specs.Paths.{TakenOnce, IsWholeAt, rows_after}
 use Rattle.tv_farkas.specs.Emptying.{IsEmptyPath}
@@ -31,10 +32,16 @@ pub record IsFloor (x z k : ℤ) : Type 0 where
 abbrev pub AreWhole : List ℤ → ℤ → Type 0
 AreWhole values scale = (j : ℕ) → j < length values → IsWholeAt values scale j
 
--- the first n numbers divided by the scale
+-- the coordinate is the first one that is not whole
+abbrev pub IsFirstOpen : List ℤ → ℤ → ℕ → Type 0
+IsFirstOpen values scale j =
+    (j < length values) × ((i : ℕ) → i < j → IsWholeAt values scale i) × (IsWholeAt values scale j → ⊥)
+
+-- the first n numbers divided by the scale; they are short
 pub record AreDivided (n : ℕ) (values : List ℤ) (scale : ℤ) (xs : List ℤ) : Type 0 where
   pub size : length xs ≡ n
   pub same : (j : ℕ) → j < n → get_or values j (pos 0) ≡ get_or xs j (pos 0) *ℤ scale
+  pub short : (j : ℕ) → j < n → IsShort (get_or xs j (pos 0))
 
 -- the row as it is known in a cover has the same numbers, which can be told
 pub record IsSide (n : ℕ) (r : Linear) (k : Known) : Type 0 where

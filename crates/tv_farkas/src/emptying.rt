@@ -6,20 +6,22 @@ ghost use Rattle.tv_linear.specs.Linear.{Linear, columns as width, IsScaledPoint
 ghost use Rattle.tv_tableau.specs.Outcomes.{IsShort};
 ghost use Rattle.tv_farkas.specs.RefutationSystem.{IsPointOf};
 ghost use Rattle.tv_farkas.specs.Paths.{IsWholeAt, IsFirstFraction};
-ghost use Rattle.tv_farkas.specs.Emptying.{IsEmptied, HasNoWholePoint, GivesWhole, IsEmptyFault};
+ghost use Rattle.tv_farkas.specs.Emptying.{IsEmptied, HasNoWholePoint, IsShallow, HasEvenSplits, IsShortEmptied};
+ghost use Rattle.tv_farkas.specs.Emptying.{GivesWhole, IsEmptyFault};
 ghost use Rattle.tv_farkas.specs.Stretching.{Searches, IsSplitOf};
-ghost use Rattle.tv_farkas.specs.Searching.{SearchesAt, IsFound, IsSideFound, IsFractionAt, MaySplit, IsHandedOn};
+ghost use Rattle.tv_farkas.specs.Searching.{SearchesAt, IsFound, IsSideFound, IsFractionAt, MaySplit};
 
+use crate::judging::unsolved;
 use crate::points::{divided, first_fraction, floor_of};
-use crate::refutation::push_item;
 use crate::refuting::refute;
 use crate::rows::{Distinct, at_least, at_most, take_once};
+use crate::splitting::split_of;
 use crate::stretching::stretch;
 use crate::{Branch, Budget, CoverFault, Emptied, Refuted};
-use std::alloc::{AllocError, Global};
+use std::alloc::Global;
 use std::mem;
 use tv_linear::{Cover, CoverTree, Row, shortened};
-use tv_simplex::SolveFault;
+use tv_simplex::push_item;
 
 /// What stays the same in a search.
 #[derive(Drop)]
@@ -47,33 +49,6 @@ enum Found {
     Whole(Vec<i128>),
 }
 
-/// A split at a row, with the trees where it is met and where it is not.
-fn split_of(
-    alloc: Global,
-    row: Row,
-    holds: CoverTree,
-    fails: CoverTree,
-) -> Result<CoverTree, AllocError>
-    ensures { IfOk result (IsSplitOf row holds fails) }
-{
-    let holds = Box::new(alloc, holds)?;
-    let fails = Box::new(alloc, fails)?;
-    Ok(CoverTree::Split(row, holds, fails))
-}
-
-/// The refusal of the rows at a place.
-fn unsolved(alloc: Global, place: &mut Place, fault: SolveFault) -> CoverFault
-    ensures { IsHandedOn place.old.rows.items fault result }
-{
-    match fault {
-        SolveFault::Memory => CoverFault::Memory,
-        fault => CoverFault::Solve {
-            rows: mem::replace(&mut place.rows, Vec::new(alloc)),
-            fault,
-        },
-    }
-}
-
 /// Settles a place below which so many splits may lie.
 #[cycle(searching)]
 fn settle(question: &Question, place: &mut Place, left: u32) -> Result<Found, CoverFault>
@@ -86,7 +61,7 @@ fn settle(question: &Question, place: &mut Place, left: u32) -> Result<Found, Co
 {
     let alloc = question.alloc;
     match refute(alloc, &place.rows, question.columns, question.pivots) {
-        Err(fault) => Err(unsolved(alloc, place, fault)),
+        Err(fault) => Err(unsolved(mem::replace(&mut place.rows, Vec::new(alloc)), fault)),
         Ok(Refuted::Empty { multipliers }) => {
             let short = shortened(alloc, &multipliers)?;
             let all = stretch(alloc, question.repeated, &short)?;
@@ -194,6 +169,9 @@ pub fn empty(
     requires splits { budget.now.splits ≤ 128 }
     ensures answers { IfOk result (λ e. IsEmptied columns rows.now e) }
     ensures none { IfOk result (λ e. HasNoWholePoint columns rows.now e) }
+    ensures shallow { IfOk result (λ e. IsShallow budget.now.splits e) }
+    ensures split_rows { IfOk result (λ e. HasEvenSplits columns e) }
+    ensures short { IfOk result IsShortEmptied }
     ensures first { IfOk result (λ e. GivesWhole columns rows.now e) }
     ensures refusals { IfErr result (λ e. IsEmptyFault columns rows.now budget.now.pivots budget.now.splits e) }
 {

@@ -7,11 +7,14 @@ mod budget;
 mod emptied;
 mod emptying;
 mod fault;
+mod judged;
+mod judging;
 mod points;
 mod refutation;
 mod refuted;
 mod refuting;
 mod rows;
+mod splitting;
 mod stretching;
 
 pub use branch::Branch;
@@ -19,8 +22,11 @@ pub use budget::Budget;
 pub use emptied::Emptied;
 pub use emptying::empty;
 pub use fault::CoverFault;
+pub use judged::Judged;
+pub use judging::{judge, unsolved};
+pub use points::{divided, first_fraction, floor_of};
 pub use refuted::Refuted;
 pub use refuting::refute;
-
-#[cfg(test)]
-mod tests;
+pub use rows::{Distinct, at_least, at_most, is_among, is_same, take_once};
+pub use splitting::split_of;
+pub use stretching::stretch;

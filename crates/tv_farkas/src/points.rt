@@ -3,10 +3,10 @@
 ghost use Rattle.std.specs.Prelude.{◌≡◌, ℕ, ◌+◌, ◌^◌, ◌<◌, ◌≤◌, length, get_or, pos, ◌<ℤ◌, ◌≤ℤ◌, ◌+ℤ◌, ◌*ℤ◌, IsTrue, ◌↔◌, IfOk, MatchOption};
 ghost use Rattle.tv_tableau.specs.Outcomes.{IsShort};
 ghost use Rattle.tv_farkas.specs.Paths.{IsWholeAt, IsFirstFraction};
-ghost use Rattle.tv_farkas.specs.Stretching.{AreWhole, AreDivided, IsFloor};
+ghost use Rattle.tv_farkas.specs.Stretching.{AreWhole, IsFirstOpen, AreDivided, IsFloor};
 
-use crate::refutation::push_item;
 use std::alloc::{AllocError, Global};
+use tv_simplex::push_item;
 
 /// The whole number at or just below a number over a scale.
 pub fn floor_of(number: i128, scale: i128) -> i128
@@ -33,7 +33,7 @@ pub fn first_fraction(values: &[i128], scale: i128) -> Option<usize>
     requires values { (j : ℕ) → j < length values.now → IsShort (get_or values.now j (pos 0)) }
     requires scale { IsShort scale }
     requires positive { pos 0 <ℤ scale }
-    ensures { MatchOption result (AreWhole values.now scale) (λ j. (j < length values.now) × ((i : ℕ) → i < j → IsWholeAt values.now scale i) × (IsWholeAt values.now scale j → ⊥)) }
+    ensures { MatchOption result (AreWhole values.now scale) (IsFirstOpen values.now scale) }
 {
     'columns: for column in 0..values.len() {
         let floor = floor_of(values[column], scale);

@@ -9,15 +9,7 @@ ghost use Rattle.tv_farkas.specs.RefutationSystem.{numbers_below, refutation_sys
 
 use std::alloc::{AllocError, Global};
 use tv_linear::Row;
-use tv_simplex::System;
-
-/// Puts an item at the end of a vector.
-pub fn push_item<T: Drop>(items: &mut Vec<T>, item: T) -> Result<(), AllocError>
-    ensures { IfOk result (λ _. items.new.items ≡ items.old.items ++ item ∷ []) }
-{
-    items.push(item)?;
-    Ok(())
-}
+use tv_simplex::{System, push_item};
 
 /// The number of a row in a column, of which the constant's is the last.
 fn number_at(row: &Row, column: usize) -> i128

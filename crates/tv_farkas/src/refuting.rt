@@ -10,10 +10,10 @@ ghost use Rattle.tv_farkas.specs.RefutationSystem.{refutation_system, IsLarge};
 ghost use Rattle.tv_farkas.specs.Refuting.{IsRefuted, IsShortRefuted, GivesRefuted, IsRefusal, IsSize, IsOppositePoint};
 
 use crate::Refuted;
-use crate::refutation::{is_large, push_item, refutation_of};
+use crate::refutation::{is_large, refutation_of};
 use std::alloc::{AllocError, Global};
 use tv_linear::Row;
-use tv_simplex::{Answer, SolveFault, solve};
+use tv_simplex::{Answer, SolveFault, push_item, solve};
 
 /// The opposite of a number at a place.
 fn opposite_at(numbers: &[i128], place: usize) -> i128

@@ -6,9 +6,9 @@ ghost use Rattle.tv_linear.specs.Linear.{columns as width, IsWithin};
 ghost use Rattle.tv_farkas.specs.Paths.{TakenOnce, at_most_row, at_least_row};
 ghost use Rattle.tv_farkas.specs.Stretching.{IsTakenBy};
 
-use crate::refutation::push_item;
 use std::alloc::{AllocError, Global};
 use tv_linear::Row;
+use tv_simplex::push_item;
 
 /// Rows that are taken once, and for each row of the list that they come from whether it was taken before.
 #[derive(Drop)]
@@ -17,13 +17,15 @@ pub struct Distinct {
     pub repeated: Vec<bool>,
 }
 
-fn is_same(first: &Row, second: &Row) -> bool
+/// Whether two rows have the same numbers.
+pub fn is_same(first: &Row, second: &Row) -> bool
     ensures { IsTrue result ↔ first.now ≡ second.now }
 {
     first.constant() == second.constant() && first.coefficients() == second.coefficients()
 }
 
-fn is_among(rows: &[Row], row: &Row) -> bool
+/// Whether the row is one of the list.
+pub fn is_among(rows: &[Row], row: &Row) -> bool
     ensures { IsTrue result ↔ Contains rows.now row.now }
 {
     'rows: for other in rows {

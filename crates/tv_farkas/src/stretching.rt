@@ -3,8 +3,8 @@
 ghost use Rattle.std.specs.Prelude.{◌≡◌, ◌++◌, IfOk};
 ghost use Rattle.tv_farkas.specs.Stretching.{stretched};
 
-use crate::refutation::push_item;
 use std::alloc::{AllocError, Global};
+use tv_simplex::push_item;
 
 /// Puts more numbers at the end of a list.
 fn append(numbers: &mut Vec<i64>, more: &[i64]) -> Result<(), AllocError>

@@ -64,6 +64,3 @@ impl Fraction {
         self.numerator.unsigned_abs() < 1 << 40 && self.denominator.unsigned_abs() < 1 << 40
     }
 }
-
-#[cfg(test)]
-mod tests;

@@ -54,6 +54,3 @@ pub fn components(alloc: Global, nodes: u32, arcs: &[Arc]) -> Result<Vec<u32>, A
     let numbers = search.numbers(alloc, arcs)?;
     Ok(numbers)
 }
-
-#[cfg(test)]
-mod tests;

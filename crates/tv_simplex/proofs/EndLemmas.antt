@@ -90,6 +90,8 @@ module _ (s : Equations) (n : ℕ) (t : Table) (st : StandsAt s n t) where
 
     pub gives_solution : (numbers values : List ℤ) (scale : ℤ) → AreScaled fractions numbers scale → AreValues s.rows s.columns t.basis.items numbers values → GivesSolution s values scale
     gives_solution numbers values scale scaled v = record {
+      as_many = v.size;
+      positive = scaled.positive;
       basis = t.basis.items;
       in_chain = in_chain;
       ends = ends_in_solution solved;
@@ -103,7 +105,7 @@ module _ (s : Equations) (n : ℕ) (t : Table) (st : StandsAt s n t) where
     }
 
     pub right_solution : (numbers values : List ℤ) (scale : ℤ) → AreScaled fractions numbers scale → AreValues s.rows s.columns t.basis.items numbers values → IsSolutionOf s values scale
-    right_solution numbers values scale scaled v = solution_met s values scale (gives_solution numbers values scale scaled v) v.size scaled.positive scaled.scale_short v.short
+    right_solution numbers values scale scaled v = solution_met s values scale (gives_solution numbers values scale scaled v) scaled.scale_short v.short
 
     -- the value at a column of the basis
     own_value : (i : ℕ) → i < s.rows → solution_number s t.basis.items st.shows.table (column t.basis.items i) ≡ st.shows.table.entry i (s.columns + s.rows)
@@ -175,6 +177,7 @@ module _ (s : Equations) (n : ℕ) (t : Table) (st : StandsAt s n t) where
 
     pub gives_barrier : (numbers y : List ℤ) (scale : ℤ) → AreScaled fractions numbers scale → AreSigned s s.rows numbers y → GivesBarrier s y
     gives_barrier numbers y scale scaled v = record {
+      as_many = v.size;
       basis = t.basis.items;
       in_chain = in_chain;
       ends = ends_in_barrier i u none;
@@ -188,7 +191,7 @@ module _ (s : Equations) (n : ℕ) (t : Table) (st : StandsAt s n t) where
     }
 
     pub right_barrier : (numbers y : List ℤ) (scale : ℤ) → AreScaled fractions numbers scale → AreSigned s s.rows numbers y → IsBarrierOf s y
-    right_barrier numbers y scale scaled v = barrier_met s y (gives_barrier numbers y scale scaled v) v.size v.short
+    right_barrier numbers y scale scaled v = barrier_met s y (gives_barrier numbers y scale scaled v) v.short
 
     have_scale_too : HasScale s.rows (barrier_number s t.basis.items st.shows.table) st.shows.table.scale → HaveScale fractions
     have_scale_too h = record {

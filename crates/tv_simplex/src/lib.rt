@@ -24,8 +24,6 @@ mod walking;
 
 pub use answer::Answer;
 pub use fault::SolveFault;
+pub use push::push_item;
 pub use settling::solve;
 pub use system::System;
-
-#[cfg(test)]
-mod tests;

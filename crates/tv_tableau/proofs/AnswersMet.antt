@@ -41,16 +41,16 @@ scaled_sum n x y f s t h =
     ∙ total-same n (λ j. s *ℤ (f j *ℤ x j)) (λ j. t *ℤ (f j *ℤ y j)) (λ j l. mul_swap s (f j) (x j) ∙ ap (λ z. f j *ℤ z) (*ℤ_comm s (x j) ∙ h j l) ∙ mul_swap (f j) t (y j))
     ∙ total-times n t (λ j. f j *ℤ y j)
 
-pub solution_met : (s : Equations) (values : List ℤ) (scale : ℤ) → GivesSolution s values scale → length values ≡ s.columns → pos 0 <ℤ scale → IsShort scale → ((j : ℕ) → j < s.columns → IsShort (get_or values j (pos 0))) → IsSolutionOf s values scale
-solution_met s values scale g size positive scale_short short =
+pub solution_met : (s : Equations) (values : List ℤ) (scale : ℤ) → GivesSolution s values scale → IsShort scale → ((j : ℕ) → j < s.columns → IsShort (get_or values j (pos 0))) → IsSolutionOf s values scale
+solution_met s values scale g scale_short short =
     let x = g.in_chain.table in
     let is = solution (matrix s) s.rows s.columns (column g.basis) x g.ends in
     let v = λ (j : ℕ). get_or values j (pos 0) in
     let w = solution_number s g.basis x in
     record {
-      as_many = size;
-      none_negative = λ j l. at_least x.scale (v j) x.positive (subst (λ z. pos 0 ≤ℤ z) (sym (*ℤ_comm x.scale (v j) ∙ g.numbers j l)) (times_at_least scale (w j) positive (is.not_under j l)));
-      positive = positive;
+      as_many = g.as_many;
+      none_negative = λ j l. at_least x.scale (v j) x.positive (subst (λ z. pos 0 ≤ℤ z) (sym (*ℤ_comm x.scale (v j) ∙ g.numbers j l)) (times_at_least scale (w j) g.positive (is.not_under j l)));
+      positive = g.positive;
       met = λ k l. same_factor x.scale (total s.columns (λ j. entry_at s k j *ℤ v j)) (scale *ℤ right_at s k) x.positive (
           scaled_sum s.columns v w (entry_at s k) x.scale scale g.numbers
           ∙ ap (λ z. scale *ℤ z) (solution_back s w x.scale is k l)
@@ -70,15 +70,15 @@ barrier_is s basis in_chain ends =
 swapped : (n : ℕ) (x f : ℕ → ℤ) → total n (λ k. x k *ℤ f k) ≡ total n (λ k. f k *ℤ x k)
 swapped n x f = total-same n (λ k. x k *ℤ f k) (λ k. f k *ℤ x k) (λ k l. *ℤ_comm (x k) (f k))
 
-pub barrier_met : (s : Equations) (y : List ℤ) → GivesBarrier s y → length y ≡ s.rows → ((k : ℕ) → k < s.rows → IsShort (get_or y k (pos 0))) → IsBarrierOf s y
-barrier_met s y g size short =
+pub barrier_met : (s : Equations) (y : List ℤ) → GivesBarrier s y → ((k : ℕ) → k < s.rows → IsShort (get_or y k (pos 0))) → IsBarrierOf s y
+barrier_met s y g short =
     let x = g.in_chain.table in
     let is = barrier_is s g.basis g.in_chain g.ends in
     let v = λ (k : ℕ). get_or y k (pos 0) in
     let w = barrier_number s g.basis x in
     let sums = λ (f : ℕ → ℤ). ap (λ z. x.scale *ℤ z) (swapped s.rows v f) ∙ scaled_sum s.rows v w f x.scale g.scale g.numbers ∙ ap (λ z. g.scale *ℤ z) (sym (swapped s.rows w f)) in
     record {
-      as_many = size;
+      as_many = g.as_many;
       not_under = λ j l. at_least x.scale (total s.rows (λ k. v k *ℤ entry_at s k j)) x.positive (subst (λ z. pos 0 ≤ℤ z) (sym (sums (λ k. entry_at s k j))) (times_at_least g.scale (total s.rows (λ k. w k *ℤ entry_at s k j)) g.positive (barrier_columns s (barrier_of (matrix s) s.rows s.columns (column g.basis) x) is j l)));
       below = is_below x.scale (total s.rows (λ k. v k *ℤ right_at s k)) x.positive (
           let e = sums (right_at s) in

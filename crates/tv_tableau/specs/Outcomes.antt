@@ -66,16 +66,19 @@ solution_number s basis x j = values_of (matrix s) s.rows s.columns (column basi
 abbrev pub barrier_number : (s : Equations) (basis : List ℕ) → TableauOf s basis → ℕ → ℤ
 barrier_number s basis x k = sign s k *ℤ barrier_of (matrix s) s.rows s.columns (column basis) x k
 
--- the values over the scale are the solution of the last basis of the chain
+-- a value for each column: over the scale they are the solution of the last basis of the chain
 pub record GivesSolution (s : Equations) (values : List ℤ) (scale : ℤ) : Type 0 where
+  pub as_many : length values ≡ s.columns
+  pub positive : pos 0 <ℤ scale
   pub basis : List ℕ
   pub in_chain : InChain s basis
   pub ends : EndsInSolution s basis in_chain.table
   pub numbers : (j : ℕ) → j < s.columns →
       get_or values j (pos 0) *ℤ in_chain.table.scale ≡ scale *ℤ solution_number s basis in_chain.table j
 
--- the multipliers, over some scale, are the barrier of the last basis of the chain
+-- a multiplier for each row: over some scale they are the barrier of the last basis of the chain
 pub record GivesBarrier (s : Equations) (y : List ℤ) : Type 0 where
+  pub as_many : length y ≡ s.rows
   pub basis : List ℕ
   pub in_chain : InChain s basis
   pub ends : EndsInBarrier s basis in_chain.table

@@ -9,9 +9,9 @@ use Rattle.tv_farkas.specs.RefutationSystem.{IsPointOf}
 use Rattle.tv_farkas.specs.Refuting.{IsRefuted, GivesRefuted, IsShortRefuted}
 use Rattle.tv_linear.specs.Refutation.{Refutes}
 use Rattle.tv_linear.specs.Known.{as_given}
-use Rattle.tv_farkas.specs.Stretching.{stretched, AreWhole, AreDivided}
+use Rattle.tv_farkas.specs.Stretching.{stretched, AreWhole, IsFirstOpen, AreDivided}
 use Rattle.tv_farkas.proofs.SearchLemmas.{empty_tree, whole_found}
-use Rattle.std.proofs.Common.{ℕ, zero, suc, List, ◌++◌, ◌∷◌, [], ◌-◌, ◌<◌, get_or, ℤ, pos, ◌+ℤ◌}
+use Rattle.std.proofs.Common.{ℕ, zero, suc, List, ◌++◌, ◌∷◌, [], ◌-◌, get_or, ℤ, pos, ◌+ℤ◌}
 use Rattle.tv_linear.specs.Linear.{IsMet}
 use Rattle.tv_tableau.specs.Outcomes.{IsShort}
 use Rattle.tv_farkas.specs.Paths.{IsWholeAt, IsWholePoint, at_most_row, at_least_row, rows_after}
@@ -27,7 +27,8 @@ settle-returns-in-Ok-Empty t c = λ rows s.
     let n = c.args.question.now.columns in
     let marks = c.args.question.now.repeated.now in
     let h : Refutes n (as_given c.deref.result.now) c.in-Ok-Empty.multipliers.items = subst (λ r. IsRefuted n c.deref.result.now r) c.in-Ok-Empty.field-0-is c.in-Ok-Empty.ensures.answers in
-    empty_tree n rows marks c.args.left c.args.place.now _ c.in-Ok-Empty.multipliers.items c.in_ok-all-in-Ok-Empty.all s (subst (λ k. Refutes n (as_given k) c.in-Ok-Empty.multipliers.items) c.deref.ensures.value h)
+    let short = subst (λ r. IsShortRefuted r) c.in-Ok-Empty.field-0-is c.in-Ok-Empty.ensures.short in
+    empty_tree n rows marks c.args.left c.args.place.now _ c.in-Ok-Empty.multipliers.items c.in_ok-all-in-Ok-Empty.all s (subst (λ k. Refutes n (as_given k) c.in-Ok-Empty.multipliers.items) c.deref.ensures.value h) short
     (c.in_ok-all-in-Ok-Empty.ensures ∙ ap (λ m. stretched marks m) (c.deref-in-Ok-Empty-2.ensures.value ∙ c.in_ok-short-in-Ok-Empty.ensures ∙ c.deref-in-Ok-Empty.ensures.value)) refl refl
 
 pub settle-divided-requires-clause-whole : goal.settle-divided-requires-clause-whole
@@ -63,7 +64,7 @@ settle-split-requires t c =
     let gives = subst (λ r. GivesRefuted n c.deref.result.now r) c.in-Ok-Point.field-0-is c.in-Ok-Point.ensures.last in
     let short = subst (λ r. IsShortRefuted r) c.in-Ok-Point.field-0-is c.in-Ok-Point.ensures.short in
     let e = to_z-of_z w128 z (short_fits z short.1) in
-    let first = subst (λ q. (c.in-Some.column < length q) × ((i : ℕ) → i < c.in-Some.column → IsWholeAt q (to_z w128 (of_z w128 z)) i) × (IsWholeAt q (to_z w128 (of_z w128 z)) c.in-Some.column → ⊥)) c.deref-in-Ok-Point.ensures.value c.in-Some.ensures in
+    let first = subst (λ q. IsFirstOpen q (to_z w128 (of_z w128 z)) c.in-Some.column) c.deref-in-Ok-Point.ensures.value c.in-Some.ensures in
     let fraction : IsFractionAt n place.rows.items c.in-Some.column v z = record {
       point = subst (λ k. IsPointOf n k v z) kept gives;
       met = subst (λ k. IsScaledPoint k v z) kept answers.1;

@@ -16,6 +16,6 @@ columns-preserved c =
     let fk : FitsSigned w128 c.floor_of.result = search rules in
     let zk = to_z-of_z w128 c.floor_of.result fk in
     divided_more c.args.values.now _ c.floor_of.result c.columns.column c.columns.xs.items c.push_item.new.items.items (subst (λ s. pos 0 <ℤ s) (sym z) c.requires.positive)
-    (subst (λ x. IsFloor x (to_z w128 (of_z w128 c.args.scale)) c.floor_of.result) zv c.floor_of.ensures.floor)
+    (subst (λ x. IsFloor x (to_z w128 (of_z w128 c.args.scale)) c.floor_of.result) zv c.floor_of.ensures.floor) c.floor_of.ensures.short
     (subst (λ s. IsWholeAt c.args.values.now s c.columns.column) (sym z) (c.requires.whole c.columns.column c.columns-test.true))
     (c.in_ok-push_item.ensures ∙ ap (λ k. c.columns.xs.items ++ k ∷ []) zk) c.columns.invariant

@@ -1,10 +1,10 @@
 use Rattle.std.proofs.Common.{ℕ, ◌⊎◌, inl, inr, ◌+◌, ◌*◌, ◌<◌, ◌≤◌, length, subst, arith}
-use Rattle.tv_tableau.specs.Outcomes.{IsSolutionOf, IsBarrierOf, IsNarrowSystem}
-use Rattle.tv_simplex.specs.Views.{equations, IsAnswer}
+use Rattle.tv_tableau.specs.Outcomes.{IsSolutionOf, IsBarrierOf, GivesBarrier, IsNarrowSystem}
+use Rattle.tv_simplex.specs.Views.{equations, IsAnswer, GivesAnswer}
 use Rattle.tv_simplex.proofs.RowLemmas.{tested_false}
 use Rattle.tv_farkas.specs.Refuting.{IsOppositePoint}
 use Rattle.tv_farkas.proofs.SystemLemmas.{solution_refutes}
-use Rattle.tv_farkas.proofs.RefusalLemmas.{point_answers, point_short}
+use Rattle.tv_farkas.proofs.RefusalLemmas.{point_answers, point_gives, point_short}
 use Rattle.tv_farkas.proofs.refuting.refute.Goals as goal
 
 below_or_not : (p q : ℕ) → (p < q) ⊎ (q ≤ p)
@@ -31,4 +31,10 @@ pub returns-in-Ok-point_of-clause-short : goal.returns-in-Ok-point_of-clause-sho
 returns-in-Ok-point_of-clause-short c =
     let answer = subst (λ a. IsAnswer (equations c.in-Ok.system) a) c.in-Ok-Barrier.field-0-is c.in-Ok-Barrier.ensures.answers in
     point_short c.args.columns c.args.rows.now c.in-Ok-Barrier.y.items c.in-Ok-point_of.point (subst (λ s. IsBarrierOf s c.in-Ok-Barrier.y.items) c.in-Ok.ensures.same answer)
+    (subst (λ y. IsOppositePoint y c.in-Ok-point_of.point) c.deref.ensures.value c.in-Ok-point_of.ensures)
+
+pub returns-in-Ok-point_of-clause-last : goal.returns-in-Ok-point_of-clause-last
+returns-in-Ok-point_of-clause-last c =
+    let gives = subst (λ a. GivesAnswer (equations c.in-Ok.system) a) c.in-Ok-Barrier.field-0-is c.in-Ok-Barrier.ensures.last in
+    point_gives c.args.columns c.args.rows.now c.in-Ok-Barrier.y.items c.in-Ok-point_of.point (subst (λ s. GivesBarrier s c.in-Ok-Barrier.y.items) c.in-Ok.ensures.same gives)
     (subst (λ y. IsOppositePoint y c.in-Ok-point_of.point) c.deref.ensures.value c.in-Ok-point_of.ensures)
