@@ -1,0 +1,18 @@
+//! Covers of rows by targets: a proof tree that each whole point of the rows lies in some target, or a whole point
+//! that lies in none.
+#![tactic(auto)]
+
+mod covered;
+mod covering;
+mod looking;
+mod question;
+mod sharing;
+mod solving;
+mod splitting;
+mod stepping;
+mod targets;
+mod witness;
+
+pub use covered::Covered;
+pub use covering::cover;
+pub use targets::{are_even, is_even};
