@@ -3,8 +3,9 @@ use Rattle.tv_linear.specs.Linear.{linear}
 use Rattle.tv_linear.specs.Arithmetic.{zeros, unit, constant_row, column_row}
 use Rattle.std.proofs.Common.{get_or, drop, drop-cons}
 use Rattle.tv_program.specs.declared.tree.Expr.{Expr}
-use Rattle.tv_program.specs.Trees.{part}
-use Rattle.tv_program.specs.Views.{expression, expressions}
+use Rattle.tv_program.specs.declared.tree.Cond.{Cond}
+use Rattle.tv_program.specs.Trees.{part, test}
+use Rattle.tv_program.specs.Views.{expression, expressions, condition, conditions}
 use Rattle.tv_cases.specs.EdgeCases.{columns_from}
 
 unit-outside : (w column : ℕ) → w ≤ column → unit w column ≡ zeros w
@@ -30,3 +31,6 @@ expressions-drop es i d h = ap expressions (drop-cons es i d h) ∙ ap (λ k. pa
 
 pub expressions-next : (es : List Expr) (i : ℕ) (item : Expr) → i < length es → item ≡ get_or es i item → expressions (drop i es) ≡ part (expression item) (expressions (drop (i + 1) es))
 expressions-next es i item h is = expressions-drop es i item h ∙ ap (λ e. part (expression e) (expressions (drop (i + 1) es))) (sym is)
+
+pub conditions-next : (cs : List Cond) (i : ℕ) (item : Cond) → i < length cs → item ≡ get_or cs i item → conditions (drop i cs) ≡ test (condition item) (conditions (drop (i + 1) cs))
+conditions-next cs i item h is = ap conditions (drop-cons cs i item h) ∙ ap (λ k. test (condition (get_or cs i item)) (conditions (drop k cs))) (sym (add-one i)) ∙ ap (λ c. test (condition c) (conditions (drop (i + 1) cs))) (sym is)

@@ -4,6 +4,7 @@ ghost use Rattle.tv_cases.specs.LinearCases.{AreCases, from_of};
 ghost use Rattle.tv_cases.specs.Views.{case_views};
 
 use std::alloc::{AllocError, AllocFailed, Global};
+use thiserror::Error;
 use tv_linear::{Poly, Update};
 use tv_places::{Stand, index, place_at};
 
@@ -116,12 +117,15 @@ impl Cases {
 }
 
 /// Why a program has no cases.
-#[derive(Clone, Copy, Debug, PartialEq, Eq)]
+#[derive(Clone, Copy, Debug, PartialEq, Eq, Error)]
 pub enum CaseFault {
     /// The linear form of some part of an expression of the edge, or a row of it, has a number of 2^62 or more in magnitude.
+    #[error("edge {edge}: a number of 2^62 or more in magnitude")]
     Wide { edge: u32 },
     /// With the edge there are more than 8,192 cases or 8,000,000 coefficients.
+    #[error("edge {edge}: more than 8,192 cases or 8,000,000 coefficients")]
     TooMany { edge: u32 },
+    #[error("out of memory")]
     Memory,
 }
 

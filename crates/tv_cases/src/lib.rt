@@ -15,8 +15,6 @@ mod program;
 mod relations;
 mod rows;
 mod terms;
-#[cfg(test)]
-mod tests;
 
 pub use backward::before;
 pub use case::{Case, CaseFault, Cases};

@@ -14,8 +14,6 @@ mod narrow;
 mod region;
 mod row;
 pub mod sums;
-#[cfg(test)]
-mod tests;
 mod tight;
 mod total;
 

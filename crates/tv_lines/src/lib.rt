@@ -16,6 +16,3 @@ pub use head::{Head, NodeKind, PieceMark};
 pub use line::Line;
 pub use lines::Lines;
 pub use writing::write_line;
-
-#[cfg(test)]
-mod tests;

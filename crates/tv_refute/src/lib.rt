@@ -16,8 +16,6 @@ mod refute;
 mod shown;
 mod steps;
 mod terms;
-#[cfg(test)]
-mod tests;
 
 pub use built::{Built, number_of};
 pub use cover::{Targets, cover_is_met};

@@ -6,8 +6,6 @@
 mod packed;
 mod packing;
 mod rows;
-#[cfg(test)]
-mod tests;
 mod view;
 
 pub use packed::PackedRows;

@@ -1,5 +1,5 @@
-use super::*;
 use std::test::Fail;
+use tv_places::{count_of, index, place_at};
 
 const NUMBERS: [u32; 7] = [5, 0, 9, 5, u32::MAX, 0, 5];
 
