@@ -13,3 +13,6 @@ pub mod FormulaTexts
 pub mod LimitLemmas
 pub mod ReadLemmas
 pub mod FormulaRead
+pub mod InnerSums
+pub mod InnerSigns
+pub mod OneFormula

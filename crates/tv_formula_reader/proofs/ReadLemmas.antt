@@ -83,12 +83,12 @@ end_kind names kinds.Name w e = absurd (known_end (is_formula_word w) (number_of
 end_kind names kinds.Number w e = absurd (number_end _ (value_of_digits w) e)
 end_kind names kind w e = absurd cc
 
-record Ending {X : Type 0} (x : X) (d : (at_end x).Of) : Type 0 where
-  mark : d.0.mark ≡ plain (fixed kinds.End)
-  text : (r : List Seen) → (at_end x).text d r ≡ d.0 ∷ r
-  is : (at_end x).value d ≡ x
+pub record Ending {X : Type 0} (x : X) (d : (at_end x).Of) : Type 0 where
+  pub mark : d.0.mark ≡ plain (fixed kinds.End)
+  pub text : (r : List Seen) → (at_end x).text d r ≡ d.0 ∷ r
+  pub is : (at_end x).value d ≡ x
 
-ending_of : {X : Type 0} (x : X) (d : (at_end x).Of) → Ending x d
+pub ending_of : {X : Type 0} (x : X) (d : (at_end x).Of) → Ending x d
 ending_of x d = by d.0.mark d.0.label d.0.word d.1
   where
     by : (m lb : Mark) (w : Word) (b : OfBranch (at_kind (end_by x) m)) → Ending x (record { mark = m; label = lb; word = w }, b)
@@ -222,7 +222,7 @@ no_signs : (ts : List Seen) → signs_of ts ≡ [] → ts ≡ []
 no_signs [] e = refl
 no_signs (t ∷ ts) e = absurd cc
 
-text_read : (p : System) (text : List ℕ) (ts : List Token) (f : Property) → IsTokens 0 text ts → IsFormulaText p text f → (text_at every 64).read (seen_all (words_of p) text ts) ≡ Ok (f, [])
+pub text_read : (p : System) (text : List ℕ) (ts : List Token) (f : Property) → IsTokens 0 text ts → IsFormulaText p text f → (text_at every 64).read (seen_all (words_of p) text ts) ≡ Ok (f, [])
 text_read p text ts f h w =
     let same : w.tokens ≡ ts = one_list 0 text w.tokens ts w.scanned h in
     let signs_are : signs_of (seen_all (words_of p) text ts) ≡ signs (words_of p) (lexemes text w.tokens) = signs_same (words_of p) text ts ∙ ap (λ (us : List Token). signs (words_of p) (lexemes text us)) (sym same) in
@@ -231,7 +231,7 @@ text_read p text ts f h w =
     let whole : seen_all (words_of p) text ts ≡ (text_at every 64).text b.it [] = b.text ∙ ap ((text_at every 64).text b.it) none in
     ap (text_at every 64).read whole ∙ (text_exact every 64).only b.it [] (text_ends every 64 b.it) ∙ ap (λ (g : Property). Ok (g, [])) b.is
 
-same_value : (f g : Property) (r s : List Seen) → good {E = Fault Seen Kind} {A = Property × List Seen} (f, r) ≡ Ok (g, s) → f ≡ g
+pub same_value : (f g : Property) (r s : List Seen) → good {E = Fault Seen Kind} {A = Property × List Seen} (f, r) ≡ Ok (g, s) → f ≡ g
 same_value f g r s e = ap (λ (q : Property × List Seen). q.0) (ok_is {E = Fault Seen Kind} {A = Property × List Seen} (f, r) (g, s) e)
 
 not_refused : (f : Property) (r : List Seen) (k : Kind) (s : List Seen) → good {E = Fault Seen Kind} {A = Property × List Seen} (f, r) ≡ fault k s → ⊥

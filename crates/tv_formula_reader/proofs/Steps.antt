@@ -15,7 +15,7 @@ use Rattle.tv_reading.specs.Views.{kind_at}
 use Rattle.tv_reading.specs.SumGrammar.{every}
 use Rattle.tv_formula_reader.specs.declared.reason.Reason.{Reason}
 use Rattle.tv_formula_reader.specs.declared.reason.Reason.TheVariants.{Syntax, Wide, Deep, NotLinear, UnknownName, Memory}
-use Rattle.tv_formula_reader.specs.declared.reason.Turn.TheVariants.{On, Off}
+use Rattle.tv_reading.specs.declared.reason.Turn.TheVariants.{On, Off}
 use Rattle.tv_formula_reader.specs.Told.{is_memory}
 use Rattle.tv_grammar.proofs.Results.{ok_is}
 use Rattle.tv_formula_reader.specs.Seen.{Seen}

@@ -18,8 +18,8 @@ use Rattle.tv_formula_reader.specs.Seen.{Seen, seen_all}
 use Rattle.tv_formula_reader.specs.Choice.{mark_at}
 use Rattle.tv_formula_reader.specs.declared.reason.Reason.{Reason}
 use Rattle.tv_formula_reader.specs.declared.reason.Reason.TheVariants.{Syntax, Wide, Deep, NotLinear, UnknownName, Memory}
-use Rattle.tv_formula_reader.specs.declared.reason.Turn.{Turn}
-use Rattle.tv_formula_reader.specs.declared.reason.Turn.TheVariants.{On, Off}
+use Rattle.tv_reading.specs.declared.reason.Turn.{Turn}
+use Rattle.tv_reading.specs.declared.reason.Turn.TheVariants.{On, Off}
 use Rattle.tv_formula_reader.specs.declared.source.Source.{Source}
 
 -- what is left to read

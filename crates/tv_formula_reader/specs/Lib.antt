@@ -7,3 +7,4 @@ pub mod FormulaGrammar
 pub mod Refusals
 pub mod Told
 pub mod Answers
+pub mod Laws

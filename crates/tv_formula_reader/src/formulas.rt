@@ -8,13 +8,13 @@ ghost use Rattle.tv_formula_reader.specs.FormulaGrammar.{closed, argument, opera
 
 use crate::operators::{Operator, Single};
 use crate::plain::{close, close_square, leaf, open, operator};
-use crate::reason::{Reason, Turn, is_memory};
+use crate::reason::{Reason, is_memory};
 use crate::source::{Source, next_kind, pass_kind};
 use crate::sums::comparison;
 use crate::trees::{add_tree, all_of, applied, fixed_point, negation, some_of, trees_of};
 use tv_formula::{Path, Shape, Tree};
-use tv_reading::Reading;
 use tv_language::TokenKind;
+use tv_reading::{Reading, Turn};
 
 /// A plain formula that nests at most `levels` deep.
 #[cycle(formulas)]

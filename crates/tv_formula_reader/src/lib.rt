@@ -3,6 +3,7 @@
 
 mod fault;
 mod formulas;
+mod laws;
 mod operators;
 mod plain;
 mod read;
@@ -12,4 +13,5 @@ mod sums;
 mod trees;
 
 pub use fault::FormulaFault;
+pub use laws::{formula_texts_are_faultless, one_first_fault, one_formula};
 pub use read::read_formula;

@@ -15,9 +15,8 @@ use crate::operators::{Operator, operator_of};
 use crate::reason::Reason;
 use crate::source::{Source, next_kind, next_token, pass, pass_kind};
 use tv_formula::Tree;
-use tv_language::word_of;
+use tv_language::{Token, TokenKind, is_word, word_of};
 use tv_reading::{Reading, is_formula_word};
-use tv_language::{Token, TokenKind, is_word};
 
 /// `(`.
 pub fn open(source: &Source, reading: &mut Reading) -> Result<(), Reason>

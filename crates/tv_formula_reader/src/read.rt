@@ -14,12 +14,11 @@ use crate::formulas::formula;
 use crate::plain::end;
 use crate::reason::Reason;
 use crate::source::Source;
-use crate::sums::MOST_LEVELS;
 use std::alloc::Global;
 use tv_formula::{Formula, Tree};
-use tv_program::Program;
-use tv_reading::Reading;
 use tv_language::scan;
+use tv_program::Program;
+use tv_reading::{MOST_LEVELS, Reading};
 
 /// How many bytes a formula has at most.
 const MOST_BYTES: usize = 65536;
@@ -81,14 +80,15 @@ fn read(alloc: Global, text: &[u8], program: &Program) -> Result<Formula, Formul
 ///
 /// The time is that of the text times how deep brackets nest.
 pub fn read_formula(alloc: Global, text: &[u8], program: &Program) -> Result<Formula, FormulaFault>
-    requires { length text.now + 1 < 2 ^ 32 }
     // What is read is the formula of the text.
     ensures found { IfOk result (λ f. IsFormulaText (system_of program.now) text.now (property_of f)) }
     // The text of a formula is read, unless it is long.
     ensures only { (f : Property) → length text.now ≤ 65536 → IsFormulaText (system_of program.now) text.now f → IsGiven result (λ g. property_of g ≡ f) }
     // Else the first fault is told, with the first kind of fault that it is.
     ensures refused { IfErr result (λ fault. IsRefusal (system_of program.now) text.now fault) }
+    // Whatever else is answered, the text has at most 65,536 bytes.
     ensures long { (result ≡ Err FormulaFault.Long) ↔ (65536 < length text.now) }
+    ensures short { result ≢ Err FormulaFault.Long → length text.now ≤ 65536 }
     ensures variables { IfOk result (λ f. variables_of f ≡ length (system_of program.now).variables) }
     ensures locations { IfOk result (λ f. locations_of f ≡ length (system_of program.now).locations) }
 {

@@ -37,13 +37,6 @@ impl<T: Drop> From<AllocFailed<T>> for Reason {
     }
 }
 
-/// A loop goes on with more parts, or has all.
-#[derive(Drop)]
-pub enum Turn<T> {
-    On(T),
-    Off(T),
-}
-
 /// The reason of a fault where no name is added, so that none is too many.
 pub fn reason_of(fault: PartFault) -> Reason
     requires { (at : ℕ) → fault ≢ PartFault.TooMany at }

@@ -7,10 +7,9 @@ ghost use Rattle.tv_formula_reader.specs.Answers.{left, IsOver, Stays, kind_seen
 ghost use Rattle.tv_formula_reader.specs.Seen.{seen};
 
 use std::alloc::Global;
-use tv_language::{number_of, word_of};
+use tv_language::{Token, TokenKind, number_of, word_of};
 use tv_program::Names;
 use tv_reading::{Reading, is_formula_word};
-use tv_language::{Token, TokenKind};
 
 /// A text and its tokens, and the labels of the locations.
 #[derive(Drop)]

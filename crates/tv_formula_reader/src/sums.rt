@@ -1,6 +1,5 @@
 ghost use Rattle.std.specs.Prelude.{◌≡◌, ◌-◌, ◌≤◌};
 ghost use Rattle.tv_program.specs.Views.{expression};
-ghost use Rattle.tv_language.specs.Conditions.{relation_of};
 ghost use Rattle.tv_formula.specs.Views.{property};
 ghost use Rattle.tv_reading.specs.SumGrammar.{every};
 ghost use Rattle.tv_formula_reader.specs.Answers.{left, IsOver, Stays, Gives};
@@ -10,12 +9,9 @@ use crate::reason::{Reason, reason_of};
 use crate::source::{Source, next_kind, pass_kind};
 use crate::trees::compared;
 use tv_formula::Tree;
-use tv_program::{Expr, Relation};
-use tv_reading::Reading;
-use tv_language::TokenKind;
-
-/// How deep brackets, signs and operators may nest.
-pub const MOST_LEVELS: u32 = 64;
+use tv_language::relation_of;
+use tv_program::Expr;
+use tv_reading::{MOST_LEVELS, Reading};
 
 /// A sum that nests at most `levels` deep.
 fn sum(source: &Source, reading: &mut Reading, levels: u32) -> Result<Expr, Reason>
@@ -32,21 +28,6 @@ fn sum(source: &Source, reading: &mut Reading, levels: u32) -> Result<Expr, Reas
     match reading.sum() {
         Ok(expr) => Ok(expr),
         Err(fault) => Err(reason_of(fault)),
-    }
-}
-
-/// The relation that a token stands for.
-fn relation_of(kind: TokenKind) -> Option<Relation>
-    ensures { result ≡ relation_of kind }
-{
-    match kind {
-        TokenKind::Less => Some(Relation::Less),
-        TokenKind::LessEqual => Some(Relation::LessEqual),
-        TokenKind::Greater => Some(Relation::Greater),
-        TokenKind::GreaterEqual => Some(Relation::GreaterEqual),
-        TokenKind::Equal => Some(Relation::Equal),
-        TokenKind::NotEqual => Some(Relation::NotEqual),
-        _ => None,
     }
 }
 

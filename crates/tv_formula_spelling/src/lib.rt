@@ -2,9 +2,5 @@
 #![tactic(auto)]
 
 mod formulas;
-#[cfg(test)]
-mod read_again;
-#[cfg(test)]
-mod tests;
 
 pub use formulas::write_formula;

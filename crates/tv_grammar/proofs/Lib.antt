@@ -9,3 +9,4 @@ pub mod WholeTexts
 pub mod NarrowLemmas
 pub mod OutsideLemmas
 pub mod LongestLemmas
+pub mod OneRefusal

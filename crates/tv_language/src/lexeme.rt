@@ -1,8 +1,10 @@
 ghost use Rattle.std.specs.Prelude.{◌≡◌, ◌^◌, ◌<◌, ◌≤◌, MatchOption, ℤ, pos};
+ghost use Rattle.tv_language.specs.Conditions.{relation_of};
 ghost use Rattle.tv_language.specs.Numbers.{value_of_digits};
 ghost use Rattle.tv_language.specs.Symbols.{lexeme, is_name, is_label, is_colon};
 
 use crate::{Token, TokenKind};
+use tv_program::Relation;
 
 /// The bytes of a token of the text.
 #[inline(always)]
@@ -52,4 +54,20 @@ pub fn is_colon(kind: TokenKind) -> bool
     ensures { result ≡ is_colon kind }
 {
     matches!(kind, TokenKind::Colon)
+}
+
+/// The relation that a token stands for.
+#[inline(always)]
+pub fn relation_of(kind: TokenKind) -> Option<Relation>
+    ensures { result ≡ relation_of kind }
+{
+    match kind {
+        TokenKind::Less => Some(Relation::Less),
+        TokenKind::LessEqual => Some(Relation::LessEqual),
+        TokenKind::Greater => Some(Relation::Greater),
+        TokenKind::GreaterEqual => Some(Relation::GreaterEqual),
+        TokenKind::Equal => Some(Relation::Equal),
+        TokenKind::NotEqual => Some(Relation::NotEqual),
+        _ => None,
+    }
 }

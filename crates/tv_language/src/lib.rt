@@ -10,13 +10,8 @@ mod scanner;
 mod token;
 mod word;
 
-pub use lexeme::{is_colon, is_label, is_name, number_of, word_of};
+pub use lexeme::{is_colon, is_label, is_name, number_of, relation_of, word_of};
 pub use recent::{Recent, behind, find_near};
 pub use scanner::{scan, tokens};
 pub use token::{Token, TokenFault, TokenKind};
 pub use word::is_word;
-
-#[cfg(test)]
-mod tests;
-#[cfg(test)]
-mod tokens_tests;

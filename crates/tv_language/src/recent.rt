@@ -1,8 +1,8 @@
 ghost use Rattle.std.specs.Prelude.{◌≡◌, ◌<◌, ◌⊎◌, IfSome, IsTrue, Some, length};
 ghost use Rattle.tv_program.specs.Words.{number_of};
 
-use tv_program::Names;
 use crate::is_word;
+use tv_program::Names;
 
 /// The numbers that were come by last, the latest first: words often stand near each other. Any other numbers do as well, in more time.
 #[derive(Clone, Copy)]

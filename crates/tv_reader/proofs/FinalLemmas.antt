@@ -51,12 +51,12 @@ drop_none : {X : Type 0} (xs : List X) → drop 0 xs ≡ xs
 drop_none [] = refl
 drop_none (x ∷ xs) = refl
 
-marks_length : (v : Vocabulary) (b : Bool) (d : ℕ) (xs : List Lexeme) → length (marks_from v b d xs) ≡ length xs
+pub marks_length : (v : Vocabulary) (b : Bool) (d : ℕ) (xs : List Lexeme) → length (marks_from v b d xs) ≡ length xs
 unfolding marks_from
 marks_length v b d [] = refl
 marks_length v b d (x ∷ xs) = ap suc (marks_length v (is_colon x.kind) (draws_behind x.kind d) xs)
 
-lexemes_length : (bytes : List ℕ) (ts : List Token) → length (lexemes bytes ts) ≡ length ts
+pub lexemes_length : (bytes : List ℕ) (ts : List Token) → length (lexemes bytes ts) ≡ length ts
 lexemes_length bytes [] = refl
 lexemes_length bytes (t ∷ ts) = ap suc (lexemes_length bytes ts)
 

@@ -16,3 +16,4 @@ pub mod TurnSteps
 pub mod FitSteps
 pub mod TokenLemmas
 pub mod FinalLemmas
+pub mod OneProgram

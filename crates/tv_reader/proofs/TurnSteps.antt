@@ -21,7 +21,7 @@ use Rattle.tv_reader.specs.ProgramGrammar.{command_cases, Items, with_start, pla
 use Rattle.tv_reader.specs.Readers.{Unless, kind_of, Turned}
 use Rattle.tv_reader.specs.declared.reason.Reason.{Reason}
 use Rattle.tv_reader.specs.declared.reason.Reason.TheVariants as reasons
-use Rattle.tv_reader.specs.declared.reason.Turn.TheVariants.{On, Off}
+use Rattle.tv_reading.specs.declared.reason.Turn.TheVariants.{On, Off}
 
 -- ---- a turn that is taken
 

@@ -3,3 +3,4 @@ pub mod ProgramGrammar
 pub mod Places
 pub mod FirstFaults
 pub mod Readers
+pub mod Laws

@@ -25,8 +25,8 @@ use Rattle.tv_reader.specs.ProgramMarks.{mark_by, marks_from, led_by}
 use Rattle.tv_reader.specs.ProgramGrammar.{Items, last_of_program}
 use Rattle.tv_reader.specs.declared.reason.Reason.{Reason}
 use Rattle.tv_reader.specs.declared.reason.Reason.TheVariants.{Syntax, Wide, Deep, NotLinear, TwoStarts, TooMany, Memory}
-use Rattle.tv_reader.specs.declared.reason.Turn.{Turn}
-use Rattle.tv_reader.specs.declared.reason.Turn.TheVariants.{On, Off}
+use Rattle.tv_reading.specs.declared.reason.Turn.{Turn}
+use Rattle.tv_reading.specs.declared.reason.Turn.TheVariants.{On, Off}
 use Rattle.tv_reader.specs.declared.items.ItemsRead.{ItemsRead}
 use Rattle.tv_reader.specs.declared.reader.Reader.{Reader}
 

@@ -17,11 +17,11 @@ ghost use Rattle.tv_reader.specs.ProgramGrammar.{Items};
 ghost use Rattle.tv_reader.specs.Readers.{left, next_kind, IsKept, Keeps, Settled, IsSteady, Gives, Turned, turn_value, instructions, CommandsFit, edge_added};
 
 use crate::reader::Reader;
-use crate::reason::{Reason, Turn};
+use crate::reason::Reason;
 use std::alloc::AllocFailed;
-use tv_language::word_of;
+use tv_language::{TokenKind, word_of};
 use tv_program::{Command, Edge};
-use tv_language::TokenKind;
+use tv_reading::Turn;
 
 /// There is room for so many commands before their list grows.
 const ROOM: usize = 32;

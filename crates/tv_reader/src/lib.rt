@@ -4,14 +4,14 @@
 mod commands;
 mod fault;
 mod items;
+mod laws;
 mod place;
 mod program;
 mod read;
 mod reader;
 mod reason;
-#[cfg(test)]
-mod tests;
 mod words;
 
 pub use fault::{ReadFault, What};
+pub use laws::{one_first_fault, one_program, program_texts_are_faultless};
 pub use read::read_program;

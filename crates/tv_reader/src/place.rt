@@ -4,8 +4,7 @@ ghost use Rattle.tv_reader.specs.FirstFaults.{ends_with_colon, brought_in, fault
 
 use crate::fault::{ReadFault, What};
 use crate::reason::Reason;
-use tv_language::is_colon;
-use tv_language::{Token, TokenKind};
+use tv_language::{Token, TokenKind, is_colon};
 
 /// The bytes before a place.
 fn front_of(text: &[u8], at: u32) -> &[u8]

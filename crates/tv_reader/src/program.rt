@@ -11,10 +11,11 @@ ghost use Rattle.tv_reader.specs.Readers.{left, IsKept, Keeps, Settled, IsSteady
 
 use crate::items::ItemsRead;
 use crate::reader::Reader;
-use crate::reason::{Reason, Turn};
+use crate::reason::Reason;
 use std::alloc::AllocFailed;
-use tv_program::Edge;
 use tv_language::TokenKind;
+use tv_program::Edge;
+use tv_reading::Turn;
 
 /// A program has at most so many edges.
 const MOST_EDGES: usize = 4096;

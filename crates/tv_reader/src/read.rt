@@ -12,9 +12,9 @@ use crate::place::located;
 use crate::reader::Reader;
 use crate::words::{Known, known_words};
 use std::alloc::Global;
+use tv_language::scan;
 use tv_program::Program;
 use tv_reading::Reading;
-use tv_language::scan;
 
 /// The program of all items, if one of them is START.
 fn finished(reader: Reader, items: ItemsRead) -> Result<Program, ReadFault>

@@ -17,10 +17,9 @@ ghost use Rattle.tv_reader.specs.declared.reason.Reason.TheVariants as reasons;
 
 use crate::reason::Reason;
 use std::alloc::Global;
-use tv_language::{is_colon, word_of};
+use tv_language::{TokenKind, is_colon, word_of};
 use tv_program::{Cond, Expr, Names};
 use tv_reading::{PartFault, Reading};
-use tv_language::TokenKind;
 
 /// What reads a program from its tokens. The names of its variables are in the reading, and the labels beside it.
 #[derive(Drop)]

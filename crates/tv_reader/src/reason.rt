@@ -33,10 +33,3 @@ impl<T: Drop> From<AllocFailed<T>> for Reason {
         Reason::Memory
     }
 }
-
-/// A loop goes on with more parts, or has all.
-#[derive(Drop)]
-pub enum Turn<T> {
-    On(T),
-    Off(T),
-}

@@ -5,9 +5,8 @@ ghost use Rattle.tv_reader.specs.ProgramMarks.{start_word, second_word, moved_in
 ghost use Rattle.tv_reader.specs.Readers.{led};
 
 use std::alloc::{AllocError, Global};
-use tv_language::{is_colon, is_label, is_name, word_of};
+use tv_language::{Token, TokenKind, is_colon, is_label, is_name, word_of};
 use tv_program::Names;
-use tv_language::{Token, TokenKind};
 
 /// A program has at most so many variables.
 const MOST_VARIABLES: u32 = 512;

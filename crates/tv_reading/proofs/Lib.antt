@@ -21,3 +21,4 @@ pub mod Vocabularies
 pub mod KindsOfFaults
 pub mod RoomLemmas
 pub mod SymbolLemmas
+pub mod OneRefusal

@@ -2,7 +2,6 @@ ghost use Rattle.std.specs.Prelude.{◌≡◌, ◌+◌, ◌^◌, ◌<◌, ℕ, d
 ghost use Rattle.tv_program.specs.Trees as trees;
 ghost use Rattle.tv_program.specs.Trees.{negated};
 ghost use Rattle.tv_program.specs.Views.{condition};
-ghost use Rattle.tv_language.specs.Conditions.{relation_of};
 ghost use Rattle.tv_grammar.specs.Langs.{turns, then, mapped};
 ghost use Rattle.tv_reading.specs.Marks.{left};
 ghost use Rattle.tv_reading.specs.SumGrammar.{every, closed, factor_at, sum_at};
@@ -17,23 +16,8 @@ use crate::reason::{Reason, Turn};
 use crate::source::Source;
 use crate::sums::{close, factor, product_from, sum, sum_from};
 use crate::trees::Made;
-use tv_program::{Cond, Relation};
-use tv_language::TokenKind;
-
-/// The relation that a token stands for.
-fn relation_of(kind: TokenKind) -> Option<Relation>
-    ensures { result ≡ relation_of kind }
-{
-    match kind {
-        TokenKind::Less => Some(Relation::Less),
-        TokenKind::LessEqual => Some(Relation::LessEqual),
-        TokenKind::Greater => Some(Relation::Greater),
-        TokenKind::GreaterEqual => Some(Relation::GreaterEqual),
-        TokenKind::Equal => Some(Relation::Equal),
-        TokenKind::NotEqual => Some(Relation::NotEqual),
-        _ => None,
-    }
-}
+use tv_language::{TokenKind, relation_of};
+use tv_program::Cond;
 
 /// A relation behind a sum, if one comes.
 fn related(source: &Source, cursor: &mut Cursor, levels: u32, made: Made) -> Result<Piece, Reason>

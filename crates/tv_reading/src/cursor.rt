@@ -10,9 +10,8 @@ use crate::marks::{
 };
 use crate::source::Source;
 use std::alloc::AllocError;
-use tv_language::{Recent, behind, find_near, word_of};
+use tv_language::{Recent, Token, TokenKind, behind, find_near, word_of};
 use tv_program::Names;
-use tv_language::{Token, TokenKind};
 
 /// How many tokens are taken, the names and draws up to there, and the names that were taken last.
 #[derive(Drop)]

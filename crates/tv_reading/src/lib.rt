@@ -14,10 +14,9 @@ mod reading;
 mod reason;
 mod source;
 mod sums;
-#[cfg(test)]
-mod tests;
 mod trees;
 
 pub use fault::PartFault;
-pub use marks::is_formula_word;
+pub use marks::{MOST_LEVELS, is_formula_word};
 pub use reading::Reading;
+pub use reason::Turn;

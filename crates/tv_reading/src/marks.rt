@@ -3,8 +3,7 @@ ghost use Rattle.tv_language.specs.Numbers.{value_of_digits};
 ghost use Rattle.tv_reading.specs.Marks.{new_name, known_name, is_formula_word, draw_mark, number_mark};
 ghost use Rattle.tv_reading.specs.Views.{mark_of};
 
-use tv_language::number_of;
-use tv_language::{TokenKind, is_word};
+use tv_language::{TokenKind, is_word, number_of};
 
 /// A token as the grammar sees it: a name and a draw have a number, or are refused.
 #[derive(Clone, Copy)]
@@ -19,6 +18,9 @@ pub enum Part {
     DrawTooMany,
     Fixed(TokenKind),
 }
+
+/// How deep brackets, signs and operators may nest.
+pub const MOST_LEVELS: u32 = 64;
 
 /// At most so many names are added.
 pub const MOST_NAMES: u32 = 512;

@@ -17,18 +17,14 @@ ghost use Rattle.tv_reading.specs.Answers as answers;
 use crate::conditions::condition;
 use crate::cursor::{Cursor, current, pass, peek};
 use crate::fault::PartFault;
-use crate::marks::Part;
+use crate::marks::{MOST_LEVELS, Part};
 use crate::reason::Reason;
 use crate::source::Source;
 use crate::sums::sum;
 use std::alloc::Global;
 use std::marker::Model;
-use tv_language::Recent;
+use tv_language::{Recent, Token, TokenKind};
 use tv_program::{Cond, Expr, Names};
-use tv_language::{Token, TokenKind};
-
-/// How deep brackets and signs may nest.
-const MOST_LEVELS: u32 = 64;
 
 /// What reads parts of a text from its tokens, and numbers the names and draws that it comes by.
 #[derive(Drop)]

@@ -3,11 +3,7 @@
 
 mod conditions;
 mod programs;
-#[cfg(test)]
-mod read_again;
 mod sums;
-#[cfg(test)]
-mod tests;
 mod writing;
 
 pub use conditions::{relation_text, truth_text, write_condition};

@@ -13,7 +13,7 @@ use Rattle.tv_spelling.specs.Named.{are_named}
 use Rattle.tv_spelling.specs.ReadAgain.{IsSumReadAgain}
 use Rattle.tv_spelling.proofs.NamedLemmas.{fits_named}
 use Rattle.tv_spelling.proofs.ReadTwice.{memory_alone, sum_twice}
-use Rattle.tv_spelling.proofs.read_again.sum_again.Goals as goal
+use Rattle.texts_tests.proofs.spelling_again.sum_again.Goals as goal
 
 pub write_sum-requires-clause-named : goal.write_sum-requires-clause-named
 write_sum-requires-clause-named c =

@@ -1,7 +1,9 @@
-use crate::{Recent, behind, find_near, is_colon, is_label, is_name, number_of, word_of};
 use std::test::Fail;
-use tv_program::Names;
-use crate::{Token, TokenKind};
+use tv_language::{
+    Recent, Token, TokenKind, behind, find_near, is_colon, is_label, is_name, number_of,
+    relation_of, word_of,
+};
+use tv_program::{Names, Relation};
 
 #[test]
 fn words_are_the_bytes_of_tokens(rt: HostRuntime) -> Result<(), Fail> {
@@ -44,13 +46,29 @@ fn names_and_numbers_are_labels(rt: HostRuntime) -> Result<(), Fail> {
 }
 
 #[test]
+fn six_tokens_are_relations(rt: HostRuntime) -> Result<(), Fail> {
+    for (kind, relation) in [
+        (TokenKind::Less, Some(Relation::Less)),
+        (TokenKind::LessEqual, Some(Relation::LessEqual)),
+        (TokenKind::Greater, Some(Relation::Greater)),
+        (TokenKind::GreaterEqual, Some(Relation::GreaterEqual)),
+        (TokenKind::Equal, Some(Relation::Equal)),
+        (TokenKind::NotEqual, Some(Relation::NotEqual)),
+        (TokenKind::Assign, None),
+    ] {
+        assert_eq!(rt; relation_of(kind), relation);
+    }
+    Ok(())
+}
+
+#[test]
 fn words_are_found_near_and_far(rt: HostRuntime) -> Result<(), Fail> {
+    let recent = behind(Recent { last: 5, before: 6 }, 1);
+    assert_eq!(rt; (recent.last, recent.before), (1, 5));
     let mut names = Names::new(rt.alloc());
     names.put(b"a")?;
     assert!(rt; names.len() < 100);
     names.put(b"b")?;
-    let recent = behind(Recent { last: 5, before: 6 }, 1);
-    assert_eq!(rt; (recent.last, recent.before), (1, 5));
     for (word, number) in [("a", Some(0)), ("b", Some(1)), ("c", None)] {
         assert_eq!(rt;
             find_near(&names, recent, word.as_bytes()),

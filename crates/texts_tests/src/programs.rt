@@ -1,14 +1,8 @@
-use crate::{ReadFault, What, read_program};
+use crate::texts::{program_of, read};
 use std::alloc::{AllocError, Global};
 use std::test::Fail;
 use tv_program::Program;
-
-fn read(alloc: Global, text: &[u8]) -> Result<Program, ReadFault> {
-    if text.len() >= 4294967295 {
-        return Err(ReadFault::Memory);
-    }
-    read_program(alloc, text)
-}
+use tv_reader::{ReadFault, What};
 
 fn fault_of(alloc: Global, text: &[u8]) -> Option<ReadFault> {
     match read(alloc, text) {
@@ -17,31 +11,40 @@ fn fault_of(alloc: Global, text: &[u8]) -> Option<ReadFault> {
     }
 }
 
-// A text of a front, of so many parts with their numbers in three letters, and of an end.
-fn text_of(
-    alloc: Global,
-    front: &[u8],
-    part: &[u8],
-    times: u32,
-    end: &[u8],
-) -> Result<Vec<u8>, AllocError> {
-    let mut text = Vec::new(alloc);
-    text.extend_from_slice(front)?;
-    for number in 0..times {
-        for byte in part {
-            if *byte == b'#' {
-                let digits = [
-                    b'a' + (number / 26 / 26 % 26) as u8,
-                    b'a' + (number / 26 % 26) as u8,
-                    b'a' + (number % 26) as u8,
-                ];
-                text.extend_from_slice(digits.as_slice())?;
-            } else {
-                text.push(*byte)?;
-            }
+/// A number in three letters.
+fn letters(number: u32) -> [u8; 3] {
+    [
+        b'a' + (number / 26 / 26 % 26) as u8,
+        b'a' + (number / 26 % 26) as u8,
+        b'a' + (number % 26) as u8,
+    ]
+}
+
+/// Adds a part, with its number in letters for `#`.
+fn append_part(text: &mut Vec<u8>, part: &[u8], number: u32) -> Result<(), AllocError> {
+    for byte in part {
+        if *byte == b'#' {
+            text.extend_from_slice(letters(number).as_slice())?;
+        } else {
+            text.push(*byte)?;
         }
     }
-    text.extend_from_slice(end)?;
+    Ok(())
+}
+
+/// A front, so many parts, and an end.
+fn text_of(
+    alloc: Global,
+    front: &str,
+    part: &str,
+    times: u32,
+    end: &str,
+) -> Result<Vec<u8>, AllocError> {
+    let mut text = Vec::from_slice(alloc, front.as_bytes())?;
+    for number in 0..times {
+        append_part(&mut text, part.as_bytes(), number)?;
+    }
+    text.extend_from_slice(end.as_bytes())?;
     Ok(text)
 }
 
@@ -75,54 +78,67 @@ FROM: 12; TO: 13;\r
 ERROR: 99;\r
 ";
 
-#[test]
-fn reads_a_file(rt: HostRuntime) -> Result<(), Fail> {
-    let alloc = rt.alloc();
-    let Ok(program) = read(alloc, FILE.as_bytes()) else {
-        assert!(rt; false, "it is read");
-        return Ok(());
-    };
-    assert_eq!(rt; program.start(), 0);
+fn has_variables(program: &Program) -> bool {
     for (name, number) in [("n", 0), ("i", 1), ("j", 2), ("c", 3), ("k", 4)] {
-        assert_eq!(rt; program.variables().find(name.as_bytes()), Some(number));
-    }
-    assert_eq!(rt; program.variables().len(), 5);
-    assert_eq!(rt; program.locations().len(), 14);
-    assert_eq!(rt; program.locations().find(b"13"), Some(13));
-    assert_eq!(rt; program.edges().len(), 17);
-    for (number, draws) in [(0, 1), (1, 0), (7, 1), (16, 0)] {
-        match program.edges().get(number) {
-            Some(edge) => assert_eq!(rt; edge.draws, draws),
-            None => assert!(rt; false),
+        if program.variables().find(name.as_bytes()) != Some(number) {
+            return false;
         }
     }
+    program.variables().len() == 5
+}
+
+fn has_locations(program: &Program) -> bool {
+    let is_last = program.locations().find(b"13") == Some(13);
+    is_last && program.start() == 0 && program.locations().len() == 14
+}
+
+fn has_draws(program: &Program) -> bool {
+    for (number, draws) in [(0, 1), (1, 0), (7, 1), (16, 0)] {
+        match program.edges().get(number) {
+            Some(edge) if edge.draws == draws => {}
+            _ => return false,
+        }
+    }
+    program.edges().len() == 17
+}
+
+#[test]
+fn reads_a_file(rt: HostRuntime) -> Result<(), Fail> {
+    let program = program_of(rt.alloc(), FILE.as_bytes())?;
+    assert!(rt; has_variables(&program) && has_locations(&program) && has_draws(&program));
     Ok(())
+}
+
+fn has_labels(program: &Program) -> bool {
+    for (label, number) in [("c", 0), ("a", 1), ("b", 2)] {
+        if program.locations().find(label.as_bytes()) != Some(number) {
+            return false;
+        }
+    }
+    true
+}
+
+fn goes_around(program: &Program) -> bool {
+    match program.edges() {
+        [first, second] => {
+            (first.from, first.to) == (1, 2) && (second.from, second.to) == (2, 0)
+        }
+        _ => false,
+    }
 }
 
 // START stands last, and its label is number 0.
 #[test]
 fn numbers_the_start_first(rt: HostRuntime) -> Result<(), Fail> {
     let text = b"FROM: a; x := 1; TO: b; FROM: b; TO: c; START: c;".as_slice();
-    let Ok(program) = read(rt.alloc(), text) else {
-        assert!(rt; false, "it is read");
-        return Ok(());
-    };
-    for (label, number) in [("c", 0), ("a", 1), ("b", 2)] {
-        assert_eq!(rt; program.locations().find(label.as_bytes()), Some(number));
-    }
-    for (number, from, to) in [(0, 1, 2), (1, 2, 0)] {
-        match program.edges().get(number) {
-            Some(edge) => assert_eq!(rt; (edge.from, edge.to), (from, to)),
-            None => assert!(rt; false),
-        }
-    }
+    let program = program_of(rt.alloc(), text)?;
+    assert!(rt; has_labels(&program) && goes_around(&program));
     Ok(())
 }
 
 // A text and its first fault.
 #[test]
 fn tells_the_first_fault(rt: HostRuntime) -> Result<(), Fail> {
-    let alloc = rt.alloc();
     for (text, fault) in [
         ("START: 0;", None),
         (
@@ -210,70 +226,78 @@ fn tells_the_first_fault(rt: HostRuntime) -> Result<(), Fail> {
             }),
         ),
     ] {
-        assert_eq!(rt; fault_of(alloc, text.as_bytes()), fault, "{text:?}");
+        assert_eq!(rt; fault_of(rt.alloc(), text.as_bytes()), fault, "{text:?}");
     }
     Ok(())
 }
 
-// What is passed, at most so many of it, and the place of one more.
+/// The fault of a text with so many parts.
+fn fault_at(
+    alloc: Global,
+    front: &str,
+    part: &str,
+    times: u32,
+    end: &str,
+) -> Result<Option<ReadFault>, AllocError> {
+    let text = text_of(alloc, front, part, times, end)?;
+    Ok(fault_of(alloc, &text))
+}
+
+// A front, what is repeated and how often at most, an end, and the fault of one more.
+const LIMITS: [(&str, &str, u32, &str, What, u32); 4] = [
+    (
+        "START: 0; FROM: 0; ",
+        "#:=0;",
+        512,
+        "TO: 0;",
+        What::Variables,
+        20 + 512 * 7,
+    ),
+    (
+        "",
+        "FROM:#;TO:0;",
+        1022,
+        "START: z; ",
+        What::Locations,
+        8 + 1023 * 14,
+    ),
+    (
+        "START: 0; ",
+        "FROM:0;TO:0;",
+        4096,
+        "",
+        What::Edges,
+        11 + 4096 * 12,
+    ),
+    (
+        "START: 0; FROM: 0; ",
+        "x:=nondet();",
+        64,
+        "TO: 0;",
+        What::Draws,
+        23 + 64 * 12,
+    ),
+];
+
 #[test]
 fn keeps_the_limits(rt: HostRuntime) -> Result<(), Fail> {
-    let alloc = rt.alloc();
-    for (front, part, most, end, what, column) in [
-        (
-            "START: 0; FROM: 0; ",
-            "#:=0;",
-            512,
-            "TO: 0;",
-            What::Variables,
-            20 + 512 * 7,
-        ),
-        (
-            "",
-            "FROM:#;TO:0;",
-            1022,
-            "START: z; ",
-            What::Locations,
-            8 + 1023 * 14,
-        ),
-        (
-            "START: 0; ",
-            "FROM:0;TO:0;",
-            4096,
-            "",
-            What::Edges,
-            11 + 4096 * 12,
-        ),
-        (
-            "START: 0; FROM: 0; ",
-            "x:=nondet();",
-            64,
-            "TO: 0;",
-            What::Draws,
-            23 + 64 * 12,
-        ),
-    ] {
-        let text = text_of(
-            alloc,
-            front.as_bytes(),
-            part.as_bytes(),
-            most,
-            end.as_bytes(),
-        )?;
-        assert_eq!(rt; fault_of(alloc, &text), None, "{front} {part}");
-        let more = text_of(
-            alloc,
-            front.as_bytes(),
-            part.as_bytes(),
-            most + 1,
-            end.as_bytes(),
-        )?;
-        let fault = ReadFault::TooMany {
-            what,
-            line: 1,
-            column,
-        };
-        assert_eq!(rt; fault_of(alloc, &more), Some(fault), "{front} {part}");
+    for (front, part, most, end, _, _) in LIMITS {
+        let fault = fault_at(rt.alloc(), front, part, most, end)?;
+        assert_eq!(rt; fault, None, "{front} {part}");
+    }
+    Ok(())
+}
+
+#[test]
+fn tells_where_a_limit_is_passed(rt: HostRuntime) -> Result<(), Fail> {
+    for (front, part, most, end, what, column) in LIMITS {
+        let fault = fault_at(rt.alloc(), front, part, most + 1, end)?;
+        let line = 1;
+        assert_eq!(rt;
+            fault,
+            Some(ReadFault::TooMany { what, line, column }),
+            "{front} {part}"
+        );
     }
     Ok(())
 }
@@ -281,14 +305,13 @@ fn keeps_the_limits(rt: HostRuntime) -> Result<(), Fail> {
 // Each byte that no token can hold, at the front and behind a START.
 #[test]
 fn refuses_bytes_that_no_token_holds(rt: HostRuntime) -> Result<(), Fail> {
-    let alloc = rt.alloc();
     for byte in 0..=255u8 {
         let known = byte.is_ascii_alphanumeric() || b" \t\r\n\x0c_:;()[]+-*<>!".contains(&byte);
         if !known {
-            let mut text = b"START: 0;\n ".as_slice().to_vec(alloc)?;
+            let mut text = b"START: 0;\n ".as_slice().to_vec(rt.alloc())?;
             text.push(byte)?;
             let fault = ReadFault::Syntax { line: 2, column: 2 };
-            assert_eq!(rt; fault_of(alloc, &text), Some(fault), "{byte}");
+            assert_eq!(rt; fault_of(rt.alloc(), &text), Some(fault), "{byte}");
         }
     }
     Ok(())

@@ -1,12 +1,13 @@
-ghost use Rattle.std.specs.Prelude.{◌+◌, ◌^◌, ◌<◌, length};
+ghost use Rattle.std.specs.Prelude.{◌+◌, ◌<◌, ◌^◌, length};
 ghost use Rattle.tv_reading.specs.Readings.{IsKept};
 
-use crate::PartFault::{Deep, Memory, NotLinear, Syntax, TooMany, UnknownName, Wide};
-use crate::{PartFault, Reading};
-use std::alloc::{AllocError, Global};
+use crate::texts::repeated;
+use std::alloc::Global;
 use std::test::Fail;
-use tv_program::{Expr, Names};
 use tv_language::{TokenKind, scan};
+use tv_program::{Expr, Names};
+use tv_reading::PartFault::{Deep, Memory, NotLinear, Syntax, TooMany, UnknownName, Wide};
+use tv_reading::{PartFault, Reading};
 
 /// How many tokens a condition has at the front of a text where names are added.
 fn condition_taken(alloc: Global, text: &[u8]) -> Result<u32, PartFault>
@@ -34,16 +35,6 @@ fn sum_taken(alloc: Global, text: &[u8]) -> Result<u32, PartFault>
         Ok(_) => Ok(reading.place()),
         Err(fault) => Err(fault),
     }
-}
-
-/// The bytes so many times, and `end`.
-fn repeated(alloc: Global, bytes: &[u8], times: u32, end: &[u8]) -> Result<Vec<u8>, AllocError> {
-    let mut text = Vec::new(alloc);
-    for _ in 0..times {
-        text.extend_from_slice(bytes)?;
-    }
-    text.extend_from_slice(end)?;
-    Ok(text)
 }
 
 // A condition of each form, and the first fault of others.
@@ -102,7 +93,7 @@ fn adds_no_name(rt: HostRuntime) -> Result<(), Fail> {
 
 // The level and the draw that are one too many.
 #[test]
-fn keeps_the_limits(rt: HostRuntime) -> Result<(), Fail> {
+fn conditions_keep_the_limits(rt: HostRuntime) -> Result<(), Fail> {
     for (bytes, times, end, want) in [
         ("!", 63, "true", Ok(64)),
         ("!", 64, "true", Err(Deep { at: 63 })),
@@ -115,6 +106,11 @@ fn keeps_the_limits(rt: HostRuntime) -> Result<(), Fail> {
         assert!(rt; text.len() < 2000);
         assert_eq!(rt; condition_taken(rt.alloc(), &text), want, "{bytes} {times}");
     }
+    Ok(())
+}
+
+#[test]
+fn sums_keep_the_limits(rt: HostRuntime) -> Result<(), Fail> {
     for (times, want) in [(64, Ok(65)), (65, Err(Deep { at: 64 }))] {
         let text = repeated(rt.alloc(), b"-", times, b"1")?;
         assert!(rt; text.len() < 2000);
@@ -151,23 +147,26 @@ fn next_condition(reading: &mut Reading) -> Result<(), PartFault>
     }
 }
 
+/// What comes of `x :=`, and of the sums around a `;`.
+fn assigned(reading: &mut Reading) -> bool {
+    reading.edge();
+    let is_named = reading.variable() == Ok(0) && reading.peek().kind == TokenKind::Assign;
+    reading.take();
+    let is_summed = next_sum(reading) == Ok(2) && reading.place() == 5;
+    reading.take();
+    is_named && is_summed && next_sum(reading) == Err(NotLinear { at: 16 })
+}
+
 // Each call once: the parts of an assignment, and names that stay after a refusal.
 #[test]
 fn goes_over_a_text(rt: HostRuntime) -> Result<(), Fail> {
     let text = b"x := y - 2; x * y".as_slice();
     let list = scan(rt.alloc(), text)?;
     let mut reading = Reading::new(rt.alloc(), text, &list, Names::new(rt.alloc()), true);
-    reading.edge();
-    assert_eq!(rt; reading.variable(), Ok(0));
-    assert!(rt; reading.peek().kind == TokenKind::Assign);
-    reading.take();
-    assert_eq!(rt; next_sum(&mut reading), Ok(2));
-    assert_eq!(rt; reading.place(), 5);
-    reading.take();
-    assert_eq!(rt; next_sum(&mut reading), Err(NotLinear { at: 16 }));
-    assert_eq!(rt; reading.place(), 8);
-    assert_eq!(rt; reading.draws(), 0);
-    assert_eq!(rt; reading.names().find(b"y"), Some(1));
+    let is_read = assigned(&mut reading);
+    let stays = reading.place() == 8 && reading.draws() == 0;
+    let is_known = reading.names().find(b"y") == Some(1);
+    assert!(rt; is_read && stays && is_known);
     assert_eq!(rt; reading.finish().len(), 2);
     Ok(())
 }
@@ -180,10 +179,10 @@ fn goes_to_a_place(rt: HostRuntime) -> Result<(), Fail> {
     assert!(rt; list.len() == 8);
     let mut reading = Reading::new(rt.alloc(), text, &list, Names::new(rt.alloc()), false);
     reading.go(2, 64);
-    assert_eq!(rt; next_condition(&mut reading), Err(Deep { at: 4 }));
+    let is_deep = next_condition(&mut reading) == Err(Deep { at: 4 });
     reading.go(0, 63);
-    assert_eq!(rt; next_condition(&mut reading), Ok(()));
+    let is_read = next_condition(&mut reading) == Ok(());
     reading.take();
-    assert_eq!(rt; reading.place(), 7);
+    assert!(rt; is_deep && is_read && reading.place() == 7);
     Ok(())
 }

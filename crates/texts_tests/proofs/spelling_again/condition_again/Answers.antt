@@ -13,7 +13,7 @@ use Rattle.tv_spelling.specs.Named.{test_is_named}
 use Rattle.tv_spelling.specs.ReadAgain.{IsConditionReadAgain}
 use Rattle.tv_spelling.proofs.NamedLemmas.{test_fits_named}
 use Rattle.tv_spelling.proofs.ReadTwice.{memory_alone, condition_twice}
-use Rattle.tv_spelling.proofs.read_again.condition_again.Goals as goal
+use Rattle.texts_tests.proofs.spelling_again.condition_again.Goals as goal
 
 pub write_condition-requires-clause-named : goal.write_condition-requires-clause-named
 write_condition-requires-clause-named c =

@@ -2,11 +2,12 @@ ghost use Rattle.std.specs.Prelude.{◌≡◌, ◌+◌, ◌^◌, ◌<◌, length
 ghost use Rattle.tv_program.specs.Programs.{system_of};
 ghost use Rattle.tv_formula.specs.Formulas.{property_of};
 
-use crate::write_formula;
+use crate::texts::program_of;
 use std::alloc::Global;
 use std::test::Fail;
 use tv_formula::Formula;
 use tv_formula_reader::{FormulaFault, read_formula};
+use tv_formula_spelling::write_formula;
 use tv_program::Program;
 use tv_reader::{ReadFault, read_program};
 use tv_spelling::write_program;
@@ -32,7 +33,6 @@ fn program_again(alloc: Global, text: &[u8]) -> Result<(Program, Program), Fail>
 
 /// The formula of a text, and that of the text that is written of it: the same one.
 fn formula_again(alloc: Global, text: &[u8], program: &Program) -> Result<(Formula, Formula), Fail>
-    requires { length text.now + 1 < 2 ^ 32 }
     ensures { IfOk result (λ both. property_of both.1 ≡ property_of both.0) }
 {
     let Ok(formula) = read_formula(alloc, text, program) else {
@@ -49,43 +49,50 @@ fn formula_again(alloc: Global, text: &[u8], program: &Program) -> Result<(Formu
     }
 }
 
+fn are_alike(alloc: Global, first: &Program, second: &Program) -> Result<bool, Fail> {
+    let one = write_program(alloc, first)?;
+    let other = write_program(alloc, second)?;
+    Ok(one.as_slice() == other.as_slice())
+}
+
 // What is written of a program is read again.
 #[test]
-fn reads_programs_again(rt: HostRuntime) -> Result<(), Fail> {
-    let alloc = rt.alloc();
+fn programs_are_read_again(rt: HostRuntime) -> Result<(), Fail> {
     for text in [
         "START: 0; FROM: 0; TO: 1; FROM: 1; assume(x > 0); x := x - 1; TO: 1;",
         "START: a; FROM: b; AT(1, x) y := ((2)) * -(x - -at); assume(!(y < nondet() && true)); TO: a;",
         "START: 1; CUTPOINT: 4; FROM: 2; term := nondet() - nondet(); TO: 3;",
     ] {
         assert!(rt; text.len() < 200);
-        let (first, second) = program_again(alloc, text.as_bytes())?;
-        let one = write_program(alloc, &first)?;
-        let other = write_program(alloc, &second)?;
-        assert!(rt; one.as_slice() == other.as_slice(), "{text}");
+        let (first, second) = program_again(rt.alloc(), text.as_bytes())?;
+        assert!(rt; are_alike(rt.alloc(), &first, &second)?, "{text}");
     }
     Ok(())
 }
 
+fn are_same(
+    alloc: Global,
+    first: &Formula,
+    second: &Formula,
+    program: &Program,
+) -> Result<bool, Fail> {
+    let one = write_formula(alloc, first, program)?;
+    let other = write_formula(alloc, second, program)?;
+    Ok(one.as_slice() == other.as_slice())
+}
+
 // What is written of a formula is read again.
 #[test]
-fn reads_formulas_again(rt: HostRuntime) -> Result<(), Fail> {
-    let alloc = rt.alloc();
-    let text = b"START: at; FROM: at; x := term; TO: 17;".as_slice();
-    let Ok(program) = read_program(alloc, text) else {
-        return Err(Fail::from("no program"));
-    };
+fn formulas_are_read_again(rt: HostRuntime) -> Result<(), Fail> {
+    let program = program_of(rt.alloc(), b"START: at; FROM: at; x := term; TO: 17;")?;
     for text in [
         "!(!!term || (x) * 2 - -1 < 3 && at(17))",
         "[AU](true)([EW](x == 0)(false))",
         "[EM]([AG](true))([AF](((at(17)))))",
         "(true && x >= -x) && ([AX](false) || [ER](x != 1)(term))",
     ] {
-        assert!(rt; text.len() < 200);
-        let (first, second) = formula_again(alloc, text.as_bytes(), &program)?;
-        let one = write_formula(alloc, &first, &program)?;
-        let other = write_formula(alloc, &second, &program)?;
-        assert!(rt; one.as_slice() == other.as_slice(), "{text}");
+        let (first, second) = formula_again(rt.alloc(), text.as_bytes(), &program)?;
+        assert!(rt; are_same(rt.alloc(), &first, &second, &program)?, "{text}");
     }
     Ok(())
 }
