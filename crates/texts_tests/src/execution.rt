@@ -32,7 +32,7 @@ fn after(alloc: Global, program: &Program, edge: u32, value: i128) -> Result<i12
     } else {
         &[]
     };
-    if draws.len() as u32 != draws_of(program, edge) {
+    if draws.len() != draws_of(program, edge) as usize {
         return Err(Memory);
     }
     if program.variables().len() != 1 {

@@ -6,7 +6,10 @@ use tv_program::{Names, Program};
 fn named(alloc: Global) -> Result<Names, Fail> {
     let mut names = Names::new(alloc);
     for (text, number) in [("x", 0), ("y", 1), ("x", 0), ("", 2)] {
-        if names.len() >= 65536 || names.put(text.as_bytes())? != number {
+        if names.len() >= 65536 {
+            return Err(Fail::from("too many names"));
+        }
+        if names.put(text.as_bytes())? != number {
             return Err(Fail::from(text));
         }
     }
@@ -21,7 +24,11 @@ fn are_three(names: &Names) -> bool {
 }
 
 fn is_y(names: &Names) -> bool {
-    names.len() > 1 && names.text(1) == b"y".as_slice()
+    if names.len() > 1 {
+        names.text(1) == b"y".as_slice()
+    } else {
+        false
+    }
 }
 
 #[test]
