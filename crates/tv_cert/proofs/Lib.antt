@@ -12,3 +12,4 @@ pub mod SaidNodes
 pub mod AimLemmas
 pub mod AimedLemmas
 pub mod RoomLemmas
+pub mod FailingLemmas

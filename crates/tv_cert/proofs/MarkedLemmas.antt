@@ -1,11 +1,11 @@
 -- pieces whose numbers stand in one list
-use Rattle.std.proofs.Common.{◌≡◌, ℕ, ◌+◌, ◌*◌, ◌-◌, ◌/◌, ◌^◌, ◌<◌, ◌≤◌, List, [], ◌++◌, length, drop, arith, sym, ap, ◌∙◌, ℤ}
+use Rattle.std.proofs.Common.{◌≡◌, ℕ, zero, suc, ◌+◌, ◌*◌, ◌-◌, ◌/◌, ◌^◌, ◌<◌, ◌≤◌, List, [], ◌++◌, length, drop, arith, sym, ap, ◌∙◌, ℤ, pos}
 use Rattle.std.specs.Prelude.{All}
 use Rattle.std.proofs.Math.Nat.{div-mul-le_self, mul-div_left, mul-sub}
-use Rattle.std.proofs.lemmas.List.{append-nil, length-append, length-drop}
-use Rattle.std.proofs.lemmas.List.Elements.{All-append, All-drop}
+use Rattle.std.proofs.lemmas.List.{append-nil, length-append, length-drop, length-take-le}
+use Rattle.std.proofs.lemmas.List.Elements.{All-nil, All-cons, All-append, All-drop, All-take, All-get_or}
 use Rattle.tv_linear.specs.Linear.{Linear, IsNarrow, IsWithin, columns}
-use Rattle.tv_rows.specs.Packed.{ArePacked, packed, unpacked}
+use Rattle.tv_rows.specs.Packed.{ArePacked, packed, unpacked, first_row}
 use Rattle.tv_rows.proofs.PackedLemmas.{length-packed, narrow-packed, unpacked-packed, drop-packed, unpacked-columns}
 use Rattle.tv_cert.specs.declared.node.Mark.{Mark}
 use Rattle.tv_cert.specs.MarkedRows.{marked, marked_in}
@@ -25,6 +25,23 @@ rows_columns n count zs h = unpacked-columns n count zs h.enough
 
 pub ranks_columns : (n count : ℕ) (zs : List ℤ) → All (λ r. columns r ≡ n) (unpacked n (length zs / (n + 1) - count) (drop (count * (n + 1)) zs))
 ranks_columns n count zs = unpacked-columns n (length zs / (n + 1) - count) (drop (count * (n + 1)) zs) (ranks_enough n count zs)
+
+-- rows of narrow numbers are narrow
+pub unpacked_narrow : (n count : ℕ) (zs : List ℤ) → ArePacked n count zs → All IsNarrow (unpacked n count zs)
+unpacked_narrow n zero zs h = All-nil IsNarrow
+unpacked_narrow n (suc count) zs h =
+    let enough = h.enough in
+    All-cons IsNarrow (first_row n zs) (unpacked n count (drop (suc n) zs))
+    (record {
+      coefficients = All-take (IsWithin 62) n zs h.narrow;
+      constant = All-get_or (IsWithin 62) zs n (pos 0) (omega (arith, enough)) h.narrow;
+      few = (let w = length-take-le n zs (omega (arith, enough)) in let f = h.few in omega (arith, f, w));
+    })
+    (unpacked_narrow n count (drop (suc n) zs) (record {
+      enough = (let d = length-drop (suc n) zs in omega (arith, enough, d));
+      narrow = All-drop (IsWithin 62) (suc n) zs h.narrow;
+      few = h.few;
+    }))
 
 module _ (n : ℕ) (rows ranks : List Linear) (even : All (λ r. columns r ≡ n) rows) (level : All (λ r. columns r ≡ n) ranks) where
   many : length (packed rows ++ packed ranks) ≡ (length rows + length ranks) * (n + 1)

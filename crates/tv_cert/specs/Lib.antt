@@ -4,6 +4,7 @@ pub mod Pieces
 pub mod Targets
 pub mod Choices
 pub mod Obligations
+pub mod FirstFailing
 pub mod Nodes
 pub mod Fits
 pub mod Plain

@@ -44,11 +44,13 @@ CoverShape n counts known (cover.Into k j lists) = ListsShape (known + 1) (count
 abbrev pub NoStepShape : ℕ → ℕ → List LinearCase → List CoverTree → Type 0
 NoStepShape n known cases covers = AllZip (λ c tree. CoverShape (n + c.draws) (owed_count no_target) (known + length c.guards) tree) cases covers
 
--- there is such a case, with one term over n variables for each of its draws; its guards and the rows owed have their lists
-abbrev pub TakeShape : ℕ → (LinearCase → List Linear → ℕ → ℕ → Option (List Known)) → ℕ → Option LinearCase → ℕ → ℕ → List Linear → List (List ℤ) → Type 0
-TakeShape n owed known None k j draws lists = ⊥
-TakeShape n owed known (Some c) k j draws lists =
-    (length draws ≡ c.draws) × All (λ r. columns r ≡ n) draws × ListsShape (known + 1) (option_map (λ rows. length c.guards + length rows) (owed c draws k j)) lists
+-- there is such a case, from the location, with one term over n variables for each of its draws; its guards and the rows owed have
+-- their lists
+abbrev pub TakeShape : ℕ → ℕ → (LinearCase → List Linear → ℕ → ℕ → Option (List Known)) → ℕ → Option LinearCase → ℕ → ℕ → List Linear → List (List ℤ) → Type 0
+TakeShape n l owed known None k j draws lists = ⊥
+TakeShape n l owed known (Some c) k j draws lists =
+    (c.from ≡ l) × (length draws ≡ c.draws) × All (λ r. columns r ≡ n) draws
+    × ListsShape (known + 1) (option_map (λ rows. length c.guards + length rows) (owed c draws k j)) lists
 
 -- the shape of a choice at a place with so many known rows over n variables, at a location
 abbrev pub ChoiceShape : ℕ → List LinearCase → ℕ → Bool → (LinearCase → List Linear → ℕ → ℕ → Option (List Known)) → ℕ → ChoiceTree → Type 0
@@ -56,7 +58,8 @@ ChoiceShape n cases l stop owed known (choice.Split' r p a q b) =
     (columns r ≡ n) × ChoiceShape n cases l stop owed (known + 1) a × ChoiceShape n cases l stop owed (known + 1) b
 ChoiceShape n cases l stop owed known (choice.Empty ms) = length ms.items ≡ known
 ChoiceShape n cases l stop owed known (choice.NoStep covers) = IsTrue stop × NoStepShape n known (leaving l cases) covers.items
-ChoiceShape n cases l stop owed known (choice.Take k target j draws lists) = TakeShape n owed known (slice_get cases k) target j draws.items (map (λ x. x.items) lists.items)
+ChoiceShape n cases l stop owed known (choice.Take k target j draws lists) =
+    TakeShape n l owed known (slice_get cases k) target j draws.items (map (λ x. x.items) lists.items)
 
 -- what is offered has the shape of what is owed, with at most 128 splits on a path
 abbrev pub ProofShape : Owed → Proof → Type 0

@@ -4,18 +4,18 @@
 mod aim;
 mod aims;
 mod claim;
+mod failing;
 mod node;
 mod owes;
 mod parts;
 mod pieces;
-#[cfg(test)]
-mod tests;
 mod visiting;
 mod visitor;
 
 pub use aim::Aim;
 pub use aims::aim_of;
 pub use claim::Claim;
+pub use failing::Failing;
 pub use node::{Kind, Mark, Marked, Node, Proof, Verdict};
 pub use owes::{Destination, Owes};
 pub use parts::part;

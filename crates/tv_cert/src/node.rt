@@ -1,5 +1,5 @@
 ghost use Rattle.std.specs.Prelude.{◌≡◌, ◌-◌, ◌^◌, ◌<◌, All, IfOk, SomeIff, length};
-ghost use Rattle.tv_linear.specs.Linear.{columns as columns_of};
+ghost use Rattle.tv_linear.specs.Linear.{columns as columns_of, IsNarrow};
 ghost use Rattle.tv_rows.specs.Packed.{ArePacked};
 ghost use Rattle.tv_rows.specs.Views.{rows_seen};
 ghost use Rattle.tv_cert.specs.MarkedRows.{marked, marked_in};
@@ -108,8 +108,16 @@ impl Marked {
         ensures is { result ≡ self.now.columns }
         ensures rows { All (λ r. columns_of r ≡ self.now.columns) self.now.rows }
         ensures ranks { All (λ r. columns_of r ≡ self.now.columns) self.now.ranks }
+        ensures narrow { All IsNarrow self.now.rows × All IsNarrow self.now.ranks }
     {
         self.columns
+    }
+
+    /// How many rows it has.
+    pub fn row_count(&self) -> u32
+        ensures { result ≡ length self.now.rows }
+    {
+        self.rows
     }
 
     pub fn rows(&self) -> Rows<'_>

@@ -18,7 +18,7 @@ use Rattle.tv_cert.specs.Statements.{stated, stated_all, count}
 use Rattle.tv_cert.proofs.NodeLemmas.{out_is, kid_pieces_are}
 use Rattle.tv_cert.proofs.SaidLemmas.{parts-stated, own-stated}
 use Rattle.tv_shape.specs.Parts.{children_of, proofs_of, ranks_at}
-use Rattle.tv_shape.specs.Narrow.{ProofNarrow}
+use Rattle.tv_shape.specs.Narrow.{PartsNarrow}
 use Rattle.tv_shape.specs.Depths.{proof_splits}
 use Rattle.tv_shape.specs.Stations.{Station, stations, kid_stations, OwnParts, IsSaid, done_may_be, ranks_may_be, AreRight}
 use Rattle.tv_shape.specs.Fitting.{NodeNarrow, KidsNarrow, GoesWithin, KidsGoWithin, NodesFit, VerdictFits, VerdictShallow, Fits, IsVerdictFault, IsFirstFault}
@@ -125,6 +125,9 @@ module _ (about : About) where
   proofs_are : (ps : _) (m : _) (shape : _) (kids : _) (proofs : _) → proofs_of (Node' ps m shape kids proofs) ≡ proofs.items
   proofs_are ps m shape kids proofs = ap (λ x. x.proofs.items) (outs-Node' ps m shape kids proofs)
 
+  narrow_are : (ps : _) (m : _) (shape : _) (kids : _) (proofs : _) → PartsNarrow (ranks_at (Node' ps m shape kids proofs)) (pieces_list (Node' ps m shape kids proofs)) (proofs_of (Node' ps m shape kids proofs)) ≡ PartsNarrow m ps proofs.items
+  narrow_are ps m shape kids proofs = (let e = outs-Node' ps m shape kids proofs in λ i. PartsNarrow (e i).ranks (e i).pieces (e i).proofs.items)
+
   right_left : (ts us : List Station) → AreRight about.system (ts ++ us) → AreRight about.system ts
   right_left [] us h = tt
   right_left (t ∷ ts) us h = (h.0, right_left ts us h.1)
@@ -148,7 +151,7 @@ module _ (about : About) where
         let counted = sym (arguments_are ps m shape kids proofs) ∙ own.arguments ∙ ap count (parts-stated about f) in
         let below = wholes_of (number + 1) (depth + 1) (parts f) kids counted (subst (λ ss. AreRight about.system (kid_stations (number + 1) (depth + 1) ss kids)) (parts-stated about f) h.1) in (
           (own_shaped f m ps (kid_pieces kids) proofs.items (subst (λ (x : Type 0). x) (own_are (stated about.tests f) ps m shape kids proofs) own.own), below.0),
-          (subst (All ProofNarrow) (proofs_are ps m shape kids proofs) own.narrow, below.1),
+          (subst (λ (x : Type 0). x) (narrow_are ps m shape kids proofs) own.narrow, below.1),
           (shallow.node, subst (All (λ p. depth + proof_splits p ≤ 384)) (proofs_are ps m shape kids proofs) shallow.splits, below.2),
         )
 
@@ -175,7 +178,7 @@ module _ (about : About) where
             record {
               arguments = arguments_are ps m shape kids proofs ∙ counted ∙ sym (ap count (parts-stated about f));
               own = subst (λ (x : Type 0). x) (sym (own_are (stated about.tests f) ps m shape kids proofs)) (own_back f m ps (kid_pieces kids) proofs.items shape_of.0);
-              narrow = subst (All ProofNarrow) moved narrow_of.0;
+              narrow = subst (λ (x : Type 0). x) (sym (narrow_are ps m shape kids proofs)) narrow_of.0;
             },
           ),
           subst (λ ss. AreRight about.system (kid_stations (number + 1) (depth + 1) ss kids)) (sym (parts-stated about f)) (rights_of (number + 1) (depth + 1) (parts f) kids (shape_of.1, narrow_of.1, within.2)),

@@ -10,16 +10,16 @@ use Rattle.tv_cert.specs.Nodes.{pieces_of}
 use Rattle.tv_cert.specs.Obligations.{About}
 use Rattle.tv_cert.specs.Shapes.{HasShape, VerdictShape}
 use Rattle.tv_cert.specs.Statements.{stated}
-use Rattle.tv_shape.specs.Narrow.{AreNarrow, CoverNarrow, ProofNarrow}
+use Rattle.tv_shape.specs.Narrow.{AreNarrow, CountNarrow, CoverNarrow, PartsNarrow}
 use Rattle.tv_shape.specs.Depths.{proof_splits}
 use Rattle.tv_shape.specs.Stations.{stations, AreRight, IsFirstMisshapen}
 use Rattle.tv_shape.specs.declared.fault.ShapeFault.{ShapeFault}
 use Rattle.tv_shape.specs.declared.fault.ShapeFault.TheVariants as fault
 
 abbrev mutual
-  -- each multiplier of the proofs of the node and of those below it is below 2^62 in magnitude
+  -- each number of the node and of those below it is below 2^62 in magnitude
   pub NodeNarrow : Node → Type 0
-  NodeNarrow (Node' ps m shape kids proofs) = All ProofNarrow proofs.items × KidsNarrow kids
+  NodeNarrow (Node' ps m shape kids proofs) = PartsNarrow m ps proofs.items × KidsNarrow kids
 
   pub KidsNarrow : {k : _} → Row_of-Node k → Type 0
   KidsNarrow end_of-Node = Unit {0}
@@ -37,7 +37,7 @@ abbrev mutual
 -- the numbers of the verdict are below 2^62 in magnitude
 abbrev pub VerdictNarrow : Verdict → Type 0
 VerdictNarrow (Proved tree) = CoverNarrow tree
-VerdictNarrow (Disproved k values) = AreNarrow values.items
+VerdictNarrow (Disproved k values) = CountNarrow k × AreNarrow values.items
 
 -- the splits of the verdict lie no deeper than 384, of which the first has depth 1
 abbrev pub VerdictShallow : Verdict → Type 0

@@ -12,7 +12,7 @@ use Rattle.tv_cert.specs.Said.{said_own}
 use Rattle.tv_cert.specs.Shapes.{PieceShape, ProofShape}
 use Rattle.tv_cert.specs.Statements.{Statement, ends, along, unsaid, Statements, no_statement, statement, parts_of, count}
 use Rattle.tv_shape.specs.Parts.{children_of, proofs_of, ranks_at}
-use Rattle.tv_shape.specs.Narrow.{ProofNarrow}
+use Rattle.tv_shape.specs.Narrow.{PartsNarrow}
 use Rattle.tv_shape.specs.Depths.{proof_splits}
 use Rattle.tv_shape.specs.declared.fault.ShapeFault.{ShapeFault}
 use Rattle.tv_shape.specs.declared.fault.ShapeFault.TheVariants as fault
@@ -63,11 +63,11 @@ pub record OwnParts (system : CaseSystem) (s : Statement) (m : ℕ) (ps : List M
   pub each : All (PieceShape system m (done_may_be s)) ps
   pub offered : AllZip (λ o p. ProofShape o.owed p) (said_own 0 system s ps kids) proofs
 
--- the node has a child for each argument, the shape of its own parts, and proofs of narrow numbers
+-- the node has a child for each argument, the shape of its own parts, and narrow numbers
 pub record IsShaped (system : CaseSystem) (t : Station) : Type 0 where
   pub arguments : length (children_of t.node) ≡ count (parts_of t.states)
   pub own : OwnParts system t.states (ranks_at t.node) (pieces_list t.node) (map pieces_list (children_of t.node)) (proofs_of t.node)
-  pub narrow : All ProofNarrow (proofs_of t.node)
+  pub narrow : PartsNarrow (ranks_at t.node) (pieces_list t.node) (proofs_of t.node)
 
 -- neither the node nor a split of its proofs lies deeper than 384
 pub record IsShallow (t : Station) : Type 0 where

@@ -1,7 +1,7 @@
-ghost use Rattle.std.specs.Prelude.{◌≡◌, ◌↔◌, ◌+◌, ◌<◌, ◌^◌, ℕ, IsTrue, List, Some, length, map, slice_get};
+ghost use Rattle.std.specs.Prelude.{◌≡◌, ◌↔◌, ◌+◌, ◌<◌, ◌^◌, ℕ, All, IsTrue, List, Some, length, map, slice_get};
 ghost use Rattle.std.specs.Option.{option_map};
 ghost use Rattle.tv_linear.specs.ChoiceDepth.{choice_splits};
-ghost use Rattle.tv_linear.specs.Linear.{Linear};
+ghost use Rattle.tv_linear.specs.Linear.{Linear, columns as columns_of};
 ghost use Rattle.tv_linear.specs.Covers.{no_target};
 ghost use Rattle.tv_cases.specs.LinearCases.{leaving};
 ghost use Rattle.tv_cases.specs.Systems.{cases_of};
@@ -44,7 +44,15 @@ fn destination_owes_rows(
     taken_into(piece, case, destination).rows(target, fall) == Some(rows)
 }
 
-/// Whether the taken case has these terms for its draws, and the lists are as many as the rows of its guards and the target.
+/// Whether there are terms of so many columns for the draws of the case.
+fn draws_fit(columns: u32, case: &Case, draws: &[Row]) -> bool
+    ensures { IsTrue result ↔ ((length draws.now ≡ case.now.draws) × All (λ r. columns_of r ≡ columns) draws.now) }
+{
+    draws.len() == case.draws as usize && have_columns(draws, columns)
+}
+
+/// Whether the taken case leaves the location of the piece and has these terms for its draws, and the lists are as many as the rows of
+/// its guards and the target.
 fn take_has_shape(
     columns: u32,
     cases: &[Case],
@@ -58,14 +66,14 @@ fn take_has_shape(
     lists: &[Vec<i64>],
 ) -> bool
     requires { known < 2 ^ 65 }
-    ensures { IsTrue result ↔ TakeShape columns (destination_owes columns piece.now destination.now) known (slice_get (case_views cases.now) taken) target fall draws.now (map (λ l. l.items) lists.now) }
+    ensures { IsTrue result ↔ TakeShape columns piece.now.location (destination_owes columns piece.now destination.now) known (slice_get (case_views cases.now) taken) target fall draws.now (map (λ l. l.items) lists.now) }
 {
     match cases.get(taken as usize) {
         None => false,
         Some(case) => {
             let guards = case.guards.rows.len();
-            draws.len() == case.draws as usize
-                && have_columns(draws, columns)
+            case.from == piece.location()
+                && draws_fit(columns, case, draws)
                 && lists.len() >= guards
                 && destination_owes_rows(
                     columns,

@@ -16,8 +16,6 @@ mod offered;
 mod pieces;
 mod shaper;
 mod targets;
-#[cfg(test)]
-mod tests;
 mod verdicts;
 mod walking;
 

@@ -11,7 +11,7 @@ ghost use Rattle.tv_shape.specs.Stations.{OwnParts, IsShaped, IsShallow, IsRight
 
 use crate::depths::proofs_go_within;
 use crate::fault::ShapeFault;
-use crate::narrow::proofs_are_narrow;
+use crate::narrow::parts_are_narrow;
 use crate::pieces::piece_has_shape;
 use crate::shaper::Shaper;
 use tv_cases::Cases;
@@ -92,7 +92,7 @@ fn is_shaped(about: &Cases, aim: &Aim, node: &Node) -> bool
 {
     node.children.len() == argument_count(aim)
         && has_own_parts(about, aim, node)
-        && proofs_are_narrow(&node.proofs)
+        && parts_are_narrow(node)
 }
 
 /// Whether neither the node nor a split of its proofs lies too deep.
