@@ -4,7 +4,6 @@ use Rattle.std.specs.Prelude.{◌==◌}
 use Rattle.std.specs.Global.{Vec}
 use Rattle.std.specs.List.{AllZip, flat_map}
 use Rattle.std.specs.Option.{option_map, ForSome}
-use Rattle.std.proofs.lemmas.List.Elements.{All-nil, All-cons}
 use Rattle.tv_grammar.specs.Langs.{headed, mapped, each, go, stop}
 use Rattle.tv_lines.specs.Lines.{PlainLine, formed, count_of, FitsHead}
 use Rattle.tv_lines.specs.declared.head.Head.{Head}
@@ -24,16 +23,15 @@ use Rattle.tv_cert.specs.Owing.{destination_owes, falls_where}
 use Rattle.tv_cert.specs.Pieces.{place_of, ranks_of}
 use Rattle.tv_cert.specs.Shapes.{ChoiceShape, ListsShape, NoStepShape, TakeShape, owed_count}
 use Rattle.tv_cert.specs.Targets.{owed_into}
-use Rattle.tv_cert.proofs.PieceLemmas.{test_true, test_false}
+use Rattle.tv_cert.proofs.PieceLemmas.{test_true, true_test, test_false}
 use Rattle.tv_shape.specs.Counts.{AreFewAt}
-use Rattle.tv_shape.specs.Narrow.{ChoiceNarrow, CoverNarrow}
 use Rattle.tv_shape.proofs.CountLemmas.{count_same}
 use Rattle.tv_cert_reader.specs.CertificateLines.{row_lines, row_line, by_lines, cover_lines, choice_lines}
 use Rattle.tv_cert_reader.specs.declared.kind.LineKind.{LineKind}
 use Rattle.tv_cert_reader.specs.declared.kind.LineKind.TheVariants.{Syntax, Deep, Shape}
 use Rattle.tv_cert_reader.specs.LineGrammar.{Grammar, Behind, many, by, draw, with_three}
 use Rattle.tv_cert_reader.specs.CoverGrammar.{both, empty_behind}
-use Rattle.tv_cert_reader.specs.ChoiceGrammar.{Choosing, choice, choice_cases, stop_cover, no_step, no_step_behind, taken_rows, taken_case, take_behind, Taken}
+use Rattle.tv_cert_reader.specs.ChoiceGrammar.{Choosing, choice, choice_cases, stop_cover, no_step, no_step_behind, only_where, taken_rows, taken_case, take_behind, Taken}
 use Rattle.tv_cert_reader.proofs.CompleteParts.{draws_read, numbers_long}
 use Rattle.tv_cert_reader.proofs.CompleteCovers.{choice_read}
 use Rattle.tv_cert_reader.specs.declared.cursor.Cursor.{Cursor}
@@ -46,7 +44,7 @@ use Rattle.tv_cert_reader.specs.Choices.{choosing_of, IsChoiceSplitOf, IsChoiceW
 use Rattle.tv_cert_reader.proofs.ReadingLemmas.{line_fails, line_stops, behind_fails, first_fails, second_fails, takes_both, takes_as}
 use Rattle.tv_cert_reader.proofs.SideLemmas.{sides_at, sides_deep, sides_wrong, sides_go}
 use Rattle.tv_cert_reader.proofs.CountLemmas.{few_into, few_ranked, few_lists}
-use Rattle.tv_cert_reader.proofs.CoverLemmas.{listed_narrow, listed_wide}
+use Rattle.tv_cert_reader.proofs.CoverLemmas.{listed_wide}
 
 -- ---- a case that is taken, its target and its fall are few
 
@@ -61,22 +59,26 @@ few_taken system p (Into pieces falls) case draws k j n few e =
 
 -- ---- the numbers of a line that takes a case
 
-taken_none : (counts : LinearCase → ℕ → ℕ → Option ℕ) (o : Option LinearCase) (k j : ℕ) → ((case : LinearCase) (n : ℕ) → o ≡ Some case → counts case k j ≡ Some n → ⊥) → taken_case counts o k j ≡ None
-taken_none counts None k j h = refl
-taken_none counts (Some case) k j h = rows (counts case k j) (λ n e. h case n refl e) where
+where_true : (b : Bool) (t : Option Taken) → (b ≡ true → t ≡ None) → only_where b t ≡ None
+where_true true t h = h refl
+where_true false t h = refl
+
+taken_none : (l : ℕ) (counts : LinearCase → ℕ → ℕ → Option ℕ) (o : Option LinearCase) (k j : ℕ) → ((case : LinearCase) (n : ℕ) → o ≡ Some case → case.from ≡ l → counts case k j ≡ Some n → ⊥) → taken_case l counts o k j ≡ None
+taken_none l counts None k j h = refl
+taken_none l counts (Some case) k j h = where_true (case.from == l) (taken_rows case (counts case k j)) (λ b. rows (counts case k j) (λ n e. h case n refl (true_test case.from l b) e)) where
   rows : (o : Option ℕ) → ((n : ℕ) → o ≡ Some n → ⊥) → taken_rows case o ≡ None
   rows None h = refl
   rows (Some n) h = absurd (h n refl)
 
-three_none : (cases : List LinearCase) (counts : LinearCase → ℕ → ℕ → Option ℕ) (zs : List ℤ) → ((case : LinearCase) (c k j n : ℕ) → zs ≡ pos c ∷ pos k ∷ pos j ∷ [] → slice_get cases c ≡ Some case → counts case k j ≡ Some n → ⊥) → with_three zs (λ c k j. taken_case counts (slice_get cases c) k j) ≡ None
-three_none cases counts (pos c ∷ pos k ∷ pos j ∷ []) h = taken_none counts (slice_get cases c) k j (λ case n e f. h case c k j n refl e f)
-three_none cases counts (pos c ∷ pos k ∷ negsuc j ∷ []) h = refl
-three_none cases counts (pos c ∷ negsuc k ∷ j ∷ []) h = refl
-three_none cases counts (negsuc c ∷ k ∷ j ∷ []) h = refl
-three_none cases counts [] h = refl
-three_none cases counts (a ∷ []) h = refl
-three_none cases counts (a ∷ b ∷ []) h = refl
-three_none cases counts (a ∷ b ∷ c ∷ d ∷ zs) h = refl
+three_none : (l : ℕ) (cases : List LinearCase) (counts : LinearCase → ℕ → ℕ → Option ℕ) (zs : List ℤ) → ((case : LinearCase) (c k j n : ℕ) → zs ≡ pos c ∷ pos k ∷ pos j ∷ [] → slice_get cases c ≡ Some case → case.from ≡ l → counts case k j ≡ Some n → ⊥) → with_three zs (λ c k j. taken_case l counts (slice_get cases c) k j) ≡ None
+three_none l cases counts (pos c ∷ pos k ∷ pos j ∷ []) h = taken_none l counts (slice_get cases c) k j (λ case n e from f. h case c k j n refl e from f)
+three_none l cases counts (pos c ∷ pos k ∷ negsuc j ∷ []) h = refl
+three_none l cases counts (pos c ∷ negsuc k ∷ j ∷ []) h = refl
+three_none l cases counts (negsuc c ∷ k ∷ j ∷ []) h = refl
+three_none l cases counts [] h = refl
+three_none l cases counts (a ∷ []) h = refl
+three_none l cases counts (a ∷ b ∷ []) h = refl
+three_none l cases counts (a ∷ b ∷ c ∷ d ∷ zs) h = refl
 
 guards_and : (guards n : ℕ) (o : Option (List Known)) → option_map length o ≡ Some n → option_map (λ rows. guards + length rows) o ≡ Some (guards + n)
 guards_and guards n None e = absurd (let h : ⊥ = cc in h)
@@ -100,12 +102,6 @@ stops_shallow n known left [] [] h = omega arith
 stops_shallow n known left [] (t ∷ trees) h = absurd h
 stops_shallow n known left (c ∷ cases) [] h = absurd h
 stops_shallow n known left (c ∷ cases) (t ∷ trees) h = (let later = stops_shallow n known left cases trees h.1 in omega (arith, h.0.shallow, later))
-
-stops_narrow : (n known left : ℕ) (cases : List LinearCase) (trees : List CoverTree) → AllZip (IsStop n known left) cases trees → All CoverNarrow trees
-stops_narrow n known left [] [] h = All-nil CoverNarrow
-stops_narrow n known left [] (t ∷ trees) h = absurd h
-stops_narrow n known left (c ∷ cases) [] h = absurd h
-stops_narrow n known left (c ∷ cases) (t ∷ trees) h = All-cons CoverNarrow t trees h.0.narrow (stops_narrow n known left cases trees h.1)
 
 -- no numbers stand on the line that there is no step
 pub no_numbers_fit : (head : Head) (zs : List ℤ) → head ≡ heads.NoStep → FitsHead head zs → zs ≡ []
@@ -142,15 +138,16 @@ module _ (system : CaseSystem) (p : Marked) (may_stop : Bool) (destination : Des
 
     pub take_stops : (mid : Cursor) (zs : List ℤ) → IsBehind heads.Take zs old mid → NamesNoCase system p destination zs → FaultAt (side known left) old Shape mid.taken
     take_stops mid zs at none =
-        choice_stops mid heads.Take zs at Shape (ap (take_behind system.variables known) (three_none system.cases x.counts zs none))
+        choice_stops mid heads.Take zs at Shape (ap (take_behind system.variables known) (three_none (place_of p) system.cases x.counts zs none))
 
     module _ (mid : Cursor) (zs : List ℤ) (at : IsBehind heads.Take zs old mid) (case : LinearCase) (c k j n : ℕ) (is : IsTaken system p destination zs case c k j n) where
       abbrev found : Taken
       found = record { case = case; owed = n }
 
-      named : with_three zs (λ c k j. taken_case x.counts (slice_get system.cases c) k j) ≡ Some found
-      named = ap (λ ys. with_three ys (λ c k j. taken_case x.counts (slice_get system.cases c) k j)) is.numbers
-          ∙ ap (λ o. taken_case x.counts o k j) is.there
+      named : with_three zs (λ c k j. taken_case x.place x.counts (slice_get system.cases c) k j) ≡ Some found
+      named = ap (λ ys. with_three ys (λ c k j. taken_case x.place x.counts (slice_get system.cases c) k j)) is.numbers
+          ∙ ap (λ o. taken_case x.place x.counts o k j) is.there
+          ∙ ap (λ b. only_where b (taken_rows case (x.counts case k j))) (test_true case.from (place_of p) is.from)
           ∙ ap (taken_rows case) (is.owes [])
 
       abbrev terms : Grammar (Unit {0})
@@ -171,13 +168,13 @@ module _ (system : CaseSystem) (p : Marked) (may_stop : Bool) (destination : Des
         pub take_read : (lists : Vec (Vec ℤ)) (new : Cursor) → AreMany (AreNumbers (known + 1)) (length case.guards + n) (lists_in lists) → Takes (by_lines (lists_in lists)) next new → (tree : ChoiceTree) → tree ≡ Take c k j draws lists → IsChoiceWithin system p may_stop destination known left tree × Takes (choice_lines tree) old new
         take_read lists new many t tree made = subst (λ t. IsChoiceWithin system p may_stop destination known left t × Takes (choice_lines t) old new) (sym made) (
           record {
-            shape = subst (λ o. TakeShape system.variables (destination_owes system.variables p destination) known o k j draws.items (lists_in lists)) (sym is.there) (
+            shape = subst (λ o. TakeShape system.variables (place_of p) (destination_owes system.variables p destination) known o k j draws.items (lists_in lists)) (sym is.there) (
+              is.from,
               are.many,
               are.each,
               subst (λ o. ListsShape (known + 1) o (lists_in lists)) (sym (guards_and (length case.guards) n (destination_owes system.variables p destination case draws.items k j) (is.owes draws.items))) (many.many, listed_wide (known + 1) (lists_in lists) many.each),
             );
             shallow = omega arith;
-            narrow = listed_narrow (known + 1) lists.items many.each;
           },
           takes_as ((formed heads.Take zs ∷ []) ++ (row_lines heads.Draw draws.items ++ by_lines (lists_in lists))) (choice_lines (Take c k j draws lists)) old new (λ i. formed heads.Take (is.numbers i) ∷ (row_lines heads.Draw draws.items ++ by_lines (lists_in lists)))
               (takes_both (formed heads.Take zs ∷ []) (row_lines heads.Draw draws.items ++ by_lines (lists_in lists)) old mid new at.front (takes_both (row_lines heads.Draw draws.items) (by_lines (lists_in lists)) mid next new first t)),
@@ -222,7 +219,6 @@ module _ (system : CaseSystem) (p : Marked) (may_stop : Bool) (destination : Des
                 subst (ChoiceShape system.variables system.cases (place_of p) may_stop (destination_owes system.variables p destination) (known + 1)) (sym split.2) two.shape,
               );
               shallow = (let x = ap choice_splits split.1 in let y = ap choice_splits split.2 in omega (arith, x, y, one.shallow, two.shallow, some));
-              narrow = (subst ChoiceNarrow (sym split.1) one.narrow, subst ChoiceNarrow (sym split.2) two.narrow);
             },
             takes_as ((formed heads.Split zs ∷ []) ++ (choice_lines holds ++ choice_lines fails)) (choice_lines (Split' r q a s b)) old new
                 ((λ i. formed heads.Split (is.numbers i) ∷ (choice_lines holds ++ choice_lines fails)) ∙ (λ i. row_line heads.Split (sym split.0 i) ∷ (choice_lines (sym split.1 i) ++ choice_lines (sym split.2 i))))
@@ -248,7 +244,6 @@ module _ (system : CaseSystem) (p : Marked) (may_stop : Bool) (destination : Des
               record {
                 shape = (may, stops_shape system.variables known left from covers.items all);
                 shallow = stops_shallow system.variables known left from covers.items all;
-                narrow = stops_narrow system.variables known left from covers.items all;
               },
               takes_both (formed heads.NoStep [] ∷ []) (flat_map cover_lines covers.items) old mid new at.front t,
             )

@@ -28,7 +28,7 @@ use Rattle.tv_cert_reader.specs.CertificateLines.{row_line, row_lines, by_lines,
 use Rattle.tv_cert_reader.specs.Demands.{Demand, demand_of, no_counts}
 use Rattle.tv_cert_reader.specs.LineGrammar.{Grammar, many, by, draw}
 use Rattle.tv_cert_reader.specs.CoverGrammar.{lists_behind, empty_behind, sides_behind, both, cover}
-use Rattle.tv_cert_reader.specs.ChoiceGrammar.{Choosing, stop_cover, no_step, no_step_behind, taken_rows, taken_case, take_behind, choice, demanded}
+use Rattle.tv_cert_reader.specs.ChoiceGrammar.{Choosing, stop_cover, no_step, no_step_behind, only_where, taken_rows, taken_case, take_behind, choice, demanded}
 use Rattle.tv_cert_reader.specs.Shaped.{IsDrawFree}
 use Rattle.tv_cert_reader.proofs.CompleteReads.{then_read, mapped_read, each_read}
 use Rattle.tv_cert_reader.proofs.CompleteParts.{numbers_long, draws_read, lists_read}
@@ -94,9 +94,11 @@ module _ (n known : ℕ) (draws : List Linear) (lists : List (List ℤ)) (here r
       ∙ both_read (many c.draws (draw n)) (many (length c.guards + length rows) (by (known + 1))) (row_lines heads.Draw draws) (by_lines lists) rest
       (λ r. draws_read n c.draws draws r as_many wide) (lists_read (known + 1) (length c.guards + length rows) lists rest h.0 h.1)
 
-  take_read : (owed : LinearCase → List Linear → ℕ → ℕ → Option (List Known)) → ((c : LinearCase) (draws : List Linear) → owed_count (owed c draws) ≡ owed_count (owed c [])) → (c : Option LinearCase) (k j : ℕ) → TakeShape n owed known c k j draws lists → branch_read (take_behind n known (taken_case (λ c. owed_count (owed c [])) c k j)) here ((row_lines heads.Draw draws ++ by_lines lists) ++ rest) ≡ Ok (tt, rest)
-  take_read owed free None k j h = absurd h
-  take_read owed free (Some c) k j h = rows_taken c (owed c draws k j) (owed_count (owed c []) k j) h.0 h.1 h.2 (ap (λ f. f k j) (free c draws))
+  take_read : (l : ℕ) (owed : LinearCase → List Linear → ℕ → ℕ → Option (List Known)) → ((c : LinearCase) (draws : List Linear) → owed_count (owed c draws) ≡ owed_count (owed c [])) → (c : Option LinearCase) (k j : ℕ) → TakeShape n l owed known c k j draws lists → branch_read (take_behind n known (taken_case l (λ c. owed_count (owed c [])) c k j)) here ((row_lines heads.Draw draws ++ by_lines lists) ++ rest) ≡ Ok (tt, rest)
+  take_read l owed free None k j h = absurd h
+  take_read l owed free (Some c) k j h =
+      ap (λ b. branch_read (take_behind n known (only_where b (taken_rows c (owed_count (owed c []) k j)))) here ((row_lines heads.Draw draws ++ by_lines lists) ++ rest)) (test_true c.from l h.0)
+      ∙ rows_taken c (owed c draws k j) (owed_count (owed c []) k j) h.1 h.2 h.3 (ap (λ f. f k j) (free c draws))
 
 -- how a choice is read
 abbrev pub choosing : ℕ → List LinearCase → ℕ → Bool → (LinearCase → List Linear → ℕ → ℕ → Option (List Known)) → Choosing
@@ -114,8 +116,8 @@ module _ (over : Bool) (n : ℕ) (cases : List LinearCase) (l : ℕ) (may_stop :
   choice_read (suc left) known (choice_trees.Empty ms) rest h deep = empty_read known ms.items (formed heads.Empty ms.items ∷ rest) rest h
   choice_read zero known (choice_trees.NoStep covers) rest h deep = no_step_read over 0 known (choosing n cases l may_stop owed) covers.items (formed heads.NoStep [] ∷ (flat_map cover_lines covers.items ++ rest)) rest h.0 h.1 deep
   choice_read (suc left) known (choice_trees.NoStep covers) rest h deep = no_step_read over (suc left) known (choosing n cases l may_stop owed) covers.items (formed heads.NoStep [] ∷ (flat_map cover_lines covers.items ++ rest)) rest h.0 h.1 deep
-  choice_read zero known (choice_trees.Take c k j draws lists) rest h deep = take_read n known draws.items (map (λ x. x.items) lists.items) (choice_lines (choice_trees.Take c k j draws lists) ++ rest) rest owed free (slice_get cases c) k j h
-  choice_read (suc left) known (choice_trees.Take c k j draws lists) rest h deep = take_read n known draws.items (map (λ x. x.items) lists.items) (choice_lines (choice_trees.Take c k j draws lists) ++ rest) rest owed free (slice_get cases c) k j h
+  choice_read zero known (choice_trees.Take c k j draws lists) rest h deep = take_read n known draws.items (map (λ x. x.items) lists.items) (choice_lines (choice_trees.Take c k j draws lists) ++ rest) rest l owed free (slice_get cases c) k j h
+  choice_read (suc left) known (choice_trees.Take c k j draws lists) rest h deep = take_read n known draws.items (map (λ x. x.items) lists.items) (choice_lines (choice_trees.Take c k j draws lists) ++ rest) rest l owed free (slice_get cases c) k j h
 
 -- ---- proofs
 

@@ -12,8 +12,6 @@ use Rattle.tv_linear.specs.Depth.{splits}
 use Rattle.tv_linear.specs.declared.cover.CoverTree.{CoverTree, Split', Empty, Into}
 use Rattle.tv_cert.specs.Shapes.{CoverShape, ListsShape}
 use Rattle.tv_cert.proofs.PieceLemmas.{test_true, test_false}
-use Rattle.tv_shape.specs.Narrow.{AreNarrow, CoverNarrow, ListsNarrow}
-use Rattle.tv_shape.proofs.CountLemmas.{all_seen}
 use Rattle.tv_cert_reader.specs.CertificateLines.{row_line, by_lines, cover_lines}
 use Rattle.tv_cert_reader.specs.declared.kind.LineKind.{LineKind}
 use Rattle.tv_cert_reader.specs.declared.kind.LineKind.TheVariants.{Syntax, Deep, Shape}
@@ -30,10 +28,6 @@ use Rattle.tv_cert_reader.specs.Covers.{IsBehind, IsSplitOf, IsCoverWithin, IsTa
 use Rattle.tv_cert_reader.proofs.ReadingLemmas.{line_fails, line_stops, behind_fails, first_fails, second_fails, takes_both, takes_as}
 use Rattle.tv_cert_reader.proofs.SideLemmas.{sides_at, sides_deep, sides_wrong, sides_go}
 use Rattle.tv_cert_reader.proofs.CountLemmas.{two_none, two_some}
-
--- the same multipliers, narrow one by one
-pub listed_narrow : (wide : ℕ) (vs : List (Vec ℤ)) → All (AreNumbers wide) (map (λ v. v.items) vs) → ListsNarrow vs
-listed_narrow wide vs h = All-weaker (λ (v : Vec ℤ). AreNumbers wide v.items) (λ v. AreNarrow v.items) (λ v n. n.narrow) vs ((all_seen (AreNumbers wide) (λ (v : Vec ℤ). v.items) vs).1 h)
 
 pub listed_wide : (wide : ℕ) (ls : List (List ℤ)) → All (AreNumbers wide) ls → All (λ ms. length ms ≡ wide) ls
 listed_wide wide ls h = All-weaker (AreNumbers wide) (λ ms. length ms ≡ wide) (λ ms n. n.many) ls h
@@ -101,7 +95,6 @@ module _ (width : ℕ) (counts : ℕ → ℕ → Option ℕ) where
             record {
               shape = (ap columns split.0 ∙ is.wide, subst (CoverShape width counts (known + 1)) (sym split.1) one.shape, subst (CoverShape width counts (known + 1)) (sym split.2) two.shape);
               shallow = (let x = ap splits split.1 in let y = ap splits split.2 in omega (arith, x, y, one.shallow, two.shallow, some));
-              narrow = (subst CoverNarrow (sym split.1) one.narrow, subst CoverNarrow (sym split.2) two.narrow);
             },
             takes_as ((formed heads.Split zs ∷ []) ++ (cover_lines holds ++ cover_lines fails)) (cover_lines (Split' r p a q b)) old new
                 ((λ i. formed heads.Split (is.numbers i) ∷ (cover_lines holds ++ cover_lines fails)) ∙ (λ i. row_line heads.Split (sym split.0 i) ∷ (cover_lines (sym split.1 i) ++ cover_lines (sym split.2 i))))
@@ -127,7 +120,6 @@ module _ (width : ℕ) (counts : ℕ → ℕ → Option ℕ) where
         record {
           shape = subst (λ o. ListsShape (known + 1) o (lists_in lists)) (sym is.owes) (are.many, listed_wide (known + 1) (lists_in lists) are.each);
           shallow = omega arith;
-          narrow = listed_narrow (known + 1) lists.items are.each;
         },
         takes_as ((formed heads.Into zs ∷ []) ++ by_lines (lists_in lists)) (cover_lines (Into k j lists)) old new (λ i. formed heads.Into (is.numbers i) ∷ by_lines (lists_in lists)) (takes_both (formed heads.Into zs ∷ []) (by_lines (lists_in lists)) old mid new at.front t),
       )

@@ -80,7 +80,7 @@ choice_branch : (sides : Bool → Behind (Unit {0})) → ((wanted : Bool) → Ex
 choice_branch sides h covers i x known (formed heads.Split zs) = h (length zs == x.variables + 1)
 choice_branch sides h covers i x known (formed heads.Empty zs) = empty_exact (length zs == known)
 choice_branch sides h covers i x known (formed heads.NoStep zs) = no_step_branch covers i x.may_stop
-choice_branch sides h covers i x known (formed heads.Take zs) = take_exact x.variables known (with_three zs (λ c k j. taken_case x.counts (slice_get x.cases c) k j))
+choice_branch sides h covers i x known (formed heads.Take zs) = take_exact x.variables known (with_three zs (λ c k j. taken_case x.place x.counts (slice_get x.cases c) k j))
 choice_branch sides h covers i x known (formed _ zs) = tt
 choice_branch sides h covers i x known formless = tt
 choice_branch sides h covers i x known wide = tt

@@ -23,10 +23,11 @@ use Rattle.tv_cert.specs.Shapes.{HasShape, HaveShapes, ProofShape}
 use Rattle.tv_cert.specs.Statements.{stated}
 use Rattle.tv_cert.proofs.NodeLemmas.{pieces_are}
 use Rattle.tv_shape.specs.Depths.{proof_splits}
-use Rattle.tv_shape.specs.Fitting.{GoesWithin, KidsGoWithin, Fits, VerdictFits, VerdictShallow}
+use Rattle.tv_shape.specs.Fitting.{GoesWithin, KidsGoWithin, Fits, VerdictFits, VerdictNarrow, VerdictShallow}
 use Rattle.tv_cert_reader.specs.CertificateLines.{node_lines, certificate_lines}
 use Rattle.tv_cert_reader.specs.Shaped.{IsShapedAs, stated_lines}
 use Rattle.tv_cert_reader.proofs.CompleteStated.{shaped_back, lines_as}
+use Rattle.tv_cert_reader.proofs.FitLines.{AreFit, root_and_rest, node_fit, verdict_fit}
 use Rattle.tv_cert_reader.specs.Texts.{sides_of}
 use Rattle.tv_cert_reader.specs.Wholes.{IsVerdictOver, behind_root, says, IsBehindSaid, begun, side}
 
@@ -102,21 +103,23 @@ module _ (system : CaseSystem) (claim : Claim) (variables : claim_variables clai
   short_claim (Proved tree) = few_steps (operators (property_of claim.proved)) claim.proved.within_limits.few_operators
   short_claim (Disproved k values) = few_steps (operators (property_of claim.denied)) claim.denied.within_limits.few_operators
 
-  verdict_fits : (root : Node) (verdict : Verdict) → IsVerdictOver system root verdict → VerdictFits about (pieces_of root) verdict
-  verdict_fits root (Proved tree) h = subst (λ ps. VerdictFits about ps (Proved tree)) (sym (pieces_are root)) (record { shape = (h.shape, h.shallow); narrow = h.narrow })
-  verdict_fits root (Disproved k values) h = subst (λ ps. VerdictFits about ps (Disproved k values)) (sym (pieces_are root)) (record { shape = (h.0, h.1); narrow = h.2 })
+  verdict_fits : (root : Node) (verdict : Verdict) → IsVerdictOver system root verdict → VerdictNarrow verdict → VerdictFits about (pieces_of root) verdict
+  verdict_fits root (Proved tree) h narrow = subst (λ ps. VerdictFits about ps (Proved tree)) (sym (pieces_are root)) (record { shape = (h.shape, h.shallow); narrow = narrow })
+  verdict_fits root (Disproved k values) h narrow = subst (λ ps. VerdictFits about ps (Disproved k values)) (sym (pieces_are root)) (record { shape = h; narrow = narrow })
 
   shallow_verdict : (root : Node) (verdict : Verdict) → IsVerdictOver system root verdict → VerdictShallow verdict
   shallow_verdict root (Proved tree) h = (let n = h.shallow in omega (arith, n))
   shallow_verdict root (Disproved k values) h = tt
 
-  pub read_fits : (rest : List PlainLine) (root : Node) (verdict : Verdict) → IsBehindSaid system (side (sides_of claim) (says verdict)) (says verdict) rest root verdict → Fits about (shown claim verdict) root verdict
-  read_fits rest root verdict h =
-      let shaped = shaped_back about (shown claim verdict) root (subst (λ s. IsShapedAs system s root) (shows verdict) h.root_is.shape) in
+  pub read_fits : (rest : List PlainLine) (root : Node) (verdict : Verdict) → IsBehindSaid system (side (sides_of claim) (says verdict)) (says verdict) rest root verdict → AreFit rest → Fits about (shown claim verdict) root verdict
+  read_fits rest root verdict h fit =
+      let s = side (sides_of claim) (says verdict) in
+      let lines = root_and_rest s root verdict (subst AreFit h.lines fit) in
+      let shaped = shaped_back about (shown claim verdict) root (subst (λ s. IsShapedAs system s root) (shows verdict) h.root_is) in
       record {
-        nodes = record { shape = shaped; narrow = h.root_is.narrow; depth = goes_within about (shown claim verdict) root 1 shaped (short_claim verdict) };
+        nodes = record { shape = shaped; narrow = node_fit system s root h.root_is lines.0; depth = goes_within about (shown claim verdict) root 1 shaped (short_claim verdict) };
         shallow = shallow_verdict root verdict h.verdict_is;
-        said = verdict_fits root verdict h.verdict_is;
+        said = verdict_fits root verdict h.verdict_is (verdict_fit verdict lines.1);
       }
 
   lines_with : (verdict : Verdict) (root : Node) → begun (says verdict) (node_lines (shown claim verdict) root ++ behind_root verdict) ≡ certificate_lines (shown claim verdict) root verdict

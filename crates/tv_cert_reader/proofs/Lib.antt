@@ -27,6 +27,8 @@ pub mod SideLemmas
 pub mod CoverLemmas
 pub mod NodeLemmas
 pub mod RestLemmas
+pub mod FitLines
+pub mod KindLemmas
 pub mod FitLemmas
 pub mod ReadLemmas
 pub mod ChoiceLemmas

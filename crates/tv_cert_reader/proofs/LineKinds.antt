@@ -94,7 +94,7 @@ module _ (P : LineKind → Option PlainLine → Type 0) (allows : Allows P) wher
   choice_branch sides h covers i x known (formed heads.Split zs) = h zs (length zs == x.variables + 1)
   choice_branch sides h covers i x known (formed heads.Empty zs) = empty_kinded heads.Empty zs (length zs == known)
   choice_branch sides h covers i x known (formed heads.NoStep zs) = no_step_branch zs covers i x.may_stop
-  choice_branch sides h covers i x known (formed heads.Take zs) = take_kinded heads.Take zs x.variables known (with_three zs (λ c k j. taken_case x.counts (slice_get x.cases c) k j))
+  choice_branch sides h covers i x known (formed heads.Take zs) = take_kinded heads.Take zs x.variables known (with_three zs (λ c k j. taken_case x.place x.counts (slice_get x.cases c) k j))
   choice_branch sides h covers i x known (formed head zs) = allows.shape head zs
   choice_branch sides h covers i x known formless = allows.formless
   choice_branch sides h covers i x known wide = allows.wide

@@ -108,7 +108,7 @@ choice_branch : (b c : Bool → Behind (Unit {0})) → SidesLooser b c → (l m 
 choice_branch b c h l m i x known (formed heads.Split zs) = h (length zs == x.variables + 1)
 choice_branch b c h l m i x known (formed heads.Empty zs) = empty_loose (length zs == known)
 choice_branch b c h l m i x known (formed heads.NoStep zs) = no_step_branch l m i x.may_stop
-choice_branch b c h l m i x known (formed heads.Take zs) = take_loose x.variables known (with_three zs (λ c k j. taken_case x.counts (slice_get x.cases c) k j))
+choice_branch b c h l m i x known (formed heads.Take zs) = take_loose x.variables known (with_three zs (λ c k j. taken_case x.place x.counts (slice_get x.cases c) k j))
 choice_branch b c h l m i x known (formed _ zs) = (refl, refl)
 choice_branch b c h l m i x known formless = (refl, refl)
 choice_branch b c h l m i x known wide = (refl, refl)

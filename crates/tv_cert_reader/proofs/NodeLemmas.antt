@@ -20,15 +20,13 @@ use Rattle.tv_cert.specs.Said.{said_own}
 use Rattle.tv_cert.specs.Shapes.{ProofShape}
 use Rattle.tv_cert.specs.Statements.{Statement, rows, here, elsewhere, ends, never_ends, each_of, one_of, after, along, unsaid, Statements, no_statement, statement, parts_of, part_at, count}
 use Rattle.tv_cert.proofs.NodeLemmas.{kids_of, proofs_list, out_is, pieces_are, kid_pieces_are}
-use Rattle.tv_shape.specs.Fitting.{KidsNarrow}
-use Rattle.tv_shape.specs.Narrow.{ProofNarrow}
 use Rattle.tv_shape.specs.Stations.{OwnParts, IsSaid, done_may_be, ranks_may_be}
 use Rattle.tv_cert_reader.specs.CertificateLines.{piece_lines, proof_lines}
 use Rattle.tv_cert_reader.specs.Demands.{Outline, outlines, demand_of, demands}
 use Rattle.tv_cert_reader.specs.LineGrammar.{Grammar, kind_of, Region, region_of, region}
 use Rattle.tv_cert_reader.specs.ChoiceGrammar.{demanded}
 use Rattle.tv_cert_reader.specs.NodeGrammar.{proofs, node, nodes}
-use Rattle.tv_cert_reader.specs.Shaped.{AreShapedAs, stated_lines, children_lines}
+use Rattle.tv_cert_reader.specs.Shaped.{IsShapedAs, AreShapedAs, stated_lines, children_lines}
 use Rattle.tv_cert_reader.proofs.CompleteReads.{then_read}
 use Rattle.tv_cert_reader.proofs.CompleteParts.{region_read}
 use Rattle.tv_cert_reader.proofs.CompleteNodes.{node_is, node_read}
@@ -39,7 +37,7 @@ use Rattle.tv_cert_reader.specs.declared.failure.Failure.TheVariants.{Fault, Mem
 use Rattle.tv_cert_reader.specs.Reading.{Takes, FailsBy}
 use Rattle.tv_cert_reader.specs.Regions.{IsRegion, region_lines, region_with}
 use Rattle.tv_cert_reader.specs.Proofs.{AreProofsOf}
-use Rattle.tv_cert_reader.specs.Nodes.{IsNodeOf, AreFirstOf, nodes_lines}
+use Rattle.tv_cert_reader.specs.Nodes.{AreFirstOf, nodes_lines}
 use Rattle.tv_cert_reader.proofs.ReadingLemmas.{first_fails, mapped_fails, takes_both, takes_as}
 
 -- ---- how long what is to be shown is
@@ -89,14 +87,9 @@ module _ (system : CaseSystem) where
   first_row no_statement end_of-Node h n = tt
   first_row no_statement (more_of-Node a kids) h n = absurd h
   first_row (statement s ss) end_of-Node h n = absurd (omega (arith, n))
-  first_row (statement s ss) (more_of-Node a kids) h n = (h.0.shape, first_row ss kids h.1 (omega (arith, n)))
+  first_row (statement s ss) (more_of-Node a kids) h n = (h.0, first_row ss kids h.1 (omega (arith, n)))
 
-  narrow_row : {k : _} (ss : Statements) (kids : Row_of-Node k) → AreFirstOf system ss (items-the_row-Node k kids) → KidsNarrow kids
-  narrow_row ss end_of-Node h = tt
-  narrow_row no_statement (more_of-Node a kids) h = absurd h
-  narrow_row (statement s ss) (more_of-Node a kids) h = (h.0.narrow, narrow_row ss kids h.1)
-
-  pub first_next : (ss : Statements) (kids : List Node) (a : Node) → AreFirstOf system ss kids → length kids < count ss → IsNodeOf system (part_at (length kids) ss) a → AreFirstOf system ss (kids ++ a ∷ [])
+  pub first_next : (ss : Statements) (kids : List Node) (a : Node) → AreFirstOf system ss kids → length kids < count ss → IsShapedAs system (part_at (length kids) ss) a → AreFirstOf system ss (kids ++ a ∷ [])
   first_next no_statement kids a h few n = absurd (omega (arith, few))
   first_next (statement s ss) [] a h few n = (n, tt)
   first_next (statement s ss) (b ∷ kids) a h few n = (h.0, first_next ss kids a h.1 (omega (arith, few)) n)
@@ -107,7 +100,7 @@ module _ (system : CaseSystem) where
   nodes_fault (statement s ss) [] now r k h few e = ap (λ o. o >>= λ x. (mapped (λ xs. x.0 ∷ xs) (nodes false system ss)).read x.1) e
   nodes_fault (statement s ss) (a ∷ kids) now r k h few e =
       ap (nodes false system (statement s ss)).read (append_assoc (stated_lines s a) (nodes_lines ss kids) now)
-      ∙ then_read (node false system s) (λ os. mapped (λ xs. os ∷ xs) (nodes false system ss)) (stated_lines s a ++ (nodes_lines ss kids ++ now)) (outlines (pieces_of a)) (nodes_lines ss kids ++ now) (node_read false system s a (nodes_lines ss kids ++ now) h.0.shape)
+      ∙ then_read (node false system s) (λ os. mapped (λ xs. os ∷ xs) (nodes false system ss)) (stated_lines s a ++ (nodes_lines ss kids ++ now)) (outlines (pieces_of a)) (nodes_lines ss kids ++ now) (node_read false system s a (nodes_lines ss kids ++ now) h.0)
       ∙ ap (λ o. o >>= λ y. Ok (outlines (pieces_of a) ∷ y.0, y.1)) (nodes_fault ss kids now r k h.1 (omega (arith, few)) e)
 
   -- all children are read
@@ -117,7 +110,7 @@ module _ (system : CaseSystem) where
   all_read (statement s ss) [] r h n = absurd (omega (arith, n))
   all_read (statement s ss) (a ∷ kids) r h n =
       ap (nodes false system (statement s ss)).read (append_assoc (stated_lines s a) (nodes_lines ss kids) r)
-      ∙ then_read (node false system s) (λ os. mapped (λ xs. os ∷ xs) (nodes false system ss)) (stated_lines s a ++ (nodes_lines ss kids ++ r)) (outlines (pieces_of a)) (nodes_lines ss kids ++ r) (node_read false system s a (nodes_lines ss kids ++ r) h.0.shape)
+      ∙ then_read (node false system s) (λ os. mapped (λ xs. os ∷ xs) (nodes false system ss)) (stated_lines s a ++ (nodes_lines ss kids ++ r)) (outlines (pieces_of a)) (nodes_lines ss kids ++ r) (node_read false system s a (nodes_lines ss kids ++ r) h.0)
       ∙ ap (λ o. o >>= λ y. Ok (outlines (pieces_of a) ∷ y.0, y.1)) (all_read ss kids r h.1 (omega (arith, n)))
       ∙ ap (λ ps. Ok (outlines ps ∷ map outlines (map pieces_list kids), r)) (pieces_are a)
 
@@ -137,16 +130,13 @@ stated_is system s (Node' ps m shape kids shown) =
     ap (λ ls. formed (heads.Node (kind_of s)) (pos (length ps) ∷ pos m ∷ []) ∷ (flat_map piece_lines ps ++ (ls ++ flat_map proof_lines shown.items))) (lines_row system (parts_of s) kids ∙ ap (nodes_lines (parts_of s)) (sym (out_is ps m shape kids shown)))
     ∙ (λ i. listed s (sym (ap (λ x. x.ranks) e) i) (sym (ap (λ x. x.pieces) e) i) (kids_of (Node' ps m shape kids shown)) (sym (ap (λ x. x.proofs.items) e) i))
 
-node_shaped : (system : CaseSystem) (s : Statement) (n : Node) → OwnParts system s (out-Node n).ranks (pieces_list n) (map pieces_list (kids_of n)) (proofs_list n) → AreFirstOf system (parts_of s) (kids_of n) → length (kids_of n) ≡ count (parts_of s) → All ProofNarrow (proofs_list n) → IsNodeOf system s n
-node_shaped system s (Node' ps m shape kids shown) own first many narrow =
+node_shaped : (system : CaseSystem) (s : Statement) (n : Node) → OwnParts system s (out-Node n).ranks (pieces_list n) (map pieces_list (kids_of n)) (proofs_list n) → AreFirstOf system (parts_of s) (kids_of n) → length (kids_of n) ≡ count (parts_of s) → IsShapedAs system s n
+node_shaped system s (Node' ps m shape kids shown) own first many =
     let e = outs-Node' ps m shape kids shown in
     let out = out_is ps m shape kids shown in
     let below = ap (map pieces_list) out ∙ sym (kid_pieces_are kids) in
     let first_there = subst (AreFirstOf system (parts_of s)) out first in
-    record {
-      shape = (subst (λ (x : Type 0). x) (λ i. OwnParts system s (ap (λ x. x.ranks) e i) (ap (λ x. x.pieces) e i) (below i) (ap (λ x. x.proofs.items) e i)) own, first_row system (parts_of s) kids first_there (ap length (sym out) ∙ many));
-      narrow = (subst (All ProofNarrow) (ap (λ x. x.proofs.items) e) narrow, narrow_row system (parts_of s) kids first_there);
-    }
+    (subst (λ (x : Type 0). x) (λ i. OwnParts system s (ap (λ x. x.ranks) e i) (ap (λ x. x.pieces) e i) (below i) (ap (λ x. x.proofs.items) e i)) own, first_row system (parts_of s) kids first_there (ap length (sym out) ∙ many))
 
 -- a node made of its parts
 abbrev pub node_of : List Marked → ℕ → Vec Node → Vec Proof → Node
@@ -154,20 +144,6 @@ node_of ps m kids shown = roll-Node (record { pieces = ps; ranks = m; children =
 
 pub pieces_in_node : (ps : List Marked) (m : ℕ) (kids : Vec Node) (shown : Vec Proof) → ps ≡ pieces_list (node_of ps m kids shown)
 pieces_in_node ps m kids shown = sym (ap (λ x. x.pieces) (out-roll-Node (record { pieces = ps; ranks = m; children = kids; proofs = shown })))
-
--- ---- the proofs
-
-shapes_in : (os : List Obligation) (shown : List Proof) → AreProofsOf os shown → AllZip (λ o p. ProofShape o.owed p) os shown
-shapes_in [] [] h = tt
-shapes_in [] (p ∷ shown) h = absurd h
-shapes_in (o ∷ os) [] h = absurd h
-shapes_in (o ∷ os) (p ∷ shown) h = (h.0.shape, shapes_in os shown h.1)
-
-narrow_in : (os : List Obligation) (shown : List Proof) → AreProofsOf os shown → All ProofNarrow shown
-narrow_in [] [] h = All-nil ProofNarrow
-narrow_in [] (p ∷ shown) h = absurd h
-narrow_in (o ∷ os) [] h = absurd h
-narrow_in (o ∷ os) (p ∷ shown) h = All-cons ProofNarrow p shown h.0.narrow (narrow_in os shown h.1)
 
 -- ---- reading a node
 
@@ -199,7 +175,7 @@ module _ (system : CaseSystem) (s : Statement) (old : Cursor) where
   lines_next (statement t ss) (b ∷ kids) a h few =
       append_assoc (stated_lines t b) (nodes_lines ss kids) (stated_lines (part_at (length kids) ss) a) ∙ ap (λ ls. stated_lines t b ++ ls) (lines_next ss kids a h.1 (omega (arith, few)))
 
-  pub opened_next : (now new : Cursor) (ps : List Marked) (m : ℕ) (kids more_kids : List Node) (a : Node) → Opened system s old now ps m kids → length kids < count (parts_of s) → IsNodeOf system (part_at (length kids) (parts_of s)) a → Takes (stated_lines (part_at (length kids) (parts_of s)) a) now new → more_kids ≡ kids ++ a ∷ [] → Opened system s old new ps m more_kids
+  pub opened_next : (now new : Cursor) (ps : List Marked) (m : ℕ) (kids more_kids : List Node) (a : Node) → Opened system s old now ps m kids → length kids < count (parts_of s) → IsShapedAs system (part_at (length kids) (parts_of s)) a → Takes (stated_lines (part_at (length kids) (parts_of s)) a) now new → more_kids ≡ kids ++ a ∷ [] → Opened system s old new ps m more_kids
   opened_next now new ps m kids more_kids a o few n took is = subst (Opened system s old new ps m) (sym is) (record {
     region = o.region;
     first = first_next system (parts_of s) kids a o.first few n;
@@ -242,7 +218,7 @@ module _ (system : CaseSystem) (s : Statement) (old : Cursor) where
           let inner : FailsBy (each (demanded false) wanted) now f = subst (λ ds. FailsBy (each (demanded false) ds) now f) (demands_same 0 system s m ps (map pieces_list kids) o.region.each) h in
           by_all f (mapped_fails (λ _. outlines ps) (proofs false system s (region_of m (outlines ps)) (map outlines (map pieces_list kids))) now f (mapped_fails (λ all. tt) (each (demanded false) wanted) now f inner))
 
-pub node_built : (system : CaseSystem) (s : Statement) (old now new : Cursor) (ps : List Marked) (m : ℕ) (kids : Vec Node) (shown : Vec Proof) → IsSaid s → Opened system s old now ps m kids.items → length kids.items ≡ count (parts_of s) → AreProofsOf (said_own 0 system s ps (map pieces_list kids.items)) shown.items → Takes (flat_map proof_lines shown.items) now new → IsNodeOf system s (node_of ps m kids shown) × Takes (stated_lines s (node_of ps m kids shown)) old new
+pub node_built : (system : CaseSystem) (s : Statement) (old now new : Cursor) (ps : List Marked) (m : ℕ) (kids : Vec Node) (shown : Vec Proof) → IsSaid s → Opened system s old now ps m kids.items → length kids.items ≡ count (parts_of s) → AreProofsOf (said_own 0 system s ps (map pieces_list kids.items)) shown.items → Takes (flat_map proof_lines shown.items) now new → IsShapedAs system s (node_of ps m kids shown) × Takes (stated_lines s (node_of ps m kids shown)) old new
 node_built system s old now new ps m kids shown said o many offered took =
     let n = node_of ps m kids shown in
     let e = out-roll-Node (record { pieces = ps; ranks = m; children = kids; proofs = shown }) in
@@ -255,10 +231,10 @@ node_built system s old now new ps m kids shown said o many offered took =
       ranked = o.region.ranks;
       small = o.region.small;
       each = o.region.each;
-      offered = shapes_in (said_own 0 system s ps (map pieces_list kids.items)) shown.items offered;
+      offered = offered;
     } in
     let lines = append_assoc (region_lines (kind_of s) (ps, m)) (nodes_lines (parts_of s) kids.items) (flat_map proof_lines shown.items) in (
-      node_shaped system s n (subst (λ (x : Type 0). x) (λ i. OwnParts system s (r i) (p i) (map pieces_list (k i)) (q i)) own) (subst (AreFirstOf system (parts_of s)) k o.first) (ap length (sym k) ∙ many) (subst (All ProofNarrow) q (narrow_in (said_own 0 system s ps (map pieces_list kids.items)) shown.items offered)),
+      node_shaped system s n (subst (λ (x : Type 0). x) (λ i. OwnParts system s (r i) (p i) (map pieces_list (k i)) (q i)) own) (subst (AreFirstOf system (parts_of s)) k o.first) (ap length (sym k) ∙ many),
       takes_as ((region_lines (kind_of s) (ps, m) ++ nodes_lines (parts_of s) kids.items) ++ flat_map proof_lines shown.items) (stated_lines s n) old new
           (lines ∙ (λ i. listed s (r i) (p i) (k i) (q i)) ∙ sym (stated_is system s n))
           (takes_both (region_lines (kind_of s) (ps, m) ++ nodes_lines (parts_of s) kids.items) (flat_map proof_lines shown.items) old now new o.took took),

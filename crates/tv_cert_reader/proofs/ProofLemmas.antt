@@ -60,7 +60,7 @@ next_fault (q ∷ os) left o [] now r k free h e = absurd h
 next_fault (q ∷ os) left o (p ∷ ps) now r k free h e =
     ap (each (demanded false) (wanted (q ∷ (os ++ o ∷ left)))).read (append_assoc (proof_lines p) (flat_map proof_lines ps) now)
     ∙ then_read (demanded false (demand_of q.owed)) (λ x. mapped (λ xs. x ∷ xs) (each (demanded false) (wanted (os ++ o ∷ left)))) (proof_lines p ++ (flat_map proof_lines ps ++ now)) tt (flat_map proof_lines ps ++ now)
-    (proof_read false q.owed p (flat_map proof_lines ps ++ now) (All-head (λ x. IsDrawFree x.owed) q (os ++ o ∷ left) free) h.0.shape)
+    (proof_read false q.owed p (flat_map proof_lines ps ++ now) (All-head (λ x. IsDrawFree x.owed) q (os ++ o ∷ left) free) h.0)
     ∙ ap (λ d. d >>= λ y. Ok (tt ∷ y.0, y.1)) (next_fault os left o ps now r k (All-tail (λ x. IsDrawFree x.owed) q (os ++ o ∷ left) free) h.1 e)
 
 pub read_stopped : (os : List Obligation) (v w : ProofReader) → All (λ q. IsDrawFree q.owed) os → v.proofs.items ≡ [] → Stopped Passes Stops v os w → (failure : Failure) → w.failure ≡ Some failure → FailsBy (each (demanded false) (wanted os)) v.cursor failure

@@ -39,9 +39,14 @@ abbrev pub taken_rows : LinearCase → Option ℕ → Option Taken
 taken_rows c None = None
 taken_rows c (Some count) = Some (record { case = c; owed = count })
 
-abbrev pub taken_case : (LinearCase → ℕ → ℕ → Option ℕ) → Option LinearCase → ℕ → ℕ → Option Taken
-taken_case counts None k j = None
-taken_case counts (Some c) k j = taken_rows c (counts c k j)
+abbrev pub only_where : Bool → Option Taken → Option Taken
+only_where true t = t
+only_where false t = None
+
+-- a case is taken from its own location alone
+abbrev pub taken_case : ℕ → (LinearCase → ℕ → ℕ → Option ℕ) → Option LinearCase → ℕ → ℕ → Option Taken
+taken_case l counts None k j = None
+taken_case l counts (Some c) k j = only_where (c.from == l) (taken_rows c (counts c k j))
 
 -- the terms of its draws, and multipliers for its guards and what is owed
 abbrev pub take_behind : ℕ → ℕ → Option Taken → Behind (Unit {0})
@@ -53,7 +58,7 @@ abbrev pub choice_cases : (Bool → Behind (Unit {0})) → Grammar (Unit {0}) �
 choice_cases sides covers x known (formed heads.Split zs) = sides (length zs == x.variables + 1)
 choice_cases sides covers x known (formed heads.Empty zs) = empty_behind (length zs == known)
 choice_cases sides covers x known (formed heads.NoStep zs) = no_step_behind covers x.may_stop
-choice_cases sides covers x known (formed heads.Take zs) = take_behind x.variables known (with_three zs (λ c k j. taken_case x.counts (slice_get x.cases c) k j))
+choice_cases sides covers x known (formed heads.Take zs) = take_behind x.variables known (with_three zs (λ c k j. taken_case x.place x.counts (slice_get x.cases c) k j))
 choice_cases sides covers x known (formed head zs) = stop Shape
 choice_cases sides covers x known formless = stop Syntax
 choice_cases sides covers x known wide = stop Wide

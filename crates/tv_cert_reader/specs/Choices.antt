@@ -14,7 +14,6 @@ use Rattle.tv_cert.specs.declared.owes.Destination.{Destination}
 use Rattle.tv_cert.specs.Owing.{destination_owes}
 use Rattle.tv_cert.specs.Pieces.{place_of}
 use Rattle.tv_cert.specs.Shapes.{ChoiceShape, owed_count}
-use Rattle.tv_shape.specs.Narrow.{ChoiceNarrow}
 use Rattle.tv_cert_reader.specs.CertificateLines.{choice_lines, cover_lines}
 use Rattle.tv_cert_reader.specs.ChoiceGrammar.{Choosing, choice, stop_cover}
 use Rattle.tv_cert_reader.specs.declared.cursor.Cursor.{Cursor}
@@ -27,26 +26,28 @@ abbrev pub choosing_of : CaseSystem → Marked → Bool → Destination → Choo
 choosing_of system p stop destination =
     record { variables = system.variables; cases = system.cases; place = place_of p; may_stop = stop; counts = λ c. owed_count (destination_owes system.variables p destination c []) }
 
--- a choice of this shape with at most so many splits on a path, of narrow numbers
+-- a choice of this shape with at most so many splits on a path
 pub record IsChoiceWithin (system : CaseSystem) (p : Marked) (stop : Bool) (destination : Destination) (known left : ℕ) (tree : ChoiceTree) : Type 0 where
   pub shape : ChoiceShape system.variables system.cases (place_of p) stop (destination_owes system.variables p destination) known tree
   pub shallow : choice_splits tree ≤ left
-  pub narrow : ChoiceNarrow tree
 
 -- such a choice is read
 abbrev pub ReadsChoice : CaseSystem → Marked → Bool → Destination → ℕ → ℕ → Cursor → Cursor → Result ChoiceTree Failure → Type 0
 ReadsChoice system p stop destination known left old new result = Reads (λ t. t) (IsChoiceWithin system p stop destination known left) choice_lines (choice false left (choosing_of system p stop destination) known) old new result
 
--- the numbers name this case, target and fall, which owe so many rows whatever the terms of its draws
+-- the numbers name this case, which leaves the location of the piece, and this target and fall, which owe so many rows whatever the
+-- terms of its draws
 pub record IsTaken (system : CaseSystem) (p : Marked) (destination : Destination) (zs : List ℤ) (case : LinearCase) (c target fall rows : ℕ) : Type 0 where
   pub numbers : zs ≡ pos c ∷ pos target ∷ pos fall ∷ []
   pub there : slice_get system.cases c ≡ Some case
+  pub from : case.from ≡ place_of p
   pub owes : (draws : List Linear) → owed_count (destination_owes system.variables p destination case draws) target fall ≡ Some rows
 
--- the numbers name no case, target and fall
+-- the numbers name no case that leaves the location of the piece, with a target and a fall
 abbrev pub NamesNoCase : CaseSystem → Marked → Destination → List ℤ → Type 0
 NamesNoCase system p destination zs =
-    (case : LinearCase) (c target fall rows : ℕ) → zs ≡ pos c ∷ pos target ∷ pos fall ∷ [] → slice_get system.cases c ≡ Some case → owed_count (destination_owes system.variables p destination case []) target fall ≡ Some rows → ⊥
+    (case : LinearCase) (c target fall rows : ℕ) → zs ≡ pos c ∷ pos target ∷ pos fall ∷ [] → slice_get system.cases c ≡ Some case → case.from ≡ place_of p
+    → owed_count (destination_owes system.variables p destination case []) target fall ≡ Some rows → ⊥
 
 -- a cover without targets of the guards of a case is read
 abbrev pub ReadsStop : ℕ → ℕ → ℕ → LinearCase → Cursor → Cursor → Result CoverTree Failure → Type 0

@@ -6,7 +6,6 @@ use Rattle.tv_linear.specs.Linear.{Linear}
 use Rattle.tv_linear.specs.Depth.{splits}
 use Rattle.tv_linear.specs.declared.cover.CoverTree.{CoverTree, Split'}
 use Rattle.tv_cert.specs.Shapes.{CoverShape}
-use Rattle.tv_shape.specs.Narrow.{CoverNarrow}
 use Rattle.tv_cert_reader.specs.CertificateLines.{cover_lines}
 use Rattle.tv_cert_reader.specs.CoverGrammar.{cover}
 use Rattle.tv_cert_reader.specs.declared.cursor.Cursor.{Cursor}
@@ -32,11 +31,10 @@ abbrev pub IsSplitOf : Linear → CoverTree → CoverTree → CoverTree → Type
 IsSplitOf row holds fails (Split' r p a q b) = (r ≡ row) × (a ≡ holds) × (b ≡ fails)
 IsSplitOf row holds fails _ = ⊥
 
--- a cover of this shape with at most so many splits on a path, of narrow numbers
+-- a cover of this shape with at most so many splits on a path
 pub record IsCoverWithin (width : ℕ) (counts : ℕ → ℕ → Option ℕ) (known left : ℕ) (tree : CoverTree) : Type 0 where
   pub shape : CoverShape width counts known tree
   pub shallow : splits tree ≤ left
-  pub narrow : CoverNarrow tree
 
 -- such a cover is read
 abbrev pub ReadsTree : ℕ → (ℕ → ℕ → Option ℕ) → ℕ → ℕ → Cursor → Cursor → Result CoverTree Failure → Type 0

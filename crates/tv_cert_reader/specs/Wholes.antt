@@ -12,16 +12,14 @@ use Rattle.tv_cert.specs.Pieces.{pieces_at}
 use Rattle.tv_cert.specs.Shapes.{owed_count}
 use Rattle.tv_cert.specs.Statements.{Statement}
 use Rattle.tv_cert.specs.Targets.{owed_into, no_fall}
-use Rattle.tv_shape.specs.Narrow.{AreNarrow}
 use Rattle.tv_cert_reader.specs.CertificateLines.{cover_lines}
 use Rattle.tv_cert_reader.specs.LineGrammar.{line}
-use Rattle.tv_cert_reader.specs.Shaped.{stated_lines}
+use Rattle.tv_cert_reader.specs.Shaped.{IsShapedAs, stated_lines}
 use Rattle.tv_cert_reader.specs.CertificateGrammar.{Sides, said_line, IsFirstFault}
 use Rattle.tv_cert_reader.specs.declared.cursor.Cursor.{Cursor}
 use Rattle.tv_cert_reader.specs.declared.failure.Failure.{Failure}
 use Rattle.tv_cert_reader.specs.declared.failure.Failure.TheVariants.{Fault, Memory}
 use Rattle.tv_cert_reader.specs.Covers.{IsCoverWithin}
-use Rattle.tv_cert_reader.specs.Nodes.{IsNodeOf}
 use Rattle.tv_cert_reader.specs.Reading.{Reads}
 
 -- the line that says whether it is proved
@@ -38,7 +36,7 @@ ReadsSaid old new result = Reads (λ b. b) Anything (λ b. said_head b ∷ []) (
 -- what is said over the pieces of a root fits
 abbrev pub IsVerdictOver : CaseSystem → Node → Verdict → Type 0
 IsVerdictOver system root (Proved tree) = IsCoverWithin system.variables (owed_count (owed_into (pieces_list root) system.start given no_fall)) 0 128 tree
-IsVerdictOver system root (Disproved k values) = (length values.items ≡ system.variables) × IsSome (slice_get (pieces_at (pieces_list root) system.start) k) × AreNarrow values.items
+IsVerdictOver system root (Disproved k values) = (length values.items ≡ system.variables) × IsSome (slice_get (pieces_at (pieces_list root) system.start) k)
 
 -- the lines behind the root
 abbrev pub behind_root : Verdict → List PlainLine
@@ -51,7 +49,7 @@ says (Disproved k values) = false
 
 -- the root shows this, and these are all lines behind the one that says whether it is proved
 pub record IsBehindSaid (system : CaseSystem) (s : Statement) (proved : Bool) (ls : List PlainLine) (root : Node) (verdict : Verdict) : Type 0 where
-  pub root_is : IsNodeOf system s root
+  pub root_is : IsShapedAs system s root
   pub said : says verdict ≡ proved
   pub verdict_is : IsVerdictOver system root verdict
   pub lines : ls ≡ stated_lines s root ++ behind_root verdict

@@ -1,5 +1,4 @@
 ghost use Rattle.std.specs.Prelude.{◌≡◌, ◌+◌, ◌-◌, ◌<◌, ◌≤◌, ◌^◌, ℕ, Bool, [], All, IfOk, length};
-ghost use Rattle.tv_lines.specs.Numbers.{IsNarrow};
 ghost use Rattle.tv_linear.specs.Linear.{Linear};
 ghost use Rattle.tv_cases.specs.LinearCases.{CaseSystem, leaving};
 ghost use Rattle.tv_cases.specs.Systems.{cases_of};
@@ -14,12 +13,12 @@ ghost use Rattle.tv_cert_reader.specs.Choices.{IsChoiceSplitOf, ReadsChoice, Rea
 use crate::context::Context;
 use crate::cursor::Cursor;
 use crate::failure::Failure;
+use crate::kind::LineKind;
 use crate::lines::take;
 use crate::rows::row_of;
 use std::alloc::{AllocError, Global};
 use tv_cases::Case;
 use tv_cert::{Destination, Marked};
-use crate::LineKind;
 use tv_linear::{ChoiceTree, Cover, Row};
 use tv_lines::Head;
 use tv_shape::Targets;
@@ -40,7 +39,6 @@ fn split_of(
 
 /// A refutation of the place by the multipliers of a line, if there are as many as rows.
 fn empty_of(multipliers: Vec<i64>, known: u128, line: u32) -> Result<ChoiceTree, Failure>
-    requires { All IsNarrow multipliers.items }
     ensures { (system : CaseSystem) (piece : Marked) (stop : Bool) (destination : Destination) (left : ℕ) (old new : Cursor) → IsBehind Head.Empty multipliers.items old new → new.taken ≡ line → ReadsChoice system piece stop destination known left old new result }
 {
     if multipliers.len() as u128 == known {

@@ -1,5 +1,4 @@
 ghost use Rattle.std.specs.Prelude.{◌≡◌, ◌+◌, ◌-◌, ◌<◌, ◌≤◌, ◌^◌, ℕ, ℤ, pos, List, [], ◌∷◌, All, Option, IfOk, MatchOption, length};
-ghost use Rattle.tv_lines.specs.Numbers.{IsNarrow};
 ghost use Rattle.tv_shape.specs.Counts.{counts_of, AreFew};
 ghost use Rattle.tv_cert_reader.specs.declared.cursor.Cursor.{Cursor};
 ghost use Rattle.tv_cert_reader.specs.Covers.{IsBehind, IsSplitOf, IsTarget, NamesNone, ReadsTree};
@@ -7,10 +6,10 @@ ghost use Rattle.tv_cert_reader.specs.Covers.{IsBehind, IsSplitOf, IsTarget, Nam
 use crate::context::Context;
 use crate::cursor::Cursor;
 use crate::failure::Failure;
+use crate::kind::LineKind;
 use crate::lines::take;
 use crate::rows::{lists, row_of};
 use std::alloc::{AllocError, Global};
-use crate::LineKind;
 use tv_linear::{CoverTree, Row};
 use tv_lines::Head;
 use tv_shape::Targets;
@@ -69,7 +68,6 @@ fn split_of(
 
 /// A refutation of the place by the multipliers of a line, if there are as many as rows.
 fn empty_of(multipliers: Vec<i64>, known: u128, line: u32) -> Result<CoverTree, Failure>
-    requires { All IsNarrow multipliers.items }
     ensures { (width left : ℕ) (counts : ℕ → ℕ → Option ℕ) (old new : Cursor) → IsBehind Head.Empty multipliers.items old new → new.taken ≡ line → ReadsTree width counts known left old new result }
 {
     if multipliers.len() as u128 == known {

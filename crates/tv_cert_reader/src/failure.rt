@@ -1,5 +1,5 @@
+use crate::kind::LineKind;
 use std::alloc::{AllocError, AllocFailed};
-use crate::LineKind;
 
 /// Why the reading of a part ended: the number of the line at fault, from 1, and what is at fault there.
 #[derive(Clone, Copy)]

@@ -4,8 +4,8 @@ ghost use Rattle.tv_cert_reader.specs.Reading.{TakesLine};
 
 use crate::cursor::Cursor;
 use crate::failure::Failure;
+use crate::kind::LineKind;
 use std::alloc::Global;
-use crate::LineKind;
 use tv_lines::{Head, Line};
 
 /// The head and the numbers of the next line.

@@ -8,11 +8,11 @@ use crate::context::Context;
 use crate::cursor::Cursor;
 use crate::failure::Failure;
 use crate::heads::{node_head, piece_head};
+use crate::kind::LineKind;
 use crate::lines::take;
 use crate::rows::{append_rows, room};
 use crate::sort::Sort;
 use tv_cert::{Mark, Marked, Pieces};
-use crate::LineKind;
 use tv_lines::NodeKind;
 
 /// How many ranks a piece has of a node with so many.

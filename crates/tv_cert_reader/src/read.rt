@@ -10,13 +10,13 @@ use crate::context::Context;
 use crate::cursor::Cursor;
 use crate::failure::Failure;
 use crate::fault::CertFault;
+use crate::kind::LineKind;
 use crate::rest::said;
 use crate::rows::numbers;
 use crate::sort::Sort;
 use std::alloc::Global;
 use tv_cases::Cases;
 use tv_cert::{Claim, Node, Verdict};
-use crate::LineKind;
 use tv_lines::Lines;
 use tv_shape::{Certificate, ShapeFault};
 

@@ -4,10 +4,10 @@ ghost use Rattle.tv_cert_reader.specs.Parts.{AppendsRow, AppendsRows, IsRowOf, R
 
 use crate::cursor::Cursor;
 use crate::failure::Failure;
+use crate::kind::LineKind;
 use crate::lines::take;
 use crate::sort::Sort;
 use std::alloc::Global;
-use crate::LineKind;
 use tv_linear::Row;
 
 /// The numbers of a line of this sort that has so many.

@@ -10,11 +10,11 @@ use crate::context::Context;
 use crate::covers::small;
 use crate::cursor::Cursor;
 use crate::failure::Failure;
+use crate::kind::LineKind;
 use crate::rows::{lists, rows};
 use crate::sort::Sort;
 use tv_cases::Case;
 use tv_cert::{Destination, Marked};
-use crate::LineKind;
 use tv_linear::ChoiceTree;
 use tv_lines::Head;
 use tv_shape::taken_into;
@@ -43,7 +43,7 @@ pub struct Taken<'a> {
 }
 
 impl Context<'_> {
-    /// The case, the target and the fall that the numbers name.
+    /// The case, which leaves the location of the piece, the target and the fall that the numbers name.
     pub fn taken_of(
         &self,
         numbers: &[i64],
@@ -60,6 +60,9 @@ impl Context<'_> {
         let Some(case) = list.get(taken as usize) else {
             return None;
         };
+        if case.from != piece.location() {
+            return None;
+        }
         match taken_into(piece, case, destination).rows(target, fall) {
             None => None,
             Some(owed) => Some(Taken {

@@ -6,7 +6,7 @@ use Rattle.tv_cert_reader.proofs.CoverLemmas.{empty_stops}
 use Rattle.tv_cert_reader.proofs.covers.empty_of.Goals as goal
 
 pub returns-then-len-known : goal.returns-then-len-known
-returns-then-len-known c = λ width left counts old new at e. (record { shape = (let h = c.if-len-known.true in let k = c.len.ensures in omega (arith, h, k)); shallow = omega arith; narrow = c.requires }, at.front)
+returns-then-len-known c = λ width left counts old new at e. (record { shape = (let h = c.if-len-known.true in let k = c.len.ensures in omega (arith, h, k)); shallow = omega arith }, at.front)
 
 pub returns-else-len-known : goal.returns-else-len-known
 returns-else-len-known c = λ width left counts old new at e.

@@ -1,7 +1,11 @@
-use Rattle.std.proofs.Common.{length, refl, sym, ap, ◌∙◌, subst, arith}
+use Rattle.std.proofs.Common.{[], length, refl, sym, ap, ◌∙◌, subst, arith}
+use Rattle.tv_lines.specs.Lines.{formed}
+use Rattle.tv_lines.specs.declared.head.Head.TheVariants as heads
 use Rattle.tv_cases.specs.Systems.{cases_of}
 use Rattle.tv_cert_reader.specs.Texts.{IsRefusedText}
+use Rattle.tv_cert_reader.specs.Wholes.{says, said_head}
 use Rattle.tv_cert_reader.proofs.FitLemmas.{read_fits, read_lines}
+use Rattle.tv_cert_reader.proofs.FitLines.{AreFit, behind_two, text_fit}
 use Rattle.tv_cert_reader.proofs.ReadLemmas.{lines_few, found, refused}
 use Rattle.tv_cert_reader.proofs.read.read_certificate.Goals as goal
 
@@ -13,6 +17,7 @@ invariant_of-cursor c = record {
 pub certified-requires-clause-fits : goal.certified-requires-clause-fits
 certified-requires-clause-fits c =
     read_fits (cases_of c.args.about.now) c.args.claim.now c.requires.variables c.in-Ok.ensures.0 c.in-Ok.root c.in-Ok.verdict c.in-Ok.ensures.2
+    (behind_two (formed heads.Header []) (said_head (says c.in-Ok.verdict)) c.in-Ok.ensures.0 (subst AreFit (sym c.new.ensures ∙ c.in-Ok.ensures.1) (text_fit c.args.text.now)))
 
 pub returns-in-Ok-clause-found : goal.returns-in-Ok-clause-found
 returns-in-Ok-clause-found c =

@@ -58,3 +58,7 @@ returns-in-Joined c =
 pub returns-in-Choice : goal.returns-in-Choice
 returns-in-Choice c =
     subst (λ o. ReadsProof (owed_by (cases_of c.args.self.now.about.now) o) c.args.cursor.now c.choice.new.cursor c.choice.result) (sym c.in-Choice.is) c.choice.ensures
+
+pub returns-in-Step : goal.returns-in-Step
+returns-in-Step c =
+    subst (λ o. ReadsProof (owed_by (cases_of c.args.self.now.about.now) o) c.args.cursor.now c.step.new.cursor c.step.result) (sym c.in-Step.is) c.step.ensures

@@ -1,7 +1,7 @@
 use Rattle.std.proofs.Common.{[], length, refl, sym, ◌∙◌}
 use Rattle.std.proofs.lemmas.Option.{slice_get_past, slice_get_read}
 use Rattle.tv_cases.specs.Systems.{cases_of}
-use Rattle.tv_cert_reader.proofs.TakenLemmas.{no_numbers, no_case, no_target, is_taken}
+use Rattle.tv_cert_reader.proofs.TakenLemmas.{no_numbers, no_case, not_from, no_target, is_taken}
 use Rattle.tv_cert_reader.proofs.context.Context.taken_of.Goals as goal
 
 pub returns-in_default : goal.returns-in_default
@@ -10,6 +10,12 @@ returns-in_default c = no_numbers (cases_of c.args.self.now.about.now) c.args.pi
 pub returns-in_default-get : goal.returns-in_default-get
 returns-in_default-get c =
     no_case (cases_of c.args.self.now.about.now) c.args.piece.now c.args.destination.now c.args.numbers.now c.requires c.list-list.result.now c.list-list.ensures.same c.in-Some.taken c.in-Some.target c.in-Some.fall c.in-Some.ensures (slice_get_past c.list-list.result.now c.in-Some.taken c.in_default-get.ensures.lookup.3)
+
+pub returns-then-case-location : goal.returns-then-case-location
+returns-then-case-location c =
+    let system = cases_of c.args.self.now.about.now in
+    not_from system c.args.piece.now c.args.destination.now c.args.numbers.now c.requires c.list-list.result.now c.list-list.ensures.same c.in-Some.taken c.in-Some.target c.in-Some.fall c.in-Some.ensures c.in-Some-get.case.now (slice_get_read c.list-list.result.now (length c.list-list.result.now) c.in-Some.taken c.in-Some-get.case.now refl c.in-Some-get.ensures.lookup.3.0 c.in-Some-get.ensures.lookup.1)
+    (λ e. c.if-case-location.true (e ∙ sym c.location.ensures))
 
 pub returns-in-None : goal.returns-in-None
 returns-in-None c =
@@ -20,5 +26,6 @@ returns-in-None c =
 pub returns-in-Some-rows : goal.returns-in-Some-rows
 returns-in-Some-rows c =
     let system = cases_of c.args.self.now.about.now in
-    is_taken system c.args.piece.now c.args.destination.now c.args.numbers.now c.requires c.list-list.result.now c.list-list.ensures.same c.in-Some.taken c.in-Some.target c.in-Some.fall c.in-Some.ensures c.in-Some-get.case.now (slice_get_read c.list-list.result.now (length c.list-list.result.now) c.in-Some.taken c.in-Some-get.case.now refl c.in-Some-get.ensures.lookup.3.0 c.in-Some-get.ensures.lookup.1) c.in-Some-rows.owed
+    is_taken system c.args.piece.now c.args.destination.now c.args.numbers.now c.requires c.list-list.result.now c.list-list.ensures.same c.in-Some.taken c.in-Some.target c.in-Some.fall c.in-Some.ensures c.in-Some-get.case.now (slice_get_read c.list-list.result.now (length c.list-list.result.now) c.in-Some.taken c.in-Some-get.case.now refl c.in-Some-get.ensures.lookup.3.0 c.in-Some-get.ensures.lookup.1)
+    (c.if-case-location.false ∙ c.location.ensures) c.in-Some-rows.owed
     (λ draws. sym (c.taken_into.ensures.counts system.variables draws c.in-Some.target c.in-Some.fall) ∙ sym c.in-Some-rows.ensures)
