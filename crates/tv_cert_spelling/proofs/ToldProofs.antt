@@ -56,9 +56,9 @@ owed_long guards many None count lists e h = absurd h
 owed_long guards many (Some rows) count lists e h = subst (λ o. OwedLong guards o lists) e h.0
 
 module _ (n : ℕ) (cases : List LinearCase) (l : ℕ) (stop : Bool) (owed : LinearCase → List Linear → ℕ → ℕ → Option (List Known)) (free : (c : LinearCase) (draws : List Linear) → owed_count (owed c draws) ≡ owed_count (owed c [])) where
-  take_long : (known : ℕ) (c : Option LinearCase) (k j : ℕ) (draws : List Linear) (lists : List (List ℤ)) → TakeShape n owed known c k j draws lists → TakeLong (λ c. owed_count (owed c [])) c k j draws lists
+  take_long : (known : ℕ) (c : Option LinearCase) (k j : ℕ) (draws : List Linear) (lists : List (List ℤ)) → TakeShape n l owed known c k j draws lists → TakeLong (λ c. owed_count (owed c [])) c k j draws lists
   take_long known None k j draws lists h = absurd h
-  take_long known (Some c) k j draws lists h = (h.0, owed_long (length c.guards) (known + 1) (owed c draws k j) (owed_count (owed c []) k j) lists (ap (λ f. f k j) (free c draws)) h.2)
+  take_long known (Some c) k j draws lists h = (h.1, owed_long (length c.guards) (known + 1) (owed c draws k j) (owed_count (owed c []) k j) lists (ap (λ f. f k j) (free c draws)) h.3)
 
   choice_long : (known : ℕ) (tree : ChoiceTree) → ChoiceShape n cases l stop owed known tree → ChoiceLong n cases l (λ c. owed_count (owed c [])) known tree
   choice_long known (choice.Split' r p a q b) h = (choice_long (known + 1) a h.1, choice_long (known + 1) b h.2)

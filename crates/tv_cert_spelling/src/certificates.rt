@@ -55,8 +55,8 @@ fn append_start(alloc: Global, out: &mut Vec<u8>, verdict: &Verdict) -> Result<(
 pub fn write_certificate(alloc: Global, certificate: &Certificate) -> Result<Vec<u8>, AllocError>
     requires made { IsMade certificate.now }
     ensures spelled { (about : About) → (f : Property) → IsOf about f certificate.now → IfOk result (λ text. text.items ≡ all_spelled (certificate_lines f certificate.now.root certificate.now.verdict)) }
-    // Where some text has the lines of the certificate, the one that is written has.
-    ensures again { (about : About) → (f : Property) → IsOf about f certificate.now → (some : List ℕ) → lines_of some ≡ certificate_lines f certificate.now.root certificate.now.verdict → IfOk result (λ text. lines_of text.items ≡ certificate_lines f certificate.now.root certificate.now.verdict) }
+    // It is read again as the lines that were written.
+    ensures again { (about : About) → (f : Property) → IsOf about f certificate.now → IfOk result (λ text. lines_of text.items ≡ certificate_lines f certificate.now.root certificate.now.verdict) }
 {
     let mut text = Vec::new(alloc);
     append_line(alloc, &mut text, Head::Header, &[])?;

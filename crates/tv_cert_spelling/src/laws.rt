@@ -4,7 +4,7 @@ ghost use Rattle.std.specs.Prelude.{◌≡◌, ℕ, List};
 ghost use Rattle.tv_formula.specs.Properties.{Property};
 ghost use Rattle.tv_cases.specs.LinearCases.{CaseSystem};
 ghost use Rattle.tv_cert.specs.Obligations.{About};
-ghost use Rattle.tv_cert.specs.Claims.{shown};
+ghost use Rattle.tv_cert.specs.Claims.{about_with, shown};
 ghost use Rattle.tv_cert.specs.declared.claim.Claim.{Claim};
 ghost use Rattle.tv_cert_reader.specs.CertificateLines.{certificate_lines};
 ghost use Rattle.tv_shape.specs.Certificates.{IsOf};
@@ -23,9 +23,9 @@ pub fn same_lines_of_one_claim()
     ensures { (about : About) (claim : Claim) (c d : Certificate) → IsOf about (shown claim c.verdict) c → IsOf about (shown claim d.verdict) d → certificate_lines (shown claim c.verdict) c.root c.verdict ≡ certificate_lines (shown claim d.verdict) d.root d.verdict → certificate_value c ≡ certificate_value d }
 {}
 
-/// What is written of a certificate is a text of it, where any text is, so that a reader refuses it for want of memory alone; and what is
-/// read there is equal to it, apart from where it lies in memory.
+/// What is written of a certificate is a text of it, so that a reader refuses it for want of memory alone; and what is read there is
+/// equal to it, apart from where it lies in memory.
 pub fn written_is_read()
-    ensures read { (system : CaseSystem) (claim : Claim) (c : Certificate) (some : List ℕ) → IsCertificateText system claim some c → IsCertificateText system claim (all_spelled (certificate_lines (shown claim c.verdict) c.root c.verdict)) c }
-    ensures equal { (system : CaseSystem) (claim : Claim) (c d : Certificate) (some : List ℕ) → IsCertificateText system claim some c → IsCertificateText system claim (all_spelled (certificate_lines (shown claim c.verdict) c.root c.verdict)) d → certificate_value d ≡ certificate_value c }
+    ensures read { (system : CaseSystem) (claim : Claim) (c : Certificate) → IsOf (about_with system) (shown claim c.verdict) c → IsCertificateText system claim (all_spelled (certificate_lines (shown claim c.verdict) c.root c.verdict)) c }
+    ensures equal { (system : CaseSystem) (claim : Claim) (c d : Certificate) → IsOf (about_with system) (shown claim c.verdict) c → IsCertificateText system claim (all_spelled (certificate_lines (shown claim c.verdict) c.root c.verdict)) d → certificate_value d ≡ certificate_value c }
 {}

@@ -15,7 +15,8 @@ use Rattle.tv_shape.specs.Certificates.{IsOf}
 use Rattle.tv_shape.specs.declared.certificate.Certificate.{Certificate}
 use Rattle.tv_cert_reader.specs.CertificateLines.{node_lines, certificate_lines}
 use Rattle.tv_cert_spelling.specs.Spelling.{spelled, all_spelled, lines_with, said_lines, at_lines}
-use Rattle.tv_cert_spelling.proofs.KindLines.{size_is_kinds, lines_again}
+use Rattle.tv_cert_reader.proofs.KindLemmas.{size_is_kinds}
+use Rattle.tv_cert_spelling.proofs.KindLines.{lines_again}
 use Rattle.tv_cert_spelling.proofs.Again.{written_again}
 use Rattle.tv_cert_spelling.proofs.certificates.write_certificate.Goals as goal
 
@@ -64,5 +65,4 @@ returns-clause-spelled c about f h =
     ∙ ap all_spelled (sym (parted f cert.root cert.verdict))
 
 pub returns-clause-again : goal.returns-clause-again
-returns-clause-again c about f h some e =
-    written_again f c.args.certificate.now.root c.args.certificate.now.verdict some c.append_line-2.new.out.items e (returns-clause-spelled c about f h)
+returns-clause-again c about f h = written_again about f c.args.certificate.now h c.append_line-2.new.out.items (returns-clause-spelled c about f h)

@@ -7,12 +7,12 @@ use Rattle.tv_cert_spelling.proofs.ToldCertificates.{same_claimed}
 use Rattle.tv_cert_spelling.proofs.laws.written_is_read.Goals as goal
 
 pub returns-clause-read : goal.returns-clause-read
-returns-clause-read v system claim c some h = record {
-  lines = written_again (shown claim c.verdict) c.root c.verdict some (all_spelled (certificate_lines (shown claim c.verdict) c.root c.verdict)) h.lines refl;
-  is = h.is;
+returns-clause-read v system claim c h = record {
+  lines = written_again (about_with system) (shown claim c.verdict) c h (all_spelled (certificate_lines (shown claim c.verdict) c.root c.verdict)) refl;
+  is = h;
 }
 
 pub returns-clause-equal : goal.returns-clause-equal
-returns-clause-equal v system claim c d some h g =
-    let written = written_again (shown claim c.verdict) c.root c.verdict some (all_spelled (certificate_lines (shown claim c.verdict) c.root c.verdict)) h.lines refl in
-    same_claimed (about_with system) claim d c g.is h.is (sym g.lines ∙ written)
+returns-clause-equal v system claim c d h g =
+    let written = written_again (about_with system) (shown claim c.verdict) c h (all_spelled (certificate_lines (shown claim c.verdict) c.root c.verdict)) refl in
+    same_claimed (about_with system) claim d c g.is h (sym g.lines ∙ written)
