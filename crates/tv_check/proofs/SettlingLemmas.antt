@@ -5,11 +5,11 @@ use Rattle.tv_cert.specs.declared.node.Proof.{Proof}
 use Rattle.tv_cert.specs.Obligations.{Obligation, Entry, AllMet, IsMetEntry, OwedMet, paired}
 use Rattle.tv_cert.specs.Visits.{Passed, none, one, Stopped}
 use Rattle.tv_check.specs.declared.settler.Settler.{Settler}
-use Rattle.tv_check.specs.declared.walking.Failing.{Failing}
-use Rattle.tv_check.specs.Walks.{IsFirstFailing}
+use Rattle.tv_cert.specs.declared.failing.Failing.{Failing}
+use Rattle.tv_cert.specs.FirstFailing.{IsFirstFailing}
 use Rattle.tv_check.specs.Settling.{first_proof}
 use Rattle.tv_cert.proofs.NodeLemmas.{length-paired}
-use Rattle.tv_check.proofs.WalkLemmas.{all_join, failing_right}
+use Rattle.tv_cert.proofs.FailingLemmas.{all_join, failing_right}
 
 -- the obligation is met by the first proof, which is taken
 abbrev pub Settles : Settler → Obligation → Settler → Type 0

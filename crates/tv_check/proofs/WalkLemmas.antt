@@ -6,31 +6,11 @@ use Rattle.tv_cert.specs.Obligations.{Entry, AllMet}
 use Rattle.tv_cert.specs.Nodes.{size}
 use Rattle.tv_cert.specs.Statements.{Statement, Statements, no_statement, statement, parts_of, count, part_at}
 use Rattle.tv_cert.specs.Said.{said_entries, said_own_entries, HasParts}
-use Rattle.tv_check.specs.declared.walking.Failing.{Failing}
+use Rattle.tv_cert.specs.declared.failing.Failing.{Failing}
 use Rattle.tv_cert.proofs.NodeLemmas.{sizes_list, kids_of, size_is}
 use Rattle.tv_cert.proofs.SaidNodes.{said_list, parts_list, said_are}
-use Rattle.tv_check.specs.Walks.{IsFirstFailing}
-
--- ---- first failing, in lists joined
-pub failing_left : (es fs : List Entry) (from : ℕ) (f : Failing) → IsFirstFailing es from f → IsFirstFailing (es ++ fs) from f
-failing_left es fs from f h = record { before = h.before; failing = h.failing; after = h.after ++ fs; parts = ap (λ xs. xs ++ fs) h.parts ∙ append_assoc h.before (h.failing ∷ h.after) fs; met = h.met; fails = h.fails; number = h.number; node = h.node; kind = h.kind }
-
-pub all_join : (es fs : List Entry) → AllMet es → AllMet fs → AllMet (es ++ fs)
-all_join [] fs h k = k
-all_join (e ∷ es) fs h k = (h.0, all_join es fs h.1 k)
-
-pub failing_right : (es fs : List Entry) (from : ℕ) (seen : ℕ) (f : Failing) → AllMet es → seen ≡ from + length es → IsFirstFailing fs seen f → IsFirstFailing (es ++ fs) from f
-failing_right es fs from seen f all e h = record {
-  before = es ++ h.before;
-  failing = h.failing;
-  after = h.after;
-  parts = ap (λ xs. es ++ xs) h.parts ∙ sym (append_assoc es h.before (h.failing ∷ h.after));
-  met = all_join es h.before all h.met;
-  fails = h.fails;
-  number = (let n = h.number in let l = length-append es h.before in omega (arith, n, l, e));
-  node = h.node;
-  kind = h.kind;
-}
+use Rattle.tv_cert.specs.FirstFailing.{IsFirstFailing}
+use Rattle.tv_cert.proofs.FailingLemmas.{failing_left, all_join, failing_right}
 
 -- ---- the loop over the children
 abbrev pub past : ℕ → Statements → Statements

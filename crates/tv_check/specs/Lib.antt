@@ -1,4 +1,3 @@
 pub mod Owes
-pub mod Walks
 pub mod Settling
 pub mod Roots

@@ -11,7 +11,7 @@ use Rattle.tv_cert.specs.Pieces.{rows_of}
 use Rattle.tv_cert.specs.Obligations.{IsMetEntry}
 use Rattle.tv_cert.specs.Nodes.{pieces_of, root_entry}
 use Rattle.tv_cert.specs.Plain.{about_of}
-use Rattle.tv_check.specs.declared.walking.Failing.{Failing}
+use Rattle.tv_cert.specs.declared.failing.Failing.{Failing}
 
 -- the rows of the pieces are over n variables
 abbrev pub AreOver : ℕ → List Marked → Type 0

@@ -10,14 +10,14 @@ ghost use Rattle.tv_cert.specs.AimViews.{aim_states};
 ghost use Rattle.tv_cert.specs.Listed.{pieces_list};
 ghost use Rattle.tv_cert.specs.Said.{said_entries, HasParts};
 ghost use Rattle.tv_cert.specs.Plain.{about_of};
-ghost use Rattle.tv_check.specs.Walks.{Checks};
+ghost use Rattle.tv_cert.specs.FirstFailing.{Checks};
 ghost use Rattle.tv_check.specs.Roots.{AreOver, ValuesFit, SettlesRoot};
 ghost use Rattle.tv_rows.specs.Views.{rows_seen};
 
 use crate::steps::rows_are_covered;
-use crate::walking::{Failing, walk};
+use crate::walking::walk;
 use tv_cases::Cases;
-use tv_cert::{Aim, Kind, Node, Pieces, Verdict};
+use tv_cert::{Aim, Failing, Kind, Node, Pieces, Verdict};
 use tv_linear::Cover;
 use tv_refute::meets;
 use tv_rows::Rows;

@@ -12,4 +12,3 @@ mod walking;
 
 pub use checking::{check, is_inside};
 pub use falls::{shows_less, shows_not_below};
-pub use walking::Failing;

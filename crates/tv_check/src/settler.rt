@@ -3,9 +3,8 @@ ghost use Rattle.tv_cert.specs.Obligations.{OwedMet};
 ghost use Rattle.tv_check.specs.Settling.{first_proof};
 
 use crate::judging::is_met;
-use crate::walking::Failing;
 use tv_cases::Cases;
-use tv_cert::{Kind, Owes, Proof, Visitor};
+use tv_cert::{Failing, Kind, Owes, Proof, Visitor};
 
 /// What settles obligations by the proofs of a node, one after another.
 #[derive(Drop)]

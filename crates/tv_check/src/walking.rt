@@ -4,19 +4,11 @@ ghost use Rattle.tv_cert.specs.Obligations.{AllMet};
 ghost use Rattle.tv_cert.specs.Nodes.{size};
 ghost use Rattle.tv_cert.specs.AimViews.{aim_states};
 ghost use Rattle.tv_cert.specs.Said.{said_entries, said_own_entries, HasParts};
-ghost use Rattle.tv_check.specs.Walks.{IsFirstFailing};
+ghost use Rattle.tv_cert.specs.FirstFailing.{IsFirstFailing};
 
 use crate::settler::Settler;
 use tv_cases::Cases;
-use tv_cert::{Aim, Kind, Node, part, visit_pieces};
-
-/// An obligation that is not met.
-#[derive(Clone, Copy, Debug, PartialEq, Eq)]
-pub struct Failing {
-    pub number: u64,
-    pub node: u32,
-    pub kind: Kind,
-}
+use tv_cert::{Aim, Failing, Node, part, visit_pieces};
 
 /// The first of the node's own obligations that is not met, or how many obligations have been seen.
 fn settle_node(

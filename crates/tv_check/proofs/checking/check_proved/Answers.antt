@@ -4,7 +4,7 @@ use Rattle.tv_cert.specs.AimViews.{aim_states}
 use Rattle.tv_cert.specs.Nodes.{pieces_of, root_entry}
 use Rattle.tv_cert.specs.Plain.{about_of}
 use Rattle.tv_cert.specs.Said.{said_entries}
-use Rattle.tv_check.proofs.WalkLemmas.{failing_left}
+use Rattle.tv_cert.proofs.FailingLemmas.{failing_left}
 use Rattle.tv_check.proofs.SettlingLemmas.{last_settled}
 use Rattle.tv_check.proofs.checking.check_proved.Goals as goal
 

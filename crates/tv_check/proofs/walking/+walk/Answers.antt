@@ -5,7 +5,7 @@ use Rattle.tv_cert.specs.Nodes.{size}
 use Rattle.tv_cert.specs.AimViews.{aim_states}
 use Rattle.tv_cert.specs.Statements.{Statement, parts_of}
 use Rattle.tv_cert.specs.Said.{said_entries, said_own_entries, HasParts}
-use Rattle.tv_check.specs.Walks.{IsFirstFailing}
+use Rattle.tv_cert.specs.FirstFailing.{IsFirstFailing}
 use Rattle.tv_cert.proofs.NodeLemmas.{kids_of, size_is, size_there}
 use Rattle.tv_cert.proofs.SaidNodes.{said_are, parts_are}
 use Rattle.tv_check.proofs.WalkLemmas.{part_there, child_fits, room_there, nodes_there, child_fails, Stands_next, Stands_ends, own_room, own_fails, own_true}

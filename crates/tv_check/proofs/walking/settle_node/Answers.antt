@@ -4,8 +4,8 @@ use Rattle.tv_cert.specs.Obligations.{AllMet, paired}
 use Rattle.tv_cert.specs.AimViews.{aim_states}
 use Rattle.tv_cert.specs.Listed.{pieces_list}
 use Rattle.tv_cert.specs.Said.{said_own, said_own_entries}
-use Rattle.tv_check.specs.Walks.{IsFirstFailing}
-use Rattle.tv_check.specs.declared.walking.Failing.{Failing}
+use Rattle.tv_cert.specs.FirstFailing.{IsFirstFailing}
+use Rattle.tv_cert.specs.declared.failing.Failing.{Failing}
 use Rattle.tv_cert.proofs.NodeLemmas.{length-paired}
 use Rattle.tv_cert.proofs.SaidNodes.{said_own_are}
 use Rattle.tv_check.proofs.SettlingLemmas.{settled_all, settled_fails}
