@@ -1,11 +1,10 @@
 -- The choices that lines are those of.
-use Rattle.std.proofs.Common.{◌≡◌, ◌↔◌, ℕ, ◌+◌, ◌-◌, ◌≤◌, ℤ, Bool, true, false, IsTrue, List, [], ◌∷◌, ◌++◌, length, All, Some, Result, Ok, Err, refl, sym, ap, ◌∙◌, subst, arith, length-append}
+use Rattle.std.proofs.Common.{◌≡◌, ◌↔◌, ℕ, ◌+◌, ◌-◌, ◌≤◌, ℤ, Bool, true, false, IsTrue, List, [], ◌∷◌, ◌++◌, length, Some, Result, Ok, Err, refl, sym, ap, ◌∙◌, subst, arith, length-append}
 use Rattle.std.specs.Prelude.{◌==◌}
 use Rattle.std.specs.Global.{Vec, Global}
 use Rattle.std.specs.Option.{option_map}
 use Rattle.std.proofs.lemmas.List.{length-map}
 use Rattle.tv_grammar.specs.Langs.{mapped, each}
-use Rattle.tv_lines.specs.Numbers.{IsNarrow}
 use Rattle.tv_lines.specs.declared.head.Head.TheVariants as heads
 use Rattle.tv_linear.specs.Linear.{Linear}
 use Rattle.tv_linear.specs.Known.{Known, given, denied, composed}
@@ -80,8 +79,8 @@ module _ (system : CaseSystem) (p : Marked) (stop : Bool) (destination : Destina
     split_judges heap new (Err f) h = sides_fail f h
 
   module _ (known : List Known) (left : ℕ) (old : Cursor) where
-    pub empty_judged : (new : Cursor) (ms : Vec ℤ) → IsBehind heads.Empty ms.items old new → length ms.items ≡ length known → All IsNarrow ms.items → (met : Bool) → (IsTrue met ↔ Refutes system.variables known ms.items) → JudgedChoice system p stop destination known left old new met
-    empty_judged new ms at many narrow met told = record { tree = Empty ms; within = record { shape = many; shallow = omega arith; narrow = narrow }; took = at.front; told = told }
+    pub empty_judged : (new : Cursor) (ms : Vec ℤ) → IsBehind heads.Empty ms.items old new → length ms.items ≡ length known → (met : Bool) → (IsTrue met ↔ Refutes system.variables known ms.items) → JudgedChoice system p stop destination known left old new met
+    empty_judged new ms at many met told = record { tree = Empty ms; within = record { shape = many; shallow = omega arith }; took = at.front; told = told }
 
     -- ---- no step
 
@@ -114,17 +113,17 @@ module _ (system : CaseSystem) (p : Marked) (stop : Bool) (destination : Destina
       pub rows_fail : (f : Failure) → FailsBy (many (length (drawn_guards system.variables case draws.items ++ rows)) (by (length known + 1))) next f → FailsChoice known left old f
       rows_fail f h = shown_stop system p stop destination (length known) left old mid zs at case c k j m is draws next are first f (subst (λ count. FailsBy (many count (by (length known + 1))) next f) counted h)
 
-      pub take_judged : (heap : Global) (new : Cursor) (met both : Bool) → JudgedLists system.variables known (drawn_guards system.variables case draws.items ++ rows) next new met → (IsTrue both ↔ ((case.from ≡ place_of p) × IsTrue met)) → JudgedChoice system p stop destination known left old new both
-      take_judged heap new met both h joined =
+      pub take_judged : (heap : Global) (new : Cursor) (met : Bool) → JudgedLists system.variables known (drawn_guards system.variables case draws.items ++ rows) next new met → JudgedChoice system p stop destination known left old new met
+      take_judged heap new met h =
           let lists = vector heap h.lists (few_taken h.lists next new h.took) in
           let r = take_read system p stop destination (length known) left old mid zs at case c k j m is draws next are first lists new (subst (λ count. AreMany (AreNumbers (length known + 1)) count (numbers_in h.lists)) counted h.many) h.took (Take c k j draws lists) refl in
-          let here : IsTrue both ↔ TakeMet system.variables (place_of p) (destination_owes system.variables p destination) known (Some case) k j draws.items (numbers_in h.lists) = (
-            λ t. ((joined.0 t).0, are.many, subst (λ o. ShownAt system.variables known (option_map (λ rows. drawn_guards system.variables case draws.items ++ rows) o) (numbers_in h.lists)) (sym owes) (h.told.0 (joined.0 t).1)),
-            λ e. joined.1 (e.0, h.told.1 (subst (λ o. ShownAt system.variables known (option_map (λ rows. drawn_guards system.variables case draws.items ++ rows) o) (numbers_in h.lists)) owes e.2)),
+          let here : IsTrue met ↔ TakeMet system.variables (place_of p) (destination_owes system.variables p destination) known (Some case) k j draws.items (numbers_in h.lists) = (
+            λ t. (is.from, are.many, subst (λ o. ShownAt system.variables known (option_map (λ rows. drawn_guards system.variables case draws.items ++ rows) o) (numbers_in h.lists)) (sym owes) (h.told.0 t)),
+            λ e. h.told.1 (subst (λ o. ShownAt system.variables known (option_map (λ rows. drawn_guards system.variables case draws.items ++ rows) o) (numbers_in h.lists)) owes e.2),
           ) in
           record {
             tree = Take c k j draws lists;
             within = r.0;
             took = r.1;
-            told = subst (λ o. IsTrue both ↔ TakeMet system.variables (place_of p) (destination_owes system.variables p destination) known o k j draws.items (numbers_in h.lists)) (sym is.there) here;
+            told = subst (λ o. IsTrue met ↔ TakeMet system.variables (place_of p) (destination_owes system.variables p destination) known o k j draws.items (numbers_in h.lists)) (sym is.there) here;
           }

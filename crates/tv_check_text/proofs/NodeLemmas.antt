@@ -26,11 +26,11 @@ use Rattle.tv_cert_reader.specs.Demands.{demand_of}
 use Rattle.tv_cert_reader.specs.ChoiceGrammar.{demanded}
 use Rattle.tv_cert_reader.specs.LineGrammar.{kind_of}
 use Rattle.tv_cert_reader.specs.NodeGrammar.{node}
-use Rattle.tv_cert_reader.specs.Shaped.{stated_lines}
+use Rattle.tv_cert_reader.specs.Shaped.{IsShapedAs, stated_lines}
 use Rattle.tv_cert_reader.proofs.CompleteWanted.{demands_same}
 use Rattle.tv_cert_reader.specs.declared.cursor.Cursor.{Cursor}
 use Rattle.tv_cert_reader.specs.declared.failure.Failure.{Failure}
-use Rattle.tv_cert_reader.specs.Nodes.{IsNodeOf, AreFirstOf, nodes_lines}
+use Rattle.tv_cert_reader.specs.Nodes.{AreFirstOf, nodes_lines}
 use Rattle.tv_cert_reader.specs.Proofs.{AreProofsOf}
 use Rattle.tv_cert_reader.specs.Reading.{Takes, FailsBy}
 use Rattle.tv_cert_reader.specs.Regions.{IsRegion, region_lines}
@@ -117,7 +117,7 @@ module _ (system : CaseSystem) (s : Statement) (old now : Judge) (ps : List Mark
       record {
         kids = h.kids ++ b ∷ [];
         opened = opened_next system s old.cursor now.cursor new.cursor ps m h.kids (h.kids ++ b ∷ []) b h.opened few_kids
-            (subst (λ p. IsNodeOf system p b) part k.is_node) (subst (λ p. Takes (stated_lines p b) now.cursor new.cursor) part k.took) refl;
+            (subst (λ p. IsShapedAs system p b) part k.is_node) (subst (λ p. Takes (stated_lines p b) now.cursor new.cursor) part k.took) refl;
         pieces = ap (map pieces_list) is ∙ map-append pieces_list heads (a ∷ []) ∙ (λ i. h.pieces i ++ k.pieces i ∷ []) ∙ sym (map-append pieces_list h.kids (b ∷ []));
         nodes = (let z = sizes_next h.kids b in let x = h.nodes in let y = k.nodes in omega (arith, x, y, z));
         seen = (let x = h.seen in let y = k.seen in let e = ap length own in let n = ap length next in omega (arith, x, y, e, n, length-append before (said_entries (old.nodes + 1 + sizes_list h.kids) system (part_at (length h.kids) (parts_of s)) b)));
@@ -147,7 +147,7 @@ are_renumbered : (n : ℕ) (os : List Obligation) (ps : List Proof) → AreProof
 are_renumbered n [] [] h = tt
 are_renumbered n [] (p ∷ ps) h = absurd h
 are_renumbered n (o ∷ os) [] h = absurd h
-are_renumbered n (o ∷ os) (p ∷ ps) h = (record { shape = h.0.shape; narrow = h.0.narrow }, are_renumbered n os ps h.1)
+are_renumbered n (o ∷ os) (p ∷ ps) h = (h.0, are_renumbered n os ps h.1)
 
 -- each proof has a line
 pub proof_long : (p : Proof) → 1 ≤ length (proof_lines p)
@@ -200,7 +200,7 @@ module _ (system : CaseSystem) (s : Statement) (old now new : Judge) (ps : List 
   offered : AreProofsOf (said_own 0 system s ps (map pieces_list h.kids)) own.proofs
   offered = are_renumbered old.nodes (said_own 0 system s ps (map pieces_list h.kids)) own.proofs (subst (λ os. AreProofsOf os own.proofs) (owed_there ∙ own_renumbered old.nodes system s ps (map pieces_list h.kids)) own.are)
 
-  built : IsNodeOf system s whole × Takes (stated_lines s whole) old.cursor new.cursor
+  built : IsShapedAs system s whole × Takes (stated_lines s whole) old.cursor new.cursor
   built = node_built system s old.cursor now.cursor new.cursor ps m kids shown said h.opened (sym (as_many system s old now ps m heads.items h) ∙ many) offered own.took
 
   kids_there : kids_of whole ≡ h.kids

@@ -16,11 +16,11 @@ use Rattle.tv_check_text.specs.Judging.{JudgesCover, JudgesChoice, JudgesProof}
 use Rattle.tv_check_text.specs.Targets.{changed_lists}
 
 pub cover_judges : (n : ℕ) (owed : ℕ → ℕ → Option (List Known)) (known : List Known) (old new : Cursor) (result : Result Bool Failure) → JudgesCover n owed known 128 old new result → JudgesProof (a_cover n known owed) old new result
-cover_judges n owed known old new (Ok met) h = record { proof = Covered h.tree; is_proof = record { shape = (h.within.shape, h.within.shallow); narrow = h.within.narrow }; took = h.took; told = h.told }
+cover_judges n owed known old new (Ok met) h = record { proof = Covered h.tree; is_proof = (h.within.shape, h.within.shallow); took = h.took; told = h.told }
 cover_judges n owed known old new (Err f) h = h
 
 pub choice_judges : (system : CaseSystem) (p : Marked) (stop : Bool) (destination : Destination) (known : List Known) (old new : Cursor) (result : Result Bool Failure) → JudgesChoice system p stop destination known 128 old new result → JudgesProof (a_choice system.variables system.cases (place_of p) stop (destination_owes system.variables p destination) known) old new result
-choice_judges system p stop destination known old new (Ok met) h = record { proof = Chosen h.tree; is_proof = record { shape = (h.within.shape, h.within.shallow); narrow = h.within.narrow }; took = h.took; told = h.told }
+choice_judges system p stop destination known old new (Ok met) h = record { proof = Chosen h.tree; is_proof = (h.within.shape, h.within.shallow); took = h.took; told = h.told }
 choice_judges system p stop destination known old new (Err f) h = h
 
 -- lists of rows as they are given

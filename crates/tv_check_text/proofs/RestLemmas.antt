@@ -117,7 +117,7 @@ module _ (system : CaseSystem) (s : Statement) (old mid : Judge) (fresh : IsFres
           behind = record {
             root_is = h.is_node;
             said = refl;
-            verdict_is = (are.many, subst (λ ps. IsSome (slice_get (pieces_at ps system.start) place)) h.pieces there, are.narrow);
+            verdict_is = (are.many, subst (λ ps. IsSome (slice_get (pieces_at ps system.start) place)) h.pieces there);
             lines = h.took.lines ∙ ap (λ ls. stated_lines s h.node ++ ls) (took.lines ∙ ap (λ ls. formed heads.At (pos place ∷ values.items) ∷ ls) (off.lines ∙ ap (λ ls. formed heads.End [] ∷ ls) none));
           };
           at_values = refl;

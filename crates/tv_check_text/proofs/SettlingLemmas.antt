@@ -1,8 +1,8 @@
 -- The first obligation that is not met, over one part after another.
 use Rattle.std.proofs.Common.{◌≡◌, ◌↔◌, ℕ, ◌+◌, Bool, true, false, IsTrue, List, [], ◌∷◌, ◌++◌, length, Option, None, Some, refl, sym, subst, arith}
 use Rattle.tv_cert.specs.Obligations.{Entry, IsMetEntry}
-use Rattle.tv_check.specs.declared.walking.Failing.{Failing}
-use Rattle.tv_check.proofs.WalkLemmas.{all_join, failing_left, failing_right}
+use Rattle.tv_cert.specs.declared.failing.Failing.{Failing}
+use Rattle.tv_cert.proofs.FailingLemmas.{all_join, failing_left, failing_right}
 use Rattle.tv_check_text.specs.Settling.{Settles, first_failing}
 
 pub settles_none : (from : ℕ) (x : Option Failing) → Settles from x [] x

@@ -23,12 +23,6 @@ joined_true a b both e is = (λ t. (e, sym is ∙ t), λ h. is ∙ h.1)
 pub joined_false : (a b both : Bool) → a ≡ false → both ≡ a → IsTrue both ↔ (IsTrue a × IsTrue b)
 joined_false a b both e is = (λ t. absurd (let x : ⊥ = cc in x), λ h. let t = h.0 in absurd (let x : ⊥ = cc in x))
 
-pub joined_where : {X : Type 0} (b both : Bool) → X → both ≡ b → IsTrue both ↔ (X × IsTrue b)
-joined_where b both x is = (λ t. (x, sym is ∙ t), λ h. is ∙ h.1)
-
-pub joined_nowhere : {X : Type 0} (b both : Bool) → (X → ⊥) → both ≡ false → IsTrue both ↔ (X × IsTrue b)
-joined_nowhere b both none is = (λ t. absurd (let x : ⊥ = cc in x), λ h. absurd (none h.0))
-
 -- the first rows, one more each time
 pub take_next : {A : Type 0} (xs : List A) (i : ℕ) (x : A) → slice_get xs i ≡ Some x → take (suc i) xs ≡ take i xs ++ x ∷ []
 take_next [] i x e = absurd (let h : ⊥ = cc in h)

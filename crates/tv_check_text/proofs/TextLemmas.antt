@@ -1,7 +1,8 @@
 -- The certificate of a text that was judged while it was read.
 use Rattle.std.proofs.Common.{◌≡◌, ℕ, ◌<◌, ◌^◌, ℤ, Bool, List, [], ◌∷◌, ◌++◌, length, None, Some, refl, sym, ap, ◌∙◌, subst, arith}
 use Rattle.std.specs.Global.{Global}
-use Rattle.tv_lines.specs.Lines.{PlainLine, lines_of}
+use Rattle.tv_lines.specs.Lines.{PlainLine, formed, lines_of}
+use Rattle.tv_lines.specs.declared.head.Head.TheVariants as heads
 use Rattle.tv_formula.specs.Properties.{Property}
 use Rattle.tv_cases.specs.LinearCases.{CaseSystem}
 use Rattle.tv_cert.specs.declared.claim.Claim.{Claim}
@@ -18,14 +19,15 @@ use Rattle.tv_cert.proofs.SaidLemmas.{entries-stated}
 use Rattle.tv_shape.specs.declared.certificate.Certificate.{Certificate}
 use Rattle.tv_shape.specs.Fitting.{Fits}
 use Rattle.tv_shape.specs.Kinds.{kinds_stated}
-use Rattle.tv_cert_spelling.proofs.KindLines.{size_is_kinds}
+use Rattle.tv_cert_reader.proofs.KindLemmas.{size_is_kinds}
 use Rattle.tv_cert_reader.specs.declared.kind.LineKind.TheVariants as kinds
 use Rattle.tv_cert_reader.specs.declared.failure.Failure.{Failure}
 use Rattle.tv_cert_reader.specs.declared.failure.Failure.TheVariants as failures
 use Rattle.tv_cert_reader.specs.Texts.{IsCertificateText, IsRefusedText, fault_of, sides_of}
-use Rattle.tv_cert_reader.specs.Wholes.{IsBehindSaid, begun, side, says}
+use Rattle.tv_cert_reader.specs.Wholes.{IsBehindSaid, begun, said_head, side, says}
 use Rattle.tv_cert_reader.proofs.FitLemmas.{shows, read_fits, read_lines}
-use Rattle.tv_check.specs.declared.walking.Failing.{Failing}
+use Rattle.tv_cert_reader.proofs.FitLines.{AreFit, behind_two, text_fit}
+use Rattle.tv_cert.specs.declared.failing.Failing.{Failing}
 use Rattle.tv_check_text.proofs.TreeLemmas.{vector}
 use Rattle.tv_check_text.specs.declared.judge.Judge.{Judge}
 use Rattle.tv_check_text.specs.declared.text.Accepted.{Accepted}
@@ -51,7 +53,7 @@ module _ (system : CaseSystem) (claim : Claim) (variables : claim_variables clai
   behind = subst (λ b. IsBehindSaid system (side (sides_of claim) b) b rest h.root h.verdict) (sym h.behind.said) h.behind
 
   fits : Fits (about_with system) property h.root h.verdict
-  fits = read_fits system claim variables rest h.root h.verdict behind
+  fits = read_fits system claim variables rest h.root h.verdict behind (behind_two (formed heads.Header []) (said_head proved) rest (subst AreFit lines (text_fit text)))
 
   few_kinds : length (kinds_stated (stated (about_with system).tests property)) < 2 ^ 63
   few_kinds = (let e = size_is_kinds (about_with system) property h.root fits.nodes.shape in let f = h.few_nodes in omega (arith, e, f))

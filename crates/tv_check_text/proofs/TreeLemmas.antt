@@ -1,12 +1,11 @@
 -- The covers that lines are those of.
-use Rattle.std.proofs.Common.{◌≡◌, ◌↔◌, ℕ, ◌+◌, ◌-◌, ◌<◌, ◌^◌, ℤ, pos, Bool, false, IsTrue, List, [], ◌∷◌, ◌++◌, length, All, Option, None, Some, Result, Ok, Err, refl, sym, ap, ◌∙◌, subst, arith, length-append}
+use Rattle.std.proofs.Common.{◌≡◌, ◌↔◌, ℕ, ◌+◌, ◌-◌, ◌<◌, ◌^◌, ℤ, pos, Bool, false, IsTrue, List, [], ◌∷◌, ◌++◌, length, Option, None, Some, Result, Ok, Err, refl, sym, ap, ◌∙◌, subst, arith, length-append}
 use denote.RawPtr.{null_ptr}
 use Rattle.std.specs.Prelude.{◌==◌}
 use Rattle.std.specs.Global.{Vec, Box, Global}
 use Rattle.std.specs.Option.{option_map}
 use Rattle.std.proofs.lemmas.List.{length-map}
 use Rattle.tv_lines.specs.Lines.{formed}
-use Rattle.tv_lines.specs.Numbers.{IsNarrow}
 use Rattle.tv_lines.specs.declared.head.Head.TheVariants as heads
 use Rattle.tv_linear.specs.Linear.{Linear}
 use Rattle.tv_linear.specs.Known.{Known, given, denied}
@@ -99,8 +98,8 @@ module _ (n : ℕ) (owed : ℕ → ℕ → Option (List Known)) where
     split_judges heap new (Err f) h = sides_fail f h
 
   module _ (known : List Known) (left : ℕ) (old : Cursor) where
-    pub empty_judged : (new : Cursor) (ms : Vec ℤ) → IsBehind heads.Empty ms.items old new → length ms.items ≡ length known → All IsNarrow ms.items → (met : Bool) → (IsTrue met ↔ Refutes n known ms.items) → JudgedCover n owed known left old new met
-    empty_judged new ms at many narrow met told = record { tree = Empty ms; within = record { shape = many; shallow = omega arith; narrow = narrow }; took = at.front; told = told }
+    pub empty_judged : (new : Cursor) (ms : Vec ℤ) → IsBehind heads.Empty ms.items old new → length ms.items ≡ length known → (met : Bool) → (IsTrue met ↔ Refutes n known ms.items) → JudgedCover n owed known left old new met
+    empty_judged new ms at many met told = record { tree = Empty ms; within = record { shape = many; shallow = omega arith }; took = at.front; told = told }
 
     module _ (mid : Cursor) (zs : List ℤ) (at : IsBehind heads.Into zs old mid) (k j : ℕ) (rows : List Known) (text : zs ≡ pos k ∷ pos j ∷ []) (owes : owed k j ≡ Some rows) where
       target : IsTarget (owed_count owed) zs k j (length rows)

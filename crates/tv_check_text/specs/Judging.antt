@@ -16,7 +16,7 @@ use Rattle.tv_cert.specs.Choices.{IsMetChoice, NoStepMet}
 use Rattle.tv_cert.specs.Obligations.{Owed, OwedMet}
 use Rattle.tv_cert.specs.Owing.{destination_owes}
 use Rattle.tv_cert.specs.Pieces.{place_of}
-use Rattle.tv_cert.specs.Shapes.{owed_count}
+use Rattle.tv_cert.specs.Shapes.{owed_count, ProofShape}
 use Rattle.tv_cert_reader.specs.CertificateLines.{by_lines, cover_lines, choice_lines, proof_lines}
 use Rattle.tv_cert_reader.specs.Demands.{demand_of}
 use Rattle.tv_cert_reader.specs.LineGrammar.{Grammar, many, by}
@@ -28,7 +28,6 @@ use Rattle.tv_cert_reader.specs.Reading.{Takes, FailsBy}
 use Rattle.tv_cert_reader.specs.Parts.{AreMany, AreNumbers}
 use Rattle.tv_cert_reader.specs.Covers.{IsCoverWithin}
 use Rattle.tv_cert_reader.specs.Choices.{choosing_of, IsChoiceWithin, IsStop}
-use Rattle.tv_cert_reader.specs.Proofs.{IsProofOf}
 use Rattle.tv_check_text.specs.declared.owed.Entered.{Entered}
 use Rattle.tv_check_text.specs.Owed.{entered_listed}
 
@@ -138,7 +137,7 @@ JudgesChoiceSides system p stop destination known left row old new (Err f) = Fai
 -- a proof of what is owed was read, and it is told whether it meets that
 pub record JudgedProof (o : Owed) (old new : Cursor) (met : Bool) : Type 0 where
   pub proof : Proof
-  pub is_proof : IsProofOf o proof
+  pub is_proof : ProofShape o proof
   pub took : Takes (proof_lines proof) old new
   pub told : IsTrue met ↔ OwedMet o (Some proof)
 

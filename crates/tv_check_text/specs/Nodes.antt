@@ -7,9 +7,8 @@ use Rattle.tv_cert.specs.Nodes.{size}
 use Rattle.tv_cert.specs.Said.{said_entries}
 use Rattle.tv_cert.specs.Statements.{Statement}
 use Rattle.tv_cert_reader.specs.NodeGrammar.{node}
-use Rattle.tv_cert_reader.specs.Shaped.{stated_lines}
+use Rattle.tv_cert_reader.specs.Shaped.{IsShapedAs, stated_lines}
 use Rattle.tv_cert_reader.specs.declared.failure.Failure.{Failure}
-use Rattle.tv_cert_reader.specs.Nodes.{IsNodeOf}
 use Rattle.tv_cert_reader.specs.Reading.{Takes, FailsBy}
 use Rattle.tv_check_text.specs.declared.judge.Judge.{Judge}
 use Rattle.tv_check_text.specs.Settling.{Settles}
@@ -18,7 +17,7 @@ use Rattle.tv_check_text.specs.Visits.{IsCounted}
 -- A node that is to show this is taken off and its obligations are judged, with those of the nodes below it; `head` keeps its pieces.
 pub record IsJudgedNode (system : CaseSystem) (s : Statement) (old new : Judge) (head : Node) : Type 0 where
   pub node : Node
-  pub is_node : IsNodeOf system s node
+  pub is_node : IsShapedAs system s node
   pub took : Takes (stated_lines s node) old.cursor new.cursor
   pub pieces : pieces_list head ≡ pieces_list node
   pub nodes : new.nodes ≡ old.nodes + size node

@@ -1,8 +1,8 @@
 -- The first obligation that is not met, over one part of a certificate after another.
 use Rattle.std.specs.Prelude.{◌≡◌, ℕ, Bool, true, false, List, Option, None, Some}
 use Rattle.tv_cert.specs.Obligations.{Entry, AllMet}
-use Rattle.tv_check.specs.declared.walking.Failing.{Failing}
-use Rattle.tv_check.specs.Walks.{IsFirstFailing}
+use Rattle.tv_cert.specs.declared.failing.Failing.{Failing}
+use Rattle.tv_cert.specs.FirstFailing.{IsFirstFailing}
 
 -- Where `from` entries come before the list: one that is not met before it stays the first, else it is the first of the list.
 abbrev pub Settles : ℕ → Option Failing → List Entry → Option Failing → Type 0

@@ -12,8 +12,8 @@ use Rattle.tv_cert_reader.specs.declared.failure.Failure.{Failure}
 use Rattle.tv_cert_reader.specs.declared.failure.Failure.TheVariants as failures
 use Rattle.tv_cert_reader.specs.Texts.{IsCertificateText, IsAtFault}
 use Rattle.tv_cert_reader.specs.Wholes.{says}
-use Rattle.tv_check.specs.declared.walking.Failing.{Failing}
-use Rattle.tv_check.specs.Walks.{IsFirstFailing}
+use Rattle.tv_cert.specs.declared.failing.Failing.{Failing}
+use Rattle.tv_cert.specs.FirstFailing.{IsFirstFailing}
 use Rattle.tv_check_text.specs.declared.text.Accepted.{Accepted}
 use Rattle.tv_check_text.specs.declared.text.TextFailing.{TextFailing}
 use Rattle.tv_check_text.specs.declared.text.TextFailing.TheVariants.{Syntax, Wide, Deep, Shape, Obligation, Memory}

@@ -4,12 +4,13 @@ use Rattle.std.specs.List.{flat_map}
 use Rattle.tv_grammar.specs.Langs.{each}
 use Rattle.tv_cert.specs.declared.node.Proof.{Proof}
 use Rattle.tv_cert.specs.Obligations.{Obligation, paired}
+use Rattle.tv_cert.specs.Shapes.{ProofShape}
 use Rattle.tv_cert_reader.specs.CertificateLines.{proof_lines}
 use Rattle.tv_cert_reader.specs.Demands.{demand_of}
 use Rattle.tv_cert_reader.specs.ChoiceGrammar.{demanded}
 use Rattle.tv_cert_reader.specs.declared.failure.Failure.{Failure}
 use Rattle.tv_cert_reader.specs.Reading.{Takes, FailsBy}
-use Rattle.tv_cert_reader.specs.Proofs.{IsProofOf, AreProofsOf}
+use Rattle.tv_cert_reader.specs.Proofs.{AreProofsOf}
 use Rattle.tv_check_text.specs.declared.judge.Judge.{Judge}
 use Rattle.tv_check_text.specs.Settling.{Settles}
 
@@ -20,7 +21,7 @@ IsCounted j = j.nodes + j.seen ≤ j.cursor.taken
 -- a proof of what is owed is taken off and judged
 pub record IsPassed (o : Obligation) (old new : Judge) : Type 0 where
   pub proof : Proof
-  pub is_proof : IsProofOf o.owed proof
+  pub is_proof : ProofShape o.owed proof
   pub took : Takes (proof_lines proof) old.cursor new.cursor
   pub nodes : new.nodes ≡ old.nodes
   pub seen : new.seen ≡ old.seen + 1

@@ -1,6 +1,5 @@
-ghost use Rattle.std.specs.Prelude.{◌≡◌, ℕ, Bool, List, All, Option, length};
+ghost use Rattle.std.specs.Prelude.{◌≡◌, ℕ, Bool, List, Option, length};
 ghost use Rattle.tv_linear.specs.Known.{Known};
-ghost use Rattle.tv_lines.specs.Numbers.{IsNarrow};
 ghost use Rattle.tv_cases.specs.LinearCases.{CaseSystem};
 ghost use Rattle.tv_cert.specs.declared.node.Marked.{Marked};
 ghost use Rattle.tv_cert.specs.declared.owes.Destination.{Destination};
@@ -9,8 +8,7 @@ ghost use Rattle.tv_cert_reader.specs.declared.cursor.Cursor.{Cursor};
 ghost use Rattle.tv_cert_reader.specs.Covers.{IsBehind};
 ghost use Rattle.tv_check_text.specs.Judging.{JudgesChoice, JudgesCover};
 
-use tv_cert_reader::LineKind;
-use tv_cert_reader::Failure;
+use tv_cert_reader::{Failure, LineKind};
 use tv_lines::Head;
 use tv_refute::{Frames, refutes};
 
@@ -23,7 +21,6 @@ pub fn is_empty(
     line: u32,
 ) -> Result<bool, Failure>
     requires counted { known ≡ length (known_at frames.now) }
-    requires narrow { All IsNarrow multipliers.items }
     ensures cover { (owed : ℕ → ℕ → Option (List Known)) (left : ℕ) (old new : Cursor) → IsBehind Head.Empty multipliers.items old new → new.taken ≡ line → JudgesCover columns owed (known_at frames.now) left old new result }
     ensures choice { (system : CaseSystem) (piece : Marked) (stop : Bool) (destination : Destination) (left : ℕ) (old new : Cursor) → columns ≡ system.variables → IsBehind Head.Empty multipliers.items old new → new.taken ≡ line → JudgesChoice system piece stop destination (known_at frames.now) left old new result }
 {

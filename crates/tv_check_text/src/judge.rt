@@ -1,6 +1,6 @@
 use std::alloc::Global;
+use tv_cert::Failing;
 use tv_cert_reader::{Cursor, Failure};
-use tv_check::Failing;
 
 /// What reads a certificate and judges its obligations on the way.
 #[derive(Drop)]

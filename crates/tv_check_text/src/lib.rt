@@ -17,10 +17,4 @@ mod targets;
 mod text;
 mod visiting;
 
-pub use judging::{judged, judged_start};
 pub use text::{Accepted, TextFailing, check_text};
-
-#[cfg(test)]
-mod tests;
-#[cfg(test)]
-mod judging_tests;

@@ -8,13 +8,12 @@ ghost use Rattle.tv_check_text.specs.Settling.{first_failing};
 ghost use Rattle.tv_check_text.specs.Rest.{IsFresh, JudgesProved, JudgesDenied, JudgesWhole};
 
 use crate::judge::Judge;
+use crate::judging::judged_start;
 use crate::nodes::judge_node;
 use crate::visiting::first_failing;
-use tv_cert::{Aim, Claim, Kind};
-use tv_cert_reader::LineKind;
-use tv_cert_reader::{Context, Failure, Sort, finish, numbers, said, values};
-use tv_check::{Failing, is_inside};
-use crate::judged_start;
+use tv_cert::{Aim, Claim, Failing, Kind};
+use tv_cert_reader::{Context, Failure, LineKind, Sort, finish, numbers, said, values};
+use tv_check::is_inside;
 
 /// Takes note of the last obligation, which is the root's.
 fn settle_root(judge: &mut Judge, met: bool)

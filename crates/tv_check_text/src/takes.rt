@@ -14,8 +14,7 @@ use crate::choices::Choosing;
 use crate::owed::OwedRows;
 use crate::shown::rows_are_shown;
 use crate::targets::{entered, targets_after};
-use tv_cert_reader::LineKind;
-use tv_cert_reader::{Cursor, Failure, Sort, Taken, read_rows};
+use tv_cert_reader::{Cursor, Failure, LineKind, Sort, Taken, read_rows};
 use tv_linear::Row;
 use tv_lines::Head;
 use tv_refute::{Change, Frames, Terms};
@@ -86,7 +85,6 @@ impl<'a> Choosing<'a> {
         let count = taken.case.draws as u64;
         let draws = read_rows(self.context.alloc, cursor, Sort::Draw, columns, count)?;
         let shown = self.is_shown(cursor, frames, known, &taken, &draws)?;
-        let location = self.piece.location();
-        Ok(taken.case.from == location && shown)
+        Ok(shown)
     }
 }

@@ -7,10 +7,8 @@ use crate::judge::Judge;
 use crate::rest::judge_whole;
 use std::alloc::Global;
 use tv_cases::Cases;
-use tv_cert::Claim;
-use tv_cert_reader::LineKind;
-use tv_cert_reader::{Context, Cursor, Failure};
-use tv_check::Failing;
+use tv_cert::{Claim, Failing};
+use tv_cert_reader::{Context, Cursor, Failure, LineKind};
 use tv_lines::Lines;
 
 /// Why the text is not accepted as a certificate. A fault at a line comes before an obligation that is not met.

@@ -4,11 +4,10 @@ ghost use Rattle.tv_check_text.specs.Settling.{first_failing};
 ghost use Rattle.tv_check_text.specs.Visits.{IsPassed};
 
 use crate::judge::Judge;
+use crate::judging::judged;
 use tv_cases::Cases;
-use tv_cert::{Kind, Owes, Visitor};
+use tv_cert::{Failing, Kind, Owes, Visitor};
 use tv_cert_reader::Context;
-use tv_check::Failing;
-use crate::judged;
 
 /// The first obligation that is not met, where `failing` is the last that was judged.
 pub fn first_failing(earlier: Option<Failing>, met: bool, failing: Failing) -> Option<Failing>

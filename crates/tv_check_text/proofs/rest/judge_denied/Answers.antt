@@ -90,7 +90,7 @@ pub is_inside-met-requires : goal.is_inside-met-requires
 is_inside-met-requires c =
     let system = cases_of c.args.context.now.about.now in
     let j = c.in_ok-root.ensures.judged in
-    pieces_over system (aim_states c.args.aim.now) j.node (pieces_list c.in_ok-root.root) (length c.deref.result.now) j.is_node.shape j.pieces
+    pieces_over system (aim_states c.args.aim.now) j.node (pieces_list c.in_ok-root.root) (length c.deref.result.now) j.is_node j.pieces
     (ap length c.deref.ensures.value ∙ c.in_ok-place.ensures.0.many ∙ c.variables.ensures.same)
 
 pub returns : goal.returns

@@ -1,12 +1,10 @@
-use Rattle.std.proofs.Common.{◌≡◌, ◌↔◌, ◌+◌, ◌++◌, IsTrue, List, Some, length, sym, ◌∙◌, subst}
+use Rattle.std.proofs.Common.{◌≡◌, ◌+◌, ◌++◌, List, Some, length, subst}
 use Rattle.tv_linear.specs.Known.{Known}
 use Rattle.tv_refute.specs.Frames.{known_at}
 use Rattle.tv_cases.specs.Systems.{cases_of}
 use Rattle.tv_cases.specs.Views.{case_view}
 use Rattle.tv_cert.specs.Choices.{drawn_guards}
 use Rattle.tv_cert.specs.Owing.{destination_owes}
-use Rattle.tv_cert.specs.Pieces.{place_of}
-use Rattle.tv_cert.proofs.PieceLemmas.{test_false}
 use Rattle.tv_cert_reader.specs.LineGrammar.{many, by}
 use Rattle.tv_cert_reader.specs.declared.sort.Sort.TheVariants.{Draw}
 use Rattle.tv_cert_reader.specs.Sorts.{line_with}
@@ -15,11 +13,9 @@ use Rattle.tv_cert_reader.specs.Parts.{AreMany, IsWide}
 use Rattle.tv_cert_reader.proofs.ReadingLemmas.{at_exit}
 use Rattle.tv_cert_reader.proofs.ChoiceLemmas.{take_stops, draws_stop}
 use Rattle.tv_check_text.specs.Judging.{JudgedLists, JudgesChoice}
-use Rattle.tv_check_text.proofs.ShownLemmas.{joined_where, joined_nowhere}
 use Rattle.tv_check_text.proofs.ChoiceLemmas.{rows_fail, take_judged}
 use Rattle.tv_check_text.proofs.TreeLemmas.{counted}
 use Rattle.tv_check_text.proofs.choices.Choosing.take_is_met.Goals as goal
-use Rattle.tv_check_text.proofs.choices.Choosing.take_is_met.Goals.{then-taken-location, else-taken-location}
 
 pub returns-in_default : goal.returns-in_default
 returns-in_default c = λ left old at.
@@ -64,9 +60,5 @@ returns c = λ left old at.
     let is = c.in-Some.ensures in
     let o = counted (destination_owes system.variables s.piece.now s.destination.now case draws.items t.target t.fall) t.owed (is.owes draws.items) in
     let judged = subst (λ ds. (rows : List Known) → destination_owes system.variables s.piece.now s.destination.now case ds t.target t.fall ≡ Some rows → JudgedLists system.variables known (drawn_guards system.variables case ds ++ rows) c.rows.new.cursor c.is_shown.new.cursor shown) c.deref.ensures.value c.in_ok-shown.ensures in
-    let both : IsTrue c.if-taken-location.result ↔ ((case.from ≡ place_of s.piece.now) × IsTrue shown) = elim c.if-taken-location.branch [
-      | then-taken-location w ↦ joined_where shown c.if-taken-location.result (w.if-taken-location.true ∙ c.location-location.ensures) w.result-is
-      | else-taken-location w ↦ joined_nowhere shown c.if-taken-location.result (λ e. w.if-taken-location.false (e ∙ sym c.location-location.ensures)) (w.result-is ∙ test_false case.from c.location-location.result w.if-taken-location.false)
-    ] in
     take_judged system s.piece.now s.stop s.destination.now known left old c.args.cursor.now c.args.numbers.now at case t.taken t.target t.fall t.owed is draws c.rows.new.cursor
-    (subst (λ n. AreMany (IsWide n) t.case.now.draws draws.items) c.variables-columns.ensures.same c.in_ok-draws.ensures.0) c.in_ok-draws.ensures.1 o.0 o.1 s.context.alloc c.is_shown.new.cursor shown c.if-taken-location.result (judged o.0 o.1) both
+    (subst (λ n. AreMany (IsWide n) t.case.now.draws draws.items) c.variables-columns.ensures.same c.in_ok-draws.ensures.0) c.in_ok-draws.ensures.1 o.0 o.1 s.context.alloc c.is_shown.new.cursor shown (judged o.0 o.1)
