@@ -1,0 +1,19 @@
+//! The tests of certificates: of their pieces, their shape, and what is told of their texts. They go through public calls alone.
+#![tactic(auto)]
+
+#[cfg(test)]
+mod accepted;
+#[cfg(test)]
+mod judged;
+#[cfg(test)]
+mod pieces;
+#[cfg(test)]
+mod refused;
+#[cfg(test)]
+mod shapes;
+#[cfg(test)]
+mod sketches;
+#[cfg(test)]
+mod tasks;
+#[cfg(test)]
+mod texts;
