@@ -19,7 +19,7 @@ use Rattle.tv_cert.specs.Shapes.{HasShape, VerdictShape}
 use Rattle.tv_cert.specs.Statements.{Statement, stated}
 use Rattle.tv_cert.proofs.SaidNodes.{fits_parts}
 use Rattle.tv_cert.proofs.ShapeFits.{shape_fits}
-use Rattle.tv_check.specs.declared.walking.Failing.{Failing}
+use Rattle.tv_cert.specs.declared.failing.Failing.{Failing}
 use Rattle.tv_shape.specs.declared.certificate.Certificate.{Certificate}
 use Rattle.tv_shape.specs.Certificates.{IsOf}
 use Rattle.tv_check_text.proofs.TextLemmas.{owed_is}

@@ -5,14 +5,15 @@ ghost use Rattle.tv_cases.specs.Systems.{cases_of};
 ghost use Rattle.tv_cases.specs.Answers.{IsOfProgram, HaveSameSteps};
 ghost use Rattle.tv_cert.specs.Claims.{IsClaim, StatesIts, about_with, claim_variables, shown};
 ghost use Rattle.tv_cert.specs.Nodes.{obligations};
-ghost use Rattle.tv_check.specs.Walks.{Checks};
+ghost use Rattle.tv_cert.specs.FirstFailing.{Checks};
 ghost use Rattle.tv_shape.specs.Certificates.{IsOf};
 ghost use Rattle.tv_sound.specs.Following.{FollowsFrom};
 ghost use Rattle.tv_sound.specs.Settled.{IsSettled};
 
 use tv_cases::Cases;
 use tv_cert::Claim;
-use tv_check::{Failing, check};
+use tv_cert::Failing;
+use tv_check::check;
 use tv_program::Program;
 use tv_shape::Certificate;
 

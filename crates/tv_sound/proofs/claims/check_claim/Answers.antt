@@ -12,8 +12,8 @@ use Rattle.tv_cert.specs.Nodes.{size, pieces_of, root_entry}
 use Rattle.tv_cert.specs.Plain.{about_of}
 use Rattle.tv_cert.specs.Said.{said_entries, HasParts}
 use Rattle.tv_cert.specs.Statements.{Statement, stated}
-use Rattle.tv_check.specs.declared.walking.Failing.{Failing}
-use Rattle.tv_check.specs.Walks.{Checks}
+use Rattle.tv_cert.specs.declared.failing.Failing.{Failing}
+use Rattle.tv_cert.specs.FirstFailing.{Checks}
 use Rattle.tv_sound.proofs.ClaimLemmas.{owed, has_parts, has_room, settled, follows, on_ok}
 use Rattle.tv_sound.proofs.claims.check_claim.Goals as goal
 
