@@ -1,0 +1,3 @@
+pub mod Inductive
+pub mod Offered
+pub mod Laws

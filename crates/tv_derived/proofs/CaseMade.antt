@@ -1,0 +1,47 @@
+-- what is asked of a case
+use Rattle.std.proofs.Common.{◌≡◌, inl, inr, ◌∙◌, List, [], ◌∷◌, ◌++◌, map, ap, subst}
+use Rattle.std.specs.Prelude.{Ok}
+use Rattle.std.specs.List.{Contains}
+use Rattle.std.proofs.lemmas.List.Elements.{Contains-append_cases}
+use Rattle.tv_linear.specs.Linear.{Linear}
+use Rattle.tv_linear.specs.Arithmetic.{zeros, denial}
+use Rattle.tv_cases.specs.LinearCases.{LinearCase, CaseSystem}
+use Rattle.tv_cases.specs.Before.{before}
+use Rattle.tv_cases.proofs.Listed.{Contains-here, Contains-later, Contains-map, Contains-from_map}
+use Rattle.tv_derived.specs.Scopes.{over_case, at_location, with_more, placed}
+use Rattle.tv_derived.specs.Derived.{IsDerived, AreUnsplit, handed, guard, derived}
+use Rattle.tv_derived.specs.CaseQuestions.{handed_rows, case_rows, IsAsked, OwedIsPut, OwedIsDenied, EmptyRefusesCase}
+use Rattle.tv_derived.proofs.Steps.{after_deny, after_before, over}
+use Rattle.tv_derived.proofs.Listing.{empty_refusal, one_of}
+
+module _ (about : CaseSystem) (c : LinearCase) (rows : List Linear) (owed : Linear) (asked : IsAsked about c owed) where
+  owed_derived : IsDerived about (handed_rows c rows owed) (at_location c.to) 0 owed
+  owed_derived = handed (placed c.to owed) (Contains-here (placed c.to owed) (map (placed c.from) rows))
+
+  pub put : OwedIsPut about c rows owed
+  put result g = after_before owed c asked.among asked.even result owed_derived g
+
+  pub deny : OwedIsDenied about c rows owed
+  deny row result g d = after_deny row result (put (Ok row) g) d
+
+  row_derived : (r : Linear) → Contains rows r → IsDerived about (handed_rows c rows owed) (over_case c) 1 (with_more r (zeros c.draws))
+  row_derived r k =
+      over about (handed_rows c rows owed) c 1 r
+      (handed (placed c.from r) (Contains-later (placed c.to owed) (placed c.from r) (map (placed c.from) rows) (Contains-map (placed c.from) rows r k)))
+
+  all_derived : IsDerived about (handed_rows c rows owed) (over_case c) 1 (denial (before owed c)) → AreUnsplit about (handed_rows c rows owed) (over_case c) 1 (case_rows c rows owed)
+  all_derived d r k = derived r (elim (Contains-append_cases (map (λ x. with_more x (zeros c.draws)) rows ++ c.guards) (denial (before owed c) ∷ []) r k) [
+    | inr last ↦ subst (λ x. IsDerived about (handed_rows c rows owed) (over_case c) 1 x) (one_of (denial (before owed c)) r last) d
+    | inl front ↦ elim (Contains-append_cases (map (λ x. with_more x (zeros c.draws)) rows) c.guards r front) [
+      | inl known ↦
+          let found = Contains-from_map (λ x. with_more x (zeros c.draws)) rows r known in
+          subst (λ x. IsDerived about (handed_rows c rows owed) (over_case c) 1 x) found.2 (row_derived found.0 found.1)
+      | inr of ↦ guard c r asked.among of
+    ]
+  ])
+
+  pub refusals : EmptyRefusesCase about c rows owed
+  refusals row last pivots splits fault g d is =
+      let made = deny row (Ok last) g d in
+      let same : last ≡ denial (before owed c) = d.same ∙ ap denial g.same in
+      empty_refusal about (handed_rows c rows owed) (over_case c) 1 (case_rows c rows owed) pivots splits fault (all_derived (subst (λ x. IsDerived about (handed_rows c rows owed) (over_case c) 1 x) same made)) is

@@ -1,0 +1,7 @@
+pub mod Scopes
+pub mod Derived
+pub mod Regions
+pub mod Faults
+pub mod Questions
+pub mod CaseQuestions
+pub mod Laws

@@ -1,0 +1,9 @@
+pub mod Cycles
+pub mod Ranking
+pub mod Rounds
+pub mod Known
+pub mod Sizes
+pub mod Subformulas
+pub mod Tame
+pub mod Recurrences
+pub mod Laws

@@ -1,0 +1,50 @@
+// The laws of rankings, rounds and sizes, each carried by a function that does nothing.
+
+ghost use Rattle.std.specs.Prelude.{ℕ, List, All, Contains};
+ghost use Rattle.tv_program.specs.Steps.{State};
+ghost use Rattle.tv_program.specs.Systems.{System};
+ghost use Rattle.tv_formula.specs.Properties.{Property};
+ghost use Rattle.tv_formula.specs.declared.tree.Path.{Path};
+ghost use Rattle.tv_formula.specs.declared.tree.Shape.{Shape};
+ghost use Rattle.tv_cases.specs.LinearCases.{LinearCase, CaseSystem, IsCase};
+ghost use Rattle.tv_known.specs.Ranking.{HasLexicographicRanking};
+ghost use Rattle.tv_known.specs.Known.{IsDecided};
+ghost use Rattle.tv_known.specs.Laws.{AreCasesOf, EveryRunEnds, NoneIsEndless, ProgramEnds, IsRankedUntil, SettledIsRight, SettledHasAll, KnownHolds, KnownHoldsIn, SizeBoundsCounts, SizeBoundsRounds, EachCaseCounts};
+
+/// Where the cases have a lexicographic linear ranking over the rationals, every run ends, and so does every run of their program.
+pub fn ranked_cases_end()
+    ensures ends { (about : CaseSystem) → HasLexicographicRanking about → EveryRunEnds about }
+    ensures endless { (about : CaseSystem) → HasLexicographicRanking about → NoneIsEndless about }
+    ensures program { (p : System) (about : CaseSystem) → AreCasesOf p about → HasLexicographicRanking about → ProgramEnds p }
+{}
+
+/// Two sets of states, for the sides of a fixed point.
+pub trait Sides {
+    ghost left: { State → Type 0 };
+
+    ghost right: { State → Type 0 };
+}
+
+/// A round that equals the next one has the states where the fixed point holds: only those, and all where each side can be told.
+pub fn settled_round_is_exact<S: Sides>()
+    ensures right { (about : CaseSystem) → All (IsCase about.variables about.locations) about.cases → (path : Path) (shape : Shape) (k : ℕ) → SettledIsRight about path shape S.left S.right k }
+    ensures all { (about : CaseSystem) → All (IsCase about.variables about.locations) about.cases → (path : Path) (shape : Shape) (k : ℕ) → SettledHasAll about path shape S.left S.right k }
+{}
+
+/// Where the rounds tell of a state, the normal property holds there.
+pub fn known_states_are_right()
+    ensures cases { (about : CaseSystem) → All (IsCase about.variables about.locations) about.cases → (f : Property) → KnownHolds about f }
+    ensures program { (p : System) (about : CaseSystem) → AreCasesOf p about → (f : Property) → KnownHoldsIn p about f }
+{}
+
+/// A fixed point that every run must reach is decided, where its sides are properties of one state and the cases have a ranking.
+pub fn ranked_until_is_decided()
+    ensures { (about : CaseSystem) (f : Property) → IsRankedUntil about f → IsDecided about f }
+{}
+
+/// The size is no less than any count that it stands for, and each case from a location counts.
+pub fn sizes_bound_counts()
+    ensures properties { (about : CaseSystem) (last : ℕ) (f : Property) → SizeBoundsCounts about last f }
+    ensures rounds { (about : CaseSystem) (last : ℕ) (f : Property) → SizeBoundsRounds about last f }
+    ensures branches { (cases : List LinearCase) (count : ℕ → ℕ) (c : LinearCase) → Contains cases c → EachCaseCounts cases count c }
+{}
