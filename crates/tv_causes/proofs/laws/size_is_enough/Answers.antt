@@ -1,0 +1,5 @@
+use Rattle.std.proofs.Common.{arith}
+use Rattle.tv_causes.proofs.laws.size_is_enough.Goals as goal
+
+pub returns : goal.returns
+returns g c about f n budget l count none is enough many = let less = many.size none n is in omega (arith, less, enough)
