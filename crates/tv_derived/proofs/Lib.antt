@@ -6,3 +6,4 @@ pub mod Multiples
 pub mod Different
 pub mod Counted
 pub mod CaseMade
+pub mod NarrowRows

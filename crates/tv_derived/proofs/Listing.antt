@@ -6,7 +6,7 @@ use Rattle.std.proofs.lemmas.List.Elements.{Contains-append_left, Contains-appen
 use Rattle.tv_linear.specs.Linear.{Linear}
 use Rattle.tv_cases.specs.LinearCases.{CaseSystem}
 use Rattle.tv_farkas.specs.declared.branch.Branch.{Branch}
-use Rattle.tv_farkas.specs.Paths.{TakenOnce, none, first, again, IsPointSplit, SplitsAt, IsCoordinateSplit, IsPath, rows_after, at_most_row, at_least_row}
+use Rattle.tv_farkas.specs.Paths.{TakenOnce, none, first, again, IsFirstFraction, IsPointSplit, SplitsAt, IsCoordinateSplit, IsPath, rows_after, at_most_row, at_least_row}
 use Rattle.tv_farkas.specs.RefutationSystem.{IsPointOf}
 use Rattle.tv_farkas.specs.Emptying.{IsEmptyPath, IsEmptyFault}
 use Rattle.tv_farkas.specs.declared.fault.CoverFault.{CoverFault}
@@ -67,7 +67,7 @@ module _ {about : CaseSystem} {base : List Placed} {f : Scope} {h : ℕ} where
         point = subst (λ w. IsPointOf w is.kept values scale) e is.point;
         column = is.column;
         floor = is.floor;
-        fraction = is.fraction;
+        fraction = subst (λ w. IsFirstFraction w values scale is.column is.floor) e is.fraction;
         side = elim is.side [ inl low ↦ inl (subst (λ w. row ≡ at_most_row w is.column is.floor) e low) | inr high ↦ inr (subst (λ w. row ≡ at_least_row w is.column is.floor) e high.0) ];
       })
 

@@ -28,6 +28,15 @@ pub record IsWellHanded (about : CaseSystem) (base : List Placed) : Type 0 where
 abbrev pub AreEven : CaseSystem → List Placed → Type 0
 AreEven about base = (f : Scope) (h : ℕ) (r : Linear) → IsDerived about base f h r → columns r ≡ width_at about f
 
+-- the guards, and the rows handed in, are below 2^62 in magnitude
+pub record AreNarrowlyHanded (about : CaseSystem) (base : List Placed) : Type 0 where
+  pub guards : (c : LinearCase) (r : Linear) → Contains about.cases c → Contains c.guards r → AllNarrow r
+  pub rows : (p : Placed) → Contains base p → AllNarrow p.row
+
+-- each derived row is
+abbrev pub AreNarrow : CaseSystem → List Placed → Type 0
+AreNarrow about base = (f : Scope) (h : ℕ) (r : Linear) → IsDerived about base f h r → AllNarrow r
+
 -- each row of the list old is derived from base with k cases on the way
 abbrev pub AreAllDerived : CaseSystem → List Placed → List Placed → ℕ → Type 0
 AreAllDerived about old base k = (p : Placed) → Contains old p → IsDerived about base (at_location p.location) k p.row

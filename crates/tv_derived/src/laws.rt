@@ -7,7 +7,7 @@ ghost use Rattle.tv_linear.specs.declared.region.Piece.{Piece};
 ghost use Rattle.tv_cases.specs.LinearCases.{LinearCase, CaseSystem};
 ghost use Rattle.tv_derived.specs.Scopes.{Scope, Placed};
 ghost use Rattle.tv_derived.specs.Derived.{AllNarrow};
-ghost use Rattle.tv_derived.specs.Laws.{AreMultiples, IsSumOf, IsWellHanded, AreEven, AreAllDerived, Carries, PiecesAreAllDerived, IsDerivedOver, Steps, Denies, Tightens, GoesBefore, PutsTerms, GoesOn, EmptyRefuses, ListsAreDifferent, NothingComes};
+ghost use Rattle.tv_derived.specs.Laws.{AreMultiples, IsSumOf, IsWellHanded, AreEven, AreNarrowlyHanded, AreNarrow, AreAllDerived, Carries, PiecesAreAllDerived, IsDerivedOver, Steps, Denies, Tightens, GoesBefore, PutsTerms, GoesOn, EmptyRefuses, ListsAreDifferent, NothingComes};
 ghost use Rattle.tv_derived.specs.CaseQuestions.{IsAsked, OwedIsPut, OwedIsDenied, EmptyRefusesCase};
 
 /// What is derived from rows that are themselves derived with `k` cases on the way is derived with `k` more.
@@ -21,9 +21,10 @@ pub fn places_are_kept()
     ensures over { (about : CaseSystem) (base : List Placed) (c : LinearCase) (h : ℕ) → IsDerivedOver about base c h }
 {}
 
-/// A derived row has a column for each variable and each draw of its scope.
+/// A derived row has a column for each variable and each draw of its scope, and its numbers are below 2^62 in magnitude.
 pub fn rows_are_even()
-    ensures { (about : CaseSystem) (base : List Placed) → IsWellHanded about base → AreEven about base }
+    ensures even { (about : CaseSystem) (base : List Placed) → IsWellHanded about base → AreEven about base }
+    ensures narrow { (about : CaseSystem) (base : List Placed) → AreNarrowlyHanded about base → AreNarrow about base }
 {}
 
 /// The calls on rows make derived rows of derived rows, or are refused since a row made by one step is too wide.

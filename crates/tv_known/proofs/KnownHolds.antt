@@ -1,5 +1,5 @@
 -- Known states are among those where the property holds.
-use Rattle.std.proofs.Common.{◌≡◌, ◌⊎◌, inl, inr, ℕ, true, subst}
+use Rattle.std.proofs.Common.{◌≡◌, ◌⊎◌, inl, inr, ℕ, true}
 use Rattle.std.specs.Prelude.{All}
 use Rattle.tv_formula.specs.declared.tree.Path.{Path}
 use Rattle.tv_formula.specs.declared.tree.Path.TheVariants.{Every, Any}
@@ -13,11 +13,11 @@ use Rattle.tv_meaning.specs.Runs.{Must, reached, further, Ends, all_end}
 use Rattle.tv_meaning.specs.Meaning.{FixHolds, NextHolds, Holds, AllHold, SomeHolds}
 use Rattle.tv_meaning.proofs.RunLemmas.{Never_ends_by}
 use Rattle.tv_known.specs.Cycles.{IsStateOf}
-use Rattle.tv_known.specs.Rounds.{Goes, Stops, Round}
+use Rattle.tv_known.specs.Rounds.{ShrinkingRound, Goes, Stops}
 use Rattle.tv_known.specs.Known.{FixKnown, Known, AllKnown, SomeKnown, NotKnown}
 use Rattle.tv_known.proofs.Ranked.{left_true, right_true}
 use Rattle.tv_known.proofs.RankedEnds.{every_run_ends}
-use Rattle.tv_known.proofs.RoundLemmas.{stays_state, until_right, strong_right, weak_right, release_right, release_weak, release_settled}
+use Rattle.tv_known.proofs.RoundLemmas.{stays_state, growing_right, shrinking_right}
 
 module _ (about : CaseSystem) (cases : All (IsCase about.variables about.locations) about.cases) where
   -- ---- a ranked fixed point is met at each state
@@ -28,17 +28,24 @@ module _ (about : CaseSystem) (cases : All (IsCase about.variables about.locatio
   ]
 
   module _ (last : ℕ) (p q f g : State → Type 0) (a : (s : State) → IsStateOf about s → p s → f s) (b : (s : State) → IsStateOf about s → q s → g s) where
+    both : (s : State) → IsStateOf about s → p s × q s → f s × g s
+    both s is h = (a s is h.0, b s is h.1)
+
     pub fix_known : (path : Path) (shape : Shape) (s : State) → IsStateOf about s → FixKnown about last path shape p q s → FixHolds (CaseSteps about) path shape f g s
-    fix_known path Until s is (inl r) = until_right about cases p q f g a b path last s is r
+    fix_known Every Until s is (inl r) = growing_right about cases p q f g a b Every last s is r
+    fix_known Any Until s is (inl r) = growing_right about cases p q f g a b Any last s is r
     fix_known Every Until s is (inr k) =
         ranked_must f g (λ x state. elim (k.goes x state) [ inl now ↦ inl (b x state now) | inr on ↦ inr (a x state on.0, on.1) ]) is (every_run_ends about k.ranking s is.values)
     fix_known Any Until s is (inr k) = absurd k
-    fix_known path Strong s is (inl r) = strong_right about cases p q f g a b path last s is r
+    fix_known Every Strong s is (inl r) = growing_right about cases q (λ x. p x × q x) g (λ x. f x × g x) b both Every last s is r
+    fix_known Any Strong s is (inl r) = growing_right about cases q (λ x. p x × q x) g (λ x. f x × g x) b both Any last s is r
     fix_known Every Strong s is (inr k) =
-        ranked_must g (λ x. f x × g x) (λ x state. elim (k.goes x state) [ inl now ↦ inl (a x state now.0, b x state now.1) | inr on ↦ inr (b x state on.0, on.1) ]) is (every_run_ends about k.ranking s is.values)
+        ranked_must g (λ x. f x × g x) (λ x state. elim (k.goes x state) [ inl now ↦ inl (both x state now) | inr on ↦ inr (b x state on.0, on.1) ]) is (every_run_ends about k.ranking s is.values)
     fix_known Any Strong s is (inr k) = absurd k
-    fix_known path Weak s is k = weak_right about cases p q f g a b path k.round k.settled s is k.inside
-    fix_known path Release s is k = release_right about cases p q f g a b path k.round k.settled s is k.inside
+    fix_known Every Weak s is k = shrinking_right about cases p q f g a b Every k.round k.settled s is k.inside
+    fix_known Any Weak s is k = shrinking_right about cases p q f g a b Any k.round k.settled s is k.inside
+    fix_known Every Release s is k = shrinking_right about cases q (λ x. p x × q x) g (λ x. f x × g x) b both Every k.round k.settled s is k.inside
+    fix_known Any Release s is k = shrinking_right about cases q (λ x. p x × q x) g (λ x. f x × g x) b both Any k.round k.settled s is k.inside
 
   -- ---- `term` and its negation
   until_ends : {s : State} → Must (CaseSteps about) (λ x. Unit {0}) (Stops about) s → Ends (CaseSteps about) s
@@ -47,12 +54,10 @@ module _ (about : CaseSystem) (cases : All (IsCase about.variables about.locatio
 
   never_ends : (last : ℕ) (s : State) → IsStateOf about s → FixKnown about last Any Release (λ x. ⊥) (Goes about) s → Ends (CaseSteps about) s → ⊥
   never_ends last s is k ends =
-      let settled = release_settled about (Goes about) (λ x. ⊥ × Goes about x) Any k.round k.settled in
-      let inside = subst (λ r. r s) (release_weak about (Goes about) (λ x. ⊥ × Goes about x) Any k.round) k.inside in
-      Never_ends_by (λ x. IsStateOf about x × Round about Any Weak (Goes about) (λ y. ⊥ × Goes about y) k.round x) (λ x r. elim ((settled x r.0).0 r.1) [
+      Never_ends_by (λ x. IsStateOf about x × ShrinkingRound (CaseSteps about) Any (Goes about) (λ y. ⊥ × Goes about y) k.round x) (λ x r. elim ((k.settled x r.0).0 r.1) [
         | inl now ↦ absurd now.0
-        | inr on ↦ elim on.1 [ inl some ↦ (some.0, some.1, (stays_state about cases x some.0 r.0 some.1, some.2)) | inr stops ↦ absurd (stops on.0) ]
-      ]) ends (is, inside)
+        | inr on ↦ elim on.1 [ inl some ↦ (some.0, some.1, (stays_state about cases x some.0 r.0 some.1, some.2)) | inr stops ↦ absurd (stops on.0.0 on.0.1) ]
+      ]) ends (is, k.inside)
 
   next_known : (p f : State → Type 0) → ((s : State) → IsStateOf about s → p s → f s) → (path : Path) (s : State) → IsStateOf about s → NextHolds (CaseSteps about) path p s → NextHolds (CaseSteps about) path f s
   next_known p f a Every s is h = λ t st. a t (stays_state about cases s t is st) (h t st)

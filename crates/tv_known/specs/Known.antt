@@ -12,15 +12,7 @@ use Rattle.tv_cases.specs.LinearCases.{CaseSystem, CaseSteps}
 use Rattle.tv_meaning.specs.Meaning.{NextHolds}
 use Rattle.tv_known.specs.Cycles.{IsLastRound, IsStateOf, IsInitialAt}
 use Rattle.tv_known.specs.Ranking.{HasLexicographicRanking}
-use Rattle.tv_known.specs.Rounds.{HoldSide, EndSides, Goes, Stops, Round, IsSettled}
-
--- round k of a fixed point of two properties of states
-abbrev pub FixRound : CaseSystem → Path → Shape → (State → Type 0) → (State → Type 0) → ℕ → State → Type 0
-FixRound about path shape f g k s = Round about path shape (HoldSide shape f g) (EndSides shape f g) k s
-
--- it has the same states as the next one
-abbrev pub IsFixSettled : CaseSystem → Path → Shape → (State → Type 0) → (State → Type 0) → ℕ → Type 0
-IsFixSettled about path shape f g k = IsSettled about path shape (HoldSide shape f g) (EndSides shape f g) k
+use Rattle.tv_known.specs.Rounds.{HoldSide, EndSides, FixRound, IsFixSettled, Goes, Stops}
 
 -- the cases have a lexicographic ranking, and each state is at the end, or is on the way and has a step
 pub record IsRanked (about : CaseSystem) (shape : Shape) (f g : State → Type 0) : Type 0 where

@@ -1,5 +1,5 @@
 -- What is proved of rounds, rankings and sizes.
-use Rattle.std.specs.Prelude.{◌≡◌, ◌⊎◌, ℕ, ◌+◌, ◌<◌, ◌≤◌, List, ◌++◌, length, All, Contains, IsTrue}
+use Rattle.std.specs.Prelude.{◌≡◌, ◌⊎◌, ℕ, ◌+◌, ◌<◌, ◌≤◌, List, ◌++◌, length, All, Contains, Bool, true, false, IsTrue}
 use Rattle.tv_program.specs.Systems.{System}
 use Rattle.tv_program.specs.Steps.{State, Steps}
 use Rattle.tv_formula.specs.declared.tree.Path.{Path}
@@ -12,11 +12,11 @@ use Rattle.tv_formula.specs.Normal.{normal, negation}
 use Rattle.tv_cases.specs.LinearCases.{LinearCase, CaseSystem, CaseSteps, IsCase}
 use Rattle.tv_cases.specs.Answers.{HaveSameSteps, IsOfProgram}
 use Rattle.tv_meaning.specs.Runs.{Ends}
-use Rattle.tv_meaning.specs.Meaning.{FixHolds, Holds}
+use Rattle.tv_meaning.specs.Meaning.{Holds}
 use Rattle.tv_known.specs.Cycles.{IsStateOf}
 use Rattle.tv_known.specs.Ranking.{HasLexicographicRanking}
-use Rattle.tv_known.specs.Rounds.{HoldSide, EndSides, Goes}
-use Rattle.tv_known.specs.Known.{FixRound, IsFixSettled, Known}
+use Rattle.tv_known.specs.Rounds.{HoldSide, EndSides, Goes, must_end, RoundBy, Round, SidesHold, IsSettled}
+use Rattle.tv_known.specs.Known.{Known}
 use Rattle.tv_known.specs.Subformulas.{subformulas}
 use Rattle.tv_known.specs.Sizes.{some_count, all_count, stop_count, round_count, count, size_bound}
 
@@ -72,24 +72,24 @@ abbrev pub Decides : CaseSystem → (State → Type 0) → Type 0
 Decides about p = (s : State) → IsStateOf about s → p s ⊎ (¬ (p s))
 
 -- what has to be told, for each state where the fixed point holds to be in a settled round
+abbrev pub CanTellBy : Bool → CaseSystem → Path → (State → Type 0) → (State → Type 0) → ℕ → Type 0
+CanTellBy true about path hold end k = Unit {0}
+CanTellBy false about Every hold end k = Decides about end
+CanTellBy false about Any hold end k = Decides about hold × Decides about (Goes about) × Decides about (RoundBy false (CaseSteps about) Any hold end k)
+
 abbrev pub CanTell : CaseSystem → Path → Shape → (State → Type 0) → (State → Type 0) → ℕ → Type 0
-CanTell about path Until f g k = Unit {0}
-CanTell about path Strong f g k = Unit {0}
-CanTell about Every Weak f g k = Decides about (EndSides Weak f g)
-CanTell about Every Release f g k = Decides about (EndSides Release f g)
-CanTell about Any Weak f g k = Decides about (HoldSide Weak f g) × Decides about (Goes about) × Decides about (FixRound about Any Weak f g k)
-CanTell about Any Release f g k = Decides about (HoldSide Release f g) × Decides about (Goes about) × Decides about (FixRound about Any Release f g k)
+CanTell about path shape hold end k = CanTellBy (must_end shape) about path hold end k
 
 -- in a settled round are only states where the fixed point holds
 abbrev pub SettledIsRight : CaseSystem → Path → Shape → (State → Type 0) → (State → Type 0) → ℕ → Type 0
-SettledIsRight about path shape f g k =
-    IsFixSettled about path shape f g k → (s : State) → IsStateOf about s → FixRound about path shape f g k s → FixHolds (CaseSteps about) path shape f g s
+SettledIsRight about path shape hold end k =
+    IsSettled about path shape hold end k → (s : State) → IsStateOf about s → Round about path shape hold end k s → SidesHold about path shape hold end s
 
 -- and all of them
 abbrev pub SettledHasAll : CaseSystem → Path → Shape → (State → Type 0) → (State → Type 0) → ℕ → Type 0
-SettledHasAll about path shape f g k =
-    IsFixSettled about path shape f g k → CanTell about path shape f g k → (s : State) → IsStateOf about s → FixHolds (CaseSteps about) path shape f g s
-    → FixRound about path shape f g k s
+SettledHasAll about path shape hold end k =
+    IsSettled about path shape hold end k → CanTell about path shape hold end k → (s : State) → IsStateOf about s → SidesHold about path shape hold end s
+    → Round about path shape hold end k s
 
 -- where the rounds tell of a state, the property holds there
 abbrev pub KnownHolds : CaseSystem → Property → Type 0

@@ -10,8 +10,7 @@ use Rattle.tv_cases.specs.Comparisons.{comparison_lists}
 use Rattle.tv_cases.specs.LinearCases.{CaseSystem, CaseSteps}
 use Rattle.tv_meaning.specs.Meaning.{Holds}
 use Rattle.tv_known.specs.Cycles.{HasCycle}
-use Rattle.tv_known.specs.Rounds.{Goes, Stops}
-use Rattle.tv_known.specs.Known.{IsFixSettled}
+use Rattle.tv_known.specs.Rounds.{IsFixSettled, Goes, Stops}
 
 abbrev mutual
   -- the property and its subformulas, each before its arguments and these in order; a negation stands with what it negates

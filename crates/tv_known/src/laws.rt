@@ -18,17 +18,17 @@ pub fn ranked_cases_end()
     ensures program { (p : System) (about : CaseSystem) → AreCasesOf p about → HasLexicographicRanking about → ProgramEnds p }
 {}
 
-/// Two sets of states, for the sides of a fixed point.
+/// The sides of a fixed point: the states on the way, and those at the end.
 pub trait Sides {
-    ghost left: { State → Type 0 };
+    ghost hold: { State → Type 0 };
 
-    ghost right: { State → Type 0 };
+    ghost end: { State → Type 0 };
 }
 
 /// A round that equals the next one has the states where the fixed point holds: only those, and all where each side can be told.
 pub fn settled_round_is_exact<S: Sides>()
-    ensures right { (about : CaseSystem) → All (IsCase about.variables about.locations) about.cases → (path : Path) (shape : Shape) (k : ℕ) → SettledIsRight about path shape S.left S.right k }
-    ensures all { (about : CaseSystem) → All (IsCase about.variables about.locations) about.cases → (path : Path) (shape : Shape) (k : ℕ) → SettledHasAll about path shape S.left S.right k }
+    ensures right { (about : CaseSystem) → All (IsCase about.variables about.locations) about.cases → (path : Path) (shape : Shape) (k : ℕ) → SettledIsRight about path shape S.hold S.end k }
+    ensures all { (about : CaseSystem) → All (IsCase about.variables about.locations) about.cases → (path : Path) (shape : Shape) (k : ℕ) → SettledHasAll about path shape S.hold S.end k }
 {}
 
 /// Where the rounds tell of a state, the normal property holds there.
