@@ -9,7 +9,7 @@ use Rattle.tv_cases.specs.Before.{before, GivesBefore}
 use Rattle.tv_farkas.specs.declared.fault.CoverFault.{CoverFault}
 use Rattle.tv_farkas.specs.Emptying.{IsEmptyFault}
 use Rattle.tv_derived.specs.Scopes.{over_case, width_at, with_more, Placed, placed}
-use Rattle.tv_derived.specs.Derived.{IsDerived}
+use Rattle.tv_derived.specs.Derived.{IsDerived, AreUnsplit}
 use Rattle.tv_derived.specs.Faults.{IsStepFault, IsRefusalOf}
 use Rattle.tv_derived.specs.Questions.{IsSpentOnRows}
 
@@ -17,14 +17,22 @@ use Rattle.tv_derived.specs.Questions.{IsSpentOnRows}
 abbrev pub handed_rows : LinearCase → List Linear → Linear → List Placed
 handed_rows c rows owed = placed c.to owed ∷ map (placed c.from) rows
 
--- the rows over the case: those before it, its guards, and the denial of the row after it
+-- the rows that hold over the case: those before it, and its guards
+abbrev pub known_rows : LinearCase → List Linear → List Linear
+known_rows c rows = map (λ r. with_more r (zeros c.draws)) rows ++ c.guards
+
+-- the same, and the denial of the row after it
 abbrev pub case_rows : LinearCase → List Linear → Linear → List Linear
-case_rows c rows owed = (map (λ r. with_more r (zeros c.draws)) rows ++ c.guards) ++ denial (before owed c) ∷ []
+case_rows c rows owed = known_rows c rows ++ denial (before owed c) ∷ []
 
 -- a case of the program, and a row over its variables
 pub record IsAsked (about : CaseSystem) (c : LinearCase) (owed : Linear) : Type 0 where
   pub among : Contains about.cases c
   pub even : columns owed ≡ about.variables
+
+-- the rows that hold over the case are derived, with no case on the way or more
+abbrev pub KnownAreDerived : CaseSystem → LinearCase → List Linear → Linear → Type 0
+KnownAreDerived about c rows owed = (h : ℕ) → AreUnsplit about (handed_rows c rows owed) (over_case c) h (known_rows c rows)
 
 -- the row after the case, put before it, is derived with one case on the way, or not made by one step
 abbrev pub OwedIsPut : CaseSystem → LinearCase → List Linear → Linear → Type 0

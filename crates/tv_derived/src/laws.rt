@@ -8,7 +8,7 @@ ghost use Rattle.tv_cases.specs.LinearCases.{LinearCase, CaseSystem};
 ghost use Rattle.tv_derived.specs.Scopes.{Scope, Placed};
 ghost use Rattle.tv_derived.specs.Derived.{AllNarrow};
 ghost use Rattle.tv_derived.specs.Laws.{AreMultiples, IsSumOf, IsWellHanded, AreEven, AreNarrowlyHanded, AreNarrow, AreAllDerived, Carries, PiecesAreAllDerived, IsDerivedOver, Steps, Denies, Tightens, GoesBefore, PutsTerms, GoesOn, EmptyRefuses, ListsAreDifferent, NothingComes};
-ghost use Rattle.tv_derived.specs.CaseQuestions.{IsAsked, OwedIsPut, OwedIsDenied, EmptyRefusesCase};
+ghost use Rattle.tv_derived.specs.CaseQuestions.{IsAsked, KnownAreDerived, OwedIsPut, OwedIsDenied, EmptyRefusesCase};
 
 /// What is derived from rows that are themselves derived with `k` cases on the way is derived with `k` more.
 pub fn carries()
@@ -61,6 +61,7 @@ pub fn cases_are_counted()
 
 /// What is asked of a case, which is to keep a row where some rows hold before it, is derived from these with one case on the way.
 pub fn case_questions_are_derived()
+    ensures known { (about : CaseSystem) (c : LinearCase) (rows : List Linear) (owed : Linear) → IsAsked about c owed → KnownAreDerived about c rows owed }
     ensures put { (about : CaseSystem) (c : LinearCase) (rows : List Linear) (owed : Linear) → IsAsked about c owed → OwedIsPut about c rows owed }
     ensures denied { (about : CaseSystem) (c : LinearCase) (rows : List Linear) (owed : Linear) → IsAsked about c owed → OwedIsDenied about c rows owed }
     ensures refusals { (about : CaseSystem) (c : LinearCase) (rows : List Linear) (owed : Linear) → IsAsked about c owed → EmptyRefusesCase about c rows owed }
