@@ -6,5 +6,6 @@
 mod laws;
 
 pub use laws::{
-    Made, decided_and_tame, no_draws_and_no_cycles, size_is_enough, sufficient_invariants,
+    Made, Rules, decided_and_tame, no_draws_and_no_cycles, refusals_are_causes, size_is_enough,
+    sufficient_invariants, weak_invariants,
 };

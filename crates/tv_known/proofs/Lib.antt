@@ -5,3 +5,4 @@ pub mod RoundLemmas
 pub mod KnownHolds
 pub mod Programs
 pub mod SizeLemmas
+pub mod Recurring

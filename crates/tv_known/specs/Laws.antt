@@ -13,7 +13,7 @@ use Rattle.tv_cases.specs.LinearCases.{LinearCase, CaseSystem, CaseSteps, IsCase
 use Rattle.tv_cases.specs.Answers.{HaveSameSteps, IsOfProgram}
 use Rattle.tv_meaning.specs.Runs.{Ends}
 use Rattle.tv_meaning.specs.Meaning.{Holds}
-use Rattle.tv_known.specs.Cycles.{IsStateOf}
+use Rattle.tv_known.specs.Cycles.{IsStateOf, IsInitialAt}
 use Rattle.tv_known.specs.Ranking.{HasLexicographicRanking}
 use Rattle.tv_known.specs.Rounds.{HoldSide, EndSides, Goes, must_end, RoundBy, Round, SidesHold, IsSettled}
 use Rattle.tv_known.specs.Known.{Known}
@@ -120,3 +120,9 @@ pub record EachCaseCounts (cases : List LinearCase) (count : ℕ → ℕ) (c : L
   pub some : count c.to ≤ some_count cases count c.from
   pub all : length c.guards + count c.to ≤ all_count cases count c.from
   pub stop : length c.guards ≤ stop_count cases c.from
+
+-- ---- recurrences
+
+-- some state at the start begins a run without an end
+abbrev pub SomeNeverEnds : CaseSystem → Type 0
+SomeNeverEnds about = (s : State) × IsInitialAt about s × (Ends (CaseSteps about) s → ⊥)

@@ -9,7 +9,8 @@ ghost use Rattle.tv_formula.specs.declared.tree.Shape.{Shape};
 ghost use Rattle.tv_cases.specs.LinearCases.{LinearCase, CaseSystem, IsCase};
 ghost use Rattle.tv_known.specs.Ranking.{HasLexicographicRanking};
 ghost use Rattle.tv_known.specs.Known.{IsDecided};
-ghost use Rattle.tv_known.specs.Laws.{AreCasesOf, EveryRunEnds, NoneIsEndless, ProgramEnds, IsRankedUntil, SettledIsRight, SettledHasAll, KnownHolds, KnownHoldsIn, SizeBoundsCounts, SizeBoundsRounds, EachCaseCounts};
+ghost use Rattle.tv_known.specs.Recurrences.{HasSimpleRecurrence};
+ghost use Rattle.tv_known.specs.Laws.{AreCasesOf, EveryRunEnds, NoneIsEndless, ProgramEnds, IsRankedUntil, SettledIsRight, SettledHasAll, KnownHolds, KnownHoldsIn, SizeBoundsCounts, SizeBoundsRounds, EachCaseCounts, SomeNeverEnds};
 
 /// Where the cases have a lexicographic linear ranking over the rationals, every run ends, and so does every run of their program.
 pub fn ranked_cases_end()
@@ -47,4 +48,9 @@ pub fn sizes_bound_counts()
     ensures properties { (about : CaseSystem) (last : ℕ) (f : Property) → SizeBoundsCounts about last f }
     ensures rounds { (about : CaseSystem) (last : ℕ) (f : Property) → SizeBoundsRounds about last f }
     ensures branches { (cases : List LinearCase) (count : ℕ → ℕ) (c : LinearCase) → Contains cases c → EachCaseCounts cases count c }
+{}
+
+/// Where there is a simple recurrence, some run from the start has no end.
+pub fn simple_recurrences_never_end()
+    ensures { (about : CaseSystem) → HasSimpleRecurrence about → SomeNeverEnds about }
 {}

@@ -7,5 +7,5 @@ mod laws;
 
 pub use laws::{
     Sides, known_states_are_right, ranked_cases_end, ranked_until_is_decided,
-    settled_round_is_exact, sizes_bound_counts,
+    settled_round_is_exact, simple_recurrences_never_end, sizes_bound_counts,
 };
