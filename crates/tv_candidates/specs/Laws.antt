@@ -5,7 +5,7 @@ use Rattle.tv_program.specs.Steps.{State}
 use Rattle.tv_cases.specs.LinearCases.{CaseSystem, CaseSteps}
 use Rattle.tv_meaning.specs.Runs.{IsRun, last_of}
 use Rattle.tv_candidates.specs.declared.candidate.Candidate.{Candidate}
-use Rattle.tv_candidates.specs.Inductive.{MeetsAll}
+use Rattle.tv_candidates.specs.Inductive.{MeetsAll, IsPart, IsLargestInductive}
 use Rattle.tv_candidates.specs.Offered.{candidate}
 
 -- a run of the cases from a state at the start
@@ -25,3 +25,7 @@ HasFalseRow about l list = Contains list (candidate l (constant_row about.variab
 -- no such run ends at the location
 abbrev pub IsNeverReached : CaseSystem → ℕ → Type 0
 IsNeverReached about l = (s : State) (run : List State) → IsRunFromStart about s run → (last_of s run).location ≡ l → ⊥
+
+-- the greatest inductive part of the longer list has that of the shorter one
+abbrev pub KeepsLargest : CaseSystem → List Candidate → List Candidate → Type 0
+KeepsLargest about old new = (a b : List Candidate) → IsLargestInductive about old a → IsLargestInductive about new b → IsPart a b

@@ -3,8 +3,8 @@
 ghost use Rattle.std.specs.Prelude.{ℕ, List, ◌++◌};
 ghost use Rattle.tv_cases.specs.LinearCases.{CaseSystem};
 ghost use Rattle.tv_candidates.specs.declared.candidate.Candidate.{Candidate};
-ghost use Rattle.tv_candidates.specs.Inductive.{IsInductive, IsPart, IsLargestInductive};
-ghost use Rattle.tv_candidates.specs.Laws.{HoldsOnRuns, HasFalseRow, IsNeverReached};
+ghost use Rattle.tv_candidates.specs.Inductive.{IsInductive, IsPart};
+ghost use Rattle.tv_candidates.specs.Laws.{HoldsOnRuns, HasFalseRow, IsNeverReached, KeepsLargest};
 
 /// The rows of an inductive list hold wherever a run from the start comes, and it comes to no location with a row that no point meets.
 pub fn inductive_rows_hold()
@@ -19,5 +19,5 @@ pub fn together_inductive()
 
 /// The greatest inductive part of a longer list has that of a shorter one; so a list has one greatest inductive part.
 pub fn one_largest_part()
-    ensures { (about : CaseSystem) (old new a b : List Candidate) → IsPart old new → IsLargestInductive about old a → IsLargestInductive about new b → IsPart a b }
+    ensures { (about : CaseSystem) (old new : List Candidate) → IsPart old new → KeepsLargest about old new }
 {}

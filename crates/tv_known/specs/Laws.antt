@@ -20,11 +20,15 @@ use Rattle.tv_known.specs.Known.{Known}
 use Rattle.tv_known.specs.Subformulas.{subformulas}
 use Rattle.tv_known.specs.Sizes.{some_count, all_count, stop_count, round_count, count, size_bound}
 
+-- each case leads between the locations, and its rows are over the variables and its draws
+abbrev pub AreProper : CaseSystem → Type 0
+AreProper about = All (IsCase about.variables about.locations) about.cases
+
 -- the cases are those of the program, and step as it does
 pub record AreCasesOf (p : System) (about : CaseSystem) : Type 0 where
   pub same : IsOfProgram p about
   pub steps : HaveSameSteps p about
-  pub cases : All (IsCase about.variables about.locations) about.cases
+  pub cases : AreProper about
 
 -- ---- rankings
 

@@ -1,16 +1,16 @@
 // The laws of rankings, rounds and sizes, each carried by a function that does nothing.
 
-ghost use Rattle.std.specs.Prelude.{ℕ, List, All, Contains};
+ghost use Rattle.std.specs.Prelude.{ℕ, List, Contains};
 ghost use Rattle.tv_program.specs.Steps.{State};
 ghost use Rattle.tv_program.specs.Systems.{System};
 ghost use Rattle.tv_formula.specs.Properties.{Property};
 ghost use Rattle.tv_formula.specs.declared.tree.Path.{Path};
 ghost use Rattle.tv_formula.specs.declared.tree.Shape.{Shape};
-ghost use Rattle.tv_cases.specs.LinearCases.{LinearCase, CaseSystem, IsCase};
+ghost use Rattle.tv_cases.specs.LinearCases.{LinearCase, CaseSystem};
 ghost use Rattle.tv_known.specs.Ranking.{HasLexicographicRanking};
 ghost use Rattle.tv_known.specs.Known.{IsDecided};
 ghost use Rattle.tv_known.specs.Recurrences.{HasSimpleRecurrence};
-ghost use Rattle.tv_known.specs.Laws.{AreCasesOf, EveryRunEnds, NoneIsEndless, ProgramEnds, IsRankedUntil, SettledIsRight, SettledHasAll, KnownHolds, KnownHoldsIn, SizeBoundsCounts, SizeBoundsRounds, EachCaseCounts, SomeNeverEnds};
+ghost use Rattle.tv_known.specs.Laws.{AreProper, AreCasesOf, EveryRunEnds, NoneIsEndless, ProgramEnds, IsRankedUntil, SettledIsRight, SettledHasAll, KnownHolds, KnownHoldsIn, SizeBoundsCounts, SizeBoundsRounds, EachCaseCounts, SomeNeverEnds};
 
 /// Where the cases have a lexicographic linear ranking over the rationals, every run ends, and so does every run of their program.
 pub fn ranked_cases_end()
@@ -28,13 +28,13 @@ pub trait Sides {
 
 /// A round that equals the next one has the states where the fixed point holds: only those, and all where each side can be told.
 pub fn settled_round_is_exact<S: Sides>()
-    ensures right { (about : CaseSystem) → All (IsCase about.variables about.locations) about.cases → (path : Path) (shape : Shape) (k : ℕ) → SettledIsRight about path shape S.hold S.end k }
-    ensures all { (about : CaseSystem) → All (IsCase about.variables about.locations) about.cases → (path : Path) (shape : Shape) (k : ℕ) → SettledHasAll about path shape S.hold S.end k }
+    ensures right { (about : CaseSystem) → AreProper about → (path : Path) (shape : Shape) (k : ℕ) → SettledIsRight about path shape S.hold S.end k }
+    ensures all { (about : CaseSystem) → AreProper about → (path : Path) (shape : Shape) (k : ℕ) → SettledHasAll about path shape S.hold S.end k }
 {}
 
 /// Where the rounds tell of a state, the normal property holds there.
 pub fn known_states_are_right()
-    ensures cases { (about : CaseSystem) → All (IsCase about.variables about.locations) about.cases → (f : Property) → KnownHolds about f }
+    ensures cases { (about : CaseSystem) → AreProper about → (f : Property) → KnownHolds about f }
     ensures program { (p : System) (about : CaseSystem) → AreCasesOf p about → (f : Property) → KnownHoldsIn p about f }
 {}
 
