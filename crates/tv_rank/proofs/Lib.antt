@@ -1,0 +1,13 @@
+pub mod Over
+pub mod Listed
+pub mod Barriers
+pub mod Excluded
+pub mod Points
+pub mod Flattened
+pub mod Lengths
+pub mod Solved
+pub mod ShownRows
+pub mod Families
+pub mod Wholes
+pub mod Locals
+pub mod Asked

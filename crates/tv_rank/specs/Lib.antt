@@ -1,0 +1,9 @@
+pub mod Ways
+pub mod RankingSystem
+pub mod Questions
+pub mod Spans
+pub mod Given
+pub mod Rankings
+pub mod Reading
+pub mod Answers
+pub mod Sets
