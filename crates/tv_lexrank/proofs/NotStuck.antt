@@ -1,0 +1,39 @@
+use Rattle.std.proofs.Common.{◌≡◌, ℕ, ◌<◌, List, [], length, get_or, sym, subst}
+use Rattle.tv_linear.specs.declared.region.Piece.{Piece}
+use Rattle.tv_cases.specs.LinearCases.{LinearCase, CaseSystem}
+use Rattle.tv_rank.specs.Ways.{case_at, way_at}
+use Rattle.tv_rank.specs.Rankings.{HasPoint, Ranks}
+use Rattle.tv_lexrank.specs.declared.round.Round.{Round}
+use Rattle.tv_lexrank.specs.declared.greedy.Greedy.{Greedy}
+use Rattle.tv_lexrank.specs.declared.greedy.Greedy.TheVariants as greedy
+use Rattle.tv_lexrank.specs.Greedy.{without, Lead, none, more, IsGreedy, IsEmptied}
+use Rattle.tv_lexrank.specs.Ranking.{AreTogether, AreInside, HasLexicographicRanking}
+use Rattle.tv_lexrank.specs.Rounds.{AreBare}
+use Rattle.tv_lexrank.proofs.Removing.{stood}
+
+inside_without : (about : CaseSystem) (xs : List ℕ) (p : ℕ) → AreInside about xs → AreInside about (without xs p)
+inside_without about xs p h = record {
+  numbered = λ k l. let s = stood xs p k l in subst (λ z. z < length about.cases) (sym s.2) (h.numbered s.0 s.1);
+  inside = λ k l. let s = stood xs p k l in subst (λ z. AreTogether about.cases (case_at about.cases z).from (case_at about.cases z).to) (sym s.2) (h.inside s.0 s.1);
+  together = λ k j l g.
+      let s = stood xs p k l in
+      let t = stood xs p j g in
+      subst (λ z. AreTogether about.cases (case_at about.cases z).from (case_at about.cases (get_or (without xs p) j 0)).from) (sym s.2)
+      (subst (λ z. AreTogether about.cases (case_at about.cases (get_or xs s.0 0)).from (case_at about.cases z).from) (sym t.2) (h.together s.0 t.0 s.1 t.1));
+}
+
+pub inside_left : (about : CaseSystem) (known : List Piece) (set : List ℕ) (rounds : List Round) (left : List ℕ) → Lead about known set rounds left → AreInside about set → AreInside about left
+inside_left about known set rounds left (none s) h = h
+inside_left about known set rounds left (more s l rs r lead round) h = inside_without about l r.place (inside_left about known s rs l lead h)
+
+pub bare_ways : (cases : List LinearCase) (known : List Piece) (set : List ℕ) → AreBare known → way_at cases known set ≡ way_at cases [] set
+bare_ways cases known set bare = (λ i k. record { taken = case_at cases (get_or set k 0); known = bare (case_at cases (get_or set k 0)).from i })
+
+-- where the cases have a ranking, nothing is stuck
+pub never_left : (about : CaseSystem) (known : List Piece) (set : List ℕ) (g : Greedy) → AreBare known → AreInside about set → HasLexicographicRanking about → IsGreedy about known set g → IsEmptied g
+never_left about known set (greedy.Emptied rounds) bare inside ranking h = tt
+never_left about known set (greedy.Left left barriers) bare inside ranking (rounds, lead, nonempty, points, bars) =
+    let e = bare_ways about.cases known left.items bare in
+    let r = ranking left.items nonempty (inside_left about known set rounds left.items lead inside) (subst (λ w. (k : ℕ) → k < length left.items → HasPoint about.variables (w k)) e points) in
+    let ranks = subst (λ w. Ranks about.variables (length left.items) w r.0 r.2) (sym e) r.4 in
+    absurd (bars.excluded r.0 r.1 r.2 r.3 ranks)

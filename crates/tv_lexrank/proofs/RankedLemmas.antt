@@ -1,0 +1,255 @@
+-- The node of a ranking fits and is met.
+use Rattle.std.proofs.Common.{◌⊎◌, inl, inr, All, ◌≡◌, ℕ, zero, suc, ◌+◌, ◌-◌, ◌<◌, ◌≤◌, List, [], ◌∷◌, ◌++◌, length, length-append, map, get_or, Some, true, false, ◌==◌, if◌then◌else◌, arith, refl, sym, ap, ◌∙◌, subst, pos}
+use Rattle.std.specs.Prelude.{slice_get}
+use Rattle.std.specs.List.{AllZip, flat_map}
+use Rattle.std.proofs.lemmas.List.{length-map, append-nil}
+use Rattle.std.proofs.lemmas.List.Elements.{All-nil, All-cons, All-push, All-append, filter-append}
+use Rattle.std.proofs.lemmas.Grind.{flat_map-append}
+use Rattle.tv_linear.specs.Linear.{columns}
+use Rattle.tv_linear.specs.Arithmetic.{constant_row}
+use Rattle.tv_linear.proofs.PlainLists.{length-zeros}
+use Rattle.tv_cases.specs.LinearCases.{LinearCase, leaving}
+use Rattle.tv_cases.specs.Systems.{cases_of}
+use Rattle.tv_formula.specs.Properties.{term, none}
+use Rattle.tv_cert.specs.declared.node.Marked.{Marked}
+use Rattle.tv_cert.specs.declared.node.Proof.{Proof}
+use Rattle.tv_cert.specs.declared.node.Node.{Node, Node', Row_of-Node, end_of-Node, more_of-Node, items-the_row-Node, outs-Node'}
+use Rattle.tv_cert.specs.Claims.{about_with}
+use Rattle.tv_cert.specs.Nodes.{kid_pieces, entries, kid_entries}
+use Rattle.tv_cert.specs.Obligations.{About, Obligation, AllMet, own_of, piece_of, paired}
+use Rattle.tv_cert.specs.Pieces.{place_of, pieces_at}
+use Rattle.tv_cert.specs.Shapes.{ProofShape, PieceShape, OwnShape, HaveShapes}
+use Rattle.tv_cert.proofs.NodeLemmas.{out_is}
+use Rattle.tv_shape.specs.Depths.{proof_splits}
+use Rattle.tv_shape.specs.Fitting.{KidsNarrow, KidsGoWithin}
+use Rattle.tv_shape.specs.Narrow.{ProofNarrow}
+use Rattle.tv_rank.proofs.Over.{equal, unequal}
+use Rattle.tv_lexrank.specs.declared.round.Round.{Round}
+use Rattle.tv_lexrank.specs.declared.ranking.Ranking.{Ranking}
+use Rattle.tv_lexrank.specs.Rounds.{terms_at}
+use Rattle.tv_lexrank.specs.Attempt.{rounds_in}
+use Rattle.tv_lexrank.specs.Steps.{AreRanked, ranks_of}
+use Rattle.tv_lexrank.specs.Pieces.{zero_ranks, all_ranks, ranked_piece, ranked_pieces}
+use Rattle.tv_lexrank.specs.Offered.{IsOffered, IsOfferedAt, ArePieces, owed_step, AreShownBelow}
+use Rattle.tv_lexrank.specs.Nodes.{HasOwn, IsRankedNode}
+use Rattle.tv_lexrank.proofs.ShowLemmas.{rounds_chain, chain_wide}
+
+-- ---- the pieces
+module _ (r : Ranking) where
+  abbrev v : ℕ
+  v = (cases_of r.about.now).variables
+
+  keep_if : (b : _) (p : Marked) → b ≡ true → (if b then p ∷ [] else []) ≡ p ∷ []
+  keep_if true p e = refl
+  keep_if false p e = absurd cc
+
+  drop_if : (b : _) (p : Marked) → b ≡ false → (if b then p ∷ [] else []) ≡ []
+  drop_if true p e = absurd cc
+  drop_if false p e = refl
+
+  one_at : (l m : ℕ) → l ≡ m → pieces_at (ranked_piece r l ∷ []) m ≡ ranked_piece r l ∷ []
+  one_at l m e = by_test (l == m) (equal l m e)
+    where
+      by_test : (b : _) → b ≡ true → (if b then ranked_piece r l ∷ [] else []) ≡ ranked_piece r l ∷ []
+      by_test b e = keep_if b (ranked_piece r l) e
+
+  none_at : (l m : ℕ) → (l ≡ m → ⊥) → pieces_at (ranked_piece r l ∷ []) m ≡ []
+  none_at l m n = by_test (l == m) (unequal l m n)
+    where
+      by_test : (b : _) → b ≡ false → (if b then ranked_piece r l ∷ [] else []) ≡ []
+      by_test b e = drop_if b (ranked_piece r l) e
+
+  none_past : (n l : ℕ) → n ≤ l → pieces_at (ranked_pieces r n) l ≡ []
+  none_past zero l h = refl
+  none_past (suc n) l h = filter-append (λ p. place_of p == l) (ranked_pieces r n) (ranked_piece r n ∷ []) ∙ (λ i. none_past n l (omega (arith, h)) i ++ none_at n l (λ e. omega (arith, h, e)) i)
+
+  last_or_below : (n j : ℕ) → j < suc n → (n ≡ j) ⊎ (j < n)
+  last_or_below n j h = grind arith
+
+  one_there : (n l : ℕ) → l < n → pieces_at (ranked_pieces r n) l ≡ ranked_piece r l ∷ []
+  one_there zero l h = absurd (omega (arith, h))
+  one_there (suc n) l h = filter-append (λ p. place_of p == l) (ranked_pieces r n) (ranked_piece r n ∷ []) ∙ by_place (last_or_below n l h) (λ b. one_there n l b)
+    where
+      by_place : (n ≡ l) ⊎ (l < n) → (l < n → pieces_at (ranked_pieces r n) l ≡ ranked_piece r l ∷ []) → pieces_at (ranked_pieces r n) l ++ pieces_at (ranked_piece r n ∷ []) l ≡ ranked_piece r l ∷ []
+      by_place (inl e) rest = (λ i. none_past n l (omega (arith, e)) i ++ one_at n l e i) ∙ ap (λ z. ranked_piece r z ∷ []) e
+      by_place (inr b) rest = (λ i. rest b i ++ none_at n l (λ e. omega (arith, b, e)) i)
+
+  pub pieces_there : ArePieces r (ranked_pieces r (cases_of r.about.now).locations)
+  pieces_there l h = ap (λ ps. slice_get ps 0) (one_there (cases_of r.about.now).locations l h)
+
+  -- ---- the ranks of a location
+  zeros_wide : (n : ℕ) → All (λ q. columns q ≡ v) (zero_ranks v n)
+  zeros_wide zero = All-nil (λ q. columns q ≡ v)
+  zeros_wide (suc n) = All-push (λ q. columns q ≡ v) (zero_ranks v n) (constant_row v (pos 0)) (zeros_wide n) (length-zeros v)
+
+  length-zeros_ranks : (n : ℕ) → length (zero_ranks v n) ≡ n
+  length-zeros_ranks zero = refl
+  length-zeros_ranks (suc n) = length-append (zero_ranks v n) (constant_row v (pos 0) ∷ []) ∙ (let h = length-zeros_ranks n in omega (arith, h))
+
+  pub ranks_wide : AreRanked r → (l : ℕ) → l < (cases_of r.about.now).locations → All (λ q. columns q ≡ v) (all_ranks r l)
+  ranks_wide ranked l h =
+      let c = get_or r.numbers.now l 0 in
+      let m = r.located in
+      let s = rounds_chain (cases_of r.about.now) r.known.now.pieces.items r.numbers.now 0 c r.parts.now ranked (r.below l (omega (arith, h, m))) in
+      let terms = subst (λ rs. All (λ q. columns q ≡ v) (terms_at v rs l)) s.2 (chain_wide (cases_of r.about.now) r.known.now.pieces.items s.0.sorted.set.items s.0.rounds.items s.1.chain l) in
+      All-append (λ q. columns q ≡ v) (ranks_of r l) (zero_ranks v (r.count - 1 - length (rounds_in r.parts.now c)))
+      (All-cons (λ q. columns q ≡ v) (constant_row v (pos c)) (terms_at v (rounds_in r.parts.now c) l) (length-zeros v) terms)
+      (zeros_wide (r.count - 1 - length (rounds_in r.parts.now c)))
+
+  ranks_many : (l : ℕ) → length (all_ranks r l) ≡ r.count
+  ranks_many l =
+      let c = get_or r.numbers.now l 0 in
+      let e = r.enough c in
+      let a = length-append (ranks_of r l) (zero_ranks v (r.count - 1 - length (rounds_in r.parts.now c))) in
+      let b = length-zeros_ranks (r.count - 1 - length (rounds_in r.parts.now c)) in
+      let d = ranks_length (rounds_in r.parts.now c) l in
+      omega (arith, e, a, b, d)
+    where
+      ranks_length : (rs : List Round) (l : ℕ) → length (terms_at v rs l) ≡ length rs
+      ranks_length rs l = length-map rs _
+
+  pieces_shaped : AreRanked r → (n : ℕ) → n ≤ (cases_of r.about.now).locations → All (PieceShape (cases_of r.about.now) r.count false) (ranked_pieces r n)
+  pieces_shaped ranked zero h = All-nil (PieceShape (cases_of r.about.now) r.count false)
+  pieces_shaped ranked (suc n) h = All-push (PieceShape (cases_of r.about.now) r.count false) (ranked_pieces r n) (ranked_piece r n) (pieces_shaped ranked n (omega (arith, h))) (record {
+    place = omega (arith, h);
+    poly = refl;
+    rows = All-nil (λ q. columns q ≡ v);
+    ranks = ranks_wide ranked n (omega (arith, h));
+    many = ranks_many n;
+    marks = λ e. refl;
+  })
+
+  -- ---- the proofs
+  zip_both : {A B : Type 0} (R : A → B → Type 0) (xs us : List A) (ys vs : List B) → AllZip R xs ys → AllZip R us vs → AllZip R (xs ++ us) (ys ++ vs)
+  zip_both R [] us [] vs h g = g
+  zip_both R [] us (y ∷ ys) vs h g = absurd h
+  zip_both R (x ∷ xs) us [] vs h g = absurd h
+  zip_both R (x ∷ xs) us (y ∷ ys) vs h g = (h.0, zip_both R xs us ys vs h.1 g)
+
+  module _ (ps : List Marked) (pieces : ArePieces r ps) where
+    steps_offered : (number l : ℕ) (cases : List LinearCase) (proofs : List Proof) → AllZip (IsOfferedAt r l) cases proofs → AllZip IsOffered (map (owed_step r number ps l) cases) proofs
+    steps_offered number l [] [] h = tt
+    steps_offered number l [] (p ∷ proofs) h = absurd h
+    steps_offered number l (c ∷ cases) [] h = absurd h
+    steps_offered number l (c ∷ cases) (p ∷ proofs) h = (h.0 number ps pieces, steps_offered number l cases proofs h.1)
+
+    abbrev owes : ℕ → Marked → List Obligation
+    owes number = piece_of number (about_with (cases_of r.about.now)) term ps []
+
+    pub all_offered : (number n : ℕ) (proofs : List Proof) → AreShownBelow r n proofs → AllZip IsOffered (flat_map (owes number) (ranked_pieces r n)) proofs
+    all_offered number zero proofs h = subst (λ z. AllZip IsOffered [] z) (sym h) tt
+    all_offered number (suc n) proofs (front, below, steps) =
+        subst (λ z. AllZip IsOffered (flat_map (owes number) (ranked_pieces r (suc n))) z) (sym steps.parts)
+        (subst (λ z. AllZip IsOffered z (front ++ steps.more)) (sym (flat_map-append (owes number) (ranked_pieces r n) (ranked_piece r n ∷ []) ∙ ap (λ z. flat_map (owes number) (ranked_pieces r n) ++ z) (append-nil (owes number (ranked_piece r n)))))
+        (zip_both IsOffered (flat_map (owes number) (ranked_pieces r n)) (owes number (ranked_piece r n)) front steps.more (all_offered number n front below)
+        (steps_offered number n (leaving n (cases_of r.about.now).cases) steps.more steps.each)))
+
+-- ---- proofs that are offered
+all_met : (os : List Obligation) (proofs : List Proof) → AllZip IsOffered os proofs → AllMet (paired os proofs)
+all_met [] proofs h = tt
+all_met (o ∷ os) [] h = absurd h
+all_met (o ∷ os) (p ∷ proofs) h = (h.0.met, all_met os proofs h.1)
+
+all_shaped : (os : List Obligation) (proofs : List Proof) → AllZip IsOffered os proofs → AllZip (λ o p. ProofShape o.owed p) os proofs
+all_shaped [] [] h = tt
+all_shaped [] (p ∷ proofs) h = absurd h
+all_shaped (o ∷ os) [] h = absurd h
+all_shaped (o ∷ os) (p ∷ proofs) h = (h.0.shape, all_shaped os proofs h.1)
+
+all_narrow : (os : List Obligation) (proofs : List Proof) → AllZip IsOffered os proofs → All ProofNarrow proofs
+all_narrow [] [] h = All-nil ProofNarrow
+all_narrow [] (p ∷ proofs) h = absurd h
+all_narrow (o ∷ os) [] h = absurd h
+all_narrow (o ∷ os) (p ∷ proofs) h = All-cons ProofNarrow p proofs h.0.narrow (all_narrow os proofs h.1)
+
+all_flat : (os : List Obligation) (proofs : List Proof) → AllZip IsOffered os proofs → All (λ p. 1 + proof_splits p ≤ 384) proofs
+all_flat [] [] h = All-nil (λ p. 1 + proof_splits p ≤ 384)
+all_flat [] (p ∷ proofs) h = absurd h
+all_flat (o ∷ os) [] h = absurd h
+all_flat (o ∷ os) (p ∷ proofs) h = All-cons (λ p. 1 + proof_splits p ≤ 384) p proofs (let f = h.0.flat in omega (arith, f)) (all_flat os proofs h.1)
+
+-- ---- a node without children
+some_not_none : (a : Node) (more : List Node) → (a ∷ more) ≡ [] → ⊥
+some_not_none a more h = subst is_some h tt
+  where
+    is_some : List Node → Type 0
+    is_some [] = ⊥
+    is_some (x ∷ xs) = Unit {0}
+
+no_shapes : (about : _) {k : _} (kids : Row_of-Node k) → items-the_row-Node k kids ≡ [] → HaveShapes about none kids
+no_shapes about end_of-Node e = tt
+no_shapes about (more_of-Node a kids) e = absurd (some_not_none a (items-the_row-Node _ kids) e)
+
+no_narrow : {k : _} (kids : Row_of-Node k) → items-the_row-Node k kids ≡ [] → KidsNarrow kids
+no_narrow end_of-Node e = tt
+no_narrow (more_of-Node a kids) e = absurd (some_not_none a (items-the_row-Node _ kids) e)
+
+no_depth : (n : ℕ) {k : _} (kids : Row_of-Node k) → items-the_row-Node k kids ≡ [] → KidsGoWithin n kids
+no_depth n end_of-Node e = tt
+no_depth n (more_of-Node a kids) e = absurd (some_not_none a (items-the_row-Node _ kids) e)
+
+no_pieces : {k : _} (kids : Row_of-Node k) → items-the_row-Node k kids ≡ [] → kid_pieces kids ≡ []
+no_pieces end_of-Node e = refl
+no_pieces (more_of-Node a kids) e = absurd (some_not_none a (items-the_row-Node _ kids) e)
+
+no_entries : (number : ℕ) (about : _) {k : _} (kids : Row_of-Node k) → kid_entries number about none kids ≡ []
+no_entries number about end_of-Node = refl
+no_entries number about (more_of-Node a kids) = refl
+
+-- ---- the node
+abbrev asked : Ranking → About
+asked r = about_with (cases_of r.about.now)
+
+abbrev all_pieces : Ranking → List Marked
+all_pieces r = ranked_pieces r (cases_of r.about.now).locations
+
+abbrev all_owed : Ranking → ℕ → List Obligation
+all_owed r number = own_of number (asked r) term (all_pieces r) []
+
+pub node_ranked : (r : Ranking) → AreRanked r → (node : Node) (pieces : List Marked) (proofs : List Proof) → pieces ≡ ranked_pieces r (cases_of r.about.now).locations → HasOwn node pieces r.count proofs → AreShownBelow r (cases_of r.about.now).locations proofs → IsRankedNode (cases_of r.about.now) node
+node_ranked r ranked (Node' ps m shape kids list) pieces proofs same own shown = record {
+  fits = record {
+    shape = (own_shape, no_shapes (asked r) kids empty);
+    narrow = (subst (All ProofNarrow) (sym proofs_same) (all_narrow (all_owed r 0) proofs (offered 0)), no_narrow kids empty);
+    depth = (omega arith, subst (All (λ p. 1 + proof_splits p ≤ 384)) (sym proofs_same) (all_flat (all_owed r 0) proofs (offered 0)), no_depth 2 kids empty);
+  };
+  met = λ number. subst AllMet (sym (entries_are number)) (all_met (all_owed r number) proofs (offered number));
+  whole = λ l h. record {
+    piece = ranked_piece r l;
+    first = subst (λ z. slice_get (pieces_at z l) 0 ≡ Some (ranked_piece r l)) (sym pieces_same) (pieces_there r l h);
+    whole = refl;
+  };
+}
+  where
+    pieces_same : ps ≡ all_pieces r
+    pieces_same = sym (ap (λ x. x.pieces) (outs-Node' ps m shape kids list)) ∙ own.pieces_are ∙ same
+
+    ranks_same : m ≡ r.count
+    ranks_same = sym (ap (λ x. x.ranks) (outs-Node' ps m shape kids list)) ∙ own.ranks_are
+
+    proofs_same : list.items ≡ proofs
+    proofs_same = sym (ap (λ x. x.proofs.items) (outs-Node' ps m shape kids list)) ∙ own.proofs_are
+
+    empty : items-the_row-Node _ kids ≡ []
+    empty = sym (out_is ps m shape kids list) ∙ own.no_children
+
+    offered : (number : ℕ) → AllZip IsOffered (all_owed r number) proofs
+    offered number = all_offered r (all_pieces r) (pieces_there r) number (cases_of r.about.now).locations proofs shown
+
+    kids_same : kid_pieces kids ≡ []
+    kids_same = no_pieces kids empty
+
+    own_shape : OwnShape (asked r) term m ps (kid_pieces kids) list.items
+    own_shape = subst (λ z. OwnShape (asked r) term z ps (kid_pieces kids) list.items) (sym ranks_same)
+        (subst (λ z. OwnShape (asked r) term r.count z (kid_pieces kids) list.items) (sym pieces_same)
+        (subst (λ z. OwnShape (asked r) term r.count (all_pieces r) z list.items) (sym kids_same)
+        (subst (λ z. OwnShape (asked r) term r.count (all_pieces r) [] z) (sym proofs_same) (record {
+          normal = tt;
+          ranked = λ e. absurd cc;
+          small = (let f = r.few in omega (arith, f));
+          each = pieces_shaped r ranked (cases_of r.about.now).locations (omega arith);
+          offered = all_shaped (all_owed r 0) proofs (offered 0);
+        }))))
+
+    entries_are : (number : ℕ) → entries number (asked r) term (Node' ps m shape kids list) ≡ paired (all_owed r number) proofs
+    entries_are number = ap (λ z. z ++ paired (own_of number (asked r) term ps (kid_pieces kids)) list.items) (no_entries (number + 1) (asked r) kids) ∙ (λ i. paired (own_of number (asked r) term (pieces_same i) (kids_same i)) (proofs_same i))

@@ -1,0 +1,54 @@
+use Rattle.std.proofs.Common.{◌≡◌, ◌⊎◌, inl, inr, ℕ, ◌+◌, ◌<◌, List, [], ◌∷◌, ◌++◌, length, length-append, get_or, Vec, arith, sym, ap, ◌∙◌, subst, ℤ}
+use Rattle.std.specs.Global.{Global}
+use Rattle.std.proofs.lemmas.List.{map-append}
+use Rattle.tv_linear.specs.declared.region.Piece.{Piece}
+use Rattle.tv_cases.specs.LinearCases.{CaseSystem}
+use Rattle.tv_refute.proofs.Places.{get_or-left, get_or-right}
+use Rattle.tv_tableau.specs.Outcomes.{IsBarrierOf}
+use Rattle.tv_rank.specs.declared.name.Name.{Name}
+use Rattle.tv_rank.specs.declared.name.Name.TheVariants as name
+use Rattle.tv_rank.specs.declared.found.Found.{Found}
+use Rattle.tv_rank.specs.declared.found.Found.TheVariants as found
+use Rattle.tv_rank.specs.Given.{lists}
+use Rattle.tv_rank.specs.Answers.{IsFound}
+use Rattle.tv_rank.specs.Sets.{IsRankedAt, system_of_set}
+use Rattle.tv_rank.specs.Ways.{way_at}
+use Rattle.tv_rank.specs.Rankings.{NoneRanks}
+use Rattle.tv_lexrank.specs.declared.fault.RankFault.{RankFault}
+use Rattle.tv_lexrank.specs.declared.fault.RankFault.TheVariants as fault
+use Rattle.tv_lexrank.specs.declared.round.Round.{Round}
+use Rattle.tv_lexrank.specs.Greedy.{without, IsRound, AreFirst, Lead, more, RefusesTurn, RefusesGreedy}
+
+last_or_below : (n j : ℕ) → j < n + 1 → (j ≡ n) ⊎ (j < n)
+last_or_below n j h = grind arith
+
+-- one more barrier
+pub first_more : (about : CaseSystem) (known : List Piece) (set : List ℕ) (n : ℕ) (bs : List (Vec ℤ Global)) (b : Vec ℤ Global) (f : Found) (news : List (Vec ℤ Global)) → AreFirst about known set n (lists bs) → IsRankedAt about known set n f → f ≡ found.None b → news ≡ bs ++ b ∷ [] → AreFirst about known set (n + 1) (lists news)
+first_more about known set n bs b f news h r e m = subst (λ z. AreFirst about known set (n + 1) z) (sym (ap lists m ∙ map-append (λ v. v.items) bs (b ∷ []))) (record {
+  as_many = length-append (lists bs) (b.items ∷ []) ∙ (let a = h.as_many in omega (arith, a));
+  each = λ k l. elim (last_or_below n k l) [
+    | inl q ↦ subst (λ z. IsBarrierOf (system_of_set about known set z) (get_or (lists bs ++ b.items ∷ []) z [])) (sym q) (subst (λ z. IsBarrierOf (system_of_set about known set n) z) (sym (get_or-right (lists bs) (b.items ∷ []) n 0 [] (let a = h.as_many in omega (arith, a)))) both.0)
+    | inr q ↦ subst (λ z. IsBarrierOf (system_of_set about known set k) z) (sym (get_or-left (lists bs) (b.items ∷ []) k [] (let a = h.as_many in omega (arith, a, q)))) (h.each k q)
+  ];
+  excluded = λ k l. elim (last_or_below n k l) [
+    | inl q ↦ subst (λ z. NoneRanks about.variables (length set) (way_at about.cases known set) z) (sym q) both.1
+    | inr q ↦ h.excluded k q
+  ];
+})
+  where
+    both : IsBarrierOf (system_of_set about known set n) b.items × NoneRanks about.variables (length set) (way_at about.cases known set) n
+    both = subst (λ z. IsFound about.variables about.locations (length set) (way_at about.cases known set) n z) e r.found
+
+-- the refusal of a round, named as the rounds before lead to it
+pub refused_round : (about : CaseSystem) (known : List Piece) (set : List ℕ) (pivots component : ℕ) (rounds : List Round) (left : List ℕ) (round : ℕ) → Lead about known set rounds left → length rounds ≡ round → (e : RankFault) → RefusesTurn about known left pivots component round e → RefusesGreedy about known set pivots component e
+refused_round about known set pivots component rounds left round lead many (fault.Solve system e) h = by_name system h
+  where
+    by_name : (system : Name) → RefusesTurn about known left pivots component round (fault.Solve system e) → RefusesGreedy about known set pivots component (fault.Solve system e)
+    by_name (name.Empty k) h = absurd h
+    by_name (name.Rank c r falling) h = (h.0, record { rounds = rounds; as_many = many ∙ sym h.1; left = left; lead = lead; falls = h.2 })
+    by_name (name.Rows rows) h = absurd h
+    by_name (name.Later s falling) h = absurd h
+refused_round about known set pivots component rounds left round lead many fault.Memory h = tt
+
+pub one_more : (about : CaseSystem) (known : List Piece) (set left : List ℕ) (rounds news : List Round) (round : Round) (rest : List ℕ) → Lead about known set rounds left → IsRound about known left round → news ≡ rounds ++ round ∷ [] → rest ≡ without left round.place → Lead about known set news rest
+one_more about known set left rounds news round rest h r e f = subst (λ z. Lead about known set z rest) (sym e) (subst (λ z. Lead about known set (rounds ++ round ∷ []) z) (sym f) (more set left rounds round h r))

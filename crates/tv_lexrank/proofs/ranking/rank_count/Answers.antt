@@ -1,0 +1,45 @@
+use Rattle.std.proofs.Common.{◌≡◌, ◌⊎◌, inl, inr, ℕ, ◌+◌, ◌<◌, length, ap, arith}
+use Rattle.tv_lexrank.specs.Attempt.{rounds_in}
+use Rattle.tv_lexrank.proofs.AttemptLemmas.{rounds_are}
+use Rattle.tv_lexrank.proofs.ranking.rank_count.Goals as goal
+
+pub overflow_cast-len : goal.overflow_cast-len
+overflow_cast-len c =
+    let i = c.parts.part-index in
+    let e = ap length (rounds_are i c.args.parts.now c.part-item.result c.parts-test.true c.part-item.is) in
+    let f = c.requires i in
+    let l = c.len.ensures in
+    let o = c.part-item.result.rounds.ok in
+    omega (arith, e, f, l, o)
+
+pub overflow_add-len : goal.overflow_add-len
+overflow_add-len c =
+    let i = c.parts.part-index in
+    let e = ap length (rounds_are i c.args.parts.now c.part-item.result c.parts-test.true c.part-item.is) in
+    let f = c.requires i in
+    let l = c.len.ensures in
+    let o = c.part-item.result.rounds.ok in
+    omega (arith, e, f, l, o)
+
+last_or_below : (n j : ℕ) → j < n + 1 → (j ≡ n) ⊎ (j < n)
+last_or_below n j h = grind arith
+
+pub parts-preserved : goal.parts-preserved
+parts-preserved c =
+    let i = c.parts.part-index in
+    let e = ap length (rounds_are i c.args.parts.now c.part-item.result c.parts-test.true c.part-item.is) in
+    let f = c.requires i in
+    let l = c.len.ensures in
+    let o = c.part-item.result.rounds.ok in
+    let a = c.greater-count.ensures.first in
+    let b = c.greater-count.ensures.second in
+    let some = c.parts.invariant.some in
+    let few = c.parts.invariant.few in
+    record {
+      some = omega (arith, a, some);
+      few = c.greater-count.ensures.least 8193 few (omega (arith, e, f, l, o));
+      enough = λ number h. elim (last_or_below i number h) [
+        | inl q ↦ (let g = ap (λ z. length (rounds_in c.args.parts.now z)) q in omega (arith, e, l, o, b, g))
+        | inr q ↦ (let g = c.parts.invariant.enough number q in omega (arith, a, g))
+      ];
+    }

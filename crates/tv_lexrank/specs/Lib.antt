@@ -1,0 +1,13 @@
+pub mod Greedy
+pub mod Ranking
+pub mod Rounds
+pub mod Covering
+pub mod Sorting
+pub mod Parts
+pub mod Attempt
+pub mod Steps
+pub mod Pieces
+pub mod Offered
+pub mod Nodes
+pub mod First
+pub mod Certified

@@ -1,0 +1,33 @@
+-- The node of a ranking.
+use Rattle.std.specs.Prelude.{◌≡◌, ℕ, ◌<◌, List, [], Some, slice_get}
+use Rattle.tv_cases.specs.LinearCases.{CaseSystem}
+use Rattle.tv_formula.specs.Properties.{term}
+use Rattle.tv_cert.specs.declared.node.Marked.{Marked}
+use Rattle.tv_cert.specs.declared.node.Proof.{Proof}
+use Rattle.tv_cert.specs.declared.node.Node.{Node, out-Node}
+use Rattle.tv_cert.specs.Claims.{about_with}
+use Rattle.tv_cert.specs.Listed.{pieces_list}
+use Rattle.tv_cert.specs.Nodes.{pieces_of, entries}
+use Rattle.tv_cert.specs.Obligations.{AllMet}
+use Rattle.tv_cert.specs.Pieces.{pieces_at, rows_of}
+use Rattle.tv_shape.specs.Fitting.{NodesFit}
+
+-- the parts of a node without children
+pub record HasOwn (node : Node) (pieces : List Marked) (ranks : ℕ) (proofs : List Proof) : Type 0 where
+  pub pieces_are : pieces_list node ≡ pieces
+  pub ranks_are : (out-Node node).ranks ≡ ranks
+  pub no_children : (out-Node node).children.items ≡ []
+  pub proofs_are : (out-Node node).proofs.items ≡ proofs
+
+-- the first piece at a location has no rows, so it has all states there
+pub record IsWholeAt (pieces : List Marked) (l : ℕ) : Type 0 where
+  pub piece : Marked
+  pub first : slice_get (pieces_at pieces l) 0 ≡ Some piece
+  pub whole : rows_of piece ≡ []
+
+-- A node that shows that every run ends, from all states: it fits, all its obligations are met, whatever number it has, and at each
+-- location it has all states.
+pub record IsRankedNode (about : CaseSystem) (node : Node) : Type 0 where
+  pub fits : NodesFit (about_with about) term node
+  pub met : (number : ℕ) → AllMet (entries number (about_with about) term node)
+  pub whole : (l : ℕ) → l < about.locations → IsWholeAt (pieces_of node) l

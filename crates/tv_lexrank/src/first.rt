@@ -1,0 +1,119 @@
+// The components of the location graph, and their ranks.
+
+ghost use Rattle.std.specs.Prelude.{◌≡◌, ◌<◌, ◌≤◌, length, map, All, IfOk};
+ghost use Rattle.std.specs.Result.{IfErr};
+ghost use Rattle.tv_cases.specs.Systems.{cases_of};
+ghost use Rattle.tv_cases.specs.Views.{case_views};
+ghost use Rattle.tv_lexrank.specs.Ranking.{HasLexicographicRanking};
+ghost use Rattle.tv_lexrank.specs.Rounds.{AreBare};
+ghost use Rattle.tv_lexrank.specs.Attempt.{AreBelow, PartsFrom};
+ghost use Rattle.tv_lexrank.specs.First.{arc_of, AreComponents, IsOutcome, IsNode, RefusesFirst};
+ghost use Rattle.tv_lexrank.specs.Nodes.{IsRankedNode};
+
+use crate::attempt::{Attempt, bare_region, rank_components};
+use crate::node::node_of;
+use crate::part::Part;
+use crate::ranking::{Ranking, rank_count};
+use crate::{RankFault, Ranked};
+use std::alloc::{AllocError, Global};
+use tv_cases::{Case, Cases};
+use tv_cert::Node;
+use tv_graph::{Arc, components};
+use tv_linear::Region;
+use tv_simplex::push_item;
+
+/// An arc for each case, in order.
+fn arcs_of(alloc: Global, list: &[Case]) -> Result<Vec<Arc>, AllocError>
+    ensures { IfOk result (λ v. v.items ≡ map arc_of (case_views list.now)) }
+{
+    let mut arcs = Vec::with_capacity(alloc, list.len())?;
+    'cases: for case in list {
+        push_item(
+            &mut arcs,
+            Arc {
+                from: case.from,
+                to: case.to,
+            },
+        )?;
+    }
+    Ok(arcs)
+}
+
+/// One more than the greatest number.
+fn count_of(numbers: &[u32]) -> u32
+    requires { All (λ n. n < 1024) numbers.now }
+    ensures below { AreBelow result numbers.now }
+    ensures few { result ≤ 1024 }
+{
+    let mut count = 0;
+    'numbers: for number in numbers {
+        if *number >= count {
+            count = *number + 1;
+        }
+    }
+    count
+}
+
+/// The node of components that are ranked.
+fn node_of_parts(
+    alloc: Global,
+    about: &Cases,
+    known: &Region,
+    numbers: &[u32],
+    parts: &[Part],
+) -> Result<Node, AllocError>
+    requires bare { AreBare known.now.pieces.items }
+    requires components { AreComponents (cases_of about.now) numbers.now }
+    requires below { AreBelow (length parts.now) numbers.now }
+    requires few { length parts.now ≤ 1024 }
+    requires parts { PartsFrom (cases_of about.now) known.now.pieces.items numbers.now 0 parts.now }
+    ensures { IfOk result (λ node. IsRankedNode (cases_of about.now) node) }
+{
+    let count = rank_count(parts);
+    let ranking = Ranking {
+        about,
+        known,
+        numbers,
+        parts,
+        count,
+    };
+    node_of(alloc, &ranking)
+}
+
+/// The components of the location graph, by the number of each location.
+fn components_of(alloc: Global, about: &Cases) -> Result<Vec<u32>, AllocError>
+    ensures components { IfOk result (λ v. AreComponents (cases_of about.now) v.items) }
+    ensures below { IfOk result (λ v. All (λ n. n < 1024) v.items) }
+{
+    let arcs = arcs_of(alloc, about.list())?;
+    let numbers = components(alloc, about.locations(), &arcs)?;
+    Ok(numbers)
+}
+
+/// Looks for ranks under which every run ends, without known rows.
+///
+/// The strongly connected components of the location graph are ranked one after the other, in the order of their numbers. Of the
+/// cases inside a component those whose guards have a rational point are taken out round by round: the first over which some family
+/// of terms falls that grows over none of those that are left. The ranks of a location are the number of its component, which
+/// falls where a case leaves the component, and then the terms of the component's rounds.
+///
+/// Each round is that of A. Podelski and A. Rybalchenko, "A complete method for the synthesis of linear ranking functions",
+/// VMCAI 2004. Where no family falls over any case that is left, the set is stuck; where the cases have a lexicographic linear
+/// ranking over the rationals this never comes.
+pub fn first_attempt(alloc: Global, about: &Cases, pivots: u64) -> Result<Ranked, RankFault>
+    ensures ranked { IfOk result (λ r. IsOutcome (cases_of about.now) r) }
+    ensures never_stuck { HasLexicographicRanking (cases_of about.now) → IfOk result IsNode }
+    ensures refusals { IfErr result (λ e. RefusesFirst (cases_of about.now) pivots e) }
+{
+    let numbers = components_of(alloc, about)?;
+    let count = count_of(&numbers);
+    let known = bare_region(alloc, about.variables(), about.locations())?;
+    match rank_components(alloc, about, &known, &numbers, count, pivots) {
+        Err(fault) => Err(fault),
+        Ok(Attempt::Stuck { set, barriers }) => Ok(Ranked::Stuck { set, barriers }),
+        Ok(Attempt::Whole(parts)) => match node_of_parts(alloc, about, &known, &numbers, &parts) {
+            Ok(node) => Ok(Ranked::Node(node)),
+            Err(_) => Err(RankFault::Memory),
+        },
+    }
+}

@@ -1,0 +1,129 @@
+// The greedy rounds over the cases of a component.
+
+ghost use Rattle.std.specs.Prelude.{◌≡◌, ◌<◌, ◌^◌, ◌++◌, ◌∷◌, [], length, IfOk};
+ghost use Rattle.std.specs.Result.{IfErr};
+ghost use Rattle.tv_rank.specs.Sets.{PointsOf};
+ghost use Rattle.tv_cases.specs.Systems.{cases_of};
+ghost use Rattle.tv_rank.specs.Given.{AreNumbered};
+ghost use Rattle.tv_lexrank.specs.Greedy.{without as spec_without, IsTurn, IsGreedy, RefusesTurnIn, RefusesGreedyIn};
+
+use crate::component::Component;
+use crate::{RankFault, Round};
+use std::alloc::{AllocError, Global};
+use tv_linear::Region;
+use tv_rank::{Found, Name, rank_place};
+use tv_simplex::push_item;
+
+/// What a round gives: the round that takes a case out, or a barrier for each case that is left.
+#[derive(Drop)]
+pub enum Turn {
+    Took(Round),
+    Stuck(Vec<Vec<i128>>),
+}
+
+/// What the rounds give: they take every case out, or a set is left with barriers.
+#[derive(Drop)]
+pub enum Greedy {
+    Emptied(Vec<Round>),
+    Left {
+        left: Vec<u32>,
+        barriers: Vec<Vec<i128>>,
+    },
+}
+
+/// Puts more numbers at the end of a list.
+fn append(numbers: &mut Vec<u32>, more: &[u32]) -> Result<(), AllocError>
+    ensures { IfOk result (λ _. numbers.new.items ≡ numbers.old.items ++ more.now) }
+{
+    'more: for number in more {
+        push_item(numbers, *number)?;
+    }
+    Ok(())
+}
+
+/// The list without the item at a place.
+#[tactic(auto, using(crate::proofs::Removing::taken_apart))]
+fn without(alloc: Global, set: &[u32], place: usize) -> Result<Vec<u32>, AllocError>
+    requires { place < length set.now }
+    ensures { IfOk result (λ v. v.items ≡ spec_without set.now place) }
+{
+    let (before, _) = set.split_at(place);
+    let (_, behind) = set.split_at(place + 1);
+    let mut rest = Vec::from_slice(alloc, before)?;
+    append(&mut rest, behind)?;
+    Ok(rest)
+}
+
+/// One round over the set: the first case that a family of terms falls over is taken out.
+fn take_turn(
+    alloc: Global,
+    component: &Component,
+    known: &Region,
+    set: &[u32],
+    round: u32,
+) -> Result<Turn, RankFault>
+    requires numbered { AreNumbered (length (cases_of component.now.about.now).cases) set.now }
+    requires pieces { length known.now.pieces.items ≡ (cases_of component.now.about.now).locations }
+    requires points { PointsOf (cases_of component.now.about.now) known.now.pieces.items set.now }
+    ensures turn { IfOk result (λ t. IsTurn (cases_of component.now.about.now) known.now.pieces.items set.now t) }
+    ensures refusals { IfErr result (λ e. RefusesTurnIn component.now known.now.pieces.items set.now round e) }
+{
+    let mut barriers = Vec::new(alloc);
+    'places: for place in 0..set.len() {
+        match rank_place(alloc, component.about, set, place, known, component.pivots) {
+            Err(fault) => {
+                return Err(RankFault::Solve {
+                    system: Name::Rank {
+                        component: component.number,
+                        round,
+                        falling: set[place],
+                    },
+                    fault,
+                });
+            }
+            Ok(Found::None { barrier }) => push_item(&mut barriers, barrier)?,
+            Ok(Found::Family { terms, multipliers }) => {
+                return Ok(Turn::Took(Round {
+                    set: Vec::from_slice(alloc, set)?,
+                    place,
+                    terms,
+                    multipliers,
+                }));
+            }
+        }
+    }
+    Ok(Turn::Stuck(barriers))
+}
+
+/// Takes cases out of the set round by round, until it is empty or stuck.
+pub fn rounds_of(
+    alloc: Global,
+    component: &Component,
+    known: &Region,
+    set: Vec<u32>,
+) -> Result<Greedy, RankFault>
+    requires numbered { AreNumbered (length (cases_of component.now.about.now).cases) set.items }
+    requires few { length set.items < 2 ^ 32 }
+    requires pieces { length known.now.pieces.items ≡ (cases_of component.now.about.now).locations }
+    requires points { PointsOf (cases_of component.now.about.now) known.now.pieces.items set.items }
+    ensures greedy { IfOk result (λ g. IsGreedy (cases_of component.now.about.now) known.now.pieces.items set.items g) }
+    ensures refusals { IfErr result (λ e. RefusesGreedyIn component.now known.now.pieces.items set.items e) }
+{
+    let count = set.len();
+    let mut rounds = Vec::new(alloc);
+    let mut left = set;
+    'rounds: for round in 0..count {
+        let turn = match take_turn(alloc, component, known, &left, round as u32) {
+            Ok(turn) => turn,
+            Err(fault) => return Err(fault),
+        };
+        match turn {
+            Turn::Stuck(barriers) => return Ok(Greedy::Left { left, barriers }),
+            Turn::Took(taken) => {
+                left = without(alloc, &left, taken.place)?;
+                push_item(&mut rounds, taken)?;
+            }
+        }
+    }
+    Ok(Greedy::Emptied(rounds))
+}

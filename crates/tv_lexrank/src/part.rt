@@ -1,0 +1,58 @@
+// The ranks of one component.
+
+ghost use Rattle.std.specs.Prelude.{◌≡◌, length, IfOk};
+ghost use Rattle.std.specs.Result.{IfErr};
+ghost use Rattle.tv_cases.specs.Systems.{cases_of};
+ghost use Rattle.tv_lexrank.specs.Ranking.{HasLexicographicRanking};
+ghost use Rattle.tv_lexrank.specs.Rounds.{AreBare};
+ghost use Rattle.tv_lexrank.specs.Parts.{IsPartedIn, IsDone, AreGrouped, RefusesPartIn};
+
+use crate::component::Component;
+use crate::greedy::{Greedy, rounds_of};
+use crate::sorting::{Sorted, sort_cases};
+use crate::{RankFault, Round};
+use std::alloc::Global;
+use tv_linear::Region;
+
+/// A component: its cases, and the rounds that take out those with a rational point.
+#[derive(Drop)]
+pub struct Part {
+    pub sorted: Sorted,
+    pub rounds: Vec<Round>,
+}
+
+/// A component with its rounds, or a set of its cases that is stuck.
+#[derive(Drop)]
+pub enum Parted {
+    Done(Part),
+    Stuck {
+        set: Vec<u32>,
+        barriers: Vec<Vec<i128>>,
+    },
+}
+
+/// Ranks the cases inside a component, without known rows.
+pub fn part_of(alloc: Global, component: &Component, known: &Region) -> Result<Parted, RankFault>
+    requires pieces { length known.now.pieces.items ≡ (cases_of component.now.about.now).locations }
+    requires bare { AreBare known.now.pieces.items }
+    ensures parted { IfOk result (λ p. IsPartedIn component.now known.now.pieces.items p) }
+    ensures never_stuck { AreGrouped (cases_of component.now.about.now) component.now.numbers.now → HasLexicographicRanking (cases_of component.now.about.now) → IfOk result IsDone }
+    ensures refusals { IfErr result (λ e. RefusesPartIn component.now known.now.pieces.items e) }
+{
+    let sorted = match sort_cases(alloc, component) {
+        Ok(sorted) => sorted,
+        Err(fault) => return Err(fault),
+    };
+    let set = match Vec::from_slice(alloc, &sorted.set) {
+        Ok(set) => set,
+        Err(_) => return Err(RankFault::Memory),
+    };
+    match rounds_of(alloc, component, known, set) {
+        Err(fault) => Err(fault),
+        Ok(Greedy::Emptied(rounds)) => Ok(Parted::Done(Part { sorted, rounds })),
+        Ok(Greedy::Left { left, barriers }) => Ok(Parted::Stuck {
+            set: left,
+            barriers,
+        }),
+    }
+}

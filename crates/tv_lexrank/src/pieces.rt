@@ -1,0 +1,140 @@
+// The pieces of the node of a ranking: one at each location, without rows, with its ranks.
+
+ghost use Rattle.std.specs.Prelude.{◌≡◌, ◌+◌, ◌-◌, ◌<◌, ◌≤◌, ◌^◌, ◌++◌, [], length, All, IfOk, pos};
+ghost use Rattle.tv_linear.specs.Arithmetic.{constant_row};
+ghost use Rattle.tv_linear.specs.Linear.{columns};
+ghost use Rattle.tv_cases.specs.Systems.{cases_of};
+ghost use Rattle.tv_cert.specs.MarkedRows.{marked};
+ghost use Rattle.tv_cert.specs.declared.node.Mark.TheVariants.{Go};
+ghost use Rattle.tv_rank.specs.Rankings.{local_term};
+ghost use Rattle.tv_lexrank.specs.Steps.{AreRanked};
+ghost use Rattle.tv_lexrank.specs.Pieces.{zero_ranks, padded_ranks, ranked_piece, ranked_pieces};
+
+use crate::Round;
+use crate::ranking::Ranking;
+use std::alloc::{AllocError, Global};
+use tv_cert::{Mark, Marked};
+use tv_linear::Row;
+use tv_rank::LocalTerm;
+use tv_simplex::push_item;
+
+/// A copy of the term at a location.
+fn term_at(
+    alloc: Global,
+    variables: u32,
+    terms: &[LocalTerm],
+    location: u32,
+) -> Result<Row, AllocError>
+    requires { variables < 2 ^ 32 - 1 }
+    ensures { IfOk result (λ row. row ≡ local_term variables terms.now location) }
+{
+    'terms: for term in terms {
+        if term.location == location {
+            let row = term.row.copy(alloc)?;
+            return Ok(row);
+        }
+    }
+    let row = Row::zero(alloc, variables)?;
+    Ok(row)
+}
+
+/// Puts so many terms that are 0 at the end of the list.
+fn push_zeros(
+    ranks: &mut Vec<Row>,
+    alloc: Global,
+    variables: u32,
+    count: u32,
+) -> Result<(), AllocError>
+    requires { variables < 2 ^ 32 - 1 }
+    ensures { IfOk result (λ _. ranks.new.items ≡ ranks.old.items ++ zero_ranks variables count) }
+{
+    'zeros: for zero in 0..count {
+        let _zero = zero;
+        push_item(ranks, Row::zero(alloc, variables)?)?;
+    }
+    Ok(())
+}
+
+/// The term that is this number.
+fn number_row(alloc: Global, variables: u32, number: u32) -> Result<Row, AllocError>
+    requires { variables < 2 ^ 32 - 1 }
+    ensures { IfOk result (λ row. row ≡ constant_row variables (pos number)) }
+{
+    let zero = Row::zero(alloc, variables)?;
+    let row = zero.with_constant(alloc, i128::from(number))?;
+    Ok(row)
+}
+
+/// The ranks at a location of a component: the number of the component, the terms of its rounds, and zeros up to so many.
+fn ranks_of(
+    alloc: Global,
+    variables: u32,
+    component: u32,
+    rounds: &[Round],
+    location: u32,
+    count: u32,
+) -> Result<Vec<Row>, AllocError>
+    requires few { variables < 2 ^ 32 - 1 }
+    requires enough { length rounds.now + 1 ≤ count }
+    ensures { IfOk result (λ v. v.items ≡ padded_ranks variables component rounds.now location count) }
+{
+    let mut ranks = Vec::new(alloc);
+    push_item(&mut ranks, number_row(alloc, variables, component)?)?;
+    'rounds: for round in rounds {
+        push_item(
+            &mut ranks,
+            term_at(alloc, variables, &round.terms, location)?,
+        )?;
+    }
+    push_zeros(
+        &mut ranks,
+        alloc,
+        variables,
+        count - 1 - rounds.len() as u32,
+    )?;
+    Ok(ranks)
+}
+
+/// The piece of all states at a location, with these ranks.
+fn whole_piece(
+    alloc: Global,
+    variables: u32,
+    location: u32,
+    ranks: &[Row],
+) -> Result<Marked, AllocError>
+    requires few { variables < 2 ^ 32 - 1 }
+    requires wide { All (λ r. columns r ≡ variables) ranks.now }
+    ensures { IfOk result (λ piece. piece ≡ marked location variables Go [] ranks.now) }
+{
+    match Marked::from_rows(alloc, location, Mark::Go, variables, &[], ranks)? {
+        Some(piece) => Ok(piece),
+        None => unreachable!(),
+    }
+}
+
+/// The piece at a location.
+fn piece_at(alloc: Global, ranking: &Ranking, location: u32) -> Result<Marked, AllocError>
+    requires ranked { AreRanked ranking.now }
+    requires location { location < (cases_of ranking.now.about.now).locations }
+    ensures { IfOk result (λ piece. piece ≡ ranked_piece ranking.now location) }
+{
+    let variables = ranking.about.variables();
+    let component = ranking.component_of(location);
+    let rounds = ranking.rounds(component);
+    let ranks = ranks_of(alloc, variables, component, rounds, location, ranking.count)?;
+    let piece = whole_piece(alloc, variables, location, &ranks)?;
+    Ok(piece)
+}
+
+/// The pieces of all locations, in order.
+pub fn pieces_of(alloc: Global, ranking: &Ranking) -> Result<Vec<Marked>, AllocError>
+    requires { AreRanked ranking.now }
+    ensures { IfOk result (λ v. v.items ≡ ranked_pieces ranking.now (cases_of ranking.now.about.now).locations) }
+{
+    let locations = ranking.about.locations();
+    let mut pieces = Vec::with_capacity(alloc, locations as usize)?;
+    'locations: for location in 0..locations {
+        push_item(&mut pieces, piece_at(alloc, ranking, location)?)?;
+    }
+    Ok(pieces)
+}
