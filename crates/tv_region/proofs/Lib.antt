@@ -1,0 +1,16 @@
+pub mod MetLemmas
+pub mod RowLemmas
+pub mod AddLemmas
+pub mod RegionLemmas
+pub mod AlgebraLemmas
+pub mod BackLemmas
+pub mod CaseLemmas
+pub mod StepLemmas
+pub mod EveryLemmas
+pub mod StepRegionLemmas
+pub mod Between
+pub mod SumLemmas
+pub mod DifferenceLemmas
+pub mod DrawLemmas
+pub mod PartLemmas
+pub mod ShadowLemmas

@@ -1,0 +1,27 @@
+use Rattle.std.proofs.Common.{◌⊎◌, ◌∙◌, ◌*◌, ◌-◌, ◌^◌, min, length, sym, refl, subst}
+use Rattle.tv_cases.specs.Given.{lists, row_lists}
+use Rattle.tv_region.specs.Met.{InSome}
+use Rattle.tv_region.specs.Adding.{IsProduct, NoColumn}
+use Rattle.tv_region.specs.Regions.{IsCountAt}
+use Rattle.tv_region.proofs.AlgebraLemmas.{region_fault, many_at}
+use Rattle.tv_region.proofs.counted.product_at.Goals as goal
+
+pub products-requires-clause-first : goal.products-requires-clause-first
+products-requires-clause-first c = λ r h. c.requires.first r h ∙ sym c.limits_for-limits.ensures.columns
+
+pub products-requires-clause-second : goal.products-requires-clause-second
+products-requires-clause-second c = λ r h. c.requires.second r h ∙ sym c.limits_for-limits.ensures.columns
+
+pub returns-in-Ok-clause-product : goal.returns-in-Ok-clause-product
+returns-in-Ok-clause-product c = subst (λ n. IsProduct n (row_lists c.args.first.now) (row_lists c.args.second.now) (lists c.in-Ok.made)) c.limits_for-limits.ensures.columns c.in-Ok.ensures.product
+
+pub returns-in-Err-clause-refused : goal.returns-in-Err-clause-refused
+returns-in-Err-clause-refused c =
+    let a = row_lists c.args.first.now in
+    let b = row_lists c.args.second.now in
+    let p = many_at c.args.first.now (length c.args.first.now) a refl refl in
+    let q = many_at c.args.second.now (length c.args.second.now) b refl refl in
+    region_fault c.limits_for-limits.result c.args.columns (λ r. InSome a r ⊎ InSome b r) (λ r. InSome a r ⊎ InSome b r) NoColumn NoColumn (IsCountAt c.args.location (length a * length b)) c.args.budget.now c.args.location c.saturating_mul-count.result c.in-Err.fault c.refusal.result
+    c.limits_for-limits.ensures.columns c.limits_for-limits.ensures.pivots c.limits_for-limits.ensures.most
+    (refl, c.saturating_mul-count.ensures ∙ (λ i. min (p i * q i) (2 ^ 64 - 1)))
+    (λ r h. h) (λ x w. w) c.in-Err.ensures.refused c.refusal.ensures

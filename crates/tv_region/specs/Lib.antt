@@ -1,0 +1,11 @@
+pub mod Met
+pub mod Adding
+pub mod Regions
+pub mod Algebra
+pub mod AlgebraAt
+pub mod Back
+pub mod Made
+pub mod Differences
+pub mod Draws
+pub mod Steps
+pub mod StepRegions

@@ -1,0 +1,64 @@
+// Lists of a location that are joined with others or denied, within the budget.
+
+ghost use Rattle.std.specs.Prelude.{◌≡◌, ◌⊎◌, ◌*◌, ◌-◌, ◌^◌, ◌<◌, IfOk, length};
+ghost use Rattle.std.specs.Result.{IfErr};
+ghost use Rattle.tv_linear.specs.Linear.{Linear, columns as width};
+ghost use Rattle.tv_cases.specs.Given.{lists, row_lists};
+ghost use Rattle.tv_region.specs.Met.{InSome};
+ghost use Rattle.tv_region.specs.Adding.{IsProduct, IsComplement, IsDenied, IsWideDenial, row_product, NoColumn};
+ghost use Rattle.tv_region.specs.Regions.{IsCountAt, IsRegionFault};
+
+use crate::RegionFault;
+use crate::limits::limits_for;
+use crate::lists::{product_of_lengths, refusal};
+use crate::products::{complement_of, products};
+use std::alloc::Global;
+use tv_farkas::Budget;
+use tv_linear::Row;
+
+/// Each list of the first joined with each of the second.
+pub(crate) fn product_at(
+    alloc: Global,
+    first: &[Vec<Row>],
+    second: &[Vec<Row>],
+    location: u32,
+    columns: u32,
+    budget: &Budget,
+) -> Result<Vec<Vec<Row>>, RegionFault>
+    requires few { columns < 2 ^ 32 - 1 }
+    requires first { (r : Linear) → InSome (row_lists first.now) r → width r ≡ columns }
+    requires second { (r : Linear) → InSome (row_lists second.now) r → width r ≡ columns }
+    ensures product { IfOk result (λ v. IsProduct columns (row_lists first.now) (row_lists second.now) (lists v)) }
+    ensures refused { IfErr result (IsRegionFault columns (λ r. InSome (row_lists first.now) r ⊎ InSome (row_lists second.now) r) NoColumn (IsCountAt location (length (row_lists first.now) * length (row_lists second.now))) budget.now) }
+{
+    let count = (first.len() as u64).saturating_mul(second.len() as u64);
+    let limits = limits_for(budget, columns, count);
+    match products(alloc, first, second, &limits) {
+        Ok(made) => Ok(made),
+        Err(fault) => Err(refusal(fault, location, count)),
+    }
+}
+
+/// Lists of which one is met where none of these is.
+pub(crate) fn rest_of(
+    alloc: Global,
+    first: &[Vec<Row>],
+    location: u32,
+    columns: u32,
+    budget: &Budget,
+) -> Result<Vec<Vec<Row>>, RegionFault>
+    requires few { columns < 2 ^ 32 - 1 }
+    requires wide { (r : Linear) → InSome (row_lists first.now) r → width r ≡ columns }
+    ensures complement { IfOk result (λ v. IsComplement columns (row_lists first.now) (lists v)) }
+    ensures refused { IfErr result (IsRegionFault columns (IsDenied (InSome (row_lists first.now))) (IsWideDenial (InSome (row_lists first.now))) (IsCountAt location (row_product (row_lists first.now))) budget.now) }
+{
+    let count = product_of_lengths(first);
+    if count == 0 {
+        return Ok(Vec::new(alloc));
+    }
+    let limits = limits_for(budget, columns, count);
+    match complement_of(alloc, first, &limits) {
+        Ok(made) => Ok(made),
+        Err(fault) => Err(refusal(fault, location, count)),
+    }
+}
