@@ -2,10 +2,10 @@
 # How long the built program takes to read programs with as many cases, edges and coefficients as there may be, and to make their
 # cases, and how much memory. The best of 5 runs, in which its start and the reading of its input are counted, the least time of a processor
 # that one of them took, which other work on the machine changes less, and the best time of reading alone.
-# Build it first: (cd crates/reading_bench && rt run -- sum < /dev/null)
+# Build it first: (cd crates/timing && rt run)
 set -eu
 cd "$(dirname "$0")/.."
-exec python3 - crates/reading_bench/out/reading_bench <<'END_OF_PROGRAM'
+exec python3 - crates/timing/out/timing <<'END_OF_PROGRAM'
 import os, subprocess, sys, tempfile, time
 
 LIMIT = 8_000_000
@@ -69,7 +69,7 @@ for name, text in TEXTS:
     best, processor = min(run[0] for run in runs), min(run[1] for run in runs)
     most = max(run[3] for run in runs)
     print(
-        f"{name:40s} {runs[0][2]:20s} {best * 1000:7.1f} ms, {processor * 1000:6.1f} ms of a processor  {most:4d} MB"
+        f"{name:40s} {runs[0][2]:54s} {best * 1000:7.1f} ms, {processor * 1000:6.1f} ms of a processor  {most:4d} MB"
         f"  (reading {reading * 1000:5.1f} ms)",
         flush=True,
     )

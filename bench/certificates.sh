@@ -6,7 +6,7 @@
 # same lines, which takes one product and one sum for each number. The best of 5 runs, start and reading of the input counted. First with
 # the heading of a certificate alone, which takes what the program and its cases take; then what comes on top is told.
 # It needs /usr/bin/time, and what is built first by (cd crates/t2verdict && rt run < stdin -- $(cat args)) and
-# (cd crates/reading_bench && rt run -- sum < stdin).
+# (cd crates/timing && rt run).
 set -eu
 cd "$(dirname "$0")/.."
 folder=$(mktemp -d)
@@ -163,7 +163,7 @@ program = fork_of("")
 write("16", "bare", program + ["CERTIFICATE:"])
 write("16", "checked", program + ["CERTIFICATE:", "T2CERT 1", "proved", "node next 1 0", "piece 0 go 1", line("row", [1] * 8000000)])
 END_OF_TEXTS
-python3 - crates/t2verdict/out/t2verdict crates/reading_bench/out/reading_bench "$folder" <<'END_OF_RUNS'
+python3 - crates/t2verdict/out/t2verdict crates/timing/out/timing "$folder" <<'END_OF_RUNS'
 import os, subprocess, sys, time
 
 CHECKER, SCANNER, FOLDER = sys.argv[1:]

@@ -3,10 +3,10 @@
 # has three numbers besides 0 and eight variables are updated, and dense, where each number of each row is one of -3 to 3 and each variable
 # is updated. Known are the row that comes of it and 16 rows whose multiplier is 0. Printed are the time of one row and its ratio to a plain scan: one
 # product and one sum for each number of the known rows and of the row that is shown. The word tells how many runs the best is taken of.
-# Build it first: (cd crates/checking_bench && rt run -- once 1 < stdin)
+# Build it first: (cd crates/timing && rt run)
 set -eu
 cd "$(dirname "$0")/.."
-exec python3 - crates/checking_bench/out/checking_bench "${1:-3}" <<'END_OF_PROGRAM'
+exec python3 - crates/timing/out/timing "${1:-3}" <<'END_OF_PROGRAM'
 import random, subprocess, sys, tempfile, time
 
 KNOWN = 16

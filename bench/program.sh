@@ -3,10 +3,10 @@
 # 2 MiB with 4,096 edges, each over 1,024 locations and 512 variables. The best of 10 runs, in which its start and the reading of its
 # input are counted, and the least time of a processor that one of them took, with its ratio to the line before. First with commands as a
 # translator writes them, and then with commands as short as can be, for as many tokens as a text of that size may have.
-# Build it first: (cd crates/reading_bench && rt run -- sum < /dev/null)
+# Build it first: (cd crates/timing && rt run)
 set -eu
 cd "$(dirname "$0")/.."
-exec python3 - crates/reading_bench/out/reading_bench <<'END'
+exec python3 - crates/timing/out/timing <<'END'
 import os, subprocess, sys, tempfile, time
 
 

@@ -1,9 +1,9 @@
 #!/usr/bin/env bash
 # How long the built program takes to read a sum or a condition of 1 MiB and of 2 MiB, for each kind of text.
-# Build it first: (cd crates/reading_bench && rt run -- sum < /dev/null)
+# Build it first: (cd crates/timing && rt run)
 set -eu
 cd "$(dirname "$0")/.."
-program=crates/reading_bench/out/reading_bench
+program=crates/timing/out/timing
 work=$(mktemp -d)
 trap 'rm -r "$work"' EXIT
 

@@ -4,10 +4,10 @@
 # as there may be. The best of 3 runs, in which its start and the reading of the text are counted, and the least time of a processor that
 # one of them took, beside that of a run that tries no basis. The word tells how many bases are tried, 4,000 if left out. Where glpsol is
 # installed, it solves the same equations by exact arithmetic.
-# Build it first: (cd crates/solving_bench && rt run -- solve 99 < stdin)
+# Build it first: (cd crates/timing && rt run)
 set -eu
 cd "$(dirname "$0")/.."
-exec python3 - crates/solving_bench/out/solving_bench "${1:-4000}" <<'END_OF_PROGRAM'
+exec python3 - crates/timing/out/timing "${1:-4000}" <<'END_OF_PROGRAM'
 import os, random, resource, shutil, subprocess, sys, tempfile, time
 
 PROGRAM, PIVOTS = sys.argv[1], sys.argv[2]
@@ -98,22 +98,22 @@ def other_solver(table, right):
 
 
 SYSTEMS = [
-    ("dense 6 x 9", "solve", lambda: drawn(6, 9, 1.0, 1)),
-    ("dense 10 x 15", "solve", lambda: drawn(10, 15, 1.0, 2)),
-    ("dense 20 x 30", "solve", lambda: drawn(20, 30, 1.0, 3)),
-    ("sparse 20 x 30", "solve", lambda: drawn(20, 30, 0.1, 4)),
-    ("sparse 60 x 90", "solve", lambda: drawn(60, 90, 0.03, 5)),
-    ("flow 50 x 150", "solve", lambda: flow(50, 150, True, 6)),
-    ("flow 200 x 600", "solve", lambda: flow(200, 600, True, 7)),
-    ("flow 200 x 600, no solution", "solve", lambda: flow(200, 600, False, 7)),
-    ("cycle of 50 differences", "refute", lambda: differences(50, True)),
-    ("chain of 50 differences", "refute", lambda: differences(50, False)),
-    ("cycle of 300 differences", "refute", lambda: differences(300, True)),
-    ("flow 200 x 20,000", "solve", lambda: flow(200, 20_000, True, 8)),
-    ("flow 2,000 x 2,000", "solve", lambda: flow(2_000, 2_000, True, 9)),
-    ("flow 4,000 x 1,000", "solve", lambda: flow(4_000, 1_000, True, 10)),
-    ("flow 8,000 x 500", "solve", lambda: flow(8_000, 500, True, 11)),
-    ("flow 100,000 x 40", "solve", lambda: flow(100_000, 40, True, 12)),
+    ("dense 6 x 9", "solving", lambda: drawn(6, 9, 1.0, 1)),
+    ("dense 10 x 15", "solving", lambda: drawn(10, 15, 1.0, 2)),
+    ("dense 20 x 30", "solving", lambda: drawn(20, 30, 1.0, 3)),
+    ("sparse 20 x 30", "solving", lambda: drawn(20, 30, 0.1, 4)),
+    ("sparse 60 x 90", "solving", lambda: drawn(60, 90, 0.03, 5)),
+    ("flow 50 x 150", "solving", lambda: flow(50, 150, True, 6)),
+    ("flow 200 x 600", "solving", lambda: flow(200, 600, True, 7)),
+    ("flow 200 x 600, no solution", "solving", lambda: flow(200, 600, False, 7)),
+    ("cycle of 50 differences", "refuting", lambda: differences(50, True)),
+    ("chain of 50 differences", "refuting", lambda: differences(50, False)),
+    ("cycle of 300 differences", "refuting", lambda: differences(300, True)),
+    ("flow 200 x 20,000", "solving", lambda: flow(200, 20_000, True, 8)),
+    ("flow 2,000 x 2,000", "solving", lambda: flow(2_000, 2_000, True, 9)),
+    ("flow 4,000 x 1,000", "solving", lambda: flow(4_000, 1_000, True, 10)),
+    ("flow 8,000 x 500", "solving", lambda: flow(8_000, 500, True, 11)),
+    ("flow 100,000 x 40", "solving", lambda: flow(100_000, 40, True, 12)),
 ]
 
 compares = shutil.which("glpsol") is not None
@@ -128,7 +128,7 @@ for name, word, made in SYSTEMS:
         seconds, answer, memory, processor = best([word, PIVOTS], file.name)
     line = f"{name:28s} {answer:22s} {seconds * 1000:8.1f} ms, {processor * 1000:8.1f} ms of a processor"
     line += f" ({reading * 1000:8.1f} ms where no basis is tried)  {memory:5d} MB"
-    if compares and word == "solve":
+    if compares and word == "solving":
         other, said = other_solver(table, right)
         line += f"  glpsol {said} {other * 1000:9.1f} ms, ratio {seconds / other:6.2f}"
     print(line, flush=True)

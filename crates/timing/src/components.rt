@@ -1,11 +1,9 @@
-//! Finds the components of a graph of 1,024 nodes and 4,096 arcs, as often as the first word says.
-#![tactic(auto)]
+//! The components of a graph of 1,024 nodes and 4,096 arcs.
 
 ghost use Rattle.std.specs.Prelude.{All, IsTrue};
 ghost use Rattle.tv_graph.specs.Graph.{IsBetween};
 
 use std::alloc::{AllocError, Global};
-use std::{env, io};
 use tv_graph::{Arc, components};
 
 const NODES: u32 = 1024;
@@ -31,19 +29,14 @@ fn graph(alloc: Global) -> Result<Vec<Arc>, AllocError> {
     Ok(arcs)
 }
 
-fn main(rt: HostRuntime) -> io::Result<()> {
-    let alloc = rt.alloc();
-    let mut rounds = 1;
-    for word in env::args(&rt)?.skip(1) {
-        rounds = word.parse::<u32>().unwrap_or(1);
-    }
+/// How many nodes the components have, which are found so many times.
+pub(crate) fn found(alloc: Global, times: u64) -> Result<String, AllocError> {
     let arcs = graph(alloc)?;
     let mut nodes = 0;
     if are_in_range(NODES, &arcs) {
-        for _ in 0..rounds {
+        for _ in 0..times {
             nodes = components(alloc, NODES, &arcs)?.len();
         }
     }
-    println!(rt; "{nodes} nodes")?;
-    Ok(())
+    format!(in alloc; "{nodes} nodes")
 }
