@@ -62,6 +62,8 @@ fn programs_are_read_again(rt: HostRuntime) -> Result<(), Fail> {
         "START: 0; FROM: 0; TO: 1; FROM: 1; assume(x > 0); x := x - 1; TO: 1;",
         "START: a; FROM: b; AT(1, x) y := ((2)) * -(x - -at); assume(!(y < nondet() && true)); TO: a;",
         "START: 1; CUTPOINT: 4; FROM: 2; term := nondet() - nondet(); TO: 3;",
+        "START: 0; FROM: 0; assume(!(!!(x > 0)) && (true || y-1 != x)); TO: 0;",
+        "START: 0; FROM: 0; assume((a < b && (false && -a == 3)) || ((c >= (0)))); TO: 0;",
     ] {
         assert!(rt; text.len() < 200);
         let (first, second) = program_again(rt.alloc(), text.as_bytes())?;

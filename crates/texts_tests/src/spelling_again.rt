@@ -6,7 +6,7 @@ use std::test::Fail;
 use tv_language::scan;
 use tv_program::{Cond, Expr, Names};
 use tv_reading::{PartFault, Reading};
-use tv_spelling::{write_condition, write_sum};
+use tv_spelling::{append_sum, write_condition, write_sum};
 
 /// The failure of a call that fails for want of memory alone.
 fn no_memory(fault: PartFault) -> Fail
@@ -16,8 +16,8 @@ fn no_memory(fault: PartFault) -> Fail
     Fail::from("no memory")
 }
 
-/// The sum in front of a text, what is written of it, and the sum of that: the same one.
-fn sum_again(alloc: Global, text: &[u8]) -> Result<(Expr, Expr, Vec<u8>), Fail>
+/// The sum in front of a text, and that of the text that is written of it: the same one; and the names.
+fn sum_again(alloc: Global, text: &[u8]) -> Result<(Expr, Expr, Names), Fail>
     requires { length text.now + 1 < 2 ^ 32 }
     ensures { IfOk result (λ both. expression both.1 ≡ expression both.0) }
 {
@@ -37,13 +37,13 @@ fn sum_again(alloc: Global, text: &[u8]) -> Result<(Expr, Expr, Vec<u8>), Fail>
     let tokens = scan(alloc, &written)?;
     let mut second = Reading::new(alloc, &written, &tokens, names, true);
     match second.sum() {
-        Ok(again) => Ok((expr, again, written)),
+        Ok(again) => Ok((expr, again, second.finish())),
         Err(fault) => Err(no_memory(fault)),
     }
 }
 
 /// The condition in front of a text, likewise.
-fn condition_again(alloc: Global, text: &[u8]) -> Result<(Cond, Cond, Vec<u8>), Fail>
+fn condition_again(alloc: Global, text: &[u8]) -> Result<(Cond, Cond, Names), Fail>
     requires { length text.now + 1 < 2 ^ 32 }
     ensures { IfOk result (λ both. condition both.1 ≡ condition both.0) }
 {
@@ -63,21 +63,21 @@ fn condition_again(alloc: Global, text: &[u8]) -> Result<(Cond, Cond, Vec<u8>), 
     let tokens = scan(alloc, &written)?;
     let mut second = Reading::new(alloc, &written, &tokens, names, true);
     match second.condition() {
-        Ok(again) => Ok((tested, again, written)),
+        Ok(again) => Ok((tested, again, second.finish())),
         Err(fault) => Err(no_memory(fault)),
     }
 }
 
-/// What is written of the sum in front of a text.
-fn sum_text(alloc: Global, text: &[u8]) -> Result<Vec<u8>, Fail> {
-    if text.len() >= 1000 {
-        return Err(Fail::from("a long text"));
-    }
-    let (_, _, written) = sum_again(alloc, text)?;
-    Ok(written)
+/// Whether two sums have one text.
+fn are_alike(alloc: Global, first: &Expr, second: &Expr, names: &Names) -> Result<bool, Fail> {
+    let mut one = Vec::new(alloc);
+    append_sum(alloc, &mut one, first, names)?;
+    let mut other = Vec::new(alloc);
+    append_sum(alloc, &mut other, second, names)?;
+    Ok(one.as_slice() == other.as_slice())
 }
 
-// What is written of a sum is read again, and is the text of itself.
+// What is written of a sum is read again.
 #[test]
 fn sums_are_read_again(rt: HostRuntime) -> Result<(), Fail> {
     for text in [
@@ -86,32 +86,23 @@ fn sums_are_read_again(rt: HostRuntime) -> Result<(), Fail> {
         "-(-at) - (term - (c)) * 1",
         "4611686018427387903 - /* most */ 00",
     ] {
-        let written = sum_text(rt.alloc(), text.as_bytes())?;
-        let again = sum_text(rt.alloc(), &written)?;
-        assert!(rt; written.as_slice() == again.as_slice(), "{text}");
+        assert!(rt; text.len() < 200);
+        let (first, second, names) = sum_again(rt.alloc(), text.as_bytes())?;
+        assert!(rt; are_alike(rt.alloc(), &first, &second, &names)?, "{text}");
     }
     Ok(())
 }
 
-/// What is written of the condition in front of a text.
-fn condition_text(alloc: Global, text: &[u8]) -> Result<Vec<u8>, Fail> {
-    if text.len() >= 1000 {
-        return Err(Fail::from("a long text"));
-    }
-    let (_, _, written) = condition_again(alloc, text)?;
-    Ok(written)
-}
-
-// What is written of a condition is read again, and is the text of itself.
+// What is written of a condition is read again. That the two are the same is proved; programs have their texts compared.
 #[test]
 fn conditions_are_read_again(rt: HostRuntime) -> Result<(), Fail> {
-    for text in [
-        "!(!!(x > 0)) && (true || y-1 != x)",
-        "(a < b && (false && -a == 3)) || ((c >= (0)))",
+    for (text, count) in [
+        ("!(!!(x > 0)) && (true || y-1 != x)", 2),
+        ("(a < b && (false && -a == 3)) || ((c >= (0)))", 3),
     ] {
-        let written = condition_text(rt.alloc(), text.as_bytes())?;
-        let again = condition_text(rt.alloc(), &written)?;
-        assert!(rt; written.as_slice() == again.as_slice(), "{text}");
+        assert!(rt; text.len() < 200);
+        let (_, _, names) = condition_again(rt.alloc(), text.as_bytes())?;
+        assert_eq!(rt; names.len(), count, "{text}");
     }
     Ok(())
 }
