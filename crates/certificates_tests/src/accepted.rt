@@ -1,3 +1,7 @@
+ghost use Rattle.std.specs.Prelude.{◌≡◌};
+ghost use Rattle.tv_cases.specs.Systems.{cases_of};
+ghost use Rattle.tv_cert.specs.Claims.{StatesIts, claim_variables};
+
 use crate::tasks::{Task, claimed, text_of};
 use crate::texts::{CLIMBER, COUNTDOWN, DOWN, ENDED, ENDLESS, LOOP, NEVER_BELOW};
 use std::alloc::Global;
@@ -63,7 +67,10 @@ fn says(accepted: &Accepted, wanted: &Met) -> bool {
         && accepted.obligations == wanted.obligations
 }
 
-fn is_accepted(alloc: Global, task: &Task, wanted: &Met) -> Result<bool, Fail> {
+fn is_accepted(alloc: Global, task: &Task, wanted: &Met) -> Result<bool, Fail>
+    requires states { StatesIts task.now.claim }
+    requires variables { claim_variables task.now.claim ≡ (cases_of task.now.about).variables }
+{
     let text = text_of(alloc, wanted.front, wanted.end)?;
     match check_text(alloc, &text, &task.about, &task.claim) {
         Ok(accepted) => Ok(says(&accepted, wanted)),
@@ -71,7 +78,10 @@ fn is_accepted(alloc: Global, task: &Task, wanted: &Met) -> Result<bool, Fail> {
     }
 }
 
-fn is_read(alloc: Global, task: &Task, wanted: &Met) -> Result<bool, Fail> {
+fn is_read(alloc: Global, task: &Task, wanted: &Met) -> Result<bool, Fail>
+    requires states { StatesIts task.now.claim }
+    requires variables { claim_variables task.now.claim ≡ (cases_of task.now.about).variables }
+{
     let text = text_of(alloc, wanted.front, wanted.end)?;
     match read_certificate(alloc, &text, &task.about, &task.claim) {
         Ok(certificate) => Ok(certificate.obligations() == wanted.obligations),

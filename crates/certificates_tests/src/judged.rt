@@ -1,3 +1,7 @@
+ghost use Rattle.std.specs.Prelude.{◌≡◌};
+ghost use Rattle.tv_cases.specs.Systems.{cases_of};
+ghost use Rattle.tv_cert.specs.Claims.{StatesIts, claim_variables};
+
 use crate::tasks::{Task, claimed, text_of};
 use crate::texts::{STANDING, STAYING};
 use std::alloc::Global;
@@ -63,12 +67,10 @@ const CHOICES: [(&str, Option<TextFailing>); 4] = [
     ),
 ];
 
-fn is_told(
-    alloc: Global,
-    task: &Task,
-    end: &str,
-    wanted: Option<TextFailing>,
-) -> Result<bool, Fail> {
+fn is_told(alloc: Global, task: &Task, end: &str, wanted: Option<TextFailing>) -> Result<bool, Fail>
+    requires states { StatesIts task.now.claim }
+    requires variables { claim_variables task.now.claim ≡ (cases_of task.now.about).variables }
+{
     let text = text_of(alloc, STAYING, end)?;
     let failing = check_text(alloc, &text, &task.about, &task.claim).err();
     Ok(failing == wanted)

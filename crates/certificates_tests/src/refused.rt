@@ -1,3 +1,7 @@
+ghost use Rattle.std.specs.Prelude.{◌≡◌};
+ghost use Rattle.tv_cases.specs.Systems.{cases_of};
+ghost use Rattle.tv_cert.specs.Claims.{StatesIts, claim_variables};
+
 use crate::tasks::{Task, claimed, text_of};
 use crate::texts::{CLIMBER, COUNTDOWN, DOWN, ENDED, ENDLESS, LOOP, NEVER_BELOW};
 use std::alloc::Global;
@@ -102,7 +106,10 @@ const OTHERS: [Unmet; 5] = [
     },
 ];
 
-fn is_refused(alloc: Global, task: &Task, unmet: &Unmet) -> Result<bool, Fail> {
+fn is_refused(alloc: Global, task: &Task, unmet: &Unmet) -> Result<bool, Fail>
+    requires states { StatesIts task.now.claim }
+    requires variables { claim_variables task.now.claim ≡ (cases_of task.now.about).variables }
+{
     let text = text_of(alloc, unmet.front, unmet.end)?;
     match check_text(alloc, &text, &task.about, &task.claim) {
         Ok(_) => Err(Fail::from("it is not met")),
@@ -111,7 +118,10 @@ fn is_refused(alloc: Global, task: &Task, unmet: &Unmet) -> Result<bool, Fail> {
 }
 
 /// Whether it is read exactly where an obligation is at fault and no line is.
-fn is_read_where_it_may_be(alloc: Global, task: &Task, unmet: &Unmet) -> Result<bool, Fail> {
+fn is_read_where_it_may_be(alloc: Global, task: &Task, unmet: &Unmet) -> Result<bool, Fail>
+    requires states { StatesIts task.now.claim }
+    requires variables { claim_variables task.now.claim ≡ (cases_of task.now.about).variables }
+{
     let text = text_of(alloc, unmet.front, unmet.end)?;
     let is_read = read_certificate(alloc, &text, &task.about, &task.claim).is_ok();
     Ok(is_read == matches!(unmet.wanted, TextFailing::Obligation(_)))

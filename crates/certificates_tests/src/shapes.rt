@@ -1,3 +1,7 @@
+ghost use Rattle.std.specs.Prelude.{◌≡◌};
+ghost use Rattle.tv_cases.specs.Systems.{cases_of};
+ghost use Rattle.tv_cert.specs.Claims.{StatesIts, claim_variables};
+
 use crate::sketches::{Part, fork, into, leaf, refuted, start, take, values};
 use crate::tasks::{Task, claimed};
 use crate::texts::{EXITING, TURNING};
@@ -13,7 +17,10 @@ fn made(
     task: &Task,
     verdict: Verdict,
     root: Node,
-) -> Result<Result<Certificate, u32>, Fail> {
+) -> Result<Result<Certificate, u32>, Fail>
+    requires states { StatesIts task.now.claim }
+    requires variables { claim_variables task.now.claim ≡ (cases_of task.now.about).variables }
+{
     match Certificate::new(alloc, &task.about, &task.claim, verdict, root) {
         Ok(certificate) => Ok(Ok(certificate)),
         Err(ShapeFault::Shape { node }) => Ok(Err(node)),

@@ -16,8 +16,6 @@ use tv_reader::read_program;
 pub struct Task {
     pub about: Cases,
     pub claim: Claim,
-    ghost states: { StatesIts claim },
-    ghost variables: { claim_variables claim ≡ (cases_of about).variables },
 }
 
 fn program_of(alloc: Global, text: &str) -> Result<Program, Fail> {
@@ -50,7 +48,10 @@ fn about_of(alloc: Global, program: &Program) -> Result<Cases, Fail>
 }
 
 /// The property claimed of the program.
-pub fn claimed(alloc: Global, program: &str, property: &str) -> Result<Task, Fail> {
+pub fn claimed(alloc: Global, program: &str, property: &str) -> Result<Task, Fail>
+    ensures states { IfOk result (λ t. StatesIts t.claim) }
+    ensures variables { IfOk result (λ t. claim_variables t.claim ≡ (cases_of t.about).variables) }
+{
     let program = program_of(alloc, program)?;
     let claim = claim_of(alloc, property, &program)?;
     let about = about_of(alloc, &program)?;
