@@ -1,33 +1,12 @@
 //! Checks certificates for properties of integer programs.
 #![tactic(auto)]
 
-mod answer;
-mod assignment;
-#[cfg(test)]
-mod case_tests;
-#[cfg(test)]
-mod certificate_tests;
-mod judging;
-#[cfg(test)]
-mod limit_tests;
-mod property;
-#[cfg(test)]
-mod property_tests;
-mod run;
-mod status;
-#[cfg(test)]
-mod tests;
-#[cfg(test)]
-mod texts;
-mod words;
-
-use run::run;
-use status::Status;
 use std::alloc::{AllocError, Global};
 use std::env;
 use std::io::ErrorKind;
 use std::process::ExitCode;
 use tv_text::{ReaderSource, WriterSink};
+use tv_top::{Status, run};
 
 /// The words behind the program's name, or none where one of them is no text: no question has such a word.
 fn given_words(rt: &HostRuntime) -> Result<Vec<String>, AllocError> {

@@ -1,13 +1,15 @@
 -- What the certificate of a claim says all of whose obligations are met.
-use Rattle.std.proofs.Common.{◌≡◌, ◌+◌, ◌++◌, ◌∷◌, [], ◌<◌, ◌^◌, OnOk, Result, Ok, Err, List, length, arith, sym, ap, subst, length-append}
+use Rattle.std.proofs.Common.{◌≡◌, ◌+◌, ◌++◌, ◌∷◌, [], ◌<◌, ◌^◌, OnOk, Result, Ok, Err, List, length, arith, refl, sym, ap, subst, ◌∙◌, length-append}
 use Rattle.std.specs.Prelude.{MatchResult}
 use Rattle.tv_program.specs.Systems.{System}
+use Rattle.tv_formula.specs.Normal.{normal, negation}
 use Rattle.tv_formula.specs.Properties.{Property, term}
 use Rattle.tv_cases.specs.Comparisons.{comparison_lists}
 use Rattle.tv_cases.specs.LinearCases.{CaseSystem}
 use Rattle.tv_cases.specs.Answers.{IsOfProgram, HaveSameSteps}
 use Rattle.tv_cert.specs.declared.claim.Claim.{Claim}
 use Rattle.tv_cert.specs.declared.node.Marked.{Marked}
+use Rattle.tv_cert.specs.declared.node.Node.{Node}
 use Rattle.tv_cert.specs.declared.node.Verdict.{Verdict}
 use Rattle.tv_cert.specs.declared.node.Verdict.TheVariants.{Proved, Disproved}
 use Rattle.tv_cert.specs.Claims.{IsClaim, about_with, shown}
@@ -22,12 +24,23 @@ use Rattle.tv_cert.proofs.ShapeFits.{shape_fits}
 use Rattle.tv_cert.specs.declared.failing.Failing.{Failing}
 use Rattle.tv_shape.specs.declared.certificate.Certificate.{Certificate}
 use Rattle.tv_shape.specs.Certificates.{IsOf}
-use Rattle.tv_check_text.proofs.TextLemmas.{owed_is}
+use Rattle.tv_cert.proofs.SaidLemmas.{entries-stated}
 use Rattle.tv_sound.specs.Following.{FollowsFrom}
 use Rattle.tv_sound.specs.Settled.{IsSettled}
+use Rattle.tv_sound.proofs.Ending.{ends_negated}
 use Rattle.tv_sound.proofs.Claimed.{shown_of, ValuesCounted, claim_sound, claim_followed}
 
 -- ---- the obligations by the statement of the root
+
+root_same : (system : CaseSystem) (ps : List Marked) (verdict : Verdict) → root_entry (about_of system) ps verdict ≡ root_entry (about_with system) ps verdict
+root_same system ps (Proved start) = refl
+root_same system ps (Disproved k values) = refl
+
+owed_is : (system : CaseSystem) (f : Property) (s : Statement) (root : Node) (verdict : Verdict) → s ≡ stated (about_with system).tests f
+    → said_entries 0 system s root ++ root_entry (about_of system) (pieces_of root) verdict ∷ [] ≡ obligations (about_with system) f root verdict
+owed_is system f s root verdict same =
+    (λ i. said_entries 0 system (same i) root ++ root_entry (about_of system) (pieces_of root) verdict ∷ [])
+    ∙ (λ i. entries-stated 0 (about_with system) f root i ++ root_same system (pieces_of root) verdict i ∷ [])
 
 module _ (system : CaseSystem) (f : Property) (c : Certificate) (s : Statement) (same : s ≡ stated (comparison_lists system.variables) f) (fits : IsOf (about_with system) f c) where
   pub owed : said_entries 0 system s c.root ++ root_entry (about_of system) (pieces_of c.root) c.verdict ∷ [] ≡ obligations (about_with system) f c.root c.verdict
@@ -62,11 +75,13 @@ module _ (p : System) (system : CaseSystem) (of_program : IsOfProgram p system) 
       (subst (λ g. AllMet (obligations (about_with system) g c.root c.verdict)) e met)
       (counted system (pieces_of c.root) c.verdict fits.fits.said.shape)
 
-  pub follows : (verdict : Verdict) → c.verdict ≡ verdict → IsClaim claim term → FollowsFrom p system c.root verdict
-  follows (Proved start) e h = tt
-  follows (Disproved k values) e h =
+  pub follows : (verdict : Verdict) → c.verdict ≡ verdict → (f : Property) → IsClaim claim f → normal f ≡ term → FollowsFrom p system c.root verdict
+  follows (Proved start) e f h n = tt
+  follows (Disproved k values) e f h n =
+      let shows : AllMet (obligations (about_with system) (negation f) c.root (Disproved k values)) =
+      subst (λ v. AllMet (obligations (about_with system) (shown_of f v) c.root v)) e (subst (λ g. AllMet (obligations (about_with system) g c.root c.verdict)) (shown_is claim f c.verdict h) met) in
       claim_followed p system of_program steps c.root k values
-      (subst (λ v. AllMet (obligations (about_with system) (shown_of term v) c.root v)) e (subst (λ g. AllMet (obligations (about_with system) g c.root c.verdict)) (shown_is claim term c.verdict h) met))
+      (subst (λ g. AllMet (obligations (about_with system) g c.root (Disproved k values))) (ends_negated f n) shows)
       (subst (ValuesCounted system.variables) e (counted system (pieces_of c.root) c.verdict fits.fits.said.shape))
 
 pub on_ok : (A B : Type 0) (P : Failing → Type 0) (result : Result (Unit {0}) Failing) → MatchResult result (λ done. A) P → (A → B) → OnOk result B

@@ -9,4 +9,5 @@ mod NodesSound
 mod Following
 mod Soundness
 mod Claimed
-mod ClaimLemmas
+mod Ending
+pub mod ClaimLemmas

@@ -1,5 +1,6 @@
 ghost use Rattle.std.specs.Prelude.{◌≡◌, OnOk};
 ghost use Rattle.tv_program.specs.Programs.{system_of};
+ghost use Rattle.tv_formula.specs.Normal.{normal};
 ghost use Rattle.tv_formula.specs.Properties.{Property, term};
 ghost use Rattle.tv_cases.specs.Systems.{cases_of};
 ghost use Rattle.tv_cases.specs.Answers.{IsOfProgram, HaveSameSteps};
@@ -36,7 +37,7 @@ pub fn check_claim(
     // The property holds at every initial state, or it fails at the values.
     ensures settled { (f : Property) → IsClaim claim.now f → OnOk result (IsSettled (system_of program.now) f certificate.now.verdict) }
     // Where it is disproved that all runs end, the choices lead along an endless run.
-    ensures followed { IsClaim claim.now term → OnOk result (FollowsFrom (system_of program.now) (cases_of about.now) certificate.now.root certificate.now.verdict) }
+    ensures followed { (f : Property) → IsClaim claim.now f → normal f ≡ term → OnOk result (FollowsFrom (system_of program.now) (cases_of about.now) certificate.now.root certificate.now.verdict) }
 {
     let verdict = certificate.verdict();
     check(about, claim.aim(verdict), certificate.root(), verdict)

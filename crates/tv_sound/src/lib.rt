@@ -2,9 +2,5 @@
 #![tactic(auto)]
 
 mod claims;
-#[cfg(test)]
-mod tests;
-mod texts;
 
 pub use claims::check_claim;
-pub use texts::check_claim_text;

@@ -1,4 +1,5 @@
 pub mod Headings
 pub mod Calls
 pub mod Memory
+pub mod Outside
 pub mod Stream

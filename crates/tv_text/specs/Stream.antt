@@ -1,30 +1,32 @@
-use Rattle.std.specs.Prelude.{◌≡◌, ℕ, ◌+◌, ◌-◌, ◌^◌, ◌≤◌, List, [], ◌++◌, Option, None, Some, min, length}
+-- What passes through streams of bytes.
+use Rattle.std.specs.Prelude.{◌≡◌, ℕ, ◌+◌, ◌-◌, ◌^◌, ◌≤◌, List, ◌++◌, Option, min, length}
+use Rattle.std.specs.Io.KnownBytes.{Consumes, Appends}
 
--- the bytes that a stream tells, with more bytes in front of them
-abbrev pub before : List ℕ → Option (List ℕ) → Option (List ℕ)
-before bytes None = None
-before bytes (Some rest) = Some (bytes ++ rest)
+-- what a stream tells of itself
+pub record Seen : Type 0 where
+  -- the bytes that a source has not yet handed out, or that a sink holds, where that is known
+  pub known : Option (List ℕ)
+  -- the bytes that came out of the calls of a source, or that the calls of a sink took, in order
+  pub told : List ℕ
 
--- the bytes that a stream tells, with more bytes behind them
-abbrev pub after : Option (List ℕ) → List ℕ → Option (List ℕ)
-after None bytes = None
-after (Some front) bytes = Some (front ++ bytes)
+-- between two states of a source exactly these bytes came out of its calls, and it has lost them
+pub record Gave (old new : Seen) (bytes : List ℕ) : Type 0 where
+  pub told : new.told ≡ old.told ++ bytes
+  pub lost : Consumes old.known new.known bytes
 
--- nothing is left, where the source tells what is left
-abbrev pub IsAtEnd : Option (List ℕ) → Type 0
-IsAtEnd None = Unit {0}
-IsAtEnd (Some rest) = rest ≡ []
+-- a source handed out some bytes, and lost them
+pub record GaveSome (old new : Seen) : Type 0 where
+  pub bytes : List ℕ
+  pub gave : Gave old new bytes
 
--- a source has lost a front of what it held
-pub record LosesFront (old new : Option (List ℕ)) : Type 0 where
-  pub front : List ℕ
-  pub lost : old ≡ before front new
+-- between two states of a sink its calls took exactly these bytes, and it holds them behind the others
+pub record Took (old new : Seen) (bytes : List ℕ) : Type 0 where
+  pub told : new.told ≡ old.told ++ bytes
+  pub held : Appends old.known new.known bytes
 
--- how many bytes were read between two states of a source, where it tells them
-abbrev pub count_read : Option (List ℕ) → Option (List ℕ) → Option ℕ
-count_read None _ = None
-count_read (Some old) None = None
-count_read (Some old) (Some new) = Some (length old - length new)
+-- how many bytes passed between two states of a stream
+abbrev pub count_passed : Seen → Seen → ℕ
+count_passed old new = length new.told - length old.told
 
 -- A count of faults has risen. A stream of finite size may fail for ever, so no count in it can rise
 -- without end: one that has come to the last number of 64 bits stays there.

@@ -5,6 +5,7 @@
 mod calls;
 mod mem_sink;
 mod mem_source;
+mod passed;
 mod reader_source;
 mod reading;
 mod split;
@@ -20,8 +21,3 @@ pub use split::split_texts;
 pub use streams::{Failed, Sink, Source};
 pub use writer_sink::WriterSink;
 pub use writing::{WriteError, write_all};
-
-#[cfg(test)]
-mod tests;
-#[cfg(test)]
-mod given_tests;

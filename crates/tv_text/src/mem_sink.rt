@@ -1,8 +1,8 @@
 ghost use Rattle.std.specs.Prelude.{◌≡◌, ◌+◌, ◌-◌, ◌^◌, ◌<◌, ◌≤◌, ◌↔◌, ◌⊎◌, [], IfOk, OnOk, OnErr, IsErr, length, take, min};
 ghost use Rattle.std.specs.declared.option.Option.TheVariants.{Some};
 ghost use Rattle.tv_text.specs.Calls.{call_after, Fails};
-ghost use Rattle.tv_text.specs.Memory.{room_left};
-ghost use Rattle.tv_text.specs.Stream.{after, Rose};
+ghost use Rattle.tv_text.specs.Memory.{room_left, sink_seen};
+ghost use Rattle.tv_text.specs.Stream.{Took, Rose};
 
 use crate::calls::{fails_at, next_call};
 use crate::streams::{Failed, Sink};
@@ -75,7 +75,7 @@ impl MemSink {
 }
 
 impl Sink for MemSink {
-    ghost written = { λ s. Some s.written };
+    ghost seen = { sink_seen };
 
     ghost faults = { λ s. s.faults };
 
@@ -85,9 +85,8 @@ impl Sink for MemSink {
         // As each sink promises.
         ensures some { IfOk result (λ count. 0 < count) }
         ensures within { IfOk result (λ count. count ≤ length bytes.now) }
-        ensures taken { IfOk result (λ count.
-            Some self.new.written ≡ after (Some self.old.written) (take count bytes.now)) }
-        ensures kept { OnErr result (Some self.new.written ≡ Some self.old.written) }
+        ensures taken { IfOk result (λ count. Took (sink_seen self.old) (sink_seen self.new) (take count bytes.now)) }
+        ensures kept { OnErr result (Took (sink_seen self.old) (sink_seen self.new) []) }
         ensures counted { OnErr result (Rose self.old.faults self.new.faults) }
         ensures later { self.old.faults ≤ self.new.faults }
 

@@ -1,7 +1,9 @@
-ghost use Rattle.std.specs.Prelude.{◌≡◌, ◌+◌, ◌<◌, ◌≤◌, ◌↔◌, IfOk, OnOk, OnErr, IsErr, length, take, drop, min};
+ghost use Rattle.std.specs.Prelude.{◌≡◌, ◌+◌, ◌<◌, ◌≤◌, ◌↔◌, [], IfOk, OnOk, OnErr, IsErr, length, take, drop, min};
 ghost use Rattle.std.specs.declared.option.Option.TheVariants.{Some};
+ghost use Rattle.std.specs.Io.KnownBytes.{IsAtEnd};
 ghost use Rattle.tv_text.specs.Calls.{call_after, Fails};
-ghost use Rattle.tv_text.specs.Stream.{before, IsAtEnd, Rose};
+ghost use Rattle.tv_text.specs.Memory.{source_seen};
+ghost use Rattle.tv_text.specs.Stream.{Gave, Rose};
 
 use crate::calls::{fails_at, next_call};
 use crate::streams::{Failed, Source};
@@ -20,7 +22,7 @@ pub struct MemSource {
 }
 
 impl Model for MemSource {
-    ghost use Rattle.std.specs.Prelude.{◌<◌, ◌≤◌, drop, vec_len};
+    ghost use Rattle.std.specs.Prelude.{◌<◌, ◌≤◌, take, drop, vec_len};
     ghost use Rattle.std.specs.Option.{ForSome};
     ghost use Rattle.tv_text.specs.Memory.{SourceState};
 
@@ -28,6 +30,7 @@ impl Model for MemSource {
 
     ghost view = { λ s. record {
       held = drop s.at s.bytes.items;
+      told = take s.at s.bytes.items;
       piece = s.piece;
       fails = s.fails.items;
       call = s.call;
@@ -43,6 +46,7 @@ impl MemSource {
     pub fn new(bytes: Vec<u8>, piece: usize, fails: Vec<u64>) -> MemSource
         requires { 0 < piece }
         ensures held { result.held ≡ bytes.items }
+        ensures told { result.told ≡ [] }
         ensures piece { result.piece ≡ piece }
         ensures fails { result.fails ≡ fails.items }
         ensures call { result.call ≡ Some 1 }
@@ -60,7 +64,7 @@ impl MemSource {
 }
 
 impl Source for MemSource {
-    ghost held = { λ s. Some s.held };
+    ghost seen = { source_seen };
 
     ghost faults = { λ s. s.faults };
 
@@ -69,10 +73,9 @@ impl Source for MemSource {
 
         // As each source promises.
         ensures within { IfOk result (λ count. count ≤ length buf.new) }
-        ensures given { IfOk result (λ count.
-            Some self.old.held ≡ before (take count buf.new) (Some self.new.held)) }
-        ensures end { IfOk result (λ count. count ≡ 0 → IsAtEnd (Some self.old.held)) }
-        ensures kept { OnErr result (Some self.new.held ≡ Some self.old.held) }
+        ensures given { IfOk result (λ count. Gave (source_seen self.old) (source_seen self.new) (take count buf.new)) }
+        ensures end { IfOk result (λ count. count ≡ 0 → IsAtEnd (Some self.new.held)) }
+        ensures kept { OnErr result (Gave (source_seen self.old) (source_seen self.new) []) }
         ensures counted { OnErr result (Rose self.old.faults self.new.faults) }
         ensures later { self.old.faults ≤ self.new.faults }
 

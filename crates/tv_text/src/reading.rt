@@ -1,5 +1,6 @@
-ghost use Rattle.std.specs.Prelude.{◌≡◌, ◌<◌, ◌≤◌, ◌↔◌, IfOk, IfSome, OnOk, vec_len};
-ghost use Rattle.tv_text.specs.Stream.{before, count_read, IsAtEnd, LosesFront, Rose};
+ghost use Rattle.std.specs.Prelude.{◌≡◌, ◌<◌, ◌≤◌, ◌↔◌, IfOk, OnOk, vec_len};
+ghost use Rattle.std.specs.Io.KnownBytes.{IsAtEnd};
+ghost use Rattle.tv_text.specs.Stream.{count_passed, Gave, GaveSome, Rose};
 
 use crate::streams::{Failed, Source};
 use std::alloc::{AllocError, Global};
@@ -40,21 +41,19 @@ const PIECE: usize = 4096;
 
 /// Reads all that is left, unless more than `limit` bytes come. After an error the bytes that came
 /// are lost.
-#[tactic(auto, using(crate::proofs::StreamLemmas::loses_front))]
 pub fn read_all<S: Source>(
     alloc: Global,
     source: &mut S,
     limit: usize,
 ) -> Result<Vec<u8>, ReadError>
-    ensures whole { IfOk result (λ text.
-        S.held source.old ≡ before text.items (S.held source.new)) }
-    ensures end { OnOk result (IsAtEnd (S.held source.new)) }
+    ensures whole { IfOk result (λ text. Gave (S.seen source.old) (S.seen source.new) text.items) }
+    ensures end { OnOk result (IsAtEnd (S.seen source.new).known) }
     ensures short { IfOk result (λ text. vec_len text ≤ limit) }
 
-    // Whatever the result, the source lost a front of what it held.
-    ensures lost { LosesFront (S.held source.old) (S.held source.new) }
-    ensures long { IfSome (count_read (S.held source.old) (S.held source.new)) (λ count.
-        (result ≡ Err ReadError.TooLong) ↔ (limit < count)) }
+    // Whatever the result, the source lost exactly what came out of its calls.
+    ensures lost { GaveSome (S.seen source.old) (S.seen source.new) }
+    ensures long { (result ≡ Err ReadError.TooLong) ↔
+        (limit < count_passed (S.seen source.old) (S.seen source.new)) }
 
     ensures fault { result ≡ Err ReadError.Fault →
         Rose (S.faults source.old) (S.faults source.new) }

@@ -1,5 +1,6 @@
-ghost use Rattle.std.specs.Prelude.{◌≡◌, ℕ, ◌<◌, ◌≤◌, List, Option, IfOk, OnErr, length, take};
-ghost use Rattle.tv_text.specs.Stream.{before, after, IsAtEnd, Rose};
+ghost use Rattle.std.specs.Prelude.{◌≡◌, ℕ, ◌<◌, ◌≤◌, [], IfOk, OnErr, length, take};
+ghost use Rattle.std.specs.Io.KnownBytes.{IsAtEnd};
+ghost use Rattle.tv_text.specs.Stream.{Seen, Gave, Took, Rose};
 
 /// A call to the outside failed.
 #[derive(Clone, Copy, Debug, PartialEq, Eq)]
@@ -7,8 +8,8 @@ pub struct Failed;
 
 /// Where bytes come from.
 pub trait Source {
-    /// The bytes not yet read, where the source tells them.
-    ghost held: { Self → Option (List ℕ) };
+    /// The bytes not yet read, where they are known, and those that its calls have handed out.
+    ghost seen: { Self → Seen };
     /// How many calls have failed.
     ghost faults: { Self → ℕ };
 
@@ -17,20 +18,19 @@ pub trait Source {
     fn read(&mut self, buf: &mut [u8]) -> Result<usize, Failed>
         requires { 0 < length buf.old }
         ensures within { IfOk result (λ count. count ≤ length buf.new) }
-        ensures given { IfOk result (λ count.
-            held self.old ≡ before (take count buf.new) (held self.new)) }
-        ensures end { IfOk result (λ count. count ≡ 0 → IsAtEnd (held self.old)) }
+        ensures given { IfOk result (λ count. Gave (seen self.old) (seen self.new) (take count buf.new)) }
+        ensures end { IfOk result (λ count. count ≡ 0 → IsAtEnd (seen self.new).known) }
 
         // A failed call loses nothing, and is counted.
-        ensures kept { OnErr result (held self.new ≡ held self.old) }
+        ensures kept { OnErr result (Gave (seen self.old) (seen self.new) []) }
         ensures counted { OnErr result (Rose (faults self.old) (faults self.new)) }
         ensures later { faults self.old ≤ faults self.new };
 }
 
 /// Where bytes go.
 pub trait Sink {
-    /// The bytes written, where the sink tells them.
-    ghost written: { Self → Option (List ℕ) };
+    /// The bytes written, where they are known, and those that its calls have taken.
+    ghost seen: { Self → Seen };
     /// How many calls have failed.
     ghost faults: { Self → ℕ };
 
@@ -39,11 +39,10 @@ pub trait Sink {
         requires { 0 < length bytes.now }
         ensures some { IfOk result (λ count. 0 < count) }
         ensures within { IfOk result (λ count. count ≤ length bytes.now) }
-        ensures taken { IfOk result (λ count.
-            written self.new ≡ after (written self.old) (take count bytes.now)) }
+        ensures taken { IfOk result (λ count. Took (seen self.old) (seen self.new) (take count bytes.now)) }
 
         // A failed call appends nothing, and is counted.
-        ensures kept { OnErr result (written self.new ≡ written self.old) }
+        ensures kept { OnErr result (Took (seen self.old) (seen self.new) []) }
         ensures counted { OnErr result (Rose (faults self.old) (faults self.new)) }
         ensures later { faults self.old ≤ faults self.new };
 }

@@ -1,5 +1,5 @@
 ghost use Rattle.std.specs.Prelude.{◌≡◌, ◌<◌, ◌≤◌, ℕ, OnOk, OnErr, length, take};
-ghost use Rattle.tv_text.specs.Stream.{after, Rose};
+ghost use Rattle.tv_text.specs.Stream.{Took, Rose};
 
 use crate::streams::{Failed, Sink};
 
@@ -18,11 +18,11 @@ impl From<Failed> for WriteError {
 
 /// Writes all bytes, in order. It takes no memory.
 pub fn write_all<K: Sink>(sink: &mut K, bytes: &[u8]) -> Result<(), WriteError>
-    ensures all { OnOk result (K.written sink.new ≡ after (K.written sink.old) bytes.now) }
+    ensures all { OnOk result (Took (K.seen sink.old) (K.seen sink.new) bytes.now) }
 
     // An error comes only after a fault, and leaves a front of the bytes written, but not all.
     ensures front { OnErr result ((count : ℕ) × (count < length bytes.now) ×
-        (K.written sink.new ≡ after (K.written sink.old) (take count bytes.now))) }
+        Took (K.seen sink.old) (K.seen sink.new) (take count bytes.now)) }
     ensures fault { OnErr result (Rose (K.faults sink.old) (K.faults sink.new)) }
     ensures later { K.faults sink.old ≤ K.faults sink.new }
 {

@@ -56,6 +56,6 @@ returns-clause-settled c f h =
     (λ met. settled (system_of c.args.program.now) (cases_of c.args.about.now) c.requires.same_program c.requires.same_steps c.args.claim.now c.args.certificate.now c.requires.fits met f h)
 
 pub returns-clause-followed : goal.returns-clause-followed
-returns-clause-followed c h =
+returns-clause-followed c f h n =
     on_ok _ _ _ c.check.result (returns-clause-exact c)
-    (λ met. follows (system_of c.args.program.now) (cases_of c.args.about.now) c.requires.same_program c.requires.same_steps c.args.claim.now c.args.certificate.now c.requires.fits met c.args.certificate.now.verdict refl h)
+    (λ met. follows (system_of c.args.program.now) (cases_of c.args.about.now) c.requires.same_program c.requires.same_steps c.args.claim.now c.args.certificate.now c.requires.fits met c.args.certificate.now.verdict refl f h n)

@@ -1,0 +1,163 @@
+use crate::texts::{repeated, says};
+use crate::words::MISSING;
+use std::alloc::{AllocError, Global};
+use std::test::Fail;
+use tv_top::Status;
+
+const WORDS: [&str; 3] = ["--check", "--safety", "0"];
+
+const EDGE: &str = "START: 0; FROM: 0; ";
+
+const DRAWN: &str = "TO: 0; FROM: 0; x := nondet(); TO: 0;";
+
+/// What closes 64 brackets behind a number.
+const CLOSED: &str = "1)))))))))))))))))))))))))))))))))))))))))))))))))))))))))))))))); TO: 0;";
+
+/// How a run ends that writes this line: a certificate is wanted and none is there, or the text is refused.
+fn status_with(line: &str) -> Status {
+    if line == MISSING {
+        Status::CertificateRefused
+    } else {
+        Status::Refused
+    }
+}
+
+/// A front, a part so many times, an end, and the line: at each limit the certificate is missing, past it the text is refused.
+const TEXTS: &[(&str, &str, u32, &str, &str)] = &[
+    (EDGE, "#:=0;", 512, "TO: 0;", MISSING),
+    (
+        EDGE,
+        "#:=0;",
+        513,
+        "TO: 0;",
+        "Refused text too many variables line 1 column 3604\n",
+    ),
+    (
+        EDGE,
+        "#:=0;",
+        512,
+        "assume(z > 0); TO: 0;",
+        "Refused text too many variables line 1 column 3611\n",
+    ),
+    ("START: 0; ", "FROM:#;TO:0;", 1023, "", MISSING),
+    (
+        "START: 0; ",
+        "FROM:#;TO:0;",
+        1024,
+        "",
+        "Refused text too many locations line 1 column 14338\n",
+    ),
+    ("", "FROM:#;TO:#;", 1023, "START: 0;", MISSING),
+    (
+        "",
+        "FROM:#;TO:#;",
+        1024,
+        "START: 0;",
+        "Refused text too many locations line 1 column 16392\n",
+    ),
+    ("START: 0;\n", "FROM: 0; TO: 0;\n", 4096, "", MISSING),
+    (
+        "START: 0;\n",
+        "FROM: 0; TO: 0;\n",
+        4097,
+        "",
+        "Refused text too many edges line 4098 column 1\n",
+    ),
+    (EDGE, "x:=nondet();", 64, "TO: 0;", MISSING),
+    (
+        EDGE,
+        "x:=nondet();",
+        65,
+        "TO: 0;",
+        "Refused text too many draws line 1 column 791\n",
+    ),
+    (EDGE, "x:=nondet();", 64, DRAWN, MISSING),
+    ("START: 0; FROM: 0; x := ", "(", 64, CLOSED, MISSING),
+    (
+        "START: 0; FROM: 0; x := ",
+        "(",
+        65,
+        CLOSED,
+        "Refused text deep line 1 column 89\n",
+    ),
+    ("START: 0; FROM: 0; x := ", "-", 64, "1; TO: 0;", MISSING),
+    (
+        "START: 0; FROM: 0; x := ",
+        "-",
+        65,
+        "1; TO: 0;",
+        "Refused text deep line 1 column 89\n",
+    ),
+    // The bracket of `assume` opens the first level.
+    (
+        "START: 0; FROM: 0; assume(",
+        "!",
+        63,
+        "true); TO: 0;",
+        MISSING,
+    ),
+    (
+        "START: 0; FROM: 0; assume(",
+        "!",
+        64,
+        "true); TO: 0;",
+        "Refused text deep line 1 column 90\n",
+    ),
+];
+
+#[test]
+fn texts_keep_their_limits(rt: HostRuntime) -> Result<(), Fail> {
+    for (front, part, times, end, line) in TEXTS {
+        let text = repeated(rt.alloc(), front, part, *times, end)?;
+        assert!(rt;
+            says(rt.alloc(), &WORDS, text, line, status_with(line))?,
+            "{times} {part}"
+        );
+    }
+    Ok(())
+}
+
+/// Whether the byte is no blank, and no token begins with it.
+fn begins_no_token(byte: u8) -> bool {
+    !byte.is_ascii_alphanumeric() && !b" \t\r\n\x0c_:;()[]+-*<>!".contains(&byte)
+}
+
+/// A text with this byte in it.
+fn around(alloc: Global, front: &str, byte: u8, end: &str) -> Result<Vec<u8>, AllocError> {
+    let mut text = Vec::from_slice(alloc, front.as_bytes())?;
+    text.push(byte)?;
+    text.extend_from_slice(end.as_bytes())?;
+    Ok(text)
+}
+
+#[test]
+fn many_bytes_begin_no_token(rt: HostRuntime) -> Result<(), Fail> {
+    let count = (0..=255u8).filter(|byte| begins_no_token(*byte)).count();
+    assert!(rt; count == 176);
+    Ok(())
+}
+
+// Each of them alone behind a START, and in a comment, where each byte may stand.
+#[test]
+fn bytes_that_begin_no_token_are_refused(rt: HostRuntime) -> Result<(), Fail> {
+    let refused = "Refused text syntax line 1 column 11\n";
+    for byte in (0..=255u8).filter(|byte| begins_no_token(*byte)) {
+        let alone = around(rt.alloc(), "START: 0; ", byte, "")?;
+        assert!(rt;
+            says(rt.alloc(), &WORDS, alone, refused, Status::Refused)?,
+            "{byte}"
+        );
+        let inside = around(rt.alloc(), "START: 0; /*", byte, "*/")?;
+        assert!(rt;
+            says(
+                rt.alloc(),
+                &WORDS,
+                inside,
+                MISSING,
+                Status::CertificateRefused
+            )?,
+            "{byte}"
+        );
+    }
+    Ok(())
+}

@@ -1,5 +1,0 @@
-pub mod Written
-pub mod Asking
-pub mod Settling
-pub mod Lines
-pub mod Reading

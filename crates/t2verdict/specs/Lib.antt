@@ -1,5 +1,0 @@
-pub mod Answers
-pub mod Questions
-pub mod Properties
-pub mod Judging
-pub mod Headline

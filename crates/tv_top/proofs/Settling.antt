@@ -1,0 +1,54 @@
+use Rattle.std.proofs.Common.{◌≡◌, ℕ, List, sym, subst}
+use Rattle.tv_program.specs.Systems.{System}
+use Rattle.tv_formula.specs.Normal.{normal}
+use Rattle.tv_formula.specs.Properties.{Property, term}
+use Rattle.tv_cases.specs.LinearCases.{CaseSystem}
+use Rattle.tv_cert.specs.declared.claim.Claim.{Claim}
+use Rattle.tv_cert.specs.declared.node.Verdict.{Verdict}
+use Rattle.tv_cert.specs.declared.node.Verdict.TheVariants as verdicts
+use Rattle.tv_cert.specs.Claims.{IsClaim}
+use Rattle.tv_cert_reader.specs.declared.kind.LineKind.TheVariants as kinds
+use Rattle.tv_cert_reader.specs.Wholes.{says}
+use Rattle.tv_check_text.specs.declared.text.TextFailing.{TextFailing}
+use Rattle.tv_check_text.specs.declared.text.TextFailing.TheVariants as certs
+use Rattle.tv_check_text.specs.Rest.{values_of}
+use Rattle.tv_check_text.specs.Texts.{IsUnaccepted}
+use Rattle.tv_sound.specs.Following.{FollowsFrom}
+use Rattle.tv_sound.specs.Settled.{IsSettled}
+use Rattle.tv_top.specs.declared.answer.Answer.{Answer}
+use Rattle.tv_top.specs.declared.answer.Answer.TheVariants.{Proved, Disproved, Obligation, CertificateLine, Words, TooLong, Text, Property as Unnamed, WideEdge, TooManyInEdge, ReadFault, Memory}
+use Rattle.tv_top.specs.Answers.{without_certificate}
+use Rattle.tv_top.specs.Judging.{Accepted, Judges, Says, SaysValues}
+
+-- what a text is answered that is not accepted as a certificate
+pub no_certificate : (p : System) (f : Property) (system : CaseSystem) (text : List ℕ) (claim : Claim) → IsClaim claim f → (failing : TextFailing) → IsUnaccepted system claim text failing → Judges p f system text (without_certificate failing)
+no_certificate p f system text claim is (certs.Syntax line) h = record { claim = claim; is_claim = is; kind = kinds.Syntax; at_fault = h }
+no_certificate p f system text claim is (certs.Wide line) h = record { claim = claim; is_claim = is; kind = kinds.Wide; at_fault = h }
+no_certificate p f system text claim is (certs.Deep line) h = record { claim = claim; is_claim = is; kind = kinds.Deep; at_fault = h }
+no_certificate p f system text claim is (certs.Shape line) h = record { claim = claim; is_claim = is; kind = kinds.Shape; at_fault = h }
+no_certificate p f system text claim is (certs.Obligation failing) h = (record { claim = claim; is_claim = is; certificate = h.certificate; is_certificate = h.is_text }, h.first)
+no_certificate p f system text claim is certs.Memory h = tt
+
+-- the values at which an answer says that the property is disproved
+values_so : (p : System) (f : Property) (system : CaseSystem) (text : List ℕ) (accepted : Accepted f system text) (piece : ℕ) (values : _) → accepted.offer.certificate.verdict ≡ verdicts.Disproved piece values → IsSettled p f (verdicts.Disproved piece values)
+    → (normal f ≡ term → FollowsFrom p system accepted.offer.certificate.root (verdicts.Disproved piece values)) → (answer : Answer) → SaysValues p values.items answer → Judges p f system text answer
+values_so p f system text accepted piece values is settled along (Disproved at) says =
+    record { accepted = accepted; piece = piece; values = values; says = is; names = says.0; same = says.1; fails = settled; endless = along }
+values_so p f system text accepted piece values is settled along Memory says = tt
+values_so p f system text accepted piece values is settled along Proved says = absurd says
+values_so p f system text accepted piece values is settled along (Obligation failing) says = absurd says
+values_so p f system text accepted piece values is settled along (CertificateLine line) says = absurd says
+values_so p f system text accepted piece values is settled along Words says = absurd says
+values_so p f system text accepted piece values is settled along TooLong says = absurd says
+values_so p f system text accepted piece values is settled along (Text fault) says = absurd says
+values_so p f system text accepted piece values is settled along (Unnamed fault) says = absurd says
+values_so p f system text accepted piece values is settled along (WideEdge edge) says = absurd says
+values_so p f system text accepted piece values is settled along (TooManyInEdge edge) says = absurd says
+values_so p f system text accepted piece values is settled along ReadFault says = absurd says
+
+-- what is said of a certificate all of whose obligations are met is so
+pub said_is_so : (p : System) (f : Property) (system : CaseSystem) (text : List ℕ) (accepted : Accepted f system text) (verdict : Verdict) → accepted.offer.certificate.verdict ≡ verdict → IsSettled p f verdict
+    → (normal f ≡ term → FollowsFrom p system accepted.offer.certificate.root verdict) → (answer : Answer) → Says p (says verdict) (values_of verdict) answer → Judges p f system text answer
+said_is_so p f system text accepted (verdicts.Proved start) is settled along answer said =
+    subst (λ a. Judges p f system text a) (sym said) (record { accepted = accepted; start = start; says = is; holds = settled })
+said_is_so p f system text accepted (verdicts.Disproved piece values) is settled along answer said = values_so p f system text accepted piece values is settled along answer said

@@ -1,0 +1,6 @@
+pub mod Answers
+pub mod Questions
+pub mod Properties
+pub mod Judging
+pub mod Headline
+pub mod Accepted

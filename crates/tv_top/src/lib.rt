@@ -1,0 +1,14 @@
+//! The call that the program makes: it answers the question of its words about the text that a source holds.
+#![tactic(auto)]
+
+mod accepting;
+mod answer;
+mod assignment;
+mod judging;
+mod property;
+mod running;
+mod status;
+mod words;
+
+pub use running::run;
+pub use status::Status;
