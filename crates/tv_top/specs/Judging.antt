@@ -14,7 +14,7 @@ use Rattle.tv_cert.specs.Obligations.{AllMet}
 use Rattle.tv_cert_reader.specs.declared.kind.LineKind.{LineKind}
 use Rattle.tv_cert_reader.specs.Texts.{IsCertificateText, IsAtFault}
 use Rattle.tv_check_text.specs.Texts.{owed}
-use Rattle.tv_check.specs.Walks.{IsFirstFailing}
+use Rattle.tv_cert.specs.FirstFailing.{IsFirstFailing}
 use Rattle.tv_shape.specs.declared.certificate.Certificate.{Certificate}
 use Rattle.tv_sound.specs.Following.{Follows}
 use Rattle.tv_sound.specs.Settled.{FailsAt}

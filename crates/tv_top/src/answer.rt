@@ -5,8 +5,7 @@ use crate::assignment::Assignment;
 use crate::status::Status;
 use itoa::Buffer;
 use std::alloc::{AllocError, Global};
-use tv_cert::Kind;
-use tv_check::Failing;
+use tv_cert::{Failing, Kind};
 use tv_formula_reader::FormulaFault;
 use tv_reader::{ReadFault, What};
 
