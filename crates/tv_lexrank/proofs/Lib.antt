@@ -16,3 +16,4 @@ pub mod RankedLemmas
 pub mod CertifiedLemmas
 pub mod StandLemmas
 pub mod PieceLemmas
+pub mod GapLemmas

@@ -15,7 +15,7 @@ use Rattle.tv_lexrank.specs.Offered.{IsStepProof, IsOffered, IsOfferedAt, owed_s
 use Rattle.tv_lexrank.proofs.Chained.{same_of}
 use Rattle.tv_lexrank.proofs.OfferLemmas.{step_offered}
 
-kept_holds : {A : Type 0} (p : A → Bool) (xs : List A) (k : ℕ) (y : A) → slice_get (filter p xs) k ≡ Some y → p y ≡ true
+pub kept_holds : {A : Type 0} (p : A → Bool) (xs : List A) (k : ℕ) (y : A) → slice_get (filter p xs) k ≡ Some y → p y ≡ true
 kept_holds p [] k y h = absurd cc
 kept_holds p (x ∷ xs) k y h = by_test (p x) refl k h (λ i g. kept_holds p xs i y g)
   where
@@ -45,12 +45,12 @@ leaving_at cases l k number h =
       leaves = same_of (case_at cases number).from l (kept_holds (λ c. from_of c == l) cases k (case_at cases number) found);
     }
 
-take_more : {A : Type 0} (xs : List A) (k : ℕ) (x : A) → slice_get xs k ≡ Some x → take (k + 1) xs ≡ take k xs ++ x ∷ []
+pub take_more : {A : Type 0} (xs : List A) (k : ℕ) (x : A) → slice_get xs k ≡ Some x → take (k + 1) xs ≡ take k xs ++ x ∷ []
 take_more [] k x h = absurd cc
 take_more (y ∷ ys) zero x h = (let e : y ≡ x = cc in ap (λ z. z ∷ []) e)
 take_more (y ∷ ys) (suc k) x h = ap (λ n. take n (y ∷ ys)) (let e : suc k + 1 ≡ suc (k + 1) = omega arith in e) ∙ ap (λ zs. y ∷ zs) (take_more ys k x h)
 
-take_all : {A : Type 0} (xs : List A) → take (length xs) xs ≡ xs
+pub take_all : {A : Type 0} (xs : List A) → take (length xs) xs ≡ xs
 take_all [] = refl
 take_all (x ∷ xs) = ap (λ ys. x ∷ ys) (take_all xs)
 

@@ -1,3 +1,4 @@
+pub mod Inside
 pub mod Greedy
 pub mod Ranking
 pub mod Rounds

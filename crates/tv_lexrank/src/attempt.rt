@@ -10,6 +10,7 @@ ghost use Rattle.tv_lexrank.specs.Attempt.{IsAttempt, IsWhole, RefusesAttempt};
 
 use crate::RankFault;
 use crate::component::Component;
+use crate::inside::stands_inside;
 use crate::part::{Part, Parted, part_of};
 use std::alloc::{AllocError, Global};
 use tv_cases::Cases;
@@ -67,11 +68,14 @@ pub fn rank_components(
     ensures never_stuck { AreGrouped (cases_of about.now) numbers.now → HasLexicographicRanking (cases_of about.now) → IfOk result IsWhole }
     ensures refusals { IfErr result (λ e. RefusesAttempt (cases_of about.now) known.now.pieces.items numbers.now pivots e) }
 {
+    let stands = stands_inside(alloc, about, numbers, count)?;
     let mut parts = Vec::new(alloc);
     'components: for number in 0..count {
         let component = Component {
             about,
             numbers,
+            stands: &stands,
+            count,
             number,
             pivots,
         };

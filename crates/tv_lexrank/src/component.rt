@@ -1,9 +1,12 @@
 // A component of the location graph.
 
-ghost use Rattle.std.specs.Prelude.{◌≡◌, length};
+ghost use Rattle.std.specs.Prelude.{◌≡◌, ◌<◌, length};
 ghost use Rattle.tv_cases.specs.Systems.{cases_of};
+ghost use Rattle.tv_places.specs.Places.{IsIndexOf};
+ghost use Rattle.tv_lexrank.specs.Inside.{inside_keys};
 
 use tv_cases::Cases;
+use tv_places::Stand;
 
 /// A component of the location graph, by the number that its locations have.
 #[derive(Drop)]
@@ -11,8 +14,14 @@ pub struct Component<'a> {
     pub about: &'a Cases,
     /// The number of the component of each location.
     pub numbers: &'a [u32],
+    /// Where the cases inside each component stand among all, by its number.
+    pub stands: &'a [Stand],
+    /// How many components there are.
+    pub count: u32,
     pub number: u32,
     /// How many bases of each system are met at most.
     pub pivots: u64,
     pub ghost located: { length numbers.now ≡ (cases_of about.now).locations },
+    pub ghost indexed: { IsIndexOf (inside_keys (cases_of about.now) numbers.now count) stands.now },
+    pub ghost below: { number < count },
 }

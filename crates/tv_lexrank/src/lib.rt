@@ -9,6 +9,7 @@ mod covering;
 mod fault;
 mod first;
 mod greedy;
+mod inside;
 mod node;
 mod offered;
 mod part;

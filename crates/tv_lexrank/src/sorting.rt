@@ -15,6 +15,7 @@ use std::alloc::{AllocError, Global};
 use tv_cases::{Case, Cases};
 use tv_farkas::{Refuted, refute};
 use tv_linear::{Row, shortened};
+use tv_places::{count_of, place_at};
 use tv_rank::Name;
 use tv_simplex::push_item;
 
@@ -57,15 +58,6 @@ fn settle_case(
             Err(_) => Err(RankFault::Memory),
         },
     }
-}
-
-/// Whether a case leads inside a component.
-pub fn leads_inside(numbers: &[u32], component: u32, case: &Case) -> bool
-    requires from { case.now.from < length numbers.now }
-    requires to { case.now.to < length numbers.now }
-    ensures { IsTrue result ↔ LeadsInside numbers.now component (case_view case.now) }
-{
-    numbers[case.from as usize] == component && numbers[case.to as usize] == component
 }
 
 fn case_in(list: &[Case], number: u32) -> &Case
@@ -135,24 +127,6 @@ fn sort_inside(
     }
 }
 
-/// Sorts one more case.
-fn sort_case(
-    alloc: Global,
-    component: &Component,
-    number: u32,
-    sorted: &mut Sorted,
-) -> Result<(), RankFault>
-    requires number { number < length (cases_of component.now.about.now).cases }
-    ensures sorted { IfOk result (λ _. IsSortedIn component.now number sorted.old → IsSortedIn component.now (number + 1) sorted.new) }
-    ensures refusals { IfErr result (λ e. RefusesSortingIn component.now e) }
-{
-    let case = case_of(component.about, number);
-    if leads_inside(component.numbers, component.number, case) {
-        return sort_inside(alloc, component, number, sorted);
-    }
-    Ok(())
-}
-
 /// Sorts the cases inside a component.
 pub fn sort_cases(alloc: Global, component: &Component) -> Result<Sorted, RankFault>
     ensures sorted { IfOk result (λ s. IsSortedIn component.now (length (cases_of component.now.about.now).cases) s) }
@@ -163,10 +137,13 @@ pub fn sort_cases(alloc: Global, component: &Component) -> Result<Sorted, RankFa
         empty: Vec::new(alloc),
         refutations: Vec::new(alloc),
     };
-    'cases: for number in 0..component.about.list().len() as u32 {
-        match sort_case(alloc, component, number, &mut sorted) {
-            Ok(()) => {}
-            Err(fault) => return Err(fault),
+    'places: for place in 0..count_of(component.stands, component.number) {
+        match place_at(component.stands, component.number, place) {
+            Some(number) => match sort_inside(alloc, component, number, &mut sorted) {
+                Ok(()) => {}
+                Err(fault) => return Err(fault),
+            },
+            None => unreachable!(),
         }
     }
     Ok(sorted)
