@@ -1,4 +1,4 @@
-use Rattle.std.proofs.Common.{ℕ, ◌<◌, List, length, take, sym, ap, ◌∙◌, subst}
+use Rattle.std.proofs.Common.{ℕ, ◌<◌, List, length, take, sym, ◌∙◌, subst}
 use Rattle.tv_text.specs.Stream.{Took}
 use Rattle.tv_text.proofs.StreamLemmas.{took_nothing}
 use Rattle.tv_top.specs.declared.answer.Answer.TheVariants.{Memory}
