@@ -111,18 +111,24 @@ const TWO_DRAWS: Example = (
     &[(2, &[], &[(0, (&[0, 0, 1, 0], 0)), (1, (&[0, 0, 1, -1], 0))])],
 );
 
+/// Whether the cases are the wanted ones, in order.
+fn are_wanted(list: &[Case], wanted: &'static [Wanted]) -> bool {
+    if list.len() != wanted.len() {
+        return false;
+    }
+    for (case, numbers) in list.iter().zip(wanted) {
+        if !is_case(case, numbers) {
+            return false;
+        }
+    }
+    true
+}
+
 /// Whether the edges with these commands have the wanted cases.
-fn are_cases(alloc: Global, commands: &str, wanted: &[Wanted]) -> Result<bool, Fail> {
+fn are_cases(alloc: Global, commands: &str, wanted: &'static [Wanted]) -> Result<bool, Fail> {
     let text = repeated(alloc, "START: 0; FROM: 0; ", commands, 1, " TO: 0;")?;
     let cases = cases_of(alloc, &text)??;
-    let list = cases.list();
-    Ok(
-        list.len() == wanted.len()
-            && list
-                .iter()
-                .zip(wanted)
-                .all(|(case, numbers)| is_case(case, numbers)),
-    )
+    Ok(are_wanted(cases.list(), wanted))
 }
 
 #[test]
