@@ -19,7 +19,7 @@ use Rattle.tv_cert.specs.Pieces.{rows_of}
 use Rattle.tv_cert.specs.Targets.{owed_into, target_rows, no_fall}
 use Rattle.tv_shape.specs.Certificates.{IsOf}
 use Rattle.tv_shape.specs.Fitting.{Fits, IsFirstFault}
-use Rattle.tv_shape.specs.Narrow.{AreNarrow, ListsNarrow, CoverNarrow}
+use Rattle.tv_shape.specs.Narrow.{CountNarrow, AreNarrow, ListsNarrow, CoverNarrow}
 use Rattle.tv_shape.specs.declared.certificate.Certificate.{Certificate}
 use Rattle.tv_shape.specs.declared.fault.ShapeFault.{ShapeFault}
 use Rattle.tv_shape.proofs.FaultLemmas.{unfit}
@@ -35,7 +35,9 @@ bare_flat (cover.Into target fall ls) h = refl
 bare_narrow : (tree : CoverTree) → IsBareCover tree → CoverNarrow tree
 bare_narrow (cover.Split' r p a q b) h = absurd h
 bare_narrow (cover.Empty ms) h = absurd h
-bare_narrow (cover.Into target fall ls) h = subst (λ z. ListsNarrow z) (sym h.2) (All-nil (λ l. AreNarrow l.items))
+bare_narrow (cover.Into target fall ls) h =
+    let none : CountNarrow 0 = omega arith in
+    (subst CountNarrow (sym h.0) none, subst CountNarrow (sym h.1) none, subst (λ z. ListsNarrow z) (sym h.2) (All-nil (λ l. AreNarrow l.items)))
 
 -- the cover of a location where the first piece has no rows is met
 bare_met : (n l : ℕ) (ps : List Marked) (tree : CoverTree) → IsBareCover tree → IsWholeAt ps l → IsMetCover n (owed_into ps l given no_fall) [] tree

@@ -1,5 +1,5 @@
 -- The node of a ranking fits and is met.
-use Rattle.std.proofs.Common.{◌⊎◌, inl, inr, All, ◌≡◌, ℕ, zero, suc, ◌+◌, ◌-◌, ◌<◌, ◌≤◌, List, [], ◌∷◌, ◌++◌, length, length-append, map, get_or, Some, true, false, ◌==◌, if◌then◌else◌, arith, refl, sym, ap, ◌∙◌, subst, pos}
+use Rattle.std.proofs.Common.{◌⊎◌, inl, inr, All, ◌≡◌, ℕ, zero, suc, ◌+◌, ◌-◌, ◌^◌, ◌<◌, ◌≤◌, List, [], ◌∷◌, ◌++◌, length, length-append, map, get_or, Some, true, false, ◌==◌, if◌then◌else◌, arith, refl, sym, ap, ◌∙◌, subst, pos}
 use Rattle.std.specs.Prelude.{slice_get}
 use Rattle.std.specs.List.{AllZip, flat_map}
 use Rattle.std.proofs.lemmas.List.{length-map, append-nil}
@@ -22,7 +22,7 @@ use Rattle.tv_cert.specs.Shapes.{ProofShape, PieceShape, OwnShape, HaveShapes}
 use Rattle.tv_cert.proofs.NodeLemmas.{out_is}
 use Rattle.tv_shape.specs.Depths.{proof_splits}
 use Rattle.tv_shape.specs.Fitting.{KidsNarrow, KidsGoWithin}
-use Rattle.tv_shape.specs.Narrow.{ProofNarrow}
+use Rattle.tv_shape.specs.Narrow.{CountNarrow, PieceNarrow, ProofNarrow}
 use Rattle.tv_rank.proofs.Over.{equal, unequal}
 use Rattle.tv_lexrank.specs.declared.round.Round.{Round}
 use Rattle.tv_lexrank.specs.declared.ranking.Ranking.{Ranking}
@@ -196,6 +196,10 @@ no_entries : (number : ℕ) (about : _) {k : _} (kids : Row_of-Node k) → kid_e
 no_entries number about end_of-Node = refl
 no_entries number about (more_of-Node a kids) = refl
 
+length-ranked_pieces : (r : Ranking) (n : ℕ) → length (ranked_pieces r n) ≡ n
+length-ranked_pieces r zero = refl
+length-ranked_pieces r (suc n) = length-append (ranked_pieces r n) (ranked_piece r n ∷ []) ∙ (let h = length-ranked_pieces r n in omega (arith, h))
+
 -- ---- the node
 abbrev asked : Ranking → About
 asked r = about_with (cases_of r.about.now)
@@ -206,11 +210,19 @@ all_pieces r = ranked_pieces r (cases_of r.about.now).locations
 abbrev all_owed : Ranking → ℕ → List Obligation
 all_owed r number = own_of number (asked r) term (all_pieces r) []
 
-pub node_ranked : (r : Ranking) → AreRanked r → (node : Node) (pieces : List Marked) (proofs : List Proof) → pieces ≡ ranked_pieces r (cases_of r.about.now).locations → HasOwn node pieces r.count proofs → AreShownBelow r (cases_of r.about.now).locations proofs → IsRankedNode (cases_of r.about.now) node
-node_ranked r ranked (Node' ps m shape kids list) pieces proofs same own shown = record {
+pub node_ranked : (r : Ranking) → AreRanked r → (node : Node) (pieces : List Marked) (proofs : List Proof) → pieces ≡ ranked_pieces r (cases_of r.about.now).locations → HasOwn node pieces r.count proofs → AreShownBelow r (cases_of r.about.now).locations proofs → (cases_of r.about.now).locations < 2 ^ 32 → All PieceNarrow pieces → IsRankedNode (cases_of r.about.now) node
+node_ranked r ranked (Node' ps m shape kids list) pieces proofs same own shown located slim = record {
   fits = record {
     shape = (own_shape, no_shapes (asked r) kids empty);
-    narrow = (subst (All ProofNarrow) (sym proofs_same) (all_narrow (all_owed r 0) proofs (offered 0)), no_narrow kids empty);
+    narrow = (
+      record {
+        count = (let e = ap length pieces_same in let n = length-ranked_pieces r (cases_of r.about.now).locations in omega (arith, e, n, located));
+        ranks = (let e = ranks_same in let f = r.few in omega (arith, e, f));
+        pieces = subst (All PieceNarrow) (sym given_same) slim;
+        offered = subst (All ProofNarrow) (sym proofs_same) (all_narrow (all_owed r 0) proofs (offered 0));
+      },
+      no_narrow kids empty,
+    );
     depth = (omega arith, subst (All (λ p. 1 + proof_splits p ≤ 384)) (sym proofs_same) (all_flat (all_owed r 0) proofs (offered 0)), no_depth 2 kids empty);
   };
   met = λ number. subst AllMet (sym (entries_are number)) (all_met (all_owed r number) proofs (offered number));
@@ -221,8 +233,11 @@ node_ranked r ranked (Node' ps m shape kids list) pieces proofs same own shown =
   };
 }
   where
+    given_same : ps ≡ pieces
+    given_same = sym (ap (λ x. x.pieces) (outs-Node' ps m shape kids list)) ∙ own.pieces_are
+
     pieces_same : ps ≡ all_pieces r
-    pieces_same = sym (ap (λ x. x.pieces) (outs-Node' ps m shape kids list)) ∙ own.pieces_are ∙ same
+    pieces_same = given_same ∙ same
 
     ranks_same : m ≡ r.count
     ranks_same = sym (ap (λ x. x.ranks) (outs-Node' ps m shape kids list)) ∙ own.ranks_are

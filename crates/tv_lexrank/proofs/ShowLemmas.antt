@@ -10,7 +10,7 @@ use Rattle.tv_linear.specs.declared.region.Piece.{Piece}
 use Rattle.tv_linear.proofs.PlainLists.{length-zeros}
 use Rattle.tv_cases.specs.LinearCases.{CaseSystem}
 use Rattle.tv_cases.specs.Systems.{cases_of}
-use Rattle.tv_shape.specs.Narrow.{AreNarrow, CoverNarrow}
+use Rattle.tv_shape.specs.Narrow.{AreNarrow, CountNarrow, CoverNarrow}
 use Rattle.tv_rank.specs.declared.found.LocalTerm.{LocalTerm}
 use Rattle.tv_rank.specs.Given.{lists}
 use Rattle.tv_rank.specs.Ways.{met_rows, case_at}
@@ -65,10 +65,22 @@ fall_flat j ls (cover.Split' r p a q b) h = absurd h
 fall_flat j ls (cover.Empty ms) h = absurd h
 fall_flat j ls (cover.Into target fall lines) h = refl
 
-fall_narrow : (j : ℕ) (ls : List (List ℤ)) (tree : CoverTree) → IsFall j ls tree → All (All Narrow) ls → CoverNarrow tree
-fall_narrow j ls (cover.Split' r p a q b) h n = absurd h
-fall_narrow j ls (cover.Empty ms) h n = absurd h
-fall_narrow j ls (cover.Into target fall lines) h n = all_back AreNarrow (λ l. l.items) lines.items (subst (All (All Narrow)) (sym h.2) n)
+bounded : (b : Bool) (m n : ℕ) → m ≤ n → (if b then 0 else suc m) ≤ suc n
+bounded true m n h = omega arith
+bounded false m n h = omega (arith, h)
+
+-- no more rounds are before the one in which it falls than there are
+falls_within : (k : ℕ) (rs : List Round) → falls_in k rs ≤ length rs
+falls_within k [] = omega arith
+falls_within k (r ∷ rs) = bounded (falling_of r == k) (falls_in k rs) (length rs) (falls_within k rs)
+
+fall_narrow : (j : ℕ) (ls : List (List ℤ)) (tree : CoverTree) → j < 2 ^ 32 → IsFall j ls tree → All (All Narrow) ls → CoverNarrow tree
+fall_narrow j ls (cover.Split' r p a q b) small h n = absurd h
+fall_narrow j ls (cover.Empty ms) small h n = absurd h
+fall_narrow j ls (cover.Into target fall lines) small h n =
+    let none : CountNarrow 0 = omega arith in
+    let fits : CountNarrow j = omega (arith, small) in
+    (subst CountNarrow (sym h.0) none, subst CountNarrow (sym h.1) fits, all_back AreNarrow (λ l. l.items) lines.items (subst (All (All Narrow)) (sym h.2) n))
 
 refutation_flat : (ms : List ℤ) (tree : CoverTree) → IsRefutation ms tree → splits tree ≡ 0
 refutation_flat ms (cover.Split' r p a q b) h = absurd h
@@ -115,7 +127,7 @@ module _ (r : Ranking) (k : ℕ) where
       (ranks_same v r.numbers.now r.parts.now component p.rounds.items w.taken.to inside.1 rounds)
       (fall_met v w old new (falls_in k p.rounds.items + 2) ls tree f shown)
       (fall_flat (falls_in k p.rounds.items + 2) ls tree f)
-      (fall_narrow (falls_in k p.rounds.items + 2) ls tree f (All-cons (All Narrow) (zero_line (length (met_rows w))) (lines_of k p.rounds.items) (zero_narrow (length (met_rows w))) (chain_narrow about bare_pieces p.sorted.set.items p.rounds.items part.chain k)))
+      (fall_narrow (falls_in k p.rounds.items + 2) ls tree (let a = r.enough component in let b = r.few in let d = ap length rounds in let q = falls_within k p.rounds.items in omega (arith, a, b, d, q)) f (All-cons (All Narrow) (zero_line (length (met_rows w))) (lines_of k p.rounds.items) (zero_narrow (length (met_rows w))) (chain_narrow about bare_pieces p.sorted.set.items p.rounds.items part.chain k)))
 
   pub refuted_shown : (component : ℕ) (p : Part) (tree : CoverTree) → IsPart about bare_pieces r.numbers.now component p → k < length about.cases → LeadsInside r.numbers.now component (case_at about.cases k) → (place_in p.sorted.set.items k < length p.sorted.set.items → ⊥) → IsRefutation (get_or (lists p.sorted.refutations.items) (place_in p.sorted.empty.items k) []) tree → ShowsStep r k tree
   refuted_shown component p tree part k_in inside out h =
@@ -148,7 +160,7 @@ module _ (r : Ranking) (k : ℕ) where
       moved old new tree refl refl
       (fall_met v w old new 1 (zero ∷ zero ∷ []) tree f (leaving_falls v w from to (rounds_in r.parts.now from) (rounds_in r.parts.now to) less (omega (arith, u, few)) (zero ∷ zero ∷ []) refl))
       (fall_flat 1 (zero ∷ zero ∷ []) tree f)
-      (fall_narrow 1 (zero ∷ zero ∷ []) tree f (All-cons (All Narrow) zero (zero ∷ []) (zero_narrow (length (met_rows w))) (All-cons (All Narrow) zero [] (zero_narrow (length (met_rows w))) (All-nil (All Narrow)))))
+      (fall_narrow 1 (zero ∷ zero ∷ []) tree (omega arith) f (All-cons (All Narrow) zero (zero ∷ []) (zero_narrow (length (met_rows w))) (All-cons (All Narrow) zero [] (zero_narrow (length (met_rows w))) (All-nil (All Narrow)))))
     where
       below_of : (a b : ℕ) → a ≤ b → (a ≡ b → ⊥) → a < b
       below_of a b h n = by_either (grind arith)
