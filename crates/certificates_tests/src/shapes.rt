@@ -94,12 +94,24 @@ fn counted(alloc: Global, sketch: Sketch) -> Result<Node, Fail> {
     leaf(alloc, &[first, second], sketch.ranks, proofs)
 }
 
-/// What is made of the node of a countdown, where the start lies in this piece.
-fn countdown(alloc: Global, sketch: Sketch, piece: u32) -> Result<Result<Certificate, u32>, Fail> {
+/// What is made of this root for the end of every run, where the start lies in this piece.
+fn ending(alloc: Global, root: Node, piece: u32) -> Result<Result<Certificate, u32>, Fail> {
     let task = claimed(alloc, TURNING, "term")?;
     let start = start(alloc, piece)?;
-    let root = counted(alloc, sketch)?;
     made(alloc, &task, start, root)
+}
+
+/// What is made of the node of a countdown, where the start lies in this piece.
+fn countdown(alloc: Global, sketch: Sketch, piece: u32) -> Result<Result<Certificate, u32>, Fail> {
+    let root = counted(alloc, sketch)?;
+    ending(alloc, root, piece)
+}
+
+/// The node of a countdown over another.
+fn counted_twice(alloc: Global) -> Result<Node, Fail> {
+    let mut root = counted(alloc, COUNTED)?;
+    root.children.push(counted(alloc, COUNTED)?)?;
+    Ok(root)
 }
 
 #[test]
@@ -154,12 +166,8 @@ fn the_start_has_one_piece(rt: HostRuntime) -> Result<(), Fail> {
 
 #[test]
 fn a_countdown_has_no_child(rt: HostRuntime) -> Result<(), Fail> {
-    let alloc = rt.alloc();
-    let mut root = counted(alloc, COUNTED)?;
-    root.children.push(counted(alloc, COUNTED)?)?;
-    let task = claimed(alloc, TURNING, "term")?;
-    let start = start(alloc, 0)?;
-    let made = made(alloc, &task, start, root)?;
+    let root = counted_twice(rt.alloc())?;
+    let made = ending(rt.alloc(), root, 0)?;
     assert!(rt; is_misshapen(&made, 0));
     Ok(())
 }
@@ -219,13 +227,19 @@ fn other_climbers_do_not(rt: HostRuntime) -> Result<(), Fail> {
     Ok(())
 }
 
-/// What is made of a root without pieces over two children, each of so many ranks, for a location that no run comes to.
-fn three(alloc: Global, first: u32, second: u32) -> Result<Result<Certificate, u32>, Fail> {
-    let task = claimed(alloc, TURNING, "[AG](!at(1))")?;
+/// A root without pieces over two children, each of so many ranks.
+fn three_nodes(alloc: Global, first: u32, second: u32) -> Result<Node, Fail> {
     let first = leaf(alloc, &[], first, Vec::new(alloc))?;
     let second = leaf(alloc, &[], second, Vec::new(alloc))?;
-    let root = fork(alloc, &[], Vec::new(alloc), first, second)?;
-    made(alloc, &task, Verdict::Proved(refuted(alloc, &[])?), root)
+    fork(alloc, &[], Vec::new(alloc), first, second)
+}
+
+/// What is made of them for a location that no run comes to.
+fn three(alloc: Global, first: u32, second: u32) -> Result<Result<Certificate, u32>, Fail> {
+    let task = claimed(alloc, TURNING, "[AG](!at(1))")?;
+    let nowhere = refuted(alloc, &[])?;
+    let root = three_nodes(alloc, first, second)?;
+    made(alloc, &task, Verdict::Proved(nowhere), root)
 }
 
 #[test]
@@ -254,27 +268,33 @@ fn elsewhere(alloc: Global, ranks: u32) -> Result<Node, Fail> {
 }
 
 fn kept_proofs(alloc: Global, fall: u32) -> Result<Vec<Proof>, Fail> {
+    let shown: [(u32, &[&[i64]]); 4] = [(0, &[]), (fall, &[&[1]]), (0, &[]), (0, &[&[0, 1, 1]])];
     let mut proofs = Vec::new(alloc);
-    proofs.push(Proof::Covered(into(alloc, 0, 0, &[])?))?;
-    proofs.push(Proof::Covered(into(alloc, 0, fall, &[&[1]])?))?;
-    proofs.push(Proof::Covered(into(alloc, 0, 0, &[])?))?;
-    proofs.push(Proof::Covered(into(alloc, 0, 0, &[&[0, 1, 1]])?))?;
+    for (fall, of) in shown {
+        proofs.push(Proof::Covered(into(alloc, 0, fall, of)?))?;
+    }
     proofs.push(Proof::Covered(refuted(alloc, &[1, 1])?))?;
     Ok(proofs)
 }
 
-/// What is made of an invariant that keeps the third location away, with this fall in a step and so many ranks in a child.
-fn invariant(alloc: Global, fall: u32, ranks: u32) -> Result<Result<Certificate, u32>, Fail> {
-    let task = claimed(alloc, EXITING, "[AG](!at(2))")?;
+/// The nodes of an invariant that keeps the third location away, with this fall in a step and so many ranks in a child.
+fn keeping(alloc: Global, fall: u32, ranks: u32) -> Result<Node, Fail> {
+    let first = elsewhere(alloc, ranks)?;
+    let second = leaf(alloc, &[], 0, Vec::new(alloc))?;
     let small = Part {
         rows: &[(1, -5)],
         ..whole(1)
     };
-    let first = elsewhere(alloc, ranks)?;
-    let second = leaf(alloc, &[], 0, Vec::new(alloc))?;
     let proofs = kept_proofs(alloc, fall)?;
-    let root = fork(alloc, &[whole(0), small], proofs, first, second)?;
-    made(alloc, &task, start(alloc, 0)?, root)
+    fork(alloc, &[whole(0), small], proofs, first, second)
+}
+
+/// What is made of them.
+fn invariant(alloc: Global, fall: u32, ranks: u32) -> Result<Result<Certificate, u32>, Fail> {
+    let task = claimed(alloc, EXITING, "[AG](!at(2))")?;
+    let start = start(alloc, 0)?;
+    let root = keeping(alloc, fall, ranks)?;
+    made(alloc, &task, start, root)
 }
 
 #[test]
