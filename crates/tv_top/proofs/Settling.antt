@@ -16,7 +16,7 @@ use Rattle.tv_check_text.specs.Texts.{IsUnaccepted}
 use Rattle.tv_sound.specs.Following.{FollowsFrom}
 use Rattle.tv_sound.specs.Settled.{IsSettled}
 use Rattle.tv_top.specs.declared.answer.Answer.{Answer}
-use Rattle.tv_top.specs.declared.answer.Answer.TheVariants.{Proved, Disproved, Obligation, CertificateLine, Words, TooLong, Text, Property as Unnamed, WideEdge, TooManyInEdge, ReadFault, Memory}
+use Rattle.tv_top.specs.declared.answer.Answer.TheVariants.{Proved, Disproved, Obligation, CertificateLine, Words, TooLong, Text, Property as Unnamed, WideEdge, TooManyInEdge, Unsolved, Unbuilt, ReadFault, Memory}
 use Rattle.tv_top.specs.Answers.{without_certificate}
 use Rattle.tv_top.specs.Judging.{Accepted, Judges, Says, SaysValues}
 
@@ -44,6 +44,8 @@ values_so p f system text accepted piece values is settled along (Text fault) sa
 values_so p f system text accepted piece values is settled along (Unnamed fault) says = absurd says
 values_so p f system text accepted piece values is settled along (WideEdge edge) says = absurd says
 values_so p f system text accepted piece values is settled along (TooManyInEdge edge) says = absurd says
+values_so p f system text accepted piece values is settled along (Unsolved which fault) says = absurd says
+values_so p f system text accepted piece values is settled along Unbuilt says = absurd says
 values_so p f system text accepted piece values is settled along ReadFault says = absurd says
 
 -- what is said of a certificate all of whose obligations are met is so

@@ -1,5 +1,5 @@
 -- What a run writes, and how it ends.
-use Rattle.std.specs.Prelude.{ℕ, ◌+◌, ℤ, List, [], ◌∷◌, ◌++◌, codes, decimal}
+use Rattle.std.specs.Prelude.{ℕ, ◌+◌, ℤ, List, [], ◌∷◌, ◌++◌, length, codes, decimal}
 use Rattle.std.specs.Fmt.{signed_decimal}
 use Rattle.tv_program.specs.Words.{Word}
 use Rattle.tv_cert.specs.declared.node.Kind.{Kind}
@@ -12,10 +12,16 @@ use Rattle.tv_reader.specs.declared.fault.ReadFault.{ReadFault as TextFault}
 use Rattle.tv_reader.specs.declared.fault.ReadFault.TheVariants as faults
 use Rattle.tv_formula_reader.specs.declared.fault.FormulaFault.{FormulaFault}
 use Rattle.tv_formula_reader.specs.declared.fault.FormulaFault.TheVariants as formulas
+use Rattle.tv_simplex.specs.declared.fault.SolveFault.{SolveFault}
+use Rattle.tv_simplex.specs.declared.fault.SolveFault.TheVariants as solving
+use Rattle.tv_rank.specs.declared.name.Name.{Name}
+use Rattle.tv_rank.specs.declared.name.Name.TheVariants as systems
+use Rattle.tv_lexrank.specs.declared.fault.RankFault.{RankFault}
+use Rattle.tv_lexrank.specs.declared.fault.RankFault.TheVariants as ranking
 use Rattle.tv_check_text.specs.declared.text.TextFailing.{TextFailing}
 use Rattle.tv_check_text.specs.declared.text.TextFailing.TheVariants as certs
 use Rattle.tv_top.specs.declared.answer.Answer.{Answer}
-use Rattle.tv_top.specs.declared.answer.Answer.TheVariants.{Proved, Disproved, Obligation, CertificateLine, Words, TooLong, Text, Property, WideEdge, TooManyInEdge, ReadFault, Memory}
+use Rattle.tv_top.specs.declared.answer.Answer.TheVariants.{Proved, Disproved, Obligation, CertificateLine, Words, TooLong, Text, Property, WideEdge, TooManyInEdge, Unsolved, Unbuilt, ReadFault, Memory}
 use Rattle.tv_top.specs.declared.status.Status.{Status}
 use Rattle.tv_top.specs.declared.status.Status.TheVariants as statuses
 
@@ -82,6 +88,38 @@ value_lines [] values = []
 value_lines (name ∷ names) [] = []
 value_lines (name ∷ names) (value ∷ values) = value_line name value ++ value_lines names values
 
+-- the words that name a linear system
+abbrev pub system_words : Name → List ℕ
+system_words (systems.Empty k) = codes "empty " ++ decimal k
+system_words (systems.Rank component round falling) = codes "rank " ++ (decimal component ++ (codes " " ++ (decimal round ++ (codes " " ++ decimal falling))))
+system_words (systems.Rows rows) = codes "rows " ++ decimal (length rows.items)
+system_words (systems.Later set falling) = codes "later " ++ decimal (length set.items)
+
+-- the line of the cause for which a linear system was not settled
+abbrev pub cause_line : SolveFault → List ℕ
+cause_line (solving.Width basis row column) = codes "Unknown width" ++ 10 ∷ []
+cause_line (solving.Scale basis) = codes "Unknown width" ++ 10 ∷ []
+cause_line (solving.Pivots bases) = codes "Unknown pivots" ++ 10 ∷ []
+cause_line (solving.Size rows columns) = codes "Unknown size" ++ 10 ∷ []
+cause_line solving.Memory = []
+
+-- the line of a system with one number
+abbrev pub numbered_detail : List ℕ → List ℕ → ℕ → List ℕ
+numbered_detail system what number = codes "system " ++ (system ++ (codes " " ++ (what ++ (codes " " ++ (decimal number ++ 10 ∷ [])))))
+
+-- the line of a system with a row, or rows, and a column, or columns
+abbrev pub two_numbers_detail : List ℕ → List ℕ → ℕ → ℕ → List ℕ
+two_numbers_detail system plural rows columns =
+    codes "system " ++ (system ++ (codes " row" ++ (plural ++ (codes " " ++ (decimal rows ++ (codes " column" ++ (plural ++ (codes " " ++ (decimal columns ++ 10 ∷ [])))))))))
+
+-- the line that says which system it is, and where or how it was not settled
+abbrev pub detail_line : Name → SolveFault → List ℕ
+detail_line system (solving.Width basis row column) = two_numbers_detail (system_words system) [] row column
+detail_line system (solving.Scale basis) = codes "system " ++ (system_words system ++ (codes " scale" ++ 10 ∷ []))
+detail_line system (solving.Pivots bases) = numbered_detail (system_words system) (codes "bases") bases
+detail_line system (solving.Size rows columns) = two_numbers_detail (system_words system) (codes "s") rows columns
+detail_line system solving.Memory = []
+
 -- the first line of an answer, with its LF; nothing where nothing is written
 abbrev pub plain_line : Answer → List ℕ
 plain_line Proved = codes "Proved" ++ 10 ∷ []
@@ -94,12 +132,15 @@ plain_line (Text fault) = text_line fault
 plain_line (Property fault) = property_line fault
 plain_line (WideEdge edge) = codes "Refused text wide edge " ++ (decimal edge ++ 10 ∷ [])
 plain_line (TooManyInEdge edge) = codes "Refused text too many edge " ++ (decimal edge ++ 10 ∷ [])
+plain_line (Unsolved system fault) = cause_line fault
+plain_line Unbuilt = codes "Unknown unbuilt" ++ 10 ∷ []
 plain_line ReadFault = []
 plain_line Memory = []
 
--- the lines behind the first: those of the state at which the property fails
+-- the lines behind the first: those of the state at which the property fails, or which system was not settled
 abbrev pub further_lines : Answer → List ℕ
 further_lines (Disproved at) = value_lines at.names at.values.items
+further_lines (Unsolved system fault) = detail_line system fault
 further_lines answer = []
 
 -- all lines of an answer
@@ -118,6 +159,8 @@ status_of (Text fault) = statuses.Refused
 status_of (Property fault) = statuses.Refused
 status_of (WideEdge edge) = statuses.Refused
 status_of (TooManyInEdge edge) = statuses.Refused
+status_of (Unsolved system fault) = statuses.Unknown
+status_of Unbuilt = statuses.Unknown
 status_of ReadFault = statuses.ReadFault
 status_of Memory = statuses.Memory
 
@@ -147,6 +190,11 @@ without_property (formulas.Wide at) = Property (formulas.Wide at)
 without_property (formulas.Deep at) = Property (formulas.Deep at)
 without_property formulas.Long = Property formulas.Long
 without_property formulas.Memory = Memory
+
+-- the answer where a linear system of the search was not settled
+abbrev pub unsolved : RankFault → Answer
+unsolved (ranking.Solve system fault) = Unsolved system fault
+unsolved ranking.Memory = Memory
 
 -- the answer for a text that is not accepted as a certificate
 abbrev pub without_certificate : TextFailing → Answer

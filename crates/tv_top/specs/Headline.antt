@@ -13,17 +13,22 @@ use Rattle.tv_cases.specs.LinearCases.{CaseSystem}
 use Rattle.tv_cases.specs.ProgramCases.{LinearFault, wide, too_many, linear_cases}
 use Rattle.tv_cases.specs.Answers.{IsOfProgram}
 use Rattle.tv_top.specs.declared.answer.Answer.{Answer}
-use Rattle.tv_top.specs.declared.answer.Answer.TheVariants.{Proved, Disproved, Obligation, CertificateLine, Words, TooLong, Text, Property, WideEdge, TooManyInEdge, ReadFault, Memory}
+use Rattle.tv_top.specs.declared.answer.Answer.TheVariants.{Proved, Disproved, Obligation, CertificateLine, Words, TooLong, Text, Property, WideEdge, TooManyInEdge, Unsolved, Unbuilt, ReadFault, Memory}
 use Rattle.tv_top.specs.declared.status.Status.{Status}
 use Rattle.tv_top.specs.declared.status.Status.TheVariants as statuses
 use Rattle.tv_top.specs.Answers.{lines_of, status_of}
 use Rattle.tv_top.specs.Judging.{Judges}
 use Rattle.tv_top.specs.Properties.{IsNamed, IsUnnamed}
 use Rattle.tv_top.specs.Questions.{Query, Asks, AskNothing}
+use Rattle.tv_top.specs.Searches.{Seeks, SeekNothing}
+use Rattle.tv_top.specs.Ending.{MeansEnding}
 
--- how many bytes are read at most
+-- how many bytes are read at most: of a program and a certificate, and of a program alone
 abbrev pub most_bytes : ℕ
 most_bytes = 16777216
+
+abbrev pub most_program_bytes : ℕ
+most_program_bytes = 1048576
 
 -- the bytes are the text of a program and that of a certificate
 pub record Given (bytes : List ℕ) : Type 0 where
@@ -75,6 +80,8 @@ Means query bytes (Property fault) = HasNoProperty query bytes fault
 Means query bytes (WideEdge edge) = HasNoCases query bytes (wide edge)
 Means query bytes (TooManyInEdge edge) = HasNoCases query bytes (too_many edge)
 Means query bytes Memory = Unit {0}
+Means query bytes (Unsolved system fault) = ⊥
+Means query bytes Unbuilt = ⊥
 Means query bytes Words = ⊥
 Means query bytes TooLong = ⊥
 Means query bytes ReadFault = ⊥
@@ -82,13 +89,17 @@ Means query bytes ReadFault = ⊥
 -- Why an answer is given, told what is seen of the source before and after. The bytes are those that came out of its calls.
 pub data IsAnswer (words : List (List ℕ)) (old new : Seen) : Answer → Type 0 where
   -- the words ask nothing, and nothing is read
-  unasked : AskNothing words → new ≡ old → IsAnswer words old new Words
+  unasked : AskNothing words → SeekNothing words → new ≡ old → IsAnswer words old new Words
   -- more bytes came than are read
   too_long : {query : Query} → Asks words query → (bytes : List ℕ) → Gave old new bytes → most_bytes < length bytes → IsAnswer words old new TooLong
   -- the source was read to its end
   decided : {query : Query} {answer : Answer} (bytes : List ℕ) → Asks words query → Gave old new bytes → IsAtEnd new.known → length bytes ≤ most_bytes → Means query bytes answer → IsAnswer words old new answer
   -- the source failed
   failed : {query : Query} → Asks words query → GaveSome old new → IsAnswer words old new ReadFault
+  -- the same where the words ask whether every run ends, and give no certificate
+  too_long_program : {pivots : ℕ} → Seeks words pivots → (bytes : List ℕ) → Gave old new bytes → most_program_bytes < length bytes → IsAnswer words old new TooLong
+  searched : {pivots : ℕ} {answer : Answer} (bytes : List ℕ) → Seeks words pivots → Gave old new bytes → IsAtEnd new.known → length bytes ≤ most_program_bytes → MeansEnding pivots bytes answer → IsAnswer words old new answer
+  search_failed : {pivots : ℕ} → Seeks words pivots → GaveSome old new → IsAnswer words old new ReadFault
   without_memory : GaveSome old new → IsAnswer words old new Memory
 
 -- The answer is written: its lines and its status, or under a write fault a front of the lines.

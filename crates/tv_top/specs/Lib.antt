@@ -4,3 +4,5 @@ pub mod Properties
 pub mod Judging
 pub mod Headline
 pub mod Accepted
+pub mod Searches
+pub mod Ending

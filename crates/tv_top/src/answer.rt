@@ -3,11 +3,14 @@ ghost use Rattle.tv_top.specs.Answers.{kind_word, obligation_line, what_word, pl
 
 use crate::assignment::Assignment;
 use crate::status::Status;
+use crate::system_lines::{append_detail, cause_line};
 use itoa::Buffer;
 use std::alloc::{AllocError, Global};
 use tv_cert::{Failing, Kind};
 use tv_formula_reader::FormulaFault;
+use tv_rank::Name;
 use tv_reader::{ReadFault, What};
+use tv_simplex::SolveFault;
 
 /// What is written, and how the run ends.
 #[derive(Drop)]
@@ -28,6 +31,10 @@ pub enum Answer {
     WideEdge(u32),
     /// With an edge there are too many linear cases.
     TooManyInEdge(u32),
+    /// A linear system of the search was not settled.
+    Unsolved { system: Name, fault: SolveFault },
+    /// No linear ranks were found, and no further search is built.
+    Unbuilt,
     ReadFault,
     Memory,
 }
@@ -160,6 +167,8 @@ impl Answer {
             Answer::Property(fault) => property_refusal(alloc, *fault),
             Answer::WideEdge(edge) => numbered(alloc, "Refused text wide edge ", *edge),
             Answer::TooManyInEdge(edge) => numbered(alloc, "Refused text too many edge ", *edge),
+            Answer::Unsolved { fault, .. } => cause_line(alloc, fault),
+            Answer::Unbuilt => format!(in alloc; "Unknown unbuilt\n"),
             Answer::ReadFault | Answer::Memory => Ok(String::new(alloc)),
         }
     }
@@ -172,6 +181,7 @@ impl Answer {
         let mut lines = Vec::from_slice(alloc, line.as_bytes())?;
         match self {
             Answer::Disproved(assignment) => assignment.append_lines(alloc, &mut lines)?,
+            Answer::Unsolved { system, fault } => append_detail(alloc, &mut lines, system, fault)?,
             _ => {}
         }
         Ok(lines)
@@ -187,6 +197,7 @@ impl Answer {
             Answer::Obligation(_) | Answer::CertificateLine(_) => Status::CertificateRefused,
             Answer::ReadFault => Status::ReadFault,
             Answer::Memory => Status::Memory,
+            Answer::Unsolved { .. } | Answer::Unbuilt => Status::Unknown,
             _ => Status::Refused,
         }
     }

@@ -4,10 +4,13 @@
 mod accepting;
 mod answer;
 mod assignment;
+mod ending;
 mod judging;
 mod property;
 mod running;
+mod searching;
 mod status;
+mod system_lines;
 mod words;
 
 pub use running::run;

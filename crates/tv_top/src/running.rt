@@ -2,11 +2,14 @@ ghost use Rattle.std.specs.Prelude.{◌≡◌, ◌<◌, ◌≤◌, ◌^◌, map,
 ghost use Rattle.tv_text.specs.Stream.{Rose};
 ghost use Rattle.tv_top.specs.Answers.{without_cases, without_property};
 ghost use Rattle.tv_top.specs.Questions.{query_of};
+ghost use Rattle.tv_top.specs.Searches.{Seeks, SeekNothing};
 ghost use Rattle.tv_top.specs.Headline.{Means, IsAnswer, Concludes};
 
 use crate::answer::Answer;
+use crate::ending::ending;
 use crate::judging::judge;
 use crate::property::property;
+use crate::searching::sought;
 use crate::status::Status;
 use crate::words::Question;
 use std::alloc::Global;
@@ -15,11 +18,14 @@ use tv_formula_reader::FormulaFault;
 use tv_reader::{ReadFault, read_program};
 use tv_text::{ReadError, Sink, Source, read_all, split_texts, write_all};
 
-/// How many bytes are read at most.
+/// How many bytes are read at most, of a program and a certificate.
 const LIMIT: usize = 16_777_216;
 
+/// How many bytes are read at most, of a program alone.
+const PROGRAM_LIMIT: usize = 1_048_576;
+
 /// The answer for a program that has no linear cases.
-fn without_cases(fault: CaseFault) -> Answer
+pub fn without_cases(fault: CaseFault) -> Answer
     ensures { result ≡ without_cases fault }
 {
     match fault {
@@ -61,8 +67,9 @@ fn decide(alloc: Global, bytes: &[u8], question: Question) -> Answer
     judge(alloc, &program, &property, &about, certificate)
 }
 
-/// The answer to the words about the text that the source holds.
-fn answered<S: Source>(alloc: Global, words: &[&str], source: &mut S) -> Answer
+/// The answer to the words, which ask for no search, about the text that the source holds.
+fn checked<S: Source>(alloc: Global, words: &[&str], source: &mut S) -> Answer
+    requires { SeekNothing (map (λ word. word.now) words.now) }
     ensures answer { IsAnswer (map (λ word. word.now) words.now) (S.seen source.old) (S.seen source.new) result }
     ensures read { result ≡ Answer.ReadFault → Rose (S.faults source.old) (S.faults source.new) }
     ensures later { S.faults source.old ≤ S.faults source.new }
@@ -76,6 +83,33 @@ fn answered<S: Source>(alloc: Global, words: &[&str], source: &mut S) -> Answer
         Err(ReadError::Fault) => Answer::ReadFault,
         Err(ReadError::TooLong) => Answer::TooLong,
         Err(ReadError::Memory) => Answer::Memory,
+    }
+}
+
+/// The answer to whether every run of the program ends whose text the source holds, where so many bases of a linear system are tried.
+fn searched<S: Source>(alloc: Global, words: &[&str], pivots: u64, source: &mut S) -> Answer
+    requires { Seeks (map (λ word. word.now) words.now) pivots }
+    ensures answer { IsAnswer (map (λ word. word.now) words.now) (S.seen source.old) (S.seen source.new) result }
+    ensures read { result ≡ Answer.ReadFault → Rose (S.faults source.old) (S.faults source.new) }
+    ensures later { S.faults source.old ≤ S.faults source.new }
+{
+    match read_all(alloc, source, PROGRAM_LIMIT) {
+        Ok(bytes) => ending(alloc, &bytes, pivots),
+        Err(ReadError::Fault) => Answer::ReadFault,
+        Err(ReadError::TooLong) => Answer::TooLong,
+        Err(ReadError::Memory) => Answer::Memory,
+    }
+}
+
+/// The answer to the words about the text that the source holds.
+fn answered<S: Source>(alloc: Global, words: &[&str], source: &mut S) -> Answer
+    ensures answer { IsAnswer (map (λ word. word.now) words.now) (S.seen source.old) (S.seen source.new) result }
+    ensures read { result ≡ Answer.ReadFault → Rose (S.faults source.old) (S.faults source.new) }
+    ensures later { S.faults source.old ≤ S.faults source.new }
+{
+    match sought(words) {
+        Some(pivots) => searched(alloc, words, pivots, source),
+        None => checked(alloc, words, source),
     }
 }
 

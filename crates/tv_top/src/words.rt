@@ -13,7 +13,7 @@ pub enum Question<'a> {
 }
 
 /// The first word, and those behind it.
-fn first_of<'a, 'w>(words: &'w [&'a str]) -> Option<(&'a str, &'w [&'a str])>
+pub fn first_of<'a, 'w>(words: &'w [&'a str]) -> Option<(&'a str, &'w [&'a str])>
     ensures { MatchOption result (words.now ≡ []) (λ first. words.now ≡ first.0 ∷ first.1.now) }
 {
     match words {

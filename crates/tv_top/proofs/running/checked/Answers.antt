@@ -2,10 +2,10 @@ use Rattle.std.proofs.Common.{◌≡◌, ◌≤◌, refl, ap, ◌∙◌, Err, le
 use Rattle.tv_text.specs.declared.reading.ReadError.{ReadError}
 use Rattle.tv_top.specs.Headline.{unasked, too_long, decided, failed, without_memory, most_bytes}
 use Rattle.tv_top.proofs.Asking.{above, means_same}
-use Rattle.tv_top.proofs.running.answered.Goals as goal
+use Rattle.tv_top.proofs.running.checked.Goals as goal
 
 pub returns-in-None-clause-answer : goal.returns-in-None-clause-answer
-returns-in-None-clause-answer g c = unasked c.in-None.ensures.asked refl
+returns-in-None-clause-answer g c = unasked c.in-None.ensures.asked c.requires refl
 
 pub returns-in-Ok-clause-answer : goal.returns-in-Ok-clause-answer
 returns-in-Ok-clause-answer g c =
