@@ -97,7 +97,6 @@ fn words_name_a_property(rt: HostRuntime) -> Result<(), Fail> {
 const OTHERS: &[&[&str]] = &[
     &[],
     &["--check"],
-    &["--termination"],
     &["--safety", "1"],
     &["--ctl", "true"],
     &["--check", "--safety"],
