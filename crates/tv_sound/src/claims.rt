@@ -12,8 +12,7 @@ ghost use Rattle.tv_sound.specs.Following.{FollowsFrom};
 ghost use Rattle.tv_sound.specs.Settled.{IsSettled};
 
 use tv_cases::Cases;
-use tv_cert::Claim;
-use tv_cert::Failing;
+use tv_cert::{Claim, Failing};
 use tv_check::check;
 use tv_program::Program;
 use tv_shape::Certificate;
