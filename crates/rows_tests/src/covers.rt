@@ -4,9 +4,8 @@ ghost use Rattle.tv_linear.specs.Known.{Known};
 use crate::given::{one_row, row};
 use std::alloc::Global;
 use std::test::Fail;
-use tv_linear::{CoverTree, Row};
+use tv_linear::{CoverTree, Row, Rows};
 use tv_refute::{Frames, Targets, cover_is_met, refutes};
-use tv_rows::Rows;
 
 /// No target at all.
 #[derive(Drop)]

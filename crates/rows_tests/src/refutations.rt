@@ -1,9 +1,8 @@
 use crate::given::{MOST, one_row, row};
 use std::alloc::Global;
 use std::test::Fail;
-use tv_linear::{Row, Update};
+use tv_linear::{Row, RowView, Rows, Update};
 use tv_refute::{Built, Change, Frames, Terms, meets, number_of, shows};
-use tv_rows::{RowView, Rows};
 
 /// A counter of at most 5 that grows by 1 where it is at most 4.
 #[derive(Drop)]

@@ -1,5 +1,5 @@
 ghost use Rattle.std.specs.Prelude.{IfOk};
-ghost use Rattle.tv_tableau.specs.Systems.{IsWhole};
+ghost use Rattle.tv_simplex.specs.Systems.{IsWhole};
 ghost use Rattle.tv_simplex.specs.Views.{equations};
 
 use std::alloc::{AllocError, Global};

@@ -8,9 +8,8 @@ use crate::words::{Fault, next_count, next_row, next_rows};
 use std::alloc::Global;
 use std::str::SplitWhitespace;
 use tv_linear::held::add_product;
-use tv_linear::{Row, Update};
+use tv_linear::{Row, Rows, Update};
 use tv_refute::{Change, Frames, Terms, shown_rows};
-use tv_rows::Rows;
 
 /// What is done with the rows.
 #[derive(Clone, Copy)]

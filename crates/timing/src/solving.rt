@@ -4,7 +4,7 @@
 
 ghost use Rattle.std.specs.Prelude.{IsTrue};
 ghost use Rattle.tv_simplex.specs.Views.{equations};
-ghost use Rattle.tv_tableau.specs.Systems.{IsWhole};
+ghost use Rattle.tv_simplex.specs.Systems.{IsWhole};
 
 use crate::words::{Fault, next_count, next_number, push_numbers};
 use std::alloc::{AllocError, Global};

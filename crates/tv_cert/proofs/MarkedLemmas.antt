@@ -5,8 +5,8 @@ use Rattle.std.proofs.Math.Nat.{div-mul-le_self, mul-div_left, mul-sub}
 use Rattle.std.proofs.lemmas.List.{append-nil, length-append, length-drop, length-take-le}
 use Rattle.std.proofs.lemmas.List.Elements.{All-nil, All-cons, All-append, All-drop, All-take, All-get_or}
 use Rattle.tv_linear.specs.Linear.{Linear, IsNarrow, IsWithin, columns}
-use Rattle.tv_rows.specs.Packed.{ArePacked, packed, unpacked, first_row}
-use Rattle.tv_rows.proofs.PackedLemmas.{length-packed, narrow-packed, unpacked-packed, drop-packed, unpacked-columns}
+use Rattle.tv_linear.specs.Packed.{ArePacked, packed, unpacked, first_row}
+use Rattle.tv_linear.proofs.PackedLemmas.{length-packed, narrow-packed, unpacked-packed, drop-packed, unpacked-columns}
 use Rattle.tv_cert.specs.declared.node.Mark.{Mark}
 use Rattle.tv_cert.specs.MarkedRows.{marked, marked_in}
 

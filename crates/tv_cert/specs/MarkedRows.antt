@@ -1,6 +1,6 @@
 use Rattle.std.specs.Prelude.{ℕ, ◌+◌, ◌*◌, ◌-◌, ◌/◌, List, length, drop, ℤ}
 use Rattle.tv_linear.specs.Linear.{Linear}
-use Rattle.tv_rows.specs.Packed.{unpacked}
+use Rattle.tv_linear.specs.Packed.{unpacked}
 use Rattle.tv_cert.specs.declared.node.Mark.{Mark}
 
 -- a piece: its location, what it is for, its rows and its ranks over so many columns

@@ -1,14 +1,14 @@
 ghost use Rattle.std.specs.Prelude.{◌≡◌, ◌-◌, ◌^◌, ◌<◌, All, IfOk, SomeIff, length};
 ghost use Rattle.tv_linear.specs.Linear.{columns as columns_of, IsNarrow};
-ghost use Rattle.tv_rows.specs.Packed.{ArePacked};
-ghost use Rattle.tv_rows.specs.Views.{rows_seen};
+ghost use Rattle.tv_linear.specs.Packed.{ArePacked};
+ghost use Rattle.tv_linear.specs.Views.{rows_seen};
 ghost use Rattle.tv_cert.specs.MarkedRows.{marked, marked_in};
 
 use crate::pieces::Pieces;
 use std::alloc::{AllocError, Global};
 use std::marker::Model;
-use tv_linear::{Choice, Cover, Row};
-use tv_rows::{PackedRows, Rows, append_rows, have_columns};
+use tv_linear::{Choice, Cover, PackedRows, Row, Rows, append_rows, have_columns};
+use tv_linear::{PackedRows, Rows, append_rows, have_columns};
 
 /// What a piece of a node is for: its states are done, or they go on.
 #[derive(Clone, Copy, Debug, PartialEq, Eq)]
@@ -30,7 +30,7 @@ pub struct Marked {
 }
 
 impl Model for Marked {
-    ghost use Rattle.tv_rows.specs.Packed.{ArePacked};
+    ghost use Rattle.tv_linear.specs.Packed.{ArePacked};
     ghost use Rattle.tv_cert.specs.MarkedRows.{MarkedRows, marked_in};
 
     ghost Value = { MarkedRows };

@@ -4,7 +4,7 @@ use Rattle.std.specs.Prelude.{All}
 use Rattle.std.proofs.lemmas.List.{append-nil, flat_map_more, take_all, take_more, length-take-le}
 use Rattle.std.proofs.lemmas.List.Elements.{All-take, All-get_or, All-push, All-nil}
 use Rattle.tv_linear.specs.Linear.{Linear, IsNarrow, IsWithin}
-use Rattle.tv_rows.specs.Packed.{packed, first_row}
+use Rattle.tv_linear.specs.Packed.{packed, first_row}
 use Rattle.tv_cert_reader.specs.CertificateLines.{row_lines}
 use Rattle.tv_cert_reader.specs.declared.cursor.Cursor.{Cursor}
 use Rattle.tv_cert_reader.specs.declared.sort.Sort.{Sort}

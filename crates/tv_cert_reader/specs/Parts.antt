@@ -4,7 +4,7 @@ use Rattle.std.specs.Global.{Vec}
 use Rattle.tv_lines.specs.Lines.{PlainLine, formed}
 use Rattle.tv_lines.specs.Numbers.{IsNarrow}
 use Rattle.tv_linear.specs.Linear.{Linear, columns, IsNarrow as IsNarrowRow}
-use Rattle.tv_rows.specs.Packed.{packed}
+use Rattle.tv_linear.specs.Packed.{packed}
 use Rattle.tv_linear.specs.declared.row.Row.{Row}
 use Rattle.tv_cert_reader.specs.CertificateLines.{row_line, row_lines, by_lines}
 use Rattle.tv_cert_reader.specs.LineGrammar.{many}

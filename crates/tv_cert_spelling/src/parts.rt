@@ -3,13 +3,12 @@ ghost use Rattle.std.specs.List.{flat_map};
 ghost use Rattle.tv_lines.specs.Lines.{formed};
 ghost use Rattle.tv_cert_reader.specs.CertificateLines.{row_line, row_lines, by_lines, mark_named, piece_lines, cover_lines, choice_lines, proof_lines};
 ghost use Rattle.tv_cert_spelling.specs.Spelling.{spelled, all_spelled};
-ghost use Rattle.tv_rows.specs.Views.{row_seen, rows_seen};
+ghost use Rattle.tv_linear.specs.Views.{row_seen, rows_seen};
 
 use std::alloc::{AllocError, Global};
 use tv_cert::{Mark, Marked, Proof};
-use tv_linear::{ChoiceTree, Cover, CoverTree, widened};
+use tv_linear::{ChoiceTree, Cover, CoverTree, RowView, Rows, widened};
 use tv_lines::{Head, PieceMark, write_line};
-use tv_rows::{RowView, Rows};
 
 /// The numbers of a row: its coefficients and then its constant.
 fn numbers_of(alloc: Global, row: RowView) -> Result<Vec<i128>, AllocError>

@@ -5,7 +5,7 @@ use Rattle.tv_linear.specs.Known.{Known, given, composed}
 use Rattle.tv_linear.specs.Covers.{ShownAt}
 use Rattle.tv_linear.specs.Terms.{terms_after, draw_terms}
 use Rattle.tv_linear.specs.declared.region.Update.{Update}
-use Rattle.tv_rows.specs.declared.rows.Rows.{Rows}
+use Rattle.tv_linear.specs.declared.rows.Rows.{Rows}
 use Rattle.tv_cert.specs.declared.node.Marked.{Marked}
 use Rattle.tv_cert.specs.Targets.{owed_into}
 use Rattle.tv_check.specs.Owes.{falls_of}

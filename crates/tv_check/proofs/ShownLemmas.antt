@@ -5,7 +5,7 @@ use Rattle.tv_linear.specs.Covers.{Shown, ShownAt, IsMetCover}
 use Rattle.tv_linear.specs.Terms.{terms_after}
 use Rattle.tv_linear.specs.declared.cover.CoverTree.{CoverTree}
 use Rattle.tv_linear.specs.declared.region.Update.{Update}
-use Rattle.tv_rows.specs.declared.rows.Rows.{Rows}
+use Rattle.tv_linear.specs.declared.rows.Rows.{Rows}
 use Rattle.tv_cert.specs.declared.node.Marked.{Marked}
 use Rattle.tv_cert.specs.Targets.{owed_into}
 use Rattle.tv_check.specs.Owes.{falls_of}

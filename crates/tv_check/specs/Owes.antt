@@ -1,8 +1,8 @@
 use Rattle.std.specs.Prelude.{ℕ, List, Option, None, Some}
 use Rattle.tv_linear.specs.Linear.{Linear}
 use Rattle.tv_linear.specs.Known.{Known}
-use Rattle.tv_rows.specs.Views.{rows_seen}
-use Rattle.tv_rows.specs.declared.rows.Rows.{Rows}
+use Rattle.tv_linear.specs.Views.{rows_seen}
+use Rattle.tv_linear.specs.declared.rows.Rows.{Rows}
 use Rattle.tv_cert.specs.declared.node.Marked.{Marked}
 use Rattle.tv_cert.specs.Targets.{no_fall, fall_from}
 

@@ -12,15 +12,14 @@ ghost use Rattle.tv_cert.specs.Said.{said_entries, HasParts};
 ghost use Rattle.tv_cert.specs.Plain.{about_of};
 ghost use Rattle.tv_cert.specs.FirstFailing.{Checks};
 ghost use Rattle.tv_check.specs.Roots.{AreOver, ValuesFit, SettlesRoot};
-ghost use Rattle.tv_rows.specs.Views.{rows_seen};
+ghost use Rattle.tv_linear.specs.Views.{rows_seen};
 
 use crate::steps::rows_are_covered;
 use crate::walking::walk;
 use tv_cases::Cases;
 use tv_cert::{Aim, Failing, Kind, Node, Pieces, Verdict};
-use tv_linear::Cover;
+use tv_linear::{Cover, Rows};
 use tv_refute::meets;
-use tv_rows::Rows;
 
 /// Settles the last obligation where the property is proved: that the pieces of the root cover the start.
 fn check_start(about: &Cases, root: &Node, start: &Cover, seen: u64) -> Result<(), Failing>

@@ -16,9 +16,8 @@ ghost use Rattle.tv_check.specs.Owes.{falls_of};
 use crate::pieces::Entered;
 use tv_cases::{Case, Cases};
 use tv_cert::{Destination, Marked, Pieces};
-use tv_linear::{ChoiceTree, Cover, Row};
+use tv_linear::{ChoiceTree, Cover, Row, RowView, Rows};
 use tv_refute::{Built, Change, Frames, Targets, Terms, cover_is_met, refutes, shown_rows};
-use tv_rows::{RowView, Rows};
 
 /// Whether the one target without rows is named, and no list is left.
 fn nothing_is_shown(target: u32, fall: u32, lists: &[Vec<i64>]) -> bool

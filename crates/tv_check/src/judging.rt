@@ -3,7 +3,7 @@ ghost use Rattle.std.specs.List.{flat_map};
 ghost use Rattle.tv_linear.specs.Known.{as_given, given};
 ghost use Rattle.tv_linear.specs.Covers.{Shown, IsMetCover};
 ghost use Rattle.tv_refute.specs.Frames.{known_at};
-ghost use Rattle.tv_rows.specs.Views.{rows_seen};
+ghost use Rattle.tv_linear.specs.Views.{rows_seen};
 ghost use Rattle.tv_cases.specs.Systems.{cases_of};
 ghost use Rattle.tv_cert.specs.Targets.{owed_into, owed_lists, no_fall};
 ghost use Rattle.tv_cert.specs.Listed.{pieces_list};
@@ -20,9 +20,8 @@ use crate::pieces::kept_is_shown;
 use crate::steps::{rows_are_covered, step_is_covered, truth_is_covered};
 use tv_cases::{Case, Cases};
 use tv_cert::{Destination, Marked, Node, Owes, Pieces, Proof, joined_piece_at};
-use tv_linear::{ChoiceTree, CoverTree, Row};
+use tv_linear::{ChoiceTree, CoverTree, Row, Rows};
 use tv_refute::{Change, Frames, Targets, cover_is_met, shown_rows};
-use tv_rows::Rows;
 
 /// Whether the lists show the rows as they are.
 fn given_rows_are_shown(columns: usize, frames: &Frames, rows: &[Row], lists: &[Vec<i64>]) -> bool

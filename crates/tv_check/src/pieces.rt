@@ -5,14 +5,14 @@ ghost use Rattle.tv_linear.specs.Covers.{ShownAt};
 ghost use Rattle.tv_linear.specs.Falls.{fall_rows};
 ghost use Rattle.tv_refute.specs.Frames.{known_at};
 ghost use Rattle.tv_refute.specs.Built.{change_of};
-ghost use Rattle.tv_rows.specs.Views.{rows_seen};
+ghost use Rattle.tv_linear.specs.Views.{rows_seen};
 ghost use Rattle.tv_cert.specs.Targets.{owed_into, target_rows, no_fall};
 ghost use Rattle.tv_check.specs.Owes.{falls_of};
 
 use crate::falls::shown_fall;
 use tv_cert::{Mark, Marked, Pieces};
 use tv_refute::{Change, Frames, Targets, shown_rows};
-use tv_rows::Rows;
+use tv_linear::Rows;
 
 /// Whether the lists show the changed rows of a piece and then the fall to its ranks.
 fn shown_piece(

@@ -7,14 +7,13 @@ ghost use Rattle.tv_cert.specs.Pieces.{rows_of, place_of};
 ghost use Rattle.tv_cert.specs.Targets.{owed_into, owed_lists, no_fall};
 ghost use Rattle.tv_cert.specs.Obligations.{case_change, truth_targets};
 ghost use Rattle.tv_check.specs.Owes.{falls_of};
-ghost use Rattle.tv_rows.specs.Views.{rows_seen};
+ghost use Rattle.tv_linear.specs.Views.{rows_seen};
 
 use crate::pieces::{Entered, Standing};
 use tv_cases::Case;
 use tv_cert::Pieces;
-use tv_linear::CoverTree;
+use tv_linear::{CoverTree, Rows};
 use tv_refute::{Change, Frames, Targets, Terms, cover_is_met};
-use tv_rows::Rows;
 
 /// Whether the rows are covered by the pieces at a location.
 pub fn rows_are_covered(

@@ -5,7 +5,7 @@ use Rattle.tv_linear.specs.Known.{Known, as_given, denied}
 use Rattle.tv_linear.specs.Falls.{fall_rows_at}
 use Rattle.tv_linear.specs.Refutation.{Refutes}
 use Rattle.tv_refute.specs.Built.{change_of}
-use Rattle.tv_rows.specs.Views.{rows_seen}
+use Rattle.tv_linear.specs.Views.{rows_seen}
 use Rattle.tv_check_text.specs.declared.fall.Fall.{Fall}
 use Rattle.tv_check_text.specs.declared.owed.Entered.{Entered}
 use Rattle.tv_check_text.specs.declared.owed.OwedRows.{OwedRows}

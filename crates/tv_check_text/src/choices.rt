@@ -16,10 +16,9 @@ use crate::empty::is_empty;
 use tv_cases::Case;
 use tv_cert::{Destination, Marked};
 use tv_cert_reader::{Context, Cursor, Failure, LineKind, row_of, take};
-use tv_linear::Row;
+use tv_linear::{Row, RowView, Rows};
 use tv_lines::Head;
 use tv_refute::{Built, Change, Frames};
-use tv_rows::{RowView, Rows};
 use tv_shape::Targets;
 
 /// What choices are read and judged with: the piece at which they are made, where they lead, and whether they may show that there is

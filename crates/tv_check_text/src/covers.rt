@@ -16,10 +16,9 @@ use crate::shown::rows_are_shown;
 use crate::targets::entered;
 use std::alloc::Global;
 use tv_cert_reader::{Cursor, Failure, LineKind, row_of, take, two_small};
-use tv_linear::Row;
+use tv_linear::{Row, RowView};
 use tv_lines::Head;
 use tv_refute::{Built, Change, Frames};
-use tv_rows::RowView;
 use tv_shape::Targets;
 
 /// What covers are read and judged with: how many columns the rows of their places have, and what they lead into.

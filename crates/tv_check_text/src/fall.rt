@@ -1,7 +1,7 @@
 ghost use Rattle.std.specs.Prelude.{◌<◌, ◌^◌, length};
-ghost use Rattle.tv_rows.specs.Views.{rows_seen};
+ghost use Rattle.tv_linear.specs.Views.{rows_seen};
 
-use tv_rows::Rows;
+use tv_linear::Rows;
 
 /// A fall from ranks to others, by the place of the rank that falls.
 #[derive(Drop)]

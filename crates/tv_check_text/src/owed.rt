@@ -7,9 +7,8 @@ ghost use Rattle.tv_check_text.specs.Owed.{entered_listed, fall_listed, owed_lis
 
 use crate::fall::Fall;
 use tv_check::{shows_less, shows_not_below};
-use tv_linear::Row;
+use tv_linear::{Row, RowView, Rows};
 use tv_refute::{Change, Frames, shows};
-use tv_rows::{RowView, Rows};
 
 /// The rows to be shown on entering a target: its own, and then those of a fall.
 #[derive(Drop)]

@@ -8,14 +8,14 @@ ghost use Rattle.tv_cert.specs.Owing.{destination_owes, falls_where};
 ghost use Rattle.tv_cert.specs.Targets.{target_rows};
 ghost use Rattle.tv_shape.specs.Counts.{falls_past};
 ghost use Rattle.tv_check_text.specs.Owed.{entered_listed, fall_listed};
-ghost use Rattle.tv_rows.specs.Views.{rows_seen};
+ghost use Rattle.tv_linear.specs.Views.{rows_seen};
 ghost use Rattle.tv_check_text.specs.Targets.{owed_at};
 
 use crate::fall::Fall;
 use crate::owed::Entered;
 use tv_cases::Case;
 use tv_cert::{Destination, Mark, Marked, joined_piece_at};
-use tv_rows::Rows;
+use tv_linear::Rows;
 use tv_shape::Targets;
 
 /// The piece from whose ranks a fall is owed, if one is.

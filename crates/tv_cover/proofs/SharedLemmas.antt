@@ -7,7 +7,7 @@ use Rattle.tv_linear.specs.Fits.{IsHeld}
 use Rattle.tv_linear.specs.Known.{number, known_number, as_given, KnownHeld}
 use Rattle.tv_linear.specs.Refutation.{RowsHeld, column_sum, Refutes}
 use Rattle.tv_linear.proofs.PlainLists.{length-unit, unit-narrow}
-use Rattle.tv_tableau.proofs.Ring.{zero_times}
+use Rattle.tv_simplex.proofs.Ring.{zero_times}
 use Rattle.tv_farkas.proofs.SystemLemmas.{length-map, at_of}
 use Rattle.tv_farkas.proofs.StretchLemmas.{stretched_short}
 use Rattle.tv_farkas.specs.Refuting.{AreShort}

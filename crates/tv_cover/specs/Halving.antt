@@ -1,7 +1,7 @@
 use Rattle.std.specs.Prelude.{◌≡◌, ℕ, List, get_or, ℤ, pos, Option, None, Some, Vec}
 use Rattle.tv_linear.specs.Linear.{Linear}
 use Rattle.tv_linear.specs.Arithmetic.{denial}
-use Rattle.tv_tableau.specs.Outcomes.{IsShort}
+use Rattle.tv_simplex.specs.Outcomes.{IsShort}
 use Rattle.tv_farkas.specs.Paths.{at_most_row, at_least_row}
 use Rattle.tv_farkas.specs.Stretching.{IsFloor}
 use Rattle.tv_cover.specs.declared.splitting.Halves.{Halves}

@@ -6,7 +6,7 @@ use Rattle.tv_linear.specs.Refutation.{Refutes}
 use Rattle.tv_linear.specs.declared.cover.CoverTree.{CoverTree, Split', Empty, Into}
 use Rattle.tv_farkas.specs.RefutationSystem.{IsPointOf}
 use Rattle.tv_farkas.specs.Refuting.{AreShort}
-use Rattle.tv_tableau.specs.Outcomes.{IsShort}
+use Rattle.tv_simplex.specs.Outcomes.{IsShort}
 use Rattle.tv_farkas.specs.Paths.{TakenOnce, IsWholePoint}
 use Rattle.tv_farkas.specs.Stretching.{stretched, AreDivided, IsSide}
 use Rattle.tv_cover.specs.declared.stepping.Look.{Look}

@@ -3,8 +3,8 @@ use Rattle.std.specs.Int.{int_div_euclid}
 use Rattle.std.proofs.lemmas.Int.{ints}
 use Rattle.std.proofs.Math.IntN.{*ℤ_comm}
 use Rattle.tv_linear.proofs.Tightened.{floor-bounds}
-use Rattle.tv_tableau.proofs.Ring.{by_sign, less_times, times_less, under_times, not_under_times}
-use Rattle.tv_tableau.specs.Outcomes.{IsShort}
+use Rattle.tv_simplex.proofs.Ring.{by_sign, less_times, times_less, under_times, not_under_times}
+use Rattle.tv_simplex.specs.Outcomes.{IsShort}
 use Rattle.tv_simplex.proofs.ScaleLemmas.{get_or-append-last, get_or-append-before}
 use Rattle.tv_farkas.specs.Paths.{IsWholeAt}
 use Rattle.tv_farkas.specs.Stretching.{IsFloor, AreDivided}

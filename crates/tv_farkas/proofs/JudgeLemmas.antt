@@ -1,6 +1,6 @@
 use Rattle.std.proofs.Common.{ℕ, List, sym, subst, ℤ, pos, ◌≤ℤ◌}
 use Rattle.tv_linear.specs.Linear.{Linear, scaled_value, IsScaledPoint}
-use Rattle.tv_tableau.specs.Outcomes.{IsShort}
+use Rattle.tv_simplex.specs.Outcomes.{IsShort}
 use Rattle.tv_simplex.specs.declared.fault.SolveFault.{SolveFault}
 use Rattle.tv_simplex.specs.declared.fault.SolveFault.TheVariants as faults
 use Rattle.tv_farkas.specs.declared.fault.CoverFault.{CoverFault}

@@ -4,9 +4,9 @@ use Rattle.std.proofs.Math.IntN.{*ℤ_comm}
 use Rattle.tv_linear.specs.Linear.{Linear, columns, entry, scaled_value, IsScaledPoint}
 use Rattle.tv_refute.proofs.Places.{get_or-left, get_or-right, get_or-map}
 use Rattle.tv_linear.proofs.Ring.{neg_times_z}
-use Rattle.tv_tableau.specs.Sums.{total}
-use Rattle.tv_tableau.specs.Systems.{entry_at, right_at}
-use Rattle.tv_tableau.specs.Outcomes.{IsBarrierOf}
+use Rattle.tv_simplex.specs.Sums.{total}
+use Rattle.tv_simplex.specs.Systems.{entry_at, right_at}
+use Rattle.tv_simplex.specs.Outcomes.{IsBarrierOf}
 use Rattle.tv_farkas.specs.RefutationSystem.{refutation_system}
 use Rattle.tv_farkas.proofs.SystemLemmas.{row_at, get_or-any, all_of, at_of, entry_is, right_inner, right_last, total-last, dot-total}
 

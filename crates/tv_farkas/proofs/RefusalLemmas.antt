@@ -1,7 +1,7 @@
 use Rattle.std.proofs.Common.{◌≡◌, ℕ, ◌+◌, List, [], ◌∷◌, ◌++◌, length, length-append, map, All, get_or, arith, subst, ℤ, pos, neg_ℤ}
 use Rattle.std.proofs.lemmas.Int.{ints}
 use Rattle.tv_linear.specs.Linear.{Linear, columns}
-use Rattle.tv_tableau.specs.Outcomes.{IsShort, IsBarrierOf, GivesBarrier}
+use Rattle.tv_simplex.specs.Outcomes.{IsShort, IsBarrierOf, GivesBarrier}
 use Rattle.tv_farkas.specs.declared.refuted.Refuted.{Refuted}
 use Rattle.tv_farkas.specs.declared.refuted.Refuted.TheVariants.{Empty, Point}
 use Rattle.tv_farkas.specs.RefutationSystem.{refutation_system}

@@ -15,8 +15,8 @@ use Rattle.tv_linear.specs.Fits.{IsHeld}
 use Rattle.tv_linear.specs.Linear.{Linear, columns, dot, value, IsMet, IsWithin, scaled_value, IsScaledPoint}
 use Rattle.tv_linear.specs.Known.{Known, given, denied, as_given, KnownHeld, IsKnownMet}
 use Rattle.tv_linear.proofs.Ring.{mul_assoc_z, distribute_right_z}
-use Rattle.tv_tableau.proofs.Ring.{by_sign, above_times, less_times, zero_times}
-use Rattle.tv_tableau.specs.Outcomes.{IsShort}
+use Rattle.tv_simplex.proofs.Ring.{by_sign, above_times, less_times, zero_times}
+use Rattle.tv_simplex.specs.Outcomes.{IsShort}
 use Rattle.tv_farkas.specs.declared.branch.Branch.{Branch}
 use Rattle.tv_farkas.specs.declared.emptying.Place.{Place}
 use Rattle.tv_farkas.specs.declared.emptying.Found.{Found}

@@ -5,8 +5,8 @@ use Rattle.tv_linear.specs.Linear.{Linear, dot, IsWithin}
 use Rattle.tv_linear.specs.Fits.{IsHeld}
 use Rattle.tv_linear.specs.Known.{Known, number, known_number, as_given, KnownHeld}
 use Rattle.tv_linear.specs.Refutation.{RowsHeld, column_sum, Refutes}
-use Rattle.tv_tableau.proofs.Ring.{zero_times}
-use Rattle.tv_tableau.specs.Outcomes.{IsShort}
+use Rattle.tv_simplex.proofs.Ring.{zero_times}
+use Rattle.tv_simplex.specs.Outcomes.{IsShort}
 use Rattle.tv_farkas.specs.Refuting.{AreShort}
 use Rattle.tv_farkas.specs.Stretching.{IsTakenBy, stretched, IsSide, AreSides}
 use Rattle.tv_farkas.proofs.PathLemmas.{append-nil}

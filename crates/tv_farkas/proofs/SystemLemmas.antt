@@ -8,10 +8,10 @@ use Rattle.tv_linear.specs.Linear.{Linear, columns, entry, dot}
 use Rattle.tv_linear.specs.Known.{given, number, known_number, as_given, KnownHeld}
 use Rattle.tv_linear.specs.Refutation.{RowsHeld, column_sum, ColumnHeld, Refutes}
 use Rattle.tv_refute.proofs.Places.{get_or-left, get_or-right, get_or-map}
-use Rattle.tv_tableau.proofs.Sums.{total-same}
-use Rattle.tv_tableau.specs.Sums.{total}
-use Rattle.tv_tableau.specs.Systems.{Equations, IsWhole, entry_at, right_at}
-use Rattle.tv_tableau.specs.Outcomes.{IsShort, IsSolutionOf, IsNarrowSystem}
+use Rattle.tv_simplex.proofs.Sums.{total-same}
+use Rattle.tv_simplex.specs.Sums.{total}
+use Rattle.tv_simplex.specs.Systems.{Equations, IsWhole, entry_at, right_at}
+use Rattle.tv_simplex.specs.Outcomes.{IsShort, IsSolutionOf, IsNarrowSystem}
 use Rattle.tv_simplex.proofs.SettleLemmas.{given_left}
 use Rattle.tv_farkas.specs.RefutationSystem.{numbers_below, refutation_system}
 

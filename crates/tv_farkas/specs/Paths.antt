@@ -2,7 +2,7 @@ use Rattle.std.specs.Prelude.{◌≡◌, ◌⊎◌, ℕ, ◌<◌, List, [], ◌�
 use Rattle.std.specs.List.{Contains}
 use Rattle.tv_linear.specs.Linear.{Linear, IsMet, IsScaledPoint}
 use Rattle.tv_linear.specs.Arithmetic.{column_row, raised, denial}
-use Rattle.tv_tableau.specs.Outcomes.{IsShort}
+use Rattle.tv_simplex.specs.Outcomes.{IsShort}
 use Rattle.tv_farkas.specs.declared.branch.Branch.{Branch}
 use Rattle.tv_farkas.specs.RefutationSystem.{IsPointOf}
 use Rattle.tv_farkas.specs.Refuting.{AreShort}

@@ -1,8 +1,8 @@
 use Rattle.std.specs.Prelude.{◌≡◌, ℕ, zero, suc, ◌+◌, ◌*◌, ◌<◌, List, [], ◌∷◌, ◌++◌, length, map, ℤ, pos, neg_ℤ}
 use Rattle.tv_linear.specs.Linear.{Linear, entry}
 use Rattle.tv_linear.specs.Arithmetic.{zeros}
-use Rattle.tv_tableau.specs.Systems.{Equations}
-use Rattle.tv_tableau.specs.Outcomes.{GivesBarrier}
+use Rattle.tv_simplex.specs.Systems.{Equations}
+use Rattle.tv_simplex.specs.Outcomes.{GivesBarrier}
 
 -- the numbers of the rows in the first n columns, column by column
 abbrev pub numbers_below : ℕ → List Linear → List ℤ

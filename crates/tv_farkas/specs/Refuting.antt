@@ -2,7 +2,7 @@ use Rattle.std.specs.Prelude.{◌≡◌, ℕ, ◌+◌, List, [], ◌∷◌, ◌+
 use Rattle.tv_linear.specs.Linear.{Linear, IsScaledPoint}
 use Rattle.tv_linear.specs.Known.{as_given}
 use Rattle.tv_linear.specs.Refutation.{Refutes}
-use Rattle.tv_tableau.specs.Outcomes.{IsShort, GivesSolution}
+use Rattle.tv_simplex.specs.Outcomes.{IsShort, GivesSolution}
 use Rattle.tv_simplex.specs.declared.fault.SolveFault.{SolveFault}
 use Rattle.tv_simplex.specs.declared.fault.SolveFault.TheVariants.{Width, Scale, Pivots, Size, Memory}
 use Rattle.tv_simplex.specs.Views.{IsFault}

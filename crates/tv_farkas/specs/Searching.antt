@@ -5,7 +5,7 @@ use Rattle.tv_linear.specs.Known.{Known, as_given}
 use Rattle.tv_linear.specs.Covers.{no_target, IsMetCover}
 use Rattle.tv_linear.specs.Depth.{splits}
 use Rattle.tv_linear.specs.declared.cover.CoverTree.{CoverTree}
-use Rattle.tv_tableau.specs.Outcomes.{IsShort}
+use Rattle.tv_simplex.specs.Outcomes.{IsShort}
 use Rattle.tv_farkas.specs.declared.emptying.Found.{Found}
 use Rattle.tv_farkas.specs.declared.emptying.Found.TheVariants.{Tree, Whole}
 use Rattle.tv_farkas.specs.declared.emptying.Place.{Place}

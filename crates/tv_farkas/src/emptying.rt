@@ -3,7 +3,7 @@
 ghost use Rattle.std.specs.Prelude.{◌≡◌, ℕ, List, ◌+◌, ◌-◌, ◌*◌, ◌^◌, ◌<◌, ◌≤◌, ◌++◌, ◌∷◌, [], All, length, get_or, pos, ◌<ℤ◌, IfOk, MatchResult};
 ghost use Rattle.std.specs.Result.{IfErr};
 ghost use Rattle.tv_linear.specs.Linear.{Linear, columns as width, IsScaledPoint};
-ghost use Rattle.tv_tableau.specs.Outcomes.{IsShort};
+ghost use Rattle.tv_simplex.specs.Outcomes.{IsShort};
 ghost use Rattle.tv_farkas.specs.RefutationSystem.{IsPointOf};
 ghost use Rattle.tv_farkas.specs.Paths.{IsWholeAt, IsFirstFraction};
 ghost use Rattle.tv_farkas.specs.Emptying.{IsEmptied, HasNoWholePoint, IsShallow, HasEvenSplits, IsShortEmptied};

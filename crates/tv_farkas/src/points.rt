@@ -1,7 +1,7 @@
 // Points with whole coordinates, or without.
 
 ghost use Rattle.std.specs.Prelude.{◌≡◌, ℕ, ◌+◌, ◌^◌, ◌<◌, ◌≤◌, length, get_or, pos, ◌<ℤ◌, ◌≤ℤ◌, ◌+ℤ◌, ◌*ℤ◌, IsTrue, ◌↔◌, IfOk, MatchOption};
-ghost use Rattle.tv_tableau.specs.Outcomes.{IsShort};
+ghost use Rattle.tv_simplex.specs.Outcomes.{IsShort};
 ghost use Rattle.tv_farkas.specs.Paths.{IsWholeAt, IsFirstFraction};
 ghost use Rattle.tv_farkas.specs.Stretching.{AreWhole, IsFirstOpen, AreDivided, IsFloor};
 

@@ -3,7 +3,7 @@
 ghost use Rattle.std.specs.Prelude.{◌≡◌, ◌+◌, ◌-◌, ◌*◌, ◌^◌, ◌<◌, ◌≤◌, ◌++◌, ◌∷◌, [], All, length, map, pos, IfOk, IsTrue, ◌↔◌};
 ghost use Rattle.tv_linear.specs.Linear.{columns as width, entry};
 ghost use Rattle.tv_linear.specs.Arithmetic.{zeros};
-ghost use Rattle.tv_tableau.specs.Systems.{IsWhole};
+ghost use Rattle.tv_simplex.specs.Systems.{IsWhole};
 ghost use Rattle.tv_simplex.specs.Views.{equations};
 ghost use Rattle.tv_farkas.specs.RefutationSystem.{numbers_below, refutation_system, IsLarge};
 

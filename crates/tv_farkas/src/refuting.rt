@@ -3,8 +3,8 @@
 ghost use Rattle.std.specs.Prelude.{◌≡◌, ℕ, ◌+◌, ◌-◌, ◌*◌, ◌^◌, ◌<◌, ◌≤◌, ◌++◌, ◌∷◌, [], All, length, map, get_or, neg_ℤ, pos, IfOk, MatchResult};
 ghost use Rattle.std.specs.Result.{IfErr};
 ghost use Rattle.tv_linear.specs.Linear.{columns as width};
-ghost use Rattle.tv_tableau.specs.Choices.{choices};
-ghost use Rattle.tv_tableau.specs.Outcomes.{IsShort, IsFirstWide};
+ghost use Rattle.tv_simplex.specs.Choices.{choices};
+ghost use Rattle.tv_simplex.specs.Outcomes.{IsShort, IsFirstWide};
 ghost use Rattle.tv_simplex.specs.Views.{IsFirstRefusal, IsNotSpent};
 ghost use Rattle.tv_farkas.specs.RefutationSystem.{refutation_system, IsLarge};
 ghost use Rattle.tv_farkas.specs.Refuting.{IsRefuted, IsShortRefuted, GivesRefuted, IsRefusal, IsSize, IsOppositePoint};

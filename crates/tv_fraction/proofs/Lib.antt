@@ -1,4 +1,3 @@
-pub mod Ring
 pub mod LowestTerms
 pub mod Products
 pub mod CrossProducts

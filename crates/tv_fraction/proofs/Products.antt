@@ -4,7 +4,6 @@ use mir.Val.{to_z, of_z}
 use Rattle.std.proofs.lemmas.Int.{ints, to_z-of_z, unsigned_abs-mul, fits_signed_from_abs}
 use Rattle.std.proofs.lemmas.Nat.{mul-lt}
 use Rattle.std.proofs.Math.IntN.{*ℤ_comm}
-use Rattle.tv_fraction.proofs.Ring.{neg_times_z}
 
 -- a product is below the product of the bounds
 pub product_below : (a b : ℤ) (m n : ℕ) → unsigned_abs a < m → unsigned_abs b < n → unsigned_abs (a *ℤ b) < m * n
@@ -47,10 +46,7 @@ negated_below r a m f h b l =
 
 -- both parts of a ratio may be negated
 pub both_negative : (r u o d : ℤ) → r *ℤ neg_ℤ u ≡ neg_ℤ o *ℤ d → r *ℤ u ≡ o *ℤ d
-both_negative r u o d e =
-    let x : r *ℤ neg_ℤ u ≡ neg_ℤ (r *ℤ u) = *ℤ_comm r (neg_ℤ u) ∙ neg_times_z u r ∙ ap neg_ℤ (*ℤ_comm u r) in
-    let y = neg_times_z o d in
-    omega (arith, ints)
+both_negative r u o d e = grind (arith, ints, e)
 
 -- a product of numbers other than 0 is not 0
 pub not_none : (a b : ℤ) → pos 0 <ℤ a → (b ≡ pos 0 → ⊥) → (a *ℤ b ≡ pos 0 → ⊥)

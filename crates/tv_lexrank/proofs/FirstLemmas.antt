@@ -19,7 +19,7 @@ use Rattle.tv_lexrank.specs.declared.attempt.Attempt.{Attempt}
 use Rattle.tv_lexrank.specs.declared.attempt.Attempt.TheVariants.{Stuck}
 use Rattle.tv_lexrank.specs.Attempt.{NeverRises, IsAttempt, RefusesAttempt}
 use Rattle.tv_lexrank.specs.First.{arc_of, AreComponents, RefusesFirst}
-use Rattle.tv_tableau.specs.Outcomes.{IsBarrierOf}
+use Rattle.tv_simplex.specs.Outcomes.{IsBarrierOf}
 use Rattle.tv_rank.specs.RankingSystem.{ranking_system}
 use Rattle.tv_rank.specs.Rankings.{HasPoint, NoneRanks}
 use Rattle.tv_lexrank.specs.Parts.{IsStuck}

@@ -4,7 +4,7 @@ use Rattle.std.proofs.lemmas.List.{map-append}
 use Rattle.tv_linear.specs.declared.region.Piece.{Piece}
 use Rattle.tv_cases.specs.LinearCases.{CaseSystem}
 use Rattle.tv_refute.proofs.Places.{get_or-left, get_or-right}
-use Rattle.tv_tableau.specs.Outcomes.{IsBarrierOf}
+use Rattle.tv_simplex.specs.Outcomes.{IsBarrierOf}
 use Rattle.tv_rank.specs.declared.name.Name.{Name}
 use Rattle.tv_rank.specs.declared.name.Name.TheVariants as name
 use Rattle.tv_rank.specs.declared.found.Found.{Found}

@@ -11,3 +11,4 @@ pub mod RowValues
 pub mod KnownLemmas
 pub mod Covered
 pub mod FallLemmas
+pub mod PackedLemmas

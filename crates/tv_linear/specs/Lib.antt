@@ -11,3 +11,5 @@ pub mod Refutation
 pub mod Covers
 pub mod Terms
 pub mod Falls
+pub mod Packed
+pub mod Views

@@ -3,14 +3,14 @@ use Rattle.std.proofs.Common.{◌≡◌, ◌⊎◌, inl, inr, ℕ, ◌*◌, ◌<
 use Rattle.std.proofs.lemmas.List.{length-map}
 use Rattle.tv_cases.specs.declared.case.Case.{Case}
 use Rattle.tv_cases.specs.Views.{case_view, case_views}
-use Rattle.tv_tableau.specs.Systems.{Equations}
+use Rattle.tv_simplex.specs.Systems.{Equations}
 use Rattle.tv_rank.specs.declared.question.Question.{Question}
 use Rattle.tv_rank.specs.declared.unknown.Unknown.{Unknown}
 use Rattle.tv_rank.specs.declared.unknown.Line.{Line}
 use Rattle.tv_rank.specs.Given.{IsBetween, AreNumbered}
 use Rattle.tv_rank.specs.RankingSystem.{lines, system_over}
 use Rattle.tv_rank.specs.Questions.{ways_of, many_of, unknowns_of, system_asked}
-use Rattle.tv_tableau.specs.Outcomes.{IsSolutionOf, IsNarrowSystem, GivesSolution}
+use Rattle.tv_simplex.specs.Outcomes.{IsSolutionOf, IsNarrowSystem, GivesSolution}
 use Rattle.tv_rank.specs.declared.found.Found.{Found}
 use Rattle.tv_rank.specs.declared.found.Found.TheVariants as found
 use Rattle.tv_rank.specs.Given.{lists}

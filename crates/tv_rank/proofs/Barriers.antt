@@ -3,9 +3,9 @@ use Rattle.std.proofs.lemmas.Int.{ints}
 use Rattle.tv_linear.proofs.Ring.{neg_times_z}
 use Rattle.tv_linear.specs.Linear.{linear}
 use Rattle.tv_linear.specs.Known.{number}
-use Rattle.tv_tableau.specs.Sums.{total}
-use Rattle.tv_tableau.proofs.Sums.{total-same, total-less, total-times, total-zero, total-swap}
-use Rattle.tv_tableau.proofs.Ring.{times_less, less_times}
+use Rattle.tv_simplex.specs.Sums.{total}
+use Rattle.tv_simplex.proofs.Sums.{total-same, total-less, total-times, total-zero, total-swap}
+use Rattle.tv_simplex.proofs.Ring.{times_less, less_times}
 use Rattle.tv_rank.specs.declared.unknown.Identity.{Identity}
 use Rattle.tv_rank.specs.declared.unknown.Identity.TheVariants.{Step, Bound}
 use Rattle.tv_rank.specs.declared.unknown.Unknown.{Unknown}

@@ -1,8 +1,8 @@
 use Rattle.std.proofs.Common.{◌≡◌, ℕ, zero, suc, ◌⊎◌, inl, inr, ◌<◌, Option, None, arith, refl, ap, ◌∙◌, subst, ℤ, pos, negsuc, ◌+ℤ◌, ◌-ℤ◌, ◌*ℤ◌, ◌<ℤ◌, ◌≤ℤ◌}
 use Rattle.std.proofs.lemmas.Int.{ints}
-use Rattle.tv_linear.proofs.Ring.{distribute_z}
-use Rattle.tv_tableau.proofs.Ring.{by_sign, times_zero, mul_swap, not_above, not_under_times, times_less}
-use Rattle.tv_tableau.specs.Sums.{total}
+use Rattle.tv_linear.proofs.Ring.{distribute_z, not_above}
+use Rattle.tv_simplex.proofs.Ring.{by_sign, times_zero, mul_swap, not_under_times, times_less}
+use Rattle.tv_simplex.specs.Sums.{total}
 use Rattle.tv_rank.specs.Ways.{Way}
 use Rattle.tv_rank.specs.RankingSystem.{unit_at, after}
 use Rattle.tv_rank.proofs.Over.{over-same, over-add, over-times}

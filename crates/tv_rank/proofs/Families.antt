@@ -12,7 +12,7 @@ use Rattle.tv_linear.specs.Terms.{table, update_of, terms_after}
 use Rattle.tv_refute.proofs.Places.{get_or-left, get_or-right, get_or-table, length-table}
 use Rattle.tv_farkas.proofs.SystemLemmas.{all_of}
 use Rattle.tv_simplex.proofs.SettleLemmas.{given_left}
-use Rattle.tv_tableau.specs.Outcomes.{IsShort, IsNarrow, IsSolutionOf, IsNarrowSystem}
+use Rattle.tv_simplex.specs.Outcomes.{IsShort, IsNarrow, IsSolutionOf, IsNarrowSystem}
 use Rattle.tv_rank.specs.declared.unknown.Identity.TheVariants.{Step, Bound}
 use Rattle.tv_rank.specs.declared.unknown.Unknown.{Unknown}
 use Rattle.tv_rank.specs.declared.unknown.Unknown.TheVariants.{Slack}

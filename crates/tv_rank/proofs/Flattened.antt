@@ -4,10 +4,10 @@ use Rattle.std.proofs.lemmas.List.{length-map}
 use Rattle.std.proofs.Math.IntN.{*ℤ_comm}
 use Rattle.std.specs.List.{AllByRecursion}
 use Rattle.tv_refute.proofs.Places.{get_or-map}
-use Rattle.tv_tableau.specs.Sums.{total}
-use Rattle.tv_tableau.specs.Systems.{entry_at, right_at}
-use Rattle.tv_tableau.specs.Outcomes.{IsBarrierOf}
-use Rattle.tv_tableau.proofs.Sums.{total-same}
+use Rattle.tv_simplex.specs.Sums.{total}
+use Rattle.tv_simplex.specs.Systems.{entry_at, right_at}
+use Rattle.tv_simplex.specs.Outcomes.{IsBarrierOf}
+use Rattle.tv_simplex.proofs.Sums.{total-same}
 use Rattle.tv_rank.specs.declared.unknown.Identity.{Identity}
 use Rattle.tv_rank.specs.declared.unknown.Identity.TheVariants.{Step, Bound}
 use Rattle.tv_rank.specs.declared.unknown.Unknown.{Unknown}

@@ -1,8 +1,8 @@
 use Rattle.std.proofs.Common.{◌≡◌, ℕ, zero, suc, ◌⊎◌, inl, inr, ◌+◌, ◌*◌, ◌<◌, List, [], ◌∷◌, ◌++◌, length, length-append, map, get_or, Option, None, Some, Bool, true, false, if◌then◌else◌, arith, refl, sym, ap, ◌∙◌, subst, ℤ, pos, ◌+ℤ◌, ◌*ℤ◌}
 use Rattle.std.proofs.lemmas.Int.{ints}
 use Rattle.std.specs.List.{AllByRecursion, flat_map}
-use Rattle.tv_tableau.specs.Sums.{total}
-use Rattle.tv_tableau.proofs.Sums.{total-same}
+use Rattle.tv_simplex.specs.Sums.{total}
+use Rattle.tv_simplex.proofs.Sums.{total-same}
 use Rattle.tv_refute.proofs.Places.{get_or-left, get_or-right}
 use Rattle.tv_rank.specs.declared.unknown.Identity.{Identity}
 use Rattle.tv_rank.specs.declared.unknown.Identity.TheVariants.{Step}

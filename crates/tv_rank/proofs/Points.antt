@@ -6,8 +6,8 @@ use Rattle.tv_linear.specs.Terms.{table, update_of}
 use Rattle.tv_linear.specs.declared.region.Update.{Update}
 use Rattle.tv_refute.proofs.Places.{length-table, get_or-table}
 use Rattle.tv_farkas.proofs.SystemLemmas.{all_of, at_of}
-use Rattle.tv_tableau.specs.Sums.{total}
-use Rattle.tv_tableau.proofs.Sums.{total-same, total-zero}
+use Rattle.tv_simplex.specs.Sums.{total}
+use Rattle.tv_simplex.proofs.Sums.{total-same, total-zero}
 use Rattle.tv_rank.specs.Ways.{Way, met_rows}
 use Rattle.tv_rank.specs.RankingSystem.{number_of}
 use Rattle.tv_rank.specs.Rankings.{term_at, scaled_term, value_before, value_after, IsWayPoint, HasPoint, Ranks}

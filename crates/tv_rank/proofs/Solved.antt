@@ -9,11 +9,11 @@ use Rattle.tv_linear.specs.Linear.{Linear, columns}
 use Rattle.tv_linear.specs.Known.{Term, kept, put, number, given, composed, known_number, term_number, place_sum}
 use Rattle.tv_linear.specs.Terms.{table, update_of, terms_after}
 use Rattle.tv_refute.proofs.Places.{get_or-left, get_or-right, get_or-map, unit_same, unit_other}
-use Rattle.tv_tableau.specs.Sums.{total}
-use Rattle.tv_tableau.specs.Systems.{entry_at}
-use Rattle.tv_tableau.specs.Outcomes.{IsSolutionOf}
-use Rattle.tv_tableau.proofs.Sums.{total-same, total-less, total-zero}
-use Rattle.tv_tableau.proofs.Ring.{times_less, less_times}
+use Rattle.tv_simplex.specs.Sums.{total}
+use Rattle.tv_simplex.specs.Systems.{entry_at}
+use Rattle.tv_simplex.specs.Outcomes.{IsSolutionOf}
+use Rattle.tv_simplex.proofs.Sums.{total-same, total-less, total-zero}
+use Rattle.tv_simplex.proofs.Ring.{times_less, less_times}
 use Rattle.tv_rank.specs.declared.unknown.Identity.{Identity}
 use Rattle.tv_rank.specs.declared.unknown.Identity.TheVariants.{Step, Bound}
 use Rattle.tv_rank.specs.declared.unknown.Unknown.{Unknown}

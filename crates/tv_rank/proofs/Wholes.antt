@@ -5,7 +5,7 @@ use Rattle.std.specs.List.{AllByRecursion}
 use Rattle.tv_farkas.proofs.SystemLemmas.{at_of}
 use Rattle.tv_linear.specs.declared.region.Piece.{Piece}
 use Rattle.tv_cases.specs.LinearCases.{LinearCase}
-use Rattle.tv_tableau.specs.Systems.{IsWhole}
+use Rattle.tv_simplex.specs.Systems.{IsWhole}
 use Rattle.tv_rank.specs.declared.unknown.Identity.{Identity}
 use Rattle.tv_rank.specs.declared.unknown.Identity.TheVariants.{Step, Bound}
 use Rattle.tv_rank.specs.declared.unknown.Line.{Line}

@@ -1,8 +1,8 @@
 use Rattle.std.specs.Prelude.{◌≡◌, ℕ, ◌+◌, ◌*◌, ◌<◌, ◌≤◌, List, length, ℤ, Result, MatchResult}
 use Rattle.std.specs.Result.{IfErr}
-use Rattle.tv_tableau.specs.Systems.{Equations}
-use Rattle.tv_tableau.specs.Choices.{choices}
-use Rattle.tv_tableau.specs.Outcomes.{IsBarrierOf, GivesSolution, GivesBarrier, IsFirstWide}
+use Rattle.tv_simplex.specs.Systems.{Equations}
+use Rattle.tv_simplex.specs.Choices.{choices}
+use Rattle.tv_simplex.specs.Outcomes.{IsBarrierOf, GivesSolution, GivesBarrier, IsFirstWide}
 use Rattle.tv_simplex.specs.declared.system.System.{System}
 use Rattle.tv_simplex.specs.declared.fault.SolveFault.{SolveFault}
 use Rattle.tv_simplex.specs.declared.fault.SolveFault.TheVariants as fault

@@ -1,4 +1,4 @@
-use Rattle.tv_tableau.specs.Outcomes.{IsShort}
+use Rattle.tv_simplex.specs.Outcomes.{IsShort}
 use Rattle.std.specs.Prelude.{Vec, ℤ, pos, ◌≤ℤ◌, ℕ, ◌<◌, List, length, map, get_or, All}
 use Rattle.tv_linear.specs.declared.region.Piece.{Piece}
 use Rattle.tv_rank.specs.declared.unknown.Identity.{Identity}

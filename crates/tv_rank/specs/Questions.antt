@@ -1,6 +1,6 @@
 use Rattle.std.specs.Prelude.{ℕ, List, length}
 use Rattle.tv_cases.specs.Views.{case_views}
-use Rattle.tv_tableau.specs.Systems.{Equations}
+use Rattle.tv_simplex.specs.Systems.{Equations}
 use Rattle.tv_rank.specs.declared.question.Question.{Question}
 use Rattle.tv_rank.specs.Ways.{Way, way_at}
 use Rattle.tv_rank.specs.declared.unknown.Unknown.{Unknown}

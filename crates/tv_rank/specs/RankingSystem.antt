@@ -3,7 +3,7 @@ use Rattle.std.specs.List.{flat_map}
 use Rattle.tv_linear.specs.Linear.{linear}
 use Rattle.tv_linear.specs.Known.{Term, kept, put, number}
 use Rattle.tv_linear.specs.Terms.{update_of}
-use Rattle.tv_tableau.specs.Systems.{Equations}
+use Rattle.tv_simplex.specs.Systems.{Equations}
 use Rattle.tv_rank.specs.declared.unknown.Identity.{Identity}
 use Rattle.tv_rank.specs.declared.unknown.Identity.TheVariants.{Step, Bound}
 use Rattle.tv_rank.specs.declared.unknown.Unknown.{Unknown}

@@ -3,7 +3,7 @@ use Rattle.std.specs.Prelude.{◌≡◌, ℕ, ◌<◌, List, length, get_or, Res
 use Rattle.std.specs.Result.{IfErr}
 use Rattle.tv_linear.specs.declared.region.Piece.{Piece}
 use Rattle.tv_cases.specs.LinearCases.{CaseSystem}
-use Rattle.tv_tableau.specs.Systems.{Equations}
+use Rattle.tv_simplex.specs.Systems.{Equations}
 use Rattle.tv_simplex.specs.declared.fault.SolveFault.{SolveFault}
 use Rattle.tv_rank.specs.declared.found.Found.{Found}
 use Rattle.tv_rank.specs.Ways.{way_at}

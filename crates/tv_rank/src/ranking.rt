@@ -3,7 +3,7 @@
 ghost use Rattle.std.specs.Prelude.{◌≡◌, ℕ, ◌*◌, ◌<◌, ◌≤◌, length, get_or, All, IfOk, MatchResult, Contains};
 ghost use Rattle.std.specs.Result.{IfErr};
 ghost use Rattle.tv_cases.specs.Systems.{cases_of};
-ghost use Rattle.tv_tableau.specs.Outcomes.{IsNarrowSystem};
+ghost use Rattle.tv_simplex.specs.Outcomes.{IsNarrowSystem};
 ghost use Rattle.tv_simplex.specs.Views.{equations, IsAnswer, GivesAnswer};
 ghost use Rattle.tv_rank.specs.Given.{AreNumbered, AreParts};
 ghost use Rattle.tv_rank.specs.Questions.{unknowns_of, system_asked};

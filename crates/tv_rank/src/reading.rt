@@ -2,7 +2,7 @@
 
 ghost use Rattle.std.specs.Prelude.{◌≡◌, ℕ, ◌+◌, ◌*◌, ◌<◌, ◌≤◌, ◌-◌, ◌^◌, ◌++◌, ◌∷◌, [], length, map, get_or, All, IfOk, pos, ◌-ℤ◌, ◌≤ℤ◌};
 ghost use Rattle.tv_linear.specs.Linear.{IsWithin};
-ghost use Rattle.tv_tableau.specs.Outcomes.{IsShort};
+ghost use Rattle.tv_simplex.specs.Outcomes.{IsShort};
 ghost use Rattle.tv_rank.specs.Given.{AreParts, lists};
 ghost use Rattle.tv_rank.specs.Questions.{ways_of, many_of, terms_until};
 ghost use Rattle.tv_rank.specs.Ways.{met_rows};

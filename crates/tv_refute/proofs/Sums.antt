@@ -16,8 +16,8 @@ use Rattle.tv_refute.specs.Frames.{known_at}
 use Rattle.tv_refute.specs.declared.frames.Frames.{Frames}
 use Rattle.tv_refute.specs.declared.frames.Frames.TheVariants.{Rows as At, More}
 use Rattle.tv_refute.specs.declared.built.Built.{Built}
-use Rattle.tv_rows.specs.declared.rows.Rows.{Rows}
-use Rattle.tv_rows.specs.Views.{rows_seen}
+use Rattle.tv_linear.specs.declared.rows.Rows.{Rows}
+use Rattle.tv_linear.specs.Views.{rows_seen}
 use Rattle.std.specs.Borrow.{Bor}
 
 -- ---- given rows

@@ -1,7 +1,7 @@
 use Rattle.tv_linear.specs.Linear.{Linear}
 use Rattle.tv_linear.specs.Known.{Known, given, denied, composed, less}
 use Rattle.tv_linear.specs.Falls.{zero_row}
-use Rattle.tv_rows.specs.Views.{row_seen}
+use Rattle.tv_linear.specs.Views.{row_seen}
 use Rattle.tv_refute.specs.Terms.{terms_of}
 use Rattle.tv_refute.specs.declared.built.Built.{Built, Zero, Given, Denied', Composed', Less'}
 use Rattle.tv_refute.specs.declared.shown.Change.{Change}

@@ -1,6 +1,6 @@
 use Rattle.std.specs.Prelude.{List, [], ◌∷◌, ◌++◌}
 use Rattle.tv_linear.specs.Known.{Known, as_given}
-use Rattle.tv_rows.specs.Views.{rows_seen}
+use Rattle.tv_linear.specs.Views.{rows_seen}
 use Rattle.tv_refute.specs.Built.{built}
 use Rattle.tv_refute.specs.declared.frames.Frames.{Frames, End, Rows', More'}
 

@@ -4,13 +4,13 @@ ghost use Rattle.std.specs.Prelude.{◌≡◌, ◌≤◌, ◌<◌, pos, ◌+ℤ�
 ghost use Rattle.tv_linear.specs.Known.{number, kept, term_number, given};
 ghost use Rattle.tv_refute.specs.Blocks.{further, AreTold, IsAddedHeld, AreHeld, TermsHeld, terms_sum};
 ghost use Rattle.tv_refute.specs.Terms.{terms_of};
-ghost use Rattle.tv_rows.specs.Views.{row_seen};
+ghost use Rattle.tv_linear.specs.Views.{row_seen};
 
 use crate::addends::{Listed, Same, add_each};
 use crate::steps::{Put, PutSame, at, change_each};
 use crate::terms::{Terms, row_put, term_count};
 use tv_linear::held::add_product;
-use tv_rows::RowView;
+use tv_linear::RowView;
 
 /// What is left from a place on.
 fn tail(numbers: &[i64], from: usize) -> &[i64]

@@ -7,7 +7,7 @@ ghost use Rattle.tv_refute.specs.Terms.{terms_of};
 use crate::blocks::{add_term, compose_row, put_row};
 use crate::steps::{Deny, Lessen, PutSame, SameMore, change_each};
 use crate::terms::{Terms, term_count};
-use tv_rows::RowView;
+use tv_linear::RowView;
 
 /// A row by how it is made. It is never built: its numbers are read one by one.
 #[derive(Drop)]

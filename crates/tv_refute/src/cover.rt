@@ -7,8 +7,8 @@ ghost use Rattle.tv_refute.specs.Points.{AllEnter};
 use crate::built::Built;
 use crate::frames::Frames;
 use crate::refute::refutes;
-use tv_linear::CoverTree;
-use tv_rows::RowView;
+use tv_linear::{CoverTree, RowView};
+use tv_linear::RowView;
 
 /// What a cover leads into.
 pub trait Targets {

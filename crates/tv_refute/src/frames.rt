@@ -7,13 +7,13 @@ ghost use Rattle.tv_linear.specs.Refutation.{column_sum, ColumnHeld};
 ghost use Rattle.tv_refute.specs.Blocks.{further, AreTold, AreHeld, IsAddedHeld};
 ghost use Rattle.tv_refute.specs.Built.{built};
 ghost use Rattle.tv_refute.specs.Frames.{known_at};
-ghost use Rattle.tv_rows.specs.Views.{rows_seen};
+ghost use Rattle.tv_linear.specs.Views.{rows_seen};
 
 use crate::addends::{Denial, Read, add_each};
 use crate::blocks::add_row;
 use crate::built::{BLOCK, Built, read_numbers};
 use crate::steps::{PutSame, change_each};
-use tv_rows::Rows;
+use tv_linear::Rows;
 
 /// For so many columns the numbers of a row are read into a short list, which is made at once.
 const FEW: usize = 16;

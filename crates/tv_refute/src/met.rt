@@ -1,9 +1,9 @@
 ghost use Rattle.std.specs.Prelude.{◌≡◌, ◌+◌, ◌^◌, ◌<◌, ◌≤◌, ◌↔◌, ◌+ℤ◌, ◌*ℤ◌, ◌≤ℤ◌, ◌<ℤ◌, pos, length, unsigned_abs, IsTrue};
 ghost use Rattle.tv_linear.specs.Linear.{columns, IsWithin, IsMet};
 ghost use Rattle.tv_refute.specs.Wide.{whole, whole_of, IsSmall};
-ghost use Rattle.tv_rows.specs.Views.{row_seen};
+ghost use Rattle.tv_linear.specs.Views.{row_seen};
 
-use tv_rows::RowView;
+use tv_linear::RowView;
 
 const PART: i128 = 1 << 62;
 

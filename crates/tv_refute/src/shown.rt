@@ -5,13 +5,13 @@ ghost use Rattle.tv_linear.specs.Covers.{Shown};
 ghost use Rattle.tv_refute.specs.Built.{change_of};
 ghost use Rattle.tv_refute.specs.Frames.{known_at};
 ghost use Rattle.tv_refute.specs.Points.{Imply, ImplyAll};
-ghost use Rattle.tv_rows.specs.Views.{row_seen, rows_seen};
+ghost use Rattle.tv_linear.specs.Views.{row_seen, rows_seen};
 
 use crate::built::Built;
 use crate::frames::Frames;
 use crate::refute::refutes_denial;
 use crate::terms::Terms;
-use tv_rows::{RowView, Rows};
+use tv_linear::{RowView, Rows};
 
 /// How the rows of a target are changed before they are shown: terms are put in for their columns, once or
 /// twice.

@@ -9,11 +9,11 @@ ghost use Rattle.tv_cert.specs.Shapes.{owed_count};
 ghost use Rattle.tv_cert.specs.Targets.{target_rows, owed_into, no_fall};
 ghost use Rattle.tv_cert.specs.declared.node.Marked.{Marked};
 ghost use Rattle.tv_shape.specs.Counts.{counts_of, falls_past, AreFew};
-ghost use Rattle.tv_rows.specs.Views.{rows_seen};
+ghost use Rattle.tv_linear.specs.Views.{rows_seen};
 
 use tv_cert::{Mark, Marked, Node, Pieces, joined_piece_at};
-use tv_linear::Row;
-use tv_rows::Rows;
+use tv_linear::{Row, Rows};
+use tv_linear::Rows;
 
 /// What a cover or a choice leads into.
 #[derive(Drop)]

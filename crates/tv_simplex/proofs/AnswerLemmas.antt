@@ -3,13 +3,13 @@ use Rattle.std.specs.Int.{w128}
 use Rattle.std.proofs.lemmas.Int.{ints, fits_signed_from_abs}
 use Rattle.std.proofs.lemmas.List.{length-set, get_or-set_same, get_or-set_other}
 use Rattle.tv_fraction.specs.declared.Fraction.{Fraction}
-use Rattle.tv_tableau.proofs.Ring.{zero_times}
-use Rattle.tv_tableau.proofs.Sums.{total-zero, delta-same, delta-other}
-use Rattle.tv_tableau.specs.Sums.{total, delta}
-use Rattle.tv_tableau.specs.Systems.{Equations, sign}
-use Rattle.tv_tableau.specs.Chains.{column}
-use Rattle.tv_tableau.specs.Ratios.{Ratio}
-use Rattle.tv_tableau.specs.Outcomes.{IsShort}
+use Rattle.tv_simplex.proofs.Ring.{zero_times}
+use Rattle.tv_simplex.proofs.Sums.{total-zero, delta-same, delta-other}
+use Rattle.tv_simplex.specs.Sums.{total, delta}
+use Rattle.tv_simplex.specs.Systems.{Equations, sign}
+use Rattle.tv_simplex.specs.Chains.{column}
+use Rattle.tv_simplex.specs.Ratios.{Ratio}
+use Rattle.tv_simplex.specs.Outcomes.{IsShort}
 use Rattle.tv_simplex.proofs.ScaleLemmas.{get_or-append-last, get_or-append-before}
 use Rattle.tv_simplex.proofs.StartLemmas.{at_end, before_end}
 use Rattle.tv_simplex.specs.Rows.{ratio, ratio_at}

@@ -3,21 +3,21 @@ use Rattle.std.specs.Prelude.{nat_lt, int_lt, neg_ℤ, ◌*◌}
 use Rattle.std.proofs.lemmas.Int.{ints, unsigned_abs-mul}
 use Rattle.std.proofs.lemmas.Bool.Decides.{nat_tests}
 use Rattle.std.proofs.Math.IntN.{*ℤ_comm}
-use Rattle.tv_fraction.proofs.Ring.{mul_assoc_z}
+use Rattle.tv_linear.proofs.Ring.{mul_assoc_z}
 use Rattle.tv_fraction.specs.declared.Fraction.{Fraction}
-use Rattle.tv_tableau.proofs.Ring.{mul_swap, same_factor, times_zero, zero_times, less_times}
-use Rattle.tv_tableau.proofs.Sums.{total-same, total-delta, delta-same, delta-other}
-use Rattle.tv_tableau.proofs.Bounded.{columns_apart}
-use Rattle.tv_tableau.proofs.Matrices.{matrix_is_system}
-use Rattle.tv_tableau.proofs.Shown.{solves, unsolved, none_negative}
-use Rattle.tv_tableau.proofs.Signed.{sign-twice}
-use Rattle.tv_tableau.proofs.AnswersMet.{scaled_sum, solution_met, barrier_met}
-use Rattle.tv_tableau.specs.Sums.{total, delta}
-use Rattle.tv_tableau.specs.Systems.{Equations, matrix, sign, right_at}
-use Rattle.tv_tableau.specs.Chains.{column, objective}
-use Rattle.tv_tableau.specs.Answers.{barrier_of}
-use Rattle.tv_tableau.specs.Ratios.{IsRatio}
-use Rattle.tv_tableau.specs.Outcomes.{IsShort, IsSolutionOf, IsBarrierOf, InChain, GivesSolution, GivesBarrier, HasScale, HasNoScale, solution_number, barrier_number, EndsInSolution, EndsInBarrier}
+use Rattle.tv_simplex.proofs.Ring.{mul_swap, same_factor, times_zero, zero_times, less_times}
+use Rattle.tv_simplex.proofs.Sums.{total-same, total-delta, delta-same, delta-other}
+use Rattle.tv_simplex.proofs.Bounded.{columns_apart}
+use Rattle.tv_simplex.proofs.Matrices.{matrix_is_system}
+use Rattle.tv_simplex.proofs.Shown.{solves, unsolved, none_negative}
+use Rattle.tv_simplex.proofs.Signed.{sign-twice}
+use Rattle.tv_simplex.proofs.AnswersMet.{scaled_sum, solution_met, barrier_met}
+use Rattle.tv_simplex.specs.Sums.{total, delta}
+use Rattle.tv_simplex.specs.Systems.{Equations, matrix, sign, right_at}
+use Rattle.tv_simplex.specs.Chains.{column, objective}
+use Rattle.tv_simplex.specs.Answers.{barrier_of}
+use Rattle.tv_simplex.specs.Ratios.{IsRatio}
+use Rattle.tv_simplex.specs.Outcomes.{IsShort, IsSolutionOf, IsBarrierOf, InChain, GivesSolution, GivesBarrier, HasScale, HasNoScale, solution_number, barrier_number, EndsInSolution, EndsInBarrier}
 use Rattle.tv_simplex.specs.declared.stop.Stop.{Stop}
 use Rattle.tv_simplex.specs.declared.stop.Stop.TheVariants.{Wide, Scale, Memory}
 use Rattle.tv_simplex.specs.declared.table.Table.{Table}

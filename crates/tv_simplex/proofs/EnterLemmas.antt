@@ -3,10 +3,10 @@ use Rattle.std.proofs.lemmas.Int.{ints}
 use Rattle.std.proofs.Math.IntN.{*ℤ_comm}
 use Rattle.std.proofs.lemmas.List.{length-set, get_or-set_same, get_or-set_other}
 use Rattle.tv_fraction.specs.declared.Fraction.{Fraction}
-use Rattle.tv_tableau.proofs.Ring.{zero_times}
-use Rattle.tv_tableau.proofs.Sums.{delta-same, delta-other}
-use Rattle.tv_tableau.specs.Chains.{column}
-use Rattle.tv_tableau.specs.Ratios.{Ratio, IsQuotient, IsRest, IsExchanged}
+use Rattle.tv_simplex.proofs.Ring.{zero_times}
+use Rattle.tv_simplex.proofs.Sums.{delta-same, delta-other}
+use Rattle.tv_simplex.specs.Chains.{column}
+use Rattle.tv_simplex.specs.Ratios.{Ratio, IsQuotient, IsRest, IsExchanged}
 use Rattle.tv_simplex.specs.declared.table.Table.{Table}
 use Rattle.tv_simplex.specs.declared.table.Place.{Place}
 use Rattle.tv_simplex.specs.declared.table.Place.TheVariants.{Slot, Row}

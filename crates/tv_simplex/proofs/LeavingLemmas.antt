@@ -6,14 +6,14 @@ use Rattle.std.proofs.lemmas.Cmp.{int_ranked}
 use Rattle.std.proofs.lemmas.Int.{ints}
 use Rattle.tv_fraction.specs.declared.Fraction.{Fraction}
 use Rattle.std.proofs.Math.IntN.{*ℤ_comm}
-use Rattle.tv_tableau.proofs.Ring.{zero_times, by_sign, above_times, is_above, is_zero, times_zero, times_less}
-use Rattle.tv_tableau.proofs.RatioLemmas.{value_above, num_above}
-use Rattle.tv_tableau.proofs.Shown.{quotients_compared}
-use Rattle.tv_tableau.proofs.GoesOn.{least_first, least_skips, least_stays, least_taken, never_tied}
-use Rattle.tv_tableau.proofs.Leads.{leads-same}
-use Rattle.tv_tableau.specs.Chains.{order, column}
-use Rattle.tv_tableau.specs.Orders.{LeastOf, against}
-use Rattle.tv_tableau.specs.Ratios.{Ratio, IsRatio, IsQuotient, Shows}
+use Rattle.tv_simplex.proofs.Ring.{zero_times, by_sign, above_times, is_above, is_zero, times_zero, times_less}
+use Rattle.tv_simplex.proofs.RatioLemmas.{value_above, num_above}
+use Rattle.tv_simplex.proofs.Shown.{quotients_compared}
+use Rattle.tv_simplex.proofs.GoesOn.{least_first, least_skips, least_stays, least_taken, never_tied}
+use Rattle.tv_simplex.proofs.Leads.{leads-same}
+use Rattle.tv_simplex.specs.Chains.{order, column}
+use Rattle.tv_simplex.specs.Orders.{LeastOf, against}
+use Rattle.tv_simplex.specs.Ratios.{Ratio, IsRatio, IsQuotient, Shows}
 use Rattle.tv_simplex.specs.Rows.{ratio}
 use Rattle.tv_simplex.specs.Choosing.{IsSignOf, ComparesAt, difference_at, IsLexicographic, Compares, NoneAbove, IsLeast}
 

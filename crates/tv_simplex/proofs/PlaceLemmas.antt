@@ -3,14 +3,14 @@ use Rattle.std.specs.Prelude.{nat_lt}
 use Rattle.std.proofs.lemmas.Int.{ints}
 use Rattle.std.proofs.lemmas.Bool.Decides.{nat_tests}
 use Rattle.tv_fraction.specs.declared.Fraction.{Fraction}
-use Rattle.tv_tableau.proofs.Answered.{cost-one}
-use Rattle.tv_tableau.proofs.Matrices.{matrix_is_system}
-use Rattle.tv_tableau.proofs.Starts.{shows_start}
-use Rattle.tv_tableau.proofs.Sums.{total-same, total-delta, delta-above}
-use Rattle.tv_tableau.specs.Sums.{delta}
-use Rattle.tv_tableau.specs.Systems.{Equations, matrix}
-use Rattle.tv_tableau.specs.Chains.{column, IsArtificial}
-use Rattle.tv_tableau.specs.Ratios.{IsRatio}
+use Rattle.tv_simplex.proofs.Answered.{cost-one}
+use Rattle.tv_simplex.proofs.Matrices.{matrix_is_system}
+use Rattle.tv_simplex.proofs.Starts.{shows_start}
+use Rattle.tv_simplex.proofs.Sums.{total-same, total-delta, delta-above}
+use Rattle.tv_simplex.specs.Sums.{delta}
+use Rattle.tv_simplex.specs.Systems.{Equations, matrix}
+use Rattle.tv_simplex.specs.Chains.{column, IsArtificial}
+use Rattle.tv_simplex.specs.Ratios.{IsRatio}
 use Rattle.tv_simplex.specs.declared.table.Table.{Table}
 use Rattle.tv_simplex.specs.declared.table.Place.{Place}
 use Rattle.tv_simplex.specs.declared.table.Place.TheVariants.{Slot, Row}

@@ -2,10 +2,10 @@ use Rattle.std.proofs.Common.{Bool, true, false, IsTrue, ◌≡◌, ◌⊎◌, i
 use Rattle.std.proofs.lemmas.Int.{ints}
 use Rattle.std.proofs.Math.IntN.{*ℤ_comm}
 use Rattle.std.proofs.lemmas.List.{length-set}
-use Rattle.tv_fraction.proofs.Ring.{mul_assoc_z}
+use Rattle.tv_linear.proofs.Ring.{mul_assoc_z}
 use Rattle.tv_fraction.specs.declared.Fraction.{Fraction}
-use Rattle.tv_tableau.proofs.Ring.{zero_times, less_times}
-use Rattle.tv_tableau.specs.Ratios.{Ratio, IsRest}
+use Rattle.tv_simplex.proofs.Ring.{zero_times, less_times}
+use Rattle.tv_simplex.specs.Ratios.{Ratio, IsRest}
 use Rattle.tv_simplex.specs.Rows.{ratio, ratio_at, IsNarrowRatio, AreRests, IsWideRest}
 
 pub at_get : (xs : List Fraction) (j : ℕ) (d : Fraction) → j < length xs → ratio (get_or xs j d) ≡ ratio_at xs j

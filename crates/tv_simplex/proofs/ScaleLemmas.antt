@@ -4,7 +4,7 @@ use Rattle.std.proofs.Math.IntN.{*ℤ_comm}
 use Rattle.std.proofs.Math.Nat.{one-dvd, dvd-mul_left, dvd-mul_right, div-mul_cancel, mul-div_cancel', le_of_dvd, le_of_mul-le-mul_right}
 use Rattle.std.specs.Int.{IsGcd}
 use Prim.Native.Nat.{◌∣◌}
-use Rattle.tv_fraction.proofs.Ring.{mul_assoc_z}
+use Rattle.tv_linear.proofs.Ring.{mul_assoc_z}
 use Rattle.tv_fraction.proofs.Lowest.{divides}
 use Rattle.tv_fraction.proofs.LowestTerms.{gcd_above, lowest_same, lowest_above, lowest_coprime}
 use Rattle.tv_fraction.specs.Coprime.{AreCoprime}

@@ -3,18 +3,18 @@ use Rattle.std.specs.Prelude.{nat_lt}
 use Rattle.std.proofs.lemmas.Int.{ints, unsigned_abs-mul}
 use Rattle.std.proofs.lemmas.Bool.Decides.{nat_tests}
 use Rattle.std.proofs.Math.IntN.{*ℤ_comm}
-use Rattle.tv_fraction.proofs.Ring.{mul_assoc_z}
-use Rattle.tv_tableau.proofs.Ring.{mul_swap, same_factor}
-use Rattle.tv_tableau.proofs.Faults.{fewer}
-use Rattle.tv_tableau.proofs.Matrices.{matrix_is_system}
-use Rattle.tv_tableau.proofs.Reduced.{lowest_narrow}
-use Rattle.tv_tableau.proofs.Signed.{matrix-entry, matrix-right_is}
-use Rattle.tv_tableau.proofs.Starts.{shows_start}
-use Rattle.tv_tableau.specs.Choices.{choices}
-use Rattle.tv_tableau.specs.Systems.{Equations, IsWhole, entry_at, right_at, sign, matrix}
-use Rattle.tv_tableau.specs.Chains.{column, objective, IsArtificial}
-use Rattle.tv_tableau.specs.Ratios.{Ratio, IsRatio, Shows}
-use Rattle.tv_tableau.specs.Outcomes.{IsNarrow, HasNarrow, IsWide, InChain, IsGivenColumn, IsFirstWide, AreUnsettled, HasNoScale, given}
+use Rattle.tv_linear.proofs.Ring.{mul_assoc_z}
+use Rattle.tv_simplex.proofs.Ring.{mul_swap, same_factor}
+use Rattle.tv_simplex.proofs.Faults.{fewer}
+use Rattle.tv_simplex.proofs.Matrices.{matrix_is_system}
+use Rattle.tv_simplex.proofs.Reduced.{lowest_narrow}
+use Rattle.tv_simplex.proofs.Signed.{matrix-entry, matrix-right_is}
+use Rattle.tv_simplex.proofs.Starts.{shows_start}
+use Rattle.tv_simplex.specs.Choices.{choices}
+use Rattle.tv_simplex.specs.Systems.{Equations, IsWhole, entry_at, right_at, sign, matrix}
+use Rattle.tv_simplex.specs.Chains.{column, objective, IsArtificial}
+use Rattle.tv_simplex.specs.Ratios.{Ratio, IsRatio, Shows}
+use Rattle.tv_simplex.specs.Outcomes.{IsNarrow, HasNarrow, IsWide, InChain, IsGivenColumn, IsFirstWide, AreUnsettled, HasNoScale, given}
 use Rattle.tv_simplex.specs.declared.fault.SolveFault.{SolveFault}
 use Rattle.tv_simplex.specs.declared.fault.SolveFault.TheVariants as faults
 use Rattle.tv_simplex.specs.declared.stop.Stop.{Stop}

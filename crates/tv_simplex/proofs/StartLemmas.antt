@@ -1,14 +1,14 @@
 use Rattle.std.proofs.Common.{◌≡◌, ◌⊎◌, inl, inr, ℕ, zero, suc, ◌+◌, ◌-◌, ◌<◌, ◌≤◌, List, [], ◌∷◌, ◌++◌, length, length-append, arith, refl, sym, ap, ◌∙◌, subst, ℤ, pos}
 use Rattle.std.proofs.lemmas.Bool.Decides.{nat_tests}
 use Rattle.tv_fraction.specs.declared.Fraction.{Fraction}
-use Rattle.tv_tableau.proofs.Sums.{delta-same, delta-other}
-use Rattle.tv_tableau.proofs.Answered.{cost-one, cost-right}
-use Rattle.tv_tableau.proofs.Matrices.{matrix_is_system}
-use Rattle.tv_tableau.specs.Systems.{Equations, matrix, right_at}
-use Rattle.tv_tableau.specs.Chains.{cost}
-use Rattle.tv_tableau.specs.Ratios.{IsRatio}
+use Rattle.tv_simplex.proofs.Sums.{delta-same, delta-other}
+use Rattle.tv_simplex.proofs.Answered.{cost-one, cost-right}
+use Rattle.tv_simplex.proofs.Matrices.{matrix_is_system}
+use Rattle.tv_simplex.specs.Systems.{Equations, matrix, right_at}
+use Rattle.tv_simplex.specs.Chains.{cost}
+use Rattle.tv_simplex.specs.Ratios.{IsRatio}
 use Rattle.tv_simplex.specs.Rows.{ratio, ratio_at, IsNarrowRatio}
-use Rattle.tv_tableau.specs.Outcomes.{IsNarrow, IsNarrowSystem, given}
+use Rattle.tv_simplex.specs.Outcomes.{IsNarrow, IsNarrowSystem, given}
 
 pub cost_artificial : (m n j : ℕ) → n ≤ j → j < n + m → cost m n j ≡ pos 1
 cost_artificial m n j h l = (let e : j ≡ n + (j - n) = omega arith in ap (cost m n) e) ∙ cost-one m n (j - n) (omega arith)

@@ -2,9 +2,9 @@ use Rattle.std.proofs.Common.{◌≡◌, ◌⊎◌, inl, inr, ℕ, ◌+◌, ◌<
 use Rattle.std.proofs.lemmas.Int.{ints}
 use Rattle.std.proofs.lemmas.List.{length-set}
 use Rattle.tv_fraction.specs.declared.Fraction.{Fraction}
-use Rattle.tv_tableau.proofs.Sums.{delta-same, delta-other}
-use Rattle.tv_tableau.specs.Sums.{delta}
-use Rattle.tv_tableau.specs.Ratios.{Ratio}
+use Rattle.tv_simplex.proofs.Sums.{delta-same, delta-other}
+use Rattle.tv_simplex.specs.Sums.{delta}
+use Rattle.tv_simplex.specs.Ratios.{Ratio}
 use Rattle.tv_simplex.specs.Rows.{ratio, ratio_at, row_of, read, unit_at, IsNarrowRatio, IsNarrowRow, IsGrid}
 use Rattle.tv_simplex.proofs.RowLemmas.{at_set-same, at_set-other}
 use Rattle.tv_simplex.proofs.StartLemmas.{at_end, before_end}

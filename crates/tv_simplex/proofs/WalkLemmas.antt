@@ -3,17 +3,17 @@ use Rattle.std.specs.Prelude.{nat_lt}
 use Rattle.std.specs.List.{AllByRecursion}
 use Rattle.std.proofs.lemmas.Bool.Decides.{nat_tests}
 use Rattle.std.proofs.lemmas.List.{length-set}
-use Rattle.tv_tableau.proofs.GoesOn.{entry_above}
-use Rattle.tv_tableau.proofs.Matrices.{matrix_is_system}
+use Rattle.tv_simplex.proofs.GoesOn.{entry_above}
+use Rattle.tv_simplex.proofs.Matrices.{matrix_is_system}
 use Rattle.std.proofs.lemmas.Int.{ints}
-use Rattle.tv_tableau.proofs.Sums.{delta-above}
-use Rattle.tv_tableau.proofs.Reduced.{lowest_narrow}
-use Rattle.tv_tableau.proofs.Shown.{enters, unsolved, next_chain, next_is, next_row, next_objective, shows_next}
-use Rattle.tv_tableau.proofs.Transferred.{settles_any}
-use Rattle.tv_tableau.specs.Systems.{Equations, matrix}
-use Rattle.tv_tableau.specs.Chains.{column, objective, Enters, Leaves, Solves, Settles, IsChain}
-use Rattle.tv_tableau.specs.Ratios.{Shows, IsExchanged}
-use Rattle.tv_tableau.specs.Outcomes.{HasNarrow, IsWide, TableauOf, AreUnsettled}
+use Rattle.tv_simplex.proofs.Sums.{delta-above}
+use Rattle.tv_simplex.proofs.Reduced.{lowest_narrow}
+use Rattle.tv_simplex.proofs.Shown.{enters, unsolved, next_chain, next_is, next_row, next_objective, shows_next}
+use Rattle.tv_simplex.proofs.Transferred.{settles_any}
+use Rattle.tv_simplex.specs.Systems.{Equations, matrix}
+use Rattle.tv_simplex.specs.Chains.{column, objective, Enters, Leaves, Solves, Settles, IsChain}
+use Rattle.tv_simplex.specs.Ratios.{Shows, IsExchanged}
+use Rattle.tv_simplex.specs.Outcomes.{HasNarrow, IsWide, TableauOf, AreUnsettled}
 use Rattle.tv_simplex.specs.declared.table.Table.{Table}
 use Rattle.tv_simplex.specs.declared.stop.Stop.{Stop}
 use Rattle.tv_simplex.specs.declared.stop.Stop.TheVariants.{Wide, Scale, Memory}

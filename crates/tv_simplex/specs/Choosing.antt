@@ -1,9 +1,9 @@
 use Rattle.std.specs.Prelude.{◌≡◌, ℕ, ◌+◌, ◌<◌, ◌≤◌, List, ℤ, pos, ◌-ℤ◌, ◌*ℤ◌, ◌<ℤ◌, ◌≤ℤ◌}
 use Rattle.std.specs.declared.cmp.Ordering.{Ordering}
 use Rattle.std.specs.declared.cmp.Ordering.TheVariants.{Less, Equal, Greater}
-use Rattle.tv_tableau.specs.Chains.{LeadsAbove, order, column}
-use Rattle.tv_tableau.specs.Orders.{LeastOf}
-use Rattle.tv_tableau.specs.Ratios.{Ratio, IsRatio, Shows}
+use Rattle.tv_simplex.specs.Chains.{LeadsAbove, order, column}
+use Rattle.tv_simplex.specs.Orders.{LeastOf}
+use Rattle.tv_simplex.specs.Ratios.{Ratio, IsRatio, Shows}
 
 -- no entry of the row in the first n columns is negative
 abbrev pub NoneNegative : (ℕ → Ratio) → ℕ → Type 0

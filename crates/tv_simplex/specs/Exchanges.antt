@@ -1,7 +1,7 @@
 use Rattle.std.specs.Prelude.{◌≡◌, ℕ, ◌<◌, length, set}
 use Rattle.tv_fraction.specs.declared.Fraction.{Fraction}
-use Rattle.tv_tableau.specs.Chains.{column}
-use Rattle.tv_tableau.specs.Ratios.{IsExchanged}
+use Rattle.tv_simplex.specs.Chains.{column}
+use Rattle.tv_simplex.specs.Ratios.{IsExchanged}
 use Rattle.tv_simplex.specs.declared.table.Table.{Table}
 use Rattle.tv_simplex.specs.declared.table.Place.TheVariants.{Slot, Row}
 use Rattle.tv_simplex.specs.Rows.{ratio, IsNarrowRatio}

@@ -1,7 +1,7 @@
 use Rattle.std.specs.Prelude.{◌≡◌, ◌⊎◌, ℕ, zero, suc, ◌^◌, ◌<◌, List, [], ◌∷◌, length, map, get_or, Vec, pos, unsigned_abs}
 use Rattle.tv_fraction.specs.declared.Fraction.{Fraction}
-use Rattle.tv_tableau.specs.Sums.{delta}
-use Rattle.tv_tableau.specs.Ratios.{Ratio, IsQuotient, IsRest}
+use Rattle.tv_simplex.specs.Sums.{delta}
+use Rattle.tv_simplex.specs.Ratios.{Ratio, IsQuotient, IsRest}
 
 abbrev pub ratio : Fraction → Ratio
 ratio f = record { numerator = f.numerator; denominator = f.denominator }

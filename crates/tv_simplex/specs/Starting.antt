@@ -1,10 +1,10 @@
 use Rattle.std.specs.Prelude.{◌≡◌, ℕ, ◌+◌, ◌-◌, ◌<◌, ◌≤◌, List, length, Vec, ℤ, pos, ◌-ℤ◌, cond, nat_lt}
 use Rattle.tv_fraction.specs.declared.Fraction.{Fraction}
-use Rattle.tv_tableau.specs.Sums.{total}
-use Rattle.tv_tableau.specs.Systems.{Equations, matrix}
-use Rattle.tv_tableau.specs.Chains.{column, cost}
-use Rattle.tv_tableau.specs.Ratios.{IsRatio}
-use Rattle.tv_tableau.specs.Outcomes.{IsNarrow, IsGivenColumn, given}
+use Rattle.tv_simplex.specs.Sums.{total}
+use Rattle.tv_simplex.specs.Systems.{Equations, matrix}
+use Rattle.tv_simplex.specs.Chains.{column, cost}
+use Rattle.tv_simplex.specs.Ratios.{IsRatio}
+use Rattle.tv_simplex.specs.Outcomes.{IsNarrow, IsGivenColumn, given}
 use Rattle.tv_simplex.specs.declared.stop.Stop.{Stop}
 use Rattle.tv_simplex.specs.declared.stop.Stop.TheVariants.{Wide, Scale, Memory}
 use Rattle.tv_simplex.specs.declared.table.Place.{Place}

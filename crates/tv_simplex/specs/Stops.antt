@@ -1,6 +1,6 @@
 use Rattle.std.specs.Prelude.{◌≡◌, ℕ, ◌<◌, ◌^◌, List, length, Vec}
 use Rattle.tv_fraction.specs.declared.Fraction.{Fraction}
-use Rattle.tv_tableau.specs.Ratios.{Ratio}
+use Rattle.tv_simplex.specs.Ratios.{Ratio}
 use Rattle.tv_simplex.specs.declared.stop.Stop.{Stop}
 use Rattle.tv_simplex.specs.declared.stop.Stop.TheVariants.{Wide, Scale, Memory}
 use Rattle.tv_simplex.specs.declared.fault.SolveFault.{SolveFault}

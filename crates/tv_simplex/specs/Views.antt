@@ -4,9 +4,9 @@ use Rattle.tv_simplex.specs.declared.answer.Answer.{Answer}
 use Rattle.tv_simplex.specs.declared.answer.Answer.TheVariants.{Solution, Barrier}
 use Rattle.tv_simplex.specs.declared.fault.SolveFault.{SolveFault}
 use Rattle.tv_simplex.specs.declared.fault.SolveFault.TheVariants.{Width, Scale, Pivots, Size, Memory}
-use Rattle.tv_tableau.specs.Systems.{Equations}
-use Rattle.tv_tableau.specs.Chains.{IsArtificial}
-use Rattle.tv_tableau.specs.Outcomes.{IsSolutionOf, IsBarrierOf, GivesSolution, GivesBarrier, IsWide, HasNoScale, AreUnsettled}
+use Rattle.tv_simplex.specs.Systems.{Equations}
+use Rattle.tv_simplex.specs.Chains.{IsArtificial}
+use Rattle.tv_simplex.specs.Outcomes.{IsSolutionOf, IsBarrierOf, GivesSolution, GivesBarrier, IsWide, HasNoScale, AreUnsettled}
 
 -- the plain form of a system
 abbrev pub equations : System → Equations

@@ -1,10 +1,10 @@
 use Rattle.std.specs.Prelude.{◌≡◌, ℕ, ◌+◌, ◌<◌, ◌≤◌, List, length, get_or, ℤ, pos, ◌-ℤ◌, ◌*ℤ◌, ◌<ℤ◌}
 use Rattle.tv_fraction.specs.declared.Fraction.{Fraction}
-use Rattle.tv_tableau.specs.Sums.{total, delta}
-use Rattle.tv_tableau.specs.Systems.{Equations, matrix, sign}
-use Rattle.tv_tableau.specs.Chains.{column}
-use Rattle.tv_tableau.specs.Ratios.{Ratio, Shows}
-use Rattle.tv_tableau.specs.Outcomes.{IsShort, IsWide, HasNoScale}
+use Rattle.tv_simplex.specs.Sums.{total, delta}
+use Rattle.tv_simplex.specs.Systems.{Equations, matrix, sign}
+use Rattle.tv_simplex.specs.Chains.{column}
+use Rattle.tv_simplex.specs.Ratios.{Ratio, Shows}
+use Rattle.tv_simplex.specs.Outcomes.{IsShort, IsWide, HasNoScale}
 use Rattle.tv_simplex.specs.declared.answer.Answer.{Answer}
 use Rattle.tv_simplex.specs.declared.stop.Stop.{Stop}
 use Rattle.tv_simplex.specs.declared.stop.Stop.TheVariants.{Wide, Scale, Memory}

@@ -1,8 +1,8 @@
 // The answers of a basis that settles the system.
 
 ghost use Rattle.std.specs.Prelude.{◌≡◌, ◌+◌, ◌^◌, ◌<◌, ◌≤◌, ℕ, length, get_or, pos, IfOk, MatchOption, MatchResult, unsigned_abs, IsTrue, ◌↔◌};
-ghost use Rattle.tv_tableau.specs.Systems.{IsWhole};
-ghost use Rattle.tv_tableau.specs.Outcomes.{IsShort};
+ghost use Rattle.tv_simplex.specs.Systems.{IsWhole};
+ghost use Rattle.tv_simplex.specs.Outcomes.{IsShort};
 ghost use Rattle.tv_simplex.specs.Views.{equations};
 ghost use Rattle.tv_simplex.specs.Rows.{ratio};
 ghost use Rattle.tv_simplex.specs.Tables.{shown, IsTable};

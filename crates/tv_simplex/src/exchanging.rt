@@ -1,7 +1,7 @@
 // The exchange of a column of the basis.
 
 ghost use Rattle.std.specs.Prelude.{◌≡◌, ℕ, ◌<◌, ◌≤◌, ◌^◌, length, pos, ◌<ℤ◌, IfOk, MatchResult, slice_set};
-ghost use Rattle.tv_tableau.specs.Chains.{column as column_of};
+ghost use Rattle.tv_simplex.specs.Chains.{column as column_of};
 ghost use Rattle.tv_simplex.specs.declared.table.Place.TheVariants.{Slot, Row};
 ghost use Rattle.tv_simplex.specs.Rows.{ratio_at, row_of, IsNarrowRow, IsGrid, IsTaken, AreCleared, IsNext};
 ghost use Rattle.tv_simplex.specs.Stops.{IsClearingStop, IsExchangeStop, IsEnteringStop};

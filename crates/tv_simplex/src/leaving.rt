@@ -2,7 +2,7 @@
 
 ghost use Rattle.std.specs.Prelude.{◌≡◌, ℕ, ◌+◌, ◌<◌, ◌≤◌, ◌^◌, length, IsTrue, ◌↔◌, pos, ◌<ℤ◌, ◌≤ℤ◌, MatchOption};
 ghost use Rattle.tv_fraction.specs.Fraction.{numerator_of};
-ghost use Rattle.tv_tableau.specs.Chains.{order};
+ghost use Rattle.tv_simplex.specs.Chains.{order};
 ghost use Rattle.tv_simplex.specs.Tables.{shown, IsTable};
 ghost use Rattle.tv_simplex.specs.Choosing.{ComparesAt, Compares, NoneAbove, IsLeast};
 

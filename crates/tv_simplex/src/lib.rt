@@ -10,6 +10,7 @@ mod answering;
 mod entering;
 mod exchanging;
 mod fault;
+mod laws;
 mod leaving;
 mod numbers;
 mod push;
@@ -24,6 +25,10 @@ mod walking;
 
 pub use answer::Answer;
 pub use fault::SolveFault;
+pub use laws::{
+    chain_goes_on, chain_is_bounded, none_comes_twice, one_chain, one_tableau, settled_gives,
+    system_with_artificial_columns, unsettled_are_fewer, wide_in_each,
+};
 pub use push::push_item;
 pub use settling::solve;
 pub use system::System;

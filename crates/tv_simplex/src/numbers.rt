@@ -1,10 +1,10 @@
 // The numbers of a system, and those of the tableau of its artificial basis.
 
 ghost use Rattle.std.specs.Prelude.{◌≡◌, ◌+◌, ◌*◌, ◌^◌, ◌<◌, ◌≤◌, ℕ, ℤ, pos, ◌*ℤ◌, IsTrue, ◌↔◌, MatchOption, unsigned_abs};
-ghost use Rattle.tv_tableau.specs.Sums.{total};
-ghost use Rattle.tv_tableau.specs.Systems.{IsWhole, entry_at as spec_entry, right_at as spec_right, sign_of, matrix};
-ghost use Rattle.tv_tableau.specs.Chains.{cost};
-ghost use Rattle.tv_tableau.specs.Outcomes.{IsShort, IsNarrow, IsNarrowSystem, IsFirstWide};
+ghost use Rattle.tv_simplex.specs.Sums.{total};
+ghost use Rattle.tv_simplex.specs.Systems.{IsWhole, entry_at as spec_entry, right_at as spec_right, sign_of, matrix};
+ghost use Rattle.tv_simplex.specs.Chains.{cost};
+ghost use Rattle.tv_simplex.specs.Outcomes.{IsShort, IsNarrow, IsNarrowSystem, IsFirstWide};
 ghost use Rattle.tv_simplex.specs.Views.{equations};
 ghost use Rattle.tv_simplex.specs.Starting.{IsNarrowRowOf, IsFirstWideColumn, first_objective};
 

@@ -2,7 +2,7 @@
 
 ghost use Rattle.std.specs.Prelude.{◌≡◌, ℕ, ◌<◌, length, pos, ◌<ℤ◌, IsTrue, ◌↔◌, MatchOption, Option, None, slice_set};
 ghost use Rattle.tv_fraction.specs.Fraction.{numerator_of, IsNarrow};
-ghost use Rattle.tv_tableau.specs.Ratios.{IsQuotient, IsRest};
+ghost use Rattle.tv_simplex.specs.Ratios.{IsQuotient, IsRest};
 ghost use Rattle.tv_simplex.specs.Rows.{ratio, ratio_at, row_of, IsNarrowRatio, IsNarrowRow, AreQuotients, AreRests, IsWideQuotient, IsWideRest};
 
 use tv_fraction::{Fraction, div, mul_sub};

@@ -3,7 +3,7 @@
 ghost use Rattle.std.specs.Prelude.{◌≡◌, ◌≢◌, ◌+◌, ◌*◌, ◌^◌, ◌<◌, ◌≤◌, ℕ, length, pos, ◌*ℤ◌, unsigned_abs, IfOk, MatchOption, MatchResult};
 ghost use Prim.Native.Nat.{◌∣◌};
 ghost use Rattle.tv_fraction.specs.Fraction.{numerator_of, denominator_of};
-ghost use Rattle.tv_tableau.specs.Outcomes.{IsShort};
+ghost use Rattle.tv_simplex.specs.Outcomes.{IsShort};
 ghost use Rattle.tv_simplex.specs.Scales.{AreBounded, IsCommon, HasNoCommon, IsLarger, HasNoLarger, IsTimes, AreScaled, IsScalingStop};
 ghost use Rattle.tv_simplex.specs.Scales.{denominator_at as spec_denominator};
 

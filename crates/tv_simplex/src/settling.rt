@@ -2,9 +2,9 @@
 
 ghost use Rattle.std.specs.Prelude.{ℕ, ◌+◌, ◌≤◌, IfOk, MatchResult};
 ghost use Rattle.std.specs.Result.{IfErr};
-ghost use Rattle.tv_tableau.specs.Systems.{IsWhole};
-ghost use Rattle.tv_tableau.specs.Choices.{choices};
-ghost use Rattle.tv_tableau.specs.Outcomes.{IsFirstWide, IsNarrowSystem};
+ghost use Rattle.tv_simplex.specs.Systems.{IsWhole};
+ghost use Rattle.tv_simplex.specs.Choices.{choices};
+ghost use Rattle.tv_simplex.specs.Outcomes.{IsFirstWide, IsNarrowSystem};
 ghost use Rattle.tv_simplex.specs.Stops.{HasNumberedPlace, IsFaultAt};
 ghost use Rattle.tv_simplex.specs.Views.{equations, IsAnswer, GivesAnswer, IsFault, IsFirstRefusal, IsNotSpent};
 

@@ -1,10 +1,10 @@
 // The tableau of the artificial basis.
 
 ghost use Rattle.std.specs.Prelude.{◌≡◌, ◌+◌, ◌*◌, ◌^◌, ◌<◌, ◌≤◌, ℕ, pos, length, IfOk, MatchResult, unsigned_abs};
-ghost use Rattle.tv_tableau.specs.Systems.{IsWhole, matrix};
-ghost use Rattle.tv_tableau.specs.Chains.{IsArtificial};
-ghost use Rattle.tv_tableau.specs.Ratios.{IsRatio};
-ghost use Rattle.tv_tableau.specs.Outcomes.{IsNarrow, IsNarrowSystem};
+ghost use Rattle.tv_simplex.specs.Systems.{IsWhole, matrix};
+ghost use Rattle.tv_simplex.specs.Chains.{IsArtificial};
+ghost use Rattle.tv_simplex.specs.Ratios.{IsRatio};
+ghost use Rattle.tv_simplex.specs.Outcomes.{IsNarrow, IsNarrowSystem};
 ghost use Rattle.tv_simplex.specs.Views.{equations};
 ghost use Rattle.tv_simplex.specs.Rows.{ratio, IsNarrowRatio};
 ghost use Rattle.tv_simplex.specs.Starting.{AreFirstSlots, AreFirstPlaces, IsRowOf, IsFirstTable, IsStartStop, first_objective, first_slot};

@@ -1,8 +1,8 @@
 // The walk along the chain of bases.
 
 ghost use Rattle.std.specs.Prelude.{ℕ, ◌+◌, MatchOption, MatchResult};
-ghost use Rattle.tv_tableau.specs.Systems.{IsWhole};
-ghost use Rattle.tv_tableau.specs.Outcomes.{AreUnsettled};
+ghost use Rattle.tv_simplex.specs.Systems.{IsWhole};
+ghost use Rattle.tv_simplex.specs.Outcomes.{AreUnsettled};
 ghost use Rattle.tv_simplex.specs.Views.{equations};
 ghost use Rattle.tv_simplex.specs.Walking.{StandsAt, Stands, IsEntering, IsRight, IsStepStop, IsWalkStop};
 

@@ -1,5 +1,5 @@
 use Rattle.std.proofs.Common.{◌≡◌, ◌++◌, drop}
-use Rattle.tv_rows.specs.Views.{rows_seen}
+use Rattle.tv_linear.specs.Views.{rows_seen}
 use Rattle.tv_cert_reader.specs.CertificateLines.{row_lines}
 use Rattle.tv_cert_spelling.specs.Spelling.{all_spelled}
 use Rattle.tv_cert_spelling.proofs.parts.append_rows.Given as goal

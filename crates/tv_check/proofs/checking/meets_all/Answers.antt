@@ -1,6 +1,6 @@
 use Rattle.std.proofs.Common.{◌<◌, arith, length, refl}
 use Rattle.tv_linear.specs.Linear.{IsMet}
-use Rattle.tv_rows.specs.Views.{row_seen, rows_seen}
+use Rattle.tv_linear.specs.Views.{row_seen, rows_seen}
 use Rattle.tv_check.proofs.RowLemmas.{all_onward}
 use Rattle.tv_check.proofs.checking.meets_all.Goals as goal
 

@@ -1,7 +1,7 @@
 use Rattle.std.proofs.Common.{◌↔◌, drop}
 use Rattle.std.specs.Prelude.{All}
 use Rattle.tv_linear.specs.Linear.{IsMet}
-use Rattle.tv_rows.specs.Views.{rows_seen}
+use Rattle.tv_linear.specs.Views.{rows_seen}
 use Rattle.tv_check.proofs.checking.meets_all.Given as goal
 
 abbrev pub invariant-loop-i : goal.invariant-loop-i

@@ -4,7 +4,7 @@ use Rattle.tv_linear.specs.Known.{as_given}
 use Rattle.tv_linear.specs.Falls.{fall_rows}
 use Rattle.tv_refute.specs.Frames.{known_at}
 use Rattle.tv_refute.specs.Built.{change_of}
-use Rattle.tv_rows.specs.Views.{rows_seen}
+use Rattle.tv_linear.specs.Views.{rows_seen}
 use Rattle.tv_check.proofs.ShownLemmas.{few_at, shown_with, lists_split}
 use Rattle.tv_check.proofs.pieces.shown_piece.Goals as goal
 

@@ -1,6 +1,6 @@
 use Rattle.std.proofs.Common.{◌++◌, ◌+◌}
 use Rattle.tv_linear.specs.Known.{as_given}
-use Rattle.tv_rows.specs.Views.{rows_seen}
+use Rattle.tv_linear.specs.Views.{rows_seen}
 use Rattle.tv_check.proofs.ShownLemmas.{updates_moved}
 use Rattle.tv_check.proofs.steps.step_is_covered.Goals as goal
 

@@ -4,7 +4,7 @@ use Rattle.tv_cases.specs.Systems.{cases_of}
 use Rattle.tv_cert.specs.Obligations.{a_choice}
 use Rattle.tv_cert.specs.Owing.{destination_owes}
 use Rattle.tv_cert.specs.Pieces.{place_of}
-use Rattle.tv_rows.specs.Views.{rows_seen}
+use Rattle.tv_linear.specs.Views.{rows_seen}
 use Rattle.tv_check_text.specs.Judging.{JudgesProof}
 use Rattle.tv_check_text.proofs.ProofLemmas.{choice_judges}
 use Rattle.tv_check_text.proofs.judging.is_chosen.Goals as goal

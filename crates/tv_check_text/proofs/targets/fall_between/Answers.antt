@@ -1,5 +1,5 @@
 use Rattle.std.proofs.Common.{arith}
-use Rattle.tv_rows.specs.Views.{rows_seen}
+use Rattle.tv_linear.specs.Views.{rows_seen}
 use Rattle.tv_check_text.proofs.OwedLemmas.{no_fall, has_fall}
 use Rattle.tv_check_text.proofs.targets.fall_between.Goals as goal
 use Rattle.tv_check_text.proofs.targets.fall_between.Goals.{then-after-eq0-via-then-after-eq0, then-after-eq0-via-else-after-eq0+then-after-before, then-after-eq0-via-else-after-eq0+else-after-before+then-after-behind}

@@ -13,7 +13,7 @@ use Rattle.tv_farkas.specs.Stretching.{stretched, AreWhole, IsFirstOpen, AreDivi
 use Rattle.tv_farkas.proofs.SearchLemmas.{empty_tree, whole_found}
 use Rattle.std.proofs.Common.{ℕ, zero, suc, List, ◌++◌, ◌∷◌, [], ◌-◌, get_or, ℤ, pos, ◌+ℤ◌}
 use Rattle.tv_linear.specs.Linear.{IsMet}
-use Rattle.tv_tableau.specs.Outcomes.{IsShort}
+use Rattle.tv_simplex.specs.Outcomes.{IsShort}
 use Rattle.tv_farkas.specs.Paths.{IsWholeAt, IsWholePoint, at_most_row, at_least_row, rows_after}
 use Rattle.tv_farkas.specs.Emptying.{IsEmptyFault}
 use Rattle.tv_farkas.specs.Searching.{IsFound, IsSideFound, IsSideTree, IsFractionAt, MaySplit}

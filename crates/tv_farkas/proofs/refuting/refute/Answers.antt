@@ -1,5 +1,5 @@
 use Rattle.std.proofs.Common.{ℕ, ◌⊎◌, inl, inr, ◌+◌, ◌*◌, ◌<◌, ◌≤◌, length, subst, arith}
-use Rattle.tv_tableau.specs.Outcomes.{IsSolutionOf, IsBarrierOf, GivesBarrier, IsNarrowSystem}
+use Rattle.tv_simplex.specs.Outcomes.{IsSolutionOf, IsBarrierOf, GivesBarrier, IsNarrowSystem}
 use Rattle.tv_simplex.specs.Views.{equations, IsAnswer, GivesAnswer}
 use Rattle.tv_simplex.proofs.RowLemmas.{tested_false}
 use Rattle.tv_farkas.specs.Refuting.{IsOppositePoint}

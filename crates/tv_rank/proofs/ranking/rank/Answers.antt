@@ -1,6 +1,6 @@
 use Rattle.std.proofs.Common.{sym, subst}
-use Rattle.tv_tableau.specs.Systems.{IsWhole}
-use Rattle.tv_tableau.specs.Outcomes.{IsNarrowSystem, IsFirstWide}
+use Rattle.tv_simplex.specs.Systems.{IsWhole}
+use Rattle.tv_simplex.specs.Outcomes.{IsNarrowSystem, IsFirstWide}
 use Rattle.tv_rank.specs.Questions.{ways_of, many_of}
 use Rattle.tv_rank.proofs.Wholes.{ranking_whole}
 use Rattle.tv_rank.proofs.ranking.rank.Goals as goal

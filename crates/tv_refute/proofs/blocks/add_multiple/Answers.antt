@@ -4,7 +4,7 @@ use Rattle.std.proofs.lemmas.Int.{to_z-of_z}
 use Rattle.tv_linear.specs.Known.{kept, put, number, term_number}
 use Rattle.tv_refute.specs.Blocks.{further}
 use Rattle.tv_refute.specs.Terms.{terms_of}
-use Rattle.tv_rows.specs.Views.{row_seen}
+use Rattle.tv_linear.specs.Views.{row_seen}
 use Rattle.tv_refute.proofs.Telling.{AreTold_added, put_number}
 use Rattle.tv_refute.proofs.blocks.add_multiple.Goals as goal
 

@@ -3,7 +3,7 @@ use Rattle.std.specs.Int.{w128}
 use Rattle.std.proofs.lemmas.Int.{to_z-of_z}
 use Rattle.tv_linear.specs.Known.{number}
 use Rattle.tv_refute.specs.Blocks.{further, IsAddedHeld}
-use Rattle.tv_rows.specs.Views.{row_seen}
+use Rattle.tv_linear.specs.Views.{row_seen}
 use Rattle.tv_refute.proofs.Telling.{AreTold_added, AreTold_plain, tail_number, constant_number}
 use Rattle.tv_refute.proofs.blocks.add_row.Goals as goal
 

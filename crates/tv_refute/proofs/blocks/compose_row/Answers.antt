@@ -3,7 +3,7 @@ use Rattle.std.specs.Int.{w128}
 use Rattle.std.proofs.lemmas.Int.{to_z-of_z}
 use Rattle.tv_linear.specs.Known.{given}
 use Rattle.tv_refute.specs.Terms.{terms_of}
-use Rattle.tv_rows.specs.Views.{row_seen}
+use Rattle.tv_linear.specs.Views.{row_seen}
 use Rattle.tv_refute.proofs.Composed.{all_cleared, composed_next, compose_fails, composed_all}
 use Rattle.tv_refute.proofs.blocks.compose_row.Goals as goal
 

@@ -1,7 +1,7 @@
 use Rattle.std.proofs.Common.{◌≡◌, length}
 use Rattle.tv_linear.specs.Known.{given}
 use Rattle.tv_refute.specs.Terms.{terms_of}
-use Rattle.tv_rows.specs.Views.{row_seen}
+use Rattle.tv_linear.specs.Views.{row_seen}
 use Rattle.tv_refute.proofs.Composed.{AreComposing}
 use Rattle.tv_refute.proofs.blocks.compose_row.Given as goal
 

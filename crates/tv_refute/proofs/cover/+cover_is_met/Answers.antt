@@ -1,6 +1,6 @@
 use Rattle.std.proofs.Common.{refl}
 use Rattle.tv_linear.specs.Known.{given}
-use Rattle.tv_rows.specs.Views.{row_seen}
+use Rattle.tv_linear.specs.Views.{row_seen}
 use Rattle.tv_refute.specs.Frames.{known_at}
 use Rattle.tv_refute.proofs.ShownLemmas.{numbers}
 use Rattle.tv_refute.proofs.Soundness.{shown_enter, split_enter}

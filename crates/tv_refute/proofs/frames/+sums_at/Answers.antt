@@ -4,7 +4,7 @@ use Rattle.std.proofs.lemmas.Int.{to_z-of_z}
 use Rattle.tv_linear.specs.Known.{as_given}
 use Rattle.tv_refute.specs.Built.{built}
 use Rattle.tv_refute.specs.Frames.{known_at}
-use Rattle.tv_rows.specs.Views.{rows_seen}
+use Rattle.tv_linear.specs.Views.{rows_seen}
 use Rattle.tv_refute.proofs.Sums.{above_fails, rest_is, given_rest, one_rest, split_is, at_rows, rows_many, at_more, more_many, more_split}
 use Rattle.tv_refute.proofs.frames.+sums_at.Goals as goal
 

@@ -4,7 +4,7 @@ use Rattle.std.proofs.lemmas.Int.{to_z-of_z}
 use Rattle.std.proofs.lemmas.List.{get_or_default}
 use Rattle.tv_linear.specs.Falls.{zero_row}
 use Rattle.tv_linear.specs.Known.{number}
-use Rattle.tv_rows.specs.Views.{row_seen, rows_seen}
+use Rattle.tv_linear.specs.Views.{row_seen, rows_seen}
 use Rattle.tv_refute.specs.Blocks.{further}
 use Rattle.tv_refute.proofs.Telling.{AreTold_added}
 use Rattle.tv_refute.proofs.frames.add_row_at.Goals as goal

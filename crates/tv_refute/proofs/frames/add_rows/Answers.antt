@@ -3,7 +3,7 @@ use Rattle.std.specs.Int.{w64, w128}
 use Rattle.std.proofs.lemmas.Int.{to_z-of_z}
 use Rattle.std.proofs.lemmas.List.{get_or_default}
 use Rattle.tv_linear.specs.Falls.{zero_row}
-use Rattle.tv_rows.specs.Views.{rows_seen}
+use Rattle.tv_linear.specs.Views.{rows_seen}
 use Rattle.tv_refute.proofs.Sums.{summed_next, summed_fails}
 use Rattle.tv_refute.proofs.frames.add_rows.Goals as goal
 

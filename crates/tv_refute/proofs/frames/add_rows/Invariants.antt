@@ -1,5 +1,5 @@
 use Rattle.std.proofs.Common.{◌≡◌, length}
-use Rattle.tv_rows.specs.Views.{rows_seen}
+use Rattle.tv_linear.specs.Views.{rows_seen}
 use Rattle.tv_refute.proofs.Sums.{AreSummed}
 use Rattle.tv_refute.proofs.frames.add_rows.Given as goal
 

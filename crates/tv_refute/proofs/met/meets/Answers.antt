@@ -4,7 +4,7 @@ use Rattle.std.proofs.lemmas.Int.{ints, to_z-of_z}
 use Rattle.std.specs.Prelude.{IsTrue}
 use Rattle.tv_linear.specs.Linear.{dot, value}
 use Rattle.tv_refute.specs.Wide.{whole_of}
-use Rattle.tv_rows.specs.Views.{row_seen}
+use Rattle.tv_linear.specs.Views.{row_seen}
 use Rattle.tv_refute.proofs.Wholes.{summed_more, summed_all}
 use Rattle.tv_refute.proofs.met.meets.Goals as goal
 

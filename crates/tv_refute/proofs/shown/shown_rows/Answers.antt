@@ -1,7 +1,7 @@
 use Rattle.std.proofs.Common.{map, ◌∙◌}
 use Rattle.tv_refute.specs.Built.{change_of}
 use Rattle.tv_refute.specs.Frames.{known_at}
-use Rattle.tv_rows.specs.Views.{rows_seen}
+use Rattle.tv_linear.specs.Views.{rows_seen}
 use Rattle.tv_refute.proofs.ShownLemmas.{changed_many, numbers, Left_none}
 use Rattle.tv_refute.proofs.Soundness.{shown_each}
 use Rattle.tv_refute.proofs.shown.shown_rows.Goals as goal

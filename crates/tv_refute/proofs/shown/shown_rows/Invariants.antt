@@ -1,6 +1,6 @@
 use Rattle.tv_refute.specs.Built.{change_of}
 use Rattle.tv_refute.specs.Frames.{known_at}
-use Rattle.tv_rows.specs.Views.{rows_seen}
+use Rattle.tv_linear.specs.Views.{rows_seen}
 use Rattle.tv_refute.proofs.ShownLemmas.{Left}
 use Rattle.tv_refute.proofs.shown.shown_rows.Given as goal
 

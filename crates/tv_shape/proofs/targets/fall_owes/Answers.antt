@@ -1,5 +1,5 @@
 use Rattle.std.proofs.Common.{◌≡◌, ◌+◌, suc, arith, Some, sym, ◌∙◌, ap}
-use Rattle.tv_rows.specs.Views.{rows_seen}
+use Rattle.tv_linear.specs.Views.{rows_seen}
 use Rattle.tv_shape.proofs.CountLemmas.{fall_long, no_fall_rows}
 use Rattle.tv_shape.proofs.targets.fall_owes.Goals as goal
 

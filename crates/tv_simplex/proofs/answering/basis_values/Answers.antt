@@ -1,7 +1,7 @@
 use Rattle.std.proofs.Common.{◌<◌, ◌+◌, length, pos, get_or, set, sym, subst, arith}
 use Rattle.std.specs.Int.{w128}
 use Rattle.std.proofs.lemmas.Int.{to_z-of_z}
-use Rattle.tv_tableau.specs.Chains.{column}
+use Rattle.tv_simplex.specs.Chains.{column}
 use Rattle.tv_simplex.specs.Walking.{AreValues}
 use Rattle.tv_simplex.proofs.AnswerLemmas.{values_more, values_same, short_fits}
 use Rattle.tv_simplex.proofs.answering.basis_values.Goals.{then-column-len, else-column-len}

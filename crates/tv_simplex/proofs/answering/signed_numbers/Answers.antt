@@ -1,7 +1,7 @@
 use Rattle.std.proofs.Common.{rules, FitsSigned, pos, get_or, arith, ap, ◌∙◌, ◌*ℤ◌, unsigned_abs}
 use Rattle.std.specs.Int.{w128}
 use Rattle.std.proofs.lemmas.Int.{to_z-of_z}
-use Rattle.tv_tableau.specs.Systems.{sign_of}
+use Rattle.tv_simplex.specs.Systems.{sign_of}
 use Rattle.tv_simplex.specs.Views.{equations}
 use Rattle.tv_simplex.proofs.AnswerLemmas.{signed_more, short_fits}
 use Rattle.tv_simplex.proofs.answering.signed_numbers.Goals as goal

@@ -1,5 +1,5 @@
 use Rattle.std.proofs.Common.{ℕ, ◌≡◌, ◌<◌, ◌≤◌, ◌+◌, pos}
-use Rattle.tv_tableau.specs.Chains.{column}
+use Rattle.tv_simplex.specs.Chains.{column}
 use Rattle.tv_simplex.specs.Tables.{shown}
 use Rattle.tv_simplex.proofs.answering.unsolved_row.Given as goal
 

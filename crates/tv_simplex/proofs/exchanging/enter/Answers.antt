@@ -1,7 +1,7 @@
 use Rattle.std.proofs.Common.{length, arith, ap, subst, sym, ◌∙◌}
 use Rattle.std.proofs.lemmas.List.{with_items_is, length-set}
 use Rattle.std.specs.Vec.{with_items}
-use Rattle.tv_tableau.specs.Chains.{column}
+use Rattle.tv_simplex.specs.Chains.{column}
 use Rattle.tv_simplex.specs.Exchanges.{IsWideEntry}
 use Rattle.tv_simplex.proofs.EnterLemmas.{taken_of, width_of, grid_of, next_of, wide_of, wide_entry, entered, read_within}
 use Rattle.tv_simplex.specs.declared.table.Place.TheVariants.{Row}

@@ -1,6 +1,6 @@
 use Rattle.std.proofs.Common.{ℕ, ◌<◌, ◌+◌}
 use Rattle.std.specs.declared.cmp.Ordering.TheVariants.{Equal}
-use Rattle.tv_tableau.specs.Chains.{order}
+use Rattle.tv_simplex.specs.Chains.{order}
 use Rattle.tv_simplex.specs.Choosing.{ComparesAt}
 use Rattle.tv_simplex.specs.Tables.{shown}
 use Rattle.tv_simplex.proofs.leaving.compare_rows.Given as goal

@@ -1,6 +1,6 @@
 use Rattle.std.proofs.Common.{◌≡◌, ◌*◌, ◌^◌, ◌≤◌, unsigned_abs}
-use Rattle.tv_tableau.specs.Sums.{total}
-use Rattle.tv_tableau.specs.Systems.{matrix}
+use Rattle.tv_simplex.specs.Sums.{total}
+use Rattle.tv_simplex.specs.Systems.{matrix}
 use Rattle.tv_simplex.specs.Views.{equations}
 use Rattle.tv_simplex.proofs.numbers.column_sum.Given as goal
 

@@ -1,5 +1,5 @@
 use Rattle.std.proofs.Common.{sym}
-use Rattle.tv_tableau.proofs.GoesOn.{cost-none}
+use Rattle.tv_simplex.proofs.GoesOn.{cost-none}
 use Rattle.tv_simplex.proofs.StartLemmas.{cost_artificial, cost_last}
 use Rattle.tv_simplex.proofs.numbers.cost_at.Goals as goal
 

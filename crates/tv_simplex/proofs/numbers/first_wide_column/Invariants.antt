@@ -1,6 +1,6 @@
 use Rattle.std.proofs.Common.{ℕ, ◌<◌}
-use Rattle.tv_tableau.specs.Systems.{entry_at}
-use Rattle.tv_tableau.specs.Outcomes.{IsNarrow}
+use Rattle.tv_simplex.specs.Systems.{entry_at}
+use Rattle.tv_simplex.specs.Outcomes.{IsNarrow}
 use Rattle.tv_simplex.specs.Views.{equations}
 use Rattle.tv_simplex.proofs.numbers.first_wide_column.Given as goal
 

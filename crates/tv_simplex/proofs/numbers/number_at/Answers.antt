@@ -1,7 +1,7 @@
 use Rattle.std.proofs.Common.{rules, ◌∙◌, FitsSigned, subst, sym, ap, arith, unsigned_abs}
 use Rattle.std.specs.Int.{w128}
 use Rattle.std.proofs.lemmas.Int.{to_z-of_z}
-use Rattle.tv_tableau.specs.Outcomes.{IsShort}
+use Rattle.tv_simplex.specs.Outcomes.{IsShort}
 use Rattle.tv_simplex.specs.Views.{equations}
 use Rattle.tv_simplex.proofs.StartLemmas.{right_narrow, matrix_own, matrix_other}
 use Rattle.tv_simplex.proofs.numbers.number_at.Goals as goal

@@ -1,5 +1,5 @@
 use Rattle.std.proofs.Common.{subst, arith}
-use Rattle.tv_tableau.specs.Ratios.{IsQuotient}
+use Rattle.tv_simplex.specs.Ratios.{IsQuotient}
 use Rattle.tv_simplex.specs.Rows.{ratio}
 use Rattle.tv_simplex.proofs.RowLemmas.{made_more, at_reached, tested_true, tested_false}
 use Rattle.tv_simplex.proofs.rows.divide_row.Goals as goal

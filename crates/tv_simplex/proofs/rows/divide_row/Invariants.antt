@@ -1,4 +1,4 @@
-use Rattle.tv_tableau.specs.Ratios.{IsQuotient}
+use Rattle.tv_simplex.specs.Ratios.{IsQuotient}
 use Rattle.tv_simplex.specs.Rows.{ratio, ratio_at}
 use Rattle.tv_simplex.proofs.RowLemmas.{MadeTo}
 use Rattle.tv_simplex.proofs.rows.divide_row.Given as goal

@@ -1,4 +1,4 @@
-use Rattle.tv_tableau.proofs.Ring.{zero_times, times_zero}
+use Rattle.tv_simplex.proofs.Ring.{zero_times, times_zero}
 use Rattle.tv_simplex.specs.Rows.{ratio}
 use Rattle.tv_simplex.proofs.RowLemmas.{rest_zero, tested_true}
 use Rattle.tv_simplex.proofs.rows.rest.Goals as goal

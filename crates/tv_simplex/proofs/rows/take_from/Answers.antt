@@ -1,6 +1,6 @@
 use Rattle.std.proofs.Common.{arith}
 use Rattle.tv_simplex.specs.Rows.{ratio, ratio_at}
-use Rattle.tv_tableau.proofs.Ring.{zero_times}
+use Rattle.tv_simplex.proofs.Ring.{zero_times}
 use Rattle.tv_simplex.proofs.RowLemmas.{made_more, at_reached, rest_of, rest_zero, ratio_above, tested_true, tested_false}
 use Rattle.tv_simplex.proofs.rows.take_from.Goals as goal
 

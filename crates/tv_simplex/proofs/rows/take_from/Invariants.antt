@@ -1,4 +1,4 @@
-use Rattle.tv_tableau.specs.Ratios.{IsRest}
+use Rattle.tv_simplex.specs.Ratios.{IsRest}
 use Rattle.tv_simplex.specs.Rows.{ratio, ratio_at}
 use Rattle.tv_simplex.proofs.RowLemmas.{MadeTo}
 use Rattle.tv_simplex.proofs.rows.take_from.Given as goal

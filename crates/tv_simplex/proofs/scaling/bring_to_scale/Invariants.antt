@@ -1,5 +1,5 @@
 use Rattle.std.proofs.Common.{◌≡◌, ℕ, ◌<◌, length, get_or, pos, ◌*ℤ◌}
-use Rattle.tv_tableau.specs.Outcomes.{IsShort}
+use Rattle.tv_simplex.specs.Outcomes.{IsShort}
 use Rattle.tv_simplex.specs.Scales.{numerator_at, denominator_at}
 use Rattle.tv_simplex.proofs.scaling.bring_to_scale.Given as goal
 

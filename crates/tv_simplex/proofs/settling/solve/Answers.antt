@@ -1,6 +1,6 @@
 use Rattle.tv_simplex.specs.Views.{equations}
 use Rattle.std.proofs.lemmas.Option.{MatchOption-at_none}
-use Rattle.tv_tableau.specs.Outcomes.{AreUnsettled}
+use Rattle.tv_simplex.specs.Outcomes.{AreUnsettled}
 use Rattle.tv_simplex.specs.Walking.{IsRight}
 use Rattle.tv_simplex.proofs.SettleLemmas.{wide_given, start_numbered, start_fault, walk_numbered, never_spent}
 use Rattle.tv_simplex.proofs.PlaceLemmas.{first_stands}

@@ -1,8 +1,8 @@
 use Rattle.std.proofs.Common.{rules, FitsSigned, ◌∙◌, subst, sym, ap}
 use Rattle.std.specs.Int.{w128}
 use Rattle.std.proofs.lemmas.Int.{to_z-of_z}
-use Rattle.tv_tableau.specs.Systems.{matrix}
-use Rattle.tv_tableau.specs.Outcomes.{IsNarrow}
+use Rattle.tv_simplex.specs.Systems.{matrix}
+use Rattle.tv_simplex.specs.Outcomes.{IsNarrow}
 use Rattle.tv_simplex.specs.Views.{equations}
 use Rattle.tv_simplex.specs.Starting.{first_slot}
 use Rattle.tv_simplex.proofs.StartLemmas.{row_more}

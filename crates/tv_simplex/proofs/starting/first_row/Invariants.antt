@@ -1,4 +1,4 @@
-use Rattle.tv_tableau.specs.Systems.{matrix}
+use Rattle.tv_simplex.specs.Systems.{matrix}
 use Rattle.tv_simplex.specs.Views.{equations}
 use Rattle.tv_simplex.specs.Starting.{first_slot}
 use Rattle.tv_simplex.proofs.StartLemmas.{RowSoFar}

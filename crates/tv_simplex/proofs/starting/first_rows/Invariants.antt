@@ -1,5 +1,5 @@
 use Rattle.std.proofs.Common.{ℕ, ◌≡◌, ◌<◌, length}
-use Rattle.tv_tableau.specs.Systems.{matrix}
+use Rattle.tv_simplex.specs.Systems.{matrix}
 use Rattle.tv_simplex.specs.Views.{equations}
 use Rattle.tv_simplex.specs.Rows.{row_of}
 use Rattle.tv_simplex.specs.Starting.{IsRowOf}

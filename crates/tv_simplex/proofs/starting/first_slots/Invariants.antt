@@ -1,5 +1,5 @@
 use Rattle.std.proofs.Common.{ℕ, ◌≡◌, ◌<◌, length}
-use Rattle.tv_tableau.specs.Chains.{column}
+use Rattle.tv_simplex.specs.Chains.{column}
 use Rattle.tv_simplex.specs.Views.{equations}
 use Rattle.tv_simplex.specs.Starting.{first_slot}
 use Rattle.tv_simplex.proofs.starting.first_slots.Given as goal

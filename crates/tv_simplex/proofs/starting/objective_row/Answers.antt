@@ -1,7 +1,7 @@
 use Rattle.std.proofs.Common.{rules, FitsSigned, ◌∙◌, subst, ap, pos, refl}
 use Rattle.std.specs.Int.{w128}
 use Rattle.std.proofs.lemmas.Int.{to_z-of_z}
-use Rattle.tv_tableau.specs.Ratios.{IsRatio}
+use Rattle.tv_simplex.specs.Ratios.{IsRatio}
 use Rattle.tv_simplex.specs.Views.{equations}
 use Rattle.tv_simplex.specs.Rows.{ratio}
 use Rattle.tv_simplex.specs.Starting.{first_objective, first_slot}

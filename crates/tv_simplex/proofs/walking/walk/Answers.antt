@@ -1,5 +1,5 @@
 use Rattle.std.proofs.Common.{◌≡◌, arith, subst}
-use Rattle.tv_tableau.specs.Outcomes.{AreUnsettled}
+use Rattle.tv_simplex.specs.Outcomes.{AreUnsettled}
 use Rattle.tv_simplex.specs.Views.{equations}
 use Rattle.tv_simplex.proofs.WalkLemmas.{budget_spent}
 use Rattle.tv_simplex.proofs.walking.walk.Goals as goal

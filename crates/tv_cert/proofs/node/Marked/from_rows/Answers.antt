@@ -1,5 +1,5 @@
 use Rattle.std.proofs.Common.{◌≡◌, ◌<◌, ◌^◌, rules, ◌++◌, length, refl, subst, sym, ap, ◌∙◌}
-use Rattle.tv_rows.specs.Packed.{ArePacked, packed}
+use Rattle.tv_linear.specs.Packed.{ArePacked, packed}
 use Rattle.tv_cert.specs.MarkedRows.{marked_in}
 use Rattle.tv_cert.proofs.MarkedLemmas.{both_packed, marked_packed}
 use Rattle.tv_cert.proofs.node.Marked.from_rows.Goals as goal

@@ -1,5 +1,5 @@
 use Rattle.std.proofs.Common.{◌+◌, ◌*◌, ◌-◌, ◌/◌, drop, subst, sym, ap, ◌∙◌}
-use Rattle.tv_rows.specs.Packed.{ArePacked}
+use Rattle.tv_linear.specs.Packed.{ArePacked}
 use Rattle.tv_cert.proofs.MarkedLemmas.{ranks_packed}
 use Rattle.tv_cert.proofs.node.Marked.ranks.Goals as goal
 

@@ -1,5 +1,5 @@
 use Rattle.std.proofs.Common.{◌≡◌, length, subst, sym}
-use Rattle.tv_rows.proofs.PackedLemmas.{length-unpacked}
+use Rattle.tv_linear.proofs.PackedLemmas.{length-unpacked}
 use Rattle.tv_cert.specs.MarkedRows.{MarkedRows}
 use Rattle.tv_cert.proofs.node.Marked.row_count.Goals as goal
 

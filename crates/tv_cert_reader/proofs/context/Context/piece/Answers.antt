@@ -1,5 +1,5 @@
 use Rattle.std.proofs.Common.{◌≡◌, ◌+◌, ◌-◌, ◌^◌, ◌<◌, ◌++◌, ap, rules, sym, subst, ◌∙◌}
-use Rattle.tv_rows.specs.Packed.{ArePacked, packed}
+use Rattle.tv_linear.specs.Packed.{ArePacked, packed}
 use Rattle.tv_cases.specs.Systems.{cases_of}
 use Rattle.tv_cert.specs.MarkedRows.{marked, marked_in}
 use Rattle.tv_cert.specs.Shapes.{PieceShape}

@@ -1,5 +1,5 @@
 use Rattle.std.proofs.Common.{sym}
-use Rattle.tv_rows.specs.Views.{rows_seen}
+use Rattle.tv_linear.specs.Views.{rows_seen}
 use Rattle.tv_check_text.proofs.OwedLemmas.{fall_many}
 use Rattle.tv_check_text.proofs.fall.Fall.count.Goals as goal
 

@@ -5,7 +5,7 @@ use Rattle.tv_linear.specs.Falls.{zero_row}
 use Rattle.tv_linear.specs.Refutation.{Refutes}
 use Rattle.tv_refute.specs.Built.{change_of}
 use Rattle.tv_refute.specs.Frames.{known_at}
-use Rattle.tv_rows.specs.Views.{row_seen, rows_seen}
+use Rattle.tv_linear.specs.Views.{row_seen, rows_seen}
 use Rattle.tv_check_text.specs.Owed.{fall_listed}
 use Rattle.tv_check_text.proofs.OwedLemmas.{shows_as, fall_many, before_at, turn_at, floor_at}
 use Rattle.tv_check_text.proofs.fall.Fall.is_shown.Goals as goal

@@ -1,7 +1,7 @@
 use Rattle.std.proofs.Common.{◌-◌, arith, length, map, ap, sym, ◌∙◌, slice_get, length-append}
 use Rattle.std.proofs.lemmas.List.{length-map}
 use Rattle.tv_refute.specs.Built.{change_of}
-use Rattle.tv_rows.specs.Views.{rows_seen}
+use Rattle.tv_linear.specs.Views.{rows_seen}
 use Rattle.tv_check_text.specs.Owed.{fall_listed}
 use Rattle.tv_check_text.proofs.OwedLemmas.{fall_many, get_second}
 use Rattle.tv_check_text.proofs.owed.Entered.is_shown.Goals as goal

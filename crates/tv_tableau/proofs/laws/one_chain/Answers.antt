@@ -1,5 +1,0 @@
-use Rattle.tv_tableau.proofs.Once.{one_chain}
-use Rattle.tv_tableau.proofs.laws.one_chain.Goals as goal
-
-pub returns : goal.returns
-returns c = one_chain

@@ -1,5 +1,0 @@
-use Rattle.tv_tableau.proofs.Faults.{wide_any}
-use Rattle.tv_tableau.proofs.laws.wide_in_each.Goals as goal
-
-pub returns : goal.returns
-returns c = wide_any

@@ -1,9 +1,0 @@
-pub mod Sums
-pub mod Systems
-pub mod Tableaus
-pub mod Chains
-pub mod Orders
-pub mod Choices
-pub mod Answers
-pub mod Ratios
-pub mod Outcomes
