@@ -4,7 +4,6 @@ use std::alloc::Global;
 use std::test::Fail;
 use tv_cert::{Mark, Marked, Pieces};
 use tv_linear::{Row, RowView};
-use tv_linear::RowView;
 
 /// A piece without rows.
 fn piece(alloc: Global, location: u32, columns: u32) -> Result<Marked, Fail>

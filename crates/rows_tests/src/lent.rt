@@ -2,7 +2,6 @@ use crate::given::row;
 use std::alloc::Global;
 use std::test::Fail;
 use tv_linear::{PackedRows, Row, RowView, Rows, append_rows, have_columns};
-use tv_linear::{PackedRows, RowView, Rows, append_rows, have_columns};
 
 fn is(row: RowView, coefficients: &[i64], constant: i128) -> bool {
     row.coefficients() == coefficients && row.constant() == constant

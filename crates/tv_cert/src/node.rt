@@ -8,7 +8,6 @@ use crate::pieces::Pieces;
 use std::alloc::{AllocError, Global};
 use std::marker::Model;
 use tv_linear::{Choice, Cover, PackedRows, Row, Rows, append_rows, have_columns};
-use tv_linear::{PackedRows, Rows, append_rows, have_columns};
 
 /// What a piece of a node is for: its states are done, or they go on.
 #[derive(Clone, Copy, Debug, PartialEq, Eq)]

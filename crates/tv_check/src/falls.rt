@@ -8,8 +8,8 @@ ghost use Rattle.tv_refute.specs.Frames.{known_at};
 ghost use Rattle.tv_refute.specs.Built.{change_of};
 ghost use Rattle.tv_linear.specs.Views.{row_seen, rows_seen};
 
-use tv_refute::{Built, Change, Frames, refutes_denial, shown_rows};
 use tv_linear::{RowView, Rows};
+use tv_refute::{Built, Change, Frames, refutes_denial, shown_rows};
 
 /// Whether the multipliers show that the changed row, less another and plus a number, is met.
 pub fn shows_less(

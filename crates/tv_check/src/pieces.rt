@@ -11,8 +11,8 @@ ghost use Rattle.tv_check.specs.Owes.{falls_of};
 
 use crate::falls::shown_fall;
 use tv_cert::{Mark, Marked, Pieces};
-use tv_refute::{Change, Frames, Targets, shown_rows};
 use tv_linear::Rows;
+use tv_refute::{Change, Frames, Targets, shown_rows};
 
 /// Whether the lists show the changed rows of a piece and then the fall to its ranks.
 fn shown_piece(

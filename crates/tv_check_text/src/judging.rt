@@ -17,8 +17,8 @@ use crate::targets::falling;
 use tv_cases::Case;
 use tv_cert::{Destination, Marked, Owes, Pieces};
 use tv_cert_reader::{Context, Cursor, Failure, are_few, chosen_are_few};
-use tv_refute::{Change, Frames, Terms};
 use tv_linear::Rows;
+use tv_refute::{Change, Frames, Terms};
 use tv_shape::Targets;
 
 /// How many splits may lie on a path.

@@ -2,8 +2,8 @@ ghost use Rattle.std.specs.Prelude.{◌≡◌, ◌↔◌, ◌++◌, ◌∷◌, [
 ghost use Rattle.tv_linear.specs.Linear.{columns, IsNarrow};
 ghost use Rattle.tv_linear.specs.Packed.{packed};
 
-use std::alloc::AllocError;
 use crate::Row;
+use std::alloc::AllocError;
 
 /// Puts the numbers of rows behind others, each constant behind the coefficients of its row.
 pub fn append_rows(numbers: &mut Vec<i64>, rows: &[Row]) -> Result<(), AllocError>

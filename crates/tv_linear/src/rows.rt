@@ -1,8 +1,8 @@
 ghost use Rattle.std.specs.Prelude.{◌≡◌, ◌↔◌, ◌^◌, ◌<◌, length, get_or, IsTrue, MatchOption, ◌∷◌, []};
 
+use crate::Row;
 use crate::packed::PackedRows;
 use crate::view::RowView;
-use crate::Row;
 
 /// Rows that are lent one by one.
 #[derive(Clone, Copy)]

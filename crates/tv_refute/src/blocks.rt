@@ -9,8 +9,8 @@ ghost use Rattle.tv_linear.specs.Views.{row_seen};
 use crate::addends::{Listed, Same, add_each};
 use crate::steps::{Put, PutSame, at, change_each};
 use crate::terms::{Terms, row_put, term_count};
-use tv_linear::held::add_product;
 use tv_linear::RowView;
+use tv_linear::held::add_product;
 
 /// What is left from a place on.
 fn tail(numbers: &[i64], from: usize) -> &[i64]

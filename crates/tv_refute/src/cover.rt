@@ -8,7 +8,6 @@ use crate::built::Built;
 use crate::frames::Frames;
 use crate::refute::refutes;
 use tv_linear::{CoverTree, RowView};
-use tv_linear::RowView;
 
 /// What a cover leads into.
 pub trait Targets {

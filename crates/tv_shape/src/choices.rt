@@ -15,7 +15,6 @@ use crate::targets::{Targets, pieces_into};
 use tv_cases::{Case, Cases};
 use tv_cert::{Destination, Marked};
 use tv_linear::{ChoiceTree, Cover, Row, have_columns};
-use tv_linear::have_columns;
 
 /// Where a choice leads by a case.
 pub fn taken_into<'a>(piece: &'a Marked, case: &Case, destination: &Destination<'a>) -> Targets<'a>

@@ -13,7 +13,6 @@ ghost use Rattle.tv_linear.specs.Views.{rows_seen};
 
 use tv_cert::{Mark, Marked, Node, Pieces, joined_piece_at};
 use tv_linear::{Row, Rows};
-use tv_linear::Rows;
 
 /// What a cover or a choice leads into.
 #[derive(Drop)]
