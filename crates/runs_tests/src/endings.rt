@@ -1,6 +1,7 @@
 use crate::file::FILE;
-use crate::texts::says_of;
+use crate::texts::{output, says, says_of};
 use crate::words::COUNTDOWN;
+use std::alloc::{AllocError, Global};
 use std::test::Fail;
 use tv_top::Status;
 
@@ -84,7 +85,7 @@ const UNSETTLED: &[(&[&str], &str, &str)] = &[
         "Unknown pivots\nsystem rank 0 0 0 bases 1\n",
     ),
     (
-        &["--termination", "--pivots", "1", "--splits", "128"],
+        &["--splits", "128", "--ctl", "term", "--pivots", "1"],
         NESTED,
         "Unknown pivots\nsystem rank 0 0 0 bases 1\n",
     ),
@@ -95,30 +96,6 @@ fn a_system_is_not_settled(rt: HostRuntime) -> Result<(), Fail> {
     for (words, text, lines) in UNSETTLED {
         assert!(rt;
             says_of(rt.alloc(), words, &[text], lines, Status::Unknown)?,
-            "{words:?}"
-        );
-    }
-    Ok(())
-}
-
-/// Numbers that are out of form or out of range, and flags in another order.
-const REFUSED: &[&[&str]] = &[
-    &["--termination", "--pivots"],
-    &["--termination", "--pivots", "0"],
-    &["--termination", "--pivots", "+1"],
-    &["--termination", "--pivots", "01"],
-    &["--termination", "--pivots", "1000001"],
-    &["--termination", "--splits", "129"],
-    &["--termination", "--splits", ""],
-    &["--termination", "--splits", "1", "--pivots", "1"],
-];
-
-#[test]
-fn limits_are_numbers_in_range(rt: HostRuntime) -> Result<(), Fail> {
-    let line = "Refused words\n";
-    for words in REFUSED {
-        assert!(rt;
-            says_of(rt.alloc(), words, &[COUNTDOWN], line, Status::Refused)?,
             "{words:?}"
         );
     }
@@ -150,5 +127,63 @@ fn programs_at_fault_are_refused(rt: HostRuntime) -> Result<(), Fail> {
             "{text}"
         );
     }
+    Ok(())
+}
+
+/// The text with a CR before each LF.
+fn with_returns(alloc: Global, text: &str) -> Result<Vec<u8>, AllocError> {
+    let mut returned = Vec::new(alloc);
+    for byte in text.as_bytes() {
+        if *byte == b'\n' {
+            returned.push(b'\r')?;
+        }
+        returned.push(*byte)?;
+    }
+    Ok(returned)
+}
+
+#[test]
+fn a_file_with_returns_ends(rt: HostRuntime) -> Result<(), Fail> {
+    let text = with_returns(rt.alloc(), FILE)?;
+    let words = ["--termination"];
+    assert!(rt; says(rt.alloc(), &words, text, PROVED, Status::Proved)?);
+    Ok(())
+}
+
+const PROVED: &str = "Proved\n";
+
+/// The program, with a heading, and what was written behind the verdict.
+fn with_certificate(alloc: Global, text: &str, written: &[u8]) -> Result<Vec<u8>, AllocError> {
+    let (_, certificate) = written.split_at(PROVED.len().min(written.len()));
+    let mut given = Vec::from_slice(alloc, text.as_bytes())?;
+    given.extend_from_slice(b"\nCERTIFICATE:\n".as_slice())?;
+    given.extend_from_slice(certificate)?;
+    Ok(given)
+}
+
+/// What is written behind the verdict is a certificate that is accepted.
+fn is_accepted(alloc: Global, text: &str) -> Result<bool, AllocError> {
+    let written = output(alloc, &["--termination", "--certificate"], text)?;
+    let given = with_certificate(alloc, text, &written)?;
+    let words = ["--check", "--termination"];
+    says(alloc, &words, given, PROVED, Status::Proved)
+}
+
+#[test]
+fn certificates_that_are_written_are_accepted(rt: HostRuntime) -> Result<(), Fail> {
+    for text in ENDING {
+        assert!(rt; is_accepted(rt.alloc(), text)?, "{text}");
+    }
+    Ok(())
+}
+
+/// How the answer to the countdown begins with its certificate.
+const FIRST_LINES: &[u8] = b"Proved\nT2CERT 1\nproved\nnode term 2 2\n";
+
+#[test]
+fn a_certificate_is_behind_the_verdict(rt: HostRuntime) -> Result<(), Fail> {
+    let words = ["--certificate", "--termination"];
+    let written = output(rt.alloc(), &words, COUNTDOWN)?;
+    assert!(rt; written.starts_with(FIRST_LINES) && written.ends_with(b"\nend\n"));
     Ok(())
 }

@@ -121,12 +121,7 @@ const WORDS: &str = "Refused words\n";
 /// Words and a text with two faults, the line for the first, and the status: words, text, property, cases, certificate.
 const TWO_FAULTS: &[(&[&str], &str, &str, Status)] = &[
     (&["--check"], "", WORDS, Status::Refused),
-    (
-        &["--check", "--ctl", "x >"],
-        "",
-        "Refused text no start\n",
-        Status::Refused,
-    ),
+    (&["--check", "--ctl", "x >"], "", NO_START, Status::Refused),
     (
         &["--check", "--safety", "9"],
         WIDE_EDGE,
@@ -170,26 +165,39 @@ fn the_first_fault_in_the_order_of_work_is_told(rt: HostRuntime) -> Result<(), F
     Ok(())
 }
 
+const CHECKED: &[&str] = &["--check", "--safety", "0"];
+
+const NO_START: &str = "Refused text no start\n";
+
+const TOO_LONG: &str = "Refused text too long\n";
+
 /// Whether so many blanks are answered with this line.
-fn says_of_text(alloc: Global, length: usize, line: &str) -> Result<bool, AllocError> {
+fn says_of_text(
+    alloc: Global,
+    words: &[&str],
+    length: usize,
+    line: &str,
+) -> Result<bool, AllocError> {
     let blanks = vec![in alloc; b' '; length]?;
-    says(
-        alloc,
-        &["--check", "--safety", "0"],
-        blanks,
-        line,
-        Status::Refused,
-    )
+    says(alloc, words, blanks, line, Status::Refused)
 }
 
 #[test]
 fn as_many_bytes_as_may_be_are_read(rt: HostRuntime) -> Result<(), Fail> {
-    assert!(rt; says_of_text(rt.alloc(), 16777216, "Refused text no start\n")?);
+    assert!(rt; says_of_text(rt.alloc(), CHECKED, 16777216, NO_START)?);
     Ok(())
 }
 
 #[test]
 fn one_byte_more_is_too_long(rt: HostRuntime) -> Result<(), Fail> {
-    assert!(rt; says_of_text(rt.alloc(), 16777217, "Refused text too long\n")?);
+    assert!(rt; says_of_text(rt.alloc(), CHECKED, 16777217, TOO_LONG)?);
+    Ok(())
+}
+
+#[test]
+fn a_program_alone_is_shorter(rt: HostRuntime) -> Result<(), Fail> {
+    let words = ["--termination"];
+    assert!(rt; says_of_text(rt.alloc(), &words, 1048576, NO_START)?);
+    assert!(rt; says_of_text(rt.alloc(), &words, 1048577, TOO_LONG)?);
     Ok(())
 }

@@ -27,6 +27,15 @@ pub(crate) fn says_of(
     says(alloc, words, joined(alloc, texts)?, written, status)
 }
 
+/// What a run with the words on the text writes.
+pub(crate) fn output(alloc: Global, words: &[&str], text: &str) -> Result<Vec<u8>, AllocError> {
+    let bytes = Vec::from_slice(alloc, text.as_bytes())?;
+    let mut source = MemSource::new(bytes, 4096, Vec::new(alloc));
+    let mut sink = MemSink::new(alloc, 65536, 4096, Vec::new(alloc))?;
+    run(alloc, words, &mut source, &mut sink);
+    Vec::from_slice(alloc, sink.written())
+}
+
 /// The texts in a row.
 pub(crate) fn joined(alloc: Global, texts: &[&str]) -> Result<Vec<u8>, AllocError> {
     let mut text = Vec::new(alloc);

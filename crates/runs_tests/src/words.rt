@@ -1,4 +1,5 @@
 use crate::texts::says_of;
+use std::alloc::AllocError;
 use std::test::Fail;
 use tv_top::Status;
 
@@ -10,20 +11,19 @@ pub(crate) const MISSING: &str = "Certificate refused line 1\n";
 
 pub(crate) const UNKNOWN: &str = "Refused property unknown name column 1\n";
 
-/// Each form of words that asks about the countdown, also where the label or the formula looks like another word.
-const NAMED: &[(&[&str], &str, Status)] = &[
+const PROVED: &str = "Proved\n";
+
+const UNBUILT: &str = "Unknown unbuilt\n";
+
+/// Forms of words about a certificate of the countdown, also where a label or a formula begins with `-`.
+const CHECKS: &[(&[&str], &str, Status)] = &[
     (
         &["--check", "--safety", "1"],
         MISSING,
         Status::CertificateRefused,
     ),
     (
-        &["--safety", "1", "--check"],
-        MISSING,
-        Status::CertificateRefused,
-    ),
-    (
-        &["--check", "--termination"],
+        &["--safety=1", "--check"],
         MISSING,
         Status::CertificateRefused,
     ),
@@ -33,7 +33,12 @@ const NAMED: &[(&[&str], &str, Status)] = &[
         Status::CertificateRefused,
     ),
     (
-        &["--check", "--ctl", "true"],
+        &["--check", "--pivots", "1", "--termination"],
+        MISSING,
+        Status::CertificateRefused,
+    ),
+    (
+        &["--ctl=-x > 0", "--check"],
         MISSING,
         Status::CertificateRefused,
     ),
@@ -45,51 +50,54 @@ const NAMED: &[(&[&str], &str, Status)] = &[
     (&["--check", "--safety", "9"], UNKNOWN, Status::Refused),
     (&["--check", "--safety", "00"], UNKNOWN, Status::Refused),
     (&["--check", "--safety", ""], UNKNOWN, Status::Refused),
+    (&["--check", "--safety", "-"], UNKNOWN, Status::Refused),
+    (&["--safety=--check", "--check"], UNKNOWN, Status::Refused),
+];
+
+/// Forms of words that ask for a search.
+const SEARCHES: &[(&[&str], &str, Status)] = &[
+    (&["--termination"], PROVED, Status::Proved),
+    (&["--ctl", "term"], PROVED, Status::Proved),
+    (&["--ctl=!!term"], PROVED, Status::Proved),
+    (&["--termination", "--"], PROVED, Status::Proved),
     (
-        &["--check", "--safety", "--check"],
-        UNKNOWN,
-        Status::Refused,
+        &["--pivots", "1000000", "--termination", "--splits=128"],
+        PROVED,
+        Status::Proved,
     ),
     (
-        &["--safety", "--check", "--check"],
-        UNKNOWN,
-        Status::Refused,
+        &["--disjuncts", "4096", "--termination"],
+        PROVED,
+        Status::Proved,
     ),
+    (&["--safety", "1"], UNBUILT, Status::Unknown),
+    (&["--ctl", "x > 0"], UNBUILT, Status::Unknown),
+    (&["--safety", "9"], UNKNOWN, Status::Refused),
     (
-        &["--safety", "--termination", "--check"],
-        UNKNOWN,
-        Status::Refused,
-    ),
-    (
-        &["--check", "--ctl", "--check"],
-        "Refused property unknown name column 3\n",
-        Status::Refused,
-    ),
-    (
-        &["--ctl", "--check", "--check"],
-        "Refused property unknown name column 3\n",
-        Status::Refused,
-    ),
-    (
-        &["--check", "--termination", "--check"],
-        "Refused words\n",
-        Status::Refused,
-    ),
-    (
-        &["--check", "--check", "--termination"],
-        "Refused words\n",
+        &["--ctl", "x > "],
+        "Refused property syntax column 5\n",
         Status::Refused,
     ),
 ];
 
-#[test]
-fn words_name_a_property(rt: HostRuntime) -> Result<(), Fail> {
-    for (words, line, status) in NAMED {
-        assert!(rt;
-            says_of(rt.alloc(), words, &[COUNTDOWN], line, *status)?,
-            "{words:?}"
-        );
+fn are_answered(rt: &HostRuntime, forms: &[(&[&str], &str, Status)]) -> Result<bool, AllocError> {
+    for (words, line, status) in forms {
+        if !says_of(rt.alloc(), words, &[COUNTDOWN], line, *status)? {
+            return Ok(false);
+        }
     }
+    Ok(true)
+}
+
+#[test]
+fn words_ask_about_a_certificate(rt: HostRuntime) -> Result<(), Fail> {
+    assert!(rt; are_answered(&rt, CHECKS)?);
+    Ok(())
+}
+
+#[test]
+fn words_ask_for_a_search(rt: HostRuntime) -> Result<(), Fail> {
+    assert!(rt; are_answered(&rt, SEARCHES)?);
     Ok(())
 }
 
@@ -97,20 +105,35 @@ fn words_name_a_property(rt: HostRuntime) -> Result<(), Fail> {
 const OTHERS: &[&[&str]] = &[
     &[],
     &["--check"],
-    &["--safety", "1"],
-    &["--ctl", "true"],
-    &["--check", "--safety"],
+    &["--certificate"],
+    &["1"],
+    &["--safety"],
     &["--check", "--ctl"],
-    &["--check", "1"],
-    &["--safety", "--check", "1"],
     &["--check", "--safety", "1", "2"],
-    &["--check", "--termination", "1"],
+    &["--termination", "1"],
     &["--check", "--Safety", "1"],
-    &["--check", "--safety=1"],
+    &["--term"],
+    &["--termination=1"],
     &["--termination", "--safety", "1"],
-    &["--check", "--termination", "--safety", "1"],
-    &["--check", "--safety", "1", "--check"],
+    &["--safety", "1", "--ctl", "true"],
     &["--termination", "--termination"],
+    &["--check", "--check", "--termination"],
+    &["--safety", "--check", "--check"],
+    &["--check", "--certificate", "--termination"],
+    &["--help"],
+    &["-h"],
+    &["--version"],
+    &["--termination", "--pivots"],
+    &["--termination", "--pivots", "0"],
+    &["--termination", "--pivots", "+1"],
+    &["--termination", "--pivots", "-1"],
+    &["--termination", "--pivots", "007"],
+    &["--termination", "--pivots", "1000001"],
+    &["--termination", "--pivots", "1", "--pivots", "1"],
+    &["--termination", "--splits", "129"],
+    &["--termination", "--splits", ""],
+    &["--termination", "--disjuncts", "4097"],
+    &["--check", "--termination", "--splits", "129"],
 ];
 
 #[test]

@@ -4,6 +4,7 @@
 #![tactic(auto)]
 
 mod components;
+mod covering;
 mod linear_cases;
 mod numbers;
 mod reading;

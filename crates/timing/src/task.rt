@@ -1,6 +1,6 @@
 use crate::showing::Way;
 use crate::words::{Fault, or_no_form};
-use crate::{components, linear_cases, numbers, reading, refuting, showing, solving};
+use crate::{components, covering, linear_cases, numbers, reading, refuting, showing, solving};
 use std::alloc::{AllocError, Global};
 use std::str;
 
@@ -18,13 +18,14 @@ pub(crate) enum Task {
     Numbers,
     Solving,
     Refuting,
+    Covering,
     Once,
     Twice,
     Scan,
 }
 
 /// Each task by its name, with a small text for it.
-pub(crate) const TASKS: [(&str, Task, &str); 11] = [
+pub(crate) const TASKS: [(&str, Task, &str); 12] = [
     ("components", Task::Components, ""),
     ("sum", Task::Sum, "x + 2 * (y - 1) - -z"),
     ("condition", Task::Condition, "x > 0 && y <= 12"),
@@ -45,6 +46,7 @@ pub(crate) const TASKS: [(&str, Task, &str); 11] = [
     ),
     ("solving", Task::Solving, "2 2 1 -1 0 0 1 1"),
     ("refuting", Task::Refuting, "2 1 1 -5 -1 6"),
+    ("covering", Task::Covering, "1 2 0 1 1 0 1 -1 1"),
     ("once", Task::Once, "2 1 1 1 3 1 1 0 1 0 1 0 3 1 1"),
     ("twice", Task::Twice, "2 1 1 1 6 1 1 0 1 0 1 0 3 1 1"),
     ("scan", Task::Scan, "2 1 1 1 3 1 1 0 1 0 1 0 3 1 1"),
@@ -89,6 +91,7 @@ fn answer_in_words(alloc: Global, task: Task, text: &str, count: u64) -> Result<
     match task {
         Task::Solving => solving::solved(alloc, text, count),
         Task::Refuting => refuting::refuted(alloc, text, count),
+        Task::Covering => covering::covered(alloc, text, count),
         Task::Once => showing::shown(alloc, text, Way::Once, count),
         Task::Twice => showing::shown(alloc, text, Way::Twice, count),
         Task::Scan => showing::shown(alloc, text, Way::Scan, count),

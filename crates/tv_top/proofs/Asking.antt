@@ -1,79 +1,122 @@
-use Rattle.std.proofs.Common.{◌≡◌, ℕ, ◌<◌, List, [], length, sym, subst, Ok}
+use Rattle.std.proofs.Common.{◌≡◌, ℕ, ◌<◌, ◌≤◌, Bool, true, false, List, [], length, arith, sym, subst, Ok}
 use Rattle.std.specs.Prelude.{◌↔◌}
 use Rattle.tv_text.specs.Stream.{Seen, Gave, GaveSome, count_passed}
 use Rattle.tv_text.proofs.StreamLemmas.{counted, gave_nothing}
+use Rattle.tv_program.specs.Systems.{System}
 use Rattle.tv_cases.specs.declared.case.CaseFault.{CaseFault}
 use Rattle.tv_cases.specs.declared.case.CaseFault.TheVariants as cases
 use Rattle.tv_cases.specs.Answers.{IsFaultIn, IsOfProgram}
 use Rattle.tv_cases.specs.LinearCases.{CaseSystem}
 use Rattle.tv_cases.specs.ProgramCases.{linear_cases}
+use Rattle.tv_formula.specs.Properties.{Property as Formula}
 use Rattle.tv_formula_reader.specs.declared.fault.FormulaFault.{FormulaFault}
 use Rattle.tv_formula_reader.specs.declared.fault.FormulaFault.TheVariants as faults
 use Rattle.tv_top.specs.declared.answer.Answer.{Answer}
 use Rattle.tv_top.specs.declared.answer.Answer.TheVariants.{Proved, Disproved, Obligation, CertificateLine, Words, TooLong, Text, Property, WideEdge, TooManyInEdge, Unsolved, Unbuilt, ReadFault, Memory}
 use Rattle.tv_top.specs.Answers.{without_cases, without_property}
-use Rattle.tv_top.specs.Headline.{Given, Asked, Means, IsAnswer, unasked, too_long, decided, failed, too_long_program, searched, search_failed, without_memory, most_bytes, most_program_bytes}
-use Rattle.tv_top.specs.Ending.{MeansEnding}
-use Rattle.tv_top.specs.Judging.{Judges}
+use Rattle.tv_top.specs.Headline.{Given, Asked, Tells, Means, IsAnswer, unasked, too_long, decided, failed, without_memory, most_bytes}
 use Rattle.tv_top.specs.Properties.{IsUnnamed, UnlessMemory}
-use Rattle.tv_top.specs.Questions.{Query}
+use Rattle.tv_top.specs.Tasks.{Task}
 
 -- more bytes came than are read
-pub above : (A : Type 0) (old new : Seen) → GaveSome old new → (A ↔ (most_bytes < count_passed old new)) → A → (bytes : List ℕ) × Gave old new bytes × (most_bytes < length bytes)
-above A old new some h a = (some.bytes, some.gave, subst (λ n. most_bytes < n) (counted old new some.bytes some.gave) (h.0 a))
+pub above : (most : ℕ) (A : Type 0) (old new : Seen) → GaveSome old new → (A ↔ (most < count_passed old new)) → A → (bytes : List ℕ) × Gave old new bytes × (most < length bytes)
+above most A old new some h a = (some.bytes, some.gave, subst (λ n. most < n) (counted old new some.bytes some.gave) (h.0 a))
 
--- more bytes came than are read of a program alone
-pub above_program : (A : Type 0) (old new : Seen) → GaveSome old new → (A ↔ (most_program_bytes < count_passed old new)) → A → (bytes : List ℕ) × Gave old new bytes × (most_program_bytes < length bytes)
-above_program A old new some h a = (some.bytes, some.gave, subst (λ n. most_program_bytes < n) (counted old new some.bytes some.gave) (h.0 a))
+-- what is read is short
+pub below_index : (checks : Bool) (n m : ℕ) → n ≤ m → m ≤ most_bytes checks → n < 4294967295
+below_index true n m h k = omega (arith, h, k)
+below_index false n m h k = omega (arith, h, k)
 
 -- some bytes came, whatever the answer
 pub came : (words : List (List ℕ)) (old new : Seen) {answer : Answer} → IsAnswer words old new answer → GaveSome old new
-came words old new (unasked none no_search same) = subst (λ s. GaveSome old s) (sym same) (record { bytes = []; gave = gave_nothing old })
+came words old new (unasked none same) = subst (λ s. GaveSome old s) (sym same) (record { bytes = []; gave = gave_nothing old })
 came words old new (too_long asks bytes gave long) = record { bytes = bytes; gave = gave }
 came words old new (decided bytes asks gave end short means) = record { bytes = bytes; gave = gave }
 came words old new (failed asks some) = some
-came words old new (too_long_program asks bytes gave long) = record { bytes = bytes; gave = gave }
-came words old new (searched bytes asks gave end short means) = record { bytes = bytes; gave = gave }
-came words old new (search_failed asks some) = some
 came words old new (without_memory some) = some
 
 -- the same is meant of the same bytes
-pub means_same : (query : Query) (bytes bytes' : List ℕ) (answer : Answer) → bytes ≡ bytes' → Means query bytes answer → Means query bytes' answer
-means_same query bytes bytes' answer b h = subst (λ (bs : List ℕ). Means query bs answer) b h
-
-pub ends_same : (pivots : ℕ) (bytes bytes' : List ℕ) (answer : Answer) → bytes ≡ bytes' → MeansEnding pivots bytes answer → MeansEnding pivots bytes' answer
-ends_same pivots bytes bytes' answer b h = subst (λ (bs : List ℕ). MeansEnding pivots bs answer) b h
+pub means_same : (task : Task) (bytes bytes' : List ℕ) (answer : Answer) → bytes ≡ bytes' → Means task bytes answer → Means task bytes' answer
+means_same task bytes bytes' answer b h = subst (λ (bs : List ℕ). Means task bs answer) b h
 
 -- what a program without linear cases is answered
-pub no_cases : (query : Query) (bytes : List ℕ) (asked : Asked query bytes) (fault : CaseFault) → IsFaultIn (linear_cases asked.given.program) fault → Means query bytes (without_cases fault)
-no_cases query bytes asked (cases.Wide edge) h = record { asked = asked; fault_is = h }
-no_cases query bytes asked (cases.TooMany edge) h = record { asked = asked; fault_is = h }
-no_cases query bytes asked cases.Memory h = tt
+pub no_cases : (task : Task) (bytes : List ℕ) (asked : Asked task bytes) (fault : CaseFault) → IsFaultIn (linear_cases asked.given.program) fault → Means task bytes (without_cases fault)
+no_cases task bytes asked (cases.Wide edge) h = record { asked = asked; fault_is = h }
+no_cases task bytes asked (cases.TooMany edge) h = record { asked = asked; fault_is = h }
+no_cases task bytes asked cases.Memory h = tt
 
 -- what words that name no property are answered
-pub no_property : (query : Query) (bytes : List ℕ) (given : Given bytes) (fault : FormulaFault) → UnlessMemory fault (IsUnnamed given.program query fault) → Means query bytes (without_property fault)
-no_property query bytes given (faults.Syntax at) h = record { given = given; unnamed = h }
-no_property query bytes given (faults.UnknownName at) h = record { given = given; unnamed = h }
-no_property query bytes given (faults.NotLinear at) h = record { given = given; unnamed = h }
-no_property query bytes given (faults.Wide at) h = record { given = given; unnamed = h }
-no_property query bytes given (faults.Deep at) h = record { given = given; unnamed = h }
-no_property query bytes given faults.Long h = record { given = given; unnamed = h }
-no_property query bytes given faults.Memory h = tt
+pub no_property : (task : Task) (bytes : List ℕ) (given : Given task bytes) (fault : FormulaFault) → UnlessMemory fault (IsUnnamed given.program task.query fault) → Means task bytes (without_property fault)
+no_property task bytes given (faults.Syntax at) h = record { given = given; unnamed = h }
+no_property task bytes given (faults.UnknownName at) h = record { given = given; unnamed = h }
+no_property task bytes given (faults.NotLinear at) h = record { given = given; unnamed = h }
+no_property task bytes given (faults.Wide at) h = record { given = given; unnamed = h }
+no_property task bytes given (faults.Deep at) h = record { given = given; unnamed = h }
+no_property task bytes given faults.Long h = record { given = given; unnamed = h }
+no_property task bytes given faults.Memory h = tt
 
--- what is said of the certificate's text is meant
-pub judged : (query : Query) (bytes : List ℕ) (asked : Asked query bytes) (cases : CaseSystem) → linear_cases asked.given.program ≡ Ok cases.cases → IsOfProgram asked.given.program cases
-    → (answer : Answer) → Judges asked.given.program asked.property cases asked.given.certificate_text answer → Means query bytes answer
-judged query bytes asked cases are of Proved h = record { asked = asked; cases = cases; are_cases = are; of_program = of; says = h }
-judged query bytes asked cases are of (Disproved at) h = record { asked = asked; cases = cases; are_cases = are; of_program = of; says = h }
-judged query bytes asked cases are of (Obligation failing) h = record { asked = asked; cases = cases; are_cases = are; of_program = of; says = h }
-judged query bytes asked cases are of (CertificateLine line) h = record { asked = asked; cases = cases; are_cases = are; of_program = of; says = h }
-judged query bytes asked cases are of Memory h = tt
-judged query bytes asked cases are of Words h = h
-judged query bytes asked cases are of TooLong h = h
-judged query bytes asked cases are of (Text fault) h = absurd h
-judged query bytes asked cases are of (Property fault) h = absurd h
-judged query bytes asked cases are of (WideEdge edge) h = absurd h
-judged query bytes asked cases are of (TooManyInEdge edge) h = absurd h
-judged query bytes asked cases are of (Unsolved system fault) h = absurd h
-judged query bytes asked cases are of Unbuilt h = h
-judged query bytes asked cases are of ReadFault h = h
+-- an answer that is none to a property
+abbrev pub IsElse : Answer → Type 0
+IsElse Words = Unit {0}
+IsElse TooLong = Unit {0}
+IsElse (Text fault) = Unit {0}
+IsElse (Property fault) = Unit {0}
+IsElse (WideEdge edge) = Unit {0}
+IsElse (TooManyInEdge edge) = Unit {0}
+IsElse ReadFault = Unit {0}
+IsElse answer = ⊥
+
+-- is told of no property
+not_told : (checks : Bool) (task : Task) (p : System) (f : Formula) (system : CaseSystem) (text : List ℕ) (answer : Answer) → IsElse answer → Tells checks task p f system text answer → ⊥
+not_told true task p f system text Words e h = h
+not_told true task p f system text TooLong e h = h
+not_told true task p f system text (Text fault) e h = h
+not_told true task p f system text (Property fault) e h = h
+not_told true task p f system text (WideEdge edge) e h = h
+not_told true task p f system text (TooManyInEdge edge) e h = h
+not_told true task p f system text ReadFault e h = h
+not_told true task p f system text (Proved certificate) e h = e
+not_told true task p f system text (Disproved at) e h = e
+not_told true task p f system text (Obligation failing) e h = e
+not_told true task p f system text (CertificateLine line) e h = e
+not_told true task p f system text (Unsolved which fault) e h = e
+not_told true task p f system text Unbuilt e h = e
+not_told true task p f system text Memory e h = e
+not_told false task p f system text Words e h = h
+not_told false task p f system text TooLong e h = h
+not_told false task p f system text (Text fault) e h = h
+not_told false task p f system text (Property fault) e h = h
+not_told false task p f system text (WideEdge edge) e h = h
+not_told false task p f system text (TooManyInEdge edge) e h = h
+not_told false task p f system text ReadFault e h = h
+not_told false task p f system text (Proved certificate) e h = e
+not_told false task p f system text (Disproved at) e h = e
+not_told false task p f system text (Obligation failing) e h = e
+not_told false task p f system text (CertificateLine line) e h = e
+not_told false task p f system text (Unsolved which fault) e h = e
+not_told false task p f system text Unbuilt e h = e
+not_told false task p f system text Memory e h = e
+
+module _ (task : Task) (bytes : List ℕ) (asked : Asked task bytes) (system : CaseSystem) (are : linear_cases asked.given.program ≡ Ok system.cases) (of : IsOfProgram asked.given.program system) where
+  abbrev TellsIt : Answer → Type 0
+  TellsIt answer = Tells task.checks task asked.given.program asked.property system asked.given.certificate_text answer
+
+  no_else : (answer : Answer) → IsElse answer → TellsIt answer → ⊥
+  no_else answer e h = not_told task.checks task asked.given.program asked.property system asked.given.certificate_text answer e h
+
+  -- what is told of the property is meant
+  pub told : (answer : Answer) → TellsIt answer → Means task bytes answer
+  told (Proved certificate) h = record { asked = asked; cases = system; are_cases = are; of_program = of; says = h }
+  told (Disproved at) h = record { asked = asked; cases = system; are_cases = are; of_program = of; says = h }
+  told (Obligation failing) h = record { asked = asked; cases = system; are_cases = are; of_program = of; says = h }
+  told (CertificateLine line) h = record { asked = asked; cases = system; are_cases = are; of_program = of; says = h }
+  told (Unsolved which fault) h = record { asked = asked; cases = system; are_cases = are; of_program = of; says = h }
+  told Unbuilt h = record { asked = asked; cases = system; are_cases = are; of_program = of; says = h }
+  told Memory h = tt
+  told Words h = no_else Words tt h
+  told TooLong h = no_else TooLong tt h
+  told (Text fault) h = absurd (no_else (Text fault) tt h)
+  told (Property fault) h = absurd (no_else (Property fault) tt h)
+  told (WideEdge edge) h = absurd (no_else (WideEdge edge) tt h)
+  told (TooManyInEdge edge) h = absurd (no_else (TooManyInEdge edge) tt h)
+  told ReadFault h = no_else ReadFault tt h

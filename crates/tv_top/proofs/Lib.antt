@@ -1,6 +1,5 @@
 pub mod Asking
-pub mod Seeking
-pub mod Ended
+pub mod Found
 pub mod Settling
 pub mod Lines
-pub mod Reading
+pub mod Taken

@@ -18,7 +18,7 @@ use Rattle.tv_sound.specs.Settled.{IsSettled}
 use Rattle.tv_top.specs.declared.answer.Answer.{Answer}
 use Rattle.tv_top.specs.declared.answer.Answer.TheVariants.{Proved, Disproved, Obligation, CertificateLine, Words, TooLong, Text, Property as Unnamed, WideEdge, TooManyInEdge, Unsolved, Unbuilt, ReadFault, Memory}
 use Rattle.tv_top.specs.Answers.{without_certificate}
-use Rattle.tv_top.specs.Judging.{Accepted, Judges, Says, SaysValues}
+use Rattle.tv_top.specs.Judging.{Accepted, IsProved, Judges, Says, SaysHolds, SaysValues}
 
 -- what a text is answered that is not accepted as a certificate
 pub no_certificate : (p : System) (f : Property) (system : CaseSystem) (text : List ℕ) (claim : Claim) → IsClaim claim f → (failing : TextFailing) → IsUnaccepted system claim text failing → Judges p f system text (without_certificate failing)
@@ -35,7 +35,7 @@ values_so : (p : System) (f : Property) (system : CaseSystem) (text : List ℕ) 
 values_so p f system text accepted piece values is settled along (Disproved at) says =
     record { accepted = accepted; piece = piece; values = values; says = is; names = says.0; same = says.1; fails = settled; endless = along }
 values_so p f system text accepted piece values is settled along Memory says = tt
-values_so p f system text accepted piece values is settled along Proved says = absurd says
+values_so p f system text accepted piece values is settled along (Proved certificate) says = absurd says
 values_so p f system text accepted piece values is settled along (Obligation failing) says = absurd says
 values_so p f system text accepted piece values is settled along (CertificateLine line) says = absurd says
 values_so p f system text accepted piece values is settled along Words says = absurd says
@@ -48,9 +48,26 @@ values_so p f system text accepted piece values is settled along (Unsolved which
 values_so p f system text accepted piece values is settled along Unbuilt says = absurd says
 values_so p f system text accepted piece values is settled along ReadFault says = absurd says
 
+-- the property is proved
+holds_so : (p : System) (f : Property) (system : CaseSystem) (text : List ℕ) → IsProved p f system text → (answer : Answer) → SaysHolds answer → Judges p f system text answer
+holds_so p f system text proved (Proved certificate) says = (proved, says)
+holds_so p f system text proved (Disproved at) says = absurd says
+holds_so p f system text proved Memory says = absurd says
+holds_so p f system text proved (Obligation failing) says = absurd says
+holds_so p f system text proved (CertificateLine line) says = absurd says
+holds_so p f system text proved Words says = absurd says
+holds_so p f system text proved TooLong says = absurd says
+holds_so p f system text proved (Text fault) says = absurd says
+holds_so p f system text proved (Unnamed fault) says = absurd says
+holds_so p f system text proved (WideEdge edge) says = absurd says
+holds_so p f system text proved (TooManyInEdge edge) says = absurd says
+holds_so p f system text proved (Unsolved which fault) says = absurd says
+holds_so p f system text proved Unbuilt says = absurd says
+holds_so p f system text proved ReadFault says = absurd says
+
 -- what is said of a certificate all of whose obligations are met is so
 pub said_is_so : (p : System) (f : Property) (system : CaseSystem) (text : List ℕ) (accepted : Accepted f system text) (verdict : Verdict) → accepted.offer.certificate.verdict ≡ verdict → IsSettled p f verdict
     → (normal f ≡ term → FollowsFrom p system accepted.offer.certificate.root verdict) → (answer : Answer) → Says p (says verdict) (values_of verdict) answer → Judges p f system text answer
 said_is_so p f system text accepted (verdicts.Proved start) is settled along answer said =
-    subst (λ a. Judges p f system text a) (sym said) (record { accepted = accepted; start = start; says = is; holds = settled })
+    holds_so p f system text (record { accepted = accepted; start = start; says = is; holds = settled }) answer said
 said_is_so p f system text accepted (verdicts.Disproved piece values) is settled along answer said = values_so p f system text accepted piece values is settled along answer said

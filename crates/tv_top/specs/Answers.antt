@@ -122,7 +122,7 @@ detail_line system solving.Memory = []
 
 -- the first line of an answer, with its LF; nothing where nothing is written
 abbrev pub plain_line : Answer → List ℕ
-plain_line Proved = codes "Proved" ++ 10 ∷ []
+plain_line (Proved certificate) = codes "Proved" ++ 10 ∷ []
 plain_line (Disproved at) = codes "Disproved" ++ 10 ∷ []
 plain_line (Obligation f) = obligation_line f.number f.node f.kind
 plain_line (CertificateLine line) = codes "Certificate refused line " ++ (decimal line ++ 10 ∷ [])
@@ -137,8 +137,9 @@ plain_line Unbuilt = codes "Unknown unbuilt" ++ 10 ∷ []
 plain_line ReadFault = []
 plain_line Memory = []
 
--- the lines behind the first: those of the state at which the property fails, or which system was not settled
+-- the lines behind the first: those of a certificate, of the state at which the property fails, or which system was not settled
 abbrev pub further_lines : Answer → List ℕ
+further_lines (Proved certificate) = certificate.items
 further_lines (Disproved at) = value_lines at.names at.values.items
 further_lines (Unsolved system fault) = detail_line system fault
 further_lines answer = []
@@ -149,7 +150,7 @@ lines_of answer = plain_line answer ++ further_lines answer
 
 -- the status of an answer that was written
 abbrev pub status_of : Answer → Status
-status_of Proved = statuses.Proved
+status_of (Proved certificate) = statuses.Proved
 status_of (Disproved at) = statuses.Disproved
 status_of (Obligation f) = statuses.CertificateRefused
 status_of (CertificateLine line) = statuses.CertificateRefused

@@ -1,5 +1,5 @@
 -- What an answer says of the words and of the bytes that were read.
-use Rattle.std.specs.Prelude.{◌≡◌, ℕ, ◌<◌, ◌≤◌, List, length, take, Ok, Err}
+use Rattle.std.specs.Prelude.{◌≡◌, ℕ, ◌<◌, ◌≤◌, List, [], length, take, Bool, true, false, Ok, Err, None, Some, if◌then◌else◌}
 use Rattle.std.specs.Io.KnownBytes.{IsAtEnd}
 use Rattle.tv_text.specs.Stream.{Seen, Gave, GaveSome, Took}
 use Rattle.tv_text.specs.Headings.{IsSplit}
@@ -19,87 +19,89 @@ use Rattle.tv_top.specs.declared.status.Status.TheVariants as statuses
 use Rattle.tv_top.specs.Answers.{lines_of, status_of}
 use Rattle.tv_top.specs.Judging.{Judges}
 use Rattle.tv_top.specs.Properties.{IsNamed, IsUnnamed}
-use Rattle.tv_top.specs.Questions.{Query, Asks, AskNothing}
-use Rattle.tv_top.specs.Searches.{Seeks, SeekNothing}
-use Rattle.tv_top.specs.Ending.{MeansEnding}
+use Rattle.tv_top.specs.Tasks.{Task, task_of}
+use Rattle.tv_top.specs.Finding.{Finds}
 
--- how many bytes are read at most: of a program and a certificate, and of a program alone
-abbrev pub most_bytes : ℕ
-most_bytes = 16777216
+-- how many bytes are read at most: of a program and a certificate that is to be checked, or of a program alone
+abbrev pub most_bytes : Bool → ℕ
+most_bytes checks = if checks then 16777216 else 1048576
 
-abbrev pub most_program_bytes : ℕ
-most_program_bytes = 1048576
+-- the bytes are the text of a program and, where one is to be checked, that of a certificate behind it
+abbrev pub AreTexts : Bool → List ℕ → List ℕ → List ℕ → Type 0
+AreTexts true bytes program_text certificate_text = IsSplit bytes program_text certificate_text
+AreTexts false bytes program_text certificate_text = (program_text ≡ bytes) × (certificate_text ≡ [])
 
--- the bytes are the text of a program and that of a certificate
-pub record Given (bytes : List ℕ) : Type 0 where
+-- the bytes are the texts of a program and of a certificate
+pub record Given (task : Task) (bytes : List ℕ) : Type 0 where
   pub program_text : List ℕ
   pub certificate_text : List ℕ
-  pub split : IsSplit bytes program_text certificate_text
+  pub texts : AreTexts task.checks bytes program_text certificate_text
   pub program : System
   pub is_program : IsProgramText program_text program
 
 -- the words name a property of the program
-pub record Asked (query : Query) (bytes : List ℕ) : Type 0 where
-  pub given : Given bytes
+pub record Asked (task : Task) (bytes : List ℕ) : Type 0 where
+  pub given : Given task bytes
   pub property : Formula
-  pub named : IsNamed given.program query property
+  pub named : IsNamed given.program task.query property
 
--- The answer says this of the certificate's text, where the words name a property of the program. The cases are the program's.
-pub record Judged (query : Query) (bytes : List ℕ) (answer : Answer) : Type 0 where
-  pub asked : Asked query bytes
+-- what the answer says of a property of a program over its cases: of the certificate's text that is to be checked, or what was found
+abbrev pub Tells : Bool → Task → System → Formula → CaseSystem → List ℕ → Answer → Type 0
+Tells true task p f cases text answer = Judges p f cases text answer
+Tells false task p f cases text answer = Finds task p f cases answer
+
+-- The answer says this where the words name a property of the program. The cases are the program's.
+pub record Settled (task : Task) (bytes : List ℕ) (answer : Answer) : Type 0 where
+  pub asked : Asked task bytes
   pub cases : CaseSystem
   pub are_cases : linear_cases asked.given.program ≡ Ok cases.cases
   pub of_program : IsOfProgram asked.given.program cases
-  pub says : Judges asked.given.program asked.property cases asked.given.certificate_text answer
+  pub says : Tells task.checks task asked.given.program asked.property cases asked.given.certificate_text answer
 
 -- the text of the program, which is none, has this as its first fault
-pub record IsRefusedText (bytes : List ℕ) (fault : TextFault) : Type 0 where
+pub record IsRefusedText (task : Task) (bytes : List ℕ) (fault : TextFault) : Type 0 where
   pub program_text : List ℕ
   pub certificate_text : List ℕ
-  pub split : IsSplit bytes program_text certificate_text
+  pub texts : AreTexts task.checks bytes program_text certificate_text
   pub first : IsFirstFault program_text fault
 
 -- the words name no property of the program: this is why
-pub record HasNoProperty (query : Query) (bytes : List ℕ) (fault : FormulaFault) : Type 0 where
-  pub given : Given bytes
-  pub unnamed : IsUnnamed given.program query fault
+pub record HasNoProperty (task : Task) (bytes : List ℕ) (fault : FormulaFault) : Type 0 where
+  pub given : Given task bytes
+  pub unnamed : IsUnnamed given.program task.query fault
 
 -- the words name a property of the program, which has no linear cases: this is why
-pub record HasNoCases (query : Query) (bytes : List ℕ) (fault : LinearFault) : Type 0 where
-  pub asked : Asked query bytes
+pub record HasNoCases (task : Task) (bytes : List ℕ) (fault : LinearFault) : Type 0 where
+  pub asked : Asked task bytes
   pub fault_is : linear_cases asked.given.program ≡ Err fault
 
 -- What the answer says where the words ask this, and these are all bytes that came out of the source.
-abbrev pub Means : Query → List ℕ → Answer → Type 0
-Means query bytes Proved = Judged query bytes Proved
-Means query bytes (Disproved at) = Judged query bytes (Disproved at)
-Means query bytes (Obligation failing) = Judged query bytes (Obligation failing)
-Means query bytes (CertificateLine line) = Judged query bytes (CertificateLine line)
-Means query bytes (Text fault) = IsRefusedText bytes fault
-Means query bytes (Property fault) = HasNoProperty query bytes fault
-Means query bytes (WideEdge edge) = HasNoCases query bytes (wide edge)
-Means query bytes (TooManyInEdge edge) = HasNoCases query bytes (too_many edge)
-Means query bytes Memory = Unit {0}
-Means query bytes (Unsolved system fault) = ⊥
-Means query bytes Unbuilt = ⊥
-Means query bytes Words = ⊥
-Means query bytes TooLong = ⊥
-Means query bytes ReadFault = ⊥
+abbrev pub Means : Task → List ℕ → Answer → Type 0
+Means task bytes (Proved certificate) = Settled task bytes (Proved certificate)
+Means task bytes (Disproved at) = Settled task bytes (Disproved at)
+Means task bytes (Obligation failing) = Settled task bytes (Obligation failing)
+Means task bytes (CertificateLine line) = Settled task bytes (CertificateLine line)
+Means task bytes (Unsolved system fault) = Settled task bytes (Unsolved system fault)
+Means task bytes Unbuilt = Settled task bytes Unbuilt
+Means task bytes (Text fault) = IsRefusedText task bytes fault
+Means task bytes (Property fault) = HasNoProperty task bytes fault
+Means task bytes (WideEdge edge) = HasNoCases task bytes (wide edge)
+Means task bytes (TooManyInEdge edge) = HasNoCases task bytes (too_many edge)
+Means task bytes Memory = Unit {0}
+Means task bytes Words = ⊥
+Means task bytes TooLong = ⊥
+Means task bytes ReadFault = ⊥
 
 -- Why an answer is given, told what is seen of the source before and after. The bytes are those that came out of its calls.
 pub data IsAnswer (words : List (List ℕ)) (old new : Seen) : Answer → Type 0 where
   -- the words ask nothing, and nothing is read
-  unasked : AskNothing words → SeekNothing words → new ≡ old → IsAnswer words old new Words
+  unasked : task_of words ≡ None → new ≡ old → IsAnswer words old new Words
   -- more bytes came than are read
-  too_long : {query : Query} → Asks words query → (bytes : List ℕ) → Gave old new bytes → most_bytes < length bytes → IsAnswer words old new TooLong
+  too_long : {task : Task} → task_of words ≡ Some task → (bytes : List ℕ) → Gave old new bytes → most_bytes task.checks < length bytes → IsAnswer words old new TooLong
   -- the source was read to its end
-  decided : {query : Query} {answer : Answer} (bytes : List ℕ) → Asks words query → Gave old new bytes → IsAtEnd new.known → length bytes ≤ most_bytes → Means query bytes answer → IsAnswer words old new answer
+  decided : {task : Task} {answer : Answer} (bytes : List ℕ) → task_of words ≡ Some task → Gave old new bytes → IsAtEnd new.known → length bytes ≤ most_bytes task.checks → Means task bytes answer → IsAnswer words old new answer
   -- the source failed
-  failed : {query : Query} → Asks words query → GaveSome old new → IsAnswer words old new ReadFault
-  -- the same where the words ask whether every run ends, and give no certificate
-  too_long_program : {pivots : ℕ} → Seeks words pivots → (bytes : List ℕ) → Gave old new bytes → most_program_bytes < length bytes → IsAnswer words old new TooLong
-  searched : {pivots : ℕ} {answer : Answer} (bytes : List ℕ) → Seeks words pivots → Gave old new bytes → IsAtEnd new.known → length bytes ≤ most_program_bytes → MeansEnding pivots bytes answer → IsAnswer words old new answer
-  search_failed : {pivots : ℕ} → Seeks words pivots → GaveSome old new → IsAnswer words old new ReadFault
+  failed : {task : Task} → task_of words ≡ Some task → GaveSome old new → IsAnswer words old new ReadFault
   without_memory : GaveSome old new → IsAnswer words old new Memory
 
 -- The answer is written: its lines and its status, or under a write fault a front of the lines.

@@ -1,5 +1,5 @@
 -- What an answer says of a certificate's text.
-use Rattle.std.specs.Prelude.{◌≡◌, ℕ, ℤ, Bool, true, false, List, Vec}
+use Rattle.std.specs.Prelude.{◌≡◌, ℕ, ℤ, Bool, true, false, List, [], Vec}
 use Rattle.std.specs.Global.{Global}
 use Rattle.tv_linear.specs.declared.cover.Cover.{Cover}
 use Rattle.tv_program.specs.Systems.{System}
@@ -62,7 +62,7 @@ pub record IsNoCertificate (f : Property) (system : CaseSystem) (text : List ℕ
 
 -- What the answer says of the text, as a certificate of the property f of the program p over its cases.
 abbrev pub Judges : System → Property → CaseSystem → List ℕ → Answer → Type 0
-Judges p f system text answers.Proved = IsProved p f system text
+Judges p f system text (answers.Proved certificate) = IsProved p f system text × (certificate.items ≡ [])
 Judges p f system text (answers.Disproved at) = IsDisproved p f system text at
 Judges p f system text (answers.Obligation failing) = (offer : Offered f system text) × IsFirstFailing (owed system offer.claim offer.certificate) 0 failing
 Judges p f system text (answers.CertificateLine line) = IsNoCertificate f system text line
@@ -75,7 +75,12 @@ SaysValues p values (answers.Disproved at) = (at.names ≡ p.variables) × (at.v
 SaysValues p values answers.Memory = Unit {0}
 SaysValues p values answer = ⊥
 
+-- the answer says that the property is proved, and no certificate is written
+abbrev pub SaysHolds : Answer → Type 0
+SaysHolds (answers.Proved certificate) = certificate.items ≡ []
+SaysHolds answer = ⊥
+
 -- the answer says what is accepted: that the property is proved, or else that it is disproved at these values
 abbrev pub Says : System → Bool → List ℤ → Answer → Type 0
-Says p true values answer = answer ≡ answers.Proved
+Says p true values answer = SaysHolds answer
 Says p false values answer = SaysValues p values answer

@@ -1,8 +1,10 @@
+pub mod CommandLine
+pub mod Tasks
+pub mod Forms
+pub mod Views
 pub mod Answers
-pub mod Questions
 pub mod Properties
 pub mod Judging
+pub mod Finding
 pub mod Headline
 pub mod Accepted
-pub mod Searches
-pub mod Ending

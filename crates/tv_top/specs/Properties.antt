@@ -9,7 +9,7 @@ use Rattle.tv_formula_reader.specs.FormulaTexts.{IsFormulaText}
 use Rattle.tv_formula_reader.specs.Refusals.{IsFirstFault}
 use Rattle.tv_formula_reader.specs.declared.fault.FormulaFault.{FormulaFault}
 use Rattle.tv_formula_reader.specs.declared.fault.FormulaFault.TheVariants as faults
-use Rattle.tv_top.specs.Questions.{Query, safety, termination, ctl}
+use Rattle.tv_top.specs.Tasks.{Query, safety, termination, ctl}
 
 -- no run comes to the location with the label
 pub record IsNeverAt (p : System) (label : Word) (f : Property) : Type 0 where

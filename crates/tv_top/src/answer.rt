@@ -15,7 +15,8 @@ use tv_simplex::SolveFault;
 /// What is written, and how the run ends.
 #[derive(Drop)]
 pub enum Answer {
-    Proved,
+    /// The property holds at every initial state. With the text of the certificate, where it is to be written.
+    Proved(Vec<u8>),
     /// The property fails at the initial state with these values.
     Disproved(Assignment),
     Obligation(Failing),
@@ -33,7 +34,7 @@ pub enum Answer {
     TooManyInEdge(u32),
     /// A linear system of the search was not settled.
     Unsolved { system: Name, fault: SolveFault },
-    /// No linear ranks were found, and no further search is built.
+    /// What was searched for was not found, and no further search is built.
     Unbuilt,
     ReadFault,
     Memory,
@@ -152,7 +153,7 @@ impl Answer {
         ensures { IfOk result (λ line. string_bytes line ≡ plain_line self.now) }
     {
         match self {
-            Answer::Proved => format!(in alloc; "Proved\n"),
+            Answer::Proved(_) => format!(in alloc; "Proved\n"),
             Answer::Disproved(_) => format!(in alloc; "Disproved\n"),
             Answer::Obligation(failing) => refusal(
                 alloc,
@@ -180,6 +181,7 @@ impl Answer {
         let line = self.plain_line(alloc)?;
         let mut lines = Vec::from_slice(alloc, line.as_bytes())?;
         match self {
+            Answer::Proved(certificate) => lines.extend_from_slice(certificate)?,
             Answer::Disproved(assignment) => assignment.append_lines(alloc, &mut lines)?,
             Answer::Unsolved { system, fault } => append_detail(alloc, &mut lines, system, fault)?,
             _ => {}
@@ -192,7 +194,7 @@ impl Answer {
         ensures { result ≡ status_of self.now }
     {
         match self {
-            Answer::Proved => Status::Proved,
+            Answer::Proved(_) => Status::Proved,
             Answer::Disproved(_) => Status::Disproved,
             Answer::Obligation(_) | Answer::CertificateLine(_) => Status::CertificateRefused,
             Answer::ReadFault => Status::ReadFault,

@@ -37,7 +37,7 @@ fn said(alloc: Global, program: &Program, accepted: &Accepted) -> Answer
     ensures { Says (system_of program.now) accepted.now.proved accepted.now.values.items result }
 {
     if accepted.proved {
-        return Answer::Proved;
+        return Answer::Proved(Vec::new(alloc));
     }
     match Assignment::new(alloc, program, &accepted.values) {
         Ok(assignment) => Answer::Disproved(assignment),

@@ -4,14 +4,17 @@
 mod accepting;
 mod answer;
 mod assignment;
-mod ending;
+mod command;
+mod finding;
 mod judging;
+mod laws;
+mod numbers;
 mod property;
 mod running;
-mod searching;
 mod status;
 mod system_lines;
-mod words;
+mod task;
 
+pub use laws::{listed_words, refused_words};
 pub use running::run;
 pub use status::Status;

@@ -1,10 +1,11 @@
 ghost use Rattle.std.specs.Prelude.{◌≡◌, IfOk, IfErr, length};
 ghost use Rattle.tv_program.specs.Programs.{system_of};
 ghost use Rattle.tv_formula.specs.Formulas.{property_of, variables_of};
-ghost use Rattle.tv_top.specs.Questions.{query_of, safety, ctl};
+ghost use Rattle.tv_top.specs.Tasks.{safety, ctl};
+ghost use Rattle.tv_top.specs.Views.{query_of};
 ghost use Rattle.tv_top.specs.Properties.{IsNamed, IsUnnamed, UnlessMemory};
 
-use crate::words::Question;
+use crate::task::Question;
 use std::alloc::Global;
 use tv_formula::{Formula, termination, unreachable};
 use tv_formula_reader::{FormulaFault, read_formula};

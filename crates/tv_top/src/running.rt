@@ -1,20 +1,25 @@
-ghost use Rattle.std.specs.Prelude.{◌≡◌, ◌<◌, ◌≤◌, ◌^◌, map, length};
+ghost use Rattle.std.specs.Prelude.{◌≡◌, ℕ, ◌-◌, ◌<◌, ◌≤◌, ◌^◌, List, map, length, Some};
 ghost use Rattle.tv_text.specs.Stream.{Rose};
+ghost use Rattle.tv_program.specs.Programs.{system_of};
+ghost use Rattle.tv_formula.specs.Formulas.{property_of, variables_of};
+ghost use Rattle.tv_cases.specs.Answers.{IsOfProgram, HaveSameSteps};
+ghost use Rattle.tv_cases.specs.Systems.{cases_of};
 ghost use Rattle.tv_top.specs.Answers.{without_cases, without_property};
-ghost use Rattle.tv_top.specs.Questions.{query_of};
-ghost use Rattle.tv_top.specs.Searches.{Seeks, SeekNothing};
-ghost use Rattle.tv_top.specs.Headline.{Means, IsAnswer, Concludes};
+ghost use Rattle.tv_top.specs.Tasks.{task_of};
+ghost use Rattle.tv_top.specs.Views.{task_view};
+ghost use Rattle.tv_top.specs.Headline.{most_bytes, AreTexts, Tells, Means, IsAnswer, Concludes};
 
 use crate::answer::Answer;
-use crate::ending::ending;
+use crate::finding::find;
 use crate::judging::judge;
 use crate::property::property;
-use crate::searching::sought;
 use crate::status::Status;
-use crate::words::Question;
+use crate::task::Task;
 use std::alloc::Global;
-use tv_cases::{CaseFault, cases};
+use tv_cases::{CaseFault, Cases, cases};
+use tv_formula::Formula;
 use tv_formula_reader::FormulaFault;
+use tv_program::Program;
 use tv_reader::{ReadFault, read_program};
 use tv_text::{ReadError, Sink, Source, read_all, split_texts, write_all};
 
@@ -25,7 +30,7 @@ const LIMIT: usize = 16_777_216;
 const PROGRAM_LIMIT: usize = 1_048_576;
 
 /// The answer for a program that has no linear cases.
-pub fn without_cases(fault: CaseFault) -> Answer
+fn without_cases(fault: CaseFault) -> Answer
     ensures { result ≡ without_cases fault }
 {
     match fault {
@@ -45,18 +50,54 @@ fn without_property(fault: FormulaFault) -> Answer
     }
 }
 
-/// The answer to whether the certificate in the bytes settles the property of the program in them.
-fn decide(alloc: Global, bytes: &[u8], question: Question) -> Answer
-    requires { length bytes.now ≤ 16777216 }
-    ensures { Means (query_of question.entry) bytes.now result }
+/// The text of the program and, where one is to be checked, that of the certificate behind it.
+fn texts_in(bytes: &[u8], checks: bool) -> (&[u8], &[u8])
+    ensures texts { AreTexts checks bytes.now result.0.now result.1.now }
+    ensures program { length result.0.now ≤ length bytes.now }
+    ensures certificate { length result.1.now ≤ length bytes.now }
 {
-    let (text, certificate) = split_texts(bytes);
+    if checks {
+        split_texts(bytes)
+    } else {
+        (bytes, &[])
+    }
+}
+
+/// The answer to whether the program has the property: what is said of the certificate that is to be checked, or what is found.
+fn settle(
+    alloc: Global,
+    task: &Task,
+    program: &Program,
+    property: &Formula,
+    about: &Cases,
+    certificate: &[u8],
+) -> Answer
+    requires variables { variables_of property.now ≡ length (system_of program.now).variables }
+    requires same_program { IsOfProgram (system_of program.now) (cases_of about.now) }
+    requires same_steps { HaveSameSteps (system_of program.now) (cases_of about.now) }
+    requires few { length certificate.now < 2 ^ 32 - 1 }
+    ensures { let asked = task_view task.now in
+        Tells asked.checks asked (system_of program.now) (property_of property.now) (cases_of about.now) certificate.now result }
+{
+    if task.checks {
+        judge(alloc, program, property, about, certificate)
+    } else {
+        find(alloc, task, program, property, about)
+    }
+}
+
+/// The answer to what is asked about the program in the bytes.
+fn decide(alloc: Global, bytes: &[u8], task: &Task) -> Answer
+    requires { length bytes.now ≤ most_bytes task.now.checks }
+    ensures { Means (task_view task.now) bytes.now result }
+{
+    let (text, certificate) = texts_in(bytes, task.checks);
     let program = match read_program(alloc, text) {
         Ok(program) => program,
         Err(ReadFault::Memory) => return Answer::Memory,
         Err(fault) => return Answer::Text(fault),
     };
-    let property = match property(alloc, question, &program) {
+    let property = match property(alloc, task.question, &program) {
         Ok(property) => property,
         Err(fault) => return without_property(fault),
     };
@@ -64,37 +105,25 @@ fn decide(alloc: Global, bytes: &[u8], question: Question) -> Answer
         Ok(about) => about,
         Err(fault) => return without_cases(fault),
     };
-    judge(alloc, &program, &property, &about, certificate)
+    settle(alloc, task, &program, &property, &about, certificate)
 }
 
-/// The answer to the words, which ask for no search, about the text that the source holds.
-fn checked<S: Source>(alloc: Global, words: &[&str], source: &mut S) -> Answer
-    requires { SeekNothing (map (λ word. word.now) words.now) }
-    ensures answer { IsAnswer (map (λ word. word.now) words.now) (S.seen source.old) (S.seen source.new) result }
+/// How many bytes are read at most.
+fn most_bytes(checks: bool) -> usize
+    ensures { result ≡ most_bytes checks }
+{
+    if checks { LIMIT } else { PROGRAM_LIMIT }
+}
+
+/// The answer to what the words ask about the text that the source holds.
+fn answered<S: Source>(alloc: Global, task: &Task, source: &mut S) -> Answer
+    ensures answer { (words : List (List ℕ)) → task_of words ≡ Some (task_view task.now) →
+        IsAnswer words (S.seen source.old) (S.seen source.new) result }
     ensures read { result ≡ Answer.ReadFault → Rose (S.faults source.old) (S.faults source.new) }
     ensures later { S.faults source.old ≤ S.faults source.new }
 {
-    let question = match Question::read(words) {
-        Some(question) => question,
-        None => return Answer::Words,
-    };
-    match read_all(alloc, source, LIMIT) {
-        Ok(bytes) => decide(alloc, &bytes, question),
-        Err(ReadError::Fault) => Answer::ReadFault,
-        Err(ReadError::TooLong) => Answer::TooLong,
-        Err(ReadError::Memory) => Answer::Memory,
-    }
-}
-
-/// The answer to whether every run of the program ends whose text the source holds, where so many bases of a linear system are tried.
-fn searched<S: Source>(alloc: Global, words: &[&str], pivots: u64, source: &mut S) -> Answer
-    requires { Seeks (map (λ word. word.now) words.now) pivots }
-    ensures answer { IsAnswer (map (λ word. word.now) words.now) (S.seen source.old) (S.seen source.new) result }
-    ensures read { result ≡ Answer.ReadFault → Rose (S.faults source.old) (S.faults source.new) }
-    ensures later { S.faults source.old ≤ S.faults source.new }
-{
-    match read_all(alloc, source, PROGRAM_LIMIT) {
-        Ok(bytes) => ending(alloc, &bytes, pivots),
+    match read_all(alloc, source, most_bytes(task.checks)) {
+        Ok(bytes) => decide(alloc, &bytes, task),
         Err(ReadError::Fault) => Answer::ReadFault,
         Err(ReadError::TooLong) => Answer::TooLong,
         Err(ReadError::Memory) => Answer::Memory,
@@ -102,14 +131,15 @@ fn searched<S: Source>(alloc: Global, words: &[&str], pivots: u64, source: &mut 
 }
 
 /// The answer to the words about the text that the source holds.
-fn answered<S: Source>(alloc: Global, words: &[&str], source: &mut S) -> Answer
+fn answer_to<S: Source>(alloc: Global, words: &[&str], source: &mut S) -> Answer
     ensures answer { IsAnswer (map (λ word. word.now) words.now) (S.seen source.old) (S.seen source.new) result }
     ensures read { result ≡ Answer.ReadFault → Rose (S.faults source.old) (S.faults source.new) }
     ensures later { S.faults source.old ≤ S.faults source.new }
 {
-    match sought(words) {
-        Some(pivots) => searched(alloc, words, pivots, source),
-        None => checked(alloc, words, source),
+    match Task::read(alloc, words) {
+        Ok(Some(task)) => answered(alloc, &task, source),
+        Ok(None) => Answer::Words,
+        Err(_) => Answer::Memory,
     }
 }
 
@@ -126,7 +156,7 @@ pub fn run<S: Source, K: Sink>(
     ensures later_source { S.faults source.old ≤ S.faults source.new }
     ensures later_sink { K.faults sink.old ≤ K.faults sink.new }
 {
-    let answer = answered(alloc, words, source);
+    let answer = answer_to(alloc, words, source);
     let lines = match answer.lines(alloc) {
         Ok(lines) => lines,
         Err(_) => return Status::Memory,

@@ -1,0 +1,9 @@
+use Rattle.std.proofs.Common.{◌≡◌, ◌∙◌, ap, IfOk, codes}
+use Rattle.std.proofs.lemmas.Result.{IfOk-weaker}
+use Rattle.clap.specs.Simple.{App, app_of, with_rule}
+use Rattle.tv_top.specs.CommandLine.{flag, option}
+use Rattle.tv_top.proofs.command.with_tasks.Goals as goal
+
+pub returns : goal.returns
+returns c = IfOk-weaker c.with_option-2.result _ _ (λ m h. h ∙ ap (λ (a : App). with_rule a (option (codes "ctl")))
+    (c.in_ok-command-2.ensures ∙ ap (λ (a : App). with_rule a (option (codes "safety"))) c.in_ok-command.ensures)) c.with_option-2.ensures

@@ -1,0 +1,43 @@
+use Rattle.std.proofs.Common.{refl}
+use Rattle.clap.proofs.OnLiterals.{clap_on_literals}
+use Rattle.tv_top.proofs.laws.refused_words.Goals as goal
+
+pub returns-clause-none : goal.returns-clause-none
+unfolding clap_on_literals
+returns-clause-none c = refl
+
+pub returns-clause-no_property : goal.returns-clause-no_property
+unfolding clap_on_literals
+returns-clause-no_property c = refl
+
+pub returns-clause-two_properties : goal.returns-clause-two_properties
+unfolding clap_on_literals
+returns-clause-two_properties c = refl
+
+pub returns-clause-twice : goal.returns-clause-twice
+unfolding clap_on_literals
+returns-clause-twice c = refl
+
+pub returns-clause-read_and_written : goal.returns-clause-read_and_written
+unfolding clap_on_literals
+returns-clause-read_and_written c = refl
+
+pub returns-clause-no_bases : goal.returns-clause-no_bases
+unfolding clap_on_literals
+returns-clause-no_bases c = refl
+
+pub returns-clause-sign : goal.returns-clause-sign
+unfolding clap_on_literals
+returns-clause-sign c = refl
+
+pub returns-clause-many_splits : goal.returns-clause-many_splits
+unfolding clap_on_literals
+returns-clause-many_splits c = refl
+
+pub returns-clause-many_pieces : goal.returns-clause-many_pieces
+unfolding clap_on_literals
+returns-clause-many_pieces c = refl
+
+pub returns-clause-help : goal.returns-clause-help
+unfolding clap_on_literals
+returns-clause-help c = refl

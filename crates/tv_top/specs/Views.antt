@@ -1,0 +1,16 @@
+use Rattle.tv_top.specs.declared.task.Question.{Question}
+use Rattle.tv_top.specs.declared.task.Question.TheVariants as questions
+use Rattle.tv_top.specs.declared.task.Limits.{Limits as Given}
+use Rattle.tv_top.specs.declared.task.Task.{Task as Asked}
+use Rattle.tv_top.specs.Tasks.{Query, safety, termination, ctl, Limits, Task}
+
+abbrev pub query_of : Question → Query
+query_of (questions.Safety label) = safety label.now
+query_of questions.Termination = termination
+query_of (questions.Ctl text) = ctl text.now
+
+abbrev pub limits_of : Given → Limits
+limits_of l = record { pivots = l.pivots; splits = l.splits; disjuncts = l.disjuncts }
+
+abbrev pub task_view : Asked → Task
+task_view t = record { query = query_of t.question; checks = t.checks; writes = t.writes; limits = limits_of t.limits }

@@ -1,0 +1,141 @@
+ghost use Rattle.std.specs.Prelude.{◌≡◌, IfOk, map, option_map};
+ghost use Rattle.clap.specs.Walk.{first_of, rows_of};
+ghost use Rattle.clap.specs.Matches.{found_of};
+ghost use Rattle.tv_top.specs.Tasks.{is_given, query_in, limits_in, task_in, task_of};
+ghost use Rattle.tv_top.specs.Views.{query_of, limits_of, task_view};
+
+use crate::command::command;
+use crate::numbers::limit_of;
+use clap::ArgMatches;
+use clap::error::ErrorKind;
+use std::alloc::{AllocError, Global};
+
+/// Of which property it is asked whether it holds.
+#[derive(Clone, Copy)]
+pub enum Question<'a> {
+    /// No run reaches the location with this label.
+    Safety(&'a str),
+    /// Every run ends.
+    Termination,
+    /// The formula with this text.
+    Ctl(&'a str),
+}
+
+/// How far a search goes.
+#[derive(Clone, Copy)]
+pub struct Limits {
+    /// How many bases of a linear system are tried.
+    pub pivots: u32,
+    /// How many splits lie on a path.
+    pub splits: u32,
+    /// How many pieces a region has.
+    pub disjuncts: u32,
+}
+
+/// What the words ask for.
+#[derive(Clone, Copy)]
+pub struct Task<'a> {
+    pub question: Question<'a>,
+    /// A certificate follows the program, and is to be checked.
+    pub checks: bool,
+    /// The certificate that is found is to be written.
+    pub writes: bool,
+    pub limits: Limits,
+}
+
+/// The value of an option or a flag, if it has one.
+fn value_of<'a>(matches: &ArgMatches<'a>, name: &str) -> Option<&'a str>
+    ensures { option_map (λ value. value.now) result ≡ first_of name.now (rows_of (found_of matches.now)) }
+{
+    matches.get_str(name)
+}
+
+/// Whether a flag is given.
+fn is_given(matches: &ArgMatches, name: &str) -> bool
+    ensures { result ≡ is_given name.now (rows_of (found_of matches.now)) }
+{
+    match value_of(matches, name) {
+        None => false,
+        Some(value) => value == "true",
+    }
+}
+
+/// The one property that is named.
+fn question_in<'a>(matches: &ArgMatches<'a>) -> Option<Question<'a>>
+    ensures { option_map query_of result ≡ query_in (rows_of (found_of matches.now)) }
+{
+    let termination = is_given(matches, "termination");
+    match (value_of(matches, "safety"), value_of(matches, "ctl")) {
+        (None, None) => {
+            if termination {
+                Some(Question::Termination)
+            } else {
+                None
+            }
+        }
+        (Some(label), None) => {
+            if termination {
+                None
+            } else {
+                Some(Question::Safety(label))
+            }
+        }
+        (None, Some(text)) => {
+            if termination {
+                None
+            } else {
+                Some(Question::Ctl(text))
+            }
+        }
+        (Some(_), Some(_)) => None,
+    }
+}
+
+/// The limits, each in its range.
+fn limits_in(matches: &ArgMatches) -> Option<Limits>
+    ensures { option_map limits_of result ≡ limits_in (rows_of (found_of matches.now)) }
+{
+    let pivots = limit_of(value_of(matches, "pivots"), 1_000_000, 100_000)?;
+    let splits = limit_of(value_of(matches, "splits"), 128, 64)?;
+    let disjuncts = limit_of(value_of(matches, "disjuncts"), 4096, 256)?;
+    Some(Limits {
+        pivots,
+        splits,
+        disjuncts,
+    })
+}
+
+/// What is asked for where the command took the words.
+fn task_in<'a>(matches: &ArgMatches<'a>) -> Option<Task<'a>>
+    ensures { option_map task_view result ≡ task_in (rows_of (found_of matches.now)) }
+{
+    let question = question_in(matches)?;
+    let limits = limits_in(matches)?;
+    let checks = is_given(matches, "check");
+    let writes = is_given(matches, "certificate");
+    if checks && writes {
+        return None;
+    }
+    Some(Task {
+        question,
+        checks,
+        writes,
+        limits,
+    })
+}
+
+impl<'a> Task<'a> {
+    /// What the words ask for, if anything.
+    pub fn read(alloc: Global, words: &'a [&'a str]) -> Result<Option<Task<'a>>, AllocError>
+        ensures { IfOk result (λ task. option_map task_view task ≡ task_of (map (λ word. word.now) words.now)) }
+    {
+        let command = command(alloc)?;
+        match command.try_get_matches_from(words) {
+            Ok(matches) => Ok(task_in(&matches)),
+            Err(error) => match error.kind() {
+                ErrorKind::OutOfMemory => Err(AllocError),
+                _ => Ok(None),
+            },
+        }
+    }
+}
