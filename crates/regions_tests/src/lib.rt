@@ -4,6 +4,8 @@
 #[cfg(test)]
 mod algebra;
 #[cfg(test)]
+mod rounds;
+#[cfg(test)]
 mod sample;
 #[cfg(test)]
 mod steps;

@@ -17,6 +17,13 @@ pub const ONE: Budget = Budget {
     disjuncts: 1,
 };
 
+/// Without a split.
+pub const UNSPLIT: Budget = Budget {
+    pivots: 1000,
+    splits: 0,
+    disjuncts: 256,
+};
+
 /// Lists of rows over one variable, by coefficient and constant, at location 0.
 pub type Lists = &'static [&'static [(i128, i128)]];
 
@@ -33,6 +40,24 @@ pub const NEVER: Lists = &[&[(1, -1), (-1, 3)]];
 pub const TWICE: Lists = &[&[(1, -4), (1, -6)], &[(1, -4)], &[(1, -2)]];
 
 pub const NOWHERE: Lists = &[];
+
+/// One piece without rows.
+pub const ALL: Lists = &[&[]];
+
+/// `x > 0`.
+pub const ABOVE_ZERO: Lists = &[&[(-1, 1)]];
+
+/// `x <= 0`.
+pub const AT_MOST_ZERO: Lists = &[&[(1, 0)]];
+
+/// `x < 0`.
+pub const BELOW_ZERO: Lists = &[&[(1, 1)]];
+
+/// `x >= 0`.
+pub const NOT_BELOW_ZERO: Lists = &[&[(-1, 0)]];
+
+/// `x == 4`.
+pub const FOUR: Lists = &[&[(1, -4), (-1, 4)]];
 
 fn row(alloc: Global, coefficient: i128, constant: i128) -> Result<Row, Fail> {
     let row = Row::new(alloc, &[coefficient], constant)?.ok_or("wide")?;

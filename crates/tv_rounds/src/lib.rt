@@ -1,0 +1,19 @@
+//! The rounds of fixed points, as regions of states.
+#![tactic(auto)]
+
+mod answer;
+mod comparing;
+mod fault;
+mod fixed_point;
+mod growing;
+mod shapes;
+mod shrinking;
+mod steps;
+mod tame;
+mod turn;
+
+pub use answer::Rounds;
+pub use fault::RoundFault;
+pub use fixed_point::FixedPoint;
+pub use shapes::rounds;
+pub use tame::has_no_draws;
