@@ -1,0 +1,14 @@
+pub mod Signs
+pub mod LineLemmas
+pub mod PushLemmas
+pub mod FlatLemmas
+pub mod MetLemmas
+pub mod TakeLemmas
+pub mod NodeLemmas
+pub mod BareMet
+pub mod RunMet
+pub mod PlaceLemmas
+pub mod CertificateLemmas
+pub mod FallLemmas
+pub mod TakingMet
+pub mod StepLemmas

@@ -1,0 +1,146 @@
+-- A node whose own parts are right, and whose children fit, fits its formula and is met.
+use Rattle.std.proofs.Common.{◌≡◌, ℕ, ◌+◌, ◌^◌, ◌<◌, ◌≤◌, List, [], ◌∷◌, ◌++◌, length, map, All, Some, false, arith, sym, ap, ◌∙◌, subst}
+use Rattle.std.specs.List.{AllZip}
+use Rattle.std.proofs.lemmas.List.Elements.{All-nil, All-cons}
+use Rattle.tv_formula.specs.Properties.{Property, Properties, none, more}
+use Rattle.tv_cert.specs.declared.node.Marked.{Marked}
+use Rattle.tv_cert.specs.declared.node.Proof.{Proof}
+use Rattle.tv_cert.specs.declared.node.Node.{Node, Node', Row_of-Node, end_of-Node, more_of-Node, items-the_row-Node, outs-Node'}
+use Rattle.tv_cert.specs.Listed.{pieces_list}
+use Rattle.tv_cert.specs.Nodes.{parts, kid_pieces, size, entries, kid_entries}
+use Rattle.tv_cert.specs.Obligations.{About, Obligation, Entry, OwedMet, AllMet, own_of, paired}
+use Rattle.tv_cert.specs.Shapes.{ProofShape, PieceShape, OwnShape, HaveShapes, IsNormalHead, may_rank, may_be_done}
+use Rattle.tv_cert.proofs.NodeLemmas.{out_is, kid_pieces_are}
+use Rattle.tv_shape.specs.Depths.{proof_splits}
+use Rattle.tv_shape.specs.Fitting.{KidsNarrow, KidsGoWithin}
+use Rattle.tv_shape.specs.Narrow.{PieceNarrow, ProofNarrow}
+use Rattle.tv_points.specs.Nodes.{HasOwn, IsFitted}
+
+-- ---- proofs that are offered
+
+-- the proof is one of what is owed, has its shape and narrow numbers, and no splits
+pub record IsOffered (o : Obligation) (p : Proof) : Type 0 where
+  pub shape : ProofShape o.owed p
+  pub met : OwedMet o.owed (Some p)
+  pub narrow : ProofNarrow p
+  pub flat : proof_splits p ≡ 0
+
+pub both_met : (es fs : List Entry) → AllMet es → AllMet fs → AllMet (es ++ fs)
+both_met [] fs h g = g
+both_met (e ∷ es) fs h g = (h.0, both_met es fs h.1 g)
+
+all_met : (os : List Obligation) (proofs : List Proof) → AllZip IsOffered os proofs → AllMet (paired os proofs)
+all_met [] proofs h = tt
+all_met (o ∷ os) [] h = absurd h
+all_met (o ∷ os) (p ∷ proofs) h = (h.0.met, all_met os proofs h.1)
+
+all_shaped : (os : List Obligation) (proofs : List Proof) → AllZip IsOffered os proofs → AllZip (λ o p. ProofShape o.owed p) os proofs
+all_shaped [] [] h = tt
+all_shaped [] (p ∷ proofs) h = absurd h
+all_shaped (o ∷ os) [] h = absurd h
+all_shaped (o ∷ os) (p ∷ proofs) h = (h.0.shape, all_shaped os proofs h.1)
+
+all_narrow : (os : List Obligation) (proofs : List Proof) → AllZip IsOffered os proofs → All ProofNarrow proofs
+all_narrow [] [] h = All-nil ProofNarrow
+all_narrow [] (p ∷ proofs) h = absurd h
+all_narrow (o ∷ os) [] h = absurd h
+all_narrow (o ∷ os) (p ∷ proofs) h = All-cons ProofNarrow p proofs h.0.narrow (all_narrow os proofs h.1)
+
+all_flat : (depth : ℕ) (os : List Obligation) (proofs : List Proof) → depth ≤ 384 → AllZip IsOffered os proofs → All (λ p. depth + proof_splits p ≤ 384) proofs
+all_flat depth [] [] l h = All-nil (λ p. depth + proof_splits p ≤ 384)
+all_flat depth [] (p ∷ proofs) l h = absurd h
+all_flat depth (o ∷ os) [] l h = absurd h
+all_flat depth (o ∷ os) (p ∷ proofs) l h = All-cons (λ p. depth + proof_splits p ≤ 384) p proofs (let f = h.0.flat in omega (arith, f, l)) (all_flat depth os proofs l h.1)
+
+-- ---- children that fit
+abbrev pub AllFitted : About → Properties → ℕ → List Node → Type 0
+AllFitted about none depth [] = Unit {0}
+AllFitted about none depth (a ∷ kids) = ⊥
+AllFitted about (more f fs) depth [] = ⊥
+AllFitted about (more f fs) depth (a ∷ kids) = IsFitted about f depth a × AllFitted about fs depth kids
+
+kids_shape : {k : _} (about : About) (fs : Properties) (depth : ℕ) (kids : Row_of-Node k) → AllFitted about fs depth (items-the_row-Node k kids) → HaveShapes about fs kids
+kids_shape about none depth end_of-Node h = tt
+kids_shape about none depth (more_of-Node a kids) h = absurd h
+kids_shape about (more f fs) depth end_of-Node h = absurd h
+kids_shape about (more f fs) depth (more_of-Node a kids) h = (h.0.shape, kids_shape about fs depth kids h.1)
+
+kids_narrow : {k : _} (about : About) (fs : Properties) (depth : ℕ) (kids : Row_of-Node k) → AllFitted about fs depth (items-the_row-Node k kids) → KidsNarrow kids
+kids_narrow about none depth end_of-Node h = tt
+kids_narrow about none depth (more_of-Node a kids) h = absurd h
+kids_narrow about (more f fs) depth end_of-Node h = absurd h
+kids_narrow about (more f fs) depth (more_of-Node a kids) h = (h.0.narrow, kids_narrow about fs depth kids h.1)
+
+kids_within : {k : _} (about : About) (fs : Properties) (depth : ℕ) (kids : Row_of-Node k) → AllFitted about fs depth (items-the_row-Node k kids) → KidsGoWithin depth kids
+kids_within about none depth end_of-Node h = tt
+kids_within about none depth (more_of-Node a kids) h = absurd h
+kids_within about (more f fs) depth end_of-Node h = absurd h
+kids_within about (more f fs) depth (more_of-Node a kids) h = (h.0.within, kids_within about fs depth kids h.1)
+
+kids_met : {k : _} (about : About) (fs : Properties) (depth number : ℕ) (kids : Row_of-Node k) → AllFitted about fs depth (items-the_row-Node k kids) → AllMet (kid_entries number about fs kids)
+kids_met about none depth number end_of-Node h = tt
+kids_met about none depth number (more_of-Node a kids) h = absurd h
+kids_met about (more f fs) depth number end_of-Node h = absurd h
+kids_met about (more f fs) depth number (more_of-Node a kids) h =
+    both_met (entries number about f a) (kid_entries (number + size a) about fs kids) (h.0.met number) (kids_met about fs depth (number + size a) kids h.1)
+
+-- ---- the node
+pub record IsRight (about : About) (f : Property) (depth : ℕ) (pieces : List Marked) (ranks : ℕ) (kids : List Node) (proofs : List Proof) : Type 0 where
+  pub normal : IsNormalHead f
+  pub ranked : may_rank f ≡ false → ranks ≡ 0
+  pub small : ranks < 2 ^ 32
+  pub few : length pieces < 2 ^ 32
+  pub each : All (PieceShape about.system ranks (may_be_done f)) pieces
+  pub offered : (number : ℕ) → AllZip IsOffered (own_of number about f pieces (map pieces_list kids)) proofs
+  pub below : AllFitted about (parts f) (depth + 1) kids
+  pub shallow : depth ≤ 384
+
+pub node_fitted : (about : About) (f : Property) (depth : ℕ) (node : Node) (pieces : List Marked) (ranks : ℕ) (kids : List Node) (proofs : List Proof) → HasOwn node pieces ranks kids proofs → IsRight about f depth pieces ranks kids proofs → IsFitted about f depth node
+node_fitted about f depth (Node' ps m shape row list) pieces ranks kids proofs own right = record {
+  shape = (own_shape, kids_shape about (parts f) (depth + 1) row below);
+  narrow = (
+    record {
+      count = (let e = ap length pieces_same in let n = right.few in omega (arith, e, n));
+      ranks = (let e = ranks_same in let n = right.small in omega (arith, e, n));
+      pieces = subst (All PieceNarrow) (sym pieces_same) own.narrow;
+      offered = subst (All ProofNarrow) (sym proofs_same) (all_narrow (own_of 0 about f pieces (map pieces_list kids)) proofs (right.offered 0));
+    },
+    kids_narrow about (parts f) (depth + 1) row below,
+  );
+  within = (right.shallow, subst (All (λ p. depth + proof_splits p ≤ 384)) (sym proofs_same) (all_flat depth (own_of 0 about f pieces (map pieces_list kids)) proofs right.shallow (right.offered 0)), kids_within about (parts f) (depth + 1) row below);
+  met = λ number. both_met (kid_entries (number + 1) about (parts f) row) (paired (own_of number about f ps (kid_pieces row)) list.items) (kids_met about (parts f) (depth + 1) (number + 1) row below)
+      (subst AllMet (sym (own_are number)) (all_met (own_of number about f pieces (map pieces_list kids)) proofs (right.offered number)));
+}
+  where
+    pieces_same : ps ≡ pieces
+    pieces_same = sym (ap (λ x. x.pieces) (outs-Node' ps m shape row list)) ∙ own.pieces_are
+
+    ranks_same : m ≡ ranks
+    ranks_same = sym (ap (λ x. x.ranks) (outs-Node' ps m shape row list)) ∙ own.ranks_are
+
+    proofs_same : list.items ≡ proofs
+    proofs_same = sym (ap (λ x. x.proofs.items) (outs-Node' ps m shape row list)) ∙ own.proofs_are
+
+    kids_same : items-the_row-Node _ row ≡ kids
+    kids_same = sym (out_is ps m shape row list) ∙ own.children_are
+
+    below : AllFitted about (parts f) (depth + 1) (items-the_row-Node _ row)
+    below = subst (AllFitted about (parts f) (depth + 1)) (sym kids_same) right.below
+
+    kid_pieces_same : kid_pieces row ≡ map pieces_list kids
+    kid_pieces_same = kid_pieces_are row ∙ ap (map pieces_list) kids_same
+
+    own_are : (number : ℕ) → paired (own_of number about f ps (kid_pieces row)) list.items ≡ paired (own_of number about f pieces (map pieces_list kids)) proofs
+    own_are number = (λ i. paired (own_of number about f (pieces_same i) (kid_pieces_same i)) (proofs_same i))
+
+    own_shape : OwnShape about f m ps (kid_pieces row) list.items
+    own_shape = subst (λ z. OwnShape about f z ps (kid_pieces row) list.items) (sym ranks_same)
+        (subst (λ z. OwnShape about f ranks z (kid_pieces row) list.items) (sym pieces_same)
+        (subst (λ z. OwnShape about f ranks pieces z list.items) (sym kid_pieces_same)
+        (subst (λ z. OwnShape about f ranks pieces (map pieces_list kids) z) (sym proofs_same) (record {
+          normal = right.normal;
+          ranked = right.ranked;
+          small = right.small;
+          each = right.each;
+          offered = all_shaped (own_of 0 about f pieces (map pieces_list kids)) proofs (right.offered 0);
+        }))))
