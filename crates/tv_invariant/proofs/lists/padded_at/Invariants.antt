@@ -1,0 +1,6 @@
+use Rattle.std.proofs.Common.{◌≡◌, map, take}
+use Rattle.tv_invariant.specs.Places.{padded, rows_at}
+use Rattle.tv_invariant.proofs.lists.padded_at.Given as goal
+
+abbrev pub invariant-candidates : goal.invariant-candidates
+invariant-candidates l = l.all.items ≡ map (padded l.more) (rows_at l.location (take l.candidate-index l.candidates))

@@ -1,0 +1,10 @@
+use Rattle.std.proofs.Common.{◌≡◌, length}
+use Rattle.tv_cases.specs.Systems.{cases_of}
+use Rattle.tv_invariant.specs.Passes.{IsPassed}
+use Rattle.tv_invariant.proofs.passes.pass.Given as goal
+
+abbrev pub invariant-cases : goal.invariant-cases
+invariant-cases l = record {
+  as_many : length l.marks ≡ length l.fn.marks;
+  passed : IsPassed (cases_of l.fn.about) l.number l.fn.old.items l.now.items l.fn.marks l.marks;
+}

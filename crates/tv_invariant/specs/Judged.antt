@@ -1,0 +1,34 @@
+-- What is told of a candidate after a case.
+use Rattle.std.specs.Prelude.{◌≡◌, ◌⊎◌, ℕ, List, [], ◌∷◌, true, false, Ok}
+use Rattle.tv_linear.specs.Linear.{Linear}
+use Rattle.tv_cases.specs.Before.{before, GivesBefore}
+use Rattle.tv_cases.specs.Views.{case_view}
+use Rattle.tv_farkas.specs.declared.fault.CoverFault.{CoverFault}
+use Rattle.tv_cover.specs.Covering.{IsCoverFault}
+use Rattle.tv_candidates.specs.declared.candidate.Candidate.{Candidate}
+use Rattle.tv_invariant.specs.declared.judge.Judge.{Judge}
+use Rattle.tv_invariant.specs.Seen.{IsSettled}
+use Rattle.tv_invariant.specs.Falling.{IsUnmade}
+
+-- the row before the case
+abbrev pub row_before : Judge → Candidate → Linear
+row_before j c = before c.row (case_view j.case.now)
+
+-- the case does not lead to its location, or each whole point over the case meets the row before it
+abbrev pub Stays : Judge → Candidate → Type 0
+Stays j c = c.location ≡ j.case.now.to → IsSettled j.ambient.now.columns j.ambient.now.rows.items (row_before j c) true
+
+-- the case leads to its location, and some whole point over the case does not meet the row before it
+abbrev pub Falls : Judge → Candidate → Type 0
+Falls j c = (c.location ≡ j.case.now.to) × IsSettled j.ambient.now.columns j.ambient.now.rows.items (row_before j c) false
+
+-- the cover of what holds over the case by the row before it is refused
+abbrev pub RefusesCover : Judge → Candidate → CoverFault → Type 0
+RefusesCover j c fault =
+    (row : Linear)
+    × GivesBefore c.row (case_view j.case.now) (Ok row)
+    × IsCoverFault j.ambient.now.columns ((row ∷ []) ∷ []) j.ambient.now.rows.items j.budget.now.pivots j.budget.now.splits fault
+
+-- the case leads to its location, and the row before it was not made or its cover is refused
+abbrev pub Refuses : Judge → Candidate → CoverFault → Type 0
+Refuses j c fault = (c.location ≡ j.case.now.to) × (IsUnmade c.row (case_view j.case.now) fault ⊎ RefusesCover j c fault)

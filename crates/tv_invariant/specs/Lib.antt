@@ -1,0 +1,10 @@
+pub mod Rows
+pub mod Places
+pub mod Failing
+pub mod Seen
+pub mod Sieves
+pub mod Falling
+pub mod Judged
+pub mod Passes
+pub mod Asking
+pub mod Reopened

@@ -1,0 +1,65 @@
+// Candidates after a case.
+
+ghost use Rattle.std.specs.Prelude.{◌≡◌, ◌+◌, ◌-◌, ◌^◌, ◌<◌, ◌≤◌, All, IfOk, MatchBool};
+ghost use Rattle.std.specs.Result.{IfErr};
+ghost use Rattle.tv_linear.specs.Linear.{columns as width};
+ghost use Rattle.tv_cover.specs.Targets.{AreEven};
+ghost use Rattle.tv_invariant.specs.Falling.{IsUnmadeBy};
+
+use crate::question::is_met_by_all;
+use crate::seen::Seen;
+use std::alloc::Global;
+use tv_candidates::Candidate;
+use tv_cases::{Case, before};
+use tv_farkas::{Budget, CoverFault};
+use tv_linear::{Poly, RowFault};
+
+/// The refusal of a row that was not made.
+fn unmade(fault: RowFault) -> CoverFault
+    ensures { IsUnmadeBy fault result }
+{
+    match fault {
+        RowFault::Wide { column } => CoverFault::Wide { column },
+        RowFault::Memory => CoverFault::Memory,
+    }
+}
+
+/// Tells the candidates that a case keeps from those that it does not.
+#[derive(Drop)]
+pub struct Judge<'a> {
+    pub case: &'a Case,
+    /// What holds over the case.
+    pub ambient: &'a Poly,
+    pub budget: &'a Budget,
+    pub ghost few: { ambient.now.columns < 2 ^ 32 - 1 },
+    pub ghost even: { AreEven ambient.now.columns ambient.now.rows.items },
+    pub ghost terms: { All (λ u. width u.term ≡ ambient.now.columns) case.now.updates.items },
+    pub ghost splits: { budget.now.splits ≤ 128 },
+}
+
+impl Judge<'_> {
+    ghost use Rattle.tv_invariant.specs.Seen.{IsSeen};
+    ghost use Rattle.tv_invariant.specs.Judged.{Stays, Falls, Refuses};
+
+    /// Whether the case keeps the candidate, or does not lead to its location.
+    pub fn keeps(
+        &self,
+        alloc: Global,
+        candidate: &Candidate,
+        seen: &mut Seen,
+    ) -> Result<bool, CoverFault>
+        requires fits { width candidate.now.row + self.now.case.now.draws ≡ self.now.ambient.now.columns }
+        requires seen { IsSeen self.now.ambient.now.columns self.now.ambient.now.rows.items seen.old }
+        ensures settled { IfOk result (λ b. MatchBool b (Stays self.now candidate.now) (Falls self.now candidate.now)) }
+        ensures seen { IfOk result (λ _. IsSeen self.now.ambient.now.columns self.now.ambient.now.rows.items seen.new) }
+        ensures refusals { IfErr result (Refuses self.now candidate.now) }
+    {
+        if candidate.location != self.case.to {
+            return Ok(true);
+        }
+        match before(alloc, &candidate.row, self.case) {
+            Err(fault) => Err(unmade(fault)),
+            Ok(row) => is_met_by_all(alloc, self.ambient, row, seen, self.budget),
+        }
+    }
+}

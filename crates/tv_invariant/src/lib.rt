@@ -1,0 +1,17 @@
+//! The greatest inductive part of a list of rows at locations, and of what proposers offer.
+#![tactic(auto)]
+
+mod asking;
+mod inductive;
+mod judge;
+mod lists;
+mod passes;
+mod question;
+mod rows;
+mod seen;
+mod start;
+mod step;
+mod strengthening;
+
+pub use inductive::largest_inductive;
+pub use strengthening::strengthen;

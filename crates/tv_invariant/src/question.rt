@@ -1,0 +1,78 @@
+// Whether the whole points of rows meet a row.
+
+ghost use Rattle.std.specs.Prelude.{◌≡◌, ◌-◌, ◌^◌, ◌<◌, ◌≤◌, ◌∷◌, [], IfOk};
+ghost use Rattle.std.specs.Result.{IfErr};
+ghost use Rattle.tv_linear.specs.Linear.{columns as width};
+ghost use Rattle.tv_cover.specs.Targets.{AreEven};
+ghost use Rattle.tv_cover.specs.Covering.{IsCoverFault};
+ghost use Rattle.tv_invariant.specs.Seen.{IsSeen, IsSettled, IsHoleOf};
+
+use crate::rows::is_implied;
+use crate::seen::{Seen, fails_at};
+use std::alloc::Global;
+use tv_cover::{Covered, cover};
+use tv_farkas::{Budget, CoverFault};
+use tv_linear::{Poly, Row};
+use tv_simplex::push_item;
+
+/// A whole point of the rows that does not meet the row; `None` where each meets it.
+fn hole(
+    alloc: Global,
+    ambient: &Poly,
+    row: Row,
+    budget: &Budget,
+) -> Result<Option<Vec<i128>>, CoverFault>
+    requires few { ambient.now.columns < 2 ^ 32 - 1 }
+    requires even { AreEven ambient.now.columns ambient.now.rows.items }
+    requires same { width row ≡ ambient.now.columns }
+    requires splits { budget.now.splits ≤ 128 }
+    ensures hole { IfOk result (IsHoleOf ambient.now.columns ambient.now.rows.items row) }
+    ensures refusals { IfErr result (IsCoverFault ambient.now.columns ((row ∷ []) ∷ []) ambient.now.rows.items budget.now.pivots budget.now.splits) }
+{
+    let mut rows = Vec::new(alloc);
+    push_item(&mut rows, row)?;
+    let columns = ambient.columns;
+    let mut targets = Vec::new(alloc);
+    push_item(&mut targets, Poly { columns, rows })?;
+    match cover(alloc, ambient, &targets, budget) {
+        Err(fault) => Err(fault),
+        Ok(Covered::Tree(_)) => Ok(None),
+        Ok(Covered::Hole(point)) => Ok(Some(point)),
+    }
+}
+
+/// Whether each whole point of the rows meets the row. What was seen before is looked at first, and what is found is put to it.
+pub fn is_met_by_all(
+    alloc: Global,
+    ambient: &Poly,
+    row: Row,
+    seen: &mut Seen,
+    budget: &Budget,
+) -> Result<bool, CoverFault>
+    requires few { ambient.now.columns < 2 ^ 32 - 1 }
+    requires even { AreEven ambient.now.columns ambient.now.rows.items }
+    requires same { width row ≡ ambient.now.columns }
+    requires seen { IsSeen ambient.now.columns ambient.now.rows.items seen.old }
+    requires splits { budget.now.splits ≤ 128 }
+    ensures settled { IfOk result (IsSettled ambient.now.columns ambient.now.rows.items row) }
+    ensures seen { IfOk result (λ _. IsSeen ambient.now.columns ambient.now.rows.items seen.new) }
+    ensures refusals { IfErr result (IsCoverFault ambient.now.columns ((row ∷ []) ∷ []) ambient.now.rows.items budget.now.pivots budget.now.splits) }
+{
+    if is_implied(&seen.shown, &row) {
+        return Ok(true);
+    }
+    if fails_at(&seen.points, &row) {
+        return Ok(false);
+    }
+    match hole(alloc, ambient, row.copy(alloc)?, budget) {
+        Err(fault) => Err(fault),
+        Ok(None) => {
+            push_item(&mut seen.shown, row)?;
+            Ok(true)
+        }
+        Ok(Some(point)) => {
+            push_item(&mut seen.points, point)?;
+            Ok(false)
+        }
+    }
+}

@@ -1,0 +1,72 @@
+// The candidates that one case keeps.
+
+ghost use Rattle.std.specs.Prelude.{◌≡◌, ◌⊎◌, ℕ, ◌+◌, ◌≤◌, All, IfOk};
+ghost use Rattle.std.specs.List.{Contains};
+ghost use Rattle.std.specs.Result.{IfErr};
+ghost use Rattle.tv_linear.specs.Linear.{columns as width};
+ghost use Rattle.tv_cases.specs.LinearCases.{IsCase};
+ghost use Rattle.tv_cases.specs.Views.{case_view};
+ghost use Rattle.tv_candidates.specs.declared.candidate.Candidate.{Candidate};
+ghost use Rattle.tv_farkas.specs.declared.fault.CoverFault.TheVariants.{Memory};
+ghost use Rattle.tv_invariant.specs.Sieves.{Sieved};
+ghost use Rattle.tv_invariant.specs.Judged.{Stays, Falls, Refuses};
+ghost use Rattle.tv_invariant.specs.Passes.{AreOver};
+ghost use Rattle.tv_invariant.specs.Falling.{KeptBy, IsFallen, IsStepRefusal};
+
+use crate::judge::Judge;
+use crate::lists::{copy_onto, padded_at};
+use crate::rows::strongest;
+use crate::seen::Seen;
+use std::alloc::Global;
+use tv_candidates::Candidate;
+use tv_cases::Case;
+use tv_farkas::{Budget, CoverFault};
+use tv_linear::Poly;
+use tv_simplex::push_item;
+
+/// The candidates that stay, in order.
+fn sieve(alloc: Global, judge: &Judge, now: Vec<Candidate>) -> Result<Vec<Candidate>, CoverFault>
+    requires { All (λ c. width c.row + judge.now.case.now.draws ≡ judge.now.ambient.now.columns) now.items }
+    ensures sieved { IfOk result (λ v. Sieved (Stays judge.now) (Falls judge.now) now.items v.items) }
+    ensures refusals { IfErr result (λ f. (f ≡ Memory) ⊎ ((c : Candidate) × Contains now.items c × Refuses judge.now c f)) }
+{
+    let mut kept = Vec::new(alloc);
+    let mut seen = Seen::new(alloc);
+    'candidates: for candidate in now {
+        match judge.keeps(alloc, &candidate, &mut seen) {
+            Err(fault) => return Err(fault),
+            Ok(false) => {}
+            Ok(true) => push_item(&mut kept, candidate)?,
+        }
+    }
+    Ok(kept)
+}
+
+/// The candidates that the case keeps where the states before it meet all of them.
+pub fn step(
+    alloc: Global,
+    case: &Case,
+    variables: u32,
+    now: Vec<Candidate>,
+    budget: &Budget,
+) -> Result<Vec<Candidate>, CoverFault>
+    requires over { AreOver variables now.items }
+    requires few { variables ≤ 512 }
+    requires case { (locations : ℕ) × IsCase variables locations (case_view case.now) }
+    requires splits { budget.now.splits ≤ 128 }
+    ensures sieved { IfOk result (λ v. Sieved (KeptBy variables (case_view case.now) now.items) (IsFallen variables (case_view case.now) now.items) now.items v.items) }
+    ensures refusals { IfErr result (λ f. (f ≡ Memory) ⊎ ((c : Candidate) × Contains now.items c × IsStepRefusal variables (case_view case.now) now.items budget.now.pivots budget.now.splits c f)) }
+{
+    let mut rows = padded_at(alloc, &now, case.from, case.draws)?;
+    copy_onto(alloc, &mut rows, &case.guards.rows)?;
+    let ambient = Poly {
+        columns: variables + case.draws,
+        rows: strongest(alloc, rows)?,
+    };
+    let judge = Judge {
+        case,
+        ambient: &ambient,
+        budget,
+    };
+    sieve(alloc, &judge, now)
+}

@@ -1,0 +1,4 @@
+mod FlatLemmas
+pub mod WalkLemmas
+mod TableLemmas
+mod ConstantLemmas
