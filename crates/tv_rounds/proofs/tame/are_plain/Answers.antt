@@ -1,8 +1,8 @@
-use Rattle.std.proofs.Common.{◌≡◌, inl, inr, ◌∷◌, [], take, sym, subst, arith, false}
+use Rattle.std.proofs.Common.{◌≡◌, inl, inr, take, subst, arith}
 use Rattle.tv_cases.specs.LinearCases.{LinearCase}
 use Rattle.tv_cases.specs.Views.{case_view, case_views}
 use Rattle.tv_region.specs.Met.{Has}
-use Rattle.tv_region.proofs.MetLemmas.{has_push, take-whole}
+use Rattle.tv_region.proofs.MetLemmas.{has_push}
 use Rattle.tv_region.proofs.StepLemmas.{cases_next, case_has}
 use Rattle.tv_rounds.proofs.tame.are_plain.Goals as goal
 
