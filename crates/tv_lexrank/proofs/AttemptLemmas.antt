@@ -28,4 +28,6 @@ rounds_are k ps p l e = get_or-map (λ q. q.rounds.items) ps k p [] l ∙ ap (λ
 
 pub part_refused : (about : CaseSystem) (known : List Piece) (numbers : List ℕ) (component pivots : ℕ) (e : RankFault) → RefusesPart about known numbers component pivots e → RefusesAttempt about known numbers pivots e
 part_refused about known numbers component pivots (fault.Solve system e) h = (component, h)
+part_refused about known numbers component pivots (fault.Open taken values) h = absurd h
+part_refused about known numbers component pivots (fault.Cover f) h = absurd h
 part_refused about known numbers component pivots fault.Memory h = tt

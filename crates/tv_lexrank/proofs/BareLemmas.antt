@@ -1,6 +1,6 @@
 use Rattle.std.proofs.Common.{◌≡◌, zero, suc, List, [], ◌∷◌, ◌++◌, refl, sym, subst}
 use Rattle.tv_linear.specs.declared.region.Piece.{Piece}
-use Rattle.tv_lexrank.specs.Rounds.{AreBare}
+use Rattle.tv_lexrank.specs.Known.{AreBare}
 
 bare_from : (ps : List Piece) (p : Piece) → AreBare ps → p.poly.rows.items ≡ [] → AreBare (ps ++ p ∷ [])
 bare_from [] p h e zero = e

@@ -1,12 +1,12 @@
 -- The certificate that every run ends.
-use Rattle.std.proofs.Common.{◌≡◌, ℕ, ◌<◌, List, [], ◌∷◌, ◌++◌, map, Some, arith, refl, sym, subst}
-use Rattle.std.proofs.lemmas.List.Elements.{All-nil}
-use Rattle.tv_linear.specs.Linear.{Linear}
-use Rattle.tv_linear.specs.Known.{given}
-use Rattle.tv_linear.specs.Covers.{ShownAt, IsMetCover}
-use Rattle.tv_linear.specs.Depth.{splits}
+use Rattle.std.proofs.Common.{◌≡◌, ℕ, zero, suc, ◌<◌, List, [], ◌∷◌, ◌++◌, map, All, Some, arith, refl, sym, ap, ◌∙◌, subst, ℤ}
+use Rattle.std.proofs.lemmas.List.Elements.{All-nil, All-head}
+use Rattle.tv_linear.specs.Linear.{Linear, IsMet}
+use Rattle.tv_linear.specs.Known.{given, as_given}
+use Rattle.tv_linear.specs.Covers.{Shown, ShownAt, IsMetCover}
 use Rattle.tv_linear.specs.declared.cover.CoverTree.{CoverTree}
 use Rattle.tv_linear.specs.declared.cover.CoverTree as cover
+use Rattle.tv_linear.specs.declared.region.Piece.{Piece}
 use Rattle.tv_cases.specs.LinearCases.{CaseSystem}
 use Rattle.tv_formula.specs.Properties.{term}
 use Rattle.tv_cert.specs.declared.node.Marked.{Marked}
@@ -17,22 +17,27 @@ use Rattle.tv_cert.specs.Nodes.{pieces_of, entries, root_entry, obligations}
 use Rattle.tv_cert.specs.Obligations.{Entry, AllMet}
 use Rattle.tv_cert.specs.Pieces.{rows_of}
 use Rattle.tv_cert.specs.Targets.{owed_into, target_rows, no_fall}
+use Rattle.tv_cover.specs.Covering.{IsHole}
+use Rattle.tv_cover.specs.Targets.{IsOutside, owed_lists}
+use Rattle.tv_farkas.specs.Refuting.{AreShort}
+use Rattle.tv_rank.specs.Given.{lists}
+use Rattle.tv_rank.specs.Ways.{rows_at}
 use Rattle.tv_shape.specs.Certificates.{IsOf}
 use Rattle.tv_shape.specs.Fitting.{Fits, IsFirstFault}
 use Rattle.tv_shape.specs.Narrow.{CountNarrow, AreNarrow, ListsNarrow, CoverNarrow}
 use Rattle.tv_shape.specs.declared.certificate.Certificate.{Certificate}
 use Rattle.tv_shape.specs.declared.fault.ShapeFault.{ShapeFault}
 use Rattle.tv_shape.proofs.FaultLemmas.{unfit}
-use Rattle.tv_lexrank.specs.Nodes.{IsWholeAt, IsRankedNode}
-use Rattle.tv_lexrank.specs.Certified.{IsBareCover, SaysProved, IsProofOfEnd}
+use Rattle.tv_lexrank.specs.declared.falling.Fall.{Fall}
+use Rattle.tv_lexrank.specs.Nodes.{IsPieceAt, IsRankedNode, ShowsEnd}
+use Rattle.tv_lexrank.specs.Closing.{IsWholeCover, IsCoverInto, owed_plain}
+use Rattle.tv_lexrank.specs.Falling.{HasFall}
+use Rattle.tv_lexrank.specs.Certified.{BeginsKnown, IsStartCover, IsRoot, SaysProved, IsProofOfEnd}
+use Rattle.tv_lexrank.proofs.SameLemmas.{OwedSame, all_same, cover_same}
+use Rattle.tv_lexrank.proofs.ClosingLemmas.{whole_splits, whole_even}
 use Rattle.tv_lexrank.proofs.OfferLemmas.{met_shape}
 
-bare_flat : (tree : CoverTree) → IsBareCover tree → splits tree ≡ 0
-bare_flat (cover.Split' r p a q b) h = absurd h
-bare_flat (cover.Empty ms) h = absurd h
-bare_flat (cover.Into target fall ls) h = refl
-
-bare_narrow : (tree : CoverTree) → IsBareCover tree → CoverNarrow tree
+bare_narrow : (tree : CoverTree) → IsWholeCover tree → CoverNarrow tree
 bare_narrow (cover.Split' r p a q b) h = absurd h
 bare_narrow (cover.Empty ms) h = absurd h
 bare_narrow (cover.Into target fall ls) h =
@@ -40,34 +45,98 @@ bare_narrow (cover.Into target fall ls) h =
     (subst CountNarrow (sym h.0) none, subst CountNarrow (sym h.1) none, subst (λ z. ListsNarrow z) (sym h.2) (All-nil (λ l. AreNarrow l.items)))
 
 -- the cover of a location where the first piece has no rows is met
-bare_met : (n l : ℕ) (ps : List Marked) (tree : CoverTree) → IsBareCover tree → IsWholeAt ps l → IsMetCover n (owed_into ps l given no_fall) [] tree
+bare_met : (n l : ℕ) (ps : List Marked) (tree : CoverTree) → IsWholeCover tree → IsPieceAt ps l [] → IsMetCover n (owed_into ps l given no_fall) [] tree
 bare_met n l ps (cover.Split' r p a q b) h w = absurd h
 bare_met n l ps (cover.Empty ms) h w = absurd h
 bare_met n l ps (cover.Into target fall ls) h w =
     subst (λ z. ShownAt n [] (owed_into ps l given no_fall z fall) (map (λ x. x.items) ls.items)) (sym h.0)
     (subst (λ z. ShownAt n [] (owed_into ps l given no_fall 0 z) (map (λ x. x.items) ls.items)) (sym h.1)
     (subst (λ z. ShownAt n [] (owed_into ps l given no_fall 0 0) (map (λ x. x.items) z)) (sym h.2)
-    (subst (λ z. ShownAt n [] (target_rows given no_fall z 0) []) (sym w.first) (by_rows (rows_of w.piece) w.whole))))
+    (subst (λ z. ShownAt n [] (target_rows given no_fall z 0) []) (sym w.first) (by_rows (rows_of w.piece) w.has))))
   where
     by_rows : (rs : List Linear) → rs ≡ [] → ShownAt n [] (Some (map given rs ++ [])) []
     by_rows [] e = tt
     by_rows (r ∷ rs) e = absurd cc
 
+-- the cover by no rows is met by the piece at the start, where no row is known
+pub whole_root : (about : CaseSystem) (node : Node) (tree : CoverTree) → about.start < about.locations → IsRankedNode about node → IsWholeCover tree → IsRoot about node tree
+whole_root about node tree starts ranked bare = record {
+  fits = ranked.fits;
+  nodes = ranked.met 0;
+  met = bare_met about.variables about.start (pieces_of node) tree bare (ranked.pieces about.start starts);
+  shallow = (let f = whole_splits tree bare in omega (arith, f));
+  even = whole_even about.variables tree bare;
+  narrow = bare_narrow tree bare;
+}
+
+-- a cover of the start by no rows
+pub whole_start : (v : ℕ) (rows : List Linear) (tree : CoverTree) → rows ≡ [] → IsWholeCover tree → IsStartCover v rows tree
+whole_start v rows (cover.Split' r p a q b) e h = absurd h
+whole_start v rows (cover.Empty ms) e h = absurd h
+whole_start v rows (cover.Into target fall ls) e h = subst (λ z. IsStartCover v z (cover.Into target fall ls)) (sym e) (record {
+  met = subst (λ z. ShownAt v [] (owed_plain [] z fall) (map (λ y. y.items) ls.items)) (sym h.0)
+      (subst (λ z. ShownAt v [] (owed_plain [] 0 z) (map (λ y. y.items) ls.items)) (sym h.1)
+      (subst (λ z. ShownAt v [] (owed_plain [] 0 0) (map (λ y. y.items) z)) (sym h.2) tt));
+  shallow = omega arith;
+  short = subst (λ z. All AreShort (map (λ y. y.items) z)) (sym h.2) (All-nil AreShort);
+  even = tt;
+})
+
+-- one by rows
+pub start_into : (v : ℕ) (rows target : List Linear) (tree : CoverTree) → target ≡ rows → IsCoverInto v [] target tree → IsStartCover v rows tree
+start_into v rows target tree e h = subst (λ z. IsStartCover v z tree) e (record {
+  met = cover_same v (owed_lists (target ∷ [])) (owed_plain (as_given target)) owed [] [] tt tree h.met;
+  shallow = h.shallow;
+  short = h.short;
+  even = h.even;
+})
+  where
+    owed : (k j : ℕ) → OwedSame v (owed_lists (target ∷ []) k j) (owed_plain (as_given target) k j)
+    owed zero zero = all_same v (as_given target)
+    owed (suc k) zero = tt
+    owed zero (suc j) = tt
+    owed (suc k) (suc j) = tt
+
+-- all values meet the rows, so there is no hole
+pub no_start_hole : (about : CaseSystem) (known : List Piece) (target : List Linear) (zs : List ℤ) → BeginsKnown about known → target ≡ rows_at known about.start → IsHole about.variables (target ∷ []) [] zs → ⊥
+no_start_hole about known target zs begins e h =
+    let outside = All-head (IsOutside zs) target [] h.outside in
+    let all = subst (All (IsMet zs)) (sym e) (begins zs h.point.width) in
+    let at = outside.1 in
+    outside.2 (subst (IsMet zs) at.2 (all at.0 outside.0 at.1))
+
+-- the cover of the start by the known rows, with no fall behind it, is met by the piece there
+pub known_root : (about : CaseSystem) (known : List Piece) (node : Node) (fall : Fall) (base tree : CoverTree) → about.start < about.locations → ShowsEnd about known node → fall.number ≡ 0 → lists fall.lines.items ≡ [] → IsStartCover about.variables (rows_at known about.start) base → HasFall fall 0 base tree → IsRoot about node tree
+known_root about known node fall base tree starts ranked number lines begins h = record {
+  fits = ranked.fits;
+  nodes = ranked.met 0;
+  met = h.goes_on v [] [] (as_given (rows_at known about.start)) [] (owed_into (pieces_of node) about.start given no_fall) refl tt (subst (Shown v [] []) (sym lines) tt) (subst (λ j. owed_into (pieces_of node) about.start given no_fall 0 j ≡ Some (as_given (rows_at known about.start) ++ [])) (sym number) owed) begins.met;
+  shallow = (let d = h.deep in let s = begins.shallow in omega (arith, d, s));
+  even = h.even v begins.even;
+  narrow = h.narrow;
+}
+  where
+    v : ℕ
+    v = about.variables
+
+    piece : IsPieceAt (pieces_of node) about.start (rows_at known about.start)
+    piece = ranked.pieces about.start starts
+
+    owed : owed_into (pieces_of node) about.start given no_fall 0 0 ≡ Some (as_given (rows_at known about.start) ++ [])
+    owed = ap (λ z. target_rows given no_fall z 0) piece.first ∙ ap (λ z. Some (as_given z ++ [])) piece.has
+
 both_met : (es fs : List Entry) → AllMet es → AllMet fs → AllMet (es ++ fs)
 both_met [] fs h g = g
 both_met (e ∷ es) fs h g = (h.0, both_met es fs h.1 g)
 
-module _ (about : CaseSystem) (node : Node) (tree : CoverTree) (starts : about.start < about.locations) (ranked : IsRankedNode about node) (bare : IsBareCover tree) where
-  root_met : IsMetCover about.variables (owed_into (pieces_of node) about.start given no_fall) [] tree
-  root_met = bare_met about.variables about.start (pieces_of node) tree bare (ranked.whole about.start starts)
-
-  pub ranked_fits : Fits (about_with about) term node (Proved tree)
+module _ (about : CaseSystem) (node : Node) (tree : CoverTree) (root : IsRoot about node tree) where
+  ranked_fits : Fits (about_with about) term node (Proved tree)
   ranked_fits = record {
-    nodes = ranked.fits;
-    shallow = (let f = bare_flat tree bare in omega (arith, f));
+    nodes = root.fits;
+    shallow = (let f = root.shallow in omega (arith, f));
     said = record {
-      shape = (met_shape about.variables (owed_into (pieces_of node) about.start given no_fall) [] tree (bare_flat tree bare) root_met, (let f = bare_flat tree bare in omega (arith, f)));
-      narrow = bare_narrow tree bare;
+      shape = (met_shape about.variables (owed_into (pieces_of node) about.start given no_fall) [] tree root.even root.met, root.shallow);
+      narrow = root.narrow;
     };
   }
 
@@ -75,7 +144,7 @@ module _ (about : CaseSystem) (node : Node) (tree : CoverTree) (starts : about.s
   no_fault x h = unfit (about_with about) term node (Proved tree) x h ranked_fits
 
   all_obligations : AllMet (obligations (about_with about) term node (Proved tree))
-  all_obligations = both_met (entries 0 (about_with about) term node) (root_entry (about_with about) (pieces_of node) (Proved tree) ∷ []) (ranked.met 0) (root_met, tt)
+  all_obligations = both_met (entries 0 (about_with about) term node) (root_entry (about_with about) (pieces_of node) (Proved tree) ∷ []) root.nodes (root.met, tt)
 
   pub is_proof : (c : Certificate) → IsOf (about_with about) term c → c.root ≡ node → c.verdict ≡ Proved tree → IsProofOfEnd about c
   is_proof c h e f = record {

@@ -2,17 +2,17 @@ use Rattle.std.proofs.Common.{◌≡◌, ℕ, zero, suc, ◌+◌, ◌<◌, List,
 use Rattle.std.proofs.lemmas.List.{append_assoc, append-nil}
 use Rattle.std.proofs.lemmas.Bool.Decides.{nat_tests}
 use Rattle.std.specs.Option.{option_map}
-use Rattle.tv_linear.specs.Linear.{Linear}
-use Rattle.tv_linear.specs.Known.{Known, given, composed, as_given}
+use Rattle.tv_linear.specs.Known.{Known, as_given}
 use Rattle.tv_linear.specs.Falls.{fall_rows_at}
 use Rattle.tv_linear.specs.Covers.{Shown, ShownAt}
-use Rattle.tv_linear.specs.Terms.{terms_after}
 use Rattle.tv_linear.specs.declared.region.Piece.{Piece}
 use Rattle.tv_cases.specs.LinearCases.{CaseSystem}
 use Rattle.tv_rank.specs.Ways.{Way, way_of}
 use Rattle.tv_rank.specs.Rankings.{change_row, bound_row, IsShownBy, fall_of}
 use Rattle.tv_rank.proofs.Over.{if_true, if_false, equal, unequal}
 use Rattle.tv_lexrank.specs.declared.round.Round.{Round}
+use Rattle.tv_lexrank.specs.Known.{way_rows}
+use Rattle.tv_lexrank.specs.Closing.{changed}
 use Rattle.tv_lexrank.specs.Greedy.{without, Lead, none, more}
 use Rattle.tv_lexrank.specs.Rounds.{place_in, line_at, falling_of, lines_of, falls_in, terms_at, Chain, end, next}
 
@@ -56,13 +56,6 @@ found_at (x ∷ xs) k j h e = by_test (x == k) refl (λ n. let i = later j h e n
 pub shown_more : (n : ℕ) (known : List Known) (r : Known) (o : Option (List Known)) (m : List ℤ) (ls : List (List ℤ)) → Shown n known (r ∷ []) (m ∷ []) → ShownAt n known o ls → ShownAt n known (option_map (λ rows. r ∷ rows) o) (m ∷ ls)
 shown_more n known r None m ls h g = absurd g
 shown_more n known r (Some rows) m ls h g = (h.0, g)
-
--- a row after a way
-abbrev pub changed : ℕ → Way → Linear → Known
-changed v w g = composed (given g) (terms_after v w.taken.updates)
-
-abbrev pub way_rows : Way → List Known
-way_rows w = as_given w.known ++ as_given w.taken.guards
 
 -- the rows of the fall of each case of the set are shown by the multipliers of its rounds
 pub chain_shown : (about : CaseSystem) (known : List Piece) (set : List ℕ) (rounds : List Round) → Chain about known set rounds → (k j : ℕ) → j < length set → get_or set j 0 ≡ k → ShownAt (about.variables + (way_of about.cases known k).taken.draws) (way_rows (way_of about.cases known k)) (fall_rows_at (as_given (terms_at about.variables rounds (way_of about.cases known k).taken.from)) (map (changed about.variables (way_of about.cases known k)) (terms_at about.variables rounds (way_of about.cases known k).taken.to)) (falls_in k rounds)) (lines_of k rounds)

@@ -1,5 +1,5 @@
-use Rattle.std.proofs.Common.{◌≡◌, ◌∙◌, ℕ, ◌<◌, ◌≤◌, List, [], length, map, get_or, All, sym, subst, arith, ℤ, Vec}
-use Rattle.std.specs.Prelude.{◌↔◌, slice_index}
+use Rattle.std.proofs.Common.{◌≡◌, ◌∙◌, ℕ, ◌<◌, ◌≤◌, List, [], length, map, get_or, All, sym, ap, subst, arith, ℤ}
+use Rattle.std.specs.Prelude.{◌↔◌, slice_index, Contains}
 use Rattle.std.proofs.lemmas.List.{length-map}
 use Rattle.tv_refute.proofs.Places.{get_or-map}
 use Rattle.tv_farkas.proofs.SystemLemmas.{all_of, at_of}
@@ -7,18 +7,20 @@ use Rattle.tv_linear.specs.declared.region.Piece.{Piece}
 use Rattle.tv_cases.specs.LinearCases.{LinearCase, CaseSystem, AreCases}
 use Rattle.tv_graph.specs.declared.Arc.{Arc}
 use Rattle.tv_graph.specs.Graph.{IsBetween, Reaches, here, along, AreStronglyConnected}
-use Rattle.tv_rank.specs.Ways.{case_at, no_case}
+use Rattle.tv_rank.specs.Ways.{case_at, no_case, rows_at}
 use Rattle.tv_lexrank.specs.declared.fault.RankFault.{RankFault}
 use Rattle.tv_lexrank.specs.declared.fault.RankFault.TheVariants as fault
 use Rattle.tv_lexrank.specs.Ranking.{Leads, AreTogether}
 use Rattle.tv_lexrank.specs.Ranking as ranking
-use Rattle.tv_lexrank.specs.Rounds.{AreBare}
-use Rattle.std.specs.Global.{Global}
+use Rattle.tv_lexrank.specs.Known.{AreBare}
 use Rattle.tv_rank.specs.Given.{lists}
-use Rattle.tv_lexrank.specs.declared.attempt.Attempt.{Attempt}
-use Rattle.tv_lexrank.specs.declared.attempt.Attempt.TheVariants.{Stuck}
-use Rattle.tv_lexrank.specs.Attempt.{NeverRises, IsAttempt, RefusesAttempt}
-use Rattle.tv_lexrank.specs.First.{arc_of, AreComponents, RefusesFirst}
+use Rattle.tv_lexrank.specs.Attempt.{NeverRises, RefusesAttempt}
+use Rattle.tv_lexrank.specs.First.{arc_of, AreComponents, IsOutcome, RefusesFirst}
+use Rattle.tv_lexrank.specs.declared.ranked.Ranked.{Ranked}
+use Rattle.tv_lexrank.specs.declared.ranked.Ranked.TheVariants as ranked
+use Rattle.tv_lexrank.specs.Outcomes.{IsAnswer, Refuses}
+use Rattle.tv_farkas.specs.declared.budget.Budget.{Budget}
+use Rattle.tv_linear.specs.Linear.{Linear}
 use Rattle.tv_simplex.specs.Outcomes.{IsBarrierOf}
 use Rattle.tv_rank.specs.RankingSystem.{ranking_system}
 use Rattle.tv_rank.specs.Rankings.{HasPoint, NoneRanks}
@@ -55,16 +57,13 @@ are_components about numbers e s n = record {
   never_rises = never_rises about numbers n;
 }
 
-pub first_refused : (about : CaseSystem) (numbers : List ℕ) (known : List Piece) (pivots : ℕ) (e : RankFault) → AreComponents about numbers → AreBare known → RefusesAttempt about known numbers pivots e → RefusesFirst about pivots e
-first_refused about numbers known pivots (fault.Solve system e) n b h = (numbers, known, n, b, h)
-first_refused about numbers known pivots fault.Memory n b h = tt
-
 -- a set that is stuck under pieces without rows is stuck without known rows
 pub stuck_bare : (about : CaseSystem) (known : List Piece) (set : List ℕ) (barriers : List (List ℤ)) → AreBare known → IsStuck about known set barriers → IsStuck about [] set barriers
 stuck_bare about known set barriers bare h =
     let e = bare_ways about.cases known set bare in
     record {
       nonempty = h.nonempty;
+      ascends = h.ascends;
       points = subst (λ w. (k : ℕ) → k < length set → HasPoint about.variables (w k)) e h.points;
       each_barred = record {
         as_many = h.each_barred.as_many;
@@ -73,5 +72,21 @@ stuck_bare about known set barriers bare h =
       };
     }
 
-pub stuck_attempt : (about : CaseSystem) (known : List Piece) (numbers : List ℕ) (count : ℕ) (a : Attempt) (set : Vec ℕ Global) (barriers : Vec (Vec ℤ Global) Global) → AreBare known → a ≡ Stuck set barriers → IsAttempt about known numbers count a → IsStuck about [] set.items (lists barriers.items)
-stuck_attempt about known numbers count a set barriers bare e h = stuck_bare about known set.items (lists barriers.items) bare (subst (λ z. IsAttempt about known numbers count z) e h)
+-- ---- where no rows are known
+none_among : (known : List Piece) (l : ℕ) (r : Linear) → AreBare known → Contains (rows_at known l) r → ⊥
+none_among known l r bare c = (let e = ap length (bare l) in let q = c.1 in omega (arith, e, q))
+
+pub answered_bare : (about : CaseSystem) (known : List Piece) (r : Ranked) → AreBare known → IsAnswer about known r → IsOutcome about r
+answered_bare about known (ranked.Node node) bare h = record {
+  fits = h.fits;
+  met = h.met;
+  pieces = λ l i. let p = h.pieces l i in record { piece = p.piece; first = p.first; has = p.has ∙ bare l };
+}
+answered_bare about known (ranked.Stuck set barriers) bare h = stuck_bare about known set.items (lists barriers.items) bare h
+
+pub refused_bare : (about : CaseSystem) (known : List Piece) (budget : Budget) (pivots : ℕ) (e : RankFault) → AreBare known → budget.pivots ≡ pivots → Refuses about known budget e → RefusesFirst about pivots e
+refused_bare about known budget pivots (fault.Open taken values) bare same h = none_among known h.new.location h.row bare h.among
+refused_bare about known budget pivots (fault.Cover f) bare same (k, h) = (let e = ap length (bare (case_at about.cases k).to) in let s = h.some in omega (arith, e, s))
+refused_bare about known budget pivots (fault.Solve system e) bare same (numbers, are, h) =
+    (numbers, known, are, bare, subst (λ z. RefusesAttempt about known numbers z (fault.Solve system e)) same h)
+refused_bare about known budget pivots fault.Memory bare same h = tt

@@ -1,5 +1,5 @@
 -- Between the places of a number in a list it does not stand.
-use Rattle.std.proofs.Common.{◌≡◌, ◌⊎◌, inl, inr, ℕ, zero, suc, ◌+◌, ◌-◌, ◌<◌, ◌≤◌, List, [], ◌∷◌, ◌++◌, length, map, take, get_or, ℤ, Bool, true, false, cond, ◌==◌, if◌then◌else◌, arith, refl, sym, ap, ◌∙◌, subst}
+use Rattle.std.proofs.Common.{◌≡◌, ◌⊎◌, inl, inr, ℕ, zero, suc, ◌+◌, ◌-◌, ◌<◌, ◌≤◌, List, [], ◌∷◌, ◌++◌, length, map, take, get_or, ℤ, Bool, true, false, cond, ◌==◌, if◌then◌else◌, arith, refl, sym, ap, ◌∙◌}
 use Rattle.std.specs.Prelude.{slice_get, Some}
 use Rattle.std.specs.List.{filter}
 use Rattle.std.proofs.lemmas.Bool.Decides.{nat_tests}
@@ -8,6 +8,7 @@ use Rattle.std.proofs.lemmas.Option.{slice_get_within, slice_get-get_or, get_or_
 use Rattle.tv_places.specs.Places.{places_from, places_of}
 use Rattle.tv_places.proofs.PlaceLemmas.{place_told, places_counted}
 use Rattle.tv_refute.proofs.Places.{get_or-map}
+use Rattle.tv_linear.specs.declared.region.Piece.{Piece}
 use Rattle.tv_cases.specs.LinearCases.{LinearCase, CaseSystem}
 use Rattle.tv_rank.specs.Ways.{case_at, no_case}
 use Rattle.tv_rank.proofs.Over.{equal}
@@ -158,8 +159,8 @@ module _ (about : CaseSystem) (numbers : List ℕ) (component count : ℕ) where
   behind_same (suc p) = refl
 
   -- sorted up to the next place, where no case inside is passed over
-  pub sorted_until : (p many : ℕ) (set empty : List ℕ) (refutations : List (List ℤ)) → p ≤ length places → many ≤ length about.cases → many ≡ get_or places p (length about.cases) → AreSorted about numbers component (behind places p) set empty refutations → AreSorted about numbers component many set empty refutations
-  sorted_until p many set empty refutations h few e s =
+  pub sorted_until : (known : List Piece) (p many : ℕ) (set empty : List ℕ) (refutations : List (List ℤ)) → p ≤ length places → many ≤ length about.cases → many ≡ get_or places p (length about.cases) → AreSorted about known numbers component (behind places p) set empty refutations → AreSorted about known numbers component many set empty refutations
+  sorted_until known p many set empty refutations h few e s =
       let g = gap_from component 0 keys p h in
       let low = behind_same p in
       let upper = ap (get_or places p) (let n = length-map about.cases (inside_key numbers count) in let q : 0 + length keys ≡ length about.cases = omega (arith, n) in q) in
@@ -187,11 +188,11 @@ module _ (about : CaseSystem) (numbers : List ℕ) (component count : ℕ) where
   past_end (x ∷ xs) zero d h = absurd (omega (arith, h))
   past_end (x ∷ xs) (suc j) d h = past_end xs j d (omega (arith, h))
 
-  pub sorted_all : (p : ℕ) (set empty : List ℕ) (refutations : List (List ℤ)) → p ≡ length places → AreSorted about numbers component (behind places p) set empty refutations → AreSorted about numbers component (length about.cases) set empty refutations
-  sorted_all p set empty refutations e s = sorted_until p (length about.cases) set empty refutations (omega (arith, e)) (omega arith) (sym (past_end places p (length about.cases) (omega (arith, e)))) s
+  pub sorted_all : (known : List Piece) (p : ℕ) (set empty : List ℕ) (refutations : List (List ℤ)) → p ≡ length places → AreSorted about known numbers component (behind places p) set empty refutations → AreSorted about known numbers component (length about.cases) set empty refutations
+  sorted_all known p set empty refutations e s = sorted_until known p (length about.cases) set empty refutations (omega (arith, e)) (omega arith) (sym (past_end places p (length about.cases) (omega (arith, e)))) s
 
-  pub sorted_next : (p number : ℕ) (set empty : List ℕ) (refutations : List (List ℤ)) → slice_get places p ≡ Some number → IsInside p number → AreSorted about numbers component (behind places p) set empty refutations → AreSorted about numbers component number set empty refutations
-  sorted_next p number set empty refutations h at s = (let a = at.counted in let b = at.within in sorted_until p number set empty refutations (omega (arith, a)) (omega (arith, b)) (sym (get_or_from_slice_get places p number (length about.cases) h)) s)
+  pub sorted_next : (known : List Piece) (p number : ℕ) (set empty : List ℕ) (refutations : List (List ℤ)) → slice_get places p ≡ Some number → IsInside p number → AreSorted about known numbers component (behind places p) set empty refutations → AreSorted about known numbers component number set empty refutations
+  sorted_next known p number set empty refutations h at s = (let a = at.counted in let b = at.within in sorted_until known p number set empty refutations (omega (arith, a)) (omega (arith, b)) (sym (get_or_from_slice_get places p number (length about.cases) h)) s)
 
   pub behind_next : (p number : ℕ) → IsInside p number → number + 1 ≡ behind places (p + 1)
   behind_next p number at = ap (λ z. z + 1) (sym at.place) ∙ ap (behind places) (let e : suc p ≡ p + 1 = omega arith in e)

@@ -1,3 +1,6 @@
+pub mod SameLemmas
+pub mod MetLemmas
+pub mod SettleLemmas
 pub mod Removing
 pub mod Turns
 pub mod NotStuck
@@ -5,6 +8,10 @@ pub mod ZeroLines
 pub mod Chained
 pub mod SortLemmas
 pub mod PartLemmas
+pub mod ComposeLemmas
+pub mod ClosingLemmas
+pub mod PadLemmas
+pub mod FallLemmas
 pub mod StepLemmas
 pub mod BareLemmas
 pub mod AttemptLemmas

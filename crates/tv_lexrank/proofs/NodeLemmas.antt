@@ -1,40 +1,41 @@
-use Rattle.std.proofs.Common.{◌≡◌, ℕ, zero, suc, List, [], ◌∷◌, ◌++◌, map, Option, None, Some, Bool, true, false, if◌then◌else◌, sym, subst, ℤ, pos}
-use Rattle.std.specs.Prelude.{slice_get}
+-- Further ranks behind change nothing of what is owed.
+use Rattle.std.proofs.Common.{◌≡◌, ℕ, zero, suc, List, [], ◌∷◌, ◌++◌, map, Option, None, Some, refl, sym, ap, ◌∙◌, subst, pos}
 use Rattle.std.specs.Option.{option_map}
+use Rattle.std.proofs.lemmas.List.{map-append}
 use Rattle.tv_linear.specs.Linear.{Linear}
-use Rattle.tv_linear.specs.Known.{Known, less, as_given}
-use Rattle.tv_linear.specs.Covers.{ShownAt}
-use Rattle.tv_linear.specs.Falls.{fall_rows, fall_rows_at}
-use Rattle.tv_cert.specs.declared.node.Marked.{Marked}
-use Rattle.tv_cert.specs.Pieces.{rows_of, ranks_of, goes, pieces_at}
-use Rattle.tv_cert.specs.Targets.{target_rows, owed_into, fall_from, no_fall}
-use Rattle.tv_cert.specs.Obligations.{case_change}
+use Rattle.tv_linear.specs.Known.{Known, given, denied, less, as_given}
+use Rattle.tv_linear.specs.Covers.{ShownAt, IsMetCover}
+use Rattle.tv_linear.specs.Falls.{fall_rows_at}
+use Rattle.tv_linear.specs.declared.cover.CoverTree.{CoverTree}
+use Rattle.tv_linear.specs.declared.cover.CoverTree as cover
 use Rattle.tv_rank.specs.Ways.{Way}
+use Rattle.tv_lexrank.specs.Closing.{changed}
 use Rattle.tv_lexrank.specs.Steps.{owed_fall}
 
-none_shown : (n : ℕ) (known : List Known) (r : Known) (o o' : Option (List Known)) (lists : List (List ℤ)) → ((ls : List (List ℤ)) → ShownAt n known o ls → ShownAt n known o' ls) → ShownAt n known (option_map (λ rows. r ∷ rows) o) lists → ShownAt n known (option_map (λ rows. r ∷ rows) o') lists
-none_shown n known r None o' lists f h = absurd h
-none_shown n known r (Some rows) None [] f h = absurd h
-none_shown n known r (Some rows) None (m ∷ ms) f h = absurd (f ms h.1)
-none_shown n known r (Some rows) (Some rows') [] f h = absurd h
-none_shown n known r (Some rows) (Some rows') (m ∷ ms) f h = (h.0, f ms h.1)
+rows_padded : (old new more more' : List Known) (j : ℕ) (rows : List Known) → fall_rows_at old new j ≡ Some rows → fall_rows_at (old ++ more) (new ++ more') j ≡ Some rows
+rows_padded [] new more more' j rows h = absurd cc
+rows_padded (f ∷ old) [] more more' j rows h = absurd cc
+rows_padded (f ∷ old) (g ∷ new) more more' zero rows h = h
+rows_padded (f ∷ old) (g ∷ new) more more' (suc j) rows h = by_rest (fall_rows_at old new j) refl h (λ rs e. rows_padded old new more more' j rs e)
+  where
+    by_rest : (o : Option (List Known)) → fall_rows_at old new j ≡ o → option_map (λ rs. less g f (pos 0) ∷ rs) o ≡ Some rows → ((rs : List Known) → fall_rows_at old new j ≡ Some rs → fall_rows_at (old ++ more) (new ++ more') j ≡ Some rs) → option_map (λ rs. less g f (pos 0) ∷ rs) (fall_rows_at (old ++ more) (new ++ more') j) ≡ Some rows
+    by_rest None e k rest = absurd cc
+    by_rest (Some rs) e k rest = ap (option_map (λ rs. less g f (pos 0) ∷ rs)) (rest rs e) ∙ k
 
 -- further ranks behind do not change a fall
-pub padded : (n : ℕ) (known old new more more' : List Known) (j : ℕ) (lists : List (List ℤ)) → ShownAt n known (fall_rows_at old new j) lists → ShownAt n known (fall_rows_at (old ++ more) (new ++ more') j) lists
-padded n known [] new more more' j lists h = absurd h
-padded n known (f ∷ old) [] more more' j lists h = absurd h
-padded n known (f ∷ old) (g ∷ new) more more' zero lists h = h
-padded n known (f ∷ old) (g ∷ new) more more' (suc j) lists h = none_shown n known (less g f (pos 0)) (fall_rows_at old new j) (fall_rows_at (old ++ more) (new ++ more') j) lists (λ ls g. padded n known old new more more' j ls g) h
+pub fall_padded : (v : ℕ) (w : Way) (old new more more' : List Linear) (j : ℕ) (rows : List Known) → owed_fall v w old new j ≡ Some rows → owed_fall v w (old ++ more) (new ++ more') j ≡ Some rows
+fall_padded v w old new more more' zero rows h = absurd cc
+fall_padded v w old new more more' (suc j) rows h =
+    ap (λ z. fall_rows_at z (map (changed v w) (new ++ more')) j) (map-append (λ r. given r) old more)
+    ∙ ap (λ z. fall_rows_at (as_given old ++ as_given more) z j) (map-append (changed v w) new more')
+    ∙ rows_padded (as_given old) (map (changed v w) new) (as_given more) (map (changed v w) more') j rows h
 
--- what is shown of a fall is what is owed on entering a piece without rows that goes on
-pub fall_owed : (n v : ℕ) (known : List Known) (w : Way) (ps : List Marked) (old : List Linear) (q : Marked) (j : ℕ) (lists : List (List ℤ)) → slice_get (pieces_at ps w.taken.to) 0 ≡ Some q → rows_of q ≡ [] → goes q ≡ true → ShownAt n known (owed_fall v w old (ranks_of q) 0 j) lists → ShownAt n known (owed_into ps w.taken.to (case_change v w.taken) (fall_from (case_change v w.taken) old) 0 j) lists
-fall_owed n v known w ps old q j lists at rows on h = subst (λ z. ShownAt n known (target_rows (case_change v w.taken) (fall_from (case_change v w.taken) old) z j) lists) (sym at) (by_parts (goes q) (rows_of q) on rows)
+-- a cover that is met is met where all that was owed is owed
+pub met_weaker : (n : ℕ) (owed wanted : ℕ → ℕ → Option (List Known)) → ((k j : ℕ) (rows : List Known) → owed k j ≡ Some rows → wanted k j ≡ Some rows) → (known : List Known) (tree : CoverTree) → IsMetCover n owed known tree → IsMetCover n wanted known tree
+met_weaker n owed wanted e known (cover.Split' r p a q b) h = (met_weaker n owed wanted e (known ++ given r ∷ []) a h.0, met_weaker n owed wanted e (known ++ denied (given r) ∷ []) b h.1)
+met_weaker n owed wanted e known (cover.Empty ms) h = h
+met_weaker n owed wanted e known (cover.Into k j ls) h = by_rows (owed k j) refl h
   where
-    without_rows : (o : Option (List Known)) → ShownAt n known o lists → ShownAt n known (option_map (λ falls. map (case_change v w.taken) [] ++ falls) o) lists
-    without_rows None g = g
-    without_rows (Some falls) g = g
-
-    by_parts : (b : Bool) (rs : List Linear) → b ≡ true → rs ≡ [] → ShownAt n known (option_map (λ falls. map (case_change v w.taken) rs ++ falls) (if b then fall_rows (as_given old) (map (case_change v w.taken) (ranks_of q)) j else no_fall q j)) lists
-    by_parts true [] e f = without_rows (fall_rows (as_given old) (map (case_change v w.taken) (ranks_of q)) j) h
-    by_parts true (r ∷ rs) e f = absurd cc
-    by_parts false rs e f = absurd cc
+    by_rows : (o : Option (List Known)) → owed k j ≡ o → ShownAt n known o (map (λ l. l.items) ls.items) → ShownAt n known (wanted k j) (map (λ l. l.items) ls.items)
+    by_rows None f g = absurd g
+    by_rows (Some rows) f g = subst (λ o. ShownAt n known o (map (λ l. l.items) ls.items)) (sym (e k j rows f)) g

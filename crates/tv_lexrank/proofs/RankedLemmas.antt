@@ -22,7 +22,7 @@ use Rattle.tv_cert.specs.Shapes.{ProofShape, PieceShape, OwnShape, HaveShapes}
 use Rattle.tv_cert.proofs.NodeLemmas.{out_is}
 use Rattle.tv_shape.specs.Depths.{proof_splits}
 use Rattle.tv_shape.specs.Fitting.{KidsNarrow, KidsGoWithin}
-use Rattle.tv_shape.specs.Narrow.{CountNarrow, PieceNarrow, ProofNarrow}
+use Rattle.tv_shape.specs.Narrow.{PieceNarrow, ProofNarrow}
 use Rattle.tv_rank.proofs.Over.{equal, unequal}
 use Rattle.tv_lexrank.specs.declared.round.Round.{Round}
 use Rattle.tv_lexrank.specs.declared.ranking.Ranking.{Ranking}
@@ -30,8 +30,9 @@ use Rattle.tv_lexrank.specs.Rounds.{terms_at}
 use Rattle.tv_lexrank.specs.Attempt.{rounds_in}
 use Rattle.tv_lexrank.specs.Steps.{AreRanked, ranks_of}
 use Rattle.tv_lexrank.specs.Pieces.{zero_ranks, all_ranks, ranked_piece, ranked_pieces}
-use Rattle.tv_lexrank.specs.Offered.{IsOffered, IsOfferedAt, ArePieces, owed_step, AreShownBelow}
-use Rattle.tv_lexrank.specs.Nodes.{HasOwn, IsRankedNode}
+use Rattle.tv_lexrank.specs.Offered.{IsOffered, IsOfferedAt, ArePieces, step_owed, AreShownBelow}
+use Rattle.tv_lexrank.specs.Nodes.{HasOwn, ShowsEnd}
+use Rattle.tv_lexrank.proofs.MetLemmas.{over_at}
 use Rattle.tv_lexrank.proofs.ShowLemmas.{rounds_chain, chain_wide}
 
 -- ---- the pieces
@@ -113,7 +114,7 @@ module _ (r : Ranking) where
   pieces_shaped ranked (suc n) h = All-push (PieceShape (cases_of r.about.now) r.count false) (ranked_pieces r n) (ranked_piece r n) (pieces_shaped ranked n (omega (arith, h))) (record {
     place = omega (arith, h);
     poly = refl;
-    rows = All-nil (λ q. columns q ≡ v);
+    rows = over_at v r.known.now.pieces.items n r.known_rows.over;
     ranks = ranks_wide ranked n (omega (arith, h));
     many = ranks_many n;
     marks = λ e. refl;
@@ -127,7 +128,7 @@ module _ (r : Ranking) where
   zip_both R (x ∷ xs) us (y ∷ ys) vs h g = (h.0, zip_both R xs us ys vs h.1 g)
 
   module _ (ps : List Marked) (pieces : ArePieces r ps) where
-    steps_offered : (number l : ℕ) (cases : List LinearCase) (proofs : List Proof) → AllZip (IsOfferedAt r l) cases proofs → AllZip IsOffered (map (owed_step r number ps l) cases) proofs
+    steps_offered : (number l : ℕ) (cases : List LinearCase) (proofs : List Proof) → AllZip (IsOfferedAt r l) cases proofs → AllZip IsOffered (map (step_owed r number ps l) cases) proofs
     steps_offered number l [] [] h = tt
     steps_offered number l [] (p ∷ proofs) h = absurd h
     steps_offered number l (c ∷ cases) [] h = absurd h
@@ -166,7 +167,7 @@ all_flat : (os : List Obligation) (proofs : List Proof) → AllZip IsOffered os 
 all_flat [] [] h = All-nil (λ p. 1 + proof_splits p ≤ 384)
 all_flat [] (p ∷ proofs) h = absurd h
 all_flat (o ∷ os) [] h = absurd h
-all_flat (o ∷ os) (p ∷ proofs) h = All-cons (λ p. 1 + proof_splits p ≤ 384) p proofs (let f = h.0.flat in omega (arith, f)) (all_flat os proofs h.1)
+all_flat (o ∷ os) (p ∷ proofs) h = All-cons (λ p. 1 + proof_splits p ≤ 384) p proofs (let f = h.0.shallow in omega (arith, f)) (all_flat os proofs h.1)
 
 -- ---- a node without children
 some_not_none : (a : Node) (more : List Node) → (a ∷ more) ≡ [] → ⊥
@@ -210,7 +211,7 @@ all_pieces r = ranked_pieces r (cases_of r.about.now).locations
 abbrev all_owed : Ranking → ℕ → List Obligation
 all_owed r number = own_of number (asked r) term (all_pieces r) []
 
-pub node_ranked : (r : Ranking) → AreRanked r → (node : Node) (pieces : List Marked) (proofs : List Proof) → pieces ≡ ranked_pieces r (cases_of r.about.now).locations → HasOwn node pieces r.count proofs → AreShownBelow r (cases_of r.about.now).locations proofs → (cases_of r.about.now).locations < 2 ^ 32 → All PieceNarrow pieces → IsRankedNode (cases_of r.about.now) node
+pub node_ranked : (r : Ranking) → AreRanked r → (node : Node) (pieces : List Marked) (proofs : List Proof) → pieces ≡ ranked_pieces r (cases_of r.about.now).locations → HasOwn node pieces r.count proofs → AreShownBelow r (cases_of r.about.now).locations proofs → (cases_of r.about.now).locations < 2 ^ 32 → All PieceNarrow pieces → ShowsEnd (cases_of r.about.now) r.known.now.pieces.items node
 node_ranked r ranked (Node' ps m shape kids list) pieces proofs same own shown located slim = record {
   fits = record {
     shape = (own_shape, no_shapes (asked r) kids empty);
@@ -226,10 +227,10 @@ node_ranked r ranked (Node' ps m shape kids list) pieces proofs same own shown l
     depth = (omega arith, subst (All (λ p. 1 + proof_splits p ≤ 384)) (sym proofs_same) (all_flat (all_owed r 0) proofs (offered 0)), no_depth 2 kids empty);
   };
   met = λ number. subst AllMet (sym (entries_are number)) (all_met (all_owed r number) proofs (offered number));
-  whole = λ l h. record {
+  pieces = λ l h. record {
     piece = ranked_piece r l;
     first = subst (λ z. slice_get (pieces_at z l) 0 ≡ Some (ranked_piece r l)) (sym pieces_same) (pieces_there r l h);
-    whole = refl;
+    has = refl;
   };
 }
   where

@@ -1,16 +1,14 @@
 -- What the covers of steps show of a ranking.
-use Rattle.std.proofs.Common.{◌⊎◌, inl, inr, All, ◌≡◌, ℕ, zero, suc, ◌+◌, ◌^◌, ◌<◌, ◌≤◌, List, [], ◌∷◌, ◌++◌, length, map, get_or, Bool, true, false, ◌==◌, if◌then◌else◌, arith, refl, sym, ap, ◌∙◌, subst, ℤ, pos, unsigned_abs}
+use Rattle.std.proofs.Common.{◌⊎◌, inl, inr, All, ◌≡◌, ℕ, zero, suc, ◌+◌, ◌^◌, ◌<◌, ◌≤◌, List, [], ◌∷◌, ◌++◌, length, get_or, Bool, true, false, ◌==◌, if◌then◌else◌, arith, refl, sym, ap, ◌∙◌, subst, ℤ, pos, unsigned_abs}
 use Rattle.std.proofs.lemmas.List.Elements.{All-nil, All-cons, All-push, All-head, All-tail}
 use Rattle.tv_linear.specs.Arithmetic.{zeros}
 use Rattle.tv_linear.specs.Linear.{Linear, columns, IsWithin}
-use Rattle.tv_linear.specs.Depth.{splits}
+use Rattle.tv_linear.specs.Covers.{ShownAt}
 use Rattle.tv_linear.specs.declared.cover.CoverTree.{CoverTree}
-use Rattle.tv_linear.specs.declared.cover.CoverTree as cover
 use Rattle.tv_linear.specs.declared.region.Piece.{Piece}
 use Rattle.tv_linear.proofs.PlainLists.{length-zeros}
 use Rattle.tv_cases.specs.LinearCases.{CaseSystem}
 use Rattle.tv_cases.specs.Systems.{cases_of}
-use Rattle.tv_shape.specs.Narrow.{AreNarrow, CountNarrow, CoverNarrow}
 use Rattle.tv_rank.specs.declared.found.LocalTerm.{LocalTerm}
 use Rattle.tv_rank.specs.Given.{lists}
 use Rattle.tv_rank.specs.Ways.{met_rows, case_at}
@@ -23,10 +21,13 @@ use Rattle.tv_lexrank.specs.Rounds.{Chain, end, next, place_in, line_at, falling
 use Rattle.tv_lexrank.specs.Sorting.{StandsIn, LeadsInside}
 use Rattle.tv_lexrank.specs.Parts.{IsPart}
 use Rattle.tv_lexrank.specs.Attempt.{PartsFrom, rounds_in, ranks_in}
-use Rattle.tv_lexrank.specs.Steps.{IsMetStep, ShowsStep, way_in, ranks_of, IsFall, IsRefutation}
+use Rattle.tv_lexrank.specs.declared.falling.Fall.{Fall}
+use Rattle.tv_lexrank.specs.Known.{way_rows}
+use Rattle.tv_lexrank.specs.Falling.{AreNarrowLines}
+use Rattle.tv_lexrank.specs.Steps.{owed_fall, ShowsStep, FallsOver, way_in, ranks_of, rows_known, IsFall, IsRefutation}
 use Rattle.tv_lexrank.proofs.Removing.{length-without}
 use Rattle.tv_lexrank.proofs.SortLemmas.{few_below, of_case}
-use Rattle.tv_lexrank.proofs.StepLemmas.{inside_falls, leaving_falls, never_taken, fall_met, refutation_met, stands_empty, bare_count}
+use Rattle.tv_lexrank.proofs.StepLemmas.{inside_falls, leaving_falls, refutation_met, stands_empty}
 use Rattle.tv_lexrank.proofs.ZeroLines.{zero_line}
 
 -- ---- narrow multipliers
@@ -56,42 +57,6 @@ zeros_narrow (suc n) = All-cons Narrow (pos 0) (zeros n) (let q : unsigned_abs (
 zero_narrow : (n : ℕ) → All Narrow (zero_line n)
 zero_narrow n = All-push Narrow (zeros n) (pos 1) (zeros_narrow n) (let q : unsigned_abs (pos 1) < 2 ^ 62 = omega arith in q)
 
-all_back : {A B : Type 0} (P : B → Type 0) (f : A → B) (xs : List A) → All P (map f xs) → All (λ x. P (f x)) xs
-all_back P f [] h = All-nil (λ x. P (f x))
-all_back P f (x ∷ xs) h = All-cons (λ x. P (f x)) x xs (All-head P (f x) (map f xs) h) (all_back P f xs (All-tail P (f x) (map f xs) h))
-
-fall_flat : (j : ℕ) (ls : List (List ℤ)) (tree : CoverTree) → IsFall j ls tree → splits tree ≡ 0
-fall_flat j ls (cover.Split' r p a q b) h = absurd h
-fall_flat j ls (cover.Empty ms) h = absurd h
-fall_flat j ls (cover.Into target fall lines) h = refl
-
-bounded : (b : Bool) (m n : ℕ) → m ≤ n → (if b then 0 else suc m) ≤ suc n
-bounded true m n h = omega arith
-bounded false m n h = omega (arith, h)
-
--- no more rounds are before the one in which it falls than there are
-falls_within : (k : ℕ) (rs : List Round) → falls_in k rs ≤ length rs
-falls_within k [] = omega arith
-falls_within k (r ∷ rs) = bounded (falling_of r == k) (falls_in k rs) (length rs) (falls_within k rs)
-
-fall_narrow : (j : ℕ) (ls : List (List ℤ)) (tree : CoverTree) → j < 2 ^ 32 → IsFall j ls tree → All (All Narrow) ls → CoverNarrow tree
-fall_narrow j ls (cover.Split' r p a q b) small h n = absurd h
-fall_narrow j ls (cover.Empty ms) small h n = absurd h
-fall_narrow j ls (cover.Into target fall lines) small h n =
-    let none : CountNarrow 0 = omega arith in
-    let fits : CountNarrow j = omega (arith, small) in
-    (subst CountNarrow (sym h.0) none, subst CountNarrow (sym h.1) fits, all_back AreNarrow (λ l. l.items) lines.items (subst (All (All Narrow)) (sym h.2) n))
-
-refutation_flat : (ms : List ℤ) (tree : CoverTree) → IsRefutation ms tree → splits tree ≡ 0
-refutation_flat ms (cover.Split' r p a q b) h = absurd h
-refutation_flat ms (cover.Empty m) h = refl
-refutation_flat ms (cover.Into target fall lines) h = absurd h
-
-refutation_narrow : (ms : List ℤ) (tree : CoverTree) → IsRefutation ms tree → All Narrow ms → CoverNarrow tree
-refutation_narrow ms (cover.Split' r p a q b) h n = absurd h
-refutation_narrow ms (cover.Empty m) h n = subst (All Narrow) (sym h) n
-refutation_narrow ms (cover.Into target fall lines) h n = absurd h
-
 -- ---- the ranks of a location of a component
 ranks_same : (v : ℕ) (numbers : List ℕ) (parts : List Part) (component : ℕ) (rounds : List Round) (l : ℕ) → get_or numbers l 0 ≡ component → rounds ≡ rounds_in parts component → ranks_at v component rounds l ≡ ranks_in v numbers parts l
 ranks_same v numbers parts component rounds l e f = ap (λ rs. ranks_at v component rs l) f ∙ ap (λ c. ranks_at v c (rounds_in parts c) l) (sym e)
@@ -101,53 +66,46 @@ module _ (r : Ranking) (k : ℕ) where
   abbrev about : CaseSystem
   about = cases_of r.about.now
 
-  abbrev bare_pieces : List Piece
-  bare_pieces = r.known.now.pieces.items
+  abbrev pieces : List Piece
+  pieces = r.known.now.pieces.items
 
   -- moved from the ranks of two components to those of the ranking
-  moved : (old new : List Linear) (tree : CoverTree) → old ≡ ranks_of r (way_in r k).taken.from → new ≡ ranks_of r (way_in r k).taken.to → IsMetStep about.variables (way_in r k) old new tree → splits tree ≡ 0 → CoverNarrow tree → ShowsStep r k tree
-  moved old new tree e f met flat narrow = record {
-    met = subst (λ z. IsMetStep about.variables (way_in r k) z (ranks_of r (way_in r k).taken.to) tree) e (subst (λ z. IsMetStep about.variables (way_in r k) old z tree) f met);
-    flat = flat;
+  moved : (old new : List Linear) (fall : Fall) → old ≡ ranks_of r (way_in r k).taken.from → new ≡ ranks_of r (way_in r k).taken.to → ShownAt (about.variables + (way_in r k).taken.draws) (way_rows (way_in r k)) (owed_fall about.variables (way_in r k) old new fall.number) (lists fall.lines.items) → AreNarrowLines (lists fall.lines.items) → FallsOver r k fall
+  moved old new fall e f shown narrow = record {
+    shown = subst (λ z. ShownAt (about.variables + (way_in r k).taken.draws) (way_rows (way_in r k)) (owed_fall about.variables (way_in r k) z (ranks_of r (way_in r k).taken.to) fall.number) (lists fall.lines.items)) e
+        (subst (λ z. ShownAt (about.variables + (way_in r k).taken.draws) (way_rows (way_in r k)) (owed_fall about.variables (way_in r k) old z fall.number) (lists fall.lines.items)) f shown);
     narrow = narrow;
   }
 
-  pub inside_shown : (component guards : ℕ) (p : Part) (tree : CoverTree) → component < 2 ^ 32 → IsPart about bare_pieces r.numbers.now component p → p.rounds.items ≡ rounds_in r.parts.now component → LeadsInside r.numbers.now component (case_at about.cases k) → StandsIn p.sorted.set.items k → guards ≡ length (case_at about.cases k).guards → IsFall (falls_in k p.rounds.items + 2) ((zeros guards ++ pos 1 ∷ []) ∷ lines_of k p.rounds.items) tree → ShowsStep r k tree
-  inside_shown component guards p tree small part rounds inside stands e falls =
+  pub inside_shown : (component met : ℕ) (p : Part) (fall : Fall) → component < 2 ^ 32 → IsPart about pieces r.numbers.now component p → p.rounds.items ≡ rounds_in r.parts.now component → LeadsInside r.numbers.now component (case_at about.cases k) → StandsIn p.sorted.set.items k → met ≡ length (met_rows (way_in r k)) → IsFall (falls_in k p.rounds.items + 2) ((zeros met ++ pos 1 ∷ []) ∷ lines_of k p.rounds.items) fall → FallsOver r k fall
+  inside_shown component met p fall small part rounds inside stands count falls =
       let v = about.variables in
       let w = way_in r k in
-      let count = e ∙ bare_count about bare_pieces k r.bare in
-      let ls = zero_line (length (met_rows w)) ∷ lines_of k p.rounds.items in
-      let f = subst (λ z. IsFall (falls_in k p.rounds.items + 2) ((zeros z ++ pos 1 ∷ []) ∷ lines_of k p.rounds.items) tree) count falls in
+      let f = subst (λ z. IsFall (falls_in k p.rounds.items + 2) ((zeros z ++ pos 1 ∷ []) ∷ lines_of k p.rounds.items) fall) count falls in
       let old = ranks_at v component p.rounds.items w.taken.from in
       let new = ranks_at v component p.rounds.items w.taken.to in
-      let shown = inside_falls about bare_pieces p.sorted.set.items p.rounds.items component k (falls_in k p.rounds.items + 2) part.chain stands small refl ls refl in
-      moved old new tree
+      moved old new fall
       (ranks_same v r.numbers.now r.parts.now component p.rounds.items w.taken.from inside.0 rounds)
       (ranks_same v r.numbers.now r.parts.now component p.rounds.items w.taken.to inside.1 rounds)
-      (fall_met v w old new (falls_in k p.rounds.items + 2) ls tree f shown)
-      (fall_flat (falls_in k p.rounds.items + 2) ls tree f)
-      (fall_narrow (falls_in k p.rounds.items + 2) ls tree (let a = r.enough component in let b = r.few in let d = ap length rounds in let q = falls_within k p.rounds.items in omega (arith, a, b, d, q)) f (All-cons (All Narrow) (zero_line (length (met_rows w))) (lines_of k p.rounds.items) (zero_narrow (length (met_rows w))) (chain_narrow about bare_pieces p.sorted.set.items p.rounds.items part.chain k)))
+      (inside_falls about pieces p.sorted.set.items p.rounds.items component k fall.number part.chain stands small f.0 (lists fall.lines.items) f.1)
+      (subst AreNarrowLines (sym f.1) (All-cons (All Narrow) (zero_line (length (met_rows w))) (lines_of k p.rounds.items) (zero_narrow (length (met_rows w))) (chain_narrow about pieces p.sorted.set.items p.rounds.items part.chain k)))
 
-  pub refuted_shown : (component : ℕ) (p : Part) (tree : CoverTree) → IsPart about bare_pieces r.numbers.now component p → k < length about.cases → LeadsInside r.numbers.now component (case_at about.cases k) → (place_in p.sorted.set.items k < length p.sorted.set.items → ⊥) → IsRefutation (get_or (lists p.sorted.refutations.items) (place_in p.sorted.empty.items k) []) tree → ShowsStep r k tree
+  pub refuted_shown : (component : ℕ) (p : Part) (tree : CoverTree) → IsPart about pieces r.numbers.now component p → k < length about.cases → LeadsInside r.numbers.now component (case_at about.cases k) → (place_in p.sorted.set.items k < length p.sorted.set.items → ⊥) → IsRefutation (get_or (lists p.sorted.refutations.items) (place_in p.sorted.empty.items k) []) tree → ShowsStep r k tree
   refuted_shown component p tree part k_in inside out h =
       let v = about.variables in
       let w = way_in r k in
       let ms = get_or (lists p.sorted.refutations.items) (place_in p.sorted.empty.items k) [] in
-      let e = stands_empty about r.numbers.now component k p.sorted.set.items p.sorted.empty.items (lists p.sorted.refutations.items) part.sorted k_in inside out in
-      moved (ranks_of r w.taken.from) (ranks_of r w.taken.to) tree refl refl
-      (refutation_met v w (ranks_of r w.taken.from) (ranks_of r w.taken.to) ms tree h (never_taken about bare_pieces k ms r.bare e.1))
-      (refutation_flat ms tree h)
-      (refutation_narrow ms tree h (line_narrow (lists p.sorted.refutations.items) (place_in p.sorted.empty.items k) part.sorted.narrow))
+      let e = stands_empty about pieces r.numbers.now component k p.sorted.set.items p.sorted.empty.items (lists p.sorted.refutations.items) part.sorted k_in inside out in
+      refutation_met v w (rows_known r w.taken.to) (ranks_of r w.taken.from) (ranks_of r w.taken.to) ms tree h e.1
+      (line_narrow (lists p.sorted.refutations.items) (place_in p.sorted.empty.items k) part.sorted.narrow)
 
-  pub leaving_shown : (guards : ℕ) (tree : CoverTree) → k < length about.cases → (get_or r.numbers.now (case_at about.cases k).to 0 ≡ get_or r.numbers.now (case_at about.cases k).from 0 → ⊥) → guards ≡ length (case_at about.cases k).guards → IsFall 1 ((zeros guards ++ pos 1 ∷ []) ∷ (zeros guards ++ pos 1 ∷ []) ∷ []) tree → ShowsStep r k tree
-  leaving_shown guards tree k_in other e falls =
+  pub leaving_shown : (met : ℕ) (fall : Fall) → k < length about.cases → (get_or r.numbers.now (case_at about.cases k).to 0 ≡ get_or r.numbers.now (case_at about.cases k).from 0 → ⊥) → met ≡ length (met_rows (way_in r k)) → IsFall 1 ((zeros met ++ pos 1 ∷ []) ∷ (zeros met ++ pos 1 ∷ []) ∷ []) fall → FallsOver r k fall
+  leaving_shown met fall k_in other count falls =
       let v = about.variables in
       let w = way_in r k in
       let numbers = r.numbers.now in
-      let count = e ∙ bare_count about bare_pieces k r.bare in
       let zero = zero_line (length (met_rows w)) in
-      let f = subst (λ z. IsFall 1 ((zeros z ++ pos 1 ∷ []) ∷ (zeros z ++ pos 1 ∷ []) ∷ []) tree) count falls in
+      let f = subst (λ z. IsFall 1 ((zeros z ++ pos 1 ∷ []) ∷ (zeros z ++ pos 1 ∷ []) ∷ []) fall) count falls in
       let from = get_or numbers w.taken.from 0 in
       let to = get_or numbers w.taken.to 0 in
       let less = below_of to from (r.never_rises k k_in) other in
@@ -155,12 +113,10 @@ module _ (r : Ranking) (k : ℕ) where
       let m = r.located in
       let u = r.below w.taken.from (omega (arith, l, m)) in
       let few = r.few_parts in
-      let old = ranks_at v from (rounds_in r.parts.now from) w.taken.from in
-      let new = ranks_at v to (rounds_in r.parts.now to) w.taken.to in
-      moved old new tree refl refl
-      (fall_met v w old new 1 (zero ∷ zero ∷ []) tree f (leaving_falls v w from to (rounds_in r.parts.now from) (rounds_in r.parts.now to) less (omega (arith, u, few)) (zero ∷ zero ∷ []) refl))
-      (fall_flat 1 (zero ∷ zero ∷ []) tree f)
-      (fall_narrow 1 (zero ∷ zero ∷ []) tree (omega arith) f (All-cons (All Narrow) zero (zero ∷ []) (zero_narrow (length (met_rows w))) (All-cons (All Narrow) zero [] (zero_narrow (length (met_rows w))) (All-nil (All Narrow)))))
+      moved (ranks_of r w.taken.from) (ranks_of r w.taken.to) fall refl refl
+      (subst (λ z. ShownAt (v + w.taken.draws) (way_rows w) (owed_fall v w (ranks_of r w.taken.from) (ranks_of r w.taken.to) z) (lists fall.lines.items)) (sym f.0)
+      (leaving_falls v w from to (rounds_in r.parts.now from) (rounds_in r.parts.now to) less (omega (arith, u, few)) (lists fall.lines.items) f.1))
+      (subst AreNarrowLines (sym f.1) (All-cons (All Narrow) zero (zero ∷ []) (zero_narrow (length (met_rows w))) (All-cons (All Narrow) zero [] (zero_narrow (length (met_rows w))) (All-nil (All Narrow)))))
     where
       below_of : (a b : ℕ) → a ≤ b → (a ≡ b → ⊥) → a < b
       below_of a b h n = by_either (grind arith)

@@ -1,8 +1,7 @@
 use Rattle.std.proofs.Common.{◌≡◌, ◌⊎◌, inl, inr, ℕ, zero, suc, ◌+◌, ◌<◌, ◌≤◌, List, [], ◌∷◌, ◌++◌, length, length-append, get_or, All, arith, refl, sym, ap, ◌∙◌, subst, ℤ}
 use Rattle.std.proofs.lemmas.List.Elements.{All-nil, All-push}
 use Rattle.tv_linear.specs.Linear.{IsWithin}
-use Rattle.tv_linear.specs.Known.{as_given}
-use Rattle.tv_linear.specs.Refutation.{Refutes}
+use Rattle.tv_linear.specs.declared.region.Piece.{Piece}
 use Rattle.tv_cases.specs.LinearCases.{LinearCase, CaseSystem, IsCase, AreCases}
 use Rattle.tv_cases.specs.declared.case.Case.{Case}
 use Rattle.tv_cases.specs.Views.{case_view, case_views}
@@ -11,7 +10,7 @@ use Rattle.tv_farkas.proofs.SystemLemmas.{at_of}
 use Rattle.tv_rank.specs.Given.{AreNumbered}
 use Rattle.tv_rank.specs.Ways.{case_at, no_case, way_of}
 use Rattle.tv_rank.specs.Rankings.{HasPoint}
-use Rattle.tv_lexrank.specs.Sorting.{HasScaled, LeadsInside, StandsIn, Ascends, AreSorted}
+use Rattle.tv_lexrank.specs.Sorting.{LeadsInside, StandsIn, Ascends, IsNeverTaken, AreSorted}
 
 last_or_below : (n j : ℕ) → j < n + 1 → (j ≡ n) ⊎ (j < n)
 last_or_below n j h = grind arith
@@ -63,8 +62,8 @@ few_below many (x ∷ xs) h n =
     let q : suc (length xs) ≤ many = omega (arith, a, b) in
     q
 
-module _ (about : CaseSystem) (numbers : List ℕ) (component k : ℕ) (set empty : List ℕ) (refutations : List (List ℤ)) (h : AreSorted about numbers component k set empty refutations) where
-  pub none_more : (LeadsInside numbers component (case_at about.cases k) → ⊥) → AreSorted about numbers component (k + 1) set empty refutations
+module _ (about : CaseSystem) (known : List Piece) (numbers : List ℕ) (component k : ℕ) (set empty : List ℕ) (refutations : List (List ℤ)) (h : AreSorted about known numbers component k set empty refutations) where
+  pub none_more : (LeadsInside numbers component (case_at about.cases k) → ⊥) → AreSorted about known numbers component (k + 1) set empty refutations
   none_more n = record {
     numbered = wider k set h.numbered;
     ascends = h.ascends;
@@ -76,20 +75,20 @@ module _ (about : CaseSystem) (numbers : List ℕ) (component k : ℕ) (set empt
     each = λ i l inside. elim (last_or_below k i l) [ inl e ↦ absurd (n (subst (λ z. LeadsInside numbers component (case_at about.cases z)) e inside)) | inr b ↦ h.each i b inside ];
   }
 
-  pub point_more : LeadsInside numbers component (case_at about.cases k) → HasScaled (about.variables + (case_at about.cases k).draws) (case_at about.cases k).guards → (news : List ℕ) → news ≡ set ++ k ∷ [] → AreSorted about numbers component (k + 1) news empty refutations
-  point_more inside (xs, z, w, p) news e = subst (λ y. AreSorted about numbers component (k + 1) y empty refutations) (sym e) (record {
+  pub point_more : LeadsInside numbers component (case_at about.cases k) → HasPoint about.variables (way_of about.cases known k) → (news : List ℕ) → news ≡ set ++ k ∷ [] → AreSorted about known numbers component (k + 1) news empty refutations
+  point_more inside point news e = subst (λ y. AreSorted about known numbers component (k + 1) y empty refutations) (sym e) (record {
     numbered = grown (λ y. y < k + 1) set k (wider k set h.numbered) (omega arith);
     ascends = ascends_more set k h.ascends h.numbered;
     inside = grown (λ y. LeadsInside numbers component (case_at about.cases y)) set k h.inside inside;
-    points = grown (λ y. HasPoint about.variables (way_of about.cases [] y)) set k h.points (xs, z, record { width = w; meets = p });
+    points = grown (λ y. HasPoint about.variables (way_of about.cases known y)) set k h.points point;
     counted = h.counted;
     refuted = h.refuted;
     narrow = h.narrow;
     each = λ i l inside'. elim (last_or_below k i l) [ inl q ↦ inl (subst (λ y. StandsIn (set ++ k ∷ []) y) (sym q) (stands_last set k)) | inr b ↦ elim (h.each i b inside') [ inl s ↦ inl (stands_more set k i s) | inr s ↦ inr s ] ];
   })
 
-  pub empty_more : LeadsInside numbers component (case_at about.cases k) → (ms : List ℤ) → Refutes (about.variables + (case_at about.cases k).draws) (as_given (case_at about.cases k).guards) ms → All (IsWithin 62) ms → (news : List ℕ) (lines : List (List ℤ)) → news ≡ empty ++ k ∷ [] → lines ≡ refutations ++ ms ∷ [] → AreSorted about numbers component (k + 1) set news lines
-  empty_more inside ms r short news lines e f = subst (λ y. AreSorted about numbers component (k + 1) set y lines) (sym e) (subst (λ y. AreSorted about numbers component (k + 1) set (empty ++ k ∷ []) y) (sym f) (record {
+  pub empty_more : LeadsInside numbers component (case_at about.cases k) → (ms : List ℤ) → IsNeverTaken about.variables (way_of about.cases known k) ms → All (IsWithin 62) ms → (news : List ℕ) (lines : List (List ℤ)) → news ≡ empty ++ k ∷ [] → lines ≡ refutations ++ ms ∷ [] → AreSorted about known numbers component (k + 1) set news lines
+  empty_more inside ms r short news lines e f = subst (λ y. AreSorted about known numbers component (k + 1) set y lines) (sym e) (subst (λ y. AreSorted about known numbers component (k + 1) set (empty ++ k ∷ []) y) (sym f) (record {
     numbered = wider k set h.numbered;
     ascends = h.ascends;
     inside = h.inside;
@@ -99,18 +98,18 @@ module _ (about : CaseSystem) (numbers : List ℕ) (component k : ℕ) (set empt
       | inl q ↦ (
           let x = get_or-right empty (k ∷ []) i 0 0 (omega (arith, q)) in
           let y = get_or-right refutations (ms ∷ []) i 0 [] (let a = h.counted in omega (arith, a, q)) in
-          subst (λ z. Refutes (about.variables + (case_at about.cases z).draws) (as_given (case_at about.cases z).guards) (get_or (refutations ++ ms ∷ []) i [])) (sym x) (subst (λ z. Refutes (about.variables + (case_at about.cases k).draws) (as_given (case_at about.cases k).guards) z) (sym y) r))
+          subst (λ z. IsNeverTaken about.variables (way_of about.cases known z) (get_or (refutations ++ ms ∷ []) i [])) (sym x) (subst (λ z. IsNeverTaken about.variables (way_of about.cases known k) z) (sym y) r))
       | inr b ↦ (
           let x = get_or-left empty (k ∷ []) i 0 b in
           let y = get_or-left refutations (ms ∷ []) i [] (let a = h.counted in omega (arith, a, b)) in
-          subst (λ z. Refutes (about.variables + (case_at about.cases z).draws) (as_given (case_at about.cases z).guards) (get_or (refutations ++ ms ∷ []) i [])) (sym x) (subst (λ z. Refutes (about.variables + (case_at about.cases (get_or empty i 0)).draws) (as_given (case_at about.cases (get_or empty i 0)).guards) z) (sym y) (h.refuted i b)))
+          subst (λ z. IsNeverTaken about.variables (way_of about.cases known z) (get_or (refutations ++ ms ∷ []) i [])) (sym x) (subst (λ z. IsNeverTaken about.variables (way_of about.cases known (get_or empty i 0)) z) (sym y) (h.refuted i b)))
     ];
     narrow = All-push (All (IsWithin 62)) refutations ms h.narrow short;
     each = λ i l inside'. elim (last_or_below k i l) [ inl q ↦ inr (subst (λ y. StandsIn (empty ++ k ∷ []) y) (sym q) (stands_last empty k)) | inr b ↦ elim (h.each i b inside') [ inl s ↦ inl s | inr s ↦ inr (stands_more empty k i s) ] ];
   }))
 
-pub none_sorted : (about : CaseSystem) (numbers : List ℕ) (component : ℕ) → AreSorted about numbers component 0 [] [] []
-none_sorted about numbers component = record {
+pub none_sorted : (about : CaseSystem) (known : List Piece) (numbers : List ℕ) (component : ℕ) → AreSorted about known numbers component 0 [] [] []
+none_sorted about known numbers component = record {
   numbered = λ k l. absurd (omega (arith, l));
   ascends = λ i j l m. absurd (omega (arith, m));
   inside = λ k l. absurd (omega (arith, l));

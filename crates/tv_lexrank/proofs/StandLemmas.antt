@@ -11,7 +11,7 @@ use Rattle.tv_places.specs.Places.{places_of}
 use Rattle.tv_places.proofs.PlaceLemmas.{place_told, places_counted}
 use Rattle.tv_rank.specs.Ways.{case_at, no_case}
 use Rattle.tv_lexrank.specs.declared.ranking.Ranking.{Ranking}
-use Rattle.tv_lexrank.specs.Offered.{IsStepProof, IsOffered, IsOfferedAt, owed_step, AreStepsShown, AreShownBelow}
+use Rattle.tv_lexrank.specs.Offered.{IsStepProof, IsOffered, IsOfferedAt, step_owed, AreStepsShown, AreShownBelow}
 use Rattle.tv_lexrank.proofs.Chained.{same_of}
 use Rattle.tv_lexrank.proofs.OfferLemmas.{step_offered}
 
@@ -61,7 +61,7 @@ zip_push R (z ∷ xs) [] x y h g = absurd h
 zip_push R (z ∷ xs) (w ∷ ys) x y h g = (h.0, zip_push R xs ys x y h.1 g)
 
 proof_offered : (r : Ranking) (l number : ℕ) (p : Proof) → number < length (cases_of r.about.now).cases → (case_at (cases_of r.about.now).cases number).from ≡ l → IsStepProof r number p → IsOfferedAt r l (case_at (cases_of r.about.now).cases number) p
-proof_offered r l number (Covered tree) k_in e h = λ n ps pieces. subst (λ z. IsOffered (owed_step r n ps z (case_at (cases_of r.about.now).cases number)) (Covered tree)) e (step_offered r number k_in ps pieces n tree h)
+proof_offered r l number (Covered tree) k_in e h = λ n ps pieces. subst (λ z. IsOffered (step_owed r n ps z (case_at (cases_of r.about.now).cases number)) (Covered tree)) e (step_offered r number k_in ps pieces n tree h)
 proof_offered r l number (Chosen tree) k_in e h = absurd h
 
 -- one more

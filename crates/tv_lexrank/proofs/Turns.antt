@@ -17,7 +17,9 @@ use Rattle.tv_rank.specs.Rankings.{NoneRanks}
 use Rattle.tv_lexrank.specs.declared.fault.RankFault.{RankFault}
 use Rattle.tv_lexrank.specs.declared.fault.RankFault.TheVariants as fault
 use Rattle.tv_lexrank.specs.declared.round.Round.{Round}
-use Rattle.tv_lexrank.specs.Greedy.{without, IsRound, AreFirst, Lead, more, RefusesTurn, RefusesGreedy}
+use Rattle.tv_lexrank.specs.declared.component.Component.{Component}
+use Rattle.tv_simplex.specs.declared.fault.SolveFault.{SolveFault}
+use Rattle.tv_lexrank.specs.Greedy.{without, IsRound, AreFirst, Lead, more, RefusesFalling, RefusesTurn, RefusesGreedy, ForFirst, IsUnsolvedAt, IsNameIn, RefusesTurnIn}
 
 last_or_below : (n j : ℕ) → j < n + 1 → (j ≡ n) ⊎ (j < n)
 last_or_below n j h = grind arith
@@ -45,10 +47,20 @@ refused_round about known set pivots component rounds left round lead many (faul
   where
     by_name : (system : Name) → RefusesTurn about known left pivots component round (fault.Solve system e) → RefusesGreedy about known set pivots component (fault.Solve system e)
     by_name (name.Empty k) h = absurd h
-    by_name (name.Rank c r falling) h = (h.0, record { rounds = rounds; as_many = many ∙ sym h.1; left = left; lead = lead; falls = h.2 })
+    by_name (name.Rank c r falling) h = (h.0, h.1, record { rounds = rounds; as_many = many ∙ sym h.2; left = left; lead = lead; falls = h.3 })
     by_name (name.Rows rows) h = absurd h
-    by_name (name.Later s falling) h = absurd h
+    by_name (name.Later s falling) h =
+        (h.0, (rounds, subst (λ z. Lead about known set rounds z) (sym h.1) lead, subst (λ z. RefusesFalling about known z pivots falling e) (sym h.1) h.2))
+refused_round about known set pivots component rounds left round lead many (fault.Open taken values) h = absurd h
+refused_round about known set pivots component rounds left round lead many (fault.Cover f) h = absurd h
 refused_round about known set pivots component rounds left round lead many fault.Memory h = tt
+
+-- the refusal of the system of a set, which has this name
+pub refused_named : (c : Component) (set : List ℕ) (round falling place : ℕ) (system : Name) (e : SolveFault) → place < length set → get_or set place 0 ≡ falling → ForFirst c set place → IsUnsolvedAt c set place e → IsNameIn c set round falling system → RefusesTurnIn c set round (fault.Solve system e)
+refused_named c set round falling place (name.Empty k) e l is first refused h = absurd h
+refused_named c set round falling place (name.Rank d r f) e l is first refused (bare, component, same, falls) = (bare, component, same, record { place = place; within = l; is = is ∙ sym falls; before = first; refuses = refused })
+refused_named c set round falling place (name.Rows rows) e l is first refused h = absurd h
+refused_named c set round falling place (name.Later s f) e l is first refused (rows, same, falls) = (rows, same, record { place = place; within = l; is = is ∙ sym falls; before = first; refuses = refused })
 
 pub one_more : (about : CaseSystem) (known : List Piece) (set left : List ℕ) (rounds news : List Round) (round : Round) (rest : List ℕ) → Lead about known set rounds left → IsRound about known left round → news ≡ rounds ++ round ∷ [] → rest ≡ without left round.place → Lead about known set news rest
 one_more about known set left rounds news round rest h r e f = subst (λ z. Lead about known set z rest) (sym e) (subst (λ z. Lead about known set (rounds ++ round ∷ []) z) (sym f) (more set left rounds round h r))

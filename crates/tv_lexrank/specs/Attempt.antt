@@ -50,4 +50,6 @@ IsWhole (Stuck set barriers) = ⊥
 -- a refusal is of the system that it names, of some component
 abbrev pub RefusesAttempt : CaseSystem → List Piece → List ℕ → ℕ → RankFault → Type 0
 RefusesAttempt about known numbers pivots (fault.Solve system e) = (component : ℕ) × NamesPart about known numbers component pivots system e
+RefusesAttempt about known numbers pivots (fault.Open taken values) = ⊥
+RefusesAttempt about known numbers pivots (fault.Cover f) = ⊥
 RefusesAttempt about known numbers pivots fault.Memory = Unit {0}

@@ -1,22 +1,48 @@
 -- The certificate that every run ends.
-use Rattle.std.specs.Prelude.{◌≡◌, []}
+use Rattle.std.specs.Prelude.{◌≡◌, ℕ, ◌≤◌, List, [], length, All, ℤ}
 use Rattle.tv_formula.specs.Properties.{term}
-use Rattle.tv_cases.specs.LinearCases.{CaseSystem}
+use Rattle.tv_linear.specs.Linear.{Linear, columns, IsMet}
+use Rattle.tv_linear.specs.Known.{given, as_given}
+use Rattle.tv_linear.specs.Covers.{IsMetCover}
+use Rattle.tv_linear.specs.Depth.{splits}
 use Rattle.tv_linear.specs.declared.cover.CoverTree.{CoverTree}
-use Rattle.tv_linear.specs.declared.cover.CoverTree as cover
+use Rattle.tv_linear.specs.declared.region.Piece.{Piece}
+use Rattle.tv_cases.specs.LinearCases.{CaseSystem}
+use Rattle.tv_farkas.specs.Refuting.{AreShort}
+use Rattle.tv_farkas.specs.Trees.{TreeRows, TreeNumbers}
+use Rattle.tv_cert.specs.declared.node.Node.{Node}
 use Rattle.tv_cert.specs.declared.node.Verdict.{Verdict}
 use Rattle.tv_cert.specs.declared.node.Verdict.TheVariants.{Proved, Disproved}
 use Rattle.tv_cert.specs.Claims.{about_with}
-use Rattle.tv_cert.specs.Nodes.{obligations}
+use Rattle.tv_cert.specs.Nodes.{pieces_of, entries, obligations}
 use Rattle.tv_cert.specs.Obligations.{AllMet}
+use Rattle.tv_cert.specs.Targets.{owed_into, no_fall}
 use Rattle.tv_shape.specs.Certificates.{IsOf}
+use Rattle.tv_shape.specs.Fitting.{NodesFit}
+use Rattle.tv_shape.specs.Narrow.{CoverNarrow}
 use Rattle.tv_shape.specs.declared.certificate.Certificate.{Certificate}
+use Rattle.tv_rank.specs.Ways.{rows_at}
+use Rattle.tv_lexrank.specs.Closing.{owed_plain}
 
--- the cover leads into a first piece without rows, by no fall
-abbrev pub IsBareCover : CoverTree → Type 0
-IsBareCover (cover.Split' r p a q b) = ⊥
-IsBareCover (cover.Empty ms) = ⊥
-IsBareCover (cover.Into target fall ls) = (target ≡ 0) × (fall ≡ 0) × (ls.items ≡ [])
+-- all values at the start meet the rows that are known there
+abbrev pub BeginsKnown : CaseSystem → List Piece → Type 0
+BeginsKnown about known = (xs : List ℤ) → length xs ≡ about.variables → All (IsMet xs) (rows_at known about.start)
+
+-- a cover of all values over v variables by these rows
+pub record IsStartCover (v : ℕ) (rows : List Linear) (tree : CoverTree) : Type 0 where
+  pub met : IsMetCover v (owed_plain (as_given rows)) [] tree
+  pub shallow : splits tree ≤ 128
+  pub short : TreeNumbers AreShort tree
+  pub even : TreeRows (λ r. columns r ≡ v) tree
+
+-- the node fits and all its obligations are met, and the cover is one of the start by its pieces there
+pub record IsRoot (about : CaseSystem) (node : Node) (tree : CoverTree) : Type 0 where
+  pub fits : NodesFit (about_with about) term node
+  pub nodes : AllMet (entries 0 (about_with about) term node)
+  pub met : IsMetCover about.variables (owed_into (pieces_of node) about.start given no_fall) [] tree
+  pub shallow : splits tree ≤ 128
+  pub even : TreeRows (λ r. columns r ≡ about.variables) tree
+  pub narrow : CoverNarrow tree
 
 abbrev pub SaysProved : Verdict → Type 0
 SaysProved (Proved tree) = Unit {0}

@@ -9,7 +9,7 @@ use Rattle.tv_lexrank.specs.declared.ranked.Ranked.{Ranked}
 use Rattle.tv_lexrank.specs.declared.ranked.Ranked.TheVariants as ranked
 use Rattle.tv_lexrank.specs.Nodes.{IsRankedNode}
 use Rattle.tv_lexrank.specs.Parts.{AreGrouped, IsStuck}
-use Rattle.tv_lexrank.specs.Rounds.{AreBare}
+use Rattle.tv_lexrank.specs.Known.{AreBare}
 use Rattle.tv_lexrank.specs.Attempt.{NeverRises, RefusesAttempt}
 
 -- the arc of a case in the location graph
@@ -35,4 +35,6 @@ IsNode (ranked.Stuck set barriers) = ⊥
 abbrev pub RefusesFirst : CaseSystem → ℕ → RankFault → Type 0
 RefusesFirst about pivots (fault.Solve system e) =
     (numbers : List ℕ) × (known : List Piece) × AreComponents about numbers × AreBare known × RefusesAttempt about known numbers pivots (fault.Solve system e)
+RefusesFirst about pivots (fault.Open taken values) = ⊥
+RefusesFirst about pivots (fault.Cover f) = ⊥
 RefusesFirst about pivots fault.Memory = Unit {0}

@@ -11,6 +11,7 @@ use Rattle.tv_rank.specs.Rankings.{IsFamily, NoneRanks}
 use Rattle.tv_rank.specs.Answers.{IsRefusal}
 use Rattle.tv_rank.specs.Sets.{system_of_set, PointsOf}
 use Rattle.tv_cases.specs.Systems.{cases_of}
+use Rattle.tv_lexrank.specs.Known.{AreBare, HaveRows}
 use Rattle.tv_lexrank.specs.declared.component.Component.{Component}
 use Rattle.tv_lexrank.specs.declared.fault.RankFault.{RankFault}
 use Rattle.tv_lexrank.specs.declared.fault.RankFault.TheVariants as fault
@@ -69,14 +70,29 @@ pub record RefusesFalling (about : CaseSystem) (known : List Piece) (set : List 
   pub before : (k : ℕ) → k < place → NoneRanks about.variables (length set) (way_at about.cases known set) k
   pub refuses : IsRefusal (system_of_set about known set place) pivots e
 
+-- the system is named by the component and the round where no rows are known, and else by the set
 abbrev pub NamesTurn : CaseSystem → List Piece → List ℕ → ℕ → ℕ → ℕ → Name → SolveFault → Type 0
 NamesTurn about known set pivots component round (name.Empty k) e = ⊥
-NamesTurn about known set pivots component round (name.Rank c r falling) e = (c ≡ component) × (r ≡ round) × RefusesFalling about known set pivots falling e
+NamesTurn about known set pivots component round (name.Rank c r falling) e =
+    AreBare known × (c ≡ component) × (r ≡ round) × RefusesFalling about known set pivots falling e
 NamesTurn about known set pivots component round (name.Rows rows) e = ⊥
-NamesTurn about known set pivots component round (name.Later s falling) e = ⊥
+NamesTurn about known set pivots component round (name.Later s falling) e =
+    HaveRows known × (s.items ≡ set) × RefusesFalling about known set pivots falling e
+
+-- the name of the system of a set in a round, where this case falls
+abbrev pub IsNameOf : List Piece → List ℕ → ℕ → ℕ → ℕ → Name → Type 0
+IsNameOf known set component round falling (name.Empty k) = ⊥
+IsNameOf known set component round falling (name.Rank c r f) = AreBare known × (c ≡ component) × (r ≡ round) × (f ≡ falling)
+IsNameOf known set component round falling (name.Rows rows) = ⊥
+IsNameOf known set component round falling (name.Later s f) = HaveRows known × (s.items ≡ set) × (f ≡ falling)
+
+abbrev pub IsNameIn : Component → List ℕ → ℕ → ℕ → Name → Type 0
+IsNameIn c set round falling named = IsNameOf c.known.now.pieces.items set c.number round falling named
 
 abbrev pub RefusesTurn : CaseSystem → List Piece → List ℕ → ℕ → ℕ → ℕ → RankFault → Type 0
 RefusesTurn about known set pivots component round (fault.Solve system e) = NamesTurn about known set pivots component round system e
+RefusesTurn about known set pivots component round (fault.Open taken values) = ⊥
+RefusesTurn about known set pivots component round (fault.Cover f) = ⊥
 RefusesTurn about known set pivots component round fault.Memory = Unit {0}
 
 -- A refusal of a round: the named system is the ranking system of what so many rounds leave of the set.
@@ -89,20 +105,41 @@ pub record RefusesRound (about : CaseSystem) (known : List Piece) (set : List �
 
 abbrev pub IsNamed : CaseSystem → List Piece → List ℕ → ℕ → ℕ → Name → SolveFault → Type 0
 IsNamed about known set pivots component (name.Empty k) e = ⊥
-IsNamed about known set pivots component (name.Rank c round falling) e = (c ≡ component) × RefusesRound about known set pivots round falling e
+IsNamed about known set pivots component (name.Rank c round falling) e =
+    AreBare known × (c ≡ component) × RefusesRound about known set pivots round falling e
 IsNamed about known set pivots component (name.Rows rows) e = ⊥
-IsNamed about known set pivots component (name.Later s falling) e = ⊥
+IsNamed about known set pivots component (name.Later s falling) e =
+    HaveRows known × ((rounds : List Round) × Lead about known set rounds s.items × RefusesFalling about known s.items pivots falling e)
 
 abbrev pub RefusesGreedy : CaseSystem → List Piece → List ℕ → ℕ → ℕ → RankFault → Type 0
 RefusesGreedy about known set pivots component (fault.Solve system e) = IsNamed about known set pivots component system e
+RefusesGreedy about known set pivots component (fault.Open taken values) = ⊥
+RefusesGreedy about known set pivots component (fault.Cover f) = ⊥
 RefusesGreedy about known set pivots component fault.Memory = Unit {0}
 
 abbrev pub IsEmptied : Greedy → Type 0
 IsEmptied (greedy.Emptied rounds) = Unit {0}
 IsEmptied (greedy.Left left barriers) = ⊥
 
-abbrev pub RefusesTurnIn : Component → List Piece → List ℕ → ℕ → RankFault → Type 0
-RefusesTurnIn c known set round e = RefusesTurn (cases_of c.about.now) known set c.pivots c.number round e
+abbrev pub RefusesTurnIn : Component → List ℕ → ℕ → RankFault → Type 0
+RefusesTurnIn c set round e = RefusesTurn (cases_of c.about.now) c.known.now.pieces.items set c.pivots c.number round e
 
-abbrev pub RefusesGreedyIn : Component → List Piece → List ℕ → RankFault → Type 0
-RefusesGreedyIn c known set e = RefusesGreedy (cases_of c.about.now) known set c.pivots c.number e
+abbrev pub RefusesGreedyIn : Component → List ℕ → RankFault → Type 0
+RefusesGreedyIn c set e = RefusesGreedy (cases_of c.about.now) c.known.now.pieces.items set c.pivots c.number e
+
+abbrev pub IsTurnIn : Component → List ℕ → Turn → Type 0
+IsTurnIn c set t = IsTurn (cases_of c.about.now) c.known.now.pieces.items set t
+
+abbrev pub IsGreedyIn : Component → List ℕ → Greedy → Type 0
+IsGreedyIn c set g = IsGreedy (cases_of c.about.now) c.known.now.pieces.items set g
+
+abbrev pub PointsIn : Component → List ℕ → Type 0
+PointsIn c set = PointsOf (cases_of c.about.now) c.known.now.pieces.items set
+
+-- over none of the cases before a place some family falls
+abbrev pub ForFirst : Component → List ℕ → ℕ → Type 0
+ForFirst c set place = (k : ℕ) → k < place → NoneRanks (cases_of c.about.now).variables (length set) (way_at (cases_of c.about.now).cases c.known.now.pieces.items set) k
+
+-- the ranking system of the set, where the case at a place falls, has the fault
+abbrev pub IsUnsolvedAt : Component → List ℕ → ℕ → SolveFault → Type 0
+IsUnsolvedAt c set place e = IsRefusal (system_of_set (cases_of c.about.now) c.known.now.pieces.items set place) c.pivots e

@@ -1,3 +1,4 @@
+pub mod Known
 pub mod Inside
 pub mod Greedy
 pub mod Ranking
@@ -6,9 +7,12 @@ pub mod Covering
 pub mod Sorting
 pub mod Parts
 pub mod Attempt
+pub mod Closing
+pub mod Falling
 pub mod Steps
 pub mod Pieces
 pub mod Offered
 pub mod Nodes
 pub mod First
+pub mod Outcomes
 pub mod Certified

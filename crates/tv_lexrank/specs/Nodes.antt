@@ -1,5 +1,7 @@
 -- The node of a ranking.
 use Rattle.std.specs.Prelude.{◌≡◌, ℕ, ◌<◌, List, [], Some, slice_get}
+use Rattle.tv_linear.specs.Linear.{Linear}
+use Rattle.tv_linear.specs.declared.region.Piece.{Piece}
 use Rattle.tv_cases.specs.LinearCases.{CaseSystem}
 use Rattle.tv_formula.specs.Properties.{term}
 use Rattle.tv_cert.specs.declared.node.Marked.{Marked}
@@ -11,6 +13,7 @@ use Rattle.tv_cert.specs.Nodes.{pieces_of, entries}
 use Rattle.tv_cert.specs.Obligations.{AllMet}
 use Rattle.tv_cert.specs.Pieces.{pieces_at, rows_of}
 use Rattle.tv_shape.specs.Fitting.{NodesFit}
+use Rattle.tv_rank.specs.Ways.{rows_at}
 
 -- the parts of a node without children
 pub record HasOwn (node : Node) (pieces : List Marked) (ranks : ℕ) (proofs : List Proof) : Type 0 where
@@ -19,15 +22,19 @@ pub record HasOwn (node : Node) (pieces : List Marked) (ranks : ℕ) (proofs : L
   pub no_children : (out-Node node).children.items ≡ []
   pub proofs_are : (out-Node node).proofs.items ≡ proofs
 
--- the first piece at a location has no rows, so it has all states there
-pub record IsWholeAt (pieces : List Marked) (l : ℕ) : Type 0 where
+-- the first piece at a location has these rows
+pub record IsPieceAt (pieces : List Marked) (l : ℕ) (rows : List Linear) : Type 0 where
   pub piece : Marked
   pub first : slice_get (pieces_at pieces l) 0 ≡ Some piece
-  pub whole : rows_of piece ≡ []
+  pub has : rows_of piece ≡ rows
 
--- A node that shows that every run ends, from all states: it fits, all its obligations are met, whatever number it has, and at each
--- location it has all states.
-pub record IsRankedNode (about : CaseSystem) (node : Node) : Type 0 where
+-- A node that shows that every run from the known states ends: it fits, all its obligations are met, whatever number it has, and at each
+-- location it has the rows that are known there.
+pub record ShowsEnd (about : CaseSystem) (known : List Piece) (node : Node) : Type 0 where
   pub fits : NodesFit (about_with about) term node
   pub met : (number : ℕ) → AllMet (entries number (about_with about) term node)
-  pub whole : (l : ℕ) → l < about.locations → IsWholeAt (pieces_of node) l
+  pub pieces : (l : ℕ) → l < about.locations → IsPieceAt (pieces_of node) l (rows_at known l)
+
+-- the same from all states, where no rows are known
+abbrev pub IsRankedNode : CaseSystem → Node → Type 0
+IsRankedNode about node = ShowsEnd about [] node

@@ -1,5 +1,5 @@
 -- The proofs of the node of a ranking.
-use Rattle.std.specs.Prelude.{◌≡◌, ℕ, zero, suc, ◌<◌, List, [], ◌++◌, Some, slice_get}
+use Rattle.std.specs.Prelude.{◌≡◌, ℕ, zero, suc, ◌<◌, ◌≤◌, List, [], ◌++◌, Some, slice_get}
 use Rattle.std.specs.List.{AllZip}
 use Rattle.tv_cases.specs.LinearCases.{LinearCase, leaving}
 use Rattle.tv_cases.specs.Systems.{cases_of}
@@ -21,26 +21,26 @@ abbrev pub IsStepProof : Ranking → ℕ → Proof → Type 0
 IsStepProof r k (Covered tree) = ShowsStep r k tree
 IsStepProof r k (Chosen tree) = ⊥
 
--- the proof is one for the obligation: it has its shape, meets it, is narrow and has no split
+-- the proof is one for the obligation: it has its shape, meets it, is narrow, and has at most 128 splits on a path
 pub record IsOffered (o : Obligation) (p : Proof) : Type 0 where
   pub shape : ProofShape o.owed p
   pub met : OwedMet o.owed (Some p)
   pub narrow : ProofNarrow p
-  pub flat : proof_splits p ≡ 0
+  pub shallow : proof_splits p ≤ 128
 
 -- the first piece at each location is that of the ranking
 abbrev pub ArePieces : Ranking → List Marked → Type 0
 ArePieces r ps = (l : ℕ) → l < (cases_of r.about.now).locations → slice_get (pieces_at ps l) 0 ≡ Some (ranked_piece r l)
 
 -- what a step owes at the piece of a location, where these are the pieces of the node with this number
-abbrev pub owed_step : Ranking → ℕ → List Marked → ℕ → LinearCase → Obligation
-owed_step r number ps l c =
+abbrev pub step_owed : Ranking → ℕ → List Marked → ℕ → LinearCase → Obligation
+step_owed r number ps l c =
     let about = about_with (cases_of r.about.now) in
     step_of number about (ranked_piece r l) ps (step_fall about (ranked_piece r l)) c
 
 -- the proof is one for the step over a case from a location
 abbrev pub IsOfferedAt : Ranking → ℕ → LinearCase → Proof → Type 0
-IsOfferedAt r l c p = (number : ℕ) (ps : List Marked) → ArePieces r ps → IsOffered (owed_step r number ps l c) p
+IsOfferedAt r l c p = (number : ℕ) (ps : List Marked) → ArePieces r ps → IsOffered (step_owed r number ps l c) p
 
 -- behind the old proofs the new ones have one for each of the cases from a location
 pub record AreStepsShown (r : Ranking) (l : ℕ) (cases : List LinearCase) (old new : List Proof) : Type 0 where

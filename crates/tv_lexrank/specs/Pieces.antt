@@ -6,6 +6,7 @@ use Rattle.tv_cases.specs.Systems.{cases_of}
 use Rattle.tv_cert.specs.MarkedRows.{marked}
 use Rattle.tv_cert.specs.declared.node.Mark.TheVariants.{Go}
 use Rattle.tv_cert.specs.declared.node.Marked.{Marked}
+use Rattle.tv_rank.specs.Ways.{rows_at}
 use Rattle.tv_lexrank.specs.declared.round.Round.{Round}
 use Rattle.tv_lexrank.specs.declared.ranking.Ranking.{Ranking}
 use Rattle.tv_lexrank.specs.Rounds.{ranks_at}
@@ -26,9 +27,9 @@ all_ranks r l =
     let component = get_or r.numbers.now l 0 in
     padded_ranks (cases_of r.about.now).variables component (rounds_in r.parts.now component) l r.count
 
--- the piece of all states at a location, with its ranks
+-- the piece of the rows that are known at a location, with its ranks
 abbrev pub ranked_piece : Ranking → ℕ → Marked
-ranked_piece r l = marked l (cases_of r.about.now).variables Go [] (all_ranks r l)
+ranked_piece r l = marked l (cases_of r.about.now).variables Go (rows_at r.known.now.pieces.items l) (all_ranks r l)
 
 -- the pieces at the first locations
 abbrev pub ranked_pieces : Ranking → ℕ → List Marked

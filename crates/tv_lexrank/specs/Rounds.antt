@@ -1,17 +1,12 @@
-use Rattle.std.specs.Prelude.{◌≡◌, ℕ, suc, List, [], ◌∷◌, length, map, get_or, ℤ, pos, ◌==◌, if◌then◌else◌}
+use Rattle.std.specs.Prelude.{ℕ, suc, List, [], ◌∷◌, length, map, get_or, ℤ, pos, ◌==◌, if◌then◌else◌}
 use Rattle.tv_linear.specs.Linear.{Linear}
 use Rattle.tv_linear.specs.Arithmetic.{constant_row}
 use Rattle.tv_linear.specs.declared.region.Piece.{Piece}
 use Rattle.tv_cases.specs.LinearCases.{CaseSystem}
 use Rattle.tv_rank.specs.Given.{lists}
-use Rattle.tv_rank.specs.Ways.{rows_at}
 use Rattle.tv_rank.specs.Rankings.{local_term}
 use Rattle.tv_lexrank.specs.declared.round.Round.{Round}
 use Rattle.tv_lexrank.specs.Greedy.{without, IsRound}
-
--- no rows are known
-abbrev pub AreBare : List Piece → Type 0
-AreBare known = (l : ℕ) → rows_at known l ≡ []
 
 -- the first place of a number in a list, or its length
 abbrev pub place_in : List ℕ → ℕ → ℕ

@@ -3,38 +3,59 @@ use Rattle.std.specs.Global.{Global}
 use Rattle.tv_linear.specs.Linear.{Linear, IsScaledPoint, IsWithin}
 use Rattle.tv_linear.specs.Known.{as_given}
 use Rattle.tv_linear.specs.Refutation.{Refutes}
-use Rattle.tv_rank.specs.Sets.{PointsOf}
+use Rattle.tv_linear.specs.declared.region.Piece.{Piece}
 use Rattle.tv_cases.specs.LinearCases.{LinearCase, CaseSystem}
-use Rattle.tv_farkas.specs.Refuting.{IsRefusal}
+use Rattle.tv_cases.specs.Systems.{cases_of}
 use Rattle.tv_simplex.specs.declared.fault.SolveFault.{SolveFault}
+use Rattle.tv_farkas.specs.Paths.{TakenOnce}
+use Rattle.tv_farkas.specs.Refuting.{IsRefusal, IsSystemFault}
 use Rattle.tv_rank.specs.declared.name.Name.{Name}
 use Rattle.tv_rank.specs.declared.name.Name.TheVariants as name
 use Rattle.tv_rank.specs.Given.{lists, AreNumbered}
-use Rattle.tv_rank.specs.Ways.{case_at}
+use Rattle.tv_rank.specs.Rankings.{HasPoint}
+use Rattle.tv_rank.specs.Sets.{PointsOf}
+use Rattle.tv_rank.specs.Ways.{Way, case_at, way_of}
 use Rattle.tv_lexrank.specs.declared.fault.RankFault.{RankFault}
 use Rattle.tv_lexrank.specs.declared.fault.RankFault.TheVariants as fault
 use Rattle.tv_lexrank.specs.declared.component.Component.{Component}
 use Rattle.tv_lexrank.specs.declared.sorting.Sorted.{Sorted}
-use Rattle.tv_cases.specs.Systems.{cases_of}
+use Rattle.tv_lexrank.specs.Known.{AreBare, HaveRows, way_rows, padded_rows}
 
--- the case has a rational point over so many columns
-abbrev pub HasScaled : ℕ → List Linear → Type 0
-HasScaled n rows = (xs : List ℤ) × (z : ℤ) × (length xs ≡ n) × IsScaledPoint rows xs z
-
--- the multipliers, which are below 2^62, refute the rows, or the rows have a rational point
+-- multipliers, which are below 2^62, that refute the rows; or the rows have a rational point
 abbrev pub IsSettled : ℕ → List Linear → Option (Vec ℤ Global) → Type 0
-IsSettled n rows o = MatchOption o (HasScaled n rows) (λ m. Refutes n (as_given rows) m.items × All (IsWithin 62) m.items)
+IsSettled n rows o =
+    MatchOption o ((xs : List ℤ) × (z : ℤ) × (length xs ≡ n) × IsScaledPoint rows xs z)
+    (λ m. Refutes n (as_given rows) m.items × All (IsWithin 62) m.items)
 
--- a refusal of the refutation system of the guards of a case
-abbrev pub NamesEmpty : ℕ → List Linear → ℕ → ℕ → Name → SolveFault → Type 0
-NamesEmpty n rows pivots k (name.Empty number) e = (number ≡ k) × IsRefusal n rows pivots e
-NamesEmpty n rows pivots k (name.Rank c round falling) e = ⊥
-NamesEmpty n rows pivots k (name.Rows rs) e = ⊥
-NamesEmpty n rows pivots k (name.Later s falling) e = ⊥
+-- the same of the rows that are met where a way is taken
+abbrev pub IsTaken : ℕ → Way → Option (Vec ℤ Global) → Type 0
+IsTaken v w o = MatchOption o (HasPoint v w) (λ m. Refutes (v + w.taken.draws) (way_rows w) m.items × All (IsWithin 62) m.items)
 
-abbrev pub RefusesEmpty : ℕ → List Linear → ℕ → ℕ → RankFault → Type 0
-RefusesEmpty n rows pivots k (fault.Solve system e) = NamesEmpty n rows pivots k system e
-RefusesEmpty n rows pivots k fault.Memory = Unit {0}
+-- a refusal of the refutation system of the guards of a case, which is named by the case
+abbrev pub NamesGuards : ℕ → List Linear → ℕ → ℕ → Name → SolveFault → Type 0
+NamesGuards n rows pivots k (name.Empty number) e = (number ≡ k) × IsRefusal n rows pivots e
+NamesGuards n rows pivots k (name.Rank c round falling) e = ⊥
+NamesGuards n rows pivots k (name.Rows rs) e = ⊥
+NamesGuards n rows pivots k (name.Later s falling) e = ⊥
+
+abbrev pub RefusesGuards : ℕ → List Linear → ℕ → ℕ → RankFault → Type 0
+RefusesGuards n rows pivots k (fault.Solve system e) = NamesGuards n rows pivots k system e
+RefusesGuards n rows pivots k (fault.Open taken values) = ⊥
+RefusesGuards n rows pivots k (fault.Cover f) = ⊥
+RefusesGuards n rows pivots k fault.Memory = Unit {0}
+
+-- a refusal of the refutation system of rows, each taken once, which is named by these
+abbrev pub NamesRows : ℕ → List Linear → ℕ → Name → SolveFault → Type 0
+NamesRows n rows pivots (name.Empty number) e = ⊥
+NamesRows n rows pivots (name.Rank c round falling) e = ⊥
+NamesRows n rows pivots (name.Rows kept) e = TakenOnce rows kept.items × IsSystemFault n kept.items pivots e
+NamesRows n rows pivots (name.Later s falling) e = ⊥
+
+abbrev pub RefusesRows : ℕ → List Linear → ℕ → RankFault → Type 0
+RefusesRows n rows pivots (fault.Solve system e) = NamesRows n rows pivots system e
+RefusesRows n rows pivots (fault.Open taken values) = ⊥
+RefusesRows n rows pivots (fault.Cover f) = ⊥
+RefusesRows n rows pivots fault.Memory = Unit {0}
 
 -- the case leads inside a component
 abbrev pub LeadsInside : List ℕ → ℕ → LinearCase → Type 0
@@ -48,35 +69,51 @@ StandsIn xs k = (j : ℕ) × (j < length xs) × (get_or xs j 0 ≡ k)
 abbrev pub Ascends : List ℕ → Type 0
 Ascends xs = (i j : ℕ) → i < j → j < length xs → get_or xs i 0 < get_or xs j 0
 
--- Of the first cases those inside the component are sorted: into those with a rational point, and those whose guards are refuted.
-pub record AreSorted (about : CaseSystem) (numbers : List ℕ) (component many : ℕ) (set empty : List ℕ) (refutations : List (List ℤ)) : Type 0 where
+-- multipliers that refute the rows that are met where a way is taken
+abbrev pub IsNeverTaken : ℕ → Way → List ℤ → Type 0
+IsNeverTaken v w ms = Refutes (v + w.taken.draws) (way_rows w) ms
+
+-- Of the first cases those inside the component are sorted: into those with a rational point under the known rows, and those whose rows
+-- are refuted.
+pub record AreSorted (about : CaseSystem) (known : List Piece) (numbers : List ℕ) (component many : ℕ) (set empty : List ℕ) (refutations : List (List ℤ)) : Type 0 where
   pub numbered : AreNumbered many set
   pub ascends : Ascends set
   pub inside : (j : ℕ) → j < length set → LeadsInside numbers component (case_at about.cases (get_or set j 0))
-  pub points : PointsOf about [] set
+  pub points : PointsOf about known set
   pub counted : length refutations ≡ length empty
-  pub refuted : (i : ℕ) → i < length empty → Refutes (about.variables + (case_at about.cases (get_or empty i 0)).draws) (as_given (case_at about.cases (get_or empty i 0)).guards) (get_or refutations i [])
+  pub refuted : (i : ℕ) → i < length empty → IsNeverTaken about.variables (way_of about.cases known (get_or empty i 0)) (get_or refutations i [])
   pub narrow : All (All (IsWithin 62)) refutations
   pub each : (k : ℕ) → k < many → LeadsInside numbers component (case_at about.cases k) → StandsIn set k ⊎ StandsIn empty k
 
-abbrev pub IsSorted : CaseSystem → List ℕ → ℕ → ℕ → Sorted → Type 0
-IsSorted about numbers component many s = AreSorted about numbers component many s.set.items s.empty.items (lists s.refutations.items)
+abbrev pub IsSorted : CaseSystem → List Piece → List ℕ → ℕ → ℕ → Sorted → Type 0
+IsSorted about known numbers component many s =
+    AreSorted about known numbers component many s.set.items s.empty.items (lists s.refutations.items)
 
 abbrev pub IsSortedIn : Component → ℕ → Sorted → Type 0
-IsSortedIn c many s = IsSorted (cases_of c.about.now) c.numbers.now c.number many s
+IsSortedIn c many s = IsSorted (cases_of c.about.now) c.known.now.pieces.items c.numbers.now c.number many s
 
--- a refusal of the refutation system of the guards of a case inside the component
-abbrev pub NamesInside : CaseSystem → List ℕ → ℕ → ℕ → Name → SolveFault → Type 0
-NamesInside about numbers component pivots (name.Empty k) e =
-    (k < length about.cases) × LeadsInside numbers component (case_at about.cases k)
+-- the way of a case of the component
+abbrev pub way_inside : Component → ℕ → Way
+way_inside c k = way_of (cases_of c.about.now).cases c.known.now.pieces.items k
+
+-- A refusal of the system that is asked whether a case inside the component is ever taken: where no rows are known, the refutation system of
+-- its guards, which is named by the case; and else that of the known rows and the guards, each taken once, which is named by these.
+abbrev pub NamesInside : CaseSystem → List Piece → List ℕ → ℕ → ℕ → Name → SolveFault → Type 0
+NamesInside about known numbers component pivots (name.Empty k) e =
+    AreBare known × (k < length about.cases) × LeadsInside numbers component (case_at about.cases k)
     × IsRefusal (about.variables + (case_at about.cases k).draws) (case_at about.cases k).guards pivots e
-NamesInside about numbers component pivots (name.Rank c round falling) e = ⊥
-NamesInside about numbers component pivots (name.Rows rs) e = ⊥
-NamesInside about numbers component pivots (name.Later s falling) e = ⊥
+NamesInside about known numbers component pivots (name.Rank c round falling) e = ⊥
+NamesInside about known numbers component pivots (name.Rows rows) e =
+    HaveRows known × ((k : ℕ) × (k < length about.cases) × LeadsInside numbers component (case_at about.cases k)
+    × TakenOnce (padded_rows about.variables (way_of about.cases known k)) rows.items
+    × IsSystemFault (about.variables + (case_at about.cases k).draws) rows.items pivots e)
+NamesInside about known numbers component pivots (name.Later s falling) e = ⊥
 
-abbrev pub RefusesSorting : CaseSystem → List ℕ → ℕ → ℕ → RankFault → Type 0
-RefusesSorting about numbers component pivots (fault.Solve system e) = NamesInside about numbers component pivots system e
-RefusesSorting about numbers component pivots fault.Memory = Unit {0}
+abbrev pub RefusesSorting : CaseSystem → List Piece → List ℕ → ℕ → ℕ → RankFault → Type 0
+RefusesSorting about known numbers component pivots (fault.Solve system e) = NamesInside about known numbers component pivots system e
+RefusesSorting about known numbers component pivots (fault.Open taken values) = ⊥
+RefusesSorting about known numbers component pivots (fault.Cover f) = ⊥
+RefusesSorting about known numbers component pivots fault.Memory = Unit {0}
 
 abbrev pub RefusesSortingIn : Component → RankFault → Type 0
-RefusesSortingIn c e = RefusesSorting (cases_of c.about.now) c.numbers.now c.number c.pivots e
+RefusesSortingIn c e = RefusesSorting (cases_of c.about.now) c.known.now.pieces.items c.numbers.now c.number c.pivots e

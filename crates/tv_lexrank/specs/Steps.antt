@@ -1,32 +1,41 @@
-use Rattle.std.specs.Prelude.{◌≡◌, ℕ, zero, suc, ◌+◌, List, ◌++◌, map, ℤ, Option, None}
-use Rattle.tv_linear.specs.Linear.{Linear}
-use Rattle.tv_linear.specs.Known.{Known, given, composed, as_given}
-use Rattle.tv_linear.specs.Covers.{IsMetCover}
+-- What is owed of the steps over cases, and the covers that show it.
+use Rattle.std.specs.Prelude.{◌≡◌, ℕ, zero, suc, ◌+◌, ◌≤◌, List, ◌++◌, map, ℤ, Option, None}
+use Rattle.std.specs.Option.{option_map}
+use Rattle.tv_linear.specs.Linear.{Linear, columns}
+use Rattle.tv_linear.specs.Known.{Known, as_given}
+use Rattle.tv_linear.specs.Covers.{ShownAt, IsMetCover}
 use Rattle.tv_linear.specs.Falls.{fall_rows}
-use Rattle.tv_linear.specs.Terms.{terms_after}
 use Rattle.tv_linear.specs.declared.cover.CoverTree.{CoverTree}
 use Rattle.tv_linear.specs.declared.cover.CoverTree as cover
 use Rattle.tv_linear.specs.Depth.{splits}
+use Rattle.tv_farkas.specs.Trees.{TreeRows}
 use Rattle.tv_shape.specs.Narrow.{CoverNarrow}
 use Rattle.tv_cases.specs.Systems.{cases_of}
-use Rattle.tv_rank.specs.Ways.{Way, way_of}
+use Rattle.tv_rank.specs.Given.{lists}
+use Rattle.tv_rank.specs.Ways.{Way, way_of, rows_at}
+use Rattle.tv_lexrank.specs.declared.fault.RankFault.{RankFault}
+use Rattle.tv_lexrank.specs.declared.falling.Fall.{Fall}
 use Rattle.tv_lexrank.specs.declared.ranking.Ranking.{Ranking}
 use Rattle.tv_lexrank.specs.Attempt.{PartsFrom, ranks_in}
+use Rattle.tv_lexrank.specs.Known.{way_rows}
+use Rattle.tv_lexrank.specs.Closing.{changed, RefusesClosed}
+use Rattle.tv_lexrank.specs.Falling.{AreNarrowLines}
 
--- what is owed on entering the one piece where a way leads, from these ranks to those: a fall
-abbrev pub owed_fall : ℕ → Way → List Linear → List Linear → ℕ → ℕ → Option (List Known)
-owed_fall v w old new zero j = fall_rows (as_given old) (map (λ g. composed (given g) (terms_after v w.taken.updates)) new) j
-owed_fall v w old new (suc target) j = None
+-- the rows of a fall on entering the one piece where a way leads, from these ranks to those
+abbrev pub owed_fall : ℕ → Way → List Linear → List Linear → ℕ → Option (List Known)
+owed_fall v w old new j = fall_rows (as_given old) (map (changed v w) new) j
 
--- the cover of a step over a case is met: it shows a fall from the ranks where the case starts to those where it ends, or that it is
--- never taken
-abbrev pub IsMetStep : ℕ → Way → List Linear → List Linear → CoverTree → Type 0
-IsMetStep v w old new tree = IsMetCover (v + w.taken.draws) (owed_fall v w old new) (as_given w.known ++ as_given w.taken.guards) tree
+-- what is owed on entering it: its rows, and then those of a fall
+abbrev pub owed_step : ℕ → Way → List Linear → List Linear → List Linear → ℕ → ℕ → Option (List Known)
+owed_step v w into old new zero j = option_map (λ falls. map (changed v w) into ++ falls) (owed_fall v w old new j)
+owed_step v w into old new (suc target) j = None
 
--- the cover is met, has no split, and its multipliers are below 2^62 in magnitude
-pub record IsFlatStep (v : ℕ) (w : Way) (old new : List Linear) (tree : CoverTree) : Type 0 where
-  pub met : IsMetStep v w old new tree
-  pub flat : splits tree ≡ 0
+-- The cover of a step over a case is met: it shows that the case leads into these rows and that these ranks fall to those, or that it is never
+-- taken. Its numbers are below 2^62 in magnitude.
+pub record IsStepCover (v : ℕ) (w : Way) (into old new : List Linear) (tree : CoverTree) : Type 0 where
+  pub met : IsMetCover (v + w.taken.draws) (owed_step v w into old new) (way_rows w) tree
+  pub shallow : splits tree ≤ 128
+  pub even : TreeRows (λ r. columns r ≡ v + w.taken.draws) tree
   pub narrow : CoverNarrow tree
 
 -- the components are ranked
@@ -40,15 +49,31 @@ way_in r k = way_of (cases_of r.about.now).cases r.known.now.pieces.items k
 abbrev pub ranks_of : Ranking → ℕ → List Linear
 ranks_of r l = ranks_in (cases_of r.about.now).variables r.numbers.now r.parts.now l
 
+-- the rows that are known at a location
+abbrev pub rows_known : Ranking → ℕ → List Linear
+rows_known r l = rows_at r.known.now.pieces.items l
+
 -- the cover shows what is owed of a step over the case
 abbrev pub ShowsStep : Ranking → ℕ → CoverTree → Type 0
-ShowsStep r k tree = IsFlatStep (cases_of r.about.now).variables (way_in r k) (ranks_of r (way_in r k).taken.from) (ranks_of r (way_in r k).taken.to) tree
+ShowsStep r k tree =
+    let w = way_in r k in
+    IsStepCover (cases_of r.about.now).variables w (rows_known r w.taken.to) (ranks_of r w.taken.from) (ranks_of r w.taken.to) tree
 
--- the cover enters the one piece by this fall, with these multipliers
-abbrev pub IsFall : ℕ → List (List ℤ) → CoverTree → Type 0
-IsFall j lines (cover.Split' r p a q b) = ⊥
-IsFall j lines (cover.Empty ms) = ⊥
-IsFall j lines (cover.Into target fall ls) = (target ≡ 0) × (fall ≡ j) × (map (λ l. l.items) ls.items ≡ lines)
+-- a refusal of such a cover: the case leads out of the known rows, or it is not settled whether it does
+abbrev pub RefusesStep : Ranking → RankFault → Type 0
+RefusesStep r e = RefusesClosed (cases_of r.about.now) r.known.now.pieces.items r.budget.now e
+
+-- the fall has this number, and these lines
+abbrev pub IsFall : ℕ → List (List ℤ) → Fall → Type 0
+IsFall j lines fall = (fall.number ≡ j) × (lists fall.lines.items ≡ lines)
+
+-- the lines show that the ranks fall over the case
+pub record FallsOver (r : Ranking) (k : ℕ) (fall : Fall) : Type 0 where
+  pub shown :
+      let w = way_in r k in
+      let v = (cases_of r.about.now).variables in
+      ShownAt (v + w.taken.draws) (way_rows w) (owed_fall v w (ranks_of r w.taken.from) (ranks_of r w.taken.to) fall.number) (lists fall.lines.items)
+  pub narrow : AreNarrowLines (lists fall.lines.items)
 
 -- the cover refutes the rows of its place by these multipliers
 abbrev pub IsRefutation : List ℤ → CoverTree → Type 0

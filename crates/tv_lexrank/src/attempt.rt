@@ -1,10 +1,11 @@
-// The first attempt: ranks without known rows.
+// The ranks of all components.
 
-ghost use Rattle.std.specs.Prelude.{◌≡◌, length, IfOk};
+ghost use Rattle.std.specs.Prelude.{◌≡◌, length, All, IfOk};
 ghost use Rattle.std.specs.Result.{IfErr};
 ghost use Rattle.tv_cases.specs.Systems.{cases_of};
 ghost use Rattle.tv_lexrank.specs.Ranking.{HasLexicographicRanking};
-ghost use Rattle.tv_lexrank.specs.Rounds.{AreBare};
+ghost use Rattle.tv_linear.specs.Linear.{columns as width};
+ghost use Rattle.tv_lexrank.specs.Known.{AreBare, AreKnown, piece_rows};
 ghost use Rattle.tv_lexrank.specs.Parts.{AreGrouped};
 ghost use Rattle.tv_lexrank.specs.Attempt.{IsAttempt, IsWhole, RefusesAttempt};
 
@@ -31,6 +32,7 @@ pub enum Attempt {
 pub fn bare_region(alloc: Global, variables: u32, locations: u32) -> Result<Region, AllocError>
     ensures bare { IfOk result (λ r. AreBare r.pieces.items) }
     ensures as_many { IfOk result (λ r. length r.pieces.items ≡ locations) }
+    ensures over { IfOk result (λ r. All (λ p. All (λ r. width r ≡ variables) (piece_rows p)) r.pieces.items) }
 {
     let mut pieces = Vec::with_capacity(alloc, locations as usize)?;
     'locations: for location in 0..locations {
@@ -62,8 +64,7 @@ pub fn rank_components(
     pivots: u64,
 ) -> Result<Attempt, RankFault>
     requires locations { length numbers.now ≡ (cases_of about.now).locations }
-    requires pieces { length known.now.pieces.items ≡ (cases_of about.now).locations }
-    requires bare { AreBare known.now.pieces.items }
+    requires known { AreKnown (cases_of about.now) known.now.pieces.items }
     ensures attempt { IfOk result (λ a. IsAttempt (cases_of about.now) known.now.pieces.items numbers.now count a) }
     ensures never_stuck { AreGrouped (cases_of about.now) numbers.now → HasLexicographicRanking (cases_of about.now) → IfOk result IsWhole }
     ensures refusals { IfErr result (λ e. RefusesAttempt (cases_of about.now) known.now.pieces.items numbers.now pivots e) }
@@ -73,13 +74,14 @@ pub fn rank_components(
     'components: for number in 0..count {
         let component = Component {
             about,
+            known,
             numbers,
             stands: &stands,
             count,
             number,
             pivots,
         };
-        let parted = match part_of(alloc, &component, known) {
+        let parted = match part_of(alloc, &component) {
             Ok(parted) => parted,
             Err(fault) => return Err(fault),
         };

@@ -3,15 +3,19 @@
 ghost use Rattle.std.specs.Prelude.{◌≡◌, ◌<◌, length};
 ghost use Rattle.tv_cases.specs.Systems.{cases_of};
 ghost use Rattle.tv_places.specs.Places.{IsIndexOf};
+ghost use Rattle.tv_lexrank.specs.Known.{AreKnown};
 ghost use Rattle.tv_lexrank.specs.Inside.{inside_keys};
 
 use tv_cases::Cases;
+use tv_linear::Region;
 use tv_places::Stand;
 
 /// A component of the location graph, by the number that its locations have.
 #[derive(Drop)]
 pub struct Component<'a> {
     pub about: &'a Cases,
+    /// The rows that are known at the locations.
+    pub known: &'a Region,
     /// The number of the component of each location.
     pub numbers: &'a [u32],
     /// Where the cases inside each component stand among all, by its number.
@@ -21,6 +25,7 @@ pub struct Component<'a> {
     pub number: u32,
     /// How many bases of each system are met at most.
     pub pivots: u64,
+    pub ghost known_rows: { AreKnown (cases_of about.now) known.now.pieces.items },
     pub ghost located: { length numbers.now ≡ (cases_of about.now).locations },
     pub ghost indexed: { IsIndexOf (inside_keys (cases_of about.now) numbers.now count) stands.now },
     pub ghost below: { number < count },

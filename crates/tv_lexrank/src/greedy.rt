@@ -2,17 +2,16 @@
 
 ghost use Rattle.std.specs.Prelude.{◌≡◌, ◌<◌, ◌^◌, ◌++◌, ◌∷◌, [], length, IfOk};
 ghost use Rattle.std.specs.Result.{IfErr};
-ghost use Rattle.tv_rank.specs.Sets.{PointsOf};
 ghost use Rattle.tv_cases.specs.Systems.{cases_of};
 ghost use Rattle.tv_rank.specs.Given.{AreNumbered};
-ghost use Rattle.tv_lexrank.specs.Greedy.{without as spec_without, IsTurn, IsGreedy, RefusesTurnIn, RefusesGreedyIn};
+ghost use Rattle.tv_lexrank.specs.Greedy.{without as spec_without, IsNameIn, ForFirst, IsUnsolvedAt, PointsIn, IsTurnIn, IsGreedyIn, RefusesTurnIn, RefusesGreedyIn};
 
 use crate::component::Component;
+use crate::known::is_bare;
 use crate::{RankFault, Round};
 use std::alloc::{AllocError, Global};
-use tv_linear::Region;
 use tv_rank::{Found, Name, rank_place};
-use tv_simplex::push_item;
+use tv_simplex::{SolveFault, push_item};
 
 /// What a round gives: the round that takes a case out, or a barrier for each case that is left.
 #[derive(Drop)]
@@ -54,33 +53,72 @@ fn without(alloc: Global, set: &[u32], place: usize) -> Result<Vec<u32>, AllocEr
     Ok(rest)
 }
 
+/// The name of the ranking system of a set in a round, where this case falls.
+fn name_of(
+    alloc: Global,
+    component: &Component,
+    set: &[u32],
+    round: u32,
+    falling: u32,
+) -> Result<Name, AllocError>
+    ensures { IfOk result (λ name. IsNameIn component.now set.now round falling name) }
+{
+    if is_bare(&component.known.pieces) {
+        return Ok(Name::Rank {
+            component: component.number,
+            round,
+            falling,
+        });
+    }
+    Ok(Name::Later {
+        set: Vec::from_slice(alloc, set)?,
+        falling,
+    })
+}
+
+/// The refusal of the ranking system of a set in a round, where the case at a place falls.
+fn refusal(
+    alloc: Global,
+    component: &Component,
+    set: &[u32],
+    round: u32,
+    place: usize,
+    fault: SolveFault,
+) -> RankFault
+    requires place { place < length set.now }
+    requires first { ForFirst component.now set.now place }
+    requires refused { IsUnsolvedAt component.now set.now place fault }
+    ensures { RefusesTurnIn component.now set.now round result }
+{
+    match name_of(alloc, component, set, round, set[place]) {
+        Ok(system) => RankFault::Solve { system, fault },
+        Err(_) => RankFault::Memory,
+    }
+}
+
 /// One round over the set: the first case that a family of terms falls over is taken out.
 fn take_turn(
     alloc: Global,
     component: &Component,
-    known: &Region,
     set: &[u32],
     round: u32,
 ) -> Result<Turn, RankFault>
     requires numbered { AreNumbered (length (cases_of component.now.about.now).cases) set.now }
-    requires pieces { length known.now.pieces.items ≡ (cases_of component.now.about.now).locations }
-    requires points { PointsOf (cases_of component.now.about.now) known.now.pieces.items set.now }
-    ensures turn { IfOk result (λ t. IsTurn (cases_of component.now.about.now) known.now.pieces.items set.now t) }
-    ensures refusals { IfErr result (λ e. RefusesTurnIn component.now known.now.pieces.items set.now round e) }
+    requires points { PointsIn component.now set.now }
+    ensures turn { IfOk result (λ t. IsTurnIn component.now set.now t) }
+    ensures refusals { IfErr result (λ e. RefusesTurnIn component.now set.now round e) }
 {
     let mut barriers = Vec::new(alloc);
     'places: for place in 0..set.len() {
-        match rank_place(alloc, component.about, set, place, known, component.pivots) {
-            Err(fault) => {
-                return Err(RankFault::Solve {
-                    system: Name::Rank {
-                        component: component.number,
-                        round,
-                        falling: set[place],
-                    },
-                    fault,
-                });
-            }
+        match rank_place(
+            alloc,
+            component.about,
+            set,
+            place,
+            component.known,
+            component.pivots,
+        ) {
+            Err(fault) => return Err(refusal(alloc, component, set, round, place, fault)),
             Ok(Found::None { barrier }) => push_item(&mut barriers, barrier)?,
             Ok(Found::Family { terms, multipliers }) => {
                 return Ok(Turn::Took(Round {
@@ -96,24 +134,18 @@ fn take_turn(
 }
 
 /// Takes cases out of the set round by round, until it is empty or stuck.
-pub fn rounds_of(
-    alloc: Global,
-    component: &Component,
-    known: &Region,
-    set: Vec<u32>,
-) -> Result<Greedy, RankFault>
+pub fn rounds_of(alloc: Global, component: &Component, set: Vec<u32>) -> Result<Greedy, RankFault>
     requires numbered { AreNumbered (length (cases_of component.now.about.now).cases) set.items }
     requires few { length set.items < 2 ^ 32 }
-    requires pieces { length known.now.pieces.items ≡ (cases_of component.now.about.now).locations }
-    requires points { PointsOf (cases_of component.now.about.now) known.now.pieces.items set.items }
-    ensures greedy { IfOk result (λ g. IsGreedy (cases_of component.now.about.now) known.now.pieces.items set.items g) }
-    ensures refusals { IfErr result (λ e. RefusesGreedyIn component.now known.now.pieces.items set.items e) }
+    requires points { PointsIn component.now set.items }
+    ensures greedy { IfOk result (λ g. IsGreedyIn component.now set.items g) }
+    ensures refusals { IfErr result (λ e. RefusesGreedyIn component.now set.items e) }
 {
     let count = set.len();
     let mut rounds = Vec::new(alloc);
     let mut left = set;
     'rounds: for round in 0..count {
-        let turn = match take_turn(alloc, component, known, &left, round as u32) {
+        let turn = match take_turn(alloc, component, &left, round as u32) {
             Ok(turn) => turn,
             Err(fault) => return Err(fault),
         };

@@ -1,15 +1,18 @@
-//! Lexicographic linear ranks of a program: a node of a certificate that shows that every run ends, or a set of cases that no
-//! term ranks.
+//! Lexicographic linear ranks of a program, under rows that are known: a node of a certificate that shows that every run from the known
+//! states ends, or a set of cases that no term ranks.
 #![tactic(auto)]
 
 mod attempt;
 mod certificate;
+mod closing;
 mod component;
 mod covering;
+mod falling;
 mod fault;
-mod first;
 mod greedy;
 mod inside;
+mod known;
+mod lexicographic;
 mod node;
 mod offered;
 mod part;
@@ -20,8 +23,9 @@ mod round;
 mod sorting;
 mod step;
 
-pub use certificate::ranked_certificate;
+pub use certificate::{known_certificate, ranked_certificate};
 pub use fault::RankFault;
-pub use first::first_attempt;
+pub use known::are_known;
+pub use lexicographic::{first_attempt, lex_rank};
 pub use ranked::Ranked;
 use round::Round;

@@ -1,11 +1,13 @@
 // The node of a ranking.
 
 ghost use Rattle.std.specs.Prelude.{◌≡◌, [], All, IfOk};
+ghost use Rattle.std.specs.Result.{IfErr};
 ghost use Rattle.tv_cases.specs.Systems.{cases_of};
 ghost use Rattle.tv_shape.specs.Narrow.{PieceNarrow};
-ghost use Rattle.tv_lexrank.specs.Steps.{AreRanked};
-ghost use Rattle.tv_lexrank.specs.Nodes.{HasOwn, IsRankedNode};
+ghost use Rattle.tv_lexrank.specs.Steps.{AreRanked, RefusesStep};
+ghost use Rattle.tv_lexrank.specs.Nodes.{HasOwn, ShowsEnd};
 
+use crate::RankFault;
 use crate::offered::proofs_of;
 use crate::pieces::pieces_of;
 use crate::ranking::Ranking;
@@ -42,15 +44,20 @@ fn narrow_pieces(pieces: &[Marked])
     }
 }
 
-/// The node that shows that every run ends: at each location all states, by the ranks of the location.
-pub fn node_of(alloc: Global, ranking: &Ranking) -> Result<Node, AllocError>
+/// The node that shows that every run from the known states ends: at each location the rows that are known there, by the ranks of the
+/// location.
+pub fn node_of(alloc: Global, ranking: &Ranking) -> Result<Node, RankFault>
     requires { AreRanked ranking.now }
-    ensures { IfOk result (λ node. IsRankedNode (cases_of ranking.now.about.now) node) }
+    ensures ranked { IfOk result (ShowsEnd (cases_of ranking.now.about.now) ranking.now.known.now.pieces.items) }
+    ensures refusals { IfErr result (RefusesStep ranking.now) }
 {
     let list = pieces_of(alloc, ranking)?;
     ranking.about.locations();
     narrow_pieces(&list);
-    let proofs = proofs_of(alloc, ranking)?;
+    let proofs = match proofs_of(alloc, ranking) {
+        Ok(proofs) => proofs,
+        Err(fault) => return Err(fault),
+    };
     let pieces = Pieces::new(alloc, list)?;
     Ok(leaf(alloc, pieces, ranking.count, proofs))
 }

@@ -1,13 +1,15 @@
 // The proofs of the node of a ranking: one for each case, by the locations where they start.
 
 ghost use Rattle.std.specs.Prelude.{◌≡◌, ◌<◌, length, map, IfOk, take};
+ghost use Rattle.std.specs.Result.{IfErr};
 ghost use Rattle.tv_cases.specs.LinearCases.{leaving, from_of};
 ghost use Rattle.tv_cases.specs.Systems.{cases_of};
 ghost use Rattle.tv_cases.specs.Views.{case_views};
 ghost use Rattle.tv_places.specs.Places.{IsIndexOf};
-ghost use Rattle.tv_lexrank.specs.Steps.{AreRanked};
+ghost use Rattle.tv_lexrank.specs.Steps.{AreRanked, RefusesStep};
 ghost use Rattle.tv_lexrank.specs.Offered.{IsStepProof, AreStepsShown, AreShownBelow};
 
+use crate::RankFault;
 use crate::ranking::Ranking;
 use crate::step::step_cover;
 use std::alloc::{AllocError, Global};
@@ -18,12 +20,16 @@ use tv_places::{Stand, count_of, index, place_at};
 use tv_simplex::push_item;
 
 /// The proof of the step over a case.
-fn step_proof(alloc: Global, ranking: &Ranking, number: u32) -> Result<Proof, AllocError>
+fn step_proof(alloc: Global, ranking: &Ranking, number: u32) -> Result<Proof, RankFault>
     requires ranked { AreRanked ranking.now }
     requires number { number < length (cases_of ranking.now.about.now).cases }
-    ensures { IfOk result (λ p. IsStepProof ranking.now number p) }
+    ensures shows { IfOk result (λ p. IsStepProof ranking.now number p) }
+    ensures refusals { IfErr result (RefusesStep ranking.now) }
 {
-    let tree = step_cover(alloc, ranking, number)?;
+    let tree = match step_cover(alloc, ranking, number) {
+        Ok(tree) => tree,
+        Err(fault) => return Err(fault),
+    };
     match Cover::new(tree) {
         Some(cover) => Ok(Proof::Covered(cover)),
         None => unreachable!(),
@@ -37,17 +43,18 @@ fn push_steps(
     ranking: &Ranking,
     stands: &[Stand],
     location: u32,
-) -> Result<(), AllocError>
+) -> Result<(), RankFault>
     requires ranked { AreRanked ranking.now }
     requires stands { IsIndexOf (map from_of (cases_of ranking.now.about.now).cases) stands.now }
-    ensures { IfOk result (λ _. AreStepsShown ranking.now location (leaving location (cases_of ranking.now.about.now).cases) proofs.old.items proofs.new.items) }
+    ensures shown { IfOk result (λ _. AreStepsShown ranking.now location (leaving location (cases_of ranking.now.about.now).cases) proofs.old.items proofs.new.items) }
+    ensures refusals { IfErr result (RefusesStep ranking.now) }
 {
     'places: for place in 0..count_of(stands, location) {
         match place_at(stands, location, place) {
-            Some(number) => {
-                let proof = step_proof(alloc, ranking, number)?;
-                push_item(proofs, proof)?;
-            }
+            Some(number) => match step_proof(alloc, ranking, number) {
+                Ok(proof) => push_item(proofs, proof)?,
+                Err(fault) => return Err(fault),
+            },
             None => unreachable!(),
         }
     }
@@ -66,15 +73,19 @@ fn starts_of(alloc: Global, list: &[Case]) -> Result<Vec<u32>, AllocError>
 }
 
 /// The proofs for all cases, by the locations where they start.
-pub fn proofs_of(alloc: Global, ranking: &Ranking) -> Result<Vec<Proof>, AllocError>
+pub fn proofs_of(alloc: Global, ranking: &Ranking) -> Result<Vec<Proof>, RankFault>
     requires { AreRanked ranking.now }
-    ensures { IfOk result (λ v. AreShownBelow ranking.now (cases_of ranking.now.about.now).locations v.items) }
+    ensures shown { IfOk result (λ v. AreShownBelow ranking.now (cases_of ranking.now.about.now).locations v.items) }
+    ensures refusals { IfErr result (RefusesStep ranking.now) }
 {
     let starts = starts_of(alloc, ranking.about.list())?;
     let stands = index(alloc, &starts)?;
     let mut proofs = Vec::new(alloc);
     'locations: for location in 0..ranking.about.locations() {
-        push_steps(&mut proofs, alloc, ranking, &stands, location)?;
+        match push_steps(&mut proofs, alloc, ranking, &stands, location) {
+            Ok(()) => {}
+            Err(fault) => return Err(fault),
+        }
     }
     Ok(proofs)
 }

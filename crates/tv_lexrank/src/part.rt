@@ -1,10 +1,9 @@
 // The ranks of one component.
 
-ghost use Rattle.std.specs.Prelude.{◌≡◌, length, IfOk};
+ghost use Rattle.std.specs.Prelude.{IfOk};
 ghost use Rattle.std.specs.Result.{IfErr};
 ghost use Rattle.tv_cases.specs.Systems.{cases_of};
 ghost use Rattle.tv_lexrank.specs.Ranking.{HasLexicographicRanking};
-ghost use Rattle.tv_lexrank.specs.Rounds.{AreBare};
 ghost use Rattle.tv_lexrank.specs.Parts.{IsPartedIn, IsDone, AreGrouped, RefusesPartIn};
 
 use crate::component::Component;
@@ -12,7 +11,6 @@ use crate::greedy::{Greedy, rounds_of};
 use crate::sorting::{Sorted, sort_cases};
 use crate::{RankFault, Round};
 use std::alloc::Global;
-use tv_linear::Region;
 
 /// A component: its cases, and the rounds that take out those with a rational point.
 #[derive(Drop)]
@@ -31,13 +29,11 @@ pub enum Parted {
     },
 }
 
-/// Ranks the cases inside a component, without known rows.
-pub fn part_of(alloc: Global, component: &Component, known: &Region) -> Result<Parted, RankFault>
-    requires pieces { length known.now.pieces.items ≡ (cases_of component.now.about.now).locations }
-    requires bare { AreBare known.now.pieces.items }
-    ensures parted { IfOk result (λ p. IsPartedIn component.now known.now.pieces.items p) }
+/// Ranks the cases inside a component.
+pub fn part_of(alloc: Global, component: &Component) -> Result<Parted, RankFault>
+    ensures parted { IfOk result (λ p. IsPartedIn component.now p) }
     ensures never_stuck { AreGrouped (cases_of component.now.about.now) component.now.numbers.now → HasLexicographicRanking (cases_of component.now.about.now) → IfOk result IsDone }
-    ensures refusals { IfErr result (λ e. RefusesPartIn component.now known.now.pieces.items e) }
+    ensures refusals { IfErr result (λ e. RefusesPartIn component.now e) }
 {
     let sorted = match sort_cases(alloc, component) {
         Ok(sorted) => sorted,
@@ -47,7 +43,7 @@ pub fn part_of(alloc: Global, component: &Component, known: &Region) -> Result<P
         Ok(set) => set,
         Err(_) => return Err(RankFault::Memory),
     };
-    match rounds_of(alloc, component, known, set) {
+    match rounds_of(alloc, component, set) {
         Err(fault) => Err(fault),
         Ok(Greedy::Emptied(rounds)) => Ok(Parted::Done(Part { sorted, rounds })),
         Ok(Greedy::Left { left, barriers }) => Ok(Parted::Stuck {

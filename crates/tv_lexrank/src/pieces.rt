@@ -1,8 +1,7 @@
-// The pieces of the node of a ranking: one at each location, without rows, with its ranks.
+// The pieces of the node of a ranking: one at each location, with the rows that are known there and its ranks.
 
-ghost use Rattle.std.specs.Prelude.{◌≡◌, ◌+◌, ◌-◌, ◌<◌, ◌≤◌, ◌^◌, ◌++◌, [], length, All, IfOk, pos};
+ghost use Rattle.std.specs.Prelude.{◌≡◌, ◌+◌, ◌-◌, ◌<◌, ◌≤◌, ◌^◌, ◌++◌, [], length, IfOk, pos};
 ghost use Rattle.tv_linear.specs.Arithmetic.{constant_row};
-ghost use Rattle.tv_linear.specs.Linear.{columns};
 ghost use Rattle.tv_cases.specs.Systems.{cases_of};
 ghost use Rattle.tv_cert.specs.MarkedRows.{marked};
 ghost use Rattle.tv_cert.specs.declared.node.Mark.TheVariants.{Go};
@@ -11,6 +10,7 @@ ghost use Rattle.tv_lexrank.specs.Steps.{AreRanked};
 ghost use Rattle.tv_lexrank.specs.Pieces.{zero_ranks, padded_ranks, ranked_piece, ranked_pieces};
 
 use crate::Round;
+use crate::known::known_at;
 use crate::ranking::Ranking;
 use std::alloc::{AllocError, Global};
 use tv_cert::{Mark, Marked};
@@ -95,20 +95,20 @@ fn ranks_of(
     Ok(ranks)
 }
 
-/// The piece of all states at a location, with these ranks.
-fn whole_piece(
+/// The piece of these rows at a location, with these ranks. There is no room for 2^32 rows.
+fn piece_of(
     alloc: Global,
     variables: u32,
     location: u32,
+    rows: &[Row],
     ranks: &[Row],
 ) -> Result<Marked, AllocError>
     requires few { variables < 2 ^ 32 - 1 }
-    requires wide { All (λ r. columns r ≡ variables) ranks.now }
-    ensures { IfOk result (λ piece. piece ≡ marked location variables Go [] ranks.now) }
+    ensures { IfOk result (λ piece. piece ≡ marked location variables Go rows.now ranks.now) }
 {
-    match Marked::from_rows(alloc, location, Mark::Go, variables, &[], ranks)? {
+    match Marked::from_rows(alloc, location, Mark::Go, variables, rows, ranks)? {
         Some(piece) => Ok(piece),
-        None => unreachable!(),
+        None => Err(AllocError),
     }
 }
 
@@ -122,7 +122,8 @@ fn piece_at(alloc: Global, ranking: &Ranking, location: u32) -> Result<Marked, A
     let component = ranking.component_of(location);
     let rounds = ranking.rounds(component);
     let ranks = ranks_of(alloc, variables, component, rounds, location, ranking.count)?;
-    let piece = whole_piece(alloc, variables, location, &ranks)?;
+    let rows = known_at(&ranking.known.pieces, location);
+    let piece = piece_of(alloc, variables, location, rows, &ranks)?;
     Ok(piece)
 }
 

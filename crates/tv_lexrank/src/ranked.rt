@@ -3,7 +3,7 @@ use tv_cert::Node;
 /// Whether every run is shown to end.
 #[derive(Drop)]
 pub enum Ranked {
-    /// A node of a certificate that shows it: at each location all states, with their ranks.
+    /// A node of a certificate that shows it: at each location the known states, with their ranks.
     Node(Node),
     /// The numbers of cases that no family of terms ranks, in ascending order, and for each of them a barrier of the ranking
     /// system in which it falls.

@@ -2,27 +2,31 @@
 
 ghost use Rattle.std.specs.Prelude.{◌≡◌, ℕ, ◌+◌, ◌≤◌, ◌<◌, length, get_or};
 ghost use Rattle.tv_cases.specs.Systems.{cases_of};
-ghost use Rattle.tv_lexrank.specs.Rounds.{AreBare};
+ghost use Rattle.tv_lexrank.specs.Known.{AreKnown};
 ghost use Rattle.tv_lexrank.specs.Attempt.{AreBelow, NeverRises, AreFew, rounds_in};
 
 use crate::Round;
 use crate::part::Part;
 use tv_cases::Cases;
+use tv_farkas::Budget;
 use tv_linear::Region;
 
 /// The components of the location graph, with the rounds that rank them, and how many ranks a location has.
 #[derive(Drop)]
 pub struct Ranking<'a> {
     pub about: &'a Cases,
-    /// The region of all states.
+    /// The rows that are known at the locations.
     pub known: &'a Region,
     /// The number of the component of each location.
     pub numbers: &'a [u32],
     /// The components in the order of their numbers.
     pub parts: &'a [Part],
     pub count: u32,
+    /// How much work each cover may do.
+    pub budget: &'a Budget,
     pub ghost located: { length numbers.now ≡ (cases_of about.now).locations },
-    pub ghost bare: { AreBare known.now.pieces.items },
+    pub ghost known_rows: { AreKnown (cases_of about.now) known.now.pieces.items },
+    pub ghost splits: { budget.now.splits ≤ 128 },
     pub ghost below: { AreBelow (length parts.now) numbers.now },
     pub ghost never_rises: { NeverRises (cases_of about.now) numbers.now },
     pub ghost enough: { (number : ℕ) → length (rounds_in parts.now number) + 1 ≤ count },

@@ -1,19 +1,21 @@
-// The cases inside a component: those with a rational point, and those whose guards are refuted.
+// The cases inside a component: those with a rational point, and those whose rows are refuted.
 
-ghost use Rattle.std.specs.Prelude.{◌≡◌, ◌+◌, ◌<◌, ◌≤◌, ◌-◌, ◌^◌, length, get_or, All, IfOk, IsTrue, ◌↔◌};
+ghost use Rattle.std.specs.Prelude.{◌≡◌, ◌+◌, ◌<◌, ◌≤◌, ◌-◌, ◌^◌, length, All, IfOk};
 ghost use Rattle.std.specs.Result.{IfErr};
 ghost use Rattle.tv_linear.specs.Linear.{columns as width};
 ghost use Rattle.tv_cases.specs.Systems.{cases_of};
 ghost use Rattle.tv_cases.specs.Views.{case_view, case_views};
 ghost use Rattle.tv_cases.specs.LinearCases.{IsCase};
 ghost use Rattle.tv_rank.specs.Ways.{case_at};
-ghost use Rattle.tv_lexrank.specs.Sorting.{IsSettled, RefusesEmpty, LeadsInside, IsSortedIn, RefusesSortingIn};
+ghost use Rattle.tv_lexrank.specs.Known.{HaveRows};
+ghost use Rattle.tv_lexrank.specs.Sorting.{IsSettled, IsTaken, RefusesGuards, RefusesRows, LeadsInside, way_inside, IsSortedIn, RefusesSortingIn};
 
 use crate::RankFault;
 use crate::component::Component;
+use crate::known::{is_bare, known_at, rows_with};
 use std::alloc::{AllocError, Global};
 use tv_cases::{Case, Cases};
-use tv_farkas::{Refuted, refute};
+use tv_farkas::{CoverFault, Judged, Refuted, judge, refute};
 use tv_linear::{Row, shortened};
 use tv_places::{count_of, place_at};
 use tv_rank::Name;
@@ -24,13 +26,13 @@ use tv_simplex::push_item;
 pub struct Sorted {
     /// Those with a rational point.
     pub set: Vec<u32>,
-    /// Those without, and for each multipliers that refute its guards.
+    /// Those without, and for each multipliers that refute the known rows where it starts and its guards.
     pub empty: Vec<u32>,
     pub refutations: Vec<Vec<i64>>,
 }
 
 /// Multipliers that refute the guards of a case, or `None` where they have a rational point.
-fn settle_case(
+fn settle_guards(
     alloc: Global,
     guards: &[Row],
     columns: u32,
@@ -40,7 +42,7 @@ fn settle_case(
     requires few { columns < 2 ^ 32 - 1 }
     requires even { All (λ r. width r ≡ columns) guards.now }
     ensures settled { IfOk result (λ o. IsSettled columns guards.now o) }
-    ensures refusals { IfErr result (λ e. RefusesEmpty columns guards.now pivots number e) }
+    ensures refusals { IfErr result (λ e. RefusesGuards columns guards.now pivots number e) }
 {
     match refute(alloc, guards, columns, pivots) {
         Err(fault) => Err(RankFault::Solve {
@@ -57,6 +59,36 @@ fn settle_case(
             Ok(short) => Ok(Some(short)),
             Err(_) => Err(RankFault::Memory),
         },
+    }
+}
+
+/// Multipliers that refute rows of which some may be repeated, or `None` where they have a rational point.
+fn settle_rows(
+    alloc: Global,
+    rows: &[Row],
+    columns: u32,
+    pivots: u64,
+) -> Result<Option<Vec<i64>>, RankFault>
+    requires few { columns < 2 ^ 32 - 1 }
+    requires even { All (λ r. width r ≡ columns) rows.now }
+    ensures settled { IfOk result (λ o. IsSettled columns rows.now o) }
+    ensures refusals { IfErr result (λ e. RefusesRows columns rows.now pivots e) }
+{
+    match judge(alloc, rows, columns, pivots) {
+        Ok(Judged::Refuted(multipliers)) => Ok(Some(multipliers)),
+        Ok(
+            Judged::Point {
+                values: _,
+                scale: _,
+            },
+        ) => Ok(None),
+        Err(CoverFault::Solve { rows, fault }) => Err(RankFault::Solve {
+            system: Name::Rows(rows),
+            fault,
+        }),
+        Err(CoverFault::Memory) => Err(RankFault::Memory),
+        Err(CoverFault::Splits { .. }) => unreachable!(),
+        Err(CoverFault::Wide { .. }) => unreachable!(),
     }
 }
 
@@ -77,25 +109,48 @@ pub fn case_of(about: &Cases, number: u32) -> &Case
     case_in(about.list(), number)
 }
 
-/// Multipliers that refute the guards of the case with a number, or `None` where they have a rational point.
+/// The same of the rows that are met where the case with a number is taken, of which some are known.
+fn settle_met(
+    alloc: Global,
+    component: &Component,
+    number: u32,
+) -> Result<Option<Vec<i64>>, RankFault>
+    requires number { number < length (cases_of component.now.about.now).cases }
+    requires inside { LeadsInside component.now.numbers.now component.now.number (case_at (cases_of component.now.about.now).cases number) }
+    requires rows { HaveRows component.now.known.now.pieces.items }
+    ensures settled { IfOk result (λ o. IsTaken (cases_of component.now.about.now).variables (way_inside component.now number) o) }
+    ensures refusals { IfErr result (λ e. RefusesSortingIn component.now e) }
+{
+    let case = case_of(component.about, number);
+    let columns = component.about.variables() + case.draws;
+    let known = known_at(&component.known.pieces, case.from);
+    let rows = rows_with(alloc, known, &case.guards.rows, columns)?;
+    match settle_rows(alloc, &rows, columns, component.pivots) {
+        Ok(settled) => Ok(settled),
+        Err(fault) => Err(fault),
+    }
+}
+
+/// Multipliers that refute the rows that are met where the case with a number is taken, or `None` where they have a rational point.
 fn settle_number(
     alloc: Global,
-    about: &Cases,
+    component: &Component,
     number: u32,
-    pivots: u64,
 ) -> Result<Option<Vec<i64>>, RankFault>
-    requires { number < length (cases_of about.now).cases }
-    ensures settled { IfOk result (λ o. IsSettled ((cases_of about.now).variables + (case_at (cases_of about.now).cases number).draws) (case_at (cases_of about.now).cases number).guards o) }
-    ensures refusals { IfErr result (λ e. RefusesEmpty ((cases_of about.now).variables + (case_at (cases_of about.now).cases number).draws) (case_at (cases_of about.now).cases number).guards pivots number e) }
+    requires number { number < length (cases_of component.now.about.now).cases }
+    requires inside { LeadsInside component.now.numbers.now component.now.number (case_at (cases_of component.now.about.now).cases number) }
+    ensures settled { IfOk result (λ o. IsTaken (cases_of component.now.about.now).variables (way_inside component.now number) o) }
+    ensures refusals { IfErr result (λ e. RefusesSortingIn component.now e) }
 {
-    let case = case_of(about, number);
-    settle_case(
-        alloc,
-        &case.guards.rows,
-        about.variables() + case.draws,
-        number,
-        pivots,
-    )
+    if !is_bare(&component.known.pieces) {
+        return settle_met(alloc, component, number);
+    }
+    let case = case_of(component.about, number);
+    let columns = component.about.variables() + case.draws;
+    match settle_guards(alloc, &case.guards.rows, columns, number, component.pivots) {
+        Ok(settled) => Ok(settled),
+        Err(fault) => Err(fault),
+    }
 }
 
 /// Sorts one more case, which leads inside the component.
@@ -110,7 +165,7 @@ fn sort_inside(
     ensures sorted { IfOk result (λ _. IsSortedIn component.now number sorted.old → IsSortedIn component.now (number + 1) sorted.new) }
     ensures refusals { IfErr result (λ e. RefusesSortingIn component.now e) }
 {
-    let settled = match settle_number(alloc, component.about, number, component.pivots) {
+    let settled = match settle_number(alloc, component, number) {
         Ok(settled) => settled,
         Err(fault) => return Err(fault),
     };

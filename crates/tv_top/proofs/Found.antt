@@ -17,7 +17,7 @@ use Rattle.tv_cases.specs.LinearCases.{CaseSystem}
 use Rattle.tv_lexrank.specs.First.{RefusesFirst}
 use Rattle.tv_lexrank.specs.declared.fault.RankFault.{RankFault}
 use Rattle.tv_lexrank.specs.declared.fault.RankFault.TheVariants as faults
-use Rattle.tv_top.specs.Answers.{unsolved}
+use Rattle.tv_top.specs.Answers.{IsOfSystem, unsolved}
 use Rattle.tv_top.specs.Tasks.{Task}
 use Rattle.tv_top.specs.Finding.{Finds}
 
@@ -42,4 +42,13 @@ shown_term claim (Disproved k values) says e = absurd says
 -- a linear system that was not settled is what is answered
 pub unsolved_so : (task : Task) (p : System) (f : Property) (about : CaseSystem) (fault : RankFault) → normal f ≡ term → RefusesFirst about task.limits.pivots fault → Finds task p f about (unsolved fault)
 unsolved_so task p f about (faults.Solve system e) n h = (n, h)
+unsolved_so task p f about (faults.Open taken values) n h = tt
+unsolved_so task p f about (faults.Cover e) n h = tt
 unsolved_so task p f about faults.Memory n h = tt
+
+-- without known rows each fault is that of a named system
+pub of_system : (about : CaseSystem) (pivots : ℕ) (fault : RankFault) → RefusesFirst about pivots fault → IsOfSystem fault
+of_system about pivots (faults.Solve system e) h = tt
+of_system about pivots (faults.Open taken values) h = h
+of_system about pivots (faults.Cover e) h = h
+of_system about pivots faults.Memory h = tt

@@ -1,4 +1,4 @@
-use Rattle.std.proofs.Common.{◌≡◌, ℕ, List, sym, subst}
+use Rattle.std.proofs.Common.{◌≡◌, ℕ, List}
 use Rattle.tv_program.specs.Systems.{System}
 use Rattle.tv_formula.specs.Normal.{normal}
 use Rattle.tv_formula.specs.Properties.{Property, term}

@@ -192,9 +192,18 @@ without_property (formulas.Deep at) = Property (formulas.Deep at)
 without_property formulas.Long = Property formulas.Long
 without_property formulas.Memory = Memory
 
--- the answer where a linear system of the search was not settled
+-- the fault is that of a named system, or memory is wanting
+abbrev pub IsOfSystem : RankFault → Type 0
+IsOfSystem (ranking.Solve system fault) = Unit {0}
+IsOfSystem (ranking.Open taken values) = ⊥
+IsOfSystem (ranking.Cover fault) = ⊥
+IsOfSystem ranking.Memory = Unit {0}
+
+-- the answer where a linear system of the search was not settled; no other fault comes without known rows
 abbrev pub unsolved : RankFault → Answer
 unsolved (ranking.Solve system fault) = Unsolved system fault
+unsolved (ranking.Open taken values) = Memory
+unsolved (ranking.Cover fault) = Memory
 unsolved ranking.Memory = Memory
 
 -- the answer for a text that is not accepted as a certificate

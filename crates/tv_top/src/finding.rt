@@ -11,7 +11,7 @@ ghost use Rattle.tv_cert.specs.Claims.{IsClaim, StatesIts, claim_variables, abou
 ghost use Rattle.tv_shape.specs.Certificates.{IsOf};
 ghost use Rattle.tv_lexrank.specs.Certified.{IsProofOfEnd};
 ghost use Rattle.tv_lexrank.specs.Nodes.{IsRankedNode};
-ghost use Rattle.tv_top.specs.Answers.{unsolved};
+ghost use Rattle.tv_top.specs.Answers.{IsOfSystem, unsolved};
 ghost use Rattle.tv_top.specs.Finding.{Finds, IsShown, IsTextOf};
 ghost use Rattle.tv_top.specs.Views.{task_view};
 
@@ -29,11 +29,14 @@ use tv_sound::check_claim;
 
 /// The answer where a linear system of the search was not settled.
 fn unsolved(fault: RankFault) -> Answer
+    requires { IsOfSystem fault }
     ensures { result ≡ unsolved fault }
 {
     match fault {
         RankFault::Memory => Answer::Memory,
         RankFault::Solve { system, fault } => Answer::Unsolved { system, fault },
+        RankFault::Open { .. } => unreachable!(),
+        RankFault::Cover { .. } => unreachable!(),
     }
 }
 

@@ -1,31 +1,6 @@
-use Rattle.std.proofs.Common.{subst}
 use Rattle.tv_cases.specs.Systems.{cases_of}
-use Rattle.tv_cert.specs.Claims.{about_with, shown}
-use Rattle.tv_cert.specs.declared.node.Verdict.TheVariants.{Proved}
-use Rattle.tv_shape.specs.Certificates.{IsOf, IsRefused}
-use Rattle.tv_shape.specs.Fitting.{IsFirstFault}
-use Rattle.tv_shape.specs.declared.fault.ShapeFault.TheVariants.{Shape, Deep}
-use Rattle.tv_lexrank.proofs.CertifiedLemmas.{is_proof, no_fault}
+use Rattle.tv_lexrank.proofs.CertifiedLemmas.{whole_root}
 use Rattle.tv_lexrank.proofs.certificate.ranked_certificate.Goals as goal
 
-pub unreachable-requires : goal.unreachable-requires
-unreachable-requires c =
-    let about = cases_of c.args.about.now in
-    let tree = c.bare_cover.result in
-    let x = Shape c.in-Err-Shape.field-0-0 in
-    no_fault about c.args.node tree c.args.about.now.are_cases.starts c.requires.ranked c.bare_cover.ensures x
-    (subst (λ f. IsFirstFault (about_with about) f c.args.node (Proved tree) x) c.requires.ends (subst (λ y. IsRefused (about_with about) (shown c.args.claim.now (Proved tree)) c.args.node (Proved tree) y) c.in-Err-Shape.field-0-is c.in-Err-Shape.ensures))
-
-pub unreachable-requires-in-Err-Deep : goal.unreachable-requires-in-Err-Deep
-unreachable-requires-in-Err-Deep c =
-    let about = cases_of c.args.about.now in
-    let tree = c.bare_cover.result in
-    let x = Deep c.in-Err-Deep.field-0-0 in
-    no_fault about c.args.node tree c.args.about.now.are_cases.starts c.requires.ranked c.bare_cover.ensures x
-    (subst (λ f. IsFirstFault (about_with about) f c.args.node (Proved tree) x) c.requires.ends (subst (λ y. IsRefused (about_with about) (shown c.args.claim.now (Proved tree)) c.args.node (Proved tree) y) c.in-Err-Deep.field-0-is c.in-Err-Deep.ensures))
-
-pub returns-in-Ok : goal.returns-in-Ok
-returns-in-Ok c =
-    let about = cases_of c.args.about.now in
-    is_proof about c.args.node c.bare_cover.result c.args.about.now.are_cases.starts c.requires.ranked c.bare_cover.ensures c.in-Ok.certificate
-    (subst (λ f. IsOf (about_with about) f c.in-Ok.certificate) c.requires.ends c.in-Ok.ensures.0) c.in-Ok.ensures.1 c.in-Ok.ensures.2
+pub certificate_of-requires-clause-root : goal.certificate_of-requires-clause-root
+certificate_of-requires-clause-root c = whole_root (cases_of c.args.about.now) c.args.node c.whole_cover-start.result c.args.about.now.are_cases.starts c.requires.ranked c.whole_cover-start.ensures

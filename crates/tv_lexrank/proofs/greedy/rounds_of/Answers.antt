@@ -12,7 +12,7 @@ rounds-init c =
     let o = c.args.set.ok in
     let n = c.len-count.ensures in
     record {
-      lead = subst (λ z. Lead (cases_of c.args.component.now.about.now) c.args.known.now.pieces.items c.args.set.items z c.args.set.items) (sym c.new-rounds.ensures.items) (none c.args.set.items);
+      lead = subst (λ z. Lead (cases_of c.args.component.now.about.now) c.args.component.now.known.now.pieces.items c.args.set.items z c.args.set.items) (sym c.new-rounds.ensures.items) (none c.args.set.items);
       as_many = ap length c.new-rounds.ensures.items;
       counted = omega (arith, o, n);
       fewer = omega (arith, o, n);
@@ -21,15 +21,15 @@ rounds-init c =
     }
 
 pub take_turn-requires-clause-points : goal.take_turn-requires-clause-points
-take_turn-requires-clause-points c = subst (λ z. PointsOf (cases_of c.args.component.now.about.now) c.args.known.now.pieces.items z) (sym c.deref.ensures.value) c.rounds.invariant.points
+take_turn-requires-clause-points c = subst (λ z. PointsOf (cases_of c.args.component.now.about.now) c.args.component.now.known.now.pieces.items z) (sym c.deref.ensures.value) c.rounds.invariant.points
 
 pub returns-in-Err-clause-refusals : goal.returns-in-Err-clause-refusals
-returns-in-Err-clause-refusals c = refused_round (cases_of c.args.component.now.about.now) c.args.known.now.pieces.items c.args.set.items c.args.component.now.pivots c.args.component.now.number c.rounds.rounds.items c.rounds.left.items c.rounds.round c.rounds.invariant.lead c.rounds.invariant.as_many c.in-Err.fault (subst (λ z. RefusesTurn (cases_of c.args.component.now.about.now) c.args.known.now.pieces.items z c.args.component.now.pivots c.args.component.now.number c.rounds.round c.in-Err.fault) c.deref.ensures.value c.in-Err.ensures.refusals)
+returns-in-Err-clause-refusals c = refused_round (cases_of c.args.component.now.about.now) c.args.component.now.known.now.pieces.items c.args.set.items c.args.component.now.pivots c.args.component.now.number c.rounds.rounds.items c.rounds.left.items c.rounds.round c.rounds.invariant.lead c.rounds.invariant.as_many c.in-Err.fault (subst (λ z. RefusesTurn (cases_of c.args.component.now.about.now) c.args.component.now.known.now.pieces.items z c.args.component.now.pivots c.args.component.now.number c.rounds.round c.in-Err.fault) c.deref.ensures.value c.in-Err.ensures.refusals)
 
 pub rounds-preserved : goal.rounds-preserved
 rounds-preserved c =
     let about = cases_of c.args.component.now.about.now in
-    let known = c.args.known.now.pieces.items in
+    let known = c.args.component.now.known.now.pieces.items in
     let turn = subst (λ t. IsTurn about known c.rounds.left.items t) c.in-Took.is (subst (λ z. IsTurn about known z c.in-Ok.turn) c.deref.ensures.value c.in-Ok.ensures.turn) in
     let rest = c.in_ok-left-in-Took.ensures ∙ ap (λ z. without z c.in-Took.taken.place) c.deref-in-Took.ensures.value in
     let m = length-without c.rounds.left.items c.in-Took.taken.place turn.within in

@@ -20,4 +20,4 @@ push_steps-requires-clause-stands c =
     subst (λ z. IsIndexOf z c.deref-in-locations.result.now) e (subst (λ z. IsIndexOf c.deref.result.now z) (sym c.deref-in-locations.ensures.value) c.in_ok-stands.ensures)
 
 pub locations-preserved : goal.locations-preserved
-locations-preserved c = location_more c.args.ranking.now c.locations.location c.locations.proofs.items _ c.locations.invariant c.in_ok-push_steps.ensures
+locations-preserved c = location_more c.args.ranking.now c.locations.location c.locations.proofs.items _ c.locations.invariant c.in-Ok.ensures.shown

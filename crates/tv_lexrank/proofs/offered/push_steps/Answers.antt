@@ -15,10 +15,10 @@ places-preserved c =
     let r = c.args.ranking.now in
     let cases = (cases_of r.about.now).cases in
     let at = leaving_at cases c.args.location c.places.place c.in-Some.number (sym (c.place_at.ensures (map from_of cases) c.requires.stands) ∙ c.in-Some.is) in
-    steps_more r c.args.location c.places.place c.in-Some.number c.in_ok-proof-in-Some.proof _ _ _ at c.in_ok-proof-in-Some.ensures c.places.invariant c.in_ok-push_item-in-Some.ensures
+    steps_more r c.args.location c.places.place c.in-Some.number c.in-Ok.proof _ _ _ at c.in-Ok.ensures.shows c.places.invariant c.in_ok-push_item-in-Ok.ensures
 
-pub returns : goal.returns
-returns c =
+pub returns-clause-shown : goal.returns-clause-shown
+returns-clause-shown c =
     let r = c.args.ranking.now in
     let cases = (cases_of r.about.now).cases in
     let l = c.args.location in

@@ -7,13 +7,13 @@ use Rattle.tv_lexrank.specs.Rounds.{Chain}
 use Rattle.tv_lexrank.proofs.Chained.{emptied_chain}
 use Rattle.tv_lexrank.proofs.NotStuck.{never_left}
 use Rattle.tv_lexrank.proofs.SortLemmas.{few_below}
-use Rattle.tv_lexrank.proofs.PartLemmas.{bare_points, are_inside}
+use Rattle.tv_lexrank.proofs.PartLemmas.{are_inside, stuck_left}
 use Rattle.tv_lexrank.proofs.part.part_of.Goals as goal
 
 pub rounds_of-requires-clause-points : goal.rounds_of-requires-clause-points
 rounds_of-requires-clause-points c =
     let e : c.in-Ok-from_slice.set.items ≡ c.in-Ok.sorted.set.items = search rules in
-    subst (PointsOf (cases_of c.args.component.now.about.now) c.args.known.now.pieces.items) (sym e) (bare_points (cases_of c.args.component.now.about.now) c.args.known.now.pieces.items c.in-Ok.sorted.set.items c.requires.bare c.in-Ok.ensures.sorted.points)
+    subst (PointsOf (cases_of c.args.component.now.about.now) c.args.component.now.known.now.pieces.items) (sym e) c.in-Ok.ensures.sorted.points
 
 pub rounds_of-requires-clause-few : goal.rounds_of-requires-clause-few
 rounds_of-requires-clause-few c =
@@ -28,7 +28,7 @@ rounds_of-requires-clause-few c =
 pub returns-in-Ok-Emptied-clause-parted : goal.returns-in-Ok-Emptied-clause-parted
 returns-in-Ok-Emptied-clause-parted c =
     let about = cases_of c.args.component.now.about.now in
-    let known = c.args.known.now.pieces.items in
+    let known = c.args.component.now.known.now.pieces.items in
     let e : c.in-Ok-from_slice.set.items ≡ c.in-Ok.sorted.set.items = search rules in
     let g = subst (λ z. IsGreedy about known c.in-Ok-from_slice.set.items z) c.in-Ok-Emptied.field-0-is c.in-Ok-Emptied.ensures.greedy in
     record {
@@ -39,8 +39,16 @@ returns-in-Ok-Emptied-clause-parted c =
 pub returns-in-Ok-Left-clause-never_stuck : goal.returns-in-Ok-Left-clause-never_stuck
 returns-in-Ok-Left-clause-never_stuck c = λ grouped ranking.
     let about = cases_of c.args.component.now.about.now in
-    let known = c.args.known.now.pieces.items in
+    let known = c.args.component.now.known.now.pieces.items in
     let e : c.in-Ok-from_slice.set.items ≡ c.in-Ok.sorted.set.items = search rules in
     let g = subst (λ z. IsGreedy about known z c.in-Ok-Left.field-0) e c.in-Ok-Left.ensures.greedy in
-    subst IsEmptied c.in-Ok-Left.field-0-is (never_left about known c.in-Ok.sorted.set.items c.in-Ok-Left.field-0 c.requires.bare
-    (are_inside about c.args.component.now.numbers.now c.args.component.now.number c.in-Ok.sorted.set.items c.in-Ok.sorted.empty.items (lists c.in-Ok.sorted.refutations.items) c.args.component.now.about.now.are_cases grouped c.in-Ok.ensures.sorted) ranking g)
+    subst IsEmptied c.in-Ok-Left.field-0-is (never_left about known c.in-Ok.sorted.set.items c.in-Ok-Left.field-0
+    (are_inside about known c.args.component.now.numbers.now c.args.component.now.number c.in-Ok.sorted.set.items c.in-Ok.sorted.empty.items (lists c.in-Ok.sorted.refutations.items) c.args.component.now.about.now.are_cases grouped c.in-Ok.ensures.sorted) ranking g)
+
+pub returns-in-Ok-Left-clause-parted : goal.returns-in-Ok-Left-clause-parted
+returns-in-Ok-Left-clause-parted c =
+    let about = cases_of c.args.component.now.about.now in
+    let known = c.args.component.now.known.now.pieces.items in
+    let e : c.in-Ok-from_slice.set.items ≡ c.in-Ok.sorted.set.items = search rules in
+    let g = subst (λ z. IsGreedy about known c.in-Ok.sorted.set.items z) c.in-Ok-Left.field-0-is (subst (λ z. IsGreedy about known z c.in-Ok-Left.field-0) e c.in-Ok-Left.ensures.greedy) in
+    stuck_left about known c.in-Ok.sorted.set.items c.in-Ok-Left.left c.in-Ok-Left.barriers c.in-Ok.ensures.sorted.ascends g

@@ -1,5 +1,5 @@
-use Rattle.std.proofs.Common.{◌≡◌, ◌∙◌, ℕ, ◌+◌, ◌<◌, ◌≤◌, length, sym, subst, arith}
-use Rattle.std.specs.Prelude.{slice_get, Some, None, Option}
+use Rattle.std.proofs.Common.{◌≡◌, ◌∙◌, ℕ, length, sym, subst, arith}
+use Rattle.std.specs.Prelude.{Some, None, Option}
 use Rattle.std.proofs.lemmas.Option.{slice_get-get_or}
 use Rattle.tv_cases.specs.Systems.{cases_of}
 use Rattle.tv_places.specs.Places.{places_of}
@@ -31,8 +31,8 @@ places-preserved c =
     let at = inside_at about q.numbers.now q.number q.count c.places.place c.in-Some.number q.below h in
     let s = c.places.sorted in
     let n = c.sort_inside.new.sorted in
-    let until = sorted_next about q.numbers.now q.number q.count c.places.place c.in-Some.number s.set.items s.empty.items (lists s.refutations.items) h at c.places.invariant in
-    subst (λ z. AreSorted about q.numbers.now q.number z n.set.items n.empty.items (lists n.refutations.items)) (behind_next about q.numbers.now q.number q.count c.places.place c.in-Some.number at) (c.in-Ok.ensures.sorted until)
+    let until = sorted_next about q.numbers.now q.number q.count q.known.now.pieces.items c.places.place c.in-Some.number s.set.items s.empty.items (lists s.refutations.items) h at c.places.invariant in
+    subst (λ z. AreSorted about q.known.now.pieces.items q.numbers.now q.number z n.set.items n.empty.items (lists n.refutations.items)) (behind_next about q.numbers.now q.number q.count c.places.place c.in-Some.number at) (c.in-Ok.ensures.sorted until)
 
 none_not_some : (o : Option ℕ) (x : ℕ) → o ≡ None → o ≡ Some x → ⊥
 none_not_some o x e f = absurd cc
@@ -55,4 +55,4 @@ returns-clause-sorted c =
     let e = c.places.auto.place-end in
     let n = c.count_of-place-end.ensures keys q.indexed in
     let all : c.places.place ≡ length (places_of q.number keys) = omega (arith, t, e, n) in
-    sorted_all about q.numbers.now q.number q.count c.places.place s.set.items s.empty.items (lists s.refutations.items) all c.places.invariant
+    sorted_all about q.numbers.now q.number q.count q.known.now.pieces.items c.places.place s.set.items s.empty.items (lists s.refutations.items) all c.places.invariant

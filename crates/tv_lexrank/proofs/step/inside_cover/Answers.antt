@@ -1,9 +1,8 @@
-use Rattle.std.proofs.Common.{◌≡◌, ◌∙◌, ◌+◌, ◌++◌, ◌∷◌, [], length, map, get_or, All, ap, sym, subst, arith, pos}
+use Rattle.std.proofs.Common.{◌∙◌, ◌+◌, ◌++◌, ◌∷◌, [], length, map, get_or, All, ap, sym, subst, arith, pos}
 use Rattle.std.proofs.lemmas.List.{length-map}
 use Rattle.tv_linear.specs.Arithmetic.{zeros}
 use Rattle.tv_cases.specs.Systems.{cases_of}
 use Rattle.tv_rank.specs.Given.{lists}
-use Rattle.tv_rank.specs.Ways.{case_at}
 use Rattle.tv_lexrank.specs.Covering.{IsLined}
 use Rattle.tv_lexrank.specs.Rounds.{falls_in, lines_of, place_in}
 use Rattle.tv_lexrank.specs.Steps.{IsFall, IsRefutation}
@@ -11,22 +10,22 @@ use Rattle.tv_lexrank.proofs.StepLemmas.{chain_lined, stands_if, stands_empty}
 use Rattle.tv_lexrank.proofs.ShowLemmas.{inside_shown, refuted_shown}
 use Rattle.tv_lexrank.proofs.step.inside_cover.Goals as goal
 
-pub fall_cover-requires-clause-lined : goal.fall_cover-requires-clause-lined
-fall_cover-requires-clause-lined c =
+pub inside_fall-requires-clause-lined : goal.inside_fall-requires-clause-lined
+inside_fall-requires-clause-lined c =
     let r = c.args.ranking.now in
     let p = c.part-part.result.now in
     subst (All IsLined) (sym c.deref-then-place_in-len.ensures.value) (chain_lined (cases_of r.about.now) r.known.now.pieces.items p.sorted.set.items p.rounds.items c.part-part.ensures.part.chain)
 
-pub fall_cover-requires-clause-few : goal.fall_cover-requires-clause-few
-fall_cover-requires-clause-few c =
+pub inside_fall-requires-clause-few : goal.inside_fall-requires-clause-few
+inside_fall-requires-clause-few c =
     let r = c.args.ranking.now in
     let a = r.enough c.args.component in
     let b = r.few in
     let d = ap length (c.deref-then-place_in-len.ensures.value ∙ c.part-part.ensures.rounds) in
     omega (arith, a, b, d)
 
-pub returns-then-place_in-len : goal.returns-then-place_in-len
-returns-then-place_in-len c =
+pub falling_cover-requires-clause-falls : goal.falling_cover-requires-clause-falls
+falling_cover-requires-clause-falls c =
     let r = c.args.ranking.now in
     let k = c.args.number in
     let p = c.part-part.result.now in
@@ -35,12 +34,8 @@ returns-then-place_in-len c =
     let o = p.sorted.set.ok in
     let e = c.place_in.ensures.is ∙ ap (λ z. place_in z k) c.deref.ensures.value in
     let stands = stands_if p.sorted.set.items k (omega (arith, t, l, o, e)) in
-    let n = c.len-guards.ensures in
-    let m = c.case_of.result.now.guards.rows.ok in
-    let q = ap (λ z. length z.guards) c.case_of.ensures.is in
-    let count : c.len-guards.result ≡ length (case_at (cases_of r.about.now).cases k).guards = omega (arith, n, m, q) in
-    inside_shown r k c.args.component c.len-guards.result p c.in_ok-falls.falls c.ranges.component.fits c.part-part.ensures.part c.part-part.ensures.rounds c.requires.inside stands count
-    (subst (λ rs. IsFall (falls_in k rs + 2) ((zeros c.len-guards.result ++ pos 1 ∷ []) ∷ lines_of k rs) c.in_ok-falls.falls) c.deref-then-place_in-len.ensures.value c.in_ok-falls.ensures)
+    inside_shown r k c.args.component c.met_count.result p c.in_ok-fall.fall c.ranges.component.fits c.part-part.ensures.part c.part-part.ensures.rounds c.requires.inside stands c.met_count.ensures
+    (subst (λ rs. IsFall (falls_in k rs + 2) ((zeros c.met_count.result ++ pos 1 ∷ []) ∷ lines_of k rs) c.in_ok-fall.fall) c.deref-then-place_in-len.ensures.value c.in_ok-fall.ensures)
 
 pub refutation_cover-requires : goal.refutation_cover-requires
 refutation_cover-requires c =
@@ -51,15 +46,15 @@ refutation_cover-requires c =
     let l = c.len.ensures in
     let o = s.set.ok in
     let p = c.place_in.ensures.is ∙ ap (λ z. place_in z k) c.deref.ensures.value in
-    let e = stands_empty (cases_of r.about.now) r.numbers.now c.args.component k s.set.items s.empty.items (lists s.refutations.items) c.part-part.ensures.part.sorted c.requires.number c.requires.inside (λ q. absurd (omega (arith, f, l, o, p, q))) in
+    let e = stands_empty (cases_of r.about.now) r.known.now.pieces.items r.numbers.now c.args.component k s.set.items s.empty.items (lists s.refutations.items) c.part-part.ensures.part.sorted c.requires.number c.requires.inside (λ q. absurd (omega (arith, f, l, o, p, q))) in
     let a = e.0 in
     let b = c.place_in-place.ensures.is ∙ ap (λ z. place_in z k) c.deref-2.ensures.value in
     let d = ap length c.deref-3.ensures.value in
     let m = length-map s.refutations.items (λ v. v.items) in
     omega (arith, a, b, d, m)
 
-pub returns : goal.returns
-returns c =
+pub returns-clause-shows : goal.returns-clause-shows
+returns-clause-shows c =
     let r = c.args.ranking.now in
     let k = c.args.number in
     let p = c.part-part.result.now in

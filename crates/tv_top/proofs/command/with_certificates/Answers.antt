@@ -1,7 +1,7 @@
-use Rattle.std.proofs.Common.{◌≡◌, ◌∙◌, ap, IfOk, codes}
+use Rattle.std.proofs.Common.{◌∙◌, ap, IfOk, codes}
 use Rattle.std.proofs.lemmas.Result.{IfOk-weaker}
-use Rattle.clap.specs.Simple.{App, app_of, with_rule}
-use Rattle.tv_top.specs.CommandLine.{flag, option}
+use Rattle.clap.specs.Simple.{App, with_rule}
+use Rattle.tv_top.specs.CommandLine.{flag}
 use Rattle.tv_top.proofs.command.with_certificates.Goals as goal
 
 pub returns : goal.returns

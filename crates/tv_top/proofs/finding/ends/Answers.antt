@@ -4,8 +4,11 @@ use Rattle.tv_cases.specs.Systems.{cases_of}
 use Rattle.tv_lexrank.specs.First.{RefusesFirst}
 use Rattle.tv_top.specs.Finding.{Finds}
 use Rattle.tv_top.specs.Views.{task_view}
-use Rattle.tv_top.proofs.Found.{unsolved_so}
+use Rattle.tv_top.proofs.Found.{of_system, unsolved_so}
 use Rattle.tv_top.proofs.finding.ends.Goals as goal
+
+pub unsolved-requires : goal.unsolved-requires
+unsolved-requires c = of_system (cases_of c.args.about.now) c.from.result c.in-Err.fault c.in-Err.ensures.refusals
 
 pub returns : goal.returns
 returns c = λ f is.

@@ -1,4 +1,4 @@
-use Rattle.std.proofs.Common.{◌≡◌, ◌∙◌, [], sym, ap, refl}
+use Rattle.std.proofs.Common.{◌∙◌, [], sym, ap, refl}
 use Rattle.std.specs.Prelude.{option_map}
 use Rattle.tv_text.proofs.StreamLemmas.{gave_nothing}
 use Rattle.tv_top.specs.Headline.{unasked, without_memory}

@@ -1,9 +1,8 @@
-use Rattle.std.proofs.Common.{◌≡◌, ◌≤◌, refl, ap, sym, ◌∙◌, Err, length, rules, subst}
+use Rattle.std.proofs.Common.{◌≡◌, ◌≤◌, ap, ◌∙◌, Err, length, rules, subst}
 use Rattle.std.specs.Prelude.{◌↔◌, ◌<◌}
 use Rattle.tv_text.specs.Stream.{count_passed}
 use Rattle.tv_text.specs.declared.reading.ReadError.{ReadError}
 use Rattle.tv_top.specs.Headline.{too_long, decided, failed, without_memory, most_bytes}
-use Rattle.tv_top.specs.Views.{task_view}
 use Rattle.tv_top.proofs.Asking.{above, means_same}
 use Rattle.tv_top.proofs.running.answered.Goals as goal
 

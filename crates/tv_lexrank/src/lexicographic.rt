@@ -5,10 +5,12 @@ ghost use Rattle.std.specs.Result.{IfErr};
 ghost use Rattle.tv_cases.specs.Systems.{cases_of};
 ghost use Rattle.tv_cases.specs.Views.{case_views};
 ghost use Rattle.tv_lexrank.specs.Ranking.{HasLexicographicRanking};
-ghost use Rattle.tv_lexrank.specs.Rounds.{AreBare};
+ghost use Rattle.tv_lexrank.specs.Known.{AreKnown};
 ghost use Rattle.tv_lexrank.specs.Attempt.{AreBelow, PartsFrom};
+ghost use Rattle.tv_lexrank.specs.Closing.{RefusesClosed};
 ghost use Rattle.tv_lexrank.specs.First.{arc_of, AreComponents, IsOutcome, IsNode, RefusesFirst};
-ghost use Rattle.tv_lexrank.specs.Nodes.{IsRankedNode};
+ghost use Rattle.tv_lexrank.specs.Nodes.{ShowsEnd};
+ghost use Rattle.tv_lexrank.specs.Outcomes.{IsAnswer, Refuses};
 
 use crate::attempt::{Attempt, bare_region, rank_components};
 use crate::node::node_of;
@@ -18,6 +20,7 @@ use crate::{RankFault, Ranked};
 use std::alloc::{AllocError, Global};
 use tv_cases::{Case, Cases};
 use tv_cert::Node;
+use tv_farkas::Budget;
 use tv_graph::{Arc, components};
 use tv_linear::Region;
 use tv_simplex::push_item;
@@ -61,13 +64,16 @@ fn node_of_parts(
     known: &Region,
     numbers: &[u32],
     parts: &[Part],
-) -> Result<Node, AllocError>
-    requires bare { AreBare known.now.pieces.items }
+    budget: &Budget,
+) -> Result<Node, RankFault>
+    requires known { AreKnown (cases_of about.now) known.now.pieces.items }
     requires components { AreComponents (cases_of about.now) numbers.now }
     requires below { AreBelow (length parts.now) numbers.now }
     requires few { length parts.now ≤ 1024 }
     requires parts { PartsFrom (cases_of about.now) known.now.pieces.items numbers.now 0 parts.now }
-    ensures { IfOk result (λ node. IsRankedNode (cases_of about.now) node) }
+    requires splits { budget.now.splits ≤ 128 }
+    ensures shows { IfOk result (ShowsEnd (cases_of about.now) known.now.pieces.items) }
+    ensures refusals { IfErr result (RefusesClosed (cases_of about.now) known.now.pieces.items budget.now) }
 {
     let count = rank_count(parts);
     let ranking = Ranking {
@@ -76,8 +82,12 @@ fn node_of_parts(
         numbers,
         parts,
         count,
+        budget,
     };
-    node_of(alloc, &ranking)
+    match node_of(alloc, &ranking) {
+        Ok(node) => Ok(node),
+        Err(fault) => Err(fault),
+    }
 }
 
 /// The components of the location graph, by the number of each location.
@@ -90,30 +100,63 @@ fn components_of(alloc: Global, about: &Cases) -> Result<Vec<u32>, AllocError>
     Ok(numbers)
 }
 
-/// Looks for ranks under which every run ends, without known rows.
+/// Looks for ranks under which every run ends that starts where the known rows are met.
+///
+/// The known rows stand in a piece for each location, in the order of the locations. They are to be closed: each case is to lead from the
+/// known rows where it starts into those where it ends, which a cover of its own shows beside the fall. No cover is asked where no row is
+/// known at the end.
 ///
 /// The strongly connected components of the location graph are ranked one after the other, in the order of their numbers. Of the
-/// cases inside a component those whose guards have a rational point are taken out round by round: the first over which some family
-/// of terms falls that grows over none of those that are left. The ranks of a location are the number of its component, which
-/// falls where a case leaves the component, and then the terms of the component's rounds.
+/// cases inside a component those whose known rows and guards have a rational point are taken out round by round: the first over which
+/// some family of terms falls that grows over none of those that are left. The ranks of a location are the number of its component,
+/// which falls where a case leaves the component, and then the terms of the component's rounds.
 ///
 /// Each round is that of A. Podelski and A. Rybalchenko, "A complete method for the synthesis of linear ranking functions",
 /// VMCAI 2004. Where no family falls over any case that is left, the set is stuck; where the cases have a lexicographic linear
 /// ranking over the rationals this never comes.
+///
+/// `Open` comes where a case leaves the known rows, `Cover` where it is not settled whether one does, and `Solve` where the named system is
+/// not settled.
+pub fn lex_rank(
+    alloc: Global,
+    about: &Cases,
+    known: &Region,
+    budget: &Budget,
+) -> Result<Ranked, RankFault>
+    requires known { AreKnown (cases_of about.now) known.now.pieces.items }
+    requires splits { budget.now.splits ≤ 128 }
+    ensures ranked { IfOk result (IsAnswer (cases_of about.now) known.now.pieces.items) }
+    ensures never_stuck { HasLexicographicRanking (cases_of about.now) → IfOk result IsNode }
+    ensures refusals { IfErr result (Refuses (cases_of about.now) known.now.pieces.items budget.now) }
+{
+    let numbers = components_of(alloc, about)?;
+    let count = count_of(&numbers);
+    match rank_components(alloc, about, known, &numbers, count, budget.pivots) {
+        Err(fault) => Err(fault),
+        Ok(Attempt::Stuck { set, barriers }) => Ok(Ranked::Stuck { set, barriers }),
+        Ok(Attempt::Whole(parts)) => {
+            match node_of_parts(alloc, about, known, &numbers, &parts, budget) {
+                Ok(node) => Ok(Ranked::Node(node)),
+                Err(fault) => Err(fault),
+            }
+        }
+    }
+}
+
+/// The same where no rows are known: every run ends. `Open` and `Cover` never come.
 pub fn first_attempt(alloc: Global, about: &Cases, pivots: u64) -> Result<Ranked, RankFault>
     ensures ranked { IfOk result (λ r. IsOutcome (cases_of about.now) r) }
     ensures never_stuck { HasLexicographicRanking (cases_of about.now) → IfOk result IsNode }
     ensures refusals { IfErr result (λ e. RefusesFirst (cases_of about.now) pivots e) }
 {
-    let numbers = components_of(alloc, about)?;
-    let count = count_of(&numbers);
     let known = bare_region(alloc, about.variables(), about.locations())?;
-    match rank_components(alloc, about, &known, &numbers, count, pivots) {
+    let budget = Budget {
+        pivots,
+        splits: 0,
+        disjuncts: 0,
+    };
+    match lex_rank(alloc, about, &known, &budget) {
+        Ok(ranked) => Ok(ranked),
         Err(fault) => Err(fault),
-        Ok(Attempt::Stuck { set, barriers }) => Ok(Ranked::Stuck { set, barriers }),
-        Ok(Attempt::Whole(parts)) => match node_of_parts(alloc, about, &known, &numbers, &parts) {
-            Ok(node) => Ok(Ranked::Node(node)),
-            Err(_) => Err(RankFault::Memory),
-        },
     }
 }

@@ -4,7 +4,7 @@ use Rattle.tv_cases.specs.Systems.{cases_of}
 use Rattle.tv_graph.specs.Graph.{IsBetween, AreStronglyConnected}
 use Rattle.tv_lexrank.specs.First.{arc_of}
 use Rattle.tv_lexrank.proofs.FirstLemmas.{arcs_between, are_components}
-use Rattle.tv_lexrank.proofs.first.components_of.Goals as goal
+use Rattle.tv_lexrank.proofs.lexicographic.components_of.Goals as goal
 
 pub components-requires-clause-in_range : goal.components-requires-clause-in_range
 components-requires-clause-in_range c =

@@ -1,0 +1,11 @@
+//! The tests of lexicographic ranks, through public calls alone.
+#![tactic(auto)]
+
+#[cfg(test)]
+mod attempts;
+#[cfg(test)]
+mod certificates;
+#[cfg(test)]
+mod known;
+#[cfg(test)]
+mod programs;

@@ -1,0 +1,149 @@
+-- Whether the cases lead from the known rows into the known rows.
+use Rattle.std.specs.Prelude.{◌≡◌, ◌⊎◌, ℕ, zero, suc, ◌+◌, ◌<◌, ◌≤◌, List, [], ◌∷◌, ◌++◌, length, map, Contains, All, ℤ, Option, None, Some, Err}
+use Rattle.tv_program.specs.Steps.{State}
+use Rattle.tv_linear.specs.Linear.{Linear, columns, IsMet}
+use Rattle.tv_linear.specs.Known.{Known, given, composed, as_given}
+use Rattle.tv_linear.specs.Terms.{terms_after}
+use Rattle.tv_linear.specs.Covers.{IsMetCover}
+use Rattle.tv_linear.specs.Depth.{splits}
+use Rattle.tv_linear.specs.declared.cover.CoverTree.{CoverTree}
+use Rattle.tv_linear.specs.declared.cover.CoverTree as cover
+use Rattle.tv_linear.specs.declared.fault.RowFault.TheVariants as row
+use Rattle.tv_linear.specs.declared.region.Piece.{Piece}
+use Rattle.tv_cases.specs.Before.{before, rows_after, FitsTerms, GivesBefore}
+use Rattle.tv_cases.specs.LinearCases.{LinearCase, CaseSystem, CaseDoes}
+use Rattle.tv_farkas.specs.Refuting.{AreShort}
+use Rattle.tv_farkas.specs.Trees.{TreeRows, TreeNumbers}
+use Rattle.tv_farkas.specs.declared.budget.Budget.{Budget}
+use Rattle.tv_farkas.specs.declared.fault.CoverFault.{CoverFault}
+use Rattle.tv_farkas.specs.declared.fault.CoverFault.TheVariants.{Splits, Solve, Wide, Memory}
+use Rattle.tv_cover.specs.Covering.{IsHole, IsCoverFault}
+use Rattle.tv_cover.specs.declared.covered.Covered.{Covered}
+use Rattle.tv_cover.specs.declared.covered.Covered.TheVariants.{Tree, Hole}
+use Rattle.tv_cover.specs.Targets.{owed_lists}
+use Rattle.tv_rank.specs.Ways.{Way, way_of, case_at, rows_at}
+use Rattle.tv_lexrank.specs.Known.{way_rows, padded_rows}
+use Rattle.tv_lexrank.specs.declared.fault.RankFault.{RankFault}
+use Rattle.tv_lexrank.specs.declared.fault.RankFault.TheVariants as fault
+
+-- the cover leads into the first target, by no fall, and shows no row
+abbrev pub IsWholeCover : CoverTree → Type 0
+IsWholeCover (cover.Split' r p a q b) = ⊥
+IsWholeCover (cover.Empty ms) = ⊥
+IsWholeCover (cover.Into target fall ls) = (target ≡ 0) × (fall ≡ 0) × (ls.items ≡ [])
+
+-- ---- the rows before a case
+-- each column of the row before the case fits
+abbrev pub FitsBefore : LinearCase → Linear → Type 0
+FitsBefore c r = (column : ℕ) → column ≤ columns (before r c) → FitsTerms (columns r + c.draws) r (rows_after r c) column
+
+abbrev pub rows_before : LinearCase → List Linear → List Linear
+rows_before c rows = map (λ r. before r c) rows
+
+-- the rows before the case, each of which fits
+pub record AreRowsBefore (c : LinearCase) (rows made : List Linear) : Type 0 where
+  pub exact : made ≡ rows_before c rows
+  pub fits : All (FitsBefore c) rows
+
+-- a row of the list is too wide before the case at this column
+abbrev pub IsTooWide : LinearCase → List Linear → ℕ → Type 0
+IsTooWide c rows column = (r : Linear) × Contains rows r × GivesBefore r c (Err (row.Wide column))
+
+abbrev pub IsUnmadeBy : LinearCase → List Linear → CoverFault → Type 0
+IsUnmadeBy c rows (Splits path) = ⊥
+IsUnmadeBy c rows (Solve kept e) = ⊥
+IsUnmadeBy c rows (Wide column) = IsTooWide c rows column
+IsUnmadeBy c rows Memory = ⊥
+
+abbrev pub IsUnmade : LinearCase → List Linear → RankFault → Type 0
+IsUnmade c rows (fault.Open taken values) = ⊥
+IsUnmade c rows (fault.Cover f) = IsUnmadeBy c rows f
+IsUnmade c rows (fault.Solve system e) = ⊥
+IsUnmade c rows fault.Memory = Unit {0}
+
+-- ---- covers
+-- what is owed on entering the one target, where no fall is owed
+abbrev pub owed_plain : List Known → ℕ → ℕ → Option (List Known)
+owed_plain rows zero zero = Some rows
+owed_plain rows zero (suc j) = None
+owed_plain rows (suc k) j = None
+
+-- a cover of the rows, over n columns, into one target
+pub record IsCoverInto (n : ℕ) (rows target : List Linear) (tree : CoverTree) : Type 0 where
+  pub met : IsMetCover n (owed_lists (target ∷ [])) (as_given rows) tree
+  pub shallow : splits tree ≤ 128
+  pub short : TreeNumbers AreShort tree
+  pub even : TreeRows (λ r. columns r ≡ n) tree
+
+-- such a cover, or a hole
+abbrev pub IsCoveredByOne : ℕ → List Linear → List Linear → Covered → Type 0
+IsCoveredByOne n rows target (Tree tree) = IsCoverInto n rows target tree
+IsCoveredByOne n rows target (Hole values) = IsHole n (target ∷ []) rows values.items
+
+-- the fault says something of a question
+abbrev pub IsTold : CoverFault → Type 0
+IsTold (Splits path) = Unit {0}
+IsTold (Solve kept e) = Unit {0}
+IsTold (Wide column) = Unit {0}
+IsTold Memory = ⊥
+
+-- the fault of a cover, or want of memory
+abbrev pub IsHandedOn : CoverFault → RankFault → Type 0
+IsHandedOn f (fault.Open taken values) = ⊥
+IsHandedOn f (fault.Cover g) = IsTold f × (g ≡ f)
+IsHandedOn f (fault.Solve system e) = ⊥
+IsHandedOn f fault.Memory = Unit {0}
+
+abbrev pub RefusesCover : ℕ → List Linear → List Linear → Budget → ℕ → RankFault → Type 0
+RefusesCover n rows target budget k (fault.Open taken values) = (taken ≡ k) × IsHole n (target ∷ []) rows values.items
+RefusesCover n rows target budget k (fault.Cover f) = IsTold f × IsCoverFault n (target ∷ []) rows budget.pivots budget.splits f
+RefusesCover n rows target budget k (fault.Solve system e) = ⊥
+RefusesCover n rows target budget k fault.Memory = Unit {0}
+
+-- a row after a way
+abbrev pub changed : ℕ → Way → Linear → Known
+changed v w g = composed (given g) (terms_after v w.taken.updates)
+
+-- a cover of the rows that are met where a way is taken into rows after it
+pub record Leads (v : ℕ) (w : Way) (into : List Linear) (tree : CoverTree) : Type 0 where
+  pub met : IsMetCover (v + w.taken.draws) (owed_plain (map (changed v w) into)) (way_rows w) tree
+  pub shallow : splits tree ≤ 128
+  pub short : TreeNumbers AreShort tree
+  pub even : TreeRows (λ r. columns r ≡ v + w.taken.draws) tree
+
+-- the case leads into the rows that are known where it ends
+abbrev pub IsClosed : CaseSystem → List Piece → ℕ → CoverTree → Type 0
+IsClosed about known k tree = Leads about.variables (way_of about.cases known k) (rows_at known (case_at about.cases k).to) tree
+
+-- ---- refusals
+-- the values, and then the draws, lead over the case from a state that meets the known rows to one that does not
+pub record LeadsOut (about : CaseSystem) (known : List Piece) (taken : ℕ) (values : List ℤ) : Type 0 where
+  pub numbered : taken < length about.cases
+  pub old : State
+  pub new : State
+  pub draws : List ℤ
+  pub parts : values ≡ old.values ++ draws
+  pub wide : length old.values ≡ about.variables
+  pub does : CaseDoes (case_at about.cases taken) draws old new
+  pub meets : All (IsMet old.values) (rows_at known old.location)
+  pub row : Linear
+  pub among : Contains (rows_at known new.location) row
+  pub unmet : IsMet new.values row → ⊥
+
+-- It is not settled whether the case leads into the rows that are known where it ends, of which there are some: before the case one of
+-- them is too wide, or the cover of the rows that are met where it is taken into these has the fault.
+pub record IsUnsettled (about : CaseSystem) (known : List Piece) (budget : Budget) (k : ℕ) (f : CoverFault) : Type 0 where
+  pub numbered : k < length about.cases
+  pub some : 0 < length (rows_at known (case_at about.cases k).to)
+  pub told : IsTold f
+  pub why :
+      IsUnmadeBy (case_at about.cases k) (rows_at known (case_at about.cases k).to) f
+      ⊎ IsCoverFault (about.variables + (case_at about.cases k).draws) (rows_before (case_at about.cases k) (rows_at known (case_at about.cases k).to) ∷ [])
+      (padded_rows about.variables (way_of about.cases known k)) budget.pivots budget.splits f
+
+-- a case leads out of the known rows, or it is not settled whether it does
+abbrev pub RefusesClosed : CaseSystem → List Piece → Budget → RankFault → Type 0
+RefusesClosed about known budget (fault.Open taken values) = LeadsOut about known taken values.items
+RefusesClosed about known budget (fault.Cover f) = (k : ℕ) × IsUnsettled about known budget k f
+RefusesClosed about known budget (fault.Solve system e) = ⊥
+RefusesClosed about known budget fault.Memory = Unit {0}

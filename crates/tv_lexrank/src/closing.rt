@@ -1,0 +1,156 @@
+// Whether the cases lead from the known rows into the known rows.
+
+ghost use Rattle.std.specs.Prelude.{◌≡◌, ◌+◌, ◌-◌, ◌^◌, ◌<◌, ◌≤◌, ◌∷◌, [], All, length, IfOk};
+ghost use Rattle.std.specs.Result.{IfErr};
+ghost use Rattle.tv_linear.specs.Linear.{columns as width};
+ghost use Rattle.tv_cases.specs.Systems.{cases_of};
+ghost use Rattle.tv_cases.specs.Views.{case_view};
+ghost use Rattle.tv_cover.specs.Covering.{IsCoverFault};
+ghost use Rattle.tv_cover.specs.Targets.{AreEven};
+ghost use Rattle.tv_lexrank.specs.Known.{AreKnown};
+ghost use Rattle.tv_lexrank.specs.Closing.{IsWholeCover, AreRowsBefore, IsUnmade, IsCoveredByOne, IsCoverInto, IsHandedOn, RefusesCover, IsClosed, RefusesClosed};
+
+use crate::RankFault;
+use crate::known::{known_at, rows_with};
+use crate::sorting::case_of;
+use std::alloc::Global;
+use tv_cases::{Case, Cases, before};
+use tv_cover::{Covered, cover};
+use tv_farkas::{Budget, CoverFault};
+use tv_linear::{Cover, CoverTree, Poly, Region, Row, RowFault};
+use tv_simplex::push_item;
+
+/// The cover by one target without rows, into which no fall is owed.
+pub fn whole_cover(alloc: Global) -> Cover
+    ensures { IsWholeCover result }
+{
+    let tree = CoverTree::Into {
+        target: 0,
+        fall: 0,
+        refutations: Vec::new(alloc),
+    };
+    match Cover::new(tree) {
+        Some(cover) => cover,
+        None => unreachable!(),
+    }
+}
+
+/// The rows that have before the case the values of these rows after it.
+fn rows_before(
+    alloc: Global,
+    rows: &[Row],
+    case: &Case,
+    variables: u32,
+) -> Result<Vec<Row>, RankFault>
+    requires few { variables + case.now.draws < 2 ^ 32 - 1 }
+    requires terms { All (λ u. width u.term ≡ variables + case.now.draws) (case_view case.now).updates }
+    requires even { All (λ r. width r ≡ variables) rows.now }
+    ensures rows { IfOk result (λ v. AreRowsBefore (case_view case.now) rows.now v.items) }
+    ensures refusals { IfErr result (IsUnmade (case_view case.now) rows.now) }
+{
+    let mut all = Vec::new(alloc);
+    'rows: for row in rows {
+        match before(alloc, row, case) {
+            Ok(row) => push_item(&mut all, row)?,
+            Err(RowFault::Wide { column }) => {
+                return Err(RankFault::Cover {
+                    fault: CoverFault::Wide { column },
+                });
+            }
+            Err(RowFault::Memory) => return Err(RankFault::Memory),
+        }
+    }
+    Ok(all)
+}
+
+/// A cover of rows into one target, or a hole.
+pub fn cover_one(
+    alloc: Global,
+    ambient: &Poly,
+    target: Vec<Row>,
+    budget: &Budget,
+) -> Result<Covered, CoverFault>
+    requires few { ambient.now.columns < 2 ^ 32 - 1 }
+    requires even { AreEven ambient.now.columns ambient.now.rows.items }
+    requires same { AreEven ambient.now.columns target.items }
+    requires splits { budget.now.splits ≤ 128 }
+    ensures answers { IfOk result (IsCoveredByOne ambient.now.columns ambient.now.rows.items target.items) }
+    ensures refusals { IfErr result (IsCoverFault ambient.now.columns (target.items ∷ []) ambient.now.rows.items budget.now.pivots budget.now.splits) }
+{
+    let mut targets = Vec::new(alloc);
+    push_item(
+        &mut targets,
+        Poly {
+            columns: ambient.columns,
+            rows: target,
+        },
+    )?;
+    match cover(alloc, ambient, &targets, budget) {
+        Ok(covered) => Ok(covered),
+        Err(fault) => Err(fault),
+    }
+}
+
+/// A cover of the rows over a case into one target, or the values of a hole.
+fn cover_into(
+    alloc: Global,
+    ambient: &Poly,
+    target: Vec<Row>,
+    taken: u32,
+    budget: &Budget,
+) -> Result<Cover, RankFault>
+    requires few { ambient.now.columns < 2 ^ 32 - 1 }
+    requires even { AreEven ambient.now.columns ambient.now.rows.items }
+    requires same { AreEven ambient.now.columns target.items }
+    requires splits { budget.now.splits ≤ 128 }
+    ensures covered { IfOk result (IsCoverInto ambient.now.columns ambient.now.rows.items target.items) }
+    ensures refusals { IfErr result (RefusesCover ambient.now.columns ambient.now.rows.items target.items budget.now taken) }
+{
+    match cover_one(alloc, ambient, target, budget) {
+        Ok(Covered::Tree(cover)) => Ok(cover),
+        Ok(Covered::Hole(values)) => Err(RankFault::Open { taken, values }),
+        Err(fault) => Err(unsettled(fault)),
+    }
+}
+
+/// The refusal where a cover was not settled.
+fn unsettled(fault: CoverFault) -> RankFault
+    ensures { IsHandedOn fault result }
+{
+    match fault {
+        CoverFault::Memory => RankFault::Memory,
+        fault => RankFault::Cover { fault },
+    }
+}
+
+/// A cover of the rows that are met where a case is taken into those that are known where it leads.
+pub fn closing(
+    alloc: Global,
+    about: &Cases,
+    known: &Region,
+    number: u32,
+    budget: &Budget,
+) -> Result<Cover, RankFault>
+    requires number { number < length (cases_of about.now).cases }
+    requires known { AreKnown (cases_of about.now) known.now.pieces.items }
+    requires splits { budget.now.splits ≤ 128 }
+    ensures closed { IfOk result (IsClosed (cases_of about.now) known.now.pieces.items number) }
+    ensures refusals { IfErr result (RefusesClosed (cases_of about.now) known.now.pieces.items budget.now) }
+{
+    let case = case_of(about, number);
+    let owed = known_at(&known.pieces, case.to);
+    if owed.is_empty() {
+        return Ok(whole_cover(alloc));
+    }
+    let columns = about.variables() + case.draws;
+    let target = match rows_before(alloc, owed, case, about.variables()) {
+        Ok(target) => target,
+        Err(fault) => return Err(fault),
+    };
+    let started = known_at(&known.pieces, case.from);
+    let rows = rows_with(alloc, started, &case.guards.rows, columns)?;
+    match cover_into(alloc, &Poly { columns, rows }, target, number, budget) {
+        Ok(cover) => Ok(cover),
+        Err(fault) => Err(fault),
+    }
+}

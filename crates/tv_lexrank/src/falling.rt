@@ -1,0 +1,120 @@
+// A fall of the ranks behind what a cover shows.
+
+ghost use Rattle.std.specs.Prelude.{◌≡◌, ◌+◌, ◌^◌, ◌<◌, ◌++◌, map, IfOk};
+ghost use Rattle.tv_linear.specs.Arithmetic.{zeros};
+ghost use Rattle.tv_linear.specs.Depth.{splits};
+ghost use Rattle.tv_linear.specs.Linear.{IsNarrow};
+ghost use Rattle.tv_farkas.specs.Refuting.{AreShort};
+ghost use Rattle.tv_farkas.specs.Trees.{TreeNumbers};
+ghost use Rattle.tv_rank.specs.Given.{lists as lists_of};
+ghost use Rattle.tv_lexrank.specs.Falling.{spread as spec_spread, AreNarrowLines, HasFall};
+
+use std::alloc::{AllocError, Global};
+use tv_farkas::split_of;
+use tv_linear::{CoverTree, Row};
+use tv_simplex::push_item;
+
+/// A fall of the ranks over a case.
+#[derive(Drop)]
+pub struct Fall {
+    /// Which rank falls, counted from 1.
+    pub number: u32,
+    /// For each row of the fall multipliers of the rows that are met, and last of the row's denial.
+    pub lines: Vec<Vec<i64>>,
+}
+
+/// So many zeros.
+fn zeros_of(alloc: Global, count: usize) -> Result<Vec<i64>, AllocError>
+    ensures { IfOk result (λ v. v.items ≡ zeros count) }
+{
+    let zeros = vec![in alloc; 0i64; count]?;
+    Ok(zeros)
+}
+
+/// The multipliers with 0 for each of so many rows before the last.
+fn spread(alloc: Global, line: &[i64], above: usize) -> Result<Vec<i64>, AllocError>
+    ensures { IfOk result (λ v. v.items ≡ spec_spread above line.now) }
+{
+    let (front, last) = line.split_at(line.len().saturating_sub(1));
+    let zeros = zeros_of(alloc, above)?;
+    let mut all = Vec::from_slice(alloc, front)?;
+    all.extend_from_slice(&zeros)?;
+    all.extend_from_slice(last)?;
+    Ok(all)
+}
+
+/// Copies of lists.
+fn copied(alloc: Global, lists: &[Vec<i64>]) -> Result<Vec<Vec<i64>>, AllocError>
+    ensures { IfOk result (λ v. lists_of v.items ≡ lists_of lists.now) }
+{
+    let mut copies = Vec::new(alloc);
+    'lists: for list in lists {
+        push_item(&mut copies, Vec::from_slice(alloc, list)?)?;
+    }
+    Ok(copies)
+}
+
+/// Puts the lines at the end of lists, each spread over so many rows more.
+fn append_spread(
+    alloc: Global,
+    lists: &mut Vec<Vec<i64>>,
+    lines: &[Vec<i64>],
+    above: usize,
+) -> Result<(), AllocError>
+    ensures { IfOk result (λ _. lists_of lists.new.items ≡ lists_of lists.old.items ++ map (spec_spread above) (lists_of lines.now)) }
+{
+    'lines: for line in lines {
+        push_item(lists, spread(alloc, line, above)?)?;
+    }
+    Ok(())
+}
+
+fn number_of(fall: &Fall) -> u32
+    ensures { result ≡ fall.now.number }
+{
+    fall.number
+}
+
+/// A copy of a row, which is narrow.
+fn copy_row(alloc: Global, row: &Row) -> Result<Row, AllocError>
+    ensures same { IfOk result (λ copy. copy ≡ row.now) }
+    ensures narrow { IsNarrow row.now }
+{
+    let _columns = row.columns();
+    row.copy(alloc)
+}
+
+/// The cover, below so many splits, with the lines of the fall behind those of each target.
+pub fn with_fall(
+    alloc: Global,
+    tree: &CoverTree,
+    fall: &Fall,
+    above: usize,
+) -> Result<CoverTree, AllocError>
+    requires room { above + splits tree.now < 2 ^ 64 }
+    requires short { TreeNumbers AreShort tree.now }
+    requires lines { AreNarrowLines (lists_of fall.now.lines.items) }
+    ensures { IfOk result (HasFall fall.now above tree.now) }
+{
+    match tree {
+        CoverTree::Split(row, holds, fails) => {
+            let holds = with_fall(alloc, holds, fall, above + 1)?;
+            let fails = with_fall(alloc, fails, fall, above + 1)?;
+            Ok(split_of(alloc, copy_row(alloc, row)?, holds, fails)?)
+        }
+        CoverTree::Empty(multipliers) => Ok(CoverTree::Empty(Vec::from_slice(alloc, multipliers)?)),
+        CoverTree::Into {
+            target,
+            fall: _,
+            refutations,
+        } => {
+            let mut lists = copied(alloc, refutations)?;
+            append_spread(alloc, &mut lists, &fall.lines, above)?;
+            Ok(CoverTree::Into {
+                target: *target,
+                fall: number_of(fall),
+                refutations: lists,
+            })
+        }
+    }
+}

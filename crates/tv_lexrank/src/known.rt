@@ -1,0 +1,118 @@
+// The rows that are known at locations, and those that are met where a case is taken.
+
+ghost use Rattle.std.specs.Prelude.{◌≡◌, ◌+◌, ◌-◌, ◌^◌, ◌<◌, ◌≤◌, ◌++◌, [], All, length, map, IfOk, IsTrue, ◌↔◌, MatchBool};
+ghost use Rattle.tv_linear.specs.Linear.{columns as width};
+ghost use Rattle.tv_cases.specs.Systems.{cases_of};
+ghost use Rattle.tv_rank.specs.Ways.{rows_at};
+ghost use Rattle.tv_lexrank.specs.Known.{AreKnown, AreBare, HaveRows, piece_rows, padded_row};
+
+use std::alloc::{AllocError, Global};
+use tv_cases::Cases;
+use tv_linear::{Piece, Region, Row};
+use tv_simplex::push_item;
+
+fn are_even(rows: &[Row], columns: u32) -> bool
+    ensures { IsTrue result ↔ All (λ r. width r ≡ columns) rows.now }
+{
+    rows.iter().all(|row| row.columns() == columns)
+}
+
+fn are_all_even(known: &[Piece], columns: u32) -> bool
+    ensures { IsTrue result → All (λ p. All (λ r. width r ≡ columns) (piece_rows p)) known.now }
+{
+    'pieces: for piece in known {
+        if !are_even(&piece.poly.rows, columns) {
+            return false;
+        }
+    }
+    true
+}
+
+/// Whether the region has a piece for each location, with rows over the variables.
+pub fn are_known(about: &Cases, known: &Region) -> bool
+    ensures { IsTrue result → AreKnown (cases_of about.now) known.now.pieces.items }
+{
+    let pieces: &[Piece] = &known.pieces;
+    pieces.len() == about.locations() as usize && are_all_even(pieces, about.variables())
+}
+
+/// Whether no rows are known.
+pub fn is_bare(known: &[Piece]) -> bool
+    ensures { MatchBool result (AreBare known.now) (HaveRows known.now) }
+{
+    'pieces: for piece in known {
+        let rows: &[Row] = &piece.poly.rows;
+        if !rows.is_empty() {
+            return false;
+        }
+    }
+    true
+}
+
+/// The rows that are known at a location.
+pub fn known_at(known: &[Piece], location: u32) -> &[Row]
+    requires { location < length known.now }
+    ensures { result.now ≡ rows_at known.now location }
+{
+    &known[location as usize].poly.rows
+}
+
+/// The row over more columns, with 0 in each that is new.
+fn padded(alloc: Global, row: &Row, columns: u32) -> Result<Row, AllocError>
+    requires few { columns < 2 ^ 32 - 1 }
+    requires more { width row.now ≤ columns }
+    ensures { IfOk result (λ r. r ≡ padded_row columns row.now) }
+{
+    let mut coefficients = Vec::from_slice(alloc, row.coefficients())?;
+    let zero = Row::zero(alloc, columns - row.columns())?;
+    coefficients.extend_from_slice(zero.coefficients())?;
+    Row::from_narrow(coefficients, 0).with_constant(alloc, row.constant())
+}
+
+/// Each of the rows over more columns.
+fn all_padded(alloc: Global, rows: &[Row], columns: u32) -> Result<Vec<Row>, AllocError>
+    requires few { columns < 2 ^ 32 - 1 }
+    requires more { All (λ r. width r ≤ columns) rows.now }
+    ensures { IfOk result (λ v. v.items ≡ map (padded_row columns) rows.now) }
+{
+    let mut all = Vec::new(alloc);
+    'rows: for row in rows {
+        push_item(&mut all, padded(alloc, row, columns)?)?;
+    }
+    Ok(all)
+}
+
+/// Puts copies of rows at the end of a list.
+fn append_copies(alloc: Global, items: &mut Vec<Row>, rows: &[Row]) -> Result<(), AllocError>
+    ensures { IfOk result (λ _. items.new.items ≡ items.old.items ++ rows.now) }
+{
+    'rows: for row in rows {
+        push_item(items, row.copy(alloc)?)?;
+    }
+    Ok(())
+}
+
+/// Copies of rows.
+pub fn copies_of(alloc: Global, rows: &[Row]) -> Result<Vec<Row>, AllocError>
+    ensures { IfOk result (λ v. v.items ≡ rows.now) }
+{
+    let mut copies = Vec::new(alloc);
+    append_copies(alloc, &mut copies, rows)?;
+    Ok(copies)
+}
+
+/// The known rows over more columns, and then the guards.
+pub fn rows_with(
+    alloc: Global,
+    known: &[Row],
+    guards: &[Row],
+    columns: u32,
+) -> Result<Vec<Row>, AllocError>
+    requires few { columns < 2 ^ 32 - 1 }
+    requires more { All (λ r. width r ≤ columns) known.now }
+    ensures { IfOk result (λ v. v.items ≡ map (padded_row columns) known.now ++ guards.now) }
+{
+    let mut rows = all_padded(alloc, known, columns)?;
+    append_copies(alloc, &mut rows, guards)?;
+    Ok(rows)
+}
