@@ -1,5 +1,6 @@
 -- How rows are shown at a point.
-use Rattle.std.specs.Prelude.{◌≡◌, ℕ, ◌<◌, ◌≤◌, List, [], ◌∷◌, ◌++◌, length, map, All, ℤ, Option, None, Some}
+use Rattle.std.specs.Prelude.{◌≡◌, ℕ, ◌<◌, ◌≤◌, List, [], ◌∷◌, ◌++◌, length, map, All, ℤ, Option, None, Some, Result, MatchResult}
+use Rattle.std.specs.Global.{Vec}
 use Rattle.tv_linear.specs.Linear.{IsWithin}
 use Rattle.tv_linear.specs.Fits.{IsFirstWide}
 use Rattle.tv_linear.specs.Known.{Known, denied, KnownHeld, IsKnownMet, as_given}
@@ -24,6 +25,10 @@ pub record FitsLine (row : Known) (xs : List ℤ) (column : ℕ) : Type 0 where
 -- the number of the row in the column can be told, and is below 2^62 in magnitude
 abbrev pub IsNarrowIn : Known → ℕ → Type 0
 IsNarrowIn row column = KnownHeld row (Some column) × IsWithin 62 (coefficient_of row column)
+
+-- so it is in each column from one up to another
+abbrev pub AreNarrowBetween : Known → ℕ → ℕ → Type 0
+AreNarrowBetween row first end = (column : ℕ) → first ≤ column → column < end → IsNarrowIn row column
 
 -- the point meets the row, whose coefficients are below 2^62 in magnitude
 pub record IsShowable (xs : List ℤ) (row : Known) : Type 0 where
@@ -73,3 +78,8 @@ multiplier_lists xs rows = map (λ r. point_multipliers r xs) rows
 pub record ArePushed (xs : List ℤ) (rows : List Known) (old new : List (List ℤ)) : Type 0 where
   pub shown : All IsShown (lines_at xs rows)
   pub pushed : new ≡ old ++ multiplier_lists xs rows
+
+-- what comes of pushing them: that, or the first line that does not fit
+abbrev pub GivesLines : {A : Type 0} → List ℤ → List Known → List (Vec ℤ) → List (Vec ℤ) → Result A PointFault → Type 0
+GivesLines xs rows old new result =
+    MatchResult result (λ _. ArePushed xs rows (map (λ l. l.items) old) (map (λ l. l.items) new)) (IsLineFault (lines_at xs rows))

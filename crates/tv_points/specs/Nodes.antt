@@ -28,8 +28,8 @@ use Rattle.tv_shape.specs.Fitting.{NodeNarrow, GoesWithin}
 use Rattle.tv_shape.specs.Narrow.{PieceNarrow}
 use Rattle.tv_shape.specs.declared.certificate.Certificate.{Certificate}
 use Rattle.tv_points.specs.StatePieces.{state_pieces}
-use Rattle.tv_points.specs.Lines.{IsShown}
-use Rattle.tv_points.specs.RunLines.{step_lines}
+use Rattle.tv_points.specs.Lines.{Line, IsShown}
+use Rattle.tv_points.specs.RunLines.{step_lines, run_lines}
 use Rattle.tv_points.specs.Taking.{IsChosen}
 use Rattle.tv_points.specs.States.{AreStates, AreSteps, AreInOrder}
 use Rattle.tv_points.specs.declared.state.State.{State}
@@ -148,9 +148,16 @@ pub record AreStepsOf (run : Run) (place : ℕ) (steps : List Step) : Type 0 whe
   pub leads : AreSteps (cases_of run.about.now) run.states.now place steps
   pub in_order : run.ends ≡ true → AreInOrder place steps
 
+-- the lines of a step of the run, and of those of a list
+abbrev pub lines_of_step : Run → ℕ → Step → List Line
+lines_of_step run place step = step_lines (cases_of run.about.now) run.ends run.states.now place step
+
+abbrev pub lines_of_steps : Run → ℕ → List Step → List Line
+lines_of_steps run place steps = run_lines (cases_of run.about.now) run.ends run.states.now place steps
+
 -- the proof is the choice of the step at the piece at the place, and each of its lines is shown
 pub record IsStepProof (run : Run) (place : ℕ) (step : Step) (x : Proof) : Type 0 where
-  pub shown : All IsShown (step_lines (cases_of run.about.now) run.ends run.states.now place step)
+  pub shown : All IsShown (lines_of_step run place step)
   pub chosen : (p : Marked) → slice_get run.pieces.now place ≡ Some p → IsChosenAt (cases_of run.about.now) run.pieces.now run.ends p x
 
 -- from the place on a choice was pushed for each of the pieces

@@ -1,5 +1,5 @@
 -- What a step owes on entering one piece.
-use Rattle.std.specs.Prelude.{◌≡◌, ℕ, ◌^◌, ◌<◌, List, [], ◌∷◌, ◌++◌, length, map, All, pos, slice_get, Option, None, Some, ◌&&◌, Bool, true, false}
+use Rattle.std.specs.Prelude.{◌≡◌, ℕ, ◌^◌, ◌<◌, List, [], ◌∷◌, ◌++◌, length, map, All, ℤ, pos, slice_get, Option, None, Some, ◌&&◌, Bool, true, false}
 use Rattle.tv_linear.specs.Linear.{Linear}
 use Rattle.tv_linear.specs.Known.{Known, given, less, as_given}
 use Rattle.tv_linear.specs.Falls.{zero_row}
@@ -77,6 +77,13 @@ pub record IsTaking (t : Taking) : Type 0 where
   pub into : t.into.now ≡ state_piece (cases_of t.about.now).variables t.falls less next
   pub falling : t.falls ≡ true → less < left
   pub placed : t.place < 2 ^ 32
+
+-- the point where it starts, and the rows that it owes by a case with rows for its draws
+abbrev pub taking_point : Taking → List ℤ
+taking_point t = t.state.now.values.items
+
+abbrev pub case_rows : Taking → LinearCase → List Linear → List Known
+case_rows t c draws = taken_rows (cases_of t.about.now).variables c draws t.falls t.from.now t.into.now
 
 -- the piece that is entered stands at its place among the pieces
 abbrev pub IsFound : Taking → List Marked → Type 0

@@ -8,7 +8,7 @@ ghost use Rattle.tv_cert.specs.Nodes.{pieces_of};
 ghost use Rattle.tv_points.specs.States.{ComesBack, ComesTo, StartsAt};
 ghost use Rattle.tv_points.specs.Lines.{IsLineFault};
 ghost use Rattle.tv_points.specs.RunLines.{run_lines};
-ghost use Rattle.tv_points.specs.Nodes.{endless, reaches, IsFitted, IsInside, IsDisproof, IsRunNode, DisprovesFirst};
+ghost use Rattle.tv_points.specs.Nodes.{endless, reaches, IsFitted, IsInside, IsDisproof, DisprovesFirst};
 
 use crate::endless::endless_node;
 use crate::fault::PointFault;
@@ -61,7 +61,8 @@ pub fn endless_certificate(
     requires denied { property_of claim.now.denied ≡ endless }
     requires run { ComesBack (cases_of about.now) states.now steps.now }
     requires starts { StartsAt (cases_of about.now) states.now }
-    ensures { MatchResult result (DisprovesFirst (cases_of about.now) endless states.now) (IsLineFault (run_lines (cases_of about.now) false states.now 0 steps.now)) }
+    ensures { let cases = cases_of about.now in
+        MatchResult result (DisprovesFirst cases endless states.now) (IsLineFault (run_lines cases false states.now 0 steps.now)) }
 {
     let node = match endless_node(alloc, about, states, steps) {
         Err(fault) => return Err(fault),
@@ -88,7 +89,8 @@ pub fn reaching_certificate(
     requires denied { property_of claim.now.denied ≡ reaches location }
     requires run { ComesTo (cases_of about.now) location states.now steps.now }
     requires starts { StartsAt (cases_of about.now) states.now }
-    ensures { MatchResult result (DisprovesFirst (cases_of about.now) (reaches location) states.now) (IsLineFault (run_lines (cases_of about.now) true states.now 0 steps.now)) }
+    ensures { let cases = cases_of about.now in
+        MatchResult result (DisprovesFirst cases (reaches location) states.now) (IsLineFault (run_lines cases true states.now 0 steps.now)) }
 {
     let node = match reaching_node(alloc, about, states, steps, location) {
         Err(fault) => return Err(fault),

@@ -29,7 +29,8 @@ pub fn endless_node(
     steps: &[Step],
 ) -> Result<Node, PointFault>
     requires { ComesBack (cases_of about.now) states.now steps.now }
-    ensures { MatchResult result (λ node. IsRunNode (cases_of about.now) endless false states.now node) (IsLineFault (run_lines (cases_of about.now) false states.now 0 steps.now)) }
+    ensures { let cases = cases_of about.now in
+        MatchResult result (IsRunNode cases endless false states.now) (IsLineFault (run_lines cases false states.now 0 steps.now)) }
 {
     let pieces = pieces_of(alloc, about.variables(), false, states)?;
     let run = Run {

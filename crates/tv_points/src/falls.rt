@@ -1,10 +1,10 @@
 // What is owed on entering a piece: its rows, and a fall of the ranks.
 
-ghost use Rattle.std.specs.Prelude.{◌≡◌, ◌&&◌, ◌++◌, ◌∷◌, [], ◌-◌, ◌^◌, ◌<◌, MatchResult, length, map, All, pos};
+ghost use Rattle.std.specs.Prelude.{◌≡◌, ◌&&◌, ◌∷◌, [], ◌-◌, ◌^◌, ◌<◌, length, All, pos};
 ghost use Rattle.tv_refute.specs.Built.{change_of};
-ghost use Rattle.tv_linear.specs.Views.{row_seen, rows_seen};
+ghost use Rattle.tv_linear.specs.Views.{row_seen};
 ghost use Rattle.tv_cert.specs.Pieces.{goes};
-ghost use Rattle.tv_points.specs.Lines.{IsShowable, IsLineFault, ArePushed, lines_at};
+ghost use Rattle.tv_points.specs.Lines.{IsShowable, GivesLines};
 ghost use Rattle.tv_points.specs.Entering.{less_row, not_below_row, fall_rows, owed_falls, entering_rows};
 
 use crate::fault::PointFault;
@@ -35,7 +35,7 @@ fn push_less(
     requires few { length point.now < 2 ^ 32 - 1 }
     requires showable { IsShowable point.now (less_row (change_of change.now) (row_seen old) (row_seen new)) }
     ensures { let row = less_row (change_of change.now) (row_seen old.entry) (row_seen new.entry) in
-        MatchResult result (λ _. ArePushed point.now (row ∷ []) (map (λ l. l.items) lists.old.items) (map (λ l. l.items) lists.new.items)) (IsLineFault (lines_at point.now (row ∷ []))) }
+        GivesLines point.now (row ∷ []) lists.old.items lists.new.items result }
 {
     let first = Built::Given(new);
     let from = Built::Given(old);
@@ -63,7 +63,7 @@ fn push_not_below(
     requires few { length point.now < 2 ^ 32 - 1 }
     requires showable { IsShowable point.now (not_below_row (row_seen old)) }
     ensures { let row = not_below_row (row_seen old.entry) in
-        MatchResult result (λ _. ArePushed point.now (row ∷ []) (map (λ l. l.items) lists.old.items) (map (λ l. l.items) lists.new.items)) (IsLineFault (lines_at point.now (row ∷ []))) }
+        GivesLines point.now (row ∷ []) lists.old.items lists.new.items result }
 {
     let from = Built::Given(old);
     push_line(alloc, point, &Built::Less(&Built::Zero, &from, 0), lists)
@@ -81,7 +81,7 @@ fn push_fall(
     requires few { length point.now < 2 ^ 32 - 1 }
     requires showable { All (IsShowable point.now) (fall_rows (change_of change.now) (row_seen old) (row_seen new)) }
     ensures { let rows = fall_rows (change_of change.now) (row_seen old.entry) (row_seen new.entry) in
-        MatchResult result (λ _. ArePushed point.now rows (map (λ l. l.items) lists.old.items) (map (λ l. l.items) lists.new.items)) (IsLineFault (lines_at point.now rows)) }
+        GivesLines point.now rows lists.old.items lists.new.items result }
 {
     match push_less(alloc, point, change, old, new, lists) {
         Err(fault) => Err(fault),
@@ -108,7 +108,7 @@ fn push_owed(
 ) -> Result<(), PointFault>
     requires few { length point.now < 2 ^ 32 - 1 }
     requires showable { All (IsShowable point.now) (owed_falls entering.now) }
-    ensures { MatchResult result (λ _. ArePushed point.now (owed_falls entering.now) (map (λ l. l.items) lists.old.items) (map (λ l. l.items) lists.new.items)) (IsLineFault (lines_at point.now (owed_falls entering.now))) }
+    ensures { GivesLines point.now (owed_falls entering.now) lists.old.items lists.new.items result }
 {
     if !is_owed(entering.falls, entering.into) {
         return Ok(());
@@ -131,7 +131,7 @@ pub(crate) fn push_entered(
 ) -> Result<(), PointFault>
     requires few { length point.now < 2 ^ 32 - 1 }
     requires showable { All (IsShowable point.now) (entering_rows entering.now) }
-    ensures { MatchResult result (λ _. ArePushed point.now (entering_rows entering.now) (map (λ l. l.items) lists.old.items) (map (λ l. l.items) lists.new.items)) (IsLineFault (lines_at point.now (entering_rows entering.now))) }
+    ensures { GivesLines point.now (entering_rows entering.now) lists.old.items lists.new.items result }
 {
     match push_lines(alloc, point, entering.change, entering.into.rows(), lists) {
         Err(fault) => Err(fault),

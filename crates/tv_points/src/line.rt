@@ -1,12 +1,12 @@
 // How a row is shown at a point.
 
-ghost use Rattle.std.specs.Prelude.{◌≡◌, ◌+◌, ◌++◌, ◌∷◌, [], ◌-◌, ◌^◌, ◌<◌, ℕ, ◌≤◌, ◌+ℤ◌, ◌*ℤ◌, IfOk, SomeIff, MatchResult, length, All, None, pos, neg_ℤ, slice_index_or};
+ghost use Rattle.std.specs.Prelude.{◌≡◌, ◌+◌, ◌++◌, ◌∷◌, [], ◌-◌, ◌^◌, ◌<◌, ℕ, ◌+ℤ◌, ◌*ℤ◌, IfOk, SomeIff, MatchResult, length, All, None, pos, neg_ℤ, slice_index_or};
 ghost use Rattle.tv_linear.specs.Linear.{IsWithin, dot};
 ghost use Rattle.tv_linear.specs.Fits.{IsHeld, SumsHeld};
 ghost use Rattle.tv_linear.specs.Known.{denied, KnownHeld, known_number};
 ghost use Rattle.tv_refute.specs.Built.{built};
 ghost use Rattle.tv_points.specs.PointRows.{above_zero, below_zero, constants_of, multipliers_from, coefficient_of};
-ghost use Rattle.tv_points.specs.Lines.{IsNarrowIn, IsShowable, ShowsAt, IsLineFault, line};
+ghost use Rattle.tv_points.specs.Lines.{IsNarrowIn, AreNarrowBetween, IsShowable, ShowsAt, IsLineFault, line};
 
 use crate::fault::PointFault;
 use crate::growing::push_item;
@@ -58,7 +58,7 @@ fn push_from(
     multipliers: &mut Vec<i64>,
 ) -> Result<(), AllocError>
     requires few { first + length point.now < 2 ^ 32 - 1 }
-    requires narrow { (column : ℕ) → first ≤ column → column < first + length point.now → IsNarrowIn (built row.now) column }
+    requires narrow { AreNarrowBetween (built row.now) first (first + length point.now) }
     ensures { IfOk result (λ _. multipliers.new.items ≡ multipliers.old.items ++ multipliers_from (coefficient_of (built row.now)) first point.now) }
 {
     match point {

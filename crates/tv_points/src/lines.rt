@@ -1,9 +1,9 @@
 // How several rows are shown at a point.
 
-ghost use Rattle.std.specs.Prelude.{◌≡◌, ◌∷◌, [], ◌-◌, ◌^◌, ◌<◌, MatchResult, length, map, All};
+ghost use Rattle.std.specs.Prelude.{◌∷◌, [], ◌-◌, ◌^◌, ◌<◌, length, map, All};
 ghost use Rattle.tv_refute.specs.Built.{built, change_of};
 ghost use Rattle.tv_linear.specs.Views.{row_seen, rows_seen};
-ghost use Rattle.tv_points.specs.Lines.{IsShowable, IsLineFault, ArePushed, lines_at};
+ghost use Rattle.tv_points.specs.Lines.{IsShowable, GivesLines};
 
 use crate::fault::PointFault;
 use crate::growing::push_item;
@@ -21,7 +21,7 @@ pub(crate) fn push_line(
 ) -> Result<(), PointFault>
     requires few { length point.now < 2 ^ 32 - 1 }
     requires showable { IsShowable point.now (built row.now) }
-    ensures { MatchResult result (λ _. ArePushed point.now (built row.now ∷ []) (map (λ l. l.items) lists.old.items) (map (λ l. l.items) lists.new.items)) (IsLineFault (lines_at point.now (built row.now ∷ []))) }
+    ensures { GivesLines point.now (built row.now ∷ []) lists.old.items lists.new.items result }
 {
     match multipliers_at(alloc, point, row) {
         Err(fault) => Err(fault),
@@ -42,7 +42,7 @@ fn push_changed(
 ) -> Result<(), PointFault>
     requires few { length point.now < 2 ^ 32 - 1 }
     requires showable { IsShowable point.now (change_of change.now (row_seen row)) }
-    ensures { MatchResult result (λ _. ArePushed point.now (change_of change.now (row_seen row.entry) ∷ []) (map (λ l. l.items) lists.old.items) (map (λ l. l.items) lists.new.items)) (IsLineFault (lines_at point.now (change_of change.now (row_seen row.entry) ∷ []))) }
+    ensures { GivesLines point.now (change_of change.now (row_seen row.entry) ∷ []) lists.old.items lists.new.items result }
 {
     let first = Built::Given(row);
     match change {
@@ -65,7 +65,7 @@ pub(crate) fn push_lines(
 ) -> Result<(), PointFault>
     requires few { length point.now < 2 ^ 32 - 1 }
     requires showable { All (IsShowable point.now) (map (change_of change.now) (rows_seen rows)) }
-    ensures { MatchResult result (λ _. ArePushed point.now (map (change_of change.now) (rows_seen rows.entry)) (map (λ l. l.items) lists.old.items) (map (λ l. l.items) lists.new.items)) (IsLineFault (lines_at point.now (map (change_of change.now) (rows_seen rows.entry)))) }
+    ensures { GivesLines point.now (map (change_of change.now) (rows_seen rows.entry)) lists.old.items lists.new.items result }
 {
     match rows.split_first() {
         None => Ok(()),

@@ -1,9 +1,6 @@
 // The pieces of the states of a run.
 
-ghost use Rattle.std.specs.Prelude.{◌≡◌, ◌++◌, ◌+◌, ◌-◌, ◌^◌, ◌<◌, ◌≤◌, IfOk, length, All, slice_get, Some, List};
-ghost use Rattle.tv_linear.specs.Linear.{columns as columns_of};
-ghost use Rattle.tv_linear.specs.Arithmetic.{constant_row};
-ghost use Rattle.tv_cert.specs.MarkedRows.{marked};
+ghost use Rattle.std.specs.Prelude.{◌≡◌, ◌++◌, ◌+◌, ◌-◌, ◌^◌, ◌<◌, IfOk, length, All, slice_get, Some};
 ghost use Rattle.tv_cert.specs.Pieces.{place_of, pieces_at};
 ghost use Rattle.tv_points.specs.PointRows.{point_rows};
 ghost use Rattle.tv_points.specs.States.{IsPointOf};

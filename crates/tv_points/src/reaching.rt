@@ -48,7 +48,8 @@ pub fn reaching_node(
     location: u32,
 ) -> Result<Node, PointFault>
     requires { ComesTo (cases_of about.now) location states.now steps.now }
-    ensures { MatchResult result (λ node. IsRunNode (cases_of about.now) (reaches location) true states.now node) (IsLineFault (run_lines (cases_of about.now) true states.now 0 steps.now)) }
+    ensures { let cases = cases_of about.now in
+        MatchResult result (IsRunNode cases (reaches location) true states.now) (IsLineFault (run_lines cases true states.now 0 steps.now)) }
 {
     let columns = about.variables();
     let pieces = pieces_of(alloc, columns, true, states)?;

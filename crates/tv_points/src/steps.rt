@@ -4,8 +4,7 @@ ghost use Rattle.std.specs.Prelude.{◌≡◌, ◌+◌, ◌<◌, MatchResult, le
 ghost use Rattle.tv_cases.specs.Systems.{cases_of};
 ghost use Rattle.tv_points.specs.States.{IsStepAt};
 ghost use Rattle.tv_points.specs.Lines.{IsLineFault};
-ghost use Rattle.tv_points.specs.RunLines.{step_lines, run_lines};
-ghost use Rattle.tv_points.specs.Nodes.{IsRunMade, AreStepsOf, IsStepProof, AreChoicesPushed, AreTwoPushed};
+ghost use Rattle.tv_points.specs.Nodes.{lines_of_step, lines_of_steps, IsRunMade, AreStepsOf, IsStepProof, AreChoicesPushed, AreTwoPushed};
 
 use crate::bare::bare_proof;
 use crate::fault::PointFault;
@@ -33,7 +32,7 @@ fn choice_at(alloc: Global, run: &Run, place: usize, step: &Step) -> Result<Proo
     requires made { IsRunMade run.now }
     requires leads { IsStepAt (cases_of run.now.about.now) run.now.states.now place step.now }
     requires falling { run.now.ends ≡ true → place < step.now.next }
-    ensures { MatchResult result (IsStepProof run.now place step.now) (IsLineFault (step_lines (cases_of run.now.about.now) run.now.ends run.now.states.now place step.now)) }
+    ensures { MatchResult result (IsStepProof run.now place step.now) (IsLineFault (lines_of_step run.now place step.now)) }
 {
     let next = step.next as usize;
     let taking = Taking {
@@ -62,7 +61,8 @@ pub(crate) fn push_choices(
     requires steps { AreStepsOf run.now place steps.now }
     requires endless { run.now.ends ≡ false }
     requires many { place + length steps.now ≡ length run.now.states.now }
-    ensures { MatchResult result (λ _. AreChoicesPushed run.now place proofs.old.items proofs.new.items) (IsLineFault (run_lines (cases_of run.now.about.now) run.now.ends run.now.states.now place steps.now)) }
+    ensures { let pushed = AreChoicesPushed run.now place proofs.old.items proofs.new.items in
+        MatchResult result (λ _. pushed) (IsLineFault (lines_of_steps run.now place steps.now)) }
 {
     match steps {
         [] => Ok(()),
@@ -88,7 +88,8 @@ pub(crate) fn push_run(
     requires steps { AreStepsOf run.now place steps.now }
     requires ends { run.now.ends ≡ true }
     requires many { place + length steps.now + 1 ≡ length run.now.states.now }
-    ensures { MatchResult result (λ _. AreTwoPushed run.now place proofs.old.items proofs.new.items) (IsLineFault (run_lines (cases_of run.now.about.now) run.now.ends run.now.states.now place steps.now)) }
+    ensures { let pushed = AreTwoPushed run.now place proofs.old.items proofs.new.items in
+        MatchResult result (λ _. pushed) (IsLineFault (lines_of_steps run.now place steps.now)) }
 {
     match steps {
         [] => {

@@ -1,13 +1,13 @@
 // The choice that takes a step from one piece into another.
 
-ghost use Rattle.std.specs.Prelude.{◌≡◌, ◌++◌, ◌-◌, ◌^◌, ◌<◌, IfOk, MatchResult, MatchOption, None, Some, slice_get, length, map, All};
+ghost use Rattle.std.specs.Prelude.{◌≡◌, ◌++◌, ◌-◌, ◌^◌, ◌<◌, IfOk, MatchResult, MatchOption, None, Some, slice_get, length, All};
 ghost use Rattle.tv_linear.specs.Linear.{IsWithin, IsNarrow};
 ghost use Rattle.tv_linear.specs.Arithmetic.{constant_row};
 ghost use Rattle.tv_cases.specs.Systems.{cases_of};
 ghost use Rattle.tv_cases.specs.Views.{case_view};
 ghost use Rattle.tv_points.specs.PointRows.{number_rows};
-ghost use Rattle.tv_points.specs.Lines.{IsShowable, IsLineFault, ArePushed, lines_at};
-ghost use Rattle.tv_points.specs.Taking.{fall_number, taken_rows, IsTaking, IsTakenBy, IsRefusedBy};
+ghost use Rattle.tv_points.specs.Lines.{IsShowable, GivesLines};
+ghost use Rattle.tv_points.specs.Taking.{fall_number, taking_point, case_rows, IsTaking, IsTakenBy, IsRefusedBy};
 
 use crate::falls::{Entering, is_owed, push_entered};
 use crate::fault::PointFault;
@@ -37,7 +37,8 @@ pub(crate) struct Taking<'a> {
 
 /// The case of a number.
 fn case_at(about: &Cases, number: u32) -> Option<&Case>
-    ensures { MatchOption result (slice_get (cases_of about.now).cases number ≡ None) (λ case. slice_get (cases_of about.now).cases number ≡ Some (case_view case.now)) }
+    ensures { let cases = (cases_of about.now).cases in
+        MatchOption result (slice_get cases number ≡ None) (λ case. slice_get cases number ≡ Some (case_view case.now)) }
 {
     about.list().get(number as usize)
 }
@@ -117,10 +118,10 @@ fn push_taken(
     draws: &[Row],
     lists: &mut Vec<Vec<i64>>,
 ) -> Result<(), PointFault>
-    requires few { length taking.now.state.now.values.items < 2 ^ 32 - 1 }
-    requires showable { All (IsShowable taking.now.state.now.values.items) (taken_rows (cases_of taking.now.about.now).variables (case_view case.now) draws.now taking.now.falls taking.now.from.now taking.now.into.now) }
-    ensures { let xs = taking.now.state.now.values.items in let rows = taken_rows (cases_of taking.now.about.now).variables (case_view case.now) draws.now taking.now.falls taking.now.from.now taking.now.into.now in
-        MatchResult result (λ _. ArePushed xs rows (map (λ l. l.items) lists.old.items) (map (λ l. l.items) lists.new.items)) (IsLineFault (lines_at xs rows)) }
+    requires few { length (taking_point taking.now) < 2 ^ 32 - 1 }
+    requires showable { All (IsShowable (taking_point taking.now)) (case_rows taking.now (case_view case.now) draws.now) }
+    ensures { let rows = case_rows taking.now (case_view case.now) draws.now in
+        GivesLines (taking_point taking.now) rows lists.old.items lists.new.items result }
 {
     let columns = taking.about.variables();
     let point = &taking.state.values;
