@@ -27,7 +27,8 @@ fn hole(
     requires same { width row ≡ ambient.now.columns }
     requires splits { budget.now.splits ≤ 128 }
     ensures hole { IfOk result (IsHoleOf ambient.now.columns ambient.now.rows.items row) }
-    ensures refusals { IfErr result (IsCoverFault ambient.now.columns ((row ∷ []) ∷ []) ambient.now.rows.items budget.now.pivots budget.now.splits) }
+    ensures refusals { let rows = ambient.now.rows.items in
+        IfErr result (IsCoverFault ambient.now.columns ((row ∷ []) ∷ []) rows budget.now.pivots budget.now.splits) }
 {
     let mut rows = Vec::new(alloc);
     push_item(&mut rows, row)?;
@@ -56,7 +57,8 @@ pub fn is_met_by_all(
     requires splits { budget.now.splits ≤ 128 }
     ensures settled { IfOk result (IsSettled ambient.now.columns ambient.now.rows.items row) }
     ensures seen { IfOk result (λ _. IsSeen ambient.now.columns ambient.now.rows.items seen.new) }
-    ensures refusals { IfErr result (IsCoverFault ambient.now.columns ((row ∷ []) ∷ []) ambient.now.rows.items budget.now.pivots budget.now.splits) }
+    ensures refusals { let rows = ambient.now.rows.items in
+        IfErr result (IsCoverFault ambient.now.columns ((row ∷ []) ∷ []) rows budget.now.pivots budget.now.splits) }
 {
     if is_implied(&seen.shown, &row) {
         return Ok(true);

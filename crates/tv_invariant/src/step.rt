@@ -54,8 +54,11 @@ pub fn step(
     requires few { variables ≤ 512 }
     requires case { (locations : ℕ) × IsCase variables locations (case_view case.now) }
     requires splits { budget.now.splits ≤ 128 }
-    ensures sieved { IfOk result (λ v. Sieved (KeptBy variables (case_view case.now) now.items) (IsFallen variables (case_view case.now) now.items) now.items v.items) }
-    ensures refusals { IfErr result (λ f. (f ≡ Memory) ⊎ ((c : Candidate) × Contains now.items c × IsStepRefusal variables (case_view case.now) now.items budget.now.pivots budget.now.splits c f)) }
+    ensures sieved { let taken = case_view case.now in
+        IfOk result (λ v. Sieved (KeptBy variables taken now.items) (IsFallen variables taken now.items) now.items v.items) }
+    ensures refusals { let taken = case_view case.now in
+        let refuses = IsStepRefusal variables taken now.items budget.now.pivots budget.now.splits in
+        IfErr result (λ f. (f ≡ Memory) ⊎ ((c : Candidate) × Contains now.items c × refuses c f)) }
 {
     let mut rows = padded_at(alloc, &now, case.from, case.draws)?;
     copy_onto(alloc, &mut rows, &case.guards.rows)?;
