@@ -9,7 +9,7 @@ use Rattle.tv_linear.specs.Terms.{table, terms_after, update_of}
 use Rattle.tv_linear.proofs.RowValues.{value-constant_row}
 use Rattle.tv_program.specs.Steps.{State}
 use Rattle.tv_cases.specs.LinearCases.{CaseSystem, CaseSteps}
-use Rattle.tv_meaning.specs.Runs.{IsRun, last_of}
+use Rattle.tv_program.specs.Runs.{IsRun, last_of}
 use Rattle.tv_candidates.specs.declared.candidate.Candidate.{Candidate}
 use Rattle.tv_candidates.specs.Inductive.{MeetsAll, IsInductive}
 use Rattle.tv_candidates.specs.Offered.{candidate}

@@ -3,7 +3,7 @@ use Rattle.std.specs.Prelude.{◌≡◌, ℕ, List, length, Contains, pos}
 use Rattle.tv_linear.specs.Arithmetic.{constant_row}
 use Rattle.tv_program.specs.Steps.{State}
 use Rattle.tv_cases.specs.LinearCases.{CaseSystem, CaseSteps}
-use Rattle.tv_meaning.specs.Runs.{IsRun, last_of}
+use Rattle.tv_program.specs.Runs.{IsRun, last_of}
 use Rattle.tv_candidates.specs.declared.candidate.Candidate.{Candidate}
 use Rattle.tv_candidates.specs.Inductive.{MeetsAll, IsPart, IsLargestInductive}
 use Rattle.tv_candidates.specs.Offered.{candidate}

@@ -8,7 +8,7 @@ use Rattle.tv_farkas.specs.declared.branch.Branch.{Branch}
 use Rattle.tv_farkas.specs.declared.fault.CoverFault.{CoverFault}
 use Rattle.tv_farkas.specs.declared.fault.CoverFault.TheVariants.{Splits, Solve, Wide, Memory}
 use Rattle.tv_cases.specs.LinearCases.{CaseSystem, CaseSteps}
-use Rattle.tv_meaning.specs.Runs.{IsRun, last_of}
+use Rattle.tv_program.specs.Runs.{IsRun, last_of}
 use Rattle.tv_candidates.specs.declared.candidate.Candidate.{Candidate}
 use Rattle.tv_known.specs.Cycles.{IsInitialAt}
 use Rattle.tv_known.specs.Sizes.{IsSize}

@@ -9,7 +9,7 @@ use Rattle.tv_formula.specs.Properties.{Property, truth, compare, at, term, nega
 use Rattle.tv_formula.specs.Forms.{is_normal, are_normal}
 use Rattle.tv_program.specs.Steps.{State}
 use Rattle.tv_cases.specs.LinearCases.{CaseSystem, CaseSteps, IsCase}
-use Rattle.tv_meaning.specs.Runs.{Must, reached, further, Ends, all_end}
+use Rattle.tv_program.specs.Runs.{Must, reached, further, Ends, all_end}
 use Rattle.tv_meaning.specs.Meaning.{FixHolds, NextHolds, Holds, AllHold, SomeHolds}
 use Rattle.tv_meaning.proofs.RunLemmas.{Never_ends_by}
 use Rattle.tv_known.specs.Cycles.{IsStateOf}

@@ -9,7 +9,7 @@ use Rattle.tv_linear.specs.Known.{Term, kept, put, term_value}
 use Rattle.tv_linear.specs.Terms.{table, terms_after, update_of}
 use Rattle.tv_program.specs.Steps.{State}
 use Rattle.tv_cases.specs.LinearCases.{LinearCase, CaseSystem, CaseDoes, CaseSteps}
-use Rattle.tv_meaning.specs.Runs.{Ends, all_end}
+use Rattle.tv_program.specs.Runs.{Ends, all_end}
 use Rattle.tv_known.specs.Cycles.{case_at, Leads, here, along}
 use Rattle.tv_known.specs.Ranking.{IsCasePoint, HasCasePoint, term_at, scaled_term, value_before, value_after, RanksCases, case_in, AreInside, HasLexicographicRanking}
 use Rattle.tv_known.proofs.Numbers.{same_number, Among, without, stays, stood, shorter, place_of, at_place, below, among_below, below_are, Pairs, none, pair, IsPair, all_pairs, in_all}

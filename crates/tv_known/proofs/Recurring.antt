@@ -6,7 +6,7 @@ use Rattle.tv_linear.specs.Known.{term_value}
 use Rattle.tv_linear.specs.Terms.{terms_after}
 use Rattle.tv_program.specs.Steps.{State}
 use Rattle.tv_cases.specs.LinearCases.{LinearCase, CaseSystem, CaseDoes, CaseSteps}
-use Rattle.tv_meaning.specs.Runs.{Ends, all_end}
+use Rattle.tv_program.specs.Runs.{Ends, all_end}
 use Rattle.tv_meaning.proofs.RunLemmas.{Never_ends_by}
 use Rattle.tv_known.specs.Recurrences.{IsKeptLoop, MayTake, HasSimpleRecurrence}
 use Rattle.tv_known.specs.Laws.{SomeNeverEnds}

@@ -11,7 +11,7 @@ use Rattle.tv_formula.specs.Forms.{is_local, is_normal}
 use Rattle.tv_formula.specs.Normal.{normal, negation}
 use Rattle.tv_cases.specs.LinearCases.{LinearCase, CaseSystem, CaseSteps, IsCase}
 use Rattle.tv_cases.specs.Answers.{HaveSameSteps, IsOfProgram}
-use Rattle.tv_meaning.specs.Runs.{Ends}
+use Rattle.tv_program.specs.Runs.{Ends}
 use Rattle.tv_meaning.specs.Meaning.{Holds}
 use Rattle.tv_known.specs.Cycles.{IsStateOf, IsInitialAt}
 use Rattle.tv_known.specs.Ranking.{HasLexicographicRanking}

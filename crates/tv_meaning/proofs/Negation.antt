@@ -8,7 +8,7 @@ use Rattle.tv_formula.specs.declared.tree.Shape.{Shape}
 use Rattle.tv_formula.specs.declared.tree.Shape.TheVariants.{Until, Weak, Release, Strong}
 use Rattle.tv_program.specs.Meaning.{value_of, compares}
 use Rattle.tv_program.specs.Steps.{State}
-use Rattle.tv_meaning.specs.Runs.{last_of, Must, reached, further, WeakEvery, UntilAny, AtOne, BeforeLast}
+use Rattle.tv_program.specs.Runs.{last_of, Must, reached, further, WeakEvery, UntilAny, AtOne, BeforeLast}
 use Rattle.tv_meaning.specs.Meaning.{FixHolds, NextHolds}
 use Rattle.tv_formula.specs.Properties.{Property, truth, compare, at, term, negated, all_of, some_of, next, fix, Properties, none, more}
 use Rattle.tv_formula.specs.Normal.{negation, normal, negations, normals, opposite, other_path, other_shape}

@@ -1,5 +1,5 @@
 use Rattle.std.proofs.Common.{◌≡◌, ℕ, ◌⊎◌, inl, inr, ◌+◌, [], ◌∷◌, refl, subst, sym}
-use Rattle.tv_meaning.specs.Runs.{WeakEvery, UntilAny, WeakAnyFails, Must, reached, further, Ends, all_end}
+use Rattle.tv_program.specs.Runs.{WeakEvery, UntilAny, WeakAnyFails, Must, reached, further, Ends, all_end}
 
 -- no endless list of steps begins at a state of Ends
 pub never_endless : {S : Type 0} {step : S → S → Type 0} {s : S} → Ends step s → (run : ℕ → S) → ((n : ℕ) → step (run n) (run (n + 1))) → (n : ℕ) → s ≡ run n → ⊥

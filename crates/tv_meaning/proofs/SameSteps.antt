@@ -6,7 +6,7 @@ use Rattle.tv_formula.specs.declared.tree.Shape.{Shape}
 use Rattle.tv_formula.specs.declared.tree.Shape.TheVariants.{Until, Weak, Release, Strong}
 use Rattle.tv_formula.specs.Properties.{Property, truth, compare, at, term, negated, all_of, some_of, next, fix, Properties, none, more}
 use Rattle.tv_program.specs.Steps.{State}
-use Rattle.tv_meaning.specs.Runs.{IsRun, last_of, AtOne, BeforeLast, Must, reached, further, Ends, all_end, WeakAnyFails}
+use Rattle.tv_program.specs.Runs.{IsRun, last_of, AtOne, BeforeLast, Must, reached, further, Ends, all_end, WeakAnyFails}
 use Rattle.tv_meaning.specs.Meaning.{FixHolds, NextHolds, Holds, AllHold, SomeHolds}
 
 -- Two relations have the same steps from the states of a set, and no step leaves the set.

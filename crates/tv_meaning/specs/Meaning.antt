@@ -7,7 +7,7 @@ use Rattle.tv_formula.specs.Properties.{Property, truth, compare, at, term, nega
 use Rattle.tv_program.specs.Meaning.{value_of, compares}
 use Rattle.tv_program.specs.Systems.{System}
 use Rattle.tv_program.specs.Steps.{State, Steps, IsInitial}
-use Rattle.tv_meaning.specs.Runs.{Must, Ends, WeakEvery, UntilAny, WeakAnyFails}
+use Rattle.tv_program.specs.Runs.{Must, Ends, WeakEvery, UntilAny, WeakAnyFails}
 
 -- a fixed point of two properties of states
 abbrev pub FixHolds : {S : Type 0} → (S → S → Type 0) → Path → Shape → (S → Type 0) → (S → Type 0) → S → Type 0

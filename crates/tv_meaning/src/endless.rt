@@ -1,7 +1,7 @@
 ghost use Rattle.std.specs.Prelude.{ℕ, ◌+◌};
 ghost use Rattle.tv_program.specs.Programs.{system_of};
 ghost use Rattle.tv_program.specs.Steps.{State, Steps};
-ghost use Rattle.tv_meaning.specs.Runs.{Ends};
+ghost use Rattle.tv_program.specs.Runs.{Ends};
 
 use tv_program::Program;
 

@@ -18,7 +18,7 @@ use Rattle.tv_cert.specs.Nodes.{kid_pieces, parts, kid_entries, entries, obligat
 use Rattle.tv_cert.specs.Fits.{NodeFits}
 use Rattle.tv_cert.proofs.PieceLemmas.{piece_got}
 use Rattle.tv_sound.specs.Following.{Spot, offered, offered_at, all_offered, onward, followed, Follows}
-use Rattle.tv_meaning.specs.Runs.{IsRun}
+use Rattle.tv_program.specs.Runs.{IsRun}
 use Rattle.tv_cert.specs.declared.node.Proof.{Proof}
 use Rattle.tv_sound.specs.Settled.{IsSettled}
 use Rattle.tv_sound.proofs.Membership.{got_in}

@@ -13,7 +13,7 @@ use Rattle.tv_linear.specs.Known.{Known, given, denied, term_value, IsKnownMet, 
 use Rattle.tv_linear.specs.Terms.{terms_after}
 use Rattle.tv_linear.proofs.KnownLemmas.{refuted, value-denied, value-given}
 use Rattle.tv_program.specs.Steps.{State}
-use Rattle.tv_meaning.specs.Runs.{IsRun, last_of, follow}
+use Rattle.tv_program.specs.Runs.{IsRun, last_of, follow}
 use Rattle.tv_cases.specs.LinearCases.{LinearCase, CaseSystem, CaseSteps}
 use Rattle.tv_cert.specs.declared.node.Marked.{Marked}
 use Rattle.tv_cert.specs.declared.node.Proof.{Proof}

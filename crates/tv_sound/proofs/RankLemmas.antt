@@ -3,7 +3,7 @@ use Rattle.std.proofs.Common.{◌≡◌, ℕ, zero, suc, ◌⊎◌, inl, inr, Li
 use Rattle.std.proofs.lemmas.Int.{ints}
 use borrow.Author.Differences.{up}
 use Rattle.tv_linear.specs.Falls.{FallsAt, Falls}
-use Rattle.tv_meaning.specs.Runs.{Ends, all_end}
+use Rattle.tv_program.specs.Runs.{Ends, all_end}
 
 -- a fall as it is seen from the first rank on
 abbrev FrontFalls : List ℤ → List ℤ → Type 0

@@ -8,7 +8,7 @@ use Rattle.tv_linear.specs.Falls.{Falls}
 use Rattle.tv_linear.proofs.FallLemmas.{falls-shown}
 use Rattle.tv_linear.proofs.KnownLemmas.{met-as_given}
 use Rattle.tv_program.specs.Steps.{State}
-use Rattle.tv_meaning.specs.Runs.{Must, reached, Ends, WeakEvery, UntilAny, WeakAnyFails}
+use Rattle.tv_program.specs.Runs.{Must, reached, Ends, WeakEvery, UntilAny, WeakAnyFails}
 use Rattle.tv_meaning.proofs.RunLemmas.{Must_by_ranks, Ends_by_ranks, Weak_every_by, Weak_any_by, Until_any_by_ranks, Never_ends_by}
 use Rattle.tv_cases.specs.LinearCases.{LinearCase, CaseSystem, CaseSteps}
 use Rattle.tv_cert.specs.declared.node.Marked.{Marked}

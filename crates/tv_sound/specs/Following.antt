@@ -8,7 +8,7 @@ use Rattle.tv_linear.specs.Known.{term_value}
 use Rattle.tv_linear.specs.Terms.{terms_after}
 use Rattle.tv_program.specs.Steps.{State, Steps}
 use Rattle.tv_program.specs.Systems.{System}
-use Rattle.tv_meaning.specs.Runs.{IsRun, follow}
+use Rattle.tv_program.specs.Runs.{IsRun, follow}
 use Rattle.tv_cases.specs.LinearCases.{LinearCase, CaseSystem}
 use Rattle.tv_cert.specs.declared.node.Marked.{Marked}
 use Rattle.tv_cert.specs.declared.node.Node.{Node, Node'}
