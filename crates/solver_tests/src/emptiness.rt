@@ -2,7 +2,8 @@ use crate::tables::{
     CORNER, HALF, LARGE, MINUS_HALF, Numbers, PARITY, are_even, is_leaf, is_row, rows_of,
 };
 use std::test::Fail;
-use tv_farkas::{Branch, Budget, CoverFault, Emptied, empty};
+use tv_cover::{Emptied, empty};
+use tv_farkas::{Branch, Budget, CoverFault};
 use tv_linear::CoverTree;
 use tv_simplex::SolveFault;
 

@@ -7,14 +7,15 @@ use Rattle.tv_linear.specs.Fits.{IsHeld}
 use Rattle.tv_linear.specs.Known.{given, denied, KnownHeld}
 use Rattle.tv_linear.proofs.PlainLists.{length-unit}
 use Rattle.tv_farkas.specs.Paths.{TakenOnce, IsWholePoint, IsFirstFraction, IsPointSplit, at_most_row, at_least_row}
-use Rattle.tv_farkas.specs.Searching.{IsFractionAt}
+use Rattle.tv_farkas.specs.Halving.{IsFractionAt}
 use Rattle.tv_farkas.specs.Stretching.{IsFloor, IsSide}
-use Rattle.tv_farkas.proofs.SearchLemmas.{low_value, high_value, fresh, high_side, get_or-neg}
+use Rattle.tv_farkas.proofs.SideLemmas.{low_value, high_value, fresh, high_side, get_or-neg}
 use Rattle.tv_farkas.proofs.TakenLemmas.{all_taken}
-use Rattle.tv_cover.specs.declared.splitting.Halves.{Halves}
+use Rattle.tv_farkas.specs.declared.splitting.Halves.{Halves}
 use Rattle.tv_cover.specs.Targets.{HasPoint, IsTargetRow, IsInTarget, IsNarrowRow}
 use Rattle.tv_cover.specs.CoverPaths.{IsShut, IsLeftOpen, IsRowSplit, IsCoordinateSplit, SplitsBy}
-use Rattle.tv_cover.specs.Halving.{IsBare, Keeps, AreRowSides, ArePointSides}
+use Rattle.tv_farkas.specs.Halving.{Keeps, ArePointSides}
+use Rattle.tv_cover.specs.Halving.{IsBare, AreRowSides}
 use Rattle.tv_cover.specs.Stepping.{AreHalves}
 use Rattle.tv_cover.proofs.PointLemmas.{point_above, point_front, open_above, shut_above, denied_new, met_new}
 

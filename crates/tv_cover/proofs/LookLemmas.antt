@@ -16,7 +16,7 @@ use Rattle.std.proofs.lemmas.Int.{to_z-of_z}
 use mir.Val.{to_z, of_z}
 use Rattle.tv_simplex.proofs.AnswerLemmas.{short_fits}
 use Rattle.tv_farkas.specs.Refuting.{IsSystemFault, IsRefuted, IsShortRefuted, AreShort}
-use Rattle.tv_farkas.proofs.SearchLemmas.{all_left}
+use Rattle.tv_farkas.proofs.SideLemmas.{all_left}
 use Rattle.tv_cover.specs.declared.witness.Witness.{Witness}
 use Rattle.tv_cover.specs.Targets.{HasPoint}
 use Rattle.tv_cover.specs.Covering.{IsRowOrDenial}

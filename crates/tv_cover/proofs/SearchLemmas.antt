@@ -23,11 +23,11 @@ use Rattle.tv_farkas.specs.Stretching.{IsTakenBy, stretched, IsSide, AreSides, I
 use Rattle.tv_farkas.proofs.StretchLemmas.{stretched_refutes}
 use Rattle.tv_farkas.proofs.TakenLemmas.{all_taken}
 use Rattle.tv_farkas.proofs.PathLemmas.{append-nil, after_is, after_more, path_more, rows_more}
-use Rattle.tv_farkas.proofs.SearchLemmas.{given_side, given_sides, sides_more, get_or-neg, as_given-append, popped, whole_met, all_left}
+use Rattle.tv_farkas.proofs.SideLemmas.{given_side, given_sides, sides_more, get_or-neg, as_given-append, popped, whole_met, all_left}
 use Rattle.tv_cover.specs.declared.covering.Place.{Place}
 use Rattle.tv_cover.specs.declared.covering.Found.{Found}
 use Rattle.tv_cover.specs.declared.covering.Found.TheVariants.{Tree, Hole}
-use Rattle.tv_cover.specs.declared.splitting.Halves.{Halves}
+use Rattle.tv_farkas.specs.declared.splitting.Halves.{Halves}
 use Rattle.tv_cover.specs.Targets.{AreEven, IsInTarget, IsOutside, HasPoint, IsNarrowRow, owed_lists}
 use Rattle.tv_cover.specs.CoverPaths.{IsShut, IsSplit, SplitsBy}
 use Rattle.tv_cover.specs.Trying.{IsShownRow, IsOpenTarget, IsWideAt}

@@ -11,7 +11,7 @@ use Rattle.tv_simplex.proofs.Ring.{zero_times}
 use Rattle.tv_farkas.proofs.SystemLemmas.{length-map, at_of}
 use Rattle.tv_farkas.proofs.StretchLemmas.{stretched_short}
 use Rattle.tv_farkas.specs.Refuting.{AreShort}
-use Rattle.tv_farkas.proofs.SearchLemmas.{get_or-neg}
+use Rattle.tv_farkas.proofs.SideLemmas.{get_or-neg}
 use Rattle.tv_farkas.specs.Stretching.{stretched}
 use Rattle.tv_cover.specs.Targets.{IsNarrowRow}
 use Rattle.tv_cover.specs.Looking.{IsShowing}

@@ -9,7 +9,7 @@ use Rattle.tv_farkas.proofs.SystemLemmas.{length-map}
 use Rattle.tv_cover.specs.declared.witness.Witness.{Witness}
 use Rattle.tv_cover.specs.Targets.{AreEven, HasPoint, IsTargetRow, IsNarrowRow, lists_of}
 use Rattle.tv_cover.specs.CoverPaths.{IsShut, IsLeftOpen}
-use Rattle.tv_cover.specs.declared.splitting.Halves.{Halves}
+use Rattle.tv_farkas.specs.declared.splitting.Halves.{Halves}
 use Rattle.tv_cover.specs.Halving.{AreRowSides}
 use Rattle.tv_cover.specs.Trying.{IsOpenAt, IsOpenTarget, IsWideIn, IsWideAt}
 use Rattle.tv_cover.specs.Looking.{AreWitnesses, IsLookedAt, AreEntered}

@@ -2,6 +2,7 @@ pub mod Targets
 pub mod CoverPaths
 pub mod Trying
 pub mod Covering
+pub mod Emptying
 pub mod Looking
 pub mod Halving
 pub mod Stepping

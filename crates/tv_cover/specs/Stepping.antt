@@ -13,7 +13,7 @@ use Rattle.tv_cover.specs.declared.stepping.Look.{Look}
 use Rattle.tv_cover.specs.declared.stepping.Look.TheVariants as look
 use Rattle.tv_cover.specs.declared.stepping.Step.{Step}
 use Rattle.tv_cover.specs.declared.stepping.Step.TheVariants as step
-use Rattle.tv_cover.specs.declared.splitting.Halves.{Halves}
+use Rattle.tv_farkas.specs.declared.splitting.Halves.{Halves}
 use Rattle.tv_cover.specs.Targets.{IsInTarget}
 use Rattle.tv_cover.specs.CoverPaths.{IsShut, IsSplit}
 use Rattle.tv_cover.specs.Trying.{IsOpenTarget}

@@ -10,11 +10,10 @@ ghost use Rattle.tv_cover.specs.Searching.{SearchesAt, IsPlace, IsPlaceWith, IsF
 
 use crate::Covered;
 use crate::question::Question;
-use crate::splitting::Halves;
 use crate::stepping::{Step, next_step};
 use std::alloc::Global;
 use std::mem;
-use tv_farkas::{Branch, Budget, CoverFault, Distinct, split_of, take_once};
+use tv_farkas::{Branch, Budget, CoverFault, Distinct, Halves, split_of, take_once};
 use tv_linear::{Cover, CoverTree, Poly, Row};
 use tv_simplex::push_item;
 
@@ -135,35 +134,70 @@ fn settle_side(
 /// Settles the rows of a place, each taken once, where so many splits may lie on a path.
 fn search(
     alloc: Global,
-    ambient: &Poly,
+    columns: u32,
+    rows: &[Row],
     targets: &[Poly],
     budget: &Budget,
 ) -> Result<Found, CoverFault>
-    requires few { ambient.now.columns < 2 ^ 32 - 1 }
-    requires even { AreEven ambient.now.columns ambient.now.rows.items }
-    requires same { All (AreEven ambient.now.columns) (lists_of targets.now) }
+    requires few { columns < 2 ^ 32 - 1 }
+    requires even { AreEven columns rows.now }
+    requires same { All (AreEven columns) (lists_of targets.now) }
     requires count { length targets.now < 2 ^ 32 - 1 }
-    ensures { let n = ambient.now.columns in
-        let lists = lists_of targets.now in
+    ensures { let lists = lists_of targets.now in
         MatchResult result
-        (λ found. IsSearched n lists ambient.now.rows.items budget.now.splits found)
-        (λ fault. IsCoverFault n lists ambient.now.rows.items budget.now.pivots budget.now.splits fault) }
+        (λ found. IsSearched columns lists rows.now budget.now.splits found)
+        (λ fault. IsCoverFault columns lists rows.now budget.now.pivots budget.now.splits fault) }
 {
-    let Distinct { rows, repeated } = take_once(alloc, &ambient.rows)?;
+    let Distinct {
+        rows: kept,
+        repeated,
+    } = take_once(alloc, rows)?;
     let question = Question {
         alloc,
-        columns: ambient.columns,
+        columns,
         pivots: budget.pivots,
         repeated: &repeated,
         targets,
     };
     let mut place = Place {
-        rows,
+        rows: kept,
         path: Vec::new(alloc),
     };
     match settle(&question, &mut place, budget.splits) {
         Err(fault) => Err(fault),
         Ok(found) => Ok(found),
+    }
+}
+
+/// The same as `cover`, over rows that are borrowed.
+pub fn cover_of(
+    alloc: Global,
+    columns: u32,
+    rows: &[Row],
+    targets: &[Poly],
+    budget: &Budget,
+) -> Result<Covered, CoverFault>
+    requires few { columns < 2 ^ 32 - 1 }
+    requires even { AreEven columns rows.now }
+    requires same { All (AreEven columns) (lists_of targets.now) }
+    requires count { length targets.now < 2 ^ 32 - 1 }
+    requires splits { budget.now.splits ≤ 128 }
+    ensures answers { IfOk result (IsCovered columns (lists_of targets.now) rows.now) }
+    ensures none { IfOk result (HasNoHole columns (lists_of targets.now) rows.now) }
+    ensures point { IfOk result (GivesHole columns (lists_of targets.now) rows.now) }
+    ensures shallow { IfOk result (IsShallow budget.now.splits) }
+    ensures short { IfOk result IsShortCovered }
+    ensures split_rows { IfOk result (HasSplitRows columns (lists_of targets.now)) }
+    ensures refusals { let lists = lists_of targets.now in
+        IfErr result (IsCoverFault columns lists rows.now budget.now.pivots budget.now.splits) }
+{
+    match search(alloc, columns, rows, targets, budget) {
+        Err(fault) => Err(fault),
+        Ok(Found::Hole(point)) => Ok(Covered::Hole(point)),
+        Ok(Found::Tree(tree)) => match Cover::new(tree) {
+            Some(cover) => Ok(Covered::Tree(cover)),
+            None => unreachable!(),
+        },
     }
 }
 
@@ -200,12 +234,5 @@ pub fn cover(
     ensures refusals { let lists = lists_of targets.now in
         IfErr result (IsCoverFault ambient.now.columns lists ambient.now.rows.items budget.now.pivots budget.now.splits) }
 {
-    match search(alloc, ambient, targets, budget) {
-        Err(fault) => Err(fault),
-        Ok(Found::Hole(point)) => Ok(Covered::Hole(point)),
-        Ok(Found::Tree(tree)) => match Cover::new(tree) {
-            Some(cover) => Ok(Covered::Tree(cover)),
-            None => unreachable!(),
-        },
-    }
+    cover_of(alloc, ambient.columns, &ambient.rows, targets, budget)
 }

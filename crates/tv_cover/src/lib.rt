@@ -1,9 +1,11 @@
 //! Covers of rows by targets: a proof tree that each whole point of the rows lies in some target, or a whole point
-//! that lies in none.
+//! that lies in none; and, without targets, whether rows have a whole point.
 #![tactic(auto)]
 
 mod covered;
 mod covering;
+mod emptied;
+mod emptying;
 mod looking;
 mod question;
 mod sharing;
@@ -15,4 +17,6 @@ mod witness;
 
 pub use covered::Covered;
 pub use covering::cover;
+pub use emptied::Emptied;
+pub use emptying::empty;
 pub use targets::{are_even, is_even};

@@ -11,11 +11,14 @@ ghost use Rattle.tv_cover.specs.Stepping.{IsLook, IsEntered, IsStep, IsPointAt, 
 
 use crate::looking::{Shown, is_shut, show_all};
 use crate::question::Question;
-use crate::splitting::{Halves, halves_at_point, halves_at_row};
+use crate::splitting::halves_at_row;
 use crate::witness::Witness;
 use std::alloc::{AllocError, Global};
 use std::mem;
-use tv_farkas::{CoverFault, Refuted, divided, first_fraction, refute, stretch, unsolved};
+use tv_farkas::{
+    CoverFault, Halves, Refuted, divided, first_fraction, halves_at_point, refute, stretch,
+    unsolved,
+};
 use tv_linear::{CoverTree, Row, shortened};
 use tv_simplex::push_item;
 

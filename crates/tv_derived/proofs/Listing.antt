@@ -8,7 +8,7 @@ use Rattle.tv_cases.specs.LinearCases.{CaseSystem}
 use Rattle.tv_farkas.specs.declared.branch.Branch.{Branch}
 use Rattle.tv_farkas.specs.Paths.{TakenOnce, none, first, again, IsFirstFraction, IsPointSplit, SplitsAt, IsCoordinateSplit, IsPath, rows_after, at_most_row, at_least_row}
 use Rattle.tv_farkas.specs.RefutationSystem.{IsPointOf}
-use Rattle.tv_farkas.specs.Emptying.{IsEmptyPath, IsEmptyFault}
+use Rattle.tv_farkas.specs.EmptyPaths.{IsEmptyPath, IsEmptyFault}
 use Rattle.tv_farkas.specs.declared.fault.CoverFault.{CoverFault}
 use Rattle.tv_farkas.specs.declared.fault.CoverFault.TheVariants as faults
 use Rattle.tv_farkas.specs.declared.fault.CoverFault.TheVariants.{Splits, Solve}

@@ -7,7 +7,7 @@ use Rattle.tv_linear.specs.declared.fault.RowFault.{RowFault}
 use Rattle.tv_cases.specs.LinearCases.{LinearCase, CaseSystem}
 use Rattle.tv_cases.specs.Before.{before, GivesBefore}
 use Rattle.tv_farkas.specs.declared.fault.CoverFault.{CoverFault}
-use Rattle.tv_farkas.specs.Emptying.{IsEmptyFault}
+use Rattle.tv_farkas.specs.EmptyPaths.{IsEmptyFault}
 use Rattle.tv_derived.specs.Scopes.{over_case, width_at, with_more, Placed, placed}
 use Rattle.tv_derived.specs.Derived.{IsDerived, AreUnsplit}
 use Rattle.tv_derived.specs.Faults.{IsStepFault, IsRefusalOf}

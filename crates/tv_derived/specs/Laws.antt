@@ -12,7 +12,7 @@ use Rattle.tv_cases.specs.Before.{GivesBefore}
 use Rattle.tv_farkas.specs.declared.branch.Branch.{Branch}
 use Rattle.tv_farkas.specs.declared.fault.CoverFault.{CoverFault}
 use Rattle.tv_farkas.specs.Paths.{TakenOnce, rows_after}
-use Rattle.tv_farkas.specs.Emptying.{IsEmptyPath, IsEmptyFault}
+use Rattle.tv_farkas.specs.EmptyPaths.{IsEmptyPath, IsEmptyFault}
 use Rattle.tv_derived.specs.Scopes.{Scope, at_location, over_case, width_at, with_more, Placed}
 use Rattle.tv_derived.specs.Derived.{IsDerived, IsMade, IsDrawTerm, IsUnsplit, AreUnsplit, AreListed, IsDerivedList, AllNarrow, AreLeast, false_row, coefficient}
 use Rattle.tv_derived.specs.Regions.{placed_rows, ArePiecesDerived}

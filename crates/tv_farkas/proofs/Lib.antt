@@ -6,4 +6,4 @@ pub mod TakenLemmas
 pub mod StretchLemmas
 pub mod PathLemmas
 pub mod JudgeLemmas
-pub mod SearchLemmas
+pub mod SideLemmas

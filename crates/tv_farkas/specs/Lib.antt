@@ -2,7 +2,7 @@ pub mod RefutationSystem
 pub mod Refuting
 pub mod Trees
 pub mod Paths
-pub mod Emptying
+pub mod EmptyPaths
 pub mod Stretching
-pub mod Searching
+pub mod Halving
 pub mod Judging

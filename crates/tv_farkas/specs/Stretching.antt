@@ -1,11 +1,10 @@
-use Rattle.std.specs.Prelude.{◌≡◌, ℕ, ◌<◌, List, [], ◌∷◌, ◌++◌, length, map, get_or, All, Bool, true, false, ℤ, pos, ◌+ℤ◌, ◌*ℤ◌, ◌<ℤ◌, ◌≤ℤ◌, Option, None, Some}
-use Rattle.tv_linear.specs.Linear.{Linear, columns}
+use Rattle.std.specs.Prelude.{◌≡◌, ℕ, ◌<◌, List, [], ◌∷◌, length, map, get_or, Bool, true, false, ℤ, pos, ◌+ℤ◌, ◌*ℤ◌, ◌<ℤ◌, ◌≤ℤ◌, Option, None, Some}
+use Rattle.tv_linear.specs.Linear.{Linear}
 use Rattle.tv_linear.specs.declared.cover.CoverTree.{CoverTree, Split', Empty, Into}
 use Rattle.tv_linear.specs.Known.{Known, number, known_number, KnownHeld}
 use Rattle.tv_simplex.specs.Outcomes.{IsShort}
 use Rattle.tv_farkas.specs.declared.branch.Branch.{Branch}
-use Rattle.tv_farkas.specs.Paths.{TakenOnce, IsWholeAt, rows_after}
-use Rattle.tv_farkas.specs.Emptying.{IsEmptyPath}
+use Rattle.tv_farkas.specs.Paths.{IsWholeAt}
 
 -- the kept rows are those that are not marked as repeated
 abbrev pub IsTakenBy : List Bool → List Linear → List Linear → Type 0
@@ -58,15 +57,6 @@ AreSides n (r ∷ rows) (k ∷ known) = IsSide n r k × AreSides n rows known
 -- the rows of a path
 abbrev pub rows_of : List Branch → List Linear
 rows_of path = map (λ b. b.row) path
-
--- the kept rows are the rows handed in, each taken once, and the splits of the path
-pub record Searches (n : ℕ) (rows : List Linear) (marks : List Bool) (kept : List Linear) (path : List Branch) : Type 0 where
-  pub even : All (λ r. columns r ≡ n) kept
-  pub first : List Linear
-  pub parts : kept ≡ first ++ rows_of path
-  pub marked : IsTakenBy marks rows first
-  pub taken : TakenOnce (rows_after rows path) kept
-  pub is_path : IsEmptyPath n rows path
 
 -- the tree is a split at the row into the two trees
 abbrev pub IsSplitOf : Linear → CoverTree → CoverTree → CoverTree → Type 0

@@ -1,11 +1,9 @@
-//! Whether rows have a point: multipliers that refute them or a point over a scale, and for whole points a cover
-//! without targets or a whole point.
+//! Whether rows have a point: multipliers that refute them or a point over a scale. Beside it what the search for
+//! whole points stands on: rows taken once, coordinates that are not whole, splits of proof trees.
 #![tactic(auto)]
 
 mod branch;
 mod budget;
-mod emptied;
-mod emptying;
 mod fault;
 mod judged;
 mod judging;
@@ -19,8 +17,6 @@ mod stretching;
 
 pub use branch::Branch;
 pub use budget::Budget;
-pub use emptied::Emptied;
-pub use emptying::empty;
 pub use fault::CoverFault;
 pub use judged::Judged;
 pub use judging::{judge, unsolved};
@@ -28,5 +24,5 @@ pub use points::{divided, first_fraction, floor_of};
 pub use refuted::Refuted;
 pub use refuting::refute;
 pub use rows::{Distinct, at_least, at_most, is_among, is_same, take_once};
-pub use splitting::split_of;
+pub use splitting::{Halves, halves_at_point, split_of};
 pub use stretching::stretch;
