@@ -26,7 +26,7 @@ fn lists(alloc: Global, of: &[&[i64]]) -> Result<Vec<Vec<i64>>, AllocError> {
     Ok(lists)
 }
 
-pub fn into(alloc: Global, target: u32, fall: u32, of: &[&[i64]]) -> Result<Cover, Fail> {
+pub(crate) fn into(alloc: Global, target: u32, fall: u32, of: &[&[i64]]) -> Result<Cover, Fail> {
     let refutations = lists(alloc, of)?;
     let tree = CoverTree::Into {
         target,
@@ -37,14 +37,14 @@ pub fn into(alloc: Global, target: u32, fall: u32, of: &[&[i64]]) -> Result<Cove
     Ok(cover)
 }
 
-pub fn refuted(alloc: Global, multipliers: &[i64]) -> Result<Cover, Fail> {
+pub(crate) fn refuted(alloc: Global, multipliers: &[i64]) -> Result<Cover, Fail> {
     let tree = CoverTree::Empty(Vec::from_slice(alloc, multipliers)?);
     let cover = Cover::new(tree).ok_or("deep")?;
     Ok(cover)
 }
 
 /// A step by the case into the only piece where it leads.
-pub fn take(alloc: Global, taken: u32, of: &[&[i64]]) -> Result<Proof, Fail> {
+pub(crate) fn take(alloc: Global, taken: u32, of: &[&[i64]]) -> Result<Proof, Fail> {
     let tree = ChoiceTree::Take {
         taken,
         target: 0,
@@ -58,7 +58,7 @@ pub fn take(alloc: Global, taken: u32, of: &[&[i64]]) -> Result<Proof, Fail> {
 
 /// A piece at a location, with rows and ranks of these coefficients and constants.
 #[derive(Clone, Copy)]
-pub struct Part<'a> {
+pub(crate) struct Part<'a> {
     pub location: u32,
     pub mark: Mark,
     pub rows: &'a [(i128, i128)],
@@ -73,7 +73,7 @@ fn piece(alloc: Global, part: Part) -> Result<Marked, Fail> {
     Ok(piece)
 }
 
-pub fn pieces(alloc: Global, parts: &[Part]) -> Result<Pieces, Fail> {
+pub(crate) fn pieces(alloc: Global, parts: &[Part]) -> Result<Pieces, Fail> {
     let mut list = Vec::new(alloc);
     for part in parts {
         list.push(piece(alloc, *part)?)?;
@@ -82,7 +82,12 @@ pub fn pieces(alloc: Global, parts: &[Part]) -> Result<Pieces, Fail> {
 }
 
 /// A node without children.
-pub fn leaf(alloc: Global, parts: &[Part], ranks: u32, proofs: Vec<Proof>) -> Result<Node, Fail> {
+pub(crate) fn leaf(
+    alloc: Global,
+    parts: &[Part],
+    ranks: u32,
+    proofs: Vec<Proof>,
+) -> Result<Node, Fail> {
     let pieces = pieces(alloc, parts)?;
     Ok(Node {
         pieces,
@@ -93,7 +98,7 @@ pub fn leaf(alloc: Global, parts: &[Part], ranks: u32, proofs: Vec<Proof>) -> Re
 }
 
 /// A node over two others.
-pub fn fork(
+pub(crate) fn fork(
     alloc: Global,
     parts: &[Part],
     proofs: Vec<Proof>,
@@ -111,12 +116,12 @@ pub fn fork(
 }
 
 /// That the start lies in this piece.
-pub fn start(alloc: Global, piece: u32) -> Result<Verdict, Fail> {
+pub(crate) fn start(alloc: Global, piece: u32) -> Result<Verdict, Fail> {
     let cover = into(alloc, piece, 0, &[])?;
     Ok(Verdict::Proved(cover))
 }
 
-pub fn values(alloc: Global, of: &[i128]) -> Result<Verdict, Fail> {
+pub(crate) fn values(alloc: Global, of: &[i128]) -> Result<Verdict, Fail> {
     let values = Vec::from_slice(alloc, of)?;
     Ok(Verdict::Disproved { piece: 0, values })
 }

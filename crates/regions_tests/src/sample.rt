@@ -4,60 +4,60 @@ use tv_farkas::Budget;
 use tv_linear::{Piece, Poly, Region, Row};
 use tv_region::RegionFault;
 
-pub const AMPLE: Budget = Budget {
+pub(crate) const AMPLE: Budget = Budget {
     pivots: 1000,
     splits: 64,
     disjuncts: 256,
 };
 
 /// For one piece at a location.
-pub const ONE: Budget = Budget {
+pub(crate) const ONE: Budget = Budget {
     pivots: 1000,
     splits: 64,
     disjuncts: 1,
 };
 
 /// Without a split.
-pub const UNSPLIT: Budget = Budget {
+pub(crate) const UNSPLIT: Budget = Budget {
     pivots: 1000,
     splits: 0,
     disjuncts: 256,
 };
 
 /// Lists of rows over one variable, by coefficient and constant, at location 0.
-pub type Lists = &'static [&'static [(i128, i128)]];
+pub(crate) type Lists = &'static [&'static [(i128, i128)]];
 
 /// `x < 5`.
-pub const BELOW_FIVE: Lists = &[&[(1, -4)]];
+pub(crate) const BELOW_FIVE: Lists = &[&[(1, -4)]];
 
 /// `x == 1 || x == 3`.
-pub const ONE_OR_THREE: Lists = &[&[(1, -1), (-1, 1)], &[(1, -3), (-1, 3)]];
+pub(crate) const ONE_OR_THREE: Lists = &[&[(1, -1), (-1, 1)], &[(1, -3), (-1, 3)]];
 
 /// `x <= 1 && x >= 3`.
-pub const NEVER: Lists = &[&[(1, -1), (-1, 3)]];
+pub(crate) const NEVER: Lists = &[&[(1, -1), (-1, 3)]];
 
 /// `x < 5 && x < 7`, twice, and `x < 3`.
-pub const TWICE: Lists = &[&[(1, -4), (1, -6)], &[(1, -4)], &[(1, -2)]];
+pub(crate) const TWICE: Lists = &[&[(1, -4), (1, -6)], &[(1, -4)], &[(1, -2)]];
 
-pub const NOWHERE: Lists = &[];
+pub(crate) const NOWHERE: Lists = &[];
 
 /// One piece without rows.
-pub const ALL: Lists = &[&[]];
+pub(crate) const ALL: Lists = &[&[]];
 
 /// `x > 0`.
-pub const ABOVE_ZERO: Lists = &[&[(-1, 1)]];
+pub(crate) const ABOVE_ZERO: Lists = &[&[(-1, 1)]];
 
 /// `x <= 0`.
-pub const AT_MOST_ZERO: Lists = &[&[(1, 0)]];
+pub(crate) const AT_MOST_ZERO: Lists = &[&[(1, 0)]];
 
 /// `x < 0`.
-pub const BELOW_ZERO: Lists = &[&[(1, 1)]];
+pub(crate) const BELOW_ZERO: Lists = &[&[(1, 1)]];
 
 /// `x >= 0`.
-pub const NOT_BELOW_ZERO: Lists = &[&[(-1, 0)]];
+pub(crate) const NOT_BELOW_ZERO: Lists = &[&[(-1, 0)]];
 
 /// `x == 4`.
-pub const FOUR: Lists = &[&[(1, -4), (-1, 4)]];
+pub(crate) const FOUR: Lists = &[&[(1, -4), (-1, 4)]];
 
 fn row(alloc: Global, coefficient: i128, constant: i128) -> Result<Row, Fail> {
     let row = Row::new(alloc, &[coefficient], constant)?.ok_or("wide")?;
@@ -73,7 +73,7 @@ fn rows_of(alloc: Global, list: &[(i128, i128)]) -> Result<Vec<Row>, Fail> {
 }
 
 /// The region of the lists, over one variable and one location.
-pub fn region_of(alloc: Global, lists: Lists) -> Result<Region, Fail> {
+pub(crate) fn region_of(alloc: Global, lists: Lists) -> Result<Region, Fail> {
     let mut pieces = Vec::new(alloc);
     for list in lists {
         let rows = rows_of(alloc, *list)?;
@@ -113,7 +113,7 @@ const TRIED: &[i128] = &[
 ];
 
 /// Whether the region has so many pieces, and of the values from -9 to 9 these alone.
-pub fn is(region: &Region, pieces: usize, values: &[i128]) -> bool {
+pub(crate) fn is(region: &Region, pieces: usize, values: &[i128]) -> bool {
     for x in TRIED {
         if has(region, *x) != values.contains(x) {
             return false;
@@ -123,7 +123,7 @@ pub fn is(region: &Region, pieces: usize, values: &[i128]) -> bool {
 }
 
 /// Whether so many pieces were refused.
-pub fn refused(made: &Result<Region, RegionFault>, pieces: u64) -> bool {
+pub(crate) fn refused(made: &Result<Region, RegionFault>, pieces: u64) -> bool {
     match made {
         Err(RegionFault::Disjuncts { location, count }) => *location == 0 && *count == pieces,
         _ => false,
@@ -131,7 +131,7 @@ pub fn refused(made: &Result<Region, RegionFault>, pieces: u64) -> bool {
 }
 
 /// The region, which is to be made.
-pub fn made(region: Result<Region, RegionFault>) -> Result<Region, Fail> {
+pub(crate) fn made(region: Result<Region, RegionFault>) -> Result<Region, Fail> {
     match region {
         Ok(region) => Ok(region),
         Err(_) => Err(Fail::from("the region was refused")),

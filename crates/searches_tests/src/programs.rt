@@ -10,17 +10,18 @@ use tv_linear::Row;
 use tv_reader::read_program;
 
 /// Counts from 0 to 5, and is never above.
-pub const COUNTER: &str =
+pub(crate) const COUNTER: &str =
     "START: 0; FROM: 0; x := 0; TO: 1; FROM: 1; assume(x < 5); x := x + 1; TO: 1; FROM: 1; assume(x > 5); TO: 2;";
 
 /// Draws a number above 3 while `x < y`.
-pub const DRAWN: &str = "START: 0; FROM: 0; assume(x < y); x := nondet(); assume(x > 3); TO: 0;";
+pub(crate) const DRAWN: &str =
+    "START: 0; FROM: 0; assume(x < y); x := nondet(); assume(x > 3); TO: 0;";
 
 /// A location and a row by its coefficients and its constant.
-pub type Placed = (u32, &'static [i128], i128);
+pub(crate) type Placed = (u32, &'static [i128], i128);
 
 /// The cases of the program in the text.
-pub fn about(alloc: Global, text: &str) -> Result<Cases, Fail> {
+pub(crate) fn about(alloc: Global, text: &str) -> Result<Cases, Fail> {
     if text.len() > 65536 {
         return Err(Fail::from("a long program"));
     }
@@ -42,7 +43,7 @@ fn candidate(alloc: Global, placed: &Placed) -> Result<Candidate, Fail> {
     })
 }
 
-pub fn candidates(alloc: Global, list: &[Placed]) -> Result<Vec<Candidate>, Fail> {
+pub(crate) fn candidates(alloc: Global, list: &[Placed]) -> Result<Vec<Candidate>, Fail> {
     let mut candidates = Vec::new(alloc);
     for placed in list {
         candidates.push(candidate(alloc, placed)?)?;
@@ -62,7 +63,7 @@ fn is_placed(candidate: &Candidate, placed: &Placed) -> bool {
 }
 
 /// Whether the candidates are these, in order.
-pub fn are_placed(candidates: &[Candidate], wanted: &[Placed]) -> bool {
+pub(crate) fn are_placed(candidates: &[Candidate], wanted: &[Placed]) -> bool {
     candidates.len() == wanted.len()
         && candidates
             .iter()

@@ -53,7 +53,8 @@ pub fn before(alloc: Global, row: &Row, taken: &Case) -> Result<Row, RowFault>
     requires few { columns row.now + taken.now.draws < 2 ^ 32 - 1 }
     requires even { All (λ u. columns u.term ≡ columns row.now + taken.now.draws) taken.now.updates.items }
     ensures exact { GivesBefore row.now (case_view taken.now) result }
-    ensures value { IfOk result (λ before. (xs ds : List ℤ) → length xs ≡ columns row.now → length ds ≡ taken.now.draws → value before (xs ++ ds) ≡ value row.now (map (term_value (xs ++ ds)) (terms_after (length xs) taken.now.updates.items))) }
+    ensures value { IfOk result (λ before. (xs ds : List ℤ) → length xs ≡ columns row.now → length ds ≡ taken.now.draws →
+        value before (xs ++ ds) ≡ value row.now (map (term_value (xs ++ ds)) (terms_after (length xs) taken.now.updates.items))) }
 {
     let variables = row.columns();
     if variables == 0 {

@@ -60,7 +60,8 @@ impl Cases {
         start: u32,
     ) -> Result<Cases, AllocError>
         requires { AreCases (record { variables = variables; locations = locations; start = start; cases = case_views list.items }) }
-        ensures { IfOk result (λ cases. cases_of cases ≡ record { variables = variables; locations = locations; start = start; cases = case_views list.items }) }
+        ensures { IfOk result (λ cases. cases_of cases ≡
+            record { variables = variables; locations = locations; start = start; cases = case_views list.items }) }
     {
         let left = locations_left(alloc, &list)?;
         let index = index(alloc, &left)?;
@@ -75,7 +76,8 @@ impl Cases {
 
     /// Case `k` of those from the location. It is found in time logarithmic in the number of cases.
     pub fn leaving(&self, location: u32, k: usize) -> Option<&Case>
-        ensures case { MatchOption result (slice_get (leaving location (cases_of self.now).cases) k ≡ None) (λ case. slice_get (leaving location (cases_of self.now).cases) k ≡ Some (case_view case.now)) }
+        ensures case { let there = leaving location (cases_of self.now).cases in
+            MatchOption result (slice_get there k ≡ None) (λ case. slice_get there k ≡ Some (case_view case.now)) }
         ensures few { length (leaving location (cases_of self.now).cases) ≤ 8192 }
     {
         match place_at(&self.index, location, k) {

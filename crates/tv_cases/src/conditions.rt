@@ -31,7 +31,13 @@ pub(crate) fn comparison(
     requires few { width < 2 ^ 32 - 1 }
     requires even { All (λ t. columns t ≡ width) terms.now }
     requires linear { IsTrue (is_linear (expression left.now) && is_linear (expression right.now)) }
-    ensures { GivesLists (form_is_narrow (length terms.now) width terms.now (expression left.now) && (form_is_narrow (length terms.now) width terms.now (expression right.now) && comparison_is_narrow relation (form (length terms.now) width terms.now (expression left.now)) (form (length terms.now) width terms.now (expression right.now)))) (compared relation (form (length terms.now) width terms.now (expression left.now)) (form (length terms.now) width terms.now (expression right.now))) result }
+    ensures { let n = length terms.now in
+        let first = form n width terms.now (expression left.now) in
+        let second = form n width terms.now (expression right.now) in
+        let first_is_narrow = form_is_narrow n width terms.now (expression left.now) in
+        let second_is_narrow = form_is_narrow n width terms.now (expression right.now) in
+        let narrow = first_is_narrow && (second_is_narrow && comparison_is_narrow relation first second) in
+        GivesLists narrow (compared relation first second) result }
 {
     let left = match form_of(alloc, left, terms, width) {
         Ok(row) => row,
@@ -113,7 +119,9 @@ pub(crate) fn lists_of(
     requires few { width < 2 ^ 32 - 1 }
     requires even { All (λ t. columns t ≡ width) terms.now }
     requires linear { IsTrue (condition_is_linear (condition cond.now)) }
-    ensures { GivesLists (condition_is_narrow (length terms.now) width terms.now wanted (condition cond.now)) (lists_of (length terms.now) width terms.now wanted (condition cond.now)) result }
+    ensures { let n = length terms.now in
+        let c = condition cond.now in
+        GivesLists (condition_is_narrow n width terms.now wanted c) (lists_of n width terms.now wanted c) result }
 {
     match cond {
         Cond::Truth(holds) => Ok(truth_lists(alloc, *holds == wanted)?),
@@ -157,7 +165,9 @@ fn paired(
     requires few { width < 2 ^ 32 - 1 }
     requires even { All (λ t. columns t ≡ width) terms.now }
     requires linear { IsTrue (conditions_are_linear (conditions parts.now)) }
-    ensures { GivesLists (conditions_are_narrow (length terms.now) width terms.now wanted (conditions parts.now)) (paired (length terms.now) width terms.now wanted ([] ∷ []) (conditions parts.now)) result }
+    ensures { let n = length terms.now in
+        let cs = conditions parts.now in
+        GivesLists (conditions_are_narrow n width terms.now wanted cs) (paired n width terms.now wanted ([] ∷ []) cs) result }
 {
     if all_paired(parts, wanted).lists == 0 {
         return none_paired(alloc, parts, wanted, terms, width);
@@ -185,7 +195,9 @@ fn none_paired(
     requires even { All (λ t. columns t ≡ width) terms.now }
     requires linear { IsTrue (conditions_are_linear (conditions parts.now)) }
     requires none { (all_paired wanted (amount 1 0) (conditions parts.now)).lists ≡ 0 }
-    ensures { GivesLists (conditions_are_narrow (length terms.now) width terms.now wanted (conditions parts.now)) (paired (length terms.now) width terms.now wanted ([] ∷ []) (conditions parts.now)) result }
+    ensures { let n = length terms.now in
+        let cs = conditions parts.now in
+        GivesLists (conditions_are_narrow n width terms.now wanted cs) (paired n width terms.now wanted ([] ∷ []) cs) result }
 {
     match test_all(alloc, parts, wanted, terms, width) {
         Ok(()) => Ok(Vec::new(alloc)),
@@ -204,7 +216,9 @@ fn joined(
     requires few { width < 2 ^ 32 - 1 }
     requires even { All (λ t. columns t ≡ width) terms.now }
     requires linear { IsTrue (conditions_are_linear (conditions parts.now)) }
-    ensures { GivesLists (conditions_are_narrow (length terms.now) width terms.now wanted (conditions parts.now)) (joined (length terms.now) width terms.now wanted [] (conditions parts.now)) result }
+    ensures { let n = length terms.now in
+        let cs = conditions parts.now in
+        GivesLists (conditions_are_narrow n width terms.now wanted cs) (joined n width terms.now wanted [] cs) result }
 {
     let mut so_far = truth_lists(alloc, false)?;
     for part in parts {

@@ -5,10 +5,10 @@ ghost use Rattle.tv_linear.specs.Linear.{Linear, columns};
 ghost use Rattle.tv_program.specs.Views.{expression, instruction, transition};
 ghost use Rattle.tv_cases.specs.Views.{case_views};
 ghost use Rattle.tv_cases.specs.Forms.{form, form_is_narrow};
-ghost use Rattle.tv_cases.specs.Given.{Tests, IsFaultOf, lists as lists_in};
+ghost use Rattle.tv_cases.specs.Given.{Gives, Tests, lists as lists_in};
 ghost use Rattle.tv_cases.specs.Linearity.{is_linear, instruction_is_linear, instructions_are_linear};
 ghost use Rattle.tv_cases.specs.EdgeCases.{progress, progressed, after, instruction_is_narrow, next_terms, instructions_are_narrow, assigns, update, updates_from, case_of, edge_cases, edge_is_narrow};
-ghost use Rattle.tv_cases.specs.Reached.{GivesProgress, progress_view};
+ghost use Rattle.tv_cases.specs.Reached.{GivesProgress, GivesCases, progress_view, update_where};
 
 use crate::case::Case;
 use crate::conditions::{lists_of, test};
@@ -38,7 +38,9 @@ fn assigned(
     requires few { width < 2 ^ 32 - 1 }
     requires even { All (λ t. columns t ≡ width) terms }
     requires linear { IsTrue (is_linear (expression expr.now)) }
-    ensures exact { MatchResult result (λ v. (form_is_narrow (length terms) width terms (expression expr.now) ≡ true) × (v ≡ slice_set terms variable (form (length terms) width terms (expression expr.now)))) (IsFaultOf (form_is_narrow (length terms) width terms (expression expr.now))) }
+    ensures exact { let n = length terms in
+        let e = expression expr.now in
+        Gives (form_is_narrow n width terms e) (slice_set terms variable (form n width terms e)) result }
     ensures counted { IfOk result (λ v. length v ≡ length terms) }
     ensures even { IfOk result (λ v. All (λ t. columns t ≡ width) v) }
 {
@@ -53,7 +55,9 @@ fn tested(alloc: Global, command: &Command, terms: Terms, width: u32) -> Result<
     requires few { width < 2 ^ 32 - 1 }
     requires even { All (λ t. columns t ≡ width) terms }
     requires linear { IsTrue (instruction_is_linear (instruction command.now)) }
-    ensures exact { MatchResult result (λ v. (instruction_is_narrow (length terms) width (instruction command.now) terms ≡ true) × (v ≡ next_terms (length terms) width (instruction command.now) terms)) (IsFaultOf (instruction_is_narrow (length terms) width (instruction command.now) terms)) }
+    ensures exact { let n = length terms in
+        let i = instruction command.now in
+        Gives (instruction_is_narrow n width i terms) (next_terms n width i terms) result }
     ensures counted { IfOk result (λ v. length v ≡ length terms) }
     ensures even { IfOk result (λ v. All (λ t. columns t ≡ width) v) }
 {
@@ -98,7 +102,9 @@ fn progressed(
     requires few { width < 2 ^ 32 - 1 }
     requires even { All (λ t. columns t ≡ width) so_far.terms }
     requires linear { IsTrue (instruction_is_linear (instruction command.now)) }
-    ensures exact { GivesProgress (instruction_is_narrow (length so_far.terms) width (instruction command.now) so_far.terms) (progressed (length so_far.terms) width (instruction command.now) (progress_view so_far)) result }
+    ensures exact { let n = length so_far.terms in
+        let i = instruction command.now in
+        GivesProgress (instruction_is_narrow n width i so_far.terms) (progressed n width i (progress_view so_far)) result }
     ensures counted { IfOk result (λ p. length p.terms ≡ length so_far.terms) }
     ensures even { IfOk result (λ p. All (λ t. columns t ≡ width) p.terms) }
 {
@@ -130,7 +136,9 @@ fn executed(
     requires few { width < 2 ^ 32 - 1 }
     requires even { All (λ t. columns t ≡ width) first }
     requires linear { IsTrue (instructions_are_linear (map instruction commands.now)) }
-    ensures exact { GivesProgress (instructions_are_narrow (length first) width (map instruction commands.now) first) (after (length first) width (map instruction commands.now) (progress first ([] ∷ []))) result }
+    ensures exact { let n = length first in
+        let is = map instruction commands.now in
+        GivesProgress (instructions_are_narrow n width is first) (after n width is (progress first ([] ∷ []))) result }
     ensures counted { IfOk result (λ p. length p.terms ≡ length first) }
 {
     let mut so_far = Reached {
@@ -167,7 +175,9 @@ fn with_update(
     variable: u32,
     terms: &Terms,
 ) -> Result<Vec<Update>, AllocError>
-    ensures { IfOk result (λ v. (t : Linear) → slice_get terms.now variable ≡ Some t → v.items ≡ updates.items ++ (if assigns (map instruction commands.now) variable then update variable t ∷ [] else [])) }
+    ensures { let assigned = assigns (map instruction commands.now) variable in
+        IfOk result (λ v. (t : Linear) → slice_get terms.now variable ≡ Some t →
+        v.items ≡ updates.items ++ update_where assigned variable t) }
 {
     if is_assigned(commands, variable) {
         if let Some(term) = terms.get(alloc, variable)? {
@@ -232,7 +242,8 @@ fn listed(
 pub(crate) fn edge_cases(alloc: Global, edge: &Edge, variables: u32) -> Result<Vec<Case>, PartFault>
     requires few { variables + edge.now.draws < 2 ^ 32 - 1 }
     requires linear { IsTrue (instructions_are_linear (transition edge.now).instructions) }
-    ensures { MatchResult result (λ v. (edge_is_narrow variables (transition edge.now) ≡ true) × (case_views v.items ≡ edge_cases variables (transition edge.now))) (IsFaultOf (edge_is_narrow variables (transition edge.now))) }
+    ensures { let e = transition edge.now in
+        GivesCases (edge_is_narrow variables e) (edge_cases variables e) result }
 {
     let width = variables + edge.draws;
     let first = Terms::new(alloc, variables, width)?;

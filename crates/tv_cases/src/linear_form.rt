@@ -28,7 +28,9 @@ pub(crate) fn form_of(
     requires few { width < 2 ^ 32 - 1 }
     requires even { All (λ t. columns t ≡ width) terms.now }
     requires linear { IsTrue (is_linear (expression expr.now)) }
-    ensures exact { Gives (form_is_narrow (length terms.now) width terms.now (expression expr.now)) (form (length terms.now) width terms.now (expression expr.now)) result }
+    ensures exact { let n = length terms.now in
+        let e = expression expr.now in
+        Gives (form_is_narrow n width terms.now e) (form n width terms.now e) result }
     ensures even { IfOk result (λ row. columns row ≡ width) }
 {
     match expr {
@@ -49,7 +51,9 @@ fn sum_of(alloc: Global, parts: &[Expr], terms: &Terms, width: u32) -> Result<Ro
     requires few { width < 2 ^ 32 - 1 }
     requires even { All (λ t. columns t ≡ width) terms.now }
     requires linear { IsTrue (is_linear (sum (expressions parts.now))) }
-    ensures exact { Gives (form_is_narrow (length terms.now) width terms.now (sum (expressions parts.now))) (form (length terms.now) width terms.now (sum (expressions parts.now))) result }
+    ensures exact { let n = length terms.now in
+        let e = sum (expressions parts.now) in
+        Gives (form_is_narrow n width terms.now e) (form n width terms.now e) result }
     ensures even { IfOk result (λ row. columns row ≡ width) }
 {
     let mut total = Total::new(alloc, width)?;
@@ -71,7 +75,9 @@ fn product_of(alloc: Global, parts: &[Expr], terms: &Terms, width: u32) -> Resul
     requires few { width < 2 ^ 32 - 1 }
     requires even { All (λ t. columns t ≡ width) terms.now }
     requires linear { IsTrue (is_linear (product (expressions parts.now))) }
-    ensures exact { Gives (form_is_narrow (length terms.now) width terms.now (product (expressions parts.now))) (form (length terms.now) width terms.now (product (expressions parts.now))) result }
+    ensures exact { let n = length terms.now in
+        let e = product (expressions parts.now) in
+        Gives (form_is_narrow n width terms.now e) (form n width terms.now e) result }
     ensures even { IfOk result (λ row. columns row ≡ width) }
 {
     let mut total = match one_row(alloc, width) {

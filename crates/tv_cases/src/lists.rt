@@ -67,7 +67,10 @@ fn one_at_most(
 fn both_at_most(alloc: Global, less: i128, left: &Row, right: &Row) -> Result<(Row, Row), PartFault>
     requires even { columns left.now ≡ columns right.now }
     requires small { IsWithin 62 less }
-    ensures { MatchResult result (λ both. (is_narrow (difference less left.now right.now) && is_narrow (difference less right.now left.now) ≡ true) × (both.0 ≡ at_most less left.now right.now) × (both.1 ≡ at_most less right.now left.now)) (IsFaultOf (is_narrow (difference less left.now right.now) && is_narrow (difference less right.now left.now))) }
+    ensures { let first = at_most less left.now right.now in
+        let second = at_most less right.now left.now in
+        let narrow = is_narrow (difference less left.now right.now) && is_narrow (difference less right.now left.now) in
+        MatchResult result (λ both. (narrow ≡ true) × (both.0 ≡ first) × (both.1 ≡ second)) (IsFaultOf narrow) }
 {
     let first = match at_most(alloc, less, left, right) {
         Ok(row) => row,

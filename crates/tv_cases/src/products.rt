@@ -110,7 +110,8 @@ fn narrow_times(alloc: Global, left: &Row, right: &Row) -> Result<Partial, Alloc
 
 /// A product that is wide stays so, until a factor is 0.
 fn wide_times(alloc: Global, alone: bool, row: &Row) -> Result<Partial, AllocError>
-    ensures { IfOk result (λ p. (t : Linear) → Stands (columns row.now) t (Wide alone) → (is_number t || is_number row.now) ≡ true → Stands (columns row.now) (times t row.now) p) }
+    ensures { IfOk result (λ p. (t : Linear) → Stands (columns row.now) t (Wide alone) →
+        (is_number t || is_number row.now) ≡ true → Stands (columns row.now) (times t row.now) p) }
 {
     if is_number(row) {
         if is_zero(row.constant()) {
@@ -124,7 +125,8 @@ fn wide_times(alloc: Global, alone: bool, row: &Row) -> Result<Partial, AllocErr
 /// What is kept of a product after one more factor, where at most one factor is not a number.
 pub(crate) fn multiplied(alloc: Global, total: Partial, row: &Row) -> Result<Partial, AllocError>
     requires { SizedAs (columns row.now) total }
-    ensures { IfOk result (λ p. (t : Linear) → Stands (columns row.now) t total → (is_number t || is_number row.now) ≡ true → Stands (columns row.now) (times t row.now) p) }
+    ensures { IfOk result (λ p. (t : Linear) → Stands (columns row.now) t total →
+        (is_number t || is_number row.now) ≡ true → Stands (columns row.now) (times t row.now) p) }
 {
     match total {
         Partial::Narrow(left) => narrow_times(alloc, &left, row),

@@ -169,7 +169,8 @@ fn of_edges(
     start: u32,
 ) -> Result<Cases, CaseFault>
     requires { IsWithinLimits variables locations start (transitions edges.now) }
-    ensures exact { MatchResult result (λ c. cases_from variables 0 [] (transitions edges.now) ≡ Ok (cases_of c).cases) (IsFaultIn (cases_from variables 0 [] (transitions edges.now))) }
+    ensures exact { let meant = cases_from variables 0 [] (transitions edges.now) in
+        MatchResult result (λ c. meant ≡ Ok (cases_of c).cases) (IsFaultIn meant) }
     ensures same { IfOk result (λ c. ((cases_of c).variables ≡ variables) × ((cases_of c).locations ≡ locations) × ((cases_of c).start ≡ start)) }
 {
     match listed(alloc, edges, variables) {

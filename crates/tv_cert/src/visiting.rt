@@ -24,7 +24,9 @@ use tv_formula::{Path, Shape};
 fn visit<V: Visitor>(visitor: &mut V, about: &Cases, number: u32, kind: Kind, owes: &Owes) -> bool
     requires owed { OwedIn (cases_of about.now) owes.now }
     requires room { length (obligation_by (cases_of about.now) number kind owes.now ∷ []) ≤ V.room visitor.old }
-    ensures { Visits (V.passes (cases_of about.now)) (V.stops (cases_of about.now)) V.room result visitor.old (obligation_by (cases_of about.now) number kind owes.now ∷ []) visitor.new }
+    ensures { let system = cases_of about.now in
+        let owed = obligation_by system number kind owes.now ∷ [] in
+        Visits (V.passes system) (V.stops system) V.room result visitor.old owed visitor.new }
 {
     visitor.visit(about, number, kind, owes)
 }
@@ -39,7 +41,9 @@ fn visit_cover<V: Visitor>(
     into: &Pieces,
 ) -> bool
     requires { length (cover_of number kind (about_of (cases_of about.now)) piece.now into.now ∷ []) ≤ V.room visitor.old }
-    ensures { Visits (V.passes (cases_of about.now)) (V.stops (cases_of about.now)) V.room result visitor.old (cover_of number kind (about_of (cases_of about.now)) piece.now into.now ∷ []) visitor.new }
+    ensures { let system = cases_of about.now in
+        let owed = cover_of number kind (about_of system) piece.now into.now ∷ [] in
+        Visits (V.passes system) (V.stops system) V.room result visitor.old owed visitor.new }
 {
     visit(visitor, about, number, kind, &Owes::Pieces { piece, into })
 }
@@ -52,8 +56,11 @@ fn visit_truth<V: Visitor>(
     piece: &Marked,
     truth: bool,
 ) -> bool
-    requires { length (atom_of number (about_of (cases_of about.now)) piece.now (truth_targets truth) ∷ []) ≤ V.room visitor.old }
-    ensures { Visits (V.passes (cases_of about.now)) (V.stops (cases_of about.now)) V.room result visitor.old (atom_of number (about_of (cases_of about.now)) piece.now (truth_targets truth) ∷ []) visitor.new }
+    requires { let system = cases_of about.now in
+        length (atom_of number (about_of system) piece.now (truth_targets truth) ∷ []) ≤ V.room visitor.old }
+    ensures { let system = cases_of about.now in
+        let owed = atom_of number (about_of system) piece.now (truth_targets truth) ∷ [] in
+        Visits (V.passes system) (V.stops system) V.room result visitor.old owed visitor.new }
 {
     visit(
         visitor,
@@ -74,8 +81,11 @@ fn visit_choice<V: Visitor>(
     stop: bool,
     destination: Destination,
 ) -> bool
-    requires { length (choice_of number kind (about_of (cases_of about.now)) piece.now stop (destination_owes (cases_of about.now).variables piece.now destination) ∷ []) ≤ V.room visitor.old }
-    ensures { Visits (V.passes (cases_of about.now)) (V.stops (cases_of about.now)) V.room result visitor.old (choice_of number kind (about_of (cases_of about.now)) piece.now stop (destination_owes (cases_of about.now).variables piece.now destination.entry) ∷ []) visitor.new }
+    requires { let system = cases_of about.now in
+        length (choice_of number kind (about_of system) piece.now stop (destination_owes system.variables piece.now destination) ∷ []) ≤ V.room visitor.old }
+    ensures { let system = cases_of about.now in
+        let owed = choice_of number kind (about_of system) piece.now stop (destination_owes system.variables piece.now destination.entry) ∷ [] in
+        Visits (V.passes system) (V.stops system) V.room result visitor.old owed visitor.new }
 {
     let owes = Owes::Choice {
         piece,
@@ -94,8 +104,11 @@ fn visit_steps<V: Visitor>(
     into: &Pieces,
     falls: bool,
 ) -> bool
-    requires { length (steps_of number (about_of (cases_of about.now)) piece.now into.now (case_falls falls (cases_of about.now) piece.now)) ≤ V.room visitor.old }
-    ensures { Visits (V.passes (cases_of about.now)) (V.stops (cases_of about.now)) V.room result visitor.old (steps_of number (about_of (cases_of about.now)) piece.now into.now (case_falls falls (cases_of about.now) piece.now)) visitor.new }
+    requires { let system = cases_of about.now in
+        length (steps_of number (about_of system) piece.now into.now (case_falls falls system piece.now)) ≤ V.room visitor.old }
+    ensures { let system = cases_of about.now in
+        let owed = steps_of number (about_of system) piece.now into.now (case_falls falls system piece.now) in
+        Visits (V.passes system) (V.stops system) V.room result visitor.old owed visitor.new }
 {
     let location = piece.location();
     let mut k = 0;
@@ -122,8 +135,11 @@ fn visit_children<V: Visitor>(
     piece: &Marked,
     children: &[Node],
 ) -> bool
-    requires { length (map (cover_of number Kind.Child (about_of (cases_of about.now)) piece.now) (map pieces_list children.now)) ≤ V.room visitor.old }
-    ensures { Visits (V.passes (cases_of about.now)) (V.stops (cases_of about.now)) V.room result visitor.old (map (cover_of number Kind.Child (about_of (cases_of about.now)) piece.now) (map pieces_list children.now)) visitor.new }
+    requires { let system = cases_of about.now in
+        length (map (cover_of number Kind.Child (about_of system) piece.now) (map pieces_list children.now)) ≤ V.room visitor.old }
+    ensures { let system = cases_of about.now in
+        let owed = map (cover_of number Kind.Child (about_of system) piece.now) (map pieces_list children.now) in
+        Visits (V.passes system) (V.stops system) V.room result visitor.old owed visitor.new }
 {
     for child in children {
         if !visit_cover(visitor, about, number, Kind::Child, piece, &child.pieces) {
@@ -143,8 +159,11 @@ fn visit_done<V: Visitor>(
     first: &Pieces,
     second: &Pieces,
 ) -> bool
-    requires { length (map (cover_of number Kind.Done (about_of (cases_of about.now)) piece.now) (end_sides shape first.now second.now)) ≤ V.room visitor.old }
-    ensures { Visits (V.passes (cases_of about.now)) (V.stops (cases_of about.now)) V.room result visitor.old (map (cover_of number Kind.Done (about_of (cases_of about.now)) piece.now) (end_sides shape first.now second.now)) visitor.new }
+    requires { let system = cases_of about.now in
+        length (map (cover_of number Kind.Done (about_of system) piece.now) (end_sides shape first.now second.now)) ≤ V.room visitor.old }
+    ensures { let system = cases_of about.now in
+        let owed = map (cover_of number Kind.Done (about_of system) piece.now) (end_sides shape first.now second.now) in
+        Visits (V.passes system) (V.stops system) V.room result visitor.old owed visitor.new }
 {
     match shape {
         Shape::Until | Shape::Weak => {
@@ -167,8 +186,11 @@ fn visit_ranked<V: Visitor>(
     pieces: &Pieces,
     piece: &Marked,
 ) -> bool
-    requires { length (choice_of number Kind.Successor (about_of (cases_of about.now)) piece.now false (λ c draws. owed_nothing) ∷ steps_of number (about_of (cases_of about.now)) piece.now pieces.now (step_fall (about_of (cases_of about.now)) piece.now)) ≤ V.room visitor.old }
-    ensures { Visits (V.passes (cases_of about.now)) (V.stops (cases_of about.now)) V.room result visitor.old (choice_of number Kind.Successor (about_of (cases_of about.now)) piece.now false (λ c draws. owed_nothing) ∷ steps_of number (about_of (cases_of about.now)) piece.now pieces.now (step_fall (about_of (cases_of about.now)) piece.now)) visitor.new }
+    requires { let system = cases_of about.now in
+        length (choice_of number Kind.Successor (about_of system) piece.now false (λ c draws. owed_nothing) ∷ steps_of number (about_of system) piece.now pieces.now (step_fall (about_of system) piece.now)) ≤ V.room visitor.old }
+    ensures { let system = cases_of about.now in
+        let owed = choice_of number Kind.Successor (about_of system) piece.now false (λ c draws. owed_nothing) ∷ steps_of number (about_of system) piece.now pieces.now (step_fall (about_of system) piece.now) in
+        Visits (V.passes system) (V.stops system) V.room result visitor.old owed visitor.new }
 {
     let anywhere = Destination::Anywhere;
     if !visit_choice(
@@ -196,7 +218,9 @@ fn visit_onward<V: Visitor>(
     piece: &Marked,
 ) -> bool
     requires { length (go_of number (about_of (cases_of about.now)) path shape pieces.now piece.now) ≤ V.room visitor.old }
-    ensures { Visits (V.passes (cases_of about.now)) (V.stops (cases_of about.now)) V.room result visitor.old (go_of number (about_of (cases_of about.now)) path shape pieces.now piece.now) visitor.new }
+    ensures { let system = cases_of about.now in
+        let owed = go_of number (about_of system) path shape pieces.now piece.now in
+        Visits (V.passes system) (V.stops system) V.room result visitor.old owed visitor.new }
 {
     let falls = matches!(shape, Shape::Until | Shape::Strong);
     match path {
@@ -224,8 +248,11 @@ fn visit_hold<V: Visitor>(
     first: &Pieces,
     second: &Pieces,
 ) -> bool
-    requires { length (cover_of number Kind.Hold (about_of (cases_of about.now)) piece.now (hold_side shape first.now second.now) ∷ []) ≤ V.room visitor.old }
-    ensures { Visits (V.passes (cases_of about.now)) (V.stops (cases_of about.now)) V.room result visitor.old (cover_of number Kind.Hold (about_of (cases_of about.now)) piece.now (hold_side shape first.now second.now) ∷ []) visitor.new }
+    requires { let system = cases_of about.now in
+        length (cover_of number Kind.Hold (about_of system) piece.now (hold_side shape first.now second.now) ∷ []) ≤ V.room visitor.old }
+    ensures { let system = cases_of about.now in
+        let owed = cover_of number Kind.Hold (about_of system) piece.now (hold_side shape first.now second.now) ∷ [] in
+        Visits (V.passes system) (V.stops system) V.room result visitor.old owed visitor.new }
 {
     match shape {
         Shape::Until | Shape::Weak => {
@@ -249,8 +276,11 @@ fn visit_fix<V: Visitor>(
     second: &Pieces,
     piece: &Marked,
 ) -> bool
-    requires { length (fix_of number (about_of (cases_of about.now)) path shape pieces.now first.now second.now piece.now (goes piece.now)) ≤ V.room visitor.old }
-    ensures { Visits (V.passes (cases_of about.now)) (V.stops (cases_of about.now)) V.room result visitor.old (fix_of number (about_of (cases_of about.now)) path shape pieces.now first.now second.now piece.now (goes piece.now)) visitor.new }
+    requires { let system = cases_of about.now in
+        length (fix_of number (about_of system) path shape pieces.now first.now second.now piece.now (goes piece.now)) ≤ V.room visitor.old }
+    ensures { let system = cases_of about.now in
+        let owed = fix_of number (about_of system) path shape pieces.now first.now second.now piece.now (goes piece.now) in
+        Visits (V.passes system) (V.stops system) V.room result visitor.old owed visitor.new }
 {
     match piece.mark() {
         Mark::Done => visit_done(visitor, about, number, shape, piece, first, second),
@@ -295,8 +325,11 @@ fn visit_piece<V: Visitor>(
     children: &[Node],
     piece: &Marked,
 ) -> bool
-    requires { length (said_at number (cases_of about.now) (aim_states aim.now) pieces.now (map pieces_list children.now) piece.now) ≤ V.room visitor.old }
-    ensures { Visits (V.passes (cases_of about.now)) (V.stops (cases_of about.now)) V.room result visitor.old (said_at number (cases_of about.now) (aim_states aim.now) pieces.now (map pieces_list children.now) piece.now) visitor.new }
+    requires { let system = cases_of about.now in
+        length (said_at number system (aim_states aim.now) pieces.now (map pieces_list children.now) piece.now) ≤ V.room visitor.old }
+    ensures { let system = cases_of about.now in
+        let owed = said_at number system (aim_states aim.now) pieces.now (map pieces_list children.now) piece.now in
+        Visits (V.passes system) (V.stops system) V.room result visitor.old owed visitor.new }
 {
     let none = pieces.none();
     let first = first_pieces(children, &none);
@@ -356,8 +389,11 @@ pub fn visit_pieces<V: Visitor>(
     pieces: &Pieces,
     children: &[Node],
 ) -> bool
-    requires { length (said_own number (cases_of about.now) (aim_states aim.now) pieces.now (map pieces_list children.now)) ≤ V.room visitor.old }
-    ensures { Visits (V.passes (cases_of about.now)) (V.stops (cases_of about.now)) V.room result visitor.old (said_own number (cases_of about.now) (aim_states aim.now) pieces.now (map pieces_list children.now)) visitor.new }
+    requires { let system = cases_of about.now in
+        length (said_own number system (aim_states aim.now) pieces.now (map pieces_list children.now)) ≤ V.room visitor.old }
+    ensures { let system = cases_of about.now in
+        let owed = said_own number system (aim_states aim.now) pieces.now (map pieces_list children.now) in
+        Visits (V.passes system) (V.stops system) V.room result visitor.old owed visitor.new }
 {
     for piece in pieces.list() {
         if !visit_piece(visitor, about, number, aim, pieces, children, piece) {

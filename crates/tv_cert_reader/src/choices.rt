@@ -39,7 +39,9 @@ fn split_of(
 
 /// A refutation of the place by the multipliers of a line, if there are as many as rows.
 fn empty_of(multipliers: Vec<i64>, known: u128, line: u32) -> Result<ChoiceTree, Failure>
-    ensures { (system : CaseSystem) (piece : Marked) (stop : Bool) (destination : Destination) (left : ℕ) (old new : Cursor) → IsBehind Head.Empty multipliers.items old new → new.taken ≡ line → ReadsChoice system piece stop destination known left old new result }
+    ensures { (system : CaseSystem) (piece : Marked) (stop : Bool) (destination : Destination) (left : ℕ) (old new : Cursor) →
+        IsBehind Head.Empty multipliers.items old new → new.taken ≡ line →
+        ReadsChoice system piece stop destination known left old new result }
 {
     if multipliers.len() as u128 == known {
         Ok(ChoiceTree::Empty(multipliers))
@@ -81,7 +83,8 @@ impl Context<'_> {
     ) -> Result<Vec<Cover>, Failure>
         requires shallow { left ≤ 128 }
         requires room { known < 2 ^ 125 }
-        ensures { ReadsStops (cases_of self.now.about.now).variables known left (leaving location (cases_of self.now.about.now).cases) cursor.old cursor.new result }
+        ensures { let system = cases_of self.now.about.now in
+            ReadsStops system.variables known left (leaving location system.cases) cursor.old cursor.new result }
     {
         let mut covers = Vec::new(self.alloc);
         let mut k = 0;
@@ -105,7 +108,9 @@ impl Context<'_> {
     ) -> Result<ChoiceTree, Failure>
         requires shallow { left ≤ 128 }
         requires room { known < 2 ^ 125 }
-        ensures { (destination : Destination) (old : Cursor) → IsBehind Head.NoStep [] old cursor.old → ReadsChoice (cases_of self.now.about.now) piece.now stop destination known left old cursor.new result }
+        ensures { let system = cases_of self.now.about.now in
+            (destination : Destination) (old : Cursor) → IsBehind Head.NoStep [] old cursor.old →
+            ReadsChoice system piece.now stop destination known left old cursor.new result }
     {
         if !stop {
             return Err(Failure::Fault(LineKind::Shape, cursor.taken));

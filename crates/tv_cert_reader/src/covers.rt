@@ -68,7 +68,9 @@ fn split_of(
 
 /// A refutation of the place by the multipliers of a line, if there are as many as rows.
 fn empty_of(multipliers: Vec<i64>, known: u128, line: u32) -> Result<CoverTree, Failure>
-    ensures { (width left : ℕ) (counts : ℕ → ℕ → Option ℕ) (old new : Cursor) → IsBehind Head.Empty multipliers.items old new → new.taken ≡ line → ReadsTree width counts known left old new result }
+    ensures { (width left : ℕ) (counts : ℕ → ℕ → Option ℕ) (old new : Cursor) →
+        IsBehind Head.Empty multipliers.items old new → new.taken ≡ line →
+        ReadsTree width counts known left old new result }
 {
     if multipliers.len() as u128 == known {
         Ok(CoverTree::Empty(multipliers))
@@ -88,7 +90,8 @@ impl Context<'_> {
     ) -> Result<CoverTree, Failure>
         requires few { AreFew targets.now }
         requires room { known < 2 ^ 127 }
-        ensures { (width left : ℕ) (old : Cursor) → IsBehind Head.Into numbers.now old cursor.old → ReadsTree width (counts_of targets.now) known left old cursor.new result }
+        ensures { (width left : ℕ) (old : Cursor) → IsBehind Head.Into numbers.now old cursor.old →
+            ReadsTree width (counts_of targets.now) known left old cursor.new result }
     {
         let Some((target, fall, owed)) = target_of(numbers, targets) else {
             return Err(Failure::Fault(LineKind::Shape, cursor.taken));

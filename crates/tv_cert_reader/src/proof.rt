@@ -33,7 +33,9 @@ impl Context<'_> {
     ) -> Result<Proof, Failure>
         requires narrow { columns < 2 ^ 32 - 1 }
         requires room { known < 2 ^ 126 }
-        ensures { (rows : List Known) (owed : ℕ → ℕ → Option (List Known)) → length rows ≡ known → counts_of targets.now ≡ owed_count owed → ReadsProof (a_cover columns rows owed) cursor.old cursor.new result }
+        ensures { (rows : List Known) (owed : ℕ → ℕ → Option (List Known)) → length rows ≡ known →
+            counts_of targets.now ≡ owed_count owed →
+            ReadsProof (a_cover columns rows owed) cursor.old cursor.new result }
     {
         if !are_few(targets) {
             return Err(Failure::Memory);
@@ -55,7 +57,8 @@ impl Context<'_> {
         falls: bool,
     ) -> Result<Proof, Failure>
         requires { case.now.draws ≤ 64 }
-        ensures { ReadsProof (owed_by (cases_of self.now.about.now) (owing.Step piece.entry case.entry into.entry falls)) cursor.old cursor.new result }
+        ensures { let system = cases_of self.now.about.now in
+            ReadsProof (owed_by system (owing.Step piece.entry case.entry into.entry falls)) cursor.old cursor.new result }
     {
         let columns = self.about.variables() + case.draws;
         let known = piece.rows().len() as u128 + case.guards.rows.len() as u128;

@@ -24,7 +24,9 @@ impl Context<'_> {
     ) -> Result<Vec<Proof>, Failure>
         requires pieces { length pieces.now < 2 ^ 63 }
         requires children { length children.now < 2 ^ 63 }
-        ensures { ReadsProofs (said_own 0 (cases_of self.now.about.now) (aim_states aim.now) pieces.now (map pieces_list children.now)) cursor.old cursor.new result }
+        ensures { let system = cases_of self.now.about.now in
+            let states = aim_states aim.now in
+            ReadsProofs (said_own 0 system states pieces.now (map pieces_list children.now)) cursor.old cursor.new result }
     {
         let nothing = Cursor {
             lines: Lines::new(&[]),

@@ -59,7 +59,9 @@ fn certified(
     requires states { StatesIts claim.now }
     requires variables { claim_variables claim.now ≡ (cases_of about.now).variables }
     requires fits { Fits (about_with (cases_of about.now)) (shown claim.now verdict) root verdict }
-    ensures { MatchResult result (λ c. IsOf (about_with (cases_of about.now)) (shown claim.now verdict) c × (c.root ≡ root) × (c.verdict ≡ verdict)) (λ f. f ≡ CertFault.Memory) }
+    ensures { let system = cases_of about.now in
+        let property = shown claim.now verdict in
+        MatchResult result (λ c. IsOf (about_with system) property c × (c.root ≡ root) × (c.verdict ≡ verdict)) (λ f. f ≡ CertFault.Memory) }
 {
     match Certificate::new(alloc, about, claim, verdict, root) {
         Ok(certificate) => Ok(certificate),

@@ -51,7 +51,8 @@ impl Context<'_> {
         destination: &Destination,
     ) -> Option<Taken<'_>>
         requires { AreFewAt piece.now destination.now }
-        ensures { MatchOption result (NamesNoCase (cases_of self.now.about.now) piece.now destination.now numbers.now) (λ x. IsTaken (cases_of self.now.about.now) piece.now destination.now numbers.now (case_view x.case.now) x.taken x.target x.fall x.owed) }
+        ensures { let system = cases_of self.now.about.now in
+            MatchOption result (NamesNoCase system piece.now destination.now numbers.now) (λ x. IsTaken system piece.now destination.now numbers.now (case_view x.case.now) x.taken x.target x.fall x.owed) }
     {
         let list = self.about.list();
         let Some((taken, target, fall)) = three_small(numbers) else {
@@ -87,7 +88,9 @@ impl Context<'_> {
     ) -> Result<ChoiceTree, Failure>
         requires few { AreFewAt piece.now destination.now }
         requires room { known < 2 ^ 126 }
-        ensures { (left : ℕ) (old : Cursor) → IsBehind Head.Take numbers.now old cursor.old → ReadsChoice (cases_of self.now.about.now) piece.now stop destination.now known left old cursor.new result }
+        ensures { let system = cases_of self.now.about.now in
+            (left : ℕ) (old : Cursor) → IsBehind Head.Take numbers.now old cursor.old →
+            ReadsChoice system piece.now stop destination.now known left old cursor.new result }
     {
         let Some(taken) = self.taken_of(numbers, piece, destination) else {
             return Err(Failure::Fault(LineKind::Shape, cursor.taken));

@@ -54,9 +54,11 @@ fn append_start(alloc: Global, out: &mut Vec<u8>, verdict: &Verdict) -> Result<(
 /// It is read again as a certificate with the same lines.
 pub fn write_certificate(alloc: Global, certificate: &Certificate) -> Result<Vec<u8>, AllocError>
     requires made { IsMade certificate.now }
-    ensures spelled { (about : About) → (f : Property) → IsOf about f certificate.now → IfOk result (λ text. text.items ≡ all_spelled (certificate_lines f certificate.now.root certificate.now.verdict)) }
+    ensures spelled { (about : About) → (f : Property) → IsOf about f certificate.now →
+        IfOk result (λ text. text.items ≡ all_spelled (certificate_lines f certificate.now.root certificate.now.verdict)) }
     // It is read again as the lines that were written.
-    ensures again { (about : About) → (f : Property) → IsOf about f certificate.now → IfOk result (λ text. lines_of text.items ≡ certificate_lines f certificate.now.root certificate.now.verdict) }
+    ensures again { (about : About) → (f : Property) → IsOf about f certificate.now →
+        IfOk result (λ text. lines_of text.items ≡ certificate_lines f certificate.now.root certificate.now.verdict) }
 {
     let mut text = Vec::new(alloc);
     append_line(alloc, &mut text, Head::Header, &[])?;

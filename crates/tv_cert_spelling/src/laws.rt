@@ -15,17 +15,27 @@ ghost use Rattle.tv_cert_spelling.specs.CertificateValues.{certificate_value};
 
 /// A certificate of a formula is told by its lines: all that can be seen of it, apart from where it lies in memory.
 pub fn same_lines_same_certificate()
-    ensures { (about : About) (f : Property) (c d : Certificate) → IsOf about f c → IsOf about f d → certificate_lines f c.root c.verdict ≡ certificate_lines f d.root d.verdict → certificate_value c ≡ certificate_value d }
+    ensures { (about : About) (f : Property) (c d : Certificate) → IsOf about f c → IsOf about f d →
+        certificate_lines f c.root c.verdict ≡ certificate_lines f d.root d.verdict →
+        certificate_value c ≡ certificate_value d }
 {}
 
 /// So is one of what is claimed, whose lines tell too whether it is of the property or of its negation.
 pub fn same_lines_of_one_claim()
-    ensures { (about : About) (claim : Claim) (c d : Certificate) → IsOf about (shown claim c.verdict) c → IsOf about (shown claim d.verdict) d → certificate_lines (shown claim c.verdict) c.root c.verdict ≡ certificate_lines (shown claim d.verdict) d.root d.verdict → certificate_value c ≡ certificate_value d }
+    ensures { (about : About) (claim : Claim) (c d : Certificate) → IsOf about (shown claim c.verdict) c →
+        IsOf about (shown claim d.verdict) d →
+        certificate_lines (shown claim c.verdict) c.root c.verdict ≡ certificate_lines (shown claim d.verdict) d.root d.verdict →
+        certificate_value c ≡ certificate_value d }
 {}
 
 /// What is written of a certificate is a text of it, so that a reader refuses it for want of memory alone; and what is read there is
 /// equal to it, apart from where it lies in memory.
 pub fn written_is_read()
-    ensures read { (system : CaseSystem) (claim : Claim) (c : Certificate) → IsOf (about_with system) (shown claim c.verdict) c → IsCertificateText system claim (all_spelled (certificate_lines (shown claim c.verdict) c.root c.verdict)) c }
-    ensures equal { (system : CaseSystem) (claim : Claim) (c d : Certificate) → IsOf (about_with system) (shown claim c.verdict) c → IsCertificateText system claim (all_spelled (certificate_lines (shown claim c.verdict) c.root c.verdict)) d → certificate_value d ≡ certificate_value c }
+    ensures read { (system : CaseSystem) (claim : Claim) (c : Certificate) →
+        IsOf (about_with system) (shown claim c.verdict) c →
+        IsCertificateText system claim (all_spelled (certificate_lines (shown claim c.verdict) c.root c.verdict)) c }
+    ensures equal { (system : CaseSystem) (claim : Claim) (c d : Certificate) →
+        IsOf (about_with system) (shown claim c.verdict) c →
+        IsCertificateText system claim (all_spelled (certificate_lines (shown claim c.verdict) c.root c.verdict)) d →
+        certificate_value d ≡ certificate_value c }
 {}

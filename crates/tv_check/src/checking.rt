@@ -101,7 +101,9 @@ fn check_proved(about: &Cases, aim: &Aim, root: &Node, start: &Cover) -> Result<
     requires parts { HasParts (aim_states aim.now) root.now }
     requires room { length (said_entries 0 (cases_of about.now) (aim_states aim.now) root.now) + 1 < 2 ^ 64 }
     requires nodes { size root.now < 2 ^ 32 }
-    ensures { Checks (said_entries 0 (cases_of about.now) (aim_states aim.now) root.now ++ root_entry (about_of (cases_of about.now)) (pieces_of root.now) (Proved start.now) ∷ []) result }
+    ensures { let system = cases_of about.now in
+        let states = aim_states aim.now in
+        Checks (said_entries 0 system states root.now ++ root_entry (about_of system) (pieces_of root.now) (Proved start.now) ∷ []) result }
 {
     match walk(about, aim, 0, root, 0) {
         Err(failing) => Err(failing),
@@ -123,7 +125,9 @@ fn check_disproved(
     requires room { length (said_entries 0 (cases_of about.now) (aim_states aim.now) root.now) + 1 < 2 ^ 64 }
     requires nodes { size root.now < 2 ^ 32 }
     requires over { AreOver (length values.now.items) (pieces_list root.now) }
-    ensures { Checks (said_entries 0 (cases_of about.now) (aim_states aim.now) root.now ++ root_entry (about_of (cases_of about.now)) (pieces_of root.now) (Disproved piece values.now) ∷ []) result }
+    ensures { let system = cases_of about.now in
+        let states = aim_states aim.now in
+        Checks (said_entries 0 system states root.now ++ root_entry (about_of system) (pieces_of root.now) (Disproved piece values.now) ∷ []) result }
 {
     match walk(about, aim, 0, root, 0) {
         Err(failing) => Err(failing),
@@ -139,7 +143,9 @@ pub fn check(about: &Cases, aim: &Aim, root: &Node, verdict: &Verdict) -> Result
     requires room { length (said_entries 0 (cases_of about.now) (aim_states aim.now) root.now) + 1 < 2 ^ 64 }
     requires nodes { size root.now < 2 ^ 32 }
     requires over { ValuesFit verdict.now (pieces_list root.now) }
-    ensures { Checks (said_entries 0 (cases_of about.now) (aim_states aim.now) root.now ++ root_entry (about_of (cases_of about.now)) (pieces_of root.now) verdict.now ∷ []) result }
+    ensures { let system = cases_of about.now in
+        let states = aim_states aim.now in
+        Checks (said_entries 0 system states root.now ++ root_entry (about_of system) (pieces_of root.now) verdict.now ∷ []) result }
 {
     match verdict {
         Verdict::Proved(start) => check_proved(about, aim, root, start),

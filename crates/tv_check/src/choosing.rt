@@ -39,7 +39,9 @@ fn entering_is_shown(
     fall: u32,
     lists: &[Vec<i64>],
 ) -> bool
-    ensures { IsTrue result ↔ ShownAt columns (known_at frames.now) (owed_into into.now case.now.to (drawn_change columns (case_view case.now) draws.now) (falls_of (drawn_change columns (case_view case.now) draws.now) ranks.entry) target fall) (map (λ l. l.items) lists.now) }
+    ensures { let taken = case_view case.now in
+        let change = drawn_change columns taken draws.now in
+        IsTrue result ↔ ShownAt columns (known_at frames.now) (owed_into into.now case.now.to change (falls_of change ranks.entry) target fall) (map (λ l. l.items) lists.now) }
 {
     let after = Terms::After {
         columns,
@@ -68,7 +70,9 @@ fn destination_is_shown(
     fall: u32,
     lists: &[Vec<i64>],
 ) -> bool
-    ensures { IsTrue result ↔ ShownAt columns (known_at frames.now) (destination_owes columns piece.now destination.now (case_view case.now) draws.now target fall) (map (λ l. l.items) lists.now) }
+    ensures { let taken = case_view case.now in
+        let owes = destination_owes columns piece.now destination.now in
+        IsTrue result ↔ ShownAt columns (known_at frames.now) (owes taken draws.now target fall) (map (λ l. l.items) lists.now) }
 {
     match destination {
         Destination::Anywhere => nothing_is_shown(target, fall, lists),
@@ -102,7 +106,8 @@ impl Targets for Nowhere {
 
 /// Whether the cover shows that the case cannot be taken.
 fn stop_is_met(columns: u32, frames: &Frames, case: &Case, cover: &Cover) -> bool
-    ensures { IsTrue result ↔ IsMetCover (columns + case.now.draws) no_target (known_at frames.now ++ as_given (case_view case.now).guards) cover.now }
+    ensures { let taken = case_view case.now in
+        IsTrue result ↔ IsMetCover (columns + case.now.draws) no_target (known_at frames.now ++ as_given taken.guards) cover.now }
 {
     let place = Frames::Rows {
         rows: Rows::Each(&case.guards.rows),
@@ -151,7 +156,9 @@ fn take_is_shown(
     fall: u32,
     lists: &[Vec<i64>],
 ) -> bool
-    ensures { IsTrue result ↔ ShownAt columns (known_at frames.now) (option_map (λ rows. drawn_guards columns (case_view case.now) draws.now ++ rows) (destination_owes columns piece.now destination.now (case_view case.now) draws.now target fall)) (map (λ l. l.items) lists.now) }
+    ensures { let taken = case_view case.now in
+        let owes = destination_owes columns piece.now destination.now in
+        IsTrue result ↔ ShownAt columns (known_at frames.now) (option_map (λ rows. drawn_guards columns taken draws.now ++ rows) (owes taken draws.now target fall)) (map (λ l. l.items) lists.now) }
 {
     let guards: &[Row] = &case.guards.rows;
     if lists.len() < guards.len() {
@@ -189,7 +196,8 @@ fn take_is_met(
     draws: &[Row],
     lists: &[Vec<i64>],
 ) -> bool
-    ensures { IsTrue result ↔ TakeMet columns (place_of piece.now) (destination_owes columns piece.now destination.now) (known_at frames.now) (slice_get (case_views cases.now) taken) target fall draws.now (map (λ l. l.items) lists.now) }
+    ensures { let owes = destination_owes columns piece.now destination.now in
+        IsTrue result ↔ TakeMet columns (place_of piece.now) owes (known_at frames.now) (slice_get (case_views cases.now) taken) target fall draws.now (map (λ l. l.items) lists.now) }
 {
     match cases.get(taken as usize) {
         None => false,
@@ -225,7 +233,9 @@ pub fn choice_is_met(
     frames: &Frames,
     tree: &ChoiceTree,
 ) -> bool
-    ensures { IsTrue result ↔ IsMetChoice columns (cases_of about.now).cases (place_of piece.now) stop (destination_owes columns piece.now destination.now) (known_at frames.now) tree.now }
+    ensures { let system = cases_of about.now in
+        let owes = destination_owes columns piece.now destination.now in
+        IsTrue result ↔ IsMetChoice columns system.cases (place_of piece.now) stop owes (known_at frames.now) tree.now }
 {
     match tree {
         ChoiceTree::Split(row, holds, fails) => {

@@ -117,7 +117,9 @@ fn step_is_judged(
     falls: bool,
     tree: &CoverTree,
 ) -> bool
-    ensures { IsTrue result ↔ IsMetCover (columns + case.now.draws) (owed_into into.now case.now.to (case_change columns (case_view case.now)) (falls_where falls (case_change columns (case_view case.now)) piece.now)) (as_given (rows_of piece.now) ++ as_given (case_view case.now).guards) tree.now }
+    ensures { let taken = case_view case.now in
+        let change = case_change columns taken in
+        IsTrue result ↔ IsMetCover (columns + case.now.draws) (owed_into into.now case.now.to change (falls_where falls change piece.now)) (as_given (rows_of piece.now) ++ as_given taken.guards) tree.now }
 {
     let rows = piece.rows();
     if falls {
@@ -136,7 +138,8 @@ fn choice_is_judged(
     destination: &Destination,
     tree: &ChoiceTree,
 ) -> bool
-    ensures { IsTrue result ↔ IsMetChoice (cases_of about.now).variables (cases_of about.now).cases (place_of piece.now) stop (destination_owes (cases_of about.now).variables piece.now destination.now) (as_given (rows_of piece.now)) tree.now }
+    ensures { let system = cases_of about.now in
+        IsTrue result ↔ IsMetChoice system.variables system.cases (place_of piece.now) stop (destination_owes system.variables piece.now destination.now) (as_given (rows_of piece.now)) tree.now }
 {
     let end = Frames::End;
     let place = Frames::Rows {

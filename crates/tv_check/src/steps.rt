@@ -44,7 +44,9 @@ pub fn step_is_covered(
     ranks: Option<Rows>,
     tree: &CoverTree,
 ) -> bool
-    ensures { IsTrue result ↔ IsMetCover (columns + case.now.draws) (owed_into into.now case.now.to (case_change columns (case_view case.now)) (falls_of (case_change columns (case_view case.now)) ranks.entry)) (as_given (rows_seen rows.entry) ++ as_given (case_view case.now).guards) tree.now }
+    ensures { let taken = case_view case.now in
+        let change = case_change columns taken in
+        IsTrue result ↔ IsMetCover (columns + case.now.draws) (owed_into into.now case.now.to change (falls_of change ranks.entry)) (as_given (rows_seen rows.entry) ++ as_given taken.guards) tree.now }
 {
     let terms = Terms::After {
         columns,

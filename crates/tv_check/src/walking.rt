@@ -19,7 +19,10 @@ fn settle_node(
     seen: u64,
 ) -> Result<u64, Failing>
     requires { seen + length (said_own_entries number (cases_of about.now) (aim_states aim.now) node.now) < 2 ^ 64 }
-    ensures { MatchResult result (λ n. AllMet (said_own_entries number (cases_of about.now) (aim_states aim.now) node.now) × (n ≡ seen + length (said_own_entries number (cases_of about.now) (aim_states aim.now) node.now))) (λ f. IsFirstFailing (said_own_entries number (cases_of about.now) (aim_states aim.now) node.now) seen f) }
+    ensures { let system = cases_of about.now in
+        let states = aim_states aim.now in
+        let entries = said_own_entries number system states node.now in
+        MatchResult result (λ n. AllMet entries × (n ≡ seen + length entries)) (λ f. IsFirstFailing entries seen f) }
 {
     let mut settler = Settler {
         seen,
@@ -53,7 +56,10 @@ pub fn walk(
     requires parts { HasParts (aim_states aim.now) node.now }
     requires room { from + length (said_entries number (cases_of about.now) (aim_states aim.now) node.now) < 2 ^ 64 }
     requires nodes { number + size node.now < 2 ^ 32 }
-    ensures { MatchResult result (λ p. AllMet (said_entries number (cases_of about.now) (aim_states aim.now) node.now) × (p.0 ≡ from + length (said_entries number (cases_of about.now) (aim_states aim.now) node.now)) × (p.1 ≡ number + size node.now)) (λ f. IsFirstFailing (said_entries number (cases_of about.now) (aim_states aim.now) node.now) from f) }
+    ensures { let system = cases_of about.now in
+        let states = aim_states aim.now in
+        let entries = said_entries number system states node.now in
+        MatchResult result (λ p. AllMet entries × (p.0 ≡ from + length entries) × (p.1 ≡ number + size node.now)) (λ f. IsFirstFailing entries from f) }
 {
     let mut seen = from;
     let mut next = number + 1;

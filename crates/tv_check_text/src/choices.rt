@@ -72,7 +72,8 @@ fn stops_are_met(
     requires shallow { left ≤ 128 }
     requires counted { known ≡ length (known_at frames.now) }
     requires room { known < 2 ^ 125 }
-    ensures { JudgesStops (cases_of context.now.about.now).variables (known_at frames.now) left (leaving location (cases_of context.now.about.now).cases) cursor.old cursor.new result }
+    ensures { let system = cases_of context.now.about.now in
+        JudgesStops system.variables (known_at frames.now) left (leaving location system.cases) cursor.old cursor.new result }
 {
     let mut met = true;
     let mut k = 0;
@@ -96,7 +97,9 @@ impl Choosing<'_> {
         requires shallow { left ≤ 128 }
         requires counted { known ≡ length (known_at frames.now) }
         requires room { known < 2 ^ 125 }
-        ensures { (old : Cursor) → IsBehind Head.NoStep [] old cursor.old → JudgesChoice (cases_of self.now.context.about.now) self.now.piece.now self.now.stop self.now.destination.now (known_at frames.now) left old cursor.new result }
+        ensures { let system = cases_of self.now.context.about.now in
+            (old : Cursor) → IsBehind Head.NoStep [] old cursor.old →
+            JudgesChoice system self.now.piece.now self.now.stop self.now.destination.now (known_at frames.now) left old cursor.new result }
     {
         if !self.stop {
             return Err(Failure::Fault(LineKind::Shape, cursor.taken));
@@ -119,7 +122,8 @@ impl Choosing<'_> {
         requires shallow { left < 128 }
         requires counted { known ≡ length (known_at frames.now) }
         requires room { known + left + 1 < 2 ^ 125 }
-        ensures { JudgesChoiceSides (cases_of self.now.context.about.now) self.now.piece.now self.now.stop self.now.destination.now (known_at frames.now) left row.now cursor.old cursor.new result }
+        ensures { let system = cases_of self.now.context.about.now in
+            JudgesChoiceSides system self.now.piece.now self.now.stop self.now.destination.now (known_at frames.now) left row.now cursor.old cursor.new result }
     {
         let given = Built::Given(RowView::of(row));
         let denied = Built::Denied(&given);
@@ -152,7 +156,8 @@ impl Choosing<'_> {
         requires shallow { left ≤ 128 }
         requires counted { known ≡ length (known_at frames.now) }
         requires room { known + left < 2 ^ 125 }
-        ensures { JudgesChoice (cases_of self.now.context.about.now) self.now.piece.now self.now.stop self.now.destination.now (known_at frames.now) left cursor.old cursor.new result }
+        ensures { let system = cases_of self.now.context.about.now in
+            JudgesChoice system self.now.piece.now self.now.stop self.now.destination.now (known_at frames.now) left cursor.old cursor.new result }
     {
         let (head, numbers) = take(self.context.alloc, cursor)?;
         let columns = self.context.about.variables();

@@ -35,7 +35,8 @@ impl Covering<'_> {
     /// What is owed on entering the target and the fall that the numbers name.
     fn entered_by(&self, numbers: &[i64]) -> Option<Entered<'_>>
         requires { AreFew self.now.targets.now }
-        ensures { (change : Linear → Known) → MatchOption result (EntersNone (owed_at change self.now.targets.now) numbers.now) (IsEntered change (owed_at change self.now.targets.now) numbers.now) }
+        ensures { (change : Linear → Known) →
+            MatchOption result (EntersNone (owed_at change self.now.targets.now) numbers.now) (IsEntered change (owed_at change self.now.targets.now) numbers.now) }
     {
         let Some((target, fall)) = two_small(numbers) else {
             return None;
@@ -54,7 +55,8 @@ impl Covering<'_> {
         requires few { AreFew self.now.targets.now }
         requires counted { known ≡ length (known_at frames.now) }
         requires room { known < 2 ^ 127 }
-        ensures { (left : ℕ) (old : Cursor) → IsBehind Head.Into numbers.now old cursor.old → JudgesCover self.now.columns (owed_at (change_of self.now.change.now) self.now.targets.now) (known_at frames.now) left old cursor.new result }
+        ensures { (left : ℕ) (old : Cursor) → IsBehind Head.Into numbers.now old cursor.old →
+            JudgesCover self.now.columns (owed_at (change_of self.now.change.now) self.now.targets.now) (known_at frames.now) left old cursor.new result }
     {
         let Some(entered) = self.entered_by(numbers) else {
             return Err(Failure::Fault(LineKind::Shape, cursor.taken));

@@ -21,8 +21,12 @@ pub fn is_empty(
     line: u32,
 ) -> Result<bool, Failure>
     requires counted { known ≡ length (known_at frames.now) }
-    ensures cover { (owed : ℕ → ℕ → Option (List Known)) (left : ℕ) (old new : Cursor) → IsBehind Head.Empty multipliers.items old new → new.taken ≡ line → JudgesCover columns owed (known_at frames.now) left old new result }
-    ensures choice { (system : CaseSystem) (piece : Marked) (stop : Bool) (destination : Destination) (left : ℕ) (old new : Cursor) → columns ≡ system.variables → IsBehind Head.Empty multipliers.items old new → new.taken ≡ line → JudgesChoice system piece stop destination (known_at frames.now) left old new result }
+    ensures cover { (owed : ℕ → ℕ → Option (List Known)) (left : ℕ) (old new : Cursor) →
+        IsBehind Head.Empty multipliers.items old new → new.taken ≡ line →
+        JudgesCover columns owed (known_at frames.now) left old new result }
+    ensures choice { (system : CaseSystem) (piece : Marked) (stop : Bool) (destination : Destination) (left : ℕ) (old new : Cursor) →
+        columns ≡ system.variables → IsBehind Head.Empty multipliers.items old new → new.taken ≡ line →
+        JudgesChoice system piece stop destination (known_at frames.now) left old new result }
 {
     if multipliers.len() as u128 == known {
         Ok(refutes(columns as usize, frames, &multipliers))

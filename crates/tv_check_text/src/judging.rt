@@ -60,7 +60,8 @@ fn piece_is_covered(
     piece: &Marked,
     targets: &Targets,
 ) -> Result<bool, Failure>
-    ensures { JudgesProof (a_cover (cases_of context.now.about.now).variables (as_given (rows_of piece.now)) (owed_at given targets.now)) cursor.old cursor.new result }
+    ensures { let system = cases_of context.now.about.now in
+        JudgesProof (a_cover system.variables (as_given (rows_of piece.now)) (owed_at given targets.now)) cursor.old cursor.new result }
 {
     let columns = context.about.variables();
     let rows = piece.rows();
@@ -88,7 +89,8 @@ fn step_is_covered<'a>(
     falls: bool,
 ) -> Result<bool, Failure>
     requires { case.now.draws ≤ 64 }
-    ensures { JudgesProof (owed_by (cases_of context.now.about.now) (owing.Step piece.entry case.entry into.entry falls)) cursor.old cursor.new result }
+    ensures { let system = cases_of context.now.about.now in
+        JudgesProof (owed_by system (owing.Step piece.entry case.entry into.entry falls)) cursor.old cursor.new result }
 {
     let variables = context.about.variables();
     let terms = Terms::After {
@@ -192,7 +194,8 @@ pub fn judged_start(
     pieces: &Pieces,
 ) -> Result<bool, Failure>
     requires { length pieces.now < 2 ^ 32 }
-    ensures { JudgesCover (cases_of context.now.about.now).variables (owed_into pieces.now (cases_of context.now.about.now).start given no_fall) [] 128 cursor.old cursor.new result }
+    ensures { let system = cases_of context.now.about.now in
+        JudgesCover system.variables (owed_into pieces.now system.start given no_fall) [] 128 cursor.old cursor.new result }
 {
     let targets = Targets::Pieces {
         from: None,

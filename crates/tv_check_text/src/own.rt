@@ -21,7 +21,9 @@ pub fn judge_own(
 ) -> Result<(), Failure>
     requires few { length pieces.now + length children.now < 2 ^ 32 }
     requires seen { judge.old.seen < 2 ^ 32 }
-    ensures { JudgesOwn (said_own number (cases_of about.now) (aim_states aim.now) pieces.now (map pieces_list children.now)) judge.old judge.new result }
+    ensures { let system = cases_of about.now in
+        let states = aim_states aim.now in
+        JudgesOwn (said_own number system states pieces.now (map pieces_list children.now)) judge.old judge.new result }
 {
     if visit_pieces(judge, about, number, aim, pieces, children) {
         return Ok(());

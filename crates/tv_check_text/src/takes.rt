@@ -31,7 +31,8 @@ impl<'a> Choosing<'a> {
     ) -> Result<bool, Failure>
         requires counted { known ≡ length (known_at frames.now) }
         requires room { known < 2 ^ 126 }
-        requires owes { IsSome (destination_owes (cases_of self.now.context.about.now).variables self.now.piece.now self.now.destination.now (case_view taken.now.case.now) draws.now taken.now.target taken.now.fall) }
+        requires owes { let system = cases_of self.now.context.about.now in
+            IsSome (destination_owes system.variables self.now.piece.now self.now.destination.now (case_view taken.now.case.now) draws.now taken.now.target taken.now.fall) }
         ensures { let n = (cases_of self.now.context.about.now).variables in
             let case = case_view taken.now.case.now in
             (rows : List Known) → destination_owes n self.now.piece.now self.now.destination.now case draws.now taken.now.target taken.now.fall ≡ Some rows → JudgesLists n (known_at frames.now) (drawn_guards n case draws.now ++ rows) cursor.old cursor.new result }
@@ -76,7 +77,9 @@ impl<'a> Choosing<'a> {
         requires few { AreFewAt self.now.piece.now self.now.destination.now }
         requires counted { known ≡ length (known_at frames.now) }
         requires room { known < 2 ^ 126 }
-        ensures { (left : ℕ) (old : Cursor) → IsBehind Head.Take numbers.now old cursor.old → JudgesChoice (cases_of self.now.context.about.now) self.now.piece.now self.now.stop self.now.destination.now (known_at frames.now) left old cursor.new result }
+        ensures { let system = cases_of self.now.context.about.now in
+            (left : ℕ) (old : Cursor) → IsBehind Head.Take numbers.now old cursor.old →
+            JudgesChoice system self.now.piece.now self.now.stop self.now.destination.now (known_at frames.now) left old cursor.new result }
     {
         let Some(taken) = self.context.taken_of(numbers, self.piece, self.destination) else {
             return Err(Failure::Fault(LineKind::Shape, cursor.taken));

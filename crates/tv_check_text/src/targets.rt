@@ -31,7 +31,9 @@ pub fn targets_after<'a>(
     case: &Case,
     destination: &Destination<'a>,
 ) -> Targets<'a>
-    ensures { (n : ℕ) → (draws : List Linear) → owed_at (drawn_change n (case_view case.now) draws) result ≡ destination_owes n piece.now destination.now (case_view case.now) draws }
+    ensures { let taken = case_view case.now in
+        (n : ℕ) → (draws : List Linear) →
+        owed_at (drawn_change n taken draws) result ≡ destination_owes n piece.now destination.now taken draws }
 {
     match destination {
         Destination::Anywhere => Targets::Truth(true),
@@ -45,7 +47,8 @@ pub fn targets_after<'a>(
 
 /// The fall at this place, from 1, from ranks to others, if there is one.
 fn fall_between<'a>(old: Rows<'a>, new: Rows<'a>, fall: u32) -> Option<Fall<'a>>
-    ensures { (change : Linear → Known) → MatchOption result (fall_rows (as_given (rows_seen old.entry)) (map change (rows_seen new.entry)) fall ≡ None) (λ f. fall_rows (as_given (rows_seen old.entry)) (map change (rows_seen new.entry)) fall ≡ Some (fall_listed change (Some f))) }
+    ensures { (change : Linear → Known) →
+        MatchOption result (fall_rows (as_given (rows_seen old.entry)) (map change (rows_seen new.entry)) fall ≡ None) (λ f. fall_rows (as_given (rows_seen old.entry)) (map change (rows_seen new.entry)) fall ≡ Some (fall_listed change (Some f))) }
 {
     let after = fall as usize;
     let before = old.len();
@@ -73,7 +76,8 @@ fn rows_entered(rows: Rows, fall: u32) -> Option<Entered<'_>>
 
 /// What a piece owes that is entered by the fall, from the ranks of a piece where one is owed.
 fn piece_entered<'a>(from: Option<&'a Marked>, piece: &'a Marked, fall: u32) -> Option<Entered<'a>>
-    ensures { (change : Linear → Known) → MatchOption result (target_rows change (falls_past change from.entry) (Some piece.now) fall ≡ None) (λ x. target_rows change (falls_past change from.entry) (Some piece.now) fall ≡ Some (entered_listed change x)) }
+    ensures { (change : Linear → Known) →
+        MatchOption result (target_rows change (falls_past change from.entry) (Some piece.now) fall ≡ None) (λ x. target_rows change (falls_past change from.entry) (Some piece.now) fall ≡ Some (entered_listed change x)) }
 {
     let rows = piece.rows();
     match from {
@@ -93,7 +97,8 @@ fn piece_entered<'a>(from: Option<&'a Marked>, piece: &'a Marked, fall: u32) -> 
 
 /// What is owed on entering the target by the fall, where there are such.
 pub fn entered<'a>(targets: &Targets<'a>, target: u32, fall: u32) -> Option<Entered<'a>>
-    ensures { (change : Linear → Known) → MatchOption result (owed_at change targets.now target fall ≡ None) (λ x. owed_at change targets.now target fall ≡ Some (entered_listed change x)) }
+    ensures { (change : Linear → Known) →
+        MatchOption result (owed_at change targets.now target fall ≡ None) (λ x. owed_at change targets.now target fall ≡ Some (entered_listed change x)) }
 {
     match targets {
         Targets::Nowhere => None,

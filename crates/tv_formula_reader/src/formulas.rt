@@ -97,7 +97,9 @@ fn with_one(
 ) -> Result<Tree, Reason>
     requires over { IsOver source.now reading.old }
     requires few { levels ≤ 64 }
-    ensures reads { Gives property result (left source.now reading.new) ((of_one (formula_at every levels) path single).read (left source.now reading.old)) }
+    ensures reads { let before = left source.now reading.old in
+        let after = left source.now reading.new in
+        Gives property result after ((of_one (formula_at every levels) path single).read before) }
     ensures stays { Stays source.now reading.old reading.new }
 {
     close_square(source, reading)?;
@@ -116,7 +118,9 @@ fn with_two(
 ) -> Result<Tree, Reason>
     requires over { IsOver source.now reading.old }
     requires few { levels ≤ 64 }
-    ensures reads { Gives property result (left source.now reading.new) ((of_two (formula_at every levels) path shape).read (left source.now reading.old)) }
+    ensures reads { let before = left source.now reading.old in
+        let after = left source.now reading.new in
+        Gives property result after ((of_two (formula_at every levels) path shape).read before) }
     ensures stays { Stays source.now reading.old reading.new }
 {
     close_square(source, reading)?;
@@ -183,7 +187,9 @@ fn and(
 ) -> Result<Turn<Vec<Tree>>, Reason>
     requires over { IsOver source.now reading.old }
     requires few { levels ≤ 64 }
-    ensures reads { Turned trees_view result (left source.now reading.new) (more_cases is_and (literal_at every levels)) (trees_view trees) (left source.now reading.old) }
+    ensures reads { let before = left source.now reading.old in
+        let after = left source.now reading.new in
+        Turned trees_view result after (more_cases is_and (literal_at every levels)) (trees_view trees) before }
     ensures stays { Stays source.now reading.old reading.new }
 {
     match next_kind(source, reading) {
@@ -206,7 +212,9 @@ fn ands(
 ) -> Result<Vec<Tree>, Reason>
     requires over { IsOver source.now reading.old }
     requires few { levels ≤ 64 }
-    ensures reads { Gives trees_view result (left source.now reading.new) ((turns (more_cases is_and (literal_at every levels)) (trees_view first)).read (left source.now reading.old)) }
+    ensures reads { let before = left source.now reading.old in
+        let after = left source.now reading.new in
+        Gives trees_view result after ((turns (more_cases is_and (literal_at every levels)) (trees_view first)).read before) }
     ensures stays { Stays source.now reading.old reading.new }
 {
     let mut trees = first;
@@ -222,7 +230,9 @@ fn ands(
 fn conjunction(source: &Source, reading: &mut Reading, levels: u32) -> Result<Tree, Reason>
     requires over { IsOver source.now reading.old }
     requires few { levels ≤ 64 }
-    ensures reads { Gives property result (left source.now reading.new) ((conjunction_over (literal_at every levels)).read (left source.now reading.old)) }
+    ensures reads { let before = left source.now reading.old in
+        let after = left source.now reading.new in
+        Gives property result after ((conjunction_over (literal_at every levels)).read before) }
     ensures stays { Stays source.now reading.old reading.new }
 {
     let first = literal(source, reading, levels)?;
@@ -238,7 +248,9 @@ fn conjunction_from(
 ) -> Result<Tree, Reason>
     requires over { IsOver source.now reading.old }
     requires few { levels ≤ 64 }
-    ensures reads { Gives property result (left source.now reading.new) ((conjunction_from (literal_at every levels) (property first)).read (left source.now reading.old)) }
+    ensures reads { let before = left source.now reading.old in
+        let after = left source.now reading.new in
+        Gives property result after ((conjunction_from (literal_at every levels) (property first)).read before) }
     ensures stays { Stays source.now reading.old reading.new }
 {
     let trees = trees_of(source.alloc, first)?;
@@ -254,7 +266,10 @@ fn or(
 ) -> Result<Turn<Vec<Tree>>, Reason>
     requires over { IsOver source.now reading.old }
     requires few { levels ≤ 64 }
-    ensures reads { Turned trees_view result (left source.now reading.new) (more_cases is_or (conjunction_over (literal_at every levels))) (trees_view trees) (left source.now reading.old) }
+    ensures reads { let before = left source.now reading.old in
+        let after = left source.now reading.new in
+        let more = more_cases is_or (conjunction_over (literal_at every levels)) in
+        Turned trees_view result after more (trees_view trees) before }
     ensures stays { Stays source.now reading.old reading.new }
 {
     match next_kind(source, reading) {
@@ -277,7 +292,10 @@ fn ors(
 ) -> Result<Vec<Tree>, Reason>
     requires over { IsOver source.now reading.old }
     requires few { levels ≤ 64 }
-    ensures reads { Gives trees_view result (left source.now reading.new) ((turns (more_cases is_or (conjunction_over (literal_at every levels))) (trees_view first)).read (left source.now reading.old)) }
+    ensures reads { let before = left source.now reading.old in
+        let after = left source.now reading.new in
+        let more = more_cases is_or (conjunction_over (literal_at every levels)) in
+        Gives trees_view result after ((turns more (trees_view first)).read before) }
     ensures stays { Stays source.now reading.old reading.new }
 {
     let mut trees = first;
@@ -310,7 +328,9 @@ fn formula_from(
 ) -> Result<Tree, Reason>
     requires over { IsOver source.now reading.old }
     requires few { levels ≤ 64 }
-    ensures reads { Gives property result (left source.now reading.new) ((formula_from (conjunction_over (literal_at every levels)) (property first)).read (left source.now reading.old)) }
+    ensures reads { let before = left source.now reading.old in
+        let after = left source.now reading.new in
+        Gives property result after ((formula_from (conjunction_over (literal_at every levels)) (property first)).read before) }
     ensures stays { Stays source.now reading.old reading.new }
 {
     let trees = trees_of(source.alloc, first)?;

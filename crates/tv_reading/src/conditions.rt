@@ -21,7 +21,9 @@ use tv_program::Cond;
 
 /// A relation behind a sum, if one comes.
 fn related(source: &Source, cursor: &mut Cursor, levels: u32, made: Made) -> Result<Piece, Reason>
-    ensures reads { Gives piece_view result (left (stand source.now cursor.new)) ((turns (relation_cases (sum_at every levels true)) (value (made_view made))).read (left (stand source.now cursor.old))) }
+    ensures reads { let before = left (stand source.now cursor.old) in
+        let after = left (stand source.now cursor.new) in
+        Gives piece_view result after ((turns (relation_cases (sum_at every levels true)) (value (made_view made))).read before) }
     ensures passed { Keeps source.now cursor.old cursor.new }
 {
     match relation_of(kind_of(peek(source, cursor))) {
@@ -36,7 +38,9 @@ fn related(source: &Source, cursor: &mut Cursor, levels: u32, made: Made) -> Res
 
 /// The rest of a product, of a sum, and a relation behind a factor.
 fn tail(source: &Source, cursor: &mut Cursor, levels: u32, first: Made) -> Result<Piece, Reason>
-    ensures reads { Gives piece_view result (left (stand source.now cursor.new)) ((tail every levels (made_view first)).read (left (stand source.now cursor.old))) }
+    ensures reads { let before = left (stand source.now cursor.old) in
+        let after = left (stand source.now cursor.new) in
+        Gives piece_view result after ((tail every levels (made_view first)).read before) }
     ensures passed { Keeps source.now cursor.old cursor.new }
 {
     let product = product_from(source, cursor, levels, true, first)?;
@@ -46,7 +50,9 @@ fn tail(source: &Source, cursor: &mut Cursor, levels: u32, first: Made) -> Resul
 
 /// What may follow a `)`.
 fn opened(source: &Source, cursor: &mut Cursor, levels: u32, piece: Piece) -> Result<Piece, Reason>
-    ensures reads { Gives piece_view result (left (stand source.now cursor.new)) ((opened every levels (piece_view piece)).read (left (stand source.now cursor.old))) }
+    ensures reads { let before = left (stand source.now cursor.old) in
+        let after = left (stand source.now cursor.new) in
+        Gives piece_view result after ((opened every levels (piece_view piece)).read before) }
     ensures passed { Keeps source.now cursor.old cursor.new }
 {
     match piece {
@@ -57,7 +63,9 @@ fn opened(source: &Source, cursor: &mut Cursor, levels: u32, piece: Piece) -> Re
 
 /// A thing that begins with a factor.
 fn sum_thing(source: &Source, cursor: &mut Cursor, levels: u32) -> Result<Piece, Reason>
-    ensures reads { Gives piece_view result (left (stand source.now cursor.new)) ((then (factor_at every levels true) (tail every levels)).read (left (stand source.now cursor.old))) }
+    ensures reads { let before = left (stand source.now cursor.old) in
+        let after = left (stand source.now cursor.new) in
+        Gives piece_view result after ((then (factor_at every levels true) (tail every levels)).read before) }
     ensures passed { Keeps source.now cursor.old cursor.new }
 {
     let made = factor(source, cursor, levels, true)?;
@@ -74,7 +82,9 @@ fn truth(source: &Source, cursor: &mut Cursor, truth: bool) -> Result<Cond, Reas
 }
 
 fn truth_piece(source: &Source, cursor: &mut Cursor, truth: bool) -> Result<Piece, Reason>
-    ensures reads { Gives piece_view result (left (stand source.now cursor.new)) (Ok (tested (trees.truth truth), drop 1 (left (stand source.now cursor.old)))) }
+    ensures reads { let before = left (stand source.now cursor.old) in
+        let after = left (stand source.now cursor.new) in
+        Gives piece_view result after (Ok (tested (trees.truth truth), drop 1 before)) }
     ensures passed { Keeps source.now cursor.old cursor.new }
 {
     pass(source, cursor)?;
@@ -112,7 +122,9 @@ fn thing(source: &Source, cursor: &mut Cursor, levels: u32) -> Result<Piece, Rea
 #[cycle(conditions)]
 fn bracketed(source: &Source, cursor: &mut Cursor, levels: u32) -> Result<Piece, Reason>
     requires deeper { levels + 1 < 2 ^ 32 }
-    ensures reads { Gives piece_view result (left (stand source.now cursor.new)) ((in_brackets every (levels + 1) (thing_at every levels)).read (left (stand source.now cursor.old))) }
+    ensures reads { let before = left (stand source.now cursor.old) in
+        let after = left (stand source.now cursor.new) in
+        Gives piece_view result after ((in_brackets every (levels + 1) (thing_at every levels)).read before) }
     ensures passed { Keeps source.now cursor.old cursor.new }
 {
     let piece = thing(source, cursor, levels)?;
@@ -129,7 +141,9 @@ fn continued(
     levels: u32,
     piece: Piece,
 ) -> Result<Piece, Reason>
-    ensures reads { Gives piece_view result (left (stand source.now cursor.new)) ((continued (literal_at every levels) (piece_view piece)).read (left (stand source.now cursor.old))) }
+    ensures reads { let before = left (stand source.now cursor.old) in
+        let after = left (stand source.now cursor.new) in
+        Gives piece_view result after ((continued (literal_at every levels) (piece_view piece)).read before) }
     ensures passed { Keeps source.now cursor.old cursor.new }
 {
     match piece {
@@ -144,7 +158,9 @@ fn continued(
 /// What stands behind a `!` at the front of a thing.
 #[cycle(conditions)]
 fn denied(source: &Source, cursor: &mut Cursor, levels: u32) -> Result<Piece, Reason>
-    ensures reads { Gives piece_view result (left (stand source.now cursor.new)) ((mapped (λ c. tested (trees.negated c)) (plain_at every levels)).read (left (stand source.now cursor.old))) }
+    ensures reads { let before = left (stand source.now cursor.old) in
+        let after = left (stand source.now cursor.new) in
+        Gives piece_view result after ((mapped (λ c. tested (trees.negated c)) (plain_at every levels)).read before) }
     ensures passed { Keeps source.now cursor.old cursor.new }
 {
     let cond = plain(source, cursor, levels)?;
@@ -154,7 +170,9 @@ fn denied(source: &Source, cursor: &mut Cursor, levels: u32) -> Result<Piece, Re
 /// What stands behind a `!`.
 #[cycle(conditions)]
 fn negated(source: &Source, cursor: &mut Cursor, levels: u32) -> Result<Cond, Reason>
-    ensures reads { Gives condition result (left (stand source.now cursor.new)) ((mapped negated (plain_at every levels)).read (left (stand source.now cursor.old))) }
+    ensures reads { let before = left (stand source.now cursor.old) in
+        let after = left (stand source.now cursor.new) in
+        Gives condition result after ((mapped negated (plain_at every levels)).read before) }
     ensures passed { Keeps source.now cursor.old cursor.new }
 {
     let cond = plain(source, cursor, levels)?;
@@ -191,7 +209,9 @@ fn plain(source: &Source, cursor: &mut Cursor, levels: u32) -> Result<Cond, Reas
 /// A condition behind a `(`, and the `)`.
 #[cycle(conditions)]
 fn enclosed(source: &Source, cursor: &mut Cursor, levels: u32) -> Result<Cond, Reason>
-    ensures reads { Gives condition result (left (stand source.now cursor.new)) ((then (condition_at every levels) closed).read (left (stand source.now cursor.old))) }
+    ensures reads { let before = left (stand source.now cursor.old) in
+        let after = left (stand source.now cursor.new) in
+        Gives condition result after ((then (condition_at every levels) closed).read before) }
     ensures passed { Keeps source.now cursor.old cursor.new }
 {
     let cond = condition(source, cursor, levels)?;
@@ -216,7 +236,9 @@ fn and(
     levels: u32,
     conds: Vec<Cond>,
 ) -> Result<Turn<Vec<Cond>>, Reason>
-    ensures reads { Turned conds_view result (left (stand source.now cursor.new)) (more_cases is_and (literal_at every levels)) (conds_view conds) (left (stand source.now cursor.old)) }
+    ensures reads { let before = left (stand source.now cursor.old) in
+        let after = left (stand source.now cursor.new) in
+        Turned conds_view result after (more_cases is_and (literal_at every levels)) (conds_view conds) before }
     ensures passed { Keeps source.now cursor.old cursor.new }
 {
     match peek(source, cursor) {
@@ -237,7 +259,9 @@ fn ands(
     levels: u32,
     first: Vec<Cond>,
 ) -> Result<Vec<Cond>, Reason>
-    ensures reads { Gives conds_view result (left (stand source.now cursor.new)) ((turns (more_cases is_and (literal_at every levels)) (conds_view first)).read (left (stand source.now cursor.old))) }
+    ensures reads { let before = left (stand source.now cursor.old) in
+        let after = left (stand source.now cursor.new) in
+        Gives conds_view result after ((turns (more_cases is_and (literal_at every levels)) (conds_view first)).read before) }
     ensures passed { Keeps source.now cursor.old cursor.new }
 {
     let mut conds = first;
@@ -256,7 +280,9 @@ fn conjunction_from(
     levels: u32,
     first: Cond,
 ) -> Result<Cond, Reason>
-    ensures reads { Gives condition result (left (stand source.now cursor.new)) ((conjunction_from (literal_at every levels) (condition first)).read (left (stand source.now cursor.old))) }
+    ensures reads { let before = left (stand source.now cursor.old) in
+        let after = left (stand source.now cursor.new) in
+        Gives condition result after ((conjunction_from (literal_at every levels) (condition first)).read before) }
     ensures passed { Keeps source.now cursor.old cursor.new }
 {
     let conds = conds_of(source.alloc, first)?;
@@ -265,7 +291,9 @@ fn conjunction_from(
 
 #[cycle(conditions)]
 fn conjunction(source: &Source, cursor: &mut Cursor, levels: u32) -> Result<Cond, Reason>
-    ensures reads { Gives condition result (left (stand source.now cursor.new)) ((conjunction_over (literal_at every levels)).read (left (stand source.now cursor.old))) }
+    ensures reads { let before = left (stand source.now cursor.old) in
+        let after = left (stand source.now cursor.new) in
+        Gives condition result after ((conjunction_over (literal_at every levels)).read before) }
     ensures passed { Keeps source.now cursor.old cursor.new }
 {
     let first = literal(source, cursor, levels)?;
@@ -279,7 +307,10 @@ fn or(
     levels: u32,
     conds: Vec<Cond>,
 ) -> Result<Turn<Vec<Cond>>, Reason>
-    ensures reads { Turned conds_view result (left (stand source.now cursor.new)) (more_cases is_or (conjunction_over (literal_at every levels))) (conds_view conds) (left (stand source.now cursor.old)) }
+    ensures reads { let before = left (stand source.now cursor.old) in
+        let after = left (stand source.now cursor.new) in
+        let more = more_cases is_or (conjunction_over (literal_at every levels)) in
+        Turned conds_view result after more (conds_view conds) before }
     ensures passed { Keeps source.now cursor.old cursor.new }
 {
     match peek(source, cursor) {
@@ -300,7 +331,10 @@ fn ors(
     levels: u32,
     first: Vec<Cond>,
 ) -> Result<Vec<Cond>, Reason>
-    ensures reads { Gives conds_view result (left (stand source.now cursor.new)) ((turns (more_cases is_or (conjunction_over (literal_at every levels))) (conds_view first)).read (left (stand source.now cursor.old))) }
+    ensures reads { let before = left (stand source.now cursor.old) in
+        let after = left (stand source.now cursor.new) in
+        let more = more_cases is_or (conjunction_over (literal_at every levels)) in
+        Gives conds_view result after ((turns more (conds_view first)).read before) }
     ensures passed { Keeps source.now cursor.old cursor.new }
 {
     let mut conds = first;
@@ -319,7 +353,9 @@ fn condition_from(
     levels: u32,
     first: Cond,
 ) -> Result<Cond, Reason>
-    ensures reads { Gives condition result (left (stand source.now cursor.new)) ((condition_from (conjunction_over (literal_at every levels)) (condition first)).read (left (stand source.now cursor.old))) }
+    ensures reads { let before = left (stand source.now cursor.old) in
+        let after = left (stand source.now cursor.new) in
+        Gives condition result after ((condition_from (conjunction_over (literal_at every levels)) (condition first)).read before) }
     ensures passed { Keeps source.now cursor.old cursor.new }
 {
     let conds = conds_of(source.alloc, first)?;

@@ -257,7 +257,8 @@ impl<'a> Reading<'a> {
         // What is passed is a sum, and none begins with it and the next token.
         ensures found { IfOk result (λ e. IsLongest (IsSum (sum_levels self.old)) (expression e) (left self.old) (left self.new)) }
         // Such a sum is read.
-        ensures only { (e : Expression) (rest : List Mark) → IsLongest (IsSum (sum_levels self.old)) e (left self.old) rest → IsGiven result (λ f. (expression f ≡ e) × (left self.new ≡ rest)) }
+        ensures only { (e : Expression) (rest : List Mark) → IsLongest (IsSum (sum_levels self.old)) e (left self.old) rest →
+            IsGiven result (λ f. (expression f ≡ e) × (left self.new ≡ rest)) }
         // Else the first token at fault is told, with the first kind of fault that it is.
         ensures refused { OnRefusal result (λ k. Refuses (λ kept n. sum_at kept n true) (sum_levels self.old) k (left self.old) (left self.new)) }
         ensures placed { IsPlaced result self.new }
@@ -276,7 +277,8 @@ impl<'a> Reading<'a> {
     /// The longest front that is a condition, likewise.
     pub fn condition(&mut self) -> Result<Cond, PartFault>
         ensures found { IfOk result (λ c. IsLongest (IsCondition (condition_levels self.old)) (condition c) (left self.old) (left self.new)) }
-        ensures only { (c : Condition) (rest : List Mark) → IsLongest (IsCondition (condition_levels self.old)) c (left self.old) rest → IsGiven result (λ d. (condition d ≡ c) × (left self.new ≡ rest)) }
+        ensures only { (c : Condition) (rest : List Mark) → IsLongest (IsCondition (condition_levels self.old)) c (left self.old) rest →
+            IsGiven result (λ d. (condition d ≡ c) × (left self.new ≡ rest)) }
         ensures refused { OnRefusal result (λ k. Refuses condition_at (condition_levels self.old) k (left self.old) (left self.new)) }
         ensures placed { IsPlaced result self.new }
         ensures passed { Passes self.old self.new }

@@ -52,7 +52,9 @@ fn draw_brackets(source: &Source, cursor: &mut Cursor, made: Made) -> Result<Mad
 #[inline(always)]
 fn leaf(source: &Source, cursor: &mut Cursor, free: bool, part: Part) -> Result<Made, Reason>
     requires seen { next (left (stand source.now cursor.old)) ≡ Some (mark_of part) }
-    ensures reads { Gives made_view result (left (stand source.now cursor.new)) (branch_read (leaf_cases every free (mark_of part)) (left (stand source.now cursor.old)) (drop 1 (left (stand source.now cursor.old)))) }
+    ensures reads { let before = left (stand source.now cursor.old) in
+        let after = left (stand source.now cursor.new) in
+        Gives made_view result after (branch_read (leaf_cases every free (mark_of part)) before (drop 1 before)) }
     ensures passed { Keeps source.now cursor.old cursor.new }
 {
     match part {
@@ -71,7 +73,9 @@ fn leaf(source: &Source, cursor: &mut Cursor, free: bool, part: Part) -> Result<
 fn named(source: &Source, cursor: &mut Cursor, free: bool, part: Part) -> Result<Made, Reason>
     requires numbered { IsNamed part }
     requires seen { next (left (stand source.now cursor.old)) ≡ Some (mark_of part) }
-    ensures reads { Gives made_view result (left (stand source.now cursor.new)) (branch_read (leaf_cases every free (mark_of part)) (left (stand source.now cursor.old)) (drop 1 (left (stand source.now cursor.old)))) }
+    ensures reads { let before = left (stand source.now cursor.old) in
+        let after = left (stand source.now cursor.new) in
+        Gives made_view result after (branch_read (leaf_cases every free (mark_of part)) before (drop 1 before)) }
     ensures passed { Keeps source.now cursor.old cursor.new }
 {
     if !free {
@@ -94,7 +98,9 @@ fn named(source: &Source, cursor: &mut Cursor, free: bool, part: Part) -> Result
 /// A factor that nests at most `levels` deep.
 #[cycle(sums)]
 pub fn factor(source: &Source, cursor: &mut Cursor, levels: u32, free: bool) -> Result<Made, Reason>
-    ensures reads { Gives made_view result (left (stand source.now cursor.new)) ((factor_at every levels free).read (left (stand source.now cursor.old))) }
+    ensures reads { let before = left (stand source.now cursor.old) in
+        let after = left (stand source.now cursor.new) in
+        Gives made_view result after ((factor_at every levels free).read before) }
     ensures passed { Keeps source.now cursor.old cursor.new }
 {
     let part = peek(source, cursor);
@@ -123,7 +129,9 @@ pub fn factor(source: &Source, cursor: &mut Cursor, levels: u32, free: bool) -> 
 /// What stands behind a `(`.
 #[cycle(sums)]
 fn bracketed(source: &Source, cursor: &mut Cursor, levels: u32, free: bool) -> Result<Made, Reason>
-    ensures reads { Gives made_view result (left (stand source.now cursor.new)) ((then (sum_at every levels free) closed).read (left (stand source.now cursor.old))) }
+    ensures reads { let before = left (stand source.now cursor.old) in
+        let after = left (stand source.now cursor.new) in
+        Gives made_view result after ((then (sum_at every levels free) closed).read before) }
     ensures passed { Keeps source.now cursor.old cursor.new }
 {
     let made = sum(source, cursor, levels, free)?;
@@ -133,7 +141,9 @@ fn bracketed(source: &Source, cursor: &mut Cursor, levels: u32, free: bool) -> R
 /// What stands behind a sign.
 #[cycle(sums)]
 fn signed(source: &Source, cursor: &mut Cursor, levels: u32, free: bool) -> Result<Made, Reason>
-    ensures reads { Gives made_view result (left (stand source.now cursor.new)) ((mapped minus (factor_at every levels free)).read (left (stand source.now cursor.old))) }
+    ensures reads { let before = left (stand source.now cursor.old) in
+        let after = left (stand source.now cursor.new) in
+        Gives made_view result after ((mapped minus (factor_at every levels free)).read before) }
     ensures passed { Keeps source.now cursor.old cursor.new }
 {
     let made = factor(source, cursor, levels, free)?;
@@ -149,7 +159,9 @@ fn star(
     free: bool,
     run: Run,
 ) -> Result<Turn<Run>, Reason>
-    ensures reads { Turned parts_view result (left (stand source.now cursor.new)) (star_cases (factor_at every levels) free) (parts_view run) (left (stand source.now cursor.old)) }
+    ensures reads { let before = left (stand source.now cursor.old) in
+        let after = left (stand source.now cursor.new) in
+        Turned parts_view result after (star_cases (factor_at every levels) free) (parts_view run) before }
     ensures passed { Keeps source.now cursor.old cursor.new }
 {
     match peek(source, cursor) {
@@ -171,7 +183,9 @@ fn stars(
     free: bool,
     first: Run,
 ) -> Result<Run, Reason>
-    ensures reads { Gives parts_view result (left (stand source.now cursor.new)) ((turns (star_cases (factor_at every levels) free) (parts_view first)).read (left (stand source.now cursor.old))) }
+    ensures reads { let before = left (stand source.now cursor.old) in
+        let after = left (stand source.now cursor.new) in
+        Gives parts_view result after ((turns (star_cases (factor_at every levels) free) (parts_view first)).read before) }
     ensures passed { Keeps source.now cursor.old cursor.new }
 {
     let mut run = first;
@@ -192,7 +206,10 @@ pub fn product_from(
     free: bool,
     first: Made,
 ) -> Result<Made, Reason>
-    ensures reads { Gives made_view result (left (stand source.now cursor.new)) ((mapped (gathered trees.product) (turns (star_cases (factor_at every levels) free) (made_view first ∷ []))).read (left (stand source.now cursor.old))) }
+    ensures reads { let before = left (stand source.now cursor.old) in
+        let after = left (stand source.now cursor.new) in
+        let run = turns (star_cases (factor_at every levels) free) (made_view first ∷ []) in
+        Gives made_view result after ((mapped (gathered trees.product) run).read before) }
     ensures passed { Keeps source.now cursor.old cursor.new }
 {
     match next_kind(source, cursor) {
@@ -208,7 +225,9 @@ pub fn product_from(
 #[cycle(sums)]
 #[inline(always)]
 fn product(source: &Source, cursor: &mut Cursor, levels: u32, free: bool) -> Result<Made, Reason>
-    ensures reads { Gives made_view result (left (stand source.now cursor.new)) ((product_at every levels free).read (left (stand source.now cursor.old))) }
+    ensures reads { let before = left (stand source.now cursor.old) in
+        let after = left (stand source.now cursor.new) in
+        Gives made_view result after ((product_at every levels free).read before) }
     ensures passed { Keeps source.now cursor.old cursor.new }
 {
     let first = factor(source, cursor, levels, free)?;
@@ -224,7 +243,9 @@ fn sign(
     free: bool,
     run: Run,
 ) -> Result<Turn<Run>, Reason>
-    ensures reads { Turned parts_view result (left (stand source.now cursor.new)) (sum_cases (product_at every levels free)) (parts_view run) (left (stand source.now cursor.old)) }
+    ensures reads { let before = left (stand source.now cursor.old) in
+        let after = left (stand source.now cursor.new) in
+        Turned parts_view result after (sum_cases (product_at every levels free)) (parts_view run) before }
     ensures passed { Keeps source.now cursor.old cursor.new }
 {
     match peek(source, cursor) {
@@ -252,7 +273,9 @@ fn signs(
     free: bool,
     first: Run,
 ) -> Result<Run, Reason>
-    ensures reads { Gives parts_view result (left (stand source.now cursor.new)) ((turns (sum_cases (product_at every levels free)) (parts_view first)).read (left (stand source.now cursor.old))) }
+    ensures reads { let before = left (stand source.now cursor.old) in
+        let after = left (stand source.now cursor.new) in
+        Gives parts_view result after ((turns (sum_cases (product_at every levels free)) (parts_view first)).read before) }
     ensures passed { Keeps source.now cursor.old cursor.new }
 {
     let mut run = first;
@@ -273,7 +296,10 @@ pub fn sum_from(
     free: bool,
     first: Made,
 ) -> Result<Made, Reason>
-    ensures reads { Gives made_view result (left (stand source.now cursor.new)) ((mapped (gathered trees.sum) (turns (sum_cases (product_at every levels free)) (made_view first ∷ []))).read (left (stand source.now cursor.old))) }
+    ensures reads { let before = left (stand source.now cursor.old) in
+        let after = left (stand source.now cursor.new) in
+        let run = turns (sum_cases (product_at every levels free)) (made_view first ∷ []) in
+        Gives made_view result after ((mapped (gathered trees.sum) run).read before) }
     ensures passed { Keeps source.now cursor.old cursor.new }
 {
     match next_kind(source, cursor) {

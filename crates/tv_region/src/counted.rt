@@ -29,7 +29,9 @@ pub(crate) fn product_at(
     requires first { (r : Linear) → InSome (row_lists first.now) r → width r ≡ columns }
     requires second { (r : Linear) → InSome (row_lists second.now) r → width r ≡ columns }
     ensures product { IfOk result (λ v. IsProduct columns (row_lists first.now) (row_lists second.now) (lists v)) }
-    ensures refused { IfErr result (IsRegionFault columns (λ r. InSome (row_lists first.now) r ⊎ InSome (row_lists second.now) r) NoColumn (IsCountAt location (length (row_lists first.now) * length (row_lists second.now))) budget.now) }
+    ensures refused { let ones = row_lists first.now in
+        let others = row_lists second.now in
+        IfErr result (IsRegionFault columns (λ r. InSome ones r ⊎ InSome others r) NoColumn (IsCountAt location (length ones * length others)) budget.now) }
 {
     let count = (first.len() as u64).saturating_mul(second.len() as u64);
     let limits = limits_for(budget, columns, count);
@@ -50,7 +52,8 @@ pub(crate) fn rest_of(
     requires few { columns < 2 ^ 32 - 1 }
     requires wide { (r : Linear) → InSome (row_lists first.now) r → width r ≡ columns }
     ensures complement { IfOk result (λ v. IsComplement columns (row_lists first.now) (lists v)) }
-    ensures refused { IfErr result (IsRegionFault columns (IsDenied (InSome (row_lists first.now))) (IsWideDenial (InSome (row_lists first.now))) (IsCountAt location (row_product (row_lists first.now))) budget.now) }
+    ensures refused { let ones = row_lists first.now in
+        IfErr result (IsRegionFault columns (IsDenied (InSome ones)) (IsWideDenial (InSome ones)) (IsCountAt location (row_product ones)) budget.now) }
 {
     let count = product_of_lengths(first);
     if count == 0 {

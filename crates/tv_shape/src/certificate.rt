@@ -36,7 +36,9 @@ impl Certificate {
     ) -> Result<Certificate, ShapeFault>
         requires states { StatesIts claim.now }
         requires variables { claim_variables claim.now ≡ (cases_of about.now).variables }
-        ensures { MatchResult result (λ c. IsOf (about_with (cases_of about.now)) (shown claim.now verdict) c × (c.root ≡ root) × (c.verdict ≡ verdict)) (IsRefused (about_with (cases_of about.now)) (shown claim.now verdict) root verdict) }
+        ensures { let system = cases_of about.now in
+            let property = shown claim.now verdict in
+            MatchResult result (λ c. IsOf (about_with system) property c × (c.root ≡ root) × (c.verdict ≡ verdict)) (IsRefused (about_with system) property root verdict) }
     {
         if node_count(&root).is_none() {
             return Err(ShapeFault::Memory);

@@ -18,7 +18,9 @@ use tv_linear::{ChoiceTree, Cover, Row, have_columns};
 
 /// Where a choice leads by a case.
 pub fn taken_into<'a>(piece: &'a Marked, case: &Case, destination: &Destination<'a>) -> Targets<'a>
-    ensures counts { (n : ℕ) → (draws : List Linear) → (target fall : ℕ) → counts_of result target fall ≡ owed_count (destination_owes n piece.now destination.now (case_view case.now) draws) target fall }
+    ensures counts { let taken = case_view case.now in
+        (n : ℕ) → (draws : List Linear) → (target fall : ℕ) →
+        counts_of result target fall ≡ owed_count (destination_owes n piece.now destination.now taken draws) target fall }
     ensures few { AreFewAt piece.now destination.now → AreFew result }
 {
     match destination {
@@ -38,7 +40,9 @@ fn destination_owes_rows(
     fall: u32,
     rows: usize,
 ) -> bool
-    ensures { IsTrue result ↔ (owed_count (destination_owes columns piece.now destination.now (case_view case.now) draws.now) target fall ≡ Some rows) }
+    ensures { let taken = case_view case.now in
+        let owes = destination_owes columns piece.now destination.now in
+        IsTrue result ↔ (owed_count (owes taken draws.now) target fall ≡ Some rows) }
 {
     taken_into(piece, case, destination).rows(target, fall) == Some(rows)
 }
@@ -65,7 +69,8 @@ fn take_has_shape(
     lists: &[Vec<i64>],
 ) -> bool
     requires { known < 2 ^ 65 }
-    ensures { IsTrue result ↔ TakeShape columns piece.now.location (destination_owes columns piece.now destination.now) known (slice_get (case_views cases.now) taken) target fall draws.now (map (λ l. l.items) lists.now) }
+    ensures { let owes = destination_owes columns piece.now destination.now in
+        IsTrue result ↔ TakeShape columns piece.now.location owes known (slice_get (case_views cases.now) taken) target fall draws.now (map (λ l. l.items) lists.now) }
 {
     match cases.get(taken as usize) {
         None => false,
@@ -134,7 +139,9 @@ pub fn choice_has_shape(
     known: u128,
 ) -> bool
     requires { known + choice_splits tree.now < 2 ^ 65 }
-    ensures { IsTrue result ↔ ChoiceShape columns (cases_of about.now).cases piece.now.location stop (destination_owes columns piece.now destination.now) known tree.now }
+    ensures { let system = cases_of about.now in
+        let owes = destination_owes columns piece.now destination.now in
+        IsTrue result ↔ ChoiceShape columns system.cases piece.now.location stop owes known tree.now }
 {
     match tree {
         ChoiceTree::Split(row, holds, fails) => {

@@ -16,7 +16,8 @@ use tv_cert::{Aim, Node, Pieces, Verdict};
 
 /// What is at fault in the verdict over the pieces of the root.
 fn look_at_verdict(about: &Cases, pieces: &Pieces, verdict: &Verdict) -> Result<(), ShapeFault>
-    ensures { MatchResult result (λ _. VerdictShallow verdict.now × VerdictFits (about_of (cases_of about.now)) pieces.now verdict.now) (IsVerdictFault (about_of (cases_of about.now)) pieces.now verdict.now) }
+    ensures { let system = cases_of about.now in
+        MatchResult result (λ _. VerdictShallow verdict.now × VerdictFits (about_of system) pieces.now verdict.now) (IsVerdictFault (about_of system) pieces.now verdict.now) }
 {
     if !verdict_is_shallow(verdict) {
         Err(ShapeFault::Deep { node: 0 })
@@ -37,7 +38,9 @@ pub fn look_through(
     verdict: &Verdict,
 ) -> Result<(), ShapeFault>
     requires { size root.now < 2 ^ 32 }
-    ensures { (of : About) → (f : Property) → of.system ≡ cases_of about.now → aim_states aim.now ≡ stated of.tests f → MatchResult result (λ _. Fits of f root.now verdict.now) (IsFirstFault of f root.now verdict.now) }
+    ensures { let states = aim_states aim.now in
+        (of : About) → (f : Property) → of.system ≡ cases_of about.now → states ≡ stated of.tests f →
+        MatchResult result (λ _. Fits of f root.now verdict.now) (IsFirstFault of f root.now verdict.now) }
 {
     match walk(about, aim, 0, 1, root) {
         Err(fault) => Err(fault),

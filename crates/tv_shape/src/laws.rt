@@ -12,15 +12,18 @@ ghost use Rattle.tv_shape.specs.declared.fault.ShapeFault.{ShapeFault};
 
 /// Nothing is at fault at any node exactly where the nodes have the shape of the formula, narrow numbers and no more than their depth.
 pub fn right_nodes_fit()
-    ensures { (about : About) → (f : Property) → (root : Node) → AreRight about.system (stations 0 1 (stated about.tests f) root) ↔ NodesFit about f root }
+    ensures { (about : About) → (f : Property) → (root : Node) →
+        AreRight about.system (stations 0 1 (stated about.tests f) root) ↔ NodesFit about f root }
 {}
 
 /// What fits has no fault.
 pub fn faulty_is_unfit()
-    ensures { (about : About) → (f : Property) → (root : Node) → (verdict : Verdict) → (x : ShapeFault) → IsFirstFault about f root verdict x → (¬ (Fits about f root verdict)) }
+    ensures { (about : About) → (f : Property) → (root : Node) → (verdict : Verdict) → (x : ShapeFault) →
+        IsFirstFault about f root verdict x → (¬ (Fits about f root verdict)) }
 {}
 
 /// There is one first fault at most.
 pub fn one_first_fault()
-    ensures { (about : About) → (f : Property) → (root : Node) → (verdict : Verdict) → (x y : ShapeFault) → IsFirstFault about f root verdict x → IsFirstFault about f root verdict y → x ≡ y }
+    ensures { (about : About) → (f : Property) → (root : Node) → (verdict : Verdict) → (x y : ShapeFault) →
+        IsFirstFault about f root verdict x → IsFirstFault about f root verdict y → x ≡ y }
 {}

@@ -61,7 +61,9 @@ pub fn argument_count(aim: &Aim) -> usize
 /// Whether the proofs have the shapes that the node owes, one each, in order.
 fn proofs_have_shape(about: &Cases, aim: &Aim, node: &Node) -> bool
     requires { length (pieces_list node.now) < 2 ^ 63 }
-    ensures { IsTrue result ↔ AllZip (λ o p. ProofShape o.owed p) (said_own 0 (cases_of about.now) (aim_states aim.now) (pieces_list node.now) (map pieces_list (children_of node.now))) (proofs_of node.now) }
+    ensures { let system = cases_of about.now in
+        let states = aim_states aim.now in
+        IsTrue result ↔ AllZip (λ o p. ProofShape o.owed p) (said_own 0 system states (pieces_list node.now) (map pieces_list (children_of node.now))) (proofs_of node.now) }
 {
     let mut shaper = Shaper {
         proofs: &node.proofs,
@@ -74,7 +76,9 @@ fn proofs_have_shape(about: &Cases, aim: &Aim, node: &Node) -> bool
 
 /// Whether the node's own parts have the shape that its aim asks for.
 fn has_own_parts(about: &Cases, aim: &Aim, node: &Node) -> bool
-    ensures { IsTrue result ↔ OwnParts (cases_of about.now) (aim_states aim.now) (ranks_at node.now) (pieces_list node.now) (map pieces_list (children_of node.now)) (proofs_of node.now) }
+    ensures { let system = cases_of about.now in
+        let states = aim_states aim.now in
+        IsTrue result ↔ OwnParts system states (ranks_at node.now) (pieces_list node.now) (map pieces_list (children_of node.now)) (proofs_of node.now) }
 {
     let done = may_be_done(aim);
     (node.ranks == 0 || may_rank(aim))
@@ -110,7 +114,9 @@ pub fn look_at(
     depth: u32,
     node: &Node,
 ) -> Result<(), ShapeFault>
-    ensures { MatchResult result (λ _. IsRight (cases_of about.now) (station number depth (aim_states aim.now) node.now)) (IsFaultAt (cases_of about.now) (station number depth (aim_states aim.now) node.now)) }
+    ensures { let system = cases_of about.now in
+        let states = aim_states aim.now in
+        MatchResult result (λ _. IsRight system (station number depth states node.now)) (IsFaultAt system (station number depth states node.now)) }
 {
     if !is_shallow(depth, node) {
         Err(ShapeFault::Deep { node: number })

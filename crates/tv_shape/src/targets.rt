@@ -43,7 +43,8 @@ pub fn pieces_into<'a>(
     location: u32,
     falls: bool,
 ) -> Targets<'a>
-    ensures counts { (change : Linear → Known) → (k j : ℕ) → counts_of result k j ≡ owed_count (owed_into into.now location change (falls_where falls change piece.now)) k j }
+    ensures counts { (change : Linear → Known) → (k j : ℕ) →
+        counts_of result k j ≡ owed_count (owed_into into.now location change (falls_where falls change piece.now)) k j }
     ensures few { length into.now < 2 ^ 32 → length (ranks_of piece.now) < 2 ^ 32 → AreFew result }
 {
     if falls {

@@ -20,7 +20,8 @@ use tv_linear::{Cover, are_narrow};
 
 /// Whether the cover has the shape of one of the start by these pieces.
 fn start_has_shape(about: &Cases, pieces: &Pieces, start: &Cover) -> bool
-    ensures { IsTrue result ↔ ProofShape (a_cover (cases_of about.now).variables [] (owed_into pieces.now (cases_of about.now).start given no_fall)) (Covered start.now) }
+    ensures { let system = cases_of about.now in
+        IsTrue result ↔ ProofShape (a_cover system.variables [] (owed_into pieces.now system.start given no_fall)) (Covered start.now) }
 {
     let targets = Targets::Pieces {
         from: None,
@@ -32,7 +33,8 @@ fn start_has_shape(about: &Cases, pieces: &Pieces, start: &Cover) -> bool
 
 /// Whether there is this piece at the start, and as many values as variables.
 fn values_have_shape(about: &Cases, pieces: &Pieces, piece: u32, values: &[i128]) -> bool
-    ensures { IsTrue result ↔ ((length values.now ≡ (cases_of about.now).variables) × IsSome (slice_get (pieces_at pieces.now (cases_of about.now).start) piece)) }
+    ensures { let system = cases_of about.now in
+        IsTrue result ↔ ((length values.now ≡ system.variables) × IsSome (slice_get (pieces_at pieces.now system.start) piece)) }
 {
     values.len() == about.variables() as usize && pieces.at(about.start(), piece).is_some()
 }

@@ -18,7 +18,9 @@ pub fn walk(
     node: &Node,
 ) -> Result<u32, ShapeFault>
     requires { number + size node.now < 2 ^ 32 }
-    ensures { MatchResult result (λ next. AreRight (cases_of about.now) (stations number depth (aim_states aim.now) node.now) × (next ≡ number + size node.now)) (λ f. IsFirstMisshapen (cases_of about.now) (stations number depth (aim_states aim.now) node.now) f) }
+    ensures { let system = cases_of about.now in
+        let states = aim_states aim.now in
+        MatchResult result (λ next. AreRight system (stations number depth states node.now) × (next ≡ number + size node.now)) (λ f. IsFirstMisshapen system (stations number depth states node.now) f) }
 {
     match look_at(about, aim, number, depth, node) {
         Err(fault) => return Err(fault),

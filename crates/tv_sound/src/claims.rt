@@ -32,11 +32,14 @@ pub fn check_claim(
     requires states { StatesIts claim.now }
     requires variables { claim_variables claim.now ≡ (cases_of about.now).variables }
     requires fits { IsOf (about_with (cases_of about.now)) (shown claim.now certificate.now.verdict) certificate.now }
-    ensures exact { Checks (obligations (about_with (cases_of about.now)) (shown claim.now certificate.now.verdict) certificate.now.root certificate.now.verdict) result }
+    ensures exact { let system = cases_of about.now in
+        Checks (obligations (about_with system) (shown claim.now certificate.now.verdict) certificate.now.root certificate.now.verdict) result }
     // The property holds at every initial state, or it fails at the values.
     ensures settled { (f : Property) → IsClaim claim.now f → OnOk result (IsSettled (system_of program.now) f certificate.now.verdict) }
     // Where it is disproved that all runs end, the choices lead along an endless run.
-    ensures followed { (f : Property) → IsClaim claim.now f → normal f ≡ term → OnOk result (FollowsFrom (system_of program.now) (cases_of about.now) certificate.now.root certificate.now.verdict) }
+    ensures followed { let system = cases_of about.now in
+        (f : Property) → IsClaim claim.now f → normal f ≡ term →
+        OnOk result (FollowsFrom (system_of program.now) system certificate.now.root certificate.now.verdict) }
 {
     let verdict = certificate.verdict();
     check(about, claim.aim(verdict), certificate.root(), verdict)
