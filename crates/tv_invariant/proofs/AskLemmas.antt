@@ -1,6 +1,6 @@
 -- Candidates that are taken of proposers.
-use Rattle.std.proofs.Common.{◌≡◌, ◌⊎◌, inl, inr, ℕ, zero, suc, ◌+◌, ◌<◌, ◌≤◌, List, [], ◌∷◌, ◌++◌, length, take, drop, set, get_or, Option, None, Some, Result, Ok, Err, refl, sym, ap, ◌∙◌, subst, append_assoc, append-nil, arith, pos, All}
-use Rattle.std.specs.List.{Contains, filter, AllZip}
+use Rattle.std.proofs.Common.{◌≡◌, ℕ, zero, suc, ◌+◌, ◌<◌, ◌≤◌, List, [], ◌∷◌, ◌++◌, length, take, drop, set, get_or, Option, None, Some, Result, Ok, Err, refl, sym, ap, ◌∙◌, subst, append_assoc, append-nil, arith, pos, All}
+use Rattle.std.specs.List.{filter, AllZip}
 use Rattle.std.specs.Result.{IfErr}
 use Rattle.std.proofs.lemmas.List.Elements.{All-nil, All-cons, filter-append, Contains-append_left}
 use Rattle.tv_linear.specs.Linear.{Linear, columns}

@@ -1,9 +1,10 @@
-mod ListLemmas
+pub mod ListLemmas
 mod RowLemmas
 mod SeenLemmas
 mod StartLemmas
 mod SieveLemmas
 pub mod StepLemmas
+pub mod PieceLemmas
 mod MarkLemmas
 pub mod PassLemmas
 pub mod AskLemmas

@@ -1,6 +1,5 @@
 -- Cases that are opened again.
-use Rattle.std.proofs.Common.{◌≡◌, ℕ, zero, suc, ◌+◌, ◌<◌, List, [], ◌∷◌, length, set, get_or, arith, refl, sym, ap, ◌∙◌, subst, Bool, true, false}
-use Rattle.tv_cases.specs.declared.case.Case.{Case}
+use Rattle.std.proofs.Common.{◌≡◌, ℕ, zero, suc, ◌<◌, List, [], ◌∷◌, length, set, arith, Bool, true}
 use Rattle.tv_invariant.specs.Passes.{IsClosed}
 
 pub closed_within : (marks : List Bool) (k : ℕ) → IsClosed marks k → k < length marks

@@ -1,5 +1,5 @@
 -- Passes over all cases.
-use Rattle.std.proofs.Common.{◌≡◌, ◌⊎◌, inl, inr, ℕ, zero, suc, ◌+◌, ◌<◌, ◌≤◌, List, [], ◌∷◌, ◌++◌, length, take, set, replicate, get_or, All, Bool, true, false, MatchBool, ℤ, Some, Option, arith, refl, sym, ap, ◌∙◌, subst}
+use Rattle.std.proofs.Common.{◌≡◌, ◌⊎◌, inl, inr, ℕ, zero, suc, ◌+◌, ◌<◌, ◌≤◌, List, [], ◌∷◌, length, set, replicate, get_or, All, Bool, true, false, MatchBool, ℤ, Some, arith, refl, sym, ap, ◌∙◌, subst}
 use Rattle.std.specs.List.{Contains, slice_get}
 use Rattle.std.proofs.lemmas.Option.{slice_get_within, slice_get-get_or, get_or_from_slice_get}
 use Rattle.std.proofs.lemmas.List.Elements.{All-contains}
@@ -13,7 +13,7 @@ use Rattle.tv_candidates.specs.declared.candidate.Candidate.{Candidate}
 use Rattle.tv_candidates.specs.Inductive.{MeetsAll, IsInductive, IsPart, IsLargestInductive}
 use Rattle.tv_invariant.specs.Sieves.{Sieved, none, stay}
 use Rattle.tv_invariant.specs.Falling.{IsLeft, KeptBy, IsFallen, Begins, IsInNoPart, IsStepRefusal, IsRefusal}
-use Rattle.tv_invariant.specs.Passes.{AreOver, KeepsAll, IsClosed, ClosedKeep, IsPassed, IsTried}
+use Rattle.tv_invariant.specs.Passes.{AreOver, IsClosed, ClosedKeep, IsPassed, IsTried}
 use Rattle.tv_invariant.specs.Reopened.{IsReopened}
 use Rattle.tv_program.specs.Steps.{State}
 use Rattle.tv_invariant.proofs.ListLemmas.{all_by}

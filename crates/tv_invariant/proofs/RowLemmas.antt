@@ -1,8 +1,8 @@
 -- Rows over the columns of a case, and rows that others imply.
-use Rattle.std.proofs.Common.{◌≡◌, inl, inr, ℕ, zero, suc, ◌+◌, ◌-◌, ◌<◌, ◌^◌, List, [], ◌∷◌, ◌++◌, length, map, All, arith, refl, sym, ap, ◌∙◌, subst, ℤ, pos, ◌+ℤ◌, ◌*ℤ◌, ◌≤ℤ◌, length-append, Bool, true, false, ◌==◌, if◌then◌else◌}
+use Rattle.std.proofs.Common.{◌≡◌, inl, inr, ℕ, zero, suc, ◌+◌, ◌-◌, ◌<◌, ◌^◌, List, [], ◌∷◌, ◌++◌, length, map, All, arith, refl, sym, ap, ◌∙◌, subst, ℤ, pos, ◌+ℤ◌, ◌*ℤ◌, length-append, Bool, true, false, ◌==◌, if◌then◌else◌}
 use Rattle.std.specs.List.{Contains}
 use Rattle.std.proofs.lemmas.Int.{ints}
-use Rattle.std.proofs.lemmas.List.Elements.{All-nil, All-cons, All-head, All-tail, All-append, All-push, All-contains, Contains-append_left, Contains-append_right, Contains-append_cases}
+use Rattle.std.proofs.lemmas.List.Elements.{All-nil, All-cons, All-head, All-tail, All-append, All-push, Contains-append_left, Contains-append_right, Contains-append_cases}
 use Rattle.tv_linear.specs.Linear.{Linear, linear, columns, dot, value, IsMet, IsWithin, IsNarrow}
 use Rattle.tv_linear.specs.Arithmetic.{zeros}
 use Rattle.tv_linear.specs.Known.{Term, put}
@@ -16,8 +16,8 @@ use Rattle.tv_cases.specs.Before.{term_row, rows_after, before}
 use Rattle.tv_cover.specs.Targets.{IsInTarget, IsOutside, lists_of}
 use Rattle.tv_invariant.specs.Places.{padded}
 use Rattle.tv_invariant.specs.Rows.{Implies, IsStronger}
-use Rattle.tv_cases.proofs.Listed.{Contains-here, Contains-later, Contains-cases, Contains-none}
-use Rattle.tv_invariant.proofs.ListLemmas.{in_one, all_by, all_before, all_behind}
+use Rattle.tv_cases.proofs.Listed.{Contains-none}
+use Rattle.tv_invariant.proofs.ListLemmas.{in_one, all_before, all_behind}
 
 -- ---- padding
 

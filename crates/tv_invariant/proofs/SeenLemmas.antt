@@ -1,4 +1,4 @@
-use Rattle.std.proofs.Common.{◌≡◌, ℕ, List, [], ℤ, All, map, sym, subst}
+use Rattle.std.proofs.Common.{◌≡◌, ℕ, List, [], All, map, sym, subst}
 use Rattle.std.proofs.lemmas.List.Elements.{All-nil}
 use Rattle.tv_linear.specs.Linear.{Linear, IsMet}
 use Rattle.tv_farkas.specs.Paths.{IsWholePoint}

@@ -1,8 +1,8 @@
 -- Rows that each list of numbers meets.
-use Rattle.std.proofs.Common.{◌≡◌, ℕ, zero, suc, ◌+◌, ◌*◌, ◌<◌, ◌≤◌, List, [], ◌∷◌, length, arith, refl, sym, ap, ◌∙◌, subst, ℤ, pos, negsuc, neg_ℤ, ◌+ℤ◌, ◌*ℤ◌, ◌≤ℤ◌, ◌<ℤ◌, unsigned_abs, Bool, true, false, ◌&&◌, MatchBool, int_le}
+use Rattle.std.proofs.Common.{◌≡◌, ℕ, zero, suc, ◌+◌, ◌*◌, ◌<◌, ◌≤◌, List, [], ◌∷◌, length, arith, refl, sym, ap, ◌∙◌, ℤ, pos, negsuc, ◌+ℤ◌, ◌*ℤ◌, ◌≤ℤ◌, ◌<ℤ◌, Bool, true, false, ◌&&◌, MatchBool, int_le}
 use Rattle.std.specs.List.{list_all}
 use Rattle.std.proofs.lemmas.Int.{ints}
-use Rattle.tv_linear.specs.Linear.{Linear, columns, dot, value, IsMet}
+use Rattle.tv_linear.specs.Linear.{Linear, columns, dot, IsMet}
 use Rattle.tv_linear.specs.Arithmetic.{zeros}
 use Rattle.tv_linear.proofs.PlainLists.{length-zeros}
 use Rattle.tv_cases.specs.Forms.{is_zero}

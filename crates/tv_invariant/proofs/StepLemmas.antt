@@ -1,5 +1,5 @@
 -- Candidates before and after a case.
-use Rattle.std.proofs.Common.{◌≡◌, ◌⊎◌, inl, inr, ℕ, ◌+◌, ◌≤◌, List, [], ◌∷◌, ◌++◌, length, map, take, drop, All, arith, refl, sym, ap, ◌∙◌, subst, ℤ, pos, ◌≤ℤ◌, length-append, Bool, true, false, cond, ◌==◌}
+use Rattle.std.proofs.Common.{◌≡◌, ◌⊎◌, inl, inr, ℕ, ◌+◌, List, [], ◌∷◌, ◌++◌, length, map, take, drop, All, arith, refl, sym, ap, ◌∙◌, subst, pos, ◌≤ℤ◌, length-append, Bool, true, false, cond, ◌==◌}
 use Rattle.std.specs.List.{filter, Contains}
 use Rattle.std.proofs.lemmas.Bool.Decides.{nat_tests}
 use Rattle.std.proofs.lemmas.List.Elements.{All-nil, All-cons, All-head, All-tail, All-append, All-contains}
@@ -13,7 +13,7 @@ use Rattle.tv_farkas.specs.declared.fault.CoverFault.{CoverFault}
 use Rattle.tv_farkas.specs.declared.fault.CoverFault.TheVariants.{Memory}
 use Rattle.tv_cover.specs.Covering.{IsCoverFault}
 use Rattle.tv_cases.specs.Before.{before, GivesBefore}
-use Rattle.tv_cases.specs.LinearCases.{LinearCase, CaseSystem}
+use Rattle.tv_cases.specs.LinearCases.{LinearCase}
 use Rattle.tv_cases.proofs.BeforeValue.{before-value}
 use Rattle.tv_candidates.specs.declared.candidate.Candidate.{Candidate}
 use Rattle.tv_invariant.specs.Rows.{IsStronger}
@@ -29,10 +29,10 @@ use Rattle.tv_invariant.proofs.SieveLemmas.{sieved_map}
 use Rattle.std.specs.Prelude.{Vec, Result, Ok, Err, IfOk}
 use Rattle.std.specs.Result.{IfErr}
 
-test_is : (a b : ℕ) → a ≡ b → (a == b) ≡ true
+pub test_is : (a b : ℕ) → a ≡ b → (a == b) ≡ true
 test_is a b h = grind (arith, nat_tests)
 
-test_true : (a b : ℕ) → (a == b) ≡ true → a ≡ b
+pub test_true : (a b : ℕ) → (a == b) ≡ true → a ≡ b
 test_true a b h = grind (arith, nat_tests)
 
 module _ (w l : ℕ) where

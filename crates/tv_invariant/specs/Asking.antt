@@ -6,7 +6,7 @@ use Rattle.tv_farkas.specs.declared.fault.CoverFault.{CoverFault}
 use Rattle.tv_farkas.specs.declared.fault.CoverFault.TheVariants.{Memory}
 use Rattle.tv_candidates.specs.declared.candidate.Candidate.{Candidate}
 use Rattle.tv_candidates.specs.Inductive.{IsInductive, IsPart, IsLargestInductive}
-use Rattle.tv_candidates.specs.Offered.{fits, joined, false_candidates, offered}
+use Rattle.tv_candidates.specs.Offered.{fits, false_candidates, offered}
 use Rattle.tv_invariant.specs.Falling.{IsRefusal}
 
 -- a rest that is told is what was given

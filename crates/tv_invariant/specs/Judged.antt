@@ -1,5 +1,5 @@
 -- What is told of a candidate after a case.
-use Rattle.std.specs.Prelude.{◌≡◌, ◌⊎◌, ℕ, List, [], ◌∷◌, true, false, Ok}
+use Rattle.std.specs.Prelude.{◌≡◌, ◌⊎◌, [], ◌∷◌, true, false, Ok}
 use Rattle.tv_linear.specs.Linear.{Linear}
 use Rattle.tv_cases.specs.Before.{before, GivesBefore}
 use Rattle.tv_cases.specs.Views.{case_view}

@@ -8,3 +8,4 @@ pub mod Judged
 pub mod Passes
 pub mod Asking
 pub mod Reopened
+pub mod Pieces

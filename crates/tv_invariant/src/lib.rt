@@ -6,6 +6,7 @@ mod inductive;
 mod judge;
 mod lists;
 mod passes;
+mod pieces;
 mod question;
 mod rows;
 mod seen;
@@ -14,4 +15,5 @@ mod step;
 mod strengthening;
 
 pub use inductive::largest_inductive;
+pub use pieces::known_pieces;
 pub use strengthening::strengthen;

@@ -1,7 +1,7 @@
-use Rattle.std.proofs.Common.{◌∷◌, [], Some, None, arith, subst}
+use Rattle.std.proofs.Common.{arith, subst}
 use Rattle.tv_cases.specs.Systems.{cases_of}
 use Rattle.tv_propose.specs.Rests.{IsGiven, IsFewer}
-use Rattle.tv_invariant.proofs.AskLemmas.{asked_none, asked_some, asked_end}
+use Rattle.tv_invariant.proofs.AskLemmas.{asked_some, asked_end}
 use Rattle.tv_invariant.proofs.asking.ask.Goals as goal
 
 pub offers-preserved : goal.offers-preserved

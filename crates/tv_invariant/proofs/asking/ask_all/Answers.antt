@@ -1,6 +1,5 @@
 use Rattle.std.proofs.Common.{◌<◌, length, arith}
 use Rattle.tv_cases.specs.Systems.{cases_of}
-use Rattle.tv_invariant.specs.Asking.{HaveNoMore}
 use Rattle.tv_invariant.proofs.AskLemmas.{all_next, no_more_first, if_refused}
 use Rattle.tv_invariant.proofs.asking.ask_all.Goals as goal
 

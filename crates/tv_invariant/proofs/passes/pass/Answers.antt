@@ -1,4 +1,4 @@
-use Rattle.std.proofs.Common.{◌≡◌, ◌+◌, ◌∙◌, length, ap, sym, subst, arith, true, false}
+use Rattle.std.proofs.Common.{◌+◌, ◌∙◌, length, ap, sym, subst, arith, true, false}
 use Rattle.std.proofs.lemmas.List.{get_or_default}
 use Rattle.tv_cases.specs.Systems.{cases_of}
 use Rattle.tv_invariant.specs.Passes.{IsPassed}

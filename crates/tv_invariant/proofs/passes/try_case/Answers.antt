@@ -1,4 +1,4 @@
-use Rattle.std.proofs.Common.{◌≡◌, ◌<◌, ◌≤◌, ◌∙◌, length, set, false, arith, sym, subst, Bool}
+use Rattle.std.proofs.Common.{◌<◌, ◌≤◌, ◌∙◌, length, set, false, arith, sym, subst}
 use Rattle.std.proofs.lemmas.List.Elements.{All-contains}
 use Rattle.tv_cases.specs.LinearCases.{IsCase}
 use Rattle.tv_cases.specs.Systems.{cases_of}

@@ -1,4 +1,4 @@
-use Rattle.std.proofs.Common.{◌≡◌, ◌∷◌, ◌++◌, ◌∙◌, [], refl, sym, subst}
+use Rattle.std.proofs.Common.{◌∷◌, ◌++◌, ◌∙◌, [], sym, subst}
 use Rattle.tv_cases.specs.Systems.{cases_of}
 use Rattle.tv_invariant.specs.Sieves.{Sieved, none}
 use Rattle.tv_invariant.specs.Falling.{Begins, IsInNoPart}

@@ -1,4 +1,4 @@
-use Rattle.std.proofs.Common.{◌≡◌, ◌∙◌, ◌++◌, ◌+◌, ap, map, arith, subst}
+use Rattle.std.proofs.Common.{◌≡◌, ◌∙◌, ◌++◌, ap, map, arith, subst}
 use Rattle.tv_cases.specs.Views.{case_view}
 use Rattle.tv_invariant.specs.Rows.{IsStronger}
 use Rattle.tv_invariant.specs.Places.{padded, rows_at, step_rows}
