@@ -45,6 +45,7 @@ pub fn strengthen(
     ensures largest { let about = cases_of about.now in
         IfOk result (λ part. IsStrengthened about (Gave (λ p. rest p about) proposers.old.items) part.items) }
     ensures inductive { IfOk result (λ part. IsInductive (cases_of about.now) part.items) }
+    ensures over { IfOk result (λ part. AreOver (cases_of about.now).variables part.items) }
     ensures contains { IfOk result (λ part. HasFalseParts (cases_of about.now) part.items) }
     ensures asked { IfOk result (λ _. proposers.new.items ≡ []) }
     ensures kept { IfErr result (λ _. HaveNoMore (λ p. left p) proposers.old.items proposers.new.items) }
