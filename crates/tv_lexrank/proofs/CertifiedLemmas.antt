@@ -8,7 +8,7 @@ use Rattle.tv_linear.specs.declared.cover.CoverTree.{CoverTree}
 use Rattle.tv_linear.specs.declared.cover.CoverTree as cover
 use Rattle.tv_linear.specs.declared.region.Piece.{Piece}
 use Rattle.tv_cases.specs.LinearCases.{CaseSystem}
-use Rattle.tv_formula.specs.Properties.{term}
+use Rattle.tv_formula.specs.Properties.{Property, term}
 use Rattle.tv_cert.specs.declared.node.Marked.{Marked}
 use Rattle.tv_cert.specs.declared.node.Node.{Node}
 use Rattle.tv_cert.specs.declared.node.Verdict.TheVariants.{Proved}
@@ -32,7 +32,7 @@ use Rattle.tv_lexrank.specs.declared.falling.Fall.{Fall}
 use Rattle.tv_lexrank.specs.Nodes.{IsPieceAt, IsRankedNode, ShowsEnd}
 use Rattle.tv_lexrank.specs.Closing.{IsWholeCover, IsCoverInto, owed_plain}
 use Rattle.tv_lexrank.specs.Falling.{HasFall}
-use Rattle.tv_lexrank.specs.Certified.{BeginsKnown, IsStartCover, IsRoot, SaysProved, IsProofOfEnd}
+use Rattle.tv_lexrank.specs.Certified.{BeginsKnown, IsStartCover, IsRoot, SaysProved, IsProofOf}
 use Rattle.tv_lexrank.proofs.SameLemmas.{OwedSame, all_same, cover_same}
 use Rattle.tv_lexrank.proofs.ClosingLemmas.{whole_splits, whole_even}
 use Rattle.tv_lexrank.proofs.OfferLemmas.{met_shape}
@@ -59,7 +59,7 @@ bare_met n l ps (cover.Into target fall ls) h w =
     by_rows (r ∷ rs) e = absurd cc
 
 -- the cover by no rows is met by the piece at the start, where no row is known
-pub whole_root : (about : CaseSystem) (node : Node) (tree : CoverTree) → about.start < about.locations → IsRankedNode about node → IsWholeCover tree → IsRoot about node tree
+pub whole_root : (about : CaseSystem) (node : Node) (tree : CoverTree) → about.start < about.locations → IsRankedNode about node → IsWholeCover tree → IsRoot about term node tree
 whole_root about node tree starts ranked bare = record {
   fits = ranked.fits;
   nodes = ranked.met 0;
@@ -106,7 +106,7 @@ no_start_hole about known target zs begins e h =
     outside.2 (subst (IsMet zs) at.2 (all at.0 outside.0 at.1))
 
 -- the cover of the start by the known rows, with no fall behind it, is met by the piece there
-pub known_root : (about : CaseSystem) (known : List Piece) (node : Node) (fall : Fall) (base tree : CoverTree) → about.start < about.locations → ShowsEnd about known node → fall.number ≡ 0 → lists fall.lines.items ≡ [] → IsStartCover about.variables (rows_at known about.start) base → HasFall fall 0 base tree → IsRoot about node tree
+pub known_root : (about : CaseSystem) (known : List Piece) (node : Node) (fall : Fall) (base tree : CoverTree) → about.start < about.locations → ShowsEnd about known node → fall.number ≡ 0 → lists fall.lines.items ≡ [] → IsStartCover about.variables (rows_at known about.start) base → HasFall fall 0 base tree → IsRoot about term node tree
 known_root about known node fall base tree starts ranked number lines begins h = record {
   fits = ranked.fits;
   nodes = ranked.met 0;
@@ -129,26 +129,26 @@ both_met : (es fs : List Entry) → AllMet es → AllMet fs → AllMet (es ++ fs
 both_met [] fs h g = g
 both_met (e ∷ es) fs h g = (h.0, both_met es fs h.1 g)
 
-module _ (about : CaseSystem) (node : Node) (tree : CoverTree) (root : IsRoot about node tree) where
-  ranked_fits : Fits (about_with about) term node (Proved tree)
-  ranked_fits = record {
+module _ (about : CaseSystem) (f : Property) (node : Node) (tree : CoverTree) (root : IsRoot about f node tree) where
+  root_fits : Fits (about_with about) f node (Proved tree)
+  root_fits = record {
     nodes = root.fits;
-    shallow = (let f = root.shallow in omega (arith, f));
+    shallow = (let s = root.shallow in omega (arith, s));
     said = record {
       shape = (met_shape about.variables (owed_into (pieces_of node) about.start given no_fall) [] tree root.even root.met, root.shallow);
       narrow = root.narrow;
     };
   }
 
-  pub no_fault : (x : ShapeFault) → IsFirstFault (about_with about) term node (Proved tree) x → ⊥
-  no_fault x h = unfit (about_with about) term node (Proved tree) x h ranked_fits
+  pub no_fault : (x : ShapeFault) → IsFirstFault (about_with about) f node (Proved tree) x → ⊥
+  no_fault x h = unfit (about_with about) f node (Proved tree) x h root_fits
 
-  all_obligations : AllMet (obligations (about_with about) term node (Proved tree))
-  all_obligations = both_met (entries 0 (about_with about) term node) (root_entry (about_with about) (pieces_of node) (Proved tree) ∷ []) root.nodes (root.met, tt)
+  all_obligations : AllMet (obligations (about_with about) f node (Proved tree))
+  all_obligations = both_met (entries 0 (about_with about) f node) (root_entry (about_with about) (pieces_of node) (Proved tree) ∷ []) root.nodes (root.met, tt)
 
-  pub is_proof : (c : Certificate) → IsOf (about_with about) term c → c.root ≡ node → c.verdict ≡ Proved tree → IsProofOfEnd about c
-  is_proof c h e f = record {
+  pub is_proof : (c : Certificate) → IsOf (about_with about) f c → c.root ≡ node → c.verdict ≡ Proved tree → IsProofOf about f c
+  is_proof c h e g = record {
     of = h;
-    proved = subst SaysProved (sym f) tt;
-    met = subst (λ z. AllMet (obligations (about_with about) term z c.verdict)) (sym e) (subst (λ z. AllMet (obligations (about_with about) term node z)) (sym f) all_obligations);
+    proved = subst SaysProved (sym g) tt;
+    met = subst (λ z. AllMet (obligations (about_with about) f z c.verdict)) (sym e) (subst (λ z. AllMet (obligations (about_with about) f node z)) (sym g) all_obligations);
   }

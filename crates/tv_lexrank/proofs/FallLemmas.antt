@@ -72,7 +72,7 @@ split_falls fall above r p q x y a b new narrow s h g = record {
     small_constant z w = omega (arith, ints, w)
 
 -- ---- a place that is refuted
-within_62 : (ms : List ℤ) → AreShort ms → All (IsWithin 62) ms
+pub within_62 : (ms : List ℤ) → AreShort ms → All (IsWithin 62) ms
 within_62 ms h = all_of (IsWithin 62) ms (pos 0) h
 
 pub empty_falls : (fall : Fall) (above : ℕ) (old new : Vec ℤ Global) → new.items ≡ old.items → AreShort old.items → HasFall fall above (Empty old) (Empty new)
@@ -101,7 +101,7 @@ spreads_narrow above [] h = All-nil (All (IsWithin 62))
 spreads_narrow above (l ∷ lines) h =
     All-cons (All (IsWithin 62)) (spread above l) (map (spread above) lines) (spread_narrow above l (All-head (All (IsWithin 62)) l lines h)) (spreads_narrow above lines (All-tail (All (IsWithin 62)) l lines h))
 
-short_narrow : (lines : List (List ℤ)) → All AreShort lines → AreNarrowLines lines
+pub short_narrow : (lines : List (List ℤ)) → All AreShort lines → AreNarrowLines lines
 short_narrow [] h = All-nil (All (IsWithin 62))
 short_narrow (l ∷ lines) h = All-cons (All (IsWithin 62)) l lines (within_62 l (All-head AreShort l lines h)) (short_narrow lines (All-tail AreShort l lines h))
 
@@ -109,7 +109,7 @@ pub all_back : {A B : Type 0} (P : B → Type 0) (f : A → B) (xs : List A) →
 all_back P f [] h = All-nil (λ x. P (f x))
 all_back P f (x ∷ xs) h = All-cons (λ x. P (f x)) x xs (All-head P (f x) (map f xs) h) (all_back P f xs (All-tail P (f x) (map f xs) h))
 
-narrow_count : (n : ℕ) → n < 2 ^ 32 → CountNarrow n
+pub narrow_count : (n : ℕ) → n < 2 ^ 32 → CountNarrow n
 narrow_count n h = omega (arith, h)
 
 pub into_falls : (fall : Fall) (above target none : ℕ) (old new : Vec (Vec ℤ Global) Global) → lists new.items ≡ lists old.items ++ map (spread above) (lists fall.lines.items) → target < 2 ^ 32 → fall.number < 2 ^ 32 → All AreShort (lists old.items) → AreNarrowLines (lists fall.lines.items) → HasFall fall above (Into target none old) (Into target fall.number new)

@@ -1,6 +1,6 @@
--- The certificate that every run ends.
+-- Certificates of what is proved, and that every run ends.
 use Rattle.std.specs.Prelude.{◌≡◌, ℕ, ◌≤◌, List, [], length, All, ℤ}
-use Rattle.tv_formula.specs.Properties.{term}
+use Rattle.tv_formula.specs.Properties.{Property, term}
 use Rattle.tv_linear.specs.Linear.{Linear, columns, IsMet}
 use Rattle.tv_linear.specs.Known.{given, as_given}
 use Rattle.tv_linear.specs.Covers.{IsMetCover}
@@ -35,10 +35,10 @@ pub record IsStartCover (v : ℕ) (rows : List Linear) (tree : CoverTree) : Type
   pub short : TreeNumbers AreShort tree
   pub even : TreeRows (λ r. columns r ≡ v) tree
 
--- the node fits and all its obligations are met, and the cover is one of the start by its pieces there
-pub record IsRoot (about : CaseSystem) (node : Node) (tree : CoverTree) : Type 0 where
-  pub fits : NodesFit (about_with about) term node
-  pub nodes : AllMet (entries 0 (about_with about) term node)
+-- the node fits the formula and all its obligations are met, and the cover is one of the start by its pieces there
+pub record IsRoot (about : CaseSystem) (f : Property) (node : Node) (tree : CoverTree) : Type 0 where
+  pub fits : NodesFit (about_with about) f node
+  pub nodes : AllMet (entries 0 (about_with about) f node)
   pub met : IsMetCover about.variables (owed_into (pieces_of node) about.start given no_fall) [] tree
   pub shallow : splits tree ≤ 128
   pub even : TreeRows (λ r. columns r ≡ about.variables) tree
@@ -48,8 +48,12 @@ abbrev pub SaysProved : Verdict → Type 0
 SaysProved (Proved tree) = Unit {0}
 SaysProved (Disproved k values) = ⊥
 
--- the certificate is one that every run ends, it says that this is proved, and all its obligations are met
-pub record IsProofOfEnd (about : CaseSystem) (c : Certificate) : Type 0 where
-  pub of : IsOf (about_with about) term c
+-- the certificate is one of the formula, it says that this is proved, and all its obligations are met
+pub record IsProofOf (about : CaseSystem) (f : Property) (c : Certificate) : Type 0 where
+  pub of : IsOf (about_with about) f c
   pub proved : SaysProved c.verdict
-  pub met : AllMet (obligations (about_with about) term c.root c.verdict)
+  pub met : AllMet (obligations (about_with about) f c.root c.verdict)
+
+-- the certificate is one that every run ends
+abbrev pub IsProofOfEnd : CaseSystem → Certificate → Type 0
+IsProofOfEnd about c = IsProofOf about term c

@@ -1,4 +1,4 @@
-// The certificate that every run ends.
+// Certificates of what is proved, and that every run ends.
 
 ghost use Rattle.std.specs.Prelude.{◌≡◌, ◌≤◌, ◌∷◌, [], IfOk};
 ghost use Rattle.std.specs.Result.{IfErr};
@@ -10,9 +10,9 @@ ghost use Rattle.tv_cover.specs.Covering.{IsCoverFault};
 ghost use Rattle.tv_rank.specs.Ways.{rows_at};
 ghost use Rattle.tv_lexrank.specs.Known.{AreKnown};
 ghost use Rattle.tv_lexrank.specs.Nodes.{IsRankedNode, ShowsEnd};
-ghost use Rattle.tv_lexrank.specs.Certified.{BeginsKnown, IsStartCover, IsRoot, IsProofOfEnd};
+ghost use Rattle.tv_lexrank.specs.Certified.{BeginsKnown, IsStartCover, IsRoot, IsProofOf, IsProofOfEnd};
 
-use crate::closing::{cover_one, whole_cover};
+use crate::closed::{cover_one, whole_cover};
 use crate::falling::{Fall, with_fall};
 use crate::known::{copies_of, known_at};
 use std::alloc::{AllocError, Global};
@@ -23,8 +23,8 @@ use tv_farkas::{Budget, CoverFault};
 use tv_linear::{Cover, Poly, Region};
 use tv_shape::{Certificate, ShapeFault};
 
-/// The certificate of a node that shows that every run ends, and of a cover of the start by its pieces there.
-fn certificate_of(
+/// The certificate that a property holds at each start, made of a node that shows it and of a cover of the start by its pieces there.
+pub fn proved_certificate(
     alloc: Global,
     about: &Cases,
     claim: &Claim,
@@ -33,9 +33,8 @@ fn certificate_of(
 ) -> Result<Certificate, AllocError>
     requires states { StatesIts claim.now }
     requires variables { claim_variables claim.now ≡ (cases_of about.now).variables }
-    requires ends { property_of claim.now.proved ≡ term }
-    requires root { IsRoot (cases_of about.now) node start }
-    ensures { IfOk result (IsProofOfEnd (cases_of about.now)) }
+    requires root { IsRoot (cases_of about.now) (property_of claim.now.proved) node start }
+    ensures { IfOk result (IsProofOf (cases_of about.now) (property_of claim.now.proved)) }
 {
     match Certificate::new(alloc, about, claim, Verdict::Proved(start), node) {
         Ok(certificate) => Ok(certificate),
@@ -59,11 +58,11 @@ pub fn ranked_certificate(
     ensures { IfOk result (λ c. IsProofOfEnd (cases_of about.now) c) }
 {
     let start = whole_cover(alloc);
-    certificate_of(alloc, about, claim, node, start)
+    proved_certificate(alloc, about, claim, node, start)
 }
 
 /// A cover of the start by the rows that are known there, which all values meet.
-fn start_cover(
+pub fn start_cover(
     alloc: Global,
     about: &Cases,
     known: &Region,
@@ -124,7 +123,7 @@ pub fn known_certificate(
         lines: Vec::new(alloc),
     };
     match Cover::new(with_fall(alloc, begins.tree(), &none, 0)?) {
-        Some(start) => Ok(certificate_of(alloc, about, claim, node, start)?),
+        Some(start) => Ok(proved_certificate(alloc, about, claim, node, start)?),
         None => unreachable!(),
     }
 }

@@ -4,7 +4,7 @@
 
 mod attempt;
 mod certificate;
-mod closing;
+mod closed;
 mod component;
 mod covering;
 mod falling;
@@ -23,9 +23,11 @@ mod round;
 mod sorting;
 mod step;
 
-pub use certificate::{known_certificate, ranked_certificate};
+pub use certificate::{known_certificate, proved_certificate, ranked_certificate, start_cover};
+pub use closed::{closing, cover_one, whole_cover};
 pub use fault::RankFault;
-pub use known::are_known;
+pub use known::{are_known, known_at};
 pub use lexicographic::{first_attempt, lex_rank};
+pub use offered::starts_of;
 pub use ranked::Ranked;
 use round::Round;

@@ -62,7 +62,7 @@ fn push_steps(
 }
 
 /// The locations where the cases start, in order.
-fn starts_of(alloc: Global, list: &[Case]) -> Result<Vec<u32>, AllocError>
+pub fn starts_of(alloc: Global, list: &[Case]) -> Result<Vec<u32>, AllocError>
     ensures { IfOk result (λ v. v.items ≡ map from_of (case_views list.now)) }
 {
     let mut starts = Vec::with_capacity(alloc, list.len())?;

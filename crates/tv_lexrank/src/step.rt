@@ -10,7 +10,7 @@ ghost use Rattle.tv_lexrank.specs.Rounds.{falls_in, lines_of};
 ghost use Rattle.tv_lexrank.specs.Sorting.{LeadsInside};
 ghost use Rattle.tv_lexrank.specs.Steps.{IsFall, IsRefutation, AreRanked, way_in, FallsOver, ShowsStep, RefusesStep};
 
-use crate::closing::closing;
+use crate::closed::closing;
 use crate::covering::{fall_of, place_in, zero_line};
 use crate::falling::{Fall, with_fall};
 use crate::known::known_at;

@@ -66,12 +66,12 @@ module _ (n : ℕ) (known : List Known) (owed : ℕ → ℕ → Option (List Kno
     shape = (bare_shape tree h, (let f = flat tree h in omega (arith, f)));
     met = bare_met tree h;
     narrow = bare_narrow tree h;
-    flat = flat tree h;
+    shallow = (let f = flat tree h in omega (arith, f));
   }
   bare_offered number k (Chosen tree) h = absurd h
 
 -- ---- nodes of such covers
-atoms_offered : (about : About) (number : ℕ) (owes : Marked → List Obligation) (qs : List Marked) (proofs : List Proof) → All (λ q. owes q ≡ atom_of number about q ([] ∷ []) ∷ []) qs → AllZip (λ (p : Marked) x. IsBare x) qs proofs → AllZip IsOffered (flat_map owes qs) proofs
+pub atoms_offered : (about : About) (number : ℕ) (owes : Marked → List Obligation) (qs : List Marked) (proofs : List Proof) → All (λ q. owes q ≡ atom_of number about q ([] ∷ []) ∷ []) qs → AllZip (λ (p : Marked) x. IsBare x) qs proofs → AllZip IsOffered (flat_map owes qs) proofs
 atoms_offered about number owes [] [] e h = tt
 atoms_offered about number owes [] (x ∷ proofs) e h = absurd h
 atoms_offered about number owes (q ∷ qs) [] e h = absurd h
@@ -79,7 +79,7 @@ atoms_offered about number owes (q ∷ qs) (x ∷ proofs) e h =
     subst (λ os. AllZip IsOffered (os ++ flat_map owes qs) (x ∷ proofs)) (sym (All-head (λ r. owes r ≡ atom_of number about r ([] ∷ []) ∷ []) q qs e))
     (bare_offered _ _ _ refl number _ x h.0, atoms_offered about number owes qs proofs (All-tail (λ r. owes r ≡ atom_of number about r ([] ∷ []) ∷ []) q qs e) h.1)
 
-whole_shape : (about : CaseSystem) (ends : Bool) (l : ℕ) → l < about.locations → PieceShape about 0 ends (whole_piece about.variables l)
+pub whole_shape : (about : CaseSystem) (ends : Bool) (l : ℕ) → l < about.locations → PieceShape about 0 ends (whole_piece about.variables l)
 whole_shape about ends l h = record {
   place = h;
   poly = refl;
@@ -98,7 +98,7 @@ wholes_shape about ends [] h = All-nil (PieceShape about 0 ends)
 wholes_shape about ends (s ∷ states) h =
     All-cons (PieceShape about 0 ends) (whole_piece about.variables s.location) (whole_pieces about.variables states) (whole_shape about ends s.location (All-head (IsState about) s states h).place) (wholes_shape about ends states (All-tail (IsState about) s states h))
 
-pub truth_fitted : (about : CaseSystem) (depth : ℕ) (states : List State) (node : Node) → depth ≤ 384 → length states < 2 ^ 32 → All (IsState about) states → IsWholeNode node (whole_pieces about.variables states) → IsFitted (about_with about) (truth true) depth node
+pub truth_fitted : (about : CaseSystem) (depth : ℕ) (states : List State) (node : Node) → depth ≤ 256 → length states < 2 ^ 32 → All (IsState about) states → IsWholeNode node (whole_pieces about.variables states) → IsFitted (about_with about) (truth true) depth node
 truth_fitted about depth states node shallow few each h =
     let ps = whole_pieces about.variables states in
     node_fitted (about_with about) (truth true) depth node ps 0 [] h.proofs h.own (record {
@@ -112,7 +112,7 @@ truth_fitted about depth states node shallow few each h =
       shallow = shallow;
     })
 
-pub location_fitted : (about : CaseSystem) (depth l : ℕ) (node : Node) → depth ≤ 384 → l < about.locations → IsWholeNode node (whole_piece about.variables l ∷ []) → IsFitted (about_with about) (at l) depth node
+pub location_fitted : (about : CaseSystem) (depth l : ℕ) (node : Node) → depth ≤ 256 → l < about.locations → IsWholeNode node (whole_piece about.variables l ∷ []) → IsFitted (about_with about) (at l) depth node
 location_fitted about depth l node shallow inside h =
     let p = whole_piece about.variables l in
     let ps : List Marked = p ∷ [] in

@@ -18,12 +18,12 @@ use Rattle.tv_points.specs.Nodes.{HasOwn, IsFitted}
 
 -- ---- proofs that are offered
 
--- the proof is one of what is owed, has its shape and narrow numbers, and no splits
+-- the proof is one of what is owed, has its shape and narrow numbers, and at most 128 splits on a path
 pub record IsOffered (o : Obligation) (p : Proof) : Type 0 where
   pub shape : ProofShape o.owed p
   pub met : OwedMet o.owed (Some p)
   pub narrow : ProofNarrow p
-  pub flat : proof_splits p ≡ 0
+  pub shallow : proof_splits p ≤ 128
 
 pub both_met : (es fs : List Entry) → AllMet es → AllMet fs → AllMet (es ++ fs)
 both_met [] fs h g = g
@@ -46,11 +46,11 @@ all_narrow [] (p ∷ proofs) h = absurd h
 all_narrow (o ∷ os) [] h = absurd h
 all_narrow (o ∷ os) (p ∷ proofs) h = All-cons ProofNarrow p proofs h.0.narrow (all_narrow os proofs h.1)
 
-all_flat : (depth : ℕ) (os : List Obligation) (proofs : List Proof) → depth ≤ 384 → AllZip IsOffered os proofs → All (λ p. depth + proof_splits p ≤ 384) proofs
-all_flat depth [] [] l h = All-nil (λ p. depth + proof_splits p ≤ 384)
-all_flat depth [] (p ∷ proofs) l h = absurd h
-all_flat depth (o ∷ os) [] l h = absurd h
-all_flat depth (o ∷ os) (p ∷ proofs) l h = All-cons (λ p. depth + proof_splits p ≤ 384) p proofs (let f = h.0.flat in omega (arith, f, l)) (all_flat depth os proofs l h.1)
+all_shallow : (depth : ℕ) (os : List Obligation) (proofs : List Proof) → depth ≤ 256 → AllZip IsOffered os proofs → All (λ p. depth + proof_splits p ≤ 384) proofs
+all_shallow depth [] [] l h = All-nil (λ p. depth + proof_splits p ≤ 384)
+all_shallow depth [] (p ∷ proofs) l h = absurd h
+all_shallow depth (o ∷ os) [] l h = absurd h
+all_shallow depth (o ∷ os) (p ∷ proofs) l h = All-cons (λ p. depth + proof_splits p ≤ 384) p proofs (let f = h.0.shallow in omega (arith, f, l)) (all_shallow depth os proofs l h.1)
 
 -- ---- children that fit
 abbrev pub AllFitted : About → Properties → ℕ → List Node → Type 0
@@ -93,7 +93,7 @@ pub record IsRight (about : About) (f : Property) (depth : ℕ) (pieces : List M
   pub each : All (PieceShape about.system ranks (may_be_done f)) pieces
   pub offered : (number : ℕ) → AllZip IsOffered (own_of number about f pieces (map pieces_list kids)) proofs
   pub below : AllFitted about (parts f) (depth + 1) kids
-  pub shallow : depth ≤ 384
+  pub shallow : depth ≤ 256
 
 pub node_fitted : (about : About) (f : Property) (depth : ℕ) (node : Node) (pieces : List Marked) (ranks : ℕ) (kids : List Node) (proofs : List Proof) → HasOwn node pieces ranks kids proofs → IsRight about f depth pieces ranks kids proofs → IsFitted about f depth node
 node_fitted about f depth (Node' ps m shape row list) pieces ranks kids proofs own right = record {
@@ -107,7 +107,7 @@ node_fitted about f depth (Node' ps m shape row list) pieces ranks kids proofs o
     },
     kids_narrow about (parts f) (depth + 1) row below,
   );
-  within = (right.shallow, subst (All (λ p. depth + proof_splits p ≤ 384)) (sym proofs_same) (all_flat depth (own_of 0 about f pieces (map pieces_list kids)) proofs right.shallow (right.offered 0)), kids_within about (parts f) (depth + 1) row below);
+  within = ((let d = right.shallow in omega (arith, d)), subst (All (λ p. depth + proof_splits p ≤ 384)) (sym proofs_same) (all_shallow depth (own_of 0 about f pieces (map pieces_list kids)) proofs right.shallow (right.offered 0)), kids_within about (parts f) (depth + 1) row below);
   met = λ number. both_met (kid_entries (number + 1) about (parts f) row) (paired (own_of number about f ps (kid_pieces row)) list.items) (kids_met about (parts f) (depth + 1) (number + 1) row below)
       (subst AllMet (sym (own_are number)) (all_met (own_of number about f pieces (map pieces_list kids)) proofs (right.offered number)));
 }

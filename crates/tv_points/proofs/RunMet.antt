@@ -90,7 +90,7 @@ choices_offered about number ps kids [] (p ∷ proofs) h = absurd h
 choices_offered about number ps kids (q ∷ qs) [] h = absurd h
 choices_offered about number ps kids (q ∷ qs) (Covered tree ∷ proofs) h = absurd h.0
 choices_offered about number ps kids (q ∷ qs) (Chosen tree ∷ proofs) h =
-    (record { shape = (h.0.shape, (let f = h.0.flat in omega (arith, f))); met = h.0.met; narrow = h.0.narrow; flat = h.0.flat }, choices_offered about number ps kids qs proofs h.1)
+    (record { shape = (h.0.shape, (let f = h.0.flat in omega (arith, f))); met = h.0.met; narrow = h.0.narrow; shallow = (let f = h.0.flat in omega (arith, f)) }, choices_offered about number ps kids qs proofs h.1)
 
 pub endless_is : (about : CaseSystem) (states : List State) (node : Node) (pieces : List Marked) (proofs : List Proof) → pieces ≡ state_pieces about.variables false states → HasOwn node pieces 0 [] proofs → AllZip (IsChosenAt about pieces false) pieces proofs → All (IsState about) states → length states < 2 ^ 32 - 1 → IsRunNode about endless false states node
 endless_is about states node pieces proofs same own chosen each few = record {
@@ -108,7 +108,7 @@ endless_is about states node pieces proofs same own chosen each few = record {
 }
 
 -- ---- a run that comes to a location
-zip_both : {A B : Type 0} (R : A → B → Type 0) (xs us : List A) (ys vs : List B) → AllZip R xs ys → AllZip R us vs → AllZip R (xs ++ us) (ys ++ vs)
+pub zip_both : {A B : Type 0} (R : A → B → Type 0) (xs us : List A) (ys vs : List B) → AllZip R xs ys → AllZip R us vs → AllZip R (xs ++ us) (ys ++ vs)
 zip_both R [] us [] vs h g = g
 zip_both R [] us (y ∷ ys) vs h g = absurd h
 zip_both R (x ∷ xs) us [] vs h g = absurd h
@@ -118,7 +118,7 @@ module _ (about : CaseSystem) (l number : ℕ) (ps a b : List Marked) where
   two_offered : (p : Marked) (g : Bool) (x y : Proof) → IsBare x → IsSecond about ps p g y → LeadsInto b (place_of p) → (g ≡ false → LeadsInto a (place_of p)) → AllZip IsOffered (fix_of number (about_with about) Any Strong ps a b p g) (x ∷ y ∷ [])
   two_offered p true x (Covered tree) h k truth end = absurd k
   two_offered p true x (Chosen tree) h k truth end =
-      (bare_offered _ _ _ truth number kind.Hold x h, (record { shape = (k.shape, (let f = k.flat in omega (arith, f))); met = k.met; narrow = k.narrow; flat = k.flat }, tt))
+      (bare_offered _ _ _ truth number kind.Hold x h, (record { shape = (k.shape, (let f = k.flat in omega (arith, f))); met = k.met; narrow = k.narrow; shallow = (let f = k.flat in omega (arith, f)) }, tt))
   two_offered p false x y h k truth end = (bare_offered _ _ _ (end refl) number kind.Done x h, (bare_offered _ _ _ truth number kind.Done y k, tt))
 
   -- where each piece has a target of truth, and each that is done one of the location

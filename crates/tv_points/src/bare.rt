@@ -12,7 +12,7 @@ use tv_cert::{Mark, Marked, Node, Proof};
 use tv_linear::{Cover, CoverTree};
 
 /// The cover into the first target by no fall, with nothing to be shown.
-pub(crate) fn bare_proof(alloc: Global) -> Proof
+pub fn bare_proof(alloc: Global) -> Proof
     ensures { IsBare result }
 {
     let tree = CoverTree::Into {
@@ -40,7 +40,7 @@ fn push_bare(alloc: Global, pieces: &[Marked], proofs: &mut Vec<Proof>) -> Resul
 }
 
 /// The piece of all states at a location.
-fn whole(alloc: Global, columns: u32, location: u32) -> Result<Marked, AllocError>
+pub fn whole(alloc: Global, columns: u32, location: u32) -> Result<Marked, AllocError>
     requires few { columns < 2 ^ 32 - 1 }
     ensures { IfOk result (λ p. p ≡ whole_piece columns location) }
 {
@@ -70,7 +70,7 @@ fn push_whole(
 }
 
 /// The node of these pieces, none of which has rows.
-fn whole_node(alloc: Global, pieces: Vec<Marked>) -> Result<Node, AllocError>
+pub fn whole_node(alloc: Global, pieces: Vec<Marked>) -> Result<Node, AllocError>
     ensures { IfOk result (λ node. IsWholeNode node pieces.items) }
 {
     let mut proofs = Vec::new(alloc);

@@ -22,9 +22,11 @@ mod step;
 mod steps;
 mod taking;
 
+pub use bare::{bare_proof, whole, whole_node};
 pub use certificate::{endless_certificate, reaching_certificate};
 pub use endless::endless_node;
 pub use fault::PointFault;
+pub use node::node_of;
 pub use reaching::reaching_node;
 pub use rows::point_rows;
 pub use state::State;

@@ -26,7 +26,7 @@ fn narrow_pieces(pieces: &[Marked])
 }
 
 /// The node of these parts.
-pub(crate) fn node_of(
+pub fn node_of(
     alloc: Global,
     list: Vec<Marked>,
     ranks: u32,

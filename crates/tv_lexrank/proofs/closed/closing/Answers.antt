@@ -8,7 +8,7 @@ use Rattle.tv_lexrank.proofs.ClosingLemmas.{leads_into, uncovered_closed}
 use Rattle.tv_lexrank.proofs.ComposeLemmas.{all_before_even}
 use Rattle.tv_lexrank.proofs.MetLemmas.{not_empty, all_within, over_at, rows_even}
 use Rattle.tv_lexrank.proofs.SortLemmas.{of_case}
-use Rattle.tv_lexrank.proofs.closing.closing.Goals as goal
+use Rattle.tv_lexrank.proofs.closed.closing.Goals as goal
 
 pub rows_before-requires-clause-even : goal.rows_before-requires-clause-even
 rows_before-requires-clause-even c =

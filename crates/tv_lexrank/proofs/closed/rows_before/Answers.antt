@@ -1,6 +1,6 @@
 use Rattle.tv_cases.specs.Views.{case_view}
 use Rattle.tv_lexrank.proofs.ClosingLemmas.{rows_next}
-use Rattle.tv_lexrank.proofs.closing.rows_before.Goals as goal
+use Rattle.tv_lexrank.proofs.closed.rows_before.Goals as goal
 
 pub rows-preserved : goal.rows-preserved
 rows-preserved c =

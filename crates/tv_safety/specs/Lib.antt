@@ -1,0 +1,4 @@
+pub mod Closed
+pub mod Refusals
+pub mod Below
+pub mod Nodes
