@@ -1,25 +1,22 @@
 -- The pieces of an inductive list are closed.
-use Rattle.std.proofs.Common.{◌≡◌, ◌⊎◌, inl, inr, ℕ, zero, suc, ◌+◌, ◌<◌, List, [], ◌∷◌, length, map, get_or, All, Some, arith, refl, sym, ap, ◌∙◌, subst, ℤ}
-use Rattle.std.specs.Prelude.{Contains, slice_get, ◌==◌}
-use Rattle.std.specs.List.{filter}
+use Rattle.std.proofs.Common.{◌≡◌, ℕ, zero, suc, ◌<◌, List, [], ◌∷◌, length, All, Some, arith, refl, sym, ap, subst}
+use Rattle.std.specs.Prelude.{Contains, slice_get}
 use Rattle.std.proofs.lemmas.List.Elements.{All-nil, All-cons, All-contains}
-use Rattle.tv_linear.specs.Linear.{Linear, columns, IsMet}
+use Rattle.tv_linear.specs.Linear.{columns, IsMet}
 use Rattle.tv_linear.specs.declared.region.Piece.{Piece}
 use Rattle.tv_linear.specs.declared.region.Region.{Region}
 use Rattle.tv_program.specs.Steps.{State}
 use Rattle.tv_cases.specs.LinearCases.{LinearCase, CaseSystem, AreCases}
 use Rattle.tv_cases.proofs.Listed.{Contains-here, Contains-later}
-use Rattle.tv_farkas.specs.Paths.{IsWholePoint}
 use Rattle.tv_candidates.specs.declared.candidate.Candidate.{Candidate}
 use Rattle.tv_candidates.specs.Inductive.{MeetsAll, IsInductive}
 use Rattle.tv_invariant.specs.Rows.{IsStronger}
-use Rattle.tv_invariant.specs.Pieces.{IsPieceOf, ArePiecesOf}
+use Rattle.tv_invariant.specs.Pieces.{ArePiecesOf}
 use Rattle.tv_invariant.specs.Places as places
 use Rattle.tv_invariant.proofs.ListLemmas.{all_by}
 use Rattle.tv_invariant.proofs.PieceLemmas.{in_rows, row_there}
-use Rattle.tv_rank.specs.Ways.{rows_at, case_at, no_case}
+use Rattle.tv_rank.specs.Ways.{rows_at, case_at}
 use Rattle.tv_lexrank.specs.Certified.{BeginsKnown}
-use Rattle.tv_lexrank.specs.Closing.{LeadsOut}
 use Rattle.tv_lexrank.specs.Known.{AreKnown, piece_rows}
 use Rattle.tv_lexrank.proofs.SortLemmas.{of_case}
 use Rattle.tv_safety.specs.Closed.{AreKept, HaveNoPoint}

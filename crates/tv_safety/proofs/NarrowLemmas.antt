@@ -1,5 +1,5 @@
 -- The numbers of covers are narrow.
-use Rattle.std.proofs.Common.{ℕ, ◌^◌, ◌<◌, List, map, All, ℤ, Vec}
+use Rattle.std.proofs.Common.{List, map, All, ℤ, Vec}
 use Rattle.std.specs.Global.{Global}
 use Rattle.tv_linear.specs.Linear.{Linear, IsNarrow}
 use Rattle.tv_farkas.specs.Refuting.{AreShort}

@@ -1,5 +1,5 @@
 -- The node fits and is met.
-use Rattle.std.proofs.Common.{◌≡◌, ℕ, zero, suc, ◌+◌, ◌^◌, ◌<◌, ◌≤◌, List, [], ◌∷◌, ◌++◌, length, map, All, Some, Bool, true, false, ◌==◌, arith, refl, sym, ap, ◌∙◌, subst}
+use Rattle.std.proofs.Common.{◌≡◌, ℕ, zero, suc, ◌<◌, List, [], ◌∷◌, ◌++◌, Some, Bool, true, false, arith, refl, sym, ap, ◌∙◌, subst}
 use Rattle.std.specs.Prelude.{slice_get, not}
 use Rattle.std.specs.List.{AllZip, flat_map}
 use Rattle.std.proofs.lemmas.List.{append-nil}
@@ -12,23 +12,20 @@ use Rattle.tv_cert.specs.declared.node.Marked.{Marked}
 use Rattle.tv_cert.specs.declared.node.Node.{Node}
 use Rattle.tv_cert.specs.declared.node.Proof.{Proof}
 use Rattle.tv_cert.specs.Listed.{pieces_list}
-use Rattle.tv_cert.specs.Nodes.{pieces_of}
 use Rattle.tv_cert.specs.Obligations.{Obligation, atom_of, truth_targets, piece_of, own_of}
-use Rattle.tv_cert.specs.Pieces.{place_of, pieces_at}
+use Rattle.tv_cert.specs.Pieces.{pieces_at}
 use Rattle.tv_cert.specs.Shapes.{PieceShape}
 use Rattle.tv_cert.proofs.NodeLemmas.{pieces_are}
-use Rattle.tv_rank.specs.Ways.{rows_at}
 use Rattle.tv_lexrank.specs.Offered.{IsOffered}
-use Rattle.tv_lexrank.specs.Nodes.{IsPieceAt}
 use Rattle.tv_lexrank.proofs.MetLemmas.{over_at}
 use Rattle.tv_points.specs.Nodes.{HasOwn, IsFitted, IsWholeNode, whole_piece}
 use Rattle.tv_points.proofs.BareMet.{atoms_offered, whole_shape}
 use Rattle.tv_points.proofs.NodeLemmas as points
 use Rattle.tv_points.proofs.RunMet.{zip_both}
 use Rattle.tv_safety.specs.Below.{pieces_below, elsewhere}
-use Rattle.tv_safety.specs.Nodes.{system_of, asked, known_piece, known_there, known_pieces, pieces_elsewhere, owed_at, AreShownAt, AreShownBelow, ShowsNever}
+use Rattle.tv_safety.specs.Nodes.{system_of, asked, known_piece, known_there, known_pieces, pieces_elsewhere, owed_at, AreShownBelow, ShowsNever}
 use Rattle.tv_safety.specs.declared.barrier.Barrier.{Barrier}
-use Rattle.tv_safety.proofs.BelowLemmas.{AreAt, each_below, length_below, elsewhere_placed, elsewhere_short, each_elsewhere}
+use Rattle.tv_safety.proofs.BelowLemmas.{each_below, length_below, elsewhere_placed, elsewhere_short, each_elsewhere}
 use Rattle.tv_safety.proofs.ShownLemmas.{as_given_back, known_placed, known_found}
 
 -- ---- the children
@@ -46,10 +43,10 @@ module _ (b : Barrier) where
     ranked = λ e. refl;
     small = omega arith;
     few = (
-      let many = length_below (elsewhere n b.location) (elsewhere_placed n b.location) (system_of b).locations (elsewhere_short n b.location) in
-      let few = b.about.now.are_cases.few_locations in
-      omega (arith, many, few)
-    );
+        let many = length_below (elsewhere n b.location) (elsewhere_placed n b.location) (system_of b).locations (elsewhere_short n b.location) in
+        let few = b.about.now.are_cases.few_locations in
+        omega (arith, many, few)
+        );
     each = each_elsewhere n b.location (PieceShape (system_of b) 0 false) (system_of b).locations (λ l inside other. whole_shape (system_of b) false l inside);
     offered = λ number. atoms_offered (asked b) number (piece_of number (asked b) (negated (at b.location)) (pieces_elsewhere b) []) (pieces_elsewhere b) h.proofs
         (each_elsewhere n b.location (OwesNothing number) (system_of b).locations
@@ -113,10 +110,10 @@ module _ (b : Barrier) where
       ranked = λ e. refl;
       small = omega arith;
       few = (
-        let many = length_below (known_there b) (known_placed b) (system_of b).locations (λ l. omega arith) in
-        let few = b.about.now.are_cases.few_locations in
-        omega (arith, many, few)
-      );
+          let many = length_below (known_there b) (known_placed b) (system_of b).locations (λ l. omega arith) in
+          let few = b.about.now.are_cases.few_locations in
+          omega (arith, many, few)
+          );
       each = each_below (known_there b) (known_placed b) (PieceShape (system_of b) 0 true) (system_of b).locations
           (λ l inside. All-cons (PieceShape (system_of b) 0 true) (known_piece b l) [] (known_shape l inside) (All-nil (PieceShape (system_of b) 0 true)));
       offered = λ number. subst (λ ks. AllZip points.IsOffered (own_of number (asked b) (never_at b.location) (known_pieces b) ks) proofs) (sym pieces_of_kids)

@@ -1,5 +1,5 @@
 -- The root: the start is covered by the known rows there.
-use Rattle.std.proofs.Common.{◌≡◌, ℕ, zero, suc, ◌<◌, ◌≤◌, List, [], ◌++◌, map, Option, None, Some, arith, refl, sym, ap, ◌∙◌, subst}
+use Rattle.std.proofs.Common.{◌≡◌, ℕ, zero, suc, List, [], ◌++◌, Some, ap, ◌∙◌}
 use Rattle.std.proofs.lemmas.List.{append-nil}
 use Rattle.tv_linear.specs.Known.{Known, given, as_given}
 use Rattle.tv_linear.specs.declared.cover.CoverTree.{CoverTree}

@@ -1,5 +1,5 @@
 -- Covers are proofs of what is owed at the pieces of known rows.
-use Rattle.std.proofs.Common.{◌≡◌, ℕ, zero, suc, ◌+◌, ◌<◌, ◌≤◌, List, [], ◌∷◌, ◌++◌, length, map, Option, None, Some, arith, refl, sym, ap, ◌∙◌, subst}
+use Rattle.std.proofs.Common.{◌≡◌, ℕ, zero, suc, ◌+◌, ◌<◌, ◌≤◌, List, [], length, map, Option, Some, refl, ap, ◌∙◌}
 use Rattle.std.specs.Prelude.{slice_get}
 use Rattle.std.proofs.lemmas.List.{append-nil}
 use Rattle.std.proofs.lemmas.List.Elements.{All-nil, All-cons}
@@ -11,12 +11,10 @@ use Rattle.tv_linear.specs.declared.cover.CoverTree.{CoverTree}
 use Rattle.tv_cases.specs.LinearCases.{LinearCase}
 use Rattle.tv_farkas.specs.Trees.{TreeRows}
 use Rattle.tv_cert.specs.declared.node.Kind.TheVariants as kind
-use Rattle.tv_cert.specs.declared.node.Marked.{Marked}
 use Rattle.tv_cert.specs.declared.node.Proof.{Proof}
 use Rattle.tv_cert.specs.declared.node.Proof.TheVariants.{Covered}
 use Rattle.tv_cert.specs.Obligations.{Obligation, case_change}
 use Rattle.tv_cert.specs.Pieces.{place_of, pieces_at}
-use Rattle.tv_cert.specs.Shapes.{owed_count, CoverShape}
 use Rattle.tv_cert.specs.Targets.{target_rows, owed_into, no_fall}
 use Rattle.tv_shape.specs.Narrow.{CoverNarrow}
 use Rattle.tv_rank.specs.Ways.{Way, way_of, rows_at, case_at}

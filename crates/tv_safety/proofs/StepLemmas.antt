@@ -1,12 +1,12 @@
 -- The proofs of a location, one after the other, and of all locations.
-use Rattle.std.proofs.Common.{◌≡◌, ℕ, suc, ◌+◌, List, [], ◌∷◌, ◌++◌, length, map, take, arith, refl, sym, ap, ◌∙◌, subst, append_assoc}
+use Rattle.std.proofs.Common.{◌≡◌, ℕ, suc, ◌+◌, List, [], ◌∷◌, ◌++◌, length, map, take, arith, sym, ap, ◌∙◌, subst, append_assoc}
 use Rattle.std.specs.List.{AllZip}
 use Rattle.tv_cases.specs.LinearCases.{LinearCase, leaving}
 use Rattle.tv_cert.specs.declared.node.Proof.{Proof}
 use Rattle.tv_rank.specs.Ways.{case_at}
 use Rattle.tv_lexrank.specs.Offered.{IsOffered}
 use Rattle.tv_lexrank.proofs.StandLemmas.{IsLeaving, take_more, take_all}
-use Rattle.tv_safety.specs.Nodes.{system_of, owed_step, owed_at, IsHoldProof, IsStepAt, IsStepProof, AreStepsShown, AreShownAt, AreShownBelow}
+use Rattle.tv_safety.specs.Nodes.{system_of, owed_step, IsHoldProof, IsStepAt, IsStepProof, AreStepsShown, AreShownAt, AreShownBelow}
 use Rattle.tv_safety.specs.declared.barrier.Barrier.{Barrier}
 
 zip_push : {A B : Type 0} (R : A → B → Type 0) (xs : List A) (ys : List B) (x : A) (y : B) → AllZip R xs ys → R x y → AllZip R (xs ++ x ∷ []) (ys ++ y ∷ [])

@@ -1,7 +1,6 @@
 -- The node that shows that no run comes to a location.
 use Rattle.std.specs.Prelude.{◌≡◌, ℕ, zero, suc, ◌<◌, List, [], ◌∷◌, ◌++◌, map}
 use Rattle.std.specs.List.{AllZip}
-use Rattle.tv_linear.specs.Known.{Known}
 use Rattle.tv_cases.specs.LinearCases.{LinearCase, CaseSystem, leaving}
 use Rattle.tv_cases.specs.Systems.{cases_of}
 use Rattle.tv_formula.specs.Forms.{never_at}

@@ -7,8 +7,8 @@ ghost use Rattle.tv_safety.specs.Nodes.{ShowsNever, Refuses};
 ghost use Rattle.tv_safety.specs.Nodes.{pieces_elsewhere as spec_elsewhere};
 
 use crate::barrier::Barrier;
-use crate::pieces::{pieces_elsewhere, pieces_of};
 use crate::offered::proofs_of;
+use crate::pieces::{pieces_elsewhere, pieces_of};
 use std::alloc::{AllocError, Global};
 use tv_cert::Node;
 use tv_farkas::CoverFault;
