@@ -1,8 +1,0 @@
-use Rattle.std.proofs.Common.{take}
-use Rattle.tv_cases.specs.LinearCases.{leaving}
-use Rattle.tv_cases.specs.Systems.{cases_of}
-use Rattle.tv_safety.specs.Nodes.{AreStepsShown}
-use Rattle.tv_safety.proofs.offered.push_steps.Given as goal
-
-abbrev pub invariant-places : goal.invariant-places
-invariant-places l = AreStepsShown l.barrier l.location (take l.place (leaving l.location (cases_of l.barrier.about.now).cases)) l.fn.proofs.items l.proofs.items

@@ -1,6 +1,0 @@
-use Rattle.std.proofs.Common.{◌≡◌}
-use Rattle.tv_safety.specs.Below.{pieces_below, elsewhere}
-use Rattle.tv_safety.proofs.pieces.pieces_elsewhere.Given as goal
-
-abbrev pub invariant-places : goal.invariant-places
-invariant-places l = l.pieces.items ≡ pieces_below (elsewhere l.columns l.location) l.place

@@ -1,4 +1,0 @@
-pub mod Closed
-pub mod Refusals
-pub mod Below
-pub mod Nodes

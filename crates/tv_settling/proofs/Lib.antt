@@ -1,0 +1,8 @@
+pub mod NarrowLemmas
+pub mod BelowLemmas
+pub mod ShownLemmas
+pub mod StepLemmas
+pub mod NodeLemmas
+pub mod KnownLemmas
+pub mod RootLemmas
+pub mod EndLemmas

@@ -1,0 +1,6 @@
+pub mod Closed
+pub mod Refusals
+pub mod Below
+pub mod Nodes
+pub mod Settling
+pub mod Ends
