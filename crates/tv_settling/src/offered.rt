@@ -27,7 +27,8 @@ fn push_steps(
     location: u32,
 ) -> Result<(), CoverFault>
     requires { IsIndexOf (map from_of (cases_of barrier.now.about.now).cases) stands.now }
-    ensures shown { IfOk result (λ _. AreStepsShown barrier.now location (leaving location (cases_of barrier.now.about.now).cases) proofs.old.items proofs.new.items) }
+    ensures shown { let cases = leaving location (cases_of barrier.now.about.now).cases in
+        IfOk result (λ _. AreStepsShown barrier.now location cases proofs.old.items proofs.new.items) }
     ensures refusals { IfErr result (Refuses barrier.now) }
 {
     'places: for place in 0..count_of(stands, location) {

@@ -1,5 +1,4 @@
 use Rattle.std.proofs.Common.{ap, refl, sym, subst}
-use Rattle.tv_formula.specs.Formulas.{property_of}
 use Rattle.tv_formula.specs.Properties.{Property, term}
 use Rattle.tv_cases.specs.Systems.{cases_of}
 use Rattle.tv_rank.specs.Given.{lists}
