@@ -1,0 +1,10 @@
+pub mod PathLemmas
+pub mod NumberLemmas
+pub mod RoundLemmas
+pub mod MarkLemmas
+pub mod ExtendLemmas
+pub mod DerivedLemmas
+pub mod TriedLemmas
+pub mod ReachLemmas
+pub mod LeftLemmas
+pub mod AnswerLemmas
