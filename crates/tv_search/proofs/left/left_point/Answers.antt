@@ -1,6 +1,5 @@
 use Rattle.std.proofs.Common.{◌≡◌, ◌∙◌, sym, subst, All}
 use Rattle.tv_linear.specs.Linear.{columns}
-use Rattle.tv_farkas.specs.Paths.{IsWholePoint}
 use Rattle.tv_cover.specs.Emptying.{IsEmptied, HasNoWholePoint, IsShortEmptied}
 use Rattle.tv_cases.specs.Systems.{cases_of}
 use Rattle.tv_search.proofs.LeftLemmas.{rows_even, none_left, point_left, left_refused}

@@ -1,4 +1,4 @@
-use Rattle.std.proofs.Common.{◌++◌, ◌∙◌, ap, take, drop}
+use Rattle.std.proofs.Common.{◌++◌, ◌∙◌, take, drop}
 use Rattle.tv_cases.specs.Systems.{cases_of}
 use Rattle.tv_search.specs.Answers.{lists_of}
 use Rattle.tv_search.specs.Runs.{path_of, cut}
