@@ -23,7 +23,7 @@ mod steps;
 mod taking;
 
 pub use bare::{bare_proof, whole, whole_node};
-pub use certificate::{endless_certificate, reaching_certificate};
+pub use certificate::{disproved_certificate, endless_certificate, reaching_certificate};
 pub use endless::endless_node;
 pub use fault::PointFault;
 pub use node::node_of;

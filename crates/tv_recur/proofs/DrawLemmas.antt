@@ -1,0 +1,153 @@
+-- Numbers put in for the draws.
+use Rattle.std.proofs.Common.{◌≡◌, ℕ, zero, suc, ◌+◌, ◌<◌, ◌≤◌, List, [], ◌∷◌, ◌++◌, length, length-append, map, get_or, All, ◌+ℤ◌, arith, refl, sym, ap, ◌∙◌, subst, ℤ, pos}
+use Rattle.std.proofs.lemmas.List.{length-map}
+use Rattle.std.proofs.lemmas.List.Elements.{All-nil, All-cons, All-head, All-tail, All-append}
+use Rattle.tv_linear.specs.Linear.{Linear, columns, value}
+use Rattle.tv_linear.specs.Arithmetic.{zeros, constant_row, column_row, combined, composed, width_of}
+use Rattle.tv_linear.specs.Known.{Term, kept, put, Known, given, composed as known_composed, as_given, term_value}
+use Rattle.tv_linear.specs.Terms.{table, terms_after, draw_terms}
+use Rattle.tv_linear.proofs.Entries.{entry-raised_inner, entry-raised_last, entry-combined, columns-combined}
+use Rattle.tv_linear.proofs.PlainLists.{length-unit, length-zeros}
+use Rattle.tv_linear.proofs.RowValues.{value-composed, value-constant_row, value-column_row}
+use Rattle.tv_cases.specs.EdgeCases.{columns_from}
+use Rattle.tv_cases.specs.LinearCases.{LinearCase}
+use Rattle.tv_cases.specs.Before.{before as case_before}
+use Rattle.tv_cert.specs.Choices.{drawn_change, drawn_guards}
+use Rattle.tv_recur.specs.Making.{FitsBefore, rows_before, FitsPut, rows_put, number_rows, drawn_terms}
+use Rattle.tv_recur.proofs.SameLemmas.{SameNumbers, AreSame, same_self, same_append}
+use Rattle.tv_recur.proofs.ComposeLemmas.{IsTerm, AreTerms, PutIn, terms_even, composed_same, kept_term, put_term, before_same, before_even, all_before_even}
+
+-- ---- the terms
+pub columns_from-wide : (w v n : ℕ) → All (λ r. columns r ≡ w) (columns_from w v n)
+columns_from-wide w v zero = All-nil (λ r. columns r ≡ w)
+columns_from-wide w v (suc n) = All-cons (λ r. columns r ≡ w) (column_row w v) (columns_from w (suc v) n) (length-unit w v) (columns_from-wide w (suc v) n)
+
+pub number_rows-wide : (n : ℕ) (ds : List ℤ) → All (λ r. columns r ≡ n) (number_rows n ds)
+number_rows-wide n [] = All-nil (λ r. columns r ≡ n)
+number_rows-wide n (d ∷ ds) = All-cons (λ r. columns r ≡ n) (constant_row n d) (number_rows n ds) (length-zeros n) (number_rows-wide n ds)
+
+pub terms-wide : (n : ℕ) (ds : List ℤ) → All (λ r. columns r ≡ n) (drawn_terms n ds)
+terms-wide n ds = All-append (λ r. columns r ≡ n) (columns_from n 0 n) (number_rows n ds) (columns_from-wide n 0 n) (number_rows-wide n ds)
+
+columns_from-length : (w v n : ℕ) → length (columns_from w v n) ≡ n
+columns_from-length w v zero = refl
+columns_from-length w v (suc n) = ap suc (columns_from-length w (suc v) n)
+
+pub terms-length : (n : ℕ) (ds : List ℤ) → length (drawn_terms n ds) ≡ n + length ds
+terms-length n ds = length-append (columns_from n 0 n) (number_rows n ds) ∙ (λ i. columns_from-length n 0 n i + length-map ds (λ d. constant_row n d) i)
+
+first_wide : (n : ℕ) (ts : List Linear) → All (λ r. columns r ≡ n) ts → (ts ≡ [] → n ≡ 0) → width_of ts ≡ n
+first_wide n [] h e = sym (e refl)
+first_wide n (t ∷ ts) h e = All-head (λ r. columns r ≡ n) t ts h
+
+no_terms : (n : ℕ) (ts : List Linear) → columns_from n 0 n ++ ts ≡ [] → n ≡ 0
+no_terms zero ts e = refl
+no_terms (suc n) ts e = absurd cc
+
+pub terms-width : (n : ℕ) (ds : List ℤ) → width_of (drawn_terms n ds) ≡ n
+terms-width n ds = first_wide n (drawn_terms n ds) (terms-wide n ds) (no_terms n (number_rows n ds))
+
+pub columns_from-push : (w v n : ℕ) → columns_from w v (n + 1) ≡ columns_from w v n ++ column_row w (v + n) ∷ []
+columns_from-push w v zero = ap (λ k. column_row w k ∷ []) (let e : v ≡ v + 0 = omega arith in e)
+columns_from-push w v (suc n) = ap (columns_from w v) (let e : suc n + 1 ≡ suc (n + 1) = omega arith in e) ∙ ap (λ rows. column_row w v ∷ rows) (columns_from-push w (suc v) n ∙ ap (λ k. columns_from w (suc v) n ++ column_row w k ∷ []) (let e : suc v + n ≡ v + suc n = omega arith in e))
+
+-- ---- as the terms of a choice
+kept_terms : (w v k : ℕ) → AreTerms w (table k (λ j. kept (v + j))) (columns_from w v k)
+kept_terms w v zero = tt
+kept_terms w v (suc k) =
+    (subst (λ m. IsTerm w (kept m) (column_row w v)) (let e : v ≡ v + 0 = omega arith in e) (kept_term w v),
+    subst (λ f. AreTerms w (table k f) (columns_from w (suc v) k)) (λ i j. kept (let e : suc v + j ≡ v + suc j = omega arith in e i)) (kept_terms w (suc v) k))
+
+number_terms : (n : ℕ) (ds : List ℤ) → AreTerms n (map (λ d. put d) (number_rows n ds)) (number_rows n ds)
+number_terms n [] = tt
+number_terms n (d ∷ ds) = (put_term n (constant_row n d) (length-zeros n), number_terms n ds)
+
+both_terms : (n : ℕ) (ts us : List Term) (rows more : List Linear) → AreTerms n ts rows → AreTerms n us more → AreTerms n (ts ++ us) (rows ++ more)
+both_terms n [] us [] more h g = g
+both_terms n [] us (r ∷ rows) more h g = absurd h
+both_terms n (t ∷ ts) us [] more h g = absurd h
+both_terms n (t ∷ ts) us (r ∷ rows) more h g = (h.0, both_terms n ts us rows more h.1 g)
+
+pub are_terms : (n : ℕ) (ds : List ℤ) → AreTerms n (draw_terms n (number_rows n ds)) (drawn_terms n ds)
+are_terms n ds =
+    both_terms n (table n kept) (map (λ d. put d) (number_rows n ds)) (columns_from n 0 n) (number_rows n ds)
+    (subst (λ f. AreTerms n (table n f) (columns_from n 0 n)) (λ i j. kept (let e : 0 + j ≡ j = omega arith in e i)) (kept_terms n 0 n))
+    (number_terms n ds)
+
+-- ---- a row with the terms
+pub put_drawn : (n : ℕ) (ds : List ℤ) (r : Linear) → FitsPut (drawn_terms n ds) r → PutIn n r (drawn_terms n ds) (composed r (drawn_terms n ds))
+put_drawn n ds r fits =
+    let ts = drawn_terms n ds in
+    let w = terms-width n ds in
+    let even = subst (λ k. All (λ t. columns t ≡ k) ts) (sym w) (terms-wide n ds) in
+    let wide = columns-combined (width_of ts) r.coefficients ts even in
+    record {
+      even = wide ∙ w;
+      inner = λ j l. entry-raised_inner r.constant (combined (width_of ts) r.coefficients ts) j (omega (arith, l, wide, w)) ∙ entry-combined (width_of ts) r.coefficients ts j even;
+      last = entry-raised_last r.constant (combined (width_of ts) r.coefficients ts) n (omega (arith, wide, w)) ∙ ap (λ z. z +ℤ r.constant) (entry-combined (width_of ts) r.coefficients ts n even);
+      held = λ j l. (fits j (omega (arith, l, wide, w))).on_the_way;
+      narrow = λ j l. (fits j (omega (arith, l, wide, w))).narrow;
+    }
+
+pub put_wide : (n : ℕ) (ds : List ℤ) (r : Linear) → columns (composed r (drawn_terms n ds)) ≡ n
+put_wide n ds r =
+    let ts = drawn_terms n ds in
+    let w = terms-width n ds in
+    columns-combined (width_of ts) r.coefficients ts (subst (λ k. All (λ t. columns t ≡ k) ts) (sym w) (terms-wide n ds)) ∙ w
+
+pub all_put_wide : (n : ℕ) (ds : List ℤ) (rows : List Linear) → All (λ r. columns r ≡ n) (rows_put (drawn_terms n ds) rows)
+all_put_wide n ds [] = All-nil (λ r. columns r ≡ n)
+all_put_wide n ds (r ∷ rows) = All-cons (λ r. columns r ≡ n) (composed r (drawn_terms n ds)) (rows_put (drawn_terms n ds) rows) (put_wide n ds r) (all_put_wide n ds rows)
+
+put_same : (n : ℕ) (ds : List ℤ) (r : Linear) (k : Known) → columns r ≡ n + length ds → SameNumbers (n + length ds) (given r) k → FitsPut (drawn_terms n ds) r → SameNumbers n (given (composed r (drawn_terms n ds))) (known_composed k (draw_terms n (number_rows n ds)))
+put_same n ds r k wide same fits =
+    composed_same (n + length ds) n r (composed r (drawn_terms n ds)) k (draw_terms n (number_rows n ds)) (drawn_terms n ds) wide (terms-length n ds) same (are_terms n ds) (put_drawn n ds r fits)
+
+-- ---- the rows that are owed
+module _ (n : ℕ) (c : LinearCase) (ds : List ℤ) (counted : length ds ≡ c.draws) where
+  pub guards_same : (gs : List Linear) → All (λ r. columns r ≡ n + c.draws) gs → All (FitsPut (drawn_terms n ds)) gs → AreSame n (as_given (rows_put (drawn_terms n ds) gs)) (map (λ r. known_composed (given r) (draw_terms n (number_rows n ds))) gs)
+  guards_same [] wide fits = tt
+  guards_same (g ∷ gs) wide fits = (
+    put_same n ds g (given g) (All-head (λ r. columns r ≡ n + c.draws) g gs wide ∙ ap (λ k. n + k) (sym counted)) (same_self (n + length ds) (given g)) (All-head (FitsPut (drawn_terms n ds)) g gs fits),
+    guards_same gs (All-tail (λ r. columns r ≡ n + c.draws) g gs wide) (All-tail (FitsPut (drawn_terms n ds)) g gs fits),
+  )
+
+  pub into_same : All (λ u. columns u.term ≡ n + c.draws) c.updates → (rows : List Linear) → All (λ r. columns r ≡ n) rows → All (FitsBefore c) rows → All (FitsPut (drawn_terms n ds)) (rows_before c rows) → AreSame n (as_given (rows_put (drawn_terms n ds) (rows_before c rows))) (map (drawn_change n c (number_rows n ds)) rows)
+  into_same us [] wide before fits = tt
+  into_same us (r ∷ rows) wide before fits =
+      let w = All-head (λ r. columns r ≡ n) r rows wide in
+      let b = All-head (FitsBefore c) r rows before in (
+        put_same n ds (case_before r c) (known_composed (given r) (terms_after n c.updates))
+            (before_even n c r w us b ∙ ap (λ k. n + k) (sym counted))
+            (subst (λ k. SameNumbers (n + k) (given (case_before r c)) (known_composed (given r) (terms_after n c.updates))) (sym counted) (before_same n c r w us b))
+            (All-head (FitsPut (drawn_terms n ds)) (case_before r c) (rows_before c rows) fits),
+        into_same us rows (All-tail (λ r. columns r ≡ n) r rows wide) (All-tail (FitsBefore c) r rows before) (All-tail (FitsPut (drawn_terms n ds)) (case_before r c) (rows_before c rows) fits),
+      )
+
+-- ---- values
+variables_at : (w v k : ℕ) (xs : List ℤ) → length xs ≤ w → map (λ t. value t xs) (columns_from w v k) ≡ table k (λ j. get_or xs (v + j) (pos 0))
+variables_at w v zero xs l = refl
+variables_at w v (suc k) xs l = (λ i. (value-column_row w v xs l ∙ ap (λ j. get_or xs j (pos 0)) (let e : v ≡ v + 0 = omega arith in e)) i ∷ (variables_at w (suc v) k xs l ∙ ap (table k) (λ p j. get_or xs (let e : suc v + j ≡ v + suc j = omega arith in e p) (pos 0))) i)
+
+table_of : (n : ℕ) (xs : List ℤ) → length xs ≡ n → table n (λ j. get_or xs j (pos 0)) ≡ xs
+table_of zero [] e = refl
+table_of zero (x ∷ xs) e = absurd (omega arith)
+table_of (suc n) [] e = absurd (omega arith)
+table_of (suc n) (x ∷ xs) e = ap (λ ys. x ∷ ys) (table_of n xs (omega arith))
+
+numbers_at : (n : ℕ) (ds xs : List ℤ) → map (λ t. value t xs) (number_rows n ds) ≡ ds
+numbers_at n [] xs = refl
+numbers_at n (d ∷ ds) xs = (λ i. value-constant_row n d xs i ∷ numbers_at n ds xs i)
+
+map_both : {A B : Type 0} (f : A → B) (xs ys : List A) → map f (xs ++ ys) ≡ map f xs ++ map f ys
+map_both f [] ys = refl
+map_both f (x ∷ xs) ys = ap (λ zs. f x ∷ zs) (map_both f xs ys)
+
+pub terms_at : (n : ℕ) (ds xs : List ℤ) → length xs ≡ n → map (λ t. value t xs) (drawn_terms n ds) ≡ xs ++ ds
+terms_at n ds xs e =
+    map_both (λ t. value t xs) (columns_from n 0 n) (number_rows n ds)
+    ∙ (λ i. (variables_at n 0 n xs (omega (arith, e)) ∙ ap (table n) (λ p j. get_or xs (let q : 0 + j ≡ j = omega arith in q p) (pos 0)) ∙ table_of n xs e) i ++ numbers_at n ds xs i)
+
+-- the value of a row with the numbers put in
+pub put_value : (n : ℕ) (ds xs : List ℤ) (r : Linear) → length xs ≡ n → value (composed r (drawn_terms n ds)) xs ≡ value r (xs ++ ds)
+put_value n ds xs r e = value-composed r (drawn_terms n ds) xs ∙ ap (value r) (terms_at n ds xs e)

@@ -1,0 +1,13 @@
+pub mod SameLemmas
+pub mod ComposeLemmas
+pub mod DrawLemmas
+pub mod RowLoops
+pub mod CoverLemmas
+pub mod ChoiceLemmas
+pub mod ReadLemmas
+pub mod LeadLemmas
+pub mod PointLemmas
+pub mod OwedLemmas
+pub mod NodeLemmas
+pub mod StayLemmas
+pub mod KeepLemmas

@@ -1,0 +1,7 @@
+use Rattle.tv_cases.specs.Systems.{cases_of}
+use Rattle.tv_recur.proofs.NodeLemmas.{endless_fitted}
+use Rattle.tv_recur.proofs.node.endless_node.Goals as goal
+
+pub returns : goal.returns
+returns c =
+    endless_fitted (cases_of c.args.about.now) c.in_ok-node.node c.args.list.items c.args.proofs.items c.in_ok-node.ensures c.requires.few c.requires.shape c.requires.goes_on
