@@ -1,5 +1,5 @@
 -- A choice made of a cover is met, and has the shape of one.
-use Rattle.std.proofs.Common.{◌≡◌, ℕ, zero, suc, ◌+◌, ◌^◌, ◌<◌, ◌≤◌, List, [], ◌∷◌, ◌++◌, length, length-append, map, All, Option, None, Some, slice_get, Vec, false, arith, refl, sym, ap, ◌∙◌, subst, ℤ, pos}
+use Rattle.std.proofs.Common.{◌≡◌, ℕ, zero, suc, ◌+◌, ◌^◌, ◌<◌, List, [], ◌∷◌, ◌++◌, length, length-append, map, All, Some, slice_get, Vec, false, arith, refl, sym, ap, ◌∙◌, subst, ℤ, pos}
 use Rattle.std.specs.Prelude.{max}
 use Rattle.std.specs.Global.{Global}
 use Rattle.std.specs.Option.{option_map}
@@ -25,7 +25,7 @@ use Rattle.tv_cert.specs.Pieces.{rows_of, pieces_at}
 use Rattle.tv_cert.specs.Shapes.{ChoiceShape, TakeShape, ListsShape}
 use Rattle.tv_cert.specs.Targets.{target_rows, no_fall}
 use Rattle.tv_cover.specs.Targets.{owed_lists}
-use Rattle.tv_shape.specs.Narrow.{ChoiceNarrow, RowNarrow, AreNarrow, ListsNarrow, CountNarrow}
+use Rattle.tv_shape.specs.Narrow.{ChoiceNarrow, RowNarrow, AreNarrow, CountNarrow}
 use Rattle.tv_recur.specs.Choosing.{IsChoiceOf, entering, IsChoiceAt, LeadsInto}
 use Rattle.tv_recur.specs.Covering.{IsCoverInto}
 use Rattle.tv_recur.proofs.SameLemmas.{AreSame, all_same, shown_same}

@@ -11,7 +11,7 @@ use Rattle.tv_cover.specs.Covering.{IsHole, IsCovered, IsShallow, IsShortCovered
 use Rattle.tv_cover.specs.declared.covered.Covered.{Covered}
 use Rattle.tv_cover.specs.declared.covered.Covered.TheVariants.{Tree, Hole}
 use Rattle.tv_cover.specs.Targets.{owed_lists, lists_of}
-use Rattle.tv_recur.specs.Covering.{IsCoverInto, IsCoveredByOne}
+use Rattle.tv_recur.specs.Covering.{IsCoveredByOne}
 
 pub one_target : (targets new old : List Poly) (p : Poly) → targets ≡ new → new ≡ old ++ p ∷ [] → old ≡ [] → lists_of targets ≡ p.rows.items ∷ []
 one_target targets new old p e f g = ap lists_of (e ∙ f ∙ ap (λ z. z ++ p ∷ []) g)

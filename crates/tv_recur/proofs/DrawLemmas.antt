@@ -1,10 +1,10 @@
 -- Numbers put in for the draws.
-use Rattle.std.proofs.Common.{◌≡◌, ℕ, zero, suc, ◌+◌, ◌<◌, ◌≤◌, List, [], ◌∷◌, ◌++◌, length, length-append, map, get_or, All, ◌+ℤ◌, arith, refl, sym, ap, ◌∙◌, subst, ℤ, pos}
+use Rattle.std.proofs.Common.{◌≡◌, ℕ, zero, suc, ◌+◌, ◌≤◌, List, [], ◌∷◌, ◌++◌, length, length-append, map, get_or, All, ◌+ℤ◌, arith, refl, sym, ap, ◌∙◌, subst, ℤ, pos}
 use Rattle.std.proofs.lemmas.List.{length-map}
 use Rattle.std.proofs.lemmas.List.Elements.{All-nil, All-cons, All-head, All-tail, All-append}
 use Rattle.tv_linear.specs.Linear.{Linear, columns, value}
-use Rattle.tv_linear.specs.Arithmetic.{zeros, constant_row, column_row, combined, composed, width_of}
-use Rattle.tv_linear.specs.Known.{Term, kept, put, Known, given, composed as known_composed, as_given, term_value}
+use Rattle.tv_linear.specs.Arithmetic.{constant_row, column_row, combined, composed, width_of}
+use Rattle.tv_linear.specs.Known.{Term, kept, put, Known, given, composed as known_composed, as_given}
 use Rattle.tv_linear.specs.Terms.{table, terms_after, draw_terms}
 use Rattle.tv_linear.proofs.Entries.{entry-raised_inner, entry-raised_last, entry-combined, columns-combined}
 use Rattle.tv_linear.proofs.PlainLists.{length-unit, length-zeros}
@@ -12,10 +12,10 @@ use Rattle.tv_linear.proofs.RowValues.{value-composed, value-constant_row, value
 use Rattle.tv_cases.specs.EdgeCases.{columns_from}
 use Rattle.tv_cases.specs.LinearCases.{LinearCase}
 use Rattle.tv_cases.specs.Before.{before as case_before}
-use Rattle.tv_cert.specs.Choices.{drawn_change, drawn_guards}
+use Rattle.tv_cert.specs.Choices.{drawn_change}
 use Rattle.tv_recur.specs.Making.{FitsBefore, rows_before, FitsPut, rows_put, number_rows, drawn_terms}
-use Rattle.tv_recur.proofs.SameLemmas.{SameNumbers, AreSame, same_self, same_append}
-use Rattle.tv_recur.proofs.ComposeLemmas.{IsTerm, AreTerms, PutIn, terms_even, composed_same, kept_term, put_term, before_same, before_even, all_before_even}
+use Rattle.tv_recur.proofs.SameLemmas.{SameNumbers, AreSame, same_self}
+use Rattle.tv_recur.proofs.ComposeLemmas.{IsTerm, AreTerms, PutIn, composed_same, kept_term, put_term, before_same, before_even}
 
 -- ---- the terms
 pub columns_from-wide : (w v n : ℕ) → All (λ r. columns r ≡ w) (columns_from w v n)
@@ -54,9 +54,10 @@ columns_from-push w v (suc n) = ap (columns_from w v) (let e : suc n + 1 ≡ suc
 -- ---- as the terms of a choice
 kept_terms : (w v k : ℕ) → AreTerms w (table k (λ j. kept (v + j))) (columns_from w v k)
 kept_terms w v zero = tt
-kept_terms w v (suc k) =
-    (subst (λ m. IsTerm w (kept m) (column_row w v)) (let e : v ≡ v + 0 = omega arith in e) (kept_term w v),
-    subst (λ f. AreTerms w (table k f) (columns_from w (suc v) k)) (λ i j. kept (let e : suc v + j ≡ v + suc j = omega arith in e i)) (kept_terms w (suc v) k))
+kept_terms w v (suc k) = (
+  subst (λ m. IsTerm w (kept m) (column_row w v)) (let e : v ≡ v + 0 = omega arith in e) (kept_term w v),
+  subst (λ f. AreTerms w (table k f) (columns_from w (suc v) k)) (λ i j. kept (let e : suc v + j ≡ v + suc j = omega arith in e i)) (kept_terms w (suc v) k),
+)
 
 number_terms : (n : ℕ) (ds : List ℤ) → AreTerms n (map (λ d. put d) (number_rows n ds)) (number_rows n ds)
 number_terms n [] = tt

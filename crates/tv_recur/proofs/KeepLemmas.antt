@@ -1,20 +1,19 @@
 -- Loops, and ways to come to them.
-use Rattle.std.proofs.Common.{◌≡◌, ◌≢◌, inl, inr, ℕ, zero, suc, ◌+◌, ◌<◌, ◌≤◌, List, [], ◌∷◌, ◌++◌, length, length-append, map, take, drop, get_or, All, Bool, true, false, ◌==◌, if◌then◌else◌, Option, None, Some, slice_get, arith, refl, sym, ap, ◌∙◌, subst, ℤ, pos}
-use Rattle.std.specs.Prelude.{Contains, Result, Ok, Err, IfOk, MatchOption}
+use Rattle.std.proofs.Common.{◌≡◌, ◌≢◌, inl, inr, ℕ, ◌+◌, ◌<◌, List, [], ◌∷◌, ◌++◌, length, length-append, map, All, Bool, true, false, ◌==◌, if◌then◌else◌, Option, None, Some, slice_get, refl, sym, ◌∙◌, subst, ℤ}
+use Rattle.std.specs.Prelude.{Result, Ok, Err, IfOk, MatchOption}
 use Rattle.std.specs.List.{AllZip}
-use Rattle.std.proofs.lemmas.List.{append-nil, take-append-drop}
-use Rattle.std.proofs.lemmas.List.Elements.{All-nil, All-cons, All-head, All-tail, All-append, All-contains, All-take, All-drop}
+use Rattle.std.proofs.lemmas.List.{append-nil}
+use Rattle.std.proofs.lemmas.List.Elements.{All-nil, All-cons, All-append}
 use Rattle.tv_linear.specs.Linear.{Linear, columns, IsMet, IsWithin}
 use Rattle.tv_linear.specs.Known.{term_value}
 use Rattle.tv_linear.specs.Terms.{terms_after}
 use Rattle.tv_linear.specs.declared.choice.ChoiceTree.{ChoiceTree}
 use Rattle.tv_program.specs.Steps.{State}
-use Rattle.tv_cases.specs.LinearCases.{LinearCase, CaseSystem, IsCase, CaseDoes, CaseSteps}
-use Rattle.tv_cases.specs.Views.{case_view}
+use Rattle.tv_cases.specs.LinearCases.{LinearCase, CaseSystem, CaseSteps}
 use Rattle.tv_cert.specs.declared.node.Marked.{Marked}
 use Rattle.tv_cert.specs.declared.node.Node.{Node}
 use Rattle.tv_cert.specs.declared.node.Proof.{Proof}
-use Rattle.tv_cert.specs.declared.node.Proof.TheVariants.{Covered, Chosen}
+use Rattle.tv_cert.specs.declared.node.Proof.TheVariants.{Chosen}
 use Rattle.tv_cert.specs.Nodes.{pieces_of}
 use Rattle.tv_cert.specs.Pieces.{place_of, rows_of, pieces_at}
 use Rattle.tv_cert.specs.Shapes.{PieceShape}
@@ -23,22 +22,22 @@ use Rattle.tv_farkas.specs.Paths.{IsWholePoint}
 use Rattle.tv_farkas.specs.Refuting.{AreShort}
 use Rattle.tv_farkas.specs.declared.fault.CoverFault.{CoverFault}
 use Rattle.tv_known.specs.Cycles.{IsInitialAt}
-use Rattle.tv_known.specs.Recurrences.{IsKeptLoop, MayTake, IsEntered, HasSimpleRecurrence}
+use Rattle.tv_known.specs.Recurrences.{IsKeptLoop, IsEntered, HasSimpleRecurrence}
 use Rattle.tv_known.proofs.RankedEnds.{values_kept}
 use Rattle.tv_points.specs.Nodes.{IsInside}
 use Rattle.tv_recur.specs.Making.{rows_before, rows_put, drawn_terms}
 use Rattle.tv_recur.specs.Owing.{Enters, IsLeft}
 use Rattle.tv_recur.specs.Choosing.{LeadsInto, IsChoiceAt}
-use Rattle.tv_recur.specs.Staying.{NeverStays, NeverStaysAt, NeverStaysBelow}
-use Rattle.tv_recur.specs.Keeping.{IsKeptBy, entering_rows, AreEntering, IsEntry, IsStem, NoEntryAt, NoEntryBelow, NoLoopAt, NoLoopBelow}
-use Rattle.tv_recur.specs.Nodes.{on_piece, GoesOn, IsEndlessNode}
+use Rattle.tv_recur.specs.Staying.{NeverStaysBelow}
+use Rattle.tv_recur.specs.Keeping.{IsKeptBy, entering_rows, AreEntering, IsEntry, IsStem, NoEntryBelow, NoLoopAt, NoLoopBelow}
+use Rattle.tv_recur.specs.Nodes.{on_piece, GoesOn}
 use Rattle.tv_recur.specs.Recurring.{IsRecurrence}
 use Rattle.tv_recur.specs.declared.entering.Entry.{Entry}
 use Rattle.tv_recur.specs.declared.entering.Stem.{Stem}
 use Rattle.tv_recur.specs.declared.recurrence.Recurrence.{Recurrence}
 use Rattle.tv_recur.proofs.ComposeLemmas.{all_before_even}
 use Rattle.tv_recur.proofs.ReadLemmas.{read_at, same_read}
-use Rattle.tv_recur.proofs.OwedLemmas.{put_met, put_met_back, before_met, before_met_back}
+use Rattle.tv_recur.proofs.OwedLemmas.{put_met_back, before_met, before_met_back}
 use Rattle.tv_recur.proofs.StayLemmas.{split_met}
 
 -- ---- a loop that is kept

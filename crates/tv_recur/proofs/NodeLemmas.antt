@@ -1,17 +1,16 @@
 -- A node from each of whose pieces a choice leads into one of them fits, and is met.
-use Rattle.std.proofs.Common.{◌≡◌, ℕ, ◌+◌, ◌^◌, ◌<◌, ◌≤◌, List, [], ◌∷◌, ◌++◌, length, map, All, Some, false, arith, refl, sym, ap, ◌∙◌, subst}
+use Rattle.std.proofs.Common.{◌≡◌, ℕ, ◌+◌, ◌^◌, ◌<◌, ◌≤◌, List, [], ◌∷◌, ◌++◌, length, All, Some, false, arith, refl, sym, ap, ◌∙◌, subst}
 use Rattle.std.specs.List.{AllZip, flat_map}
 use Rattle.std.proofs.lemmas.List.Elements.{All-nil, All-cons}
-use Rattle.tv_formula.specs.Properties.{Property, none}
+use Rattle.tv_formula.specs.Properties.{none}
 use Rattle.tv_cases.specs.LinearCases.{CaseSystem}
 use Rattle.tv_cert.specs.declared.node.Marked.{Marked}
 use Rattle.tv_cert.specs.declared.node.Proof.{Proof}
 use Rattle.tv_cert.specs.declared.node.Proof.TheVariants.{Covered, Chosen}
 use Rattle.tv_cert.specs.declared.node.Node.{Node, Node', Row_of-Node, end_of-Node, more_of-Node, items-the_row-Node, outs-Node'}
 use Rattle.tv_cert.specs.Claims.{about_with}
-use Rattle.tv_cert.specs.Listed.{pieces_list}
-use Rattle.tv_cert.specs.Nodes.{kid_pieces, entries, kid_entries, pieces_of}
-use Rattle.tv_cert.specs.Obligations.{About, Obligation, Entry, OwedMet, AllMet, own_of, piece_of, paired}
+use Rattle.tv_cert.specs.Nodes.{kid_pieces, kid_entries}
+use Rattle.tv_cert.specs.Obligations.{About, Obligation, OwedMet, AllMet, own_of, piece_of, paired}
 use Rattle.tv_cert.specs.Shapes.{ProofShape, PieceShape, OwnShape, HaveShapes}
 use Rattle.tv_cert.proofs.NodeLemmas.{out_is, pieces_are}
 use Rattle.tv_shape.specs.Depths.{proof_splits}

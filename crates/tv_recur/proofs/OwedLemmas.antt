@@ -1,5 +1,5 @@
 -- The rows that are owed, and where they are met.
-use Rattle.std.proofs.Common.{◌≡◌, ℕ, ◌+◌, List, [], ◌∷◌, ◌++◌, length, map, All, refl, sym, ap, ◌∙◌, subst, ℤ, pos, ◌≤ℤ◌}
+use Rattle.std.proofs.Common.{◌≡◌, ℕ, ◌+◌, List, [], ◌∷◌, ◌++◌, length, map, All, sym, ap, ◌∙◌, subst, ℤ, pos, ◌≤ℤ◌}
 use Rattle.std.proofs.lemmas.List.Elements.{All-nil, All-cons, All-head, All-tail, All-append, All-contains}
 use Rattle.tv_linear.specs.Linear.{Linear, columns, value, IsMet}
 use Rattle.tv_linear.specs.Arithmetic.{composed, width_of}

@@ -1,10 +1,8 @@
 -- A whole point as values and draws.
-use Rattle.std.proofs.Common.{◌≡◌, ℕ, ◌+◌, ◌-◌, ◌≤◌, List, ◌++◌, length, length-append, length-drop, take, drop, All, arith, sym, ap, ◌∙◌, subst, ℤ, pos}
+use Rattle.std.proofs.Common.{◌≡◌, ℕ, ◌+◌, ◌-◌, List, ◌++◌, length, length-append, length-drop, take, drop, All, arith, sym, ap, ◌∙◌, subst, ℤ, pos}
 use Rattle.std.proofs.lemmas.List.{take-append-drop}
 use Rattle.std.proofs.lemmas.List.Elements.{All-take, All-drop}
 use Rattle.tv_linear.specs.Linear.{Linear, columns, IsMet, IsWithin}
-use Rattle.tv_linear.specs.Arithmetic.{width_of}
-use Rattle.tv_farkas.specs.Paths.{IsWholePoint}
 use Rattle.tv_farkas.specs.Refuting.{AreShort}
 use Rattle.tv_farkas.proofs.SystemLemmas.{all_of}
 use Rattle.tv_recur.specs.Making.{rows_put, drawn_terms, ArePut}

@@ -1,23 +1,20 @@
 -- Where a case changes nothing.
-use Rattle.std.proofs.Common.{◌≡◌, ℕ, zero, suc, ◌+◌, ◌<◌, ◌≤◌, List, [], ◌∷◌, ◌++◌, length, length-append, map, take, drop, get_or, All, Bool, true, false, ◌==◌, ◌&&◌, if◌then◌else◌, None, Some, arith, refl, sym, ap, ◌∙◌, subst, ℤ, pos, ◌+ℤ◌, ◌≤ℤ◌}
-use Rattle.std.specs.Prelude.{IsTrue, nat_le, slice_get}
+use Rattle.std.proofs.Common.{◌≡◌, ℕ, zero, suc, ◌+◌, ◌<◌, ◌≤◌, List, [], ◌∷◌, ◌++◌, length, length-append, map, get_or, All, Bool, true, false, ◌==◌, ◌&&◌, if◌then◌else◌, arith, refl, sym, ap, ◌∙◌, subst, ℤ, pos, ◌+ℤ◌}
+use Rattle.std.specs.Prelude.{nat_le}
 use Rattle.std.proofs.lemmas.Bool.Decides.{nat_tests}
 use Rattle.std.proofs.lemmas.Int.{ints}
-use Rattle.std.proofs.lemmas.List.{length-map, take-append-drop}
 use Rattle.std.proofs.lemmas.List.Elements.{All-nil, All-cons, All-head, All-tail, All-append}
 use Rattle.tv_linear.specs.Linear.{Linear, columns, value, IsMet}
-use Rattle.tv_linear.specs.Arithmetic.{plus, opposite, column_row}
-use Rattle.tv_linear.specs.Known.{Term, kept, put, term_value}
+use Rattle.tv_linear.specs.Arithmetic.{opposite, column_row}
+use Rattle.tv_linear.specs.Known.{Term, put, term_value}
 use Rattle.tv_linear.specs.Terms.{table, update_of, terms_after}
 use Rattle.tv_linear.specs.declared.region.Update.{Update}
 use Rattle.tv_linear.proofs.Entries.{columns-plus, columns-opposite}
 use Rattle.tv_linear.proofs.PlainLists.{length-unit}
 use Rattle.tv_linear.proofs.RowValues.{value-plus, value-opposite, value-column_row}
-use Rattle.tv_program.specs.Steps.{State}
-use Rattle.tv_cases.specs.LinearCases.{LinearCase, CaseSystem, IsCase, CaseDoes, ascends}
+use Rattle.tv_cases.specs.LinearCases.{LinearCase, CaseSystem, IsCase, ascends}
 use Rattle.tv_cert.proofs.PieceLemmas.{test_true, test_false, true_test}
 use Rattle.tv_farkas.specs.Paths.{IsWholePoint}
-use Rattle.tv_known.specs.Cycles.{IsInitialAt}
 use Rattle.tv_recur.specs.Making.{rows_put, drawn_terms}
 use Rattle.tv_recur.specs.Owing.{Enters, IsLeft}
 use Rattle.tv_recur.specs.Staying.{added, taken_off, unchanged_rows, staying_rows, NeverStays}
@@ -158,10 +155,10 @@ each_kept xs ds all (u ∷ us) e l h =
     let k = All-head (λ u. u.variable < length xs) u us l in
     All-cons (Keeps (xs ++ ds)) u us
     (sym (
-      front xs ds u.variable k
-      ∙ ap (λ ys. get_or ys u.variable (pos 0)) (e ∙ map_table (term_value (xs ++ ds)) (length xs) (update_of all))
-      ∙ in_table (length xs) (λ j. term_value (xs ++ ds) (update_of all j)) (pos 0) u.variable k
-      ∙ ap (term_value (xs ++ ds)) (All-head (IsFirst all) u us h)
+    front xs ds u.variable k
+    ∙ ap (λ ys. get_or ys u.variable (pos 0)) (e ∙ map_table (term_value (xs ++ ds)) (length xs) (update_of all))
+    ∙ in_table (length xs) (λ j. term_value (xs ++ ds) (update_of all j)) (pos 0) u.variable k
+    ∙ ap (term_value (xs ++ ds)) (All-head (IsFirst all) u us h)
     ))
     (each_kept xs ds all us e (All-tail (λ u. u.variable < length xs) u us l) (All-tail (IsFirst all) u us h))
 

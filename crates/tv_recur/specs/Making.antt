@@ -1,5 +1,5 @@
 -- Rows made of others: before a case, and with numbers put in for the draws.
-use Rattle.std.specs.Prelude.{◌≡◌, ℕ, ◌+◌, ◌≤◌, List, ◌++◌, map, Contains, All, ℤ, Result, Err}
+use Rattle.std.specs.Prelude.{◌≡◌, ℕ, ◌+◌, ◌≤◌, List, ◌++◌, map, Contains, All, ℤ, Err}
 use Rattle.tv_linear.specs.Linear.{Linear, columns}
 use Rattle.tv_linear.specs.Arithmetic.{constant_row, composed}
 use Rattle.tv_linear.specs.Fits.{FitsComposed, GivesComposed}

@@ -1,6 +1,6 @@
 -- The rows that a case owes on entering rows, with numbers for its draws.
-use Rattle.std.specs.Prelude.{◌≡◌, ℕ, List, [], ◌∷◌, ◌++◌, length, map, slice_get, Some, All, ℤ, ◌^◌, ◌<◌, ◌≤◌}
-use Rattle.tv_linear.specs.Linear.{Linear, columns, IsMet, IsWithin}
+use Rattle.std.specs.Prelude.{◌≡◌, ℕ, List, ◌++◌, length, map, slice_get, Some, All, ℤ, ◌^◌, ◌<◌, ◌≤◌}
+use Rattle.tv_linear.specs.Linear.{Linear, IsMet, IsWithin}
 use Rattle.tv_linear.specs.Known.{term_value}
 use Rattle.tv_linear.specs.Terms.{terms_after}
 use Rattle.tv_cases.specs.LinearCases.{LinearCase}

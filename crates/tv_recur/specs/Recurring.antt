@@ -1,5 +1,4 @@
 -- Recurrences that are found.
-use Rattle.std.specs.Prelude.{List}
 use Rattle.tv_cases.specs.LinearCases.{CaseSystem}
 use Rattle.tv_cert.specs.Claims.{about_with}
 use Rattle.tv_cert.specs.Nodes.{pieces_of}

@@ -55,11 +55,7 @@ fn split_of(
 }
 
 /// The choice that takes the case into the piece.
-fn take_of(
-    alloc: Global,
-    entered: &Entered,
-    lines: &[Vec<i64>],
-) -> Result<ChoiceTree, AllocError>
+fn take_of(alloc: Global, entered: &Entered, lines: &[Vec<i64>]) -> Result<ChoiceTree, AllocError>
     ensures { IfOk result (IsTakeOf entered.now lines.now) }
 {
     let mut draws = Vec::new(alloc);

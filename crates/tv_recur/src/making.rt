@@ -49,11 +49,7 @@ pub(crate) fn rows_before(
 }
 
 /// The rows with a term put in for each of their columns.
-pub(crate) fn rows_put(
-    alloc: Global,
-    rows: &[Row],
-    terms: &[Row],
-) -> Result<Vec<Row>, CoverFault>
+pub(crate) fn rows_put(alloc: Global, rows: &[Row], terms: &[Row]) -> Result<Vec<Row>, CoverFault>
     requires each { All (λ r. width r ≡ length terms.now) rows.now }
     requires even { All (λ t. width t ≡ width_of terms.now) terms.now }
     ensures rows { IfOk result (λ v. ArePut terms.now rows.now v.items) }

@@ -1,4 +1,4 @@
-use Rattle.std.proofs.Common.{◌≡◌, ◌∙◌, ◌+◌, List, [], ◌∷◌, length, take, drop, All, arith, ap, sym, subst}
+use Rattle.std.proofs.Common.{◌≡◌, ◌∙◌, ◌+◌, [], ◌∷◌, length, take, drop, All, arith, ap, sym, subst}
 use Rattle.tv_linear.specs.Linear.{columns, IsWithin, IsMet}
 use Rattle.tv_cases.specs.Systems.{cases_of}
 use Rattle.tv_cases.specs.Views.{case_view}
@@ -23,7 +23,7 @@ rows_put-requires-clause-each c =
     let good = among_case about kept c.args.search.now.about.now.are_cases c.requires.among in
     let wide = undrawn_wide about.variables kept c.requires.kept.no_draws good.guards in
     let s = split_point v case.draws c.args.entry.now.point.items xs ds
-        (e.point_is.width ∙ ap (λ k. k + case.draws) (sym c.variables-variables.ensures.same)) e.short (c.split_at.ensures.front ∙ ap (take v) c.deref.ensures.value) (c.split_at.ensures.back ∙ ap (drop v) c.deref.ensures.value) in
+    (e.point_is.width ∙ ap (λ k. k + case.draws) (sym c.variables-variables.ensures.same)) e.short (c.split_at.ensures.front ∙ ap (take v) c.deref.ensures.value) (c.split_at.ensures.back ∙ ap (drop v) c.deref.ensures.value) in
     let own = case_is about c.args.entry.now.number case c.args.search.now.about.now.are_cases c.in-Some.ensures in
     terms_each about.variables v case.draws ds c.deref-3.result.now rows rows c.variables-variables.ensures.same (c.deref-3.ensures.value ∙ c.in_ok-terms.ensures) s.drawn (λ i. rows)
     (entering_wide about.variables case kept.guards rows e.entering own.guards own.terms wide)
@@ -43,7 +43,7 @@ leading-requires-clause-taking c =
     let rows = c.deref-2.result.now in
     let e = entry_by about kept c.args.entry.now case rows c.requires.entry c.in-Some.ensures c.deref-2.ensures.value in
     let s = split_point v case.draws c.args.entry.now.point.items xs ds
-        (e.point_is.width ∙ ap (λ k. k + case.draws) (sym c.variables-variables.ensures.same)) e.short (c.split_at.ensures.front ∙ ap (take v) c.deref.ensures.value) (c.split_at.ensures.back ∙ ap (drop v) c.deref.ensures.value) in
+    (e.point_is.width ∙ ap (λ k. k + case.draws) (sym c.variables-variables.ensures.same)) e.short (c.split_at.ensures.front ∙ ap (take v) c.deref.ensures.value) (c.split_at.ensures.back ∙ ap (drop v) c.deref.ensures.value) in
     record { found = c.in-Some.ensures; counted = s.drawn; narrow = s.draws; near = omega arith; splits = c.requires.splits }
 
 pub leading-requires-clause-even : goal.leading-requires-clause-even
@@ -86,7 +86,7 @@ unreachable-requires-in-Ok-None c =
     let good = among_case about kept c.args.search.now.about.now.are_cases c.requires.among in
     let wide = undrawn_wide about.variables kept c.requires.kept.no_draws good.guards in
     let s = split_point v case.draws c.args.entry.now.point.items xs ds
-        (e.point_is.width ∙ ap (λ k. k + case.draws) (sym c.variables-variables.ensures.same)) e.short (c.split_at.ensures.front ∙ ap (take v) c.deref.ensures.value) (c.split_at.ensures.back ∙ ap (drop v) c.deref.ensures.value) in
+    (e.point_is.width ∙ ap (λ k. k + case.draws) (sym c.variables-variables.ensures.same)) e.short (c.split_at.ensures.front ∙ ap (take v) c.deref.ensures.value) (c.split_at.ensures.back ∙ ap (drop v) c.deref.ensures.value) in
     let made = put_is v ds c.deref-3.result.now c.in_ok-terms.terms.items rows c.in-Ok.put.items c.deref-3.ensures.value c.in_ok-terms.ensures c.in-Ok.ensures.rows in
     never_left v case ds kept.guards rows c.in-Ok.put.items c.in-Ok.put.items c.deref-4.result.now e.entering
     (subst (λ k. All (λ r. columns r ≡ k) kept.guards) (sym c.variables-variables.ensures.same) wide)
@@ -124,7 +124,7 @@ returns-in_ok-values-in-Ok-Some c =
     let rows = c.deref-2.result.now in
     let e = entry_by about kept c.args.entry.now case rows c.requires.entry c.in-Some.ensures c.deref-2.ensures.value in
     let s = split_point v case.draws c.args.entry.now.point.items xs ds
-        (e.point_is.width ∙ ap (λ k. k + case.draws) (sym c.variables-variables.ensures.same)) e.short (c.split_at.ensures.front ∙ ap (take v) c.deref.ensures.value) (c.split_at.ensures.back ∙ ap (drop v) c.deref.ensures.value) in
+    (e.point_is.width ∙ ap (λ k. k + case.draws) (sym c.variables-variables.ensures.same)) e.short (c.split_at.ensures.front ∙ ap (take v) c.deref.ensures.value) (c.split_at.ensures.back ∙ ap (drop v) c.deref.ensures.value) in
     let made = put_is v ds c.deref-3.result.now c.in_ok-terms.terms.items rows c.in-Ok.put.items c.deref-3.ensures.value c.in_ok-terms.ensures c.in-Ok.ensures.rows in
     let node = c.in_ok-root-in-Ok-Some.ensures in
     let first = on_piece about.variables about.start c.deref-in-Ok-Some.result.now in

@@ -1,6 +1,5 @@
 use Rattle.std.proofs.Common.{◌∙◌, ap, sym}
 use Rattle.tv_linear.specs.Linear.{columns}
-use Rattle.tv_linear.specs.Arithmetic.{opposite, column_row}
 use Rattle.tv_linear.proofs.Entries.{columns-opposite}
 use Rattle.tv_linear.proofs.PlainLists.{length-unit}
 use Rattle.tv_recur.proofs.staying.push_unchanged.Goals as goal

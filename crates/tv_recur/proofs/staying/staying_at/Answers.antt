@@ -1,14 +1,12 @@
-use Rattle.std.proofs.Common.{◌≡◌, ◌∙◌, ◌+◌, List, [], ◌∷◌, length, All, arith, ap, sym, subst}
-use Rattle.tv_linear.specs.Linear.{Linear, columns, IsWithin, IsMet}
-use Rattle.tv_cases.specs.LinearCases.{LinearCase}
+use Rattle.std.proofs.Common.{◌≡◌, ◌∙◌, ◌+◌, [], ◌∷◌, length, All, arith, ap, sym, subst}
+use Rattle.tv_linear.specs.Linear.{columns, IsWithin, IsMet}
 use Rattle.tv_cases.specs.Systems.{cases_of}
 use Rattle.tv_cases.specs.Views.{case_view}
-use Rattle.tv_recur.specs.Making.{rows_put, drawn_terms}
 use Rattle.tv_recur.specs.Nodes.{on_piece}
 use Rattle.tv_recur.specs.Staying.{staying_rows}
 use Rattle.tv_recur.proofs.KeepLemmas.{inside_piece, first_there}
 use Rattle.tv_recur.proofs.OwedLemmas.{terms_each, terms_even}
-use Rattle.tv_recur.proofs.PointLemmas.{IsSplit, split_point, put_is, put_even, split_met}
+use Rattle.tv_recur.proofs.PointLemmas.{split_point, put_is, put_even, split_met}
 use Rattle.tv_recur.proofs.ReadLemmas.{case_is}
 use Rattle.tv_recur.proofs.StayLemmas.{never_left, staying_wide}
 use Rattle.tv_recur.proofs.staying.staying_at.Goals as goal
@@ -20,7 +18,7 @@ rows_put-requires-clause-each c =
     let good = case_is about c.args.number case c.args.search.now.about.now.are_cases c.requires.found in
     let e = c.variables-variables.ensures.same in
     let s = split_point c.variables-variables.result case.draws c.args.point.now c.split_at.result.0.now c.split_at.result.1.now
-        (c.requires.point.width ∙ ap (λ k. k + case.draws) (sym e)) c.requires.short c.split_at.ensures.front c.split_at.ensures.back in
+    (c.requires.point.width ∙ ap (λ k. k + case.draws) (sym e)) c.requires.short c.split_at.ensures.front c.split_at.ensures.back in
     terms_each about.variables c.variables-variables.result case.draws c.split_at.result.1.now c.deref.result.now c.args.rows.now c.args.rows.now e
     (c.deref.ensures.value ∙ c.in_ok-terms.ensures) s.drawn (λ i. c.args.rows.now) (staying_wide about.variables case c.args.rows.now c.requires.rows good.guards good.terms)
 
@@ -32,7 +30,7 @@ pub leading-requires-clause-taking : goal.leading-requires-clause-taking
 leading-requires-clause-taking c =
     let case = case_view c.args.case.now in
     let s = split_point c.variables-variables.result case.draws c.args.point.now c.split_at.result.0.now c.split_at.result.1.now
-        (c.requires.point.width ∙ ap (λ k. k + case.draws) (sym c.variables-variables.ensures.same)) c.requires.short c.split_at.ensures.front c.split_at.ensures.back in
+    (c.requires.point.width ∙ ap (λ k. k + case.draws) (sym c.variables-variables.ensures.same)) c.requires.short c.split_at.ensures.front c.split_at.ensures.back in
     record { found = c.requires.found; counted = s.drawn; narrow = s.draws; near = omega arith; splits = c.requires.splits }
 
 pub leading-requires-clause-even : goal.leading-requires-clause-even
@@ -51,7 +49,7 @@ unreachable-requires c =
     let case = case_view c.args.case.now in
     let ds = c.split_at.result.1.now in
     let s = split_point v case.draws c.args.point.now c.split_at.result.0.now ds
-        (c.requires.point.width ∙ ap (λ k. k + case.draws) (sym c.variables-variables.ensures.same)) c.requires.short c.split_at.ensures.front c.split_at.ensures.back in
+    (c.requires.point.width ∙ ap (λ k. k + case.draws) (sym c.variables-variables.ensures.same)) c.requires.short c.split_at.ensures.front c.split_at.ensures.back in
     never_left v case ds c.args.rows.now c.in-Ok.put.items c.in-Ok.put.items c.deref-2.result.now
     (c.requires.rows ∙ ap (λ k. staying_rows k case) (sym c.variables-variables.ensures.same))
     (put_is v ds c.deref.result.now c.in_ok-terms.terms.items c.args.rows.now c.in-Ok.put.items c.deref.ensures.value c.in_ok-terms.ensures c.in-Ok.ensures.rows)
@@ -77,7 +75,7 @@ returns c =
     let values = c.in_ok-values-in-Ok-Some.values.items in
     let same : values ≡ xs = c.in_ok-values-in-Ok-Some.ensures.items in
     let s = split_point v case.draws c.args.point.now xs ds
-        (c.requires.point.width ∙ ap (λ k. k + case.draws) (sym c.variables-variables.ensures.same)) c.requires.short c.split_at.ensures.front c.split_at.ensures.back in
+    (c.requires.point.width ∙ ap (λ k. k + case.draws) (sym c.variables-variables.ensures.same)) c.requires.short c.split_at.ensures.front c.split_at.ensures.back in
     let put = c.deref-in-Ok-Some.ensures.value ∙ put_is v ds c.deref.result.now c.in_ok-terms.terms.items c.args.rows.now c.in-Ok.put.items c.deref.ensures.value c.in_ok-terms.ensures c.in-Ok.ensures.rows in
     record {
       fitted = node.fitted;

@@ -1,4 +1,4 @@
-use Rattle.std.proofs.Common.{◌≡◌, arith, ap, ◌∙◌, subst}
+use Rattle.std.proofs.Common.{arith, ap, ◌∙◌}
 use Rattle.tv_linear.specs.Depth.{splits}
 use Rattle.tv_recur.proofs.ChoiceLemmas.{same_depth}
 use Rattle.tv_recur.proofs.taking.taken_by.Goals as goal
