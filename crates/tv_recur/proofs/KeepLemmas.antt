@@ -19,6 +19,7 @@ use Rattle.tv_cert.specs.Pieces.{place_of, rows_of, pieces_at}
 use Rattle.tv_cert.specs.Shapes.{PieceShape}
 use Rattle.tv_cert.proofs.PieceLemmas.{test_true, test_false}
 use Rattle.tv_farkas.specs.Paths.{IsWholePoint}
+use Rattle.tv_farkas.specs.EmptyPaths.{IsWholePointOf}
 use Rattle.tv_farkas.specs.Refuting.{AreShort}
 use Rattle.tv_farkas.specs.declared.fault.CoverFault.{CoverFault}
 use Rattle.tv_known.specs.Cycles.{IsInitialAt}
@@ -172,13 +173,14 @@ pub record IsEntryBy (about : CaseSystem) (kept case : LinearCase) (rows : List 
   pub ends : case.to ≡ kept.from
   pub entering : AreEntering case kept.guards rows
   pub point_is : IsWholePoint (about.variables + case.draws) rows point
+  pub first : IsWholePointOf (about.variables + case.draws) rows point
   pub short : AreShort point
 
 pub entry_by : (about : CaseSystem) (kept : LinearCase) (entry : Entry) (case : LinearCase) (rows : List Linear) → IsEntry about kept entry → slice_get about.cases entry.number ≡ Some case → rows ≡ entry.rows.items → IsEntryBy about kept case rows entry.point.items
 entry_by about kept entry case rows e found f =
     subst (λ z. IsEntryBy about kept z rows entry.point.items) (same_read (slice_get about.cases entry.number) e.case case e.found found)
     (subst (λ z. IsEntryBy about kept e.case z entry.point.items) (sym f)
-    (record { starts = e.starts; ends = e.leads; entering = e.rows; point_is = e.point; short = e.short }))
+    (record { starts = e.starts; ends = e.leads; entering = e.rows; point_is = e.point; first = e.first; short = e.short }))
 
 pub entering_wide : (n : ℕ) (c : LinearCase) (into rows : List Linear) → AreEntering c into rows → All (λ r. columns r ≡ n + c.draws) c.guards → All (λ u. columns u.term ≡ n + c.draws) c.updates → All (λ r. columns r ≡ n) into → All (λ r. columns r ≡ n + c.draws) rows
 entering_wide n c into rows h guards us wide =

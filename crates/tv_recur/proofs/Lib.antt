@@ -11,3 +11,4 @@ pub mod OwedLemmas
 pub mod NodeLemmas
 pub mod StayLemmas
 pub mod KeepLemmas
+pub mod RefusalLemmas

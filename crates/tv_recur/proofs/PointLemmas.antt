@@ -1,5 +1,5 @@
 -- A whole point as values and draws.
-use Rattle.std.proofs.Common.{◌≡◌, ℕ, ◌+◌, ◌-◌, List, ◌++◌, length, length-append, length-drop, take, drop, All, arith, sym, ap, ◌∙◌, subst, ℤ, pos}
+use Rattle.std.proofs.Common.{◌≡◌, ℕ, suc, ◌+◌, ◌-◌, List, [], ◌∷◌, ◌++◌, length, length-append, length-drop, take, drop, get_or, All, arith, sym, ap, ◌∙◌, subst, ℤ, pos}
 use Rattle.std.proofs.lemmas.List.{take-append-drop}
 use Rattle.std.proofs.lemmas.List.Elements.{All-take, All-drop}
 use Rattle.tv_linear.specs.Linear.{Linear, columns, IsMet, IsWithin}
@@ -42,3 +42,11 @@ put_even v ds rows put e = subst (All (λ r. columns r ≡ v)) (sym e) (all_put_
 pub split_met : (v d : ℕ) (zs xs ds : List ℤ) (rows put : List Linear) → IsSplit v d zs xs ds → put ≡ rows_put (drawn_terms v ds) rows → All (IsMet zs) rows → All (IsMet xs) put
 split_met v d zs xs ds rows put h e met =
     subst (All (IsMet xs)) (sym e) (put_met v ds xs h.many rows (subst (λ p. All (IsMet p) rows) (sym h.both) met))
+
+-- ---- a draw of the point
+back : (xs ds : List ℤ) (j : ℕ) → get_or (xs ++ ds) (length xs + j) (pos 0) ≡ get_or ds j (pos 0)
+back [] ds j = ap (λ k. get_or ds k (pos 0)) (let e : 0 + j ≡ j = omega arith in e)
+back (x ∷ xs) ds j = ap (λ k. get_or (x ∷ (xs ++ ds)) k (pos 0)) (let e : suc (length xs) + j ≡ suc (length xs + j) = omega arith in e) ∙ back xs ds j
+
+pub draw_at : (n v d : ℕ) (zs xs ds : List ℤ) → v ≡ n → IsSplit v d zs xs ds → (j : ℕ) → get_or ds j (pos 0) ≡ get_or zs (n + j) (pos 0)
+draw_at n v d zs xs ds e s j = sym (back xs ds j) ∙ (λ i. get_or (s.both i) ((s.many ∙ e) i + j) (pos 0))

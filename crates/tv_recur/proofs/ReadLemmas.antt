@@ -40,3 +40,11 @@ among_case about c all among = All-contains (IsCase about.variables about.locati
 
 pub undrawn_wide : (n : ℕ) (c : LinearCase) → c.draws ≡ 0 → All (λ r. columns r ≡ n + c.draws) c.guards → All (λ r. columns r ≡ n) c.guards
 undrawn_wide n c none h = subst (λ k. All (λ r. columns r ≡ k) c.guards) (let e : n + c.draws ≡ n = omega (arith, none) in e) h
+
+read_get : {A : Type 0} (xs : List A) (k : ℕ) (x : A) → slice_get xs k ≡ Some x → get_or xs k x ≡ x
+read_get [] k x e = absurd cc
+read_get (y ∷ xs) zero x e = cc
+read_get (y ∷ xs) (suc k) x e = read_get xs k x e
+
+pub found_among : {A : Type 0} (xs : List A) (k : ℕ) (x : A) → slice_get xs k ≡ Some x → Contains xs x
+found_among xs k x e = (k, read_inside xs k x e, read_get xs k x e)

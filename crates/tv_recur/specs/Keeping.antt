@@ -3,6 +3,7 @@ use Rattle.std.specs.Prelude.{◌≡◌, ◌≢◌, ℕ, ◌+◌, ◌<◌, List,
 use Rattle.tv_linear.specs.Linear.{Linear, columns}
 use Rattle.tv_linear.specs.declared.choice.ChoiceTree.{ChoiceTree}
 use Rattle.tv_farkas.specs.Paths.{IsWholePoint}
+use Rattle.tv_farkas.specs.EmptyPaths.{IsWholePointOf}
 use Rattle.tv_farkas.specs.Refuting.{AreShort}
 use Rattle.tv_cases.specs.LinearCases.{LinearCase, CaseSystem}
 use Rattle.tv_cases.specs.Views.{case_view}
@@ -35,6 +36,7 @@ pub record IsEntry (about : CaseSystem) (kept : LinearCase) (e : Entry) : Type 0
   pub leads : case.to ≡ kept.from
   pub rows : AreEntering case kept.guards e.rows.items
   pub point : IsWholePoint (about.variables + case.draws) e.rows.items e.point.items
+  pub first : IsWholePointOf (about.variables + case.draws) e.rows.items e.point.items
   pub short : AreShort e.point.items
 
 -- the choice takes a case from the start into the guards of the loop

@@ -5,4 +5,5 @@ pub mod Covering
 pub mod Staying
 pub mod Keeping
 pub mod Nodes
+pub mod Refusing
 pub mod Recurring

@@ -8,6 +8,7 @@ use Rattle.tv_cases.specs.Systems.{cases_of}
 use Rattle.tv_cases.specs.Views.{case_view}
 use Rattle.tv_farkas.specs.Paths.{IsWholePoint}
 use Rattle.tv_recur.specs.Making.{FitsBefore, rows_before, FitsPut, rows_put, drawn_terms}
+use Rattle.tv_recur.specs.Refusing.{MayPut}
 use Rattle.tv_recur.specs.declared.taking.Taking.{Taking}
 
 -- the rows that are owed: the guards, and the rows that are entered before the case, with the numbers put in
@@ -32,10 +33,11 @@ pub record IsLeft (n : ℕ) (c : LinearCase) (ds : List ℤ) (rows into : List L
   pub point : IsWholePoint n rows values
   pub leaves : Enters c ds into values → ⊥
 
--- the case is that of its number, and there is a number below 2^62 in magnitude for each of its draws
+-- the case is that of its number, and there is a number below 2^62 in magnitude for each of its draws, which may be put in
 pub record IsTaking (t : Taking) : Type 0 where
   pub found : slice_get (cases_of t.about.now).cases t.number ≡ Some (case_view t.case.now)
   pub counted : length t.draws.now ≡ t.case.now.draws
   pub narrow : All (IsWithin 62) t.draws.now
+  pub may : MayPut (cases_of t.about.now) (case_view t.case.now) t.draws.now
   pub near : t.place < 2 ^ 32
   pub splits : t.budget.now.splits ≤ 128

@@ -1,6 +1,7 @@
 // Ways to come to a loop at once.
 
 ghost use Rattle.std.specs.Prelude.{◌≡◌, ◌≢◌, ◌∷◌, [], ◌≤◌, All, IfOk, MatchOption, Contains, length};
+ghost use Rattle.std.specs.Result.{IfErr};
 ghost use Rattle.tv_linear.specs.Linear.{columns as width};
 ghost use Rattle.tv_cases.specs.Systems.{cases_of};
 ghost use Rattle.tv_cases.specs.Views.{case_view};
@@ -8,6 +9,8 @@ ghost use Rattle.tv_known.specs.Recurrences.{IsEntered};
 ghost use Rattle.tv_recur.specs.Choosing.{LeadsInto};
 ghost use Rattle.tv_recur.specs.Keeping.{IsKeptBy, AreEntering, IsEntry, IsStem, NoEntryAt, NoEntryBelow};
 ghost use Rattle.tv_recur.specs.Nodes.{on_piece, IsEndlessNode};
+ghost use Rattle.tv_derived.specs.Scopes.{at_location};
+ghost use Rattle.tv_recur.specs.Refusing.{IsRefusal, AreFrom};
 ghost use Rattle.tv_recur.specs.Recurring.{IsRecurrence};
 
 use crate::Recurrence;
@@ -38,7 +41,9 @@ pub(crate) struct Entry {
 fn entering_rows(search: &Search, case: &Case, kept: &Case) -> Result<Vec<Row>, CoverFault>
     requires among { Contains (cases_of search.now.about.now).cases (case_view case.now) }
     requires even { All (λ r. width r ≡ (cases_of search.now.about.now).variables) (case_view kept.now).guards }
-    ensures { IfOk result (λ v. AreEntering (case_view case.now) (case_view kept.now).guards v.items) }
+    requires from { AreFrom (cases_of search.now.about.now) (at_location (case_view case.now).to) 1 (case_view kept.now).guards }
+    ensures entering { IfOk result (λ v. AreEntering (case_view case.now) (case_view kept.now).guards v.items) }
+    ensures refusals { IfErr result (IsRefusal (cases_of search.now.about.now) search.now.budget.now) }
 {
     let mut rows = Vec::new(search.alloc);
     push_copies(search.alloc, &case.guards.rows, &mut rows)?;
@@ -60,9 +65,11 @@ fn entering_rows(search: &Search, case: &Case, kept: &Case) -> Result<Vec<Row>, 
 fn entry_at(search: &Search, kept: &Case, number: u32) -> Result<Option<Entry>, CoverFault>
     requires splits { search.now.budget.now.splits ≤ 128 }
     requires even { All (λ r. width r ≡ (cases_of search.now.about.now).variables) (case_view kept.now).guards }
-    ensures { let cases = cases_of search.now.about.now in
+    requires from { AreFrom (cases_of search.now.about.now) (at_location (case_view kept.now).from) 1 (case_view kept.now).guards }
+    ensures found { let cases = cases_of search.now.about.now in
         let goal = case_view kept.now in
         IfOk result (λ found. MatchOption found (NoEntryAt cases goal number) (IsEntry cases goal)) }
+    ensures refusals { IfErr result (IsRefusal (cases_of search.now.about.now) search.now.budget.now) }
 {
     let Some(case) = case_of(search.about, number) else {
         return Ok(None);
@@ -90,9 +97,11 @@ fn entry_at(search: &Search, kept: &Case, number: u32) -> Result<Option<Entry>, 
 fn first_entry(search: &Search, kept: &Case) -> Result<Option<Entry>, CoverFault>
     requires splits { search.now.budget.now.splits ≤ 128 }
     requires even { All (λ r. width r ≡ (cases_of search.now.about.now).variables) (case_view kept.now).guards }
-    ensures { let cases = cases_of search.now.about.now in
+    requires from { AreFrom (cases_of search.now.about.now) (at_location (case_view kept.now).from) 1 (case_view kept.now).guards }
+    ensures found { let cases = cases_of search.now.about.now in
         let goal = case_view kept.now in
         IfOk result (λ found. MatchOption found (NoEntryBelow cases goal (length cases.cases)) (IsEntry cases goal)) }
+    ensures refusals { IfErr result (IsRefusal (cases_of search.now.about.now) search.now.budget.now) }
 {
     let count = search.about.list().len() as u32;
     'numbers: for number in 0..count {
@@ -152,7 +161,8 @@ fn enter_by(
     requires away { (case_view kept.now).from ≢ (cases_of search.now.about.now).start }
     requires kept { IsKeptBy (cases_of search.now.about.now) (case_view kept.now) choice }
     requires entry { IsEntry (cases_of search.now.about.now) (case_view kept.now) entry.now }
-    ensures { IfOk result (IsRecurrence (cases_of search.now.about.now)) }
+    ensures found { IfOk result (IsRecurrence (cases_of search.now.about.now)) }
+    ensures refusals { IfErr result (IsRefusal (cases_of search.now.about.now) search.now.budget.now) }
 {
     let alloc = search.alloc;
     let Some(case) = case_of(search.about, entry.number) else {
@@ -208,8 +218,9 @@ fn enter_here(
     requires among { Contains (cases_of search.now.about.now).cases (case_view kept.now) }
     requires here { (case_view kept.now).from ≡ (cases_of search.now.about.now).start }
     requires kept { IsKeptBy (cases_of search.now.about.now) (case_view kept.now) choice }
-    ensures { let cases = cases_of search.now.about.now in
+    ensures found { let cases = cases_of search.now.about.now in
         IfOk result (λ found. MatchOption found (IsEntered cases (case_view kept.now) → ⊥) (IsRecurrence cases)) }
+    ensures refusals { IfErr result (IsRefusal (cases_of search.now.about.now) search.now.budget.now) }
 {
     let columns = search.about.variables();
     let rows = &kept.guards.rows;
@@ -236,8 +247,9 @@ pub(crate) fn enter(
     requires splits { search.now.budget.now.splits ≤ 128 }
     requires among { Contains (cases_of search.now.about.now).cases (case_view kept.now) }
     requires kept { IsKeptBy (cases_of search.now.about.now) (case_view kept.now) choice }
-    ensures { let cases = cases_of search.now.about.now in
+    ensures found { let cases = cases_of search.now.about.now in
         IfOk result (λ found. MatchOption found (IsEntered cases (case_view kept.now) → ⊥) (IsRecurrence cases)) }
+    ensures refusals { IfErr result (IsRefusal (cases_of search.now.about.now) search.now.budget.now) }
 {
     if kept.from == search.about.start() {
         return enter_here(search, kept, choice);

@@ -1,10 +1,12 @@
 // Loops whose guards hold again.
 
 ghost use Rattle.std.specs.Prelude.{◌≡◌, ◌≤◌, IfOk, MatchOption, Some, slice_get};
+ghost use Rattle.std.specs.Result.{IfErr};
 ghost use Rattle.tv_cases.specs.Systems.{cases_of};
 ghost use Rattle.tv_cases.specs.Views.{case_view};
 ghost use Rattle.tv_known.specs.Recurrences.{IsKeptLoop};
 ghost use Rattle.tv_recur.specs.Keeping.{IsKeptBy};
+ghost use Rattle.tv_recur.specs.Refusing.{IsRefusal};
 
 use crate::making::push_copies;
 use crate::taking::{Search, Taking, leading};
@@ -16,9 +18,10 @@ use tv_linear::{Choice, Poly};
 pub(crate) fn keep(search: &Search, case: &Case, number: u32) -> Result<Option<Choice>, CoverFault>
     requires splits { search.now.budget.now.splits ≤ 128 }
     requires found { slice_get (cases_of search.now.about.now).cases number ≡ Some (case_view case.now) }
-    ensures { let cases = cases_of search.now.about.now in
+    ensures found { let cases = cases_of search.now.about.now in
         let taken = case_view case.now in
         IfOk result (λ found. MatchOption found (IsKeptLoop cases taken → ⊥) (IsKeptBy cases taken)) }
+    ensures refusals { IfErr result (IsRefusal (cases_of search.now.about.now) search.now.budget.now) }
 {
     if case.from != case.to || case.draws != 0 {
         return Ok(None);

@@ -1,10 +1,12 @@
 // The search for recurrences.
 
 ghost use Rattle.std.specs.Prelude.{◌≡◌, ◌≤◌, IfOk, IfSome, MatchOption, None, length};
+ghost use Rattle.std.specs.Result.{IfErr};
 ghost use Rattle.tv_cases.specs.Systems.{cases_of};
 ghost use Rattle.tv_known.specs.Recurrences.{HasSimpleRecurrence};
 ghost use Rattle.tv_recur.specs.Staying.{NeverStaysBelow};
 ghost use Rattle.tv_recur.specs.Keeping.{NoLoopAt, NoLoopBelow};
+ghost use Rattle.tv_recur.specs.Refusing.{IsRefusal};
 ghost use Rattle.tv_recur.specs.Recurring.{IsRecurrence};
 
 use crate::Recurrence;
@@ -19,8 +21,9 @@ use tv_farkas::{Budget, CoverFault};
 /// A recurrence from an initial state that steps to itself.
 fn first_stay(search: &Search) -> Result<Option<Recurrence>, CoverFault>
     requires splits { search.now.budget.now.splits ≤ 128 }
-    ensures { let cases = cases_of search.now.about.now in
+    ensures found { let cases = cases_of search.now.about.now in
         IfOk result (λ found. MatchOption found (NeverStaysBelow cases (length cases.cases)) (IsRecurrence cases)) }
+    ensures refusals { IfErr result (IsRefusal (cases_of search.now.about.now) search.now.budget.now) }
 {
     let count = search.about.list().len() as u32;
     'numbers: for number in 0..count {
@@ -36,8 +39,9 @@ fn first_stay(search: &Search) -> Result<Option<Recurrence>, CoverFault>
 /// A recurrence that goes round by the case of a number.
 fn loop_at(search: &Search, number: u32) -> Result<Option<Recurrence>, CoverFault>
     requires splits { search.now.budget.now.splits ≤ 128 }
-    ensures { let cases = cases_of search.now.about.now in
+    ensures found { let cases = cases_of search.now.about.now in
         IfOk result (λ found. MatchOption found (NoLoopAt cases number) (IsRecurrence cases)) }
+    ensures refusals { IfErr result (IsRefusal (cases_of search.now.about.now) search.now.budget.now) }
 {
     match case_of(search.about, number) {
         None => Ok(None),
@@ -52,8 +56,9 @@ fn loop_at(search: &Search, number: u32) -> Result<Option<Recurrence>, CoverFaul
 /// A recurrence that goes round by one case.
 fn first_loop(search: &Search) -> Result<Option<Recurrence>, CoverFault>
     requires splits { search.now.budget.now.splits ≤ 128 }
-    ensures { let cases = cases_of search.now.about.now in
+    ensures found { let cases = cases_of search.now.about.now in
         IfOk result (λ found. MatchOption found (NoLoopBelow cases (length cases.cases)) (IsRecurrence cases)) }
+    ensures refusals { IfErr result (IsRefusal (cases_of search.now.about.now) search.now.budget.now) }
 {
     let count = search.about.list().len() as u32;
     'numbers: for number in 0..count {
@@ -79,6 +84,7 @@ pub fn recur(
     requires splits { budget.now.splits ≤ 128 }
     ensures found { IfOk result (λ found. IfSome found (IsRecurrence (cases_of about.now))) }
     ensures none { IfOk result (λ found. found ≡ None → HasSimpleRecurrence (cases_of about.now) → ⊥) }
+    ensures refusals { IfErr result (IsRefusal (cases_of about.now) budget.now) }
 {
     let search = Search {
         alloc,

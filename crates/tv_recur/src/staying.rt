@@ -1,20 +1,24 @@
 // Steps from an initial state to itself.
 
 ghost use Rattle.std.specs.Prelude.{◌≡◌, ◌+◌, ◌++◌, ◌∷◌, [], ◌-◌, ◌^◌, ◌<◌, ◌≤◌, All, IfOk, MatchOption, Some, slice_get};
+ghost use Rattle.std.specs.Result.{IfErr};
 ghost use Rattle.tv_linear.specs.Linear.{columns as width};
 ghost use Rattle.tv_cases.specs.Systems.{cases_of};
 ghost use Rattle.tv_cases.specs.Views.{case_view};
+ghost use Rattle.tv_farkas.specs.EmptyPaths.{IsWholePointOf};
 ghost use Rattle.tv_farkas.specs.Paths.{IsWholePoint};
 ghost use Rattle.tv_farkas.specs.Refuting.{AreShort};
 ghost use Rattle.tv_recur.specs.Staying.{added, taken_off, unchanged_rows, staying_rows, NeverStaysAt};
 ghost use Rattle.tv_recur.specs.Nodes.{on_piece, IsEndlessNode};
 ghost use Rattle.tv_recur.specs.Choosing.{LeadsInto};
+ghost use Rattle.tv_derived.specs.Scopes.{over_case};
+ghost use Rattle.tv_recur.specs.Refusing.{IsRefusal, AreFrom, IsUnmadeUpdate, IsUnmadeAmong};
 ghost use Rattle.tv_recur.specs.Recurring.{IsRecurrence};
 
 use crate::Recurrence;
 use crate::making::{drawn_terms, handed_on, push_copies, rows_put};
 use crate::node::{endless_node, piece_of};
-use crate::taking::{Search, Taking, case_of, leading};
+use crate::taking::{Search, Taking, case_of, leading, narrow_rows};
 use std::alloc::{AllocError, Global};
 use tv_cases::{Case, Cases};
 use tv_cert::{Node, Proof};
@@ -33,7 +37,8 @@ fn push_unchanged(
     requires few { columns < 2 ^ 32 - 1 }
     requires even { width update.now.term ≡ columns }
     requires inside { update.now.variable < columns }
-    ensures { IfOk result (λ _. rows.new.items ≡ rows.old.items ++ added columns update.now ∷ taken_off columns update.now ∷ []) }
+    ensures pushed { IfOk result (λ _. rows.new.items ≡ rows.old.items ++ added columns update.now ∷ taken_off columns update.now ∷ []) }
+    ensures refusals { IfErr result (IsUnmadeUpdate columns update.now) }
 {
     let column = Row::column(alloc, columns, update.variable)?;
     let more = match update.term.add(alloc, &column.opposite(alloc)?) {
@@ -59,7 +64,8 @@ fn push_all_unchanged(
     requires few { columns < 2 ^ 32 - 1 }
     requires even { All (λ u. width u.term ≡ columns) updates.now }
     requires inside { All (λ u. u.variable < columns) updates.now }
-    ensures { IfOk result (λ _. rows.new.items ≡ rows.old.items ++ unchanged_rows columns updates.now) }
+    ensures pushed { IfOk result (λ _. rows.new.items ≡ rows.old.items ++ unchanged_rows columns updates.now) }
+    ensures refusals { IfErr result (IsUnmadeAmong columns updates.now) }
 {
     'updates: for update in updates {
         match push_unchanged(alloc, columns, update, rows) {
@@ -107,8 +113,11 @@ fn staying_at(
     requires ends { (case_view case.now).to ≡ (cases_of search.now.about.now).start }
     requires rows { rows.now ≡ staying_rows (cases_of search.now.about.now).variables (case_view case.now) }
     requires point { IsWholePoint ((cases_of search.now.about.now).variables + (case_view case.now).draws) rows.now point.now }
+    requires first { IsWholePointOf ((cases_of search.now.about.now).variables + (case_view case.now).draws) rows.now point.now }
     requires short { AreShort point.now }
-    ensures { IfOk result (IsRecurrence (cases_of search.now.about.now)) }
+    requires from { AreFrom (cases_of search.now.about.now) (over_case (case_view case.now)) 1 rows.now }
+    ensures found { IfOk result (IsRecurrence (cases_of search.now.about.now)) }
+    ensures refusals { IfErr result (IsRefusal (cases_of search.now.about.now) search.now.budget.now) }
 {
     let alloc = search.alloc;
     let variables = search.about.variables();
@@ -149,8 +158,9 @@ fn staying_at(
 /// A recurrence by a step from an initial state to itself, by the case of a number.
 pub(crate) fn stay(search: &Search, number: u32) -> Result<Option<Recurrence>, CoverFault>
     requires splits { search.now.budget.now.splits ≤ 128 }
-    ensures { let cases = cases_of search.now.about.now in
+    ensures found { let cases = cases_of search.now.about.now in
         IfOk result (λ found. MatchOption found (NeverStaysAt cases number) (IsRecurrence cases)) }
+    ensures refusals { IfErr result (IsRefusal (cases_of search.now.about.now) search.now.budget.now) }
 {
     let Some(case) = case_of(search.about, number) else {
         return Ok(None);
@@ -165,6 +175,7 @@ pub(crate) fn stay(search: &Search, number: u32) -> Result<Option<Recurrence>, C
         Ok(()) => {}
         Err(fault) => return Err(fault),
     }
+    narrow_rows(&rows);
     match empty(search.alloc, &rows, columns, search.budget) {
         Err(fault) => Err(fault),
         Ok(Emptied::Tree(_)) => Ok(None),

@@ -1,13 +1,17 @@
 // Whether a case leads from each state of some rows into others.
 
-ghost use Rattle.std.specs.Prelude.{◌≡◌, ◌-◌, ◌^◌, ◌<◌, ◌≤◌, All, IfOk, MatchOption, None, Some, slice_get};
+ghost use Rattle.std.specs.Prelude.{◌≡◌, ◌∷◌, [], ◌-◌, ◌^◌, ◌<◌, ◌≤◌, All, IfOk, MatchOption, None, Some, slice_get};
+ghost use Rattle.std.specs.Result.{IfErr};
 ghost use Rattle.tv_linear.specs.Linear.{IsNarrow};
 ghost use Rattle.tv_cases.specs.Systems.{cases_of};
 ghost use Rattle.tv_cases.specs.Views.{case_view};
+ghost use Rattle.tv_cover.specs.Covering.{IsCoverFault};
 ghost use Rattle.tv_cover.specs.Targets.{AreEven};
+ghost use Rattle.tv_derived.specs.Scopes.{at_location};
 ghost use Rattle.tv_recur.specs.Choosing.{LeadsInto};
 ghost use Rattle.tv_recur.specs.Covering.{IsCoveredByOne, IsTakenBy};
 ghost use Rattle.tv_recur.specs.Owing.{IsLeft, IsTaking};
+ghost use Rattle.tv_recur.specs.Refusing.{IsRefusal, AreFrom};
 
 use crate::choosing::{Entered, choice_of};
 use crate::making::numbers_as_rows;
@@ -61,6 +65,7 @@ fn cover_one(
     requires same { AreEven ambient.now.columns target.items }
     requires splits { budget.now.splits ≤ 128 }
     ensures answers { IfOk result (IsCoveredByOne ambient.now.columns ambient.now.rows.items target.items) }
+    ensures refusals { IfErr result (IsCoverFault ambient.now.columns (target.items ∷ []) ambient.now.rows.items budget.now.pivots budget.now.splits) }
 {
     let mut targets = Vec::new(alloc);
     push_item(
@@ -77,7 +82,7 @@ fn cover_one(
 }
 
 /// Each number of the rows is below 2^62 in magnitude.
-fn narrow_rows(rows: &[Row])
+pub(crate) fn narrow_rows(rows: &[Row])
     ensures { All IsNarrow rows.now }
 {
     for row in rows {
@@ -115,10 +120,13 @@ pub(crate) fn leading(
     requires over { from.now.columns ≡ (cases_of taking.now.about.now).variables }
     requires even { AreEven from.now.columns from.now.rows.items }
     requires same { AreEven from.now.columns into.now }
-    ensures { let case = case_view taking.now.case.now in
+    requires derived { AreFrom (cases_of taking.now.about.now) (at_location (case_view taking.now.case.now).from) 2 from.now.rows.items }
+    requires entered { AreFrom (cases_of taking.now.about.now) (at_location (case_view taking.now.case.now).to) 1 into.now }
+    ensures found { let case = case_view taking.now.case.now in
         IfOk result (λ found. MatchOption found
         (IsLeft from.now.columns case taking.now.draws.now from.now.rows.items into.now)
         (LeadsInto (cases_of taking.now.about.now) case taking.now.place from.now.rows.items into.now)) }
+    ensures refusals { IfErr result (IsRefusal (cases_of taking.now.about.now) taking.now.budget.now) }
 {
     let target = match owed(taking, into) {
         Ok(target) => target,

@@ -1,4 +1,4 @@
-use Rattle.std.proofs.Common.{◌≡◌, ◌∙◌, ◌+◌, [], ◌∷◌, length, take, drop, All, arith, ap, sym, subst}
+use Rattle.std.proofs.Common.{◌≡◌, ◌∙◌, ◌+◌, [], ◌∷◌, length, take, drop, All, arith, refl, ap, sym, subst}
 use Rattle.tv_linear.specs.Linear.{columns, IsWithin, IsMet}
 use Rattle.tv_cases.specs.Systems.{cases_of}
 use Rattle.tv_cases.specs.Views.{case_view}
@@ -6,8 +6,12 @@ use Rattle.tv_recur.specs.Choosing.{LeadsInto}
 use Rattle.tv_recur.specs.Nodes.{on_piece}
 use Rattle.tv_recur.proofs.KeepLemmas.{entry_by, entering_wide, never_left, inside_piece, second_there}
 use Rattle.tv_recur.proofs.OwedLemmas.{terms_each, terms_even}
-use Rattle.tv_recur.proofs.PointLemmas.{split_point, put_is, put_even, split_met}
-use Rattle.tv_recur.proofs.ReadLemmas.{case_is, among_case, undrawn_wide}
+use Rattle.tv_recur.proofs.PointLemmas.{draw_at, split_point, put_is, put_even, split_met}
+use Rattle.tv_recur.proofs.ReadLemmas.{found_among, case_is, among_case, undrawn_wide}
+use Rattle.tv_recur.specs.Refusing.{AreFrom}
+use Rattle.tv_derived.specs.Scopes.{at_location, over_case}
+use Rattle.tv_recur.specs.Making.{drawn_terms}
+use Rattle.tv_recur.proofs.RefusalLemmas.{may_put, undrawn_from, entering_from, put_refused, made_from}
 use Rattle.tv_recur.proofs.entering.enter_by.Goals as goal
 
 pub rows_put-requires-clause-each : goal.rows_put-requires-clause-each
@@ -44,7 +48,14 @@ leading-requires-clause-taking c =
     let e = entry_by about kept c.args.entry.now case rows c.requires.entry c.in-Some.ensures c.deref-2.ensures.value in
     let s = split_point v case.draws c.args.entry.now.point.items xs ds
     (e.point_is.width ∙ ap (λ k. k + case.draws) (sym c.variables-variables.ensures.same)) e.short (c.split_at.ensures.front ∙ ap (take v) c.deref.ensures.value) (c.split_at.ensures.back ∙ ap (drop v) c.deref.ensures.value) in
-    record { found = c.in-Some.ensures; counted = s.drawn; narrow = s.draws; near = omega arith; splits = c.requires.splits }
+    let good = among_case about kept c.args.search.now.about.now.are_cases c.requires.among in
+    let wide = undrawn_wide about.variables kept c.requires.kept.no_draws good.guards in
+    let b = c.args.search.now.budget.now in
+    let from = subst (λ l. AreFrom about (at_location l) 1 kept.guards) (sym e.ends) (undrawn_from about b kept 1 c.requires.among c.requires.kept.no_draws) in
+    let rows_from = entering_from about b case kept.guards rows (found_among about.cases c.args.entry.now.number case c.in-Some.ensures) wide from e.entering in
+    let may = may_put about c.args.search.now.budget.now 2 case rows c.args.entry.now.point.items ds (about.variables + case.draws) refl rows_from e.first s.drawn
+        (λ j l. draw_at about.variables v case.draws c.args.entry.now.point.items xs ds c.variables-variables.ensures.same s j) in
+    record { found = c.in-Some.ensures; counted = s.drawn; narrow = s.draws; may = may; near = omega arith; splits = c.requires.splits }
 
 pub leading-requires-clause-even : goal.leading-requires-clause-even
 leading-requires-clause-even c =
@@ -91,7 +102,7 @@ unreachable-requires-in-Ok-None c =
     never_left v case ds kept.guards rows c.in-Ok.put.items c.in-Ok.put.items c.deref-4.result.now e.entering
     (subst (λ k. All (λ r. columns r ≡ k) kept.guards) (sym c.variables-variables.ensures.same) wide)
     made (λ i. c.in-Ok.put.items) c.deref-4.ensures.value s.drawn
-    (rw c.in-Ok-None.field-0-is at c.in-Ok-None.ensures)
+    (rw c.in-Ok-None.field-0-is at c.in-Ok-None.ensures.found)
 
 pub stem_node-requires-clause-stem : goal.stem_node-requires-clause-stem
 stem_node-requires-clause-stem c =
@@ -104,7 +115,7 @@ stem_node-requires-clause-stem c =
     let rows = c.deref-2.result.now in
     let e = entry_by about kept c.args.entry.now case rows c.requires.entry c.in-Some.ensures c.deref-2.ensures.value in
     let made = put_is v ds c.deref-3.result.now c.in_ok-terms.terms.items rows c.in-Ok.put.items c.deref-3.ensures.value c.in_ok-terms.ensures c.in-Ok.ensures.rows in
-    let leads = rw c.in-Ok-Some.field-0-is at c.in-Ok-Some.ensures in
+    let leads = rw c.in-Ok-Some.field-0-is at c.in-Ok-Some.ensures.found in
     record {
       starts = e.starts;
       ends = e.ends;
@@ -113,8 +124,8 @@ stem_node-requires-clause-stem c =
       leads = subst (λ z. LeadsInto about case 0 z kept.guards c.in-Ok-Some.taken) (sym c.deref-in-Ok-Some.ensures.value) (subst (λ z. LeadsInto about case 0 c.in-Ok.put.items z c.in-Ok-Some.taken) c.deref-4.ensures.value leads);
     }
 
-pub returns-in_ok-values-in-Ok-Some : goal.returns-in_ok-values-in-Ok-Some
-returns-in_ok-values-in-Ok-Some c =
+pub returns-in_ok-values-in-Ok-Some-clause-found : goal.returns-in_ok-values-in-Ok-Some-clause-found
+returns-in_ok-values-in-Ok-Some-clause-found c =
     let about = cases_of c.args.search.now.about.now in
     let kept = case_view c.args.kept.now in
     let case = case_view c.in-Some.case.now in
@@ -138,3 +149,69 @@ returns-in_ok-values-in-Ok-Some c =
           (subst (All (IsWithin 62)) (sym same) s.values)
           (subst (λ ys. All (IsMet ys) c.deref-in-Ok-Some.result.now) (sym same) (split_met v case.draws c.args.entry.now.point.items xs ds rows c.deref-in-Ok-Some.result.now s (c.deref-in-Ok-Some.ensures.value ∙ made) e.point_is.met));
     }
+
+pub returns-in-Err-clause-refusals : goal.returns-in-Err-clause-refusals
+returns-in-Err-clause-refusals c =
+    let about = cases_of c.args.search.now.about.now in
+    let kept = case_view c.args.kept.now in
+    let case = case_view c.in-Some.case.now in
+    let v = c.variables-variables.result in
+    let xs = c.split_at.result.0.now in
+    let ds = c.split_at.result.1.now in
+    let rows = c.deref-2.result.now in
+    let e = entry_by about kept c.args.entry.now case rows c.requires.entry c.in-Some.ensures c.deref-2.ensures.value in
+    let s = split_point v case.draws c.args.entry.now.point.items xs ds
+    (e.point_is.width ∙ ap (λ k. k + case.draws) (sym c.variables-variables.ensures.same)) e.short (c.split_at.ensures.front ∙ ap (take v) c.deref.ensures.value) (c.split_at.ensures.back ∙ ap (drop v) c.deref.ensures.value) in
+    let good = among_case about kept c.args.search.now.about.now.are_cases c.requires.among in
+    let wide = undrawn_wide about.variables kept c.requires.kept.no_draws good.guards in
+    let b = c.args.search.now.budget.now in
+    let from = subst (λ l. AreFrom about (at_location l) 1 kept.guards) (sym e.ends) (undrawn_from about b kept 1 c.requires.among c.requires.kept.no_draws) in
+    let rows_from = entering_from about b case kept.guards rows (found_among about.cases c.args.entry.now.number case c.in-Some.ensures) wide from e.entering in
+    let may = may_put about c.args.search.now.budget.now 2 case rows c.args.entry.now.point.items ds (about.variables + case.draws) refl rows_from e.first s.drawn
+        (λ j l. draw_at about.variables v case.draws c.args.entry.now.point.items xs ds c.variables-variables.ensures.same s j) in
+    let terms = c.deref-3.ensures.value ∙ c.in_ok-terms.ensures ∙ ap (λ k. drawn_terms k ds) c.variables-variables.ensures.same in
+    put_refused about b case ds s.drawn may rows c.deref-3.result.now c.in-Err.fault terms rows_from c.in-Err.ensures.refusals
+
+pub leading-requires-clause-derived : goal.leading-requires-clause-derived
+leading-requires-clause-derived c =
+    let about = cases_of c.args.search.now.about.now in
+    let kept = case_view c.args.kept.now in
+    let case = case_view c.in-Some.case.now in
+    let v = c.variables-variables.result in
+    let xs = c.split_at.result.0.now in
+    let ds = c.split_at.result.1.now in
+    let rows = c.deref-2.result.now in
+    let e = entry_by about kept c.args.entry.now case rows c.requires.entry c.in-Some.ensures c.deref-2.ensures.value in
+    let s = split_point v case.draws c.args.entry.now.point.items xs ds
+    (e.point_is.width ∙ ap (λ k. k + case.draws) (sym c.variables-variables.ensures.same)) e.short (c.split_at.ensures.front ∙ ap (take v) c.deref.ensures.value) (c.split_at.ensures.back ∙ ap (drop v) c.deref.ensures.value) in
+    let good = among_case about kept c.args.search.now.about.now.are_cases c.requires.among in
+    let wide = undrawn_wide about.variables kept c.requires.kept.no_draws good.guards in
+    let b = c.args.search.now.budget.now in
+    let from = subst (λ l. AreFrom about (at_location l) 1 kept.guards) (sym e.ends) (undrawn_from about b kept 1 c.requires.among c.requires.kept.no_draws) in
+    let rows_from = entering_from about b case kept.guards rows (found_among about.cases c.args.entry.now.number case c.in-Some.ensures) wide from e.entering in
+    let may = may_put about c.args.search.now.budget.now 2 case rows c.args.entry.now.point.items ds (about.variables + case.draws) refl rows_from e.first s.drawn
+        (λ j l. draw_at about.variables v case.draws c.args.entry.now.point.items xs ds c.variables-variables.ensures.same s j) in
+    let terms = c.deref-3.ensures.value ∙ c.in_ok-terms.ensures ∙ ap (λ k. drawn_terms k ds) c.variables-variables.ensures.same in
+    made_from about b 2 case ds s.drawn may c.deref-3.result.now rows c.in-Ok.put.items terms rows_from c.in-Ok.ensures.rows
+
+pub leading-requires-clause-entered : goal.leading-requires-clause-entered
+leading-requires-clause-entered c =
+    let about = cases_of c.args.search.now.about.now in
+    let kept = case_view c.args.kept.now in
+    let case = case_view c.in-Some.case.now in
+    let v = c.variables-variables.result in
+    let xs = c.split_at.result.0.now in
+    let ds = c.split_at.result.1.now in
+    let rows = c.deref-2.result.now in
+    let e = entry_by about kept c.args.entry.now case rows c.requires.entry c.in-Some.ensures c.deref-2.ensures.value in
+    let s = split_point v case.draws c.args.entry.now.point.items xs ds
+    (e.point_is.width ∙ ap (λ k. k + case.draws) (sym c.variables-variables.ensures.same)) e.short (c.split_at.ensures.front ∙ ap (take v) c.deref.ensures.value) (c.split_at.ensures.back ∙ ap (drop v) c.deref.ensures.value) in
+    let good = among_case about kept c.args.search.now.about.now.are_cases c.requires.among in
+    let wide = undrawn_wide about.variables kept c.requires.kept.no_draws good.guards in
+    let b = c.args.search.now.budget.now in
+    let from = subst (λ l. AreFrom about (at_location l) 1 kept.guards) (sym e.ends) (undrawn_from about b kept 1 c.requires.among c.requires.kept.no_draws) in
+    let rows_from = entering_from about b case kept.guards rows (found_among about.cases c.args.entry.now.number case c.in-Some.ensures) wide from e.entering in
+    let may = may_put about c.args.search.now.budget.now 2 case rows c.args.entry.now.point.items ds (about.variables + case.draws) refl rows_from e.first s.drawn
+        (λ j l. draw_at about.variables v case.draws c.args.entry.now.point.items xs ds c.variables-variables.ensures.same s j) in
+    let terms = c.deref-3.ensures.value ∙ c.in_ok-terms.ensures ∙ ap (λ k. drawn_terms k ds) c.variables-variables.ensures.same in
+    subst (AreFrom about (at_location case.to) 1) (sym c.deref-4.ensures.value) from
