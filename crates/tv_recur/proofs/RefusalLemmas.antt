@@ -1,5 +1,5 @@
 -- Refusals, in terms of the rows that come from the cases.
-use Rattle.std.proofs.Common.{◌≡◌, inl, inr, ℕ, suc, ◌+◌, ◌<◌, ◌≤◌, List, [], ◌∷◌, ◌++◌, length, map, get_or, All, zero, arith, refl, sym, ap, ◌∙◌, subst, ℤ, pos}
+use Rattle.std.proofs.Common.{◌≡◌, inl, inr, ℕ, suc, ◌+◌, ◌<◌, List, [], ◌∷◌, ◌++◌, length, get_or, All, zero, arith, refl, sym, ap, ◌∙◌, subst, ℤ, pos}
 use Rattle.std.specs.Prelude.{Contains, Ok, Err}
 use Rattle.std.proofs.lemmas.List.{length-map}
 use Rattle.std.proofs.lemmas.List.Elements.{All-nil, All-cons, All-head, All-tail, All-append, All-contains, All-contains_itself, All-weaker}
@@ -20,9 +20,9 @@ use Rattle.tv_derived.specs.Faults.{IsRefusalOf}
 use Rattle.tv_derived.specs.Scopes.{Scope, scope, at_location, over_case, width_at}
 use Rattle.tv_derived.proofs.Carried.{monotone}
 use Rattle.tv_derived.proofs.Steps.{narrow_all, after_step, after_before, after_terms}
-use Rattle.tv_derived.proofs.Listing.{one_of, empty_refusal}
+use Rattle.tv_derived.proofs.Listing.{empty_refusal}
 use Rattle.tv_cover_refusals.proofs.Refusals.{refusal}
-use Rattle.tv_recur.specs.Making.{FitsBefore, rows_before, AreRowsBefore, FitsPut, rows_put, ArePut, number_rows, drawn_terms, IsUnmade, RefusesBefore, RefusesPut}
+use Rattle.tv_recur.specs.Making.{FitsBefore, rows_before, FitsPut, rows_put, ArePut, number_rows, drawn_terms, IsUnmade, RefusesBefore, RefusesPut}
 use Rattle.tv_recur.specs.Keeping.{AreEntering}
 use Rattle.tv_recur.specs.Owing.{AreOwed}
 use Rattle.tv_recur.specs.Refusing.{IsSpent, IsRefusal, AreFrom, MayPut, MayPutAt, IsUnmadeUpdate, IsUnmadeAmong}

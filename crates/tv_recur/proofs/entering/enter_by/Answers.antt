@@ -9,7 +9,7 @@ use Rattle.tv_recur.proofs.OwedLemmas.{terms_each, terms_even}
 use Rattle.tv_recur.proofs.PointLemmas.{draw_at, split_point, put_is, put_even, split_met}
 use Rattle.tv_recur.proofs.ReadLemmas.{found_among, case_is, among_case, undrawn_wide}
 use Rattle.tv_recur.specs.Refusing.{AreFrom}
-use Rattle.tv_derived.specs.Scopes.{at_location, over_case}
+use Rattle.tv_derived.specs.Scopes.{at_location}
 use Rattle.tv_recur.specs.Making.{drawn_terms}
 use Rattle.tv_recur.proofs.RefusalLemmas.{may_put, undrawn_from, entering_from, put_refused, made_from}
 use Rattle.tv_recur.proofs.entering.enter_by.Goals as goal
@@ -54,7 +54,7 @@ leading-requires-clause-taking c =
     let from = subst (λ l. AreFrom about (at_location l) 1 kept.guards) (sym e.ends) (undrawn_from about b kept 1 c.requires.among c.requires.kept.no_draws) in
     let rows_from = entering_from about b case kept.guards rows (found_among about.cases c.args.entry.now.number case c.in-Some.ensures) wide from e.entering in
     let may = may_put about c.args.search.now.budget.now 2 case rows c.args.entry.now.point.items ds (about.variables + case.draws) refl rows_from e.first s.drawn
-        (λ j l. draw_at about.variables v case.draws c.args.entry.now.point.items xs ds c.variables-variables.ensures.same s j) in
+    (λ j l. draw_at about.variables v case.draws c.args.entry.now.point.items xs ds c.variables-variables.ensures.same s j) in
     record { found = c.in-Some.ensures; counted = s.drawn; narrow = s.draws; may = may; near = omega arith; splits = c.requires.splits }
 
 pub leading-requires-clause-even : goal.leading-requires-clause-even
@@ -168,7 +168,7 @@ returns-in-Err-clause-refusals c =
     let from = subst (λ l. AreFrom about (at_location l) 1 kept.guards) (sym e.ends) (undrawn_from about b kept 1 c.requires.among c.requires.kept.no_draws) in
     let rows_from = entering_from about b case kept.guards rows (found_among about.cases c.args.entry.now.number case c.in-Some.ensures) wide from e.entering in
     let may = may_put about c.args.search.now.budget.now 2 case rows c.args.entry.now.point.items ds (about.variables + case.draws) refl rows_from e.first s.drawn
-        (λ j l. draw_at about.variables v case.draws c.args.entry.now.point.items xs ds c.variables-variables.ensures.same s j) in
+    (λ j l. draw_at about.variables v case.draws c.args.entry.now.point.items xs ds c.variables-variables.ensures.same s j) in
     let terms = c.deref-3.ensures.value ∙ c.in_ok-terms.ensures ∙ ap (λ k. drawn_terms k ds) c.variables-variables.ensures.same in
     put_refused about b case ds s.drawn may rows c.deref-3.result.now c.in-Err.fault terms rows_from c.in-Err.ensures.refusals
 
@@ -190,7 +190,7 @@ leading-requires-clause-derived c =
     let from = subst (λ l. AreFrom about (at_location l) 1 kept.guards) (sym e.ends) (undrawn_from about b kept 1 c.requires.among c.requires.kept.no_draws) in
     let rows_from = entering_from about b case kept.guards rows (found_among about.cases c.args.entry.now.number case c.in-Some.ensures) wide from e.entering in
     let may = may_put about c.args.search.now.budget.now 2 case rows c.args.entry.now.point.items ds (about.variables + case.draws) refl rows_from e.first s.drawn
-        (λ j l. draw_at about.variables v case.draws c.args.entry.now.point.items xs ds c.variables-variables.ensures.same s j) in
+    (λ j l. draw_at about.variables v case.draws c.args.entry.now.point.items xs ds c.variables-variables.ensures.same s j) in
     let terms = c.deref-3.ensures.value ∙ c.in_ok-terms.ensures ∙ ap (λ k. drawn_terms k ds) c.variables-variables.ensures.same in
     made_from about b 2 case ds s.drawn may c.deref-3.result.now rows c.in-Ok.put.items terms rows_from c.in-Ok.ensures.rows
 
@@ -212,6 +212,6 @@ leading-requires-clause-entered c =
     let from = subst (λ l. AreFrom about (at_location l) 1 kept.guards) (sym e.ends) (undrawn_from about b kept 1 c.requires.among c.requires.kept.no_draws) in
     let rows_from = entering_from about b case kept.guards rows (found_among about.cases c.args.entry.now.number case c.in-Some.ensures) wide from e.entering in
     let may = may_put about c.args.search.now.budget.now 2 case rows c.args.entry.now.point.items ds (about.variables + case.draws) refl rows_from e.first s.drawn
-        (λ j l. draw_at about.variables v case.draws c.args.entry.now.point.items xs ds c.variables-variables.ensures.same s j) in
+    (λ j l. draw_at about.variables v case.draws c.args.entry.now.point.items xs ds c.variables-variables.ensures.same s j) in
     let terms = c.deref-3.ensures.value ∙ c.in_ok-terms.ensures ∙ ap (λ k. drawn_terms k ds) c.variables-variables.ensures.same in
     subst (AreFrom about (at_location case.to) 1) (sym c.deref-4.ensures.value) from

@@ -1,4 +1,4 @@
-use Rattle.std.proofs.Common.{◌∙◌, [], ◌∷◌, All, sym, subst, ◌≡◌, ap}
+use Rattle.std.proofs.Common.{◌∙◌, [], ◌∷◌, All, sym, subst, ◌≡◌}
 use Rattle.tv_linear.specs.Linear.{IsMet}
 use Rattle.tv_cases.specs.Systems.{cases_of}
 use Rattle.tv_cases.specs.Views.{case_view}

@@ -55,8 +55,8 @@ returns-in-Err-empty-clause-refusals c =
     let b = c.args.search.now.budget.now in
     let case = case_view c.in-Some.case.now in
     let made : c.deref-4.result.now ≡ staying_rows about.variables case =
-        c.deref-4.ensures.value ∙ c.in-Ok.ensures.pushed
-        ∙ (λ i. (c.in_ok-push_copies.ensures ∙ (λ j. c.new-rows.ensures.items j ++ c.deref.ensures.value j)) i ++ unchanged_rows (c.variables.ensures.same i + case.draws) (c.deref-2.ensures.value i)) in
+    c.deref-4.ensures.value ∙ c.in-Ok.ensures.pushed
+    ∙ (λ i. (c.in_ok-push_copies.ensures ∙ (λ j. c.new-rows.ensures.items j ++ c.deref.ensures.value j)) i ++ unchanged_rows (c.variables.ensures.same i + case.draws) (c.deref-2.ensures.value i)) in
     let among = found_among about.cases c.args.number case c.in-Some.ensures in
     let narrow = subst (All IsNarrow) (c.deref-3.ensures.value ∙ sym c.deref-4.ensures.value) c.narrow_rows.ensures in
     let from = staying_from about c.args.search.now.budget.now case among (c.if-case-start.false ∙ c.start.ensures.same) (c.if-case-start-2.false ∙ c.start-else-case-start.ensures.same) c.deref-4.result.now made narrow in
@@ -68,8 +68,8 @@ staying_at-requires-clause-from c =
     let b = c.args.search.now.budget.now in
     let case = case_view c.in-Some.case.now in
     let made : c.deref-4.result.now ≡ staying_rows about.variables case =
-        c.deref-4.ensures.value ∙ c.in-Ok.ensures.pushed
-        ∙ (λ i. (c.in_ok-push_copies.ensures ∙ (λ j. c.new-rows.ensures.items j ++ c.deref.ensures.value j)) i ++ unchanged_rows (c.variables.ensures.same i + case.draws) (c.deref-2.ensures.value i)) in
+    c.deref-4.ensures.value ∙ c.in-Ok.ensures.pushed
+    ∙ (λ i. (c.in_ok-push_copies.ensures ∙ (λ j. c.new-rows.ensures.items j ++ c.deref.ensures.value j)) i ++ unchanged_rows (c.variables.ensures.same i + case.draws) (c.deref-2.ensures.value i)) in
     let among = found_among about.cases c.args.number case c.in-Some.ensures in
     let narrow = subst (All IsNarrow) (c.deref-3.ensures.value ∙ sym c.deref-4.ensures.value) c.narrow_rows.ensures in
     let from = staying_from about c.args.search.now.budget.now case among (c.if-case-start.false ∙ c.start.ensures.same) (c.if-case-start-2.false ∙ c.start-else-case-start.ensures.same) c.deref-4.result.now made narrow in

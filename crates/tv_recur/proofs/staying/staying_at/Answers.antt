@@ -36,7 +36,7 @@ leading-requires-clause-taking c =
     let s = split_point c.variables-variables.result case.draws c.args.point.now c.split_at.result.0.now c.split_at.result.1.now
     (c.requires.point.width ∙ ap (λ k. k + case.draws) (sym c.variables-variables.ensures.same)) c.requires.short c.split_at.ensures.front c.split_at.ensures.back in
     let may = may_put (cases_of c.args.search.now.about.now) c.args.search.now.budget.now 2 case c.args.rows.now c.args.point.now c.split_at.result.1.now ((cases_of c.args.search.now.about.now).variables + case.draws) refl (more_from (cases_of c.args.search.now.about.now) c.args.search.now.budget.now (over_case case) c.args.rows.now c.requires.from) c.requires.first s.drawn
-        (λ j l. draw_at (cases_of c.args.search.now.about.now).variables c.variables-variables.result case.draws c.args.point.now c.split_at.result.0.now c.split_at.result.1.now c.variables-variables.ensures.same s j) in
+    (λ j l. draw_at (cases_of c.args.search.now.about.now).variables c.variables-variables.result case.draws c.args.point.now c.split_at.result.0.now c.split_at.result.1.now c.variables-variables.ensures.same s j) in
     record { found = c.requires.found; counted = s.drawn; narrow = s.draws; may = may; near = omega arith; splits = c.requires.splits }
 
 pub leading-requires-clause-even : goal.leading-requires-clause-even
@@ -99,7 +99,7 @@ drawn_terms-requires-clause-narrow c =
     let v = c.variables-variables.result in
     let ds = c.split_at.result.1.now in
     let s = split_point v case.draws c.args.point.now c.split_at.result.0.now ds
-        (c.requires.point.width ∙ ap (λ k. k + case.draws) (sym c.variables-variables.ensures.same)) c.requires.short c.split_at.ensures.front c.split_at.ensures.back in
+    (c.requires.point.width ∙ ap (λ k. k + case.draws) (sym c.variables-variables.ensures.same)) c.requires.short c.split_at.ensures.front c.split_at.ensures.back in
     s.draws
 
 pub returns-in-Err-clause-refusals : goal.returns-in-Err-clause-refusals
@@ -110,7 +110,7 @@ returns-in-Err-clause-refusals c =
     let v = c.variables-variables.result in
     let ds = c.split_at.result.1.now in
     let s = split_point v case.draws c.args.point.now c.split_at.result.0.now ds
-        (c.requires.point.width ∙ ap (λ k. k + case.draws) (sym c.variables-variables.ensures.same)) c.requires.short c.split_at.ensures.front c.split_at.ensures.back in
+    (c.requires.point.width ∙ ap (λ k. k + case.draws) (sym c.variables-variables.ensures.same)) c.requires.short c.split_at.ensures.front c.split_at.ensures.back in
     let at = λ (j : ℕ) (l : j < case.draws). draw_at about.variables v case.draws c.args.point.now c.split_at.result.0.now ds c.variables-variables.ensures.same s j in
     let terms = c.deref.ensures.value ∙ c.in_ok-terms.ensures ∙ ap (λ k. drawn_terms k ds) c.variables-variables.ensures.same in
     let more = more_from about b (over_case case) c.args.rows.now c.requires.from in
@@ -124,7 +124,7 @@ leading-requires-clause-derived c =
     let v = c.variables-variables.result in
     let ds = c.split_at.result.1.now in
     let s = split_point v case.draws c.args.point.now c.split_at.result.0.now ds
-        (c.requires.point.width ∙ ap (λ k. k + case.draws) (sym c.variables-variables.ensures.same)) c.requires.short c.split_at.ensures.front c.split_at.ensures.back in
+    (c.requires.point.width ∙ ap (λ k. k + case.draws) (sym c.variables-variables.ensures.same)) c.requires.short c.split_at.ensures.front c.split_at.ensures.back in
     let at = λ (j : ℕ) (l : j < case.draws). draw_at about.variables v case.draws c.args.point.now c.split_at.result.0.now ds c.variables-variables.ensures.same s j in
     let terms = c.deref.ensures.value ∙ c.in_ok-terms.ensures ∙ ap (λ k. drawn_terms k ds) c.variables-variables.ensures.same in
     let more = more_from about b (over_case case) c.args.rows.now c.requires.from in
@@ -138,7 +138,7 @@ leading-requires-clause-entered c =
     let v = c.variables-variables.result in
     let ds = c.split_at.result.1.now in
     let s = split_point v case.draws c.args.point.now c.split_at.result.0.now ds
-        (c.requires.point.width ∙ ap (λ k. k + case.draws) (sym c.variables-variables.ensures.same)) c.requires.short c.split_at.ensures.front c.split_at.ensures.back in
+    (c.requires.point.width ∙ ap (λ k. k + case.draws) (sym c.variables-variables.ensures.same)) c.requires.short c.split_at.ensures.front c.split_at.ensures.back in
     let at = λ (j : ℕ) (l : j < case.draws). draw_at about.variables v case.draws c.args.point.now c.split_at.result.0.now ds c.variables-variables.ensures.same s j in
     let terms = c.deref.ensures.value ∙ c.in_ok-terms.ensures ∙ ap (λ k. drawn_terms k ds) c.variables-variables.ensures.same in
     subst (AreFrom about (at_location case.to) 1) (sym c.deref-2.ensures.value)
