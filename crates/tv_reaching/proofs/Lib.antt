@@ -1,0 +1,4 @@
+pub mod ValueLemmas
+pub mod NextLemmas
+pub mod RunLemmas
+pub mod CertificateLemmas

@@ -1,0 +1,83 @@
+-- values of variables after a case
+use Rattle.std.proofs.Common.{◌≡◌, ℕ, zero, suc, ◌+◌, ◌-◌, ◌<◌, ◌≤◌, ◌∙◌, List, [], ◌∷◌, ◌++◌, length, map, take, drop, get_or, All, ℤ, pos, ◌+ℤ◌, ◌*ℤ◌, refl, sym, ap, subst, arith, add-one}
+use Rattle.std.proofs.lemmas.List.Elements.{All-get_or}
+use Rattle.tv_linear.specs.Linear.{IsWithin, dot}
+use Rattle.tv_linear.specs.Known.{term_value}
+use Rattle.tv_linear.specs.Terms.{update_of, table, terms_after}
+use Rattle.tv_linear.specs.declared.region.Update.{Update}
+use Rattle.tv_reaching.specs.FoundRuns.{IsWideAt}
+
+-- ---- lists without their first item
+abbrev pub rest_of : {A : Type 0} → List A → List A
+rest_of xs = take (length xs - 1) (drop 1 xs)
+
+take_whole : {A : Type 0} (xs : List A) → take (length xs) xs ≡ xs
+take_whole [] = refl
+take_whole (x ∷ xs) = ap (λ ys. x ∷ ys) (take_whole xs)
+
+pub rest_is : {A : Type 0} (x : A) (xs : List A) → rest_of (x ∷ xs) ≡ xs
+rest_is x xs =
+    let k : length (x ∷ xs) - 1 ≡ length xs = omega arith in
+    ap (λ j. take j xs) k ∙ take_whole xs
+
+pub length-rest : {A : Type 0} (xs : List A) → 1 ≤ length xs → length (rest_of xs) + 1 ≡ length xs
+length-rest [] l = absurd (omega (arith, l))
+length-rest (x ∷ xs) l = (let e = ap length (rest_is x xs) in omega (arith, e))
+
+-- ---- sums of products
+pub dot_first : (cs xs : List ℤ) (c x : ℤ) → 1 ≤ length cs → 1 ≤ length xs → c ≡ get_or cs 0 (pos 0) → x ≡ get_or xs 0 (pos 0) → dot cs xs ≡ (c *ℤ x) +ℤ dot (rest_of cs) (rest_of xs)
+dot_first [] xs c x h k e f = absurd (omega (arith, h))
+dot_first (d ∷ cs) [] c x h k e f = absurd (omega (arith, k))
+dot_first (d ∷ cs) (y ∷ xs) c x h k e f = (λ i. (sym e i *ℤ sym f i) +ℤ dot (sym (rest_is d cs) i) (sym (rest_is y xs) i))
+
+-- ---- terms one by one
+table-push : {A : Type 0} (n : ℕ) (f : ℕ → A) → table (suc n) f ≡ table n f ++ f n ∷ []
+table-push zero f = refl
+table-push (suc n) f = ap (λ xs. f 0 ∷ xs) (table-push n (λ j. f (suc j)))
+
+map-push : {A B : Type 0} (f : A → B) (xs : List A) (x : A) → map f (xs ++ x ∷ []) ≡ map f xs ++ f x ∷ []
+map-push f [] x = refl
+map-push f (y ∷ xs) x = ap (λ ys. f y ∷ ys) (map-push f xs x)
+
+pub values-push : (point : List ℤ) (us : List Update) (n : ℕ) → map (term_value point) (terms_after (n + 1) us) ≡ map (term_value point) (terms_after n us) ++ term_value point (update_of us n) ∷ []
+values-push point us n =
+    ap (λ k. map (term_value point) (terms_after k us)) (add-one n)
+    ∙ ap (map (term_value point)) (table-push n (update_of us))
+    ∙ map-push (term_value point) (terms_after n us) (update_of us n)
+
+length-table : {A : Type 0} (n : ℕ) (f : ℕ → A) → length (table n f) ≡ n
+length-table zero f = refl
+length-table (suc n) f = ap suc (length-table n (λ j. f (suc j)))
+
+length-mapped : {A B : Type 0} (f : A → B) (xs : List A) → length (map f xs) ≡ length xs
+length-mapped f [] = refl
+length-mapped f (x ∷ xs) = ap suc (length-mapped f xs)
+
+pub length-values : (point : List ℤ) (us : List Update) (n : ℕ) → length (map (term_value point) (terms_after n us)) ≡ n
+length-values point us n = length-mapped (term_value point) (terms_after n us) ∙ length-table n (update_of us)
+
+get_or-table : {A : Type 0} (n : ℕ) (f : ℕ → A) (k : ℕ) (d : A) → k < n → get_or (table n f) k d ≡ f k
+get_or-table zero f k d h = absurd (omega arith)
+get_or-table (suc n) f zero d h = refl
+get_or-table (suc n) f (suc k) d h = get_or-table n (λ j. f (suc j)) k d (omega arith)
+
+get_or-mapped : {A B : Type 0} (f : A → B) (xs : List A) (k : ℕ) (d : A) (e : B) → k < length xs → get_or (map f xs) k e ≡ f (get_or xs k d)
+get_or-mapped f [] k d e h = absurd (omega arith)
+get_or-mapped f (x ∷ xs) zero d e h = refl
+get_or-mapped f (x ∷ xs) (suc k) d e h = get_or-mapped f xs k d e (omega arith)
+
+value_at : (point : List ℤ) (us : List Update) (n v : ℕ) → v < n → get_or (map (term_value point) (terms_after n us)) v (pos 0) ≡ term_value point (update_of us v)
+value_at point us n v h =
+    let l = length-table n (update_of us) in
+    get_or-mapped (term_value point) (terms_after n us) v (update_of us v) (pos 0) (omega (arith, h, l))
+    ∙ ap (term_value point) (get_or-table n (update_of us) v (update_of us v) h)
+
+-- the first value that is too wide
+pub wide_here : (point : List ℤ) (us : List Update) (n v : ℕ) (items : List ℤ) → v < n → items ≡ map (term_value point) (terms_after v us) → All (IsWithin 62) items → ¬ IsWithin 62 (term_value point (update_of us v)) → IsWideAt v (map (term_value point) (terms_after n us))
+wide_here point us n v items h same narrow k = record {
+  inside = (let l = length-values point us n in omega (arith, h, l));
+  wide = subst (λ z. ¬ IsWithin 62 z) (sym (value_at point us n v h)) k;
+  earlier = λ i j. subst (IsWithin 62)
+      (ap (λ zs. get_or zs i (pos 0)) same ∙ value_at point us v i j ∙ sym (value_at point us n i (omega (arith, h, j))))
+      (All-get_or (IsWithin 62) items i (pos 0) (let l = ap length same ∙ length-values point us v in omega (arith, j, l)) narrow);
+}

@@ -1,0 +1,3 @@
+pub mod Sums
+pub mod FoundRuns
+pub mod Making
