@@ -1,5 +1,5 @@
 use crate::file::FILE;
-use crate::texts::{output, says, says_of};
+use crate::texts::{is_accepted, output, says, says_of};
 use crate::words::COUNTDOWN;
 use std::alloc::{AllocError, Global};
 use std::test::Fail;
@@ -51,19 +51,50 @@ fn every_run_ends(rt: HostRuntime) -> Result<(), Fail> {
     Ok(())
 }
 
-/// Programs of which it is not known: the climber, one that idles, and one that no linear terms rank.
-const STUCK: &[&str] = &[CLIMBER, "START: 0; FROM: 0; TO: 0;", FALLING_SUM];
+/// An idle loop behind a guard that no whole number meets: one that is odd and even is found by its rounded bounds.
+const HALF: &str = "START: 0; FROM: 0; assume(2*x == 1); TO: 1; FROM: 1; TO: 1;";
 
+/// Two guards that no whole numbers meet, which no split shows.
+const PARITY: &str =
+    "START: 0; FROM: 0; assume(2*x == y); assume(2*z + 1 == y); TO: 1; FROM: 1; TO: 1;";
+
+/// A countdown by a step that is at least 1 since it is set.
+const STEPPED: &str =
+    "START: 0; FROM: 0; y := 2; TO: 1; FROM: 1; assume(x > 0); x := x - y; TO: 1;";
+
+/// Every run ends, under rows that hold on every run.
 #[test]
-fn no_linear_ranks_are_found(rt: HostRuntime) -> Result<(), Fail> {
-    let line = "Unknown unbuilt\n";
-    for text in STUCK {
+fn ranks_are_found_under_rows_that_hold(rt: HostRuntime) -> Result<(), Fail> {
+    for text in [HALF, STEPPED] {
         assert!(rt;
             says_of(
                 rt.alloc(),
                 &["--termination"],
                 &[text],
-                line,
+                "Proved\n",
+                Status::Proved
+            )?,
+            "{text}"
+        );
+    }
+    Ok(())
+}
+
+/// Programs of which it is not known, and why.
+const STUCK: &[(&str, &str)] = &[
+    (FALLING_SUM, "Unknown rank\ncases 0\n"),
+    (PARITY, "Unknown splits\nsplits 64\n"),
+];
+
+#[test]
+fn no_linear_ranks_are_found(rt: HostRuntime) -> Result<(), Fail> {
+    for (text, lines) in STUCK {
+        assert!(rt;
+            says_of(
+                rt.alloc(),
+                &["--termination"],
+                &[text],
+                lines,
                 Status::Unknown
             )?,
             "{text}"
@@ -152,27 +183,41 @@ fn a_file_with_returns_ends(rt: HostRuntime) -> Result<(), Fail> {
 
 const PROVED: &str = "Proved\n";
 
-/// The program, with a heading, and what was written behind the verdict.
-fn with_certificate(alloc: Global, text: &str, written: &[u8]) -> Result<Vec<u8>, AllocError> {
-    let (_, certificate) = written.split_at(PROVED.len().min(written.len()));
-    let mut given = Vec::from_slice(alloc, text.as_bytes())?;
-    given.extend_from_slice(b"\nCERTIFICATE:\n".as_slice())?;
-    given.extend_from_slice(certificate)?;
-    Ok(given)
-}
-
-/// What is written behind the verdict is a certificate that is accepted.
-fn is_accepted(alloc: Global, text: &str) -> Result<bool, AllocError> {
-    let written = output(alloc, &["--termination", "--certificate"], text)?;
-    let given = with_certificate(alloc, text, &written)?;
-    let words = ["--check", "--termination"];
-    says(alloc, &words, given, PROVED, Status::Proved)
-}
-
 #[test]
 fn certificates_that_are_written_are_accepted(rt: HostRuntime) -> Result<(), Fail> {
     for text in ENDING {
-        assert!(rt; is_accepted(rt.alloc(), text)?, "{text}");
+        assert!(rt;
+            is_accepted(rt.alloc(), &["--termination"], text, PROVED, Status::Proved)?,
+            "{text}"
+        );
+    }
+    for text in [HALF, STEPPED] {
+        assert!(rt;
+            is_accepted(rt.alloc(), &["--termination"], text, PROVED, Status::Proved)?,
+            "{text}"
+        );
+    }
+    Ok(())
+}
+
+/// Programs with runs that never end, and the lines behind the verdict.
+const ENDLESS: &[(&str, &str)] = &[
+    (CLIMBER, "Disproved\nx = 1\n"),
+    ("START: 0; FROM: 0; TO: 0;", "Disproved\n"),
+];
+
+#[test]
+fn runs_that_never_end_are_found(rt: HostRuntime) -> Result<(), Fail> {
+    let words = ["--termination"];
+    for (text, lines) in ENDLESS {
+        assert!(rt;
+            says_of(rt.alloc(), &words, &[text], lines, Status::Disproved)?,
+            "{text}"
+        );
+        assert!(rt;
+            is_accepted(rt.alloc(), &words, text, lines, Status::Disproved)?,
+            "{text}"
+        );
     }
     Ok(())
 }

@@ -20,6 +20,8 @@ mod nodes;
 #[cfg(test)]
 mod outside;
 #[cfg(test)]
+mod proving;
+#[cfg(test)]
 mod safety;
 #[cfg(test)]
 mod texts;

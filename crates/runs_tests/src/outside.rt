@@ -25,7 +25,13 @@ fn a_read_fault_writes_nothing(rt: HostRuntime) -> Result<(), Fail> {
     for call in 1..35u64 {
         let mut source = source(rt.alloc(), 10, call)?;
         let mut sink = sink(rt.alloc(), 4096, 0)?;
-        let status = run(rt.alloc(), &WORDS, &mut source, &mut sink);
+        let status = run(
+            rt.alloc(),
+            &WORDS,
+            &mut source,
+            &mut sink,
+            Vec::new(rt.alloc()),
+        );
         assert!(rt;
             status == Status::ReadFault && sink.written().is_empty(),
             "{call}"
@@ -47,7 +53,13 @@ fn a_write_fault_leaves_a_front(rt: HostRuntime) -> Result<(), Fail> {
     for (call, written, wanted) in WRITES {
         let mut source = source(rt.alloc(), 4096, 0)?;
         let mut sink = sink(rt.alloc(), 3, call)?;
-        let status = run(rt.alloc(), &WORDS, &mut source, &mut sink);
+        let status = run(
+            rt.alloc(),
+            &WORDS,
+            &mut source,
+            &mut sink,
+            Vec::new(rt.alloc()),
+        );
         assert!(rt;
             status == wanted && sink.written() == written.as_bytes(),
             "{call}"

@@ -1,6 +1,33 @@
 use std::alloc::{AllocError, Global};
+use tv_propose::{Bounds, Differences, GuardRows, Proposer};
 use tv_text::{MemSink, MemSource};
 use tv_top::{Status, run};
+
+/// Adds what offers rows of each kind.
+pub(crate) fn add_proposers(
+    alloc: Global,
+    proposers: &mut Vec<Box<dyn Proposer>>,
+) -> Result<(), AllocError> {
+    proposers.push(Box::new(alloc, GuardRows::new(2000))?)?;
+    proposers.push(Box::new(alloc, Bounds::new(2000))?)?;
+    proposers.push(Box::new(alloc, Differences::new(2000))?)?;
+    Ok(())
+}
+
+/// Whether a run with the words on the text, under what these proposers offer, writes this, and ends so.
+pub(crate) fn says_under(
+    alloc: Global,
+    words: &[&str],
+    text: Vec<u8>,
+    proposers: Vec<Box<dyn Proposer>>,
+    written: &str,
+    status: Status,
+) -> Result<bool, AllocError> {
+    let mut source = MemSource::new(text, 4096, Vec::new(alloc));
+    let mut sink = MemSink::new(alloc, 2000, 4096, Vec::new(alloc))?;
+    let found = run(alloc, words, &mut source, &mut sink, proposers);
+    Ok(found == status && sink.written() == written.as_bytes())
+}
 
 /// Whether a run with the words on the text writes this, and ends so.
 pub(crate) fn says(
@@ -10,10 +37,9 @@ pub(crate) fn says(
     written: &str,
     status: Status,
 ) -> Result<bool, AllocError> {
-    let mut source = MemSource::new(text, 4096, Vec::new(alloc));
-    let mut sink = MemSink::new(alloc, 2000, 4096, Vec::new(alloc))?;
-    let found = run(alloc, words, &mut source, &mut sink);
-    Ok(found == status && sink.written() == written.as_bytes())
+    let mut proposers = Vec::new(alloc);
+    add_proposers(alloc, &mut proposers)?;
+    says_under(alloc, words, text, proposers, written, status)
 }
 
 /// The same, of texts in a row.
@@ -32,7 +58,9 @@ pub(crate) fn output(alloc: Global, words: &[&str], text: &str) -> Result<Vec<u8
     let bytes = Vec::from_slice(alloc, text.as_bytes())?;
     let mut source = MemSource::new(bytes, 4096, Vec::new(alloc));
     let mut sink = MemSink::new(alloc, 65536, 4096, Vec::new(alloc))?;
-    run(alloc, words, &mut source, &mut sink);
+    let mut proposers = Vec::new(alloc);
+    add_proposers(alloc, &mut proposers)?;
+    run(alloc, words, &mut source, &mut sink, proposers);
     Vec::from_slice(alloc, sink.written())
 }
 
@@ -124,4 +152,23 @@ pub(crate) fn repeated(
     }
     text.extend_from_slice(end.as_bytes())?;
     Ok(text)
+}
+
+/// Whether the certificate that a run with the words writes behind these lines of its verdict is accepted, with the same lines.
+pub(crate) fn is_accepted(
+    alloc: Global,
+    words: &[&str],
+    text: &str,
+    lines: &str,
+    status: Status,
+) -> Result<bool, AllocError> {
+    let mut asked = Vec::from_slice(alloc, words)?;
+    asked.push("--certificate")?;
+    let written = output(alloc, &asked, text)?;
+    let (verdict, certificate) = written.split_at(lines.len().min(written.len()));
+    let mut given = joined(alloc, &[text, "\nCERTIFICATE:\n"])?;
+    given.extend_from_slice(certificate)?;
+    let mut asked = Vec::from_slice(alloc, words)?;
+    asked.push("--check")?;
+    Ok(verdict == lines.as_bytes() && says(alloc, &asked, given, lines, status)?)
 }

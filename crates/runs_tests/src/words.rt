@@ -70,7 +70,12 @@ const SEARCHES: &[(&[&str], &str, Status)] = &[
         PROVED,
         Status::Proved,
     ),
-    (&["--safety", "1"], UNBUILT, Status::Unknown),
+    (&["--safety", "1"], "Disproved\nx = 1\n", Status::Disproved),
+    (
+        &["--ctl", "[AG](!at(1))"],
+        "Disproved\nx = 1\n",
+        Status::Disproved,
+    ),
     (&["--ctl", "x > 0"], UNBUILT, Status::Unknown),
     (&["--safety", "9"], UNKNOWN, Status::Refused),
     (

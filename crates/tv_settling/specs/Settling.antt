@@ -1,5 +1,4 @@
 -- Certificates that settle what is claimed.
-use Rattle.std.specs.Prelude.{List, ℤ}
 use Rattle.tv_cases.specs.LinearCases.{CaseSystem}
 use Rattle.tv_cert.specs.declared.claim.Claim.{Claim}
 use Rattle.tv_cert.specs.Claims.{about_with, shown}

@@ -12,10 +12,11 @@ use Rattle.tv_formula.specs.Properties.{Property as Formula}
 use Rattle.tv_formula_reader.specs.declared.fault.FormulaFault.{FormulaFault}
 use Rattle.tv_formula_reader.specs.declared.fault.FormulaFault.TheVariants as faults
 use Rattle.tv_top.specs.declared.answer.Answer.{Answer}
-use Rattle.tv_top.specs.declared.answer.Answer.TheVariants.{Proved, Disproved, Obligation, CertificateLine, Words, TooLong, Text, Property, WideEdge, TooManyInEdge, Unsolved, Unbuilt, ReadFault, Memory}
+use Rattle.tv_top.specs.declared.answer.Answer.TheVariants.{Proved, Disproved, Obligation, CertificateLine, Words, TooLong, Text, Property, WideEdge, TooManyInEdge, Unknown, ReadFault, Memory}
 use Rattle.tv_top.specs.Answers.{without_cases, without_property}
 use Rattle.tv_top.specs.Headline.{Given, Asked, Tells, Means, IsAnswer, unasked, too_long, decided, failed, without_memory, most_bytes}
 use Rattle.tv_top.specs.Properties.{IsUnnamed, UnlessMemory}
+use Rattle.tv_top.specs.Finding.{Offers}
 use Rattle.tv_top.specs.Tasks.{Task}
 
 -- more bytes came than are read
@@ -28,32 +29,32 @@ below_index true n m h k = omega (arith, h, k)
 below_index false n m h k = omega (arith, h, k)
 
 -- some bytes came, whatever the answer
-pub came : (words : List (List ℕ)) (old new : Seen) {answer : Answer} → IsAnswer words old new answer → GaveSome old new
-came words old new (unasked none same) = subst (λ s. GaveSome old s) (sym same) (record { bytes = []; gave = gave_nothing old })
-came words old new (too_long asks bytes gave long) = record { bytes = bytes; gave = gave }
-came words old new (decided bytes asks gave end short means) = record { bytes = bytes; gave = gave }
-came words old new (failed asks some) = some
-came words old new (without_memory some) = some
+pub came : (offers : Offers) (words : List (List ℕ)) (old new : Seen) {answer : Answer} → IsAnswer offers words old new answer → GaveSome old new
+came offers words old new (unasked none same) = subst (λ s. GaveSome old s) (sym same) (record { bytes = []; gave = gave_nothing old })
+came offers words old new (too_long asks bytes gave long) = record { bytes = bytes; gave = gave }
+came offers words old new (decided bytes asks gave end short means) = record { bytes = bytes; gave = gave }
+came offers words old new (failed asks some) = some
+came offers words old new (without_memory some) = some
 
 -- the same is meant of the same bytes
-pub means_same : (task : Task) (bytes bytes' : List ℕ) (answer : Answer) → bytes ≡ bytes' → Means task bytes answer → Means task bytes' answer
-means_same task bytes bytes' answer b h = subst (λ (bs : List ℕ). Means task bs answer) b h
+pub means_same : (offers : Offers) (task : Task) (bytes bytes' : List ℕ) (answer : Answer) → bytes ≡ bytes' → Means offers task bytes answer → Means offers task bytes' answer
+means_same offers task bytes bytes' answer b h = subst (λ (bs : List ℕ). Means offers task bs answer) b h
 
 -- what a program without linear cases is answered
-pub no_cases : (task : Task) (bytes : List ℕ) (asked : Asked task bytes) (fault : CaseFault) → IsFaultIn (linear_cases asked.given.program) fault → Means task bytes (without_cases fault)
-no_cases task bytes asked (cases.Wide edge) h = record { asked = asked; fault_is = h }
-no_cases task bytes asked (cases.TooMany edge) h = record { asked = asked; fault_is = h }
-no_cases task bytes asked cases.Memory h = tt
+pub no_cases : (offers : Offers) (task : Task) (bytes : List ℕ) (asked : Asked task bytes) (fault : CaseFault) → IsFaultIn (linear_cases asked.given.program) fault → Means offers task bytes (without_cases fault)
+no_cases offers task bytes asked (cases.Wide edge) h = record { asked = asked; fault_is = h }
+no_cases offers task bytes asked (cases.TooMany edge) h = record { asked = asked; fault_is = h }
+no_cases offers task bytes asked cases.Memory h = tt
 
 -- what words that name no property are answered
-pub no_property : (task : Task) (bytes : List ℕ) (given : Given task bytes) (fault : FormulaFault) → UnlessMemory fault (IsUnnamed given.program task.query fault) → Means task bytes (without_property fault)
-no_property task bytes given (faults.Syntax at) h = record { given = given; unnamed = h }
-no_property task bytes given (faults.UnknownName at) h = record { given = given; unnamed = h }
-no_property task bytes given (faults.NotLinear at) h = record { given = given; unnamed = h }
-no_property task bytes given (faults.Wide at) h = record { given = given; unnamed = h }
-no_property task bytes given (faults.Deep at) h = record { given = given; unnamed = h }
-no_property task bytes given faults.Long h = record { given = given; unnamed = h }
-no_property task bytes given faults.Memory h = tt
+pub no_property : (offers : Offers) (task : Task) (bytes : List ℕ) (given : Given task bytes) (fault : FormulaFault) → UnlessMemory fault (IsUnnamed given.program task.query fault) → Means offers task bytes (without_property fault)
+no_property offers task bytes given (faults.Syntax at) h = record { given = given; unnamed = h }
+no_property offers task bytes given (faults.UnknownName at) h = record { given = given; unnamed = h }
+no_property offers task bytes given (faults.NotLinear at) h = record { given = given; unnamed = h }
+no_property offers task bytes given (faults.Wide at) h = record { given = given; unnamed = h }
+no_property offers task bytes given (faults.Deep at) h = record { given = given; unnamed = h }
+no_property offers task bytes given faults.Long h = record { given = given; unnamed = h }
+no_property offers task bytes given faults.Memory h = tt
 
 -- an answer that is none to a property
 abbrev pub IsElse : Answer → Type 0
@@ -67,51 +68,48 @@ IsElse ReadFault = Unit {0}
 IsElse answer = ⊥
 
 -- is told of no property
-not_told : (checks : Bool) (task : Task) (p : System) (f : Formula) (system : CaseSystem) (text : List ℕ) (answer : Answer) → IsElse answer → Tells checks task p f system text answer → ⊥
-not_told true task p f system text Words e h = h
-not_told true task p f system text TooLong e h = h
-not_told true task p f system text (Text fault) e h = h
-not_told true task p f system text (Property fault) e h = h
-not_told true task p f system text (WideEdge edge) e h = h
-not_told true task p f system text (TooManyInEdge edge) e h = h
-not_told true task p f system text ReadFault e h = h
-not_told true task p f system text (Proved certificate) e h = e
-not_told true task p f system text (Disproved at) e h = e
-not_told true task p f system text (Obligation failing) e h = e
-not_told true task p f system text (CertificateLine line) e h = e
-not_told true task p f system text (Unsolved which fault) e h = e
-not_told true task p f system text Unbuilt e h = e
-not_told true task p f system text Memory e h = e
-not_told false task p f system text Words e h = h
-not_told false task p f system text TooLong e h = h
-not_told false task p f system text (Text fault) e h = h
-not_told false task p f system text (Property fault) e h = h
-not_told false task p f system text (WideEdge edge) e h = h
-not_told false task p f system text (TooManyInEdge edge) e h = h
-not_told false task p f system text ReadFault e h = h
-not_told false task p f system text (Proved certificate) e h = e
-not_told false task p f system text (Disproved at) e h = e
-not_told false task p f system text (Obligation failing) e h = e
-not_told false task p f system text (CertificateLine line) e h = e
-not_told false task p f system text (Unsolved which fault) e h = e
-not_told false task p f system text Unbuilt e h = e
-not_told false task p f system text Memory e h = e
+not_told : (checks : Bool) (offers : Offers) (task : Task) (p : System) (f : Formula) (system : CaseSystem) (text : List ℕ) (answer : Answer) → IsElse answer → Tells checks offers task p f system text answer → ⊥
+not_told true offers task p f system text Words e h = h
+not_told true offers task p f system text TooLong e h = h
+not_told true offers task p f system text (Text fault) e h = h
+not_told true offers task p f system text (Property fault) e h = h
+not_told true offers task p f system text (WideEdge edge) e h = h
+not_told true offers task p f system text (TooManyInEdge edge) e h = h
+not_told true offers task p f system text ReadFault e h = h
+not_told true offers task p f system text (Proved certificate) e h = e
+not_told true offers task p f system text (Disproved at certificate) e h = e
+not_told true offers task p f system text (Obligation failing) e h = e
+not_told true offers task p f system text (CertificateLine line) e h = e
+not_told true offers task p f system text (Unknown cause) e h = e
+not_told true offers task p f system text Memory e h = e
+not_told false offers task p f system text Words e h = h
+not_told false offers task p f system text TooLong e h = h
+not_told false offers task p f system text (Text fault) e h = h
+not_told false offers task p f system text (Property fault) e h = h
+not_told false offers task p f system text (WideEdge edge) e h = h
+not_told false offers task p f system text (TooManyInEdge edge) e h = h
+not_told false offers task p f system text ReadFault e h = h
+not_told false offers task p f system text (Proved certificate) e h = e
+not_told false offers task p f system text (Disproved at certificate) e h = e
+not_told false offers task p f system text (Obligation failing) e h = e
+not_told false offers task p f system text (CertificateLine line) e h = e
+not_told false offers task p f system text (Unknown cause) e h = e
+not_told false offers task p f system text Memory e h = e
 
-module _ (task : Task) (bytes : List ℕ) (asked : Asked task bytes) (system : CaseSystem) (are : linear_cases asked.given.program ≡ Ok system.cases) (of : IsOfProgram asked.given.program system) where
+module _ (offers : Offers) (task : Task) (bytes : List ℕ) (asked : Asked task bytes) (system : CaseSystem) (are : linear_cases asked.given.program ≡ Ok system.cases) (of : IsOfProgram asked.given.program system) where
   abbrev TellsIt : Answer → Type 0
-  TellsIt answer = Tells task.checks task asked.given.program asked.property system asked.given.certificate_text answer
+  TellsIt answer = Tells task.checks offers task asked.given.program asked.property system asked.given.certificate_text answer
 
   no_else : (answer : Answer) → IsElse answer → TellsIt answer → ⊥
-  no_else answer e h = not_told task.checks task asked.given.program asked.property system asked.given.certificate_text answer e h
+  no_else answer e h = not_told task.checks offers task asked.given.program asked.property system asked.given.certificate_text answer e h
 
   -- what is told of the property is meant
-  pub told : (answer : Answer) → TellsIt answer → Means task bytes answer
+  pub told : (answer : Answer) → TellsIt answer → Means offers task bytes answer
   told (Proved certificate) h = record { asked = asked; cases = system; are_cases = are; of_program = of; says = h }
-  told (Disproved at) h = record { asked = asked; cases = system; are_cases = are; of_program = of; says = h }
+  told (Disproved at certificate) h = record { asked = asked; cases = system; are_cases = are; of_program = of; says = h }
   told (Obligation failing) h = record { asked = asked; cases = system; are_cases = are; of_program = of; says = h }
   told (CertificateLine line) h = record { asked = asked; cases = system; are_cases = are; of_program = of; says = h }
-  told (Unsolved which fault) h = record { asked = asked; cases = system; are_cases = are; of_program = of; says = h }
-  told Unbuilt h = record { asked = asked; cases = system; are_cases = are; of_program = of; says = h }
+  told (Unknown cause) h = record { asked = asked; cases = system; are_cases = are; of_program = of; says = h }
   told Memory h = tt
   told Words h = no_else Words tt h
   told TooLong h = no_else TooLong tt h

@@ -1,25 +1,57 @@
-use Rattle.std.proofs.Common.{◌≡◌, ℕ, List, [], ◌∷◌, ◌++◌, subst}
+-- What certificates that were found say, and why there is none.
+use Rattle.std.proofs.Common.{◌≡◌, ◌⊎◌, inl, inr, ℕ, List, [], ◌∷◌, ◌++◌, Bool, Vec, ℤ, refl, sym, subst, All, arith}
+use Rattle.std.specs.Global.{Global}
+use Rattle.std.specs.declared.alloc.AllocError.{AllocError}
+use Rattle.std.specs.Prelude.{Result, Ok, Err, IfOk}
+use Rattle.std.proofs.lemmas.List.Elements.{All-nil, All-cons, All-contains}
 use Rattle.tv_program.specs.Systems.{System}
+use Rattle.tv_formula.specs.Forms.{never_at}
+use Rattle.tv_formula.specs.Normal.{normal}
 use Rattle.tv_formula.specs.Properties.{Property, term}
-use Rattle.tv_formula.specs.Formulas.{property_of}
+use Rattle.tv_cases.specs.LinearCases.{CaseSystem}
+use Rattle.tv_farkas.specs.declared.budget.Budget.{Budget}
+use Rattle.tv_farkas.specs.declared.fault.CoverFault.{CoverFault}
+use Rattle.tv_farkas.specs.declared.fault.CoverFault.TheVariants as covers
+use Rattle.tv_candidates.specs.declared.candidate.Candidate.{Candidate}
 use Rattle.tv_cert.specs.declared.claim.Claim.{Claim}
-use Rattle.tv_cert.specs.Claims.{shown}
+use Rattle.tv_cert.specs.Claims.{IsClaim}
 use Rattle.tv_cert.specs.declared.failing.Failing.{Failing}
 use Rattle.tv_cert.specs.declared.node.Verdict.{Verdict}
-use Rattle.tv_cert.specs.declared.node.Verdict.TheVariants.{Proved, Disproved}
+use Rattle.tv_cert.specs.declared.node.Verdict.TheVariants as verdicts
 use Rattle.tv_cert.specs.FirstFailing.{IsFirstFailing}
 use Rattle.tv_cert.specs.Obligations.{Entry, AllMet}
+use Rattle.tv_shape.specs.declared.certificate.Certificate.{Certificate}
 use Rattle.tv_lexrank.specs.Certified.{SaysProved}
-use Rattle.tv_meaning.specs.Meaning.{HoldsInitially}
+use Rattle.tv_sound.specs.Following.{FollowsFrom}
 use Rattle.tv_sound.specs.Settled.{IsSettled}
-use Rattle.tv_formula.specs.Normal.{normal}
-use Rattle.tv_cases.specs.LinearCases.{CaseSystem}
-use Rattle.tv_lexrank.specs.First.{RefusesFirst}
-use Rattle.tv_lexrank.specs.declared.fault.RankFault.{RankFault}
-use Rattle.tv_lexrank.specs.declared.fault.RankFault.TheVariants as faults
-use Rattle.tv_top.specs.Answers.{IsOfSystem, unsolved}
+use Rattle.tv_settling.specs.declared.fault.EndFault.{EndFault}
+use Rattle.tv_settling.specs.declared.fault.EndFault.TheVariants as ends
+use Rattle.tv_settling.specs.Ends.{IsStuckAlone, IsFirstFault, RefusesFound}
+use Rattle.tv_settling.specs.Refusals.{RefusesSafety}
+use Rattle.tv_recur.specs.Refusing.{IsRefusal}
+use Rattle.tv_search.specs.Answers.{IsKnown, HasNoPoint, IsReached, IsUnsearched}
+use Rattle.tv_search.specs.declared.search_fault.SearchFault.TheVariants as searches
+use Rattle.tv_invariant.specs.Places.{rows_at}
+use Rattle.tv_invariant.proofs.ListLemmas.{all_by, all_before, all_behind}
+use Rattle.tv_causes.specs.CasePaths.{AreCasesAt}
+use Rattle.tv_cases.specs.LinearCases.{LinearCase}
+use Rattle.tv_program.specs.Steps.{State}
+use Rattle.tv_points.specs.declared.fault.PointFault.{PointFault}
+use Rattle.tv_points.specs.declared.fault.PointFault.TheVariants as points
+use Rattle.tv_reaching.specs.FoundRuns.{IsAlong, IsFoundRun, IsRunFault, lists_of}
+use Rattle.tv_reaching.specs.declared.found.Found.{Found}
+use Rattle.tv_recur.proofs.PointLemmas.{short_within}
+use Rattle.tv_search.specs.Runs as searched
+use Rattle.tv_invariant.proofs.PieceLemmas.{in_rows}
+use Rattle.tv_linear.specs.Linear.{columns, IsMet, IsWithin}
+use Rattle.tv_top.specs.declared.cause.Cause.{Cause}
+use Rattle.tv_top.specs.declared.cause.Cause.TheVariants.{Unsolved, Spent, Composed, Unranked, Weak, TooManyPaths, Unbuilt}
+use Rattle.tv_settling.specs.Settling.{IsSettling}
+use Rattle.tv_top.specs.declared.answer.Answer.{Answer}
+use Rattle.tv_top.specs.declared.answer.Answer.TheVariants.{Proved, Disproved, Obligation, CertificateLine, Words, TooLong, Text, Property as Unnamed, WideEdge, TooManyInEdge, Unknown, ReadFault, Memory}
+use Rattle.tv_top.specs.Answers.{ended, uncovered, unknown, too_wide}
 use Rattle.tv_top.specs.Tasks.{Task}
-use Rattle.tv_top.specs.Finding.{Finds}
+use Rattle.tv_top.specs.Finding.{Offers, Finds, Settles, TellsClaim, SaysVerdict, IsTextOf, IsOpenEnd, IsEndFault, alone, round, found, IsSearchFault, IsWeakAt, AreTooManyAt, KeepsFrom, of_ends, of_safety, budget_of}
 
 met_there : (before after : List Entry) (e : Entry) → AllMet (before ++ e ∷ after) → (P : Type 0) → (AllMet (e ∷ after) → P) → P
 met_there [] after e h P f = f h
@@ -29,26 +61,196 @@ met_there (x ∷ before) after e h P f = met_there before after e h.1 P f
 pub none_fails : (es : List Entry) (from : ℕ) (f : Failing) → AllMet es → IsFirstFailing es from f → ⊥
 none_fails es from f all first = met_there first.before first.after first.failing (subst AllMet first.parts all) ⊥ (λ h. first.fails h.0)
 
--- a verdict that says proved gives the property at every initial state
-pub holds_by : (p : System) (f : Property) (verdict : Verdict) → SaysProved verdict → IsSettled p f verdict → HoldsInitially p f
-holds_by p f (Proved start) says h = h
-holds_by p f (Disproved k values) says h = absurd says
+-- ---- what a certificate says
+module _ (writes : Bool) (p : System) (f : Property) (about : CaseSystem) (claim : Claim) (is : IsClaim claim f) (c : Certificate) (settling : IsSettling about claim c) (tells : TellsClaim p f about c) where
+  proved_so : (start : _) (text : List ℕ) → c.verdict ≡ verdicts.Proved start → IsTextOf writes about claim c text → (answer : Answer) → SaysVerdict p (verdicts.Proved start) text answer → Settles writes p f about answer
+  proved_so start text e is_text (Proved certificate) says = record {
+    claim = claim;
+    is_claim = is;
+    certificate = c;
+    fits = settling.of;
+    proved = subst SaysProved (sym e) tt;
+    met = settling.met;
+    holds = subst (IsSettled p f) e tells.settled;
+    is_text = subst (IsTextOf writes about claim c) (sym says) is_text;
+  }
+  proved_so start text e is_text Memory says = tt
+  proved_so start text e is_text (Disproved at certificate) says = absurd says
+  proved_so start text e is_text (Obligation failing) says = absurd says
+  proved_so start text e is_text (CertificateLine line) says = absurd says
+  proved_so start text e is_text Words says = absurd says
+  proved_so start text e is_text TooLong says = absurd says
+  proved_so start text e is_text (Text fault) says = absurd says
+  proved_so start text e is_text (Unnamed fault) says = absurd says
+  proved_so start text e is_text (WideEdge edge) says = absurd says
+  proved_so start text e is_text (TooManyInEdge edge) says = absurd says
+  proved_so start text e is_text (Unknown cause) says = absurd says
+  proved_so start text e is_text ReadFault says = absurd says
 
--- what a certificate that says proved shows is the property's normal form
-pub shown_term : (claim : Claim) (verdict : Verdict) → SaysProved verdict → property_of claim.proved ≡ term → shown claim verdict ≡ term
-shown_term claim (Proved start) says e = e
-shown_term claim (Disproved k values) says e = absurd says
+  disproved_so : (piece : ℕ) (values : Vec ℤ Global) (text : List ℕ) → c.verdict ≡ verdicts.Disproved piece values → IsTextOf writes about claim c text → (answer : Answer) → SaysVerdict p (verdicts.Disproved piece values) text answer → Settles writes p f about answer
+  disproved_so piece values text e is_text (Disproved at certificate) says = record {
+    claim = claim;
+    is_claim = is;
+    certificate = c;
+    fits = settling.of;
+    piece = piece;
+    values = values;
+    says = e;
+    met = settling.met;
+    names = says.0;
+    same = says.1;
+    fails = subst (IsSettled p f) e tells.settled;
+    endless = λ n. subst (FollowsFrom p about c.root) e (tells.followed n);
+    is_text = subst (IsTextOf writes about claim c) (sym says.2) is_text;
+  }
+  disproved_so piece values text e is_text Memory says = tt
+  disproved_so piece values text e is_text (Proved certificate) says = absurd says
+  disproved_so piece values text e is_text (Obligation failing) says = absurd says
+  disproved_so piece values text e is_text (CertificateLine line) says = absurd says
+  disproved_so piece values text e is_text Words says = absurd says
+  disproved_so piece values text e is_text TooLong says = absurd says
+  disproved_so piece values text e is_text (Text fault) says = absurd says
+  disproved_so piece values text e is_text (Unnamed fault) says = absurd says
+  disproved_so piece values text e is_text (WideEdge edge) says = absurd says
+  disproved_so piece values text e is_text (TooManyInEdge edge) says = absurd says
+  disproved_so piece values text e is_text (Unknown cause) says = absurd says
+  disproved_so piece values text e is_text ReadFault says = absurd says
 
--- a linear system that was not settled is what is answered
-pub unsolved_so : (task : Task) (p : System) (f : Property) (about : CaseSystem) (fault : RankFault) → normal f ≡ term → RefusesFirst about task.limits.pivots fault → Finds task p f about (unsolved fault)
-unsolved_so task p f about (faults.Solve system e) n h = (n, h)
-unsolved_so task p f about (faults.Open taken values) n h = tt
-unsolved_so task p f about (faults.Cover e) n h = tt
-unsolved_so task p f about faults.Memory n h = tt
+  -- what the verdict says is so
+  pub said_so : (verdict : Verdict) (text : List ℕ) → c.verdict ≡ verdict → IsTextOf writes about claim c text → (answer : Answer) → SaysVerdict p verdict text answer → Settles writes p f about answer
+  said_so (verdicts.Proved start) text e is_text answer says = proved_so start text e is_text answer says
+  said_so (verdicts.Disproved piece values) text e is_text answer says = disproved_so piece values text e is_text answer says
 
--- without known rows each fault is that of a named system
-pub of_system : (about : CaseSystem) (pivots : ℕ) (fault : RankFault) → RefusesFirst about pivots fault → IsOfSystem fault
-of_system about pivots (faults.Solve system e) h = tt
-of_system about pivots (faults.Open taken values) h = h
-of_system about pivots (faults.Cover e) h = h
-of_system about pivots faults.Memory h = tt
+-- an answer that settles is found
+pub settles_found : (offers : Offers) (task : Task) (p : System) (f : Property) (about : CaseSystem) (answer : Answer) → Settles task.writes p f about answer → Finds offers task p f about answer
+settles_found offers task p f about (Proved certificate) h = h
+settles_found offers task p f about (Disproved at certificate) h = h
+settles_found offers task p f about Memory h = h
+settles_found offers task p f about (Unknown cause) h = absurd h
+settles_found offers task p f about (Obligation failing) h = h
+settles_found offers task p f about (CertificateLine line) h = h
+settles_found offers task p f about Words h = h
+settles_found offers task p f about TooLong h = h
+settles_found offers task p f about (Text fault) h = h
+settles_found offers task p f about (Unnamed fault) h = h
+settles_found offers task p f about (WideEdge edge) h = h
+settles_found offers task p f about (TooManyInEdge edge) h = h
+settles_found offers task p f about ReadFault h = h
+
+-- ---- why it is not known whether every run ends
+module _ (offers : Offers) (task : Task) (p : System) (f : Property) (about : CaseSystem) (n : normal f ≡ term) where
+  abbrev budget : Budget
+  budget = budget_of task.limits
+
+  uncovered_end : (fault : CoverFault) → IsEndFault about (offers about) budget (ends.Cover fault) → Finds offers task p f about (uncovered fault)
+  uncovered_end (covers.Splits path) h = of_ends n h
+  uncovered_end (covers.Solve rows fault) h = of_ends n (inr (rows, refl, h))
+  uncovered_end (covers.Wide column) h = of_ends n h
+  uncovered_end covers.Memory h = tt
+
+  ended_so : (fault : EndFault) → IsEndFault about (offers about) budget fault → Finds offers task p f about (ended fault)
+  ended_so (ends.Solve system fault) h = of_ends n (inl h)
+  ended_so (ends.Cover fault) h = uncovered_end fault h
+  ended_so (ends.Rank set barriers) h = of_ends n h
+  ended_so ends.Memory h = tt
+
+  -- a system that was not settled is answered
+  pub first_so : (fault : EndFault) → IsFirstFault about budget fault → Finds offers task p f about (ended fault)
+  first_so fault h = ended_so fault (alone h)
+
+  -- and so is why there is no certificate under rows that are found
+  pub found_so : IsOpenEnd about → (fault : EndFault) → RefusesFound about (offers about) budget fault → Finds offers task p f about (ended fault)
+  found_so o fault h = ended_so fault (found o h)
+
+  -- and why no run that never ends was found
+  pub round_so : IsStuckAlone about → (fault : CoverFault) → IsRefusal about budget fault → Finds offers task p f about (uncovered fault)
+  round_so stuck fault h = uncovered_end fault (round stuck fault refl h)
+
+-- ---- why it is not known whether a run comes to a location
+module _ (offers : Offers) (task : Task) (p : System) (f : Property) (about : CaseSystem) (l : ℕ) (n : normal f ≡ never_at l) where
+  abbrev limit : Budget
+  limit = budget_of task.limits
+
+  pub uncovered_near : (fault : CoverFault) → IsSearchFault about (offers about) limit l fault → Finds offers task p f about (uncovered fault)
+  uncovered_near (covers.Splits path) h = of_safety l n h
+  uncovered_near (covers.Solve rows fault) h = of_safety l n (rows, refl, h)
+  uncovered_near (covers.Wide column) h = of_safety l n (inl h)
+  uncovered_near covers.Memory h = tt
+
+  -- the point that is left at the location is answered
+  pub weak_so : (r : Result Cause AllocError) (point : Vec ℤ Global) → IfOk r (IsWeakAt p l point) → IsUnsearched about (offers about) l limit (searches.Invariant point) → Finds offers task p f about (unknown r)
+  weak_so (Ok (Weak label q)) point w h = of_safety l n (w.0, subst (λ v. IsUnsearched about (offers about) l limit (searches.Invariant v)) (sym w.1) h)
+  weak_so (Ok (Unsolved system fault)) point w h = absurd w
+  weak_so (Ok (Spent path)) point w h = absurd w
+  weak_so (Ok (Composed column)) point w h = absurd w
+  weak_so (Ok (Unranked set barriers)) point w h = absurd w
+  weak_so (Ok (TooManyPaths label count)) point w h = absurd w
+  weak_so (Ok Unbuilt) point w h = absurd w
+  weak_so (Err e) point w h = tt
+
+  -- and so are too many paths
+  pub many_so : (r : Result Cause AllocError) (count : ℕ) (point : Vec ℤ Global) → IfOk r (AreTooManyAt p l count) → IsUnsearched about (offers about) l limit (searches.Paths count point) → Finds offers task p f about (unknown r)
+  many_so (Ok (TooManyPaths label k)) count point w h = of_safety l n (w.0, (point, subst (λ k. IsUnsearched about (offers about) l limit (searches.Paths k point)) (sym w.1) h))
+  many_so (Ok (Unsolved system fault)) count point w h = absurd w
+  many_so (Ok (Spent path)) count point w h = absurd w
+  many_so (Ok (Composed column)) count point w h = absurd w
+  many_so (Ok (Unranked set barriers)) count point w h = absurd w
+  many_so (Ok (Weak label q)) count point w h = absurd w
+  many_so (Ok Unbuilt) count point w h = absurd w
+  many_so (Err e) count point w h = tt
+
+  -- what comes of rows that exclude the location
+  pub shown_so : (list : List Candidate) → IsKnown about (offers about) list → HasNoPoint about l list → (answer : Answer)
+      → Settles task.writes p f about answer ⊎ ((fault : CoverFault) × (answer ≡ uncovered fault) × RefusesSafety about list l limit fault) → Finds offers task p f about answer
+  shown_so list known excludes answer (inl h) = settles_found offers task p f about answer h
+  shown_so list known excludes answer (inr h) =
+      subst (λ a. Finds offers task p f about a) (sym h.1) (uncovered_near h.0 (inr record { list = list; known = known; excludes = excludes; refused = h.2 }))
+
+  -- what comes of a run to the location
+  pub reached_so : (run : Found) → run.location ≡ l → IsFoundRun about run → (answer : Answer)
+      → Settles task.writes p f about answer ⊎ ((fault : PointFault) × (answer ≡ too_wide fault) × IsRunFault about run fault) → Finds offers task p f about answer
+  reached_so run to is answer (inl h) = settles_found offers task p f about answer h
+  reached_so run to is answer (inr h) = subst (λ a. Finds offers task p f about a) (sym h.1) (wide_so h.0 h.2)
+    where
+      wide_so : (fault : PointFault) → IsRunFault about run fault → Finds offers task p f about (too_wide fault)
+      wide_so (points.Wide column) w = of_safety l n (inr record { run = run; to = to; found = is; wide = w })
+      wide_so points.Memory w = tt
+
+-- ---- runs that are found
+
+-- the cases with the numbers lead along the run
+pub along_of : (about : CaseSystem) (numbers : List ℕ) (path : List LinearCase) (draws : List (List ℤ)) (s : State) (run : List State) → AreCasesAt about numbers path → searched.IsAlong path draws s run → IsAlong about numbers draws s run
+along_of about [] [] [] s [] are h = tt
+along_of about [] [] [] s (t ∷ run) are h = absurd h
+along_of about [] [] (ds ∷ draws) s run are h = absurd h
+along_of about [] (c ∷ path) draws s run are h = absurd are
+along_of about (k ∷ numbers) [] draws s run are h = absurd are
+along_of about (k ∷ numbers) (c ∷ path) [] s run are h = absurd h
+along_of about (k ∷ numbers) (c ∷ path) (ds ∷ draws) s [] are h = absurd h
+along_of about (k ∷ numbers) (c ∷ path) (ds ∷ draws) s (t ∷ run) are h = (record { taken = c; found = are.0; does = h.0 }, along_of about numbers path draws t run are.1 h.1)
+
+all_parts : (P : ℤ → Type 0) (lists : List (List ℤ)) → All P (searched.joined lists) → All (All P) lists
+all_parts P [] h = All-nil (All P)
+all_parts P (ds ∷ lists) h = All-cons (All P) ds lists (all_before P ds (searched.joined lists) h) (all_parts P lists (all_behind P ds (searched.joined lists) h))
+
+-- a run that the search gives is a run to the location
+pub is_found : (about : CaseSystem) (run : Found) → IsReached about run.location run.path.now run.values.now (lists_of run.draws.now) → IsFoundRun about run
+is_found about run h =
+    let all = short_within (run.values.now ++ searched.joined (lists_of run.draws.now)) h.short in
+    record {
+      run = h.run;
+      along = along_of about run.path.now h.path (lists_of run.draws.now) (searched.initial about run.values.now) h.run h.numbered h.along;
+      ends = h.ends;
+      counted = h.counted;
+      narrow = all_before (IsWithin 62) run.values.now (searched.joined (lists_of run.draws.now)) all;
+      narrow_draws = all_parts (IsWithin 62) (lists_of run.draws.now) (all_behind (IsWithin 62) run.values.now (searched.joined (lists_of run.draws.now)) all);
+      few = (let e = h.few in omega (arith, e));
+    }
+
+-- the rows that were found keep runs from the location
+pub keeps_from : (about : CaseSystem) (Given : List (List Candidate) → Type 0) (l : ℕ) (list : List Candidate) → IsKnown about Given list → HasNoPoint about l list → KeepsFrom about l list
+keeps_from about Given l list known none = record {
+  over = all_by (λ c. columns c.row ≡ about.variables) list known.even;
+  inductive = known.inductive;
+  empty = λ xs point. none xs point.width (λ c among at. All-contains (IsMet xs) (rows_at l list) c.row point.met (in_rows l list c among (sym at)));
+}

@@ -1,4 +1,5 @@
 pub mod Asking
+pub mod Denying
 pub mod Found
 pub mod Settling
 pub mod Lines

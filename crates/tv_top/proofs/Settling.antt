@@ -16,7 +16,7 @@ use Rattle.tv_check_text.specs.Texts.{IsUnaccepted}
 use Rattle.tv_sound.specs.Following.{FollowsFrom}
 use Rattle.tv_sound.specs.Settled.{IsSettled}
 use Rattle.tv_top.specs.declared.answer.Answer.{Answer}
-use Rattle.tv_top.specs.declared.answer.Answer.TheVariants.{Proved, Disproved, Obligation, CertificateLine, Words, TooLong, Text, Property as Unnamed, WideEdge, TooManyInEdge, Unsolved, Unbuilt, ReadFault, Memory}
+use Rattle.tv_top.specs.declared.answer.Answer.TheVariants.{Proved, Disproved, Obligation, CertificateLine, Words, TooLong, Text, Property as Unnamed, WideEdge, TooManyInEdge, Unknown, ReadFault, Memory}
 use Rattle.tv_top.specs.Answers.{without_certificate}
 use Rattle.tv_top.specs.Judging.{Accepted, IsProved, Judges, Says, SaysHolds, SaysValues}
 
@@ -32,8 +32,8 @@ no_certificate p f system text claim is certs.Memory h = tt
 -- the values at which an answer says that the property is disproved
 values_so : (p : System) (f : Property) (system : CaseSystem) (text : List ℕ) (accepted : Accepted f system text) (piece : ℕ) (values : _) → accepted.offer.certificate.verdict ≡ verdicts.Disproved piece values → IsSettled p f (verdicts.Disproved piece values)
     → (normal f ≡ term → FollowsFrom p system accepted.offer.certificate.root (verdicts.Disproved piece values)) → (answer : Answer) → SaysValues p values.items answer → Judges p f system text answer
-values_so p f system text accepted piece values is settled along (Disproved at) says =
-    record { accepted = accepted; piece = piece; values = values; says = is; names = says.0; same = says.1; fails = settled; endless = along }
+values_so p f system text accepted piece values is settled along (Disproved at certificate) says =
+    (record { accepted = accepted; piece = piece; values = values; says = is; names = says.0; same = says.1; fails = settled; endless = along }, says.2)
 values_so p f system text accepted piece values is settled along Memory says = tt
 values_so p f system text accepted piece values is settled along (Proved certificate) says = absurd says
 values_so p f system text accepted piece values is settled along (Obligation failing) says = absurd says
@@ -44,14 +44,13 @@ values_so p f system text accepted piece values is settled along (Text fault) sa
 values_so p f system text accepted piece values is settled along (Unnamed fault) says = absurd says
 values_so p f system text accepted piece values is settled along (WideEdge edge) says = absurd says
 values_so p f system text accepted piece values is settled along (TooManyInEdge edge) says = absurd says
-values_so p f system text accepted piece values is settled along (Unsolved which fault) says = absurd says
-values_so p f system text accepted piece values is settled along Unbuilt says = absurd says
+values_so p f system text accepted piece values is settled along (Unknown cause) says = absurd says
 values_so p f system text accepted piece values is settled along ReadFault says = absurd says
 
 -- the property is proved
 holds_so : (p : System) (f : Property) (system : CaseSystem) (text : List ℕ) → IsProved p f system text → (answer : Answer) → SaysHolds answer → Judges p f system text answer
 holds_so p f system text proved (Proved certificate) says = (proved, says)
-holds_so p f system text proved (Disproved at) says = absurd says
+holds_so p f system text proved (Disproved at certificate) says = absurd says
 holds_so p f system text proved Memory says = absurd says
 holds_so p f system text proved (Obligation failing) says = absurd says
 holds_so p f system text proved (CertificateLine line) says = absurd says
@@ -61,8 +60,7 @@ holds_so p f system text proved (Text fault) says = absurd says
 holds_so p f system text proved (Unnamed fault) says = absurd says
 holds_so p f system text proved (WideEdge edge) says = absurd says
 holds_so p f system text proved (TooManyInEdge edge) says = absurd says
-holds_so p f system text proved (Unsolved which fault) says = absurd says
-holds_so p f system text proved Unbuilt says = absurd says
+holds_so p f system text proved (Unknown cause) says = absurd says
 holds_so p f system text proved ReadFault says = absurd says
 
 -- what is said of a certificate all of whose obligations are met is so

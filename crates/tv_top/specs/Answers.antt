@@ -1,5 +1,6 @@
 -- What a run writes, and how it ends.
-use Rattle.std.specs.Prelude.{ℕ, ◌+◌, ℤ, List, [], ◌∷◌, ◌++◌, length, codes, decimal}
+use Rattle.std.specs.declared.alloc.AllocError.{AllocError}
+use Rattle.std.specs.Prelude.{Result, Ok, Err, ℕ, ◌+◌, ℤ, List, [], ◌∷◌, ◌++◌, codes, decimal}
 use Rattle.std.specs.Fmt.{signed_decimal}
 use Rattle.tv_program.specs.Words.{Word}
 use Rattle.tv_cert.specs.declared.node.Kind.{Kind}
@@ -12,18 +13,22 @@ use Rattle.tv_reader.specs.declared.fault.ReadFault.{ReadFault as TextFault}
 use Rattle.tv_reader.specs.declared.fault.ReadFault.TheVariants as faults
 use Rattle.tv_formula_reader.specs.declared.fault.FormulaFault.{FormulaFault}
 use Rattle.tv_formula_reader.specs.declared.fault.FormulaFault.TheVariants as formulas
-use Rattle.tv_simplex.specs.declared.fault.SolveFault.{SolveFault}
-use Rattle.tv_simplex.specs.declared.fault.SolveFault.TheVariants as solving
-use Rattle.tv_rank.specs.declared.name.Name.{Name}
-use Rattle.tv_rank.specs.declared.name.Name.TheVariants as systems
-use Rattle.tv_lexrank.specs.declared.fault.RankFault.{RankFault}
-use Rattle.tv_lexrank.specs.declared.fault.RankFault.TheVariants as ranking
+use Rattle.tv_farkas.specs.declared.fault.CoverFault.{CoverFault}
+use Rattle.tv_farkas.specs.declared.fault.CoverFault.TheVariants as covers
+use Rattle.tv_rank.specs.declared.name.Name.TheVariants.{Rows}
+use Rattle.tv_points.specs.declared.fault.PointFault.{PointFault}
+use Rattle.tv_points.specs.declared.fault.PointFault.TheVariants as points
+use Rattle.tv_settling.specs.declared.fault.EndFault.{EndFault}
+use Rattle.tv_settling.specs.declared.fault.EndFault.TheVariants as ends
 use Rattle.tv_check_text.specs.declared.text.TextFailing.{TextFailing}
 use Rattle.tv_check_text.specs.declared.text.TextFailing.TheVariants as certs
 use Rattle.tv_top.specs.declared.answer.Answer.{Answer}
-use Rattle.tv_top.specs.declared.answer.Answer.TheVariants.{Proved, Disproved, Obligation, CertificateLine, Words, TooLong, Text, Property, WideEdge, TooManyInEdge, Unsolved, Unbuilt, ReadFault, Memory}
+use Rattle.tv_top.specs.declared.answer.Answer.TheVariants.{Proved, Disproved, Obligation, CertificateLine, Words, TooLong, Text, Property, WideEdge, TooManyInEdge, Unknown, ReadFault, Memory}
+use Rattle.tv_top.specs.declared.cause.Cause.{Cause}
+use Rattle.tv_top.specs.declared.cause.Cause.TheVariants.{Unsolved, Spent, Composed, Unranked}
 use Rattle.tv_top.specs.declared.status.Status.{Status}
 use Rattle.tv_top.specs.declared.status.Status.TheVariants as statuses
+use Rattle.tv_top.specs.CauseLines.{cause_line, detail_line}
 
 -- the word of a kind of obligations
 abbrev pub kind_word : Kind → List ℕ
@@ -88,42 +93,10 @@ value_lines [] values = []
 value_lines (name ∷ names) [] = []
 value_lines (name ∷ names) (value ∷ values) = value_line name value ++ value_lines names values
 
--- the words that name a linear system
-abbrev pub system_words : Name → List ℕ
-system_words (systems.Empty k) = codes "empty " ++ decimal k
-system_words (systems.Rank component round falling) = codes "rank " ++ (decimal component ++ (codes " " ++ (decimal round ++ (codes " " ++ decimal falling))))
-system_words (systems.Rows rows) = codes "rows " ++ decimal (length rows.items)
-system_words (systems.Later set falling) = codes "later " ++ decimal (length set.items)
-
--- the line of the cause for which a linear system was not settled
-abbrev pub cause_line : SolveFault → List ℕ
-cause_line (solving.Width basis row column) = codes "Unknown width" ++ 10 ∷ []
-cause_line (solving.Scale basis) = codes "Unknown width" ++ 10 ∷ []
-cause_line (solving.Pivots bases) = codes "Unknown pivots" ++ 10 ∷ []
-cause_line (solving.Size rows columns) = codes "Unknown size" ++ 10 ∷ []
-cause_line solving.Memory = []
-
--- the line of a system with one number
-abbrev pub numbered_detail : List ℕ → List ℕ → ℕ → List ℕ
-numbered_detail system what number = codes "system " ++ (system ++ (codes " " ++ (what ++ (codes " " ++ (decimal number ++ 10 ∷ [])))))
-
--- the line of a system with a row, or rows, and a column, or columns
-abbrev pub two_numbers_detail : List ℕ → List ℕ → ℕ → ℕ → List ℕ
-two_numbers_detail system plural rows columns =
-    codes "system " ++ (system ++ (codes " row" ++ (plural ++ (codes " " ++ (decimal rows ++ (codes " column" ++ (plural ++ (codes " " ++ (decimal columns ++ 10 ∷ [])))))))))
-
--- the line that says which system it is, and where or how it was not settled
-abbrev pub detail_line : Name → SolveFault → List ℕ
-detail_line system (solving.Width basis row column) = two_numbers_detail (system_words system) [] row column
-detail_line system (solving.Scale basis) = codes "system " ++ (system_words system ++ (codes " scale" ++ 10 ∷ []))
-detail_line system (solving.Pivots bases) = numbered_detail (system_words system) (codes "bases") bases
-detail_line system (solving.Size rows columns) = two_numbers_detail (system_words system) (codes "s") rows columns
-detail_line system solving.Memory = []
-
 -- the first line of an answer, with its LF; nothing where nothing is written
 abbrev pub plain_line : Answer → List ℕ
 plain_line (Proved certificate) = codes "Proved" ++ 10 ∷ []
-plain_line (Disproved at) = codes "Disproved" ++ 10 ∷ []
+plain_line (Disproved at certificate) = codes "Disproved" ++ 10 ∷ []
 plain_line (Obligation f) = obligation_line f.number f.node f.kind
 plain_line (CertificateLine line) = codes "Certificate refused line " ++ (decimal line ++ 10 ∷ [])
 plain_line Words = codes "Refused words" ++ 10 ∷ []
@@ -132,16 +105,15 @@ plain_line (Text fault) = text_line fault
 plain_line (Property fault) = property_line fault
 plain_line (WideEdge edge) = codes "Refused text wide edge " ++ (decimal edge ++ 10 ∷ [])
 plain_line (TooManyInEdge edge) = codes "Refused text too many edge " ++ (decimal edge ++ 10 ∷ [])
-plain_line (Unsolved system fault) = cause_line fault
-plain_line Unbuilt = codes "Unknown unbuilt" ++ 10 ∷ []
+plain_line (Unknown cause) = cause_line cause
 plain_line ReadFault = []
 plain_line Memory = []
 
--- the lines behind the first: those of a certificate, of the state at which the property fails, or which system was not settled
+-- the lines behind the first: those of the state at which the property fails, of a certificate, or of the cause of an unknown answer
 abbrev pub further_lines : Answer → List ℕ
 further_lines (Proved certificate) = certificate.items
-further_lines (Disproved at) = value_lines at.names at.values.items
-further_lines (Unsolved system fault) = detail_line system fault
+further_lines (Disproved at certificate) = value_lines at.names at.values.items ++ certificate.items
+further_lines (Unknown cause) = detail_line cause
 further_lines answer = []
 
 -- all lines of an answer
@@ -151,7 +123,7 @@ lines_of answer = plain_line answer ++ further_lines answer
 -- the status of an answer that was written
 abbrev pub status_of : Answer → Status
 status_of (Proved certificate) = statuses.Proved
-status_of (Disproved at) = statuses.Disproved
+status_of (Disproved at certificate) = statuses.Disproved
 status_of (Obligation f) = statuses.CertificateRefused
 status_of (CertificateLine line) = statuses.CertificateRefused
 status_of Words = statuses.Refused
@@ -160,8 +132,7 @@ status_of (Text fault) = statuses.Refused
 status_of (Property fault) = statuses.Refused
 status_of (WideEdge edge) = statuses.Refused
 status_of (TooManyInEdge edge) = statuses.Refused
-status_of (Unsolved system fault) = statuses.Unknown
-status_of Unbuilt = statuses.Unknown
+status_of (Unknown cause) = statuses.Unknown
 status_of ReadFault = statuses.ReadFault
 status_of Memory = statuses.Memory
 
@@ -192,19 +163,29 @@ without_property (formulas.Deep at) = Property (formulas.Deep at)
 without_property formulas.Long = Property formulas.Long
 without_property formulas.Memory = Memory
 
--- the fault is that of a named system, or memory is wanting
-abbrev pub IsOfSystem : RankFault → Type 0
-IsOfSystem (ranking.Solve system fault) = Unit {0}
-IsOfSystem (ranking.Open taken values) = ⊥
-IsOfSystem (ranking.Cover fault) = ⊥
-IsOfSystem ranking.Memory = Unit {0}
+-- the answer where a question of whole points was not settled
+abbrev pub uncovered : CoverFault → Answer
+uncovered (covers.Splits path) = Unknown (Spent path)
+uncovered (covers.Solve rows fault) = Unknown (Unsolved (Rows rows) fault)
+uncovered (covers.Wide column) = Unknown (Composed column)
+uncovered covers.Memory = Memory
 
--- the answer where a linear system of the search was not settled; no other fault comes without known rows
-abbrev pub unsolved : RankFault → Answer
-unsolved (ranking.Solve system fault) = Unsolved system fault
-unsolved (ranking.Open taken values) = Memory
-unsolved (ranking.Cover fault) = Memory
-unsolved ranking.Memory = Memory
+-- the answer where it is not known whether every run ends
+abbrev pub ended : EndFault → Answer
+ended (ends.Solve system fault) = Unknown (Unsolved system fault)
+ended (ends.Cover fault) = uncovered fault
+ended (ends.Rank set barriers) = Unknown (Unranked set barriers)
+ended ends.Memory = Memory
+
+-- the answer with a cause, unless memory is wanting
+abbrev pub unknown : Result Cause AllocError → Answer
+unknown (Ok cause) = Unknown cause
+unknown (Err e) = Memory
+
+-- the answer where a run that was found has no certificate
+abbrev pub too_wide : PointFault → Answer
+too_wide (points.Wide column) = Unknown (Composed column)
+too_wide points.Memory = Memory
 
 -- the answer for a text that is not accepted as a certificate
 abbrev pub without_certificate : TextFailing → Answer

@@ -1,11 +1,30 @@
 -- What the answer of a search says of a program and a property.
-use Rattle.std.specs.Prelude.{◌≡◌, ℕ, ℤ, List, [], Bool, true, false}
+use Rattle.std.specs.Prelude.{◌≡◌, ◌⊎◌, ℕ, ◌<◌, ℤ, List, [], Bool, true, false, Some, slice_get, Vec}
+use Rattle.std.specs.Global.{Global}
 use Rattle.tv_program.specs.Systems.{System}
 use Rattle.tv_formula.specs.Properties.{Property, term}
+use Rattle.tv_formula.specs.Forms.{never_at}
 use Rattle.tv_formula.specs.Normal.{normal}
 use Rattle.tv_meaning.specs.Meaning.{HoldsInitially}
 use Rattle.tv_cases.specs.LinearCases.{CaseSystem}
+use Rattle.tv_candidates.specs.declared.candidate.Candidate.{Candidate}
+use Rattle.tv_candidates.specs.Inductive.{IsInductive}
+use Rattle.tv_invariant.specs.Passes.{AreOver}
+use Rattle.tv_invariant.specs.Places.{rows_at}
+use Rattle.tv_known.specs.Recurrences.{HasSimpleRecurrence}
+use Rattle.tv_recur.specs.Refusing.{IsRefusal}
+use Rattle.tv_points.specs.declared.fault.PointFault.TheVariants as points
+use Rattle.tv_reaching.specs.FoundRuns.{IsFoundRun, IsRunFault}
+use Rattle.tv_reaching.specs.declared.found.Found.{Found}
+use Rattle.tv_search.specs.Answers.{IsKnown, HasNoPoint, IsUnsearched}
+use Rattle.tv_search.specs.declared.search_fault.SearchFault.TheVariants as searches
+use Rattle.tv_farkas.specs.declared.budget.Budget.{Budget}
+use Rattle.tv_farkas.specs.declared.fault.CoverFault.{CoverFault}
+use Rattle.tv_farkas.specs.declared.fault.CoverFault.TheVariants as covers
+use Rattle.tv_rank.specs.declared.name.Name.TheVariants as systems
 use Rattle.tv_cert.specs.declared.claim.Claim.{Claim}
+use Rattle.tv_cert.specs.declared.node.Verdict.{Verdict}
+use Rattle.tv_cert.specs.declared.node.Verdict.TheVariants as verdicts
 use Rattle.tv_cert.specs.Claims.{IsClaim, about_with, shown}
 use Rattle.tv_cert.specs.Nodes.{obligations}
 use Rattle.tv_cert.specs.Obligations.{AllMet}
@@ -13,12 +32,23 @@ use Rattle.tv_cert_reader.specs.Texts.{IsCertificateText}
 use Rattle.tv_shape.specs.Certificates.{IsOf}
 use Rattle.tv_shape.specs.declared.certificate.Certificate.{Certificate}
 use Rattle.tv_lexrank.specs.Certified.{SaysProved}
-use Rattle.tv_lexrank.specs.First.{RefusesFirst}
-use Rattle.tv_lexrank.specs.Parts.{IsStuck}
-use Rattle.tv_lexrank.specs.declared.fault.RankFault.TheVariants as faults
-use Rattle.tv_top.specs.Tasks.{Task}
+use Rattle.tv_sound.specs.Following.{Follows, FollowsFrom}
+use Rattle.tv_sound.specs.Settled.{FailsAt, IsSettled}
+use Rattle.tv_settling.specs.declared.fault.EndFault.{EndFault}
+use Rattle.tv_settling.specs.declared.fault.EndFault.TheVariants as ends
+use Rattle.tv_settling.specs.Closed.{HaveNoPoint}
+use Rattle.tv_settling.specs.Ends.{IsStuckAlone, IsFirstFault, RefusesFound}
+use Rattle.tv_settling.specs.Refusals.{RefusesSafety}
+use Rattle.tv_top.specs.Tasks.{Limits, Task}
+use Rattle.tv_top.specs.declared.assignment.Assignment.{Assignment}
+use Rattle.tv_top.specs.declared.cause.Cause.{Cause}
+use Rattle.tv_top.specs.declared.cause.Cause.TheVariants.{Unsolved, Spent, Composed, Unranked, Weak, TooManyPaths, Unbuilt}
 use Rattle.tv_top.specs.declared.answer.Answer.{Answer}
 use Rattle.tv_top.specs.declared.answer.Answer.TheVariants as answers
+
+-- how far a search goes
+abbrev pub budget_of : Limits → Budget
+budget_of l = record { pivots = l.pivots; splits = l.splits; disjuncts = l.disjuncts }
 
 -- the text is one of the certificate where it is to be written, and else there is none
 abbrev pub IsTextOf : Bool → CaseSystem → Claim → Certificate → List ℕ → Type 0
@@ -36,16 +66,133 @@ pub record IsShown (writes : Bool) (p : System) (f : Property) (about : CaseSyst
   pub holds : HoldsInitially p f
   pub is_text : IsTextOf writes about claim certificate text
 
--- some cases of the program, each with a rational point, have a barrier each: no linear terms rank them
-pub record IsStuckProgram (about : CaseSystem) : Type 0 where
-  pub set : List ℕ
-  pub barriers : List (List ℤ)
-  pub stuck : IsStuck about [] set barriers
+-- A certificate that the property fails at the state at the start with these values, which fits, and all of whose obligations are met; and
+-- so it does there. Where its normal form is `term`, the choices of the certificate lead from there along an endless run.
+pub record IsRefuted (writes : Bool) (p : System) (f : Property) (about : CaseSystem) (at : Assignment) (text : List ℕ) : Type 0 where
+  pub claim : Claim
+  pub is_claim : IsClaim claim f
+  pub certificate : Certificate
+  pub fits : IsOf (about_with about) (shown claim certificate.verdict) certificate
+  pub piece : ℕ
+  pub values : Vec ℤ Global
+  pub says : certificate.verdict ≡ verdicts.Disproved piece values
+  pub met : AllMet (obligations (about_with about) (shown claim certificate.verdict) certificate.root certificate.verdict)
+  pub names : at.names ≡ p.variables
+  pub same : at.values.items ≡ values.items
+  pub fails : FailsAt p f (record { location = p.start; values = values.items })
+  pub endless : normal f ≡ term → Follows p about certificate.root piece values.items
+  pub is_text : IsTextOf writes about claim certificate text
 
--- What the answer of a search says, with so many bases of a linear system tried.
-abbrev pub Finds : Task → System → Property → CaseSystem → Answer → Type 0
-Finds task p f about (answers.Proved certificate) = IsShown task.writes p f about certificate.items
-Finds task p f about (answers.Unsolved system fault) = (normal f ≡ term) × RefusesFirst about task.limits.pivots (faults.Solve system fault)
-Finds task p f about answers.Unbuilt = normal f ≡ term → IsStuckProgram about
-Finds task p f about answers.Memory = Unit {0}
-Finds task p f about answer = ⊥
+-- The property holds at every initial state, or fails at the one that the certificate's verdict names; where its normal form is `term`, the
+-- choices lead along an endless run.
+pub record TellsClaim (p : System) (f : Property) (about : CaseSystem) (c : Certificate) : Type 0 where
+  pub settled : IsSettled p f c.verdict
+  pub followed : normal f ≡ term → FollowsFrom p about c.root c.verdict
+
+-- what a verdict says, with this text behind it, or memory is wanting
+abbrev pub SaysVerdict : System → Verdict → List ℕ → Answer → Type 0
+SaysVerdict p (verdicts.Proved start) text (answers.Proved certificate) = certificate.items ≡ text
+SaysVerdict p (verdicts.Disproved piece values) text (answers.Disproved at certificate) = (at.names ≡ p.variables) × (at.values.items ≡ values.items) × (certificate.items ≡ text)
+SaysVerdict p verdict text answers.Memory = Unit {0}
+SaysVerdict p verdict text answer = ⊥
+
+-- the answer is that of a certificate
+abbrev pub Settles : Bool → System → Property → CaseSystem → Answer → Type 0
+Settles writes p f about (answers.Proved certificate) = IsShown writes p f about certificate.items
+Settles writes p f about (answers.Disproved at certificate) = IsRefuted writes p f about at certificate.items
+Settles writes p f about answers.Memory = Unit {0}
+Settles writes p f about answer = ⊥
+
+-- what proposers offer for some cases
+abbrev pub Offers : Type 1
+Offers = CaseSystem → List (List Candidate) → Type 0
+
+-- a question of whole points that was not settled, as it is answered
+abbrev pub IsUncovered : (CoverFault → Type 0) → Cause → Type 0
+IsUncovered Is (Unsolved system e) = (rows : _) × (system ≡ systems.Rows rows) × Is (covers.Solve rows e)
+IsUncovered Is (Spent path) = Is (covers.Splits path)
+IsUncovered Is (Composed column) = Is (covers.Wide column)
+IsUncovered Is cause = ⊥
+
+-- ---- why it is not known whether every run ends
+
+-- no linear terms rank some cases of the program, and no run that never ends is plain to see
+pub record IsOpenEnd (about : CaseSystem) : Type 0 where
+  pub stuck : IsStuckAlone about
+  pub no_recurrence : HasSimpleRecurrence about → ⊥
+
+-- why no certificate is found: without known rows, in the search for a run that never ends, or under rows that are found
+pub data IsEndFault (about : CaseSystem) (Given : List (List Candidate) → Type 0) (budget : Budget) (e : EndFault) : Type 0 where
+  alone : IsFirstFault about budget e → IsEndFault about Given budget e
+  round : IsStuckAlone about → (f : CoverFault) → e ≡ ends.Cover f → IsRefusal about budget f → IsEndFault about Given budget e
+  found : IsOpenEnd about → RefusesFound about Given budget e → IsEndFault about Given budget e
+
+abbrev pub IsEndCause : CaseSystem → (List (List Candidate) → Type 0) → Budget → Cause → Type 0
+IsEndCause about Given budget (Unsolved system e) = IsEndFault about Given budget (ends.Solve system e) ⊎ IsUncovered (λ f. IsEndFault about Given budget (ends.Cover f)) (Unsolved system e)
+IsEndCause about Given budget (Unranked set barriers) = IsEndFault about Given budget (ends.Rank set barriers)
+IsEndCause about Given budget cause = IsUncovered (λ f. IsEndFault about Given budget (ends.Cover f)) cause
+
+-- ---- why it is not known whether a run comes to a location
+
+-- the label of the location with the number
+abbrev pub IsLabel : System → ℕ → List ℕ → Type 0
+IsLabel p l label = slice_get p.locations l ≡ Some label
+
+abbrev pub IsWeakAt : System → ℕ → Vec ℤ Global → Cause → Type 0
+IsWeakAt p l point (Weak label q) = IsLabel p l label.items × (q ≡ point)
+IsWeakAt p l point cause = ⊥
+
+abbrev pub AreTooManyAt : System → ℕ → ℕ → Cause → Type 0
+AreTooManyAt p l count (TooManyPaths label n) = IsLabel p l label.items × (n ≡ count)
+AreTooManyAt p l count cause = ⊥
+
+-- the rows are over the variables and inductive, and no whole point meets those at the location
+pub record KeepsFrom (about : CaseSystem) (l : ℕ) (list : List Candidate) : Type 0 where
+  pub over : AreOver about.variables list
+  pub inductive : IsInductive about list
+  pub empty : HaveNoPoint about.variables (rows_at l list)
+
+-- the rows that were found exclude the location, and that they do was not shown by a certificate
+pub record IsUnshown (about : CaseSystem) (Given : List (List Candidate) → Type 0) (budget : Budget) (l : ℕ) (f : CoverFault) : Type 0 where
+  pub list : List Candidate
+  pub known : IsKnown about Given list
+  pub excludes : HasNoPoint about l list
+  pub refused : RefusesSafety about list l budget f
+
+abbrev pub IsSearchFault : CaseSystem → (List (List Candidate) → Type 0) → Budget → ℕ → CoverFault → Type 0
+IsSearchFault about Given budget l f = IsUnsearched about Given l budget (searches.Cover f) ⊎ IsUnshown about Given budget l f
+
+-- a run comes to the location, and a value on it or a line of its certificate is too wide, the first one at this column
+pub record IsWideRun (about : CaseSystem) (l column : ℕ) : Type 0 where
+  pub run : Found
+  pub to : run.location ≡ l
+  pub found : IsFoundRun about run
+  pub wide : IsRunFault about run (points.Wide column)
+
+abbrev pub IsSafetyCause : System → CaseSystem → (List (List Candidate) → Type 0) → Budget → ℕ → Cause → Type 0
+IsSafetyCause p about Given budget l (Weak label point) = IsLabel p l label.items × IsUnsearched about Given l budget (searches.Invariant point)
+IsSafetyCause p about Given budget l (TooManyPaths label count) = IsLabel p l label.items × ((point : Vec ℤ Global) × IsUnsearched about Given l budget (searches.Paths count point))
+IsSafetyCause p about Given budget l (Composed column) = IsSearchFault about Given budget l (covers.Wide column) ⊎ IsWideRun about l column
+IsSafetyCause p about Given budget l cause = IsUncovered (IsSearchFault about Given budget l) cause
+
+-- ---- why nothing is known
+
+-- no search is built for the property
+pub record IsOther (about : CaseSystem) (f : Property) : Type 0 where
+  pub not_ends : normal f ≡ term → ⊥
+  pub not_safety : (l : ℕ) → l < about.locations → normal f ≡ never_at l → ⊥
+
+abbrev pub IsUnbuilt : CaseSystem → Property → Cause → Type 0
+IsUnbuilt about f Unbuilt = IsOther about f
+IsUnbuilt about f cause = ⊥
+
+-- why nothing is known of the property
+pub data IsCause (offers : Offers) (task : Task) (p : System) (f : Property) (about : CaseSystem) (cause : Cause) : Type 0 where
+  of_ends : normal f ≡ term → IsEndCause about (offers about) (budget_of task.limits) cause → IsCause offers task p f about cause
+  of_safety : (l : ℕ) → normal f ≡ never_at l → IsSafetyCause p about (offers about) (budget_of task.limits) l cause → IsCause offers task p f about cause
+  of_others : IsUnbuilt about f cause → IsCause offers task p f about cause
+
+-- What the answer of a search says.
+abbrev pub Finds : Offers → Task → System → Property → CaseSystem → Answer → Type 0
+Finds offers task p f about (answers.Unknown cause) = IsCause offers task p f about cause
+Finds offers task p f about answer = Settles task.writes p f about answer

@@ -13,14 +13,14 @@ use Rattle.tv_cases.specs.LinearCases.{CaseSystem}
 use Rattle.tv_cases.specs.ProgramCases.{LinearFault, wide, too_many, linear_cases}
 use Rattle.tv_cases.specs.Answers.{IsOfProgram}
 use Rattle.tv_top.specs.declared.answer.Answer.{Answer}
-use Rattle.tv_top.specs.declared.answer.Answer.TheVariants.{Proved, Disproved, Obligation, CertificateLine, Words, TooLong, Text, Property, WideEdge, TooManyInEdge, Unsolved, Unbuilt, ReadFault, Memory}
+use Rattle.tv_top.specs.declared.answer.Answer.TheVariants.{Proved, Disproved, Obligation, CertificateLine, Words, TooLong, Text, Property, WideEdge, TooManyInEdge, Unknown, ReadFault, Memory}
 use Rattle.tv_top.specs.declared.status.Status.{Status}
 use Rattle.tv_top.specs.declared.status.Status.TheVariants as statuses
 use Rattle.tv_top.specs.Answers.{lines_of, status_of}
 use Rattle.tv_top.specs.Judging.{Judges}
 use Rattle.tv_top.specs.Properties.{IsNamed, IsUnnamed}
 use Rattle.tv_top.specs.Tasks.{Task, task_of}
-use Rattle.tv_top.specs.Finding.{Finds}
+use Rattle.tv_top.specs.Finding.{Offers, Finds}
 
 -- how many bytes are read at most: of a program and a certificate that is to be checked, or of a program alone
 abbrev pub most_bytes : Bool → ℕ
@@ -46,17 +46,17 @@ pub record Asked (task : Task) (bytes : List ℕ) : Type 0 where
   pub named : IsNamed given.program task.query property
 
 -- what the answer says of a property of a program over its cases: of the certificate's text that is to be checked, or what was found
-abbrev pub Tells : Bool → Task → System → Formula → CaseSystem → List ℕ → Answer → Type 0
-Tells true task p f cases text answer = Judges p f cases text answer
-Tells false task p f cases text answer = Finds task p f cases answer
+abbrev pub Tells : Bool → Offers → Task → System → Formula → CaseSystem → List ℕ → Answer → Type 0
+Tells true offers task p f cases text answer = Judges p f cases text answer
+Tells false offers task p f cases text answer = Finds offers task p f cases answer
 
 -- The answer says this where the words name a property of the program. The cases are the program's.
-pub record Settled (task : Task) (bytes : List ℕ) (answer : Answer) : Type 0 where
+pub record Settled (offers : Offers) (task : Task) (bytes : List ℕ) (answer : Answer) : Type 0 where
   pub asked : Asked task bytes
   pub cases : CaseSystem
   pub are_cases : linear_cases asked.given.program ≡ Ok cases.cases
   pub of_program : IsOfProgram asked.given.program cases
-  pub says : Tells task.checks task asked.given.program asked.property cases asked.given.certificate_text answer
+  pub says : Tells task.checks offers task asked.given.program asked.property cases asked.given.certificate_text answer
 
 -- the text of the program, which is none, has this as its first fault
 pub record IsRefusedText (task : Task) (bytes : List ℕ) (fault : TextFault) : Type 0 where
@@ -76,33 +76,32 @@ pub record HasNoCases (task : Task) (bytes : List ℕ) (fault : LinearFault) : T
   pub fault_is : linear_cases asked.given.program ≡ Err fault
 
 -- What the answer says where the words ask this, and these are all bytes that came out of the source.
-abbrev pub Means : Task → List ℕ → Answer → Type 0
-Means task bytes (Proved certificate) = Settled task bytes (Proved certificate)
-Means task bytes (Disproved at) = Settled task bytes (Disproved at)
-Means task bytes (Obligation failing) = Settled task bytes (Obligation failing)
-Means task bytes (CertificateLine line) = Settled task bytes (CertificateLine line)
-Means task bytes (Unsolved system fault) = Settled task bytes (Unsolved system fault)
-Means task bytes Unbuilt = Settled task bytes Unbuilt
-Means task bytes (Text fault) = IsRefusedText task bytes fault
-Means task bytes (Property fault) = HasNoProperty task bytes fault
-Means task bytes (WideEdge edge) = HasNoCases task bytes (wide edge)
-Means task bytes (TooManyInEdge edge) = HasNoCases task bytes (too_many edge)
-Means task bytes Memory = Unit {0}
-Means task bytes Words = ⊥
-Means task bytes TooLong = ⊥
-Means task bytes ReadFault = ⊥
+abbrev pub Means : Offers → Task → List ℕ → Answer → Type 0
+Means offers task bytes (Proved certificate) = Settled offers task bytes (Proved certificate)
+Means offers task bytes (Disproved at certificate) = Settled offers task bytes (Disproved at certificate)
+Means offers task bytes (Obligation failing) = Settled offers task bytes (Obligation failing)
+Means offers task bytes (CertificateLine line) = Settled offers task bytes (CertificateLine line)
+Means offers task bytes (Unknown cause) = Settled offers task bytes (Unknown cause)
+Means offers task bytes (Text fault) = IsRefusedText task bytes fault
+Means offers task bytes (Property fault) = HasNoProperty task bytes fault
+Means offers task bytes (WideEdge edge) = HasNoCases task bytes (wide edge)
+Means offers task bytes (TooManyInEdge edge) = HasNoCases task bytes (too_many edge)
+Means offers task bytes Memory = Unit {0}
+Means offers task bytes Words = ⊥
+Means offers task bytes TooLong = ⊥
+Means offers task bytes ReadFault = ⊥
 
 -- Why an answer is given, told what is seen of the source before and after. The bytes are those that came out of its calls.
-pub data IsAnswer (words : List (List ℕ)) (old new : Seen) : Answer → Type 0 where
+pub data IsAnswer (offers : Offers) (words : List (List ℕ)) (old new : Seen) : Answer → Type 0 where
   -- the words ask nothing, and nothing is read
-  unasked : task_of words ≡ None → new ≡ old → IsAnswer words old new Words
+  unasked : task_of words ≡ None → new ≡ old → IsAnswer offers words old new Words
   -- more bytes came than are read
-  too_long : {task : Task} → task_of words ≡ Some task → (bytes : List ℕ) → Gave old new bytes → most_bytes task.checks < length bytes → IsAnswer words old new TooLong
+  too_long : {task : Task} → task_of words ≡ Some task → (bytes : List ℕ) → Gave old new bytes → most_bytes task.checks < length bytes → IsAnswer offers words old new TooLong
   -- the source was read to its end
-  decided : {task : Task} {answer : Answer} (bytes : List ℕ) → task_of words ≡ Some task → Gave old new bytes → IsAtEnd new.known → length bytes ≤ most_bytes task.checks → Means task bytes answer → IsAnswer words old new answer
+  decided : {task : Task} {answer : Answer} (bytes : List ℕ) → task_of words ≡ Some task → Gave old new bytes → IsAtEnd new.known → length bytes ≤ most_bytes task.checks → Means offers task bytes answer → IsAnswer offers words old new answer
   -- the source failed
-  failed : {task : Task} → task_of words ≡ Some task → GaveSome old new → IsAnswer words old new ReadFault
-  without_memory : GaveSome old new → IsAnswer words old new Memory
+  failed : {task : Task} → task_of words ≡ Some task → GaveSome old new → IsAnswer offers words old new ReadFault
+  without_memory : GaveSome old new → IsAnswer offers words old new Memory
 
 -- The answer is written: its lines and its status, or under a write fault a front of the lines.
 pub data IsWritten (old new : Seen) (answer : Answer) : Status → Type 0 where
@@ -110,7 +109,7 @@ pub data IsWritten (old new : Seen) (answer : Answer) : Status → Type 0 where
   front : (count : ℕ) → count < length (lines_of answer) → Took old new (take count (lines_of answer)) → IsWritten old new answer statuses.WriteFault
 
 -- How a run ends: it has written an answer to the words and to what came out of the source.
-pub record Concludes (words : List (List ℕ)) (source_old source_new sink_old sink_new : Seen) (status : Status) : Type 0 where
+pub record Concludes (offers : Offers) (words : List (List ℕ)) (source_old source_new sink_old sink_new : Seen) (status : Status) : Type 0 where
   pub answer : Answer
-  pub is_answer : IsAnswer words source_old source_new answer
+  pub is_answer : IsAnswer offers words source_old source_new answer
   pub is_written : IsWritten sink_old sink_new answer status

@@ -63,7 +63,7 @@ pub record IsNoCertificate (f : Property) (system : CaseSystem) (text : List ℕ
 -- What the answer says of the text, as a certificate of the property f of the program p over its cases.
 abbrev pub Judges : System → Property → CaseSystem → List ℕ → Answer → Type 0
 Judges p f system text (answers.Proved certificate) = IsProved p f system text × (certificate.items ≡ [])
-Judges p f system text (answers.Disproved at) = IsDisproved p f system text at
+Judges p f system text (answers.Disproved at certificate) = IsDisproved p f system text at × (certificate.items ≡ [])
 Judges p f system text (answers.Obligation failing) = (offer : Offered f system text) × IsFirstFailing (owed system offer.claim offer.certificate) 0 failing
 Judges p f system text (answers.CertificateLine line) = IsNoCertificate f system text line
 Judges p f system text answers.Memory = Unit {0}
@@ -71,7 +71,7 @@ Judges p f system text answer = ⊥
 
 -- the answer says that these are the values of the program's variables, or memory is wanting
 abbrev pub SaysValues : System → List ℤ → Answer → Type 0
-SaysValues p values (answers.Disproved at) = (at.names ≡ p.variables) × (at.values.items ≡ values)
+SaysValues p values (answers.Disproved at certificate) = (at.names ≡ p.variables) × (at.values.items ≡ values) × (certificate.items ≡ [])
 SaysValues p values answers.Memory = Unit {0}
 SaysValues p values answer = ⊥
 

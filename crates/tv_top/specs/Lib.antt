@@ -2,9 +2,11 @@ pub mod CommandLine
 pub mod Tasks
 pub mod Forms
 pub mod Views
+pub mod CauseLines
 pub mod Answers
 pub mod Properties
 pub mod Judging
 pub mod Finding
+pub mod Searching
 pub mod Headline
 pub mod Accepted

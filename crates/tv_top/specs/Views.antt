@@ -1,6 +1,6 @@
 use Rattle.tv_top.specs.declared.task.Question.{Question}
 use Rattle.tv_top.specs.declared.task.Question.TheVariants as questions
-use Rattle.tv_top.specs.declared.task.Limits.{Limits as Given}
+use Rattle.tv_top.specs.declared.limits.Limits.{Limits as Given}
 use Rattle.tv_top.specs.declared.task.Task.{Task as Asked}
 use Rattle.tv_top.specs.Tasks.{Query, safety, termination, ctl, Limits, Task}
 

@@ -2,23 +2,24 @@ ghost use Rattle.std.specs.Prelude.{◌≡◌, ◌++◌, ◌∷◌, [], IfOk, de
 ghost use Rattle.tv_top.specs.Answers.{kind_word, obligation_line, what_word, placed_line, too_many_line, text_line, column_line, property_line, plain_line, lines_of, status_of};
 
 use crate::assignment::Assignment;
+use crate::cause::Cause;
 use crate::status::Status;
-use crate::system_lines::{append_detail, cause_line};
 use itoa::Buffer;
 use std::alloc::{AllocError, Global};
 use tv_cert::{Failing, Kind};
 use tv_formula_reader::FormulaFault;
-use tv_rank::Name;
 use tv_reader::{ReadFault, What};
-use tv_simplex::SolveFault;
 
 /// What is written, and how the run ends.
 #[derive(Drop)]
 pub enum Answer {
     /// The property holds at every initial state. With the text of the certificate, where it is to be written.
     Proved(Vec<u8>),
-    /// The property fails at the initial state with these values.
-    Disproved(Assignment),
+    /// The property fails at the initial state with these values. With the text of the certificate, where it is to be written.
+    Disproved {
+        at: Assignment,
+        certificate: Vec<u8>,
+    },
     Obligation(Failing),
     /// The text of the certificate is refused at this line.
     CertificateLine(u32),
@@ -32,10 +33,8 @@ pub enum Answer {
     WideEdge(u32),
     /// With an edge there are too many linear cases.
     TooManyInEdge(u32),
-    /// A linear system of the search was not settled.
-    Unsolved { system: Name, fault: SolveFault },
-    /// What was searched for was not found, and no further search is built.
-    Unbuilt,
+    /// It is not known whether the property holds.
+    Unknown(Cause),
     ReadFault,
     Memory,
 }
@@ -154,7 +153,7 @@ impl Answer {
     {
         match self {
             Answer::Proved(_) => format!(in alloc; "Proved\n"),
-            Answer::Disproved(_) => format!(in alloc; "Disproved\n"),
+            Answer::Disproved { .. } => format!(in alloc; "Disproved\n"),
             Answer::Obligation(failing) => refusal(
                 alloc,
                 failing.number,
@@ -168,8 +167,7 @@ impl Answer {
             Answer::Property(fault) => property_refusal(alloc, *fault),
             Answer::WideEdge(edge) => numbered(alloc, "Refused text wide edge ", *edge),
             Answer::TooManyInEdge(edge) => numbered(alloc, "Refused text too many edge ", *edge),
-            Answer::Unsolved { fault, .. } => cause_line(alloc, fault),
-            Answer::Unbuilt => format!(in alloc; "Unknown unbuilt\n"),
+            Answer::Unknown(cause) => cause.line(alloc),
             Answer::ReadFault | Answer::Memory => Ok(String::new(alloc)),
         }
     }
@@ -182,8 +180,11 @@ impl Answer {
         let mut lines = Vec::from_slice(alloc, line.as_bytes())?;
         match self {
             Answer::Proved(certificate) => lines.extend_from_slice(certificate)?,
-            Answer::Disproved(assignment) => assignment.append_lines(alloc, &mut lines)?,
-            Answer::Unsolved { system, fault } => append_detail(alloc, &mut lines, system, fault)?,
+            Answer::Disproved { at, certificate } => {
+                at.append_lines(alloc, &mut lines)?;
+                lines.extend_from_slice(certificate)?;
+            }
+            Answer::Unknown(cause) => cause.append_detail(alloc, &mut lines)?,
             _ => {}
         }
         Ok(lines)
@@ -195,11 +196,11 @@ impl Answer {
     {
         match self {
             Answer::Proved(_) => Status::Proved,
-            Answer::Disproved(_) => Status::Disproved,
+            Answer::Disproved { .. } => Status::Disproved,
             Answer::Obligation(_) | Answer::CertificateLine(_) => Status::CertificateRefused,
             Answer::ReadFault => Status::ReadFault,
             Answer::Memory => Status::Memory,
-            Answer::Unsolved { .. } | Answer::Unbuilt => Status::Unknown,
+            Answer::Unknown(_) => Status::Unknown,
             _ => Status::Refused,
         }
     }

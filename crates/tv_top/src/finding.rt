@@ -1,42 +1,69 @@
 // What a search finds.
 
-ghost use Rattle.std.specs.Prelude.{◌≡◌, ◌↔◌, IfOk, IsTrue, length};
+ghost use Rattle.std.specs.Prelude.{◌≡◌, ◌↔◌, ◌≤◌, IfOk, IsTrue, length};
 ghost use Rattle.tv_program.specs.Programs.{system_of};
 ghost use Rattle.tv_formula.specs.Formulas.{property_of, variables_of};
 ghost use Rattle.tv_formula.specs.Properties.{Property, term};
-ghost use Rattle.tv_meaning.specs.Meaning.{HoldsInitially};
 ghost use Rattle.tv_cases.specs.Answers.{IsOfProgram, HaveSameSteps};
 ghost use Rattle.tv_cases.specs.Systems.{cases_of};
-ghost use Rattle.tv_cert.specs.Claims.{IsClaim, StatesIts, claim_variables, about_with, shown};
+ghost use Rattle.tv_cert.specs.Claims.{IsClaim, about_with, shown};
+ghost use Rattle.tv_invariant.specs.Asking.{Gave};
 ghost use Rattle.tv_shape.specs.Certificates.{IsOf};
-ghost use Rattle.tv_lexrank.specs.Certified.{IsProofOfEnd};
-ghost use Rattle.tv_lexrank.specs.Nodes.{IsRankedNode};
-ghost use Rattle.tv_top.specs.Answers.{IsOfSystem, unsolved};
-ghost use Rattle.tv_top.specs.Finding.{Finds, IsShown, IsTextOf};
-ghost use Rattle.tv_top.specs.Views.{task_view};
+ghost use Rattle.tv_points.specs.Nodes.{endless};
+ghost use Rattle.tv_recur.specs.Recurring.{IsRecurrence};
+ghost use Rattle.tv_settling.specs.Ends.{IsStuckAlone};
+ghost use Rattle.tv_settling.specs.Settling.{IsSettling};
+ghost use Rattle.tv_top.specs.Answers.{ended, uncovered};
+ghost use Rattle.tv_top.specs.Finding.{budget_of, IsOpenEnd, IsTextOf, TellsClaim, SaysVerdict, Settles, Finds};
+ghost use Rattle.tv_top.specs.Searching.{IsOfOne, Answers};
+ghost use Rattle.tv_top.specs.Views.{limits_of, task_view};
 
 use crate::answer::Answer;
+use crate::assignment::Assignment;
+use crate::cause::Cause;
+use crate::excluded::excluded;
+use crate::limits::Limits;
+use crate::safety::safe;
+use crate::search::Search;
 use crate::task::Task;
 use std::alloc::{AllocError, Global};
 use tv_cases::Cases;
-use tv_cert::{Claim, Node};
+use tv_cert::{Claim, Verdict};
 use tv_cert_spelling::write_certificate;
+use tv_farkas::{Budget, CoverFault};
 use tv_formula::{Formula, Tree};
-use tv_lexrank::{RankFault, Ranked, first_attempt, ranked_certificate};
 use tv_program::Program;
+use tv_propose::Proposer;
+use tv_rank::Name;
+use tv_recur::{Recurrence, recur, recurrence_certificate};
+use tv_settling::{EndFault, first_end, found_end};
 use tv_shape::Certificate;
 use tv_sound::check_claim;
 
-/// The answer where a linear system of the search was not settled.
-fn unsolved(fault: RankFault) -> Answer
-    requires { IsOfSystem fault }
-    ensures { result ≡ unsolved fault }
+/// The answer where a question of whole points was not settled.
+pub(crate) fn uncovered(fault: CoverFault) -> Answer
+    ensures { result ≡ uncovered fault }
 {
     match fault {
-        RankFault::Memory => Answer::Memory,
-        RankFault::Solve { system, fault } => Answer::Unsolved { system, fault },
-        RankFault::Open { .. } => unreachable!(),
-        RankFault::Cover { .. } => unreachable!(),
+        CoverFault::Splits { path } => Answer::Unknown(Cause::Spent { path }),
+        CoverFault::Solve { rows, fault } => Answer::Unknown(Cause::Unsolved {
+            system: Name::Rows(rows),
+            fault,
+        }),
+        CoverFault::Wide { column } => Answer::Unknown(Cause::Composed { column }),
+        CoverFault::Memory => Answer::Memory,
+    }
+}
+
+/// The answer where it is not known whether every run ends.
+fn ended(fault: EndFault) -> Answer
+    ensures { result ≡ ended fault }
+{
+    match fault {
+        EndFault::Solve { system, fault } => Answer::Unknown(Cause::Unsolved { system, fault }),
+        EndFault::Cover { fault } => uncovered(fault),
+        EndFault::Rank { set, barriers } => Answer::Unknown(Cause::Unranked { set, barriers }),
+        EndFault::Memory => Answer::Memory,
     }
 }
 
@@ -68,75 +95,157 @@ fn text_of(
     }
 }
 
-/// The certificate is checked, so that every run of the program ends.
-fn ensure_end(program: &Program, about: &Cases, claim: &Claim, certificate: &Certificate)
-    requires same_program { IsOfProgram (system_of program.now) (cases_of about.now) }
-    requires same_steps { HaveSameSteps (system_of program.now) (cases_of about.now) }
-    requires states { StatesIts claim.now }
-    requires variables { claim_variables claim.now ≡ (cases_of about.now).variables }
-    requires ends { property_of claim.now.proved ≡ term }
-    requires proof { IsProofOfEnd (cases_of about.now) certificate.now }
-    ensures { (f : Property) → IsClaim claim.now f → HoldsInitially (system_of program.now) f }
+/// The certificate is checked, so that what it says is so.
+fn ensure_met(search: &Search, certificate: &Certificate)
+    requires one { IsOfOne search.now }
+    requires settling { IsSettling (cases_of search.now.about.now) search.now.claim.now certificate.now }
+    ensures { (f : Property) → IsClaim search.now.claim.now f →
+        TellsClaim (system_of search.now.program.now) f (cases_of search.now.about.now) certificate.now }
 {
-    match check_claim(program, about, claim, certificate) {
+    match check_claim(search.program, search.about, search.claim, certificate) {
         Ok(()) => {}
         Err(_) => unreachable!(),
     }
 }
 
-/// The certificate that every run ends, made of a node that shows it, is checked; its text, where it is to be written.
-fn shown(
-    alloc: Global,
-    writes: bool,
-    program: &Program,
-    about: &Cases,
-    claim: &Claim,
-    node: Node,
-) -> Result<Vec<u8>, AllocError>
-    requires same_program { IsOfProgram (system_of program.now) (cases_of about.now) }
-    requires same_steps { HaveSameSteps (system_of program.now) (cases_of about.now) }
-    requires states { StatesIts claim.now }
-    requires variables { claim_variables claim.now ≡ (cases_of about.now).variables }
-    requires ends { property_of claim.now.proved ≡ term }
-    requires ranked { IsRankedNode (cases_of about.now) node }
-    ensures { (f : Property) → IsClaim claim.now f → IfOk result (λ text. IsShown writes (system_of program.now) f (cases_of about.now) text.items) }
+/// The answer of what a verdict says, with the text of its certificate.
+fn said(alloc: Global, program: &Program, verdict: &Verdict, text: Vec<u8>) -> Answer
+    ensures { SaysVerdict (system_of program.now) verdict.now text.items result }
 {
-    let certificate = ranked_certificate(alloc, about, claim, node)?;
-    ensure_end(program, about, claim, &certificate);
-    text_of(alloc, writes, about, claim, &certificate)
-}
-
-/// The answer to whether every run of the program with these cases ends, which is claimed.
-fn ends(alloc: Global, task: &Task, program: &Program, about: &Cases, claim: &Claim) -> Answer
-    requires same_program { IsOfProgram (system_of program.now) (cases_of about.now) }
-    requires same_steps { HaveSameSteps (system_of program.now) (cases_of about.now) }
-    requires states { StatesIts claim.now }
-    requires variables { claim_variables claim.now ≡ (cases_of about.now).variables }
-    requires ends { property_of claim.now.proved ≡ term }
-    ensures { (f : Property) → IsClaim claim.now f → Finds (task_view task.now) (system_of program.now) f (cases_of about.now) result }
-{
-    match first_attempt(alloc, about, u64::from(task.limits.pivots)) {
-        Ok(Ranked::Node(node)) => match shown(alloc, task.writes, program, about, claim, node) {
-            Ok(text) => Answer::Proved(text),
+    match verdict {
+        Verdict::Proved(_) => Answer::Proved(text),
+        Verdict::Disproved { values, .. } => match Assignment::new(alloc, program, values) {
+            Ok(at) => Answer::Disproved {
+                at,
+                certificate: text,
+            },
             Err(_) => Answer::Memory,
         },
-        Ok(Ranked::Stuck { .. }) => Answer::Unbuilt,
-        Err(fault) => unsolved(fault),
     }
 }
 
-/// The answer of a search to what is claimed.
-fn settle(alloc: Global, task: &Task, program: &Program, about: &Cases, claim: &Claim) -> Answer
-    requires same_program { IsOfProgram (system_of program.now) (cases_of about.now) }
-    requires same_steps { HaveSameSteps (system_of program.now) (cases_of about.now) }
-    requires states { StatesIts claim.now }
-    requires variables { claim_variables claim.now ≡ (cases_of about.now).variables }
-    ensures { (f : Property) → IsClaim claim.now f → Finds (task_view task.now) (system_of program.now) f (cases_of about.now) result }
+/// The answer of a certificate that settles what is claimed.
+pub(crate) fn told(alloc: Global, search: &Search, certificate: &Certificate) -> Answer
+    requires one { IsOfOne search.now }
+    requires settling { IsSettling (cases_of search.now.about.now) search.now.claim.now certificate.now }
+    ensures { (f : Property) → IsClaim search.now.claim.now f →
+        Settles search.now.task.now.writes (system_of search.now.program.now) f (cases_of search.now.about.now) result }
 {
-    if is_termination(claim.proved()) {
-        ends(alloc, task, program, about, claim)
-    } else {
-        Answer::Unbuilt
+    ensure_met(search, certificate);
+    match text_of(
+        alloc,
+        search.task.writes,
+        search.about,
+        search.claim,
+        certificate,
+    ) {
+        Ok(text) => said(alloc, search.program, certificate.verdict(), text),
+        Err(_) => Answer::Memory,
+    }
+}
+
+/// How far a search goes.
+pub(crate) fn budget_of(limits: &Limits) -> Budget
+    ensures exact { result ≡ budget_of (limits_of limits.now) }
+    ensures few { result.splits ≤ 128 }
+{
+    Budget {
+        pivots: u64::from(limits.pivots),
+        splits: limits.splits,
+        disjuncts: limits.disjuncts,
+    }
+}
+
+/// The answer to whether every run ends, under rows that are found.
+fn ends_under_rows(
+    alloc: Global,
+    search: &Search,
+    proposers: &mut Vec<Box<dyn Proposer>>,
+    budget: &Budget,
+) -> Answer
+    requires one { IsOfOne search.now }
+    requires ends { property_of search.now.claim.now.proved ≡ term }
+    requires unsettled { IsOpenEnd (cases_of search.now.about.now) }
+    requires budget { budget.now ≡ budget_of (task_view search.now.task.now).limits }
+    requires splits { budget.now.splits ≤ 128 }
+    ensures { (f : Property) → IsClaim search.now.claim.now f →
+        Answers (λ about. Gave (λ p. rest p about) proposers.old.items) search.now f result }
+{
+    match found_end(alloc, search.about, search.claim, proposers, budget) {
+        Ok(certificate) => told(alloc, search, &certificate),
+        Err(fault) => ended(fault),
+    }
+}
+
+/// The answer of a run that never ends.
+fn endless_run(alloc: Global, search: &Search, recurrence: Recurrence) -> Answer
+    requires one { IsOfOne search.now }
+    requires denied { property_of search.now.claim.now.denied ≡ endless }
+    requires recurrence { IsRecurrence (cases_of search.now.about.now) recurrence }
+    ensures { (f : Property) → IsClaim search.now.claim.now f →
+        Settles search.now.task.now.writes (system_of search.now.program.now) f (cases_of search.now.about.now) result }
+{
+    match recurrence_certificate(alloc, search.about, search.claim, recurrence) {
+        Ok(certificate) => told(alloc, search, &certificate),
+        Err(_) => Answer::Memory,
+    }
+}
+
+/// The answer to whether every run ends, where ranks alone do not show it.
+fn ends_later(
+    alloc: Global,
+    search: &Search,
+    proposers: &mut Vec<Box<dyn Proposer>>,
+    budget: &Budget,
+) -> Answer
+    requires one { IsOfOne search.now }
+    requires ends { property_of search.now.claim.now.proved ≡ term }
+    requires stuck { IsStuckAlone (cases_of search.now.about.now) }
+    requires budget { budget.now ≡ budget_of (task_view search.now.task.now).limits }
+    requires splits { budget.now.splits ≤ 128 }
+    ensures { (f : Property) → IsClaim search.now.claim.now f →
+        Answers (λ about. Gave (λ p. rest p about) proposers.old.items) search.now f result }
+{
+    match recur(alloc, search.about, budget) {
+        Ok(Some(recurrence)) => endless_run(alloc, search, recurrence),
+        Ok(None) => ends_under_rows(alloc, search, proposers, budget),
+        Err(fault) => uncovered(fault),
+    }
+}
+
+/// The answer to whether every run ends, which is claimed.
+fn ends(alloc: Global, search: &Search, proposers: &mut Vec<Box<dyn Proposer>>) -> Answer
+    requires one { IsOfOne search.now }
+    requires ends { property_of search.now.claim.now.proved ≡ term }
+    ensures { (f : Property) → IsClaim search.now.claim.now f →
+        Answers (λ about. Gave (λ p. rest p about) proposers.old.items) search.now f result }
+{
+    let budget = budget_of(&search.task.limits);
+    match first_end(alloc, search.about, search.claim, &budget) {
+        Ok(Some(certificate)) => told(alloc, search, &certificate),
+        Ok(None) => ends_later(alloc, search, proposers, &budget),
+        Err(fault) => ended(fault),
+    }
+}
+
+/// The answer to what is claimed.
+fn settle(alloc: Global, search: &Search, proposers: &mut Vec<Box<dyn Proposer>>) -> Answer
+    requires { IsOfOne search.now }
+    ensures { (f : Property) → IsClaim search.now.claim.now f →
+        Answers (λ about. Gave (λ p. rest p about) proposers.old.items) search.now f result }
+{
+    if is_termination(search.claim.proved()) {
+        return ends(alloc, search, proposers);
+    }
+    match excluded(search.claim.proved()) {
+        Some(location) => {
+            if location < search.about.locations() {
+                safe(alloc, search, location, proposers)
+            } else {
+                Answer::Unknown(Cause::Unbuilt)
+            }
+        }
+        None => Answer::Unknown(Cause::Unbuilt),
     }
 }
 
@@ -147,14 +256,24 @@ pub fn find(
     program: &Program,
     property: &Formula,
     about: &Cases,
+    proposers: &mut Vec<Box<dyn Proposer>>,
 ) -> Answer
     requires variables { variables_of property.now ≡ length (system_of program.now).variables }
     requires same_program { IsOfProgram (system_of program.now) (cases_of about.now) }
     requires same_steps { HaveSameSteps (system_of program.now) (cases_of about.now) }
-    ensures { Finds (task_view task.now) (system_of program.now) (property_of property.now) (cases_of about.now) result }
+    ensures { Finds (λ about. Gave (λ p. rest p about) proposers.old.items)
+        (task_view task.now) (system_of program.now) (property_of property.now) (cases_of about.now) result }
 {
     match Claim::new(alloc, property) {
-        Ok(claim) => settle(alloc, task, program, about, &claim),
+        Ok(claim) => {
+            let search = Search {
+                task,
+                program,
+                about,
+                claim: &claim,
+            };
+            settle(alloc, &search, proposers)
+        }
         Err(_) => Answer::Memory,
     }
 }

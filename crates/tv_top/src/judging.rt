@@ -40,7 +40,10 @@ fn said(alloc: Global, program: &Program, accepted: &Accepted) -> Answer
         return Answer::Proved(Vec::new(alloc));
     }
     match Assignment::new(alloc, program, &accepted.values) {
-        Ok(assignment) => Answer::Disproved(assignment),
+        Ok(at) => Answer::Disproved {
+            at,
+            certificate: Vec::new(alloc),
+        },
         Err(_) => Answer::Memory,
     }
 }

@@ -4,15 +4,20 @@
 mod accepting;
 mod answer;
 mod assignment;
+mod cause;
+mod cause_lines;
 mod command;
+mod excluded;
 mod finding;
 mod judging;
 mod laws;
+mod limits;
 mod numbers;
 mod property;
 mod running;
+mod safety;
+mod search;
 mod status;
-mod system_lines;
 mod task;
 
 pub use laws::{listed_words, refused_words};

@@ -1,6 +1,6 @@
 // Numbers in words.
 
-ghost use Rattle.std.specs.Prelude.{◌≡◌, ◌<◌, ◌^◌, option_map};
+ghost use Rattle.std.specs.Prelude.{◌≡◌, ◌<◌, ◌≤◌, ◌^◌, option_map, IfSome};
 ghost use Rattle.std.specs.Char.{is_ascii_digit};
 ghost use Rattle.std.specs.List.{list_all};
 ghost use Rattle.tv_top.specs.Tasks.{begins_above_zero, is_decimal, number_within, limit_of};
@@ -33,7 +33,8 @@ fn is_decimal(word: &[u8]) -> bool
 
 /// The number from 1 to `most` that the word writes, without a sign or a zero in front.
 fn number_within(word: &str, most: u32) -> Option<u32>
-    ensures { result ≡ number_within most word.now }
+    ensures exact { result ≡ number_within most word.now }
+    ensures within { IfSome result (λ number. number ≤ most) }
 {
     let digits = word.as_bytes();
     if !is_decimal(digits) {
@@ -49,7 +50,9 @@ fn number_within(word: &str, most: u32) -> Option<u32>
 
 /// The number that an option gives, from 1 to `most`, and the usual one where it is not there.
 pub fn limit_of(word: Option<&str>, most: u32, usual: u32) -> Option<u32>
-    ensures { result ≡ limit_of most usual (option_map (λ w. w.now) word.entry) }
+    requires { usual ≤ most }
+    ensures exact { result ≡ limit_of most usual (option_map (λ w. w.now) word.entry) }
+    ensures within { IfSome result (λ number. number ≤ most) }
 {
     match word {
         None => Some(usual),

@@ -1,13 +1,10 @@
 ghost use Rattle.std.specs.Prelude.{◌≡◌, ℕ, ◌-◌, ◌<◌, ◌≤◌, ◌^◌, List, map, length, Some};
 ghost use Rattle.tv_text.specs.Stream.{Rose};
-ghost use Rattle.tv_program.specs.Programs.{system_of};
-ghost use Rattle.tv_formula.specs.Formulas.{property_of, variables_of};
-ghost use Rattle.tv_cases.specs.Answers.{IsOfProgram, HaveSameSteps};
-ghost use Rattle.tv_cases.specs.Systems.{cases_of};
 ghost use Rattle.tv_top.specs.Answers.{without_cases, without_property};
 ghost use Rattle.tv_top.specs.Tasks.{task_of};
 ghost use Rattle.tv_top.specs.Views.{task_view};
-ghost use Rattle.tv_top.specs.Headline.{most_bytes, AreTexts, Tells, Means, IsAnswer, Concludes};
+ghost use Rattle.tv_invariant.specs.Asking.{Gave};
+ghost use Rattle.tv_top.specs.Headline.{most_bytes, AreTexts, Means, IsAnswer, Concludes};
 
 use crate::answer::Answer;
 use crate::finding::find;
@@ -16,10 +13,9 @@ use crate::property::property;
 use crate::status::Status;
 use crate::task::Task;
 use std::alloc::Global;
-use tv_cases::{CaseFault, Cases, cases};
-use tv_formula::Formula;
+use tv_cases::{CaseFault, cases};
 use tv_formula_reader::FormulaFault;
-use tv_program::Program;
+use tv_propose::Proposer;
 use tv_reader::{ReadFault, read_program};
 use tv_text::{ReadError, Sink, Source, read_all, split_texts, write_all};
 
@@ -63,33 +59,15 @@ fn texts_in(bytes: &[u8], checks: bool) -> (&[u8], &[u8])
     }
 }
 
-/// The answer to whether the program has the property: what is said of the certificate that is to be checked, or what is found.
-fn settle(
-    alloc: Global,
-    task: &Task,
-    program: &Program,
-    property: &Formula,
-    about: &Cases,
-    certificate: &[u8],
-) -> Answer
-    requires variables { variables_of property.now ≡ length (system_of program.now).variables }
-    requires same_program { IsOfProgram (system_of program.now) (cases_of about.now) }
-    requires same_steps { HaveSameSteps (system_of program.now) (cases_of about.now) }
-    requires few { length certificate.now < 2 ^ 32 - 1 }
-    ensures { let asked = task_view task.now in
-        Tells asked.checks asked (system_of program.now) (property_of property.now) (cases_of about.now) certificate.now result }
-{
-    if task.checks {
-        judge(alloc, program, property, about, certificate)
-    } else {
-        find(alloc, task, program, property, about)
-    }
-}
-
 /// The answer to what is asked about the program in the bytes.
-fn decide(alloc: Global, bytes: &[u8], task: &Task) -> Answer
+fn decide(
+    alloc: Global,
+    bytes: &[u8],
+    task: &Task,
+    proposers: &mut Vec<Box<dyn Proposer>>,
+) -> Answer
     requires { length bytes.now ≤ most_bytes task.now.checks }
-    ensures { Means (task_view task.now) bytes.now result }
+    ensures { Means (λ about. Gave (λ p. rest p about) proposers.old.items) (task_view task.now) bytes.now result }
 {
     let (text, certificate) = texts_in(bytes, task.checks);
     let program = match read_program(alloc, text) {
@@ -105,7 +83,11 @@ fn decide(alloc: Global, bytes: &[u8], task: &Task) -> Answer
         Ok(about) => about,
         Err(fault) => return without_cases(fault),
     };
-    settle(alloc, task, &program, &property, &about, certificate)
+    if task.checks {
+        judge(alloc, &program, &property, &about, certificate)
+    } else {
+        find(alloc, task, &program, &property, &about, proposers)
+    }
 }
 
 /// How many bytes are read at most.
@@ -116,14 +98,19 @@ fn most_bytes(checks: bool) -> usize
 }
 
 /// The answer to what the words ask about the text that the source holds.
-fn answered<S: Source>(alloc: Global, task: &Task, source: &mut S) -> Answer
+fn answered<S: Source>(
+    alloc: Global,
+    task: &Task,
+    source: &mut S,
+    proposers: &mut Vec<Box<dyn Proposer>>,
+) -> Answer
     ensures answer { (words : List (List ℕ)) → task_of words ≡ Some (task_view task.now) →
-        IsAnswer words (S.seen source.old) (S.seen source.new) result }
+        IsAnswer (λ about. Gave (λ p. rest p about) proposers.old.items) words (S.seen source.old) (S.seen source.new) result }
     ensures read { result ≡ Answer.ReadFault → Rose (S.faults source.old) (S.faults source.new) }
     ensures later { S.faults source.old ≤ S.faults source.new }
 {
     match read_all(alloc, source, most_bytes(task.checks)) {
-        Ok(bytes) => decide(alloc, &bytes, task),
+        Ok(bytes) => decide(alloc, &bytes, task, proposers),
         Err(ReadError::Fault) => Answer::ReadFault,
         Err(ReadError::TooLong) => Answer::TooLong,
         Err(ReadError::Memory) => Answer::Memory,
@@ -131,32 +118,40 @@ fn answered<S: Source>(alloc: Global, task: &Task, source: &mut S) -> Answer
 }
 
 /// The answer to the words about the text that the source holds.
-fn answer_to<S: Source>(alloc: Global, words: &[&str], source: &mut S) -> Answer
-    ensures answer { IsAnswer (map (λ word. word.now) words.now) (S.seen source.old) (S.seen source.new) result }
+fn answer_to<S: Source>(
+    alloc: Global,
+    words: &[&str],
+    source: &mut S,
+    proposers: &mut Vec<Box<dyn Proposer>>,
+) -> Answer
+    ensures answer { IsAnswer (λ about. Gave (λ p. rest p about) proposers.old.items) (map (λ word. word.now) words.now) (S.seen source.old) (S.seen source.new) result }
     ensures read { result ≡ Answer.ReadFault → Rose (S.faults source.old) (S.faults source.new) }
     ensures later { S.faults source.old ≤ S.faults source.new }
 {
     match Task::read(alloc, words) {
-        Ok(Some(task)) => answered(alloc, &task, source),
+        Ok(Some(task)) => answered(alloc, &task, source, proposers),
         Ok(None) => Answer::Words,
         Err(_) => Answer::Memory,
     }
 }
 
 /// Answers the question of the words about the text that the source holds, with lines that are written at the end.
+///
+/// Where rows that hold on every run are looked for, the proposers are asked for candidates.
 pub fn run<S: Source, K: Sink>(
     alloc: Global,
     words: &[&str],
     source: &mut S,
     sink: &mut K,
+    mut proposers: Vec<Box<dyn Proposer>>,
 ) -> Status
-    ensures headline { Concludes (map (λ word. word.now) words.now) (S.seen source.old) (S.seen source.new) (K.seen sink.old) (K.seen sink.new) result }
+    ensures headline { Concludes (λ about. Gave (λ p. rest p about) proposers.items) (map (λ word. word.now) words.now) (S.seen source.old) (S.seen source.new) (K.seen sink.old) (K.seen sink.new) result }
     ensures read { result ≡ Status.ReadFault → Rose (S.faults source.old) (S.faults source.new) }
     ensures write { result ≡ Status.WriteFault → Rose (K.faults sink.old) (K.faults sink.new) }
     ensures later_source { S.faults source.old ≤ S.faults source.new }
     ensures later_sink { K.faults sink.old ≤ K.faults sink.new }
 {
-    let answer = answer_to(alloc, words, source);
+    let answer = answer_to(alloc, words, source, &mut proposers);
     let lines = match answer.lines(alloc) {
         Ok(lines) => lines,
         Err(_) => return Status::Memory,

@@ -5,6 +5,7 @@ ghost use Rattle.tv_top.specs.Tasks.{is_given, query_in, limits_in, task_in, tas
 ghost use Rattle.tv_top.specs.Views.{query_of, limits_of, task_view};
 
 use crate::command::command;
+use crate::limits::Limits;
 use crate::numbers::limit_of;
 use clap::ArgMatches;
 use clap::error::ErrorKind;
@@ -19,17 +20,6 @@ pub enum Question<'a> {
     Termination,
     /// The formula with this text.
     Ctl(&'a str),
-}
-
-/// How far a search goes.
-#[derive(Clone, Copy)]
-pub struct Limits {
-    /// How many bases of a linear system are tried.
-    pub pivots: u32,
-    /// How many splits lie on a path.
-    pub splits: u32,
-    /// How many pieces a region has.
-    pub disjuncts: u32,
 }
 
 /// What the words ask for.

@@ -1,20 +1,28 @@
-use Rattle.std.proofs.Common.{◌≡◌, ◌∙◌, sym, subst, rules}
+use Rattle.std.proofs.Common.{◌≡◌, ◌∙◌, sym, subst}
 use Rattle.tv_program.specs.Programs.{system_of}
+use Rattle.tv_formula.specs.Normal.{normal}
+use Rattle.tv_formula.specs.Properties.{term}
 use Rattle.tv_cases.specs.Systems.{cases_of}
-use Rattle.tv_lexrank.specs.First.{RefusesFirst}
-use Rattle.tv_top.specs.Finding.{Finds}
+use Rattle.tv_invariant.specs.Asking.{Gave}
+use Rattle.tv_settling.specs.Ends.{IsFirstFault}
+use Rattle.tv_top.specs.Finding.{Offers, Finds}
 use Rattle.tv_top.specs.Views.{task_view}
-use Rattle.tv_top.proofs.Found.{of_system, unsolved_so}
+use Rattle.tv_top.proofs.Found.{settles_found, first_so}
 use Rattle.tv_top.proofs.finding.ends.Goals as goal
 
-pub unsolved-requires : goal.unsolved-requires
-unsolved-requires c = of_system (cases_of c.args.about.now) c.from.result c.in-Err.fault c.in-Err.ensures.refusals
+pub returns-in-Ok-Some : goal.returns-in-Ok-Some
+returns-in-Ok-Some g c = λ f is.
+    let search = c.args.search.now in
+    let offers : Offers = λ about. Gave (λ p. (goal.Proposer-dyn g (p.vtable, p.value)).rest p.value about) c.args.proposers.now.items in
+    settles_found offers (task_view search.task.now) (system_of search.program.now) f (cases_of search.about.now) c.told.result (c.told.ensures f is)
 
-pub returns : goal.returns
-returns c = λ f is.
-    let task = task_view c.args.task.now in
-    let p = system_of c.args.program.now in
-    let about = cases_of c.args.about.now in
-    let same : c.from.result ≡ task.limits.pivots = search rules in
-    let refuses : RefusesFirst about task.limits.pivots c.in-Err.fault = subst (λ n. RefusesFirst about n c.in-Err.fault) same c.in-Err.ensures.refusals in
-    subst (λ answer. Finds task p f about answer) (sym c.unsolved.ensures) (unsolved_so task p f about c.in-Err.fault (sym is.proved ∙ c.requires.ends) refuses)
+pub returns-in-Err : goal.returns-in-Err
+returns-in-Err g c = λ f is.
+    let search = c.args.search.now in
+    let task = task_view search.task.now in
+    let p = system_of search.program.now in
+    let about = cases_of search.about.now in
+    let n : normal f ≡ term = sym is.proved ∙ c.requires.ends in
+    let offers : Offers = λ about. Gave (λ p. (goal.Proposer-dyn g (p.vtable, p.value)).rest p.value about) c.args.proposers.now.items in
+    subst (λ answer. Finds offers task p f about answer) (sym c.ended.ensures)
+    (first_so offers task p f about n c.in-Err.fault (subst (λ b. IsFirstFault about b c.in-Err.fault) c.budget_of-budget.ensures.exact c.in-Err.ensures.refusals))

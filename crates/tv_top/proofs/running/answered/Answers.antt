@@ -9,7 +9,7 @@ use Rattle.tv_top.proofs.running.answered.Goals as goal
 pub returns-in-Ok-clause-answer : goal.returns-in-Ok-clause-answer
 returns-in-Ok-clause-answer g c = λ words asks.
     let short : length c.in-Ok.bytes.items ≤ most_bytes c.args.task.now.checks = search rules in
-    decided c.in-Ok.bytes.items asks c.in-Ok.ensures.whole c.in-Ok.ensures.end short (means_same _ _ _ c.decide.result c.deref.ensures.value c.decide.ensures)
+    decided c.in-Ok.bytes.items asks c.in-Ok.ensures.whole c.in-Ok.ensures.end short (means_same _ _ _ _ c.decide.result c.deref.ensures.value c.decide.ensures)
 
 pub returns-in-Err-Fault-clause-answer : goal.returns-in-Err-Fault-clause-answer
 returns-in-Err-Fault-clause-answer g c = λ words asks. failed asks c.read_all.ensures.lost

@@ -9,7 +9,7 @@ use Rattle.tv_top.proofs.running.run.Goals as goal
 pub returns-in-Err-clause-headline : goal.returns-in-Err-clause-headline
 returns-in-Err-clause-headline g c = record {
   answer = Memory;
-  is_answer = without_memory (came _ _ _ c.answer_to-answer.ensures.answer);
+  is_answer = without_memory (came _ _ _ _ c.answer_to-answer.ensures.answer);
   is_written = whole (took_nothing (g.K.Sink.seen c.args.sink.now));
 }
 

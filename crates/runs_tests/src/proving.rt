@@ -1,0 +1,188 @@
+use crate::safety::COUNTER;
+use crate::texts::{add_proposers, is_accepted, joined, says_of, says_under};
+use crate::words::COUNTDOWN;
+use std::alloc::Global;
+use std::test::Fail;
+use tv_candidates::Candidate;
+use tv_linear::Row;
+use tv_propose::{Proposer, Scripted};
+use tv_top::Status;
+
+const SAFETY_2: &[&str] = &["--safety", "2"];
+
+const PROVED: &str = "Proved\n";
+
+/// Comes to location 2 after seven steps.
+const PASSES: &str =
+    "START: 0; FROM: 0; x := 0; TO: 1; FROM: 1; assume(x < 5); x := x + 1; TO: 1; FROM: 1; assume(x > 4); TO: 2;";
+
+/// Comes to location 2 where 7 is drawn.
+const DRAWS: &str =
+    "START: 0; FROM: 0; y := nondet(); TO: 1; FROM: 1; assume(y == 7); assume(x > 2); TO: 2;";
+
+/// Comes to location 2 after ten steps alone, more than are tried.
+const FAR: &str =
+    "START: 0; FROM: 0; x := 0; TO: 1; FROM: 1; x := x + 1; TO: 1; FROM: 1; assume(x == 9); TO: 2;";
+
+/// The second number is always twice the first, which no bound and no difference of the two says.
+const TWICE: &str =
+    "START: 0; FROM: 0; x := 0; y := 0; TO: 1; FROM: 1; x := x + 1; y := y + 2; TO: 1; FROM: 1; assume(x == 3); assume(y != 6); TO: 2;";
+
+/// Two ways to each step, over even numbers.
+const BRANCHES: &str =
+    "START: 0; FROM: 0; x := 0; TO: 1; FROM: 1; x := x + 2; TO: 1; FROM: 1; x := x - 2; TO: 1; FROM: 1; assume(x == 3); TO: 2;";
+
+/// Comes to location 2 with a value of more than 62 bits.
+const DOUBLED: &str =
+    "START: 0; FROM: 0; x := 4000000000000000000; TO: 1; FROM: 1; x := x + x; TO: 2;";
+
+/// Words, a program, and the lines of the verdict.
+const SETTLED: &[(&[&str], &str, &str, Status)] = &[
+    (SAFETY_2, COUNTER, PROVED, Status::Proved),
+    (&["--ctl", "[AG](!at(2))"], COUNTER, PROVED, Status::Proved),
+    (SAFETY_2, PASSES, "Disproved\nx = 1\n", Status::Disproved),
+    (
+        SAFETY_2,
+        DRAWS,
+        "Disproved\ny = 7\nx = 7\n",
+        Status::Disproved,
+    ),
+    (
+        &["--safety", "0"],
+        COUNTDOWN,
+        "Disproved\nx = 1\n",
+        Status::Disproved,
+    ),
+];
+
+/// The verdict is written, and the certificate that is written behind it is accepted.
+#[test]
+fn whether_runs_come_to_a_location_is_settled(rt: HostRuntime) -> Result<(), Fail> {
+    for (words, text, lines, status) in SETTLED {
+        assert!(rt;
+            says_of(rt.alloc(), words, &[text], lines, *status)?,
+            "{words:?} {text}"
+        );
+        assert!(rt;
+            is_accepted(rt.alloc(), words, text, lines, *status)?,
+            "{words:?} {text}"
+        );
+    }
+    Ok(())
+}
+
+/// Words, a program, and the cause that it is not known.
+const OPEN: &[(&[&str], &str, &str)] = &[
+    (SAFETY_2, TWICE, "Unknown invariant\nlocation 2 at 3 3\n"),
+    (SAFETY_2, FAR, "Unknown invariant\nlocation 2 at 9\n"),
+    (
+        &["--safety", "2", "--disjuncts", "1"],
+        BRANCHES,
+        "Unknown disjuncts\nlocation 2 count 2\n",
+    ),
+    (SAFETY_2, DOUBLED, "Unknown width\ncomposed column 1\n"),
+];
+
+#[test]
+fn why_it_is_not_settled_is_told(rt: HostRuntime) -> Result<(), Fail> {
+    for (words, text, lines) in OPEN {
+        assert!(rt;
+            says_of(rt.alloc(), words, &[text], lines, Status::Unknown)?,
+            "{text}"
+        );
+    }
+    Ok(())
+}
+
+/// A location, and a row by its coefficients and its constant.
+type Placed = (u32, &'static [i128], i128);
+
+fn candidate(alloc: Global, placed: &Placed) -> Result<Candidate, Fail> {
+    if placed.1.len() > 3 {
+        return Err(Fail::from("more than three columns"));
+    }
+    let row = Row::new(alloc, placed.1, placed.2)?.ok_or("wide")?;
+    Ok(Candidate {
+        location: placed.0,
+        row,
+    })
+}
+
+/// A proposer of these rows, each so many times.
+fn offering(alloc: Global, list: &[Placed], times: u32) -> Result<Box<dyn Proposer>, Fail> {
+    let mut candidates = Vec::new(alloc);
+    for placed in list {
+        for _ in 0..times {
+            candidates.push(candidate(alloc, placed)?)?;
+        }
+    }
+    let proposer: Box<dyn Proposer> = Box::new(alloc, Scripted::new(candidates))?;
+    Ok(proposer)
+}
+
+/// A program, what is offered alone, and what is answered: rows that do not hold, or that are about no location, show nothing.
+const OFFERED: &[(&str, &[Placed], &str, Status)] = &[
+    (
+        COUNTER,
+        &[],
+        "Unknown invariant\nlocation 2 at 1\n",
+        Status::Unknown,
+    ),
+    (
+        COUNTER,
+        &[(1, &[1], 0), (2, &[0], 1), (0, &[0], 1), (7, &[0], 1)],
+        "Unknown invariant\nlocation 2 at 1\n",
+        Status::Unknown,
+    ),
+    (
+        COUNTER,
+        &[(1, &[1], 0), (9, &[1], -5), (1, &[1], -5), (2, &[0], 1)],
+        PROVED,
+        Status::Proved,
+    ),
+    (
+        TWICE,
+        &[(1, &[-2, 1], 0), (1, &[2, -1], 0)],
+        PROVED,
+        Status::Proved,
+    ),
+];
+
+#[test]
+fn rows_that_are_offered_are_looked_at(rt: HostRuntime) -> Result<(), Fail> {
+    for (text, list, lines, status) in OFFERED {
+        let given = joined(rt.alloc(), &[text])?;
+        let mut proposers: Vec<Box<dyn Proposer>> = Vec::new(rt.alloc());
+        proposers.push(offering(rt.alloc(), list, 1)?)?;
+        assert!(rt;
+            says_under(rt.alloc(), SAFETY_2, given, proposers, lines, *status)?,
+            "{text} {list:?}"
+        );
+    }
+    Ok(())
+}
+
+/// Rows that do not hold, are about no location or have another number of columns.
+const USELESS: &[Placed] = &[
+    (1, &[1], 0),
+    (0, &[0], 1),
+    (9, &[1], -5),
+    (1, &[1, 0, 0], -5),
+    (2, &[], 1),
+];
+
+/// What is of no use, again and again, changes no answer.
+#[test]
+fn useless_rows_change_no_answer(rt: HostRuntime) -> Result<(), Fail> {
+    for (words, text, lines, status) in SETTLED {
+        let given = joined(rt.alloc(), &[text])?;
+        let mut proposers = Vec::new(rt.alloc());
+        proposers.push(offering(rt.alloc(), USELESS, 50)?)?;
+        add_proposers(rt.alloc(), &mut proposers)?;
+        assert!(rt;
+            says_under(rt.alloc(), words, given, proposers, lines, *status)?,
+            "{words:?} {text}"
+        );
+    }
+    Ok(())
+}

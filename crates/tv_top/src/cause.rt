@@ -1,0 +1,38 @@
+use tv_farkas::Branch;
+use tv_rank::Name;
+use tv_simplex::SolveFault;
+
+/// Why it is not known whether the property holds.
+#[derive(Drop)]
+pub enum Cause {
+    /// A linear system of the search was not settled.
+    Unsolved {
+        system: Name,
+        fault: SolveFault,
+    },
+    /// Whether rows have a whole point was not settled by so many splits.
+    Spent {
+        path: Vec<Branch>,
+    },
+    /// A row that the search makes is too wide at this column.
+    Composed {
+        column: u32,
+    },
+    /// No terms rank these cases, and for each of them there is a barrier.
+    Unranked {
+        set: Vec<u32>,
+        barriers: Vec<Vec<i128>>,
+    },
+    /// The rows that were found to hold have this point at the location with the label, and no short run comes there.
+    Weak {
+        label: Vec<u8>,
+        point: Vec<i128>,
+    },
+    /// So many paths, more than are looked at, may come to the location with the label.
+    TooManyPaths {
+        label: Vec<u8>,
+        count: u64,
+    },
+    /// No search is built for the property.
+    Unbuilt,
+}

@@ -1,0 +1,13 @@
+ghost use Rattle.std.specs.Prelude.{◌≤◌};
+
+/// How far a search goes.
+#[derive(Clone, Copy)]
+pub struct Limits {
+    /// How many bases of a linear system are tried.
+    pub pivots: u32,
+    /// How many splits lie on a path.
+    pub splits: u32,
+    /// How many pieces a region has.
+    pub disjuncts: u32,
+    ghost few: { splits ≤ 128 },
+}
