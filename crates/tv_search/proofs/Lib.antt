@@ -8,3 +8,4 @@ pub mod TriedLemmas
 pub mod ReachLemmas
 pub mod LeftLemmas
 pub mod AnswerLemmas
+pub mod ToldLemmas

@@ -4,3 +4,4 @@ pub mod Rounds
 pub mod Marks
 pub mod Tried
 pub mod Answers
+pub mod Laws

@@ -4,6 +4,7 @@
 mod aim;
 mod extending;
 mod fault;
+mod laws;
 mod leading;
 mod left;
 mod met;
@@ -16,6 +17,7 @@ mod search_fault;
 mod searched;
 mod trying;
 
+pub use laws::shut_out_leaves_none;
 pub use safety::search;
 pub use search_fault::SearchFault;
 pub use searched::Searched;
