@@ -10,7 +10,7 @@ use std::test::Fail;
 use tv_linear::{CoverTree, Row};
 
 /// A row by its coefficients and its constant.
-pub type Numbers = (&'static [i128], i128);
+pub(crate) type Numbers = (&'static [i128], i128);
 
 fn row(alloc: Global, coefficients: &[i128], constant: i128) -> Result<Row, Fail>
     requires { length coefficients.now < 2 ^ 32 - 1 }
@@ -19,7 +19,7 @@ fn row(alloc: Global, coefficients: &[i128], constant: i128) -> Result<Row, Fail
     Ok(row)
 }
 
-pub fn rows_of(rt: &impl Abort, alloc: Global, table: &[Numbers]) -> Result<Vec<Row>, Fail> {
+pub(crate) fn rows_of(rt: &impl Abort, alloc: Global, table: &[Numbers]) -> Result<Vec<Row>, Fail> {
     let mut rows = Vec::new(alloc);
     for (coefficients, constant) in table {
         assert!(rt; coefficients.len() < 2000);
@@ -28,13 +28,13 @@ pub fn rows_of(rt: &impl Abort, alloc: Global, table: &[Numbers]) -> Result<Vec<
     Ok(rows)
 }
 
-pub fn are_even(rows: &[Row], columns: u32) -> bool
+pub(crate) fn are_even(rows: &[Row], columns: u32) -> bool
     ensures { IsTrue result ↔ All (λ r. width r ≡ columns) rows.now }
 {
     rows.iter().all(|row| row.columns() == columns)
 }
 
-pub fn is_row(row: &Row, wanted: &Numbers) -> bool {
+pub(crate) fn is_row(row: &Row, wanted: &Numbers) -> bool {
     let numbers = row.coefficients();
     numbers.len() == wanted.0.len()
         && numbers
@@ -45,7 +45,7 @@ pub fn is_row(row: &Row, wanted: &Numbers) -> bool {
 }
 
 /// Whether the tree is a leaf with these multipliers.
-pub fn is_leaf(tree: &CoverTree, numbers: &[i64]) -> bool {
+pub(crate) fn is_leaf(tree: &CoverTree, numbers: &[i64]) -> bool {
     match tree {
         CoverTree::Empty(multipliers) => multipliers.as_slice() == numbers,
         _ => false,
@@ -53,10 +53,10 @@ pub fn is_leaf(tree: &CoverTree, numbers: &[i64]) -> bool {
 }
 
 /// `2*x == 1`.
-pub const HALF: &[Numbers] = &[(&[2], -1), (&[-2], 1)];
+pub(crate) const HALF: &[Numbers] = &[(&[2], -1), (&[-2], 1)];
 
 /// `2*x == y` and `2*z + 1 == y`.
-pub const PARITY: &[Numbers] = &[
+pub(crate) const PARITY: &[Numbers] = &[
     (&[2, -1, 0], 0),
     (&[-2, 1, 0], 0),
     (&[0, -1, 2], 1),
@@ -64,10 +64,10 @@ pub const PARITY: &[Numbers] = &[
 ];
 
 /// A number that the solver refuses.
-pub const LARGE: &[Numbers] = &[(&[1 << 40], -1)];
+pub(crate) const LARGE: &[Numbers] = &[(&[1 << 40], -1)];
 
 /// `2*x == -1`.
-pub const MINUS_HALF: &[Numbers] = &[(&[2], 1), (&[-2], -1)];
+pub(crate) const MINUS_HALF: &[Numbers] = &[(&[2], 1), (&[-2], -1)];
 
 /// `x >= 2`, `y >= 3` and `x + y <= 7`.
-pub const CORNER: &[Numbers] = &[(&[1, 1], -7), (&[-1, 0], 2), (&[0, -1], 3)];
+pub(crate) const CORNER: &[Numbers] = &[(&[1, 1], -7), (&[-1, 0], 2), (&[0, -1], 3)];

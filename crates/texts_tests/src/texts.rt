@@ -6,7 +6,12 @@ use tv_program::Program;
 use tv_reader::{ReadFault, read_program};
 
 /// Three texts in one.
-pub fn joined(alloc: Global, front: &str, middle: &str, end: &str) -> Result<Vec<u8>, AllocError> {
+pub(crate) fn joined(
+    alloc: Global,
+    front: &str,
+    middle: &str,
+    end: &str,
+) -> Result<Vec<u8>, AllocError> {
     let mut text = Vec::from_slice(alloc, front.as_bytes())?;
     text.extend_from_slice(middle.as_bytes())?;
     text.extend_from_slice(end.as_bytes())?;
@@ -14,7 +19,7 @@ pub fn joined(alloc: Global, front: &str, middle: &str, end: &str) -> Result<Vec
 }
 
 /// The bytes so many times, and `end`.
-pub fn repeated(
+pub(crate) fn repeated(
     alloc: Global,
     bytes: &[u8],
     times: u32,
@@ -29,7 +34,7 @@ pub fn repeated(
 }
 
 /// The program of a text of less than 4 GiB.
-pub fn read(alloc: Global, text: &[u8]) -> Result<Program, ReadFault> {
+pub(crate) fn read(alloc: Global, text: &[u8]) -> Result<Program, ReadFault> {
     if text.len() >= 4294967295 {
         return Err(ReadFault::Memory);
     }
@@ -37,7 +42,7 @@ pub fn read(alloc: Global, text: &[u8]) -> Result<Program, ReadFault> {
 }
 
 /// The program of a text that has one.
-pub fn program_of(alloc: Global, text: &[u8]) -> Result<Program, Fail> {
+pub(crate) fn program_of(alloc: Global, text: &[u8]) -> Result<Program, Fail> {
     match read(alloc, text) {
         Ok(program) => Ok(program),
         Err(_) => Err(Fail::from("no program")),
