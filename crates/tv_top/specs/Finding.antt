@@ -1,5 +1,5 @@
 -- What the answer of a search says of a program and a property.
-use Rattle.std.specs.Prelude.{◌≡◌, ◌⊎◌, ℕ, ◌<◌, ℤ, List, [], Bool, true, false, Some, slice_get, Vec}
+use Rattle.std.specs.Prelude.{◌≡◌, ◌⊎◌, ℕ, ◌<◌, ℤ, List, [], Bool, true, false, Option, Some, slice_get, Vec}
 use Rattle.std.specs.Global.{Global}
 use Rattle.tv_program.specs.Systems.{System}
 use Rattle.tv_formula.specs.Properties.{Property, term}
@@ -9,6 +9,7 @@ use Rattle.tv_meaning.specs.Meaning.{HoldsInitially}
 use Rattle.tv_cases.specs.LinearCases.{CaseSystem}
 use Rattle.tv_candidates.specs.declared.candidate.Candidate.{Candidate}
 use Rattle.tv_candidates.specs.Inductive.{IsInductive}
+use Rattle.tv_invariant.specs.Asking.{Gave}
 use Rattle.tv_invariant.specs.Passes.{AreOver}
 use Rattle.tv_invariant.specs.Places.{rows_at}
 use Rattle.tv_known.specs.Recurrences.{HasSimpleRecurrence}
@@ -106,6 +107,10 @@ Settles writes p f about answer = ⊥
 -- what proposers offer for some cases
 abbrev pub Offers : Type 1
 Offers = CaseSystem → List (List Candidate) → Type 0
+
+-- what these proposers offer, where rest is what each tells of some cases
+abbrev pub offers_of : {A : Type 0} → (A → CaseSystem → Option (List Candidate)) → List A → Offers
+offers_of rest proposers about = Gave (λ p. rest p about) proposers
 
 -- a question of whole points that was not settled, as it is answered
 abbrev pub IsUncovered : (CoverFault → Type 0) → Cause → Type 0

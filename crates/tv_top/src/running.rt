@@ -3,7 +3,7 @@ ghost use Rattle.tv_text.specs.Stream.{Rose};
 ghost use Rattle.tv_top.specs.Answers.{without_cases, without_property};
 ghost use Rattle.tv_top.specs.Tasks.{task_of};
 ghost use Rattle.tv_top.specs.Views.{task_view};
-ghost use Rattle.tv_invariant.specs.Asking.{Gave};
+ghost use Rattle.tv_top.specs.Finding.{offers_of};
 ghost use Rattle.tv_top.specs.Headline.{most_bytes, AreTexts, Means, IsAnswer, Concludes};
 
 use crate::answer::Answer;
@@ -67,7 +67,7 @@ fn decide(
     proposers: &mut Vec<Box<dyn Proposer>>,
 ) -> Answer
     requires { length bytes.now ≤ most_bytes task.now.checks }
-    ensures { Means (λ about. Gave (λ p. rest p about) proposers.old.items) (task_view task.now) bytes.now result }
+    ensures { Means (offers_of (λ p. rest p) proposers.old.items) (task_view task.now) bytes.now result }
 {
     let (text, certificate) = texts_in(bytes, task.checks);
     let program = match read_program(alloc, text) {
@@ -105,7 +105,7 @@ fn answered<S: Source>(
     proposers: &mut Vec<Box<dyn Proposer>>,
 ) -> Answer
     ensures answer { (words : List (List ℕ)) → task_of words ≡ Some (task_view task.now) →
-        IsAnswer (λ about. Gave (λ p. rest p about) proposers.old.items) words (S.seen source.old) (S.seen source.new) result }
+        IsAnswer (offers_of (λ p. rest p) proposers.old.items) words (S.seen source.old) (S.seen source.new) result }
     ensures read { result ≡ Answer.ReadFault → Rose (S.faults source.old) (S.faults source.new) }
     ensures later { S.faults source.old ≤ S.faults source.new }
 {
@@ -124,7 +124,8 @@ fn answer_to<S: Source>(
     source: &mut S,
     proposers: &mut Vec<Box<dyn Proposer>>,
 ) -> Answer
-    ensures answer { IsAnswer (λ about. Gave (λ p. rest p about) proposers.old.items) (map (λ word. word.now) words.now) (S.seen source.old) (S.seen source.new) result }
+    ensures answer { let asked = map (λ word. word.now) words.now in
+        IsAnswer (offers_of (λ p. rest p) proposers.old.items) asked (S.seen source.old) (S.seen source.new) result }
     ensures read { result ≡ Answer.ReadFault → Rose (S.faults source.old) (S.faults source.new) }
     ensures later { S.faults source.old ≤ S.faults source.new }
 {
@@ -145,7 +146,9 @@ pub fn run<S: Source, K: Sink>(
     sink: &mut K,
     mut proposers: Vec<Box<dyn Proposer>>,
 ) -> Status
-    ensures headline { Concludes (λ about. Gave (λ p. rest p about) proposers.items) (map (λ word. word.now) words.now) (S.seen source.old) (S.seen source.new) (K.seen sink.old) (K.seen sink.new) result }
+    ensures headline { let asked = map (λ word. word.now) words.now in
+        let offers = offers_of (λ p. rest p) proposers.items in
+        Concludes offers asked (S.seen source.old) (S.seen source.new) (K.seen sink.old) (K.seen sink.new) result }
     ensures read { result ≡ Status.ReadFault → Rose (S.faults source.old) (S.faults source.new) }
     ensures write { result ≡ Status.WriteFault → Rose (K.faults sink.old) (K.faults sink.new) }
     ensures later_source { S.faults source.old ≤ S.faults source.new }
