@@ -108,7 +108,8 @@ fn append_comparison(
     left: &Expr,
     right: &Expr,
 ) -> Result<(), AllocError>
-    ensures { OnOk result (out.new.items ≡ out.old.items ++ formula_text words.now.variables.now words.now.labels.now (compare relation (expression left.now) (expression right.now))) }
+    ensures { let f = compare relation (expression left.now) (expression right.now) in
+        OnOk result (out.new.items ≡ out.old.items ++ formula_text words.now.variables.now words.now.labels.now f) }
 {
     append_sum(words.alloc, out, left, words.variables)?;
     append_text(out, relation_text(relation))?;
@@ -163,7 +164,8 @@ fn append_in_brackets(
     has_brackets: bool,
     tree: &Tree,
 ) -> Result<(), AllocError>
-    ensures { OnOk result (out.new.items ≡ out.old.items ++ in_brackets has_brackets (formula_text words.now.variables.now words.now.labels.now (property tree.now))) }
+    ensures { let text = formula_text words.now.variables.now words.now.labels.now (property tree.now) in
+        OnOk result (out.new.items ≡ out.old.items ++ in_brackets has_brackets text) }
 {
     if !has_brackets {
         return append_formula(words, out, tree);

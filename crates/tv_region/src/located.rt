@@ -36,7 +36,8 @@ pub(crate) trait Located {
 
     fn lists(&self, alloc: Global, location: u32) -> Result<Vec<Vec<Row>>, RegionFault>
         requires { location < locations self.now }
-        ensures at { IfOk result (λ v. IsAt (variables self.now) (only self.now location) (out self.now location) (made self.now) (few self.now location) (lists v)) }
+        ensures at { let few_here = few self.now location in
+            IfOk result (λ v. IsAt (variables self.now) (only self.now location) (out self.now location) (made self.now) few_here (lists v)) }
         ensures refused { IfErr result (refused self.now) };
 }
 
@@ -49,7 +50,8 @@ pub(crate) fn assemble<L: Located>(
 ) -> Result<Region, RegionFault>
     requires variables { variables ≡ L.variables located.now }
     requires locations { locations ≡ L.locations located.now }
-    ensures assembled { IfOk result (λ r. IsAssembled (L.variables located.now) (L.locations located.now) (L.only located.now) (L.out located.now) (L.made located.now) (L.few located.now) r) }
+    ensures assembled { let by = located.now in
+        IfOk result (λ r. IsAssembled (L.variables by) (L.locations by) (L.only by) (L.out by) (L.made by) (L.few by) r) }
     ensures refused { IfErr result (λ fault. (fault ≡ Memory) ⊎ L.refused located.now fault) }
 {
     let mut pieces = Vec::new(alloc);
