@@ -55,7 +55,8 @@ impl Reader<'_> {
         requires behind { self.old.behind_colon ≡ false }
         ensures steady { Settled result (IsSteady self.new) }
         ensures kept { Keeps result self.old self.new }
-        ensures reads { (cs : List Instruction) → Gives (λ c. cs ++ instruction c ∷ []) result (left self.new) ((grammar.assumption every 63 cs).read (left self.old)) }
+        ensures reads { (cs : List Instruction) → let found = (grammar.assumption every 63 cs).read (left self.old) in
+            Gives (λ c. cs ++ instruction c ∷ []) result (left self.new) found }
         ensures colon { OnOk result (self.new.behind_colon ≡ false) }
         ensures draws { IfOk result (λ c. self.new.reading.draws ≡ self.old.reading.draws + draws_of (instruction c)) }
         ensures fits { IfOk result (λ c. IsTrue (instruction_fits (length self.new.reading.names) self.new.reading.draws (instruction c))) }
@@ -75,7 +76,8 @@ impl Reader<'_> {
         requires known { variable < length self.old.reading.names }
         ensures steady { Settled result (IsSteady self.new) }
         ensures kept { Keeps result self.old self.new }
-        ensures reads { (cs : List Instruction) → Gives (λ c. cs ++ instruction c ∷ []) result (left self.new) ((grammar.assignment every 63 cs variable).read (left self.old)) }
+        ensures reads { (cs : List Instruction) → let found = (grammar.assignment every 63 cs variable).read (left self.old) in
+            Gives (λ c. cs ++ instruction c ∷ []) result (left self.new) found }
         ensures colon { OnOk result (self.new.behind_colon ≡ false) }
         ensures draws { IfOk result (λ c. self.new.reading.draws ≡ self.old.reading.draws + draws_of (instruction c)) }
         ensures fits { IfOk result (λ c. IsTrue (instruction_fits (length self.new.reading.names) self.new.reading.draws (instruction c))) }
@@ -92,7 +94,8 @@ impl Reader<'_> {
         requires steady { IsSteady self.now }
         requires behind { self.now.behind_colon ≡ false }
         requires named { next_kind self.now ≡ kinds.Name }
-        ensures marked { MatchOption result (next (left self.now) ≡ Some (refused marks.TooMany kinds.Name)) (λ v. next (left self.now) ≡ Some (plain (name v))) }
+        ensures marked { let first = next (left self.now) in
+            MatchOption result (first ≡ Some (refused marks.TooMany kinds.Name)) (λ v. first ≡ Some (plain (name v))) }
         ensures within { IfSome result (λ v. v < length self.now.reading.names) }
     {
         let word = word_of(self.text, self.reading.peek());
@@ -105,7 +108,8 @@ impl Reader<'_> {
         requires behind { self.old.behind_colon ≡ false }
         ensures steady { IsSteady self.new }
         ensures kept { IsKept self.old self.new }
-        ensures taken { (left self.old ≡ plain (fixed kinds.Semicolon) ∷ left self.new) ⊎ ((left self.new ≡ left self.old) × (kind_at (next (left self.old)) ≡ kinds.Semicolon → ⊥)) }
+        ensures taken { let before = left self.old in let after = left self.new in
+            (before ≡ plain (fixed kinds.Semicolon) ∷ after) ⊎ ((after ≡ before) × (kind_at (next before) ≡ kinds.Semicolon → ⊥)) }
         ensures colon { self.new.behind_colon ≡ false }
         ensures draws { self.new.reading.draws ≡ self.old.reading.draws }
     {
@@ -203,7 +207,9 @@ impl Reader<'_> {
         requires behind { self.old.behind_colon ≡ false }
         ensures steady { IsSteady self.new }
         ensures kept { IsKept self.old self.new }
-        ensures reads { (s : Items) (from : ℕ) (cs : List Instruction) → Gives (λ l. grammar.with_edge s from cs l) result (left self.new) ((headed marks.Syntax (grammar.last_of_edge every s from cs)).read (left self.old)) }
+        ensures reads { (s : Items) (from : ℕ) (cs : List Instruction) →
+            let found = (headed marks.Syntax (grammar.last_of_edge every s from cs)).read (left self.old) in
+            Gives (λ l. grammar.with_edge s from cs l) result (left self.new) found }
         ensures colon { OnOk result (self.new.behind_colon ≡ false) }
         ensures draws { self.new.reading.draws ≡ self.old.reading.draws }
         ensures within { IfOk result (λ l. l < length self.new.labels) }

@@ -27,7 +27,8 @@ fn put_within(names: &mut Names, word: &[u8], most: u32) -> Result<(), AllocErro
     requires few { most ≤ 1024 }
     requires within { length names.old ≤ most }
     ensures within { length names.new ≤ most }
-    ensures added { OnOk result ((ws : List Word) → take most (by_first_place names.new ws) ≡ take most (by_first_place (words_with word.now names.old) ws)) }
+    ensures added { OnOk result ((ws : List Word) → let all = words_with word.now names.old in
+        take most (by_first_place names.new ws) ≡ take most (by_first_place all ws)) }
 {
     if names.len() < most {
         names.put(word)?;
@@ -47,8 +48,10 @@ fn put_word(
     requires labels { length known.old.labels ≤ 1024 }
     ensures variables { length known.new.variables ≤ 512 }
     ensures labels { length known.new.labels ≤ 1024 }
-    ensures names { OnOk result ((ws : List Word) → take 512 (by_first_place known.new.variables ws) ≡ take 512 (by_first_place known.old.variables (variable_by behind_colon kind word.now ws))) }
-    ensures places { OnOk result ((ws : List Word) → take 1024 (by_first_place known.new.labels ws) ≡ take 1024 (by_first_place known.old.labels (label_by behind_colon kind word.now ws))) }
+    ensures names { OnOk result ((ws : List Word) → let with_it = variable_by behind_colon kind word.now ws in
+        take 512 (by_first_place known.new.variables ws) ≡ take 512 (by_first_place known.old.variables with_it)) }
+    ensures places { OnOk result ((ws : List Word) → let with_it = label_by behind_colon kind word.now ws in
+        take 1024 (by_first_place known.new.labels ws) ≡ take 1024 (by_first_place known.old.labels with_it)) }
 {
     if behind_colon {
         if is_label(kind) {
