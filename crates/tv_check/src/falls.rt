@@ -21,7 +21,8 @@ pub fn shows_less(
     more: i128,
     multipliers: &[i64],
 ) -> bool
-    ensures { IsTrue result ↔ Refutes columns (known_at frames.now ++ denied (less (change_of change.now (row_seen new.entry)) (given (row_seen old.entry)) more) ∷ []) multipliers.now }
+    ensures { let fall = less (change_of change.now (row_seen new.entry)) (given (row_seen old.entry)) more in
+        IsTrue result ↔ Refutes columns (known_at frames.now ++ denied fall ∷ []) multipliers.now }
 {
     let first = Built::Given(new);
     let from = Built::Given(old);
@@ -46,7 +47,8 @@ pub fn shows_less(
 
 /// Whether the multipliers show that the row is not below 0.
 pub fn shows_not_below(columns: usize, frames: &Frames, old: RowView, multipliers: &[i64]) -> bool
-    ensures { IsTrue result ↔ Refutes columns (known_at frames.now ++ denied (less (given zero_row) (given (row_seen old.entry)) (pos 0)) ∷ []) multipliers.now }
+    ensures { let fall = less (given zero_row) (given (row_seen old.entry)) (pos 0) in
+        IsTrue result ↔ Refutes columns (known_at frames.now ++ denied fall ∷ []) multipliers.now }
 {
     let zero = Built::Zero;
     let from = Built::Given(old);
@@ -64,7 +66,8 @@ fn shown_fall_at(
     j: u32,
     lists: &[Vec<i64>],
 ) -> bool
-    ensures { IsTrue result ↔ ShownAt columns (known_at frames.now) (fall_rows_at (as_given (rows_seen old.entry)) (map (change_of change.now) (rows_seen new.entry)) j) (map (λ l. l.items) lists.now) }
+    ensures { let falls = fall_rows_at (as_given (rows_seen old.entry)) (map (change_of change.now) (rows_seen new.entry)) j in
+        IsTrue result ↔ ShownAt columns (known_at frames.now) falls (map (λ l. l.items) lists.now) }
 {
     match old.split_first() {
         None => false,
@@ -111,7 +114,8 @@ pub fn shown_fall(
     j: u32,
     lists: &[Vec<i64>],
 ) -> bool
-    ensures { IsTrue result ↔ ShownAt columns (known_at frames.now) (fall_rows (as_given (rows_seen old.entry)) (map (change_of change.now) (rows_seen new.entry)) j) (map (λ l. l.items) lists.now) }
+    ensures { let falls = fall_rows (as_given (rows_seen old.entry)) (map (change_of change.now) (rows_seen new.entry)) j in
+        IsTrue result ↔ ShownAt columns (known_at frames.now) falls (map (λ l. l.items) lists.now) }
 {
     j > 0 && shown_fall_at(columns, frames, change, old, new, j - 1, lists)
 }
