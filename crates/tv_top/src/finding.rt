@@ -7,14 +7,13 @@ ghost use Rattle.tv_formula.specs.Properties.{Property, term};
 ghost use Rattle.tv_cases.specs.Answers.{IsOfProgram, HaveSameSteps};
 ghost use Rattle.tv_cases.specs.Systems.{cases_of};
 ghost use Rattle.tv_cert.specs.Claims.{IsClaim, about_with, shown};
-ghost use Rattle.tv_invariant.specs.Asking.{Gave};
 ghost use Rattle.tv_shape.specs.Certificates.{IsOf};
 ghost use Rattle.tv_points.specs.Nodes.{endless};
 ghost use Rattle.tv_recur.specs.Recurring.{IsRecurrence};
 ghost use Rattle.tv_settling.specs.Ends.{IsStuckAlone};
 ghost use Rattle.tv_settling.specs.Settling.{IsSettling};
 ghost use Rattle.tv_top.specs.Answers.{ended, uncovered};
-ghost use Rattle.tv_top.specs.Finding.{budget_of, IsOpenEnd, IsTextOf, TellsClaim, SaysVerdict, Settles, Finds};
+ghost use Rattle.tv_top.specs.Finding.{budget_of, offers_of, IsOpenEnd, IsTextOf, TellsClaim, SaysVerdict, Settles, Finds};
 ghost use Rattle.tv_top.specs.Searching.{IsOfOne, Answers};
 ghost use Rattle.tv_top.specs.Views.{limits_of, task_view};
 
@@ -169,7 +168,7 @@ fn ends_under_rows(
     requires budget { budget.now ≡ budget_of (task_view search.now.task.now).limits }
     requires splits { budget.now.splits ≤ 128 }
     ensures { (f : Property) → IsClaim search.now.claim.now f →
-        Answers (λ about. Gave (λ p. rest p about) proposers.old.items) search.now f result }
+        Answers (offers_of (λ p. rest p) proposers.old.items) search.now f result }
 {
     match found_end(alloc, search.about, search.claim, proposers, budget) {
         Ok(certificate) => told(alloc, search, &certificate),
@@ -204,7 +203,7 @@ fn ends_later(
     requires budget { budget.now ≡ budget_of (task_view search.now.task.now).limits }
     requires splits { budget.now.splits ≤ 128 }
     ensures { (f : Property) → IsClaim search.now.claim.now f →
-        Answers (λ about. Gave (λ p. rest p about) proposers.old.items) search.now f result }
+        Answers (offers_of (λ p. rest p) proposers.old.items) search.now f result }
 {
     match recur(alloc, search.about, budget) {
         Ok(Some(recurrence)) => endless_run(alloc, search, recurrence),
@@ -218,7 +217,7 @@ fn ends(alloc: Global, search: &Search, proposers: &mut Vec<Box<dyn Proposer>>) 
     requires one { IsOfOne search.now }
     requires ends { property_of search.now.claim.now.proved ≡ term }
     ensures { (f : Property) → IsClaim search.now.claim.now f →
-        Answers (λ about. Gave (λ p. rest p about) proposers.old.items) search.now f result }
+        Answers (offers_of (λ p. rest p) proposers.old.items) search.now f result }
 {
     let budget = budget_of(&search.task.limits);
     match first_end(alloc, search.about, search.claim, &budget) {
@@ -232,7 +231,7 @@ fn ends(alloc: Global, search: &Search, proposers: &mut Vec<Box<dyn Proposer>>) 
 fn settle(alloc: Global, search: &Search, proposers: &mut Vec<Box<dyn Proposer>>) -> Answer
     requires { IsOfOne search.now }
     ensures { (f : Property) → IsClaim search.now.claim.now f →
-        Answers (λ about. Gave (λ p. rest p about) proposers.old.items) search.now f result }
+        Answers (offers_of (λ p. rest p) proposers.old.items) search.now f result }
 {
     if is_termination(search.claim.proved()) {
         return ends(alloc, search, proposers);
@@ -261,7 +260,7 @@ pub fn find(
     requires variables { variables_of property.now ≡ length (system_of program.now).variables }
     requires same_program { IsOfProgram (system_of program.now) (cases_of about.now) }
     requires same_steps { HaveSameSteps (system_of program.now) (cases_of about.now) }
-    ensures { Finds (λ about. Gave (λ p. rest p about) proposers.old.items)
+    ensures { Finds (offers_of (λ p. rest p) proposers.old.items)
         (task_view task.now) (system_of program.now) (property_of property.now) (cases_of about.now) result }
 {
     match Claim::new(alloc, property) {

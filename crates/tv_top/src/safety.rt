@@ -7,10 +7,9 @@ ghost use Rattle.tv_formula.specs.Formulas.{property_of};
 ghost use Rattle.tv_formula.specs.Properties.{Property};
 ghost use Rattle.tv_cases.specs.Systems.{cases_of};
 ghost use Rattle.tv_cert.specs.Claims.{IsClaim};
-ghost use Rattle.tv_invariant.specs.Asking.{Gave};
 ghost use Rattle.tv_reaching.specs.FoundRuns.{IsFoundRun};
 ghost use Rattle.tv_top.specs.Answers.{unknown, too_wide};
-ghost use Rattle.tv_top.specs.Finding.{IsLabel, IsWeakAt, AreTooManyAt, KeepsFrom};
+ghost use Rattle.tv_top.specs.Finding.{offers_of, IsLabel, IsWeakAt, AreTooManyAt, KeepsFrom};
 ghost use Rattle.tv_top.specs.Searching.{IsOfOne, Answers, IsShownOrNot, IsReachedOrNot};
 
 use crate::answer::Answer;
@@ -128,7 +127,7 @@ pub(crate) fn safe(
     requires never { property_of search.now.claim.now.proved ≡ never_at location }
     requires location { location < (cases_of search.now.about.now).locations }
     ensures { (f : Property) → IsClaim search.now.claim.now f →
-        Answers (λ about. Gave (λ p. rest p about) proposers.old.items) search.now f result }
+        Answers (offers_of (λ p. rest p) proposers.old.items) search.now f result }
 {
     let budget = budget_of(&search.task.limits);
     match find_run(alloc, search.about, location, proposers, &budget) {
