@@ -89,7 +89,8 @@ fn fault_at(reason: Reason, what: What, line: u32, column: u32) -> ReadFault
 /// The refusal for a reason at this token, which has this number.
 pub fn located(text: &[u8], list: &[Token], index: usize, token: Token, reason: Reason) -> ReadFault
     requires { length text.now + 1 < 2 ^ 32 }
-    ensures { result ≡ fault_at reason (brought_in (ends_with_colon false (take index list.now)) token.kind) (line_of text.now token.at) (column_of text.now token.at) }
+    ensures { let what = brought_in (ends_with_colon false (take index list.now)) token.kind in
+        result ≡ fault_at reason what (line_of text.now token.at) (column_of text.now token.at) }
 {
     let what = brought_in(is_behind_colon(list, index), token.kind);
     fault_at(

@@ -92,7 +92,9 @@ impl<'a> Reader<'a> {
         requires constant { is_fixed kind ≡ true }
         ensures steady { IsSteady self.new }
         ensures kept { IsKept self.old self.new }
-        ensures taken { MatchResult result (λ _. left self.old ≡ plain (fixed kind) ∷ left self.new) (λ e. (e ≡ reasons.Syntax) × (left self.new ≡ left self.old) × (kind_at (next (left self.old)) ≡ kind → ⊥)) }
+        ensures taken { let before = left self.old in let after = left self.new in
+            MatchResult result (λ _. before ≡ plain (fixed kind) ∷ after)
+            (λ e. (e ≡ reasons.Syntax) × (after ≡ before) × (kind_at (next before) ≡ kind → ⊥)) }
         ensures colon { MatchResult result (λ _. self.new.behind_colon ≡ is_colon kind) (λ _. self.new.behind_colon ≡ self.old.behind_colon) }
         ensures draws { self.new.reading.draws ≡ self.old.reading.draws }
     {
