@@ -51,7 +51,9 @@ impl Assignment {
         number: u32,
     ) -> Result<(), AllocError>
         requires { number < length self.now.names }
-        ensures { OnOk result (out.new.items ++ value_lines (drop (number + 1) self.now.names) (drop (number + 1) self.now.values.items) ≡ out.old.items ++ value_lines (drop number self.now.names) (drop number self.now.values.items)) }
+        ensures { let lines = value_lines (drop number self.now.names) (drop number self.now.values.items) in
+            let later = value_lines (drop (number + 1) self.now.names) (drop (number + 1) self.now.values.items) in
+            OnOk result (out.new.items ++ later ≡ out.old.items ++ lines) }
     {
         match self.values.get(number as usize) {
             Some(value) => append_line(alloc, out, self.names.text(number), *value),
