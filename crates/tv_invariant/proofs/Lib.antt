@@ -8,3 +8,4 @@ pub mod PieceLemmas
 mod MarkLemmas
 pub mod PassLemmas
 pub mod AskLemmas
+pub mod RunLemmas

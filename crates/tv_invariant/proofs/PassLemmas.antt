@@ -14,6 +14,7 @@ use Rattle.tv_candidates.specs.Inductive.{MeetsAll, IsInductive, IsPart, IsLarge
 use Rattle.tv_invariant.specs.Sieves.{Sieved, none, stay}
 use Rattle.tv_invariant.specs.Falling.{IsLeft, KeptBy, IsFallen, Begins, IsInNoPart, IsStepRefusal, IsRefusal}
 use Rattle.tv_invariant.specs.Passes.{AreOver, IsClosed, ClosedKeep, IsPassed, IsTried}
+use Rattle.tv_invariant.specs.Reached.{IsInNone}
 use Rattle.tv_invariant.specs.Reopened.{IsReopened}
 use Rattle.tv_program.specs.Steps.{State}
 use Rattle.tv_invariant.proofs.ListLemmas.{all_by}
@@ -201,6 +202,13 @@ begins_left about old new s = (
 
 pub begins_part : (about : CaseSystem) (old new : List Candidate) → All (Begins about) old → IsPart new old → All (Begins about) new
 begins_part about old new h part = all_by (Begins about) new (λ c a. All-contains (Begins about) old c h (part c a))
+
+-- what is left once those in no inductive list are taken out
+pub met_left : (about : CaseSystem) (list old new : List Candidate) → IsLeft about list old → All (Begins about) old → Sieved (λ c. Unit {0}) (IsInNone about) old new → IsLeft about list new × All (Begins about) new
+met_left about list old new left begins s = (
+  sieved_again (λ c. Unit {0}) (IsInNone about) (IsInNoPart about list) (λ c out other part inductive a. out other inductive a) list old new left s,
+  begins_part about old new begins (sieved_part (λ c. Unit {0}) (IsInNone about) old new s),
+)
 
 pub largest : (about : CaseSystem) (list now new : List Candidate) (before after : List Bool) → IsLeft about list now → All (Begins about) now → ClosedKeep about now before → IsPassed about (length about.cases) now new before after → length now ≤ length new → IsLargestInductive about list new
 largest about list now new before after left begins keep passed long =

@@ -9,3 +9,4 @@ pub mod Passes
 pub mod Asking
 pub mod Reopened
 pub mod Pieces
+pub mod Reached

@@ -9,7 +9,9 @@ ghost use Rattle.tv_invariant.specs.Passes.{AreOver};
 ghost use Rattle.tv_invariant.specs.Falling.{IsLeft, IsRefusal};
 
 use crate::passes::pass;
+use crate::reached::met_at;
 use crate::start::begin;
+use crate::walks::walks;
 use std::alloc::Global;
 use tv_candidates::Candidate;
 use tv_cases::Cases;
@@ -18,9 +20,10 @@ use tv_farkas::{Budget, CoverFault};
 /// The candidates, in order, of the greatest inductive part of a list: their rows at the start hold at all whole values, and each
 /// case keeps them.
 ///
-/// Those that some state at the start does not meet are taken out, and then again and again those that some case does not keep,
-/// until a pass over the cases takes none out (the algorithm of Houdini: Flanagan and Leino, 2001). A case is tried again only where
-/// candidates fell where it leaves, and a whole point that throws a candidate out is tried on the others before a cover is asked for.
+/// Those that some state at the start, or on one of some runs, does not meet are taken out, and then again and again those that some
+/// case does not keep, until a pass over the cases takes none out (the algorithm of Houdini: Flanagan and Leino, 2001). A case is tried
+/// again only where candidates fell where it leaves, and a whole point that throws a candidate out is tried on the others before a cover
+/// is asked for.
 pub fn largest_inductive(
     alloc: Global,
     about: &Cases,
@@ -33,7 +36,8 @@ pub fn largest_inductive(
     ensures order { IfOk result (λ part. IsLeft (cases_of about.now) candidates.items part.items) }
     ensures refusals { IfErr result (IsRefusal (cases_of about.now) candidates.items budget.now.pivots budget.now.splits) }
 {
-    let mut now = begin(alloc, about, candidates)?;
+    let begun = begin(alloc, about, candidates)?;
+    let mut now = met_at(alloc, about, &walks(alloc, about)?, begun)?;
     let mut open = vec![in alloc; true; about.list().len()]?;
     let marks = open.as_mut_slice();
     'passes: loop {

@@ -8,11 +8,13 @@ mod lists;
 mod passes;
 mod pieces;
 mod question;
+mod reached;
 mod rows;
 mod seen;
 mod start;
 mod step;
 mod strengthening;
+mod walks;
 
 pub use inductive::largest_inductive;
 pub use pieces::known_pieces;

@@ -2,21 +2,28 @@ use Rattle.std.proofs.Common.{◌≡◌, ◌≤◌, ◌∙◌, length, replicate
 use Rattle.std.proofs.lemmas.List.{length-replicate}
 use Rattle.tv_cases.specs.Systems.{cases_of}
 use Rattle.tv_invariant.specs.Passes.{ClosedKeep}
-use Rattle.tv_invariant.proofs.PassLemmas.{as_many, over_part, left_part, passed_part, begins_left, begins_part, all_open, largest}
+use Rattle.tv_invariant.proofs.PassLemmas.{as_many, over_part, left_part, passed_part, begins_left, begins_part, met_left, all_open, largest}
 use Rattle.tv_invariant.proofs.inductive.largest_inductive.Goals as goal
 
 pub passes-init : goal.passes-init
 passes-init c =
     let about = cases_of c.args.about.now in
-    let begun = begins_left about c.args.candidates.items c.in_ok-now.now.items c.in_ok-now.ensures in
+    let begun = begins_left about c.args.candidates.items c.in_ok-begun.begun.items c.in_ok-begun.ensures in
+    let met = met_left about c.args.candidates.items c.in_ok-begun.begun.items c.in_ok-now.now.items begun.0 begun.1 c.in_ok-now.ensures in
     let list = c.list.result.now in
     let marks : c.as_mut_slice-marks.result.now ≡ replicate (length list) true = c.as_mut_slice-marks.ensures.value ∙ c.in_ok-open.ensures.items_if_clones_equal (λ y e. e) in
     record {
       as_many = ap length marks ∙ length-replicate (length list) true ∙ sym (as_many about list c.list.ensures.same);
-      left = begun.0;
-      begins = begun.1;
+      left = met.0;
+      begins = met.1;
       closed = subst (λ m. ClosedKeep about c.in_ok-now.now.items m) (sym marks) (all_open about c.in_ok-now.now.items (length list));
     }
+
+pub met_at-requires-clause-over : goal.met_at-requires-clause-over
+met_at-requires-clause-over c =
+    let about = cases_of c.args.about.now in
+    let begun = begins_left about c.args.candidates.items c.in_ok-begun.begun.items c.in_ok-begun.ensures in
+    over_part about.variables c.args.candidates.items c.in_ok-begun.begun.items c.requires.over (left_part about c.args.candidates.items c.in_ok-begun.begun.items begun.0)
 
 pub pass-requires-clause-over : goal.pass-requires-clause-over
 pass-requires-clause-over c =
