@@ -54,3 +54,12 @@ all_mapped_push P f (y ∷ xs) x h p = All-cons P (f y) (map f (xs ++ x ∷ []))
 pub said_yes : (b : Bool) (P : Type 0) → b ≡ true → (IsTrue b → P) → P
 said_yes true P e f = f (search rules)
 said_yes false P e f = absurd cc
+
+-- what is written back of as many items is these items
+pub written_back : {A : Type 0} (xs ys : List A) (n : ℕ) → length xs ≡ n → length ys ≡ n → take n (xs ++ drop (length xs) ys) ≡ xs
+written_back [] [] zero e f = refl
+written_back [] ys (suc n) e f = absurd (omega (arith, e))
+written_back [] (y ∷ ys) zero e f = absurd (omega (arith, f))
+written_back (x ∷ xs) ys zero e f = absurd (omega (arith, e))
+written_back (x ∷ xs) [] (suc n) e f = absurd (omega (arith, f))
+written_back (x ∷ xs) (y ∷ ys) (suc n) e f = ap (λ zs. x ∷ zs) (written_back xs ys n (omega (arith, e)) (omega (arith, f)))

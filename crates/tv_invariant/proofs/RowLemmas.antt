@@ -13,6 +13,12 @@ use Rattle.tv_linear.proofs.PlainLists.{length-zeros, zeros-narrow, length-unit}
 use Rattle.tv_linear.proofs.Entries.{columns-combined}
 use Rattle.tv_cases.specs.LinearCases.{LinearCase}
 use Rattle.tv_cases.specs.Before.{term_row, rows_after, before}
+use Rattle.std.specs.Prelude.{Result, Ok, Err, IfOk}
+use Rattle.tv_farkas.specs.declared.fault.CoverFault.{CoverFault}
+use Rattle.tv_cover.specs.declared.covered.Covered.{Covered}
+use Rattle.tv_cover.specs.declared.covered.Covered.TheVariants.{Tree, Hole}
+use Rattle.tv_cover.specs.Covering.{IsCovered, HasNoHole}
+use Rattle.tv_invariant.specs.Seen.{IsAsked}
 use Rattle.tv_cover.specs.Targets.{IsInTarget, IsOutside, lists_of}
 use Rattle.tv_invariant.specs.Places.{padded}
 use Rattle.tv_invariant.specs.Rows.{Implies, IsStronger}
@@ -70,6 +76,11 @@ pub out_of_only : (r : Linear) (xs : List ℤ) (lists : List (List Linear)) → 
 out_of_only r xs lists e h m =
     let o = All-head (IsOutside xs) (r ∷ []) [] (subst (All (IsOutside xs)) e h) in
     o.2 (subst (IsMet xs) (in_one r o.0 o.1) m)
+
+pub asked_of : (n : ℕ) (rows : List Linear) (r : Linear) (lists : List (List Linear)) → lists ≡ (r ∷ []) ∷ [] → (result : Result Covered CoverFault) → IfOk result (IsCovered n lists rows) → IfOk result (HasNoHole n lists rows) → IfOk result (IsAsked n rows r)
+asked_of n rows r lists e (Ok (Tree cover)) h none = λ xs w. in_only r xs lists e (none xs w)
+asked_of n rows r lists e (Ok (Hole point)) h none = (h.point, out_of_only r point.items lists e h.outside)
+asked_of n rows r lists e (Err fault) h none = tt
 
 -- ---- before a case
 

@@ -2,6 +2,7 @@ pub mod Rows
 pub mod Places
 pub mod Failing
 pub mod Seen
+pub mod Kept
 pub mod Sieves
 pub mod Falling
 pub mod Judged

@@ -1,6 +1,8 @@
-use Rattle.std.specs.Prelude.{ℕ, List, ℤ, map, All, Bool, true, false, Option, None, Some, Vec}
+use Rattle.std.specs.Prelude.{ℕ, List, ℤ, map, All, Bool, true, false}
 use Rattle.tv_linear.specs.Linear.{Linear, IsMet}
 use Rattle.tv_farkas.specs.Paths.{IsWholePoint}
+use Rattle.tv_cover.specs.declared.covered.Covered.{Covered}
+use Rattle.tv_cover.specs.declared.covered.Covered.TheVariants.{Tree, Hole}
 use Rattle.tv_invariant.specs.declared.seen.Seen.{Seen}
 
 -- what is seen holds of the rows over n columns: the points are whole points of them, and each whole point meets the rows that are shown
@@ -14,6 +16,6 @@ IsSettled n rows r true = (xs : List ℤ) → IsWholePoint n rows xs → IsMet x
 IsSettled n rows r false = (xs : List ℤ) × IsWholePoint n rows xs × (IsMet xs r → ⊥)
 
 -- each whole point of the rows meets the row, or this one does not
-abbrev pub IsHoleOf : {A : Type 0} → ℕ → List Linear → Linear → Option (Vec ℤ A) → Type 0
-IsHoleOf n rows r None = (xs : List ℤ) → IsWholePoint n rows xs → IsMet xs r
-IsHoleOf n rows r (Some point) = IsWholePoint n rows point.items × (IsMet point.items r → ⊥)
+abbrev pub IsAsked : ℕ → List Linear → Linear → Covered → Type 0
+IsAsked n rows r (Tree cover) = (xs : List ℤ) → IsWholePoint n rows xs → IsMet xs r
+IsAsked n rows r (Hole point) = IsWholePoint n rows point.items × (IsMet point.items r → ⊥)

@@ -8,7 +8,7 @@ ghost use Rattle.tv_candidates.specs.Inductive.{IsLargestInductive};
 ghost use Rattle.tv_invariant.specs.Passes.{AreOver};
 ghost use Rattle.tv_invariant.specs.Falling.{IsLeft, IsRefusal};
 
-use crate::passes::pass;
+use crate::passes::{Tries, pass};
 use crate::reached::met_at;
 use crate::start::begin;
 use crate::walks::walks;
@@ -38,11 +38,13 @@ pub fn largest_inductive(
 {
     let begun = begin(alloc, about, candidates)?;
     let mut now = met_at(alloc, about, &walks(alloc, about)?, begun)?;
-    let mut open = vec![in alloc; true; about.list().len()]?;
-    let marks = open.as_mut_slice();
+    let mut tries = Tries {
+        open: vec![in alloc; true; about.list().len()]?,
+        memory: Vec::new(alloc),
+    };
     'passes: loop {
         let before = now.len();
-        match pass(alloc, about, now, marks, budget) {
+        match pass(alloc, about, now, &mut tries, budget) {
             Err(fault) => return Err(fault),
             Ok(kept) => now = kept,
         }

@@ -6,6 +6,7 @@ ghost use Rattle.tv_linear.specs.Linear.{columns as width};
 ghost use Rattle.tv_cover.specs.Targets.{AreEven};
 ghost use Rattle.tv_invariant.specs.Falling.{IsUnmadeBy};
 
+use crate::kept::Kept;
 use crate::question::is_met_by_all;
 use crate::seen::Seen;
 use std::alloc::Global;
@@ -47,6 +48,7 @@ impl Judge<'_> {
         alloc: Global,
         candidate: &Candidate,
         seen: &mut Seen,
+        kept: &mut Vec<Kept>,
     ) -> Result<bool, CoverFault>
         requires fits { width candidate.now.row + self.now.case.now.draws ≡ self.now.ambient.now.columns }
         requires seen { IsSeen self.now.ambient.now.columns self.now.ambient.now.rows.items seen.old }
@@ -59,7 +61,7 @@ impl Judge<'_> {
         }
         match before(alloc, &candidate.row, self.case) {
             Err(fault) => Err(unmade(fault)),
-            Ok(row) => is_met_by_all(alloc, self.ambient, row, seen, self.budget),
+            Ok(row) => is_met_by_all(alloc, self.ambient, row, seen, kept, self.budget),
         }
     }
 }

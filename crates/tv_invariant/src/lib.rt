@@ -4,6 +4,7 @@
 mod asking;
 mod inductive;
 mod judge;
+mod kept;
 mod lists;
 mod passes;
 mod pieces;
@@ -11,9 +12,11 @@ mod question;
 mod reached;
 mod rows;
 mod seen;
+mod showing;
 mod start;
 mod step;
 mod strengthening;
+mod thinning;
 mod walks;
 
 pub use inductive::largest_inductive;

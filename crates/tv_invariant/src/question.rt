@@ -5,8 +5,9 @@ ghost use Rattle.std.specs.Result.{IfErr};
 ghost use Rattle.tv_linear.specs.Linear.{columns as width};
 ghost use Rattle.tv_cover.specs.Targets.{AreEven};
 ghost use Rattle.tv_cover.specs.Covering.{IsCoverFault};
-ghost use Rattle.tv_invariant.specs.Seen.{IsSeen, IsSettled, IsHoleOf};
+ghost use Rattle.tv_invariant.specs.Seen.{IsSeen, IsSettled, IsAsked};
 
+use crate::kept::{Kept, is_kept, keep};
 use crate::rows::is_implied;
 use crate::seen::{Seen, fails_at};
 use std::alloc::Global;
@@ -15,18 +16,18 @@ use tv_farkas::{Budget, CoverFault};
 use tv_linear::{Poly, Row};
 use tv_simplex::push_item;
 
-/// A whole point of the rows that does not meet the row; `None` where each meets it.
-fn hole(
+/// A proof that each whole point of the rows meets the row, or one that does not.
+fn asked(
     alloc: Global,
     ambient: &Poly,
     row: Row,
     budget: &Budget,
-) -> Result<Option<Vec<i128>>, CoverFault>
+) -> Result<Covered, CoverFault>
     requires few { ambient.now.columns < 2 ^ 32 - 1 }
     requires even { AreEven ambient.now.columns ambient.now.rows.items }
     requires same { width row ≡ ambient.now.columns }
     requires splits { budget.now.splits ≤ 128 }
-    ensures hole { IfOk result (IsHoleOf ambient.now.columns ambient.now.rows.items row) }
+    ensures asked { IfOk result (IsAsked ambient.now.columns ambient.now.rows.items row) }
     ensures refusals { let rows = ambient.now.rows.items in
         IfErr result (IsCoverFault ambient.now.columns ((row ∷ []) ∷ []) rows budget.now.pivots budget.now.splits) }
 {
@@ -35,19 +36,16 @@ fn hole(
     let columns = ambient.columns;
     let mut targets = Vec::new(alloc);
     push_item(&mut targets, Poly { columns, rows })?;
-    match cover(alloc, ambient, &targets, budget) {
-        Err(fault) => Err(fault),
-        Ok(Covered::Tree(_)) => Ok(None),
-        Ok(Covered::Hole(point)) => Ok(Some(point)),
-    }
+    cover(alloc, ambient, &targets, budget)
 }
 
-/// Whether each whole point of the rows meets the row. What was seen before is looked at first, and what is found is put to it.
+/// Whether each whole point of the rows meets the row. What was seen or shown before is looked at first, and what is found is put to it.
 pub fn is_met_by_all(
     alloc: Global,
     ambient: &Poly,
     row: Row,
     seen: &mut Seen,
+    kept: &mut Vec<Kept>,
     budget: &Budget,
 ) -> Result<bool, CoverFault>
     requires few { ambient.now.columns < 2 ^ 32 - 1 }
@@ -66,13 +64,19 @@ pub fn is_met_by_all(
     if fails_at(&seen.points, &row) {
         return Ok(false);
     }
-    match hole(alloc, ambient, row.copy(alloc)?, budget) {
+    let columns = ambient.columns;
+    if is_kept(kept, columns, &ambient.rows, &row) {
+        push_item(&mut seen.shown, row)?;
+        return Ok(true);
+    }
+    match asked(alloc, ambient, row.copy(alloc)?, budget) {
         Err(fault) => Err(fault),
-        Ok(None) => {
+        Ok(Covered::Tree(cover)) => {
+            keep(alloc, columns, &ambient.rows, &row, cover.tree(), kept)?;
             push_item(&mut seen.shown, row)?;
             Ok(true)
         }
-        Ok(Some(point)) => {
+        Ok(Covered::Hole(point)) => {
             push_item(&mut seen.points, point)?;
             Ok(false)
         }

@@ -10,7 +10,7 @@ use tv_linear::Row;
 use tv_simplex::push_item;
 
 /// Whether the first row has the coefficients of the second, and no lesser constant.
-fn implies(strong: &Row, weak: &Row) -> bool
+pub fn implies(strong: &Row, weak: &Row) -> bool
     ensures { IsTrue result → Implies strong.now weak.now }
 {
     strong.constant() >= weak.constant() && strong.coefficients() == weak.coefficients()
@@ -26,6 +26,18 @@ pub fn is_implied(rows: &[Row], row: &Row) -> bool
         }
     }
     false
+}
+
+/// Whether each of the other rows is implied by one of the rows by its coefficients.
+pub fn are_implied(rows: &[Row], others: &[Row]) -> bool
+    ensures { IsTrue result → (xs : List ℤ) → All (IsMet xs) rows.now → All (IsMet xs) others.now }
+{
+    'others: for other in others {
+        if !is_implied(rows, other) {
+            return false;
+        }
+    }
+    true
 }
 
 /// The rows from the last to the first, without those that a later one implies.

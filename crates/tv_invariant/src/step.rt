@@ -14,6 +14,7 @@ ghost use Rattle.tv_invariant.specs.Passes.{AreOver};
 ghost use Rattle.tv_invariant.specs.Falling.{KeptBy, IsFallen, IsStepRefusal};
 
 use crate::judge::Judge;
+use crate::kept::Kept;
 use crate::lists::{copy_onto, padded_at};
 use crate::rows::strongest;
 use crate::seen::Seen;
@@ -25,7 +26,12 @@ use tv_linear::Poly;
 use tv_simplex::push_item;
 
 /// The candidates that stay, in order.
-fn sieve(alloc: Global, judge: &Judge, now: Vec<Candidate>) -> Result<Vec<Candidate>, CoverFault>
+fn sieve(
+    alloc: Global,
+    judge: &Judge,
+    now: Vec<Candidate>,
+    memory: &mut Vec<Kept>,
+) -> Result<Vec<Candidate>, CoverFault>
     requires { All (λ c. width c.row + judge.now.case.now.draws ≡ judge.now.ambient.now.columns) now.items }
     ensures sieved { IfOk result (λ v. Sieved (Stays judge.now) (Falls judge.now) now.items v.items) }
     ensures refusals { IfErr result (λ f. (f ≡ Memory) ⊎ ((c : Candidate) × Contains now.items c × Refuses judge.now c f)) }
@@ -33,7 +39,7 @@ fn sieve(alloc: Global, judge: &Judge, now: Vec<Candidate>) -> Result<Vec<Candid
     let mut kept = Vec::new(alloc);
     let mut seen = Seen::new(alloc);
     'candidates: for candidate in now {
-        match judge.keeps(alloc, &candidate, &mut seen) {
+        match judge.keeps(alloc, &candidate, &mut seen, memory) {
             Err(fault) => return Err(fault),
             Ok(false) => {}
             Ok(true) => push_item(&mut kept, candidate)?,
@@ -48,6 +54,7 @@ pub fn step(
     case: &Case,
     variables: u32,
     now: Vec<Candidate>,
+    memory: &mut Vec<Kept>,
     budget: &Budget,
 ) -> Result<Vec<Candidate>, CoverFault>
     requires over { AreOver variables now.items }
@@ -71,5 +78,5 @@ pub fn step(
         ambient: &ambient,
         budget,
     };
-    sieve(alloc, &judge, now)
+    sieve(alloc, &judge, now, memory)
 }

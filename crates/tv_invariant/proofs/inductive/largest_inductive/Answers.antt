@@ -11,7 +11,7 @@ passes-init c =
     let begun = begins_left about c.args.candidates.items c.in_ok-begun.begun.items c.in_ok-begun.ensures in
     let met = met_left about c.args.candidates.items c.in_ok-begun.begun.items c.in_ok-now.now.items begun.0 begun.1 c.in_ok-now.ensures in
     let list = c.list.result.now in
-    let marks : c.as_mut_slice-marks.result.now ≡ replicate (length list) true = c.as_mut_slice-marks.ensures.value ∙ c.in_ok-open.ensures.items_if_clones_equal (λ y e. e) in
+    let marks : c.in_ok-vec.field-0.items ≡ replicate (length list) true = c.in_ok-vec.ensures.items_if_clones_equal (λ y e. e) in
     record {
       as_many = ap length marks ∙ length-replicate (length list) true ∙ sym (as_many about list c.list.ensures.same);
       left = met.0;
@@ -37,7 +37,7 @@ returns-then-len-before-clause-largest c =
     let old = c.len-before.ensures ∙ c.passes.now.ok.0 in
     let new = c.len.ensures ∙ c.in-Ok.kept.ok.0 in
     let long : length c.passes.now.items ≤ length c.in-Ok.kept.items = omega (arith, e, old, new) in
-    largest about c.args.candidates.items c.passes.now.items c.in-Ok.kept.items c.passes.marks c.pass.new.marks c.passes.invariant.left c.passes.invariant.begins c.passes.invariant.closed c.in-Ok.ensures.passed long
+    largest about c.args.candidates.items c.passes.now.items c.in-Ok.kept.items c.passes.tries.open.items c.pass.new.tries.open.items c.passes.invariant.left c.passes.invariant.begins c.passes.invariant.closed c.in-Ok.ensures.passed long
 
 pub passes-preserved : goal.passes-preserved
 passes-preserved c =
@@ -46,6 +46,6 @@ passes-preserved c =
     record {
       as_many = c.in-Ok.ensures.marks ∙ c.passes.invariant.as_many;
       left = p.left c.args.candidates.items c.passes.invariant.left;
-      begins = begins_part about c.passes.now.items c.in-Ok.kept.items c.passes.invariant.begins (passed_part about (length about.cases) c.passes.now.items c.in-Ok.kept.items c.passes.marks c.pass.new.marks p);
+      begins = begins_part about c.passes.now.items c.in-Ok.kept.items c.passes.invariant.begins (passed_part about (length about.cases) c.passes.now.items c.in-Ok.kept.items c.passes.tries.open.items c.pass.new.tries.open.items p);
       closed = p.closed c.passes.invariant.closed;
     }

@@ -5,6 +5,6 @@ use Rattle.tv_invariant.proofs.passes.pass.Given as goal
 
 abbrev pub invariant-cases : goal.invariant-cases
 invariant-cases l = record {
-  as_many : length l.marks ≡ length l.fn.marks;
-  passed : IsPassed (cases_of l.fn.about) l.number l.fn.old.items l.now.items l.fn.marks l.marks;
+  as_many : length l.tries.open.items ≡ length l.fn.tries.open.items;
+  passed : IsPassed (cases_of l.fn.about) l.number l.fn.old.items l.now.items l.fn.tries.open.items l.tries.open.items;
 }
