@@ -13,7 +13,7 @@ use std::alloc::Global;
 use tv_candidates::Candidate;
 use tv_cases::{Case, before};
 use tv_farkas::{Budget, CoverFault};
-use tv_linear::{Poly, RowFault};
+use tv_linear::{Poly, Row, RowFault};
 
 /// The refusal of a row that was not made.
 fn unmade(fault: RowFault) -> CoverFault
@@ -39,8 +39,29 @@ pub struct Judge<'a> {
 }
 
 impl Judge<'_> {
-    ghost use Rattle.tv_invariant.specs.Seen.{IsSeen};
-    ghost use Rattle.tv_invariant.specs.Judged.{Stays, Falls, Refuses};
+    ghost use Rattle.tv_invariant.specs.Seen.{IsSeen, IsSettled};
+    ghost use Rattle.tv_invariant.specs.Judged.{row_before, Stays, Falls, RefusesRow, Refuses};
+
+    /// Whether the states after the case meet the row.
+    pub fn shows(
+        &self,
+        alloc: Global,
+        row: &Row,
+        seen: &mut Seen,
+        memory: &mut Vec<Kept>,
+    ) -> Result<bool, CoverFault>
+        requires fits { width row.now + self.now.case.now.draws ≡ self.now.ambient.now.columns }
+        requires seen { IsSeen self.now.ambient.now.columns self.now.ambient.now.rows.items seen.old }
+        ensures settled { let ambient = self.now.ambient.now in
+            IfOk result (IsSettled ambient.columns ambient.rows.items (row_before self.now row.now)) }
+        ensures seen { IfOk result (λ _. IsSeen self.now.ambient.now.columns self.now.ambient.now.rows.items seen.new) }
+        ensures refusals { IfErr result (RefusesRow self.now row.now) }
+    {
+        match before(alloc, row, self.case) {
+            Err(fault) => Err(unmade(fault)),
+            Ok(row) => is_met_by_all(alloc, self.ambient, row, seen, memory, self.budget),
+        }
+    }
 
     /// Whether the case keeps the candidate, or does not lead to its location.
     pub fn keeps(
@@ -48,7 +69,7 @@ impl Judge<'_> {
         alloc: Global,
         candidate: &Candidate,
         seen: &mut Seen,
-        kept: &mut Vec<Kept>,
+        memory: &mut Vec<Kept>,
     ) -> Result<bool, CoverFault>
         requires fits { width candidate.now.row + self.now.case.now.draws ≡ self.now.ambient.now.columns }
         requires seen { IsSeen self.now.ambient.now.columns self.now.ambient.now.rows.items seen.old }
@@ -59,9 +80,6 @@ impl Judge<'_> {
         if candidate.location != self.case.to {
             return Ok(true);
         }
-        match before(alloc, &candidate.row, self.case) {
-            Err(fault) => Err(unmade(fault)),
-            Ok(row) => is_met_by_all(alloc, self.ambient, row, seen, kept, self.budget),
-        }
+        self.shows(alloc, &candidate.row, seen, memory)
     }
 }

@@ -60,7 +60,14 @@ fn try_case(
     let list = about.list();
     let case = &list[number];
     let before = now.len();
-    match step(alloc, case, about.variables(), now, &mut tries.memory, budget) {
+    match step(
+        alloc,
+        case,
+        about.variables(),
+        now,
+        &mut tries.memory,
+        budget,
+    ) {
         Err(fault) => Err(fault),
         Ok(kept) => {
             let marks = tries.open.as_mut_slice();

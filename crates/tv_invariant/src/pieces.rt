@@ -14,7 +14,7 @@ use tv_linear::{Piece, Poly, Region, Row};
 use tv_simplex::push_item;
 
 /// Copies of the rows of the candidates at a location.
-fn rows_at(alloc: Global, list: &[Candidate], location: u32) -> Result<Vec<Row>, AllocError>
+pub fn rows_at(alloc: Global, list: &[Candidate], location: u32) -> Result<Vec<Row>, AllocError>
     ensures { IfOk result (λ v. v.items ≡ spec_rows_at location list.now) }
 {
     let mut rows = Vec::new(alloc);

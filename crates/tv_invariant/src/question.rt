@@ -17,12 +17,7 @@ use tv_linear::{Poly, Row};
 use tv_simplex::push_item;
 
 /// A proof that each whole point of the rows meets the row, or one that does not.
-fn asked(
-    alloc: Global,
-    ambient: &Poly,
-    row: Row,
-    budget: &Budget,
-) -> Result<Covered, CoverFault>
+fn asked(alloc: Global, ambient: &Poly, row: Row, budget: &Budget) -> Result<Covered, CoverFault>
     requires few { ambient.now.columns < 2 ^ 32 - 1 }
     requires even { AreEven ambient.now.columns ambient.now.rows.items }
     requires same { width row ≡ ambient.now.columns }

@@ -30,7 +30,9 @@ fn is_met_at(about: &Cases, states: &[Reached], candidate: &Candidate) -> bool
     ensures { MatchBool result (Unit {0}) (IsInNone (cases_of about.now) candidate.now) }
 {
     'states: for state in states {
-        if state.location == candidate.location && !meets(&state.values, RowView::of(&candidate.row)) {
+        if state.location == candidate.location
+            && !meets(&state.values, RowView::of(&candidate.row))
+        {
             return false;
         }
     }

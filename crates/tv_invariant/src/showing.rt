@@ -28,7 +28,13 @@ impl Targets for OneRow<'_> {
             return false;
         }
         match lists {
-            [multipliers] => shows(columns, frames, &Change::Kept, RowView::of(self.row), multipliers),
+            [multipliers] => shows(
+                columns,
+                frames,
+                &Change::Kept,
+                RowView::of(self.row),
+                multipliers,
+            ),
             _ => false,
         }
     }

@@ -9,13 +9,15 @@ ghost use Rattle.tv_cases.specs.Views.{case_view};
 ghost use Rattle.tv_candidates.specs.declared.candidate.Candidate.{Candidate};
 ghost use Rattle.tv_farkas.specs.declared.fault.CoverFault.TheVariants.{Memory};
 ghost use Rattle.tv_invariant.specs.Sieves.{Sieved};
-ghost use Rattle.tv_invariant.specs.Judged.{Stays, Falls, Refuses};
+ghost use Rattle.tv_invariant.specs.Judged.{Stays, Falls, RefusesSome};
+ghost use Rattle.tv_invariant.specs.Seen.{IsSeen};
 ghost use Rattle.tv_invariant.specs.Passes.{AreOver};
 ghost use Rattle.tv_invariant.specs.Falling.{KeptBy, IsFallen, IsStepRefusal};
 
 use crate::judge::Judge;
 use crate::kept::Kept;
 use crate::lists::{copy_onto, padded_at};
+use crate::pieces::rows_at;
 use crate::rows::strongest;
 use crate::seen::Seen;
 use std::alloc::Global;
@@ -24,6 +26,28 @@ use tv_cases::Case;
 use tv_farkas::{Budget, CoverFault};
 use tv_linear::Poly;
 use tv_simplex::push_item;
+
+/// Asks for the strongest of the rows where the case leads, so that what is found of them tells of the others.
+fn ask_strongest(
+    alloc: Global,
+    judge: &Judge,
+    now: &[Candidate],
+    memory: &mut Vec<Kept>,
+) -> Result<Seen, CoverFault>
+    requires { All (λ c. width c.row + judge.now.case.now.draws ≡ judge.now.ambient.now.columns) now.now }
+    ensures seen { IfOk result (IsSeen judge.now.ambient.now.columns judge.now.ambient.now.rows.items) }
+    ensures refusals { IfErr result (RefusesSome judge.now now.now) }
+{
+    let rows = strongest(alloc, rows_at(alloc, now, judge.case.to)?)?;
+    let mut seen = Seen::new(alloc);
+    'rows: for row in &rows {
+        match judge.shows(alloc, row, &mut seen, memory) {
+            Err(fault) => return Err(fault),
+            Ok(_) => {}
+        }
+    }
+    Ok(seen)
+}
 
 /// The candidates that stay, in order.
 fn sieve(
@@ -34,10 +58,13 @@ fn sieve(
 ) -> Result<Vec<Candidate>, CoverFault>
     requires { All (λ c. width c.row + judge.now.case.now.draws ≡ judge.now.ambient.now.columns) now.items }
     ensures sieved { IfOk result (λ v. Sieved (Stays judge.now) (Falls judge.now) now.items v.items) }
-    ensures refusals { IfErr result (λ f. (f ≡ Memory) ⊎ ((c : Candidate) × Contains now.items c × Refuses judge.now c f)) }
+    ensures refusals { IfErr result (RefusesSome judge.now now.items) }
 {
     let mut kept = Vec::new(alloc);
-    let mut seen = Seen::new(alloc);
+    let mut seen = match ask_strongest(alloc, judge, &now, memory) {
+        Err(fault) => return Err(fault),
+        Ok(seen) => seen,
+    };
     'candidates: for candidate in now {
         match judge.keeps(alloc, &candidate, &mut seen, memory) {
             Err(fault) => return Err(fault),

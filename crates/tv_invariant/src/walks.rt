@@ -32,8 +32,7 @@ const CHOICES: usize = 64;
 const PLACES: u32 = 8;
 
 /// A number that is at most `spread` in magnitude.
-fn number(source: &mut Pcg32, spread: u16) -> i128
-{
+fn number(source: &mut Pcg32, spread: u16) -> i128 {
     i128::from(source.next_u32() % (2 * u32::from(spread) + 1)) - i128::from(spread)
 }
 

@@ -2,13 +2,12 @@ use Rattle.std.proofs.Common.{[], ◌∷◌, ◌++◌, sym, subst, MatchBool}
 use Rattle.tv_invariant.specs.Sieves.{Sieved, none}
 use Rattle.tv_invariant.specs.Judged.{Stays, Falls}
 use Rattle.tv_invariant.proofs.SieveLemmas.{one_stays, one_falls}
-use Rattle.tv_invariant.proofs.SeenLemmas.{nothing_seen}
 use Rattle.tv_invariant.proofs.step.sieve.Goals as goal
 
 pub candidates-init : goal.candidates-init
 candidates-init c = record {
   sieved = subst (λ ks. Sieved (Stays c.args.judge.now) (Falls c.args.judge.now) [] ks) (sym c.new-kept.ensures.items) none;
-  seen = nothing_seen c.args.judge.now.ambient.now.columns c.args.judge.now.ambient.now.rows.items c.new-seen.result c.new-seen.ensures.points c.new-seen.ensures.shown;
+  seen = c.in-Ok.ensures.seen;
 }
 
 pub candidates-preserved-in-Continue-1 : goal.candidates-preserved-in-Continue-1
