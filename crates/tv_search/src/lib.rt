@@ -17,7 +17,7 @@ mod search_fault;
 mod searched;
 mod trying;
 
-pub use laws::shut_out_leaves_none;
+pub use laws::{faults_are_causes, shut_out_leaves_none};
 pub use safety::search;
 pub use search_fault::SearchFault;
 pub use searched::Searched;

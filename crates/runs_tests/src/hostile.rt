@@ -1,0 +1,57 @@
+use crate::proving::SETTLED;
+use crate::texts::{add_proposers, joined, says_under};
+use std::alloc::{AllocError, Global};
+use std::test::Fail;
+use tv_candidates::Candidate;
+use tv_cases::Cases;
+use tv_linear::Row;
+use tv_propose::Proposer;
+
+ghost use Rattle.std.specs.Prelude.{None};
+
+/// Offers the row that no point meets, at the start, and then has half a million less left.
+#[derive(Drop)]
+struct Spending {
+    left: u64,
+}
+
+impl Proposer for Spending {
+    ghost left = { λ s. s.left };
+
+    ghost rest = { λ _ _. None };
+
+    fn left(&self) -> u64 {
+        self.left
+    }
+
+    fn next(&mut self, alloc: Global, about: &Cases) -> Result<Option<Candidate>, AllocError> {
+        if self.left == 0 {
+            return Ok(None);
+        }
+        let location = about.start();
+        let row = Row::zero(alloc, about.variables())?.with_constant(alloc, 1)?;
+        self.left = self.left.saturating_sub(500_000);
+        Ok(Some(Candidate { location, row }))
+    }
+}
+
+/// A proposer of that kind, and those that offer rows of each kind.
+fn with_spending(alloc: Global) -> Result<Vec<Box<dyn Proposer>>, AllocError> {
+    let mut proposers: Vec<Box<dyn Proposer>> = Vec::new(alloc);
+    proposers.push(Box::new(alloc, Spending { left: 1_000_000 })?)?;
+    add_proposers(alloc, &mut proposers)?;
+    Ok(proposers)
+}
+
+#[test]
+fn a_proposer_that_spends_fast_changes_no_answer(rt: HostRuntime) -> Result<(), Fail> {
+    for (words, text, lines, status) in SETTLED {
+        let given = joined(rt.alloc(), &[text])?;
+        let proposers = with_spending(rt.alloc())?;
+        assert!(rt;
+            says_under(rt.alloc(), words, given, proposers, lines, *status)?,
+            "{words:?} {text}"
+        );
+    }
+    Ok(())
+}
