@@ -12,6 +12,8 @@ mod faults;
 #[cfg(test)]
 mod file;
 #[cfg(test)]
+mod hostile;
+#[cfg(test)]
 mod limits;
 #[cfg(test)]
 mod lines;

@@ -37,7 +37,7 @@ const DOUBLED: &str =
     "START: 0; FROM: 0; x := 4000000000000000000; TO: 1; FROM: 1; x := x + x; TO: 2;";
 
 /// Words, a program, and the lines of the verdict.
-const SETTLED: &[(&[&str], &str, &str, Status)] = &[
+pub(crate) const SETTLED: &[(&[&str], &str, &str, Status)] = &[
     (SAFETY_2, COUNTER, PROVED, Status::Proved),
     (&["--ctl", "[AG](!at(2))"], COUNTER, PROVED, Status::Proved),
     (SAFETY_2, PASSES, "Disproved\nx = 1\n", Status::Disproved),
