@@ -9,7 +9,8 @@ ghost use Rattle.tv_candidates.specs.Laws.{HoldsOnRuns, HasFalseRow, IsNeverReac
 /// The rows of an inductive list hold wherever a run from the start comes, and it comes to no location with a row that no point meets.
 pub fn inductive_rows_hold()
     ensures reached { (about : CaseSystem) (list : List Candidate) → IsInductive about list → HoldsOnRuns about list }
-    ensures never { (about : CaseSystem) (list : List Candidate) (l : ℕ) → IsInductive about list → HasFalseRow about l list → IsNeverReached about l }
+    ensures never { (about : CaseSystem) (list : List Candidate) (l : ℕ) →
+        IsInductive about list → HasFalseRow about l list → IsNeverReached about l }
 {}
 
 /// Two inductive lists together are inductive.

@@ -171,7 +171,8 @@ fn of_edges(
     requires { IsWithinLimits variables locations start (transitions edges.now) }
     ensures exact { let meant = cases_from variables 0 [] (transitions edges.now) in
         MatchResult result (λ c. meant ≡ Ok (cases_of c).cases) (IsFaultIn meant) }
-    ensures same { IfOk result (λ c. ((cases_of c).variables ≡ variables) × ((cases_of c).locations ≡ locations) × ((cases_of c).start ≡ start)) }
+    ensures same { IfOk result (λ c. let made = cases_of c in
+        (made.variables ≡ variables) × (made.locations ≡ locations) × (made.start ≡ start)) }
 {
     match listed(alloc, edges, variables) {
         Ok(list) => Ok(Cases::of(alloc, list, variables, locations, start)?),

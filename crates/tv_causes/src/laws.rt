@@ -38,12 +38,14 @@ pub fn size_is_enough<M: Made>()
 
 /// Where the greatest inductive part of what is offered has no whole point at a location, no cause for its safety speaks of invariants.
 pub fn sufficient_invariants()
-    ensures { (about : CaseSystem) (f : Property) (rests : List (List Candidate)) (l : ℕ) → IsSufficient about rests l → SafetyIsSettled about f rests l }
+    ensures { (about : CaseSystem) (f : Property) (rests : List (List Candidate)) (l : ℕ) →
+        IsSufficient about rests l → SafetyIsSettled about f rests l }
 {}
 
 /// Where invariants are too weak, no run of at most 8 steps comes to the location.
 pub fn weak_invariants()
-    ensures { (about : CaseSystem) (f : Property) (told : Told) (l : ℕ) (point : List ℤ) → IsInvariantCause about f told l point → NoShortRun about l }
+    ensures { (about : CaseSystem) (f : Property) (told : Told) (l : ℕ) (point : List ℤ) →
+        IsInvariantCause about f told l point → NoShortRun about l }
 {}
 
 /// What the layers tell of the paths of covers and choices, and of a run that was found.

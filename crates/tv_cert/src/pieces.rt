@@ -82,7 +82,8 @@ impl Pieces {
 
     /// The piece at place `k` among those at the location.
     pub fn at(&self, location: u32, k: u32) -> Option<&Marked>
-        ensures { MatchOption result (slice_get (pieces_at self.now location) k ≡ None) (λ q. slice_get (pieces_at self.now location) k ≡ Some q.now) }
+        ensures { let there = slice_get (pieces_at self.now location) k in
+            MatchOption result (there ≡ None) (λ q. there ≡ Some q.now) }
     {
         if self.index.is_empty() {
             return piece_at(&self.list, location, k);
@@ -106,7 +107,8 @@ impl Pieces {
 
 /// The piece at place `k` among those at the location.
 fn piece_at(pieces: &[Marked], location: u32, k: u32) -> Option<&Marked>
-    ensures { MatchOption result (slice_get (pieces_at pieces.now location) k ≡ None) (λ q. slice_get (pieces_at pieces.now location) k ≡ Some q.now) }
+    ensures { let there = slice_get (pieces_at pieces.now location) k in
+        MatchOption result (there ≡ None) (λ q. there ≡ Some q.now) }
 {
     let mut left = k;
     for piece in pieces {

@@ -27,7 +27,9 @@ pub fn small(number: i64) -> Option<u32>
 
 /// Two numbers of 32 bits.
 pub fn two_small(numbers: &[i64]) -> Option<(u32, u32)>
-    ensures { MatchOption result ((k j : ℕ) → numbers.now ≡ pos k ∷ pos j ∷ [] → k < 2 ^ 32 → j < 2 ^ 32 → ⊥) (λ x. numbers.now ≡ pos x.0 ∷ pos x.1 ∷ []) }
+    ensures { MatchOption result
+        ((k j : ℕ) → numbers.now ≡ pos k ∷ pos j ∷ [] → k < 2 ^ 32 → j < 2 ^ 32 → ⊥)
+        (λ x. numbers.now ≡ pos x.0 ∷ pos x.1 ∷ []) }
 {
     let [first, second] = numbers else {
         return None;

@@ -61,7 +61,9 @@ fn certified(
     requires fits { Fits (about_with (cases_of about.now)) (shown claim.now verdict) root verdict }
     ensures { let system = cases_of about.now in
         let property = shown claim.now verdict in
-        MatchResult result (λ c. IsOf (about_with system) property c × (c.root ≡ root) × (c.verdict ≡ verdict)) (λ f. f ≡ CertFault.Memory) }
+        MatchResult result
+        (λ c. IsOf (about_with system) property c × (c.root ≡ root) × (c.verdict ≡ verdict))
+        (λ f. f ≡ CertFault.Memory) }
 {
     match Certificate::new(alloc, about, claim, verdict, root) {
         Ok(certificate) => Ok(certificate),

@@ -21,7 +21,9 @@ use tv_shape::taken_into;
 
 /// Three numbers of 32 bits.
 fn three_small(numbers: &[i64]) -> Option<(u32, u32, u32)>
-    ensures { MatchOption result ((c k j : ℕ) → numbers.now ≡ pos c ∷ pos k ∷ pos j ∷ [] → c < 2 ^ 32 → k < 2 ^ 32 → j < 2 ^ 32 → ⊥) (λ x. numbers.now ≡ pos x.0 ∷ pos x.1 ∷ pos x.2 ∷ []) }
+    ensures { MatchOption result
+        ((c k j : ℕ) → numbers.now ≡ pos c ∷ pos k ∷ pos j ∷ [] → c < 2 ^ 32 → k < 2 ^ 32 → j < 2 ^ 32 → ⊥)
+        (λ x. numbers.now ≡ pos x.0 ∷ pos x.1 ∷ pos x.2 ∷ []) }
 {
     let [first, second, third] = numbers else {
         return None;
@@ -52,7 +54,9 @@ impl Context<'_> {
     ) -> Option<Taken<'_>>
         requires { AreFewAt piece.now destination.now }
         ensures { let system = cases_of self.now.about.now in
-            MatchOption result (NamesNoCase system piece.now destination.now numbers.now) (λ x. IsTaken system piece.now destination.now numbers.now (case_view x.case.now) x.taken x.target x.fall x.owed) }
+            MatchOption result
+            (NamesNoCase system piece.now destination.now numbers.now)
+            (λ x. IsTaken system piece.now destination.now numbers.now (case_view x.case.now) x.taken x.target x.fall x.owed) }
     {
         let list = self.about.list();
         let Some((taken, target, fall)) = three_small(numbers) else {

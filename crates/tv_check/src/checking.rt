@@ -127,7 +127,8 @@ fn check_disproved(
     requires over { AreOver (length values.now.items) (pieces_list root.now) }
     ensures { let system = cases_of about.now in
         let states = aim_states aim.now in
-        Checks (said_entries 0 system states root.now ++ root_entry (about_of system) (pieces_of root.now) (Disproved piece values.now) ∷ []) result }
+        let last = root_entry (about_of system) (pieces_of root.now) (Disproved piece values.now) in
+        Checks (said_entries 0 system states root.now ++ last ∷ []) result }
 {
     match walk(about, aim, 0, root, 0) {
         Err(failing) => Err(failing),

@@ -41,7 +41,8 @@ fn entering_is_shown(
 ) -> bool
     ensures { let taken = case_view case.now in
         let change = drawn_change columns taken draws.now in
-        IsTrue result ↔ ShownAt columns (known_at frames.now) (owed_into into.now case.now.to change (falls_of change ranks.entry) target fall) (map (λ l. l.items) lists.now) }
+        let owed = owed_into into.now case.now.to change (falls_of change ranks.entry) target fall in
+        IsTrue result ↔ ShownAt columns (known_at frames.now) owed (map (λ l. l.items) lists.now) }
 {
     let after = Terms::After {
         columns,
@@ -158,7 +159,8 @@ fn take_is_shown(
 ) -> bool
     ensures { let taken = case_view case.now in
         let owes = destination_owes columns piece.now destination.now in
-        IsTrue result ↔ ShownAt columns (known_at frames.now) (option_map (λ rows. drawn_guards columns taken draws.now ++ rows) (owes taken draws.now target fall)) (map (λ l. l.items) lists.now) }
+        let owed = option_map (λ rows. drawn_guards columns taken draws.now ++ rows) (owes taken draws.now target fall) in
+        IsTrue result ↔ ShownAt columns (known_at frames.now) owed (map (λ l. l.items) lists.now) }
 {
     let guards: &[Row] = &case.guards.rows;
     if lists.len() < guards.len() {
@@ -197,7 +199,9 @@ fn take_is_met(
     lists: &[Vec<i64>],
 ) -> bool
     ensures { let owes = destination_owes columns piece.now destination.now in
-        IsTrue result ↔ TakeMet columns (place_of piece.now) owes (known_at frames.now) (slice_get (case_views cases.now) taken) target fall draws.now (map (λ l. l.items) lists.now) }
+        let case = slice_get (case_views cases.now) taken in
+        let shown = map (λ l. l.items) lists.now in
+        IsTrue result ↔ TakeMet columns (place_of piece.now) owes (known_at frames.now) case target fall draws.now shown }
 {
     match cases.get(taken as usize) {
         None => false,

@@ -100,7 +100,9 @@ fn joined_are_covered(
     nodes: &[Node],
     tree: &CoverTree,
 ) -> bool
-    ensures { IsTrue result ↔ IsMetCover columns (owed_into (flat_map (λ a. a) (map pieces_list nodes.now)) location given no_fall) (as_given (rows_seen rows.entry)) tree.now }
+    ensures { let pieces = flat_map (λ a. a) (map pieces_list nodes.now) in
+        let owed = owed_into pieces location given no_fall in
+        IsTrue result ↔ IsMetCover columns owed (as_given (rows_seen rows.entry)) tree.now }
 {
     let end = Frames::End;
     let place = Frames::Rows { rows, above: &end };
@@ -119,7 +121,9 @@ fn step_is_judged(
 ) -> bool
     ensures { let taken = case_view case.now in
         let change = case_change columns taken in
-        IsTrue result ↔ IsMetCover (columns + case.now.draws) (owed_into into.now case.now.to change (falls_where falls change piece.now)) (as_given (rows_of piece.now) ++ as_given taken.guards) tree.now }
+        let owed = owed_into into.now case.now.to change (falls_where falls change piece.now) in
+        let known = as_given (rows_of piece.now) ++ as_given taken.guards in
+        IsTrue result ↔ IsMetCover (columns + case.now.draws) owed known tree.now }
 {
     let rows = piece.rows();
     if falls {
@@ -139,7 +143,9 @@ fn choice_is_judged(
     tree: &ChoiceTree,
 ) -> bool
     ensures { let system = cases_of about.now in
-        IsTrue result ↔ IsMetChoice system.variables system.cases (place_of piece.now) stop (destination_owes system.variables piece.now destination.now) (as_given (rows_of piece.now)) tree.now }
+        let owes = destination_owes system.variables piece.now destination.now in
+        let known = as_given (rows_of piece.now) in
+        IsTrue result ↔ IsMetChoice system.variables system.cases (place_of piece.now) stop owes known tree.now }
 {
     let end = Frames::End;
     let place = Frames::Rows {

@@ -25,7 +25,10 @@ fn shown_piece(
     j: u32,
     lists: &[Vec<i64>],
 ) -> bool
-    ensures { IsTrue result ↔ ShownAt columns (known_at frames.now) (option_map (λ falls. map (change_of change.now) (rows_seen rows.entry) ++ falls) (fall_rows (as_given (rows_seen old.entry)) (map (change_of change.now) (rows_seen new.entry)) j)) (map (λ l. l.items) lists.now) }
+    ensures { let changed = map (change_of change.now) in
+        let falls = fall_rows (as_given (rows_seen old.entry)) (changed (rows_seen new.entry)) j in
+        let owed = option_map (λ falls. changed (rows_seen rows.entry) ++ falls) falls in
+        IsTrue result ↔ ShownAt columns (known_at frames.now) owed (map (λ l. l.items) lists.now) }
 {
     if lists.len() < rows.len() {
         return false;
@@ -74,7 +77,9 @@ fn entered_is_shown(
     fall: u32,
     lists: &[Vec<i64>],
 ) -> bool
-    ensures { IsTrue result ↔ ShownAt columns (known_at frames.now) (target_rows (change_of change.now) (falls_of (change_of change.now) ranks.entry) (Some piece.now) fall) (map (λ l. l.items) lists.now) }
+    ensures { let changed = change_of change.now in
+        let owed = target_rows changed (falls_of changed ranks.entry) (Some piece.now) fall in
+        IsTrue result ↔ ShownAt columns (known_at frames.now) owed (map (λ l. l.items) lists.now) }
 {
     let rows = piece.rows();
     match ranks {
@@ -130,7 +135,8 @@ pub fn kept_is_shown(
     fall: u32,
     lists: &[Vec<i64>],
 ) -> bool
-    ensures { IsTrue result ↔ ShownAt columns (known_at frames.now) (target_rows given no_fall (Some piece.now) fall) (map (λ l. l.items) lists.now) }
+    ensures { let owed = target_rows given no_fall (Some piece.now) fall in
+        IsTrue result ↔ ShownAt columns (known_at frames.now) owed (map (λ l. l.items) lists.now) }
 {
     let change = Change::Kept;
     entered_is_shown(columns, frames, &change, None, piece, fall, lists)

@@ -46,7 +46,9 @@ pub fn step_is_covered(
 ) -> bool
     ensures { let taken = case_view case.now in
         let change = case_change columns taken in
-        IsTrue result ↔ IsMetCover (columns + case.now.draws) (owed_into into.now case.now.to change (falls_of change ranks.entry)) (as_given (rows_seen rows.entry) ++ as_given taken.guards) tree.now }
+        let owed = owed_into into.now case.now.to change (falls_of change ranks.entry) in
+        let known = as_given (rows_seen rows.entry) ++ as_given taken.guards in
+        IsTrue result ↔ IsMetCover (columns + case.now.draws) owed known tree.now }
 {
     let terms = Terms::After {
         columns,

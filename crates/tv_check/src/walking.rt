@@ -59,7 +59,9 @@ pub fn walk(
     ensures { let system = cases_of about.now in
         let states = aim_states aim.now in
         let entries = said_entries number system states node.now in
-        MatchResult result (λ p. AllMet entries × (p.0 ≡ from + length entries) × (p.1 ≡ number + size node.now)) (λ f. IsFirstFailing entries from f) }
+        MatchResult result
+        (λ p. AllMet entries × (p.0 ≡ from + length entries) × (p.1 ≡ number + size node.now))
+        (λ f. IsFirstFailing entries from f) }
 {
     let mut seen = from;
     let mut next = number + 1;

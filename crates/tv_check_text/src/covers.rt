@@ -36,7 +36,8 @@ impl Covering<'_> {
     fn entered_by(&self, numbers: &[i64]) -> Option<Entered<'_>>
         requires { AreFew self.now.targets.now }
         ensures { (change : Linear → Known) →
-            MatchOption result (EntersNone (owed_at change self.now.targets.now) numbers.now) (IsEntered change (owed_at change self.now.targets.now) numbers.now) }
+            let owed = owed_at change self.now.targets.now in
+            MatchOption result (EntersNone owed numbers.now) (IsEntered change owed numbers.now) }
     {
         let Some((target, fall)) = two_small(numbers) else {
             return None;
@@ -56,7 +57,8 @@ impl Covering<'_> {
         requires counted { known ≡ length (known_at frames.now) }
         requires room { known < 2 ^ 127 }
         ensures { (left : ℕ) (old : Cursor) → IsBehind Head.Into numbers.now old cursor.old →
-            JudgesCover self.now.columns (owed_at (change_of self.now.change.now) self.now.targets.now) (known_at frames.now) left old cursor.new result }
+            let owed = owed_at (change_of self.now.change.now) self.now.targets.now in
+            JudgesCover self.now.columns owed (known_at frames.now) left old cursor.new result }
     {
         let Some(entered) = self.entered_by(numbers) else {
             return Err(Failure::Fault(LineKind::Shape, cursor.taken));
@@ -91,7 +93,8 @@ impl Covering<'_> {
         requires few { AreFew self.now.targets.now }
         requires counted { known ≡ length (known_at frames.now) }
         requires room { known + left + 1 < 2 ^ 127 }
-        ensures { JudgesSides self.now.columns (owed_at (change_of self.now.change.now) self.now.targets.now) (known_at frames.now) left row.now cursor.old cursor.new result }
+        ensures { let owed = owed_at (change_of self.now.change.now) self.now.targets.now in
+            JudgesSides self.now.columns owed (known_at frames.now) left row.now cursor.old cursor.new result }
     {
         let given = Built::Given(RowView::of(row));
         let denied = Built::Denied(&given);
@@ -123,7 +126,8 @@ impl Covering<'_> {
         requires few { AreFew self.now.targets.now }
         requires counted { known ≡ length (known_at frames.now) }
         requires room { known + left < 2 ^ 127 }
-        ensures { JudgesCover self.now.columns (owed_at (change_of self.now.change.now) self.now.targets.now) (known_at frames.now) left cursor.old cursor.new result }
+        ensures { let owed = owed_at (change_of self.now.change.now) self.now.targets.now in
+            JudgesCover self.now.columns owed (known_at frames.now) left cursor.old cursor.new result }
     {
         let (head, numbers) = take(self.alloc, cursor)?;
         match head {

@@ -32,7 +32,8 @@ impl<'a> Choosing<'a> {
         requires counted { known ≡ length (known_at frames.now) }
         requires room { known < 2 ^ 126 }
         requires owes { let system = cases_of self.now.context.about.now in
-            IsSome (destination_owes system.variables self.now.piece.now self.now.destination.now (case_view taken.now.case.now) draws.now taken.now.target taken.now.fall) }
+            let owes = destination_owes system.variables self.now.piece.now self.now.destination.now in
+            IsSome (owes (case_view taken.now.case.now) draws.now taken.now.target taken.now.fall) }
         ensures { let n = (cases_of self.now.context.about.now).variables in
             let case = case_view taken.now.case.now in
             (rows : List Known) → destination_owes n self.now.piece.now self.now.destination.now case draws.now taken.now.target taken.now.fall ≡ Some rows → JudgesLists n (known_at frames.now) (drawn_guards n case draws.now ++ rows) cursor.old cursor.new result }

@@ -48,7 +48,8 @@ pub fn targets_after<'a>(
 /// The fall at this place, from 1, from ranks to others, if there is one.
 fn fall_between<'a>(old: Rows<'a>, new: Rows<'a>, fall: u32) -> Option<Fall<'a>>
     ensures { (change : Linear → Known) →
-        MatchOption result (fall_rows (as_given (rows_seen old.entry)) (map change (rows_seen new.entry)) fall ≡ None) (λ f. fall_rows (as_given (rows_seen old.entry)) (map change (rows_seen new.entry)) fall ≡ Some (fall_listed change (Some f))) }
+        let falls = fall_rows (as_given (rows_seen old.entry)) (map change (rows_seen new.entry)) fall in
+        MatchOption result (falls ≡ None) (λ f. falls ≡ Some (fall_listed change (Some f))) }
 {
     let after = fall as usize;
     let before = old.len();
@@ -65,7 +66,9 @@ fn fall_between<'a>(old: Rows<'a>, new: Rows<'a>, fall: u32) -> Option<Fall<'a>>
 
 /// What rows owe that are entered without a fall.
 fn rows_entered(rows: Rows, fall: u32) -> Option<Entered<'_>>
-    ensures { MatchOption result (fall ≡ 0 → ⊥) (λ x. (fall ≡ 0) × ((change : Linear → Known) → entered_listed change x ≡ map change (rows_seen rows.entry))) }
+    ensures { MatchOption result
+        (fall ≡ 0 → ⊥)
+        (λ x. (fall ≡ 0) × ((change : Linear → Known) → entered_listed change x ≡ map change (rows_seen rows.entry))) }
 {
     if fall == 0 {
         Some(Entered { rows, fall: None })
@@ -77,7 +80,8 @@ fn rows_entered(rows: Rows, fall: u32) -> Option<Entered<'_>>
 /// What a piece owes that is entered by the fall, from the ranks of a piece where one is owed.
 fn piece_entered<'a>(from: Option<&'a Marked>, piece: &'a Marked, fall: u32) -> Option<Entered<'a>>
     ensures { (change : Linear → Known) →
-        MatchOption result (target_rows change (falls_past change from.entry) (Some piece.now) fall ≡ None) (λ x. target_rows change (falls_past change from.entry) (Some piece.now) fall ≡ Some (entered_listed change x)) }
+        let owed = target_rows change (falls_past change from.entry) (Some piece.now) fall in
+        MatchOption result (owed ≡ None) (λ x. owed ≡ Some (entered_listed change x)) }
 {
     let rows = piece.rows();
     match from {
@@ -98,7 +102,8 @@ fn piece_entered<'a>(from: Option<&'a Marked>, piece: &'a Marked, fall: u32) -> 
 /// What is owed on entering the target by the fall, where there are such.
 pub fn entered<'a>(targets: &Targets<'a>, target: u32, fall: u32) -> Option<Entered<'a>>
     ensures { (change : Linear → Known) →
-        MatchOption result (owed_at change targets.now target fall ≡ None) (λ x. owed_at change targets.now target fall ≡ Some (entered_listed change x)) }
+        let owed = owed_at change targets.now target fall in
+        MatchOption result (owed ≡ None) (λ x. owed ≡ Some (entered_listed change x)) }
 {
     match targets {
         Targets::Nowhere => None,

@@ -61,8 +61,12 @@ pub fn cases_are_counted()
 
 /// What is asked of a case, which is to keep a row where some rows hold before it, is derived from these with one case on the way.
 pub fn case_questions_are_derived()
-    ensures known { (about : CaseSystem) (c : LinearCase) (rows : List Linear) (owed : Linear) → IsAsked about c owed → KnownAreDerived about c rows owed }
-    ensures put { (about : CaseSystem) (c : LinearCase) (rows : List Linear) (owed : Linear) → IsAsked about c owed → OwedIsPut about c rows owed }
-    ensures denied { (about : CaseSystem) (c : LinearCase) (rows : List Linear) (owed : Linear) → IsAsked about c owed → OwedIsDenied about c rows owed }
-    ensures refusals { (about : CaseSystem) (c : LinearCase) (rows : List Linear) (owed : Linear) → IsAsked about c owed → EmptyRefusesCase about c rows owed }
+    ensures known { (about : CaseSystem) (c : LinearCase) (rows : List Linear) (owed : Linear) →
+        IsAsked about c owed → KnownAreDerived about c rows owed }
+    ensures put { (about : CaseSystem) (c : LinearCase) (rows : List Linear) (owed : Linear) →
+        IsAsked about c owed → OwedIsPut about c rows owed }
+    ensures denied { (about : CaseSystem) (c : LinearCase) (rows : List Linear) (owed : Linear) →
+        IsAsked about c owed → OwedIsDenied about c rows owed }
+    ensures refusals { (about : CaseSystem) (c : LinearCase) (rows : List Linear) (owed : Linear) →
+        IsAsked about c owed → EmptyRefusesCase about c rows owed }
 {}

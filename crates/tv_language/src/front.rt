@@ -175,7 +175,8 @@ fn name_front(text: &[u8], rest: &[u8], reach: Reach) -> Front
     requires short { length text.now + 1 < 2 ^ 32 }
     requires semicolon { reach.semicolon ≡ end_of_last 59 text.now }
     requires round { reach.round ≡ end_of_last 41 text.now }
-    ensures exact { result ≡ word_front (word_kind (take (1 + prefix_len continues_name rest.now) text.now)) (1 + prefix_len continues_name rest.now) (drop (prefix_len continues_name rest.now) rest.now) }
+    ensures exact { let behind = prefix_len continues_name rest.now in
+        result ≡ word_front (word_kind (take (1 + behind) text.now)) (1 + behind) (drop behind rest.now) }
     ensures fits { Fits (length text.now) result }
 {
     let more = name_length(rest);

@@ -59,7 +59,8 @@ fn push_from(
 ) -> Result<(), AllocError>
     requires few { first + length point.now < 2 ^ 32 - 1 }
     requires narrow { AreNarrowBetween (built row.now) first (first + length point.now) }
-    ensures { IfOk result (λ _. multipliers.new.items ≡ multipliers.old.items ++ multipliers_from (coefficient_of (built row.now)) first point.now) }
+    ensures { let more = multipliers_from (coefficient_of (built row.now)) first point.now in
+        IfOk result (λ _. multipliers.new.items ≡ multipliers.old.items ++ more) }
 {
     match point {
         [] => Ok(()),
@@ -119,7 +120,8 @@ impl Numbers for Constants<'_> {
 fn constant_sum(row: &Built, point: &[i64], multipliers: &[i64]) -> Option<i128>
     requires { length (constants_of point.now) ≡ length multipliers.now }
     ensures { let k = denied (built row.now) in let ms = multipliers.now in let zs = constants_of point.now in let z = known_number k None in
-        SomeIff result (SumsHeld (pos 0) ms zs × KnownHeld k None × IsHeld (pos 1 *ℤ z) × IsHeld ((pos 0 +ℤ dot ms zs) +ℤ pos 1 *ℤ z)) ((pos 0 +ℤ dot ms zs) +ℤ pos 1 *ℤ z) }
+        let total = (pos 0 +ℤ dot ms zs) +ℤ pos 1 *ℤ z in
+        SomeIff result (SumsHeld (pos 0) ms zs × KnownHeld k None × IsHeld (pos 1 *ℤ z) × IsHeld total) total }
 {
     let total = dot_from(0, multipliers, &Constants(point))?;
     let denial = number_of(&Built::Denied(row), None)?;

@@ -84,7 +84,8 @@ fn first_words(alloc: Global, text: &[u8], list: &[Token]) -> Result<Known, Allo
 
 /// The word of the second token.
 fn second_word<'a>(text: &'a [u8], list: &[Token]) -> Option<&'a [u8]>
-    ensures { MatchOption result (second_word (lexemes text.now list.now) ≡ None) (λ word. second_word (lexemes text.now list.now) ≡ Some word.now) }
+    ensures { let second = second_word (lexemes text.now list.now) in
+        MatchOption result (second ≡ None) (λ word. second ≡ Some word.now) }
 {
     match list {
         [_, token, ..] => Some(word_of(text, *token)),
@@ -94,7 +95,8 @@ fn second_word<'a>(text: &'a [u8], list: &[Token]) -> Option<&'a [u8]>
 
 /// The word of the label behind the first `START`, if there is one.
 fn start_word<'a>(text: &'a [u8], list: &[Token]) -> Option<&'a [u8]>
-    ensures { MatchOption result (start_word (lexemes text.now list.now) ≡ None) (λ word. start_word (lexemes text.now list.now) ≡ Some word.now) }
+    ensures { let first = start_word (lexemes text.now list.now) in
+        MatchOption result (first ≡ None) (λ word. first ≡ Some word.now) }
 {
     let mut rest = list;
     while let [token, behind @ ..] = rest {

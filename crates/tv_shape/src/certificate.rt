@@ -38,7 +38,10 @@ impl Certificate {
         requires variables { claim_variables claim.now ≡ (cases_of about.now).variables }
         ensures { let system = cases_of about.now in
             let property = shown claim.now verdict in
-            MatchResult result (λ c. IsOf (about_with system) property c × (c.root ≡ root) × (c.verdict ≡ verdict)) (IsRefused (about_with system) property root verdict) }
+            let about = about_with system in
+            MatchResult result
+            (λ c. IsOf about property c × (c.root ≡ root) × (c.verdict ≡ verdict))
+            (IsRefused about property root verdict) }
     {
         if node_count(&root).is_none() {
             return Err(ShapeFault::Memory);

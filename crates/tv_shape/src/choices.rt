@@ -70,7 +70,9 @@ fn take_has_shape(
 ) -> bool
     requires { known < 2 ^ 65 }
     ensures { let owes = destination_owes columns piece.now destination.now in
-        IsTrue result ↔ TakeShape columns piece.now.location owes known (slice_get (case_views cases.now) taken) target fall draws.now (map (λ l. l.items) lists.now) }
+        let case = slice_get (case_views cases.now) taken in
+        let shown = map (λ l. l.items) lists.now in
+        IsTrue result ↔ TakeShape columns piece.now.location owes known case target fall draws.now shown }
 {
     match cases.get(taken as usize) {
         None => false,

@@ -17,7 +17,9 @@ use tv_cert::{Aim, Node, Pieces, Verdict};
 /// What is at fault in the verdict over the pieces of the root.
 fn look_at_verdict(about: &Cases, pieces: &Pieces, verdict: &Verdict) -> Result<(), ShapeFault>
     ensures { let system = cases_of about.now in
-        MatchResult result (λ _. VerdictShallow verdict.now × VerdictFits (about_of system) pieces.now verdict.now) (IsVerdictFault (about_of system) pieces.now verdict.now) }
+        MatchResult result
+        (λ _. VerdictShallow verdict.now × VerdictFits (about_of system) pieces.now verdict.now)
+        (IsVerdictFault (about_of system) pieces.now verdict.now) }
 {
     if !verdict_is_shallow(verdict) {
         Err(ShapeFault::Deep { node: 0 })

@@ -63,7 +63,8 @@ fn proofs_have_shape(about: &Cases, aim: &Aim, node: &Node) -> bool
     requires { length (pieces_list node.now) < 2 ^ 63 }
     ensures { let system = cases_of about.now in
         let states = aim_states aim.now in
-        IsTrue result ↔ AllZip (λ o p. ProofShape o.owed p) (said_own 0 system states (pieces_list node.now) (map pieces_list (children_of node.now))) (proofs_of node.now) }
+        let owed = said_own 0 system states (pieces_list node.now) (map pieces_list (children_of node.now)) in
+        IsTrue result ↔ AllZip (λ o p. ProofShape o.owed p) owed (proofs_of node.now) }
 {
     let mut shaper = Shaper {
         proofs: &node.proofs,
@@ -78,7 +79,8 @@ fn proofs_have_shape(about: &Cases, aim: &Aim, node: &Node) -> bool
 fn has_own_parts(about: &Cases, aim: &Aim, node: &Node) -> bool
     ensures { let system = cases_of about.now in
         let states = aim_states aim.now in
-        IsTrue result ↔ OwnParts system states (ranks_at node.now) (pieces_list node.now) (map pieces_list (children_of node.now)) (proofs_of node.now) }
+        let below = map pieces_list (children_of node.now) in
+        IsTrue result ↔ OwnParts system states (ranks_at node.now) (pieces_list node.now) below (proofs_of node.now) }
 {
     let done = may_be_done(aim);
     (node.ranks == 0 || may_rank(aim))

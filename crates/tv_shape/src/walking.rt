@@ -20,7 +20,8 @@ pub fn walk(
     requires { number + size node.now < 2 ^ 32 }
     ensures { let system = cases_of about.now in
         let states = aim_states aim.now in
-        MatchResult result (λ next. AreRight system (stations number depth states node.now) × (next ≡ number + size node.now)) (λ f. IsFirstMisshapen system (stations number depth states node.now) f) }
+        let stops = stations number depth states node.now in
+        MatchResult result (λ next. AreRight system stops × (next ≡ number + size node.now)) (IsFirstMisshapen system stops) }
 {
     match look_at(about, aim, number, depth, node) {
         Err(fault) => return Err(fault),
