@@ -33,7 +33,7 @@ def worked(name):
 
 
 PROGRAMS = [
-    ("examples/counter.t2 --safety 2", ["--safety", "2"], worked("counter")),
+    ("examples/no-certificate.t2 --safety 2", ["--safety", "2"], worked("no-certificate")),
     ("examples/two-counters.t2 --safety 2", ["--safety", "2"], worked("two-counters")),
     ("examples/stepped.t2 --termination", ["--termination"], worked("stepped")),
     ("examples/parity.t2 --termination", ["--termination"], worked("parity")),
