@@ -171,6 +171,9 @@ const USELESS: &[Placed] = &[
     (2, &[], 1),
 ];
 
+/// A row that does not hold, though it does at first.
+const ONE_ROW: &[Placed] = &[(1, &[1], -5)];
+
 /// What is of no use, again and again, changes no answer.
 #[test]
 fn useless_rows_change_no_answer(rt: HostRuntime) -> Result<(), Fail> {
@@ -178,6 +181,7 @@ fn useless_rows_change_no_answer(rt: HostRuntime) -> Result<(), Fail> {
         let given = joined(rt.alloc(), &[text])?;
         let mut proposers = Vec::new(rt.alloc());
         proposers.push(offering(rt.alloc(), USELESS, 50)?)?;
+        proposers.push(offering(rt.alloc(), ONE_ROW, 1000)?)?;
         add_proposers(rt.alloc(), &mut proposers)?;
         assert!(rt;
             says_under(rt.alloc(), words, given, proposers, lines, *status)?,
