@@ -14,7 +14,9 @@ use Rattle.tv_cert.specs.declared.node.Verdict.{Verdict}
 use Rattle.tv_cert.specs.declared.node.Verdict.TheVariants.{Proved, Disproved}
 use Rattle.tv_cert.specs.Claims.{IsClaim, about_with, shown}
 use Rattle.tv_cert.specs.Nodes.{pieces_of, root_entry, obligations}
+use Rattle.tv_cert.specs.FirstFailing.{IsFirstFailing}
 use Rattle.tv_cert.specs.Obligations.{AllMet}
+use Rattle.tv_sound.proofs.NodesSound.{AllMet-left, AllMet-right}
 use Rattle.tv_cert.specs.Plain.{about_of}
 use Rattle.tv_cert.specs.Said.{said_entries, HasParts}
 use Rattle.tv_cert.specs.Shapes.{HasShape, VerdictShape}
@@ -55,6 +57,20 @@ module _ (system : CaseSystem) (f : Property) (c : Certificate) (s : Statement) 
       let parts = length-append (said_entries 0 system s c.root) (root_entry (about_of system) (pieces_of c.root) c.verdict ∷ []) in
       let room = fits.few_obligations in
       omega (arith, many, parts, room)
+
+  -- as many obligations as the nodes owe, and one more
+  pub all_counted : length (said_entries 0 system s c.root) + 1 ≡ length (obligations (about_with system) f c.root c.verdict)
+  all_counted =
+      let many = ap length owed in
+      let parts = length-append (said_entries 0 system s c.root) (root_entry (about_of system) (pieces_of c.root) c.verdict ∷ []) in
+      omega (arith, many, parts)
+
+  -- none of those that the nodes owe fails where all are met
+  pub none_fails : AllMet (obligations (about_with system) f c.root c.verdict) → (failing : Failing) → IsFirstFailing (said_entries 0 system s c.root) 0 failing → ⊥
+  none_fails met failing h =
+      let es = said_entries 0 system s c.root in
+      let all = AllMet-left es (root_entry (about_of system) (pieces_of c.root) c.verdict ∷ []) (subst AllMet (sym owed) met) in
+      h.fails (AllMet-right h.before (h.failing ∷ h.after) (subst AllMet h.parts all)).0
 
 -- ---- what a met certificate says
 

@@ -3,4 +3,4 @@
 
 mod claims;
 
-pub use claims::check_claim;
+pub use claims::{check_claim, count_obligations};
