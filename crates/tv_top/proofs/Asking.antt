@@ -14,7 +14,7 @@ use Rattle.tv_formula_reader.specs.declared.fault.FormulaFault.TheVariants as fa
 use Rattle.tv_top.specs.declared.answer.Answer.{Answer}
 use Rattle.tv_top.specs.declared.answer.Answer.TheVariants.{Proved, Disproved, Obligation, CertificateLine, Words, TooLong, Text, Property, WideEdge, TooManyInEdge, Unknown, ReadFault, Memory}
 use Rattle.tv_top.specs.Answers.{without_cases, without_property}
-use Rattle.tv_top.specs.Headline.{Given, Asked, Tells, Means, IsAnswer, unasked, too_long, decided, failed, without_memory, most_bytes}
+use Rattle.tv_top.specs.Headline.{Given, Asked, Tells, Means, IsAnswer, unasked, of_made, too_long, decided, failed, without_memory, most_bytes}
 use Rattle.tv_top.specs.Properties.{IsUnnamed, UnlessMemory}
 use Rattle.tv_top.specs.Finding.{Offers}
 use Rattle.tv_top.specs.Tasks.{Task}
@@ -31,9 +31,10 @@ below_index false n m h k = omega (arith, h, k)
 -- some bytes came, whatever the answer
 pub came : (offers : Offers) (words : List (List ℕ)) (old new : Seen) {answer : Answer} → IsAnswer offers words old new answer → GaveSome old new
 came offers words old new (unasked none same) = subst (λ s. GaveSome old s) (sym same) (record { bytes = []; gave = gave_nothing old })
-came offers words old new (too_long asks bytes gave long) = record { bytes = bytes; gave = gave }
-came offers words old new (decided bytes asks gave end short means) = record { bytes = bytes; gave = gave }
-came offers words old new (failed asks some) = some
+came offers words old new (of_made loops asks made same means) = subst (λ s. GaveSome old s) (sym same) (record { bytes = []; gave = gave_nothing old })
+came offers words old new (too_long asks read bytes gave long) = record { bytes = bytes; gave = gave }
+came offers words old new (decided bytes asks read gave end short means) = record { bytes = bytes; gave = gave }
+came offers words old new (failed asks read some) = some
 came offers words old new (without_memory some) = some
 
 -- the same is meant of the same bytes

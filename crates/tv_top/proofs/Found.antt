@@ -50,7 +50,7 @@ use Rattle.tv_settling.specs.Settling.{IsSettling}
 use Rattle.tv_top.specs.declared.answer.Answer.{Answer}
 use Rattle.tv_top.specs.declared.answer.Answer.TheVariants.{Proved, Disproved, Obligation, CertificateLine, Words, TooLong, Text, Property as Unnamed, WideEdge, TooManyInEdge, Unknown, ReadFault, Memory}
 use Rattle.tv_top.specs.Answers.{ended, uncovered, unknown, too_wide}
-use Rattle.tv_top.specs.Tasks.{Task}
+use Rattle.tv_top.specs.Tasks.{Wanted, Task}
 use Rattle.tv_top.specs.Finding.{Offers, Finds, Settles, TellsClaim, SaysVerdict, IsTextOf, IsOpenEnd, IsEndFault, alone, round, found, IsSearchFault, IsWeakAt, AreTooManyAt, KeepsFrom, of_ends, of_safety, budget_of}
 
 met_there : (before after : List Entry) (e : Entry) → AllMet (before ++ e ∷ after) → (P : Type 0) → (AllMet (e ∷ after) → P) → P
@@ -62,8 +62,8 @@ pub none_fails : (es : List Entry) (from : ℕ) (f : Failing) → AllMet es → 
 none_fails es from f all first = met_there first.before first.after first.failing (subst AllMet first.parts all) ⊥ (λ h. first.fails h.0)
 
 -- ---- what a certificate says
-module _ (writes : Bool) (p : System) (f : Property) (about : CaseSystem) (claim : Claim) (is : IsClaim claim f) (c : Certificate) (settling : IsSettling about claim c) (tells : TellsClaim p f about c) where
-  proved_so : (start : _) (text : List ℕ) → c.verdict ≡ verdicts.Proved start → IsTextOf writes about claim c text → (answer : Answer) → SaysVerdict p (verdicts.Proved start) text answer → Settles writes p f about answer
+module _ (wanted : Wanted) (p : System) (f : Property) (about : CaseSystem) (claim : Claim) (is : IsClaim claim f) (c : Certificate) (settling : IsSettling about claim c) (tells : TellsClaim p f about c) where
+  proved_so : (start : _) (text : List ℕ) → c.verdict ≡ verdicts.Proved start → IsTextOf wanted about claim c text → (answer : Answer) → SaysVerdict p (verdicts.Proved start) text answer → Settles wanted p f about answer
   proved_so start text e is_text (Proved certificate) says = record {
     claim = claim;
     is_claim = is;
@@ -72,7 +72,7 @@ module _ (writes : Bool) (p : System) (f : Property) (about : CaseSystem) (claim
     proved = subst SaysProved (sym e) tt;
     met = settling.met;
     holds = subst (IsSettled p f) e tells.settled;
-    is_text = subst (IsTextOf writes about claim c) (sym says) is_text;
+    is_text = subst (IsTextOf wanted about claim c) (sym says) is_text;
   }
   proved_so start text e is_text Memory says = tt
   proved_so start text e is_text (Disproved at certificate) says = absurd says
@@ -87,7 +87,7 @@ module _ (writes : Bool) (p : System) (f : Property) (about : CaseSystem) (claim
   proved_so start text e is_text (Unknown cause) says = absurd says
   proved_so start text e is_text ReadFault says = absurd says
 
-  disproved_so : (piece : ℕ) (values : Vec ℤ Global) (text : List ℕ) → c.verdict ≡ verdicts.Disproved piece values → IsTextOf writes about claim c text → (answer : Answer) → SaysVerdict p (verdicts.Disproved piece values) text answer → Settles writes p f about answer
+  disproved_so : (piece : ℕ) (values : Vec ℤ Global) (text : List ℕ) → c.verdict ≡ verdicts.Disproved piece values → IsTextOf wanted about claim c text → (answer : Answer) → SaysVerdict p (verdicts.Disproved piece values) text answer → Settles wanted p f about answer
   disproved_so piece values text e is_text (Disproved at certificate) says = record {
     claim = claim;
     is_claim = is;
@@ -101,7 +101,7 @@ module _ (writes : Bool) (p : System) (f : Property) (about : CaseSystem) (claim
     same = says.1;
     fails = subst (IsSettled p f) e tells.settled;
     endless = λ n. subst (FollowsFrom p about c.root) e (tells.followed n);
-    is_text = subst (IsTextOf writes about claim c) (sym says.2) is_text;
+    is_text = subst (IsTextOf wanted about claim c) (sym says.2) is_text;
   }
   disproved_so piece values text e is_text Memory says = tt
   disproved_so piece values text e is_text (Proved certificate) says = absurd says
@@ -117,12 +117,12 @@ module _ (writes : Bool) (p : System) (f : Property) (about : CaseSystem) (claim
   disproved_so piece values text e is_text ReadFault says = absurd says
 
   -- what the verdict says is so
-  pub said_so : (verdict : Verdict) (text : List ℕ) → c.verdict ≡ verdict → IsTextOf writes about claim c text → (answer : Answer) → SaysVerdict p verdict text answer → Settles writes p f about answer
+  pub said_so : (verdict : Verdict) (text : List ℕ) → c.verdict ≡ verdict → IsTextOf wanted about claim c text → (answer : Answer) → SaysVerdict p verdict text answer → Settles wanted p f about answer
   said_so (verdicts.Proved start) text e is_text answer says = proved_so start text e is_text answer says
   said_so (verdicts.Disproved piece values) text e is_text answer says = disproved_so piece values text e is_text answer says
 
 -- an answer that settles is found
-pub settles_found : (offers : Offers) (task : Task) (p : System) (f : Property) (about : CaseSystem) (answer : Answer) → Settles task.writes p f about answer → Finds offers task p f about answer
+pub settles_found : (offers : Offers) (task : Task) (p : System) (f : Property) (about : CaseSystem) (answer : Answer) → Settles task.wanted p f about answer → Finds offers task p f about answer
 settles_found offers task p f about (Proved certificate) h = h
 settles_found offers task p f about (Disproved at certificate) h = h
 settles_found offers task p f about Memory h = h
@@ -201,14 +201,14 @@ module _ (offers : Offers) (task : Task) (p : System) (f : Property) (about : Ca
 
   -- what comes of rows that exclude the location
   pub shown_so : (list : List Candidate) → IsKnown about (offers about) list → HasNoPoint about l list → (answer : Answer)
-      → Settles task.writes p f about answer ⊎ ((fault : CoverFault) × (answer ≡ uncovered fault) × RefusesSafety about list l limit fault) → Finds offers task p f about answer
+      → Settles task.wanted p f about answer ⊎ ((fault : CoverFault) × (answer ≡ uncovered fault) × RefusesSafety about list l limit fault) → Finds offers task p f about answer
   shown_so list known excludes answer (inl h) = settles_found offers task p f about answer h
   shown_so list known excludes answer (inr h) =
       subst (λ a. Finds offers task p f about a) (sym h.1) (uncovered_near h.0 (inr record { list = list; known = known; excludes = excludes; refused = h.2 }))
 
   -- what comes of a run to the location
   pub reached_so : (run : Found) → run.location ≡ l → IsFoundRun about run → (answer : Answer)
-      → Settles task.writes p f about answer ⊎ ((fault : PointFault) × (answer ≡ too_wide fault) × IsRunFault about run fault) → Finds offers task p f about answer
+      → Settles task.wanted p f about answer ⊎ ((fault : PointFault) × (answer ≡ too_wide fault) × IsRunFault about run fault) → Finds offers task p f about answer
   reached_so run to is answer (inl h) = settles_found offers task p f about answer h
   reached_so run to is answer (inr h) = subst (λ a. Finds offers task p f about a) (sym h.1) (wide_so h.0 h.2)
     where

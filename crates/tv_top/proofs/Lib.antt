@@ -4,3 +4,4 @@ pub mod Found
 pub mod Settling
 pub mod Lines
 pub mod Taken
+pub mod Made

@@ -16,9 +16,9 @@ flag name = record (new_rule name) { long = Some name; action = Some SetTrue }
 abbrev pub bare_command : App
 bare_command = on_top (λ s. record s { no_binary_name = true; disable_help_flag = true }) (new_app (codes "t2verdict"))
 
--- with what names the property
+-- with what names the property, and perhaps the program
 abbrev pub with_tasks : App → App
-with_tasks a = with_rule (with_rule (with_rule a (flag (codes "termination"))) (option (codes "safety"))) (option (codes "ctl"))
+with_tasks a = with_rule (with_rule (with_rule (with_rule a (flag (codes "termination"))) (option (codes "safety"))) (option (codes "ctl"))) (option (codes "generate"))
 
 -- with what is done with certificates
 abbrev pub with_certificates : App → App

@@ -1,5 +1,5 @@
 -- What the answer of a search says of a program and a property.
-use Rattle.std.specs.Prelude.{◌≡◌, ◌⊎◌, ℕ, ◌<◌, ℤ, List, [], Bool, true, false, Option, Some, slice_get, Vec}
+use Rattle.std.specs.Prelude.{◌≡◌, ◌⊎◌, ℕ, ◌<◌, ℤ, List, [], length, Option, Some, slice_get, Vec}
 use Rattle.std.specs.Global.{Global}
 use Rattle.tv_program.specs.Systems.{System}
 use Rattle.tv_formula.specs.Properties.{Property, term}
@@ -40,7 +40,8 @@ use Rattle.tv_settling.specs.declared.fault.EndFault.TheVariants as ends
 use Rattle.tv_settling.specs.Closed.{HaveNoPoint}
 use Rattle.tv_settling.specs.Ends.{IsStuckAlone, IsFirstFault, RefusesFound}
 use Rattle.tv_settling.specs.Refusals.{RefusesSafety}
-use Rattle.tv_top.specs.Tasks.{Limits, Task}
+use Rattle.tv_top.specs.Generated.{count_lines}
+use Rattle.tv_top.specs.Tasks.{Limits, Wanted, nothing_more, its_text, its_counts, Task}
 use Rattle.tv_top.specs.declared.assignment.Assignment.{Assignment}
 use Rattle.tv_top.specs.declared.cause.Cause.{Cause}
 use Rattle.tv_top.specs.declared.cause.Cause.TheVariants.{Unsolved, Spent, Composed, Unranked, Weak, TooManyPaths, Unbuilt}
@@ -51,13 +52,18 @@ use Rattle.tv_top.specs.declared.answer.Answer.TheVariants as answers
 abbrev pub budget_of : Limits → Budget
 budget_of l = record { pivots = l.pivots; splits = l.splits; disjuncts = l.disjuncts }
 
--- the text is one of the certificate where it is to be written, and else there is none
-abbrev pub IsTextOf : Bool → CaseSystem → Claim → Certificate → List ℕ → Type 0
-IsTextOf true about claim certificate text = IsCertificateText about claim text certificate
-IsTextOf false about claim certificate text = text ≡ []
+-- how many obligations the certificate has
+abbrev pub obligation_count : CaseSystem → Claim → Certificate → ℕ
+obligation_count about claim c = length (obligations (about_with about) (shown claim c.verdict) c.root c.verdict)
+
+-- what is written behind the verdict: nothing, a text of the certificate, or the numbers of loops, cases and obligations
+abbrev pub IsTextOf : Wanted → CaseSystem → Claim → Certificate → List ℕ → Type 0
+IsTextOf nothing_more about claim c text = text ≡ []
+IsTextOf its_text about claim c text = IsCertificateText about claim text c
+IsTextOf (its_counts loops) about claim c text = text ≡ count_lines loops (length about.cases) (obligation_count about claim c)
 
 -- a certificate that the property holds, which fits, and all of whose obligations are met; and so it does, at every initial state
-pub record IsShown (writes : Bool) (p : System) (f : Property) (about : CaseSystem) (text : List ℕ) : Type 0 where
+pub record IsShown (wanted : Wanted) (p : System) (f : Property) (about : CaseSystem) (text : List ℕ) : Type 0 where
   pub claim : Claim
   pub is_claim : IsClaim claim f
   pub certificate : Certificate
@@ -65,11 +71,11 @@ pub record IsShown (writes : Bool) (p : System) (f : Property) (about : CaseSyst
   pub proved : SaysProved certificate.verdict
   pub met : AllMet (obligations (about_with about) (shown claim certificate.verdict) certificate.root certificate.verdict)
   pub holds : HoldsInitially p f
-  pub is_text : IsTextOf writes about claim certificate text
+  pub is_text : IsTextOf wanted about claim certificate text
 
 -- A certificate that the property fails at the state at the start with these values, which fits, and all of whose obligations are met; and
 -- so it does there. Where its normal form is `term`, the choices of the certificate lead from there along an endless run.
-pub record IsRefuted (writes : Bool) (p : System) (f : Property) (about : CaseSystem) (at : Assignment) (text : List ℕ) : Type 0 where
+pub record IsRefuted (wanted : Wanted) (p : System) (f : Property) (about : CaseSystem) (at : Assignment) (text : List ℕ) : Type 0 where
   pub claim : Claim
   pub is_claim : IsClaim claim f
   pub certificate : Certificate
@@ -82,7 +88,7 @@ pub record IsRefuted (writes : Bool) (p : System) (f : Property) (about : CaseSy
   pub same : at.values.items ≡ values.items
   pub fails : FailsAt p f (record { location = p.start; values = values.items })
   pub endless : normal f ≡ term → Follows p about certificate.root piece values.items
-  pub is_text : IsTextOf writes about claim certificate text
+  pub is_text : IsTextOf wanted about claim certificate text
 
 -- The property holds at every initial state, or fails at the one that the certificate's verdict names; where its normal form is `term`, the
 -- choices lead along an endless run.
@@ -98,11 +104,11 @@ SaysVerdict p verdict text answers.Memory = Unit {0}
 SaysVerdict p verdict text answer = ⊥
 
 -- the answer is that of a certificate
-abbrev pub Settles : Bool → System → Property → CaseSystem → Answer → Type 0
-Settles writes p f about (answers.Proved certificate) = IsShown writes p f about certificate.items
-Settles writes p f about (answers.Disproved at certificate) = IsRefuted writes p f about at certificate.items
-Settles writes p f about answers.Memory = Unit {0}
-Settles writes p f about answer = ⊥
+abbrev pub Settles : Wanted → System → Property → CaseSystem → Answer → Type 0
+Settles wanted p f about (answers.Proved certificate) = IsShown wanted p f about certificate.items
+Settles wanted p f about (answers.Disproved at certificate) = IsRefuted wanted p f about at certificate.items
+Settles wanted p f about answers.Memory = Unit {0}
+Settles wanted p f about answer = ⊥
 
 -- what proposers offer for some cases
 abbrev pub Offers : Type 1
@@ -200,4 +206,4 @@ pub data IsCause (offers : Offers) (task : Task) (p : System) (f : Property) (ab
 -- What the answer of a search says.
 abbrev pub Finds : Offers → Task → System → Property → CaseSystem → Answer → Type 0
 Finds offers task p f about (answers.Unknown cause) = IsCause offers task p f about cause
-Finds offers task p f about answer = Settles task.writes p f about answer
+Finds offers task p f about answer = Settles task.wanted p f about answer

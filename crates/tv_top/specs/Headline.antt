@@ -19,7 +19,8 @@ use Rattle.tv_top.specs.declared.status.Status.TheVariants as statuses
 use Rattle.tv_top.specs.Answers.{lines_of, status_of}
 use Rattle.tv_top.specs.Judging.{Judges}
 use Rattle.tv_top.specs.Properties.{IsNamed, IsUnnamed}
-use Rattle.tv_top.specs.Tasks.{Task, task_of}
+use Rattle.tv_top.specs.Generated.{generated_text}
+use Rattle.tv_top.specs.Tasks.{Task, made_loops, task_of}
 use Rattle.tv_top.specs.Finding.{Offers, Finds}
 
 -- how many bytes are read at most: of a program and a certificate that is to be checked, or of a program alone
@@ -95,12 +96,14 @@ Means offers task bytes ReadFault = ⊥
 pub data IsAnswer (offers : Offers) (words : List (List ℕ)) (old new : Seen) : Answer → Type 0 where
   -- the words ask nothing, and nothing is read
   unasked : task_of words ≡ None → new ≡ old → IsAnswer offers words old new Words
+  -- the program is made, and nothing is read
+  of_made : {task : Task} {answer : Answer} (loops : ℕ) → task_of words ≡ Some task → made_loops task.wanted ≡ Some loops → new ≡ old → Means offers task (generated_text loops) answer → IsAnswer offers words old new answer
   -- more bytes came than are read
-  too_long : {task : Task} → task_of words ≡ Some task → (bytes : List ℕ) → Gave old new bytes → most_bytes task.checks < length bytes → IsAnswer offers words old new TooLong
+  too_long : {task : Task} → task_of words ≡ Some task → made_loops task.wanted ≡ None → (bytes : List ℕ) → Gave old new bytes → most_bytes task.checks < length bytes → IsAnswer offers words old new TooLong
   -- the source was read to its end
-  decided : {task : Task} {answer : Answer} (bytes : List ℕ) → task_of words ≡ Some task → Gave old new bytes → IsAtEnd new.known → length bytes ≤ most_bytes task.checks → Means offers task bytes answer → IsAnswer offers words old new answer
+  decided : {task : Task} {answer : Answer} (bytes : List ℕ) → task_of words ≡ Some task → made_loops task.wanted ≡ None → Gave old new bytes → IsAtEnd new.known → length bytes ≤ most_bytes task.checks → Means offers task bytes answer → IsAnswer offers words old new answer
   -- the source failed
-  failed : {task : Task} → task_of words ≡ Some task → GaveSome old new → IsAnswer offers words old new ReadFault
+  failed : {task : Task} → task_of words ≡ Some task → made_loops task.wanted ≡ None → GaveSome old new → IsAnswer offers words old new ReadFault
   without_memory : GaveSome old new → IsAnswer offers words old new Memory
 
 -- The answer is written: its lines and its status, or under a write fault a front of the lines.

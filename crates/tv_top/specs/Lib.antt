@@ -1,5 +1,6 @@
 pub mod CommandLine
 pub mod Tasks
+pub mod Generated
 pub mod Forms
 pub mod Views
 pub mod CauseLines

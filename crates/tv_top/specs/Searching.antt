@@ -18,7 +18,7 @@ use Rattle.tv_reaching.specs.FoundRuns.{IsRunFault}
 use Rattle.tv_reaching.specs.declared.found.Found.{Found}
 use Rattle.tv_top.specs.Answers.{uncovered, too_wide}
 use Rattle.tv_top.specs.Finding.{Offers, Finds, Settles}
-use Rattle.tv_top.specs.Views.{task_view}
+use Rattle.tv_top.specs.Views.{wanted_view, task_view}
 
 -- the cases are those of the program, and the claim is stated over its variables
 pub record IsOfOne (s : Search) : Type 0 where
@@ -31,13 +31,13 @@ pub record IsOfOne (s : Search) : Type 0 where
 -- the answer of a certificate, or that of a refusal for which none is made of the rows
 abbrev pub IsShownOrNot : Search → Property → ℕ → List Candidate → Budget → Answer → Type 0
 IsShownOrNot s f l list budget answer =
-    Settles s.task.now.writes (system_of s.program.now) f (cases_of s.about.now) answer
+    Settles (wanted_view s.task.now.wanted) (system_of s.program.now) f (cases_of s.about.now) answer
     ⊎ ((fault : CoverFault) × (answer ≡ uncovered fault) × RefusesSafety (cases_of s.about.now) list l budget fault)
 
 -- the answer of a certificate of the run, or why there is none
 abbrev pub IsReachedOrNot : Search → Property → Found → Answer → Type 0
 IsReachedOrNot s f found answer =
-    Settles s.task.now.writes (system_of s.program.now) f (cases_of s.about.now) answer
+    Settles (wanted_view s.task.now.wanted) (system_of s.program.now) f (cases_of s.about.now) answer
     ⊎ ((fault : PointFault) × (answer ≡ too_wide fault) × IsRunFault (cases_of s.about.now) found fault)
 
 -- the answer to whether the program has the property

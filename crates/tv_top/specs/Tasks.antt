@@ -1,5 +1,5 @@
 -- What the words ask for.
-use Rattle.std.specs.Prelude.{ℕ, ◌+◌, ◌==◌, List, [], ◌∷◌, length, Bool, true, false, ◌&&◌, not, nat_lt, Option, None, Some, option_and_then, codes, if◌then◌else◌}
+use Rattle.std.specs.Prelude.{ℕ, ◌+◌, ◌==◌, List, [], ◌∷◌, length, Bool, true, false, ◌&&◌, not, nat_lt, Option, None, Some, option_and_then, option_map, codes, if◌then◌else◌}
 use Rattle.std.specs.Char.{is_ascii_digit}
 use Rattle.std.specs.List.{list_all}
 use Rattle.std.specs.Option.{option_map_or}
@@ -28,13 +28,26 @@ pub record Limits : Type 0 where
   -- how many pieces a region has
   pub disjuncts : ℕ
 
+-- what is written behind `Proved`, or behind `Disproved` and its values
+pub data Wanted : Type 0 where
+  nothing_more : Wanted
+  -- the text of the certificate that is found
+  its_text : Wanted
+  -- how many loops, cases and obligations there are, of a program of so many loops that is made
+  its_counts : ℕ → Wanted
+
 pub record Task : Type 0 where
   pub query : Query
   -- a certificate follows the program, and is to be checked
   pub checks : Bool
-  -- the certificate that is found is to be written
-  pub writes : Bool
+  pub wanted : Wanted
   pub limits : Limits
+
+-- how many loops the program has, where it is made and not read
+abbrev pub made_loops : Wanted → Option ℕ
+made_loops nothing_more = None
+made_loops its_text = None
+made_loops (its_counts loops) = Some loops
 
 -- ---- numbers
 
@@ -61,7 +74,7 @@ limit_of most usual (Some word) = number_within most word
 abbrev pub is_given : Text → List Row → Bool
 is_given name rows = option_map_or (λ value. bytes_eq value (codes "true")) (first_of name rows) false
 
--- the one property that is named
+-- the one property that is named, where the program is read
 abbrev pub query_named : Bool → Option Text → Option Text → Option Query
 query_named true None None = Some termination
 query_named false (Some label) None = Some (safety label)
@@ -71,8 +84,31 @@ query_named true (Some label) formula = None
 query_named false None None = None
 query_named false (Some label) (Some text) = None
 
+-- where no property is named
+abbrev pub unless_named : Bool → Option Text → Option Text → Option Query → Option Query
+unless_named true label formula query = None
+unless_named false (Some label) formula query = None
+unless_named false None (Some text) query = None
+unless_named false None None query = query
+
+-- of a program that is made it is asked whether every run ends
+abbrev pub query_of_made : Option Text → Bool → Option Text → Option Text → Option Query
+query_of_made None terminates label formula = query_named terminates label formula
+query_of_made (Some loops) terminates label formula = unless_named terminates label formula (Some termination)
+
 abbrev pub query_in : List Row → Option Query
-query_in rows = query_named (is_given (codes "termination") rows) (first_of (codes "safety") rows) (first_of (codes "ctl") rows)
+query_in rows =
+    query_of_made (first_of (codes "generate") rows) (is_given (codes "termination") rows) (first_of (codes "safety") rows)
+    (first_of (codes "ctl") rows)
+
+-- what is written behind the verdict: of a program that is made, numbers alone
+abbrev pub wanted_of : Bool → Option Text → Option Wanted
+wanted_of writes None = Some (if writes then its_text else nothing_more)
+wanted_of true (Some loops) = None
+wanted_of false (Some loops) = option_map its_counts (number_within 1000 loops)
+
+abbrev pub wanted_in : List Row → Option Wanted
+wanted_in rows = wanted_of (is_given (codes "certificate") rows) (first_of (codes "generate") rows)
 
 abbrev pub limits_in : List Row → Option Limits
 limits_in rows =
@@ -83,15 +119,17 @@ limits_in rows =
     })) (limit_of 4096 256 (first_of (codes "disjuncts") rows))) (limit_of 128 64 (first_of (codes "splits") rows)))
     (limit_of 1000000 100000 (first_of (codes "pivots") rows))
 
--- a certificate is not both read and written
-abbrev pub task_with : Bool → Bool → Query → Limits → Option Task
-task_with checks writes query limits =
-    if checks && writes then None else Some (record { query = query; checks = checks; writes = writes; limits = limits })
+-- a certificate is not both read and written, and none is read for a program that is made
+abbrev pub task_with : Bool → Wanted → Query → Limits → Option Task
+task_with true its_text query limits = None
+task_with true (its_counts loops) query limits = None
+task_with true nothing_more query limits = Some (record { query = query; checks = true; wanted = nothing_more; limits = limits })
+task_with false wanted query limits = Some (record { query = query; checks = false; wanted = wanted; limits = limits })
 
 abbrev pub task_in : List Row → Option Task
 task_in rows =
-    option_and_then (λ query. option_and_then (λ limits. task_with (is_given (codes "check") rows) (is_given (codes "certificate") rows) query limits)
-    (limits_in rows)) (query_in rows)
+    option_and_then (λ query. option_and_then (λ limits. option_and_then (λ wanted. task_with (is_given (codes "check") rows) wanted query limits)
+    (wanted_in rows)) (limits_in rows)) (query_in rows)
 
 -- ---- the words
 

@@ -39,13 +39,14 @@ fn bare_command<'a>(alloc: Global) -> Command<'a>
         .disable_help_flag(true)
 }
 
-/// What names the property.
+/// What names the property, and perhaps the program.
 fn with_tasks<'a>(alloc: Global, command: Command<'a>) -> Result<Command<'a>, AllocError>
     ensures { IfOk result (λ c. app_of c ≡ with_tasks (app_of command.entry)) }
 {
     let command = with_flag(alloc, command, "termination")?;
     let command = with_option(alloc, command, "safety")?;
-    with_option(alloc, command, "ctl")
+    let command = with_option(alloc, command, "ctl")?;
+    with_option(alloc, command, "generate")
 }
 
 /// What is done with certificates.

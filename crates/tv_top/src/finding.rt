@@ -6,7 +6,7 @@ ghost use Rattle.tv_formula.specs.Formulas.{property_of, variables_of};
 ghost use Rattle.tv_formula.specs.Properties.{Property, term};
 ghost use Rattle.tv_cases.specs.Answers.{IsOfProgram, HaveSameSteps};
 ghost use Rattle.tv_cases.specs.Systems.{cases_of};
-ghost use Rattle.tv_cert.specs.Claims.{IsClaim, about_with, shown};
+ghost use Rattle.tv_cert.specs.Claims.{IsClaim, StatesIts, claim_variables, about_with, shown};
 ghost use Rattle.tv_shape.specs.Certificates.{IsOf};
 ghost use Rattle.tv_points.specs.Nodes.{endless};
 ghost use Rattle.tv_recur.specs.Recurring.{IsRecurrence};
@@ -15,16 +15,18 @@ ghost use Rattle.tv_settling.specs.Settling.{IsSettling};
 ghost use Rattle.tv_top.specs.Answers.{ended, uncovered};
 ghost use Rattle.tv_top.specs.Finding.{budget_of, offers_of, IsOpenEnd, IsTextOf, TellsClaim, SaysVerdict, Settles, Finds};
 ghost use Rattle.tv_top.specs.Searching.{IsOfOne, Answers};
-ghost use Rattle.tv_top.specs.Views.{limits_of, task_view};
+ghost use Rattle.tv_top.specs.Views.{limits_of, wanted_view, task_view};
 
 use crate::answer::Answer;
 use crate::assignment::Assignment;
 use crate::cause::Cause;
 use crate::excluded::excluded;
 use crate::limits::Limits;
+use crate::making::count_lines;
 use crate::safety::safe;
 use crate::search::Search;
 use crate::task::Task;
+use crate::wanted::Wanted;
 use std::alloc::{AllocError, Global};
 use tv_cases::Cases;
 use tv_cert::{Claim, Verdict};
@@ -37,7 +39,7 @@ use tv_rank::Name;
 use tv_recur::{Recurrence, recur, recurrence_certificate};
 use tv_settling::{EndFault, first_end, found_end};
 use tv_shape::Certificate;
-use tv_sound::check_claim;
+use tv_sound::{check_claim, count_obligations};
 
 /// The answer where a question of whole points was not settled.
 pub(crate) fn uncovered(fault: CoverFault) -> Answer
@@ -76,21 +78,26 @@ fn is_termination(formula: &Formula) -> bool
     }
 }
 
-/// The text of the certificate where it is to be written, and else none.
+/// What is written behind the verdict of the certificate.
 fn text_of(
     alloc: Global,
-    writes: bool,
+    wanted: Wanted,
     about: &Cases,
     claim: &Claim,
     certificate: &Certificate,
 ) -> Result<Vec<u8>, AllocError>
-    requires { IsOf (about_with (cases_of about.now)) (shown claim.now certificate.now.verdict) certificate.now }
-    ensures { IfOk result (λ text. IsTextOf writes (cases_of about.now) claim.now certificate.now text.items) }
+    requires settling { IsSettling (cases_of about.now) claim.now certificate.now }
+    requires states { StatesIts claim.now }
+    requires variables { claim_variables claim.now ≡ (cases_of about.now).variables }
+    ensures { IfOk result (λ text. IsTextOf (wanted_view wanted) (cases_of about.now) claim.now certificate.now text.items) }
 {
-    if writes {
-        write_certificate(alloc, certificate)
-    } else {
-        Ok(Vec::new(alloc))
+    match wanted {
+        Wanted::Nothing => Ok(Vec::new(alloc)),
+        Wanted::Certificate => write_certificate(alloc, certificate),
+        Wanted::Counts(loops) => {
+            let obligations = count_obligations(about, claim, certificate);
+            count_lines(alloc, loops.count, about.list().len() as u64, obligations)
+        }
     }
 }
 
@@ -128,12 +135,12 @@ pub(crate) fn told(alloc: Global, search: &Search, certificate: &Certificate) ->
     requires one { IsOfOne search.now }
     requires settling { IsSettling (cases_of search.now.about.now) search.now.claim.now certificate.now }
     ensures { (f : Property) → IsClaim search.now.claim.now f →
-        Settles search.now.task.now.writes (system_of search.now.program.now) f (cases_of search.now.about.now) result }
+        Settles (wanted_view search.now.task.now.wanted) (system_of search.now.program.now) f (cases_of search.now.about.now) result }
 {
     ensure_met(search, certificate);
     match text_of(
         alloc,
-        search.task.writes,
+        search.task.wanted,
         search.about,
         search.claim,
         certificate,
@@ -182,7 +189,7 @@ fn endless_run(alloc: Global, search: &Search, recurrence: Recurrence) -> Answer
     requires denied { property_of search.now.claim.now.denied ≡ endless }
     requires recurrence { IsRecurrence (cases_of search.now.about.now) recurrence }
     ensures { (f : Property) → IsClaim search.now.claim.now f →
-        Settles search.now.task.now.writes (system_of search.now.program.now) f (cases_of search.now.about.now) result }
+        Settles (wanted_view search.now.task.now.wanted) (system_of search.now.program.now) f (cases_of search.now.about.now) result }
 {
     match recurrence_certificate(alloc, search.about, search.claim, recurrence) {
         Ok(certificate) => told(alloc, search, &certificate),

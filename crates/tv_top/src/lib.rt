@@ -12,6 +12,7 @@ mod finding;
 mod judging;
 mod laws;
 mod limits;
+mod making;
 mod numbers;
 mod property;
 mod running;
@@ -19,7 +20,9 @@ mod safety;
 mod search;
 mod status;
 mod task;
+mod wanted;
 
 pub use laws::{listed_words, refused_words};
+pub use making::generated;
 pub use running::run;
 pub use status::Status;

@@ -32,7 +32,7 @@ fn is_decimal(word: &[u8]) -> bool
 }
 
 /// The number from 1 to `most` that the word writes, without a sign or a zero in front.
-fn number_within(word: &str, most: u32) -> Option<u32>
+pub fn number_within(word: &str, most: u32) -> Option<u32>
     ensures exact { result ≡ number_within most word.now }
     ensures within { IfSome result (λ number. number ≤ most) }
 {

@@ -1,7 +1,8 @@
-ghost use Rattle.std.specs.Prelude.{◌≡◌, ℕ, ◌-◌, ◌<◌, ◌≤◌, ◌^◌, List, map, length, Some};
+ghost use Rattle.std.specs.Prelude.{◌≡◌, ℕ, ◌-◌, ◌<◌, ◌≤◌, ◌^◌, List, map, length, None, Some};
 ghost use Rattle.tv_text.specs.Stream.{Rose};
 ghost use Rattle.tv_top.specs.Answers.{without_cases, without_property};
-ghost use Rattle.tv_top.specs.Tasks.{task_of};
+ghost use Rattle.tv_top.specs.Generated.{generated_text};
+ghost use Rattle.tv_top.specs.Tasks.{made_loops, task_of};
 ghost use Rattle.tv_top.specs.Views.{task_view};
 ghost use Rattle.tv_top.specs.Finding.{offers_of};
 ghost use Rattle.tv_top.specs.Headline.{most_bytes, AreTexts, Means, IsAnswer, Concludes};
@@ -9,9 +10,11 @@ ghost use Rattle.tv_top.specs.Headline.{most_bytes, AreTexts, Means, IsAnswer, C
 use crate::answer::Answer;
 use crate::finding::find;
 use crate::judging::judge;
+use crate::making::generated;
 use crate::property::property;
 use crate::status::Status;
 use crate::task::Task;
+use crate::wanted::{Loops, Wanted};
 use std::alloc::Global;
 use tv_cases::{CaseFault, cases};
 use tv_formula_reader::FormulaFault;
@@ -104,6 +107,7 @@ fn answered<S: Source>(
     source: &mut S,
     proposers: &mut Vec<Box<dyn Proposer>>,
 ) -> Answer
+    requires { made_loops (task_view task.now).wanted ≡ None }
     ensures answer { (words : List (List ℕ)) → task_of words ≡ Some (task_view task.now) →
         IsAnswer (offers_of (λ p. rest p) proposers.old.items) words (S.seen source.old) (S.seen source.new) result }
     ensures read { result ≡ Answer.ReadFault → Rose (S.faults source.old) (S.faults source.new) }
@@ -117,7 +121,41 @@ fn answered<S: Source>(
     }
 }
 
-/// The answer to the words about the text that the source holds.
+/// The answer to whether every run of a program that is made ends.
+fn answered_of_made(
+    alloc: Global,
+    task: &Task,
+    loops: Loops,
+    proposers: &mut Vec<Box<dyn Proposer>>,
+) -> Answer
+    ensures { Means (offers_of (λ p. rest p) proposers.old.items) (task_view task.now) (generated_text loops.count) result }
+{
+    match generated(alloc, loops.count) {
+        Ok(text) => decide(alloc, &text, task, proposers),
+        Err(_) => Answer::Memory,
+    }
+}
+
+/// The answer to what the words ask.
+fn answer_to_task<S: Source>(
+    alloc: Global,
+    task: &Task,
+    source: &mut S,
+    proposers: &mut Vec<Box<dyn Proposer>>,
+) -> Answer
+    ensures answer { (words : List (List ℕ)) → task_of words ≡ Some (task_view task.now) →
+        IsAnswer (offers_of (λ p. rest p) proposers.old.items) words (S.seen source.old) (S.seen source.new) result }
+    ensures read { result ≡ Answer.ReadFault → Rose (S.faults source.old) (S.faults source.new) }
+    ensures later { S.faults source.old ≤ S.faults source.new }
+{
+    match task.wanted {
+        Wanted::Counts(loops) => answered_of_made(alloc, task, loops, proposers),
+        Wanted::Nothing => answered(alloc, task, source, proposers),
+        Wanted::Certificate => answered(alloc, task, source, proposers),
+    }
+}
+
+/// The answer to the words about the text that the source holds, or about a program that is made.
 fn answer_to<S: Source>(
     alloc: Global,
     words: &[&str],
@@ -130,13 +168,13 @@ fn answer_to<S: Source>(
     ensures later { S.faults source.old ≤ S.faults source.new }
 {
     match Task::read(alloc, words) {
-        Ok(Some(task)) => answered(alloc, &task, source, proposers),
+        Ok(Some(task)) => answer_to_task(alloc, &task, source, proposers),
         Ok(None) => Answer::Words,
         Err(_) => Answer::Memory,
     }
 }
 
-/// Answers the question of the words about the text that the source holds, with lines that are written at the end.
+/// Answers the question of the words about the text that the source holds, or about a program that is made of loops, with lines that are written at the end.
 ///
 /// Where rows that hold on every run are looked for, the proposers are asked for candidates.
 pub fn run<S: Source, K: Sink>(

@@ -1,12 +1,13 @@
-ghost use Rattle.std.specs.Prelude.{◌≡◌, IfOk, map, option_map};
+ghost use Rattle.std.specs.Prelude.{◌≡◌, ◌↔◌, IfOk, IsTrue, map, option_map};
 ghost use Rattle.clap.specs.Walk.{first_of, rows_of};
 ghost use Rattle.clap.specs.Matches.{found_of};
-ghost use Rattle.tv_top.specs.Tasks.{is_given, query_in, limits_in, task_in, task_of};
-ghost use Rattle.tv_top.specs.Views.{query_of, limits_of, task_view};
+ghost use Rattle.tv_top.specs.Tasks.{is_given, query_named, query_in, limits_in, nothing_more, wanted_in, task_in, task_of};
+ghost use Rattle.tv_top.specs.Views.{query_of, limits_of, wanted_view, task_view};
 
 use crate::command::command;
 use crate::limits::Limits;
-use crate::numbers::limit_of;
+use crate::numbers::{limit_of, number_within};
+use crate::wanted::{Loops, Wanted};
 use clap::ArgMatches;
 use clap::error::ErrorKind;
 use std::alloc::{AllocError, Global};
@@ -28,8 +29,7 @@ pub struct Task<'a> {
     pub question: Question<'a>,
     /// A certificate follows the program, and is to be checked.
     pub checks: bool,
-    /// The certificate that is found is to be written.
-    pub writes: bool,
+    pub wanted: Wanted,
     pub limits: Limits,
 }
 
@@ -50,12 +50,17 @@ fn is_given(matches: &ArgMatches, name: &str) -> bool
     }
 }
 
-/// The one property that is named.
-fn question_in<'a>(matches: &ArgMatches<'a>) -> Option<Question<'a>>
-    ensures { option_map query_of result ≡ query_in (rows_of (found_of matches.now)) }
+/// The one property that is named, where the program is read.
+fn question_named<'a>(
+    termination: bool,
+    safety: Option<&'a str>,
+    formula: Option<&'a str>,
+) -> Option<Question<'a>>
+    ensures { let label = option_map (λ value. value.now) safety.entry in
+        let text = option_map (λ value. value.now) formula.entry in
+        option_map query_of result ≡ query_named termination label text }
 {
-    let termination = is_given(matches, "termination");
-    match (value_of(matches, "safety"), value_of(matches, "ctl")) {
+    match (safety, formula) {
         (None, None) => {
             if termination {
                 Some(Question::Termination)
@@ -81,6 +86,45 @@ fn question_in<'a>(matches: &ArgMatches<'a>) -> Option<Question<'a>>
     }
 }
 
+/// The one property that is named: of a program that is made it is asked whether every run ends.
+fn question_in<'a>(matches: &ArgMatches<'a>) -> Option<Question<'a>>
+    ensures { option_map query_of result ≡ query_in (rows_of (found_of matches.now)) }
+{
+    let termination = is_given(matches, "termination");
+    let safety = value_of(matches, "safety");
+    let formula = value_of(matches, "ctl");
+    match value_of(matches, "generate") {
+        None => question_named(termination, safety, formula),
+        Some(_) => match (termination, safety, formula) {
+            (false, None, None) => Some(Question::Termination),
+            _ => None,
+        },
+    }
+}
+
+/// What is written behind the verdict.
+fn wanted_in(matches: &ArgMatches) -> Option<Wanted>
+    ensures { option_map wanted_view result ≡ wanted_in (rows_of (found_of matches.now)) }
+{
+    let writes = is_given(matches, "certificate");
+    match value_of(matches, "generate") {
+        None => {
+            if writes {
+                Some(Wanted::Certificate)
+            } else {
+                Some(Wanted::Nothing)
+            }
+        }
+        Some(word) => {
+            if writes {
+                return None;
+            }
+            let count = number_within(word, 1000)?;
+            Some(Wanted::Counts(Loops { count }))
+        }
+    }
+}
+
 /// The limits, each in its range.
 fn limits_in(matches: &ArgMatches) -> Option<Limits>
     ensures { option_map limits_of result ≡ limits_in (rows_of (found_of matches.now)) }
@@ -95,21 +139,31 @@ fn limits_in(matches: &ArgMatches) -> Option<Limits>
     })
 }
 
+/// Whether the verdict alone is written.
+fn is_nothing(wanted: Wanted) -> bool
+    ensures { IsTrue result ↔ (wanted_view wanted ≡ nothing_more) }
+{
+    match wanted {
+        Wanted::Nothing => true,
+        _ => false,
+    }
+}
+
 /// What is asked for where the command took the words.
 fn task_in<'a>(matches: &ArgMatches<'a>) -> Option<Task<'a>>
     ensures { option_map task_view result ≡ task_in (rows_of (found_of matches.now)) }
 {
     let question = question_in(matches)?;
     let limits = limits_in(matches)?;
+    let wanted = wanted_in(matches)?;
     let checks = is_given(matches, "check");
-    let writes = is_given(matches, "certificate");
-    if checks && writes {
+    if checks && !is_nothing(wanted) {
         return None;
     }
     Some(Task {
         question,
         checks,
-        writes,
+        wanted,
         limits,
     })
 }

@@ -29,3 +29,7 @@ returns-clause-behind c = refl
 pub returns-clause-numbers : goal.returns-clause-numbers
 unfolding clap_on_literals
 returns-clause-numbers c = refl
+
+pub returns-clause-generated : goal.returns-clause-generated
+unfolding clap_on_literals
+returns-clause-generated c = refl

@@ -41,3 +41,23 @@ returns-clause-many_pieces c = refl
 pub returns-clause-help : goal.returns-clause-help
 unfolding clap_on_literals
 returns-clause-help c = refl
+
+pub returns-clause-no_loops : goal.returns-clause-no_loops
+unfolding clap_on_literals
+returns-clause-no_loops c = refl
+
+pub returns-clause-many_loops : goal.returns-clause-many_loops
+unfolding clap_on_literals
+returns-clause-many_loops c = refl
+
+pub returns-clause-made_and_named : goal.returns-clause-made_and_named
+unfolding clap_on_literals
+returns-clause-made_and_named c = refl
+
+pub returns-clause-made_and_written : goal.returns-clause-made_and_written
+unfolding clap_on_literals
+returns-clause-made_and_written c = refl
+
+pub returns-clause-made_and_checked : goal.returns-clause-made_and_checked
+unfolding clap_on_literals
+returns-clause-made_and_checked c = refl

@@ -1,0 +1,18 @@
+ghost use Rattle.std.specs.Prelude.{◌≤◌};
+
+/// How many loops a program has that is made, from 1 to 1,000.
+#[derive(Clone, Copy)]
+pub struct Loops {
+    pub count: u32,
+    ghost few: { count ≤ 1000 },
+}
+
+/// What is written behind `Proved`, or behind `Disproved` and its values.
+#[derive(Clone, Copy)]
+pub enum Wanted {
+    Nothing,
+    /// The text of the certificate.
+    Certificate,
+    /// How many loops, cases and obligations there are, of a program that is made.
+    Counts(Loops),
+}
