@@ -1,6 +1,6 @@
 use crate::sample::{
-    AMPLE, BELOW_FIVE, Lists, NEVER, NOWHERE, ONE, ONE_OR_THREE, TWICE, is, made, refused,
-    region_of,
+    AMPLE, AROUND_ONE, BELOW_FIVE, DOUBLED, JUST_ONE, Lists, NEVER, NOWHERE, ONE, ONE_OR_THREE,
+    TWICE, is, made, refused, region_of,
 };
 use std::alloc::Global;
 use std::test::Fail;
@@ -60,9 +60,20 @@ fn pieces_inside_others_are_dropped(rt: HostRuntime) -> Result<(), Fail> {
         (TWICE, TWICE),
         (NEVER, BELOW_FIVE),
         (NOWHERE, TWICE),
+        (BELOW_FIVE, DOUBLED),
+        (DOUBLED, BELOW_FIVE),
     ] {
         let region = joined(alloc, a, b)?;
         assert!(rt; is(&region, 1, UP_TO_FOUR));
+    }
+    Ok(())
+}
+
+#[test]
+fn pieces_with_the_same_whole_points_stand_once(rt: HostRuntime) -> Result<(), Fail> {
+    for (a, b) in [(JUST_ONE, AROUND_ONE), (AROUND_ONE, JUST_ONE)] {
+        let region = joined(rt.alloc(), a, b)?;
+        assert!(rt; is(&region, 1, &[1]));
     }
     Ok(())
 }

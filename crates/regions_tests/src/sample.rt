@@ -33,6 +33,14 @@ pub(crate) const BELOW_FIVE: Lists = &[&[(1, -4)]];
 /// `x == 1 || x == 3`.
 pub(crate) const ONE_OR_THREE: Lists = &[&[(1, -1), (-1, 1)], &[(1, -3), (-1, 3)]];
 
+/// `2 * x <= 7`.
+pub(crate) const DOUBLED: Lists = &[&[(2, -7)]];
+
+/// `x == 1`, and `x >= 1 && 2 * x <= 3`, which has other rational points.
+pub(crate) const JUST_ONE: Lists = &[&[(1, -1), (-1, 1)]];
+
+pub(crate) const AROUND_ONE: Lists = &[&[(-1, 1), (2, -3)]];
+
 /// `x <= 1 && x >= 3`.
 pub(crate) const NEVER: Lists = &[&[(1, -1), (-1, 3)]];
 

@@ -84,10 +84,12 @@ fn no_step_leads_nowhere(rt: HostRuntime) -> Result<(), Fail> {
 
 #[test]
 fn too_many_pieces_before_steps_are_refused(rt: HostRuntime) -> Result<(), Fail> {
-    let about = about(rt.alloc(), false)?;
     let target = region_of(rt.alloc(), ONE_OR_THREE)?;
-    assert!(rt; fits(&target, about.variables(), about.locations()));
-    assert!(rt; refused(&before_every(rt.alloc(), &about, &target, &ONE), 2));
-    assert!(rt; refused(&before_any(rt.alloc(), &about, &target, &ONE), 2));
+    for (draws, pieces) in [(false, 2), (true, 4)] {
+        let about = about(rt.alloc(), draws)?;
+        assert!(rt; fits(&target, about.variables(), about.locations()));
+        assert!(rt; refused(&before_every(rt.alloc(), &about, &target, &ONE), pieces));
+        assert!(rt; refused(&before_any(rt.alloc(), &about, &target, &ONE), 2));
+    }
     Ok(())
 }

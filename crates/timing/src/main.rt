@@ -9,6 +9,7 @@ mod linear_cases;
 mod numbers;
 mod reading;
 mod refuting;
+mod regions;
 mod showing;
 mod solving;
 mod task;

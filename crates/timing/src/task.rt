@@ -1,6 +1,9 @@
+use crate::regions::Asked;
 use crate::showing::Way;
 use crate::words::{Fault, or_no_form};
-use crate::{components, covering, linear_cases, numbers, reading, refuting, showing, solving};
+use crate::{
+    components, covering, linear_cases, numbers, reading, refuting, regions, showing, solving,
+};
 use std::alloc::{AllocError, Global};
 use std::str;
 
@@ -19,13 +22,16 @@ pub(crate) enum Task {
     Solving,
     Refuting,
     Covering,
+    Some,
+    Every,
+    Always,
     Once,
     Twice,
     Scan,
 }
 
 /// Each task by its name, with a small text for it.
-pub(crate) const TASKS: [(&str, Task, &str); 12] = [
+pub(crate) const TASKS: [(&str, Task, &str); 15] = [
     ("components", Task::Components, ""),
     ("sum", Task::Sum, "x + 2 * (y - 1) - -z"),
     ("condition", Task::Condition, "x > 0 && y <= 12"),
@@ -47,6 +53,21 @@ pub(crate) const TASKS: [(&str, Task, &str); 12] = [
     ("solving", Task::Solving, "2 2 1 -1 0 0 1 1"),
     ("refuting", Task::Refuting, "2 1 1 -5 -1 6"),
     ("covering", Task::Covering, "1 2 0 1 1 0 1 -1 1"),
+    (
+        "some",
+        Task::Some,
+        "0 1 -1 3\nSTART: 0; FROM: 0; assume(x < 9); x := x + 1; TO: 0;",
+    ),
+    (
+        "every",
+        Task::Every,
+        "0 1 1 0\nSTART: 0; FROM: 0; assume(x > 0 && x < 9); x := x - 1; TO: 0;",
+    ),
+    (
+        "always",
+        Task::Always,
+        "0 1 -1 3\nSTART: 0; FROM: 0; assume(x < 9); x := x + 1; TO: 0;",
+    ),
     ("once", Task::Once, "2 1 1 1 3 1 1 0 1 0 1 0 3 1 1"),
     ("twice", Task::Twice, "2 1 1 1 6 1 1 0 1 0 1 0 3 1 1"),
     ("scan", Task::Scan, "2 1 1 1 3 1 1 0 1 0 1 0 3 1 1"),
@@ -92,6 +113,9 @@ fn answer_in_words(alloc: Global, task: Task, text: &str, count: u64) -> Result<
         Task::Solving => solving::solved(alloc, text, count),
         Task::Refuting => refuting::refuted(alloc, text, count),
         Task::Covering => covering::covered(alloc, text, count),
+        Task::Some => regions::answered(alloc, text, Asked::Some, count),
+        Task::Every => regions::answered(alloc, text, Asked::Every, count),
+        Task::Always => regions::answered(alloc, text, Asked::Always, count),
         Task::Once => showing::shown(alloc, text, Way::Once, count),
         Task::Twice => showing::shown(alloc, text, Way::Twice, count),
         Task::Scan => showing::shown(alloc, text, Way::Scan, count),

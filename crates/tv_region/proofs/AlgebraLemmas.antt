@@ -15,10 +15,10 @@ use Rattle.tv_linear.specs.declared.row.Row.{Row}
 use Rattle.tv_cases.specs.Given.{row_lists}
 use Rattle.tv_cases.proofs.Listed.{Contains-here, Contains-later, Contains-cases, Contains-none}
 use Rattle.tv_region.specs.Met.{all_met, some_met, InSome}
-use Rattle.tv_region.specs.Adding.{IsEach, IsProduct, IsComplement, IsDenied, IsWideDenial, IsListFault, row_product}
-use Rattle.tv_region.specs.Regions.{IsPieceOf, IsRegion, lists_at, count_at, HasRow, capped, IsSameFault, IsRegionFault, IsAssembled}
-use Rattle.tv_region.specs.Algebra.{IsBoth, IsEither, IsRest, denied_count}
-use Rattle.tv_region.specs.AlgebraAt.{has_state, InBoth, OutOfBoth, InEither, OutOfEither, InRest, OutOfRest, OfBoth, IsBothAt, IsEitherAt, IsRestAt}
+use Rattle.tv_region.specs.Adding.{AreReduced, IsProduct, IsUnion, IsComplement, IsDenied, IsWideDenial, IsListFault, row_product}
+use Rattle.tv_region.specs.Regions.{IsPieceOf, IsRegion, lists_at, count_at, HasRowAt, HasRow, IsReduced, capped, IsSameFault, IsRegionFault, IsAssembled}
+use Rattle.tv_region.specs.Algebra.{OfEither, OfRest, IsBoth, IsEither, IsRest, denied_count}
+use Rattle.tv_region.specs.AlgebraAt.{has_state, InBoth, OutOfBoth, InEither, OutOfEither, InRest, OutOfRest, IsBothAt, IsEitherAt, IsRestAt}
 use Rattle.tv_region.specs.declared.limits.Limits.{Limits}
 use Rattle.tv_region.specs.declared.fault.ListFault.{ListFault}
 use Rattle.tv_region.specs.declared.fault.ListFault.TheVariants as lists
@@ -28,6 +28,7 @@ use Rattle.tv_region.specs.declared.fault.RegionFault.TheVariants.{Memory}
 use Rattle.tv_region.specs.Differences.{IsDifference, IsOfDifferences}
 use Rattle.tv_region.proofs.MetLemmas.{and_parts, and_join, or_parts, or_left, or_right, all_met-all, all-all_met, has_all}
 use Rattle.tv_region.proofs.RegionLemmas.{same_is, is_same}
+use Rattle.tv_region.proofs.AddLemmas.{none_reduced, denied_more}
 use Rattle.tv_region.proofs.DifferenceLemmas.{denial_difference}
 
 -- ---- states of a region
@@ -82,28 +83,30 @@ row_width n m l r (p ∷ pieces) all h =
 pub width_in : (n m : ℕ) (region : Region) → IsRegion n m region → (l : ℕ) (ls : List (List Linear)) → ls ≡ lists_at l region.pieces.items → (r : Linear) → InSome ls r → columns r ≡ n
 width_in n m region h l ls e r k = row_width n m l r region.pieces.items h.pieces (subst (λ x. InSome x r) e k)
 
-pub row_in : (region : Region) (l : ℕ) (ls : List (List Linear)) → ls ≡ lists_at l region.pieces.items → (r : Linear) → InSome ls r → HasRow region r
-row_in region l ls e r k = (l, subst (λ x. InSome x r) e k)
+pub row_in : (region : Region) (l : ℕ) (ls : List (List Linear)) → ls ≡ lists_at l region.pieces.items → (r : Linear) → InSome ls r → HasRowAt region l r
+row_in region l ls e r k = subst (λ x. InSome x r) e k
 
 pub has_width : (n m : ℕ) (region : Region) → IsRegion n m region → (r : Linear) → HasRow region r → columns r ≡ n
 has_width n m region h r k = row_width n m k.0 r region.pieces.items h.pieces k.1
 
 -- ---- faults
-pub region_fault : (w : Limits) (n : ℕ) (M N : Linear → Type 0) (W V : ℕ → Type 0) (C : ℕ → ℕ → Type 0) (budget : Budget) (l count : ℕ) (f : ListFault) (r : RegionFault) → w.columns ≡ n → w.pivots ≡ budget.pivots → (w.most < 2 ^ 64 - 1 → budget.disjuncts < count) → C l count → ((x : Linear) → M x → N x) → ((c : ℕ) → W c → V c) → IsListFault w M W f → IsSameFault l count f r → IsRegionFault n N V C budget r
+pub region_fault : (w : Limits) (n : ℕ) (M : Linear → Type 0) (N : ℕ → Linear → Type 0) (W V : ℕ → Type 0) (C : ℕ → ℕ → Type 0) (budget : Budget) (l count : ℕ) (f : ListFault) (r : RegionFault) → w.columns ≡ n → w.pivots ≡ budget.pivots → (w.most < 2 ^ 64 - 1 → budget.disjuncts < count) → C l count → ((x : Linear) → M x → N l x) → ((c : ℕ) → W c → V c) → IsListFault w M W f → IsSameFault l count f r → IsRegionFault n N V C budget r
 region_fault w n M N W V C budget l count lists.Full r e p most is g k h s = subst (IsRegionFault n N V C budget) (sym s) (is, most h)
 region_fault w n M N W V C budget l count (lists.Wide column) r e p most is g k h s = subst (IsRegionFault n N V C budget) (sym s) (k column h)
 region_fault w n M N W V C budget l count (lists.Solve rows why) r e p most is g k h s =
-    subst (IsRegionFault n N V C budget) (sym s)
-    record { made = λ x m. g x (h.made x m); once = h.once; unsolved = subst (λ x. IsSystemFault x rows.items budget.pivots why) e (subst (λ x. IsSystemFault w.columns rows.items x why) p h.unsolved) }
+    subst (IsRegionFault n N V C budget) (sym s) (
+      l,
+      record { made = λ x m. g x (h.made x m); once = h.once; unsolved = subst (λ x. IsSystemFault x rows.items budget.pivots why) e (subst (λ x. IsSystemFault w.columns rows.items x why) p h.unsolved) },
+    )
 region_fault w n M N W V C budget l count lists.Memory r e p most is g k h s = subst (IsRegionFault n N V C budget) (sym s) tt
 
-pub region_weaker : (n : ℕ) (M N : Linear → Type 0) (W V : ℕ → Type 0) (C D : ℕ → ℕ → Type 0) (budget : Budget) → ((x : Linear) → M x → N x) → ((c : ℕ) → W c → V c) → ((l k : ℕ) → C l k → D l k) → (r : RegionFault) → IsRegionFault n M W C budget r → IsRegionFault n N V D budget r
+pub region_weaker : (n : ℕ) (M N : ℕ → Linear → Type 0) (W V : ℕ → Type 0) (C D : ℕ → ℕ → Type 0) (budget : Budget) → ((l : ℕ) (x : Linear) → M l x → N l x) → ((c : ℕ) → W c → V c) → ((l k : ℕ) → C l k → D l k) → (r : RegionFault) → IsRegionFault n M W C budget r → IsRegionFault n N V D budget r
 region_weaker n M N W V C D budget f g e (regions.Disjuncts l k) h = (e l k h.0, h.1)
 region_weaker n M N W V C D budget f g e (regions.Wide c) h = g c h
-region_weaker n M N W V C D budget f g e (regions.Solve rows why) h = record { made = λ x m. f x (h.made x m); once = h.once; unsolved = h.unsolved }
+region_weaker n M N W V C D budget f g e (regions.Solve rows why) h = (h.0, record { made = λ x m. f h.0 x (h.1.made x m); once = h.1.once; unsolved = h.1.unsolved })
 region_weaker n M N W V C D budget f g e regions.Memory h = tt
 
-pub passed_on : (n : ℕ) (N : Linear → Type 0) (V : ℕ → Type 0) (C : ℕ → ℕ → Type 0) (budget : Budget) (r : RegionFault) → (r ≡ Memory) ⊎ IsRegionFault n N V C budget r → IsRegionFault n N V C budget r
+pub passed_on : (n : ℕ) (N : ℕ → Linear → Type 0) (V : ℕ → Type 0) (C : ℕ → ℕ → Type 0) (budget : Budget) (r : RegionFault) → (r ≡ Memory) ⊎ IsRegionFault n N V C budget r → IsRegionFault n N V C budget r
 passed_on n N V C budget r (inl e) = subst (IsRegionFault n N V C budget) (sym e) tt
 passed_on n N V C budget r (inr h) = h
 
@@ -112,6 +115,7 @@ pub both_is : (a b : Region) (l : ℕ) (first second lists : List (List Linear))
 both_is a b l first second lists fa fb e f h = record {
   only = λ xs k m. sym (same xs k) ∙ m;
   out = λ xs k m. sym (same xs k) ∙ m;
+  reduced = h.reduced;
   made = λ r m. elim (h.from r m) [ inl x ↦ inl (row_in a l first e r x) | inr x ↦ inr (row_in b l second f r x) ];
   wide = λ r m. elim (h.from r m) [ inl x ↦ width_in a.variables a.locations a fa l first e r x | inr x ↦ width_in a.variables a.locations b fb l second f r x ];
   few = subst (λ x. length lists ≤ length x * length (lists_at l b.pieces.items)) e (subst (λ x. length lists ≤ length first * length x) f h.few);
@@ -120,35 +124,31 @@ both_is a b l first second lists fa fb e f h = record {
     same : (xs : List ℤ) → length xs ≡ a.variables → some_met xs lists ≡ (has_state a l xs && has_state b l xs)
     same xs k = h.met xs k ∙ (λ i. some_met xs (e i) && some_met xs (f i))
 
-pub either_is : (a b : Region) (l : ℕ) (first second kept lists : List (List Linear)) → IsRegion a.variables a.locations a → IsRegion a.variables a.locations b → first ≡ lists_at l a.pieces.items → second ≡ lists_at l b.pieces.items → IsEach a.variables [] [] first kept → IsEach a.variables kept [] second lists → IsEitherAt a b l lists
-either_is a b l first second kept lists fa fb e f g h = record {
+pub either_is : (a b : Region) (l : ℕ) (first second lists : List (List Linear)) → IsRegion a.variables a.locations a → IsRegion a.variables a.locations b → first ≡ lists_at l a.pieces.items → second ≡ lists_at l b.pieces.items → IsUnion a.variables first second lists → IsEitherAt a b l lists
+either_is a b l first second lists fa fb e f h = record {
   only = λ xs k m. sym (same xs k) ∙ m;
   out = λ xs k m. sym (same xs k) ∙ m;
-  made = λ r m. elim (from r m) [ inl x ↦ inl (row_in a l first e r x) | inr x ↦ inr (row_in b l second f r x) ];
-  wide = λ r m. elim (from r m) [ inl x ↦ width_in a.variables a.locations a fa l first e r x | inr x ↦ width_in a.variables a.locations b fb l second f r x ];
-  few = subst (λ x. length lists ≤ length x + length (lists_at l b.pieces.items)) e (subst (λ x. length lists ≤ length first + length x) f (let p = g.few in let q = h.few in omega (arith, p, q)));
+  reduced = h.reduced;
+  made = λ r m. elim (h.from r m) [ inl x ↦ inl (row_in a l first e r x) | inr x ↦ inr (row_in b l second f r x) ];
+  wide = λ r m. elim (h.from r m) [ inl x ↦ width_in a.variables a.locations a fa l first e r x | inr x ↦ width_in a.variables a.locations b fb l second f r x ];
+  few = subst (λ x. length lists ≤ length x + length (lists_at l b.pieces.items)) e (subst (λ x. length lists ≤ length first + length x) f h.few);
 }
   where
     same : (xs : List ℤ) → length xs ≡ a.variables → some_met xs lists ≡ (has_state a l xs || has_state b l xs)
-    same xs k = h.met xs k ∙ (λ i. g.met xs k i || some_met xs second) ∙ (λ i. some_met xs (e i) || some_met xs (f i))
-
-    from : (r : Linear) → InSome lists r → InSome first r ⊎ InSome second r
-    from r m = elim (h.from r m) [
-      | inl x ↦ elim (g.from r x) [ inl y ↦ absurd y | inr y ↦ elim y [ inl z ↦ absurd z | inr z ↦ inl z ] ]
-      | inr x ↦ elim x [ inl z ↦ absurd z | inr z ↦ inr z ]
-    ]
+    same xs k = h.met xs k ∙ (λ i. some_met xs (e i) || some_met xs (f i))
 
 module _ (a : Region) (l : ℕ) (pieces : List (List Linear)) (f : IsRegion a.variables a.locations a) (e : pieces ≡ lists_at l a.pieces.items) where
-  pub denied_in : (r : Linear) → IsDenied (InSome pieces) r → IsDenied (HasRow a) r
-  denied_in r h = (h.0, row_in a l pieces e h.0 h.1, h.2)
+  pub denied_in : (r : Linear) → IsDenied (InSome pieces) r → OfRest a l r
+  denied_in r h = denied_more (InSome pieces) (HasRowAt a l) (row_in a l pieces e) r h
 
   pub wide_in : (c : ℕ) → IsWideDenial (InSome pieces) c → IsWideDenial (HasRow a) c
-  wide_in c h = (h.0, row_in a l pieces e h.0 h.1, h.2)
+  wide_in c h = (h.0, (l, row_in a l pieces e h.0 h.1), h.2)
 
-  pub rest_is : (lists : List (List Linear)) → IsComplement a.variables pieces lists → ((r : Linear) → IsDenied (HasRow a) r → columns r ≡ a.variables) → IsRestAt a l lists
+  pub rest_is : (lists : List (List Linear)) → IsComplement a.variables pieces lists → ((r : Linear) → OfRest a l r → columns r ≡ a.variables) → IsRestAt a l lists
   rest_is lists h wide = record {
     only = λ xs k m. sym (same xs k) ∙ m;
     out = λ xs k m. sym (same xs k) ∙ m;
+    reduced = h.reduced;
     made = λ r m. denied_in r (h.from r m);
     wide = λ r m. wide r (denied_in r (h.from r m));
     few = subst (λ x. length lists ≤ row_product x) e h.few;
@@ -175,7 +175,7 @@ all_there xs (rows ∷ ls) h = elim (zero_factor (length rows) (row_product ls) 
 
 -- a list without rows is met everywhere
 pub complement_zero : (n : ℕ) (ls : List (List Linear)) → row_product ls ≡ 0 → IsComplement n ls []
-complement_zero n ls z = record { met = λ xs e. ap not (sym (all_there xs ls z)); from = λ r m. absurd m; few = omega arith }
+complement_zero n ls z = record { met = λ xs e. ap not (sym (all_there xs ls z)); reduced = none_reduced n; from = λ r m. absurd m; few = omega arith }
 
 -- ---- whole regions
 below_or_not : (l m : ℕ) → (l < m) ⊎ (m ≤ l)
@@ -184,9 +184,15 @@ below_or_not zero (suc m) = inl (omega arith)
 below_or_not (suc l) zero = inr (omega arith)
 below_or_not (suc l) (suc m) = elim (below_or_not l m) [ inl h ↦ inl (omega arith) | inr h ↦ inr (omega arith) ]
 
-module _ (n m : ℕ) (Only Out : ℕ → List ℤ → Type 0) (Made : Linear → Type 0) (Few : ℕ → ℕ → Type 0) (region : Region) (h : IsAssembled n m Only Out Made Few region) where
-  pub row_made : (r : Linear) → HasRow region r → Made r
-  row_made r k = elim (below_or_not k.0 m) [ inl b ↦ (h.at k.0 b).made r k.1 | inr b ↦ absurd (subst (λ ls. InSome ls r) (h.none k.0 b) k.1) ]
+module _ (n m : ℕ) (Only Out : ℕ → List ℤ → Type 0) (Made : ℕ → Linear → Type 0) (Few : ℕ → ℕ → Type 0) (region : Region) (h : IsAssembled n m Only Out Made Few region) where
+  pub row_made : (l : ℕ) (r : Linear) → HasRowAt region l r → Made l r
+  row_made l r k = elim (below_or_not l m) [ inl b ↦ (h.at l b).made r k | inr b ↦ absurd (subst (λ ls. InSome ls r) (h.none l b) k) ]
+
+  pub reduced_pieces : IsReduced region
+  reduced_pieces l = subst (λ k. AreReduced k (lists_at l region.pieces.items)) (sym h.fits.variables) (elim (below_or_not l m) [
+    | inl b ↦ (h.at l b).reduced
+    | inr b ↦ subst (AreReduced n) (sym (h.none l b)) (none_reduced n)
+  ])
 
   pub few_pieces : ((l : ℕ) → Few l 0) → (l : ℕ) → Few l (count_at l region)
   few_pieces zero_few l = elim (below_or_not l m) [ inl b ↦ (h.at l b).few | inr b ↦ subst (Few l) (sym (ap length (h.none l b))) (zero_few l) ]
@@ -195,32 +201,34 @@ not_out : (b goal : Bool) → (b ≡ false → goal ≡ false) → goal ≡ true
 not_out true goal h k = refl
 not_out false goal h k = absurd (let x = sym (h refl) ∙ k in cc)
 
-of_both : (a b : Region) → IsOfDifferences a → IsOfDifferences b → (r : Linear) → OfBoth a b r → IsDifference r
-of_both a b d f r (inl h) = d r h
-of_both a b d f r (inr h) = f r h
+of_both : (a b : Region) → IsOfDifferences a → IsOfDifferences b → (l : ℕ) (r : Linear) → OfEither a b l r → IsDifference r
+of_both a b d f l r (inl h) = d r (l, h)
+of_both a b d f l r (inr h) = f r (l, h)
 
-pub both_region : (a b region : Region) → IsAssembled a.variables a.locations (InBoth a b) (OutOfBoth a b) (OfBoth a b) (λ l k. k ≤ count_at l a * count_at l b) region → IsBoth a b region
+pub both_region : (a b region : Region) → IsAssembled a.variables a.locations (InBoth a b) (OutOfBoth a b) (OfEither a b) (λ l k. k ≤ count_at l a * count_at l b) region → IsBoth a b region
 both_region a b region h = record {
   fits = h.fits;
   exact = λ l xs p. (
     λ k. (let w = and_parts (has_state a l xs) (has_state b l xs) ((h.at l p.location).only xs p.values (state_in l xs region k)) in (in_state l xs a w.0, in_state l xs b w.1)),
     λ k. in_state l xs region (not_out (has_state region l xs) (has_state a l xs && has_state b l xs) ((h.at l p.location).out xs p.values) (and_join (has_state a l xs) (has_state b l xs) (state_in l xs a k.0) (state_in l xs b k.1))),
   );
-  from = row_made a.variables a.locations (InBoth a b) (OutOfBoth a b) (OfBoth a b) (λ l k. k ≤ count_at l a * count_at l b) region h;
-  few = few_pieces a.variables a.locations (InBoth a b) (OutOfBoth a b) (OfBoth a b) (λ l k. k ≤ count_at l a * count_at l b) region h (λ l. omega arith);
-  differences = λ d f r m. of_both a b d f r (row_made a.variables a.locations (InBoth a b) (OutOfBoth a b) (OfBoth a b) (λ l k. k ≤ count_at l a * count_at l b) region h r m);
+  reduced = reduced_pieces a.variables a.locations (InBoth a b) (OutOfBoth a b) (OfEither a b) (λ l k. k ≤ count_at l a * count_at l b) region h;
+  from = row_made a.variables a.locations (InBoth a b) (OutOfBoth a b) (OfEither a b) (λ l k. k ≤ count_at l a * count_at l b) region h;
+  few = few_pieces a.variables a.locations (InBoth a b) (OutOfBoth a b) (OfEither a b) (λ l k. k ≤ count_at l a * count_at l b) region h (λ l. omega arith);
+  differences = λ d f r m. of_both a b d f m.0 r (row_made a.variables a.locations (InBoth a b) (OutOfBoth a b) (OfEither a b) (λ l k. k ≤ count_at l a * count_at l b) region h m.0 r m.1);
 }
 
-pub either_region : (a b region : Region) → IsAssembled a.variables a.locations (InEither a b) (OutOfEither a b) (OfBoth a b) (λ l k. k ≤ count_at l a + count_at l b) region → IsEither a b region
+pub either_region : (a b region : Region) → IsAssembled a.variables a.locations (InEither a b) (OutOfEither a b) (OfEither a b) (λ l k. k ≤ count_at l a + count_at l b) region → IsEither a b region
 either_region a b region h = record {
   fits = h.fits;
   exact = λ l xs p. (
     λ k. elim (or_parts (has_state a l xs) (has_state b l xs) ((h.at l p.location).only xs p.values (state_in l xs region k))) [ inl w ↦ inl (in_state l xs a w) | inr w ↦ inr (in_state l xs b w) ],
     λ k. in_state l xs region (not_out (has_state region l xs) (has_state a l xs || has_state b l xs) ((h.at l p.location).out xs p.values) (elim k [ inl w ↦ or_left (has_state a l xs) (has_state b l xs) (state_in l xs a w) | inr w ↦ or_right (has_state a l xs) (has_state b l xs) (state_in l xs b w) ])),
   );
-  from = row_made a.variables a.locations (InEither a b) (OutOfEither a b) (OfBoth a b) (λ l k. k ≤ count_at l a + count_at l b) region h;
-  few = few_pieces a.variables a.locations (InEither a b) (OutOfEither a b) (OfBoth a b) (λ l k. k ≤ count_at l a + count_at l b) region h (λ l. omega arith);
-  differences = λ d f r m. of_both a b d f r (row_made a.variables a.locations (InEither a b) (OutOfEither a b) (OfBoth a b) (λ l k. k ≤ count_at l a + count_at l b) region h r m);
+  reduced = reduced_pieces a.variables a.locations (InEither a b) (OutOfEither a b) (OfEither a b) (λ l k. k ≤ count_at l a + count_at l b) region h;
+  from = row_made a.variables a.locations (InEither a b) (OutOfEither a b) (OfEither a b) (λ l k. k ≤ count_at l a + count_at l b) region h;
+  few = few_pieces a.variables a.locations (InEither a b) (OutOfEither a b) (OfEither a b) (λ l k. k ≤ count_at l a + count_at l b) region h (λ l. omega arith);
+  differences = λ d f r m. of_both a b d f m.0 r (row_made a.variables a.locations (InEither a b) (OutOfEither a b) (OfEither a b) (λ l k. k ≤ count_at l a + count_at l b) region h m.0 r m.1);
 }
 
 not_true : (b : Bool) → not b ≡ true → b ≡ true → ⊥
@@ -231,16 +239,17 @@ true_not : (b : Bool) → (b ≡ true → ⊥) → not b ≡ true
 true_not true h = absurd (h refl)
 true_not false h = refl
 
-pub rest_region : (a region : Region) → IsAssembled a.variables a.locations (InRest a) (OutOfRest a) (IsDenied (HasRow a)) (λ l k. k ≤ denied_count a l) region → IsRest a region
+pub rest_region : (a region : Region) → IsAssembled a.variables a.locations (InRest a) (OutOfRest a) (OfRest a) (λ l k. k ≤ denied_count a l) region → IsRest a region
 rest_region a region h = record {
   fits = h.fits;
   exact = λ l xs p. (
     λ k j. not_true (has_state a l xs) ((h.at l p.location).only xs p.values (state_in l xs region k)) (state_in l xs a j),
     λ k. in_state l xs region (not_out (has_state region l xs) (not (has_state a l xs)) ((h.at l p.location).out xs p.values) (true_not (has_state a l xs) (λ j. k (in_state l xs a j)))),
   );
-  from = row_made a.variables a.locations (InRest a) (OutOfRest a) (IsDenied (HasRow a)) (λ l k. k ≤ denied_count a l) region h;
-  few = few_pieces a.variables a.locations (InRest a) (OutOfRest a) (IsDenied (HasRow a)) (λ l k. k ≤ denied_count a l) region h (λ l. omega arith);
-  differences = λ d r m. (let w = row_made a.variables a.locations (InRest a) (OutOfRest a) (IsDenied (HasRow a)) (λ l k. k ≤ denied_count a l) region h r m in subst IsDifference w.2 (denial_difference w.0 (d w.0 w.1)));
+  reduced = reduced_pieces a.variables a.locations (InRest a) (OutOfRest a) (OfRest a) (λ l k. k ≤ denied_count a l) region h;
+  from = row_made a.variables a.locations (InRest a) (OutOfRest a) (OfRest a) (λ l k. k ≤ denied_count a l) region h;
+  few = few_pieces a.variables a.locations (InRest a) (OutOfRest a) (OfRest a) (λ l k. k ≤ denied_count a l) region h (λ l. omega arith);
+  differences = λ d r m. (let w = row_made a.variables a.locations (InRest a) (OutOfRest a) (OfRest a) (λ l k. k ≤ denied_count a l) region h m.0 r m.1 in subst IsDifference w.is (denial_difference w.row (d w.row (m.0, w.among))));
 }
 
 lists_length : (vs : List (Vec Row Global)) → length (row_lists vs) ≡ length vs

@@ -13,7 +13,7 @@ use Rattle.tv_linear.proofs.Tightened.{tight-tightened}
 use Rattle.tv_cases.specs.LinearCases.{LinearCase}
 use Rattle.tv_cases.specs.Before.{term_row, before}
 use Rattle.tv_region.specs.Met.{Has}
-use Rattle.tv_region.specs.Made.{Made, of_given, of_guard, of_denial, of_tight, of_before, of_sum, of_shortened, last_of, shortened, cancelled, IsOpposite}
+use Rattle.tv_region.specs.Made.{Place, at_place, over_draws, Made, of_given, of_guard, of_denial, of_tight, of_before, of_sum, of_shortened, of_settled, last_of, shortened, cancelled, IsOpposite}
 use Rattle.tv_region.specs.Draws.{Drawn, drawn_one, drawn_sum, drawn_short}
 use Rattle.tv_region.specs.Differences.{coefficient, IsDifference, IsShift, IsCaseOfDifferences}
 use Rattle.tv_region.proofs.SumLemmas.{multiples_are}
@@ -409,16 +409,18 @@ before_difference r c h k =
     }
 
 -- ---- all that is made of differences
-pub made_difference : (cs : List LinearCase) (G : Linear → Type 0) → ((c : LinearCase) → Has cs c → IsCaseOfDifferences c) → ((r : Linear) → G r → IsDifference r) → (h : ℕ) (r : Linear) → Made cs G h r → IsDifference r
-made_difference cs G cases given h r (of_given _ _ k) = given r k
-made_difference cs G cases given h r (of_guard _ c _ m k) = (cases c m).guards r k
-made_difference cs G cases given h _ (of_denial _ r k) = denial_difference r (made_difference cs G cases given h r k)
-made_difference cs G cases given h _ (of_tight _ r k) = tight_difference r (made_difference cs G cases given h r k)
-made_difference cs G cases given _ _ (of_before h c r m k) = before_difference r c (made_difference cs G cases given h r k) (cases c m).updates
-made_difference cs G cases given h _ (of_sum _ n p q o k m) = sum_difference n p q o (made_difference cs G cases given h p k) (made_difference cs G cases given h q m)
-made_difference cs G cases given h _ (of_shortened _ n r e k) = shortened_difference n r (made_difference cs G cases given h r k)
+module _ (n : ℕ) (cs : List LinearCase) (G : ℕ → Linear → Type 0) (cases : (c : LinearCase) → Has cs c → IsCaseOfDifferences c) (given : (l : ℕ) (r : Linear) → G l r → IsDifference r) where
+  pub made_difference : (p : Place) (h : ℕ) (r : Linear) → Made n cs G p h r → IsDifference r
+  made_difference _ h r (of_given _ l _ k) = given l r k
+  made_difference _ h r (of_guard _ c _ m k) = (cases c m).guards r k
+  made_difference p h _ (of_denial _ _ r w k) = denial_difference r (made_difference p h r k)
+  made_difference p h _ (of_tight _ _ r w k) = tight_difference r (made_difference p h r k)
+  made_difference _ _ _ (of_before h c r m e w k) = before_difference r c (made_difference (at_place c.to) h r k) (cases c m).updates
+  made_difference _ h _ (of_sum _ j c p q o w k m) = sum_difference (n + j) p q o (made_difference (over_draws c (suc j)) h p k) (made_difference (over_draws c (suc j)) h q m)
+  made_difference _ h _ (of_shortened _ j c r e k) = shortened_difference (n + j) r (made_difference (over_draws c (suc j)) h r k)
+  made_difference _ h r (of_settled _ c _ k) = made_difference (over_draws c 0) h r k
 
-pub drawn_difference : (rows : List Linear) → ((r : Linear) → Has rows r → IsDifference r) → (r : Linear) → Drawn rows r → IsDifference r
-drawn_difference rows h r (drawn_one _ k) = h r k
-drawn_difference rows h _ (drawn_sum n p q o z k m) = tight_difference (shortened n (cancelled n p q)) (shortened_difference n (cancelled n p q) (sum_difference n p q o (drawn_difference rows h p k) (drawn_difference rows h q m)))
-drawn_difference rows h _ (drawn_short n r z k) = shortened_difference n r (drawn_difference rows h r k)
+pub drawn_difference : (w : ℕ) (rows : List Linear) → ((r : Linear) → Has rows r → IsDifference r) → (n : ℕ) (r : Linear) → Drawn w rows n r → IsDifference r
+drawn_difference w rows h _ r (drawn_one _ k) = h r k
+drawn_difference w rows h _ _ (drawn_sum n p q o z f t k m) = tight_difference (shortened n (cancelled n p q)) (shortened_difference n (cancelled n p q) (sum_difference n p q o (drawn_difference w rows h (n + 1) p k) (drawn_difference w rows h (n + 1) q m)))
+drawn_difference w rows h _ _ (drawn_short n r z k) = shortened_difference n r (drawn_difference w rows h (n + 1) r k)

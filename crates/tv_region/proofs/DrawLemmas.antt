@@ -1,16 +1,16 @@
 -- The last column of rows, eliminated.
-use Rattle.std.proofs.Common.{◌≡◌, ◌⊎◌, inl, inr, ℕ, ◌+◌, List, [], ◌∷◌, ◌++◌, length, refl, sym, ap, ◌∙◌, subst, arith, ℤ, pos, negsuc, neg_ℤ, ◌+ℤ◌, ◌-ℤ◌, ◌*ℤ◌, ◌≤ℤ◌, Bool, true, length-append, append_assoc}
+use Rattle.std.proofs.Common.{◌≡◌, ◌⊎◌, inl, inr, ℕ, suc, ◌+◌, ◌-◌, ◌≤◌, List, [], ◌∷◌, ◌++◌, length, refl, sym, ap, ◌∙◌, subst, arith, ℤ, pos, negsuc, neg_ℤ, ◌+ℤ◌, ◌-ℤ◌, ◌*ℤ◌, ◌≤ℤ◌, Bool, true, length-append, append_assoc}
 use Rattle.std.specs.Prelude.{◌<ℤ◌, ◌&&◌}
 use Rattle.std.specs.List.{AllByRecursion}
 use Rattle.std.proofs.lemmas.Int.{ints}
 use Rattle.std.proofs.lemmas.List.{append-nil}
 use Rattle.std.proofs.Math.IntN.{*ℤ_comm}
-use Rattle.tv_linear.specs.Linear.{Linear, columns, value}
+use Rattle.tv_linear.specs.Linear.{Linear, columns, value, IsNarrow}
 use Rattle.tv_linear.proofs.Ring.{mul_assoc_z, distribute_z, neg_times_z, not_above}
 use Rattle.tv_cases.specs.LinearCases.{LinearCase}
 use Rattle.tv_region.specs.Met.{meets, all_met, Has}
-use Rattle.tv_region.specs.Made.{Made, of_tight, of_sum, of_shortened, IsWideStep, wide_sum, last_of, shortened, cancelled, IsOpposite}
-use Rattle.tv_region.specs.Draws.{Drawn, drawn_one, drawn_sum, drawn_short, IsWideDrawn, IsParted, IsSummed, IsProjected}
+use Rattle.tv_region.specs.Made.{Made, over_draws, of_tight, of_sum, of_shortened, IsWideStep, wide_sum, last_of, shortened, cancelled, IsOpposite}
+use Rattle.tv_region.specs.Draws.{sum_row, Drawn, drawn_one, drawn_sum, drawn_short, IsWideSum, IsWideDrawn, IsParted, IsSummed, IsProjected}
 use Rattle.tv_region.proofs.Between.{between}
 use Rattle.tv_region.proofs.DifferenceLemmas.{above_is_one, drawn_difference}
 use Rattle.tv_region.proofs.MetLemmas.{and_parts, and_join, is_met, met_is, all_met-has}
@@ -126,15 +126,18 @@ module _ (n : ℕ) (rows uppers lowers rest out : List Linear) (parts : IsParted
   pub out_wide : (r : Linear) → Has out r → columns r ≡ n
   out_wide r h = elim (summed.from r h) [
     | inl k ↦ (let w = parts.none r k in ap (λ (x : Linear). columns x) (sym w.3) ∙ columns-shortened n w.0 (let e = wide w.0 w.1 in omega (arith, e)))
-    | inr w ↦ ap (λ (x : Linear). columns x) (sym w.4) ∙ columns-sum n w.0 w.1 (opposite w.0 w.1 w.2 w.3) (wide w.0 (parts.up w.0 w.2).0) (wide w.1 (parts.low w.1 w.3).0)
+    | inr w ↦ ap (λ (x : Linear). columns x) (sym w.is) ∙ columns-sum n w.upper w.lower (opposite w.upper w.lower w.high w.low) (wide w.upper (parts.up w.upper w.high).0) (wide w.lower (parts.low w.lower w.low).0)
   ]
 
-  pub out_drawn : (r : Linear) → Has out r → Drawn rows r
+  pub out_drawn : (r : Linear) → Has out r → Drawn (n + 1) rows n r
   out_drawn r h = elim (summed.from r h) [
-    | inl k ↦ (let w = parts.none r k in subst (Drawn rows) w.3 (drawn_short n w.0 w.2 (drawn_one w.0 w.1)))
-    | inr w ↦ subst (Drawn rows) w.4 (drawn_sum n w.0 w.1 (opposite w.0 w.1 w.2 w.3)
-        (last-cancelled n w.0 w.1 (opposite w.0 w.1 w.2 w.3) (wide w.0 (parts.up w.0 w.2).0) (wide w.1 (parts.low w.1 w.3).0))
-        (drawn_one w.0 (parts.up w.0 w.2).0) (drawn_one w.1 (parts.low w.1 w.3).0))
+    | inl k ↦ (let w = parts.none r k in subst (Drawn (n + 1) rows n) w.3 (drawn_short n w.0 w.2 (drawn_one w.0 w.1)))
+    | inr w ↦ (
+        let u = parts.up w.upper w.high in
+        let l = parts.low w.lower w.low in
+        let o = opposite w.upper w.lower w.high w.low in
+        subst (Drawn (n + 1) rows n) w.is (drawn_sum n w.upper w.lower o (last-cancelled n w.upper w.lower o (wide w.upper u.0) (wide w.lower l.0)) w.narrow w.tightened (drawn_one w.upper u.0) (drawn_one w.lower l.0))
+        )
   ]
 
   pub eliminated_is : (exact : Bool) → (exact ≡ true → ((u : Linear) → Has uppers u → last_of n u ≡ pos 1) ⊎ ((l : Linear) → Has lowers l → last_of n l ≡ negsuc 0)) → (((u : Linear) → Has uppers u → last_of n u ≡ pos 1) → exact ≡ true) → IsProjected n 1 rows out exact
@@ -155,17 +158,17 @@ module _ (n : ℕ) (rows uppers lowers rest out : List Linear) (parts : IsParted
       one_draw xs (d ∷ c ∷ ds) e f h = absurd (omega (arith, f))
 
 -- ---- several columns
-pub drawn_drawn : (rows middle : List Linear) → ((r : Linear) → Has middle r → Drawn rows r) → (r : Linear) → Drawn middle r → Drawn rows r
-drawn_drawn rows middle h r (drawn_one _ k) = h r k
-drawn_drawn rows middle h _ (drawn_sum n p q o z k m) = drawn_sum n p q o z (drawn_drawn rows middle h p k) (drawn_drawn rows middle h q m)
-drawn_drawn rows middle h _ (drawn_short n r z k) = drawn_short n r z (drawn_drawn rows middle h r k)
+pub drawn_drawn : (w m : ℕ) (rows middle : List Linear) → ((r : Linear) → Has middle r → Drawn w rows m r) → (n : ℕ) (r : Linear) → Drawn m middle n r → Drawn w rows n r
+drawn_drawn w m rows middle h _ r (drawn_one _ k) = h r k
+drawn_drawn w m rows middle h _ _ (drawn_sum n p q o z f t k l) = drawn_sum n p q o z f t (drawn_drawn w m rows middle h (n + 1) p k) (drawn_drawn w m rows middle h (n + 1) q l)
+drawn_drawn w m rows middle h _ _ (drawn_short n r z k) = drawn_short n r z (drawn_drawn w m rows middle h (n + 1) r k)
 
 pub projected_none : (n : ℕ) (rows : List Linear) → IsProjected n 0 rows rows true
 projected_none n rows = record {
   met = λ xs ds e f h. nothing xs ds f h;
   lifted = λ x xs e h. ([], refl, subst (λ ys. all_met ys rows ≡ true) (sym (append-nil xs)) h);
   differences = λ d. refl;
-  from = λ r h. drawn_one r h;
+  from = λ r h. (let e : n ≡ n + 0 = omega arith in subst (λ w. Drawn w rows n r) e (drawn_one r h));
   wide = λ w r h. (let k = w r h in omega (arith, k));
 }
   where
@@ -186,8 +189,8 @@ projected_more n k rows middle out first then_ h g = record {
       let v = h.lifted b.0 (xs ++ w.0) (omega (arith, length-append xs w.0, d, e)) w.2 in
       let c = v.1 in
       (w.0 ++ v.0, omega (arith, length-append w.0 v.0, d, c), subst (λ ys. all_met ys rows ≡ true) (append_assoc xs w.0 v.0) v.2);
-  differences = λ d. and_join first then_ (h.differences d) (g.differences (λ r m. drawn_difference rows d r (h.from r m)));
-  from = λ r m. drawn_drawn rows middle h.from r (g.from r m);
+  differences = λ d. and_join first then_ (h.differences d) (g.differences (λ r m. drawn_difference ((n + 1) + k) rows d (n + 1) r (h.from r m)));
+  from = λ r m. (let e : (n + 1) + k ≡ n + (k + 1) = omega arith in subst (λ w. Drawn w rows n r) e (drawn_drawn ((n + 1) + k) (n + 1) rows middle h.from n r (g.from r m)));
   wide = λ w r m. g.wide (λ s j. h.wide (λ t i. (let a = w t i in omega (arith, a))) s j) r m;
 }
   where
@@ -198,10 +201,32 @@ projected_more n k rows middle out first then_ h g = record {
         (h.met (xs ++ d ∷ []) ds (omega (arith, length-append xs (d ∷ []), e)) (omega (arith, f)) (subst (λ ys. all_met ys rows ≡ true) (sym (append_assoc xs (d ∷ []) ds)) m))
 
 -- ---- rows that are made
-pub drawn_made : (cs : List LinearCase) (G : Linear → Type 0) (h : ℕ) (rows : List Linear) → ((r : Linear) → Has rows r → Made cs G h r) → (r : Linear) → Drawn rows r → Made cs G h r
-drawn_made cs G h rows f r (drawn_one _ k) = f r k
-drawn_made cs G h rows f _ (drawn_sum n p q o z k m) = of_tight h (shortened n (cancelled n p q)) (of_shortened h n (cancelled n p q) z (of_sum h n p q o (drawn_made cs G h rows f p k) (drawn_made cs G h rows f q m)))
-drawn_made cs G h rows f _ (drawn_short n r z k) = of_shortened h n r z (drawn_made cs G h rows f r k)
+same_draws : (n d k : ℕ) → n + d ≡ n + k → d ≡ k
+same_draws n d k e = omega (arith, e)
 
-pub drawn_wide : (cs : List LinearCase) (G : Linear → Type 0) (rows : List Linear) → ((r : Linear) → Has rows r → Made cs G 1 r) → (column : ℕ) → IsWideDrawn rows column → IsWideStep cs G column
-drawn_wide cs G rows f column w = wide_sum w.last w.first w.second column w.wide.0 (drawn_made cs G 1 rows f w.first w.from_first) (drawn_made cs G 1 rows f w.second w.from_second) w.wide.1
+one_more : (n k w : ℕ) → w ≡ n + k → w + 1 ≡ n + suc k
+one_more n k w e = omega (arith, e)
+
+module _ (n : ℕ) (cs : List LinearCase) (G : ℕ → Linear → Type 0) (c : LinearCase) (rows : List Linear) (f : (r : Linear) → Has rows r → Made n cs G (over_draws c c.draws) 1 r) where
+  pub drawn_made : (k w : ℕ) → w ≡ n + k → (r : Linear) → Drawn (n + c.draws) rows w r → Made n cs G (over_draws c k) 1 r
+  drawn_made k _ e r (drawn_one _ m) = subst (λ j. Made n cs G (over_draws c j) 1 r) (same_draws n c.draws k e) (f r m)
+  drawn_made k _ e _ (drawn_sum w p q o z narrow tightened a b) =
+      let first = drawn_made (suc k) (w + 1) (one_more n k w e) p a in
+      let second = drawn_made (suc k) (w + 1) (one_more n k w e) q b in
+      let sum = of_sum 1 k c p q (subst (λ v. IsOpposite v p q) e o) (subst (λ v. IsNarrow (cancelled v p q)) e narrow) first second in
+      let short = of_shortened 1 k c (cancelled (n + k) p q) (subst (λ v. last_of v (cancelled v p q) ≡ pos 0) e z) sum in
+      subst (λ v. Made n cs G (over_draws c k) 1 (sum_row v p q)) (sym e) (of_tight (over_draws c k) 1 (shortened (n + k) (cancelled (n + k) p q)) (subst (λ v. IsNarrow (sum_row v p q)) e tightened) short)
+  drawn_made k _ e _ (drawn_short w r z a) =
+      subst (λ v. Made n cs G (over_draws c k) 1 (shortened v r)) (sym e)
+      (of_shortened 1 k c r (subst (λ v. last_of v r ≡ pos 0) e z) (drawn_made (suc k) (w + 1) (one_more n k w e) r a))
+
+  behind : (w : ℕ) → n ≤ w → (k : ℕ) × (w ≡ n + k)
+  behind w h = (w - n, omega (arith, h))
+
+  pub drawn_wide : (column : ℕ) → IsWideDrawn n (n + c.draws) rows column → IsWideStep n cs G column
+  drawn_wide column w =
+      let k = behind w.last w.behind in
+      let wide = subst (λ v. IsWideSum v w.first w.second column) k.1 w.wide in
+      wide_sum k.0 c w.first w.second column wide.0
+      (drawn_made (suc k.0) (w.last + 1) (one_more n k.0 w.last k.1) w.first w.from_first)
+      (drawn_made (suc k.0) (w.last + 1) (one_more n k.0 w.last k.1) w.second w.from_second) wide.1

@@ -1,6 +1,8 @@
 pub mod MetLemmas
 pub mod RowLemmas
 pub mod AddLemmas
+pub mod InclusionLemmas
+pub mod PruneLemmas
 pub mod RegionLemmas
 pub mod AlgebraLemmas
 pub mod BackLemmas

@@ -99,16 +99,16 @@ placed_more l n old kept new more p e here wide h = subst (λ v. IsPlaced l n ol
     both false = refl
 
 -- ---- location by location
-module _ (n m : ℕ) (Only Out : ℕ → List ℤ → Type 0) (Made : Linear → Type 0) (Few : ℕ → ℕ → Type 0) where
+module _ (n m : ℕ) (Only Out : ℕ → List ℤ → Type 0) (Made : ℕ → Linear → Type 0) (Few : ℕ → ℕ → Type 0) where
   pub assembled_none : IsAssembledTo 0 n m Only Out Made Few []
   assembled_none = record { fits = All-nil (IsPieceOf n m); at = λ l h. absurd (omega arith); none = λ l h. refl }
 
-  pub assembled_more : (k : ℕ) (pieces new : List Piece) (lists : List (List Linear)) → k < m → IsAssembledTo k n m Only Out Made Few pieces → IsAt n (Only k) (Out k) Made (Few k) lists → IsPlaced k n pieces lists new → IsAssembledTo (k + 1) n m Only Out Made Few new
+  pub assembled_more : (k : ℕ) (pieces new : List Piece) (lists : List (List Linear)) → k < m → IsAssembledTo k n m Only Out Made Few pieces → IsAt n (Only k) (Out k) (Made k) (Few k) lists → IsPlaced k n pieces lists new → IsAssembledTo (k + 1) n m Only Out Made Few new
   assembled_more k pieces new lists b h a p = record {
     fits = p.each m b a.wide h.fits;
-    at = below_more (λ l. IsAt n (Only l) (Out l) Made (Few l) (lists_at l new)) k
-        (λ l c. subst (IsAt n (Only l) (Out l) Made (Few l)) (sym (other l (λ e. let x : ⊥ = omega arith in x))) (h.at l c))
-        (subst (IsAt n (Only k) (Out k) Made (Few k)) (sym here) a);
+    at = below_more (λ l. IsAt n (Only l) (Out l) (Made l) (Few l) (lists_at l new)) k
+        (λ l c. subst (IsAt n (Only l) (Out l) (Made l) (Few l)) (sym (other l (λ e. let x : ⊥ = omega arith in x))) (h.at l c))
+        (subst (IsAt n (Only k) (Out k) (Made k) (Few k)) (sym here) a);
     none = λ l c. other l (λ e. let x : ⊥ = omega arith in x) ∙ h.none l (omega arith);
   }
     where

@@ -5,7 +5,7 @@ use Rattle.tv_linear.specs.Regions.{InRegion}
 use Rattle.tv_linear.specs.declared.region.Region.{Region}
 use Rattle.tv_farkas.specs.declared.budget.Budget.{Budget}
 use Rattle.tv_region.specs.Adding.{IsDenied, IsWideDenial, row_product, NoColumn}
-use Rattle.tv_region.specs.Regions.{IsRegion, lists_at, count_at, HasRow, IsRegionFault, IsCount}
+use Rattle.tv_region.specs.Regions.{IsRegion, lists_at, count_at, HasRowAt, HasRow, IsReduced, IsRegionFault, IsCount}
 use Rattle.tv_region.specs.Differences.{IsOfDifferences}
 use Rattle.tv_region.specs.declared.fault.RegionFault.{RegionFault}
 
@@ -14,11 +14,20 @@ pub record IsPlaceOf (region : Region) (l : ℕ) (xs : List ℤ) : Type 0 where
   pub location : l < region.locations
   pub values : length xs ≡ region.variables
 
+-- at the location one of the two has the row
+abbrev pub OfEither : Region → Region → ℕ → Linear → Type 0
+OfEither a b l r = HasRowAt a l r ⊎ HasRowAt b l r
+
+-- at the location the row is the denial of one of the region
+abbrev pub OfRest : Region → ℕ → Linear → Type 0
+OfRest a l r = IsDenied (HasRowAt a l) r
+
 -- the region has the states that both have
 pub record IsBoth (a b region : Region) : Type 0 where
   pub fits : IsRegion a.variables a.locations region
   pub exact : (l : ℕ) (xs : List ℤ) → IsPlaceOf a l xs → InRegion l xs region ↔ (InRegion l xs a × InRegion l xs b)
-  pub from : (r : Linear) → HasRow region r → HasRow a r ⊎ HasRow b r
+  pub reduced : IsReduced region
+  pub from : (l : ℕ) (r : Linear) → HasRowAt region l r → OfEither a b l r
   pub few : (l : ℕ) → count_at l region ≤ count_at l a * count_at l b
   pub differences : IsOfDifferences a → IsOfDifferences b → IsOfDifferences region
 
@@ -26,7 +35,8 @@ pub record IsBoth (a b region : Region) : Type 0 where
 pub record IsEither (a b region : Region) : Type 0 where
   pub fits : IsRegion a.variables a.locations region
   pub exact : (l : ℕ) (xs : List ℤ) → IsPlaceOf a l xs → InRegion l xs region ↔ (InRegion l xs a ⊎ InRegion l xs b)
-  pub from : (r : Linear) → HasRow region r → HasRow a r ⊎ HasRow b r
+  pub reduced : IsReduced region
+  pub from : (l : ℕ) (r : Linear) → HasRowAt region l r → OfEither a b l r
   pub few : (l : ℕ) → count_at l region ≤ count_at l a + count_at l b
   pub differences : IsOfDifferences a → IsOfDifferences b → IsOfDifferences region
 
@@ -38,16 +48,17 @@ denied_count a l = row_product (lists_at l a.pieces.items)
 pub record IsRest (a region : Region) : Type 0 where
   pub fits : IsRegion a.variables a.locations region
   pub exact : (l : ℕ) (xs : List ℤ) → IsPlaceOf a l xs → InRegion l xs region ↔ (¬ InRegion l xs a)
-  pub from : (r : Linear) → HasRow region r → IsDenied (HasRow a) r
+  pub reduced : IsReduced region
+  pub from : (l : ℕ) (r : Linear) → HasRowAt region l r → OfRest a l r
   pub few : (l : ℕ) → count_at l region ≤ denied_count a l
   pub differences : IsOfDifferences a → IsOfDifferences region
 
 -- what a refusal shows
 abbrev pub IsBothFault : Region → Region → Budget → RegionFault → Type 0
-IsBothFault a b budget fault = IsRegionFault a.variables (λ r. HasRow a r ⊎ HasRow b r) NoColumn (IsCount (λ l. count_at l a * count_at l b)) budget fault
+IsBothFault a b budget fault = IsRegionFault a.variables (OfEither a b) NoColumn (IsCount (λ l. count_at l a * count_at l b)) budget fault
 
 abbrev pub IsEitherFault : Region → Region → Budget → RegionFault → Type 0
-IsEitherFault a b budget fault = IsRegionFault a.variables (λ r. HasRow a r ⊎ HasRow b r) NoColumn (IsCount (λ l. count_at l a + count_at l b)) budget fault
+IsEitherFault a b budget fault = IsRegionFault a.variables (OfEither a b) NoColumn (IsCount (λ l. count_at l a + count_at l b)) budget fault
 
 abbrev pub IsRestFault : Region → Budget → RegionFault → Type 0
-IsRestFault a budget fault = IsRegionFault a.variables (IsDenied (HasRow a)) (IsWideDenial (HasRow a)) (IsCount (denied_count a)) budget fault
+IsRestFault a budget fault = IsRegionFault a.variables (OfRest a) (IsWideDenial (HasRow a)) (IsCount (denied_count a)) budget fault

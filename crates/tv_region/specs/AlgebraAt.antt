@@ -1,11 +1,10 @@
 -- The lists of rows of an intersection, a union and a complement at a location.
-use Rattle.std.specs.Prelude.{◌≡◌, ◌⊎◌, ℕ, ◌+◌, ◌*◌, ◌≤◌, List, ℤ, Bool, true, false, ◌&&◌, ◌||◌, not}
+use Rattle.std.specs.Prelude.{◌≡◌, ℕ, ◌+◌, ◌*◌, ◌≤◌, List, ℤ, Bool, true, false, ◌&&◌, ◌||◌, not}
 use Rattle.tv_linear.specs.Linear.{Linear}
 use Rattle.tv_linear.specs.declared.region.Region.{Region}
 use Rattle.tv_region.specs.Met.{some_met}
-use Rattle.tv_region.specs.Adding.{IsDenied}
-use Rattle.tv_region.specs.Regions.{lists_at, count_at, HasRow, IsAt}
-use Rattle.tv_region.specs.Algebra.{denied_count}
+use Rattle.tv_region.specs.Regions.{lists_at, count_at, IsAt}
+use Rattle.tv_region.specs.Algebra.{OfEither, OfRest, denied_count}
 
 -- whether the point meets a piece at the location
 abbrev pub has_state : Region → ℕ → List ℤ → Bool
@@ -29,14 +28,11 @@ InRest a l xs = not (has_state a l xs) ≡ true
 abbrev pub OutOfRest : Region → ℕ → List ℤ → Type 0
 OutOfRest a l xs = not (has_state a l xs) ≡ false
 
-abbrev pub OfBoth : Region → Region → Linear → Type 0
-OfBoth a b r = HasRow a r ⊎ HasRow b r
-
 abbrev pub IsBothAt : Region → Region → ℕ → List (List Linear) → Type 0
-IsBothAt a b l lists = IsAt a.variables (InBoth a b l) (OutOfBoth a b l) (OfBoth a b) (λ k. k ≤ count_at l a * count_at l b) lists
+IsBothAt a b l lists = IsAt a.variables (InBoth a b l) (OutOfBoth a b l) (OfEither a b l) (λ k. k ≤ count_at l a * count_at l b) lists
 
 abbrev pub IsEitherAt : Region → Region → ℕ → List (List Linear) → Type 0
-IsEitherAt a b l lists = IsAt a.variables (InEither a b l) (OutOfEither a b l) (OfBoth a b) (λ k. k ≤ count_at l a + count_at l b) lists
+IsEitherAt a b l lists = IsAt a.variables (InEither a b l) (OutOfEither a b l) (OfEither a b l) (λ k. k ≤ count_at l a + count_at l b) lists
 
 abbrev pub IsRestAt : Region → ℕ → List (List Linear) → Type 0
-IsRestAt a l lists = IsAt a.variables (InRest a l) (OutOfRest a l) (IsDenied (HasRow a)) (λ k. k ≤ denied_count a l) lists
+IsRestAt a l lists = IsAt a.variables (InRest a l) (OutOfRest a l) (OfRest a l) (λ k. k ≤ denied_count a l) lists

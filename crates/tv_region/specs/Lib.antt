@@ -1,10 +1,11 @@
 pub mod Met
+pub mod Made
 pub mod Adding
+pub mod Inclusion
 pub mod Regions
 pub mod Algebra
 pub mod AlgebraAt
 pub mod Back
-pub mod Made
 pub mod Differences
 pub mod Draws
 pub mod Steps

@@ -5,7 +5,7 @@ use Rattle.tv_linear.specs.declared.region.Piece.{Piece}
 use Rattle.tv_linear.specs.declared.region.Region.{Region}
 use Rattle.tv_farkas.specs.declared.budget.Budget.{Budget}
 use Rattle.tv_region.specs.Met.{some_met, InSome}
-use Rattle.tv_region.specs.Adding.{IsUnsolved}
+use Rattle.tv_region.specs.Adding.{AreReduced, IsUnsolved}
 use Rattle.tv_region.specs.declared.fault.ListFault.{ListFault}
 use Rattle.tv_region.specs.declared.fault.ListFault.TheVariants as lists
 use Rattle.tv_region.specs.declared.fault.RegionFault.{RegionFault}
@@ -32,9 +32,17 @@ lists_at l (p ∷ pieces) = cond (p.location == l) (p.poly.rows.items ∷ lists_
 abbrev pub count_at : ℕ → Region → ℕ
 count_at l region = length (lists_at l region.pieces.items)
 
+-- the region has the row in a piece at the location
+abbrev pub HasRowAt : Region → ℕ → Linear → Type 0
+HasRowAt region l r = InSome (lists_at l region.pieces.items) r
+
 -- the region has the row in some piece
 abbrev pub HasRow : Region → Linear → Type 0
-HasRow region r = (l : ℕ) × InSome (lists_at l region.pieces.items) r
+HasRow region r = (l : ℕ) × HasRowAt region l r
+
+-- each piece has a rational point, and at no location one stands twice
+abbrev pub IsReduced : Region → Type 0
+IsReduced region = (l : ℕ) → AreReduced region.variables (lists_at l region.pieces.items)
 
 -- a number as 64 bits tell it
 abbrev pub capped : ℕ → ℕ
@@ -48,11 +56,11 @@ IsSameFault location count (lists.Solve rows why) fault = fault ≡ Solve rows w
 IsSameFault location count lists.Memory fault = fault ≡ Memory
 
 -- What a refusal shows: so many pieces are made at the location, more than the budget allows; a row that is made is too wide at the
--- column; the rows are made, each of them once, and their refutation system has the fault.
-abbrev pub IsRegionFault : ℕ → (Linear → Type 0) → (ℕ → Type 0) → (ℕ → ℕ → Type 0) → Budget → RegionFault → Type 0
+-- column; the rows are made at one location, each of them once, and their refutation system has the fault.
+abbrev pub IsRegionFault : ℕ → (ℕ → Linear → Type 0) → (ℕ → Type 0) → (ℕ → ℕ → Type 0) → Budget → RegionFault → Type 0
 IsRegionFault n Made TooWide Counted budget (Disjuncts location count) = Counted location count × (budget.disjuncts < count)
 IsRegionFault n Made TooWide Counted budget (Wide column) = TooWide column
-IsRegionFault n Made TooWide Counted budget (Solve rows fault) = IsUnsolved n Made budget.pivots rows.items fault
+IsRegionFault n Made TooWide Counted budget (Solve rows fault) = (l : ℕ) × IsUnsolved n (Made l) budget.pivots rows.items fault
 IsRegionFault n Made TooWide Counted budget Memory = Unit {0}
 
 -- the count is that of the pieces at the location, as 64 bits tell it
@@ -63,6 +71,10 @@ IsCount number location count = count ≡ capped (number location)
 abbrev pub IsCountAt : ℕ → ℕ → ℕ → ℕ → Type 0
 IsCountAt l number location count = (location ≡ l) × (count ≡ capped number)
 
+-- the row is made, at this location
+abbrev pub MadeAt : ℕ → (Linear → Type 0) → ℕ → Linear → Type 0
+MadeAt l Made location r = (location ≡ l) × Made r
+
 -- the lists are added at location l
 pub record IsPlaced (l n : ℕ) (old : List Piece) (more : List (List Linear)) (new : List Piece) : Type 0 where
   pub at : (k : ℕ) → lists_at k new ≡ lists_at k old ++ cond (l == k) more []
@@ -72,18 +84,19 @@ pub record IsPlaced (l n : ℕ) (old : List Piece) (more : List (List Linear)) (
 pub record IsAt (n : ℕ) (Only Out : List ℤ → Type 0) (Made : Linear → Type 0) (Few : ℕ → Type 0) (lists : List (List Linear)) : Type 0 where
   pub only : (xs : List ℤ) → length xs ≡ n → some_met xs lists ≡ true → Only xs
   pub out : (xs : List ℤ) → length xs ≡ n → some_met xs lists ≡ false → Out xs
+  pub reduced : AreReduced n lists
   pub made : (r : Linear) → InSome lists r → Made r
   pub wide : (r : Linear) → InSome lists r → columns r ≡ n
   pub few : Few (length lists)
 
 -- the region has such lists at each location
-pub record IsAssembled (n m : ℕ) (Only Out : ℕ → List ℤ → Type 0) (Made : Linear → Type 0) (Few : ℕ → ℕ → Type 0) (region : Region) : Type 0 where
+pub record IsAssembled (n m : ℕ) (Only Out : ℕ → List ℤ → Type 0) (Made : ℕ → Linear → Type 0) (Few : ℕ → ℕ → Type 0) (region : Region) : Type 0 where
   pub fits : IsRegion n m region
-  pub at : (l : ℕ) → l < m → IsAt n (Only l) (Out l) Made (Few l) (lists_at l region.pieces.items)
+  pub at : (l : ℕ) → l < m → IsAt n (Only l) (Out l) (Made l) (Few l) (lists_at l region.pieces.items)
   pub none : (l : ℕ) → m ≤ l → lists_at l region.pieces.items ≡ []
 
 -- the same of the pieces at the first k locations, where there are no others
-pub record IsAssembledTo (k n m : ℕ) (Only Out : ℕ → List ℤ → Type 0) (Made : Linear → Type 0) (Few : ℕ → ℕ → Type 0) (pieces : List Piece) : Type 0 where
+pub record IsAssembledTo (k n m : ℕ) (Only Out : ℕ → List ℤ → Type 0) (Made : ℕ → Linear → Type 0) (Few : ℕ → ℕ → Type 0) (pieces : List Piece) : Type 0 where
   pub fits : All (IsPieceOf n m) pieces
-  pub at : (l : ℕ) → l < k → IsAt n (Only l) (Out l) Made (Few l) (lists_at l pieces)
+  pub at : (l : ℕ) → l < k → IsAt n (Only l) (Out l) (Made l) (Few l) (lists_at l pieces)
   pub none : (l : ℕ) → k ≤ l → lists_at l pieces ≡ []

@@ -3,17 +3,14 @@
 ghost use Rattle.std.specs.Prelude.{◌≡◌, ◌-◌, ◌+◌, ◌*◌, ◌^◌, ◌<◌, ◌≤◌, IfOk};
 ghost use Rattle.std.specs.Result.{IfErr};
 ghost use Rattle.tv_cases.specs.Given.{lists};
-ghost use Rattle.tv_region.specs.Adding.{IsDenied};
-ghost use Rattle.tv_region.specs.Regions.{IsRegion, count_at, HasRow};
-ghost use Rattle.tv_region.specs.Algebra.{IsBoth, IsEither, IsRest, denied_count, IsBothFault, IsEitherFault, IsRestFault};
-ghost use Rattle.tv_region.specs.AlgebraAt.{InBoth, OutOfBoth, InEither, OutOfEither, InRest, OutOfRest, OfBoth, IsBothAt, IsEitherAt, IsRestAt};
+ghost use Rattle.tv_region.specs.Regions.{IsRegion, count_at};
+ghost use Rattle.tv_region.specs.Algebra.{OfEither, OfRest, IsBoth, IsEither, IsRest, denied_count, IsBothFault, IsEitherFault, IsRestFault};
+ghost use Rattle.tv_region.specs.AlgebraAt.{InBoth, OutOfBoth, InEither, OutOfEither, InRest, OutOfRest, IsBothAt, IsEitherAt, IsRestAt};
 
 use crate::RegionFault;
-use crate::counted::{product_at, rest_of};
-use crate::limits::limits_for;
-use crate::lists::{lists_at, refusal};
+use crate::counted::{product_at, rest_of, sum_at};
+use crate::lists::lists_at;
 use crate::located::{Located, assemble};
-use crate::products::add_each;
 use std::alloc::Global;
 use tv_farkas::Budget;
 use tv_linear::{Region, Row};
@@ -53,16 +50,7 @@ fn either_at(
 {
     let first = lists_at(alloc, &a.pieces, location)?;
     let second = lists_at(alloc, &b.pieces, location)?;
-    let count = (first.len() as u64).saturating_add(second.len() as u64);
-    let limits = limits_for(budget, a.variables, count);
-    let kept = match add_each(alloc, Vec::new(alloc), &[], &first, &limits) {
-        Ok(kept) => kept,
-        Err(fault) => return Err(refusal(fault, location, count)),
-    };
-    match add_each(alloc, kept, &[], &second, &limits) {
-        Ok(made) => Ok(made),
-        Err(fault) => Err(refusal(fault, location, count)),
-    }
+    sum_at(alloc, &first, &second, location, a.variables, budget)
 }
 
 /// The lists of the complement at a location.
@@ -100,7 +88,7 @@ impl Located for BothOf<'_> {
 
     ghost out = { λ s l xs. OutOfBoth s.a.now s.b.now l xs };
 
-    ghost made = { λ s r. OfBoth s.a.now s.b.now r };
+    ghost made = { λ s l r. OfEither s.a.now s.b.now l r };
 
     ghost few = { λ s l k. k ≤ count_at l s.a.now * count_at l s.b.now };
 
@@ -130,7 +118,7 @@ impl Located for EitherOf<'_> {
 
     ghost out = { λ s l xs. OutOfEither s.a.now s.b.now l xs };
 
-    ghost made = { λ s r. OfBoth s.a.now s.b.now r };
+    ghost made = { λ s l r. OfEither s.a.now s.b.now l r };
 
     ghost few = { λ s l k. k ≤ count_at l s.a.now + count_at l s.b.now };
 
@@ -158,7 +146,7 @@ impl Located for RestOf<'_> {
 
     ghost out = { λ s l xs. OutOfRest s.a.now l xs };
 
-    ghost made = { λ s r. IsDenied (HasRow s.a.now) r };
+    ghost made = { λ s l r. OfRest s.a.now l r };
 
     ghost few = { λ s l k. k ≤ denied_count s.a.now l };
 

@@ -2,11 +2,11 @@
 
 ghost use Rattle.std.specs.Prelude.{◌≡◌, ◌∷◌, [], ◌+◌, ◌-◌, ◌^◌, ◌<◌, ◌≤◌, ◌↔◌, pos, negsuc, neg_ℤ, ◌<ℤ◌, true, cond, IfOk, IsTrue, ◌⊎◌, ◌&&◌};
 ghost use Rattle.std.specs.Result.{IfErr};
-ghost use Rattle.tv_linear.specs.Linear.{Linear, linear, columns as width, IsWithin};
+ghost use Rattle.tv_linear.specs.Linear.{Linear, linear, columns as width, IsWithin, IsNarrow};
 ghost use Rattle.tv_linear.specs.Tight.{tight};
 ghost use Rattle.tv_region.specs.Met.{Has};
-ghost use Rattle.tv_region.specs.Adding.{IsRowFault};
-ghost use Rattle.tv_region.specs.Made.{last_of, shortened, multiples, IsOpposite};
+ghost use Rattle.tv_region.specs.Adding.{IsPassedOn, IsRowFault};
+ghost use Rattle.tv_region.specs.Made.{last_of, shortened, multiples, cancelled, IsOpposite};
 ghost use Rattle.tv_region.specs.Draws.{sum_row, IsWideSum, IsWideAmong, IsWideDrawn, IsParted, IsSummed, IsProjected};
 
 use crate::fault::ListFault;
@@ -110,23 +110,38 @@ fn pair(alloc: Global, first: &Row, second: &Row) -> Result<Vec<Row>, AllocError
     Ok(rows)
 }
 
+/// The fault of one row.
+fn passed_on(fault: RowFault) -> ListFault
+    ensures { IsPassedOn fault result }
+{
+    match fault {
+        RowFault::Wide { column } => ListFault::Wide { column },
+        RowFault::Memory => ListFault::Memory,
+    }
+}
+
 /// The sum of multiples of the rows that cancels the column, without it and tightened.
 fn sum_of(alloc: Global, upper: &Row, lower: &Row, column: u32) -> Result<Row, ListFault>
     requires opposite { IsOpposite column upper.now lower.now }
     requires upper { width upper.now ≡ column + 1 }
     requires lower { width lower.now ≡ column + 1 }
     ensures sum { IfOk result (λ r. r ≡ sum_row column upper.now lower.now) }
+    ensures narrow { IfOk result (λ _. IsNarrow (cancelled column upper.now lower.now)) }
+    ensures tightened { IfOk result (λ r. IsNarrow r) }
     ensures refused { IfErr result (IsRowFault (IsWideSum column upper.now lower.now)) }
 {
     let multiples = multiples_of(alloc, upper, lower, column)?;
+    let _columns = (multiples.columns(), upper.columns(), lower.columns());
     let rows = pair(alloc, upper, lower)?;
     match multiples.compose(alloc, &rows) {
         Ok(sum) => {
+            let _columns = sum.columns();
             let short = without_last(alloc, &sum, column)?;
-            Ok(short.tighten(alloc)?)
+            let row = short.tighten(alloc)?;
+            let _columns = row.columns();
+            Ok(row)
         }
-        Err(RowFault::Wide { column }) => Err(ListFault::Wide { column }),
-        Err(RowFault::Memory) => Err(ListFault::Memory),
+        Err(fault) => Err(passed_on(fault)),
     }
 }
 
@@ -249,7 +264,7 @@ fn and_also(first: bool, second: bool) -> bool
 fn eliminate(alloc: Global, rows: &[Row], column: u32) -> Result<Shadow, ListFault>
     requires { (r : Linear) → Has rows.now r → width r ≡ column + 1 }
     ensures projected { IfOk result (λ s. IsProjected column 1 rows.now s.rows.items s.exact) }
-    ensures refused { IfErr result (IsRowFault (IsWideDrawn rows.now)) }
+    ensures refused { IfErr result (IsRowFault (IsWideDrawn column (column + 1) rows.now)) }
 {
     let parts = parted(alloc, rows, column)?;
     let Parts {
@@ -274,7 +289,7 @@ pub(crate) fn project(
     requires few { columns + draws < 2 ^ 32 }
     requires wide { (r : Linear) → Has rows.items r → width r ≡ columns + draws }
     ensures projected { IfOk result (λ s. IsProjected columns draws rows.items s.rows.items s.exact) }
-    ensures refused { IfErr result (IsRowFault (IsWideDrawn rows.items)) }
+    ensures refused { IfErr result (IsRowFault (IsWideDrawn columns (columns + draws) rows.items)) }
 {
     let mut shadow = Shadow { rows, exact: true };
     let mut left = draws;

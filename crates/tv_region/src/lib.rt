@@ -9,10 +9,13 @@ mod counted;
 mod draws;
 mod fault;
 mod fitting;
+mod inclusion;
+mod joining;
 mod limits;
 mod lists;
 mod located;
 mod products;
+mod pruning;
 mod rows;
 mod steps;
 

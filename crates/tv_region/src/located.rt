@@ -25,8 +25,8 @@ pub(crate) trait Located {
     /// What is so of the other states.
     ghost out: { Self → ℕ → List ℤ → Type 0 };
 
-    /// The rows that are made.
-    ghost made: { Self → Linear → Type 0 };
+    /// The rows that are made at a location.
+    ghost made: { Self → ℕ → Linear → Type 0 };
 
     /// What is so of how many pieces there are at a location.
     ghost few: { Self → ℕ → ℕ → Type 0 };
@@ -36,8 +36,9 @@ pub(crate) trait Located {
 
     fn lists(&self, alloc: Global, location: u32) -> Result<Vec<Vec<Row>>, RegionFault>
         requires { location < locations self.now }
-        ensures at { let few_here = few self.now location in
-            IfOk result (λ v. IsAt (variables self.now) (only self.now location) (out self.now location) (made self.now) few_here (lists v)) }
+        ensures at { let made_here = made self.now location in
+            let few_here = few self.now location in
+            IfOk result (λ v. IsAt (variables self.now) (only self.now location) (out self.now location) made_here few_here (lists v)) }
         ensures refused { IfErr result (refused self.now) };
 }
 

@@ -1,4 +1,6 @@
 pub mod MadeLemmas
+pub mod DerivedLemmas
+pub mod RowLemmas
 pub mod SetLemmas
 pub mod CountLemmas
 pub mod GrowLemmas

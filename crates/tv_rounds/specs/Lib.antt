@@ -1,5 +1,6 @@
 pub mod Sides
 pub mod Calls
+pub mod Derived
 pub mod Counts
 pub mod Faults
 pub mod Walks

@@ -2,7 +2,7 @@ use Rattle.std.proofs.Common.{◌⊎◌, ◌∙◌, ◌*◌, ◌-◌, ◌^◌, m
 use Rattle.tv_cases.specs.Given.{lists, row_lists}
 use Rattle.tv_region.specs.Met.{InSome}
 use Rattle.tv_region.specs.Adding.{IsProduct, NoColumn}
-use Rattle.tv_region.specs.Regions.{IsCountAt}
+use Rattle.tv_region.specs.Regions.{MadeAt, IsCountAt}
 use Rattle.tv_region.proofs.AlgebraLemmas.{region_fault, many_at}
 use Rattle.tv_region.proofs.counted.product_at.Goals as goal
 
@@ -21,7 +21,7 @@ returns-in-Err-clause-refused c =
     let b = row_lists c.args.second.now in
     let p = many_at c.args.first.now (length c.args.first.now) a refl refl in
     let q = many_at c.args.second.now (length c.args.second.now) b refl refl in
-    region_fault c.limits_for-limits.result c.args.columns (λ r. InSome a r ⊎ InSome b r) (λ r. InSome a r ⊎ InSome b r) NoColumn NoColumn (IsCountAt c.args.location (length a * length b)) c.args.budget.now c.args.location c.saturating_mul-count.result c.in-Err.fault c.refusal.result
+    region_fault c.limits_for-limits.result c.args.columns (λ r. InSome a r ⊎ InSome b r) (MadeAt c.args.location (λ r. InSome a r ⊎ InSome b r)) NoColumn NoColumn (IsCountAt c.args.location (length a * length b)) c.args.budget.now c.args.location c.saturating_mul-count.result c.in-Err.fault c.refusal.result
     c.limits_for-limits.ensures.columns c.limits_for-limits.ensures.pivots c.limits_for-limits.ensures.most
     (refl, c.saturating_mul-count.ensures ∙ (λ i. min (p i * q i) (2 ^ 64 - 1)))
-    (λ r h. h) (λ x w. w) c.in-Err.ensures.refused c.refusal.ensures
+    (λ r h. (refl, h)) (λ x w. w) c.in-Err.ensures.refused c.refusal.ensures

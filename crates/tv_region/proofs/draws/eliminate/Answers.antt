@@ -1,4 +1,4 @@
-use Rattle.std.proofs.Common.{◌≡◌, ◌⊎◌, subst, sym, pos, negsuc}
+use Rattle.std.proofs.Common.{◌≡◌, ◌⊎◌, ◌+◌, subst, sym, pos, negsuc}
 use Rattle.tv_linear.specs.Linear.{Linear}
 use Rattle.tv_region.specs.Met.{Has}
 use Rattle.tv_region.specs.Made.{last_of}
@@ -27,6 +27,6 @@ returns-clause-refused c =
     let us = c.in_ok-parts.parts.uppers.items in
     let ls = c.in_ok-parts.parts.lowers.items in
     let rs = c.in_ok-parts.parts.rest.items in
-    row_fault_weaker (IsWideAmong n c.deref-3.result.now c.deref-4.result.now) (IsWideDrawn c.args.rows.now)
+    row_fault_weaker (IsWideAmong n c.deref-3.result.now c.deref-4.result.now) (IsWideDrawn n (n + 1) c.args.rows.now)
     (λ k w. wide_among_drawn n c.args.rows.now us ls rs c.in_ok-parts.ensures k
     (w.0, w.1, subst (λ x. Has x w.0) c.deref-3.ensures.value w.2, subst (λ x. Has x w.1) c.deref-4.ensures.value w.3, w.4)) c.in-Err.fault c.in-Err.ensures.refused

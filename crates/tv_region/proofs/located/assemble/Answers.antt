@@ -12,4 +12,4 @@ locations-preserved g c =
     let few = g.L.Located.few c.args.located.now in
     let l = c.locations.location in
     assembled_more c.args.variables c.args.locations only out made few l c.locations.pieces.items c.in_ok-pieces.pieces.items (lists c.in-Ok.more) c.locations-test.true c.locations.invariant
-    (subst (λ n. IsAt n (only l) (out l) made (few l) (lists c.in-Ok.more)) (sym c.requires.variables) c.in-Ok.ensures.at) c.in_ok-pieces.ensures
+    (subst (λ n. IsAt n (only l) (out l) (made l) (few l) (lists c.in-Ok.more)) (sym c.requires.variables) c.in-Ok.ensures.at) c.in_ok-pieces.ensures
