@@ -14,7 +14,7 @@ use Rattle.tv_cert.specs.declared.node.Node.{Node}
 use Rattle.tv_cert.specs.declared.node.Verdict.TheVariants.{Proved}
 use Rattle.tv_cert.specs.Claims.{about_with}
 use Rattle.tv_cert.specs.Nodes.{pieces_of, entries, root_entry, obligations}
-use Rattle.tv_cert.specs.Obligations.{Entry, AllMet}
+use Rattle.tv_cert.specs.Obligations.{AllMet}
 use Rattle.tv_cert.specs.Pieces.{rows_of}
 use Rattle.tv_cert.specs.Targets.{owed_into, target_rows, no_fall}
 use Rattle.tv_cover.specs.Covering.{IsHole}
@@ -28,6 +28,7 @@ use Rattle.tv_shape.specs.Narrow.{CountNarrow, AreNarrow, ListsNarrow, CoverNarr
 use Rattle.tv_shape.specs.declared.certificate.Certificate.{Certificate}
 use Rattle.tv_shape.specs.declared.fault.ShapeFault.{ShapeFault}
 use Rattle.tv_shape.proofs.FaultLemmas.{unfit}
+use Rattle.tv_cert.proofs.FailingLemmas.{all_join}
 use Rattle.tv_lexrank.specs.declared.falling.Fall.{Fall}
 use Rattle.tv_lexrank.specs.Nodes.{IsPieceAt, IsRankedNode, ShowsEnd}
 use Rattle.tv_lexrank.specs.Closing.{IsWholeCover, IsCoverInto, owed_plain}
@@ -125,10 +126,6 @@ known_root about known node fall base tree starts ranked number lines begins h =
     owed : owed_into (pieces_of node) about.start given no_fall 0 0 ≡ Some (as_given (rows_at known about.start) ++ [])
     owed = ap (λ z. target_rows given no_fall z 0) piece.first ∙ ap (λ z. Some (as_given z ++ [])) piece.has
 
-both_met : (es fs : List Entry) → AllMet es → AllMet fs → AllMet (es ++ fs)
-both_met [] fs h g = g
-both_met (e ∷ es) fs h g = (h.0, both_met es fs h.1 g)
-
 module _ (about : CaseSystem) (f : Property) (node : Node) (tree : CoverTree) (root : IsRoot about f node tree) where
   root_fits : Fits (about_with about) f node (Proved tree)
   root_fits = record {
@@ -144,7 +141,7 @@ module _ (about : CaseSystem) (f : Property) (node : Node) (tree : CoverTree) (r
   no_fault x h = unfit (about_with about) f node (Proved tree) x h root_fits
 
   all_obligations : AllMet (obligations (about_with about) f node (Proved tree))
-  all_obligations = both_met (entries 0 (about_with about) f node) (root_entry (about_with about) (pieces_of node) (Proved tree) ∷ []) root.nodes (root.met, tt)
+  all_obligations = all_join (entries 0 (about_with about) f node) (root_entry (about_with about) (pieces_of node) (Proved tree) ∷ []) root.nodes (root.met, tt)
 
   pub is_proof : (c : Certificate) → IsOf (about_with about) f c → c.root ≡ node → c.verdict ≡ Proved tree → IsProofOf about f c
   is_proof c h e g = record {

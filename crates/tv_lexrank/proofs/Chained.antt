@@ -10,6 +10,7 @@ use Rattle.tv_cases.specs.LinearCases.{CaseSystem}
 use Rattle.tv_rank.specs.Ways.{Way, way_of}
 use Rattle.tv_rank.specs.Rankings.{change_row, bound_row, IsShownBy, fall_of}
 use Rattle.tv_rank.proofs.Over.{if_true, if_false, equal, unequal}
+use Rattle.tv_cert.proofs.PieceLemmas.{true_test}
 use Rattle.tv_lexrank.specs.declared.round.Round.{Round}
 use Rattle.tv_lexrank.specs.Known.{way_rows}
 use Rattle.tv_lexrank.specs.Closing.{changed}
@@ -23,10 +24,7 @@ lead_then about known set rounds left rs (more s l front r lead round) h = subst
 pub emptied_chain : (about : CaseSystem) (known : List Piece) (set : List ℕ) (rounds : List Round) → Lead about known set rounds [] → Chain about known set rounds
 emptied_chain about known set rounds h = subst (λ z. Chain about known set z) (append-nil rounds) (lead_then about known set rounds [] [] h end)
 
-pub same_of : (a b : ℕ) → (a == b) ≡ true → a ≡ b
-same_of a b h = grind (arith, nat_tests)
-
-other_of : (a b : ℕ) → (a == b) ≡ false → a ≡ b → ⊥
+pub other_of : (a b : ℕ) → (a == b) ≡ false → a ≡ b → ⊥
 other_of a b h e = grind (arith, nat_tests)
 
 -- what is not taken out is still there
@@ -47,7 +45,7 @@ found_at (x ∷ xs) k j h e = by_test (x == k) refl (λ n. let i = later j h e n
     later (suc i) h e n = (i, omega (arith, h), e)
 
     by_test : (b : Bool) → (x == k) ≡ b → ((x ≡ k → ⊥) → (place_in xs k < length xs) × (get_or xs (place_in xs k) 0 ≡ k)) → ((if b then 0 else suc (place_in xs k)) < suc (length xs)) × (get_or (x ∷ xs) (if b then 0 else suc (place_in xs k)) 0 ≡ k)
-    by_test true t rest = (omega arith, same_of x k t)
+    by_test true t rest = (omega arith, true_test x k t)
     by_test false t rest =
         let r = rest (other_of x k t) in
         let l = r.0 in
@@ -74,7 +72,7 @@ chain_shown about known set rounds (next s r rs round chain) k j h e = by_test (
 
     by_test : (b : Bool) → (falling_of r == k) ≡ b → ((get_or s r.place 0 ≡ get_or s j 0 → ⊥) → ShownAt (about.variables + (way_of about.cases known k).taken.draws) (way_rows (way_of about.cases known k)) (fall_rows_at (as_given (terms_at about.variables rs (way_of about.cases known k).taken.from)) (map (changed about.variables (way_of about.cases known k)) (terms_at about.variables rs (way_of about.cases known k).taken.to)) (falls_in k rs)) (lines_of k rs)) → ShownAt (about.variables + (way_of about.cases known k).taken.draws) (way_rows (way_of about.cases known k)) (fall_rows_at (as_given (terms_at about.variables (r ∷ rs) (way_of about.cases known k).taken.from)) (map (changed about.variables (way_of about.cases known k)) (terms_at about.variables (r ∷ rs) (way_of about.cases known k).taken.to)) (if b then 0 else suc (falls_in k rs))) (if b then line_at r r.place ∷ line_at r (length r.set.items) ∷ [] else line_at r (place_in r.set.items k) ∷ lines_of k rs)
     by_test true t rest =
-        let f = sym falling_is ∙ same_of (falling_of r) k t in (
+        let f = sym falling_is ∙ true_test (falling_of r) k t in (
           at_place r.place (pos 1) round.within f (if_true (r.place == r.place) (pos 1) (pos 0) (equal r.place r.place refl)),
           (subst (λ y. IsShownBy about.variables (way_of about.cases known k) (bound_row about.variables r.terms.items (way_of about.cases known k)) (line_at r (length y))) (sym round.set_is) (subst (λ y. IsShownBy about.variables (way_of about.cases known y) (bound_row about.variables r.terms.items (way_of about.cases known y)) (line_at r (length s))) f round.family.bound), tt),
         )

@@ -28,6 +28,9 @@ use Rattle.tv_farkas.specs.Paths.{IsWholePoint}
 use Rattle.tv_farkas.specs.Refuting.{AreShort}
 use Rattle.tv_farkas.specs.Trees.{TreeRows}
 use Rattle.tv_rank.specs.Ways.{Way, way_of, case_at, rows_at}
+use Rattle.tv_farkas.proofs.SideLemmas.{all_left}
+use Rattle.tv_cover.proofs.PointLemmas.{all_right}
+use Rattle.tv_cases.proofs.Listed.{Contains-from_map}
 use Rattle.tv_lexrank.specs.declared.fault.RankFault.{RankFault}
 use Rattle.tv_lexrank.specs.declared.fault.RankFault.TheVariants as fault
 use Rattle.tv_lexrank.specs.Known.{AreKnown, way_rows, padded_row, padded_rows}
@@ -143,21 +146,8 @@ padded_met n w (r ∷ rows) zs e h =
     let m = All-head (IsMet zs) (padded_row w r) (map (padded_row w) rows) h in
     All-cons (IsMet (take n zs)) r rows (omega (arith, ints, d, f, m)) (padded_met n w rows zs (All-tail (λ r. columns r ≡ n) r rows e) (All-tail (IsMet zs) (padded_row w r) (map (padded_row w) rows) h))
 
-all_before : {A : Type 0} (P : A → Type 0) (xs ys : List A) → All P (xs ++ ys) → All P xs
-all_before P [] ys h = All-nil P
-all_before P (x ∷ xs) ys h = All-cons P x xs (All-head P x (xs ++ ys) h) (all_before P xs ys (All-tail P x (xs ++ ys) h))
-
-all_behind : {A : Type 0} (P : A → Type 0) (xs ys : List A) → All P (xs ++ ys) → All P ys
-all_behind P [] ys h = h
-all_behind P (x ∷ xs) ys h = all_behind P xs ys (All-tail P x (xs ++ ys) h)
-
 all_in : {A : Type 0} (P : A → Type 0) (xs : List A) (x : A) → All P xs → Contains xs x → P x
 all_in P xs x h c = subst P c.2 (h c.0 x c.1)
-
-unmapped : {A B : Type 0} (f : A → B) (xs : List A) (y : B) → Contains (map f xs) y → (x : A) × Contains xs x × (f x ≡ y)
-unmapped f [] y c = absurd (let l = c.1 in omega (arith, l))
-unmapped f (a ∷ xs) y (zero, l, e) = (a, (0, omega arith, refl), e)
-unmapped f (a ∷ xs) y (suc k, l, e) = (let r = unmapped f xs y (k, omega (arith, l), e) in (r.0, (let c = r.1 in let m = c.1 in (suc c.0, omega (arith, m), c.2)), r.2))
 
 module _ (about : CaseSystem) (known : List Piece) (k : ℕ) (rows target : List Linear) (k_in : k < length about.cases) (fits : AreKnown about known) (proper : IsCase about.variables about.locations (case_at about.cases k)) where
   abbrev v : ℕ
@@ -178,7 +168,7 @@ module _ (about : CaseSystem) (known : List Piece) (k : ℕ) (rows target : List
       let size = point.width in
       let whole = sym (take-append-drop v zs) in
       let outside = All-head (IsOutside zs) target [] h.outside in
-      let at = unmapped (λ r. before_of r) into outside.0 (subst (λ z. Contains z outside.0) made.exact outside.1) in
+      let at = Contains-from_map (λ r. before_of r) into outside.0 (subst (λ z. Contains z outside.0) made.exact outside.1) in
       record {
         numbered = k_in;
         old = record { location = c.from; values = xs };
@@ -190,10 +180,10 @@ module _ (about : CaseSystem) (known : List Piece) (k : ℕ) (rows target : List
           leaves = refl;
           enters = refl;
           drawn = length-back v c.draws zs size;
-          guards = subst (λ ys. All (IsMet ys) c.guards) whole (all_behind (IsMet zs) (map (padded_row (v + c.draws)) (rows_at known c.from)) c.guards point.met);
+          guards = subst (λ ys. All (IsMet ys) c.guards) whole (all_right (IsMet zs) (map (padded_row (v + c.draws)) (rows_at known c.from)) c.guards point.met);
           gives = refl;
         };
-        meets = padded_met v (v + c.draws) (rows_at known c.from) zs (over_at v known c.from fits.over) (all_before (IsMet zs) (map (padded_row (v + c.draws)) (rows_at known c.from)) c.guards point.met);
+        meets = padded_met v (v + c.draws) (rows_at known c.from) zs (over_at v known c.from fits.over) (all_left (IsMet zs) (map (padded_row (v + c.draws)) (rows_at known c.from)) c.guards point.met);
         row = at.0;
         among = at.1;
         unmet = λ m. outside.2 (subst (IsMet zs) at.2 (subst (λ ys. IsMet ys (before at.0 c)) (sym whole)

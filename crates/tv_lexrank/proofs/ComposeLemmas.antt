@@ -13,6 +13,7 @@ use Rattle.tv_linear.proofs.Entries.{entry-raised_inner, entry-raised_last, entr
 use Rattle.tv_linear.proofs.PlainLists.{length-unit, get_or-zeros}
 use Rattle.tv_cases.specs.Before.{term_row, rows_after, before, FitsTerms}
 use Rattle.tv_cases.specs.LinearCases.{LinearCase}
+use Rattle.tv_refute.proofs.Places.{length-table}
 use Rattle.tv_lexrank.proofs.SameLemmas.{SameNumbers, AreSame, same_self}
 use Rattle.tv_lexrank.specs.Closing.{rows_before, FitsBefore}
 
@@ -193,10 +194,6 @@ put_before n r c e us fits = subst (λ m. PutIn (m + c.draws) r (map (term_row (
         }
 
 -- ---- the rows before a case
-length-table : {A : Type 0} (n : ℕ) (f : ℕ → A) → length (table n f) ≡ n
-length-table zero f = refl
-length-table (suc n) f = ap suc (length-table n (λ j. f (suc j)))
-
 before_same : (n : ℕ) (c : LinearCase) (r : Linear) → columns r ≡ n → All (λ u. columns u.term ≡ n + c.draws) c.updates → FitsBefore c r → SameNumbers (n + c.draws) (given (before r c)) (composed (given r) (terms_after n c.updates))
 before_same n c r wide us fits =
     composed_same n (n + c.draws) r (before r c) (given r) (terms_after n c.updates) (map (term_row (n + c.draws)) (terms_after n c.updates)) wide

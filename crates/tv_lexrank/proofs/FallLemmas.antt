@@ -17,9 +17,9 @@ use Rattle.tv_linear.proofs.PlainLists.{zeros-narrow}
 use Rattle.tv_farkas.specs.Refuting.{AreShort}
 use Rattle.tv_farkas.specs.Stretching.{IsSplitOf}
 use Rattle.tv_farkas.specs.Trees.{TreeRows}
-use Rattle.tv_farkas.proofs.SystemLemmas.{all_of}
 use Rattle.tv_shape.specs.Narrow.{CoverNarrow, CountNarrow, AreNarrow}
 use Rattle.tv_rank.specs.Given.{lists}
+use Rattle.tv_farkas.proofs.StretchLemmas.{short_all}
 use Rattle.tv_lexrank.specs.Closing.{owed_plain}
 use Rattle.tv_lexrank.specs.Falling.{spread, AreNarrowLines, AllHeld, HasFall}
 use Rattle.tv_lexrank.specs.declared.falling.Fall.{Fall}
@@ -72,15 +72,12 @@ split_falls fall above r p q x y a b new narrow s h g = record {
     small_constant z w = omega (arith, ints, w)
 
 -- ---- a place that is refuted
-pub within_62 : (ms : List ℤ) → AreShort ms → All (IsWithin 62) ms
-within_62 ms h = all_of (IsWithin 62) ms (pos 0) h
-
 pub empty_falls : (fall : Fall) (above : ℕ) (old new : Vec ℤ Global) → new.items ≡ old.items → AreShort old.items → HasFall fall above (Empty old) (Empty new)
 empty_falls fall above old new e short = record {
   goes_on = λ n known sides rows falls wanted many held shown w met. subst (Refutes n (known ++ sides)) (sym e) met;
   deep = refl;
   even = λ n e. tt;
-  narrow = subst (All (IsWithin 62)) (sym e) (within_62 old.items short);
+  narrow = subst (All (IsWithin 62)) (sym e) (short_all old.items short);
 }
 
 -- ---- a target that is entered
@@ -103,7 +100,7 @@ spreads_narrow above (l ∷ lines) h =
 
 pub short_narrow : (lines : List (List ℤ)) → All AreShort lines → AreNarrowLines lines
 short_narrow [] h = All-nil (All (IsWithin 62))
-short_narrow (l ∷ lines) h = All-cons (All (IsWithin 62)) l lines (within_62 l (All-head AreShort l lines h)) (short_narrow lines (All-tail AreShort l lines h))
+short_narrow (l ∷ lines) h = All-cons (All (IsWithin 62)) l lines (short_all l (All-head AreShort l lines h)) (short_narrow lines (All-tail AreShort l lines h))
 
 pub all_back : {A B : Type 0} (P : B → Type 0) (f : A → B) (xs : List A) → All P (map f xs) → All (λ x. P (f x)) xs
 all_back P f [] h = All-nil (λ x. P (f x))

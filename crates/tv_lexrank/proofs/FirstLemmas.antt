@@ -10,8 +10,8 @@ use Rattle.tv_graph.specs.Graph.{IsBetween, Reaches, here, along, AreStronglyCon
 use Rattle.tv_rank.specs.Ways.{case_at, no_case, rows_at}
 use Rattle.tv_lexrank.specs.declared.fault.RankFault.{RankFault}
 use Rattle.tv_lexrank.specs.declared.fault.RankFault.TheVariants as fault
-use Rattle.tv_lexrank.specs.Ranking.{Leads, AreTogether}
-use Rattle.tv_lexrank.specs.Ranking as ranking
+use Rattle.tv_known.specs.Cycles.{Leads}
+use Rattle.tv_known.specs.Cycles as cycles
 use Rattle.tv_lexrank.specs.Known.{AreBare}
 use Rattle.tv_rank.specs.Given.{lists}
 use Rattle.tv_lexrank.specs.Attempt.{NeverRises, RefusesAttempt}
@@ -44,11 +44,11 @@ never_rises : (about : CaseSystem) (numbers : List ℕ) → All (λ arc. slice_i
 never_rises about numbers h = λ k l. subst (λ a. slice_index numbers a.to ≤ slice_index numbers a.from) (arc_at about.cases k no_arc l) (at_of (λ arc. slice_index numbers arc.to ≤ slice_index numbers arc.from) (map arc_of about.cases) no_arc h k (let e = length-map about.cases arc_of in omega (arith, e, l)))
 
 leads : (cases : List LinearCase) (u v : ℕ) → Reaches (map arc_of cases) u v → Leads cases u v
-leads cases u v (here w) = ranking.here w
+leads cases u v (here w) = cycles.here w
 leads cases u v (along arc t (k, l, e) r) =
     let q : k < length cases = (let m = length-map cases arc_of in omega (arith, m, l)) in
     let a = sym (arc_at cases k arc q) ∙ e in
-    subst (λ z. Leads cases z.from t) a (ranking.along k t q (subst (λ z. Leads cases z.to t) (sym a) (leads cases arc.to t r)))
+    subst (λ z. Leads cases z.from t) a (cycles.along k t q (subst (λ z. Leads cases z.to t) (sym a) (leads cases arc.to t r)))
 
 pub are_components : (about : CaseSystem) (numbers : List ℕ) → length numbers ≡ about.locations → ((u v : ℕ) → u < about.locations → v < about.locations → (slice_index numbers u ≡ slice_index numbers v) ↔ AreStronglyConnected (map arc_of about.cases) u v) → All (λ arc. slice_index numbers arc.to ≤ slice_index numbers arc.from) (map arc_of about.cases) → AreComponents about numbers
 are_components about numbers e s n = record {

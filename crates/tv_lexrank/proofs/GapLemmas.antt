@@ -2,7 +2,6 @@
 use Rattle.std.proofs.Common.{◌≡◌, ◌⊎◌, inl, inr, ℕ, zero, suc, ◌+◌, ◌-◌, ◌<◌, ◌≤◌, List, [], ◌∷◌, ◌++◌, length, map, take, get_or, ℤ, Bool, true, false, cond, ◌==◌, if◌then◌else◌, arith, refl, sym, ap, ◌∙◌}
 use Rattle.std.specs.Prelude.{slice_get, Some}
 use Rattle.std.specs.List.{filter}
-use Rattle.std.proofs.lemmas.Bool.Decides.{nat_tests}
 use Rattle.std.proofs.lemmas.List.{length-map, map-append}
 use Rattle.std.proofs.lemmas.Option.{slice_get_within, slice_get-get_or, get_or_from_slice_get}
 use Rattle.tv_places.specs.Places.{places_from, places_of}
@@ -12,13 +11,12 @@ use Rattle.tv_linear.specs.declared.region.Piece.{Piece}
 use Rattle.tv_cases.specs.LinearCases.{LinearCase, CaseSystem}
 use Rattle.tv_rank.specs.Ways.{case_at, no_case}
 use Rattle.tv_rank.proofs.Over.{equal}
+use Rattle.tv_cert.proofs.PieceLemmas.{true_test}
+use Rattle.tv_rank.proofs.Solved.{past_end}
 use Rattle.tv_lexrank.specs.Inside.{inside_key, inside_keys, behind}
 use Rattle.tv_lexrank.specs.Sorting.{LeadsInside, AreSorted}
-use Rattle.tv_lexrank.proofs.Chained.{same_of}
+use Rattle.tv_lexrank.proofs.Chained.{other_of}
 use Rattle.tv_lexrank.proofs.StandLemmas.{kept_holds, take_more}
-
-other_of : (a b : ℕ) → (a == b) ≡ false → a ≡ b → ⊥
-other_of a b h e = grind (arith, nat_tests)
 
 abbrev behind_from : ℕ → List ℕ → ℕ → ℕ
 behind_from start xs zero = start
@@ -119,7 +117,7 @@ module _ (about : CaseSystem) (numbers : List ℕ) (component count : ℕ) where
   key_is_inside c below h = by_test (get_or numbers c.from 0 == get_or numbers c.to 0) refl h
     where
       by_test : (b : Bool) → (get_or numbers c.from 0 == get_or numbers c.to 0) ≡ b → (if b then get_or numbers c.from 0 else count) ≡ component → LeadsInside numbers component c
-      by_test true t e = (e, sym (same_of (get_or numbers c.from 0) (get_or numbers c.to 0) t) ∙ e)
+      by_test true t e = (e, sym (true_test (get_or numbers c.from 0) (get_or numbers c.to 0) t) ∙ e)
       by_test false t e = absurd (omega (arith, e, below))
 
   -- the case at a place
@@ -151,7 +149,7 @@ module _ (about : CaseSystem) (numbers : List ℕ) (component count : ℕ) where
           let is = get_or_from_slice_get about.cases number (get_or kept p no_case) no_case stands in
           let found = there ∙ ap Some (sym is) in (
             slice_get_within about.cases number (get_or kept p no_case) stands,
-            same_of (inside_key numbers count (case_at about.cases number)) component (kept_holds (λ c. inside_key numbers count c == component) about.cases p (case_at about.cases number) found),
+            true_test (inside_key numbers count (case_at about.cases number)) component (kept_holds (λ c. inside_key numbers count c == component) about.cases p (case_at about.cases number) found),
           )
 
   behind_same : (p : ℕ) → behind_from 0 places p ≡ behind places p
@@ -182,11 +180,6 @@ module _ (about : CaseSystem) (numbers : List ℕ) (component count : ℕ) where
     where
       before_or_past : (k n : ℕ) → (k < n) ⊎ (n ≤ k)
       before_or_past k n = grind arith
-
-  past_end : {A : Type 0} (xs : List A) (j : ℕ) (d : A) → length xs ≤ j → get_or xs j d ≡ d
-  past_end [] j d h = refl
-  past_end (x ∷ xs) zero d h = absurd (omega (arith, h))
-  past_end (x ∷ xs) (suc j) d h = past_end xs j d (omega (arith, h))
 
   pub sorted_all : (known : List Piece) (p : ℕ) (set empty : List ℕ) (refutations : List (List ℤ)) → p ≡ length places → AreSorted about known numbers component (behind places p) set empty refutations → AreSorted about known numbers component (length about.cases) set empty refutations
   sorted_all known p set empty refutations e s = sorted_until known p (length about.cases) set empty refutations (omega (arith, e)) (omega arith) (sym (past_end places p (length about.cases) (omega (arith, e)))) s

@@ -11,9 +11,10 @@ use Rattle.tv_linear.specs.declared.region.Piece.{Piece}
 use Rattle.tv_linear.proofs.PlainLists.{length-zeros, get_or-zeros, zeros-narrow}
 use Rattle.tv_cases.specs.LinearCases.{LinearCase}
 use Rattle.tv_rank.specs.Ways.{Way, rows_at}
+use Rattle.tv_farkas.proofs.SideLemmas.{as_given-append}
 use Rattle.tv_lexrank.specs.Known.{piece_rows, way_rows, padded_row, padded_rows}
 use Rattle.tv_lexrank.specs.Sorting.{IsSettled, IsTaken}
-use Rattle.tv_lexrank.proofs.SameLemmas.{AreSame, same_append, all_same, given_append, refutes_same}
+use Rattle.tv_lexrank.proofs.SameLemmas.{AreSame, same_append, all_same, refutes_same}
 
 -- ---- lists that are empty or not
 pub not_empty : {A : Type 0} (xs : List A) (b : Bool) → b ≡ (length xs == 0) → b ≡ false → 0 < length xs
@@ -57,7 +58,7 @@ padded_same n w (r ∷ rows) = (
 
 pub padded_rows_same : (n v : ℕ) (w : Way) → AreSame n (as_given (padded_rows v w)) (way_rows w)
 padded_rows_same n v w =
-    subst (λ ks. AreSame n ks (way_rows w)) (sym (given_append (map (padded_row (v + w.taken.draws)) w.known) w.taken.guards))
+    subst (λ ks. AreSame n ks (way_rows w)) (sym (as_given-append (map (padded_row (v + w.taken.draws)) w.known) w.taken.guards))
     (same_append n (as_given (map (padded_row (v + w.taken.draws)) w.known)) (as_given w.known) (as_given w.taken.guards) (as_given w.taken.guards) (padded_same n (v + w.taken.draws) w.known) (all_same n (as_given w.taken.guards)))
 
 padded_even : (n w : ℕ) (rows : List Linear) → n ≤ w → All (λ r. columns r ≡ n) rows → All (λ r. columns r ≡ w) (map (padded_row w) rows)

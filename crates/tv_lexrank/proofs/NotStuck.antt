@@ -1,15 +1,16 @@
-use Rattle.std.proofs.Common.{◌≡◌, ℕ, ◌<◌, List, [], ◌∷◌, ◌++◌, length, get_or, All, sym, subst, ℤ, pos, ◌≤ℤ◌}
-use Rattle.std.proofs.lemmas.List.Elements.{All-tail}
+use Rattle.std.proofs.Common.{◌≡◌, ℕ, ◌<◌, List, [], length, get_or, sym, subst, ℤ, pos, ◌≤ℤ◌}
 use Rattle.tv_linear.specs.Linear.{Linear, scaled_value}
 use Rattle.tv_linear.specs.declared.region.Piece.{Piece}
 use Rattle.tv_cases.specs.LinearCases.{LinearCase, CaseSystem}
 use Rattle.tv_rank.specs.Ways.{case_at, way_at}
 use Rattle.tv_rank.specs.Rankings.{IsWayPoint, Ranks}
+use Rattle.tv_cover.proofs.PointLemmas.{all_right}
 use Rattle.tv_lexrank.specs.declared.round.Round.{Round}
 use Rattle.tv_lexrank.specs.declared.greedy.Greedy.{Greedy}
 use Rattle.tv_lexrank.specs.declared.greedy.Greedy.TheVariants as greedy
 use Rattle.tv_lexrank.specs.Greedy.{without, Lead, none, more, IsGreedy, IsEmptied}
-use Rattle.tv_lexrank.specs.Ranking.{AreTogether, AreInside, HasLexicographicRanking}
+use Rattle.tv_known.specs.Cycles.{AreTogether}
+use Rattle.tv_known.specs.Ranking.{IsCasePoint, RanksCases, case_in, AreInside, HasLexicographicRanking}
 use Rattle.tv_lexrank.specs.Known.{AreBare}
 use Rattle.tv_lexrank.proofs.Removing.{stood}
 
@@ -31,26 +32,22 @@ inside_left about known set rounds left (more s l rs r lead round) h = inside_wi
 pub bare_ways : (cases : List LinearCase) (known : List Piece) (set : List ℕ) → AreBare known → way_at cases known set ≡ way_at cases [] set
 bare_ways cases known set bare = (λ i k. record { taken = case_at cases (get_or set k 0); known = bare (case_at cases (get_or set k 0)).from i })
 
-all_behind : {A : Type 0} (P : A → Type 0) (xs ys : List A) → All P (xs ++ ys) → All P ys
-all_behind P [] ys h = h
-all_behind P (x ∷ xs) ys h = all_behind P xs ys (All-tail P x (xs ++ ys) h)
-
 -- a point of the rows that are met is one of the guards
-point_of_guards : (v : ℕ) (cases : List LinearCase) (known : List Piece) (set : List ℕ) (k : ℕ) (xs : List ℤ) (z : ℤ) → IsWayPoint v (way_at cases known set k) xs z → IsWayPoint v (way_at cases [] set k) xs z
-point_of_guards v cases known set k xs z h = record {
+point_of_guards : (v : ℕ) (about : CaseSystem) (known : List Piece) (set : List ℕ) (k : ℕ) (xs : List ℤ) (z : ℤ) → IsWayPoint v (way_at about.cases known set k) xs z → IsCasePoint v (case_in about set k) xs z
+point_of_guards v about known set k xs z h = record {
   width = h.width;
   meets = record {
     positive = h.meets.positive;
-    met = all_behind (λ r. scaled_value r xs z ≤ℤ pos 0) (way_at cases known set k).known (case_at cases (get_or set k 0)).guards h.meets.met;
+    met = all_right (λ r. scaled_value r xs z ≤ℤ pos 0) (way_at about.cases known set k).known (case_in about set k).guards h.meets.met;
   };
 }
 
 -- what ranks cases ranks them under known rows
-ranks_known : (v many : ℕ) (cases : List LinearCase) (known : List Piece) (set : List ℕ) (falling : ℕ) (terms : List Linear) → Ranks v many (way_at cases [] set) falling terms → Ranks v many (way_at cases known set) falling terms
-ranks_known v many cases known set falling terms h = record {
-  grows_nowhere = λ k l xs z p. h.grows_nowhere k l xs z (point_of_guards v cases known set k xs z p);
-  bounded = λ xs z p. h.bounded xs z (point_of_guards v cases known set falling xs z p);
-  falls = λ xs z p. h.falls xs z (point_of_guards v cases known set falling xs z p);
+ranks_known : (v many : ℕ) (about : CaseSystem) (known : List Piece) (set : List ℕ) (falling : ℕ) (terms : List Linear) → RanksCases v many (case_in about set) falling terms → Ranks v many (way_at about.cases known set) falling terms
+ranks_known v many about known set falling terms h = record {
+  grows_nowhere = λ k l xs z p. h.grows_nowhere k l xs z (point_of_guards v about known set k xs z p);
+  bounded = λ xs z p. h.bounded xs z (point_of_guards v about known set falling xs z p);
+  falls = λ xs z p. h.falls xs z (point_of_guards v about known set falling xs z p);
 }
 
 -- where the cases have a ranking, nothing is stuck
@@ -58,5 +55,5 @@ pub never_left : (about : CaseSystem) (known : List Piece) (set : List ℕ) (g :
 never_left about known set (greedy.Emptied rounds) inside ranking h = tt
 never_left about known set (greedy.Left left barriers) inside ranking (rounds, lead, nonempty, points, bars) =
     let r = ranking left.items nonempty (inside_left about known set rounds left.items lead inside)
-    (λ k l. let (xs, z, p) = points k l in (xs, z, point_of_guards about.variables about.cases known left.items k xs z p)) in
-    absurd (bars.excluded r.0 r.1 r.2 r.3 (ranks_known about.variables (length left.items) about.cases known left.items r.0 r.2 r.4))
+    (λ k l. let (xs, z, p) = points k l in (xs, z, point_of_guards about.variables about known left.items k xs z p)) in
+    absurd (bars.excluded r.0 r.1 r.2 r.3 (ranks_known about.variables (length left.items) about known left.items r.0 r.2 r.4))

@@ -10,7 +10,7 @@ use Rattle.std.specs.Global.{Global}
 use Rattle.tv_rank.specs.Given.{lists}
 use Rattle.tv_lexrank.specs.declared.greedy.Greedy.TheVariants as greedy
 use Rattle.tv_lexrank.specs.Greedy.{IsGreedy, RefusesGreedy}
-use Rattle.tv_lexrank.specs.Ranking.{AreInside}
+use Rattle.tv_known.specs.Ranking.{AreInside}
 use Rattle.tv_lexrank.specs.Sorting.{Ascends, AreSorted, RefusesSorting}
 use Rattle.tv_lexrank.specs.Parts.{AreGrouped, IsStuck, RefusesPart}
 use Rattle.tv_lexrank.proofs.Removing.{ascends_left}

@@ -1,8 +1,8 @@
 -- Rows that are known in different ways and have the same numbers.
 use Rattle.std.proofs.Common.{◌≡◌, ℕ, suc, ◌<◌, List, [], ◌∷◌, ◌++◌, length, map, Option, None, Some, refl, sym, ap, ◌∙◌, subst, ℤ, pos, neg_ℤ, ◌+ℤ◌, ◌-ℤ◌, ◌*ℤ◌, ◌<ℤ◌}
-use Rattle.tv_linear.specs.Linear.{Linear, dot}
+use Rattle.tv_linear.specs.Linear.{dot}
 use Rattle.tv_linear.specs.Fits.{IsHeld}
-use Rattle.tv_linear.specs.Known.{Known, given, denied, known_number, as_given, KnownHeld}
+use Rattle.tv_linear.specs.Known.{Known, given, denied, known_number, KnownHeld}
 use Rattle.tv_linear.specs.Refutation.{RowsHeld, Refutes}
 use Rattle.tv_linear.specs.Covers.{Shown, ShownAt, IsMetCover}
 use Rattle.tv_linear.specs.declared.cover.CoverTree.{CoverTree, Split', Empty, Into}
@@ -43,10 +43,6 @@ same_append n (k ∷ ks) (q ∷ qs) js ps h g = (h.0, same_append n ks qs js ps 
 
 pub same_push : (n : ℕ) (ks qs : List Known) (k q : Known) → AreSame n ks qs → SameNumbers n k q → AreSame n (ks ++ k ∷ []) (qs ++ q ∷ [])
 same_push n ks qs k q h g = same_append n ks qs (k ∷ []) (q ∷ []) h (g, tt)
-
-pub given_append : (xs ys : List Linear) → as_given (xs ++ ys) ≡ as_given xs ++ as_given ys
-given_append [] ys = refl
-given_append (x ∷ xs) ys = ap (λ ks. given x ∷ ks) (given_append xs ys)
 
 -- ---- refutations
 same_length : (n : ℕ) (ks qs : List Known) → AreSame n ks qs → length qs ≡ length ks

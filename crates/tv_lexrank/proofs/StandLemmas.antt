@@ -10,9 +10,9 @@ use Rattle.tv_cert.specs.declared.node.Proof.TheVariants.{Covered, Chosen}
 use Rattle.tv_places.specs.Places.{places_of}
 use Rattle.tv_places.proofs.PlaceLemmas.{place_told, places_counted}
 use Rattle.tv_rank.specs.Ways.{case_at, no_case}
+use Rattle.tv_cert.proofs.PieceLemmas.{true_test}
 use Rattle.tv_lexrank.specs.declared.ranking.Ranking.{Ranking}
 use Rattle.tv_lexrank.specs.Offered.{IsStepProof, IsOffered, IsOfferedAt, step_owed, AreStepsShown, AreShownBelow}
-use Rattle.tv_lexrank.proofs.Chained.{same_of}
 use Rattle.tv_lexrank.proofs.OfferLemmas.{step_offered}
 
 pub kept_holds : {A : Type 0} (p : A → Bool) (xs : List A) (k : ℕ) (y : A) → slice_get (filter p xs) k ≡ Some y → p y ≡ true
@@ -42,7 +42,7 @@ leaving_at cases l k number h =
     record {
       within = slice_get_within cases number (get_or (leaving l cases) k no_case) stands;
       case = found;
-      leaves = same_of (case_at cases number).from l (kept_holds (λ c. from_of c == l) cases k (case_at cases number) found);
+      leaves = true_test (case_at cases number).from l (kept_holds (λ c. from_of c == l) cases k (case_at cases number) found);
     }
 
 pub take_more : {A : Type 0} (xs : List A) (k : ℕ) (x : A) → slice_get xs k ≡ Some x → take (k + 1) xs ≡ take k xs ++ x ∷ []

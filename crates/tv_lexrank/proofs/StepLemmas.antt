@@ -11,6 +11,7 @@ use Rattle.tv_linear.specs.declared.region.Piece.{Piece}
 use Rattle.tv_cases.specs.LinearCases.{CaseSystem}
 use Rattle.tv_rank.specs.Given.{lists}
 use Rattle.tv_rank.specs.Ways.{Way, way_of, met_rows, case_at}
+use Rattle.tv_cert.proofs.PieceLemmas.{true_test}
 use Rattle.tv_lexrank.specs.declared.round.Round.{Round}
 use Rattle.tv_lexrank.specs.Known.{way_rows}
 use Rattle.tv_lexrank.specs.Rounds.{Chain, end, next, place_in, falls_in, lines_of, terms_at, ranks_at}
@@ -26,7 +27,7 @@ use Rattle.tv_lexrank.specs.declared.falling.Fall.{Fall}
 use Rattle.tv_lexrank.specs.Closing.{owed_plain, changed, Leads}
 use Rattle.tv_lexrank.specs.Falling.{HasFall}
 use Rattle.tv_lexrank.specs.Steps.{owed_fall, owed_step, IsStepCover, IsRefutation}
-use Rattle.tv_lexrank.proofs.Chained.{chain_shown, shown_more, found_at, same_of}
+use Rattle.tv_lexrank.proofs.Chained.{chain_shown, shown_more, found_at}
 use Rattle.tv_lexrank.proofs.ZeroLines.{zero_line, change_shown, constant_shown}
 
 -- a case that the rounds take out falls at its round
@@ -96,7 +97,7 @@ stands_if [] k h = absurd (omega (arith, h))
 stands_if (x ∷ xs) k h = by_test (x == k) refl h (λ l. stands_if xs k l)
   where
     by_test : (b : Bool) → (x == k) ≡ b → (if b then 0 else suc (place_in xs k)) < suc (length xs) → (place_in xs k < length xs → StandsIn xs k) → StandsIn (x ∷ xs) k
-    by_test true t l rest = (0, omega arith, same_of x k t)
+    by_test true t l rest = (0, omega arith, true_test x k t)
     by_test false t l rest = (let s = rest (omega (arith, l)) in (suc s.0, (let a = s.1 in let q : suc s.0 < suc (length xs) = omega (arith, a) in q), s.2))
 
 -- a case inside that does not stand in the set stands among those that are never taken, at its first place

@@ -1,6 +1,5 @@
 use Rattle.std.proofs.Common.{◌≡◌, ℕ, zero, suc, ◌+◌, ◌^◌, ◌<◌, ◌≤◌, List, [], ◌∷◌, ◌++◌, length, length-append, map, All, Option, None, Some, arith, refl, sym, ap, ◌∙◌, subst, ℤ, pos, neg_ℤ, ◌+ℤ◌, ◌-ℤ◌, ◌*ℤ◌, ◌≤ℤ◌, unsigned_abs}
 use Rattle.std.proofs.lemmas.Int.{ints}
-use Rattle.std.proofs.lemmas.List.{length-map}
 use Rattle.std.proofs.lemmas.List.Elements.{All-nil, All-cons}
 use Rattle.tv_linear.proofs.PlainLists.{length-zeros, get_or-zeros}
 use Rattle.tv_linear.specs.Arithmetic.{zeros, constant_row}
@@ -11,6 +10,8 @@ use Rattle.tv_linear.specs.Known.{Term, Known, given, denied, composed, less, nu
 use Rattle.tv_linear.specs.Refutation.{RowsHeld, Refutes}
 use Rattle.tv_rank.specs.Ways.{Way, met_rows}
 use Rattle.tv_rank.specs.Rankings.{IsShownBy}
+use Rattle.tv_farkas.proofs.SideLemmas.{as_given-append}
+use Rattle.tv_rank.proofs.ShownRows.{length-given}
 
 -- multipliers 0, and 1 for the denial of the row
 abbrev pub zero_line : ℕ → List ℤ
@@ -31,16 +32,9 @@ none_negative : (n : ℕ) → All (λ m. pos 0 ≤ℤ m) (zero_line n)
 none_negative zero = All-cons (λ m. pos 0 ≤ℤ m) (pos 1) [] (omega (arith, ints)) (All-nil (λ m. pos 0 ≤ℤ m))
 none_negative (suc n) = All-cons (λ m. pos 0 ≤ℤ m) (pos 0) (zero_line n) (omega (arith, ints)) (none_negative n)
 
-given-append : (xs ys : List Linear) → as_given xs ++ as_given ys ≡ as_given (xs ++ ys)
-given-append [] ys = refl
-given-append (x ∷ xs) ys = ap (λ zs. given x ∷ zs) (given-append xs ys)
-
-length-given : (rows : List Linear) → length (as_given rows) ≡ length rows
-length-given rows = length-map rows (λ r. given r)
-
 -- a row that is a number of at most 0 is shown by its denial alone
 pub number_shown : (v : ℕ) (w : Way) (row : Known) → ((j : ℕ) → known_number row (Some j) ≡ pos 0) → known_number row None ≤ℤ pos 0 → unsigned_abs (known_number row None) < 2 ^ 100 → ((c : Option ℕ) → KnownHeld row c) → IsShownBy v w row (zero_line (length (met_rows w)))
-number_shown v w row zero_columns constant small held = subst (λ zs. Refutes (v + w.taken.draws) (zs ++ denied row ∷ []) (zero_line (length (met_rows w)))) (sym (given-append w.known w.taken.guards)) (subst (λ n. Refutes (v + w.taken.draws) (as_given (met_rows w) ++ denied row ∷ []) (zero_line n)) (length-given (met_rows w)) (record {
+number_shown v w row zero_columns constant small held = subst (λ zs. Refutes (v + w.taken.draws) (zs ++ denied row ∷ []) (zero_line (length (met_rows w)))) (as_given-append w.known w.taken.guards) (subst (λ n. Refutes (v + w.taken.draws) (as_given (met_rows w) ++ denied row ∷ []) (zero_line n)) (length-given (met_rows w)) (record {
   as_many = length-append (zeros (length (as_given (met_rows w)))) (pos 1 ∷ []) ∙ (let a = length-zeros (length (as_given (met_rows w))) in let b = length-append (as_given (met_rows w)) (denied row ∷ []) in omega (arith, a, b));
   none_negative = none_negative (length (as_given (met_rows w)));
   columns = λ j l. zero_sum (Some j) (denied row) (as_given (met_rows w)) ∙ (let e = zero_columns j in omega (arith, ints, e));

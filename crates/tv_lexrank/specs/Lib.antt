@@ -1,7 +1,6 @@
 pub mod Known
 pub mod Inside
 pub mod Greedy
-pub mod Ranking
 pub mod Rounds
 pub mod Covering
 pub mod Sorting

@@ -14,7 +14,7 @@ use Rattle.tv_lexrank.specs.declared.part.Part.{Part}
 use Rattle.tv_lexrank.specs.declared.part.Parted.{Parted}
 use Rattle.tv_lexrank.specs.declared.part.Parted.TheVariants.{Done, Stuck}
 use Rattle.tv_lexrank.specs.Greedy.{AreBarriers, IsNamed}
-use Rattle.tv_lexrank.specs.Ranking.{AreTogether}
+use Rattle.tv_known.specs.Cycles.{AreTogether}
 use Rattle.tv_lexrank.specs.Rounds.{Chain}
 use Rattle.tv_lexrank.specs.Sorting.{Ascends, IsSorted, NamesInside, AreSorted}
 

@@ -3,7 +3,7 @@
 ghost use Rattle.std.specs.Prelude.{◌≡◌, length, All, IfOk};
 ghost use Rattle.std.specs.Result.{IfErr};
 ghost use Rattle.tv_cases.specs.Systems.{cases_of};
-ghost use Rattle.tv_lexrank.specs.Ranking.{HasLexicographicRanking};
+ghost use Rattle.tv_known.specs.Ranking.{HasLexicographicRanking};
 ghost use Rattle.tv_linear.specs.Linear.{columns as width};
 ghost use Rattle.tv_lexrank.specs.Known.{AreBare, AreKnown, piece_rows};
 ghost use Rattle.tv_lexrank.specs.Parts.{AreGrouped};

@@ -4,7 +4,7 @@ ghost use Rattle.std.specs.Prelude.{◌≡◌, ◌<◌, ◌≤◌, length, map, 
 ghost use Rattle.std.specs.Result.{IfErr};
 ghost use Rattle.tv_cases.specs.Systems.{cases_of};
 ghost use Rattle.tv_cases.specs.Views.{case_views};
-ghost use Rattle.tv_lexrank.specs.Ranking.{HasLexicographicRanking};
+ghost use Rattle.tv_known.specs.Ranking.{HasLexicographicRanking};
 ghost use Rattle.tv_lexrank.specs.Known.{AreKnown};
 ghost use Rattle.tv_lexrank.specs.Attempt.{AreBelow, PartsFrom};
 ghost use Rattle.tv_lexrank.specs.Closing.{RefusesClosed};

@@ -3,7 +3,7 @@
 ghost use Rattle.std.specs.Prelude.{IfOk};
 ghost use Rattle.std.specs.Result.{IfErr};
 ghost use Rattle.tv_cases.specs.Systems.{cases_of};
-ghost use Rattle.tv_lexrank.specs.Ranking.{HasLexicographicRanking};
+ghost use Rattle.tv_known.specs.Ranking.{HasLexicographicRanking};
 ghost use Rattle.tv_lexrank.specs.Parts.{IsPartedIn, IsDone, AreGrouped, RefusesPartIn};
 
 use crate::component::Component;

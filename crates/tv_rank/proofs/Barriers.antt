@@ -5,7 +5,7 @@ use Rattle.tv_linear.specs.Linear.{linear}
 use Rattle.tv_linear.specs.Known.{number}
 use Rattle.tv_simplex.specs.Sums.{total}
 use Rattle.tv_simplex.proofs.Sums.{total-same, total-less, total-times, total-zero, total-swap}
-use Rattle.tv_simplex.proofs.Ring.{times_less, less_times}
+use Rattle.tv_simplex.proofs.Ring.{times_less, less_times, times_zero}
 use Rattle.tv_rank.specs.declared.unknown.Identity.{Identity}
 use Rattle.tv_rank.specs.declared.unknown.Identity.TheVariants.{Step, Bound}
 use Rattle.tv_rank.specs.declared.unknown.Unknown.{Unknown}
@@ -210,9 +210,6 @@ module _ (v locations many : ℕ) (ways : ℕ → Way) (falling : ℕ) (falling_
         let end = picked locations (ways falling).taken.from (λ l. over v (λ m. f l m *ℤ there_before v (ways falling) q m)) (from_in falling falling_in) in
         omega (arith, ints, zero_sum, spread, apart, turn, each, end)
       where
-        times_zero : (a b : ℤ) → b ≡ pos 0 → a *ℤ b ≡ pos 0
-        times_zero a b e = ap (λ z. a *ℤ z) e ∙ omega (arith, ints)
-
         grown : ℕ → ℕ → ℤ
         grown l k = if (ways k).taken.to == l then over v (λ m. f l m *ℤ there_after v (ways k) (p k) m) else pos 0
 

@@ -28,7 +28,7 @@ use Rattle.tv_rank.proofs.Points.{map-table}
 use Rattle.tv_rank.proofs.Locals.{local-read, all-read}
 use Rattle.tv_rank.proofs.Lengths.{length-differences, steps-more, steps-within}
 use Rattle.tv_rank.proofs.Flattened.{entry_of}
-use Rattle.tv_rank.proofs.Solved.{get-differences, of_term_number, rows_sum, slack_of, step_start, step_sum, bound_sum, step_row, bound_row_is}
+use Rattle.tv_rank.proofs.Solved.{get-differences, of_term_number, rows_sum, slack_of, step_start, step_sum, bound_sum, step_row, bound_row_is, past_end}
 use Rattle.tv_rank.proofs.ShownRows.{places_held, shown}
 
 last_or_below : (n j : ℕ) → j < suc n → (j ≡ n) ⊎ (j < n)
@@ -36,11 +36,6 @@ last_or_below n j h = grind arith
 
 below_or_past : (l n : ℕ) → (l < n) ⊎ (n ≤ l)
 below_or_past l n = grind arith
-
-past_end : {A : Type 0} (cs : List A) (j : ℕ) (d : A) → length cs ≤ j → get_or cs j d ≡ d
-past_end [] j d h = refl
-past_end (c ∷ cs) zero d h = absurd (omega (arith, h))
-past_end (c ∷ cs) (suc j) d h = past_end cs j d (omega (arith, h))
 
 -- ---- what is read stands at its place
 length-lines : (ways : ℕ → Way) (xs : List ℤ) (s n : ℕ) → length (lines_read ways xs s n) ≡ n

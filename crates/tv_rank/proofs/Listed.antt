@@ -109,7 +109,7 @@ weighted-append g (u ∷ us) vs xs p q e = (let h = weighted-append g us vs xs (
 pub weighted-last : {A : Type 0} (g : A → ℤ) (us : List A) (u : A) (xs : List ℤ) (p q : ℕ) → q ≡ p + length us → weighted g (us ++ u ∷ []) xs p ≡ weighted g us xs p +ℤ g u *ℤ get_or xs q (pos 0)
 weighted-last g us u xs p q e = (let h = weighted-append g us (u ∷ []) xs p q e in omega (arith, ints, h))
 
-total-front : (n : ℕ) (f : ℕ → ℤ) → total (suc n) f ≡ f 0 +ℤ total n (λ k. f (suc k))
+pub total-front : (n : ℕ) (f : ℕ → ℤ) → total (suc n) f ≡ f 0 +ℤ total n (λ k. f (suc k))
 total-front zero f = omega (arith, ints)
 total-front (suc n) f = (let h = total-front n f in omega (arith, ints, h))
 
@@ -124,19 +124,16 @@ weighted-total g (u ∷ us) xs p =
     omega (arith, ints, f, h, s, y)
 
 -- ---- the entries, row by row
+more : (k n : ℕ) → suc k * n ≡ n + k * n
+more k n = grind arith
+
 pub flat_at : {A : Type 0} (f : A → List ℤ) (n : ℕ) (ls : List A) (d : A) → ((a : A) → length (f a) ≡ n) → (k j : ℕ) → k < length ls → j < n → get_or (flat_map f ls) (k * n + j) (pos 0) ≡ get_or (f (get_or ls k d)) j (pos 0)
 flat_at f n [] d s k j l g = absurd (omega (arith, l))
 flat_at f n (a ∷ ls) d s zero j l g = ap (λ z. get_or (f a ++ flat_map f ls) z (pos 0)) (let e : 0 * n + j ≡ j = omega arith in e) ∙ get_or-left (f a) (flat_map f ls) j (pos 0) (let e = s a in omega (arith, e, g))
 flat_at f n (a ∷ ls) d s (suc k) j l g =
     get_or-right (f a) (flat_map f ls) (suc k * n + j) (k * n + j) (pos 0) (let e = s a in let m = more k n in omega (arith, e, m))
     ∙ flat_at f n ls d s k j (omega (arith, l)) g
-  where
-    more : (k n : ℕ) → suc k * n ≡ n + k * n
-    more k n = grind arith
 
 pub length-flat : {A : Type 0} (f : A → List ℤ) (n : ℕ) (ls : List A) → ((a : A) → length (f a) ≡ n) → length (flat_map f ls) ≡ length ls * n
 length-flat f n [] s = omega arith
 length-flat f n (a ∷ ls) s = length-append (f a) (flat_map f ls) ∙ (let e = s a in let h = length-flat f n ls s in let m = more (length ls) n in omega (arith, e, h, m))
-  where
-    more : (k n : ℕ) → suc k * n ≡ n + k * n
-    more k n = grind arith

@@ -8,16 +8,13 @@ use Rattle.tv_refute.proofs.Places.{length-table, get_or-table}
 use Rattle.tv_farkas.proofs.SystemLemmas.{all_of, at_of}
 use Rattle.tv_simplex.specs.Sums.{total}
 use Rattle.tv_simplex.proofs.Sums.{total-same, total-zero}
+use Rattle.tv_rank.proofs.Listed.{total-front}
 use Rattle.tv_rank.specs.Ways.{Way, met_rows}
 use Rattle.tv_rank.specs.RankingSystem.{number_of}
 use Rattle.tv_rank.specs.Rankings.{term_at, scaled_term, value_before, value_after, IsWayPoint, HasPoint, Ranks}
 use Rattle.tv_rank.proofs.Over.{over, Inside, over-same, unit_times}
 use Rattle.tv_rank.proofs.Barriers.{value, width, row_of, there_before, there_after, before_at, after_at}
 use Rattle.tv_rank.proofs.Excluded.{IsPoint, RanksAt}
-
-pub total-front : (n : ℕ) (f : ℕ → ℤ) → total (suc n) f ≡ f 0 +ℤ total n (λ k. f (suc k))
-total-front zero f = omega (arith, ints)
-total-front (suc n) f = (let h = total-front n f in omega (arith, ints, h))
 
 -- the products of two lists, as many as the second has
 pub dot-by : (cs xs : List ℤ) → dot cs xs ≡ total (length xs) (λ c. get_or cs c (pos 0) *ℤ get_or xs c (pos 0))

@@ -12,6 +12,7 @@ use Rattle.tv_farkas.proofs.SystemLemmas.{all_of, dot-total}
 use Rattle.tv_simplex.specs.Sums.{total}
 use Rattle.tv_simplex.specs.Outcomes.{IsShort}
 use Rattle.tv_simplex.proofs.Sums.{total-same}
+use Rattle.tv_farkas.proofs.SideLemmas.{as_given-append}
 use Rattle.tv_rank.specs.Ways.{Way, met_rows}
 use Rattle.tv_rank.specs.Rankings.{IsShownBy}
 use Rattle.tv_rank.specs.Reading.{multipliers_read, line_read}
@@ -26,15 +27,11 @@ dot-last [] (y ∷ rs) m r e = absurd (omega (arith, e))
 dot-last (x ∷ ms) [] m r e = absurd (omega (arith, e))
 dot-last (x ∷ ms) (y ∷ rs) m r e = (let h = dot-last ms rs m r (omega (arith, e)) in omega (arith, ints, h))
 
-given-append : (xs ys : List Linear) → as_given xs ++ as_given ys ≡ as_given (xs ++ ys)
-given-append [] ys = refl
-given-append (x ∷ xs) ys = ap (λ zs. given x ∷ zs) (given-append xs ys)
-
 given-numbers : (c : Option ℕ) (rows : List Linear) → map (λ k. known_number k c) (as_given rows) ≡ map (λ r. number c r) rows
 given-numbers c [] = refl
 given-numbers c (r ∷ rows) = ap (λ zs. number c r ∷ zs) (given-numbers c rows)
 
-length-given : (rows : List Linear) → length (as_given rows) ≡ length rows
+pub length-given : (rows : List Linear) → length (as_given rows) ≡ length rows
 length-given rows = length-map rows (λ r. given r)
 
 pub length-read : (xs : List ℤ) (s n : ℕ) → length (multipliers_read xs s n) ≡ n
@@ -135,7 +132,7 @@ module _ (v : ℕ) (w : Way) (row : Known) (xs : List ℤ) (s : ℕ) where
       → ((c : Option ℕ) → Inside (width v w) c → KnownHeld row c)
       → ((c : Option ℕ) → Inside (width v w) c → unsigned_abs (known_number row c) < 2 ^ 126)
       → IsShownBy v w row (line_read xs s w)
-  shown few short positive narrow columns constant bounded held small = subst (λ zs. Refutes (width v w) (zs ++ denied row ∷ []) (line_read xs s w)) (sym (given-append w.known w.taken.guards)) (record {
+  shown few short positive narrow columns constant bounded held small = subst (λ zs. Refutes (width v w) (zs ++ denied row ∷ []) (line_read xs s w)) (as_given-append w.known w.taken.guards) (record {
     as_many = length-append ms (pos 1 ∷ []) ∙ (let a = length-read xs s n in let b = length-append (as_given (met_rows w)) (denied row ∷ []) in let d = length-given (met_rows w) in omega (arith, a, b, d));
     none_negative = all_of (λ m. pos 0 ≤ℤ m) (line_read xs s w) (pos 0) (λ i l. sign i l);
     columns = λ j l. sum_is (Some j) ∙ (let e = columns j l in omega (arith, ints, e));

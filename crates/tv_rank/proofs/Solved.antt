@@ -2,9 +2,9 @@ use Rattle.std.proofs.Common.{◌≡◌, ◌⊎◌, inl, inr, ℕ, zero, suc, �
 use Rattle.std.proofs.lemmas.Int.{ints}
 use Rattle.std.specs.List.{AllByRecursion}
 use Rattle.std.proofs.Math.IntN.{*ℤ_comm}
-use Rattle.tv_linear.proofs.PlainLists.{get_or-zeros}
+use Rattle.tv_linear.proofs.PlainLists.{get_or-zeros, length-zeros}
 use Rattle.tv_linear.proofs.Ring.{neg_times_z}
-use Rattle.tv_linear.specs.Arithmetic.{zeros, constant_row}
+use Rattle.tv_linear.specs.Arithmetic.{constant_row}
 use Rattle.tv_linear.specs.Linear.{Linear, columns}
 use Rattle.tv_linear.specs.Known.{Term, kept, put, number, given, composed, known_number, term_number, place_sum}
 use Rattle.tv_linear.specs.Terms.{table, update_of, terms_after}
@@ -23,9 +23,9 @@ use Rattle.tv_rank.specs.Ways.{Way, met_rows, touches}
 use Rattle.tv_rank.specs.RankingSystem.{unit_at, number_of, after, entered, left, term_entry, entry, right_of, pairs_below, term_unknowns, terms_below, multipliers_below, identity_unknowns, steps_below, unknowns, lines, step_lines, identity_lines, ranking_system}
 use Rattle.tv_rank.specs.Reading.{difference, differences, term_read, read_at}
 use Rattle.tv_rank.proofs.Over.{over, Inside, over-same, over-less, over-zero, if_true, if_false, equal, unequal, picked}
-use Rattle.tv_rank.proofs.Listed.{all_first, all_second, all_by_place, of_lines, of_step_lines, weighted, weighted-append, weighted-last, weighted-total}
+use Rattle.tv_rank.proofs.Listed.{all_first, all_second, all_by_place, of_lines, of_step_lines, weighted, weighted-append, weighted-last, weighted-total, total-front}
 use Rattle.tv_rank.proofs.Barriers.{line, row_of, width, over_put, over_opposite, picked_turned}
-use Rattle.tv_rank.proofs.Points.{map-table, total-front}
+use Rattle.tv_rank.proofs.Points.{map-table}
 use Rattle.tv_rank.proofs.Lengths.{length-pairs, length-multipliers, length-differences}
 use Rattle.tv_rank.proofs.Flattened.{entry_of}
 
@@ -88,10 +88,10 @@ terms-sum g x positive negative xs ways many v (suc l) =
     by_touch false s = sym (over-zero v (λ m. x l m *ℤ number m (constant_row v (pos 0))) (λ m k. ap (λ z. x l m *ℤ z) (constant-numbers v m) ∙ omega (arith, ints)))
 
 -- ---- the number of a term in a column
-past_end : (cs : List ℤ) (j : ℕ) → length cs ≤ j → get_or cs j (pos 0) ≡ pos 0
-past_end [] j h = refl
-past_end (c ∷ cs) zero h = absurd (omega (arith, h))
-past_end (c ∷ cs) (suc j) h = past_end cs j (omega (arith, h))
+pub past_end : {A : Type 0} (cs : List A) (j : ℕ) (d : A) → length cs ≤ j → get_or cs j d ≡ d
+past_end [] j d h = refl
+past_end (c ∷ cs) zero d h = absurd (omega (arith, h))
+past_end (c ∷ cs) (suc j) d h = past_end cs j d (omega (arith, h))
 
 pub unit-number : (v : ℕ) (c : Option ℕ) (f : Linear) → columns f ≡ v → over v (λ m. unit_at m c *ℤ number m f) ≡ number c f
 unit-number v None f e = (let z = total-zero v (λ m. pos 0 *ℤ number (Some m) f) (λ m l. omega (arith, ints)) in omega (arith, ints, z))
@@ -102,7 +102,7 @@ unit-number v (Some j) f e = elim (below_or_past j v) [
       omega (arith, ints, a, b))
   | inr p ↦ (
       let a = total-zero v (λ m. unit_at (Some m) (Some j) *ℤ number (Some m) f) (λ m k. one (m == j) (number (Some m) f) ∙ if_false (m == j) (number (Some m) f) (pos 0) (unequal m j (λ q. omega (arith, q, k, p)))) in
-      let b = past_end f.coefficients j (omega (arith, e, p)) in
+      let b = past_end f.coefficients j (pos 0) (omega (arith, e, p)) in
       omega (arith, ints, a, b))
 ]
   where
@@ -204,13 +204,9 @@ module _ (v locations many : ℕ) (ways : ℕ → Way) (falling : ℕ) (falling_
   pub term_width : (l : ℕ) → columns (term l) ≡ v
   term_width l = by_touch (touches ways many l) (length (terms_below ways many v l))
     where
-      zeros_length : (v : ℕ) → length (zeros v) ≡ v
-      zeros_length zero = refl
-      zeros_length (suc v) = ap suc (zeros_length v)
-
       by_touch : (b : Bool) (s : ℕ) → columns (if b then term_read v xs s else constant_row v (pos 0)) ≡ v
       by_touch true s = length-differences xs s v
-      by_touch false s = zeros_length v
+      by_touch false s = length-zeros v
 
   apart : (g : Unknown → ℤ) → weighted g (unknowns ways many falling v locations) xs 0 ≡ weighted g (terms_below ways many v locations) xs 0 +ℤ weighted g (steps_below ways many) xs base +ℤ weighted g (identity_unknowns Bound (ways falling)) xs (step_start many)
   apart g =

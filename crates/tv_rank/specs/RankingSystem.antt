@@ -107,8 +107,12 @@ abbrev pub columns_below : Identity → ℕ → List Line
 columns_below id zero = []
 columns_below id (suc j) = columns_below id j ++ record { identity = id; column = Some j } ∷ []
 
+-- and then that of the constant
+abbrev pub lines_over : Identity → ℕ → List Line
+lines_over id n = columns_below id n ++ record { identity = id; column = None } ∷ []
+
 abbrev pub identity_lines : ℕ → Identity → Way → List Line
-identity_lines v id w = columns_below id (v + w.taken.draws) ++ record { identity = id; column = None } ∷ []
+identity_lines v id w = lines_over id (v + w.taken.draws)
 
 abbrev pub step_lines : (ℕ → Way) → ℕ → ℕ → List Line
 step_lines ways v zero = []

@@ -1,10 +1,10 @@
 // The unknowns and the rows of a ranking system, in their order.
 
 ghost use Rattle.std.specs.Prelude.{◌≡◌, ◌++◌, ◌∷◌, [], length, IfOk, None, Some};
-ghost use Rattle.tv_rank.specs.Questions.{ways_of, many_of};
+ghost use Rattle.tv_rank.specs.Questions.{ways_of, many_of, unknowns_of};
 ghost use Rattle.tv_rank.specs.Ways.{touches as spec_touches};
 ghost use Rattle.tv_rank.specs.declared.unknown.Unknown.TheVariants.{Positive, Negative, Slack};
-ghost use Rattle.tv_rank.specs.RankingSystem.{pairs_below, term_unknowns, terms_below, multipliers_below, identity_unknowns, steps_below, unknowns as spec_unknowns, columns_below, identity_lines, step_lines, lines as spec_lines};
+ghost use Rattle.tv_rank.specs.RankingSystem.{pairs_below, term_unknowns, terms_below, multipliers_below, identity_unknowns, steps_below, lines_over, identity_lines, step_lines, lines as spec_lines};
 
 use crate::question::Question;
 use crate::span::span_of;
@@ -78,7 +78,7 @@ fn push_identity(
 
 /// The unknowns in their order.
 pub fn unknown_list(alloc: Global, asked: &Question) -> Result<Vec<Unknown>, AllocError>
-    ensures { IfOk result (λ v. v.items ≡ spec_unknowns (ways_of asked.now) (many_of asked.now) asked.now.falling asked.now.variables asked.now.locations) }
+    ensures { IfOk result (λ v. v.items ≡ unknowns_of asked.now) }
 {
     let mut items = term_list(alloc, asked)?;
     'places: for place in 0..asked.set.len() {
@@ -90,7 +90,7 @@ pub fn unknown_list(alloc: Global, asked: &Question) -> Result<Vec<Unknown>, All
 
 /// Puts the rows of an identity over so many columns at the end of the list.
 fn push_lines(items: &mut Vec<Line>, identity: Identity, columns: usize) -> Result<(), AllocError>
-    ensures { IfOk result (λ _. items.new.items ≡ items.old.items ++ (columns_below identity columns ++ record { identity = identity; column = None } ∷ [])) }
+    ensures { IfOk result (λ _. items.new.items ≡ items.old.items ++ lines_over identity columns) }
 {
     'columns: for column in 0..columns {
         push_item(

@@ -139,7 +139,8 @@ fn push_line(
     requires step { step < many_of asked.now }
     requires inside { place + (length (met_rows (ways_of asked.now step)) + 1) ≤ length values.now }
     requires parts { AreParts values.now }
-    ensures pushed { IfOk result (λ _. lists lines.new.items ≡ lists lines.old.items ++ line_read values.now place (ways_of asked.now step) ∷ []) }
+    ensures pushed { let line = line_read values.now place (ways_of asked.now step) in
+        IfOk result (λ _. lists lines.new.items ≡ lists lines.old.items ++ line ∷ []) }
     ensures behind { IfOk result (λ r. r ≡ place + (length (met_rows (ways_of asked.now step)) + 1)) }
 {
     let count = asked.met_count(step);
@@ -154,7 +155,9 @@ pub fn read_lines(
     values: &[i128],
     start: usize,
 ) -> Result<Vec<Vec<i64>>, AllocError>
-    requires inside { start + length (steps_below (ways_of asked.now) (many_of asked.now)) + (length (met_rows (ways_of asked.now asked.now.falling)) + 1) ≤ length values.now }
+    requires inside { let steps = steps_below (ways_of asked.now) (many_of asked.now) in
+        let bound = met_rows (ways_of asked.now asked.now.falling) in
+        start + length steps + (length bound + 1) ≤ length values.now }
     requires parts { AreParts values.now }
     ensures { IfOk result (λ v. lists v.items ≡ all_read (ways_of asked.now) (many_of asked.now) asked.now.falling values.now start) }
 {

@@ -20,7 +20,8 @@ fn push_row(
     line: Line,
 ) -> Result<(), AllocError>
     requires { IsPlaced (many_of asked.now) line.identity }
-    ensures { IfOk result (λ _. numbers.new.items ≡ numbers.old.items ++ map (spec_entry (ways_of asked.now) asked.now.falling line) unknowns.now) }
+    ensures { let row = map (spec_entry (ways_of asked.now) asked.now.falling line) unknowns.now in
+        IfOk result (λ _. numbers.new.items ≡ numbers.old.items ++ row) }
 {
     'unknowns: for unknown in unknowns {
         push_item(numbers, entry(asked, line, *unknown))?;
