@@ -51,7 +51,7 @@ fn is_unsettled(wanted: &Wanted, system: &Name, fault: &SolveFault) -> bool {
 
 fn is_wanted(wanted: &Wanted, found: &Result<Ranked, RankFault>) -> bool {
     match (wanted, found) {
-        (Wanted::Node(pieces, ranks, proofs), Ok(Ranked::Node(node))) => {
+        (Wanted::Node(pieces, ranks, proofs), Ok(Ranked::Node { node, .. })) => {
             is_node(node, *pieces, *ranks, *proofs)
         }
         (Wanted::Stuck(cases), Ok(Ranked::Stuck { set, barriers })) => {

@@ -39,7 +39,7 @@ fn node_of(alloc: Global, about: &Cases) -> Result<Node, Fail>
     ensures { IfOk result (λ node. IsRankedNode (cases_of about.now) node) }
 {
     match first_attempt(alloc, about, 10000) {
-        Ok(Ranked::Node(node)) => Ok(node),
+        Ok(Ranked::Node { node, .. }) => Ok(node),
         _ => Err(Fail::from("no node")),
     }
 }

@@ -72,7 +72,7 @@ fn is_open(taken: u32, values: &[i128], case: u32, bound: i128) -> bool {
 
 fn is_wanted(wanted: &Wanted, found: &Result<Ranked, RankFault>) -> bool {
     match (wanted, found) {
-        (Wanted::Node(pieces, ranks, proofs), Ok(Ranked::Node(node))) => {
+        (Wanted::Node(pieces, ranks, proofs), Ok(Ranked::Node { node, .. })) => {
             is_node(node, *pieces, *ranks, *proofs)
         }
         (Wanted::Stuck(cases), Ok(Ranked::Stuck { set, barriers })) => {

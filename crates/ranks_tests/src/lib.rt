@@ -9,3 +9,5 @@ mod certificates;
 mod known;
 #[cfg(test)]
 mod programs;
+#[cfg(test)]
+mod shown;

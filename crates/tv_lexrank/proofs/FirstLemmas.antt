@@ -1,4 +1,4 @@
-use Rattle.std.proofs.Common.{◌≡◌, ◌∙◌, ℕ, ◌<◌, ◌≤◌, List, [], length, map, get_or, All, sym, ap, subst, arith, ℤ}
+use Rattle.std.proofs.Common.{◌≡◌, ◌∙◌, ℕ, ◌<◌, ◌≤◌, List, [], ◌∷◌, length, map, get_or, All, sym, ap, subst, arith, ℤ}
 use Rattle.std.specs.Prelude.{◌↔◌, slice_index, Contains}
 use Rattle.std.proofs.lemmas.List.{length-map}
 use Rattle.tv_refute.proofs.Places.{get_or-map}
@@ -16,6 +16,11 @@ use Rattle.tv_lexrank.specs.Known.{AreBare}
 use Rattle.tv_rank.specs.Given.{lists}
 use Rattle.tv_lexrank.specs.Attempt.{NeverRises, RefusesAttempt}
 use Rattle.tv_lexrank.specs.First.{arc_of, AreComponents, IsOutcome, RefusesFirst}
+use Rattle.std.specs.List.{AllZip}
+use Rattle.tv_cert.specs.declared.node.Marked.{Marked}
+use Rattle.tv_cert.specs.Nodes.{pieces_of}
+use Rattle.tv_lexrank.specs.declared.shown.CaseShown.{CaseShown}
+use Rattle.tv_lexrank.specs.Shown.{IsShownBy, ranks_there, IsShownIn}
 use Rattle.tv_lexrank.specs.declared.ranked.Ranked.{Ranked}
 use Rattle.tv_lexrank.specs.declared.ranked.Ranked.TheVariants as ranked
 use Rattle.tv_lexrank.specs.Outcomes.{IsAnswer, Refuses}
@@ -76,11 +81,24 @@ stuck_bare about known set barriers bare h =
 none_among : (known : List Piece) (l : ℕ) (r : Linear) → AreBare known → Contains (rows_at known l) r → ⊥
 none_among known l r bare c = (let e = ap length (bare l) in let q = c.1 in omega (arith, e, q))
 
+-- what shows a case under pieces without rows shows it without known rows
+each_bare : (about : CaseSystem) (known : List Piece) (pieces : List Marked) (cases : List LinearCase) (shown : List CaseShown) → AreBare known → AllZip (IsShownIn about known pieces) cases shown → AllZip (IsShownIn about [] pieces) cases shown
+each_bare about known pieces [] [] bare h = tt
+each_bare about known pieces [] (s ∷ shown) bare h = absurd h
+each_bare about known pieces (c ∷ cases) [] bare h = absurd h
+each_bare about known pieces (c ∷ cases) (s ∷ shown) bare h = (
+  subst (λ rows. IsShownBy about.variables (record { taken = c; known = rows }) (ranks_there pieces c.from) (ranks_there pieces c.to) s) (bare c.from) h.0,
+  each_bare about known pieces cases shown bare h.1,
+)
+
 pub answered_bare : (about : CaseSystem) (known : List Piece) (r : Ranked) → AreBare known → IsAnswer about known r → IsOutcome about r
-answered_bare about known (ranked.Node node) bare h = record {
-  fits = h.fits;
-  met = h.met;
-  pieces = λ l i. let p = h.pieces l i in record { piece = p.piece; first = p.first; has = p.has ∙ bare l };
+answered_bare about known (ranked.Node node shown) bare h = record {
+  ends = record {
+    fits = h.ends.fits;
+    met = h.ends.met;
+    pieces = λ l i. let p = h.ends.pieces l i in record { piece = p.piece; first = p.first; has = p.has ∙ bare l };
+  };
+  each = each_bare about known (pieces_of node) about.cases shown.items bare h.each;
 }
 answered_bare about known (ranked.Stuck set barriers) bare h = stuck_bare about known set.items (lists barriers.items) bare h
 

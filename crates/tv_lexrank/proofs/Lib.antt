@@ -22,5 +22,7 @@ pub mod OfferLemmas
 pub mod RankedLemmas
 pub mod CertifiedLemmas
 pub mod StandLemmas
+pub mod PartShown
+pub mod MoreLemmas
 pub mod PieceLemmas
 pub mod GapLemmas

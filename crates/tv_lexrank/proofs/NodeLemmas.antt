@@ -10,7 +10,7 @@ use Rattle.tv_linear.specs.declared.cover.CoverTree.{CoverTree}
 use Rattle.tv_linear.specs.declared.cover.CoverTree as cover
 use Rattle.tv_rank.specs.Ways.{Way}
 use Rattle.tv_lexrank.specs.Closing.{changed}
-use Rattle.tv_lexrank.specs.Steps.{owed_fall}
+use Rattle.tv_lexrank.specs.Shown.{owed_fall}
 
 rows_padded : (old new more more' : List Known) (j : ℕ) (rows : List Known) → fall_rows_at old new j ≡ Some rows → fall_rows_at (old ++ more) (new ++ more') j ≡ Some rows
 rows_padded [] new more more' j rows h = absurd cc

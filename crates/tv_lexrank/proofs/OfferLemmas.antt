@@ -18,7 +18,8 @@ use Rattle.tv_rank.specs.Ways.{Way, case_at}
 use Rattle.tv_lexrank.specs.declared.ranking.Ranking.{Ranking}
 use Rattle.tv_farkas.specs.Trees.{TreeRows}
 use Rattle.tv_lexrank.specs.Closing.{changed}
-use Rattle.tv_lexrank.specs.Steps.{owed_fall, owed_step, ShowsStep, way_in, ranks_of, rows_known}
+use Rattle.tv_lexrank.specs.Shown.{owed_fall}
+use Rattle.tv_lexrank.specs.Steps.{owed_step, ShowsStep, way_in, ranks_of, rows_known}
 use Rattle.tv_lexrank.specs.Pieces.{zero_ranks, all_ranks, ranked_piece}
 use Rattle.tv_lexrank.specs.Attempt.{rounds_in}
 use Rattle.tv_lexrank.specs.Offered.{IsOffered, ArePieces, step_owed}

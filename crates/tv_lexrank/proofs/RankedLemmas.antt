@@ -15,7 +15,7 @@ use Rattle.tv_cert.specs.declared.node.Marked.{Marked}
 use Rattle.tv_cert.specs.declared.node.Proof.{Proof}
 use Rattle.tv_cert.specs.declared.node.Node.{Node, Node', Row_of-Node, end_of-Node, more_of-Node, items-the_row-Node, outs-Node'}
 use Rattle.tv_cert.specs.Claims.{about_with}
-use Rattle.tv_cert.specs.Nodes.{kid_pieces, entries, kid_entries}
+use Rattle.tv_cert.specs.Nodes.{kid_pieces, pieces_of, entries, kid_entries}
 use Rattle.tv_cert.specs.Obligations.{About, Obligation, AllMet, own_of, piece_of, paired}
 use Rattle.tv_cert.specs.Pieces.{place_of, pieces_at}
 use Rattle.tv_cert.specs.Shapes.{ProofShape, PieceShape, OwnShape, HaveShapes}
@@ -28,12 +28,15 @@ use Rattle.tv_lexrank.specs.declared.round.Round.{Round}
 use Rattle.tv_lexrank.specs.declared.ranking.Ranking.{Ranking}
 use Rattle.tv_lexrank.specs.Rounds.{terms_at}
 use Rattle.tv_lexrank.specs.Attempt.{rounds_in}
-use Rattle.tv_lexrank.specs.Steps.{AreRanked, ranks_of}
+use Rattle.tv_lexrank.specs.declared.shown.CaseShown.{CaseShown}
+use Rattle.tv_lexrank.specs.Shown.{AreShown}
+use Rattle.tv_lexrank.specs.Steps.{AreRanked, ranks_of, ShowsEach}
 use Rattle.tv_lexrank.specs.Pieces.{zero_ranks, all_ranks, ranked_piece, ranked_pieces}
 use Rattle.tv_lexrank.specs.Offered.{IsOffered, IsOfferedAt, ArePieces, step_owed, AreShownBelow}
 use Rattle.tv_lexrank.specs.Nodes.{HasOwn, ShowsEnd}
 use Rattle.tv_lexrank.proofs.MetLemmas.{over_at}
 use Rattle.tv_lexrank.proofs.ShowLemmas.{rounds_chain, chain_wide}
+use Rattle.tv_lexrank.proofs.PartShown.{each_in}
 
 -- ---- the pieces
 module _ (r : Ranking) where
@@ -269,3 +272,9 @@ node_ranked r ranked (Node' ps m shape kids list) pieces proofs same own shown l
 
     entries_are : (number : ℕ) → entries number (asked r) term (Node' ps m shape kids list) ≡ paired (all_owed r number) proofs
     entries_are number = ap (λ z. z ++ paired (own_of number (asked r) term ps (kid_pieces kids)) list.items) (no_entries (number + 1) (asked r) kids) ∙ (λ i. paired (own_of number (asked r) term (pieces_same i) (kids_same i)) (proofs_same i))
+
+-- what shows each case by the ranking shows it by the pieces of the node
+pub node_shown : (r : Ranking) (node : Node) (pieces : List Marked) (proofs : List Proof) (shown : List CaseShown) → pieces ≡ ranked_pieces r (cases_of r.about.now).locations → HasOwn node pieces r.count proofs → ShowsEach r shown → AreShown (cases_of r.about.now) r.known.now.pieces.items (pieces_of node) shown
+node_shown r (Node' ps m shape kids list) pieces proofs shown same own h =
+    subst (λ z. AreShown (cases_of r.about.now) r.known.now.pieces.items z shown) (sym (sym (ap (λ x. x.pieces) (outs-Node' ps m shape kids list)) ∙ own.pieces_are ∙ same))
+    (each_in r (all_pieces r) (pieces_there r) (cases_of r.about.now).cases shown r.about.now.are_cases.cases h)

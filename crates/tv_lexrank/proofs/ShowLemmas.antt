@@ -4,7 +4,6 @@ use Rattle.std.proofs.lemmas.List.Elements.{All-nil, All-cons, All-push, All-hea
 use Rattle.tv_linear.specs.Arithmetic.{zeros}
 use Rattle.tv_linear.specs.Linear.{Linear, columns, IsWithin}
 use Rattle.tv_linear.specs.Covers.{ShownAt}
-use Rattle.tv_linear.specs.declared.cover.CoverTree.{CoverTree}
 use Rattle.tv_linear.specs.declared.region.Piece.{Piece}
 use Rattle.tv_linear.proofs.PlainLists.{length-zeros}
 use Rattle.tv_cases.specs.LinearCases.{CaseSystem}
@@ -18,16 +17,17 @@ use Rattle.tv_lexrank.specs.declared.part.Part.{Part}
 use Rattle.tv_lexrank.specs.declared.ranking.Ranking.{Ranking}
 use Rattle.tv_lexrank.specs.Greedy.{without}
 use Rattle.tv_lexrank.specs.Rounds.{Chain, end, next, place_in, line_at, falling_of, falls_in, lines_of, terms_at, ranks_at}
-use Rattle.tv_lexrank.specs.Sorting.{StandsIn, LeadsInside}
+use Rattle.tv_lexrank.specs.Sorting.{StandsIn, LeadsInside, refutation_at}
 use Rattle.tv_lexrank.specs.Parts.{IsPart}
 use Rattle.tv_lexrank.specs.Attempt.{PartsFrom, rounds_in, ranks_in}
 use Rattle.tv_lexrank.specs.declared.falling.Fall.{Fall}
 use Rattle.tv_lexrank.specs.Known.{way_rows}
 use Rattle.tv_lexrank.specs.Falling.{AreNarrowLines}
-use Rattle.tv_lexrank.specs.Steps.{owed_fall, ShowsStep, FallsOver, way_in, ranks_of, rows_known, IsFall, IsRefutation}
+use Rattle.tv_lexrank.specs.Shown.{owed_fall, RefutesWay}
+use Rattle.tv_lexrank.specs.Steps.{FallsOver, way_in, ranks_of, IsFall}
 use Rattle.tv_lexrank.proofs.Removing.{length-without}
 use Rattle.tv_lexrank.proofs.SortLemmas.{few_below, of_case}
-use Rattle.tv_lexrank.proofs.StepLemmas.{inside_falls, leaving_falls, refutation_met, stands_empty}
+use Rattle.tv_lexrank.proofs.StepLemmas.{inside_falls, leaving_falls, stands_empty}
 use Rattle.tv_lexrank.proofs.ZeroLines.{zero_line}
 
 -- ---- narrow multipliers
@@ -90,14 +90,13 @@ module _ (r : Ranking) (k : ℕ) where
       (inside_falls about pieces p.sorted.set.items p.rounds.items component k fall.number part.chain stands small f.0 (lists fall.lines.items) f.1)
       (subst AreNarrowLines (sym f.1) (All-cons (All Narrow) (zero_line (length (met_rows w))) (lines_of k p.rounds.items) (zero_narrow (length (met_rows w))) (chain_narrow about pieces p.sorted.set.items p.rounds.items part.chain k)))
 
-  pub refuted_shown : (component : ℕ) (p : Part) (tree : CoverTree) → IsPart about pieces r.numbers.now component p → k < length about.cases → LeadsInside r.numbers.now component (case_at about.cases k) → (place_in p.sorted.set.items k < length p.sorted.set.items → ⊥) → IsRefutation (get_or (lists p.sorted.refutations.items) (place_in p.sorted.empty.items k) []) tree → ShowsStep r k tree
-  refuted_shown component p tree part k_in inside out h =
-      let v = about.variables in
-      let w = way_in r k in
-      let ms = get_or (lists p.sorted.refutations.items) (place_in p.sorted.empty.items k) [] in
+  pub refuted_shown : (component : ℕ) (p : Part) (ms : List ℤ) → IsPart about pieces r.numbers.now component p → k < length about.cases → LeadsInside r.numbers.now component (case_at about.cases k) → (place_in p.sorted.set.items k < length p.sorted.set.items → ⊥) → ms ≡ refutation_at p.sorted (place_in p.sorted.empty.items k) → RefutesWay about.variables (way_in r k) ms
+  refuted_shown component p ms part k_in inside out h =
       let e = stands_empty about pieces r.numbers.now component k p.sorted.set.items p.sorted.empty.items (lists p.sorted.refutations.items) part.sorted k_in inside out in
-      refutation_met v w (rows_known r w.taken.to) (ranks_of r w.taken.from) (ranks_of r w.taken.to) ms tree h e.1
-      (line_narrow (lists p.sorted.refutations.items) (place_in p.sorted.empty.items k) part.sorted.narrow)
+      subst (RefutesWay about.variables (way_in r k)) (sym h) (record {
+        refutes = e.1;
+        narrow = line_narrow (lists p.sorted.refutations.items) (place_in p.sorted.empty.items k) part.sorted.narrow;
+      })
 
   pub leaving_shown : (met : ℕ) (fall : Fall) → k < length about.cases → (get_or r.numbers.now (case_at about.cases k).to 0 ≡ get_or r.numbers.now (case_at about.cases k).from 0 → ⊥) → met ≡ length (met_rows (way_in r k)) → IsFall 1 ((zeros met ++ pos 1 ∷ []) ∷ (zeros met ++ pos 1 ∷ []) ∷ []) fall → FallsOver r k fall
   leaving_shown met fall k_in other count falls =

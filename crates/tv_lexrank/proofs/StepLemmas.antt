@@ -26,7 +26,8 @@ use Rattle.tv_lexrank.specs.Sorting.{StandsIn, LeadsInside, IsNeverTaken, AreSor
 use Rattle.tv_lexrank.specs.declared.falling.Fall.{Fall}
 use Rattle.tv_lexrank.specs.Closing.{owed_plain, changed, Leads}
 use Rattle.tv_lexrank.specs.Falling.{HasFall}
-use Rattle.tv_lexrank.specs.Steps.{owed_fall, owed_step, IsStepCover, IsRefutation}
+use Rattle.tv_lexrank.specs.Shown.{owed_fall}
+use Rattle.tv_lexrank.specs.Steps.{owed_step, IsStepCover, IsRefutation}
 use Rattle.tv_lexrank.proofs.Chained.{chain_shown, shown_more, found_at}
 use Rattle.tv_lexrank.proofs.ZeroLines.{zero_line, change_shown, constant_shown}
 

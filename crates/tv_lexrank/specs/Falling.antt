@@ -12,9 +12,13 @@ use Rattle.tv_rank.specs.Given.{lists}
 use Rattle.tv_lexrank.specs.Closing.{owed_plain}
 use Rattle.tv_lexrank.specs.declared.falling.Fall.{Fall}
 
+-- the line with so many zeros put in at a place
+abbrev pub put_in : ℕ → ℕ → List ℤ → List ℤ
+put_in place many line = take place line ++ (zeros many ++ drop place line)
+
 -- the line with so many zeros before its last number
 abbrev pub spread : ℕ → List ℤ → List ℤ
-spread above line = take (length line - 1) line ++ (zeros above ++ drop (length line - 1) line)
+spread above line = put_in (length line - 1) above line
 
 -- each number of the lines is below 2^62 in magnitude
 abbrev pub AreNarrowLines : List (List ℤ) → Type 0

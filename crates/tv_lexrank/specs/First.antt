@@ -7,7 +7,7 @@ use Rattle.tv_lexrank.specs.declared.fault.RankFault.TheVariants as fault
 use Rattle.tv_rank.specs.Given.{lists}
 use Rattle.tv_lexrank.specs.declared.ranked.Ranked.{Ranked}
 use Rattle.tv_lexrank.specs.declared.ranked.Ranked.TheVariants as ranked
-use Rattle.tv_lexrank.specs.Nodes.{IsRankedNode}
+use Rattle.tv_lexrank.specs.Nodes.{IsRankedBy}
 use Rattle.tv_lexrank.specs.Parts.{AreGrouped, IsStuck}
 use Rattle.tv_lexrank.specs.Known.{AreBare}
 use Rattle.tv_lexrank.specs.Attempt.{NeverRises, RefusesAttempt}
@@ -22,13 +22,14 @@ pub record AreComponents (about : CaseSystem) (numbers : List ℕ) : Type 0 wher
   pub grouped : AreGrouped about numbers
   pub never_rises : NeverRises about numbers
 
--- what the first attempt gives: a node that shows that every run ends, or a set of cases that is stuck without known rows
+-- what the first attempt gives: a node that shows that every run ends, with what shows each case, or a set of cases that is stuck without
+-- known rows
 abbrev pub IsOutcome : CaseSystem → Ranked → Type 0
-IsOutcome about (ranked.Node node) = IsRankedNode about node
+IsOutcome about (ranked.Node node shown) = IsRankedBy about [] node shown.items
 IsOutcome about (ranked.Stuck set barriers) = IsStuck about [] set.items (lists barriers.items)
 
 abbrev pub IsNode : Ranked → Type 0
-IsNode (ranked.Node node) = Unit {0}
+IsNode (ranked.Node node shown) = Unit {0}
 IsNode (ranked.Stuck set barriers) = ⊥
 
 -- a refusal is of the system that it names, for numbers of the components and no known rows

@@ -8,6 +8,8 @@ pub mod Parts
 pub mod Attempt
 pub mod Closing
 pub mod Falling
+pub mod Shown
+pub mod More
 pub mod Steps
 pub mod Pieces
 pub mod Offered

@@ -14,6 +14,8 @@ use Rattle.tv_cert.specs.Obligations.{AllMet}
 use Rattle.tv_cert.specs.Pieces.{pieces_at, rows_of}
 use Rattle.tv_shape.specs.Fitting.{NodesFit}
 use Rattle.tv_rank.specs.Ways.{rows_at}
+use Rattle.tv_lexrank.specs.declared.shown.CaseShown.{CaseShown}
+use Rattle.tv_lexrank.specs.Shown.{AreShown}
 
 -- the parts of a node without children
 pub record HasOwn (node : Node) (pieces : List Marked) (ranks : ℕ) (proofs : List Proof) : Type 0 where
@@ -38,3 +40,8 @@ pub record ShowsEnd (about : CaseSystem) (known : List Piece) (node : Node) : Ty
 -- the same from all states, where no rows are known
 abbrev pub IsRankedNode : CaseSystem → Node → Type 0
 IsRankedNode about node = ShowsEnd about [] node
+
+-- Such a node, and what shows each case by its ranks.
+pub record IsRankedBy (about : CaseSystem) (known : List Piece) (node : Node) (shown : List CaseShown) : Type 0 where
+  pub ends : ShowsEnd about known node
+  pub each : AreShown about known (pieces_of node) shown

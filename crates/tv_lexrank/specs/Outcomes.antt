@@ -11,12 +11,12 @@ use Rattle.tv_lexrank.specs.declared.ranked.Ranked.TheVariants as ranked
 use Rattle.tv_lexrank.specs.Attempt.{RefusesAttempt}
 use Rattle.tv_lexrank.specs.Closing.{RefusesClosed}
 use Rattle.tv_lexrank.specs.First.{AreComponents}
-use Rattle.tv_lexrank.specs.Nodes.{ShowsEnd}
+use Rattle.tv_lexrank.specs.Nodes.{IsRankedBy}
 use Rattle.tv_lexrank.specs.Parts.{IsStuck}
 
--- a node that shows that every run from the known states ends, or a set of cases that is stuck under the known rows
+-- a node that shows that every run from the known states ends, with what shows each case, or a set of cases that is stuck under the known rows
 abbrev pub IsAnswer : CaseSystem → List Piece → Ranked → Type 0
-IsAnswer about known (ranked.Node node) = ShowsEnd about known node
+IsAnswer about known (ranked.Node node shown) = IsRankedBy about known node shown.items
 IsAnswer about known (ranked.Stuck set barriers) = IsStuck about known set.items (lists barriers.items)
 
 -- A refusal: a case leads out of the known rows, or it is not settled whether it does, or the system that it names is not settled, for numbers

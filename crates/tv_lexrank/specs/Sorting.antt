@@ -89,6 +89,10 @@ abbrev pub IsSorted : CaseSystem → List Piece → List ℕ → ℕ → ℕ →
 IsSorted about known numbers component many s =
     AreSorted about known numbers component many s.set.items s.empty.items (lists s.refutations.items)
 
+-- the multipliers at a place
+abbrev pub refutation_at : Sorted → ℕ → List ℤ
+refutation_at s k = get_or (lists s.refutations.items) k []
+
 abbrev pub IsSortedIn : Component → ℕ → Sorted → Type 0
 IsSortedIn c many s = IsSorted (cases_of c.about.now) c.known.now.pieces.items c.numbers.now c.number many s
 

@@ -1,31 +1,29 @@
 -- What is owed of the steps over cases, and the covers that show it.
 use Rattle.std.specs.Prelude.{◌≡◌, ℕ, zero, suc, ◌+◌, ◌≤◌, List, ◌++◌, map, ℤ, Option, None}
 use Rattle.std.specs.Option.{option_map}
+use Rattle.std.specs.List.{AllZip}
 use Rattle.tv_linear.specs.Linear.{Linear, columns}
-use Rattle.tv_linear.specs.Known.{Known, as_given}
-use Rattle.tv_linear.specs.Covers.{ShownAt, IsMetCover}
-use Rattle.tv_linear.specs.Falls.{fall_rows}
+use Rattle.tv_linear.specs.Known.{Known}
+use Rattle.tv_linear.specs.Covers.{IsMetCover}
 use Rattle.tv_linear.specs.declared.cover.CoverTree.{CoverTree}
 use Rattle.tv_linear.specs.declared.cover.CoverTree as cover
 use Rattle.tv_linear.specs.Depth.{splits}
 use Rattle.tv_farkas.specs.Trees.{TreeRows}
 use Rattle.tv_shape.specs.Narrow.{CoverNarrow}
+use Rattle.tv_cases.specs.LinearCases.{LinearCase}
 use Rattle.tv_cases.specs.Systems.{cases_of}
 use Rattle.tv_rank.specs.Given.{lists}
-use Rattle.tv_rank.specs.Ways.{Way, way_of, rows_at}
+use Rattle.tv_rank.specs.Ways.{Way, way_of, case_at, rows_at}
 use Rattle.tv_lexrank.specs.declared.fault.RankFault.{RankFault}
 use Rattle.tv_lexrank.specs.declared.falling.Fall.{Fall}
+use Rattle.tv_lexrank.specs.declared.shown.CaseShown.{CaseShown}
 use Rattle.tv_lexrank.specs.declared.ranking.Ranking.{Ranking}
 use Rattle.tv_lexrank.specs.Attempt.{PartsFrom, ranks_in}
 use Rattle.tv_lexrank.specs.Known.{way_rows}
 use Rattle.tv_lexrank.specs.Closing.{changed, RefusesClosed}
-use Rattle.tv_lexrank.specs.Falling.{AreNarrowLines}
+use Rattle.tv_lexrank.specs.Shown.{owed_fall, FallsBy, IsShownBy, way_under}
 
--- the rows of a fall on entering the one piece where a way leads, from these ranks to those
-abbrev pub owed_fall : ℕ → Way → List Linear → List Linear → ℕ → Option (List Known)
-owed_fall v w old new j = fall_rows (as_given old) (map (changed v w) new) j
-
--- what is owed on entering it: its rows, and then those of a fall
+-- what is owed on entering the one piece where a way leads, from these ranks to those: its rows, and then those of a fall
 abbrev pub owed_step : ℕ → Way → List Linear → List Linear → List Linear → ℕ → ℕ → Option (List Known)
 owed_step v w into old new zero j = option_map (λ falls. map (changed v w) into ++ falls) (owed_fall v w old new j)
 owed_step v w into old new (suc target) j = None
@@ -67,13 +65,26 @@ RefusesStep r e = RefusesClosed (cases_of r.about.now) r.known.now.pieces.items 
 abbrev pub IsFall : ℕ → List (List ℤ) → Fall → Type 0
 IsFall j lines fall = (fall.number ≡ j) × (lists fall.lines.items ≡ lines)
 
--- the lines show that the ranks fall over the case
-pub record FallsOver (r : Ranking) (k : ℕ) (fall : Fall) : Type 0 where
-  pub shown :
-      let w = way_in r k in
-      let v = (cases_of r.about.now).variables in
-      ShownAt (v + w.taken.draws) (way_rows w) (owed_fall v w (ranks_of r w.taken.from) (ranks_of r w.taken.to) fall.number) (lists fall.lines.items)
-  pub narrow : AreNarrowLines (lists fall.lines.items)
+-- the ranks fall so over the case
+abbrev pub FallsOver : Ranking → ℕ → Fall → Type 0
+FallsOver r k fall =
+    let w = way_in r k in
+    FallsBy (cases_of r.about.now).variables w (ranks_of r w.taken.from) (ranks_of r w.taken.to) fall
+
+-- what shows a case by the ranks of a ranking
+abbrev pub ShowsOver : Ranking → LinearCase → CaseShown → Type 0
+ShowsOver r c shown =
+    IsShownBy (cases_of r.about.now).variables (way_under r.known.now.pieces.items c) (ranks_of r c.from) (ranks_of r c.to) shown
+
+abbrev pub ShowsCase : Ranking → ℕ → CaseShown → Type 0
+ShowsCase r k shown = ShowsOver r (case_at (cases_of r.about.now).cases k) shown
+
+-- one for each of these cases
+abbrev pub ShowsThese : Ranking → List LinearCase → List CaseShown → Type 0
+ShowsThese r cases shown = AllZip (ShowsOver r) cases shown
+
+abbrev pub ShowsEach : Ranking → List CaseShown → Type 0
+ShowsEach r shown = ShowsThese r (cases_of r.about.now).cases shown
 
 -- the cover refutes the rows of its place by these multipliers
 abbrev pub IsRefutation : List ℤ → CoverTree → Type 0

@@ -1,13 +1,13 @@
 // A fall of the ranks behind what a cover shows.
 
-ghost use Rattle.std.specs.Prelude.{◌≡◌, ◌+◌, ◌^◌, ◌<◌, ◌++◌, map, IfOk};
+ghost use Rattle.std.specs.Prelude.{◌≡◌, ◌+◌, ◌^◌, ◌<◌, ◌++◌, map, min, IfOk};
 ghost use Rattle.tv_linear.specs.Arithmetic.{zeros};
 ghost use Rattle.tv_linear.specs.Depth.{splits};
 ghost use Rattle.tv_linear.specs.Linear.{IsNarrow};
 ghost use Rattle.tv_farkas.specs.Refuting.{AreShort};
 ghost use Rattle.tv_farkas.specs.Trees.{TreeNumbers};
 ghost use Rattle.tv_rank.specs.Given.{lists as lists_of};
-ghost use Rattle.tv_lexrank.specs.Falling.{spread as spec_spread, AreNarrowLines, HasFall};
+ghost use Rattle.tv_lexrank.specs.Falling.{put_in as spec_put_in, spread as spec_spread, AreNarrowLines, HasFall};
 
 use std::alloc::{AllocError, Global};
 use tv_farkas::split_of;
@@ -31,16 +31,35 @@ fn zeros_of(alloc: Global, count: usize) -> Result<Vec<i64>, AllocError>
     Ok(zeros)
 }
 
+/// The lesser of two numbers.
+fn lesser(a: usize, b: usize) -> usize
+    ensures { result ≡ min a b }
+{
+    if a < b { a } else { b }
+}
+
+/// The numbers with so many zeros put in at a place, or behind them all.
+pub fn put_in(
+    alloc: Global,
+    line: &[i64],
+    place: usize,
+    many: usize,
+) -> Result<Vec<i64>, AllocError>
+    ensures { IfOk result (λ v. v.items ≡ spec_put_in place many line.now) }
+{
+    let (front, back) = line.split_at(lesser(place, line.len()));
+    let zeros = zeros_of(alloc, many)?;
+    let mut all = Vec::from_slice(alloc, front)?;
+    all.extend_from_slice(&zeros)?;
+    all.extend_from_slice(back)?;
+    Ok(all)
+}
+
 /// The multipliers with 0 for each of so many rows before the last.
 fn spread(alloc: Global, line: &[i64], above: usize) -> Result<Vec<i64>, AllocError>
     ensures { IfOk result (λ v. v.items ≡ spec_spread above line.now) }
 {
-    let (front, last) = line.split_at(line.len().saturating_sub(1));
-    let zeros = zeros_of(alloc, above)?;
-    let mut all = Vec::from_slice(alloc, front)?;
-    all.extend_from_slice(&zeros)?;
-    all.extend_from_slice(last)?;
-    Ok(all)
+    put_in(alloc, line, line.len().saturating_sub(1), above)
 }
 
 /// Copies of lists.

@@ -9,17 +9,16 @@ ghost use Rattle.tv_lexrank.specs.Known.{AreKnown};
 ghost use Rattle.tv_lexrank.specs.Attempt.{AreBelow, PartsFrom};
 ghost use Rattle.tv_lexrank.specs.Closing.{RefusesClosed};
 ghost use Rattle.tv_lexrank.specs.First.{arc_of, AreComponents, IsOutcome, IsNode, RefusesFirst};
-ghost use Rattle.tv_lexrank.specs.Nodes.{ShowsEnd};
 ghost use Rattle.tv_lexrank.specs.Outcomes.{IsAnswer, Refuses};
 
 use crate::attempt::{Attempt, bare_region, rank_components};
 use crate::node::node_of;
 use crate::part::Part;
 use crate::ranking::{Ranking, rank_count};
+use crate::shown::each_shown;
 use crate::{RankFault, Ranked};
 use std::alloc::{AllocError, Global};
 use tv_cases::{Case, Cases};
-use tv_cert::Node;
 use tv_farkas::Budget;
 use tv_graph::{Arc, components};
 use tv_linear::Region;
@@ -57,22 +56,23 @@ fn count_of(numbers: &[u32]) -> u32
     count
 }
 
-/// The node of components that are ranked.
-fn node_of_parts(
+/// The answer of components that are ranked: the node, and what shows each case.
+fn ranked_parts(
     alloc: Global,
     about: &Cases,
     known: &Region,
     numbers: &[u32],
     parts: &[Part],
     budget: &Budget,
-) -> Result<Node, RankFault>
+) -> Result<Ranked, RankFault>
     requires known { AreKnown (cases_of about.now) known.now.pieces.items }
     requires components { AreComponents (cases_of about.now) numbers.now }
     requires below { AreBelow (length parts.now) numbers.now }
     requires few { length parts.now ≤ 1024 }
     requires parts { PartsFrom (cases_of about.now) known.now.pieces.items numbers.now 0 parts.now }
     requires splits { budget.now.splits ≤ 128 }
-    ensures shows { IfOk result (ShowsEnd (cases_of about.now) known.now.pieces.items) }
+    ensures ranked { IfOk result (IsAnswer (cases_of about.now) known.now.pieces.items) }
+    ensures node { IfOk result IsNode }
     ensures refusals { IfErr result (RefusesClosed (cases_of about.now) known.now.pieces.items budget.now) }
 {
     let count = rank_count(parts);
@@ -84,8 +84,9 @@ fn node_of_parts(
         count,
         budget,
     };
-    match node_of(alloc, &ranking) {
-        Ok(node) => Ok(node),
+    let shown = each_shown(alloc, &ranking)?;
+    match node_of(alloc, &ranking, &shown) {
+        Ok(node) => Ok(Ranked::Node { node, shown }),
         Err(fault) => Err(fault),
     }
 }
@@ -109,7 +110,8 @@ fn components_of(alloc: Global, about: &Cases) -> Result<Vec<u32>, AllocError>
 /// The strongly connected components of the location graph are ranked one after the other, in the order of their numbers. Of the
 /// cases inside a component those whose known rows and guards have a rational point are taken out round by round: the first over which
 /// some family of terms falls that grows over none of those that are left. The ranks of a location are the number of its component,
-/// which falls where a case leaves the component, and then the terms of the component's rounds.
+/// which falls where a case leaves the component, and then the terms of the component's rounds. Beside the node stands for each case the
+/// fall with its multipliers, or what refutes that it is ever taken: they hold as well under more rows, with 0 for each.
 ///
 /// Each round is that of A. Podelski and A. Rybalchenko, "A complete method for the synthesis of linear ranking functions",
 /// VMCAI 2004. Where no family falls over any case that is left, the set is stuck; where the cases have a lexicographic linear
@@ -135,8 +137,8 @@ pub fn lex_rank(
         Err(fault) => Err(fault),
         Ok(Attempt::Stuck { set, barriers }) => Ok(Ranked::Stuck { set, barriers }),
         Ok(Attempt::Whole(parts)) => {
-            match node_of_parts(alloc, about, known, &numbers, &parts, budget) {
-                Ok(node) => Ok(Ranked::Node(node)),
+            match ranked_parts(alloc, about, known, &numbers, &parts, budget) {
+                Ok(ranked) => Ok(ranked),
                 Err(fault) => Err(fault),
             }
         }

@@ -4,13 +4,13 @@ ghost use Rattle.std.specs.Prelude.{◌≡◌, [], All, IfOk};
 ghost use Rattle.std.specs.Result.{IfErr};
 ghost use Rattle.tv_cases.specs.Systems.{cases_of};
 ghost use Rattle.tv_shape.specs.Narrow.{PieceNarrow};
-ghost use Rattle.tv_lexrank.specs.Steps.{AreRanked, RefusesStep};
-ghost use Rattle.tv_lexrank.specs.Nodes.{HasOwn, ShowsEnd};
+ghost use Rattle.tv_lexrank.specs.Steps.{AreRanked, ShowsEach, RefusesStep};
+ghost use Rattle.tv_lexrank.specs.Nodes.{HasOwn, IsRankedBy};
 
-use crate::RankFault;
 use crate::offered::proofs_of;
 use crate::pieces::pieces_of;
 use crate::ranking::Ranking;
+use crate::{CaseShown, RankFault};
 use std::alloc::{AllocError, Global};
 use tv_cert::{Marked, Node, Pieces, Proof};
 
@@ -45,16 +45,18 @@ fn narrow_pieces(pieces: &[Marked])
 }
 
 /// The node that shows that every run from the known states ends: at each location the rows that are known there, by the ranks of the
-/// location.
-pub fn node_of(alloc: Global, ranking: &Ranking) -> Result<Node, RankFault>
-    requires { AreRanked ranking.now }
-    ensures ranked { IfOk result (ShowsEnd (cases_of ranking.now.about.now) ranking.now.known.now.pieces.items) }
+/// location; what shows each case is handed in.
+pub fn node_of(alloc: Global, ranking: &Ranking, shown: &[CaseShown]) -> Result<Node, RankFault>
+    requires ranked { AreRanked ranking.now }
+    requires shown { ShowsEach ranking.now shown.now }
+    ensures ranked { let known = ranking.now.known.now.pieces.items in
+        IfOk result (λ node. IsRankedBy (cases_of ranking.now.about.now) known node shown.now) }
     ensures refusals { IfErr result (RefusesStep ranking.now) }
 {
     let list = pieces_of(alloc, ranking)?;
     ranking.about.locations();
     narrow_pieces(&list);
-    let proofs = match proofs_of(alloc, ranking) {
+    let proofs = match proofs_of(alloc, ranking, shown) {
         Ok(proofs) => proofs,
         Err(fault) => return Err(fault),
     };

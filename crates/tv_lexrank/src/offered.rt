@@ -6,12 +6,12 @@ ghost use Rattle.tv_cases.specs.LinearCases.{leaving, from_of};
 ghost use Rattle.tv_cases.specs.Systems.{cases_of};
 ghost use Rattle.tv_cases.specs.Views.{case_views};
 ghost use Rattle.tv_places.specs.Places.{IsIndexOf};
-ghost use Rattle.tv_lexrank.specs.Steps.{AreRanked, RefusesStep};
+ghost use Rattle.tv_lexrank.specs.Steps.{AreRanked, ShowsEach, RefusesStep};
 ghost use Rattle.tv_lexrank.specs.Offered.{IsStepProof, AreStepsShown, AreShownBelow};
 
-use crate::RankFault;
 use crate::ranking::Ranking;
 use crate::step::step_cover;
+use crate::{CaseShown, RankFault};
 use std::alloc::{AllocError, Global};
 use tv_cases::Case;
 use tv_cert::Proof;
@@ -20,13 +20,19 @@ use tv_places::{Stand, count_of, index, place_at};
 use tv_simplex::push_item;
 
 /// The proof of the step over a case.
-fn step_proof(alloc: Global, ranking: &Ranking, number: u32) -> Result<Proof, RankFault>
+fn step_proof(
+    alloc: Global,
+    ranking: &Ranking,
+    shown: &[CaseShown],
+    number: u32,
+) -> Result<Proof, RankFault>
     requires ranked { AreRanked ranking.now }
+    requires shown { ShowsEach ranking.now shown.now }
     requires number { number < length (cases_of ranking.now.about.now).cases }
     ensures shows { IfOk result (λ p. IsStepProof ranking.now number p) }
     ensures refusals { IfErr result (RefusesStep ranking.now) }
 {
-    let tree = match step_cover(alloc, ranking, number) {
+    let tree = match step_cover(alloc, ranking, number, &shown[number as usize]) {
         Ok(tree) => tree,
         Err(fault) => return Err(fault),
     };
@@ -41,17 +47,20 @@ fn push_steps(
     proofs: &mut Vec<Proof>,
     alloc: Global,
     ranking: &Ranking,
+    shown: &[CaseShown],
     stands: &[Stand],
     location: u32,
 ) -> Result<(), RankFault>
     requires ranked { AreRanked ranking.now }
+    requires shown { ShowsEach ranking.now shown.now }
     requires stands { IsIndexOf (map from_of (cases_of ranking.now.about.now).cases) stands.now }
-    ensures shown { IfOk result (λ _. AreStepsShown ranking.now location (leaving location (cases_of ranking.now.about.now).cases) proofs.old.items proofs.new.items) }
+    ensures shown { let cases = leaving location (cases_of ranking.now.about.now).cases in
+        IfOk result (λ _. AreStepsShown ranking.now location cases proofs.old.items proofs.new.items) }
     ensures refusals { IfErr result (RefusesStep ranking.now) }
 {
     'places: for place in 0..count_of(stands, location) {
         match place_at(stands, location, place) {
-            Some(number) => match step_proof(alloc, ranking, number) {
+            Some(number) => match step_proof(alloc, ranking, shown, number) {
                 Ok(proof) => push_item(proofs, proof)?,
                 Err(fault) => return Err(fault),
             },
@@ -73,8 +82,13 @@ pub fn starts_of(alloc: Global, list: &[Case]) -> Result<Vec<u32>, AllocError>
 }
 
 /// The proofs for all cases, by the locations where they start.
-pub fn proofs_of(alloc: Global, ranking: &Ranking) -> Result<Vec<Proof>, RankFault>
-    requires { AreRanked ranking.now }
+pub fn proofs_of(
+    alloc: Global,
+    ranking: &Ranking,
+    shown: &[CaseShown],
+) -> Result<Vec<Proof>, RankFault>
+    requires ranked { AreRanked ranking.now }
+    requires shown { ShowsEach ranking.now shown.now }
     ensures shown { IfOk result (λ v. AreShownBelow ranking.now (cases_of ranking.now.about.now).locations v.items) }
     ensures refusals { IfErr result (RefusesStep ranking.now) }
 {
@@ -82,7 +96,7 @@ pub fn proofs_of(alloc: Global, ranking: &Ranking) -> Result<Vec<Proof>, RankFau
     let stands = index(alloc, &starts)?;
     let mut proofs = Vec::new(alloc);
     'locations: for location in 0..ranking.about.locations() {
-        match push_steps(&mut proofs, alloc, ranking, &stands, location) {
+        match push_steps(&mut proofs, alloc, ranking, shown, &stands, location) {
             Ok(()) => {}
             Err(fault) => return Err(fault),
         }

@@ -40,7 +40,7 @@ pub fn first_end(
     ensures refusals { IfErr result (IsFirstFault (cases_of about.now) budget.now) }
 {
     match first_attempt(alloc, about, budget.pivots) {
-        Ok(Ranked::Node(node)) => {
+        Ok(Ranked::Node { node, .. }) => {
             let certificate = ranked_certificate(alloc, about, claim, node)?;
             Ok(Some(certificate))
         }
@@ -94,7 +94,7 @@ pub fn later_end(
 {
     let known = known_pieces(alloc, about, list)?;
     match lex_rank(alloc, about, &known, budget) {
-        Ok(Ranked::Node(node)) => {
+        Ok(Ranked::Node { node, .. }) => {
             match known_certificate(alloc, about, claim, &known, node, budget) {
                 Ok(certificate) => Ok(certificate),
                 Err(fault) => Err(uncovered(fault)),

@@ -2,10 +2,10 @@ use Rattle.std.proofs.Common.{◌≡◌, ◌∙◌, get_or, ap, sym}
 use Rattle.tv_cases.specs.Systems.{cases_of}
 use Rattle.tv_rank.specs.Ways.{case_at}
 use Rattle.tv_lexrank.proofs.ShowLemmas.{leaving_shown}
-use Rattle.tv_lexrank.proofs.step.step_cover.Goals as goal
+use Rattle.tv_lexrank.proofs.shown.case_shown.Goals as goal
 
-pub falling_cover-requires-clause-falls : goal.falling_cover-requires-clause-falls
-falling_cover-requires-clause-falls c =
+pub returns : goal.returns
+returns c =
     let r = c.args.ranking.now in
     let k = c.args.number in
     let numbers = r.numbers.now in

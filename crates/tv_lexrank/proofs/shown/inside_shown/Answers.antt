@@ -1,14 +1,15 @@
-use Rattle.std.proofs.Common.{◌∙◌, ◌+◌, ◌++◌, ◌∷◌, [], length, map, get_or, All, ap, sym, subst, arith, pos}
+use Rattle.std.proofs.Common.{◌∙◌, ◌+◌, ◌++◌, ◌∷◌, [], length, All, ap, sym, subst, arith, pos}
 use Rattle.std.proofs.lemmas.List.{length-map}
 use Rattle.tv_linear.specs.Arithmetic.{zeros}
 use Rattle.tv_cases.specs.Systems.{cases_of}
 use Rattle.tv_rank.specs.Given.{lists}
 use Rattle.tv_lexrank.specs.Covering.{IsLined}
 use Rattle.tv_lexrank.specs.Rounds.{falls_in, lines_of, place_in}
-use Rattle.tv_lexrank.specs.Steps.{IsFall, IsRefutation}
+use Rattle.tv_lexrank.specs.Sorting.{refutation_at}
+use Rattle.tv_lexrank.specs.Steps.{IsFall}
 use Rattle.tv_lexrank.proofs.StepLemmas.{chain_lined, stands_if, stands_empty}
 use Rattle.tv_lexrank.proofs.ShowLemmas.{inside_shown, refuted_shown}
-use Rattle.tv_lexrank.proofs.step.inside_cover.Goals as goal
+use Rattle.tv_lexrank.proofs.shown.inside_shown.Goals as goal
 
 pub inside_fall-requires-clause-lined : goal.inside_fall-requires-clause-lined
 inside_fall-requires-clause-lined c =
@@ -24,8 +25,8 @@ inside_fall-requires-clause-few c =
     let d = ap length (c.deref-then-place_in-len.ensures.value ∙ c.part-part.ensures.rounds) in
     omega (arith, a, b, d)
 
-pub falling_cover-requires-clause-falls : goal.falling_cover-requires-clause-falls
-falling_cover-requires-clause-falls c =
+pub returns-then-place_in-len : goal.returns-then-place_in-len
+returns-then-place_in-len c =
     let r = c.args.ranking.now in
     let k = c.args.number in
     let p = c.part-part.result.now in
@@ -37,8 +38,8 @@ falling_cover-requires-clause-falls c =
     inside_shown r k c.args.component c.met_count.result p c.in_ok-fall.fall c.ranges.component.fits c.part-part.ensures.part c.part-part.ensures.rounds c.requires.inside stands c.met_count.ensures
     (subst (λ rs. IsFall (falls_in k rs + 2) ((zeros c.met_count.result ++ pos 1 ∷ []) ∷ lines_of k rs) c.in_ok-fall.fall) c.deref-then-place_in-len.ensures.value c.in_ok-fall.ensures)
 
-pub refutation_cover-requires : goal.refutation_cover-requires
-refutation_cover-requires c =
+pub refutation_of-requires : goal.refutation_of-requires
+refutation_of-requires c =
     let r = c.args.ranking.now in
     let k = c.args.number in
     let s = c.part-part.result.now.sorted in
@@ -49,12 +50,11 @@ refutation_cover-requires c =
     let e = stands_empty (cases_of r.about.now) r.known.now.pieces.items r.numbers.now c.args.component k s.set.items s.empty.items (lists s.refutations.items) c.part-part.ensures.part.sorted c.requires.number c.requires.inside (λ q. absurd (omega (arith, f, l, o, p, q))) in
     let a = e.0 in
     let b = c.place_in-place.ensures.is ∙ ap (λ z. place_in z k) c.deref-2.ensures.value in
-    let d = ap length c.deref-3.ensures.value in
     let m = length-map s.refutations.items (λ v. v.items) in
-    omega (arith, a, b, d, m)
+    omega (arith, a, b, m)
 
-pub returns-clause-shows : goal.returns-clause-shows
-returns-clause-shows c =
+pub returns : goal.returns
+returns c =
     let r = c.args.ranking.now in
     let k = c.args.number in
     let p = c.part-part.result.now in
@@ -63,5 +63,5 @@ returns-clause-shows c =
     let o = p.sorted.set.ok in
     let e = c.place_in.ensures.is ∙ ap (λ z. place_in z k) c.deref.ensures.value in
     let b = c.place_in-place.ensures.is ∙ ap (λ z. place_in z k) c.deref-2.ensures.value in
-    refuted_shown r k c.args.component p c.in_ok-refuted.refuted c.part-part.ensures.part c.requires.number c.requires.inside (λ q. absurd (omega (arith, f, l, o, e, q)))
-    (subst (λ z. IsRefutation (get_or (lists p.sorted.refutations.items) z []) c.in_ok-refuted.refuted) b (subst (λ z. IsRefutation (get_or (map (λ v. v.items) z) c.place_in-place.result []) c.in_ok-refuted.refuted) c.deref-3.ensures.value c.in_ok-refuted.ensures))
+    refuted_shown r k c.args.component p c.in_ok-multipliers.multipliers.items c.part-part.ensures.part c.requires.number c.requires.inside (λ q. absurd (omega (arith, f, l, o, e, q)))
+    (c.in_ok-multipliers.ensures ∙ ap (refutation_at p.sorted) b)
