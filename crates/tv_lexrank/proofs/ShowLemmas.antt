@@ -5,7 +5,7 @@ use Rattle.tv_linear.specs.Arithmetic.{zeros}
 use Rattle.tv_linear.specs.Linear.{Linear, columns, IsWithin}
 use Rattle.tv_linear.specs.Covers.{ShownAt}
 use Rattle.tv_linear.specs.declared.region.Piece.{Piece}
-use Rattle.tv_linear.proofs.PlainLists.{length-zeros}
+use Rattle.tv_linear.proofs.PlainLists.{length-zeros, zeros-narrow}
 use Rattle.tv_cases.specs.LinearCases.{CaseSystem}
 use Rattle.tv_cases.specs.Systems.{cases_of}
 use Rattle.tv_rank.specs.declared.found.LocalTerm.{LocalTerm}
@@ -50,12 +50,8 @@ chain_narrow about known set rounds (next s r rs round chain) k = by_test (falli
     by_test true rest = All-cons (All Narrow) (line_at r r.place) (line_at r (length r.set.items) ∷ []) (one r.place) (All-cons (All Narrow) (line_at r (length r.set.items)) [] (one (length r.set.items)) (All-nil (All Narrow)))
     by_test false rest = All-cons (All Narrow) (line_at r (place_in r.set.items k)) (lines_of k rs) (one (place_in r.set.items k)) rest
 
-zeros_narrow : (n : ℕ) → All Narrow (zeros n)
-zeros_narrow zero = All-nil Narrow
-zeros_narrow (suc n) = All-cons Narrow (pos 0) (zeros n) (let q : unsigned_abs (pos 0) < 2 ^ 62 = omega arith in q) (zeros_narrow n)
-
 zero_narrow : (n : ℕ) → All Narrow (zero_line n)
-zero_narrow n = All-push Narrow (zeros n) (pos 1) (zeros_narrow n) (let q : unsigned_abs (pos 1) < 2 ^ 62 = omega arith in q)
+zero_narrow n = All-push Narrow (zeros n) (pos 1) (zeros-narrow n) (let q : unsigned_abs (pos 1) < 2 ^ 62 = omega arith in q)
 
 -- ---- the ranks of a location of a component
 ranks_same : (v : ℕ) (numbers : List ℕ) (parts : List Part) (component : ℕ) (rounds : List Round) (l : ℕ) → get_or numbers l 0 ≡ component → rounds ≡ rounds_in parts component → ranks_at v component rounds l ≡ ranks_in v numbers parts l

@@ -17,6 +17,14 @@ use Rattle.tv_rank.proofs.ShownRows.{length-given}
 abbrev pub zero_line : ℕ → List ℤ
 zero_line n = zeros n ++ pos 1 ∷ []
 
+zeros_last : (n : ℕ) → zeros n ++ pos 0 ∷ [] ≡ zeros (suc n)
+zeros_last zero = refl
+zeros_last (suc n) = ap (λ zs. pos 0 ∷ zs) (zeros_last n)
+
+-- one zero more
+pub zeros_more : (n : ℕ) (old new : List ℤ) → old ≡ zeros n → new ≡ old ++ pos 0 ∷ [] → new ≡ zeros (n + 1)
+zeros_more n old new e m = m ∙ ap (λ zs. zs ++ pos 0 ∷ []) e ∙ zeros_last n ∙ ap zeros (let q : suc n ≡ n + 1 = omega arith in q)
+
 zero_sum : (c : Option ℕ) (row : Known) (rows : List Known) → dot (zero_line (length rows)) (map (λ k. known_number k c) (rows ++ row ∷ [])) ≡ known_number row c
 zero_sum c row [] = omega (arith, ints)
 zero_sum c row (r ∷ rows) = (let h = zero_sum c row rows in omega (arith, ints, h))

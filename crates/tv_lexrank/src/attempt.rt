@@ -12,6 +12,7 @@ ghost use Rattle.tv_lexrank.specs.Attempt.{IsAttempt, IsWhole, RefusesAttempt};
 use crate::RankFault;
 use crate::component::Component;
 use crate::inside::stands_inside;
+use crate::known::rowed_at;
 use crate::part::{Part, Parted, part_of};
 use std::alloc::{AllocError, Global};
 use tv_cases::Cases;
@@ -70,11 +71,13 @@ pub fn rank_components(
     ensures refusals { IfErr result (λ e. RefusesAttempt (cases_of about.now) known.now.pieces.items numbers.now pivots e) }
 {
     let stands = stands_inside(alloc, about, numbers, count)?;
+    let rowed = rowed_at(&known.pieces);
     let mut parts = Vec::new(alloc);
     'components: for number in 0..count {
         let component = Component {
             about,
             known,
+            rowed,
             numbers,
             stands: &stands,
             count,

@@ -75,7 +75,8 @@ pub fn cover_one(
     requires same { AreEven ambient.now.columns target.items }
     requires splits { budget.now.splits ≤ 128 }
     ensures answers { IfOk result (IsCoveredByOne ambient.now.columns ambient.now.rows.items target.items) }
-    ensures refusals { IfErr result (IsCoverFault ambient.now.columns (target.items ∷ []) ambient.now.rows.items budget.now.pivots budget.now.splits) }
+    ensures refusals { let rows = ambient.now.rows.items in
+        IfErr result (IsCoverFault ambient.now.columns (target.items ∷ []) rows budget.now.pivots budget.now.splits) }
 {
     let mut targets = Vec::new(alloc);
     push_item(

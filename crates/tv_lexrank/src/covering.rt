@@ -35,7 +35,11 @@ fn line_of(alloc: Global, round: &Round, place: usize) -> Result<Vec<i64>, Alloc
 pub fn zero_line(alloc: Global, count: usize) -> Result<Vec<i64>, AllocError>
     ensures { IfOk result (λ v. v.items ≡ zeros count ++ pos 1 ∷ []) }
 {
-    let mut line = vec![in alloc; 0i64; count]?;
+    let mut line = Vec::with_capacity(alloc, count.saturating_add(1))?;
+    'rows: for row in 0..count {
+        let _row = row;
+        push_item(&mut line, 0)?;
+    }
     push_item(&mut line, 1)?;
     Ok(line)
 }

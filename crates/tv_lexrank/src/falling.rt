@@ -49,7 +49,8 @@ pub fn put_in(
 {
     let (front, back) = line.split_at(lesser(place, line.len()));
     let zeros = zeros_of(alloc, many)?;
-    let mut all = Vec::from_slice(alloc, front)?;
+    let mut all = Vec::with_capacity(alloc, line.len().saturating_add(many))?;
+    all.extend_from_slice(front)?;
     all.extend_from_slice(&zeros)?;
     all.extend_from_slice(back)?;
     Ok(all)

@@ -7,7 +7,6 @@ ghost use Rattle.tv_rank.specs.Given.{AreNumbered};
 ghost use Rattle.tv_lexrank.specs.Greedy.{without as spec_without, IsNameIn, ForFirst, IsUnsolvedAt, PointsIn, IsTurnIn, IsGreedyIn, RefusesTurnIn, RefusesGreedyIn};
 
 use crate::component::Component;
-use crate::known::is_bare;
 use crate::{RankFault, Round};
 use std::alloc::{AllocError, Global};
 use tv_rank::{Found, Name, rank_place};
@@ -63,7 +62,7 @@ fn name_of(
 ) -> Result<Name, AllocError>
     ensures { IfOk result (λ name. IsNameIn component.now set.now round falling name) }
 {
-    if is_bare(&component.known.pieces) {
+    if component.is_bare() {
         return Ok(Name::Rank {
             component: component.number,
             round,

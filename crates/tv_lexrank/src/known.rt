@@ -1,10 +1,10 @@
 // The rows that are known at locations, and those that are met where a case is taken.
 
-ghost use Rattle.std.specs.Prelude.{◌≡◌, ◌+◌, ◌-◌, ◌^◌, ◌<◌, ◌≤◌, ◌++◌, [], All, length, map, IfOk, IsTrue, ◌↔◌, MatchBool};
+ghost use Rattle.std.specs.Prelude.{◌≡◌, ◌+◌, ◌-◌, ◌^◌, ◌<◌, ◌≤◌, ◌++◌, [], All, length, map, IfOk, IsTrue, ◌↔◌, MatchOption};
 ghost use Rattle.tv_linear.specs.Linear.{columns as width};
 ghost use Rattle.tv_cases.specs.Systems.{cases_of};
 ghost use Rattle.tv_rank.specs.Ways.{rows_at};
-ghost use Rattle.tv_lexrank.specs.Known.{AreKnown, AreBare, HaveRows, piece_rows, padded_row};
+ghost use Rattle.tv_lexrank.specs.Known.{AreKnown, AreBare, piece_rows, padded_row};
 
 use std::alloc::{AllocError, Global};
 use tv_cases::Cases;
@@ -36,17 +36,17 @@ pub fn are_known(about: &Cases, known: &Region) -> bool
     pieces.len() == about.locations() as usize && are_all_even(pieces, about.variables())
 }
 
-/// Whether no rows are known.
-pub fn is_bare(known: &[Piece]) -> bool
-    ensures { MatchBool result (AreBare known.now) (HaveRows known.now) }
+/// A location at which rows are known, or `None` where there are none.
+pub fn rowed_at(known: &[Piece]) -> Option<usize>
+    ensures { MatchOption result (AreBare known.now) (λ l. 0 < length (rows_at known.now l)) }
 {
-    'pieces: for piece in known {
-        let rows: &[Row] = &piece.poly.rows;
+    'places: for place in 0..known.len() {
+        let rows: &[Row] = &known[place].poly.rows;
         if !rows.is_empty() {
-            return false;
+            return Some(place);
         }
     }
-    true
+    None
 }
 
 /// The rows that are known at a location.

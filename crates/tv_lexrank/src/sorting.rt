@@ -12,7 +12,7 @@ ghost use Rattle.tv_lexrank.specs.Sorting.{IsSettled, IsTaken, RefusesGuards, Re
 
 use crate::RankFault;
 use crate::component::Component;
-use crate::known::{is_bare, known_at, rows_with};
+use crate::known::{known_at, rows_with};
 use std::alloc::{AllocError, Global};
 use tv_cases::{Case, Cases};
 use tv_farkas::{CoverFault, Judged, Refuted, judge, refute};
@@ -142,7 +142,7 @@ fn settle_number(
     ensures settled { IfOk result (λ o. IsTaken (cases_of component.now.about.now).variables (way_inside component.now number) o) }
     ensures refusals { IfErr result (λ e. RefusesSortingIn component.now e) }
 {
-    if !is_bare(&component.known.pieces) {
+    if !component.is_bare() {
         return settle_met(alloc, component, number);
     }
     let case = case_of(component.about, number);

@@ -55,15 +55,16 @@ abbrev pub term_entry : LinearCase → ℕ → Option ℕ → Identity → Optio
 term_entry c l n (Step k) column = entered c l n column -ℤ left c l n column
 term_entry c l n Bound column = neg_ℤ (left c l n column)
 
--- The number of an unknown in a row of the system: the left side of the identity less its right side.
+-- The number of an unknown in a row of the system, which speaks of a way: the left side of the identity less its right side.
+abbrev pub entry_of_way : Way → Line → Unknown → ℤ
+entry_of_way w line (Positive l n) = term_entry w.taken l n line.identity line.column
+entry_of_way w line (Negative l n) = neg_ℤ (term_entry w.taken l n line.identity line.column)
+entry_of_way w line (Multiplier id i) =
+    if same id line.identity then neg_ℤ (number line.column (get_or (met_rows w) i (linear [] (pos 0)))) else pos 0
+entry_of_way w line (Slack id) = if same id line.identity then unit_at None line.column else pos 0
+
 abbrev pub entry : (ℕ → Way) → ℕ → Line → Unknown → ℤ
-entry ways falling line (Positive l n) = term_entry (ways (place_of falling line.identity)).taken l n line.identity line.column
-entry ways falling line (Negative l n) = neg_ℤ (term_entry (ways (place_of falling line.identity)).taken l n line.identity line.column)
-entry ways falling line (Multiplier id i) =
-    if same id line.identity
-    then neg_ℤ (number line.column (get_or (met_rows (ways (place_of falling line.identity))) i (linear [] (pos 0))))
-    else pos 0
-entry ways falling line (Slack id) = if same id line.identity then unit_at None line.column else pos 0
+entry ways falling line unknown = entry_of_way (ways (place_of falling line.identity)) line unknown
 
 -- the right side: the falling way falls by 1
 abbrev pub right_of : ℕ → Identity → Option ℕ → ℤ

@@ -5,11 +5,8 @@ ghost use Rattle.tv_linear.specs.Linear.{IsWithin, linear};
 ghost use Rattle.tv_linear.specs.Known.{number};
 ghost use Rattle.tv_linear.specs.Terms.{update_of};
 ghost use Rattle.tv_cases.specs.Views.{case_view};
-ghost use Rattle.tv_rank.specs.Given.{IsPlaced};
-ghost use Rattle.tv_rank.specs.Questions.{ways_of, many_of};
-ghost use Rattle.tv_rank.specs.RankingSystem.{unit_at as spec_unit, number_of, after as spec_after, entered as spec_entered, left as spec_left, same as spec_same, place_of as spec_place, term_entry as spec_term, entry as spec_entry, right_of as spec_right};
+ghost use Rattle.tv_rank.specs.RankingSystem.{unit_at as spec_unit, number_of, after as spec_after, entered as spec_entered, left as spec_left, same as spec_same, place_of as spec_place, term_entry as spec_term, entry_of_way, right_of as spec_right};
 
-use crate::question::Question;
 use crate::unknown::{Identity, Line, Unknown};
 use tv_cases::Case;
 use tv_linear::{Row, Update};
@@ -115,7 +112,7 @@ fn met_number(known: &[Row], guards: &[Row], row: usize, column: Option<usize>) 
 }
 
 /// The place of the case that an identity speaks of, where the one at `falling` falls.
-fn place_of(identity: Identity, falling: usize) -> usize
+pub fn place_of(identity: Identity, falling: usize) -> usize
     ensures { result ≡ spec_place falling identity }
 {
     match identity {
@@ -150,13 +147,10 @@ fn term_entry(
     }
 }
 
-/// The number of an unknown in a row of the system.
-pub fn entry(asked: &Question, line: Line, unknown: Unknown) -> i128
-    requires { IsPlaced (many_of asked.now) line.identity }
-    ensures { result ≡ spec_entry (ways_of asked.now) asked.now.falling line unknown }
+/// The number of an unknown in a row of the system that speaks of a case, where these rows are known where the case starts.
+pub fn entry(case: &Case, known: &[Row], line: Line, unknown: Unknown) -> i128
+    ensures { result ≡ entry_of_way (record { taken = case_view case.now; known = known.now }) line unknown }
 {
-    let place = place_of(line.identity, asked.falling);
-    let case = asked.case_at(place);
     match unknown {
         Unknown::Positive(location, number) => {
             term_entry(case, line.identity, location, number, line.column)
@@ -166,7 +160,7 @@ pub fn entry(asked: &Question, line: Line, unknown: Unknown) -> i128
         }
         Unknown::Multiplier(identity, row) => {
             if same(identity, line.identity) {
-                opposite(met_number(asked.known_at(place), &case.guards.rows, row, line.column))
+                opposite(met_number(known, &case.guards.rows, row, line.column))
             } else {
                 0
             }

@@ -6,7 +6,7 @@ ghost use Rattle.tv_rank.specs.Given.{IsPlaced};
 ghost use Rattle.tv_rank.specs.Questions.{ways_of, many_of};
 ghost use Rattle.tv_rank.specs.RankingSystem.{entry as spec_entry, right_of as spec_right, entry_rows, system_over};
 
-use crate::entries::{entry, right_of};
+use crate::entries::{entry, place_of, right_of};
 use crate::question::Question;
 use crate::unknown::{Line, Unknown};
 use std::alloc::{AllocError, Global};
@@ -23,8 +23,11 @@ fn push_row(
     ensures { let row = map (spec_entry (ways_of asked.now) asked.now.falling line) unknowns.now in
         IfOk result (λ _. numbers.new.items ≡ numbers.old.items ++ row) }
 {
+    let place = place_of(line.identity, asked.falling);
+    let case = asked.case_at(place);
+    let known = asked.known_at(place);
     'unknowns: for unknown in unknowns {
-        push_item(numbers, entry(asked, line, *unknown))?;
+        push_item(numbers, entry(case, known, line, *unknown))?;
     }
     Ok(())
 }
@@ -36,10 +39,11 @@ pub fn entry_list(
     unknowns: &[Unknown],
     lines: &[Line],
 ) -> Result<Vec<i128>, AllocError>
-    requires { All (λ line. IsPlaced (many_of asked.now) line.identity) lines.now }
+    requires placed { All (λ line. IsPlaced (many_of asked.now) line.identity) lines.now }
+    requires size { length lines.now * length unknowns.now ≤ 4000000 }
     ensures { IfOk result (λ v. v.items ≡ entry_rows (ways_of asked.now) asked.now.falling unknowns.now lines.now) }
 {
-    let mut numbers = Vec::new(alloc);
+    let mut numbers = Vec::with_capacity(alloc, lines.len() * unknowns.len())?;
     'lines: for line in lines {
         push_row(&mut numbers, asked, unknowns, *line)?;
     }
@@ -50,7 +54,7 @@ pub fn entry_list(
 pub fn right_list(alloc: Global, falling: usize, lines: &[Line]) -> Result<Vec<i128>, AllocError>
     ensures { IfOk result (λ v. v.items ≡ map (λ line. spec_right falling line.identity line.column) lines.now) }
 {
-    let mut numbers = Vec::new(alloc);
+    let mut numbers = Vec::with_capacity(alloc, lines.len())?;
     'lines: for line in lines {
         push_item(&mut numbers, right_of(falling, *line))?;
     }
