@@ -20,7 +20,7 @@ type Numbers = (&'static [i128], i128);
 pub(crate) type Rows = &'static [&'static [Numbers]];
 
 /// The half of a number, before an idle loop.
-const HALF: &str = "START: 0; FROM: 0; assume(2*x == 1); TO: 1; FROM: 1; TO: 1;";
+pub(crate) const HALF: &str = "START: 0; FROM: 0; assume(2*x == 1); TO: 1; FROM: 1; TO: 1;";
 
 /// A countdown by a step that is set before.
 pub(crate) const STEPS: &str =
@@ -195,7 +195,7 @@ const EXAMPLES: &[Example] = &[
     ),
 ];
 
-fn found(
+pub(crate) fn found(
     alloc: Global,
     text: &str,
     known: Rows,

@@ -1,6 +1,8 @@
+use crate::known::{HALF, Rows, found};
 use crate::programs::{COUNTDOWN, DRAWN_COUNTDOWN, EMPTY, NESTED, about_of};
 use std::alloc::Global;
 use std::test::Fail;
+use tv_farkas::Budget;
 use tv_lexrank::{CaseShown, Ranked, first_attempt, under_more};
 
 /// A loop whose guards contradict each other.
@@ -59,6 +61,32 @@ fn each_case_is_shown(rt: HostRuntime) -> Result<(), Fail> {
         let shown = shown_of(rt.alloc(), text)?;
         assert!(rt; are_wanted(*wanted, &shown), "{text}");
     }
+    Ok(())
+}
+
+/// What shows each case of the program in the text under rows that are known.
+fn shown_under(alloc: Global, text: &str, known: Rows) -> Result<Vec<CaseShown>, Fail> {
+    let budget = Budget {
+        pivots: 1000,
+        splits: 64,
+        disjuncts: 256,
+    };
+    match found(alloc, text, known, &budget)? {
+        Ok(Ranked::Node { shown, .. }) => Ok(shown),
+        _ => Err(Fail::from("no node")),
+    }
+}
+
+/// At the second location nothing is met: 0 is at least 1.
+const NONE_THERE: Rows = &[&[], &[(&[1], 0), (&[-1], 1), (&[0], 1)]];
+
+#[test]
+fn known_rows_show_that_a_case_is_never_taken(rt: HostRuntime) -> Result<(), Fail> {
+    let shown = shown_under(rt.alloc(), HALF, NONE_THERE)?;
+    assert!(rt;
+        are_wanted(&[Wanted::Falls(1, 2), Wanted::Untaken(3)], &shown),
+        "{HALF}"
+    );
     Ok(())
 }
 
