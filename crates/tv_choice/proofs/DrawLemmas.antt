@@ -1,0 +1,205 @@
+-- Terms for draws, and the ways that they make.
+use Rattle.std.proofs.Common.{◌≡◌, ℕ, zero, suc, ◌+◌, ◌<◌, ◌≤◌, List, [], ◌∷◌, ◌++◌, length, map, take, drop, drop-cons, get_or, All, Some, None, Option, arith, refl, sym, ap, ◌∙◌, subst, ℤ, pos, negsuc, neg_ℤ, append_assoc, Bool, true, false, cond, ◌==◌, length-append}
+use Rattle.std.specs.Prelude.{slice_get, Contains}
+use Rattle.std.proofs.lemmas.List.{length-map}
+use Rattle.std.proofs.lemmas.List.Elements.{All-nil, All-cons, All-head, All-tail, All-append}
+use Rattle.tv_linear.specs.Linear.{Linear, linear, columns}
+use Rattle.tv_linear.specs.Arithmetic.{opposite}
+use Rattle.tv_linear.specs.declared.region.Piece.{Piece}
+use Rattle.tv_cases.specs.declared.case.Case.{Case}
+use Rattle.tv_cases.specs.LinearCases.{LinearCase, from_of, leaving}
+use Rattle.tv_cases.specs.Views.{case_view, case_views}
+use Rattle.std.proofs.lemmas.Option.{slice_get_within, get_or_from_slice_get}
+use Rattle.tv_choice.specs.declared.ways.Way.{Way}
+use Rattle.tv_choice.specs.declared.ways.Entry.{Entry}
+use Rattle.tv_choice.specs.Rows.{case_rows, put_rows, put_terms, IsWideBefore, IsWidePut}
+use Rattle.tv_choice.specs.Leading.{Query, IsEntry, pieces_at, piece_rows}
+use Rattle.tv_choice.specs.ChoicePaths.{AreDrawTerms, by_rows, numbers}
+use Rattle.tv_choice.specs.Refusals.{IsWideHere, entering, drawing, denying}
+use Rattle.tv_choice.specs.Ways.{IsEntered, AreCaseRows, IsWayOf, IsWay}
+use Rattle.tv_choice.specs.Targets.{front, term_by, term_of, one_term, terms_given, draw_choices, targets_into, targets_by, targets_from}
+use Rattle.tv_choice.proofs.WayLemmas.{drop_more, map-append, next_of, is_way}
+use Rattle.tv_choice.proofs.PieceLemmas.{test_true, test_false}
+
+-- ---- one term
+pub plus_one : (c : ℤ) (rest : Linear) → c ≡ pos 1 → term_by c rest ≡ Some (opposite rest)
+plus_one c rest e = ap (λ z. term_by z rest) e
+
+pub minus_one : (c : ℤ) (rest : Linear) → c ≡ negsuc 0 → term_by c rest ≡ Some rest
+minus_one c rest e = ap (λ z. term_by z rest) e
+
+pub no_term : (c : ℤ) (rest : Linear) → (c ≡ pos 1 → ⊥) → (c ≡ negsuc 0 → ⊥) → term_by c rest ≡ None
+no_term (pos zero) rest p q = refl
+no_term (pos (suc zero)) rest p q = absurd (p refl)
+no_term (pos (suc (suc k))) rest p q = refl
+no_term (negsuc zero) rest p q = absurd (q refl)
+no_term (negsuc (suc k)) rest p q = refl
+
+-- one more row
+pub given_more : (n : ℕ) (rows : List Linear) (i : ℕ) (r : Linear) (old new all : List (List Linear)) → i < length rows → r ≡ get_or rows i r → new ≡ old ++ one_term (term_of n r) → all ≡ old ++ terms_given n (drop i rows) → all ≡ new ++ terms_given n (drop (i + 1) rows)
+given_more n rows i r old new all l e en h =
+    h
+    ∙ ap (λ rs. old ++ terms_given n rs) (drop_more rows i r l e)
+    ∙ sym (append_assoc old (one_term (term_of n r)) (terms_given n (drop (i + 1) rows)))
+    ∙ ap (λ ls. ls ++ terms_given n (drop (i + 1) rows)) (sym en)
+
+-- ---- what the terms are
+even_term : (n : ℕ) (c : ℤ) (rest t : Linear) → columns rest ≡ n → term_by c rest ≡ Some t → columns t ≡ n
+even_term n (pos zero) rest t e h = cc
+even_term n (pos (suc zero)) rest t e h = ap columns (sym (some_is (opposite rest) t h)) ∙ length-map rest.coefficients neg_ℤ ∙ e
+  where
+    some_is : (a b : Linear) → ◌≡◌ {A = Option Linear} (Some a) (Some b) → a ≡ b
+    some_is a b g = cc
+even_term n (pos (suc (suc k))) rest t e h = cc
+even_term n (negsuc zero) rest t e h = ap columns (sym (some_is rest t h)) ∙ e
+  where
+    some_is : (a b : Linear) → ◌≡◌ {A = Option Linear} (Some a) (Some b) → a ≡ b
+    some_is a b g = cc
+even_term n (negsuc (suc k)) rest t e h = cc
+
+-- so many terms over n columns
+pub record AreTermsFor (n count : ℕ) (draws : List Linear) : Type 0 where
+  pub many : length draws ≡ count
+  pub even : All (λ r. columns r ≡ n) draws
+
+one_even : (n : ℕ) (o : Option Linear) → ((t : Linear) → o ≡ Some t → columns t ≡ n) → All (AreTermsFor n 1) (one_term o)
+one_even n None h = All-nil (AreTermsFor n 1)
+one_even n (Some t) h = All-cons (AreTermsFor n 1) (t ∷ []) [] record { many = refl; even = All-cons (λ r. columns r ≡ n) t [] (h t refl) (All-nil (λ r. columns r ≡ n)) } (All-nil (AreTermsFor n 1))
+
+length-take_front : (n d : ℕ) (xs : List ℤ) → length xs ≡ n + d → length (take n xs) ≡ n
+length-take_front zero d xs e = refl
+length-take_front (suc n) d [] e = absurd (omega (arith, e))
+length-take_front (suc n) d (x ∷ xs) e = ap suc (length-take_front n d xs (omega (arith, e)))
+
+given_even : (n : ℕ) (rows : List Linear) → All (λ r. columns r ≡ n + 1) rows → All (AreTermsFor n 1) (terms_given n rows)
+given_even n [] h = All-nil (AreTermsFor n 1)
+given_even n (r ∷ rows) h =
+    All-append (AreTermsFor n 1) (one_term (term_of n r)) (terms_given n rows)
+    (one_even n (term_of n r) (λ t. even_term n (get_or r.coefficients n (pos 0)) (front n r) t (length-take_front n 1 r.coefficients (All-head (λ r. columns r ≡ n + 1) r rows h))))
+    (given_even n rows (All-tail (λ r. columns r ≡ n + 1) r rows h))
+
+pub choices_even : (n d : ℕ) (rows : List Linear) → All (λ r. columns r ≡ n + d) rows → All (AreTermsFor n d) (draw_choices d n rows)
+choices_even n zero rows h = All-cons (AreTermsFor n 0) [] [] record { many = refl; even = All-nil (λ r. columns r ≡ n) } (All-nil (AreTermsFor n 0))
+choices_even n (suc zero) rows h = given_even n rows h
+choices_even n (suc (suc k)) rows h = All-nil (AreTermsFor n (suc (suc k)))
+
+pub no_choices : (n d : ℕ) (rows : List Linear) → 1 < d → draw_choices d n rows ≡ []
+no_choices n zero rows l = absurd (omega (arith, l))
+no_choices n (suc zero) rows l = absurd (omega (arith, l))
+no_choices n (suc (suc k)) rows l = refl
+
+append-none : {A : Type 0} (xs : List A) → xs ++ [] ≡ xs
+append-none [] = refl
+append-none (x ∷ xs) = ap (λ ys. x ∷ ys) (append-none xs)
+
+pub no_targets : (n : ℕ) (c : LinearCase) (owed : List Linear) (old : List (List Linear)) → 1 < c.draws → old ≡ old ++ targets_into n c owed
+no_targets n c owed old l = sym (ap (λ cs. old ++ map (λ draws. put_rows n draws (case_rows c owed)) cs) (no_choices n c.draws (case_rows c owed) l) ∙ append-none old)
+
+-- ---- choices that are left
+-- with those that are left the ways have all that the choices make, and each that is left is one of the choices
+pub record AreLeft (n d : ℕ) (rows : List Linear) (old now rest : List (List Linear)) : Type 0 where
+  pub all : old ++ map (λ draws. put_rows n draws rows) (draw_choices d n rows) ≡ now ++ map (λ draws. put_rows n draws rows) rest
+  pub terms : All (AreTermsFor n d) rest
+  pub among : All (Contains (draw_choices d n rows)) rest
+
+contains_each : {A : Type 0} (xs : List A) → All (Contains xs) xs
+contains_each xs i x l = (i, l, get_same xs i x l)
+  where
+    get_same : {A : Type 0} (xs : List A) (i : ℕ) (x : A) → i < length xs → get_or xs i (get_or xs i x) ≡ get_or xs i x
+    get_same [] i x l = absurd (omega (arith, l))
+    get_same (y ∷ ys) zero x l = refl
+    get_same (y ∷ ys) (suc i) x l = get_same ys i x (omega (arith, l))
+
+pub left_first : (n d : ℕ) (rows : List Linear) (old rest : List (List Linear)) → All (λ r. columns r ≡ n + d) rows → rest ≡ draw_choices d n rows → AreLeft n d rows old old rest
+left_first n d rows old rest h e = subst (AreLeft n d rows old old) (sym e) record { all = refl; terms = choices_even n d rows h; among = contains_each (draw_choices d n rows) }
+
+pub left_next : (n d : ℕ) (rows : List Linear) (old now new : List (List Linear)) (draws : List Linear) (rest : List (List Linear)) → new ≡ now ++ put_rows n draws rows ∷ [] → AreLeft n d rows old now (draws ∷ rest) → AreLeft n d rows old new rest
+left_next n d rows old now new draws rest e h = record {
+  all = h.all ∙ sym (append_assoc now (put_rows n draws rows ∷ []) (map (λ ds. put_rows n ds rows) rest)) ∙ ap (λ ls. ls ++ map (λ ds. put_rows n ds rows) rest) (sym e);
+  terms = All-tail (AreTermsFor n d) draws rest h.terms;
+  among = All-tail (Contains (draw_choices d n rows)) draws rest h.among;
+}
+
+pub nil_of : {A : Type 0} (xs : List A) → length xs ≡ 0 → xs ≡ []
+nil_of [] e = refl
+nil_of (x ∷ xs) e = absurd (omega (arith, e))
+
+pub left_none : (n d : ℕ) (rows : List Linear) (old now rest : List (List Linear)) → rest ≡ [] → AreLeft n d rows old now rest → now ≡ old ++ map (λ draws. put_rows n draws rows) (draw_choices d n rows)
+left_none n d rows old now rest e h = sym (h.all ∙ ap (λ r. now ++ map (λ draws. put_rows n draws rows) r) e ∙ append-none now)
+
+-- ---- pieces and cases that are left
+get_drop : {A : Type 0} (xs : List A) (i : ℕ) (x : A) → slice_get xs i ≡ Some x → drop i xs ≡ x ∷ drop (i + 1) xs
+get_drop [] zero x e = cc
+get_drop [] (suc i) x e = cc
+get_drop (y ∷ xs) zero x e = ap (λ z. z ∷ xs) (some_is y x e)
+  where
+    some_is : {A : Type 0} (a b : A) → ◌≡◌ {A = Option A} (Some a) (Some b) → a ≡ b
+    some_is a b g = cc
+get_drop (y ∷ xs) (suc i) x e = get_drop xs i x e ∙ ap (λ k. x ∷ drop k (y ∷ xs)) (let g : suc (i + 1) ≡ suc i + 1 = omega arith in g)
+
+drop_past : {A : Type 0} (xs : List A) (i : ℕ) → slice_get xs i ≡ None → drop i xs ≡ []
+drop_past [] zero e = refl
+drop_past [] (suc i) e = refl
+drop_past (y ∷ xs) zero e = cc
+drop_past (y ∷ xs) (suc i) e = drop_past xs i e
+
+pub pieces_next : (n : ℕ) (c : LinearCase) (ps : List Piece) (i : ℕ) (p : Piece) (all now new : List (List Linear)) → slice_get ps i ≡ Some p → new ≡ now ++ targets_into n c (piece_rows p) → all ≡ now ++ targets_by n c (drop i ps) → all ≡ new ++ targets_by n c (drop (i + 1) ps)
+pieces_next n c ps i p all now new g e h =
+    h
+    ∙ ap (λ qs. now ++ targets_by n c qs) (get_drop ps i p g)
+    ∙ sym (append_assoc now (targets_into n c (piece_rows p)) (targets_by n c (drop (i + 1) ps)))
+    ∙ ap (λ ls. ls ++ targets_by n c (drop (i + 1) ps)) (sym e)
+
+pub pieces_done : (n : ℕ) (c : LinearCase) (ps : List Piece) (i : ℕ) (all now : List (List Linear)) → slice_get ps i ≡ None → all ≡ now ++ targets_by n c (drop i ps) → now ≡ all
+pieces_done n c ps i all now g h = sym (h ∙ ap (λ qs. now ++ targets_by n c qs) (drop_past ps i g) ∙ append-none now)
+
+views_drop : (cs : List Case) (i : ℕ) (c : Case) → i < length cs → c ≡ get_or cs i c → case_views (drop i cs) ≡ case_view c ∷ case_views (drop (i + 1) cs)
+views_drop cs i c l e = ap case_views (drop_more cs i c l e)
+
+pub cases_next : (n : ℕ) (ps : List Piece) (l : ℕ) (cs : List Case) (i : ℕ) (c : Case) (all now new : List (List Linear)) → i < length cs → c ≡ get_or cs i c → c.from ≡ l → new ≡ now ++ targets_by n (case_view c) (pieces_at ps c.to) → all ≡ now ++ targets_from n ps (leaving l (case_views (drop i cs))) → all ≡ new ++ targets_from n ps (leaving l (case_views (drop (i + 1) cs)))
+cases_next n ps l cs i c all now new b e from en h =
+    h
+    ∙ ap (λ vs. now ++ targets_from n ps (leaving l vs)) (views_drop cs i c b e)
+    ∙ ap (λ t. now ++ targets_from n ps (cond t (case_view c ∷ leaving l (case_views (drop (i + 1) cs))) (leaving l (case_views (drop (i + 1) cs))))) (test_true c.from l from)
+    ∙ sym (append_assoc now (targets_by n (case_view c) (pieces_at ps c.to)) (targets_from n ps (leaving l (case_views (drop (i + 1) cs)))))
+    ∙ ap (λ ls. ls ++ targets_from n ps (leaving l (case_views (drop (i + 1) cs)))) (sym en)
+
+pub cases_skip : (n : ℕ) (ps : List Piece) (l : ℕ) (cs : List Case) (i : ℕ) (c : Case) (all now : List (List Linear)) → i < length cs → c ≡ get_or cs i c → (c.from ≡ l → ⊥) → all ≡ now ++ targets_from n ps (leaving l (case_views (drop i cs))) → all ≡ now ++ targets_from n ps (leaving l (case_views (drop (i + 1) cs)))
+cases_skip n ps l cs i c all now b e from h =
+    h
+    ∙ ap (λ vs. now ++ targets_from n ps (leaving l vs)) (views_drop cs i c b e)
+    ∙ ap (λ t. now ++ targets_from n ps (cond t (case_view c ∷ leaving l (case_views (drop (i + 1) cs))) (leaving l (case_views (drop (i + 1) cs))))) (test_false c.from l from)
+
+pub cases_done : (n : ℕ) (ps : List Piece) (l : ℕ) (cs : List Case) (i : ℕ) (all now : List (List Linear)) → length cs ≤ i → all ≡ now ++ targets_from n ps (leaving l (case_views (drop i cs))) → now ≡ all
+cases_done n ps l cs i all now b h = sym (h ∙ ap (λ vs. now ++ targets_from n ps (leaving l (case_views vs))) (drop_end cs i b) ∙ append-none now)
+  where
+    drop_end : {A : Type 0} (xs : List A) (i : ℕ) → length xs ≤ i → drop i xs ≡ []
+    drop_end [] zero l = refl
+    drop_end [] (suc i) l = refl
+    drop_end (x ∷ xs) zero l = absurd (omega (arith, l))
+    drop_end (x ∷ xs) (suc i) l = drop_end xs i (omega (arith, l))
+
+-- ---- entries
+pub entry_is : (q : Query) (e : Entry) → IsEntered q e → IsEntry q (case_view e.case.now) e.piece.now
+entry_is q e h = record {
+  among = got_in q.system.cases e.taken (case_view e.case.now) h.taken;
+  leaves = h.from;
+  enters = got_in (pieces_at q.pieces e.case.now.to) e.target e.piece.now h.target;
+}
+  where
+    got_in : {A : Type 0} (xs : List A) (i : ℕ) (x : A) → slice_get xs i ≡ Some x → Contains xs x
+    got_in xs i x g = (i, slice_get_within xs i x g, get_or_from_slice_get xs i x x g)
+
+-- a way of the entry, with terms that its rows give
+pub drawn_way : (n : ℕ) (q : Query) (e : Entry) (rows draws : List Linear) (w : Way) → IsEntered q e → All (λ r. columns r ≡ n) (piece_rows e.piece.now) → AreCaseRows n (case_view e.case.now) (piece_rows e.piece.now) rows → AreTermsFor n e.case.now.draws draws → Contains (draw_choices e.case.now.draws n rows) draws → IsWayOf n e.taken e.target rows draws w → IsWay n q [] w
+drawn_way n q e rows draws w h owed r t among made =
+    is_way n q [] (case_view e.case.now) e.piece.now e.taken e.target rows draws w h.taken h.from h.target h.case owed t.many t.even
+    (by_rows draws (subst (λ rs. Contains (draw_choices e.case.now.draws n rs) draws) r.exact among)) r made
+
+-- rows of an entry that are too wide
+pub entry_wide : (n : ℕ) (q : Query) (above : List Linear) (e : Entry) → IsEntered q e → (column : ℕ) → IsWideBefore (case_view e.case.now) (piece_rows e.piece.now) column → IsWideHere n q above column
+entry_wide n q above e h column w = entering (case_view e.case.now) e.piece.now (entry_is q e h) w
+
+pub draw_wide : (n : ℕ) (q : Query) (above : List Linear) (e : Entry) (rows draws : List Linear) → IsEntered q e → AreCaseRows n (case_view e.case.now) (piece_rows e.piece.now) rows → AreDrawTerms n q above (case_view e.case.now) e.piece.now draws → (column : ℕ) → IsWidePut (put_terms n draws) rows column → IsWideHere n q above column
+draw_wide n q above e rows draws h r t column w =
+    drawing (case_view e.case.now) e.piece.now draws (entry_is q e h) t (subst (λ rs. IsWidePut (put_terms n draws) rs column) r.exact w)

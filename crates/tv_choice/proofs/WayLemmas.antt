@@ -1,0 +1,456 @@
+-- Rows of cases, and ways made of them.
+use Rattle.std.proofs.Common.{◌≡◌, ℕ, zero, suc, ◌+◌, ◌-◌, ◌<◌, ◌≤◌, ◌^◌, List, [], ◌∷◌, ◌++◌, length, map, get_or, take, drop, drop-cons, All, Some, arith, refl, sym, ap, ◌∙◌, subst, ℤ, pos, neg_ℤ, ◌+ℤ◌, ◌-ℤ◌, ◌*ℤ◌, ◌≤ℤ◌, unsigned_abs, length-append, append_assoc}
+use Rattle.std.proofs.Math.Seq.{take-suc}
+use Rattle.std.specs.Prelude.{slice_get}
+use Rattle.std.proofs.lemmas.Option.{slice_get_read}
+use Rattle.std.proofs.lemmas.Int.{ints}
+use Rattle.std.proofs.lemmas.List.{length-map}
+use Rattle.std.proofs.lemmas.List.Elements.{All-nil, All-cons, All-head, All-tail, All-push, All-append}
+use Rattle.tv_linear.specs.Linear.{Linear, linear, columns, dot, value, IsMet, IsWithin, IsNarrow}
+use Rattle.tv_linear.specs.Arithmetic.{zeros, unit, constant_row, column_row, composed as composed_row}
+use Rattle.tv_linear.specs.Fits.{FitsComposed, IsFirstWide, IsFaultWhere}
+use Rattle.tv_linear.specs.declared.fault.RowFault.{RowFault}
+use Rattle.tv_linear.specs.declared.fault.RowFault.TheVariants as row_faults
+use Rattle.tv_farkas.specs.declared.fault.CoverFault.{CoverFault}
+use Rattle.tv_farkas.specs.declared.fault.CoverFault.TheVariants.{Splits, Solve, Wide, Memory}
+use Rattle.tv_linear.specs.Known.{Known, given, composed, as_given, term_value}
+use Rattle.tv_linear.specs.Terms.{table, update_of, terms_after, draw_terms}
+use Rattle.tv_linear.specs.declared.region.Piece.{Piece}
+use Rattle.tv_linear.proofs.PlainLists.{length-unit, length-zeros, get_or-zeros, zeros-narrow}
+use Rattle.tv_linear.proofs.RowValues.{value-column_row, value-denial, value-composed, value-constant_row}
+use Rattle.tv_farkas.specs.Paths.{at_most_row, at_least_row, IsWholePoint}
+use Rattle.tv_farkas.specs.Refuting.{AreShort}
+use Rattle.tv_cases.specs.EdgeCases.{columns_from}
+use Rattle.tv_cases.specs.Before.{before, rows_after, term_row, FitsTerms}
+use Rattle.tv_cases.specs.LinearCases.{LinearCase, IsCase}
+use Rattle.tv_cases.proofs.BeforeValue.{before-value}
+use Rattle.tv_cert.specs.Choices.{drawn_change, drawn_guards}
+use Rattle.tv_cert.specs.Obligations.{case_change}
+use Rattle.tv_choice.specs.declared.ways.Way.{Way}
+use Rattle.tv_choice.specs.declared.ways.Entry.{Entry}
+use Rattle.tv_choice.specs.Rows.{padded_row, fixes, case_rows, put_terms, put_rows, IsWideBefore, IsWidePut}
+use Rattle.tv_choice.specs.Same.{SameNumbers, AreSame}
+use Rattle.tv_choice.specs.Leading.{Query, pieces_at, piece_rows}
+use Rattle.tv_choice.specs.ChoicePaths.{AreDrawTerms}
+use Rattle.tv_choice.specs.Ways.{AreCaseRows, AreComposed, IsWayOf, IsWay, IsFaultOf, IsUnmade}
+use Rattle.tv_choice.proofs.SameLemmas.{same_self, all_same, same_push, given_append}
+use Rattle.tv_choice.proofs.ComposeLemmas.{PutIn, composed_same, drawn_terms, after_terms, put_before, put_drawn, length-put_terms}
+
+-- ---- lists
+pub next_of : (j : ℕ) → j + 1 ≡ suc j
+next_of j = omega arith
+
+pub take_more : {A : Type 0} (xs : List A) (i : ℕ) (x : A) → i < length xs → x ≡ get_or xs i x → take (i + 1) xs ≡ take i xs ++ x ∷ []
+take_more xs i x l e = ap (λ k. take k xs) (next_of i) ∙ take-suc xs i x l ∙ ap (λ y. take i xs ++ y ∷ []) (sym e)
+
+pub drop_more : {A : Type 0} (xs : List A) (i : ℕ) (x : A) → i < length xs → x ≡ get_or xs i x → drop i xs ≡ x ∷ drop (i + 1) xs
+drop_more xs i x l e = drop-cons xs i x l ∙ (λ j. sym e j ∷ drop (sym (next_of i) j) xs)
+
+pub map-append : {A B : Type 0} (f : A → B) (xs ys : List A) → map f (xs ++ ys) ≡ map f xs ++ map f ys
+map-append f [] ys = refl
+map-append f (x ∷ xs) ys = ap (λ zs. f x ∷ zs) (map-append f xs ys)
+
+pub at_of : {A : Type 0} (P : A → Type 0) (xs : List A) (i : ℕ) (x : A) → All P xs → i < length xs → x ≡ get_or xs i x → P x
+at_of P xs i x h l e = subst P (sym e) (h i x l)
+
+-- copies, each of them narrow
+pub copied_more : (old items new rows : List Linear) (i : ℕ) (r s : Linear) → i < length rows → r ≡ get_or rows i r → s ≡ r → IsNarrow r → new ≡ items ++ s ∷ [] → (items ≡ old ++ take i rows) × All IsNarrow (take i rows) → (new ≡ old ++ take (i + 1) rows) × All IsNarrow (take (i + 1) rows)
+copied_more old items new rows i r s l e same narrow en h = (
+  en ∙ (λ j. h.0 j ++ same j ∷ []) ∙ append_assoc old (take i rows) (r ∷ []) ∙ ap (λ rs. old ++ rs) (sym (take_more rows i r l e)),
+  subst (All IsNarrow) (sym (take_more rows i r l e)) (All-push IsNarrow (take i rows) r h.1 narrow),
+)
+
+-- ---- rows that were not made
+pub not_made : (Fits : ℕ → Type 0) (last : ℕ) (wide : ℕ → Type 0) (row_fault : RowFault) (fault : CoverFault) → IsFaultOf row_fault fault → IsFaultWhere Fits last row_fault → ((column : ℕ) → IsFirstWide Fits last column → wide column) → IsUnmade wide fault
+not_made Fits last wide (row_faults.Wide column) fault e h w = subst (IsUnmade wide) (sym e) (w column h)
+not_made Fits last wide row_faults.Memory fault e h w = subst (IsUnmade wide) (sym e) tt
+
+pub unmade_more : (wide more : ℕ → Type 0) (fault : CoverFault) → ((column : ℕ) → wide column → more column) → IsUnmade wide fault → IsUnmade more fault
+unmade_more wide more (Splits path) f h = absurd h
+unmade_more wide more (Solve kept fault) f h = absurd h
+unmade_more wide more (Wide column) f h = f column h
+unmade_more wide more Memory f h = tt
+
+-- ---- fixed columns
+pub fixing_more : (w column : ℕ) (values : List ℤ) (v : ℤ) (rows one new : List Linear) (a b : Linear) → column < length values → v ≡ get_or values column v → a ≡ at_most_row w column v → b ≡ at_least_row w column (v -ℤ pos 1) → one ≡ rows ++ a ∷ [] → new ≡ one ++ b ∷ [] → fixes w 0 values ≡ rows ++ fixes w column (drop column values) → fixes w 0 values ≡ new ++ fixes w (column + 1) (drop (column + 1) values)
+fixing_more w column values v rows one new a b l e ea eb eo en h =
+    h
+    ∙ ap (λ ds. rows ++ fixes w column ds) (drop_more values column v l e)
+    ∙ (λ i. rows ++ sym ea i ∷ sym eb i ∷ fixes w (sym (next_of column) i) (drop (column + 1) values))
+    ∙ sym (append_assoc rows (a ∷ []) (b ∷ fixes w (column + 1) (drop (column + 1) values)))
+    ∙ ap (λ rs. rs ++ b ∷ fixes w (column + 1) (drop (column + 1) values)) (sym eo)
+    ∙ sym (append_assoc one (b ∷ []) (fixes w (column + 1) (drop (column + 1) values)))
+    ∙ ap (λ rs. rs ++ fixes w (column + 1) (drop (column + 1) values)) (sym en)
+
+length-neg : (xs : List ℤ) → length (map neg_ℤ xs) ≡ length xs
+length-neg xs = length-map xs neg_ℤ
+
+pub fixes_even : (w column : ℕ) (xs : List ℤ) → All (λ r. columns r ≡ w) (fixes w column xs)
+fixes_even w column [] = All-nil (λ r. columns r ≡ w)
+fixes_even w column (x ∷ xs) =
+    All-cons (λ r. columns r ≡ w) (at_most_row w column x) (at_least_row w column (x -ℤ pos 1) ∷ fixes w (suc column) xs) (length-unit w column)
+    (All-cons (λ r. columns r ≡ w) (at_least_row w column (x -ℤ pos 1)) (fixes w (suc column) xs) (length-neg (unit w column) ∙ length-unit w column) (fixes_even w (suc column) xs))
+
+low_value : (w c : ℕ) (k : ℤ) (zs : List ℤ) → length zs ≡ w → value (at_most_row w c k) zs ≡ get_or zs c (pos 0) -ℤ k
+low_value w c k zs e = let h = value-column_row w c zs (omega (arith, e)) in omega (arith, ints, h)
+
+high_value : (w c : ℕ) (k : ℤ) (zs : List ℤ) → length zs ≡ w → value (at_least_row w c k) zs ≡ k +ℤ pos 1 -ℤ get_or zs c (pos 0)
+high_value w c k zs e =
+    let d = value-denial (at_most_row w c k) zs in
+    let h = low_value w c k zs e in
+    omega (arith, ints, d, h)
+
+-- a point meets the rows that fix columns at its own numbers
+pub fixes_met : (w column : ℕ) (xs zs : List ℤ) → length zs ≡ w → ((j : ℕ) → j < length xs → get_or zs (column + j) (pos 0) ≡ get_or xs j (pos 0)) → All (IsMet zs) (fixes w column xs)
+fixes_met w column [] zs e h = All-nil (IsMet zs)
+fixes_met w column (x ∷ xs) zs e h =
+    let here : get_or zs column (pos 0) ≡ x = ap (λ k. get_or zs k (pos 0)) (let g : column ≡ column + 0 = omega arith in g) ∙ h 0 (omega arith) in
+    let low = low_value w column x zs e in
+    let high = high_value w column (x -ℤ pos 1) zs e in
+    All-cons (IsMet zs) (at_most_row w column x) (at_least_row w column (x -ℤ pos 1) ∷ fixes w (suc column) xs) (omega (arith, ints, low, here))
+    (All-cons (IsMet zs) (at_least_row w column (x -ℤ pos 1)) (fixes w (suc column) xs) (omega (arith, ints, high, here))
+    (fixes_met w (suc column) xs zs e (λ j l. ap (λ k. get_or zs k (pos 0)) (let g : suc column + j ≡ column + suc j = omega arith in g) ∙ h (suc j) (omega (arith, l)))))
+
+-- and a point that meets them has those numbers
+pub fixes_equal : (w column : ℕ) (xs zs : List ℤ) → length zs ≡ w → All (IsMet zs) (fixes w column xs) → (j : ℕ) → j < length xs → get_or zs (column + j) (pos 0) ≡ get_or xs j (pos 0)
+fixes_equal w column [] zs e h j l = absurd (omega (arith, l))
+fixes_equal w column (x ∷ xs) zs e h zero l =
+    let a = All-head (IsMet zs) (at_most_row w column x) (at_least_row w column (x -ℤ pos 1) ∷ fixes w (suc column) xs) h in
+    let r = All-tail (IsMet zs) (at_most_row w column x) (at_least_row w column (x -ℤ pos 1) ∷ fixes w (suc column) xs) h in
+    let b = All-head (IsMet zs) (at_least_row w column (x -ℤ pos 1)) (fixes w (suc column) xs) r in
+    let low = low_value w column x zs e in
+    let high = high_value w column (x -ℤ pos 1) zs e in
+    let g : get_or zs column (pos 0) ≡ x = omega (arith, ints, a, b, low, high) in
+    ap (λ k. get_or zs k (pos 0)) (let q : column + 0 ≡ column = omega arith in q) ∙ g
+fixes_equal w column (x ∷ xs) zs e h (suc j) l =
+    let r = All-tail (IsMet zs) (at_most_row w column x) (at_least_row w column (x -ℤ pos 1) ∷ fixes w (suc column) xs) h in
+    let s = All-tail (IsMet zs) (at_least_row w column (x -ℤ pos 1)) (fixes w (suc column) xs) r in
+    ap (λ k. get_or zs k (pos 0)) (let g : column + suc j ≡ suc column + j = omega arith in g) ∙ fixes_equal w (suc column) xs zs e s j (omega (arith, l))
+
+-- ---- lists of numbers
+pub same_front : (xs zs : List ℤ) → length xs ≤ length zs → ((j : ℕ) → j < length xs → get_or zs j (pos 0) ≡ get_or xs j (pos 0)) → take (length xs) zs ≡ xs
+same_front [] zs l h = refl
+same_front (x ∷ xs) [] l h = absurd (omega (arith, l))
+same_front (x ∷ xs) (z ∷ zs) l h = (λ i. h 0 (omega arith) i ∷ same_front xs zs (omega (arith, l)) (λ j k. h (suc j) (omega (arith, k))) i)
+
+pub get_or_front : (xs ds : List ℤ) (j : ℕ) → j < length xs → get_or (xs ++ ds) j (pos 0) ≡ get_or xs j (pos 0)
+get_or_front [] ds j l = absurd (omega (arith, l))
+get_or_front (x ∷ xs) ds zero l = refl
+get_or_front (x ∷ xs) ds (suc j) l = get_or_front xs ds j (omega (arith, l))
+
+pub front_back : {A : Type 0} (n : ℕ) (xs : List A) → take n xs ++ drop n xs ≡ xs
+front_back zero xs = refl
+front_back (suc n) [] = refl
+front_back (suc n) (x ∷ xs) = ap (λ ys. x ∷ ys) (front_back n xs)
+
+-- ---- padded rows
+get_or-zeros_behind : (cs : List ℤ) (m j : ℕ) → get_or (cs ++ zeros m) j (pos 0) ≡ get_or cs j (pos 0)
+get_or-zeros_behind [] m j = get_or-zeros m j
+get_or-zeros_behind (c ∷ cs) m zero = refl
+get_or-zeros_behind (c ∷ cs) m (suc j) = get_or-zeros_behind cs m j
+
+pub padded_same : (v more : ℕ) (rows : List Linear) → AreSame v (as_given (map (padded_row more) rows)) (as_given rows)
+padded_same v more [] = tt
+padded_same v more (r ∷ rows) = (
+  record {
+    inner = λ j l. sym (get_or-zeros_behind r.coefficients more j);
+    constant = refl;
+    inner_held = λ j l h. tt;
+    constant_held = λ h. tt;
+  },
+  padded_same v more rows,
+)
+
+pub padded_even : (n more : ℕ) (rows : List Linear) → All (λ r. columns r ≡ n) rows → All (λ r. columns r ≡ n + more) (map (padded_row more) rows)
+padded_even n more [] h = All-nil (λ r. columns r ≡ n + more)
+padded_even n more (r ∷ rows) h =
+    let e = All-head (λ r. columns r ≡ n) r rows h in
+    let a = length-append r.coefficients (zeros more) in
+    let z = length-zeros more in
+    All-cons (λ r. columns r ≡ n + more) (padded_row more r) (map (padded_row more) rows) (omega (arith, a, z, e)) (padded_even n more rows (All-tail (λ r. columns r ≡ n) r rows h))
+
+dot-zeros : (m : ℕ) (xs : List ℤ) → dot (zeros m) xs ≡ pos 0
+dot-zeros zero xs = refl
+dot-zeros (suc m) [] = refl
+dot-zeros (suc m) (x ∷ xs) = let h = dot-zeros m xs in omega (arith, ints, h)
+
+dot-padded : (n m : ℕ) (cs xs : List ℤ) → length cs ≡ n → dot (cs ++ zeros m) xs ≡ dot cs (take n xs)
+dot-padded zero m [] xs e = dot-zeros m xs
+dot-padded zero m (c ∷ cs) xs e = absurd (omega (arith, e))
+dot-padded (suc n) m [] xs e = absurd (omega (arith, e))
+dot-padded (suc n) m (c ∷ cs) [] e = refl
+dot-padded (suc n) m (c ∷ cs) (x ∷ xs) e = ap (λ z. (c *ℤ x) +ℤ z) (dot-padded n m cs xs (omega (arith, e)))
+
+pub padded_met : (n more : ℕ) (rows : List Linear) (zs : List ℤ) → All (λ r. columns r ≡ n) rows → All (IsMet zs) (map (padded_row more) rows) → All (IsMet (take n zs)) rows
+padded_met n more [] zs e h = All-nil (IsMet (take n zs))
+padded_met n more (r ∷ rows) zs e h =
+    let d = dot-padded n more r.coefficients zs (All-head (λ r. columns r ≡ n) r rows e) in
+    let m = All-head (IsMet zs) (padded_row more r) (map (padded_row more) rows) h in
+    All-cons (IsMet (take n zs)) r rows (omega (arith, ints, d, m)) (padded_met n more rows zs (All-tail (λ r. columns r ≡ n) r rows e) (All-tail (IsMet zs) (padded_row more r) (map (padded_row more) rows) h))
+
+-- and the other way, with numbers behind a point
+pub met_padded : (n more : ℕ) (rows : List Linear) (xs ds : List ℤ) → All (λ r. columns r ≡ n) rows → length xs ≡ n → All (IsMet xs) rows → All (IsMet (xs ++ ds)) (map (padded_row more) rows)
+met_padded n more [] xs ds e w h = All-nil (IsMet (xs ++ ds))
+met_padded n more (r ∷ rows) xs ds e w h =
+    let d = dot-padded n more r.coefficients (xs ++ ds) (All-head (λ r. columns r ≡ n) r rows e) ∙ ap (dot r.coefficients) (front_is n xs ds w) in
+    let m = All-head (IsMet xs) r rows h in
+    All-cons (IsMet (xs ++ ds)) (padded_row more r) (map (padded_row more) rows) (omega (arith, ints, d, m)) (met_padded n more rows xs ds (All-tail (λ r. columns r ≡ n) r rows e) w (All-tail (IsMet xs) r rows h))
+  where
+    front_is : (n : ℕ) (xs ds : List ℤ) → length xs ≡ n → take n (xs ++ ds) ≡ xs
+    front_is zero [] ds e = refl
+    front_is zero (x ∷ xs) ds e = absurd (omega (arith, e))
+    front_is (suc n) [] ds e = absurd (omega (arith, e))
+    front_is (suc n) (x ∷ xs) ds e = ap (λ ys. x ∷ ys) (front_is n xs ds (omega (arith, e)))
+
+-- ---- the rows of a case
+append_none : {A : Type 0} (xs : List A) → xs ++ [] ≡ xs
+append_none [] = refl
+append_none (x ∷ xs) = ap (λ ys. x ∷ ys) (append_none xs)
+
+given_guards : (n : ℕ) (c : LinearCase) → as_given c.guards ++ map (case_change n c) [] ≡ as_given c.guards
+given_guards n c = append_none (as_given c.guards)
+
+pub case_rows_none : (n : ℕ) (c : LinearCase) (rows : List Linear) → All (λ r. columns r ≡ n + c.draws) c.guards → rows ≡ c.guards → AreCaseRows n c [] rows
+case_rows_none n c rows even e = subst (λ rs. AreCaseRows n c [] rs) (sym e) record {
+  exact = sym (append_none c.guards);
+  even = even;
+  seen = subst (λ ks. AreSame (n + c.draws) (as_given c.guards) ks) (sym (given_guards n c)) (all_same (n + c.draws) (as_given c.guards));
+}
+
+-- the same, and each row of the piece fits before the case
+pub record AreMade (n : ℕ) (c : LinearCase) (owed rows : List Linear) : Type 0 where
+  pub are : AreCaseRows n c owed rows
+  pub fits : All (λ r. (column : ℕ) → column ≤ columns (before r c) → FitsTerms (columns r + c.draws) r (rows_after r c) column) owed
+
+pub made_none : (n : ℕ) (c : LinearCase) (rows : List Linear) → All (λ r. columns r ≡ n + c.draws) c.guards → rows ≡ c.guards → AreMade n c [] rows
+made_none n c rows even e = record { are = case_rows_none n c rows even e; fits = All-nil (λ r. (column : ℕ) → column ≤ columns (before r c) → FitsTerms (columns r + c.draws) r (rows_after r c) column) }
+
+pub made_wide : (n : ℕ) (c : LinearCase) (owed : List Linear) (i : ℕ) (r : Linear) (rows : List Linear) (column : ℕ) → i < length owed → r ≡ get_or owed i r → AreMade n c (take i owed) rows → IsFirstWide (FitsTerms (columns r + c.draws) r (rows_after r c)) (columns (before r c)) column → IsWideBefore c owed column
+made_wide n c owed i r rows column l e h w = record { place = i; row = r; found = slice_get_read owed (length owed) i r refl l e; earlier = h.fits; wide = w }
+
+pub composed_wide : (rows terms : List Linear) (i : ℕ) (r : Linear) (all : List Linear) (column : ℕ) → i < length rows → r ≡ get_or rows i r → AreComposed (take i rows) terms all → IsFirstWide (FitsComposed r terms) (columns (composed_row r terms)) column → IsWidePut terms rows column
+composed_wide rows terms i r all column l e h w = record { place = i; row = r; found = slice_get_read rows (length rows) i r refl l e; earlier = h.fits; wide = w }
+
+length-table : {A : Type 0} (n : ℕ) (f : ℕ → A) → length (table n f) ≡ n
+length-table zero f = refl
+length-table (suc n) f = ap suc (length-table n (λ j. f (suc j)))
+
+-- one more row
+pub case_rows_more : (n : ℕ) (c : LinearCase) (owed : List Linear) (i : ℕ) (r s : Linear) (rows new : List Linear) → i < length owed → r ≡ get_or owed i r → columns r ≡ n → All (λ u. columns u.term ≡ n + c.draws) c.updates → s ≡ before r c → ((column : ℕ) → column ≤ columns (before r c) → FitsTerms (columns r + c.draws) r (rows_after r c) column) → new ≡ rows ++ s ∷ [] → AreCaseRows n c (take i owed) rows → AreCaseRows n c (take (i + 1) owed) new
+case_rows_more n c owed i r s rows new l e wide us same fits en h =
+    subst (λ os. AreCaseRows n c os new) (sym (take_more owed i r l e)) (subst (λ rs. AreCaseRows n c (take i owed ++ r ∷ []) rs) (sym (en ∙ ap (λ x. rows ++ x ∷ []) same)) record {
+      exact = ap (λ rs. rs ++ before r c ∷ []) h.exact ∙ append_assoc c.guards (map (λ q. before q c) (take i owed)) (before r c ∷ []) ∙ ap (λ rs. c.guards ++ rs) (sym (map-append (λ q. before q c) (take i owed) (r ∷ [])));
+      even = All-push (λ q. columns q ≡ n + c.draws) rows (before r c) h.even put.even;
+      seen = subst (λ ks. AreSame (n + c.draws) ks (as_given c.guards ++ map (case_change n c) (take i owed ++ r ∷ []))) (sym (given_append rows (before r c ∷ [])))
+          (subst (λ ks. AreSame (n + c.draws) (as_given rows ++ given (before r c) ∷ []) ks)
+          (append_assoc (as_given c.guards) (map (case_change n c) (take i owed)) (case_change n c r ∷ []) ∙ ap (λ ks. as_given c.guards ++ ks) (sym (map-append (case_change n c) (take i owed) (r ∷ []))))
+          (same_push (n + c.draws) (as_given rows) (as_given c.guards ++ map (case_change n c) (take i owed)) (given (before r c)) (case_change n c r) h.seen one));
+    })
+  where
+    put : PutIn (n + c.draws) r (map (term_row (n + c.draws)) (terms_after n c.updates)) (before r c)
+    put = put_before n r c wide us fits
+
+    many : length (map (term_row (n + c.draws)) (terms_after n c.updates)) ≡ n
+    many = length-map (terms_after n c.updates) (term_row (n + c.draws)) ∙ length-table n (update_of c.updates)
+
+    one : SameNumbers (n + c.draws) (given (before r c)) (case_change n c r)
+    one = composed_same n (n + c.draws) r (before r c) (given r) (terms_after n c.updates) (map (term_row (n + c.draws)) (terms_after n c.updates)) wide many (same_self n (given r)) (after_terms (n + c.draws) n c.updates us) put
+
+pub made_more : (n : ℕ) (c : LinearCase) (owed : List Linear) (i : ℕ) (r s : Linear) (rows new : List Linear) → i < length owed → r ≡ get_or owed i r → columns r ≡ n → All (λ u. columns u.term ≡ n + c.draws) c.updates → s ≡ before r c → ((column : ℕ) → column ≤ columns (before r c) → FitsTerms (columns r + c.draws) r (rows_after r c) column) → new ≡ rows ++ s ∷ [] → AreMade n c (take i owed) rows → AreMade n c (take (i + 1) owed) new
+made_more n c owed i r s rows new l e wide us same fits en h = record {
+  are = case_rows_more n c owed i r s rows new l e wide us same fits en h.are;
+  fits = subst (All Fits) (sym (take_more owed i r l e)) (All-push Fits (take i owed) r h.fits fits);
+}
+  where
+    Fits : Linear → Type 0
+    Fits q = (column : ℕ) → column ≤ columns (before q c) → FitsTerms (columns q + c.draws) q (rows_after q c) column
+
+-- ---- terms put in
+pub columns_more : (n column : ℕ) (terms new : List Linear) → column < n → new ≡ terms ++ column_row n column ∷ [] → columns_from n 0 n ≡ terms ++ columns_from n column (n - column) → columns_from n 0 n ≡ new ++ columns_from n (column + 1) (n - (column + 1))
+columns_more n column terms new l e h =
+    h
+    ∙ ap (λ k. terms ++ columns_from n column k) (let g : n - column ≡ suc (n - (column + 1)) = omega (arith, l) in g)
+    ∙ ap (λ k. terms ++ column_row n column ∷ columns_from n k (n - (column + 1))) (sym (next_of column))
+    ∙ sym (append_assoc terms (column_row n column ∷ []) (columns_from n (column + 1) (n - (column + 1))))
+    ∙ ap (λ ts. ts ++ columns_from n (column + 1) (n - (column + 1))) (sym e)
+
+pub composed_more : (rows terms : List Linear) (i : ℕ) (r s : Linear) (all new : List Linear) → i < length rows → r ≡ get_or rows i r → s ≡ composed_row r terms → ((column : ℕ) → column ≤ columns (composed_row r terms) → FitsComposed r terms column) → new ≡ all ++ s ∷ [] → AreComposed (take i rows) terms all → AreComposed (take (i + 1) rows) terms new
+composed_more rows terms i r s all new l e same fits en h =
+    subst (λ rs. AreComposed rs terms new) (sym (take_more rows i r l e)) record {
+      exact = en ∙ (λ j. h.exact j ++ same j ∷ []) ∙ sym (map-append (λ q. composed_row q terms) (take i rows) (r ∷ []));
+      fits = All-push (λ q. (column : ℕ) → column ≤ columns (composed_row q terms) → FitsComposed q terms column) (take i rows) r h.fits fits;
+    }
+
+-- the rows of a way have the numbers of what a certificate makes of them
+drawn_same : (n w : ℕ) (draws rows : List Linear) (known : List Known) → w ≡ n + length draws → All (λ t. columns t ≡ n) draws → All (λ r. columns r ≡ w) rows → All (λ r. (column : ℕ) → column ≤ columns (composed_row r (put_terms n draws)) → FitsComposed r (put_terms n draws) column) rows → AreSame w (as_given rows) known → AreSame n (as_given (map (λ r. composed_row r (put_terms n draws)) rows)) (map (λ k. composed k (draw_terms n draws)) known)
+drawn_same n w draws [] [] e d wide fits h = tt
+drawn_same n w draws [] (k ∷ known) e d wide fits h = absurd h
+drawn_same n w draws (r ∷ rows) [] e d wide fits h = absurd h
+drawn_same n w draws (r ∷ rows) (k ∷ known) e d wide fits h =
+    let P = λ (q : Linear). (column : ℕ) → column ≤ columns (composed_row q (put_terms n draws)) → FitsComposed q (put_terms n draws) column in (
+      composed_same w n r (composed_row r (put_terms n draws)) k (draw_terms n draws) (put_terms n draws) (All-head (λ q. columns q ≡ w) r rows wide) (length-put_terms n draws ∙ sym e) h.0 (drawn_terms n draws d) (put_drawn n r draws d (All-head P r rows fits)),
+      drawn_same n w draws rows known e d (All-tail (λ q. columns q ≡ w) r rows wide) (All-tail P r rows fits) h.1,
+    )
+
+drawn_even : (n w : ℕ) (draws rows : List Linear) → All (λ t. columns t ≡ n) draws → All (λ r. (column : ℕ) → column ≤ columns (composed_row r (put_terms n draws)) → FitsComposed r (put_terms n draws) column) rows → All (λ r. columns r ≡ n) (map (λ r. composed_row r (put_terms n draws)) rows)
+drawn_even n w draws [] d fits = All-nil (λ r. columns r ≡ n)
+drawn_even n w draws (r ∷ rows) d fits =
+    let P = λ (q : Linear). (column : ℕ) → column ≤ columns (composed_row q (put_terms n draws)) → FitsComposed q (put_terms n draws) column in
+    All-cons (λ r. columns r ≡ n) (composed_row r (put_terms n draws)) (map (λ r. composed_row r (put_terms n draws)) rows) (put_drawn n r draws d (All-head P r rows fits)).even (drawn_even n w draws rows d (All-tail P r rows fits))
+
+change_all : (n : ℕ) (c : LinearCase) (draws owed : List Linear) → map (λ k. composed k (draw_terms n draws)) (as_given c.guards ++ map (case_change n c) owed) ≡ drawn_guards n c draws ++ map (drawn_change n c draws) owed
+change_all n c draws owed =
+    map-append (λ k. composed k (draw_terms n draws)) (as_given c.guards) (map (case_change n c) owed)
+    ∙ (λ i. map-map (λ k. composed k (draw_terms n draws)) (λ r. given r) c.guards i ++ map-map (λ k. composed k (draw_terms n draws)) (case_change n c) owed i)
+  where
+    map-map : {A B C : Type 0} (f : B → C) (g : A → B) (xs : List A) → map f (map g xs) ≡ map (λ x. f (g x)) xs
+    map-map f g [] = refl
+    map-map f g (x ∷ xs) = ap (λ ys. f (g x) ∷ ys) (map-map f g xs)
+
+-- the way is one by its case into its piece
+pub is_way : (n : ℕ) (q : Query) (above : List Linear) (c : LinearCase) (p : Piece) (taken target : ℕ) (rows draws : List Linear) (w : Way) → slice_get q.system.cases taken ≡ Some c → c.from ≡ q.location → slice_get (pieces_at q.pieces c.to) target ≡ Some p → IsCase q.system.variables q.system.locations c → All (λ r. columns r ≡ n) (piece_rows p) → length draws ≡ c.draws → All (λ r. columns r ≡ n) draws → AreDrawTerms n q above c p draws → AreCaseRows n c (piece_rows p) rows → IsWayOf n taken target rows draws w → IsWay n q above w
+is_way n q above c p taken target rows draws w found leaves enters case owed drawn terms origin h m = record {
+  case = c;
+  found = ap (λ k. slice_get q.system.cases k) m.taken_is ∙ found;
+  leaves = leaves;
+  piece = p;
+  enters = ap (λ k. slice_get (pieces_at q.pieces c.to) k) m.target_is ∙ enters;
+  is_case = case;
+  owed = owed;
+  drawn = ap length m.draws_are ∙ drawn;
+  terms = subst (λ ds. All (λ r. columns r ≡ n) ds) (sym m.draws_are) terms;
+  origin = subst (λ ds. AreDrawTerms n q above c p ds) (sym m.draws_are) origin;
+  exact = m.made.exact ∙ (λ i. map (λ r. composed_row r (put_terms n (sym m.draws_are i))) (h.exact i));
+  even = subst (λ rs. All (λ r. columns r ≡ n) rs) (sym m.made.exact) (drawn_even n (n + c.draws) draws rows terms m.made.fits);
+  seen = subst (λ ds. AreSame n (as_given w.rows.items) (drawn_guards n c ds ++ map (drawn_change n c ds) (piece_rows p))) (sym m.draws_are)
+      (subst (λ rs. AreSame n (as_given rs) (drawn_guards n c draws ++ map (drawn_change n c draws) (piece_rows p))) (sym m.made.exact)
+      (subst (λ ks. AreSame n (as_given (map (λ r. composed_row r (put_terms n draws)) rows)) ks) (change_all n c draws (piece_rows p))
+      (drawn_same n (n + c.draws) draws rows (as_given c.guards ++ map (case_change n c) (piece_rows p)) (ap (λ k. n + k) (sym drawn)) terms h.even m.made.fits h.seen)));
+}
+
+-- ---- values of a way
+column_values : (n v m : ℕ) (xs : List ℤ) → length xs ≡ n → v + m ≡ n → map (λ t. value t xs) (columns_from n v m) ≡ drop v xs
+column_values n v zero xs e g = sym (drop_all v xs (omega (arith, e, g)))
+  where
+    drop_all : (k : ℕ) (ys : List ℤ) → length ys ≤ k → drop k ys ≡ []
+    drop_all zero [] l = refl
+    drop_all zero (y ∷ ys) l = absurd (omega (arith, l))
+    drop_all (suc k) [] l = refl
+    drop_all (suc k) (y ∷ ys) l = drop_all k ys (omega (arith, l))
+column_values n v (suc m) xs e g =
+    (λ i. value-column_row n v xs (omega (arith, e)) i ∷ column_values n (suc v) m xs e (omega (arith, g)) i)
+    ∙ sym (drop-cons xs v (pos 0) (omega (arith, e, g)))
+
+constant_values : (n : ℕ) (ds xs : List ℤ) → map (λ t. value t xs) (map (constant_row n) ds) ≡ ds
+constant_values n [] xs = refl
+constant_values n (d ∷ ds) xs = (λ i. value-constant_row n d xs i ∷ constant_values n ds xs i)
+
+put_values : (n : ℕ) (ds xs : List ℤ) → length xs ≡ n → map (λ t. value t xs) (put_terms n (map (constant_row n) ds)) ≡ xs ++ ds
+put_values n ds xs e =
+    map-append (λ t. value t xs) (columns_from n 0 n) (map (constant_row n) ds)
+    ∙ (λ i. column_values n 0 n xs e (omega arith) i ++ constant_values n ds xs i)
+
+-- the values that are put in for the columns
+drawn_values : (n : ℕ) (draws : List Linear) (xs : List ℤ) → length xs ≡ n → map (λ t. value t xs) (put_terms n draws) ≡ xs ++ map (λ t. value t xs) draws
+drawn_values n draws xs e =
+    map-append (λ t. value t xs) (columns_from n 0 n) draws
+    ∙ ap (λ ys. ys ++ map (λ t. value t xs) draws) (column_values n 0 n xs e (omega arith))
+
+-- where the rows with terms put in are met, the rows are met with the values of the terms
+pub put_met : (n : ℕ) (draws : List Linear) (xs : List ℤ) (rows : List Linear) → length xs ≡ n → All (IsMet xs) (put_rows n draws rows) → All (IsMet (xs ++ map (λ t. value t xs) draws)) rows
+put_met n draws xs [] e h = All-nil (IsMet (xs ++ map (λ t. value t xs) draws))
+put_met n draws xs (r ∷ rows) e h =
+    let terms = put_terms n draws in
+    All-cons (IsMet (xs ++ map (λ t. value t xs) draws)) r rows
+    (subst (λ z. z ≤ℤ pos 0) (value-composed r terms xs ∙ ap (value r) (drawn_values n draws xs e)) (All-head (IsMet xs) (composed_row r terms) (put_rows n draws rows) h))
+    (put_met n draws xs rows e (All-tail (IsMet xs) (composed_row r terms) (put_rows n draws rows) h))
+
+all_composed_met : (n : ℕ) (ds xs : List ℤ) (rows : List Linear) → length xs ≡ n → All (IsMet (xs ++ ds)) rows → All (IsMet xs) (map (λ r. composed_row r (put_terms n (map (constant_row n) ds))) rows)
+all_composed_met n ds xs [] e h = All-nil (IsMet xs)
+all_composed_met n ds xs (r ∷ rows) e h =
+    let terms = put_terms n (map (constant_row n) ds) in
+    All-cons (IsMet xs) (composed_row r terms) (map (λ r. composed_row r terms) rows)
+    (subst (λ z. z ≤ℤ pos 0) (sym (value-composed r terms xs ∙ ap (value r) (put_values n ds xs e))) (All-head (IsMet (xs ++ ds)) r rows h))
+    (all_composed_met n ds xs rows e (All-tail (IsMet (xs ++ ds)) r rows h))
+
+-- a way with numbers for the draws is met where the rows of the case are met with them
+pub way_met : (n taken target : ℕ) (rows : List Linear) (ds xs : List ℤ) (w : Way) → length xs ≡ n → All (IsMet (xs ++ ds)) rows → IsWayOf n taken target rows (map (constant_row n) ds) w → All (IsMet xs) w.rows.items
+way_met n taken target rows ds xs w e h m = subst (λ rs. All (IsMet xs) rs) (sym m.made.exact) (all_composed_met n ds xs rows e h)
+
+pub constants_even : (n : ℕ) (ds : List ℤ) → All (λ r. columns r ≡ n) (map (constant_row n) ds)
+constants_even n [] = All-nil (λ r. columns r ≡ n)
+constants_even n (d ∷ ds) = All-cons (λ r. columns r ≡ n) (constant_row n d) (map (constant_row n) ds) (length-zeros n) (constants_even n ds)
+
+-- ---- what is met before a case
+pub before_met : (n : ℕ) (c : LinearCase) (owed : List Linear) (xs ds : List ℤ) → All (λ r. columns r ≡ n) owed → length xs ≡ n → length ds ≡ c.draws → All (IsMet (map (term_value (xs ++ ds)) (terms_after n c.updates))) owed → All (IsMet (xs ++ ds)) (map (λ r. before r c) owed)
+before_met n c [] xs ds even e d h = All-nil (IsMet (xs ++ ds))
+before_met n c (r ∷ owed) xs ds even e d h =
+    let wide = All-head (λ r. columns r ≡ n) r owed even in
+    let v = before-value r c xs ds (e ∙ sym wide) d ∙ ap (λ k. value r (map (term_value (xs ++ ds)) (terms_after k c.updates))) e in
+    All-cons (IsMet (xs ++ ds)) (before r c) (map (λ r. before r c) owed)
+    (subst (λ z. z ≤ℤ pos 0) (sym v) (All-head (IsMet (map (term_value (xs ++ ds)) (terms_after n c.updates))) r owed h))
+    (before_met n c owed xs ds (All-tail (λ r. columns r ≡ n) r owed even) e d (All-tail (IsMet (map (term_value (xs ++ ds)) (terms_after n c.updates))) r owed h))
+
+-- and the other way
+pub met_before : (n : ℕ) (c : LinearCase) (owed : List Linear) (xs ds : List ℤ) → All (λ r. columns r ≡ n) owed → length xs ≡ n → length ds ≡ c.draws → All (IsMet (xs ++ ds)) (map (λ r. before r c) owed) → All (IsMet (map (term_value (xs ++ ds)) (terms_after n c.updates))) owed
+met_before n c [] xs ds even e d h = All-nil (IsMet (map (term_value (xs ++ ds)) (terms_after n c.updates)))
+met_before n c (r ∷ owed) xs ds even e d h =
+    let wide = All-head (λ r. columns r ≡ n) r owed even in
+    let v = before-value r c xs ds (e ∙ sym wide) d ∙ ap (λ k. value r (map (term_value (xs ++ ds)) (terms_after k c.updates))) e in
+    All-cons (IsMet (map (term_value (xs ++ ds)) (terms_after n c.updates))) r owed
+    (subst (λ z. z ≤ℤ pos 0) v (All-head (IsMet (xs ++ ds)) (before r c) (map (λ r. before r c) owed) h))
+    (met_before n c owed xs ds (All-tail (λ r. columns r ≡ n) r owed even) e d (All-tail (IsMet (xs ++ ds)) (before r c) (map (λ r. before r c) owed) h))
+
+-- the point with draws meets the rows that are asked
+pub asked_met : (n : ℕ) (c : LinearCase) (owed rows : List Linear) (xs ds : List ℤ) → AreCaseRows n c owed rows → All (λ r. columns r ≡ n) owed → length xs ≡ n → length ds ≡ c.draws → All (IsMet (xs ++ ds)) c.guards → All (IsMet (map (term_value (xs ++ ds)) (terms_after n c.updates))) owed → IsWholePoint (n + c.draws) (fixes (n + c.draws) 0 xs ++ rows) (xs ++ ds)
+asked_met n c owed rows xs ds h even e d guards met = record {
+  width = long;
+  met = All-append (IsMet (xs ++ ds)) (fixes (n + c.draws) 0 xs) rows
+      (fixes_met (n + c.draws) 0 xs (xs ++ ds) long (λ j l. ap (λ k. get_or (xs ++ ds) k (pos 0)) (let g : 0 + j ≡ j = omega arith in g) ∙ get_or_front xs ds j l))
+      (subst (λ rs. All (IsMet (xs ++ ds)) rs) (sym h.exact) (All-append (IsMet (xs ++ ds)) c.guards (map (λ r. before r c) owed) guards (before_met n c owed xs ds even e d met)));
+}
+  where
+    long : length (xs ++ ds) ≡ n + c.draws
+    long = length-append xs ds ∙ (λ i. e i + d i)
+
+-- a whole point of the rows that are asked is the point and draws
+pub all_behind : {A : Type 0} (P : A → Type 0) (xs ys : List A) → All P (xs ++ ys) → All P ys
+all_behind P [] ys h = h
+all_behind P (x ∷ xs) ys h = all_behind P xs ys (All-tail P x (xs ++ ys) h)
+
+pub all_before : {A : Type 0} (P : A → Type 0) (xs ys : List A) → All P (xs ++ ys) → All P xs
+all_before P [] ys h = All-nil P
+all_before P (x ∷ xs) ys h = All-cons P x xs (All-head P x (xs ++ ys) h) (all_before P xs ys (All-tail P x (xs ++ ys) h))
+
+pub answered : (n d : ℕ) (rows : List Linear) (xs zs : List ℤ) → length xs ≡ n → IsWholePoint (n + d) (fixes (n + d) 0 xs ++ rows) zs → zs ≡ xs ++ drop n zs
+answered n d rows xs zs e p =
+    let f = fixes_equal (n + d) 0 xs zs p.width (all_before (IsMet zs) (fixes (n + d) 0 xs) rows p.met) in
+    let w = p.width in
+    let t = same_front xs zs (omega (arith, e, w)) (λ j l. ap (λ k. get_or zs k (pos 0)) (let g : j ≡ 0 + j = omega arith in g) ∙ f j l) in
+    sym (front_back n zs) ∙ ap (λ ys. ys ++ drop n zs) (ap (λ k. take k zs) (sym e) ∙ t)
+
+pub answered_met : (n d : ℕ) (rows : List Linear) (xs zs : List ℤ) → length xs ≡ n → IsWholePoint (n + d) (fixes (n + d) 0 xs ++ rows) zs → All (IsMet (xs ++ drop n zs)) rows
+answered_met n d rows xs zs e p = subst (λ ys. All (IsMet ys) rows) (answered n d rows xs zs e p) (all_behind (IsMet zs) (fixes (n + d) 0 xs) rows p.met)
+
+pub length-drop : (n d : ℕ) (zs : List ℤ) → length zs ≡ n + d → length (drop n zs) ≡ d
+length-drop zero d zs e = e ∙ (let g : 0 + d ≡ d = omega arith in g)
+length-drop (suc n) d [] e = absurd (omega (arith, e))
+length-drop (suc n) d (z ∷ zs) e = length-drop n d zs (omega (arith, e))
+
+pub asked_even : (n : ℕ) (c : LinearCase) (owed rows : List Linear) (xs : List ℤ) → AreCaseRows n c owed rows → All (λ r. columns r ≡ n + c.draws) (fixes (n + c.draws) 0 xs ++ rows)
+asked_even n c owed rows xs h = All-append (λ r. columns r ≡ n + c.draws) (fixes (n + c.draws) 0 xs) rows (fixes_even (n + c.draws) 0 xs) h.even
+
+short_behind : (n : ℕ) (zs : List ℤ) → ((j : ℕ) → j < length zs → unsigned_abs (get_or zs j (pos 0)) < 2 ^ 62) → (j : ℕ) → j < length (drop n zs) → unsigned_abs (get_or (drop n zs) j (pos 0)) < 2 ^ 62
+short_behind zero zs h j l = h j l
+short_behind (suc n) [] h j l = absurd (omega (arith, l))
+short_behind (suc n) (z ∷ zs) h j l = short_behind n zs (λ i k. h (suc i) (omega (arith, k))) j l
+
+pub short_back : (n : ℕ) (zs : List ℤ) → AreShort zs → AreShort (drop n zs)
+short_back n zs h = short_behind n zs h
+
+pub padded_narrow : (cs : List ℤ) (k : ℤ) (m w : ℕ) → IsNarrow (linear cs k) → length cs + m ≡ w → w < 2 ^ 32 - 1 → IsNarrow (linear (cs ++ zeros m) (pos 0))
+padded_narrow cs k m w h e l = record {
+  coefficients = All-append (IsWithin 62) cs (zeros m) h.coefficients (zeros-narrow m);
+  constant = omega arith;
+  few = (let a = length-append cs (zeros m) in let z = length-zeros m in omega (arith, a, z, e, l));
+}

@@ -1,0 +1,6 @@
+use Rattle.std.proofs.Common.{take, false}
+use Rattle.tv_choice.specs.Looking.{IsAnyExcluded}
+use Rattle.tv_choice.proofs.looking.any_excluded.Given as goal
+
+abbrev pub invariant-owed : goal.invariant-owed
+invariant-owed l = IsAnyExcluded l.question.columns l.rows (take l.place l.owed) false

@@ -1,0 +1,23 @@
+use Rattle.std.proofs.Common.{◌≡◌, ◌∙◌, ◌++◌, ◌+◌}
+use Rattle.tv_cases.specs.Before.{before, rows_after, FitsTerms}
+use Rattle.tv_choice.specs.Rows.{IsWideBefore}
+use Rattle.tv_cases.specs.Views.{case_view}
+use Rattle.tv_linear.specs.Linear.{columns as width}
+use Rattle.tv_choice.proofs.WayLemmas.{made_none, made_more, made_wide, at_of, not_made}
+use Rattle.tv_choice.proofs.ways.case_rows.Goals as goal
+
+pub owed-init : goal.owed-init
+owed-init c =
+    made_none c.args.columns (case_view c.args.case.now) c.copy_onto.new.items.items c.requires.guards (c.in_ok-copy_onto.ensures.copied ∙ (λ i. c.new-rows.ensures.items i ++ c.deref.ensures.value i))
+
+pub owed-preserved : goal.owed-preserved
+owed-preserved c =
+    let g = c.in-Ok.ensures.exact in
+    made_more c.args.columns (case_view c.args.case.now) c.args.owed.now c.owed.row-index c.row-item.result c.in-Ok.made c.owed.rows.items c.push_item.new.items.items c.owed-test.true c.row-item.is
+    (at_of (λ r. width r ≡ c.args.columns) c.args.owed.now c.owed.row-index c.row-item.result c.requires.owed c.owed-test.true c.row-item.is) c.requires.terms g.same g.fits c.in_ok-push_item-in-Ok.ensures c.owed.invariant
+
+pub returns-in-Err-clause-refusals : goal.returns-in-Err-clause-refusals
+returns-in-Err-clause-refusals c =
+    let r = c.row-item.result in
+    let case = case_view c.args.case.now in
+    not_made (FitsTerms (width r + case.draws) r (rows_after r case)) (width (before r case)) (IsWideBefore case c.args.owed.now) c.in-Err.fault c.unmade.result c.unmade.ensures c.in-Err.ensures.exact (λ column w. made_wide c.args.columns case c.args.owed.now c.owed.row-index r c.owed.rows.items column c.owed-test.true c.row-item.is c.owed.invariant w)

@@ -1,0 +1,13 @@
+pub mod Rows
+pub mod Leading
+pub mod Targets
+pub mod ChoicePaths
+pub mod Refusals
+pub mod Choosing
+pub mod Same
+pub mod Asked
+pub mod Ways
+pub mod Looking
+pub mod Stepping
+pub mod Stopping
+pub mod Settling

@@ -1,0 +1,91 @@
+// Terms for draws.
+
+ghost use Rattle.std.specs.Prelude.{◌≡◌, ◌+◌, ◌-◌, ◌^◌, ◌<◌, ◌++◌, ◌∷◌, [], All, map, IfOk};
+ghost use Rattle.tv_linear.specs.Linear.{columns as width};
+ghost use Rattle.tv_choice.specs.Targets.{front, term_of, one_term, terms_given, draw_choices};
+
+use std::alloc::{AllocError, Global};
+use tv_linear::Row;
+use tv_simplex::push_item;
+
+/// The row without its columns from `columns` on.
+fn front(alloc: Global, row: &Row, columns: u32) -> Result<Row, AllocError>
+    requires { columns < width row.now }
+    ensures { IfOk result (λ r. r ≡ front columns row.now) }
+{
+    let (inner, _) = row.coefficients().split_at(columns as usize);
+    let zero = Row::from_narrow(Vec::from_slice(alloc, inner)?, 0);
+    zero.with_constant(alloc, row.constant())
+}
+
+/// The term that a row with the coefficient 1 or -1 at the one draw gives for it.
+fn term_at(alloc: Global, row: &Row, columns: u32) -> Result<Option<Row>, AllocError>
+    requires one { width row.now ≡ columns + 1 }
+    ensures { IfOk result (λ o. o ≡ term_of columns row.now) }
+{
+    let coefficient = row.coefficient(columns);
+    if coefficient == 1 {
+        let rest = front(alloc, row, columns)?;
+        return Ok(Some(rest.opposite(alloc)?));
+    }
+    if coefficient == -1 {
+        return Ok(Some(front(alloc, row, columns)?));
+    }
+    Ok(None)
+}
+
+/// A list of one term.
+fn listed(alloc: Global, term: Row) -> Result<Vec<Row>, AllocError>
+    ensures { IfOk result (λ v. v.items ≡ term ∷ []) }
+{
+    let mut terms = Vec::new(alloc);
+    push_item(&mut terms, term)?;
+    Ok(terms)
+}
+
+/// Puts a term, if there is one, as a list of its own at the end of the lists.
+fn push_term(
+    alloc: Global,
+    lists: &mut Vec<Vec<Row>>,
+    term: Option<Row>,
+) -> Result<(), AllocError>
+    ensures { IfOk result (λ _. map (λ l. l.items) lists.new.items ≡ map (λ l. l.items) lists.old.items ++ one_term term) }
+{
+    match term {
+        None => Ok(()),
+        Some(term) => push_item(lists, listed(alloc, term)?),
+    }
+}
+
+/// For each row that gives one the term for the one draw.
+fn terms_given(alloc: Global, rows: &[Row], columns: u32) -> Result<Vec<Vec<Row>>, AllocError>
+    requires one { All (λ r. width r ≡ columns + 1) rows.now }
+    ensures { IfOk result (λ v. map (λ l. l.items) v.items ≡ terms_given columns rows.now) }
+{
+    let mut lists = Vec::new(alloc);
+    'rows: for row in rows {
+        push_term(alloc, &mut lists, term_at(alloc, row, columns)?)?;
+    }
+    Ok(lists)
+}
+
+/// The lists of terms for so many draws that the rows of a case give: one without terms where there are no draws, one for each row that
+/// gives a term where there is one draw, and else none.
+pub fn draw_choices(
+    alloc: Global,
+    draws: u32,
+    rows: &[Row],
+    columns: u32,
+) -> Result<Vec<Vec<Row>>, AllocError>
+    requires even { All (λ r. width r ≡ columns + draws) rows.now }
+    ensures { IfOk result (λ v. map (λ l. l.items) v.items ≡ draw_choices draws columns rows.now) }
+{
+    if draws == 1 {
+        return terms_given(alloc, rows, columns);
+    }
+    let mut lists = Vec::new(alloc);
+    if draws == 0 {
+        push_item(&mut lists, Vec::new(alloc))?;
+    }
+    Ok(lists)
+}

@@ -1,0 +1,19 @@
+//! From each whole point of a piece a step into a region, by a proof tree, or a whole point from which no step leads there.
+#![tactic(auto)]
+
+mod choosing;
+mod chosen;
+mod drawing;
+mod faults;
+mod lists;
+mod looking;
+mod pieces;
+mod question;
+mod splitting;
+mod stepping;
+mod stopping;
+mod trees;
+mod ways;
+
+pub use choosing::choose;
+pub use chosen::Chosen;

@@ -1,0 +1,101 @@
+// Lists of rows.
+
+ghost use Rattle.std.specs.Prelude.{◌≡◌, ◌+◌, ◌-◌, ◌^◌, ◌<◌, ◌≤◌, ◌++◌, ◌∷◌, [], All, length, map, IfOk};
+ghost use Rattle.tv_linear.specs.Linear.{columns as width, IsNarrow, IsWithin};
+ghost use Rattle.tv_linear.specs.Arithmetic.{constant_row};
+ghost use Rattle.tv_farkas.specs.Refuting.{AreShort};
+ghost use Rattle.tv_choice.specs.Rows.{padded_row, fixes};
+
+use std::alloc::{AllocError, Global};
+use tv_farkas::{at_least, at_most};
+use tv_linear::Row;
+use tv_simplex::push_item;
+
+/// Puts copies of rows at the end of a list. Each row is narrow.
+pub fn copy_onto(alloc: Global, items: &mut Vec<Row>, rows: &[Row]) -> Result<(), AllocError>
+    ensures copied { IfOk result (λ _. items.new.items ≡ items.old.items ++ rows.now) }
+    ensures narrow { IfOk result (λ _. All IsNarrow rows.now) }
+{
+    'rows: for row in rows {
+        let _columns = row.columns();
+        push_item(items, row.copy(alloc)?)?;
+    }
+    Ok(())
+}
+
+/// The rows, and one more at the end.
+pub fn with_row(alloc: Global, rows: &[Row], row: &Row) -> Result<Vec<Row>, AllocError>
+    ensures { IfOk result (λ v. v.items ≡ rows.now ++ row.now ∷ []) }
+{
+    let mut all = Vec::new(alloc);
+    copy_onto(alloc, &mut all, rows)?;
+    push_item(&mut all, row.copy(alloc)?)?;
+    Ok(all)
+}
+
+/// The row with so many columns more, each of them 0.
+fn padded(alloc: Global, row: &Row, more: u32) -> Result<Row, AllocError>
+    requires few { width row.now + more < 2 ^ 32 - 1 }
+    ensures exact { IfOk result (λ r. r ≡ padded_row more row.now) }
+{
+    let _columns = row.columns();
+    let mut coefficients = Vec::from_slice(alloc, row.coefficients())?;
+    let zero = Row::zero(alloc, more)?;
+    coefficients.extend_from_slice(zero.coefficients())?;
+    Row::from_narrow(coefficients, 0).with_constant(alloc, row.constant())
+}
+
+/// Each row with so many columns more.
+pub fn all_padded(alloc: Global, rows: &[Row], more: u32) -> Result<Vec<Row>, AllocError>
+    requires few { All (λ r. width r + more < 2 ^ 32 - 1) rows.now }
+    ensures exact { IfOk result (λ v. v.items ≡ map (padded_row more) rows.now) }
+{
+    let mut all = Vec::new(alloc);
+    'rows: for row in rows {
+        push_item(&mut all, padded(alloc, row, more)?)?;
+    }
+    Ok(all)
+}
+
+/// Rows that fix the first columns at these numbers.
+pub fn fixing(alloc: Global, columns: u32, values: &[i128]) -> Result<Vec<Row>, AllocError>
+    requires few { columns < 2 ^ 32 - 1 }
+    requires inside { length values.now ≤ columns }
+    requires short { AreShort values.now }
+    ensures { IfOk result (λ v. v.items ≡ fixes columns 0 values.now) }
+{
+    let mut rows = Vec::new(alloc);
+    'values: for column in 0..values.len() {
+        let value = values[column];
+        push_item(&mut rows, at_most(alloc, columns, column as u32, value)?)?;
+        push_item(
+            &mut rows,
+            at_least(alloc, columns, column as u32, value - 1)?,
+        )?;
+    }
+    Ok(rows)
+}
+
+/// The row of a number.
+fn number_row(alloc: Global, columns: u32, number: i128) -> Result<Row, AllocError>
+    requires few { columns < 2 ^ 32 - 1 }
+    requires narrow { IsWithin 62 number }
+    ensures { IfOk result (λ row. row ≡ constant_row columns number) }
+{
+    let zero = Row::zero(alloc, columns)?;
+    let row = zero.with_constant(alloc, number)?;
+    Ok(row)
+}
+
+/// The rows of numbers.
+pub fn number_rows(alloc: Global, columns: u32, numbers: &[i128]) -> Result<Vec<Row>, AllocError>
+    requires few { columns < 2 ^ 32 - 1 }
+    requires short { AreShort numbers.now }
+    ensures { IfOk result (λ v. v.items ≡ map (constant_row columns) numbers.now) }
+{
+    let mut rows = Vec::new(alloc);
+    'numbers: for place in 0..numbers.len() {
+        push_item(&mut rows, number_row(alloc, columns, numbers[place])?)?;
+    }
+    Ok(rows)
+}
