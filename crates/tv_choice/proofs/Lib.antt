@@ -5,3 +5,5 @@ pub mod FitLemmas
 pub mod WayLemmas
 pub mod DrawLemmas
 pub mod LookLemmas
+pub mod RefusalLemmas
+pub mod StepLemmas

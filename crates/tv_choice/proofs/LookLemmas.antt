@@ -18,13 +18,14 @@ use Rattle.tv_choice.specs.declared.looking.Best.TheVariants as best
 use Rattle.tv_choice.specs.declared.looking.Look.{Look}
 use Rattle.tv_choice.specs.declared.looking.Look.TheVariants as looks
 use Rattle.tv_choice.specs.declared.ways.Way.{Way}
-use Rattle.tv_choice.specs.Leading.{Query}
+use Rattle.std.proofs.lemmas.Option.{slice_get_within, get_or_from_slice_get}
+use Rattle.tv_choice.specs.Leading.{Query, pieces_at}
 use Rattle.tv_choice.specs.ChoicePaths.{IsWayRows}
 use Rattle.tv_choice.specs.Refusals.{IsTried, IsUnsolvedHere, place, tried, inner, IsWideHere, denying}
 use Rattle.tv_choice.specs.Looking.{IsWayRow, IsLookFault, ShowsRow, IsOpenRow, AreShown, IsAt, IsOpenAt, AreEntered, IsOpen, NoneShown, AllShut, IsBest, IsOpened, IsLook, IsOneMore}
-use Rattle.tv_choice.specs.Ways.{way_rows, IsUnmade}
+use Rattle.tv_choice.specs.Ways.{way_rows, IsWay, IsUnmade}
 use Rattle.tv_choice.proofs.WayLemmas.{take_more}
-use Rattle.tv_choice.proofs.FitLemmas.{contains_last}
+use Rattle.tv_choice.proofs.FitLemmas.{contains_last, take_whole}
 
 -- ---- points
 pub point_of : (n : ℕ) (rows : List Linear) (values : List ℤ) (scale : ℤ) → IsPointAt n rows values scale → HasPoint n rows
@@ -135,3 +136,31 @@ pub length-take_all : {A : Type 0} (xs : List A) (i : ℕ) → i ≤ length xs �
 length-take_all xs zero l = refl
 length-take_all [] (suc i) l = absurd (omega (arith, l))
 length-take_all (x ∷ xs) (suc i) l = ap suc (length-take_all xs i (omega (arith, l)))
+
+-- ---- lists of rows
+pub entered_next : (n : ℕ) (rows owed : List Linear) (i : ℕ) (r : Linear) → i < length owed → r ≡ get_or owed i r → AreEntered n rows (r ∷ []) → AreEntered n rows (take i owed) → AreEntered n rows (take (i + 1) owed)
+entered_next n rows owed i r l e one h s c = elim (contains_last (take i owed) r s (subst (λ rs. Contains rs s) (take_more owed i r l e) c)) [
+  | inl same ↦ one s (0, omega arith, same)
+  | inr before ↦ h s before
+]
+
+pub entered_all : (n : ℕ) (rows owed : List Linear) (i : ℕ) → length owed ≤ i → AreEntered n rows (take i owed) → AreEntered n rows owed
+entered_all n rows owed i l h = subst (AreEntered n rows) (take_whole owed i l) h
+
+-- a row of a way
+pub row_at : (n : ℕ) (q : Query) (above owed : List Linear) (i : ℕ) (r : Linear) → IsWayRows n q above owed → i < length owed → r ≡ get_or owed i r → IsWayRow n q above r
+row_at n q above owed i r w l e = (owed, w, (i, l, sym e))
+
+pub way_is_rows : (n : ℕ) (q : Query) (above : List Linear) (w : Way) → IsWay n q above w → IsWayRows n q above (way_rows w)
+way_is_rows n q above w h = record {
+  case = h.case;
+  piece = h.piece;
+  entry = record {
+    among = (w.taken, slice_get_within q.system.cases w.taken h.case h.found, get_or_from_slice_get q.system.cases w.taken h.case h.case h.found);
+    leaves = h.leaves;
+    enters = (w.target, slice_get_within (pieces_at q.pieces h.case.to) w.target h.piece h.enters, get_or_from_slice_get (pieces_at q.pieces h.case.to) w.target h.piece h.piece h.enters);
+  };
+  draws = w.draws.items;
+  terms = h.origin;
+  same = h.exact;
+}
