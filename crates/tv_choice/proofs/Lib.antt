@@ -7,3 +7,4 @@ pub mod DrawLemmas
 pub mod LookLemmas
 pub mod RefusalLemmas
 pub mod StepLemmas
+pub mod StopLemmas

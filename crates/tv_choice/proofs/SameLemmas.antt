@@ -177,3 +177,7 @@ known_as w (r ∷ rows) (k ∷ known) h = (
 -- the known rows of the contract
 pub known_of : (rows : List Linear) (known : List Known) → ((w : ℕ) → AreSides w rows known) → AreKnown rows known
 known_of rows known h w = known_as w rows known (h w)
+
+pub known_self : (rows : List Linear) → AreKnown rows (as_given rows)
+known_self [] w = tt
+known_self (r ∷ rows) w = (same_self w (given r), known_self rows w)

@@ -6,6 +6,7 @@ use Rattle.tv_linear.specs.declared.cover.CoverTree.{CoverTree}
 use Rattle.tv_linear.specs.Depth.{splits}
 use Rattle.tv_linear.specs.ChoiceDepth.{most_splits}
 use Rattle.tv_farkas.specs.Refuting.{AreShort}
+use Rattle.tv_farkas.specs.Trees.{TreeNumbers}
 use Rattle.tv_farkas.specs.Paths.{IsWholePoint}
 use Rattle.tv_farkas.specs.EmptyPaths.{IsWholePointOf}
 use Rattle.tv_cover.specs.declared.emptied.Emptied.{Emptied}
@@ -25,6 +26,7 @@ pub record IsStopTree (n : ℕ) (rows : List Linear) (c : LinearCase) (left : �
   pub met : (known : List Known) → AreKnown rows known → IsMetCover (n + c.draws) no_target (known ++ as_given c.guards) tree
   pub shallow : splits tree ≤ left
   pub shape : CoverShape (n + c.draws) (owed_count no_target) (length rows + length c.guards) tree
+  pub short : TreeNumbers AreShort tree
   pub none : (zs : List ℤ) → IsWholePoint (n + c.draws) (starting_rows rows c) zs → ⊥
 
 -- a point and draws that meet the guards of the case, with the values of the point

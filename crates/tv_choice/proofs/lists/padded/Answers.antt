@@ -6,7 +6,7 @@ use Rattle.tv_choice.proofs.lists.padded.Goals as goal
 pub from_narrow-requires : goal.from_narrow-requires
 from_narrow-requires c =
     let e = c.in_ok-extend_from_slice.ensures.items in
-    let n = padded_narrow c.args.row.now.coefficients c.args.row.now.constant c.args.more _ c.columns.ensures.narrow refl c.requires.few in
+    let n = padded_narrow c.args.row.now.coefficients c.args.row.now.constant c.args.more _ c.columns-columns.ensures.narrow refl c.requires.few in
     let front = c.in_ok-coefficients.ensures.items ∙ c.coefficients.ensures.is in
     let back = c.coefficients-2.ensures.is ∙ ap (λ r. r.coefficients) c.in_ok-zero.ensures in
     let all = e ∙ (λ i. front i ++ back i) in
