@@ -8,3 +8,5 @@ pub mod LookLemmas
 pub mod RefusalLemmas
 pub mod StepLemmas
 pub mod StopLemmas
+pub mod SettleLemmas
+pub mod SplitLemmas

@@ -113,7 +113,7 @@ cover_same n ks qs (Empty ms) h g = refutes_same n ks qs ms.items h g
 cover_same n ks qs (Into target fall lists) h g = absurd g
 
 -- ---- denials
-get_or-neg : (xs : List ℤ) (j : ℕ) → get_or (map neg_ℤ xs) j (pos 0) ≡ neg_ℤ (get_or xs j (pos 0))
+pub get_or-neg : (xs : List ℤ) (j : ℕ) → get_or (map neg_ℤ xs) j (pos 0) ≡ neg_ℤ (get_or xs j (pos 0))
 get_or-neg [] j = refl
 get_or-neg (x ∷ xs) zero = refl
 get_or-neg (x ∷ xs) (suc j) = get_or-neg xs j

@@ -1,0 +1,60 @@
+use Rattle.std.proofs.Common.{◌≡◌, ◌∙◌, [], subst, sym, ap, length}
+use Rattle.tv_linear.specs.declared.region.Piece.{Piece}
+use Rattle.tv_linear.specs.declared.choice.ChoiceTree.{ChoiceTree}
+use Rattle.tv_cases.specs.Systems.{cases_of}
+use Rattle.tv_farkas.proofs.PathLemmas.{append-nil}
+use Rattle.tv_choice.specs.Leading.{Query, piece_rows}
+use Rattle.tv_choice.specs.Choosing.{query}
+use Rattle.tv_choice.specs.Refusals.{IsWideHere, IsChoiceFault}
+use Rattle.tv_choice.specs.Targets.{targets}
+use Rattle.tv_choice.specs.Ways.{AreWays, IsUnmade, lists_of}
+use Rattle.tv_choice.specs.Settling.{IsFound, IsTreeAt}
+use Rattle.tv_choice.proofs.SameLemmas.{known_of}
+use Rattle.tv_choice.proofs.WayLemmas.{unmade_more}
+use Rattle.tv_choice.proofs.RefusalLemmas.{way_longer, wide_longer, unmade_fault, here_fault}
+use Rattle.tv_choice.proofs.choosing.choose.Goals as goal
+
+pub settle-requires-clause-ways : goal.settle-requires-clause-ways
+settle-requires-clause-ways c =
+    let n = c.variables.result in
+    let q : Query = record { system = cases_of c.args.about.now; location = c.args.ambient.now.location; stop = c.args.stop; pieces = c.deref.result.now } in
+    record {
+      each = λ i d l. way_longer n q [] c.deref-2.result.now _ (c.in-Ok.ensures.ways i d l);
+      more = [];
+      begins = c.in-Ok.ensures.lists ∙ sym (append-nil (targets n q));
+    }
+
+pub returns-in-Err-clause-refusals : goal.returns-in-Err-clause-refusals
+returns-in-Err-clause-refusals c =
+    let n = c.variables.result in
+    let rows = piece_rows c.args.ambient.now in
+    let pivots = c.args.budget.now.pivots in
+    let most = c.args.budget.now.splits in
+    let q : Query = record { system = cases_of c.args.about.now; location = c.args.ambient.now.location; stop = c.args.stop; pieces = c.deref.result.now } in
+    let q' = query c.args.about.now c.args.ambient.now c.args.into.now c.args.stop in
+    let same : q ≡ q' = (λ i. record { system = cases_of c.args.about.now; location = c.args.ambient.now.location; stop = c.args.stop; pieces = c.deref.ensures.value i }) in
+    let h = subst (λ k. IsUnmade (IsWideHere n k []) c.in-Err.fault) same c.in-Err.ensures.refusals in
+    let fault = here_fault n q' rows pivots most c.in-Err.fault (unmade_fault n q' rows pivots most c.in-Err.fault (unmade_more (IsWideHere n q' []) (IsWideHere n q' rows) c.in-Err.fault (wide_longer n q' [] rows) h)) in
+    subst (λ k. IsChoiceFault k q' rows pivots most c.in-Err.fault) c.variables.ensures.same fault
+
+pub returns-in-Some : goal.returns-in-Some
+returns-in-Some c =
+    let n = c.variables.result in
+    let rows = piece_rows c.args.ambient.now in
+    let most = c.args.budget.now.splits in
+    let q : Query = record { system = cases_of c.args.about.now; location = c.args.ambient.now.location; stop = c.args.stop; pieces = c.deref.result.now } in
+    let q' = query c.args.about.now c.args.ambient.now c.args.into.now c.args.stop in
+    let same : q ≡ q' = (λ i. record { system = cases_of c.args.about.now; location = c.args.ambient.now.location; stop = c.args.stop; pieces = c.deref.ensures.value i }) in
+    let found = subst (IsFound n q c.deref-2.result.now most) c.in-Ok-Tree.field-0-is c.in-Ok-Tree.ensures.found in
+    let tree0 : IsTreeAt n q c.deref-2.result.now most c.in-Some.choice = subst (IsTreeAt n q c.deref-2.result.now most) (sym c.in-Some.ensures.1) found in
+    let tree1 = subst (λ rs. IsTreeAt n q rs most c.in-Some.choice) c.deref-2.ensures.value tree0 in
+    let tree2 = subst (λ k. IsTreeAt n k rows most c.in-Some.choice) same tree1 in
+    let tree = subst (λ k. IsTreeAt k q' rows most c.in-Some.choice) c.variables.ensures.same tree2 in
+    record {
+      answers = λ known k. tree.met known (known_of rows known k);
+      none = tree.none;
+      shape = tree.shape;
+      shallow = tree.shallow;
+      short = tree.narrow;
+      refusals = tt;
+    }
