@@ -18,7 +18,7 @@ use Rattle.tv_choice.specs.ChoicePaths.{AreDrawTerms, by_rows, numbers}
 use Rattle.tv_choice.specs.Refusals.{IsWideHere, entering, drawing, denying}
 use Rattle.tv_choice.specs.Ways.{IsEntered, AreCaseRows, IsWayOf, IsWay}
 use Rattle.tv_choice.specs.Targets.{front, term_by, term_of, one_term, terms_given, draw_choices, targets_into, targets_by, targets_from}
-use Rattle.tv_choice.proofs.WayLemmas.{drop_more, map-append, next_of, is_way}
+use Rattle.tv_choice.proofs.WayLemmas.{drop_more, map-append, next_of, is_way, in_way}
 use Rattle.tv_choice.proofs.PieceLemmas.{test_true, test_false}
 
 -- ---- one term
@@ -202,4 +202,4 @@ entry_wide n q above e h column w = entering (case_view e.case.now) e.piece.now 
 
 pub draw_wide : (n : ℕ) (q : Query) (above : List Linear) (e : Entry) (rows draws : List Linear) → IsEntered q e → AreCaseRows n (case_view e.case.now) (piece_rows e.piece.now) rows → AreDrawTerms n q above (case_view e.case.now) e.piece.now draws → (column : ℕ) → IsWidePut (put_terms n draws) rows column → IsWideHere n q above column
 draw_wide n q above e rows draws h r t column w =
-    drawing (case_view e.case.now) e.piece.now draws (entry_is q e h) t (subst (λ rs. IsWidePut (put_terms n draws) rs column) r.exact w)
+    drawing (case_view e.case.now) e.piece.now draws (in_way n q (case_view e.case.now) e.piece.now e.taken e.target rows h.taken h.from h.target r) t (subst (λ rs. IsWidePut (put_terms n draws) rs column) r.exact w)

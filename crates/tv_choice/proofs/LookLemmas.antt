@@ -155,12 +155,9 @@ pub way_is_rows : (n : ℕ) (q : Query) (above : List Linear) (w : Way) → IsWa
 way_is_rows n q above w h = record {
   case = h.case;
   piece = h.piece;
-  entry = record {
-    among = (w.taken, slice_get_within q.system.cases w.taken h.case h.found, get_or_from_slice_get q.system.cases w.taken h.case h.case h.found);
-    leaves = h.leaves;
-    enters = (w.target, slice_get_within (pieces_at q.pieces h.case.to) w.target h.piece h.enters, get_or_from_slice_get (pieces_at q.pieces h.case.to) w.target h.piece h.piece h.enters);
-  };
+  way_in = h.way_in;
   draws = w.draws.items;
   terms = h.origin;
   same = h.exact;
+  narrow = h.narrow;
 }

@@ -11,7 +11,7 @@ use Rattle.tv_cases.specs.LinearCases.{LinearCase}
 use Rattle.tv_choice.specs.declared.ways.Way.{Way}
 use Rattle.tv_choice.specs.Leading.{Query}
 use Rattle.tv_choice.specs.ChoicePaths.{AreDrawTerms, by_rows, numbers, IsWayRows, IsSplit, IsChoicePath, IsInner}
-use Rattle.tv_choice.specs.Refusals.{IsInnerPath, IsUnsolvedHere, place, tried, inner, IsWideHere, entering, drawing, denying, IsFaultHere, IsSpentPath, IsUnsolved, IsWideChoice, IsChoiceFault}
+use Rattle.tv_choice.specs.Refusals.{IsInnerPath, IsUnsolvedHere, place, tried, inner, IsWideHere, entering, drawing, denying, IsFaultHere, IsJoinedPath, IsUnsolved, IsWideChoice, IsChoiceFault}
 use Rattle.tv_choice.specs.Looking.{IsLookFault}
 use Rattle.tv_choice.specs.Ways.{IsWay, AreWays, IsUnmade, lists_of}
 use Rattle.tv_choice.specs.Settling.{IsPutBefore}
@@ -44,24 +44,20 @@ module _ (n : ℕ) (q : Query) where
 
   -- ---- behind no path
   pub here_fault : (rows : List Linear) (pivots left : ℕ) (fault : CoverFault) → IsFaultHere n q rows pivots left fault → IsChoiceFault n q rows pivots left fault
-  here_fault rows pivots left (Splits path) h = record { own = []; behind = path.items; parts = refl; is_path = tt; inner = h.0; spent = h.1 }
+  here_fault rows pivots left (Splits path) h = (record { own = []; behind = path.items; parts = refl; is_path = tt; inner = h.0 }, h.1)
   here_fault rows pivots left (Solve kept fault) h = record { own = []; is_path = tt; here = h }
   here_fault rows pivots left (Wide column) h = record { own = []; is_path = tt; here = h }
   here_fault rows pivots left Memory h = tt
 
-  pub none_left : (rows : List Linear) (left : ℕ) (path : List Branch) → path ≡ [] → left ≡ 0 → IsSpentPath n q rows left path
-  none_left rows left path e z = record { own = []; behind = path; parts = refl; is_path = tt; inner = inl e; spent = ap length e ∙ sym z }
+  pub none_left : (rows : List Linear) (left : ℕ) (path : List Branch) → path ≡ [] → left ≡ 0 → IsJoinedPath n q rows path × (length path ≡ left)
+  none_left rows left path e z = (record { own = []; behind = path; parts = refl; is_path = tt; inner = inl e }, ap length e ∙ sym z)
 
   -- ---- behind one more split
   pub side_refused : (rows : List Linear) (pivots left : ℕ) (b : Branch) (fault new : CoverFault) → IsSplit n q rows b → IsChoiceFault n q (rows ++ b.row ∷ []) pivots left fault → IsPutBefore b fault new → IsChoiceFault n q rows pivots (left + 1) new
-  side_refused rows pivots left b (Splits path) (Splits whole) r h p = record {
-    own = b ∷ h.own;
-    behind = h.behind;
-    parts = p ∙ ap (λ k. b ∷ k) h.parts;
-    is_path = (r, h.is_path);
-    inner = h.inner;
-    spent = ap length p ∙ (let c = h.spent in let g : suc (length path.items) ≡ left + 1 = omega (arith, c) in g);
-  }
+  side_refused rows pivots left b (Splits path) (Splits whole) r h p = (
+    record { own = b ∷ h.0.own; behind = h.0.behind; parts = p ∙ ap (λ k. b ∷ k) h.0.parts; is_path = (r, h.0.is_path); inner = h.0.inner },
+    ap length p ∙ (let c = h.1 in let g : suc (length path.items) ≡ left + 1 = omega (arith, c) in g),
+  )
   side_refused rows pivots left b (Splits path) (Solve kept fault) r h p = absurd p
   side_refused rows pivots left b (Splits path) (Wide column) r h p = absurd p
   side_refused rows pivots left b (Splits path) Memory r h p = absurd p
@@ -82,12 +78,14 @@ module _ (n : ℕ) (q : Query) where
     piece = h.piece;
     enters = h.enters;
     is_case = h.is_case;
+    way_in = h.way_in;
     owed = h.owed;
     drawn = h.drawn;
     terms = h.terms;
     origin = terms_longer above more h.case h.piece w.draws.items h.origin;
     exact = h.exact;
     even = h.even;
+    narrow = h.narrow;
     seen = h.seen;
   }
 
@@ -95,7 +93,7 @@ module _ (n : ℕ) (q : Query) where
   ways_longer above more ways h = record { each = λ i d l. way_longer above more _ (h.each i d l); more = h.more; begins = h.begins }
 
   rows_longer : (above more rows : List Linear) → IsWayRows n q above rows → IsWayRows n q (above ++ more) rows
-  rows_longer above more rows h = record { case = h.case; piece = h.piece; entry = h.entry; draws = h.draws; terms = terms_longer above more h.case h.piece h.draws h.terms; same = h.same }
+  rows_longer above more rows h = record { case = h.case; piece = h.piece; way_in = h.way_in; draws = h.draws; terms = terms_longer above more h.case h.piece h.draws h.terms; same = h.same; narrow = h.narrow }
 
   pub wide_longer : (above more : List Linear) (column : ℕ) → IsWideHere n q above column → IsWideHere n q (above ++ more) column
   wide_longer above more column (entering c p e w) = entering c p e w

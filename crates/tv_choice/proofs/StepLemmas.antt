@@ -15,8 +15,7 @@ use Rattle.tv_choice.specs.Leading.{Query, piece_rows}
 use Rattle.tv_choice.specs.ChoicePaths.{stepping_rows, IsPointHere, AreDrawTerms, numbers, IsInner, stepping}
 use Rattle.tv_choice.specs.Ways.{IsEntered, AreCaseRows, IsWayOf, IsWay}
 use Rattle.tv_choice.specs.Stepping.{IsWayFrom, NoStepTo}
-use Rattle.tv_choice.proofs.WayLemmas.{is_way, way_met, constants_even, answered_met, length-drop, asked_met}
-use Rattle.tv_choice.proofs.DrawLemmas.{entry_is}
+use Rattle.tv_choice.proofs.WayLemmas.{is_way, in_way, way_met, constants_even, answered_met, length-drop, asked_met}
 
 module _ (n : ℕ) (q : Query) (above : List Linear) (e : Entry) (h : IsEntered q e) (rows : List Linear) (are : AreCaseRows n (case_view e.case.now) (piece_rows e.piece.now) rows) (owed : All (λ r. columns r ≡ n) (piece_rows e.piece.now)) (xs : List ℤ) (size : length xs ≡ n) (here : IsPointHere n q above xs) where
   d : ℕ
@@ -27,7 +26,7 @@ module _ (n : ℕ) (q : Query) (above : List Linear) (e : Entry) (h : IsEntered 
   asked_is asked g = g ∙ ap (λ rs. fixes (n + e.case.now.draws) 0 xs ++ rs) are.exact
 
   pub asked_inner : (asked : List Linear) → asked ≡ fixes (n + e.case.now.draws) 0 xs ++ rows → IsInner n q above (n + e.case.now.draws) asked
-  asked_inner asked g = subst (IsInner n q above (n + e.case.now.draws)) (sym (asked_is asked g)) (stepping (case_view e.case.now) e.piece.now xs (entry_is q e h) here)
+  asked_inner asked g = subst (IsInner n q above (n + e.case.now.draws)) (sym (asked_is asked g)) (stepping (case_view e.case.now) e.piece.now xs (in_way n q (case_view e.case.now) e.piece.now e.taken e.target rows h.taken h.from h.target are) here)
 
   -- no whole point of them
   pub no_step : (asked : List Linear) → asked ≡ fixes (n + e.case.now.draws) 0 xs ++ rows → ((zs : List ℤ) → IsWholePoint (n + e.case.now.draws) asked zs → ⊥) → NoStepTo n xs (case_view e.case.now) e.piece.now

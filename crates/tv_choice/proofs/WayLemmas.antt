@@ -1,10 +1,10 @@
 -- Rows of cases, and ways made of them.
-use Rattle.std.proofs.Common.{◌≡◌, ℕ, zero, suc, ◌+◌, ◌-◌, ◌<◌, ◌≤◌, ◌^◌, List, [], ◌∷◌, ◌++◌, length, map, get_or, take, drop, drop-cons, All, Some, arith, refl, sym, ap, ◌∙◌, subst, ℤ, pos, neg_ℤ, ◌+ℤ◌, ◌-ℤ◌, ◌*ℤ◌, ◌≤ℤ◌, unsigned_abs, length-append, append_assoc}
+use Rattle.std.proofs.Common.{◌≡◌, ℕ, zero, suc, ◌+◌, ◌-◌, ◌<◌, ◌≤◌, ◌^◌, List, [], ◌∷◌, ◌++◌, length, map, get_or, take, drop, drop-cons, All, Some, arith, refl, sym, ap, ◌∙◌, subst, ℤ, pos, neg_ℤ, ◌+ℤ◌, ◌-ℤ◌, ◌*ℤ◌, ◌≤ℤ◌, unsigned_abs, length-append, append_assoc, ◌⊎◌, inl, inr}
 use Rattle.std.proofs.Math.Seq.{take-suc}
 use Rattle.std.specs.Prelude.{slice_get}
-use Rattle.std.proofs.lemmas.Option.{slice_get_read}
+use Rattle.std.proofs.lemmas.Option.{slice_get_read, slice_get_within, get_or_from_slice_get}
 use Rattle.std.proofs.lemmas.Int.{ints}
-use Rattle.std.proofs.lemmas.List.{length-map}
+use Rattle.std.proofs.lemmas.List.{length-map, get_or_past}
 use Rattle.std.proofs.lemmas.List.Elements.{All-nil, All-cons, All-head, All-tail, All-push, All-append}
 use Rattle.tv_linear.specs.Linear.{Linear, linear, columns, dot, value, IsMet, IsWithin, IsNarrow}
 use Rattle.tv_linear.specs.Arithmetic.{zeros, unit, constant_row, column_row, composed as composed_row}
@@ -27,11 +27,11 @@ use Rattle.tv_cases.proofs.BeforeValue.{before-value}
 use Rattle.tv_cert.specs.Choices.{drawn_change, drawn_guards}
 use Rattle.tv_cert.specs.Obligations.{case_change}
 use Rattle.tv_choice.specs.declared.ways.Way.{Way}
-use Rattle.tv_choice.specs.declared.ways.Entry.{Entry}
+use Rattle.tv_cover.specs.Targets.{IsNarrowRow}
 use Rattle.tv_choice.specs.Rows.{padded_row, fixes, case_rows, put_terms, put_rows, IsWideBefore, IsWidePut}
 use Rattle.tv_choice.specs.Same.{SameNumbers, AreSame}
 use Rattle.tv_choice.specs.Leading.{Query, pieces_at, piece_rows}
-use Rattle.tv_choice.specs.ChoicePaths.{AreDrawTerms}
+use Rattle.tv_choice.specs.ChoicePaths.{AreDrawTerms, IsWayIn}
 use Rattle.tv_choice.specs.Ways.{AreCaseRows, AreComposed, IsWayOf, IsWay, IsFaultOf, IsUnmade}
 use Rattle.tv_choice.proofs.SameLemmas.{same_self, all_same, same_push, given_append}
 use Rattle.tv_choice.proofs.ComposeLemmas.{PutIn, composed_same, drawn_terms, after_terms, put_before, put_drawn, length-put_terms}
@@ -59,6 +59,20 @@ copied_more old items new rows i r s l e same narrow en h = (
   en ∙ (λ j. h.0 j ++ same j ∷ []) ∙ append_assoc old (take i rows) (r ∷ []) ∙ ap (λ rs. old ++ rs) (sym (take_more rows i r l e)),
   subst (All IsNarrow) (sym (take_more rows i r l e)) (All-push IsNarrow (take i rows) r h.1 narrow),
 )
+
+-- ---- narrow rows
+all_map : (P Q : Linear → Type 0) (xs : List Linear) → ((x : Linear) → P x → Q x) → All P xs → All Q xs
+all_map P Q [] f h = All-nil Q
+all_map P Q (x ∷ xs) f h = All-cons Q x xs (f x (All-head P x xs h)) (all_map P Q xs f (All-tail P x xs h))
+
+narrow_at : (r : Linear) → IsNarrow r → IsNarrowRow r
+narrow_at r h column l = elim (inside_or_last column (columns r) l) [
+  | inl i ↦ h.coefficients column r.constant i
+  | inr p ↦ subst (IsWithin 62) (sym (get_or_past r.coefficients column r.constant p)) h.constant
+]
+  where
+    inside_or_last : (j n : ℕ) → j ≤ n → (j < n) ⊎ (n ≤ j)
+    inside_or_last j n l = grind arith
 
 -- ---- rows that were not made
 pub not_made : (Fits : ℕ → Type 0) (last : ℕ) (wide : ℕ → Type 0) (row_fault : RowFault) (fault : CoverFault) → IsFaultOf row_fault fault → IsFaultWhere Fits last row_fault → ((column : ℕ) → IsFirstWide Fits last column → wide column) → IsUnmade wide fault
@@ -210,10 +224,11 @@ append_none (x ∷ xs) = ap (λ ys. x ∷ ys) (append_none xs)
 given_guards : (n : ℕ) (c : LinearCase) → as_given c.guards ++ map (case_change n c) [] ≡ as_given c.guards
 given_guards n c = append_none (as_given c.guards)
 
-pub case_rows_none : (n : ℕ) (c : LinearCase) (rows : List Linear) → All (λ r. columns r ≡ n + c.draws) c.guards → rows ≡ c.guards → AreCaseRows n c [] rows
-case_rows_none n c rows even e = subst (λ rs. AreCaseRows n c [] rs) (sym e) record {
+pub case_rows_none : (n : ℕ) (c : LinearCase) (rows : List Linear) → All (λ r. columns r ≡ n + c.draws) c.guards → All IsNarrow c.guards → rows ≡ c.guards → AreCaseRows n c [] rows
+case_rows_none n c rows even narrow e = subst (λ rs. AreCaseRows n c [] rs) (sym e) record {
   exact = sym (append_none c.guards);
   even = even;
+  narrow = all_map IsNarrow IsNarrowRow c.guards narrow_at narrow;
   seen = subst (λ ks. AreSame (n + c.draws) (as_given c.guards) ks) (sym (given_guards n c)) (all_same (n + c.draws) (as_given c.guards));
 }
 
@@ -222,8 +237,8 @@ pub record AreMade (n : ℕ) (c : LinearCase) (owed rows : List Linear) : Type 0
   pub are : AreCaseRows n c owed rows
   pub fits : All (λ r. (column : ℕ) → column ≤ columns (before r c) → FitsTerms (columns r + c.draws) r (rows_after r c) column) owed
 
-pub made_none : (n : ℕ) (c : LinearCase) (rows : List Linear) → All (λ r. columns r ≡ n + c.draws) c.guards → rows ≡ c.guards → AreMade n c [] rows
-made_none n c rows even e = record { are = case_rows_none n c rows even e; fits = All-nil (λ r. (column : ℕ) → column ≤ columns (before r c) → FitsTerms (columns r + c.draws) r (rows_after r c) column) }
+pub made_none : (n : ℕ) (c : LinearCase) (rows : List Linear) → All (λ r. columns r ≡ n + c.draws) c.guards → All IsNarrow c.guards → rows ≡ c.guards → AreMade n c [] rows
+made_none n c rows even narrow e = record { are = case_rows_none n c rows even narrow e; fits = All-nil (λ r. (column : ℕ) → column ≤ columns (before r c) → FitsTerms (columns r + c.draws) r (rows_after r c) column) }
 
 pub made_wide : (n : ℕ) (c : LinearCase) (owed : List Linear) (i : ℕ) (r : Linear) (rows : List Linear) (column : ℕ) → i < length owed → r ≡ get_or owed i r → AreMade n c (take i owed) rows → IsFirstWide (FitsTerms (columns r + c.draws) r (rows_after r c)) (columns (before r c)) column → IsWideBefore c owed column
 made_wide n c owed i r rows column l e h w = record { place = i; row = r; found = slice_get_read owed (length owed) i r refl l e; earlier = h.fits; wide = w }
@@ -241,6 +256,7 @@ case_rows_more n c owed i r s rows new l e wide us same fits en h =
     subst (λ os. AreCaseRows n c os new) (sym (take_more owed i r l e)) (subst (λ rs. AreCaseRows n c (take i owed ++ r ∷ []) rs) (sym (en ∙ ap (λ x. rows ++ x ∷ []) same)) record {
       exact = ap (λ rs. rs ++ before r c ∷ []) h.exact ∙ append_assoc c.guards (map (λ q. before q c) (take i owed)) (before r c ∷ []) ∙ ap (λ rs. c.guards ++ rs) (sym (map-append (λ q. before q c) (take i owed) (r ∷ [])));
       even = All-push (λ q. columns q ≡ n + c.draws) rows (before r c) h.even put.even;
+      narrow = All-push IsNarrowRow rows (before r c) h.narrow (λ column l. (fits column l).narrow);
       seen = subst (λ ks. AreSame (n + c.draws) ks (as_given c.guards ++ map (case_change n c) (take i owed ++ r ∷ []))) (sym (given_append rows (before r c ∷ [])))
           (subst (λ ks. AreSame (n + c.draws) (as_given rows ++ given (before r c) ∷ []) ks)
           (append_assoc (as_given c.guards) (map (case_change n c) (take i owed)) (case_change n c r ∷ []) ∙ ap (λ ks. as_given c.guards ++ ks) (sym (map-append (case_change n c) (take i owed) (r ∷ []))))
@@ -307,6 +323,24 @@ change_all n c draws owed =
     map-map f g [] = refl
     map-map f g (x ∷ xs) = ap (λ ys. f (g x) ∷ ys) (map-map f g xs)
 
+put_narrow : (rows terms : List Linear) → All (λ r. (column : ℕ) → column ≤ columns (composed_row r terms) → FitsComposed r terms column) rows → All IsNarrowRow (map (λ r. composed_row r terms) rows)
+put_narrow [] terms h = All-nil IsNarrowRow
+put_narrow (r ∷ rows) terms h =
+    let P = λ (x : Linear). (column : ℕ) → column ≤ columns (composed_row x terms) → FitsComposed x terms column in
+    All-cons IsNarrowRow (composed_row r terms) (map (λ x. composed_row x terms) rows) (λ column l. (All-head P r rows h column l).narrow) (put_narrow rows terms (All-tail P r rows h))
+
+-- the case is taken into the piece
+pub in_way : (n : ℕ) (q : Query) (c : LinearCase) (p : Piece) (taken target : ℕ) (rows : List Linear) → slice_get q.system.cases taken ≡ Some c → c.from ≡ q.location → slice_get (pieces_at q.pieces c.to) target ≡ Some p → AreCaseRows n c (piece_rows p) rows → IsWayIn n q c p
+in_way n q c p taken target rows found leaves enters h = record {
+  entry = record {
+    among = (taken, slice_get_within q.system.cases taken c found, get_or_from_slice_get q.system.cases taken c c found);
+    leaves = leaves;
+    enters = (target, slice_get_within (pieces_at q.pieces c.to) target p enters, get_or_from_slice_get (pieces_at q.pieces c.to) target p p enters);
+  };
+  even = subst (All (λ r. columns r ≡ n + c.draws)) h.exact h.even;
+  narrow = subst (All IsNarrowRow) h.exact h.narrow;
+}
+
 -- the way is one by its case into its piece
 pub is_way : (n : ℕ) (q : Query) (above : List Linear) (c : LinearCase) (p : Piece) (taken target : ℕ) (rows draws : List Linear) (w : Way) → slice_get q.system.cases taken ≡ Some c → c.from ≡ q.location → slice_get (pieces_at q.pieces c.to) target ≡ Some p → IsCase q.system.variables q.system.locations c → All (λ r. columns r ≡ n) (piece_rows p) → length draws ≡ c.draws → All (λ r. columns r ≡ n) draws → AreDrawTerms n q above c p draws → AreCaseRows n c (piece_rows p) rows → IsWayOf n taken target rows draws w → IsWay n q above w
 is_way n q above c p taken target rows draws w found leaves enters case owed drawn terms origin h m = record {
@@ -316,12 +350,14 @@ is_way n q above c p taken target rows draws w found leaves enters case owed dra
   piece = p;
   enters = ap (λ k. slice_get (pieces_at q.pieces c.to) k) m.target_is ∙ enters;
   is_case = case;
+  way_in = in_way n q c p taken target rows found leaves enters h;
   owed = owed;
   drawn = ap length m.draws_are ∙ drawn;
   terms = subst (λ ds. All (λ r. columns r ≡ n) ds) (sym m.draws_are) terms;
   origin = subst (λ ds. AreDrawTerms n q above c p ds) (sym m.draws_are) origin;
   exact = m.made.exact ∙ (λ i. map (λ r. composed_row r (put_terms n (sym m.draws_are i))) (h.exact i));
   even = subst (λ rs. All (λ r. columns r ≡ n) rs) (sym m.made.exact) (drawn_even n (n + c.draws) draws rows terms m.made.fits);
+  narrow = subst (All IsNarrowRow) (sym m.made.exact) (put_narrow rows (put_terms n draws) m.made.fits);
   seen = subst (λ ds. AreSame n (as_given w.rows.items) (drawn_guards n c ds ++ map (drawn_change n c ds) (piece_rows p))) (sym m.draws_are)
       (subst (λ rs. AreSame n (as_given rs) (drawn_guards n c draws ++ map (drawn_change n c draws) (piece_rows p))) (sym m.made.exact)
       (subst (λ ks. AreSame n (as_given (map (λ r. composed_row r (put_terms n draws)) rows)) ks) (change_all n c draws (piece_rows p))

@@ -1,7 +1,7 @@
 -- The paths of a choice: which rows it splits at, and which questions it asks at the end of a path.
 use Rattle.std.specs.Prelude.{◌≡◌, ◌⊎◌, ℕ, ◌+◌, List, [], ◌∷◌, ◌++◌, map, take, drop, All, ℤ, Option, None, Some, Vec, IsTrue}
 use Rattle.std.specs.List.{Contains}
-use Rattle.tv_linear.specs.Linear.{Linear, IsMet}
+use Rattle.tv_linear.specs.Linear.{Linear, columns, IsMet}
 use Rattle.tv_linear.specs.Arithmetic.{denial, constant_row}
 use Rattle.tv_linear.specs.declared.region.Piece.{Piece}
 use Rattle.tv_farkas.specs.declared.branch.Branch.{Branch}
@@ -34,14 +34,22 @@ pub data AreDrawTerms (n : ℕ) (q : Query) (above : List Linear) (c : LinearCas
   by_rows : (draws : List Linear) → Contains (draw_choices c.draws n (case_rows c (piece_rows p))) draws → AreDrawTerms n q above c p draws
   numbers : (earlier later : List Linear) (xs zs : List ℤ) → above ≡ earlier ++ later → IsPointHere n q earlier xs → IsWholePointOf (n + c.draws) (stepping_rows n xs c p) zs → AreDrawTerms n q above c p (map (constant_row n) (drop n zs))
 
--- a way to step at the rows above: the rows that are met where a case is taken into a piece, with terms for its draws
+-- The case is from the location, and the piece stands at its end. The rows of the case, and those of the piece read before it, have a
+-- column for each variable and each draw, and they are narrow.
+pub record IsWayIn (n : ℕ) (q : Query) (c : LinearCase) (p : Piece) : Type 0 where
+  pub entry : IsEntry q c p
+  pub even : All (λ r. columns r ≡ n + c.draws) (case_rows c (piece_rows p))
+  pub narrow : All IsNarrowRow (case_rows c (piece_rows p))
+
+-- a way to step at the rows above: the rows, which are narrow, that are met where a case is taken into a piece, with terms for its draws
 pub record IsWayRows (n : ℕ) (q : Query) (above rows : List Linear) : Type 0 where
   pub case : LinearCase
   pub piece : Piece
-  pub entry : IsEntry q case piece
+  pub way_in : IsWayIn n q case piece
   pub draws : List Linear
   pub terms : AreDrawTerms n q above case piece draws
   pub same : rows ≡ put_rows n draws (case_rows case (piece_rows piece))
+  pub narrow : All IsNarrowRow rows
 
 -- The split is at a row of a way, of which each row is met by some scaled point of the rows above; some point does not meet this row, and
 -- its denial is narrow. The side where the row is denied is settled first: where the row is on the path, each whole point of the rows above
@@ -83,4 +91,4 @@ IsChoicePath n q rows path = IsPath (IsSplit n q) rows path
 -- starts the case, and whether from whole values the case leads into a piece.
 pub data IsInner (n : ℕ) (q : Query) (above : List Linear) : ℕ → List Linear → Type 0 where
   starting : (c : LinearCase) → IsTrue q.stop → Contains q.system.cases c → c.from ≡ q.location → IsInner n q above (n + c.draws) (starting_rows above c)
-  stepping : (c : LinearCase) (p : Piece) (xs : List ℤ) → IsEntry q c p → IsPointHere n q above xs → IsInner n q above (n + c.draws) (stepping_rows n xs c p)
+  stepping : (c : LinearCase) (p : Piece) (xs : List ℤ) → IsWayIn n q c p → IsPointHere n q above xs → IsInner n q above (n + c.draws) (stepping_rows n xs c p)

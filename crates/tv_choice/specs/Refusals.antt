@@ -16,7 +16,7 @@ use Rattle.tv_cases.specs.LinearCases.{LinearCase}
 use Rattle.tv_cover.specs.Targets.{IsNarrowRow}
 use Rattle.tv_choice.specs.Rows.{case_rows, put_terms, IsWideBefore, IsWidePut}
 use Rattle.tv_choice.specs.Leading.{Query, IsEntry, piece_rows}
-use Rattle.tv_choice.specs.ChoicePaths.{AreDrawTerms, IsWayRows, IsChoicePath, IsInner}
+use Rattle.tv_choice.specs.ChoicePaths.{IsWayIn, AreDrawTerms, IsWayRows, IsChoicePath, IsInner}
 
 -- ---- at the rows above
 
@@ -46,7 +46,7 @@ pub data IsUnsolvedHere (n : ℕ) (q : Query) (above kept : List Linear) (pivots
 -- a row of a case with terms put in for its draws, or the denial of a row of a way. It is the first such row of its list.
 pub data IsWideHere (n : ℕ) (q : Query) (above : List Linear) (column : ℕ) : Type 0 where
   entering : (c : LinearCase) (p : Piece) → IsEntry q c p → IsWideBefore c (piece_rows p) column → IsWideHere n q above column
-  drawing : (c : LinearCase) (p : Piece) (draws : List Linear) → IsEntry q c p → AreDrawTerms n q above c p draws → IsWidePut (put_terms n draws) (case_rows c (piece_rows p)) column → IsWideHere n q above column
+  drawing : (c : LinearCase) (p : Piece) (draws : List Linear) → IsWayIn n q c p → AreDrawTerms n q above c p draws → IsWidePut (put_terms n draws) (case_rows c (piece_rows p)) column → IsWideHere n q above column
   denying : (rows : List Linear) (r : Linear) → IsWayRows n q above rows → Contains rows r → IsFirstWide (IsNarrowAt (denial r)) (columns (denial r)) column → IsWideHere n q above column
 
 -- what a refusal shows at the rows above, where so many splits are left and none is made there
@@ -58,14 +58,13 @@ IsFaultHere n q above pivots left Memory = Unit {0}
 
 -- ---- behind a path
 
--- the path has so many splits: those of the choice, and behind them perhaps those of `empty` over the columns of a case
-pub record IsSpentPath (n : ℕ) (q : Query) (rows : List Linear) (most : ℕ) (path : List Branch) : Type 0 where
+-- the splits of the choice, and behind them perhaps those of `empty` over the columns of a case
+pub record IsJoinedPath (n : ℕ) (q : Query) (rows : List Linear) (path : List Branch) : Type 0 where
   pub own : List Branch
   pub behind : List Branch
   pub parts : path ≡ own ++ behind
   pub is_path : IsChoicePath n q rows own
   pub inner : (behind ≡ []) ⊎ IsInnerPath n q (rows_after rows own) behind
-  pub spent : length path ≡ most
 
 -- at the end of a path of the choice the refutation system of the kept rows has the fault
 pub record IsUnsolved (n : ℕ) (q : Query) (rows kept : List Linear) (pivots : ℕ) (fault : SolveFault) : Type 0 where
@@ -81,7 +80,7 @@ pub record IsWideChoice (n : ℕ) (q : Query) (rows : List Linear) (column : ℕ
 
 -- what a refusal shows, for so many pivots and splits
 abbrev pub IsChoiceFault : ℕ → Query → List Linear → ℕ → ℕ → CoverFault → Type 0
-IsChoiceFault n q rows pivots most (Splits path) = IsSpentPath n q rows most path.items
+IsChoiceFault n q rows pivots most (Splits path) = IsJoinedPath n q rows path.items × (length path.items ≡ most)
 IsChoiceFault n q rows pivots most (Solve kept fault) = IsUnsolved n q rows kept.items pivots fault
 IsChoiceFault n q rows pivots most (Wide column) = IsWideChoice n q rows column
 IsChoiceFault n q rows pivots most Memory = Unit {0}

@@ -12,12 +12,13 @@ use Rattle.tv_cert.specs.Choices.{drawn_change, drawn_guards}
 use Rattle.tv_cert.specs.Obligations.{case_change}
 use Rattle.tv_farkas.specs.declared.fault.CoverFault.{CoverFault}
 use Rattle.tv_farkas.specs.declared.fault.CoverFault.TheVariants.{Splits, Solve, Wide, Memory}
+use Rattle.tv_cover.specs.Targets.{IsNarrowRow}
 use Rattle.tv_choice.specs.declared.ways.Way.{Way}
 use Rattle.tv_choice.specs.declared.ways.Entry.{Entry}
 use Rattle.tv_choice.specs.Rows.{case_rows, put_terms, put_rows}
 use Rattle.tv_choice.specs.Leading.{Query, pieces_at, piece_rows}
 use Rattle.tv_choice.specs.Targets.{targets}
-use Rattle.tv_choice.specs.ChoicePaths.{AreDrawTerms}
+use Rattle.tv_choice.specs.ChoicePaths.{AreDrawTerms, IsWayIn}
 use Rattle.tv_choice.specs.Same.{AreSame}
 
 abbrev pub way_rows : Way → List Linear
@@ -34,6 +35,7 @@ pub record IsEntered (q : Query) (e : Entry) : Type 0 where
 pub record AreCaseRows (n : ℕ) (c : LinearCase) (owed rows : List Linear) : Type 0 where
   pub exact : rows ≡ case_rows c owed
   pub even : All (λ r. columns r ≡ n + c.draws) rows
+  pub narrow : All IsNarrowRow rows
   pub seen : AreSame (n + c.draws) (as_given rows) (as_given c.guards ++ map (case_change n c) owed)
 
 -- each row with terms put in, where it fits
@@ -56,12 +58,14 @@ pub record IsWay (n : ℕ) (q : Query) (above : List Linear) (w : Way) : Type 0 
   pub piece : Piece
   pub enters : slice_get (pieces_at q.pieces case.to) w.target ≡ Some piece
   pub is_case : IsCase q.system.variables q.system.locations case
+  pub way_in : IsWayIn n q case piece
   pub owed : All (λ r. columns r ≡ n) (piece_rows piece)
   pub drawn : length w.draws.items ≡ case.draws
   pub terms : All (λ r. columns r ≡ n) w.draws.items
   pub origin : AreDrawTerms n q above case piece w.draws.items
   pub exact : way_rows w ≡ put_rows n w.draws.items (case_rows case (piece_rows piece))
   pub even : All (λ r. columns r ≡ n) (way_rows w)
+  pub narrow : All IsNarrowRow (way_rows w)
   pub seen : AreSame n (as_given (way_rows w)) (drawn_guards n case w.draws.items ++ map (drawn_change n case w.draws.items) (piece_rows piece))
 
 -- the rows of the ways

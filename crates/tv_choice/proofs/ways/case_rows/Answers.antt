@@ -1,14 +1,14 @@
-use Rattle.std.proofs.Common.{◌≡◌, ◌∙◌, ◌++◌, ◌+◌}
+use Rattle.std.proofs.Common.{◌≡◌, ◌∙◌, ◌++◌, ◌+◌, All, subst}
 use Rattle.tv_cases.specs.Before.{before, rows_after, FitsTerms}
 use Rattle.tv_choice.specs.Rows.{IsWideBefore}
 use Rattle.tv_cases.specs.Views.{case_view}
-use Rattle.tv_linear.specs.Linear.{columns as width}
+use Rattle.tv_linear.specs.Linear.{columns as width, IsNarrow}
 use Rattle.tv_choice.proofs.WayLemmas.{made_none, made_more, made_wide, at_of, not_made}
 use Rattle.tv_choice.proofs.ways.case_rows.Goals as goal
 
 pub owed-init : goal.owed-init
 owed-init c =
-    made_none c.args.columns (case_view c.args.case.now) c.copy_onto.new.items.items c.requires.guards (c.in_ok-copy_onto.ensures.copied ∙ (λ i. c.new-rows.ensures.items i ++ c.deref.ensures.value i))
+    made_none c.args.columns (case_view c.args.case.now) c.copy_onto.new.items.items c.requires.guards (subst (All IsNarrow) c.deref.ensures.value c.in_ok-copy_onto.ensures.narrow) (c.in_ok-copy_onto.ensures.copied ∙ (λ i. c.new-rows.ensures.items i ++ c.deref.ensures.value i))
 
 pub owed-preserved : goal.owed-preserved
 owed-preserved c =

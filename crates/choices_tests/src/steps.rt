@@ -1,0 +1,214 @@
+use crate::questions::{Question, is_answered};
+use crate::wanted::Wanted;
+use std::test::Fail;
+
+/// `x` stays, and any `y`.
+const ANY: &str = "START: 0; FROM: 0; x := x; y := nondet(); TO: 1;";
+
+/// Half of `x`, where it is even.
+const HALF: &str = "START: 0; FROM: 0; d := nondet(); assume(2*d == x); TO: 1;";
+
+/// Up or down.
+const BRANCH: &str = "START: 0; FROM: 0; assume(x > 0); x := x + 1; TO: 0; FROM: 0; assume(x <= 0); x := x - 1; TO: 0;";
+
+/// Down to 0.
+const DOWN: &str = "START: 0; FROM: 0; assume(x > 0); x := x - 1; TO: 0;";
+
+/// Two draws.
+const TWO: &str = "START: 0; FROM: 0; x := nondet(); y := nondet(); assume(y > x); TO: 1;";
+
+/// No step from location 0.
+const NONE: &str = "START: 0; FROM: 1; x := x; TO: 0;";
+
+#[test]
+fn a_draw_is_a_term(rt: HostRuntime) -> Result<(), Fail> {
+    let question = Question {
+        text: ANY,
+        ambient: &[],
+        into: &[(1, &[(&[-1, 1], -5), (&[1, -1], 5)])],
+        stop: false,
+        splits: 4,
+        pivots: 999,
+        wanted: Wanted::Take(0, 0, &[(&[1, 0], 5)]),
+    };
+    assert!(rt; is_answered(rt.alloc(), &question)?);
+    Ok(())
+}
+
+#[test]
+fn a_draw_is_not_rounded(rt: HostRuntime) -> Result<(), Fail> {
+    let questions = [
+        Question {
+            text: HALF,
+            ambient: &[(&[1, 0], 0), (&[-1, 0], 0), (&[0, 1], -7), (&[0, -1], 7)],
+            into: &[(1, &[])],
+            stop: false,
+            splits: 16,
+            pivots: 999,
+            wanted: Wanted::Hole(&[0, 7]),
+        },
+        Question {
+            text: HALF,
+            ambient: &[(&[0, 1], -4), (&[0, -1], 4)],
+            into: &[(1, &[])],
+            stop: false,
+            splits: 8,
+            pivots: 999,
+            wanted: Wanted::Take(0, 0, &[(&[0, 0], 2)]),
+        },
+    ];
+    for question in &questions {
+        assert!(rt; is_answered(rt.alloc(), question)?);
+    }
+    Ok(())
+}
+
+#[test]
+fn two_draws_are_numbers(rt: HostRuntime) -> Result<(), Fail> {
+    let question = Question {
+        text: TWO,
+        ambient: &[],
+        into: &[(1, &[(&[-1, 0], 3), (&[0, 1], -4)])],
+        stop: false,
+        splits: 8,
+        pivots: 999,
+        wanted: Wanted::Take(0, 0, &[(&[0, 0], 3), (&[0, 0], 4)]),
+    };
+    assert!(rt; is_answered(rt.alloc(), &question)?);
+    Ok(())
+}
+
+#[test]
+fn each_case_serves_a_part(rt: HostRuntime) -> Result<(), Fail> {
+    let questions = [
+        Question {
+            text: BRANCH,
+            ambient: &[],
+            into: &[(0, &[(&[-1], 2)]), (0, &[(&[1], 1)])],
+            stop: false,
+            splits: 4,
+            pivots: 999,
+            wanted: Wanted::Sides((&[1], 0), 1, 0),
+        },
+        Question {
+            text: BRANCH,
+            ambient: &[(&[-1], 1)],
+            into: &[(0, &[(&[1], 0)]), (0, &[(&[-1], 1)])],
+            stop: false,
+            splits: 4,
+            pivots: 999,
+            wanted: Wanted::Take(0, 1, &[]),
+        },
+        Question {
+            text: BRANCH,
+            ambient: &[],
+            into: &[(0, &[(&[-1], 2)])],
+            stop: false,
+            splits: 4,
+            pivots: 999,
+            wanted: Wanted::Hole(&[0]),
+        },
+    ];
+    for question in &questions {
+        assert!(rt; is_answered(rt.alloc(), question)?);
+    }
+    Ok(())
+}
+
+#[test]
+fn a_state_may_stop_or_not(rt: HostRuntime) -> Result<(), Fail> {
+    let questions = [
+        Question {
+            text: DOWN,
+            ambient: &[],
+            into: &[(0, &[])],
+            stop: true,
+            splits: 4,
+            pivots: 999,
+            wanted: Wanted::StopOrSide((&[1], 0), 0),
+        },
+        Question {
+            text: DOWN,
+            ambient: &[(&[-1], 0)],
+            into: &[(0, &[])],
+            stop: false,
+            splits: 4,
+            pivots: 999,
+            wanted: Wanted::Hole(&[0]),
+        },
+        Question {
+            text: DOWN,
+            ambient: &[(&[-1], 0)],
+            into: &[(0, &[(&[-1], 1)])],
+            stop: true,
+            splits: 4,
+            pivots: 999,
+            wanted: Wanted::Hole(&[1]),
+        },
+    ];
+    for question in &questions {
+        assert!(rt; is_answered(rt.alloc(), question)?);
+    }
+    Ok(())
+}
+
+#[test]
+fn there_may_be_no_case_or_no_piece(rt: HostRuntime) -> Result<(), Fail> {
+    let questions = [
+        Question {
+            text: NONE,
+            ambient: &[(&[1], -5), (&[-1], 5)],
+            into: &[(0, &[])],
+            stop: true,
+            splits: 0,
+            pivots: 999,
+            wanted: Wanted::NoStep(0),
+        },
+        Question {
+            text: NONE,
+            ambient: &[(&[1], -5), (&[-1], 5)],
+            into: &[(0, &[])],
+            stop: false,
+            splits: 0,
+            pivots: 999,
+            wanted: Wanted::Hole(&[5]),
+        },
+        Question {
+            text: DOWN,
+            ambient: &[(&[1], -5), (&[-1], 5)],
+            into: &[],
+            stop: false,
+            splits: 0,
+            pivots: 999,
+            wanted: Wanted::Hole(&[5]),
+        },
+        Question {
+            text: DOWN,
+            ambient: &[(&[1], 5)],
+            into: &[],
+            stop: true,
+            splits: 0,
+            pivots: 999,
+            wanted: Wanted::NoStep(1),
+        },
+    ];
+    for question in &questions {
+        assert!(rt; is_answered(rt.alloc(), question)?);
+    }
+    Ok(())
+}
+
+#[test]
+fn an_empty_piece_has_a_leaf(rt: HostRuntime) -> Result<(), Fail> {
+    let question = Question {
+        text: DOWN,
+        ambient: &[(&[1], 0), (&[-1], 1), (&[1], 0)],
+        into: &[],
+        stop: false,
+        splits: 0,
+        pivots: 999,
+        wanted: Wanted::Empty,
+    };
+    assert!(rt; is_answered(rt.alloc(), &question)?);
+    Ok(())
+}
