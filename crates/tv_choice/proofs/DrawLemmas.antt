@@ -12,12 +12,12 @@ use Rattle.tv_cases.specs.Views.{case_view, case_views}
 use Rattle.std.proofs.lemmas.Option.{slice_get_within, get_or_from_slice_get}
 use Rattle.tv_choice.specs.declared.ways.Way.{Way}
 use Rattle.tv_choice.specs.declared.ways.Entry.{Entry}
-use Rattle.tv_choice.specs.Rows.{case_rows, put_rows, put_terms, IsWideBefore, IsWidePut}
+use Rattle.tv_choice.specs.Rows.{case_rows, put_rows, put_terms, ArePut, IsWideBefore, IsWidePut}
 use Rattle.tv_choice.specs.Leading.{Query, IsEntry, pieces_at, piece_rows}
 use Rattle.tv_choice.specs.ChoicePaths.{AreDrawTerms, by_rows, numbers}
 use Rattle.tv_choice.specs.Refusals.{IsWideHere, entering, drawing, denying}
 use Rattle.tv_choice.specs.Ways.{IsEntered, AreCaseRows, IsWayOf, IsWay}
-use Rattle.tv_choice.specs.Targets.{front, term_by, term_of, one_term, terms_given, draw_choices, targets_into, targets_by, targets_from}
+use Rattle.tv_choice.specs.Targets.{front, term_by, term_of, one_term, terms_given, draw_choices, targets_into, targets_by, targets_from, AreMadeInto, IsFirstWidePut, with_these, with_later, IsWideInto, IsFirstWideInto, into_this, into_later, IsFirstWideFrom, by_this, by_later}
 use Rattle.tv_choice.proofs.WayLemmas.{drop_more, map-append, next_of, is_way, in_way}
 use Rattle.tv_choice.proofs.PieceLemmas.{test_true, test_false}
 
@@ -203,3 +203,61 @@ entry_wide n q above e h column w = entering (case_view e.case.now) e.piece.now 
 pub draw_wide : (n : ℕ) (q : Query) (above : List Linear) (e : Entry) (rows draws : List Linear) → IsEntered q e → AreCaseRows n (case_view e.case.now) (piece_rows e.piece.now) rows → AreDrawTerms n q above (case_view e.case.now) e.piece.now draws → (column : ℕ) → IsWidePut (put_terms n draws) rows column → IsWideHere n q above column
 draw_wide n q above e rows draws h r t column w =
     drawing (case_view e.case.now) e.piece.now draws (in_way n q (case_view e.case.now) e.piece.now e.taken e.target rows h.taken h.from h.target r) t (subst (λ rs. IsWidePut (put_terms n draws) rs column) r.exact w)
+
+-- ---- what is left fits, or the first of it that does not is the first of all
+pub record IsFirstLeft (n : ℕ) (rows : List Linear) (all rest : List (List Linear)) : Type 0 where
+  pub wide : (column : ℕ) → IsFirstWidePut n rows column rest → IsFirstWidePut n rows column all
+  pub fits : All (λ draws. ArePut (put_terms n draws) rows) rest → All (λ draws. ArePut (put_terms n draws) rows) all
+
+pub first_left : (n : ℕ) (rows : List Linear) (all rest : List (List Linear)) → rest ≡ all → IsFirstLeft n rows all rest
+first_left n rows all rest e = subst (IsFirstLeft n rows all) (sym e) record { wide = λ column h. h; fits = λ h. h }
+
+pub next_left : (n : ℕ) (rows : List Linear) (all : List (List Linear)) (draws : List Linear) (rest : List (List Linear)) → ArePut (put_terms n draws) rows → IsFirstLeft n rows all (draws ∷ rest) → IsFirstLeft n rows all rest
+next_left n rows all draws rest put h = record {
+  wide = λ column w. h.wide column (with_later draws rest put w);
+  fits = λ k. h.fits (All-cons (λ ds. ArePut (put_terms n ds) rows) draws rest put k);
+}
+
+pub record ArePiecesLeft (n : ℕ) (c : LinearCase) (all rest : List Piece) : Type 0 where
+  pub wide : (column : ℕ) → IsFirstWideInto n c column rest → IsFirstWideInto n c column all
+  pub fits : All (AreMadeInto n c) rest → All (AreMadeInto n c) all
+
+pub pieces_left : (n : ℕ) (c : LinearCase) (ps : List Piece) → ArePiecesLeft n c ps ps
+pieces_left n c ps = record { wide = λ column h. h; fits = λ h. h }
+
+pub piece_left : (n : ℕ) (c : LinearCase) (ps : List Piece) (i : ℕ) (p : Piece) → slice_get ps i ≡ Some p → AreMadeInto n c p → ArePiecesLeft n c ps (drop i ps) → ArePiecesLeft n c ps (drop (i + 1) ps)
+piece_left n c ps i p g made h =
+    let k = subst (ArePiecesLeft n c ps) (get_drop ps i p g) h in
+    record {
+      wide = λ column w. k.wide column (into_later p (drop (i + 1) ps) made w);
+      fits = λ f. k.fits (All-cons (AreMadeInto n c) p (drop (i + 1) ps) made f);
+    }
+
+pub piece_wide : (n : ℕ) (c : LinearCase) (ps : List Piece) (i : ℕ) (p : Piece) → slice_get ps i ≡ Some p → ArePiecesLeft n c ps (drop i ps) → (column : ℕ) → IsWideInto n c p column → IsFirstWideInto n c column ps
+piece_wide n c ps i p g h column w = (subst (ArePiecesLeft n c ps) (get_drop ps i p g) h).wide column (into_this p (drop (i + 1) ps) w)
+
+pub pieces_fit : (n : ℕ) (c : LinearCase) (ps : List Piece) (i : ℕ) → slice_get ps i ≡ None → ArePiecesLeft n c ps (drop i ps) → All (AreMadeInto n c) ps
+pieces_fit n c ps i g h = h.fits (subst (All (AreMadeInto n c)) (sym (drop_past ps i g)) (All-nil (AreMadeInto n c)))
+
+pub record AreCasesLeft (n : ℕ) (ps : List Piece) (all rest : List LinearCase) : Type 0 where
+  pub wide : (column : ℕ) → IsFirstWideFrom n ps column rest → IsFirstWideFrom n ps column all
+
+pub cases_left : (n : ℕ) (ps : List Piece) (cases : List LinearCase) → AreCasesLeft n ps cases cases
+cases_left n ps cases = record { wide = λ column h. h }
+
+leaving_here : (l : ℕ) (cs : List Case) (i : ℕ) (c : Case) → i < length cs → c ≡ get_or cs i c → c.from ≡ l → leaving l (case_views (drop i cs)) ≡ case_view c ∷ leaving l (case_views (drop (i + 1) cs))
+leaving_here l cs i c b e from = ap (leaving l) (views_drop cs i c b e) ∙ ap (λ t. cond t (case_view c ∷ leaving l (case_views (drop (i + 1) cs))) (leaving l (case_views (drop (i + 1) cs)))) (test_true c.from l from)
+
+leaving_not : (l : ℕ) (cs : List Case) (i : ℕ) (c : Case) → i < length cs → c ≡ get_or cs i c → (c.from ≡ l → ⊥) → leaving l (case_views (drop i cs)) ≡ leaving l (case_views (drop (i + 1) cs))
+leaving_not l cs i c b e from = ap (leaving l) (views_drop cs i c b e) ∙ ap (λ t. cond t (case_view c ∷ leaving l (case_views (drop (i + 1) cs))) (leaving l (case_views (drop (i + 1) cs)))) (test_false c.from l from)
+
+pub case_left : (n : ℕ) (ps : List Piece) (l : ℕ) (cs : List Case) (i : ℕ) (c : Case) (all : List LinearCase) → i < length cs → c ≡ get_or cs i c → c.from ≡ l → All (AreMadeInto n (case_view c)) (pieces_at ps c.to) → AreCasesLeft n ps all (leaving l (case_views (drop i cs))) → AreCasesLeft n ps all (leaving l (case_views (drop (i + 1) cs)))
+case_left n ps l cs i c all b e from fit h =
+    let k = subst (AreCasesLeft n ps all) (leaving_here l cs i c b e from) h in
+    record { wide = λ column w. k.wide column (by_later (case_view c) (leaving l (case_views (drop (i + 1) cs))) fit w) }
+
+pub case_skipped : (n : ℕ) (ps : List Piece) (l : ℕ) (cs : List Case) (i : ℕ) (c : Case) (all : List LinearCase) → i < length cs → c ≡ get_or cs i c → (c.from ≡ l → ⊥) → AreCasesLeft n ps all (leaving l (case_views (drop i cs))) → AreCasesLeft n ps all (leaving l (case_views (drop (i + 1) cs)))
+case_skipped n ps l cs i c all b e from h = subst (AreCasesLeft n ps all) (leaving_not l cs i c b e from) h
+
+pub case_wide : (n : ℕ) (ps : List Piece) (l : ℕ) (cs : List Case) (i : ℕ) (c : Case) (all : List LinearCase) → i < length cs → c ≡ get_or cs i c → c.from ≡ l → AreCasesLeft n ps all (leaving l (case_views (drop i cs))) → (column : ℕ) → IsFirstWideInto n (case_view c) column (pieces_at ps c.to) → IsFirstWideFrom n ps column all
+case_wide n ps l cs i c all b e from h column w = (subst (AreCasesLeft n ps all) (leaving_here l cs i c b e from) h).wide column (by_this (case_view c) (leaving l (case_views (drop (i + 1) cs))) w)

@@ -3,7 +3,6 @@ use Rattle.std.proofs.Common.{◌≡◌, ◌⊎◌, ℕ, zero, suc, ◌+◌, ◌
 use Rattle.std.specs.Prelude.{Contains}
 use Rattle.tv_linear.specs.Linear.{Linear, columns}
 use Rattle.tv_linear.specs.Arithmetic.{denial}
-use Rattle.tv_linear.specs.Fits.{IsNarrowAt, IsFirstWide}
 use Rattle.tv_linear.specs.Known.{as_given}
 use Rattle.tv_linear.specs.Refutation.{Refutes}
 use Rattle.tv_farkas.specs.Paths.{TakenOnce}
@@ -12,16 +11,18 @@ use Rattle.tv_farkas.specs.declared.fault.CoverFault.{CoverFault}
 use Rattle.tv_farkas.specs.declared.fault.CoverFault.TheVariants.{Splits, Solve, Wide, Memory}
 use Rattle.tv_cover.specs.Targets.{HasPoint, IsNarrowRow}
 use Rattle.tv_cover.specs.CoverPaths.{IsLeftOpen, IsShut}
+use Rattle.tv_cover.specs.Trying.{IsShownRow, IsWideDenialAt, IsWideIn}
+use Rattle.std.proofs.lemmas.List.Elements.{All-nil, All-cons}
 use Rattle.tv_cover.proofs.PointLemmas.{refuted_points}
 use Rattle.tv_choice.specs.declared.looking.Best.{Best}
 use Rattle.tv_choice.specs.declared.looking.Best.TheVariants as best
 use Rattle.tv_choice.specs.declared.looking.Look.{Look}
 use Rattle.tv_choice.specs.declared.looking.Look.TheVariants as looks
 use Rattle.tv_choice.specs.declared.ways.Way.{Way}
-use Rattle.std.proofs.lemmas.Option.{slice_get_within, get_or_from_slice_get}
+use Rattle.std.proofs.lemmas.Option.{slice_get_read}
 use Rattle.tv_choice.specs.Leading.{Query, pieces_at}
 use Rattle.tv_choice.specs.ChoicePaths.{IsWayRows}
-use Rattle.tv_choice.specs.Refusals.{IsTried, IsUnsolvedHere, place, tried, inner, IsWideHere, denying}
+use Rattle.tv_choice.specs.Refusals.{IsTried, IsUnsolvedHere, place, tried, inner}
 use Rattle.tv_choice.specs.Looking.{IsWayRow, IsLookFault, ShowsRow, IsOpenRow, AreShown, IsAt, IsOpenAt, AreEntered, IsOpen, NoneShown, AllShut, IsBest, IsOpened, IsLook, IsOneMore}
 use Rattle.tv_choice.specs.Ways.{way_rows, IsWay, IsUnmade}
 use Rattle.tv_choice.proofs.WayLemmas.{take_more}
@@ -32,11 +33,11 @@ pub point_of : (n : ℕ) (rows : List Linear) (values : List ℤ) (scale : ℤ) 
 point_of n rows values scale h = record { values = values; scale = scale; size = h.point.as_many; meets = h.met }
 
 -- ---- refusals
-pub judge_tried : (n : ℕ) (q : Query) (above asked : List Linear) (r : Linear) (pivots : ℕ) (fault : CoverFault) → asked ≡ above ++ r ∷ [] → IsTried n q above r → IsJudgeFault n asked pivots fault → IsLookFault n q above pivots fault
-judge_tried n q above asked r pivots (Splits path) e t h = absurd h
-judge_tried n q above asked r pivots (Solve kept fault) e t h = tried r t (subst (λ rs. TakenOnce rs kept.items) e h.0) h.1
-judge_tried n q above asked r pivots (Wide column) e t h = absurd h
-judge_tried n q above asked r pivots Memory e t h = tt
+pub judge_tried : (wide : ℕ → Type 0) (n : ℕ) (q : Query) (above asked : List Linear) (r : Linear) (pivots : ℕ) (fault : CoverFault) → asked ≡ above ++ r ∷ [] → IsTried n q above r → IsJudgeFault n asked pivots fault → IsLookFault wide n q above pivots fault
+judge_tried wide n q above asked r pivots (Splits path) e t h = absurd h
+judge_tried wide n q above asked r pivots (Solve kept fault) e t h = tried r t (subst (λ rs. TakenOnce rs kept.items) e h.0) h.1
+judge_tried wide n q above asked r pivots (Wide column) e t h = absurd h
+judge_tried wide n q above asked r pivots Memory e t h = tt
 
 pub row_tried : (n : ℕ) (q : Query) (above : List Linear) (r : Linear) → IsWayRow n q above r → IsTried n q above r
 row_tried n q above r w = record { rows = w.0; way = w.1; at = r; among = w.2; is = inl refl }
@@ -44,14 +45,26 @@ row_tried n q above r w = record { rows = w.0; way = w.1; at = r; among = w.2; i
 pub denial_tried : (n : ℕ) (q : Query) (above : List Linear) (r s : Linear) → s ≡ denial r → IsNarrowRow (denial r) → IsWayRow n q above r → IsTried n q above s
 denial_tried n q above r s e narrow w = record { rows = w.0; way = w.1; at = r; among = w.2; is = inr (e, narrow) }
 
-pub denial_wide : (n : ℕ) (q : Query) (above : List Linear) (r : Linear) → IsWayRow n q above r → (column : ℕ) → IsFirstWide (IsNarrowAt (denial r)) (columns (denial r)) column → IsWideHere n q above column
-denial_wide n q above r w column h = denying w.0 r w.1 w.2 h
+pub look_unmade : (wide : ℕ → Type 0) (n : ℕ) (q : Query) (above : List Linear) (pivots : ℕ) (fault : CoverFault) → IsUnmade wide fault → IsLookFault wide n q above pivots fault
+look_unmade wide n q above pivots (Splits path) h = absurd h
+look_unmade wide n q above pivots (Solve kept fault) h = absurd h
+look_unmade wide n q above pivots (Wide column) h = h
+look_unmade wide n q above pivots Memory h = tt
 
-pub look_unmade : (n : ℕ) (q : Query) (above : List Linear) (pivots : ℕ) (fault : CoverFault) → IsUnmade (IsWideHere n q above) fault → IsLookFault n q above pivots fault
-look_unmade n q above pivots (Splits path) h = absurd h
-look_unmade n q above pivots (Solve kept fault) h = absurd h
-look_unmade n q above pivots (Wide column) h = h
-look_unmade n q above pivots Memory h = tt
+pub look_other : (wide more : ℕ → Type 0) (n : ℕ) (q : Query) (above : List Linear) (pivots : ℕ) (fault : CoverFault) → ((column : ℕ) → wide column → more column) → IsLookFault wide n q above pivots fault → IsLookFault more n q above pivots fault
+look_other wide more n q above pivots (Splits path) f h = h
+look_other wide more n q above pivots (Solve kept fault) f h = h
+look_other wide more n q above pivots (Wide column) f h = f column h
+look_other wide more n q above pivots Memory f h = tt
+
+shown_rows : (n : ℕ) (rows owed : List Linear) (lists : List (List ℤ)) → AreShown n rows owed lists → All (IsShownRow n rows) owed
+shown_rows n rows [] lists h = All-nil (IsShownRow n rows)
+shown_rows n rows (r ∷ owed) [] h = absurd h
+shown_rows n rows (r ∷ owed) (ms ∷ lists) h = All-cons (IsShownRow n rows) r owed (h.0.narrow, refuted_points n (rows ++ denial r ∷ []) ms h.0.refutes) (shown_rows n rows owed lists h.1)
+
+-- the first row whose denial is too wide
+pub wide_in : (n : ℕ) (rows owed : List Linear) (i : ℕ) (r : Linear) (lists : List (List ℤ)) (column : ℕ) → i < length owed → r ≡ get_or owed i r → AreShown n rows (take i owed) lists → IsWideDenialAt r column → IsWideIn n rows owed column
+wide_in n rows owed i r lists column l e h w = record { place = i; row = r; found = slice_get_read owed (length owed) i r refl l e; shown = shown_rows n rows (take i owed) lists h; wide = w }
 
 -- ---- shown rows
 pub excluded_one : (n : ℕ) (rows all : List Linear) (r : Linear) (ms : List ℤ) → all ≡ rows ++ r ∷ [] → Refutes n (as_given all) ms → IsShut n rows (r ∷ [])

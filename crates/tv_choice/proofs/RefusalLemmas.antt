@@ -10,8 +10,9 @@ use Rattle.tv_farkas.specs.EmptyPaths.{IsEmptyFault}
 use Rattle.tv_cases.specs.LinearCases.{LinearCase}
 use Rattle.tv_choice.specs.declared.ways.Way.{Way}
 use Rattle.tv_choice.specs.Leading.{Query}
-use Rattle.tv_choice.specs.ChoicePaths.{AreDrawTerms, by_rows, numbers, IsWayRows, IsSplit, IsChoicePath, IsInner}
-use Rattle.tv_choice.specs.Refusals.{IsInnerPath, IsUnsolvedHere, place, tried, inner, IsWideHere, entering, drawing, denying, IsFaultHere, IsJoinedPath, IsUnsolved, IsWideChoice, IsChoiceFault}
+use Rattle.tv_choice.specs.ChoicePaths.{AreDrawTerms, by_rows, numbers, IsSplit, IsChoicePath, IsInner}
+use Rattle.tv_choice.specs.Refusals.{IsInnerPath, IsUnsolvedHere, place, tried, inner, IsWideHere, IsFaultHere, IsJoinedPath, IsUnsolved, IsWideChoice, target, behind, IsChoiceFault}
+use Rattle.tv_choice.specs.Targets.{IsWideTarget}
 use Rattle.tv_choice.specs.Looking.{IsLookFault}
 use Rattle.tv_choice.specs.Ways.{IsWay, AreWays, IsUnmade, lists_of}
 use Rattle.tv_choice.specs.Settling.{IsPutBefore}
@@ -36,7 +37,7 @@ module _ (n : ℕ) (q : Query) where
   judge_fault above pivots left (Wide column) h = absurd h
   judge_fault above pivots left Memory h = tt
 
-  pub look_fault : (above : List Linear) (pivots left : ℕ) (fault : CoverFault) → IsLookFault n q above pivots fault → IsFaultHere n q above pivots left fault
+  pub look_fault : (above : List Linear) (pivots left : ℕ) (fault : CoverFault) → IsLookFault (IsWideHere n q above) n q above pivots fault → IsFaultHere n q above pivots left fault
   look_fault above pivots left (Splits path) h = absurd h
   look_fault above pivots left (Solve kept fault) h = h
   look_fault above pivots left (Wide column) h = h
@@ -46,11 +47,22 @@ module _ (n : ℕ) (q : Query) where
   pub here_fault : (rows : List Linear) (pivots left : ℕ) (fault : CoverFault) → IsFaultHere n q rows pivots left fault → IsChoiceFault n q rows pivots left fault
   here_fault rows pivots left (Splits path) h = (record { own = []; behind = path.items; parts = refl; is_path = tt; inner = h.0 }, h.1)
   here_fault rows pivots left (Solve kept fault) h = record { own = []; is_path = tt; here = h }
-  here_fault rows pivots left (Wide column) h = record { own = []; is_path = tt; here = h }
+  here_fault rows pivots left (Wide column) h = behind [] tt h
   here_fault rows pivots left Memory h = tt
 
   pub none_left : (rows : List Linear) (left : ℕ) (path : List Branch) → path ≡ [] → left ≡ 0 → IsJoinedPath n q rows path × (length path ≡ left)
   none_left rows left path e z = (record { own = []; behind = path; parts = refl; is_path = tt; inner = inl e }, ap length e ∙ sym z)
+
+  -- a row of a target is too wide
+  pub target_fault : (rows : List Linear) (pivots left : ℕ) (fault : CoverFault) → IsUnmade (IsWideTarget n q) fault → IsChoiceFault n q rows pivots left fault
+  target_fault rows pivots left (Splits path) h = absurd h
+  target_fault rows pivots left (Solve kept fault) h = absurd h
+  target_fault rows pivots left (Wide column) h = target h
+  target_fault rows pivots left Memory h = tt
+
+  wide_before : (rows : List Linear) (b : Branch) (column : ℕ) → IsSplit n q rows b → IsWideChoice n q (rows ++ b.row ∷ []) column → IsWideChoice n q rows column
+  wide_before rows b column r (target h) = target h
+  wide_before rows b column r (behind path is h) = behind (b ∷ path) (r, is) h
 
   -- ---- behind one more split
   pub side_refused : (rows : List Linear) (pivots left : ℕ) (b : Branch) (fault new : CoverFault) → IsSplit n q rows b → IsChoiceFault n q (rows ++ b.row ∷ []) pivots left fault → IsPutBefore b fault new → IsChoiceFault n q rows pivots (left + 1) new
@@ -62,7 +74,7 @@ module _ (n : ℕ) (q : Query) where
   side_refused rows pivots left b (Splits path) (Wide column) r h p = absurd p
   side_refused rows pivots left b (Splits path) Memory r h p = absurd p
   side_refused rows pivots left b (Solve kept fault) new r h p = subst (IsChoiceFault n q rows pivots (left + 1)) (sym p) record { own = b ∷ h.own; is_path = (r, h.is_path); here = h.here }
-  side_refused rows pivots left b (Wide column) new r h p = subst (IsChoiceFault n q rows pivots (left + 1)) (sym p) record { own = b ∷ h.own; is_path = (r, h.is_path); here = h.here }
+  side_refused rows pivots left b (Wide column) new r h p = subst (IsChoiceFault n q rows pivots (left + 1)) (sym p) (wide_before rows b column r h)
   side_refused rows pivots left b Memory new r h p = subst (IsChoiceFault n q rows pivots (left + 1)) (sym p) tt
 
   -- ---- more rows above
@@ -91,11 +103,3 @@ module _ (n : ℕ) (q : Query) where
 
   pub ways_longer : (above more : List Linear) (ways : List Way) → AreWays n q above ways → AreWays n q (above ++ more) ways
   ways_longer above more ways h = record { each = λ i d l. way_longer above more _ (h.each i d l); more = h.more; begins = h.begins }
-
-  rows_longer : (above more rows : List Linear) → IsWayRows n q above rows → IsWayRows n q (above ++ more) rows
-  rows_longer above more rows h = record { case = h.case; piece = h.piece; way_in = h.way_in; draws = h.draws; terms = terms_longer above more h.case h.piece h.draws h.terms; same = h.same; narrow = h.narrow }
-
-  pub wide_longer : (above more : List Linear) (column : ℕ) → IsWideHere n q above column → IsWideHere n q (above ++ more) column
-  wide_longer above more column (entering c p e w) = entering c p e w
-  wide_longer above more column (drawing c p draws e t w) = drawing c p draws e (terms_longer above more c p draws t) w
-  wide_longer above more column (denying rows r w among wide) = denying rows r (rows_longer above more rows w) among wide

@@ -1,7 +1,8 @@
 -- Rows of cases, and ways made of them.
 use Rattle.std.proofs.Common.{◌≡◌, ℕ, zero, suc, ◌+◌, ◌-◌, ◌<◌, ◌≤◌, ◌^◌, List, [], ◌∷◌, ◌++◌, length, map, get_or, take, drop, drop-cons, All, Some, arith, refl, sym, ap, ◌∙◌, subst, ℤ, pos, neg_ℤ, ◌+ℤ◌, ◌-ℤ◌, ◌*ℤ◌, ◌≤ℤ◌, unsigned_abs, length-append, append_assoc, ◌⊎◌, inl, inr}
 use Rattle.std.proofs.Math.Seq.{take-suc}
-use Rattle.std.specs.Prelude.{slice_get}
+use Rattle.std.specs.Prelude.{slice_get, Result, Ok, Err, IfOk}
+use Rattle.std.specs.Result.{IfErr}
 use Rattle.std.proofs.lemmas.Option.{slice_get_read, slice_get_within, get_or_from_slice_get}
 use Rattle.std.proofs.lemmas.Int.{ints}
 use Rattle.std.proofs.lemmas.List.{length-map, get_or_past}
@@ -84,6 +85,14 @@ unmade_more wide more (Splits path) f h = absurd h
 unmade_more wide more (Solve kept fault) f h = absurd h
 unmade_more wide more (Wide column) f h = f column h
 unmade_more wide more Memory f h = tt
+
+pub if_ok : {T E : Type 0} (A B : Type 0) (r : Result T E) → (A → B) → IfOk r (λ x. A) → IfOk r (λ x. B)
+if_ok A B (Ok x) f h = f h
+if_ok A B (Err e) f h = tt
+
+pub if_err : {T : Type 0} (wide more : ℕ → Type 0) (r : Result T CoverFault) → ((column : ℕ) → wide column → more column) → IfErr r (IsUnmade wide) → IfErr r (IsUnmade more)
+if_err wide more (Ok x) f h = tt
+if_err wide more (Err e) f h = unmade_more wide more e f h
 
 -- ---- fixed columns
 pub fixing_more : (w column : ℕ) (values : List ℤ) (v : ℤ) (rows one new : List Linear) (a b : Linear) → column < length values → v ≡ get_or values column v → a ≡ at_most_row w column v → b ≡ at_least_row w column (v -ℤ pos 1) → one ≡ rows ++ a ∷ [] → new ≡ one ++ b ∷ [] → fixes w 0 values ≡ rows ++ fixes w column (drop column values) → fixes w 0 values ≡ new ++ fixes w (column + 1) (drop (column + 1) values)

@@ -17,19 +17,23 @@ use Rattle.tv_choice.specs.declared.looking.Best.TheVariants as best
 use Rattle.tv_choice.specs.declared.ways.Way.{Way}
 use Rattle.tv_choice.specs.Leading.{Query}
 use Rattle.tv_choice.specs.ChoicePaths.{IsWayRows}
-use Rattle.tv_choice.specs.Refusals.{IsUnsolvedHere, IsWideHere}
+use Rattle.tv_choice.specs.Refusals.{IsUnsolvedHere}
 use Rattle.tv_choice.specs.Ways.{way_rows}
 
 -- the row is one of a way at the rows above
 abbrev pub IsWayRow : ℕ → Query → List Linear → Linear → Type 0
 IsWayRow n q above r = (rows : List Linear) × IsWayRows n q above rows × Contains rows r
 
--- what a refusal shows where nothing is split
-abbrev pub IsLookFault : ℕ → Query → List Linear → ℕ → CoverFault → Type 0
-IsLookFault n q above pivots (Splits path) = ⊥
-IsLookFault n q above pivots (Solve kept fault) = IsUnsolvedHere n q above kept.items pivots fault
-IsLookFault n q above pivots (Wide column) = IsWideHere n q above column
-IsLookFault n q above pivots Memory = Unit {0}
+-- what a refusal shows where nothing is split, and where a denial is too wide at a column
+abbrev pub IsLookFault : (ℕ → Type 0) → ℕ → Query → List Linear → ℕ → CoverFault → Type 0
+IsLookFault wide n q above pivots (Splits path) = ⊥
+IsLookFault wide n q above pivots (Solve kept fault) = IsUnsolvedHere n q above kept.items pivots fault
+IsLookFault wide n q above pivots (Wide column) = wide column
+IsLookFault wide n q above pivots Memory = Unit {0}
+
+-- no column is
+abbrev pub no_wide : ℕ → Type 0
+no_wide column = ⊥
 
 -- the short multipliers show the row with these rows: they refute them and its denial, which is narrow
 pub record ShowsRow (n : ℕ) (rows : List Linear) (r : Linear) (ms : List ℤ) : Type 0 where

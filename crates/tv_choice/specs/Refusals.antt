@@ -1,9 +1,8 @@
 -- What a refusal of a choice shows.
 use Rattle.std.specs.Prelude.{◌≡◌, ◌⊎◌, ℕ, List, [], ◌∷◌, ◌++◌, length}
 use Rattle.std.specs.List.{Contains}
-use Rattle.tv_linear.specs.Linear.{Linear, columns}
+use Rattle.tv_linear.specs.Linear.{Linear}
 use Rattle.tv_linear.specs.Arithmetic.{denial}
-use Rattle.tv_linear.specs.Fits.{IsNarrowAt, IsFirstWide}
 use Rattle.tv_linear.specs.declared.region.Piece.{Piece}
 use Rattle.tv_simplex.specs.declared.fault.SolveFault.{SolveFault}
 use Rattle.tv_farkas.specs.declared.branch.Branch.{Branch}
@@ -14,6 +13,8 @@ use Rattle.tv_farkas.specs.Paths.{TakenOnce, rows_after}
 use Rattle.tv_farkas.specs.EmptyPaths.{IsEmptyPath, IsUnsolved as IsEmptyUnsolved}
 use Rattle.tv_cases.specs.LinearCases.{LinearCase}
 use Rattle.tv_cover.specs.Targets.{IsNarrowRow}
+use Rattle.tv_cover.specs.Trying.{IsWideIn}
+use Rattle.tv_choice.specs.Targets.{IsWideTarget}
 use Rattle.tv_choice.specs.Rows.{case_rows, put_terms, IsWideBefore, IsWidePut}
 use Rattle.tv_choice.specs.Leading.{Query, IsEntry, piece_rows}
 use Rattle.tv_choice.specs.ChoicePaths.{IsWayIn, AreDrawTerms, IsWayRows, IsChoicePath, IsInner}
@@ -43,11 +44,12 @@ pub data IsUnsolvedHere (n : ℕ) (q : Query) (above kept : List Linear) (pivots
   inner : (w : ℕ) (asked : List Linear) → IsInner n q above w asked → IsEmptyUnsolved w asked kept (λ k. IsSystemFault w k pivots fault) → IsUnsolvedHere n q above kept pivots fault
 
 -- A row is 2^62 or more in magnitude at the column, or a number on the way to it is 2^127 or more: a row of a piece read before a case,
--- a row of a case with terms put in for its draws, or the denial of a row of a way. It is the first such row of its list.
+-- a row of a case with terms put in for its draws, or the denial of a row of a way. It is the first such row of its list; for a denial each
+-- row before it is shown.
 pub data IsWideHere (n : ℕ) (q : Query) (above : List Linear) (column : ℕ) : Type 0 where
   entering : (c : LinearCase) (p : Piece) → IsEntry q c p → IsWideBefore c (piece_rows p) column → IsWideHere n q above column
   drawing : (c : LinearCase) (p : Piece) (draws : List Linear) → IsWayIn n q c p → AreDrawTerms n q above c p draws → IsWidePut (put_terms n draws) (case_rows c (piece_rows p)) column → IsWideHere n q above column
-  denying : (rows : List Linear) (r : Linear) → IsWayRows n q above rows → Contains rows r → IsFirstWide (IsNarrowAt (denial r)) (columns (denial r)) column → IsWideHere n q above column
+  denying : (rows : List Linear) → IsWayRows n q above rows → IsWideIn n above rows column → IsWideHere n q above column
 
 -- what a refusal shows at the rows above, where so many splits are left and none is made there
 abbrev pub IsFaultHere : ℕ → Query → List Linear → ℕ → ℕ → CoverFault → Type 0
@@ -72,11 +74,10 @@ pub record IsUnsolved (n : ℕ) (q : Query) (rows kept : List Linear) (pivots : 
   pub is_path : IsChoicePath n q rows own
   pub here : IsUnsolvedHere n q (rows_after rows own) kept pivots fault
 
--- at the end of a path of the choice a row is too wide
-pub record IsWideChoice (n : ℕ) (q : Query) (rows : List Linear) (column : ℕ) : Type 0 where
-  pub own : List Branch
-  pub is_path : IsChoicePath n q rows own
-  pub here : IsWideHere n q (rows_after rows own) column
+-- a row of a target is too wide, or a row that is made at the end of a path of the choice
+pub data IsWideChoice (n : ℕ) (q : Query) (rows : List Linear) (column : ℕ) : Type 0 where
+  target : IsWideTarget n q column → IsWideChoice n q rows column
+  behind : (own : List Branch) → IsChoicePath n q rows own → IsWideHere n q (rows_after rows own) column → IsWideChoice n q rows column
 
 -- what a refusal shows, for so many pivots and splits
 abbrev pub IsChoiceFault : ℕ → Query → List Linear → ℕ → ℕ → CoverFault → Type 0

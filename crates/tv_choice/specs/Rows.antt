@@ -39,6 +39,14 @@ pub record IsFirstWideRow (Fits : Linear → ℕ → Type 0) (last : Linear → 
   pub earlier : All (λ r. (k : ℕ) → k ≤ last r → Fits r k) (take place rows)
   pub wide : IsFirstWide (Fits row) (last row) column
 
+-- each of these rows fits when it is read before the case
+abbrev pub AreRead : LinearCase → List Linear → Type 0
+AreRead c rows = All (λ r. (column : ℕ) → column ≤ columns (before r c) → FitsTerms (columns r + c.draws) r (rows_after r c) column) rows
+
+-- each of these rows fits with these terms put in
+abbrev pub ArePut : List Linear → List Linear → Type 0
+ArePut terms rows = All (λ r. (column : ℕ) → column ≤ columns (composed r terms) → FitsComposed r terms column) rows
+
 -- of these rows the first that is too wide when it is read before the case
 abbrev pub IsWideBefore : LinearCase → List Linear → ℕ → Type 0
 IsWideBefore c rows column = IsFirstWideRow (λ r. FitsTerms (columns r + c.draws) r (rows_after r c)) (λ r. columns (before r c)) rows column

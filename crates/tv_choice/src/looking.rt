@@ -4,9 +4,11 @@ ghost use Rattle.std.specs.Prelude.{◌≡◌, ◌-◌, ◌^◌, ◌<◌, ◌++�
 ghost use Rattle.std.specs.Result.{IfErr};
 ghost use Rattle.tv_linear.specs.Linear.{columns as width};
 ghost use Rattle.tv_cover.specs.Targets.{AreEven};
+ghost use Rattle.tv_cover.specs.Trying.{IsWideDenialAt, IsWideIn};
 ghost use Rattle.tv_choice.specs.Asked.{query_of};
 ghost use Rattle.tv_choice.specs.ChoicePaths.{IsWayRows};
-ghost use Rattle.tv_choice.specs.Looking.{IsWayRow, IsLookFault, IsShown, AreAllShown, IsAnyExcluded, IsLook, IsOneMore, IsBest};
+ghost use Rattle.tv_choice.specs.Refusals.{IsWideHere};
+ghost use Rattle.tv_choice.specs.Looking.{IsWayRow, IsLookFault, no_wide, IsShown, AreAllShown, IsAnyExcluded, IsLook, IsOneMore, IsBest};
 ghost use Rattle.tv_choice.specs.Ways.{AreWays};
 
 use crate::faults::unmade;
@@ -55,7 +57,7 @@ fn show(question: &Question, rows: &[Row], row: &Row) -> Result<Option<Vec<i64>>
     requires same { width row.now ≡ question.now.columns }
     requires way { IsWayRow question.now.columns (query_of question.now) rows.now row.now }
     ensures shown { IfOk result (IsShown question.now.columns rows.now row.now) }
-    ensures refusals { IfErr result (IsLookFault question.now.columns (query_of question.now) rows.now question.now.pivots) }
+    ensures refusals { IfErr result (IsLookFault (IsWideDenialAt row.now) question.now.columns (query_of question.now) rows.now question.now.pivots) }
 {
     let alloc = question.alloc;
     let denied = match row.deny(alloc) {
@@ -76,7 +78,8 @@ fn all_shown(question: &Question, rows: &[Row], owed: &[Row]) -> Result<Shown, C
     requires same { AreEven question.now.columns owed.now }
     requires way { IsWayRows question.now.columns (query_of question.now) rows.now owed.now }
     ensures shown { IfOk result (AreAllShown question.now.columns rows.now owed.now) }
-    ensures refusals { IfErr result (IsLookFault question.now.columns (query_of question.now) rows.now question.now.pivots) }
+    ensures refusals { let wide = IsWideIn question.now.columns rows.now owed.now in
+        IfErr result (IsLookFault wide question.now.columns (query_of question.now) rows.now question.now.pivots) }
 {
     let mut lists = Vec::new(question.alloc);
     'owed: for place in 0..owed.len() {
@@ -95,7 +98,7 @@ fn is_excluded(question: &Question, rows: &[Row], row: &Row) -> Result<bool, Cov
     requires same { width row.now ≡ question.now.columns }
     requires way { IsWayRow question.now.columns (query_of question.now) rows.now row.now }
     ensures excluded { IfOk result (IsAnyExcluded question.now.columns rows.now (row.now ∷ [])) }
-    ensures refusals { IfErr result (IsLookFault question.now.columns (query_of question.now) rows.now question.now.pivots) }
+    ensures refusals { IfErr result (IsLookFault no_wide question.now.columns (query_of question.now) rows.now question.now.pivots) }
 {
     let alloc = question.alloc;
     let all = with_row(alloc, rows, row)?;
@@ -112,7 +115,7 @@ fn any_excluded(question: &Question, rows: &[Row], owed: &[Row]) -> Result<bool,
     requires same { AreEven question.now.columns owed.now }
     requires way { IsWayRows question.now.columns (query_of question.now) rows.now owed.now }
     ensures excluded { IfOk result (IsAnyExcluded question.now.columns rows.now owed.now) }
-    ensures refusals { IfErr result (IsLookFault question.now.columns (query_of question.now) rows.now question.now.pivots) }
+    ensures refusals { IfErr result (IsLookFault no_wide question.now.columns (query_of question.now) rows.now question.now.pivots) }
 {
     'owed: for place in 0..owed.len() {
         match is_excluded(question, rows, &owed[place]) {
@@ -130,7 +133,8 @@ pub fn look_at(question: &Question, rows: &[Row], owed: &[Row]) -> Result<Look, 
     requires same { AreEven question.now.columns owed.now }
     requires way { IsWayRows question.now.columns (query_of question.now) rows.now owed.now }
     ensures look { IfOk result (IsLook question.now.columns rows.now owed.now) }
-    ensures refusals { IfErr result (IsLookFault question.now.columns (query_of question.now) rows.now question.now.pivots) }
+    ensures refusals { let wide = IsWideIn question.now.columns rows.now owed.now in
+        IfErr result (IsLookFault wide question.now.columns (query_of question.now) rows.now question.now.pivots) }
 {
     let place = match all_shown(question, rows, owed) {
         Err(fault) => return Err(fault),
@@ -163,7 +167,8 @@ pub fn best_of(question: &Question, rows: &[Row], ways: &[Way]) -> Result<Best, 
     requires even { AreEven question.now.columns rows.now }
     requires ways { AreWays question.now.columns (query_of question.now) rows.now ways.now }
     ensures best { IfOk result (IsBest question.now.columns rows.now ways.now) }
-    ensures refusals { IfErr result (IsLookFault question.now.columns (query_of question.now) rows.now question.now.pivots) }
+    ensures refusals { let wide = IsWideHere question.now.columns (query_of question.now) rows.now in
+        IfErr result (IsLookFault wide question.now.columns (query_of question.now) rows.now question.now.pivots) }
 {
     let mut best = Best::Nothing;
     'ways: for way in 0..ways.len() {

@@ -7,11 +7,10 @@ ghost use Rattle.tv_linear.specs.Arithmetic.{width_of};
 ghost use Rattle.tv_cases.specs.EdgeCases.{columns_from};
 ghost use Rattle.tv_cases.specs.LinearCases.{IsCase};
 ghost use Rattle.tv_cases.specs.Views.{case_view};
-ghost use Rattle.tv_choice.specs.Rows.{put_terms, IsWideBefore, IsWidePut};
+ghost use Rattle.tv_choice.specs.Rows.{put_terms, AreRead, ArePut, IsWideBefore, IsWidePut};
 ghost use Rattle.tv_choice.specs.Asked.{query_of};
 ghost use Rattle.tv_choice.specs.Leading.{pieces_at, piece_rows};
-ghost use Rattle.tv_choice.specs.Targets.{targets, targets_into, targets_by, draw_choices};
-ghost use Rattle.tv_choice.specs.Refusals.{IsWideHere};
+ghost use Rattle.tv_choice.specs.Targets.{targets, targets_into, targets_by, draw_choices, AreMadeInto, IsFirstWidePut, IsWideInto, IsFirstWideInto, IsWideTarget};
 ghost use Rattle.tv_choice.specs.Ways.{lists_of, IsEntered, AreCaseRows, AreComposed, IsWayOf, IsWay, AreWays, IsUnmade};
 
 use crate::drawing::draw_choices;
@@ -57,6 +56,7 @@ pub fn case_rows(
     requires terms { All (λ u. width u.term ≡ columns + case.now.draws) (case_view case.now).updates }
     requires owed { All (λ r. width r ≡ columns) owed.now }
     ensures rows { IfOk result (λ v. AreCaseRows columns (case_view case.now) owed.now v.items) }
+    ensures fits { IfOk result (λ _. AreRead (case_view case.now) owed.now) }
     ensures refusals { IfErr result (IsUnmade (IsWideBefore (case_view case.now) owed.now)) }
 {
     let mut rows = Vec::new(alloc);
@@ -141,7 +141,12 @@ fn push_drawn(
     ensures ways { IfOk result (λ _. All (IsWay question.now.columns (query_of question.now) []) ways.new.items) }
     ensures lists { let into = targets_into question.now.columns (case_view entry.now.case.now) (piece_rows entry.now.piece.now) in
         IfOk result (λ _. lists_of ways.new.items ≡ lists_of ways.old.items ++ into) }
-    ensures refusals { IfErr result (IsUnmade (IsWideHere question.now.columns (query_of question.now) [])) }
+    ensures fits { let n = question.now.columns in
+        let choices = draw_choices entry.now.case.now.draws n rows.now in
+        IfOk result (λ _. All (λ draws. ArePut (put_terms n draws) rows.now) choices) }
+    ensures refusals { let n = question.now.columns in
+        let choices = draw_choices entry.now.case.now.draws n rows.now in
+        IfErr result (IsUnmade (λ column. IsFirstWidePut n rows.now column choices)) }
 {
     'choices: for draws in choices {
         match way_of(question.alloc, question.columns, entry, rows, draws) {
@@ -159,7 +164,9 @@ fn push_ways(question: &Question, ways: &mut Vec<Way>, entry: &Entry) -> Result<
     ensures ways { IfOk result (λ _. All (IsWay question.now.columns (query_of question.now) []) ways.new.items) }
     ensures lists { let into = targets_into question.now.columns (case_view entry.now.case.now) (piece_rows entry.now.piece.now) in
         IfOk result (λ _. lists_of ways.new.items ≡ lists_of ways.old.items ++ into) }
-    ensures refusals { IfErr result (IsUnmade (IsWideHere question.now.columns (query_of question.now) [])) }
+    ensures fits { IfOk result (λ _. AreMadeInto question.now.columns (case_view entry.now.case.now) entry.now.piece.now) }
+    ensures refusals { let c = case_view entry.now.case.now in
+        IfErr result (IsUnmade (IsWideInto question.now.columns c entry.now.piece.now)) }
 {
     let case = entry.case;
     if case.draws > 1 {
@@ -188,7 +195,10 @@ fn push_case(
     ensures ways { IfOk result (λ _. All (IsWay question.now.columns (query_of question.now) []) ways.new.items) }
     ensures lists { let into = targets_by question.now.columns (case_view case.now) (pieces_at question.now.pieces.now case.now.to) in
         IfOk result (λ _. lists_of ways.new.items ≡ lists_of ways.old.items ++ into) }
-    ensures refusals { IfErr result (IsUnmade (IsWideHere question.now.columns (query_of question.now) [])) }
+    ensures fits { let pieces = pieces_at question.now.pieces.now case.now.to in
+        IfOk result (λ _. All (AreMadeInto question.now.columns (case_view case.now)) pieces) }
+    ensures refusals { let pieces = pieces_at question.now.pieces.now case.now.to in
+        IfErr result (IsUnmade (λ column. IsFirstWideInto question.now.columns (case_view case.now) column pieces)) }
 {
     let mut target = 0;
     'pieces: while let Some(piece) = piece_at(question.pieces, case.to, target) {
@@ -211,7 +221,7 @@ fn push_case(
 pub fn first_ways(question: &Question) -> Result<Vec<Way>, CoverFault>
     ensures ways { IfOk result (λ v. All (IsWay question.now.columns (query_of question.now) []) v.items) }
     ensures lists { IfOk result (λ v. lists_of v.items ≡ targets question.now.columns (query_of question.now)) }
-    ensures refusals { IfErr result (IsUnmade (IsWideHere question.now.columns (query_of question.now) [])) }
+    ensures refusals { IfErr result (IsUnmade (IsWideTarget question.now.columns (query_of question.now))) }
 {
     let mut ways = Vec::new(question.alloc);
     let cases = question.about.list();

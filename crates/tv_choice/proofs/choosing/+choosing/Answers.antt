@@ -18,14 +18,15 @@ use Rattle.tv_choice.specs.Asked.{query_of}
 use Rattle.tv_choice.specs.ChoicePaths.{IsWayRows}
 use Rattle.tv_choice.specs.declared.looking.Look.TheVariants as looks
 use Rattle.tv_choice.specs.declared.looking.Best.TheVariants as best
-use Rattle.tv_choice.specs.Looking.{IsAt, AreShown, IsLook, IsBest, IsOpen, NoneShown}
+use Rattle.tv_choice.specs.Looking.{IsLookFault, IsAt, AreShown, IsLook, IsBest, IsOpen, NoneShown}
 use Rattle.tv_choice.specs.Ways.{way_rows, IsWay, AreWays}
 use Rattle.tv_choice.specs.Stepping.{IsStepInto}
 use Rattle.tv_choice.specs.Stopping.{IsStopped}
-use Rattle.tv_choice.specs.Refusals.{IsChoiceFault}
+use Rattle.tv_choice.specs.Refusals.{IsWideHere, denying, IsChoiceFault}
+use Rattle.tv_cover.specs.Trying.{IsWideIn}
 use Rattle.tv_choice.specs.Settling.{IsFound, IsTreeAt, IsSplitOf}
 use Rattle.tv_choice.proofs.WayLemmas.{at_of}
-use Rattle.tv_choice.proofs.LookLemmas.{at_end, way_is_rows, not_shown, none_more}
+use Rattle.tv_choice.proofs.LookLemmas.{at_end, look_other, way_is_rows, not_shown, none_more}
 use Rattle.tv_choice.proofs.RefusalLemmas.{judge_fault, look_fault, here_fault, side_refused, ways_longer}
 use Rattle.tv_choice.proofs.SettleLemmas.{empty_leaf, stop_leaf, take_leaf, split_leaf, hole_of_side, no_step_hole, never_excluded, whole_going, of_targets, ways_more}
 use Rattle.tv_choice.proofs.SplitLemmas.{row_halves, point_halves, fraction_at}
@@ -192,7 +193,15 @@ go_on-look_at-requires-clause-way t c =
 pub go_on-returns-in-Err-look_at-clause-refusals : goal.go_on-returns-in-Err-look_at-clause-refusals
 go_on-returns-in-Err-look_at-clause-refusals t c =
     let q = c.args.question.now in
-    here_fault q.columns (query_of q) c.args.rows.now q.pivots c.args.left c.in-Err-look_at.fault (look_fault q.columns (query_of q) c.args.rows.now q.pivots c.args.left c.in-Err-look_at.fault c.in-Err-look_at.ensures.refusals)
+    let n = q.columns in
+    let above = c.args.rows.now in
+    let way = c.in-Ok-Some.way in
+    let some = subst (IsStepInto n (query_of q) above c.deref.result.now) c.in-Ok-Some.field-0-is c.in-Ok-Some.ensures.step in
+    let h = subst (λ rs. IsLookFault (IsWideIn n above rs) n (query_of q) above q.pivots c.in-Err-look_at.fault) c.deref-2.ensures.value c.in-Err-look_at.ensures.refusals in
+    here_fault n (query_of q) above q.pivots c.args.left c.in-Err-look_at.fault
+    (look_fault n (query_of q) above q.pivots c.args.left c.in-Err-look_at.fault
+    (look_other (IsWideIn n above (way_rows way)) (IsWideHere n (query_of q) above) n (query_of q) above q.pivots c.in-Err-look_at.fault
+    (λ column w. denying (way_rows way) (way_is_rows n (query_of q) above way some.way) w) h))
 
 pub go_on-returns-in-Ok-Shown-clause-found : goal.go_on-returns-in-Ok-Shown-clause-found
 go_on-returns-in-Ok-Shown-clause-found t c =

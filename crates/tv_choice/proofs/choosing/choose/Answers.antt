@@ -5,13 +5,12 @@ use Rattle.tv_cases.specs.Systems.{cases_of}
 use Rattle.tv_farkas.proofs.PathLemmas.{append-nil}
 use Rattle.tv_choice.specs.Leading.{Query, piece_rows}
 use Rattle.tv_choice.specs.Choosing.{query}
-use Rattle.tv_choice.specs.Refusals.{IsWideHere, IsChoiceFault}
-use Rattle.tv_choice.specs.Targets.{targets}
+use Rattle.tv_choice.specs.Refusals.{IsChoiceFault}
+use Rattle.tv_choice.specs.Targets.{targets, IsWideTarget}
 use Rattle.tv_choice.specs.Ways.{AreWays, IsUnmade, lists_of}
 use Rattle.tv_choice.specs.Settling.{IsFound, IsTreeAt}
 use Rattle.tv_choice.proofs.SameLemmas.{known_of}
-use Rattle.tv_choice.proofs.WayLemmas.{unmade_more}
-use Rattle.tv_choice.proofs.RefusalLemmas.{way_longer, wide_longer, unmade_fault, here_fault}
+use Rattle.tv_choice.proofs.RefusalLemmas.{way_longer, target_fault}
 use Rattle.tv_choice.proofs.choosing.choose.Goals as goal
 
 pub settle-requires-clause-ways : goal.settle-requires-clause-ways
@@ -33,8 +32,8 @@ returns-in-Err-clause-refusals c =
     let q : Query = record { system = cases_of c.args.about.now; location = c.args.ambient.now.location; stop = c.args.stop; pieces = c.deref.result.now } in
     let q' = query c.args.about.now c.args.ambient.now c.args.into.now c.args.stop in
     let same : q ≡ q' = (λ i. record { system = cases_of c.args.about.now; location = c.args.ambient.now.location; stop = c.args.stop; pieces = c.deref.ensures.value i }) in
-    let h = subst (λ k. IsUnmade (IsWideHere n k []) c.in-Err.fault) same c.in-Err.ensures.refusals in
-    let fault = here_fault n q' rows pivots most c.in-Err.fault (unmade_fault n q' rows pivots most c.in-Err.fault (unmade_more (IsWideHere n q' []) (IsWideHere n q' rows) c.in-Err.fault (wide_longer n q' [] rows) h)) in
+    let h = subst (λ k. IsUnmade (IsWideTarget n k) c.in-Err.fault) same c.in-Err.ensures.refusals in
+    let fault = target_fault n q' rows pivots most c.in-Err.fault h in
     subst (λ k. IsChoiceFault k q' rows pivots most c.in-Err.fault) c.variables.ensures.same fault
 
 pub returns-in-Some : goal.returns-in-Some

@@ -1,11 +1,13 @@
 use Rattle.std.proofs.Common.{◌∙◌, ◌+◌, take, subst, sym, ap, arith}
 use Rattle.tv_choice.specs.Asked.{query_of}
 use Rattle.tv_choice.specs.ChoicePaths.{IsWayRows}
-use Rattle.tv_choice.specs.Looking.{IsLook, IsBest, IsOneMore}
-use Rattle.tv_choice.specs.Ways.{IsWay}
+use Rattle.tv_choice.specs.Looking.{IsLookFault, IsLook, IsBest, IsOneMore}
+use Rattle.tv_choice.specs.Refusals.{IsWideHere, denying}
+use Rattle.tv_cover.specs.Trying.{IsWideIn}
+use Rattle.tv_choice.specs.Ways.{way_rows, IsWay}
 use Rattle.tv_choice.proofs.WayLemmas.{take_more, at_of}
 use Rattle.tv_choice.proofs.FitLemmas.{take_whole}
-use Rattle.tv_choice.proofs.LookLemmas.{best_next, best_taken, length-take_all, way_is_rows}
+use Rattle.tv_choice.proofs.LookLemmas.{best_next, best_taken, length-take_all, way_is_rows, look_other}
 use Rattle.tv_choice.proofs.looking.best_of.Goals as goal
 
 pub look_at-requires-clause-way : goal.look_at-requires-clause-way
@@ -47,3 +49,14 @@ ways-preserved c =
 
 pub returns-clause-best : goal.returns-clause-best
 returns-clause-best c = subst (λ ws. IsBest c.args.question.now.columns c.args.rows.now ws c.ways.best) (take_whole c.args.ways.now c.ways.way (let t = c.ways-test.false in omega (arith, t))) c.ways.invariant
+
+pub returns-in-Err-clause-refusals : goal.returns-in-Err-clause-refusals
+returns-in-Err-clause-refusals c =
+    let q = c.args.question.now in
+    let above = c.args.rows.now in
+    let way = c.index-ways-way.result in
+    let is = at_of (IsWay q.columns (query_of q) above) c.args.ways.now c.ways.way way c.requires.ways.each c.ways-test.true c.index-ways-way.is in
+    let same = c.deref.ensures.value ∙ ap (λ w. w.rows.items) (sym c.index-ways-way.is) in
+    look_other (IsWideIn q.columns above (way_rows way)) (IsWideHere q.columns (query_of q) above) q.columns (query_of q) above q.pivots c.in-Err.fault
+    (λ column w. denying (way_rows way) (way_is_rows q.columns (query_of q) above way is) w)
+    (subst (λ rs. IsLookFault (IsWideIn q.columns above rs) q.columns (query_of q) above q.pivots c.in-Err.fault) same c.in-Err.ensures.refusals)

@@ -1,13 +1,14 @@
 use Rattle.std.proofs.Common.{◌≡◌, ◌∙◌, ◌∷◌, [], ◌++◌, subst, sym, ap}
 use Rattle.tv_farkas.specs.Judging.{IsJudged}
 use Rattle.tv_choice.specs.Asked.{query_of}
+use Rattle.tv_choice.specs.Looking.{no_wide}
 use Rattle.tv_choice.proofs.LookLemmas.{judge_tried, row_tried, excluded_one, entered_one}
 use Rattle.tv_choice.proofs.looking.is_excluded.Goals as goal
 
 pub returns-in-Err-clause-refusals : goal.returns-in-Err-clause-refusals
 returns-in-Err-clause-refusals c =
     let q = c.args.question.now in
-    judge_tried q.columns (query_of q) c.args.rows.now c.deref.result.now c.args.row.now q.pivots c.in-Err.fault (c.deref.ensures.value ∙ c.in_ok-all.ensures)
+    judge_tried no_wide q.columns (query_of q) c.args.rows.now c.deref.result.now c.args.row.now q.pivots c.in-Err.fault (c.deref.ensures.value ∙ c.in_ok-all.ensures)
     (row_tried q.columns (query_of q) c.args.rows.now c.args.row.now c.requires.way) c.in-Err.ensures.refusals
 
 pub returns-in-Ok-Refuted-clause-excluded : goal.returns-in-Ok-Refuted-clause-excluded

@@ -10,9 +10,9 @@ use Rattle.tv_farkas.specs.Judging.{IsJudged, IsJudgeFault}
 use Rattle.tv_farkas.specs.declared.judged.Judged.TheVariants as judged
 use Rattle.tv_cover.specs.Targets.{HasPoint}
 use Rattle.tv_choice.specs.Asked.{query_of}
-use Rattle.tv_choice.specs.Refusals.{IsWideHere}
+use Rattle.tv_cover.specs.Trying.{IsWideDenialAt}
 use Rattle.tv_choice.proofs.WayLemmas.{not_made}
-use Rattle.tv_choice.proofs.LookLemmas.{judge_tried, denial_tried, denial_wide, look_unmade, point_of}
+use Rattle.tv_choice.proofs.LookLemmas.{judge_tried, denial_tried, look_unmade, point_of}
 use Rattle.tv_choice.proofs.looking.show.Goals as goal
 
 pub judge-requires-clause-even : goal.judge-requires-clause-even
@@ -26,14 +26,14 @@ pub returns-in-Err-clause-refusals : goal.returns-in-Err-clause-refusals
 returns-in-Err-clause-refusals c =
     let q = c.args.question.now in
     let r = c.args.row.now in
-    look_unmade q.columns (query_of q) c.args.rows.now q.pivots c.unmade.result
-    (not_made (IsNarrowAt (denial r)) (width (denial r)) (IsWideHere q.columns (query_of q) c.args.rows.now) c.in-Err.fault c.unmade.result c.unmade.ensures c.in-Err.ensures.exact (denial_wide q.columns (query_of q) c.args.rows.now r c.requires.way))
+    look_unmade (IsWideDenialAt r) q.columns (query_of q) c.args.rows.now q.pivots c.unmade.result
+    (not_made (IsNarrowAt (denial r)) (width (denial r)) (IsWideDenialAt r) c.in-Err.fault c.unmade.result c.unmade.ensures c.in-Err.ensures.exact (λ column w. w))
 
 pub returns-in-Err-judge-clause-refusals : goal.returns-in-Err-judge-clause-refusals
 returns-in-Err-judge-clause-refusals c =
     let q = c.args.question.now in
     let g = c.in-Ok.ensures.exact in
-    judge_tried q.columns (query_of q) c.args.rows.now c.deref.result.now c.in-Ok.denied q.pivots c.in-Err-judge.fault (c.deref.ensures.value ∙ c.in_ok-all.ensures)
+    judge_tried (IsWideDenialAt c.args.row.now) q.columns (query_of q) c.args.rows.now c.deref.result.now c.in-Ok.denied q.pivots c.in-Err-judge.fault (c.deref.ensures.value ∙ c.in_ok-all.ensures)
     (denial_tried q.columns (query_of q) c.args.rows.now c.args.row.now c.in-Ok.denied g.same g.fits c.requires.way) c.in-Err-judge.ensures.refusals
 
 pub returns-in-Ok-Refuted : goal.returns-in-Ok-Refuted
