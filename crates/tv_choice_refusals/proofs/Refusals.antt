@@ -7,9 +7,9 @@ use Rattle.std.proofs.lemmas.List.Elements.{All-filter, All-contains_itself, fil
 use Rattle.tv_linear.specs.Linear.{Linear, linear, columns}
 use Rattle.tv_linear.specs.Arithmetic.{zeros, unit, opposite, denial, constant_row, composed as with_terms}
 use Rattle.tv_linear.specs.declared.region.Piece.{Piece}
-use Rattle.tv_cases.specs.LinearCases.{LinearCase, CaseSystem}
+use Rattle.tv_cases.specs.LinearCases.{LinearCase, CaseSystem, from_of, leaving}
 use Rattle.tv_cases.specs.Before.{before}
-use Rattle.tv_cases.proofs.Listed.{Contains-map, Contains-from_map}
+use Rattle.tv_cases.proofs.Listed.{Contains-here, Contains-later, Contains-map, Contains-from_map}
 use Rattle.tv_farkas.specs.declared.branch.Branch.{Branch}
 use Rattle.tv_farkas.specs.declared.fault.CoverFault.{CoverFault}
 use Rattle.tv_farkas.specs.declared.fault.CoverFault.TheVariants.{Splits, Solve, Wide, Memory}
@@ -20,10 +20,10 @@ use Rattle.tv_simplex.specs.declared.fault.SolveFault.{SolveFault}
 use Rattle.std.proofs.lemmas.Option.{slice_get_within, get_or_from_slice_get}
 use Rattle.tv_cover.specs.Targets.{AreEven, IsNarrowRow}
 use Rattle.tv_choice.specs.Rows.{padded_row, fixes, case_rows, put_terms, put_rows}
-use Rattle.tv_choice.specs.Leading.{Query, IsServed, IsEntry, place_of, piece_rows}
-use Rattle.tv_choice.specs.Targets.{front, term_by, term_of, one_term, terms_given, draw_choices}
+use Rattle.tv_choice.specs.Leading.{Query, IsServed, IsEntry, place_of, piece_rows, pieces_at}
+use Rattle.tv_choice.specs.Targets.{front, term_by, term_of, one_term, terms_given, draw_choices, IsFirstWidePut, with_these, with_later, IsWideInto, reading, putting, IsFirstWideInto, into_this, into_later, IsFirstWideFrom, by_this, by_later}
 use Rattle.tv_choice.specs.ChoicePaths.{starting_rows, stepping_rows, IsPointHere, own as own_point, start as start_point, AreDrawTerms, by_rows, numbers, IsWayIn, IsWayRows, SplitsBy, IsSplit, IsChoicePath, IsInner, starting, stepping}
-use Rattle.tv_choice.specs.Refusals.{IsTried, IsUnsolvedHere, place as at_place, tried as with_tried, inner as of_inner, IsWideHere, entering, drawing, denying, IsChoiceFault}
+use Rattle.tv_choice.specs.Refusals.{IsTried, IsUnsolvedHere, place as at_place, tried as with_tried, inner as of_inner, IsWideHere, entering, drawing, denying, IsWideChoice, target, behind, IsChoiceFault}
 use Rattle.tv_choice.proofs.PieceLemmas.{true_test}
 use Rattle.tv_derived.specs.Scopes.{Scope, scope, at_location, over_case, width_at, with_more, Placed}
 use Rattle.tv_derived.specs.Derived.{IsDerived, IsMade, IsDrawTerm, IsUnsplit, IsListed, AreListed, AreUnsplit, guard, made, denied, composed, drawn, below as term_below, above as term_above, value as term_value, derived, fixed, unsplit, IsFixing, false_row}
@@ -340,8 +340,43 @@ module _ (about : CaseSystem) (base : List Placed) (h l : ℕ) (stop : Bool) (pi
       let among = found_among rows w.place w.row w.found in
       let terms = terms_of above c p draws listed way t in
       put_wide (over_case c) w.row draws (case_derived c p way w.row among) terms.many terms.each w.wide.inside w.wide.wide
-  wide above column listed (denying rows r way among w) =
-      wide_number (at_location l) (denial r) (denied r (way_derived above rows r listed way among)) w.inside w.wide
+  wide above column listed (denying rows way w) =
+      wide_number (at_location l) (denial w.row) (denied w.row (way_derived above rows w.row listed way (found_among rows w.place w.row w.found))) w.wide.inside w.wide.wide
+
+  -- ---- targets that are too wide
+  put_too_wide : (c : LinearCase) (p : Piece) (column : ℕ) → IsWayIn about.variables (asked_of about l stop pieces) c p → (rest : List (List Linear)) → ((draws : List Linear) → Contains rest draws → Contains (draw_choices c.draws about.variables (case_rows c (piece_rows p))) draws) → IsFirstWidePut about.variables (case_rows c (piece_rows p)) column rest → IsWideStep about base (suc h) column
+  put_too_wide c p column way rest among (with_these draws later w) =
+      let rows = case_rows c (piece_rows p) in
+      let terms = terms_by c.draws c p draws refl way (among draws (Contains-here draws later)) in
+      put_wide (over_case c) w.row draws (case_derived c p way w.row (found_among rows w.place w.row w.found)) terms.many terms.each w.wide.inside w.wide.wide
+  put_too_wide c p column way rest among (with_later draws later fit w) = put_too_wide c p column way later (λ ds k. among ds (Contains-later draws ds later k)) w
+
+  into_too_wide : (c : LinearCase) (p : Piece) (column : ℕ) → IsEntry (asked_of about l stop pieces) c p → IsWideInto about.variables c p column → IsWideStep about base (suc h) column
+  into_too_wide c p column e (reading w) =
+      let among = found_among (piece_rows p) w.place w.row w.found in
+      before_case 0 h [] c w.row [] e.among (owed_even c p w.row e among) (subst (λ x. IsDerived about base (at_location c.to) h x) (sym (with_none w.row)) (owed_derived c p w.row e among)) (omega arith) w.wide.inside w.wide.wide
+  into_too_wide c p column e (putting read wide_of narrow w) =
+      put_too_wide c p column record { entry = e; even = wide_of; narrow = narrow } (draw_choices c.draws about.variables (case_rows c (piece_rows p))) (λ draws k. k) w
+
+  pieces_too_wide : (c : LinearCase) (column : ℕ) → Contains about.cases c → c.from ≡ l → (rest : List Piece) → ((p : Piece) → Contains rest p → Contains (pieces_at pieces c.to) p) → IsFirstWideInto about.variables c column rest → IsWideStep about base (suc h) column
+  pieces_too_wide c column among from rest there (into_this p later w) = into_too_wide c p column record { among = among; leaves = from; enters = there p (Contains-here p later) } w
+  pieces_too_wide c column among from rest there (into_later p later fits w) = pieces_too_wide c column among from later (λ x k. there x (Contains-later p x later k)) w
+
+  cases_too_wide : (column : ℕ) (rest : List LinearCase) → ((c : LinearCase) → Contains rest c → Contains about.cases c × (c.from ≡ l)) → IsFirstWideFrom about.variables pieces column rest → IsWideStep about base (suc h) column
+  cases_too_wide column rest there (by_this c later w) = let t = there c (Contains-here c later) in pieces_too_wide c column t.0 t.1 (pieces_at pieces c.to) (λ p k. k) w
+  cases_too_wide column rest there (by_later c later fits w) = cases_too_wide column later (λ x k. there x (Contains-later c x later k)) w
+
+  leaves_there : (c : LinearCase) → Contains (leaving l about.cases) c → Contains about.cases c × (c.from ≡ l)
+  leaves_there c of =
+      let test : LinearCase → Bool = λ x. from_of x == l in
+      let k = of.0 in
+      let within = of.1 in
+      let is = of.2 in
+      (subst (Contains about.cases) is (All-filter test (Contains about.cases) about.cases (All-contains_itself about.cases) k c within), true_test (from_of c) l (subst (λ x. test x ≡ true) is (filter_passes test about.cases k c within)))
+
+  choice_too_wide : (rows : List Linear) (column : ℕ) → AreListed about base (at_location l) (suc h) rows → IsWideChoice about.variables (asked_of about l stop pieces) rows column → IsWideStep about base (suc h) column
+  choice_too_wide rows column listed (target w) = cases_too_wide column (leaving l about.cases) leaves_there w
+  choice_too_wide rows column listed (behind path is w) = wide (rows_after rows path) column (path_is_listed rows path listed is) w
 
 pub refusal : (about : CaseSystem) (base : List Placed) (many h l : ℕ) (stop : Bool) (rows : List Linear) (pieces : List Piece) → ChoiceRefuses about base many h l stop rows pieces
 refusal about base many h l stop rows pieces pivots splits (Splits path) given is = record {
@@ -356,6 +391,5 @@ refusal about base many h l stop rows pieces pivots splits (Solve kept fault) gi
     unsolved about base h l stop pieces given.into given.even (rows_after rows is.own) kept.items pivots fault
     (path_is_listed about base h l stop pieces given.into given.even rows is.own (λ r c. unsplit r (given.ambient r c)) is.is_path) is.here
 refusal about base many h l stop rows pieces pivots splits (Wide column) given is =
-    wide about base h l stop pieces given.into given.even (rows_after rows is.own) column
-    (path_is_listed about base h l stop pieces given.into given.even rows is.own (λ r c. unsplit r (given.ambient r c)) is.is_path) is.here
+    choice_too_wide about base h l stop pieces given.into given.even rows column (λ r c. unsplit r (given.ambient r c)) is
 refusal about base many h l stop rows pieces pivots splits Memory given is = tt
