@@ -12,6 +12,8 @@ mod faults;
 #[cfg(test)]
 mod file;
 #[cfg(test)]
+mod generated;
+#[cfg(test)]
 mod hostile;
 #[cfg(test)]
 mod limits;

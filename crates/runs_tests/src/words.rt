@@ -139,6 +139,16 @@ const OTHERS: &[&[&str]] = &[
     &["--termination", "--splits", ""],
     &["--termination", "--disjuncts", "4097"],
     &["--check", "--termination", "--splits", "129"],
+    &["--generate"],
+    &["--generate", "0"],
+    &["--generate", "1001"],
+    &["--generate", "+3"],
+    &["--generate", "3", "--termination"],
+    &["--generate", "3", "--safety", "1"],
+    &["--generate", "3", "--ctl", "term"],
+    &["--generate", "3", "--check"],
+    &["--generate", "3", "--certificate"],
+    &["--generate", "3", "--generate", "3"],
 ];
 
 #[test]
