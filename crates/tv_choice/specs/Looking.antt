@@ -1,12 +1,12 @@
 use Rattle.std.specs.Prelude.{◌≡◌, ℕ, ◌<◌, List, [], ◌∷◌, ◌++◌, length, map, get_or, ℤ, Option, None, Some, Bool, true, false, Contains, Vec}
-use Rattle.tv_linear.specs.Linear.{Linear}
+use Rattle.tv_linear.specs.Linear.{Linear, IsScaledPoint}
 use Rattle.tv_linear.specs.Arithmetic.{denial}
 use Rattle.tv_linear.specs.Known.{as_given}
 use Rattle.tv_linear.specs.Refutation.{Refutes}
 use Rattle.tv_farkas.specs.Refuting.{AreShort}
 use Rattle.tv_farkas.specs.declared.fault.CoverFault.{CoverFault}
 use Rattle.tv_farkas.specs.declared.fault.CoverFault.TheVariants.{Splits, Solve, Wide, Memory}
-use Rattle.tv_cover.specs.Targets.{HasPoint, IsNarrowRow}
+use Rattle.tv_cover.specs.Targets.{AreEven, HasPoint, IsNarrowRow}
 use Rattle.tv_cover.specs.CoverPaths.{IsLeftOpen, IsShut}
 use Rattle.tv_choice.specs.declared.looking.Shown.{Shown}
 use Rattle.tv_choice.specs.declared.looking.Shown.TheVariants as shown
@@ -14,11 +14,18 @@ use Rattle.tv_choice.specs.declared.looking.Look.{Look}
 use Rattle.tv_choice.specs.declared.looking.Look.TheVariants as looks
 use Rattle.tv_choice.specs.declared.looking.Best.{Best}
 use Rattle.tv_choice.specs.declared.looking.Best.TheVariants as best
+use Rattle.tv_choice.specs.declared.place.Place.{Place}
 use Rattle.tv_choice.specs.declared.ways.Way.{Way}
 use Rattle.tv_choice.specs.Leading.{Query}
 use Rattle.tv_choice.specs.ChoicePaths.{IsWayRows}
 use Rattle.tv_choice.specs.Refusals.{IsUnsolvedHere}
 use Rattle.tv_choice.specs.Ways.{way_rows}
+
+-- the rows have n columns, and the point meets them
+pub record IsPlace (n : ℕ) (p : Place) : Type 0 where
+  pub even : AreEven n p.rows.now
+  pub size : length p.values.now ≡ n
+  pub meets : IsScaledPoint p.rows.now p.values.now p.scale
 
 -- the row is one of a way at the rows above
 abbrev pub IsWayRow : ℕ → Query → List Linear → Linear → Type 0

@@ -19,6 +19,7 @@ ghost use Rattle.tv_choice.specs.Settling.{IsFound, IsGoing, AreHalves};
 use crate::Chosen;
 use crate::lists::with_row;
 use crate::looking::{Best, Look, best_of, look_at};
+use crate::place::Place;
 use crate::question::Question;
 use crate::splitting::{behind, halves_at_row};
 use crate::stepping::{Standing, step_into};
@@ -61,18 +62,27 @@ fn settle(
     match judge(alloc, rows, question.columns, question.pivots) {
         Err(fault) => Err(fault),
         Ok(Judged::Refuted(multipliers)) => Ok(Found::Tree(ChoiceTree::Empty(multipliers))),
-        Ok(Judged::Point { values, scale }) => match best_of(question, rows, ways) {
-            Err(fault) => Err(fault),
-            Ok(Best::Take { way, lists }) => Ok(Found::Tree(take_of(alloc, &ways[way], lists)?)),
-            Ok(Best::Split { way, row }) => split_way(question, rows, ways, left, way, row),
-            Ok(Best::Nothing) => {
-                if question.stop {
-                    stop_or_go(question, rows, ways, left)
-                } else {
-                    go_or_split(question, rows, ways, left, &values, scale)
+        Ok(Judged::Point { values, scale }) => {
+            let place = Place {
+                rows,
+                values: &values,
+                scale,
+            };
+            match best_of(question, &place, ways) {
+                Err(fault) => Err(fault),
+                Ok(Best::Take { way, lists }) => {
+                    Ok(Found::Tree(take_of(alloc, &ways[way], lists)?))
+                }
+                Ok(Best::Split { way, row }) => split_way(question, rows, ways, left, way, row),
+                Ok(Best::Nothing) => {
+                    if question.stop {
+                        stop_or_go(question, rows, ways, left)
+                    } else {
+                        go_or_split(question, rows, ways, left, &values, scale)
+                    }
                 }
             }
-        },
+        }
     }
 }
 
@@ -168,7 +178,12 @@ fn go_on(
         Ok(None) => return Ok(Found::Hole(point)),
         Ok(Some(way)) => way,
     };
-    match look_at(question, rows, &way.rows) {
+    let place = Place {
+        rows,
+        values: &point,
+        scale: 1,
+    };
+    match look_at(question, &place, &way.rows) {
         Err(fault) => Err(fault),
         Ok(Look::Shown(lists)) => Ok(Found::Tree(take_of(question.alloc, &way, lists)?)),
         Ok(Look::Excluded) => unreachable!(),

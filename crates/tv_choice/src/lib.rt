@@ -8,6 +8,7 @@ mod faults;
 mod lists;
 mod looking;
 mod pieces;
+mod place;
 mod question;
 mod splitting;
 mod stepping;

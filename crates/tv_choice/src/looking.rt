@@ -8,11 +8,12 @@ ghost use Rattle.tv_cover.specs.Trying.{IsWideDenialAt, IsWideIn};
 ghost use Rattle.tv_choice.specs.Asked.{query_of};
 ghost use Rattle.tv_choice.specs.ChoicePaths.{IsWayRows};
 ghost use Rattle.tv_choice.specs.Refusals.{IsWideHere};
-ghost use Rattle.tv_choice.specs.Looking.{IsWayRow, IsLookFault, no_wide, IsShown, AreAllShown, IsAnyExcluded, IsLook, IsOneMore, IsBest};
+ghost use Rattle.tv_choice.specs.Looking.{IsPlace, IsWayRow, IsLookFault, no_wide, IsShown, AreAllShown, IsAnyExcluded, IsLook, IsOneMore, IsBest};
 ghost use Rattle.tv_choice.specs.Ways.{AreWays};
 
 use crate::faults::unmade;
 use crate::lists::with_row;
+use crate::place::{Place, is_met};
 use crate::question::Question;
 use crate::ways::Way;
 use tv_farkas::{CoverFault, Judged, judge};
@@ -52,19 +53,22 @@ pub enum Best {
 }
 
 /// Multipliers that refute the rows together with the denial of this row, if there are some.
-fn show(question: &Question, rows: &[Row], row: &Row) -> Result<Option<Vec<i64>>, CoverFault>
-    requires even { AreEven question.now.columns rows.now }
+fn show(question: &Question, place: &Place, row: &Row) -> Result<Option<Vec<i64>>, CoverFault>
+    requires place { IsPlace question.now.columns place.now }
     requires same { width row.now ≡ question.now.columns }
-    requires way { IsWayRow question.now.columns (query_of question.now) rows.now row.now }
-    ensures shown { IfOk result (IsShown question.now.columns rows.now row.now) }
-    ensures refusals { IfErr result (IsLookFault (IsWideDenialAt row.now) question.now.columns (query_of question.now) rows.now question.now.pivots) }
+    requires way { IsWayRow question.now.columns (query_of question.now) place.now.rows.now row.now }
+    ensures shown { IfOk result (IsShown question.now.columns place.now.rows.now row.now) }
+    ensures refusals { IfErr result (IsLookFault (IsWideDenialAt row.now) question.now.columns (query_of question.now) place.now.rows.now question.now.pivots) }
 {
     let alloc = question.alloc;
     let denied = match row.deny(alloc) {
         Ok(denied) => denied,
         Err(fault) => return Err(unmade(fault)),
     };
-    let all = with_row(alloc, rows, &denied)?;
+    if is_met(&denied, place) {
+        return Ok(None);
+    }
+    let all = with_row(alloc, place.rows, &denied)?;
     match judge(alloc, &all, question.columns, question.pivots) {
         Err(fault) => Err(fault),
         Ok(Judged::Refuted(multipliers)) => Ok(Some(multipliers)),
@@ -73,19 +77,19 @@ fn show(question: &Question, rows: &[Row], row: &Row) -> Result<Option<Vec<i64>>
 }
 
 /// Whether each of these rows is shown.
-fn all_shown(question: &Question, rows: &[Row], owed: &[Row]) -> Result<Shown, CoverFault>
-    requires even { AreEven question.now.columns rows.now }
+fn all_shown(question: &Question, place: &Place, owed: &[Row]) -> Result<Shown, CoverFault>
+    requires place { IsPlace question.now.columns place.now }
     requires same { AreEven question.now.columns owed.now }
-    requires way { IsWayRows question.now.columns (query_of question.now) rows.now owed.now }
-    ensures shown { IfOk result (AreAllShown question.now.columns rows.now owed.now) }
-    ensures refusals { let wide = IsWideIn question.now.columns rows.now owed.now in
-        IfErr result (IsLookFault wide question.now.columns (query_of question.now) rows.now question.now.pivots) }
+    requires way { IsWayRows question.now.columns (query_of question.now) place.now.rows.now owed.now }
+    ensures shown { IfOk result (AreAllShown question.now.columns place.now.rows.now owed.now) }
+    ensures refusals { let wide = IsWideIn question.now.columns place.now.rows.now owed.now in
+        IfErr result (IsLookFault wide question.now.columns (query_of question.now) place.now.rows.now question.now.pivots) }
 {
     let mut lists = Vec::new(question.alloc);
-    'owed: for place in 0..owed.len() {
-        match show(question, rows, &owed[place]) {
+    'owed: for number in 0..owed.len() {
+        match show(question, place, &owed[number]) {
             Err(fault) => return Err(fault),
-            Ok(None) => return Ok(Shown::Not(place)),
+            Ok(None) => return Ok(Shown::Not(number)),
             Ok(Some(multipliers)) => push_item(&mut lists, multipliers)?,
         }
     }
@@ -93,15 +97,18 @@ fn all_shown(question: &Question, rows: &[Row], owed: &[Row]) -> Result<Shown, C
 }
 
 /// Whether this row is met at no point.
-fn is_excluded(question: &Question, rows: &[Row], row: &Row) -> Result<bool, CoverFault>
-    requires even { AreEven question.now.columns rows.now }
+fn is_excluded(question: &Question, place: &Place, row: &Row) -> Result<bool, CoverFault>
+    requires place { IsPlace question.now.columns place.now }
     requires same { width row.now ≡ question.now.columns }
-    requires way { IsWayRow question.now.columns (query_of question.now) rows.now row.now }
-    ensures excluded { IfOk result (IsAnyExcluded question.now.columns rows.now (row.now ∷ [])) }
-    ensures refusals { IfErr result (IsLookFault no_wide question.now.columns (query_of question.now) rows.now question.now.pivots) }
+    requires way { IsWayRow question.now.columns (query_of question.now) place.now.rows.now row.now }
+    ensures excluded { IfOk result (IsAnyExcluded question.now.columns place.now.rows.now (row.now ∷ [])) }
+    ensures refusals { IfErr result (IsLookFault no_wide question.now.columns (query_of question.now) place.now.rows.now question.now.pivots) }
 {
+    if is_met(row, place) {
+        return Ok(false);
+    }
     let alloc = question.alloc;
-    let all = with_row(alloc, rows, row)?;
+    let all = with_row(alloc, place.rows, row)?;
     match judge(alloc, &all, question.columns, question.pivots) {
         Err(fault) => Err(fault),
         Ok(Judged::Refuted(_)) => Ok(true),
@@ -110,15 +117,15 @@ fn is_excluded(question: &Question, rows: &[Row], row: &Row) -> Result<bool, Cov
 }
 
 /// Whether some of these rows is met at no point.
-fn any_excluded(question: &Question, rows: &[Row], owed: &[Row]) -> Result<bool, CoverFault>
-    requires even { AreEven question.now.columns rows.now }
+fn any_excluded(question: &Question, place: &Place, owed: &[Row]) -> Result<bool, CoverFault>
+    requires place { IsPlace question.now.columns place.now }
     requires same { AreEven question.now.columns owed.now }
-    requires way { IsWayRows question.now.columns (query_of question.now) rows.now owed.now }
-    ensures excluded { IfOk result (IsAnyExcluded question.now.columns rows.now owed.now) }
-    ensures refusals { IfErr result (IsLookFault no_wide question.now.columns (query_of question.now) rows.now question.now.pivots) }
+    requires way { IsWayRows question.now.columns (query_of question.now) place.now.rows.now owed.now }
+    ensures excluded { IfOk result (IsAnyExcluded question.now.columns place.now.rows.now owed.now) }
+    ensures refusals { IfErr result (IsLookFault no_wide question.now.columns (query_of question.now) place.now.rows.now question.now.pivots) }
 {
-    'owed: for place in 0..owed.len() {
-        match is_excluded(question, rows, &owed[place]) {
+    'owed: for number in 0..owed.len() {
+        match is_excluded(question, place, &owed[number]) {
             Err(fault) => return Err(fault),
             Ok(true) => return Ok(true),
             Ok(false) => {}
@@ -128,23 +135,23 @@ fn any_excluded(question: &Question, rows: &[Row], owed: &[Row]) -> Result<bool,
 }
 
 /// What becomes of a way with these rows.
-pub fn look_at(question: &Question, rows: &[Row], owed: &[Row]) -> Result<Look, CoverFault>
-    requires even { AreEven question.now.columns rows.now }
+pub fn look_at(question: &Question, place: &Place, owed: &[Row]) -> Result<Look, CoverFault>
+    requires place { IsPlace question.now.columns place.now }
     requires same { AreEven question.now.columns owed.now }
-    requires way { IsWayRows question.now.columns (query_of question.now) rows.now owed.now }
-    ensures look { IfOk result (IsLook question.now.columns rows.now owed.now) }
-    ensures refusals { let wide = IsWideIn question.now.columns rows.now owed.now in
-        IfErr result (IsLookFault wide question.now.columns (query_of question.now) rows.now question.now.pivots) }
+    requires way { IsWayRows question.now.columns (query_of question.now) place.now.rows.now owed.now }
+    ensures look { IfOk result (IsLook question.now.columns place.now.rows.now owed.now) }
+    ensures refusals { let wide = IsWideIn question.now.columns place.now.rows.now owed.now in
+        IfErr result (IsLookFault wide question.now.columns (query_of question.now) place.now.rows.now question.now.pivots) }
 {
-    let place = match all_shown(question, rows, owed) {
+    let open = match all_shown(question, place, owed) {
         Err(fault) => return Err(fault),
         Ok(Shown::All(lists)) => return Ok(Look::Shown(lists)),
-        Ok(Shown::Not(place)) => place,
+        Ok(Shown::Not(number)) => number,
     };
-    match any_excluded(question, rows, owed) {
+    match any_excluded(question, place, owed) {
         Err(fault) => Err(fault),
         Ok(true) => Ok(Look::Excluded),
-        Ok(false) => Ok(Look::Open(place)),
+        Ok(false) => Ok(Look::Open(open)),
     }
 }
 
@@ -163,16 +170,16 @@ fn one_more(best: Best, way: usize, look: Look) -> Best
 }
 
 /// What the ways come to.
-pub fn best_of(question: &Question, rows: &[Row], ways: &[Way]) -> Result<Best, CoverFault>
-    requires even { AreEven question.now.columns rows.now }
-    requires ways { AreWays question.now.columns (query_of question.now) rows.now ways.now }
-    ensures best { IfOk result (IsBest question.now.columns rows.now ways.now) }
-    ensures refusals { let wide = IsWideHere question.now.columns (query_of question.now) rows.now in
-        IfErr result (IsLookFault wide question.now.columns (query_of question.now) rows.now question.now.pivots) }
+pub fn best_of(question: &Question, place: &Place, ways: &[Way]) -> Result<Best, CoverFault>
+    requires place { IsPlace question.now.columns place.now }
+    requires ways { AreWays question.now.columns (query_of question.now) place.now.rows.now ways.now }
+    ensures best { IfOk result (IsBest question.now.columns place.now.rows.now ways.now) }
+    ensures refusals { let wide = IsWideHere question.now.columns (query_of question.now) place.now.rows.now in
+        IfErr result (IsLookFault wide question.now.columns (query_of question.now) place.now.rows.now question.now.pivots) }
 {
     let mut best = Best::Nothing;
     'ways: for way in 0..ways.len() {
-        match look_at(question, rows, &ways[way].rows) {
+        match look_at(question, place, &ways[way].rows) {
             Err(fault) => return Err(fault),
             Ok(look) => best = one_more(best, way, look),
         }

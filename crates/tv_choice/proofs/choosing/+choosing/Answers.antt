@@ -63,8 +63,8 @@ settle-returns-in-Err-best_of-clause-refusals t c =
 pub settle-returns-in-Ok-Take-clause-found : goal.settle-returns-in-Ok-Take-clause-found
 settle-returns-in-Ok-Take-clause-found t c =
     let q = c.args.question.now in
-    let b = subst (IsBest q.columns c.args.rows.now c.deref.result.now) c.in-Ok-Take.field-0-is c.in-Ok-Take.ensures.best in
-    let b' = subst (λ ws. IsBest q.columns c.args.rows.now ws (best.Take c.in-Ok-Take.way c.in-Ok-Take.lists)) c.deref.ensures.value b in
+    let b = subst (IsBest q.columns c.args.rows.now c.deref-in-Ok-Point.result.now) c.in-Ok-Take.field-0-is c.in-Ok-Take.ensures.best in
+    let b' = subst (λ ws. IsBest q.columns c.args.rows.now ws (best.Take c.in-Ok-Take.way c.in-Ok-Take.lists)) c.deref-in-Ok-Point.ensures.value b in
     let way = c.index.result.now in
     let same = same_at c.args.ways.now.items c.in-Ok-Take.way b'.0 way b'.1 c.index.ensures in
     let is = at_of (IsWay q.columns (query_of q) c.args.rows.now) c.args.ways.now.items c.in-Ok-Take.way way c.requires.ways.each b'.1.0 c.index.ensures in
@@ -73,8 +73,8 @@ settle-returns-in-Ok-Take-clause-found t c =
 pub settle-split_way-requires : goal.settle-split_way-requires
 settle-split_way-requires t c =
     let q = c.args.question.now in
-    let b = subst (IsBest q.columns c.args.rows.now c.deref.result.now) c.in-Ok-Split.field-0-is c.in-Ok-Split.ensures.best in
-    let b' = subst (λ ws. IsBest q.columns c.args.rows.now ws (best.Split c.in-Ok-Split.way c.in-Ok-Split.row)) c.deref.ensures.value b in
+    let b = subst (IsBest q.columns c.args.rows.now c.deref-in-Ok-Point.result.now) c.in-Ok-Split.field-0-is c.in-Ok-Split.ensures.best in
+    let b' = subst (λ ws. IsBest q.columns c.args.rows.now ws (best.Split c.in-Ok-Split.way c.in-Ok-Split.row)) c.deref-in-Ok-Point.ensures.value b in
     let d = c.decreases in (
       omega (arith, d),
       (c.requires.left, (c.requires.even, (c.requires.ways, (b'.3, (b'.0, b'.1, b'.2))))),
@@ -83,8 +83,8 @@ settle-split_way-requires t c =
 pub settle-stop_or_go-requires : goal.settle-stop_or_go-requires
 settle-stop_or_go-requires t c =
     let q = c.args.question.now in
-    let b = subst (IsBest q.columns c.args.rows.now c.deref.result.now) c.in-Ok-Nothing.field-0-is c.in-Ok-Nothing.ensures.best in
-    let b' = subst (λ ws. IsBest q.columns c.args.rows.now ws best.Nothing) c.deref.ensures.value b in
+    let b = subst (IsBest q.columns c.args.rows.now c.deref-in-Ok-Point.result.now) c.in-Ok-Nothing.field-0-is c.in-Ok-Nothing.ensures.best in
+    let b' = subst (λ ws. IsBest q.columns c.args.rows.now ws best.Nothing) c.deref-in-Ok-Point.ensures.value b in
     let d = c.decreases in (
       omega (arith, d),
       (c.requires.left, (c.requires.even, (c.requires.ways, (b'.1, c.if-question.true)))),
@@ -93,8 +93,8 @@ settle-stop_or_go-requires t c =
 pub settle-go_or_split-requires : goal.settle-go_or_split-requires
 settle-go_or_split-requires t c =
     let q = c.args.question.now in
-    let b = subst (IsBest q.columns c.args.rows.now c.deref.result.now) c.in-Ok-Nothing.field-0-is c.in-Ok-Nothing.ensures.best in
-    let b' = subst (λ ws. IsBest q.columns c.args.rows.now ws best.Nothing) c.deref.ensures.value b in
+    let b = subst (IsBest q.columns c.args.rows.now c.deref-in-Ok-Point.result.now) c.in-Ok-Nothing.field-0-is c.in-Ok-Nothing.ensures.best in
+    let b' = subst (λ ws. IsBest q.columns c.args.rows.now ws best.Nothing) c.deref-in-Ok-Point.ensures.value b in
     let j = subst (IsJudged q.columns c.args.rows.now) c.in-Ok-Point.field-0-is c.in-Ok-Point.ensures.answers in
     let z = to_z-of_z w128 c.in-Ok-Point.scale (short_fits c.in-Ok-Point.scale j.scale_short) in
     let point = subst (IsPointAt q.columns c.args.rows.now c.deref-else-question.result.now) (sym z) (subst (λ vs. IsPointAt q.columns c.args.rows.now vs c.in-Ok-Point.scale) (sym c.deref-else-question.ensures.value) j) in
@@ -188,7 +188,7 @@ pub go_on-look_at-requires-clause-way : goal.go_on-look_at-requires-clause-way
 go_on-look_at-requires-clause-way t c =
     let q = c.args.question.now in
     let some = subst (IsStepInto q.columns (query_of q) c.args.rows.now c.deref.result.now) c.in-Ok-Some.field-0-is c.in-Ok-Some.ensures.step in
-    subst (IsWayRows q.columns (query_of q) c.args.rows.now) (sym c.deref-2.ensures.value) (way_is_rows q.columns (query_of q) c.args.rows.now c.in-Ok-Some.way some.way)
+    subst (IsWayRows q.columns (query_of q) c.args.rows.now) (sym c.deref-3.ensures.value) (way_is_rows q.columns (query_of q) c.args.rows.now c.in-Ok-Some.way some.way)
 
 pub go_on-returns-in-Err-look_at-clause-refusals : goal.go_on-returns-in-Err-look_at-clause-refusals
 go_on-returns-in-Err-look_at-clause-refusals t c =
@@ -197,7 +197,7 @@ go_on-returns-in-Err-look_at-clause-refusals t c =
     let above = c.args.rows.now in
     let way = c.in-Ok-Some.way in
     let some = subst (IsStepInto n (query_of q) above c.deref.result.now) c.in-Ok-Some.field-0-is c.in-Ok-Some.ensures.step in
-    let h = subst (λ rs. IsLookFault (IsWideIn n above rs) n (query_of q) above q.pivots c.in-Err-look_at.fault) c.deref-2.ensures.value c.in-Err-look_at.ensures.refusals in
+    let h = subst (λ rs. IsLookFault (IsWideIn n above rs) n (query_of q) above q.pivots c.in-Err-look_at.fault) c.deref-3.ensures.value c.in-Err-look_at.ensures.refusals in
     here_fault n (query_of q) above q.pivots c.args.left c.in-Err-look_at.fault
     (look_fault n (query_of q) above q.pivots c.args.left c.in-Err-look_at.fault
     (look_other (IsWideIn n above (way_rows way)) (IsWideHere n (query_of q) above) n (query_of q) above q.pivots c.in-Err-look_at.fault
@@ -207,8 +207,8 @@ pub go_on-returns-in-Ok-Shown-clause-found : goal.go_on-returns-in-Ok-Shown-clau
 go_on-returns-in-Ok-Shown-clause-found t c =
     let q = c.args.question.now in
     let some = subst (IsStepInto q.columns (query_of q) c.args.rows.now c.deref.result.now) c.in-Ok-Some.field-0-is c.in-Ok-Some.ensures.step in
-    let look = subst (IsLook q.columns c.args.rows.now c.deref-2.result.now) c.in-Ok-Shown.field-0-is c.in-Ok-Shown.ensures.look in
-    let look' = subst (λ rs. IsLook q.columns c.args.rows.now rs (looks.Shown c.in-Ok-Shown.lists)) c.deref-2.ensures.value look in
+    let look = subst (IsLook q.columns c.args.rows.now c.deref-3.result.now) c.in-Ok-Shown.field-0-is c.in-Ok-Shown.ensures.look in
+    let look' = subst (λ rs. IsLook q.columns c.args.rows.now rs (looks.Shown c.in-Ok-Shown.lists)) c.deref-3.ensures.value look in
     take_leaf q.columns (query_of q) c.args.rows.now c.args.left c.in-Ok-Some.way c.in-Ok-Shown.lists c.in_ok-take_of-in-Ok-Shown.field-0 q.limits.few_cases q.few some.way look' c.in_ok-take_of-in-Ok-Shown.ensures
 
 pub go_on-unreachable-requires : goal.go_on-unreachable-requires
@@ -216,8 +216,8 @@ go_on-unreachable-requires t c =
     let q = c.args.question.now in
     let some = subst (IsStepInto q.columns (query_of q) c.args.rows.now c.deref.result.now) c.in-Ok-Some.field-0-is c.in-Ok-Some.ensures.step in
     let some' = subst (λ xs. IsStepInto q.columns (query_of q) c.args.rows.now xs (Some c.in-Ok-Some.way)) c.deref.ensures.value some in
-    let look = subst (IsLook q.columns c.args.rows.now c.deref-2.result.now) c.in-Ok-Excluded.field-0-is c.in-Ok-Excluded.ensures.look in
-    let look' = subst (λ rs. IsLook q.columns c.args.rows.now rs looks.Excluded) c.deref-2.ensures.value look in
+    let look = subst (IsLook q.columns c.args.rows.now c.deref-3.result.now) c.in-Ok-Excluded.field-0-is c.in-Ok-Excluded.ensures.look in
+    let look' = subst (λ rs. IsLook q.columns c.args.rows.now rs looks.Excluded) c.deref-3.ensures.value look in
     never_excluded q.columns (query_of q) c.args.rows.now c.args.point.items c.in-Ok-Some.way c.requires.going some' look'.0
 
 pub go_on-split_way-requires : goal.go_on-split_way-requires
@@ -227,8 +227,8 @@ go_on-split_way-requires t c =
     let above = c.args.rows.now in
     let way = c.in-Ok-Some.way in
     let some = subst (IsStepInto n (query_of q) above c.deref.result.now) c.in-Ok-Some.field-0-is c.in-Ok-Some.ensures.step in
-    let look = subst (IsLook n above c.deref-2.result.now) c.in-Ok-Open.field-0-is c.in-Ok-Open.ensures.look in
-    let look' = subst (λ rs. IsLook n above rs (looks.Open c.in-Ok-Open.row)) c.deref-2.ensures.value look in
+    let look = subst (IsLook n above c.deref-3.result.now) c.in-Ok-Open.field-0-is c.in-Ok-Open.ensures.look in
+    let look' = subst (λ rs. IsLook n above rs (looks.Open c.in-Ok-Open.row)) c.deref-3.ensures.value look in
     let more = c.in_ok-push_item-in-Ok-Open.ensures in
     let all = ways_more n (query_of q) above c.args.ways.now.items _ way more some.way c.requires.ways in
     let shown = subst (NoneShown n above) (sym more) (none_more n above c.args.ways.now.items way c.requires.none_shown (not_shown n above way c.in-Ok-Open.row look')) in

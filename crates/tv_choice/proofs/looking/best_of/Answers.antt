@@ -14,13 +14,13 @@ pub look_at-requires-clause-way : goal.look_at-requires-clause-way
 look_at-requires-clause-way c =
     let q = c.args.question.now in
     let way = c.index-ways-way.result in
-    let is = at_of (IsWay q.columns (query_of q) c.args.rows.now) c.args.ways.now c.ways.way way c.requires.ways.each c.ways-test.true c.index-ways-way.is in
-    subst (IsWayRows q.columns (query_of q) c.args.rows.now) (sym (c.deref.ensures.value ∙ ap (λ w. w.rows.items) (sym c.index-ways-way.is))) (way_is_rows q.columns (query_of q) c.args.rows.now way is)
+    let is = at_of (IsWay q.columns (query_of q) c.args.place.now.rows.now) c.args.ways.now c.ways.way way c.requires.ways.each c.ways-test.true c.index-ways-way.is in
+    subst (IsWayRows q.columns (query_of q) c.args.place.now.rows.now) (sym (c.deref.ensures.value ∙ ap (λ w. w.rows.items) (sym c.index-ways-way.is))) (way_is_rows q.columns (query_of q) c.args.place.now.rows.now way is)
 
 pub returns-in-Take-clause-best : goal.returns-in-Take-clause-best
 returns-in-Take-clause-best c =
     let n = c.args.question.now.columns in
-    let rows = c.args.rows.now in
+    let rows = c.args.place.now.rows.now in
     let ws = c.args.ways.now in
     let i = c.ways.way in
     let way = c.index-ways-way.result in
@@ -36,7 +36,7 @@ returns-in-Take-clause-best c =
 pub ways-preserved : goal.ways-preserved
 ways-preserved c =
     let n = c.args.question.now.columns in
-    let rows = c.args.rows.now in
+    let rows = c.args.place.now.rows.now in
     let ws = c.args.ways.now in
     let i = c.ways.way in
     let way = c.index-ways-way.result in
@@ -48,12 +48,12 @@ ways-preserved c =
     subst (λ us. IsBest n rows us c.one_more-best.result) (sym more) (best_next n rows (take i ws) way c.in-Ok.look c.ways.best c.one_more-best.result c.ways.invariant look one)
 
 pub returns-clause-best : goal.returns-clause-best
-returns-clause-best c = subst (λ ws. IsBest c.args.question.now.columns c.args.rows.now ws c.ways.best) (take_whole c.args.ways.now c.ways.way (let t = c.ways-test.false in omega (arith, t))) c.ways.invariant
+returns-clause-best c = subst (λ ws. IsBest c.args.question.now.columns c.args.place.now.rows.now ws c.ways.best) (take_whole c.args.ways.now c.ways.way (let t = c.ways-test.false in omega (arith, t))) c.ways.invariant
 
 pub returns-in-Err-clause-refusals : goal.returns-in-Err-clause-refusals
 returns-in-Err-clause-refusals c =
     let q = c.args.question.now in
-    let above = c.args.rows.now in
+    let above = c.args.place.now.rows.now in
     let way = c.index-ways-way.result in
     let is = at_of (IsWay q.columns (query_of q) above) c.args.ways.now c.ways.way way c.requires.ways.each c.ways-test.true c.index-ways-way.is in
     let same = c.deref.ensures.value ∙ ap (λ w. w.rows.items) (sym c.index-ways-way.is) in
