@@ -4,11 +4,11 @@ use Rattle.std.specs.Prelude.{◌||◌}
 use Rattle.tv_linear.specs.Linear.{Linear}
 use Rattle.tv_linear.specs.declared.region.Piece.{Piece}
 use Rattle.tv_cases.specs.LinearCases.{LinearCase}
-use Rattle.tv_region.specs.Met.{all_met, some_met, Has, InSome, IsOnce}
-use Rattle.tv_region.specs.Adding.{AreReduced, IsEach, IsProduct, IsUnion}
+use Rattle.tv_region.specs.Met.{all_met, some_met, Has, InSome, AreApart}
+use Rattle.tv_region.specs.Adding.{IsUnder, AreReduced, IsEach, IsProduct, IsUnion}
 use Rattle.tv_region.specs.Inclusion.{LiesInSome, IsPruned}
 use Rattle.tv_region.specs.Steps.{IsBeforeAny}
-use Rattle.tv_region.proofs.MetLemmas.{has_push, has_left, has_right, once_push, once_front, some_met-push}
+use Rattle.tv_region.proofs.MetLemmas.{has_push, has_left, has_right, apart_push, apart_front, some_met-push}
 use Rattle.tv_region.proofs.AddLemmas.{in_some-has, none_reduced}
 
 -- ---- one by one
@@ -17,9 +17,9 @@ pub record IsPruning (n : ℕ) (all left kept : List (List Linear)) : Type 0 whe
   pub met : (xs : List ℤ) → length xs ≡ n → (some_met xs left || some_met xs kept) ≡ some_met xs all
   pub among_left : (list : List Linear) → Has left list → Has all list
   pub among_kept : (list : List Linear) → Has kept list → Has all list
-  pub once_left : IsOnce all → IsOnce left
-  pub once_kept : IsOnce all → IsOnce kept
-  pub apart : IsOnce all → (list : List Linear) → Has left list → Has kept list → ⊥
+  pub apart_left : AreApart IsUnder all → AreApart IsUnder left
+  pub apart_kept : AreApart IsUnder all → AreApart IsUnder kept
+  pub apart : AreApart IsUnder all → (first second : List Linear) → Has left first → Has kept second → (IsUnder first second → ⊥) × (IsUnder second first → ⊥)
   pub few : length left + length kept ≤ length all
 
 or_none : (a : Bool) → (a || false) ≡ a
@@ -31,9 +31,9 @@ pruning_none n all = record {
   met = λ xs e. or_none (some_met xs all);
   among_left = λ list h. h;
   among_kept = λ list h. absurd h;
-  once_left = λ o. o;
-  once_kept = λ o. tt;
-  apart = λ o list h k. k;
+  apart_left = λ o. o;
+  apart_kept = λ o. tt;
+  apart = λ o first second h k. absurd k;
   few = omega arith;
 }
 
@@ -59,17 +59,17 @@ module _ (n : ℕ) (all left rest kept : List (List Linear)) (list : List Linear
   pub last_left : Has left list
   last_left = subst (λ ls. Has ls list) (sym e) (has_right rest (list ∷ []) list (inl refl))
 
-  once_rest : IsOnce all → IsOnce rest × (Has rest list → ⊥)
-  once_rest o = once_front rest list (subst (λ ls. IsOnce ls) e (h.once_left o))
+  apart_rest : AreApart IsUnder all → AreApart IsUnder rest × ((l : List Linear) → Has rest l → (IsUnder l list → ⊥) × (IsUnder list l → ⊥))
+  apart_rest o = apart_front IsUnder rest list (subst (AreApart IsUnder) e (h.apart_left o))
 
   pub pruning_dropped : LiesInSome n list kept → IsPruning n all rest kept
   pruning_dropped i = record {
     met = λ xs w. or_dropped (some_met xs rest) (all_met xs list) (some_met xs kept) (i xs w) ∙ ap (λ b. b || some_met xs kept) (sym (some_met-push xs rest list) ∙ ap (some_met xs) (sym e)) ∙ h.met xs w;
     among_left = λ l m. h.among_left l (in_left l m);
     among_kept = h.among_kept;
-    once_left = λ o. (once_rest o).0;
-    once_kept = h.once_kept;
-    apart = λ o l m k. h.apart o l (in_left l m) k;
+    apart_left = λ o. (apart_rest o).0;
+    apart_kept = h.apart_kept;
+    apart = λ o l k m i. h.apart o l k (in_left l m) i;
     few = (let d = one_longer rest list in let g = ap (λ (ls : List (List Linear)). length ls) e in let f = h.few in omega (arith, d, g, f));
   }
 
@@ -78,9 +78,9 @@ module _ (n : ℕ) (all left rest kept : List (List Linear)) (list : List Linear
     met = λ xs w. ap (λ b. some_met xs rest || b) (some_met-push xs kept list) ∙ or_moved (some_met xs rest) (all_met xs list) (some_met xs kept) ∙ ap (λ b. b || some_met xs kept) (sym (some_met-push xs rest list) ∙ ap (some_met xs) (sym e)) ∙ h.met xs w;
     among_left = λ l m. h.among_left l (in_left l m);
     among_kept = λ l m. elim (has_push kept list l m) [ inl k ↦ h.among_kept l k | inr k ↦ subst (Has all) k (h.among_left list last_left) ];
-    once_left = λ o. (once_rest o).0;
-    once_kept = λ o. once_push kept list (h.once_kept o) (h.apart o list last_left);
-    apart = λ o l m k. elim (has_push kept list l k) [ inl i ↦ h.apart o l (in_left l m) i | inr i ↦ (once_rest o).1 (subst (Has rest) (sym i) m) ];
+    apart_left = λ o. (apart_rest o).0;
+    apart_kept = λ o. apart_push IsUnder kept list (h.apart_kept o) (λ l m. (let w = h.apart o list l last_left m in (w.1, w.0)));
+    apart = λ o l k m i. elim (has_push kept list k i) [ inl j ↦ h.apart o l k (in_left l m) j | inr j ↦ subst (λ x. (IsUnder l x → ⊥) × (IsUnder x l → ⊥)) j ((apart_rest o).1 l m) ];
     few = (let d = one_longer rest list in let q = one_longer kept list in let g = ap (λ (ls : List (List Linear)). length ls) e in let f = h.few in omega (arith, d, q, g, f));
   }
 
@@ -88,7 +88,7 @@ pub pruning_ends : (n : ℕ) (all left kept : List (List Linear)) → left ≡ [
 pruning_ends n all left kept e h = record {
   met = λ xs w. sym (ap (λ ls. some_met xs ls || some_met xs kept) e) ∙ h.met xs w;
   among = h.among_kept;
-  once = h.once_kept;
+  apart = h.apart_kept;
   few = (let f = h.few in omega (arith, f));
 }
 
@@ -103,7 +103,7 @@ module _ (n : ℕ) (old new : List (List Linear)) (p : IsPruned n old new) where
   row_stays r h = (let w = list_of new r h in in_some-has old w.0 r (p.among w.0 w.1) w.2)
 
   reduced_stays : AreReduced n old → AreReduced n new
-  reduced_stays k = record { points = λ list m. k.points list (p.among list m); once = p.once k.once }
+  reduced_stays k = record { points = λ list m. k.points list (p.among list m); sparse = λ list m. k.sparse list (p.among list m); apart = p.apart k.apart }
 
   pub product_pruned : (first second : List (List Linear)) → IsProduct n first second old → IsProduct n first second new
   product_pruned first second h = record {

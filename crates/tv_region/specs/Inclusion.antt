@@ -1,7 +1,8 @@
 -- Rows inside of others, at whole points over n columns.
 use Rattle.std.specs.Prelude.{◌≡◌, ℕ, ◌≤◌, List, length, ℤ, true}
 use Rattle.tv_linear.specs.Linear.{Linear}
-use Rattle.tv_region.specs.Met.{meets, all_met, some_met, Has, IsOnce}
+use Rattle.tv_region.specs.Met.{meets, all_met, some_met, Has, AreApart}
+use Rattle.tv_region.specs.Adding.{IsUnder}
 
 -- each point that meets the rows meets this one
 abbrev pub IsShown : ℕ → List Linear → Linear → Type 0
@@ -19,5 +20,5 @@ LiesInSome n rows lists = (xs : List ℤ) → length xs ≡ n → all_met xs row
 pub record IsPruned (n : ℕ) (old new : List (List Linear)) : Type 0 where
   pub met : (xs : List ℤ) → length xs ≡ n → some_met xs new ≡ some_met xs old
   pub among : (list : List Linear) → Has new list → Has old list
-  pub once : IsOnce old → IsOnce new
+  pub apart : AreApart IsUnder old → AreApart IsUnder new
   pub few : length new ≤ length old

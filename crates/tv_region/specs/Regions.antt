@@ -40,7 +40,7 @@ HasRowAt region l r = InSome (lists_at l region.pieces.items) r
 abbrev pub HasRow : Region → Linear → Type 0
 HasRow region r = (l : ℕ) × HasRowAt region l r
 
--- each piece has a rational point, and at no location one stands twice
+-- each piece has a rational point, and neither rows nor pieces of a location are left that are implied row by row
 abbrev pub IsReduced : Region → Type 0
 IsReduced region = (l : ℕ) → AreReduced region.variables (lists_at l region.pieces.items)
 
