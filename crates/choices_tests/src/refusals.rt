@@ -6,7 +6,8 @@ use std::test::Fail;
 const DOWN: &str = "START: 0; FROM: 0; assume(x > 0); x := x - 1; TO: 0;";
 
 /// Up or down.
-const BRANCH: &str = "START: 0; FROM: 0; assume(x > 0); x := x + 1; TO: 0; FROM: 0; assume(x <= 0); x := x - 1; TO: 0;";
+const BRANCH: &str =
+    "START: 0; FROM: 0; assume(x > 0); x := x + 1; TO: 0; FROM: 0; assume(x <= 0); x := x - 1; TO: 0;";
 
 /// Half of `x`, where it is even.
 const HALF: &str = "START: 0; FROM: 0; d := nondet(); assume(2*d == x); TO: 1;";

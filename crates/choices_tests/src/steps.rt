@@ -9,7 +9,8 @@ const ANY: &str = "START: 0; FROM: 0; x := x; y := nondet(); TO: 1;";
 const HALF: &str = "START: 0; FROM: 0; d := nondet(); assume(2*d == x); TO: 1;";
 
 /// Up or down.
-const BRANCH: &str = "START: 0; FROM: 0; assume(x > 0); x := x + 1; TO: 0; FROM: 0; assume(x <= 0); x := x - 1; TO: 0;";
+const BRANCH: &str =
+    "START: 0; FROM: 0; assume(x > 0); x := x + 1; TO: 0; FROM: 0; assume(x <= 0); x := x - 1; TO: 0;";
 
 /// Down to 0.
 const DOWN: &str = "START: 0; FROM: 0; assume(x > 0); x := x - 1; TO: 0;";

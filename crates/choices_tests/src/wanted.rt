@@ -62,11 +62,7 @@ fn depth(tree: &ChoiceTree) -> u32 {
 }
 
 fn are_terms(draws: &[Row], terms: &[Numbers]) -> bool {
-    draws.len() == terms.len()
-        && draws
-            .iter()
-            .zip(terms)
-            .all(|(row, term)| is_row(row, term))
+    draws.len() == terms.len() && draws.iter().zip(terms).all(|(row, term)| is_row(row, term))
 }
 
 fn is_tree(wanted: &Wanted, tree: &ChoiceTree) -> bool {
@@ -101,10 +97,12 @@ pub(crate) fn is_wanted(wanted: &Wanted, found: &Result<Chosen, CoverFault>) -> 
         (Wanted::Splits(count), Err(CoverFault::Splits { path })) => path.len() == *count,
         (
             Wanted::Solve(count),
-            Err(CoverFault::Solve {
-                rows,
-                fault: SolveFault::Pivots { .. },
-            }),
+            Err(
+                CoverFault::Solve {
+                    rows,
+                    fault: SolveFault::Pivots { .. },
+                },
+            ),
         ) => rows.len() == *count,
         (Wanted::Wide(wide), Err(CoverFault::Wide { column })) => wide == column,
         _ => false,

@@ -1,3 +1,5 @@
+ghost use Rattle.std.specs.Prelude.{None};
+
 use crate::proving::SETTLED;
 use crate::texts::{add_proposers, joined, says_under};
 use std::alloc::{AllocError, Global};
@@ -6,8 +8,6 @@ use tv_candidates::Candidate;
 use tv_cases::Cases;
 use tv_linear::Row;
 use tv_propose::Proposer;
-
-ghost use Rattle.std.specs.Prelude.{None};
 
 /// Offers the row that no point meets, at the start, and then has half a million less left.
 #[derive(Drop)]

@@ -209,10 +209,10 @@ module _ (n : ℕ) (q : Query) where
         h.terms,
         subst (λ o. ListsShape (length rows + 1) (option_map (λ rows. length c.guards + length rows) (option_map (λ p. map (drawn_change n c ds) (piece_rows p)) o)) lists) (sym h.enters) (
           shown_many n rows (way_rows w) lists s
-          ∙ sym (given_many (way_rows w))
-          ∙ seen_many (as_given (way_rows w)) (drawn_guards n c ds ++ map (drawn_change n c ds) (piece_rows h.piece)) h.seen
-          ∙ length-append (drawn_guards n c ds) (map (drawn_change n c ds) (piece_rows h.piece))
-          ∙ ap (λ m. m + length (map (drawn_change n c ds) (piece_rows h.piece))) (length-map c.guards _),
+              ∙ sym (given_many (way_rows w))
+              ∙ seen_many (as_given (way_rows w)) (drawn_guards n c ds ++ map (drawn_change n c ds) (piece_rows h.piece)) h.seen
+              ∙ length-append (drawn_guards n c ds) (map (drawn_change n c ds) (piece_rows h.piece))
+              ∙ ap (λ m. m + length (map (drawn_change n c ds) (piece_rows h.piece))) (length-map c.guards _),
           shown_each n rows (way_rows w) lists s,
         ),
       )

@@ -143,8 +143,7 @@ fn go_or_split(
                     path: Vec::new(alloc),
                 });
             }
-            let halves =
-                halves_at_point(alloc, question.columns, column as u32, values, scale)?;
+            let halves = halves_at_point(alloc, question.columns, column as u32, values, scale)?;
             split(question, rows, ways, left - 1, halves)
         }
     }

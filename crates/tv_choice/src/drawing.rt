@@ -44,11 +44,7 @@ fn listed(alloc: Global, term: Row) -> Result<Vec<Row>, AllocError>
 }
 
 /// Puts a term, if there is one, as a list of its own at the end of the lists.
-fn push_term(
-    alloc: Global,
-    lists: &mut Vec<Vec<Row>>,
-    term: Option<Row>,
-) -> Result<(), AllocError>
+fn push_term(alloc: Global, lists: &mut Vec<Vec<Row>>, term: Option<Row>) -> Result<(), AllocError>
     ensures { IfOk result (λ _. map (λ l. l.items) lists.new.items ≡ map (λ l. l.items) lists.old.items ++ one_term term) }
 {
     match term {

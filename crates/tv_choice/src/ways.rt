@@ -172,7 +172,12 @@ fn push_ways(question: &Question, ways: &mut Vec<Way>, entry: &Entry) -> Result<
     if case.draws > 1 {
         return Ok(());
     }
-    match case_rows(question.alloc, case, &entry.piece.poly.rows, question.columns) {
+    match case_rows(
+        question.alloc,
+        case,
+        &entry.piece.poly.rows,
+        question.columns,
+    ) {
         Err(fault) => Err(fault),
         Ok(rows) => {
             let choices = draw_choices(question.alloc, case.draws, &rows, question.columns)?;

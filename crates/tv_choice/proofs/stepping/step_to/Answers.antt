@@ -112,5 +112,5 @@ returns-clause-step c =
     let answers = subst (IsEmptied (n + e.case.now.draws) c.deref-3.result.now) c.in-Ok-Whole.field-0-is c.in-Ok-Whole.ensures.answers in
     let numbers = c.split_at.ensures.back ∙ ap (λ ys. drop n ys) c.deref-in-Ok-Whole.ensures.value in
     let made = subst (λ ds. IsWayOf n e.taken e.target stored (map (constant_row n) ds) c.in-Ok-numbered.way) numbers
-        (subst (λ rs. IsWayOf n e.taken e.target rs (map (constant_row n) c.split_at.result.1.now) c.in-Ok-numbered.way) c.deref-in-Ok-Whole-2.ensures.value c.in-Ok-numbered.ensures.way) in
+    (subst (λ rs. IsWayOf n e.taken e.target rs (map (constant_row n) c.split_at.result.1.now) c.in-Ok-numbered.way) c.deref-in-Ok-Whole-2.ensures.value c.in-Ok-numbered.ensures.way) in
     numbered_way n (query_of q) s.rows.now e c.requires.entered stored rows owed s.point.now c.requires.standing.size c.requires.standing.here c.deref-3.result.now zs c.in-Ok-numbered.way asked answers origin made

@@ -34,8 +34,8 @@ returns-in-Ok-Whole-clause-stopped c =
     let case = case_view c.in-Some.case.now in
     let start = subst (IsStoppedBy q.columns c.args.rows.now case c.args.left) c.in-Ok-Whole.field-0-is c.in-Ok-Whole.ensures.stopped in
     leading q.columns (query_of q) c.args.rows.now case c.in-Ok-Whole.values.items c.in_ok-from_slice-in-Ok-Whole.field-0.items c.requires.stop
-        (case_among q.location about.cases c.cases.k case c.in-Some.ensures.case) (leaving_from q.location about.cases c.cases.k case c.in-Some.ensures.case) start
-        (c.in_ok-from_slice-in-Ok-Whole.ensures.items ∙ c.split_at.ensures.front ∙ ap (λ zs. take q.columns zs) c.deref.ensures.value)
+    (case_among q.location about.cases c.cases.k case c.in-Some.ensures.case) (leaving_from q.location about.cases c.cases.k case c.in-Some.ensures.case) start
+    (c.in_ok-from_slice-in-Ok-Whole.ensures.items ∙ c.split_at.ensures.front ∙ ap (λ zs. take q.columns zs) c.deref.ensures.value)
 
 pub overflow_add-k : goal.overflow_add-k
 overflow_add-k c =

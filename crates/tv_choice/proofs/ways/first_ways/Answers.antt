@@ -46,15 +46,15 @@ cases-preserved c =
     let all = targets_from n q.pieces.now (leaving q.location (case_views cs)) in
     elim c.if-case-question.branch [
       | then-case-question+in-Ok w ↦ (
-          subst (λ ws. All (IsWay n (query_of q) []) ws.items) (sym w.ways-is) w.in-Ok.ensures.ways,
-          subst (λ ws. all ≡ lists_of ws.items ++ targets_from n q.pieces.now (leaving q.location (case_views (drop (i + 1) cs)))) (sym w.ways-is)
-              (cases_next n q.pieces.now q.location cs i case all (lists_of c.cases.ways.items) _ c.cases-test.true c.index-cases-taken.is w.if-case-question.true w.in-Ok.ensures.lists c.cases.invariant.1),
-          case_left n q.pieces.now q.location cs i case (leaving q.location (case_views cs)) c.cases-test.true c.index-cases-taken.is w.if-case-question.true w.in-Ok.ensures.fits c.cases.invariant.2,
-        )
+        subst (λ ws. All (IsWay n (query_of q) []) ws.items) (sym w.ways-is) w.in-Ok.ensures.ways,
+        subst (λ ws. all ≡ lists_of ws.items ++ targets_from n q.pieces.now (leaving q.location (case_views (drop (i + 1) cs)))) (sym w.ways-is)
+            (cases_next n q.pieces.now q.location cs i case all (lists_of c.cases.ways.items) _ c.cases-test.true c.index-cases-taken.is w.if-case-question.true w.in-Ok.ensures.lists c.cases.invariant.1),
+        case_left n q.pieces.now q.location cs i case (leaving q.location (case_views cs)) c.cases-test.true c.index-cases-taken.is w.if-case-question.true w.in-Ok.ensures.fits c.cases.invariant.2,
+      )
       | else-case-question w ↦ (
-          subst (λ ws. All (IsWay n (query_of q) []) ws.items) (sym w.ways-is) c.cases.invariant.0,
-          subst (λ ws. all ≡ lists_of ws.items ++ targets_from n q.pieces.now (leaving q.location (case_views (drop (i + 1) cs)))) (sym w.ways-is)
-              (cases_skip n q.pieces.now q.location cs i case all (lists_of c.cases.ways.items) c.cases-test.true c.index-cases-taken.is w.if-case-question.false c.cases.invariant.1),
-          case_skipped n q.pieces.now q.location cs i case (leaving q.location (case_views cs)) c.cases-test.true c.index-cases-taken.is w.if-case-question.false c.cases.invariant.2,
-        )
+        subst (λ ws. All (IsWay n (query_of q) []) ws.items) (sym w.ways-is) c.cases.invariant.0,
+        subst (λ ws. all ≡ lists_of ws.items ++ targets_from n q.pieces.now (leaving q.location (case_views (drop (i + 1) cs)))) (sym w.ways-is)
+            (cases_skip n q.pieces.now q.location cs i case all (lists_of c.cases.ways.items) c.cases-test.true c.index-cases-taken.is w.if-case-question.false c.cases.invariant.1),
+        case_skipped n q.pieces.now q.location cs i case (leaving q.location (case_views cs)) c.cases-test.true c.index-cases-taken.is w.if-case-question.false c.cases.invariant.2,
+      )
     ]

@@ -38,7 +38,7 @@ choices-preserved c =
     let same : way_rows c.in-Ok.way ≡ put_rows n ds rows = made.made.exact in (
       subst (All (IsWay n (query_of q) [])) (sym c.in_ok-push_item-in-Ok.ensures) (All-push (IsWay n (query_of q) []) c.choices.ways.items c.in-Ok.way c.choices.invariant.0 way),
       left_next n d rows (lists_of c.args.ways.now.items) (lists_of c.choices.ways.items) (lists_of c.push_item.new.items.items) ds rest
-      (ap lists_of c.in_ok-push_item-in-Ok.ensures ∙ map-append way_rows c.choices.ways.items (c.in-Ok.way ∷ []) ∙ (λ i. lists_of c.choices.ways.items ++ same i ∷ [])) left,
+          (ap lists_of c.in_ok-push_item-in-Ok.ensures ∙ map-append way_rows c.choices.ways.items (c.in-Ok.way ∷ []) ∙ (λ i. lists_of c.choices.ways.items ++ same i ∷ [])) left,
       next_left n rows (draw_choices d n rows) ds rest made.made.fits (subst (IsFirstLeft n rows (draw_choices d n rows)) (ap (map (λ x. x.items)) c.in-Some.ensures.steps.0) c.choices.invariant.2),
     )
 
