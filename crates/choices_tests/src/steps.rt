@@ -18,6 +18,9 @@ const DOWN: &str = "START: 0; FROM: 0; assume(x > 0); x := x - 1; TO: 0;";
 /// Two draws.
 const TWO: &str = "START: 0; FROM: 0; x := nondet(); y := nondet(); assume(y > x); TO: 1;";
 
+/// `x` stays, and any `y` and `z`.
+const THREE: &str = "START: 0; FROM: 0; x := x; y := nondet(); z := nondet(); TO: 1;";
+
 /// No step from location 0.
 const NONE: &str = "START: 0; FROM: 1; x := x; TO: 0;";
 
@@ -65,17 +68,38 @@ fn a_draw_is_not_rounded(rt: HostRuntime) -> Result<(), Fail> {
 }
 
 #[test]
-fn two_draws_are_numbers(rt: HostRuntime) -> Result<(), Fail> {
-    let question = Question {
-        text: TWO,
-        ambient: &[],
-        into: &[(1, &[(&[-1, 0], 3), (&[0, 1], -4)])],
-        stop: false,
-        splits: 8,
-        pivots: 999,
-        wanted: Wanted::Take(0, 0, &[(&[0, 0], 3), (&[0, 0], 4)]),
-    };
-    assert!(rt; is_answered(rt.alloc(), &question)?);
+fn two_draws_are_terms(rt: HostRuntime) -> Result<(), Fail> {
+    let questions = [
+        Question {
+            text: TWO,
+            ambient: &[],
+            into: &[(1, &[(&[-1, 0], 3), (&[0, 1], -4)])],
+            stop: false,
+            splits: 8,
+            pivots: 999,
+            wanted: Wanted::Take(0, 0, &[(&[0, 0], 3), (&[0, 0], 4)]),
+        },
+        Question {
+            text: THREE,
+            ambient: &[],
+            into: &[(
+                1,
+                &[
+                    (&[-1, 1, 0], -5),
+                    (&[1, -1, 0], 5),
+                    (&[-1, 0, 1], 2),
+                    (&[1, 0, -1], -2),
+                ],
+            )],
+            stop: false,
+            splits: 0,
+            pivots: 999,
+            wanted: Wanted::Take(0, 0, &[(&[1, 0, 0], 5), (&[1, 0, 0], -2)]),
+        },
+    ];
+    for question in &questions {
+        assert!(rt; is_answered(rt.alloc(), question)?);
+    }
     Ok(())
 }
 

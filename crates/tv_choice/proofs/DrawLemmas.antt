@@ -1,24 +1,24 @@
 -- Terms for draws, and the ways that they make.
-use Rattle.std.proofs.Common.{◌≡◌, ℕ, zero, suc, ◌+◌, ◌<◌, ◌≤◌, List, [], ◌∷◌, ◌++◌, length, map, take, drop, drop-cons, get_or, All, Some, None, Option, arith, refl, sym, ap, ◌∙◌, subst, ℤ, pos, negsuc, neg_ℤ, append_assoc, Bool, true, false, cond, ◌==◌, length-append}
+use Rattle.std.proofs.Common.{◌≡◌, ℕ, zero, suc, ◌+◌, ◌<◌, ◌≤◌, List, [], ◌∷◌, ◌++◌, length, map, take, drop, get_or, All, Some, None, Option, arith, refl, sym, ap, ◌∙◌, subst, ℤ, pos, negsuc, neg_ℤ, append_assoc, cond}
 use Rattle.std.specs.Prelude.{slice_get, Contains}
 use Rattle.std.proofs.lemmas.List.{length-map}
 use Rattle.std.proofs.lemmas.List.Elements.{All-nil, All-cons, All-head, All-tail, All-append}
-use Rattle.tv_linear.specs.Linear.{Linear, linear, columns}
+use Rattle.tv_linear.specs.Linear.{Linear, columns}
 use Rattle.tv_linear.specs.Arithmetic.{opposite}
 use Rattle.tv_linear.specs.declared.region.Piece.{Piece}
 use Rattle.tv_cases.specs.declared.case.Case.{Case}
-use Rattle.tv_cases.specs.LinearCases.{LinearCase, from_of, leaving}
+use Rattle.tv_cases.specs.LinearCases.{LinearCase, leaving}
 use Rattle.tv_cases.specs.Views.{case_view, case_views}
 use Rattle.std.proofs.lemmas.Option.{slice_get_within, get_or_from_slice_get}
 use Rattle.tv_choice.specs.declared.ways.Way.{Way}
 use Rattle.tv_choice.specs.declared.ways.Entry.{Entry}
 use Rattle.tv_choice.specs.Rows.{case_rows, put_rows, put_terms, ArePut, IsWideBefore, IsWidePut}
 use Rattle.tv_choice.specs.Leading.{Query, IsEntry, pieces_at, piece_rows}
-use Rattle.tv_choice.specs.ChoicePaths.{AreDrawTerms, by_rows, numbers}
-use Rattle.tv_choice.specs.Refusals.{IsWideHere, entering, drawing, denying}
+use Rattle.tv_choice.specs.ChoicePaths.{AreDrawTerms, by_rows}
+use Rattle.tv_choice.specs.Refusals.{IsWideHere, entering, drawing}
 use Rattle.tv_choice.specs.Ways.{IsEntered, AreCaseRows, IsWayOf, IsWay}
-use Rattle.tv_choice.specs.Targets.{front, term_by, term_of, one_term, terms_given, draw_choices, targets_into, targets_by, targets_from, AreMadeInto, IsFirstWidePut, with_these, with_later, IsWideInto, IsFirstWideInto, into_this, into_later, IsFirstWideFrom, by_this, by_later}
-use Rattle.tv_choice.proofs.WayLemmas.{drop_more, map-append, next_of, is_way, in_way}
+use Rattle.tv_choice.specs.Targets.{front, term_by, term_of, one_term, terms_given, draw_choices, targets_into, targets_by, targets_from, AreMadeInto, IsFirstWidePut, with_later, IsWideInto, IsFirstWideInto, into_this, into_later, IsFirstWideFrom, by_this, by_later}
+use Rattle.tv_choice.proofs.WayLemmas.{drop_more, is_way, in_way}
 use Rattle.tv_choice.proofs.PieceLemmas.{test_true, test_false}
 
 -- ---- one term

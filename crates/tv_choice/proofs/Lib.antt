@@ -6,6 +6,7 @@ pub mod WayLemmas
 pub mod DrawLemmas
 pub mod LookLemmas
 pub mod RefusalLemmas
+pub mod TermLemmas
 pub mod StepLemmas
 pub mod StopLemmas
 pub mod SettleLemmas

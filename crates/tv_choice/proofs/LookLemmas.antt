@@ -1,7 +1,7 @@
 -- Rows that are shown, open or excluded.
-use Rattle.std.proofs.Common.{◌≡◌, ◌⊎◌, ℕ, zero, suc, ◌+◌, ◌<◌, ◌≤◌, List, [], ◌∷◌, ◌++◌, length, take, get_or, All, arith, refl, sym, ap, ◌∙◌, subst, ℤ, inl, inr, length-append}
+use Rattle.std.proofs.Common.{◌≡◌, ℕ, zero, suc, ◌+◌, ◌<◌, ◌≤◌, List, [], ◌∷◌, ◌++◌, length, take, get_or, All, arith, refl, sym, ap, ◌∙◌, subst, ℤ, inl, inr, length-append}
 use Rattle.std.specs.Prelude.{Contains}
-use Rattle.tv_linear.specs.Linear.{Linear, columns}
+use Rattle.tv_linear.specs.Linear.{Linear}
 use Rattle.tv_linear.specs.Arithmetic.{denial}
 use Rattle.tv_linear.specs.Known.{as_given}
 use Rattle.tv_linear.specs.Refutation.{Refutes}
@@ -20,10 +20,10 @@ use Rattle.tv_choice.specs.declared.looking.Look.{Look}
 use Rattle.tv_choice.specs.declared.looking.Look.TheVariants as looks
 use Rattle.tv_choice.specs.declared.ways.Way.{Way}
 use Rattle.std.proofs.lemmas.Option.{slice_get_read}
-use Rattle.tv_choice.specs.Leading.{Query, pieces_at}
+use Rattle.tv_choice.specs.Leading.{Query}
 use Rattle.tv_choice.specs.ChoicePaths.{IsWayRows}
-use Rattle.tv_choice.specs.Refusals.{IsTried, IsUnsolvedHere, place, tried, inner}
-use Rattle.tv_choice.specs.Looking.{IsWayRow, IsLookFault, ShowsRow, IsOpenRow, AreShown, IsAt, IsOpenAt, AreEntered, IsOpen, NoneShown, AllShut, IsBest, IsOpened, IsLook, IsOneMore}
+use Rattle.tv_choice.specs.Refusals.{IsTried, tried}
+use Rattle.tv_choice.specs.Looking.{IsWayRow, IsLookFault, ShowsRow, AreShown, IsAt, AreEntered, IsOpen, NoneShown, IsBest, IsOpened, IsLook, IsOneMore}
 use Rattle.tv_choice.specs.Ways.{way_rows, IsWay, IsUnmade}
 use Rattle.tv_choice.proofs.WayLemmas.{take_more}
 use Rattle.tv_choice.proofs.FitLemmas.{contains_last, take_whole}

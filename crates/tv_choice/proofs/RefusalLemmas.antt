@@ -1,5 +1,5 @@
 -- What refusals show.
-use Rattle.std.proofs.Common.{◌≡◌, ◌⊎◌, inl, inr, ℕ, suc, ◌+◌, List, [], ◌∷◌, ◌++◌, length, refl, sym, ap, ◌∙◌, subst, arith, append_assoc}
+use Rattle.std.proofs.Common.{◌≡◌, inl, inr, ℕ, suc, ◌+◌, List, [], ◌∷◌, ◌++◌, length, refl, sym, ap, ◌∙◌, subst, arith, append_assoc}
 use Rattle.tv_linear.specs.Linear.{Linear}
 use Rattle.tv_linear.specs.declared.region.Piece.{Piece}
 use Rattle.tv_farkas.specs.declared.branch.Branch.{Branch}
@@ -10,11 +10,11 @@ use Rattle.tv_farkas.specs.EmptyPaths.{IsEmptyFault}
 use Rattle.tv_cases.specs.LinearCases.{LinearCase}
 use Rattle.tv_choice.specs.declared.ways.Way.{Way}
 use Rattle.tv_choice.specs.Leading.{Query}
-use Rattle.tv_choice.specs.ChoicePaths.{AreDrawTerms, by_rows, numbers, IsSplit, IsChoicePath, IsInner}
-use Rattle.tv_choice.specs.Refusals.{IsInnerPath, IsUnsolvedHere, place, tried, inner, IsWideHere, IsFaultHere, IsJoinedPath, IsUnsolved, IsWideChoice, target, behind, IsChoiceFault}
+use Rattle.tv_choice.specs.ChoicePaths.{AreDrawTerms, by_rows, at_point, IsSplit, IsInner}
+use Rattle.tv_choice.specs.Refusals.{place, inner, IsWideHere, IsFaultHere, IsJoinedPath, IsWideChoice, target, behind, IsChoiceFault}
 use Rattle.tv_choice.specs.Targets.{IsWideTarget}
 use Rattle.tv_choice.specs.Looking.{IsLookFault}
-use Rattle.tv_choice.specs.Ways.{IsWay, AreWays, IsUnmade, lists_of}
+use Rattle.tv_choice.specs.Ways.{IsWay, AreWays, IsUnmade}
 use Rattle.tv_choice.specs.Settling.{IsPutBefore}
 
 module _ (n : ℕ) (q : Query) where
@@ -80,7 +80,7 @@ module _ (n : ℕ) (q : Query) where
   -- ---- more rows above
   terms_longer : (above more : List Linear) (c : LinearCase) (p : Piece) (draws : List Linear) → AreDrawTerms n q above c p draws → AreDrawTerms n q (above ++ more) c p draws
   terms_longer above more c p draws (by_rows ds h) = by_rows ds h
-  terms_longer above more c p draws (numbers earlier later xs zs e h g) = numbers earlier (later ++ more) xs zs (ap (λ rs. rs ++ more) e ∙ append_assoc earlier later more) h g
+  terms_longer above more c p draws (at_point ds earlier later xs zs e h g t) = at_point ds earlier (later ++ more) xs zs (ap (λ rs. rs ++ more) e ∙ append_assoc earlier later more) h g t
 
   pub way_longer : (above more : List Linear) (w : Way) → IsWay n q above w → IsWay n q (above ++ more) w
   way_longer above more w h = record {

@@ -1,5 +1,5 @@
 -- What rows have: trees and holes.
-use Rattle.std.proofs.Common.{◌≡◌, ℕ, zero, suc, ◌+◌, ◌<◌, ◌≤◌, ◌^◌, List, [], ◌∷◌, ◌++◌, length, map, get_or, All, Option, None, Some, slice_get, Bool, IsTrue, ◌==◌, ◌⊎◌, inl, inr, arith, refl, sym, ap, ◌∙◌, subst, ℤ, pos, ◌*ℤ◌, ◌+ℤ◌, ◌<ℤ◌, ◌≤ℤ◌, Vec, length-append, append_assoc}
+use Rattle.std.proofs.Common.{◌≡◌, ℕ, suc, ◌+◌, ◌<◌, ◌≤◌, ◌^◌, List, [], ◌∷◌, ◌++◌, length, map, All, None, Some, slice_get, IsTrue, ◌==◌, ◌⊎◌, inl, inr, arith, refl, sym, ap, ◌∙◌, subst, ℤ, pos, ◌*ℤ◌, ◌<ℤ◌, ◌≤ℤ◌, Vec, length-append, append_assoc}
 use Rattle.std.specs.Prelude.{Contains}
 use Rattle.std.specs.Global.{Global}
 use Rattle.std.specs.Option.{option_map}
@@ -7,12 +7,12 @@ use Rattle.std.proofs.lemmas.Int.{ints}
 use Rattle.std.proofs.lemmas.List.{length-map}
 use Rattle.std.proofs.lemmas.Option.{slice_get_within, get_or_from_slice_get}
 use Rattle.std.proofs.lemmas.List.Elements.{All-nil, All-cons, All-head, All-tail, All-push}
-use Rattle.tv_linear.specs.Linear.{Linear, columns, value, IsMet, IsNarrow, IsWithin, scaled_value, IsScaledPoint}
+use Rattle.tv_linear.specs.Linear.{Linear, columns, value, IsMet, IsNarrow, scaled_value}
 use Rattle.tv_linear.specs.Arithmetic.{denial}
 use Rattle.tv_linear.specs.Known.{Known, given, denied, as_given, term_value}
 use Rattle.tv_linear.specs.Terms.{terms_after}
 use Rattle.tv_linear.specs.Refutation.{Refutes}
-use Rattle.tv_linear.specs.Covers.{Shown, ShownAt}
+use Rattle.tv_linear.specs.Covers.{ShownAt}
 use Rattle.tv_linear.specs.ChoiceDepth.{choice_splits}
 use Rattle.tv_linear.specs.declared.choice.ChoiceTree.{ChoiceTree, Split', Empty, NoStep, Take}
 use Rattle.tv_linear.specs.declared.cover.CoverTree.{CoverTree}
@@ -22,25 +22,23 @@ use Rattle.tv_linear.proofs.RowValues.{value-denial}
 use Rattle.tv_simplex.proofs.Ring.{by_sign}
 use Rattle.tv_farkas.specs.Refuting.{AreShort}
 use Rattle.tv_farkas.specs.Paths.{IsWholePoint}
-use Rattle.tv_farkas.specs.EmptyPaths.{IsWholePointOf}
 use Rattle.tv_farkas.specs.Judging.{IsPointAt}
 use Rattle.tv_farkas.specs.Stretching.{AreDivided}
 use Rattle.tv_farkas.proofs.SideLemmas.{whole_met}
 use Rattle.tv_farkas.proofs.StretchLemmas.{short_all}
-use Rattle.tv_cover.specs.Targets.{HasPoint}
-use Rattle.tv_cover.specs.CoverPaths.{IsLeftOpen, IsShut}
+use Rattle.tv_cover.specs.CoverPaths.{IsShut}
 use Rattle.tv_cases.specs.LinearCases.{LinearCase}
 use Rattle.tv_cases.specs.Before.{before}
 use Rattle.tv_cert.specs.Choices.{TakeMet, IsMetChoice, drawn_change, drawn_guards}
 use Rattle.tv_cert.specs.Shapes.{ChoiceShape, TakeShape, ListsShape}
 use Rattle.tv_shape.specs.Narrow.{AreNarrow, ListsNarrow, CountNarrow, RowNarrow, ChoiceNarrow}
 use Rattle.tv_choice.specs.declared.ways.Way.{Way}
-use Rattle.tv_choice.specs.Rows.{case_rows, put_rows}
+use Rattle.tv_choice.specs.Rows.{case_rows}
 use Rattle.tv_choice.specs.Same.{SameNumbers, AreSame, AreKnown}
-use Rattle.tv_choice.specs.Leading.{Query, place_of, piece_rows, pieces_at, region_owes, state, LeadsInto, IsHole, IsServed}
-use Rattle.tv_choice.specs.ChoicePaths.{IsPointHere, own}
+use Rattle.tv_choice.specs.Leading.{Query, place_of, piece_rows, pieces_at, region_owes, state, LeadsInto}
+use Rattle.tv_choice.specs.ChoicePaths.{own}
 use Rattle.tv_choice.specs.Targets.{targets}
-use Rattle.tv_choice.specs.Looking.{ShowsRow, AreShown, NoneShown}
+use Rattle.tv_choice.specs.Looking.{AreShown}
 use Rattle.tv_choice.specs.Ways.{way_rows, lists_of, IsWay, AreWays}
 use Rattle.tv_choice.specs.Stepping.{IsWayFrom, IsStepInto}
 use Rattle.tv_choice.specs.Stopping.{AreStopTrees}

@@ -1,12 +1,12 @@
 -- The two sides of a split.
-use Rattle.std.proofs.Common.{◌≡◌, ℕ, ◌+◌, ◌<◌, ◌≤◌, ◌^◌, List, [], ◌∷◌, ◌++◌, length, map, get_or, All, Option, None, Some, inl, inr, arith, refl, sym, ap, ◌∙◌, subst, ℤ, pos, neg_ℤ, ◌-ℤ◌, ◌+ℤ◌, ◌≤ℤ◌, unsigned_abs, Vec}
+use Rattle.std.proofs.Common.{◌≡◌, ℕ, ◌<◌, ◌^◌, List, [], ◌∷◌, ◌++◌, length, get_or, All, Option, None, Some, inl, inr, arith, refl, sym, ap, ◌∙◌, subst, ℤ, pos, neg_ℤ, ◌-ℤ◌, ◌+ℤ◌, ◌≤ℤ◌, unsigned_abs, Vec}
 use Rattle.std.specs.Prelude.{Contains}
 use Rattle.std.proofs.lemmas.Int.{ints}
 use Rattle.std.proofs.lemmas.List.{length-map, get_or_default}
-use Rattle.tv_linear.specs.Linear.{Linear, columns, IsMet, IsWithin, scaled_value}
+use Rattle.tv_linear.specs.Linear.{Linear, columns, IsMet, scaled_value}
 use Rattle.tv_linear.specs.Arithmetic.{denial, unit}
-use Rattle.tv_linear.specs.Fits.{IsHeld, IsNarrowAt}
-use Rattle.tv_linear.specs.Known.{Known, given, denied, known_number, KnownHeld}
+use Rattle.tv_linear.specs.Fits.{IsHeld}
+use Rattle.tv_linear.specs.Known.{given, denied}
 use Rattle.tv_linear.proofs.PlainLists.{length-unit, unit-narrow}
 use Rattle.tv_simplex.specs.Outcomes.{IsShort}
 use Rattle.tv_farkas.specs.Paths.{IsWholePoint, IsPointSplit, at_most_row, at_least_row}
@@ -20,7 +20,7 @@ use Rattle.tv_cover.specs.CoverPaths.{IsLeftOpen, IsShut}
 use Rattle.tv_cover.specs.Halving.{IsBare, AreRowSides}
 use Rattle.tv_cover.proofs.PointLemmas.{all_kept, point_front}
 use Rattle.tv_choice.specs.Leading.{Query, IsServed}
-use Rattle.tv_choice.specs.ChoicePaths.{IsWayRows, IsRowSplit, IsCoordinateSplit, SplitsBy, IsSplit}
+use Rattle.tv_choice.specs.ChoicePaths.{IsWayRows, IsRowSplit, IsCoordinateSplit, SplitsBy}
 use Rattle.tv_choice.specs.Targets.{targets}
 use Rattle.tv_choice.specs.Looking.{AreEntered}
 use Rattle.tv_choice.specs.Same.{SameNumbers}

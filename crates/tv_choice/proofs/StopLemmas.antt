@@ -1,5 +1,5 @@
 -- Covers that show that no case can be taken.
-use Rattle.std.proofs.Common.{◌≡◌, ℕ, zero, suc, ◌+◌, ◌<◌, ◌≤◌, ◌^◌, List, [], ◌∷◌, ◌++◌, length, map, take, drop, get_or, All, Option, None, Some, IsTrue, arith, refl, sym, ap, ◌∙◌, subst, ℤ, pos, unsigned_abs, length-append}
+use Rattle.std.proofs.Common.{◌≡◌, ℕ, zero, suc, ◌+◌, ◌<◌, ◌≤◌, ◌^◌, List, [], ◌∷◌, ◌++◌, length, map, take, drop, get_or, All, IsTrue, arith, refl, sym, ap, ◌∙◌, subst, ℤ, pos, unsigned_abs, length-append}
 use Rattle.std.specs.Prelude.{Contains}
 use Rattle.std.specs.List.{AllZip}
 use Rattle.std.proofs.lemmas.List.{length-map}
@@ -18,13 +18,13 @@ use Rattle.tv_farkas.proofs.StretchLemmas.{short_all}
 use Rattle.tv_cover.specs.Emptying.{IsEmptied, HasNoWholePoint, IsShallow, HasEvenSplits, IsShortEmptied, GivesWhole}
 use Rattle.tv_cover.specs.declared.emptied.Emptied.{Emptied}
 use Rattle.tv_cover.specs.declared.emptied.Emptied.TheVariants as emptied
-use Rattle.tv_cases.specs.LinearCases.{LinearCase, CaseSystem, leaving}
+use Rattle.tv_cases.specs.LinearCases.{LinearCase, leaving}
 use Rattle.tv_cert.specs.Shapes.{CoverShape, owed_count}
 use Rattle.tv_shape.specs.Narrow.{CoverNarrow}
 use Rattle.tv_choice.specs.Rows.{padded_row}
 use Rattle.tv_choice.specs.Same.{AreSame, AreKnown}
-use Rattle.tv_choice.specs.Leading.{Query, Leads, state}
-use Rattle.tv_choice.specs.ChoicePaths.{starting_rows, IsPointHere, start}
+use Rattle.tv_choice.specs.Leading.{Query, state}
+use Rattle.tv_choice.specs.ChoicePaths.{starting_rows, start}
 use Rattle.tv_choice.specs.Stopping.{IsStopTree, IsStart, IsStoppedBy, AreStopTrees, IsLeading}
 use Rattle.tv_choice.proofs.SameLemmas.{known_self, cover_same, same_append, are_same_then, all_same, given_append}
 use Rattle.tv_choice.proofs.FitLemmas.{Contains-leaving}

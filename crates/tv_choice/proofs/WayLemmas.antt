@@ -1,5 +1,5 @@
 -- Rows of cases, and ways made of them.
-use Rattle.std.proofs.Common.{◌≡◌, ℕ, zero, suc, ◌+◌, ◌-◌, ◌<◌, ◌≤◌, ◌^◌, List, [], ◌∷◌, ◌++◌, length, map, get_or, take, drop, drop-cons, All, Some, arith, refl, sym, ap, ◌∙◌, subst, ℤ, pos, neg_ℤ, ◌+ℤ◌, ◌-ℤ◌, ◌*ℤ◌, ◌≤ℤ◌, unsigned_abs, length-append, append_assoc, ◌⊎◌, inl, inr}
+use Rattle.std.proofs.Common.{◌≡◌, ℕ, zero, suc, ◌+◌, ◌-◌, ◌<◌, ◌≤◌, ◌^◌, List, [], ◌∷◌, ◌++◌, length, map, get_or, take, drop, drop-cons, All, Some, arith, refl, sym, ap, ◌∙◌, subst, ℤ, pos, neg_ℤ, ◌+ℤ◌, ◌-ℤ◌, ◌*ℤ◌, ◌≤ℤ◌, length-append, append_assoc, ◌⊎◌, inl, inr}
 use Rattle.std.proofs.Math.Seq.{take-suc}
 use Rattle.std.specs.Prelude.{slice_get, Result, Ok, Err, IfOk}
 use Rattle.std.specs.Result.{IfErr}
@@ -8,7 +8,7 @@ use Rattle.std.proofs.lemmas.Int.{ints}
 use Rattle.std.proofs.lemmas.List.{length-map, get_or_past}
 use Rattle.std.proofs.lemmas.List.Elements.{All-nil, All-cons, All-head, All-tail, All-push, All-append}
 use Rattle.tv_linear.specs.Linear.{Linear, linear, columns, dot, value, IsMet, IsWithin, IsNarrow}
-use Rattle.tv_linear.specs.Arithmetic.{zeros, unit, constant_row, column_row, composed as composed_row}
+use Rattle.tv_linear.specs.Arithmetic.{zeros, unit, column_row, composed as composed_row}
 use Rattle.tv_linear.specs.Fits.{FitsComposed, IsFirstWide, IsFaultWhere}
 use Rattle.tv_linear.specs.declared.fault.RowFault.{RowFault}
 use Rattle.tv_linear.specs.declared.fault.RowFault.TheVariants as row_faults
@@ -18,9 +18,8 @@ use Rattle.tv_linear.specs.Known.{Known, given, composed, as_given, term_value}
 use Rattle.tv_linear.specs.Terms.{table, update_of, terms_after, draw_terms}
 use Rattle.tv_linear.specs.declared.region.Piece.{Piece}
 use Rattle.tv_linear.proofs.PlainLists.{length-unit, length-zeros, get_or-zeros, zeros-narrow}
-use Rattle.tv_linear.proofs.RowValues.{value-column_row, value-denial, value-composed, value-constant_row}
+use Rattle.tv_linear.proofs.RowValues.{value-column_row, value-denial, value-composed}
 use Rattle.tv_farkas.specs.Paths.{at_most_row, at_least_row, IsWholePoint}
-use Rattle.tv_farkas.specs.Refuting.{AreShort}
 use Rattle.tv_cases.specs.EdgeCases.{columns_from}
 use Rattle.tv_cases.specs.Before.{before, rows_after, term_row, FitsTerms}
 use Rattle.tv_cases.specs.LinearCases.{LinearCase, IsCase}
@@ -29,7 +28,7 @@ use Rattle.tv_cert.specs.Choices.{drawn_change, drawn_guards}
 use Rattle.tv_cert.specs.Obligations.{case_change}
 use Rattle.tv_choice.specs.declared.ways.Way.{Way}
 use Rattle.tv_cover.specs.Targets.{IsNarrowRow}
-use Rattle.tv_choice.specs.Rows.{padded_row, fixes, case_rows, put_terms, put_rows, IsWideBefore, IsWidePut}
+use Rattle.tv_choice.specs.Rows.{padded_row, fixes, put_terms, put_rows, IsWideBefore, IsWidePut}
 use Rattle.tv_choice.specs.Same.{SameNumbers, AreSame}
 use Rattle.tv_choice.specs.Leading.{Query, pieces_at, piece_rows}
 use Rattle.tv_choice.specs.ChoicePaths.{AreDrawTerms, IsWayIn}
@@ -386,15 +385,6 @@ column_values n v (suc m) xs e g =
     (λ i. value-column_row n v xs (omega (arith, e)) i ∷ column_values n (suc v) m xs e (omega (arith, g)) i)
     ∙ sym (drop-cons xs v (pos 0) (omega (arith, e, g)))
 
-constant_values : (n : ℕ) (ds xs : List ℤ) → map (λ t. value t xs) (map (constant_row n) ds) ≡ ds
-constant_values n [] xs = refl
-constant_values n (d ∷ ds) xs = (λ i. value-constant_row n d xs i ∷ constant_values n ds xs i)
-
-put_values : (n : ℕ) (ds xs : List ℤ) → length xs ≡ n → map (λ t. value t xs) (put_terms n (map (constant_row n) ds)) ≡ xs ++ ds
-put_values n ds xs e =
-    map-append (λ t. value t xs) (columns_from n 0 n) (map (constant_row n) ds)
-    ∙ (λ i. column_values n 0 n xs e (omega arith) i ++ constant_values n ds xs i)
-
 -- the values that are put in for the columns
 drawn_values : (n : ℕ) (draws : List Linear) (xs : List ℤ) → length xs ≡ n → map (λ t. value t xs) (put_terms n draws) ≡ xs ++ map (λ t. value t xs) draws
 drawn_values n draws xs e =
@@ -410,21 +400,18 @@ put_met n draws xs (r ∷ rows) e h =
     (subst (λ z. z ≤ℤ pos 0) (value-composed r terms xs ∙ ap (value r) (drawn_values n draws xs e)) (All-head (IsMet xs) (composed_row r terms) (put_rows n draws rows) h))
     (put_met n draws xs rows e (All-tail (IsMet xs) (composed_row r terms) (put_rows n draws rows) h))
 
-all_composed_met : (n : ℕ) (ds xs : List ℤ) (rows : List Linear) → length xs ≡ n → All (IsMet (xs ++ ds)) rows → All (IsMet xs) (map (λ r. composed_row r (put_terms n (map (constant_row n) ds))) rows)
-all_composed_met n ds xs [] e h = All-nil (IsMet xs)
-all_composed_met n ds xs (r ∷ rows) e h =
-    let terms = put_terms n (map (constant_row n) ds) in
-    All-cons (IsMet xs) (composed_row r terms) (map (λ r. composed_row r terms) rows)
-    (subst (λ z. z ≤ℤ pos 0) (sym (value-composed r terms xs ∙ ap (value r) (put_values n ds xs e))) (All-head (IsMet (xs ++ ds)) r rows h))
-    (all_composed_met n ds xs rows e (All-tail (IsMet (xs ++ ds)) r rows h))
+-- and the other way
+met_put : (n : ℕ) (draws : List Linear) (xs : List ℤ) (rows : List Linear) → length xs ≡ n → All (IsMet (xs ++ map (λ t. value t xs) draws)) rows → All (IsMet xs) (put_rows n draws rows)
+met_put n draws xs [] e h = All-nil (IsMet xs)
+met_put n draws xs (r ∷ rows) e h =
+    let terms = put_terms n draws in
+    All-cons (IsMet xs) (composed_row r terms) (put_rows n draws rows)
+    (subst (λ z. z ≤ℤ pos 0) (sym (value-composed r terms xs ∙ ap (value r) (drawn_values n draws xs e))) (All-head (IsMet (xs ++ map (λ t. value t xs) draws)) r rows h))
+    (met_put n draws xs rows e (All-tail (IsMet (xs ++ map (λ t. value t xs) draws)) r rows h))
 
--- a way with numbers for the draws is met where the rows of the case are met with them
-pub way_met : (n taken target : ℕ) (rows : List Linear) (ds xs : List ℤ) (w : Way) → length xs ≡ n → All (IsMet (xs ++ ds)) rows → IsWayOf n taken target rows (map (constant_row n) ds) w → All (IsMet xs) w.rows.items
-way_met n taken target rows ds xs w e h m = subst (λ rs. All (IsMet xs) rs) (sym m.made.exact) (all_composed_met n ds xs rows e h)
-
-pub constants_even : (n : ℕ) (ds : List ℤ) → All (λ r. columns r ≡ n) (map (constant_row n) ds)
-constants_even n [] = All-nil (λ r. columns r ≡ n)
-constants_even n (d ∷ ds) = All-cons (λ r. columns r ≡ n) (constant_row n d) (map (constant_row n) ds) (length-zeros n) (constants_even n ds)
+-- a way is met where the rows of the case are met with the values of the terms
+pub way_met : (n taken target : ℕ) (rows draws : List Linear) (xs : List ℤ) (w : Way) → length xs ≡ n → All (IsMet (xs ++ map (λ t. value t xs) draws)) rows → IsWayOf n taken target rows draws w → All (IsMet xs) w.rows.items
+way_met n taken target rows draws xs w e h m = subst (λ rs. All (IsMet xs) rs) (sym m.made.exact) (met_put n draws xs rows e h)
 
 -- ---- what is met before a case
 pub before_met : (n : ℕ) (c : LinearCase) (owed : List Linear) (xs ds : List ℤ) → All (λ r. columns r ≡ n) owed → length xs ≡ n → length ds ≡ c.draws → All (IsMet (map (term_value (xs ++ ds)) (terms_after n c.updates))) owed → All (IsMet (xs ++ ds)) (map (λ r. before r c) owed)
@@ -474,6 +461,13 @@ answered n d rows xs zs e p =
     let t = same_front xs zs (omega (arith, e, w)) (λ j l. ap (λ k. get_or zs k (pos 0)) (let g : j ≡ 0 + j = omega arith in g) ∙ f j l) in
     sym (front_back n zs) ∙ ap (λ ys. ys ++ drop n zs) (ap (λ k. take k zs) (sym e) ∙ t)
 
+pub answered_front : (n d : ℕ) (rows : List Linear) (xs zs : List ℤ) → length xs ≡ n → IsWholePoint (n + d) (fixes (n + d) 0 xs ++ rows) zs → take n zs ≡ xs
+answered_front n d rows xs zs e p = ap (λ k. take k zs) (sym e) ∙ ap (take (length xs)) (answered n d rows xs zs e p) ∙ take_all xs (drop n zs)
+  where
+    take_all : (ys later : List ℤ) → take (length ys) (ys ++ later) ≡ ys
+    take_all [] later = refl
+    take_all (y ∷ ys) later = ap (λ k. y ∷ k) (take_all ys later)
+
 pub answered_met : (n d : ℕ) (rows : List Linear) (xs zs : List ℤ) → length xs ≡ n → IsWholePoint (n + d) (fixes (n + d) 0 xs ++ rows) zs → All (IsMet (xs ++ drop n zs)) rows
 answered_met n d rows xs zs e p = subst (λ ys. All (IsMet ys) rows) (answered n d rows xs zs e p) (all_behind (IsMet zs) (fixes (n + d) 0 xs) rows p.met)
 
@@ -484,14 +478,6 @@ length-drop (suc n) d (z ∷ zs) e = length-drop n d zs (omega (arith, e))
 
 pub asked_even : (n : ℕ) (c : LinearCase) (owed rows : List Linear) (xs : List ℤ) → AreCaseRows n c owed rows → All (λ r. columns r ≡ n + c.draws) (fixes (n + c.draws) 0 xs ++ rows)
 asked_even n c owed rows xs h = All-append (λ r. columns r ≡ n + c.draws) (fixes (n + c.draws) 0 xs) rows (fixes_even (n + c.draws) 0 xs) h.even
-
-short_behind : (n : ℕ) (zs : List ℤ) → ((j : ℕ) → j < length zs → unsigned_abs (get_or zs j (pos 0)) < 2 ^ 62) → (j : ℕ) → j < length (drop n zs) → unsigned_abs (get_or (drop n zs) j (pos 0)) < 2 ^ 62
-short_behind zero zs h j l = h j l
-short_behind (suc n) [] h j l = absurd (omega (arith, l))
-short_behind (suc n) (z ∷ zs) h j l = short_behind n zs (λ i k. h (suc i) (omega (arith, k))) j l
-
-pub short_back : (n : ℕ) (zs : List ℤ) → AreShort zs → AreShort (drop n zs)
-short_back n zs h = short_behind n zs h
 
 pub padded_narrow : (cs : List ℤ) (k : ℤ) (m w : ℕ) → IsNarrow (linear cs k) → length cs + m ≡ w → w < 2 ^ 32 - 1 → IsNarrow (linear (cs ++ zeros m) (pos 0))
 padded_narrow cs k m w h e l = record {

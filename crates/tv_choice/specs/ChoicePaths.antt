@@ -1,8 +1,8 @@
 -- The paths of a choice: which rows it splits at, and which questions it asks at the end of a path.
-use Rattle.std.specs.Prelude.{◌≡◌, ◌⊎◌, ℕ, ◌+◌, List, [], ◌∷◌, ◌++◌, map, take, drop, All, ℤ, Option, None, Some, Vec, IsTrue}
+use Rattle.std.specs.Prelude.{◌≡◌, ◌⊎◌, ℕ, ◌+◌, ◌<◌, List, [], ◌∷◌, ◌++◌, length, map, take, drop, get_or, All, ℤ, pos, neg_ℤ, Option, None, Some, Vec, IsTrue}
 use Rattle.std.specs.List.{Contains}
-use Rattle.tv_linear.specs.Linear.{Linear, columns, IsMet}
-use Rattle.tv_linear.specs.Arithmetic.{denial, constant_row}
+use Rattle.tv_linear.specs.Linear.{Linear, columns, value, IsMet}
+use Rattle.tv_linear.specs.Arithmetic.{unit, opposite, denial, constant_row}
 use Rattle.tv_linear.specs.declared.region.Piece.{Piece}
 use Rattle.tv_farkas.specs.declared.branch.Branch.{Branch}
 use Rattle.tv_farkas.specs.Paths.{IsWholePoint, IsPointSplit, IsPath}
@@ -12,7 +12,7 @@ use Rattle.tv_cover.specs.Targets.{HasPoint, IsNarrowRow}
 use Rattle.tv_cover.specs.CoverPaths.{IsLeftOpen, IsShut}
 use Rattle.tv_choice.specs.Rows.{padded_row, fixes, case_rows, put_rows}
 use Rattle.tv_choice.specs.Leading.{Query, IsServed, IsEntry, piece_rows}
-use Rattle.tv_choice.specs.Targets.{draw_choices, targets}
+use Rattle.tv_choice.specs.Targets.{front, draw_choices, targets}
 
 -- the rows above over the variables and the draws of a case, and its guards
 abbrev pub starting_rows : List Linear → LinearCase → List Linear
@@ -28,11 +28,25 @@ pub data IsPointHere (n : ℕ) (q : Query) (above : List Linear) : List ℤ → 
   own : (xs : List ℤ) → IsWholePointOf n above xs → IsPointHere n q above xs
   start : (c : LinearCase) (zs : List ℤ) → IsTrue q.stop → Contains q.system.cases c → c.from ≡ q.location → IsWholePointOf (n + c.draws) (starting_rows above c) zs → IsPointHere n q above (take n zs)
 
--- Terms for the draws of a case that is taken into a piece: those that its rows give, or numbers, which are those of a whole point from
--- which the case leads there; the values of the variables were taken at these rows or at some before them.
+-- the term that a row over n variables and d draws gives for draw j, at which it has 1 or -1, where it has 0 at the others
+abbrev pub GivesAlone : ℕ → ℕ → Linear → ℕ → Linear → Type 0
+GivesAlone n d r j t = ((drop n r.coefficients ≡ unit d j) × (t ≡ opposite (front n r))) ⊎ ((drop n r.coefficients ≡ map neg_ℤ (unit d j)) × (t ≡ front n r))
+
+-- a term for draw j at a whole point of the variables and d draws: its number there, or the term that a row gives whose value there is 0
+pub data IsTermAt (n d : ℕ) (rows : List Linear) (zs : List ℤ) (j : ℕ) : Linear → Type 0 where
+  number : IsTermAt n d rows zs j (constant_row n (get_or zs (n + j) (pos 0)))
+  tight : (r t : Linear) → Contains rows r → GivesAlone n d r j t → value r zs ≡ pos 0 → IsTermAt n d rows zs j t
+
+-- a term for each draw
+pub record AreTermsAt (n d : ℕ) (rows : List Linear) (zs : List ℤ) (draws : List Linear) : Type 0 where
+  pub many : length draws ≡ d
+  pub each : (j : ℕ) (other : Linear) → j < d → IsTermAt n d rows zs j (get_or draws j other)
+
+-- Terms for the draws of a case that is taken into a piece: those that its rows give, or terms at a whole point from which the case leads
+-- there; the values of the variables were taken at these rows or at some before them.
 pub data AreDrawTerms (n : ℕ) (q : Query) (above : List Linear) (c : LinearCase) (p : Piece) : List Linear → Type 0 where
   by_rows : (draws : List Linear) → Contains (draw_choices c.draws n (case_rows c (piece_rows p))) draws → AreDrawTerms n q above c p draws
-  numbers : (earlier later : List Linear) (xs zs : List ℤ) → above ≡ earlier ++ later → IsPointHere n q earlier xs → IsWholePointOf (n + c.draws) (stepping_rows n xs c p) zs → AreDrawTerms n q above c p (map (constant_row n) (drop n zs))
+  at_point : (draws earlier later : List Linear) (xs zs : List ℤ) → above ≡ earlier ++ later → IsPointHere n q earlier xs → IsWholePointOf (n + c.draws) (stepping_rows n xs c p) zs → AreTermsAt n c.draws (case_rows c (piece_rows p)) zs draws → AreDrawTerms n q above c p draws
 
 -- The case is from the location, and the piece stands at its end. The rows of the case, and those of the piece read before it, have a
 -- column for each variable and each draw, and they are narrow.

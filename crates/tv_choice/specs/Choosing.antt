@@ -1,5 +1,5 @@
 -- What a choice gives.
-use Rattle.std.specs.Prelude.{◌≡◌, ℕ, ◌≤◌, List, length, ℤ, Bool}
+use Rattle.std.specs.Prelude.{ℕ, ◌≤◌, List, ℤ, Bool}
 use Rattle.tv_linear.specs.Linear.{Linear}
 use Rattle.tv_linear.specs.Known.{Known}
 use Rattle.tv_linear.specs.ChoiceDepth.{choice_splits}

@@ -4,9 +4,8 @@ use Rattle.tv_linear.specs.Linear.{Linear, columns, IsMet, IsNarrow}
 use Rattle.tv_linear.specs.Known.{Known, given, denied}
 use Rattle.tv_linear.specs.ChoiceDepth.{choice_splits}
 use Rattle.tv_linear.specs.declared.choice.ChoiceTree.{ChoiceTree, Split', Empty, NoStep, Take}
-use Rattle.tv_farkas.specs.Paths.{IsWholeAt, IsWholePoint}
+use Rattle.tv_farkas.specs.Paths.{IsWholePoint}
 use Rattle.tv_farkas.specs.Refuting.{AreShort}
-use Rattle.tv_farkas.specs.Judging.{IsPointAt}
 use Rattle.tv_farkas.specs.declared.branch.Branch.{Branch}
 use Rattle.tv_farkas.specs.declared.splitting.Halves.{Halves}
 use Rattle.tv_farkas.specs.declared.fault.CoverFault.{CoverFault}

@@ -8,8 +8,9 @@ use Rattle.tv_cases.specs.LinearCases.{LinearCase}
 use Rattle.tv_choice.specs.declared.stepping.Standing.{Standing}
 use Rattle.tv_choice.specs.declared.ways.Way.{Way}
 use Rattle.tv_choice.specs.Leading.{Query, pieces_at, piece_rows}
-use Rattle.tv_choice.specs.ChoicePaths.{IsPointHere}
-use Rattle.tv_choice.specs.Ways.{IsWay}
+use Rattle.tv_choice.specs.ChoicePaths.{IsPointHere, AreTermsAt}
+use Rattle.tv_choice.specs.Rows.{put_terms, IsWidePut}
+use Rattle.tv_choice.specs.Ways.{IsWayOf, IsWay}
 
 -- whole values that are taken at the rows, and how many splits are left
 pub record IsStanding (n : ℕ) (q : Query) (s : Standing) : Type 0 where
@@ -17,6 +18,18 @@ pub record IsStanding (n : ℕ) (q : Query) (s : Standing) : Type 0 where
   pub size : length s.point.now ≡ n
   pub short : AreShort s.point.now
   pub here : IsPointHere n q s.rows.now s.point.now
+
+-- the way of these rows of a case, with terms for its draws at a whole point
+pub record IsWayAt (n d taken target : ℕ) (rows : List Linear) (zs : List ℤ) (w : Way) : Type 0 where
+  pub draws : List Linear
+  pub terms : AreTermsAt n d rows zs draws
+  pub made : IsWayOf n taken target rows draws w
+
+-- with such terms put in the first of these rows that does not fit is too wide at the column
+pub record IsWideAtPoint (n d : ℕ) (rows : List Linear) (zs : List ℤ) (column : ℕ) : Type 0 where
+  pub draws : List Linear
+  pub terms : AreTermsAt n d rows zs draws
+  pub wide : IsWidePut (put_terms n draws) rows column
 
 -- with no whole draws the case leads from the point into the piece
 abbrev pub NoStepTo : ℕ → List ℤ → LinearCase → Piece → Type 0

@@ -300,8 +300,9 @@ fn settle_side(
 /// case with the coefficient 1 or -1 gives the term. Else it splits at a row of a way of which each row is met by some point,
 /// and settles the side where the row is denied first. Where each way is excluded, it takes a whole point of the rows, and
 /// splits below and above the first coordinate of their point that is not whole (the branching of integer programming, after
-/// Land and Doig 1960). From the whole point it looks for whole draws by which some case leads into a piece: with these
-/// numbers for the draws the case is a further way, and else the point is a hole.
+/// Land and Doig 1960). From the whole point it looks for whole draws by which some case leads into a piece: with a term for
+/// each draw the case is a further way, and else the point is a hole. That term is of a row of the case with the coefficient 1
+/// or -1 at the draw, and 0 at the others, whose value there is 0, and where there is none it is the number.
 ///
 /// `Splits`, `Solve` and `Wide` come where the budget, the solver or the width of a row that is made end the search.
 pub fn choose(

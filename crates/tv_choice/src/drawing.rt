@@ -1,11 +1,15 @@
 // Terms for draws.
 
-ghost use Rattle.std.specs.Prelude.{◌≡◌, ◌+◌, ◌-◌, ◌^◌, ◌<◌, ◌++◌, ◌∷◌, [], All, map, IfOk};
-ghost use Rattle.tv_linear.specs.Linear.{columns as width};
+ghost use Rattle.std.specs.Prelude.{◌≡◌, ◌+◌, ◌-◌, ◌^◌, ◌<◌, ◌++◌, ◌∷◌, [], All, length, map, pos, IfOk, IfSome, IsTrue};
+ghost use Rattle.tv_linear.specs.Linear.{columns as width, value};
+ghost use Rattle.tv_farkas.specs.Refuting.{AreShort};
+ghost use Rattle.tv_choice.specs.ChoicePaths.{GivesAlone, IsTermAt, AreTermsAt};
 ghost use Rattle.tv_choice.specs.Targets.{front, term_of, one_term, terms_given, draw_choices};
 
+use crate::lists::number_row;
 use std::alloc::{AllocError, Global};
-use tv_linear::Row;
+use tv_linear::sums::{Listed, dot_from};
+use tv_linear::{Row, held};
 use tv_simplex::push_item;
 
 /// The row without its columns from `columns` on.
@@ -84,4 +88,94 @@ pub fn draw_choices(
         push_item(&mut lists, Vec::new(alloc))?;
     }
     Ok(lists)
+}
+
+/// Whether the value of a row at the numbers is found to be 0.
+fn is_tight(row: &Row, values: &[i128]) -> bool
+    requires { length values.now ≡ width row.now }
+    ensures { IsTrue result → value row.now values.now ≡ pos 0 }
+{
+    match dot_from(0, row.coefficients(), &Listed(values)) {
+        None => false,
+        Some(total) => match held::sum(total, row.constant()) {
+            None => false,
+            Some(value) => value == 0,
+        },
+    }
+}
+
+/// The term that a row gives for one of so many draws, where it has the coefficient 1 or -1 at it and 0 at the others.
+fn term_alone(
+    alloc: Global,
+    row: &Row,
+    columns: u32,
+    draws: u32,
+    draw: u32,
+) -> Result<Option<Row>, AllocError>
+    requires few { draws < 2 ^ 32 - 1 }
+    requires inside { draw < draws }
+    requires even { width row.now ≡ columns + draws }
+    ensures { IfOk result (λ o. IfSome o (GivesAlone columns draws row.now draw)) }
+{
+    let unit = Row::column(alloc, draws, draw)?;
+    let (_, part) = row.coefficients().split_at(columns as usize);
+    if part == unit.coefficients() {
+        let rest = front(alloc, row, columns)?;
+        return Ok(Some(rest.opposite(alloc)?));
+    }
+    let opposite = unit.opposite(alloc)?;
+    if part == opposite.coefficients() {
+        return Ok(Some(front(alloc, row, columns)?));
+    }
+    Ok(None)
+}
+
+/// The term for a draw at a whole point: that of the first row whose value there is 0 and that gives one, and else its number there.
+fn term_for(
+    alloc: Global,
+    rows: &[Row],
+    columns: u32,
+    draws: u32,
+    draw: u32,
+    values: &[i128],
+) -> Result<Row, AllocError>
+    requires few { columns + draws < 2 ^ 32 - 1 }
+    requires inside { draw < draws }
+    requires even { All (λ r. width r ≡ columns + draws) rows.now }
+    requires size { length values.now ≡ columns + draws }
+    requires short { AreShort values.now }
+    ensures { IfOk result (IsTermAt columns draws rows.now values.now draw) }
+{
+    'rows: for row in rows {
+        if is_tight(row, values) {
+            if let Some(term) = term_alone(alloc, row, columns, draws, draw)? {
+                return Ok(term);
+            }
+        }
+    }
+    number_row(alloc, columns, values[(columns + draw) as usize])
+}
+
+/// A term for each of so many draws at a whole point.
+pub fn terms_at(
+    alloc: Global,
+    rows: &[Row],
+    columns: u32,
+    draws: u32,
+    values: &[i128],
+) -> Result<Vec<Row>, AllocError>
+    requires few { columns + draws < 2 ^ 32 - 1 }
+    requires even { All (λ r. width r ≡ columns + draws) rows.now }
+    requires size { length values.now ≡ columns + draws }
+    requires short { AreShort values.now }
+    ensures { IfOk result (λ v. AreTermsAt columns draws rows.now values.now v.items) }
+{
+    let mut terms = Vec::new(alloc);
+    'draws: for draw in 0..draws {
+        push_item(
+            &mut terms,
+            term_for(alloc, rows, columns, draws, draw, values)?,
+        )?;
+    }
+    Ok(terms)
 }

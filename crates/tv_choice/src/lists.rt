@@ -77,7 +77,7 @@ pub fn fixing(alloc: Global, columns: u32, values: &[i128]) -> Result<Vec<Row>, 
 }
 
 /// The row of a number.
-fn number_row(alloc: Global, columns: u32, number: i128) -> Result<Row, AllocError>
+pub fn number_row(alloc: Global, columns: u32, number: i128) -> Result<Row, AllocError>
     requires few { columns < 2 ^ 32 - 1 }
     requires narrow { IsWithin 62 number }
     ensures { IfOk result (λ row. row ≡ constant_row columns number) }
@@ -85,17 +85,4 @@ fn number_row(alloc: Global, columns: u32, number: i128) -> Result<Row, AllocErr
     let zero = Row::zero(alloc, columns)?;
     let row = zero.with_constant(alloc, number)?;
     Ok(row)
-}
-
-/// The rows of numbers.
-pub fn number_rows(alloc: Global, columns: u32, numbers: &[i128]) -> Result<Vec<Row>, AllocError>
-    requires few { columns < 2 ^ 32 - 1 }
-    requires short { AreShort numbers.now }
-    ensures { IfOk result (λ v. v.items ≡ map (constant_row columns) numbers.now) }
-{
-    let mut rows = Vec::new(alloc);
-    'numbers: for place in 0..numbers.len() {
-        push_item(&mut rows, number_row(alloc, columns, numbers[place])?)?;
-    }
-    Ok(rows)
 }

@@ -1,19 +1,19 @@
 // Whether some step leads from a whole point into the pieces.
 
-ghost use Rattle.std.specs.Prelude.{◌≡◌, ◌+◌, ◌-◌, ◌^◌, ◌<◌, ◌≤◌, ◌++◌, All, length, map, IfOk, slice_get, Some};
+ghost use Rattle.std.specs.Prelude.{◌≡◌, ◌+◌, ◌-◌, ◌^◌, ◌<◌, ◌≤◌, ◌++◌, All, length, IfOk, slice_get, Some};
 ghost use Rattle.std.specs.Result.{IfErr};
 ghost use Rattle.tv_linear.specs.Linear.{columns as width};
-ghost use Rattle.tv_linear.specs.Arithmetic.{constant_row};
 ghost use Rattle.tv_farkas.specs.Refuting.{AreShort};
 ghost use Rattle.tv_cases.specs.LinearCases.{IsCase};
 ghost use Rattle.tv_cases.specs.Views.{case_view};
 ghost use Rattle.tv_choice.specs.Asked.{query_of};
 ghost use Rattle.tv_choice.specs.Refusals.{IsFaultHere};
-ghost use Rattle.tv_choice.specs.Rows.{fixes, put_terms, IsWidePut};
-ghost use Rattle.tv_choice.specs.Ways.{IsEntered, IsWayOf, IsUnmade};
-ghost use Rattle.tv_choice.specs.Stepping.{IsStanding, IsStepTo, IsStepBy, IsStepInto};
+ghost use Rattle.tv_choice.specs.Rows.{fixes};
+ghost use Rattle.tv_choice.specs.Ways.{IsEntered, IsUnmade};
+ghost use Rattle.tv_choice.specs.Stepping.{IsWayAt, IsWideAtPoint, IsStanding, IsStepTo, IsStepBy, IsStepInto};
 
-use crate::lists::{copy_onto, fixing, number_rows};
+use crate::drawing::terms_at;
+use crate::lists::{copy_onto, fixing};
 use crate::pieces::piece_at;
 use crate::question::Question;
 use crate::ways::{Entry, Way, case_rows, way_of};
@@ -48,25 +48,33 @@ fn stepping_rows(
     Ok(all)
 }
 
-/// The way of these rows of a case, with numbers for the draws.
-fn numbered(
+/// The way of these rows of a case, with terms for the draws at a whole point.
+fn way_at(
     question: &Question,
     entry: &Entry,
     rows: &[Row],
-    numbers: &[i128],
+    values: &[i128],
 ) -> Result<Way, CoverFault>
-    requires each { All (λ r. width r ≡ question.now.columns + length numbers.now) rows.now }
-    requires short { AreShort numbers.now }
+    requires few { question.now.columns + entry.now.case.now.draws < 2 ^ 32 - 1 }
+    requires even { All (λ r. width r ≡ question.now.columns + entry.now.case.now.draws) rows.now }
+    requires size { length values.now ≡ question.now.columns + entry.now.case.now.draws }
+    requires short { AreShort values.now }
     ensures way { let n = question.now.columns in
-        IfOk result (IsWayOf n entry.now.taken entry.now.target rows.now (map (constant_row n) numbers.now)) }
+        let d = entry.now.case.now.draws in
+        IfOk result (IsWayAt n d entry.now.taken entry.now.target rows.now values.now) }
     ensures refusals { let n = question.now.columns in
-        IfErr result (IsUnmade (IsWidePut (put_terms n (map (constant_row n) numbers.now)) rows.now)) }
+        let d = entry.now.case.now.draws in
+        IfErr result (IsUnmade (IsWideAtPoint n d rows.now values.now)) }
 {
-    let draws = number_rows(question.alloc, question.columns, numbers)?;
-    way_of(question.alloc, question.columns, entry, rows, draws)
+    let draws = entry.case.draws;
+    let terms = terms_at(question.alloc, rows, question.columns, draws, values)?;
+    match way_of(question.alloc, question.columns, entry, rows, terms) {
+        Err(fault) => Err(fault),
+        Ok(way) => Ok(way),
+    }
 }
 
-/// The way by a case into a piece that a whole point has, with numbers for the draws, if there is one.
+/// The way by a case into a piece that a whole point has, if there is one.
 fn step_to(
     question: &Question,
     standing: &Standing,
@@ -96,13 +104,10 @@ fn step_to(
     match empty(alloc, &all, width, &budget) {
         Err(fault) => Err(fault),
         Ok(Emptied::Tree(_)) => Ok(None),
-        Ok(Emptied::Whole(values)) => {
-            let (_, numbers) = values.split_at(question.columns as usize);
-            match numbered(question, entry, &rows, numbers) {
-                Err(fault) => Err(fault),
-                Ok(way) => Ok(Some(way)),
-            }
-        }
+        Ok(Emptied::Whole(values)) => match way_at(question, entry, &rows, &values) {
+            Err(fault) => Err(fault),
+            Ok(way) => Ok(Some(way)),
+        },
     }
 }
 
@@ -140,7 +145,7 @@ fn step_by(
     Ok(None)
 }
 
-/// A way that a whole point has, with numbers for the draws, if some step leads from it into the pieces.
+/// A way that a whole point has, if some step leads from it into the pieces.
 pub fn step_into(question: &Question, standing: &Standing) -> Result<Option<Way>, CoverFault>
     requires standing { IsStanding question.now.columns (query_of question.now) standing.now }
     ensures step { let s = standing.now in

@@ -22,7 +22,7 @@ use Rattle.tv_cover.specs.Targets.{AreEven, IsNarrowRow}
 use Rattle.tv_choice.specs.Rows.{padded_row, fixes, case_rows, put_terms, put_rows}
 use Rattle.tv_choice.specs.Leading.{Query, IsServed, IsEntry, place_of, piece_rows, pieces_at}
 use Rattle.tv_choice.specs.Targets.{front, term_by, term_of, one_term, terms_given, draw_choices, IsFirstWidePut, with_these, with_later, IsWideInto, reading, putting, IsFirstWideInto, into_this, into_later, IsFirstWideFrom, by_this, by_later}
-use Rattle.tv_choice.specs.ChoicePaths.{starting_rows, stepping_rows, IsPointHere, own as own_point, start as start_point, AreDrawTerms, by_rows, numbers, IsWayIn, IsWayRows, SplitsBy, IsSplit, IsChoicePath, IsInner, starting, stepping}
+use Rattle.tv_choice.specs.ChoicePaths.{starting_rows, stepping_rows, IsPointHere, own as own_point, start as start_point, AreDrawTerms, by_rows, at_point, IsTermAt, number as number_there, tight as tight_there, IsWayIn, IsWayRows, SplitsBy, IsSplit, IsChoicePath, IsInner, starting, stepping}
 use Rattle.tv_choice.specs.Refusals.{IsTried, IsUnsolvedHere, place as at_place, tried as with_tried, inner as of_inner, IsWideHere, entering, drawing, denying, IsWideChoice, target, behind, IsChoiceFault}
 use Rattle.tv_choice.proofs.PieceLemmas.{true_test}
 use Rattle.tv_derived.specs.Scopes.{Scope, scope, at_location, over_case, width_at, with_more, Placed}
@@ -58,6 +58,14 @@ split_row (suc n) (c ∷ cs) z l e = ap (λ xs. c ∷ xs) (split_row n cs z (ome
 
 with_one : (n : ℕ) (r : Linear) (z : ℤ) → columns r ≡ n + 1 → get_or r.coefficients n (pos 0) ≡ z → r ≡ with_more (front n r) (z ∷ [])
 with_one n r z l e = ap (λ cs. linear cs r.constant) (split_row n r.coefficients z l e)
+
+row_with : (n : ℕ) (r : Linear) (part : List ℤ) → drop n r.coefficients ≡ part → r ≡ with_more (front n r) part
+row_with n r part e = ap (λ cs. linear cs r.constant) (sym (front_back n r.coefficients) ∙ ap (λ cs. take n r.coefficients ++ cs) e)
+  where
+    front_back : (n : ℕ) (cs : List ℤ) → take n cs ++ drop n cs ≡ cs
+    front_back zero cs = refl
+    front_back (suc n) [] = refl
+    front_back (suc n) (c ∷ cs) = ap (λ ds. c ∷ ds) (front_back n cs)
 
 -- what the coefficient at the draw gives
 data GivesTerm (n : ℕ) (r : Linear) : Linear → Type 0 where
@@ -130,21 +138,6 @@ get_or-take zero zs j l = absurd (omega (arith, l))
 get_or-take (suc n) [] j l = refl
 get_or-take (suc n) (z ∷ zs) zero l = refl
 get_or-take (suc n) (z ∷ zs) (suc j) l = get_or-take n zs j (omega (arith, l))
-
-get_or-drop : (n : ℕ) (zs : List ℤ) (j : ℕ) → get_or (drop n zs) j (pos 0) ≡ get_or zs (n + j) (pos 0)
-get_or-drop zero zs j = ap (λ k. get_or zs k (pos 0)) (let g : j ≡ 0 + j = omega arith in g)
-get_or-drop (suc n) [] j = refl
-get_or-drop (suc n) (z ∷ zs) j = get_or-drop n zs j ∙ ap (λ k. get_or (z ∷ zs) k (pos 0)) (let g : suc (n + j) ≡ suc n + j = omega arith in g)
-
-get_or-map : (n : ℕ) (ds : List ℤ) (j : ℕ) (d : Linear) → j < length ds → get_or (map (constant_row n) ds) j d ≡ constant_row n (get_or ds j (pos 0))
-get_or-map n [] j d l = absurd (omega (arith, l))
-get_or-map n (x ∷ ds) zero d l = refl
-get_or-map n (x ∷ ds) (suc j) d l = get_or-map n ds j d (omega (arith, l))
-
-length-drop : (n d : ℕ) (zs : List ℤ) → length zs ≡ n + d → length (drop n zs) ≡ d
-length-drop zero d zs e = e ∙ (let g : 0 + d ≡ d = omega arith in g)
-length-drop (suc n) d [] e = absurd (omega (arith, e))
-length-drop (suc n) d (z ∷ zs) e = length-drop n d zs (omega (arith, e))
 
 length-take : (n : ℕ) (zs : List ℤ) → length (take n zs) ≤ n
 length-take zero zs = omega arith
@@ -268,20 +261,23 @@ module _ (about : CaseSystem) (base : List Placed) (h l : ℕ) (stop : Bool) (pi
 
   terms_of : (above : List Linear) (c : LinearCase) (p : Piece) (draws : List Linear) → AreListed about base (at_location l) (suc h) above → IsWayIn about.variables (asked_of about l stop pieces) c p → AreDrawTerms about.variables (asked_of about l stop pieces) above c p draws → AreTerms c draws
   terms_of above c p draws listed w (by_rows ds among) = terms_by c.draws c p ds refl w among
-  terms_of above c p draws listed w (numbers earlier later xs zs e here whole) = record {
-    many = length-map (drop about.variables zs) (constant_row about.variables) ∙ many;
-    each = λ j i. subst (λ t. IsDrawTerm about base (over_case c) (suc h) j t)
-        (sym (get_or-map about.variables (drop about.variables zs) j (false_row 0) (omega (arith, many, i)) ∙ ap (constant_row about.variables) (get_or-drop about.variables zs j)))
-        (term_value j (stepping_rows about.variables xs c p) zs (stepping_listed earlier c p xs before_listed w here) whole);
+  terms_of above c p draws listed w (at_point ds earlier later xs zs e here whole terms) = record {
+    many = terms.many;
+    each = λ j i. term_at j (get_or ds j (false_row 0)) (terms.each j (false_row 0) i);
   }
     where
-      many : length (drop about.variables zs) ≡ c.draws
-      many = length-drop about.variables c.draws zs whole.as_many
-
       before_listed : AreListed about base (at_location l) (suc h) earlier
       before_listed r of = listed r (subst (λ rs. Contains rs r) (sym e) (Contains-append_left earlier later r of))
 
-  -- ---- rows of ways
+      term_at : (j : ℕ) (t : Linear) → IsTermAt about.variables c.draws (case_rows c (piece_rows p)) zs j t → IsDrawTerm about base (over_case c) (suc h) j t
+      term_at j t number_there = term_value j (stepping_rows about.variables xs c p) zs (stepping_listed earlier c p xs before_listed w here) whole
+      term_at j t (tight_there r s among (inl (part, is)) v) =
+          subst (λ x. IsDrawTerm about base (over_case c) (suc h) j x) (sym is)
+          (term_below j (front about.variables r) (subst (λ x. IsDerived about base (over_case c) (suc h) x) (row_with about.variables r (unit c.draws j) part) (case_derived c p w r among)))
+      term_at j t (tight_there r s among (inr (part, is)) v) =
+          subst (λ x. IsDrawTerm about base (over_case c) (suc h) j x) (sym is)
+          (term_above j (front about.variables r) (subst (λ x. IsDerived about base (over_case c) (suc h) x) (row_with about.variables r (map neg_ℤ (unit c.draws j)) part) (case_derived c p w r among)))
+
   way_derived : (above rows : List Linear) (r : Linear) → AreListed about base (at_location l) (suc h) above → IsWayRows about.variables (asked_of about l stop pieces) above rows → Contains rows r → IsDerived about base (at_location l) (suc h) r
   way_derived above rows r listed w among =
       let c = w.case in

@@ -1,5 +1,5 @@
-use Rattle.std.proofs.Common.{◌≡◌, ◌∙◌, ◌+◌, ◌-◌, ◌++◌, ◌∷◌, List, [], All, length, map, get_or, subst, sym, ap, refl, arith, pos, None, Some, ℕ, zero, suc, ℤ, inl, inr}
-use Rattle.std.specs.Prelude.{Contains, Bool, true, false, IsTrue}
+use Rattle.std.proofs.Common.{◌≡◌, ◌∙◌, ◌+◌, ◌-◌, ◌++◌, ◌∷◌, List, [], length, map, get_or, subst, sym, refl, arith, None, Some, ℕ, zero, suc}
+use Rattle.std.specs.Prelude.{Bool, true, false, IsTrue}
 use Rattle.std.specs.Result.{IfErr, IfOk}
 use Rattle.std.specs.Int.{w128}
 use Rattle.std.proofs.lemmas.Int.{to_z-of_z}
@@ -18,13 +18,13 @@ use Rattle.tv_choice.specs.Asked.{query_of}
 use Rattle.tv_choice.specs.ChoicePaths.{IsWayRows}
 use Rattle.tv_choice.specs.declared.looking.Look.TheVariants as looks
 use Rattle.tv_choice.specs.declared.looking.Best.TheVariants as best
-use Rattle.tv_choice.specs.Looking.{IsLookFault, IsAt, AreShown, IsLook, IsBest, IsOpen, NoneShown}
+use Rattle.tv_choice.specs.Looking.{IsLookFault, IsAt, AreShown, IsLook, IsBest, NoneShown}
 use Rattle.tv_choice.specs.Ways.{way_rows, IsWay, AreWays}
 use Rattle.tv_choice.specs.Stepping.{IsStepInto}
 use Rattle.tv_choice.specs.Stopping.{IsStopped}
 use Rattle.tv_choice.specs.Refusals.{IsWideHere, denying, IsChoiceFault}
 use Rattle.tv_cover.specs.Trying.{IsWideIn}
-use Rattle.tv_choice.specs.Settling.{IsFound, IsTreeAt, IsSplitOf}
+use Rattle.tv_choice.specs.Settling.{IsFound, IsSplitOf}
 use Rattle.tv_choice.proofs.WayLemmas.{at_of}
 use Rattle.tv_choice.proofs.LookLemmas.{at_end, look_other, way_is_rows, not_shown, none_more}
 use Rattle.tv_choice.proofs.RefusalLemmas.{judge_fault, look_fault, here_fault, side_refused, ways_longer}

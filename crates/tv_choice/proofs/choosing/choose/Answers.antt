@@ -1,13 +1,11 @@
-use Rattle.std.proofs.Common.{◌≡◌, ◌∙◌, [], subst, sym, ap, length}
-use Rattle.tv_linear.specs.declared.region.Piece.{Piece}
-use Rattle.tv_linear.specs.declared.choice.ChoiceTree.{ChoiceTree}
+use Rattle.std.proofs.Common.{◌≡◌, ◌∙◌, [], subst, sym}
 use Rattle.tv_cases.specs.Systems.{cases_of}
 use Rattle.tv_farkas.proofs.PathLemmas.{append-nil}
 use Rattle.tv_choice.specs.Leading.{Query, piece_rows}
 use Rattle.tv_choice.specs.Choosing.{query}
 use Rattle.tv_choice.specs.Refusals.{IsChoiceFault}
 use Rattle.tv_choice.specs.Targets.{targets, IsWideTarget}
-use Rattle.tv_choice.specs.Ways.{AreWays, IsUnmade, lists_of}
+use Rattle.tv_choice.specs.Ways.{IsUnmade}
 use Rattle.tv_choice.specs.Settling.{IsFound, IsTreeAt}
 use Rattle.tv_choice.proofs.SameLemmas.{known_of}
 use Rattle.tv_choice.proofs.RefusalLemmas.{way_longer, target_fault}

@@ -1,4 +1,4 @@
-use Rattle.std.proofs.Common.{◌++◌, ◌∙◌, ◌+◌, subst, sym, refl, arith, ap, pos}
+use Rattle.std.proofs.Common.{◌++◌, ◌∙◌, subst, sym, refl, ap, pos}
 use Rattle.tv_linear.specs.Linear.{linear, IsNarrow}
 use Rattle.tv_choice.proofs.WayLemmas.{padded_narrow}
 use Rattle.tv_choice.proofs.lists.padded.Goals as goal

@@ -1,4 +1,4 @@
-use Rattle.std.proofs.Common.{◌≡◌, ◌∙◌, ◌∷◌, [], ◌++◌, subst, sym, ap}
+use Rattle.std.proofs.Common.{◌∙◌, subst}
 use Rattle.tv_farkas.specs.Judging.{IsJudged}
 use Rattle.tv_choice.specs.Asked.{query_of}
 use Rattle.tv_choice.specs.Looking.{no_wide}

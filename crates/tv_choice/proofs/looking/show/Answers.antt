@@ -6,8 +6,7 @@ use Rattle.tv_linear.specs.Arithmetic.{denial}
 use Rattle.tv_linear.specs.Fits.{IsNarrowAt}
 use Rattle.tv_linear.specs.Known.{as_given}
 use Rattle.tv_linear.specs.Refutation.{Refutes}
-use Rattle.tv_farkas.specs.Judging.{IsJudged, IsJudgeFault}
-use Rattle.tv_farkas.specs.declared.judged.Judged.TheVariants as judged
+use Rattle.tv_farkas.specs.Judging.{IsJudged}
 use Rattle.tv_cover.specs.Targets.{HasPoint}
 use Rattle.tv_cover.proofs.PointLemmas.{point_with}
 use Rattle.tv_choice.specs.Asked.{query_of}

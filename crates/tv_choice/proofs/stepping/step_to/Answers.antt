@@ -1,19 +1,19 @@
-use Rattle.std.proofs.Common.{◌≡◌, ◌∙◌, ◌+◌, ◌++◌, length, map, drop, subst, sym, ap}
+use Rattle.std.proofs.Common.{◌≡◌, ◌∙◌, ◌+◌, ◌++◌, subst, sym, ap}
 use Rattle.std.specs.Prelude.{All}
 use Rattle.tv_linear.specs.Linear.{columns as width}
-use Rattle.tv_linear.specs.Arithmetic.{constant_row}
 use Rattle.tv_cover.specs.Emptying.{HasNoWholePoint, IsEmptied, GivesWhole}
 use Rattle.tv_cases.specs.Views.{case_view}
 use Rattle.tv_choice.specs.Asked.{query_of}
 use Rattle.tv_choice.specs.Leading.{piece_rows}
-use Rattle.tv_choice.specs.Rows.{fixes, put_terms, IsWideBefore, IsWidePut}
+use Rattle.tv_choice.specs.Rows.{fixes, IsWideBefore}
 use Rattle.tv_choice.specs.Refusals.{IsWideHere}
-use Rattle.tv_choice.specs.Ways.{AreCaseRows, IsWayOf, IsUnmade}
+use Rattle.tv_choice.specs.Ways.{AreCaseRows, IsUnmade}
+use Rattle.tv_choice.specs.Stepping.{IsWayAt, IsWideAtPoint}
 use Rattle.tv_choice.proofs.PieceLemmas.{piece_got}
 use Rattle.tv_choice.proofs.FitLemmas.{piece_even}
 use Rattle.tv_choice.proofs.WayLemmas.{asked_even, unmade_more}
-use Rattle.tv_choice.proofs.DrawLemmas.{entry_wide, draw_wide}
-use Rattle.tv_choice.proofs.StepLemmas.{asked_inner, no_step, number_terms, numbered_way}
+use Rattle.tv_choice.proofs.DrawLemmas.{entry_wide}
+use Rattle.tv_choice.proofs.StepLemmas.{asked_inner, no_step, wide_there, stepping_way}
 use Rattle.tv_choice.proofs.RefusalLemmas.{inner_fault, unmade_fault}
 use Rattle.tv_choice.proofs.stepping.step_to.Goals as goal
 
@@ -73,8 +73,8 @@ returns-in-Ok-Tree c =
     let none = subst (HasNoWholePoint (n + e.case.now.draws) c.deref-3.result.now) c.in-Ok-Tree.field-0-is c.in-Ok-Tree.ensures.none in
     record { step = no_step n (query_of q) s.rows.now e c.requires.entered stored rows owed s.point.now c.requires.standing.size c.requires.standing.here c.deref-3.result.now asked none; refusals = tt }
 
-pub returns-in-Err-numbered-clause-refusals : goal.returns-in-Err-numbered-clause-refusals
-returns-in-Err-numbered-clause-refusals c =
+pub returns-in-Err-way_at-clause-refusals : goal.returns-in-Err-way_at-clause-refusals
+returns-in-Err-way_at-clause-refusals c =
     let q = c.args.question.now in
     let n = q.columns in
     let e = c.args.entry.now in
@@ -87,13 +87,11 @@ returns-in-Err-numbered-clause-refusals c =
     let owed = piece_even n q.pieces.now e.piece.now q.even got.1 in
     let asked = c.deref-3.ensures.value ∙ c.in_ok-all.ensures ∙ ap (λ rs. fixes (n + e.case.now.draws) 0 s.point.now ++ rs) c.deref-2.ensures.value in
     let origin = subst (GivesWhole (n + e.case.now.draws) c.deref-3.result.now) c.in-Ok-Whole.field-0-is c.in-Ok-Whole.ensures.first in
-    let terms = number_terms n (query_of q) s.rows.now e c.requires.entered stored rows owed s.point.now c.requires.standing.size c.requires.standing.here c.deref-3.result.now zs asked origin in
-    let numbers = c.split_at.ensures.back ∙ ap (λ ys. drop n ys) c.deref-in-Ok-Whole.ensures.value in
-    let wide = draw_wide n (query_of q) s.rows.now e stored (map (constant_row n) (drop n zs)) c.requires.entered rows terms in
-    unmade_fault n (query_of q) s.rows.now q.pivots s.left c.in-Err-numbered.fault
-    (unmade_more (IsWidePut (put_terms n (map (constant_row n) (drop n zs))) stored) (IsWideHere n (query_of q) s.rows.now) c.in-Err-numbered.fault wide
-    (subst (λ ds. IsUnmade (IsWidePut (put_terms n (map (constant_row n) ds)) stored) c.in-Err-numbered.fault) numbers
-    (subst (λ rs. IsUnmade (IsWidePut (put_terms n (map (constant_row n) c.split_at.result.1.now)) rs) c.in-Err-numbered.fault) c.deref-in-Ok-Whole-2.ensures.value c.in-Err-numbered.ensures.refusals)))
+    let wide = wide_there n (query_of q) s.rows.now e c.requires.entered stored rows owed s.point.now c.requires.standing.size c.requires.standing.here c.deref-3.result.now zs in
+    let there = subst (λ ys. IsUnmade (IsWideAtPoint n e.case.now.draws stored ys) c.in-Err-way_at.fault) c.deref-in-Ok-Whole-2.ensures.value
+    (subst (λ rs. IsUnmade (IsWideAtPoint n e.case.now.draws rs c.deref-in-Ok-Whole-2.result.now) c.in-Err-way_at.fault) c.deref-in-Ok-Whole.ensures.value c.in-Err-way_at.ensures.refusals) in
+    unmade_fault n (query_of q) s.rows.now q.pivots s.left c.in-Err-way_at.fault
+    (unmade_more (IsWideAtPoint n e.case.now.draws stored zs) (IsWideHere n (query_of q) s.rows.now) c.in-Err-way_at.fault (λ column. wide column asked origin) there)
 
 pub returns-clause-step : goal.returns-clause-step
 returns-clause-step c =
@@ -110,7 +108,6 @@ returns-clause-step c =
     let asked = c.deref-3.ensures.value ∙ c.in_ok-all.ensures ∙ ap (λ rs. fixes (n + e.case.now.draws) 0 s.point.now ++ rs) c.deref-2.ensures.value in
     let origin = subst (GivesWhole (n + e.case.now.draws) c.deref-3.result.now) c.in-Ok-Whole.field-0-is c.in-Ok-Whole.ensures.first in
     let answers = subst (IsEmptied (n + e.case.now.draws) c.deref-3.result.now) c.in-Ok-Whole.field-0-is c.in-Ok-Whole.ensures.answers in
-    let numbers = c.split_at.ensures.back ∙ ap (λ ys. drop n ys) c.deref-in-Ok-Whole.ensures.value in
-    let made = subst (λ ds. IsWayOf n e.taken e.target stored (map (constant_row n) ds) c.in-Ok-numbered.way) numbers
-    (subst (λ rs. IsWayOf n e.taken e.target rs (map (constant_row n) c.split_at.result.1.now) c.in-Ok-numbered.way) c.deref-in-Ok-Whole-2.ensures.value c.in-Ok-numbered.ensures.way) in
-    numbered_way n (query_of q) s.rows.now e c.requires.entered stored rows owed s.point.now c.requires.standing.size c.requires.standing.here c.deref-3.result.now zs c.in-Ok-numbered.way asked answers origin made
+    let made = subst (λ ys. IsWayAt n e.case.now.draws e.taken e.target stored ys c.in-Ok-way_at.way) c.deref-in-Ok-Whole-2.ensures.value
+    (subst (λ rs. IsWayAt n e.case.now.draws e.taken e.target rs c.deref-in-Ok-Whole-2.result.now c.in-Ok-way_at.way) c.deref-in-Ok-Whole.ensures.value c.in-Ok-way_at.ensures.way) in
+    stepping_way n (query_of q) s.rows.now e c.requires.entered stored rows owed s.point.now c.requires.standing.size c.requires.standing.here c.deref-3.result.now zs c.in-Ok-way_at.way asked answers origin made

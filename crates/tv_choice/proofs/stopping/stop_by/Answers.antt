@@ -5,7 +5,7 @@ use Rattle.tv_linear.specs.Linear.{columns as width}
 use Rattle.tv_cases.specs.Views.{case_view}
 use Rattle.tv_choice.specs.Asked.{query_of}
 use Rattle.tv_choice.specs.Rows.{padded_row}
-use Rattle.tv_choice.specs.ChoicePaths.{starting_rows, IsInner, starting}
+use Rattle.tv_choice.specs.ChoicePaths.{IsInner, starting}
 use Rattle.tv_choice.proofs.WayLemmas.{padded_even}
 use Rattle.tv_choice.proofs.RefusalLemmas.{inner_fault}
 use Rattle.tv_choice.proofs.StopLemmas.{stopped_by}

@@ -1,8 +1,8 @@
-use Rattle.std.proofs.Common.{◌++◌, [], All, arith}
+use Rattle.std.proofs.Common.{arith}
 use Rattle.tv_cases.specs.Views.{case_view}
 use Rattle.tv_choice.specs.Leading.{pieces_at}
 use Rattle.tv_choice.specs.Ways.{lists_of}
-use Rattle.tv_choice.specs.Targets.{targets_by, IsWideInto, IsFirstWideInto}
+use Rattle.tv_choice.specs.Targets.{IsWideInto, IsFirstWideInto}
 use Rattle.tv_choice.proofs.FitLemmas.{piece_within, place_fits}
 use Rattle.tv_choice.proofs.DrawLemmas.{pieces_next, pieces_done, piece_left, piece_wide, pieces_fit}
 use Rattle.tv_choice.proofs.WayLemmas.{unmade_more}

@@ -1,11 +1,11 @@
-use Rattle.std.proofs.Common.{◌≡◌, ◌∙◌, ◌+◌, ◌++◌, ◌∷◌, [], List, map, All, subst, sym, ap}
+use Rattle.std.proofs.Common.{◌≡◌, ◌∙◌, ◌+◌, ◌++◌, ◌∷◌, [], map, All, subst, sym, ap}
 use Rattle.std.specs.Prelude.{Contains}
 use Rattle.std.proofs.lemmas.List.Elements.{All-nil, All-head, All-push}
-use Rattle.tv_linear.specs.Linear.{Linear, columns as width}
+use Rattle.tv_linear.specs.Linear.{columns as width}
 use Rattle.tv_choice.specs.Asked.{query_of}
 use Rattle.tv_choice.specs.Rows.{put_rows, put_terms, ArePut, IsWidePut}
-use Rattle.tv_choice.specs.Targets.{draw_choices, targets_into, IsFirstWidePut, with_these}
-use Rattle.tv_choice.specs.Ways.{lists_of, way_rows, IsWayOf, IsWay}
+use Rattle.tv_choice.specs.Targets.{draw_choices, IsFirstWidePut, with_these}
+use Rattle.tv_choice.specs.Ways.{lists_of, way_rows, IsWay}
 use Rattle.tv_choice.proofs.PieceLemmas.{piece_got}
 use Rattle.tv_choice.proofs.FitLemmas.{piece_even}
 use Rattle.tv_choice.proofs.WayLemmas.{map-append, unmade_more}

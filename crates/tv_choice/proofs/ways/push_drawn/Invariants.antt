@@ -1,6 +1,5 @@
-use Rattle.std.proofs.Common.{◌≡◌, ◌++◌, All, [], map}
+use Rattle.std.proofs.Common.{All, [], map}
 use Rattle.tv_choice.specs.Asked.{query_of}
-use Rattle.tv_choice.specs.Rows.{put_rows}
 use Rattle.tv_choice.specs.Targets.{draw_choices}
 use Rattle.tv_choice.specs.Ways.{lists_of, IsWay}
 use Rattle.tv_choice.proofs.DrawLemmas.{AreLeft, IsFirstLeft}

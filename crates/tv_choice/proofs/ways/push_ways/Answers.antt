@@ -1,7 +1,6 @@
-use Rattle.std.proofs.Common.{◌≡◌, ◌∙◌, ◌+◌, [], All, subst, sym, arith}
+use Rattle.std.proofs.Common.{◌≡◌, ◌∙◌, ◌+◌, All, subst, sym, arith}
 use Rattle.tv_linear.specs.Linear.{columns as width}
 use Rattle.tv_cases.specs.Views.{case_view}
-use Rattle.tv_choice.specs.Asked.{query_of}
 use Rattle.tv_choice.specs.Leading.{piece_rows}
 use Rattle.tv_choice.specs.Rows.{case_rows, put_terms, AreRead, ArePut, IsWideBefore}
 use Rattle.tv_choice.specs.Targets.{draw_choices, AreMadeInto, IsFirstWidePut, IsWideInto, reading, putting}

@@ -1,4 +1,4 @@
-use Rattle.std.proofs.Common.{◌≡◌, ◌∙◌, ◌++◌, ap, subst, sym, length}
+use Rattle.std.proofs.Common.{◌≡◌, ◌∙◌, ap, subst, sym, length}
 use Rattle.std.specs.Prelude.{All}
 use Rattle.tv_linear.specs.Linear.{columns as width}
 use Rattle.tv_linear.specs.Arithmetic.{width_of}
