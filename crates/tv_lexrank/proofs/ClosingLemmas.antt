@@ -211,7 +211,10 @@ module _ (about : CaseSystem) (known : List Piece) (k : ℕ) (rows target : List
       numbered = k_in;
       some = some;
       told = h.0;
-      why = inr (subst (λ z. IsCoverFault (v + c.draws) (rows_before c into ∷ []) z budget.pivots budget.splits f) e (subst (λ z. IsCoverFault (v + c.draws) (z ∷ []) rows budget.pivots budget.splits f) made.exact h.1));
+      why = inr (record {
+        fits = made.fits;
+        fault = subst (λ z. IsCoverFault (v + c.draws) (rows_before c into ∷ []) z budget.pivots budget.splits f) e (subst (λ z. IsCoverFault (v + c.draws) (z ∷ []) rows budget.pivots budget.splits f) made.exact h.1);
+      });
     },
   )
   uncovered_closed budget (fault.Solve system f) some e made h = absurd h

@@ -130,16 +130,21 @@ pub record LeadsOut (about : CaseSystem) (known : List Piece) (taken : ℕ) (val
   pub among : Contains (rows_at known new.location) row
   pub unmet : IsMet new.values row → ⊥
 
+-- the rows that are known where the case ends all fit before it, and the cover of the rows that are met where it is taken into these has the
+-- fault
+pub record IsUncovered (about : CaseSystem) (known : List Piece) (budget : Budget) (k : ℕ) (f : CoverFault) : Type 0 where
+  pub fits : All (FitsBefore (case_at about.cases k)) (rows_at known (case_at about.cases k).to)
+  pub fault :
+      IsCoverFault (about.variables + (case_at about.cases k).draws) (rows_before (case_at about.cases k) (rows_at known (case_at about.cases k).to) ∷ [])
+      (padded_rows about.variables (way_of about.cases known k)) budget.pivots budget.splits f
+
 -- It is not settled whether the case leads into the rows that are known where it ends, of which there are some: before the case one of
--- them is too wide, or the cover of the rows that are met where it is taken into these has the fault.
+-- them is too wide, or the cover into these has the fault.
 pub record IsUnsettled (about : CaseSystem) (known : List Piece) (budget : Budget) (k : ℕ) (f : CoverFault) : Type 0 where
   pub numbered : k < length about.cases
   pub some : 0 < length (rows_at known (case_at about.cases k).to)
   pub told : IsTold f
-  pub why :
-      IsUnmadeBy (case_at about.cases k) (rows_at known (case_at about.cases k).to) f
-      ⊎ IsCoverFault (about.variables + (case_at about.cases k).draws) (rows_before (case_at about.cases k) (rows_at known (case_at about.cases k).to) ∷ [])
-      (padded_rows about.variables (way_of about.cases known k)) budget.pivots budget.splits f
+  pub why : IsUnmadeBy (case_at about.cases k) (rows_at known (case_at about.cases k).to) f ⊎ IsUncovered about known budget k f
 
 -- a case leads out of the known rows, or it is not settled whether it does
 abbrev pub RefusesClosed : CaseSystem → List Piece → Budget → RankFault → Type 0

@@ -14,12 +14,13 @@ use tv_farkas::split_of;
 use tv_linear::{CoverTree, Row};
 use tv_simplex::push_item;
 
-/// A fall of the ranks over a case.
+/// A fall of the ranks over a case, with what shows it.
 #[derive(Drop)]
 pub struct Fall {
     /// Which rank falls, counted from 1.
     pub number: u32,
-    /// For each row of the fall multipliers of the rows that are met, and last of the row's denial.
+    /// For each row of the fall multipliers: of the rows that are known where the case starts, then of its guards, and last of the denial
+    /// of the row.
     pub lines: Vec<Vec<i64>>,
 }
 

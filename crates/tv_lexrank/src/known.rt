@@ -18,7 +18,7 @@ fn are_even(rows: &[Row], columns: u32) -> bool
 }
 
 fn are_all_even(known: &[Piece], columns: u32) -> bool
-    ensures { IsTrue result → All (λ p. All (λ r. width r ≡ columns) (piece_rows p)) known.now }
+    ensures { IsTrue result ↔ All (λ p. All (λ r. width r ≡ columns) (piece_rows p)) known.now }
 {
     'pieces: for piece in known {
         if !are_even(&piece.poly.rows, columns) {
@@ -30,7 +30,7 @@ fn are_all_even(known: &[Piece], columns: u32) -> bool
 
 /// Whether the region has a piece for each location, with rows over the variables.
 pub fn are_known(about: &Cases, known: &Region) -> bool
-    ensures { IsTrue result → AreKnown (cases_of about.now) known.now.pieces.items }
+    ensures { IsTrue result ↔ AreKnown (cases_of about.now) known.now.pieces.items }
 {
     let pieces: &[Piece] = &known.pieces;
     pieces.len() == about.locations() as usize && are_all_even(pieces, about.variables())
