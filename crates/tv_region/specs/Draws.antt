@@ -13,8 +13,8 @@ sum_row n p q = tight (shortened n (cancelled n p q))
 -- of rows over w columns the row is one, or made of them by sums and by leaving out the last column, so that it is over n columns
 pub data Drawn (w : ℕ) (rows : List Linear) : ℕ → Linear → Type 0 where
   drawn_one : (r : Linear) → Has rows r → Drawn w rows w r
-  drawn_sum : (n : ℕ) (p q : Linear) → IsOpposite n p q → last_of n (cancelled n p q) ≡ pos 0 → IsNarrow (cancelled n p q) → IsNarrow (sum_row n p q) →
-      Drawn w rows (n + 1) p → Drawn w rows (n + 1) q → Drawn w rows n (sum_row n p q)
+  drawn_sum : (n : ℕ) (p q : Linear) → IsOpposite n p q → last_of n (cancelled n p q) ≡ pos 0 → IsNarrow (cancelled n p q) →
+      IsNarrow (sum_row n p q) → Drawn w rows (n + 1) p → Drawn w rows (n + 1) q → Drawn w rows n (sum_row n p q)
   drawn_short : (n : ℕ) (r : Linear) → last_of n r ≡ pos 0 → Drawn w rows (n + 1) r → Drawn w rows n (shortened n r)
 
 -- the column is the first at which such a sum reaches 2^62

@@ -38,7 +38,8 @@ pub(crate) fn product_at(
     ensures product { IfOk result (λ v. IsProduct columns (row_lists first.now) (row_lists second.now) (lists v)) }
     ensures refused { let ones = row_lists first.now in
         let others = row_lists second.now in
-        IfErr result (IsRegionFault columns (MadeAt location (λ r. InSome ones r ⊎ InSome others r)) NoColumn (IsCountAt location (length ones * length others)) budget.now) }
+        let made = MadeAt location (λ r. InSome ones r ⊎ InSome others r) in
+        IfErr result (IsRegionFault columns made NoColumn (IsCountAt location (length ones * length others)) budget.now) }
 {
     let count = (first.len() as u64).saturating_mul(second.len() as u64);
     let limits = limits_for(budget, columns, count);
@@ -63,7 +64,8 @@ pub(crate) fn sum_at(
     ensures union { IfOk result (λ v. IsUnion columns (row_lists first.now) (row_lists second.now) (lists v)) }
     ensures refused { let ones = row_lists first.now in
         let others = row_lists second.now in
-        IfErr result (IsRegionFault columns (MadeAt location (λ r. InSome ones r ⊎ InSome others r)) NoColumn (IsCountAt location (length ones + length others)) budget.now) }
+        let made = MadeAt location (λ r. InSome ones r ⊎ InSome others r) in
+        IfErr result (IsRegionFault columns made NoColumn (IsCountAt location (length ones + length others)) budget.now) }
 {
     let count = sum_of_counts(first.len(), second.len());
     let limits = limits_for(budget, columns, count);
@@ -85,7 +87,9 @@ pub(crate) fn rest_of(
     requires wide { (r : Linear) → InSome (row_lists first.now) r → width r ≡ columns }
     ensures complement { IfOk result (λ v. IsComplement columns (row_lists first.now) (lists v)) }
     ensures refused { let ones = row_lists first.now in
-        IfErr result (IsRegionFault columns (MadeAt location (IsDenied (InSome ones))) (IsWideDenial (InSome ones)) (IsCountAt location (row_product ones)) budget.now) }
+        let made = MadeAt location (IsDenied (InSome ones)) in
+        let wide = IsWideDenial (InSome ones) in
+        IfErr result (IsRegionFault columns made wide (IsCountAt location (row_product ones)) budget.now) }
 {
     let count = product_of_lengths(first);
     if count == 0 {
