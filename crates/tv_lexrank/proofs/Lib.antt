@@ -13,7 +13,6 @@ pub mod ClosingLemmas
 pub mod PadLemmas
 pub mod FallLemmas
 pub mod StepLemmas
-pub mod BareLemmas
 pub mod AttemptLemmas
 pub mod FirstLemmas
 pub mod NodeLemmas
