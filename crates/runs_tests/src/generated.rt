@@ -74,6 +74,6 @@ TO: 2;
 #[test]
 fn a_program_of_two_loops_is_made(rt: HostRuntime) -> Result<(), Fail> {
     let text = generated(rt.alloc(), 2)?;
-    assert!(rt; text == TWO_LOOPS.as_bytes());
+    assert!(rt; text.as_slice() == TWO_LOOPS.as_bytes());
     Ok(())
 }
