@@ -9,5 +9,6 @@ pub mod RefusalLemmas
 pub mod TermLemmas
 pub mod StepLemmas
 pub mod StopLemmas
+pub mod DifferLemmas
 pub mod SettleLemmas
 pub mod SplitLemmas

@@ -102,4 +102,4 @@ module _ (n : ℕ) (q : Query) where
   }
 
   pub ways_longer : (above more : List Linear) (ways : List Way) → AreWays n q above ways → AreWays n q (above ++ more) ways
-  ways_longer above more ways h = record { each = λ i d l. way_longer above more _ (h.each i d l); more = h.more; begins = h.begins }
+  ways_longer above more ways h = record { each = λ i d l. way_longer above more _ (h.each i d l); targets_there = h.targets_there }

@@ -1,12 +1,12 @@
 -- What rows have: trees and holes.
-use Rattle.std.proofs.Common.{◌≡◌, ℕ, suc, ◌+◌, ◌<◌, ◌≤◌, ◌^◌, List, [], ◌∷◌, ◌++◌, length, map, All, None, Some, slice_get, IsTrue, ◌==◌, ◌⊎◌, inl, inr, arith, refl, sym, ap, ◌∙◌, subst, ℤ, pos, ◌*ℤ◌, ◌<ℤ◌, ◌≤ℤ◌, Vec, length-append, append_assoc}
+use Rattle.std.proofs.Common.{◌≡◌, ℕ, suc, ◌+◌, ◌<◌, ◌≤◌, ◌^◌, List, [], ◌∷◌, ◌++◌, length, map, get_or, All, None, Some, slice_get, IsTrue, ◌==◌, ◌⊎◌, inl, inr, arith, refl, sym, ap, ◌∙◌, subst, ℤ, pos, ◌*ℤ◌, ◌<ℤ◌, ◌≤ℤ◌, Vec, length-append}
 use Rattle.std.specs.Prelude.{Contains}
 use Rattle.std.specs.Global.{Global}
 use Rattle.std.specs.Option.{option_map}
 use Rattle.std.proofs.lemmas.Int.{ints}
 use Rattle.std.proofs.lemmas.List.{length-map}
 use Rattle.std.proofs.lemmas.Option.{slice_get_within, get_or_from_slice_get}
-use Rattle.std.proofs.lemmas.List.Elements.{All-nil, All-cons, All-head, All-tail, All-push}
+use Rattle.std.proofs.lemmas.List.Elements.{All-nil, All-cons, All-head, All-tail, All-push, All-contains, All-contains_itself, Contains-append_left}
 use Rattle.tv_linear.specs.Linear.{Linear, columns, value, IsMet, IsNarrow, scaled_value}
 use Rattle.tv_linear.specs.Arithmetic.{denial}
 use Rattle.tv_linear.specs.Known.{Known, given, denied, as_given, term_value}
@@ -39,7 +39,7 @@ use Rattle.tv_choice.specs.Leading.{Query, place_of, piece_rows, pieces_at, regi
 use Rattle.tv_choice.specs.ChoicePaths.{own}
 use Rattle.tv_choice.specs.Targets.{targets}
 use Rattle.tv_choice.specs.Looking.{AreShown}
-use Rattle.tv_choice.specs.Ways.{way_rows, lists_of, IsWay, AreWays}
+use Rattle.tv_choice.specs.Ways.{way_rows, lists_of, IsWay, AreWays, AreDifferentOf}
 use Rattle.tv_choice.specs.Stepping.{IsWayFrom, IsStepInto}
 use Rattle.tv_choice.specs.Stopping.{AreStopTrees}
 use Rattle.tv_choice.specs.Settling.{IsTreeAt, IsHoleAt, IsSplitOf, IsTakeOf, IsGoing}
@@ -330,16 +330,26 @@ module _ (n : ℕ) (q : Query) where
 
   -- ---- the targets are among the ways
   pub of_targets : (P : List Linear → Type 0) (rows : List Linear) (ways : List Way) → AreWays n q rows ways → ((w : Way) → Contains ways w → P (way_rows w)) → All P (targets n q)
-  of_targets P rows ways h f = all_before P (targets n q) h.more (subst (All P) h.begins (all_lists ways f))
+  of_targets P rows ways h f = each_of (targets n q) (λ t k. All-contains P (lists_of ways) t (all_lists ways f) (h.targets_there t k))
     where
       all_lists : (ws : List Way) → ((w : Way) → Contains ws w → P (way_rows w)) → All P (lists_of ws)
       all_lists [] g = All-nil P
       all_lists (w ∷ ws) g = All-cons P (way_rows w) (lists_of ws) (g w (0, omega arith, refl)) (all_lists ws (λ v k. g v (suc k.0, (let l = k.1 in omega (arith, l)), k.2)))
 
-  -- one more way, which has no target
+      each_of : (ts : List (List Linear)) → ((t : List Linear) → Contains ts t → P t) → All P ts
+      each_of [] g = All-nil P
+      each_of (t ∷ ts) g = All-cons P t ts (g t (0, omega arith, refl)) (each_of ts (λ v k. g v (suc k.0, (let l = k.1 in omega (arith, l)), k.2)))
+
+  -- one more way
   pub ways_more : (rows : List Linear) (ways new : List Way) (w : Way) → new ≡ ways ++ w ∷ [] → IsWay n q rows w → AreWays n q rows ways → AreWays n q rows new
   ways_more rows ways new w e h k = subst (AreWays n q rows) (sym e) record {
     each = All-push (IsWay n q rows) ways w k.each h;
-    more = k.more ++ way_rows w ∷ [];
-    begins = map-append way_rows ways (w ∷ []) ∙ ap (λ ls. ls ++ way_rows w ∷ []) k.begins ∙ append_assoc (targets n q) k.more (way_rows w ∷ []);
+    targets_there = λ t c. subst (λ ls. Contains ls t) (sym (map-append way_rows ways (w ∷ []))) (Contains-append_left (lists_of ways) (way_rows w ∷ []) t (k.targets_there t c));
+  }
+
+  -- ways that differ, one for each target
+  pub different_ways : (rows : List Linear) (ways new : List Way) → All (IsWay n q rows) ways → lists_of ways ≡ targets n q → AreDifferentOf ways new → AreWays n q rows new
+  different_ways rows ways new each are h = record {
+    each = λ k d l. All-contains (IsWay n q rows) ways _ each (h.among (get_or new k d) (All-contains_itself new k d l));
+    targets_there = λ t c. h.rows t (subst (λ ls. Contains ls t) (sym are) c);
   }

@@ -1,4 +1,4 @@
-use Rattle.std.specs.Prelude.{◌≡◌, ℕ, ◌+◌, ◌≤◌, List, ◌++◌, length, map, All, slice_get, Some}
+use Rattle.std.specs.Prelude.{◌≡◌, ℕ, ◌+◌, ◌≤◌, List, ◌++◌, length, map, All, slice_get, Some, Contains}
 use Rattle.tv_linear.specs.Linear.{Linear, columns}
 use Rattle.tv_linear.specs.Arithmetic.{composed}
 use Rattle.tv_linear.specs.Fits.{FitsComposed}
@@ -72,11 +72,15 @@ pub record IsWay (n : ℕ) (q : Query) (above : List Linear) (w : Way) : Type 0 
 abbrev pub lists_of : List Way → List (List Linear)
 lists_of ways = map way_rows ways
 
--- ways at the rows above, first one for each target
+-- ways that are of the list, where each of the list has the same rows as one of them
+pub record AreDifferentOf (ways kept : List Way) : Type 0 where
+  pub among : (w : Way) → Contains kept w → Contains ways w
+  pub rows : (rows : List Linear) → Contains (lists_of ways) rows → Contains (lists_of kept) rows
+
+-- ways at the rows above, among them one for each target
 pub record AreWays (n : ℕ) (q : Query) (above : List Linear) (ways : List Way) : Type 0 where
   pub each : All (IsWay n q above) ways
-  pub more : List (List Linear)
-  pub begins : lists_of ways ≡ targets n q ++ more
+  pub targets_there : (rows : List Linear) → Contains (targets n q) rows → Contains (lists_of ways) rows
 
 -- a row was not made: it is too wide at the column, or there is no memory
 abbrev pub IsUnmade : (ℕ → Type 0) → CoverFault → Type 0

@@ -17,6 +17,7 @@ ghost use Rattle.tv_choice.specs.Looking.{IsAt, IsOpen, NoneShown, AllShut};
 ghost use Rattle.tv_choice.specs.Settling.{IsFound, IsGoing, AreHalves};
 
 use crate::Chosen;
+use crate::differing::different;
 use crate::lists::with_row;
 use crate::looking::{Best, Look, best_of, look_at};
 use crate::place::Place;
@@ -338,10 +339,11 @@ pub fn choose(
         stop,
         pivots: budget.pivots,
     };
-    let mut ways = match first_ways(&question) {
+    let first = match first_ways(&question) {
         Err(fault) => return Err(fault),
-        Ok(ways) => ways,
+        Ok(first) => first,
     };
+    let mut ways = different(alloc, first)?;
     match settle(&question, &ambient.poly.rows, &mut ways, budget.splits) {
         Err(fault) => Err(fault),
         Ok(Found::Hole(point)) => Ok(Chosen::Hole(point)),

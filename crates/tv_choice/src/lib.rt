@@ -3,6 +3,7 @@
 
 mod choosing;
 mod chosen;
+mod differing;
 mod drawing;
 mod faults;
 mod lists;

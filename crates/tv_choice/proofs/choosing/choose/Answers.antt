@@ -1,13 +1,13 @@
-use Rattle.std.proofs.Common.{◌≡◌, ◌∙◌, [], subst, sym}
+use Rattle.std.proofs.Common.{◌≡◌, [], subst, sym}
 use Rattle.tv_cases.specs.Systems.{cases_of}
-use Rattle.tv_farkas.proofs.PathLemmas.{append-nil}
 use Rattle.tv_choice.specs.Leading.{Query, piece_rows}
 use Rattle.tv_choice.specs.Choosing.{query}
 use Rattle.tv_choice.specs.Refusals.{IsChoiceFault}
-use Rattle.tv_choice.specs.Targets.{targets, IsWideTarget}
+use Rattle.tv_choice.specs.Targets.{IsWideTarget}
 use Rattle.tv_choice.specs.Ways.{IsUnmade}
 use Rattle.tv_choice.specs.Settling.{IsFound, IsTreeAt}
 use Rattle.tv_choice.proofs.SameLemmas.{known_of}
+use Rattle.tv_choice.proofs.SettleLemmas.{different_ways}
 use Rattle.tv_choice.proofs.RefusalLemmas.{way_longer, target_fault}
 use Rattle.tv_choice.proofs.choosing.choose.Goals as goal
 
@@ -15,11 +15,7 @@ pub settle-requires-clause-ways : goal.settle-requires-clause-ways
 settle-requires-clause-ways c =
     let n = c.variables.result in
     let q : Query = record { system = cases_of c.args.about.now; location = c.args.ambient.now.location; stop = c.args.stop; pieces = c.deref.result.now } in
-    record {
-      each = λ i d l. way_longer n q [] c.deref-2.result.now _ (c.in-Ok.ensures.ways i d l);
-      more = [];
-      begins = c.in-Ok.ensures.lists ∙ sym (append-nil (targets n q));
-    }
+    different_ways n q c.deref-2.result.now c.in-Ok.first.items c.in_ok-ways.ways.items (λ i d l. way_longer n q [] c.deref-2.result.now _ (c.in-Ok.ensures.ways i d l)) c.in-Ok.ensures.lists c.in_ok-ways.ensures
 
 pub returns-in-Err-clause-refusals : goal.returns-in-Err-clause-refusals
 returns-in-Err-clause-refusals c =
