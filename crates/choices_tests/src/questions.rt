@@ -16,15 +16,15 @@ use tv_reader::read_program;
 
 /// What is asked: a program, the rows of a piece at its location 0, the pieces of a region by location and rows, and whether a state
 /// without a step may stop; with the budget, and what is to be given.
-#[derive(Drop)]
-pub(crate) struct Question<'a> {
-    pub text: &'a str,
-    pub ambient: &'a [Numbers<'a>],
-    pub into: &'a [(u32, &'a [Numbers<'a>])],
+#[derive(Clone, Copy)]
+pub(crate) struct Question {
+    pub text: &'static str,
+    pub ambient: &'static [Numbers],
+    pub into: &'static [(u32, &'static [Numbers])],
     pub stop: bool,
     pub splits: u32,
     pub pivots: u64,
-    pub wanted: Wanted<'a>,
+    pub wanted: Wanted,
 }
 
 fn read(alloc: Global, text: &str) -> Result<Cases, Fail> {

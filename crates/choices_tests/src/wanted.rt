@@ -4,24 +4,24 @@ use tv_linear::{ChoiceTree, Row};
 use tv_simplex::SolveFault;
 
 /// A row by its coefficients and its constant.
-pub(crate) type Numbers<'a> = (&'a [i128], i128);
+pub(crate) type Numbers = (&'static [i128], i128);
 
 /// What a choice is to give.
-#[derive(Drop)]
-pub(crate) enum Wanted<'a> {
+#[derive(Clone, Copy)]
+pub(crate) enum Wanted {
     /// The rows of the piece have no point.
     Empty,
     /// The case is taken at once into the piece at this place, with these terms for its draws.
-    Take(u32, u32, &'a [Numbers<'a>]),
+    Take(u32, u32, &'static [Numbers]),
     /// A split at a row, with the case that is taken where it is met, and the one where it is not.
-    Sides(Numbers<'a>, u32, u32),
+    Sides(Numbers, u32, u32),
     /// A split at a row. Where it is met no step is possible, and else the case is taken.
-    StopOrSide(Numbers<'a>, u32),
+    StopOrSide(Numbers, u32),
     /// No step is possible, by so many covers.
     NoStep(usize),
     /// A tree with so many splits on its longest path, not counting those of covers.
     Depth(u32),
-    Hole(&'a [i128]),
+    Hole(&'static [i128]),
     /// A path of so many splits, of which so many are of the choice itself.
     Splits(usize),
     /// So many rows, of which the solver finds no basis in time.

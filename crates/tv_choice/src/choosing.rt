@@ -296,14 +296,15 @@ fn settle_side(
 /// `stop` tells whether a state without any step may stop: only then a tree shows at some points that no case can be
 /// taken, and only then some step leads somewhere from a hole.
 ///
-/// At the rows with the splits above it takes a leaf where they have no point, or where each row of a way to step is met by
-/// all of their points. The ways are those of the cases without draws, and of the cases with one draw, for which a row of the
-/// case with the coefficient 1 or -1 gives the term. Else it splits at a row of a way of which each row is met by some point,
-/// and settles the side where the row is denied first. Where each way is excluded, it takes a whole point of the rows, and
-/// splits below and above the first coordinate of their point that is not whole (the branching of integer programming, after
-/// Land and Doig 1960). From the whole point it looks for whole draws by which some case leads into a piece: with a term for
-/// each draw the case is a further way, and else the point is a hole. That term is of a row of the case with the coefficient 1
-/// or -1 at the draw, and 0 at the others, whose value there is 0, and where there is none it is the number.
+/// At the rows with the splits above it takes a leaf where they have no point, or where each row of a way to step is
+/// met by all of their points. The ways are those of the cases without draws, and of the cases with one draw, for which
+/// a row of the case with the coefficient 1 or -1 gives the term; of ways with the same rows it keeps one. Else it
+/// splits at a row of a way of which each row is met by some point, and settles the side where the row is denied first.
+/// Where each way is excluded, it takes a whole point of the rows, and splits below and above the first coordinate of
+/// their point that is not whole (the branching of integer programming, after Land and Doig 1960). From the whole point
+/// it looks for whole draws by which some case leads into a piece: with a term for each draw the case is a further way,
+/// and else the point is a hole. That term is of a row of the case with the coefficient 1 or -1 at the draw, and 0 at
+/// the others, whose value there is 0, and where there is none it is the number.
 ///
 /// `Splits`, `Solve` and `Wide` come where the budget, the solver or the width of a row that is made end the search.
 pub fn choose(
