@@ -36,7 +36,7 @@ const MADE: &[(&[&str], &str, Status)] = &[
     ),
     (
         &["--generate", "3", "--pivots", "1"],
-        "Unknown pivots\nsystem rank 0 0 0 bases 1\n",
+        "Unknown pivots\nsystem rank 1 0 4 bases 1\n",
         Status::Unknown,
     ),
 ];
