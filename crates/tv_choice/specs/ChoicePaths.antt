@@ -30,7 +30,9 @@ pub data IsPointHere (n : ℕ) (q : Query) (above : List Linear) : List ℤ → 
 
 -- the term that a row over n variables and d draws gives for draw j, at which it has 1 or -1, where it has 0 at the others
 abbrev pub GivesAlone : ℕ → ℕ → Linear → ℕ → Linear → Type 0
-GivesAlone n d r j t = ((drop n r.coefficients ≡ unit d j) × (t ≡ opposite (front n r))) ⊎ ((drop n r.coefficients ≡ map neg_ℤ (unit d j)) × (t ≡ front n r))
+GivesAlone n d r j t =
+    ((drop n r.coefficients ≡ unit d j) × (t ≡ opposite (front n r)))
+    ⊎ ((drop n r.coefficients ≡ map neg_ℤ (unit d j)) × (t ≡ front n r))
 
 -- a term for draw j at a whole point of the variables and d draws: its number there, or the term that a row gives whose value there is 0
 pub data IsTermAt (n d : ℕ) (rows : List Linear) (zs : List ℤ) (j : ℕ) : Linear → Type 0 where

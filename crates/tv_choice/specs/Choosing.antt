@@ -27,7 +27,8 @@ AreKnownAs rows known = (w : ℕ) → AreSides w rows known
 
 -- the tree is a met choice into the pieces at any known rows that have the numbers of these; or the values are a hole that meets them
 abbrev pub IsChosen : ℕ → Query → List Linear → Chosen → Type 0
-IsChosen n q rows (Tree choice) = (known : List Known) → AreKnownAs rows known → IsMetChoice n q.system.cases q.location q.stop (region_owes n q.pieces) known choice
+IsChosen n q rows (Tree choice) =
+    (known : List Known) → AreKnownAs rows known → IsMetChoice n q.system.cases q.location q.stop (region_owes n q.pieces) known choice
 IsChosen n q rows (Hole values) = IsWholePoint n rows values.items × IsHole q values.items
 
 -- a tree is given only where no whole point of the rows is a hole

@@ -58,7 +58,9 @@ fn show(question: &Question, place: &Place, row: &Row) -> Result<Option<Vec<i64>
     requires same { width row.now ≡ question.now.columns }
     requires way { IsWayRow question.now.columns (query_of question.now) place.now.rows.now row.now }
     ensures shown { IfOk result (IsShown question.now.columns place.now.rows.now row.now) }
-    ensures refusals { IfErr result (IsLookFault (IsWideDenialAt row.now) question.now.columns (query_of question.now) place.now.rows.now question.now.pivots) }
+    ensures refusals { let n = question.now.columns in
+        let q = query_of question.now in
+        IfErr result (IsLookFault (IsWideDenialAt row.now) n q place.now.rows.now question.now.pivots) }
 {
     let alloc = question.alloc;
     let denied = match row.deny(alloc) {

@@ -1,17 +1,15 @@
 -- the rows that a choice solves and splits at are derived
-use Rattle.std.proofs.Common.{◌≡◌, ◌⊎◌, inl, inr, ℕ, zero, suc, ◌+◌, ◌<◌, ◌≤◌, List, [], ◌∷◌, ◌++◌, length, map, take, drop, get_or, All, refl, sym, ap, ◌∙◌, subst, arith, ℤ, pos, negsuc, neg_ℤ, ◌-ℤ◌}
+use Rattle.std.proofs.Common.{◌≡◌, inl, inr, ℕ, zero, suc, ◌+◌, ◌<◌, ◌≤◌, List, [], ◌∷◌, ◌++◌, length, map, take, drop, get_or, All, refl, sym, ap, ◌∙◌, subst, arith, ℤ, pos, negsuc, neg_ℤ, ◌-ℤ◌}
 use Rattle.std.specs.Prelude.{Option, Some, None, Vec, Bool, true, ◌==◌, slice_get}
 use Rattle.std.specs.List.{Contains}
-use Rattle.std.proofs.lemmas.List.{length-map, get_or_default}
 use Rattle.std.proofs.lemmas.List.Elements.{All-filter, All-contains_itself, filter_passes, Contains-append_left, Contains-append_right, Contains-append_cases, All-contains}
 use Rattle.tv_linear.specs.Linear.{Linear, linear, columns}
-use Rattle.tv_linear.specs.Arithmetic.{zeros, unit, opposite, denial, constant_row, composed as with_terms}
+use Rattle.tv_linear.specs.Arithmetic.{unit, opposite, denial, composed as with_terms}
 use Rattle.tv_linear.specs.declared.region.Piece.{Piece}
 use Rattle.tv_cases.specs.LinearCases.{LinearCase, CaseSystem, from_of, leaving}
 use Rattle.tv_cases.specs.Before.{before}
 use Rattle.tv_cases.proofs.Listed.{Contains-here, Contains-later, Contains-map, Contains-from_map}
 use Rattle.tv_farkas.specs.declared.branch.Branch.{Branch}
-use Rattle.tv_farkas.specs.declared.fault.CoverFault.{CoverFault}
 use Rattle.tv_farkas.specs.declared.fault.CoverFault.TheVariants.{Splits, Solve, Wide, Memory}
 use Rattle.tv_farkas.specs.Paths.{rows_after, at_most_row, at_least_row}
 use Rattle.tv_farkas.specs.EmptyPaths.{IsWholePointOf, IsEmptyPath}
@@ -19,20 +17,20 @@ use Rattle.tv_farkas.specs.Refuting.{IsSystemFault}
 use Rattle.tv_simplex.specs.declared.fault.SolveFault.{SolveFault}
 use Rattle.std.proofs.lemmas.Option.{slice_get_within, get_or_from_slice_get}
 use Rattle.tv_cover.specs.Targets.{AreEven, IsNarrowRow}
-use Rattle.tv_choice.specs.Rows.{padded_row, fixes, case_rows, put_terms, put_rows}
-use Rattle.tv_choice.specs.Leading.{Query, IsServed, IsEntry, place_of, piece_rows, pieces_at}
+use Rattle.tv_choice.specs.Rows.{padded_row, fixes, case_rows, put_terms}
+use Rattle.tv_choice.specs.Leading.{IsServed, IsEntry, place_of, piece_rows, pieces_at}
 use Rattle.tv_choice.specs.Targets.{front, term_by, term_of, one_term, terms_given, draw_choices, IsFirstWidePut, with_these, with_later, IsWideInto, reading, putting, IsFirstWideInto, into_this, into_later, IsFirstWideFrom, by_this, by_later}
 use Rattle.tv_choice.specs.ChoicePaths.{starting_rows, stepping_rows, IsPointHere, own as own_point, start as start_point, AreDrawTerms, by_rows, at_point, IsTermAt, number as number_there, tight as tight_there, IsWayIn, IsWayRows, SplitsBy, IsSplit, IsChoicePath, IsInner, starting, stepping}
-use Rattle.tv_choice.specs.Refusals.{IsTried, IsUnsolvedHere, place as at_place, tried as with_tried, inner as of_inner, IsWideHere, entering, drawing, denying, IsWideChoice, target, behind, IsChoiceFault}
+use Rattle.tv_choice.specs.Refusals.{IsTried, IsUnsolvedHere, place as at_place, tried as with_tried, inner as of_inner, IsWideHere, entering, drawing, denying, IsWideChoice, target, behind}
 use Rattle.tv_choice.proofs.PieceLemmas.{true_test}
 use Rattle.tv_derived.specs.Scopes.{Scope, scope, at_location, over_case, width_at, with_more, Placed}
-use Rattle.tv_derived.specs.Derived.{IsDerived, IsMade, IsDrawTerm, IsUnsplit, IsListed, AreListed, AreUnsplit, guard, made, denied, composed, drawn, below as term_below, above as term_above, value as term_value, derived, fixed, unsplit, IsFixing, false_row}
-use Rattle.tv_derived.specs.Faults.{IsWideStep, IsUnsolvedList, IsRefusalOf, number as wide_number, before_case, put_terms as put_wide}
+use Rattle.tv_derived.specs.Derived.{IsDerived, IsMade, IsDrawTerm, IsListed, AreListed, guard, made, denied, composed, drawn, below as term_below, above as term_above, value as term_value, derived, fixed, unsplit, IsFixing, false_row}
+use Rattle.tv_derived.specs.Faults.{IsWideStep, IsUnsolvedList, number as wide_number, before_case, put_terms as put_wide}
 use Rattle.tv_derived.specs.Laws.{IsTargetSplit}
 use Rattle.tv_derived.proofs.Carried.{monotone}
 use Rattle.tv_derived.proofs.Steps.{listed_over}
-use Rattle.tv_derived.proofs.Listing.{one_of, one_more, handed_list, path_listed, point_split, goes_on, target_listed}
-use Rattle.tv_choice_refusals.specs.Choices.{asked_of, IsHanded, IsSpentOnSteps, ChoiceRefuses}
+use Rattle.tv_derived.proofs.Listing.{one_more, handed_list, path_listed, point_split, goes_on, target_listed}
+use Rattle.tv_choice_refusals.specs.Choices.{asked_of, ChoiceRefuses}
 
 found_among : (rows : List Linear) (k : ℕ) (r : Linear) → slice_get rows k ≡ Some r → Contains rows r
 found_among rows k r e = (k, slice_get_within rows k r e, get_or_from_slice_get rows k r r e)

@@ -9,5 +9,6 @@ ghost use Rattle.tv_choice_refusals.specs.Choices.{ChoiceRefuses};
 
 /// A refusal of `tv_choice::choose` over derived rows.
 pub fn choices_are_derived()
-    ensures { (about : CaseSystem) (base : List Placed) (many h l : ℕ) (stop : Bool) (rows : List Linear) (pieces : List Piece) → ChoiceRefuses about base many h l stop rows pieces }
+    ensures { (about : CaseSystem) (base : List Placed) (many h l : ℕ) (stop : Bool)
+        → (rows : List Linear) (pieces : List Piece) → ChoiceRefuses about base many h l stop rows pieces }
 {}
