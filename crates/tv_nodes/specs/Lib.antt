@@ -1,0 +1,12 @@
+pub mod Pieces
+pub mod Offers
+pub mod Questions
+pub mod Inclusions
+pub mod Targets
+pub mod Parts
+pub mod Around
+pub mod Making
+pub mod Fixed
+pub mod Atoms
+pub mod Ranked
+pub mod Growing
