@@ -2,11 +2,12 @@ use Rattle.std.proofs.Common.{map, sym, subst}
 use Rattle.tv_farkas.specs.Refuting.{AreShort}
 use Rattle.tv_farkas.specs.Trees.{TreeNumbers}
 use Rattle.tv_shape.specs.Narrow.{CoverNarrow, AreNarrow}
-use Rattle.tv_lexrank.proofs.FallLemmas.{within_62, short_narrow, all_back}
+use Rattle.tv_farkas.proofs.StretchLemmas.{short_all}
+use Rattle.tv_lexrank.proofs.FallLemmas.{short_narrow, all_back}
 use Rattle.tv_nodes.proofs.narrow.+narrow_tree.Goals as goal
 
 pub returns-in-Empty : goal.returns-in-Empty
-returns-in-Empty t c = subst CoverNarrow (sym c.in-Empty.is) (within_62 c.in-Empty.field-0.items (subst (TreeNumbers AreShort) c.in-Empty.is c.requires))
+returns-in-Empty t c = subst CoverNarrow (sym c.in-Empty.is) (short_all c.in-Empty.field-0.items (subst (TreeNumbers AreShort) c.in-Empty.is c.requires))
 
 pub returns-in-Into : goal.returns-in-Into
 returns-in-Into t c =
