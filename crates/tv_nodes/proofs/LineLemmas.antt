@@ -4,6 +4,7 @@ use Rattle.std.specs.Option.{option_map}
 use Rattle.std.proofs.lemmas.Int.{ints}
 use Rattle.std.proofs.lemmas.List.{length-map, append_assoc}
 use Rattle.std.proofs.lemmas.List.Elements.{All-nil, All-cons, All-head, All-tail, All-append}
+use Rattle.tv_farkas.proofs.SideLemmas.{as_given-append}
 use Rattle.tv_linear.specs.Linear.{Linear, columns, dot, IsNarrow, IsWithin}
 use Rattle.tv_linear.specs.Arithmetic.{zeros}
 use Rattle.tv_linear.specs.Fits.{IsHeld}
@@ -118,10 +119,6 @@ more_from count place (suc k) = ap (λ ls. own_line count place ∷ ls) (more_fr
 pub lines_more : (count k : ℕ) → own_lines count 0 (k + 1) ≡ own_lines count 0 k ++ own_line count k ∷ []
 lines_more count k = ap (own_lines count 0) (let e : k + 1 ≡ suc k = omega arith in e) ∙ more_from count 0 k ∙ ap (λ p. own_lines count 0 k ++ own_line count p ∷ []) (let e : 0 + k ≡ k = omega arith in e)
 
-given_append : (xs ys : List Linear) → as_given (xs ++ ys) ≡ as_given xs ++ as_given ys
-given_append [] ys = refl
-given_append (x ∷ xs) ys = ap (λ ks. given x ∷ ks) (given_append xs ys)
-
 number_narrow : (r : Linear) → IsNarrow r → (c : Option ℕ) → IsWithin 62 (number c r)
 number_narrow r h None = h.constant
 number_narrow r h (Some j) = at_place r.coefficients j h.coefficients
@@ -143,7 +140,7 @@ own_shown n xs (r ∷ ys) h = (
 )
   where
     known : as_given (xs ++ r ∷ ys) ++ denied (given r) ∷ [] ≡ as_given xs ++ given r ∷ (as_given ys ++ denied (given r) ∷ [])
-    known = ap (λ ks. ks ++ denied (given r) ∷ []) (given_append xs (r ∷ ys)) ∙ append_assoc (as_given xs) (given r ∷ as_given ys) (denied (given r) ∷ [])
+    known = ap (λ ks. ks ++ denied (given r) ∷ []) (as_given-append xs (r ∷ ys)) ∙ append_assoc (as_given xs) (given r ∷ as_given ys) (denied (given r) ∷ [])
 
     left : length (xs ++ r ∷ ys) - length xs - 1 ≡ length ys
     left = (let a = length-append xs (r ∷ ys) in omega (arith, a))

@@ -75,7 +75,8 @@ pub fn next(
         OfPieces about region.pieces.items (LeadsTo about path (InState child.now)) }
     ensures region { IfOk result (λ part. part.region ≡ region) }
     ensures part { let system = cases_of setting.now.about.now in
-        IfOk result (λ part. (f : Property) → AreParts system (more f none) (child.now ∷ []) children.items → IsPart system (props.next path f) region part.node) }
+        IfOk result (λ part. (f : Property) → AreParts system (more f none) (child.now ∷ []) children.items →
+        IsPart system (props.next path f) region part.node) }
     ensures refusals { let system = cases_of setting.now.about.now in
         IfErr result (IsRefusal system setting.now.budget.now (AsksOf (λ q. AsksNext system path q child.now.pieces.items) region.pieces.items)) }
 {

@@ -95,7 +95,8 @@ fn push_atoms(
         All (IsPieceOf about.variables about.locations) made.old.pieces.items }
     ensures { let about = cases_of about.now in
         let rows = map (λ v. v.items) lists.now in
-        IfOk result (λ _. AreAtoms about location rows rows made.old.pieces.items made.old.proofs.items made.new.pieces.items made.new.proofs.items) }
+        IfOk result (λ _. AreAtoms about location rows rows made.old.pieces.items made.old.proofs.items
+        made.new.pieces.items made.new.proofs.items) }
 {
     let variables = about.variables();
     'lists: for place in 0..lists.len() {

@@ -150,7 +150,8 @@ impl Owing for Round<'_> {
     ghost fits = { λ s about a p q. IsLayered about.variables q s.done.now s.earlier.now.pieces.items p a.pieces
         × AreMarked (hold_side s.shape (first_of a.kids) (second_of a.kids)) s.hold.now.pieces.items };
 
-    ghost owes = { λ s about a p. cover_of a.number kind.Hold (about_with about) p (hold_side s.shape (first_of a.kids) (second_of a.kids)) ∷ come_of about a.number s.path p a.pieces };
+    ghost owes = { λ s about a p. let held = hold_side s.shape (first_of a.kids) (second_of a.kids) in
+        cover_of a.number kind.Hold (about_with about) p held ∷ come_of about a.number s.path p a.pieces };
 
     ghost asks = { λ s about q a. (a ≡ lies q s.hold.now.pieces.items) ⊎ AsksCome about s.path q s.earlier.now.pieces.items a };
 

@@ -52,7 +52,8 @@ impl Owing for Ends<'_> {
         × IsRegion about.variables about.locations s.first.now × IsRegion about.variables about.locations s.second.now
         × OfPiece about q (EndSides s.shape (InState s.first.now) (InState s.second.now)) };
 
-    ghost fits = { λ s about a p q. IsMarked p q × AreMarked (first_of a.kids) s.first.now.pieces.items × AreMarked (second_of a.kids) s.second.now.pieces.items };
+    ghost fits = { λ s about a p q. IsMarked p q × AreMarked (first_of a.kids) s.first.now.pieces.items
+        × AreMarked (second_of a.kids) s.second.now.pieces.items };
 
     ghost owes = { λ s about a p. map (cover_of a.number kind.Done (about_with about) p) (end_sides s.shape (first_of a.kids) (second_of a.kids)) };
 

@@ -169,10 +169,13 @@ pub fn until(
     requires layers { AreNextLayers (cases_of setting.now.about.now) sides.now done.pieces.items layers.items }
     ensures region { IfOk result (λ part. IsJoined (cases_of setting.now.about.now) (done ∷ layers.items) part.region) }
     ensures part { let about = cases_of setting.now.about.now in
-        IfOk result (λ part. (f g : Property) → AreParts about (more f (more g none)) (sides.now.first.now ∷ sides.now.second.now ∷ []) children.items →
+        let regions = sides.now.first.now ∷ sides.now.second.now ∷ [] in
+        IfOk result (λ part. (f g : Property) → AreParts about (more f (more g none)) regions children.items →
         IsPart about (fix sides.now.path sides.now.shape f g) part.region part.node) }
     ensures refusals { let about = cases_of setting.now.about.now in
-        IfErr result (IsRefusal about setting.now.budget.now (λ a. AsksEnds sides.now done.pieces.items a ⊎ AsksLayers about sides.now done.pieces.items layers.items a)) }
+        let ends = AsksEnds sides.now done.pieces.items in
+        let grown = AsksLayers about sides.now done.pieces.items layers.items in
+        IfErr result (IsRefusal about setting.now.budget.now (λ a. ends a ⊎ grown a)) }
 {
     let anywhere = everywhere(setting.alloc, setting.about)?;
     let mut grown = match started(setting, sides, done) {

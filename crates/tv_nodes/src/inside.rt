@@ -33,7 +33,8 @@ fn cover_by(setting: &Setting, piece: &Piece, targets: &[Poly]) -> Result<Cover,
     requires piece { IsPieceOf (cases_of setting.now.about.now).variables (cases_of setting.now.about.now).locations piece.now }
     requires same { All (AreEven (cases_of setting.now.about.now).variables) (lists_of targets.now) }
     requires count { length targets.now < 2 ^ 32 - 1 }
-    requires inside { (xs : List ℤ) → IsWholePoint (cases_of setting.now.about.now).variables (piece_rows piece.now) xs → IsInTarget (lists_of targets.now) xs }
+    requires inside { (xs : List ℤ) → IsWholePoint (cases_of setting.now.about.now).variables (piece_rows piece.now) xs →
+        IsInTarget (lists_of targets.now) xs }
     ensures shows { let about = cases_of setting.now.about.now in
         let lists = lists_of targets.now in
         IfOk result (λ tree. (into : List Piece) → lists ≡ lists_at piece.now.location into → ShowsInside about piece.now into tree) }
@@ -108,7 +109,8 @@ pub(crate) fn step_inside(
     requires into { ArePieces (cases_of setting.now.about.now) into.now }
     requires inside { OfPiece (cases_of setting.now.about.now) piece.now (LeadsTo (cases_of setting.now.about.now) Every (InPieces into.now)) }
     ensures shows { IfOk result (ShowsStep (cases_of setting.now.about.now) piece.now (case_view case.now) into.now) }
-    ensures refusals { IfErr result (IsRefusal (cases_of setting.now.about.now) setting.now.budget.now (λ a. a ≡ steps piece.now (case_view case.now) into.now)) }
+    ensures refusals { let asked = steps piece.now (case_view case.now) into.now in
+        IfErr result (IsRefusal (cases_of setting.now.about.now) setting.now.budget.now (λ a. a ≡ asked)) }
 {
     let variables = setting.about.variables();
     let columns = variables + case.draws;

@@ -68,7 +68,8 @@ struct InSome<'a> {
 }
 
 impl Owing for InSome<'_> {
-    ghost of = { λ s about q. IsPieceOf about.variables about.locations q × ArePieces about (joined_pieces s.regions.now) × OfPiece about q (InPieces (joined_pieces s.regions.now)) };
+    ghost of = { λ s about q. let pieces = joined_pieces s.regions.now in
+        IsPieceOf about.variables about.locations q × ArePieces about pieces × OfPiece about q (InPieces pieces) };
 
     ghost fits = { λ s about a p q. IsMarked p q × AreMarked (flat_map (λ kid. kid) a.kids) (joined_pieces s.regions.now) };
 

@@ -49,7 +49,8 @@ pub(crate) fn plain_with(
     requires over { IsRegion (cases_of about.now).variables (cases_of about.now).locations region }
     ensures region { IfOk result (λ part. part.region ≡ region) }
     ensures made { let system = cases_of about.now in
-        IfOk result (λ part. (ends : Bool) → IsMade system region ends 0 (plain_pieces system.variables region) children.items proofs.items part.node) }
+        let pieces = plain_pieces system.variables region in
+        IfOk result (λ part. (ends : Bool) → IsMade system region ends 0 pieces children.items proofs.items part.node) }
 {
     let variables = about.variables();
     let mut pieces = Vec::new(alloc);

@@ -131,7 +131,8 @@ pub(crate) trait Owing {
         requires splits { setting.now.budget.now.splits ≤ 128 }
         requires of { of self.now (cases_of setting.now.about.now) piece.now }
         ensures adds { let system = cases_of setting.now.about.now in
-            IfOk result (λ _. (a : Around) (p : Marked) → fits self.now system a p piece.now → Adds (owes self.now system a p) proofs.old.items proofs.new.items) }
+            IfOk result (λ _. (a : Around) (p : Marked) → fits self.now system a p piece.now →
+            Adds (owes self.now system a p) proofs.old.items proofs.new.items) }
         ensures refusals { let system = cases_of setting.now.about.now in
             IfErr result (IsRefusal system setting.now.budget.now (asks self.now system piece.now)) };
 }

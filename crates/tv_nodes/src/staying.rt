@@ -79,7 +79,8 @@ impl Owing for Onward<'_> {
     ghost fits = { λ s about a p q. IsMarked p q × AreMarked (hold_side s.shape (first_of a.kids) (second_of a.kids)) s.hold.now.pieces.items
         × AreMarked a.pieces s.own.now.pieces.items };
 
-    ghost owes = { λ s about a p. cover_of a.number kind.Hold (about_with about) p (hold_side s.shape (first_of a.kids) (second_of a.kids)) ∷ stay_of about a.number s.path p a.pieces };
+    ghost owes = { λ s about a p. let held = hold_side s.shape (first_of a.kids) (second_of a.kids) in
+        cover_of a.number kind.Hold (about_with about) p held ∷ stay_of about a.number s.path p a.pieces };
 
     ghost asks = { λ s about q a. (a ≡ lies q s.hold.now.pieces.items) ⊎ AsksStay about s.path q s.own.now.pieces.items a };
 
@@ -162,7 +163,8 @@ pub fn weak(
         AreStaying (cases_of setting.now.about.now) sides.now done.pieces.items onward.pieces.items own }
     ensures region { IfOk result (λ part. IsJoined (cases_of setting.now.about.now) (done ∷ onward ∷ []) part.region) }
     ensures part { let about = cases_of setting.now.about.now in
-        IfOk result (λ part. (f g : Property) → AreParts about (more f (more g none)) (sides.now.first.now ∷ sides.now.second.now ∷ []) children.items →
+        let regions = sides.now.first.now ∷ sides.now.second.now ∷ [] in
+        IfOk result (λ part. (f g : Property) → AreParts about (more f (more g none)) regions children.items →
         IsPart about (fix sides.now.path sides.now.shape f g) part.region part.node) }
     ensures refusals { let about = cases_of setting.now.about.now in
         let own = joined_pieces (done ∷ onward ∷ []) in

@@ -49,7 +49,8 @@ fn entry_of(
     first: usize,
     count: usize,
 ) -> Result<Entry, AllocError>
-    ensures { IfOk result (λ e. IsFallingEntry first count target fall target e.fall (map (λ l. l.items) lists.now) (map (λ l. l.items) e.lists.items)) }
+    ensures { let old = map (λ l. l.items) lists.now in
+        IfOk result (λ e. IsFallingEntry first count target fall target e.fall old (map (λ l. l.items) e.lists.items)) }
 {
     let mut lists = copied(alloc, lists)?;
     if (target as usize) < first {
