@@ -1,0 +1,11 @@
+use Rattle.tv_cases.specs.Systems.{cases_of}
+use Rattle.tv_cert.specs.declared.node.Proof.TheVariants.{Covered}
+use Rattle.tv_cert.specs.Obligations.{cover_of}
+use Rattle.tv_cert.specs.Claims.{about_with}
+use Rattle.tv_pre.proofs.AddLemmas.{adds_one}
+use Rattle.tv_pre.proofs.proving.prove_cover.Goals as goal
+
+pub returns-in_ok-push_item-in-Ok-clause-adds : goal.returns-in_ok-push_item-in-Ok-clause-adds
+returns-in_ok-push_item-in-Ok-clause-adds c number k p ps m h =
+    adds_one (cover_of number k (about_with (cases_of c.args.setting.now.about.now)) p ps) (Covered c.in-Ok.cover) c.args.proofs.now.items c.push_item.new.items.items c.in_ok-push_item-in-Ok.ensures
+    (c.in-Ok.ensures.shows number k p ps m h)

@@ -1,0 +1,34 @@
+use Rattle.std.proofs.Common.{◌≡◌, subst, sym, true}
+use Rattle.tv_cases.specs.LinearCases.{CaseSteps}
+use Rattle.tv_cases.specs.Systems.{cases_of}
+use Rattle.tv_formula.specs.declared.tree.Path.TheVariants.{Every}
+use Rattle.tv_known.specs.Rounds.{StaysIn}
+use Rattle.tv_region.specs.StepRegions.{InState}
+use Rattle.tv_pre.specs.Pieces.{InPieces}
+use Rattle.tv_pre.specs.Inclusions.{OfPiece, LeadsTo}
+use Rattle.tv_pre.specs.Questions.{chooses, AsksSteps, AsksStay}
+use Rattle.tv_pre.proofs.RefusalLemmas.{refusal_weaker}
+use Rattle.tv_pre.proofs.staying.prove_stay.Goals as goal
+
+pub prove_steps-requires-clause-stays : goal.prove_steps-requires-clause-stays
+prove_steps-requires-clause-stays c =
+    let about = cases_of c.args.setting.now.about.now in
+    let q = c.args.piece.now in
+    subst (λ qs. OfPiece about q (LeadsTo about Every (InPieces qs))) (sym c.deref.ensures.value)
+    (subst (λ path. OfPiece about q (StaysIn (CaseSteps about) path (InState c.args.own.now))) c.in-Every.is c.requires.stays)
+
+pub returns-in-Err-clause-refusals : goal.returns-in-Err-clause-refusals
+returns-in-Err-clause-refusals c =
+    let about = cases_of c.args.setting.now.about.now in
+    let q = c.args.piece.now in
+    let into = c.args.own.now.pieces.items in
+    refusal_weaker about c.args.setting.now.budget.now (AsksSteps about q c.deref.result.now) (AsksStay about c.args.path q into) c.in-Err.fault
+    (λ a h. subst (λ path. AsksStay about path q into a) (sym c.in-Every.is) (subst (λ qs. AsksSteps about q qs a) c.deref.ensures.value h)) c.in-Err.ensures.refusals
+
+pub returns-in-Err-prove_choice-clause-refusals : goal.returns-in-Err-prove_choice-clause-refusals
+returns-in-Err-prove_choice-clause-refusals c =
+    let about = cases_of c.args.setting.now.about.now in
+    let q = c.args.piece.now in
+    let into = c.args.own.now.pieces.items in
+    refusal_weaker about c.args.setting.now.budget.now (λ a. a ≡ chooses q true into) (AsksStay about c.args.path q into) c.in-Err-prove_choice.fault
+    (λ a h. subst (λ path. AsksStay about path q into a) (sym c.in-Any.is) h) c.in-Err-prove_choice.ensures.refusals
