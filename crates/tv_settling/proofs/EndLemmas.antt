@@ -10,7 +10,7 @@ use Rattle.tv_cert.specs.declared.node.Verdict.TheVariants.{Proved, Disproved}
 use Rattle.tv_cert.specs.Claims.{about_with, shown}
 use Rattle.tv_cert.specs.Nodes.{obligations}
 use Rattle.tv_cert.specs.Obligations.{AllMet}
-use Rattle.tv_shape.specs.Certificates.{IsOf}
+use Rattle.tv_shape.specs.Certificates.{IsOf, IsSettling}
 use Rattle.tv_shape.specs.declared.certificate.Certificate.{Certificate}
 use Rattle.tv_lexrank.specs.Certified.{SaysProved, IsProofOf}
 use Rattle.tv_formula.specs.Properties.{Property}
@@ -28,7 +28,6 @@ use Rattle.tv_lexrank.specs.declared.fault.RankFault.TheVariants as ranking
 use Rattle.tv_lexrank.specs.Outcomes.{Refuses}
 use Rattle.tv_settling.specs.Closed.{AreKept}
 use Rattle.tv_settling.specs.Ends.{IsUncovered, RefusesUnder, handed_on, IsClosed, unranked, AreFound, RefusesFound}
-use Rattle.tv_settling.specs.Settling.{IsSettling}
 
 -- what a certificate that says proved shows is what is claimed
 pub shown_proved : (claim : Claim) (verdict : Verdict) → SaysProved verdict → shown claim verdict ≡ property_of claim.proved

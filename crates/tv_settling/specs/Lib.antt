@@ -2,5 +2,4 @@ pub mod Closed
 pub mod Refusals
 pub mod Below
 pub mod Nodes
-pub mod Settling
 pub mod Ends

@@ -9,7 +9,7 @@ ghost use Rattle.tv_cert.specs.Claims.{StatesIts, claim_variables};
 ghost use Rattle.tv_candidates.specs.Inductive.{IsInductive};
 ghost use Rattle.tv_invariant.specs.Passes.{AreOver};
 ghost use Rattle.tv_known.specs.Ranking.{HasLexicographicRanking};
-ghost use Rattle.tv_settling.specs.Settling.{IsSettling};
+ghost use Rattle.tv_shape.specs.Certificates.{IsSettling};
 ghost use Rattle.tv_settling.specs.Ends.{IsFirstEnd, IsFirstFault, RefusesUnder, handed_on, IsClosed, unranked};
 
 use crate::fault::EndFault;

@@ -7,7 +7,7 @@ ghost use Rattle.tv_formula.specs.Properties.{term};
 ghost use Rattle.tv_cases.specs.Systems.{cases_of};
 ghost use Rattle.tv_cert.specs.Claims.{StatesIts, claim_variables};
 ghost use Rattle.tv_invariant.specs.Asking.{Gave, HaveNoMore};
-ghost use Rattle.tv_settling.specs.Settling.{IsSettling};
+ghost use Rattle.tv_shape.specs.Certificates.{IsSettling};
 ghost use Rattle.tv_settling.specs.Ends.{RefusesFound};
 
 use crate::attempts::later_end;

@@ -1,10 +1,13 @@
 -- Certificates of a formula.
 use Rattle.std.specs.Prelude.{◌≡◌, ◌⊎◌, ◌<◌, ◌≤◌, ◌^◌, length}
 use Rattle.tv_formula.specs.Properties.{Property}
+use Rattle.tv_cases.specs.LinearCases.{CaseSystem}
+use Rattle.tv_cert.specs.declared.claim.Claim.{Claim}
 use Rattle.tv_cert.specs.declared.node.Node.{Node}
 use Rattle.tv_cert.specs.declared.node.Verdict.{Verdict}
+use Rattle.tv_cert.specs.Claims.{about_with, shown}
 use Rattle.tv_cert.specs.Nodes.{size, obligations}
-use Rattle.tv_cert.specs.Obligations.{About}
+use Rattle.tv_cert.specs.Obligations.{About, AllMet}
 use Rattle.tv_cert.specs.Statements.{stated}
 use Rattle.tv_shape.specs.Fitting.{Fits, IsFirstFault}
 use Rattle.tv_shape.specs.Kinds.{kinds_stated}
@@ -26,3 +29,8 @@ abbrev pub IsRefused : About → Property → Node → Verdict → ShapeFault �
 IsRefused about f root verdict (fault.Shape n) = IsFirstFault about f root verdict (fault.Shape n)
 IsRefused about f root verdict (fault.Deep n) = IsFirstFault about f root verdict (fault.Deep n)
 IsRefused about f root verdict fault.Memory = (2 ^ 32 ≤ size root) ⊎ Fits about f root verdict
+
+-- the certificate is one of what is claimed, or of its denial, as its verdict says, and all its obligations are met
+pub record IsSettling (about : CaseSystem) (claim : Claim) (c : Certificate) : Type 0 where
+  pub of : IsOf (about_with about) (shown claim c.verdict) c
+  pub met : AllMet (obligations (about_with about) (shown claim c.verdict) c.root c.verdict)

@@ -46,7 +46,7 @@ use Rattle.tv_invariant.proofs.PieceLemmas.{in_rows}
 use Rattle.tv_linear.specs.Linear.{columns, IsMet, IsWithin}
 use Rattle.tv_top.specs.declared.cause.Cause.{Cause}
 use Rattle.tv_top.specs.declared.cause.Cause.TheVariants.{Unsolved, Spent, Composed, Unranked, Weak, TooManyPaths, Unbuilt}
-use Rattle.tv_settling.specs.Settling.{IsSettling}
+use Rattle.tv_shape.specs.Certificates.{IsSettling}
 use Rattle.tv_top.specs.declared.answer.Answer.{Answer}
 use Rattle.tv_top.specs.declared.answer.Answer.TheVariants.{Proved, Disproved, Obligation, CertificateLine, Words, TooLong, Text, Property as Unnamed, WideEdge, TooManyInEdge, Unknown, ReadFault, Memory}
 use Rattle.tv_top.specs.Answers.{ended, uncovered, unknown, too_wide}
