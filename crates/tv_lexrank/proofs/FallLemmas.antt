@@ -93,7 +93,7 @@ spread_narrow above line h =
     All-append (IsWithin 62) (take k line) (zeros above ++ drop k line) (All-take (IsWithin 62) k line h)
     (All-append (IsWithin 62) (zeros above) (drop k line) (zeros-narrow above) (All-drop (IsWithin 62) k line h))
 
-spreads_narrow : (above : ℕ) (lines : List (List ℤ)) → AreNarrowLines lines → AreNarrowLines (map (spread above) lines)
+pub spreads_narrow : (above : ℕ) (lines : List (List ℤ)) → AreNarrowLines lines → AreNarrowLines (map (spread above) lines)
 spreads_narrow above [] h = All-nil (All (IsWithin 62))
 spreads_narrow above (l ∷ lines) h =
     All-cons (All (IsWithin 62)) (spread above l) (map (spread above) lines) (spread_narrow above l (All-head (All (IsWithin 62)) l lines h)) (spreads_narrow above lines (All-tail (All (IsWithin 62)) l lines h))

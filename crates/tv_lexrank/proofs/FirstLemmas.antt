@@ -97,6 +97,7 @@ answered_bare about known (ranked.Node node shown) bare h = record {
     fits = h.ends.fits;
     met = h.ends.met;
     pieces = λ l i. let p = h.ends.pieces l i in record { piece = p.piece; first = p.first; has = p.has ∙ bare l };
+    single = h.ends.single;
   };
   each = each_bare about known (pieces_of node) about.cases shown.items bare h.each;
 }

@@ -235,6 +235,7 @@ node_ranked r ranked (Node' ps m shape kids list) pieces proofs same own shown l
     first = subst (λ z. slice_get (pieces_at z l) 0 ≡ Some (ranked_piece r l)) (sym pieces_same) (pieces_there r l h);
     has = refl;
   };
+  single = λ l h. subst (λ z. length (pieces_at z l) ≡ 1) (sym pieces_same) (ap length (one_there r (cases_of r.about.now).locations l h));
 }
   where
     given_same : ps ≡ pieces

@@ -1,5 +1,5 @@
 -- The node of a ranking.
-use Rattle.std.specs.Prelude.{◌≡◌, ℕ, ◌<◌, List, [], Some, slice_get}
+use Rattle.std.specs.Prelude.{◌≡◌, ℕ, ◌<◌, List, [], length, Some, slice_get}
 use Rattle.tv_linear.specs.Linear.{Linear}
 use Rattle.tv_linear.specs.declared.region.Piece.{Piece}
 use Rattle.tv_cases.specs.LinearCases.{CaseSystem}
@@ -31,11 +31,12 @@ pub record IsPieceAt (pieces : List Marked) (l : ℕ) (rows : List Linear) : Typ
   pub has : rows_of piece ≡ rows
 
 -- A node that shows that every run from the known states ends: it fits, all its obligations are met, whatever number it has, and at each
--- location it has the rows that are known there.
+-- location it has one piece, with the rows that are known there.
 pub record ShowsEnd (about : CaseSystem) (known : List Piece) (node : Node) : Type 0 where
   pub fits : NodesFit (about_with about) term node
   pub met : (number : ℕ) → AllMet (entries number (about_with about) term node)
   pub pieces : (l : ℕ) → l < about.locations → IsPieceAt (pieces_of node) l (rows_at known l)
+  pub single : (l : ℕ) → l < about.locations → length (pieces_at (pieces_of node) l) ≡ 1
 
 -- the same from all states, where no rows are known
 abbrev pub IsRankedNode : CaseSystem → Node → Type 0

@@ -76,7 +76,7 @@ fn copied(alloc: Global, lists: &[Vec<i64>]) -> Result<Vec<Vec<i64>>, AllocError
 }
 
 /// Puts the lines at the end of lists, each spread over so many rows more.
-fn append_spread(
+pub fn append_spread(
     alloc: Global,
     lists: &mut Vec<Vec<i64>>,
     lines: &[Vec<i64>],

@@ -27,7 +27,7 @@ mod step;
 
 pub use certificate::{known_certificate, proved_certificate, ranked_certificate, start_cover};
 pub use closed::{closing, cover_one, whole_cover};
-pub use falling::Fall;
+pub use falling::{Fall, append_spread};
 pub use fault::RankFault;
 pub use known::{are_known, known_at};
 pub use lexicographic::{first_attempt, lex_rank};
