@@ -1,0 +1,9 @@
+//! The tests of the further searches, through public calls alone.
+#![tactic(auto)]
+
+#[cfg(test)]
+mod disproofs;
+#[cfg(test)]
+mod proofs;
+#[cfg(test)]
+mod saying;

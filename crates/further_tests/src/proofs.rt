@@ -1,0 +1,46 @@
+use crate::saying::{Said, answer_to};
+use std::test::Fail;
+
+/// Counts down, and then goes round.
+const ROUND: &str =
+    "START: 0; FROM: 0; assume(x > 0); x := x - 1; TO: 0; FROM: 0; assume(x <= 0); TO: 1; FROM: 1; TO: 1;";
+
+/// A loop that another loop feeds.
+const FED: &str =
+    "START: 0; FROM: 0; assume(x > 0); x := x - 1; y := nondet(); TO: 1; FROM: 1; assume(y > 0); y := y - 1; TO: 1; FROM: 1; assume(y <= 0); TO: 0; FROM: 0; assume(x <= 0); TO: 2; FROM: 2; TO: 2;";
+
+/// A server with a counter of work.
+const SERVER: &str =
+    "START: idle; FROM: idle; w := nondet(); TO: work; FROM: work; assume(w > 0); w := w - 1; TO: work; FROM: work; assume(w <= 0); TO: idle;";
+
+/// Goes on in a region, and may leave it upwards.
+const KEPT: &str =
+    "START: 0; FROM: 0; x := x + 1; TO: 0; FROM: 0; assume(x > 10); TO: 1; FROM: 1; TO: 1;";
+
+/// A program, a property of it, and what is said.
+const ROWS: &[(&str, &str, Said)] = &[
+    (ROUND, "[AF](x <= 0)", Said::Proved),
+    (ROUND, "[AF](at(1))", Said::Proved),
+    (ROUND, "[AG]([AF](at(1)))", Said::Proved),
+    (ROUND, "[AG](x > 0 || [AF](at(1)))", Said::Proved),
+    (ROUND, "[AX](at(0) || at(1))", Said::Proved),
+    (ROUND, "[AG](at(0) || [AG](at(1)))", Said::Proved),
+    (FED, "[AF](at(2))", Said::Proved),
+    (FED, "[AF](at(2) && x <= 0)", Said::Proved),
+    (FED, "[AF]([AG](at(2)))", Said::Proved),
+    (SERVER, "[AG]([AF](at(idle)))", Said::Proved),
+    (SERVER, "[AG](at(idle) || [AF](w <= 0))", Said::Proved),
+    (KEPT, "[AF](x > 10)", Said::Proved),
+    (KEPT, "[AF](at(1))", Said::Disproved),
+    (KEPT, "[AG](x < 0 || [AG](x >= 0))", Said::Proved),
+    (KEPT, "[EF](x > 5)", Said::Nothing),
+];
+
+#[test]
+fn properties_hold_by_ranks(rt: HostRuntime) -> Result<(), Fail> {
+    for (program, property, wanted) in ROWS {
+        let answer = answer_to(rt.alloc(), program, property)?;
+        assert_eq!(rt; answer, *wanted, "{property} {program}");
+    }
+    Ok(())
+}

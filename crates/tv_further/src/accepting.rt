@@ -1,0 +1,56 @@
+// What the checker says of an attempt.
+
+ghost use Rattle.std.specs.Prelude.{◌≡◌, IfOk, IfSome};
+ghost use Rattle.std.specs.Bool.{OnTrue};
+ghost use Rattle.tv_cases.specs.Systems.{cases_of};
+ghost use Rattle.tv_cert.specs.Claims.{StatesIts, about_with, claim_variables, shown};
+ghost use Rattle.tv_cert.specs.Nodes.{obligations};
+ghost use Rattle.tv_cert.specs.Obligations.{AllMet};
+ghost use Rattle.tv_shape.specs.Certificates.{IsOf, IsSettling};
+
+use crate::search::Attempt;
+use std::alloc::{AllocError, Global};
+use tv_cases::Cases;
+use tv_cert::Claim;
+use tv_check::check;
+use tv_shape::{Certificate, ShapeFault};
+
+/// Whether all obligations of the certificate are met.
+fn is_met(about: &Cases, claim: &Claim, certificate: &Certificate) -> bool
+    requires states { StatesIts claim.now }
+    requires variables { claim_variables claim.now ≡ (cases_of about.now).variables }
+    requires fits { IsOf (about_with (cases_of about.now)) (shown claim.now certificate.now.verdict) certificate.now }
+    ensures { let system = cases_of about.now in
+        let c = certificate.now in
+        OnTrue result (AllMet (obligations (about_with system) (shown claim.now c.verdict) c.root c.verdict)) }
+{
+    let verdict = certificate.verdict();
+    match check(about, claim.aim(verdict), certificate.root(), verdict) {
+        Ok(()) => true,
+        Err(_) => false,
+    }
+}
+
+/// The certificate of an attempt where it fits the claim and the checker accepts it.
+pub(crate) fn accepted(
+    alloc: Global,
+    about: &Cases,
+    claim: &Claim,
+    attempt: Attempt,
+) -> Result<Option<Certificate>, AllocError>
+    requires states { StatesIts claim.now }
+    requires variables { claim_variables claim.now ≡ (cases_of about.now).variables }
+    ensures { IfOk result (λ found. IfSome found (IsSettling (cases_of about.now) claim.now)) }
+{
+    match Certificate::new(alloc, about, claim, attempt.verdict, attempt.root) {
+        Err(ShapeFault::Memory) => Err(AllocError),
+        Err(_) => Ok(None),
+        Ok(certificate) => {
+            if is_met(about, claim, &certificate) {
+                Ok(Some(certificate))
+            } else {
+                Ok(None)
+            }
+        }
+    }
+}
