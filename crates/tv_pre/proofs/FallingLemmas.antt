@@ -157,16 +157,16 @@ choice_narrow about done count (choice.Take taken k j draws ls) (choice.Take oth
     (subst CountNarrow (sym h.0) w.0, e.0, e.1, subst (All RowNarrow) (sym h.1) w.3, all_back AreNarrow (λ l. l.items) ns.items e.2)
 
 -- ---- what they are offered for
-shape_even : (n : ℕ) (counts : ℕ → ℕ → Option ℕ) (count : ℕ) (tree : CoverTree) → CoverShape n counts count tree → TreeRows (λ r. columns r ≡ n) tree
+pub shape_even : (n : ℕ) (counts : ℕ → ℕ → Option ℕ) (count : ℕ) (tree : CoverTree) → CoverShape n counts count tree → TreeRows (λ r. columns r ≡ n) tree
 shape_even n counts count (cover.Split' r p a q b) h = (h.0, shape_even n counts (count + 1) a h.1, shape_even n counts (count + 1) b h.2)
 shape_even n counts count (cover.Empty ms) h = tt
 shape_even n counts count (cover.Into k j ls) h = tt
 
-given_held : (N : ℕ) (rows : List Linear) → AllHeld N (as_given rows)
+pub given_held : (N : ℕ) (rows : List Linear) → AllHeld N (as_given rows)
 given_held N [] = tt
 given_held N (r ∷ rows) = ((λ j l. tt), tt, given_held N rows)
 
-held_append : (N : ℕ) (ks qs : List Known) → AllHeld N ks → AllHeld N qs → AllHeld N (ks ++ qs)
+pub held_append : (N : ℕ) (ks qs : List Known) → AllHeld N ks → AllHeld N qs → AllHeld N (ks ++ qs)
 held_append N [] qs h g = g
 held_append N (k ∷ ks) qs h g = (h.0, h.1, held_append N ks qs h.2 g)
 
@@ -174,7 +174,7 @@ given_many : (rows : List Linear) → length (as_given rows) ≡ length rows
 given_many rows = length-map rows (λ r. given r)
 
 -- as many pieces that are done at a location
-done_count : (l : ℕ) (dones : List Marked) (done : List Piece) → AreMarked dones done → length (pieces_at dones l) ≡ length (filter (λ p. p.location == l) done)
+pub done_count : (l : ℕ) (dones : List Marked) (done : List Piece) → AreMarked dones done → length (pieces_at dones l) ≡ length (filter (λ p. p.location == l) done)
 done_count l dones done h =
     sym (length-map (pieces_at dones l) rows_of) ∙ ap length (lists_marked l dones done h) ∙ sym (ap length (lists_filtered l done)) ∙ length-map (leading.pieces_at done l) piece_rows
 

@@ -49,19 +49,19 @@ come_is about number Every Strong all first second p e = refl
 come_is about number Any Strong all first second p e = refl
 
 -- ---- ranks of pieces
-each_so : {A : Type 0} (P Q : A → Type 0) → ((a : A) → P a → Q a) → (xs : List A) → EachOf P xs → EachOf Q xs
+pub each_so : {A : Type 0} (P Q : A → Type 0) → ((a : A) → P a → Q a) → (xs : List A) → EachOf P xs → EachOf Q xs
 each_so P Q f [] h = tt
 each_so P Q f (x ∷ xs) h = (f x h.0, each_so P Q f xs h.1)
 
-each_append : {A : Type 0} (P : A → Type 0) (xs ys : List A) → EachOf P xs → EachOf P ys → EachOf P (xs ++ ys)
+pub each_append : {A : Type 0} (P : A → Type 0) (xs ys : List A) → EachOf P xs → EachOf P ys → EachOf P (xs ++ ys)
 each_append P [] ys h g = g
 each_append P (x ∷ xs) ys h g = (h.0, each_append P xs ys h.1 g)
 
-each_done : (n : ℕ) (qs : List Piece) → EachOf (λ d. goes d ≡ false) (map (marked_as n Done []) qs)
+pub each_done : (n : ℕ) (qs : List Piece) → EachOf (λ d. goes d ≡ false) (map (marked_as n Done []) qs)
 each_done n [] = tt
 each_done n (q ∷ qs) = (refl, each_done n qs)
 
-not_below_zero : (k : ℕ) → pos 0 ≤ℤ pos k
+pub not_below_zero : (k : ℕ) → pos 0 ≤ℤ pos k
 not_below_zero k = omega (arith, ints)
 
 next_below : (k : ℕ) → (pos k +ℤ pos 1) ≤ℤ pos (suc k)
@@ -70,11 +70,11 @@ next_below k = omega (arith, ints)
 one_more : (a : ℤ) (k m : ℕ) → m ≡ suc k → a ≤ℤ pos (suc k) → a ≤ℤ pos (suc m)
 one_more a k m e h = omega (arith, ints, e, h)
 
-each_ranked : (n k : ℕ) (qs : List Piece) → EachOf (IsRankBelow n (pos (suc k))) (map (marked_as n Go (constant_row n (pos k) ∷ [])) qs)
+pub each_ranked : (n k : ℕ) (qs : List Piece) → EachOf (IsRankBelow n (pos (suc k))) (map (marked_as n Go (constant_row n (pos k) ∷ [])) qs)
 each_ranked n k [] = tt
 each_ranked n k (q ∷ qs) = (record { goes_on = refl; rank = pos k; ranks = refl; below = next_below k; not_below_zero = not_below_zero k }, each_ranked n k qs)
 
-still_below : (n k m : ℕ) (p : Marked) → m ≡ suc k → IsRankBelow n (pos (suc k)) p → IsRankBelow n (pos (suc m)) p
+pub still_below : (n k m : ℕ) (p : Marked) → m ≡ suc k → IsRankBelow n (pos (suc k)) p → IsRankBelow n (pos (suc m)) p
 still_below n k m p e h = record { goes_on = h.goes_on; rank = h.rank; ranks = h.ranks; below = one_more (h.rank +ℤ pos 1) k m e h.below; not_below_zero = h.not_below_zero }
 
 all_go : (n : ℕ) (a : ℤ) (ps : List Marked) → EachOf (IsRankBelow n a) ps → EachGoes true ps
@@ -228,7 +228,7 @@ left_next about sides first all earlier next layer left h e = subst (λ qs. AreL
 })
 
 -- ---- the part
-ranks_may : (path : Path) (shape : Shape) (f g : Property) (m : ℕ) → must_end shape ≡ true → may_rank (fix path shape f g) ≡ false → m ≡ 0
+pub ranks_may : (path : Path) (shape : Shape) (f g : Property) (m : ℕ) → must_end shape ≡ true → may_rank (fix path shape f g) ≡ false → m ≡ 0
 ranks_may path Until f g m e h = absurd (let no : ⊥ = cc in no)
 ranks_may path Strong f g m e h = absurd (let no : ⊥ = cc in no)
 ranks_may path Weak f g m e h = absurd (let no : ⊥ = cc in no)

@@ -27,7 +27,7 @@ use Rattle.tv_pre.specs.Around.{AreKids}
 use Rattle.tv_pre.specs.Making.{IsMade}
 
 -- ---- own proofs
-shape_shallow : (o : Owed) (p : Proof) → ProofShape o p → proof_splits p ≤ 128
+pub shape_shallow : (o : Owed) (p : Proof) → ProofShape o p → proof_splits p ≤ 128
 shape_shallow (a_cover n known owed) (Covered tree) h = h.1
 shape_shallow (a_cover n known owed) (Chosen tree) h = absurd h
 shape_shallow (a_choice n cases l stop owed known) (Covered tree) h = absurd h

@@ -95,7 +95,7 @@ always_refuted n ks f h a = record {
     no_number : (j : ℕ) → j < n → IsHeld (neg_ℤ (known_number f (Some j)))
     no_number j l = subst (λ z. IsHeld (neg_ℤ z)) (sym (a.inner j l)) nothing
 
-shown_append : (n : ℕ) (ks xs ys : List Known) (ms ns : List (List ℤ)) → Shown n ks xs ms → Shown n ks ys ns → Shown n ks (xs ++ ys) (ms ++ ns)
+pub shown_append : (n : ℕ) (ks xs ys : List Known) (ms ns : List (List ℤ)) → Shown n ks xs ms → Shown n ks ys ns → Shown n ks (xs ++ ys) (ms ++ ns)
 shown_append n ks [] ys [] ns h g = g
 shown_append n ks [] ys (m ∷ ms) ns h g = absurd h
 shown_append n ks (x ∷ xs) ys [] ns h g = absurd h

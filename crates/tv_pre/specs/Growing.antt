@@ -1,14 +1,15 @@
 -- Fixed points that are to come to an end, by rounds.
-use Rattle.std.specs.Prelude.{◌≡◌, ◌⊎◌, ℕ, suc, ◌<◌, List, [], ◌∷◌, ◌++◌, length, map, All, pos, true, false}
+use Rattle.std.specs.Prelude.{◌≡◌, ◌⊎◌, ℕ, suc, ◌<◌, ◌^◌, List, [], ◌∷◌, ◌++◌, length, map, All, pos, true, false}
 use Rattle.std.specs.List.{flat_map}
 use Rattle.tv_program.specs.Steps.{State}
 use Rattle.tv_formula.specs.declared.tree.Path.{Path}
 use Rattle.tv_formula.specs.declared.tree.Path.TheVariants.{Every, Any}
+use Rattle.tv_linear.specs.Arithmetic.{constant_row}
 use Rattle.tv_linear.specs.declared.region.Piece.{Piece}
 use Rattle.tv_linear.specs.declared.region.Region.{Region}
 use Rattle.tv_cases.specs.LinearCases.{CaseSystem, CaseSteps}
 use Rattle.tv_cert.specs.declared.node.Kind.TheVariants as kind
-use Rattle.tv_cert.specs.declared.node.Mark.TheVariants.{Done}
+use Rattle.tv_cert.specs.declared.node.Mark.TheVariants.{Done, Go}
 use Rattle.tv_cert.specs.declared.node.Marked.{Marked}
 use Rattle.tv_cert.specs.Claims.{about_with}
 use Rattle.tv_cert.specs.Obligations.{Obligation, steps_of, step_fall, choice_of, choice_into, choice_fall}
@@ -80,3 +81,14 @@ pub record IsGrown (about : CaseSystem) (sides : Sides) (grown : Grown) : Type 0
   pub offers : (number : ℕ) (first second later : List Marked) → AreMarked first sides.first.now.pieces.items → AreMarked second sides.second.now.pieces.items →
       Offers (flat_map (fixed_owes about sides number (grown.pieces.items ++ later) first second false) (map (marked_as about.variables Done []) done)
       ++ flat_map (fixed_owes about sides number (grown.pieces.items ++ later) first second true) ranked) grown.proofs.items
+
+-- the second node is the first one with the pieces of a layer, whose rank is the number of the round, and the same proofs
+pub record HasLayer (n : ℕ) (old : Grown) (layer : Region) (new : Grown) : Type 0 where
+  pub count : new.count ≡ old.count
+  pub round : new.round ≡ suc old.round
+  pub small : new.round < 2 ^ 32
+  pub variables : new.region.variables ≡ old.region.variables
+  pub locations : new.region.locations ≡ old.region.locations
+  pub whole : new.region.pieces.items ≡ old.region.pieces.items ++ layer.pieces.items
+  pub pieces : new.pieces.items ≡ old.pieces.items ++ map (marked_as n Go (constant_row n (pos new.round) ∷ [])) layer.pieces.items
+  pub proofs : new.proofs.items ≡ old.proofs.items

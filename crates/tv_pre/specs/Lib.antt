@@ -10,3 +10,15 @@ pub mod Fixed
 pub mod Atoms
 pub mod Ranked
 pub mod Growing
+pub mod Starting
+pub mod Built
+pub mod Faults
+pub mod Finding
+pub mod Along
+pub mod Proving
+pub mod Ending
+pub mod Lowering
+pub mod RankedUntil
+pub mod Search
+pub mod Arguments
+pub mod RankedAlong

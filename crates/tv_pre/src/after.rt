@@ -24,9 +24,9 @@ use tv_linear::{Piece, Region};
 
 /// Pieces from which each step, or some step, leads into a region.
 #[derive(Drop)]
-struct Before<'a> {
-    path: Path,
-    child: &'a Region,
+pub(crate) struct Before<'a> {
+    pub path: Path,
+    pub child: &'a Region,
 }
 
 impl Owing for Before<'_> {

@@ -42,7 +42,11 @@ pub(crate) fn everywhere(alloc: Global, about: &Cases) -> Result<Region, AllocEr
 }
 
 /// A choice that some step leads from each state of the piece.
-fn successor(setting: &Setting, piece: &Piece, anywhere: &Region) -> Result<Choice, CoverFault>
+pub(crate) fn successor(
+    setting: &Setting,
+    piece: &Piece,
+    anywhere: &Region,
+) -> Result<Choice, CoverFault>
     requires splits { setting.now.budget.now.splits ≤ 128 }
     requires piece { IsPieceOf (cases_of setting.now.about.now).variables (cases_of setting.now.about.now).locations piece.now }
     requires anywhere { IsEverywhere (cases_of setting.now.about.now) anywhere.now }
@@ -60,7 +64,7 @@ fn successor(setting: &Setting, piece: &Piece, anywhere: &Region) -> Result<Choi
 }
 
 /// Adds a cover for each case from the location of a piece, each step from which leads into pieces that are done or have lesser ranks.
-fn prove_falling_steps(
+pub(crate) fn prove_falling_steps(
     setting: &Setting,
     piece: &Piece,
     into: &[Piece],

@@ -30,7 +30,7 @@ pub(crate) fn hold_of<'a>(sides: &'a Sides) -> &'a Region
 }
 
 /// Whether both arguments are to hold at the end.
-fn has_two_ends(shape: Shape) -> bool
+pub(crate) fn has_two_ends(shape: Shape) -> bool
     ensures { result ≡ two_ends shape }
 {
     match shape {

@@ -8,7 +8,7 @@ ghost use Rattle.tv_cases.specs.Systems.{cases_of};
 ghost use Rattle.tv_known.specs.Rounds.{must_end};
 ghost use Rattle.tv_region.specs.Regions.{IsRegion};
 ghost use Rattle.tv_pre.specs.Fixed.{AreOver, IsJoined, AtEnd, AsksEnds};
-ghost use Rattle.tv_pre.specs.Growing.{IsEverywhere, IsNextLayer, AreNextLayers, AsksLayer, AsksLayers, IsGrown};
+ghost use Rattle.tv_pre.specs.Growing.{IsEverywhere, IsNextLayer, AreNextLayers, AsksLayer, AsksLayers, IsGrown, HasLayer};
 ghost use Rattle.tv_pre.specs.Inclusions.{OfPieces};
 ghost use Rattle.tv_pre.specs.Parts.{IsPart, AreParts};
 ghost use Rattle.tv_pre.specs.Questions.{IsRefusal};
@@ -86,7 +86,45 @@ fn started(setting: &Setting, sides: &Sides, done: Region) -> Result<Grown, Cove
     })
 }
 
-/// The node with one more layer, whose pieces go into those that are there. There is no room for 2^32 rounds.
+/// The node with the pieces of one more layer, of which it has the proofs. There is no room for 2^32 rounds.
+pub(crate) fn with_layer(
+    setting: &Setting,
+    grown: Grown,
+    layer: Region,
+) -> Result<Grown, AllocError>
+    ensures { IfOk result (HasLayer (cases_of setting.now.about.now).variables grown layer) }
+{
+    let Grown {
+        count,
+        round,
+        region,
+        mut pieces,
+        proofs,
+    } = grown;
+    if round == u32::MAX {
+        return Err(AllocError);
+    }
+    let number = round + 1;
+    let variables = setting.about.variables();
+    let rank = rank_row(setting.alloc, variables, number)?;
+    push_marked(
+        setting.alloc,
+        variables,
+        &layer.pieces,
+        Mark::Go,
+        &[rank],
+        &mut pieces,
+    )?;
+    Ok(Grown {
+        count,
+        round: number,
+        region: joined(region, layer)?,
+        pieces,
+        proofs,
+    })
+}
+
+/// The node with one more layer, whose pieces go into those that are there.
 fn grown_by(
     setting: &Setting,
     sides: &Sides,
@@ -109,13 +147,9 @@ fn grown_by(
         count,
         round,
         region,
-        mut pieces,
+        pieces,
         mut proofs,
     } = grown;
-    if round == u32::MAX {
-        return Err(CoverFault::Memory);
-    }
-    let number = round + 1;
     let list: &[Piece] = &region.pieces;
     let (done, _rest) = list.split_at(count);
     let owing = Round {
@@ -130,23 +164,14 @@ fn grown_by(
         Err(fault) => return Err(fault),
         Ok(()) => {}
     }
-    let variables = setting.about.variables();
-    let rank = rank_row(setting.alloc, variables, number)?;
-    push_marked(
-        setting.alloc,
-        variables,
-        &layer.pieces,
-        Mark::Go,
-        &[rank],
-        &mut pieces,
-    )?;
-    Ok(Grown {
+    let grown = Grown {
         count,
-        round: number,
-        region: joined(region, layer)?,
+        round,
+        region,
         pieces,
         proofs,
-    })
+    };
+    Ok(with_layer(setting, grown, layer)?)
 }
 
 /// The part of an until or a strong until: states that are done, where all end sides hold, and layers of states that go into those before.

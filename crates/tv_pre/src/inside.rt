@@ -15,6 +15,7 @@ ghost use Rattle.tv_pre.specs.Pieces.{ArePieces, InPieces};
 ghost use Rattle.tv_pre.specs.Inclusions.{OfPiece, LeadsTo, Chooses};
 ghost use Rattle.tv_pre.specs.Offers.{ShowsInside, ShowsStep, ShowsChoice};
 ghost use Rattle.tv_pre.specs.Questions.{lies, steps, chooses, IsRefusal};
+ghost use Rattle.tv_pre.specs.Starting.{CoversOrLeaves};
 ghost use Rattle.tv_formula.specs.declared.tree.Path.TheVariants.{Every};
 
 use crate::Setting;
@@ -26,6 +27,32 @@ use tv_choice::{Chosen, choose};
 use tv_cover::{Covered, cover};
 use tv_farkas::CoverFault;
 use tv_linear::{Choice, Cover, Piece, Poly, Region};
+
+/// A cover of a piece by these targets, or values in the piece that lie in none of them.
+pub(crate) fn cover_at(
+    setting: &Setting,
+    piece: &Piece,
+    targets: &[Poly],
+) -> Result<Covered, CoverFault>
+    requires splits { setting.now.budget.now.splits ≤ 128 }
+    requires piece { IsPieceOf (cases_of setting.now.about.now).variables (cases_of setting.now.about.now).locations piece.now }
+    requires same { All (AreEven (cases_of setting.now.about.now).variables) (lists_of targets.now) }
+    requires count { length targets.now < 2 ^ 32 - 1 }
+    ensures answers { IfOk result (CoversOrLeaves (cases_of setting.now.about.now) piece.now (lists_of targets.now)) }
+    ensures refusals { let budget = setting.now.budget.now in
+        let n = (cases_of setting.now.about.now).variables in
+        IfErr result (IsCoverFault n (lists_of targets.now) (piece_rows piece.now) budget.pivots budget.splits) }
+{
+    let _variables = setting.about.variables();
+    match cover(setting.alloc, &piece.poly, targets, setting.budget) {
+        Err(fault) => Err(fault),
+        Ok(Covered::Hole(values)) => Ok(Covered::Hole(values)),
+        Ok(Covered::Tree(cover)) => {
+            narrow_tree(cover.tree());
+            Ok(Covered::Tree(cover))
+        }
+    }
+}
 
 /// A cover of a piece by these targets, where it lies in them.
 fn cover_by(setting: &Setting, piece: &Piece, targets: &[Poly]) -> Result<Cover, CoverFault>
@@ -42,14 +69,10 @@ fn cover_by(setting: &Setting, piece: &Piece, targets: &[Poly]) -> Result<Cover,
         let n = (cases_of setting.now.about.now).variables in
         IfErr result (IsCoverFault n (lists_of targets.now) (piece_rows piece.now) budget.pivots budget.splits) }
 {
-    let _variables = setting.about.variables();
-    match cover(setting.alloc, &piece.poly, targets, setting.budget) {
+    match cover_at(setting, piece, targets) {
         Err(fault) => Err(fault),
         Ok(Covered::Hole(_)) => unreachable!(),
-        Ok(Covered::Tree(cover)) => {
-            narrow_tree(cover.tree());
-            Ok(cover)
-        }
+        Ok(Covered::Tree(cover)) => Ok(cover),
     }
 }
 

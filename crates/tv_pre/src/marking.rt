@@ -11,7 +11,7 @@ use tv_linear::{Piece, Row};
 use tv_simplex::push_item;
 
 /// The piece with a mark and ranks. There is no room for 2^32 rows.
-fn marked_as(
+pub(crate) fn marked_as(
     alloc: Global,
     variables: u32,
     piece: &Piece,

@@ -23,7 +23,7 @@ fn last_line(alloc: Global, count: usize) -> Result<Vec<i64>, AllocError>
 }
 
 /// Copies of lists.
-fn copied(alloc: Global, lists: &[Vec<i64>]) -> Result<Vec<Vec<i64>>, AllocError>
+pub(crate) fn copied(alloc: Global, lists: &[Vec<i64>]) -> Result<Vec<Vec<i64>>, AllocError>
     ensures { IfOk result (λ v. map (λ l. l.items) v.items ≡ map (λ l. l.items) lists.now) }
 {
     let mut copies = Vec::new(alloc);

@@ -1,5 +1,5 @@
-use Rattle.std.proofs.Common.{◌≡◌, ◌∙◌, ◌⊎◌, ◌+◌, ◌<◌, ◌++◌, [], ◌∷◌, List, ℕ, suc, length, get_or, take, map, pos, true, arith, refl, sym, ap, subst}
-use Rattle.std.specs.List.{AllZip}
+use Rattle.std.proofs.Common.{◌≡◌, ◌∙◌, ◌⊎◌, ◌<◌, ◌++◌, [], ◌∷◌, List, length, get_or, take, map, pos, true, arith, sym, ap, subst}
+use Rattle.std.specs.List.{AllZip, flat_map}
 use Rattle.std.proofs.Math.Seq.{take-append_seam}
 use Rattle.std.proofs.lemmas.List.{append_assoc}
 use Rattle.tv_linear.specs.Linear.{Linear, IsWithin}
@@ -76,35 +76,28 @@ returns-clause-grown c =
     let g = c.requires.grown in
     let layer = c.args.layer in
     let qs : List Piece = layer.pieces.items in
-    let next : ℕ = old.round + 1 in
-    let number_is : next ≡ suc old.round = omega arith in
-    let ranks : List Linear = constant_row n (pos next) ∷ [] in
+    let new : Grown = c.in_ok-with_layer.field-0 in
+    let has = c.in_ok-with_layer.ensures in
+    let ranks : List Linear = constant_row n (pos new.round) ∷ [] in
     let added : List Marked = map (marked_as n Go ranks) qs in
-    let new : Grown = record { count = old.count; round = next; region = c.in_ok-joined.field-0; pieces = c.push_marked.new.list; proofs = c.prove_all.new.proofs } in
-    let joined = c.in_ok-joined.ensures in
-    let same = c.variables-variables.ensures.same in
-    let rank_is = c.in_ok-rank.ensures ∙ (λ i. constant_row (same i) (pos next)) in
-    let pieces : new.pieces.items ≡ old.pieces.items ++ added =
-    c.in_ok-push_marked.ensures ∙ (λ i. old.pieces.items ++ map (marked_as (same i) Go (rank_is i ∷ [])) (c.deref-2.ensures.value i))
-    in
     let front = c.split_at.ensures.front ∙ ((λ i. take (g.count i) ((c.deref-list.ensures.value ∙ g.whole) i)) ∙ take-append_seam g.done g.rest) in
-    let bound = c.if-round.false in
-    let ok = c.well_formed in
-    let small : IsWithin 62 (pos next) = omega (arith, bound, ok) in
-    grown_next about sides old new layer g c.requires.layer.over refl number_is joined.variables joined.locations joined.pieces pieces (row_columns n (pos next))
+    let few = has.small in
+    let small : IsWithin 62 (pos new.round) = omega (arith, few) in
+    grown_next about sides old new layer g c.requires.layer.over has.count has.round has.variables has.locations has.whole has.pieces (row_columns n (pos new.round))
     (λ number first second later a b.
     let all : List Marked = new.pieces.items ++ later in
     let around : Around = record { number = number; pieces = all; kids = first ∷ second ∷ [] } in
     let hold = hold_side sides.shape first second in
-    let there : old.pieces.items ++ (added ++ later) ≡ all = sym (append_assoc old.pieces.items added later) ∙ ap (λ ps. ps ++ later) (sym pieces) in
+    let there : old.pieces.items ++ (added ++ later) ≡ all = sym (append_assoc old.pieces.items added later) ∙ ap (λ ps. ps ++ later) (sym has.pieces) in
     let hold_kid : AreMarked hold c.hold_of.result.now.pieces.items = subst (λ (r : Region). AreMarked hold r.pieces.items) (sym c.hold_of.ensures) (hold_marked sides.shape first second sides.first.now sides.second.now a b) in
     let owes : Marked → List Obligation = λ p. cover_of number kind.Hold (about_with about) p hold ∷ come_of about number sides.path p all in
     let fit =
     zip_marked (λ p q. IsLayered n q g.done old.region.pieces.items p all × AreMarked hold c.hold_of.result.now.pieces.items) (IsPieceOf n about.locations) n Go ranks
-    (λ q h. (subst (λ ps. IsLayered n q g.done old.region.pieces.items (marked_as n Go ranks q) ps) there (layered about sides old g next number_is small q (added ++ later)), hold_kid)) qs c.requires.layer.over.pieces
+    (λ q h. (subst (λ ps. IsLayered n q g.done old.region.pieces.items (marked_as n Go ranks q) ps) there (layered about sides old g new.round has.round small q (added ++ later)), hold_kid)) qs c.requires.layer.over.pieces
     in
     subst (λ os. Adds os old.proofs.items new.proofs.items)
     (flat_same owes (fixed_owes about sides number all first second true) (λ p. come_is about number sides.path sides.shape all first second p c.requires.shape) added)
+    (subst (Adds (flat_map owes added) old.proofs.items) (sym has.proofs)
     (c.in-Ok.ensures.adds around added
     (subst (λ xs. AllZip (λ p q. IsLayered n q xs old.region.pieces.items p all × AreMarked hold c.hold_of.result.now.pieces.items) added c.deref.result.now) (sym front)
-    (subst (λ xs. AllZip (λ p q. IsLayered n q g.done old.region.pieces.items p all × AreMarked hold c.hold_of.result.now.pieces.items) added xs) (sym c.deref.ensures.value) fit))))
+    (subst (λ xs. AllZip (λ p q. IsLayered n q g.done old.region.pieces.items p all × AreMarked hold c.hold_of.result.now.pieces.items) added xs) (sym c.deref.ensures.value) fit)))))

@@ -1,20 +1,10 @@
-use Rattle.std.proofs.Common.{sym, subst, arith, All}
-use Rattle.tv_shape.specs.Narrow.{CoverNarrow}
+use Rattle.std.proofs.Common.{subst}
 use Rattle.tv_cases.specs.Systems.{cases_of}
-use Rattle.tv_cover.specs.Targets.{lists_of, AreEven}
-use Rattle.tv_cover.specs.Covering.{IsCovered, IsShallow, HasSplitRows, IsCoverFault}
+use Rattle.tv_cover.specs.Targets.{lists_of}
 use Rattle.tv_choice.specs.Leading.{piece_rows}
-use Rattle.tv_pre.proofs.OfferLemmas.{shows_inside, no_hole, rows_even}
+use Rattle.tv_pre.specs.Starting.{CoversOrLeaves}
+use Rattle.tv_pre.proofs.OfferLemmas.{no_hole}
 use Rattle.tv_pre.proofs.inside.cover_by.Goals as goal
-
-pub cover-requires-clause-same : goal.cover-requires-clause-same
-cover-requires-clause-same c = subst (λ n. All (AreEven n) (lists_of c.args.targets.now)) (sym c.requires.piece.width) c.requires.same
-
-pub returns-in-Err-clause-refusals : goal.returns-in-Err-clause-refusals
-returns-in-Err-clause-refusals c =
-    let budget = c.args.setting.now.budget.now in
-    let piece = c.args.piece.now in
-    subst (λ n. IsCoverFault n (lists_of c.args.targets.now) (piece_rows piece) budget.pivots budget.splits c.in-Err.fault) c.requires.piece.width c.in-Err.ensures.refusals
 
 pub unreachable-requires : goal.unreachable-requires
 unreachable-requires c =
@@ -22,19 +12,11 @@ unreachable-requires c =
     let piece = c.args.piece.now in
     let lists = lists_of c.args.targets.now in
     let xs = c.in-Ok-Hole.field-0-0.items in
-    let hole = subst (IsCovered about.variables lists (piece_rows piece)) c.in-Ok-Hole.field-0-is (subst (λ n. IsCovered n lists (piece_rows piece) c.in-Ok-Hole.field-0) c.requires.piece.width c.in-Ok-Hole.ensures.answers) in
-    no_hole about.variables lists (piece_rows piece) xs (c.requires.inside xs hole.point) hole
+    let left = subst (CoversOrLeaves about piece lists) c.in-Ok-Hole.field-0-is c.in-Ok-Hole.ensures.answers in
+    no_hole about.variables lists (piece_rows piece) xs (c.requires.inside xs left.hole.point) left.hole
 
 pub returns-in-Ok-Tree-clause-shows : goal.returns-in-Ok-Tree-clause-shows
 returns-in-Ok-Tree-clause-shows c into e =
     let about = cases_of c.args.setting.now.about.now in
-    let piece = c.args.piece.now in
-    let lists = lists_of c.args.targets.now in
-    let n = piece.poly.columns in
-    let tree = c.in-Ok-Tree.cover in
-    let is = c.in-Ok-Tree.field-0-is in
-    shows_inside about piece into lists n tree c.requires.piece.width e
-    (subst (IsCovered n lists (piece_rows piece)) is c.in-Ok-Tree.ensures.answers)
-    (rows_even n lists tree (subst (HasSplitRows n lists) is c.in-Ok-Tree.ensures.split_rows))
-    (subst CoverNarrow c.tree.ensures.same c.narrow_tree.ensures)
-    (let s = subst (IsShallow c.args.setting.now.budget.now.splits) is c.in-Ok-Tree.ensures.shallow in let few = c.requires.splits in omega (arith, s, few))
+    let left = subst (CoversOrLeaves about c.args.piece.now (lists_of c.args.targets.now)) c.in-Ok-Tree.field-0-is c.in-Ok-Tree.ensures.answers in
+    left.shows into e

@@ -1,0 +1,347 @@
+-- What is found of a formula, from what is found of its arguments.
+use Rattle.std.proofs.Common.{zero, ◌<◌, length, get_or, take, ◌≡◌, inl, inr, ℕ, suc, ◌+◌, ◌≤◌, List, [], ◌∷◌, ◌++◌, map, refl, sym, ap, ◌∙◌, subst, arith}
+use Rattle.std.specs.Prelude.{All}
+use Rattle.std.proofs.lemmas.List.{take_more, map-append}
+use Rattle.std.proofs.lemmas.List.Elements.{All-nil, All-cons}
+use Rattle.tv_formula.specs.declared.tree.Path.{Path}
+use Rattle.tv_formula.specs.declared.tree.Shape.{Shape}
+use Rattle.tv_formula.specs.Properties.{Property, Properties, none, more}
+use Rattle.tv_formula.specs.Properties as props
+use Rattle.tv_linear.specs.declared.region.Region.{Region}
+use Rattle.tv_cases.specs.Comparisons.{comparison_lists}
+use Rattle.tv_cases.specs.LinearCases.{CaseSystem}
+use Rattle.tv_cases.proofs.Listed.{Contains-none}
+use Rattle.tv_cert.specs.declared.node.Node.{Node}
+use Rattle.tv_cert.specs.declared.aim.Aim.{Aim}
+use Rattle.tv_cert.specs.AimViews.{statements_of, aim_states, aims_state}
+use Rattle.tv_cert.specs.Statements.{Statement, each_of, one_of, after, along, Statements, no_statement, statement, denial_of, stated, stated_all}
+use Rattle.tv_cert.specs.Statements as statements
+use Rattle.tv_farkas.specs.declared.budget.Budget.{Budget}
+use Rattle.tv_farkas.specs.declared.fault.CoverFault.{CoverFault}
+use Rattle.tv_region.specs.Regions.{IsRegion}
+use Rattle.tv_rounds.specs.Calls.{IsNowhere}
+use Rattle.tv_pre.specs.declared.fault.PreFault.{PreFault}
+use Rattle.tv_pre.specs.declared.outcome.Found.{Found}
+use Rattle.tv_pre.specs.declared.test.Test.{Test}
+use Rattle.tv_pre.specs.declared.test.Test.TheVariants.{Rows, Here, Elsewhere}
+use Rattle.tv_pre.specs.Atoms.{IsTested, IsTestOf, test_lists}
+use Rattle.tv_pre.specs.Faults.{IsOfCover}
+use Rattle.tv_pre.specs.Parts.{IsPart, AreParts, joined_pieces}
+use Rattle.tv_pre.specs.Questions.{lies, IsRefusal, AsksOf, AsksEach, AsksNext}
+use Rattle.tv_pre.specs.Finding.{ArePartsFor, steps_back, all_steps_back, size, total_size, IsFound, IsRefusedFor, test_statement}
+use Rattle.tv_pre.specs.Arguments.{IsArgument, AreEachArgument, AreArguments}
+use Rattle.tv_pre.specs.declared.finding.Arguments.{Arguments}
+use Rattle.tv_pre.specs.Growing.{IsEverywhere}
+use Rattle.tv_pre.specs.Built.{HasAtom, SomeHasAtom, atom_lists, IsAtomRegion, IsBuilt, of_atom, of_everywhere, of_nowhere, AreBuilt, IsBuiltOf, IsFaultOf, IsPreFault}
+use Rattle.tv_pre.proofs.BuiltLemmas.{built_to, built_wider, fault_to, fault_wider, one_built, more_built, pieces_of, joined_of, first_built}
+use Rattle.tv_pre.proofs.PassedLemmas.{cover_fault}
+use Rattle.tv_pre.proofs.AskedLemmas.{each_asked, place_asked, next_asked}
+use Rattle.tv_pre.proofs.FormulaLemmas.{each_is, one_is, after_is, along_is, ends_is, never_is}
+
+module _ (about : CaseSystem) (last : ℕ) where
+  -- ---- arguments
+  pub found_argument : (s : Statement) (found : Found) → IsFound about last s found → IsArgument about last s found.part.region found.part.node
+  found_argument s found h = record { over = h.over; shows = h.shows; built = h.built }
+
+  pub argument_more : (ss : List Statement) (rs : List Region) (ns : List Node) (s : Statement) (r : Region) (n : Node) → AreEachArgument about last ss rs ns → IsArgument about last s r n → AreEachArgument about last (ss ++ s ∷ []) (rs ++ r ∷ []) (ns ++ n ∷ [])
+  argument_more [] [] [] s r n h k = (k, tt)
+  argument_more [] [] (m ∷ ns) s r n h k = absurd h
+  argument_more [] (q ∷ rs) ns s r n h k = absurd h
+  argument_more (t ∷ ss) [] ns s r n h k = absurd h
+  argument_more (t ∷ ss) (q ∷ rs) [] s r n h k = absurd h
+  argument_more (t ∷ ss) (q ∷ rs) (m ∷ ns) s r n h k = (h.0, argument_more ss rs ns s r n h.1 k)
+
+  total_more : (ss : List Statement) (s : Statement) → total_size (statements_of (ss ++ s ∷ [])) ≡ total_size (statements_of ss) + size s
+  total_more [] s = omega arith
+  total_more (t ∷ ss) s = (let e = total_more ss s in omega (arith, e))
+
+  pub argument_over : (ss : List Statement) (rs : List Region) (ns : List Node) → AreEachArgument about last ss rs ns → All (IsRegion about.variables about.locations) rs
+  argument_over [] [] [] h = All-nil (IsRegion about.variables about.locations)
+  argument_over [] [] (m ∷ ns) h = absurd h
+  argument_over [] (q ∷ rs) ns h = absurd h
+  argument_over (t ∷ ss) [] ns h = absurd h
+  argument_over (t ∷ ss) (q ∷ rs) [] h = absurd h
+  argument_over (t ∷ ss) (q ∷ rs) (m ∷ ns) h = All-cons (IsRegion about.variables about.locations) q rs h.0.over (argument_over ss rs ns h.1)
+
+  argument_parts : (ss : List Statement) (rs : List Region) (ns : List Node) → AreEachArgument about last ss rs ns → ArePartsFor about (statements_of ss) rs ns
+  argument_parts [] [] [] h none e = tt
+  argument_parts [] [] [] h (more f fs) e = absurd cc
+  argument_parts [] [] (m ∷ ns) h fs e = absurd h
+  argument_parts [] (q ∷ rs) ns h fs e = absurd h
+  argument_parts (t ∷ ss) [] ns h fs e = absurd h
+  argument_parts (t ∷ ss) (q ∷ rs) [] h fs e = absurd h
+  argument_parts (t ∷ ss) (q ∷ rs) (m ∷ ns) h none e = absurd cc
+  argument_parts (t ∷ ss) (q ∷ rs) (m ∷ ns) h (more f fs) e = (h.0.shows f cc, argument_parts ss rs ns h.1 fs cc)
+
+  pub argument_built : (ss : List Statement) (rs : List Region) (ns : List Node) (whole : Statement) (k : ℕ) → ((a : Statement) → SomeHasAtom (statements_of ss) a → HasAtom whole a) → all_steps_back last (statements_of ss) ≤ k → AreEachArgument about last ss rs ns → AreBuilt about whole k rs
+  argument_built [] [] [] whole k w l h = λ x c. absurd (Contains-none x c)
+  argument_built [] [] (m ∷ ns) whole k w l h = absurd h
+  argument_built [] (q ∷ rs) ns whole k w l h = absurd h
+  argument_built (t ∷ ss) [] ns whole k w l h = absurd h
+  argument_built (t ∷ ss) (q ∷ rs) [] whole k w l h = absurd h
+  argument_built (t ∷ ss) (q ∷ rs) (m ∷ ns) whole k w l h =
+      more_built about whole k q rs (built_wider about t whole (λ a x. w a (inl x)) k q (built_to about t (steps_back last t) k q (omega (arith, l)) h.0.built))
+      (argument_built ss rs ns whole k (λ a x. w a (inr x)) (omega (arith, l)) h.1)
+
+  -- ---- conjunctions and disjunctions
+  module _ (ss : List Statement) (rs : List Region) (ns : List Node) (h : AreEachArgument about last ss rs ns) where
+    each_built : AreBuilt about (each_of (statements_of ss)) (all_steps_back last (statements_of ss)) rs
+    each_built = argument_built ss rs ns (each_of (statements_of ss)) (all_steps_back last (statements_of ss)) (λ a x. x) (omega arith) h
+
+    some_built : AreBuilt about (one_of (statements_of ss)) (all_steps_back last (statements_of ss)) rs
+    some_built = argument_built ss rs ns (one_of (statements_of ss)) (all_steps_back last (statements_of ss)) (λ a x. x) (omega arith) h
+
+    pub each_is_found : (found : Found) → IsRegion about.variables about.locations found.part.region → ((fs : Properties) → AreParts about fs rs ns → IsPart about (props.all_of fs) found.part.region found.part.node) → IsBuiltOf about 0 rs found.part.region → found.size ≡ 1 + total_size (statements_of ss) → IsFound about last (each_of (statements_of ss)) found
+    each_is_found found over p b z = record {
+      over = over;
+      shows = λ f e. (let w = each_is (comparison_lists about.variables) (statements_of ss) f e in subst (λ g. IsPart about g found.part.region found.part.node) (sym w.1) (p w.0 (argument_parts ss rs ns h w.0 w.2)));
+      built = (let k = all_steps_back last (statements_of ss) in built_to about (each_of (statements_of ss)) (0 + k) k found.part.region (omega arith) (b (each_of (statements_of ss)) k each_built));
+      size = z;
+    }
+
+    pub some_is_found : (found : Found) → IsRegion about.variables about.locations found.part.region → ((fs : Properties) → AreParts about fs rs ns → IsPart about (props.some_of fs) found.part.region found.part.node) → IsBuiltOf about 0 rs found.part.region → found.size ≡ 1 + total_size (statements_of ss) → IsFound about last (one_of (statements_of ss)) found
+    some_is_found found over p b z = record {
+      over = over;
+      shows = λ f e. (let w = one_is (comparison_lists about.variables) (statements_of ss) f e in subst (λ g. IsPart about g found.part.region found.part.node) (sym w.1) (p w.0 (argument_parts ss rs ns h w.0 w.2)));
+      built = (let k = all_steps_back last (statements_of ss) in built_to about (one_of (statements_of ss)) (0 + k) k found.part.region (omega arith) (b (one_of (statements_of ss)) k some_built));
+      size = z;
+    }
+
+    pub each_fault : (budget : Budget) (fault r : PreFault) → r ≡ fault → IsFaultOf about budget 0 rs fault → IsRefusedFor about budget last (each_of (statements_of ss)) r
+    each_fault budget fault r e f =
+        let k = all_steps_back last (statements_of ss) in
+        subst (IsPreFault about (each_of (statements_of ss)) budget k) (sym e) (fault_to about (each_of (statements_of ss)) budget (0 + k) k fault (omega arith) (f (each_of (statements_of ss)) k each_built))
+
+    pub some_fault : (budget : Budget) (fault r : PreFault) → r ≡ fault → IsFaultOf about budget 0 rs fault → IsRefusedFor about budget last (one_of (statements_of ss)) r
+    some_fault budget fault r e f =
+        let k = all_steps_back last (statements_of ss) in
+        subst (IsPreFault about (one_of (statements_of ss)) budget k) (sym e) (fault_to about (one_of (statements_of ss)) budget (0 + k) k fault (omega arith) (f (one_of (statements_of ss)) k some_built))
+
+    pub each_question : (budget : Budget) (region : Region) (fault : CoverFault) (r : PreFault) → IsBuiltOf about 0 rs region → IsOfCover fault r → IsRefusal about budget (AsksOf (λ q. AsksEach q rs) region.pieces.items) fault → IsRefusedFor about budget last (each_of (statements_of ss)) r
+    each_question budget region fault r b is f =
+        let t = each_of (statements_of ss) in
+        let k = all_steps_back last (statements_of ss) in
+        let own = pieces_of about t k region (built_to about t (0 + k) k region (omega arith) (b t k each_built)) in
+        cover_fault about budget t k (AsksOf (λ q. AsksEach q rs) region.pieces.items) (λ a w. each_asked about t k region.pieces.items w.0 rs a own w.1 each_built w.2) fault r is f
+
+    pub some_question : (budget : Budget) (region : Region) (fault : CoverFault) (r : PreFault) → IsBuiltOf about 0 rs region → IsOfCover fault r → IsRefusal about budget (AsksOf (λ q a. a ≡ lies q (joined_pieces rs)) region.pieces.items) fault → IsRefusedFor about budget last (one_of (statements_of ss)) r
+    some_question budget region fault r b is f =
+        let t = one_of (statements_of ss) in
+        let k = all_steps_back last (statements_of ss) in
+        let own = pieces_of about t k region (built_to about t (0 + k) k region (omega arith) (b t k some_built)) in
+        cover_fault about budget t k (AsksOf (λ q a. a ≡ lies q (joined_pieces rs)) region.pieces.items)
+        (λ a w. place_asked about t k region.pieces.items (joined_pieces rs) w.0 a own w.1 (joined_of about t k rs some_built) w.2) fault r is f
+
+  -- ---- next states
+  module _ (path : Path) (s : Statement) (child : Found) (h : IsFound about last s child) where
+    child_built : AreBuilt about (after path s) (steps_back last s) (child.part.region ∷ [])
+    child_built = one_built about (after path s) (steps_back last s) child.part.region (built_wider about s (after path s) (λ a x. x) (steps_back last s) child.part.region h.built)
+
+    pub after_is_found : (found : Found) → IsRegion about.variables about.locations found.part.region → ((f : Property) → AreParts about (more f none) (child.part.region ∷ []) (child.part.node ∷ []) → IsPart about (props.next path f) found.part.region found.part.node) → IsBuiltOf about 1 (child.part.region ∷ []) found.part.region → found.size ≡ 1 + child.size → IsFound about last (after path s) found
+    after_is_found found over p b z = record {
+      over = over;
+      shows = λ f e. (let w = after_is (comparison_lists about.variables) path s f e in subst (λ g. IsPart about g found.part.region found.part.node) (sym w.1) (p w.0 (h.shows w.0 w.2, tt)));
+      built = built_to about (after path s) (1 + steps_back last s) ((last + 2) + steps_back last s) found.part.region (omega arith) (b (after path s) (steps_back last s) child_built);
+      size = z ∙ ap (λ k. 1 + k) h.size;
+    }
+
+    pub after_fault : (budget : Budget) (fault r : PreFault) → r ≡ fault → IsFaultOf about budget 1 (child.part.region ∷ []) fault → IsRefusedFor about budget last (after path s) r
+    after_fault budget fault r e f =
+        subst (IsPreFault about (after path s) budget ((last + 2) + steps_back last s)) (sym e)
+        (fault_to about (after path s) budget (1 + steps_back last s) ((last + 2) + steps_back last s) fault (omega arith) (f (after path s) (steps_back last s) child_built))
+
+    pub after_question : (budget : Budget) (region : Region) (fault : CoverFault) (r : PreFault) → IsBuiltOf about 1 (child.part.region ∷ []) region → IsOfCover fault r → IsRefusal about budget (AsksOf (λ q. AsksNext about path q child.part.region.pieces.items) region.pieces.items) fault → IsRefusedFor about budget last (after path s) r
+    after_question budget region fault r b is f =
+        let t = after path s in
+        let k = 1 + steps_back last s in
+        let l : suc k ≤ (last + 2) + steps_back last s = omega arith in
+        let own = pieces_of about t k region (b t (steps_back last s) child_built) in
+        let into = pieces_of about t k child.part.region (built_to about t (steps_back last s) k child.part.region (omega arith) (first_built about t (steps_back last s) child.part.region [] child_built)) in
+        fault_to about t budget (suc k) ((last + 2) + steps_back last s) r l
+        (cover_fault about budget t (suc k) (AsksOf (λ q. AsksNext about path q child.part.region.pieces.items) region.pieces.items)
+        (λ a w. next_asked about t k path region.pieces.items child.part.region.pieces.items w.0 a own w.1 into w.2) fault r is f)
+
+  -- ---- fixed points
+  module _ (path : Path) (shape : Shape) (s t : Statement) (first second : Found) (h : IsFound about last s first) (g : IsFound about last t second) where
+    sides_built : AreBuilt about (along path shape s t) (steps_back last s + steps_back last t) (first.part.region ∷ second.part.region ∷ [])
+    sides_built =
+        let whole = along path shape s t in
+        let k = steps_back last s + steps_back last t in
+        more_built about whole k first.part.region (second.part.region ∷ []) (built_wider about s whole (λ a x. inl x) k first.part.region (built_to about s (steps_back last s) k first.part.region (omega arith) h.built))
+        (one_built about whole k second.part.region (built_wider about t whole (λ a x. inr x) k second.part.region (built_to about t (steps_back last t) k second.part.region (omega arith) g.built)))
+
+    pub along_is_found : (found : Found) → IsRegion about.variables about.locations found.part.region →
+        ((f k : Property) → AreParts about (more f (more k none)) (first.part.region ∷ second.part.region ∷ []) (first.part.node ∷ second.part.node ∷ []) → IsPart about (props.fix path shape f k) found.part.region found.part.node) →
+        IsBuiltOf about (last + 2) (first.part.region ∷ second.part.region ∷ []) found.part.region → found.size ≡ 1 + (first.size + second.size) → IsFound about last (along path shape s t) found
+    along_is_found found over p b z = record {
+      over = over;
+      shows = λ f e. (let w = along_is (comparison_lists about.variables) path shape s t f e in subst (λ z. IsPart about z found.part.region found.part.node) (sym w.2) (p w.0 w.1 (h.shows w.0 w.3, (g.shows w.1 w.4, tt))));
+      built = b (along path shape s t) (steps_back last s + steps_back last t) sides_built;
+      size = z ∙ (λ i. 1 + (h.size i + g.size i));
+    }
+
+    pub along_fault : (budget : Budget) (fault r : PreFault) → r ≡ fault → IsFaultOf about budget (last + 2) (first.part.region ∷ second.part.region ∷ []) fault → IsRefusedFor about budget last (along path shape s t) r
+    along_fault budget fault r e f = subst (IsPreFault about (along path shape s t) budget ((last + 2) + (steps_back last s + steps_back last t))) (sym e) (f (along path shape s t) (steps_back last s + steps_back last t) sides_built)
+
+  -- ---- atoms
+  denied_rows : (lists : _) (g : Property) → test_statement (Rows lists) ≡ denial_of g → IsTestOf about.variables (Rows lists) (props.negated g)
+  denied_rows lists (props.truth b) e = absurd cc
+  denied_rows lists (props.compare r a b) e = absurd cc
+  denied_rows lists (props.at l) e = absurd cc
+  denied_rows lists props.term e = absurd cc
+  denied_rows lists (props.negated f) e = absurd cc
+  denied_rows lists (props.all_of fs) e = absurd cc
+  denied_rows lists (props.some_of fs) e = absurd cc
+  denied_rows lists (props.next path f) e = absurd cc
+  denied_rows lists (props.fix path shape f g) e = absurd cc
+
+  denied_here : (k : ℕ) (g : Property) → statements.here k ≡ denial_of g → IsTestOf about.variables (Here k) (props.negated g)
+  denied_here k (props.truth b) e = absurd cc
+  denied_here k (props.compare r a b) e = absurd cc
+  denied_here k (props.at l) e = absurd cc
+  denied_here k props.term e = absurd cc
+  denied_here k (props.negated f) e = absurd cc
+  denied_here k (props.all_of fs) e = absurd cc
+  denied_here k (props.some_of fs) e = absurd cc
+  denied_here k (props.next path f) e = absurd cc
+  denied_here k (props.fix path shape f g) e = absurd cc
+
+  denied_elsewhere : (k : ℕ) (g : Property) → statements.elsewhere k ≡ denial_of g → IsTestOf about.variables (Elsewhere k) (props.negated g)
+  denied_elsewhere k (props.truth b) e = absurd cc
+  denied_elsewhere k (props.compare r a b) e = absurd cc
+  denied_elsewhere k (props.at l) e = cc
+  denied_elsewhere k props.term e = absurd cc
+  denied_elsewhere k (props.negated f) e = absurd cc
+  denied_elsewhere k (props.all_of fs) e = absurd cc
+  denied_elsewhere k (props.some_of fs) e = absurd cc
+  denied_elsewhere k (props.next path f) e = absurd cc
+  denied_elsewhere k (props.fix path shape f g) e = absurd cc
+
+  test_states : (t : Test) (f : Property) → test_statement t ≡ stated (comparison_lists about.variables) f → IsTestOf about.variables t f
+  test_states (Rows lists) (props.truth b) e = cc
+  test_states (Rows lists) (props.compare r a b) e = cc
+  test_states (Rows lists) (props.at l) e = absurd cc
+  test_states (Rows lists) props.term e = absurd cc
+  test_states (Rows lists) (props.negated f) e = denied_rows lists f e
+  test_states (Rows lists) (props.all_of fs) e = absurd cc
+  test_states (Rows lists) (props.some_of fs) e = absurd cc
+  test_states (Rows lists) (props.next path f) e = absurd cc
+  test_states (Rows lists) (props.fix path shape f g) e = absurd cc
+  test_states (Here k) (props.truth b) e = absurd cc
+  test_states (Here k) (props.compare r a b) e = absurd cc
+  test_states (Here k) (props.at l) e = cc
+  test_states (Here k) props.term e = absurd cc
+  test_states (Here k) (props.negated f) e = denied_here k f e
+  test_states (Here k) (props.all_of fs) e = absurd cc
+  test_states (Here k) (props.some_of fs) e = absurd cc
+  test_states (Here k) (props.next path f) e = absurd cc
+  test_states (Here k) (props.fix path shape f g) e = absurd cc
+  test_states (Elsewhere k) (props.truth b) e = absurd cc
+  test_states (Elsewhere k) (props.compare r a b) e = absurd cc
+  test_states (Elsewhere k) (props.at l) e = absurd cc
+  test_states (Elsewhere k) props.term e = absurd cc
+  test_states (Elsewhere k) (props.negated f) e = denied_elsewhere k f e
+  test_states (Elsewhere k) (props.all_of fs) e = absurd cc
+  test_states (Elsewhere k) (props.some_of fs) e = absurd cc
+  test_states (Elsewhere k) (props.next path f) e = absurd cc
+  test_states (Elsewhere k) (props.fix path shape f g) e = absurd cc
+
+  test_region : (t : Test) (region : Region) → IsTested about t region → IsAtomRegion about (test_statement t) region
+  test_region t region h = record { over = h.over; lists = λ l k. h.lists l k ∙ same t l } where
+    same : (t : Test) (l : ℕ) → test_lists t l ≡ atom_lists (test_statement t) l
+    same (Rows lists) l = refl
+    same (Here k) l = refl
+    same (Elsewhere k) l = refl
+
+  own_atom : (t : Test) → HasAtom (test_statement t) (test_statement t)
+  own_atom (Rows lists) = refl
+  own_atom (Here k) = refl
+  own_atom (Elsewhere k) = refl
+
+  no_steps : (t : Test) (found : Found) → IsBuilt about (test_statement t) 0 found.part.region → IsBuilt about (test_statement t) (steps_back last (test_statement t)) found.part.region
+  no_steps (Rows lists) found h = h
+  no_steps (Here k) found h = h
+  no_steps (Elsewhere k) found h = h
+
+  one_size : (t : Test) → size (test_statement t) ≡ 1
+  one_size (Rows lists) = refl
+  one_size (Here k) = refl
+  one_size (Elsewhere k) = refl
+
+  pub atom_is_found : (t : Test) (found : Found) → IsTested about t found.part.region → ((f : Property) → IsTestOf about.variables t f → IsPart about f found.part.region found.part.node) → found.size ≡ 1 → IsFound about last (test_statement t) found
+  atom_is_found t found h p z = record {
+    over = h.over;
+    shows = λ f e. p f (test_states t f e);
+    built = no_steps t found (of_atom 0 (test_statement t) found.part.region (own_atom t) (test_region t found.part.region h));
+    size = z ∙ sym (one_size t);
+  }
+
+  -- ---- termination
+  pub ends_is_found : (found : Found) → IsNowhere about found.part.region → IsPart about props.term found.part.region found.part.node → found.size ≡ 1 → IsFound about last statements.ends found
+  ends_is_found found n p z = record {
+    over = n.fits;
+    shows = λ f e. subst (λ g. IsPart about g found.part.region found.part.node) (sym (ends_is (comparison_lists about.variables) f e)) p;
+    built = of_nowhere ((last + 2) + (last + 2)) found.part.region n;
+    size = z;
+  }
+
+  pub all_end_found : (found : Found) → IsEverywhere about found.part.region → IsPart about props.term found.part.region found.part.node → found.size ≡ 1 → IsFound about last statements.ends found
+  all_end_found found e p z = record {
+    over = e.over;
+    shows = λ f w. subst (λ g. IsPart about g found.part.region found.part.node) (sym (ends_is (comparison_lists about.variables) f w)) p;
+    built = of_everywhere ((last + 2) + (last + 2)) found.part.region e;
+    size = z;
+  }
+
+  pub never_is_found : (found : Found) → IsNowhere about found.part.region → IsPart about (props.negated props.term) found.part.region found.part.node → found.size ≡ 1 → IsFound about last statements.never_ends found
+  never_is_found found n p z = record {
+    over = n.fits;
+    shows = λ f e. subst (λ g. IsPart about g found.part.region found.part.node) (sym (never_is (comparison_lists about.variables) f e)) p;
+    built = of_nowhere ((last + 2) + (last + 2)) found.part.region n;
+    size = z;
+  }
+
+  -- ---- arguments one after the other
+  pub arguments_more : (aims : List Aim) (i : ℕ) (aim : Aim) (found : Found) (old new : Arguments) → i < length aims → aim ≡ get_or aims i aim → AreArguments about last (map aim_states (take i aims)) old → IsFound about last (aim_states aim) found →
+      new.regions.items ≡ old.regions.items ++ found.part.region ∷ [] → new.nodes.items ≡ old.nodes.items ++ found.part.node ∷ [] → new.size ≡ old.size + found.size → AreArguments about last (map aim_states (take (i + 1) aims)) new
+  arguments_more aims i aim found old new l e h f r n z =
+      let before = map aim_states (take i aims) in
+      let next : map aim_states (take (i + 1) aims) ≡ before ++ aim_states aim ∷ [] = ap (map aim_states) (take_more aims i aim l) ∙ map-append aim_states (take i aims) (get_or aims i aim ∷ []) ∙ ap (λ (a : Aim). before ++ aim_states a ∷ []) (sym e) in
+      subst (λ ss. AreArguments about last ss new) (sym next) (record {
+        each = subst (λ rs. AreEachArgument about last (before ++ aim_states aim ∷ []) rs new.nodes.items) (sym r)
+            (subst (λ ns. AreEachArgument about last (before ++ aim_states aim ∷ []) (old.regions.items ++ found.part.region ∷ []) ns) (sym n)
+            (argument_more before old.regions.items old.nodes.items (aim_states aim) found.part.region found.part.node h.each (found_argument (aim_states aim) found f)));
+        size = z ∙ (λ j. h.size j + f.size j) ∙ sym (total_more before (aim_states aim));
+      })
+
+  pub first_arguments : (new : Arguments) → new.regions.items ≡ [] → new.nodes.items ≡ [] → new.size ≡ 0 → AreArguments about last [] new
+  first_arguments new r n z = record {
+    each = subst (λ rs. AreEachArgument about last [] rs new.nodes.items) (sym r) (subst (AreEachArgument about last [] []) (sym n) tt);
+    size = z;
+  }
+
+  -- a fault of one argument is one of them all
+  pub argument_fault : (budget : Budget) (aims : List Aim) (i : ℕ) (aim : Aim) (whole : Statement) (k : ℕ) (fault : PreFault) → i < length aims → aim ≡ get_or aims i aim → ((a : Statement) → SomeHasAtom (aims_state aims) a → HasAtom whole a) → all_steps_back last (aims_state aims) ≤ k →
+      IsRefusedFor about budget last (aim_states aim) fault → IsPreFault about whole budget k fault
+  argument_fault budget [] i aim whole k fault l e w m f = absurd (omega (arith, l))
+  argument_fault budget (a ∷ aims) zero aim whole k fault l e w m f =
+      let here = subst (λ (z : Aim). IsRefusedFor about budget last (aim_states z) fault) e f in
+      fault_to about whole budget (steps_back last (aim_states a)) k fault (omega (arith, m)) (fault_wider about (aim_states a) whole (λ x y. w x (inl y)) budget (steps_back last (aim_states a)) fault here)
+  argument_fault budget (a ∷ aims) (suc i) aim whole k fault l e w m f = argument_fault budget aims i aim whole k fault (omega (arith, l)) e (λ x y. w x (inr y)) (omega (arith, m)) f
+
+  pub after_argument : (budget : Budget) (path : Path) (s : Statement) (fault r : PreFault) → r ≡ fault → IsRefusedFor about budget last s fault → IsRefusedFor about budget last (after path s) r
+  after_argument budget path s fault r e f =
+      subst (IsPreFault about (after path s) budget ((last + 2) + steps_back last s)) (sym e)
+      (fault_to about (after path s) budget (steps_back last s) ((last + 2) + steps_back last s) fault (omega arith) (fault_wider about s (after path s) (λ a x. x) budget (steps_back last s) fault f))
+
+  pub first_argument : (budget : Budget) (path : Path) (shape : Shape) (s t : Statement) (fault r : PreFault) → r ≡ fault → IsRefusedFor about budget last s fault → IsRefusedFor about budget last (along path shape s t) r
+  first_argument budget path shape s t fault r e f =
+      let whole = along path shape s t in
+      let k = (last + 2) + (steps_back last s + steps_back last t) in
+      subst (IsPreFault about whole budget k) (sym e) (fault_to about whole budget (steps_back last s) k fault (omega arith) (fault_wider about s whole (λ a x. inl x) budget (steps_back last s) fault f))
+
+  pub second_argument : (budget : Budget) (path : Path) (shape : Shape) (s t : Statement) (fault r : PreFault) → r ≡ fault → IsRefusedFor about budget last t fault → IsRefusedFor about budget last (along path shape s t) r
+  second_argument budget path shape s t fault r e f =
+      let whole = along path shape s t in
+      let k = (last + 2) + (steps_back last s + steps_back last t) in
+      subst (IsPreFault about whole budget k) (sym e) (fault_to about whole budget (steps_back last t) k fault (omega arith) (fault_wider about t whole (λ a x. inr x) budget (steps_back last t) fault f))

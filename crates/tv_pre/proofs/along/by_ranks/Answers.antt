@@ -1,0 +1,27 @@
+use Rattle.std.proofs.Common.{◌+◌, subst, arith}
+use Rattle.tv_pre.specs.Along.{arguments}
+use Rattle.tv_pre.specs.Built.{IsFaultOf}
+use Rattle.tv_pre.specs.RankedAlong.{IsRankedAlong}
+use Rattle.tv_pre.specs.Search.{system_of}
+use Rattle.tv_pre.proofs.AlongLemmas.{along_less, given_less}
+use Rattle.tv_pre.proofs.PassedLemmas.{passed_on}
+use Rattle.tv_pre.proofs.along.by_ranks.Goals as goal
+
+pub returns-in_err-part-clause-refused : goal.returns-in_err-part-clause-refused
+returns-in_err-part-clause-refused c =
+    let about = system_of c.args.search.now in
+    let budget = c.args.search.now.setting.now.budget.now in
+    let last = c.args.search.now.last in
+    let given = arguments c.args.sides.now in
+    passed_on (IsFaultOf about budget (last + 2) given) c.from_residual.result c.from_residual.ensures.1
+    (λ r is. given_less about budget 2 (last + 2) c.args.end given c.in_err-part.field-0.0 r (omega arith) is c.requires.built c.in_err-part.ensures.refused)
+
+pub returns-in-Everywhere-clause-along : goal.returns-in-Everywhere-clause-along
+returns-in-Everywhere-clause-along c =
+    let about = system_of c.args.search.now in
+    let last = c.args.search.now.last in
+    let sides = c.args.sides.now in
+    let children = c.args.children.items in
+    let end = c.args.end in
+    let told = subst (IsRankedAlong about sides children end) c.in-Everywhere.is c.in_ok-part.ensures.along in
+    along_less about 1 (last + 2) end (arguments sides) sides children c.in-Everywhere.part (omega arith) c.requires.built told.0

@@ -1,0 +1,94 @@
+use Rattle.std.proofs.Common.{◌+◌, ◌∷◌, [], sym, subst, arith}
+use Rattle.tv_pre.specs.Search.{system_of}
+use Rattle.tv_pre.specs.Along.{arguments}
+use Rattle.tv_pre.specs.Fixed.{AsksStaying}
+use Rattle.tv_pre.specs.Parts.{joined_pieces}
+use Rattle.tv_pre.specs.Built.{IsFaultOf, IsPreFault}
+use Rattle.tv_pre.proofs.BuiltLemmas.{all_built_to, fault_to}
+use Rattle.tv_pre.proofs.PassedLemmas.{passed_on, cover_fault, fault_again}
+use Rattle.tv_pre.proofs.AlongLemmas.{settled_stays, settled_round, round_sides, round_built, weak_built, weak_asked, is_along, along_more}
+use Rattle.tv_pre.proofs.along.shrinking.Goals as goal
+
+pub returns-in_err-region-clause-refused : goal.returns-in_err-region-clause-refused
+returns-in_err-region-clause-refused c =
+    let about = system_of c.args.search.now in
+    let budget = c.args.search.now.setting.now.budget.now in
+    let last = c.args.search.now.last in
+    let given = c.args.end ∷ arguments c.args.sides.now in
+    passed_on (IsFaultOf about budget (last + 2) given) c.from_residual.result c.from_residual.ensures.1
+    (λ r is. fault_again about budget (last + 1) (last + 2) given c.in_err-region.field-0.0 r (omega arith) is c.in_err-region.ensures.refused)
+
+pub onward-requires-clause-over : goal.onward-requires-clause-over
+onward-requires-clause-over c =
+    let about = system_of c.args.search.now in
+    let rounds = c.in_ok-region.ensures.rounds in
+    let told = settled_round about c.args.search.now.last c.args.sides.now c.args.end c.in_ok-region.field-0 c.in-Settled.region c.in-Settled.at c.in-Settled.layers c.in-Settled.is c.requires.shape rounds in
+    told.round.set.fits
+
+pub returns-in_err-more-in-Settled-clause-refused : goal.returns-in_err-more-in-Settled-clause-refused
+returns-in_err-more-in-Settled-clause-refused c =
+    let about = system_of c.args.search.now in
+    let budget = c.args.search.now.setting.now.budget.now in
+    let last = c.args.search.now.last in
+    let sides = c.args.sides.now in
+    let end = c.args.end in
+    let round = c.in-Settled.region in
+    let rounds = c.in_ok-region.ensures.rounds in
+    let told = settled_round about last sides end c.in_ok-region.field-0 round c.in-Settled.at c.in-Settled.layers c.in-Settled.is c.requires.shape rounds in
+    let fault = c.in_err-more-in-Settled.field-0.0 in
+    passed_on (IsFaultOf about budget (last + 2) (end ∷ arguments sides)) c.from_residual-in_err-more-in-Settled.result c.from_residual-in_err-more-in-Settled.ensures.1
+    (λ r is s h m. subst (IsPreFault about s budget ((last + 2) + h)) (sym is) (fault_to about s budget (1 + (last + h)) ((last + 2) + h) fault (omega arith)
+    (c.in_err-more-in-Settled.ensures.refused s (last + h) (round_sides about last sides end s h m round (round_built about last sides end s h m c.in_ok-region.field-0 rounds c.in-Settled.at round told.early told.round)))))
+
+pub weak-requires-clause-staying : goal.weak-requires-clause-staying
+weak-requires-clause-staying c =
+    let about = system_of c.args.search.now in
+    let sides = c.args.sides.now in
+    let end = c.args.end in
+    let round = c.in-Settled.region in
+    let rounds = c.in_ok-region.ensures.rounds in
+    let told = settled_round about c.args.search.now.last sides end c.in_ok-region.field-0 round c.in-Settled.at c.in-Settled.layers c.in-Settled.is c.requires.shape rounds in
+    settled_stays about c.variables-variables.ensures.limits.cases sides end rounds.point rounds.of c.in-Settled.at round c.in_ok-more-in-Settled.more told.round told.settled rounds.tame c.requires.end c.in_ok-more-in-Settled.ensures.onward
+
+pub returns-in_err-part-in-Settled-clause-refused : goal.returns-in_err-part-in-Settled-clause-refused
+returns-in_err-part-in-Settled-clause-refused c =
+    let about = system_of c.args.search.now in
+    let budget = c.args.search.now.setting.now.budget.now in
+    let last = c.args.search.now.last in
+    let sides = c.args.sides.now in
+    let end = c.args.end in
+    let round = c.in-Settled.region in
+    let onward = c.in_ok-more-in-Settled.more in
+    let rounds = c.in_ok-region.ensures.rounds in
+    let told = settled_round about last sides end c.in_ok-region.field-0 round c.in-Settled.at c.in-Settled.layers c.in-Settled.is c.requires.shape rounds in
+    let asks = AsksStaying about sides end.pieces.items onward.pieces.items (joined_pieces (end ∷ onward ∷ [])) in
+    passed_on (IsFaultOf about budget (last + 2) (end ∷ arguments sides)) c.from_residual-in_err-part-in-Settled.result c.from_residual-in_err-part-in-Settled.ensures.1
+    (λ r is s h m. cover_fault about budget s ((last + 2) + h) asks
+    (weak_asked about last sides end s h m onward (c.in_ok-more-in-Settled.ensures.built s (last + h) (round_sides about last sides end s h m round (round_built about last sides end s h m c.in_ok-region.field-0 rounds c.in-Settled.at round told.early told.round))))
+    c.in_err-part-in-Settled.field-0.0 r is c.in_err-part-in-Settled.ensures.refusals)
+
+pub returns-in-Settled-clause-along : goal.returns-in-Settled-clause-along
+returns-in-Settled-clause-along c =
+    let about = system_of c.args.search.now in
+    let last = c.args.search.now.last in
+    let sides = c.args.sides.now in
+    let end = c.args.end in
+    let round = c.in-Settled.region in
+    let onward = c.in_ok-more-in-Settled.more in
+    let rounds = c.in_ok-region.ensures.rounds in
+    let told = settled_round about last sides end c.in_ok-region.field-0 round c.in-Settled.at c.in-Settled.layers c.in-Settled.is c.requires.shape rounds in
+    is_along about (last + 1) sides c.args.children.items c.in_ok-part-in-Settled.part (end ∷ onward ∷ []) (end ∷ arguments sides) c.in_ok-part-in-Settled.ensures.region
+    (λ f g w. c.in_ok-part-in-Settled.ensures.part f g w)
+    (λ s h m. weak_built about last sides end s h m onward (c.in_ok-more-in-Settled.ensures.built s (last + h) (round_sides about last sides end s h m round (round_built about last sides end s h m c.in_ok-region.field-0 rounds c.in-Settled.at round told.early told.round))))
+
+pub returns-in_err-part-in-Open-clause-refused : goal.returns-in_err-part-in-Open-clause-refused
+returns-in_err-part-in-Open-clause-refused c =
+    let about = system_of c.args.search.now in
+    let budget = c.args.search.now.setting.now.budget.now in
+    let last = c.args.search.now.last in
+    let given = c.args.end ∷ arguments c.args.sides.now in
+    passed_on (IsFaultOf about budget (last + 2) given) c.from_residual-in_err-part-in-Open.result c.from_residual-in_err-part-in-Open.ensures.1
+    (λ r is. fault_again about budget 1 (last + 2) given c.in_err-part-in-Open.field-0.0 r (omega arith) is c.in_err-part-in-Open.ensures.refused)
+
+pub returns-clause-along : goal.returns-clause-along
+returns-clause-along c = along_more (system_of c.args.search.now) 0 (c.args.search.now.last + 1) (c.args.end ∷ arguments c.args.sides.now) (c.args.end ∷ arguments c.args.sides.now) c.args.sides.now c.args.children.items c.in_ok-part-in-Open.part (omega arith) (λ s h m. all_built_to (system_of c.args.search.now) s h (0 + h) (c.args.end ∷ arguments c.args.sides.now) (omega arith) m) c.in_ok-part-in-Open.ensures.along

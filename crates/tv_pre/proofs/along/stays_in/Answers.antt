@@ -1,0 +1,44 @@
+use Rattle.std.proofs.Common.{sym, subst, ◌+◌, ◌∷◌, []}
+use Rattle.tv_cases.specs.Systems.{cases_of}
+use Rattle.tv_pre.specs.Built.{IsPreFault, in_either, of_either, of_nowhere, IsFaultOf}
+use Rattle.tv_pre.proofs.BuiltLemmas.{one_built}
+use Rattle.tv_pre.proofs.PassedLemmas.{passed_on, region_fault}
+use Rattle.tv_pre.proofs.SetLemmas.{every_stays_at, any_stays_at}
+use Rattle.tv_pre.proofs.along.stays_in.Goals as goal
+
+pub returns-in_err-stops-in-Any-clause-refused : goal.returns-in_err-stops-in-Any-clause-refused
+returns-in_err-stops-in-Any-clause-refused c =
+    let about = cases_of c.args.setting.now.about.now in
+    let budget = c.args.setting.now.budget.now in
+    let none = c.nowhere.result in
+    passed_on (IsFaultOf about budget 1 (c.args.region.now ∷ [])) c.from_residual-in_err-stops-in-Any.result c.from_residual-in_err-stops-in-Any.ensures.1
+    (λ r is s h m. subst (IsPreFault about s budget (1 + h)) (sym is) (c.in_err-stops-in-Any.ensures.refused s h (one_built about s h none (of_nowhere h none c.nowhere.ensures))))
+
+pub returns-in_err-either-in-Any-clause-refused : goal.returns-in_err-either-in-Any-clause-refused
+returns-in_err-either-in-Any-clause-refused c =
+    let about = cases_of c.args.setting.now.about.now in
+    let budget = c.args.setting.now.budget.now in
+    let none = c.nowhere.result in
+    let fault = c.in_err-either-in-Any.field-0.0 in
+    passed_on (IsFaultOf about budget 1 (c.args.region.now ∷ [])) c.from_residual-in_err-either-in-Any.result c.from_residual-in_err-either-in-Any.ensures.1
+    (λ r is s h m. region_fault about budget s (1 + h) fault r is
+    (in_either (1 + h) c.in_ok-back.back c.in_ok-stops-in-Any.stops fault (c.in_ok-back.ensures.built s h m) (c.in_ok-stops-in-Any.ensures.built s h (one_built about s h none (of_nowhere h none c.nowhere.ensures))) c.in_err-either-in-Any.ensures.refused))
+
+pub returns-in-Every-clause-stays : goal.returns-in-Every-clause-stays
+returns-in-Every-clause-stays c =
+    let about = cases_of c.args.setting.now.about.now in
+    let region = c.args.region.now in
+    let back = c.in_ok-back.back in
+    every_stays_at about c.args.path region back c.in-Every.is c.in_ok-back.ensures.before
+
+pub returns-in_ok-either-in-Any-clause-stays : goal.returns-in_ok-either-in-Any-clause-stays
+returns-in_ok-either-in-Any-clause-stays c =
+    let about = cases_of c.args.setting.now.about.now in
+    let region = c.args.region.now in
+    any_stays_at about c.args.path region c.in_ok-back.back c.nowhere.result c.in_ok-stops-in-Any.stops c.in_ok-either-in-Any.field-0 c.in-Any.is c.nowhere.ensures c.in_ok-back.ensures.before c.in_ok-stops-in-Any.ensures.before c.in_ok-either-in-Any.ensures.either
+
+pub returns-in_ok-either-in-Any-clause-built : goal.returns-in_ok-either-in-Any-clause-built
+returns-in_ok-either-in-Any-clause-built c =
+    let about = cases_of c.args.setting.now.about.now in
+    let none = c.nowhere.result in
+    (λ s h m. of_either (1 + h) c.in_ok-back.back c.in_ok-stops-in-Any.stops c.in_ok-either-in-Any.field-0 (c.in_ok-back.ensures.built s h m) (c.in_ok-stops-in-Any.ensures.built s h (one_built about s h none (of_nowhere h none c.nowhere.ensures))) c.in_ok-either-in-Any.ensures.either)

@@ -1,0 +1,20 @@
+use Rattle.std.proofs.Common.{All, sym, subst, List}
+use Rattle.tv_cases.specs.LinearCases.{LinearCase}
+use Rattle.tv_cases.specs.declared.case.Case.{Case}
+use Rattle.tv_cases.specs.Views.{case_view}
+use Rattle.tv_region.specs.Met.{Has}
+use Rattle.tv_region.specs.Differences.{IsCaseOfDifferences}
+use Rattle.tv_pre.proofs.AddLemmas.{take_whole}
+use Rattle.tv_pre.proofs.DifferenceLemmas.{all_cases, case_more}
+use Rattle.tv_pre.proofs.differences.are_cases_of_differences.Goals as goal
+
+pub cases-preserved : goal.cases-preserved
+cases-preserved c =
+    case_more c.list-case-items.result.now c.cases.case-index c.case-item.result c.cases-test.true c.case-item.is c.cases.invariant
+    (c.is_case_of_differences.ensures c.if-not-is_case_of_differences.false)
+
+pub returns : goal.returns
+returns c = λ t k m.
+    let whole = take_whole c.list-case-items.result.now c.cases.case-index c.cases-test.false in
+    all_cases c.list-case-items.result.now (subst (All (λ (x : Case). IsCaseOfDifferences (case_view x))) whole c.cases.invariant) k
+    (subst (λ (cs : List LinearCase). Has cs k) (sym c.list-case-items.ensures.same) m)

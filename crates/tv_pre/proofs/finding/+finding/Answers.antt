@@ -1,0 +1,88 @@
+use Rattle.std.proofs.Common.{◌+◌, ◌≡◌, ◌∙◌, ◌≤◌, sym, ap, subst, arith}
+use Rattle.std.specs.Result.{IfErr}
+use Rattle.tv_cert.specs.declared.aim.Aim.{Aim, Aim-F, fold-roll-Aim}
+use Rattle.tv_cert.specs.declared.aim.Aim.TheVariants.{rolls-After, rolls-Along}
+use Rattle.tv_cert.specs.AimViews.{aim_states, aims_state, aim_node}
+use Rattle.tv_cert.specs.Statements as statements
+use Rattle.tv_pre.specs.Search.{system_of}
+use Rattle.tv_pre.specs.Built.{IsPreFault}
+use Rattle.tv_pre.specs.Finding.{all_steps_back, IsRefusedFor}
+use Rattle.tv_pre.proofs.EvenLemmas.{even_later}
+use Rattle.tv_pre.proofs.PassedLemmas.{passed_on}
+use Rattle.tv_pre.proofs.FoundLemmas.{arguments_more, argument_fault, argument_over, after_argument, first_argument, second_argument}
+use Rattle.tv_pre.proofs.finding.+finding.Goals as goal
+
+pub all_found-returns-in_err-found-clause-refused_each : goal.all_found-returns-in_err-found-clause-refused_each
+all_found-returns-in_err-found-clause-refused_each t c =
+    let about = system_of c.args.search.now in
+    let budget = c.args.search.now.setting.now.budget.now in
+    let last = c.args.search.now.last in
+    let whole = statements.each_of (aims_state c.args.aims.now) in
+    let k = all_steps_back last (aims_state c.args.aims.now) in
+    let l : k ≤ k = omega arith in
+    passed_on (IsRefusedFor about budget last whole) c.from_residual.result c.from_residual.ensures.1
+    (λ r is. subst (IsPreFault about whole budget k) (sym is) (argument_fault about last budget c.args.aims.now c.aims.aim-index c.aim-item.result whole k c.in_err-found.field-0.0 c.aims-test.true c.aim-item.is (λ a x. x) l c.in_err-found.ensures.refused))
+
+pub all_found-returns-in_err-found-clause-refused_one : goal.all_found-returns-in_err-found-clause-refused_one
+all_found-returns-in_err-found-clause-refused_one t c =
+    let about = system_of c.args.search.now in
+    let budget = c.args.search.now.setting.now.budget.now in
+    let last = c.args.search.now.last in
+    let whole = statements.one_of (aims_state c.args.aims.now) in
+    let k = all_steps_back last (aims_state c.args.aims.now) in
+    let l : k ≤ k = omega arith in
+    passed_on (IsRefusedFor about budget last whole) c.from_residual.result c.from_residual.ensures.1
+    (λ r is. subst (IsPreFault about whole budget k) (sym is) (argument_fault about last budget c.args.aims.now c.aims.aim-index c.aim-item.result whole k c.in_err-found.field-0.0 c.aims-test.true c.aim-item.is (λ a x. x) l c.in_err-found.ensures.refused))
+
+pub all_found-aims-preserved : goal.all_found-aims-preserved
+all_found-aims-preserved t c =
+    let made = c.in_ok-arguments.ensures in
+    (arguments_more (system_of c.args.search.now) c.args.search.now.last c.args.aims.now c.aims.aim-index c.aim-item.result c.in_ok-found.found c.aims.arguments c.in_ok-arguments.arguments c.aims-test.true c.aim-item.is c.aims.invariant.0 c.in_ok-found.ensures.found made.regions made.nodes made.size, even_later (system_of c.args.search.now).variables c.args.aims.now (c.aims.aim-index + 1) c.requires.even)
+
+pub found_of-each_found-requires-clause-arguments : goal.found_of-each_found-requires-clause-arguments
+found_of-each_found-requires-clause-arguments t c =
+    let told = c.in_ok-arguments-in-EachOf.ensures.found in
+    argument_over (system_of c.args.search.now) c.args.search.now.last _ c.in_ok-arguments-in-EachOf.arguments.regions.items c.in_ok-arguments-in-EachOf.arguments.nodes.items told.each
+
+pub found_of-some_found-requires-clause-arguments : goal.found_of-some_found-requires-clause-arguments
+found_of-some_found-requires-clause-arguments t c =
+    let told = c.in_ok-arguments-in-OneOf.ensures.found in
+    argument_over (system_of c.args.search.now) c.args.search.now.last _ c.in_ok-arguments-in-OneOf.arguments.regions.items c.in_ok-arguments-in-OneOf.arguments.nodes.items told.each
+
+pub found_of-returns-in_err-child-in-After-clause-refused : goal.found_of-returns-in_err-child-in-After-clause-refused
+found_of-returns-in_err-child-in-After-clause-refused t c =
+    let about = system_of c.args.search.now in
+    let budget = c.args.search.now.setting.now.budget.now in
+    let last = c.args.search.now.last in
+    let s = aim_states c.in-After.inner.value in
+    let e : aim_states c.args.aim.now ≡ statements.after c.in-After.path s =
+    ap aim_states c.in-After.is ∙ ap aim_states (sym (rolls-After c.in-After.path c.in-After.inner)) ∙ fold-roll-Aim statements.Statement aim_node (Aim-F.After c.in-After.path c.in-After.inner) in
+    subst (λ (w : statements.Statement). IfErr c.from_residual-in_err-child-in-After.result (IsRefusedFor about budget last w)) (sym e)
+    (passed_on (IsRefusedFor about budget last (statements.after c.in-After.path s)) c.from_residual-in_err-child-in-After.result c.from_residual-in_err-child-in-After.ensures.1
+    (λ r is. after_argument about last budget c.in-After.path s c.in_err-child-in-After.field-0.0 r is (subst (λ (a : Aim). IsRefusedFor about budget last (aim_states a) c.in_err-child-in-After.field-0.0) c.deref-in-After.ensures c.in_err-child-in-After.ensures.refused)))
+
+pub found_of-returns-in_err-first-in-Along-clause-refused : goal.found_of-returns-in_err-first-in-Along-clause-refused
+found_of-returns-in_err-first-in-Along-clause-refused t c =
+    let about = system_of c.args.search.now in
+    let budget = c.args.search.now.setting.now.budget.now in
+    let last = c.args.search.now.last in
+    let s = aim_states c.in-Along.first.value in
+    let o = aim_states c.in-Along.second.value in
+    let e : aim_states c.args.aim.now ≡ statements.along c.in-Along.path c.in-Along.shape s o =
+    ap aim_states c.in-Along.is ∙ ap aim_states (sym (rolls-Along c.in-Along.path c.in-Along.shape c.in-Along.first c.in-Along.second)) ∙ fold-roll-Aim statements.Statement aim_node (Aim-F.Along c.in-Along.path c.in-Along.shape c.in-Along.first c.in-Along.second) in
+    subst (λ (w : statements.Statement). IfErr c.from_residual-in_err-first-in-Along.result (IsRefusedFor about budget last w)) (sym e)
+    (passed_on (IsRefusedFor about budget last (statements.along c.in-Along.path c.in-Along.shape s o)) c.from_residual-in_err-first-in-Along.result c.from_residual-in_err-first-in-Along.ensures.1
+    (λ r is. first_argument about last budget c.in-Along.path c.in-Along.shape s o c.in_err-first-in-Along.field-0.0 r is (subst (λ (a : Aim). IsRefusedFor about budget last (aim_states a) c.in_err-first-in-Along.field-0.0) c.deref-in-Along.ensures c.in_err-first-in-Along.ensures.refused)))
+
+pub found_of-returns-in_err-second-in-Along-clause-refused : goal.found_of-returns-in_err-second-in-Along-clause-refused
+found_of-returns-in_err-second-in-Along-clause-refused t c =
+    let about = system_of c.args.search.now in
+    let budget = c.args.search.now.setting.now.budget.now in
+    let last = c.args.search.now.last in
+    let s = aim_states c.in-Along.first.value in
+    let o = aim_states c.in-Along.second.value in
+    let e : aim_states c.args.aim.now ≡ statements.along c.in-Along.path c.in-Along.shape s o =
+    ap aim_states c.in-Along.is ∙ ap aim_states (sym (rolls-Along c.in-Along.path c.in-Along.shape c.in-Along.first c.in-Along.second)) ∙ fold-roll-Aim statements.Statement aim_node (Aim-F.Along c.in-Along.path c.in-Along.shape c.in-Along.first c.in-Along.second) in
+    subst (λ (w : statements.Statement). IfErr c.from_residual-in_err-second-in-Along.result (IsRefusedFor about budget last w)) (sym e)
+    (passed_on (IsRefusedFor about budget last (statements.along c.in-Along.path c.in-Along.shape s o)) c.from_residual-in_err-second-in-Along.result c.from_residual-in_err-second-in-Along.ensures.1
+    (λ r is. second_argument about last budget c.in-Along.path c.in-Along.shape s o c.in_err-second-in-Along.field-0.0 r is (subst (λ (a : Aim). IsRefusedFor about budget last (aim_states a) c.in_err-second-in-Along.field-0.0) c.deref-in-Along-2.ensures c.in_err-second-in-Along.ensures.refused)))

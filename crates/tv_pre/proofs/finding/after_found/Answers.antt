@@ -1,0 +1,46 @@
+use Rattle.std.proofs.Common.{◌≡◌, ◌∙◌, [], ◌∷◌, ◌++◌, ap, sym, subst}
+use Rattle.tv_linear.specs.declared.region.Region.{Region}
+use Rattle.tv_formula.specs.Properties.{Property, none, more}
+use Rattle.tv_formula.specs.Properties as props
+use Rattle.tv_cert.specs.Statements.{Statement}
+use Rattle.tv_cert.specs.Statements as statements
+use Rattle.tv_region.specs.Regions.{IsRegion}
+use Rattle.tv_pre.specs.Parts.{IsPart, AreParts}
+use Rattle.tv_pre.specs.Search.{system_of}
+use Rattle.tv_pre.specs.Built.{IsBuiltOf}
+use Rattle.tv_pre.specs.Finding.{IsFound, IsRefusedFor}
+use Rattle.tv_pre.proofs.PassedLemmas.{passed_on}
+use Rattle.tv_pre.proofs.FoundLemmas.{after_is_found, after_fault, after_question}
+use Rattle.tv_pre.proofs.finding.after_found.Goals as goal
+
+pub returns-in_err-region-clause-refused : goal.returns-in_err-region-clause-refused
+returns-in_err-region-clause-refused c =
+    let about = system_of c.args.search.now in
+    let budget = c.args.search.now.setting.now.budget.now in
+    let last = c.args.search.now.last in
+    passed_on (λ fault. (s : Statement) → IsFound about last s c.args.child → IsRefusedFor about budget last (statements.after c.args.path s) fault)
+    c.from_residual-in_err-region.result c.from_residual-in_err-region.ensures.1
+    (λ r is s h. after_fault about last c.args.path s c.args.child h budget c.in_err-region.field-0.0 r is c.in_err-region.ensures.refused)
+
+pub returns-in_err-part-clause-refused : goal.returns-in_err-part-clause-refused
+returns-in_err-part-clause-refused c =
+    let about = system_of c.args.search.now in
+    let budget = c.args.search.now.setting.now.budget.now in
+    let last = c.args.search.now.last in
+    passed_on (λ fault. (s : Statement) → IsFound about last s c.args.child → IsRefusedFor about budget last (statements.after c.args.path s) fault)
+    c.from_residual-in_err-part.result c.from_residual-in_err-part.ensures.1
+    (λ r is s h. after_question about last c.args.path s c.args.child h budget c.in_ok-region.region c.in_err-part.field-0.0 r c.in_ok-region.ensures.built is c.in_err-part.ensures.refusals)
+
+pub returns-clause-found : goal.returns-clause-found
+returns-clause-found c s h =
+    let about = system_of c.args.search.now in
+    let last = c.args.search.now.last in
+    let child = c.args.child in
+    let part = c.in_ok-part.part in
+    let same = sym c.in_ok-part.ensures.region in
+    let children : c.push_item.new.items.items ≡ child.part.node ∷ [] = c.in_ok-push_item.ensures ∙ ap (λ xs. xs ++ child.part.node ∷ []) c.new-children.ensures.items in
+    after_is_found about last c.args.path s child h _
+    (subst (IsRegion about.variables about.locations) same c.in_ok-region.ensures.before.over)
+    (λ f w. subst (λ (r : Region). IsPart about (props.next c.args.path f) r part.node) same (c.in_ok-part.ensures.part f (subst (AreParts about (more f none) (child.part.region ∷ [])) (sym children) w)))
+    (subst (IsBuiltOf about 1 (child.part.region ∷ [])) same c.in_ok-region.ensures.built)
+    c.in_ok-size.ensures

@@ -1,0 +1,61 @@
+use Rattle.std.proofs.Common.{◌∙◌, List, All, ap, sym, subst, ◌+◌}
+use Rattle.tv_linear.specs.declared.region.Region.{Region}
+use Rattle.tv_formula.specs.Properties.{Properties}
+use Rattle.tv_formula.specs.Properties as props
+use Rattle.tv_cert.specs.AimViews.{statements_of}
+use Rattle.tv_cert.specs.Statements.{Statement}
+use Rattle.tv_cert.specs.Statements as statements
+use Rattle.tv_region.specs.Regions.{IsRegion}
+use Rattle.tv_region.specs.StepRegions.{InState}
+use Rattle.tv_pre.specs.Inclusions.{OfPieces}
+use Rattle.tv_pre.specs.Questions.{IsRefusal, AsksOf, AsksEach}
+use Rattle.tv_pre.specs.Parts.{IsPart, AreParts}
+use Rattle.tv_pre.specs.Search.{system_of}
+use Rattle.tv_pre.specs.Arguments.{AreArguments}
+use Rattle.tv_pre.specs.Built.{IsBuiltOf, IsFaultOf}
+use Rattle.tv_pre.specs.Finding.{IsRefusedFor}
+use Rattle.tv_pre.proofs.PassedLemmas.{passed_on}
+use Rattle.tv_pre.proofs.FoundLemmas.{each_is_found, each_fault, each_question}
+use Rattle.tv_pre.proofs.finding.each_found.Goals as goal
+
+pub returns-in_err-region-clause-refused : goal.returns-in_err-region-clause-refused
+returns-in_err-region-clause-refused c =
+    let about = system_of c.args.search.now in
+    let budget = c.args.search.now.setting.now.budget.now in
+    let last = c.args.search.now.last in
+    let arguments = c.args.arguments in
+    passed_on (λ fault. (ss : List Statement) → AreArguments about last ss arguments → IsRefusedFor about budget last (statements.each_of (statements_of ss)) fault)
+    c.from_residual-in_err-region.result c.from_residual-in_err-region.ensures.1
+    (λ r is ss h. each_fault about last ss arguments.regions.items arguments.nodes.items h.each budget c.in_err-region.field-0.0 r is
+    (subst (λ rs. IsFaultOf about budget 0 rs c.in_err-region.field-0.0) c.deref.ensures.value c.in_err-region.ensures.refused))
+
+pub each_of-requires-clause-inside : goal.each_of-requires-clause-inside
+each_of-requires-clause-inside c =
+    let about = system_of c.args.search.now in
+    subst (All (λ r. OfPieces about c.in_ok-region.region.pieces.items (InState r))) (c.deref.ensures.value ∙ sym c.deref-2.ensures.value) c.in_ok-region.ensures.inside
+
+pub returns-in_err-part-clause-refused : goal.returns-in_err-part-clause-refused
+returns-in_err-part-clause-refused c =
+    let about = system_of c.args.search.now in
+    let budget = c.args.search.now.setting.now.budget.now in
+    let last = c.args.search.now.last in
+    let arguments = c.args.arguments in
+    let fault = c.in_err-part.field-0.0 in
+    passed_on (λ fault. (ss : List Statement) → AreArguments about last ss arguments → IsRefusedFor about budget last (statements.each_of (statements_of ss)) fault)
+    c.from_residual-in_err-part.result c.from_residual-in_err-part.ensures.1
+    (λ r is ss h. each_question about last ss arguments.regions.items arguments.nodes.items h.each budget c.in_ok-region.region fault r
+    (subst (λ rs. IsBuiltOf about 0 rs c.in_ok-region.region) c.deref.ensures.value c.in_ok-region.ensures.built) is
+    (subst (λ rs. IsRefusal about budget (AsksOf (λ q. AsksEach q rs) c.in_ok-region.region.pieces.items) fault) c.deref-2.ensures.value c.in_err-part.ensures.refusals))
+
+pub returns-clause-found : goal.returns-clause-found
+returns-clause-found c ss h =
+    let about = system_of c.args.search.now in
+    let last = c.args.search.now.last in
+    let arguments = c.args.arguments in
+    let part = c.in_ok-part.part in
+    let same = sym c.in_ok-part.ensures.region in
+    each_is_found about last ss arguments.regions.items arguments.nodes.items h.each _
+    (subst (IsRegion about.variables about.locations) same c.in_ok-region.ensures.over)
+    (λ fs w. subst (λ (r : Region). IsPart about (props.all_of fs) r part.node) same (c.in_ok-part.ensures.part fs (subst (λ rs. AreParts about fs rs arguments.nodes.items) (sym c.deref-2.ensures.value) w)))
+    (subst (IsBuiltOf about 0 arguments.regions.items) same (subst (λ rs. IsBuiltOf about 0 rs c.in_ok-region.region) c.deref.ensures.value c.in_ok-region.ensures.built))
+    (c.in_ok-size.ensures ∙ ap (λ k. 1 + k) h.size)

@@ -1,0 +1,65 @@
+use Rattle.std.proofs.Common.{sym, subst, ◌+◌, ◌∷◌, [], rules, IsTrue}
+use Rattle.tv_formula.specs.declared.tree.Path.{Path}
+use Rattle.tv_formula.specs.Properties.{fix}
+use Rattle.tv_cases.specs.Systems.{cases_of}
+use Rattle.tv_pre.specs.Along.{arguments}
+use Rattle.tv_pre.specs.Built.{IsFaultOf}
+use Rattle.tv_pre.specs.Parts.{IsPart, joined_pieces}
+use Rattle.tv_pre.specs.RankedAlong.{HasAll}
+use Rattle.tv_pre.specs.RankedUntil.{AsksComing}
+use Rattle.tv_pre.proofs.AlongLemmas.{is_along}
+use Rattle.tv_pre.proofs.BuiltLemmas.{rest_built}
+use Rattle.tv_pre.proofs.PassedLemmas.{passed_on, cover_fault}
+use Rattle.tv_pre.proofs.RankedAlongLemmas.{sides_fault, ends_fault, coming_is, both_built, coming_asked}
+use Rattle.tv_pre.proofs.ranked_along.ranked_along.Goals as goal
+
+pub returns-in_err-onward-clause-refused : goal.returns-in_err-onward-clause-refused
+returns-in_err-onward-clause-refused c =
+    let about = cases_of c.args.setting.now.about.now in
+    let budget = c.args.setting.now.budget.now in
+    let sides = c.args.sides.now in
+    passed_on (IsFaultOf about budget 2 (c.args.end ∷ arguments sides)) c.from_residual.result c.from_residual.ensures.1
+    (λ r is. sides_fault about budget sides c.args.end c.in_err-onward.field-0.0 r is c.in_err-onward.ensures.refused)
+
+pub returns-in_err-have_all-clause-refused : goal.returns-in_err-have_all-clause-refused
+returns-in_err-have_all-clause-refused c =
+    let about = cases_of c.args.setting.now.about.now in
+    let budget = c.args.setting.now.budget.now in
+    let sides = c.args.sides.now in
+    let end = c.args.end in
+    passed_on (IsFaultOf about budget 2 (end ∷ arguments sides)) c.from_residual-in_err-have_all.result c.from_residual-in_err-have_all.ensures.1
+    (λ r is. ends_fault about budget sides end c.in_ok-onward.onward c.in_err-have_all.field-0.0 r is c.in_ok-onward.ensures.built c.in_err-have_all.ensures.refused)
+
+pub ranked_until-requires-clause-coming : goal.ranked_until-requires-clause-coming
+ranked_until-requires-clause-coming c =
+    let about = cases_of c.args.setting.now.about.now in
+    let onward = c.in_ok-onward.onward in
+    let told : IsTrue c.in_ok-have_all.field-0 = search rules in
+    coming_is about c.args.sides.now c.args.end onward c.variables-variables.ensures.limits.cases c.requires.end c.in_ok-onward.ensures.going (c.in_ok-have_all.ensures.all told)
+
+pub returns-in_err-part-clause-refused : goal.returns-in_err-part-clause-refused
+returns-in_err-part-clause-refused c =
+    let about = cases_of c.args.setting.now.about.now in
+    let budget = c.args.setting.now.budget.now in
+    let sides = c.args.sides.now in
+    let end = c.args.end in
+    let onward = c.in_ok-onward.onward in
+    let asks = AsksComing about sides end.pieces.items onward.pieces.items (joined_pieces (end ∷ onward ∷ [])) in
+    passed_on (IsFaultOf about budget 2 (end ∷ arguments sides)) c.from_residual-in_err-part.result c.from_residual-in_err-part.ensures.1
+    (λ r is s h m. cover_fault about budget s (2 + h) asks
+    (coming_asked about sides end onward s h m (c.in_ok-onward.ensures.built s h (rest_built about s h end (arguments sides) m)) c.requires.path)
+    c.in_err-part.field-0.0 r is c.in_err-part.ensures.refusals)
+
+pub returns-clause-along : goal.returns-clause-along
+returns-clause-along c =
+    let about = cases_of c.args.setting.now.about.now in
+    let sides = c.args.sides.now in
+    let end = c.args.end in
+    let onward = c.in_ok-onward.onward in
+    let part = c.in_ok-part.part in
+    let told : IsTrue c.in_ok-have_all.field-0 = search rules in (
+      is_along about 1 sides c.args.children.items part (end ∷ onward ∷ []) (end ∷ arguments sides) c.in_ok-part.ensures.region
+          (λ f g w. subst (λ (p : Path). IsPart about (fix p sides.shape f g) part.region part.node) (sym c.requires.path) (c.in_ok-part.ensures.part f g w))
+          (λ s h m. both_built about sides end onward s h m (c.in_ok-onward.ensures.built s h (rest_built about s h end (arguments sides) m))),
+      subst (HasAll about) (sym c.in_ok-part.ensures.region.pieces) (c.in_ok-have_all.ensures.all told),
+    )

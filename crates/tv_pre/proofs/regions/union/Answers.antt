@@ -1,0 +1,40 @@
+use Rattle.std.proofs.Common.{◌+◌, arith}
+use Rattle.tv_cases.specs.Systems.{cases_of}
+use Rattle.tv_rounds.proofs.SetLemmas.{as_first}
+use Rattle.tv_pre.specs.Built.{in_either, IsFaultOf}
+use Rattle.tv_pre.proofs.BuiltLemmas.{member_built}
+use Rattle.tv_pre.proofs.PassedLemmas.{passed_on, region_fault}
+use Rattle.tv_pre.proofs.SetLemmas.{whole_first, whole_more, item_over}
+use Rattle.tv_pre.proofs.regions.union.Goals as goal
+
+pub regions-init : goal.regions-init
+regions-init c = whole_first (cases_of c.args.setting.now.about.now) c.args.regions.now c.nowhere-whole.result c.nowhere-whole.ensures
+
+pub either-requires : goal.either-requires
+either-requires c =
+    let about = cases_of c.args.setting.now.about.now in
+    let over = c.regions.invariant.over in
+    let item = item_over about c.args.regions.now c.regions.region-index c.region-item.result c.regions-test.true c.region-item.is c.requires.regions in
+    let e = over.variables in
+    let few = c.variables-variables.ensures.limits.few_variables in record {
+      few = omega (arith, e, few);
+      first = as_first about c.regions.whole c.regions.whole over over;
+      second = as_first about c.regions.whole c.region-item.result over item;
+    }
+
+pub returns-in_err-whole-clause-refused : goal.returns-in_err-whole-clause-refused
+returns-in_err-whole-clause-refused c =
+    let about = cases_of c.args.setting.now.about.now in
+    let budget = c.args.setting.now.budget.now in
+    let regions = c.args.regions.now in
+    passed_on (IsFaultOf about budget 0 regions) c.from_residual.result c.from_residual.ensures.1
+    (λ r is s h m. region_fault about budget s (0 + h) c.in_err-whole.field-0.0 r is
+    (in_either (0 + h) c.regions.whole c.region-item.result c.in_err-whole.field-0.0 (c.regions.invariant.built s h m)
+    (member_built about s h regions c.regions.region-index c.region-item.result c.regions-test.true c.region-item.is m) c.in_err-whole.ensures.refused))
+
+pub regions-preserved : goal.regions-preserved
+regions-preserved c =
+    let about = cases_of c.args.setting.now.about.now in
+    let regions = c.args.regions.now in
+    let item = item_over about regions c.regions.region-index c.region-item.result c.regions-test.true c.region-item.is c.requires.regions in
+    whole_more about regions c.regions.region-index c.regions.whole c.region-item.result c.in_ok-whole.whole c.regions-test.true c.region-item.is item c.regions.invariant c.in_ok-whole.ensures.either

@@ -1,0 +1,71 @@
+-- The regions of a fixed point, made of those of its arguments.
+use Rattle.std.specs.Prelude.{◌≡◌, ℕ, List, [], ◌∷◌}
+use Rattle.tv_program.specs.Steps.{State}
+use Rattle.tv_formula.specs.declared.tree.Path.{Path}
+use Rattle.tv_formula.specs.Properties.{Property, fix, none, more}
+use Rattle.tv_linear.specs.declared.region.Region.{Region}
+use Rattle.tv_cases.specs.LinearCases.{CaseSystem, CaseSteps}
+use Rattle.tv_cert.specs.declared.node.Node.{Node}
+use Rattle.tv_known.specs.Cycles.{IsStateOf}
+use Rattle.tv_known.specs.Rounds.{StaysIn, must_end}
+use Rattle.tv_cert.specs.Obligations.{hold_side}
+use Rattle.tv_rounds.specs.declared.fixed_point.FixedPoint.{FixedPoint}
+use Rattle.tv_rounds.specs.declared.answer.Rounds.{Rounds}
+use Rattle.tv_rounds.specs.Sides.{AreTame}
+use Rattle.tv_rounds.specs.Answers.{IsAnswer, IsExactBy}
+use Rattle.tv_region.specs.Regions.{IsRegion}
+use Rattle.tv_region.specs.StepRegions.{InState, IsTame}
+use Rattle.tv_pre.specs.declared.part.Part.{Part}
+use Rattle.tv_pre.specs.declared.sides.Sides.{Sides}
+use Rattle.tv_pre.specs.Inclusions.{LeadsTo}
+use Rattle.tv_pre.specs.Fixed.{OnWay, AtEnd}
+use Rattle.tv_pre.specs.Parts.{IsPart, AreParts}
+use Rattle.tv_pre.specs.Built.{IsBuiltOf}
+
+-- the regions of both arguments
+abbrev pub arguments : Sides → List Region
+arguments sides = sides.first.now ∷ sides.second.now ∷ []
+
+-- the region has only states of the set, and all of them where that is said
+pub record AreWithin (about : CaseSystem) (exact : Type 0) (set : State → Type 0) (region : Region) : Type 0 where
+  pub over : IsRegion about.variables about.locations region
+  pub right : (s : State) → IsStateOf about s → InState region s → set s
+  pub all : exact → (s : State) → IsStateOf about s → set s → InState region s
+
+-- the states from which each step leads into the region, or some step does; all where going back is exact
+abbrev pub AreBefore : CaseSystem → Path → Region → Region → Type 0
+AreBefore about path into region = AreWithin about (IsTame about into) (LeadsTo about path (InState into)) region
+
+-- the same, or those without a step where some step is asked for
+abbrev pub AreBeforeOrStop : CaseSystem → Path → Region → Region → Type 0
+AreBeforeOrStop about path into region = AreWithin about (IsTame about into) (StaysIn (CaseSteps about) path (InState into)) region
+
+-- those of them that are on the way
+abbrev pub AreOnward : CaseSystem → Sides → Region → Region → Type 0
+AreOnward about sides into region = AreWithin about (IsTame about into) (λ s. OnWay sides s × StaysIn (CaseSteps about) sides.path (InState into) s) region
+
+-- the states at the end
+abbrev pub AreAtEnd : CaseSystem → Sides → Region → Type 0
+AreAtEnd about sides region = AreWithin about (Unit {0}) (AtEnd sides) region
+
+-- the fixed point has the sides, and these states at its end
+pub record IsOfSides (sides : Sides) (end : Region) (point : FixedPoint) : Type 0 where
+  pub path : point.path ≡ sides.path
+  pub shape : point.shape ≡ sides.shape
+  pub hold : point.hold.now ≡ hold_side sides.shape sides.first.now sides.second.now
+  pub ends : point.end.now ≡ end
+
+-- the rounds are those of such a fixed point, for which going back is exact
+pub record AreRoundsOf (about : CaseSystem) (last : ℕ) (sides : Sides) (end : Region) (answer : Rounds) : Type 0 where
+  pub point : FixedPoint
+  pub of : IsOfSides sides end point
+  pub tame : AreTame about point
+  pub rounds : IsAnswer (must_end sides.shape) about point last answer
+  pub exact : IsExactBy (must_end sides.shape) about point answer
+
+-- The part is one of the fixed point of these arguments and nodes; its region is made of given ones, with so many more steps back.
+pub record IsAlong (about : CaseSystem) (k : ℕ) (given : List Region) (sides : Sides) (children : List Node) (part : Part) : Type 0 where
+  pub over : IsRegion about.variables about.locations part.region
+  pub shows : (f g : Property) → AreParts about (more f (more g none)) (arguments sides) children →
+      IsPart about (fix sides.path sides.shape f g) part.region part.node
+  pub built : IsBuiltOf about k given part.region

@@ -1,0 +1,35 @@
+-- What is found of the arguments of a formula.
+use Rattle.std.specs.Prelude.{◌≡◌, ℕ, List, [], ◌∷◌, All}
+use Rattle.tv_linear.specs.declared.region.Region.{Region}
+use Rattle.tv_cases.specs.LinearCases.{CaseSystem}
+use Rattle.tv_cert.specs.declared.node.Node.{Node}
+use Rattle.tv_cert.specs.AimViews.{statements_of}
+use Rattle.tv_cert.specs.Statements.{Statement}
+use Rattle.tv_region.specs.Regions.{IsRegion}
+use Rattle.tv_pre.specs.declared.finding.Arguments.{Arguments}
+use Rattle.tv_pre.specs.Finding.{IsPartFor, steps_back, total_size}
+use Rattle.tv_pre.specs.Built.{IsBuilt}
+
+-- the region and the node of one argument
+pub record IsArgument (about : CaseSystem) (last : ℕ) (s : Statement) (region : Region) (node : Node) : Type 0 where
+  pub over : IsRegion about.variables about.locations region
+  pub shows : IsPartFor about s region node
+  pub built : IsBuilt about s (steps_back last s) region
+
+-- those of each, in order
+abbrev pub AreEachArgument : CaseSystem → ℕ → List Statement → List Region → List Node → Type 0
+AreEachArgument about last [] [] [] = Unit {0}
+AreEachArgument about last [] [] (node ∷ nodes) = ⊥
+AreEachArgument about last [] (region ∷ regions) nodes = ⊥
+AreEachArgument about last (s ∷ ss) [] nodes = ⊥
+AreEachArgument about last (s ∷ ss) (region ∷ regions) [] = ⊥
+AreEachArgument about last (s ∷ ss) (region ∷ regions) (node ∷ nodes) = IsArgument about last s region node × AreEachArgument about last ss regions nodes
+
+-- they are found of the arguments
+pub record AreArguments (about : CaseSystem) (last : ℕ) (ss : List Statement) (arguments : Arguments) : Type 0 where
+  pub each : AreEachArgument about last ss arguments.regions.items arguments.nodes.items
+  pub size : arguments.size ≡ total_size (statements_of ss)
+
+-- their regions are over the cases
+abbrev pub AreArgumentsOf : CaseSystem → Arguments → Type 0
+AreArgumentsOf about arguments = All (IsRegion about.variables about.locations) arguments.regions.items

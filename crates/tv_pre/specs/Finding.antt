@@ -1,0 +1,132 @@
+-- What is found of a formula, bottom-up.
+use Rattle.std.specs.Prelude.{◌≡◌, ◌⊎◌, ℕ, ◌+◌, ◌<◌, ◌≤◌, ◌≤ℤ◌, List, length, map, All, Contains, ℤ, slice_index, slice_index_or, pos}
+use Rattle.tv_formula.specs.Properties.{Property, Properties}
+use Rattle.tv_linear.specs.declared.region.Region.{Region}
+use Rattle.tv_cases.specs.Comparisons.{comparison_lists}
+use Rattle.tv_cases.specs.LinearCases.{LinearCase, CaseSystem}
+use Rattle.tv_cert.specs.declared.node.Node.{Node}
+use Rattle.tv_cert.specs.Statements.{Statement, rows, here, elsewhere, ends, never_ends, each_of, one_of, after, along, unsaid, Statements, no_statement, statement, stated, stated_all}
+use Rattle.tv_cover.specs.Targets.{AreEven}
+use Rattle.tv_region.specs.Regions.{IsRegion}
+use Rattle.tv_region.specs.Differences.{AreOfDifferences, IsOfDifferences}
+use Rattle.tv_region.specs.StepRegions.{HasNoDraws}
+use Rattle.tv_pre.specs.declared.outcome.Found.{Found}
+use Rattle.tv_pre.specs.Parts.{IsPart, AreParts}
+use Rattle.tv_farkas.specs.declared.budget.Budget.{Budget}
+use Rattle.tv_pre.specs.declared.fault.PreFault.{PreFault}
+use Rattle.tv_pre.specs.declared.test.Test.{Test}
+use Rattle.tv_pre.specs.declared.test.Test.TheVariants.{Rows, Here, Elsewhere}
+use Rattle.tv_pre.specs.Built.{IsBuilt, IsPreFault}
+
+-- ---- the program
+
+-- both ends of each case are among the first locations
+abbrev pub AreBetween : ℕ → List LinearCase → Type 0
+AreBetween n cases = (c : LinearCase) → Contains cases c → (c.from < n) × (c.to < n)
+
+-- some case leads to a location with the same number
+abbrev pub StaysTogether : List ℕ → List LinearCase → Type 0
+StaysTogether numbers cases = (c : LinearCase) × Contains cases c × (slice_index numbers c.from ≡ slice_index numbers c.to)
+
+abbrev pub AreBetweenNumbers : ℤ → ℤ → List ℤ → Type 0
+AreBetweenNumbers least most numbers = (j : ℕ) → j < length numbers →
+    (least ≤ℤ slice_index_or numbers j (pos 0)) × (slice_index_or numbers j (pos 0) ≤ℤ most)
+
+-- from a place on, and before another one, none of the numbers is this one
+abbrev pub IsAbsent : ℤ → List ℤ → ℕ → ℕ → Type 0
+IsAbsent wanted numbers from to = (j : ℕ) → from ≤ j → j < to → slice_index_or numbers j (pos 0) ≡ wanted → ⊥
+
+-- at most at one place of the numbers is this one
+abbrev pub IsAtMostOnce : ℤ → List ℤ → Type 0
+IsAtMostOnce wanted numbers = (i j : ℕ) → i < length numbers → j < length numbers → slice_index_or numbers i (pos 0) ≡ wanted →
+    slice_index_or numbers j (pos 0) ≡ wanted → i ≡ j
+
+-- going back into the regions is exact: no case has a draw, or all is of differences
+abbrev pub IsTameFor : CaseSystem → Region → Region → Type 0
+IsTameFor about first second = HasNoDraws about ⊎ (AreOfDifferences about × IsOfDifferences first × IsOfDifferences second)
+
+-- ---- the formula
+
+-- the statement is that of the formula
+abbrev pub States : CaseSystem → Statement → Property → Type 0
+States about s f = s ≡ stated (comparison_lists about.variables) f
+
+abbrev mutual
+  -- the rows of its comparisons have n columns
+  pub IsEvenStatement : ℕ → Statement → Type 0
+  IsEvenStatement n (rows lists) = All (AreEven n) lists
+  IsEvenStatement n (here l) = Unit {0}
+  IsEvenStatement n (elsewhere l) = Unit {0}
+  IsEvenStatement n ends = Unit {0}
+  IsEvenStatement n never_ends = Unit {0}
+  IsEvenStatement n (each_of ss) = AreEvenStatements n ss
+  IsEvenStatement n (one_of ss) = AreEvenStatements n ss
+  IsEvenStatement n (after path s) = IsEvenStatement n s
+  IsEvenStatement n (along path shape s t) = IsEvenStatement n s × IsEvenStatement n t
+  IsEvenStatement n unsaid = Unit {0}
+
+  pub AreEvenStatements : ℕ → Statements → Type 0
+  AreEvenStatements n no_statement = Unit {0}
+  AreEvenStatements n (statement s ss) = IsEvenStatement n s × AreEvenStatements n ss
+
+abbrev mutual
+  -- how often at most steps are gone back where the rounds of each fixed point are made up to the last: once for a formula on the next
+  -- states; for a fixed point once more than its rounds, and once more for a question about steps; twice as often for termination
+  pub steps_back : ℕ → Statement → ℕ
+  steps_back last (rows lists) = 0
+  steps_back last (here l) = 0
+  steps_back last (elsewhere l) = 0
+  steps_back last ends = (last + 2) + (last + 2)
+  steps_back last never_ends = (last + 2) + (last + 2)
+  steps_back last (each_of ss) = all_steps_back last ss
+  steps_back last (one_of ss) = all_steps_back last ss
+  steps_back last (after path s) = (last + 2) + steps_back last s
+  steps_back last (along path shape s t) = (last + 2) + (steps_back last s + steps_back last t)
+  steps_back last unsaid = 0
+
+  pub all_steps_back : ℕ → Statements → ℕ
+  all_steps_back last no_statement = 0
+  all_steps_back last (statement s ss) = steps_back last s + all_steps_back last ss
+
+abbrev mutual
+  -- how many subformulas it has, with itself
+  pub size : Statement → ℕ
+  size (rows lists) = 1
+  size (here l) = 1
+  size (elsewhere l) = 1
+  size ends = 1
+  size never_ends = 1
+  size (each_of ss) = 1 + total_size ss
+  size (one_of ss) = 1 + total_size ss
+  size (after path s) = 1 + size s
+  size (along path shape s t) = 1 + (size s + size t)
+  size unsaid = 1
+
+  pub total_size : Statements → ℕ
+  total_size no_statement = 0
+  total_size (statement s ss) = size s + total_size ss
+
+-- whatever formula the statement is of, the node shows it where its pieces are, which are those of the region
+abbrev pub IsPartFor : CaseSystem → Statement → Region → Node → Type 0
+IsPartFor about s region node = (f : Property) → States about s f → IsPart about f region node
+
+-- one for each statement, in order
+abbrev pub ArePartsFor : CaseSystem → Statements → List Region → List Node → Type 0
+ArePartsFor about ss regions nodes = (fs : Properties) → ss ≡ stated_all (comparison_lists about.variables) fs → AreParts about fs regions nodes
+
+-- what a test states
+abbrev pub test_statement : Test → Statement
+test_statement (Rows lists) = rows (map (λ v. v.items) lists.now)
+test_statement (Here l) = here l
+test_statement (Elsewhere l) = elsewhere l
+
+-- a refusal is of regions that are made of the atoms of the formula
+abbrev pub IsRefusedFor : CaseSystem → Budget → ℕ → Statement → PreFault → Type 0
+IsRefusedFor about budget last s fault = IsPreFault about s budget (steps_back last s) fault
+
+-- what is found of a formula where rounds are made up to the last
+pub record IsFound (about : CaseSystem) (last : ℕ) (s : Statement) (found : Found) : Type 0 where
+  pub over : IsRegion about.variables about.locations found.part.region
+  pub shows : IsPartFor about s found.part.region found.part.node
+  pub built : IsBuilt about s (steps_back last s) found.part.region
+  pub size : found.size ≡ size s

@@ -1,0 +1,130 @@
+// Certificates of formulas over paths.
+
+ghost use Rattle.std.specs.Prelude.{◌≡◌, ◌≤◌, IfOk};
+ghost use Rattle.std.specs.Result.{IfErr};
+ghost use Rattle.tv_cases.specs.Systems.{cases_of};
+ghost use Rattle.tv_cert.specs.Claims.{StatesIts, claim_variables};
+ghost use Rattle.tv_shape.specs.Certificates.{IsSettling};
+ghost use Rattle.tv_pre.specs.Proving.{IsProofTried, IsDisproofTried, IsProofFault, IsDisproofFault, IsUnproved, left_by};
+
+use crate::starting::{Inside, first_inside, start_covered};
+use crate::{Found, Gap, Part, PreFault, Setting, found};
+use tv_cert::Claim;
+use tv_cover::Covered;
+use tv_lexrank::proved_certificate;
+use tv_points::disproved_certificate;
+use tv_shape::Certificate;
+
+/// What came of one side of a claim.
+#[derive(Drop)]
+pub(crate) enum Tried {
+    Settled(Certificate),
+    /// The states at the start do not tell; where the region may lack states, why it does.
+    Left(Option<Gap>),
+}
+
+/// Why there is no certificate.
+#[derive(Drop)]
+pub enum Unproved {
+    /// A call on regions, or a question of them, was refused.
+    Refused(PreFault),
+    /// Some initial state is not known to have the property, and none is known not to have it: a region may lack states, for this reason.
+    Left(Gap),
+    /// The same, although neither region lacks states.
+    Told,
+}
+
+/// The certificate that the property holds, where all states at the start lie in the region of its normal form.
+fn try_proof(setting: &Setting, claim: &Claim) -> Result<Tried, PreFault>
+    requires splits { setting.now.budget.now.splits ≤ 128 }
+    requires states { StatesIts claim.now }
+    requires variables { claim_variables claim.now ≡ (cases_of setting.now.about.now).variables }
+    ensures tried { IfOk result (IsProofTried (cases_of setting.now.about.now) claim.now) }
+    ensures refused { IfErr result (IsProofFault (cases_of setting.now.about.now) claim.now setting.now.budget.now) }
+{
+    let _limits = claim.proved().tree();
+    let Found {
+        part: Part { region, node },
+        gap,
+        size: _,
+    } = match found(setting, claim.proved_aim()) {
+        Err(fault) => return Err(fault),
+        Ok(found) => found,
+    };
+    match start_covered(setting, &region) {
+        Err(fault) => Err(PreFault::Cover { fault }),
+        Ok(Covered::Hole(_)) => Ok(Tried::Left(gap)),
+        Ok(Covered::Tree(start)) => {
+            match proved_certificate(setting.alloc, setting.about, claim, node, start) {
+                Err(_) => Err(PreFault::Memory),
+                Ok(certificate) => Ok(Tried::Settled(certificate)),
+            }
+        }
+    }
+}
+
+/// The certificate that the property fails, where some state at the start lies in the region of its negation.
+fn try_disproof(setting: &Setting, claim: &Claim) -> Result<Tried, PreFault>
+    requires splits { setting.now.budget.now.splits ≤ 128 }
+    requires states { StatesIts claim.now }
+    requires variables { claim_variables claim.now ≡ (cases_of setting.now.about.now).variables }
+    ensures tried { IfOk result (IsDisproofTried (cases_of setting.now.about.now) claim.now) }
+    ensures refused { IfErr result (IsDisproofFault (cases_of setting.now.about.now) claim.now setting.now.budget.now) }
+{
+    let _limits = claim.denied().tree();
+    let Found {
+        part: Part { region, node },
+        gap,
+        size: _,
+    } = match found(setting, claim.denied_aim()) {
+        Err(fault) => return Err(fault),
+        Ok(found) => found,
+    };
+    match first_inside(setting, &region.pieces) {
+        Err(fault) => Err(PreFault::Cover { fault }),
+        Ok(None) => Ok(Tried::Left(gap)),
+        Ok(Some(Inside { piece, values })) => {
+            let (alloc, about) = (setting.alloc, setting.about);
+            match disproved_certificate(alloc, about, claim, node, piece, values) {
+                Err(_) => Err(PreFault::Memory),
+                Ok(certificate) => Ok(Tried::Settled(certificate)),
+            }
+        }
+    }
+}
+
+/// Why there is no certificate, where the start tells nothing of either side.
+fn left(first: Option<Gap>, second: Option<Gap>) -> Unproved
+    ensures { result ≡ left_by first second }
+{
+    match first {
+        Some(gap) => Unproved::Left(gap),
+        None => match second {
+            Some(gap) => Unproved::Left(gap),
+            None => Unproved::Told,
+        },
+    }
+}
+
+/// The certificate that a property holds at all initial states, or fails at one of them.
+///
+/// A region and a node are made of each subformula, bottom-up: of the normal form first, and where its region does not have all initial
+/// states, of its negation.
+pub fn prove(setting: &Setting, claim: &Claim) -> Result<Certificate, Unproved>
+    requires splits { setting.now.budget.now.splits ≤ 128 }
+    requires states { StatesIts claim.now }
+    requires variables { claim_variables claim.now ≡ (cases_of setting.now.about.now).variables }
+    ensures settled { IfOk result (IsSettling (cases_of setting.now.about.now) claim.now) }
+    ensures unproved { IfErr result (IsUnproved (cases_of setting.now.about.now) claim.now setting.now.budget.now) }
+{
+    let first = match try_proof(setting, claim) {
+        Err(fault) => return Err(Unproved::Refused(fault)),
+        Ok(Tried::Settled(certificate)) => return Ok(certificate),
+        Ok(Tried::Left(gap)) => gap,
+    };
+    match try_disproof(setting, claim) {
+        Err(fault) => Err(Unproved::Refused(fault)),
+        Ok(Tried::Settled(certificate)) => Ok(certificate),
+        Ok(Tried::Left(second)) => Err(left(first, second)),
+    }
+}

@@ -1,0 +1,333 @@
+// The region and the node of each subformula, from those of its arguments.
+
+ghost use Rattle.std.specs.Prelude.{◌≡◌, ◌≤◌, ◌+◌, ◌++◌, ◌∷◌, ℕ, All, List, [], map, IfOk};
+ghost use Rattle.std.specs.Result.{IfErr};
+ghost use Rattle.tv_formula.specs.Properties.{Property};
+ghost use Rattle.tv_cases.specs.Systems.{cases_of};
+ghost use Rattle.tv_known.specs.Cycles.{IsLastRound};
+ghost use Rattle.tv_cert.specs.AimViews.{aim_states, aims_state, statements_of};
+ghost use Rattle.tv_cert.specs.Statements.{Statement};
+ghost use Rattle.tv_cert.specs.Statements as statements;
+ghost use Rattle.tv_region.specs.Regions.{IsRegion};
+ghost use Rattle.tv_pre.specs.declared.fault.PreFault.TheVariants.{Memory};
+ghost use Rattle.tv_pre.specs.Atoms.{IsEvenTest};
+ghost use Rattle.tv_pre.specs.Built.{IsBuilt, IsPreFault};
+ghost use Rattle.tv_pre.specs.Finding.{States, IsEvenStatement, AreEvenStatements, steps_back, size, IsPartFor, IsFound, test_statement, IsRefusedFor};
+ghost use Rattle.tv_pre.specs.Search.{system_of, IsSearch};
+ghost use Rattle.tv_pre.specs.Arguments.{AreArguments, AreArgumentsOf};
+
+use crate::along::{Along, part_along};
+use crate::empty::empty_part;
+use crate::gap::{added, first_gap, gap_after};
+use crate::ranking::ranking_of;
+use crate::regions::{back_into, intersection, union};
+use crate::search::{Search, search_in};
+use crate::{
+    Found, Gap, Part, PreFault, Setting, Sides, Test, atom, each_of, ends_ranked, next, one_of,
+};
+use std::alloc::Global;
+use tv_cert::{Aim, Node};
+use tv_formula::{Path, Shape};
+use tv_linear::Region;
+use tv_simplex::push_item;
+
+/// What was found of the arguments of a formula, in order: their regions and nodes, the first gap, and how many subformulas they have.
+#[derive(Drop)]
+pub(crate) struct Arguments {
+    pub regions: Vec<Region>,
+    pub nodes: Vec<Node>,
+    pub gap: Option<Gap>,
+    pub size: u32,
+}
+
+/// No arguments.
+fn no_arguments(alloc: Global) -> Arguments
+    ensures regions { result.regions.items ≡ [] }
+    ensures nodes { result.nodes.items ≡ [] }
+    ensures size { result.size ≡ 0 }
+{
+    Arguments {
+        regions: Vec::new(alloc),
+        nodes: Vec::new(alloc),
+        gap: None,
+        size: 0,
+    }
+}
+
+/// The arguments with one more. Of its gap the place counts on from the formula that they are arguments of.
+fn with_argument(arguments: Arguments, found: Found) -> Result<Arguments, PreFault>
+    ensures regions { IfOk result (λ a. a.regions.items ≡ arguments.regions.items ++ found.part.region ∷ []) }
+    ensures nodes { IfOk result (λ a. a.nodes.items ≡ arguments.nodes.items ++ found.part.node ∷ []) }
+    ensures size { IfOk result (λ a. a.size ≡ arguments.size + found.size) }
+    ensures memory { IfErr result (λ fault. fault ≡ Memory) }
+{
+    let Arguments {
+        mut regions,
+        mut nodes,
+        gap,
+        size,
+    } = arguments;
+    let place = added(1, size)?;
+    let more = gap_after(place, found.gap)?;
+    let size = added(size, found.size)?;
+    let Part { region, node } = found.part;
+    push_item(&mut regions, region)?;
+    push_item(&mut nodes, node)?;
+    let gap = first_gap(gap, more);
+    Ok(Arguments {
+        regions,
+        nodes,
+        gap,
+        size,
+    })
+}
+
+/// What is found of an atom.
+fn atom_found(search: &Search, test: &Test) -> Result<Found, PreFault>
+    requires even { IsEvenTest (system_of search.now).variables test.now }
+    ensures found { IfOk result (IsFound (system_of search.now) search.now.last (test_statement test.now)) }
+    ensures memory { IfErr result (λ fault. fault ≡ Memory) }
+{
+    let part = atom(search.setting.alloc, search.setting.about, test)?;
+    let gap = None;
+    Ok(Found { part, gap, size: 1 })
+}
+
+/// What is found of termination or of its negation: so far nothing.
+fn termination_found(search: &Search) -> Result<Found, PreFault>
+    ensures ends { IfOk result (IsFound (system_of search.now) search.now.last statements.ends) }
+    ensures never_ends { IfOk result (IsFound (system_of search.now) search.now.last statements.never_ends) }
+    ensures memory { IfErr result (λ fault. fault ≡ Memory) }
+{
+    let part = empty_part(search.setting)?;
+    let gap = Some(Gap::Open { place: 0 });
+    Ok(Found { part, gap, size: 1 })
+}
+
+/// What is found of termination: where the program is ranked it holds everywhere; else so far nothing. The ranking is looked for anew, as
+/// its node is given away.
+fn ends_found(search: &Search) -> Result<Found, PreFault>
+    ensures found { IfOk result (IsFound (system_of search.now) search.now.last statements.ends) }
+    ensures memory { IfErr result (λ fault. fault ≡ Memory) }
+{
+    if search.ranking.is_none() {
+        return Ok(termination_found(search)?);
+    }
+    let setting = search.setting;
+    match ranking_of(setting)? {
+        None => Ok(termination_found(search)?),
+        Some(ranking) => {
+            let part = ends_ranked(setting.alloc, setting.about, ranking.node)?;
+            let gap = None;
+            Ok(Found { part, gap, size: 1 })
+        }
+    }
+}
+
+/// What is found of a conjunction.
+fn each_found(search: &Search, arguments: Arguments) -> Result<Found, PreFault>
+    requires search { IsSearch search.now }
+    requires arguments { AreArgumentsOf (system_of search.now) arguments }
+    ensures found { let about = system_of search.now in
+        IfOk result (λ found. (ss : List Statement) → AreArguments about search.now.last ss arguments →
+        IsFound about search.now.last (statements.each_of (statements_of ss)) found) }
+    ensures refused { let about = system_of search.now in
+        IfErr result (λ fault. (ss : List Statement) → AreArguments about search.now.last ss arguments →
+        IsRefusedFor about search.now.setting.now.budget.now search.now.last (statements.each_of (statements_of ss)) fault) }
+{
+    let Arguments {
+        regions,
+        nodes,
+        gap,
+        size,
+    } = arguments;
+    let size = added(1, size)?;
+    let region = intersection(search.setting, &regions)?;
+    let part = each_of(search.setting, &regions, nodes, region)?;
+    Ok(Found { part, gap, size })
+}
+
+/// What is found of a disjunction.
+fn some_found(search: &Search, arguments: Arguments) -> Result<Found, PreFault>
+    requires search { IsSearch search.now }
+    requires arguments { AreArgumentsOf (system_of search.now) arguments }
+    ensures found { let about = system_of search.now in
+        IfOk result (λ found. (ss : List Statement) → AreArguments about search.now.last ss arguments →
+        IsFound about search.now.last (statements.one_of (statements_of ss)) found) }
+    ensures refused { let about = system_of search.now in
+        IfErr result (λ fault. (ss : List Statement) → AreArguments about search.now.last ss arguments →
+        IsRefusedFor about search.now.setting.now.budget.now search.now.last (statements.one_of (statements_of ss)) fault) }
+{
+    let Arguments {
+        regions,
+        nodes,
+        gap,
+        size,
+    } = arguments;
+    let size = added(1, size)?;
+    let region = union(search.setting, &regions)?;
+    let part = one_of(search.setting, &regions, nodes, region)?;
+    Ok(Found { part, gap, size })
+}
+
+/// Why the region of the states before another one may lack states: going back may not be exact, or the other one lacks some.
+fn gap_before(search: &Search, into: &Region, gap: Option<Gap>) -> Result<Option<Gap>, PreFault>
+    requires search { IsSearch search.now }
+    ensures memory { IfErr result (λ fault. fault ≡ Memory) }
+{
+    if search.is_tame(into, into) {
+        Ok(gap_after(1, gap)?)
+    } else {
+        Ok(Some(Gap::Inexact))
+    }
+}
+
+/// What is found of a formula on the next states.
+fn after_found(search: &Search, path: Path, child: Found) -> Result<Found, PreFault>
+    requires search { IsSearch search.now }
+    requires over { let about = system_of search.now in IsRegion about.variables about.locations child.part.region }
+    ensures found { let about = system_of search.now in
+        IfOk result (λ found. (s : Statement) → IsFound about search.now.last s child →
+        IsFound about search.now.last (statements.after path s) found) }
+    ensures refused { let about = system_of search.now in
+        IfErr result (λ fault. (s : Statement) → IsFound about search.now.last s child →
+        IsRefusedFor about search.now.setting.now.budget.now search.now.last (statements.after path s) fault) }
+{
+    let size = added(1, child.size)?;
+    let Part { region: into, node } = child.part;
+    let gap = gap_before(search, &into, child.gap)?;
+    let region = back_into(search.setting, path, &into)?;
+    let mut children = Vec::new(search.setting.alloc);
+    push_item(&mut children, node)?;
+    let part = next(search.setting, path, &into, children, region)?;
+    Ok(Found { part, gap, size })
+}
+
+/// What is found of a fixed point.
+fn along_found(
+    search: &Search,
+    path: Path,
+    shape: Shape,
+    first: Found,
+    second: Found,
+) -> Result<Found, PreFault>
+    requires search { IsSearch search.now }
+    requires first { let about = system_of search.now in IsRegion about.variables about.locations first.part.region }
+    requires second { let about = system_of search.now in IsRegion about.variables about.locations second.part.region }
+    ensures found { let about = system_of search.now in
+        IfOk result (λ found. (s t : Statement) → IsFound about search.now.last s first → IsFound about search.now.last t second →
+        IsFound about search.now.last (statements.along path shape s t) found) }
+    ensures refused { let about = system_of search.now in
+        IfErr result (λ fault. (s t : Statement) → IsFound about search.now.last s first → IsFound about search.now.last t second →
+        IsRefusedFor about search.now.setting.now.budget.now search.now.last (statements.along path shape s t) fault) }
+{
+    let size = added(1, added(first.size, second.size)?)?;
+    let left = gap_after(1, first.gap)?;
+    let right = gap_after(added(1, first.size)?, second.gap)?;
+    let Part {
+        region: one,
+        node: front,
+    } = first.part;
+    let Part {
+        region: other,
+        node: back,
+    } = second.part;
+    let mut children = Vec::new(search.setting.alloc);
+    push_item(&mut children, front)?;
+    push_item(&mut children, back)?;
+    let sides = Sides {
+        path,
+        shape,
+        first: &one,
+        second: &other,
+    };
+    let Along { part, gap } = part_along(search, &sides, children)?;
+    let gap = first_gap(gap, first_gap(left, right));
+    Ok(Found { part, gap, size })
+}
+
+/// What is found of each of some formulas.
+#[cycle(finding)]
+fn all_found(search: &Search, aims: &[Aim]) -> Result<Arguments, PreFault>
+    requires search { IsSearch search.now }
+    requires even { AreEvenStatements (system_of search.now).variables (aims_state aims.now) }
+    ensures found { IfOk result (AreArguments (system_of search.now) search.now.last (map aim_states aims.now)) }
+    ensures refused_each { let about = system_of search.now in
+        let s = statements.each_of (aims_state aims.now) in
+        IfErr result (IsRefusedFor about search.now.setting.now.budget.now search.now.last s) }
+    ensures refused_one { let about = system_of search.now in
+        let s = statements.one_of (aims_state aims.now) in
+        IfErr result (IsRefusedFor about search.now.setting.now.budget.now search.now.last s) }
+{
+    let mut arguments = no_arguments(search.setting.alloc);
+    'aims: for aim in aims {
+        let found = found_of(search, aim)?;
+        arguments = with_argument(arguments, found)?;
+    }
+    Ok(arguments)
+}
+
+/// What is found of a formula.
+#[cycle(finding)]
+fn found_of(search: &Search, aim: &Aim) -> Result<Found, PreFault>
+    requires search { IsSearch search.now }
+    requires even { IsEvenStatement (system_of search.now).variables (aim_states aim.now) }
+    ensures found { IfOk result (IsFound (system_of search.now) search.now.last (aim_states aim.now)) }
+    ensures refused { let about = system_of search.now in
+        IfErr result (IsRefusedFor about search.now.setting.now.budget.now search.now.last (aim_states aim.now)) }
+{
+    match aim {
+        Aim::Rows(lists) => atom_found(search, &Test::Rows(lists)),
+        Aim::Here(location) => atom_found(search, &Test::Here(*location)),
+        Aim::Elsewhere(location) => atom_found(search, &Test::Elsewhere(*location)),
+        Aim::Ends => ends_found(search),
+        Aim::NeverEnds => termination_found(search),
+        Aim::EachOf(aims) => {
+            let arguments = all_found(search, aims)?;
+            each_found(search, arguments)
+        }
+        Aim::OneOf(aims) => {
+            let arguments = all_found(search, aims)?;
+            some_found(search, arguments)
+        }
+        Aim::After(path, inner) => {
+            let child = found_of(search, inner)?;
+            after_found(search, *path, child)
+        }
+        Aim::Along(path, shape, first, second) => {
+            let first = found_of(search, first)?;
+            let second = found_of(search, second)?;
+            along_found(search, *path, *shape, first, second)
+        }
+    }
+}
+
+/// The region where a formula is known to hold, with the node that shows it, each made from those of its arguments.
+///
+/// The region of an atom has its rows at each location; conjunctions and disjunctions have the states that each argument has, or one of
+/// them. A formula on the next states has those all of whose steps lead into the region of its argument, or some step. A fixed point has the
+/// states at its end, and, where going back over the steps is exact, those of its rounds: up to the eighth in a program with a cycle, and
+/// else up to as many as it has locations. A `gap` says why the region may lack states.
+///
+/// Where the whole program has a lexicographic ranking, termination holds everywhere, and so does a fixed point over every run that must
+/// come to an end if each state is at its end, or on the way with a step. A ranking system that is not settled counts as none.
+///
+/// A refusal is of a call on regions, or of a question about their pieces, that are made of the atoms of the formula.
+pub fn found(setting: &Setting, aim: &Aim) -> Result<Found, PreFault>
+    requires splits { setting.now.budget.now.splits ≤ 128 }
+    requires stated { (f : Property) × States (cases_of setting.now.about.now) (aim_states aim.now) f }
+    ensures region { let system = cases_of setting.now.about.now in
+        IfOk result (λ found. IsRegion system.variables system.locations found.part.region) }
+    ensures part { let system = cases_of setting.now.about.now in
+        IfOk result (λ found. IsPartFor system (aim_states aim.now) found.part.region found.part.node) }
+    ensures built { let system = cases_of setting.now.about.now in
+        let s = aim_states aim.now in
+        IfOk result (λ found. (last : ℕ) → IsLastRound system 8 last → IsBuilt system s (steps_back last s) found.part.region) }
+    ensures size { IfOk result (λ found. found.size ≡ size (aim_states aim.now)) }
+    ensures refused { let system = cases_of setting.now.about.now in
+        IfErr result (λ fault. (last : ℕ) → IsLastRound system 8 last →
+        IsRefusedFor system setting.now.budget.now last (aim_states aim.now) fault) }
+{
+    let search = search_in(setting)?;
+    found_of(&search, aim)
+}

@@ -1,0 +1,34 @@
+// The ranks of a whole program.
+
+ghost use Rattle.std.specs.Prelude.{IfOk, IfSome};
+ghost use Rattle.tv_cases.specs.Systems.{cases_of};
+ghost use Rattle.tv_pre.specs.Search.{IsRanking};
+
+use crate::Setting;
+use std::alloc::AllocError;
+use tv_cert::Node;
+use tv_lexrank::{CaseShown, RankFault, Ranked, first_attempt};
+
+/// A node that shows that every run of a program ends, and what shows each case, in order.
+#[derive(Drop)]
+pub(crate) struct Ranking {
+    pub node: Node,
+    pub shown: Vec<CaseShown>,
+}
+
+/// The ranking of the program, where it has a lexicographic one. A refusal to settle a ranking system counts as none.
+pub(crate) fn ranking_of(setting: &Setting) -> Result<Option<Ranking>, AllocError>
+    ensures { IfOk result (λ ranking. IfSome ranking (IsRanking (cases_of setting.now.about.now))) }
+{
+    match first_attempt(setting.alloc, setting.about, setting.budget.pivots) {
+        Ok(Ranked::Node { node, shown }) => Ok(Some(Ranking { node, shown })),
+        Ok(
+            Ranked::Stuck {
+                set: _,
+                barriers: _,
+            },
+        ) => Ok(None),
+        Err(RankFault::Memory) => Err(AllocError),
+        Err(_) => Ok(None),
+    }
+}
