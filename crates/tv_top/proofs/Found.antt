@@ -1,5 +1,5 @@
 -- What certificates that were found say, and why there is none.
-use Rattle.std.proofs.Common.{◌≡◌, ◌⊎◌, inl, inr, ℕ, List, [], ◌∷◌, ◌++◌, Bool, Vec, ℤ, refl, sym, subst, All, arith}
+use Rattle.std.proofs.Common.{◌≡◌, ◌⊎◌, inl, inr, ℕ, List, [], ◌∷◌, ◌++◌, Vec, ℤ, refl, sym, subst, All, arith}
 use Rattle.std.specs.Global.{Global}
 use Rattle.std.specs.declared.alloc.AllocError.{AllocError}
 use Rattle.std.specs.Prelude.{Result, Ok, Err, IfOk}
@@ -45,13 +45,22 @@ use Rattle.tv_search.specs.Runs as searched
 use Rattle.tv_invariant.proofs.PieceLemmas.{in_rows}
 use Rattle.tv_linear.specs.Linear.{columns, IsMet, IsWithin}
 use Rattle.tv_top.specs.declared.cause.Cause.{Cause}
-use Rattle.tv_top.specs.declared.cause.Cause.TheVariants.{Unsolved, Spent, Composed, Unranked, Weak, TooManyPaths, Unbuilt}
+use Rattle.tv_top.specs.declared.cause.Cause.TheVariants.{Unsolved, Spent, Composed, Unranked, Weak, TooManyPaths, TooManyPieces, Drawn, Unsettled, Unbuilt}
 use Rattle.tv_shape.specs.Certificates.{IsSettling}
 use Rattle.tv_top.specs.declared.answer.Answer.{Answer}
 use Rattle.tv_top.specs.declared.answer.Answer.TheVariants.{Proved, Disproved, Obligation, CertificateLine, Words, TooLong, Text, Property as Unnamed, WideEdge, TooManyInEdge, Unknown, ReadFault, Memory}
+use Rattle.tv_region.specs.declared.fault.RegionFault.{RegionFault}
+use Rattle.tv_region.specs.declared.fault.RegionFault.TheVariants as regions
+use Rattle.tv_pre.specs.declared.fault.PreFault.{PreFault}
+use Rattle.tv_pre.specs.declared.fault.PreFault.TheVariants as faults
+use Rattle.tv_pre.specs.declared.gap.Gap.{Gap}
+use Rattle.tv_pre.specs.declared.gap.Gap.TheVariants.{Inexact, Open}
+use Rattle.tv_pre.specs.declared.deciding.Unproved.{Unproved}
+use Rattle.tv_pre.specs.declared.deciding.Unproved.TheVariants.{Refused, Left, Told}
+use Rattle.tv_top.specs.Searching.{AnswersRegion, AnswersRefusal, AnswersLeft, AnswersUnproved}
 use Rattle.tv_top.specs.Answers.{ended, uncovered, unknown, too_wide}
 use Rattle.tv_top.specs.Tasks.{Wanted, Task}
-use Rattle.tv_top.specs.Finding.{Offers, Finds, Settles, TellsClaim, SaysVerdict, IsTextOf, IsOpenEnd, IsEndFault, alone, round, found, IsSearchFault, IsWeakAt, AreTooManyAt, KeepsFrom, of_ends, of_safety, budget_of}
+use Rattle.tv_top.specs.Finding.{Offers, Finds, Settles, TellsClaim, SaysVerdict, IsTextOf, IsOpenEnd, IsEndFault, alone, round, found, IsSearchFault, IsWeakAt, AreTooManyAt, KeepsFrom, of_ends, of_safety, of_formula, budget_of, IsOther, IsUnprovedOf, AreTooManyPieces}
 
 met_there : (before after : List Entry) (e : Entry) → AllMet (before ++ e ∷ after) → (P : Type 0) → (AllMet (e ∷ after) → P) → P
 met_there [] after e h P f = f h
@@ -185,6 +194,9 @@ module _ (offers : Offers) (task : Task) (p : System) (f : Property) (about : Ca
   weak_so (Ok (Composed column)) point w h = absurd w
   weak_so (Ok (Unranked set barriers)) point w h = absurd w
   weak_so (Ok (TooManyPaths label count)) point w h = absurd w
+  weak_so (Ok (TooManyPieces label k)) point w h = absurd w
+  weak_so (Ok (Drawn case)) point w h = absurd w
+  weak_so (Ok (Unsettled part)) point w h = absurd w
   weak_so (Ok Unbuilt) point w h = absurd w
   weak_so (Err e) point w h = tt
 
@@ -196,6 +208,9 @@ module _ (offers : Offers) (task : Task) (p : System) (f : Property) (about : Ca
   many_so (Ok (Composed column)) count point w h = absurd w
   many_so (Ok (Unranked set barriers)) count point w h = absurd w
   many_so (Ok (Weak label q)) count point w h = absurd w
+  many_so (Ok (TooManyPieces label k)) count point w h = absurd w
+  many_so (Ok (Drawn case)) count point w h = absurd w
+  many_so (Ok (Unsettled part)) count point w h = absurd w
   many_so (Ok Unbuilt) count point w h = absurd w
   many_so (Err e) count point w h = tt
 
@@ -215,6 +230,64 @@ module _ (offers : Offers) (task : Task) (p : System) (f : Property) (about : Ca
       wide_so : (fault : PointFault) → IsRunFault about run fault → Finds offers task p f about (too_wide fault)
       wide_so (points.Wide column) w = of_safety l n (inr record { run = run; to = to; found = is; wide = w })
       wide_so points.Memory w = tt
+
+-- ---- why it is not known whether another formula holds
+module _ (offers : Offers) (task : Task) (p : System) (f : Property) (about : CaseSystem) (other : IsOther about f) where
+  abbrev spent : Budget
+  spent = budget_of task.limits
+
+  pieces_so : (r : Result Cause AllocError) (l count : ℕ) → IfOk r (AreTooManyPieces p l count) → IsUnprovedOf about f spent (Refused (faults.Region (regions.Disjuncts l count))) → Finds offers task p f about (unknown r)
+  pieces_so (Ok (TooManyPieces label n)) l count w h = of_formula other (l, w.0, subst (λ k. IsUnprovedOf about f spent (Refused (faults.Region (regions.Disjuncts l k)))) (sym w.1) h)
+  pieces_so (Ok (Unsolved system fault)) l count w h = absurd w
+  pieces_so (Ok (Spent path)) l count w h = absurd w
+  pieces_so (Ok (Composed column)) l count w h = absurd w
+  pieces_so (Ok (Unranked set barriers)) l count w h = absurd w
+  pieces_so (Ok (Weak label q)) l count w h = absurd w
+  pieces_so (Ok (TooManyPaths label k)) l count w h = absurd w
+  pieces_so (Ok (Drawn number)) l count w h = absurd w
+  pieces_so (Ok (Unsettled place)) l count w h = absurd w
+  pieces_so (Ok Unbuilt) l count w h = absurd w
+  pieces_so (Err e) l count w h = tt
+
+  region_so : (fault : RegionFault) (answer : Answer) → AnswersRegion p fault answer → IsUnprovedOf about f spent (Refused (faults.Region fault)) → Finds offers task p f about answer
+  region_so (regions.Disjuncts l count) answer a h = subst (Finds offers task p f about) (sym a.is) (pieces_so a.cause l count a.many h)
+  region_so (regions.Wide column) answer a h = subst (Finds offers task p f about) (sym a) (of_formula other (inl h))
+  region_so (regions.Solve rows e) answer a h = subst (Finds offers task p f about) (sym a) (of_formula other (rows, refl, inl h))
+  region_so regions.Memory answer a h = subst (Finds offers task p f about) (sym a) tt
+
+  question_so : (fault : CoverFault) → IsUnprovedOf about f spent (Refused (faults.Cover fault)) → Finds offers task p f about (uncovered fault)
+  question_so (covers.Splits path) h = of_formula other h
+  question_so (covers.Solve rows e) h = of_formula other (rows, refl, inr h)
+  question_so (covers.Wide column) h = of_formula other (inr h)
+  question_so covers.Memory h = tt
+
+  refused_so : (fault : PreFault) (answer : Answer) → AnswersRefusal p fault answer → IsUnprovedOf about f spent (Refused fault) → Finds offers task p f about answer
+  refused_so (faults.Region fault) answer a h = region_so fault answer a h
+  refused_so (faults.Cover fault) answer a h = subst (Finds offers task p f about) (sym a) (question_so fault h)
+  refused_so faults.Memory answer a h = subst (Finds offers task p f about) (sym a) tt
+
+  left_so : (gap : Gap) (answer : Answer) → AnswersLeft about gap answer → IsUnprovedOf about f spent (Left gap) → Finds offers task p f about answer
+  left_so Inexact answer (inl a) h = subst (Finds offers task p f about) (sym a.2) (of_formula other (a.1, h))
+  left_so Inexact answer (inr a) h = subst (Finds offers task p f about) (sym a.1) (of_formula other (inr (a.0, h)))
+  left_so (Open place) answer a h = subst (Finds offers task p f about) (sym a) (of_formula other h)
+
+  -- what comes of a formula that has no certificate
+  pub unproved_so : (why : Unproved) (answer : Answer) → AnswersUnproved p about why answer → IsUnprovedOf about f spent why → Finds offers task p f about answer
+  unproved_so (Refused fault) answer a h = refused_so fault answer a h
+  unproved_so (Left gap) answer a h = left_so gap answer a h
+  unproved_so Told answer a h = subst (Finds offers task p f about) (sym a) (of_formula other (inl h))
+
+-- what comes of a formula
+pub answered_so : (offers : Offers) (task : Task) (p : System) (f : Property) (about : CaseSystem) → IsOther about f → (answer : Answer)
+    → Settles task.wanted p f about answer ⊎ ((why : Unproved) × AnswersUnproved p about why answer × IsUnprovedOf about f (budget_of task.limits) why) → Finds offers task p f about answer
+answered_so offers task p f about other answer (inl h) = settles_found offers task p f about answer h
+answered_so offers task p f about other answer (inr h) = unproved_so offers task p f about other h.0 answer h.1 h.2
+
+-- what comes of a further search
+pub further_so : (offers : Offers) (task : Task) (p : System) (f : Property) (about : CaseSystem) (old new : Answer) → Finds offers task p f about old
+    → (new ≡ old) ⊎ Settles task.wanted p f about new → Finds offers task p f about new
+further_so offers task p f about old new h (inl e) = subst (Finds offers task p f about) (sym e) h
+further_so offers task p f about old new h (inr g) = settles_found offers task p f about new g
 
 -- ---- runs that are found
 

@@ -2,6 +2,7 @@ pub mod Asking
 pub mod Denying
 pub mod Found
 pub mod Settling
+pub mod Drawn
 pub mod Lines
 pub mod Taken
 pub mod Made

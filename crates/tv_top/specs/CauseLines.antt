@@ -7,7 +7,7 @@ use Rattle.tv_simplex.specs.declared.fault.SolveFault.TheVariants as solving
 use Rattle.tv_rank.specs.declared.name.Name.{Name}
 use Rattle.tv_rank.specs.declared.name.Name.TheVariants as systems
 use Rattle.tv_top.specs.declared.cause.Cause.{Cause}
-use Rattle.tv_top.specs.declared.cause.Cause.TheVariants.{Unsolved, Spent, Composed, Unranked, Weak, TooManyPaths, Unbuilt}
+use Rattle.tv_top.specs.declared.cause.Cause.TheVariants.{Unsolved, Spent, Composed, Unranked, Weak, TooManyPaths, TooManyPieces, Drawn, Unsettled, Unbuilt}
 
 -- the words that name a linear system
 abbrev pub system_words : Name → List ℕ
@@ -66,6 +66,9 @@ cause_line (Composed column) = codes "Unknown width" ++ 10 ∷ []
 cause_line (Unranked set barriers) = codes "Unknown rank" ++ 10 ∷ []
 cause_line (Weak label point) = codes "Unknown invariant" ++ 10 ∷ []
 cause_line (TooManyPaths label count) = codes "Unknown disjuncts" ++ 10 ∷ []
+cause_line (TooManyPieces label count) = codes "Unknown disjuncts" ++ 10 ∷ []
+cause_line (Drawn case) = codes "Unknown template" ++ 10 ∷ []
+cause_line (Unsettled subformula) = codes "Unknown template" ++ 10 ∷ []
 cause_line Unbuilt = codes "Unknown unbuilt" ++ 10 ∷ []
 
 -- the second line
@@ -76,4 +79,7 @@ detail_line (Composed column) = codes "composed column " ++ (decimal column ++ 1
 detail_line (Unranked set barriers) = cases_line set.items
 detail_line (Weak label point) = point_line label.items point.items
 detail_line (TooManyPaths label count) = count_line label.items count
+detail_line (TooManyPieces label count) = count_line label.items count
+detail_line (Drawn case) = codes "draw case " ++ (decimal case ++ 10 ∷ [])
+detail_line (Unsettled subformula) = codes "subformula " ++ (decimal subformula ++ 10 ∷ [])
 detail_line Unbuilt = []

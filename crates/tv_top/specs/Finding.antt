@@ -6,7 +6,7 @@ use Rattle.tv_formula.specs.Properties.{Property, term}
 use Rattle.tv_formula.specs.Forms.{never_at}
 use Rattle.tv_formula.specs.Normal.{normal}
 use Rattle.tv_meaning.specs.Meaning.{HoldsInitially}
-use Rattle.tv_cases.specs.LinearCases.{CaseSystem}
+use Rattle.tv_cases.specs.LinearCases.{LinearCase, CaseSystem}
 use Rattle.tv_candidates.specs.declared.candidate.Candidate.{Candidate}
 use Rattle.tv_candidates.specs.Inductive.{IsInductive}
 use Rattle.tv_invariant.specs.Asking.{Gave}
@@ -40,11 +40,18 @@ use Rattle.tv_settling.specs.declared.fault.EndFault.TheVariants as ends
 use Rattle.tv_settling.specs.Closed.{HaveNoPoint}
 use Rattle.tv_settling.specs.Ends.{IsStuckAlone, IsFirstFault, RefusesFound}
 use Rattle.tv_settling.specs.Refusals.{RefusesSafety}
+use Rattle.tv_region.specs.declared.fault.RegionFault.{RegionFault}
+use Rattle.tv_region.specs.declared.fault.RegionFault.TheVariants as regions
+use Rattle.tv_pre.specs.declared.fault.PreFault.TheVariants as faults
+use Rattle.tv_pre.specs.declared.gap.Gap.TheVariants.{Inexact, Open}
+use Rattle.tv_pre.specs.declared.deciding.Unproved.{Unproved}
+use Rattle.tv_pre.specs.declared.deciding.Unproved.TheVariants.{Refused, Left, Told}
+use Rattle.tv_pre.specs.Proving.{IsUnproved}
 use Rattle.tv_top.specs.Generated.{count_lines}
 use Rattle.tv_top.specs.Tasks.{Limits, Wanted, nothing_more, its_text, its_counts, Task}
 use Rattle.tv_top.specs.declared.assignment.Assignment.{Assignment}
 use Rattle.tv_top.specs.declared.cause.Cause.{Cause}
-use Rattle.tv_top.specs.declared.cause.Cause.TheVariants.{Unsolved, Spent, Composed, Unranked, Weak, TooManyPaths, Unbuilt}
+use Rattle.tv_top.specs.declared.cause.Cause.TheVariants.{Unsolved, Spent, Composed, Unranked, Weak, TooManyPaths, TooManyPieces, Drawn, Unsettled, Unbuilt}
 use Rattle.tv_top.specs.declared.answer.Answer.{Answer}
 use Rattle.tv_top.specs.declared.answer.Answer.TheVariants as answers
 
@@ -186,22 +193,57 @@ IsSafetyCause p about Given budget l (TooManyPaths label count) = IsLabel p l la
 IsSafetyCause p about Given budget l (Composed column) = IsSearchFault about Given budget l (covers.Wide column) ⊎ IsWideRun about l column
 IsSafetyCause p about Given budget l cause = IsUncovered (IsSearchFault about Given budget l) cause
 
--- ---- why nothing is known
+-- ---- why it is not known whether another formula holds
 
--- no search is built for the property
+-- the property is neither termination nor the safety of a location
 pub record IsOther (about : CaseSystem) (f : Property) : Type 0 where
   pub not_ends : normal f ≡ term → ⊥
   pub not_safety : (l : ℕ) → l < about.locations → normal f ≡ never_at l → ⊥
 
-abbrev pub IsUnbuilt : CaseSystem → Property → Cause → Type 0
-IsUnbuilt about f Unbuilt = IsOther about f
-IsUnbuilt about f cause = ⊥
+-- the label of the location, where there is one with the number
+abbrev pub IsLabelAt : System → ℕ → List ℕ → Type 0
+IsLabelAt p l label = l < length p.locations → IsLabel p l label
+
+abbrev pub AreTooManyPieces : System → ℕ → ℕ → Cause → Type 0
+AreTooManyPieces p l count (TooManyPieces label n) = IsLabelAt p l label.items × (n ≡ count)
+AreTooManyPieces p l count cause = ⊥
+
+-- the case with the number has a draw
+pub record IsDrawnAt (about : CaseSystem) (number : ℕ) : Type 0 where
+  pub taken : LinearCase
+  pub there : slice_get about.cases number ≡ Some taken
+  pub draws : 0 < taken.draws
+
+-- no case has one
+abbrev pub NoneDraws : CaseSystem → Type 0
+NoneDraws about = (number : ℕ) (c : LinearCase) → slice_get about.cases number ≡ Some c → c.draws ≡ 0
+
+-- no certificate of the property, or of its negation, was made, for this reason
+pub record IsUnprovedOf (about : CaseSystem) (f : Property) (budget : Budget) (why : Unproved) : Type 0 where
+  pub claim : Claim
+  pub is_claim : IsClaim claim f
+  pub shows : IsUnproved about claim budget why
+
+-- a call on regions that are made of the formula's, or a question of them, has the fault
+abbrev pub IsEither : CaseSystem → Property → Budget → RegionFault → CoverFault → Type 0
+IsEither about f budget region cover =
+    IsUnprovedOf about f budget (Refused (faults.Region region)) ⊎ IsUnprovedOf about f budget (Refused (faults.Cover cover))
+
+abbrev pub IsFormulaCause : System → CaseSystem → Property → Budget → Cause → Type 0
+IsFormulaCause p about f budget (Unsolved system e) = (rows : _) × (system ≡ systems.Rows rows) × IsEither about f budget (regions.Solve rows e) (covers.Solve rows e)
+IsFormulaCause p about f budget (Spent path) = IsUnprovedOf about f budget (Refused (faults.Cover (covers.Splits path)))
+IsFormulaCause p about f budget (Composed column) = IsEither about f budget (regions.Wide column) (covers.Wide column)
+IsFormulaCause p about f budget (TooManyPieces label count) = (l : ℕ) × IsLabelAt p l label.items × IsUnprovedOf about f budget (Refused (faults.Region (regions.Disjuncts l count)))
+IsFormulaCause p about f budget (Drawn number) = IsDrawnAt about number × IsUnprovedOf about f budget (Left Inexact)
+IsFormulaCause p about f budget (Unsettled place) = IsUnprovedOf about f budget (Left (Open place))
+IsFormulaCause p about f budget Unbuilt = IsUnprovedOf about f budget Told ⊎ (NoneDraws about × IsUnprovedOf about f budget (Left Inexact))
+IsFormulaCause p about f budget cause = ⊥
 
 -- why nothing is known of the property
 pub data IsCause (offers : Offers) (task : Task) (p : System) (f : Property) (about : CaseSystem) (cause : Cause) : Type 0 where
   of_ends : normal f ≡ term → IsEndCause about (offers about) (budget_of task.limits) cause → IsCause offers task p f about cause
   of_safety : (l : ℕ) → normal f ≡ never_at l → IsSafetyCause p about (offers about) (budget_of task.limits) l cause → IsCause offers task p f about cause
-  of_others : IsUnbuilt about f cause → IsCause offers task p f about cause
+  of_formula : IsOther about f → IsFormulaCause p about f (budget_of task.limits) cause → IsCause offers task p f about cause
 
 -- What the answer of a search says.
 abbrev pub Finds : Offers → Task → System → Property → CaseSystem → Answer → Type 0

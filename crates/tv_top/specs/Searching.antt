@@ -1,5 +1,6 @@
 -- What the answer of a search says.
-use Rattle.std.specs.Prelude.{◌≡◌, ◌⊎◌, ℕ, List}
+use Rattle.std.specs.declared.alloc.AllocError.{AllocError}
+use Rattle.std.specs.Prelude.{◌≡◌, ◌⊎◌, ℕ, List, Result, IfOk}
 use Rattle.tv_program.specs.Programs.{system_of}
 use Rattle.tv_formula.specs.Formulas.{property_of}
 use Rattle.tv_formula.specs.Normal.{negation}
@@ -16,8 +17,22 @@ use Rattle.tv_top.specs.declared.search.Search.{Search}
 use Rattle.tv_points.specs.declared.fault.PointFault.{PointFault}
 use Rattle.tv_reaching.specs.FoundRuns.{IsRunFault}
 use Rattle.tv_reaching.specs.declared.found.Found.{Found}
-use Rattle.tv_top.specs.Answers.{uncovered, too_wide}
-use Rattle.tv_top.specs.Finding.{Offers, Finds, Settles}
+use Rattle.tv_rank.specs.declared.name.Name.TheVariants as systems
+use Rattle.tv_cases.specs.LinearCases.{CaseSystem}
+use Rattle.tv_program.specs.Systems.{System}
+use Rattle.tv_region.specs.declared.fault.RegionFault.{RegionFault}
+use Rattle.tv_region.specs.declared.fault.RegionFault.TheVariants as regions
+use Rattle.tv_pre.specs.declared.gap.Gap.{Gap}
+use Rattle.tv_pre.specs.declared.gap.Gap.TheVariants as gaps
+use Rattle.tv_pre.specs.declared.fault.PreFault.{PreFault}
+use Rattle.tv_pre.specs.declared.fault.PreFault.TheVariants as faults
+use Rattle.tv_pre.specs.declared.deciding.Unproved.{Unproved}
+use Rattle.tv_pre.specs.declared.deciding.Unproved.TheVariants as unproved
+use Rattle.tv_top.specs.declared.answer.Answer.TheVariants as answers
+use Rattle.tv_top.specs.declared.cause.Cause.{Cause}
+use Rattle.tv_top.specs.declared.cause.Cause.TheVariants as causes
+use Rattle.tv_top.specs.Answers.{uncovered, too_wide, unknown}
+use Rattle.tv_top.specs.Finding.{Offers, Finds, Settles, budget_of, AreTooManyPieces, IsDrawnAt, NoneDraws, IsUnprovedOf}
 use Rattle.tv_top.specs.Views.{wanted_view, task_view}
 
 -- the cases are those of the program, and the claim is stated over its variables
@@ -39,6 +54,55 @@ abbrev pub IsReachedOrNot : Search → Property → Found → Answer → Type 0
 IsReachedOrNot s f found answer =
     Settles (wanted_view s.task.now.wanted) (system_of s.program.now) f (cases_of s.about.now) answer
     ⊎ ((fault : PointFault) × (answer ≡ too_wide fault) × IsRunFault (cases_of s.about.now) found fault)
+
+-- ---- formulas over paths
+
+-- the answer tells of so many pieces at a location, unless memory is wanting
+pub record AnswersPieces (p : System) (l count : ℕ) (answer : Answer) : Type 0 where
+  pub cause : Result Cause AllocError
+  pub is : answer ≡ unknown cause
+  pub many : IfOk cause (AreTooManyPieces p l count)
+
+-- the answer where a call on regions was refused
+abbrev pub AnswersRegion : System → RegionFault → Answer → Type 0
+AnswersRegion p (regions.Disjuncts l count) answer = AnswersPieces p l count answer
+AnswersRegion p (regions.Wide column) answer = answer ≡ answers.Unknown (causes.Composed column)
+AnswersRegion p (regions.Solve rows e) answer = answer ≡ answers.Unknown (causes.Unsolved (systems.Rows rows) e)
+AnswersRegion p regions.Memory answer = answer ≡ answers.Memory
+
+-- or a question of regions
+abbrev pub AnswersRefusal : System → PreFault → Answer → Type 0
+AnswersRefusal p (faults.Region fault) answer = AnswersRegion p fault answer
+AnswersRefusal p (faults.Cover fault) answer = answer ≡ uncovered fault
+AnswersRefusal p faults.Memory answer = answer ≡ answers.Memory
+
+-- where a region may lack states, since going back is not exact: the answer names a case with a draw
+abbrev pub AnswersInexact : CaseSystem → Answer → Type 0
+AnswersInexact about answer =
+    ((number : ℕ) × IsDrawnAt about number × (answer ≡ answers.Unknown (causes.Drawn number)))
+    ⊎ (NoneDraws about × (answer ≡ answers.Unknown causes.Unbuilt))
+
+-- where a region may lack states
+abbrev pub AnswersLeft : CaseSystem → Gap → Answer → Type 0
+AnswersLeft about gaps.Inexact answer = AnswersInexact about answer
+AnswersLeft about (gaps.Open place) answer = answer ≡ answers.Unknown (causes.Unsettled place)
+
+-- the answer where there is no certificate of a formula
+abbrev pub AnswersUnproved : System → CaseSystem → Unproved → Answer → Type 0
+AnswersUnproved p about (unproved.Refused fault) answer = AnswersRefusal p fault answer
+AnswersUnproved p about (unproved.Left gap) answer = AnswersLeft about gap answer
+AnswersUnproved p about unproved.Told answer = answer ≡ answers.Unknown causes.Unbuilt
+
+-- the answer of a certificate of the formula, or why there is none
+abbrev pub IsFormulaAnswer : Search → Property → Answer → Type 0
+IsFormulaAnswer s f answer =
+    Settles (wanted_view s.task.now.wanted) (system_of s.program.now) f (cases_of s.about.now) answer
+    ⊎ ((why : Unproved) × AnswersUnproved (system_of s.program.now) (cases_of s.about.now) why answer
+    × IsUnprovedOf (cases_of s.about.now) f (budget_of (task_view s.task.now).limits) why)
+
+-- the answer is the one that was there, or that of a certificate
+abbrev pub IsSameOrSettles : Search → Property → Answer → Answer → Type 0
+IsSameOrSettles s f old new = (new ≡ old) ⊎ Settles (wanted_view s.task.now.wanted) (system_of s.program.now) f (cases_of s.about.now) new
 
 -- the answer to whether the program has the property
 abbrev pub Answers : Offers → Search → Property → Answer → Type 0

@@ -33,6 +33,19 @@ pub enum Cause {
         label: Vec<u8>,
         count: u64,
     },
+    /// So many pieces of a region, more than are kept, are made at the location with the label.
+    TooManyPieces {
+        label: Vec<u8>,
+        count: u64,
+    },
+    /// Going back over the steps of this case, which has a draw, is not exact.
+    Drawn {
+        case: u32,
+    },
+    /// No round up to the last one that is made settles the fixed point that is this subformula.
+    Unsettled {
+        subformula: u32,
+    },
     /// No search is built for the property.
     Unbuilt,
 }

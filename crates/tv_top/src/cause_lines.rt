@@ -192,6 +192,9 @@ impl Cause {
             Cause::Unranked { .. } => format!(in alloc; "Unknown rank\n"),
             Cause::Weak { .. } => format!(in alloc; "Unknown invariant\n"),
             Cause::TooManyPaths { .. } => format!(in alloc; "Unknown disjuncts\n"),
+            Cause::TooManyPieces { .. } => format!(in alloc; "Unknown disjuncts\n"),
+            Cause::Drawn { .. } => format!(in alloc; "Unknown template\n"),
+            Cause::Unsettled { .. } => format!(in alloc; "Unknown template\n"),
             Cause::Unbuilt => format!(in alloc; "Unknown unbuilt\n"),
         }
     }
@@ -210,6 +213,11 @@ impl Cause {
             }
             Cause::Weak { label, point } => append_point(out, label, point),
             Cause::TooManyPaths { label, count } => append_count(out, label, *count),
+            Cause::TooManyPieces { label, count } => append_count(out, label, *count),
+            Cause::Drawn { case } => append_number(out, "draw case ", *case as usize),
+            Cause::Unsettled { subformula } => {
+                append_number(out, "subformula ", *subformula as usize)
+            }
             Cause::Unbuilt => Ok(()),
         }
     }

@@ -20,8 +20,10 @@ use crate::answer::Answer;
 use crate::assignment::Assignment;
 use crate::cause::Cause;
 use crate::excluded::excluded;
+use crate::further::or_further;
 use crate::limits::Limits;
 use crate::making::count_lines;
+use crate::paths::over_paths;
 use crate::safety::safe;
 use crate::search::Search;
 use crate::task::Task;
@@ -233,8 +235,8 @@ fn ends(alloc: Global, search: &Search, proposers: &mut Vec<Box<dyn Proposer>>) 
     }
 }
 
-/// The answer to what is claimed.
-fn settle(alloc: Global, search: &Search, proposers: &mut Vec<Box<dyn Proposer>>) -> Answer
+/// The answer to what is claimed, by the search for its kind of property.
+fn settle_once(alloc: Global, search: &Search, proposers: &mut Vec<Box<dyn Proposer>>) -> Answer
     requires { IsOfOne search.now }
     ensures { (f : Property) → IsClaim search.now.claim.now f →
         Answers (offers_of (λ p. rest p) proposers.old.items) search.now f result }
@@ -247,11 +249,21 @@ fn settle(alloc: Global, search: &Search, proposers: &mut Vec<Box<dyn Proposer>>
             if location < search.about.locations() {
                 safe(alloc, search, location, proposers)
             } else {
-                Answer::Unknown(Cause::Unbuilt)
+                over_paths(alloc, search)
             }
         }
-        None => Answer::Unknown(Cause::Unbuilt),
+        None => over_paths(alloc, search),
     }
+}
+
+/// The answer to what is claimed.
+fn settle(alloc: Global, search: &Search, proposers: &mut Vec<Box<dyn Proposer>>) -> Answer
+    requires { IsOfOne search.now }
+    ensures { (f : Property) → IsClaim search.now.claim.now f →
+        Answers (offers_of (λ p. rest p) proposers.old.items) search.now f result }
+{
+    let answer = settle_once(alloc, search, proposers);
+    or_further(alloc, search, answer)
 }
 
 /// The answer of a search to whether the program, with these cases, has the property.

@@ -63,7 +63,7 @@ fn too_many(
 }
 
 /// The answer with a cause.
-fn unknown(cause: Result<Cause, AllocError>) -> Answer
+pub(crate) fn unknown(cause: Result<Cause, AllocError>) -> Answer
     ensures { result ≡ unknown cause }
 {
     match cause {

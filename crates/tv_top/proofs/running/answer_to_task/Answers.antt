@@ -1,4 +1,4 @@
-use Rattle.std.proofs.Common.{ap, refl, sym, ◌∙◌}
+use Rattle.std.proofs.Common.{ap, refl}
 use Rattle.tv_top.specs.Headline.{of_made}
 use Rattle.tv_top.specs.Tasks.{made_loops}
 use Rattle.tv_top.specs.Views.{wanted_view}

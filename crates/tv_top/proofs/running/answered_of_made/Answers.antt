@@ -1,5 +1,4 @@
 use Rattle.std.proofs.Common.{◌∙◌}
-use Rattle.tv_top.specs.Headline.{Means}
 use Rattle.tv_top.proofs.Asking.{means_same}
 use Rattle.tv_top.proofs.running.answered_of_made.Goals as goal
 
