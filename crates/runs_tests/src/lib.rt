@@ -12,6 +12,8 @@ mod faults;
 #[cfg(test)]
 mod file;
 #[cfg(test)]
+mod formulas;
+#[cfg(test)]
 mod generated;
 #[cfg(test)]
 mod hostile;

@@ -20,7 +20,7 @@ const PASSES: &str =
 const DRAWS: &str =
     "START: 0; FROM: 0; y := nondet(); TO: 1; FROM: 1; assume(y == 7); assume(x > 2); TO: 2;";
 
-/// Comes to location 2 after ten steps alone, more than are tried.
+/// Comes to location 2 after ten steps alone, more than the first search tries.
 const FAR: &str =
     "START: 0; FROM: 0; x := 0; TO: 1; FROM: 1; x := x + 1; TO: 1; FROM: 1; assume(x == 9); TO: 2;";
 
@@ -53,6 +53,7 @@ pub(crate) const SETTLED: &[(&[&str], &str, &str, Status)] = &[
         "Disproved\nx = 1\n",
         Status::Disproved,
     ),
+    (SAFETY_2, FAR, "Disproved\nx = 0\n", Status::Disproved),
 ];
 
 /// The verdict is written, and the certificate that is written behind it is accepted.
@@ -74,7 +75,6 @@ fn whether_runs_come_to_a_location_is_settled(rt: HostRuntime) -> Result<(), Fai
 /// Words, a program, and the cause that it is not known.
 const OPEN: &[(&[&str], &str, &str)] = &[
     (SAFETY_2, TWICE, "Unknown invariant\nlocation 2 at 3 3\n"),
-    (SAFETY_2, FAR, "Unknown invariant\nlocation 2 at 9\n"),
     (
         &["--safety", "2", "--disjuncts", "1"],
         BRANCHES,

@@ -13,8 +13,6 @@ pub(crate) const UNKNOWN: &str = "Refused property unknown name column 1\n";
 
 const PROVED: &str = "Proved\n";
 
-const UNBUILT: &str = "Unknown unbuilt\n";
-
 /// Forms of words about a certificate of the countdown, also where a label or a formula begins with `-`.
 const CHECKS: &[(&[&str], &str, Status)] = &[
     (
@@ -76,7 +74,7 @@ const SEARCHES: &[(&[&str], &str, Status)] = &[
         "Disproved\nx = 1\n",
         Status::Disproved,
     ),
-    (&["--ctl", "x > 0"], UNBUILT, Status::Unknown),
+    (&["--ctl", "x > 0"], "Disproved\nx = 0\n", Status::Disproved),
     (&["--safety", "9"], UNKNOWN, Status::Refused),
     (
         &["--ctl", "x > "],
