@@ -5,8 +5,9 @@
 # Build it first: (cd crates/timing && rt run)
 set -eu
 cd "$(dirname "$0")/.."
-exec python3 - crates/timing/out/timing <<'END_OF_PROGRAM'
-import os, subprocess, sys, tempfile, time
+PYTHONPATH=bench exec python3 -B - crates/timing/out/timing <<'END_OF_PROGRAM'
+import sys
+from measure import best_over
 
 LIMIT = 8_000_000
 
@@ -40,15 +41,6 @@ def many_edges(edges, variables, rows):
     return "".join(made)
 
 
-def run(task, file):
-    with open(file) as given:
-        before = time.monotonic()
-        child = subprocess.Popen([sys.argv[1], task], stdin=given, stdout=subprocess.PIPE)
-        answer = child.stdout.read().decode().strip()
-        _, status, used = os.wait4(child.pid, 0)
-        return time.monotonic() - before, used.ru_utime + used.ru_stime, answer, used.ru_maxrss // 1024
-
-
 TEXTS = [
     ("8,192 cases of an edge, 1 variable", unequal(1, 13)),
     ("16,384 lists of an edge", unequal(1, 14)),
@@ -61,15 +53,10 @@ TEXTS = [
 ]
 
 for name, text in TEXTS:
-    with tempfile.NamedTemporaryFile("w") as file:
-        file.write(text)
-        file.flush()
-        reading = min(run("program", file.name)[0] for _ in range(5))
-        runs = [run("cases", file.name) for _ in range(5)]
-    best, processor = min(run[0] for run in runs), min(run[1] for run in runs)
-    most = max(run[3] for run in runs)
+    reading = best_over([sys.argv[1], "program"], text, 5).seconds
+    one = best_over([sys.argv[1], "cases"], text, 5)
     print(
-        f"{name:40s} {runs[0][2]:54s} {best * 1000:7.1f} ms, {processor * 1000:6.1f} ms of a processor  {most:4d} MB"
+        f"{name:40s} {one.lines[0]:54s} {one.seconds * 1000:7.1f} ms, {one.processor * 1000:6.1f} ms of a processor  {one.memory:4d} MB"
         f"  (reading {reading * 1000:5.1f} ms)",
         flush=True,
     )

@@ -4,8 +4,9 @@
 # Build it first: (cd crates/t2verdict && rt run)
 set -eu
 cd "$(dirname "$0")/.."
-exec python3 - crates/t2verdict/out/t2verdict <<'END_OF_PROGRAM'
-import os, subprocess, sys, tempfile, time
+PYTHONPATH=bench exec python3 -B - crates/t2verdict/out/t2verdict <<'END_OF_PROGRAM'
+import sys
+from measure import best_over
 
 PROGRAM = sys.argv[1]
 COUNTDOWN = "START: 0; FROM: 0; TO: 1; FROM: 1; assume(x > 0); x := x - 1; TO: 1;"
@@ -34,19 +35,8 @@ for locations in (5, 10, 15, 20):
     QUESTIONS.append((f"chain of {locations}", chain(locations), f"[AG](at({locations}) || [EX](true))"))
 
 
-def run(words, given):
-    with open(given) as text:
-        child = subprocess.Popen([PROGRAM, *words], stdin=text, stdout=subprocess.PIPE, stderr=subprocess.DEVNULL)
-        answer = " ".join(child.stdout.read().decode().split("\n")[:2])
-        _, _, used = os.wait4(child.pid, 0)
-        return used.ru_utime + used.ru_stime, used.ru_maxrss // 1024, answer
-
-
 for name, text, formula in QUESTIONS:
-    with tempfile.NamedTemporaryFile("w") as file:
-        file.write(text)
-        file.flush()
-        runs = [run(["--ctl", formula], file.name) for _ in range(10)]
-        processor, memory = min(one[0] for one in runs), max(one[1] for one in runs)
-        print(f"{name:18s} {formula:28s} {runs[0][2]:36s} {processor * 1000:8.1f} ms of a processor  {memory:5d} MB", flush=True)
+    one = best_over([PROGRAM, "--ctl", formula], text)
+    answer = " ".join(one.lines[:2])
+    print(f"{name:18s} {formula:28s} {answer:36s} {one.processor * 1000:8.1f} ms of a processor  {one.memory:5d} MB", flush=True)
 END_OF_PROGRAM

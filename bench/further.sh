@@ -4,8 +4,9 @@
 # Build it first: (cd crates/t2verdict && rt run)
 set -eu
 cd "$(dirname "$0")/.."
-exec python3 - crates/t2verdict/out/t2verdict <<'END_OF_PROGRAM'
-import os, subprocess, sys, tempfile
+PYTHONPATH=bench exec python3 -B - crates/t2verdict/out/t2verdict <<'END_OF_PROGRAM'
+import sys
+from measure import best_over
 
 PROGRAM = sys.argv[1]
 COUNTED = "START: 0; FROM: 0; x := 0; TO: 1; FROM: 1; x := x + 1; TO: 1; FROM: 1; assume(x == {}); TO: 2;"
@@ -28,19 +29,8 @@ QUESTIONS = [
 ]
 
 
-def run(words, given):
-    with open(given) as text:
-        child = subprocess.Popen([PROGRAM, *words], stdin=text, stdout=subprocess.PIPE, stderr=subprocess.DEVNULL)
-        answer = ", ".join(child.stdout.read().decode().split("\n")[:2])
-        _, _, used = os.wait4(child.pid, 0)
-        return used.ru_utime + used.ru_stime, used.ru_maxrss // 1024, answer
-
-
 for name, text, words in QUESTIONS:
-    with tempfile.NamedTemporaryFile("w") as file:
-        file.write(text)
-        file.flush()
-        runs = [run(words, file.name) for _ in range(5)]
-        processor, memory = min(one[0] for one in runs), max(one[1] for one in runs)
-        print(f"{name:24s} {' '.join(words):32s} {runs[0][2]:36s} {processor * 1000:8.1f} ms of a processor  {memory:4d} MB", flush=True)
+    one = best_over([PROGRAM, *words], text, 5)
+    answer = ", ".join(one.lines[:2])
+    print(f"{name:24s} {' '.join(words):32s} {answer:36s} {one.processor * 1000:8.1f} ms of a processor  {one.memory:4d} MB", flush=True)
 END_OF_PROGRAM

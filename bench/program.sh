@@ -6,8 +6,9 @@
 # Build it first: (cd crates/timing && rt run)
 set -eu
 cd "$(dirname "$0")/.."
-exec python3 - crates/timing/out/timing <<'END'
-import os, subprocess, sys, tempfile, time
+PYTHONPATH=bench exec python3 -B - crates/timing/out/timing <<'END'
+import sys
+from measure import best_over
 
 
 def spaced(name):
@@ -28,31 +29,16 @@ def text(size, edges, assigned):
         one = assigned(f"v{edge % 511}")
         command = one * (room // len(one))
         made.append(head + command + " " * (room - len(command)) + tail)
-    return "".join(made).encode()
-
-
-def run(file):
-    with open(file) as given:
-        before = time.monotonic()
-        child = subprocess.Popen([sys.argv[1], "program"], stdin=given, stdout=subprocess.PIPE)
-        answer = child.stdout.read().decode().strip()
-        _, status, used = os.wait4(child.pid, 0)
-        return time.monotonic() - before, answer, used.ru_maxrss, used.ru_utime + used.ru_stime
+    return "".join(made)
 
 
 for assigned in (spaced, dense):
     last = None
     for size, edges in [(524288, 2048), (1048576, 4096), (2097152, 4096)]:
-        with tempfile.NamedTemporaryFile() as file:
-            made = text(size, edges, assigned)
-            file.write(made)
-            file.flush()
-            runs = [run(file.name) for _ in range(10)]
-        best = min(run[0] for run in runs)
-        processor = min(run[3] for run in runs)
-        ratio = "" if last is None else f"  {processor / last:4.2f} times"
-        last = processor
-        most = max(run[2] for run in runs) // 1024
-        told = f"{best * 1000:6.1f} ms, {processor * 1000:6.1f} ms of a processor"
-        print(f"{assigned.__name__:6s} {len(made):8d} bytes  {edges} edges  {runs[0][1]:8s} {told}  {most:3d} MB{ratio}")
+        made = text(size, edges, assigned)
+        one = best_over([sys.argv[1], "program"], made)
+        ratio = "" if last is None else f"  {one.processor / last:4.2f} times"
+        last = one.processor
+        told = f"{one.seconds * 1000:6.1f} ms, {one.processor * 1000:6.1f} ms of a processor"
+        print(f"{assigned.__name__:6s} {len(made):8d} bytes  {edges} edges  {one.lines[0]:8s} {told}  {one.memory:3d} MB{ratio}")
 END

@@ -7,8 +7,9 @@
 # Build it first: (cd crates/timing && rt run)
 set -eu
 cd "$(dirname "$0")/.."
-exec python3 - crates/timing/out/timing "${1:-4000}" <<'END_OF_PROGRAM'
-import os, random, resource, shutil, subprocess, sys, tempfile, time
+PYTHONPATH=bench exec python3 -B - crates/timing/out/timing "${1:-4000}" <<'END_OF_PROGRAM'
+import random, resource, shutil, subprocess, sys, tempfile, time
+from measure import best, run
 
 PROGRAM, PIVOTS = sys.argv[1], sys.argv[2]
 MOST_MEMORY = 4 << 30
@@ -57,22 +58,10 @@ def text_of(table, right):
     return "\n".join(lines) + "\n"
 
 
-def run(words, given):
-    with open(given) as text:
-        before = time.monotonic()
-        child = subprocess.Popen([PROGRAM, *words], stdin=text, stdout=subprocess.PIPE)
-        answer = child.stdout.read().decode().strip()
-        _, status, used = os.wait4(child.pid, 0)
-        took = time.monotonic() - before
-        return took, answer or f"status {status >> 8}", used.ru_maxrss // 1024, used.ru_utime + used.ru_stime
-
-
-def best(words, given):
+def best_of_three(words, given):
     """The best of three runs, or the only one where it takes long."""
-    runs = [run(words, given)]
-    while len(runs) < 3 and runs[0][0] < 2:
-        runs.append(run(words, given))
-    return min(run[0] for run in runs), runs[0][1], max(run[2] for run in runs), min(run[3] for run in runs)
+    one = run([PROGRAM, *words], given)
+    return one if one.seconds >= 2 else best([PROGRAM, *words], given, 3)
 
 
 def term(entries):
@@ -124,12 +113,13 @@ for name, word, made in SYSTEMS:
     with tempfile.NamedTemporaryFile("w") as file:
         file.write(text_of(table, right))
         file.flush()
-        reading = best([word, "0"], file.name)[3]
-        seconds, answer, memory, processor = best([word, PIVOTS], file.name)
-    line = f"{name:28s} {answer:22s} {seconds * 1000:8.1f} ms, {processor * 1000:8.1f} ms of a processor"
-    line += f" ({reading * 1000:8.1f} ms where no basis is tried)  {memory:5d} MB"
+        reading = best_of_three([word, "0"], file.name).processor
+        one = best_of_three([word, PIVOTS], file.name)
+    answer = one.lines[0] or f"status {one.status >> 8}"
+    line = f"{name:28s} {answer:22s} {one.seconds * 1000:8.1f} ms, {one.processor * 1000:8.1f} ms of a processor"
+    line += f" ({reading * 1000:8.1f} ms where no basis is tried)  {one.memory:5d} MB"
     if compares and word == "solving":
         other, said = other_solver(table, right)
-        line += f"  glpsol {said} {other * 1000:9.1f} ms, ratio {seconds / other:6.2f}"
+        line += f"  glpsol {said} {other * 1000:9.1f} ms, ratio {one.seconds / other:6.2f}"
     print(line, flush=True)
 END_OF_PROGRAM
