@@ -1,5 +1,5 @@
 -- What is proved of derived rows.
-use Rattle.std.specs.Prelude.{◌≡◌, ◌⊎◌, ℕ, suc, ◌+◌, ◌<◌, ◌≤◌, List, [], ◌∷◌, ◌++◌, length, get_or, All, Contains, slice_get, Some, Result, MatchResult, ℤ, pos}
+use Rattle.std.specs.Prelude.{◌≡◌, ◌⊎◌, ℕ, suc, ◌+◌, ◌<◌, ◌≤◌, List, [], ◌∷◌, ◌++◌, length, get_or, All, Contains, slice_get, Some, Result, MatchResult, ℤ, pos, neg_ℤ, ◌<ℤ◌}
 use Rattle.tv_linear.specs.Linear.{Linear, linear, columns}
 use Rattle.tv_linear.specs.Arithmetic.{zeros, denial, plus, scaled, composed}
 use Rattle.tv_linear.specs.Tight.{tight}
@@ -101,6 +101,10 @@ IsTargetSplit about base f h row = (q : Linear) × IsDerived about base f h q ×
 -- the multiples that cancel a number above 0 and one below, as the tightened row of the two tells them
 abbrev pub AreMultiples : ℤ → ℤ → Linear → Type 0
 AreMultiples x y t = (p : ℕ) × (q : ℕ) × (t.coefficients ≡ pos p ∷ pos q ∷ []) × AreLeast x y p q
+
+-- the least of them are those of the tightened row of the other's magnitude and of this one
+abbrev pub CancelsByLeast : ℤ → ℤ → Linear → Type 0
+CancelsByLeast x y t = pos 0 <ℤ x → y <ℤ pos 0 → t ≡ tight (linear (neg_ℤ y ∷ x ∷ []) (pos 0)) → AreMultiples x y t
 
 -- and the sum of the multiples of two rows, as composing tells it
 abbrev pub IsSumOf : ℕ → ℕ → Linear → Linear → Type 0

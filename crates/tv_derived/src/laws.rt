@@ -1,13 +1,12 @@
 // The laws of derived rows, each carried by a function that does nothing.
 
-ghost use Rattle.std.specs.Prelude.{◌≡◌, ℕ, List, [], ◌∷◌, ℤ, pos, neg_ℤ, ◌<ℤ◌};
-ghost use Rattle.tv_linear.specs.Linear.{Linear, linear, columns, IsNarrow};
-ghost use Rattle.tv_linear.specs.Tight.{tight};
+ghost use Rattle.std.specs.Prelude.{◌≡◌, ℕ, List, ℤ};
+ghost use Rattle.tv_linear.specs.Linear.{Linear, columns, IsNarrow};
 ghost use Rattle.tv_linear.specs.declared.region.Piece.{Piece};
 ghost use Rattle.tv_cases.specs.LinearCases.{LinearCase, CaseSystem};
 ghost use Rattle.tv_derived.specs.Scopes.{Scope, Placed};
 ghost use Rattle.tv_derived.specs.Derived.{AllNarrow};
-ghost use Rattle.tv_derived.specs.Laws.{AreMultiples, IsSumOf, IsWellHanded, AreEven, AreNarrowlyHanded, AreNarrow, AreAllDerived, Carries, PiecesAreAllDerived, IsDerivedOver, Steps, Denies, Tightens, GoesBefore, PutsTerms, GoesOn, EmptyRefuses, ListsAreDifferent, NothingComes};
+ghost use Rattle.tv_derived.specs.Laws.{CancelsByLeast, IsSumOf, IsWellHanded, AreEven, AreNarrowlyHanded, AreNarrow, AreAllDerived, Carries, PiecesAreAllDerived, IsDerivedOver, Steps, Denies, Tightens, GoesBefore, PutsTerms, GoesOn, EmptyRefuses, ListsAreDifferent, NothingComes};
 ghost use Rattle.tv_derived.specs.CaseQuestions.{IsAsked, KnownAreDerived, OwedIsPut, OwedIsDenied, EmptyRefusesCase};
 
 /// What is derived from rows that are themselves derived with `k` cases on the way is derived with `k` more.
@@ -45,7 +44,7 @@ pub fn paths_are_listed()
 
 /// The least multiples by which a draw is cancelled are those of a tightened row, and composing adds them up.
 pub fn draws_are_cancelled()
-    ensures least { (x y : ℤ) (t : Linear) → pos 0 <ℤ x → y <ℤ pos 0 → t ≡ tight (linear (neg_ℤ y ∷ x ∷ []) (pos 0)) → AreMultiples x y t }
+    ensures least { (x y : ℤ) (t : Linear) → CancelsByLeast x y t }
     ensures sum { (p q : ℕ) (a b : Linear) → columns b ≡ columns a → IsSumOf p q a b }
 {}
 

@@ -6,6 +6,10 @@ use Rattle.tv_region.specs.Met.{meets, all_met, Has}
 use Rattle.tv_region.specs.Made.{IsWideRow, last_of, shortened, cancelled, IsOpposite}
 use Rattle.tv_region.specs.Differences.{IsDifference}
 
+-- each of the rows has the number in column n
+abbrev pub AllEnd : ℕ → ℤ → List Linear → Type 0
+AllEnd n value rows = (r : Linear) → Has rows r → last_of n r ≡ value
+
 -- the sum that cancels column n, without that column and tightened
 abbrev pub sum_row : ℕ → Linear → Linear → Linear
 sum_row n p q = tight (shortened n (cancelled n p q))

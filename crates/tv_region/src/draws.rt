@@ -7,7 +7,7 @@ ghost use Rattle.tv_linear.specs.Tight.{tight};
 ghost use Rattle.tv_region.specs.Met.{Has};
 ghost use Rattle.tv_region.specs.Adding.{IsPassedOn, IsRowFault};
 ghost use Rattle.tv_region.specs.Made.{last_of, shortened, multiples, cancelled, IsOpposite};
-ghost use Rattle.tv_region.specs.Draws.{sum_row, IsWideSum, IsWideAmong, IsWideDrawn, IsParted, IsSummed, IsProjected};
+ghost use Rattle.tv_region.specs.Draws.{AllEnd, sum_row, IsWideSum, IsWideAmong, IsWideDrawn, IsParted, IsSummed, IsProjected};
 
 use crate::fault::ListFault;
 use crate::rows::insert;
@@ -180,7 +180,7 @@ fn parted(alloc: Global, rows: &[Row], column: u32) -> Result<Parts, AllocError>
 /// Whether each row has 1 in the column, or each -1.
 fn all_units(rows: &[Row], column: u32, above: bool) -> bool
     requires { (r : Linear) → Has rows.now r → column < width r }
-    ensures { IsTrue result ↔ ((r : Linear) → Has rows.now r → last_of column r ≡ cond above (pos 1) (negsuc 0)) }
+    ensures { IsTrue result ↔ AllEnd column (cond above (pos 1) (negsuc 0)) rows.now }
 {
     'rows: for row in rows {
         if !has_unit(row, column, above) {
@@ -248,8 +248,8 @@ pub(crate) struct Shadow {
 fn is_exact(uppers: &[Row], lowers: &[Row], column: u32) -> bool
     requires uppers { (r : Linear) → Has uppers.now r → column < width r }
     requires lowers { (r : Linear) → Has lowers.now r → column < width r }
-    ensures exact { IsTrue result → ((u : Linear) → Has uppers.now u → last_of column u ≡ pos 1) ⊎ ((l : Linear) → Has lowers.now l → last_of column l ≡ negsuc 0) }
-    ensures units { ((u : Linear) → Has uppers.now u → last_of column u ≡ pos 1) → IsTrue result }
+    ensures exact { IsTrue result → AllEnd column (pos 1) uppers.now ⊎ AllEnd column (negsuc 0) lowers.now }
+    ensures units { AllEnd column (pos 1) uppers.now → IsTrue result }
 {
     all_units(uppers, column, true) || all_units(lowers, column, false)
 }

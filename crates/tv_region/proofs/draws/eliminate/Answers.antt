@@ -2,7 +2,7 @@ use Rattle.std.proofs.Common.{◌≡◌, ◌⊎◌, ◌+◌, subst, sym, pos, ne
 use Rattle.tv_linear.specs.Linear.{Linear}
 use Rattle.tv_region.specs.Met.{Has}
 use Rattle.tv_region.specs.Made.{last_of}
-use Rattle.tv_region.specs.Draws.{IsSummed, IsWideAmong, IsWideDrawn}
+use Rattle.tv_region.specs.Draws.{AllEnd, IsSummed, IsWideAmong, IsWideDrawn}
 use Rattle.tv_region.proofs.AddLemmas.{row_fault_weaker}
 use Rattle.tv_region.proofs.PartLemmas.{wide_among_drawn}
 use Rattle.tv_region.proofs.DrawLemmas.{eliminated_is}
@@ -17,9 +17,9 @@ returns-in-Ok-clause-projected c =
     let one = subst (λ k. IsSummed n k c.deref-4.result.now rs c.in-Ok.rows.items) c.deref-3.ensures.value c.in-Ok.ensures.summed in
     let two = subst (λ k. IsSummed n us k rs c.in-Ok.rows.items) c.deref-4.ensures.value one in
     eliminated_is n c.args.rows.now us ls rs c.in-Ok.rows.items c.in_ok-parts.ensures two c.requires c.is_exact-exact.result
-    (λ x. subst (λ k. ((u : Linear) → Has k u → last_of n u ≡ pos 1) ⊎ ((l : Linear) → Has ls l → last_of n l ≡ negsuc 0)) c.deref.ensures.value
-    (subst (λ k. ((u : Linear) → Has c.deref.result.now u → last_of n u ≡ pos 1) ⊎ ((l : Linear) → Has k l → last_of n l ≡ negsuc 0)) c.deref-2.ensures.value (c.is_exact-exact.ensures.exact x)))
-    (λ h. c.is_exact-exact.ensures.units (subst (λ k. (u : Linear) → Has k u → last_of n u ≡ pos 1) (sym c.deref.ensures.value) h))
+    (λ x. subst (λ k. AllEnd n (pos 1) k ⊎ AllEnd n (negsuc 0) ls) c.deref.ensures.value
+    (subst (λ k. AllEnd n (pos 1) c.deref.result.now ⊎ AllEnd n (negsuc 0) k) c.deref-2.ensures.value (c.is_exact-exact.ensures.exact x)))
+    (λ h. c.is_exact-exact.ensures.units (subst (AllEnd n (pos 1)) (sym c.deref.ensures.value) h))
 
 pub returns-clause-refused : goal.returns-clause-refused
 returns-clause-refused c =
