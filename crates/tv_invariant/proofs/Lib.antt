@@ -4,6 +4,7 @@ mod SeenLemmas
 mod StartLemmas
 mod SieveLemmas
 pub mod StepLemmas
+pub mod PickLemmas
 pub mod PieceLemmas
 mod MarkLemmas
 pub mod PassLemmas

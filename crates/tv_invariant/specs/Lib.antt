@@ -3,6 +3,8 @@ pub mod Places
 pub mod Failing
 pub mod Seen
 pub mod Kept
+pub mod Thinning
+pub mod Keeping
 pub mod Sieves
 pub mod Falling
 pub mod Judged

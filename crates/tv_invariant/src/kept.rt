@@ -4,11 +4,7 @@ ghost use Rattle.std.specs.Prelude.{IsTrue};
 ghost use Rattle.tv_invariant.specs.Kept.{Follows};
 
 use crate::rows::{are_implied, implies};
-use crate::showing::is_shown_by;
-use crate::thinning::{mark, marked, thinned};
-use std::alloc::{AllocError, Global};
-use tv_linear::{CoverTree, Row};
-use tv_simplex::push_item;
+use tv_linear::Row;
 
 /// A row that follows from others.
 #[derive(Drop)]
@@ -30,24 +26,4 @@ pub fn is_kept(kept: &[Kept], columns: u32, rows: &[Row], row: &Row) -> bool
         }
     }
     false
-}
-
-/// Keeps a row that a cover shows, with those of the rows that the cover uses.
-pub fn keep(
-    alloc: Global,
-    columns: u32,
-    rows: &[Row],
-    row: &Row,
-    tree: &CoverTree,
-    kept: &mut Vec<Kept>,
-) -> Result<(), AllocError> {
-    let mut used = vec![in alloc; false; rows.len()]?;
-    mark(tree, used.as_mut_slice());
-    let from = marked(alloc, rows, &used)?;
-    let tree = thinned(alloc, tree, &used)?;
-    if is_shown_by(columns, &from, row, &tree) {
-        let row = row.copy(alloc)?;
-        push_item(kept, Kept { columns, row, from })?;
-    }
-    Ok(())
 }

@@ -4,6 +4,7 @@
 mod asking;
 mod inductive;
 mod judge;
+mod keeping;
 mod kept;
 mod lists;
 mod passes;

@@ -7,7 +7,8 @@ ghost use Rattle.tv_cover.specs.Targets.{AreEven};
 ghost use Rattle.tv_cover.specs.Covering.{IsCoverFault};
 ghost use Rattle.tv_invariant.specs.Seen.{IsSeen, IsSettled, IsAsked};
 
-use crate::kept::{Kept, is_kept, keep};
+use crate::keeping::keep;
+use crate::kept::{Kept, is_kept};
 use crate::rows::is_implied;
 use crate::seen::{Seen, fails_at};
 use std::alloc::Global;

@@ -1,8 +1,9 @@
 // Covers of rows by one row.
 
-ghost use Rattle.std.specs.Prelude.{◌∷◌, [], IsTrue};
+ghost use Rattle.std.specs.Prelude.{◌∷◌, [], ◌↔◌, IsTrue};
 ghost use Rattle.tv_cover.specs.Targets.{owed_lists};
 ghost use Rattle.tv_invariant.specs.Kept.{Follows};
+ghost use Rattle.tv_invariant.specs.Thinning.{Shows};
 
 use tv_linear::{CoverTree, Row, RowView, Rows};
 use tv_refute::{Change, Frames, Targets, cover_is_met, shows};
@@ -42,7 +43,8 @@ impl Targets for OneRow<'_> {
 
 /// Whether the tree is a cover of the rows by the row, by which the row follows from them.
 pub fn is_shown_by(columns: u32, rows: &[Row], row: &Row, tree: &CoverTree) -> bool
-    ensures { IsTrue result → Follows columns rows.now row.now }
+    ensures exact { IsTrue result ↔ Shows columns rows.now row.now tree.now }
+    ensures follows { IsTrue result → Follows columns rows.now row.now }
 {
     let end = Frames::End;
     let place = Frames::Rows {

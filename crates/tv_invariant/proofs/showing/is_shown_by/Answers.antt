@@ -5,8 +5,8 @@ use Rattle.tv_cover.proofs.SearchLemmas.{known_covered}
 use Rattle.tv_invariant.proofs.RowLemmas.{in_only}
 use Rattle.tv_invariant.proofs.showing.is_shown_by.Goals as goal
 
-pub returns : goal.returns
-returns c = λ t xs l m.
+pub returns-clause-follows : goal.returns-clause-follows
+returns-clause-follows c = λ t xs l m.
     let rows = c.args.rows.now in
     let row = c.args.row.now in
     let lists = (row ∷ []) ∷ [] in

@@ -1,0 +1,6 @@
+use Rattle.std.proofs.Common.{◌≡◌, take}
+use Rattle.tv_invariant.specs.Thinning.{picked}
+use Rattle.tv_invariant.proofs.thinning.thin.Given as goal
+
+abbrev pub invariant-rows : goal.invariant-rows
+invariant-rows l = l.kept.items ≡ picked l.marks (take l.place l.multipliers)

@@ -1,0 +1,30 @@
+// Rows that are kept once they are shown.
+
+ghost use Rattle.std.specs.Prelude.{IfOk};
+ghost use Rattle.tv_invariant.specs.Keeping.{Keeps};
+
+use crate::kept::Kept;
+use crate::showing::is_shown_by;
+use crate::thinning::{marked, marks_of, thinned};
+use std::alloc::{AllocError, Global};
+use tv_linear::{CoverTree, Row};
+use tv_simplex::push_item;
+
+/// Keeps a row that a cover shows, with those of the rows that the cover uses.
+pub fn keep(
+    alloc: Global,
+    columns: u32,
+    rows: &[Row],
+    row: &Row,
+    tree: &CoverTree,
+    kept: &mut Vec<Kept>,
+) -> Result<(), AllocError> {
+    let used = marks_of(alloc, tree, rows.len())?;
+    let from = marked(alloc, rows, &used)?;
+    let tree = thinned(alloc, tree, &used)?;
+    if is_shown_by(columns, &from, row, &tree) {
+        let row = row.copy(alloc)?;
+        push_item(kept, Kept { columns, row, from })?;
+    }
+    Ok(())
+}
