@@ -3,9 +3,9 @@ use crate::conditions::push_kept;
 use crate::explicit::attempt_with;
 use crate::graph::Graph;
 use crate::lasso::{push_regions, push_states};
-use crate::limits::{CYCLE_CALLS, ENTRIES, MANY_VARIABLES};
+use crate::limits::{ENTRIES, MANY_VARIABLES};
 use crate::question::Question;
-use crate::search::{Attempt, Search};
+use crate::search::{Attempt, Name, Search};
 use crate::solving::Effort;
 use crate::stem::{Stem, stems, values_into};
 use crate::walking::closed_walks;
@@ -135,15 +135,22 @@ fn attempt_under(
 }
 
 impl Search for ClosedCycles {
-    fn attempt(&self, question: &Question) -> Result<Option<Attempt>, AllocError> {
+    fn name(&self) -> Name {
+        Name::ClosedCycles
+    }
+
+    fn attempt(
+        &self,
+        question: &Question,
+        effort: &mut Effort,
+    ) -> Result<Option<Attempt>, AllocError> {
         if question.about.variables() as usize > MANY_VARIABLES {
             return Ok(None);
         }
         let mut list = Vec::new(question.alloc);
         push_kept(question.denied, &mut list)?;
-        let mut effort = Effort { left: CYCLE_CALLS };
         for kept in list {
-            if let Some(attempt) = attempt_under(question, kept, &mut effort)? {
+            if let Some(attempt) = attempt_under(question, kept, effort)? {
                 return Ok(Some(attempt));
             }
         }

@@ -2,8 +2,9 @@
 //! it accepts is given back.
 #![tactic(auto)]
 
-mod accepting;
+mod answer;
 mod area;
+mod budget;
 mod chance;
 mod choosing;
 mod closed_cycles;
@@ -44,4 +45,7 @@ mod walking;
 mod walks;
 mod way;
 
+pub use answer::Further;
+pub use budget::{Budget, Spent};
+pub use search::Name;
 pub use searching::further;

@@ -1,7 +1,4 @@
-// How far the searches go. All bounds are counts, so that what is found does not depend on the machine.
-
-/// How many states a graph has at most.
-pub(crate) const STATES: usize = 300;
+// How far the searches go besides their budget. All bounds are counts, so that what is found does not depend on the machine.
 
 /// The greatest magnitude of a value in a graph.
 pub(crate) const LARGEST: i128 = 1_000_000_000;
@@ -38,9 +35,6 @@ pub(crate) const PIVOTS: u64 = 300;
 /// How many splits lie on a path where whole points are looked for.
 pub(crate) const SPLITS: u32 = 12;
 
-/// How many calls of the solver the search for closed cycles has.
-pub(crate) const CYCLE_CALLS: usize = 1500;
-
 /// How many lists of rows a condition has at most.
 pub(crate) const CONDITIONS: usize = 8;
 
@@ -58,9 +52,6 @@ pub(crate) const AREAS: usize = 40;
 pub(crate) const RANK_ROUNDS: usize = 8;
 
 pub(crate) const RANK_TERMS: usize = 24;
-
-/// How many calls of the solver the search for ranked regions has.
-pub(crate) const REGION_CALLS: usize = 3000;
 
 /// How many ways to take a case are followed, each with terms for its draws.
 pub(crate) const WAYS: usize = 300;

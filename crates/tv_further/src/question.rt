@@ -1,3 +1,4 @@
+use crate::budget::Budget;
 use std::alloc::Global;
 use tv_cases::Cases;
 use tv_cert::Aim;
@@ -8,6 +9,7 @@ use tv_places::Stand;
 pub(crate) struct Question<'a> {
     pub alloc: Global,
     pub about: &'a Cases,
+    pub budget: &'a Budget,
     /// What the root of a certificate states that says proved.
     pub proved: &'a Aim,
     /// What it states where it says disproved.

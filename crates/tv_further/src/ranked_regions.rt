@@ -3,10 +3,10 @@ use crate::combining::copies;
 use crate::conditions::conditions_at;
 use crate::covers::{Target, cover_by, cover_into};
 use crate::fixes::{until_part, weak_part};
-use crate::limits::{AREAS, MANY_VARIABLES, REGION_CALLS};
+use crate::limits::{AREAS, MANY_VARIABLES};
 use crate::question::Question;
 use crate::region_part::{Part, plain_part, push_cover, push_into, push_steps_into};
-use crate::search::{Attempt, Search};
+use crate::search::{Attempt, Name, Search};
 use crate::solving::{Effort, whole_point};
 use std::alloc::{AllocError, Global};
 use tv_cert::{Aim, Node, Proof, Verdict};
@@ -269,22 +269,29 @@ fn refuting(
 }
 
 impl Search for RankedRegions {
-    fn attempt(&self, question: &Question) -> Result<Option<Attempt>, AllocError> {
-        let mut effort = Effort { left: REGION_CALLS };
+    fn name(&self) -> Name {
+        Name::RankedRegions
+    }
+
+    fn attempt(
+        &self,
+        question: &Question,
+        effort: &mut Effort,
+    ) -> Result<Option<Attempt>, AllocError> {
         if question.about.locations() as usize > AREAS {
             return Ok(None);
         }
         if question.about.variables() as usize > MANY_VARIABLES {
             return Ok(None);
         }
-        if let Some(part) = part_of(question, question.proved, &mut effort)?
-            && let Some(attempt) = proving(question, part, &mut effort)?
+        if let Some(part) = part_of(question, question.proved, effort)?
+            && let Some(attempt) = proving(question, part, effort)?
         {
             return Ok(Some(attempt));
         }
-        match part_of(question, question.denied, &mut effort)? {
+        match part_of(question, question.denied, effort)? {
             None => Ok(None),
-            Some(part) => refuting(question, part, &mut effort),
+            Some(part) => refuting(question, part, effort),
         }
     }
 }

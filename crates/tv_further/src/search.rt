@@ -1,4 +1,5 @@
 use crate::question::Question;
+use crate::solving::Effort;
 use std::alloc::AllocError;
 use tv_cert::{Node, Verdict};
 
@@ -9,8 +10,23 @@ pub(crate) struct Attempt {
     pub root: Node,
 }
 
+/// Which search it is.
+#[derive(Clone, Copy, Debug, PartialEq, Eq)]
+pub enum Name {
+    ExplicitGraph,
+    ClosedCycles,
+    Walks,
+    RankedRegions,
+}
+
 /// One way to look for a certificate. Nothing is promised of what it finds.
 pub(crate) trait Search {
+    fn name(&self) -> Name;
+
     /// An attempt at the question, where the search has one.
-    fn attempt(&self, question: &Question) -> Result<Option<Attempt>, AllocError>;
+    fn attempt(
+        &self,
+        question: &Question,
+        effort: &mut Effort,
+    ) -> Result<Option<Attempt>, AllocError>;
 }

@@ -5,33 +5,46 @@ ghost use Rattle.tv_cases.specs.Systems.{cases_of};
 ghost use Rattle.tv_cert.specs.Claims.{StatesIts, claim_variables};
 ghost use Rattle.tv_shape.specs.Certificates.{IsSettling};
 
-use crate::accepting::accepted;
+use crate::answer::Further;
+use crate::budget::{Budget, Spent};
 use crate::closed_cycles::ClosedCycles;
 use crate::explicit::ExplicitGraph;
 use crate::question::Question;
 use crate::ranked_regions::RankedRegions;
-use crate::search::Search;
+use crate::search::{Attempt, Search};
+use crate::solving::Effort;
 use crate::starting::constants_of;
 use crate::walks::Walks;
 use std::alloc::{AllocError, Global};
 use tv_cases::{Case, Cases};
 use tv_cert::Claim;
 use tv_places::{Stand, index};
-use tv_shape::Certificate;
+use tv_sound::accepted;
 
-/// What one search finds and the checker accepts.
+/// What one search finds and the checker accepts, and what it took besides what was spent before.
 fn found_by<S: Search>(
     search: &S,
     question: &Question,
     claim: &Claim,
-) -> Result<Option<Certificate>, AllocError>
+    spent: &mut Spent,
+) -> Result<Option<Further>, AllocError>
     requires states { StatesIts claim.now }
     requires variables { claim_variables claim.now ≡ (cases_of question.now.about.now).variables }
-    ensures { IfOk result (λ found. IfSome found (IsSettling (cases_of question.now.about.now) claim.now)) }
+    ensures { IfOk result (λ found. IfSome found (λ f. IsSettling (cases_of question.now.about.now) claim.now f.certificate)) }
 {
-    match search.attempt(question)? {
+    let mut effort = Effort::of(question.budget.calls);
+    let attempt = search.attempt(question, &mut effort)?;
+    spent.add(effort.spent(question.budget));
+    let Some(Attempt { verdict, root }) = attempt else {
+        return Ok(None);
+    };
+    match accepted(question.alloc, question.about, claim, verdict, root)? {
         None => Ok(None),
-        Some(attempt) => accepted(question.alloc, question.about, claim, attempt),
+        Some(certificate) => Ok(Some(Further {
+            certificate,
+            by: search.name(),
+            spent: *spent,
+        })),
     }
 }
 
@@ -47,36 +60,51 @@ fn index_of(alloc: Global, list: &[Case]) -> Result<Vec<Stand>, AllocError> {
     index(alloc, &left)
 }
 
-/// A certificate of the claim that is found by the further searches and that the checker accepts: the first of them, in their order.
+/// What is found by the searches that make no claim but that they end: the first of them, in their order.
+fn first_found(question: &Question, claim: &Claim) -> Result<Option<Further>, AllocError>
+    requires states { StatesIts claim.now }
+    requires variables { claim_variables claim.now ≡ (cases_of question.now.about.now).variables }
+    ensures { IfOk result (λ found. IfSome found (λ f. IsSettling (cases_of question.now.about.now) claim.now f.certificate)) }
+{
+    let mut spent = Spent {
+        states: 0,
+        calls: 0,
+    };
+    if let Some(found) = found_by(&ExplicitGraph, question, claim, &mut spent)? {
+        return Ok(Some(found));
+    }
+    if let Some(found) = found_by(&ClosedCycles, question, claim, &mut spent)? {
+        return Ok(Some(found));
+    }
+    if let Some(found) = found_by(&Walks, question, claim, &mut spent)? {
+        return Ok(Some(found));
+    }
+    found_by(&RankedRegions, question, claim, &mut spent)
+}
+
+/// A certificate of the claim that a further search finds and the checker accepts: that of the first search that finds one.
 ///
-/// What is found depends on the program and the claim alone, since each search is bounded in units of its own.
+/// Nothing is promised of when there is one. It depends on the program, the claim and the budget alone.
 pub fn further(
     alloc: Global,
     about: &Cases,
     claim: &Claim,
-) -> Result<Option<Certificate>, AllocError>
+    budget: &Budget,
+) -> Result<Option<Further>, AllocError>
     requires states { StatesIts claim.now }
     requires variables { claim_variables claim.now ≡ (cases_of about.now).variables }
-    ensures { IfOk result (λ found. IfSome found (IsSettling (cases_of about.now) claim.now)) }
+    ensures { IfOk result (λ found. IfSome found (λ f. IsSettling (cases_of about.now) claim.now f.certificate)) }
 {
     let index = index_of(alloc, about.list())?;
     let constants = constants_of(alloc, about)?;
     let question = Question {
         alloc,
         about,
+        budget,
         proved: claim.proved_aim(),
         denied: claim.denied_aim(),
         index: &index,
         constants: &constants,
     };
-    if let Some(found) = found_by(&ExplicitGraph, &question, claim)? {
-        return Ok(Some(found));
-    }
-    if let Some(found) = found_by(&ClosedCycles, &question, claim)? {
-        return Ok(Some(found));
-    }
-    if let Some(found) = found_by(&Walks, &question, claim)? {
-        return Ok(Some(found));
-    }
-    found_by(&RankedRegions, &question, claim)
+    first_found(&question, claim)
 }

@@ -1,5 +1,6 @@
 // What the solver says, within what is left of an effort.
 
+use crate::budget::{Budget as SearchBudget, Spent};
 use crate::combining::copies;
 use crate::limits::{PIVOTS, SPLITS};
 use crate::values::bounded;
@@ -9,13 +10,24 @@ use tv_farkas::{Budget, CoverFault, Refuted, refute};
 use tv_linear::{Row, RowFault, have_columns, is_narrow};
 use tv_simplex::SolveFault;
 
-/// How many calls of the solver are left.
+/// What is left of a budget, and what was made of it.
 #[derive(Drop)]
 pub(crate) struct Effort {
+    /// How many calls of the solver are left.
     pub left: usize,
+    /// How many states there are in the graphs that were made.
+    pub states: usize,
 }
 
 impl Effort {
+    /// An effort of so many calls of the solver.
+    pub(crate) fn of(calls: usize) -> Effort {
+        Effort {
+            left: calls,
+            states: 0,
+        }
+    }
+
     /// Takes one of the calls that are left; whether there was one.
     pub(crate) fn spend(&mut self) -> bool {
         if self.left == 0 {
@@ -23,6 +35,19 @@ impl Effort {
         }
         self.left -= 1;
         true
+    }
+
+    /// Counts the states of a graph.
+    pub(crate) fn count_states(&mut self, count: usize) {
+        self.states = self.states.saturating_add(count);
+    }
+
+    /// What was spent of the budget.
+    pub(crate) fn spent(&self, budget: &SearchBudget) -> Spent {
+        Spent {
+            states: self.states,
+            calls: budget.calls.saturating_sub(self.left),
+        }
     }
 }
 
@@ -97,7 +122,7 @@ pub(crate) fn shown_once(
     row: &Row,
     columns: usize,
 ) -> Result<Option<Vec<i64>>, AllocError> {
-    let mut effort = Effort { left: 1 };
+    let mut effort = Effort::of(1);
     shown(alloc, known, row, columns, &mut effort)
 }
 

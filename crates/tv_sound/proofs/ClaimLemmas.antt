@@ -1,5 +1,5 @@
 -- What the certificate of a claim says all of whose obligations are met.
-use Rattle.std.proofs.Common.{◌≡◌, ◌+◌, ◌++◌, ◌∷◌, [], ◌<◌, ◌^◌, OnOk, Result, Ok, Err, List, length, arith, refl, sym, ap, subst, ◌∙◌, length-append}
+use Rattle.std.proofs.Common.{◌≡◌, ℕ, ◌+◌, ◌++◌, ◌∷◌, [], ◌<◌, ◌^◌, OnOk, Result, Ok, Err, List, length, arith, refl, sym, ap, subst, ◌∙◌, length-append}
 use Rattle.std.specs.Prelude.{MatchResult}
 use Rattle.tv_program.specs.Systems.{System}
 use Rattle.tv_formula.specs.Normal.{normal, negation}
@@ -33,6 +33,10 @@ use Rattle.tv_sound.proofs.Ending.{ends_negated}
 use Rattle.tv_sound.proofs.Claimed.{shown_of, ValuesCounted, claim_sound, claim_followed}
 
 -- ---- the obligations by the statement of the root
+
+-- what the root states, by what the call was handed
+pub aim_is : (system : CaseSystem) (n : ℕ) (claim : Claim) (v w : Verdict) (s : Statement) → s ≡ stated (comparison_lists n) (shown claim v) → n ≡ system.variables → v ≡ w → s ≡ stated (comparison_lists system.variables) (shown claim w)
+aim_is system n claim v w s h e f = h ∙ (λ i. stated (comparison_lists (e i)) (shown claim (f i)))
 
 root_same : (system : CaseSystem) (ps : List Marked) (verdict : Verdict) → root_entry (about_of system) ps verdict ≡ root_entry (about_with system) ps verdict
 root_same system ps (Proved start) = refl

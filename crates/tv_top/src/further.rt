@@ -9,7 +9,7 @@ use crate::cause::Cause;
 use crate::finding::told;
 use crate::search::Search;
 use std::alloc::Global;
-use tv_further::further;
+use tv_further::{Budget, further};
 
 /// Whether a further search is begun after the answer: where no ranks, no rows or no rounds were found, and not where a limit was met.
 fn leaves_open(answer: &Answer) -> bool {
@@ -31,8 +31,8 @@ pub(crate) fn or_further(alloc: Global, search: &Search, answer: Answer) -> Answ
     if !leaves_open(&answer) {
         return answer;
     }
-    match further(alloc, search.about, search.claim) {
-        Ok(Some(certificate)) => told(alloc, search, &certificate),
+    match further(alloc, search.about, search.claim, &Budget::usual()) {
+        Ok(Some(found)) => told(alloc, search, &found.certificate),
         Ok(None) => answer,
         Err(_) => Answer::Memory,
     }

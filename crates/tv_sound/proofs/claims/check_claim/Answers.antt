@@ -14,12 +14,8 @@ use Rattle.tv_cert.specs.Said.{said_entries, HasParts}
 use Rattle.tv_cert.specs.Statements.{Statement, stated}
 use Rattle.tv_cert.specs.declared.failing.Failing.{Failing}
 use Rattle.tv_cert.specs.FirstFailing.{Checks}
-use Rattle.tv_sound.proofs.ClaimLemmas.{owed, has_parts, has_room, settled, follows, on_ok}
+use Rattle.tv_sound.proofs.ClaimLemmas.{aim_is, owed, has_parts, has_room, settled, follows, on_ok}
 use Rattle.tv_sound.proofs.claims.check_claim.Goals as goal
-
--- what the root states, by what the call was handed
-aim_is : (system : CaseSystem) (n : ℕ) (claim : Claim) (v w : Verdict) (s : Statement) → s ≡ stated (comparison_lists n) (shown claim v) → n ≡ system.variables → v ≡ w → s ≡ stated (comparison_lists system.variables) (shown claim w)
-aim_is system n claim v w s h e f = h ∙ (λ i. stated (comparison_lists (e i)) (shown claim (f i)))
 
 checked : (system : CaseSystem) (s : Statement) (r r' : Node) (v v' : Verdict) (result : Result (Unit {0}) Failing) → r ≡ r' → v ≡ v' → Checks (said_entries 0 system s r ++ root_entry (about_of system) (pieces_of r) v ∷ []) result → Checks (said_entries 0 system s r' ++ root_entry (about_of system) (pieces_of r') v' ∷ []) result
 checked system s r r' v v' result e f h = subst (λ (x : Type 0). x) (λ i. Checks (said_entries 0 system s (e i) ++ root_entry (about_of system) (pieces_of (e i)) (f i) ∷ []) result) h

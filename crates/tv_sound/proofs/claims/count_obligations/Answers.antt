@@ -10,12 +10,8 @@ use Rattle.tv_cert.specs.FirstFailing.{IsFirstFailing}
 use Rattle.tv_cert.specs.Nodes.{size}
 use Rattle.tv_cert.specs.Said.{said_entries, HasParts}
 use Rattle.tv_cert.specs.Statements.{Statement, stated}
-use Rattle.tv_sound.proofs.ClaimLemmas.{has_parts, has_room, all_counted, none_fails}
+use Rattle.tv_sound.proofs.ClaimLemmas.{aim_is, has_parts, has_room, all_counted, none_fails}
 use Rattle.tv_sound.proofs.claims.count_obligations.Goals as goal
-
--- what the root states, by what the call was handed
-aim_is : (system : CaseSystem) (n : ℕ) (claim : Claim) (v w : Verdict) (s : Statement) → s ≡ stated (comparison_lists n) (shown claim v) → n ≡ system.variables → v ≡ w → s ≡ stated (comparison_lists system.variables) (shown claim w)
-aim_is system n claim v w s h e f = h ∙ (λ i. stated (comparison_lists (e i)) (shown claim (f i)))
 
 pub count-requires-clause-parts : goal.count-requires-clause-parts
 count-requires-clause-parts c =

@@ -12,12 +12,8 @@ use Rattle.tv_cert.specs.Plain.{about_of}
 use Rattle.tv_cert.specs.Said.{said_entries, HasParts}
 use Rattle.tv_cert.specs.Statements.{Statement, stated}
 use Rattle.tv_cert.specs.Obligations.{AllMet}
-use Rattle.tv_sound.proofs.ClaimLemmas.{owed, has_parts, has_room}
-use Rattle.tv_further.proofs.accepting.is_met.Goals as goal
-
--- what the root states, by what the call was handed
-aim_is : (system : CaseSystem) (n : ℕ) (claim : Claim) (v w : Verdict) (s : Statement) → s ≡ stated (comparison_lists n) (shown claim v) → n ≡ system.variables → v ≡ w → s ≡ stated (comparison_lists system.variables) (shown claim w)
-aim_is system n claim v w s h e f = h ∙ (λ i. stated (comparison_lists (e i)) (shown claim (f i)))
+use Rattle.tv_sound.proofs.ClaimLemmas.{aim_is, owed, has_parts, has_room}
+use Rattle.tv_sound.proofs.accepting.is_met.Goals as goal
 
 -- the obligations are met of the root and the verdict that are said to be the same
 met_for : (system : CaseSystem) (s : Statement) (r r' : Node) (v v' : Verdict) → r ≡ r' → v ≡ v' → AllMet (said_entries 0 system s r ++ root_entry (about_of system) (pieces_of r) v ∷ []) → AllMet (said_entries 0 system s r' ++ root_entry (about_of system) (pieces_of r') v' ∷ [])

@@ -1,4 +1,4 @@
-// What the checker says of an attempt.
+// What the checker says of parts that nobody has checked.
 
 ghost use Rattle.std.specs.Prelude.{◌≡◌, IfOk, IfSome};
 ghost use Rattle.std.specs.Bool.{OnTrue};
@@ -8,10 +8,9 @@ ghost use Rattle.tv_cert.specs.Nodes.{obligations};
 ghost use Rattle.tv_cert.specs.Obligations.{AllMet};
 ghost use Rattle.tv_shape.specs.Certificates.{IsOf, IsSettling};
 
-use crate::search::Attempt;
 use std::alloc::{AllocError, Global};
 use tv_cases::Cases;
-use tv_cert::Claim;
+use tv_cert::{Claim, Node, Verdict};
 use tv_check::check;
 use tv_shape::{Certificate, ShapeFault};
 
@@ -31,18 +30,19 @@ fn is_met(about: &Cases, claim: &Claim, certificate: &Certificate) -> bool
     }
 }
 
-/// The certificate of an attempt where it fits the claim and the checker accepts it.
-pub(crate) fn accepted(
+/// The certificate of this verdict and root where it fits the claim and the checker accepts it.
+pub fn accepted(
     alloc: Global,
     about: &Cases,
     claim: &Claim,
-    attempt: Attempt,
+    verdict: Verdict,
+    root: Node,
 ) -> Result<Option<Certificate>, AllocError>
     requires states { StatesIts claim.now }
     requires variables { claim_variables claim.now ≡ (cases_of about.now).variables }
     ensures { IfOk result (λ found. IfSome found (IsSettling (cases_of about.now) claim.now)) }
 {
-    match Certificate::new(alloc, about, claim, attempt.verdict, attempt.root) {
+    match Certificate::new(alloc, about, claim, verdict, root) {
         Err(ShapeFault::Memory) => Err(AllocError),
         Err(_) => Ok(None),
         Ok(certificate) => {
