@@ -1,7 +1,8 @@
 use crate::file::{FILE, with_line_ends};
-use crate::texts::{is_accepted, says, says_of};
+use crate::texts::{is_accepted, output, says, says_of};
 use crate::words::COUNTDOWN;
 use std::alloc::Global;
+use std::str;
 use std::test::Fail;
 use tv_top::Status;
 
@@ -20,6 +21,9 @@ const DRAWN: &str =
 /// Takes up some work, and is idle once it is done.
 const SERVER: &str =
     "START: 0; FROM: 0; work := nondet(); TO: 1; FROM: 1; assume(work > 0); work := work - 1; TO: 1; FROM: 1; assume(work <= 0); TO: 0;";
+
+/// One step, and a loop that no run comes to.
+const APART: &str = "START: 0; FROM: 0; x := x; TO: 1; FROM: 2; TO: 2;";
 
 /// Formulas that hold of the loop.
 const HOLD: &[&str] = &[
@@ -138,6 +142,24 @@ fn pieces_are_counted(rt: HostRuntime) -> Result<(), Fail> {
     assert!(rt; says_of(rt.alloc(), &few, &[STEP], lines, Status::Unknown)?);
     let lines = "Disproved\nx = 2\n";
     assert!(rt; says_of(rt.alloc(), &enough, &[STEP], lines, Status::Disproved)?);
+    Ok(())
+}
+
+/// Whether a line of the text begins so.
+fn has_line(text: &[u8], begins: &str) -> bool {
+    match str::from_utf8(text) {
+        Ok(text) => text.lines().any(|line| line.starts_with(begins)),
+        Err(_) => false,
+    }
+}
+
+/// A certificate has no piece that nothing enters.
+#[test]
+fn pieces_that_nothing_enters_are_left_out(rt: HostRuntime) -> Result<(), Fail> {
+    let words = ["--ctl", "[AG](true)", "--certificate"];
+    let text = output(rt.alloc(), &words, APART)?;
+    assert!(rt; has_line(&text, "piece 1 go"));
+    assert!(rt; !has_line(&text, "piece 2 go"));
     Ok(())
 }
 

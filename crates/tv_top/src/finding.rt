@@ -1,6 +1,6 @@
 // What a search finds.
 
-ghost use Rattle.std.specs.Prelude.{◌≡◌, ◌↔◌, ◌≤◌, IfOk, IsTrue, length};
+ghost use Rattle.std.specs.Prelude.{◌≡◌, ◌↔◌, ◌≤◌, IfOk, IfSome, IsTrue, length};
 ghost use Rattle.tv_program.specs.Programs.{system_of};
 ghost use Rattle.tv_formula.specs.Formulas.{property_of, variables_of};
 ghost use Rattle.tv_formula.specs.Properties.{Property, term};
@@ -36,6 +36,7 @@ use tv_farkas::{Budget, CoverFault};
 use tv_formula::{Formula, Tree};
 use tv_program::Program;
 use tv_propose::Proposer;
+use tv_pruning::smaller;
 use tv_rank::Name;
 use tv_recur::{Recurrence, recur, recurrence_certificate};
 use tv_settling::{EndFault, first_end, found_end};
@@ -131,8 +132,8 @@ fn said(alloc: Global, program: &Program, verdict: &Verdict, text: Vec<u8>) -> A
     }
 }
 
-/// The answer of a certificate that settles what is claimed.
-pub(crate) fn told(alloc: Global, search: &Search, certificate: &Certificate) -> Answer
+/// The answer of this certificate, which settles what is claimed.
+fn told_by(alloc: Global, search: &Search, certificate: &Certificate) -> Answer
     requires one { IsOfOne search.now }
     requires settling { IsSettling (cases_of search.now.about.now) search.now.claim.now certificate.now }
     ensures { (f : Property) → IsClaim search.now.claim.now f →
@@ -147,6 +148,35 @@ pub(crate) fn told(alloc: Global, search: &Search, certificate: &Certificate) ->
         certificate,
     ) {
         Ok(text) => said(alloc, search.program, certificate.verdict(), text),
+        Err(_) => Answer::Memory,
+    }
+}
+
+/// A smaller certificate of the same, where one is to be written and there is one.
+fn shortened(
+    alloc: Global,
+    search: &Search,
+    certificate: &Certificate,
+) -> Result<Option<Certificate>, AllocError>
+    requires one { IsOfOne search.now }
+    ensures { IfOk result (λ found. IfSome found (IsSettling (cases_of search.now.about.now) search.now.claim.now)) }
+{
+    match search.task.wanted {
+        Wanted::Certificate => smaller(alloc, search.about, search.claim, certificate),
+        _ => Ok(None),
+    }
+}
+
+/// The answer of a certificate that settles what is claimed. Where it is to be written, the pieces that nothing enters are left out.
+pub(crate) fn told(alloc: Global, search: &Search, certificate: &Certificate) -> Answer
+    requires one { IsOfOne search.now }
+    requires settling { IsSettling (cases_of search.now.about.now) search.now.claim.now certificate.now }
+    ensures { (f : Property) → IsClaim search.now.claim.now f →
+        Settles (wanted_view search.now.task.now.wanted) (system_of search.now.program.now) f (cases_of search.now.about.now) result }
+{
+    match shortened(alloc, search, certificate) {
+        Ok(Some(found)) => told_by(alloc, search, &found),
+        Ok(None) => told_by(alloc, search, certificate),
         Err(_) => Answer::Memory,
     }
 }

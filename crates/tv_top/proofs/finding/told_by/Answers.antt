@@ -3,7 +3,7 @@ use Rattle.tv_program.specs.Programs.{system_of}
 use Rattle.tv_cases.specs.Systems.{cases_of}
 use Rattle.tv_top.specs.Views.{wanted_view}
 use Rattle.tv_top.proofs.Found.{said_so}
-use Rattle.tv_top.proofs.finding.told.Goals as goal
+use Rattle.tv_top.proofs.finding.told_by.Goals as goal
 
 pub returns-in-Ok : goal.returns-in-Ok
 returns-in-Ok c = λ f is.
