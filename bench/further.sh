@@ -1,14 +1,16 @@
 #!/usr/bin/env bash
-# What the further searches settle, and how long the built program takes for it, of a processor: questions that ranks, rows and rounds leave open,
-# and some that stay open. The best of 5 runs, in which its start and the reading of the text are counted.
-# Build it first: (cd crates/t2verdict && rt run)
+# What the further searches settle: questions that ranks, rows and rounds leave open, and some that stay open. For each: the answer, how long the
+# built program takes for it, of a processor (the best of 5 runs, in which its start and the reading of the text are counted), and which search
+# settles it, with how many states and how many calls of the solver. Then for each search how many questions it settles, and how many calls
+# are enough for 90 in 100 of all that is settled.
+# Build both first: (cd crates/t2verdict && rt run) and (cd crates/timing && rt run)
 set -eu
 cd "$(dirname "$0")/.."
-PYTHONPATH=bench exec python3 -B - crates/t2verdict/out/t2verdict <<'END_OF_PROGRAM'
+PYTHONPATH=bench exec python3 -B - crates/t2verdict/out/t2verdict crates/timing/out/timing <<'END_OF_PROGRAM'
 import sys
 from measure import best_over
 
-PROGRAM = sys.argv[1]
+PROGRAM, TIMING = sys.argv[1:]
 COUNTED = "START: 0; FROM: 0; x := 0; TO: 1; FROM: 1; x := x + 1; TO: 1; FROM: 1; assume(x == {}); TO: 2;"
 SERVER = ("START: 0; FROM: 0; work := nondet(); TO: 1; FROM: 1; assume(work > 0); work := work - 1; TO: 1; "
           "FROM: 1; assume(work <= 0); TO: 0;")
@@ -29,8 +31,28 @@ QUESTIONS = [
 ]
 
 
+
+
+def formula_of(words):
+    """The formula that the words name."""
+    return {"--termination": "term", "--safety": f"[AG](!at({words[-1]}))", "--ctl": words[-1]}[words[0]]
+
+
+found = {}
 for name, text, words in QUESTIONS:
     one = best_over([PROGRAM, *words], text, 5)
     answer = ", ".join(one.lines[:2])
-    print(f"{name:24s} {' '.join(words):32s} {answer:36s} {one.processor * 1000:8.1f} ms of a processor  {one.memory:4d} MB", flush=True)
+    said = best_over([TIMING, "further"], formula_of(words) + "\n" + text, 1).lines[0]
+    if one.lines[0] in ("Proved", "Disproved") and " by " in said:
+        search, states, calls = said.split(" by ")[1].split(", ")
+        found.setdefault(search, []).append((int(states.split()[0]), int(calls.split()[0]), one.processor))
+    print(f"{name:24s} {' '.join(words):32s} {answer:28s} {one.processor * 1000:8.1f} ms of a processor  {one.memory:4d} MB  {said}", flush=True)
+
+print()
+for search, rows in found.items():
+    states, calls, times = zip(*rows)
+    print(f"{search:16s} settles {len(rows):3d}, at most {max(states)} states, {max(calls)} calls, {max(times) * 1000:.1f} ms of a processor")
+every = sorted(calls for rows in found.values() for _, calls, _ in rows)
+if every:
+    print(f"90 in 100 of what is settled takes at most {every[(len(every) * 9 + 9) // 10 - 1]} calls")
 END_OF_PROGRAM

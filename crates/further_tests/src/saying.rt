@@ -13,7 +13,7 @@ use tv_cert::{Claim, Verdict};
 use tv_cert_spelling::write_certificate;
 use tv_check_text::check_text;
 use tv_formula_reader::read_formula;
-use tv_further::further;
+use tv_further::{Budget, further};
 use tv_program::Program;
 use tv_reader::read_program;
 use tv_shape::Certificate;
@@ -57,9 +57,9 @@ fn said_of_claim(alloc: Global, about: &Cases, claim: &Claim) -> Result<Said, Fa
     requires states { StatesIts claim.now }
     requires variables { claim_variables claim.now ≡ (cases_of about.now).variables }
 {
-    match further(alloc, about, claim)? {
+    match further(alloc, about, claim, &Budget::usual())? {
         None => Ok(Said::Nothing),
-        Some(certificate) => said_by(alloc, about, claim, &certificate),
+        Some(found) => said_by(alloc, about, claim, &found.certificate),
     }
 }
 

@@ -10,6 +10,7 @@ mod numbers;
 mod reading;
 mod refuting;
 mod regions;
+mod searching;
 mod showing;
 mod solving;
 mod task;

@@ -2,7 +2,8 @@ use crate::regions::Asked;
 use crate::showing::Way;
 use crate::words::{Fault, or_no_form};
 use crate::{
-    components, covering, linear_cases, numbers, reading, refuting, regions, showing, solving,
+    components, covering, linear_cases, numbers, reading, refuting, regions, searching, showing,
+    solving,
 };
 use std::alloc::{AllocError, Global};
 use std::str;
@@ -28,10 +29,11 @@ pub(crate) enum Task {
     Once,
     Twice,
     Scan,
+    Further,
 }
 
 /// Each task by its name, with a small text for it.
-pub(crate) const TASKS: [(&str, Task, &str); 15] = [
+pub(crate) const TASKS: [(&str, Task, &str); 16] = [
     ("components", Task::Components, ""),
     ("sum", Task::Sum, "x + 2 * (y - 1) - -z"),
     ("condition", Task::Condition, "x > 0 && y <= 12"),
@@ -71,6 +73,11 @@ pub(crate) const TASKS: [(&str, Task, &str); 15] = [
     ("once", Task::Once, "2 1 1 1 3 1 1 0 1 0 1 0 3 1 1"),
     ("twice", Task::Twice, "2 1 1 1 6 1 1 0 1 0 1 0 3 1 1"),
     ("scan", Task::Scan, "2 1 1 1 3 1 1 0 1 0 1 0 3 1 1"),
+    (
+        "further",
+        Task::Further,
+        "term\nSTART: 0; FROM: 0; assume(x > 0); x := x + y; TO: 0;",
+    ),
 ];
 
 /// The task of this name.
@@ -119,6 +126,7 @@ fn answer_in_words(alloc: Global, task: Task, text: &str, count: u64) -> Result<
         Task::Once => showing::shown(alloc, text, Way::Once, count),
         Task::Twice => showing::shown(alloc, text, Way::Twice, count),
         Task::Scan => showing::shown(alloc, text, Way::Scan, count),
+        Task::Further => searching::searched(alloc, text),
         _ => Err(Fault::Form),
     }
 }
