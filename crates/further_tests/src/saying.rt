@@ -57,7 +57,7 @@ fn said_of_claim(alloc: Global, about: &Cases, claim: &Claim) -> Result<Said, Fa
     requires states { StatesIts claim.now }
     requires variables { claim_variables claim.now ≡ (cases_of about.now).variables }
 {
-    match further(alloc, about, claim, &Budget::usual())? {
+    match further(alloc, about, claim, &[], &Budget::usual())? {
         None => Ok(Said::Nothing),
         Some(found) => said_by(alloc, about, claim, &found.certificate),
     }

@@ -41,7 +41,7 @@ fn found_for(alloc: Global, about: &Cases, claim: &Claim) -> Result<String, Faul
     requires states { StatesIts claim.now }
     requires variables { claim_variables claim.now ≡ (cases_of about.now).variables }
 {
-    match further(alloc, about, claim, &Budget::usual())? {
+    match further(alloc, about, claim, &[], &Budget::usual())? {
         None => Ok(format!(in alloc; "nothing")?),
         Some(found) => told(alloc, &found),
     }

@@ -6,11 +6,12 @@ use crate::conditions::conditions_at;
 use crate::covers::{Target, cover_by};
 use crate::question::Question;
 use crate::region_part::{Part, plain_part, push_cover};
-use crate::solving::Effort;
+use crate::solving::{Effort, may_have_point};
 use std::alloc::AllocError;
 use tv_cert::{Aim, Proof};
 
-/// Puts the areas of the location and what shows them at the end of the lists; whether all are shown.
+/// Puts the areas of the location and what shows them at the end of the lists; whether all are shown. What is known there is put into each,
+/// and one that no point meets is left out.
 fn push_plain(
     question: &Question,
     aim: &Aim,
@@ -19,22 +20,24 @@ fn push_plain(
     areas: &mut Vec<Area>,
     proofs: &mut Vec<Proof>,
 ) -> Result<bool, AllocError> {
+    let alloc = question.alloc;
     let columns = question.about.variables() as usize;
+    let mut targets = Vec::new(alloc);
     let mut target: u32 = 0;
-    for rows in conditions_at(question.alloc, aim, location)? {
-        let mut targets = Vec::new(question.alloc);
+    for rows in conditions_at(alloc, aim, location)? {
         let fall = 0;
-        let own = copies(question.alloc, &rows)?;
-        targets.push(Target {
-            rows: own,
-            target,
-            fall,
-        })?;
-        let cover = cover_by(question.alloc, columns, &rows, &targets, effort)?;
-        if !push_cover(proofs, cover)? {
-            return Ok(false);
+        let mut all = copies(alloc, &rows)?;
+        all.append(&mut question.known_at(location)?)?;
+        targets.clear();
+        targets.push(Target { rows, target, fall })?;
+        if question.known.is_empty() || may_have_point(alloc, &all, columns, effort)? {
+            let cover = cover_by(alloc, columns, &all, &targets, effort)?;
+            if !push_cover(proofs, cover)? {
+                return Ok(false);
+            }
+            let rows = all;
+            areas.push(Area { location, rows })?;
         }
-        areas.push(Area { location, rows })?;
         target = target.saturating_add(1);
     }
     Ok(true)

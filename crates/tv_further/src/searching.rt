@@ -16,6 +16,7 @@ use crate::solving::Effort;
 use crate::starting::constants_of;
 use crate::walks::Walks;
 use std::alloc::{AllocError, Global};
+use tv_candidates::Candidate;
 use tv_cases::{Case, Cases};
 use tv_cert::Claim;
 use tv_places::{Stand, index};
@@ -84,11 +85,13 @@ fn first_found(question: &Question, claim: &Claim) -> Result<Option<Further>, Al
 
 /// A certificate of the claim that a further search finds and the checker accepts: that of the first search that finds one.
 ///
-/// Nothing is promised of when there is one. It depends on the program, the claim and the budget alone.
+/// The known rows may be put into its pieces: they are of use where they hold whenever a run is at their location, and do no harm where they do
+/// not. Nothing is promised of when there is a certificate. It depends on the program, the claim, the rows and the budget alone.
 pub fn further(
     alloc: Global,
     about: &Cases,
     claim: &Claim,
+    known: &[Candidate],
     budget: &Budget,
 ) -> Result<Option<Further>, AllocError>
     requires states { StatesIts claim.now }
@@ -103,6 +106,7 @@ pub fn further(
         budget,
         proved: claim.proved_aim(),
         denied: claim.denied_aim(),
+        known,
         index: &index,
         constants: &constants,
     };

@@ -293,7 +293,7 @@ fn settle(alloc: Global, search: &Search, proposers: &mut Vec<Box<dyn Proposer>>
         Answers (offers_of (λ p. rest p) proposers.old.items) search.now f result }
 {
     let answer = settle_once(alloc, search, proposers);
-    or_further(alloc, search, answer)
+    or_further(alloc, search, proposers, answer)
 }
 
 /// The answer of a search to whether the program, with these cases, has the property.

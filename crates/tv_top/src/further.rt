@@ -1,15 +1,23 @@
 // A further search, where the first one leaves a property open.
 
+ghost use Rattle.std.specs.Prelude.{IfOk, IfSome};
 ghost use Rattle.tv_formula.specs.Properties.{Property};
+ghost use Rattle.tv_cases.specs.Systems.{cases_of};
 ghost use Rattle.tv_cert.specs.Claims.{IsClaim};
+ghost use Rattle.tv_shape.specs.Certificates.{IsSettling};
 ghost use Rattle.tv_top.specs.Searching.{IsOfOne, IsSameOrSettles};
 
 use crate::answer::Answer;
 use crate::cause::Cause;
-use crate::finding::told;
+use crate::finding::{budget_of, told};
 use crate::search::Search;
-use std::alloc::Global;
+use std::alloc::{AllocError, Global};
+use tv_candidates::Candidate;
+use tv_farkas::CoverFault;
 use tv_further::{Budget, further};
+use tv_invariant::strengthen;
+use tv_propose::Proposer;
+use tv_shape::Certificate;
 
 /// Whether a further search is begun after the answer: where no ranks, no rows or no rounds were found, and not where a limit was met.
 fn leaves_open(answer: &Answer) -> bool {
@@ -23,16 +31,51 @@ fn leaves_open(answer: &Answer) -> bool {
     }
 }
 
+/// Rows that every run keeps to, as far as they are found among what is offered.
+fn known_rows(
+    alloc: Global,
+    search: &Search,
+    proposers: &mut Vec<Box<dyn Proposer>>,
+) -> Result<Vec<Candidate>, AllocError> {
+    let budget = budget_of(&search.task.limits);
+    match strengthen(alloc, search.about, proposers, &budget) {
+        Ok(rows) => Ok(rows),
+        Err(CoverFault::Memory) => Err(AllocError),
+        Err(_) => Ok(Vec::new(alloc)),
+    }
+}
+
+/// A certificate that a further search finds, if there is one.
+fn found(
+    alloc: Global,
+    search: &Search,
+    proposers: &mut Vec<Box<dyn Proposer>>,
+) -> Result<Option<Certificate>, AllocError>
+    requires one { IsOfOne search.now }
+    ensures { IfOk result (λ found. IfSome found (IsSettling (cases_of search.now.about.now) search.now.claim.now)) }
+{
+    let known = known_rows(alloc, search, proposers)?;
+    match further(alloc, search.about, search.claim, &known, &Budget::usual())? {
+        None => Ok(None),
+        Some(found) => Ok(Some(found.certificate)),
+    }
+}
+
 /// The answer of a further search where it finds a certificate, and else the answer that was there.
-pub(crate) fn or_further(alloc: Global, search: &Search, answer: Answer) -> Answer
+pub(crate) fn or_further(
+    alloc: Global,
+    search: &Search,
+    proposers: &mut Vec<Box<dyn Proposer>>,
+    answer: Answer,
+) -> Answer
     requires one { IsOfOne search.now }
     ensures { (f : Property) → IsClaim search.now.claim.now f → IsSameOrSettles search.now f answer result }
 {
     if !leaves_open(&answer) {
         return answer;
     }
-    match further(alloc, search.about, search.claim, &Budget::usual()) {
-        Ok(Some(found)) => told(alloc, search, &found.certificate),
+    match found(alloc, search, proposers) {
+        Ok(Some(certificate)) => told(alloc, search, &certificate),
         Ok(None) => answer,
         Err(_) => Answer::Memory,
     }
