@@ -22,6 +22,9 @@ const CLIMBER: &str = "START: 0; FROM: 0; TO: 1; FROM: 1; assume(x > 0); x := x 
 /// Counts x down at its one location.
 const LOOP: &str = "START: 0; FROM: 0; assume(x > 0); x := x - 1; TO: 0;";
 
+/// Draws a number, while the last one was above 0.
+const DRAWING: &str = "START: 0; FROM: 0; assume(x > 0); x := nondet(); TO: 0;";
+
 /// A program, a property of it, the text of a certificate of that, and what the check of the certificate answers.
 const ROWS: &[(&str, &str, &str, Result<(), Failing>)] = &[
     (
@@ -140,6 +143,17 @@ const ROWS: &[(&str, &str, &str, Result<(), Failing>)] = &[
         LOOP,
         "[EG](at(0))",
         "T2CERT 1\nproved\nnode fix 1 0\npiece 0 go 0\nnode atom 1 0\npiece 0 go 0\ninto 0 0\nnode atom 0 0\ninto 0 0\nsplit -1 1\ntake 0 0 0\nby 1 1\nnostep\nempty 1 0\ninto 0 0\nend\n",
+        Err(Failing {
+            number: 3,
+            node: 0,
+            kind: Kind::Choice,
+        }),
+    ),
+    // A state from which a number may be drawn does not stop.
+    (
+        DRAWING,
+        "[EG](at(0))",
+        "T2CERT 1\nproved\nnode fix 1 0\npiece 0 go 1\nrow -1 1\nnode atom 1 0\npiece 0 go 0\ninto 0 0\nnode atom 0 0\ninto 0 0\nnostep\nempty 1 1\ninto 0 0\nby 1\nend\n",
         Err(Failing {
             number: 3,
             node: 0,
