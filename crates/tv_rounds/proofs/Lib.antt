@@ -7,3 +7,4 @@ pub mod GrowLemmas
 pub mod ShrinkLemmas
 pub mod FaultLemmas
 pub mod InsideLemmas
+pub mod FullLemmas
