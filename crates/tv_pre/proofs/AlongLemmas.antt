@@ -77,24 +77,25 @@ module _ (about : CaseSystem) (cases : All (IsCase about.variables about.locatio
     first_layers layers h = next_layers 0 end.pieces.items layers (λ s p r. subst (λ z. InState z s) of.ends r) h
 
     -- ---- rounds that shrink
+    pub settled_inside : (k : ℕ) (round onward : Region) → IsRound false about fix k round → IsSettledBy false about fix k → AreTame about fix → AreOnward about sides round onward →
+        (t : State) → IsStateOf about t → InState round t → InPieces (joined_pieces (end ∷ onward ∷ [])) t
+    settled_inside k round onward r settled tame o t p m = elim ((settled t p).0 ((r.set.same t p).0 m)) [
+      | inl x ↦ in_joined (end ∷ onward ∷ []) end t (Contains-here end (onward ∷ [])) (subst (λ z. InState z t) of.ends x)
+      | inr x ↦ in_joined (end ∷ onward ∷ []) onward t (Contains-later end onward (onward ∷ []) (Contains-here onward []))
+          (o.all (made_tame about fix tame k round r.made) t p (
+            on_way t x.0,
+            subst (λ (q : Path). StaysIn (CaseSteps about) q (InState round) t) of.path
+                (stays_more fix.path (RoundOf false about fix k) (InState round) t p (λ u q y. (r.set.same u q).1 y) x.1),
+          ))
+    ]
+
     pub settled_stays : (k : ℕ) (round onward : Region) → IsRound false about fix k round → IsSettledBy false about fix k → AreTame about fix → AreAtEnd about sides end → AreOnward about sides round onward →
         AreStaying about sides end.pieces.items onward.pieces.items (joined_pieces (end ∷ onward ∷ []))
     settled_stays k round onward r settled tame e o = record {
       ends = λ s p m. e.right s p m;
       hold = λ s p m. (o.right s p m).0;
-      stays = λ s p m. stays_more sides.path (InState round) (InPieces (joined_pieces (end ∷ onward ∷ []))) s p inside (o.right s p m).1;
+      stays = λ s p m. stays_more sides.path (InState round) (InPieces (joined_pieces (end ∷ onward ∷ []))) s p (settled_inside k round onward r settled tame o) (o.right s p m).1;
     }
-      where
-        inside : (t : State) → IsStateOf about t → InState round t → InPieces (joined_pieces (end ∷ onward ∷ [])) t
-        inside t p m = elim ((settled t p).0 ((r.set.same t p).0 m)) [
-          | inl x ↦ in_joined (end ∷ onward ∷ []) end t (Contains-here end (onward ∷ [])) (subst (λ z. InState z t) of.ends x)
-          | inr x ↦ in_joined (end ∷ onward ∷ []) onward t (Contains-later end onward (onward ∷ []) (Contains-here onward []))
-              (o.all (made_tame about fix tame k round r.made) t p (
-                on_way t x.0,
-                subst (λ (q : Path). StaysIn (CaseSteps about) q (InState round) t) of.path
-                    (stays_more fix.path (RoundOf false about fix k) (InState round) t p (λ u q y. (r.set.same u q).1 y) x.1),
-              ))
-        ]
 
     -- ---- what they are made of
     module _ (s : Statement) (h : ℕ) (hold : IsBuilt about s h fix.hold.now) (ends : IsBuilt about s h fix.end.now) (last : ℕ) where

@@ -1,6 +1,6 @@
 -- What is found of a formula, from what is found of its arguments.
 use Rattle.std.proofs.Common.{zero, ◌<◌, length, get_or, take, ◌≡◌, inl, inr, ℕ, suc, ◌+◌, ◌≤◌, List, [], ◌∷◌, ◌++◌, map, refl, sym, ap, ◌∙◌, subst, arith}
-use Rattle.std.specs.Prelude.{All}
+use Rattle.std.specs.Prelude.{All, Option, None, Some, IfSome}
 use Rattle.std.proofs.lemmas.List.{take_more, map-append}
 use Rattle.std.proofs.lemmas.List.Elements.{All-nil, All-cons}
 use Rattle.tv_formula.specs.declared.tree.Path.{Path}
@@ -9,7 +9,7 @@ use Rattle.tv_formula.specs.Properties.{Property, Properties, none, more}
 use Rattle.tv_formula.specs.Properties as props
 use Rattle.tv_linear.specs.declared.region.Region.{Region}
 use Rattle.tv_cases.specs.Comparisons.{comparison_lists}
-use Rattle.tv_cases.specs.LinearCases.{CaseSystem}
+use Rattle.tv_cases.specs.LinearCases.{CaseSystem, IsCase}
 use Rattle.tv_cases.proofs.Listed.{Contains-none}
 use Rattle.tv_cert.specs.declared.node.Node.{Node}
 use Rattle.tv_cert.specs.declared.aim.Aim.{Aim}
@@ -18,7 +18,10 @@ use Rattle.tv_cert.specs.Statements.{Statement, each_of, one_of, after, along, S
 use Rattle.tv_cert.specs.Statements as statements
 use Rattle.tv_farkas.specs.declared.budget.Budget.{Budget}
 use Rattle.tv_farkas.specs.declared.fault.CoverFault.{CoverFault}
+use Rattle.tv_known.specs.Cycles.{IsLastRound, IsStateOf}
+use Rattle.tv_program.specs.Steps.{State}
 use Rattle.tv_region.specs.Regions.{IsRegion}
+use Rattle.tv_region.specs.StepRegions.{InState, IsTame}
 use Rattle.tv_rounds.specs.Calls.{IsNowhere}
 use Rattle.tv_pre.specs.declared.fault.PreFault.{PreFault}
 use Rattle.tv_pre.specs.declared.outcome.Found.{Found}
@@ -28,15 +31,48 @@ use Rattle.tv_pre.specs.Atoms.{IsTested, IsTestOf, test_lists}
 use Rattle.tv_pre.specs.Faults.{IsOfCover}
 use Rattle.tv_pre.specs.Parts.{IsPart, AreParts, joined_pieces}
 use Rattle.tv_pre.specs.Questions.{lies, IsRefusal, AsksOf, AsksEach, AsksNext}
-use Rattle.tv_pre.specs.Finding.{ArePartsFor, steps_back, all_steps_back, size, total_size, IsFound, IsRefusedFor, test_statement}
-use Rattle.tv_pre.specs.Arguments.{IsArgument, AreEachArgument, AreArguments}
+use Rattle.tv_pre.specs.Along.{OthersLeadOut}
+use Rattle.tv_pre.specs.Full.{HasRows, AllHaveRows, IsFull, AreFull}
+use Rattle.tv_pre.specs.Inclusions.{OfPieces}
+use Rattle.tv_pre.specs.declared.gap.Gap.{Gap}
+use Rattle.tv_pre.specs.declared.gap.Gap.TheVariants.{Inexact, Open}
+use Rattle.tv_pre.specs.Finding.{IsGapOf, first_of, gap_behind, IsFullFor, ArePartsFor, steps_back, all_steps_back, size, total_size, IsFound, IsRefusedFor, test_statement}
+use Rattle.tv_pre.specs.Arguments.{IsArgument, AreEachArgument, AreFullFor, AreArguments}
 use Rattle.tv_pre.specs.declared.finding.Arguments.{Arguments}
 use Rattle.tv_pre.specs.Growing.{IsEverywhere}
 use Rattle.tv_pre.specs.Built.{HasAtom, SomeHasAtom, atom_lists, IsAtomRegion, IsBuilt, of_atom, of_everywhere, of_nowhere, AreBuilt, IsBuiltOf, IsFaultOf, IsPreFault}
 use Rattle.tv_pre.proofs.BuiltLemmas.{built_to, built_wider, fault_to, fault_wider, one_built, more_built, pieces_of, joined_of, first_built}
 use Rattle.tv_pre.proofs.PassedLemmas.{cover_fault}
 use Rattle.tv_pre.proofs.AskedLemmas.{each_asked, place_asked, next_asked}
+use Rattle.tv_pre.proofs.FullLemmas.{atom_full, each_full, some_full, next_full}
+use Rattle.tv_pre.proofs.FullAlongLemmas.{all_full}
 use Rattle.tv_pre.proofs.FormulaLemmas.{each_is, one_is, after_is, along_is, ends_is, never_is}
+
+-- ---- gaps
+pub none_of_two : (first second : Option Gap) → first_of first second ≡ None → (first ≡ None) × (second ≡ None)
+none_of_two None second e = (refl, e)
+none_of_two (Some gap) second e = absurd cc
+
+pub none_behind : (count : ℕ) (gap : Option Gap) → gap_behind count gap ≡ None → gap ≡ None
+none_behind count None e = refl
+none_behind count (Some Inexact) e = absurd cc
+none_behind count (Some (Open place)) e = absurd cc
+
+pub gap_of_two : (about : CaseSystem) (first second : Option Gap) → IfSome first (IsGapOf about) → IfSome second (IsGapOf about) → IfSome (first_of first second) (IsGapOf about)
+gap_of_two about None second h g = g
+gap_of_two about (Some gap) second h g = h
+
+pub gap_kept : (about : CaseSystem) (count : ℕ) (gap : Option Gap) → IfSome gap (IsGapOf about) → IfSome (gap_behind count gap) (IsGapOf about)
+gap_kept about count None h = h
+gap_kept about count (Some Inexact) h = h
+gap_kept about count (Some (Open place)) h = tt
+
+-- ---- the last round
+pub one_last : (about : CaseSystem) (n m : ℕ) → IsLastRound about 8 n → IsLastRound about 8 m → n ≡ m
+one_last about n m (inl a) (inl b) = a.1 ∙ sym b.1
+one_last about n m (inl a) (inr b) = absurd (b.0 a.0)
+one_last about n m (inr a) (inl b) = absurd (a.0 b.0)
+one_last about n m (inr a) (inr b) = a.1 ∙ sym b.1
 
 module _ (about : CaseSystem) (last : ℕ) where
   -- ---- arguments
@@ -83,6 +119,23 @@ module _ (about : CaseSystem) (last : ℕ) where
       more_built about whole k q rs (built_wider about t whole (λ a x. w a (inl x)) k q (built_to about t (steps_back last t) k q (omega (arith, l)) h.0.built))
       (argument_built ss rs ns whole k (λ a x. w a (inr x)) (omega (arith, l)) h.1)
 
+  argument_full : (ss : List Statement) (rs : List Region) → AreFullFor about ss rs → (fs : Properties) → statements_of ss ≡ stated_all (comparison_lists about.variables) fs → AllHaveRows about.variables fs → AreFull about fs rs
+  argument_full [] [] h none e w = tt
+  argument_full [] [] h (more f fs) e w = absurd cc
+  argument_full [] (q ∷ rs) h fs e w = absurd h
+  argument_full (t ∷ ss) [] h fs e w = absurd h
+  argument_full (t ∷ ss) (q ∷ rs) h none e w = absurd cc
+  argument_full (t ∷ ss) (q ∷ rs) h (more f fs) e w =
+      let first : t ≡ stated (comparison_lists about.variables) f = cc in
+      let rest : statements_of ss ≡ stated_all (comparison_lists about.variables) fs = cc in
+      (h.0 f first w.0, argument_full ss rs h.1 fs rest w.1)
+
+  full_more : (ss : List Statement) (rs : List Region) (s : Statement) (r : Region) → AreFullFor about ss rs → IsFullFor about s r → AreFullFor about (ss ++ s ∷ []) (rs ++ r ∷ [])
+  full_more [] [] s r h k = (k, tt)
+  full_more [] (q ∷ rs) s r h k = absurd h
+  full_more (t ∷ ss) [] s r h k = absurd h
+  full_more (t ∷ ss) (q ∷ rs) s r h k = (h.0, full_more ss rs s r h.1 k)
+
   -- ---- conjunctions and disjunctions
   module _ (ss : List Statement) (rs : List Region) (ns : List Node) (h : AreEachArgument about last ss rs ns) where
     each_built : AreBuilt about (each_of (statements_of ss)) (all_steps_back last (statements_of ss)) rs
@@ -91,20 +144,32 @@ module _ (about : CaseSystem) (last : ℕ) where
     some_built : AreBuilt about (one_of (statements_of ss)) (all_steps_back last (statements_of ss)) rs
     some_built = argument_built ss rs ns (one_of (statements_of ss)) (all_steps_back last (statements_of ss)) (λ a x. x) (omega arith) h
 
-    pub each_is_found : (found : Found) → IsRegion about.variables about.locations found.part.region → ((fs : Properties) → AreParts about fs rs ns → IsPart about (props.all_of fs) found.part.region found.part.node) → IsBuiltOf about 0 rs found.part.region → found.size ≡ 1 + total_size (statements_of ss) → IsFound about last (each_of (statements_of ss)) found
-    each_is_found found over p b z = record {
+    pub each_is_found : (found : Found) → IsRegion about.variables about.locations found.part.region → ((fs : Properties) → AreParts about fs rs ns → IsPart about (props.all_of fs) found.part.region found.part.node) → IsBuiltOf about 0 rs found.part.region → found.size ≡ 1 + total_size (statements_of ss) →
+        (found.gap ≡ None → AreFullFor about ss rs) → ((s : State) → IsStateOf about s → All (λ x. InState x s) rs → InState found.part.region s) → IfSome found.gap (IsGapOf about) → IsFound about last (each_of (statements_of ss)) found
+    each_is_found found over p b z full all of = record {
+      gap = of;
       over = over;
       shows = λ f e. (let w = each_is (comparison_lists about.variables) (statements_of ss) f e in subst (λ g. IsPart about g found.part.region found.part.node) (sym w.1) (p w.0 (argument_parts ss rs ns h w.0 w.2)));
       built = (let k = all_steps_back last (statements_of ss) in built_to about (each_of (statements_of ss)) (0 + k) k found.part.region (omega arith) (b (each_of (statements_of ss)) k each_built));
       size = z;
+      full = λ gap f e rows.
+          (let w = each_is (comparison_lists about.variables) (statements_of ss) f e in
+          let kept = subst (HasRows about.variables) w.1 rows in
+          subst (λ g. IsFull about g found.part.region) (sym w.1) (each_full about w.0 rs found.part.region (argument_over ss rs ns h) (argument_full ss rs (full gap) w.0 w.2 kept) all));
     }
 
-    pub some_is_found : (found : Found) → IsRegion about.variables about.locations found.part.region → ((fs : Properties) → AreParts about fs rs ns → IsPart about (props.some_of fs) found.part.region found.part.node) → IsBuiltOf about 0 rs found.part.region → found.size ≡ 1 + total_size (statements_of ss) → IsFound about last (one_of (statements_of ss)) found
-    some_is_found found over p b z = record {
+    pub some_is_found : (found : Found) → IsRegion about.variables about.locations found.part.region → ((fs : Properties) → AreParts about fs rs ns → IsPart about (props.some_of fs) found.part.region found.part.node) → IsBuiltOf about 0 rs found.part.region → found.size ≡ 1 + total_size (statements_of ss) →
+        (found.gap ≡ None → AreFullFor about ss rs) → All (λ x. OfPieces about x.pieces.items (InState found.part.region)) rs → IfSome found.gap (IsGapOf about) → IsFound about last (one_of (statements_of ss)) found
+    some_is_found found over p b z full all of = record {
+      gap = of;
       over = over;
       shows = λ f e. (let w = one_is (comparison_lists about.variables) (statements_of ss) f e in subst (λ g. IsPart about g found.part.region found.part.node) (sym w.1) (p w.0 (argument_parts ss rs ns h w.0 w.2)));
       built = (let k = all_steps_back last (statements_of ss) in built_to about (one_of (statements_of ss)) (0 + k) k found.part.region (omega arith) (b (one_of (statements_of ss)) k some_built));
       size = z;
+      full = λ gap f e rows.
+          (let w = one_is (comparison_lists about.variables) (statements_of ss) f e in
+          let kept = subst (HasRows about.variables) w.1 rows in
+          subst (λ g. IsFull about g found.part.region) (sym w.1) (some_full about w.0 rs found.part.region (argument_full ss rs (full gap) w.0 w.2 kept) all));
     }
 
     pub each_fault : (budget : Budget) (fault r : PreFault) → r ≡ fault → IsFaultOf about budget 0 rs fault → IsRefusedFor about budget last (each_of (statements_of ss)) r
@@ -137,12 +202,19 @@ module _ (about : CaseSystem) (last : ℕ) where
     child_built : AreBuilt about (after path s) (steps_back last s) (child.part.region ∷ [])
     child_built = one_built about (after path s) (steps_back last s) child.part.region (built_wider about s (after path s) (λ a x. x) (steps_back last s) child.part.region h.built)
 
-    pub after_is_found : (found : Found) → IsRegion about.variables about.locations found.part.region → ((f : Property) → AreParts about (more f none) (child.part.region ∷ []) (child.part.node ∷ []) → IsPart about (props.next path f) found.part.region found.part.node) → IsBuiltOf about 1 (child.part.region ∷ []) found.part.region → found.size ≡ 1 + child.size → IsFound about last (after path s) found
-    after_is_found found over p b z = record {
+    pub after_is_found : (found : Found) → IsRegion about.variables about.locations found.part.region → ((f : Property) → AreParts about (more f none) (child.part.region ∷ []) (child.part.node ∷ []) → IsPart about (props.next path f) found.part.region found.part.node) → IsBuiltOf about 1 (child.part.region ∷ []) found.part.region → found.size ≡ 1 + child.size →
+        All (IsCase about.variables about.locations) about.cases → (found.gap ≡ None → IsTame about child.part.region × (child.gap ≡ None)) → OthersLeadOut about path child.part.region found.part.region → (IfSome child.gap (IsGapOf about) → IfSome found.gap (IsGapOf about)) → IsFound about last (after path s) found
+    after_is_found found over p b z cases told others of = record {
+      gap = of h.gap;
       over = over;
       shows = λ f e. (let w = after_is (comparison_lists about.variables) path s f e in subst (λ g. IsPart about g found.part.region found.part.node) (sym w.1) (p w.0 (h.shows w.0 w.2, tt)));
       built = built_to about (after path s) (1 + steps_back last s) ((last + 2) + steps_back last s) found.part.region (omega arith) (b (after path s) (steps_back last s) child_built);
       size = z ∙ ap (λ k. 1 + k) h.size;
+      full = λ gap f e rows.
+          (let w = after_is (comparison_lists about.variables) path s f e in
+          let kept = subst (HasRows about.variables) w.1 rows in
+          let tame = told gap in
+          subst (λ g. IsFull about g found.part.region) (sym w.1) (next_full about cases path w.0 child.part.region found.part.region tame.0 others (h.full tame.1 w.0 w.2 kept)));
     }
 
     pub after_fault : (budget : Budget) (fault r : PreFault) → r ≡ fault → IsFaultOf about budget 1 (child.part.region ∷ []) fault → IsRefusedFor about budget last (after path s) r
@@ -172,12 +244,19 @@ module _ (about : CaseSystem) (last : ℕ) where
 
     pub along_is_found : (found : Found) → IsRegion about.variables about.locations found.part.region →
         ((f k : Property) → AreParts about (more f (more k none)) (first.part.region ∷ second.part.region ∷ []) (first.part.node ∷ second.part.node ∷ []) → IsPart about (props.fix path shape f k) found.part.region found.part.node) →
-        IsBuiltOf about (last + 2) (first.part.region ∷ second.part.region ∷ []) found.part.region → found.size ≡ 1 + (first.size + second.size) → IsFound about last (along path shape s t) found
-    along_is_found found over p b z = record {
+        IsBuiltOf about (last + 2) (first.part.region ∷ second.part.region ∷ []) found.part.region → found.size ≡ 1 + (first.size + second.size) →
+        (found.gap ≡ None → (first.gap ≡ None) × (second.gap ≡ None) × ((f k : Property) → IsFull about f first.part.region → IsFull about k second.part.region → IsFull about (props.fix path shape f k) found.part.region)) → (IfSome first.gap (IsGapOf about) → IfSome second.gap (IsGapOf about) → IfSome found.gap (IsGapOf about)) → IsFound about last (along path shape s t) found
+    along_is_found found over p b z told of = record {
+      gap = of h.gap g.gap;
       over = over;
       shows = λ f e. (let w = along_is (comparison_lists about.variables) path shape s t f e in subst (λ z. IsPart about z found.part.region found.part.node) (sym w.2) (p w.0 w.1 (h.shows w.0 w.3, (g.shows w.1 w.4, tt))));
       built = b (along path shape s t) (steps_back last s + steps_back last t) sides_built;
       size = z ∙ (λ i. 1 + (h.size i + g.size i));
+      full = λ gap f e rows.
+          (let w = along_is (comparison_lists about.variables) path shape s t f e in
+          let kept = subst (HasRows about.variables) w.2 rows in
+          let so = told gap in
+          subst (λ z. IsFull about z found.part.region) (sym w.2) (so.2 w.0 w.1 (h.full so.0 w.0 w.3 kept.0) (g.full so.1 w.1 w.4 kept.1)));
     }
 
     pub along_fault : (budget : Budget) (fault r : PreFault) → r ≡ fault → IsFaultOf about budget (last + 2) (first.part.region ∷ second.part.region ∷ []) fault → IsRefusedFor about budget last (along path shape s t) r
@@ -268,43 +347,51 @@ module _ (about : CaseSystem) (last : ℕ) where
   one_size (Here k) = refl
   one_size (Elsewhere k) = refl
 
-  pub atom_is_found : (t : Test) (found : Found) → IsTested about t found.part.region → ((f : Property) → IsTestOf about.variables t f → IsPart about f found.part.region found.part.node) → found.size ≡ 1 → IsFound about last (test_statement t) found
-  atom_is_found t found h p z = record {
+  pub atom_is_found : (t : Test) (found : Found) → IsTested about t found.part.region → ((f : Property) → IsTestOf about.variables t f → IsPart about f found.part.region found.part.node) → found.size ≡ 1 → IfSome found.gap (IsGapOf about) → IsFound about last (test_statement t) found
+  atom_is_found t found h p z of = record {
+    gap = of;
     over = h.over;
     shows = λ f e. p f (test_states t f e);
     built = no_steps t found (of_atom 0 (test_statement t) found.part.region (own_atom t) (test_region t found.part.region h));
     size = z ∙ sym (one_size t);
+    full = λ gap f e rows. atom_full about t f found.part.region (test_states t f e) rows h;
   }
 
   -- ---- termination
-  pub ends_is_found : (found : Found) → IsNowhere about found.part.region → IsPart about props.term found.part.region found.part.node → found.size ≡ 1 → IsFound about last statements.ends found
-  ends_is_found found n p z = record {
+  pub ends_is_found : (found : Found) → IsNowhere about found.part.region → IsPart about props.term found.part.region found.part.node → found.size ≡ 1 → (found.gap ≡ None → ⊥) → IfSome found.gap (IsGapOf about) → IsFound about last statements.ends found
+  ends_is_found found n p z gap of = record {
+    gap = of;
     over = n.fits;
     shows = λ f e. subst (λ g. IsPart about g found.part.region found.part.node) (sym (ends_is (comparison_lists about.variables) f e)) p;
     built = of_nowhere ((last + 2) + (last + 2)) found.part.region n;
     size = z;
+    full = λ none f e rows. absurd (gap none);
   }
 
-  pub all_end_found : (found : Found) → IsEverywhere about found.part.region → IsPart about props.term found.part.region found.part.node → found.size ≡ 1 → IsFound about last statements.ends found
-  all_end_found found e p z = record {
+  pub all_end_found : (found : Found) → IsEverywhere about found.part.region → IsPart about props.term found.part.region found.part.node → found.size ≡ 1 → IfSome found.gap (IsGapOf about) → IsFound about last statements.ends found
+  all_end_found found e p z of = record {
+    gap = of;
     over = e.over;
     shows = λ f w. subst (λ g. IsPart about g found.part.region found.part.node) (sym (ends_is (comparison_lists about.variables) f w)) p;
     built = of_everywhere ((last + 2) + (last + 2)) found.part.region e;
     size = z;
+    full = λ none f w rows. all_full about f found.part.region (λ s q. e.all s q.location);
   }
 
-  pub never_is_found : (found : Found) → IsNowhere about found.part.region → IsPart about (props.negated props.term) found.part.region found.part.node → found.size ≡ 1 → IsFound about last statements.never_ends found
-  never_is_found found n p z = record {
+  pub never_is_found : (found : Found) → IsNowhere about found.part.region → IsPart about (props.negated props.term) found.part.region found.part.node → found.size ≡ 1 → (found.gap ≡ None → ⊥) → IfSome found.gap (IsGapOf about) → IsFound about last statements.never_ends found
+  never_is_found found n p z gap of = record {
+    gap = of;
     over = n.fits;
     shows = λ f e. subst (λ g. IsPart about g found.part.region found.part.node) (sym (never_is (comparison_lists about.variables) f e)) p;
     built = of_nowhere ((last + 2) + (last + 2)) found.part.region n;
     size = z;
+    full = λ none f e rows. absurd (gap none);
   }
 
   -- ---- arguments one after the other
   pub arguments_more : (aims : List Aim) (i : ℕ) (aim : Aim) (found : Found) (old new : Arguments) → i < length aims → aim ≡ get_or aims i aim → AreArguments about last (map aim_states (take i aims)) old → IsFound about last (aim_states aim) found →
-      new.regions.items ≡ old.regions.items ++ found.part.region ∷ [] → new.nodes.items ≡ old.nodes.items ++ found.part.node ∷ [] → new.size ≡ old.size + found.size → AreArguments about last (map aim_states (take (i + 1) aims)) new
-  arguments_more aims i aim found old new l e h f r n z =
+      new.regions.items ≡ old.regions.items ++ found.part.region ∷ [] → new.nodes.items ≡ old.nodes.items ++ found.part.node ∷ [] → new.size ≡ old.size + found.size → new.gap ≡ first_of old.gap (gap_behind (1 + old.size) found.gap) → AreArguments about last (map aim_states (take (i + 1) aims)) new
+  arguments_more aims i aim found old new l e h f r n z g =
       let before = map aim_states (take i aims) in
       let next : map aim_states (take (i + 1) aims) ≡ before ++ aim_states aim ∷ [] = ap (map aim_states) (take_more aims i aim l) ∙ map-append aim_states (take i aims) (get_or aims i aim ∷ []) ∙ ap (λ (a : Aim). before ++ aim_states a ∷ []) (sym e) in
       subst (λ ss. AreArguments about last ss new) (sym next) (record {
@@ -312,12 +399,18 @@ module _ (about : CaseSystem) (last : ℕ) where
             (subst (λ ns. AreEachArgument about last (before ++ aim_states aim ∷ []) (old.regions.items ++ found.part.region ∷ []) ns) (sym n)
             (argument_more before old.regions.items old.nodes.items (aim_states aim) found.part.region found.part.node h.each (found_argument (aim_states aim) found f)));
         size = z ∙ (λ j. h.size j + f.size j) ∙ sym (total_more before (aim_states aim));
+        full = λ none.
+            (let so = none_of_two old.gap (gap_behind (1 + old.size) found.gap) (sym g ∙ none) in
+            subst (AreFullFor about (before ++ aim_states aim ∷ [])) (sym r) (full_more before old.regions.items (aim_states aim) found.part.region (h.full so.0) (f.full (none_behind (1 + old.size) found.gap so.1))));
+        gap = subst (λ o. IfSome o (IsGapOf about)) (sym g) (gap_of_two about old.gap (gap_behind (1 + old.size) found.gap) h.gap (gap_kept about (1 + old.size) found.gap f.gap));
       })
 
-  pub first_arguments : (new : Arguments) → new.regions.items ≡ [] → new.nodes.items ≡ [] → new.size ≡ 0 → AreArguments about last [] new
-  first_arguments new r n z = record {
+  pub first_arguments : (new : Arguments) → new.regions.items ≡ [] → new.nodes.items ≡ [] → new.size ≡ 0 → new.gap ≡ None → AreArguments about last [] new
+  first_arguments new r n z o = record {
+    gap = subst (λ g. IfSome g (IsGapOf about)) (sym o) tt;
     each = subst (λ rs. AreEachArgument about last [] rs new.nodes.items) (sym r) (subst (AreEachArgument about last [] []) (sym n) tt);
     size = z;
+    full = λ none. subst (AreFullFor about []) (sym r) tt;
   }
 
   -- a fault of one argument is one of them all

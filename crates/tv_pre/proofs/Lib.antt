@@ -36,3 +36,6 @@ pub mod EvenLemmas
 pub mod FoundLemmas
 pub mod PassedLemmas
 pub mod RankedAlongLemmas
+pub mod WideLemmas
+pub mod FullLemmas
+pub mod FullAlongLemmas

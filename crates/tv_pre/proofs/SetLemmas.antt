@@ -1,7 +1,7 @@
 -- Regions made of those of the arguments of a formula, as sets of states.
 use Rattle.std.proofs.Common.{◌≡◌, inl, inr, ℕ, zero, suc, ◌+◌, ◌<◌, ◌≤◌, List, [], ◌∷◌, length, get_or, take, refl, sym, ap, subst, arith, true, false}
 use Rattle.std.specs.Prelude.{All, Contains}
-use Rattle.std.proofs.lemmas.List.Elements.{All-nil, All-weaker, All-more, Contains-get_or, Contains-append_left, Contains-append_right}
+use Rattle.std.proofs.lemmas.List.Elements.{All-nil, All-get_or, All-weaker, All-more, Contains-get_or, Contains-append_left, Contains-append_right}
 use Rattle.tv_formula.specs.declared.tree.Path.{Path}
 use Rattle.tv_formula.specs.declared.tree.Path.TheVariants.{Every, Any}
 use Rattle.tv_formula.specs.declared.tree.Shape.{Shape}
@@ -27,22 +27,24 @@ use Rattle.tv_pre.specs.Inclusions.{OfPieces}
 use Rattle.tv_pre.specs.Parts.{joined_pieces}
 use Rattle.tv_pre.specs.Growing.{IsEverywhere}
 use Rattle.tv_pre.specs.Built.{of_everywhere, of_nowhere, of_both, of_either, IsBuiltOf}
-use Rattle.tv_pre.specs.Along.{AreBefore, AreBeforeOrStop, AreOnward, AreAtEnd}
+use Rattle.tv_pre.specs.Along.{AreBefore, OthersLeadOut, AreBeforeOrStop, AreOnward, AreAtEnd}
 use Rattle.tv_pre.specs.declared.sides.Sides.{Sides}
 use Rattle.tv_pre.specs.Around.{two_ends}
 use Rattle.tv_pre.specs.Fixed.{AreOver}
 use Rattle.tv_pre.proofs.BuiltLemmas.{built_to}
 
--- the region has only states of the first so many regions, and is made of them
+-- the region has only states of the first so many regions, has the states that all regions have, and is made of them
 pub record IsCommon (about : CaseSystem) (regions : List Region) (count : ℕ) (common : Region) : Type 0 where
   pub over : IsRegion about.variables about.locations common
   pub inside : All (λ x. OfPieces about common.pieces.items (InState x)) (take count regions)
+  pub all : (s : State) → IsStateOf about s → All (λ x. InState x s) regions → InState common s
   pub built : IsBuiltOf about 0 regions common
 
--- the region has only states of the regions together
-pub record IsWhole (about : CaseSystem) (regions : List Region) (whole : Region) : Type 0 where
+-- the region has only states of the regions together, and those of the first so many
+pub record IsWhole (about : CaseSystem) (regions : List Region) (count : ℕ) (whole : Region) : Type 0 where
   pub over : IsRegion about.variables about.locations whole
   pub inside : OfPieces about whole.pieces.items (InPieces (joined_pieces regions))
+  pub all : All (λ x. OfPieces about x.pieces.items (InState whole)) (take count regions)
   pub built : IsBuiltOf about 0 regions whole
 
 pub in_joined : (regions : List Region) (r : Region) (s : State) → Contains regions r → InState r s → InPieces (joined_pieces regions) s
@@ -103,6 +105,7 @@ module _ (about : CaseSystem) (regions : List Region) where
   common_first common e = record {
     over = e.over;
     inside = All-nil (λ x. OfPieces about common.pieces.items (InState x));
+    all = λ s p k. e.all s p.location;
     built = λ s h m. of_everywhere (0 + h) common e;
   }
 
@@ -113,6 +116,7 @@ module _ (about : CaseSystem) (regions : List Region) where
         inside = All-more (λ x. OfPieces about new.pieces.items (InState x)) regions i r l
             (All-weaker (λ x. OfPieces about common.pieces.items (InState x)) (λ x. OfPieces about new.pieces.items (InState x)) (λ x k s p m. k s p (((w.same s p).0 m).0)) (take i regions) g.inside)
             (subst (λ x. OfPieces about new.pieces.items (InState x)) e (λ s p m. ((w.same s p).0 m).1));
+        all = λ s p k. (w.same s p).1 (g.all s p k, subst (λ x. InState x s) (sym e) (All-get_or (λ x. InState x s) regions i r l k));
         built = λ s h m. of_both (0 + h) common r new (g.built s h m) (built_to about s h (0 + h) r (omega arith) (m r (subst (Contains regions) (sym e) (Contains-get_or regions i r l)))) b;
       }
 
@@ -122,21 +126,28 @@ module _ (about : CaseSystem) (regions : List Region) where
   pub item_over : (i : ℕ) (r : Region) → i < length regions → r ≡ get_or regions i r → All (IsRegion about.variables about.locations) regions → IsRegion about.variables about.locations r
   item_over i r l e all = subst (IsRegion about.variables about.locations) (sym e) (all i r l)
 
-  pub whole_first : (whole : Region) → IsNowhere about whole → IsWhole about regions whole
+  pub whole_first : (whole : Region) → IsNowhere about whole → IsWhole about regions 0 whole
   whole_first whole n = record {
     over = n.fits;
     inside = λ s p m. absurd (((nowhere_set about whole n).same s p).0 m);
+    all = All-nil (λ x. OfPieces about x.pieces.items (InState whole));
     built = λ s h m. of_nowhere (0 + h) whole n;
   }
 
-  pub whole_more : (i : ℕ) (whole r new : Region) → i < length regions → r ≡ get_or regions i r → IsRegion about.variables about.locations r → IsWhole about regions whole → IsEither whole r new → IsWhole about regions new
+  pub whole_more : (i : ℕ) (whole r new : Region) → i < length regions → r ≡ get_or regions i r → IsRegion about.variables about.locations r → IsWhole about regions i whole → IsEither whole r new → IsWhole about regions (i + 1) new
   whole_more i whole r new l e f g b =
       let w = either_set about (InState whole) (InState r) whole r new (own_set about whole g.over) (own_set about r f) b in
       let c = subst (Contains regions) (sym e) (Contains-get_or regions i r l) in record {
         over = w.fits;
         inside = λ s p m. elim ((w.same s p).0 m) [ inl x ↦ g.inside s p x | inr x ↦ in_joined regions r s c x ];
+        all = All-more (λ x. OfPieces about x.pieces.items (InState new)) regions i r l
+            (All-weaker (λ x. OfPieces about x.pieces.items (InState whole)) (λ x. OfPieces about x.pieces.items (InState new)) (λ x k s p m. (w.same s p).1 (inl (k s p m))) (take i regions) g.all)
+            (subst (λ x. OfPieces about x.pieces.items (InState new)) e (λ s p m. (w.same s p).1 (inr m)));
         built = λ s h m. of_either (0 + h) whole r new (g.built s h m) (built_to about s h (0 + h) r (omega arith) (m r c)) b;
       }
+
+  pub whole_all : (i : ℕ) (whole : Region) → length regions ≤ i → IsWhole about regions i whole → All (λ x. OfPieces about x.pieces.items (InState whole)) regions
+  whole_all i whole l g = subst (All (λ x. OfPieces about x.pieces.items (InState whole))) (take_all regions i l) g.all
 
 module _ (about : CaseSystem) where
   no_state : (none : Region) → IsNowhere about none → (s : State) → InState none s → ⊥
@@ -159,6 +170,12 @@ module _ (about : CaseSystem) where
     right = λ s p m. b.right s (there s p) m;
     all = λ tame s p w. b.all tame s (there s p) w;
   }
+
+  pub every_others : (into region : Region) → IsBeforeAll about into region → OthersLeadOut about Every into region
+  every_others into region b tame s p n = b.others tame s (there s p) n
+
+  pub any_others : (into region : Region) → IsBefore about into region → OthersLeadOut about Any into region
+  any_others into region b tame s p n = λ t st m. n (b.all tame s (there s p) (t, st, m))
 
   no_rows : (l : ℕ) (pieces : List Piece) → pieces ≡ [] → (r : Linear) → InSome (lists_at l pieces) r → ⊥
   no_rows l pieces e r m = subst (λ ps. InSome (lists_at l ps) r) e m

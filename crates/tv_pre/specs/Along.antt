@@ -2,6 +2,7 @@
 use Rattle.std.specs.Prelude.{◌≡◌, ℕ, List, [], ◌∷◌}
 use Rattle.tv_program.specs.Steps.{State}
 use Rattle.tv_formula.specs.declared.tree.Path.{Path}
+use Rattle.tv_formula.specs.Normal.{other_path}
 use Rattle.tv_formula.specs.Properties.{Property, fix, none, more}
 use Rattle.tv_linear.specs.declared.region.Region.{Region}
 use Rattle.tv_cases.specs.LinearCases.{CaseSystem, CaseSteps}
@@ -12,7 +13,7 @@ use Rattle.tv_cert.specs.Obligations.{hold_side}
 use Rattle.tv_rounds.specs.declared.fixed_point.FixedPoint.{FixedPoint}
 use Rattle.tv_rounds.specs.declared.answer.Rounds.{Rounds}
 use Rattle.tv_rounds.specs.Sides.{AreTame}
-use Rattle.tv_rounds.specs.Answers.{IsAnswer, IsExactBy}
+use Rattle.tv_rounds.specs.Answers.{IsAnswer, IsExactBy, IsFullBy}
 use Rattle.tv_region.specs.Regions.{IsRegion}
 use Rattle.tv_region.specs.StepRegions.{InState, IsTame}
 use Rattle.tv_pre.specs.declared.part.Part.{Part}
@@ -21,6 +22,7 @@ use Rattle.tv_pre.specs.Inclusions.{LeadsTo}
 use Rattle.tv_pre.specs.Fixed.{OnWay, AtEnd}
 use Rattle.tv_pre.specs.Parts.{IsPart, AreParts}
 use Rattle.tv_pre.specs.Built.{IsBuiltOf}
+use Rattle.tv_pre.specs.Full.{IsFull}
 
 -- the regions of both arguments
 abbrev pub arguments : Sides → List Region
@@ -35,6 +37,11 @@ pub record AreWithin (about : CaseSystem) (exact : Type 0) (set : State → Type
 -- the states from which each step leads into the region, or some step does; all where going back is exact
 abbrev pub AreBefore : CaseSystem → Path → Region → Region → Type 0
 AreBefore about path into region = AreWithin about (IsTame about into) (LeadsTo about path (InState into)) region
+
+-- where going back is exact, some step from each other state leads out of the region, or each step does
+abbrev pub OthersLeadOut : CaseSystem → Path → Region → Region → Type 0
+OthersLeadOut about path into region =
+    IsTame about into → (s : State) → IsStateOf about s → (InState region s → ⊥) → LeadsTo about (other_path path) (λ t. InState into t → ⊥) s
 
 -- the same, or those without a step where some step is asked for
 abbrev pub AreBeforeOrStop : CaseSystem → Path → Region → Region → Type 0
@@ -62,6 +69,7 @@ pub record AreRoundsOf (about : CaseSystem) (last : ℕ) (sides : Sides) (end : 
   pub tame : AreTame about point
   pub rounds : IsAnswer (must_end sides.shape) about point last answer
   pub exact : IsExactBy (must_end sides.shape) about point answer
+  pub full : IsFullBy (must_end sides.shape) about point answer
 
 -- The part is one of the fixed point of these arguments and nodes; its region is made of given ones, with so many more steps back.
 pub record IsAlong (about : CaseSystem) (k : ℕ) (given : List Region) (sides : Sides) (children : List Node) (part : Part) : Type 0 where
@@ -69,3 +77,8 @@ pub record IsAlong (about : CaseSystem) (k : ℕ) (given : List Region) (sides :
   pub shows : (f g : Property) → AreParts about (more f (more g none)) (arguments sides) children →
       IsPart about (fix sides.path sides.shape f g) part.region part.node
   pub built : IsBuiltOf about k given part.region
+
+-- where the regions of the arguments lack only states where these fail, so does that of the fixed point
+abbrev pub IsFullAlong : CaseSystem → Sides → Region → Type 0
+IsFullAlong about sides region =
+    (f g : Property) → IsFull about f sides.first.now → IsFull about g sides.second.now → IsFull about (fix sides.path sides.shape f g) region

@@ -1,5 +1,5 @@
 -- What is found of the arguments of a formula.
-use Rattle.std.specs.Prelude.{◌≡◌, ℕ, List, [], ◌∷◌, All}
+use Rattle.std.specs.Prelude.{◌≡◌, ℕ, None, IfSome, List, [], ◌∷◌, All}
 use Rattle.tv_linear.specs.declared.region.Region.{Region}
 use Rattle.tv_cases.specs.LinearCases.{CaseSystem}
 use Rattle.tv_cert.specs.declared.node.Node.{Node}
@@ -7,7 +7,7 @@ use Rattle.tv_cert.specs.AimViews.{statements_of}
 use Rattle.tv_cert.specs.Statements.{Statement}
 use Rattle.tv_region.specs.Regions.{IsRegion}
 use Rattle.tv_pre.specs.declared.finding.Arguments.{Arguments}
-use Rattle.tv_pre.specs.Finding.{IsPartFor, steps_back, total_size}
+use Rattle.tv_pre.specs.Finding.{IsGapOf, IsPartFor, IsFullFor, steps_back, total_size}
 use Rattle.tv_pre.specs.Built.{IsBuilt}
 
 -- the region and the node of one argument
@@ -25,10 +25,19 @@ AreEachArgument about last (s ∷ ss) [] nodes = ⊥
 AreEachArgument about last (s ∷ ss) (region ∷ regions) [] = ⊥
 AreEachArgument about last (s ∷ ss) (region ∷ regions) (node ∷ nodes) = IsArgument about last s region node × AreEachArgument about last ss regions nodes
 
+-- each region lacks only states where its statement fails
+abbrev pub AreFullFor : CaseSystem → List Statement → List Region → Type 0
+AreFullFor about [] [] = Unit {0}
+AreFullFor about [] (region ∷ regions) = ⊥
+AreFullFor about (s ∷ ss) [] = ⊥
+AreFullFor about (s ∷ ss) (region ∷ regions) = IsFullFor about s region × AreFullFor about ss regions
+
 -- they are found of the arguments
 pub record AreArguments (about : CaseSystem) (last : ℕ) (ss : List Statement) (arguments : Arguments) : Type 0 where
   pub each : AreEachArgument about last ss arguments.regions.items arguments.nodes.items
   pub size : arguments.size ≡ total_size (statements_of ss)
+  pub gap : IfSome arguments.gap (IsGapOf about)
+  pub full : arguments.gap ≡ None → AreFullFor about ss arguments.regions.items
 
 -- their regions are over the cases
 abbrev pub AreArgumentsOf : CaseSystem → Arguments → Type 0

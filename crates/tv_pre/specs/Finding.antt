@@ -1,5 +1,5 @@
 -- What is found of a formula, bottom-up.
-use Rattle.std.specs.Prelude.{◌≡◌, ◌⊎◌, ℕ, ◌+◌, ◌<◌, ◌≤◌, ◌≤ℤ◌, List, length, map, All, Contains, ℤ, slice_index, slice_index_or, pos}
+use Rattle.std.specs.Prelude.{◌≡◌, ◌⊎◌, ℕ, ◌+◌, ◌<◌, ◌≤◌, ◌≤ℤ◌, Option, None, Some, IfSome, List, length, map, All, Contains, ℤ, slice_index, slice_index_or, pos}
 use Rattle.tv_formula.specs.Properties.{Property, Properties}
 use Rattle.tv_linear.specs.declared.region.Region.{Region}
 use Rattle.tv_cases.specs.Comparisons.{comparison_lists}
@@ -10,7 +10,10 @@ use Rattle.tv_cover.specs.Targets.{AreEven}
 use Rattle.tv_region.specs.Regions.{IsRegion}
 use Rattle.tv_region.specs.Differences.{AreOfDifferences, IsOfDifferences}
 use Rattle.tv_region.specs.StepRegions.{HasNoDraws}
+use Rattle.tv_pre.specs.declared.gap.Gap.{Gap}
+use Rattle.tv_pre.specs.declared.gap.Gap.TheVariants.{Inexact, Open}
 use Rattle.tv_pre.specs.declared.outcome.Found.{Found}
+use Rattle.tv_pre.specs.Full.{HasRows, IsFull}
 use Rattle.tv_pre.specs.Parts.{IsPart, AreParts}
 use Rattle.tv_farkas.specs.declared.budget.Budget.{Budget}
 use Rattle.tv_pre.specs.declared.fault.PreFault.{PreFault}
@@ -44,6 +47,24 @@ IsAtMostOnce wanted numbers = (i j : ℕ) → i < length numbers → j < length 
 -- going back into the regions is exact: no case has a draw, or all is of differences
 abbrev pub IsTameFor : CaseSystem → Region → Region → Type 0
 IsTameFor about first second = HasNoDraws about ⊎ (AreOfDifferences about × IsOfDifferences first × IsOfDifferences second)
+
+-- ---- gaps
+
+-- what a gap says of the program: going back may not be exact only where some case has a draw
+abbrev pub IsGapOf : CaseSystem → Gap → Type 0
+IsGapOf about Inexact = HasNoDraws about → ⊥
+IsGapOf about (Open place) = Unit {0}
+
+-- the first of two gaps
+abbrev pub first_of : Option Gap → Option Gap → Option Gap
+first_of (Some gap) second = Some gap
+first_of None second = second
+
+-- the gap of an argument, before which so many subformulas stand
+abbrev pub gap_behind : ℕ → Option Gap → Option Gap
+gap_behind count None = None
+gap_behind count (Some Inexact) = Some Inexact
+gap_behind count (Some (Open place)) = Some (Open (count + place))
 
 -- ---- the formula
 
@@ -114,6 +135,10 @@ IsPartFor about s region node = (f : Property) → States about s f → IsPart a
 abbrev pub ArePartsFor : CaseSystem → Statements → List Region → List Node → Type 0
 ArePartsFor about ss regions nodes = (fs : Properties) → ss ≡ stated_all (comparison_lists about.variables) fs → AreParts about fs regions nodes
 
+-- whatever formula the statement is of, the region lacks only states where it fails, if its comparisons have rows
+abbrev pub IsFullFor : CaseSystem → Statement → Region → Type 0
+IsFullFor about s region = (f : Property) → States about s f → HasRows about.variables f → IsFull about f region
+
 -- what a test states
 abbrev pub test_statement : Test → Statement
 test_statement (Rows lists) = rows (map (λ v. v.items) lists.now)
@@ -130,3 +155,5 @@ pub record IsFound (about : CaseSystem) (last : ℕ) (s : Statement) (found : Fo
   pub shows : IsPartFor about s found.part.region found.part.node
   pub built : IsBuilt about s (steps_back last s) found.part.region
   pub size : found.size ≡ size s
+  pub gap : IfSome found.gap (IsGapOf about)
+  pub full : found.gap ≡ None → IsFullFor about s found.part.region

@@ -4,6 +4,8 @@ pub mod Questions
 pub mod Inclusions
 pub mod Targets
 pub mod Parts
+pub mod Full
+pub mod Wide
 pub mod Around
 pub mod Making
 pub mod Fixed

@@ -1,5 +1,5 @@
 -- What came of a claim at the start, and why there is no certificate.
-use Rattle.std.specs.Prelude.{◌≡◌, ◌⊎◌, ℕ, List, [], ℤ, Option, None, Some}
+use Rattle.std.specs.Prelude.{◌≡◌, ◌⊎◌, ℕ, List, [], ℤ, Option, None, Some, IfSome}
 use Rattle.tv_formula.specs.Formulas.{property_of}
 use Rattle.tv_farkas.specs.declared.budget.Budget.{Budget}
 use Rattle.tv_farkas.specs.declared.fault.CoverFault.{CoverFault}
@@ -8,8 +8,9 @@ use Rattle.tv_cert.specs.declared.claim.Claim.{Claim}
 use Rattle.tv_cert.specs.AimViews.{aim_states}
 use Rattle.tv_cert.specs.Statements.{Statement}
 use Rattle.tv_known.specs.Cycles.{IsLastRound}
+use Rattle.tv_known.specs.Subformulas.{subformulas}
 use Rattle.tv_cover.specs.Covering.{IsHole}
-use Rattle.tv_region.specs.Regions.{lists_at}
+use Rattle.tv_region.specs.Regions.{IsRegion, lists_at}
 use Rattle.tv_lexrank.specs.Certified.{IsProofOf}
 use Rattle.tv_points.specs.Nodes.{IsDisproof}
 use Rattle.tv_linear.specs.declared.region.Piece.{Piece}
@@ -21,14 +22,20 @@ use Rattle.tv_pre.specs.declared.deciding.Tried.{Tried}
 use Rattle.tv_pre.specs.declared.deciding.Tried.TheVariants as tried
 use Rattle.tv_pre.specs.declared.deciding.Unproved.{Unproved}
 use Rattle.tv_pre.specs.declared.deciding.Unproved.TheVariants as unproved
-use Rattle.tv_pre.specs.Built.{IsPreFault}
-use Rattle.tv_pre.specs.Finding.{IsFound, steps_back}
+use Rattle.tv_pre.specs.Built.{IsBuilt, IsPreFault}
+use Rattle.tv_pre.specs.Finding.{IsGapOf, first_of, IsPartFor, IsFullFor, steps_back, size}
+use Rattle.tv_pre.specs.Wide.{IsWideAt}
 use Rattle.tv_pre.specs.Questions.{Question, IsRefusal}
 use Rattle.tv_pre.specs.Starting.{HasNoStart, AsksStart, AsksEmpty}
 
 -- what was found of the formula that the statement is of, whatever the last round is
-abbrev pub IsFoundOf : CaseSystem → Statement → Found → Type 0
-IsFoundOf about s found = (last : ℕ) → IsLastRound about 8 last → IsFound about last s found
+pub record IsFoundOf (about : CaseSystem) (s : Statement) (found : Found) : Type 0 where
+  pub over : IsRegion about.variables about.locations found.part.region
+  pub shows : IsPartFor about s found.part.region found.part.node
+  pub built : (last : ℕ) → IsLastRound about 8 last → IsBuilt about s (steps_back last s) found.part.region
+  pub size : found.size ≡ size s
+  pub gap : IfSome found.gap (IsGapOf about)
+  pub full : found.gap ≡ None → IsFullFor about s found.part.region
 
 abbrev pub pieces_of : Found → List Piece
 pieces_of found = found.part.region.pieces.items
@@ -80,13 +87,13 @@ pub record IsLeft (about : CaseSystem) (claim : Claim) (first second : Option Ga
   pub proof : IsProofLeft about (aim_states claim.proved_aim) first
   pub disproof : IsDisproofLeft about (aim_states claim.denied_aim) second
 
--- why there is no certificate, where it is for no refusal
-abbrev pub left_by : Option Gap → Option Gap → Unproved
-left_by (Some gap) second = unproved.Left gap
-left_by None (Some gap) = unproved.Left gap
-left_by None None = unproved.Told
+-- the subformula with this number, of the normal form or of the negation, is a comparison that has no rows
+abbrev pub IsWideIn : CaseSystem → Claim → ℕ → Type 0
+IsWideIn about claim place =
+    IsWideAt about.variables (subformulas (property_of claim.proved)) place ⊎ IsWideAt about.variables (subformulas (property_of claim.denied)) place
 
 abbrev pub IsUnproved : CaseSystem → Claim → Budget → Unproved → Type 0
 IsUnproved about claim budget (unproved.Refused fault) = IsProofFault about claim budget fault ⊎ IsDisproofFault about claim budget fault
-IsUnproved about claim budget (unproved.Left gap) = (first : Option Gap) × (second : Option Gap) × IsLeft about claim first second × (unproved.Left gap ≡ left_by first second)
-IsUnproved about claim budget unproved.Told = IsLeft about claim None None
+IsUnproved about claim budget (unproved.Left gap) =
+    IsGapOf about gap × ((first : Option Gap) × (second : Option Gap) × IsLeft about claim first second × (Some gap ≡ first_of first second))
+IsUnproved about claim budget (unproved.Wide place) = IsLeft about claim None None × IsWideIn about claim place

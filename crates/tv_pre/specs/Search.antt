@@ -1,5 +1,5 @@
 -- What a search for the regions of a formula goes by.
-use Rattle.std.specs.Prelude.{◌≤◌, [], IsTrue, IfSome}
+use Rattle.std.specs.Prelude.{◌≤◌, ◌↔◌, [], IsTrue, IfSome}
 use Rattle.tv_cases.specs.LinearCases.{CaseSystem}
 use Rattle.tv_cases.specs.Systems.{cases_of}
 use Rattle.tv_known.specs.Cycles.{IsLastRound}
@@ -20,6 +20,6 @@ IsRanking about ranking = IsRankedBy about [] ranking.node ranking.shown.items
 pub record IsSearch (search : Search) : Type 0 where
   pub splits : search.setting.now.budget.now.splits ≤ 128
   pub last : IsLastRound (system_of search) 8 search.last
-  pub plain : IsTrue search.plain → HasNoDraws (system_of search)
+  pub plain : IsTrue search.plain ↔ HasNoDraws (system_of search)
   pub differences : IsTrue search.differences → AreOfDifferences (system_of search)
   pub ranked : IfSome search.ranking (IsRanking (system_of search))

@@ -1,14 +1,19 @@
 // Certificates of formulas over paths.
 
-ghost use Rattle.std.specs.Prelude.{◌≡◌, ◌≤◌, IfOk};
+ghost use Rattle.std.specs.Prelude.{◌≡◌, ◌≤◌, None, IfOk};
 ghost use Rattle.std.specs.Result.{IfErr};
+ghost use Rattle.tv_formula.specs.Formulas.{property_of};
+ghost use Rattle.tv_formula.specs.Normal.{negation};
 ghost use Rattle.tv_cases.specs.Systems.{cases_of};
 ghost use Rattle.tv_cert.specs.Claims.{StatesIts, claim_variables};
 ghost use Rattle.tv_shape.specs.Certificates.{IsSettling};
-ghost use Rattle.tv_pre.specs.Proving.{IsProofTried, IsDisproofTried, IsProofFault, IsDisproofFault, IsUnproved, left_by};
+ghost use Rattle.tv_pre.specs.Proving.{IsProofTried, IsDisproofTried, IsProofFault, IsDisproofFault, IsLeft, IsWideIn, IsUnproved};
 
+use crate::gap::first_gap;
 use crate::starting::{Inside, first_inside, start_covered};
+use crate::wide::{Comparisons, comparisons_of};
 use crate::{Found, Gap, Part, PreFault, Setting, found};
+use std::alloc::AllocError;
 use tv_cert::Claim;
 use tv_cover::Covered;
 use tv_lexrank::proved_certificate;
@@ -30,8 +35,9 @@ pub enum Unproved {
     Refused(PreFault),
     /// Some initial state is not known to have the property, and none is known not to have it: a region may lack states, for this reason.
     Left(Gap),
-    /// The same, although neither region lacks states.
-    Told,
+    /// The same, although no gap is known of: the comparison that is this subformula, of the normal form or of the negation, has no rows, as
+    /// a number of a part of it or of a row is too wide.
+    Wide { place: u32 },
 }
 
 /// The certificate that the property holds, where all states at the start lie in the region of its normal form.
@@ -93,15 +99,39 @@ fn try_disproof(setting: &Setting, claim: &Claim) -> Result<Tried, PreFault>
     }
 }
 
-/// Why there is no certificate, where the start tells nothing of either side.
-fn left(first: Option<Gap>, second: Option<Gap>) -> Unproved
-    ensures { result ≡ left_by first second }
+/// The number of the first comparison without rows, where the start tells nothing of either side and no gap is known of: if each comparison
+/// had rows, the formula and its negation would both fail at a state at the start.
+fn first_wide(setting: &Setting, claim: &Claim) -> Result<u32, AllocError>
+    requires states { StatesIts claim.now }
+    requires variables { claim_variables claim.now ≡ (cases_of setting.now.about.now).variables }
+    requires denies { property_of claim.now.denied ≡ negation (property_of claim.now.proved) }
+    requires left { IsLeft (cases_of setting.now.about.now) claim.now None None }
+    ensures { IfOk result (IsWideIn (cases_of setting.now.about.now) claim.now) }
 {
-    match first {
+    let variables = setting.about.variables();
+    match comparisons_of(setting.alloc, claim.proved().tree(), variables)? {
+        Comparisons::Wide { place } => return Ok(place),
+        Comparisons::HaveRows { size: _ } => {}
+    }
+    match comparisons_of(setting.alloc, claim.denied().tree(), variables)? {
+        Comparisons::Wide { place } => Ok(place),
+        Comparisons::HaveRows { size: _ } => unreachable!(),
+    }
+}
+
+/// Why there is no certificate, where the start tells nothing of either side.
+fn left(setting: &Setting, claim: &Claim, first: Option<Gap>, second: Option<Gap>) -> Unproved
+    requires states { StatesIts claim.now }
+    requires variables { claim_variables claim.now ≡ (cases_of setting.now.about.now).variables }
+    requires denies { property_of claim.now.denied ≡ negation (property_of claim.now.proved) }
+    requires left { IsLeft (cases_of setting.now.about.now) claim.now first second }
+    ensures { IsUnproved (cases_of setting.now.about.now) claim.now setting.now.budget.now result }
+{
+    match first_gap(first, second) {
         Some(gap) => Unproved::Left(gap),
-        None => match second {
-            Some(gap) => Unproved::Left(gap),
-            None => Unproved::Told,
+        None => match first_wide(setting, claim) {
+            Err(_) => Unproved::Refused(PreFault::Memory),
+            Ok(place) => Unproved::Wide { place },
         },
     }
 }
@@ -109,11 +139,12 @@ fn left(first: Option<Gap>, second: Option<Gap>) -> Unproved
 /// The certificate that a property holds at all initial states, or fails at one of them.
 ///
 /// A region and a node are made of each subformula, bottom-up: of the normal form first, and where its region does not have all initial
-/// states, of its negation.
+/// states, of its negation. Where neither region lacks states for a known gap, and each comparison has rows, one of the two tells.
 pub fn prove(setting: &Setting, claim: &Claim) -> Result<Certificate, Unproved>
     requires splits { setting.now.budget.now.splits ≤ 128 }
     requires states { StatesIts claim.now }
     requires variables { claim_variables claim.now ≡ (cases_of setting.now.about.now).variables }
+    requires denies { property_of claim.now.denied ≡ negation (property_of claim.now.proved) }
     ensures settled { IfOk result (IsSettling (cases_of setting.now.about.now) claim.now) }
     ensures unproved { IfErr result (IsUnproved (cases_of setting.now.about.now) claim.now setting.now.budget.now) }
 {
@@ -125,6 +156,6 @@ pub fn prove(setting: &Setting, claim: &Claim) -> Result<Certificate, Unproved>
     match try_disproof(setting, claim) {
         Err(fault) => Err(Unproved::Refused(fault)),
         Ok(Tried::Settled(certificate)) => Ok(certificate),
-        Ok(Tried::Left(second)) => Err(left(first, second)),
+        Ok(Tried::Left(second)) => Err(left(setting, claim, first, second)),
     }
 }

@@ -1,6 +1,6 @@
 // The region and the node of each subformula, from those of its arguments.
 
-ghost use Rattle.std.specs.Prelude.{◌≡◌, ◌≤◌, ◌+◌, ◌++◌, ◌∷◌, ℕ, All, List, [], map, IfOk};
+ghost use Rattle.std.specs.Prelude.{◌≡◌, ◌≤◌, ◌+◌, ◌++◌, ◌∷◌, ℕ, None, All, List, [], map, IfOk, IfSome};
 ghost use Rattle.std.specs.Result.{IfErr};
 ghost use Rattle.tv_formula.specs.Properties.{Property};
 ghost use Rattle.tv_cases.specs.Systems.{cases_of};
@@ -9,10 +9,11 @@ ghost use Rattle.tv_cert.specs.AimViews.{aim_states, aims_state, statements_of};
 ghost use Rattle.tv_cert.specs.Statements.{Statement};
 ghost use Rattle.tv_cert.specs.Statements as statements;
 ghost use Rattle.tv_region.specs.Regions.{IsRegion};
+ghost use Rattle.tv_region.specs.StepRegions.{IsTame};
 ghost use Rattle.tv_pre.specs.declared.fault.PreFault.TheVariants.{Memory};
 ghost use Rattle.tv_pre.specs.Atoms.{IsEvenTest};
 ghost use Rattle.tv_pre.specs.Built.{IsBuilt, IsPreFault};
-ghost use Rattle.tv_pre.specs.Finding.{States, IsEvenStatement, AreEvenStatements, steps_back, size, IsPartFor, IsFound, test_statement, IsRefusedFor};
+ghost use Rattle.tv_pre.specs.Finding.{States, IsEvenStatement, AreEvenStatements, steps_back, size, first_of, gap_behind, IsGapOf, IsPartFor, IsFullFor, IsFound, test_statement, IsRefusedFor};
 ghost use Rattle.tv_pre.specs.Search.{system_of, IsSearch};
 ghost use Rattle.tv_pre.specs.Arguments.{AreArguments, AreArgumentsOf};
 
@@ -45,6 +46,7 @@ fn no_arguments(alloc: Global) -> Arguments
     ensures regions { result.regions.items ≡ [] }
     ensures nodes { result.nodes.items ≡ [] }
     ensures size { result.size ≡ 0 }
+    ensures gap { result.gap ≡ None }
 {
     Arguments {
         regions: Vec::new(alloc),
@@ -59,6 +61,7 @@ fn with_argument(arguments: Arguments, found: Found) -> Result<Arguments, PreFau
     ensures regions { IfOk result (λ a. a.regions.items ≡ arguments.regions.items ++ found.part.region ∷ []) }
     ensures nodes { IfOk result (λ a. a.nodes.items ≡ arguments.nodes.items ++ found.part.node ∷ []) }
     ensures size { IfOk result (λ a. a.size ≡ arguments.size + found.size) }
+    ensures gap { IfOk result (λ a. a.gap ≡ first_of arguments.gap (gap_behind (1 + arguments.size) found.gap)) }
     ensures memory { IfErr result (λ fault. fault ≡ Memory) }
 {
     let Arguments {
@@ -173,6 +176,9 @@ fn some_found(search: &Search, arguments: Arguments) -> Result<Found, PreFault>
 /// Why the region of the states before another one may lack states: going back may not be exact, or the other one lacks some.
 fn gap_before(search: &Search, into: &Region, gap: Option<Gap>) -> Result<Option<Gap>, PreFault>
     requires search { IsSearch search.now }
+    ensures none { IfOk result (λ before. before ≡ None → IsTame (system_of search.now) into.now × (gap ≡ None)) }
+    ensures gap { let about = system_of search.now in
+        IfOk result (λ before. IfSome gap (IsGapOf about) → IfSome before (IsGapOf about)) }
     ensures memory { IfErr result (λ fault. fault ≡ Memory) }
 {
     if search.is_tame(into, into) {
@@ -193,6 +199,7 @@ fn after_found(search: &Search, path: Path, child: Found) -> Result<Found, PreFa
         IfErr result (λ fault. (s : Statement) → IsFound about search.now.last s child →
         IsRefusedFor about search.now.setting.now.budget.now search.now.last (statements.after path s) fault) }
 {
+    let _variables = search.setting.about.variables();
     let size = added(1, child.size)?;
     let Part { region: into, node } = child.part;
     let gap = gap_before(search, &into, child.gap)?;
@@ -307,7 +314,8 @@ fn found_of(search: &Search, aim: &Aim) -> Result<Found, PreFault>
 /// The region of an atom has its rows at each location; conjunctions and disjunctions have the states that each argument has, or one of
 /// them. A formula on the next states has those all of whose steps lead into the region of its argument, or some step. A fixed point has the
 /// states at its end, and, where going back over the steps is exact, those of its rounds: up to the eighth in a program with a cycle, and
-/// else up to as many as it has locations. A `gap` says why the region may lack states.
+/// else up to as many as it has locations. A `gap` says why the region may lack states. Where there is none, and each comparison has rows,
+/// the negation of the formula holds at each state that the region lacks.
 ///
 /// Where the whole program has a lexicographic ranking, termination holds everywhere, and so does a fixed point over every run that must
 /// come to an end if each state is at its end, or on the way with a step. A ranking system that is not settled counts as none.
@@ -324,6 +332,9 @@ pub fn found(setting: &Setting, aim: &Aim) -> Result<Found, PreFault>
         let s = aim_states aim.now in
         IfOk result (λ found. (last : ℕ) → IsLastRound system 8 last → IsBuilt system s (steps_back last s) found.part.region) }
     ensures size { IfOk result (λ found. found.size ≡ size (aim_states aim.now)) }
+    ensures gap { IfOk result (λ found. IfSome found.gap (IsGapOf (cases_of setting.now.about.now))) }
+    ensures full { let system = cases_of setting.now.about.now in
+        IfOk result (λ found. found.gap ≡ None → IsFullFor system (aim_states aim.now) found.part.region) }
     ensures refused { let system = cases_of setting.now.about.now in
         IfErr result (λ fault. (last : ℕ) → IsLastRound system 8 last →
         IsRefusedFor system setting.now.budget.now last (aim_states aim.now) fault) }

@@ -1,4 +1,5 @@
 ghost use Rattle.std.specs.Prelude.{◌≡◌, ◌+◌, IfOk};
+ghost use Rattle.tv_pre.specs.Finding.{first_of, gap_behind};
 
 use std::alloc::AllocError;
 
@@ -25,7 +26,9 @@ pub(crate) fn added(first: u32, second: u32) -> Result<u32, AllocError>
 }
 
 /// The gap of an argument, before which so many subformulas stand.
-pub(crate) fn gap_after(count: u32, gap: Option<Gap>) -> Result<Option<Gap>, AllocError> {
+pub(crate) fn gap_after(count: u32, gap: Option<Gap>) -> Result<Option<Gap>, AllocError>
+    ensures { IfOk result (λ after. after ≡ gap_behind count gap) }
+{
     match gap {
         Some(Gap::Open { place }) => {
             let place = added(count, place)?;
@@ -36,7 +39,9 @@ pub(crate) fn gap_after(count: u32, gap: Option<Gap>) -> Result<Option<Gap>, All
 }
 
 /// The first of two gaps.
-pub(crate) fn first_gap(first: Option<Gap>, second: Option<Gap>) -> Option<Gap> {
+pub(crate) fn first_gap(first: Option<Gap>, second: Option<Gap>) -> Option<Gap>
+    ensures { result ≡ first_of first second }
+{
     match first {
         Some(gap) => Some(gap),
         None => second,

@@ -1,8 +1,10 @@
 // Regions made of those of the arguments of a formula.
 
 ghost use Rattle.std.specs.Prelude.{◌≡◌, [], ◌∷◌, All, IfOk};
+ghost use Rattle.tv_program.specs.Steps.{State};
 ghost use Rattle.std.specs.Result.{IfErr};
 ghost use Rattle.tv_cases.specs.Systems.{cases_of};
+ghost use Rattle.tv_known.specs.Cycles.{IsStateOf};
 ghost use Rattle.tv_region.specs.Regions.{IsRegion};
 ghost use Rattle.tv_region.specs.StepRegions.{InState};
 ghost use Rattle.tv_rounds.specs.Calls.{IsNowhere};
@@ -11,7 +13,7 @@ ghost use Rattle.tv_pre.specs.Inclusions.{OfPieces};
 ghost use Rattle.tv_pre.specs.Parts.{joined_pieces};
 ghost use Rattle.tv_pre.specs.Fixed.{AreOver};
 ghost use Rattle.tv_pre.specs.Built.{IsBuiltOf, IsFaultOf};
-ghost use Rattle.tv_pre.specs.Along.{arguments, AreBefore, AreAtEnd};
+ghost use Rattle.tv_pre.specs.Along.{arguments, AreBefore, OthersLeadOut, AreAtEnd};
 
 use crate::coming::everywhere;
 use crate::ends::has_two_ends;
@@ -37,6 +39,8 @@ pub(crate) fn intersection(setting: &Setting, regions: &[Region]) -> Result<Regi
     ensures over { let about = cases_of setting.now.about.now in IfOk result (IsRegion about.variables about.locations) }
     ensures inside { let about = cases_of setting.now.about.now in
         IfOk result (λ r. All (λ x. OfPieces about r.pieces.items (InState x)) regions.now) }
+    ensures all { let about = cases_of setting.now.about.now in
+        IfOk result (λ r. (s : State) → IsStateOf about s → All (λ x. InState x s) regions.now → InState r s) }
     ensures built { IfOk result (IsBuiltOf (cases_of setting.now.about.now) 0 regions.now) }
     ensures refused { IfErr result (IsFaultOf (cases_of setting.now.about.now) setting.now.budget.now 0 regions.now) }
 {
@@ -54,6 +58,8 @@ pub(crate) fn union(setting: &Setting, regions: &[Region]) -> Result<Region, Pre
     ensures over { let about = cases_of setting.now.about.now in IfOk result (IsRegion about.variables about.locations) }
     ensures inside { let about = cases_of setting.now.about.now in
         IfOk result (λ r. OfPieces about r.pieces.items (InPieces (joined_pieces regions.now))) }
+    ensures all { let about = cases_of setting.now.about.now in
+        IfOk result (λ r. All (λ x. OfPieces about x.pieces.items (InState r)) regions.now) }
     ensures built { IfOk result (IsBuiltOf (cases_of setting.now.about.now) 0 regions.now) }
     ensures refused { IfErr result (IsFaultOf (cases_of setting.now.about.now) setting.now.budget.now 0 regions.now) }
 {
@@ -69,6 +75,7 @@ pub(crate) fn union(setting: &Setting, regions: &[Region]) -> Result<Region, Pre
 pub(crate) fn back_into(setting: &Setting, path: Path, region: &Region) -> Result<Region, PreFault>
     requires over { IsRegion (cases_of setting.now.about.now).variables (cases_of setting.now.about.now).locations region.now }
     ensures before { IfOk result (AreBefore (cases_of setting.now.about.now) path region.now) }
+    ensures others { IfOk result (OthersLeadOut (cases_of setting.now.about.now) path region.now) }
     ensures built { IfOk result (IsBuiltOf (cases_of setting.now.about.now) 1 (region.now ∷ [])) }
     ensures refused { IfErr result (IsFaultOf (cases_of setting.now.about.now) setting.now.budget.now 1 (region.now ∷ [])) }
 {

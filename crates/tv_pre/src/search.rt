@@ -1,8 +1,9 @@
 // What the search for the regions of a formula goes by.
 
-ghost use Rattle.std.specs.Prelude.{◌≡◌, ◌≤◌, IsTrue, IfOk};
+ghost use Rattle.std.specs.Prelude.{◌≡◌, ◌≤◌, IsTrue, IsFalse, IfOk};
 ghost use Rattle.tv_cases.specs.Systems.{cases_of};
 ghost use Rattle.tv_known.specs.Cycles.{IsLastRound};
+ghost use Rattle.tv_region.specs.StepRegions.{HasNoDraws};
 ghost use Rattle.tv_pre.specs.Finding.{IsTameFor};
 ghost use Rattle.tv_pre.specs.Search.{IsSearch};
 
@@ -62,7 +63,8 @@ impl Search<'_> {
     /// Whether it is found that going back into the regions is exact.
     pub(crate) fn is_tame(&self, first: &Region, second: &Region) -> bool
         requires search { IsSearch self.now }
-        ensures { IsTrue result → IsTameFor (cases_of self.now.setting.now.about.now) first.now second.now }
+        ensures tame { IsTrue result → IsTameFor (cases_of self.now.setting.now.about.now) first.now second.now }
+        ensures drawn { IsFalse result → HasNoDraws (cases_of self.now.setting.now.about.now) → ⊥ }
     {
         if self.plain {
             return true;

@@ -3,6 +3,7 @@ use Rattle.std.proofs.Common.{◌≡◌, ◌⊎◌, inl, inr, ℕ, zero, suc, �
 use Rattle.tv_cases.specs.declared.case.Case.{Case}
 use Rattle.tv_cases.specs.LinearCases.{LinearCase}
 use Rattle.tv_cases.specs.Views.{case_view, case_views}
+use Rattle.tv_region.specs.Met.{Has}
 
 -- no case before the place has a draw
 abbrev pub NoneBefore : List LinearCase → ℕ → Type 0
@@ -41,3 +42,9 @@ within (d ∷ cases) (suc k) c e = let l = within cases k c e in omega (arith, l
 
 pub none_at_all : (cases : List LinearCase) (n : ℕ) → length cases ≤ n → NoneBefore cases n → (k : ℕ) (c : LinearCase) → slice_get cases k ≡ Some c → c.draws ≡ 0
 none_at_all cases n l before k c e = before k c (let m = within cases k c e in omega (arith, l, m)) e
+
+-- so no case has one
+pub none_has : (cases : List LinearCase) → ((k : ℕ) (c : LinearCase) → slice_get cases k ≡ Some c → c.draws ≡ 0) → (c : LinearCase) → Has cases c → c.draws ≡ 0
+none_has [] h c m = absurd m
+none_has (d ∷ cases) h c (inl e) = h 0 c (ap (λ (x : LinearCase). Some x) e)
+none_has (d ∷ cases) h c (inr m) = none_has cases (λ k x g. h (suc k) x g) c m

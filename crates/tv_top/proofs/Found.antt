@@ -45,7 +45,7 @@ use Rattle.tv_search.specs.Runs as searched
 use Rattle.tv_invariant.proofs.PieceLemmas.{in_rows}
 use Rattle.tv_linear.specs.Linear.{columns, IsMet, IsWithin}
 use Rattle.tv_top.specs.declared.cause.Cause.{Cause}
-use Rattle.tv_top.specs.declared.cause.Cause.TheVariants.{Unsolved, Spent, Composed, Unranked, Weak, TooManyPaths, TooManyPieces, Drawn, Unsettled, Unbuilt}
+use Rattle.tv_top.specs.declared.cause.Cause.TheVariants.{Unsolved, Spent, Composed, Unranked, Weak, TooManyPaths, TooManyPieces, Drawn, Unsettled, WideComparison}
 use Rattle.tv_shape.specs.Certificates.{IsSettling}
 use Rattle.tv_top.specs.declared.answer.Answer.{Answer}
 use Rattle.tv_top.specs.declared.answer.Answer.TheVariants.{Proved, Disproved, Obligation, CertificateLine, Words, TooLong, Text, Property as Unnamed, WideEdge, TooManyInEdge, Unknown, ReadFault, Memory}
@@ -56,7 +56,7 @@ use Rattle.tv_pre.specs.declared.fault.PreFault.TheVariants as faults
 use Rattle.tv_pre.specs.declared.gap.Gap.{Gap}
 use Rattle.tv_pre.specs.declared.gap.Gap.TheVariants.{Inexact, Open}
 use Rattle.tv_pre.specs.declared.deciding.Unproved.{Unproved}
-use Rattle.tv_pre.specs.declared.deciding.Unproved.TheVariants.{Refused, Left, Told}
+use Rattle.tv_pre.specs.declared.deciding.Unproved.TheVariants.{Refused, Left, Wide}
 use Rattle.tv_top.specs.Searching.{AnswersRegion, AnswersRefusal, AnswersLeft, AnswersUnproved}
 use Rattle.tv_top.specs.Answers.{ended, uncovered, unknown, too_wide}
 use Rattle.tv_top.specs.Tasks.{Wanted, Task}
@@ -197,7 +197,7 @@ module _ (offers : Offers) (task : Task) (p : System) (f : Property) (about : Ca
   weak_so (Ok (TooManyPieces label k)) point w h = absurd w
   weak_so (Ok (Drawn case)) point w h = absurd w
   weak_so (Ok (Unsettled part)) point w h = absurd w
-  weak_so (Ok Unbuilt) point w h = absurd w
+  weak_so (Ok (WideComparison part)) point w h = absurd w
   weak_so (Err e) point w h = tt
 
   -- and so are too many paths
@@ -211,7 +211,7 @@ module _ (offers : Offers) (task : Task) (p : System) (f : Property) (about : Ca
   many_so (Ok (TooManyPieces label k)) count point w h = absurd w
   many_so (Ok (Drawn case)) count point w h = absurd w
   many_so (Ok (Unsettled part)) count point w h = absurd w
-  many_so (Ok Unbuilt) count point w h = absurd w
+  many_so (Ok (WideComparison part)) count point w h = absurd w
   many_so (Err e) count point w h = tt
 
   -- what comes of rows that exclude the location
@@ -246,7 +246,7 @@ module _ (offers : Offers) (task : Task) (p : System) (f : Property) (about : Ca
   pieces_so (Ok (TooManyPaths label k)) l count w h = absurd w
   pieces_so (Ok (Drawn number)) l count w h = absurd w
   pieces_so (Ok (Unsettled place)) l count w h = absurd w
-  pieces_so (Ok Unbuilt) l count w h = absurd w
+  pieces_so (Ok (WideComparison place)) l count w h = absurd w
   pieces_so (Err e) l count w h = tt
 
   region_so : (fault : RegionFault) (answer : Answer) → AnswersRegion p fault answer → IsUnprovedOf about f spent (Refused (faults.Region fault)) → Finds offers task p f about answer
@@ -267,15 +267,14 @@ module _ (offers : Offers) (task : Task) (p : System) (f : Property) (about : Ca
   refused_so faults.Memory answer a h = subst (Finds offers task p f about) (sym a) tt
 
   left_so : (gap : Gap) (answer : Answer) → AnswersLeft about gap answer → IsUnprovedOf about f spent (Left gap) → Finds offers task p f about answer
-  left_so Inexact answer (inl a) h = subst (Finds offers task p f about) (sym a.2) (of_formula other (a.1, h))
-  left_so Inexact answer (inr a) h = subst (Finds offers task p f about) (sym a.1) (of_formula other (inr (a.0, h)))
+  left_so Inexact answer a h = subst (Finds offers task p f about) (sym a.2) (of_formula other (a.1, h))
   left_so (Open place) answer a h = subst (Finds offers task p f about) (sym a) (of_formula other h)
 
   -- what comes of a formula that has no certificate
   pub unproved_so : (why : Unproved) (answer : Answer) → AnswersUnproved p about why answer → IsUnprovedOf about f spent why → Finds offers task p f about answer
   unproved_so (Refused fault) answer a h = refused_so fault answer a h
   unproved_so (Left gap) answer a h = left_so gap answer a h
-  unproved_so Told answer a h = subst (Finds offers task p f about) (sym a) (of_formula other (inl h))
+  unproved_so (Wide place) answer a h = subst (Finds offers task p f about) (sym a) (of_formula other h)
 
 -- what comes of a formula
 pub answered_so : (offers : Offers) (task : Task) (p : System) (f : Property) (about : CaseSystem) → IsOther about f → (answer : Answer)

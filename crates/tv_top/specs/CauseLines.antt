@@ -7,7 +7,7 @@ use Rattle.tv_simplex.specs.declared.fault.SolveFault.TheVariants as solving
 use Rattle.tv_rank.specs.declared.name.Name.{Name}
 use Rattle.tv_rank.specs.declared.name.Name.TheVariants as systems
 use Rattle.tv_top.specs.declared.cause.Cause.{Cause}
-use Rattle.tv_top.specs.declared.cause.Cause.TheVariants.{Unsolved, Spent, Composed, Unranked, Weak, TooManyPaths, TooManyPieces, Drawn, Unsettled, Unbuilt}
+use Rattle.tv_top.specs.declared.cause.Cause.TheVariants.{Unsolved, Spent, Composed, Unranked, Weak, TooManyPaths, TooManyPieces, Drawn, Unsettled, WideComparison}
 
 -- the words that name a linear system
 abbrev pub system_words : Name → List ℕ
@@ -69,7 +69,7 @@ cause_line (TooManyPaths label count) = codes "Unknown disjuncts" ++ 10 ∷ []
 cause_line (TooManyPieces label count) = codes "Unknown disjuncts" ++ 10 ∷ []
 cause_line (Drawn case) = codes "Unknown template" ++ 10 ∷ []
 cause_line (Unsettled subformula) = codes "Unknown template" ++ 10 ∷ []
-cause_line Unbuilt = codes "Unknown unbuilt" ++ 10 ∷ []
+cause_line (WideComparison subformula) = codes "Unknown width" ++ 10 ∷ []
 
 -- the second line
 abbrev pub detail_line : Cause → List ℕ
@@ -82,4 +82,4 @@ detail_line (TooManyPaths label count) = count_line label.items count
 detail_line (TooManyPieces label count) = count_line label.items count
 detail_line (Drawn case) = codes "draw case " ++ (decimal case ++ 10 ∷ [])
 detail_line (Unsettled subformula) = codes "subformula " ++ (decimal subformula ++ 10 ∷ [])
-detail_line Unbuilt = []
+detail_line (WideComparison subformula) = codes "subformula " ++ (decimal subformula ++ 10 ∷ [])

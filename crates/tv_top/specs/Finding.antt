@@ -45,13 +45,13 @@ use Rattle.tv_region.specs.declared.fault.RegionFault.TheVariants as regions
 use Rattle.tv_pre.specs.declared.fault.PreFault.TheVariants as faults
 use Rattle.tv_pre.specs.declared.gap.Gap.TheVariants.{Inexact, Open}
 use Rattle.tv_pre.specs.declared.deciding.Unproved.{Unproved}
-use Rattle.tv_pre.specs.declared.deciding.Unproved.TheVariants.{Refused, Left, Told}
+use Rattle.tv_pre.specs.declared.deciding.Unproved.TheVariants.{Refused, Left, Wide}
 use Rattle.tv_pre.specs.Proving.{IsUnproved}
 use Rattle.tv_top.specs.Generated.{count_lines}
 use Rattle.tv_top.specs.Tasks.{Limits, Wanted, nothing_more, its_text, its_counts, Task}
 use Rattle.tv_top.specs.declared.assignment.Assignment.{Assignment}
 use Rattle.tv_top.specs.declared.cause.Cause.{Cause}
-use Rattle.tv_top.specs.declared.cause.Cause.TheVariants.{Unsolved, Spent, Composed, Unranked, Weak, TooManyPaths, TooManyPieces, Drawn, Unsettled, Unbuilt}
+use Rattle.tv_top.specs.declared.cause.Cause.TheVariants.{Unsolved, Spent, Composed, Unranked, Weak, TooManyPaths, TooManyPieces, Drawn, Unsettled, WideComparison}
 use Rattle.tv_top.specs.declared.answer.Answer.{Answer}
 use Rattle.tv_top.specs.declared.answer.Answer.TheVariants as answers
 
@@ -236,7 +236,7 @@ IsFormulaCause p about f budget (Composed column) = IsEither about f budget (reg
 IsFormulaCause p about f budget (TooManyPieces label count) = (l : ℕ) × IsLabelAt p l label.items × IsUnprovedOf about f budget (Refused (faults.Region (regions.Disjuncts l count)))
 IsFormulaCause p about f budget (Drawn number) = IsDrawnAt about number × IsUnprovedOf about f budget (Left Inexact)
 IsFormulaCause p about f budget (Unsettled place) = IsUnprovedOf about f budget (Left (Open place))
-IsFormulaCause p about f budget Unbuilt = IsUnprovedOf about f budget Told ⊎ (NoneDraws about × IsUnprovedOf about f budget (Left Inexact))
+IsFormulaCause p about f budget (WideComparison place) = IsUnprovedOf about f budget (Wide place)
 IsFormulaCause p about f budget cause = ⊥
 
 -- why nothing is known of the property

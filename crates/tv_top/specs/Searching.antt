@@ -32,7 +32,7 @@ use Rattle.tv_top.specs.declared.answer.Answer.TheVariants as answers
 use Rattle.tv_top.specs.declared.cause.Cause.{Cause}
 use Rattle.tv_top.specs.declared.cause.Cause.TheVariants as causes
 use Rattle.tv_top.specs.Answers.{uncovered, too_wide, unknown}
-use Rattle.tv_top.specs.Finding.{Offers, Finds, Settles, budget_of, AreTooManyPieces, IsDrawnAt, NoneDraws, IsUnprovedOf}
+use Rattle.tv_top.specs.Finding.{Offers, Finds, Settles, budget_of, AreTooManyPieces, IsDrawnAt, IsUnprovedOf}
 use Rattle.tv_top.specs.Views.{wanted_view, task_view}
 
 -- the cases are those of the program, and the claim is stated over its variables
@@ -78,9 +78,7 @@ AnswersRefusal p faults.Memory answer = answer ≡ answers.Memory
 
 -- where a region may lack states, since going back is not exact: the answer names a case with a draw
 abbrev pub AnswersInexact : CaseSystem → Answer → Type 0
-AnswersInexact about answer =
-    ((number : ℕ) × IsDrawnAt about number × (answer ≡ answers.Unknown (causes.Drawn number)))
-    ⊎ (NoneDraws about × (answer ≡ answers.Unknown causes.Unbuilt))
+AnswersInexact about answer = (number : ℕ) × IsDrawnAt about number × (answer ≡ answers.Unknown (causes.Drawn number))
 
 -- where a region may lack states
 abbrev pub AnswersLeft : CaseSystem → Gap → Answer → Type 0
@@ -91,7 +89,7 @@ AnswersLeft about (gaps.Open place) answer = answer ≡ answers.Unknown (causes.
 abbrev pub AnswersUnproved : System → CaseSystem → Unproved → Answer → Type 0
 AnswersUnproved p about (unproved.Refused fault) answer = AnswersRefusal p fault answer
 AnswersUnproved p about (unproved.Left gap) answer = AnswersLeft about gap answer
-AnswersUnproved p about unproved.Told answer = answer ≡ answers.Unknown causes.Unbuilt
+AnswersUnproved p about (unproved.Wide place) answer = answer ≡ answers.Unknown (causes.WideComparison place)
 
 -- the answer of a certificate of the formula, or why there is none
 abbrev pub IsFormulaAnswer : Search → Property → Answer → Type 0

@@ -46,6 +46,8 @@ pub enum Cause {
     Unsettled {
         subformula: u32,
     },
-    /// No search is built for the property.
-    Unbuilt,
+    /// The comparison that is this subformula has no rows: a number of a part of it, or of a row, is too wide.
+    WideComparison {
+        subformula: u32,
+    },
 }

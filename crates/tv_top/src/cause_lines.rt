@@ -195,7 +195,7 @@ impl Cause {
             Cause::TooManyPieces { .. } => format!(in alloc; "Unknown disjuncts\n"),
             Cause::Drawn { .. } => format!(in alloc; "Unknown template\n"),
             Cause::Unsettled { .. } => format!(in alloc; "Unknown template\n"),
-            Cause::Unbuilt => format!(in alloc; "Unknown unbuilt\n"),
+            Cause::WideComparison { .. } => format!(in alloc; "Unknown width\n"),
         }
     }
 
@@ -218,7 +218,9 @@ impl Cause {
             Cause::Unsettled { subformula } => {
                 append_number(out, "subformula ", *subformula as usize)
             }
-            Cause::Unbuilt => Ok(()),
+            Cause::WideComparison { subformula } => {
+                append_number(out, "subformula ", *subformula as usize)
+            }
         }
     }
 }

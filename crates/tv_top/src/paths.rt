@@ -5,6 +5,10 @@ ghost use Rattle.tv_program.specs.Programs.{system_of};
 ghost use Rattle.tv_formula.specs.Properties.{Property};
 ghost use Rattle.tv_cases.specs.Systems.{cases_of};
 ghost use Rattle.tv_cert.specs.Claims.{IsClaim};
+ghost use Rattle.tv_cert.specs.declared.claim.Claim.{Claim};
+ghost use Rattle.tv_farkas.specs.declared.budget.Budget.{Budget};
+ghost use Rattle.tv_pre.specs.Finding.{IsGapOf};
+ghost use Rattle.tv_pre.specs.Proving.{IsUnproved};
 ghost use Rattle.tv_top.specs.Finding.{IsLabelAt, AreTooManyPieces, IsDrawnAt, NoneDraws};
 ghost use Rattle.tv_top.specs.Searching.{IsOfOne, AnswersRegion, AnswersRefusal, AnswersLeft, AnswersUnproved, IsFormulaAnswer};
 
@@ -89,12 +93,13 @@ fn first_drawn(about: &Cases) -> Option<u32>
 
 /// The answer where a region may lack states.
 fn left(about: &Cases, gap: Gap) -> Answer
+    requires { IsGapOf (cases_of about.now) gap }
     ensures { AnswersLeft (cases_of about.now) gap result }
 {
     match gap {
         Gap::Inexact => match first_drawn(about) {
             Some(case) => Answer::Unknown(Cause::Drawn { case }),
-            None => Answer::Unknown(Cause::Unbuilt),
+            None => unreachable!(),
         },
         Gap::Open { place } => Answer::Unknown(Cause::Unsettled { subformula: place }),
     }
@@ -102,12 +107,13 @@ fn left(about: &Cases, gap: Gap) -> Answer
 
 /// The answer where there is no certificate of a formula.
 fn unproved(alloc: Global, program: &Program, about: &Cases, why: Unproved) -> Answer
+    requires { (claim : Claim) × (budget : Budget) × IsUnproved (cases_of about.now) claim budget why }
     ensures { AnswersUnproved (system_of program.now) (cases_of about.now) why result }
 {
     match why {
         Unproved::Refused(fault) => refused(alloc, program, fault),
         Unproved::Left(gap) => left(about, gap),
-        Unproved::Told => Answer::Unknown(Cause::Unbuilt),
+        Unproved::Wide { place } => Answer::Unknown(Cause::WideComparison { subformula: place }),
     }
 }
 

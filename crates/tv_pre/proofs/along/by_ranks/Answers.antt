@@ -5,6 +5,8 @@ use Rattle.tv_pre.specs.RankedAlong.{IsRankedAlong}
 use Rattle.tv_pre.specs.Search.{system_of}
 use Rattle.tv_pre.proofs.AlongLemmas.{along_less, given_less}
 use Rattle.tv_pre.proofs.PassedLemmas.{passed_on}
+use Rattle.tv_formula.specs.Properties.{fix}
+use Rattle.tv_pre.proofs.FullAlongLemmas.{all_full}
 use Rattle.tv_pre.proofs.along.by_ranks.Goals as goal
 
 pub returns-in_err-part-clause-refused : goal.returns-in_err-part-clause-refused
@@ -25,3 +27,10 @@ returns-in-Everywhere-clause-along c =
     let end = c.args.end in
     let told = subst (IsRankedAlong about sides children end) c.in-Everywhere.is c.in_ok-part.ensures.along in
     along_less about 1 (last + 2) end (arguments sides) sides children c.in-Everywhere.part (omega arith) c.requires.built told.0
+
+pub returns-in-Everywhere-clause-full : goal.returns-in-Everywhere-clause-full
+returns-in-Everywhere-clause-full c none f g x y =
+    let about = system_of c.args.search.now in
+    let sides = c.args.sides.now in
+    let told = subst (IsRankedAlong about sides c.args.children.items c.args.end) c.in-Everywhere.is c.in_ok-part.ensures.along in
+    all_full about (fix sides.path sides.shape f g) c.in-Everywhere.part.region told.1

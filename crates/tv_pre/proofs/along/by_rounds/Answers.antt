@@ -24,12 +24,12 @@ returns-then-not-is_tame-clause-along c =
 pub growing-requires-clause-tame : goal.growing-requires-clause-tame
 growing-requires-clause-tame c =
     let about = system_of c.args.search.now in
-    subst (λ hold. IsTameFor about hold c.args.end) c.hold_of.ensures (c.is_tame.ensures c.if-not-is_tame.false)
+    subst (λ hold. IsTameFor about hold c.args.end) c.hold_of.ensures (c.is_tame.ensures.tame c.if-not-is_tame.false)
 
 pub shrinking-requires-clause-tame : goal.shrinking-requires-clause-tame
 shrinking-requires-clause-tame c =
     let about = system_of c.args.search.now in
-    subst (λ hold. IsTameFor about hold c.args.end) c.hold_of.ensures (c.is_tame.ensures c.if-not-is_tame.false)
+    subst (λ hold. IsTameFor about hold c.args.end) c.hold_of.ensures (c.is_tame.ensures.tame c.if-not-is_tame.false)
 
 pub returns-in_err-growing-clause-refused : goal.returns-in_err-growing-clause-refused
 returns-in_err-growing-clause-refused c =

@@ -1,4 +1,4 @@
-use Rattle.std.proofs.Common.{◌⊎◌, ◌≤◌, ◌+◌, ◌∷◌, length, arith}
+use Rattle.std.proofs.Common.{◌⊎◌, ◌≤◌, ◌+◌, ◌∷◌, length, subst, arith}
 use Rattle.tv_pre.specs.Search.{system_of}
 use Rattle.tv_pre.specs.Questions.{Question}
 use Rattle.tv_pre.specs.Along.{arguments}
@@ -7,6 +7,9 @@ use Rattle.tv_pre.specs.Growing.{AsksLayers}
 use Rattle.tv_pre.specs.Built.{IsFaultOf}
 use Rattle.tv_pre.proofs.PassedLemmas.{passed_on, cover_fault, fault_again}
 use Rattle.tv_pre.proofs.AlongLemmas.{first_layers, settled_layers, open_layers, until_asked, until_built, answer_built, is_along}
+use Rattle.tv_rounds.specs.Answers.{IsFullBy}
+use Rattle.tv_known.specs.Rounds.{must_end}
+use Rattle.tv_pre.proofs.FullAlongLemmas.{grown_full}
 use Rattle.tv_pre.proofs.along.growing.Goals as goal
 
 pub returns-in_err-layers-clause-refused : goal.returns-in_err-layers-clause-refused
@@ -59,6 +62,18 @@ returns-in-Settled-clause-along c =
     is_along about (last + 1) sides c.args.children.items c.in_ok-part-in-Settled.part (end ∷ layers) (end ∷ arguments sides) c.in_ok-part-in-Settled.ensures.region
     (λ f g w. c.in_ok-part-in-Settled.ensures.part f g w)
     (λ s h m. until_built about last sides end s h m layers (answer_built about last sides end s h m c.in_ok-layers.field-0 rounds layers few told.layers.each c.variables-variables.ensures.limits.cases))
+
+pub returns-in-Settled-clause-full : goal.returns-in-Settled-clause-full
+returns-in-Settled-clause-full c none =
+    let about = system_of c.args.search.now in
+    let last = c.args.search.now.last in
+    let sides = c.args.sides.now in
+    let end = c.args.end in
+    let round = c.in-Settled.region in
+    let rounds = c.in_ok-layers.ensures.rounds in
+    let told = settled_layers about last sides end c.in_ok-layers.field-0 round c.in-Settled.at c.in-Settled.layers c.in-Settled.is c.requires.shape rounds in
+    grown_full about c.variables-variables.ensures.limits.cases sides end rounds.point rounds.of c.requires.sides c.requires.end last round c.in_ok-part-in-Settled.part.region c.in-Settled.at c.in-Settled.layers.items c.requires.shape told
+    (subst (IsFullBy (must_end sides.shape) about rounds.point) c.in-Settled.is rounds.full) c.in_ok-part-in-Settled.ensures.region
 
 pub until-requires-in-Open-clause-layers : goal.until-requires-in-Open-clause-layers
 until-requires-in-Open-clause-layers c =

@@ -49,4 +49,5 @@ returns-clause-rounds c =
       tame = tame_sides about sides end point of c.requires.tame;
       rounds = c.in_ok-answer.ensures.rounds;
       exact = c.in_ok-answer.ensures.exact;
+      full = c.in_ok-answer.ensures.full;
     }

@@ -7,6 +7,9 @@ use Rattle.tv_pre.specs.Built.{IsFaultOf, IsPreFault}
 use Rattle.tv_pre.proofs.BuiltLemmas.{all_built_to, fault_to}
 use Rattle.tv_pre.proofs.PassedLemmas.{passed_on, cover_fault, fault_again}
 use Rattle.tv_pre.proofs.AlongLemmas.{settled_stays, settled_round, round_sides, round_built, weak_built, weak_asked, is_along, along_more}
+use Rattle.tv_rounds.specs.Answers.{IsFullBy}
+use Rattle.tv_known.specs.Rounds.{must_end}
+use Rattle.tv_pre.proofs.FullAlongLemmas.{shrunk_full}
 use Rattle.tv_pre.proofs.along.shrinking.Goals as goal
 
 pub returns-in_err-region-clause-refused : goal.returns-in_err-region-clause-refused
@@ -80,6 +83,17 @@ returns-in-Settled-clause-along c =
     is_along about (last + 1) sides c.args.children.items c.in_ok-part-in-Settled.part (end ∷ onward ∷ []) (end ∷ arguments sides) c.in_ok-part-in-Settled.ensures.region
     (λ f g w. c.in_ok-part-in-Settled.ensures.part f g w)
     (λ s h m. weak_built about last sides end s h m onward (c.in_ok-more-in-Settled.ensures.built s (last + h) (round_sides about last sides end s h m round (round_built about last sides end s h m c.in_ok-region.field-0 rounds c.in-Settled.at round told.early told.round))))
+
+pub returns-in-Settled-clause-full : goal.returns-in-Settled-clause-full
+returns-in-Settled-clause-full c none =
+    let about = system_of c.args.search.now in
+    let sides = c.args.sides.now in
+    let end = c.args.end in
+    let round = c.in-Settled.region in
+    let rounds = c.in_ok-region.ensures.rounds in
+    let told = settled_round about c.args.search.now.last sides end c.in_ok-region.field-0 round c.in-Settled.at c.in-Settled.layers c.in-Settled.is c.requires.shape rounds in
+    shrunk_full about c.variables-variables.ensures.limits.cases sides end rounds.point rounds.of c.requires.sides c.requires.end c.in-Settled.at round c.in_ok-more-in-Settled.more c.in_ok-part-in-Settled.part.region told.round told.settled rounds.tame c.in_ok-more-in-Settled.ensures.onward
+    (subst (IsFullBy (must_end sides.shape) about rounds.point) c.in-Settled.is rounds.full) c.in_ok-part-in-Settled.ensures.region
 
 pub returns-in_err-part-in-Open-clause-refused : goal.returns-in_err-part-in-Open-clause-refused
 returns-in_err-part-in-Open-clause-refused c =

@@ -37,7 +37,7 @@ all_found-returns-in_err-found-clause-refused_one t c =
 pub all_found-aims-preserved : goal.all_found-aims-preserved
 all_found-aims-preserved t c =
     let made = c.in_ok-arguments.ensures in
-    (arguments_more (system_of c.args.search.now) c.args.search.now.last c.args.aims.now c.aims.aim-index c.aim-item.result c.in_ok-found.found c.aims.arguments c.in_ok-arguments.arguments c.aims-test.true c.aim-item.is c.aims.invariant.0 c.in_ok-found.ensures.found made.regions made.nodes made.size, even_later (system_of c.args.search.now).variables c.args.aims.now (c.aims.aim-index + 1) c.requires.even)
+    (arguments_more (system_of c.args.search.now) c.args.search.now.last c.args.aims.now c.aims.aim-index c.aim-item.result c.in_ok-found.found c.aims.arguments c.in_ok-arguments.arguments c.aims-test.true c.aim-item.is c.aims.invariant.0 c.in_ok-found.ensures.found made.regions made.nodes made.size made.gap, even_later (system_of c.args.search.now).variables c.args.aims.now (c.aims.aim-index + 1) c.requires.even)
 
 pub found_of-each_found-requires-clause-arguments : goal.found_of-each_found-requires-clause-arguments
 found_of-each_found-requires-clause-arguments t c =

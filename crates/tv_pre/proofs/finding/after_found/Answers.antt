@@ -7,6 +7,7 @@ use Rattle.tv_cert.specs.Statements as statements
 use Rattle.tv_region.specs.Regions.{IsRegion}
 use Rattle.tv_pre.specs.Parts.{IsPart, AreParts}
 use Rattle.tv_pre.specs.Search.{system_of}
+use Rattle.tv_pre.specs.Along.{OthersLeadOut}
 use Rattle.tv_pre.specs.Built.{IsBuiltOf}
 use Rattle.tv_pre.specs.Finding.{IsFound, IsRefusedFor}
 use Rattle.tv_pre.proofs.PassedLemmas.{passed_on}
@@ -43,4 +44,5 @@ returns-clause-found c s h =
     (subst (IsRegion about.variables about.locations) same c.in_ok-region.ensures.before.over)
     (λ f w. subst (λ (r : Region). IsPart about (props.next c.args.path f) r part.node) same (c.in_ok-part.ensures.part f (subst (AreParts about (more f none) (child.part.region ∷ [])) (sym children) w)))
     (subst (IsBuiltOf about 1 (child.part.region ∷ [])) same c.in_ok-region.ensures.built)
-    c.in_ok-size.ensures
+    c.in_ok-size.ensures c.variables-variables.ensures.limits.cases c.in_ok-gap.ensures.none
+    (subst (OthersLeadOut about c.args.path child.part.region) same c.in_ok-region.ensures.others) c.in_ok-gap.ensures.gap

@@ -1,12 +1,13 @@
 use Rattle.std.proofs.Common.{◌≡◌, ◌∙◌, [], ◌∷◌, ◌++◌, ap, sym, subst, ◌+◌}
+use Rattle.std.specs.Prelude.{IfSome}
 use Rattle.tv_formula.specs.Properties.{none, more}
 use Rattle.tv_cert.specs.Statements.{Statement}
 use Rattle.tv_cert.specs.Statements as statements
 use Rattle.tv_pre.specs.Parts.{AreParts}
 use Rattle.tv_pre.specs.Search.{system_of}
-use Rattle.tv_pre.specs.Finding.{IsFound, IsRefusedFor}
+use Rattle.tv_pre.specs.Finding.{IsGapOf, IsFound, IsRefusedFor}
 use Rattle.tv_pre.proofs.PassedLemmas.{passed_on}
-use Rattle.tv_pre.proofs.FoundLemmas.{along_is_found, along_fault}
+use Rattle.tv_pre.proofs.FoundLemmas.{along_is_found, along_fault, none_of_two, none_behind, gap_of_two, gap_kept}
 use Rattle.tv_pre.proofs.finding.along_found.Goals as goal
 
 pub returns-in_err-part-clause-refused : goal.returns-in_err-part-clause-refused
@@ -29,3 +30,12 @@ returns-clause-found c s t h g =
     along_is_found about last c.args.path c.args.shape s t c.args.first c.args.second h g _ along.over
     (λ f k w. along.shows f k (subst (AreParts about (more f (more k none)) (c.args.first.part.region ∷ c.args.second.part.region ∷ [])) (sym children) w))
     along.built (c.in_ok-size.ensures ∙ ap (λ k. 1 + k) c.in_ok-added.ensures)
+    (λ whole.
+    (let parted = none_of_two _ _ (sym c.first_gap-gap.ensures ∙ whole) in
+    let sides = none_of_two _ _ (sym c.first_gap.ensures ∙ parted.1) in
+    (none_behind _ c.args.first.gap (sym c.in_ok-left.ensures ∙ sides.0), none_behind _ c.args.second.gap (sym c.in_ok-right.ensures ∙ sides.1), λ f k x y. c.in_ok-part.ensures.full parted.0 f k x y)))
+    (λ a b.
+    (let left = subst (λ o. IfSome o (IsGapOf about)) (sym c.in_ok-left.ensures) (gap_kept about _ c.args.first.gap a) in
+    let right = subst (λ o. IfSome o (IsGapOf about)) (sym c.in_ok-right.ensures) (gap_kept about _ c.args.second.gap b) in
+    let sides = subst (λ o. IfSome o (IsGapOf about)) (sym c.first_gap.ensures) (gap_of_two about _ _ left right) in
+    subst (λ o. IfSome o (IsGapOf about)) (sym c.first_gap-gap.ensures) (gap_of_two about _ _ c.in_ok-part.ensures.gap sides)))

@@ -5,6 +5,8 @@ use Rattle.tv_formula.specs.Properties as props
 use Rattle.tv_cert.specs.AimViews.{statements_of}
 use Rattle.tv_cert.specs.Statements.{Statement}
 use Rattle.tv_cert.specs.Statements as statements
+use Rattle.tv_program.specs.Steps.{State}
+use Rattle.tv_known.specs.Cycles.{IsStateOf}
 use Rattle.tv_region.specs.Regions.{IsRegion}
 use Rattle.tv_region.specs.StepRegions.{InState}
 use Rattle.tv_pre.specs.Inclusions.{OfPieces}
@@ -58,4 +60,6 @@ returns-clause-found c ss h =
     (subst (IsRegion about.variables about.locations) same c.in_ok-region.ensures.over)
     (λ fs w. subst (λ (r : Region). IsPart about (props.all_of fs) r part.node) same (c.in_ok-part.ensures.part fs (subst (λ rs. AreParts about fs rs arguments.nodes.items) (sym c.deref-2.ensures.value) w)))
     (subst (IsBuiltOf about 0 arguments.regions.items) same (subst (λ rs. IsBuiltOf about 0 rs c.in_ok-region.region) c.deref.ensures.value c.in_ok-region.ensures.built))
-    (c.in_ok-size.ensures ∙ ap (λ k. 1 + k) h.size)
+    (c.in_ok-size.ensures ∙ ap (λ k. 1 + k) h.size) h.full
+    (subst (λ (r : Region). (s : State) → IsStateOf about s → All (λ x. InState x s) arguments.regions.items → InState r s) same
+    (subst (λ rs. (s : State) → IsStateOf about s → All (λ x. InState x s) rs → InState c.in_ok-region.region s) c.deref.ensures.value c.in_ok-region.ensures.all)) h.gap

@@ -1,4 +1,4 @@
-use Rattle.std.proofs.Common.{◌≡◌, ◌∙◌, List, ap, sym, subst, ◌+◌}
+use Rattle.std.proofs.Common.{◌≡◌, ◌∙◌, All, List, ap, sym, subst, ◌+◌}
 use Rattle.tv_linear.specs.declared.region.Region.{Region}
 use Rattle.tv_formula.specs.Properties.{Properties}
 use Rattle.tv_formula.specs.Properties as props
@@ -6,6 +6,7 @@ use Rattle.tv_cert.specs.AimViews.{statements_of}
 use Rattle.tv_cert.specs.Statements.{Statement}
 use Rattle.tv_cert.specs.Statements as statements
 use Rattle.tv_region.specs.Regions.{IsRegion}
+use Rattle.tv_region.specs.StepRegions.{InState}
 use Rattle.tv_pre.specs.Pieces.{InPieces}
 use Rattle.tv_pre.specs.Inclusions.{OfPieces}
 use Rattle.tv_pre.specs.Questions.{lies, IsRefusal, AsksOf}
@@ -58,4 +59,6 @@ returns-clause-found c ss h =
     (subst (IsRegion about.variables about.locations) same c.in_ok-region.ensures.over)
     (λ fs w. subst (λ (r : Region). IsPart about (props.some_of fs) r part.node) same (c.in_ok-part.ensures.part fs (subst (λ rs. AreParts about fs rs arguments.nodes.items) (sym c.deref-2.ensures.value) w)))
     (subst (IsBuiltOf about 0 arguments.regions.items) same (subst (λ rs. IsBuiltOf about 0 rs c.in_ok-region.region) c.deref.ensures.value c.in_ok-region.ensures.built))
-    (c.in_ok-size.ensures ∙ ap (λ k. 1 + k) h.size)
+    (c.in_ok-size.ensures ∙ ap (λ k. 1 + k) h.size) h.full
+    (subst (λ (r : Region). All (λ x. OfPieces about x.pieces.items (InState r)) arguments.regions.items) same
+    (subst (All (λ x. OfPieces about x.pieces.items (InState c.in_ok-region.region))) c.deref.ensures.value c.in_ok-region.ensures.all)) h.gap

@@ -4,7 +4,7 @@ use Rattle.tv_rounds.proofs.SetLemmas.{as_first}
 use Rattle.tv_pre.specs.Built.{in_either, IsFaultOf}
 use Rattle.tv_pre.proofs.BuiltLemmas.{member_built}
 use Rattle.tv_pre.proofs.PassedLemmas.{passed_on, region_fault}
-use Rattle.tv_pre.proofs.SetLemmas.{whole_first, whole_more, item_over}
+use Rattle.tv_pre.proofs.SetLemmas.{whole_first, whole_more, whole_all, item_over}
 use Rattle.tv_pre.proofs.regions.union.Goals as goal
 
 pub regions-init : goal.regions-init
@@ -38,3 +38,6 @@ regions-preserved c =
     let regions = c.args.regions.now in
     let item = item_over about regions c.regions.region-index c.region-item.result c.regions-test.true c.region-item.is c.requires.regions in
     whole_more about regions c.regions.region-index c.regions.whole c.region-item.result c.in_ok-whole.whole c.regions-test.true c.region-item.is item c.regions.invariant c.in_ok-whole.ensures.either
+
+pub returns-clause-all : goal.returns-clause-all
+returns-clause-all c = whole_all (cases_of c.args.setting.now.about.now) c.args.regions.now c.regions.region-index c.regions.whole c.regions-test.false c.regions.invariant

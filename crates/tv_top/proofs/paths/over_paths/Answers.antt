@@ -16,3 +16,6 @@ returns-in-Err c = λ f is.
         shows = subst (λ b. IsUnproved (cases_of search.about.now) claim b c.in-Err.why) c.budget_of-budget.ensures.exact c.in-Err.ensures.unproved;
       },
     )
+
+pub unproved-requires : goal.unproved-requires
+unproved-requires c = (c.args.search.now.claim.now, c.budget_of-budget.result, c.in-Err.ensures.unproved)
