@@ -6,4 +6,6 @@ mod disproofs;
 #[cfg(test)]
 mod proofs;
 #[cfg(test)]
+mod regions;
+#[cfg(test)]
 mod saying;

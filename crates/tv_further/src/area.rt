@@ -1,5 +1,7 @@
-use crate::combining::{copies, push_all_tight};
+use crate::combining::copies;
+use crate::cutting::push_strongest;
 use crate::limits::AREAS;
+use crate::question::Question;
 use crate::solving::{Effort, denied, may_have_point};
 use std::alloc::{AllocError, Global};
 use tv_linear::Row;
@@ -9,6 +11,16 @@ use tv_linear::Row;
 pub(crate) struct Area {
     pub location: u32,
     pub rows: Vec<Row>,
+}
+
+/// Each location whole, in their order.
+pub(crate) fn whole_locations(question: &Question) -> Result<Vec<Area>, AllocError> {
+    let mut areas = Vec::new(question.alloc);
+    for location in 0..question.about.locations() {
+        let rows = Vec::new(question.alloc);
+        areas.push(Area { location, rows })?;
+    }
+    Ok(areas)
 }
 
 /// The rows of the areas at the location, in their order.
@@ -26,7 +38,7 @@ pub(crate) fn lists_at(
     Ok(lists)
 }
 
-/// The rows of both lists, tightened, each once; `None` where no point meets them all.
+/// The rows of both lists, tightened, the strongest of those with the same coefficients; `None` where no point meets them all.
 pub(crate) fn both(
     alloc: Global,
     columns: usize,
@@ -35,7 +47,7 @@ pub(crate) fn both(
     effort: &mut Effort,
 ) -> Result<Option<Vec<Row>>, AllocError> {
     let mut rows = Vec::new(alloc);
-    if !push_all_tight(alloc, first, &mut rows)? || !push_all_tight(alloc, second, &mut rows)? {
+    if !push_strongest(alloc, first, &mut rows)? || !push_strongest(alloc, second, &mut rows)? {
         return Ok(None);
     }
     if may_have_point(alloc, &rows, columns, effort)? {
@@ -72,7 +84,7 @@ pub(crate) fn each_with_each(
 }
 
 /// The denials of the rows, each as a list of its own; `None` where one is too wide.
-fn denials(alloc: Global, rows: &[Row]) -> Result<Option<Vec<Vec<Row>>>, AllocError> {
+pub(crate) fn denials(alloc: Global, rows: &[Row]) -> Result<Option<Vec<Vec<Row>>>, AllocError> {
     let mut lists = Vec::new(alloc);
     for row in rows {
         let Some(denial) = denied(alloc, row)? else {

@@ -105,6 +105,34 @@ pub(crate) fn less(
     )
 }
 
+/// The sum of a multiple of each of two rows, over so many columns.
+pub(crate) fn with_multiples(
+    alloc: Global,
+    columns: usize,
+    first: (&Row, i128),
+    second: (&Row, i128),
+) -> Result<Option<Row>, AllocError> {
+    let mut coefficients = Vec::new(alloc);
+    for column in 0..columns {
+        let left = i128::from(coefficient_at(first.0, column));
+        let right = i128::from(coefficient_at(second.0, column));
+        match sum_of((left, first.1), (right, second.1)) {
+            None => return Ok(None),
+            Some(number) => coefficients.push(number)?,
+        }
+    }
+    let constant = sum_of(
+        (first.0.constant(), first.1),
+        (second.0.constant(), second.1),
+    );
+    row_of(alloc, &coefficients, constant)
+}
+
+/// The sum of two products.
+fn sum_of(first: (i128, i128), second: (i128, i128)) -> Option<i128> {
+    add_product(add_product(0, first.0, first.1)?, second.0, second.1)
+}
+
 /// The row that is 1 in one column; that of zeros past the last.
 pub(crate) fn unit_row(
     alloc: Global,

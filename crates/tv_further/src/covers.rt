@@ -4,11 +4,10 @@ use crate::area::{Area, lists_at};
 use crate::combining::copies;
 use crate::limits::{PIVOTS, SPLITS};
 use crate::solving::Effort;
-use crate::way::Way;
 use std::alloc::{AllocError, Global};
 use tv_cover::{Covered, are_even, cover, is_even};
 use tv_farkas::{Budget, CoverFault};
-use tv_linear::{ChoiceTree, Cover, CoverTree, Poly, Row};
+use tv_linear::{Cover, CoverTree, Poly, Row};
 
 /// A target of a cover: its rows, and the number and the fall by which it is entered.
 #[derive(Drop)]
@@ -55,7 +54,7 @@ fn covered_by(
 }
 
 /// Copies of lists of numbers.
-fn lines_copied(alloc: Global, lines: &[Vec<i64>]) -> Result<Vec<Vec<i64>>, AllocError> {
+pub(crate) fn lines_copied(alloc: Global, lines: &[Vec<i64>]) -> Result<Vec<Vec<i64>>, AllocError> {
     let mut all = Vec::new(alloc);
     for line in lines {
         all.push(Vec::from_slice(alloc, line)?)?;
@@ -135,43 +134,4 @@ pub(crate) fn cover_into(
 ) -> Result<Option<Cover>, AllocError> {
     let targets = targets_at(alloc, areas, location)?;
     cover_by(alloc, columns, rows, &targets, effort)
-}
-
-/// The choice that the tree is, where target `k` is to take way `k`, wherever it leads.
-pub(crate) fn choice_of(
-    alloc: Global,
-    tree: &CoverTree,
-    ways: &[Way],
-) -> Result<Option<ChoiceTree>, AllocError> {
-    match tree {
-        CoverTree::Split(row, holds, fails) => {
-            let Some(holds) = choice_of(alloc, holds, ways)? else {
-                return Ok(None);
-            };
-            let Some(fails) = choice_of(alloc, fails, ways)? else {
-                return Ok(None);
-            };
-            let holds = Box::new(alloc, holds)?;
-            let fails = Box::new(alloc, fails)?;
-            Ok(Some(ChoiceTree::Split(row.copy(alloc)?, holds, fails)))
-        }
-        CoverTree::Empty(multipliers) => Ok(Some(ChoiceTree::Empty(Vec::from_slice(
-            alloc,
-            multipliers,
-        )?))),
-        CoverTree::Into {
-            target,
-            fall: _,
-            refutations,
-        } => match ways.get(*target as usize) {
-            None => Ok(None),
-            Some(way) => Ok(Some(ChoiceTree::Take {
-                taken: way.number,
-                target: 0,
-                fall: 0,
-                draws: copies(alloc, &way.draws)?,
-                refutations: lines_copied(alloc, refutations)?,
-            })),
-        },
-    }
 }

@@ -1,38 +1,70 @@
-// Fixed points: ways to settle each are tried in order, and the first that finds something is taken.
+// Fixed points: the first of the ways that finds something is taken, and what it finds grows by rounds.
 
-use crate::found::{Found, part_found};
+use crate::found::{Found, end_alone, part_found};
+use crate::kept::with_kept;
+use crate::layers::with_layers;
+use crate::limits::CUTS;
 use crate::question::Question;
 use crate::region_part::Part;
 use crate::sides::{Sides, common_areas};
 use crate::solving::Effort;
 use crate::until_by_ranks::every_until_by_ranks;
-use crate::weak_every::every_weak_by_areas;
 use std::alloc::{AllocError, Global};
 use tv_cert::Node;
 use tv_formula::{Path, Shape};
 
-/// Where every path comes to the end, and holds until then.
-fn every_path_to_end(
+/// What a way finds of a fixed point that comes to the end, from which layers go on: at least the end.
+fn first_ending(
     question: &Question,
+    path: &Path,
     sides: &Sides,
     effort: &mut Effort,
 ) -> Result<Option<Found>, AllocError> {
-    if let Some(found) = every_until_by_ranks(question, sides, effort)? {
+    if *path == Path::Every
+        && let Some(found) = every_until_by_ranks(question, sides, effort)?
+    {
         return Ok(Some(found));
     }
-    Ok(None)
+    end_alone(question, sides, 1, effort)
 }
 
-/// Where every path holds until the end, or for ever.
-fn every_path_kept(
+/// What the ways find of a fixed point that comes to the end.
+fn ending(
+    question: &Question,
+    path: &Path,
+    sides: &Sides,
+    effort: &mut Effort,
+) -> Result<Option<Found>, AllocError> {
+    match first_ending(question, path, sides, effort)? {
+        None => Ok(None),
+        Some(found) => Ok(Some(with_layers(question, path, sides, found, effort)?)),
+    }
+}
+
+/// What a way finds of a fixed point that may go on for ever, to which areas are added: at least the end.
+fn first_keeping(
     question: &Question,
     sides: &Sides,
     effort: &mut Effort,
 ) -> Result<Option<Found>, AllocError> {
-    if let Some(found) = every_weak_by_areas(question, sides, effort)? {
-        return Ok(Some(found));
+    end_alone(question, sides, 0, effort)
+}
+
+/// What the ways find of a fixed point that may go on for ever: first with cuts, and then from whole areas.
+fn keeping(
+    question: &Question,
+    path: &Path,
+    sides: &Sides,
+    effort: &mut Effort,
+) -> Result<Option<Found>, AllocError> {
+    match first_keeping(question, sides, effort)? {
+        None => Ok(None),
+        Some(found) => {
+            let cut = with_kept(question, path, sides, found, CUTS, effort)?;
+            let whole = with_kept(question, path, sides, cut, 0, effort)?;
+            Ok(Some(whole))
+        }
     }
-    Ok(None)
 }
 
 /// What the ways find of a fixed point with these arguments.
@@ -43,20 +75,19 @@ fn found_by_ways(
     sides: &Sides,
     effort: &mut Effort,
 ) -> Result<Option<Found>, AllocError> {
-    match (path, shape) {
-        (Path::Every, Shape::Until | Shape::Strong) => every_path_to_end(question, sides, effort),
-        (Path::Every, Shape::Weak | Shape::Release) => every_path_kept(question, sides, effort),
-        (Path::Any, _) => Ok(None),
+    match shape {
+        Shape::Until | Shape::Strong => ending(question, path, sides, effort),
+        Shape::Weak | Shape::Release => keeping(question, path, sides, effort),
     }
 }
 
 /// What is found of a fixed point whose arguments both are to hold at the end.
-fn found_with_both(
+fn found_with_both<'a>(
     question: &Question,
     path: &Path,
     shape: &Shape,
-    first: &Part,
-    second: &Part,
+    first: &'a Part,
+    second: &'a Part,
     effort: &mut Effort,
 ) -> Result<Option<Found>, AllocError> {
     let Some(end) = common_areas(question, &first.areas, &second.areas, effort)? else {
@@ -72,12 +103,12 @@ fn found_with_both(
 }
 
 /// What is found of a fixed point whose second argument is to hold at the end.
-fn found_with_second(
+fn found_with_second<'a>(
     question: &Question,
     path: &Path,
     shape: &Shape,
-    first: &Part,
-    second: &Part,
+    first: &'a Part,
+    second: &'a Part,
     effort: &mut Effort,
 ) -> Result<Option<Found>, AllocError> {
     let sides = Sides {

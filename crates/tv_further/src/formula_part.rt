@@ -3,7 +3,7 @@
 use crate::atom_part::atom_part;
 use crate::fixed_part::fixed_part;
 use crate::joined_part::{each_of, one_of};
-use crate::next_part::after_each;
+use crate::next_part::{after_each, after_some};
 use crate::question::Question;
 use crate::region_part::Part;
 use crate::solving::Effort;
@@ -31,6 +31,10 @@ pub(crate) fn part_of(
         Aim::After(Path::Every, inner) => match part_of(question, inner, effort)? {
             None => Ok(None),
             Some(part) => after_each(question, part, effort),
+        },
+        Aim::After(Path::Any, inner) => match part_of(question, inner, effort)? {
+            None => Ok(None),
+            Some(part) => after_some(question, part, effort),
         },
         Aim::Along(path, shape, first, second) => {
             let Some(first) = part_of(question, first, effort)? else {

@@ -3,7 +3,9 @@
 use crate::question::Question;
 use crate::ranks::Ranks;
 use crate::region_part::{Part, piece_of};
-use crate::stages::Stages;
+use crate::sides::Sides;
+use crate::solving::Effort;
+use crate::stages::{Stages, push_copied};
 use std::alloc::{AllocError, Global};
 use tv_cert::{Mark, Marked, Node, Proof};
 use tv_linear::Row;
@@ -20,10 +22,30 @@ pub(crate) struct Found {
     pub proofs: Vec<Proof>,
 }
 
-/// No ranks.
-pub(crate) fn no_ranks(alloc: Global) -> Ranks {
-    let rows = Vec::new(alloc);
-    Ranks { rows, count: 0 }
+/// The areas at the end alone, with so many ranks for others; `None` where one of them is not shown to be at the end.
+pub(crate) fn end_alone(
+    question: &Question,
+    sides: &Sides,
+    count: u32,
+    effort: &mut Effort,
+) -> Result<Option<Found>, AllocError> {
+    let alloc = question.alloc;
+    let mut proofs = Vec::new(alloc);
+    let mut rows = Vec::new(alloc);
+    for area in sides.end {
+        if !sides.push_done(question, area, effort, &mut proofs)? {
+            return Ok(None);
+        }
+        rows.push(Vec::new(alloc))?;
+    }
+    let mut areas = Vec::new(alloc);
+    push_copied(alloc, sides.end, &mut areas)?;
+    let done = areas.len();
+    Ok(Some(Found {
+        stages: Stages { done, areas },
+        ranks: Ranks { rows, count },
+        proofs,
+    }))
 }
 
 /// The ranks of the area at this place.

@@ -1,14 +1,16 @@
-use crate::area::{Area, place_among};
+use crate::area::{Area, both, place_among, whole_locations};
 use crate::combining::copies;
-use crate::covers::{Target, choice_of, cover_by, cover_into};
+use crate::covers::{Target, cover_by, cover_into};
+use crate::cutting::is_inside_any;
+use crate::entering::entries_from;
 use crate::passage::{rows_entered, rows_left, width_of};
 use crate::question::Question;
 use crate::solving::Effort;
-use crate::way::{Way, ways_under};
+use crate::taking::{Move, Taken, choice_by, push_choice};
 use std::alloc::{AllocError, Global};
 use tv_cases::Case;
 use tv_cert::{Mark, Marked, Node, Proof};
-use tv_linear::{Choice, Cover, Row};
+use tv_linear::{Cover, Row};
 use tv_points::node_of;
 
 /// A formula where it is shown to hold: its node, and the areas of its pieces, in their order.
@@ -171,15 +173,21 @@ pub(crate) fn push_steps_into(
     Ok(true)
 }
 
-/// The ways from the location.
-fn ways_from(question: &Question, location: u32) -> Result<Vec<Way>, AllocError> {
-    let mut ways = Vec::new(question.alloc);
-    for way in ways_under(question, None)? {
-        if way.from == location {
-            ways.push(way)?;
-        }
+/// A move for each way to step from the location, wherever it leads.
+fn moves_from(question: &Question, location: u32) -> Result<Vec<Move>, AllocError> {
+    let everywhere = whole_locations(question)?;
+    let mut moves = Vec::new(question.alloc);
+    for entry in entries_from(question, location, &everywhere, 0)? {
+        let taken = Some(Taken {
+            number: entry.number,
+            draws: entry.draws,
+            target: 0,
+            fall: 0,
+        });
+        let rows = entry.rows;
+        moves.push(Move { rows, taken })?;
     }
-    Ok(ways)
+    Ok(moves)
 }
 
 /// Puts the choice that some case can be taken from the area at the end of the list.
@@ -189,28 +197,33 @@ pub(crate) fn push_some_step(
     effort: &mut Effort,
     proofs: &mut Vec<Proof>,
 ) -> Result<bool, AllocError> {
+    let moves = moves_from(question, area.location)?;
+    push_choice(question, area, &moves, effort, proofs)
+}
+
+/// The parts of the area from each of which some case can be taken: the area itself, if it is so everywhere.
+pub(crate) fn live_parts(
+    question: &Question,
+    area: &Area,
+    effort: &mut Effort,
+) -> Result<Vec<Area>, AllocError> {
     let alloc = question.alloc;
     let columns = question.about.variables() as usize;
-    let ways = ways_from(question, area.location)?;
-    let mut targets = Vec::new(alloc);
-    let mut target: u32 = 0;
-    for way in &ways {
-        let rows = copies(alloc, &way.guards)?;
-        let fall = 0;
-        targets.push(Target { rows, target, fall })?;
-        target = target.saturating_add(1);
+    let location = area.location;
+    let moves = moves_from(question, location)?;
+    let mut parts = Vec::new(alloc);
+    if choice_by(question, area, &moves, effort)?.is_some() {
+        let rows = copies(alloc, &area.rows)?;
+        parts.push(Area { location, rows })?;
+        return Ok(parts);
     }
-    let Some(cover) = cover_by(alloc, columns, &area.rows, &targets, effort)? else {
-        return Ok(false);
-    };
-    let Some(tree) = choice_of(alloc, cover.tree(), &ways)? else {
-        return Ok(false);
-    };
-    match Choice::new(tree) {
-        None => Ok(false),
-        Some(choice) => {
-            proofs.push(Proof::Chosen(choice))?;
-            Ok(true)
+    for made in &moves {
+        if let Some(rows) = both(alloc, columns, &area.rows, &made.rows, effort)? {
+            let part = Area { location, rows };
+            if !is_inside_any(alloc, columns, &part, &parts, effort)? {
+                parts.push(part)?;
+            }
         }
     }
+    Ok(parts)
 }

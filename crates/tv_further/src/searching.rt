@@ -74,13 +74,13 @@ fn first_found(question: &Question, claim: &Claim) -> Result<Option<Further>, Al
     if let Some(found) = found_by(&ExplicitGraph, question, claim, &mut spent)? {
         return Ok(Some(found));
     }
+    if let Some(found) = found_by(&RankedRegions, question, claim, &mut spent)? {
+        return Ok(Some(found));
+    }
     if let Some(found) = found_by(&ClosedCycles, question, claim, &mut spent)? {
         return Ok(Some(found));
     }
-    if let Some(found) = found_by(&Walks, question, claim, &mut spent)? {
-        return Ok(Some(found));
-    }
-    found_by(&RankedRegions, question, claim, &mut spent)
+    found_by(&Walks, question, claim, &mut spent)
 }
 
 /// A certificate of the claim that a further search finds and the checker accepts: that of the first search that finds one.

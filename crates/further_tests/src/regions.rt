@@ -1,0 +1,151 @@
+use crate::saying::{Said, answer_to};
+use std::test::Fail;
+
+/// Counts down, and then goes round.
+const ROUND: &str =
+    "START: 0; FROM: 0; assume(x > 0); x := x - 1; TO: 0; FROM: 0; assume(x <= 0); TO: 1; FROM: 1; TO: 1;";
+
+/// Draws a number and counts it down.
+const DRAWING: &str =
+    "START: 0; FROM: 0; x := nondet(); TO: 1; FROM: 1; assume(x > 0); x := x - 1; TO: 1; FROM: 1; assume(x <= 0); TO: 2; \
+     FROM: 2; TO: 2;";
+
+/// A controller that may be stopped at any time, and is reset then.
+const CONTROLLER: &str =
+    "START: wait; FROM: wait; t := nondet(); TO: run; FROM: run; assume(t > 0); t := t - 1; TO: run; \
+     FROM: run; assume(t <= 0); TO: reset; FROM: run; TO: stop; FROM: stop; TO: reset; FROM: reset; TO: wait;";
+
+/// A lock is taken or not, and given back where it was taken.
+const LOCK: &str =
+    "START: 0; FROM: 0; l := 0; f := 0; TO: 1; FROM: 1; assume(l == 0); l := 1; f := 1; TO: 2; FROM: 1; f := 0; TO: 2; \
+     FROM: 2; n := n + 1; TO: 2; FROM: 2; assume(f == 1); TO: 3; FROM: 2; assume(f != 1); TO: 1; \
+     FROM: 3; assume(l != 1); TO: bad; FROM: 3; assume(l == 1); l := 0; TO: 1; FROM: bad; TO: bad;";
+
+/// Two counters that grow in turn.
+const PHASES: &str =
+    "START: 0; FROM: 0; p := 0; x := 0; y := 0; TO: 1; FROM: 1; assume(p == 0); x := x + 1; p := 1; TO: 1; \
+     FROM: 1; assume(p == 1); y := y + 1; p := 0; TO: 1; FROM: 1; assume(p == 0); assume(x != y); TO: bad; \
+     FROM: 1; assume(p != 0); assume(x != y + 1); TO: bad;";
+
+/// What was drawn is added to a number, which may go to location 1 while it is below 5.
+const GROWING: &str =
+    "START: 0; FROM: 0; assume(x > 0); x := x + y; y := nondet(); TO: 0; FROM: 0; assume(x < 5); x := x - 1; TO: 1; \
+     FROM: 1; assume(x < 0); TO: 1;";
+
+/// y is always twice x.
+const COUNTERS: &str =
+    "START: 0; FROM: 0; x := 0; y := 0; TO: 1; FROM: 1; x := x + 1; y := y + 2; TO: 1; FROM: 1; assume(x == 3); assume(y != 6); TO: 2;";
+
+/// Steps, untils and what is kept, over some path and every path: a program, a property of it, and what is said.
+const PATHS: &[(&str, &str, Said)] = &[
+    (ROUND, "[EX](at(1) || x < 100)", Said::Disproved),
+    (ROUND, "[EX](at(1) || at(0))", Said::Proved),
+    (ROUND, "[AG]([EX](at(1) || at(0)))", Said::Proved),
+    (
+        ROUND,
+        "[AG]([EX](at(1) || [EX](at(1) || x > -5)))",
+        Said::Proved,
+    ),
+    (ROUND, "[EG](x > 0 || at(1) || [EX](at(1)))", Said::Proved),
+    (ROUND, "[AG](at(0) || [EG](at(1)))", Said::Proved),
+    (ROUND, "[EF](x > 10) || x <= 10", Said::Proved),
+    (DRAWING, "[EF](at(2))", Said::Proved),
+    (DRAWING, "[EF](at(1) && x == 7)", Said::Proved),
+    (DRAWING, "[EF](at(2) && x == 0)", Said::Proved),
+    (DRAWING, "[EF]([EG](at(2)))", Said::Proved),
+    (DRAWING, "[EF](at(1) && [EG](x <= 3))", Said::Proved),
+    (DRAWING, "[AG](at(0) || at(1) || [AG](at(2)))", Said::Proved),
+    (DRAWING, "[AX]([EX](at(2)))", Said::Disproved),
+    (DRAWING, "[EX]([EX](at(2)))", Said::Proved),
+    (DRAWING, "[EX]([AX](at(1)))", Said::Proved),
+    (DRAWING, "[AX]([AX](at(1)))", Said::Disproved),
+    (DRAWING, "[AX](at(1) && x > 0)", Said::Disproved),
+    (CONTROLLER, "[AG]([EF](at(reset)))", Said::Proved),
+    (CONTROLLER, "[AG]([EF](at(reset) && t == 3))", Said::Proved),
+    (CONTROLLER, "[EG](!at(reset))", Said::Disproved),
+    (CONTROLLER, "[AG]([EF](at(reset) && t > 5))", Said::Proved),
+    (CONTROLLER, "[AW](!at(stop))(at(stop))", Said::Proved),
+    (
+        CONTROLLER,
+        "[AG](!at(stop) || [AW](at(stop) || at(reset))(at(wait)))",
+        Said::Proved,
+    ),
+    (
+        CONTROLLER,
+        "[AG](!at(stop) || [AF](at(wait)))",
+        Said::Proved,
+    ),
+    (CONTROLLER, "[EU](!at(reset))(at(stop))", Said::Proved),
+    (
+        CONTROLLER,
+        "[EW](at(wait) || at(run))(at(stop))",
+        Said::Proved,
+    ),
+    (GROWING, "[AG](at(0) || x < 4 )", Said::Proved),
+    (GROWING, "[EF](at(1))", Said::Proved),
+    (
+        GROWING,
+        "[AG](at(1) || x <= 0 || [EX](x > 77))",
+        Said::Disproved,
+    ),
+];
+
+/// Release and strong release.
+const RELEASES: &[(&str, &str, Said)] = &[
+    (
+        ROUND,
+        "[AR](at(1))(x > 0 || at(1) || [AX](at(1)))",
+        Said::Proved,
+    ),
+    (ROUND, "[AR](at(1))(x > 0 || at(1))", Said::Disproved),
+    (ROUND, "[AM](at(1))(x < 10)", Said::Disproved),
+    (ROUND, "[AM](at(1))(at(0) || x <= 0)", Said::Proved),
+    (ROUND, "[ER](at(1))(at(0) || x <= 0)", Said::Proved),
+    (DRAWING, "[EM](at(2))(at(0) || x <= 3)", Said::Proved),
+    (
+        DRAWING,
+        "[EM](at(2) && x > 3)(at(0) || x <= 3)",
+        Said::Disproved,
+    ),
+    (
+        DRAWING,
+        "[ER](at(2) && x > 3)(at(0) || x <= 3)",
+        Said::Proved,
+    ),
+    (DRAWING, "[AM](at(1))(at(0) || at(1))", Said::Proved),
+];
+
+/// Locations that are never reached, where no single list of rows at each location shows it.
+const SAFE: &[(&str, &str, Said)] = &[
+    (LOCK, "[AG](!at(bad))", Said::Proved),
+    (LOCK, "[AG](!at(3) || l == 1)", Said::Proved),
+    (PHASES, "[AG](!at(bad))", Said::Proved),
+    (COUNTERS, "[AG](!at(2))", Said::Nothing),
+];
+
+#[test]
+fn paths_are_settled_by_rounds(rt: HostRuntime) -> Result<(), Fail> {
+    for (program, property, wanted) in PATHS {
+        let answer = answer_to(rt.alloc(), program, property)?;
+        assert_eq!(rt; answer, *wanted, "{property} {program}");
+    }
+    Ok(())
+}
+
+#[test]
+fn releases_are_settled_by_rounds(rt: HostRuntime) -> Result<(), Fail> {
+    for (program, property, wanted) in RELEASES {
+        let answer = answer_to(rt.alloc(), program, property)?;
+        assert_eq!(rt; answer, *wanted, "{property} {program}");
+    }
+    Ok(())
+}
+
+#[test]
+fn locations_are_safe_by_rounds(rt: HostRuntime) -> Result<(), Fail> {
+    for (program, property, wanted) in SAFE {
+        let answer = answer_to(rt.alloc(), program, property)?;
+        assert_eq!(rt; answer, *wanted, "{property} {program}");
+    }
+    Ok(())
+}
