@@ -9,3 +9,5 @@ mod proofs;
 mod regions;
 #[cfg(test)]
 mod saying;
+#[cfg(test)]
+mod strategies;

@@ -33,7 +33,7 @@ const ROWS: &[(&str, &str, Said)] = &[
     (KEPT, "[AF](x > 10)", Said::Proved),
     (KEPT, "[AF](at(1))", Said::Disproved),
     (KEPT, "[AG](x < 0 || [AG](x >= 0))", Said::Proved),
-    (KEPT, "[EF](x > 5)", Said::Nothing),
+    (KEPT, "[EF](x > 5)", Said::Proved),
 ];
 
 #[test]

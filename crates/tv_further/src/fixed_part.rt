@@ -1,5 +1,6 @@
 // Fixed points: the first of the ways that finds something is taken, and what it finds grows by rounds.
 
+use crate::cycles_within::with_cycles;
 use crate::found::{Found, end_alone, part_found};
 use crate::kept::with_kept;
 use crate::layers::with_layers;
@@ -8,6 +9,7 @@ use crate::question::Question;
 use crate::region_part::Part;
 use crate::sides::{Sides, common_areas};
 use crate::solving::Effort;
+use crate::strategy::any_until_by_strategy;
 use crate::until_by_ranks::every_until_by_ranks;
 use std::alloc::{AllocError, Global};
 use tv_cert::Node;
@@ -20,12 +22,14 @@ fn first_ending(
     sides: &Sides,
     effort: &mut Effort,
 ) -> Result<Option<Found>, AllocError> {
-    if *path == Path::Every
-        && let Some(found) = every_until_by_ranks(question, sides, effort)?
-    {
-        return Ok(Some(found));
+    let found = match path {
+        Path::Every => every_until_by_ranks(question, sides, effort)?,
+        Path::Any => any_until_by_strategy(question, sides, effort)?,
+    };
+    match found {
+        Some(found) => Ok(Some(found)),
+        None => end_alone(question, sides, 1, effort),
     }
-    end_alone(question, sides, 1, effort)
 }
 
 /// What the ways find of a fixed point that comes to the end.
@@ -44,10 +48,17 @@ fn ending(
 /// What a way finds of a fixed point that may go on for ever, to which areas are added: at least the end.
 fn first_keeping(
     question: &Question,
+    path: &Path,
     sides: &Sides,
     effort: &mut Effort,
 ) -> Result<Option<Found>, AllocError> {
-    end_alone(question, sides, 0, effort)
+    let Some(found) = end_alone(question, sides, 0, effort)? else {
+        return Ok(None);
+    };
+    match path {
+        Path::Every => Ok(Some(found)),
+        Path::Any => Ok(Some(with_cycles(question, sides, found, effort)?)),
+    }
 }
 
 /// What the ways find of a fixed point that may go on for ever: first with cuts, and then from whole areas.
@@ -57,7 +68,7 @@ fn keeping(
     sides: &Sides,
     effort: &mut Effort,
 ) -> Result<Option<Found>, AllocError> {
-    match first_keeping(question, sides, effort)? {
+    match first_keeping(question, path, sides, effort)? {
         None => Ok(None),
         Some(found) => {
             let cut = with_kept(question, path, sides, found, CUTS, effort)?;

@@ -100,7 +100,7 @@ pub(crate) fn push_states(
 }
 
 /// The rows that are met at each place of a closed walk, the last first, where these rows are met at its first.
-fn regions_of(
+pub(crate) fn regions_of(
     alloc: Global,
     columns: usize,
     ways: &[Way],

@@ -93,3 +93,18 @@ pub(crate) const TRIES: usize = 40;
 pub(crate) const LONGEST_STEM: usize = 10;
 
 pub(crate) const STEMS: usize = 256;
+
+/// How many drafts of a strategy are tried, how often areas are cut or split, and how many splits lie on a path of what is done at an area.
+pub(crate) const STRATEGY_ROUNDS: usize = 30;
+
+pub(crate) const STRATEGY_CUTS: u32 = 4;
+
+pub(crate) const STRATEGY_SPLITS: u32 = 8;
+
+/// How often areas from which every path is to come to the end are cut.
+pub(crate) const STEP_CUTS: u32 = 4;
+
+/// How many closed walks are tried inside of a part of a formula, and after how many calls of the solver none is begun.
+pub(crate) const TRIED_CYCLES: usize = 24;
+
+pub(crate) const TRIED_CYCLE_CALLS: usize = 100;

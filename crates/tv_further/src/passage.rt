@@ -7,6 +7,20 @@ use std::alloc::{AllocError, Global};
 use tv_cases::Case;
 use tv_linear::Row;
 
+/// What a step makes of the variables: the term of each after it, over so many columns, of which the variables before it are the first.
+#[derive(Drop)]
+pub(crate) struct Effect {
+    pub width: usize,
+    pub terms: Vec<Row>,
+}
+
+/// The effect of a case, over the variables and its draws.
+pub(crate) fn effect_of(alloc: Global, columns: usize, case: &Case) -> Result<Effect, AllocError> {
+    let width = width_of(columns, case);
+    let terms = case_terms(alloc, columns, case)?;
+    Ok(Effect { width, terms })
+}
+
 /// A case that may be taken from one area into another.
 #[derive(Drop)]
 pub(crate) struct Passage {
@@ -14,6 +28,8 @@ pub(crate) struct Passage {
     pub from: usize,
     /// The number of the case.
     pub number: usize,
+    /// What the case, or one way to take it, makes of the variables.
+    pub effect: Effect,
     /// The place of the area that is entered.
     pub to: usize,
     /// What is met where it is taken: the rows of the area that is left, the guards, and the rows of the area that is entered.
@@ -59,14 +75,13 @@ pub(crate) fn case_terms(
     Ok(terms)
 }
 
-/// The row read before any step, over the columns of a case.
+/// The row read before any step, over so many columns, of which the variables are the first.
 pub(crate) fn widened_row(
     alloc: Global,
     columns: usize,
-    case: &Case,
+    width: usize,
     row: &Row,
 ) -> Result<Option<Row>, AllocError> {
-    let width = width_of(columns, case);
     let kept = kept_terms(alloc, columns, width)?;
     put_in(alloc, width, row, &kept)
 }
@@ -148,6 +163,7 @@ fn push_passages(
     let (Some(case), Some(left)) = (question.about.list().get(number), areas.get(from)) else {
         return Ok(());
     };
+    let columns = question.about.variables() as usize;
     if left.location != case.from || effort.left == 0 {
         return Ok(());
     }
@@ -156,9 +172,11 @@ fn push_passages(
             && let Some(rows) = passage_rows(question, case, left, area, effort)?
         {
             let fall = 0;
+            let effect = effect_of(question.alloc, columns, case)?;
             list.push(Passage {
                 from,
                 number,
+                effect,
                 to,
                 rows,
                 fall,

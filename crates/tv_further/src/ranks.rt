@@ -5,17 +5,17 @@ use crate::area::Area;
 use crate::combining::{is_constant, less, put_in};
 use crate::expanding::is_without_draws;
 use crate::limits::{RANK_ROUNDS, RANK_TERMS};
-use crate::passage::{Passage, case_terms, widened_row, width_of};
+use crate::passage::{Effect, Passage, effect_of, widened_row};
 use crate::proving::number_row;
 use crate::question::Question;
 use crate::reach::Reach;
-use crate::solving::{Effort, shown};
+use crate::solving::{Effort, is_known};
 use std::alloc::{AllocError, Global};
 use tv_linear::Row;
 
 /// How a term changes over a passage.
 #[derive(Clone, Copy, PartialEq, Eq)]
-enum Change {
+pub(crate) enum Change {
     /// It may grow.
     Grows,
     /// It does not grow.
@@ -37,30 +37,56 @@ fn push_term(
     let Some(term) = less(alloc, columns, &zero, row)? else {
         return Ok(());
     };
-    let is_new = terms
+    if is_constant(&term) {
+        return Ok(());
+    }
+    add_term(terms, term)?;
+    Ok(())
+}
+
+/// Adds the term, unless there are too many. Of two that differ in the constant alone the greater is kept, which is the later below 0.
+fn add_term(terms: &mut Vec<Row>, term: Row) -> Result<(), AllocError> {
+    let same = terms
         .iter()
-        .all(|other| other.coefficients() != term.coefficients());
-    if is_new && !is_constant(&term) && terms.len() < RANK_TERMS {
+        .position(|other| other.coefficients() == term.coefficients());
+    if let Some(place) = same
+        && let Some(other) = terms.get_mut(place)
+    {
+        if other.constant() < term.constant() {
+            *other = term;
+        }
+        return Ok(());
+    }
+    if terms.len() < RANK_TERMS {
         terms.push(term)?;
     }
     Ok(())
 }
 
+/// Puts the opposites of the rows that speak of the variables alone at the end of the terms.
+pub(crate) fn push_terms(
+    alloc: Global,
+    columns: usize,
+    rows: &[Row],
+    terms: &mut Vec<Row>,
+) -> Result<(), AllocError> {
+    for row in rows {
+        if is_without_draws(row, columns) {
+            push_term(alloc, columns, row, terms)?;
+        }
+    }
+    Ok(())
+}
+
 /// The terms that are tried as ranks.
-fn terms_of(question: &Question, areas: &[Area]) -> Result<Vec<Row>, AllocError> {
+pub(crate) fn terms_of(question: &Question, areas: &[Area]) -> Result<Vec<Row>, AllocError> {
     let columns = question.about.variables() as usize;
     let mut terms = Vec::new(question.alloc);
     for case in question.about.list() {
-        for guard in &case.guards.rows {
-            if is_without_draws(guard, columns) {
-                push_term(question.alloc, columns, guard, &mut terms)?;
-            }
-        }
+        push_terms(question.alloc, columns, &case.guards.rows, &mut terms)?;
     }
     for area in areas {
-        for row in &area.rows {
-            push_term(question.alloc, columns, row, &mut terms)?;
-        }
+        push_terms(question.alloc, columns, &area.rows, &mut terms)?;
     }
     Ok(terms)
 }
@@ -73,47 +99,30 @@ fn raised(alloc: Global, width: usize, row: &Row) -> Result<Option<Row>, AllocEr
     }
 }
 
-/// What a term after the case is more than another one before it; at most 0 where it does not grow.
+/// What a term after the step is more than another one before it; at most 0 where it does not grow.
 fn growth(
     question: &Question,
-    number: usize,
+    effect: &Effect,
     before: &Row,
     after: &Row,
 ) -> Result<Option<Row>, AllocError> {
     let alloc = question.alloc;
     let columns = question.about.variables() as usize;
-    let Some(case) = question.about.list().get(number) else {
+    let Some(new) = put_in(alloc, effect.width, after, &effect.terms)? else {
         return Ok(None);
     };
-    let width = width_of(columns, case);
-    let terms = case_terms(alloc, columns, case)?;
-    let Some(new) = put_in(alloc, width, after, &terms)? else {
-        return Ok(None);
-    };
-    match widened_row(alloc, columns, case, before)? {
+    match widened_row(alloc, columns, effect.width, before)? {
         None => Ok(None),
-        Some(old) => less(alloc, width, &new, &old),
+        Some(old) => less(alloc, effect.width, &new, &old),
     }
 }
 
-/// The row that is met where the term is not below 0 before the case.
-fn not_below(question: &Question, number: usize, term: &Row) -> Result<Option<Row>, AllocError> {
+/// The row that is met where the term is not below 0 before a step over so many columns.
+fn not_below(question: &Question, width: usize, term: &Row) -> Result<Option<Row>, AllocError> {
     let columns = question.about.variables() as usize;
-    let Some(case) = question.about.list().get(number) else {
-        return Ok(None);
-    };
-    match widened_row(question.alloc, columns, case, term)? {
+    match widened_row(question.alloc, columns, width, term)? {
         None => Ok(None),
         Some(row) => Ok(Some(row.opposite(question.alloc)?)),
-    }
-}
-
-/// How many columns the rows of the case of this number have.
-fn width_at(question: &Question, number: usize) -> usize {
-    let columns = question.about.variables() as usize;
-    match question.about.list().get(number) {
-        None => columns,
-        Some(case) => width_of(columns, case),
     }
 }
 
@@ -124,13 +133,47 @@ fn is_shown(
     row: Option<Row>,
     effort: &mut Effort,
 ) -> Result<bool, AllocError> {
-    let width = width_at(question, passage.number);
     match row {
         None => Ok(false),
-        Some(row) => {
-            let line = shown(question.alloc, &passage.rows, &row, width, effort)?;
-            Ok(line.is_some())
-        }
+        Some(row) => is_known(
+            question.alloc,
+            &passage.rows,
+            &row,
+            passage.effect.width,
+            effort,
+        ),
+    }
+}
+
+/// Whether the term is not below 0 where the passage is taken.
+fn is_bounded(
+    question: &Question,
+    passage: &Passage,
+    term: &Row,
+    effort: &mut Effort,
+) -> Result<bool, AllocError> {
+    let bound = not_below(question, passage.effect.width, term)?;
+    is_shown(question, passage, bound, effort)
+}
+
+/// How the term changes over the passage, where it falls from any value.
+pub(crate) fn drift_over(
+    question: &Question,
+    passage: &Passage,
+    term: &Row,
+    effort: &mut Effort,
+) -> Result<Change, AllocError> {
+    let Some(more) = growth(question, &passage.effect, term, term)? else {
+        return Ok(Change::Grows);
+    };
+    let fallen = raised(question.alloc, passage.effect.width, &more)?;
+    if is_shown(question, passage, fallen, effort)? {
+        return Ok(Change::Falls);
+    }
+    if is_shown(question, passage, Some(more), effort)? {
+        Ok(Change::Stays)
+    } else {
+        Ok(Change::Grows)
     }
 }
 
@@ -141,20 +184,23 @@ fn change_over(
     term: &Row,
     effort: &mut Effort,
 ) -> Result<Change, AllocError> {
-    let Some(more) = growth(question, passage.number, term, term)? else {
-        return Ok(Change::Grows);
-    };
-    let fallen = raised(question.alloc, width_at(question, passage.number), &more)?;
-    if is_shown(question, passage, fallen, effort)? {
-        let bound = not_below(question, passage.number, term)?;
-        if is_shown(question, passage, bound, effort)? {
-            return Ok(Change::Falls);
-        }
+    let drift = drift_over(question, passage, term, effort)?;
+    if drift == Change::Falls && !is_bounded(question, passage, term, effort)? {
+        return Ok(Change::Stays);
     }
-    if is_shown(question, passage, Some(more), effort)? {
-        Ok(Change::Stays)
-    } else {
-        Ok(Change::Grows)
+    Ok(drift)
+}
+
+/// How the value of the row changes over the step, as far as that is the same everywhere.
+pub(crate) fn steady_change(
+    question: &Question,
+    effect: &Effect,
+    row: &Row,
+) -> Result<Change, AllocError> {
+    match growth(question, effect, row, row)? {
+        Some(more) if is_constant(&more) && more.constant() > 0 => Ok(Change::Grows),
+        Some(more) if is_constant(&more) && more.constant() < 0 => Ok(Change::Falls),
+        _ => Ok(Change::Stays),
     }
 }
 
@@ -323,28 +369,39 @@ pub(crate) fn ranks_of(
     passages: &mut [Passage],
     effort: &mut Effort,
 ) -> Result<Ranking, AllocError> {
-    let columns = question.about.variables() as usize;
     let terms = terms_of(question, areas)?;
-    let mut ranks = Ranks::new(question.alloc, areas.len())?;
+    ranks_among(question, &terms, areas.len(), passages, effort)
+}
+
+/// The same of so many areas, where these terms are tried.
+pub(crate) fn ranks_among(
+    question: &Question,
+    terms: &[Row],
+    areas: usize,
+    passages: &mut [Passage],
+    effort: &mut Effort,
+) -> Result<Ranking, AllocError> {
+    let columns = question.about.variables() as usize;
+    let mut ranks = Ranks::new(question.alloc, areas)?;
     for _ in 0..RANK_ROUNDS {
-        let reach = Reach::new(question.alloc, areas.len(), passages)?;
+        let reach = Reach::new(question.alloc, areas, passages)?;
         ranks.add_reach(question.alloc, columns, &reach, passages)?;
         let Some(area) = first_left(passages) else {
             return Ok(Ranking::Found(ranks));
         };
         let tried = Tried {
-            terms: &terms,
+            terms,
             reach: &reach,
         };
         if !add_falling(question, &tried, area, passages, &mut ranks, effort)? {
-            let stuck = joined_with(question.alloc, &reach, areas.len(), area)?;
+            let stuck = joined_with(question.alloc, &reach, areas, area)?;
             return Ok(Ranking::Stuck(stuck));
         }
     }
     Ok(Ranking::Stuck(Vec::new(question.alloc)))
 }
 
-/// Puts the rows of the fall from some ranks to others at the end of the list; whether none is too wide.
+/// Puts the rows of the fall from some ranks to others over the case of this number at the end of the list; whether none is too wide.
 pub(crate) fn push_fall(
     question: &Question,
     number: usize,
@@ -353,14 +410,32 @@ pub(crate) fn push_fall(
     new: &[Row],
     rows: &mut Vec<Row>,
 ) -> Result<bool, AllocError> {
-    let width = width_at(question, number);
+    let columns = question.about.variables() as usize;
+    match question.about.list().get(number) {
+        None => Ok(false),
+        Some(case) => {
+            let effect = effect_of(question.alloc, columns, case)?;
+            push_fall_over(question, &effect, fall, old, new, rows)
+        }
+    }
+}
+
+/// The same over a step of this effect.
+pub(crate) fn push_fall_over(
+    question: &Question,
+    effect: &Effect,
+    fall: usize,
+    old: &[Row],
+    new: &[Row],
+    rows: &mut Vec<Row>,
+) -> Result<bool, AllocError> {
     for (place, (before, after)) in old.iter().zip(new).enumerate() {
         if place < fall {
-            let Some(mut more) = growth(question, number, before, after)? else {
+            let Some(mut more) = growth(question, effect, before, after)? else {
                 return Ok(false);
             };
             if place.saturating_add(1) == fall {
-                match raised(question.alloc, width, &more)? {
+                match raised(question.alloc, effect.width, &more)? {
                     None => return Ok(false),
                     Some(row) => more = row,
                 }
@@ -370,7 +445,7 @@ pub(crate) fn push_fall(
     }
     match fall.checked_sub(1).and_then(|place| old.get(place)) {
         None => Ok(false),
-        Some(last) => match not_below(question, number, last)? {
+        Some(last) => match not_below(question, effect.width, last)? {
             None => Ok(false),
             Some(row) => {
                 rows.push(row)?;

@@ -1,7 +1,8 @@
 // What the solver says, within what is left of an effort.
 
 use crate::budget::{Budget as SearchBudget, Spent};
-use crate::combining::copies;
+use crate::combining::{copies, is_constant};
+use crate::drawing::coefficient_at;
 use crate::limits::{PIVOTS, SPLITS};
 use crate::values::bounded;
 use std::alloc::{AllocError, Global};
@@ -51,14 +52,70 @@ impl Effort {
     }
 }
 
-/// What the solver says of rows with so many columns; `None` where it does not settle them.
+/// Whether the variable of the column has no two signs in the rows.
+fn has_one_sign(rows: &[&Row], column: usize) -> bool {
+    let grows = rows.iter().any(|row| coefficient_at(row, column) > 0);
+    let falls = rows.iter().any(|row| coefficient_at(row, column) < 0);
+    !(grows && falls)
+}
+
+/// The rows in which the variable of the column has no part.
+fn without_variable<'a>(
+    alloc: Global,
+    rows: &[&'a Row],
+    column: usize,
+) -> Result<Vec<&'a Row>, AllocError> {
+    let mut left = Vec::new(alloc);
+    for row in rows {
+        if coefficient_at(row, column) == 0 {
+            left.push(*row)?;
+        }
+    }
+    Ok(left)
+}
+
+/// The rows without those that a variable can meet by itself, since it has one sign in all of them: each of so many columns is looked at.
+fn without_free<'a>(
+    alloc: Global,
+    rows: Vec<&'a Row>,
+    columns: usize,
+) -> Result<Vec<&'a Row>, AllocError> {
+    let mut left = rows;
+    for column in 0..columns {
+        if has_one_sign(&left, column) {
+            left = without_variable(alloc, &left, column)?;
+        }
+    }
+    Ok(left)
+}
+
+/// Whether some point meets the rows, which is found without the solver: again and again those are left out that a variable meets by itself.
+fn are_met_somewhere(alloc: Global, rows: &[Row], columns: usize) -> Result<bool, AllocError> {
+    let mut left = Vec::new(alloc);
+    for row in rows {
+        left.push(row)?;
+    }
+    for _ in 0..rows.len() {
+        let before = left.len();
+        left = without_free(alloc, left, columns)?;
+        if left.len() == before {
+            break;
+        }
+    }
+    Ok(
+        left.iter()
+            .all(|row| is_constant(row) && row.constant() <= 0),
+    )
+}
+
+/// What the solver says of rows with so many columns; `None` where it does not settle them, or is not asked since some point meets them.
 fn refuted(
     alloc: Global,
     rows: &[Row],
     columns: usize,
     effort: &mut Effort,
 ) -> Result<Option<Refuted>, AllocError> {
-    if columns >= 1 << 31 || !effort.spend() {
+    if are_met_somewhere(alloc, rows, columns)? || columns >= 1 << 31 || !effort.spend() {
         return Ok(None);
     }
     let columns = columns as u32;
@@ -115,6 +172,59 @@ pub(crate) fn shown(
     }
 }
 
+/// The place of a row that alone shows the row, since it is no less at each point.
+fn place_showing(known: &[Row], row: &Row) -> Option<usize> {
+    known.iter().position(|other| {
+        other.coefficients() == row.coefficients() && other.constant() >= row.constant()
+    })
+}
+
+/// Whether one of the rows alone shows the row.
+pub(crate) fn is_shown_at_once(known: &[Row], row: &Row) -> bool {
+    place_showing(known, row).is_some()
+}
+
+/// The multipliers of so many rows and a denial, which are 1 at the place and at the denial, and 0 else.
+fn pair_of(alloc: Global, rows: usize, place: usize) -> Result<Vec<i64>, AllocError> {
+    let mut line = vec![in alloc; 0; rows]?;
+    if let Some(number) = line.get_mut(place) {
+        *number = 1;
+    }
+    line.push(1)?;
+    Ok(line)
+}
+
+/// The same as `shown`, without a call of the solver where one row, or none, shows the row by itself.
+pub(crate) fn shown_by(
+    alloc: Global,
+    known: &[Row],
+    row: &Row,
+    columns: usize,
+    effort: &mut Effort,
+) -> Result<Option<Vec<i64>>, AllocError> {
+    if is_constant(row) && row.constant() <= 0 {
+        return Ok(Some(pair_of(alloc, known.len(), known.len())?));
+    }
+    match place_showing(known, row) {
+        Some(place) => Ok(Some(pair_of(alloc, known.len(), place)?)),
+        None => shown(alloc, known, row, columns, effort),
+    }
+}
+
+/// Whether the known rows, which some point meets, show the row.
+pub(crate) fn is_known(
+    alloc: Global,
+    known: &[Row],
+    row: &Row,
+    columns: usize,
+    effort: &mut Effort,
+) -> Result<bool, AllocError> {
+    if is_constant(row) {
+        return Ok(row.constant() <= 0);
+    }
+    Ok(shown_by(alloc, known, row, columns, effort)?.is_some())
+}
+
 /// The same by one call of the solver.
 pub(crate) fn shown_once(
     alloc: Global,
@@ -126,6 +236,23 @@ pub(crate) fn shown_once(
     shown(alloc, known, row, columns, &mut effort)
 }
 
+/// Whether no point meets both rows, since one is the opposite of the other but for its constant.
+fn are_opposed(first: &Row, second: &Row) -> bool {
+    let is_opposite = first.coefficients().iter().zip(second.coefficients()).all(|(
+        left,
+        right,
+    )| i128::from(*left) + i128::from(*right) == 0);
+    match first.constant().checked_add(second.constant()) {
+        Some(constant) => is_opposite && constant > 0,
+        None => false,
+    }
+}
+
+/// Whether one of the rows alone excludes this one.
+fn is_excluded(rows: &[Row], row: &Row) -> bool {
+    rows.iter().any(|other| are_opposed(other, row))
+}
+
 /// Whether the rows may have a point.
 pub(crate) fn may_have_point(
     alloc: Global,
@@ -133,6 +260,9 @@ pub(crate) fn may_have_point(
     columns: usize,
     effort: &mut Effort,
 ) -> Result<bool, AllocError> {
+    if rows.iter().any(|row| is_excluded(rows, row)) {
+        return Ok(false);
+    }
     match refuted(alloc, rows, columns, effort)? {
         Some(Refuted::Empty { .. }) => Ok(false),
         _ => Ok(true),

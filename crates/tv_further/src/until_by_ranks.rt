@@ -3,7 +3,8 @@
 use crate::area::{Area, place_among};
 use crate::covers::Target;
 use crate::found::Found;
-use crate::limits::AREAS;
+use crate::going_cut::cut_at;
+use crate::limits::{AREAS, STEP_CUTS};
 use crate::passage::{Passage, passages, rows_entered};
 use crate::question::Question;
 use crate::ranks::{Ranking, Ranks, push_fall, ranks_of};
@@ -114,8 +115,10 @@ fn going_passages(
 enum Until {
     /// The ranks and the proofs.
     Shown { ranks: Ranks, proofs: Vec<Proof> },
-    /// The areas at these places are not shown to come to the end; none where nothing is known of one.
-    Left(Vec<usize>),
+    /// From the areas at these places a step may be wanting, or lead out.
+    Open(Vec<usize>),
+    /// The ranks do not fall between the areas at these places; none where nothing is known of one.
+    Stuck(Vec<usize>),
 }
 
 /// Passages and the ranks that fall over them.
@@ -143,11 +146,47 @@ fn push_sides(
     push_some_step(question, area, effort, proofs)
 }
 
-/// The place as a list of one.
-fn left_at(alloc: Global, place: usize) -> Result<Until, AllocError> {
-    let mut places = Vec::new(alloc);
-    places.push(place)?;
-    Ok(Until::Left(places))
+/// Puts the proofs of the area at this place at the end of the list; whether all are found.
+fn push_stage(
+    question: &Question,
+    sides: &Sides,
+    stages: &Stages,
+    place: usize,
+    ranked: &Ranked,
+    shown: &mut Shown,
+) -> Result<bool, AllocError> {
+    let Some(area) = stages.areas.get(place) else {
+        return Ok(false);
+    };
+    let is_done = place < stages.done;
+    if !push_sides(
+        question,
+        sides,
+        area,
+        is_done,
+        shown.effort,
+        &mut shown.proofs,
+    )? {
+        return Ok(false);
+    }
+    if is_done {
+        return Ok(true);
+    }
+    push_falling(
+        question,
+        stages,
+        place,
+        ranked,
+        shown.effort,
+        &mut shown.proofs,
+    )
+}
+
+/// The proofs that were found, and what is left of the effort.
+#[derive(Drop)]
+struct Shown<'a> {
+    proofs: Vec<Proof>,
+    effort: &'a mut Effort,
 }
 
 /// The proofs of until over every path under these ranks.
@@ -158,17 +197,19 @@ fn until_under(
     ranked: Ranked,
     effort: &mut Effort,
 ) -> Result<Until, AllocError> {
-    let mut proofs = Vec::new(question.alloc);
-    for (place, area) in stages.areas.iter().enumerate() {
-        let is_done = place < stages.done;
-        if !push_sides(question, sides, area, is_done, effort, &mut proofs)? {
-            return left_at(question.alloc, place);
-        }
-        if !is_done && !push_falling(question, stages, place, &ranked, effort, &mut proofs)? {
-            return left_at(question.alloc, place);
+    let proofs = Vec::new(question.alloc);
+    let mut shown = Shown { proofs, effort };
+    let mut open = Vec::new(question.alloc);
+    for place in 0..stages.areas.len() {
+        if !push_stage(question, sides, stages, place, &ranked, &mut shown)? {
+            open.push(place)?;
         }
     }
+    if !open.is_empty() {
+        return Ok(Until::Open(open));
+    }
     let ranks = ranked.ranks;
+    let proofs = shown.proofs;
     Ok(Until::Shown { ranks, proofs })
 }
 
@@ -181,7 +222,7 @@ fn try_until(
 ) -> Result<Until, AllocError> {
     let mut passages = going_passages(question, stages, effort)?;
     match ranks_of(question, &stages.areas, &mut passages, effort)? {
-        Ranking::Stuck(places) => Ok(Until::Left(places)),
+        Ranking::Stuck(places) => Ok(Until::Stuck(places)),
         Ranking::Found(ranks) => {
             let ranked = Ranked { passages, ranks };
             until_under(question, sides, stages, ranked, effort)
@@ -189,7 +230,8 @@ fn try_until(
     }
 }
 
-/// Until over every path: what holds outside of the end comes to it, by ranks. Areas that are not shown to come to the end are left out.
+/// Until over every path: what holds outside of the end comes to it, by ranks. Areas from which a step may be wanting or lead out are cut a
+/// few times, and then left out, as those are between which no ranks fall.
 pub(crate) fn every_until_by_ranks(
     question: &Question,
     sides: &Sides,
@@ -198,8 +240,9 @@ pub(crate) fn every_until_by_ranks(
     let Some(mut stages) = stages_of(question, sides, effort)? else {
         return Ok(None);
     };
+    let mut cuts = 0;
     for _ in 0..AREAS {
-        match try_until(question, sides, &stages, effort)? {
+        let left = match try_until(question, sides, &stages, effort)? {
             Until::Shown { ranks, proofs } => {
                 return Ok(Some(Found {
                     stages,
@@ -207,10 +250,16 @@ pub(crate) fn every_until_by_ranks(
                     proofs,
                 }));
             }
-            Until::Left(places) => match without(question.alloc, &stages, &places)? {
-                None => return Ok(None),
-                Some(fewer) => stages = fewer,
-            },
+            Until::Open(places) if cuts < STEP_CUTS => {
+                cuts += 1;
+                stages = cut_at(question, &stages, &places, effort)?;
+                continue;
+            }
+            Until::Open(places) | Until::Stuck(places) => places,
+        };
+        match without(question.alloc, &stages, &left)? {
+            None => return Ok(None),
+            Some(fewer) => stages = fewer,
         }
     }
     Ok(None)

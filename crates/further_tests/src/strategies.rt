@@ -1,0 +1,174 @@
+use crate::saying::{Said, answer_to};
+use std::test::Fail;
+
+/// Counts down, or does something else.
+const COUNTDOWN: &str =
+    "START: 0; FROM: 0; assume(x > 0); x := x + 1; TO: 0; FROM: 0; assume(x > 0); x := x - 1; TO: 0; FROM: 0; assume(x > 5); TO: 1; FROM: 1; TO: 1;";
+
+/// A draw, and then a countdown.
+const DRAW: &str =
+    "START: 0; FROM: 0; x := nondet(); assume(x >= 3); TO: 1; FROM: 1; assume(x > 0); x := x - 1; TO: 1; FROM: 1; assume(x <= 0); TO: 2; FROM: 1; assume(x > 0); x := x + 2; TO: 1;";
+
+/// A controller that may always come back.
+const CONTROLLER: &str =
+    "START: reset; FROM: reset; t := 0; TO: run; FROM: run; t := t + 1; TO: run; FROM: run; assume(t > 10); TO: cool; FROM: cool; assume(t > 0); t := t - 1; TO: cool; FROM: cool; t := t + 1; TO: cool; FROM: cool; assume(t <= 0); TO: reset;";
+
+/// A loop in a loop, each of which may grow.
+const NESTED: &str =
+    "START: 0; FROM: 0; assume(x > 0); y := nondet(); assume(y > x); TO: 1; FROM: 1; assume(y > 0); y := y + 1; TO: 1; FROM: 1; assume(y > 0); y := y - 1; TO: 1; FROM: 1; assume(y <= 0); x := x - 1; TO: 0; FROM: 1; assume(y <= 0); x := x + 1; TO: 0; FROM: 0; assume(x <= 0); TO: 2; FROM: 2; TO: 2;";
+
+/// First one counter grows, and then it falls.
+const PHASES: &str =
+    "START: 0; FROM: 0; x := x + 1; TO: 0; FROM: 0; x := x - 1; TO: 0; FROM: 0; assume(x > 9); TO: 1; FROM: 1; x := x - 1; TO: 1; FROM: 1; x := x + 1; TO: 1; FROM: 1; assume(x < 0 - 9); TO: 2; FROM: 2; TO: 2;";
+
+/// Falls only while another number is positive.
+const GUARDED: &str =
+    "START: 0; FROM: 0; assume(y > 0); x := x - 1; TO: 0; FROM: 0; x := x + 1; TO: 0; FROM: 0; assume(x > 3); TO: 1; FROM: 1; TO: 1;";
+
+/// Passes zero from an odd number.
+const EVEN: &str = "START: 0; FROM: 0; x := x - 2; TO: 0;";
+
+/// Two counters hand a token back and forth while they grow; from the second one it may be lost.
+const GROWING: &str =
+    "START: 0; FROM: 0; assume(x > 0); x := x + y; TO: 1; FROM: 1; assume(y > 0); TO: 0; FROM: 1; y := y - 1; TO: 0; FROM: 0; assume(x <= 0); TO: 2; FROM: 2; TO: 2;";
+
+/// Counts down to a stop, which it may not come to where another number is not positive.
+const STOPPING: &str =
+    "START: 0; FROM: 0; assume(x > 0); x := x - 1; TO: 0; FROM: 0; assume(x <= 0); assume(y > 0); TO: 1; FROM: 1; TO: 1;";
+
+/// Counts down to location 1, but at one number leaves for where it stays for ever.
+const LEAKING: &str =
+    "START: 0; FROM: 0; assume(x > 0); assume(y != 7); x := x - 1; TO: 0; FROM: 0; assume(x <= 0); TO: 1; FROM: 0; assume(y == 7); TO: 2; FROM: 2; y := y + 1; TO: 2; FROM: 1; TO: 1;";
+
+/// A lift: it may be called to any floor, and goes there step by step.
+const LIFT: &str =
+    "START: idle; FROM: idle; goal := nondet(); assume(goal >= 0); TO: moving; FROM: moving; assume(floor < goal); floor := floor + 1; TO: moving; FROM: moving; assume(floor > goal); floor := floor - 1; TO: moving; FROM: moving; assume(floor == goal); TO: open; FROM: open; TO: idle; FROM: open; TO: open;";
+
+/// A program, a property of it, and what is said: counters.
+const COUNTING: &[(&str, &str, Said)] = &[
+    (COUNTDOWN, "[EF](x <= 0)", Said::Proved),
+    (COUNTDOWN, "[AG](at(1) || [EF](x <= 0))", Said::Proved),
+    (COUNTDOWN, "[EU](at(0))(x <= 0)", Said::Proved),
+    (DRAW, "[EF](at(2))", Said::Proved),
+    (COUNTDOWN, "[EU](x < 10)(at(1))", Said::Disproved),
+    (COUNTDOWN, "[AG](x <= 0 || [EF](at(1)))", Said::Proved),
+    (COUNTDOWN, "[EF](x > 100)", Said::Disproved),
+    (
+        COUNTDOWN,
+        "[AG](x <= 0 || at(1) || [EF](x > 100))",
+        Said::Proved,
+    ),
+    (EVEN, "[EF](x == 0)", Said::Disproved),
+];
+
+/// The same of the controller.
+const CONTROLLED: &[(&str, &str, Said)] = &[
+    (CONTROLLER, "[EF](at(cool))", Said::Proved),
+    (CONTROLLER, "[AG]([EF](at(reset)))", Said::Proved),
+    (
+        CONTROLLER,
+        "[EM](t <= 10)(at(reset) || at(run))",
+        Said::Proved,
+    ),
+    (
+        CONTROLLER,
+        "[EM](t == 10)(at(reset) || at(run))",
+        Said::Proved,
+    ),
+    (
+        CONTROLLER,
+        "[EU](at(reset) || at(run))(t == 10)",
+        Said::Proved,
+    ),
+    (CONTROLLER, "[AG]([EF](at(run) && t == 20))", Said::Proved),
+];
+
+/// The same of loops.
+const LOOPING: &[(&str, &str, Said)] = &[
+    (NESTED, "[EF](at(2))", Said::Proved),
+    (NESTED, "[AG]([EF](at(2)))", Said::Proved),
+    (PHASES, "[EF](at(2))", Said::Proved),
+    (GUARDED, "[EF](at(1))", Said::Proved),
+    (
+        GUARDED,
+        "[AG](y <= 0 || at(1) || [EF](x <= 0))",
+        Said::Proved,
+    ),
+];
+
+/// The same of cycles.
+const CYCLING: &[(&str, &str, Said)] = &[
+    (
+        GROWING,
+        "[AG](x <= 0 || y < 0 || at(2) || at(1) || [EG](x > 0))",
+        Said::Disproved,
+    ),
+    (
+        GROWING,
+        "[AG](x <= 0 || y <= 0 || at(2) || [EG](x > 0))",
+        Said::Proved,
+    ),
+    (
+        GROWING,
+        "[AX](x <= 0 || y <= 0 || [EG](x > 0 && y > 0))",
+        Said::Proved,
+    ),
+    (GROWING, "[EF](at(2) || [EG](x > 0 && y > 0))", Said::Proved),
+    (LIFT, "[AG]([EF](at(open)))", Said::Proved),
+    (LIFT, "[AG](!at(open) || [EG](at(open)))", Said::Proved),
+    (LIFT, "[EF]([EG](at(open)))", Said::Proved),
+    (LIFT, "[AG]([EF]([EG](at(open))))", Said::Proved),
+    (LIFT, "[ER](at(idle))(!at(moving))", Said::Proved),
+];
+
+/// The same of every path.
+const EVERY: &[(&str, &str, Said)] = &[
+    (STOPPING, "[AG](y <= 0 || [AF](at(1)))", Said::Proved),
+    (STOPPING, "[AF](at(1) || y <= 0)", Said::Proved),
+    (
+        LEAKING,
+        "[AG](y == 7 || at(2) || [AF](at(1)))",
+        Said::Proved,
+    ),
+    (
+        LEAKING,
+        "[AX](y == 7 || [AF](at(1) && y != 7))",
+        Said::Proved,
+    ),
+];
+
+/// Compares what is said of each row.
+fn all_are_said(rt: &HostRuntime, rows: &[(&str, &str, Said)]) -> Result<(), Fail> {
+    for (program, property, wanted) in rows {
+        let answer = answer_to(rt.alloc(), program, property)?;
+        if answer != *wanted {
+            return Err(Fail::from("another answer"));
+        }
+    }
+    Ok(())
+}
+
+#[test]
+fn counters_come_to_the_end(rt: HostRuntime) -> Result<(), Fail> {
+    all_are_said(&rt, COUNTING)
+}
+
+#[test]
+fn a_controller_comes_back(rt: HostRuntime) -> Result<(), Fail> {
+    all_are_said(&rt, CONTROLLED)
+}
+
+#[test]
+fn loops_come_to_the_end(rt: HostRuntime) -> Result<(), Fail> {
+    all_are_said(&rt, LOOPING)
+}
+
+#[test]
+fn cycles_go_on_for_ever(rt: HostRuntime) -> Result<(), Fail> {
+    all_are_said(&rt, CYCLING)
+}
+
+#[test]
+fn every_path_comes_to_the_end(rt: HostRuntime) -> Result<(), Fail> {
+    all_are_said(&rt, EVERY)
+}
