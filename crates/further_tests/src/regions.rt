@@ -81,6 +81,10 @@ const PATHS: &[(&str, &str, Said)] = &[
         "[EW](at(wait) || at(run))(at(stop))",
         Said::Proved,
     ),
+];
+
+/// The same of a number that grows.
+const GROWN: &[(&str, &str, Said)] = &[
     (GROWING, "[AG](at(0) || x < 4 )", Said::Proved),
     (GROWING, "[EF](at(1))", Said::Proved),
     (
@@ -126,6 +130,15 @@ const SAFE: &[(&str, &str, Said)] = &[
 #[test]
 fn paths_are_settled_by_rounds(rt: HostRuntime) -> Result<(), Fail> {
     for (program, property, wanted) in PATHS {
+        let answer = answer_to(rt.alloc(), program, property)?;
+        assert_eq!(rt; answer, *wanted, "{property} {program}");
+    }
+    Ok(())
+}
+
+#[test]
+fn paths_with_a_number_that_grows_are_settled(rt: HostRuntime) -> Result<(), Fail> {
+    for (program, property, wanted) in GROWN {
         let answer = answer_to(rt.alloc(), program, property)?;
         assert_eq!(rt; answer, *wanted, "{property} {program}");
     }

@@ -25,6 +25,12 @@ const SERVER: &str =
 /// One step, and a loop that no run comes to.
 const APART: &str = "START: 0; FROM: 0; x := x; TO: 1; FROM: 2; TO: 2;";
 
+/// Falls by a number that falls.
+const FALLING: &str = "START: 0; FROM: 0; assume(x > 0); x := x + y; y := y - 1; TO: 0;";
+
+/// Draws half of a number, if there is one.
+const HALF: &str = "START: 0; FROM: 0; y := nondet(); assume(2*y == x); TO: 1;";
+
 /// Formulas that hold of the loop.
 const HOLD: &[&str] = &[
     "[AX](x >= 0)",
@@ -163,12 +169,22 @@ fn pieces_that_nothing_enters_are_left_out(rt: HostRuntime) -> Result<(), Fail> 
     Ok(())
 }
 
-/// Rounds that are not settled are named.
+/// Rounds that are not settled are named, and a case with a draw over which going back is not exact.
 #[test]
-fn a_formula_is_left_open(rt: HostRuntime) -> Result<(), Fail> {
-    let words = ["--ctl", "[EF](x <= 0)"];
+fn formulas_are_left_open(rt: HostRuntime) -> Result<(), Fail> {
+    let words = ["--ctl", "[AF](x <= 0)"];
     let lines = "Unknown template\nsubformula 0\n";
-    assert!(rt; says_of(rt.alloc(), &words, &[LOOP], lines, Status::Unknown)?);
+    assert!(rt; says_of(rt.alloc(), &words, &[FALLING], lines, Status::Unknown)?);
+    let words = ["--ctl", "[EX](true)"];
+    let lines = "Unknown template\ndraw case 0\n";
+    assert!(rt; says_of(rt.alloc(), &words, &[HALF], lines, Status::Unknown)?);
+    Ok(())
+}
+
+/// What the rounds leave open a further search may settle.
+#[test]
+fn a_formula_is_settled_by_a_further_search(rt: HostRuntime) -> Result<(), Fail> {
+    assert!(rt; is_settled(rt.alloc(), LOOP, "[EF](x <= 0)", "Proved\n", Status::Proved)?);
     Ok(())
 }
 
