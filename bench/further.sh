@@ -14,6 +14,14 @@ PROGRAM, TIMING = sys.argv[1:]
 COUNTED = "START: 0; FROM: 0; x := 0; TO: 1; FROM: 1; x := x + 1; TO: 1; FROM: 1; assume(x == {}); TO: 2;"
 SERVER = ("START: 0; FROM: 0; work := nondet(); TO: 1; FROM: 1; assume(work > 0); work := work - 1; TO: 1; "
           "FROM: 1; assume(work <= 0); TO: 0;")
+DRAWN = "START: 0; FROM: 0; x := nondet(); TO: 1; FROM: 1; assume(x > 0); x := x - 1; TO: 1; FROM: 1; assume(x <= 0); TO: 2; FROM: 2; TO: 2;"
+CONTROLLER = ("START: wait; FROM: wait; t := nondet(); TO: run; FROM: run; assume(t > 0); t := t - 1; TO: run; "
+              "FROM: run; assume(t <= 0); TO: reset; FROM: run; TO: stop; FROM: stop; TO: reset; FROM: reset; TO: wait;")
+LOCK = ("START: 0; FROM: 0; l := 0; f := 0; TO: 1; FROM: 1; assume(l == 0); l := 1; f := 1; TO: 2; FROM: 1; f := 0; TO: 2; "
+        "FROM: 2; n := n + 1; TO: 2; FROM: 2; assume(f == 1); TO: 3; FROM: 2; assume(f != 1); TO: 1; "
+        "FROM: 3; assume(l != 1); TO: bad; FROM: 3; assume(l == 1); l := 0; TO: 1; FROM: bad; TO: bad;")
+LOOPS = ("START: 0; FROM: 0; assume(x > 0); x := x - 1; TO: 0; FROM: 0; assume(x <= 0); TO: 1; "
+         "FROM: 1; assume(y > 0); y := y - 1; TO: 1;")
 QUESTIONS = [
     ("grows by y", "START: 0; FROM: 0; assume(x > 0); x := x + y; TO: 0;", ["--termination"]),
     ("falls by two", "START: 0; FROM: 0; assume(x != 0); x := x - 2; TO: 0;", ["--termination"]),
@@ -26,7 +34,15 @@ QUESTIONS = [
     ("a server is idle again", SERVER, ["--ctl", "[AG]([AF](at(0)))"]),
     ("a server stays idle", SERVER, ["--ctl", "[EF]([AG](at(0)))"]),
     ("falling sum", open("examples/falling-sum.t2").read(), ["--termination"]),
+    ("falling sum", open("examples/falling-sum.t2").read(), ["--ctl", "[AF](x <= 0)"]),
     ("two counters", open("examples/two-counters.t2").read(), ["--safety", "2"]),
+    ("a draw and a countdown", DRAWN, ["--ctl", "[EF](at(1) && [EG](x <= 3))"]),
+    ("a controller resets", CONTROLLER, ["--ctl", "[AG]([EF](at(reset)))"]),
+    ("a controller at 3", CONTROLLER, ["--ctl", "[AG]([EF](at(reset) && t == 3))"]),
+    ("a controller may stop", CONTROLLER, ["--ctl", "[EU](!at(reset))(at(stop))"]),
+    ("a controller comes back", CONTROLLER, ["--ctl", "[AG](!at(stop) || [AF](at(wait)))"]),
+    ("a lock with a flag", LOCK, ["--safety", "bad"]),
+    ("both loops end", LOOPS, ["--ctl", "[AG]([EF](y <= 0))"]),
     ("from any number to 0", open("examples/countdown.t2").read(), ["--ctl", "[EF](x <= 0)"]),
 ]
 
@@ -45,7 +61,7 @@ for name, text, words in QUESTIONS:
     said = best_over([TIMING, "further"], formula_of(words) + "\n" + text, 1).lines[0]
     if one.lines[0] in ("Proved", "Disproved") and " by " in said:
         search, states, calls = said.split(" by ")[1].split(", ")
-        found.setdefault(search, []).append((int(states.split()[0]), int(calls.split()[0]), one.processor))
+        found.setdefault(search, []).append((int(states.split()[1]), int(calls.split()[1]), one.processor))
     print(f"{name:24s} {' '.join(words):32s} {answer:28s} {one.processor * 1000:8.1f} ms of a processor  {one.memory:4d} MB  {said}", flush=True)
 
 print()

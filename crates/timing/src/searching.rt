@@ -33,7 +33,7 @@ fn told(alloc: Global, found: &Further) -> Result<String, Fault> {
     let by = name_of(found.by);
     let states = found.spent.states;
     let calls = found.spent.calls;
-    Ok(format!(in alloc; "{said} by {by}, {states} states, {calls} calls")?)
+    Ok(format!(in alloc; "{said} by {by}, states {states}, calls {calls}")?)
 }
 
 /// What the searches find for the claim.
