@@ -13,11 +13,15 @@ pub record AddsKept (n : ℕ) (from : List Linear) (row : Linear) (before after 
   pub same : more.row ≡ row
   pub by : more.from.items ≡ from
 
--- the row is kept with those of the rows that the tree uses, if the tree shows it by them, and else nothing is
+-- the row is kept with these rows if the tree shows it by them, and else nothing is
+pub record KeepsShown (n : ℕ) (from : List Linear) (row : Linear) (tree : CoverTree) (before after : List Kept) : Type 0 where
+  pub shown : Shows n from row tree → AddsKept n from row before after
+  pub unshown : (Shows n from row tree → ⊥) → after ≡ before
+
+-- so it is with those of the rows that the tree uses, and with the tree over them
 pub record Keeps (n : ℕ) (rows : List Linear) (row : Linear) (tree : CoverTree) (before after : List Kept) : Type 0 where
   pub marks : List Bool
   pub thin : CoverTree
   pub used : AreMarks tree (length rows) marks
   pub thinned : IsThinned marks tree thin
-  pub shown : Shows n (picked marks rows) row thin → AddsKept n (picked marks rows) row before after
-  pub unshown : (Shows n (picked marks rows) row thin → ⊥) → after ≡ before
+  pub kept : KeepsShown n (picked marks rows) row thin before after
