@@ -9,7 +9,7 @@ ghost use Rattle.tv_cases.specs.Lists.{difference, at_most, pairs, compared, com
 use crate::fault::PartFault;
 use crate::rows::at_most;
 use std::alloc::{AllocError, Global};
-use tv_linear::Row;
+use tv_linear::{Row, joined, push_copies};
 use tv_program::Relation;
 
 /// One list of one row.
@@ -108,23 +108,6 @@ pub(crate) fn compared(
     }
 }
 
-/// Adds a copy of each row.
-fn copy_onto(alloc: Global, mut onto: Vec<Row>, rows: &[Row]) -> Result<Vec<Row>, AllocError>
-    ensures { IfOk result (λ v. v.items ≡ onto.items ++ rows.now) }
-{
-    for row in rows {
-        onto.push(row.copy(alloc)?)?;
-    }
-    Ok(onto)
-}
-
-fn joined(alloc: Global, first: &[Row], second: &[Row]) -> Result<Vec<Row>, AllocError>
-    ensures { IfOk result (λ v. v.items ≡ first.now ++ second.now) }
-{
-    let front = copy_onto(alloc, Vec::new(alloc), first)?;
-    copy_onto(alloc, front, second)
-}
-
 /// Adds the one list joined with each of the others.
 fn joined_onto(
     alloc: Global,
@@ -161,7 +144,9 @@ fn extended(alloc: Global, first: Vec<Vec<Row>>, rows: &[Row]) -> Result<Vec<Vec
 {
     let mut all = Vec::new(alloc);
     for list in first {
-        all.push(copy_onto(alloc, list, rows)?)?;
+        let mut longer = list;
+        push_copies(alloc, rows, &mut longer)?;
+        all.push(longer)?;
     }
     Ok(all)
 }

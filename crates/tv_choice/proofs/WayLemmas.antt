@@ -53,13 +53,6 @@ map-append f (x ∷ xs) ys = ap (λ zs. f x ∷ zs) (map-append f xs ys)
 pub at_of : {A : Type 0} (P : A → Type 0) (xs : List A) (i : ℕ) (x : A) → All P xs → i < length xs → x ≡ get_or xs i x → P x
 at_of P xs i x h l e = subst P (sym e) (h i x l)
 
--- copies, each of them narrow
-pub copied_more : (old items new rows : List Linear) (i : ℕ) (r s : Linear) → i < length rows → r ≡ get_or rows i r → s ≡ r → IsNarrow r → new ≡ items ++ s ∷ [] → (items ≡ old ++ take i rows) × All IsNarrow (take i rows) → (new ≡ old ++ take (i + 1) rows) × All IsNarrow (take (i + 1) rows)
-copied_more old items new rows i r s l e same narrow en h = (
-  en ∙ (λ j. h.0 j ++ same j ∷ []) ∙ append_assoc old (take i rows) (r ∷ []) ∙ ap (λ rs. old ++ rs) (sym (take_more rows i r l e)),
-  subst (All IsNarrow) (sym (take_more rows i r l e)) (All-push IsNarrow (take i rows) r h.1 narrow),
-)
-
 -- ---- narrow rows
 all_map : (P Q : Linear → Type 0) (xs : List Linear) → ((x : Linear) → P x → Q x) → All P xs → All Q xs
 all_map P Q [] f h = All-nil Q

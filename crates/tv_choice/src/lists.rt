@@ -8,27 +8,14 @@ ghost use Rattle.tv_choice.specs.Rows.{padded_row, fixes};
 
 use std::alloc::{AllocError, Global};
 use tv_farkas::{at_least, at_most};
-use tv_linear::Row;
+use tv_linear::{Row, copies};
 use tv_simplex::push_item;
-
-/// Puts copies of rows at the end of a list. Each row is narrow.
-pub fn copy_onto(alloc: Global, items: &mut Vec<Row>, rows: &[Row]) -> Result<(), AllocError>
-    ensures copied { IfOk result (λ _. items.new.items ≡ items.old.items ++ rows.now) }
-    ensures narrow { IfOk result (λ _. All IsNarrow rows.now) }
-{
-    'rows: for row in rows {
-        let _columns = row.columns();
-        push_item(items, row.copy(alloc)?)?;
-    }
-    Ok(())
-}
 
 /// The rows, and one more at the end.
 pub fn with_row(alloc: Global, rows: &[Row], row: &Row) -> Result<Vec<Row>, AllocError>
     ensures { IfOk result (λ v. v.items ≡ rows.now ++ row.now ∷ []) }
 {
-    let mut all = Vec::new(alloc);
-    copy_onto(alloc, &mut all, rows)?;
+    let mut all = copies(alloc, rows)?;
     push_item(&mut all, row.copy(alloc)?)?;
     Ok(all)
 }

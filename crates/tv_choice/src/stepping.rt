@@ -13,7 +13,7 @@ ghost use Rattle.tv_choice.specs.Ways.{IsEntered, IsUnmade};
 ghost use Rattle.tv_choice.specs.Stepping.{IsWayAt, IsWideAtPoint, IsStanding, IsStepTo, IsStepBy, IsStepInto};
 
 use crate::drawing::terms_at;
-use crate::lists::{copy_onto, fixing};
+use crate::lists::fixing;
 use crate::pieces::piece_at;
 use crate::question::Question;
 use crate::ways::{Entry, Way, case_rows, way_of};
@@ -21,7 +21,7 @@ use std::alloc::{AllocError, Global};
 use tv_cases::Case;
 use tv_cover::{Emptied, empty};
 use tv_farkas::{Budget, CoverFault};
-use tv_linear::Row;
+use tv_linear::{Row, push_copies};
 
 /// A whole point of rows, and how many splits are left.
 #[derive(Drop)]
@@ -44,7 +44,7 @@ fn stepping_rows(
     ensures { IfOk result (λ v. v.items ≡ fixes columns 0 point.now ++ rows.now) }
 {
     let mut all = fixing(alloc, columns, point)?;
-    copy_onto(alloc, &mut all, rows)?;
+    push_copies(alloc, rows, &mut all)?;
     Ok(all)
 }
 

@@ -11,13 +11,13 @@ ghost use Rattle.tv_choice.specs.ChoicePaths.{starting_rows};
 ghost use Rattle.tv_choice.specs.Refusals.{IsFaultHere};
 ghost use Rattle.tv_choice.specs.Stopping.{IsStoppedBy, IsStopped};
 
-use crate::lists::{all_padded, copy_onto};
+use crate::lists::all_padded;
 use crate::question::Question;
 use crate::trees::narrow_rows;
 use tv_cases::Case;
 use tv_cover::{Emptied, empty};
 use tv_farkas::{Budget, CoverFault};
-use tv_linear::{Cover, Row};
+use tv_linear::{Cover, Row, push_copies};
 use tv_simplex::push_item;
 
 /// Whether no step leads anywhere.
@@ -42,7 +42,7 @@ fn stop_by(question: &Question, rows: &[Row], case: &Case, left: u32) -> Result<
 {
     let alloc = question.alloc;
     let mut all = all_padded(alloc, rows, case.draws)?;
-    copy_onto(alloc, &mut all, &case.guards.rows)?;
+    push_copies(alloc, &case.guards.rows, &mut all)?;
     let budget = Budget {
         pivots: question.pivots,
         splits: left,

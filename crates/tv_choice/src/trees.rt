@@ -5,10 +5,9 @@ ghost use Rattle.tv_linear.specs.Linear.{IsNarrow};
 ghost use Rattle.tv_farkas.specs.Trees.{TreeRows};
 ghost use Rattle.tv_choice.specs.Settling.{IsSplitOf, IsTakeOf};
 
-use crate::lists::copy_onto;
 use crate::ways::Way;
 use std::alloc::{AllocError, Global};
-use tv_linear::{ChoiceTree, CoverTree, Row};
+use tv_linear::{ChoiceTree, CoverTree, Row, push_copies};
 
 /// Each split row of a cover is narrow, whatever the cover.
 pub fn narrow_rows(tree: &CoverTree)
@@ -42,7 +41,7 @@ pub fn take_of(alloc: Global, way: &Way, lists: Vec<Vec<i64>>) -> Result<ChoiceT
     ensures { IfOk result (IsTakeOf way.now lists) }
 {
     let mut draws = Vec::new(alloc);
-    copy_onto(alloc, &mut draws, &way.draws)?;
+    push_copies(alloc, &way.draws, &mut draws)?;
     Ok(ChoiceTree::Take {
         taken: way.taken,
         target: way.target,

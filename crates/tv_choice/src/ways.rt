@@ -15,13 +15,12 @@ ghost use Rattle.tv_choice.specs.Ways.{lists_of, IsEntered, AreCaseRows, AreComp
 
 use crate::drawing::draw_choices;
 use crate::faults::unmade;
-use crate::lists::copy_onto;
 use crate::pieces::piece_at;
 use crate::question::Question;
 use std::alloc::{AllocError, Global};
 use tv_cases::{Case, before};
 use tv_farkas::CoverFault;
-use tv_linear::{Piece, Row};
+use tv_linear::{Piece, Row, push_copies};
 use tv_simplex::push_item;
 
 /// A case from the location, a piece at its end, and a term for each draw. The step leads into the piece where the
@@ -60,7 +59,7 @@ pub fn case_rows(
     ensures refusals { IfErr result (IsUnmade (IsWideBefore (case_view case.now) owed.now)) }
 {
     let mut rows = Vec::new(alloc);
-    copy_onto(alloc, &mut rows, &case.guards.rows)?;
+    push_copies(alloc, &case.guards.rows, &mut rows)?;
     'owed: for row in owed {
         match before(alloc, row, case) {
             Ok(made) => push_item(&mut rows, made)?,
@@ -79,7 +78,7 @@ fn terms_of(alloc: Global, columns: u32, draws: &[Row]) -> Result<Vec<Row>, Allo
     'columns: for column in 0..columns {
         push_item(&mut terms, Row::column(alloc, columns, column)?)?;
     }
-    copy_onto(alloc, &mut terms, draws)?;
+    push_copies(alloc, draws, &mut terms)?;
     Ok(terms)
 }
 

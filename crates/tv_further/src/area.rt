@@ -1,10 +1,9 @@
-use crate::combining::copies;
 use crate::cutting::push_strongest;
 use crate::limits::AREAS;
 use crate::question::Question;
 use crate::solving::{Effort, denied, may_have_point};
 use std::alloc::{AllocError, Global};
-use tv_linear::Row;
+use tv_linear::{Row, copies};
 
 /// The states of a location that meet some rows.
 #[derive(Drop)]

@@ -1,7 +1,6 @@
 // Formulas without arguments.
 
 use crate::area::Area;
-use crate::combining::copies;
 use crate::conditions::conditions_at;
 use crate::covers::{Target, cover_by};
 use crate::question::Question;
@@ -9,6 +8,7 @@ use crate::region_part::{Part, plain_part, push_cover};
 use crate::solving::{Effort, may_have_point};
 use std::alloc::AllocError;
 use tv_cert::{Aim, Proof};
+use tv_linear::copies;
 
 /// Puts the areas of the location and what shows them at the end of the lists; whether all are shown. What is known there is put into each,
 /// and one that no point meets is left out.

@@ -1,6 +1,6 @@
 // Choices at the pieces of a graph: each is one leaf.
 
-use crate::combining::{all_put_in, copies};
+use crate::combining::all_put_in;
 use crate::graph::{Graph, Step};
 use crate::lines::Known;
 use crate::proving::{Entered, barred_cover, fall_into, push_entering, push_falls, push_proof};
@@ -10,7 +10,7 @@ use crate::spot::Spot;
 use crate::way::{Way, way_of};
 use std::alloc::{AllocError, Global};
 use tv_cert::Proof;
-use tv_linear::{Choice, ChoiceTree, Cover};
+use tv_linear::{Choice, ChoiceTree, Cover, copies};
 
 /// A step that is taken from a spot into another.
 #[derive(Drop)]

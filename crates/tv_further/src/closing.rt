@@ -1,13 +1,11 @@
 // Rows that hold again each time a closed walk is gone through.
 
-use crate::combining::{
-    all_put_in, copies, less, push_all_tight, push_copies, push_tight, put_in, unit_rows,
-};
+use crate::combining::{all_put_in, less, push_all_tight, push_tight, put_in, unit_rows};
 use crate::limits::{ADDED_ROWS, TRIES};
 use crate::solving::{Effort, may_have_point, shown};
 use crate::way::Way;
 use std::alloc::{AllocError, Global};
-use tv_linear::Row;
+use tv_linear::{Row, copies, push_copies};
 
 /// The rows at a place of a walk: the guards of what follows and the rows at its end, each read there.
 pub(crate) fn rows_before(

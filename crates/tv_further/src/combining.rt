@@ -158,25 +158,6 @@ pub(crate) fn unit_rows(alloc: Global, columns: usize) -> Result<Option<Vec<Row>
     Ok(Some(rows))
 }
 
-/// Puts copies of the rows at the end of the list.
-pub(crate) fn push_copies(
-    alloc: Global,
-    rows: &[Row],
-    list: &mut Vec<Row>,
-) -> Result<(), AllocError> {
-    for row in rows {
-        list.push(row.copy(alloc)?)?;
-    }
-    Ok(())
-}
-
-/// Copies of the rows.
-pub(crate) fn copies(alloc: Global, rows: &[Row]) -> Result<Vec<Row>, AllocError> {
-    let mut list = Vec::new(alloc);
-    push_copies(alloc, rows, &mut list)?;
-    Ok(list)
-}
-
 /// Whether no variable has a part in the row.
 pub(crate) fn is_constant(row: &Row) -> bool {
     for coefficient in row.coefficients() {

@@ -1,11 +1,10 @@
 // What a walk has to keep to, so that what a formula asks for on the way holds.
 
-use crate::combining::copies;
 use crate::limits::CONDITIONS;
 use std::alloc::{AllocError, Global};
 use tv_cert::Aim;
 use tv_formula::{Path, Shape};
-use tv_linear::Row;
+use tv_linear::{Row, copies};
 
 /// The two lists as one.
 fn joined(alloc: Global, first: &[Row], second: &[Row]) -> Result<Vec<Row>, AllocError> {

@@ -1,13 +1,12 @@
 // Covers and choices that are found by the solver.
 
 use crate::area::{Area, lists_at};
-use crate::combining::copies;
 use crate::limits::{PIVOTS, SPLITS};
 use crate::solving::Effort;
 use std::alloc::{AllocError, Global};
 use tv_cover::{Covered, are_even, cover, is_even};
 use tv_farkas::{Budget, CoverFault};
-use tv_linear::{Cover, CoverTree, Poly, Row};
+use tv_linear::{Cover, CoverTree, Poly, Row, copies, copies_of_lists};
 
 /// A target of a cover: its rows, and the number and the fall by which it is entered.
 #[derive(Drop)]
@@ -53,15 +52,6 @@ fn covered_by(
     }
 }
 
-/// Copies of lists of numbers.
-pub(crate) fn lines_copied(alloc: Global, lines: &[Vec<i64>]) -> Result<Vec<Vec<i64>>, AllocError> {
-    let mut all = Vec::new(alloc);
-    for line in lines {
-        all.push(Vec::from_slice(alloc, line)?)?;
-    }
-    Ok(all)
-}
-
 /// The same tree, in which each target is entered by its number and its fall.
 fn numbered(alloc: Global, tree: &CoverTree, targets: &[Target]) -> Result<CoverTree, AllocError> {
     match tree {
@@ -85,7 +75,7 @@ fn numbered(alloc: Global, tree: &CoverTree, targets: &[Target]) -> Result<Cover
             Ok(CoverTree::Into {
                 target,
                 fall,
-                refutations: lines_copied(alloc, refutations)?,
+                refutations: copies_of_lists(alloc, refutations)?,
             })
         }
     }

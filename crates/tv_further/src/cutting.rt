@@ -1,11 +1,11 @@
 // Lists of rows cut by others, and which lie inside which.
 
 use crate::area::{Area, both, denials};
-use crate::combining::{copies, is_constant};
+use crate::combining::is_constant;
 use crate::limits::AREAS;
 use crate::solving::{Effort, shown};
 use std::alloc::{AllocError, Global};
-use tv_linear::Row;
+use tv_linear::{Row, copies};
 
 /// The place of the row with the same coefficients.
 fn place_of(rows: &[Row], row: &Row) -> Option<usize> {

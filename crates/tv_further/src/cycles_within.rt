@@ -2,7 +2,7 @@
 
 use crate::area::{Area, place_among};
 use crate::closing::closed;
-use crate::combining::{all_put_in, copies};
+use crate::combining::all_put_in;
 use crate::covers::cover_into;
 use crate::found::Found;
 use crate::lasso::regions_of;
@@ -15,7 +15,7 @@ use crate::walking::closed_walks;
 use crate::way::Way;
 use std::alloc::{AllocError, Global};
 use tv_cert::Proof;
-use tv_linear::{Choice, ChoiceTree, Row};
+use tv_linear::{Choice, ChoiceTree, Row, copies};
 
 /// The same way, where these rows are asked of the values before it besides.
 fn way_inside(alloc: Global, way: &Way, rows: &[Row]) -> Result<Way, AllocError> {

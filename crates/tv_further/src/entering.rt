@@ -2,7 +2,7 @@
 // a draw is at one of its bounds.
 
 use crate::area::Area;
-use crate::combining::{all_put_in, copies, put_in, unit_rows};
+use crate::combining::{all_put_in, put_in, unit_rows};
 use crate::drawing::coefficient_at;
 use crate::limits::{DRAW_LISTS, MANY_DRAWS};
 use crate::passage::{rows_entered, width_of};
@@ -11,7 +11,7 @@ use crate::question::Question;
 use crate::shadow::shadow;
 use std::alloc::{AllocError, Global};
 use tv_cases::Case;
-use tv_linear::Row;
+use tv_linear::{Row, copies};
 
 /// A way to take a case into an area.
 #[derive(Drop)]

@@ -1,7 +1,6 @@
 // Areas from which every path is to come to the end, cut to where that may be.
 
 use crate::area::{Area, both};
-use crate::combining::copies;
 use crate::cutting::{cut_by_all, is_inside_any};
 use crate::leaving::lists_leaving;
 use crate::limits::AREAS;
@@ -11,7 +10,7 @@ use crate::region_part::push_some_step;
 use crate::solving::Effort;
 use crate::stages::Stages;
 use std::alloc::AllocError;
-use tv_linear::Row;
+use tv_linear::{Row, copies};
 
 /// The parts of an area where a way can be taken.
 fn parts_with_step(

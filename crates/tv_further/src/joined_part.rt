@@ -1,13 +1,12 @@
 // Formulas all of which are to hold, or one of which is.
 
 use crate::area::{Area, each_with_each, lists_at, push_areas};
-use crate::combining::copies;
 use crate::question::Question;
 use crate::region_part::{Part, plain_part, push_into};
 use crate::solving::Effort;
 use std::alloc::{AllocError, Global};
 use tv_cert::{Node, Proof};
-use tv_linear::Row;
+use tv_linear::{Row, copies};
 
 /// The nodes of the parts.
 fn nodes_of(alloc: Global, parts: Vec<Part>) -> Result<Vec<Node>, AllocError> {

@@ -1,14 +1,13 @@
 // Graphs of runs that end in a closed walk: single states, and then regions round the walk.
 
 use crate::closing::rows_before;
-use crate::combining::copies;
 use crate::graph::{Graph, Step};
 use crate::proving::number_row;
 use crate::spot::{Inside, Spot};
 use crate::values::{bounded, value_at};
 use crate::way::Way;
 use std::alloc::{AllocError, Global};
-use tv_linear::Row;
+use tv_linear::{Row, copies};
 
 /// The bounded value of a term at the values.
 fn number_at(term: &Row, values: &[i64]) -> Option<i64> {

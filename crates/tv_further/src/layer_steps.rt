@@ -1,7 +1,6 @@
 // The areas of a layer, and the steps from it.
 
 use crate::area::{Area, both, lists_at, place_among};
-use crate::combining::copies;
 use crate::covers::Target;
 use crate::cutting::cut_by_all;
 use crate::entering::{Entry, entries_from};
@@ -17,7 +16,7 @@ use crate::taking::{Move, Taken};
 use std::alloc::{AllocError, Global};
 use tv_cases::Case;
 use tv_cert::Proof;
-use tv_linear::Row;
+use tv_linear::{Row, copies};
 
 /// An area that may belong to a layer.
 #[derive(Drop)]

@@ -1,14 +1,14 @@
 // Ways between areas.
 
 use crate::area::{Area, both};
-use crate::combining::{all_put_in, copies};
+use crate::combining::all_put_in;
 use crate::passage::{Effect, Passage};
 use crate::question::Question;
 use crate::solving::Effort;
 use crate::stages::Stages;
 use crate::way::{Way, ways_under};
 use std::alloc::{AllocError, Global};
-use tv_linear::Row;
+use tv_linear::{Row, copies};
 
 /// A way that may be taken from one area into another.
 #[derive(Drop)]

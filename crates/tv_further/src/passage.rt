@@ -1,11 +1,11 @@
 use crate::area::Area;
-use crate::combining::{all_put_in, copies, put_in, unit_row};
+use crate::combining::{all_put_in, put_in, unit_row};
 use crate::question::Question;
 use crate::solving::{Effort, may_have_point};
 use crate::way::term_of;
 use std::alloc::{AllocError, Global};
 use tv_cases::Case;
-use tv_linear::Row;
+use tv_linear::{Row, copies};
 
 /// What a step makes of the variables: the term of each after it, over so many columns, of which the variables before it are the first.
 #[derive(Drop)]

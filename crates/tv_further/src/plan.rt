@@ -1,11 +1,10 @@
 // What is done at the states of an area: one link for each of them.
 
 use crate::area::both;
-use crate::combining::copies;
 use crate::link::Link;
 use crate::solving::{Effort, denied, is_known};
 use std::alloc::{AllocError, Global};
-use tv_linear::Row;
+use tv_linear::{Row, copies};
 
 /// What is done at some states.
 #[derive(Drop)]

@@ -1,5 +1,4 @@
 use crate::area::{Area, both, place_among, whole_locations};
-use crate::combining::copies;
 use crate::covers::{Target, cover_by, cover_into};
 use crate::cutting::is_inside_any;
 use crate::entering::entries_from;
@@ -10,7 +9,7 @@ use crate::taking::{Move, Taken, choice_by, push_choice};
 use std::alloc::{AllocError, Global};
 use tv_cases::Case;
 use tv_cert::{Mark, Marked, Node, Proof};
-use tv_linear::{Cover, Row};
+use tv_linear::{Cover, Row, copies};
 use tv_points::node_of;
 
 /// A formula where it is shown to hold: its node, and the areas of its pieces, in their order.

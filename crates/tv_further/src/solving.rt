@@ -1,14 +1,14 @@
 // What the solver says, within what is left of an effort.
 
 use crate::budget::{Budget as SearchBudget, Spent};
-use crate::combining::{copies, is_constant};
+use crate::combining::is_constant;
 use crate::drawing::coefficient_at;
 use crate::limits::{PIVOTS, SPLITS};
 use crate::values::bounded;
 use std::alloc::{AllocError, Global};
 use tv_cover::{Emptied, empty};
 use tv_farkas::{Budget, CoverFault, Refuted, refute};
-use tv_linear::{Row, RowFault, have_columns, is_narrow};
+use tv_linear::{Row, RowFault, copies, have_columns, is_narrow};
 use tv_simplex::SolveFault;
 
 /// What is left of a budget, and what was made of it.

@@ -1,12 +1,12 @@
 // The areas of a fixed point.
 
 use crate::area::{Area, each_with_each, lists_at, outside, push_areas};
-use crate::combining::copies;
 use crate::limits::AREAS;
 use crate::question::Question;
 use crate::sides::Sides;
 use crate::solving::Effort;
 use std::alloc::{AllocError, Global};
+use tv_linear::copies;
 
 /// The pieces of a fixed point: the first so many are at the end, and the others go on.
 #[derive(Drop)]

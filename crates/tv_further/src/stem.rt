@@ -1,10 +1,10 @@
-use crate::combining::{all_put_in, copies, push_all_tight, push_copies, unit_rows};
+use crate::combining::{all_put_in, push_all_tight, unit_rows};
 use crate::limits::{LONGEST_STEM, STEMS};
 use crate::question::Question;
 use crate::solving::{Effort, may_have_point, whole_point};
 use crate::way::Way;
 use std::alloc::{AllocError, Global};
-use tv_linear::Row;
+use tv_linear::{Row, copies, push_copies};
 
 /// A path from the start: the values there that can take it, and what they become.
 #[derive(Drop)]

@@ -1,7 +1,6 @@
 // Until over some path, by a strategy: at each area that goes on a way for each of its states, so that ranks fall over the ways that do not
 // lead to the end.
 
-use crate::combining::copies;
 use crate::found::Found;
 use crate::limits::{STRATEGY_CUTS, STRATEGY_ROUNDS, STRATEGY_SPLITS};
 use crate::link::{Between, Link, distinct_ways};
@@ -17,7 +16,7 @@ use crate::strategy_order::{Field, costs_of, options_from};
 use crate::strategy_proofs::{Proving, Strategy, proofs_of};
 use crate::way::Way;
 use std::alloc::{AllocError, Global};
-use tv_linear::Row;
+use tv_linear::{Row, copies};
 
 /// What is known of a draft.
 #[derive(Drop)]

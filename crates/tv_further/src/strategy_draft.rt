@@ -1,7 +1,6 @@
 // Areas for which a strategy is sought.
 
 use crate::area::{Area, both};
-use crate::combining::copies;
 use crate::limits::{AREAS, STRATEGY_CUTS};
 use crate::link::{Link, are_same};
 use crate::question::Question;
@@ -9,7 +8,7 @@ use crate::solving::{Effort, denied};
 use crate::stages::Stages;
 use crate::way::Way;
 use std::alloc::{AllocError, Global};
-use tv_linear::Row;
+use tv_linear::{Row, copies};
 
 /// Areas for which a strategy is sought.
 #[derive(Drop)]

@@ -1,7 +1,6 @@
 // The proofs of a strategy.
 
 use crate::area::place_among;
-use crate::combining::copies;
 use crate::link::Link;
 use crate::passage::Passage;
 use crate::plan::{Leaf, Plan};
@@ -13,7 +12,7 @@ use crate::stages::Stages;
 use crate::way::Way;
 use std::alloc::AllocError;
 use tv_cert::Proof;
-use tv_linear::{Choice, ChoiceTree, Row};
+use tv_linear::{Choice, ChoiceTree, Row, copies};
 
 /// A plan for each area that goes on, and the ranks that fall over what is taken; without ranks none need fall.
 #[derive(Drop)]

@@ -1,14 +1,13 @@
 // Choices made of covers: at each leaf a case is taken, or no step leads out.
 
 use crate::area::Area;
-use crate::combining::copies;
-use crate::covers::{Target, cover_by, lines_copied};
+use crate::covers::{Target, cover_by};
 use crate::question::Question;
 use crate::region_part::step_cover;
 use crate::solving::{Effort, denied};
 use std::alloc::{AllocError, Global};
 use tv_cert::Proof;
-use tv_linear::{Choice, ChoiceTree, Cover, CoverTree, Row};
+use tv_linear::{Choice, ChoiceTree, Cover, CoverTree, Row, copies, copies_of_lists};
 
 /// A case that is taken into a target.
 #[derive(Drop)]
@@ -76,7 +75,7 @@ fn leaf_of(
             target: taken.target,
             fall: taken.fall,
             draws: copies(question.alloc, &taken.draws)?,
-            refutations: lines_copied(question.alloc, refutations)?,
+            refutations: copies_of_lists(question.alloc, refutations)?,
         })),
     }
 }

@@ -1,4 +1,4 @@
-use crate::combining::{all_put_in, copies, push_copies, put_in, unit_row, unit_rows};
+use crate::combining::{all_put_in, put_in, unit_row, unit_rows};
 use crate::conditions::conditions_at;
 use crate::drawing::coefficient_at;
 use crate::limits::{DRAW_TERMS, MANY_DRAWS, WAYS};
@@ -7,7 +7,7 @@ use crate::question::Question;
 use std::alloc::{AllocError, Global};
 use tv_cases::Case;
 use tv_cert::Aim;
-use tv_linear::Row;
+use tv_linear::{Row, copies, push_copies};
 
 /// A way to take a case: with terms for its draws, so that all rows are over the variables alone.
 #[derive(Drop)]

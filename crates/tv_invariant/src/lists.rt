@@ -9,16 +9,6 @@ use tv_candidates::Candidate;
 use tv_linear::Row;
 use tv_simplex::push_item;
 
-/// Puts copies of rows at the end of a list.
-pub fn copy_onto(alloc: Global, items: &mut Vec<Row>, rows: &[Row]) -> Result<(), AllocError>
-    ensures { IfOk result (λ _. items.new.items ≡ items.old.items ++ rows.now) }
-{
-    'rows: for row in rows {
-        push_item(items, row.copy(alloc)?)?;
-    }
-    Ok(())
-}
-
 /// The row with so many more columns, in which it has 0.
 fn padded(alloc: Global, row: &Row, more: u32) -> Result<Row, AllocError>
     requires { width row.now + more < 2 ^ 32 - 1 }

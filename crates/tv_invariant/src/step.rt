@@ -16,7 +16,7 @@ ghost use Rattle.tv_invariant.specs.Falling.{KeptBy, IsFallen, IsStepRefusal};
 
 use crate::judge::Judge;
 use crate::kept::Kept;
-use crate::lists::{copy_onto, padded_at};
+use crate::lists::padded_at;
 use crate::pieces::rows_at;
 use crate::rows::strongest;
 use crate::seen::Seen;
@@ -24,7 +24,7 @@ use std::alloc::Global;
 use tv_candidates::Candidate;
 use tv_cases::Case;
 use tv_farkas::{Budget, CoverFault};
-use tv_linear::Poly;
+use tv_linear::{Poly, push_copies};
 use tv_simplex::push_item;
 
 /// Asks for the strongest of the rows where the case leads, so that what is found of them tells of the others.
@@ -95,7 +95,7 @@ pub fn step(
         IfErr result (λ f. (f ≡ Memory) ⊎ ((c : Candidate) × Contains now.items c × refuses c f)) }
 {
     let mut rows = padded_at(alloc, &now, case.from, case.draws)?;
-    copy_onto(alloc, &mut rows, &case.guards.rows)?;
+    push_copies(alloc, &case.guards.rows, &mut rows)?;
     let ambient = Poly {
         columns: variables + case.draws,
         rows: strongest(alloc, rows)?,

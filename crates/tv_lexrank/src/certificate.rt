@@ -14,13 +14,13 @@ ghost use Rattle.tv_lexrank.specs.Certified.{BeginsKnown, IsStartCover, IsRoot, 
 
 use crate::closed::{cover_one, whole_cover};
 use crate::falling::{Fall, with_fall};
-use crate::known::{copies_of, known_at};
+use crate::known::known_at;
 use std::alloc::{AllocError, Global};
 use tv_cases::Cases;
 use tv_cert::{Claim, Node, Verdict};
 use tv_cover::Covered;
 use tv_farkas::{Budget, CoverFault};
-use tv_linear::{Cover, Poly, Region};
+use tv_linear::{Cover, Poly, Region, copies};
 use tv_shape::{Certificate, ShapeFault};
 
 /// The certificate that a property holds at each start, made of a node that shows it and of a cover of the start by its pieces there.
@@ -84,7 +84,7 @@ pub fn start_cover(
         columns: about.variables(),
         rows: Vec::new(alloc),
     };
-    match cover_one(alloc, &all, copies_of(alloc, rows)?, budget) {
+    match cover_one(alloc, &all, copies(alloc, rows)?, budget) {
         Ok(Covered::Tree(cover)) => Ok(cover),
         Ok(Covered::Hole(_)) => unreachable!(),
         Err(fault) => Err(fault),

@@ -11,7 +11,7 @@ ghost use Rattle.tv_lexrank.specs.Falling.{put_in as spec_put_in, spread as spec
 
 use std::alloc::{AllocError, Global};
 use tv_farkas::split_of;
-use tv_linear::{CoverTree, Row};
+use tv_linear::{CoverTree, Row, copies_of_lists};
 use tv_simplex::push_item;
 
 /// A fall of the ranks over a case, with what shows it.
@@ -62,17 +62,6 @@ fn spread(alloc: Global, line: &[i64], above: usize) -> Result<Vec<i64>, AllocEr
     ensures { IfOk result (λ v. v.items ≡ spec_spread above line.now) }
 {
     put_in(alloc, line, line.len().saturating_sub(1), above)
-}
-
-/// Copies of lists.
-fn copied(alloc: Global, lists: &[Vec<i64>]) -> Result<Vec<Vec<i64>>, AllocError>
-    ensures { IfOk result (λ v. lists_of v.items ≡ lists_of lists.now) }
-{
-    let mut copies = Vec::new(alloc);
-    'lists: for list in lists {
-        push_item(&mut copies, Vec::from_slice(alloc, list)?)?;
-    }
-    Ok(copies)
 }
 
 /// Puts the lines at the end of lists, each spread over so many rows more.
@@ -129,7 +118,7 @@ pub fn with_fall(
             fall: _,
             refutations,
         } => {
-            let mut lists = copied(alloc, refutations)?;
+            let mut lists = copies_of_lists(alloc, refutations)?;
             append_spread(alloc, &mut lists, &fall.lines, above)?;
             Ok(CoverTree::Into {
                 target: *target,

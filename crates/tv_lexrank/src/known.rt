@@ -8,7 +8,7 @@ ghost use Rattle.tv_lexrank.specs.Known.{AreKnown, AreBare, piece_rows, padded_r
 
 use std::alloc::{AllocError, Global};
 use tv_cases::Cases;
-use tv_linear::{Piece, Region, Row};
+use tv_linear::{Piece, Region, Row, push_copies};
 use tv_simplex::push_item;
 
 fn are_even(rows: &[Row], columns: u32) -> bool
@@ -82,25 +82,6 @@ fn all_padded(alloc: Global, rows: &[Row], columns: u32) -> Result<Vec<Row>, All
     Ok(all)
 }
 
-/// Puts copies of rows at the end of a list.
-fn append_copies(alloc: Global, items: &mut Vec<Row>, rows: &[Row]) -> Result<(), AllocError>
-    ensures { IfOk result (λ _. items.new.items ≡ items.old.items ++ rows.now) }
-{
-    'rows: for row in rows {
-        push_item(items, row.copy(alloc)?)?;
-    }
-    Ok(())
-}
-
-/// Copies of rows.
-pub fn copies_of(alloc: Global, rows: &[Row]) -> Result<Vec<Row>, AllocError>
-    ensures { IfOk result (λ v. v.items ≡ rows.now) }
-{
-    let mut copies = Vec::new(alloc);
-    append_copies(alloc, &mut copies, rows)?;
-    Ok(copies)
-}
-
 /// The known rows over more columns, and then the guards.
 pub fn rows_with(
     alloc: Global,
@@ -113,6 +94,6 @@ pub fn rows_with(
     ensures { IfOk result (λ v. v.items ≡ map (padded_row columns) known.now ++ guards.now) }
 {
     let mut rows = all_padded(alloc, known, columns)?;
-    append_copies(alloc, &mut rows, guards)?;
+    push_copies(alloc, guards, &mut rows)?;
     Ok(rows)
 }

@@ -12,3 +12,4 @@ pub mod KnownLemmas
 pub mod Covered
 pub mod FallLemmas
 pub mod PackedLemmas
+pub mod Copied

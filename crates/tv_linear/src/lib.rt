@@ -6,6 +6,7 @@
 
 mod choice;
 mod columns;
+mod copying;
 mod cover;
 mod fault;
 pub mod held;
@@ -22,6 +23,7 @@ mod total;
 mod view;
 
 pub use choice::{Choice, ChoiceTree};
+pub use copying::{copies, copies_of_lists, joined, push_copies};
 pub use cover::{Cover, CoverTree};
 pub use fault::RowFault;
 pub use lists::{shortened, widened};

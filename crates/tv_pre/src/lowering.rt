@@ -18,12 +18,12 @@ ghost use Rattle.tv_pre.specs.Questions.{steps, IsRefusal};
 
 use crate::Setting;
 use crate::inside::step_inside;
-use crate::trees::{copied, count_at};
+use crate::trees::count_at;
 use std::alloc::{AllocError, Global};
 use tv_cases::Case;
 use tv_farkas::{CoverFault, split_of};
 use tv_lexrank::{Fall, append_spread};
-use tv_linear::{Cover, CoverTree, Piece};
+use tv_linear::{Cover, CoverTree, Piece, copies_of_lists};
 
 /// The number of a fall, which is below 2^62.
 fn number_of(fall: &Fall) -> u32
@@ -58,7 +58,7 @@ fn lowered(
             fall: none,
             refutations,
         } => {
-            let mut lists = copied(alloc, refutations)?;
+            let mut lists = copies_of_lists(alloc, refutations)?;
             if (*target as usize) < first {
                 return Ok(CoverTree::Into {
                     target: *target,

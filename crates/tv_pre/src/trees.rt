@@ -10,7 +10,7 @@ ghost use Rattle.tv_pre.specs.Ranked.{last_line, IsFallingEntry, IsFallingCover,
 use crate::rows::push_rows;
 use std::alloc::{AllocError, Global};
 use tv_cases::Cases;
-use tv_linear::{ChoiceTree, CoverTree, Piece};
+use tv_linear::{ChoiceTree, CoverTree, Piece, copies_of_lists};
 use tv_simplex::push_item;
 
 /// Multipliers 0 for so many rows, and 1 for the denial of the row that is shown.
@@ -20,17 +20,6 @@ fn last_line(alloc: Global, count: usize) -> Result<Vec<i64>, AllocError>
     let mut line = vec![in alloc; 0i64; count]?;
     push_item(&mut line, 1)?;
     Ok(line)
-}
-
-/// Copies of lists.
-pub(crate) fn copied(alloc: Global, lists: &[Vec<i64>]) -> Result<Vec<Vec<i64>>, AllocError>
-    ensures { IfOk result (λ v. map (λ l. l.items) v.items ≡ map (λ l. l.items) lists.now) }
-{
-    let mut copies = Vec::new(alloc);
-    'lists: for list in lists {
-        push_item(&mut copies, Vec::from_slice(alloc, list)?)?;
-    }
-    Ok(copies)
 }
 
 /// How a target is entered.
@@ -52,7 +41,7 @@ fn entry_of(
     ensures { let old = map (λ l. l.items) lists.now in
         IfOk result (λ e. IsFallingEntry first count target fall target e.fall old (map (λ l. l.items) e.lists.items)) }
 {
-    let mut lists = copied(alloc, lists)?;
+    let mut lists = copies_of_lists(alloc, lists)?;
     if (target as usize) < first {
         return Ok(Entry { fall, lists });
     }

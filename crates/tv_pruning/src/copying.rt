@@ -6,7 +6,9 @@ use crate::owner::Among;
 use std::alloc::{AllocError, Global};
 use tv_cases::Cases;
 use tv_cert::{Marked, Proof};
-use tv_linear::{Choice, ChoiceTree, Cover, CoverTree, Row, RowView, Rows, widened};
+use tv_linear::{
+    Choice, ChoiceTree, Cover, CoverTree, Row, RowView, Rows, copies, copies_of_lists, widened,
+};
 
 /// A copy of the row; `None` where it has too many columns.
 fn row_of(alloc: Global, row: RowView) -> Result<Option<Row>, AllocError> {
@@ -51,24 +53,6 @@ pub(crate) fn copy_of(alloc: Global, piece: &Marked) -> Result<Option<Marked>, A
     )
 }
 
-/// Copies of the rows.
-fn copies(alloc: Global, rows: &[Row]) -> Result<Vec<Row>, AllocError> {
-    let mut list = Vec::new(alloc);
-    for row in rows {
-        list.push(row.copy(alloc)?)?;
-    }
-    Ok(list)
-}
-
-/// Copies of the lists.
-fn lines(alloc: Global, lists: &[Vec<i64>]) -> Result<Vec<Vec<i64>>, AllocError> {
-    let mut all = Vec::new(alloc);
-    for list in lists {
-        all.push(Vec::from_slice(alloc, list)?)?;
-    }
-    Ok(all)
-}
-
 /// How the targets of a proof are counted.
 #[derive(Clone, Copy)]
 pub(crate) struct Counting<'a> {
@@ -108,7 +92,7 @@ impl Counting<'_> {
             } => Ok(CoverTree::Into {
                 target: self.number(self.among.location, *target),
                 fall: *fall,
-                refutations: lines(self.alloc, refutations)?,
+                refutations: copies_of_lists(self.alloc, refutations)?,
             }),
         }
     }
@@ -141,7 +125,7 @@ impl Counting<'_> {
                 target: self.number(led_to(self.about, *taken), *target),
                 fall: *fall,
                 draws: copies(self.alloc, draws)?,
-                refutations: lines(self.alloc, refutations)?,
+                refutations: copies_of_lists(self.alloc, refutations)?,
             })),
         }
     }

@@ -4,10 +4,8 @@ ghost use Rattle.std.specs.Prelude.{◌≡◌, map, IfOk};
 ghost use Rattle.tv_linear.specs.Linear.{IsNarrow};
 ghost use Rattle.tv_recur.specs.Choosing.{IsChoiceOf, IsSplitOf, IsTakeOf};
 
-use crate::making::push_copies;
 use std::alloc::{AllocError, Global};
-use tv_linear::{ChoiceTree, CoverTree, Row};
-use tv_simplex::push_item;
+use tv_linear::{ChoiceTree, CoverTree, Row, copies_of_lists, push_copies};
 
 /// What a choice does where the cover that it is made of enters a target.
 #[derive(Drop)]
@@ -27,17 +25,6 @@ fn copy_row(alloc: Global, row: &Row) -> Result<Row, AllocError>
 {
     let _columns = row.columns();
     row.copy(alloc)
-}
-
-/// Copies of lists.
-fn copied(alloc: Global, lists: &[Vec<i64>]) -> Result<Vec<Vec<i64>>, AllocError>
-    ensures { IfOk result (λ v. map (λ l. l.items) v.items ≡ map (λ l. l.items) lists.now) }
-{
-    let mut copies = Vec::new(alloc);
-    'lists: for list in lists {
-        push_item(&mut copies, Vec::from_slice(alloc, list)?)?;
-    }
-    Ok(copies)
 }
 
 /// A split at a row, with the choices where it is met and where it is not.
@@ -60,7 +47,7 @@ fn take_of(alloc: Global, entered: &Entered, lines: &[Vec<i64>]) -> Result<Choic
 {
     let mut draws = Vec::new(alloc);
     push_copies(alloc, entered.draws, &mut draws)?;
-    let refutations = copied(alloc, lines)?;
+    let refutations = copies_of_lists(alloc, lines)?;
     Ok(ChoiceTree::Take {
         taken: entered.number,
         target: entered.place,

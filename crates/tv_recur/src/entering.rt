@@ -14,7 +14,7 @@ ghost use Rattle.tv_recur.specs.Refusing.{IsRefusal, AreFrom};
 ghost use Rattle.tv_recur.specs.Recurring.{IsRecurrence};
 
 use crate::Recurrence;
-use crate::making::{drawn_terms, push_copies, rows_before, rows_put};
+use crate::making::{drawn_terms, rows_before, rows_put};
 use crate::node::{endless_node, piece_of};
 use crate::staying::lone_node;
 use crate::taking::{Search, Taking, case_of, leading};
@@ -23,7 +23,7 @@ use tv_cases::{Case, Cases};
 use tv_cert::{Node, Proof};
 use tv_cover::{Emptied, empty};
 use tv_farkas::CoverFault;
-use tv_linear::{Choice, Poly, Row};
+use tv_linear::{Choice, Poly, Row, push_copies};
 use tv_simplex::push_item;
 
 /// A case from the start to where a loop can be taken.

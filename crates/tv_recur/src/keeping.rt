@@ -8,11 +8,10 @@ ghost use Rattle.tv_known.specs.Recurrences.{IsKeptLoop};
 ghost use Rattle.tv_recur.specs.Keeping.{IsKeptBy};
 ghost use Rattle.tv_recur.specs.Refusing.{IsRefusal};
 
-use crate::making::push_copies;
 use crate::taking::{Search, Taking, leading};
 use tv_cases::Case;
 use tv_farkas::CoverFault;
-use tv_linear::{Choice, Poly};
+use tv_linear::{Choice, Poly, push_copies};
 
 /// The choice by which the case leads from its guards into them again; `None` where it is no such loop.
 pub(crate) fn keep(search: &Search, case: &Case, number: u32) -> Result<Option<Choice>, CoverFault>

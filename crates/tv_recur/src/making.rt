@@ -66,20 +66,6 @@ pub(crate) fn rows_put(alloc: Global, rows: &[Row], terms: &[Row]) -> Result<Vec
     Ok(all)
 }
 
-/// Puts the rows at the end of the list.
-pub(crate) fn push_copies(
-    alloc: Global,
-    rows: &[Row],
-    list: &mut Vec<Row>,
-) -> Result<(), AllocError>
-    ensures { IfOk result (λ _. list.new.items ≡ list.old.items ++ rows.now) }
-{
-    'rows: for row in rows {
-        push_item(list, row.copy(alloc)?)?;
-    }
-    Ok(())
-}
-
 /// The row of a number.
 fn number_row(alloc: Global, columns: u32, number: i128) -> Result<Row, AllocError>
     requires few { columns < 2 ^ 32 - 1 }

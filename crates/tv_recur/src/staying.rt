@@ -16,7 +16,7 @@ ghost use Rattle.tv_recur.specs.Refusing.{IsRefusal, AreFrom, IsUnmadeUpdate, Is
 ghost use Rattle.tv_recur.specs.Recurring.{IsRecurrence};
 
 use crate::Recurrence;
-use crate::making::{drawn_terms, handed_on, push_copies, rows_put};
+use crate::making::{drawn_terms, handed_on, rows_put};
 use crate::node::{endless_node, piece_of};
 use crate::taking::{Search, Taking, case_of, leading, narrow_rows};
 use std::alloc::{AllocError, Global};
@@ -24,7 +24,7 @@ use tv_cases::{Case, Cases};
 use tv_cert::{Node, Proof};
 use tv_cover::{Emptied, empty};
 use tv_farkas::CoverFault;
-use tv_linear::{Choice, Poly, Row, Update};
+use tv_linear::{Choice, Poly, Row, Update, push_copies};
 use tv_simplex::push_item;
 
 /// Puts the two rows that are met where the update changes nothing at the end of the list.

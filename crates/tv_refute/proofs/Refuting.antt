@@ -3,11 +3,7 @@ use Rattle.std.proofs.Common.{◌≡◌, ℕ, ◌+◌, ◌-◌, ◌<◌, List, g
 use Rattle.std.proofs.lemmas.Bool.{cases_lt}
 use Rattle.tv_linear.specs.Known.{Known}
 use Rattle.tv_linear.specs.Refutation.{ColumnHeld, column_sum}
-use Rattle.tv_refute.specs.Blocks.{AreTold, further}
-
--- the sum is 0 in each column before the first
-abbrev pub AreCancelled : List ℤ → List Known → ℕ → Type 0
-AreCancelled ms rows first = (j : ℕ) → j < first → ColumnHeld ms rows (Some j) × (column_sum ms rows (Some j) ≡ pos 0)
+use Rattle.tv_refute.specs.Blocks.{AreTold, AreCancelled, further}
 
 module _ (ms : List ℤ) (rows : List Known) (first width : ℕ) (xs : List ℤ) where
   pub cancelled_next : AreCancelled ms rows first → AreTold true width (λ k. ColumnHeld ms rows (further (Some first) k)) (λ k. column_sum ms rows (further (Some first) k)) xs → ((k : ℕ) → k < width → get_or xs k (pos 0) ≡ pos 0) → AreCancelled ms rows (first + width)

@@ -1,5 +1,6 @@
 use Rattle.std.specs.Prelude.{◌≡◌, ℕ, ◌+◌, ◌<◌, List, map, get_or, ℤ, pos, neg_ℤ, ◌+ℤ◌, ◌-ℤ◌, ◌*ℤ◌, Option, None, Some, Bool, true, false}
 use Rattle.tv_linear.specs.Fits.{IsHeld}
+use Rattle.tv_linear.specs.Refutation.{ColumnHeld, column_sum}
 use Rattle.tv_linear.specs.Known.{Known, Term, PlacesHeld, place_sum, KnownHeld, known_number, term_number}
 
 -- the column so many places further; the constant stays the constant
@@ -32,6 +33,10 @@ lessened (Some j) more a b = a -ℤ b
 abbrev pub LessHeld : Option ℕ → ℤ → ℤ → ℤ → Type 0
 LessHeld None more a b = IsHeld (a -ℤ b) × IsHeld (a -ℤ b +ℤ more)
 LessHeld (Some j) more a b = IsHeld (a -ℤ b)
+
+-- the sum is 0 in each column before the first, with each number on the way held
+abbrev pub AreCancelled : List ℤ → List Known → ℕ → Type 0
+AreCancelled ms rows first = (j : ℕ) → j < first → ColumnHeld ms rows (Some j) × (column_sum ms rows (Some j) ≡ pos 0)
 
 -- each of the first numbers is below 2^127 in magnitude
 abbrev pub AreHeld : ℕ → List ℤ → Type 0

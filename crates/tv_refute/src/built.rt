@@ -26,6 +26,9 @@ pub enum Built<'a> {
 /// How many columns are read at once: as many as a program's variables and an edge's draws are at most.
 pub(crate) const BLOCK: usize = 576;
 
+/// So many columns or fewer are read into a short list, which is made at once.
+pub(crate) const FEW: usize = 16;
+
 /// The number of a row in a column, 0 past the last, or its constant where no column is named; `None` where
 /// a number on the way is 2^127 or more in magnitude.
 pub fn number_of(known: &Built, column: Option<usize>) -> Option<i128>
@@ -96,13 +99,40 @@ fn lessen(
         (λ i. KnownHeld k (further column i) × LessHeld column more (get_or numbers.old i (pos 0)) (known_number k (further column i)))
         (λ i. lessened column more (get_or numbers.old i (pos 0)) (known_number k (further column i))) numbers.new }
 {
-    let mut others = [0; BLOCK];
-    if !read_numbers(second, column, count, &mut others) {
+    if count <= FEW {
+        let mut others = [0; FEW];
+        lessen_by(second, more, column, count, &mut others, numbers)
+    } else {
+        let mut others = [0; BLOCK];
+        lessen_by(second, more, column, count, &mut others, numbers)
+    }
+}
+
+/// The same, with room for the numbers that are read.
+#[cycle(numbers)]
+fn lessen_by(
+    second: &Built,
+    more: i128,
+    column: Option<usize>,
+    count: usize,
+    others: &mut [i128],
+    numbers: &mut [i128],
+) -> bool
+    requires room { count ≤ length others.old }
+    requires size { count ≤ length numbers.old }
+    requires some { 0 < count }
+    requires few { count ≤ 576 }
+    ensures size { length numbers.new ≡ length numbers.old }
+    ensures told { let k = built second.now in AreTold result count
+        (λ i. KnownHeld k (further column i) × LessHeld column more (get_or numbers.old i (pos 0)) (known_number k (further column i)))
+        (λ i. lessened column more (get_or numbers.old i (pos 0)) (known_number k (further column i))) numbers.new }
+{
+    if !read_numbers(second, column, count, others) {
         return false;
     }
     let step = Lessen {
         column,
-        second: &others,
+        second: others,
         more,
     };
     change_each(numbers, count, &step)
@@ -149,13 +179,40 @@ fn compose(
     if let Built::Given(row) = inner {
         return compose_row(*row, terms, column, count, totals);
     }
+    if term_count(terms) <= FEW {
+        let mut numbers = [0; FEW];
+        compose_read(inner, terms, column, count, &mut numbers, totals)
+    } else {
+        let mut numbers = [0; BLOCK];
+        compose_read(inner, terms, column, count, &mut numbers, totals)
+    }
+}
+
+/// The same, with room for the numbers that are read.
+#[cycle(numbers)]
+fn compose_read(
+    inner: &Built,
+    terms: &Terms,
+    column: Option<usize>,
+    count: usize,
+    numbers: &mut [i128],
+    totals: &mut [i128],
+) -> bool
+    requires room { 0 < length numbers.old }
+    requires block { length numbers.old ≤ 576 }
+    requires size { count ≤ length totals.old }
+    requires some { 0 < count }
+    ensures size { length totals.new ≡ length totals.old }
+    ensures told { let k = built inner.now in let ts = terms_of terms.now in AreTold result count
+        (λ i. TermsHeld k ts (further column i)) (λ i. terms_sum k ts (further column i)) totals.new }
+{
     change_each(totals, count, &PutSame(0));
     let places = term_count(terms);
+    let block = numbers.len();
     let mut first = 0;
     'blocks: while first < places {
-        let width = BLOCK.min(places - first);
-        let mut numbers = [0; BLOCK];
-        if !read_numbers(inner, Some(first), width, &mut numbers) {
+        let width = block.min(places - first);
+        if !read_numbers(inner, Some(first), width, numbers) {
             return false;
         }
         'places: for i in 0..width {

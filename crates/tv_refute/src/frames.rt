@@ -11,12 +11,9 @@ ghost use Rattle.tv_linear.specs.Views.{rows_seen};
 
 use crate::addends::{Denial, Read, add_each};
 use crate::blocks::add_row;
-use crate::built::{BLOCK, Built, read_numbers};
+use crate::built::{BLOCK, Built, FEW, read_numbers};
 use crate::steps::{PutSame, change_each};
 use tv_linear::Rows;
-
-/// For so many columns the numbers of a row are read into a short list, which is made at once.
-const FEW: usize = 16;
 
 /// The rows known at a place, the last first.
 #[derive(Drop)]

@@ -1,11 +1,12 @@
 ghost use Rattle.std.specs.Prelude.{◌≡◌, ◌↔◌, ◌≤◌, ◌<◌, ℕ, ◌++◌, ◌∷◌, [], length, get_or, IsTrue, All, pos, ◌≤ℤ◌};
 ghost use Rattle.tv_linear.specs.Known.{denied};
 ghost use Rattle.tv_linear.specs.Refutation.{Refutes};
+ghost use Rattle.tv_refute.specs.Blocks.{AreCancelled};
 ghost use Rattle.tv_refute.specs.Built.{built};
 ghost use Rattle.tv_refute.specs.Frames.{known_at};
 ghost use Rattle.tv_refute.specs.Points.{ShareNoPoint, Imply};
 
-use crate::built::{BLOCK, Built};
+use crate::built::{BLOCK, Built, FEW};
 use crate::frames::{Frames, is_count, sums_at};
 
 /// Whether no multiplier is below 0.
@@ -13,6 +14,47 @@ fn none_negative(multipliers: &[i64]) -> bool
     ensures { IsTrue result ↔ All (λ m. pos 0 ≤ℤ m) multipliers.now }
 {
     multipliers.iter().all(|m| *m >= 0)
+}
+
+/// Whether the sum is 0 in each of so many columns, with room for the sums in a block of them.
+fn are_cancelled_in(
+    columns: usize,
+    frames: &Frames,
+    multipliers: &[i64],
+    totals: &mut [i128],
+) -> bool
+    requires many { length multipliers.now ≡ length (known_at frames.now) }
+    requires room { 0 < length totals.old }
+    requires block { length totals.old ≤ 576 }
+    ensures { IsTrue result ↔ AreCancelled multipliers.now (known_at frames.now) columns }
+{
+    let block = totals.len();
+    let mut first = 0;
+    while first < columns {
+        let width = block.min(columns - first);
+        if !sums_at(frames, multipliers, Some(first), width, totals) {
+            return false;
+        }
+        if !are_zero(totals, width) {
+            return false;
+        }
+        first += width;
+    }
+    true
+}
+
+/// Whether the sum of the products with the rows known at the place is 0 in each of so many columns.
+fn are_cancelled(columns: usize, frames: &Frames, multipliers: &[i64]) -> bool
+    requires { length multipliers.now ≡ length (known_at frames.now) }
+    ensures { IsTrue result ↔ AreCancelled multipliers.now (known_at frames.now) columns }
+{
+    if columns <= FEW {
+        let mut totals = [0; FEW];
+        are_cancelled_in(columns, frames, multipliers, &mut totals)
+    } else {
+        let mut totals = [0; BLOCK];
+        are_cancelled_in(columns, frames, multipliers, &mut totals)
+    }
 }
 
 /// Whether the multipliers refute the rows known at the place.
@@ -26,17 +68,8 @@ pub fn refutes(columns: usize, frames: &Frames, multipliers: &[i64]) -> bool
     if !none_negative(multipliers) {
         return false;
     }
-    let mut totals = [0; BLOCK];
-    let mut first = 0;
-    while first < columns {
-        let width = BLOCK.min(columns - first);
-        if !sums_at(frames, multipliers, Some(first), width, &mut totals) {
-            return false;
-        }
-        if !are_zero(&totals, width) {
-            return false;
-        }
-        first += width;
+    if !are_cancelled(columns, frames, multipliers) {
+        return false;
     }
     let mut constant = [0; 1];
     sums_at(frames, multipliers, None, 1, &mut constant) && constant[0] > 0

@@ -6,12 +6,11 @@ ghost use Rattle.tv_cases.specs.Given.{row_lists};
 ghost use Rattle.tv_region.specs.Met.{all_met, meets, Has};
 ghost use Rattle.tv_region.specs.Inclusion.{IsShown, LiesInside, LiesInSome};
 
-use crate::joining::joined;
 use crate::limits::Limits;
 use std::alloc::{AllocError, Global};
 use tv_farkas::{Refuted, refute};
 use tv_linear::sums::{Listed, dot_from};
-use tv_linear::{Row, RowFault, have_columns, held};
+use tv_linear::{Row, RowFault, copies, have_columns, held};
 use tv_simplex::SolveFault;
 
 /// The numbers of a rational point over its scale.
@@ -65,7 +64,7 @@ fn is_refuted(alloc: Global, rows: &[Row], more: Row, limits: &Limits) -> Result
     ensures { let n = limits.now.columns in
         IfOk result (λ b. IsTrue b → (xs : List ℤ) → length xs ≡ n → all_met xs rows.now ≡ true → meets xs more ≡ true → ⊥) }
 {
-    let mut all = joined(alloc, rows, &[])?;
+    let mut all = copies(alloc, rows)?;
     all.push(more)?;
     match refute(alloc, &all, limits.columns, limits.pivots) {
         Ok(Refuted::Empty { .. }) => Ok(true),

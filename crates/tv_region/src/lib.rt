@@ -10,7 +10,6 @@ mod draws;
 mod fault;
 mod fitting;
 mod inclusion;
-mod joining;
 mod limits;
 mod lists;
 mod located;

@@ -9,7 +9,7 @@ use Rattle.tv_choice.proofs.ways.case_rows.Goals as goal
 
 pub owed-init : goal.owed-init
 owed-init c =
-    made_none c.args.columns (case_view c.args.case.now) c.copy_onto.new.items.items c.requires.guards (subst (All IsNarrow) c.deref.ensures.value c.in_ok-copy_onto.ensures.narrow) (c.in_ok-copy_onto.ensures.copied ∙ (λ i. c.new-rows.ensures.items i ++ c.deref.ensures.value i))
+    made_none c.args.columns (case_view c.args.case.now) c.push_copies.new.list.items c.requires.guards (subst (All IsNarrow) c.deref.ensures.value c.in_ok-push_copies.ensures.narrow) (c.in_ok-push_copies.ensures.copied ∙ (λ i. c.new-rows.ensures.items i ++ c.deref.ensures.value i))
 
 pub owed-preserved : goal.owed-preserved
 owed-preserved c =

@@ -9,7 +9,7 @@ pub invariant_of-judge : goal.invariant_of-judge
 invariant_of-judge c =
     let case = case_view c.args.case.now in
     let front = c.in_ok-rows.ensures ∙ ap (λ cs. map (padded c.args.case.now.draws) (rows_at c.args.case.now.from cs)) c.deref.ensures.value in
-    let rows : c.copy_onto.new.items.items ≡ step_rows case c.args.now.items = c.in_ok-copy_onto.ensures ∙ (λ i. front i ++ c.deref-2.ensures.value i) in
+    let rows : c.push_copies.new.list.items ≡ step_rows case c.args.now.items = c.in_ok-push_copies.ensures.copied ∙ (λ i. front i ++ c.deref-2.ensures.value i) in
     let strong = subst (λ rs. IsStronger rs c.in_ok-strongest.field-0.items) rows c.in_ok-strongest.ensures in
     let few = c.requires.few in
     let draws = c.requires.case.1.few_draws in
@@ -24,7 +24,7 @@ pub returns-clause-sieved : goal.returns-clause-sieved
 returns-clause-sieved c =
     let case = case_view c.args.case.now in
     let front = c.in_ok-rows.ensures ∙ ap (λ cs. map (padded c.args.case.now.draws) (rows_at c.args.case.now.from cs)) c.deref.ensures.value in
-    let rows : c.copy_onto.new.items.items ≡ step_rows case c.args.now.items = c.in_ok-copy_onto.ensures ∙ (λ i. front i ++ c.deref-2.ensures.value i) in
+    let rows : c.push_copies.new.list.items ≡ step_rows case c.args.now.items = c.in_ok-push_copies.ensures.copied ∙ (λ i. front i ++ c.deref-2.ensures.value i) in
     let strong = subst (λ rs. IsStronger rs c.in_ok-strongest.field-0.items) rows c.in_ok-strongest.ensures in
     sieved_step c.args.variables case c.args.now.items c.in_ok-strongest.field-0.items c.requires.over strong c.sieve.result c.sieve.ensures.sieved
 
@@ -32,6 +32,6 @@ pub returns-clause-refusals : goal.returns-clause-refusals
 returns-clause-refusals c =
     let case = case_view c.args.case.now in
     let front = c.in_ok-rows.ensures ∙ ap (λ cs. map (padded c.args.case.now.draws) (rows_at c.args.case.now.from cs)) c.deref.ensures.value in
-    let rows : c.copy_onto.new.items.items ≡ step_rows case c.args.now.items = c.in_ok-copy_onto.ensures ∙ (λ i. front i ++ c.deref-2.ensures.value i) in
+    let rows : c.push_copies.new.list.items ≡ step_rows case c.args.now.items = c.in_ok-push_copies.ensures.copied ∙ (λ i. front i ++ c.deref-2.ensures.value i) in
     let strong = subst (λ rs. IsStronger rs c.in_ok-strongest.field-0.items) rows c.in_ok-strongest.ensures in
     step_refused c.args.variables case c.args.now.items c.in_ok-strongest.field-0.items c.requires.over strong c.args.budget.now.pivots c.args.budget.now.splits c.sieve.result c.sieve.ensures.refusals

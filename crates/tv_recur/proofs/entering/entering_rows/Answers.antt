@@ -15,7 +15,7 @@ returns-in_ok-append-in-Ok-clause-entering c =
     let made = c.in-Ok.ensures.rows in
     record {
       exact = c.in_ok-append-in-Ok.ensures.items
-          ∙ (λ i. (c.in_ok-push_copies.ensures ∙ (λ j. c.new-rows.ensures.items j ++ c.deref.ensures.value j)) i ++ (made.exact ∙ ap (rows_before case) c.deref-2.ensures.value) i);
+          ∙ (λ i. (c.in_ok-push_copies.ensures.copied ∙ (λ j. c.new-rows.ensures.items j ++ c.deref.ensures.value j)) i ++ (made.exact ∙ ap (rows_before case) c.deref-2.ensures.value) i);
       fits = subst (All (FitsBefore case)) c.deref-2.ensures.value made.fits;
     }
 

@@ -18,7 +18,7 @@ empty-requires-clause-even c =
     let good = case_is about c.args.number case c.args.search.now.about.now.are_cases c.in-Some.ensures in
     let made : c.deref-4.result.now ≡ staying_rows about.variables case =
     c.deref-4.ensures.value ∙ c.in-Ok.ensures.pushed
-    ∙ (λ i. (c.in_ok-push_copies.ensures ∙ (λ j. c.new-rows.ensures.items j ++ c.deref.ensures.value j)) i ++ unchanged_rows (c.variables.ensures.same i + case.draws) (c.deref-2.ensures.value i)) in
+    ∙ (λ i. (c.in_ok-push_copies.ensures.copied ∙ (λ j. c.new-rows.ensures.items j ++ c.deref.ensures.value j)) i ++ unchanged_rows (c.variables.ensures.same i + case.draws) (c.deref-2.ensures.value i)) in
     subst (λ k. All (λ r. columns r ≡ k + case.draws) c.deref-4.result.now) (sym c.variables.ensures.same) (staying_wide about.variables case c.deref-4.result.now made good.guards good.terms)
 
 pub returns-in-Ok-Tree-clause-found : goal.returns-in-Ok-Tree-clause-found
@@ -28,7 +28,7 @@ returns-in-Ok-Tree-clause-found c =
     let good = case_is about c.args.number case c.args.search.now.about.now.are_cases c.in-Some.ensures in
     let made : c.deref-4.result.now ≡ staying_rows about.variables case =
     c.deref-4.ensures.value ∙ c.in-Ok.ensures.pushed
-    ∙ (λ i. (c.in_ok-push_copies.ensures ∙ (λ j. c.new-rows.ensures.items j ++ c.deref.ensures.value j)) i ++ unchanged_rows (c.variables.ensures.same i + case.draws) (c.deref-2.ensures.value i)) in
+    ∙ (λ i. (c.in_ok-push_copies.ensures.copied ∙ (λ j. c.new-rows.ensures.items j ++ c.deref.ensures.value j)) i ++ unchanged_rows (c.variables.ensures.same i + case.draws) (c.deref-2.ensures.value i)) in
     let none = rw c.in-Ok-Tree.field-0-is at c.in-Ok-Tree.ensures.none in
     let never = never_stays about case c.deref-4.result.now good made (λ xs p. none xs (subst (λ k. IsWholePoint (k + case.draws) c.deref-4.result.now xs) (sym c.variables.ensures.same) p)) in
     λ other e. subst (NeverStays about) (same_read (slice_get about.cases c.args.number) case other c.in-Some.ensures e) never
@@ -56,7 +56,7 @@ returns-in-Err-empty-clause-refusals c =
     let case = case_view c.in-Some.case.now in
     let made : c.deref-4.result.now ≡ staying_rows about.variables case =
     c.deref-4.ensures.value ∙ c.in-Ok.ensures.pushed
-    ∙ (λ i. (c.in_ok-push_copies.ensures ∙ (λ j. c.new-rows.ensures.items j ++ c.deref.ensures.value j)) i ++ unchanged_rows (c.variables.ensures.same i + case.draws) (c.deref-2.ensures.value i)) in
+    ∙ (λ i. (c.in_ok-push_copies.ensures.copied ∙ (λ j. c.new-rows.ensures.items j ++ c.deref.ensures.value j)) i ++ unchanged_rows (c.variables.ensures.same i + case.draws) (c.deref-2.ensures.value i)) in
     let among = found_among about.cases c.args.number case c.in-Some.ensures in
     let narrow = subst (All IsNarrow) (c.deref-3.ensures.value ∙ sym c.deref-4.ensures.value) c.narrow_rows.ensures in
     let from = staying_from about c.args.search.now.budget.now case among (c.if-case-start.false ∙ c.start.ensures.same) (c.if-case-start-2.false ∙ c.start-else-case-start.ensures.same) c.deref-4.result.now made narrow in
@@ -69,7 +69,7 @@ staying_at-requires-clause-from c =
     let case = case_view c.in-Some.case.now in
     let made : c.deref-4.result.now ≡ staying_rows about.variables case =
     c.deref-4.ensures.value ∙ c.in-Ok.ensures.pushed
-    ∙ (λ i. (c.in_ok-push_copies.ensures ∙ (λ j. c.new-rows.ensures.items j ++ c.deref.ensures.value j)) i ++ unchanged_rows (c.variables.ensures.same i + case.draws) (c.deref-2.ensures.value i)) in
+    ∙ (λ i. (c.in_ok-push_copies.ensures.copied ∙ (λ j. c.new-rows.ensures.items j ++ c.deref.ensures.value j)) i ++ unchanged_rows (c.variables.ensures.same i + case.draws) (c.deref-2.ensures.value i)) in
     let among = found_among about.cases c.args.number case c.in-Some.ensures in
     let narrow = subst (All IsNarrow) (c.deref-3.ensures.value ∙ sym c.deref-4.ensures.value) c.narrow_rows.ensures in
     let from = staying_from about c.args.search.now.budget.now case among (c.if-case-start.false ∙ c.start.ensures.same) (c.if-case-start-2.false ∙ c.start-else-case-start.ensures.same) c.deref-4.result.now made narrow in

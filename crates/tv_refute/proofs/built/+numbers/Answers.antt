@@ -8,20 +8,20 @@ use Rattle.tv_refute.specs.Terms.{terms_of}
 use Rattle.tv_refute.proofs.Composed.{AreComposing, all_cleared, composed_next, compose_fails, composed_all, read_fails, sums_fail, constant_added}
 use Rattle.tv_refute.proofs.built.+numbers.Goals as goal
 
-pub compose-blocks-2-init : goal.compose-blocks-2-init
-compose-blocks-2-init t c = record {
+pub compose_read-blocks-2-init : goal.compose_read-blocks-2-init
+compose_read-blocks-2-init t c = record {
   sums = all_cleared (built c.args.inner.now) (terms_of c.args.terms.now) c.args.column c.args.count c.change_each.result c.change_each.new.numbers c.change_each.ensures.told;
   size = c.change_each.ensures.size;
 }
 
-pub compose-returns-then-not-read_numbers-clause-told : goal.compose-returns-then-not-read_numbers-clause-told
-compose-returns-then-not-read_numbers-clause-told t c =
+pub compose_read-returns-then-not-read_numbers-clause-told : goal.compose_read-returns-then-not-read_numbers-clause-told
+compose_read-returns-then-not-read_numbers-clause-told t c =
     read_fails (built c.args.inner.now) (terms_of c.args.terms.now) c.args.column c.args.count c.blocks-2.first c.min-width.result
     (λ i. known_number (built c.args.inner.now) (further (Some c.blocks-2.first) i)) c.read_numbers.new.numbers c.blocks-2.totals
     (omega (arith, c.min-width.ensures, c.term_count-places.ensures, c.blocks-2-test.true)) c.requires.some c.if-not-read_numbers.ensures.told
 
-pub compose-returns-then-not-add_term-clause-told : goal.compose-returns-then-not-add_term-clause-told
-compose-returns-then-not-add_term-clause-told t c =
+pub compose_read-returns-then-not-add_term-clause-told : goal.compose_read-returns-then-not-add_term-clause-told
+compose_read-returns-then-not-add_term-clause-told t c =
     let number_fits : FitsSigned w128 (get_or c.read_numbers.new.numbers c.places.i (pos 0)) = search rules in
     let told = simp to_z-of_z at c.if-not-add_term.ensures.told in
     let number = c.if-not-read_numbers.ensures.told c.places.i c.places-test.true in
@@ -29,8 +29,8 @@ compose-returns-then-not-add_term-clause-told t c =
     compose_fails (built c.args.inner.now) (terms_of c.args.terms.now) c.args.column c.args.count c.places.totals (c.blocks-2.first + c.places.i) c.places.invariant.sums below
     (get_or c.read_numbers.new.numbers c.places.i (pos 0)) number.1 c.add_term.new.totals c.add_term.new.totals told
 
-pub compose-places-preserved : goal.compose-places-preserved
-compose-places-preserved t c =
+pub compose_read-places-preserved : goal.compose_read-places-preserved
+compose_read-places-preserved t c =
     let number_fits : FitsSigned w128 (get_or c.read_numbers.new.numbers c.places.i (pos 0)) = search rules in
     let told = simp to_z-of_z at c.if-not-add_term.ensures.told in
     let number = c.if-not-read_numbers.ensures.told c.places.i c.places-test.true in
@@ -43,8 +43,8 @@ compose-places-preserved t c =
       size = c.if-not-add_term.ensures.size ∙ c.places.invariant.size;
     }
 
-pub compose-returns-clause-told : goal.compose-returns-clause-told
-compose-returns-clause-told t c = composed_all (built c.args.inner.now) (terms_of c.args.terms.now) c.args.column c.args.count c.blocks-2.totals c.blocks-2.first c.blocks-2.invariant.sums (omega (arith, c.blocks-2-test.false, c.term_count-places.ensures))
+pub compose_read-returns-clause-told : goal.compose_read-returns-clause-told
+compose_read-returns-clause-told t c = composed_all (built c.args.inner.now) (terms_of c.args.terms.now) c.args.column c.args.count c.blocks-2.totals c.blocks-2.first c.blocks-2.invariant.sums (omega (arith, c.blocks-2-test.false, c.term_count-places.ensures))
 
 pub read_numbers-returns-then-not-compose-clause-told : goal.read_numbers-returns-then-not-compose-clause-told
 read_numbers-returns-then-not-compose-clause-told t c = sums_fail (built c.args.known.now) (built c.in-Composed.inner.now) (terms_of c.in-Composed.terms.now) c.args.column c.args.count (ap built c.in-Composed.is) c.compose.new.totals c.compose.new.totals c.if-not-compose.ensures.told

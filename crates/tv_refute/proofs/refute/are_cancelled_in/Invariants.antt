@@ -1,7 +1,7 @@
 use Rattle.std.proofs.Common.{◌-◌}
+use Rattle.tv_refute.specs.Blocks.{AreCancelled}
 use Rattle.tv_refute.specs.Frames.{known_at}
-use Rattle.tv_refute.proofs.Refuting.{AreCancelled}
-use Rattle.tv_refute.proofs.refute.refutes.Given as goal
+use Rattle.tv_refute.proofs.refute.are_cancelled_in.Given as goal
 
 abbrev pub invariant-loop-first : goal.invariant-loop-first
 invariant-loop-first l = AreCancelled l.multipliers (known_at l.frames) l.first

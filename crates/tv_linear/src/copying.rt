@@ -1,0 +1,48 @@
+// Copies of rows and of lists of numbers.
+
+ghost use Rattle.std.specs.Prelude.{◌≡◌, ◌++◌, All, IfOk, map};
+ghost use Rattle.tv_linear.specs.Linear.{IsNarrow};
+
+use crate::Row;
+use std::alloc::{AllocError, Global};
+
+/// Puts copies of the rows, each of which is narrow, at the end of a list.
+pub fn push_copies(alloc: Global, rows: &[Row], list: &mut Vec<Row>) -> Result<(), AllocError>
+    ensures copied { IfOk result (λ _. list.new.items ≡ list.old.items ++ rows.now) }
+    ensures narrow { IfOk result (λ _. All IsNarrow rows.now) }
+{
+    'rows: for row in rows {
+        let _columns = row.columns();
+        list.push(row.copy(alloc)?)?;
+    }
+    Ok(())
+}
+
+/// Copies of the rows.
+pub fn copies(alloc: Global, rows: &[Row]) -> Result<Vec<Row>, AllocError>
+    ensures { IfOk result (λ v. v.items ≡ rows.now) }
+{
+    let mut list = Vec::new(alloc);
+    push_copies(alloc, rows, &mut list)?;
+    Ok(list)
+}
+
+/// The rows of the first list and those of the second.
+pub fn joined(alloc: Global, first: &[Row], second: &[Row]) -> Result<Vec<Row>, AllocError>
+    ensures { IfOk result (λ v. v.items ≡ first.now ++ second.now) }
+{
+    let mut list = copies(alloc, first)?;
+    push_copies(alloc, second, &mut list)?;
+    Ok(list)
+}
+
+/// Copies of the lists.
+pub fn copies_of_lists(alloc: Global, lists: &[Vec<i64>]) -> Result<Vec<Vec<i64>>, AllocError>
+    ensures { IfOk result (λ v. map (λ l. l.items) v.items ≡ map (λ l. l.items) lists.now) }
+{
+    let mut copies = Vec::new(alloc);
+    for list in lists {
+        copies.push(Vec::from_slice(alloc, list)?)?;
+    }
+    Ok(copies)
+}
