@@ -1,6 +1,6 @@
 //! Lists of rows.
 
-ghost use Rattle.std.specs.Prelude.{◌≡◌, ◌++◌, ◌∷◌, [], ◌-◌, ◌^◌, ◌<◌, ◌&&◌, true, map, IfOk, IsTrue, MatchResult};
+ghost use Rattle.std.specs.Prelude.{◌≡◌, ◌++◌, ◌∷◌, [], ◌-◌, ◌<◌, ◌&&◌, true, map, IfOk, IsTrue, MatchResult};
 ghost use Rattle.tv_linear.specs.Linear.{columns, IsWithin};
 ghost use Rattle.tv_cases.specs.Given.{lists, row_lists, GivesLists, IsFaultOf};
 ghost use Rattle.tv_cases.specs.Forms.{is_narrow};

@@ -14,11 +14,8 @@ use crate::failure::Failure;
 use crate::few::{are_few, chosen_are_few};
 use tv_cases::Case;
 use tv_cert::{Destination, Marked, Owes, Pieces, Proof};
-use tv_linear::{Choice, Cover};
+use tv_linear::{Choice, Cover, MAX_SPLITS};
 use tv_shape::{Targets, pieces_into};
-
-/// How many splits may lie on a path.
-const MAX_SPLITS: u32 = 128;
 
 impl Context<'_> {
     /// A cover of a place with so many rows of so many columns.

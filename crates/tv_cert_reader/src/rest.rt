@@ -1,5 +1,4 @@
-ghost use Rattle.std.specs.Prelude.{◌≡◌, ◌^◌, ◌<◌, length, All, true, false};
-ghost use Rattle.tv_lines.specs.Numbers.{IsNarrow};
+ghost use Rattle.std.specs.Prelude.{◌^◌, ◌<◌, length, true, false};
 ghost use Rattle.tv_cases.specs.Systems.{cases_of};
 ghost use Rattle.tv_cert.specs.AimViews.{aim_states};
 ghost use Rattle.tv_cert_reader.specs.Values.{ReadsStart, ReadsValues, ReadsEnd};
@@ -15,12 +14,9 @@ use crate::rows::numbers;
 use crate::sort::Sort;
 use std::alloc::Global;
 use tv_cert::{Aim, Node, Pieces, Verdict};
-use tv_linear::{Cover, widened};
+use tv_linear::{Cover, MAX_SPLITS, widened};
 use tv_lines::Head;
 use tv_shape::Targets;
-
-/// How many splits may lie on a path.
-const MAX_SPLITS: u32 = 128;
 
 /// Whether the next line says that the property is proved.
 pub fn said(alloc: Global, cursor: &mut Cursor) -> Result<bool, Failure>

@@ -17,12 +17,9 @@ use crate::targets::falling;
 use tv_cases::Case;
 use tv_cert::{Destination, Marked, Owes, Pieces};
 use tv_cert_reader::{Context, Cursor, Failure, are_few, chosen_are_few};
-use tv_linear::Rows;
+use tv_linear::{MAX_SPLITS, Rows};
 use tv_refute::{Change, Frames, Terms};
 use tv_shape::Targets;
-
-/// How many splits may lie on a path.
-const MAX_SPLITS: u32 = 128;
 
 /// Whether the cover that stands next is met at a place with so many rows of so many columns.
 ///

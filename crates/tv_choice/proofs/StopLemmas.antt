@@ -21,7 +21,6 @@ use Rattle.tv_cover.specs.declared.emptied.Emptied.TheVariants as emptied
 use Rattle.tv_cases.specs.LinearCases.{LinearCase, leaving}
 use Rattle.tv_cert.specs.Shapes.{CoverShape, owed_count}
 use Rattle.tv_shape.specs.Narrow.{CoverNarrow}
-use Rattle.tv_choice.specs.Rows.{padded_row}
 use Rattle.tv_choice.specs.Same.{AreSame, AreKnown}
 use Rattle.tv_choice.specs.Leading.{Query, state}
 use Rattle.tv_choice.specs.ChoicePaths.{starting_rows, start}
@@ -29,6 +28,7 @@ use Rattle.tv_choice.specs.Stopping.{IsStopTree, IsStart, IsStoppedBy, AreStopTr
 use Rattle.tv_choice.proofs.SameLemmas.{known_self, cover_same, same_append, are_same_then, all_same, given_append}
 use Rattle.tv_choice.proofs.FitLemmas.{Contains-leaving}
 use Rattle.tv_choice.proofs.WayLemmas.{padded_same, padded_met, met_padded, front_back, length-drop, all_before, all_behind}
+use Rattle.tv_linear.specs.Arithmetic.{padded_row}
 
 -- ---- trees without targets
 one_more : (known : List Known) (x : Known) (count : ℕ) → length known ≡ count → length (known ++ x ∷ []) ≡ count + 1

@@ -8,7 +8,7 @@ use Rattle.std.proofs.lemmas.Int.{ints}
 use Rattle.std.proofs.lemmas.List.{length-map, get_or_past}
 use Rattle.std.proofs.lemmas.List.Elements.{All-nil, All-cons, All-head, All-tail, All-push, All-append}
 use Rattle.tv_linear.specs.Linear.{Linear, linear, columns, dot, value, IsMet, IsWithin, IsNarrow}
-use Rattle.tv_linear.specs.Arithmetic.{zeros, unit, column_row, composed as composed_row}
+use Rattle.tv_linear.specs.Arithmetic.{zeros, unit, column_row, composed as composed_row, padded_row}
 use Rattle.tv_linear.specs.Fits.{FitsComposed, IsFirstWide, IsFaultWhere}
 use Rattle.tv_linear.specs.declared.fault.RowFault.{RowFault}
 use Rattle.tv_linear.specs.declared.fault.RowFault.TheVariants as row_faults
@@ -28,7 +28,7 @@ use Rattle.tv_cert.specs.Choices.{drawn_change, drawn_guards}
 use Rattle.tv_cert.specs.Obligations.{case_change}
 use Rattle.tv_choice.specs.declared.ways.Way.{Way}
 use Rattle.tv_cover.specs.Targets.{IsNarrowRow}
-use Rattle.tv_choice.specs.Rows.{padded_row, fixes, put_terms, put_rows, IsWideBefore, IsWidePut}
+use Rattle.tv_choice.specs.Rows.{fixes, put_terms, put_rows, IsWideBefore, IsWidePut}
 use Rattle.tv_choice.specs.Same.{SameNumbers, AreSame}
 use Rattle.tv_choice.specs.Leading.{Query, pieces_at, piece_rows}
 use Rattle.tv_choice.specs.ChoicePaths.{AreDrawTerms, IsWayIn}
@@ -471,10 +471,3 @@ length-drop (suc n) d (z ∷ zs) e = length-drop n d zs (omega (arith, e))
 
 pub asked_even : (n : ℕ) (c : LinearCase) (owed rows : List Linear) (xs : List ℤ) → AreCaseRows n c owed rows → All (λ r. columns r ≡ n + c.draws) (fixes (n + c.draws) 0 xs ++ rows)
 asked_even n c owed rows xs h = All-append (λ r. columns r ≡ n + c.draws) (fixes (n + c.draws) 0 xs) rows (fixes_even (n + c.draws) 0 xs) h.even
-
-pub padded_narrow : (cs : List ℤ) (k : ℤ) (m w : ℕ) → IsNarrow (linear cs k) → length cs + m ≡ w → w < 2 ^ 32 - 1 → IsNarrow (linear (cs ++ zeros m) (pos 0))
-padded_narrow cs k m w h e l = record {
-  coefficients = All-append (IsWithin 62) cs (zeros m) h.coefficients (zeros-narrow m);
-  constant = omega arith;
-  few = (let a = length-append cs (zeros m) in let z = length-zeros m in omega (arith, a, z, e, l));
-}

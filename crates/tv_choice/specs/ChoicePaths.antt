@@ -2,7 +2,7 @@
 use Rattle.std.specs.Prelude.{◌≡◌, ◌⊎◌, ℕ, ◌+◌, ◌<◌, List, [], ◌∷◌, ◌++◌, length, map, take, drop, get_or, All, ℤ, pos, neg_ℤ, Option, None, Some, Vec, IsTrue}
 use Rattle.std.specs.List.{Contains}
 use Rattle.tv_linear.specs.Linear.{Linear, columns, value, IsMet}
-use Rattle.tv_linear.specs.Arithmetic.{unit, opposite, denial, constant_row}
+use Rattle.tv_linear.specs.Arithmetic.{unit, opposite, denial, constant_row, padded_row}
 use Rattle.tv_linear.specs.declared.region.Piece.{Piece}
 use Rattle.tv_farkas.specs.declared.branch.Branch.{Branch}
 use Rattle.tv_farkas.specs.Paths.{IsWholePoint, IsPointSplit, IsPath}
@@ -10,7 +10,7 @@ use Rattle.tv_farkas.specs.EmptyPaths.{IsWholePointOf}
 use Rattle.tv_cases.specs.LinearCases.{LinearCase}
 use Rattle.tv_cover.specs.Targets.{HasPoint, IsNarrowRow}
 use Rattle.tv_cover.specs.CoverPaths.{IsLeftOpen, IsShut}
-use Rattle.tv_choice.specs.Rows.{padded_row, fixes, case_rows, put_rows}
+use Rattle.tv_choice.specs.Rows.{fixes, case_rows, put_rows}
 use Rattle.tv_choice.specs.Leading.{Query, IsServed, IsEntry, piece_rows}
 use Rattle.tv_choice.specs.Targets.{front, draw_choices, targets}
 

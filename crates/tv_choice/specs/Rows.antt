@@ -8,10 +8,6 @@ use Rattle.tv_cases.specs.Before.{before, rows_after, FitsTerms}
 use Rattle.tv_cases.specs.EdgeCases.{columns_from}
 use Rattle.tv_cases.specs.LinearCases.{LinearCase}
 
--- the row with so many columns more, each of them 0
-abbrev pub padded_row : ℕ → Linear → Linear
-padded_row more r = linear (r.coefficients ++ zeros more) r.constant
-
 -- two rows over w columns for each number, which fix a column at it, from a column on
 abbrev pub fixes : ℕ → ℕ → List ℤ → List Linear
 fixes w column [] = []

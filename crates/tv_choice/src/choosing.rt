@@ -32,8 +32,7 @@ use tv_cases::Cases;
 use tv_farkas::{
     Branch, Budget, CoverFault, Halves, Judged, divided, first_fraction, halves_at_point, judge,
 };
-use tv_linear::{Choice, ChoiceTree, Piece, Region, Row};
-use tv_simplex::push_item;
+use tv_linear::{Choice, ChoiceTree, Piece, Region, Row, push_item};
 
 /// What rows have.
 #[derive(Drop)]

@@ -7,8 +7,7 @@ ghost use Rattle.tv_choice.specs.Ways.{lists_of, AreDifferentOf};
 use crate::ways::Way;
 use std::alloc::{AllocError, Global};
 use tv_farkas::is_same;
-use tv_linear::Row;
-use tv_simplex::push_item;
+use tv_linear::{Row, push_item};
 
 /// Whether the two lists have the same rows.
 fn are_same(first: &[Row], second: &[Row]) -> bool

@@ -9,8 +9,7 @@ ghost use Rattle.tv_choice.specs.Targets.{front, term_of, one_term, terms_given,
 use crate::lists::number_row;
 use std::alloc::{AllocError, Global};
 use tv_linear::sums::{Listed, dot_from};
-use tv_linear::{Row, held};
-use tv_simplex::push_item;
+use tv_linear::{Row, held, push_item};
 
 /// The row without its columns from `columns` on.
 fn front(alloc: Global, row: &Row, columns: u32) -> Result<Row, AllocError>

@@ -1,15 +1,14 @@
 // Lists of rows.
 
 ghost use Rattle.std.specs.Prelude.{◌≡◌, ◌+◌, ◌-◌, ◌^◌, ◌<◌, ◌≤◌, ◌++◌, ◌∷◌, [], All, length, map, IfOk};
-ghost use Rattle.tv_linear.specs.Linear.{columns as width, IsNarrow, IsWithin};
-ghost use Rattle.tv_linear.specs.Arithmetic.{constant_row};
+ghost use Rattle.tv_linear.specs.Linear.{columns as width, IsWithin};
+ghost use Rattle.tv_linear.specs.Arithmetic.{constant_row, padded_row};
 ghost use Rattle.tv_farkas.specs.Refuting.{AreShort};
-ghost use Rattle.tv_choice.specs.Rows.{padded_row, fixes};
+ghost use Rattle.tv_choice.specs.Rows.{fixes};
 
 use std::alloc::{AllocError, Global};
 use tv_farkas::{at_least, at_most};
-use tv_linear::{Row, copies};
-use tv_simplex::push_item;
+use tv_linear::{Row, copies, push_item};
 
 /// The rows, and one more at the end.
 pub fn with_row(alloc: Global, rows: &[Row], row: &Row) -> Result<Vec<Row>, AllocError>
@@ -20,18 +19,6 @@ pub fn with_row(alloc: Global, rows: &[Row], row: &Row) -> Result<Vec<Row>, Allo
     Ok(all)
 }
 
-/// The row with so many columns more, each of them 0.
-fn padded(alloc: Global, row: &Row, more: u32) -> Result<Row, AllocError>
-    requires few { width row.now + more < 2 ^ 32 - 1 }
-    ensures exact { IfOk result (λ r. r ≡ padded_row more row.now) }
-{
-    let _columns = row.columns();
-    let mut coefficients = Vec::from_slice(alloc, row.coefficients())?;
-    let zero = Row::zero(alloc, more)?;
-    coefficients.extend_from_slice(zero.coefficients())?;
-    Row::from_narrow(coefficients, 0).with_constant(alloc, row.constant())
-}
-
 /// Each row with so many columns more.
 pub fn all_padded(alloc: Global, rows: &[Row], more: u32) -> Result<Vec<Row>, AllocError>
     requires few { All (λ r. width r + more < 2 ^ 32 - 1) rows.now }
@@ -39,7 +26,7 @@ pub fn all_padded(alloc: Global, rows: &[Row], more: u32) -> Result<Vec<Row>, Al
 {
     let mut all = Vec::new(alloc);
     'rows: for row in rows {
-        push_item(&mut all, padded(alloc, row, more)?)?;
+        push_item(&mut all, row.padded(alloc, more)?)?;
     }
     Ok(all)
 }

@@ -1,6 +1,6 @@
 // Which ways are shown at rows, and which are excluded.
 
-ghost use Rattle.std.specs.Prelude.{◌≡◌, ◌-◌, ◌^◌, ◌<◌, ◌++◌, ◌∷◌, [], All, length, IfOk};
+ghost use Rattle.std.specs.Prelude.{◌≡◌, ◌-◌, ◌<◌, ◌∷◌, [], All, IfOk};
 ghost use Rattle.std.specs.Result.{IfErr};
 ghost use Rattle.tv_linear.specs.Linear.{columns as width};
 ghost use Rattle.tv_cover.specs.Targets.{AreEven};
@@ -17,8 +17,7 @@ use crate::place::{Place, is_met};
 use crate::question::Question;
 use crate::ways::Way;
 use tv_farkas::{CoverFault, Judged, judge};
-use tv_linear::Row;
-use tv_simplex::push_item;
+use tv_linear::{Row, push_item};
 
 /// Whether rows are shown.
 #[derive(Drop)]

@@ -1,7 +1,6 @@
 // The two sides of a split, and the paths that they lie on.
 
-ghost use Rattle.std.specs.Prelude.{◌≡◌, MatchResult, IfOk};
-ghost use Rattle.std.specs.Result.{IfErr};
+ghost use Rattle.std.specs.Prelude.{IfOk};
 ghost use Rattle.tv_linear.specs.Arithmetic.{denial};
 ghost use Rattle.tv_farkas.specs.declared.fault.CoverFault.TheVariants.{Memory};
 ghost use Rattle.tv_cover.specs.Targets.{IsNarrowRow};
@@ -10,8 +9,7 @@ ghost use Rattle.tv_choice.specs.Settling.{IsPutBefore};
 
 use std::alloc::{AllocError, Global};
 use tv_farkas::{Branch, CoverFault, Halves};
-use tv_linear::{Row, RowFault};
-use tv_simplex::push_item;
+use tv_linear::{Row, RowFault, push_item};
 
 /// The sides where a row is denied and where it is met.
 pub fn halves_at_row(alloc: Global, row: &Row) -> Result<Halves, AllocError>

@@ -1,13 +1,12 @@
 // Whether no step leads anywhere from the points of rows.
 
-ghost use Rattle.std.specs.Prelude.{◌≡◌, ◌+◌, ◌-◌, ◌^◌, ◌<◌, ◌≤◌, ◌++◌, All, IfOk, IsTrue, Some, slice_get, map};
+ghost use Rattle.std.specs.Prelude.{◌≡◌, ◌+◌, ◌-◌, ◌<◌, ◌≤◌, IfOk, IsTrue, Some};
 ghost use Rattle.std.specs.Result.{IfErr};
 ghost use Rattle.std.specs.List.{Contains};
 ghost use Rattle.tv_cases.specs.LinearCases.{IsCase};
 ghost use Rattle.tv_cases.specs.Views.{case_view};
 ghost use Rattle.tv_cover.specs.Targets.{AreEven};
 ghost use Rattle.tv_choice.specs.Asked.{query_of};
-ghost use Rattle.tv_choice.specs.ChoicePaths.{starting_rows};
 ghost use Rattle.tv_choice.specs.Refusals.{IsFaultHere};
 ghost use Rattle.tv_choice.specs.Stopping.{IsStoppedBy, IsStopped};
 
@@ -17,8 +16,7 @@ use crate::trees::narrow_rows;
 use tv_cases::Case;
 use tv_cover::{Emptied, empty};
 use tv_farkas::{Budget, CoverFault};
-use tv_linear::{Cover, Row, push_copies};
-use tv_simplex::push_item;
+use tv_linear::{Cover, Row, push_copies, push_item};
 
 /// Whether no step leads anywhere.
 #[derive(Drop)]

@@ -1,17 +1,16 @@
 // Ways to step: a case, a piece at its end, and terms for its draws.
 
-ghost use Rattle.std.specs.Prelude.{◌≡◌, ◌+◌, ◌-◌, ◌^◌, ◌<◌, ◌++◌, ◌∷◌, [], All, length, map, IfOk, slice_get, Some};
+ghost use Rattle.std.specs.Prelude.{◌≡◌, ◌+◌, ◌-◌, ◌^◌, ◌<◌, ◌++◌, [], All, length, map, IfOk, slice_get, Some};
 ghost use Rattle.std.specs.Result.{IfErr};
 ghost use Rattle.tv_linear.specs.Linear.{columns as width};
 ghost use Rattle.tv_linear.specs.Arithmetic.{width_of};
-ghost use Rattle.tv_cases.specs.EdgeCases.{columns_from};
 ghost use Rattle.tv_cases.specs.LinearCases.{IsCase};
 ghost use Rattle.tv_cases.specs.Views.{case_view};
 ghost use Rattle.tv_choice.specs.Rows.{put_terms, AreRead, ArePut, IsWideBefore, IsWidePut};
 ghost use Rattle.tv_choice.specs.Asked.{query_of};
 ghost use Rattle.tv_choice.specs.Leading.{pieces_at, piece_rows};
 ghost use Rattle.tv_choice.specs.Targets.{targets, targets_into, targets_by, draw_choices, AreMadeInto, IsFirstWidePut, IsWideInto, IsFirstWideInto, IsWideTarget};
-ghost use Rattle.tv_choice.specs.Ways.{lists_of, IsEntered, AreCaseRows, AreComposed, IsWayOf, IsWay, AreWays, IsUnmade};
+ghost use Rattle.tv_choice.specs.Ways.{lists_of, IsEntered, AreCaseRows, AreComposed, IsWayOf, IsWay, IsUnmade};
 
 use crate::drawing::draw_choices;
 use crate::faults::unmade;
@@ -20,8 +19,7 @@ use crate::question::Question;
 use std::alloc::{AllocError, Global};
 use tv_cases::{Case, before};
 use tv_farkas::CoverFault;
-use tv_linear::{Piece, Row, push_copies};
-use tv_simplex::push_item;
+use tv_linear::{Piece, Row, push_copies, push_item};
 
 /// A case from the location, a piece at its end, and a term for each draw. The step leads into the piece where the
 /// rows are met.

@@ -4,7 +4,7 @@ use Rattle.std.specs.Prelude.{Option, Some, None, Vec, Bool, true, ◌==◌, sli
 use Rattle.std.specs.List.{Contains}
 use Rattle.std.proofs.lemmas.List.Elements.{All-filter, All-contains_itself, filter_passes, Contains-append_left, Contains-append_right, Contains-append_cases, All-contains}
 use Rattle.tv_linear.specs.Linear.{Linear, linear, columns}
-use Rattle.tv_linear.specs.Arithmetic.{unit, opposite, denial, composed as with_terms}
+use Rattle.tv_linear.specs.Arithmetic.{unit, opposite, denial, composed as with_terms, padded_row}
 use Rattle.tv_linear.specs.declared.region.Piece.{Piece}
 use Rattle.tv_cases.specs.LinearCases.{LinearCase, CaseSystem, from_of, leaving}
 use Rattle.tv_cases.specs.Before.{before}
@@ -17,7 +17,7 @@ use Rattle.tv_farkas.specs.Refuting.{IsSystemFault}
 use Rattle.tv_simplex.specs.declared.fault.SolveFault.{SolveFault}
 use Rattle.std.proofs.lemmas.Option.{slice_get_within, get_or_from_slice_get}
 use Rattle.tv_cover.specs.Targets.{AreEven, IsNarrowRow}
-use Rattle.tv_choice.specs.Rows.{padded_row, fixes, case_rows, put_terms}
+use Rattle.tv_choice.specs.Rows.{fixes, case_rows, put_terms}
 use Rattle.tv_choice.specs.Leading.{IsServed, IsEntry, place_of, piece_rows, pieces_at}
 use Rattle.tv_choice.specs.Targets.{front, term_by, term_of, one_term, terms_given, draw_choices, IsFirstWidePut, with_these, with_later, IsWideInto, reading, putting, IsFirstWideInto, into_this, into_later, IsFirstWideFrom, by_this, by_later}
 use Rattle.tv_choice.specs.ChoicePaths.{starting_rows, stepping_rows, IsPointHere, own as own_point, start as start_point, AreDrawTerms, by_rows, at_point, IsTermAt, number as number_there, tight as tight_there, IsWayIn, IsWayRows, SplitsBy, IsSplit, IsChoicePath, IsInner, starting, stepping}

@@ -1,6 +1,6 @@
 // Covers of rows by targets.
 
-ghost use Rattle.std.specs.Prelude.{◌≡◌, ℕ, List, ◌+◌, ◌-◌, ◌^◌, ◌<◌, ◌≤◌, All, length, IfOk, MatchResult};
+ghost use Rattle.std.specs.Prelude.{List, ◌+◌, ◌-◌, ◌^◌, ◌<◌, ◌≤◌, All, length, IfOk, MatchResult};
 ghost use Rattle.std.specs.Result.{IfErr};
 ghost use Rattle.tv_linear.specs.Linear.{Linear, columns as width};
 ghost use Rattle.tv_cover.specs.Targets.{lists_of, AreEven};
@@ -14,8 +14,7 @@ use crate::stepping::{Step, next_step};
 use std::alloc::Global;
 use std::mem;
 use tv_farkas::{Branch, Budget, CoverFault, Distinct, Halves, split_of, take_once};
-use tv_linear::{Cover, CoverTree, Poly, Row};
-use tv_simplex::push_item;
+use tv_linear::{Cover, CoverTree, Poly, Row, push_item};
 
 /// Where a search is: the rows handed in, each taken once, with the splits above, and these splits.
 #[derive(Drop)]

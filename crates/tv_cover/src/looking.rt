@@ -1,8 +1,8 @@
 // What the targets are at the rows of a place: shown, open or shut.
 
-ghost use Rattle.std.specs.Prelude.{◌≡◌, ℕ, ◌-◌, ◌^◌, ◌<◌, ◌++◌, ◌∷◌, [], List, All, length, MatchResult, MatchOption, MatchBool};
+ghost use Rattle.std.specs.Prelude.{◌≡◌, ◌-◌, ◌^◌, ◌<◌, ◌++◌, ◌∷◌, [], All, MatchResult, MatchOption, MatchBool};
 ghost use Rattle.std.specs.List.{Contains};
-ghost use Rattle.tv_linear.specs.Linear.{Linear, columns as width};
+ghost use Rattle.tv_linear.specs.Linear.{columns as width};
 ghost use Rattle.tv_linear.specs.Arithmetic.{denial};
 ghost use Rattle.tv_cover.specs.Targets.{lists_of, AreEven, HasPoint, IsTargetRow};
 ghost use Rattle.tv_cover.specs.CoverPaths.{IsShut};
@@ -13,10 +13,8 @@ use crate::question::Question;
 use crate::sharing::{pair_at, place_of};
 use crate::solving::refute_with;
 use crate::witness::{Witness, has_point};
-use std::alloc::{AllocError, Global};
 use tv_farkas::{CoverFault, Refuted, stretch};
-use tv_linear::{Row, RowFault, shortened};
-use tv_simplex::push_item;
+use tv_linear::{Row, RowFault, push_item, shortened};
 
 /// Multipliers that refute the rows and the denial of this row; `None` where a point of the rows meets the denial.
 fn show(

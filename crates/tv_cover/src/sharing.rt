@@ -1,14 +1,13 @@
 // Rows of a target that are among the rows of a place.
 
-ghost use Rattle.std.specs.Prelude.{◌≡◌, ◌++◌, ◌∷◌, [], ◌<◌, length, get_or, pos, IfOk, MatchOption};
+ghost use Rattle.std.specs.Prelude.{◌≡◌, ◌++◌, ◌∷◌, [], ◌<◌, pos, IfOk, MatchOption};
 ghost use Rattle.std.specs.List.{Contains};
 ghost use Rattle.tv_linear.specs.Arithmetic.{unit};
 ghost use Rattle.tv_cover.specs.Looking.{StandsAt};
 
 use std::alloc::{AllocError, Global};
 use tv_farkas::is_same;
-use tv_linear::Row;
-use tv_simplex::push_item;
+use tv_linear::{Row, push_item};
 
 /// The first place where a row stands.
 pub fn place_of(rows: &[Row], row: &Row) -> Option<usize>

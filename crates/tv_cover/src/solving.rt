@@ -7,8 +7,7 @@ ghost use Rattle.tv_cover.specs.Looking.{IsRefusedAt, IsRefutedWith};
 use crate::question::Question;
 use std::mem;
 use tv_farkas::{CoverFault, Refuted, refute, unsolved};
-use tv_linear::Row;
-use tv_simplex::push_item;
+use tv_linear::{Row, push_item};
 
 /// Refutes the rows of a place and one more row, or finds a point that meets them.
 pub fn refute_with(

@@ -1,6 +1,6 @@
 // What is done at a place: a leaf, a hole or a split.
 
-ghost use Rattle.std.specs.Prelude.{◌≡◌, ◌-◌, ◌^◌, ◌<◌, List, All, length, map, MatchResult, MatchOption, IfOk};
+ghost use Rattle.std.specs.Prelude.{◌≡◌, ◌-◌, ◌^◌, ◌<◌, List, All, length, MatchResult, MatchOption, IfOk};
 ghost use Rattle.tv_linear.specs.Linear.{Linear};
 ghost use Rattle.tv_cover.specs.Targets.{lists_of, AreEven, HasPoint};
 ghost use Rattle.tv_cover.specs.CoverPaths.{IsShut, IsLeftOpen};
@@ -13,14 +13,13 @@ use crate::looking::{Shown, is_shut, show_all};
 use crate::question::Question;
 use crate::splitting::halves_at_row;
 use crate::witness::Witness;
-use std::alloc::{AllocError, Global};
+use std::alloc::AllocError;
 use std::mem;
 use tv_farkas::{
     CoverFault, Halves, Refuted, divided, first_fraction, halves_at_point, refute, stretch,
     unsolved,
 };
-use tv_linear::{CoverTree, Row, shortened};
-use tv_simplex::push_item;
+use tv_linear::{CoverTree, Row, push_item, shortened};
 
 /// Whether a target is shown.
 #[derive(Drop)]

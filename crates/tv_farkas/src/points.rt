@@ -1,12 +1,11 @@
 // Points with whole coordinates, or without.
 
-ghost use Rattle.std.specs.Prelude.{◌≡◌, ℕ, ◌+◌, ◌^◌, ◌<◌, ◌≤◌, length, get_or, pos, ◌<ℤ◌, ◌≤ℤ◌, ◌+ℤ◌, ◌*ℤ◌, IsTrue, ◌↔◌, IfOk, MatchOption};
+ghost use Rattle.std.specs.Prelude.{◌≡◌, ℕ, ◌<◌, length, get_or, pos, ◌<ℤ◌, ◌*ℤ◌, IsTrue, ◌↔◌, IfOk, MatchOption};
 ghost use Rattle.tv_simplex.specs.Outcomes.{IsShort};
-ghost use Rattle.tv_farkas.specs.Paths.{IsWholeAt, IsFirstFraction};
 ghost use Rattle.tv_farkas.specs.Stretching.{AreWhole, IsFirstOpen, AreDivided, IsFloor};
 
 use std::alloc::{AllocError, Global};
-use tv_simplex::push_item;
+use tv_linear::push_item;
 
 /// The whole number at or just below a number over a scale.
 pub fn floor_of(number: i128, scale: i128) -> i128

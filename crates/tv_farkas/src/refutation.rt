@@ -1,15 +1,15 @@
 // The refutation system of rows.
 
-ghost use Rattle.std.specs.Prelude.{◌≡◌, ◌+◌, ◌-◌, ◌*◌, ◌^◌, ◌<◌, ◌≤◌, ◌++◌, ◌∷◌, [], All, length, map, pos, IfOk, IsTrue, ◌↔◌};
-ghost use Rattle.tv_linear.specs.Linear.{columns as width, entry};
+ghost use Rattle.std.specs.Prelude.{◌≡◌, ◌+◌, ◌-◌, ◌*◌, ◌^◌, ◌<◌, ◌≤◌, ◌++◌, ◌∷◌, [], length, map, pos, IfOk, IsTrue, ◌↔◌};
+ghost use Rattle.tv_linear.specs.Linear.{entry};
 ghost use Rattle.tv_linear.specs.Arithmetic.{zeros};
 ghost use Rattle.tv_simplex.specs.Systems.{IsWhole};
 ghost use Rattle.tv_simplex.specs.Views.{equations};
 ghost use Rattle.tv_farkas.specs.RefutationSystem.{numbers_below, refutation_system, IsLarge};
 
 use std::alloc::{AllocError, Global};
-use tv_linear::Row;
-use tv_simplex::{System, push_item};
+use tv_linear::{Row, push_item};
+use tv_simplex::System;
 
 /// The number of a row in a column, of which the constant's is the last.
 fn number_at(row: &Row, column: usize) -> i128

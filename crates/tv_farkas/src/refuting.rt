@@ -1,6 +1,6 @@
 // Refuting rows over the rationals.
 
-ghost use Rattle.std.specs.Prelude.{◌≡◌, ℕ, ◌+◌, ◌-◌, ◌*◌, ◌^◌, ◌<◌, ◌≤◌, ◌++◌, ◌∷◌, [], All, length, map, get_or, neg_ℤ, pos, IfOk, MatchResult};
+ghost use Rattle.std.specs.Prelude.{◌≡◌, ℕ, ◌+◌, ◌-◌, ◌^◌, ◌<◌, ◌≤◌, All, length, get_or, neg_ℤ, pos, IfOk, MatchResult};
 ghost use Rattle.std.specs.Result.{IfErr};
 ghost use Rattle.tv_linear.specs.Linear.{columns as width};
 ghost use Rattle.tv_simplex.specs.Choices.{choices};
@@ -12,8 +12,8 @@ ghost use Rattle.tv_farkas.specs.Refuting.{IsRefuted, IsShortRefuted, GivesRefut
 use crate::Refuted;
 use crate::refutation::{is_large, refutation_of};
 use std::alloc::{AllocError, Global};
-use tv_linear::Row;
-use tv_simplex::{Answer, SolveFault, push_item, solve};
+use tv_linear::{Row, push_item};
+use tv_simplex::{Answer, SolveFault, solve};
 
 /// The opposite of a number at a place.
 fn opposite_at(numbers: &[i128], place: usize) -> i128

@@ -1,14 +1,13 @@
 // Rows that are taken once, and rows of one column.
 
-ghost use Rattle.std.specs.Prelude.{◌≡◌, ◌+◌, ◌-◌, ◌^◌, ◌<◌, ◌≤◌, length, IfOk, IsTrue, ◌↔◌, neg_ℤ, pos, ◌+ℤ◌};
+ghost use Rattle.std.specs.Prelude.{◌≡◌, ◌+◌, ◌-◌, ◌^◌, ◌<◌, IfOk, IsTrue, ◌↔◌, pos, ◌+ℤ◌};
 ghost use Rattle.std.specs.List.{Contains};
-ghost use Rattle.tv_linear.specs.Linear.{columns as width, IsWithin};
+ghost use Rattle.tv_linear.specs.Linear.{IsWithin};
 ghost use Rattle.tv_farkas.specs.Paths.{TakenOnce, at_most_row, at_least_row};
 ghost use Rattle.tv_farkas.specs.Stretching.{IsTakenBy};
 
 use std::alloc::{AllocError, Global};
-use tv_linear::Row;
-use tv_simplex::push_item;
+use tv_linear::{Row, push_item};
 
 /// Rows that are taken once, and for each row of the list that they come from whether it was taken before.
 #[derive(Drop)]

@@ -4,7 +4,7 @@ ghost use Rattle.std.specs.Prelude.{◌≡◌, ◌++◌, IfOk};
 ghost use Rattle.tv_farkas.specs.Stretching.{stretched};
 
 use std::alloc::{AllocError, Global};
-use tv_simplex::push_item;
+use tv_linear::push_item;
 
 /// Puts more numbers at the end of a list.
 fn append(numbers: &mut Vec<i64>, more: &[i64]) -> Result<(), AllocError>

@@ -4,7 +4,7 @@ use Rattle.std.specs.List.{Contains}
 use Rattle.std.proofs.lemmas.Int.{ints}
 use Rattle.std.proofs.lemmas.List.Elements.{All-nil, All-cons, All-head, All-tail, All-append, All-push, Contains-append_left, Contains-append_right, Contains-append_cases}
 use Rattle.tv_linear.specs.Linear.{Linear, linear, columns, dot, value, IsMet, IsWithin, IsNarrow}
-use Rattle.tv_linear.specs.Arithmetic.{zeros}
+use Rattle.tv_linear.specs.Arithmetic.{zeros, padded_row}
 use Rattle.tv_linear.specs.Known.{Term, put}
 use Rattle.tv_linear.specs.Terms.{table, update_of}
 use Rattle.tv_linear.specs.declared.region.Update.{Update}
@@ -20,19 +20,11 @@ use Rattle.tv_cover.specs.declared.covered.Covered.TheVariants.{Tree, Hole}
 use Rattle.tv_cover.specs.Covering.{IsCovered, HasNoHole}
 use Rattle.tv_invariant.specs.Seen.{IsAsked}
 use Rattle.tv_cover.specs.Targets.{IsInTarget, IsOutside, lists_of}
-use Rattle.tv_invariant.specs.Places.{padded}
 use Rattle.tv_invariant.specs.Rows.{Implies, IsStronger}
 use Rattle.tv_cases.proofs.Listed.{Contains-none}
 use Rattle.tv_invariant.proofs.ListLemmas.{in_one, all_before, all_behind}
 
 -- ---- padding
-
-pub padded_narrow : (cs : List ℤ) (k : ℤ) (m : ℕ) → IsNarrow (linear cs k) → length cs + m < 2 ^ 32 - 1 → IsNarrow (linear (cs ++ zeros m) (pos 0))
-padded_narrow cs k m h l = record {
-  coefficients = All-append (IsWithin 62) cs (zeros m) h.coefficients (zeros-narrow m);
-  constant = omega arith;
-  few = (let a = length-append cs (zeros m) in let z = length-zeros m in omega (arith, a, z, l));
-}
 
 dot-zeros : (m : ℕ) (xs : List ℤ) → dot (zeros m) xs ≡ pos 0
 dot-zeros zero xs = refl
@@ -45,7 +37,7 @@ dot-padded m [] (x ∷ xs) ds e = absurd (omega (arith, e))
 dot-padded m (c ∷ cs) [] ds e = absurd (omega (arith, e))
 dot-padded m (c ∷ cs) (x ∷ xs) ds e = ap (λ z. (c *ℤ x) +ℤ z) (dot-padded m cs xs ds (omega (arith, e)))
 
-pub value-padded : (m : ℕ) (r : Linear) (xs ds : List ℤ) → columns r ≡ length xs → value (padded m r) (xs ++ ds) ≡ value r xs
+pub value-padded : (m : ℕ) (r : Linear) (xs ds : List ℤ) → columns r ≡ length xs → value (padded_row m r) (xs ++ ds) ≡ value r xs
 value-padded m r xs ds e = ap (λ z. z +ℤ r.constant) (dot-padded m r.coefficients xs ds e)
 
 -- ---- rows that others imply

@@ -4,7 +4,7 @@ use Rattle.std.specs.List.{filter, Contains}
 use Rattle.std.proofs.lemmas.Bool.Decides.{nat_tests}
 use Rattle.std.proofs.lemmas.List.Elements.{All-nil, All-cons, All-head, All-tail, All-append, All-contains}
 use Rattle.tv_linear.specs.Linear.{Linear, columns, value, IsMet}
-use Rattle.tv_linear.specs.Arithmetic.{zeros}
+use Rattle.tv_linear.specs.Arithmetic.{zeros, padded_row}
 use Rattle.tv_linear.specs.Known.{term_value}
 use Rattle.tv_linear.specs.Terms.{terms_after}
 use Rattle.tv_linear.proofs.PlainLists.{length-zeros}
@@ -17,7 +17,7 @@ use Rattle.tv_cases.specs.LinearCases.{LinearCase}
 use Rattle.tv_cases.proofs.BeforeValue.{before-value}
 use Rattle.tv_candidates.specs.declared.candidate.Candidate.{Candidate}
 use Rattle.tv_invariant.specs.Rows.{IsStronger}
-use Rattle.tv_invariant.specs.Places.{place_of, row_of, rows_at, padded, step_rows}
+use Rattle.tv_invariant.specs.Places.{place_of, row_of, rows_at, step_rows}
 use Rattle.tv_invariant.specs.Seen.{IsSettled}
 use Rattle.tv_invariant.specs.Sieves.{Sieved}
 use Rattle.tv_invariant.specs.Falling.{KeptBy, IsFallen, IsUnmade, IsStepRefusal}
@@ -37,29 +37,29 @@ test_true a b h = grind (arith, nat_tests)
 
 module _ (w l : ℕ) where
   all_rows : List Candidate → List Linear
-  all_rows cs = map (padded w) (map row_of cs)
+  all_rows cs = map (padded_row w) (map row_of cs)
 
-  cond_all : (P : Linear → Type 0) (b : Bool) (c : Candidate) (cs : List Candidate) → (b ≡ true → P (padded w c.row)) → All P (map (padded w) (map row_of cs)) → All P (map (padded w) (map row_of (cond b (c ∷ cs) cs)))
-  cond_all P true c cs h t = All-cons P (padded w c.row) (map (padded w) (map row_of cs)) (h refl) t
+  cond_all : (P : Linear → Type 0) (b : Bool) (c : Candidate) (cs : List Candidate) → (b ≡ true → P (padded_row w c.row)) → All P (map (padded_row w) (map row_of cs)) → All P (map (padded_row w) (map row_of (cond b (c ∷ cs) cs)))
+  cond_all P true c cs h t = All-cons P (padded_row w c.row) (map (padded_row w) (map row_of cs)) (h refl) t
   cond_all P false c cs h t = t
 
-  pub all_at : (P : Linear → Type 0) (now : List Candidate) → ((c : Candidate) → Contains now c → c.location ≡ l → P (padded w c.row)) → All P (map (padded w) (rows_at l now))
+  pub all_at : (P : Linear → Type 0) (now : List Candidate) → ((c : Candidate) → Contains now c → c.location ≡ l → P (padded_row w c.row)) → All P (map (padded_row w) (rows_at l now))
   all_at P [] h = All-nil P
   all_at P (c ∷ now) h = cond_all P (place_of c == l) c (filter (λ d. place_of d == l) now) (λ e. h c (Contains-here c now) (test_true (place_of c) l e)) (all_at P now (λ d a e. h d (Contains-later c d now a) e))
 
-  cond_head : (b : Bool) (c : Candidate) (cs : List Candidate) → b ≡ true → Contains (map (padded w) (map row_of (cond b (c ∷ cs) cs))) (padded w c.row)
-  cond_head true c cs e = Contains-here (padded w c.row) (map (padded w) (map row_of cs))
+  cond_head : (b : Bool) (c : Candidate) (cs : List Candidate) → b ≡ true → Contains (map (padded_row w) (map row_of (cond b (c ∷ cs) cs))) (padded_row w c.row)
+  cond_head true c cs e = Contains-here (padded_row w c.row) (map (padded_row w) (map row_of cs))
   cond_head false c cs e = absurd cc
 
-  cond_tail : (b : Bool) (c : Candidate) (cs : List Candidate) (r : Linear) → Contains (map (padded w) (map row_of cs)) r → Contains (map (padded w) (map row_of (cond b (c ∷ cs) cs))) r
-  cond_tail true c cs r a = Contains-later (padded w c.row) r (map (padded w) (map row_of cs)) a
+  cond_tail : (b : Bool) (c : Candidate) (cs : List Candidate) (r : Linear) → Contains (map (padded_row w) (map row_of cs)) r → Contains (map (padded_row w) (map row_of (cond b (c ∷ cs) cs))) r
+  cond_tail true c cs r a = Contains-later (padded_row w c.row) r (map (padded_row w) (map row_of cs)) a
   cond_tail false c cs r a = a
 
-  pub in_rows : (now : List Candidate) (c : Candidate) → Contains now c → c.location ≡ l → Contains (map (padded w) (rows_at l now)) (padded w c.row)
+  pub in_rows : (now : List Candidate) (c : Candidate) → Contains now c → c.location ≡ l → Contains (map (padded_row w) (rows_at l now)) (padded_row w c.row)
   in_rows [] c a e = absurd (Contains-none c a)
   in_rows (d ∷ now) c a e = elim (Contains-cases d c now a) [
-    | inl same ↦ subst (λ r. Contains (map (padded w) (rows_at l (d ∷ now))) (padded w r)) (ap row_of same) (cond_head (place_of d == l) d (filter (λ x. place_of x == l) now) (test_is (place_of d) l (ap place_of same ∙ e)))
-    | inr r ↦ cond_tail (place_of d == l) d (filter (λ x. place_of x == l) now) (padded w c.row) (in_rows now c r e)
+    | inl same ↦ subst (λ r. Contains (map (padded_row w) (rows_at l (d ∷ now))) (padded_row w r)) (ap row_of same) (cond_head (place_of d == l) d (filter (λ x. place_of x == l) now) (test_is (place_of d) l (ap place_of same ∙ e)))
+    | inr r ↦ cond_tail (place_of d == l) d (filter (λ x. place_of x == l) now) (padded_row w c.row) (in_rows now c r e)
   ]
 
 module _ (n : ℕ) (case : LinearCase) (now : List Candidate) (c : Candidate) (rows : List Linear) (over : AreOver n now) (wide : columns c.row ≡ n) (strong : IsStronger (step_rows case now) rows) where
@@ -71,7 +71,7 @@ module _ (n : ℕ) (case : LinearCase) (now : List Candidate) (c : Candidate) (r
       let front = all_at case.draws case.from (IsMet zs) now (λ d a e.
       let v = value-padded case.draws d.row s.values draws (All-contains (λ x. columns x.row ≡ n) now d over a ∙ sym size) in
       subst (λ z. z ≤ℤ pos 0) (sym v) (meets d a (does.leaves ∙ sym e))) in
-      let all = All-append (IsMet zs) (map (padded case.draws) (rows_at case.from now)) case.guards front does.guards in
+      let all = All-append (IsMet zs) (map (padded_row case.draws) (rows_at case.from now)) case.guards front does.guards in
       let whole : IsWholePoint (n + case.draws) rows zs = record {
         width = omega (arith, long, drawn, size);
         met = all_by (IsMet zs) rows (λ r a. All-contains (IsMet zs) (step_rows case now) r all (strong.from r a));
@@ -89,8 +89,8 @@ module _ (n : ℕ) (case : LinearCase) (now : List Candidate) (c : Candidate) (r
       let lx = length-front n case.draws zs size in
       let ld = length-back n case.draws zs size in
       let same : xs ++ ds ≡ zs = front_back n zs in
-      let front = all_before (IsMet zs) (map (padded case.draws) (rows_at case.from now)) case.guards all in
-      let guards = all_behind (IsMet zs) (map (padded case.draws) (rows_at case.from now)) case.guards all in
+      let front = all_before (IsMet zs) (map (padded_row case.draws) (rows_at case.from now)) case.guards all in
+      let guards = all_behind (IsMet zs) (map (padded_row case.draws) (rows_at case.from now)) case.guards all in
       let v = before-value c.row case xs ds (lx ∙ sym wide) ld in
       record {
         old = record { location = case.from; values = xs };
@@ -105,9 +105,9 @@ module _ (n : ℕ) (case : LinearCase) (now : List Candidate) (c : Candidate) (r
           gives = refl;
         };
         meets = λ d a e.
-            let m = All-contains (IsMet zs) (map (padded case.draws) (rows_at case.from now)) (padded case.draws d.row) front (in_rows case.draws case.from now d a (sym e)) in
+            let m = All-contains (IsMet zs) (map (padded_row case.draws) (rows_at case.from now)) (padded_row case.draws d.row) front (in_rows case.draws case.from now d a (sym e)) in
             let u = value-padded case.draws d.row xs ds (All-contains (λ x. columns x.row ≡ n) now d over a ∙ sym lx) in
-            subst (λ z. z ≤ℤ pos 0) u (subst (λ ys. IsMet ys (padded case.draws d.row)) (sym same) m);
+            subst (λ z. z ≤ℤ pos 0) u (subst (λ ys. IsMet ys (padded_row case.draws d.row)) (sym same) m);
         place = sym at;
         unmet = λ m. h.2 (subst (λ ys. IsMet ys (before c.row case)) same (subst (λ z. z ≤ℤ pos 0) (sym v) m));
       }
@@ -122,17 +122,17 @@ at_even n l (c ∷ now) h = cond_even (place_of c == l) (filter (λ d. place_of 
     cond_even true cs e t = All-cons (λ r. columns r ≡ n) c.row (map row_of cs) e t
     cond_even false cs e t = t
 
-padded_even : (n m : ℕ) (rs : List Linear) → All (λ r. columns r ≡ n) rs → All (λ r. columns r ≡ n + m) (map (padded m) rs)
+padded_even : (n m : ℕ) (rs : List Linear) → All (λ r. columns r ≡ n) rs → All (λ r. columns r ≡ n + m) (map (padded_row m) rs)
 padded_even n m [] h = All-nil (λ r. columns r ≡ n + m)
 padded_even n m (r ∷ rs) h =
     let e = All-head (λ r. columns r ≡ n) r rs h in
     let a = length-append r.coefficients (zeros m) in
     let z = length-zeros m in
-    All-cons (λ r. columns r ≡ n + m) (padded m r) (map (padded m) rs) (omega (arith, a, z, e)) (padded_even n m rs (All-tail (λ r. columns r ≡ n) r rs h))
+    All-cons (λ r. columns r ≡ n + m) (padded_row m r) (map (padded_row m) rs) (omega (arith, a, z, e)) (padded_even n m rs (All-tail (λ r. columns r ≡ n) r rs h))
 
 pub step_even : (n : ℕ) (case : LinearCase) (now : List Candidate) (rows : List Linear) → AreOver n now → All (λ r. columns r ≡ n + case.draws) case.guards → IsStronger (step_rows case now) rows → All (λ r. columns r ≡ n + case.draws) rows
 step_even n case now rows over guards strong =
-    let all = All-append (λ r. columns r ≡ n + case.draws) (map (padded case.draws) (rows_at case.from now)) case.guards (padded_even n case.draws (rows_at case.from now) (at_even n case.from now over)) guards in
+    let all = All-append (λ r. columns r ≡ n + case.draws) (map (padded_row case.draws) (rows_at case.from now)) case.guards (padded_even n case.draws (rows_at case.from now) (at_even n case.from now over)) guards in
     all_by (λ r. columns r ≡ n + case.draws) rows (λ r a. All-contains (λ q. columns q ≡ n + case.draws) (step_rows case now) r all (strong.from r a))
 
 -- ---- what a sieve after a case gives

@@ -2,7 +2,7 @@
 use Rattle.std.specs.Prelude.{ℕ, List, ◌++◌, map, ◌==◌}
 use Rattle.std.specs.List.{filter}
 use Rattle.tv_linear.specs.Linear.{Linear, linear}
-use Rattle.tv_linear.specs.Arithmetic.{zeros}
+use Rattle.tv_linear.specs.Arithmetic.{zeros, padded_row}
 use Rattle.tv_cases.specs.LinearCases.{LinearCase}
 use Rattle.tv_candidates.specs.declared.candidate.Candidate.{Candidate}
 
@@ -16,10 +16,6 @@ place_of c = c.location
 abbrev pub rows_at : ℕ → List Candidate → List Linear
 rows_at l candidates = map row_of (filter (λ c. place_of c == l) candidates)
 
--- the row with so many more columns, in which it has 0
-abbrev pub padded : ℕ → Linear → Linear
-padded more r = linear (r.coefficients ++ zeros more) r.constant
-
 -- what holds over a case: the rows where it leaves, and its guards
 abbrev pub step_rows : LinearCase → List Candidate → List Linear
-step_rows c candidates = map (padded c.draws) (rows_at c.from candidates) ++ c.guards
+step_rows c candidates = map (padded_row c.draws) (rows_at c.from candidates) ++ c.guards

@@ -11,8 +11,8 @@ ghost use Rattle.tv_invariant.specs.Asking.{IsTold, Gave, AreTaken, HaveNoMore};
 use std::alloc::{AllocError, Global};
 use tv_candidates::Candidate;
 use tv_cases::Cases;
+use tv_linear::push_item;
 use tv_propose::Proposer;
-use tv_simplex::push_item;
 
 /// Whether the location and the columns of a candidate fit.
 fn fits(about: &Cases, candidate: &Candidate) -> bool

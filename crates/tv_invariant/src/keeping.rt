@@ -7,8 +7,7 @@ use crate::kept::Kept;
 use crate::showing::is_shown_by;
 use crate::thinning::{marked, marks_of, thinned};
 use std::alloc::{AllocError, Global};
-use tv_linear::{CoverTree, Row};
-use tv_simplex::push_item;
+use tv_linear::{CoverTree, Row, push_item};
 
 /// Keeps the row with those by which the tree shows it, if it does.
 fn keep_shown(

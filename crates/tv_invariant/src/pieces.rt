@@ -10,8 +10,7 @@ use crate::rows::strongest;
 use std::alloc::{AllocError, Global};
 use tv_candidates::Candidate;
 use tv_cases::Cases;
-use tv_linear::{Piece, Poly, Region, Row};
-use tv_simplex::push_item;
+use tv_linear::{Piece, Poly, Region, Row, push_item};
 
 /// Copies of the rows of the candidates at a location.
 pub fn rows_at(alloc: Global, list: &[Candidate], location: u32) -> Result<Vec<Row>, AllocError>

@@ -14,8 +14,7 @@ use crate::seen::{Seen, fails_at};
 use std::alloc::Global;
 use tv_cover::{Covered, cover};
 use tv_farkas::{Budget, CoverFault};
-use tv_linear::{Poly, Row};
-use tv_simplex::push_item;
+use tv_linear::{Poly, Row, push_item};
 
 /// A proof that each whole point of the rows meets the row, or one that does not.
 fn asked(alloc: Global, ambient: &Poly, row: Row, budget: &Budget) -> Result<Covered, CoverFault>

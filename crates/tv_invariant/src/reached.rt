@@ -3,7 +3,6 @@
 ghost use Rattle.std.specs.Prelude.{◌≡◌, All, IfOk, MatchBool};
 ghost use Rattle.tv_linear.specs.Linear.{columns as width};
 ghost use Rattle.tv_cases.specs.Systems.{cases_of};
-ghost use Rattle.tv_cases.specs.LinearCases.{CaseSystem};
 ghost use Rattle.tv_invariant.specs.Passes.{AreOver};
 ghost use Rattle.tv_invariant.specs.Reached.{IsReached, IsInNone};
 ghost use Rattle.tv_invariant.specs.Sieves.{Sieved};
@@ -11,9 +10,8 @@ ghost use Rattle.tv_invariant.specs.Sieves.{Sieved};
 use std::alloc::{AllocError, Global};
 use tv_candidates::Candidate;
 use tv_cases::Cases;
-use tv_linear::RowView;
+use tv_linear::{RowView, push_item};
 use tv_refute::meets;
-use tv_simplex::push_item;
 
 /// A state that some run comes to.
 #[derive(Drop)]

@@ -1,13 +1,11 @@
 // Rows that others imply.
 
-ghost use Rattle.std.specs.Prelude.{◌≡◌, ℤ, List, All, IfOk, IsTrue};
-ghost use Rattle.std.specs.List.{Contains};
+ghost use Rattle.std.specs.Prelude.{ℤ, List, All, IfOk, IsTrue};
 ghost use Rattle.tv_linear.specs.Linear.{IsMet};
 ghost use Rattle.tv_invariant.specs.Rows.{Implies, IsStronger};
 
 use std::alloc::{AllocError, Global};
-use tv_linear::Row;
-use tv_simplex::push_item;
+use tv_linear::{Row, push_item};
 
 /// Whether the first row has the coefficients of the second, and no lesser constant.
 pub fn implies(strong: &Row, weak: &Row) -> bool

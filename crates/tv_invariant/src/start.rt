@@ -1,6 +1,6 @@
 // Candidates at the start.
 
-ghost use Rattle.std.specs.Prelude.{◌≡◌, ℤ, List, length, IfOk, MatchBool, IsTrue, ◌↔◌};
+ghost use Rattle.std.specs.Prelude.{◌≡◌, ℤ, List, length, IfOk, MatchBool};
 ghost use Rattle.std.specs.List.{list_all};
 ghost use Rattle.tv_linear.specs.Linear.{columns as width, IsMet};
 ghost use Rattle.tv_cases.specs.Forms.{is_zero};
@@ -12,8 +12,7 @@ ghost use Rattle.tv_invariant.specs.Passes.{AreOver};
 use std::alloc::{AllocError, Global};
 use tv_candidates::Candidate;
 use tv_cases::Cases;
-use tv_linear::Row;
-use tv_simplex::push_item;
+use tv_linear::{Row, push_item};
 
 /// Whether a number is 0.
 fn is_zero(number: i128) -> bool

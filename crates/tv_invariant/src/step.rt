@@ -24,8 +24,7 @@ use std::alloc::Global;
 use tv_candidates::Candidate;
 use tv_cases::Case;
 use tv_farkas::{Budget, CoverFault};
-use tv_linear::{Poly, push_copies};
-use tv_simplex::push_item;
+use tv_linear::{Poly, push_copies, push_item};
 
 /// Asks for the strongest of the rows where the case leads, so that what is found of them tells of the others.
 fn ask_strongest(

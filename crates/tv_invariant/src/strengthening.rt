@@ -14,9 +14,8 @@ use std::alloc::{AllocError, Global};
 use tv_candidates::Candidate;
 use tv_cases::Cases;
 use tv_farkas::{Budget, CoverFault};
-use tv_linear::Row;
+use tv_linear::{Row, push_item};
 use tv_propose::Proposer;
-use tv_simplex::push_item;
 
 /// The row that no point meets, at each location.
 fn false_rows(alloc: Global, about: &Cases) -> Result<Vec<Candidate>, AllocError>

@@ -4,8 +4,7 @@ ghost use Rattle.std.specs.Prelude.{◌≡◌, ◌↔◌, IfOk, IsTrue, get_or, 
 ghost use Rattle.tv_invariant.specs.Thinning.{AreMarks, IsMultiplied, IsThinned, SomeIsMultiplied, Uses, picked};
 
 use std::alloc::{AllocError, Global};
-use tv_linear::{CoverTree, Row};
-use tv_simplex::push_item;
+use tv_linear::{CoverTree, Row, push_item};
 
 /// Whether the list has a number other than 0 at the place.
 fn is_multiplied(multipliers: &[i64], place: usize) -> bool

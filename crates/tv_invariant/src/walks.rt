@@ -15,9 +15,8 @@ use rand_pcg::Pcg32;
 use std::alloc::{AllocError, Global};
 use tv_cases::{Case, Cases, Update};
 use tv_linear::sums::{Listed, dot_from};
-use tv_linear::{Row, RowView};
+use tv_linear::{Row, RowView, push_item};
 use tv_refute::meets;
-use tv_simplex::push_item;
 
 /// How many runs are made. The numbers of each are drawn from a range twice as wide as that of the one before.
 const RUNS: u32 = 10;

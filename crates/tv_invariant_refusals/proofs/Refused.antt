@@ -19,12 +19,13 @@ use Rattle.tv_derived.proofs.Listing.{one_of}
 use Rattle.tv_derived.proofs.Steps.{after_before, over}
 use Rattle.tv_cover_refusals.specs.Covers.{IsSpentOnTargets}
 use Rattle.tv_cover_refusals.proofs.Refusals.{refusal}
-use Rattle.tv_invariant.specs.Places.{padded, rows_at, step_rows}
+use Rattle.tv_invariant.specs.Places.{rows_at, step_rows}
 use Rattle.tv_invariant.specs.Falling.{IsUnmade, IsCoverRefusal, IsCaseRefusal, IsRefusal}
 use Rattle.tv_invariant.specs.Passes.{AreOver}
 use Rattle.tv_invariant.proofs.StepLemmas.{all_at}
 use Rattle.tv_invariant.proofs.PassLemmas.{left_part}
 use Rattle.tv_invariant_refusals.specs.Refusals.{placed_row, handed_candidates, InductiveRefuses}
+use Rattle.tv_linear.specs.Arithmetic.{padded_row}
 
 module _ (about : CaseSystem) (list : List Candidate) where
   candidate_derived : (h : ℕ) (c : Candidate) → Contains list c → IsDerived about (handed_candidates list) (at_location c.location) h c.row
@@ -32,8 +33,8 @@ module _ (about : CaseSystem) (list : List Candidate) where
 
   -- the rows that hold over a case
   over_derived : (case : LinearCase) (now : List Candidate) → Contains about.cases case → IsPart now list → (r : Linear) → Contains (step_rows case now) r → IsDerived about (handed_candidates list) (over_case case) 1 r
-  over_derived case now among part r k = elim (Contains-append_cases (map (padded case.draws) (rows_at case.from now)) case.guards r k) [
-    | inl known ↦ All-contains (IsDerived about (handed_candidates list) (over_case case) 1) (map (padded case.draws) (rows_at case.from now)) r
+  over_derived case now among part r k = elim (Contains-append_cases (map (padded_row case.draws) (rows_at case.from now)) case.guards r k) [
+    | inl known ↦ All-contains (IsDerived about (handed_candidates list) (over_case case) 1) (map (padded_row case.draws) (rows_at case.from now)) r
         (all_at case.draws case.from (IsDerived about (handed_candidates list) (over_case case) 1) now
         (λ d a e. over about (handed_candidates list) case 1 d.row (subst (λ l. IsDerived about (handed_candidates list) (at_location l) 1 d.row) e (candidate_derived 1 d (part d a))))) known
     | inr of ↦ guard case r among of

@@ -72,13 +72,6 @@ padded_even n w (r ∷ rows) l h =
 pub rows_even : (v : ℕ) (w : Way) → All (λ r. columns r ≡ v) w.known → All (λ r. columns r ≡ v + w.taken.draws) w.taken.guards → All (λ r. columns r ≡ v + w.taken.draws) (padded_rows v w)
 rows_even v w h g = All-append (λ r. columns r ≡ v + w.taken.draws) (map (padded_row (v + w.taken.draws)) w.known) w.taken.guards (padded_even v (v + w.taken.draws) w.known (omega arith) h) g
 
-pub padded_narrow : (cs : List ℤ) (k : ℤ) (m w : ℕ) → IsNarrow (linear cs k) → length cs + m ≡ w → w < 2 ^ 32 - 1 → IsNarrow (linear (cs ++ zeros m) (pos 0))
-padded_narrow cs k m w h e l = record {
-  coefficients = All-append (IsWithin 62) cs (zeros m) h.coefficients (zeros-narrow m);
-  constant = omega arith;
-  few = (let a = length-append cs (zeros m) in let z = length-zeros m in omega (arith, a, z, e, l));
-}
-
 -- ---- the rows that are known at a location
 pub over_at : (v : ℕ) (known : List Piece) (l : ℕ) → All (λ p. All (λ r. columns r ≡ v) (piece_rows p)) known → All (λ r. columns r ≡ v) (rows_at known l)
 over_at v [] l h = All-nil (λ r. columns r ≡ v)

@@ -16,8 +16,7 @@ use crate::known::rowed_at;
 use crate::part::{Part, Parted, part_of};
 use std::alloc::{AllocError, Global};
 use tv_cases::Cases;
-use tv_linear::{Piece, Poly, Region};
-use tv_simplex::push_item;
+use tv_linear::{Piece, Poly, Region, push_item};
 
 /// The ranks of all components, in the order of their numbers, or a set of cases that is stuck.
 #[derive(Drop)]

@@ -17,8 +17,7 @@ use std::alloc::Global;
 use tv_cases::{Case, Cases, before};
 use tv_cover::{Covered, cover};
 use tv_farkas::{Budget, CoverFault};
-use tv_linear::{Cover, CoverTree, Poly, Region, Row, RowFault};
-use tv_simplex::push_item;
+use tv_linear::{Cover, CoverTree, Poly, Region, Row, RowFault, push_item};
 
 /// The cover by one target without rows, into which no fall is owed.
 pub fn whole_cover(alloc: Global) -> Cover

@@ -1,14 +1,14 @@
 // The covers of the steps over cases, as the rounds show them.
 
-ghost use Rattle.std.specs.Prelude.{◌≡◌, ℕ, suc, ◌+◌, ◌<◌, ◌≤◌, ◌^◌, ◌++◌, ◌∷◌, [], length, get_or, All, IfOk, pos};
+ghost use Rattle.std.specs.Prelude.{◌≡◌, ◌+◌, ◌<◌, ◌≤◌, ◌++◌, ◌∷◌, [], length, IfOk, pos};
 ghost use Rattle.tv_linear.specs.Arithmetic.{zeros};
 ghost use Rattle.tv_rank.specs.Given.{lists};
 ghost use Rattle.tv_lexrank.specs.Rounds.{place_in as spec_place, line_at, lines_of as spec_lines, falls_in};
-ghost use Rattle.tv_lexrank.specs.Covering.{AreLined, IsLined};
+ghost use Rattle.tv_lexrank.specs.Covering.{AreLined};
 
 use crate::Round;
 use std::alloc::{AllocError, Global};
-use tv_simplex::push_item;
+use tv_linear::push_item;
 
 /// The first place of a number in a list, or the list's length.
 pub fn place_in(set: &[u32], number: u32) -> usize

@@ -11,8 +11,7 @@ ghost use Rattle.tv_lexrank.specs.Falling.{put_in as spec_put_in, spread as spec
 
 use std::alloc::{AllocError, Global};
 use tv_farkas::split_of;
-use tv_linear::{CoverTree, Row, copies_of_lists};
-use tv_simplex::push_item;
+use tv_linear::{CoverTree, Row, copies_of_lists, push_item};
 
 /// A fall of the ranks over a case, with what shows it.
 #[derive(Drop)]

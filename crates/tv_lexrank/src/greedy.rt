@@ -1,6 +1,6 @@
 // The greedy rounds over the cases of a component.
 
-ghost use Rattle.std.specs.Prelude.{◌≡◌, ◌<◌, ◌^◌, ◌++◌, ◌∷◌, [], length, IfOk};
+ghost use Rattle.std.specs.Prelude.{◌≡◌, ◌<◌, ◌^◌, ◌++◌, length, IfOk};
 ghost use Rattle.std.specs.Result.{IfErr};
 ghost use Rattle.tv_cases.specs.Systems.{cases_of};
 ghost use Rattle.tv_rank.specs.Given.{AreNumbered};
@@ -9,8 +9,9 @@ ghost use Rattle.tv_lexrank.specs.Greedy.{without as spec_without, IsNameIn, For
 use crate::component::Component;
 use crate::{RankFault, Round};
 use std::alloc::{AllocError, Global};
+use tv_linear::push_item;
 use tv_rank::{Found, Name, rank_place};
-use tv_simplex::{SolveFault, push_item};
+use tv_simplex::SolveFault;
 
 /// What a round gives: the round that takes a case out, or a barrier for each case that is left.
 #[derive(Drop)]

@@ -9,8 +9,8 @@ ghost use Rattle.tv_lexrank.specs.Inside.{inside_key, inside_keys};
 use crate::sorting::case_of;
 use std::alloc::{AllocError, Global};
 use tv_cases::{Case, Cases};
+use tv_linear::push_item;
 use tv_places::{Stand, index};
-use tv_simplex::push_item;
 
 /// The component inside which a case leads, or the count of the components where it leads out of one.
 fn key_of(numbers: &[u32], count: u32, case: &Case) -> u32

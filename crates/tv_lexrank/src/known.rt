@@ -1,6 +1,6 @@
 // The rows that are known at locations, and those that are met where a case is taken.
 
-ghost use Rattle.std.specs.Prelude.{◌≡◌, ◌+◌, ◌-◌, ◌^◌, ◌<◌, ◌≤◌, ◌++◌, [], All, length, map, IfOk, IsTrue, ◌↔◌, MatchOption};
+ghost use Rattle.std.specs.Prelude.{◌≡◌, ◌+◌, ◌-◌, ◌^◌, ◌<◌, ◌≤◌, ◌++◌, All, length, map, IfOk, IsTrue, ◌↔◌, MatchOption};
 ghost use Rattle.tv_linear.specs.Linear.{columns as width};
 ghost use Rattle.tv_cases.specs.Systems.{cases_of};
 ghost use Rattle.tv_rank.specs.Ways.{rows_at};
@@ -8,8 +8,7 @@ ghost use Rattle.tv_lexrank.specs.Known.{AreKnown, AreBare, piece_rows, padded_r
 
 use std::alloc::{AllocError, Global};
 use tv_cases::Cases;
-use tv_linear::{Piece, Region, Row, push_copies};
-use tv_simplex::push_item;
+use tv_linear::{Piece, Region, Row, push_copies, push_item};
 
 fn are_even(rows: &[Row], columns: u32) -> bool
     ensures { IsTrue result ↔ All (λ r. width r ≡ columns) rows.now }
@@ -57,27 +56,15 @@ pub fn known_at(known: &[Piece], location: u32) -> &[Row]
     &known[location as usize].poly.rows
 }
 
-/// The row over more columns, with 0 in each that is new.
-fn padded(alloc: Global, row: &Row, columns: u32) -> Result<Row, AllocError>
-    requires few { columns < 2 ^ 32 - 1 }
-    requires more { width row.now ≤ columns }
-    ensures { IfOk result (λ r. r ≡ padded_row columns row.now) }
-{
-    let mut coefficients = Vec::from_slice(alloc, row.coefficients())?;
-    let zero = Row::zero(alloc, columns - row.columns())?;
-    coefficients.extend_from_slice(zero.coefficients())?;
-    Row::from_narrow(coefficients, 0).with_constant(alloc, row.constant())
-}
-
 /// Each of the rows over more columns.
-fn all_padded(alloc: Global, rows: &[Row], columns: u32) -> Result<Vec<Row>, AllocError>
+pub fn all_padded(alloc: Global, rows: &[Row], columns: u32) -> Result<Vec<Row>, AllocError>
     requires few { columns < 2 ^ 32 - 1 }
     requires more { All (λ r. width r ≤ columns) rows.now }
     ensures { IfOk result (λ v. v.items ≡ map (padded_row columns) rows.now) }
 {
     let mut all = Vec::new(alloc);
     'rows: for row in rows {
-        push_item(&mut all, padded(alloc, row, columns)?)?;
+        push_item(&mut all, row.padded(alloc, columns - row.columns())?)?;
     }
     Ok(all)
 }

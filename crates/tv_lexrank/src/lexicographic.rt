@@ -21,8 +21,7 @@ use std::alloc::{AllocError, Global};
 use tv_cases::{Case, Cases};
 use tv_farkas::Budget;
 use tv_graph::{Arc, components};
-use tv_linear::Region;
-use tv_simplex::push_item;
+use tv_linear::{Region, push_item};
 
 /// An arc for each case, in order.
 fn arcs_of(alloc: Global, list: &[Case]) -> Result<Vec<Arc>, AllocError>

@@ -8,7 +8,7 @@ ghost use Rattle.tv_lexrank.specs.More.{IsUnderMore};
 use crate::CaseShown;
 use crate::falling::{Fall, put_in};
 use std::alloc::{AllocError, Global};
-use tv_simplex::push_item;
+use tv_linear::push_item;
 
 /// Copies of lists, each with so many zeros put in at a place.
 fn put_in_each(

@@ -1,9 +1,8 @@
 // The node of a ranking.
 
-ghost use Rattle.std.specs.Prelude.{◌≡◌, [], All, IfOk};
+ghost use Rattle.std.specs.Prelude.{IfOk};
 ghost use Rattle.std.specs.Result.{IfErr};
 ghost use Rattle.tv_cases.specs.Systems.{cases_of};
-ghost use Rattle.tv_shape.specs.Narrow.{PieceNarrow};
 ghost use Rattle.tv_lexrank.specs.Steps.{AreRanked, ShowsEach, RefusesStep};
 ghost use Rattle.tv_lexrank.specs.Nodes.{HasOwn, IsRankedBy};
 
@@ -11,8 +10,9 @@ use crate::offered::proofs_of;
 use crate::pieces::pieces_of;
 use crate::ranking::Ranking;
 use crate::{CaseShown, RankFault};
-use std::alloc::{AllocError, Global};
-use tv_cert::{Marked, Node, Pieces, Proof};
+use std::alloc::Global;
+use tv_cert::{Node, Pieces, Proof};
+use tv_shape::narrow_pieces;
 
 /// The node of these parts, without children.
 fn leaf(alloc: Global, pieces: Pieces, ranks: u32, proofs: Vec<Proof>) -> Node
@@ -23,24 +23,6 @@ fn leaf(alloc: Global, pieces: Pieces, ranks: u32, proofs: Vec<Proof>) -> Node
         ranks,
         children: Vec::new(alloc),
         proofs,
-    }
-}
-
-/// Each number of a piece is below 2^62 in magnitude, whatever the piece.
-fn narrow_piece(piece: &Marked)
-    ensures { PieceNarrow piece.now }
-{
-    piece.location();
-    piece.row_count();
-    piece.columns();
-}
-
-/// So is each number of these pieces.
-fn narrow_pieces(pieces: &[Marked])
-    ensures { All PieceNarrow pieces.now }
-{
-    for piece in pieces {
-        narrow_piece(piece);
     }
 }
 

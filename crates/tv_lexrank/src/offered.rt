@@ -1,6 +1,6 @@
 // The proofs of the node of a ranking: one for each case, by the locations where they start.
 
-ghost use Rattle.std.specs.Prelude.{◌≡◌, ◌<◌, length, map, IfOk, take};
+ghost use Rattle.std.specs.Prelude.{◌≡◌, ◌<◌, length, map, IfOk};
 ghost use Rattle.std.specs.Result.{IfErr};
 ghost use Rattle.tv_cases.specs.LinearCases.{leaving, from_of};
 ghost use Rattle.tv_cases.specs.Systems.{cases_of};
@@ -15,9 +15,8 @@ use crate::{CaseShown, RankFault};
 use std::alloc::{AllocError, Global};
 use tv_cases::Case;
 use tv_cert::Proof;
-use tv_linear::Cover;
+use tv_linear::{Cover, push_item};
 use tv_places::{Stand, count_of, index, place_at};
-use tv_simplex::push_item;
 
 /// The proof of the step over a case.
 fn step_proof(

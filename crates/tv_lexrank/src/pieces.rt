@@ -1,6 +1,6 @@
 // The pieces of the node of a ranking: one at each location, with the rows that are known there and its ranks.
 
-ghost use Rattle.std.specs.Prelude.{◌≡◌, ◌+◌, ◌-◌, ◌<◌, ◌≤◌, ◌^◌, ◌++◌, [], length, IfOk, pos};
+ghost use Rattle.std.specs.Prelude.{◌≡◌, ◌+◌, ◌-◌, ◌<◌, ◌≤◌, ◌^◌, ◌++◌, length, IfOk, pos};
 ghost use Rattle.tv_linear.specs.Arithmetic.{constant_row};
 ghost use Rattle.tv_cases.specs.Systems.{cases_of};
 ghost use Rattle.tv_cert.specs.MarkedRows.{marked};
@@ -14,9 +14,8 @@ use crate::known::known_at;
 use crate::ranking::Ranking;
 use std::alloc::{AllocError, Global};
 use tv_cert::{Mark, Marked};
-use tv_linear::Row;
+use tv_linear::{Row, push_item};
 use tv_rank::LocalTerm;
-use tv_simplex::push_item;
 
 /// A copy of the term at a location.
 fn term_at(

@@ -16,8 +16,7 @@ use crate::known::known_at;
 use crate::ranking::Ranking;
 use crate::sorting::{Sorted, case_of};
 use std::alloc::{AllocError, Global};
-use tv_linear::Row;
-use tv_simplex::push_item;
+use tv_linear::{Row, push_item};
 
 /// What shows of a case that no run takes it without end, under the rows that are known where it starts.
 #[derive(Drop)]

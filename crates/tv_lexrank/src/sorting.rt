@@ -13,13 +13,12 @@ ghost use Rattle.tv_lexrank.specs.Sorting.{IsSettled, IsTaken, RefusesGuards, Re
 use crate::RankFault;
 use crate::component::Component;
 use crate::known::{known_at, rows_with};
-use std::alloc::{AllocError, Global};
+use std::alloc::Global;
 use tv_cases::{Case, Cases};
 use tv_farkas::{CoverFault, Judged, Refuted, judge, refute};
-use tv_linear::{Row, shortened};
+use tv_linear::{Row, push_item, shortened};
 use tv_places::{count_of, place_at};
 use tv_rank::Name;
-use tv_simplex::push_item;
 
 /// The cases inside a component, by number.
 #[derive(Drop)]

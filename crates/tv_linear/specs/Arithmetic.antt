@@ -1,10 +1,14 @@
-use Rattle.std.specs.Prelude.{ℕ, zero, suc, ℤ, pos, neg_ℤ, ◌+ℤ◌, ◌-ℤ◌, ◌*ℤ◌, List, [], ◌∷◌, map}
+use Rattle.std.specs.Prelude.{ℕ, zero, suc, ℤ, pos, neg_ℤ, ◌+ℤ◌, ◌-ℤ◌, ◌*ℤ◌, List, [], ◌∷◌, ◌++◌, map}
 use Rattle.tv_linear.specs.Linear.{Linear, linear, columns}
 
 -- so many zeros
 abbrev pub zeros : ℕ → List ℤ
 zeros zero = []
 zeros (suc n) = pos 0 ∷ zeros n
+
+-- the row with so many columns more, in each of which it has 0
+abbrev pub padded_row : ℕ → Linear → Linear
+padded_row more r = linear (r.coefficients ++ zeros more) r.constant
 
 -- 1 in the one column and 0 in the others
 abbrev pub unit : ℕ → ℕ → List ℤ

@@ -42,7 +42,8 @@ impl Model for Cover {
     ghost invariant = { λ c. splits c.tree ≤ 128 };
 }
 
-pub(crate) const MAX_SPLITS: u32 = 128;
+/// How many splits may lie on a path of a tree.
+pub const MAX_SPLITS: u32 = 128;
 
 impl Cover {
     /// The tree as a cover; `None` where more than 128 splits lie on a path. It goes no deeper than that.

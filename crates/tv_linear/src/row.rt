@@ -1,6 +1,6 @@
-ghost use Rattle.std.specs.Prelude.{◌≡◌, ◌+◌, ◌-◌, ◌^◌, ◌<◌, ◌≤◌, ◌↔◌, ◌+ℤ◌, ◌≤ℤ◌, ℕ, ℤ, pos, List, map, length, All, IfOk, IfSome, IsSome, IsTrue, SomeIff};
+ghost use Rattle.std.specs.Prelude.{◌≡◌, ◌+◌, ◌-◌, ◌^◌, ◌<◌, ◌≤◌, ◌↔◌, ◌+ℤ◌, ◌≤ℤ◌, ℤ, pos, List, map, length, All, IfOk, IfSome, IsSome, IsTrue, SomeIff};
 ghost use Rattle.tv_linear.specs.Linear.{linear, columns, entry, IsWithin, IsNarrow, IsMet, value};
-ghost use Rattle.tv_linear.specs.Arithmetic.{constant_row, column_row, plus, opposite, denial, raised, width_of};
+ghost use Rattle.tv_linear.specs.Arithmetic.{padded_row, constant_row, column_row, plus, opposite, denial, raised, width_of};
 ghost use Rattle.tv_linear.specs.Tight.{tight, IsTightened};
 ghost use Rattle.tv_linear.specs.Fits.{ValueHeld, GivesWhere, GivesRow, GivesTight, GivesComposed};
 
@@ -107,6 +107,19 @@ impl Row {
         Ok(Row {
             coefficients: all_zero(alloc, columns)?,
             constant: 0,
+        })
+    }
+
+    /// The row with so many columns more, in each of which it has 0.
+    pub fn padded(&self, alloc: Global, more: u32) -> Result<Row, AllocError>
+        requires { columns self.now + more < 2 ^ 32 - 1 }
+        ensures { IfOk result (λ row. row ≡ padded_row more self.now) }
+    {
+        let mut coefficients = Vec::from_slice(alloc, &self.coefficients)?;
+        coefficients.extend_from_slice(&all_zero(alloc, more)?)?;
+        Ok(Row {
+            coefficients,
+            constant: self.constant,
         })
     }
 

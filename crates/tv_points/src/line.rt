@@ -1,6 +1,6 @@
 // How a row is shown at a point.
 
-ghost use Rattle.std.specs.Prelude.{◌≡◌, ◌+◌, ◌++◌, ◌∷◌, [], ◌-◌, ◌^◌, ◌<◌, ℕ, ◌+ℤ◌, ◌*ℤ◌, IfOk, SomeIff, MatchResult, length, All, None, pos, neg_ℤ, slice_index_or};
+ghost use Rattle.std.specs.Prelude.{◌≡◌, ◌+◌, ◌++◌, ◌∷◌, [], ◌-◌, ◌^◌, ◌<◌, ℕ, ◌+ℤ◌, ◌*ℤ◌, IfOk, SomeIff, MatchResult, length, None, pos, neg_ℤ, slice_index_or};
 ghost use Rattle.tv_linear.specs.Linear.{IsWithin, dot};
 ghost use Rattle.tv_linear.specs.Fits.{IsHeld, SumsHeld};
 ghost use Rattle.tv_linear.specs.Known.{denied, KnownHeld, known_number};
@@ -9,9 +9,9 @@ ghost use Rattle.tv_points.specs.PointRows.{above_zero, below_zero, constants_of
 ghost use Rattle.tv_points.specs.Lines.{IsNarrowIn, AreNarrowBetween, IsShowable, ShowsAt, IsLineFault, line};
 
 use crate::fault::PointFault;
-use crate::growing::push_item;
 use std::alloc::{AllocError, Global};
 use tv_linear::held::add_product;
+use tv_linear::push_item;
 use tv_linear::sums::{Numbers, dot_from};
 use tv_refute::{Built, number_of};
 

@@ -6,10 +6,9 @@ ghost use Rattle.tv_linear.specs.Views.{row_seen, rows_seen};
 ghost use Rattle.tv_points.specs.Lines.{IsShowable, GivesLines};
 
 use crate::fault::PointFault;
-use crate::growing::push_item;
 use crate::line::multipliers_at;
 use std::alloc::Global;
-use tv_linear::{RowView, Rows};
+use tv_linear::{RowView, Rows, push_item};
 use tv_refute::{Built, Change};
 
 /// Puts the multipliers that show a row at the end of the list.

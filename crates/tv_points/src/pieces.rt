@@ -6,12 +6,11 @@ ghost use Rattle.tv_points.specs.PointRows.{point_rows};
 ghost use Rattle.tv_points.specs.States.{IsPointOf};
 ghost use Rattle.tv_points.specs.StatePieces.{state_piece, state_pieces, rank_rows, mark_of};
 
-use crate::growing::push_item;
 use crate::rows::point_rows;
 use crate::state::State;
 use std::alloc::{AllocError, Global};
 use tv_cert::{Mark, Marked};
-use tv_linear::Row;
+use tv_linear::{Row, push_item};
 
 /// The ranks of a state with so many steps left.
 fn ranks_of(alloc: Global, columns: u32, ends: bool, left: u32) -> Result<Vec<Row>, AllocError>

@@ -9,7 +9,6 @@ ghost use Rattle.tv_points.specs.Nodes.{reaches, IsRunNode, AreEnds};
 
 use crate::bare::{location_node, truth_node};
 use crate::fault::PointFault;
-use crate::growing::push_item;
 use crate::node::node_of;
 use crate::pieces::pieces_of;
 use crate::state::State;
@@ -18,6 +17,7 @@ use crate::steps::{Run, push_run};
 use std::alloc::{AllocError, Global};
 use tv_cases::Cases;
 use tv_cert::Node;
+use tv_linear::push_item;
 
 /// The nodes of the two arguments: that the run is at the location, and truth.
 fn end_nodes(

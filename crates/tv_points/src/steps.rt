@@ -8,7 +8,6 @@ ghost use Rattle.tv_points.specs.Nodes.{lines_of_step, lines_of_steps, IsRunMade
 
 use crate::bare::bare_proof;
 use crate::fault::PointFault;
-use crate::growing::push_item;
 use crate::pieces::place_among;
 use crate::state::State;
 use crate::step::Step;
@@ -16,6 +15,7 @@ use crate::taking::{Taking, take};
 use std::alloc::Global;
 use tv_cases::Cases;
 use tv_cert::{Marked, Proof};
+use tv_linear::push_item;
 
 /// A run whose pieces are made.
 #[derive(Drop)]

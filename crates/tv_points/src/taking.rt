@@ -11,14 +11,13 @@ ghost use Rattle.tv_points.specs.Taking.{fall_number, taking_point, case_rows, I
 
 use crate::falls::{Entering, is_owed, push_entered};
 use crate::fault::PointFault;
-use crate::growing::push_item;
 use crate::lines::push_lines;
 use crate::state::State;
 use crate::step::Step;
 use std::alloc::{AllocError, Global};
 use tv_cases::{Case, Cases, Update};
 use tv_cert::Marked;
-use tv_linear::{Choice, ChoiceTree, Row, Rows};
+use tv_linear::{Choice, ChoiceTree, Row, Rows, push_item};
 use tv_refute::{Change, Terms};
 
 /// A step of a run, from the piece of its state into the piece of the next one.
@@ -36,7 +35,7 @@ pub(crate) struct Taking<'a> {
 }
 
 /// The case of a number.
-fn case_at(about: &Cases, number: u32) -> Option<&Case>
+pub fn case_at(about: &Cases, number: u32) -> Option<&Case>
     ensures { let cases = (cases_of about.now).cases in
         MatchOption result (slice_get cases number ≡ None) (λ case. slice_get cases number ≡ Some (case_view case.now)) }
 {

@@ -1,7 +1,6 @@
 // The nodes of atoms.
 
-ghost use Rattle.std.specs.Prelude.{◌≡◌, ℕ, ◌<◌, ◌++◌, ◌-◌, ◌^◌, [], ◌∷◌, All, List, map, length, IfOk};
-ghost use Rattle.tv_linear.specs.Linear.{IsNarrow};
+ghost use Rattle.std.specs.Prelude.{◌≡◌, ◌<◌, ◌-◌, ◌^◌, [], ◌∷◌, All, map, length, IfOk};
 ghost use Rattle.tv_formula.specs.Properties.{Property};
 ghost use Rattle.tv_cases.specs.Systems.{cases_of};
 ghost use Rattle.tv_cover.specs.Targets.{AreEven};
@@ -11,13 +10,11 @@ ghost use Rattle.tv_pre.specs.Parts.{IsPart};
 
 use crate::narrow::narrow_rows;
 use crate::plain::plain_with;
-use crate::rows::push_rows;
 use crate::{Part, Test};
 use std::alloc::{AllocError, Global};
 use tv_cases::Cases;
 use tv_cert::Proof;
-use tv_linear::{Cover, CoverTree, Piece, Poly, Region, Row};
-use tv_simplex::push_item;
+use tv_linear::{Cover, CoverTree, Piece, Poly, Region, Row, push_copies, push_item};
 
 /// The line that shows a row that is among so many: the row once, and its denial.
 fn own_line(alloc: Global, count: usize, place: usize) -> Result<Vec<i64>, AllocError>
@@ -72,7 +69,7 @@ fn piece_of(alloc: Global, variables: u32, location: u32, rows: &[Row]) -> Resul
     ensures rows { IfOk result (λ p. p.poly.rows.items ≡ rows.now) }
 {
     let mut copies = Vec::new(alloc);
-    push_rows(alloc, rows, &mut copies)?;
+    push_copies(alloc, rows, &mut copies)?;
     let poly = Poly {
         columns: variables,
         rows: copies,

@@ -29,8 +29,7 @@ use tv_cases::Cases;
 use tv_cert::Proof;
 use tv_farkas::CoverFault;
 use tv_formula::{Path, Shape};
-use tv_linear::{Choice, Piece, Region};
-use tv_simplex::push_item;
+use tv_linear::{Choice, Piece, Region, push_item};
 
 /// All states, by one piece without rows at each location.
 pub(crate) fn everywhere(alloc: Global, about: &Cases) -> Result<Region, AllocError>

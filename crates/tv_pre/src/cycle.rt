@@ -1,7 +1,6 @@
 // Whether some run of cases comes back to where it began.
 
-ghost use Rattle.std.specs.Prelude.{◌≡◌, ◌<◌, ◌↔◌, All, Contains, IsTrue, IfOk, length, map, slice_index};
-ghost use Rattle.tv_cases.specs.LinearCases.{LinearCase};
+ghost use Rattle.std.specs.Prelude.{◌≡◌, ◌<◌, ◌↔◌, IsTrue, IfOk, length, map};
 ghost use Rattle.tv_cases.specs.Systems.{cases_of};
 ghost use Rattle.tv_cases.specs.Views.{case_views};
 ghost use Rattle.tv_known.specs.Cycles.{HasCycle};
@@ -11,7 +10,7 @@ ghost use Rattle.tv_pre.specs.Finding.{AreBetween, StaysTogether};
 use std::alloc::{AllocError, Global};
 use tv_cases::{Case, Cases};
 use tv_graph::{Arc, components};
-use tv_simplex::push_item;
+use tv_linear::push_item;
 
 /// An arc for each case, in order.
 fn arcs_of(alloc: Global, list: &[Case]) -> Result<Vec<Arc>, AllocError>

@@ -1,6 +1,6 @@
 // The region and the node of each subformula, from those of its arguments.
 
-ghost use Rattle.std.specs.Prelude.{◌≡◌, ◌≤◌, ◌+◌, ◌++◌, ◌∷◌, ℕ, None, All, List, [], map, IfOk, IfSome};
+ghost use Rattle.std.specs.Prelude.{◌≡◌, ◌≤◌, ◌+◌, ◌++◌, ◌∷◌, ℕ, None, List, [], map, IfOk, IfSome};
 ghost use Rattle.std.specs.Result.{IfErr};
 ghost use Rattle.tv_formula.specs.Properties.{Property};
 ghost use Rattle.tv_cases.specs.Systems.{cases_of};
@@ -12,7 +12,7 @@ ghost use Rattle.tv_region.specs.Regions.{IsRegion};
 ghost use Rattle.tv_region.specs.StepRegions.{IsTame};
 ghost use Rattle.tv_pre.specs.declared.fault.PreFault.TheVariants.{Memory};
 ghost use Rattle.tv_pre.specs.Atoms.{IsEvenTest};
-ghost use Rattle.tv_pre.specs.Built.{IsBuilt, IsPreFault};
+ghost use Rattle.tv_pre.specs.Built.{IsBuilt};
 ghost use Rattle.tv_pre.specs.Finding.{States, IsEvenStatement, AreEvenStatements, steps_back, size, first_of, gap_behind, IsGapOf, IsPartFor, IsFullFor, IsFound, test_statement, IsRefusedFor};
 ghost use Rattle.tv_pre.specs.Search.{system_of, IsSearch};
 ghost use Rattle.tv_pre.specs.Arguments.{AreArguments, AreArgumentsOf};
@@ -29,8 +29,7 @@ use crate::{
 use std::alloc::Global;
 use tv_cert::{Aim, Node};
 use tv_formula::{Path, Shape};
-use tv_linear::Region;
-use tv_simplex::push_item;
+use tv_linear::{Region, push_item};
 
 /// What was found of the arguments of a formula, in order: their regions and nodes, the first gap, and how many subformulas they have.
 #[derive(Drop)]

@@ -20,13 +20,13 @@ ghost use Rattle.tv_formula.specs.declared.tree.Path.TheVariants.{Every};
 
 use crate::Setting;
 use crate::narrow::narrow_tree;
-use crate::rows::{all_padded, push_rows};
 use crate::targets::{targets_at, targets_before, targets_in};
 use tv_cases::Case;
 use tv_choice::{Chosen, choose};
 use tv_cover::{Covered, cover};
 use tv_farkas::CoverFault;
-use tv_linear::{Choice, Cover, Piece, Poly, Region};
+use tv_lexrank::all_padded;
+use tv_linear::{Choice, Cover, Piece, Poly, Region, push_copies};
 
 /// A cover of a piece by these targets, or values in the piece that lie in none of them.
 pub(crate) fn cover_at(
@@ -142,7 +142,7 @@ pub(crate) fn step_inside(
         Ok(targets) => targets,
     };
     let mut rows = all_padded(setting.alloc, &piece.poly.rows, columns)?;
-    push_rows(setting.alloc, &case.guards.rows, &mut rows)?;
+    push_copies(setting.alloc, &case.guards.rows, &mut rows)?;
     let ambient = Poly { columns, rows };
     match cover(setting.alloc, &ambient, &targets, setting.budget) {
         Err(fault) => Err(fault),

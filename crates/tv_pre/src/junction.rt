@@ -1,23 +1,21 @@
 // The nodes of conjunctions and disjunctions.
 
-ghost use Rattle.std.specs.Prelude.{◌≡◌, ◌≤◌, List, ◌∷◌, [], ◌++◌, All, map, IfOk, Contains};
+ghost use Rattle.std.specs.Prelude.{◌≡◌, ◌≤◌, ◌∷◌, [], All, map, IfOk};
 ghost use Rattle.std.specs.Result.{IfErr};
-ghost use Rattle.std.specs.List.{AllZip, flat_map};
+ghost use Rattle.std.specs.List.{flat_map};
 ghost use Rattle.tv_formula.specs.Properties.{Properties, all_of, some_of};
 ghost use Rattle.tv_linear.specs.declared.region.Piece.{Piece};
 ghost use Rattle.tv_linear.specs.declared.region.Region.{Region};
 ghost use Rattle.tv_cases.specs.Systems.{cases_of};
 ghost use Rattle.tv_cert.specs.declared.node.Kind.TheVariants as kind;
-ghost use Rattle.tv_cert.specs.declared.node.Marked.{Marked};
 ghost use Rattle.tv_cert.specs.Claims.{about_with};
 ghost use Rattle.tv_cert.specs.Obligations.{cover_of};
 ghost use Rattle.tv_region.specs.Regions.{IsPieceOf, IsRegion};
 ghost use Rattle.tv_region.specs.StepRegions.{InState};
 ghost use Rattle.tv_pre.specs.Pieces.{ArePieces, InPieces, IsMarked, AreMarked};
 ghost use Rattle.tv_pre.specs.Inclusions.{OfPiece, OfPieces};
-ghost use Rattle.tv_pre.specs.Offers.{Adds};
 ghost use Rattle.tv_pre.specs.Questions.{lies, IsRefusal, AsksOf, AsksEach};
-ghost use Rattle.tv_pre.specs.Around.{Around, AreKids};
+ghost use Rattle.tv_pre.specs.Around.{AreKids};
 ghost use Rattle.tv_pre.specs.Parts.{IsPart, AreParts, joined_pieces};
 
 use crate::inside::cover_joined;
@@ -26,8 +24,7 @@ use crate::proving::{Owing, prove_cover};
 use crate::{Part, Setting};
 use tv_cert::{Node, Proof};
 use tv_farkas::CoverFault;
-use tv_linear::{Piece, Region};
-use tv_simplex::push_item;
+use tv_linear::{Piece, Region, push_item};
 
 /// Pieces that lie in each of some regions.
 #[derive(Drop)]

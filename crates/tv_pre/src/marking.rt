@@ -1,14 +1,11 @@
 // The pieces of a region as pieces of a node.
 
-ghost use Rattle.std.specs.Prelude.{◌≡◌, ◌++◌, ◌-◌, ◌^◌, ◌<◌, All, map, IfOk};
-ghost use Rattle.tv_linear.specs.Linear.{columns as width};
-ghost use Rattle.tv_choice.specs.Leading.{piece_rows};
+ghost use Rattle.std.specs.Prelude.{◌≡◌, ◌++◌, ◌-◌, ◌^◌, ◌<◌, map, IfOk};
 ghost use Rattle.tv_pre.specs.Pieces.{marked_as};
 
 use std::alloc::{AllocError, Global};
 use tv_cert::{Mark, Marked};
-use tv_linear::{Piece, Row};
-use tv_simplex::push_item;
+use tv_linear::{Piece, Row, push_item};
 
 /// The piece with a mark and ranks. There is no room for 2^32 rows.
 pub(crate) fn marked_as(

@@ -23,8 +23,7 @@ use crate::Setting;
 use crate::inside::{choice_inside, cover_inside, step_inside};
 use tv_cert::Proof;
 use tv_farkas::CoverFault;
-use tv_linear::{Piece, Region};
-use tv_simplex::push_item;
+use tv_linear::{Piece, Region, push_item};
 
 /// Adds a cover of a piece that lies in some pieces.
 pub(crate) fn prove_cover(

@@ -36,8 +36,7 @@ use crate::{Part, RankedCases, Setting, Sides};
 use tv_cert::{Mark, Node, Proof};
 use tv_farkas::CoverFault;
 use tv_formula::Shape;
-use tv_linear::{Piece, Region};
-use tv_simplex::push_item;
+use tv_linear::{Piece, Region, push_item};
 
 /// Pieces that lie where the hold side holds, and go into pieces that are done or have lesser ranks.
 #[derive(Drop)]

@@ -13,8 +13,7 @@ use crate::Part;
 use std::alloc::{AllocError, Global};
 use tv_cases::Cases;
 use tv_cert::{Marked, Node};
-use tv_linear::{Piece, Poly, Region};
-use tv_simplex::push_item;
+use tv_linear::{Piece, Poly, Region, push_item};
 
 /// The pieces of a region at the locations of pieces of a node that have no rows.
 fn bare_pieces(alloc: Global, about: &Cases, pieces: &[Marked]) -> Result<Vec<Piece>, AllocError>

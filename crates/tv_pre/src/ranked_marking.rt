@@ -9,8 +9,7 @@ ghost use Rattle.tv_pre.specs.RankedUntil.{ranked_as};
 use crate::marking::marked_as;
 use std::alloc::{AllocError, Global};
 use tv_cert::{Mark, Marked, Node};
-use tv_linear::{Piece, Row, Rows};
-use tv_simplex::push_item;
+use tv_linear::{Piece, Row, Rows, push_item};
 
 /// Copies of rows that are lent.
 fn copies_of(alloc: Global, rows: Rows) -> Result<Vec<Row>, AllocError>

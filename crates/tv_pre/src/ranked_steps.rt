@@ -24,8 +24,7 @@ use tv_cases::Case;
 use tv_cert::Proof;
 use tv_farkas::CoverFault;
 use tv_lexrank::{CaseShown, under_more};
-use tv_linear::{Cover, CoverTree, Piece, Row};
-use tv_simplex::push_item;
+use tv_linear::{Cover, CoverTree, Piece, Row, push_item};
 
 /// The cover of a case that is never taken.
 fn refuted(multipliers: Vec<i64>) -> Cover

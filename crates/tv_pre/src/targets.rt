@@ -10,12 +10,11 @@ ghost use Rattle.tv_choice.specs.Leading.{piece_rows};
 ghost use Rattle.tv_pre.specs.Parts.{joined_pieces};
 ghost use Rattle.tv_pre.specs.Targets.{AreBefore, IsUnmade};
 
-use crate::rows::{push_rows, rows_before};
+use crate::rows::rows_before;
 use std::alloc::{AllocError, Global};
 use tv_cases::Case;
 use tv_farkas::CoverFault;
-use tv_linear::{Piece, Poly, Region};
-use tv_simplex::push_item;
+use tv_linear::{Piece, Poly, Region, push_copies, push_item};
 
 /// How many targets a cover can tell apart.
 const MOST_TARGETS: usize = 0xffff_fffe;
@@ -32,7 +31,7 @@ fn push_targets(
     'pieces: for piece in pieces {
         if piece.location == location {
             let mut rows = Vec::new(alloc);
-            push_rows(alloc, &piece.poly.rows, &mut rows)?;
+            push_copies(alloc, &piece.poly.rows, &mut rows)?;
             let columns = piece.poly.columns;
             push_item(targets, Poly { columns, rows })?;
         }

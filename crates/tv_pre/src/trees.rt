@@ -7,11 +7,9 @@ ghost use Rattle.tv_linear.specs.ChoiceDepth.{choice_splits};
 ghost use Rattle.tv_cases.specs.Systems.{cases_of};
 ghost use Rattle.tv_pre.specs.Ranked.{last_line, IsFallingEntry, IsFallingCover, first_past, IsFallingChoice, NeverStops};
 
-use crate::rows::push_rows;
 use std::alloc::{AllocError, Global};
 use tv_cases::Cases;
-use tv_linear::{ChoiceTree, CoverTree, Piece, copies_of_lists};
-use tv_simplex::push_item;
+use tv_linear::{ChoiceTree, CoverTree, Piece, copies_of_lists, push_copies, push_item};
 
 /// Multipliers 0 for so many rows, and 1 for the denial of the row that is shown.
 fn last_line(alloc: Global, count: usize) -> Result<Vec<i64>, AllocError>
@@ -138,7 +136,7 @@ pub(crate) fn falling_choice(
             let first = first_past(about, *taken, done);
             let entry = entry_of(alloc, *target, *fall, refutations, first, count)?;
             let mut terms = Vec::new(alloc);
-            push_rows(alloc, draws, &mut terms)?;
+            push_copies(alloc, draws, &mut terms)?;
             Ok(ChoiceTree::Take {
                 taken: *taken,
                 target: *target,

@@ -1,16 +1,16 @@
 // The unknowns and the rows of a ranking system, in their order.
 
-ghost use Rattle.std.specs.Prelude.{◌≡◌, ◌++◌, ◌∷◌, [], length, IfOk, None, Some};
+ghost use Rattle.std.specs.Prelude.{◌≡◌, ◌++◌, ◌∷◌, [], IfOk, None, Some};
 ghost use Rattle.tv_rank.specs.Questions.{ways_of, many_of, unknowns_of};
 ghost use Rattle.tv_rank.specs.Ways.{touches as spec_touches};
 ghost use Rattle.tv_rank.specs.declared.unknown.Unknown.TheVariants.{Positive, Negative, Slack};
-ghost use Rattle.tv_rank.specs.RankingSystem.{pairs_below, term_unknowns, terms_below, multipliers_below, identity_unknowns, steps_below, lines_over, identity_lines, step_lines, lines as spec_lines};
+ghost use Rattle.tv_rank.specs.RankingSystem.{term_unknowns, terms_below, multipliers_below, lines_over, lines as spec_lines};
 
 use crate::question::Question;
 use crate::span::span_of;
 use crate::unknown::{Identity, Line, Unknown};
 use std::alloc::{AllocError, Global};
-use tv_simplex::push_item;
+use tv_linear::push_item;
 
 /// Whether a case of the set starts or ends at the location.
 pub fn touches(asked: &Question, location: u32) -> bool

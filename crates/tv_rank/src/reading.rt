@@ -1,6 +1,6 @@
 // Reading the terms and the multipliers off a solution.
 
-ghost use Rattle.std.specs.Prelude.{◌≡◌, ℕ, ◌+◌, ◌*◌, ◌<◌, ◌≤◌, ◌-◌, ◌^◌, ◌++◌, ◌∷◌, [], length, map, get_or, All, IfOk, pos, ◌-ℤ◌, ◌≤ℤ◌};
+ghost use Rattle.std.specs.Prelude.{◌≡◌, ◌+◌, ◌*◌, ◌<◌, ◌≤◌, ◌-◌, ◌^◌, ◌++◌, ◌∷◌, [], length, All, IfOk, pos};
 ghost use Rattle.tv_linear.specs.Linear.{IsWithin};
 ghost use Rattle.tv_simplex.specs.Outcomes.{IsShort};
 ghost use Rattle.tv_rank.specs.Given.{AreParts, lists};
@@ -14,8 +14,7 @@ use crate::listing::touches;
 use crate::question::Question;
 use crate::span::span_of;
 use std::alloc::{AllocError, Global};
-use tv_linear::Row;
-use tv_simplex::push_item;
+use tv_linear::{Row, push_item};
 
 /// A number that 64 bits hold.
 fn short(number: i128) -> i64

@@ -1,6 +1,6 @@
 // The ranking system as the solver is handed it.
 
-ghost use Rattle.std.specs.Prelude.{◌≡◌, ℕ, ◌+◌, ◌*◌, ◌<◌, ◌≤◌, ◌^◌, ◌++◌, length, map, All, IfOk, IsTrue, ◌↔◌};
+ghost use Rattle.std.specs.Prelude.{◌≡◌, ◌+◌, ◌*◌, ◌<◌, ◌≤◌, ◌++◌, length, map, All, IfOk, IsTrue, ◌↔◌};
 ghost use Rattle.tv_simplex.specs.Views.{equations};
 ghost use Rattle.tv_rank.specs.Given.{IsPlaced};
 ghost use Rattle.tv_rank.specs.Questions.{ways_of, many_of};
@@ -10,7 +10,8 @@ use crate::entries::{entry, place_of, right_of};
 use crate::question::Question;
 use crate::unknown::{Line, Unknown};
 use std::alloc::{AllocError, Global};
-use tv_simplex::{System, push_item};
+use tv_linear::push_item;
+use tv_simplex::System;
 
 /// Puts the entries of a row of the system at the end of the list.
 fn push_row(

@@ -6,7 +6,6 @@
 mod certificate;
 mod exact;
 mod found;
-mod growing;
 mod next;
 mod parts;
 mod states;

@@ -1,19 +1,18 @@
 // The state after a step.
 
-ghost use Rattle.std.specs.Prelude.{◌≡◌, ◌++◌, ◌∷◌, [], ◌≤◌, All, IfOk, length, map, slice_get, MatchOption, None, Some};
+ghost use Rattle.std.specs.Prelude.{◌≡◌, ◌++◌, ◌∷◌, [], ◌≤◌, All, IfOk, length, map, None, Some};
 ghost use Rattle.tv_linear.specs.Linear.{IsWithin};
 ghost use Rattle.tv_linear.specs.Known.{term_value};
 ghost use Rattle.tv_linear.specs.Terms.{terms_after};
 ghost use Rattle.tv_cases.specs.Systems.{cases_of};
-ghost use Rattle.tv_cases.specs.Views.{case_view};
 ghost use Rattle.tv_points.specs.States.{seen, IsState};
 ghost use Rattle.tv_reaching.specs.Making.{GivesNumbers, GivesNext, CanTake};
 
 use crate::term::value_after;
 use std::alloc::{AllocError, Global};
-use tv_cases::{Case, Cases, Update};
+use tv_cases::{Cases, Update};
 use tv_linear::shortened;
-use tv_points::{PointFault, State};
+use tv_points::{PointFault, State, case_at};
 
 /// The values and then the draws.
 fn joined(alloc: Global, values: &[i64], draws: &[i128]) -> Result<Vec<i64>, AllocError>
@@ -55,14 +54,6 @@ fn values_after(
         }
     }
     Ok(values)
-}
-
-/// The case of a number.
-fn case_at(about: &Cases, number: u32) -> Option<&Case>
-    ensures { let cases = (cases_of about.now).cases in
-        MatchOption result (slice_get cases number ≡ None) (λ case. slice_get cases number ≡ Some (case_view case.now)) }
-{
-    about.list().get(number as usize)
 }
 
 /// The state that the case with this number leads to.

@@ -7,10 +7,10 @@ ghost use Rattle.tv_points.specs.States.{seen, IsState};
 ghost use Rattle.tv_reaching.specs.FoundRuns.{lists_of};
 ghost use Rattle.tv_reaching.specs.Making.{GivesStates, CanRun};
 
-use crate::growing::push_item;
 use crate::next::next_state;
 use std::alloc::Global;
 use tv_cases::Cases;
+use tv_linear::push_item;
 use tv_points::{PointFault, State};
 
 /// Puts a state, and those to which the cases lead from it, at the end of the list.

@@ -5,9 +5,8 @@ ghost use Rattle.tv_linear.specs.Linear.{IsWithin};
 ghost use Rattle.tv_reaching.specs.FoundRuns.{lists_of};
 ghost use Rattle.tv_reaching.specs.Making.{AreStepsPushed};
 
-use crate::growing::push_item;
 use std::alloc::{AllocError, Global};
-use tv_linear::shortened;
+use tv_linear::{push_item, shortened};
 use tv_points::Step;
 
 /// Puts the steps by these cases, each to the state behind its own, at the end of the list.

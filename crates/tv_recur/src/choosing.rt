@@ -1,6 +1,6 @@
 // Choices made of covers.
 
-ghost use Rattle.std.specs.Prelude.{◌≡◌, map, IfOk};
+ghost use Rattle.std.specs.Prelude.{◌≡◌, IfOk};
 ghost use Rattle.tv_linear.specs.Linear.{IsNarrow};
 ghost use Rattle.tv_recur.specs.Choosing.{IsChoiceOf, IsSplitOf, IsTakeOf};
 

@@ -6,7 +6,6 @@ ghost use Rattle.tv_linear.specs.Linear.{columns as width};
 ghost use Rattle.tv_cases.specs.Systems.{cases_of};
 ghost use Rattle.tv_cases.specs.Views.{case_view};
 ghost use Rattle.tv_known.specs.Recurrences.{IsEntered};
-ghost use Rattle.tv_recur.specs.Choosing.{LeadsInto};
 ghost use Rattle.tv_recur.specs.Keeping.{IsKeptBy, AreEntering, IsEntry, IsStem, NoEntryAt, NoEntryBelow};
 ghost use Rattle.tv_recur.specs.Nodes.{on_piece, IsEndlessNode};
 ghost use Rattle.tv_derived.specs.Scopes.{at_location};
@@ -23,8 +22,7 @@ use tv_cases::{Case, Cases};
 use tv_cert::{Node, Proof};
 use tv_cover::{Emptied, empty};
 use tv_farkas::CoverFault;
-use tv_linear::{Choice, Poly, Row, push_copies};
-use tv_simplex::push_item;
+use tv_linear::{Choice, Poly, Row, push_copies, push_item};
 
 /// A case from the start to where a loop can be taken.
 #[derive(Drop)]

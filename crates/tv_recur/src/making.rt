@@ -1,6 +1,6 @@
 // Rows made of others.
 
-ghost use Rattle.std.specs.Prelude.{◌≡◌, ◌+◌, ◌++◌, ◌-◌, ◌^◌, ◌<◌, All, IfOk, length};
+ghost use Rattle.std.specs.Prelude.{◌≡◌, ◌+◌, ◌-◌, ◌^◌, ◌<◌, All, IfOk, length};
 ghost use Rattle.std.specs.Result.{IfErr};
 ghost use Rattle.tv_linear.specs.Linear.{columns as width, IsWithin};
 ghost use Rattle.tv_linear.specs.Arithmetic.{constant_row, width_of};
@@ -11,8 +11,7 @@ ghost use Rattle.tv_recur.specs.Making.{AreRowsBefore, ArePut, number_rows, draw
 use std::alloc::{AllocError, Global};
 use tv_cases::{Case, before};
 use tv_farkas::CoverFault;
-use tv_linear::{Row, RowFault};
-use tv_simplex::push_item;
+use tv_linear::{Row, RowFault, push_item};
 
 /// The fault of a row as that of a search.
 pub(crate) fn handed_on(fault: RowFault) -> CoverFault

@@ -4,7 +4,6 @@ ghost use Rattle.std.specs.Prelude.{◌≡◌, [], ◌-◌, ◌^◌, ◌<◌, Al
 ghost use Rattle.std.specs.List.{AllZip};
 ghost use Rattle.tv_cases.specs.Systems.{cases_of};
 ghost use Rattle.tv_cert.specs.Shapes.{PieceShape};
-ghost use Rattle.tv_shape.specs.Narrow.{PieceNarrow};
 ghost use Rattle.tv_points.specs.Nodes.{HasOwn};
 ghost use Rattle.tv_recur.specs.Nodes.{on_piece, GoesOn, IsEndlessNode};
 
@@ -12,24 +11,7 @@ use std::alloc::{AllocError, Global};
 use tv_cases::Cases;
 use tv_cert::{Mark, Marked, Node, Pieces, Proof};
 use tv_linear::Row;
-
-/// Each number of a piece is below 2^62 in magnitude, whatever the piece.
-fn narrow_piece(piece: &Marked)
-    ensures { PieceNarrow piece.now }
-{
-    piece.location();
-    piece.row_count();
-    piece.columns();
-}
-
-/// So is each number of these pieces.
-fn narrow_pieces(pieces: &[Marked])
-    ensures { All PieceNarrow pieces.now }
-{
-    for piece in pieces {
-        narrow_piece(piece);
-    }
-}
+use tv_shape::narrow_pieces;
 
 /// The piece of these rows at a location. There is no room for 2^32 rows.
 pub(crate) fn piece_of(

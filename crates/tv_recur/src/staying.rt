@@ -24,8 +24,7 @@ use tv_cases::{Case, Cases};
 use tv_cert::{Node, Proof};
 use tv_cover::{Emptied, empty};
 use tv_farkas::CoverFault;
-use tv_linear::{Choice, Poly, Row, Update, push_copies};
-use tv_simplex::push_item;
+use tv_linear::{Choice, Poly, Row, Update, push_copies, push_item};
 
 /// Puts the two rows that are met where the update changes nothing at the end of the list.
 fn push_unchanged(

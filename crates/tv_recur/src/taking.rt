@@ -20,8 +20,7 @@ use std::alloc::{AllocError, Global};
 use tv_cases::{Case, Cases};
 use tv_cover::{Covered, cover};
 use tv_farkas::{Budget, CoverFault};
-use tv_linear::{Choice, Cover, Poly, Row};
-use tv_simplex::push_item;
+use tv_linear::{Choice, Cover, Poly, Row, push_item};
 
 /// What stays the same in a search.
 #[derive(Drop)]

@@ -14,8 +14,7 @@ use tv_candidates::Candidate;
 use tv_cases::Cases;
 use tv_cover::{Emptied, empty};
 use tv_farkas::{Budget, CoverFault};
-use tv_linear::Row;
-use tv_simplex::push_item;
+use tv_linear::{Row, push_item};
 
 /// The rows of the candidates at a location, in order.
 fn rows_at(alloc: Global, list: &[Candidate], location: u32) -> Result<Vec<Row>, AllocError>

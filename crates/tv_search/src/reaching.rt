@@ -11,7 +11,7 @@ use crate::met::MetPath;
 use crate::searched::Searched;
 use std::alloc::{AllocError, Global};
 use tv_cases::Cases;
-use tv_simplex::push_item;
+use tv_linear::push_item;
 
 /// Puts the draws of each case at the end of a list.
 fn push_draws(

@@ -1,6 +1,6 @@
 // The node that shows that no run from the known states comes to the location.
 
-ghost use Rattle.std.specs.Prelude.{◌≡◌, [], IfOk};
+ghost use Rattle.std.specs.Prelude.{[], IfOk};
 ghost use Rattle.std.specs.Result.{IfErr};
 ghost use Rattle.tv_points.specs.Nodes.{IsWholeNode};
 ghost use Rattle.tv_settling.specs.Nodes.{ShowsNever, Refuses};
@@ -12,8 +12,8 @@ use crate::pieces::{pieces_elsewhere, pieces_of};
 use std::alloc::{AllocError, Global};
 use tv_cert::Node;
 use tv_farkas::CoverFault;
+use tv_linear::push_item;
 use tv_points::{node_of, whole_node};
-use tv_simplex::push_item;
 
 /// The node of the test that the state is not at the location.
 fn elsewhere_node(alloc: Global, barrier: &Barrier) -> Result<Node, AllocError>

@@ -15,8 +15,8 @@ use std::alloc::Global;
 use tv_cert::Proof;
 use tv_farkas::CoverFault;
 use tv_lexrank::starts_of;
+use tv_linear::push_item;
 use tv_places::{Stand, count_of, index, place_at};
-use tv_simplex::push_item;
 
 /// Puts a proof for each case from a location at the end of the list.
 fn push_steps(

@@ -9,8 +9,8 @@ use crate::barrier::Barrier;
 use std::alloc::{AllocError, Global};
 use tv_cert::{Mark, Marked};
 use tv_lexrank::known_at;
+use tv_linear::push_item;
 use tv_points::whole;
-use tv_simplex::push_item;
 
 /// The piece of the rows that are known at a location. There is no room for 2^32 rows.
 fn piece_at(alloc: Global, barrier: &Barrier, location: u32) -> Result<Marked, AllocError>

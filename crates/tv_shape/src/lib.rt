@@ -23,5 +23,6 @@ pub use certificate::Certificate;
 pub use choices::taken_into;
 pub use fault::ShapeFault;
 pub use laws::{faulty_is_unfit, one_first_fault, right_nodes_fit};
+pub use narrow::narrow_pieces;
 pub use nodes::{argument_count, may_be_done, may_rank};
 pub use targets::{Targets, pieces_into};

@@ -45,7 +45,8 @@ fn narrow_piece(piece: &Marked)
     piece.columns();
 }
 
-fn narrow_pieces(pieces: &[Marked])
+/// So are those of these pieces.
+pub fn narrow_pieces(pieces: &[Marked])
     ensures { All PieceNarrow pieces.now }
 {
     for piece in pieces {

@@ -1,6 +1,6 @@
 // The answers of a basis that settles the system.
 
-ghost use Rattle.std.specs.Prelude.{◌≡◌, ◌+◌, ◌^◌, ◌<◌, ◌≤◌, ℕ, length, get_or, pos, IfOk, MatchOption, MatchResult, unsigned_abs, IsTrue, ◌↔◌};
+ghost use Rattle.std.specs.Prelude.{◌≡◌, ◌+◌, ◌^◌, ◌<◌, ◌≤◌, ℕ, length, get_or, pos, IfOk, MatchOption, MatchResult, unsigned_abs};
 ghost use Rattle.tv_simplex.specs.Systems.{IsWhole};
 ghost use Rattle.tv_simplex.specs.Outcomes.{IsShort};
 ghost use Rattle.tv_simplex.specs.Views.{equations};
@@ -12,7 +12,6 @@ ghost use Rattle.tv_fraction.specs.Fraction.{IsNarrow, numerator_of};
 
 use crate::entering::entering_column;
 use crate::numbers::{right_at, signed};
-use crate::push::push_item;
 use crate::rows::is_zero;
 use crate::scaling::bring_to_scale;
 use crate::stop::Stop;
@@ -20,6 +19,7 @@ use crate::table::{Settled, Table, entry_at};
 use crate::{Answer, System};
 use std::alloc::{AllocError, Global};
 use tv_fraction::Fraction;
+use tv_linear::push_item;
 
 /// The fractions of so many rows in a column.
 fn column_of(

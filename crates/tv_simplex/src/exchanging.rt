@@ -8,12 +8,12 @@ ghost use Rattle.tv_simplex.specs.Stops.{IsClearingStop, IsExchangeStop, IsEnter
 ghost use Rattle.tv_simplex.specs.Tables.{shown, place_of, IsTable};
 ghost use Rattle.tv_simplex.specs.Exchanges.{AreSwapped, IsEntered};
 
-use crate::push::push_item;
 use crate::rows::{divide_row, fraction_at, put_fraction, take_from};
 use crate::stop::Stop;
 use crate::table::{Place, Table, unit};
 use std::alloc::{AllocError, Global};
 use tv_fraction::Fraction;
+use tv_linear::push_item;
 
 /// Takes the column at a slot out of the rows, and puts the unit column of the row there.
 fn take_column(

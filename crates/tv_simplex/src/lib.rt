@@ -13,7 +13,6 @@ mod fault;
 mod laws;
 mod leaving;
 mod numbers;
-mod push;
 mod rows;
 mod scaling;
 mod settling;
@@ -29,6 +28,5 @@ pub use laws::{
     chain_goes_on, chain_is_bounded, none_comes_twice, one_chain, one_tableau, settled_gives,
     system_with_artificial_columns, unsettled_are_fewer, wide_in_each,
 };
-pub use push::push_item;
 pub use settling::solve;
 pub use system::System;

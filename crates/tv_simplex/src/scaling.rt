@@ -1,17 +1,16 @@
 // Fractions brought to whole numbers by one scale.
 
-ghost use Rattle.std.specs.Prelude.{◌≡◌, ◌≢◌, ◌+◌, ◌*◌, ◌^◌, ◌<◌, ◌≤◌, ℕ, length, pos, ◌*ℤ◌, unsigned_abs, IfOk, MatchOption, MatchResult};
+ghost use Rattle.std.specs.Prelude.{◌≡◌, ◌*◌, ◌^◌, ◌<◌, length, pos, ◌*ℤ◌, unsigned_abs, MatchOption, MatchResult};
 ghost use Prim.Native.Nat.{◌∣◌};
 ghost use Rattle.tv_fraction.specs.Fraction.{numerator_of, denominator_of};
-ghost use Rattle.tv_simplex.specs.Outcomes.{IsShort};
 ghost use Rattle.tv_simplex.specs.Scales.{AreBounded, IsCommon, HasNoCommon, IsLarger, HasNoLarger, IsTimes, AreScaled, IsScalingStop};
 ghost use Rattle.tv_simplex.specs.Scales.{denominator_at as spec_denominator};
 
-use crate::push::push_item;
 use crate::rows::fraction_at;
 use crate::stop::Stop;
 use std::alloc::Global;
 use tv_fraction::{Fraction, gcd};
+use tv_linear::push_item;
 
 /// Whole numbers over a scale.
 #[derive(Drop)]

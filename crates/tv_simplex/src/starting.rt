@@ -1,6 +1,6 @@
 // The tableau of the artificial basis.
 
-ghost use Rattle.std.specs.Prelude.{◌≡◌, ◌+◌, ◌*◌, ◌^◌, ◌<◌, ◌≤◌, ℕ, pos, length, IfOk, MatchResult, unsigned_abs};
+ghost use Rattle.std.specs.Prelude.{◌≡◌, ◌+◌, ◌^◌, ◌<◌, ◌≤◌, pos, IfOk, MatchResult, unsigned_abs};
 ghost use Rattle.tv_simplex.specs.Systems.{IsWhole, matrix};
 ghost use Rattle.tv_simplex.specs.Chains.{IsArtificial};
 ghost use Rattle.tv_simplex.specs.Ratios.{IsRatio};
@@ -12,11 +12,11 @@ ghost use Rattle.tv_simplex.specs.Starting.{first_place as spec_place};
 
 use crate::System;
 use crate::numbers::{number_at, objective_at};
-use crate::push::push_item;
 use crate::stop::Stop;
 use crate::table::Place;
 use std::alloc::{AllocError, Global};
 use tv_fraction::Fraction;
+use tv_linear::push_item;
 
 /// The basis of one artificial column for each row.
 pub fn artificial_basis(alloc: Global, system: &System) -> Result<Vec<u32>, AllocError>

@@ -21,9 +21,9 @@ pub returns-in-Err-clause-refusals : goal.returns-in-Err-clause-refusals
 returns-in-Err-clause-refusals c = unmade_step (cases_of c.args.setting.now.about.now) c.args.setting.now.budget.now c.args.piece.now (case_view c.args.case.now) c.args.into.now c.in-Err.fault c.in-Err.ensures.refusals
 
 -- the rows that are asked about
-asked : (c : goal.After-deref-3) → c.push_rows.new.list.items ≡ step_rows (cases_of c.args.setting.now.about.now).variables (case_view c.args.case.now) (piece_rows c.args.piece.now)
+asked : (c : goal.After-deref-3) → c.push_copies.new.list.items ≡ step_rows (cases_of c.args.setting.now.about.now).variables (case_view c.args.case.now) (piece_rows c.args.piece.now)
 asked c =
-    c.in_ok-push_rows.ensures
+    c.in_ok-push_copies.ensures.copied
     ∙ (λ i. (c.in_ok-rows.ensures ∙ (λ j. map (padded_row (c.variables-variables.ensures.same j + c.args.case.now.draws)) (c.deref.ensures.value j))) i ++ c.deref-2.ensures.value i)
 
 made : (c : goal.After-deref-3) → AreBefore (case_view c.args.case.now) (lists_at c.args.case.now.to c.args.into.now) (lists_of c.deref-3.result.now)
@@ -37,8 +37,8 @@ wide c = ap (λ n. n + c.args.case.now.draws) c.variables-variables.ensures.same
 
 pub cover-requires-clause-even : goal.cover-requires-clause-even
 cover-requires-clause-even c =
-    subst (λ n. All (λ r. columns r ≡ n) c.push_rows.new.list.items) (sym (wide c))
-    (step_even (cases_of c.args.setting.now.about.now) (case_view c.args.case.now) (case_is c) c.args.piece.now c.requires.piece c.args.into.now c.requires.into c.push_rows.new.list.items (asked c))
+    subst (λ n. All (λ r. columns r ≡ n) c.push_copies.new.list.items) (sym (wide c))
+    (step_even (cases_of c.args.setting.now.about.now) (case_view c.args.case.now) (case_is c) c.args.piece.now c.requires.piece c.args.into.now c.requires.into c.push_copies.new.list.items (asked c))
 
 pub cover-requires-clause-same : goal.cover-requires-clause-same
 cover-requires-clause-same c =
@@ -53,10 +53,10 @@ returns-in-Err-cover-clause-refusals c =
     let into = c.args.into.now in
     let n = c.variables-variables.result + c.args.case.now.draws in
     let wide : n ≡ about.variables + case.draws = ap (λ n. n + c.args.case.now.draws) c.variables-variables.ensures.same in
-    let rows = c.push_rows.new.list.items in
+    let rows = c.push_copies.new.list.items in
     let lists = lists_of c.deref-3.result.now in
     let asked : rows ≡ step_rows about.variables case (piece_rows piece) =
-    c.in_ok-push_rows.ensures
+    c.in_ok-push_copies.ensures.copied
     ∙ (λ i. (c.in_ok-rows.ensures ∙ (λ j. map (padded_row (c.variables-variables.ensures.same j + c.args.case.now.draws)) (c.deref.ensures.value j))) i ++ c.deref-2.ensures.value i)
     in
     let made : AreBefore case (lists_at case.to into) lists = subst (λ ts. AreBefore case (lists_at case.to into) (lists_of ts)) (sym c.deref-3.ensures.value) c.in-Ok.ensures.targets in
@@ -76,10 +76,10 @@ unreachable-requires c =
     let into = c.args.into.now in
     let n = c.variables-variables.result + c.args.case.now.draws in
     let wide : n ≡ about.variables + case.draws = ap (λ n. n + c.args.case.now.draws) c.variables-variables.ensures.same in
-    let rows = c.push_rows.new.list.items in
+    let rows = c.push_copies.new.list.items in
     let lists = lists_of c.deref-3.result.now in
     let asked : rows ≡ step_rows about.variables case (piece_rows piece) =
-    c.in_ok-push_rows.ensures
+    c.in_ok-push_copies.ensures.copied
     ∙ (λ i. (c.in_ok-rows.ensures ∙ (λ j. map (padded_row (c.variables-variables.ensures.same j + c.args.case.now.draws)) (c.deref.ensures.value j))) i ++ c.deref-2.ensures.value i)
     in
     let made : AreBefore case (lists_at case.to into) lists = subst (λ ts. AreBefore case (lists_at case.to into) (lists_of ts)) (sym c.deref-3.ensures.value) c.in-Ok.ensures.targets in
@@ -95,10 +95,10 @@ returns-clause-shows c =
     let into = c.args.into.now in
     let n = c.variables-variables.result + c.args.case.now.draws in
     let wide : n ≡ about.variables + case.draws = ap (λ n. n + c.args.case.now.draws) c.variables-variables.ensures.same in
-    let rows = c.push_rows.new.list.items in
+    let rows = c.push_copies.new.list.items in
     let lists = lists_of c.deref-3.result.now in
     let asked : rows ≡ step_rows about.variables case (piece_rows piece) =
-    c.in_ok-push_rows.ensures
+    c.in_ok-push_copies.ensures.copied
     ∙ (λ i. (c.in_ok-rows.ensures ∙ (λ j. map (padded_row (c.variables-variables.ensures.same j + c.args.case.now.draws)) (c.deref.ensures.value j))) i ++ c.deref-2.ensures.value i)
     in
     let made : AreBefore case (lists_at case.to into) lists = subst (λ ts. AreBefore case (lists_at case.to into) (lists_of ts)) (sym c.deref-3.ensures.value) c.in-Ok.ensures.targets in
