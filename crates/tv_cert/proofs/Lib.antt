@@ -2,13 +2,13 @@ pub mod MarkedLemmas
 pub mod NodeLemmas
 pub mod PieceLemmas
 pub mod ShapeFits
-pub mod SaidLemmas
+pub mod StatedLemmas
 pub mod VisitLemmas
 pub mod VisitedCases
 pub mod IndexedLemmas
 pub mod ZipLemmas
 pub mod JoinedLemmas
-pub mod SaidNodes
+pub mod EntryLists
 pub mod AimLemmas
 pub mod AimedLemmas
 pub mod RoomLemmas

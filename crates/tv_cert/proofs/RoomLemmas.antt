@@ -15,7 +15,7 @@ use Rattle.tv_cert.specs.Pieces.{place_of, goes}
 use Rattle.tv_cert.specs.Targets.{no_fall}
 use Rattle.tv_cert.specs.Obligations.{About, step_of, steps_of, step_fall, cover_of, go_of, fix_of, first_of, second_of, end_sides}
 use Rattle.tv_cert.specs.Plain.{about_of}
-use Rattle.tv_cert.specs.Said.{said_at, said_own}
+use Rattle.tv_cert.specs.Nodes.{piece_owes, node_owes}
 use Rattle.tv_cert.specs.Statements.{Statement, rows, here, elsewhere, ends, never_ends, each_of, one_of, after, along, unsaid}
 
 length_cond : {A : Type 0} (b : Bool) (x : A) (xs : List A) → length (cond b (x ∷ xs) xs) ≤ suc (length xs)
@@ -65,7 +65,7 @@ fix_few number about path shape ps a b p false =
 fix_few number about path shape ps a b p true = omega (arith, go_few number about path shape ps p)
 
 module _ (number : ℕ) (system : CaseSystem) (ps : List Marked) (kids : List (List Marked)) where
-  said_few : (s : Statement) (p : Marked) → length (said_at number system s ps kids p) ≤ length kids + length system.cases + 2
+  said_few : (s : Statement) (p : Marked) → length (piece_owes number system s ps kids p) ≤ length kids + length system.cases + 2
   said_few (rows lists) p = omega arith
   said_few (here l) p = omega arith
   said_few (elsewhere l) p = omega arith
@@ -81,5 +81,5 @@ module _ (number : ℕ) (system : CaseSystem) (ps : List Marked) (kids : List (L
   said_few unsaid p = omega arith
 
   -- the obligations of a node are no more than its pieces, each time its children, the cases and 2
-  pub own_few : (s : Statement) → length (said_own number system s ps kids) ≤ length ps * (length kids + length system.cases + 2)
-  own_few s = few_joined (said_at number system s ps kids) (length kids + length system.cases + 2) (said_few s) ps
+  pub own_few : (s : Statement) → length (node_owes number system s ps kids) ≤ length ps * (length kids + length system.cases + 2)
+  own_few s = few_joined (piece_owes number system s ps kids) (length kids + length system.cases + 2) (said_few s) ps

@@ -17,8 +17,8 @@ use Rattle.tv_cert.specs.declared.node.Proof.TheVariants.{Covered, Chosen}
 use Rattle.tv_cert.specs.declared.node.Node.{Node, Node', Row_of-Node, end_of-Node, more_of-Node}
 use Rattle.tv_cert.specs.Pieces.{rows_of, ranks_of, goes}
 use Rattle.tv_cert.specs.Choices.{ChoiceFits}
-use Rattle.tv_cert.specs.Obligations.{About, Obligation, Owed, a_cover, a_choice, a_point, cover_of, step_of, end_sides, go_of, fix_of, piece_of, own_of, first_of, second_of}
-use Rattle.tv_cert.specs.Nodes.{parts, kid_pieces}
+use Rattle.tv_cert.specs.Obligations.{About, Obligation, Owed, a_cover, a_choice, a_point, cover_of, step_of, end_sides, go_of, fix_of, first_of, second_of}
+use Rattle.tv_cert.specs.Nodes.{parts, kid_pieces, piece_of, own_of}
 use Rattle.tv_cert.specs.Fits.{PieceFits, ProofFits, MarksFit, OwnFits, NodeFits, KidsFit}
 use Rattle.tv_cert.specs.Shapes.{PieceShape, ChoiceShape, ProofShape, OwnShape, HasShape, HaveShapes, may_be_done, IsNormalHead}
 

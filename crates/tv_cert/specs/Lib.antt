@@ -12,7 +12,6 @@ pub mod Listed
 pub mod Indexed
 pub mod Shapes
 pub mod Statements
-pub mod Said
 pub mod AimViews
 pub mod Owing
 pub mod Visits

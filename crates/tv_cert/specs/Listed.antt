@@ -2,8 +2,8 @@ use Rattle.std.specs.Prelude.{ℕ, List}
 use Rattle.tv_formula.specs.Properties.{Property}
 use Rattle.tv_cert.specs.declared.node.Marked.{Marked}
 use Rattle.tv_cert.specs.declared.node.Node.{Node, Node', out-Node}
-use Rattle.tv_cert.specs.Obligations.{About, Entry, own_of, paired}
-use Rattle.tv_cert.specs.Nodes.{kid_pieces}
+use Rattle.tv_cert.specs.Obligations.{About, Entry, paired}
+use Rattle.tv_cert.specs.Nodes.{kid_pieces, own_of}
 
 -- the pieces of a node
 abbrev pub pieces_list : Node → List Marked

@@ -1,10 +1,8 @@
-use Rattle.std.specs.Prelude.{ℕ, ◌+◌, List, [], ◌∷◌, ◌++◌, map, All, ℤ, Option, None, Some, true, false, Bool, not, ◌==◌}
-use Rattle.std.specs.List.{flat_map}
+use Rattle.std.specs.Prelude.{ℕ, ◌+◌, List, [], ◌∷◌, ◌++◌, map, All, ℤ, Option, None, Some, true, false, Bool}
 use Rattle.tv_formula.specs.declared.tree.Path.{Path}
 use Rattle.tv_formula.specs.declared.tree.Path.TheVariants.{Every, Any}
 use Rattle.tv_formula.specs.declared.tree.Shape.{Shape}
 use Rattle.tv_formula.specs.declared.tree.Shape.TheVariants.{Until, Weak, Release, Strong}
-use Rattle.tv_formula.specs.Properties.{Property, truth, compare, at, term, negated, all_of, some_of, next, fix}
 use Rattle.tv_program.specs.declared.tree.Relation.{Relation}
 use Rattle.tv_program.specs.Trees.{Expression}
 use Rattle.tv_linear.specs.Linear.{Linear, IsMet}
@@ -17,7 +15,7 @@ use Rattle.tv_cert.specs.declared.node.Proof.{Proof}
 use Rattle.tv_cert.specs.declared.node.Proof.TheVariants.{Covered, Chosen}
 use Rattle.tv_cert.specs.declared.node.Kind.{Kind}
 use Rattle.tv_cert.specs.declared.node.Kind.TheVariants as kind
-use Rattle.tv_cert.specs.Pieces.{place_of, rows_of, ranks_of, goes}
+use Rattle.tv_cert.specs.Pieces.{place_of, rows_of, ranks_of}
 use Rattle.tv_cert.specs.Targets.{owed_into, owed_lists, owed_nothing, no_fall, fall_from}
 use Rattle.tv_cert.specs.Choices.{IsMetChoice, drawn_change}
 
@@ -66,7 +64,7 @@ abbrev pub AllMet : List Entry → Type 0
 AllMet [] = Unit {0}
 AllMet (e ∷ es) = IsMetEntry e × AllMet es
 
--- ---- the obligations of a node with this number at one of its pieces
+-- ---- what a piece of the node with this number may owe
 
 -- a cover of the piece into the pieces of a region at its location
 abbrev pub cover_of : ℕ → Kind → About → Marked → List Marked → Obligation
@@ -148,25 +146,6 @@ first_of (a ∷ kids) = a
 abbrev pub second_of : List (List Marked) → List Marked
 second_of [] = []
 second_of (a ∷ kids) = first_of kids
-
--- the obligations of a node at one of its pieces: number, formula, its pieces, the pieces of its children
-abbrev pub piece_of : ℕ → About → Property → List Marked → List (List Marked) → Marked → List Obligation
-piece_of number about (truth b) ps kids p = atom_of number about p (truth_targets b) ∷ []
-piece_of number about (compare r a b) ps kids p = atom_of number about p (about.tests r a b) ∷ []
-piece_of number about (at l) ps kids p = atom_of number about p (truth_targets (place_of p == l)) ∷ []
-piece_of number about term ps kids p = steps_of number about p ps (step_fall about p)
-piece_of number about (negated (at l)) ps kids p = atom_of number about p (truth_targets (not (place_of p == l))) ∷ []
-piece_of number about (negated term) ps kids p = choice_of number kind.Choice about p false (choice_into about ps (λ c draws. no_fall)) ∷ []
-piece_of number about (negated f) ps kids p = []
-piece_of number about (all_of fs) ps kids p = map (cover_of number kind.Child about p) kids
-piece_of number about (some_of fs) ps kids p = cover_of number kind.Child about p (flat_map (λ a. a) kids) ∷ []
-piece_of number about (next Every f) ps kids p = steps_of number about p (first_of kids) (λ c. no_fall)
-piece_of number about (next Any f) ps kids p = choice_of number kind.Choice about p false (choice_into about (first_of kids) (λ c draws. no_fall)) ∷ []
-piece_of number about (fix path shape f g) ps kids p = fix_of number about path shape ps (first_of kids) (second_of kids) p (goes p)
-
--- the node's own obligations, by pieces in order
-abbrev pub own_of : ℕ → About → Property → List Marked → List (List Marked) → List Obligation
-own_of number about f ps kids = flat_map (piece_of number about f ps kids) ps
 
 -- each obligation with the proof at its place
 abbrev pub paired : List Obligation → List Proof → List Entry

@@ -21,8 +21,8 @@ use Rattle.tv_cert.specs.declared.node.Verdict.{Verdict}
 use Rattle.tv_cert.specs.declared.node.Verdict.TheVariants.{Proved, Disproved}
 use Rattle.tv_cert.specs.Pieces.{place_of, rows_of, ranks_of, goes, pieces_at}
 use Rattle.tv_linear.specs.Covers.{no_target}
-use Rattle.tv_cert.specs.Obligations.{About, Owed, a_cover, a_choice, a_point, own_of}
-use Rattle.tv_cert.specs.Nodes.{parts, kid_pieces, root_entry}
+use Rattle.tv_cert.specs.Obligations.{About, Owed, a_cover, a_choice, a_point}
+use Rattle.tv_cert.specs.Nodes.{parts, kid_pieces, root_entry, own_of}
 
 -- how many rows are owed on entering a target by a fall, where there is such a target and fall
 abbrev pub owed_count : (ℕ → ℕ → Option (List Known)) → ℕ → ℕ → Option ℕ

@@ -8,7 +8,7 @@ ghost use Rattle.tv_cert.specs.Obligations.{atom_of, steps_of, cover_of, choice_
 ghost use Rattle.tv_cert.specs.Plain.{about_of};
 ghost use Rattle.tv_cert.specs.Listed.{pieces_list};
 ghost use Rattle.tv_cert.specs.AimViews.{aim_states};
-ghost use Rattle.tv_cert.specs.Said.{said_at, said_own};
+ghost use Rattle.tv_cert.specs.Nodes.{piece_owes, node_owes};
 ghost use Rattle.tv_cert.specs.Owing.{OwedIn, case_falls, destination_owes, obligation_by};
 ghost use Rattle.tv_cert.specs.Visits.{Visits};
 
@@ -326,9 +326,9 @@ fn visit_piece<V: Visitor>(
     piece: &Marked,
 ) -> bool
     requires { let system = cases_of about.now in
-        length (said_at number system (aim_states aim.now) pieces.now (map pieces_list children.now) piece.now) ≤ V.room visitor.old }
+        length (piece_owes number system (aim_states aim.now) pieces.now (map pieces_list children.now) piece.now) ≤ V.room visitor.old }
     ensures { let system = cases_of about.now in
-        let owed = said_at number system (aim_states aim.now) pieces.now (map pieces_list children.now) piece.now in
+        let owed = piece_owes number system (aim_states aim.now) pieces.now (map pieces_list children.now) piece.now in
         Visits (V.passes system) (V.stops system) V.room result visitor.old owed visitor.new }
 {
     let none = pieces.none();
@@ -390,9 +390,9 @@ pub fn visit_pieces<V: Visitor>(
     children: &[Node],
 ) -> bool
     requires { let system = cases_of about.now in
-        length (said_own number system (aim_states aim.now) pieces.now (map pieces_list children.now)) ≤ V.room visitor.old }
+        length (node_owes number system (aim_states aim.now) pieces.now (map pieces_list children.now)) ≤ V.room visitor.old }
     ensures { let system = cases_of about.now in
-        let owed = said_own number system (aim_states aim.now) pieces.now (map pieces_list children.now) in
+        let owed = node_owes number system (aim_states aim.now) pieces.now (map pieces_list children.now) in
         Visits (V.passes system) (V.stops system) V.room result visitor.old owed visitor.new }
 {
     for piece in pieces.list() {

@@ -23,7 +23,7 @@ use Rattle.tv_cert.specs.Plain.{about_of}
 use Rattle.tv_cert.specs.Targets.{owed_into, owed_lists, owed_nothing, target_rows, no_fall, fall_from}
 use Rattle.tv_cert.specs.Choices.{drawn_change}
 use Rattle.tv_cert.specs.Obligations.{Obligation, step_fall, choice_fall, atom_of, cover_of, step_of, steps_of, choice_of, choice_into, truth_targets, hold_side, end_sides, go_of, fix_of, first_of, second_of}
-use Rattle.tv_cert.specs.Said.{said_at, said_own}
+use Rattle.tv_cert.specs.Nodes.{piece_owes, node_owes}
 use Rattle.tv_cert.specs.Shapes.{owed_count, PieceShape}
 use Rattle.tv_cert.specs.Statements.{Statement, rows, here, elsewhere, ends, never_ends, each_of, one_of, after, along, unsaid}
 use Rattle.tv_cert.proofs.PieceLemmas.{piece_got}
@@ -74,7 +74,7 @@ module _ (number : ℕ) (system : CaseSystem) (ps : List Marked) (p : Marked) wh
   fix_free path shape a b false = all_mapped Free (cover_of number kind.Done (about_of system) p) (λ into. tt) (end_sides shape a b)
   fix_free path shape a b true = All-cons Free (cover_of number kind.Hold (about_of system) p (hold_side shape a b)) (go_of number (about_of system) path shape ps p) tt (go_free path shape)
 
-  free_at : (s : Statement) (kids : List (List Marked)) → All Free (said_at number system s ps kids p)
+  free_at : (s : Statement) (kids : List (List Marked)) → All Free (piece_owes number system s ps kids p)
   free_at (rows lists) kids = one_free (atom_of number (about_of system) p lists) tt
   free_at (here l) kids = one_free (atom_of number (about_of system) p (truth_targets (place_of p == l))) tt
   free_at (elsewhere l) kids = one_free (atom_of number (about_of system) p (truth_targets (not (place_of p == l)))) tt
@@ -88,8 +88,8 @@ module _ (number : ℕ) (system : CaseSystem) (ps : List Marked) (p : Marked) wh
   free_at unsaid kids = All-nil Free
 
 -- so are all obligations of a node
-pub draw_free : (number : ℕ) (system : CaseSystem) (s : Statement) (ps : List Marked) (kids : List (List Marked)) → All (λ o. IsDrawFree o.owed) (said_own number system s ps kids)
-draw_free number system s ps kids = all_flat Free (said_at number system s ps kids) (λ p. free_at number system ps p s kids) ps
+pub draw_free : (number : ℕ) (system : CaseSystem) (s : Statement) (ps : List Marked) (kids : List (List Marked)) → All (λ o. IsDrawFree o.owed) (node_owes number system s ps kids)
+draw_free number system s ps kids = all_flat Free (piece_owes number system s ps kids) (λ p. free_at number system ps p s kids) ps
 
 -- ---- how many rows are owed on entering a target
 

@@ -9,8 +9,7 @@ use Rattle.tv_cases.specs.LinearCases.{CaseSystem}
 use Rattle.tv_cert.specs.declared.node.Marked.{Marked}
 use Rattle.tv_cert.specs.declared.node.Proof.{Proof}
 use Rattle.tv_cert.specs.declared.node.Node.{Node, Node', Row_of-Node, end_of-Node, more_of-Node}
-use Rattle.tv_cert.specs.Nodes.{pieces_of, kid_pieces}
-use Rattle.tv_cert.specs.Said.{said_own}
+use Rattle.tv_cert.specs.Nodes.{pieces_of, kid_pieces, node_owes}
 use Rattle.tv_cert.specs.Statements.{Statement, rows, here, elsewhere, ends, never_ends, each_of, one_of, after, along, unsaid, Statements, no_statement, statement, parts_of}
 use Rattle.tv_shape.specs.Stations.{OwnParts}
 use Rattle.tv_cert_reader.specs.CertificateLines.{piece_lines, proof_lines}
@@ -32,7 +31,7 @@ module _ (over : Bool) (system : CaseSystem) where
     node_proofs_read rest =
         mapped_read (λ all. tt) (each (demanded over) (demands system s m (outlines ps) (map outlines kids))) (flat_map proof_lines offered ++ rest) (map (λ p. tt) offered) rest
         (ap (λ ds. (each (demanded over) ds).read (flat_map proof_lines offered ++ rest)) (sym (demands_same 0 system s m ps kids h.each))
-        ∙ proofs_read over (said_own 0 system s ps kids) offered rest (draw_free 0 system s ps kids) h.offered)
+        ∙ proofs_read over (node_owes 0 system s ps kids) offered rest (draw_free 0 system s ps kids) h.offered)
 
     module _ (children : Grammar (List (List Outline))) (lines : List PlainLine) (reads : (r : List PlainLine) → children.read (lines ++ r) ≡ Ok (map outlines kids, r)) where
       behind_region : Region → Grammar (List Outline)

@@ -9,7 +9,7 @@ use Rattle.tv_cert.specs.Obligations.{About}
 use Rattle.tv_cert.specs.Nodes.{parts, kid_pieces}
 use Rattle.tv_cert.specs.Shapes.{HasShape, HaveShapes}
 use Rattle.tv_cert.specs.Statements.{stated, stated_all}
-use Rattle.tv_cert.proofs.SaidLemmas.{parts-stated}
+use Rattle.tv_cert.proofs.StatedLemmas.{parts-stated}
 use Rattle.tv_shape.proofs.FitLemmas.{own_shaped, own_back}
 use Rattle.tv_cert_reader.specs.CertificateLines.{piece_lines, proof_lines, kind_named, node_lines, kid_lines}
 use Rattle.tv_cert_reader.specs.LineGrammar.{kind_of}

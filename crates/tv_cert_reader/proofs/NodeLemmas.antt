@@ -14,9 +14,8 @@ use Rattle.tv_cert.specs.declared.node.Proof.{Proof}
 use Rattle.tv_cert.specs.declared.node.Node.{Node, Node', Row_of-Node, end_of-Node, more_of-Node, items-the_row-Node, out-Node, outs-Node'}
 use Rattle.tv_cert.specs.declared.node.Node.TheViews.{roll-Node, out-roll-Node}
 use Rattle.tv_cert.specs.Listed.{pieces_list}
-use Rattle.tv_cert.specs.Nodes.{pieces_of}
+use Rattle.tv_cert.specs.Nodes.{pieces_of, node_owes}
 use Rattle.tv_cert.specs.Obligations.{Obligation}
-use Rattle.tv_cert.specs.Said.{said_own}
 use Rattle.tv_cert.specs.Shapes.{ProofShape}
 use Rattle.tv_cert.specs.Statements.{Statement, rows, here, elsewhere, ends, never_ends, each_of, one_of, after, along, unsaid, Statements, no_statement, statement, parts_of, part_at, count}
 use Rattle.tv_cert.proofs.NodeLemmas.{kids_of, proofs_list, out_is, pieces_are, kid_pieces_are}
@@ -212,13 +211,13 @@ module _ (system : CaseSystem) (s : Statement) (old : Cursor) where
       by_all (Fault k line) h = record { rest = h.rest; read = all_opened ∙ h.read; counted = (let e = o.took.last in let c = h.counted in omega (arith, e, c)) }
       by_all Memory h = tt
 
-      pub proofs_fail : (f : Failure) → FailsBy (each (demanded false) (map (λ q. demand_of q.owed) (said_own 0 system s ps (map pieces_list kids)))) now f → FailsBy (node false system s) old f
+      pub proofs_fail : (f : Failure) → FailsBy (each (demanded false) (map (λ q. demand_of q.owed) (node_owes 0 system s ps (map pieces_list kids)))) now f → FailsBy (node false system s) old f
       proofs_fail f h =
           let wanted = demands system s m (outlines ps) (map outlines (map pieces_list kids)) in
           let inner : FailsBy (each (demanded false) wanted) now f = subst (λ ds. FailsBy (each (demanded false) ds) now f) (demands_same 0 system s m ps (map pieces_list kids) o.region.each) h in
           by_all f (mapped_fails (λ _. outlines ps) (proofs false system s (region_of m (outlines ps)) (map outlines (map pieces_list kids))) now f (mapped_fails (λ all. tt) (each (demanded false) wanted) now f inner))
 
-pub node_built : (system : CaseSystem) (s : Statement) (old now new : Cursor) (ps : List Marked) (m : ℕ) (kids : Vec Node) (shown : Vec Proof) → IsSaid s → Opened system s old now ps m kids.items → length kids.items ≡ count (parts_of s) → AreProofsOf (said_own 0 system s ps (map pieces_list kids.items)) shown.items → Takes (flat_map proof_lines shown.items) now new → IsShapedAs system s (node_of ps m kids shown) × Takes (stated_lines s (node_of ps m kids shown)) old new
+pub node_built : (system : CaseSystem) (s : Statement) (old now new : Cursor) (ps : List Marked) (m : ℕ) (kids : Vec Node) (shown : Vec Proof) → IsSaid s → Opened system s old now ps m kids.items → length kids.items ≡ count (parts_of s) → AreProofsOf (node_owes 0 system s ps (map pieces_list kids.items)) shown.items → Takes (flat_map proof_lines shown.items) now new → IsShapedAs system s (node_of ps m kids shown) × Takes (stated_lines s (node_of ps m kids shown)) old new
 node_built system s old now new ps m kids shown said o many offered took =
     let n = node_of ps m kids shown in
     let e = out-roll-Node (record { pieces = ps; ranks = m; children = kids; proofs = shown }) in

@@ -2,7 +2,7 @@ ghost use Rattle.std.specs.Prelude.{◌<◌, ◌^◌, length, map};
 ghost use Rattle.tv_cases.specs.Systems.{cases_of};
 ghost use Rattle.tv_cert.specs.AimViews.{aim_states};
 ghost use Rattle.tv_cert.specs.Listed.{pieces_list};
-ghost use Rattle.tv_cert.specs.Said.{said_own};
+ghost use Rattle.tv_cert.specs.Nodes.{node_owes};
 ghost use Rattle.tv_cert_reader.specs.Proofs.{ReadsProofs};
 
 use crate::context::Context;
@@ -26,7 +26,7 @@ impl Context<'_> {
         requires children { length children.now < 2 ^ 63 }
         ensures { let system = cases_of self.now.about.now in
             let states = aim_states aim.now in
-            ReadsProofs (said_own 0 system states pieces.now (map pieces_list children.now)) cursor.old cursor.new result }
+            ReadsProofs (node_owes 0 system states pieces.now (map pieces_list children.now)) cursor.old cursor.new result }
     {
         let nothing = Cursor {
             lines: Lines::new(&[]),

@@ -6,9 +6,8 @@ use Rattle.tv_cases.specs.LinearCases.{CaseSystem}
 use Rattle.tv_cert.specs.declared.node.Marked.{Marked}
 use Rattle.tv_cert.specs.declared.node.Proof.{Proof}
 use Rattle.tv_cert.specs.declared.node.Node.{Node, Node', Row_of-Node, end_of-Node, more_of-Node}
-use Rattle.tv_cert.specs.Nodes.{pieces_of, kid_pieces}
+use Rattle.tv_cert.specs.Nodes.{pieces_of, kid_pieces, node_owes}
 use Rattle.tv_cert.specs.Pieces.{is_go}
-use Rattle.tv_cert.specs.Said.{said_own}
 use Rattle.tv_cert.specs.Shapes.{PieceShape}
 use Rattle.tv_cert.specs.Statements.{Statement, Statements, no_statement, statement, parts_of}
 use Rattle.tv_shape.specs.Stations.{done_may_be, OwnParts}
@@ -65,7 +64,7 @@ module _ (system : CaseSystem) where
   own_long : (s : Statement) (m : ℕ) (ps : List Marked) (kids : List (List Marked)) (proofs : List Proof) → OwnParts system s m ps kids proofs → AllZip ProofLong (demands system s m (outlines ps) (map outlines kids)) proofs
   own_long s m ps kids proofs h =
       subst (λ ds. AllZip ProofLong ds proofs) (demands_same 0 system s m ps kids h.each)
-      (proofs_long (said_own 0 system s ps kids) proofs (draw_free 0 system s ps kids) h.offered)
+      (proofs_long (node_owes 0 system s ps kids) proofs (draw_free 0 system s ps kids) h.offered)
 
   own_told : (s : Statement) (m n : ℕ) (ps qs : List Marked) (kids others : List (List Marked)) (proofs offered : List Proof) (xs ys : List PlainLine) → OwnParts system s m ps kids proofs → OwnParts system s n qs others offered → m ≡ n → outlines ps ≡ outlines qs → map outlines kids ≡ map outlines others → flat_map proof_lines proofs ++ xs ≡ flat_map proof_lines offered ++ ys → (map proof_value proofs ≡ map proof_value offered) × (xs ≡ ys)
   own_told s m n ps qs kids others proofs offered xs ys h g ranks pieces below e =

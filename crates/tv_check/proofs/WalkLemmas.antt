@@ -3,12 +3,11 @@ use Rattle.std.proofs.lemmas.List.{append-nil}
 use Rattle.tv_cases.specs.LinearCases.{CaseSystem}
 use Rattle.tv_cert.specs.declared.node.Node.{Node}
 use Rattle.tv_cert.specs.Obligations.{Entry, AllMet}
-use Rattle.tv_cert.specs.Nodes.{size}
+use Rattle.tv_cert.specs.Nodes.{size, node_entries, own_entries, HasParts}
 use Rattle.tv_cert.specs.Statements.{Statement, Statements, no_statement, statement, parts_of, count, part_at}
-use Rattle.tv_cert.specs.Said.{said_entries, said_own_entries, HasParts}
 use Rattle.tv_cert.specs.declared.failing.Failing.{Failing}
 use Rattle.tv_cert.proofs.NodeLemmas.{sizes_list, kids_of, size_is}
-use Rattle.tv_cert.proofs.SaidNodes.{said_list, parts_list, said_are}
+use Rattle.tv_cert.proofs.EntryLists.{listed_entries, parts_list, node_entries_are}
 use Rattle.tv_cert.specs.FirstFailing.{IsFirstFailing}
 use Rattle.tv_cert.proofs.FailingLemmas.{failing_left, all_join, failing_right}
 
@@ -39,7 +38,7 @@ fits_past (suc i) (statement s ss) (a ∷ kids) h = fits_past i ss kids h.1
 -- where the walk stands before child i
 pub record Stands (system : CaseSystem) (ss : Statements) (kids : List Node) (start from next seen i : ℕ) : Type 0 where
   pub done : List Entry
-  pub whole : said_list start system ss kids ≡ done ++ said_list next system (past i ss) (drop i kids)
+  pub whole : listed_entries start system ss kids ≡ done ++ listed_entries next system (past i ss) (drop i kids)
   pub true : AllMet done
   pub so_far : seen ≡ from + length done
   pub nodes : start + sizes_list kids ≡ next + sizes_list (drop i kids)
@@ -54,40 +53,40 @@ module _ (system : CaseSystem) (ss : Statements) (kids : List Node) (start from 
   pub child_fits : HasParts (part_at i ss) a
   child_fits = (subst (λ gs. parts_list gs (a ∷ drop (suc i) kids)) (past_more i ss part_there) (subst (parts_list (past i ss)) kids_there (fits_past i ss kids fits))).0
 
-  rest_there : said_list next system (past i ss) (drop i kids) ≡ said_entries next system (part_at i ss) a ++ said_list (next + size a) system (past (suc i) ss) (drop (suc i) kids)
-  rest_there = (λ k. said_list next system (past_more i ss part_there k) (kids_there k))
+  rest_there : listed_entries next system (past i ss) (drop i kids) ≡ node_entries next system (part_at i ss) a ++ listed_entries (next + size a) system (past (suc i) ss) (drop (suc i) kids)
+  rest_there = (λ k. listed_entries next system (past_more i ss part_there k) (kids_there k))
 
-  whole_there : said_list start system ss kids ≡ (h.done ++ said_entries next system (part_at i ss) a) ++ said_list (next + size a) system (past (suc i) ss) (drop (suc i) kids)
-  whole_there = h.whole ∙ ap (λ es. h.done ++ es) rest_there ∙ sym (append_assoc h.done (said_entries next system (part_at i ss) a) _)
+  whole_there : listed_entries start system ss kids ≡ (h.done ++ node_entries next system (part_at i ss) a) ++ listed_entries (next + size a) system (past (suc i) ss) (drop (suc i) kids)
+  whole_there = h.whole ∙ ap (λ es. h.done ++ es) rest_there ∙ sym (append_assoc h.done (node_entries next system (part_at i ss) a) _)
 
   sizes_there : sizes_list (drop i kids) ≡ size a + sizes_list (drop (suc i) kids)
   sizes_there = ap sizes_list kids_there
 
   -- the room for the child
-  pub room_there : (own : List Entry) → from + length (said_list start system ss kids ++ own) < 2 ^ 64 → seen + length (said_entries next system (part_at i ss) a) < 2 ^ 64
+  pub room_there : (own : List Entry) → from + length (listed_entries start system ss kids ++ own) < 2 ^ 64 → seen + length (node_entries next system (part_at i ss) a) < 2 ^ 64
   room_there own r =
       let e = ap length whole_there in
       let s = h.so_far in
-      omega (arith, r, e, s, length-append (said_list start system ss kids) own, length-append (h.done ++ said_entries next system (part_at i ss) a) (said_list (next + size a) system (past (suc i) ss) (drop (suc i) kids)), length-append h.done (said_entries next system (part_at i ss) a))
+      omega (arith, r, e, s, length-append (listed_entries start system ss kids) own, length-append (h.done ++ node_entries next system (part_at i ss) a) (listed_entries (next + size a) system (past (suc i) ss) (drop (suc i) kids)), length-append h.done (node_entries next system (part_at i ss) a))
 
   pub nodes_there : start + sizes_list kids < 2 ^ 32 → next + size a < 2 ^ 32
   nodes_there r = let n = h.nodes in omega (arith, r, n, sizes_there)
 
-  pub child_fails : (own : List Entry) (f : Failing) → IsFirstFailing (said_entries next system (part_at i ss) a) seen f → IsFirstFailing (said_list start system ss kids ++ own) from f
+  pub child_fails : (own : List Entry) (f : Failing) → IsFirstFailing (node_entries next system (part_at i ss) a) seen f → IsFirstFailing (listed_entries start system ss kids ++ own) from f
   child_fails own f k =
-      failing_left (said_list start system ss kids) own from f (subst (λ es. IsFirstFailing es from f) (sym whole_there)
-      (failing_left (h.done ++ said_entries next system (part_at i ss) a) _ from f (failing_right h.done (said_entries next system (part_at i ss) a) from seen f h.true h.so_far k)))
+      failing_left (listed_entries start system ss kids) own from f (subst (λ es. IsFirstFailing es from f) (sym whole_there)
+      (failing_left (h.done ++ node_entries next system (part_at i ss) a) _ from f (failing_right h.done (node_entries next system (part_at i ss) a) from seen f h.true h.so_far k)))
 
-  pub Stands_next : (seen' next' : ℕ) → AllMet (said_entries next system (part_at i ss) a) → seen' ≡ seen + length (said_entries next system (part_at i ss) a) → next' ≡ next + size a → Stands system ss kids start from next' seen' (i + 1)
+  pub Stands_next : (seen' next' : ℕ) → AllMet (node_entries next system (part_at i ss) a) → seen' ≡ seen + length (node_entries next system (part_at i ss) a) → next' ≡ next + size a → Stands system ss kids start from next' seen' (i + 1)
   Stands_next seen' next' t e k =
       let one : suc i ≡ i + 1 = omega arith in
       let n = h.nodes in
       let s = h.so_far in
       record {
-        done = h.done ++ said_entries next system (part_at i ss) a;
-        whole = whole_there ∙ (λ j. (h.done ++ said_entries next system (part_at i ss) a) ++ said_list (sym k j) system (past (one j) ss) (drop (one j) kids));
-        true = all_join h.done (said_entries next system (part_at i ss) a) h.true t;
-        so_far = (let l = length-append h.done (said_entries next system (part_at i ss) a) in omega (arith, l, e, s));
+        done = h.done ++ node_entries next system (part_at i ss) a;
+        whole = whole_there ∙ (λ j. (h.done ++ node_entries next system (part_at i ss) a) ++ listed_entries (sym k j) system (past (one j) ss) (drop (one j) kids));
+        true = all_join h.done (node_entries next system (part_at i ss) a) h.true t;
+        so_far = (let l = length-append h.done (node_entries next system (part_at i ss) a) in omega (arith, l, e, s));
         nodes = (let z = ap (λ j. sizes_list (drop j kids)) one in omega (arith, n, sizes_there, k, z));
       }
 
@@ -97,20 +96,20 @@ drop_past [] (suc i) h = refl
 drop_past (x ∷ xs) zero h = absurd (omega arith)
 drop_past (x ∷ xs) (suc i) h = drop_past xs i (omega arith)
 
-no_kids : (next : ℕ) (system : CaseSystem) (ss : Statements) → said_list next system ss [] ≡ []
+no_kids : (next : ℕ) (system : CaseSystem) (ss : Statements) → listed_entries next system ss [] ≡ []
 no_kids next system no_statement = refl
 no_kids next system (statement s ss) = refl
 
 -- after the last child
 pub record Ended (system : CaseSystem) (ss : Statements) (kids : List Node) (start from next seen : ℕ) : Type 0 where
-  pub true : AllMet (said_list start system ss kids)
-  pub so_far : seen ≡ from + length (said_list start system ss kids)
+  pub true : AllMet (listed_entries start system ss kids)
+  pub so_far : seen ≡ from + length (listed_entries start system ss kids)
   pub nodes : next ≡ start + sizes_list kids
 
 pub Stands_ends : (system : CaseSystem) (ss : Statements) (kids : List Node) (start from next seen i : ℕ) → length kids ≤ i → Stands system ss kids start from next seen i → Ended system ss kids start from next seen
 Stands_ends system ss kids start from next seen i l h =
     let last = drop_past kids i l in
-    let all : said_list start system ss kids ≡ h.done = h.whole ∙ ap (λ ks. h.done ++ said_list next system (past i ss) ks) last ∙ ap (λ es. h.done ++ es) (no_kids next system (past i ss)) ∙ append-nil h.done in
+    let all : listed_entries start system ss kids ≡ h.done = h.whole ∙ ap (λ ks. h.done ++ listed_entries next system (past i ss) ks) last ∙ ap (λ es. h.done ++ es) (no_kids next system (past i ss)) ∙ append-nil h.done in
     let n = h.nodes in
     let z : sizes_list (drop i kids) ≡ 0 = ap sizes_list last in
     record {
@@ -121,22 +120,22 @@ Stands_ends system ss kids start from next seen i l h =
 
 -- the node's own entries, after its children's
 module _ (system : CaseSystem) (s : Statement) (node : Node) (number from next seen : ℕ) (h : Ended system (parts_of s) (kids_of node) (number + 1) from next seen) where
-  pub own_room : from + length (said_entries number system s node) < 2 ^ 64 → seen + length (said_own_entries number system s node) < 2 ^ 64
+  pub own_room : from + length (node_entries number system s node) < 2 ^ 64 → seen + length (own_entries number system s node) < 2 ^ 64
   own_room r =
-      let e = ap length (said_are number system s node) in
+      let e = ap length (node_entries_are number system s node) in
       let so_far = h.so_far in
-      omega (arith, r, e, so_far, length-append (said_list (number + 1) system (parts_of s) (kids_of node)) (said_own_entries number system s node))
+      omega (arith, r, e, so_far, length-append (listed_entries (number + 1) system (parts_of s) (kids_of node)) (own_entries number system s node))
 
-  pub own_fails : (g : Failing) → IsFirstFailing (said_own_entries number system s node) seen g → IsFirstFailing (said_entries number system s node) from g
-  own_fails g k = subst (λ es. IsFirstFailing es from g) (sym (said_are number system s node)) (failing_right (said_list (number + 1) system (parts_of s) (kids_of node)) (said_own_entries number system s node) from seen g h.true h.so_far k)
+  pub own_fails : (g : Failing) → IsFirstFailing (own_entries number system s node) seen g → IsFirstFailing (node_entries number system s node) from g
+  own_fails g k = subst (λ es. IsFirstFailing es from g) (sym (node_entries_are number system s node)) (failing_right (listed_entries (number + 1) system (parts_of s) (kids_of node)) (own_entries number system s node) from seen g h.true h.so_far k)
 
-  pub own_true : (now : ℕ) → AllMet (said_own_entries number system s node) → now ≡ seen + length (said_own_entries number system s node) → AllMet (said_entries number system s node) × (now ≡ from + length (said_entries number system s node)) × (next ≡ number + size node)
+  pub own_true : (now : ℕ) → AllMet (own_entries number system s node) → now ≡ seen + length (own_entries number system s node) → AllMet (node_entries number system s node) × (now ≡ from + length (node_entries number system s node)) × (next ≡ number + size node)
   own_true now t e =
-      let l = ap length (said_are number system s node) in
+      let l = ap length (node_entries_are number system s node) in
       let so_far = h.so_far in
       let n = h.nodes in
       let z = size_is node in (
-        subst AllMet (sym (said_are number system s node)) (all_join (said_list (number + 1) system (parts_of s) (kids_of node)) (said_own_entries number system s node) h.true t),
-        omega (arith, l, so_far, e, length-append (said_list (number + 1) system (parts_of s) (kids_of node)) (said_own_entries number system s node)),
+        subst AllMet (sym (node_entries_are number system s node)) (all_join (listed_entries (number + 1) system (parts_of s) (kids_of node)) (own_entries number system s node) h.true t),
+        omega (arith, l, so_far, e, length-append (listed_entries (number + 1) system (parts_of s) (kids_of node)) (own_entries number system s node)),
         omega (arith, n, z),
       )

@@ -5,10 +5,9 @@ ghost use Rattle.tv_cases.specs.Systems.{cases_of};
 ghost use Rattle.tv_cert.specs.declared.node.Verdict.TheVariants.{Proved, Disproved};
 ghost use Rattle.tv_cert.specs.Pieces.{rows_of, pieces_at};
 ghost use Rattle.tv_cert.specs.Obligations.{PointMet};
-ghost use Rattle.tv_cert.specs.Nodes.{size, pieces_of, root_entry};
+ghost use Rattle.tv_cert.specs.Nodes.{size, pieces_of, root_entry, node_entries, HasParts};
 ghost use Rattle.tv_cert.specs.AimViews.{aim_states};
 ghost use Rattle.tv_cert.specs.Listed.{pieces_list};
-ghost use Rattle.tv_cert.specs.Said.{said_entries, HasParts};
 ghost use Rattle.tv_cert.specs.Plain.{about_of};
 ghost use Rattle.tv_cert.specs.FirstFailing.{Checks, IsFirstFailing};
 ghost use Rattle.tv_check.specs.Roots.{AreOver, ValuesFit, SettlesRoot};
@@ -99,11 +98,11 @@ fn check_values(
 /// It takes no memory.
 fn check_proved(about: &Cases, aim: &Aim, root: &Node, start: &Cover) -> Result<(), Failing>
     requires parts { HasParts (aim_states aim.now) root.now }
-    requires room { length (said_entries 0 (cases_of about.now) (aim_states aim.now) root.now) + 1 < 2 ^ 64 }
+    requires room { length (node_entries 0 (cases_of about.now) (aim_states aim.now) root.now) + 1 < 2 ^ 64 }
     requires nodes { size root.now < 2 ^ 32 }
     ensures { let system = cases_of about.now in
         let states = aim_states aim.now in
-        Checks (said_entries 0 system states root.now ++ root_entry (about_of system) (pieces_of root.now) (Proved start.now) ∷ []) result }
+        Checks (node_entries 0 system states root.now ++ root_entry (about_of system) (pieces_of root.now) (Proved start.now) ∷ []) result }
 {
     match walk(about, aim, 0, root, 0) {
         Err(failing) => Err(failing),
@@ -122,13 +121,13 @@ fn check_disproved(
     values: &Vec<i128>,
 ) -> Result<(), Failing>
     requires parts { HasParts (aim_states aim.now) root.now }
-    requires room { length (said_entries 0 (cases_of about.now) (aim_states aim.now) root.now) + 1 < 2 ^ 64 }
+    requires room { length (node_entries 0 (cases_of about.now) (aim_states aim.now) root.now) + 1 < 2 ^ 64 }
     requires nodes { size root.now < 2 ^ 32 }
     requires over { AreOver (length values.now.items) (pieces_list root.now) }
     ensures { let system = cases_of about.now in
         let states = aim_states aim.now in
         let last = root_entry (about_of system) (pieces_of root.now) (Disproved piece values.now) in
-        Checks (said_entries 0 system states root.now ++ last ∷ []) result }
+        Checks (node_entries 0 system states root.now ++ last ∷ []) result }
 {
     match walk(about, aim, 0, root, 0) {
         Err(failing) => Err(failing),
@@ -141,12 +140,12 @@ fn check_disproved(
 /// It takes no memory.
 pub fn check(about: &Cases, aim: &Aim, root: &Node, verdict: &Verdict) -> Result<(), Failing>
     requires parts { HasParts (aim_states aim.now) root.now }
-    requires room { length (said_entries 0 (cases_of about.now) (aim_states aim.now) root.now) + 1 < 2 ^ 64 }
+    requires room { length (node_entries 0 (cases_of about.now) (aim_states aim.now) root.now) + 1 < 2 ^ 64 }
     requires nodes { size root.now < 2 ^ 32 }
     requires over { ValuesFit verdict.now (pieces_list root.now) }
     ensures { let system = cases_of about.now in
         let states = aim_states aim.now in
-        Checks (said_entries 0 system states root.now ++ root_entry (about_of system) (pieces_of root.now) verdict.now ∷ []) result }
+        Checks (node_entries 0 system states root.now ++ root_entry (about_of system) (pieces_of root.now) verdict.now ∷ []) result }
 {
     match verdict {
         Verdict::Proved(start) => check_proved(about, aim, root, start),
@@ -159,9 +158,9 @@ pub fn check(about: &Cases, aim: &Aim, root: &Node, verdict: &Verdict) -> Result
 /// It takes no memory.
 pub fn count(about: &Cases, aim: &Aim, root: &Node) -> Result<u64, Failing>
     requires parts { HasParts (aim_states aim.now) root.now }
-    requires room { length (said_entries 0 (cases_of about.now) (aim_states aim.now) root.now) + 1 < 2 ^ 64 }
+    requires room { length (node_entries 0 (cases_of about.now) (aim_states aim.now) root.now) + 1 < 2 ^ 64 }
     requires nodes { size root.now < 2 ^ 32 }
-    ensures { let entries = said_entries 0 (cases_of about.now) (aim_states aim.now) root.now in
+    ensures { let entries = node_entries 0 (cases_of about.now) (aim_states aim.now) root.now in
         MatchResult result (λ n. n ≡ length entries + 1) (λ f. IsFirstFailing entries 0 f) }
 {
     match walk(about, aim, 0, root, 0) {

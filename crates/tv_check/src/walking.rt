@@ -1,9 +1,8 @@
 ghost use Rattle.std.specs.Prelude.{◌≡◌, ◌+◌, ◌<◌, ◌^◌, length, MatchResult};
 ghost use Rattle.tv_cases.specs.Systems.{cases_of};
 ghost use Rattle.tv_cert.specs.Obligations.{AllMet};
-ghost use Rattle.tv_cert.specs.Nodes.{size};
+ghost use Rattle.tv_cert.specs.Nodes.{size, node_entries, own_entries, HasParts};
 ghost use Rattle.tv_cert.specs.AimViews.{aim_states};
-ghost use Rattle.tv_cert.specs.Said.{said_entries, said_own_entries, HasParts};
 ghost use Rattle.tv_cert.specs.FirstFailing.{IsFirstFailing};
 
 use crate::settler::Settler;
@@ -18,10 +17,10 @@ fn settle_node(
     node: &Node,
     seen: u64,
 ) -> Result<u64, Failing>
-    requires { seen + length (said_own_entries number (cases_of about.now) (aim_states aim.now) node.now) < 2 ^ 64 }
+    requires { seen + length (own_entries number (cases_of about.now) (aim_states aim.now) node.now) < 2 ^ 64 }
     ensures { let system = cases_of about.now in
         let states = aim_states aim.now in
-        let entries = said_own_entries number system states node.now in
+        let entries = own_entries number system states node.now in
         MatchResult result (λ n. AllMet entries × (n ≡ seen + length entries)) (λ f. IsFirstFailing entries seen f) }
 {
     let mut settler = Settler {
@@ -54,11 +53,11 @@ pub fn walk(
     from: u64,
 ) -> Result<(u64, u32), Failing>
     requires parts { HasParts (aim_states aim.now) node.now }
-    requires room { from + length (said_entries number (cases_of about.now) (aim_states aim.now) node.now) < 2 ^ 64 }
+    requires room { from + length (node_entries number (cases_of about.now) (aim_states aim.now) node.now) < 2 ^ 64 }
     requires nodes { number + size node.now < 2 ^ 32 }
     ensures { let system = cases_of about.now in
         let states = aim_states aim.now in
-        let entries = said_entries number system states node.now in
+        let entries = node_entries number system states node.now in
         MatchResult result
         (λ p. AllMet entries × (p.0 ≡ from + length entries) × (p.1 ≡ number + size node.now))
         (λ f. IsFirstFailing entries from f) }

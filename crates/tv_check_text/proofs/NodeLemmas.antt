@@ -13,12 +13,11 @@ use Rattle.tv_cert.specs.declared.node.Node.TheViews.{out-roll-Node}
 use Rattle.tv_cert.specs.declared.node.Proof.{Proof}
 use Rattle.tv_cert.specs.declared.node.Proof.TheVariants.{Covered, Chosen}
 use Rattle.tv_cert.specs.Listed.{pieces_list}
-use Rattle.tv_cert.specs.Nodes.{size}
+use Rattle.tv_cert.specs.Nodes.{size, node_owes, node_entries}
 use Rattle.tv_cert.specs.Obligations.{Entry, Obligation, paired}
-use Rattle.tv_cert.specs.Said.{said_own, said_entries}
 use Rattle.tv_cert.specs.Statements.{Statement, Statements, no_statement, statement, parts_of, part_at, count}
 use Rattle.tv_cert.proofs.NodeLemmas.{kids_of, proofs_list, sizes_list, size_is, length-paired}
-use Rattle.tv_cert.proofs.SaidNodes.{said_list, said_are, said_own_are}
+use Rattle.tv_cert.proofs.EntryLists.{listed_entries, node_entries_are, own_entries_are}
 use Rattle.tv_shape.specs.Stations.{IsSaid, done_may_be, ranks_may_be}
 use Rattle.tv_shape.proofs.NumberLemmas.{renumbered, own_renumbered}
 use Rattle.tv_cert_reader.specs.CertificateLines.{proof_lines}
@@ -44,13 +43,13 @@ use Rattle.tv_check_text.proofs.SettlingLemmas.{settles_none, settles_both}
 
 -- ---- the entries of one child after another
 
-said_list_next : (number : ℕ) (system : CaseSystem) (ss : Statements) (kids : List Node) (a : Node) → length kids < count ss → said_list number system ss (kids ++ a ∷ []) ≡ said_list number system ss kids ++ said_entries (number + sizes_list kids) system (part_at (length kids) ss) a
+said_list_next : (number : ℕ) (system : CaseSystem) (ss : Statements) (kids : List Node) (a : Node) → length kids < count ss → listed_entries number system ss (kids ++ a ∷ []) ≡ listed_entries number system ss kids ++ node_entries (number + sizes_list kids) system (part_at (length kids) ss) a
 said_list_next number system no_statement kids a few = absurd (omega (arith, few))
-said_list_next number system (statement s ss) [] a few = append-nil (said_entries number system s a) ∙ (let e : number ≡ number + 0 = omega arith in ap (λ n. said_entries n system s a) e)
+said_list_next number system (statement s ss) [] a few = append-nil (node_entries number system s a) ∙ (let e : number ≡ number + 0 = omega arith in ap (λ n. node_entries n system s a) e)
 said_list_next number system (statement s ss) (b ∷ kids) a few =
-    ap (λ es. said_entries number system s b ++ es) (said_list_next (number + size b) system ss kids a (omega (arith, few)))
-    ∙ sym (append_assoc (said_entries number system s b) (said_list (number + size b) system ss kids) (said_entries (number + size b + sizes_list kids) system (part_at (length kids) ss) a))
-    ∙ (let e : number + size b + sizes_list kids ≡ number + (size b + sizes_list kids) = omega arith in ap (λ n. (said_entries number system s b ++ said_list (number + size b) system ss kids) ++ said_entries n system (part_at (length kids) ss) a) e)
+    ap (λ es. node_entries number system s b ++ es) (said_list_next (number + size b) system ss kids a (omega (arith, few)))
+    ∙ sym (append_assoc (node_entries number system s b) (listed_entries (number + size b) system ss kids) (node_entries (number + size b + sizes_list kids) system (part_at (length kids) ss) a))
+    ∙ (let e : number + size b + sizes_list kids ≡ number + (size b + sizes_list kids) = omega arith in ap (λ n. (node_entries number system s b ++ listed_entries (number + size b) system ss kids) ++ node_entries n system (part_at (length kids) ss) a) e)
 
 sizes_next : (kids : List Node) (a : Node) → sizes_list (kids ++ a ∷ []) ≡ sizes_list kids + size a
 sizes_next [] a = omega arith
@@ -63,11 +62,11 @@ pub record Stands (system : CaseSystem) (s : Statement) (old now : Judge) (ps : 
   pub opened : Opened system s old.cursor now.cursor ps m kids
   pub pieces : map pieces_list heads ≡ map pieces_list kids
   pub nodes : now.nodes ≡ old.nodes + 1 + sizes_list kids
-  pub seen : now.seen ≡ old.seen + length (said_list (old.nodes + 1) system (parts_of s) kids)
+  pub seen : now.seen ≡ old.seen + length (listed_entries (old.nodes + 1) system (parts_of s) kids)
   pub counted : IsCounted now
-  pub settles : Settles old.seen old.failing (said_list (old.nodes + 1) system (parts_of s) kids) now.failing
+  pub settles : Settles old.seen old.failing (listed_entries (old.nodes + 1) system (parts_of s) kids) now.failing
 
-no_kids : (number : ℕ) (system : CaseSystem) (ss : Statements) → said_list number system ss [] ≡ []
+no_kids : (number : ℕ) (system : CaseSystem) (ss : Statements) → listed_entries number system ss [] ≡ []
 no_kids number system no_statement = refl
 no_kids number system (statement s ss) = refl
 
@@ -112,18 +111,18 @@ module _ (system : CaseSystem) (s : Statement) (old now : Judge) (ps : List Mark
       let few_kids : length h.kids < count (parts_of s) = (let e = as_many in omega (arith, e, few)) in
       let part = ap (λ i. part_at i (parts_of s)) as_many in
       let next = said_list_next (old.nodes + 1) system (parts_of s) h.kids b few_kids in
-      let own : said_entries now.nodes system (part_at (length heads) (parts_of s)) b ≡ said_entries (old.nodes + 1 + sizes_list h.kids) system (part_at (length h.kids) (parts_of s)) b = (λ i. said_entries (h.nodes i) system (part i) b) in
-      let before = said_list (old.nodes + 1) system (parts_of s) h.kids in
+      let own : node_entries now.nodes system (part_at (length heads) (parts_of s)) b ≡ node_entries (old.nodes + 1 + sizes_list h.kids) system (part_at (length h.kids) (parts_of s)) b = (λ i. node_entries (h.nodes i) system (part i) b) in
+      let before = listed_entries (old.nodes + 1) system (parts_of s) h.kids in
       record {
         kids = h.kids ++ b ∷ [];
         opened = opened_next system s old.cursor now.cursor new.cursor ps m h.kids (h.kids ++ b ∷ []) b h.opened few_kids
             (subst (λ p. IsShapedAs system p b) part k.is_node) (subst (λ p. Takes (stated_lines p b) now.cursor new.cursor) part k.took) refl;
         pieces = ap (map pieces_list) is ∙ map-append pieces_list heads (a ∷ []) ∙ (λ i. h.pieces i ++ k.pieces i ∷ []) ∙ sym (map-append pieces_list h.kids (b ∷ []));
         nodes = (let z = sizes_next h.kids b in let x = h.nodes in let y = k.nodes in omega (arith, x, y, z));
-        seen = (let x = h.seen in let y = k.seen in let e = ap length own in let n = ap length next in omega (arith, x, y, e, n, length-append before (said_entries (old.nodes + 1 + sizes_list h.kids) system (part_at (length h.kids) (parts_of s)) b)));
+        seen = (let x = h.seen in let y = k.seen in let e = ap length own in let n = ap length next in omega (arith, x, y, e, n, length-append before (node_entries (old.nodes + 1 + sizes_list h.kids) system (part_at (length h.kids) (parts_of s)) b)));
         counted = k.counted;
         settles = subst (λ es. Settles old.seen old.failing es new.failing) (sym next)
-            (settles_both old.seen now.seen old.failing now.failing new.failing before (said_entries (old.nodes + 1 + sizes_list h.kids) system (part_at (length h.kids) (parts_of s)) b) h.seen h.settles
+            (settles_both old.seen now.seen old.failing now.failing new.failing before (node_entries (old.nodes + 1 + sizes_list h.kids) system (part_at (length h.kids) (parts_of s)) b) h.seen h.settles
             (subst (λ es. Settles now.seen now.failing es new.failing) own k.settles));
       }
 
@@ -134,13 +133,13 @@ module _ (system : CaseSystem) (s : Statement) (old now : Judge) (ps : List Mark
   -- ---- the node's own proofs
 
   abbrev owing : List Obligation
-  owing = said_own old.nodes system s ps (map pieces_list heads)
+  owing = node_owes old.nodes system s ps (map pieces_list heads)
 
   module _ (many : length heads ≡ count (parts_of s)) where
     pub own_stops : (f : Failure) → FailsBy (each (demanded false) (map (λ q. demand_of q.owed) owing)) now.cursor f → FailsBy (node false system s) old.cursor f
     own_stops f k =
         let kids = map pieces_list h.kids in
-        let same = ap (λ ks. map (λ q. demand_of q.owed) (said_own old.nodes system s ps ks)) h.pieces ∙ demands_same old.nodes system s m ps kids h.opened.region.each ∙ sym (demands_same 0 system s m ps kids h.opened.region.each) in
+        let same = ap (λ ks. map (λ q. demand_of q.owed) (node_owes old.nodes system s ps ks)) h.pieces ∙ demands_same old.nodes system s m ps kids h.opened.region.each ∙ sym (demands_same 0 system s m ps kids h.opened.region.each) in
         proofs_fail system s old.cursor now.cursor ps m h.kids h.opened (sym as_many ∙ many) f (subst (λ ds. FailsBy (each (demanded false) ds) now.cursor f) same k)
 
 are_renumbered : (n : ℕ) (os : List Obligation) (ps : List Proof) → AreProofsOf (map (renumbered n) os) ps → AreProofsOf os ps
@@ -181,7 +180,7 @@ few_items v = (let o = v.ok in let s = v.small in omega (arith, o, s))
 
 -- ---- the whole node
 
-module _ (system : CaseSystem) (s : Statement) (old now new : Judge) (ps : List Marked) (m : ℕ) (heads : Vec Node) (said : IsSaid s) (h : Stands system s old now ps m heads.items) (many : length heads.items ≡ count (parts_of s)) (own : AreJudged (said_own old.nodes system s ps (map pieces_list heads.items)) now new) where
+module _ (system : CaseSystem) (s : Statement) (old now new : Judge) (ps : List Marked) (m : ℕ) (heads : Vec Node) (said : IsSaid s) (h : Stands system s old now ps m heads.items) (many : length heads.items ≡ count (parts_of s)) (own : AreJudged (node_owes old.nodes system s ps (map pieces_list heads.items)) now new) where
   few_kids : length h.kids < 2 ^ 63
   few_kids = (let e = as_many system s old now ps m heads.items h in let f = few_items heads in omega (arith, e, f))
 
@@ -194,11 +193,11 @@ module _ (system : CaseSystem) (s : Statement) (old now new : Judge) (ps : List 
   abbrev whole : Node
   whole = node_of ps m kids shown
 
-  owed_there : said_own old.nodes system s ps (map pieces_list heads.items) ≡ said_own old.nodes system s ps (map pieces_list h.kids)
-  owed_there = ap (said_own old.nodes system s ps) h.pieces
+  owed_there : node_owes old.nodes system s ps (map pieces_list heads.items) ≡ node_owes old.nodes system s ps (map pieces_list h.kids)
+  owed_there = ap (node_owes old.nodes system s ps) h.pieces
 
-  offered : AreProofsOf (said_own 0 system s ps (map pieces_list h.kids)) own.proofs
-  offered = are_renumbered old.nodes (said_own 0 system s ps (map pieces_list h.kids)) own.proofs (subst (λ os. AreProofsOf os own.proofs) (owed_there ∙ own_renumbered old.nodes system s ps (map pieces_list h.kids)) own.are)
+  offered : AreProofsOf (node_owes 0 system s ps (map pieces_list h.kids)) own.proofs
+  offered = are_renumbered old.nodes (node_owes 0 system s ps (map pieces_list h.kids)) own.proofs (subst (λ os. AreProofsOf os own.proofs) (owed_there ∙ own_renumbered old.nodes system s ps (map pieces_list h.kids)) own.are)
 
   built : IsShapedAs system s whole × Takes (stated_lines s whole) old.cursor new.cursor
   built = node_built system s old.cursor now.cursor new.cursor ps m kids shown said h.opened (sym (as_many system s old now ps m heads.items h) ∙ many) offered own.took
@@ -213,17 +212,17 @@ module _ (system : CaseSystem) (s : Statement) (old now new : Judge) (ps : List 
   proofs_there = ap (λ x. x.proofs.items) (out-roll-Node (record { pieces = ps; ranks = m; children = kids; proofs = shown }))
 
   below : List Entry
-  below = said_list (old.nodes + 1) system (parts_of s) h.kids
+  below = listed_entries (old.nodes + 1) system (parts_of s) h.kids
 
   mine : List Entry
-  mine = paired (said_own old.nodes system s ps (map pieces_list heads.items)) own.proofs
+  mine = paired (node_owes old.nodes system s ps (map pieces_list heads.items)) own.proofs
 
-  entries_there : said_entries old.nodes system s whole ≡ below ++ mine
+  entries_there : node_entries old.nodes system s whole ≡ below ++ mine
   unfolding below mine
   entries_there =
-      said_are old.nodes system s whole
-      ∙ (λ i. said_list (old.nodes + 1) system (parts_of s) (kids_there i) ++ said_own_are old.nodes system s whole i)
-      ∙ (λ i. below ++ paired (said_own old.nodes system s (pieces_there i) (map pieces_list (kids_there i))) (proofs_there i))
+      node_entries_are old.nodes system s whole
+      ∙ (λ i. listed_entries (old.nodes + 1) system (parts_of s) (kids_there i) ++ own_entries_are old.nodes system s whole i)
+      ∙ (λ i. below ++ paired (node_owes old.nodes system s (pieces_there i) (map pieces_list (kids_there i))) (proofs_there i))
       ∙ ap (λ os. below ++ paired os own.proofs) (sym owed_there)
 
   pub node_judged : (head : Node) → pieces_list head ≡ ps → IsJudgedNode system s old new head
@@ -234,7 +233,7 @@ module _ (system : CaseSystem) (s : Statement) (old now new : Judge) (ps : List 
     took = built.1;
     pieces = is ∙ sym pieces_there;
     nodes = (let a = size_is whole in let b = ap sizes_list kids_there in let c = h.nodes in let d = own.nodes in omega (arith, a, b, c, d));
-    seen = (let a = ap length entries_there in let b = length-append below mine in let c = h.seen in let d = own.seen in let e = length-paired (said_own old.nodes system s ps (map pieces_list heads.items)) own.proofs in omega (arith, a, b, c, d, e));
-    counted = (let a = h.counted in let b = own.nodes in let c = own.seen in let d = proofs_taken own.proofs now.cursor new.cursor own.took in let e = as_many_proofs (said_own old.nodes system s ps (map pieces_list heads.items)) own.proofs own.are in omega (arith, a, b, c, d, e));
+    seen = (let a = ap length entries_there in let b = length-append below mine in let c = h.seen in let d = own.seen in let e = length-paired (node_owes old.nodes system s ps (map pieces_list heads.items)) own.proofs in omega (arith, a, b, c, d, e));
+    counted = (let a = h.counted in let b = own.nodes in let c = own.seen in let d = proofs_taken own.proofs now.cursor new.cursor own.took in let e = as_many_proofs (node_owes old.nodes system s ps (map pieces_list heads.items)) own.proofs own.are in omega (arith, a, b, c, d, e));
     settles = subst (λ es. Settles old.seen old.failing es new.failing) (sym entries_there) (settles_both old.seen now.seen old.failing now.failing new.failing below mine h.seen h.settles own.settles);
   }

@@ -6,7 +6,7 @@ use Rattle.std.proofs.lemmas.Bool.Decides.{nat_tests}
 use Rattle.std.proofs.lemmas.Nat.{mul-le}
 use Rattle.tv_cases.specs.LinearCases.{CaseSystem}
 use Rattle.tv_cert.specs.declared.node.Marked.{Marked}
-use Rattle.tv_cert.specs.Said.{said_own}
+use Rattle.tv_cert.specs.Nodes.{node_owes}
 use Rattle.tv_cert.specs.Statements.{Statement}
 use Rattle.tv_cert.proofs.RoomLemmas.{own_few}
 use Rattle.tv_grammar.specs.Langs.{each}
@@ -78,7 +78,7 @@ few_pairs a b few = by (nat_le a (2 ^ 31)) refl
     by true e = (let h = mul-le a (b + 8194) (2 ^ 31) (2 ^ 32 + 8194) (grind (arith, nat_tests, e)) (omega (arith, few)) in omega (arith, h))
     by false e = (let over : 2 ^ 31 < a = grind (arith, nat_tests, e) in let h = mul-le a (b + 8194) (2 ^ 32) (2 ^ 31 + 8194) (omega (arith, few)) (omega (arith, few, over)) in omega (arith, h))
 
-pub own_room : (number : ℕ) (system : CaseSystem) (s : Statement) (ps : List Marked) (kids : List (List Marked)) (seen : ℕ) → length ps + length kids < 2 ^ 32 → length system.cases ≤ 8192 → seen < 2 ^ 32 → length (said_own number system s ps kids) ≤ 18446744073709551615 - seen
+pub own_room : (number : ℕ) (system : CaseSystem) (s : Statement) (ps : List Marked) (kids : List (List Marked)) (seen : ℕ) → length ps + length kids < 2 ^ 32 → length system.cases ≤ 8192 → seen < 2 ^ 32 → length (node_owes number system s ps kids) ≤ 18446744073709551615 - seen
 own_room number system s ps kids seen few cases low =
     let most = own_few number system ps kids s in
     let each = mul-le (length ps) (length kids + length system.cases + 2) (length ps) (length kids + 8194) (omega arith) (omega (arith, cases)) in

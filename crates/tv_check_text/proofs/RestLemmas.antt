@@ -15,11 +15,10 @@ use Rattle.tv_cert.specs.declared.node.Node.{Node, Node'}
 use Rattle.tv_cert.specs.declared.node.Verdict.{Verdict}
 use Rattle.tv_cert.specs.declared.node.Verdict.TheVariants.{Proved, Disproved}
 use Rattle.tv_cert.specs.Listed.{pieces_list}
-use Rattle.tv_cert.specs.Nodes.{pieces_of, root_entry, size}
+use Rattle.tv_cert.specs.Nodes.{pieces_of, root_entry, size, node_entries}
 use Rattle.tv_cert.specs.Obligations.{Entry, PointMet, IsMetEntry}
 use Rattle.tv_cert.specs.Pieces.{pieces_at, rows_of}
 use Rattle.tv_cert.specs.Plain.{about_of}
-use Rattle.tv_cert.specs.Said.{said_entries}
 use Rattle.tv_cert.specs.Shapes.{PieceShape}
 use Rattle.tv_cert.specs.Statements.{Statement}
 use Rattle.tv_cert.specs.Targets.{owed_into, no_fall}
@@ -60,10 +59,10 @@ module _ (system : CaseSystem) (s : Statement) (old mid : Judge) (fresh : IsFres
   kept = pieces_are h.node ∙ sym h.pieces
 
   abbrev below : List Entry
-  below = said_entries 0 system s h.node
+  below = node_entries 0 system s h.node
 
-  below_is : said_entries old.nodes system s h.node ≡ below
-  below_is = ap (λ n. said_entries n system s h.node) fresh.nodes
+  below_is : node_entries old.nodes system s h.node ≡ below
+  below_is = ap (λ n. node_entries n system s h.node) fresh.nodes
 
   seen_below : mid.seen ≡ 0 + length below
   seen_below = (let a = h.seen in let b = fresh.seen in let c = ap length below_is in omega (arith, a, b, c))

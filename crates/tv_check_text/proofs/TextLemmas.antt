@@ -11,11 +11,10 @@ use Rattle.tv_cert.specs.declared.node.Node.{Node}
 use Rattle.tv_cert.specs.declared.node.Verdict.{Verdict}
 use Rattle.tv_cert.specs.declared.node.Verdict.TheVariants.{Proved, Disproved}
 use Rattle.tv_cert.specs.Claims.{about_with, claim_variables, shown}
-use Rattle.tv_cert.specs.Nodes.{pieces_of, root_entry, obligations}
+use Rattle.tv_cert.specs.Nodes.{pieces_of, root_entry, obligations, entries, node_entries}
 use Rattle.tv_cert.specs.Plain.{about_of}
-use Rattle.tv_cert.specs.Said.{said_entries}
 use Rattle.tv_cert.specs.Statements.{Statement, stated}
-use Rattle.tv_cert.proofs.SaidLemmas.{entries-stated}
+use Rattle.tv_cert.proofs.StatedLemmas.{root_same}
 use Rattle.tv_shape.specs.declared.certificate.Certificate.{Certificate}
 use Rattle.tv_shape.specs.Fitting.{Fits}
 use Rattle.tv_shape.specs.Kinds.{kinds_stated}
@@ -35,15 +34,11 @@ use Rattle.tv_check_text.specs.Rest.{IsJudgedRest, all_entries}
 use Rattle.tv_check_text.specs.Settling.{Settles}
 use Rattle.tv_check_text.specs.Texts.{owed, IsAcceptedText, IsUnaccepted, FailsFirst, failing_of}
 
-root_same : (system : CaseSystem) (ps : List Marked) (verdict : Verdict) → root_entry (about_of system) ps verdict ≡ root_entry (about_with system) ps verdict
-root_same system ps (Proved start) = refl
-root_same system ps (Disproved k values) = refl
-
 -- what is owed, by what the root is to show and by its formula
 pub owed_is : (system : CaseSystem) (f : Property) (s : Statement) (root : Node) (verdict : Verdict) → s ≡ stated (about_with system).tests f → all_entries system s root verdict ≡ obligations (about_with system) f root verdict
 owed_is system f s root verdict same =
-    (λ i. said_entries 0 system (same i) root ++ root_entry (about_of system) (pieces_of root) verdict ∷ [])
-    ∙ (λ i. entries-stated 0 (about_with system) f root i ++ root_same system (pieces_of root) verdict i ∷ [])
+    (λ i. node_entries 0 system (same i) root ++ root_entry (about_of system) (pieces_of root) verdict ∷ [])
+    ∙ (λ i. entries 0 (about_with system) f root ++ root_same system (pieces_of root) verdict i ∷ [])
 
 module _ (system : CaseSystem) (claim : Claim) (variables : claim_variables claim ≡ system.variables) (text : List ℕ) (heap : Global) (proved : Bool) (values : List ℤ) (rest : List PlainLine) (new : Judge) (h : IsJudgedRest system (side (sides_of claim) proved) proved values rest new) (lines : lines_of text ≡ begun proved rest) where
   abbrev property : Property

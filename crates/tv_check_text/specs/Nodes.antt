@@ -3,8 +3,7 @@ use Rattle.std.specs.Prelude.{◌≡◌, ◌+◌, false, length, Result, Ok, Err
 use Rattle.tv_cases.specs.LinearCases.{CaseSystem}
 use Rattle.tv_cert.specs.declared.node.Node.{Node}
 use Rattle.tv_cert.specs.Listed.{pieces_list}
-use Rattle.tv_cert.specs.Nodes.{size}
-use Rattle.tv_cert.specs.Said.{said_entries}
+use Rattle.tv_cert.specs.Nodes.{size, node_entries}
 use Rattle.tv_cert.specs.Statements.{Statement}
 use Rattle.tv_cert_reader.specs.NodeGrammar.{node}
 use Rattle.tv_cert_reader.specs.Shaped.{IsShapedAs, stated_lines}
@@ -21,9 +20,9 @@ pub record IsJudgedNode (system : CaseSystem) (s : Statement) (old new : Judge) 
   pub took : Takes (stated_lines s node) old.cursor new.cursor
   pub pieces : pieces_list head ≡ pieces_list node
   pub nodes : new.nodes ≡ old.nodes + size node
-  pub seen : new.seen ≡ old.seen + length (said_entries old.nodes system s node)
+  pub seen : new.seen ≡ old.seen + length (node_entries old.nodes system s node)
   pub counted : IsCounted new
-  pub settles : Settles old.seen old.failing (said_entries old.nodes system s node) new.failing
+  pub settles : Settles old.seen old.failing (node_entries old.nodes system s node) new.failing
 
 abbrev pub JudgesNode : CaseSystem → Statement → Judge → Judge → Result Node Failure → Type 0
 JudgesNode system s old new (Ok head) = IsJudgedNode system s old new head

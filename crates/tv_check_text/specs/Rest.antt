@@ -6,10 +6,9 @@ use Rattle.tv_cases.specs.LinearCases.{CaseSystem}
 use Rattle.tv_cert.specs.declared.node.Node.{Node}
 use Rattle.tv_cert.specs.declared.node.Verdict.{Verdict}
 use Rattle.tv_cert.specs.declared.node.Verdict.TheVariants.{Proved, Disproved}
-use Rattle.tv_cert.specs.Nodes.{pieces_of, root_entry, size}
+use Rattle.tv_cert.specs.Nodes.{pieces_of, root_entry, size, node_entries}
 use Rattle.tv_cert.specs.Obligations.{Entry}
 use Rattle.tv_cert.specs.Plain.{about_of}
-use Rattle.tv_cert.specs.Said.{said_entries}
 use Rattle.tv_cert.specs.Statements.{Statement}
 use Rattle.tv_cert_reader.specs.CertificateGrammar.{Sides}
 use Rattle.tv_cert_reader.specs.declared.failure.Failure.{Failure}
@@ -25,7 +24,7 @@ pub record IsFresh (judge : Judge) : Type 0 where
 
 -- the obligations below a root that is to show this, and its own, with their proofs
 abbrev pub all_entries : CaseSystem → Statement → Node → Verdict → List Entry
-all_entries system s root verdict = said_entries 0 system s root ++ root_entry (about_of system) (pieces_of root) verdict ∷ []
+all_entries system s root verdict = node_entries 0 system s root ++ root_entry (about_of system) (pieces_of root) verdict ∷ []
 
 -- the values at which a property is disproved
 abbrev pub values_of : Verdict → List ℤ

@@ -2,7 +2,7 @@ ghost use Rattle.std.specs.Prelude.{◌+◌, ◌<◌, ◌^◌, length, map};
 ghost use Rattle.tv_cases.specs.Systems.{cases_of};
 ghost use Rattle.tv_cert.specs.AimViews.{aim_states};
 ghost use Rattle.tv_cert.specs.Listed.{pieces_list};
-ghost use Rattle.tv_cert.specs.Said.{said_own};
+ghost use Rattle.tv_cert.specs.Nodes.{node_owes};
 ghost use Rattle.tv_check_text.specs.Visits.{JudgesOwn};
 
 use crate::judge::Judge;
@@ -23,7 +23,7 @@ pub fn judge_own(
     requires seen { judge.old.seen < 2 ^ 32 }
     ensures { let system = cases_of about.now in
         let states = aim_states aim.now in
-        JudgesOwn (said_own number system states pieces.now (map pieces_list children.now)) judge.old judge.new result }
+        JudgesOwn (node_owes number system states pieces.now (map pieces_list children.now)) judge.old judge.new result }
 {
     if visit_pieces(judge, about, number, aim, pieces, children) {
         return Ok(());

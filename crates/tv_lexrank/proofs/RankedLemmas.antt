@@ -15,8 +15,8 @@ use Rattle.tv_cert.specs.declared.node.Marked.{Marked}
 use Rattle.tv_cert.specs.declared.node.Proof.{Proof}
 use Rattle.tv_cert.specs.declared.node.Node.{Node, Node', Row_of-Node, end_of-Node, more_of-Node, items-the_row-Node, outs-Node'}
 use Rattle.tv_cert.specs.Claims.{about_with}
-use Rattle.tv_cert.specs.Nodes.{kid_pieces, pieces_of, entries, kid_entries}
-use Rattle.tv_cert.specs.Obligations.{About, Obligation, AllMet, own_of, piece_of, paired}
+use Rattle.tv_cert.specs.Nodes.{kid_pieces, pieces_of, entries, kid_entries, own_of, piece_of}
+use Rattle.tv_cert.specs.Obligations.{About, Obligation, AllMet, paired}
 use Rattle.tv_cert.specs.Pieces.{place_of, pieces_at}
 use Rattle.tv_cert.specs.Shapes.{ProofShape, PieceShape, OwnShape, HaveShapes}
 use Rattle.tv_cert.proofs.NodeLemmas.{out_is}

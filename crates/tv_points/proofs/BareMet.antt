@@ -18,7 +18,8 @@ use Rattle.tv_cert.specs.declared.node.Node.{Node}
 use Rattle.tv_cert.specs.declared.node.Proof.{Proof}
 use Rattle.tv_cert.specs.declared.node.Proof.TheVariants.{Covered, Chosen}
 use Rattle.tv_cert.specs.Claims.{about_with}
-use Rattle.tv_cert.specs.Obligations.{About, Obligation, a_cover, atom_of, truth_targets, piece_of}
+use Rattle.tv_cert.specs.Obligations.{About, Obligation, a_cover, atom_of, truth_targets}
+use Rattle.tv_cert.specs.Nodes.{piece_of}
 use Rattle.tv_cert.specs.Pieces.{pieces_at}
 use Rattle.tv_cert.specs.Shapes.{owed_count, ListsShape, CoverShape, PieceShape}
 use Rattle.tv_cert.specs.Targets.{target_rows, owed_into, no_fall}

@@ -7,9 +7,10 @@ use Rattle.tv_cert.specs.declared.node.Marked.{Marked}
 use Rattle.tv_cert.specs.declared.node.Proof.{Proof}
 use Rattle.tv_cert.specs.declared.node.Node.{Node, Node', Row_of-Node, end_of-Node, more_of-Node, items-the_row-Node, outs-Node'}
 use Rattle.tv_cert.specs.Listed.{pieces_list}
-use Rattle.tv_cert.specs.Nodes.{parts, kid_pieces, size, entries, kid_entries}
-use Rattle.tv_cert.specs.Obligations.{About, Obligation, Entry, OwedMet, AllMet, own_of, paired}
+use Rattle.tv_cert.specs.Nodes.{parts, kid_pieces, size, entries, kid_entries, own_of}
+use Rattle.tv_cert.specs.Obligations.{About, Obligation, Entry, OwedMet, AllMet, paired}
 use Rattle.tv_cert.specs.Shapes.{ProofShape, PieceShape, OwnShape, HaveShapes, IsNormalHead, may_rank, may_be_done}
+use Rattle.tv_cert.proofs.StatedLemmas.{entries_are}
 use Rattle.tv_cert.proofs.NodeLemmas.{out_is, kid_pieces_are}
 use Rattle.tv_shape.specs.Depths.{proof_splits}
 use Rattle.tv_shape.specs.Fitting.{KidsNarrow, KidsGoWithin}
@@ -108,8 +109,9 @@ node_fitted about f depth (Node' ps m shape row list) pieces ranks kids proofs o
     kids_narrow about (parts f) (depth + 1) row below,
   );
   within = ((let d = right.shallow in omega (arith, d)), subst (All (λ p. depth + proof_splits p ≤ 384)) (sym proofs_same) (all_shallow depth (own_of 0 about f pieces (map pieces_list kids)) proofs right.shallow (right.offered 0)), kids_within about (parts f) (depth + 1) row below);
-  met = λ number. both_met (kid_entries (number + 1) about (parts f) row) (paired (own_of number about f ps (kid_pieces row)) list.items) (kids_met about (parts f) (depth + 1) (number + 1) row below)
-      (subst AllMet (sym (own_are number)) (all_met (own_of number about f pieces (map pieces_list kids)) proofs (right.offered number)));
+  met = λ number. subst AllMet (sym (entries_are number about f ps m shape row list))
+      (both_met (kid_entries (number + 1) about (parts f) row) (paired (own_of number about f ps (kid_pieces row)) list.items) (kids_met about (parts f) (depth + 1) (number + 1) row below)
+      (subst AllMet (sym (own_are number)) (all_met (own_of number about f pieces (map pieces_list kids)) proofs (right.offered number))));
 }
   where
     pieces_same : ps ≡ pieces

@@ -16,7 +16,8 @@ use Rattle.tv_cert.specs.declared.node.Proof.{Proof}
 use Rattle.tv_cert.specs.declared.node.Proof.TheVariants.{Covered, Chosen}
 use Rattle.tv_cert.specs.Claims.{about_with}
 use Rattle.tv_cert.specs.Listed.{pieces_list}
-use Rattle.tv_cert.specs.Obligations.{piece_of, fix_of}
+use Rattle.tv_cert.specs.Obligations.{fix_of}
+use Rattle.tv_cert.specs.Nodes.{piece_of}
 use Rattle.tv_cert.specs.Pieces.{place_of, ranks_of, goes}
 use Rattle.tv_cert.specs.Shapes.{PieceShape}
 use Rattle.tv_cert.proofs.NodeLemmas.{pieces_are}

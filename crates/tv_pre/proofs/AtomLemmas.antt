@@ -16,7 +16,7 @@ use Rattle.tv_cert.specs.declared.node.Node.{Node}
 use Rattle.tv_cert.specs.declared.node.Proof.{Proof}
 use Rattle.tv_cert.specs.declared.node.Proof.TheVariants.{Covered}
 use Rattle.tv_cert.specs.Claims.{about_with}
-use Rattle.tv_cert.specs.Obligations.{Obligation, truth_targets, atom_of, piece_of}
+use Rattle.tv_cert.specs.Obligations.{Obligation, truth_targets, atom_of}
 use Rattle.tv_cert.specs.Pieces.{place_of, rows_of, pieces_at}
 use Rattle.tv_cert.specs.Shapes.{IsNormalHead, may_be_done}
 use Rattle.tv_cover.specs.Targets.{AreEven}
@@ -30,7 +30,7 @@ use Rattle.tv_pre.specs.declared.test.Test.{Test}
 use Rattle.tv_pre.specs.declared.test.Test.TheVariants.{Rows, Here, Elsewhere}
 use Rattle.tv_pre.specs.Making.{IsMade, plain_pieces}
 use Rattle.tv_cert.specs.Listed.{pieces_list}
-use Rattle.tv_cert.specs.Nodes.{parts}
+use Rattle.tv_cert.specs.Nodes.{parts, piece_of}
 use Rattle.tv_pre.specs.Parts.{IsPart, AreParts}
 use Rattle.tv_pre.proofs.ShapeLemmas.{flat_same}
 use Rattle.tv_pre.proofs.AddLemmas.{adds_none, adds_one, one_done, take_suc_some, flat_append}

@@ -15,7 +15,7 @@ use Rattle.tv_cert.specs.declared.node.Marked.{Marked}
 use Rattle.tv_cert.specs.declared.node.Node.{Node}
 use Rattle.tv_cert.specs.declared.node.Proof.{Proof}
 use Rattle.tv_cert.specs.Claims.{about_with}
-use Rattle.tv_cert.specs.Obligations.{piece_of}
+use Rattle.tv_cert.specs.Nodes.{piece_of}
 use Rattle.tv_cert.specs.Shapes.{PieceShape}
 use Rattle.tv_region.specs.Regions.{IsPieceOf, IsRegion}
 use Rattle.tv_pre.specs.declared.growing.Grown.{Grown}

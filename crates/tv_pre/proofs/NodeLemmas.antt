@@ -13,9 +13,10 @@ use Rattle.tv_cert.specs.declared.node.Proof.TheVariants.{Covered, Chosen}
 use Rattle.tv_cert.specs.declared.node.Node.{Node, Node', Row_of-Node, end_of-Node, more_of-Node, items-the_row-Node, outs-Node'}
 use Rattle.tv_cert.specs.Claims.{about_with}
 use Rattle.tv_cert.specs.Listed.{pieces_list}
-use Rattle.tv_cert.specs.Nodes.{parts, kid_pieces, kid_entries, size}
-use Rattle.tv_cert.specs.Obligations.{Entry, Obligation, Owed, a_cover, a_choice, a_point, AllMet, own_of, paired}
+use Rattle.tv_cert.specs.Nodes.{parts, kid_pieces, kid_entries, size, own_of}
+use Rattle.tv_cert.specs.Obligations.{Entry, Obligation, Owed, a_cover, a_choice, a_point, AllMet, paired}
 use Rattle.tv_cert.specs.Shapes.{ProofShape, OwnShape, HaveShapes, IsNormalHead, may_rank, may_be_done}
+use Rattle.tv_cert.proofs.StatedLemmas.{entries_are}
 use Rattle.tv_cert.proofs.NodeLemmas.{out_is, pieces_are, kid_pieces_are}
 use Rattle.tv_shape.specs.Depths.{proof_splits}
 use Rattle.tv_shape.specs.Fitting.{KidsNarrow, KidsGoWithin}
@@ -148,7 +149,8 @@ part_made about f region (Node' ps m' shape row list) m pieces regions kids proo
       subst (All (λ p. depth + proof_splits p ≤ 384)) (sym proofs_same) (all_within depth (own_of 0 (about_with about) f pieces (map pieces_list kids)) proofs (omega (arith, d)) (offers 0)),
       kids_at depth d,
     );
-    met = λ number. met_append _ _ (kids_met about (number + 1) (parts f) regions row row_parts) (subst AllMet (sym (own_are number)) (all_met (own_of number (about_with about) f pieces (map pieces_list kids)) proofs (offers number)));
+    met = λ number. subst AllMet (sym (entries_are number (about_with about) f ps m' shape row list))
+        (met_append _ _ (kids_met about (number + 1) (parts f) regions row row_parts) (subst AllMet (sym (own_are number)) (all_met (own_of number (about_with about) f pieces (map pieces_list kids)) proofs (offers number))));
   };
   pieces = subst (λ qs. AreMarked qs region.pieces.items) (sym pieces_same) made.are.same;
 }

@@ -9,7 +9,8 @@ use Rattle.tv_cases.specs.LinearCases.{CaseSystem}
 use Rattle.tv_cert.specs.declared.node.Marked.{Marked}
 use Rattle.tv_cert.specs.declared.node.Proof.{Proof}
 use Rattle.tv_cert.specs.Claims.{about_with}
-use Rattle.tv_cert.specs.Obligations.{piece_of, first_of, second_of}
+use Rattle.tv_cert.specs.Obligations.{first_of, second_of}
+use Rattle.tv_cert.specs.Nodes.{piece_of}
 use Rattle.tv_pre.specs.Pieces.{AreMarked}
 use Rattle.tv_pre.specs.Offers.{Offers}
 use Rattle.tv_pre.specs.Around.{AreKids, next_of}

@@ -9,8 +9,8 @@ use Rattle.tv_cert.specs.declared.node.Proof.{Proof}
 use Rattle.tv_cert.specs.declared.node.Proof.TheVariants.{Covered, Chosen}
 use Rattle.tv_cert.specs.declared.node.Node.{Node, Node', Row_of-Node, end_of-Node, more_of-Node, items-the_row-Node, outs-Node'}
 use Rattle.tv_cert.specs.Claims.{about_with}
-use Rattle.tv_cert.specs.Nodes.{kid_pieces, kid_entries}
-use Rattle.tv_cert.specs.Obligations.{About, Obligation, OwedMet, AllMet, own_of, piece_of, paired}
+use Rattle.tv_cert.specs.Nodes.{kid_pieces, kid_entries, own_of, piece_of}
+use Rattle.tv_cert.specs.Obligations.{About, Obligation, OwedMet, AllMet, paired}
 use Rattle.tv_cert.specs.Shapes.{ProofShape, PieceShape, OwnShape, HaveShapes}
 use Rattle.tv_cert.proofs.NodeLemmas.{out_is, pieces_are}
 use Rattle.tv_shape.specs.Depths.{proof_splits}

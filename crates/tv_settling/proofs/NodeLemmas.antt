@@ -12,7 +12,8 @@ use Rattle.tv_cert.specs.declared.node.Marked.{Marked}
 use Rattle.tv_cert.specs.declared.node.Node.{Node}
 use Rattle.tv_cert.specs.declared.node.Proof.{Proof}
 use Rattle.tv_cert.specs.Listed.{pieces_list}
-use Rattle.tv_cert.specs.Obligations.{Obligation, atom_of, truth_targets, piece_of, own_of}
+use Rattle.tv_cert.specs.Obligations.{Obligation, atom_of, truth_targets}
+use Rattle.tv_cert.specs.Nodes.{piece_of, own_of}
 use Rattle.tv_cert.specs.Pieces.{pieces_at}
 use Rattle.tv_cert.specs.Shapes.{PieceShape}
 use Rattle.tv_cert.proofs.NodeLemmas.{pieces_are}

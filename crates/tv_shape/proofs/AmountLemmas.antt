@@ -5,11 +5,11 @@ use Rattle.std.specs.Option.{SomeIff, is_some}
 use Rattle.tv_formula.specs.Properties.{Property, Properties, none, more}
 use Rattle.tv_cert.specs.declared.node.Node.{Node, Node', Row_of-Node, end_of-Node, more_of-Node, items-the_row-Node, outs-Node'}
 use Rattle.tv_cert.specs.declared.node.Verdict.{Verdict}
-use Rattle.tv_cert.specs.Obligations.{About, own_of, paired}
-use Rattle.tv_cert.specs.Nodes.{parts, kid_pieces, size, entries, kid_entries, obligations, root_entry, pieces_of}
+use Rattle.tv_cert.specs.Obligations.{About, paired}
+use Rattle.tv_cert.specs.Nodes.{parts, kid_pieces, size, entries, kid_entries, obligations, root_entry, pieces_of, own_of}
 use Rattle.tv_cert.specs.Shapes.{ProofShape, HasShape, HaveShapes}
 use Rattle.tv_cert.proofs.NodeLemmas.{kids_of, sizes_list, proofs_list, out_is, length-paired}
-use Rattle.tv_cert.proofs.SaidLemmas.{own-stated}
+use Rattle.tv_cert.proofs.StatedLemmas.{entries_are}
 use Rattle.tv_cert.specs.Statements.{stated}
 use Rattle.tv_shape.specs.Amounts.{proofs_below, kid_proofs}
 use Rattle.tv_shape.proofs.NumberLemmas.{own_many}
@@ -52,7 +52,7 @@ sizes_end (a ∷ kids) (suc i) h = sizes_end kids i (omega arith)
 -- ---- as many proofs as obligations
 
 own_counted : (number : ℕ) (about : About) (f : Property) (ps : _) (kids : _) → length (own_of number about f ps kids) ≡ length (own_of 0 about f ps kids)
-own_counted number about f ps kids = sym (ap length (own-stated number about f ps kids)) ∙ own_many number about.system (stated about.tests f) ps kids ∙ ap length (own-stated 0 about f ps kids)
+own_counted number about f ps kids = own_many number about.system (stated about.tests f) ps kids
 
 mutual
   pub entries_counted : (number : ℕ) (about : About) (f : Property) (node : Node) → HasShape about f node → length (entries number about f node) ≡ proofs_below node
@@ -62,7 +62,8 @@ mutual
       let same = own_counted number about f ps (kid_pieces kids) in
       let long = AllZip-long (λ o p. ProofShape o.owed p) (own_of 0 about f ps (kid_pieces kids)) proofs.items h.0.offered in
       let all = length-append (kid_entries (number + 1) about (parts f) kids) (paired (own_of number about f ps (kid_pieces kids)) proofs.items) in
-      omega (arith, below, own, same, long, all)
+      let parts_entries = ap length (entries_are number about f ps m shape kids proofs) in
+      omega (arith, below, own, same, long, all, parts_entries)
 
   kid_entries_counted : {k : _} (number : ℕ) (about : About) (fs : Properties) (kids : Row_of-Node k) → HaveShapes about fs kids → length (kid_entries number about fs kids) ≡ kid_proofs kids
   kid_entries_counted number about none end_of-Node h = refl

@@ -16,7 +16,7 @@ use Rattle.tv_cert.specs.Plain.{about_of}
 use Rattle.tv_cert.specs.Shapes.{VerdictShape, PieceShape, ProofShape, OwnShape, HasShape, HaveShapes, IsNormalHead, may_rank, may_be_done}
 use Rattle.tv_cert.specs.Statements.{stated, stated_all, count}
 use Rattle.tv_cert.proofs.NodeLemmas.{out_is, kid_pieces_are}
-use Rattle.tv_cert.proofs.SaidLemmas.{parts-stated, own-stated}
+use Rattle.tv_cert.proofs.StatedLemmas.{parts-stated}
 use Rattle.tv_shape.specs.Parts.{children_of, proofs_of, ranks_at}
 use Rattle.tv_shape.specs.Narrow.{PartsNarrow}
 use Rattle.tv_shape.specs.Depths.{proof_splits}
@@ -96,7 +96,7 @@ module _ (about : About) where
     ranked = λ e. h.ranked (rank_stated f ∙ e);
     small = h.small;
     each = subst (λ d. All (PieceShape about.system m d) ps) (done_stated f) h.each;
-    offered = subst (λ os. AllZip (λ o p. ProofShape o.owed p) os proofs) (own-stated 0 about f ps kids) h.offered;
+    offered = h.offered;
   }
 
   pub own_back : (f : Property) (m : ℕ) (ps : List Marked) (kids : List (List Marked)) (proofs : List Proof) → OwnShape about f m ps kids proofs → OwnParts about.system (stated about.tests f) m ps kids proofs
@@ -105,7 +105,7 @@ module _ (about : About) where
     ranked = λ e. h.ranked (sym (rank_stated f) ∙ e);
     small = h.small;
     each = subst (λ d. All (PieceShape about.system m d) ps) (sym (done_stated f)) h.each;
-    offered = subst (λ os. AllZip (λ o p. ProofShape o.owed p) os proofs) (sym (own-stated 0 about f ps kids)) h.offered;
+    offered = h.offered;
   }
 
   -- ---- the parts of a node as its lists

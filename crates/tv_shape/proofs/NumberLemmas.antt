@@ -17,7 +17,7 @@ use Rattle.tv_cert.specs.Obligations.{About, Obligation, cover_of, step_of, step
 use Rattle.tv_cert.specs.Targets.{owed_nothing, no_fall}
 use Rattle.tv_cert.specs.Plain.{about_of}
 use Rattle.tv_cert.specs.Statements.{Statement, rows, here, elsewhere, ends, never_ends, each_of, one_of, after, along, unsaid}
-use Rattle.tv_cert.specs.Said.{said_at, said_own}
+use Rattle.tv_cert.specs.Nodes.{piece_owes, node_owes}
 
 abbrev pub renumbered : ℕ → Obligation → Obligation
 renumbered n o = record { node = n; kind = o.kind; owed = o.owed }
@@ -50,7 +50,7 @@ fix_renumbered : (n : ℕ) (about : About) (path : Path) (shape : Shape) (ps a b
 fix_renumbered n about path shape ps a b p false = covers_renumbered n kind.Done about p (end_sides shape a b)
 fix_renumbered n about path shape ps a b p true = ap (λ os. cover_of n kind.Hold about p (hold_side shape a b) ∷ os) (go_renumbered n about path shape ps p)
 
-at_renumbered : (n : ℕ) (system : CaseSystem) (s : Statement) (ps : List Marked) (kids : List (List Marked)) (p : Marked) → said_at n system s ps kids p ≡ map (renumbered n) (said_at 0 system s ps kids p)
+at_renumbered : (n : ℕ) (system : CaseSystem) (s : Statement) (ps : List Marked) (kids : List (List Marked)) (p : Marked) → piece_owes n system s ps kids p ≡ map (renumbered n) (piece_owes 0 system s ps kids p)
 at_renumbered n system (rows lists) ps kids p = refl
 at_renumbered n system (here l) ps kids p = refl
 at_renumbered n system (elsewhere l) ps kids p = refl
@@ -67,15 +67,15 @@ each_renumbered : (n : ℕ) (f g : Marked → List Obligation) → ((p : Marked)
 each_renumbered n f g same [] = refl
 each_renumbered n f g same (p ∷ ps) = (λ i. same p i ++ each_renumbered n f g same ps i) ∙ sym (map_joined (renumbered n) (g p) (flat_map g ps))
 
-pub own_renumbered : (n : ℕ) (system : CaseSystem) (s : Statement) (ps : List Marked) (kids : List (List Marked)) → said_own n system s ps kids ≡ map (renumbered n) (said_own 0 system s ps kids)
-own_renumbered n system s ps kids = each_renumbered n (said_at n system s ps kids) (said_at 0 system s ps kids) (at_renumbered n system s ps kids) ps
+pub own_renumbered : (n : ℕ) (system : CaseSystem) (s : Statement) (ps : List Marked) (kids : List (List Marked)) → node_owes n system s ps kids ≡ map (renumbered n) (node_owes 0 system s ps kids)
+own_renumbered n system s ps kids = each_renumbered n (piece_owes n system s ps kids) (piece_owes 0 system s ps kids) (at_renumbered n system s ps kids) ps
 
 -- there are as many obligations, whatever the number
-pub own_many : (n : ℕ) (system : CaseSystem) (s : Statement) (ps : List Marked) (kids : List (List Marked)) → length (said_own n system s ps kids) ≡ length (said_own 0 system s ps kids)
-own_many n system s ps kids = ap length (own_renumbered n system s ps kids) ∙ length-map (said_own 0 system s ps kids) (renumbered n)
+pub own_many : (n : ℕ) (system : CaseSystem) (s : Statement) (ps : List Marked) (kids : List (List Marked)) → length (node_owes n system s ps kids) ≡ length (node_owes 0 system s ps kids)
+own_many n system s ps kids = ap length (own_renumbered n system s ps kids) ∙ length-map (node_owes 0 system s ps kids) (renumbered n)
 
 -- there is room for what a node owes, whose lists lie in memory
-pub own_within : (n : ℕ) (system : CaseSystem) (s : Statement) (ps : List Marked) (kids : List (List Marked)) → length ps < 2 ^ 63 → length kids < 2 ^ 63 → length system.cases < 2 ^ 63 → length (said_own n system s ps kids) ≤ 2 ^ 200
+pub own_within : (n : ℕ) (system : CaseSystem) (s : Statement) (ps : List Marked) (kids : List (List Marked)) → length ps < 2 ^ 63 → length kids < 2 ^ 63 → length system.cases < 2 ^ 63 → length (node_owes n system s ps kids) ≤ 2 ^ 200
 own_within n system s ps kids a b c =
     let few = own_few n system ps kids s in
     let most = mul-le (length ps) (length kids + length system.cases + 2) (2 ^ 63) (2 ^ 65) (omega (arith, a)) (omega (arith, b, c)) in

@@ -7,8 +7,7 @@ use Rattle.tv_cert.specs.declared.node.Marked.{Marked}
 use Rattle.tv_cert.specs.declared.node.Proof.{Proof}
 use Rattle.tv_cert.specs.declared.node.Node.{Node, Node', Row_of-Node, end_of-Node, more_of-Node}
 use Rattle.tv_cert.specs.Listed.{pieces_list}
-use Rattle.tv_cert.specs.Nodes.{size}
-use Rattle.tv_cert.specs.Said.{said_own}
+use Rattle.tv_cert.specs.Nodes.{size, node_owes}
 use Rattle.tv_cert.specs.Shapes.{PieceShape, ProofShape}
 use Rattle.tv_cert.specs.Statements.{Statement, ends, along, unsaid, Statements, no_statement, statement, parts_of, count}
 use Rattle.tv_shape.specs.Parts.{children_of, proofs_of, ranks_at}
@@ -61,7 +60,7 @@ pub record OwnParts (system : CaseSystem) (s : Statement) (m : ℕ) (ps : List M
   pub ranked : ranks_may_be s ≡ false → m ≡ 0
   pub small : m < 2 ^ 32
   pub each : All (PieceShape system m (done_may_be s)) ps
-  pub offered : AllZip (λ o p. ProofShape o.owed p) (said_own 0 system s ps kids) proofs
+  pub offered : AllZip (λ o p. ProofShape o.owed p) (node_owes 0 system s ps kids) proofs
 
 -- the node has a child for each argument, the shape of its own parts, and narrow numbers
 pub record IsShaped (system : CaseSystem) (t : Station) : Type 0 where

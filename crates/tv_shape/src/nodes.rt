@@ -3,7 +3,7 @@ ghost use Rattle.std.specs.List.{AllZip};
 ghost use Rattle.tv_cases.specs.Systems.{cases_of};
 ghost use Rattle.tv_cert.specs.AimViews.{aim_states, aims_state};
 ghost use Rattle.tv_cert.specs.Listed.{pieces_list};
-ghost use Rattle.tv_cert.specs.Said.{said_own};
+ghost use Rattle.tv_cert.specs.Nodes.{node_owes};
 ghost use Rattle.tv_cert.specs.Shapes.{ProofShape};
 ghost use Rattle.tv_cert.specs.Statements.{Statement, count, parts_of};
 ghost use Rattle.tv_shape.specs.Parts.{children_of, proofs_of, ranks_at};
@@ -63,7 +63,7 @@ fn proofs_have_shape(about: &Cases, aim: &Aim, node: &Node) -> bool
     requires { length (pieces_list node.now) < 2 ^ 63 }
     ensures { let system = cases_of about.now in
         let states = aim_states aim.now in
-        let owed = said_own 0 system states (pieces_list node.now) (map pieces_list (children_of node.now)) in
+        let owed = node_owes 0 system states (pieces_list node.now) (map pieces_list (children_of node.now)) in
         IsTrue result ↔ AllZip (λ o p. ProofShape o.owed p) owed (proofs_of node.now) }
 {
     let mut shaper = Shaper {

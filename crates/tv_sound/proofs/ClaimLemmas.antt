@@ -13,20 +13,19 @@ use Rattle.tv_cert.specs.declared.node.Node.{Node}
 use Rattle.tv_cert.specs.declared.node.Verdict.{Verdict}
 use Rattle.tv_cert.specs.declared.node.Verdict.TheVariants.{Proved, Disproved}
 use Rattle.tv_cert.specs.Claims.{IsClaim, about_with, shown}
-use Rattle.tv_cert.specs.Nodes.{pieces_of, root_entry, obligations}
+use Rattle.tv_cert.specs.Nodes.{pieces_of, root_entry, obligations, entries, node_entries, HasParts}
 use Rattle.tv_cert.specs.FirstFailing.{IsFirstFailing}
 use Rattle.tv_cert.specs.Obligations.{AllMet}
 use Rattle.tv_sound.proofs.NodesSound.{AllMet-left, AllMet-right}
 use Rattle.tv_cert.specs.Plain.{about_of}
-use Rattle.tv_cert.specs.Said.{said_entries, HasParts}
 use Rattle.tv_cert.specs.Shapes.{HasShape, VerdictShape}
 use Rattle.tv_cert.specs.Statements.{Statement, stated}
-use Rattle.tv_cert.proofs.SaidNodes.{fits_parts}
+use Rattle.tv_cert.proofs.EntryLists.{fits_parts}
 use Rattle.tv_cert.proofs.ShapeFits.{shape_fits}
 use Rattle.tv_cert.specs.declared.failing.Failing.{Failing}
 use Rattle.tv_shape.specs.declared.certificate.Certificate.{Certificate}
 use Rattle.tv_shape.specs.Certificates.{IsOf}
-use Rattle.tv_cert.proofs.SaidLemmas.{entries-stated}
+use Rattle.tv_cert.proofs.StatedLemmas.{root_same}
 use Rattle.tv_sound.specs.Following.{FollowsFrom}
 use Rattle.tv_sound.specs.Settled.{IsSettled}
 use Rattle.tv_sound.proofs.Ending.{ends_negated}
@@ -38,41 +37,37 @@ use Rattle.tv_sound.proofs.Claimed.{shown_of, ValuesCounted, claim_sound, claim_
 pub aim_is : (system : CaseSystem) (n : ℕ) (claim : Claim) (v w : Verdict) (s : Statement) → s ≡ stated (comparison_lists n) (shown claim v) → n ≡ system.variables → v ≡ w → s ≡ stated (comparison_lists system.variables) (shown claim w)
 aim_is system n claim v w s h e f = h ∙ (λ i. stated (comparison_lists (e i)) (shown claim (f i)))
 
-root_same : (system : CaseSystem) (ps : List Marked) (verdict : Verdict) → root_entry (about_of system) ps verdict ≡ root_entry (about_with system) ps verdict
-root_same system ps (Proved start) = refl
-root_same system ps (Disproved k values) = refl
-
 owed_is : (system : CaseSystem) (f : Property) (s : Statement) (root : Node) (verdict : Verdict) → s ≡ stated (about_with system).tests f
-    → said_entries 0 system s root ++ root_entry (about_of system) (pieces_of root) verdict ∷ [] ≡ obligations (about_with system) f root verdict
+    → node_entries 0 system s root ++ root_entry (about_of system) (pieces_of root) verdict ∷ [] ≡ obligations (about_with system) f root verdict
 owed_is system f s root verdict same =
-    (λ i. said_entries 0 system (same i) root ++ root_entry (about_of system) (pieces_of root) verdict ∷ [])
-    ∙ (λ i. entries-stated 0 (about_with system) f root i ++ root_same system (pieces_of root) verdict i ∷ [])
+    (λ i. node_entries 0 system (same i) root ++ root_entry (about_of system) (pieces_of root) verdict ∷ [])
+    ∙ (λ i. entries 0 (about_with system) f root ++ root_same system (pieces_of root) verdict i ∷ [])
 
 module _ (system : CaseSystem) (f : Property) (c : Certificate) (s : Statement) (same : s ≡ stated (comparison_lists system.variables) f) (fits : IsOf (about_with system) f c) where
-  pub owed : said_entries 0 system s c.root ++ root_entry (about_of system) (pieces_of c.root) c.verdict ∷ [] ≡ obligations (about_with system) f c.root c.verdict
+  pub owed : node_entries 0 system s c.root ++ root_entry (about_of system) (pieces_of c.root) c.verdict ∷ [] ≡ obligations (about_with system) f c.root c.verdict
   owed = owed_is system f s c.root c.verdict same
 
   pub has_parts : HasParts s c.root
   has_parts = subst (λ t. HasParts t c.root) (sym same) (fits_parts (about_with system) system.variables f c.root (shape_fits (about_with system) f c.root fits.fits.nodes.shape))
 
-  pub has_room : length (said_entries 0 system s c.root) + 1 < 2 ^ 64
+  pub has_room : length (node_entries 0 system s c.root) + 1 < 2 ^ 64
   has_room =
       let many = ap length owed in
-      let parts = length-append (said_entries 0 system s c.root) (root_entry (about_of system) (pieces_of c.root) c.verdict ∷ []) in
+      let parts = length-append (node_entries 0 system s c.root) (root_entry (about_of system) (pieces_of c.root) c.verdict ∷ []) in
       let room = fits.few_obligations in
       omega (arith, many, parts, room)
 
   -- as many obligations as the nodes owe, and one more
-  pub all_counted : length (said_entries 0 system s c.root) + 1 ≡ length (obligations (about_with system) f c.root c.verdict)
+  pub all_counted : length (node_entries 0 system s c.root) + 1 ≡ length (obligations (about_with system) f c.root c.verdict)
   all_counted =
       let many = ap length owed in
-      let parts = length-append (said_entries 0 system s c.root) (root_entry (about_of system) (pieces_of c.root) c.verdict ∷ []) in
+      let parts = length-append (node_entries 0 system s c.root) (root_entry (about_of system) (pieces_of c.root) c.verdict ∷ []) in
       omega (arith, many, parts)
 
   -- none of those that the nodes owe fails where all are met
-  pub none_fails : AllMet (obligations (about_with system) f c.root c.verdict) → (failing : Failing) → IsFirstFailing (said_entries 0 system s c.root) 0 failing → ⊥
+  pub none_fails : AllMet (obligations (about_with system) f c.root c.verdict) → (failing : Failing) → IsFirstFailing (node_entries 0 system s c.root) 0 failing → ⊥
   none_fails met failing h =
-      let es = said_entries 0 system s c.root in
+      let es = node_entries 0 system s c.root in
       let all = AllMet-left es (root_entry (about_of system) (pieces_of c.root) c.verdict ∷ []) (subst AllMet (sym owed) met) in
       h.fails (AllMet-right h.before (h.failing ∷ h.after) (subst AllMet h.parts all)).0
 

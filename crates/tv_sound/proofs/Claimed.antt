@@ -13,8 +13,8 @@ use Rattle.tv_cert.specs.declared.node.Verdict.{Verdict}
 use Rattle.tv_cert.specs.declared.node.Verdict.TheVariants.{Proved, Disproved}
 use Rattle.tv_cert.specs.Claims.{about_with}
 use Rattle.tv_cert.specs.Pieces.{place_of, rows_of, pieces_at}
-use Rattle.tv_cert.specs.Obligations.{AllMet, PointMet, own_of, paired}
-use Rattle.tv_cert.specs.Nodes.{kid_pieces, parts, kid_entries, entries, obligations}
+use Rattle.tv_cert.specs.Obligations.{AllMet, PointMet, paired}
+use Rattle.tv_cert.specs.Nodes.{kid_pieces, parts, kid_entries, entries, obligations, own_of}
 use Rattle.tv_cert.specs.Fits.{NodeFits}
 use Rattle.tv_cert.proofs.PieceLemmas.{piece_got}
 use Rattle.tv_sound.specs.Following.{Spot, offered, offered_at, all_offered, onward, followed, Follows}

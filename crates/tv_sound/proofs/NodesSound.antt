@@ -24,9 +24,10 @@ use Rattle.tv_cert.specs.declared.node.Node.{Node, Node', Row_of-Node, end_of-No
 use Rattle.tv_cert.specs.Pieces.{place_of, goes, InMarked, InPieces}
 use Rattle.tv_cert.specs.Targets.{no_fall, owed_nothing}
 use Rattle.tv_cert.specs.Obligations as obligations
-use Rattle.tv_cert.specs.Obligations.{About, Obligation, Entry, AllMet, cover_of, atom_of, steps_of, choice_of, choice_into, step_fall, choice_fall, truth_targets, hold_side, end_sides, go_of, fix_of, piece_of, own_of, paired}
-use Rattle.tv_cert.specs.Nodes.{pieces_of, kid_pieces, parts, entries, kid_entries, size}
+use Rattle.tv_cert.specs.Obligations.{About, Obligation, Entry, AllMet, cover_of, atom_of, steps_of, choice_of, choice_into, step_fall, choice_fall, truth_targets, hold_side, end_sides, go_of, fix_of, paired}
+use Rattle.tv_cert.specs.Nodes.{pieces_of, kid_pieces, parts, entries, kid_entries, size, piece_of, own_of}
 use Rattle.tv_cert.specs.Fits.{PieceFits, ProofFits, OwnFits, NodeFits, KidsFit}
+use Rattle.tv_cert.proofs.StatedLemmas.{entries_are}
 use Rattle.tv_cert.proofs.PieceLemmas.{true_test, test_true}
 use Rattle.tv_sound.proofs.Shown.{AllStepsCovered, HasChoice}
 use Rattle.tv_sound.proofs.Entering.{piece_covered}
@@ -225,9 +226,10 @@ mutual
   -- where the entries of a node and of those below it are true, its formula holds at every state of its region
   pub node_sound : (about : About) → TestsShow about → (number : ℕ) (f : Property) (node : Node) → NodeFits about.system.variables f node → AllMet (entries number about f node) → (s : State) → length s.values ≡ about.system.variables → InPieces (pieces_of node) s → Holds (CaseSteps about.system) f s
   node_sound about tests number f (Node' ps m shape kids proofs) fits met s wide h =
+      let owed = subst AllMet (entries_are number about f ps m shape kids proofs) met in
       own_sound number about tests m ps (kid_pieces kids) proofs.items f
-      (kids_sound about tests (number + 1) (parts f) kids fits.1 (AllMet-left (kid_entries (number + 1) about (parts f) kids) _ met))
-      fits.0 (AllMet-right (kid_entries (number + 1) about (parts f) kids) _ met) s (placed about.system.variables ps s wide h)
+      (kids_sound about tests (number + 1) (parts f) kids fits.1 (AllMet-left (kid_entries (number + 1) about (parts f) kids) _ owed))
+      fits.0 (AllMet-right (kid_entries (number + 1) about (parts f) kids) _ owed) s (placed about.system.variables ps s wide h)
 
   kids_sound : {k : _} (about : About) → TestsShow about → (number : ℕ) (fs : Properties) (kids : Row_of-Node k) → KidsFit about.system.variables fs kids → AllMet (kid_entries number about fs kids) → KidsSound about fs (kid_pieces kids)
   kids_sound about tests number none end_of-Node fits met = tt

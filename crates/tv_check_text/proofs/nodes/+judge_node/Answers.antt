@@ -3,7 +3,7 @@ use Rattle.tv_cases.specs.Systems.{cases_of}
 use Rattle.tv_cert.specs.AimViews.{aim_states}
 use Rattle.tv_cert.specs.declared.node.Marked.{Marked}
 use Rattle.tv_cert.specs.Listed.{pieces_list}
-use Rattle.tv_cert.specs.Said.{said_own}
+use Rattle.tv_cert.specs.Nodes.{node_owes}
 use Rattle.tv_cert.specs.Statements.{parts_of, part_at, count}
 use Rattle.tv_cert_reader.specs.NodeGrammar.{node}
 use Rattle.tv_cert_reader.specs.Reading.{FailsBy, Takes}
@@ -85,7 +85,7 @@ returns-in_err-judge_own-clause-judged t c =
     let many : length c.children.children.items ≡ count (parts_of s) = (let e = c.argument_count-i-end.ensures in let b = c.children-test.false in let n = o.1 in let m = o.2 in omega (arith, e, b, n, m)) in
     at_exit (JudgesNode system s c.args.judge.now c.judge_own.new.judge) c.from_residual-in_err-judge_own.result f c.from_residual-in_err-judge_own.ensures.1
     (own_stops system s c.args.judge.now c.children.judge c.in_ok-pieces.pieces c.in_ok-pieces.ranks c.children.children.items stands many f
-    (subst (λ ks. JudgesOwn (said_own c.args.judge.now.nodes system s c.in_ok-pieces.pieces (map pieces_list ks)) c.children.judge c.judge_own.new.judge (Err f)) c.deref.ensures.value c.in_err-judge_own.ensures))
+    (subst (λ ks. JudgesOwn (node_owes c.args.judge.now.nodes system s c.in_ok-pieces.pieces (map pieces_list ks)) c.children.judge c.judge_own.new.judge (Err f)) c.deref.ensures.value c.in_err-judge_own.ensures))
 
 pub returns-clause-judged : goal.returns-clause-judged
 returns-clause-judged t c =
@@ -95,7 +95,7 @@ returns-clause-judged t c =
     let stands = subst (λ (ps : List Marked). Stands system s c.args.judge.now c.children.judge ps c.in_ok-pieces.ranks c.children.children.items) c.pieces.view_is o.0 in
     let many : length c.children.children.items ≡ count (parts_of s) = (let e = c.argument_count-i-end.ensures in let b = c.children-test.false in let n = o.1 in let m = o.2 in omega (arith, e, b, n, m)) in
     node_judged system s c.args.judge.now c.children.judge c.judge_own.new.judge c.in_ok-pieces.pieces c.in_ok-pieces.ranks c.children.children c.kind_of.ensures.said stands many
-    (subst (λ ks. AreJudged (said_own c.args.judge.now.nodes system s c.in_ok-pieces.pieces (map pieces_list ks)) c.children.judge c.judge_own.new.judge) c.deref.ensures.value c.in_ok-judge_own.ensures)
+    (subst (λ ks. AreJudged (node_owes c.args.judge.now.nodes system s c.in_ok-pieces.pieces (map pieces_list ks)) c.children.judge c.judge_own.new.judge) c.deref.ensures.value c.in_ok-judge_own.ensures)
     _ (sym (pieces_in_node c.in_ok-pieces.pieces c.in_ok-pieces.ranks c.new.result c.new-2.result))
 
 pub returns-clause-few : goal.returns-clause-few

@@ -8,7 +8,7 @@ use Rattle.tv_cert.specs.declared.node.Mark.TheVariants.{Go}
 use Rattle.tv_cert.specs.declared.node.Marked.{Marked}
 use Rattle.tv_cert.specs.Claims.{about_with}
 use Rattle.tv_cert.specs.Listed.{pieces_list}
-use Rattle.tv_cert.specs.Obligations.{piece_of}
+use Rattle.tv_cert.specs.Nodes.{piece_of}
 use Rattle.tv_region.specs.Regions.{IsPieceOf, IsRegion}
 use Rattle.tv_region.specs.StepRegions.{InState}
 use Rattle.tv_pre.specs.Around.{Around, next_of}

@@ -6,7 +6,7 @@ use Rattle.tv_cert.specs.declared.node.Node.{out-Node}
 use Rattle.tv_shape.proofs.NumberLemmas.{own_within}
 use Rattle.tv_cert.specs.AimViews.{aim_states}
 use Rattle.tv_cert.specs.Listed.{pieces_list}
-use Rattle.tv_cert.specs.Said.{said_own}
+use Rattle.tv_cert.specs.Nodes.{node_owes}
 use Rattle.tv_cert.proofs.PieceLemmas.{test_true, true_test}
 use Rattle.tv_shape.specs.Parts.{children_of, proofs_of}
 use Rattle.tv_shape.proofs.ShaperLemmas.{Offered, taken_all, taken_fails, none_left, left_none}
@@ -27,8 +27,8 @@ returns-then-not-visit_pieces c =
     let system = cases_of c.args.about.now in
     let s = aim_states c.args.aim.now in
     let node = c.args.node.now in
-    let os = said_own 0 system s (pieces_list c.args.node.now) (map pieces_list c.deref-2.result.now) in
-    let same : Offered os c.deref.result.now ≡ Offered (said_own 0 system s (pieces_list node) (map pieces_list (children_of node))) (proofs_of node) = (λ i. Offered (said_own 0 system s (pieces_list c.args.node.now) (map pieces_list (c.deref-2.ensures.value i))) (c.deref.ensures.value i)) in
+    let os = node_owes 0 system s (pieces_list c.args.node.now) (map pieces_list c.deref-2.result.now) in
+    let same : Offered os c.deref.result.now ≡ Offered (node_owes 0 system s (pieces_list node) (map pieces_list (children_of node))) (proofs_of node) = (λ i. Offered (node_owes 0 system s (pieces_list c.args.node.now) (map pieces_list (c.deref-2.ensures.value i))) (c.deref.ensures.value i)) in
     (λ t. cc, λ h. absurd (taken_fails os _ c.visit_pieces.new.visitor c.if-not-visit_pieces.ensures.0 (subst (λ (x : Type 0). x) (sym same) h)))
 
 pub returns : goal.returns
@@ -36,8 +36,8 @@ returns c =
     let system = cases_of c.args.about.now in
     let s = aim_states c.args.aim.now in
     let node = c.args.node.now in
-    let os = said_own 0 system s (pieces_list c.args.node.now) (map pieces_list c.deref-2.result.now) in
-    let same : Offered os c.deref.result.now ≡ Offered (said_own 0 system s (pieces_list node) (map pieces_list (children_of node))) (proofs_of node) = (λ i. Offered (said_own 0 system s (pieces_list c.args.node.now) (map pieces_list (c.deref-2.ensures.value i))) (c.deref.ensures.value i)) in
+    let os = node_owes 0 system s (pieces_list c.args.node.now) (map pieces_list c.deref-2.result.now) in
+    let same : Offered os c.deref.result.now ≡ Offered (node_owes 0 system s (pieces_list node) (map pieces_list (children_of node))) (proofs_of node) = (λ i. Offered (node_owes 0 system s (pieces_list c.args.node.now) (map pieces_list (c.deref-2.ensures.value i))) (c.deref.ensures.value i)) in
     let all = taken_all os _ c.visit_pieces.new.visitor c.if-not-visit_pieces.ensures.0 in
     let left = c.visit_pieces.new.visitor.proofs.now in (
       λ t. subst (λ (x : Type 0). x) same (all.0 (none_left left (true_test (length left) 0 (sym c.is_empty.ensures ∙ t)))),

@@ -8,17 +8,16 @@ use Rattle.tv_cert.specs.declared.node.Node.{Node}
 use Rattle.tv_cert.specs.declared.node.Verdict.{Verdict}
 use Rattle.tv_cert.specs.AimViews.{aim_states}
 use Rattle.tv_cert.specs.Claims.{shown}
-use Rattle.tv_cert.specs.Nodes.{size, pieces_of, root_entry}
+use Rattle.tv_cert.specs.Nodes.{size, pieces_of, root_entry, node_entries, HasParts}
 use Rattle.tv_cert.specs.Plain.{about_of}
-use Rattle.tv_cert.specs.Said.{said_entries, HasParts}
 use Rattle.tv_cert.specs.Statements.{Statement, stated}
 use Rattle.tv_cert.specs.declared.failing.Failing.{Failing}
 use Rattle.tv_cert.specs.FirstFailing.{Checks}
 use Rattle.tv_sound.proofs.ClaimLemmas.{aim_is, owed, has_parts, has_room, settled, follows, on_ok}
 use Rattle.tv_sound.proofs.claims.check_claim.Goals as goal
 
-checked : (system : CaseSystem) (s : Statement) (r r' : Node) (v v' : Verdict) (result : Result (Unit {0}) Failing) → r ≡ r' → v ≡ v' → Checks (said_entries 0 system s r ++ root_entry (about_of system) (pieces_of r) v ∷ []) result → Checks (said_entries 0 system s r' ++ root_entry (about_of system) (pieces_of r') v' ∷ []) result
-checked system s r r' v v' result e f h = subst (λ (x : Type 0). x) (λ i. Checks (said_entries 0 system s (e i) ++ root_entry (about_of system) (pieces_of (e i)) (f i) ∷ []) result) h
+checked : (system : CaseSystem) (s : Statement) (r r' : Node) (v v' : Verdict) (result : Result (Unit {0}) Failing) → r ≡ r' → v ≡ v' → Checks (node_entries 0 system s r ++ root_entry (about_of system) (pieces_of r) v ∷ []) result → Checks (node_entries 0 system s r' ++ root_entry (about_of system) (pieces_of r') v' ∷ []) result
+checked system s r r' v v' result e f h = subst (λ (x : Type 0). x) (λ i. Checks (node_entries 0 system s (e i) ++ root_entry (about_of system) (pieces_of (e i)) (f i) ∷ []) result) h
 
 pub check-requires-clause-parts : goal.check-requires-clause-parts
 check-requires-clause-parts c =
@@ -32,7 +31,7 @@ check-requires-clause-room c =
     let system = cases_of c.args.about.now in
     let cert = c.args.certificate.now in
     let same = aim_is system _ c.args.claim.now _ cert.verdict _ c.aim.ensures c.requires.variables c.verdict-verdict.ensures in
-    subst (λ r. length (said_entries 0 system (aim_states c.aim.result.now) r) + 1 < 2 ^ 64) (sym c.root.ensures) (has_room system (shown c.args.claim.now cert.verdict) cert (aim_states c.aim.result.now) same c.requires.fits)
+    subst (λ r. length (node_entries 0 system (aim_states c.aim.result.now) r) + 1 < 2 ^ 64) (sym c.root.ensures) (has_room system (shown c.args.claim.now cert.verdict) cert (aim_states c.aim.result.now) same c.requires.fits)
 
 pub check-requires-clause-nodes : goal.check-requires-clause-nodes
 check-requires-clause-nodes c = subst (λ r. size r < 2 ^ 32) (sym c.root.ensures) c.requires.fits.few_nodes

@@ -3,7 +3,7 @@ use Rattle.tv_cases.specs.Systems.{cases_of}
 use Rattle.tv_cert.specs.AimViews.{aim_states}
 use Rattle.tv_cert.specs.declared.node.Marked.{Marked}
 use Rattle.tv_cert.specs.Listed.{pieces_list}
-use Rattle.tv_cert.specs.Said.{said_own}
+use Rattle.tv_cert.specs.Nodes.{node_owes}
 use Rattle.tv_cert.specs.Statements.{parts_of, part_at, count}
 use Rattle.tv_cert_reader.specs.NodeGrammar.{node}
 use Rattle.tv_cert_reader.specs.Nodes.{ReadsNode}
@@ -66,7 +66,7 @@ returns-in_err-proofs-clause-read t c =
     let opened = subst (λ (ps : List Marked). Opened system s c.args.cursor.now c.children.cursor ps c.in_ok-pieces.ranks c.children.children.items) c.pieces.view_is o.0 in
     at_exit (ReadsNode system s c.args.cursor.now c.proofs.new.cursor) c.from_residual-in_err-proofs.result c.in_err-proofs.field-0.0 c.from_residual-in_err-proofs.ensures.1
     (proofs_fail system s c.args.cursor.now c.children.cursor c.in_ok-pieces.pieces c.in_ok-pieces.ranks c.children.children.items opened (let e = c.argument_count-i-end.ensures in let b = c.children-test.false in let n = o.1 in let m = o.2 in omega (arith, e, b, n, m)) c.in_err-proofs.field-0.0
-    (subst (λ (x : Type 0). x) (λ i. ReadsProofs (said_own 0 system s c.in_ok-pieces.pieces (map pieces_list (c.deref.ensures.value i))) c.children.cursor c.proofs.new.cursor (Err c.in_err-proofs.field-0.0)) c.in_err-proofs.ensures))
+    (subst (λ (x : Type 0). x) (λ i. ReadsProofs (node_owes 0 system s c.in_ok-pieces.pieces (map pieces_list (c.deref.ensures.value i))) c.children.cursor c.proofs.new.cursor (Err c.in_err-proofs.field-0.0)) c.in_err-proofs.ensures))
 
 pub returns-clause-read : goal.returns-clause-read
 returns-clause-read t c =
@@ -76,7 +76,7 @@ returns-clause-read t c =
     let opened = subst (λ (ps : List Marked). Opened system s c.args.cursor.now c.children.cursor ps c.in_ok-pieces.ranks c.children.children.items) c.pieces.view_is o.0 in
     node_built system s c.args.cursor.now c.children.cursor c.proofs.new.cursor c.in_ok-pieces.pieces c.in_ok-pieces.ranks c.children.children c.in_ok-proofs.proofs c.kind_of.ensures.said opened
     (let e = c.argument_count-i-end.ensures in let b = c.children-test.false in let n = o.1 in let m = o.2 in omega (arith, e, b, n, m))
-    (subst (λ (x : Type 0). x) (λ i. AreProofsOf (said_own 0 system s c.in_ok-pieces.pieces (map pieces_list (c.deref.ensures.value i))) c.in_ok-proofs.proofs.items) c.in_ok-proofs.ensures.0)
+    (subst (λ (x : Type 0). x) (λ i. AreProofsOf (node_owes 0 system s c.in_ok-pieces.pieces (map pieces_list (c.deref.ensures.value i))) c.in_ok-proofs.proofs.items) c.in_ok-proofs.ensures.0)
     c.in_ok-proofs.ensures.1
 
 pub returns-clause-few : goal.returns-clause-few

@@ -12,7 +12,7 @@ use Rattle.tv_cases.specs.Systems.{cases_of}
 use Rattle.tv_cases.specs.Views.{case_view}
 use Rattle.tv_cert.specs.AimViews.{aim_states}
 use Rattle.tv_cert.specs.Listed.{pieces_list}
-use Rattle.tv_cert.specs.Said.{said_own}
+use Rattle.tv_cert.specs.Nodes.{node_owes}
 use Rattle.tv_shape.proofs.NumberLemmas.{own_within}
 use Rattle.tv_cert_reader.proofs.CompleteDemands.{draw_free}
 use Rattle.tv_cert_reader.proofs.ProofLemmas.{all_read, read_stopped}
@@ -33,7 +33,7 @@ visit_pieces-whole-requires c =
 pub returns-then-whole : goal.returns-then-whole
 returns-then-whole c =
     let system = cases_of c.args.self.now.about.now in
-    let os = said_own 0 system (aim_states c.args.aim.now) c.args.pieces.now (map pieces_list c.args.children.now) in
+    let os = node_owes 0 system (aim_states c.args.aim.now) c.args.pieces.now (map pieces_list c.args.children.now) in
     let w = c.visit_pieces-whole.new.visitor in
     let a = all_read os _ w c.if-whole.ensures.0 in
     let e = sym (a.added ∙ ap (λ ps. ps ++ a.proofs) c.new-2.ensures.items) in
@@ -44,7 +44,7 @@ returns c =
     let system = cases_of c.args.self.now.about.now in
     let s = aim_states c.args.aim.now in
     let kids = map pieces_list c.args.children.now in
-    let os = said_own 0 system s c.args.pieces.now kids in
+    let os = node_owes 0 system s c.args.pieces.now kids in
     let w = c.visit_pieces-whole.new.visitor in
     subst (λ d. FailsBy (each (demanded false) (map (λ o. demand_of o.owed) os)) d c.in-Some.failure) c.replace.ensures.value
     (read_stopped os _ w (draw_free 0 system s c.args.pieces.now kids) c.new-2.ensures.items c.if-whole.ensures.0 c.in-Some.failure c.in-Some.is)

@@ -5,18 +5,17 @@ use Rattle.tv_cases.specs.LinearCases.{CaseSystem}
 use Rattle.tv_cert.specs.declared.node.Node.{Node, Node', Row_of-Node, end_of-Node, more_of-Node, items-the_row-Node}
 use Rattle.tv_cert.specs.declared.node.Node.{outs-Node'}
 use Rattle.tv_cert.specs.Obligations.{About, Entry, paired}
-use Rattle.tv_cert.specs.Nodes.{parts, size}
+use Rattle.tv_cert.specs.Nodes.{parts, size, node_owes, node_entries, children_entries, own_entries, HasParts, HaveParts}
 use Rattle.tv_cert.specs.Fits.{NodeFits, KidsFit}
 use Rattle.tv_cert.specs.Listed.{pieces_list}
 use Rattle.tv_cert.specs.Statements.{Statement, Statements, no_statement, statement, parts_of, stated, stated_all}
-use Rattle.tv_cert.specs.Said.{said_own, said_entries, said_kids, said_own_entries, HasParts, HaveParts}
 use Rattle.tv_cert.proofs.NodeLemmas.{kids_of, proofs_list, out_is, kid_pieces_are}
-use Rattle.tv_cert.proofs.SaidLemmas.{parts-stated}
+use Rattle.tv_cert.proofs.StatedLemmas.{parts-stated}
 
-abbrev pub said_list : ℕ → CaseSystem → Statements → List Node → List Entry
-said_list number system ss [] = []
-said_list number system no_statement (a ∷ kids) = []
-said_list number system (statement s ss) (a ∷ kids) = said_entries number system s a ++ said_list (number + size a) system ss kids
+abbrev pub listed_entries : ℕ → CaseSystem → Statements → List Node → List Entry
+listed_entries number system ss [] = []
+listed_entries number system no_statement (a ∷ kids) = []
+listed_entries number system (statement s ss) (a ∷ kids) = node_entries number system s a ++ listed_entries (number + size a) system ss kids
 
 abbrev pub parts_list : Statements → List Node → Type 0
 parts_list no_statement [] = Unit {0}
@@ -24,11 +23,11 @@ parts_list no_statement (a ∷ kids) = ⊥
 parts_list (statement s ss) [] = ⊥
 parts_list (statement s ss) (a ∷ kids) = HasParts s a × parts_list ss kids
 
-said_list_is : {k : _} (number : ℕ) (system : CaseSystem) (ss : Statements) (kids : Row_of-Node k) → said_kids number system ss kids ≡ said_list number system ss (items-the_row-Node k kids)
-said_list_is number system no_statement end_of-Node = refl
-said_list_is number system (statement s ss) end_of-Node = refl
-said_list_is number system no_statement (more_of-Node a kids) = refl
-said_list_is number system (statement s ss) (more_of-Node a kids) = ap (λ es. said_entries number system s a ++ es) (said_list_is (number + size a) system ss kids)
+listed_entries_are : {k : _} (number : ℕ) (system : CaseSystem) (ss : Statements) (kids : Row_of-Node k) → children_entries number system ss kids ≡ listed_entries number system ss (items-the_row-Node k kids)
+listed_entries_are number system no_statement end_of-Node = refl
+listed_entries_are number system (statement s ss) end_of-Node = refl
+listed_entries_are number system no_statement (more_of-Node a kids) = refl
+listed_entries_are number system (statement s ss) (more_of-Node a kids) = ap (λ es. node_entries number system s a ++ es) (listed_entries_are (number + size a) system ss kids)
 
 parts_list_is : {k : _} (ss : Statements) (kids : Row_of-Node k) → HaveParts ss kids → parts_list ss (items-the_row-Node k kids)
 parts_list_is no_statement end_of-Node h = tt
@@ -36,19 +35,19 @@ parts_list_is no_statement (more_of-Node a kids) h = absurd h
 parts_list_is (statement s ss) end_of-Node h = absurd h
 parts_list_is (statement s ss) (more_of-Node a kids) h = (h.0, parts_list_is ss kids h.1)
 
-pub said_are : (number : ℕ) (system : CaseSystem) (s : Statement) (node : Node) → said_entries number system s node ≡ said_list (number + 1) system (parts_of s) (kids_of node) ++ said_own_entries number system s node
-said_are number system s (Node' ps m shape kids proofs) =
-    ap (λ es. es ++ said_own_entries number system s (Node' ps m shape kids proofs)) (said_list_is (number + 1) system (parts_of s) kids ∙ ap (said_list (number + 1) system (parts_of s)) (sym (out_is ps m shape kids proofs)))
+pub node_entries_are : (number : ℕ) (system : CaseSystem) (s : Statement) (node : Node) → node_entries number system s node ≡ listed_entries (number + 1) system (parts_of s) (kids_of node) ++ own_entries number system s node
+node_entries_are number system s (Node' ps m shape kids proofs) =
+    ap (λ es. es ++ own_entries number system s (Node' ps m shape kids proofs)) (listed_entries_are (number + 1) system (parts_of s) kids ∙ ap (listed_entries (number + 1) system (parts_of s)) (sym (out_is ps m shape kids proofs)))
 
 pub parts_are : (s : Statement) (node : Node) → HasParts s node → parts_list (parts_of s) (kids_of node)
 parts_are s (Node' ps m shape kids proofs) h = subst (parts_list (parts_of s)) (sym (out_is ps m shape kids proofs)) (parts_list_is (parts_of s) kids h)
 
-pub said_own_are : (number : ℕ) (system : CaseSystem) (s : Statement) (node : Node) → said_own_entries number system s node ≡ paired (said_own number system s (pieces_list node) (map pieces_list (kids_of node))) (proofs_list node)
-said_own_are number system s (Node' ps m shape kids proofs) =
+pub own_entries_are : (number : ℕ) (system : CaseSystem) (s : Statement) (node : Node) → own_entries number system s node ≡ paired (node_owes number system s (pieces_list node) (map pieces_list (kids_of node))) (proofs_list node)
+own_entries_are number system s (Node' ps m shape kids proofs) =
     let a = ap (λ x. x.pieces) (outs-Node' ps m shape kids proofs) in
     let b = kid_pieces_are kids ∙ ap (map pieces_list) (sym (out_is ps m shape kids proofs)) in
     let c = ap (λ x. x.proofs.items) (outs-Node' ps m shape kids proofs) in
-    (λ i. paired (said_own number system s (sym a i) (b i)) (sym c i))
+    (λ i. paired (node_owes number system s (sym a i) (b i)) (sym c i))
 
 -- a node that fits a formula has a child for each argument of what it states
 mutual
