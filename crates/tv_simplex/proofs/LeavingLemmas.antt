@@ -15,7 +15,7 @@ use Rattle.tv_simplex.specs.Chains.{order, column}
 use Rattle.tv_simplex.specs.Orders.{LeastOf, against}
 use Rattle.tv_simplex.specs.Ratios.{Ratio, IsRatio, IsQuotient, Shows}
 use Rattle.tv_simplex.specs.Rows.{ratio}
-use Rattle.tv_simplex.specs.Choosing.{IsSignOf, ComparesAt, difference_at, IsLexicographic, Compares, NoneAbove, IsLeast}
+use Rattle.tv_simplex.specs.Choosing.{IsPicture, IsSignOf, ComparesAt, difference_at, IsLexicographic, Compares, NoneAbove, IsLeast}
 
 turned : (k e x y w d : ℤ) → k *ℤ (x -ℤ y) ≡ e *ℤ w → d ≡ pos 0 -ℤ w → k *ℤ (y -ℤ x) ≡ e *ℤ d
 turned k e x y w d h g =
@@ -47,17 +47,43 @@ compares_at last c o first second p q result c_in o_in pf ps hp hq e u v scale p
     (quotients_compared last c scale positive first second u v c_in fs gs o o_in (ratio p) (ratio q) hp hq)
     (omega (arith, ints))
 
+value_zero : (h : Ratio) (w s : ℤ) → IsRatio h w s → h.numerator ≡ pos 0 → w ≡ pos 0
+value_zero h w s r z = is_zero h.denominator w r.positive (*ℤ_comm h.denominator w ∙ sym r.same ∙ zero_times h.numerator s z)
+
 -- where both rows have 0 their quotients are equal
-pub both_zero : (last c o : ℕ) (first second : ℕ → Ratio) (f g : Fraction) → o ≤ last → ratio f ≡ first o → ratio g ≡ second o → f.numerator ≡ pos 0 → g.numerator ≡ pos 0 → ComparesAt last c o first second Equal
-both_zero last c o first second f g o_in fe ge fz gz u v scale positive fs gs =
-    let a = value_zero (first o) (u o) scale (fs o o_in) (sym (ap (λ z. z.numerator) fe) ∙ fz) in
-    let b = value_zero (second o) (v o) scale (gs o o_in) (sym (ap (λ z. z.numerator) ge) ∙ gz) in
+pub both_none : (last c o : ℕ) (first second : ℕ → Ratio) → o ≤ last → (first o).numerator ≡ pos 0 → (second o).numerator ≡ pos 0 → ComparesAt last c o first second Equal
+both_none last c o first second o_in fz gz u v scale positive fs gs =
+    let a = value_zero (first o) (u o) scale (fs o o_in) fz in
+    let b = value_zero (second o) (v o) scale (gs o o_in) gz in
     let d = times_zero (u c) (v o) b in
     let e = times_zero (v c) (u o) a in
     omega (arith, ints, d, e)
-  where
-    value_zero : (h : Ratio) (w s : ℤ) → IsRatio h w s → h.numerator ≡ pos 0 → w ≡ pos 0
-    value_zero h w s r z = is_zero h.denominator w r.positive (*ℤ_comm h.denominator w ∙ sym r.same ∙ zero_times h.numerator s z)
+
+pub both_zero : (last c o : ℕ) (first second : ℕ → Ratio) (f g : Fraction) → o ≤ last → ratio f ≡ first o → ratio g ≡ second o → f.numerator ≡ pos 0 → g.numerator ≡ pos 0 → ComparesAt last c o first second Equal
+both_zero last c o first second f g o_in fe ge fz gz = both_none last c o first second o_in (sym (ap (λ z. z.numerator) fe) ∙ fz) (sym (ap (λ z. z.numerator) ge) ∙ gz)
+
+-- where one row has 0, and the other an entry above 0, their quotients are not equal
+pub first_alone : (last c o : ℕ) (first second : ℕ → Ratio) → c ≤ last → o ≤ last → pos 0 <ℤ (second c).numerator → pos 0 <ℤ (first o).numerator → (second o).numerator ≡ pos 0 → ComparesAt last c o first second Equal →
+    (u v : ℕ → ℤ) (scale : ℤ) → pos 0 <ℤ scale → IsPicture last first u scale → IsPicture last second v scale → ⊥
+first_alone last c o first second c_in o_in above here none h u v scale positive fs gs =
+    let a = value_above (first o) (u o) scale positive (fs o o_in) here in
+    let b = value_zero (second o) (v o) scale (gs o o_in) none in
+    let e = value_above (second c) (v c) scale positive (gs c c_in) above in
+    let p = above_times (v c) (u o) e a in
+    let z = times_zero (u c) (v o) b in
+    let d = h u v scale positive fs gs in
+    omega (arith, ints, p, z, d)
+
+pub second_alone : (last c o : ℕ) (first second : ℕ → Ratio) → c ≤ last → o ≤ last → pos 0 <ℤ (first c).numerator → (first o).numerator ≡ pos 0 → pos 0 <ℤ (second o).numerator → ComparesAt last c o first second Equal →
+    (u v : ℕ → ℤ) (scale : ℤ) → pos 0 <ℤ scale → IsPicture last first u scale → IsPicture last second v scale → ⊥
+second_alone last c o first second c_in o_in above none here h u v scale positive fs gs =
+    let a = value_zero (first o) (u o) scale (fs o o_in) none in
+    let b = value_above (second o) (v o) scale positive (gs o o_in) here in
+    let e = value_above (first c) (u c) scale positive (fs c c_in) above in
+    let p = above_times (u c) (v o) e b in
+    let z = times_zero (v c) (u o) a in
+    let d = h u v scale positive fs gs in
+    omega (arith, ints, p, z, d)
 
 pub quotient_of : {f g g' h h' : Ratio} → g ≡ g' → h ≡ h' → IsQuotient f g h → IsQuotient f g' h'
 quotient_of {f = f} {g' = g'} {h = h} e d r = subst (λ z. IsQuotient f g' z) d (subst (λ z. IsQuotient f z h) e r)
@@ -74,15 +100,6 @@ module _ (m n c : ℕ) (first second : ℕ → Ratio) where
     before = λ q g. (let e = before q g u v scale p fs gs in omega (arith, ints, e));
     here = (let e = here u v scale p fs gs in omega (arith, ints, e));
   }
-
-  pub equal_more : (place : ℕ) → ((q : ℕ) → q < place → ComparesAt (n + m) c (order m n q) first second Equal) → ComparesAt (n + m) c (order m n place) first second Equal → (q : ℕ) → q < place + 1 → ComparesAt (n + m) c (order m n q) first second Equal
-  equal_more place before here q l = elim (last_or_below place q l) [
-    | inl e ↦ subst (λ z. ComparesAt (n + m) c (order m n z) first second Equal) (sym e) here
-    | inr g ↦ before q g
-  ]
-    where
-      last_or_below : (p j : ℕ) → j < p + 1 → (j ≡ p) ⊎ (j < p)
-      last_or_below p j h = grind arith
 
 -- ---- the least row
 pub entry_not_above : (f : Ratio) (v s : ℤ) → pos 0 <ℤ s → IsRatio f v s → f.numerator ≤ℤ pos 0 → v ≤ℤ pos 0

@@ -26,6 +26,7 @@ pub mod TableLemmas
 pub mod TakenLemmas
 pub mod EnterLemmas
 pub mod LeavingLemmas
+pub mod OutsideLemmas
 pub mod ScaleLemmas
 pub mod StartLemmas
 pub mod AnswerLemmas

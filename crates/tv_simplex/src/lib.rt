@@ -13,6 +13,7 @@ mod fault;
 mod laws;
 mod leaving;
 mod numbers;
+mod outside;
 mod rows;
 mod scaling;
 mod settling;

@@ -24,8 +24,7 @@ fn step(alloc: Global, system: &System, table: &mut Table, column: usize) -> Res
         (λ stop. IsStepStop (equations system.now) table.new.basis.items stop) }
 {
     let columns = system.columns as usize;
-    let rows = system.rows as usize;
-    match leaving_row(table, column, rows, columns) {
+    match leaving_row(alloc, table, column, columns)? {
         None => unreachable!(),
         Some(row) => enter(alloc, table, row, column),
     }
