@@ -41,3 +41,13 @@ same_signed (negsuc x) (pos d) (pos n) (pos e) p q h k s = absurd (omega (arith,
 same_signed (pos zero) (pos d) (negsuc n) (pos zero) p q h k s = absurd (omega (arith, ints, q))
 same_signed (pos zero) (pos d) (negsuc n) (pos (suc e)) p q h k s = absurd (omega (arith, ints))
 same_signed (pos (suc x)) (pos d) (negsuc n) (pos e) p q h k s = absurd (omega (arith, ints, h (omega (arith, ints))))
+
+divides_one : (d : ℕ) → d ∣ 1 → d ≡ 1
+divides_one d h = (let l : d ≤ 1 = le_of_dvd (omega arith) h in let p : 0 < d = pos_of_dvd_of_pos h (omega arith) in omega (arith, l, p))
+
+-- whole numbers are in lowest terms, and so are those whose greatest common divisor is 1
+pub coprime_one : (a b : ℕ) → b ≡ 1 → AreCoprime a b
+coprime_one a b e d x y = divides_one d (subst (λ z. d ∣ z) e y)
+
+pub coprime_gcd : (a b g : ℕ) → IsGcd a b g → g ≡ 1 → AreCoprime a b
+coprime_gcd a b g h e d x y = divides_one d (subst (λ z. d ∣ z) e (h.2 d x y))

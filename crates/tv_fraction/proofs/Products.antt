@@ -1,4 +1,4 @@
-use Rattle.std.proofs.Common.{◌≡◌, ℕ, zero, suc, ◌+◌, ◌*◌, ◌^◌, ◌<◌, ◌≤◌, arith, ap, refl, ◌∙◌, ℤ, pos, negsuc, neg_ℤ, ◌-ℤ◌, ◌*ℤ◌, ◌<ℤ◌, unsigned_abs, FitsSigned}
+use Rattle.std.proofs.Common.{◌≡◌, ℕ, zero, suc, ◌+◌, ◌*◌, ◌^◌, ◌<◌, ◌≤◌, arith, ap, refl, sym, ◌∙◌, ℤ, pos, negsuc, neg_ℤ, ◌-ℤ◌, ◌*ℤ◌, ◌<ℤ◌, unsigned_abs, FitsSigned}
 use Rattle.std.specs.Int.{w128}
 use mir.Val.{to_z, of_z}
 use Rattle.std.proofs.lemmas.Int.{ints, to_z-of_z, unsigned_abs-mul, fits_signed_from_abs}
@@ -54,3 +54,12 @@ not_none (pos zero) b h k e = absurd (omega (arith, ints, h))
 not_none (pos (suc a)) (pos zero) h k e = k refl
 not_none (pos (suc a)) (pos (suc b)) h k e = absurd (omega (arith, ints, e))
 not_none (pos (suc a)) (negsuc b) h k e = absurd (omega (arith, ints, e))
+
+-- a difference of whole numbers as one of fractions
+pub whole_difference : (f g a d c e q h : ℤ) → d ≡ pos 1 → e ≡ pos 1 → h ≡ pos 1 → f *ℤ pos 1 ≡ (a -ℤ c *ℤ q) *ℤ g → f *ℤ (d *ℤ (e *ℤ h)) ≡ (a *ℤ (e *ℤ h) -ℤ (c *ℤ q) *ℤ d) *ℤ g
+whole_difference f g a d c e q h x y z same =
+    let under : e *ℤ h ≡ pos 1 = (λ i. y i *ℤ z i) ∙ (let o : pos 1 *ℤ pos 1 ≡ pos 1 = omega (arith, ints) in o) in
+    let all : d *ℤ (e *ℤ h) ≡ pos 1 = (λ i. x i *ℤ under i) ∙ (let o : pos 1 *ℤ pos 1 ≡ pos 1 = omega (arith, ints) in o) in
+    let first : a *ℤ (e *ℤ h) ≡ a = ap (λ w. a *ℤ w) under ∙ (let o : a *ℤ pos 1 ≡ a = omega (arith, ints) in o) in
+    let second : (c *ℤ q) *ℤ d ≡ c *ℤ q = ap (λ w. (c *ℤ q) *ℤ w) x ∙ (let o : (c *ℤ q) *ℤ pos 1 ≡ c *ℤ q = omega (arith, ints) in o) in
+    ap (λ w. f *ℤ w) all ∙ same ∙ ap (λ w. w *ℤ g) (λ i. sym first i -ℤ sym second i)

@@ -1,7 +1,7 @@
 // Exact arithmetic on narrow fractions.
 
-ghost use Rattle.std.specs.Prelude.{◌≡◌, ◌≢◌, ℕ, ◌<◌, ◌^◌, pos, ◌*ℤ◌, unsigned_abs};
-ghost use Rattle.tv_fraction.specs.Fraction.{numerator_of, IsBelow, IsNarrow, IsQuotient, IsDifference};
+ghost use Rattle.std.specs.Prelude.{◌≡◌, ◌≢◌, ◌↔◌, ℕ, ◌<◌, ◌^◌, pos, ◌-ℤ◌, ◌*ℤ◌, unsigned_abs, IsTrue};
+ghost use Rattle.tv_fraction.specs.Fraction.{numerator_of, denominator_of, IsBelow, IsNarrow, IsRatio, IsQuotient, IsDifference};
 
 use crate::Fraction;
 
@@ -25,6 +25,30 @@ fn long_product(a: i128, b: i128) -> i128
     a * b
 }
 
+fn are_whole(a: &Fraction, c: &Fraction, q: &Fraction) -> bool
+    ensures { IsTrue result ↔ (denominator_of a.now ≡ pos 1) × (denominator_of c.now ≡ pos 1) × (denominator_of q.now ≡ pos 1) }
+{
+    a.denominator == 1 && c.denominator == 1 && q.denominator == 1
+}
+
+fn is_one(fraction: &Fraction) -> bool
+    ensures { IsTrue result ↔ (numerator_of fraction.now ≡ pos 1) × (denominator_of fraction.now ≡ pos 1) }
+{
+    fraction.numerator == 1 && fraction.denominator == 1
+}
+
+/// The whole number `a - c * q`.
+fn whole_mul_sub(a: i128, c: i128, q: i128) -> Fraction
+    requires a_narrow { unsigned_abs a < 2 ^ 40 }
+    requires c_narrow { unsigned_abs c < 2 ^ 40 }
+    requires q_narrow { unsigned_abs q < 2 ^ 40 }
+    ensures value { IsRatio result (a -ℤ c *ℤ q) (pos 1) }
+    ensures bound { IsBelow (2 ^ 121) result }
+{
+    let taken = short_product(c, q);
+    Fraction::new(a - taken, 1)
+}
+
 /// The exact value of `a - c * q`.
 pub fn mul_sub(a: &Fraction, c: &Fraction, q: &Fraction) -> Fraction
     requires a_narrow { IsNarrow a.now }
@@ -33,6 +57,9 @@ pub fn mul_sub(a: &Fraction, c: &Fraction, q: &Fraction) -> Fraction
     ensures value { IsDifference result a.now c.now q.now }
     ensures bound { IsBelow (2 ^ 121) result }
 {
+    if are_whole(a, c, q) {
+        return whole_mul_sub(a.numerator, c.numerator, q.numerator);
+    }
     let under = short_product(c.denominator, q.denominator);
     let over = short_product(c.numerator, q.numerator);
     let kept = long_product(a.numerator, under);
@@ -49,6 +76,12 @@ pub fn div(a: &Fraction, b: &Fraction) -> Fraction
     ensures value { IsQuotient result a.now b.now }
     ensures bound { IsBelow (2 ^ 80) result }
 {
+    if a.numerator == 0 {
+        return *a;
+    }
+    if is_one(b) {
+        return *a;
+    }
     let over = short_product(a.numerator, b.denominator);
     let under = short_product(a.denominator, b.numerator);
     if under < 0 {

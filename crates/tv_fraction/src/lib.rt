@@ -36,6 +36,12 @@ impl Fraction {
         ensures numerator_bound { unsigned_abs (numerator_of result) ≤ unsigned_abs numerator }
         ensures denominator_bound { unsigned_abs (denominator_of result) ≤ unsigned_abs denominator }
     {
+        if denominator == 1 {
+            return Fraction {
+                numerator,
+                denominator,
+            };
+        }
         let (over, under) = lowest_terms(numerator.unsigned_abs(), denominator.unsigned_abs());
         Fraction {
             numerator: with_sign(numerator, over),

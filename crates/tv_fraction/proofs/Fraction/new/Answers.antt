@@ -3,11 +3,11 @@ use Rattle.std.specs.Int.{w128}
 use mir.Val.{to_z, of_z}
 use Prim.Native.Nat.{◌∣◌}
 use Rattle.std.proofs.lemmas.Int.{ints, to_z-of_z, to_z_pos}
-use Rattle.tv_fraction.proofs.LowestTerms.{same_signed}
+use Rattle.tv_fraction.proofs.LowestTerms.{same_signed, coprime_one}
 use Rattle.tv_fraction.proofs.Fraction.new.Goals as goal
 
-pub invariant_of-result : goal.invariant_of-result
-invariant_of-result c =
+pub invariant_of-result-2 : goal.invariant_of-result-2
+invariant_of-result-2 c =
     let f : FitsSigned w128 c.with_sign.result = search rules in
     let fd : unsigned_abs (to_z w128 (of_z w128 c.args.denominator)) ≡ unsigned_abs c.args.denominator = ap unsigned_abs (to_z-of_z w128 c.args.denominator c.ranges.denominator) in
     let m = c.lowest_terms-over.ensures.second_bound in
@@ -38,3 +38,9 @@ returns-clause-value c =
     let sn : c.args.numerator <ℤ pos 0 → c.with_sign.result ≤ℤ pos 0 = λ h. c.with_sign.ensures.negative (rw fn h) in
     let so : pos 0 ≤ℤ c.args.numerator → pos 0 ≤ℤ c.with_sign.result = λ h. c.with_sign.ensures.other (rw fn h) in
     (λ i. to_z-of_z w128 c.with_sign.result f i *ℤ c.args.denominator) ∙ same_signed c.with_sign.result c.args.denominator c.args.numerator (pos c.lowest_terms-over.result.1) c.requires.positive (omega (arith, ints, p)) sn so e ∙ (λ i. c.args.numerator *ℤ sym u i)
+
+pub invariant_of-result : goal.invariant_of-result
+invariant_of-result c = record {
+  positive = rw (to_z-of_z w128 c.args.denominator c.ranges.denominator) c.requires.positive;
+  reduced = coprime_one _ _ (ap (λ z. unsigned_abs (to_z w128 z)) c.if-denominator-eq1.true);
+}

@@ -1,5 +1,6 @@
-use Rattle.std.proofs.Common.{rules, arith, lit≤, ◌≡◌, ◌^◌, ◌*ℤ◌, sym, FitsSigned, pos, ◌∙◌, ap, neg_ℤ}
+use Rattle.std.proofs.Common.{rules, arith, lit≤, ◌≡◌, ◌^◌, ◌-ℤ◌, ◌*ℤ◌, sym, FitsSigned, pos, ◌∙◌, ap, neg_ℤ}
 use Rattle.std.specs.Int.{w128}
+use mir.Val.{to_z, of_z}
 use Rattle.std.proofs.lemmas.Int.{ints}
 use Rattle.tv_fraction.proofs.Products.{product_back, negation_is, negated_below, both_negative, not_none}
 use Rattle.tv_fraction.proofs.arithmetic.div.Goals as goal
@@ -37,3 +38,9 @@ new-requires-2-clause-positive c =
     let n : c.short_product-under.result ≡ pos 0 → ⊥ = λ z. not_none c.args.a.now.denominator c.args.b.now.numerator c.args.a.now.positive c.requires.nonzero (sym eu ∙ z) in
     let l = c.if-under-lt0.false in
     omega (arith, ints, n, l)
+
+pub new-requires-clause-numerator_fits : goal.new-requires-clause-numerator_fits
+new-requires-clause-numerator_fits c =
+    let fo : FitsSigned w128 c.short_product-over.result = search rules in
+    let b = negated_below (to_z w128 (of_z w128 (pos 0 -ℤ to_z w128 (of_z w128 c.short_product-over.result)))) c.short_product-over.result (2 ^ 80) fo c.short_product-over.ensures.bound (lit≤ tt) (omega arith) in
+    omega (arith, b)

@@ -2,7 +2,7 @@ use Rattle.std.proofs.Common.{rules, arith, ◌^◌, ◌*ℤ◌, ◌-ℤ◌, ◌
 use Rattle.std.specs.Int.{w128}
 use Rattle.std.proofs.Math.IntN.{*ℤ_comm}
 use Rattle.std.proofs.lemmas.Int.{ints, to_z-of_z}
-use Rattle.tv_fraction.proofs.Products.{abs_sub_below, product_above, product_back, difference_is}
+use Rattle.tv_fraction.proofs.Products.{abs_sub_below, product_above, product_back, difference_is, whole_difference}
 use Rattle.tv_fraction.proofs.arithmetic.mul_sub.Goals as goal
 
 pub overflow_sub-kept : goal.overflow_sub-kept
@@ -61,3 +61,15 @@ returns-clause-bound c =
     let n = ap unsigned_abs (difference_is c.long_product-kept.result c.long_product-taken.result fk ft (omega (arith, b))) in
     let d = ap unsigned_abs (to_z-of_z w128 c.long_product-denominator.result fd) in
     (omega (arith, n, b, c.new.ensures.numerator_bound), omega (arith, d, c.long_product-denominator.ensures.bound, c.new.ensures.denominator_bound))
+
+pub returns-then-are_whole-clause-value : goal.returns-then-are_whole-clause-value
+returns-then-are_whole-clause-value c =
+    let a = c.args.a.now in
+    let f = c.args.c.now in
+    let q = c.args.q.now in
+    let w = c.are_whole.ensures.0 c.if-are_whole.true in
+    let na : FitsSigned w128 a.numerator = search rules in
+    let nc : FitsSigned w128 f.numerator = search rules in
+    let nq : FitsSigned w128 q.numerator = search rules in
+    let e = c.whole_mul_sub.ensures.value ∙ ap (λ z. z *ℤ c.whole_mul_sub.result.denominator) (λ i. to_z-of_z w128 a.numerator na i -ℤ (to_z-of_z w128 f.numerator nc i *ℤ to_z-of_z w128 q.numerator nq i)) in
+    whole_difference c.whole_mul_sub.result.numerator c.whole_mul_sub.result.denominator a.numerator a.denominator f.numerator f.denominator q.numerator q.denominator w.0 w.1 w.2 e
