@@ -22,6 +22,7 @@ pub mod Faults
 pub mod AnswersMet
 pub mod Transferred
 pub mod RowLemmas
+pub mod ChosenLemmas
 pub mod TableLemmas
 pub mod TakenLemmas
 pub mod EnterLemmas

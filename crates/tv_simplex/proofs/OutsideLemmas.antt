@@ -2,8 +2,9 @@ use Rattle.std.proofs.Common.{◌≡◌, ◌⊎◌, inl, inr, ℕ, zero, suc, �
 use Rattle.std.specs.declared.cmp.Ordering.{Ordering}
 use Rattle.std.specs.declared.cmp.Ordering.TheVariants.{Less, Equal, Greater}
 use Rattle.std.proofs.lemmas.Int.{ints}
-use Rattle.std.proofs.lemmas.List.{get_or_push, get_or_append_left, get_or_default}
+use Rattle.std.proofs.lemmas.List.{get_or_default}
 use Rattle.tv_simplex.proofs.Sums.{delta-same, delta-other}
+use Rattle.tv_simplex.proofs.ChosenLemmas.{chosen_more}
 use Rattle.tv_simplex.proofs.LeavingLemmas.{both_none, first_alone, second_alone, ends_less, ends_greater}
 use Rattle.tv_simplex.specs.Chains.{order, column}
 use Rattle.tv_simplex.specs.Choosing.{ComparesAt, Compares}
@@ -14,79 +15,10 @@ use Rattle.tv_simplex.specs.Rows.{row_of}
 use Rattle.tv_simplex.specs.Tables.{at_place, place_of, shown, column_at, IsTable}
 use Rattle.tv_simplex.specs.Outside.{IsOutside, AreOutside, with_outside, IsUnitColumn, IsFirstUnit}
 
-last_or_below : (n j : ℕ) → j < n + 1 → (j ≡ n) ⊎ (j < n)
-last_or_below n j h = grind arith
-
--- ---- the list
-pub outside_none : (first : ℕ) (places : List Place) → AreOutside first first places []
-outside_none first places = record {
-  from = λ k l. absurd (omega arith);
-  below = λ k l. absurd (omega arith);
-  increasing = λ j k g l. absurd (omega arith);
-  each = λ o low high is. absurd (omega arith);
-}
-
-module _ (first end : ℕ) (places : List Place) (xs : List ℕ) (low : first ≤ end) (h : AreOutside first end places xs) where
-  here : column (xs ++ end ∷ []) (length xs) ≡ end
-  here = get_or_push xs end 0 (length xs) refl
-
-  before : (k : ℕ) → k < length xs → column (xs ++ end ∷ []) k ≡ column xs k
-  before k l = get_or_append_left xs (end ∷ []) 0 k l
-
-  kind : (k : ℕ) → k < length (xs ++ end ∷ []) → (k ≡ length xs) ⊎ (k < length xs)
-  kind k l = last_or_below (length xs) k (let n = length-append xs (end ∷ []) in omega (arith, n, l))
-
-  longer : length (xs ++ end ∷ []) ≡ length xs + 1
-  longer = length-append xs (end ∷ [])
-
-  added : AreOutside first (end + 1) places (xs ++ end ∷ [])
-  added = record {
-    from = λ k l. elim (kind k l) [
-      | inl e ↦ (let g = ap (column (xs ++ end ∷ [])) e ∙ here in omega (arith, g, low))
-      | inr g ↦ (let e = before k g in let f = h.from k g in omega (arith, e, f))
-    ];
-    below = λ k l. elim (kind k l) [
-      | inl e ↦ (let g = ap (column (xs ++ end ∷ [])) e ∙ here in omega (arith, g))
-      | inr g ↦ (let e = before k g in let f = h.below k g in omega (arith, e, f))
-    ];
-    increasing = λ j k g l. elim (kind k l) [
-      | inl e ↦ (
-          let last = ap (column (xs ++ end ∷ [])) e ∙ here in
-          let j_in : j < length xs = omega (arith, e, g) in
-          let b = before j j_in in
-          let f = h.below j j_in in
-          omega (arith, last, b, f))
-      | inr k_in ↦ (
-          let j_in : j < length xs = omega (arith, k_in, g) in
-          let a = before j j_in in
-          let b = before k k_in in
-          let f = h.increasing j k g k_in in
-          omega (arith, a, b, f))
-    ];
-    each = λ o from below is. elim (last_or_below end o below) [
-      | inl e ↦ (length xs, (let n = longer in omega (arith, n)), here ∙ sym e)
-      | inr g ↦ (
-          let f = h.each o from g is in
-          let f_in = f.1 in
-          (f.0, (let n = longer in omega (arith, n, f_in)), before f.0 f_in ∙ f.2))
-    ];
-  }
-
-  passed : (r : ℕ) → place_of places end ≡ Row r → AreOutside first (end + 1) places xs
-  passed r at = record {
-    from = h.from;
-    below = λ k l. (let f = h.below k l in omega (arith, f));
-    increasing = h.increasing;
-    each = λ o from below is. elim (last_or_below end o below) [
-      | inl e ↦ absurd (is r (ap (place_of places) e ∙ at))
-      | inr g ↦ h.each o from g is
-    ];
-  }
-
-  -- one more column
-  pub outside_more : (p : Place) (new : List ℕ) → place_of places end ≡ p → new ≡ with_outside xs end p → AreOutside first (end + 1) places new
-  outside_more (Slot k) new at e = subst (λ z. AreOutside first (end + 1) places z) (sym e) added
-  outside_more (Row r) new at e = subst (λ z. AreOutside first (end + 1) places z) (sym e) (passed r at)
+-- one more column
+pub outside_more : (first end : ℕ) (places : List Place) (xs : List ℕ) → first ≤ end → AreOutside first end places xs → (p : Place) (new : List ℕ) → place_of places end ≡ p → new ≡ with_outside xs end p → AreOutside first (end + 1) places new
+outside_more first end places xs low h (Slot k) new at e = chosen_more first end xs new low h (inl ((λ r g. (let d : Slot k ≡ Row r = sym at ∙ g in cc)), e))
+outside_more first end places xs low h (Row r) new at e = chosen_more first end xs new low h (inr ((λ out. out r at), e))
 
 -- ---- the columns of the rows
 module _ (t : Table) (n row : ℕ) (h : IsTable t) (wide : length t.places.items ≡ n + length t.basis.items + 1) where

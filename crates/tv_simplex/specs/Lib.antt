@@ -13,6 +13,7 @@ pub mod Tables
 pub mod Exchanges
 pub mod Stops
 pub mod Choosing
+pub mod Chosen
 pub mod Outside
 pub mod Scales
 pub mod Starting

@@ -1,5 +1,5 @@
 use Rattle.std.specs.Prelude.{◌≡◌, ◌⊎◌, ℕ, ◌+◌, ◌<◌, ◌≤◌, List, length, ◌++◌, ◌∷◌, []}
-use Rattle.tv_simplex.specs.Chains.{column}
+use Rattle.tv_simplex.specs.Chosen.{AreChosen}
 use Rattle.tv_simplex.specs.declared.table.Place.{Place}
 use Rattle.tv_simplex.specs.declared.table.Place.TheVariants.{Slot, Row}
 use Rattle.tv_simplex.specs.Tables.{place_of}
@@ -9,11 +9,8 @@ abbrev pub IsOutside : List Place → ℕ → Type 0
 IsOutside places o = (r : ℕ) → place_of places o ≡ Row r → ⊥
 
 -- those columns from the first to below the end that are not in the basis, in increasing order
-pub record AreOutside (first end : ℕ) (places : List Place) (outside : List ℕ) : Type 0 where
-  pub from : (k : ℕ) → k < length outside → first ≤ column outside k
-  pub below : (k : ℕ) → k < length outside → column outside k < end
-  pub increasing : (j k : ℕ) → j < k → k < length outside → column outside j < column outside k
-  pub each : (o : ℕ) → first ≤ o → o < end → IsOutside places o → (k : ℕ) × (k < length outside) × (column outside k ≡ o)
+abbrev pub AreOutside : ℕ → ℕ → List Place → List ℕ → Type 0
+AreOutside first end places outside = AreChosen (IsOutside places) first end outside
 
 -- the column at the end of the list, where it is not in the basis
 abbrev pub with_outside : List ℕ → ℕ → Place → List ℕ

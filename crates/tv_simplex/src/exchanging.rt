@@ -4,11 +4,12 @@ ghost use Rattle.std.specs.Prelude.{◌≡◌, ℕ, ◌<◌, ◌≤◌, ◌^◌,
 ghost use Rattle.tv_simplex.specs.Chains.{column as column_of};
 ghost use Rattle.tv_simplex.specs.declared.table.Place.TheVariants.{Slot, Row};
 ghost use Rattle.tv_simplex.specs.Rows.{ratio_at, row_of, IsNarrowRow, IsGrid, IsTaken, AreCleared, IsNext};
+ghost use Rattle.tv_simplex.specs.Chosen.{AreNonzero};
 ghost use Rattle.tv_simplex.specs.Stops.{IsClearingStop, IsExchangeStop, IsEnteringStop};
 ghost use Rattle.tv_simplex.specs.Tables.{shown, place_of, IsTable};
 ghost use Rattle.tv_simplex.specs.Exchanges.{AreSwapped, IsEntered};
 
-use crate::rows::{divide_row, fraction_at, put_fraction, take_from};
+use crate::rows::{divide_row, fraction_at, nonzero_places, put_fraction, take_from};
 use crate::stop::Stop;
 use crate::table::{Place, Table, unit};
 use std::alloc::{AllocError, Global};
@@ -41,12 +42,14 @@ fn clear_column(
     row: usize,
     factors: &[Fraction],
     pivots: &[Fraction],
+    places: &[usize],
 ) -> Result<(), Stop>
     requires inside { row < length rows.old }
     requires as_many { length factors.now ≡ length rows.old }
     requires factors { IsNarrowRow factors.now }
     requires grid { IsGrid (length pivots.now) rows.old }
     requires pivots { row_of rows.old row ≡ pivots.now }
+    requires places { AreNonzero pivots.now places.now }
     ensures { MatchResult result
         (λ _. AreCleared (length pivots.now) row (ratio_at factors.now) rows.old rows.new)
         (λ stop. IsClearingStop row (ratio_at factors.now) rows.old stop) }
@@ -54,7 +57,7 @@ fn clear_column(
     'rows: for i in 0..rows.len() {
         if i != row {
             let factor = fraction_at(factors, i);
-            if let Some(j) = take_from(&mut rows[i], &factor, pivots) {
+            if let Some(j) = take_from(&mut rows[i], &factor, pivots, places) {
                 return Err(Stop::Wide { row: i, column: j });
             }
         }
@@ -84,7 +87,8 @@ fn exchange(
         return Err(Stop::Wide { row, column: j });
     }
     let pivots = Vec::from_slice(alloc, &rows[row])?;
-    clear_column(rows, row, factors, &pivots)
+    let places = nonzero_places(alloc, &pivots)?;
+    clear_column(rows, row, factors, &pivots, &places)
 }
 
 /// The slot of a column outside of the basis.

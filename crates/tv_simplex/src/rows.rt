@@ -1,10 +1,13 @@
 // Rows of fractions, and what an exchange does to them.
 
-ghost use Rattle.std.specs.Prelude.{◌≡◌, ℕ, ◌<◌, length, pos, ◌<ℤ◌, IsTrue, ◌↔◌, MatchOption, Option, None, slice_set};
+ghost use Rattle.std.specs.Prelude.{◌≡◌, ℕ, ◌<◌, length, pos, ◌<ℤ◌, IsTrue, ◌↔◌, IfOk, MatchOption, Option, None, slice_set};
 ghost use Rattle.tv_fraction.specs.Fraction.{numerator_of, IsNarrow};
 ghost use Rattle.tv_simplex.specs.Ratios.{IsQuotient, IsRest};
 ghost use Rattle.tv_simplex.specs.Rows.{ratio, ratio_at, row_of, IsNarrowRatio, IsNarrowRow, AreQuotients, AreRests, IsWideQuotient, IsWideRest};
+ghost use Rattle.tv_simplex.specs.Chosen.{IsAdded, IsNonzero, AreNonzero};
 
+use crate::push::push_item;
+use std::alloc::{AllocError, Global};
 use tv_fraction::{Fraction, div, mul_sub};
 
 pub fn row_at(rows: &[Vec<Fraction>], row: usize) -> &[Fraction]
@@ -53,9 +56,6 @@ fn rest(fraction: &Fraction, factor: &Fraction, pivot: &Fraction) -> Fraction
     requires pivot { IsNarrow pivot.now }
     ensures { IsRest (ratio result) (ratio fraction.now) (ratio factor.now) (ratio pivot.now) }
 {
-    if is_zero(factor) || is_zero(pivot) {
-        return *fraction;
-    }
     mul_sub(fraction, factor, pivot)
 }
 
@@ -79,12 +79,41 @@ pub fn divide_row(row: &mut [Fraction], divisor: &Fraction) -> Option<usize>
     None
 }
 
-/// Takes the factor times the pivot row from the row, up to the first place where what is left is not narrow.
-pub fn take_from(row: &mut [Fraction], factor: &Fraction, pivots: &[Fraction]) -> Option<usize>
+/// Puts the place at the end of the list, where the fraction there is not 0.
+fn push_nonzero(places: &mut Vec<usize>, row: &[Fraction], place: usize) -> Result<(), AllocError>
+    requires { place < length row.now }
+    ensures { IfOk result (λ _. IsAdded (IsNonzero row.now) place places.old.items places.new.items) }
+{
+    if is_zero(&fraction_at(row, place)) {
+        return Ok(());
+    }
+    push_item(places, place)
+}
+
+/// The places of the row where it is not 0, in increasing order.
+pub fn nonzero_places(alloc: Global, row: &[Fraction]) -> Result<Vec<usize>, AllocError>
+    ensures { IfOk result (λ places. AreNonzero row.now places.items) }
+{
+    let mut places = Vec::new(alloc);
+    'places: for place in 0..row.len() {
+        push_nonzero(&mut places, row, place)?;
+    }
+    Ok(places)
+}
+
+/// Takes the factor times the pivot row from the row, up to the first place where what is left is not narrow. The row
+/// stays as it is where the pivot row is 0, so that only the other places are visited.
+pub fn take_from(
+    row: &mut [Fraction],
+    factor: &Fraction,
+    pivots: &[Fraction],
+    places: &[usize],
+) -> Option<usize>
     requires same { length row.old ≡ length pivots.now }
     requires row { IsNarrowRow row.old }
     requires factor { IsNarrow factor.now }
     requires pivots { IsNarrowRow pivots.now }
+    requires places { AreNonzero pivots.now places.now }
     ensures size { length row.new ≡ length row.old }
     ensures taken { result ≡ None → IsNarrowRow row.new × AreRests row.old (ratio factor.now) pivots.now row.new }
     ensures wide { MatchOption result (Unit {0}) (λ j. IsWideRest row.old (ratio factor.now) pivots.now j) }
@@ -92,14 +121,15 @@ pub fn take_from(row: &mut [Fraction], factor: &Fraction, pivots: &[Fraction]) -
     if is_zero(factor) {
         return None;
     }
-    'places: for j in 0..row.len() {
-        let old = fraction_at(row, j);
-        let pivot = fraction_at(pivots, j);
+    'places: for place in 0..places.len() {
+        let at = places[place];
+        let old = fraction_at(row, at);
+        let pivot = fraction_at(pivots, at);
         let new = rest(&old, factor, &pivot);
         if !new.is_narrow() {
-            return Some(j);
+            return Some(at);
         }
-        row[j] = new;
+        put_fraction(row, at, new);
     }
     None
 }

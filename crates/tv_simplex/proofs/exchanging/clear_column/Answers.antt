@@ -30,3 +30,19 @@ returns-in-Some c =
     let d = c.deref_mut.ensures.value ∙ row_at c.rows.rows c.rows.i c.index-rows-i.result l ∙ v.after c.rows.i (omega arith) in
     let f = c.fraction_at-factor.ensures.is in
     (c.rows-test.true, c.if-i-row.true, wide_moved (row_of c.args.rows.now c.rows.i) c.deref_mut.result.now c.args.pivots.now (row_of c.args.rows.now c.args.row) _ (ratio_at c.args.factors.now c.rows.i) c.in-Some.j d f (sym c.requires.pivots) c.in-Some.ensures.wide)
+
+pub take_from-requires-clause-same : goal.take_from-requires-clause-same
+take_from-requires-clause-same c =
+    let l : c.rows.i < length c.rows.rows = omega arith in
+    let v = c.rows.invariant in
+    let n = v.size in
+    let d = c.deref_mut.ensures.value ∙ row_at c.rows.rows c.rows.i c.index-rows-i.result l ∙ v.after c.rows.i (omega arith) in
+    ap length d ∙ c.requires.grid.wide c.rows.i (omega (arith, l, n))
+
+pub take_from-requires-clause-row : goal.take_from-requires-clause-row
+take_from-requires-clause-row c =
+    let l : c.rows.i < length c.rows.rows = omega arith in
+    let v = c.rows.invariant in
+    let n = v.size in
+    let d = c.deref_mut.ensures.value ∙ row_at c.rows.rows c.rows.i c.index-rows-i.result l ∙ v.after c.rows.i (omega arith) in
+    subst (λ x. IsNarrowRow x) (sym d) (c.requires.grid.narrow c.rows.i (omega (arith, l, n)))

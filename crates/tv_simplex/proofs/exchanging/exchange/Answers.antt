@@ -21,7 +21,7 @@ clear_column-requires-clause-grid c =
     let v = with_items (slice_index_or c.args.rows.now c.args.row c.index-rows-row.result) c.divide_row.new.row in
     let items = with_items_is (slice_index_or c.args.rows.now c.args.row c.index-rows-row.result) c.divide_row.new.row (omega arith) in
     let in_new : c.args.row < length (slice_set c.args.rows.now c.args.row v) = (let n = length-set c.args.rows.now c.args.row v in omega (arith, n, l)) in
-    let pivots = c.deref-2.ensures.value ∙ c.in_ok-pivots.ensures.items ∙ c.deref.ensures.value ∙ row_at (slice_set c.args.rows.now c.args.row v) c.args.row c.index-rows-row-2.result in_new ∙ row_set-same c.args.rows.now c.args.row v l in
+    let pivots = c.deref-3.ensures.value ∙ c.in_ok-pivots.ensures.items ∙ c.deref.ensures.value ∙ row_at (slice_set c.args.rows.now c.args.row v) c.args.row c.index-rows-row-2.result in_new ∙ row_set-same c.args.rows.now c.args.row v l in
     subst (λ z. IsGrid (length z) (slice_set c.args.rows.now c.args.row v)) (sym pivots)
     (divided_grid c.args.row (ratio_at c.args.factors.now) c.args.rows.now l v c.requires.grid (ap length items ∙ size ∙ ap length d) (subst (λ z. IsNarrowRow z) (sym items) (c.in_default.ensures.divided refl).0))
 
@@ -34,7 +34,7 @@ returns c =
     let v = with_items (slice_index_or c.args.rows.now c.args.row c.index-rows-row.result) c.divide_row.new.row in
     let items = with_items_is (slice_index_or c.args.rows.now c.args.row c.index-rows-row.result) c.divide_row.new.row (omega arith) in
     let in_new : c.args.row < length (slice_set c.args.rows.now c.args.row v) = (let n = length-set c.args.rows.now c.args.row v in omega (arith, n, l)) in
-    let pivots = c.deref-2.ensures.value ∙ c.in_ok-pivots.ensures.items ∙ c.deref.ensures.value ∙ row_at (slice_set c.args.rows.now c.args.row v) c.args.row c.index-rows-row-2.result in_new ∙ row_set-same c.args.rows.now c.args.row v l in
+    let pivots = c.deref-3.ensures.value ∙ c.in_ok-pivots.ensures.items ∙ c.deref.ensures.value ∙ row_at (slice_set c.args.rows.now c.args.row v) c.args.row c.index-rows-row-2.result in_new ∙ row_set-same c.args.rows.now c.args.row v l in
     let wide : length v.items ≡ length (row_of c.args.rows.now c.args.row) = ap length items ∙ size ∙ ap length d in
     let divided = (c.in_default.ensures.divided refl).1 in
     let quotients : AreQuotients (row_of c.args.rows.now c.args.row) (ratio_at c.args.factors.now c.args.row) v.items =
