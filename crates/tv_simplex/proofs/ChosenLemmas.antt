@@ -5,7 +5,7 @@ use Rattle.tv_fraction.specs.declared.Fraction.{Fraction}
 use Rattle.tv_simplex.proofs.Ring.{by_sign, times_zero}
 use Rattle.tv_simplex.proofs.RowLemmas.{at_set-same, at_set-other, ratio_above, rest_zero}
 use Rattle.tv_simplex.specs.Chains.{column}
-use Rattle.tv_simplex.specs.Chosen.{AreChosen, IsAdded, IsNonzero, AreNonzero}
+use Rattle.tv_simplex.specs.Chosen.{AreChosen, IsAdded, AreNonzero}
 use Rattle.tv_simplex.specs.Ratios.{Ratio, IsRest}
 use Rattle.tv_simplex.specs.Rows.{ratio, ratio_at, IsNarrowRatio, IsNarrowRow, AreRests}
 

@@ -1,4 +1,4 @@
-use Rattle.std.proofs.Common.{◌≡◌, ◌⊎◌, inl, inr, ℕ, zero, suc, ◌+◌, ◌-◌, ◌<◌, ◌≤◌, List, [], ◌∷◌, ◌++◌, length, length-append, get_or, arith, refl, sym, ap, ◌∙◌, subst, ℤ, pos, ◌<ℤ◌}
+use Rattle.std.proofs.Common.{◌≡◌, ◌⊎◌, inl, inr, ℕ, zero, suc, ◌+◌, ◌-◌, ◌<◌, ◌≤◌, List, length, get_or, arith, refl, sym, ap, ◌∙◌, subst, pos, ◌<ℤ◌}
 use Rattle.std.specs.declared.cmp.Ordering.{Ordering}
 use Rattle.std.specs.declared.cmp.Ordering.TheVariants.{Less, Equal, Greater}
 use Rattle.std.proofs.lemmas.Int.{ints}
@@ -13,7 +13,7 @@ use Rattle.tv_simplex.specs.declared.table.Place.{Place}
 use Rattle.tv_simplex.specs.declared.table.Place.TheVariants.{Slot, Row}
 use Rattle.tv_simplex.specs.Rows.{row_of}
 use Rattle.tv_simplex.specs.Tables.{at_place, place_of, shown, column_at, IsTable}
-use Rattle.tv_simplex.specs.Outside.{IsOutside, AreOutside, with_outside, IsUnitColumn, IsFirstUnit}
+use Rattle.tv_simplex.specs.Outside.{AreOutside, with_outside, IsUnitColumn, IsFirstUnit}
 
 -- one more column
 pub outside_more : (first end : ℕ) (places : List Place) (xs : List ℕ) → first ≤ end → AreOutside first end places xs → (p : Place) (new : List ℕ) → place_of places end ≡ p → new ≡ with_outside xs end p → AreOutside first (end + 1) places new

@@ -1,10 +1,10 @@
-use Rattle.std.proofs.Common.{◌≡◌, ℕ, ◌+◌, ◌<◌, ◌≤◌, inl, inr, refl, sym, ap, ◌∙◌, subst, ℤ, pos, ◌*ℤ◌, ◌<ℤ◌, ◌≤ℤ◌}
+use Rattle.std.proofs.Common.{◌≡◌, ℕ, ◌+◌, inl, inr, refl, sym, ◌∙◌, subst, ℤ, pos, ◌*ℤ◌, ◌<ℤ◌, ◌≤ℤ◌}
 use Rattle.tv_simplex.proofs.Ring.{is_zero, times_zero}
 use Rattle.tv_simplex.proofs.AnswersMet.{at_least, times_at_least}
 use Rattle.tv_simplex.proofs.Unique.{same_tableau}
 use Rattle.tv_simplex.proofs.Steps.{same_objective}
 use Rattle.tv_simplex.specs.Tableaus.{Tableau}
-use Rattle.tv_simplex.specs.Chains.{objective, Solves, NoneNegative, Settles}
+use Rattle.tv_simplex.specs.Chains.{objective, Settles}
 
 -- numbers equal up to factors above 0
 same_sign : (p q v w : ℤ) → pos 0 <ℤ p → pos 0 <ℤ q → q *ℤ v ≡ p *ℤ w → pos 0 ≤ℤ v → pos 0 ≤ℤ w

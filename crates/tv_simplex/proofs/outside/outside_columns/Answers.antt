@@ -1,6 +1,4 @@
-use Rattle.std.proofs.Common.{arith, ap, sym, ◌∙◌}
-use Rattle.tv_simplex.specs.Outside.{with_outside}
-use Rattle.tv_simplex.specs.Tables.{place_of}
+use Rattle.std.proofs.Common.{arith, sym, ◌∙◌}
 use Rattle.tv_simplex.proofs.OutsideLemmas.{outside_more, read_place}
 use Rattle.tv_simplex.proofs.outside.outside_columns.Goals as goal
 

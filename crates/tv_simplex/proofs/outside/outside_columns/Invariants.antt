@@ -1,4 +1,3 @@
-use Rattle.std.proofs.Common.{ℕ}
 use Rattle.tv_simplex.specs.Outside.{AreOutside}
 use Rattle.tv_simplex.proofs.outside.outside_columns.Given as goal
 
