@@ -6,9 +6,9 @@ ghost use Rattle.tv_simplex.specs.Ratios.{IsQuotient, IsRest};
 ghost use Rattle.tv_simplex.specs.Rows.{ratio, ratio_at, row_of, IsNarrowRatio, IsNarrowRow, AreQuotients, AreRests, IsWideQuotient, IsWideRest};
 ghost use Rattle.tv_simplex.specs.Chosen.{IsAdded, IsNonzero, AreNonzero};
 
-use crate::push::push_item;
 use std::alloc::{AllocError, Global};
 use tv_fraction::{Fraction, div, mul_sub};
+use tv_linear::push_item;
 
 pub fn row_at(rows: &[Vec<Fraction>], row: usize) -> &[Fraction]
     requires { row < length rows.now }
