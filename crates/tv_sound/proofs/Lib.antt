@@ -5,9 +5,9 @@ mod Entering
 mod Choosing
 mod Offered
 mod Regions
-mod NodesSound
+pub mod NodesSound
 mod Following
-mod Soundness
+pub mod Soundness
 mod Claimed
 mod Ending
 pub mod ClaimLemmas
