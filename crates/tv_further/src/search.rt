@@ -1,5 +1,5 @@
 use crate::question::Question;
-use crate::solving::Effort;
+use crate::rows::solving::Effort;
 use std::alloc::AllocError;
 use tv_cert::{Node, Verdict};
 

@@ -1,4 +1,0 @@
-use Rattle.tv_further.proofs.closing.+closed_rows.Given as goal
-
-abbrev pub decreases-closed_rows : goal.decreases-closed_rows
-decreases-closed_rows l = l.added

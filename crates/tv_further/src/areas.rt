@@ -1,0 +1,14 @@
+// Areas, the steps between them, and ranks of them.
+
+pub(crate) mod area;
+pub(crate) mod covers;
+pub(crate) mod cutting;
+pub(crate) mod entering;
+pub(crate) mod leaving;
+pub(crate) mod passage;
+pub(crate) mod ranks;
+pub(crate) mod reach;
+pub(crate) mod sides;
+pub(crate) mod stages;
+pub(crate) mod stopping;
+pub(crate) mod taking;

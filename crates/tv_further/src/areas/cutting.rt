@@ -1,0 +1,155 @@
+// Lists of rows cut by others, and which lie inside which.
+
+use crate::areas::area::{Area, both, denials};
+use crate::limits::AREAS;
+use crate::rows::combining::is_constant;
+use crate::rows::solving::{Effort, shown};
+use std::alloc::{AllocError, Global};
+use tv_linear::{Row, copies};
+
+/// The place of the row with the same coefficients.
+fn place_of(rows: &[Row], row: &Row) -> Option<usize> {
+    for (place, other) in rows.iter().enumerate() {
+        if other.coefficients() == row.coefficients() {
+            return Some(place);
+        }
+    }
+    None
+}
+
+/// Whether a row of the list with the same coefficients asks for at least as much.
+fn is_asked(rows: &[Row], row: &Row) -> bool {
+    match place_of(rows, row).and_then(|place| rows.get(place)) {
+        None => false,
+        Some(other) => other.constant() >= row.constant(),
+    }
+}
+
+/// Puts a tightened row into the list, of which each has other coefficients.
+fn put_strongest(row: Row, list: &mut Vec<Row>) -> Result<(), AllocError> {
+    match place_of(list, &row) {
+        None => list.push(row)?,
+        Some(place) => {
+            if let Some(other) = list.get_mut(place)
+                && other.constant() < row.constant()
+            {
+                *other = row;
+            }
+        }
+    }
+    Ok(())
+}
+
+/// Puts the rows, tightened, into the list, the strongest alone of those with the same coefficients; whether some point may meet each.
+pub(crate) fn push_strongest(
+    alloc: Global,
+    rows: &[Row],
+    list: &mut Vec<Row>,
+) -> Result<bool, AllocError> {
+    for row in rows {
+        let tight = row.tighten(alloc)?;
+        if !is_constant(&tight) {
+            put_strongest(tight, list)?;
+        } else if tight.constant() > 0 {
+            return Ok(false);
+        }
+    }
+    Ok(true)
+}
+
+/// Puts the parts of the list in which a row is not met at the end of the lists; whether no row is too wide.
+fn push_outside(
+    alloc: Global,
+    columns: usize,
+    list: &[Row],
+    rows: &[Row],
+    effort: &mut Effort,
+    lists: &mut Vec<Vec<Row>>,
+) -> Result<bool, AllocError> {
+    let Some(parts) = denials(alloc, rows)? else {
+        return Ok(false);
+    };
+    for (row, denial) in rows.iter().zip(&parts) {
+        if !is_asked(list, row)
+            && let Some(part) = both(alloc, columns, list, denial, effort)?
+        {
+            lists.push(part)?;
+        }
+    }
+    Ok(true)
+}
+
+/// The parts of the lists where the rows are not all met; `None` where there are too many.
+pub(crate) fn cut_by(
+    alloc: Global,
+    columns: usize,
+    lists: &[Vec<Row>],
+    rows: &[Row],
+    effort: &mut Effort,
+) -> Result<Option<Vec<Vec<Row>>>, AllocError> {
+    let mut parts = Vec::new(alloc);
+    for list in lists {
+        if both(alloc, columns, list, rows, effort)?.is_none() {
+            parts.push(copies(alloc, list)?)?;
+        } else if !push_outside(alloc, columns, list, rows, effort, &mut parts)? {
+            return Ok(None);
+        }
+        if parts.len() > AREAS {
+            return Ok(None);
+        }
+    }
+    Ok(Some(parts))
+}
+
+/// The parts of what the rows meet that lie outside of each of the lists; `None` where there are too many.
+pub(crate) fn cut_by_all(
+    alloc: Global,
+    columns: usize,
+    rows: &[Row],
+    lists: &[Vec<Row>],
+    effort: &mut Effort,
+) -> Result<Option<Vec<Vec<Row>>>, AllocError> {
+    let mut parts = Vec::new(alloc);
+    parts.push(copies(alloc, rows)?)?;
+    for list in lists {
+        match cut_by(alloc, columns, &parts, list, effort)? {
+            None => return Ok(None),
+            Some(next) => parts = next,
+        }
+    }
+    Ok(Some(parts))
+}
+
+/// Whether the first rows are shown to ask for at least as much as the second.
+fn is_inside(
+    alloc: Global,
+    columns: usize,
+    inner: &[Row],
+    outer: &[Row],
+    effort: &mut Effort,
+) -> Result<bool, AllocError> {
+    for row in outer {
+        if !is_asked(inner, row) && shown(alloc, inner, row, columns, effort)?.is_none() {
+            return Ok(false);
+        }
+    }
+    Ok(true)
+}
+
+/// Whether the rows at the location lie inside one of the areas.
+pub(crate) fn is_inside_any(
+    alloc: Global,
+    columns: usize,
+    area: &Area,
+    areas: &[Area],
+    effort: &mut Effort,
+) -> Result<bool, AllocError> {
+    for other in areas {
+        if other.location == area.location
+            && is_inside(alloc, columns, &area.rows, &other.rows, effort)?
+        {
+            return Ok(true);
+        }
+    }
+    Ok(false)
+}

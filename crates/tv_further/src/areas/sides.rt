@@ -1,0 +1,70 @@
+// The arguments of a fixed point.
+
+use crate::areas::area::{Area, each_with_each, lists_at, push_areas};
+use crate::formulas::region_part::push_into;
+use crate::question::Question;
+use crate::rows::solving::Effort;
+use std::alloc::AllocError;
+use tv_cert::Proof;
+
+/// The areas of the two arguments of a fixed point.
+#[derive(Drop)]
+pub(crate) struct Sides<'a> {
+    /// Where it may go on.
+    pub hold: &'a [Area],
+    /// Where it is at the end.
+    pub end: &'a [Area],
+    /// The first argument, where it is to hold at the end too.
+    pub first: Option<&'a [Area]>,
+    /// The second argument, which holds at the end.
+    pub second: &'a [Area],
+}
+
+impl Sides<'_> {
+    /// Puts the proofs that the area is at the end at the end of the list; whether they were found.
+    pub(crate) fn push_done(
+        &self,
+        question: &Question,
+        area: &Area,
+        effort: &mut Effort,
+        proofs: &mut Vec<Proof>,
+    ) -> Result<bool, AllocError> {
+        if let Some(first) = self.first
+            && !push_into(question, area, first, effort, proofs)?
+        {
+            return Ok(false);
+        }
+        push_into(question, area, self.second, effort, proofs)
+    }
+
+    /// Puts the proof that it may go on in the area at the end of the list; whether it was found.
+    pub(crate) fn push_hold(
+        &self,
+        question: &Question,
+        area: &Area,
+        effort: &mut Effort,
+        proofs: &mut Vec<Proof>,
+    ) -> Result<bool, AllocError> {
+        push_into(question, area, self.hold, effort, proofs)
+    }
+}
+
+/// The areas where both arguments hold; `None` where there are too many.
+pub(crate) fn common_areas(
+    question: &Question,
+    first: &[Area],
+    second: &[Area],
+    effort: &mut Effort,
+) -> Result<Option<Vec<Area>>, AllocError> {
+    let columns = question.about.variables() as usize;
+    let mut areas = Vec::new(question.alloc);
+    for location in 0..question.about.locations() {
+        let firsts = lists_at(question.alloc, first, location)?;
+        let seconds = lists_at(question.alloc, second, location)?;
+        match each_with_each(question.alloc, columns, &firsts, &seconds, effort)? {
+            None => return Ok(None),
+            Some(lists) => push_areas(&mut areas, location, lists)?,
+        }
+    }
+    Ok(Some(areas))
+}

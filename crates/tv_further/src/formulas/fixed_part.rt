@@ -1,0 +1,166 @@
+// Fixed points: the first of the ways that finds something is taken, and what it finds grows by rounds.
+
+use crate::areas::sides::{Sides, common_areas};
+use crate::formulas::cycles_within::with_cycles;
+use crate::formulas::found::{Found, end_alone, part_found};
+use crate::formulas::kept::with_kept;
+use crate::formulas::layers::with_layers;
+use crate::formulas::region_part::Part;
+use crate::formulas::until_by_ranks::every_until_by_ranks;
+use crate::limits::CUTS;
+use crate::question::Question;
+use crate::rows::solving::Effort;
+use crate::strategies::strategy::any_until_by_strategy;
+use std::alloc::{AllocError, Global};
+use tv_cert::Node;
+use tv_formula::{Path, Shape};
+
+/// What a way finds of a fixed point that comes to the end, from which layers go on: at least the end.
+fn first_ending(
+    question: &Question,
+    path: &Path,
+    sides: &Sides,
+    effort: &mut Effort,
+) -> Result<Option<Found>, AllocError> {
+    let found = match path {
+        Path::Every => every_until_by_ranks(question, sides, effort)?,
+        Path::Any => any_until_by_strategy(question, sides, effort)?,
+    };
+    match found {
+        Some(found) => Ok(Some(found)),
+        None => end_alone(question, sides, 1, effort),
+    }
+}
+
+/// What the ways find of a fixed point that comes to the end.
+fn ending(
+    question: &Question,
+    path: &Path,
+    sides: &Sides,
+    effort: &mut Effort,
+) -> Result<Option<Found>, AllocError> {
+    match first_ending(question, path, sides, effort)? {
+        None => Ok(None),
+        Some(found) => Ok(Some(with_layers(question, path, sides, found, effort)?)),
+    }
+}
+
+/// What a way finds of a fixed point that may go on for ever, to which areas are added: at least the end.
+fn first_keeping(
+    question: &Question,
+    path: &Path,
+    sides: &Sides,
+    effort: &mut Effort,
+) -> Result<Option<Found>, AllocError> {
+    let Some(found) = end_alone(question, sides, 0, effort)? else {
+        return Ok(None);
+    };
+    match path {
+        Path::Every => Ok(Some(found)),
+        Path::Any => Ok(Some(with_cycles(question, sides, found, effort)?)),
+    }
+}
+
+/// What the ways find of a fixed point that may go on for ever: first with cuts, and then from whole areas.
+fn keeping(
+    question: &Question,
+    path: &Path,
+    sides: &Sides,
+    effort: &mut Effort,
+) -> Result<Option<Found>, AllocError> {
+    match first_keeping(question, path, sides, effort)? {
+        None => Ok(None),
+        Some(found) => {
+            let cut = with_kept(question, path, sides, found, CUTS, effort)?;
+            let whole = with_kept(question, path, sides, cut, 0, effort)?;
+            Ok(Some(whole))
+        }
+    }
+}
+
+/// What the ways find of a fixed point with these arguments.
+fn found_by_ways(
+    question: &Question,
+    path: &Path,
+    shape: &Shape,
+    sides: &Sides,
+    effort: &mut Effort,
+) -> Result<Option<Found>, AllocError> {
+    match shape {
+        Shape::Until | Shape::Strong => ending(question, path, sides, effort),
+        Shape::Weak | Shape::Release => keeping(question, path, sides, effort),
+    }
+}
+
+/// What is found of a fixed point whose arguments both are to hold at the end.
+fn found_with_both<'a>(
+    question: &Question,
+    path: &Path,
+    shape: &Shape,
+    first: &'a Part,
+    second: &'a Part,
+    effort: &mut Effort,
+) -> Result<Option<Found>, AllocError> {
+    let Some(end) = common_areas(question, &first.areas, &second.areas, effort)? else {
+        return Ok(None);
+    };
+    let sides = Sides {
+        hold: &second.areas,
+        end: &end,
+        first: Some(&first.areas),
+        second: &second.areas,
+    };
+    found_by_ways(question, path, shape, &sides, effort)
+}
+
+/// What is found of a fixed point whose second argument is to hold at the end.
+fn found_with_second<'a>(
+    question: &Question,
+    path: &Path,
+    shape: &Shape,
+    first: &'a Part,
+    second: &'a Part,
+    effort: &mut Effort,
+) -> Result<Option<Found>, AllocError> {
+    let sides = Sides {
+        hold: &first.areas,
+        end: &second.areas,
+        first: None,
+        second: &second.areas,
+    };
+    found_by_ways(question, path, shape, &sides, effort)
+}
+
+/// The nodes of two parts.
+fn children_of(alloc: Global, first: Part, second: Part) -> Result<Vec<Node>, AllocError> {
+    let mut children = Vec::new(alloc);
+    children.push(first.node)?;
+    children.push(second.node)?;
+    Ok(children)
+}
+
+/// The part of a fixed point with these arguments; `None` where no way finds one.
+pub(crate) fn fixed_part(
+    question: &Question,
+    path: &Path,
+    shape: &Shape,
+    first: Part,
+    second: Part,
+    effort: &mut Effort,
+) -> Result<Option<Part>, AllocError> {
+    let found = match shape {
+        Shape::Until | Shape::Weak => {
+            found_with_second(question, path, shape, &first, &second, effort)?
+        }
+        Shape::Release | Shape::Strong => {
+            found_with_both(question, path, shape, &first, &second, effort)?
+        }
+    };
+    match found {
+        None => Ok(None),
+        Some(found) => {
+            let children = children_of(question.alloc, first, second)?;
+            part_found(question, found, children)
+        }
+    }
+}

@@ -1,0 +1,285 @@
+// Fixed points that may go on for ever: areas of the hold side are cut until from each of them every step, or some step, stays.
+
+use crate::areas::area::{Area, both, lists_at, place_among};
+use crate::areas::cutting::{cut_by_all, is_inside_any};
+use crate::areas::entering::entries_from;
+use crate::areas::leaving::lists_leaving;
+use crate::areas::sides::Sides;
+use crate::areas::stages::push_copied;
+use crate::areas::stopping::stops_at;
+use crate::areas::taking::{Move, Taken, choice_by, push_choice};
+use crate::formulas::found::Found;
+use crate::formulas::region_part::push_steps_into;
+use crate::limits::AREAS;
+use crate::question::Question;
+use crate::rows::solving::Effort;
+use std::alloc::AllocError;
+use tv_cert::Proof;
+use tv_formula::Path;
+use tv_linear::Row;
+
+/// Areas some of which are known to hold.
+#[derive(Drop)]
+struct Keeping {
+    /// How many are known to hold.
+    known: usize,
+    areas: Vec<Area>,
+}
+
+/// What was found, and the areas of the hold side outside of it; `None` where there are too many.
+fn keeping_of(
+    question: &Question,
+    sides: &Sides,
+    found: &Found,
+    effort: &mut Effort,
+) -> Result<Option<Keeping>, AllocError> {
+    let alloc = question.alloc;
+    let columns = question.about.variables() as usize;
+    let mut areas = Vec::new(alloc);
+    push_copied(alloc, &found.stages.areas, &mut areas)?;
+    let known = areas.len();
+    for area in sides.hold {
+        let location = area.location;
+        let inner = lists_at(alloc, &found.stages.areas, location)?;
+        let Some(parts) = cut_by_all(alloc, columns, &area.rows, &inner, effort)? else {
+            return Ok(None);
+        };
+        for rows in parts {
+            areas.push(Area { location, rows })?;
+        }
+    }
+    Ok(if areas.len() > AREAS {
+        None
+    } else {
+        Some(Keeping { known, areas })
+    })
+}
+
+/// The moves from the location into the areas, and where no step leads out of it.
+fn moves_into(
+    question: &Question,
+    location: u32,
+    areas: &[Area],
+    effort: &mut Effort,
+) -> Result<Vec<Move>, AllocError> {
+    let mut moves = Vec::new(question.alloc);
+    for entry in entries_from(question, location, areas, 0)? {
+        let taken = Some(Taken {
+            number: entry.number,
+            draws: entry.draws,
+            target: place_among(areas, entry.to),
+            fall: 0,
+        });
+        let rows = entry.rows;
+        moves.push(Move { rows, taken })?;
+    }
+    for rows in stops_at(question, location, effort)? {
+        moves.push(Move { rows, taken: None })?;
+    }
+    Ok(moves)
+}
+
+/// What is kept of an area.
+#[derive(Drop)]
+enum Kept {
+    Whole,
+    Parts(Vec<Vec<Row>>),
+}
+
+/// What is kept of the area so that every step stays in the areas.
+fn kept_every(
+    question: &Question,
+    area: &Area,
+    areas: &[Area],
+    effort: &mut Effort,
+) -> Result<Kept, AllocError> {
+    let alloc = question.alloc;
+    let columns = question.about.variables() as usize;
+    let Some(leaving) = lists_leaving(question, area, areas, effort)? else {
+        return Ok(Kept::Parts(Vec::new(alloc)));
+    };
+    if leaving.is_empty() {
+        return Ok(Kept::Whole);
+    }
+    match cut_by_all(alloc, columns, &area.rows, &leaving, effort)? {
+        None => Ok(Kept::Parts(Vec::new(alloc))),
+        Some(parts) => Ok(Kept::Parts(parts)),
+    }
+}
+
+/// What is kept of the area so that some step stays in the areas, or none leads out.
+fn kept_any(
+    question: &Question,
+    area: &Area,
+    areas: &[Area],
+    effort: &mut Effort,
+) -> Result<Kept, AllocError> {
+    let alloc = question.alloc;
+    let columns = question.about.variables() as usize;
+    let moves = moves_into(question, area.location, areas, effort)?;
+    if choice_by(question, area, &moves, effort)?.is_some() {
+        return Ok(Kept::Whole);
+    }
+    let mut parts = Vec::new(alloc);
+    for made in &moves {
+        if let Some(rows) = both(alloc, columns, &area.rows, &made.rows, effort)? {
+            parts.push(rows)?;
+        }
+    }
+    Ok(Kept::Parts(parts))
+}
+
+/// What is kept of the area.
+fn kept_of(
+    question: &Question,
+    path: &Path,
+    area: &Area,
+    areas: &[Area],
+    effort: &mut Effort,
+) -> Result<Kept, AllocError> {
+    match path {
+        Path::Every => kept_every(question, area, areas, effort),
+        Path::Any => kept_any(question, area, areas, effort),
+    }
+}
+
+/// Puts the parts that lie in none of the areas at their end.
+fn push_parts(
+    question: &Question,
+    location: u32,
+    parts: Vec<Vec<Row>>,
+    areas: &mut Vec<Area>,
+    effort: &mut Effort,
+) -> Result<(), AllocError> {
+    let columns = question.about.variables() as usize;
+    for rows in parts {
+        let area = Area { location, rows };
+        if !is_inside_any(question.alloc, columns, &area, areas, effort)? {
+            areas.push(area)?;
+        }
+    }
+    Ok(())
+}
+
+/// Cuts the area at this place, of which the parts that are kept come to the end of the list; whether it was cut.
+fn cut_at(
+    question: &Question,
+    path: &Path,
+    areas: &mut Vec<Area>,
+    place: usize,
+    with_parts: bool,
+    effort: &mut Effort,
+) -> Result<bool, AllocError> {
+    let Some(area) = areas.get(place) else {
+        return Ok(false);
+    };
+    let location = area.location;
+    match kept_of(question, path, area, areas, effort)? {
+        Kept::Whole => Ok(false),
+        Kept::Parts(parts) => {
+            areas.remove(place);
+            if with_parts {
+                push_parts(question, location, parts, areas, effort)?;
+            }
+            Ok(true)
+        }
+    }
+}
+
+/// Cuts each area that is not known to hold, the last first, so that what is cut at one location tells at those before it in the same round.
+/// Whether one was cut.
+fn cut_all(
+    question: &Question,
+    path: &Path,
+    now: &mut Keeping,
+    with_parts: bool,
+    effort: &mut Effort,
+) -> Result<bool, AllocError> {
+    let mut fewer = false;
+    for place in (now.known..now.areas.len()).rev() {
+        if cut_at(question, path, &mut now.areas, place, with_parts, effort)? {
+            fewer = true;
+        }
+    }
+    Ok(fewer)
+}
+
+/// The areas after at most so many rounds of cuts, and after that without those that are not kept whole; `None` where too many are left.
+fn settled(
+    question: &Question,
+    path: &Path,
+    start: Keeping,
+    rounds: usize,
+    effort: &mut Effort,
+) -> Result<Option<Keeping>, AllocError> {
+    let mut now = start;
+    for round in 0..AREAS {
+        if !cut_all(question, path, &mut now, round < rounds, effort)? {
+            return Ok(Some(now));
+        }
+        if now.areas.len() > AREAS {
+            return Ok(None);
+        }
+    }
+    Ok(None)
+}
+
+/// Puts the proofs of an area that goes on at the end of the list; whether they were found.
+fn push_kept(
+    question: &Question,
+    path: &Path,
+    area: &Area,
+    areas: &[Area],
+    effort: &mut Effort,
+    proofs: &mut Vec<Proof>,
+) -> Result<bool, AllocError> {
+    match path {
+        Path::Every => push_steps_into(question, area, areas, effort, proofs),
+        Path::Any => {
+            let moves = moves_into(question, area.location, areas, effort)?;
+            push_choice(question, area, &moves, effort, proofs)
+        }
+    }
+}
+
+/// The proofs of the areas that were not known; `None` where one is not shown.
+fn kept_proofs(
+    question: &Question,
+    path: &Path,
+    sides: &Sides,
+    keeping: &Keeping,
+    effort: &mut Effort,
+) -> Result<Option<Vec<Proof>>, AllocError> {
+    let mut proofs = Vec::new(question.alloc);
+    for (place, area) in keeping.areas.iter().enumerate() {
+        if place >= keeping.known
+            && !(sides.push_hold(question, area, effort, &mut proofs)?
+                && push_kept(question, path, area, &keeping.areas, effort, &mut proofs)?)
+        {
+            return Ok(None);
+        }
+    }
+    Ok(Some(proofs))
+}
+
+/// What was found of a fixed point that may go on for ever, and areas of the hold side that stay, after so many rounds of cuts.
+pub(crate) fn with_kept(
+    question: &Question,
+    path: &Path,
+    sides: &Sides,
+    found: Found,
+    rounds: usize,
+    effort: &mut Effort,
+) -> Result<Found, AllocError> {
+    let mut found = found;
+    let Some(start) = keeping_of(question, sides, &found, effort)? else {
+        return Ok(found);
+    };
+    if let Some(keeping) = settled(question, path, start, rounds, effort)?
+        && let Some(mut proofs) = kept_proofs(question, path, sides, &keeping, effort)?
+    {
+        found.proofs.append(&mut proofs)?;
+        found.stages.areas = keeping.areas;
+    }
+    Ok(found)
+}

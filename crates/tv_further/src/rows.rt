@@ -1,0 +1,8 @@
+// Rows made of others, and what the solver says of them.
+
+pub(crate) mod combining;
+pub(crate) mod conditions;
+pub(crate) mod drawing;
+pub(crate) mod shadow;
+pub(crate) mod solving;
+pub(crate) mod values;

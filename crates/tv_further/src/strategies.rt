@@ -1,0 +1,8 @@
+// Until over some path, by strategies.
+
+pub(crate) mod link;
+pub(crate) mod plan;
+pub(crate) mod strategy;
+pub(crate) mod strategy_draft;
+pub(crate) mod strategy_order;
+pub(crate) mod strategy_proofs;

@@ -1,0 +1,486 @@
+// Until over some path, by a strategy: at each area that goes on a way for each of its states, so that ranks fall over the ways that do not
+// lead to the end.
+
+use crate::areas::passage::{Effect, Passage};
+use crate::areas::ranks::{Change, Ranking, push_terms, ranks_among, terms_of};
+use crate::areas::sides::Sides;
+use crate::areas::stages::stages_of;
+use crate::cycles::way::Way;
+use crate::formulas::found::Found;
+use crate::limits::{STRATEGY_CUTS, STRATEGY_ROUNDS, STRATEGY_SPLITS};
+use crate::question::Question;
+use crate::rows::solving::{Effort, denied};
+use crate::strategies::link::{Between, Link, distinct_ways};
+use crate::strategies::plan::{Leaf, Plan, Planner, plan_of};
+use crate::strategies::strategy_draft::{Cutting, Draft, First};
+use crate::strategies::strategy_order::{Field, costs_of, options_from};
+use crate::strategies::strategy_proofs::{Proving, Strategy, proofs_of};
+use std::alloc::{AllocError, Global};
+use tv_linear::{Row, copies};
+
+/// What is known of a draft.
+#[derive(Drop)]
+enum Tried {
+    Shown(Strategy),
+    Holes(Holes),
+    /// The ranks do not fall between the areas at these places.
+    Stuck(Vec<usize>),
+    /// Nor do they, but for where the row is met they may.
+    Split { places: Vec<usize>, row: Row },
+}
+
+/// Areas some of whose states have no link.
+#[derive(Drop)]
+struct Holes {
+    places: Vec<usize>,
+    /// The costs of the links: those without any were not tried.
+    costs: Vec<Option<u32>>,
+}
+
+/// A plan for each area that goes on, and the leaves of all plans.
+#[derive(Drop)]
+struct Plans {
+    plans: Vec<Plan>,
+    leaves: Vec<Leaf>,
+    /// The places of the areas that have no plan.
+    holes: Vec<usize>,
+    costs: Vec<Option<u32>>,
+}
+
+/// The plans of the areas of a draft.
+fn plans_of(field: &Field, draft: &Draft, effort: &mut Effort) -> Result<Plans, AllocError> {
+    let alloc = field.question.alloc;
+    let worths = field.worths(draft, effort)?;
+    let costs = costs_of(alloc, draft, field.links, &worths)?;
+    let mut plans = Vec::new(alloc);
+    let mut leaves = Vec::new(alloc);
+    let mut holes = Vec::new(alloc);
+    for (place, area) in draft.stages.areas.iter().enumerate() {
+        if place >= draft.stages.done {
+            let options = options_from(field.question, field.links, &costs, place, &area.rows)?;
+            let planner = Planner {
+                alloc,
+                columns: field.question.about.variables() as usize,
+                links: field.links,
+                options: &options,
+            };
+            match plan_of(&planner, &area.rows, STRATEGY_SPLITS, &mut leaves, effort)? {
+                Some(plan) => plans.push(plan)?,
+                None => holes.push(place)?,
+            }
+        }
+    }
+    Ok(Plans {
+        plans,
+        leaves,
+        holes,
+        costs,
+    })
+}
+
+/// The passages over the leaves, in their order. Those that lead to the end are marked as fallen.
+fn passages_of(field: &Field, draft: &Draft, leaves: &[Leaf]) -> Result<Vec<Passage>, AllocError> {
+    let alloc = field.question.alloc;
+    let mut passages = Vec::new(alloc);
+    for leaf in leaves {
+        if let Some(link) = field.links.get(leaf.link) {
+            let own = &link.passage;
+            let is_end = own.to < draft.stages.done;
+            passages.push(Passage {
+                from: own.from,
+                number: own.number,
+                effect: Effect {
+                    width: own.effect.width,
+                    terms: copies(alloc, &own.effect.terms)?,
+                },
+                to: own.to,
+                rows: copies(alloc, &leaf.known)?,
+                fall: if is_end { 1 } else { 0 },
+            })?;
+        }
+    }
+    Ok(passages)
+}
+
+/// What is known of the draft where each area has a plan.
+fn ranked(
+    field: &Field,
+    draft: &Draft,
+    plans: Plans,
+    effort: &mut Effort,
+) -> Result<Tried, AllocError> {
+    let mut passages = passages_of(field, draft, &plans.leaves)?;
+    let areas = draft.stages.areas.len();
+    match ranks_among(field.question, field.terms, areas, &mut passages, effort)? {
+        Ranking::Stuck(places) => Ok(Tried::Stuck(places)),
+        Ranking::Found(ranks) => Ok(Tried::Shown(Strategy {
+            plans: plans.plans,
+            leaves: plans.leaves,
+            passages,
+            ranks,
+        })),
+    }
+}
+
+/// What is known of the draft.
+fn try_once(field: &Field, draft: &Draft, effort: &mut Effort) -> Result<Tried, AllocError> {
+    let plans = plans_of(field, draft, effort)?;
+    if plans.holes.is_empty() {
+        return ranked(field, draft, plans, effort);
+    }
+    Ok(Tried::Holes(Holes {
+        places: plans.holes,
+        costs: plans.costs,
+    }))
+}
+
+/// Whether a link from the area does not let the term grow, and whether it falls over one between the areas at these places.
+fn outlook(
+    field: &Field,
+    term: usize,
+    area: usize,
+    places: &[usize],
+    effort: &mut Effort,
+) -> Result<(bool, bool), AllocError> {
+    let mut goes_on = false;
+    let mut falls = false;
+    for link in field.links {
+        if link.passage.from == area {
+            if !places.contains(&link.passage.to) {
+                goes_on = true;
+            } else {
+                match field.change(term, link, effort)? {
+                    Change::Grows => {}
+                    Change::Stays => goes_on = true,
+                    Change::Falls => {
+                        goes_on = true;
+                        falls = true;
+                    }
+                }
+            }
+        }
+    }
+    Ok((goes_on, falls))
+}
+
+/// Whether each of the areas at these places may go on so that the term does not grow, and falls over some link.
+fn is_promising(
+    field: &Field,
+    term: usize,
+    places: &[usize],
+    effort: &mut Effort,
+) -> Result<bool, AllocError> {
+    let mut falls = false;
+    for area in places {
+        let (goes_on, fallen) = outlook(field, term, *area, places, effort)?;
+        if !goes_on {
+            return Ok(false);
+        }
+        falls = falls || fallen;
+    }
+    Ok(falls)
+}
+
+/// The next term to favour at the areas at these places.
+fn next_term(
+    field: &Field,
+    draft: &Draft,
+    places: &[usize],
+    effort: &mut Effort,
+) -> Result<Option<usize>, AllocError> {
+    let known = draft.greatest_at(places);
+    for term in known.saturating_add(1)..field.terms.len().saturating_add(1) {
+        if is_promising(field, term, places, effort)? {
+            return Ok(Some(term));
+        }
+    }
+    Ok(None)
+}
+
+/// The row that tells where the first of these terms is not below 0 by which one of the areas at these places is split.
+fn splitting_row(
+    field: &Field,
+    draft: &Draft,
+    terms: &[usize],
+    places: &[usize],
+    effort: &mut Effort,
+) -> Result<Option<Row>, AllocError> {
+    for number in terms {
+        if let Some(term) = number
+            .checked_sub(1)
+            .and_then(|place| field.terms.get(place))
+        {
+            let row = term.opposite(field.question.alloc)?;
+            if draft.are_split(field.question, places, &row, effort)? {
+                return Ok(Some(row));
+            }
+        }
+    }
+    Ok(None)
+}
+
+/// Holes that are left where a term is favoured at some areas.
+#[derive(Drop)]
+struct Held {
+    term: usize,
+    group: Vec<usize>,
+    holes: Holes,
+}
+
+/// What is left to try where no term helps.
+#[derive(Drop)]
+struct Left {
+    /// The terms that were favoured: areas may be split by where they are below 0.
+    tried: Vec<usize>,
+    /// The first term that left holes.
+    held: Option<Held>,
+}
+
+impl Left {
+    /// Notes what is left of a term that is favoured at the areas at these places; which areas it is favoured at.
+    fn note(
+        &mut self,
+        alloc: Global,
+        draft: &Draft,
+        term: usize,
+        holes: Holes,
+    ) -> Result<Vec<usize>, AllocError> {
+        let group = draft.favouring(alloc, term)?;
+        let places = Vec::from_slice(alloc, &group)?;
+        self.tried.push(term)?;
+        if self.held.is_none() {
+            self.held = Some(Held { term, group, holes });
+        }
+        Ok(places)
+    }
+}
+
+/// What is known of the areas of the draft, whatever term is favoured: places are stuck only where no term helps.
+fn try_terms(field: &Field, draft: &mut Draft, effort: &mut Effort) -> Result<Tried, AllocError> {
+    let alloc = field.question.alloc;
+    let mut left = Left {
+        tried: Vec::new(alloc),
+        held: None,
+    };
+    for _ in 0..STRATEGY_ROUNDS {
+        let places = match try_once(field, draft, effort)? {
+            Tried::Stuck(places) => {
+                left.tried.push(draft.greatest_at(&places))?;
+                places
+            }
+            Tried::Holes(holes) => match draft.greatest_at(&holes.places) {
+                0 => return Ok(Tried::Holes(holes)),
+                term => left.note(alloc, draft, term, holes)?,
+            },
+            tried => return Ok(tried),
+        };
+        match next_term(field, draft, &places, effort)? {
+            Some(term) => draft.favour(&places, term),
+            None => return no_term(field, draft, left, places, effort),
+        }
+    }
+    Ok(Tried::Stuck(Vec::new(alloc)))
+}
+
+/// What is known where no term is left for the areas at these places: how they may be split, or where the first term that left holes did.
+fn no_term(
+    field: &Field,
+    draft: &mut Draft,
+    left: Left,
+    places: Vec<usize>,
+    effort: &mut Effort,
+) -> Result<Tried, AllocError> {
+    let Left { tried, held } = left;
+    let may_cut = draft.cuts < STRATEGY_CUTS && held.is_some();
+    let splits_first = draft.first == First::Splits || !may_cut;
+    if splits_first
+        && draft.splits < STRATEGY_CUTS
+        && let Some(row) = splitting_row(field, draft, &tried, &places, effort)?
+    {
+        return Ok(Tried::Split { places, row });
+    }
+    match held {
+        Some(held) if may_cut => {
+            draft.favour(&held.group, held.term);
+            Ok(Tried::Holes(held.holes))
+        }
+        _ => Ok(Tried::Stuck(places)),
+    }
+}
+
+/// The terms that are tried: those that the guards and the areas keep from falling below 0, and those that their denials do.
+fn terms_for(question: &Question, ways: &[Way], draft: &Draft) -> Result<Vec<Row>, AllocError> {
+    let columns = question.about.variables() as usize;
+    let mut terms = terms_of(question, &draft.stages.areas)?;
+    for way in ways {
+        push_terms(question.alloc, columns, &way.guards, &mut terms)?;
+        push_denied_terms(question, &way.guards, &mut terms)?;
+    }
+    for area in &draft.stages.areas {
+        push_denied_terms(question, &area.rows, &mut terms)?;
+    }
+    Ok(terms)
+}
+
+/// Puts the terms that are not below 0 where one of the rows is denied at the end of the list.
+fn push_denied_terms(
+    question: &Question,
+    rows: &[Row],
+    terms: &mut Vec<Row>,
+) -> Result<(), AllocError> {
+    let columns = question.about.variables() as usize;
+    for row in rows {
+        if let Some(denial) = denied(question.alloc, row)? {
+            push_terms(question.alloc, columns, &[denial], terms)?;
+        }
+    }
+    Ok(())
+}
+
+/// What becomes of a draft.
+#[derive(Drop)]
+enum Round {
+    Ended(Option<Ended>),
+    Next(Draft),
+}
+
+/// What was found, and how many areas were lost.
+#[derive(Drop)]
+struct Ended {
+    found: Found,
+    lost: usize,
+}
+
+/// What a strategy is sought for.
+#[derive(Drop)]
+struct Sought<'a> {
+    question: &'a Question<'a>,
+    sides: &'a Sides<'a>,
+    ways: &'a [Way],
+    terms: &'a [Row],
+}
+
+/// What is found of the draft by this strategy.
+fn found_by(
+    sought: &Sought,
+    draft: Draft,
+    links: &[Link],
+    strategy: Strategy,
+    effort: &mut Effort,
+) -> Result<Option<Ended>, AllocError> {
+    let proving = Proving {
+        question: sought.question,
+        stages: &draft.stages,
+        ways: sought.ways,
+        links,
+        strategy: &strategy,
+    };
+    let Some(proofs) = proofs_of(&proving, sought.sides, effort)? else {
+        return Ok(None);
+    };
+    let lost = draft.lost;
+    let found = Found {
+        stages: draft.stages,
+        ranks: strategy.ranks,
+        proofs,
+    };
+    Ok(Some(Ended { found, lost }))
+}
+
+/// One round: what is found of the draft, or the draft that is tried next.
+fn settle(sought: &Sought, draft: Draft, effort: &mut Effort) -> Result<Round, AllocError> {
+    let mut draft = draft;
+    let between = Between {
+        stages: &draft.stages,
+        ways: sought.ways,
+    };
+    let links = between.links(sought.question, effort)?;
+    let field = Field {
+        question: sought.question,
+        terms: sought.terms,
+        links: &links,
+    };
+    match try_terms(&field, &mut draft, effort)? {
+        Tried::Shown(strategy) => {
+            let ended = found_by(sought, draft, &links, strategy, effort)?;
+            Ok(Round::Ended(ended))
+        }
+        Tried::Holes(holes) => {
+            let cutting = Cutting {
+                ways: sought.ways,
+                links: &links,
+                costs: &holes.costs,
+                cut: draft.next_cut(),
+            };
+            let next = draft.cut(sought.question, &cutting, &holes.places, effort)?;
+            Ok(Round::Next(next))
+        }
+        Tried::Split { places, row } => {
+            let next = draft.split(sought.question, &places, &row, effort)?;
+            Ok(Round::Next(next))
+        }
+        Tried::Stuck(places) => {
+            if places.is_empty() {
+                return Ok(Round::Ended(None));
+            }
+            let next = draft.without(sought.question.alloc, &places)?;
+            Ok(Round::Next(next))
+        }
+    }
+}
+
+/// What the rounds from the first draft end with.
+fn ended_from(
+    question: &Question,
+    sides: &Sides,
+    first: First,
+    effort: &mut Effort,
+) -> Result<Option<Ended>, AllocError> {
+    let Some(stages) = stages_of(question, sides, effort)? else {
+        return Ok(None);
+    };
+    let ways = distinct_ways(question)?;
+    let mut draft = Draft::new(question.alloc, stages, first)?;
+    let terms = terms_for(question, &ways, &draft)?;
+    let sought = Sought {
+        question,
+        sides,
+        ways: &ways,
+        terms: &terms,
+    };
+    for _ in 0..STRATEGY_ROUNDS {
+        match settle(&sought, draft, effort)? {
+            Round::Ended(ended) => return Ok(ended),
+            Round::Next(next) => draft = next,
+        }
+    }
+    Ok(None)
+}
+
+/// The one that lost fewer areas, or the first.
+fn better(first: Ended, second: Option<Ended>) -> Found {
+    match second {
+        Some(second) if second.lost < first.lost => second.found,
+        _ => first.found,
+    }
+}
+
+/// Until over some path: at each state of an area a way is taken, so that ranks fall until the end. Areas for which no such ways are found
+/// are cut to where some can be taken, or split, and then left out.
+pub(crate) fn any_until_by_strategy(
+    question: &Question,
+    sides: &Sides,
+    effort: &mut Effort,
+) -> Result<Option<Found>, AllocError> {
+    match ended_from(question, sides, First::Cuts, effort)? {
+        Some(ended) if ended.lost == 0 => Ok(Some(ended.found)),
+        Some(ended) => {
+            let other = ended_from(question, sides, First::Splits, effort)?;
+            Ok(Some(better(ended, other)))
+        }
+        None => match ended_from(question, sides, First::Splits, effort)? {
+            None => Ok(None),
+            Some(ended) => Ok(Some(ended.found)),
+        },
+    }
+}
