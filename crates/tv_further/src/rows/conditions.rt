@@ -4,16 +4,7 @@ use crate::limits::CONDITIONS;
 use std::alloc::{AllocError, Global};
 use tv_cert::Aim;
 use tv_formula::{Path, Shape};
-use tv_linear::{Row, copies};
-
-/// The two lists as one.
-fn joined(alloc: Global, first: &[Row], second: &[Row]) -> Result<Vec<Row>, AllocError> {
-    let mut rows = copies(alloc, first)?;
-    for row in second {
-        rows.push(row.copy(alloc)?)?;
-    }
-    Ok(rows)
-}
+use tv_linear::{Row, copies, joined};
 
 /// Each list of the first with each of the second.
 fn each_with_each(
