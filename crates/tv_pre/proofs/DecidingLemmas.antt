@@ -1,5 +1,5 @@
 -- What came of a claim at the start.
-use Rattle.std.proofs.Common.{◌≡◌, ℕ, ◌<◌, List, length, None, Some, Option, ◌∙◌, refl, sym, ap, subst, ℤ}
+use Rattle.std.proofs.Common.{◌≡◌, inl, inr, ℕ, ◌<◌, List, length, None, Some, Option, ◌∙◌, refl, sym, ap, subst, ℤ}
 use Rattle.std.specs.Prelude.{IfSome}
 use Rattle.tv_formula.specs.Properties.{Property}
 use Rattle.tv_cases.specs.Comparisons.{comparison_lists}
@@ -11,13 +11,14 @@ use Rattle.tv_farkas.specs.declared.budget.Budget.{Budget}
 use Rattle.tv_pre.specs.declared.fault.PreFault.{PreFault}
 use Rattle.tv_pre.specs.declared.outcome.Found.{Found}
 use Rattle.tv_pre.specs.Built.{IsBuilt, IsPreFault}
-use Rattle.tv_pre.specs.Finding.{IsGapOf, States, IsPartFor, IsFullFor, steps_back, size}
-use Rattle.tv_pre.specs.Proving.{IsFoundOf, IsLeft}
+use Rattle.tv_pre.specs.Finding.{IsGapOf, IsGapFor, States, IsPartFor, IsFullFor, steps_back, size}
+use Rattle.tv_pre.specs.Proving.{IsFoundOf, IsLeft, ClaimHasRows, IsGapOfClaim, IsLeftBy}
 use Rattle.tv_pre.specs.declared.gap.Gap.{Gap}
+use Rattle.tv_pre.specs.declared.gap.Gap.TheVariants.{Inexact, Open}
 use Rattle.tv_pre.specs.Finding.{first_of}
 use Rattle.tv_pre.specs.Full.{HasRows}
 use Rattle.tv_pre.specs.Starting.{HasNoStart}
-use Rattle.tv_pre.proofs.FoundLemmas.{gap_of_two}
+use Rattle.tv_pre.proofs.GapLemmas.{gap_in_order, gap_weaker}
 use Rattle.tv_formula.specs.Formulas.{property_of}
 use Rattle.tv_formula.specs.Normal.{negation}
 use Rattle.tv_meaning.proofs.Negation.{negation_excludes}
@@ -43,8 +44,8 @@ pub states_of : (about : CaseSystem) (n : ℕ) (t : Statement) (f : Property) �
 states_of about n t f e v = e ∙ ap (λ m. stated (comparison_lists m) f) v
 
 -- what a search says of its answer, whatever the last round is
-pub found_of : (about : CaseSystem) (t s : Statement) (found : Found) → t ≡ s → IsRegion about.variables about.locations found.part.region → IsPartFor about t found.part.region found.part.node → ((last : ℕ) → IsLastRound about 8 last → IsBuilt about t (steps_back last t) found.part.region) → found.size ≡ size t → IfSome found.gap (IsGapOf about) → (found.gap ≡ None → IsFullFor about t found.part.region) → IsFoundOf about s found
-found_of about t s found e over part built many gap full = subst (λ u. IsFoundOf about u found) e (record { over = over; shows = part; built = built; size = many; gap = gap; full = full })
+pub found_of : (about : CaseSystem) (t s : Statement) (found : Found) → t ≡ s → IsRegion about.variables about.locations found.part.region → IsPartFor about t found.part.region found.part.node → ((last : ℕ) → IsLastRound about 8 last → IsBuilt about t (steps_back last t) found.part.region) → found.size ≡ size t → IfSome found.gap (IsGapOf about) → ((last : ℕ) → IsLastRound about 8 last → IfSome found.gap (IsGapFor about last t)) → (found.gap ≡ None → IsFullFor about t found.part.region) → IsFoundOf about s found
+found_of about t s found e over part built many gap tells full = subst (λ u. IsFoundOf about u found) e (record { over = over; shows = part; built = built; size = many; gap = gap; tells = tells; full = full })
 
 pub fault_of : (about : CaseSystem) (t s : Statement) (budget : Budget) (fault : PreFault) → t ≡ s → ((last : ℕ) → IsLastRound about 8 last → IsPreFault about t budget (steps_back last t) fault) → (last : ℕ) → IsLastRound about 8 last → IsPreFault about s budget (steps_back last s) fault
 fault_of about t s budget fault e h = subst (λ u. (last : ℕ) → IsLastRound about 8 last → IsPreFault about u budget (steps_back last u) fault) e h
@@ -77,7 +78,36 @@ pub left_gap : (about : CaseSystem) (claim : Claim) (first second : Option Gap) 
 left_gap about claim first second gap left e =
     let a = subst (λ o. IfSome o (IsGapOf about)) (sym left.proof.same) left.proof.is.gap in
     let b = subst (λ o. IfSome o (IsGapOf about)) (sym left.disproof.same) left.disproof.is.gap in
-    subst (λ o. IfSome o (IsGapOf about)) (sym e) (gap_of_two about first second a b)
+    subst (λ o. IfSome o (IsGapOf about)) (sym e) (gap_in_order (IsGapOf about) first second a (λ n. b))
+
+-- and of the claim
+proof_tells : (about : CaseSystem) (claim : Claim) (last : ℕ) → StatesIts claim → claim_variables claim ≡ about.variables → HasRows about.variables (property_of claim.proved) → (gap : Gap) → IsGapFor about last (aim_states claim.proved_aim) gap → IsGapOfClaim about claim last gap
+proof_tells about claim last states same rows Inexact h = λ tame. h (elim tame [ inl plain ↦ inl plain | inr d ↦ inr (d.0, d.1) ])
+proof_tells about claim last states same rows (Open place) h =
+    let f = property_of claim.proved in
+    inl (h f (states_of about (claim_variables claim) (aim_states claim.proved_aim) f states.proved same) rows)
+
+disproof_tells : (about : CaseSystem) (claim : Claim) (last : ℕ) → StatesIts claim → claim_variables claim ≡ about.variables → HasRows about.variables (property_of claim.denied) → (gap : Gap) → IsGapFor about last (aim_states claim.denied_aim) gap → IsGapOfClaim about claim last gap
+disproof_tells about claim last states same rows Inexact h = λ tame. h (elim tame [ inl plain ↦ inl plain | inr d ↦ inr (d.0, d.2) ])
+disproof_tells about claim last states same rows (Open place) h =
+    let f = property_of claim.denied in
+    inr (h f (states_of about (claim_variables claim) (aim_states claim.denied_aim) f states.denied same) rows)
+
+pub left_by : (about : CaseSystem) (claim : Claim) → StatesIts claim → claim_variables claim ≡ about.variables → ClaimHasRows about claim → (first second : Option Gap) (gap : Gap) → IsLeft about claim first second → Some gap ≡ first_of first second → IsLeftBy about claim gap
+left_by about claim states same rows first second gap left e = record {
+  first = first;
+  second = second;
+  left = left;
+  is_first = e;
+  have_rows = rows;
+  tells = λ last l.
+      (let whole = IsGapOfClaim about claim last in
+      let a = subst (λ o. IfSome o (IsGapFor about last (aim_states claim.proved_aim))) (sym left.proof.same) (left.proof.is.tells last l) in
+      let b = subst (λ o. IfSome o (IsGapFor about last (aim_states claim.denied_aim))) (sym left.disproof.same) (left.disproof.is.tells last l) in
+      subst (λ o. IfSome o whole) (sym e)
+      (gap_in_order whole first second (gap_weaker (IsGapFor about last (aim_states claim.proved_aim)) whole first (proof_tells about claim last states same rows.0) a)
+      (λ n. gap_weaker (IsGapFor about last (aim_states claim.denied_aim)) whole second (disproof_tells about claim last states same rows.1) b)));
+}
 
 pub left_none : (about : CaseSystem) (claim : Claim) (first second : Option Gap) → None ≡ first_of first second → IsLeft about claim first second → IsLeft about claim None None
 left_none about claim None None e left = left

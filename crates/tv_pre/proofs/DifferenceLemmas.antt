@@ -1,8 +1,9 @@
 -- Rows, cases and regions that are found to be of differences.
-use Rattle.std.proofs.Common.{◌+◌, get_or, take, ◌≡◌, ◌⊎◌, inl, inr, ℕ, zero, suc, ◌<◌, ◌≤◌, List, [], ◌∷◌, length, refl, sym, ◌∙◌, subst, arith, ℤ, pos, negsuc, true, false, Bool, ◌==◌}
+use Rattle.std.proofs.Common.{◌+◌, get_or, take, ◌≡◌, ◌⊎◌, inl, inr, ℕ, zero, suc, ◌<◌, ◌≤◌, List, [], ◌∷◌, length, refl, sym, ap, ◌∙◌, subst, arith, ℤ, pos, negsuc, true, false, Bool, ◌==◌}
 use Rattle.std.specs.Prelude.{All, cond, ◌≤ℤ◌, slice_index_or}
 use Rattle.std.proofs.lemmas.Int.{ints}
-use Rattle.std.proofs.lemmas.List.Elements.{All-head, All-tail, All-more}
+use Rattle.std.proofs.lemmas.List.Elements.{All-nil, All-cons, All-head, All-tail, All-more}
+use Rattle.tv_region.proofs.RegionLemmas.{is_same}
 use Rattle.tv_linear.specs.Linear.{Linear}
 use Rattle.tv_linear.specs.declared.region.Piece.{Piece}
 use Rattle.tv_linear.specs.declared.region.Region.{Region}
@@ -85,3 +86,45 @@ case_more cases i c l e h w = All-more (λ (x : Case). IsCaseOfDifferences (case
 
 pub all_rows : (region : Region) → All (λ (p : Piece). All IsDifference p.poly.rows.items) region.pieces.items → IsOfDifferences region
 all_rows region h r m = all_pieces region.pieces.items h m.0 r m.1
+
+-- ---- what is of differences is found to be so
+-- what was found to be false is not true
+pub not_false : (b : Bool) → b ≡ true → b ≡ false → false ≡ true
+not_false b t f = sym f ∙ t
+
+abbrev IsBetween : ℤ → ℤ → ℤ → Type 0
+IsBetween least most z = (least ≤ℤ z) × (z ≤ℤ most)
+
+pub between_units : (r : Linear) → IsDifference r → AreBetweenNumbers (negsuc 0) (pos 1) r.coefficients
+between_units r h j l = elim (h.each j) [
+  | inl e ↦ subst (IsBetween (negsuc 0) (pos 1)) (sym e) (omega (arith, ints), omega (arith, ints))
+  | inr k ↦ elim k [
+    | inl e ↦ subst (IsBetween (negsuc 0) (pos 1)) (sym e) (omega (arith, ints), omega (arith, ints))
+    | inr e ↦ subst (IsBetween (negsuc 0) (pos 1)) (sym e) (omega (arith, ints), omega (arith, ints))
+  ]
+]
+
+pub between_bits : (r : Linear) → IsShift r → AreBetweenNumbers (pos 0) (pos 1) r.coefficients
+between_bits r h j l = elim (h.each j) [
+  | inl e ↦ subst (IsBetween (pos 0) (pos 1)) (sym e) (omega (arith, ints), omega (arith, ints))
+  | inr e ↦ subst (IsBetween (pos 0) (pos 1)) (sym e) (omega (arith, ints), omega (arith, ints))
+]
+
+pub has_all : {A : Type 0} (P : A → Type 0) (xs : List A) → ((x : A) → Has xs x → P x) → All P xs
+has_all P [] h = All-nil P
+has_all P (y ∷ ys) h = All-cons P y ys (h y (inl refl)) (has_all P ys (λ x m. h x (inr m)))
+
+pub case_has : (cases : List Case) (i : ℕ) (c : Case) → i < length cases → c ≡ get_or cases i c → Has (case_views cases) (case_view c)
+case_has [] i c l e = absurd (omega (arith, l))
+case_has (k ∷ ks) zero c l e = inl (ap case_view (sym e))
+case_has (k ∷ ks) (suc i) c l e = inr (case_has ks i c (omega (arith, l)) e)
+
+pub piece_row : (pieces : List Piece) (i : ℕ) (p : Piece) → i < length pieces → p ≡ get_or pieces i p → (r : Linear) → Has p.poly.rows.items r → InSome (lists_at p.location pieces) r
+piece_row [] i p l e r m = absurd (omega (arith, l))
+piece_row (q ∷ qs) zero p l e r m =
+    subst (λ b. InSome (cond b (q.poly.rows.items ∷ lists_at p.location qs) (lists_at p.location qs)) r) (sym (is_same q.location p.location (ap (λ (z : Piece). z.location) (sym e))))
+    (inl (subst (λ (z : Piece). Has z.poly.rows.items r) e m))
+piece_row (q ∷ qs) (suc i) p l e r m = behind (q.location == p.location) (piece_row qs i p (omega (arith, l)) e r m) where
+  behind : (b : Bool) → InSome (lists_at p.location qs) r → InSome (cond b (q.poly.rows.items ∷ lists_at p.location qs) (lists_at p.location qs)) r
+  behind true w = inr w
+  behind false w = w

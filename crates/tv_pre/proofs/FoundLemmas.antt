@@ -9,7 +9,8 @@ use Rattle.tv_formula.specs.Properties.{Property, Properties, none, more}
 use Rattle.tv_formula.specs.Properties as props
 use Rattle.tv_linear.specs.declared.region.Region.{Region}
 use Rattle.tv_cases.specs.Comparisons.{comparison_lists}
-use Rattle.tv_cases.specs.LinearCases.{CaseSystem, IsCase}
+use Rattle.tv_cases.specs.LinearCases.{CaseSystem, CaseSteps, IsCase}
+use Rattle.tv_program.specs.Runs.{Ends}
 use Rattle.tv_cases.proofs.Listed.{Contains-none}
 use Rattle.tv_cert.specs.declared.node.Node.{Node}
 use Rattle.tv_cert.specs.declared.aim.Aim.{Aim}
@@ -36,7 +37,7 @@ use Rattle.tv_pre.specs.Full.{HasRows, AllHaveRows, IsFull, AreFull}
 use Rattle.tv_pre.specs.Inclusions.{OfPieces}
 use Rattle.tv_pre.specs.declared.gap.Gap.{Gap}
 use Rattle.tv_pre.specs.declared.gap.Gap.TheVariants.{Inexact, Open}
-use Rattle.tv_pre.specs.Finding.{IsGapOf, first_of, gap_behind, IsFullFor, ArePartsFor, steps_back, all_steps_back, size, total_size, IsFound, IsRefusedFor, test_statement}
+use Rattle.tv_pre.specs.Finding.{IsGapFor, IsGapAmong, first_of, gap_behind, IsFullFor, ArePartsFor, steps_back, all_steps_back, size, total_size, IsFound, IsRefusedFor, test_statement}
 use Rattle.tv_pre.specs.Arguments.{IsArgument, AreEachArgument, AreFullFor, AreArguments}
 use Rattle.tv_pre.specs.declared.finding.Arguments.{Arguments}
 use Rattle.tv_pre.specs.Growing.{IsEverywhere}
@@ -46,6 +47,7 @@ use Rattle.tv_pre.proofs.PassedLemmas.{cover_fault}
 use Rattle.tv_pre.proofs.AskedLemmas.{each_asked, place_asked, next_asked}
 use Rattle.tv_pre.proofs.FullLemmas.{atom_full, each_full, some_full, next_full}
 use Rattle.tv_pre.proofs.FullAlongLemmas.{all_full}
+use Rattle.tv_pre.proofs.GapLemmas.{gap_weaker, among_more, each_gap, one_gap}
 use Rattle.tv_pre.proofs.FormulaLemmas.{each_is, one_is, after_is, along_is, ends_is, never_is}
 
 -- ---- gaps
@@ -57,15 +59,6 @@ pub none_behind : (count : ℕ) (gap : Option Gap) → gap_behind count gap ≡ 
 none_behind count None e = refl
 none_behind count (Some Inexact) e = absurd cc
 none_behind count (Some (Open place)) e = absurd cc
-
-pub gap_of_two : (about : CaseSystem) (first second : Option Gap) → IfSome first (IsGapOf about) → IfSome second (IsGapOf about) → IfSome (first_of first second) (IsGapOf about)
-gap_of_two about None second h g = g
-gap_of_two about (Some gap) second h g = h
-
-pub gap_kept : (about : CaseSystem) (count : ℕ) (gap : Option Gap) → IfSome gap (IsGapOf about) → IfSome (gap_behind count gap) (IsGapOf about)
-gap_kept about count None h = h
-gap_kept about count (Some Inexact) h = h
-gap_kept about count (Some (Open place)) h = tt
 
 -- ---- the last round
 pub one_last : (about : CaseSystem) (n m : ℕ) → IsLastRound about 8 n → IsLastRound about 8 m → n ≡ m
@@ -145,9 +138,9 @@ module _ (about : CaseSystem) (last : ℕ) where
     some_built = argument_built ss rs ns (one_of (statements_of ss)) (all_steps_back last (statements_of ss)) (λ a x. x) (omega arith) h
 
     pub each_is_found : (found : Found) → IsRegion about.variables about.locations found.part.region → ((fs : Properties) → AreParts about fs rs ns → IsPart about (props.all_of fs) found.part.region found.part.node) → IsBuiltOf about 0 rs found.part.region → found.size ≡ 1 + total_size (statements_of ss) →
-        (found.gap ≡ None → AreFullFor about ss rs) → ((s : State) → IsStateOf about s → All (λ x. InState x s) rs → InState found.part.region s) → IfSome found.gap (IsGapOf about) → IsFound about last (each_of (statements_of ss)) found
+        (found.gap ≡ None → AreFullFor about ss rs) → ((s : State) → IsStateOf about s → All (λ x. InState x s) rs → InState found.part.region s) → IfSome found.gap (IsGapAmong about last (statements_of ss)) → IsFound about last (each_of (statements_of ss)) found
     each_is_found found over p b z full all of = record {
-      gap = of;
+      gap = gap_weaker (IsGapAmong about last (statements_of ss)) (IsGapFor about last (each_of (statements_of ss))) found.gap (each_gap about last (statements_of ss)) of;
       over = over;
       shows = λ f e. (let w = each_is (comparison_lists about.variables) (statements_of ss) f e in subst (λ g. IsPart about g found.part.region found.part.node) (sym w.1) (p w.0 (argument_parts ss rs ns h w.0 w.2)));
       built = (let k = all_steps_back last (statements_of ss) in built_to about (each_of (statements_of ss)) (0 + k) k found.part.region (omega arith) (b (each_of (statements_of ss)) k each_built));
@@ -159,9 +152,9 @@ module _ (about : CaseSystem) (last : ℕ) where
     }
 
     pub some_is_found : (found : Found) → IsRegion about.variables about.locations found.part.region → ((fs : Properties) → AreParts about fs rs ns → IsPart about (props.some_of fs) found.part.region found.part.node) → IsBuiltOf about 0 rs found.part.region → found.size ≡ 1 + total_size (statements_of ss) →
-        (found.gap ≡ None → AreFullFor about ss rs) → All (λ x. OfPieces about x.pieces.items (InState found.part.region)) rs → IfSome found.gap (IsGapOf about) → IsFound about last (one_of (statements_of ss)) found
+        (found.gap ≡ None → AreFullFor about ss rs) → All (λ x. OfPieces about x.pieces.items (InState found.part.region)) rs → IfSome found.gap (IsGapAmong about last (statements_of ss)) → IsFound about last (one_of (statements_of ss)) found
     some_is_found found over p b z full all of = record {
-      gap = of;
+      gap = gap_weaker (IsGapAmong about last (statements_of ss)) (IsGapFor about last (one_of (statements_of ss))) found.gap (one_gap about last (statements_of ss)) of;
       over = over;
       shows = λ f e. (let w = one_is (comparison_lists about.variables) (statements_of ss) f e in subst (λ g. IsPart about g found.part.region found.part.node) (sym w.1) (p w.0 (argument_parts ss rs ns h w.0 w.2)));
       built = (let k = all_steps_back last (statements_of ss) in built_to about (one_of (statements_of ss)) (0 + k) k found.part.region (omega arith) (b (one_of (statements_of ss)) k some_built));
@@ -203,9 +196,9 @@ module _ (about : CaseSystem) (last : ℕ) where
     child_built = one_built about (after path s) (steps_back last s) child.part.region (built_wider about s (after path s) (λ a x. x) (steps_back last s) child.part.region h.built)
 
     pub after_is_found : (found : Found) → IsRegion about.variables about.locations found.part.region → ((f : Property) → AreParts about (more f none) (child.part.region ∷ []) (child.part.node ∷ []) → IsPart about (props.next path f) found.part.region found.part.node) → IsBuiltOf about 1 (child.part.region ∷ []) found.part.region → found.size ≡ 1 + child.size →
-        All (IsCase about.variables about.locations) about.cases → (found.gap ≡ None → IsTame about child.part.region × (child.gap ≡ None)) → OthersLeadOut about path child.part.region found.part.region → (IfSome child.gap (IsGapOf about) → IfSome found.gap (IsGapOf about)) → IsFound about last (after path s) found
+        All (IsCase about.variables about.locations) about.cases → (found.gap ≡ None → IsTame about child.part.region × (child.gap ≡ None)) → OthersLeadOut about path child.part.region found.part.region → IfSome found.gap (IsGapFor about last (after path s)) → IsFound about last (after path s) found
     after_is_found found over p b z cases told others of = record {
-      gap = of h.gap;
+      gap = of;
       over = over;
       shows = λ f e. (let w = after_is (comparison_lists about.variables) path s f e in subst (λ g. IsPart about g found.part.region found.part.node) (sym w.1) (p w.0 (h.shows w.0 w.2, tt)));
       built = built_to about (after path s) (1 + steps_back last s) ((last + 2) + steps_back last s) found.part.region (omega arith) (b (after path s) (steps_back last s) child_built);
@@ -235,7 +228,7 @@ module _ (about : CaseSystem) (last : ℕ) where
 
   -- ---- fixed points
   module _ (path : Path) (shape : Shape) (s t : Statement) (first second : Found) (h : IsFound about last s first) (g : IsFound about last t second) where
-    sides_built : AreBuilt about (along path shape s t) (steps_back last s + steps_back last t) (first.part.region ∷ second.part.region ∷ [])
+    pub sides_built : AreBuilt about (along path shape s t) (steps_back last s + steps_back last t) (first.part.region ∷ second.part.region ∷ [])
     sides_built =
         let whole = along path shape s t in
         let k = steps_back last s + steps_back last t in
@@ -245,9 +238,9 @@ module _ (about : CaseSystem) (last : ℕ) where
     pub along_is_found : (found : Found) → IsRegion about.variables about.locations found.part.region →
         ((f k : Property) → AreParts about (more f (more k none)) (first.part.region ∷ second.part.region ∷ []) (first.part.node ∷ second.part.node ∷ []) → IsPart about (props.fix path shape f k) found.part.region found.part.node) →
         IsBuiltOf about (last + 2) (first.part.region ∷ second.part.region ∷ []) found.part.region → found.size ≡ 1 + (first.size + second.size) →
-        (found.gap ≡ None → (first.gap ≡ None) × (second.gap ≡ None) × ((f k : Property) → IsFull about f first.part.region → IsFull about k second.part.region → IsFull about (props.fix path shape f k) found.part.region)) → (IfSome first.gap (IsGapOf about) → IfSome second.gap (IsGapOf about) → IfSome found.gap (IsGapOf about)) → IsFound about last (along path shape s t) found
+        (found.gap ≡ None → (first.gap ≡ None) × (second.gap ≡ None) × ((f k : Property) → IsFull about f first.part.region → IsFull about k second.part.region → IsFull about (props.fix path shape f k) found.part.region)) → IfSome found.gap (IsGapFor about last (along path shape s t)) → IsFound about last (along path shape s t) found
     along_is_found found over p b z told of = record {
-      gap = of h.gap g.gap;
+      gap = of;
       over = over;
       shows = λ f e. (let w = along_is (comparison_lists about.variables) path shape s t f e in subst (λ z. IsPart about z found.part.region found.part.node) (sym w.2) (p w.0 w.1 (h.shows w.0 w.3, (g.shows w.1 w.4, tt))));
       built = b (along path shape s t) (steps_back last s + steps_back last t) sides_built;
@@ -347,7 +340,7 @@ module _ (about : CaseSystem) (last : ℕ) where
   one_size (Here k) = refl
   one_size (Elsewhere k) = refl
 
-  pub atom_is_found : (t : Test) (found : Found) → IsTested about t found.part.region → ((f : Property) → IsTestOf about.variables t f → IsPart about f found.part.region found.part.node) → found.size ≡ 1 → IfSome found.gap (IsGapOf about) → IsFound about last (test_statement t) found
+  pub atom_is_found : (t : Test) (found : Found) → IsTested about t found.part.region → ((f : Property) → IsTestOf about.variables t f → IsPart about f found.part.region found.part.node) → found.size ≡ 1 → IfSome found.gap (IsGapFor about last (test_statement t)) → IsFound about last (test_statement t) found
   atom_is_found t found h p z of = record {
     gap = of;
     over = h.over;
@@ -358,7 +351,7 @@ module _ (about : CaseSystem) (last : ℕ) where
   }
 
   -- ---- termination
-  pub ends_is_found : (found : Found) → IsNowhere about found.part.region → IsPart about props.term found.part.region found.part.node → found.size ≡ 1 → (found.gap ≡ None → ⊥) → IfSome found.gap (IsGapOf about) → IsFound about last statements.ends found
+  pub ends_is_found : (found : Found) → IsNowhere about found.part.region → IsPart about props.term found.part.region found.part.node → found.size ≡ 1 → (found.gap ≡ None → ⊥) → IfSome found.gap (IsGapFor about last statements.ends) → IsFound about last statements.ends found
   ends_is_found found n p z gap of = record {
     gap = of;
     over = n.fits;
@@ -368,7 +361,7 @@ module _ (about : CaseSystem) (last : ℕ) where
     full = λ none f e rows. absurd (gap none);
   }
 
-  pub all_end_found : (found : Found) → IsEverywhere about found.part.region → IsPart about props.term found.part.region found.part.node → found.size ≡ 1 → IfSome found.gap (IsGapOf about) → IsFound about last statements.ends found
+  pub all_end_found : (found : Found) → IsEverywhere about found.part.region → IsPart about props.term found.part.region found.part.node → found.size ≡ 1 → IfSome found.gap (IsGapFor about last statements.ends) → IsFound about last statements.ends found
   all_end_found found e p z of = record {
     gap = of;
     over = e.over;
@@ -378,7 +371,7 @@ module _ (about : CaseSystem) (last : ℕ) where
     full = λ none f w rows. all_full about f found.part.region (λ s q. e.all s q.location);
   }
 
-  pub never_is_found : (found : Found) → IsNowhere about found.part.region → IsPart about (props.negated props.term) found.part.region found.part.node → found.size ≡ 1 → (found.gap ≡ None → ⊥) → IfSome found.gap (IsGapOf about) → IsFound about last statements.never_ends found
+  pub never_is_found : (found : Found) → IsNowhere about found.part.region → IsPart about (props.negated props.term) found.part.region found.part.node → found.size ≡ 1 → (found.gap ≡ None → ⊥) → IfSome found.gap (IsGapFor about last statements.never_ends) → IsFound about last statements.never_ends found
   never_is_found found n p z gap of = record {
     gap = of;
     over = n.fits;
@@ -386,6 +379,16 @@ module _ (about : CaseSystem) (last : ℕ) where
     built = of_nowhere ((last + 2) + (last + 2)) found.part.region n;
     size = z;
     full = λ none f e rows. absurd (gap none);
+  }
+
+  pub none_never_found : (found : Found) → IsNowhere about found.part.region → IsPart about (props.negated props.term) found.part.region found.part.node → found.size ≡ 1 → IfSome found.gap (IsGapFor about last statements.never_ends) → ((s : State) → IsStateOf about s → Ends (CaseSteps about) s) → IsFound about last statements.never_ends found
+  none_never_found found n p z of all = record {
+    gap = of;
+    over = n.fits;
+    shows = λ f e. subst (λ g. IsPart about g found.part.region found.part.node) (sym (never_is (comparison_lists about.variables) f e)) p;
+    built = of_nowhere ((last + 2) + (last + 2)) found.part.region n;
+    size = z;
+    full = λ none f e rows. subst (λ g. IsFull about g found.part.region) (sym (never_is (comparison_lists about.variables) f e)) (λ s q m. all s q);
   }
 
   -- ---- arguments one after the other
@@ -402,12 +405,12 @@ module _ (about : CaseSystem) (last : ℕ) where
         full = λ none.
             (let so = none_of_two old.gap (gap_behind (1 + old.size) found.gap) (sym g ∙ none) in
             subst (AreFullFor about (before ++ aim_states aim ∷ [])) (sym r) (full_more before old.regions.items (aim_states aim) found.part.region (h.full so.0) (f.full (none_behind (1 + old.size) found.gap so.1))));
-        gap = subst (λ o. IfSome o (IsGapOf about)) (sym g) (gap_of_two about old.gap (gap_behind (1 + old.size) found.gap) h.gap (gap_kept about (1 + old.size) found.gap f.gap));
+        gap = subst (λ o. IfSome o (IsGapAmong about last (statements_of (before ++ aim_states aim ∷ [])))) (sym g) (among_more about last before (aim_states aim) old.size h.size old.gap found.gap h.gap f.gap);
       })
 
   pub first_arguments : (new : Arguments) → new.regions.items ≡ [] → new.nodes.items ≡ [] → new.size ≡ 0 → new.gap ≡ None → AreArguments about last [] new
   first_arguments new r n z o = record {
-    gap = subst (λ g. IfSome g (IsGapOf about)) (sym o) tt;
+    gap = subst (λ g. IfSome g (IsGapAmong about last no_statement)) (sym o) tt;
     each = subst (λ rs. AreEachArgument about last [] rs new.nodes.items) (sym r) (subst (AreEachArgument about last [] []) (sym n) tt);
     size = z;
     full = λ none. subst (AreFullFor about []) (sym r) tt;

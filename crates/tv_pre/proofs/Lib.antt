@@ -39,3 +39,10 @@ pub mod RankedAlongLemmas
 pub mod WideLemmas
 pub mod FullLemmas
 pub mod FullAlongLemmas
+pub mod ShortPaths
+pub mod SettledRounds
+pub mod TameLemmas
+pub mod ExactLemmas
+pub mod GapLemmas
+pub mod GapAlongLemmas
+pub mod ToldLemmas

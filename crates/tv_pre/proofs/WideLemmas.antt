@@ -17,12 +17,12 @@ use Rattle.tv_pre.specs.declared.wide.Comparisons.TheVariants.{HaveRows}
 use Rattle.tv_pre.specs.Full.{HasRows, AllHaveRows}
 use Rattle.tv_pre.specs.Wide.{IsLinear, AreLinear, HasOwnRows, IsWideAt, AreTold}
 
-left_get : {X : Type 0} (xs ys : List X) (i : ℕ) (x : X) → slice_get xs i ≡ Some x → slice_get (xs ++ ys) i ≡ Some x
+pub left_get : {X : Type 0} (xs ys : List X) (i : ℕ) (x : X) → slice_get xs i ≡ Some x → slice_get (xs ++ ys) i ≡ Some x
 left_get [] ys i x h = absurd cc
 left_get (z ∷ xs) ys zero x h = h
 left_get (z ∷ xs) ys (suc i) x h = left_get xs ys i x h
 
-right_get : {X : Type 0} (xs ys : List X) (i : ℕ) (x : X) → slice_get ys i ≡ Some x → slice_get (xs ++ ys) (length xs + i) ≡ Some x
+pub right_get : {X : Type 0} (xs ys : List X) (i : ℕ) (x : X) → slice_get ys i ≡ Some x → slice_get (xs ++ ys) (length xs + i) ≡ Some x
 right_get [] ys i x h = subst (λ k. slice_get ys k ≡ Some x) (let e : i ≡ 0 + i = omega arith in e) h
 right_get (z ∷ xs) ys i x h = subst (λ k. slice_get (z ∷ (xs ++ ys)) k ≡ Some x) (let e : suc (length xs + i) ≡ suc (length xs) + i = omega arith in e) (right_get xs ys i x h)
 

@@ -8,7 +8,8 @@ use Rattle.tv_linear.specs.declared.region.Region.{Region}
 use Rattle.tv_cases.specs.LinearCases.{CaseSystem, CaseSteps}
 use Rattle.tv_cert.specs.declared.node.Node.{Node}
 use Rattle.tv_known.specs.Cycles.{IsStateOf}
-use Rattle.tv_known.specs.Rounds.{StaysIn, must_end}
+use Rattle.tv_known.specs.Rounds.{StaysIn, must_end, IsFixSettled}
+use Rattle.tv_cert.specs.Statements.{Statement}
 use Rattle.tv_cert.specs.Obligations.{hold_side}
 use Rattle.tv_rounds.specs.declared.fixed_point.FixedPoint.{FixedPoint}
 use Rattle.tv_rounds.specs.declared.answer.Rounds.{Rounds}
@@ -21,7 +22,10 @@ use Rattle.tv_pre.specs.declared.sides.Sides.{Sides}
 use Rattle.tv_pre.specs.Inclusions.{LeadsTo}
 use Rattle.tv_pre.specs.Fixed.{OnWay, AtEnd}
 use Rattle.tv_pre.specs.Parts.{IsPart, AreParts}
-use Rattle.tv_pre.specs.Built.{IsBuiltOf}
+use Rattle.tv_pre.specs.Built.{AreBuilt, IsBuiltOf}
+use Rattle.tv_pre.specs.Finding.{IsTameStatement}
+use Rattle.tv_pre.specs.declared.gap.Gap.{Gap}
+use Rattle.tv_pre.specs.declared.gap.Gap.TheVariants.{Inexact, Open}
 use Rattle.tv_pre.specs.Full.{IsFull}
 
 -- the regions of both arguments
@@ -82,3 +86,10 @@ pub record IsAlong (about : CaseSystem) (k : ℕ) (given : List Region) (sides :
 abbrev pub IsFullAlong : CaseSystem → Sides → Region → Type 0
 IsFullAlong about sides region =
     (f g : Property) → IsFull about f sides.first.now → IsFull about g sides.second.now → IsFull about (fix sides.path sides.shape f g) region
+
+-- what a gap of a fixed point itself says: whatever statement its arguments are made for, going back is not exact; or it has the number 0, and
+-- the last round does not settle the fixed point of the regions of the arguments
+abbrev pub IsGapAlong : CaseSystem → ℕ → Sides → Gap → Type 0
+IsGapAlong about last sides Inexact = (s : Statement) (h : ℕ) → AreBuilt about s h (arguments sides) → IsTameStatement about s → ⊥
+IsGapAlong about last sides (Open place) =
+    (place ≡ 0) × (IsFixSettled about sides.path sides.shape (InState sides.first.now) (InState sides.second.now) last → ⊥)

@@ -7,7 +7,7 @@ use Rattle.tv_cert.specs.AimViews.{statements_of}
 use Rattle.tv_cert.specs.Statements.{Statement}
 use Rattle.tv_region.specs.Regions.{IsRegion}
 use Rattle.tv_pre.specs.declared.finding.Arguments.{Arguments}
-use Rattle.tv_pre.specs.Finding.{IsGapOf, IsPartFor, IsFullFor, steps_back, total_size}
+use Rattle.tv_pre.specs.Finding.{IsGapAmong, IsPartFor, IsFullFor, steps_back, total_size}
 use Rattle.tv_pre.specs.Built.{IsBuilt}
 
 -- the region and the node of one argument
@@ -36,7 +36,7 @@ AreFullFor about (s ∷ ss) (region ∷ regions) = IsFullFor about s region × A
 pub record AreArguments (about : CaseSystem) (last : ℕ) (ss : List Statement) (arguments : Arguments) : Type 0 where
   pub each : AreEachArgument about last ss arguments.regions.items arguments.nodes.items
   pub size : arguments.size ≡ total_size (statements_of ss)
-  pub gap : IfSome arguments.gap (IsGapOf about)
+  pub gap : IfSome arguments.gap (IsGapAmong about last (statements_of ss))
   pub full : arguments.gap ≡ None → AreFullFor about ss arguments.regions.items
 
 -- their regions are over the cases

@@ -1,6 +1,7 @@
 -- What is found of a formula, bottom-up.
-use Rattle.std.specs.Prelude.{◌≡◌, ◌⊎◌, ℕ, ◌+◌, ◌<◌, ◌≤◌, ◌≤ℤ◌, Option, None, Some, IfSome, List, length, map, All, Contains, ℤ, slice_index, slice_index_or, pos}
-use Rattle.tv_formula.specs.Properties.{Property, Properties}
+use Rattle.std.specs.Prelude.{◌≡◌, ◌⊎◌, ℕ, ◌+◌, ◌<◌, ◌≤◌, ◌≤ℤ◌, Option, None, Some, IfSome, List, ◌∷◌, length, map, All, Contains, ℤ, slice_get, slice_index, slice_index_or, pos}
+use Rattle.tv_formula.specs.Properties.{Property, Properties, term, negated}
+use Rattle.tv_linear.specs.Linear.{Linear}
 use Rattle.tv_linear.specs.declared.region.Region.{Region}
 use Rattle.tv_cases.specs.Comparisons.{comparison_lists}
 use Rattle.tv_cases.specs.LinearCases.{LinearCase, CaseSystem}
@@ -8,18 +9,21 @@ use Rattle.tv_cert.specs.declared.node.Node.{Node}
 use Rattle.tv_cert.specs.Statements.{Statement, rows, here, elsewhere, ends, never_ends, each_of, one_of, after, along, unsaid, Statements, no_statement, statement, stated, stated_all}
 use Rattle.tv_cover.specs.Targets.{AreEven}
 use Rattle.tv_region.specs.Regions.{IsRegion}
-use Rattle.tv_region.specs.Differences.{AreOfDifferences, IsOfDifferences}
+use Rattle.tv_known.specs.Cycles.{HasCycle}
+use Rattle.tv_known.specs.Subformulas.{subformulas, all_subformulas, IsUnsettled}
+use Rattle.tv_region.specs.Met.{InSome}
+use Rattle.tv_region.specs.Differences.{IsDifference, AreOfDifferences, IsOfDifferences}
 use Rattle.tv_region.specs.StepRegions.{HasNoDraws}
 use Rattle.tv_pre.specs.declared.gap.Gap.{Gap}
 use Rattle.tv_pre.specs.declared.gap.Gap.TheVariants.{Inexact, Open}
 use Rattle.tv_pre.specs.declared.outcome.Found.{Found}
-use Rattle.tv_pre.specs.Full.{HasRows, IsFull}
+use Rattle.tv_pre.specs.Full.{HasRows, AllHaveRows, IsFull, IsExactly}
 use Rattle.tv_pre.specs.Parts.{IsPart, AreParts}
 use Rattle.tv_farkas.specs.declared.budget.Budget.{Budget}
 use Rattle.tv_pre.specs.declared.fault.PreFault.{PreFault}
 use Rattle.tv_pre.specs.declared.test.Test.{Test}
 use Rattle.tv_pre.specs.declared.test.Test.TheVariants.{Rows, Here, Elsewhere}
-use Rattle.tv_pre.specs.Built.{IsBuilt, IsPreFault}
+use Rattle.tv_pre.specs.Built.{HasAtom, IsBuilt, IsPreFault}
 
 -- ---- the program
 
@@ -139,6 +143,10 @@ ArePartsFor about ss regions nodes = (fs : Properties) → ss ≡ stated_all (co
 abbrev pub IsFullFor : CaseSystem → Statement → Region → Type 0
 IsFullFor about s region = (f : Property) → States about s f → HasRows about.variables f → IsFull about f region
 
+-- and then it has exactly the states where the formula holds
+abbrev pub IsExactFor : CaseSystem → Statement → Region → Type 0
+IsExactFor about s region = (f : Property) → States about s f → HasRows about.variables f → IsExactly about f region
+
 -- what a test states
 abbrev pub test_statement : Test → Statement
 test_statement (Rows lists) = rows (map (λ v. v.items) lists.now)
@@ -149,11 +157,64 @@ test_statement (Elsewhere l) = elsewhere l
 abbrev pub IsRefusedFor : CaseSystem → Budget → ℕ → Statement → PreFault → Type 0
 IsRefusedFor about budget last s fault = IsPreFault about s budget (steps_back last s) fault
 
+-- ---- what a gap of a formula says
+
+-- each row of the comparisons in the statement is a difference
+abbrev pub AreAtomsOfDifferences : Statement → Type 0
+AreAtomsOfDifferences s = (lists : List (List Linear)) (r : Linear) → HasAtom s (rows lists) → InSome lists r → IsDifference r
+
+-- going back is exact for all that is made of the statement: no case has a draw, or the cases and the comparisons are of differences
+abbrev pub IsTameStatement : CaseSystem → Statement → Type 0
+IsTameStatement about s = HasNoDraws about ⊎ (AreOfDifferences about × AreAtomsOfDifferences s)
+
+-- termination or its negation, of whose rounds nothing is said
+abbrev pub IsTerminal : Property → Type 0
+IsTerminal term = Unit {0}
+IsTerminal (negated term) = Unit {0}
+IsTerminal f = ⊥
+
+-- the property with this number is a fixed point that round k does not settle, or termination or its negation
+pub record IsOpenAt (about : CaseSystem) (k : ℕ) (fs : List Property) (place : ℕ) : Type 0 where
+  pub part : Property
+  pub there : slice_get fs place ≡ Some part
+  pub unsettled : IsUnsettled about k part ⊎ IsTerminal part
+
+-- what a gap says of the formula that the statement is of, where rounds are made up to the last and each comparison has rows: going back is
+-- not exact, or the last round does not settle the subformula with the number
+abbrev pub IsGapFor : CaseSystem → ℕ → Statement → Gap → Type 0
+IsGapFor about last s Inexact = IsTameStatement about s → ⊥
+IsGapFor about last s (Open place) = (f : Property) → States about s f → HasRows about.variables f → IsOpenAt about last (subformulas f) place
+
+-- the same of the arguments of a formula, which has the number 0
+abbrev pub IsGapAmong : CaseSystem → ℕ → Statements → Gap → Type 0
+IsGapAmong about last ss Inexact = IsTameStatement about (each_of ss) → ⊥
+IsGapAmong about last ss (Open place) =
+    (f : Property) (fs : Properties) → ss ≡ stated_all (comparison_lists about.variables) fs → AllHaveRows about.variables fs
+    → IsOpenAt about last (f ∷ all_subformulas fs) place
+
+-- none of these properties is termination or its negation
+abbrev pub NoneIsTerminal : List Property → Type 0
+NoneIsTerminal fs = (f : Property) → Contains fs f → IsTerminal f → ⊥
+
+-- no case has a draw, and the cases have no cycle
+pub record IsPlainProgram (about : CaseSystem) : Type 0 where
+  pub draws : HasNoDraws about
+  pub acyclic : HasCycle about → ⊥
+
+-- there no gap of the formula is told, if each comparison has rows and it has no termination
+abbrev pub HasNoGapIfPlain : CaseSystem → Statement → Option Gap → Type 0
+HasNoGapIfPlain about s gap =
+    IsPlainProgram about → (f : Property) → States about s f → HasRows about.variables f → NoneIsTerminal (subformulas f) → gap ≡ None
+
+-- the gap of the states before a region: going back into it is not exact
+abbrev pub IsWildStep : CaseSystem → Region → Gap → Type 0
+IsWildStep about into gap = (gap ≡ Inexact) × (IsTameFor about into into → ⊥)
+
 -- what is found of a formula where rounds are made up to the last
 pub record IsFound (about : CaseSystem) (last : ℕ) (s : Statement) (found : Found) : Type 0 where
   pub over : IsRegion about.variables about.locations found.part.region
   pub shows : IsPartFor about s found.part.region found.part.node
   pub built : IsBuilt about s (steps_back last s) found.part.region
   pub size : found.size ≡ size s
-  pub gap : IfSome found.gap (IsGapOf about)
+  pub gap : IfSome found.gap (IsGapFor about last s)
   pub full : found.gap ≡ None → IsFullFor about s found.part.region

@@ -1,5 +1,5 @@
 -- Regions that lack only states where the formula fails.
-use Rattle.std.specs.Prelude.{◌⊎◌, ℕ, List, [], ◌∷◌, IsTrue}
+use Rattle.std.specs.Prelude.{◌⊎◌, ◌↔◌, ℕ, List, [], ◌∷◌, IsTrue}
 use Rattle.tv_program.specs.Steps.{State}
 use Rattle.tv_formula.specs.Properties.{Property, truth, compare, at, term, negated, all_of, some_of, next, fix, Properties, none, more}
 use Rattle.tv_formula.specs.Normal.{negation}
@@ -31,6 +31,10 @@ abbrev mutual
 -- each state of the program that the region lacks is one where the negation of the property holds
 abbrev pub IsFull : CaseSystem → Property → Region → Type 0
 IsFull about f region = (s : State) → IsStateOf about s → (InState region s → ⊥) → Holds (CaseSteps about) (negation f) s
+
+-- the region has exactly the states of the program where the property holds
+abbrev pub IsExactly : CaseSystem → Property → Region → Type 0
+IsExactly about f region = (s : State) → IsStateOf about s → InState region s ↔ Holds (CaseSteps about) f s
 
 -- one region for each property, in order
 abbrev pub AreFull : CaseSystem → Properties → List Region → Type 0

@@ -24,3 +24,4 @@ pub mod RankedUntil
 pub mod Search
 pub mod Arguments
 pub mod RankedAlong
+pub mod Told

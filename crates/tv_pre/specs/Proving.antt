@@ -23,7 +23,11 @@ use Rattle.tv_pre.specs.declared.deciding.Tried.TheVariants as tried
 use Rattle.tv_pre.specs.declared.deciding.Unproved.{Unproved}
 use Rattle.tv_pre.specs.declared.deciding.Unproved.TheVariants as unproved
 use Rattle.tv_pre.specs.Built.{IsBuilt, IsPreFault}
-use Rattle.tv_pre.specs.Finding.{IsGapOf, first_of, IsPartFor, IsFullFor, steps_back, size}
+use Rattle.tv_pre.specs.Finding.{IsGapOf, first_of, IsPartFor, IsFullFor, steps_back, size, AreAtomsOfDifferences, IsOpenAt, IsGapFor}
+use Rattle.tv_pre.specs.Full.{HasRows}
+use Rattle.tv_region.specs.Differences.{AreOfDifferences}
+use Rattle.tv_region.specs.StepRegions.{HasNoDraws}
+use Rattle.tv_pre.specs.declared.gap.Gap.TheVariants.{Inexact, Open}
 use Rattle.tv_pre.specs.Wide.{IsWideAt}
 use Rattle.tv_pre.specs.Questions.{Question, IsRefusal}
 use Rattle.tv_pre.specs.Starting.{HasNoStart, AsksStart, AsksEmpty}
@@ -35,6 +39,7 @@ pub record IsFoundOf (about : CaseSystem) (s : Statement) (found : Found) : Type
   pub built : (last : ℕ) → IsLastRound about 8 last → IsBuilt about s (steps_back last s) found.part.region
   pub size : found.size ≡ size s
   pub gap : IfSome found.gap (IsGapOf about)
+  pub tells : (last : ℕ) → IsLastRound about 8 last → IfSome found.gap (IsGapFor about last s)
   pub full : found.gap ≡ None → IsFullFor about s found.part.region
 
 abbrev pub pieces_of : Found → List Piece
@@ -92,8 +97,36 @@ abbrev pub IsWideIn : CaseSystem → Claim → ℕ → Type 0
 IsWideIn about claim place =
     IsWideAt about.variables (subformulas (property_of claim.proved)) place ⊎ IsWideAt about.variables (subformulas (property_of claim.denied)) place
 
+-- each comparison of the normal form and of the negation has rows
+abbrev pub ClaimHasRows : CaseSystem → Claim → Type 0
+ClaimHasRows about claim = HasRows about.variables (property_of claim.proved) × HasRows about.variables (property_of claim.denied)
+
+-- no case has a draw, or the cases and the rows of the comparisons are of differences
+abbrev pub IsTameClaim : CaseSystem → Claim → Type 0
+IsTameClaim about claim =
+    HasNoDraws about ⊎ (AreOfDifferences about × AreAtomsOfDifferences (aim_states claim.proved_aim) × AreAtomsOfDifferences (aim_states claim.denied_aim))
+
+-- the program is not tame for the claim; or the last round does not settle the subformula with the number, of the normal form or of the
+-- negation
+abbrev pub IsGapOfClaim : CaseSystem → Claim → ℕ → Gap → Type 0
+IsGapOfClaim about claim last Inexact = IsTameClaim about claim → ⊥
+IsGapOfClaim about claim last (Open place) =
+    IsOpenAt about last (subformulas (property_of claim.proved)) place ⊎ IsOpenAt about last (subformulas (property_of claim.denied)) place
+
+-- the gap is the first of the two, and it is so what it says
+pub record IsLeftBy (about : CaseSystem) (claim : Claim) (gap : Gap) : Type 0 where
+  pub first : Option Gap
+  pub second : Option Gap
+  pub left : IsLeft about claim first second
+  pub is_first : Some gap ≡ first_of first second
+  pub have_rows : ClaimHasRows about claim
+  pub tells : (last : ℕ) → IsLastRound about 8 last → IsGapOfClaim about claim last gap
+
+-- neither side settles the claim, whatever their gaps
+abbrev pub IsSomehowLeft : CaseSystem → Claim → Type 0
+IsSomehowLeft about claim = (first : Option Gap) × (second : Option Gap) × IsLeft about claim first second
+
 abbrev pub IsUnproved : CaseSystem → Claim → Budget → Unproved → Type 0
 IsUnproved about claim budget (unproved.Refused fault) = IsProofFault about claim budget fault ⊎ IsDisproofFault about claim budget fault
-IsUnproved about claim budget (unproved.Left gap) =
-    IsGapOf about gap × ((first : Option Gap) × (second : Option Gap) × IsLeft about claim first second × (Some gap ≡ first_of first second))
-IsUnproved about claim budget (unproved.Wide place) = IsLeft about claim None None × IsWideIn about claim place
+IsUnproved about claim budget (unproved.Left gap) = IsGapOf about gap × IsLeftBy about claim gap
+IsUnproved about claim budget (unproved.Wide place) = IsSomehowLeft about claim × IsWideIn about claim place

@@ -16,10 +16,10 @@ system_of search = cases_of search.setting.now.about.now
 abbrev pub IsRanking : CaseSystem → Ranking → Type 0
 IsRanking about ranking = IsRankedBy about [] ranking.node ranking.shown.items
 
--- the search has the last round, and says no more of the cases than is so
+-- the search has the last round, and says of the cases what is so
 pub record IsSearch (search : Search) : Type 0 where
   pub splits : search.setting.now.budget.now.splits ≤ 128
   pub last : IsLastRound (system_of search) 8 search.last
   pub plain : IsTrue search.plain ↔ HasNoDraws (system_of search)
-  pub differences : IsTrue search.differences → AreOfDifferences (system_of search)
+  pub differences : IsTrue search.differences ↔ AreOfDifferences (system_of search)
   pub ranked : IfSome search.ranking (IsRanking (system_of search))

@@ -1,13 +1,13 @@
 // Certificates of formulas over paths.
 
-ghost use Rattle.std.specs.Prelude.{◌≡◌, ◌≤◌, None, IfOk};
+ghost use Rattle.std.specs.Prelude.{◌≡◌, ◌≤◌, IfOk, MatchOption};
 ghost use Rattle.std.specs.Result.{IfErr};
 ghost use Rattle.tv_formula.specs.Formulas.{property_of};
 ghost use Rattle.tv_formula.specs.Normal.{negation};
 ghost use Rattle.tv_cases.specs.Systems.{cases_of};
 ghost use Rattle.tv_cert.specs.Claims.{StatesIts, claim_variables};
 ghost use Rattle.tv_shape.specs.Certificates.{IsSettling};
-ghost use Rattle.tv_pre.specs.Proving.{IsProofTried, IsDisproofTried, IsProofFault, IsDisproofFault, IsLeft, IsWideIn, IsUnproved};
+ghost use Rattle.tv_pre.specs.Proving.{IsProofTried, IsDisproofTried, IsProofFault, IsDisproofFault, IsLeft, ClaimHasRows, IsWideIn, IsUnproved};
 
 use crate::gap::first_gap;
 use crate::starting::{Inside, first_inside, start_covered};
@@ -35,8 +35,8 @@ pub enum Unproved {
     Refused(PreFault),
     /// Some initial state is not known to have the property, and none is known not to have it: a region may lack states, for this reason.
     Left(Gap),
-    /// The same, although no gap is known of: the comparison that is this subformula, of the normal form or of the negation, has no rows, as
-    /// a number of a part of it or of a row is too wide.
+    /// The same, and the comparison that is this subformula, of the normal form or of the negation, has no rows, as a number of a part of it
+    /// or of a row is too wide.
     Wide { place: u32 },
 }
 
@@ -99,27 +99,25 @@ fn try_disproof(setting: &Setting, claim: &Claim) -> Result<Tried, PreFault>
     }
 }
 
-/// The number of the first comparison without rows, where the start tells nothing of either side and no gap is known of: if each comparison
-/// had rows, the formula and its negation would both fail at a state at the start.
-fn first_wide(setting: &Setting, claim: &Claim) -> Result<u32, AllocError>
-    requires states { StatesIts claim.now }
+/// The number of the first comparison without rows, of the normal form or of the negation; none where each has rows.
+fn first_wide(setting: &Setting, claim: &Claim) -> Result<Option<u32>, AllocError>
     requires variables { claim_variables claim.now ≡ (cases_of setting.now.about.now).variables }
-    requires denies { property_of claim.now.denied ≡ negation (property_of claim.now.proved) }
-    requires left { IsLeft (cases_of setting.now.about.now) claim.now None None }
-    ensures { IfOk result (IsWideIn (cases_of setting.now.about.now) claim.now) }
+    ensures { let about = cases_of setting.now.about.now in
+        IfOk result (λ wide. MatchOption wide (ClaimHasRows about claim.now) (IsWideIn about claim.now)) }
 {
     let variables = setting.about.variables();
     match comparisons_of(setting.alloc, claim.proved().tree(), variables)? {
-        Comparisons::Wide { place } => return Ok(place),
+        Comparisons::Wide { place } => return Ok(Some(place)),
         Comparisons::HaveRows { size: _ } => {}
     }
     match comparisons_of(setting.alloc, claim.denied().tree(), variables)? {
-        Comparisons::Wide { place } => Ok(place),
-        Comparisons::HaveRows { size: _ } => unreachable!(),
+        Comparisons::Wide { place } => Ok(Some(place)),
+        Comparisons::HaveRows { size: _ } => Ok(None),
     }
 }
 
-/// Why there is no certificate, where the start tells nothing of either side.
+/// Why there is no certificate, where the start tells nothing of either side: a comparison has no rows; or the first gap. One is known of, as
+/// else the formula and its negation would both fail at a state at the start.
 fn left(setting: &Setting, claim: &Claim, first: Option<Gap>, second: Option<Gap>) -> Unproved
     requires states { StatesIts claim.now }
     requires variables { claim_variables claim.now ≡ (cases_of setting.now.about.now).variables }
@@ -127,11 +125,14 @@ fn left(setting: &Setting, claim: &Claim, first: Option<Gap>, second: Option<Gap
     requires left { IsLeft (cases_of setting.now.about.now) claim.now first second }
     ensures { IsUnproved (cases_of setting.now.about.now) claim.now setting.now.budget.now result }
 {
-    match first_gap(first, second) {
-        Some(gap) => Unproved::Left(gap),
-        None => match first_wide(setting, claim) {
-            Err(_) => Unproved::Refused(PreFault::Memory),
-            Ok(place) => Unproved::Wide { place },
+    // That the start is a location is known by this call.
+    let _variables = setting.about.variables();
+    match first_wide(setting, claim) {
+        Err(_) => Unproved::Refused(PreFault::Memory),
+        Ok(Some(place)) => Unproved::Wide { place },
+        Ok(None) => match first_gap(first, second) {
+            Some(gap) => Unproved::Left(gap),
+            None => unreachable!(),
         },
     }
 }

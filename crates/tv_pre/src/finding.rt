@@ -13,7 +13,7 @@ ghost use Rattle.tv_region.specs.StepRegions.{IsTame};
 ghost use Rattle.tv_pre.specs.declared.fault.PreFault.TheVariants.{Memory};
 ghost use Rattle.tv_pre.specs.Atoms.{IsEvenTest};
 ghost use Rattle.tv_pre.specs.Built.{IsBuilt};
-ghost use Rattle.tv_pre.specs.Finding.{States, IsEvenStatement, AreEvenStatements, steps_back, size, first_of, gap_behind, IsGapOf, IsPartFor, IsFullFor, IsFound, test_statement, IsRefusedFor};
+ghost use Rattle.tv_pre.specs.Finding.{States, IsEvenStatement, AreEvenStatements, steps_back, size, first_of, gap_behind, IsGapOf, IsGapFor, IsWildStep, IsPartFor, IsFullFor, IsExactFor, HasNoGapIfPlain, IsFound, test_statement, IsRefusedFor};
 ghost use Rattle.tv_pre.specs.Search.{system_of, IsSearch};
 ghost use Rattle.tv_pre.specs.Arguments.{AreArguments, AreArgumentsOf};
 
@@ -126,6 +126,22 @@ fn ends_found(search: &Search) -> Result<Found, PreFault>
     }
 }
 
+/// What is found of the negation of termination: where the program is ranked it holds nowhere; else so far nothing.
+fn never_found(search: &Search) -> Result<Found, PreFault>
+    requires search { IsSearch search.now }
+    ensures found { IfOk result (IsFound (system_of search.now) search.now.last statements.never_ends) }
+    ensures memory { IfErr result (λ fault. fault ≡ Memory) }
+{
+    match &search.ranking {
+        None => Ok(termination_found(search)?),
+        Some(_) => {
+            let part = empty_part(search.setting)?;
+            let gap = None;
+            Ok(Found { part, gap, size: 1 })
+        }
+    }
+}
+
 /// What is found of a conjunction.
 fn each_found(search: &Search, arguments: Arguments) -> Result<Found, PreFault>
     requires search { IsSearch search.now }
@@ -172,18 +188,16 @@ fn some_found(search: &Search, arguments: Arguments) -> Result<Found, PreFault>
     Ok(Found { part, gap, size })
 }
 
-/// Why the region of the states before another one may lack states: going back may not be exact, or the other one lacks some.
-fn gap_before(search: &Search, into: &Region, gap: Option<Gap>) -> Result<Option<Gap>, PreFault>
+/// Why the region of the states before another one may lack states, if that one lacks none: going back into it may not be exact.
+fn gap_before(search: &Search, into: &Region) -> Option<Gap>
     requires search { IsSearch search.now }
-    ensures none { IfOk result (λ before. before ≡ None → IsTame (system_of search.now) into.now × (gap ≡ None)) }
-    ensures gap { let about = system_of search.now in
-        IfOk result (λ before. IfSome gap (IsGapOf about) → IfSome before (IsGapOf about)) }
-    ensures memory { IfErr result (λ fault. fault ≡ Memory) }
+    ensures none { result ≡ None → IsTame (system_of search.now) into.now }
+    ensures some { IfSome result (IsWildStep (system_of search.now) into.now) }
 {
     if search.is_tame(into, into) {
-        Ok(gap_after(1, gap)?)
+        None
     } else {
-        Ok(Some(Gap::Inexact))
+        Some(Gap::Inexact)
     }
 }
 
@@ -198,10 +212,12 @@ fn after_found(search: &Search, path: Path, child: Found) -> Result<Found, PreFa
         IfErr result (λ fault. (s : Statement) → IsFound about search.now.last s child →
         IsRefusedFor about search.now.setting.now.budget.now search.now.last (statements.after path s) fault) }
 {
+    // That the cases are proper is known by this call.
     let _variables = search.setting.about.variables();
     let size = added(1, child.size)?;
     let Part { region: into, node } = child.part;
-    let gap = gap_before(search, &into, child.gap)?;
+    let inner = gap_after(1, child.gap)?;
+    let gap = first_gap(inner, gap_before(search, &into));
     let region = back_into(search.setting, path, &into)?;
     let mut children = Vec::new(search.setting.alloc);
     push_item(&mut children, node)?;
@@ -227,6 +243,8 @@ fn along_found(
         IfErr result (λ fault. (s t : Statement) → IsFound about search.now.last s first → IsFound about search.now.last t second →
         IsRefusedFor about search.now.setting.now.budget.now search.now.last (statements.along path shape s t) fault) }
 {
+    // That the cases are proper is known by this call.
+    let _variables = search.setting.about.variables();
     let size = added(1, added(first.size, second.size)?)?;
     let left = gap_after(1, first.gap)?;
     let right = gap_after(added(1, first.size)?, second.gap)?;
@@ -248,7 +266,7 @@ fn along_found(
         second: &other,
     };
     let Along { part, gap } = part_along(search, &sides, children)?;
-    let gap = first_gap(gap, first_gap(left, right));
+    let gap = first_gap(first_gap(left, right), gap);
     Ok(Found { part, gap, size })
 }
 
@@ -287,7 +305,7 @@ fn found_of(search: &Search, aim: &Aim) -> Result<Found, PreFault>
         Aim::Here(location) => atom_found(search, &Test::Here(*location)),
         Aim::Elsewhere(location) => atom_found(search, &Test::Elsewhere(*location)),
         Aim::Ends => ends_found(search),
-        Aim::NeverEnds => termination_found(search),
+        Aim::NeverEnds => never_found(search),
         Aim::EachOf(aims) => {
             let arguments = all_found(search, aims)?;
             each_found(search, arguments)
@@ -313,8 +331,9 @@ fn found_of(search: &Search, aim: &Aim) -> Result<Found, PreFault>
 /// The region of an atom has its rows at each location; conjunctions and disjunctions have the states that each argument has, or one of
 /// them. A formula on the next states has those all of whose steps lead into the region of its argument, or some step. A fixed point has the
 /// states at its end, and, where going back over the steps is exact, those of its rounds: up to the eighth in a program with a cycle, and
-/// else up to as many as it has locations. A `gap` says why the region may lack states. Where there is none, and each comparison has rows,
-/// the negation of the formula holds at each state that the region lacks.
+/// else up to as many as it has locations. A `gap` says why the region may lack states, of the first subformula where it may: those before
+/// have none, and nor have its arguments. Where there is none, and each comparison has rows, the region has exactly the states where the
+/// formula holds, and at each other one its negation does.
 ///
 /// Where the whole program has a lexicographic ranking, termination holds everywhere, and so does a fixed point over every run that must
 /// come to an end if each state is at its end, or on the way with a step. A ranking system that is not settled counts as none.
@@ -332,12 +351,20 @@ pub fn found(setting: &Setting, aim: &Aim) -> Result<Found, PreFault>
         IfOk result (λ found. (last : ℕ) → IsLastRound system 8 last → IsBuilt system s (steps_back last s) found.part.region) }
     ensures size { IfOk result (λ found. found.size ≡ size (aim_states aim.now)) }
     ensures gap { IfOk result (λ found. IfSome found.gap (IsGapOf (cases_of setting.now.about.now))) }
+    ensures tells { let system = cases_of setting.now.about.now in
+        IfOk result (λ found. (last : ℕ) → IsLastRound system 8 last → IfSome found.gap (IsGapFor system last (aim_states aim.now))) }
     ensures full { let system = cases_of setting.now.about.now in
         IfOk result (λ found. found.gap ≡ None → IsFullFor system (aim_states aim.now) found.part.region) }
+    ensures exact { let system = cases_of setting.now.about.now in
+        IfOk result (λ found. found.gap ≡ None → IsExactFor system (aim_states aim.now) found.part.region) }
+    ensures plain { let system = cases_of setting.now.about.now in
+        IfOk result (λ found. HasNoGapIfPlain system (aim_states aim.now) found.gap) }
     ensures refused { let system = cases_of setting.now.about.now in
         IfErr result (λ fault. (last : ℕ) → IsLastRound system 8 last →
         IsRefusedFor system setting.now.budget.now last (aim_states aim.now) fault) }
 {
+    // That the cases are proper is known by this call.
+    let _variables = setting.about.variables();
     let search = search_in(setting)?;
     found_of(&search, aim)
 }

@@ -1,12 +1,34 @@
-// The laws of regions that lack only states where the formula fails, carried by a function that does nothing.
+// The laws of regions that lack only states where the formula fails, and of gaps, each carried by a function that does nothing.
 
 ghost use Rattle.tv_formula.specs.Properties.{Property};
+ghost use Rattle.tv_formula.specs.declared.tree.Path.{Path};
+ghost use Rattle.tv_formula.specs.declared.tree.Shape.{Shape};
+ghost use Rattle.tv_farkas.specs.declared.budget.Budget.{Budget};
 ghost use Rattle.tv_cases.specs.LinearCases.{CaseSystem};
+ghost use Rattle.tv_cert.specs.declared.claim.Claim.{Claim};
+ghost use Rattle.tv_known.specs.Laws.{AreProper};
+ghost use Rattle.tv_pre.specs.declared.gap.Gap.{Gap};
 ghost use Rattle.tv_pre.specs.Full.{FullHasAll, FullTell};
+ghost use Rattle.tv_pre.specs.Told.{AcyclicIsSettled, NoneIsUnsettled, SettledIsTold, PlainIsTold};
+
+use tv_known::Sides;
 
 /// Where a region lacks only states at which the negation of a formula holds, it has each state where the formula holds; and such regions of
 /// a formula and of its negation have each state of the program between them.
 pub fn full_regions_tell()
     ensures all { (about : CaseSystem) (f : Property) → FullHasAll about f }
     ensures tell { (about : CaseSystem) (f : Property) → FullTell about f }
+{}
+
+/// No claim is left open with a gap where the program is tame for it and the last round settles each fixed point of the normal form and of
+/// the negation, nor where the program has neither a draw nor a cycle; if termination does not stand in them.
+pub fn settled_claims_are_told()
+    ensures tame { (about : CaseSystem) (claim : Claim) (budget : Budget) (gap : Gap) → SettledIsTold about claim budget gap }
+    ensures plain { (about : CaseSystem) → AreProper about → (claim : Claim) (budget : Budget) (gap : Gap) → PlainIsTold about claim budget gap }
+{}
+
+/// In a program without a cycle, the round of the number of locations equals the next one: it settles each fixed point, and each subformula.
+pub fn acyclic_rounds_settle<S: Sides>()
+    ensures rounds { (about : CaseSystem) → AreProper about → (path : Path) (shape : Shape) → AcyclicIsSettled about path shape S.hold S.end }
+    ensures formulas { (about : CaseSystem) → AreProper about → (f : Property) → NoneIsUnsettled about f }
 {}

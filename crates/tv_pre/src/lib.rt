@@ -57,7 +57,7 @@ pub use finding::found;
 pub use gap::Gap;
 pub use growing::until;
 pub use junction::{each_of, one_of};
-pub use laws::full_regions_tell;
+pub use laws::{acyclic_rounds_settle, full_regions_tell, settled_claims_are_told};
 pub use outcome::Found;
 pub use part::Part;
 pub use ranked_cases::RankedCases;

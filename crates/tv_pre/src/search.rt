@@ -60,11 +60,11 @@ pub(crate) fn search_in<'a>(setting: &'a Setting<'a>) -> Result<Search<'a>, Allo
 }
 
 impl Search<'_> {
-    /// Whether it is found that going back into the regions is exact.
+    /// Whether going back into the regions is exact.
     pub(crate) fn is_tame(&self, first: &Region, second: &Region) -> bool
         requires search { IsSearch self.now }
         ensures tame { IsTrue result → IsTameFor (cases_of self.now.setting.now.about.now) first.now second.now }
-        ensures drawn { IsFalse result → HasNoDraws (cases_of self.now.setting.now.about.now) → ⊥ }
+        ensures wild { IsFalse result → IsTameFor (cases_of self.now.setting.now.about.now) first.now second.now → ⊥ }
     {
         if self.plain {
             return true;

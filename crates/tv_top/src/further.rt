@@ -19,7 +19,8 @@ use tv_invariant::strengthen;
 use tv_propose::Proposer;
 use tv_shape::Certificate;
 
-/// Whether a further search is begun after the answer: where no ranks, no rows or no rounds were found, and not where a limit was met.
+/// Whether a further search is begun after the answer: where no ranks, no rows or no rounds were found, and not where a limit of the search
+/// was met.
 fn leaves_open(answer: &Answer) -> bool {
     match answer {
         Answer::Unknown(Cause::Unranked { .. }) => true,
@@ -27,6 +28,7 @@ fn leaves_open(answer: &Answer) -> bool {
         Answer::Unknown(Cause::TooManyPaths { .. }) => true,
         Answer::Unknown(Cause::Drawn { .. }) => true,
         Answer::Unknown(Cause::Unsettled { .. }) => true,
+        Answer::Unknown(Cause::WideComparison { .. }) => true,
         _ => false,
     }
 }

@@ -1,4 +1,4 @@
-use Rattle.std.proofs.Common.{◌⊎◌, ◌≤◌, ◌+◌, ◌∷◌, length, subst, arith}
+use Rattle.std.proofs.Common.{refl, ◌⊎◌, ◌≤◌, ◌+◌, ◌∷◌, length, subst, arith}
 use Rattle.tv_pre.specs.Search.{system_of}
 use Rattle.tv_pre.specs.Questions.{Question}
 use Rattle.tv_pre.specs.Along.{arguments}
@@ -6,7 +6,8 @@ use Rattle.tv_pre.specs.Fixed.{AsksEnds}
 use Rattle.tv_pre.specs.Growing.{AsksLayers}
 use Rattle.tv_pre.specs.Built.{IsFaultOf}
 use Rattle.tv_pre.proofs.PassedLemmas.{passed_on, cover_fault, fault_again}
-use Rattle.tv_pre.proofs.AlongLemmas.{first_layers, settled_layers, open_layers, until_asked, until_built, answer_built, is_along}
+use Rattle.tv_pre.proofs.ExactLemmas.{open_sides}
+use Rattle.tv_pre.proofs.AlongLemmas.{open_rounds, first_layers, settled_layers, open_layers, until_asked, until_built, answer_built, is_along}
 use Rattle.tv_rounds.specs.Answers.{IsFullBy}
 use Rattle.tv_known.specs.Rounds.{must_end}
 use Rattle.tv_pre.proofs.FullAlongLemmas.{grown_full}
@@ -116,3 +117,12 @@ returns-clause-along c =
     is_along about (last + 1) sides c.args.children.items c.in_ok-part-in-Open.part (end ∷ layers) (end ∷ arguments sides) c.in_ok-part-in-Open.ensures.region
     (λ f g w. c.in_ok-part-in-Open.ensures.part f g w)
     (λ s h m. until_built about last sides end s h m layers (answer_built about last sides end s h m c.in_ok-layers.field-0 rounds layers few told.layers.each c.variables-variables.ensures.limits.cases))
+
+pub returns-clause-gap : goal.returns-clause-gap
+returns-clause-gap c =
+    let rounds = c.in_ok-layers.ensures.rounds in
+    let about = system_of c.args.search.now in (
+      refl,
+      open_sides about c.variables-variables.ensures.limits.cases c.args.sides.now c.args.end rounds.point rounds.of c.requires.end c.args.search.now.last
+          (open_rounds about c.args.search.now.last c.args.sides.now c.args.end c.in_ok-layers.field-0 c.in-Open.region c.in-Open.layers c.in-Open.is rounds),
+    )

@@ -1,4 +1,4 @@
-use Rattle.std.proofs.Common.{◌+◌, ◌∷◌, [], sym, subst, arith}
+use Rattle.std.proofs.Common.{refl, ◌+◌, ◌∷◌, [], sym, subst, arith}
 use Rattle.tv_pre.specs.Search.{system_of}
 use Rattle.tv_pre.specs.Along.{arguments}
 use Rattle.tv_pre.specs.Fixed.{AsksStaying}
@@ -6,7 +6,8 @@ use Rattle.tv_pre.specs.Parts.{joined_pieces}
 use Rattle.tv_pre.specs.Built.{IsFaultOf, IsPreFault}
 use Rattle.tv_pre.proofs.BuiltLemmas.{all_built_to, fault_to}
 use Rattle.tv_pre.proofs.PassedLemmas.{passed_on, cover_fault, fault_again}
-use Rattle.tv_pre.proofs.AlongLemmas.{settled_stays, settled_round, round_sides, round_built, weak_built, weak_asked, is_along, along_more}
+use Rattle.tv_pre.proofs.ExactLemmas.{open_sides}
+use Rattle.tv_pre.proofs.AlongLemmas.{open_rounds, settled_stays, settled_round, round_sides, round_built, weak_built, weak_asked, is_along, along_more}
 use Rattle.tv_rounds.specs.Answers.{IsFullBy}
 use Rattle.tv_known.specs.Rounds.{must_end}
 use Rattle.tv_pre.proofs.FullAlongLemmas.{shrunk_full}
@@ -106,3 +107,12 @@ returns-in_err-part-in-Open-clause-refused c =
 
 pub returns-clause-along : goal.returns-clause-along
 returns-clause-along c = along_more (system_of c.args.search.now) 0 (c.args.search.now.last + 1) (c.args.end ∷ arguments c.args.sides.now) (c.args.end ∷ arguments c.args.sides.now) c.args.sides.now c.args.children.items c.in_ok-part-in-Open.part (omega arith) (λ s h m. all_built_to (system_of c.args.search.now) s h (0 + h) (c.args.end ∷ arguments c.args.sides.now) (omega arith) m) c.in_ok-part-in-Open.ensures.along
+
+pub returns-clause-gap : goal.returns-clause-gap
+returns-clause-gap c =
+    let rounds = c.in_ok-region.ensures.rounds in
+    let about = system_of c.args.search.now in (
+      refl,
+      open_sides about c.variables-variables.ensures.limits.cases c.args.sides.now c.args.end rounds.point rounds.of c.requires.end c.args.search.now.last
+          (open_rounds about c.args.search.now.last c.args.sides.now c.args.end c.in_ok-region.field-0 c.in-Open.region c.in-Open.layers c.in-Open.is rounds),
+    )

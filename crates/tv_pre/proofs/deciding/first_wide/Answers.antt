@@ -7,7 +7,6 @@ use Rattle.tv_pre.specs.declared.wide.Comparisons.TheVariants.{HaveRows}
 use Rattle.tv_pre.specs.Full.{HasRows}
 use Rattle.tv_pre.specs.Wide.{IsLinear, AreTold}
 use Rattle.tv_pre.proofs.WideLemmas.{is_linear_in, rows_told}
-use Rattle.tv_pre.proofs.DecidingLemmas.{not_left}
 use Rattle.tv_pre.proofs.deciding.first_wide.Goals as goal
 
 pub comparisons_of-requires-clause-linear : goal.comparisons_of-requires-clause-linear
@@ -20,15 +19,15 @@ comparisons_of-requires-2-clause-linear c =
     let g = c.denied.result.now in
     subst IsLinear (sym c.tree-2.ensures.same) (is_linear_in (variables_of g) (locations_of g) (property_of g) c.tree-2.ensures.limits.fits)
 
-pub unreachable-requires : goal.unreachable-requires
-unreachable-requires c =
+pub returns-in-HaveRows-2 : goal.returns-in-HaveRows-2
+returns-in-HaveRows-2 c =
     let about = cases_of c.args.setting.now.about.now in
     let n = c.variables-variables.result in
     let claim = c.args.claim.now in
     let first = rows_told n (property_of claim.proved) c.in-HaveRows.size
     (subst (λ g. AreTold n (subformulas g) (HaveRows c.in-HaveRows.size)) (c.tree.ensures.same ∙ ap property_of c.proved.ensures) (subst (AreTold n (subformulas (property c.tree.result.now))) c.in-HaveRows.is c.in_ok-place.ensures)) in
     let second = rows_told n (property_of claim.denied) c.in-HaveRows-2.size
-    (subst (λ g. AreTold n (subformulas g) (HaveRows c.in-HaveRows-2.size)) (c.tree-2.ensures.same ∙ ap property_of c.denied.ensures) (subst (AreTold n (subformulas (property c.tree-2.result.now))) c.in-HaveRows-2.is c.in_ok-place-2.ensures)) in
-    not_left about claim c.requires.states c.requires.variables c.requires.denies c.variables-variables.ensures.limits.starts
-    (subst (λ k. HasRows k (property_of claim.proved)) c.variables-variables.ensures.same first)
-    (subst (λ k. HasRows k (property_of claim.denied)) c.variables-variables.ensures.same second) c.requires.left
+    (subst (λ g. AreTold n (subformulas g) (HaveRows c.in-HaveRows-2.size)) (c.tree-2.ensures.same ∙ ap property_of c.denied.ensures) (subst (AreTold n (subformulas (property c.tree-2.result.now))) c.in-HaveRows-2.is c.in_ok-place-2.ensures)) in (
+      subst (λ k. HasRows k (property_of claim.proved)) c.variables-variables.ensures.same first,
+      subst (λ k. HasRows k (property_of claim.denied)) c.variables-variables.ensures.same second,
+    )

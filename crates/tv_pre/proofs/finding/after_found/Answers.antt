@@ -1,3 +1,4 @@
+use Rattle.std.specs.Prelude.{IfSome}
 use Rattle.std.proofs.Common.{◌≡◌, ◌∙◌, [], ◌∷◌, ◌++◌, ap, sym, subst}
 use Rattle.tv_linear.specs.declared.region.Region.{Region}
 use Rattle.tv_formula.specs.Properties.{Property, none, more}
@@ -9,9 +10,11 @@ use Rattle.tv_pre.specs.Parts.{IsPart, AreParts}
 use Rattle.tv_pre.specs.Search.{system_of}
 use Rattle.tv_pre.specs.Along.{OthersLeadOut}
 use Rattle.tv_pre.specs.Built.{IsBuiltOf}
-use Rattle.tv_pre.specs.Finding.{IsFound, IsRefusedFor}
+use Rattle.tv_pre.specs.Finding.{first_of, steps_back, IsGapFor, IsFound, IsRefusedFor}
+use Rattle.tv_pre.proofs.GapLemmas.{after_gap}
+use Rattle.tv_pre.proofs.GapAlongLemmas.{step_gap}
 use Rattle.tv_pre.proofs.PassedLemmas.{passed_on}
-use Rattle.tv_pre.proofs.FoundLemmas.{after_is_found, after_fault, after_question}
+use Rattle.tv_pre.proofs.FoundLemmas.{none_of_two, none_behind, after_is_found, after_fault, after_question}
 use Rattle.tv_pre.proofs.finding.after_found.Goals as goal
 
 pub returns-in_err-region-clause-refused : goal.returns-in_err-region-clause-refused
@@ -44,5 +47,9 @@ returns-clause-found c s h =
     (subst (IsRegion about.variables about.locations) same c.in_ok-region.ensures.before.over)
     (λ f w. subst (λ (r : Region). IsPart about (props.next c.args.path f) r part.node) same (c.in_ok-part.ensures.part f (subst (AreParts about (more f none) (child.part.region ∷ [])) (sym children) w)))
     (subst (IsBuiltOf about 1 (child.part.region ∷ [])) same c.in_ok-region.ensures.built)
-    c.in_ok-size.ensures c.variables-variables.ensures.limits.cases c.in_ok-gap.ensures.none
-    (subst (OthersLeadOut about c.args.path child.part.region) same c.in_ok-region.ensures.others) c.in_ok-gap.ensures.gap
+    c.in_ok-size.ensures c.variables-variables.ensures.limits.cases
+    (λ whole. (let parted = none_of_two _ _ (sym c.first_gap-gap.ensures ∙ whole) in (c.gap_before.ensures.none parted.1, none_behind 1 child.gap (sym c.in_ok-inner.ensures ∙ parted.0))))
+    (subst (OthersLeadOut about c.args.path child.part.region) same c.in_ok-region.ensures.others)
+    (subst (λ o. IfSome o (IsGapFor about last (statements.after c.args.path s))) (sym c.first_gap-gap.ensures)
+    (subst (λ o. IfSome (first_of o c.gap_before.result) (IsGapFor about last (statements.after c.args.path s))) (sym c.in_ok-inner.ensures)
+    (after_gap about last c.args.path s child.gap c.gap_before.result h.gap (step_gap about last c.args.path s (steps_back last s) child.part.region h.built c.gap_before.result c.gap_before.ensures.some))))

@@ -5,9 +5,11 @@ use Rattle.tv_cert.specs.Statements.{Statement}
 use Rattle.tv_cert.specs.Statements as statements
 use Rattle.tv_pre.specs.Parts.{AreParts}
 use Rattle.tv_pre.specs.Search.{system_of}
-use Rattle.tv_pre.specs.Finding.{IsGapOf, IsFound, IsRefusedFor}
+use Rattle.tv_pre.specs.Finding.{first_of, gap_behind, IsGapFor, IsFound, IsRefusedFor}
+use Rattle.tv_pre.specs.declared.gap.Gap.TheVariants.{Inexact, Open}
+use Rattle.tv_pre.proofs.GapAlongLemmas.{along_gap, said_of}
 use Rattle.tv_pre.proofs.PassedLemmas.{passed_on}
-use Rattle.tv_pre.proofs.FoundLemmas.{along_is_found, along_fault, none_of_two, none_behind, gap_of_two, gap_kept}
+use Rattle.tv_pre.proofs.FoundLemmas.{along_is_found, along_fault, none_of_two, none_behind}
 use Rattle.tv_pre.proofs.finding.along_found.Goals as goal
 
 pub returns-in_err-part-clause-refused : goal.returns-in_err-part-clause-refused
@@ -32,10 +34,16 @@ returns-clause-found c s t h g =
     along.built (c.in_ok-size.ensures ∙ ap (λ k. 1 + k) c.in_ok-added.ensures)
     (λ whole.
     (let parted = none_of_two _ _ (sym c.first_gap-gap.ensures ∙ whole) in
-    let sides = none_of_two _ _ (sym c.first_gap.ensures ∙ parted.1) in
-    (none_behind _ c.args.first.gap (sym c.in_ok-left.ensures ∙ sides.0), none_behind _ c.args.second.gap (sym c.in_ok-right.ensures ∙ sides.1), λ f k x y. c.in_ok-part.ensures.full parted.0 f k x y)))
-    (λ a b.
-    (let left = subst (λ o. IfSome o (IsGapOf about)) (sym c.in_ok-left.ensures) (gap_kept about _ c.args.first.gap a) in
-    let right = subst (λ o. IfSome o (IsGapOf about)) (sym c.in_ok-right.ensures) (gap_kept about _ c.args.second.gap b) in
-    let sides = subst (λ o. IfSome o (IsGapOf about)) (sym c.first_gap.ensures) (gap_of_two about _ _ left right) in
-    subst (λ o. IfSome o (IsGapOf about)) (sym c.first_gap-gap.ensures) (gap_of_two about _ _ c.in_ok-part.ensures.gap sides)))
+    let sides = none_of_two _ _ (sym c.first_gap.ensures ∙ parted.0) in
+    (none_behind _ c.args.first.gap (sym c.in_ok-left.ensures ∙ sides.0), none_behind _ c.args.second.gap (sym c.in_ok-right.ensures ∙ sides.1), λ f k x y. c.in_ok-part.ensures.full parted.1 f k x y)))
+    (let own = c.in_ok-part.field-0.gap in
+    let told = c.in_ok-part.ensures.gap in
+    let whole = IsGapFor about last (statements.along c.args.path c.args.shape s t) in
+    subst (λ o. IfSome o whole) (sym c.first_gap-gap.ensures)
+    (subst (λ o. IfSome (first_of o own) whole) (sym c.first_gap.ensures)
+    (subst (λ o. IfSome (first_of (first_of o c.in_ok-right.right) own) whole) (sym c.in_ok-left.ensures)
+    (subst (λ o. IfSome (first_of (first_of (gap_behind 1 c.args.first.gap) o) own) whole) (sym c.in_ok-right.ensures)
+    (subst (λ n. IfSome (first_of (first_of (gap_behind 1 c.args.first.gap) (gap_behind n c.args.second.gap)) own) whole) (sym c.in_ok-added-2.ensures)
+    (along_gap about last c.variables-variables.ensures.limits.cases c.args.path c.args.shape s t c.args.first c.args.second h g own
+    (λ e. said_of _ own Inexact e told)
+    (λ place e. said_of _ own (Open place) e told)))))))

@@ -1,0 +1,63 @@
+-- Where no gap is told.
+use Rattle.std.proofs.Common.{◌≡◌, inl, inr, ℕ, zero, suc, List, [], ◌∷◌, refl, subst, slice_get}
+use Rattle.std.specs.Prelude.{All, Contains, Option, None, Some, IfSome}
+use Rattle.std.proofs.lemmas.List.Elements.{Contains-append_left, Contains-append_right}
+use Rattle.tv_formula.specs.Formulas.{property_of}
+use Rattle.tv_formula.specs.Properties.{Property}
+use Rattle.tv_farkas.specs.declared.budget.Budget.{Budget}
+use Rattle.tv_linear.specs.declared.region.Region.{Region}
+use Rattle.tv_cases.specs.LinearCases.{CaseSystem, IsCase}
+use Rattle.tv_cases.proofs.Listed.{Contains-here, Contains-later}
+use Rattle.tv_cert.specs.declared.claim.Claim.{Claim}
+use Rattle.tv_cert.specs.declared.node.Node.{Node}
+use Rattle.tv_cert.specs.Statements.{Statement}
+use Rattle.tv_known.specs.Cycles.{HasCycle, IsLastRound}
+use Rattle.tv_known.specs.Subformulas.{subformulas}
+use Rattle.tv_region.specs.Regions.{IsRegion}
+use Rattle.tv_pre.specs.declared.gap.Gap.{Gap}
+use Rattle.tv_pre.specs.declared.gap.Gap.TheVariants.{Inexact, Open}
+use Rattle.tv_pre.specs.Finding.{IsGapFor, IsOpenAt, NoneIsTerminal, IsPlainProgram, HasNoGapIfPlain, IsPartFor, IsFullFor, IsExactFor}
+use Rattle.tv_pre.specs.Told.{AreSettled, SettledIsTold, PlainIsTold}
+use Rattle.tv_pre.proofs.ExactLemmas.{part_exact}
+use Rattle.tv_pre.proofs.SettledRounds.{none_unsettled}
+
+got_among : {A : Type 0} (xs : List A) (i : ℕ) (x : A) → slice_get xs i ≡ Some x → Contains xs x
+got_among [] i x e = absurd cc
+got_among (y ∷ xs) zero x e = (let same : y ≡ x = cc in subst (Contains (y ∷ xs)) same (Contains-here y xs))
+got_among (y ∷ xs) (suc i) x e = Contains-later y x xs (got_among xs i x e)
+
+-- ---- programs without cycles and draws
+module _ (about : CaseSystem) (cases : All (IsCase about.variables about.locations) about.cases) where
+  none_open : (HasCycle about → ⊥) → (fs : List Property) → NoneIsTerminal fs → (place : ℕ) → IsOpenAt about about.locations fs place → ⊥
+  none_open none fs n place h = elim h.unsettled [ inl u ↦ none_unsettled about cases h.part none u | inr t ↦ n h.part (got_among fs place h.part h.there) t ]
+
+  plain_last : IsPlainProgram about → (last : ℕ) → IsLastRound about 8 last → last ≡ about.locations
+  plain_last plain last (inl h) = absurd (plain.acyclic h.0)
+  plain_last plain last (inr h) = h.1
+
+  pub no_gap : (last : ℕ) → IsLastRound about 8 last → (s : Statement) (gap : Option Gap) → IfSome gap (IsGapFor about last s) → HasNoGapIfPlain about s gap
+  no_gap last l s None h plain f e w n = refl
+  no_gap last l s (Some Inexact) h plain f e w n = absurd (h (inl plain.draws))
+  no_gap last l s (Some (Open place)) h plain f e w n = absurd (none_open plain.acyclic (subformulas f) n place (subst (λ k. IsOpenAt about k (subformulas f) place) (plain_last plain last l) (h f e w)))
+
+  pub plain_told : (claim : Claim) (budget : Budget) (gap : Gap) → PlainIsTold about claim budget gap
+  plain_told claim budget Inexact plain n h = h.1.tells about.locations (inr (plain.acyclic, refl)) (inl plain.draws)
+  plain_told claim budget (Open place) plain n h = elim (h.1.tells about.locations (inr (plain.acyclic, refl))) [
+    | inl o ↦ none_open plain.acyclic (subformulas (property_of claim.proved)) (λ f m t. n f (Contains-append_left (subformulas (property_of claim.proved)) (subformulas (property_of claim.denied)) f m) t) place o
+    | inr o ↦ none_open plain.acyclic (subformulas (property_of claim.denied)) (λ f m t. n f (Contains-append_right (subformulas (property_of claim.proved)) (subformulas (property_of claim.denied)) f m) t) place o
+  ]
+
+-- ---- tame programs
+none_settled : (about : CaseSystem) (last : ℕ) (fs : List Property) → AreSettled about last fs → (place : ℕ) → IsOpenAt about last fs place → ⊥
+none_settled about last fs h place o = h o.part (got_among fs place o.part o.there) o.unsettled
+
+pub settled_told : (about : CaseSystem) (claim : Claim) (budget : Budget) (gap : Gap) → SettledIsTold about claim budget gap
+settled_told about claim budget Inexact tame last l settled h = h.1.tells last l tame
+settled_told about claim budget (Open place) tame last l settled h = elim (h.1.tells last l) [
+  | inl o ↦ none_settled about last (subformulas (property_of claim.proved)) (λ f m u. settled f (Contains-append_left (subformulas (property_of claim.proved)) (subformulas (property_of claim.denied)) f m) u) place o
+  | inr o ↦ none_settled about last (subformulas (property_of claim.denied)) (λ f m u. settled f (Contains-append_right (subformulas (property_of claim.proved)) (subformulas (property_of claim.denied)) f m) u) place o
+]
+
+-- ---- exact regions
+pub exact_for : (about : CaseSystem) (s : Statement) (region : Region) (node : Node) → IsRegion about.variables about.locations region → IsPartFor about s region node → IsFullFor about s region → IsExactFor about s region
+exact_for about s region node over part full f e w = part_exact about f region node over (part f e) (full f e w)
