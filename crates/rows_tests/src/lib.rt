@@ -4,6 +4,8 @@
 #[cfg(test)]
 mod cases;
 #[cfg(test)]
+mod copying;
+#[cfg(test)]
 mod covers;
 #[cfg(test)]
 mod given;

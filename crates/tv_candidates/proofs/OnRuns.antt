@@ -7,6 +7,7 @@ use Rattle.tv_linear.specs.Arithmetic.{constant_row}
 use Rattle.tv_linear.specs.Known.{term_value}
 use Rattle.tv_linear.specs.Terms.{table, terms_after, update_of}
 use Rattle.tv_linear.proofs.RowValues.{value-constant_row}
+use Rattle.tv_linear.proofs.PlainLists.{length-table}
 use Rattle.tv_program.specs.Steps.{State}
 use Rattle.tv_cases.specs.LinearCases.{CaseSystem, CaseSteps}
 use Rattle.tv_program.specs.Runs.{IsRun, last_of}
@@ -15,13 +16,9 @@ use Rattle.tv_candidates.specs.Inductive.{MeetsAll, IsInductive}
 use Rattle.tv_candidates.specs.Offered.{candidate}
 use Rattle.tv_candidates.specs.Laws.{HoldsOnRuns, HasFalseRow, IsNeverReached}
 
-table_length : {A : Type 0} (n : ℕ) (f : ℕ → A) → length (table n f) ≡ n
-table_length zero f = refl
-table_length (suc n) f = ap suc (table_length n (λ j. f (suc j)))
-
 counted : (about : CaseSystem) (s t : State) → CaseSteps about s t → length t.values ≡ length s.values
 counted about s t st =
-    ap length st.does.gives ∙ length-map (terms_after (length s.values) st.taken.updates) (term_value (s.values ++ st.draws)) ∙ table_length (length s.values) (update_of st.taken.updates)
+    ap length st.does.gives ∙ length-map (terms_after (length s.values) st.taken.updates) (term_value (s.values ++ st.draws)) ∙ length-table (length s.values) (update_of st.taken.updates)
 
 along : (about : CaseSystem) (list : List Candidate) → IsInductive about list → (s : State) (run : List State) → length s.values ≡ about.variables → MeetsAll list s → IsRun (CaseSteps about) s run → MeetsAll list (last_of s run)
 along about list h s [] even met steps = met

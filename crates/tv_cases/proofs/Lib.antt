@@ -18,3 +18,4 @@ pub mod CaseLimits
 pub mod LeavingLemmas
 pub mod BeforeValue
 pub mod ComparisonLemmas
+pub mod BeforeLemmas

@@ -6,6 +6,7 @@ use Rattle.std.proofs.lemmas.List.{same_lists, length-map}
 use Rattle.tv_linear.specs.Linear.{Linear, value}
 use Rattle.tv_linear.specs.Known.{kept, put, term_value}
 use Rattle.tv_linear.specs.Terms.{update_of, table, terms_after}
+use Rattle.tv_linear.proofs.PlainLists.{length-table}
 use Rattle.tv_program.specs.Trees.{Instruction}
 use Rattle.tv_cases.specs.EdgeCases.{assigns, update, updates_from}
 use Rattle.tv_cases.proofs.FormValues.{values}
@@ -45,10 +46,6 @@ update_of-at instructions v (t ∷ ts) (suc k) d h =
           update_of (cond b (update v t ∷ updates_from instructions (suc v) ts) (updates_from instructions (suc v) ts)) (v + suc k) ≡ cond (assigns instructions (v + suc k)) (put (get_or ts k d)) (kept (v + suc k))
       by_test true later = ap (λ b. if b then put t else update_of (updates_from instructions (suc v) ts) (v + suc k)) (other_number v (v + suc k) (omega arith)) ∙ later
       by_test false later = later
-
-length-table : {A : Type 0} (n : ℕ) (f : ℕ → A) → length (table n f) ≡ n
-length-table zero f = refl
-length-table (suc n) f = ap suc (length-table n (λ j. f (suc j)))
 
 get_or-table : {A : Type 0} (n : ℕ) (f : ℕ → A) (k : ℕ) (d : A) → k < n → get_or (table n f) k d ≡ f k
 get_or-table zero f k d h = absurd (omega arith)

@@ -1,15 +1,16 @@
 //! Rows read over the values before a case.
 
 ghost use Rattle.std.specs.Prelude.{◌≡◌, ◌++◌, ◌+◌, ◌-◌, ◌^◌, ◌<◌, ◌≤◌, ℤ, List, All, IfOk, length, map};
+ghost use Rattle.std.specs.Result.{IfErr};
 ghost use Rattle.tv_linear.specs.Linear.{columns, value};
 ghost use Rattle.tv_linear.specs.Known.{term_value};
 ghost use Rattle.tv_linear.specs.Terms.{update_of, terms_after};
-ghost use Rattle.tv_cases.specs.Before.{term_row, GivesBefore};
+ghost use Rattle.tv_cases.specs.Before.{term_row, GivesBefore, AreRowsBefore, AreRefusedBefore};
 ghost use Rattle.tv_cases.specs.Views.{case_view};
 
 use crate::case::Case;
 use std::alloc::{AllocError, Global};
-use tv_linear::{Row, RowFault, Update};
+use tv_linear::{Row, RowFault, Update, push_item};
 
 /// The term of a variable after the updates.
 fn term_of(alloc: Global, updates: &[Update], variable: u32, width: u32) -> Result<Row, AllocError>
@@ -62,4 +63,24 @@ pub fn before(alloc: Global, row: &Row, taken: &Case) -> Result<Row, RowFault>
     }
     let terms = terms_of(alloc, &taken.updates, variables, variables + taken.draws)?;
     row.compose(alloc, &terms)
+}
+
+/// Each of the rows, read over the values before a case.
+pub fn all_before(
+    alloc: Global,
+    rows: &[Row],
+    taken: &Case,
+    variables: u32,
+) -> Result<Vec<Row>, RowFault>
+    requires few { variables + taken.now.draws < 2 ^ 32 - 1 }
+    requires terms { All (λ u. columns u.term ≡ variables + taken.now.draws) (case_view taken.now).updates }
+    requires even { All (λ r. columns r ≡ variables) rows.now }
+    ensures rows { IfOk result (λ v. AreRowsBefore (case_view taken.now) rows.now v.items) }
+    ensures refused { IfErr result (AreRefusedBefore (case_view taken.now) rows.now) }
+{
+    let mut all = Vec::new(alloc);
+    'rows: for row in rows {
+        push_item(&mut all, before(alloc, row, taken)?)?;
+    }
+    Ok(all)
 }

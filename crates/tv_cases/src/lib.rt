@@ -16,7 +16,7 @@ mod relations;
 mod rows;
 mod terms;
 
-pub use backward::before;
+pub use backward::{all_before, before};
 pub use case::{Case, CaseFault, Cases};
 pub use comparisons::comparison_lists;
 pub use program::cases;

@@ -20,7 +20,9 @@ use Rattle.tv_cert.specs.Choices.{ChoiceFits}
 use Rattle.tv_cert.specs.Obligations.{About, Obligation, Owed, a_cover, a_choice, a_point, cover_of, step_of, end_sides, go_of, fix_of, first_of, second_of}
 use Rattle.tv_cert.specs.Nodes.{parts, kid_pieces, piece_of, own_of}
 use Rattle.tv_cert.specs.Fits.{PieceFits, ProofFits, MarksFit, OwnFits, NodeFits, KidsFit}
-use Rattle.tv_cert.specs.Shapes.{PieceShape, ChoiceShape, ProofShape, OwnShape, HasShape, HaveShapes, may_be_done, IsNormalHead}
+use Rattle.tv_cert.specs.Statements.{stated}
+use Rattle.tv_cert.specs.Shapes.{PieceShape, ChoiceShape, ProofShape, OwnShape, KidsShape, HasShape, HaveShapes, may_be_done, IsSaid}
+use Rattle.tv_cert.proofs.StatedLemmas.{parts-stated}
 
 -- ---- choices are over the variables
 
@@ -115,7 +117,7 @@ piece_fits about m ends p h = record {
   many = λ go. h.many ∙ ap (λ b. cond b m 0) go;
 }
 
-marks_fit : (about : About) (f : Property) (m : ℕ) (ps : List Marked) → IsNormalHead f → All (PieceShape about.system m (may_be_done f)) ps → MarksFit f ps
+marks_fit : (about : About) (f : Property) (m : ℕ) (ps : List Marked) → IsSaid (stated about.tests f) → All (PieceShape about.system m (may_be_done (stated about.tests f))) ps → MarksFit f ps
 marks_fit about (truth b) m ps normal h = tt
 marks_fit about (compare r a b) m ps normal h = tt
 marks_fit about (at l) m ps normal h = tt
@@ -134,16 +136,16 @@ marks_fit about (some_of fs) m ps normal h = tt
 marks_fit about (next path f) m ps normal h = tt
 marks_fit about (fix path shape f g) m ps normal h = tt
 
-own_fits : (about : About) (f : Property) (m : ℕ) (ps : List Marked) (kids : List (List Marked)) (proofs : List Proof) → OwnShape about f m ps kids proofs → OwnFits about.system.variables m f ps proofs
+own_fits : (about : About) (f : Property) (m : ℕ) (ps : List Marked) (kids : List (List Marked)) (proofs : List Proof) → OwnShape about.system (stated about.tests f) m ps kids proofs → OwnFits about.system.variables m f ps proofs
 own_fits about f m ps kids proofs h = record {
-  pieces = λ p among. piece_fits about m (may_be_done f) p (All-contains (PieceShape about.system m (may_be_done f)) ps p h.each among);
+  pieces = λ p among. piece_fits about m (may_be_done (stated about.tests f)) p (All-contains (PieceShape about.system m (may_be_done (stated about.tests f))) ps p h.each among);
   widths = λ p among. All-contains (ProofFits about.system.variables) proofs p (All-from_recursion (ProofFits about.system.variables) proofs (all_fit about.system.variables (own_of 0 about f ps kids) proofs (flat_over about.system.variables (piece_of 0 about f ps kids) (piece_over 0 about f ps kids) ps) h.offered)) among;
-  marks = marks_fit about f m ps h.normal h.each;
+  marks = marks_fit about f m ps h.said h.each;
 }
 
 mutual
   pub shape_fits : (about : About) (f : Property) (node : Node) → HasShape about f node → NodeFits about.system.variables f node
-  shape_fits about f (Node' ps m shape kids proofs) h = (own_fits about f m ps (kid_pieces kids) proofs.items h.0, kids_fit about (parts f) kids h.1)
+  shape_fits about f (Node' ps m shape kids proofs) h = (own_fits about f m ps (kid_pieces kids) proofs.items h.0, kids_fit about (parts f) kids (subst (λ ss. KidsShape about.system ss kids) (parts-stated about f) h.1))
 
   kids_fit : {k : _} (about : About) (fs : Properties) (kids : Row_of-Node k) → HaveShapes about fs kids → KidsFit about.system.variables fs kids
   kids_fit about none end_of-Node h = tt

@@ -3,7 +3,7 @@ use Rattle.std.specs.Prelude.{◌≡◌, ℕ, ◌+◌, ◌^◌, ◌<◌, ◌≤�
 use Rattle.std.specs.List.{AllZip}
 use Rattle.std.specs.Option.{option_map}
 use Rattle.tv_formula.specs.declared.tree.Shape.TheVariants.{Until, Strong}
-use Rattle.tv_formula.specs.Properties.{Property, at, term, negated, fix, Properties, none, more}
+use Rattle.tv_formula.specs.Properties.{Property, Properties}
 use Rattle.tv_linear.specs.declared.cover.CoverTree.{CoverTree}
 use Rattle.tv_linear.specs.declared.cover.CoverTree as cover
 use Rattle.tv_linear.specs.declared.choice.ChoiceTree.{ChoiceTree}
@@ -22,7 +22,8 @@ use Rattle.tv_cert.specs.declared.node.Verdict.TheVariants.{Proved, Disproved}
 use Rattle.tv_cert.specs.Pieces.{place_of, rows_of, ranks_of, goes, pieces_at}
 use Rattle.tv_linear.specs.Covers.{no_target}
 use Rattle.tv_cert.specs.Obligations.{About, Owed, a_cover, a_choice, a_point}
-use Rattle.tv_cert.specs.Nodes.{parts, kid_pieces, root_entry, own_of}
+use Rattle.tv_cert.specs.Statements.{Statement, ends, along, unsaid, Statements, no_statement, statement, parts_of, stated, stated_all}
+use Rattle.tv_cert.specs.Nodes.{kid_pieces, root_entry, node_owes}
 
 -- how many rows are owed on entering a target by a fall, where there is such a target and fall
 abbrev pub owed_count : (ℕ → ℕ → Option (List Known)) → ℕ → ℕ → Option ℕ
@@ -70,23 +71,21 @@ ProofShape (a_choice n cases l stop owed known) (Chosen tree) = ChoiceShape n ca
 ProofShape (a_point xs rows) proof = ⊥
 
 -- whether pieces may be done: in fixed points alone
-abbrev pub may_be_done : Property → Bool
-may_be_done (fix path shape f g) = true
-may_be_done f = false
+abbrev pub may_be_done : Statement → Bool
+may_be_done (along path shape s t) = true
+may_be_done s = false
 
 -- whether pieces may have ranks: where what is claimed is that something comes at last
-abbrev pub may_rank : Property → Bool
-may_rank term = true
-may_rank (fix path Until f g) = true
-may_rank (fix path Strong f g) = true
-may_rank f = false
+abbrev pub may_rank : Statement → Bool
+may_rank ends = true
+may_rank (along path Until s t) = true
+may_rank (along path Strong s t) = true
+may_rank s = false
 
--- a negation is of a location test or of termination
-abbrev pub IsNormalHead : Property → Type 0
-IsNormalHead (negated (at l)) = Unit {0}
-IsNormalHead (negated term) = Unit {0}
-IsNormalHead (negated f) = ⊥
-IsNormalHead f = Unit {0}
+-- the formula is normal
+abbrev pub IsSaid : Statement → Type 0
+IsSaid unsaid = ⊥
+IsSaid s = Unit {0}
 
 -- The shape of a piece of a node with m ranks: its location is one of the program's, its rows and ranks are over the variables,
 -- and it has m ranks where it goes on.
@@ -98,25 +97,32 @@ pub record PieceShape (system : CaseSystem) (m : ℕ) (ends : Bool) (p : Marked)
   pub many : length (ranks_of p) ≡ (if goes p then m else 0)
   pub marks : ends ≡ false → goes p ≡ true
 
--- the shape of a node's own parts: the number of its ranks has 32 bits, and there are its pieces and a proof for each of its
--- obligations
-pub record OwnShape (about : About) (f : Property) (m : ℕ) (ps : List Marked) (kids : List (List Marked)) (proofs : List Proof) : Type 0 where
-  pub normal : IsNormalHead f
-  pub ranked : may_rank f ≡ false → m ≡ 0
+-- The shape of a node's own parts over the pieces of its children: the number of its ranks has 32 bits, and there are its pieces and a
+-- proof for each of its obligations.
+pub record OwnShape (system : CaseSystem) (s : Statement) (m : ℕ) (ps : List Marked) (kids : List (List Marked)) (proofs : List Proof) : Type 0 where
+  pub said : IsSaid s
+  pub ranked : may_rank s ≡ false → m ≡ 0
   pub small : m < 2 ^ 32
-  pub each : All (PieceShape about.system m (may_be_done f)) ps
-  pub offered : AllZip (λ o p. ProofShape o.owed p) (own_of 0 about f ps kids) proofs
+  pub each : All (PieceShape system m (may_be_done s)) ps
+  pub offered : AllZip (λ o p. ProofShape o.owed p) (node_owes 0 system s ps kids) proofs
 
 abbrev mutual
-  -- the node has the shape of a node of the formula, and its children are those of the arguments
-  pub HasShape : About → Property → Node → Type 0
-  HasShape about f (Node' ps m shape kids proofs) = OwnShape about f m ps (kid_pieces kids) proofs.items × HaveShapes about (parts f) kids
+  -- the node has the shape of a node that shows the statement, and its children have those of the arguments
+  pub NodeShape : CaseSystem → Statement → Node → Type 0
+  NodeShape system s (Node' ps m shape kids proofs) = OwnShape system s m ps (kid_pieces kids) proofs.items × KidsShape system (parts_of s) kids
 
-  pub HaveShapes : {k : _} → About → Properties → Row_of-Node k → Type 0
-  HaveShapes about none end_of-Node = Unit {0}
-  HaveShapes about none (more_of-Node a kids) = ⊥
-  HaveShapes about (more f fs) end_of-Node = ⊥
-  HaveShapes about (more f fs) (more_of-Node a kids) = HasShape about f a × HaveShapes about fs kids
+  pub KidsShape : {k : _} → CaseSystem → Statements → Row_of-Node k → Type 0
+  KidsShape system no_statement end_of-Node = Unit {0}
+  KidsShape system no_statement (more_of-Node a kids) = ⊥
+  KidsShape system (statement s ss) end_of-Node = ⊥
+  KidsShape system (statement s ss) (more_of-Node a kids) = NodeShape system s a × KidsShape system ss kids
+
+-- the same for a formula, by what it states
+abbrev pub HasShape : About → Property → Node → Type 0
+HasShape about f = NodeShape about.system (stated about.tests f)
+
+abbrev pub HaveShapes : {k : _} → About → Properties → Row_of-Node k → Type 0
+HaveShapes about fs = KidsShape about.system (stated_all about.tests fs)
 
 -- the shape of what a certificate says over the pieces of its root: a cover of the start, or a piece there and as many values as variables
 abbrev pub VerdictShape : About → List Marked → Verdict → Type 0

@@ -9,7 +9,7 @@ use Rattle.tv_lines.specs.declared.head.Head.{Head}
 use Rattle.tv_lines.specs.declared.head.Head.TheVariants as heads
 use Rattle.tv_cases.specs.LinearCases.{CaseSystem, leaving}
 use Rattle.tv_cert.specs.Statements.{Statement, rows, here, elsewhere, ends, never_ends, each_of, one_of, after, along, unsaid, Statements, no_statement, statement}
-use Rattle.tv_shape.specs.Stations.{done_may_be}
+use Rattle.tv_cert.specs.Shapes.{may_be_done}
 use Rattle.tv_cert_reader.specs.declared.kind.LineKind.{LineKind}
 use Rattle.tv_cert_reader.specs.declared.kind.LineKind.TheVariants.{Syntax}
 use Rattle.tv_cert_reader.specs.Demands.{Outline, Demand, a_cover, a_choice, demands, into_counts, no_counts}
@@ -73,7 +73,7 @@ piece_closed system m done = then_closed _ _ (line_closed _) (λ o.
 
 region_closed : (system : CaseSystem) (s : Statement) → Closed (region system s)
 region_closed system s = then_closed _ _ (line_closed _) (λ x.
-    mapped_closed (region_of x.ranks) (times x.pieces (piece system x.ranks (done_may_be s))) (times_closed x.pieces (piece system x.ranks (done_may_be s)) (piece_closed system x.ranks (done_may_be s))))
+    mapped_closed (region_of x.ranks) (times x.pieces (piece system x.ranks (may_be_done s))) (times_closed x.pieces (piece system x.ranks (may_be_done s)) (piece_closed system x.ranks (may_be_done s))))
 
 -- ---- covers and choices
 

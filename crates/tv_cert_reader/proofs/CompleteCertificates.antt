@@ -13,7 +13,7 @@ use Rattle.tv_cert.specs.declared.node.Node.{Node}
 use Rattle.tv_cert.specs.declared.node.Verdict.TheVariants.{Proved, Disproved}
 use Rattle.tv_cert.specs.Nodes.{pieces_of}
 use Rattle.tv_cert.specs.Obligations.{About}
-use Rattle.tv_cert.specs.Shapes.{CoverShape}
+use Rattle.tv_cert.specs.Shapes.{CoverShape, NodeShape}
 use Rattle.tv_cert.specs.Statements.{Statement, stated}
 use Rattle.tv_cert.proofs.PieceLemmas.{test_true}
 use Rattle.tv_shape.specs.Fitting.{Fits}
@@ -23,14 +23,14 @@ use Rattle.tv_cert_reader.specs.Demands.{Outline, outlines, into_counts}
 use Rattle.tv_cert_reader.specs.LineGrammar.{Grammar, line, guarded, is_header, is_end, header, last}
 use Rattle.tv_cert_reader.specs.CoverGrammar.{both, cover}
 use Rattle.tv_cert_reader.specs.NodeGrammar.{node}
-use Rattle.tv_cert_reader.specs.Shaped.{IsShapedAs, stated_lines}
+use Rattle.tv_cert_reader.specs.Shaped.{stated_lines}
 use Rattle.tv_cert_reader.specs.CertificateGrammar.{Sides, said_line, at_line, proved, at_values, denied, said, certificate}
 use Rattle.tv_cert_reader.proofs.CompleteReads.{then_read}
 use Rattle.tv_cert_reader.proofs.CompleteParts.{line_read, sized_read}
 use Rattle.tv_cert_reader.proofs.CompleteCovers.{cover_read}
 use Rattle.tv_cert_reader.proofs.CompleteDemands.{into_plain}
 use Rattle.tv_cert_reader.proofs.CompleteNodes.{node_read}
-use Rattle.tv_cert_reader.proofs.CompleteStated.{shaped_as, lines_as}
+use Rattle.tv_cert_reader.proofs.CompleteStated.{lines_as}
 
 pub header_read : (rest : List PlainLine) → header.read (formed heads.Header [] ∷ rest) ≡ Ok (tt, rest)
 header_read rest = sized_read is_header heads.Header 0 [] rest refl refl
@@ -40,7 +40,7 @@ last_read rest = sized_read is_end heads.End 0 [] rest refl refl
 
 module _ (over : Bool) (system : CaseSystem) where
   -- the nodes of what is proved, and a cover of the start
-  pub proved_read : (s : Statement) (root : Node) (tree : CoverTree) (rest : List PlainLine) → IsShapedAs system s root → ((r : List PlainLine) → (cover over 128 system.variables 0 (into_counts None (outlines (pieces_of root)) system.start)).read (cover_lines tree ++ r) ≡ Ok (tt, r)) → (proved over system s).read (stated_lines s root ++ (cover_lines tree ++ (formed heads.End [] ∷ rest))) ≡ Ok (tt, rest)
+  pub proved_read : (s : Statement) (root : Node) (tree : CoverTree) (rest : List PlainLine) → NodeShape system s root → ((r : List PlainLine) → (cover over 128 system.variables 0 (into_counts None (outlines (pieces_of root)) system.start)).read (cover_lines tree ++ r) ≡ Ok (tt, r)) → (proved over system s).read (stated_lines s root ++ (cover_lines tree ++ (formed heads.End [] ∷ rest))) ≡ Ok (tt, rest)
   proved_read s root tree rest shaped covered =
       let start : List Outline → Grammar (Unit {0}) = λ os. cover over 128 system.variables 0 (into_counts None os system.start) in
       let more = cover_lines tree ++ (formed heads.End [] ∷ rest) in
@@ -52,13 +52,13 @@ module _ (over : Bool) (system : CaseSystem) where
   at_line_read k values rest many = line_read (at_line system.variables) heads.At (pos k ∷ values) k rest (ap (λ b. guarded b k) (test_true (length values) system.variables many))
 
   -- the nodes of what is disproved, up to the values
-  pub at_values_read : (s : Statement) (root : Node) (k : ℕ) (values : List ℤ) (rest : List PlainLine) → IsShapedAs system s root → length values ≡ system.variables → (at_values over system s).read (stated_lines s root ++ (formed heads.At (pos k ∷ values) ∷ rest)) ≡ Ok ((outlines (pieces_of root), k), rest)
+  pub at_values_read : (s : Statement) (root : Node) (k : ℕ) (values : List ℤ) (rest : List PlainLine) → NodeShape system s root → length values ≡ system.variables → (at_values over system s).read (stated_lines s root ++ (formed heads.At (pos k ∷ values) ∷ rest)) ≡ Ok ((outlines (pieces_of root), k), rest)
   at_values_read s root k values rest shaped many =
       let more = formed heads.At (pos k ∷ values) ∷ rest in
       then_read (node over system s) (λ os. then (line (at_line system.variables)) (λ k. unit (os, k))) (stated_lines s root ++ more) (outlines (pieces_of root)) more (node_read over system s root more shaped)
       ∙ then_read (line (at_line system.variables)) (λ k. unit (outlines (pieces_of root), k)) more k rest (at_line_read k values rest many)
 
-  pub denied_read : (s : Statement) (root : Node) (k : ℕ) (values : List ℤ) (rest : List PlainLine) → IsShapedAs system s root → length values ≡ system.variables → (denied over system s).read (stated_lines s root ++ (formed heads.At (pos k ∷ values) ∷ formed heads.End [] ∷ rest)) ≡ Ok (tt, rest)
+  pub denied_read : (s : Statement) (root : Node) (k : ℕ) (values : List ℤ) (rest : List PlainLine) → NodeShape system s root → length values ≡ system.variables → (denied over system s).read (stated_lines s root ++ (formed heads.At (pos k ∷ values) ∷ formed heads.End [] ∷ rest)) ≡ Ok (tt, rest)
   denied_read s root k values rest shaped many =
       let more = formed heads.At (pos k ∷ values) ∷ formed heads.End [] ∷ rest in
       then_read (at_values over system s) (λ x. last) (stated_lines s root ++ more) (outlines (pieces_of root), k) (formed heads.End [] ∷ rest) (at_values_read s root k values (formed heads.End [] ∷ rest) shaped many)
@@ -92,7 +92,7 @@ module _ (about : About) (fp fd : Property) (root : Node) where
       ap (λ o. o >>= λ x. at_end Syntax x.0 x.1)
       (begins_proved false system (sides_of about fp fd) (node_lines fp root ++ behind)
       ∙ ap (λ ls. (proved false system (stated about.tests fp)).read (ls ++ behind)) (sym (lines_as about fp root))
-      ∙ proved_read false system (stated about.tests fp) root tree [] (shaped_as about fp root fits.nodes.shape)
+      ∙ proved_read false system (stated about.tests fp) root tree [] fits.nodes.shape
       (λ r. cover_read false 128 system.variables 0 (into_counts None (outlines (pieces_of root)) system.start) tree r (subst (λ f. CoverShape system.variables f 0 tree) counts shape.0) shape.1))
 
   pub certificate_read_disproved : (k : ℕ) (values : Vec ℤ) → Fits about fd root (Disproved k values) → read_all Syntax (certificate false about.system (sides_of about fp fd)) (certificate_lines fd root (Disproved k values)) ≡ Ok (tt, [])
@@ -102,4 +102,4 @@ module _ (about : About) (fp fd : Property) (root : Node) where
       ap (λ o. o >>= λ x. at_end Syntax x.0 x.1)
       (begins_denied false system (sides_of about fp fd) (node_lines fd root ++ behind)
       ∙ ap (λ ls. (denied false system (stated about.tests fd)).read (ls ++ behind)) (sym (lines_as about fd root))
-      ∙ denied_read false system (stated about.tests fd) root k values.items [] (shaped_as about fd root fits.nodes.shape) fits.said.shape.0)
+      ∙ denied_read false system (stated about.tests fd) root k values.items [] fits.nodes.shape fits.said.shape.0)

@@ -17,10 +17,9 @@ use Rattle.tv_cert.specs.declared.node.Mark.{Mark}
 use Rattle.tv_cert.specs.declared.node.Mark.TheVariants.{Done, Go}
 use Rattle.tv_cert.specs.declared.node.Marked.{Marked}
 use Rattle.tv_cert.specs.Pieces.{place_of, rows_of, ranks_of, is_go, goes}
-use Rattle.tv_cert.specs.Shapes.{PieceShape}
+use Rattle.tv_cert.specs.Shapes.{PieceShape, may_be_done, may_rank}
 use Rattle.tv_cert.specs.Statements.{Statement}
 use Rattle.tv_cert.proofs.PieceLemmas.{test_true}
-use Rattle.tv_shape.specs.Stations.{done_may_be, ranks_may_be}
 use Rattle.tv_cert_reader.specs.CertificateLines.{row_line, row_lines, by_lines, mark_named, piece_lines}
 use Rattle.tv_cert_reader.specs.Demands.{Outline, outline, outlines}
 use Rattle.tv_cert_reader.specs.LineGrammar.{Grammar, line, line_branch, guarded, is_row, is_rank, is_by, is_draw, sized, row, rank, draw, by, many, same_kind, kind_of, NodeHead, node_line, is_going, piece_numbers, piece_line, rank_count, piece, region_of, region}
@@ -128,15 +127,15 @@ ranked m true h = either (m == 0)
 ranked m false h = ap (λ b. b || false) (test_true m 0 (h refl))
 
 -- the head of a node with so many pieces and ranks
-pub opening_read : (s : Statement) (m count : ℕ) (rest : List PlainLine) → (ranks_may_be s ≡ false → m ≡ 0) → m < 2 ^ 32 → (line (node_line (kind_of s) (ranks_may_be s))).read (formed (heads.Node (kind_of s)) (pos count ∷ pos m ∷ []) ∷ rest) ≡ Ok (record { pieces = count; ranks = m }, rest)
+pub opening_read : (s : Statement) (m count : ℕ) (rest : List PlainLine) → (may_rank s ≡ false → m ≡ 0) → m < 2 ^ 32 → (line (node_line (kind_of s) (may_rank s))).read (formed (heads.Node (kind_of s)) (pos count ∷ pos m ∷ []) ∷ rest) ≡ Ok (record { pieces = count; ranks = m }, rest)
 opening_read s m count rest may small =
     let a = kind_same (kind_of s) in
-    let b = ranked m (ranks_may_be s) may in
+    let b = ranked m (may_rank s) may in
     let c = lt-ltb m (2 ^ 32) small in
     let x : NodeHead = record { pieces = count; ranks = m } in
-    line_read (node_line (kind_of s) (ranks_may_be s)) (heads.Node (kind_of s)) (pos count ∷ pos m ∷ []) x rest (λ i. guarded (a i && b i && c i) x)
+    line_read (node_line (kind_of s) (may_rank s)) (heads.Node (kind_of s)) (pos count ∷ pos m ∷ []) x rest (λ i. guarded (a i && b i && c i) x)
 
-pub region_read : (system : CaseSystem) (s : Statement) (m : ℕ) (ps : List Marked) (rest : List PlainLine) → (ranks_may_be s ≡ false → m ≡ 0) → m < 2 ^ 32 → All (PieceShape system m (done_may_be s)) ps → (region system s).read (formed (heads.Node (kind_of s)) (pos (length ps) ∷ pos m ∷ []) ∷ (flat_map piece_lines ps ++ rest)) ≡ Ok (region_of m (outlines ps), rest)
+pub region_read : (system : CaseSystem) (s : Statement) (m : ℕ) (ps : List Marked) (rest : List PlainLine) → (may_rank s ≡ false → m ≡ 0) → m < 2 ^ 32 → All (PieceShape system m (may_be_done s)) ps → (region system s).read (formed (heads.Node (kind_of s)) (pos (length ps) ∷ pos m ∷ []) ∷ (flat_map piece_lines ps ++ rest)) ≡ Ok (region_of m (outlines ps), rest)
 region_read system s m ps rest may small all =
-    then_read (line (node_line (kind_of s) (ranks_may_be s))) (λ x. mapped (region_of x.ranks) (times x.pieces (piece system x.ranks (done_may_be s)))) (formed (heads.Node (kind_of s)) (pos (length ps) ∷ pos m ∷ []) ∷ (flat_map piece_lines ps ++ rest)) (record { pieces = length ps; ranks = m }) (flat_map piece_lines ps ++ rest) (opening_read s m (length ps) (flat_map piece_lines ps ++ rest) may small)
-    ∙ mapped_read (region_of m) (times (length ps) (piece system m (done_may_be s))) (flat_map piece_lines ps ++ rest) (outlines ps) rest (pieces_read system m (done_may_be s) ps rest all)
+    then_read (line (node_line (kind_of s) (may_rank s))) (λ x. mapped (region_of x.ranks) (times x.pieces (piece system x.ranks (may_be_done s)))) (formed (heads.Node (kind_of s)) (pos (length ps) ∷ pos m ∷ []) ∷ (flat_map piece_lines ps ++ rest)) (record { pieces = length ps; ranks = m }) (flat_map piece_lines ps ++ rest) (opening_read s m (length ps) (flat_map piece_lines ps ++ rest) may small)
+    ∙ mapped_read (region_of m) (times (length ps) (piece system m (may_be_done s))) (flat_map piece_lines ps ++ rest) (outlines ps) rest (pieces_read system m (may_be_done s) ps rest all)

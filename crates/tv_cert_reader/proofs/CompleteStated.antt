@@ -1,43 +1,19 @@
--- The shape and the lines of a node of a formula are those by what the formula states.
-use Rattle.std.proofs.Common.{◌≡◌, pos, [], ◌∷◌, ◌++◌, length, refl, sym, ap, ◌∙◌, subst}
+-- The lines of a node of a formula are those by what the formula states.
+use Rattle.std.proofs.Common.{◌≡◌, pos, [], ◌∷◌, ◌++◌, length, refl, ap, ◌∙◌}
 use Rattle.std.specs.List.{flat_map}
 use Rattle.tv_lines.specs.Lines.{formed}
 use Rattle.tv_lines.specs.declared.head.Head.TheVariants as heads
 use Rattle.tv_formula.specs.Properties.{Property, truth, compare, at, term, negated, all_of, some_of, next, fix, Properties, none, more}
 use Rattle.tv_cert.specs.declared.node.Node.{Node, Node', Row_of-Node, end_of-Node, more_of-Node}
 use Rattle.tv_cert.specs.Obligations.{About}
-use Rattle.tv_cert.specs.Nodes.{parts, kid_pieces}
-use Rattle.tv_cert.specs.Shapes.{HasShape, HaveShapes}
+use Rattle.tv_cert.specs.Nodes.{parts}
 use Rattle.tv_cert.specs.Statements.{stated, stated_all}
 use Rattle.tv_cert.proofs.StatedLemmas.{parts-stated}
-use Rattle.tv_shape.proofs.FitLemmas.{own_shaped, own_back}
 use Rattle.tv_cert_reader.specs.CertificateLines.{piece_lines, proof_lines, kind_named, node_lines, kid_lines}
 use Rattle.tv_cert_reader.specs.LineGrammar.{kind_of}
-use Rattle.tv_cert_reader.specs.Shaped.{IsShapedAs, AreShapedAs, stated_lines, children_lines}
+use Rattle.tv_cert_reader.specs.Shaped.{stated_lines, children_lines}
 
 module _ (about : About) where
-  mutual
-    pub shaped_as : (f : Property) (n : Node) → HasShape about f n → IsShapedAs about.system (stated about.tests f) n
-    shaped_as f (Node' ps m shape kids proofs) h =
-        (own_back about f m ps (kid_pieces kids) proofs.items h.0, subst (λ ss. AreShapedAs about.system ss kids) (sym (parts-stated about f)) (all_shaped_as (parts f) kids h.1))
-
-    pub all_shaped_as : {k : _} (fs : Properties) (kids : Row_of-Node k) → HaveShapes about fs kids → AreShapedAs about.system (stated_all about.tests fs) kids
-    all_shaped_as none end_of-Node h = tt
-    all_shaped_as none (more_of-Node a kids) h = absurd h
-    all_shaped_as (more f fs) end_of-Node h = absurd h
-    all_shaped_as (more f fs) (more_of-Node a kids) h = (shaped_as f a h.0, all_shaped_as fs kids h.1)
-
-  mutual
-    pub shaped_back : (f : Property) (n : Node) → IsShapedAs about.system (stated about.tests f) n → HasShape about f n
-    shaped_back f (Node' ps m shape kids proofs) h =
-        (own_shaped about f m ps (kid_pieces kids) proofs.items h.0, all_shaped_back (parts f) kids (subst (λ ss. AreShapedAs about.system ss kids) (parts-stated about f) h.1))
-
-    pub all_shaped_back : {k : _} (fs : Properties) (kids : Row_of-Node k) → AreShapedAs about.system (stated_all about.tests fs) kids → HaveShapes about fs kids
-    all_shaped_back none end_of-Node h = tt
-    all_shaped_back none (more_of-Node a kids) h = absurd h
-    all_shaped_back (more f fs) end_of-Node h = absurd h
-    all_shaped_back (more f fs) (more_of-Node a kids) h = (shaped_back f a h.0, all_shaped_back fs kids h.1)
-
   kind_stated : (f : Property) → kind_of (stated about.tests f) ≡ kind_named f
   kind_stated (truth b) = refl
   kind_stated (compare r a b) = refl

@@ -20,9 +20,8 @@ use Rattle.tv_cert.specs.Targets.{owed_into, owed_nothing, no_fall}
 use Rattle.tv_cert.specs.Choices.{drawn_change}
 use Rattle.tv_cert.specs.Obligations.{Obligation, case_change, step_fall, choice_fall, atom_of, cover_of, step_of, steps_of, choice_of, choice_into, truth_targets, hold_side, end_sides, go_of, fix_of, first_of, second_of}
 use Rattle.tv_cert.specs.Nodes.{piece_owes, node_owes}
-use Rattle.tv_cert.specs.Shapes.{owed_count, PieceShape}
+use Rattle.tv_cert.specs.Shapes.{owed_count, PieceShape, may_be_done}
 use Rattle.tv_cert.specs.Statements.{Statement, rows, here, elsewhere, ends, never_ends, each_of, one_of, after, along, unsaid}
-use Rattle.tv_shape.specs.Stations.{done_may_be}
 use Rattle.tv_cert_reader.specs.Demands.{outline, outlines, into_counts, list_counts, truth_counts, Demand, a_cover, a_choice, demand_of, cover_demand, into_demand, step_demand, step_demands, choice_demand, case_counts, go_demands, fix_demands, first_outlines, second_outlines, demands_at, demands}
 use Rattle.tv_cert_reader.proofs.CompleteDemands.{given_long, into_plain, into_falls, lists_counted, truth_counted}
 
@@ -124,7 +123,7 @@ module _ (number : ℕ) (system : CaseSystem) (p : Marked) where
     fix_wanted path shape a b true is = λ i. (cover_wanted kind.Hold (hold_side shape a b) ∙ ap (into_demand system (outline p)) (hold_same shape a b)) i ∷ go_wanted path shape is i
 
 module _ (number : ℕ) (system : CaseSystem) (m : ℕ) (ps : List Marked) (kids : List (List Marked)) where
-  wanted_at : (s : Statement) → All (PieceShape system m (done_may_be s)) ps → (p : Marked) → PieceShape system m (done_may_be s) p → map wanted (piece_owes number system s ps kids p) ≡ demands_at system s m (outlines ps) (map outlines kids) (outline p)
+  wanted_at : (s : Statement) → All (PieceShape system m (may_be_done s)) ps → (p : Marked) → PieceShape system m (may_be_done s) p → map wanted (piece_owes number system s ps kids p) ≡ demands_at system s m (outlines ps) (map outlines kids) (outline p)
   wanted_at (rows lists) all p h = λ i. atom_wanted number system p lists i ∷ []
   wanted_at (here l) all p h = λ i. truth_wanted number system p (place_of p == l) i ∷ []
   wanted_at (elsewhere l) all p h = λ i. truth_wanted number system p (not (place_of p == l)) i ∷ []
@@ -140,6 +139,6 @@ module _ (number : ℕ) (system : CaseSystem) (m : ℕ) (ps : List Marked) (kids
   wanted_at unsaid all p h = refl
 
 -- what is owed at a node is what its grammar wants
-pub demands_same : (number : ℕ) (system : CaseSystem) (s : Statement) (m : ℕ) (ps : List Marked) (kids : List (List Marked)) → All (PieceShape system m (done_may_be s)) ps → map (λ o. demand_of o.owed) (node_owes number system s ps kids) ≡ demands system s m (outlines ps) (map outlines kids)
+pub demands_same : (number : ℕ) (system : CaseSystem) (s : Statement) (m : ℕ) (ps : List Marked) (kids : List (List Marked)) → All (PieceShape system m (may_be_done s)) ps → map (λ o. demand_of o.owed) (node_owes number system s ps kids) ≡ demands system s m (outlines ps) (map outlines kids)
 demands_same number system s m ps kids all =
-    flat_same (PieceShape system m (done_may_be s)) (piece_owes number system s ps kids) wanted outline (demands_at system s m (outlines ps) (map outlines kids)) (wanted_at number system m ps kids s all) ps all
+    flat_same (PieceShape system m (may_be_done s)) (piece_owes number system s ps kids) wanted outline (demands_at system s m (outlines ps) (map outlines kids)) (wanted_at number system m ps kids s all) ps all

@@ -15,7 +15,7 @@ use Rattle.tv_linear.specs.Arithmetic.{zeros}
 use Rattle.tv_linear.proofs.PlainLists.{length-zeros}
 use Rattle.tv_cases.specs.LinearCases.{CaseSystem}
 use Rattle.tv_cert.specs.Statements.{Statement}
-use Rattle.tv_shape.specs.Stations.{done_may_be, ranks_may_be}
+use Rattle.tv_cert.specs.Shapes.{may_be_done, may_rank}
 use Rattle.tv_cert_reader.specs.declared.kind.LineKind.TheVariants.{Syntax}
 use Rattle.tv_cert_reader.specs.LineGrammar.{Grammar, line_branch, line_cases, line, sized, is_row, is_rank, is_by, is_draw, is_header, is_end, row, rank, draw, by, header, last, many, same_kind, kind_of, node_line, piece_line, rank_count, piece, region_of, region}
 
@@ -99,5 +99,5 @@ module _ (system : CaseSystem) (some : 0 < system.locations) where
       mapped_exact (λ y. o) _ (many_exact (rank_count m o.going) (rank system.variables) (rank_exact system.variables))))
 
   pub region_exact : (s : Statement) → Exact (region system s)
-  region_exact s = then_exact _ _ (node_line_exact (kind_of s) (ranks_may_be s)) (λ x.
-      mapped_exact (region_of x.ranks) _ (times_exact x.pieces _ (piece_exact x.ranks (done_may_be s))))
+  region_exact s = then_exact _ _ (node_line_exact (kind_of s) (may_rank s)) (λ x.
+      mapped_exact (region_of x.ranks) _ (times_exact x.pieces _ (piece_exact x.ranks (may_be_done s))))

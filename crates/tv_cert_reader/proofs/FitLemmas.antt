@@ -19,33 +19,21 @@ use Rattle.tv_cert.specs.declared.node.Verdict.TheVariants.{Proved, Disproved}
 use Rattle.tv_cert.specs.Claims.{about_with, claim_variables, shown}
 use Rattle.tv_cert.specs.Nodes.{parts, pieces_of}
 use Rattle.tv_cert.specs.Obligations.{About, Obligation, Owed, a_cover, a_choice, a_point}
-use Rattle.tv_cert.specs.Shapes.{HasShape, HaveShapes, ProofShape}
+use Rattle.tv_cert.specs.Shapes.{HasShape, HaveShapes, ProofShape, NodeShape, KidsShape}
+use Rattle.tv_cert.proofs.StatedLemmas.{parts-stated}
 use Rattle.tv_cert.specs.Statements.{stated}
 use Rattle.tv_cert.proofs.NodeLemmas.{pieces_are}
 use Rattle.tv_shape.specs.Depths.{proof_splits}
 use Rattle.tv_shape.specs.Fitting.{GoesWithin, KidsGoWithin, Fits, VerdictFits, VerdictNarrow, VerdictShallow}
+use Rattle.tv_shape.proofs.MadeLemmas.{shapes_shallow}
 use Rattle.tv_cert_reader.specs.CertificateLines.{node_lines, certificate_lines}
-use Rattle.tv_cert_reader.specs.Shaped.{IsShapedAs, stated_lines}
-use Rattle.tv_cert_reader.proofs.CompleteStated.{shaped_back, lines_as}
+use Rattle.tv_cert_reader.specs.Shaped.{stated_lines}
+use Rattle.tv_cert_reader.proofs.CompleteStated.{lines_as}
 use Rattle.tv_cert_reader.proofs.FitLines.{AreFit, root_and_rest, node_fit, verdict_fit}
 use Rattle.tv_cert_reader.specs.Texts.{sides_of}
 use Rattle.tv_cert_reader.specs.Wholes.{IsVerdictOver, behind_root, says, IsBehindSaid, begun, side}
 
 -- ---- how deep it goes
-
-shallow : (o : Owed) (p : Proof) → ProofShape o p → proof_splits p ≤ 128
-shallow (a_cover n known owed) (Covered tree) h = h.1
-shallow (a_cover n known owed) (Chosen tree) h = absurd h
-shallow (a_choice n cases l stop owed known) (Covered tree) h = absurd h
-shallow (a_choice n cases l stop owed known) (Chosen tree) h = h.1
-shallow (a_point xs rows) p h = absurd h
-
-all_shallow : (depth : ℕ) → depth ≤ 256 → (os : List Obligation) (proofs : List Proof) → AllZip (λ o p. ProofShape o.owed p) os proofs → All (λ p. depth + proof_splits p ≤ 384) proofs
-all_shallow depth few [] [] h = All-nil (λ p. depth + proof_splits p ≤ 384)
-all_shallow depth few [] (p ∷ proofs) h = absurd h
-all_shallow depth few (o ∷ os) [] h = absurd h
-all_shallow depth few (o ∷ os) (p ∷ proofs) h =
-    All-cons (λ q. depth + proof_splits q ≤ 384) p proofs (let n = shallow o.owed p h.0 in omega (arith, few, n)) (all_shallow depth few os proofs h.1)
 
 -- each of the formulas has few operators
 abbrev AreShort : ℕ → Properties → Type 0
@@ -78,7 +66,7 @@ parts_short depth (fix path shape f g) h =
 mutual
   goes_within : (about : About) (f : Property) (n : Node) (depth : ℕ) → HasShape about f n → depth + operators f ≤ 256 → GoesWithin depth n
   goes_within about f (Node' ps m shape kids proofs) depth h few =
-      (omega (arith, few), all_shallow depth (omega (arith, few)) _ proofs.items h.0.offered, kids_within about (parts f) kids (depth + 1) h.1 (parts_short depth f few))
+      (omega (arith, few), shapes_shallow depth _ proofs.items (omega (arith, few)) h.0.offered, kids_within about (parts f) kids (depth + 1) (subst (λ ss. KidsShape about.system ss kids) (parts-stated about f) h.1) (parts_short depth f few))
 
   kids_within : {k : _} (about : About) (fs : Properties) (kids : Row_of-Node k) (depth : ℕ) → HaveShapes about fs kids → AreShort depth fs → KidsGoWithin depth kids
   kids_within about none end_of-Node depth h few = tt
@@ -115,7 +103,7 @@ module _ (system : CaseSystem) (claim : Claim) (variables : claim_variables clai
   read_fits rest root verdict h fit =
       let s = side (sides_of claim) (says verdict) in
       let lines = root_and_rest s root verdict (subst AreFit h.lines fit) in
-      let shaped = shaped_back about (shown claim verdict) root (subst (λ s. IsShapedAs system s root) (shows verdict) h.root_is) in
+      let shaped = subst (λ s. NodeShape system s root) (shows verdict) h.root_is in
       record {
         nodes = record { shape = shaped; narrow = node_fit system s root h.root_is lines.0; depth = goes_within about (shown claim verdict) root 1 shaped (short_claim verdict) };
         shallow = shallow_verdict root verdict h.verdict_is;

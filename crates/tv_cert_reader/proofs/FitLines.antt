@@ -25,10 +25,11 @@ use Rattle.tv_cert.specs.declared.node.Verdict.TheVariants.{Proved, Disproved}
 use Rattle.tv_cert.specs.Nodes.{parts}
 use Rattle.tv_cert.specs.Pieces.{place_of, rows_of, ranks_of}
 use Rattle.tv_cert.specs.Statements.{Statement, parts_of, Statements, no_statement, statement}
+use Rattle.tv_cert.specs.Shapes.{NodeShape, KidsShape}
 use Rattle.tv_shape.specs.Fitting.{NodeNarrow, KidsNarrow, VerdictNarrow}
 use Rattle.tv_shape.specs.Narrow.{ListsNarrow, RowNarrow, CoverNarrow, ChoiceNarrow, ProofNarrow, PieceNarrow}
 use Rattle.tv_cert_reader.specs.CertificateLines.{row_line, row_lines, by_lines, piece_lines, cover_lines, choice_lines, proof_lines, node_lines, kid_lines, certificate_lines}
-use Rattle.tv_cert_reader.specs.Shaped.{IsShapedAs, AreShapedAs, stated_lines, children_lines}
+use Rattle.tv_cert_reader.specs.Shaped.{stated_lines, children_lines}
 use Rattle.tv_cert_reader.specs.Wholes.{behind_root}
 
 -- ---- lines
@@ -161,7 +162,7 @@ pieces_fit [] h = All-nil PieceNarrow
 pieces_fit (p ∷ ps) h = All-cons PieceNarrow p ps (piece_fit p (fit_left (piece_lines p) (flat_map piece_lines ps) h)) (pieces_fit ps (fit_right (piece_lines p) (flat_map piece_lines ps) h))
 
 mutual
-  pub node_fit : (system : CaseSystem) (s : Statement) (node : Node) → IsShapedAs system s node → AreFit (stated_lines s node) → NodeNarrow node
+  pub node_fit : (system : CaseSystem) (s : Statement) (node : Node) → NodeShape system s node → AreFit (stated_lines s node) → NodeNarrow node
   node_fit system s (Node' ps m shape kids proofs) has h =
       let first = flat_map piece_lines ps in
       let below = children_lines (parts_of s) kids in
@@ -176,7 +177,7 @@ mutual
         kids_fit system (parts_of s) kids has.1 (fit_left below last later),
       )
 
-  kids_fit : {k : _} (system : CaseSystem) (ss : Statements) (kids : Row_of-Node k) → AreShapedAs system ss kids → AreFit (children_lines ss kids) → KidsNarrow kids
+  kids_fit : {k : _} (system : CaseSystem) (ss : Statements) (kids : Row_of-Node k) → KidsShape system ss kids → AreFit (children_lines ss kids) → KidsNarrow kids
   kids_fit system ss end_of-Node has h = tt
   kids_fit system no_statement (more_of-Node a kids) has h = absurd has
   kids_fit system (statement s ss) (more_of-Node a kids) has h =

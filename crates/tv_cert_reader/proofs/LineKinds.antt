@@ -9,7 +9,7 @@ use Rattle.tv_lines.specs.declared.head.Head.{Head}
 use Rattle.tv_lines.specs.declared.head.Head.TheVariants as heads
 use Rattle.tv_cases.specs.LinearCases.{CaseSystem, leaving}
 use Rattle.tv_cert.specs.Statements.{Statement, rows, here, elsewhere, ends, never_ends, each_of, one_of, after, along, unsaid, Statements, no_statement, statement}
-use Rattle.tv_shape.specs.Stations.{done_may_be}
+use Rattle.tv_cert.specs.Shapes.{may_be_done}
 use Rattle.tv_cert_reader.specs.declared.kind.LineKind.{LineKind}
 use Rattle.tv_cert_reader.specs.declared.kind.LineKind.TheVariants.{Syntax, Wide, Deep, Shape}
 use Rattle.tv_cert_reader.specs.Demands.{Outline, Demand, a_cover, a_choice, demands, into_counts, no_counts}
@@ -51,7 +51,7 @@ module _ (P : LineKind → Option PlainLine → Type 0) (allows : Allows P) wher
 
   pub region_kinded : (system : CaseSystem) (s : Statement) → Kinded P (region system s)
   region_kinded system s = then_kinded P _ _ (line_kinded _) (λ x.
-      mapped_kinded P (region_of x.ranks) _ (times_kinded P x.pieces _ (piece_kinded system x.ranks (done_may_be s))))
+      mapped_kinded P (region_of x.ranks) _ (times_kinded P x.pieces _ (piece_kinded system x.ranks (may_be_done s))))
 
   -- ---- covers and choices
 

@@ -16,16 +16,15 @@ use Rattle.tv_cert.specs.declared.node.Node.TheViews.{roll-Node, out-roll-Node}
 use Rattle.tv_cert.specs.Listed.{pieces_list}
 use Rattle.tv_cert.specs.Nodes.{pieces_of, node_owes}
 use Rattle.tv_cert.specs.Obligations.{Obligation}
-use Rattle.tv_cert.specs.Shapes.{ProofShape}
+use Rattle.tv_cert.specs.Shapes.{ProofShape, OwnShape, IsSaid, may_be_done, may_rank, NodeShape, KidsShape}
 use Rattle.tv_cert.specs.Statements.{Statement, rows, here, elsewhere, ends, never_ends, each_of, one_of, after, along, unsaid, Statements, no_statement, statement, parts_of, part_at, count}
 use Rattle.tv_cert.proofs.NodeLemmas.{kids_of, proofs_list, out_is, pieces_are, kid_pieces_are}
-use Rattle.tv_shape.specs.Stations.{OwnParts, IsSaid, done_may_be, ranks_may_be}
 use Rattle.tv_cert_reader.specs.CertificateLines.{piece_lines, proof_lines}
 use Rattle.tv_cert_reader.specs.Demands.{Outline, outlines, demand_of, demands}
 use Rattle.tv_cert_reader.specs.LineGrammar.{Grammar, kind_of, Region, region_of, region}
 use Rattle.tv_cert_reader.specs.ChoiceGrammar.{demanded}
 use Rattle.tv_cert_reader.specs.NodeGrammar.{proofs, node, nodes}
-use Rattle.tv_cert_reader.specs.Shaped.{IsShapedAs, AreShapedAs, stated_lines, children_lines}
+use Rattle.tv_cert_reader.specs.Shaped.{stated_lines, children_lines}
 use Rattle.tv_cert_reader.proofs.CompleteReads.{then_read}
 use Rattle.tv_cert_reader.proofs.CompleteParts.{region_read}
 use Rattle.tv_cert_reader.proofs.CompleteNodes.{node_is, node_read}
@@ -82,13 +81,13 @@ part_lighter i s few = (let h = lighter i (parts_of s) few in let e = weight_is 
 -- ---- children as a list
 
 module _ (system : CaseSystem) where
-  first_row : {k : _} (ss : Statements) (kids : Row_of-Node k) → AreFirstOf system ss (items-the_row-Node k kids) → length (items-the_row-Node k kids) ≡ count ss → AreShapedAs system ss kids
+  first_row : {k : _} (ss : Statements) (kids : Row_of-Node k) → AreFirstOf system ss (items-the_row-Node k kids) → length (items-the_row-Node k kids) ≡ count ss → KidsShape system ss kids
   first_row no_statement end_of-Node h n = tt
   first_row no_statement (more_of-Node a kids) h n = absurd h
   first_row (statement s ss) end_of-Node h n = absurd (omega (arith, n))
   first_row (statement s ss) (more_of-Node a kids) h n = (h.0, first_row ss kids h.1 (omega (arith, n)))
 
-  pub first_next : (ss : Statements) (kids : List Node) (a : Node) → AreFirstOf system ss kids → length kids < count ss → IsShapedAs system (part_at (length kids) ss) a → AreFirstOf system ss (kids ++ a ∷ [])
+  pub first_next : (ss : Statements) (kids : List Node) (a : Node) → AreFirstOf system ss kids → length kids < count ss → NodeShape system (part_at (length kids) ss) a → AreFirstOf system ss (kids ++ a ∷ [])
   first_next no_statement kids a h few n = absurd (omega (arith, few))
   first_next (statement s ss) [] a h few n = (n, tt)
   first_next (statement s ss) (b ∷ kids) a h few n = (h.0, first_next ss kids a h.1 (omega (arith, few)) n)
@@ -129,13 +128,13 @@ stated_is system s (Node' ps m shape kids shown) =
     ap (λ ls. formed (heads.Node (kind_of s)) (pos (length ps) ∷ pos m ∷ []) ∷ (flat_map piece_lines ps ++ (ls ++ flat_map proof_lines shown.items))) (lines_row system (parts_of s) kids ∙ ap (nodes_lines (parts_of s)) (sym (out_is ps m shape kids shown)))
     ∙ (λ i. listed s (sym (ap (λ x. x.ranks) e) i) (sym (ap (λ x. x.pieces) e) i) (kids_of (Node' ps m shape kids shown)) (sym (ap (λ x. x.proofs.items) e) i))
 
-node_shaped : (system : CaseSystem) (s : Statement) (n : Node) → OwnParts system s (out-Node n).ranks (pieces_list n) (map pieces_list (kids_of n)) (proofs_list n) → AreFirstOf system (parts_of s) (kids_of n) → length (kids_of n) ≡ count (parts_of s) → IsShapedAs system s n
+node_shaped : (system : CaseSystem) (s : Statement) (n : Node) → OwnShape system s (out-Node n).ranks (pieces_list n) (map pieces_list (kids_of n)) (proofs_list n) → AreFirstOf system (parts_of s) (kids_of n) → length (kids_of n) ≡ count (parts_of s) → NodeShape system s n
 node_shaped system s (Node' ps m shape kids shown) own first many =
     let e = outs-Node' ps m shape kids shown in
     let out = out_is ps m shape kids shown in
     let below = ap (map pieces_list) out ∙ sym (kid_pieces_are kids) in
     let first_there = subst (AreFirstOf system (parts_of s)) out first in
-    (subst (λ (x : Type 0). x) (λ i. OwnParts system s (ap (λ x. x.ranks) e i) (ap (λ x. x.pieces) e i) (below i) (ap (λ x. x.proofs.items) e i)) own, first_row system (parts_of s) kids first_there (ap length (sym out) ∙ many))
+    (subst (λ (x : Type 0). x) (λ i. OwnShape system s (ap (λ x. x.ranks) e i) (ap (λ x. x.pieces) e i) (below i) (ap (λ x. x.proofs.items) e i)) own, first_row system (parts_of s) kids first_there (ap length (sym out) ∙ many))
 
 -- a node made of its parts
 abbrev pub node_of : List Marked → ℕ → Vec Node → Vec Proof → Node
@@ -148,7 +147,7 @@ pieces_in_node ps m kids shown = sym (ap (λ x. x.pieces) (out-roll-Node (record
 
 -- its region and its first children are read
 pub record Opened (system : CaseSystem) (s : Statement) (old now : Cursor) (ps : List Marked) (m : ℕ) (kids : List Node) : Type 0 where
-  pub region : IsRegion system (ranks_may_be s) (done_may_be s) (ps, m)
+  pub region : IsRegion system (may_rank s) (may_be_done s) (ps, m)
   pub first : AreFirstOf system (parts_of s) kids
   pub took : Takes (region_lines (kind_of s) (ps, m) ++ nodes_lines (parts_of s) kids) old now
 
@@ -156,12 +155,12 @@ module _ (system : CaseSystem) (s : Statement) (old : Cursor) where
   behind : Region → Grammar (List Outline)
   behind g = then (nodes false system (parts_of s)) (λ kids. mapped (λ _. g.pieces) (proofs false system s g kids))
 
-  pub region_fails : (f : Failure) → FailsBy (region_with system (kind_of s) (ranks_may_be s) (done_may_be s)) old f → FailsBy (node false system s) old f
+  pub region_fails : (f : Failure) → FailsBy (region_with system (kind_of s) (may_rank s) (may_be_done s)) old f → FailsBy (node false system s) old f
   unfolding behind
   region_fails (Fault k line) h = (let g = first_fails (region system s) behind old (Fault k line) h in record { rest = g.rest; read = node_is false system s old.lines ∙ g.read; counted = g.counted })
   region_fails Memory h = tt
 
-  pub opened : (now : Cursor) (ps : List Marked) (m : ℕ) (kids : List Node) → kids ≡ [] → IsRegion system (ranks_may_be s) (done_may_be s) (ps, m) → Takes (region_lines (kind_of s) (ps, m)) old now → Opened system s old now ps m kids
+  pub opened : (now : Cursor) (ps : List Marked) (m : ℕ) (kids : List Node) → kids ≡ [] → IsRegion system (may_rank s) (may_be_done s) (ps, m) → Takes (region_lines (kind_of s) (ps, m)) old now → Opened system s old now ps m kids
   opened now ps m kids none is took = subst (Opened system s old now ps m) (sym none) (record {
     region = is;
     first = tt;
@@ -174,7 +173,7 @@ module _ (system : CaseSystem) (s : Statement) (old : Cursor) where
   lines_next (statement t ss) (b ∷ kids) a h few =
       append_assoc (stated_lines t b) (nodes_lines ss kids) (stated_lines (part_at (length kids) ss) a) ∙ ap (λ ls. stated_lines t b ++ ls) (lines_next ss kids a h.1 (omega (arith, few)))
 
-  pub opened_next : (now new : Cursor) (ps : List Marked) (m : ℕ) (kids more_kids : List Node) (a : Node) → Opened system s old now ps m kids → length kids < count (parts_of s) → IsShapedAs system (part_at (length kids) (parts_of s)) a → Takes (stated_lines (part_at (length kids) (parts_of s)) a) now new → more_kids ≡ kids ++ a ∷ [] → Opened system s old new ps m more_kids
+  pub opened_next : (now new : Cursor) (ps : List Marked) (m : ℕ) (kids more_kids : List Node) (a : Node) → Opened system s old now ps m kids → length kids < count (parts_of s) → NodeShape system (part_at (length kids) (parts_of s)) a → Takes (stated_lines (part_at (length kids) (parts_of s)) a) now new → more_kids ≡ kids ++ a ∷ [] → Opened system s old new ps m more_kids
   opened_next now new ps m kids more_kids a o few n took is = subst (Opened system s old new ps m) (sym is) (record {
     region = o.region;
     first = first_next system (parts_of s) kids a o.first few n;
@@ -217,7 +216,7 @@ module _ (system : CaseSystem) (s : Statement) (old : Cursor) where
           let inner : FailsBy (each (demanded false) wanted) now f = subst (λ ds. FailsBy (each (demanded false) ds) now f) (demands_same 0 system s m ps (map pieces_list kids) o.region.each) h in
           by_all f (mapped_fails (λ _. outlines ps) (proofs false system s (region_of m (outlines ps)) (map outlines (map pieces_list kids))) now f (mapped_fails (λ all. tt) (each (demanded false) wanted) now f inner))
 
-pub node_built : (system : CaseSystem) (s : Statement) (old now new : Cursor) (ps : List Marked) (m : ℕ) (kids : Vec Node) (shown : Vec Proof) → IsSaid s → Opened system s old now ps m kids.items → length kids.items ≡ count (parts_of s) → AreProofsOf (node_owes 0 system s ps (map pieces_list kids.items)) shown.items → Takes (flat_map proof_lines shown.items) now new → IsShapedAs system s (node_of ps m kids shown) × Takes (stated_lines s (node_of ps m kids shown)) old new
+pub node_built : (system : CaseSystem) (s : Statement) (old now new : Cursor) (ps : List Marked) (m : ℕ) (kids : Vec Node) (shown : Vec Proof) → IsSaid s → Opened system s old now ps m kids.items → length kids.items ≡ count (parts_of s) → AreProofsOf (node_owes 0 system s ps (map pieces_list kids.items)) shown.items → Takes (flat_map proof_lines shown.items) now new → NodeShape system s (node_of ps m kids shown) × Takes (stated_lines s (node_of ps m kids shown)) old new
 node_built system s old now new ps m kids shown said o many offered took =
     let n = node_of ps m kids shown in
     let e = out-roll-Node (record { pieces = ps; ranks = m; children = kids; proofs = shown }) in
@@ -225,7 +224,7 @@ node_built system s old now new ps m kids shown said o many offered took =
     let r = sym (ap (λ x. x.ranks) e) in
     let k = sym (ap (λ x. x.children.items) e) in
     let q = sym (ap (λ x. x.proofs.items) e) in
-    let own : OwnParts system s m ps (map pieces_list kids.items) shown.items = record {
+    let own : OwnShape system s m ps (map pieces_list kids.items) shown.items = record {
       said = said;
       ranked = o.region.ranks;
       small = o.region.small;
@@ -233,7 +232,7 @@ node_built system s old now new ps m kids shown said o many offered took =
       offered = offered;
     } in
     let lines = append_assoc (region_lines (kind_of s) (ps, m)) (nodes_lines (parts_of s) kids.items) (flat_map proof_lines shown.items) in (
-      node_shaped system s n (subst (λ (x : Type 0). x) (λ i. OwnParts system s (r i) (p i) (map pieces_list (k i)) (q i)) own) (subst (AreFirstOf system (parts_of s)) k o.first) (ap length (sym k) ∙ many),
+      node_shaped system s n (subst (λ (x : Type 0). x) (λ i. OwnShape system s (r i) (p i) (map pieces_list (k i)) (q i)) own) (subst (AreFirstOf system (parts_of s)) k o.first) (ap length (sym k) ∙ many),
       takes_as ((region_lines (kind_of s) (ps, m) ++ nodes_lines (parts_of s) kids.items) ++ flat_map proof_lines shown.items) (stated_lines s n) old new
           (lines ∙ (λ i. listed s (r i) (p i) (k i) (q i)) ∙ sym (stated_is system s n))
           (takes_both (region_lines (kind_of s) (ps, m) ++ nodes_lines (parts_of s) kids.items) (flat_map proof_lines shown.items) old now new o.took took),

@@ -10,7 +10,7 @@ use Rattle.tv_lines.specs.declared.head.PieceMark.{PieceMark}
 use Rattle.tv_lines.specs.declared.head.PieceMark.TheVariants as marks
 use Rattle.tv_cases.specs.LinearCases.{CaseSystem}
 use Rattle.tv_cert.specs.Statements.{Statement, rows, here, elsewhere, ends, never_ends, each_of, one_of, after, along, unsaid}
-use Rattle.tv_shape.specs.Stations.{done_may_be, ranks_may_be}
+use Rattle.tv_cert.specs.Shapes.{may_be_done, may_rank}
 use Rattle.tv_cert_reader.specs.declared.kind.LineKind.{LineKind}
 use Rattle.tv_cert_reader.specs.declared.kind.LineKind.TheVariants.{Syntax, Wide, Shape}
 use Rattle.tv_cert_reader.specs.Demands.{Outline}
@@ -188,5 +188,5 @@ region_of m os = record { ranks = m; pieces = os }
 -- the head of a node that is to show this, and its pieces
 abbrev pub region : CaseSystem → Statement → Grammar Region
 region system s =
-    then (line (node_line (kind_of s) (ranks_may_be s))) (λ x.
-    mapped (region_of x.ranks) (times x.pieces (piece system x.ranks (done_may_be s))))
+    then (line (node_line (kind_of s) (may_rank s))) (λ x.
+    mapped (region_of x.ranks) (times x.pieces (piece system x.ranks (may_be_done s))))

@@ -4,21 +4,22 @@ use Rattle.tv_lines.specs.Lines.{PlainLine}
 use Rattle.tv_cases.specs.LinearCases.{CaseSystem}
 use Rattle.tv_cert.specs.declared.node.Node.{Node}
 use Rattle.tv_cert.specs.Statements.{Statement, Statements, no_statement, statement}
+use Rattle.tv_cert.specs.Shapes.{NodeShape}
 use Rattle.tv_cert_reader.specs.NodeGrammar.{node}
-use Rattle.tv_cert_reader.specs.Shaped.{IsShapedAs, stated_lines}
+use Rattle.tv_cert_reader.specs.Shaped.{stated_lines}
 use Rattle.tv_cert_reader.specs.declared.cursor.Cursor.{Cursor}
 use Rattle.tv_cert_reader.specs.declared.failure.Failure.{Failure}
 use Rattle.tv_cert_reader.specs.Reading.{Reads, Takes}
 
 -- a node that is to show this is read
 abbrev pub ReadsNode : CaseSystem → Statement → Cursor → Cursor → Result Node Failure → Type 0
-ReadsNode system s old new result = Reads (λ n. n) (IsShapedAs system s) (stated_lines s) (node false system s) old new result
+ReadsNode system s old new result = Reads (λ n. n) (NodeShape system s) (stated_lines s) (node false system s) old new result
 
 -- the nodes are those of the first arguments
 abbrev pub AreFirstOf : CaseSystem → Statements → List Node → Type 0
 AreFirstOf system ss [] = Unit {0}
 AreFirstOf system no_statement (a ∷ kids) = ⊥
-AreFirstOf system (statement s ss) (a ∷ kids) = IsShapedAs system s a × AreFirstOf system ss kids
+AreFirstOf system (statement s ss) (a ∷ kids) = NodeShape system s a × AreFirstOf system ss kids
 
 -- the lines of nodes, told what they are to show
 abbrev pub nodes_lines : Statements → List Node → List PlainLine

@@ -1,4 +1,4 @@
--- The shape and the lines of a node by what it is to show.
+-- The lines of a node by what it is to show.
 use Rattle.std.specs.Prelude.{◌≡◌, pos, List, [], ◌∷◌, ◌++◌, length}
 use Rattle.std.specs.List.{flat_map}
 use Rattle.tv_lines.specs.Lines.{PlainLine, formed}
@@ -8,22 +8,10 @@ use Rattle.tv_cases.specs.LinearCases.{LinearCase, CaseSystem}
 use Rattle.tv_cert.specs.declared.node.Node.{Node, Node', Row_of-Node, end_of-Node, more_of-Node}
 use Rattle.tv_cert.specs.Obligations.{Owed, a_cover, a_choice, a_point}
 use Rattle.tv_cert.specs.Nodes.{kid_pieces}
-use Rattle.tv_cert.specs.Shapes.{owed_count}
+use Rattle.tv_cert.specs.Shapes.{owed_count, OwnShape}
 use Rattle.tv_cert.specs.Statements.{Statement, parts_of, Statements, no_statement, statement}
 use Rattle.tv_cert_reader.specs.CertificateLines.{piece_lines, proof_lines}
-use Rattle.tv_shape.specs.Stations.{OwnParts}
 use Rattle.tv_cert_reader.specs.LineGrammar.{kind_of}
-
-abbrev mutual
-  -- the node has the shape of one that is to show this, and its children are those of its arguments
-  pub IsShapedAs : CaseSystem → Statement → Node → Type 0
-  IsShapedAs system s (Node' ps m shape kids proofs) = OwnParts system s m ps (kid_pieces kids) proofs.items × AreShapedAs system (parts_of s) kids
-
-  pub AreShapedAs : {k : _} → CaseSystem → Statements → Row_of-Node k → Type 0
-  AreShapedAs system no_statement end_of-Node = Unit {0}
-  AreShapedAs system no_statement (more_of-Node a kids) = ⊥
-  AreShapedAs system (statement s ss) end_of-Node = ⊥
-  AreShapedAs system (statement s ss) (more_of-Node a kids) = IsShapedAs system s a × AreShapedAs system ss kids
 
 abbrev mutual
   -- the lines of the node

@@ -9,12 +9,12 @@ use Rattle.tv_cert.specs.declared.node.Verdict.{Verdict}
 use Rattle.tv_cert.specs.declared.node.Verdict.TheVariants.{Proved, Disproved}
 use Rattle.tv_cert.specs.Listed.{pieces_list}
 use Rattle.tv_cert.specs.Pieces.{pieces_at}
-use Rattle.tv_cert.specs.Shapes.{owed_count}
+use Rattle.tv_cert.specs.Shapes.{owed_count, NodeShape}
 use Rattle.tv_cert.specs.Statements.{Statement}
 use Rattle.tv_cert.specs.Targets.{owed_into, no_fall}
 use Rattle.tv_cert_reader.specs.CertificateLines.{cover_lines}
 use Rattle.tv_cert_reader.specs.LineGrammar.{line}
-use Rattle.tv_cert_reader.specs.Shaped.{IsShapedAs, stated_lines}
+use Rattle.tv_cert_reader.specs.Shaped.{stated_lines}
 use Rattle.tv_cert_reader.specs.CertificateGrammar.{Sides, said_line, IsFirstFault}
 use Rattle.tv_cert_reader.specs.declared.cursor.Cursor.{Cursor}
 use Rattle.tv_cert_reader.specs.declared.failure.Failure.{Failure}
@@ -49,7 +49,7 @@ says (Disproved k values) = false
 
 -- the root shows this, and these are all lines behind the one that says whether it is proved
 pub record IsBehindSaid (system : CaseSystem) (s : Statement) (proved : Bool) (ls : List PlainLine) (root : Node) (verdict : Verdict) : Type 0 where
-  pub root_is : IsShapedAs system s root
+  pub root_is : NodeShape system s root
   pub said : says verdict ≡ proved
   pub verdict_is : IsVerdictOver system root verdict
   pub lines : ls ≡ stated_lines s root ++ behind_root verdict

@@ -2,7 +2,7 @@ ghost use Rattle.std.specs.Prelude.{◌≡◌, ◌<◌, ◌^◌, IfOk, length};
 ghost use Rattle.tv_cases.specs.Systems.{cases_of};
 ghost use Rattle.tv_cert.specs.AimViews.{aim_states};
 ghost use Rattle.tv_cert.specs.Listed.{pieces_list};
-ghost use Rattle.tv_shape.specs.Stations.{IsSaid};
+ghost use Rattle.tv_cert.specs.Shapes.{IsSaid};
 ghost use Rattle.tv_cert_reader.specs.LineGrammar.{kind_of};
 ghost use Rattle.tv_cert_reader.specs.Nodes.{ReadsNode};
 

@@ -20,7 +20,7 @@ use Rattle.tv_shape.specs.Certificates.{IsOf}
 use Rattle.tv_shape.specs.declared.certificate.Certificate.{Certificate}
 use Rattle.tv_cert_reader.specs.Demands.{outlines, into_counts}
 use Rattle.tv_cert_reader.proofs.CompleteDemands.{into_plain}
-use Rattle.tv_cert_reader.proofs.CompleteStated.{shaped_as, lines_as}
+use Rattle.tv_cert_reader.proofs.CompleteStated.{lines_as}
 use Rattle.tv_cert_spelling.specs.NodeValues.{node_value}
 use Rattle.tv_cert_spelling.specs.CertificateValues.{proved, disproved, verdict_value, certificate_value}
 use Rattle.tv_cert_spelling.proofs.Fronts.{same_head, same_tail}
@@ -33,7 +33,7 @@ module _ (about : About) (f : Property) where
   -- the nodes of a formula
   root_told : (a b : Node) (xs ys : List PlainLine) → HasShape about f a → HasShape about f b → node_lines f a ++ xs ≡ node_lines f b ++ ys → (node_value a ≡ node_value b) × (xs ≡ ys)
   root_told a b xs ys h g e =
-      node_told about.system (stated about.tests f) a b xs ys (shaped_as about f a h) (shaped_as about f b g)
+      node_told about.system (stated about.tests f) a b xs ys h g
       (ap (λ ls. ls ++ xs) (lines_as about f a) ∙ e ∙ sym (ap (λ ls. ls ++ ys) (lines_as about f b)))
 
   -- the cover of the start has the shape that the outlines of the root want

@@ -8,12 +8,11 @@ use Rattle.tv_cert.specs.declared.node.Proof.{Proof}
 use Rattle.tv_cert.specs.declared.node.Node.{Node, Node', Row_of-Node, end_of-Node, more_of-Node}
 use Rattle.tv_cert.specs.Nodes.{pieces_of, kid_pieces, node_owes}
 use Rattle.tv_cert.specs.Pieces.{is_go}
-use Rattle.tv_cert.specs.Shapes.{PieceShape}
+use Rattle.tv_cert.specs.Shapes.{PieceShape, may_be_done, OwnShape, NodeShape, KidsShape}
 use Rattle.tv_cert.specs.Statements.{Statement, Statements, no_statement, statement, parts_of}
-use Rattle.tv_shape.specs.Stations.{done_may_be, OwnParts}
 use Rattle.tv_cert_reader.specs.CertificateLines.{piece_lines, proof_lines}
 use Rattle.tv_cert_reader.specs.Demands.{Outline, outline, outlines, demands}
-use Rattle.tv_cert_reader.specs.Shaped.{IsShapedAs, AreShapedAs, stated_lines, children_lines}
+use Rattle.tv_cert_reader.specs.Shaped.{stated_lines, children_lines}
 use Rattle.tv_cert_reader.proofs.CompleteDemands.{draw_free}
 use Rattle.tv_cert_reader.proofs.CompleteWanted.{demands_same}
 use Rattle.tv_cert_spelling.specs.NodeValues.{PieceValue, piece_value, proof_value, NodeValue, node, NodeValues, none, more, node_value, child_values}
@@ -61,19 +60,19 @@ same_kids kids others e = kid_outlines kids ∙ ap child_outlines e ∙ sym (kid
 
 module _ (system : CaseSystem) where
   -- the proofs are as long as what is wanted
-  own_long : (s : Statement) (m : ℕ) (ps : List Marked) (kids : List (List Marked)) (proofs : List Proof) → OwnParts system s m ps kids proofs → AllZip ProofLong (demands system s m (outlines ps) (map outlines kids)) proofs
+  own_long : (s : Statement) (m : ℕ) (ps : List Marked) (kids : List (List Marked)) (proofs : List Proof) → OwnShape system s m ps kids proofs → AllZip ProofLong (demands system s m (outlines ps) (map outlines kids)) proofs
   own_long s m ps kids proofs h =
       subst (λ ds. AllZip ProofLong ds proofs) (demands_same 0 system s m ps kids h.each)
       (proofs_long (node_owes 0 system s ps kids) proofs (draw_free 0 system s ps kids) h.offered)
 
-  own_told : (s : Statement) (m n : ℕ) (ps qs : List Marked) (kids others : List (List Marked)) (proofs offered : List Proof) (xs ys : List PlainLine) → OwnParts system s m ps kids proofs → OwnParts system s n qs others offered → m ≡ n → outlines ps ≡ outlines qs → map outlines kids ≡ map outlines others → flat_map proof_lines proofs ++ xs ≡ flat_map proof_lines offered ++ ys → (map proof_value proofs ≡ map proof_value offered) × (xs ≡ ys)
+  own_told : (s : Statement) (m n : ℕ) (ps qs : List Marked) (kids others : List (List Marked)) (proofs offered : List Proof) (xs ys : List PlainLine) → OwnShape system s m ps kids proofs → OwnShape system s n qs others offered → m ≡ n → outlines ps ≡ outlines qs → map outlines kids ≡ map outlines others → flat_map proof_lines proofs ++ xs ≡ flat_map proof_lines offered ++ ys → (map proof_value proofs ≡ map proof_value offered) × (xs ≡ ys)
   own_told s m n ps qs kids others proofs offered xs ys h g ranks pieces below e =
       proofs_told (demands system s n (outlines qs) (map outlines others)) proofs offered xs ys
       (subst (λ ds. AllZip ProofLong ds proofs) (λ i. demands system s (ranks i) (pieces i) (below i)) (own_long s m ps kids proofs h))
       (own_long s n qs others offered g) e
 
   mutual
-    pub node_told : (s : Statement) (a b : Node) (xs ys : List PlainLine) → IsShapedAs system s a → IsShapedAs system s b → stated_lines s a ++ xs ≡ stated_lines s b ++ ys → (node_value a ≡ node_value b) × (xs ≡ ys)
+    pub node_told : (s : Statement) (a b : Node) (xs ys : List PlainLine) → NodeShape system s a → NodeShape system s b → stated_lines s a ++ xs ≡ stated_lines s b ++ ys → (node_value a ≡ node_value b) × (xs ≡ ys)
     node_told s (Node' ps m shape kids proofs) (Node' qs n other others offered) xs ys h g e =
         let two = same_two (length ps) m (length qs) n (same_numbers _ _ _ _ (same_head _ _ _ _ e)) in
         let mine = flat_map proof_lines proofs.items in
@@ -81,13 +80,13 @@ module _ (system : CaseSystem) where
         let kid = children_lines (parts_of s) kids in
         let twin = children_lines (parts_of s) others in
         let behind = behind_first (flat_map piece_lines ps) (kid ++ mine) (flat_map piece_lines qs) (twin ++ theirs) xs ys (same_tail _ _ _ _ e) in
-        let each = subst (λ r. All (PieceShape system r (done_may_be s)) qs) (sym two.1) g.0.each in
-        let pieces = each_told piece_lines piece_value (PieceShape system m (done_may_be s)) (piece_told system m (done_may_be s)) ps qs ((kid ++ mine) ++ xs) ((twin ++ theirs) ++ ys) two.0 h.0.each each behind in
+        let each = subst (λ r. All (PieceShape system r (may_be_done s)) qs) (sym two.1) g.0.each in
+        let pieces = each_told piece_lines piece_value (PieceShape system m (may_be_done s)) (piece_told system m (may_be_done s)) ps qs ((kid ++ mine) ++ xs) ((twin ++ theirs) ++ ys) two.0 h.0.each each behind in
         let below = children_told (parts_of s) kids others (mine ++ xs) (theirs ++ ys) h.1 g.1 (behind_first kid mine twin theirs xs ys pieces.1) in
         let shown = own_told s m n ps qs (kid_pieces kids) (kid_pieces others) proofs.items offered.items xs ys h.0 g.0 two.1 (same_pieces ps qs pieces.0) (same_kids kids others below.0) below.1 in
         (λ i. node (pieces.0 i) (two.1 i) (below.0 i) (shown.0 i), shown.1)
 
-    pub children_told : {j : _} {k : _} (ss : Statements) (kids : Row_of-Node j) (others : Row_of-Node k) (xs ys : List PlainLine) → AreShapedAs system ss kids → AreShapedAs system ss others → children_lines ss kids ++ xs ≡ children_lines ss others ++ ys → (child_values kids ≡ child_values others) × (xs ≡ ys)
+    pub children_told : {j : _} {k : _} (ss : Statements) (kids : Row_of-Node j) (others : Row_of-Node k) (xs ys : List PlainLine) → KidsShape system ss kids → KidsShape system ss others → children_lines ss kids ++ xs ≡ children_lines ss others ++ ys → (child_values kids ≡ child_values others) × (xs ≡ ys)
     children_told no_statement end_of-Node end_of-Node xs ys h g e = (refl, e)
     children_told no_statement end_of-Node (more_of-Node b others) xs ys h g e = absurd g
     children_told no_statement (more_of-Node a kids) others xs ys h g e = absurd h

@@ -19,14 +19,13 @@ use Rattle.tv_cert.specs.Nodes.{pieces_of, root_entry, size, node_entries}
 use Rattle.tv_cert.specs.Obligations.{Entry, PointMet, IsMetEntry}
 use Rattle.tv_cert.specs.Pieces.{pieces_at, rows_of}
 use Rattle.tv_cert.specs.Plain.{about_of}
-use Rattle.tv_cert.specs.Shapes.{PieceShape}
+use Rattle.tv_cert.specs.Shapes.{PieceShape, may_be_done, NodeShape}
 use Rattle.tv_cert.specs.Statements.{Statement}
 use Rattle.tv_cert.specs.Targets.{owed_into, no_fall}
 use Rattle.tv_cert.proofs.NodeLemmas.{pieces_are}
-use Rattle.tv_shape.specs.Stations.{done_may_be}
 use Rattle.tv_check.specs.Roots.{AreOver}
 use Rattle.tv_cert_reader.specs.CertificateLines.{cover_lines}
-use Rattle.tv_cert_reader.specs.Shaped.{IsShapedAs, stated_lines}
+use Rattle.tv_cert_reader.specs.Shaped.{stated_lines}
 use Rattle.tv_cert_reader.specs.declared.cursor.Cursor.{Cursor}
 use Rattle.tv_cert_reader.specs.Reading.{Takes}
 use Rattle.tv_cert_reader.specs.Covers.{IsCoverWithin}
@@ -40,10 +39,10 @@ use Rattle.tv_check_text.proofs.SettlingLemmas.{settles_both, settles_one}
 
 -- ---- the rows of pieces are over the variables
 
-rows_over : (system : CaseSystem) (s : Statement) (n : Node) → IsShapedAs system s n → AreOver system.variables (pieces_of n)
-rows_over system s (Node' ps m shape kids proofs) h p there = (All-contains (PieceShape system m (done_may_be s)) ps p h.0.each there).rows
+rows_over : (system : CaseSystem) (s : Statement) (n : Node) → NodeShape system s n → AreOver system.variables (pieces_of n)
+rows_over system s (Node' ps m shape kids proofs) h p there = (All-contains (PieceShape system m (may_be_done s)) ps p h.0.each there).rows
 
-pub pieces_over : (system : CaseSystem) (s : Statement) (n : Node) (ps : List Marked) (count : ℕ) → IsShapedAs system s n → ps ≡ pieces_list n → count ≡ system.variables → AreOver count ps
+pub pieces_over : (system : CaseSystem) (s : Statement) (n : Node) (ps : List Marked) (count : ℕ) → NodeShape system s n → ps ≡ pieces_list n → count ≡ system.variables → AreOver count ps
 pieces_over system s n ps count h is many = subst (λ k. AreOver k ps) (sym many) (subst (AreOver system.variables) (pieces_are n ∙ sym is) (rows_over system s n h))
 
 -- what is got is there

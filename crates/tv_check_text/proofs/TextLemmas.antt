@@ -51,7 +51,7 @@ module _ (system : CaseSystem) (claim : Claim) (variables : claim_variables clai
   fits = read_fits system claim variables rest h.root h.verdict behind (behind_two (formed heads.Header []) (said_head proved) rest (subst AreFit lines (text_fit text)))
 
   few_kinds : length (kinds_stated (stated (about_with system).tests property)) < 2 ^ 63
-  few_kinds = (let e = size_is_kinds (about_with system) property h.root fits.nodes.shape in let f = h.few_nodes in omega (arith, e, f))
+  few_kinds = (let e = size_is_kinds system (stated (about_with system).tests property) h.root fits.nodes.shape in let f = h.few_nodes in omega (arith, e, f))
 
   states : side (sides_of claim) proved ≡ stated (about_with system).tests property
   states = ap (side (sides_of claim)) (sym h.behind.said) ∙ shows system claim variables h.verdict

@@ -5,8 +5,9 @@ use Rattle.tv_cert.specs.declared.node.Node.{Node}
 use Rattle.tv_cert.specs.Listed.{pieces_list}
 use Rattle.tv_cert.specs.Nodes.{size, node_entries}
 use Rattle.tv_cert.specs.Statements.{Statement}
+use Rattle.tv_cert.specs.Shapes.{NodeShape}
 use Rattle.tv_cert_reader.specs.NodeGrammar.{node}
-use Rattle.tv_cert_reader.specs.Shaped.{IsShapedAs, stated_lines}
+use Rattle.tv_cert_reader.specs.Shaped.{stated_lines}
 use Rattle.tv_cert_reader.specs.declared.failure.Failure.{Failure}
 use Rattle.tv_cert_reader.specs.Reading.{Takes, FailsBy}
 use Rattle.tv_check_text.specs.declared.judge.Judge.{Judge}
@@ -16,7 +17,7 @@ use Rattle.tv_check_text.specs.Visits.{IsCounted}
 -- A node that is to show this is taken off and its obligations are judged, with those of the nodes below it; `head` keeps its pieces.
 pub record IsJudgedNode (system : CaseSystem) (s : Statement) (old new : Judge) (head : Node) : Type 0 where
   pub node : Node
-  pub is_node : IsShapedAs system s node
+  pub is_node : NodeShape system s node
   pub took : Takes (stated_lines s node) old.cursor new.cursor
   pub pieces : pieces_list head ≡ pieces_list node
   pub nodes : new.nodes ≡ old.nodes + size node

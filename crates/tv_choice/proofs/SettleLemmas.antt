@@ -19,6 +19,8 @@ use Rattle.tv_linear.specs.declared.cover.CoverTree.{CoverTree}
 use Rattle.tv_linear.specs.declared.region.Piece.{Piece}
 use Rattle.tv_linear.proofs.KnownLemmas.{refuted, met-as_given}
 use Rattle.tv_linear.proofs.RowValues.{value-denial}
+use Rattle.tv_linear.specs.Same.{SameNumbers, AreSame}
+use Rattle.tv_linear.proofs.SameLemmas.{same_self, refutes_same}
 use Rattle.tv_simplex.proofs.Ring.{by_sign}
 use Rattle.tv_farkas.specs.Refuting.{AreShort}
 use Rattle.tv_farkas.specs.Paths.{IsWholePoint}
@@ -34,7 +36,7 @@ use Rattle.tv_cert.specs.Shapes.{ChoiceShape, TakeShape, ListsShape}
 use Rattle.tv_shape.specs.Narrow.{AreNarrow, ListsNarrow, CountNarrow, RowNarrow, ChoiceNarrow}
 use Rattle.tv_choice.specs.declared.ways.Way.{Way}
 use Rattle.tv_choice.specs.Rows.{case_rows}
-use Rattle.tv_choice.specs.Same.{SameNumbers, AreSame, AreKnown}
+use Rattle.tv_choice.specs.Same.{AreKnown}
 use Rattle.tv_choice.specs.Leading.{Query, place_of, piece_rows, pieces_at, region_owes, state, LeadsInto}
 use Rattle.tv_choice.specs.ChoicePaths.{own}
 use Rattle.tv_choice.specs.Targets.{targets}
@@ -43,7 +45,7 @@ use Rattle.tv_choice.specs.Ways.{way_rows, lists_of, IsWay, AreWays, AreDifferen
 use Rattle.tv_choice.specs.Stepping.{IsWayFrom, IsStepInto}
 use Rattle.tv_choice.specs.Stopping.{AreStopTrees}
 use Rattle.tv_choice.specs.Settling.{IsTreeAt, IsHoleAt, IsSplitOf, IsTakeOf, IsGoing}
-use Rattle.tv_choice.proofs.SameLemmas.{same_self, known_more, refutes_same, shown_same}
+use Rattle.tv_choice.proofs.SameLemmas.{known_more, shown_same}
 use Rattle.tv_choice.proofs.PieceLemmas.{piece_got, test_true}
 use Rattle.tv_choice.proofs.FitLemmas.{contains_filter, place_fits}
 use Rattle.tv_choice.proofs.WayLemmas.{map-append, all_before, all_behind, put_met, met_before}

@@ -8,13 +8,14 @@ use Rattle.tv_linear.specs.Arithmetic.{denial, unit}
 use Rattle.tv_linear.specs.Fits.{IsHeld}
 use Rattle.tv_linear.specs.Known.{given, denied}
 use Rattle.tv_linear.proofs.PlainLists.{length-unit, unit-narrow}
+use Rattle.tv_linear.specs.Same.{SameNumbers}
 use Rattle.tv_simplex.specs.Outcomes.{IsShort}
 use Rattle.tv_farkas.specs.Paths.{IsWholePoint, IsPointSplit, at_most_row, at_least_row}
 use Rattle.tv_farkas.specs.Judging.{IsPointAt}
 use Rattle.tv_farkas.specs.Stretching.{IsFloor, IsFirstOpen}
 use Rattle.tv_farkas.specs.Halving.{IsFractionAt, Keeps, ArePointSides}
 use Rattle.tv_farkas.specs.declared.splitting.Halves.{Halves}
-use Rattle.tv_farkas.proofs.SideLemmas.{small_at}
+use Rattle.tv_farkas.proofs.SideLemmas.{small_at, get_or-neg}
 use Rattle.tv_cover.specs.Targets.{HasPoint, IsNarrowRow}
 use Rattle.tv_cover.specs.CoverPaths.{IsLeftOpen, IsShut}
 use Rattle.tv_cover.specs.Halving.{IsBare, AreRowSides}
@@ -23,9 +24,8 @@ use Rattle.tv_choice.specs.Leading.{Query, IsServed}
 use Rattle.tv_choice.specs.ChoicePaths.{IsWayRows, IsRowSplit, IsCoordinateSplit, SplitsBy}
 use Rattle.tv_choice.specs.Targets.{targets}
 use Rattle.tv_choice.specs.Looking.{AreEntered}
-use Rattle.tv_choice.specs.Same.{SameNumbers}
 use Rattle.tv_choice.specs.Settling.{AreHalves}
-use Rattle.tv_choice.proofs.SameLemmas.{get_or-neg, small_number, small_constant}
+use Rattle.tv_choice.proofs.SameLemmas.{small_number, small_constant}
 use Rattle.tv_choice.proofs.SettleLemmas.{denial_met, row_met}
 
 -- ---- the numbers of the second side

@@ -21,14 +21,18 @@ use Rattle.tv_cover.specs.declared.emptied.Emptied.TheVariants as emptied
 use Rattle.tv_cases.specs.LinearCases.{LinearCase, leaving}
 use Rattle.tv_cert.specs.Shapes.{CoverShape, owed_count}
 use Rattle.tv_shape.specs.Narrow.{CoverNarrow}
-use Rattle.tv_choice.specs.Same.{AreSame, AreKnown}
+use Rattle.tv_choice.specs.Same.{AreKnown}
 use Rattle.tv_choice.specs.Leading.{Query, state}
 use Rattle.tv_choice.specs.ChoicePaths.{starting_rows, start}
 use Rattle.tv_choice.specs.Stopping.{IsStopTree, IsStart, IsStoppedBy, AreStopTrees, IsLeading}
-use Rattle.tv_choice.proofs.SameLemmas.{known_self, cover_same, same_append, are_same_then, all_same, given_append}
+use Rattle.tv_choice.proofs.SameLemmas.{known_self}
 use Rattle.tv_choice.proofs.FitLemmas.{Contains-leaving}
-use Rattle.tv_choice.proofs.WayLemmas.{padded_same, padded_met, met_padded, front_back, length-drop, all_before, all_behind}
+use Rattle.tv_choice.proofs.WayLemmas.{front_back, length-drop, all_before, all_behind}
 use Rattle.tv_linear.specs.Arithmetic.{padded_row}
+use Rattle.tv_linear.specs.Same.{AreSame}
+use Rattle.tv_linear.proofs.SameLemmas.{cover_same, same_append, are_same_then, all_same}
+use Rattle.tv_linear.proofs.KnownLemmas.{as_given-append}
+use Rattle.tv_linear.proofs.PaddedLemmas.{padded_same, padded_met, met_padded}
 
 -- ---- trees without targets
 one_more : (known : List Known) (x : Known) (count : ℕ) → length known ≡ count → length (known ++ x ∷ []) ≡ count + 1
@@ -126,7 +130,7 @@ short_front (suc n) (z ∷ zs) h (suc j) l = short_front n zs (λ i k. h (suc i)
 module _ (n : ℕ) (rows all : List Linear) (c : LinearCase) (left : ℕ) (even : All (λ r. columns r ≡ n) rows) (is : all ≡ starting_rows rows c) where
   known_of_all : (known : List Known) → AreKnown rows known → AreSame (n + c.draws) (as_given all) (known ++ as_given c.guards)
   known_of_all known k =
-      subst (λ ks. AreSame (n + c.draws) ks (known ++ as_given c.guards)) (sym (ap as_given is ∙ given_append (map (padded_row c.draws) rows) c.guards))
+      subst (λ ks. AreSame (n + c.draws) ks (known ++ as_given c.guards)) (sym (ap as_given is ∙ as_given-append (map (padded_row c.draws) rows) c.guards))
       (same_append (n + c.draws) (as_given (map (padded_row c.draws) rows)) known (as_given c.guards) (as_given c.guards)
       (are_same_then (n + c.draws) (as_given (map (padded_row c.draws) rows)) (as_given rows) known (padded_same (n + c.draws) c.draws rows) (k (n + c.draws))) (all_same (n + c.draws) (as_given c.guards)))
 
@@ -135,7 +139,7 @@ module _ (n : ℕ) (rows all : List Linear) (c : LinearCase) (left : ℕ) (even 
 
   pub stopped_by : (e : Emptied) → IsEmptied (n + c.draws) all e → HasNoWholePoint (n + c.draws) all e → IsShallow left e → HasEvenSplits (n + c.draws) e → IsShortEmptied e → GivesWhole (n + c.draws) all e → IsStoppedBy n rows c left e
   stopped_by (emptied.Tree cover) h none s w t f = record {
-    met = λ known k. cover_same (n + c.draws) (as_given all) (known ++ as_given c.guards) cover (known_of_all known k) h;
+    met = λ known k. cover_same (n + c.draws) no_target no_target (λ i j. tt) (as_given all) (known ++ as_given c.guards) (known_of_all known k) cover h;
     shallow = s;
     shape = cover_shape (n + c.draws) (length rows + length c.guards) (as_given all) cover all_many h w;
     short = t;

@@ -7,6 +7,7 @@ use Rattle.tv_linear.specs.Linear.{Linear, columns, dot, value}
 use Rattle.tv_linear.specs.Arithmetic.{zeros, unit, constant_row}
 use Rattle.tv_linear.proofs.PlainLists.{length-zeros}
 use Rattle.tv_linear.proofs.RowValues.{value-constant_row}
+use Rattle.tv_linear.proofs.PaddedLemmas.{dot-zeros}
 use Rattle.tv_choice.specs.ChoicePaths.{GivesAlone, IsTermAt, number, tight, AreTermsAt}
 
 -- ---- what a row gives
@@ -27,11 +28,6 @@ dot-opposite (a ∷ cs) (x ∷ xs) =
     let product : neg_ℤ a *ℤ x ≡ neg_ℤ (a *ℤ x) = grind (arith, ints) in
     let later = dot-opposite cs xs in
     omega (arith, ints, product, later)
-
-dot-zeros : (m : ℕ) (xs : List ℤ) → dot (zeros m) xs ≡ pos 0
-dot-zeros zero xs = refl
-dot-zeros (suc m) [] = refl
-dot-zeros (suc m) (x ∷ xs) = let h = dot-zeros m xs in omega (arith, ints, h)
 
 dot-unit : (d j : ℕ) (ds : List ℤ) → length ds ≡ d → j < d → dot (unit d j) ds ≡ get_or ds j (pos 0)
 dot-unit zero j ds e l = absurd (omega (arith, l))

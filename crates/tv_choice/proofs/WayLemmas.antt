@@ -17,24 +17,26 @@ use Rattle.tv_farkas.specs.declared.fault.CoverFault.TheVariants.{Splits, Solve,
 use Rattle.tv_linear.specs.Known.{Known, given, composed, as_given, term_value}
 use Rattle.tv_linear.specs.Terms.{table, update_of, terms_after, draw_terms}
 use Rattle.tv_linear.specs.declared.region.Piece.{Piece}
-use Rattle.tv_linear.proofs.PlainLists.{length-unit, length-zeros, get_or-zeros, zeros-narrow}
+use Rattle.tv_linear.proofs.PlainLists.{length-unit, length-zeros, get_or-zeros, zeros-narrow, length-table}
 use Rattle.tv_linear.proofs.RowValues.{value-column_row, value-denial, value-composed}
+use Rattle.tv_linear.specs.Same.{SameNumbers, AreSame}
+use Rattle.tv_linear.proofs.SameLemmas.{same_self, all_same, same_push}
+use Rattle.tv_linear.proofs.KnownLemmas.{as_given-append}
 use Rattle.tv_farkas.specs.Paths.{at_most_row, at_least_row, IsWholePoint}
 use Rattle.tv_cases.specs.EdgeCases.{columns_from}
 use Rattle.tv_cases.specs.Before.{before, rows_after, term_row, FitsTerms}
 use Rattle.tv_cases.specs.LinearCases.{LinearCase, IsCase}
 use Rattle.tv_cases.proofs.BeforeValue.{before-value}
+use Rattle.tv_cases.proofs.BeforeLemmas.{PutIn, composed_same, after_terms, put_before}
 use Rattle.tv_cert.specs.Choices.{drawn_change, drawn_guards}
 use Rattle.tv_cert.specs.Obligations.{case_change}
 use Rattle.tv_choice.specs.declared.ways.Way.{Way}
 use Rattle.tv_cover.specs.Targets.{IsNarrowRow}
 use Rattle.tv_choice.specs.Rows.{fixes, put_terms, put_rows, IsWideBefore, IsWidePut}
-use Rattle.tv_choice.specs.Same.{SameNumbers, AreSame}
 use Rattle.tv_choice.specs.Leading.{Query, pieces_at, piece_rows}
 use Rattle.tv_choice.specs.ChoicePaths.{AreDrawTerms, IsWayIn}
 use Rattle.tv_choice.specs.Ways.{AreCaseRows, AreComposed, IsWayOf, IsWay, IsFaultOf, IsUnmade}
-use Rattle.tv_choice.proofs.SameLemmas.{same_self, all_same, same_push, given_append}
-use Rattle.tv_choice.proofs.ComposeLemmas.{PutIn, composed_same, drawn_terms, after_terms, put_before, put_drawn, length-put_terms}
+use Rattle.tv_choice.proofs.ComposeLemmas.{drawn_terms, put_drawn, length-put_terms}
 
 -- ---- lists
 pub next_of : (j : ℕ) → j + 1 ≡ suc j
@@ -159,63 +161,6 @@ front_back (suc n) [] = refl
 front_back (suc n) (x ∷ xs) = ap (λ ys. x ∷ ys) (front_back n xs)
 
 -- ---- padded rows
-get_or-zeros_behind : (cs : List ℤ) (m j : ℕ) → get_or (cs ++ zeros m) j (pos 0) ≡ get_or cs j (pos 0)
-get_or-zeros_behind [] m j = get_or-zeros m j
-get_or-zeros_behind (c ∷ cs) m zero = refl
-get_or-zeros_behind (c ∷ cs) m (suc j) = get_or-zeros_behind cs m j
-
-pub padded_same : (v more : ℕ) (rows : List Linear) → AreSame v (as_given (map (padded_row more) rows)) (as_given rows)
-padded_same v more [] = tt
-padded_same v more (r ∷ rows) = (
-  record {
-    inner = λ j l. sym (get_or-zeros_behind r.coefficients more j);
-    constant = refl;
-    inner_held = λ j l h. tt;
-    constant_held = λ h. tt;
-  },
-  padded_same v more rows,
-)
-
-pub padded_even : (n more : ℕ) (rows : List Linear) → All (λ r. columns r ≡ n) rows → All (λ r. columns r ≡ n + more) (map (padded_row more) rows)
-padded_even n more [] h = All-nil (λ r. columns r ≡ n + more)
-padded_even n more (r ∷ rows) h =
-    let e = All-head (λ r. columns r ≡ n) r rows h in
-    let a = length-append r.coefficients (zeros more) in
-    let z = length-zeros more in
-    All-cons (λ r. columns r ≡ n + more) (padded_row more r) (map (padded_row more) rows) (omega (arith, a, z, e)) (padded_even n more rows (All-tail (λ r. columns r ≡ n) r rows h))
-
-dot-zeros : (m : ℕ) (xs : List ℤ) → dot (zeros m) xs ≡ pos 0
-dot-zeros zero xs = refl
-dot-zeros (suc m) [] = refl
-dot-zeros (suc m) (x ∷ xs) = let h = dot-zeros m xs in omega (arith, ints, h)
-
-dot-padded : (n m : ℕ) (cs xs : List ℤ) → length cs ≡ n → dot (cs ++ zeros m) xs ≡ dot cs (take n xs)
-dot-padded zero m [] xs e = dot-zeros m xs
-dot-padded zero m (c ∷ cs) xs e = absurd (omega (arith, e))
-dot-padded (suc n) m [] xs e = absurd (omega (arith, e))
-dot-padded (suc n) m (c ∷ cs) [] e = refl
-dot-padded (suc n) m (c ∷ cs) (x ∷ xs) e = ap (λ z. (c *ℤ x) +ℤ z) (dot-padded n m cs xs (omega (arith, e)))
-
-pub padded_met : (n more : ℕ) (rows : List Linear) (zs : List ℤ) → All (λ r. columns r ≡ n) rows → All (IsMet zs) (map (padded_row more) rows) → All (IsMet (take n zs)) rows
-padded_met n more [] zs e h = All-nil (IsMet (take n zs))
-padded_met n more (r ∷ rows) zs e h =
-    let d = dot-padded n more r.coefficients zs (All-head (λ r. columns r ≡ n) r rows e) in
-    let m = All-head (IsMet zs) (padded_row more r) (map (padded_row more) rows) h in
-    All-cons (IsMet (take n zs)) r rows (omega (arith, ints, d, m)) (padded_met n more rows zs (All-tail (λ r. columns r ≡ n) r rows e) (All-tail (IsMet zs) (padded_row more r) (map (padded_row more) rows) h))
-
--- and the other way, with numbers behind a point
-pub met_padded : (n more : ℕ) (rows : List Linear) (xs ds : List ℤ) → All (λ r. columns r ≡ n) rows → length xs ≡ n → All (IsMet xs) rows → All (IsMet (xs ++ ds)) (map (padded_row more) rows)
-met_padded n more [] xs ds e w h = All-nil (IsMet (xs ++ ds))
-met_padded n more (r ∷ rows) xs ds e w h =
-    let d = dot-padded n more r.coefficients (xs ++ ds) (All-head (λ r. columns r ≡ n) r rows e) ∙ ap (dot r.coefficients) (front_is n xs ds w) in
-    let m = All-head (IsMet xs) r rows h in
-    All-cons (IsMet (xs ++ ds)) (padded_row more r) (map (padded_row more) rows) (omega (arith, ints, d, m)) (met_padded n more rows xs ds (All-tail (λ r. columns r ≡ n) r rows e) w (All-tail (IsMet xs) r rows h))
-  where
-    front_is : (n : ℕ) (xs ds : List ℤ) → length xs ≡ n → take n (xs ++ ds) ≡ xs
-    front_is zero [] ds e = refl
-    front_is zero (x ∷ xs) ds e = absurd (omega (arith, e))
-    front_is (suc n) [] ds e = absurd (omega (arith, e))
-    front_is (suc n) (x ∷ xs) ds e = ap (λ ys. x ∷ ys) (front_is n xs ds (omega (arith, e)))
 
 -- ---- the rows of a case
 append_none : {A : Type 0} (xs : List A) → xs ++ [] ≡ xs
@@ -247,10 +192,6 @@ made_wide n c owed i r rows column l e h w = record { place = i; row = r; found 
 pub composed_wide : (rows terms : List Linear) (i : ℕ) (r : Linear) (all : List Linear) (column : ℕ) → i < length rows → r ≡ get_or rows i r → AreComposed (take i rows) terms all → IsFirstWide (FitsComposed r terms) (columns (composed_row r terms)) column → IsWidePut terms rows column
 composed_wide rows terms i r all column l e h w = record { place = i; row = r; found = slice_get_read rows (length rows) i r refl l e; earlier = h.fits; wide = w }
 
-length-table : {A : Type 0} (n : ℕ) (f : ℕ → A) → length (table n f) ≡ n
-length-table zero f = refl
-length-table (suc n) f = ap suc (length-table n (λ j. f (suc j)))
-
 -- one more row
 pub case_rows_more : (n : ℕ) (c : LinearCase) (owed : List Linear) (i : ℕ) (r s : Linear) (rows new : List Linear) → i < length owed → r ≡ get_or owed i r → columns r ≡ n → All (λ u. columns u.term ≡ n + c.draws) c.updates → s ≡ before r c → ((column : ℕ) → column ≤ columns (before r c) → FitsTerms (columns r + c.draws) r (rows_after r c) column) → new ≡ rows ++ s ∷ [] → AreCaseRows n c (take i owed) rows → AreCaseRows n c (take (i + 1) owed) new
 case_rows_more n c owed i r s rows new l e wide us same fits en h =
@@ -258,7 +199,7 @@ case_rows_more n c owed i r s rows new l e wide us same fits en h =
       exact = ap (λ rs. rs ++ before r c ∷ []) h.exact ∙ append_assoc c.guards (map (λ q. before q c) (take i owed)) (before r c ∷ []) ∙ ap (λ rs. c.guards ++ rs) (sym (map-append (λ q. before q c) (take i owed) (r ∷ [])));
       even = All-push (λ q. columns q ≡ n + c.draws) rows (before r c) h.even put.even;
       narrow = All-push IsNarrowRow rows (before r c) h.narrow (λ column l. (fits column l).narrow);
-      seen = subst (λ ks. AreSame (n + c.draws) ks (as_given c.guards ++ map (case_change n c) (take i owed ++ r ∷ []))) (sym (given_append rows (before r c ∷ [])))
+      seen = subst (λ ks. AreSame (n + c.draws) ks (as_given c.guards ++ map (case_change n c) (take i owed ++ r ∷ []))) (sym (as_given-append rows (before r c ∷ [])))
           (subst (λ ks. AreSame (n + c.draws) (as_given rows ++ given (before r c) ∷ []) ks)
           (append_assoc (as_given c.guards) (map (case_change n c) (take i owed)) (case_change n c r ∷ []) ∙ ap (λ ks. as_given c.guards ++ ks) (sym (map-append (case_change n c) (take i owed) (r ∷ []))))
           (same_push (n + c.draws) (as_given rows) (as_given c.guards ++ map (case_change n c) (take i owed)) (given (before r c)) (case_change n c r) h.seen one));

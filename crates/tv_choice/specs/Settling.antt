@@ -4,6 +4,7 @@ use Rattle.tv_linear.specs.Linear.{Linear, columns, IsMet, IsNarrow}
 use Rattle.tv_linear.specs.Known.{Known, given, denied}
 use Rattle.tv_linear.specs.ChoiceDepth.{choice_splits}
 use Rattle.tv_linear.specs.declared.choice.ChoiceTree.{ChoiceTree, Split', Empty, NoStep, Take}
+use Rattle.tv_linear.specs.Same.{SameNumbers}
 use Rattle.tv_farkas.specs.Paths.{IsWholePoint}
 use Rattle.tv_farkas.specs.Refuting.{AreShort}
 use Rattle.tv_farkas.specs.declared.branch.Branch.{Branch}
@@ -18,7 +19,7 @@ use Rattle.tv_choice.specs.declared.choosing.Found.TheVariants as found
 use Rattle.tv_choice.specs.declared.ways.Way.{Way}
 use Rattle.tv_choice.specs.Leading.{Query, region_owes, IsHole, IsServed, Leads}
 use Rattle.tv_choice.specs.ChoicePaths.{IsPointHere, IsSplit}
-use Rattle.tv_choice.specs.Same.{SameNumbers, AreKnown}
+use Rattle.tv_choice.specs.Same.{AreKnown}
 
 -- the tree is a met choice at the rows, of which no whole point is a hole
 pub record IsTreeAt (n : ℕ) (q : Query) (rows : List Linear) (left : ℕ) (tree : ChoiceTree) : Type 0 where

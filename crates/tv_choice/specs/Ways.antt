@@ -6,6 +6,7 @@ use Rattle.tv_linear.specs.Known.{as_given}
 use Rattle.tv_linear.specs.declared.region.Piece.{Piece}
 use Rattle.tv_linear.specs.declared.fault.RowFault.{RowFault}
 use Rattle.tv_linear.specs.declared.fault.RowFault.TheVariants as row_fault
+use Rattle.tv_linear.specs.Same.{AreSame}
 use Rattle.tv_cases.specs.LinearCases.{LinearCase, IsCase}
 use Rattle.tv_cases.specs.Views.{case_view}
 use Rattle.tv_cert.specs.Choices.{drawn_change, drawn_guards}
@@ -19,7 +20,6 @@ use Rattle.tv_choice.specs.Rows.{case_rows, put_terms, put_rows}
 use Rattle.tv_choice.specs.Leading.{Query, pieces_at, piece_rows}
 use Rattle.tv_choice.specs.Targets.{targets}
 use Rattle.tv_choice.specs.ChoicePaths.{AreDrawTerms, IsWayIn}
-use Rattle.tv_choice.specs.Same.{AreSame}
 
 abbrev pub way_rows : Way → List Linear
 way_rows w = w.rows.items

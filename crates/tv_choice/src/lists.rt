@@ -2,7 +2,7 @@
 
 ghost use Rattle.std.specs.Prelude.{◌≡◌, ◌+◌, ◌-◌, ◌^◌, ◌<◌, ◌≤◌, ◌++◌, ◌∷◌, [], All, length, map, IfOk};
 ghost use Rattle.tv_linear.specs.Linear.{columns as width, IsWithin};
-ghost use Rattle.tv_linear.specs.Arithmetic.{constant_row, padded_row};
+ghost use Rattle.tv_linear.specs.Arithmetic.{constant_row};
 ghost use Rattle.tv_farkas.specs.Refuting.{AreShort};
 ghost use Rattle.tv_choice.specs.Rows.{fixes};
 
@@ -16,18 +16,6 @@ pub fn with_row(alloc: Global, rows: &[Row], row: &Row) -> Result<Vec<Row>, Allo
 {
     let mut all = copies(alloc, rows)?;
     push_item(&mut all, row.copy(alloc)?)?;
-    Ok(all)
-}
-
-/// Each row with so many columns more.
-pub fn all_padded(alloc: Global, rows: &[Row], more: u32) -> Result<Vec<Row>, AllocError>
-    requires few { All (λ r. width r + more < 2 ^ 32 - 1) rows.now }
-    ensures exact { IfOk result (λ v. v.items ≡ map (padded_row more) rows.now) }
-{
-    let mut all = Vec::new(alloc);
-    'rows: for row in rows {
-        push_item(&mut all, row.padded(alloc, more)?)?;
-    }
     Ok(all)
 }
 

@@ -10,13 +10,12 @@ ghost use Rattle.tv_choice.specs.Asked.{query_of};
 ghost use Rattle.tv_choice.specs.Refusals.{IsFaultHere};
 ghost use Rattle.tv_choice.specs.Stopping.{IsStoppedBy, IsStopped};
 
-use crate::lists::all_padded;
 use crate::question::Question;
 use crate::trees::narrow_rows;
 use tv_cases::Case;
 use tv_cover::{Emptied, empty};
 use tv_farkas::{Budget, CoverFault};
-use tv_linear::{Cover, Row, push_copies, push_item};
+use tv_linear::{Cover, Row, all_padded, push_copies, push_item};
 
 /// Whether no step leads anywhere.
 #[derive(Drop)]

@@ -4,7 +4,7 @@ use Rattle.std.specs.Option.{option_map}
 use Rattle.std.proofs.lemmas.Int.{ints}
 use Rattle.std.proofs.lemmas.List.Elements.{All-push, All-weaker}
 use Rattle.tv_linear.proofs.Covered.{covered}
-use Rattle.tv_linear.proofs.KnownLemmas.{met-as_given}
+use Rattle.tv_linear.proofs.KnownLemmas.{met-as_given, as_given-append}
 use Rattle.tv_linear.specs.Arithmetic.{denial}
 use Rattle.tv_linear.specs.Covers.{Shown, ShownAt, IsMetCover}
 use Rattle.tv_linear.specs.declared.cover.CoverTree.{CoverTree, Split', Empty, Into}
@@ -23,7 +23,7 @@ use Rattle.tv_farkas.specs.Stretching.{IsTakenBy, stretched, IsSide, AreSides, I
 use Rattle.tv_farkas.proofs.StretchLemmas.{stretched_refutes}
 use Rattle.tv_farkas.proofs.TakenLemmas.{all_taken}
 use Rattle.tv_farkas.proofs.PathLemmas.{append-nil, after_is, after_more, path_more, rows_more}
-use Rattle.tv_farkas.proofs.SideLemmas.{given_side, given_sides, sides_more, get_or-neg, as_given-append, popped, whole_met, all_left}
+use Rattle.tv_farkas.proofs.SideLemmas.{given_side, given_sides, sides_more, get_or-neg, popped, whole_met, all_left}
 use Rattle.tv_cover.specs.declared.covering.Place.{Place}
 use Rattle.tv_cover.specs.declared.covering.Found.{Found}
 use Rattle.tv_cover.specs.declared.covering.Found.TheVariants.{Tree, Hole}

@@ -7,3 +7,4 @@ pub mod Looking
 pub mod Halving
 pub mod Stepping
 pub mod Searching
+pub mod Single

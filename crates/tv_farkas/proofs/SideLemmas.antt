@@ -86,10 +86,6 @@ high_side n c k short = record {
     held (Some j) = (tt, opposite_held (get_or (unit n c) j (pos 0)) (small_at (unit n c) (unit-narrow n c) j))
 
 -- ---- what a tree shows
-pub as_given-append : (xs ys : List Linear) → as_given (xs ++ ys) ≡ as_given xs ++ as_given ys
-as_given-append [] ys = refl
-as_given-append (x ∷ xs) ys = ap (λ ks. given x ∷ ks) (as_given-append xs ys)
-
 pub take-init : {A : Type 0} (xs : List A) (x : A) → take (length (xs ++ x ∷ []) - 1) (xs ++ x ∷ []) ≡ xs
 take-init [] x = refl
 take-init (y ∷ xs) x =

@@ -26,20 +26,6 @@ use Rattle.tv_invariant.proofs.ListLemmas.{in_one, all_before, all_behind}
 
 -- ---- padding
 
-dot-zeros : (m : ℕ) (xs : List ℤ) → dot (zeros m) xs ≡ pos 0
-dot-zeros zero xs = refl
-dot-zeros (suc m) [] = refl
-dot-zeros (suc m) (x ∷ xs) = let h = dot-zeros m xs in omega (arith, ints, h)
-
-dot-padded : (m : ℕ) (cs xs ds : List ℤ) → length cs ≡ length xs → dot (cs ++ zeros m) (xs ++ ds) ≡ dot cs xs
-dot-padded m [] [] ds e = dot-zeros m ds
-dot-padded m [] (x ∷ xs) ds e = absurd (omega (arith, e))
-dot-padded m (c ∷ cs) [] ds e = absurd (omega (arith, e))
-dot-padded m (c ∷ cs) (x ∷ xs) ds e = ap (λ z. (c *ℤ x) +ℤ z) (dot-padded m cs xs ds (omega (arith, e)))
-
-pub value-padded : (m : ℕ) (r : Linear) (xs ds : List ℤ) → columns r ≡ length xs → value (padded_row m r) (xs ++ ds) ≡ value r xs
-value-padded m r xs ds e = ap (λ z. z +ℤ r.constant) (dot-padded m r.coefficients xs ds e)
-
 -- ---- rows that others imply
 
 pub implied : (strong weak : Linear) → Implies strong weak → (xs : List ℤ) → IsMet xs strong → IsMet xs weak

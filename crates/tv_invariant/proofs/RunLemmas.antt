@@ -9,6 +9,7 @@ use Rattle.tv_linear.specs.Linear.{IsMet}
 use Rattle.tv_linear.specs.Known.{term_value}
 use Rattle.tv_linear.specs.Terms.{update_of, table, terms_after}
 use Rattle.tv_linear.specs.declared.region.Update.{Update}
+use Rattle.tv_linear.proofs.PlainLists.{length-table}
 use Rattle.tv_program.specs.Steps.{State}
 use Rattle.tv_program.specs.Runs.{IsRun, last_of}
 use Rattle.tv_cases.specs.LinearCases.{LinearCase, CaseSystem, CaseDoes, CaseSteps, from_of, leaving}
@@ -66,10 +67,6 @@ values-push point us n =
     ∙ ap (map (term_value point)) (table-push n (update_of us))
     ∙ map-push (term_value point) (terms_after n us) (update_of us n)
 
-table_length : {A : Type 0} (n : ℕ) (f : ℕ → A) → length (table n f) ≡ n
-table_length zero f = refl
-table_length (suc n) f = ap suc (table_length n (λ j. f (suc j)))
-
 -- ---- runs
 
 run_on : (step : State → State → Type 0) (s : State) (run : List State) (t : State) → IsRun step s run → step (last_of s run) t → IsRun step s (run ++ t ∷ [])
@@ -109,7 +106,7 @@ module _ (about : CaseSystem) where
           steps = run_on (CaseSteps about) h.first h.run (state_of t) h.from_start.steps (subst (λ s. CaseSteps about s (state_of t)) (sym h.ends) step);
         };
         ends = last_on h.first h.run (state_of t);
-        counted = ap length values ∙ length-map (terms_after about.variables c.updates) (term_value (r.values.items ++ ds)) ∙ table_length about.variables (update_of c.updates);
+        counted = ap length values ∙ length-map (terms_after about.variables c.updates) (term_value (r.values.items ++ ds)) ∙ length-table about.variables (update_of c.updates);
       }
 
   -- a candidate that is not met at a state that a run comes to

@@ -8,6 +8,7 @@ use Rattle.tv_linear.specs.Arithmetic.{zeros, padded_row}
 use Rattle.tv_linear.specs.Known.{term_value}
 use Rattle.tv_linear.specs.Terms.{terms_after}
 use Rattle.tv_linear.proofs.PlainLists.{length-zeros}
+use Rattle.tv_linear.proofs.PaddedLemmas.{value-padded, padded_even}
 use Rattle.tv_farkas.specs.Paths.{IsWholePoint}
 use Rattle.tv_farkas.specs.declared.fault.CoverFault.{CoverFault}
 use Rattle.tv_farkas.specs.declared.fault.CoverFault.TheVariants.{Memory}
@@ -24,7 +25,6 @@ use Rattle.tv_invariant.specs.Falling.{KeptBy, IsFallen, IsUnmade, IsStepRefusal
 use Rattle.tv_invariant.specs.Passes.{AreOver}
 use Rattle.tv_cases.proofs.Listed.{Contains-cases, Contains-here, Contains-later, Contains-none}
 use Rattle.tv_invariant.proofs.ListLemmas.{all_by, all_before, all_behind, front_back, length-front, length-back}
-use Rattle.tv_invariant.proofs.RowLemmas.{value-padded}
 use Rattle.tv_invariant.proofs.SieveLemmas.{sieved_map}
 use Rattle.std.specs.Prelude.{Vec, Result, Ok, Err, IfOk}
 use Rattle.std.specs.Result.{IfErr}
@@ -121,14 +121,6 @@ at_even n l (c ∷ now) h = cond_even (place_of c == l) (filter (λ d. place_of 
     cond_even : (b : Bool) (cs : List Candidate) → columns c.row ≡ n → All (λ r. columns r ≡ n) (map row_of cs) → All (λ r. columns r ≡ n) (map row_of (cond b (c ∷ cs) cs))
     cond_even true cs e t = All-cons (λ r. columns r ≡ n) c.row (map row_of cs) e t
     cond_even false cs e t = t
-
-padded_even : (n m : ℕ) (rs : List Linear) → All (λ r. columns r ≡ n) rs → All (λ r. columns r ≡ n + m) (map (padded_row m) rs)
-padded_even n m [] h = All-nil (λ r. columns r ≡ n + m)
-padded_even n m (r ∷ rs) h =
-    let e = All-head (λ r. columns r ≡ n) r rs h in
-    let a = length-append r.coefficients (zeros m) in
-    let z = length-zeros m in
-    All-cons (λ r. columns r ≡ n + m) (padded_row m r) (map (padded_row m) rs) (omega (arith, a, z, e)) (padded_even n m rs (All-tail (λ r. columns r ≡ n) r rs h))
 
 pub step_even : (n : ℕ) (case : LinearCase) (now : List Candidate) (rows : List Linear) → AreOver n now → All (λ r. columns r ≡ n + case.draws) case.guards → IsStronger (step_rows case now) rows → All (λ r. columns r ≡ n + case.draws) rows
 step_even n case now rows over guards strong =

@@ -7,6 +7,7 @@ use Rattle.std.proofs.lemmas.List.Elements.{All-nil, All-cons, All-head, All-tai
 use Rattle.tv_linear.specs.Linear.{Linear, columns, dot, value, IsMet, scaled_value}
 use Rattle.tv_linear.specs.Known.{Term, kept, put, term_value}
 use Rattle.tv_linear.specs.Terms.{table, terms_after, update_of}
+use Rattle.tv_linear.proofs.PlainLists.{length-table}
 use Rattle.tv_program.specs.Steps.{State}
 use Rattle.tv_cases.specs.LinearCases.{LinearCase, CaseSystem, CaseDoes, CaseSteps}
 use Rattle.tv_program.specs.Runs.{Ends, all_end}
@@ -40,13 +41,9 @@ term_wide [] n l h = omega arith
 term_wide (t ∷ terms) n zero h = let e = All-head (λ u. columns u ≡ n) t terms h in omega (arith, e)
 term_wide (t ∷ terms) n (suc l) h = term_wide terms n l (All-tail (λ u. columns u ≡ n) t terms h)
 
-table_length : {A : Type 0} (n : ℕ) (f : ℕ → A) → length (table n f) ≡ n
-table_length zero f = refl
-table_length (suc n) f = ap suc (table_length n (λ j. f (suc j)))
-
 pub values_kept : (c : LinearCase) (draws : List ℤ) (s t : State) → CaseDoes c draws s t → length t.values ≡ length s.values
 values_kept c draws s t does =
-    ap length does.gives ∙ length-map (terms_after (length s.values) c.updates) (term_value (s.values ++ draws)) ∙ table_length (length s.values) (update_of c.updates)
+    ap length does.gives ∙ length-map (terms_after (length s.values) c.updates) (term_value (s.values ++ draws)) ∙ length-table (length s.values) (update_of c.updates)
 
 -- the value of the term at a state
 abbrev pub rank : List Linear → State → ℤ

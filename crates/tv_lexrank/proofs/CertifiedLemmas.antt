@@ -7,6 +7,8 @@ use Rattle.tv_linear.specs.Covers.{Shown, ShownAt, IsMetCover}
 use Rattle.tv_linear.specs.declared.cover.CoverTree.{CoverTree}
 use Rattle.tv_linear.specs.declared.cover.CoverTree as cover
 use Rattle.tv_linear.specs.declared.region.Piece.{Piece}
+use Rattle.tv_linear.specs.Same.{OwedSame}
+use Rattle.tv_linear.proofs.SameLemmas.{all_same, cover_same}
 use Rattle.tv_cases.specs.LinearCases.{CaseSystem}
 use Rattle.tv_formula.specs.Properties.{Property, term}
 use Rattle.tv_cert.specs.declared.node.Marked.{Marked}
@@ -19,6 +21,7 @@ use Rattle.tv_cert.specs.Pieces.{rows_of}
 use Rattle.tv_cert.specs.Targets.{owed_into, target_rows, no_fall}
 use Rattle.tv_cover.specs.Covering.{IsHole}
 use Rattle.tv_cover.specs.Targets.{IsOutside, owed_lists}
+use Rattle.tv_cover.specs.Single.{IsCoverInto}
 use Rattle.tv_farkas.specs.Refuting.{AreShort}
 use Rattle.tv_rank.specs.Given.{lists}
 use Rattle.tv_rank.specs.Ways.{rows_at}
@@ -31,10 +34,9 @@ use Rattle.tv_shape.proofs.FaultLemmas.{unfit}
 use Rattle.tv_cert.proofs.FailingLemmas.{all_join}
 use Rattle.tv_lexrank.specs.declared.falling.Fall.{Fall}
 use Rattle.tv_lexrank.specs.Nodes.{IsPieceAt, IsRankedNode, ShowsEnd}
-use Rattle.tv_lexrank.specs.Closing.{IsWholeCover, IsCoverInto, owed_plain}
+use Rattle.tv_lexrank.specs.Closing.{IsWholeCover, owed_plain}
 use Rattle.tv_lexrank.specs.Falling.{HasFall}
 use Rattle.tv_lexrank.specs.Certified.{BeginsKnown, IsStartCover, IsRoot, SaysProved, IsProofOf}
-use Rattle.tv_lexrank.proofs.SameLemmas.{OwedSame, all_same, cover_same}
 use Rattle.tv_lexrank.proofs.ClosingLemmas.{whole_splits, whole_even}
 use Rattle.tv_lexrank.proofs.OfferLemmas.{met_shape}
 

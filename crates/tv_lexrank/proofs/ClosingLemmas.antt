@@ -15,7 +15,11 @@ use Rattle.tv_linear.specs.declared.cover.CoverTree.{CoverTree}
 use Rattle.tv_linear.specs.declared.cover.CoverTree as cover
 use Rattle.tv_linear.specs.declared.region.Piece.{Piece}
 use Rattle.tv_linear.specs.declared.region.Poly.{Poly}
-use Rattle.tv_cases.specs.Before.{before}
+use Rattle.tv_linear.specs.Same.{AreSame, OwedSame}
+use Rattle.tv_linear.proofs.SameLemmas.{cover_same}
+use Rattle.tv_linear.specs.Arithmetic.{padded_row}
+use Rattle.tv_linear.proofs.PaddedLemmas.{dot-padded, padded_met}
+use Rattle.tv_cases.specs.Before.{before, FitsBefore, rows_before, AreRowsBefore}
 use Rattle.tv_cases.specs.LinearCases.{LinearCase, CaseSystem, IsCase}
 use Rattle.tv_cases.proofs.BeforeValue.{before-value}
 use Rattle.tv_cover.specs.Covering.{IsHole, IsCovered, IsShallow, IsShortCovered, IsSplitRow, HasSplitRows, IsCoverFault}
@@ -30,31 +34,16 @@ use Rattle.tv_farkas.specs.Trees.{TreeRows}
 use Rattle.tv_rank.specs.Ways.{Way, way_of, case_at, rows_at}
 use Rattle.tv_farkas.proofs.SideLemmas.{all_left}
 use Rattle.tv_cover.proofs.PointLemmas.{all_right}
+use Rattle.tv_cover.specs.Single.{IsCoverInto, IsCoveredByOne}
 use Rattle.tv_cases.proofs.Listed.{Contains-from_map}
+use Rattle.tv_cases.proofs.BeforeLemmas.{all_before_same}
 use Rattle.tv_lexrank.specs.declared.fault.RankFault.{RankFault}
 use Rattle.tv_lexrank.specs.declared.fault.RankFault.TheVariants as fault
-use Rattle.tv_lexrank.specs.Known.{AreKnown, way_rows, padded_row, padded_rows}
-use Rattle.tv_lexrank.specs.Closing.{IsWholeCover, FitsBefore, rows_before, AreRowsBefore, IsUnmade, owed_plain, IsCoverInto, IsCoveredByOne, RefusesCover, changed, Leads, LeadsOut, RefusesClosed}
-use Rattle.tv_lexrank.proofs.SameLemmas.{AreSame, OwedSame, cover_same}
-use Rattle.tv_lexrank.proofs.ComposeLemmas.{all_before_same}
-use Rattle.tv_lexrank.proofs.MetLemmas.{padded_rows_same, dot-padded, over_at}
-
--- ---- one more row
-rows_more : (c : LinearCase) (front rows all new : List Linear) (r s : Linear) → rows ≡ front ++ r ∷ [] → s ≡ before r c → FitsBefore c r → new ≡ all ++ s ∷ [] → AreRowsBefore c front all → AreRowsBefore c rows new
-rows_more c front rows all new r s e same fits m h = subst (λ z. AreRowsBefore c z new) (sym e) (record {
-  exact = m ∙ (λ i. h.exact i ++ same i ∷ []) ∙ sym (map-append (λ q. before q c) front (r ∷ []));
-  fits = All-push (FitsBefore c) front r h.fits fits;
-})
-
-take_next : (rows : List Linear) (i : ℕ) (r : Linear) → i < length rows → r ≡ get_or rows i r → take (i + 1) rows ≡ take i rows ++ r ∷ []
-take_next rows i r l e = ap (λ k. take k rows) (let q : i + 1 ≡ suc i = omega arith in q) ∙ take-suc rows i r l ∙ ap (λ y. take i rows ++ y ∷ []) (sym e)
-
-pub rows_next : (c : LinearCase) (rows : List Linear) (i : ℕ) (r s : Linear) (all new : List Linear) → i < length rows → r ≡ get_or rows i r → s ≡ before r c → FitsBefore c r → new ≡ all ++ s ∷ [] → AreRowsBefore c (take i rows) all → AreRowsBefore c (take (i + 1) rows) new
-rows_next c rows i r s all new l e same fits m h = rows_more c (take i rows) (take (i + 1) rows) all new r s (take_next rows i r l e) same fits m h
+use Rattle.tv_lexrank.specs.Known.{AreKnown, way_rows, padded_rows}
+use Rattle.tv_lexrank.specs.Closing.{IsWholeCover, IsUnmade, owed_plain, RefusesCover, changed, Leads, LeadsOut, RefusesClosed}
+use Rattle.tv_lexrank.proofs.MetLemmas.{padded_rows_same, over_at}
 
 -- ---- covers
-pub one_target : (targets new old : List Poly) (p : Poly) → targets ≡ new → new ≡ old ++ p ∷ [] → old ≡ [] → lists_of targets ≡ p.rows.items ∷ []
-one_target targets new old p e f g = ap lists_of (e ∙ f ∙ ap (λ z. z ++ p ∷ []) g)
 
 pub whole_splits : (tree : CoverTree) → IsWholeCover tree → splits tree ≡ 0
 whole_splits (cover.Split' r p a q b) h = absurd h
@@ -65,20 +54,6 @@ pub whole_even : (n : ℕ) (tree : CoverTree) → IsWholeCover tree → TreeRows
 whole_even n (cover.Split' r p a q b) h = absurd h
 whole_even n (cover.Empty ms) h = absurd h
 whole_even n (cover.Into target fall ls) h = tt
-
-rows_even : (n : ℕ) (lists : List (List Linear)) (tree : CoverTree) → TreeRows (IsSplitRow n lists) tree → TreeRows (λ r. columns r ≡ n) tree
-rows_even n lists (cover.Split' r p a q b) h = (h.0.even, rows_even n lists a h.1, rows_even n lists b h.2)
-rows_even n lists (cover.Empty ms) h = tt
-rows_even n lists (cover.Into target fall ls) h = tt
-
-pub covered_one : (n most : ℕ) (rows target : List Linear) (lists : List (List Linear)) (found : Covered) → lists ≡ target ∷ [] → most ≤ 128 → IsCovered n lists rows found → IsShallow most found → IsShortCovered found → HasSplitRows n lists found → IsCoveredByOne n rows target found
-covered_one n most rows target lists (Tree tree) e few met shallow short split = record {
-  met = subst (λ z. IsMetCover n (owed_lists z) (as_given rows) tree) e met;
-  shallow = omega (arith, shallow, few);
-  short = short;
-  even = rows_even n lists tree split;
-}
-covered_one n most rows target lists (Hole values) e few hole shallow short split = subst (λ z. IsHole n z rows values.items) e hole
 
 -- into no rows
 pub leads_anywhere : (v : ℕ) (w : Way) (into : List Linear) (tree : CoverTree) → into ≡ [] → IsWholeCover tree → Leads v w into tree
@@ -97,9 +72,9 @@ leads_anywhere v w into (cover.Into target fall ls) e (t, f, l) = subst (λ z. L
     n = v + w.taken.draws
 
 -- into the rows before the case
-pub leads_into : (v : ℕ) (w : Way) (into rows target : List Linear) (tree : CoverTree) → rows ≡ padded_rows v w → AreRowsBefore w.taken into target → All (λ r. columns r ≡ v) into → All (λ u. columns u.term ≡ v + w.taken.draws) w.taken.updates → IsCoverInto (v + w.taken.draws) rows target tree → Leads v w into tree
+pub leads_into : (v : ℕ) (w : Way) (into rows target : List Linear) (tree : CoverTree) → rows ≡ padded_rows w → AreRowsBefore w.taken into target → All (λ r. columns r ≡ v) into → All (λ u. columns u.term ≡ v + w.taken.draws) w.taken.updates → IsCoverInto (v + w.taken.draws) rows target tree → Leads v w into tree
 leads_into v w into rows target tree e made wide us h = record {
-  met = cover_same n (owed_lists (target ∷ [])) (owed_plain (map (changed v w) into)) owed (as_given rows) (way_rows w) (subst (λ z. AreSame n (as_given z) (way_rows w)) (sym e) (padded_rows_same n v w)) tree h.met;
+  met = cover_same n (owed_lists (target ∷ [])) (owed_plain (map (changed v w) into)) owed (as_given rows) (way_rows w) (subst (λ z. AreSame n (as_given z) (way_rows w)) (sym e) (padded_rows_same n w)) tree h.met;
   shallow = h.shallow;
   short = h.short;
   even = h.even;
@@ -132,20 +107,6 @@ length-back zero d zs e = e ∙ (let g : 0 + d ≡ d = omega arith in g)
 length-back (suc n) d [] e = absurd (omega (arith, e))
 length-back (suc n) d (z ∷ zs) e = length-back n d zs (omega (arith, e))
 
-dot-front : (n : ℕ) (cs xs : List ℤ) → length cs ≡ n → dot cs xs ≡ dot cs (take n xs)
-dot-front n [] xs e = refl
-dot-front zero (c ∷ cs) xs e = absurd (omega (arith, e))
-dot-front (suc n) (c ∷ cs) [] e = refl
-dot-front (suc n) (c ∷ cs) (x ∷ xs) e = ap (λ z. (c *ℤ x) +ℤ z) (dot-front n cs xs (omega (arith, e)))
-
-padded_met : (n w : ℕ) (rows : List Linear) (zs : List ℤ) → All (λ r. columns r ≡ n) rows → All (IsMet zs) (map (padded_row w) rows) → All (IsMet (take n zs)) rows
-padded_met n w [] zs e h = All-nil (IsMet (take n zs))
-padded_met n w (r ∷ rows) zs e h =
-    let d = dot-padded (w - columns r) r.coefficients zs in
-    let f = dot-front n r.coefficients zs (All-head (λ r. columns r ≡ n) r rows e) in
-    let m = All-head (IsMet zs) (padded_row w r) (map (padded_row w) rows) h in
-    All-cons (IsMet (take n zs)) r rows (omega (arith, ints, d, f, m)) (padded_met n w rows zs (All-tail (λ r. columns r ≡ n) r rows e) (All-tail (IsMet zs) (padded_row w r) (map (padded_row w) rows) h))
-
 all_in : {A : Type 0} (P : A → Type 0) (xs : List A) (x : A) → All P xs → Contains xs x → P x
 all_in P xs x h c = subst P c.2 (h c.0 x c.1)
 
@@ -160,7 +121,7 @@ module _ (about : CaseSystem) (known : List Piece) (k : ℕ) (rows target : List
   into = rows_at known c.to
 
   -- a hole leads out of the known rows
-  pub leads_out : (zs : List ℤ) → rows ≡ padded_rows v (way_of about.cases known k) → AreRowsBefore c into target → IsHole (v + c.draws) (target ∷ []) rows zs → LeadsOut about known k zs
+  pub leads_out : (zs : List ℤ) → rows ≡ padded_rows (way_of about.cases known k) → AreRowsBefore c into target → IsHole (v + c.draws) (target ∷ []) rows zs → LeadsOut about known k zs
   leads_out zs e made h =
       let xs = take v zs in
       let ds = drop v zs in
@@ -180,10 +141,10 @@ module _ (about : CaseSystem) (known : List Piece) (k : ℕ) (rows target : List
           leaves = refl;
           enters = refl;
           drawn = length-back v c.draws zs size;
-          guards = subst (λ ys. All (IsMet ys) c.guards) whole (all_right (IsMet zs) (map (padded_row (v + c.draws)) (rows_at known c.from)) c.guards point.met);
+          guards = subst (λ ys. All (IsMet ys) c.guards) whole (all_right (IsMet zs) (map (padded_row c.draws) (rows_at known c.from)) c.guards point.met);
           gives = refl;
         };
-        meets = padded_met v (v + c.draws) (rows_at known c.from) zs (over_at v known c.from fits.over) (all_left (IsMet zs) (map (padded_row (v + c.draws)) (rows_at known c.from)) c.guards point.met);
+        meets = padded_met v c.draws (rows_at known c.from) zs (over_at v known c.from fits.over) (all_left (IsMet zs) (map (padded_row c.draws) (rows_at known c.from)) c.guards point.met);
         row = at.0;
         among = at.1;
         unmet = λ m. outside.2 (subst (IsMet zs) at.2 (subst (λ ys. IsMet ys (before at.0 c)) (sym whole)
@@ -203,7 +164,7 @@ module _ (about : CaseSystem) (known : List Piece) (k : ℕ) (rows target : List
   unmade_closed budget (fault.Solve system f) some h = absurd h
   unmade_closed budget fault.Memory some h = tt
 
-  pub uncovered_closed : (budget : Budget) (e : RankFault) → 0 < length into → rows ≡ padded_rows v (way_of about.cases known k) → AreRowsBefore c into target → RefusesCover (v + c.draws) rows target budget k e → RefusesClosed about known budget e
+  pub uncovered_closed : (budget : Budget) (e : RankFault) → 0 < length into → rows ≡ padded_rows (way_of about.cases known k) → AreRowsBefore c into target → RefusesCover (v + c.draws) rows target budget k e → RefusesClosed about known budget e
   uncovered_closed budget (fault.Open taken values) some e made h = subst (λ z. LeadsOut about known z values.items) (sym h.0) (leads_out values.items e made h.1)
   uncovered_closed budget (fault.Cover f) some e made h = (
     k,

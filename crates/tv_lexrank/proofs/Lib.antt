@@ -1,4 +1,3 @@
-pub mod SameLemmas
 pub mod MetLemmas
 pub mod SettleLemmas
 pub mod Removing
@@ -8,7 +7,6 @@ pub mod ZeroLines
 pub mod Chained
 pub mod SortLemmas
 pub mod PartLemmas
-pub mod ComposeLemmas
 pub mod ClosingLemmas
 pub mod PadLemmas
 pub mod FallLemmas

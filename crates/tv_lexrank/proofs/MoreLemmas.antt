@@ -9,8 +9,8 @@ use Rattle.tv_linear.specs.Known.{Known, given, denied, as_given}
 use Rattle.tv_linear.specs.Covers.{Shown, ShownAt}
 use Rattle.tv_linear.specs.Refutation.{Refutes}
 use Rattle.tv_linear.proofs.PlainLists.{zeros-narrow}
+use Rattle.tv_linear.proofs.KnownLemmas.{as_given-append}
 use Rattle.tv_cases.specs.LinearCases.{LinearCase}
-use Rattle.tv_farkas.proofs.SideLemmas.{as_given-append}
 use Rattle.tv_rank.specs.Given.{lists}
 use Rattle.tv_lexrank.specs.declared.shown.CaseShown.TheVariants.{Untaken, Falls}
 use Rattle.tv_lexrank.specs.declared.falling.Fall.{Fall}

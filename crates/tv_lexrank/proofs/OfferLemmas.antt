@@ -1,4 +1,5 @@
 -- A step that is shown is a proof of its obligation.
+use Rattle.tv_shape.specs.Made.{IsOffered}
 use Rattle.std.proofs.Common.{All, ◌≡◌, ℕ, zero, suc, ◌+◌, ◌-◌, ◌<◌, List, [], ◌∷◌, ◌++◌, length, length-append, map, get_or, Option, None, Some, refl, sym, ap, ◌∙◌, subst, ℤ}
 use Rattle.std.specs.Option.{option_map}
 use Rattle.std.proofs.lemmas.List.Elements.{All-nil, All-cons}
@@ -22,7 +23,7 @@ use Rattle.tv_lexrank.specs.Shown.{owed_fall}
 use Rattle.tv_lexrank.specs.Steps.{owed_step, ShowsStep, way_in, ranks_of, rows_known}
 use Rattle.tv_lexrank.specs.Pieces.{zero_ranks, all_ranks, ranked_piece}
 use Rattle.tv_lexrank.specs.Attempt.{rounds_in}
-use Rattle.tv_lexrank.specs.Offered.{IsOffered, ArePieces, step_owed}
+use Rattle.tv_lexrank.specs.Offered.{ArePieces, step_owed}
 use Rattle.tv_lexrank.specs.Known.{way_rows}
 use Rattle.tv_lexrank.proofs.NodeLemmas.{fall_padded, met_weaker}
 use Rattle.tv_lexrank.proofs.SortLemmas.{of_case}
@@ -92,5 +93,4 @@ module _ (r : Ranking) (k : ℕ) (k_in : k < length (cases_of r.about.now).cases
         shape = (subst (λ m. CoverShape n (owed_count owed) m tree) refl (met_shape n owed (way_rows w) tree h.even met), h.shallow);
         met = met;
         narrow = h.narrow;
-        shallow = h.shallow;
       }

@@ -18,11 +18,13 @@ use Rattle.tv_cert.specs.Claims.{about_with}
 use Rattle.tv_cert.specs.Nodes.{kid_pieces, pieces_of, entries, kid_entries, own_of, piece_of}
 use Rattle.tv_cert.specs.Obligations.{About, Obligation, AllMet, paired}
 use Rattle.tv_cert.specs.Pieces.{place_of, pieces_at}
+use Rattle.tv_cert.specs.Statements.{ends}
 use Rattle.tv_cert.specs.Shapes.{ProofShape, PieceShape, OwnShape, HaveShapes}
 use Rattle.tv_cert.proofs.NodeLemmas.{out_is}
 use Rattle.tv_shape.specs.Depths.{proof_splits}
 use Rattle.tv_shape.specs.Fitting.{KidsNarrow, KidsGoWithin}
 use Rattle.tv_shape.specs.Narrow.{PieceNarrow, ProofNarrow}
+use Rattle.tv_shape.specs.Made.{HasOwn, IsOffered}
 use Rattle.tv_rank.proofs.Over.{equal, unequal}
 use Rattle.tv_lexrank.specs.declared.round.Round.{Round}
 use Rattle.tv_lexrank.specs.declared.ranking.Ranking.{Ranking}
@@ -32,8 +34,8 @@ use Rattle.tv_lexrank.specs.declared.shown.CaseShown.{CaseShown}
 use Rattle.tv_lexrank.specs.Shown.{AreShown}
 use Rattle.tv_lexrank.specs.Steps.{AreRanked, ranks_of, ShowsEach}
 use Rattle.tv_lexrank.specs.Pieces.{zero_ranks, all_ranks, ranked_piece, ranked_pieces}
-use Rattle.tv_lexrank.specs.Offered.{IsOffered, IsOfferedAt, ArePieces, step_owed, AreShownBelow}
-use Rattle.tv_lexrank.specs.Nodes.{HasOwn, ShowsEnd}
+use Rattle.tv_lexrank.specs.Offered.{IsOfferedAt, ArePieces, step_owed, AreShownBelow}
+use Rattle.tv_lexrank.specs.Nodes.{ShowsEnd}
 use Rattle.tv_lexrank.proofs.MetLemmas.{over_at}
 use Rattle.tv_lexrank.proofs.ShowLemmas.{rounds_chain, chain_wide}
 use Rattle.tv_lexrank.proofs.PartShown.{each_in}
@@ -148,58 +150,6 @@ module _ (r : Ranking) where
         (zip_both IsOffered (flat_map (owes number) (ranked_pieces r n)) (owes number (ranked_piece r n)) front steps.more (all_offered number n front below)
         (steps_offered number n (leaving n (cases_of r.about.now).cases) steps.more steps.each)))
 
--- ---- proofs that are offered
-all_met : (os : List Obligation) (proofs : List Proof) → AllZip IsOffered os proofs → AllMet (paired os proofs)
-all_met [] proofs h = tt
-all_met (o ∷ os) [] h = absurd h
-all_met (o ∷ os) (p ∷ proofs) h = (h.0.met, all_met os proofs h.1)
-
-all_shaped : (os : List Obligation) (proofs : List Proof) → AllZip IsOffered os proofs → AllZip (λ o p. ProofShape o.owed p) os proofs
-all_shaped [] [] h = tt
-all_shaped [] (p ∷ proofs) h = absurd h
-all_shaped (o ∷ os) [] h = absurd h
-all_shaped (o ∷ os) (p ∷ proofs) h = (h.0.shape, all_shaped os proofs h.1)
-
-all_narrow : (os : List Obligation) (proofs : List Proof) → AllZip IsOffered os proofs → All ProofNarrow proofs
-all_narrow [] [] h = All-nil ProofNarrow
-all_narrow [] (p ∷ proofs) h = absurd h
-all_narrow (o ∷ os) [] h = absurd h
-all_narrow (o ∷ os) (p ∷ proofs) h = All-cons ProofNarrow p proofs h.0.narrow (all_narrow os proofs h.1)
-
-all_flat : (os : List Obligation) (proofs : List Proof) → AllZip IsOffered os proofs → All (λ p. 1 + proof_splits p ≤ 384) proofs
-all_flat [] [] h = All-nil (λ p. 1 + proof_splits p ≤ 384)
-all_flat [] (p ∷ proofs) h = absurd h
-all_flat (o ∷ os) [] h = absurd h
-all_flat (o ∷ os) (p ∷ proofs) h = All-cons (λ p. 1 + proof_splits p ≤ 384) p proofs (let f = h.0.shallow in omega (arith, f)) (all_flat os proofs h.1)
-
--- ---- a node without children
-some_not_none : (a : Node) (more : List Node) → (a ∷ more) ≡ [] → ⊥
-some_not_none a more h = subst is_some h tt
-  where
-    is_some : List Node → Type 0
-    is_some [] = ⊥
-    is_some (x ∷ xs) = Unit {0}
-
-no_shapes : (about : _) {k : _} (kids : Row_of-Node k) → items-the_row-Node k kids ≡ [] → HaveShapes about none kids
-no_shapes about end_of-Node e = tt
-no_shapes about (more_of-Node a kids) e = absurd (some_not_none a (items-the_row-Node _ kids) e)
-
-no_narrow : {k : _} (kids : Row_of-Node k) → items-the_row-Node k kids ≡ [] → KidsNarrow kids
-no_narrow end_of-Node e = tt
-no_narrow (more_of-Node a kids) e = absurd (some_not_none a (items-the_row-Node _ kids) e)
-
-no_depth : (n : ℕ) {k : _} (kids : Row_of-Node k) → items-the_row-Node k kids ≡ [] → KidsGoWithin n kids
-no_depth n end_of-Node e = tt
-no_depth n (more_of-Node a kids) e = absurd (some_not_none a (items-the_row-Node _ kids) e)
-
-no_pieces : {k : _} (kids : Row_of-Node k) → items-the_row-Node k kids ≡ [] → kid_pieces kids ≡ []
-no_pieces end_of-Node e = refl
-no_pieces (more_of-Node a kids) e = absurd (some_not_none a (items-the_row-Node _ kids) e)
-
-no_entries : (number : ℕ) (about : _) {k : _} (kids : Row_of-Node k) → kid_entries number about none kids ≡ []
-no_entries number about end_of-Node = refl
-no_entries number about (more_of-Node a kids) = refl
-
 length-ranked_pieces : (r : Ranking) (n : ℕ) → length (ranked_pieces r n) ≡ n
 length-ranked_pieces r zero = refl
 length-ranked_pieces r (suc n) = length-append (ranked_pieces r n) (ranked_piece r n ∷ []) ∙ (let h = length-ranked_pieces r n in omega (arith, h))
@@ -214,22 +164,10 @@ all_pieces r = ranked_pieces r (cases_of r.about.now).locations
 abbrev all_owed : Ranking → ℕ → List Obligation
 all_owed r number = own_of number (asked r) term (all_pieces r) []
 
-pub node_ranked : (r : Ranking) → AreRanked r → (node : Node) (pieces : List Marked) (proofs : List Proof) → pieces ≡ ranked_pieces r (cases_of r.about.now).locations → HasOwn node pieces r.count proofs → AreShownBelow r (cases_of r.about.now).locations proofs → (cases_of r.about.now).locations < 2 ^ 32 → All PieceNarrow pieces → ShowsEnd (cases_of r.about.now) r.known.now.pieces.items node
-node_ranked r ranked (Node' ps m shape kids list) pieces proofs same own shown located slim = record {
-  fits = record {
-    shape = (own_shape, no_shapes (asked r) kids empty);
-    narrow = (
-      record {
-        count = (let e = ap length pieces_same in let n = length-ranked_pieces r (cases_of r.about.now).locations in omega (arith, e, n, located));
-        ranks = (let e = ranks_same in let f = r.few in omega (arith, e, f));
-        pieces = subst (All PieceNarrow) (sym given_same) slim;
-        offered = subst (All ProofNarrow) (sym proofs_same) (all_narrow (all_owed r 0) proofs (offered 0));
-      },
-      no_narrow kids empty,
-    );
-    depth = (omega arith, subst (All (λ p. 1 + proof_splits p ≤ 384)) (sym proofs_same) (all_flat (all_owed r 0) proofs (offered 0)), no_depth 2 kids empty);
-  };
-  met = λ number. subst AllMet (sym (entries_are number)) (all_met (all_owed r number) proofs (offered number));
+pub node_ranked : (r : Ranking) → AreRanked r → (node : Node) (pieces : List Marked) (proofs : List Proof) → pieces ≡ all_pieces r → HasOwn node pieces r.count [] proofs → AreShownBelow r (cases_of r.about.now).locations proofs → (cases_of r.about.now).locations < 2 ^ 32 → ShowsEnd (cases_of r.about.now) r.known.now.pieces.items node
+node_ranked r ranked node pieces proofs same own shown located = record {
+  fits = record { shape = fitted.shape; narrow = fitted.narrow; depth = fitted.within };
+  met = fitted.met;
   pieces = λ l h. record {
     piece = ranked_piece r l;
     first = subst (λ z. slice_get (pieces_at z l) 0 ≡ Some (ranked_piece r l)) (sym pieces_same) (pieces_there r l h);
@@ -238,44 +176,26 @@ node_ranked r ranked (Node' ps m shape kids list) pieces proofs same own shown l
   single = λ l h. subst (λ z. length (pieces_at z l) ≡ 1) (sym pieces_same) (ap length (one_there r (cases_of r.about.now).locations l h));
 }
   where
-    given_same : ps ≡ pieces
-    given_same = sym (ap (λ x. x.pieces) (outs-Node' ps m shape kids list)) ∙ own.pieces_are
+    given : HasOwn node (all_pieces r) r.count [] proofs
+    given = subst (λ z. HasOwn node z r.count [] proofs) same own
 
-    pieces_same : ps ≡ all_pieces r
-    pieces_same = given_same ∙ same
+    pieces_same : pieces_of node ≡ all_pieces r
+    pieces_same = pieces_are node ∙ given.pieces_are
 
-    ranks_same : m ≡ r.count
-    ranks_same = sym (ap (λ x. x.ranks) (outs-Node' ps m shape kids list)) ∙ own.ranks_are
-
-    proofs_same : list.items ≡ proofs
-    proofs_same = sym (ap (λ x. x.proofs.items) (outs-Node' ps m shape kids list)) ∙ own.proofs_are
-
-    empty : items-the_row-Node _ kids ≡ []
-    empty = sym (out_is ps m shape kids list) ∙ own.no_children
-
-    offered : (number : ℕ) → AllZip IsOffered (all_owed r number) proofs
-    offered number = all_offered r (all_pieces r) (pieces_there r) number (cases_of r.about.now).locations proofs shown
-
-    kids_same : kid_pieces kids ≡ []
-    kids_same = no_pieces kids empty
-
-    own_shape : OwnShape (asked r) term m ps (kid_pieces kids) list.items
-    own_shape = subst (λ z. OwnShape (asked r) term z ps (kid_pieces kids) list.items) (sym ranks_same)
-        (subst (λ z. OwnShape (asked r) term r.count z (kid_pieces kids) list.items) (sym pieces_same)
-        (subst (λ z. OwnShape (asked r) term r.count (all_pieces r) z list.items) (sym kids_same)
-        (subst (λ z. OwnShape (asked r) term r.count (all_pieces r) [] z) (sym proofs_same) (record {
-          normal = tt;
-          ranked = λ e. absurd cc;
-          small = (let f = r.few in omega (arith, f));
-          each = pieces_shaped r ranked (cases_of r.about.now).locations (omega arith);
-          offered = all_shaped (all_owed r 0) proofs (offered 0);
-        }))))
-
-    entries_are : (number : ℕ) → entries number (asked r) term (Node' ps m shape kids list) ≡ paired (all_owed r number) proofs
-    entries_are number = ap (λ z. z ++ paired (own_of number (asked r) term ps (kid_pieces kids)) list.items) (no_entries (number + 1) (asked r) kids) ∙ (λ i. paired (own_of number (asked r) term (pieces_same i) (kids_same i)) (proofs_same i))
+    fitted : IsFitted (asked r) term 1 node
+    fitted = node_fitted (asked r) term 1 node (all_pieces r) r.count [] proofs given (record {
+      said = tt;
+      ranked = λ e. absurd cc;
+      small = (let f = r.few in omega (arith, f));
+      few = (let n = length-ranked_pieces r (cases_of r.about.now).locations in omega (arith, n, located));
+      each = pieces_shaped r ranked (cases_of r.about.now).locations (omega arith);
+      offered = λ number. all_offered r (all_pieces r) (pieces_there r) number (cases_of r.about.now).locations proofs shown;
+      below = tt;
+      shallow = omega arith;
+    })
 
 -- what shows each case by the ranking shows it by the pieces of the node
-pub node_shown : (r : Ranking) (node : Node) (pieces : List Marked) (proofs : List Proof) (shown : List CaseShown) → pieces ≡ ranked_pieces r (cases_of r.about.now).locations → HasOwn node pieces r.count proofs → ShowsEach r shown → AreShown (cases_of r.about.now) r.known.now.pieces.items (pieces_of node) shown
+pub node_shown : (r : Ranking) (node : Node) (pieces : List Marked) (proofs : List Proof) (shown : List CaseShown) → pieces ≡ ranked_pieces r (cases_of r.about.now).locations → HasOwn node pieces r.count [] proofs → ShowsEach r shown → AreShown (cases_of r.about.now) r.known.now.pieces.items (pieces_of node) shown
 node_shown r (Node' ps m shape kids list) pieces proofs shown same own h =
     subst (λ z. AreShown (cases_of r.about.now) r.known.now.pieces.items z shown) (sym (sym (ap (λ x. x.pieces) (outs-Node' ps m shape kids list)) ∙ own.pieces_are ∙ same))
     (each_in r (all_pieces r) (pieces_there r) (cases_of r.about.now).cases shown r.about.now.are_cases.cases h)

@@ -1,4 +1,5 @@
 -- The proofs for the cases from a location, one after the other.
+use Rattle.tv_shape.specs.Made.{IsOffered}
 use Rattle.std.proofs.Common.{◌≡◌, ℕ, zero, suc, ◌+◌, ◌<◌, List, [], ◌∷◌, ◌++◌, length, map, get_or, take, Some, Bool, true, false, cond, ◌==◌, arith, refl, sym, ap, ◌∙◌, subst, append_assoc}
 use Rattle.std.specs.Prelude.{slice_get}
 use Rattle.std.specs.List.{AllZip, filter}
@@ -12,7 +13,7 @@ use Rattle.tv_places.proofs.PlaceLemmas.{place_told, places_counted}
 use Rattle.tv_rank.specs.Ways.{case_at, no_case}
 use Rattle.tv_cert.proofs.PieceLemmas.{true_test}
 use Rattle.tv_lexrank.specs.declared.ranking.Ranking.{Ranking}
-use Rattle.tv_lexrank.specs.Offered.{IsStepProof, IsOffered, IsOfferedAt, step_owed, AreStepsShown, AreShownBelow}
+use Rattle.tv_lexrank.specs.Offered.{IsStepProof, IsOfferedAt, step_owed, AreStepsShown, AreShownBelow}
 use Rattle.tv_lexrank.proofs.OfferLemmas.{step_offered}
 
 pub kept_holds : {A : Type 0} (p : A → Bool) (xs : List A) (k : ℕ) (y : A) → slice_get (filter p xs) k ≡ Some y → p y ≡ true

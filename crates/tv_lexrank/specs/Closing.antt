@@ -10,7 +10,7 @@ use Rattle.tv_linear.specs.declared.cover.CoverTree.{CoverTree}
 use Rattle.tv_linear.specs.declared.cover.CoverTree as cover
 use Rattle.tv_linear.specs.declared.fault.RowFault.TheVariants as row
 use Rattle.tv_linear.specs.declared.region.Piece.{Piece}
-use Rattle.tv_cases.specs.Before.{before, rows_after, FitsTerms, GivesBefore}
+use Rattle.tv_cases.specs.Before.{before, rows_after, FitsTerms, GivesBefore, FitsBefore, rows_before, AreRowsBefore, IsTooWide}
 use Rattle.tv_cases.specs.LinearCases.{LinearCase, CaseSystem, CaseDoes}
 use Rattle.tv_farkas.specs.Refuting.{AreShort}
 use Rattle.tv_farkas.specs.Trees.{TreeRows, TreeNumbers}
@@ -33,22 +33,6 @@ IsWholeCover (cover.Empty ms) = ⊥
 IsWholeCover (cover.Into target fall ls) = (target ≡ 0) × (fall ≡ 0) × (ls.items ≡ [])
 
 -- ---- the rows before a case
--- each column of the row before the case fits
-abbrev pub FitsBefore : LinearCase → Linear → Type 0
-FitsBefore c r = (column : ℕ) → column ≤ columns (before r c) → FitsTerms (columns r + c.draws) r (rows_after r c) column
-
-abbrev pub rows_before : LinearCase → List Linear → List Linear
-rows_before c rows = map (λ r. before r c) rows
-
--- the rows before the case, each of which fits
-pub record AreRowsBefore (c : LinearCase) (rows made : List Linear) : Type 0 where
-  pub exact : made ≡ rows_before c rows
-  pub fits : All (FitsBefore c) rows
-
--- a row of the list is too wide before the case at this column
-abbrev pub IsTooWide : LinearCase → List Linear → ℕ → Type 0
-IsTooWide c rows column = (r : Linear) × Contains rows r × GivesBefore r c (Err (row.Wide column))
-
 abbrev pub IsUnmadeBy : LinearCase → List Linear → CoverFault → Type 0
 IsUnmadeBy c rows (Splits path) = ⊥
 IsUnmadeBy c rows (Solve kept e) = ⊥
@@ -67,18 +51,6 @@ abbrev pub owed_plain : List Known → ℕ → ℕ → Option (List Known)
 owed_plain rows zero zero = Some rows
 owed_plain rows zero (suc j) = None
 owed_plain rows (suc k) j = None
-
--- a cover of the rows, over n columns, into one target
-pub record IsCoverInto (n : ℕ) (rows target : List Linear) (tree : CoverTree) : Type 0 where
-  pub met : IsMetCover n (owed_lists (target ∷ [])) (as_given rows) tree
-  pub shallow : splits tree ≤ 128
-  pub short : TreeNumbers AreShort tree
-  pub even : TreeRows (λ r. columns r ≡ n) tree
-
--- such a cover, or a hole
-abbrev pub IsCoveredByOne : ℕ → List Linear → List Linear → Covered → Type 0
-IsCoveredByOne n rows target (Tree tree) = IsCoverInto n rows target tree
-IsCoveredByOne n rows target (Hole values) = IsHole n (target ∷ []) rows values.items
 
 -- the fault says something of a question
 abbrev pub IsTold : CoverFault → Type 0
@@ -136,7 +108,7 @@ pub record IsUncovered (about : CaseSystem) (known : List Piece) (budget : Budge
   pub fits : All (FitsBefore (case_at about.cases k)) (rows_at known (case_at about.cases k).to)
   pub fault :
       IsCoverFault (about.variables + (case_at about.cases k).draws) (rows_before (case_at about.cases k) (rows_at known (case_at about.cases k).to) ∷ [])
-      (padded_rows about.variables (way_of about.cases known k)) budget.pivots budget.splits f
+      (padded_rows (way_of about.cases known k)) budget.pivots budget.splits f
 
 -- It is not settled whether the case leads into the rows that are known where it ends, of which there are some: before the case one of
 -- them is too wide, or the cover into these has the fault.

@@ -28,10 +28,6 @@ HaveRows known = (l : ℕ) × (0 < length (rows_at known l))
 abbrev pub way_rows : Way → List Known
 way_rows w = as_given w.known ++ as_given w.taken.guards
 
--- the row over w columns, with 0 in each that is new
-abbrev pub padded_row : ℕ → Linear → Linear
-padded_row w r = linear (r.coefficients ++ zeros (w - columns r)) r.constant
-
 -- the same rows, each over the variables and the draws
-abbrev pub padded_rows : ℕ → Way → List Linear
-padded_rows v w = map (padded_row (v + w.taken.draws)) w.known ++ w.taken.guards
+abbrev pub padded_rows : Way → List Linear
+padded_rows w = map (padded_row w.taken.draws) w.known ++ w.taken.guards

@@ -17,13 +17,6 @@ use Rattle.tv_rank.specs.Ways.{rows_at}
 use Rattle.tv_lexrank.specs.declared.shown.CaseShown.{CaseShown}
 use Rattle.tv_lexrank.specs.Shown.{AreShown}
 
--- the parts of a node without children
-pub record HasOwn (node : Node) (pieces : List Marked) (ranks : ℕ) (proofs : List Proof) : Type 0 where
-  pub pieces_are : pieces_list node ≡ pieces
-  pub ranks_are : (out-Node node).ranks ≡ ranks
-  pub no_children : (out-Node node).children.items ≡ []
-  pub proofs_are : (out-Node node).proofs.items ≡ proofs
-
 -- the first piece at a location has these rows
 pub record IsPieceAt (pieces : List Marked) (l : ℕ) (rows : List Linear) : Type 0 where
   pub piece : Marked

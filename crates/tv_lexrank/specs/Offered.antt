@@ -12,6 +12,7 @@ use Rattle.tv_cert.specs.Pieces.{pieces_at}
 use Rattle.tv_cert.specs.Shapes.{ProofShape}
 use Rattle.tv_shape.specs.Depths.{proof_splits}
 use Rattle.tv_shape.specs.Narrow.{ProofNarrow}
+use Rattle.tv_shape.specs.Made.{IsOffered}
 use Rattle.tv_lexrank.specs.declared.ranking.Ranking.{Ranking}
 use Rattle.tv_lexrank.specs.Pieces.{ranked_piece}
 use Rattle.tv_lexrank.specs.Steps.{ShowsStep}
@@ -20,13 +21,6 @@ use Rattle.tv_lexrank.specs.Steps.{ShowsStep}
 abbrev pub IsStepProof : Ranking → ℕ → Proof → Type 0
 IsStepProof r k (Covered tree) = ShowsStep r k tree
 IsStepProof r k (Chosen tree) = ⊥
-
--- the proof is one for the obligation: it has its shape, meets it, is narrow, and has at most 128 splits on a path
-pub record IsOffered (o : Obligation) (p : Proof) : Type 0 where
-  pub shape : ProofShape o.owed p
-  pub met : OwedMet o.owed (Some p)
-  pub narrow : ProofNarrow p
-  pub shallow : proof_splits p ≤ 128
 
 -- the first piece at each location is that of the ranking
 abbrev pub ArePieces : Ranking → List Marked → Type 0

@@ -109,7 +109,7 @@ NamesInside about known numbers component pivots (name.Empty k) e =
 NamesInside about known numbers component pivots (name.Rank c round falling) e = ⊥
 NamesInside about known numbers component pivots (name.Rows rows) e =
     HaveRows known × ((k : ℕ) × (k < length about.cases) × LeadsInside numbers component (case_at about.cases k)
-    × TakenOnce (padded_rows about.variables (way_of about.cases known k)) rows.items
+    × TakenOnce (padded_rows (way_of about.cases known k)) rows.items
     × IsSystemFault (about.variables + (case_at about.cases k).draws) rows.items pivots e)
 NamesInside about known numbers component pivots (name.Later s falling) e = ⊥
 

@@ -5,19 +5,21 @@ ghost use Rattle.std.specs.Result.{IfErr};
 ghost use Rattle.tv_linear.specs.Linear.{columns as width};
 ghost use Rattle.tv_cases.specs.Systems.{cases_of};
 ghost use Rattle.tv_cases.specs.Views.{case_view};
+ghost use Rattle.tv_cases.specs.Before.{AreRowsBefore};
 ghost use Rattle.tv_cover.specs.Covering.{IsCoverFault};
 ghost use Rattle.tv_cover.specs.Targets.{AreEven};
+ghost use Rattle.tv_cover.specs.Single.{IsCoveredByOne, IsCoverInto};
 ghost use Rattle.tv_lexrank.specs.Known.{AreKnown};
-ghost use Rattle.tv_lexrank.specs.Closing.{IsWholeCover, AreRowsBefore, IsUnmade, IsCoveredByOne, IsCoverInto, IsHandedOn, RefusesCover, IsClosed, RefusesClosed};
+ghost use Rattle.tv_lexrank.specs.Closing.{IsWholeCover, IsUnmade, IsHandedOn, RefusesCover, IsClosed, RefusesClosed};
 
 use crate::RankFault;
 use crate::known::{known_at, rows_with};
 use crate::sorting::case_of;
 use std::alloc::Global;
-use tv_cases::{Case, Cases, before};
-use tv_cover::{Covered, cover};
+use tv_cases::{Case, Cases, all_before};
+use tv_cover::{Covered, cover_one};
 use tv_farkas::{Budget, CoverFault};
-use tv_linear::{Cover, CoverTree, Poly, Region, Row, RowFault, push_item};
+use tv_linear::{Cover, CoverTree, Poly, Region, Row, RowFault};
 
 /// The cover by one target without rows, into which no fall is owed.
 pub fn whole_cover(alloc: Global) -> Cover
@@ -47,47 +49,12 @@ fn rows_before(
     ensures rows { IfOk result (λ v. AreRowsBefore (case_view case.now) rows.now v.items) }
     ensures refusals { IfErr result (IsUnmade (case_view case.now) rows.now) }
 {
-    let mut all = Vec::new(alloc);
-    'rows: for row in rows {
-        match before(alloc, row, case) {
-            Ok(row) => push_item(&mut all, row)?,
-            Err(RowFault::Wide { column }) => {
-                return Err(RankFault::Cover {
-                    fault: CoverFault::Wide { column },
-                });
-            }
-            Err(RowFault::Memory) => return Err(RankFault::Memory),
-        }
-    }
-    Ok(all)
-}
-
-/// A cover of rows into one target, or a hole.
-pub fn cover_one(
-    alloc: Global,
-    ambient: &Poly,
-    target: Vec<Row>,
-    budget: &Budget,
-) -> Result<Covered, CoverFault>
-    requires few { ambient.now.columns < 2 ^ 32 - 1 }
-    requires even { AreEven ambient.now.columns ambient.now.rows.items }
-    requires same { AreEven ambient.now.columns target.items }
-    requires splits { budget.now.splits ≤ 128 }
-    ensures answers { IfOk result (IsCoveredByOne ambient.now.columns ambient.now.rows.items target.items) }
-    ensures refusals { let rows = ambient.now.rows.items in
-        IfErr result (IsCoverFault ambient.now.columns (target.items ∷ []) rows budget.now.pivots budget.now.splits) }
-{
-    let mut targets = Vec::new(alloc);
-    push_item(
-        &mut targets,
-        Poly {
-            columns: ambient.columns,
-            rows: target,
-        },
-    )?;
-    match cover(alloc, ambient, &targets, budget) {
-        Ok(covered) => Ok(covered),
-        Err(fault) => Err(fault),
+    match all_before(alloc, rows, case, variables) {
+        Ok(all) => Ok(all),
+        Err(RowFault::Wide { column }) => Err(RankFault::Cover {
+            fault: CoverFault::Wide { column },
+        }),
+        Err(RowFault::Memory) => Err(RankFault::Memory),
     }
 }
 
@@ -148,7 +115,7 @@ pub fn closing(
         Err(fault) => return Err(fault),
     };
     let started = known_at(&known.pieces, case.from);
-    let rows = rows_with(alloc, started, &case.guards.rows, columns)?;
+    let rows = rows_with(alloc, started, &case.guards.rows, case.draws)?;
     match cover_into(alloc, &Poly { columns, rows }, target, number, budget) {
         Ok(cover) => Ok(cover),
         Err(fault) => Err(fault),

@@ -3,7 +3,6 @@
 ghost use Rattle.std.specs.Prelude.{◌≡◌, ◌+◌, ◌^◌, ◌<◌, ◌++◌, map, min, IfOk};
 ghost use Rattle.tv_linear.specs.Arithmetic.{zeros};
 ghost use Rattle.tv_linear.specs.Depth.{splits};
-ghost use Rattle.tv_linear.specs.Linear.{IsNarrow};
 ghost use Rattle.tv_farkas.specs.Refuting.{AreShort};
 ghost use Rattle.tv_farkas.specs.Trees.{TreeNumbers};
 ghost use Rattle.tv_rank.specs.Given.{lists as lists_of};
@@ -11,7 +10,7 @@ ghost use Rattle.tv_lexrank.specs.Falling.{put_in as spec_put_in, spread as spec
 
 use std::alloc::{AllocError, Global};
 use tv_farkas::split_of;
-use tv_linear::{CoverTree, Row, copies_of_lists, push_item};
+use tv_linear::{CoverTree, copies_of_lists, copy_row, push_item};
 
 /// A fall of the ranks over a case, with what shows it.
 #[derive(Drop)]
@@ -82,15 +81,6 @@ fn number_of(fall: &Fall) -> u32
     ensures { result ≡ fall.now.number }
 {
     fall.number
-}
-
-/// A copy of a row, which is narrow.
-fn copy_row(alloc: Global, row: &Row) -> Result<Row, AllocError>
-    ensures same { IfOk result (λ copy. copy ≡ row.now) }
-    ensures narrow { IsNarrow row.now }
-{
-    let _columns = row.columns();
-    row.copy(alloc)
 }
 
 /// The cover, below so many splits, with the lines of the fall behind those of each target.

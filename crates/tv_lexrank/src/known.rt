@@ -4,11 +4,12 @@ ghost use Rattle.std.specs.Prelude.{◌≡◌, ◌+◌, ◌-◌, ◌^◌, ◌<�
 ghost use Rattle.tv_linear.specs.Linear.{columns as width};
 ghost use Rattle.tv_cases.specs.Systems.{cases_of};
 ghost use Rattle.tv_rank.specs.Ways.{rows_at};
-ghost use Rattle.tv_lexrank.specs.Known.{AreKnown, AreBare, piece_rows, padded_row};
+ghost use Rattle.tv_linear.specs.Arithmetic.{padded_row};
+ghost use Rattle.tv_lexrank.specs.Known.{AreKnown, AreBare, piece_rows};
 
 use std::alloc::{AllocError, Global};
 use tv_cases::Cases;
-use tv_linear::{Piece, Region, Row, push_copies, push_item};
+use tv_linear::{Piece, Region, Row, all_padded, push_copies};
 
 fn are_even(rows: &[Row], columns: u32) -> bool
     ensures { IsTrue result ↔ All (λ r. width r ≡ columns) rows.now }
@@ -56,31 +57,17 @@ pub fn known_at(known: &[Piece], location: u32) -> &[Row]
     &known[location as usize].poly.rows
 }
 
-/// Each of the rows over more columns.
-pub fn all_padded(alloc: Global, rows: &[Row], columns: u32) -> Result<Vec<Row>, AllocError>
-    requires few { columns < 2 ^ 32 - 1 }
-    requires more { All (λ r. width r ≤ columns) rows.now }
-    ensures { IfOk result (λ v. v.items ≡ map (padded_row columns) rows.now) }
-{
-    let mut all = Vec::new(alloc);
-    'rows: for row in rows {
-        push_item(&mut all, row.padded(alloc, columns - row.columns())?)?;
-    }
-    Ok(all)
-}
-
-/// The known rows over more columns, and then the guards.
+/// The known rows over the draws too, and then the guards.
 pub fn rows_with(
     alloc: Global,
     known: &[Row],
     guards: &[Row],
-    columns: u32,
+    draws: u32,
 ) -> Result<Vec<Row>, AllocError>
-    requires few { columns < 2 ^ 32 - 1 }
-    requires more { All (λ r. width r ≤ columns) known.now }
-    ensures { IfOk result (λ v. v.items ≡ map (padded_row columns) known.now ++ guards.now) }
+    requires few { All (λ r. width r + draws < 2 ^ 32 - 1) known.now }
+    ensures { IfOk result (λ v. v.items ≡ map (padded_row draws) known.now ++ guards.now) }
 {
-    let mut rows = all_padded(alloc, known, columns)?;
+    let mut rows = all_padded(alloc, known, draws)?;
     push_copies(alloc, guards, &mut rows)?;
     Ok(rows)
 }

@@ -12,7 +12,7 @@ ghost use Rattle.tv_lexrank.specs.First.{arc_of, AreComponents, IsOutcome, IsNod
 ghost use Rattle.tv_lexrank.specs.Outcomes.{IsAnswer, Refuses};
 
 use crate::attempt::{Attempt, bare_region, rank_components};
-use crate::node::node_of;
+use crate::node::ranked_node;
 use crate::part::Part;
 use crate::ranking::{Ranking, rank_count};
 use crate::shown::each_shown;
@@ -84,7 +84,7 @@ fn ranked_parts(
         budget,
     };
     let shown = each_shown(alloc, &ranking)?;
-    match node_of(alloc, &ranking, &shown) {
+    match ranked_node(alloc, &ranking, &shown) {
         Ok(node) => Ok(Ranked::Node { node, shown }),
         Err(fault) => Err(fault),
     }

@@ -29,7 +29,7 @@ pub use certificate::{known_certificate, proved_certificate, ranked_certificate,
 pub use closed::{closing, cover_one, whole_cover};
 pub use falling::{Fall, append_spread};
 pub use fault::RankFault;
-pub use known::{all_padded, are_known, known_at};
+pub use known::{are_known, known_at};
 pub use lexicographic::{first_attempt, lex_rank};
 pub use more::under_more;
 pub use offered::starts_of;

@@ -123,7 +123,7 @@ fn settle_met(
     let case = case_of(component.about, number);
     let columns = component.about.variables() + case.draws;
     let known = known_at(&component.known.pieces, case.from);
-    let rows = rows_with(alloc, known, &case.guards.rows, columns)?;
+    let rows = rows_with(alloc, known, &case.guards.rows, case.draws)?;
     match settle_rows(alloc, &rows, columns, component.pivots) {
         Ok(settled) => Ok(settled),
         Err(fault) => Err(fault),

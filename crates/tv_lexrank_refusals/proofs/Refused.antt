@@ -5,11 +5,11 @@ use Rattle.std.specs.List.{Contains}
 use Rattle.std.proofs.lemmas.List.{get_or_default}
 use Rattle.std.proofs.lemmas.List.Elements.{All-contains, Contains-append_cases, Contains-append_left, Contains-append_right}
 use Rattle.tv_linear.specs.Linear.{Linear, linear, columns}
-use Rattle.tv_linear.specs.Arithmetic.{zeros}
+use Rattle.tv_linear.specs.Arithmetic.{zeros, padded_row}
 use Rattle.tv_linear.specs.declared.fault.RowFault.TheVariants as row
 use Rattle.tv_linear.specs.declared.region.Piece.{Piece}
 use Rattle.tv_cases.specs.LinearCases.{LinearCase, CaseSystem}
-use Rattle.tv_cases.specs.Before.{before}
+use Rattle.tv_cases.specs.Before.{before, FitsBefore, rows_before}
 use Rattle.tv_cases.proofs.Listed.{Contains-map, Contains-from_map}
 use Rattle.tv_farkas.specs.declared.budget.Budget.{Budget}
 use Rattle.tv_farkas.specs.declared.fault.CoverFault.{CoverFault}
@@ -23,8 +23,8 @@ use Rattle.tv_derived.proofs.Steps.{after_before, over}
 use Rattle.tv_cover_refusals.specs.Covers.{IsSpentOnTargets}
 use Rattle.tv_cover_refusals.proofs.Refusals.{refusal}
 use Rattle.tv_rank.specs.Ways.{case_at, no_case, rows_at, way_of}
-use Rattle.tv_lexrank.specs.Known.{AreKnown, padded_row, padded_rows}
-use Rattle.tv_lexrank.specs.Closing.{FitsBefore, rows_before, IsUnmadeBy, IsUncovered}
+use Rattle.tv_lexrank.specs.Known.{AreKnown, padded_rows}
+use Rattle.tv_lexrank.specs.Closing.{IsUnmadeBy, IsUncovered}
 use Rattle.tv_lexrank.proofs.MetLemmas.{over_at}
 use Rattle.tv_lexrank_refusals.specs.Refusals.{handed_from, handed_known, StepsRefuse, StartRefuses, RowsRefuse}
 
@@ -71,7 +71,7 @@ module _ (about : CaseSystem) (known : List Piece) where
     padded_is : (r : Linear) → columns r ≡ about.variables → with_more r (zeros c.draws) ≡ padded_row (about.variables + c.draws) r
     padded_is r e = ap (λ n. linear (r.coefficients ++ zeros n) r.constant) (let q : c.draws ≡ about.variables + c.draws - columns r = omega (arith, e) in q)
 
-    pub over_derived : (h : ℕ) (r : Linear) → Contains (padded_rows about.variables (way_of about.cases known k)) r → IsDerived about base (over_case c) h r
+    pub over_derived : (h : ℕ) (r : Linear) → Contains (padded_rows (way_of about.cases known k)) r → IsDerived about base (over_case c) h r
     over_derived h r a = elim (Contains-append_cases (map (padded_row (about.variables + c.draws)) (rows_at known c.from)) c.guards r a) [
       | inl there ↦
           let from = Contains-from_map (padded_row (about.variables + c.draws)) (rows_at known c.from) r there in
@@ -98,7 +98,7 @@ module _ (about : CaseSystem) (known : List Piece) where
     uncovered budget fault h =
         refusal about base (over_case c) 1 (rows_before c (rows_at known c.to) ∷ [])
         (λ target of r a. put_derived h.fits r (subst (λ rows. Contains rows r) (sym (only_one (rows_before c (rows_at known c.to)) target of)) a))
-        1 (padded_rows about.variables (way_of about.cases known k)) budget.pivots budget.splits fault (λ r a. derived r (over_derived 1 r a)) (omega arith) h.fault
+        1 (padded_rows (way_of about.cases known k)) budget.pivots budget.splits fault (λ r a. derived r (over_derived 1 r a)) (omega arith) h.fault
 
 pub steps_refuse : (about : CaseSystem) → StepsRefuse about
 steps_refuse about known budget k fault fits h = elim h.why [
@@ -113,7 +113,7 @@ pub rows_refuse : (about : CaseSystem) → RowsRefuse about
 rows_refuse about known numbers component pivots rows e fits (have, (k, k_in, inside, taken, unsolved)) = (
   over_case (case_at about.cases k),
   record {
-    list = handed_list (padded_rows about.variables (way_of about.cases known k)) rows.items taken
+    list = handed_list (padded_rows (way_of about.cases known k)) rows.items taken
         (λ r a. unsplit r (derived r (over_derived about known k k_in fits 0 r a)));
     unsolved = unsolved;
   },

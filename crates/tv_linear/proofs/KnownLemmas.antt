@@ -1,4 +1,4 @@
-use Rattle.std.proofs.Common.{◌≡◌, ◌↔◌, ℕ, zero, suc, ◌⊎◌, inl, inr, ◌<◌, List, [], ◌∷◌, length, All, map, None, Some, arith, refl, sym, ap, ℤ, pos, neg_ℤ, ◌+ℤ◌, ◌-ℤ◌, ◌*ℤ◌, ◌≤ℤ◌, slice_index_or}
+use Rattle.std.proofs.Common.{◌≡◌, ◌↔◌, ℕ, zero, suc, ◌⊎◌, inl, inr, ◌<◌, List, [], ◌∷◌, ◌++◌, length, All, map, None, Some, arith, refl, sym, ap, ℤ, pos, neg_ℤ, ◌+ℤ◌, ◌-ℤ◌, ◌*ℤ◌, ◌≤ℤ◌, slice_index_or}
 use Rattle.std.proofs.lemmas.Int.{ints}
 use Rattle.std.proofs.lemmas.List.Elements.{All-nil, All-cons, All-head, All-tail}
 use Rattle.tv_linear.proofs.Ring.{neg_times_z, distribute_z, distribute_right_z, mul_assoc_z, not_above, one_or_other}
@@ -9,6 +9,11 @@ use Rattle.tv_linear.specs.Refutation.{Refutes}
 -- the sum of the products of the multipliers and a number of each row
 abbrev pub weighted : {A : Type 0} → (A → ℤ) → List ℤ → List A → ℤ
 weighted p ms rows = dot ms (map p rows)
+
+-- the known rows of two lists
+pub as_given-append : (xs ys : List Linear) → as_given (xs ++ ys) ≡ as_given xs ++ as_given ys
+as_given-append [] ys = refl
+as_given-append (x ∷ xs) ys = ap (λ ks. given x ∷ ks) (as_given-append xs ys)
 
 -- ---- the laws of place_sum
 pub place_sum-zero : (f : ℕ → ℤ) (xs : List ℤ) → ((j : ℕ) → j < length xs → f j ≡ pos 0) → place_sum f xs ≡ pos 0

@@ -13,3 +13,5 @@ pub mod Covered
 pub mod FallLemmas
 pub mod PackedLemmas
 pub mod Copied
+pub mod SameLemmas
+pub mod PaddedLemmas

@@ -4,6 +4,7 @@ use Rattle.std.specs.Prelude.{All, unsigned_abs}
 use Rattle.std.proofs.lemmas.List.Elements.{All-nil, All-cons, All-weaker}
 use Rattle.tv_linear.specs.Linear.{IsWithin}
 use Rattle.tv_linear.specs.Arithmetic.{zeros, unit, plus_each}
+use Rattle.tv_linear.specs.Terms.{table}
 
 pub zeros-are : (w : ℕ) → zeros w ≡ replicate w (pos 0)
 zeros-are zero = refl
@@ -56,3 +57,7 @@ unit-narrow (suc w) (suc column) = All-cons (IsWithin 62) (pos 0) (unit w column
 
 pub map-more : (f : ℤ → ℤ) (xs ys zs : List ℤ) (i : ℕ) (v : ℤ) → i < length xs → ys ≡ map f (take i xs) → v ≡ f (get_or xs i (pos 0)) → zs ≡ ys ++ v ∷ [] → zs ≡ map f (take (i + 1) xs)
 map-more f xs ys zs i v h is here more = grind (arith, common_steps)
+
+pub length-table : {A : Type 0} (n : ℕ) (f : ℕ → A) → length (table n f) ≡ n
+length-table zero f = refl
+length-table (suc n) f = ap suc (length-table n (λ j. f (suc j)))

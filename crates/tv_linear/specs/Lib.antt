@@ -13,3 +13,4 @@ pub mod Terms
 pub mod Falls
 pub mod Packed
 pub mod Views
+pub mod Same

@@ -1,7 +1,8 @@
 // Copies of rows and of lists of numbers.
 
-ghost use Rattle.std.specs.Prelude.{◌≡◌, ◌++◌, All, IfOk, map};
-ghost use Rattle.tv_linear.specs.Linear.{IsNarrow};
+ghost use Rattle.std.specs.Prelude.{◌≡◌, ◌++◌, ◌+◌, ◌-◌, ◌^◌, ◌<◌, All, IfOk, map};
+ghost use Rattle.tv_linear.specs.Linear.{columns, IsNarrow};
+ghost use Rattle.tv_linear.specs.Arithmetic.{padded_row};
 
 use crate::Row;
 use std::alloc::{AllocError, Global};
@@ -16,6 +17,15 @@ pub fn push_copies(alloc: Global, rows: &[Row], list: &mut Vec<Row>) -> Result<(
         list.push(row.copy(alloc)?)?;
     }
     Ok(())
+}
+
+/// A copy of the row, which is narrow.
+pub fn copy_row(alloc: Global, row: &Row) -> Result<Row, AllocError>
+    ensures same { IfOk result (λ copy. copy ≡ row.now) }
+    ensures narrow { IsNarrow row.now }
+{
+    let _columns = row.columns();
+    row.copy(alloc)
 }
 
 /// Copies of the rows.
@@ -34,6 +44,18 @@ pub fn joined(alloc: Global, first: &[Row], second: &[Row]) -> Result<Vec<Row>, 
     let mut list = copies(alloc, first)?;
     push_copies(alloc, second, &mut list)?;
     Ok(list)
+}
+
+/// Each row with so many columns more.
+pub fn all_padded(alloc: Global, rows: &[Row], more: u32) -> Result<Vec<Row>, AllocError>
+    requires few { All (λ r. columns r + more < 2 ^ 32 - 1) rows.now }
+    ensures exact { IfOk result (λ v. v.items ≡ map (padded_row more) rows.now) }
+{
+    let mut all = Vec::new(alloc);
+    'rows: for row in rows {
+        all.push(row.padded(alloc, more)?)?;
+    }
+    Ok(all)
 }
 
 /// Copies of the lists.

@@ -24,7 +24,7 @@ mod total;
 mod view;
 
 pub use choice::{Choice, ChoiceTree};
-pub use copying::{copies, copies_of_lists, joined, push_copies};
+pub use copying::{all_padded, copies, copies_of_lists, copy_row, joined, push_copies};
 pub use cover::{Cover, CoverTree, MAX_SPLITS};
 pub use fault::RowFault;
 pub use lists::{shortened, widened};

@@ -25,10 +25,11 @@ use Rattle.tv_cert.specs.Shapes.{owed_count, ListsShape, CoverShape, PieceShape}
 use Rattle.tv_cert.specs.Targets.{target_rows, owed_into, no_fall}
 use Rattle.tv_cert.proofs.PieceLemmas.{test_true}
 use Rattle.tv_shape.specs.Narrow.{CountNarrow, AreNarrow, ListsNarrow, CoverNarrow}
-use Rattle.tv_points.specs.Nodes.{IsBareCover, IsBare, IsFitted, whole_piece, whole_pieces, IsWholeNode}
+use Rattle.tv_shape.specs.Made.{IsFitted, IsOffered}
+use Rattle.tv_shape.proofs.MadeLemmas.{node_fitted}
+use Rattle.tv_points.specs.Nodes.{IsBareCover, IsBare, whole_piece, whole_pieces, IsWholeNode}
 use Rattle.tv_points.specs.States.{IsState}
 use Rattle.tv_points.specs.declared.state.State.{State}
-use Rattle.tv_points.proofs.NodeLemmas.{IsOffered, node_fitted}
 
 -- ---- the cover
 flat : (tree : CoverTree) → IsBareCover tree → splits tree ≡ 0
@@ -67,7 +68,6 @@ module _ (n : ℕ) (known : List Known) (owed : ℕ → ℕ → Option (List Kno
     shape = (bare_shape tree h, (let f = flat tree h in omega (arith, f)));
     met = bare_met tree h;
     narrow = bare_narrow tree h;
-    shallow = (let f = flat tree h in omega (arith, f));
   }
   bare_offered number k (Chosen tree) h = absurd h
 
@@ -103,7 +103,7 @@ pub truth_fitted : (about : CaseSystem) (depth : ℕ) (states : List State) (nod
 truth_fitted about depth states node shallow few each h =
     let ps = whole_pieces about.variables states in
     node_fitted (about_with about) (truth true) depth node ps 0 [] h.proofs h.own (record {
-      normal = tt;
+      said = tt;
       ranked = λ e. refl;
       small = omega arith;
       few = (let l = length-map states (λ s. whole_piece about.variables s.location) in omega (arith, l, few));
@@ -118,7 +118,7 @@ location_fitted about depth l node shallow inside h =
     let p = whole_piece about.variables l in
     let ps : List Marked = p ∷ [] in
     node_fitted (about_with about) (at l) depth node ps 0 [] h.proofs h.own (record {
-      normal = tt;
+      said = tt;
       ranked = λ e. refl;
       small = omega arith;
       few = omega arith;

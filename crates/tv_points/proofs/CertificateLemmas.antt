@@ -20,13 +20,14 @@ use Rattle.tv_shape.specs.Narrow.{CountNarrow}
 use Rattle.tv_shape.specs.declared.certificate.Certificate.{Certificate}
 use Rattle.tv_shape.specs.declared.fault.ShapeFault.{ShapeFault}
 use Rattle.tv_shape.proofs.FaultLemmas.{unfit}
+use Rattle.tv_shape.specs.Made.{IsFitted}
+use Rattle.tv_shape.proofs.MadeLemmas.{both_met}
 use Rattle.tv_cert.proofs.PieceLemmas.{test_true}
-use Rattle.tv_points.specs.Nodes.{IsFitted, IsInside, IsRunNode, SaysDisproved, IsDisproof}
+use Rattle.tv_points.specs.Nodes.{IsInside, IsRunNode, SaysDisproved, IsDisproof}
 use Rattle.tv_points.specs.StatePieces.{state_piece, state_pieces}
 use Rattle.tv_points.specs.States.{IsState, StartsAt}
 use Rattle.tv_points.specs.declared.state.State.{State}
 use Rattle.tv_points.proofs.MetLemmas.{point_met}
-use Rattle.tv_points.proofs.NodeLemmas.{both_met}
 
 there_is : (o : Option Marked) (p : Marked) → o ≡ Some p → IsSome o
 there_is o p e = subst IsSome (sym e) refl

@@ -4,7 +4,6 @@ pub mod PushLemmas
 pub mod FlatLemmas
 pub mod MetLemmas
 pub mod TakeLemmas
-pub mod NodeLemmas
 pub mod BareMet
 pub mod RunMet
 pub mod PlaceLemmas

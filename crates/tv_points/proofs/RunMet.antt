@@ -22,11 +22,12 @@ use Rattle.tv_cert.specs.Pieces.{place_of, ranks_of, goes}
 use Rattle.tv_cert.specs.Shapes.{PieceShape}
 use Rattle.tv_cert.proofs.NodeLemmas.{pieces_are}
 use Rattle.tv_points.specs.PointRows.{at_most_row, rows_from, point_rows}
-use Rattle.tv_points.specs.Nodes.{IsChosenAt, IsBare, IsSecond, AreTwo, HasOwn, IsRunNode, endless, reaches, whole_piece, whole_pieces, AreEnds}
+use Rattle.tv_points.specs.Nodes.{IsChosenAt, IsBare, IsSecond, AreTwo, IsRunNode, endless, reaches, whole_piece, whole_pieces, AreEnds}
 use Rattle.tv_points.specs.StatePieces.{state_piece, state_pieces, rank_rows}
 use Rattle.tv_points.specs.States.{IsState}
 use Rattle.tv_points.specs.declared.state.State.{State}
-use Rattle.tv_points.proofs.NodeLemmas.{IsOffered, node_fitted}
+use Rattle.tv_shape.specs.Made.{HasOwn, IsOffered}
+use Rattle.tv_shape.proofs.MadeLemmas.{node_fitted}
 use Rattle.tv_points.proofs.BareMet.{LeadsInto, StatesLead, bare_offered, location_leads, truth_leads, truth_fitted, location_fitted}
 
 -- ---- the pieces of states
@@ -91,12 +92,12 @@ choices_offered about number ps kids [] (p ∷ proofs) h = absurd h
 choices_offered about number ps kids (q ∷ qs) [] h = absurd h
 choices_offered about number ps kids (q ∷ qs) (Covered tree ∷ proofs) h = absurd h.0
 choices_offered about number ps kids (q ∷ qs) (Chosen tree ∷ proofs) h =
-    (record { shape = (h.0.shape, (let f = h.0.flat in omega (arith, f))); met = h.0.met; narrow = h.0.narrow; shallow = (let f = h.0.flat in omega (arith, f)) }, choices_offered about number ps kids qs proofs h.1)
+    (record { shape = (h.0.shape, (let f = h.0.flat in omega (arith, f))); met = h.0.met; narrow = h.0.narrow }, choices_offered about number ps kids qs proofs h.1)
 
 pub endless_is : (about : CaseSystem) (states : List State) (node : Node) (pieces : List Marked) (proofs : List Proof) → pieces ≡ state_pieces about.variables false states → HasOwn node pieces 0 [] proofs → AllZip (IsChosenAt about pieces false) pieces proofs → All (IsState about) states → length states < 2 ^ 32 - 1 → IsRunNode about endless false states node
 endless_is about states node pieces proofs same own chosen each few = record {
   fitted = node_fitted (about_with about) endless 1 node pieces 0 [] proofs own (record {
-    normal = tt;
+    said = tt;
     ranked = λ e. refl;
     small = omega arith;
     few = (let l = ap length same in let k = states_length about.variables false states in omega (arith, l, k, few));
@@ -119,7 +120,7 @@ module _ (about : CaseSystem) (l number : ℕ) (ps a b : List Marked) where
   two_offered : (p : Marked) (g : Bool) (x y : Proof) → IsBare x → IsSecond about ps p g y → LeadsInto b (place_of p) → (g ≡ false → LeadsInto a (place_of p)) → AllZip IsOffered (fix_of number (about_with about) Any Strong ps a b p g) (x ∷ y ∷ [])
   two_offered p true x (Covered tree) h k truth end = absurd k
   two_offered p true x (Chosen tree) h k truth end =
-      (bare_offered _ _ _ truth number kind.Hold x h, (record { shape = (k.shape, (let f = k.flat in omega (arith, f))); met = k.met; narrow = k.narrow; shallow = (let f = k.flat in omega (arith, f)) }, tt))
+      (bare_offered _ _ _ truth number kind.Hold x h, (record { shape = (k.shape, (let f = k.flat in omega (arith, f))); met = k.met; narrow = k.narrow }, tt))
   two_offered p false x y h k truth end = (bare_offered _ _ _ (end refl) number kind.Done x h, (bare_offered _ _ _ truth number kind.Done y k, tt))
 
   -- where each piece has a target of truth, and each that is done one of the location
@@ -173,7 +174,7 @@ all_there b n l last (s ∷ states) steps many at e h =
 pub reaching_is : (about : CaseSystem) (l : ℕ) (states : List State) (last : State) (node : Node) (pieces : List Marked) (nodes : List Node) (proofs : List Proof) → pieces ≡ state_pieces about.variables true states → HasOwn node pieces 1 nodes proofs → AreEnds about.variables states l nodes → AreTwo about pieces pieces proofs → All (IsState about) states → length states < 2 ^ 32 - 1 → (steps : ℕ) → length states ≡ steps + 1 → slice_get states steps ≡ Some last → last.location ≡ l → l < about.locations → IsRunNode about (reaches l) true states node
 reaching_is about l states last node pieces nodes proofs same own ends two each few steps many here at inside = record {
   fitted = node_fitted (about_with about) (reaches l) 1 node pieces 1 (ends.end ∷ ends.truth_of ∷ []) proofs (subst (λ ns. HasOwn node pieces 1 ns proofs) ends.parts own) (record {
-    normal = tt;
+    said = tt;
     ranked = λ e. absurd cc;
     small = omega arith;
     few = (let k = ap length same in let m = states_length about.variables true states in omega (arith, k, m, few));

@@ -36,21 +36,6 @@ use Rattle.tv_points.specs.declared.state.State.{State}
 use Rattle.tv_points.specs.declared.step.Step.{Step}
 use Rattle.tv_points.specs.declared.steps.Run.{Run}
 
--- the parts of a node
-pub record HasOwn (node : Node) (pieces : List Marked) (ranks : ℕ) (children : List Node) (proofs : List Proof) : Type 0 where
-  pub pieces_are : pieces_list node ≡ pieces
-  pub ranks_are : (out-Node node).ranks ≡ ranks
-  pub children_are : (out-Node node).children.items ≡ children
-  pub proofs_are : (out-Node node).proofs.items ≡ proofs
-  pub narrow : All PieceNarrow pieces
-
--- the node fits the formula at this depth, and its obligations and those of the nodes below it are met, whatever number it has
-pub record IsFitted (about : About) (f : Property) (depth : ℕ) (node : Node) : Type 0 where
-  pub shape : HasShape about f node
-  pub narrow : NodeNarrow node
-  pub within : GoesWithin depth node
-  pub met : (number : ℕ) → AllMet (entries number about f node)
-
 -- ---- proofs
 
 -- the proof is such a choice at the piece

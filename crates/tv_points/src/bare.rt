@@ -4,7 +4,7 @@ ghost use Rattle.std.specs.Prelude.{◌≡◌, ◌++◌, ◌∷◌, [], ◌-◌,
 ghost use Rattle.tv_cert.specs.declared.node.Marked.{Marked};
 ghost use Rattle.tv_points.specs.Nodes.{IsBare, ArePushedBare, IsWholeNode, whole_piece, whole_pieces};
 
-use crate::node::node_of;
+use tv_shape::node_of;
 use crate::state::State;
 use std::alloc::{AllocError, Global};
 use tv_cert::{Mark, Marked, Node, Proof};

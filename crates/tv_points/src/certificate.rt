@@ -1,4 +1,5 @@
 // Certificates that a property is disproved.
+ghost use Rattle.tv_shape.specs.Made.{IsFitted};
 
 ghost use Rattle.std.specs.Prelude.{◌≡◌, IfOk, MatchResult, false, true};
 ghost use Rattle.tv_formula.specs.Formulas.{property_of};
@@ -8,7 +9,7 @@ ghost use Rattle.tv_cert.specs.Nodes.{pieces_of};
 ghost use Rattle.tv_points.specs.States.{ComesBack, ComesTo, StartsAt};
 ghost use Rattle.tv_points.specs.Lines.{IsLineFault};
 ghost use Rattle.tv_points.specs.RunLines.{run_lines};
-ghost use Rattle.tv_points.specs.Nodes.{endless, reaches, IsFitted, IsInside, IsDisproof, DisprovesFirst};
+ghost use Rattle.tv_points.specs.Nodes.{endless, reaches, IsInside, IsDisproof, DisprovesFirst};
 
 use crate::endless::endless_node;
 use crate::fault::PointFault;

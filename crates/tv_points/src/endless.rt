@@ -8,7 +8,7 @@ ghost use Rattle.tv_points.specs.RunLines.{run_lines};
 ghost use Rattle.tv_points.specs.Nodes.{endless, IsRunNode};
 
 use crate::fault::PointFault;
-use crate::node::node_of;
+use tv_shape::node_of;
 use crate::pieces::pieces_of;
 use crate::state::State;
 use crate::step::Step;

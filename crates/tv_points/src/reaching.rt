@@ -9,7 +9,7 @@ ghost use Rattle.tv_points.specs.Nodes.{reaches, IsRunNode, AreEnds};
 
 use crate::bare::{location_node, truth_node};
 use crate::fault::PointFault;
-use crate::node::node_of;
+use tv_shape::node_of;
 use crate::pieces::pieces_of;
 use crate::state::State;
 use crate::step::Step;

@@ -1,4 +1,5 @@
 -- Proofs that are added.
+use Rattle.tv_shape.specs.Made.{IsOffered, Offers}
 use Rattle.std.proofs.Common.{All, ◌≡◌, ℕ, zero, suc, ◌+◌, ◌<◌, ◌≤◌, ◌++◌, List, [], ◌∷◌, map, take, length, get_or, Bool, true, Some, slice_get, ◌==◌, arith, refl, sym, ap, ◌∙◌, subst}
 use Rattle.std.specs.List.{flat_map, AllZip}
 use Rattle.std.proofs.lemmas.Bool.Decides.{nat_tests}
@@ -11,7 +12,7 @@ use Rattle.tv_cases.specs.LinearCases.{LinearCase, from_of, leaving}
 use Rattle.tv_cert.specs.declared.node.Marked.{Marked}
 use Rattle.tv_cert.specs.declared.node.Proof.{Proof}
 use Rattle.tv_cert.specs.Obligations.{Obligation}
-use Rattle.tv_pre.specs.Offers.{IsOffered, Offers, Adds}
+use Rattle.tv_pre.specs.Offers.{Adds}
 
 pub offers_append : (os more : List Obligation) (ps qs : List Proof) → Offers os ps → Offers more qs → Offers (os ++ more) (ps ++ qs)
 offers_append [] more [] qs h g = g

@@ -18,13 +18,13 @@ use Rattle.tv_cert.specs.declared.node.Proof.TheVariants.{Covered}
 use Rattle.tv_cert.specs.Claims.{about_with}
 use Rattle.tv_cert.specs.Obligations.{Obligation, truth_targets, atom_of}
 use Rattle.tv_cert.specs.Pieces.{place_of, rows_of, pieces_at}
-use Rattle.tv_cert.specs.Shapes.{IsNormalHead, may_be_done}
+use Rattle.tv_cert.specs.Shapes.{IsSaid, may_be_done}
 use Rattle.tv_cover.specs.Targets.{AreEven}
 use Rattle.tv_region.specs.Regions.{IsPieceOf, lists_at}
 use Rattle.tv_region.proofs.MetLemmas.{map_push}
 use Rattle.tv_choice.specs.Leading.{piece_rows}
 use Rattle.tv_pre.specs.Pieces.{ArePieces, marked_as}
-use Rattle.tv_pre.specs.Offers.{Offers}
+use Rattle.tv_shape.specs.Made.{Offers}
 use Rattle.tv_pre.specs.Atoms.{test_lists, IsTestOf, atom_piece, atom_pieces, IsOwnCover, AreAtoms, AreAllAtoms, atom_owes}
 use Rattle.tv_pre.specs.declared.test.Test.{Test}
 use Rattle.tv_pre.specs.declared.test.Test.TheVariants.{Rows, Here, Elsewhere}
@@ -35,7 +35,7 @@ use Rattle.tv_pre.specs.Parts.{IsPart, AreParts}
 use Rattle.tv_pre.proofs.ShapeLemmas.{flat_same}
 use Rattle.tv_pre.proofs.AddLemmas.{adds_none, adds_one, one_done, take_suc_some, flat_append}
 use Rattle.tv_pre.proofs.LineLemmas.{own_offered}
-use Rattle.tv_pre.proofs.NodeLemmas.{part_made}
+use Rattle.tv_pre.proofs.NodeLemmas.{states, part_made}
 use Rattle.tv_pre.proofs.OfferLemmas.{lists_marked}
 use Rattle.tv_pre.proofs.PieceLemmas.{are_marked}
 
@@ -148,51 +148,51 @@ test_owes about (Elsewhere k) (some_of fs) number ps kids p h = absurd h
 test_owes about (Elsewhere k) (next path f) number ps kids p h = absurd h
 test_owes about (Elsewhere k) (fix path shape f g) number ps kids p h = absurd h
 
-test_head : (n : ℕ) (test : Test) (f : Property) → IsTestOf n test f → IsNormalHead f × (parts f ≡ none)
-test_head n test (truth b) h = (tt, refl)
-test_head n test (compare r a b) h = (tt, refl)
-test_head n test (at l) h = (tt, refl)
-test_head n test term h = (tt, refl)
-test_head n test (negated (at l)) h = (tt, refl)
-test_head n test (negated term) h = (tt, refl)
-test_head n (Rows lists) (negated (truth b)) h = absurd h
-test_head n (Here k) (negated (truth b)) h = absurd h
-test_head n (Elsewhere k) (negated (truth b)) h = absurd h
-test_head n (Rows lists) (negated (compare r a b)) h = absurd h
-test_head n (Here k) (negated (compare r a b)) h = absurd h
-test_head n (Elsewhere k) (negated (compare r a b)) h = absurd h
-test_head n (Rows lists) (negated (negated f)) h = absurd h
-test_head n (Here k) (negated (negated f)) h = absurd h
-test_head n (Elsewhere k) (negated (negated f)) h = absurd h
-test_head n (Rows lists) (negated (all_of fs)) h = absurd h
-test_head n (Here k) (negated (all_of fs)) h = absurd h
-test_head n (Elsewhere k) (negated (all_of fs)) h = absurd h
-test_head n (Rows lists) (negated (some_of fs)) h = absurd h
-test_head n (Here k) (negated (some_of fs)) h = absurd h
-test_head n (Elsewhere k) (negated (some_of fs)) h = absurd h
-test_head n (Rows lists) (negated (next path f)) h = absurd h
-test_head n (Here k) (negated (next path f)) h = absurd h
-test_head n (Elsewhere k) (negated (next path f)) h = absurd h
-test_head n (Rows lists) (negated (fix path shape f g)) h = absurd h
-test_head n (Here k) (negated (fix path shape f g)) h = absurd h
-test_head n (Elsewhere k) (negated (fix path shape f g)) h = absurd h
-test_head n (Rows lists) (all_of fs) h = absurd h
-test_head n (Here k) (all_of fs) h = absurd h
-test_head n (Elsewhere k) (all_of fs) h = absurd h
-test_head n (Rows lists) (some_of fs) h = absurd h
-test_head n (Here k) (some_of fs) h = absurd h
-test_head n (Elsewhere k) (some_of fs) h = absurd h
-test_head n (Rows lists) (next path f) h = absurd h
-test_head n (Here k) (next path f) h = absurd h
-test_head n (Elsewhere k) (next path f) h = absurd h
-test_head n (Rows lists) (fix path shape f g) h = absurd h
-test_head n (Here k) (fix path shape f g) h = absurd h
-test_head n (Elsewhere k) (fix path shape f g) h = absurd h
+test_head : (about : CaseSystem) (test : Test) (f : Property) → IsTestOf about.variables test f → IsSaid (states about f) × (parts f ≡ none)
+test_head about test (truth b) h = (tt, refl)
+test_head about test (compare r a b) h = (tt, refl)
+test_head about test (at l) h = (tt, refl)
+test_head about test term h = (tt, refl)
+test_head about test (negated (at l)) h = (tt, refl)
+test_head about test (negated term) h = (tt, refl)
+test_head about (Rows lists) (negated (truth b)) h = absurd h
+test_head about (Here k) (negated (truth b)) h = absurd h
+test_head about (Elsewhere k) (negated (truth b)) h = absurd h
+test_head about (Rows lists) (negated (compare r a b)) h = absurd h
+test_head about (Here k) (negated (compare r a b)) h = absurd h
+test_head about (Elsewhere k) (negated (compare r a b)) h = absurd h
+test_head about (Rows lists) (negated (negated f)) h = absurd h
+test_head about (Here k) (negated (negated f)) h = absurd h
+test_head about (Elsewhere k) (negated (negated f)) h = absurd h
+test_head about (Rows lists) (negated (all_of fs)) h = absurd h
+test_head about (Here k) (negated (all_of fs)) h = absurd h
+test_head about (Elsewhere k) (negated (all_of fs)) h = absurd h
+test_head about (Rows lists) (negated (some_of fs)) h = absurd h
+test_head about (Here k) (negated (some_of fs)) h = absurd h
+test_head about (Elsewhere k) (negated (some_of fs)) h = absurd h
+test_head about (Rows lists) (negated (next path f)) h = absurd h
+test_head about (Here k) (negated (next path f)) h = absurd h
+test_head about (Elsewhere k) (negated (next path f)) h = absurd h
+test_head about (Rows lists) (negated (fix path shape f g)) h = absurd h
+test_head about (Here k) (negated (fix path shape f g)) h = absurd h
+test_head about (Elsewhere k) (negated (fix path shape f g)) h = absurd h
+test_head about (Rows lists) (all_of fs) h = absurd h
+test_head about (Here k) (all_of fs) h = absurd h
+test_head about (Elsewhere k) (all_of fs) h = absurd h
+test_head about (Rows lists) (some_of fs) h = absurd h
+test_head about (Here k) (some_of fs) h = absurd h
+test_head about (Elsewhere k) (some_of fs) h = absurd h
+test_head about (Rows lists) (next path f) h = absurd h
+test_head about (Here k) (next path f) h = absurd h
+test_head about (Elsewhere k) (next path f) h = absurd h
+test_head about (Rows lists) (fix path shape f g) h = absurd h
+test_head about (Here k) (fix path shape f g) h = absurd h
+test_head about (Elsewhere k) (fix path shape f g) h = absurd h
 
 pub atom_part : (about : CaseSystem) (test : Test) (f : Property) (region : Region) (node : Node) (children : List Node) (proofs : List Proof) → IsTestOf about.variables test f → children ≡ [] → AreAllAtoms about test about.locations region.pieces.items proofs → ((ends : Bool) → IsMade about region ends 0 (plain_pieces about.variables region) children proofs node) → IsPart about f region node
 atom_part about test f region node children proofs h empty all made =
-    part_made about f region node 0 plain [] children proofs (made (may_be_done f)) (test_head about.variables test f h).0 (λ e. refl)
-    (subst (λ cs. AreParts about (parts f) [] cs) (sym empty) (subst (λ fs. AreParts about fs [] []) (sym (test_head about.variables test f h).1) tt))
+    part_made about f region node 0 plain [] children proofs (made (may_be_done (states about f))) (test_head about test f h).0 (λ e. refl)
+    (subst (λ cs. AreParts about (parts f) [] cs) (sym empty) (subst (λ fs. AreParts about fs [] []) (sym (test_head about test f h).1) tt))
     (λ number.
     subst (λ os. Offers os proofs) (flat_same (atom_owes about test number) (piece_of number (about_with about) f plain (map pieces_list children)) (λ p. test_owes about test f number plain (map pieces_list children) p h) plain)
     (subst (λ ps. Offers (flat_map (atom_owes about test number) ps) proofs) (sym all.marked) (all.offers number)))

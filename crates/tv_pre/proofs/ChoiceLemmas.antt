@@ -9,6 +9,8 @@ use Rattle.tv_linear.specs.Covers.{Shown, ShownAt}
 use Rattle.tv_linear.specs.ChoiceDepth.{choice_splits}
 use Rattle.tv_linear.specs.declared.choice.ChoiceTree.{ChoiceTree, Split', Empty, NoStep, Take}
 use Rattle.tv_linear.specs.declared.region.Piece.{Piece}
+use Rattle.tv_linear.specs.Same.{OwedSame}
+use Rattle.tv_linear.proofs.SameLemmas.{all_same, same_append, shown_same}
 use Rattle.tv_farkas.proofs.SideLemmas.{given_sides}
 use Rattle.tv_cases.specs.LinearCases.{LinearCase, CaseSystem}
 use Rattle.tv_cert.specs.declared.node.Marked.{Marked}
@@ -23,7 +25,6 @@ use Rattle.tv_shape.specs.Narrow.{ChoiceNarrow}
 use Rattle.tv_choice.specs.Choosing.{AreKnownAs}
 use Rattle.tv_choice.specs.Leading.{Query, piece_rows, region_owes, state, IsHole}
 use Rattle.tv_choice.specs.Leading as leading
-use Rattle.tv_lexrank.proofs.SameLemmas.{OwedSame, all_same, same_append, shown_same}
 use Rattle.tv_pre.specs.Pieces.{AreMarked}
 use Rattle.tv_pre.specs.Inclusions.{Chooses}
 use Rattle.tv_pre.specs.Offers.{ShowsChoice}

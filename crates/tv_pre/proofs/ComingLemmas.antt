@@ -8,6 +8,7 @@ use Rattle.tv_linear.specs.Known.{Known, as_given}
 use Rattle.tv_linear.specs.declared.choice.ChoiceTree.{ChoiceTree}
 use Rattle.tv_linear.specs.declared.region.Piece.{Piece}
 use Rattle.tv_linear.specs.declared.region.Region.{Region}
+use Rattle.tv_linear.specs.Same.{OwedSame}
 use Rattle.tv_cases.specs.LinearCases.{LinearCase, CaseSystem, AreCases}
 use Rattle.tv_cert.specs.declared.node.Kind.TheVariants as kind
 use Rattle.tv_cert.specs.declared.node.Mark.TheVariants.{Go}
@@ -21,7 +22,6 @@ use Rattle.tv_known.specs.Rounds.{Goes}
 use Rattle.tv_region.specs.Met.{some_met}
 use Rattle.tv_region.specs.Regions.{IsPieceOf, IsRegion, lists_at}
 use Rattle.tv_region.proofs.AlgebraLemmas.{in_state}
-use Rattle.tv_lexrank.proofs.SameLemmas.{OwedSame}
 use Rattle.tv_pre.specs.Growing.{IsEverywhere}
 use Rattle.tv_pre.specs.Inclusions.{Chooses}
 use Rattle.tv_pre.specs.Offers.{ShowsChoice, ShowsSuccessor}

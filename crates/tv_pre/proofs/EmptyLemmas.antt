@@ -11,7 +11,7 @@ use Rattle.tv_cert.specs.Claims.{about_with}
 use Rattle.tv_cert.specs.Listed.{pieces_list}
 use Rattle.tv_cert.specs.Nodes.{own_of}
 use Rattle.tv_rounds.specs.Calls.{IsNowhere}
-use Rattle.tv_pre.specs.Offers.{Offers}
+use Rattle.tv_shape.specs.Made.{Offers}
 use Rattle.tv_pre.specs.Making.{IsMade, plain_pieces}
 use Rattle.tv_pre.specs.Parts.{IsPart, AreParts}
 use Rattle.tv_pre.specs.Pieces.{marked_as}

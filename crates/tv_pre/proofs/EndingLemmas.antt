@@ -1,4 +1,5 @@
 -- Nodes of termination that grow by rounds.
+use Rattle.tv_shape.specs.Made.{Offers}
 use Rattle.std.proofs.Common.{◌≡◌, inr, ℕ, suc, List, [], ◌∷◌, ◌++◌, map, All, refl, sym, ap, ◌∙◌, subst, pos, Vec, false}
 use Rattle.std.specs.Global.{Global}
 use Rattle.std.specs.List.{flat_map}
@@ -22,7 +23,7 @@ use Rattle.tv_pre.specs.declared.growing.Grown.{Grown}
 use Rattle.tv_pre.specs.Ending.{AreEndLayers, AsksEndLayers, IsEnding, end_owes}
 use Rattle.tv_pre.specs.Growing.{HasLayer}
 use Rattle.tv_pre.specs.Making.{IsMade}
-use Rattle.tv_pre.specs.Offers.{Offers, Adds}
+use Rattle.tv_pre.specs.Offers.{Adds}
 use Rattle.tv_pre.specs.Parts.{IsPart, joined_pieces}
 use Rattle.tv_pre.specs.Pieces.{AreMarked, marked_as}
 use Rattle.tv_pre.specs.Questions.{Question}

@@ -9,13 +9,14 @@ use Rattle.tv_linear.specs.Fits.{IsHeld}
 use Rattle.tv_linear.specs.Known.{Term, term_number, Known, given, composed, less, place_sum, known_number, KnownHeld, PlacesHeld}
 use Rattle.tv_linear.specs.Terms.{terms_after, draw_terms}
 use Rattle.tv_linear.proofs.PlainLists.{get_or-zeros}
+use Rattle.tv_linear.specs.Same.{AreSame, OwedSame}
+use Rattle.tv_linear.proofs.SameLemmas.{all_same, same_self}
 use Rattle.tv_cases.specs.LinearCases.{LinearCase}
 use Rattle.tv_cert.specs.declared.node.Marked.{Marked}
 use Rattle.tv_cert.specs.Choices.{drawn_change}
 use Rattle.tv_cert.specs.Obligations.{case_change}
 use Rattle.tv_cert.specs.Pieces.{place_of, rows_of, ranks_of, goes, pieces_at}
 use Rattle.tv_cert.specs.Targets.{owed_into, target_rows, no_fall, fall_from}
-use Rattle.tv_lexrank.proofs.SameLemmas.{AreSame, OwedSame, all_same, same_self}
 use Rattle.tv_pre.specs.Ranked.{EachOf, IsRankBelow}
 
 -- a row that every point over n columns meets: its number in each is 0, and its constant is at most 0

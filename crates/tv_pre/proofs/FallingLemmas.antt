@@ -15,6 +15,7 @@ use Rattle.tv_linear.specs.declared.cover.CoverTree as cover
 use Rattle.tv_linear.specs.declared.choice.ChoiceTree.{ChoiceTree}
 use Rattle.tv_linear.specs.declared.choice.ChoiceTree as choice
 use Rattle.tv_linear.specs.declared.region.Piece.{Piece}
+use Rattle.tv_linear.proofs.SameLemmas.{all_same, same_append}
 use Rattle.tv_farkas.specs.Trees.{TreeRows}
 use Rattle.tv_cases.specs.LinearCases.{LinearCase, CaseSystem}
 use Rattle.tv_cert.specs.declared.node.Kind.TheVariants as kind
@@ -28,13 +29,13 @@ use Rattle.tv_cert.specs.Pieces.{place_of, rows_of, ranks_of, pieces_at}
 use Rattle.tv_cert.specs.Shapes.{CoverShape, ChoiceShape, TakeShape}
 use Rattle.tv_cert.specs.Targets.{owed_into, no_fall, fall_from}
 use Rattle.tv_shape.specs.Narrow.{AreNarrow, CountNarrow, RowNarrow, ChoiceNarrow}
+use Rattle.tv_shape.specs.Made.{IsOffered}
 use Rattle.tv_choice.specs.Leading.{piece_rows}
 use Rattle.tv_choice.specs.Leading as leading
 use Rattle.tv_lexrank.specs.Falling.{AllHeld}
 use Rattle.tv_lexrank.proofs.FallLemmas.{all_back}
 use Rattle.tv_lexrank.proofs.OfferLemmas.{met_shape}
-use Rattle.tv_lexrank.proofs.SameLemmas.{all_same, same_append}
-use Rattle.tv_pre.specs.Offers.{IsOffered, ShowsStep, ShowsChoice}
+use Rattle.tv_pre.specs.Offers.{ShowsStep, ShowsChoice}
 use Rattle.tv_pre.specs.Pieces.{AreMarked, marked_as}
 use Rattle.tv_pre.specs.Ranked.{IsFallingEntry, IsFallingCover, first_past, IsFallingChoice, NeverStops, ShowsFallingStep, ShowsFallingChoice}
 use Rattle.tv_pre.proofs.ChoiceLemmas.{Owing, guards_before, lists_shape, lists_filtered}

@@ -18,12 +18,12 @@ use Rattle.tv_cert.specs.Obligations.{Obligation, fix_of, first_of, second_of}
 use Rattle.tv_cert.specs.Pieces.{goes, is_go}
 use Rattle.tv_cert.specs.Shapes.{may_rank}
 use Rattle.tv_pre.specs.Pieces.{AreMarked, marked_as}
-use Rattle.tv_pre.specs.Offers.{Offers}
+use Rattle.tv_shape.specs.Made.{Offers}
 use Rattle.tv_pre.specs.Parts.{IsPart, AreParts}
 use Rattle.tv_pre.specs.Making.{IsMade}
 use Rattle.tv_pre.specs.Around.{AreKids}
 use Rattle.tv_pre.proofs.AddLemmas.{flat_append}
-use Rattle.tv_pre.proofs.NodeLemmas.{part_made, are_kids}
+use Rattle.tv_pre.proofs.NodeLemmas.{states, part_made, are_kids}
 use Rattle.tv_pre.proofs.ShapeLemmas.{first_marked, second_marked}
 
 -- each of the pieces has the mark
@@ -48,7 +48,7 @@ two_marks : (F : Bool → Marked → List Obligation) (ps qs : List Marked) → 
 two_marks F ps qs d o = flat_append (λ p. F (goes p) p) ps qs ∙ (λ i. flat_each false F ps d i ++ flat_each true F qs o i)
 
 pub fixed_part : (about : CaseSystem) (path : Path) (shape : Shape) (f g : Property) (region : Region) (node : Node) (m : ℕ) (ps qs : List Marked) (first second : Region) (nodes : List Node) (proofs : List Proof) →
-    IsMade about region true m (ps ++ qs) nodes proofs node → (may_rank (fix path shape f g) ≡ false → m ≡ 0) → EachGoes false ps → EachGoes true qs →
+    IsMade about region true m (ps ++ qs) nodes proofs node → (may_rank (states about (fix path shape f g)) ≡ false → m ≡ 0) → EachGoes false ps → EachGoes true qs →
     AreParts about (more f (more g none)) (first ∷ second ∷ []) nodes →
     ((number : ℕ) (a b : List Marked) → AreMarked a first.pieces.items → AreMarked b second.pieces.items →
     Offers (flat_map (λ p. fix_of number (about_with about) path shape (ps ++ qs) a b p false) ps ++ flat_map (λ p. fix_of number (about_with about) path shape (ps ++ qs) a b p true) qs) proofs) →

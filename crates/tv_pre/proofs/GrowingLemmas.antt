@@ -1,4 +1,5 @@
 -- Nodes that grow by rounds.
+use Rattle.tv_shape.specs.Made.{Offers}
 use Rattle.std.proofs.Common.{◌≡◌, inr, ℕ, suc, ◌<◌, List, [], ◌∷◌, ◌++◌, map, length, drop, get_or, All, Bool, true, false, not, ◌==◌, arith, refl, sym, ap, ◌∙◌, subst, ℤ, pos, ◌+ℤ◌, ◌≤ℤ◌}
 use Rattle.std.proofs.lemmas.Bool.Decides.{nat_tests}
 use Rattle.std.proofs.lemmas.Int.{ints}
@@ -23,6 +24,7 @@ use Rattle.tv_cert.specs.declared.node.Node.{Node}
 use Rattle.tv_cert.specs.Claims.{about_with}
 use Rattle.tv_cert.specs.Obligations.{Obligation, cover_of, hold_side, fix_of}
 use Rattle.tv_cert.specs.Pieces.{goes}
+use Rattle.tv_cert.specs.Statements.{Statement, along}
 use Rattle.tv_cert.specs.Shapes.{PieceShape, may_rank}
 use Rattle.tv_known.specs.Rounds.{must_end}
 use Rattle.tv_region.specs.Regions.{IsPieceOf, IsRegion}
@@ -31,7 +33,7 @@ use Rattle.tv_pre.specs.declared.sides.Sides.{Sides}
 use Rattle.tv_pre.specs.Fixed.{fixed_owes}
 use Rattle.tv_pre.specs.Growing.{come_of, IsGrown, AreNextLayers, AsksLayers}
 use Rattle.tv_pre.specs.Making.{ArePiecesOf, IsMade}
-use Rattle.tv_pre.specs.Offers.{Offers, Adds}
+use Rattle.tv_pre.specs.Offers.{Adds}
 use Rattle.tv_pre.specs.Parts.{IsPart, AreParts, joined_pieces}
 use Rattle.tv_pre.specs.Pieces.{AreMarked, marked_as}
 use Rattle.tv_pre.specs.Questions.{Question}
@@ -228,11 +230,11 @@ left_next about sides first all earlier next layer left h e = subst (λ qs. AreL
 })
 
 -- ---- the part
-pub ranks_may : (path : Path) (shape : Shape) (f g : Property) (m : ℕ) → must_end shape ≡ true → may_rank (fix path shape f g) ≡ false → m ≡ 0
-ranks_may path Until f g m e h = absurd (let no : ⊥ = cc in no)
-ranks_may path Strong f g m e h = absurd (let no : ⊥ = cc in no)
-ranks_may path Weak f g m e h = absurd (let no : ⊥ = cc in no)
-ranks_may path Release f g m e h = absurd (let no : ⊥ = cc in no)
+pub ranks_may : (path : Path) (shape : Shape) (s t : Statement) (m : ℕ) → must_end shape ≡ true → may_rank (along path shape s t) ≡ false → m ≡ 0
+ranks_may path Until s t m e h = absurd (let no : ⊥ = cc in no)
+ranks_may path Strong s t m e h = absurd (let no : ⊥ = cc in no)
+ranks_may path Weak s t m e h = absurd (let no : ⊥ = cc in no)
+ranks_may path Release s t m e h = absurd (let no : ⊥ = cc in no)
 
 pub grown_pieces : (about : CaseSystem) (sides : Sides) (grown : Grown) → IsGrown about sides grown → ArePiecesOf about grown.region true 1 grown.pieces.items
 grown_pieces about sides grown g = record { same = g.same; shape = g.shape }
@@ -246,7 +248,7 @@ grown_part about sides grown node nodes f g is ends made below =
     let dones : List Marked = map (marked_as n Done []) is.done in
     fixed_part about sides.path sides.shape f g grown.region node 1 dones is.ranked sides.first.now sides.second.now nodes grown.proofs.items
     (subst (λ ps. IsMade about grown.region true 1 ps nodes grown.proofs.items node) is.parts made)
-    (ranks_may sides.path sides.shape f g 1 ends) (each_goes n Done [] is.done) (all_go n (pos (suc grown.round)) is.ranked is.below) below
+    (ranks_may sides.path sides.shape (states about f) (states about g) 1 ends) (each_goes n Done [] is.done) (all_go n (pos (suc grown.round)) is.ranked is.below) below
     (λ number a b x y.
     subst (λ ps. Offers (flat_map (fixed_owes about sides number ps a b false) dones ++ flat_map (fixed_owes about sides number ps a b true) is.ranked) grown.proofs.items)
     (append-nil grown.pieces.items ∙ is.parts) (is.offers number a b [] x y))

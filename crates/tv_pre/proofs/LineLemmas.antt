@@ -4,7 +4,6 @@ use Rattle.std.specs.Option.{option_map}
 use Rattle.std.proofs.lemmas.Int.{ints}
 use Rattle.std.proofs.lemmas.List.{length-map, append_assoc}
 use Rattle.std.proofs.lemmas.List.Elements.{All-nil, All-cons, All-head, All-tail, All-append}
-use Rattle.tv_farkas.proofs.SideLemmas.{as_given-append}
 use Rattle.tv_linear.specs.Linear.{Linear, columns, dot, IsNarrow, IsWithin}
 use Rattle.tv_linear.specs.Arithmetic.{zeros}
 use Rattle.tv_linear.specs.Fits.{IsHeld}
@@ -15,6 +14,7 @@ use Rattle.tv_linear.specs.Depth.{splits}
 use Rattle.tv_linear.specs.declared.cover.CoverTree.{CoverTree}
 use Rattle.tv_linear.specs.declared.cover.CoverTree as cover
 use Rattle.tv_linear.proofs.PlainLists.{length-zeros, zeros-narrow}
+use Rattle.tv_linear.proofs.KnownLemmas.{as_given-append}
 use Rattle.tv_farkas.specs.Trees.{TreeRows}
 use Rattle.tv_cases.specs.LinearCases.{CaseSystem}
 use Rattle.tv_cert.specs.declared.node.Proof.TheVariants.{Covered}
@@ -22,9 +22,9 @@ use Rattle.tv_cert.specs.Claims.{about_with}
 use Rattle.tv_cert.specs.Obligations.{atom_of}
 use Rattle.tv_cert.specs.Targets.{owed_lists}
 use Rattle.tv_shape.specs.Narrow.{AreNarrow, CountNarrow, CoverNarrow}
+use Rattle.tv_shape.specs.Made.{IsOffered}
 use Rattle.tv_lexrank.proofs.FallLemmas.{all_back}
 use Rattle.tv_lexrank.proofs.OfferLemmas.{met_shape}
-use Rattle.tv_pre.specs.Offers.{IsOffered}
 use Rattle.tv_pre.specs.Atoms.{atom_piece, own_line, own_lines, IsOwnCover}
 
 -- ---- multipliers 0 for the first rows

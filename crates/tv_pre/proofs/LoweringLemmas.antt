@@ -25,6 +25,7 @@ use Rattle.tv_cert.specs.Obligations.{step_of, step_fall, case_change}
 use Rattle.tv_cert.specs.Pieces.{place_of, rows_of, ranks_of, goes, pieces_at}
 use Rattle.tv_cert.specs.Targets.{owed_into, target_rows, no_fall, fall_from}
 use Rattle.tv_shape.specs.Narrow.{AreNarrow, CountNarrow, RowNarrow, CoverNarrow}
+use Rattle.tv_shape.specs.Made.{IsOffered}
 use Rattle.tv_rank.specs.Given.{lists}
 use Rattle.tv_choice.specs.Leading.{piece_rows}
 use Rattle.tv_lexrank.specs.declared.falling.Fall.{Fall}
@@ -33,7 +34,7 @@ use Rattle.tv_lexrank.specs.Shown.{ranks_there}
 use Rattle.tv_lexrank.proofs.FallLemmas.{all_back, spreads_narrow}
 use Rattle.tv_lexrank.proofs.OfferLemmas.{met_shape}
 use Rattle.tv_lexrank.proofs.PadLemmas.{spread_shown}
-use Rattle.tv_pre.specs.Offers.{IsOffered, ShowsStep}
+use Rattle.tv_pre.specs.Offers.{ShowsStep}
 use Rattle.tv_pre.specs.Pieces.{marked_as}
 use Rattle.tv_pre.specs.Ranked.{EachOf}
 use Rattle.tv_pre.specs.Lowering.{IsOwedWith, IsLowered, IsRankedAs, ShowsRankedStep, FallsFrom}

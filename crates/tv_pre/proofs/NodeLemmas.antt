@@ -15,53 +15,22 @@ use Rattle.tv_cert.specs.Claims.{about_with}
 use Rattle.tv_cert.specs.Listed.{pieces_list}
 use Rattle.tv_cert.specs.Nodes.{parts, kid_pieces, kid_entries, size, own_of}
 use Rattle.tv_cert.specs.Obligations.{Entry, Obligation, Owed, a_cover, a_choice, a_point, AllMet, paired}
-use Rattle.tv_cert.specs.Shapes.{ProofShape, OwnShape, HaveShapes, IsNormalHead, may_rank, may_be_done}
-use Rattle.tv_cert.proofs.StatedLemmas.{entries_are}
+use Rattle.tv_cert.specs.Statements.{Statement, stated}
+use Rattle.tv_cert.specs.Shapes.{ProofShape, OwnShape, KidsShape, HaveShapes, IsSaid, may_rank, may_be_done}
+use Rattle.tv_cert.proofs.StatedLemmas.{parts-stated, entries_are}
 use Rattle.tv_cert.proofs.NodeLemmas.{out_is, pieces_are, kid_pieces_are}
 use Rattle.tv_shape.specs.Depths.{proof_splits}
 use Rattle.tv_shape.specs.Fitting.{KidsNarrow, KidsGoWithin}
 use Rattle.tv_shape.specs.Narrow.{PieceNarrow, ProofNarrow}
+use Rattle.tv_shape.proofs.MadeLemmas.{both_met, all_met, all_shaped, all_narrow, all_shallow}
+use Rattle.tv_shape.specs.Made.{Offers}
 use Rattle.tv_pre.specs.Pieces.{AreMarked}
-use Rattle.tv_pre.specs.Offers.{Offers}
 use Rattle.tv_pre.specs.Parts.{IsPart, AreParts}
 use Rattle.tv_pre.specs.Around.{AreKids}
 use Rattle.tv_pre.specs.Making.{IsMade}
 
--- ---- own proofs
-pub shape_shallow : (o : Owed) (p : Proof) → ProofShape o p → proof_splits p ≤ 128
-shape_shallow (a_cover n known owed) (Covered tree) h = h.1
-shape_shallow (a_cover n known owed) (Chosen tree) h = absurd h
-shape_shallow (a_choice n cases l stop owed known) (Covered tree) h = absurd h
-shape_shallow (a_choice n cases l stop owed known) (Chosen tree) h = h.1
-shape_shallow (a_point xs rows) p h = absurd h
-
-all_met : (os : List Obligation) (proofs : List Proof) → Offers os proofs → AllMet (paired os proofs)
-all_met [] proofs h = tt
-all_met (o ∷ os) [] h = absurd h
-all_met (o ∷ os) (p ∷ proofs) h = (h.0.met, all_met os proofs h.1)
-
-all_shaped : (os : List Obligation) (proofs : List Proof) → Offers os proofs → AllZip (λ o p. ProofShape o.owed p) os proofs
-all_shaped [] [] h = tt
-all_shaped [] (p ∷ proofs) h = absurd h
-all_shaped (o ∷ os) [] h = absurd h
-all_shaped (o ∷ os) (p ∷ proofs) h = (h.0.shape, all_shaped os proofs h.1)
-
-all_narrow : (os : List Obligation) (proofs : List Proof) → Offers os proofs → All ProofNarrow proofs
-all_narrow [] [] h = All-nil ProofNarrow
-all_narrow [] (p ∷ proofs) h = absurd h
-all_narrow (o ∷ os) [] h = absurd h
-all_narrow (o ∷ os) (p ∷ proofs) h = All-cons ProofNarrow p proofs h.0.narrow (all_narrow os proofs h.1)
-
-all_within : (depth : ℕ) (os : List Obligation) (proofs : List Proof) → depth ≤ 256 → Offers os proofs → All (λ p. depth + proof_splits p ≤ 384) proofs
-all_within depth [] [] d h = All-nil (λ p. depth + proof_splits p ≤ 384)
-all_within depth [] (p ∷ proofs) d h = absurd h
-all_within depth (o ∷ os) [] d h = absurd h
-all_within depth (o ∷ os) (p ∷ proofs) d h = All-cons (λ p. depth + proof_splits p ≤ 384) p proofs (let f = shape_shallow o.owed p h.0.shape in omega (arith, f, d)) (all_within depth os proofs d h.1)
 
 -- ---- children
-met_append : (es fs : List Entry) → AllMet es → AllMet fs → AllMet (es ++ fs)
-met_append [] fs h g = g
-met_append (e ∷ es) fs h g = (h.0, met_append es fs h.1 g)
 
 kids_shape : {k : _} (about : CaseSystem) (fs : Properties) (regions : List Region) (row : Row_of-Node k) → AreParts about fs regions (items-the_row-Node k row) → HaveShapes (about_with about) fs row
 kids_shape about none [] end_of-Node h = tt
@@ -102,7 +71,7 @@ kids_met about number none [] (more_of-Node a row) h = absurd h
 kids_met about number none (r ∷ regions) row h = absurd h
 kids_met about number (more f fs) [] row h = absurd h
 kids_met about number (more f fs) (r ∷ regions) end_of-Node h = absurd h
-kids_met about number (more f fs) (r ∷ regions) (more_of-Node a row) h = met_append _ _ (h.0.shows.met number) (kids_met about (number + size a) fs regions row h.1)
+kids_met about number (more f fs) (r ∷ regions) (more_of-Node a row) h = both_met _ _ (h.0.shows.met number) (kids_met about (number + size a) fs regions row h.1)
 
 no_kids_within : {k : _} (about : CaseSystem) (depth : ℕ) (fs : Properties) (regions : List Region) (row : Row_of-Node k) → fs ≡ none → AreParts about fs regions (items-the_row-Node k row) → KidsGoWithin depth row
 no_kids_within about depth none [] end_of-Node e h = tt
@@ -131,10 +100,14 @@ deeper (next path f) = inr (omega arith)
 deeper (fix path shape f g) = inr (omega arith)
 
 -- ---- the node
-pub part_made : (about : CaseSystem) (f : Property) (region : Region) (node : Node) (m : ℕ) (pieces : List Marked) (regions : List Region) (kids : List Node) (proofs : List Proof) → IsMade about region (may_be_done f) m pieces kids proofs node → IsNormalHead f → (may_rank f ≡ false → m ≡ 0) → AreParts about (parts f) regions kids → ((number : ℕ) → Offers (own_of number (about_with about) f pieces (map pieces_list kids)) proofs) → IsPart about f region node
-part_made about f region (Node' ps m' shape row list) m pieces regions kids proofs made normal ranked below offers = record {
+-- what a node of the formula is to show
+abbrev pub states : CaseSystem → Property → Statement
+states about f = stated (about_with about).tests f
+
+pub part_made : (about : CaseSystem) (f : Property) (region : Region) (node : Node) (m : ℕ) (pieces : List Marked) (regions : List Region) (kids : List Node) (proofs : List Proof) → IsMade about region (may_be_done (states about f)) m pieces kids proofs node → IsSaid (states about f) → (may_rank (states about f) ≡ false → m ≡ 0) → AreParts about (parts f) regions kids → ((number : ℕ) → Offers (own_of number (about_with about) f pieces (map pieces_list kids)) proofs) → IsPart about f region node
+part_made about f region (Node' ps m' shape row list) m pieces regions kids proofs made said ranked below offers = record {
   shows = record {
-    shape = (own_shape, kids_shape about (parts f) regions row row_parts);
+    shape = (own_shape, subst (λ ss. KidsShape about ss row) (sym (parts-stated (about_with about) f)) (kids_shape about (parts f) regions row row_parts));
     narrow = (
       record {
         count = (let e = ap length pieces_same in let few = made.few in omega (arith, e, few));
@@ -146,11 +119,11 @@ part_made about f region (Node' ps m' shape row list) m pieces regions kids proo
     );
     within = λ depth d. (
       omega (arith, d),
-      subst (All (λ p. depth + proof_splits p ≤ 384)) (sym proofs_same) (all_within depth (own_of 0 (about_with about) f pieces (map pieces_list kids)) proofs (omega (arith, d)) (offers 0)),
+      subst (All (λ p. depth + proof_splits p ≤ 384)) (sym proofs_same) (all_shallow depth (own_of 0 (about_with about) f pieces (map pieces_list kids)) proofs (omega (arith, d)) (offers 0)),
       kids_at depth d,
     );
     met = λ number. subst AllMet (sym (entries_are number (about_with about) f ps m' shape row list))
-        (met_append _ _ (kids_met about (number + 1) (parts f) regions row row_parts) (subst AllMet (sym (own_are number)) (all_met (own_of number (about_with about) f pieces (map pieces_list kids)) proofs (offers number))));
+        (both_met _ _ (kids_met about (number + 1) (parts f) regions row row_parts) (subst AllMet (sym (own_are number)) (all_met (own_of number (about_with about) f pieces (map pieces_list kids)) proofs (offers number))));
   };
   pieces = subst (λ qs. AreMarked qs region.pieces.items) (sym pieces_same) made.are.same;
 }
@@ -182,17 +155,17 @@ part_made about f region (Node' ps m' shape row list) m pieces regions kids proo
       | inr l ↦ kids_within about (depth + 1) (parts f) regions row (omega (arith, d, l)) row_parts
     ]
 
-    plain : OwnShape (about_with about) f m pieces (map pieces_list kids) proofs
+    plain : OwnShape about (states about f) m pieces (map pieces_list kids) proofs
     plain = record {
-      normal = normal;
+      said = said;
       ranked = ranked;
       small = made.small;
       each = made.are.shape;
       offered = all_shaped (own_of 0 (about_with about) f pieces (map pieces_list kids)) proofs (offers 0);
     }
 
-    own_shape : OwnShape (about_with about) f m' ps (kid_pieces row) list.items
-    own_shape = subst (λ z. OwnShape (about_with about) f z ps (kid_pieces row) list.items) (sym ranks_same)
-        (subst (λ z. OwnShape (about_with about) f m z (kid_pieces row) list.items) (sym pieces_same)
-        (subst (λ z. OwnShape (about_with about) f m pieces z list.items) (sym lists_same)
-        (subst (λ z. OwnShape (about_with about) f m pieces (map pieces_list kids) z) (sym proofs_same) plain)))
+    own_shape : OwnShape about (states about f) m' ps (kid_pieces row) list.items
+    own_shape = subst (λ z. OwnShape about (states about f) z ps (kid_pieces row) list.items) (sym ranks_same)
+        (subst (λ z. OwnShape about (states about f) m z (kid_pieces row) list.items) (sym pieces_same)
+        (subst (λ z. OwnShape about (states about f) m pieces z list.items) (sym lists_same)
+        (subst (λ z. OwnShape about (states about f) m pieces (map pieces_list kids) z) (sym proofs_same) plain)))

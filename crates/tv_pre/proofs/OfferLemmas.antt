@@ -9,6 +9,8 @@ use Rattle.tv_linear.specs.Depth.{splits}
 use Rattle.tv_linear.specs.declared.cover.CoverTree.{CoverTree}
 use Rattle.tv_linear.specs.declared.cover.CoverTree as cover
 use Rattle.tv_linear.specs.declared.region.Piece.{Piece}
+use Rattle.tv_linear.specs.Same.{AreSame, OwedSame}
+use Rattle.tv_linear.proofs.SameLemmas.{same_self, all_same, cover_same}
 use Rattle.tv_farkas.specs.Trees.{TreeRows}
 use Rattle.tv_cases.specs.LinearCases.{CaseSystem}
 use Rattle.tv_cert.specs.declared.node.Marked.{Marked}
@@ -20,7 +22,6 @@ use Rattle.tv_region.specs.Regions.{lists_at}
 use Rattle.tv_shape.specs.Narrow.{CoverNarrow}
 use Rattle.tv_choice.specs.Leading.{piece_rows}
 use Rattle.tv_lexrank.proofs.OfferLemmas.{met_shape}
-use Rattle.tv_lexrank.proofs.SameLemmas.{AreSame, OwedSame, same_self, all_same, cover_same}
 use Rattle.tv_pre.specs.Pieces.{AreMarked}
 use Rattle.tv_pre.specs.Offers.{ShowsInside}
 
@@ -82,9 +83,3 @@ outside_not xs rows o h = o.2 (All-contains (IsMet xs) rows o.0 h o.1)
 
 pub no_hole : (n : ℕ) (lists : List (List Linear)) (rows : List Linear) (xs : List ℤ) → IsInTarget lists xs → IsHole n lists rows xs → ⊥
 no_hole n lists rows xs i h = outside_not xs i.rows (All-contains (IsOutside xs) lists i.rows h.outside i.target) i.met
-
--- the split rows of a cover have its columns
-pub rows_even : (n : ℕ) (lists : List (List Linear)) (tree : CoverTree) → TreeRows (IsSplitRow n lists) tree → TreeRows (λ r. columns r ≡ n) tree
-rows_even n lists (cover.Split' r p a q b) h = (h.0.even, rows_even n lists a h.1, rows_even n lists b h.2)
-rows_even n lists (cover.Empty ms) h = tt
-rows_even n lists (cover.Into target fall ls) h = tt

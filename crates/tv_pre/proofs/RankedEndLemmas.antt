@@ -21,6 +21,7 @@ use Rattle.tv_cert.specs.Shapes.{ProofShape, HasShape, HaveShapes}
 use Rattle.tv_cert.proofs.NodeLemmas.{pieces_are}
 use Rattle.tv_shape.specs.Depths.{proof_splits}
 use Rattle.tv_shape.specs.Fitting.{GoesWithin, KidsGoWithin}
+use Rattle.tv_shape.proofs.MadeLemmas.{shape_shallow, shapes_shallow}
 use Rattle.tv_region.specs.Regions.{IsPieceOf, IsRegion}
 use Rattle.tv_lexrank.specs.Nodes.{IsPieceAt, IsRankedNode}
 use Rattle.tv_pre.specs.Growing.{IsEverywhere}
@@ -28,7 +29,6 @@ use Rattle.tv_pre.specs.Parts.{IsPart}
 use Rattle.tv_pre.specs.Pieces.{ArePieces, IsMarked, AreMarked}
 use Rattle.tv_pre.specs.Ranked.{EachOf}
 use Rattle.tv_pre.proofs.ComingLemmas.{everywhere_is}
-use Rattle.tv_pre.proofs.NodeLemmas.{shape_shallow}
 use Rattle.tv_pre.proofs.AddLemmas.{take_whole}
 use Rattle.tv_pre.proofs.OfferLemmas.{lists_marked}
 use Rattle.tv_pre.proofs.PieceLemmas.{marked_append}
@@ -117,17 +117,10 @@ no_kids_within : {k : _} (about : About) (depth : ℕ) (kids : Row_of-Node k) �
 no_kids_within about depth end_of-Node h = tt
 no_kids_within about depth (more_of-Node a kids) h = absurd h
 
-shaped_within : (depth : ℕ) (os : List Obligation) (proofs : List Proof) → depth ≤ 256 → AllZip (λ o p. ProofShape o.owed p) os proofs → All (λ p. depth + proof_splits p ≤ 384) proofs
-shaped_within depth [] [] d h = All-nil (λ p. depth + proof_splits p ≤ 384)
-shaped_within depth [] (p ∷ proofs) d h = absurd h
-shaped_within depth (o ∷ os) [] d h = absurd h
-shaped_within depth (o ∷ os) (p ∷ proofs) d h =
-    All-cons (λ p. depth + proof_splits p ≤ 384) p proofs (let f = shape_shallow o.owed p h.0 in omega (arith, f, d)) (shaped_within depth os proofs d h.1)
-
 term_within : (about : CaseSystem) (node : Node) (depth : ℕ) → HasShape (about_with about) term node → depth ≤ 256 → GoesWithin depth node
 term_within about (Node' ps m shape kids proofs) depth h d = (
   omega (arith, d),
-  shaped_within depth _ proofs.items d h.0.offered,
+  shapes_shallow depth _ proofs.items d h.0.offered,
   no_kids_within (about_with about) (depth + 1) kids h.1,
 )
 

@@ -12,7 +12,7 @@ use Rattle.tv_cert.specs.Claims.{about_with}
 use Rattle.tv_cert.specs.Obligations.{first_of, second_of}
 use Rattle.tv_cert.specs.Nodes.{piece_of}
 use Rattle.tv_pre.specs.Pieces.{AreMarked}
-use Rattle.tv_pre.specs.Offers.{Offers}
+use Rattle.tv_shape.specs.Made.{Offers}
 use Rattle.tv_pre.specs.Around.{AreKids, next_of}
 
 pub flat_same : {A B : Type 0} (f g : A → List B) → ((x : A) → f x ≡ g x) → (xs : List A) → flat_map f xs ≡ flat_map g xs

@@ -14,11 +14,11 @@ use Rattle.tv_linear.specs.Depth.{splits}
 use Rattle.tv_linear.specs.declared.cover.CoverTree.{CoverTree}
 use Rattle.tv_linear.specs.declared.cover.CoverTree as cover
 use Rattle.tv_linear.proofs.PlainLists.{length-zeros, zeros-narrow}
+use Rattle.tv_linear.proofs.SameLemmas.{all_same, shown_same}
 use Rattle.tv_farkas.specs.Trees.{TreeRows}
 use Rattle.tv_shape.specs.Narrow.{AreNarrow, CountNarrow, RowNarrow, CoverNarrow}
 use Rattle.tv_lexrank.specs.Falling.{AllHeld}
 use Rattle.tv_lexrank.proofs.FallLemmas.{all_back}
-use Rattle.tv_lexrank.proofs.SameLemmas.{all_same, shown_same}
 use Rattle.tv_pre.specs.Ranked.{last_line, IsFallingEntry, IsFallingCover}
 use Rattle.tv_pre.proofs.ChoiceLemmas.{at_same}
 use Rattle.tv_pre.proofs.FallLemmas.{IsAlways, WithFalls, FallsOwed}

@@ -35,6 +35,7 @@ use Rattle.tv_cert.specs.Shapes.{CoverShape}
 use Rattle.tv_cert.specs.Targets.{owed_into, no_fall}
 use Rattle.tv_shape.specs.Certificates.{IsOf, IsSettling}
 use Rattle.tv_shape.specs.declared.certificate.Certificate.{Certificate}
+use Rattle.tv_shape.specs.Made.{IsFitted, IsOffered}
 use Rattle.tv_cover.specs.declared.covered.Covered.{Covered}
 use Rattle.tv_cover.specs.declared.covered.Covered.TheVariants.{Tree, Hole}
 use Rattle.tv_cover.specs.Covering.{IsHole}
@@ -43,10 +44,10 @@ use Rattle.tv_region.specs.Regions.{lists_at}
 use Rattle.tv_region.proofs.RegionLemmas.{is_same, lists_at-here, lists_at-there}
 use Rattle.tv_choice.specs.Leading.{piece_rows}
 use Rattle.tv_lexrank.specs.Certified.{IsRoot, IsProofOf, SaysProved}
-use Rattle.tv_points.specs.Nodes.{IsFitted, IsDisproof, SaysDisproved}
+use Rattle.tv_points.specs.Nodes.{IsDisproof, SaysDisproved}
 use Rattle.tv_points.specs.Nodes as points
 use Rattle.tv_pre.specs.Pieces.{AreMarked, marked_as}
-use Rattle.tv_pre.specs.Offers.{ShowsInside, IsOffered}
+use Rattle.tv_pre.specs.Offers.{ShowsInside}
 use Rattle.tv_pre.specs.Parts.{IsPart}
 use Rattle.tv_pre.specs.Starting.{IsStart, IsInside, HasNoStart, CoversOrLeaves, StartAnswer}
 use Rattle.tv_pre.specs.declared.starting.Inside.{Inside}

@@ -7,18 +7,22 @@ use Rattle.std.proofs.lemmas.Int.{ints}
 use Rattle.std.proofs.lemmas.List.Elements.{All-nil, All-cons, All-head, All-tail, All-contains}
 use Rattle.std.proofs.lemmas.Option.{slice_get_within, get_or_from_slice_get}
 use Rattle.tv_linear.specs.Linear.{Linear, columns, dot, value, IsMet}
-use Rattle.tv_linear.specs.Arithmetic.{zeros}
+use Rattle.tv_linear.specs.Arithmetic.{zeros, padded_row}
 use Rattle.tv_linear.specs.Known.{Known, as_given, term_value}
 use Rattle.tv_linear.specs.Terms.{terms_after}
 use Rattle.tv_linear.specs.Covers.{IsMetCover}
 use Rattle.tv_linear.specs.Depth.{splits}
 use Rattle.tv_linear.specs.declared.cover.CoverTree.{CoverTree}
 use Rattle.tv_linear.specs.declared.region.Piece.{Piece}
+use Rattle.tv_linear.specs.Same.{AreSame, OwedSame}
+use Rattle.tv_linear.proofs.SameLemmas.{cover_same}
+use Rattle.tv_linear.proofs.PaddedLemmas.{padded_met}
 use Rattle.tv_farkas.specs.Trees.{TreeRows}
-use Rattle.tv_cases.specs.Before.{before}
+use Rattle.tv_cases.specs.Before.{before, FitsBefore, rows_before}
 use Rattle.tv_cases.specs.LinearCases.{LinearCase, CaseSystem, IsCase, AreCases}
 use Rattle.tv_cases.proofs.BeforeValue.{before-value}
 use Rattle.tv_cases.proofs.Listed.{Contains-here, Contains-later}
+use Rattle.tv_cases.proofs.BeforeLemmas.{all_before_same, all_before_even}
 use Rattle.tv_cert.specs.declared.node.Marked.{Marked}
 use Rattle.tv_cert.specs.Obligations.{case_change}
 use Rattle.tv_cert.specs.Pieces.{rows_of, pieces_at}
@@ -30,12 +34,8 @@ use Rattle.tv_region.specs.Regions.{IsPieceOf, lists_at}
 use Rattle.tv_shape.specs.Narrow.{CoverNarrow}
 use Rattle.tv_choice.specs.Leading.{piece_rows, state}
 use Rattle.tv_rank.specs.Ways.{Way}
-use Rattle.tv_lexrank.specs.Known.{padded_row}
 use Rattle.tv_lexrank.proofs.MetLemmas.{padded_rows_same, rows_even}
 use Rattle.tv_lexrank.proofs.OfferLemmas.{met_shape}
-use Rattle.tv_lexrank.specs.Closing.{FitsBefore, rows_before}
-use Rattle.tv_lexrank.proofs.SameLemmas.{AreSame, OwedSame, cover_same}
-use Rattle.tv_lexrank.proofs.ComposeLemmas.{all_before_same, all_before_even}
 use Rattle.tv_pre.specs.Pieces.{AreMarked, ArePieces, InPieces}
 use Rattle.tv_pre.specs.Inclusions.{OfPiece, LeadsTo}
 use Rattle.tv_pre.specs.Offers.{ShowsStep}
@@ -89,25 +89,6 @@ length-back : (n d : ℕ) (zs : List ℤ) → length zs ≡ n + d → length (dr
 length-back zero d zs e = e ∙ (let g : 0 + d ≡ d = omega arith in g)
 length-back (suc n) d [] e = absurd (omega (arith, e))
 length-back (suc n) d (z ∷ zs) e = length-back n d zs (omega (arith, e))
-
-dot-zeros : (m : ℕ) (xs : List ℤ) → dot (zeros m) xs ≡ pos 0
-dot-zeros zero xs = refl
-dot-zeros (suc m) [] = refl
-dot-zeros (suc m) (x ∷ xs) = let h = dot-zeros m xs in omega (arith, ints, h)
-
-dot-padded : (n m : ℕ) (cs xs : List ℤ) → length cs ≡ n → dot (cs ++ zeros m) xs ≡ dot cs (take n xs)
-dot-padded zero m [] xs e = dot-zeros m xs
-dot-padded zero m (c ∷ cs) xs e = absurd (omega (arith, e))
-dot-padded (suc n) m [] xs e = absurd (omega (arith, e))
-dot-padded (suc n) m (c ∷ cs) [] e = refl
-dot-padded (suc n) m (c ∷ cs) (x ∷ xs) e = ap (λ z. (c *ℤ x) +ℤ z) (dot-padded n m cs xs (omega (arith, e)))
-
-padded_met : (n w : ℕ) (rows : List Linear) (zs : List ℤ) → All (λ r. columns r ≡ n) rows → All (IsMet zs) (map (padded_row w) rows) → All (IsMet (take n zs)) rows
-padded_met n w [] zs e h = All-nil (IsMet (take n zs))
-padded_met n w (r ∷ rows) zs e h =
-    let d = dot-padded n (w - columns r) r.coefficients zs (All-head (λ r. columns r ≡ n) r rows e) in
-    let m = All-head (IsMet zs) (padded_row w r) (map (padded_row w) rows) h in
-    All-cons (IsMet (take n zs)) r rows (omega (arith, ints, d, m)) (padded_met n w rows zs (All-tail (λ r. columns r ≡ n) r rows e) (All-tail (IsMet zs) (padded_row w r) (map (padded_row w) rows) h))
 
 all_behind : {A : Type 0} (P : A → Type 0) (xs ys : List A) → All P (xs ++ ys) → All P ys
 all_behind P [] ys h = h
@@ -177,7 +158,7 @@ module _ (about : CaseSystem) (c : LinearCase) (case : IsCase about.variables ab
       (step_owed n c (slice_get (pieces_at ps c.to) k) case.terms (each lists t ps ms k))
   owed lists t ps ms k (suc j) = tt
 
-  pub shows_step : (lists : List (List Linear)) (all : List Linear) (m : ℕ) (tree : CoverTree) → AreBefore c (lists_at c.to into) lists → all ≡ step_rows n c rows → m ≡ w → IsMetCover m (owed_lists lists) (as_given all) tree → TreeRows (λ r. columns r ≡ m) tree → CoverNarrow tree → splits tree ≤ 128 → ShowsStep about q c into tree
+  pub shows_step : (lists : List (List Linear)) (all : List Linear) (m : ℕ) (tree : CoverTree) → AreBefore c (lists_at c.to into) lists → all ≡ step_rows c rows → m ≡ w → IsMetCover m (owed_lists lists) (as_given all) tree → TreeRows (λ r. columns r ≡ m) tree → CoverNarrow tree → splits tree ≤ 128 → ShowsStep about q c into tree
   shows_step lists all m tree t e wide met own narrow shallow number p ps mp ms =
       record {
         shape = (met_shape w (owed_into ps c.to (case_change n c) no_fall) (as_given (rows_of p) ++ as_given c.guards) tree (subst (λ v. TreeRows (λ r. columns r ≡ v) tree) wide own) there, shallow);
@@ -187,13 +168,13 @@ module _ (about : CaseSystem) (c : LinearCase) (case : IsCase about.variables ab
     where
       at_piece : IsMetCover w (owed_into ps c.to (case_change n c) no_fall) (as_given rows ++ as_given c.guards) tree
       at_piece =
-          cover_same w (owed_lists lists) (owed_into ps c.to (case_change n c) no_fall) (owed lists t ps ms) (as_given (step_rows n c rows)) (as_given rows ++ as_given c.guards) (padded_rows_same w n way) tree
-          (subst (λ v. IsMetCover v (owed_lists lists) (as_given (step_rows n c rows)) tree) wide (subst (λ rs. IsMetCover m (owed_lists lists) (as_given rs) tree) e met))
+          cover_same w (owed_lists lists) (owed_into ps c.to (case_change n c) no_fall) (owed lists t ps ms) (as_given (step_rows c rows)) (as_given rows ++ as_given c.guards) (padded_rows_same w way) tree
+          (subst (λ v. IsMetCover v (owed_lists lists) (as_given (step_rows c rows)) tree) wide (subst (λ rs. IsMetCover m (owed_lists lists) (as_given rs) tree) e met))
 
       there : IsMetCover w (owed_into ps c.to (case_change n c) no_fall) (as_given (rows_of p) ++ as_given c.guards) tree
       there = subst (λ rs. IsMetCover w (owed_into ps c.to (case_change n c) no_fall) (as_given rs ++ as_given c.guards) tree) (sym mp.1) at_piece
 
-  pub step_even : (all : List Linear) → all ≡ step_rows n c rows → All (λ r. columns r ≡ w) all
+  pub step_even : (all : List Linear) → all ≡ step_rows c rows → All (λ r. columns r ≡ w) all
   step_even all e = subst (All (λ r. columns r ≡ w)) (sym e) (rows_even n way piece.even case.guards)
 
   before_even : (ls : List (List Linear)) → All (AreEven n) ls → All (All (FitsBefore c)) ls → All (AreEven w) (map (rows_before c) ls)
@@ -205,7 +186,7 @@ module _ (about : CaseSystem) (c : LinearCase) (case : IsCase about.variables ab
   pub targets_even : (lists : List (List Linear)) → AreBefore c (lists_at c.to into) lists → All (AreEven w) lists
   targets_even lists t = subst (All (AreEven w)) (sym t.exact) (before_even (lists_at c.to into) even t.fits)
 
-  pub step_whole : (lists : List (List Linear)) (all : List Linear) (m : ℕ) (zs : List ℤ) → Contains about.cases c → c.from ≡ q.location → OfPiece about q (LeadsTo about Every (InPieces into)) → AreBefore c (lists_at c.to into) lists → all ≡ step_rows n c rows → m ≡ w → IsHole m lists all zs → ⊥
+  pub step_whole : (lists : List (List Linear)) (all : List Linear) (m : ℕ) (zs : List ℤ) → Contains about.cases c → c.from ≡ q.location → OfPiece about q (LeadsTo about Every (InPieces into)) → AreBefore c (lists_at c.to into) lists → all ≡ step_rows c rows → m ≡ w → IsHole m lists all zs → ⊥
   step_whole lists all m zs among from inside t e wide h =
       let hole = subst (λ rs. IsHole w lists rs zs) e (subst (λ v. IsHole v lists all zs) wide h) in
       let size = hole.point.width in
@@ -214,8 +195,8 @@ module _ (about : CaseSystem) (c : LinearCase) (case : IsCase about.variables ab
       let lx = length-front n c.draws zs size in
       let ld = length-back n c.draws zs size in
       let whole : zs ≡ xs ++ ds = sym (front_back n zs) in
-      let place = padded_met n w rows zs piece.even (all_front (IsMet zs) (map (padded_row w) rows) c.guards hole.point.met) in
-      let guards = subst (λ ys. All (IsMet ys) c.guards) whole (all_behind (IsMet zs) (map (padded_row w) rows) c.guards hole.point.met) in
+      let place = padded_met n c.draws rows zs piece.even (all_front (IsMet zs) (map (padded_row c.draws) rows) c.guards hole.point.met) in
+      let guards = subst (λ ys. All (IsMet ys) c.guards) whole (all_behind (IsMet zs) (map (padded_row c.draws) rows) c.guards hole.point.met) in
       let ys = map (term_value (xs ++ ds)) (terms_after n c.updates) in
       let i = in_lists c.to ys into (inside xs (record { width = lx; met = place }) (state c.to ys) (record {
         taken = c;
@@ -224,7 +205,7 @@ module _ (about : CaseSystem) (c : LinearCase) (case : IsCase about.variables ab
         does = record { leaves = sym from; enters = refl; drawn = ld; guards = guards; gives = ap (λ k. map (term_value (xs ++ ds)) (terms_after k c.updates)) (sym lx) };
       })) in
       let met = before_met n c i.rows xs ds (All-contains (AreEven n) (lists_at c.to into) i.rows even i.target) lx ld i.met in
-      no_hole w lists (step_rows n c rows) zs (record {
+      no_hole w lists (step_rows c rows) zs (record {
         rows = rows_before c i.rows;
         target = subst (λ ls. Contains ls (rows_before c i.rows)) (sym t.exact) (contains_mapped (rows_before c) (lists_at c.to into) i.rows i.target);
         met = subst (λ ys. All (IsMet ys) (rows_before c i.rows)) (sym whole) met;

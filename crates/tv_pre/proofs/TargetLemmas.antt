@@ -9,11 +9,11 @@ use Rattle.tv_linear.specs.Linear.{Linear}
 use Rattle.tv_linear.specs.declared.region.Piece.{Piece}
 use Rattle.tv_linear.specs.declared.region.Poly.{Poly}
 use Rattle.tv_cases.specs.LinearCases.{LinearCase}
+use Rattle.tv_cases.specs.Before.{FitsBefore, rows_before, AreRowsBefore}
 use Rattle.tv_cover.specs.Targets.{lists_of}
 use Rattle.tv_region.specs.Regions.{lists_at}
 use Rattle.tv_region.proofs.MetLemmas.{map_push}
 use Rattle.tv_region.proofs.RegionLemmas.{lists_at-here}
-use Rattle.tv_lexrank.specs.Closing.{FitsBefore, rows_before, AreRowsBefore}
 use Rattle.tv_pre.specs.Targets.{AreBefore}
 
 pub none_before : (c : LinearCase) → AreBefore c [] []

@@ -1,4 +1,5 @@
 -- Atoms: tests of one state.
+use Rattle.tv_shape.specs.Made.{Offers}
 use Rattle.std.specs.Prelude.{◌≡◌, ℕ, zero, suc, ◌-◌, ◌<◌, List, [], ◌∷◌, ◌++◌, map, All, ℤ, pos, not, ◌==◌}
 use Rattle.tv_formula.specs.Properties.{Property, truth, compare, at, negated}
 use Rattle.tv_linear.specs.Linear.{Linear}
@@ -20,7 +21,7 @@ use Rattle.tv_cert.specs.Pieces.{place_of}
 use Rattle.tv_cover.specs.Targets.{AreEven}
 use Rattle.tv_region.specs.Regions.{IsRegion, lists_at}
 use Rattle.tv_pre.specs.Pieces.{ArePieces, marked_as}
-use Rattle.tv_pre.specs.Offers.{Offers, Adds}
+use Rattle.tv_pre.specs.Offers.{Adds}
 use Rattle.tv_pre.specs.declared.test.Test.{Test}
 use Rattle.tv_pre.specs.declared.test.Test.TheVariants.{Rows, Here, Elsewhere}
 

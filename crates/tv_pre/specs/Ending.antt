@@ -13,7 +13,7 @@ use Rattle.tv_region.specs.Regions.{IsRegion}
 use Rattle.tv_pre.specs.declared.growing.Grown.{Grown}
 use Rattle.tv_pre.specs.Pieces.{InPieces, AreMarked}
 use Rattle.tv_pre.specs.Inclusions.{OfPieces, LeadsTo}
-use Rattle.tv_pre.specs.Offers.{Offers}
+use Rattle.tv_shape.specs.Made.{Offers}
 use Rattle.tv_pre.specs.Questions.{Question, AsksOf, AsksSteps}
 use Rattle.tv_pre.specs.Ranked.{EachOf, IsRankBelow}
 

@@ -15,7 +15,7 @@ use Rattle.tv_region.specs.StepRegions.{InState}
 use Rattle.tv_pre.specs.declared.sides.Sides.{Sides}
 use Rattle.tv_pre.specs.Pieces.{InPieces, AreMarked}
 use Rattle.tv_pre.specs.Inclusions.{OfPieces}
-use Rattle.tv_pre.specs.Offers.{Offers}
+use Rattle.tv_shape.specs.Made.{Offers}
 use Rattle.tv_pre.specs.Parts.{joined_pieces}
 use Rattle.tv_pre.specs.Questions.{Question, lies, AsksOf, AsksEach, AsksStay}
 

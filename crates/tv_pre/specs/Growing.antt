@@ -21,7 +21,7 @@ use Rattle.tv_pre.specs.declared.growing.Grown.{Grown}
 use Rattle.tv_pre.specs.declared.sides.Sides.{Sides}
 use Rattle.tv_pre.specs.Pieces.{InPieces, AreMarked, marked_as}
 use Rattle.tv_pre.specs.Inclusions.{OfPieces}
-use Rattle.tv_pre.specs.Offers.{Offers}
+use Rattle.tv_shape.specs.Made.{Offers}
 use Rattle.tv_pre.specs.Questions.{Question, chooses, AsksOf, AsksSteps}
 use Rattle.tv_pre.specs.Fixed.{OnWay, fixed_owes, AsksWay}
 use Rattle.tv_pre.specs.Ranked.{EachOf, IsRankBelow}

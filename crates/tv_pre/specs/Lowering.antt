@@ -14,13 +14,13 @@ use Rattle.tv_cert.specs.Claims.{about_with}
 use Rattle.tv_cert.specs.Obligations.{step_of, step_fall}
 use Rattle.tv_cert.specs.Pieces.{place_of, goes, ranks_of}
 use Rattle.tv_shape.specs.Narrow.{CoverNarrow}
+use Rattle.tv_shape.specs.Made.{IsOffered}
 use Rattle.tv_rank.specs.Given.{lists}
 use Rattle.tv_choice.specs.Leading.{piece_rows}
 use Rattle.tv_lexrank.specs.declared.falling.Fall.{Fall}
 use Rattle.tv_lexrank.specs.Falling.{AllHeld}
 use Rattle.tv_lexrank.specs.More.{way_with}
 use Rattle.tv_lexrank.specs.Shown.{FallsBy, ranks_there}
-use Rattle.tv_pre.specs.Offers.{IsOffered}
 use Rattle.tv_pre.specs.Pieces.{IsMarked, AreMarked}
 use Rattle.tv_pre.specs.Ranked.{EachOf}
 

@@ -10,9 +10,8 @@ use Rattle.tv_cert.specs.declared.node.Node.{Node}
 use Rattle.tv_cert.specs.declared.node.Proof.{Proof}
 use Rattle.tv_cert.specs.Obligations.{Obligation}
 use Rattle.tv_cert.specs.Shapes.{PieceShape}
-use Rattle.tv_points.specs.Nodes.{HasOwn}
+use Rattle.tv_shape.specs.Made.{HasOwn, Offers}
 use Rattle.tv_pre.specs.Pieces.{AreMarked, marked_as}
-use Rattle.tv_pre.specs.Offers.{Offers}
 use Rattle.tv_pre.specs.Around.{Around}
 
 -- the pieces, which may be done where that is said, have so many ranks where they go on, and are those of the region

@@ -16,17 +16,8 @@ use Rattle.tv_cert.specs.Shapes.{ProofShape}
 use Rattle.tv_cert.specs.Targets.{no_fall, owed_nothing}
 use Rattle.std.specs.Prelude.{Bool, false}
 use Rattle.tv_shape.specs.Narrow.{ProofNarrow}
+use Rattle.tv_shape.specs.Made.{IsOffered, Offers}
 use Rattle.tv_pre.specs.Pieces.{IsMarked, AreMarked}
-
--- the proof meets the obligation, and has its shape and narrow numbers
-pub record IsOffered (o : Obligation) (p : Proof) : Type 0 where
-  pub shape : ProofShape o.owed p
-  pub met : OwedMet o.owed (Some p)
-  pub narrow : ProofNarrow p
-
--- one such proof for each obligation, in order
-abbrev pub Offers : List Obligation → List Proof → Type 0
-Offers obligations proofs = AllZip IsOffered obligations proofs
 
 -- behind proofs of any obligations, those of these ones were added
 abbrev pub Adds : List Obligation → List Proof → List Proof → Type 0

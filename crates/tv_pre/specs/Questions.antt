@@ -6,7 +6,8 @@ use Rattle.tv_linear.specs.Linear.{Linear}
 use Rattle.tv_linear.specs.declared.fault.RowFault.TheVariants as row
 use Rattle.tv_linear.specs.declared.region.Piece.{Piece}
 use Rattle.tv_linear.specs.declared.region.Region.{Region}
-use Rattle.tv_cases.specs.Before.{GivesBefore}
+use Rattle.tv_linear.specs.Arithmetic.{padded_row}
+use Rattle.tv_cases.specs.Before.{GivesBefore, rows_before}
 use Rattle.tv_cases.specs.LinearCases.{LinearCase, CaseSystem}
 use Rattle.tv_farkas.specs.declared.budget.Budget.{Budget}
 use Rattle.tv_farkas.specs.declared.fault.CoverFault.{CoverFault}
@@ -15,8 +16,6 @@ use Rattle.tv_cover.specs.Covering.{IsCoverFault}
 use Rattle.tv_choice.specs.Leading.{Query, piece_rows}
 use Rattle.tv_choice.specs.Refusals.{IsChoiceFault}
 use Rattle.tv_region.specs.Regions.{lists_at}
-use Rattle.tv_lexrank.specs.Known.{padded_row}
-use Rattle.tv_lexrank.specs.Closing.{rows_before}
 
 pub data Question : Type 0 where
   -- whether each state of the piece is in one of the pieces
@@ -27,8 +26,8 @@ pub data Question : Type 0 where
   chooses : Piece → Bool → List Piece → Question
 
 -- the rows that are met where a case is taken from a piece: its rows over the variables and the draws, and then the guards
-abbrev pub step_rows : ℕ → LinearCase → List Linear → List Linear
-step_rows n c rows = map (padded_row (n + c.draws)) rows ++ c.guards
+abbrev pub step_rows : LinearCase → List Linear → List Linear
+step_rows c rows = map (padded_row c.draws) rows ++ c.guards
 
 -- a row of one of the lists is too wide before the case at this column
 pub record IsTooWide (c : LinearCase) (lists : List (List Linear)) (column : ℕ) : Type 0 where
@@ -43,7 +42,7 @@ pub record IsTooWide (c : LinearCase) (lists : List (List Linear)) (column : ℕ
 pub data IsStepFault (about : CaseSystem) (budget : Budget) (q : Piece) (c : LinearCase) (into : List Piece) : CoverFault → Type 0 where
   too_wide : (column : ℕ) → IsTooWide c (lists_at c.to into) column → IsStepFault about budget q c into (Wide column)
   uncovered : (fault : CoverFault) →
-      IsCoverFault (about.variables + c.draws) (map (rows_before c) (lists_at c.to into)) (step_rows about.variables c (piece_rows q)) budget.pivots budget.splits fault →
+      IsCoverFault (about.variables + c.draws) (map (rows_before c) (lists_at c.to into)) (step_rows c (piece_rows q)) budget.pivots budget.splits fault →
       IsStepFault about budget q c into fault
 
 abbrev pub query_of : CaseSystem → Piece → Bool → List Piece → Query

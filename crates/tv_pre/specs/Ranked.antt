@@ -16,7 +16,7 @@ use Rattle.tv_cert.specs.Obligations.{step_of, step_fall, choice_of, choice_into
 use Rattle.tv_cert.specs.Pieces.{goes, ranks_of}
 use Rattle.std.specs.List.{filter}
 use Rattle.tv_pre.specs.Pieces.{IsMarked, AreMarked}
-use Rattle.tv_pre.specs.Offers.{IsOffered}
+use Rattle.tv_shape.specs.Made.{IsOffered}
 
 -- each item has the property
 abbrev pub EachOf : {A : Type 0} → (A → Type 0) → List A → Type 0

@@ -17,7 +17,7 @@ use Rattle.tv_pre.specs.Fixed.{OnWay, AtEnd, fixed_owes, AsksEnds, AsksWay}
 use Rattle.tv_pre.specs.Growing.{AsksCome}
 use Rattle.tv_pre.specs.Inclusions.{OfPieces}
 use Rattle.tv_pre.specs.Lowering.{IsRankedAs}
-use Rattle.tv_pre.specs.Offers.{Offers}
+use Rattle.tv_shape.specs.Made.{Offers}
 use Rattle.tv_pre.specs.Pieces.{InPieces, AreMarked}
 use Rattle.tv_pre.specs.Questions.{Question, AsksOf}
 use Rattle.tv_pre.specs.Ranked.{EachOf}

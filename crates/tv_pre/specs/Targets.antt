@@ -2,9 +2,9 @@
 use Rattle.std.specs.Prelude.{◌≡◌, List, map, All}
 use Rattle.tv_linear.specs.Linear.{Linear}
 use Rattle.tv_cases.specs.LinearCases.{LinearCase}
+use Rattle.tv_cases.specs.Before.{FitsBefore, rows_before}
 use Rattle.tv_farkas.specs.declared.fault.CoverFault.{CoverFault}
 use Rattle.tv_farkas.specs.declared.fault.CoverFault.TheVariants.{Splits, Solve, Wide, Memory}
-use Rattle.tv_lexrank.specs.Closing.{FitsBefore, rows_before}
 use Rattle.tv_pre.specs.Questions.{IsTooWide}
 
 -- the lists of rows before the case, each row of which fits

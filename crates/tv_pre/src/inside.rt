@@ -25,8 +25,7 @@ use tv_cases::Case;
 use tv_choice::{Chosen, choose};
 use tv_cover::{Covered, cover};
 use tv_farkas::CoverFault;
-use tv_lexrank::all_padded;
-use tv_linear::{Choice, Cover, Piece, Poly, Region, push_copies};
+use tv_linear::{Choice, Cover, Piece, Poly, Region, all_padded, push_copies};
 
 /// A cover of a piece by these targets, or values in the piece that lie in none of them.
 pub(crate) fn cover_at(
@@ -141,7 +140,7 @@ pub(crate) fn step_inside(
         Err(fault) => return Err(fault),
         Ok(targets) => targets,
     };
-    let mut rows = all_padded(setting.alloc, &piece.poly.rows, columns)?;
+    let mut rows = all_padded(setting.alloc, &piece.poly.rows, case.draws)?;
     push_copies(setting.alloc, &case.guards.rows, &mut rows)?;
     let ambient = Poly { columns, rows };
     match cover(setting.alloc, &ambient, &targets, setting.budget) {

@@ -16,7 +16,7 @@ use tv_cases::Cases;
 use tv_cert::{Mark, Marked, Node, Proof};
 use tv_farkas::CoverFault;
 use tv_linear::Region;
-use tv_points::node_of;
+use tv_shape::node_of;
 
 /// The part of these pieces and proofs. There is no room for 2^32 pieces.
 pub(crate) fn part_of(

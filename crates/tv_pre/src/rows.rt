@@ -4,13 +4,13 @@ ghost use Rattle.std.specs.Prelude.{◌≡◌, ◌+◌, ◌-◌, ◌^◌, ◌<�
 ghost use Rattle.std.specs.Result.{IfErr};
 ghost use Rattle.tv_linear.specs.Linear.{columns as width};
 ghost use Rattle.tv_cases.specs.Views.{case_view};
-ghost use Rattle.tv_lexrank.specs.Closing.{AreRowsBefore};
+ghost use Rattle.tv_cases.specs.Before.{AreRowsBefore};
 ghost use Rattle.tv_pre.specs.Targets.{IsUnmade};
 
 use std::alloc::Global;
-use tv_cases::{Case, before};
+use tv_cases::{Case, all_before};
 use tv_farkas::CoverFault;
-use tv_linear::{Row, RowFault, push_item};
+use tv_linear::{Row, RowFault};
 
 /// The rows that have before the case the values of these rows after it.
 pub(crate) fn rows_before(
@@ -25,13 +25,9 @@ pub(crate) fn rows_before(
     ensures rows { IfOk result (λ v. AreRowsBefore (case_view case.now) rows.now v.items) }
     ensures refusals { IfErr result (IsUnmade (case_view case.now) (rows.now ∷ [])) }
 {
-    let mut all = Vec::new(alloc);
-    'rows: for row in rows {
-        match before(alloc, row, case) {
-            Ok(made) => push_item(&mut all, made)?,
-            Err(RowFault::Wide { column }) => return Err(CoverFault::Wide { column }),
-            Err(RowFault::Memory) => return Err(CoverFault::Memory),
-        }
+    match all_before(alloc, rows, case, variables) {
+        Ok(all) => Ok(all),
+        Err(RowFault::Wide { column }) => Err(CoverFault::Wide { column }),
+        Err(RowFault::Memory) => Err(CoverFault::Memory),
     }
-    Ok(all)
 }

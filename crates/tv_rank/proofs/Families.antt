@@ -4,12 +4,12 @@ use Rattle.std.proofs.lemmas.List.{length-map}
 use Rattle.std.proofs.lemmas.List.Elements.{All-nil, All-push}
 use Rattle.std.specs.List.{AllByRecursion}
 use Rattle.tv_linear.specs.Arithmetic.{constant_row}
-use Rattle.tv_linear.proofs.PlainLists.{get_or-zeros}
+use Rattle.tv_linear.proofs.PlainLists.{get_or-zeros, length-table}
 use Rattle.tv_linear.specs.Falls.{zero_row}
 use Rattle.tv_linear.specs.Linear.{Linear, columns, IsWithin}
 use Rattle.tv_linear.specs.Known.{Known, given, composed, less, number, known_number, term_number, KnownHeld, PlacesHeld, place_sum}
 use Rattle.tv_linear.specs.Terms.{table, update_of, terms_after}
-use Rattle.tv_refute.proofs.Places.{get_or-left, get_or-right, get_or-table, length-table}
+use Rattle.tv_refute.proofs.Places.{get_or-left, get_or-right, get_or-table}
 use Rattle.tv_farkas.proofs.SystemLemmas.{all_of}
 use Rattle.tv_simplex.proofs.SettleLemmas.{given_left}
 use Rattle.tv_simplex.specs.Outcomes.{IsShort, IsNarrow, IsSolutionOf, IsNarrowSystem}

@@ -4,7 +4,8 @@ use Rattle.tv_linear.specs.Linear.{Linear, linear, columns, dot, scaled_value}
 use Rattle.tv_linear.specs.Known.{Term, kept, put, number}
 use Rattle.tv_linear.specs.Terms.{table, update_of}
 use Rattle.tv_linear.specs.declared.region.Update.{Update}
-use Rattle.tv_refute.proofs.Places.{length-table, get_or-table}
+use Rattle.tv_linear.proofs.PlainLists.{length-table}
+use Rattle.tv_refute.proofs.Places.{get_or-table}
 use Rattle.tv_farkas.proofs.SystemLemmas.{all_of, at_of}
 use Rattle.tv_simplex.specs.Sums.{total}
 use Rattle.tv_simplex.proofs.Sums.{total-same, total-zero}

@@ -7,12 +7,12 @@ use Rattle.tv_linear.specs.Linear.{Linear, linear, dot}
 use Rattle.tv_linear.specs.Fits.{IsHeld}
 use Rattle.tv_linear.specs.Known.{Known, given, denied, number, known_number, KnownHeld, as_given, place_sum, PlacesHeld}
 use Rattle.tv_linear.specs.Refutation.{RowsHeld, column_sum, ColumnHeld, Refutes}
+use Rattle.tv_linear.proofs.KnownLemmas.{as_given-append}
 use Rattle.tv_refute.proofs.Places.{get_or-left, get_or-right, get_or-map}
 use Rattle.tv_farkas.proofs.SystemLemmas.{all_of, dot-total}
 use Rattle.tv_simplex.specs.Sums.{total}
 use Rattle.tv_simplex.specs.Outcomes.{IsShort}
 use Rattle.tv_simplex.proofs.Sums.{total-same}
-use Rattle.tv_farkas.proofs.SideLemmas.{as_given-append}
 use Rattle.tv_rank.specs.Ways.{Way, met_rows}
 use Rattle.tv_rank.specs.Rankings.{IsShownBy}
 use Rattle.tv_rank.specs.Reading.{multipliers_read, line_read}

@@ -5,6 +5,7 @@ use Rattle.tv_linear.specs.Linear.{IsWithin, dot}
 use Rattle.tv_linear.specs.Known.{term_value}
 use Rattle.tv_linear.specs.Terms.{update_of, table, terms_after}
 use Rattle.tv_linear.specs.declared.region.Update.{Update}
+use Rattle.tv_linear.proofs.PlainLists.{length-table}
 use Rattle.tv_reaching.specs.FoundRuns.{IsWideAt}
 
 -- ---- lists without their first item
@@ -44,10 +45,6 @@ values-push point us n =
     ap (λ k. map (term_value point) (terms_after k us)) (add-one n)
     ∙ ap (map (term_value point)) (table-push n (update_of us))
     ∙ map-push (term_value point) (terms_after n us) (update_of us n)
-
-length-table : {A : Type 0} (n : ℕ) (f : ℕ → A) → length (table n f) ≡ n
-length-table zero f = refl
-length-table (suc n) f = ap suc (length-table n (λ j. f (suc j)))
 
 length-mapped : {A B : Type 0} (f : A → B) (xs : List A) → length (map f xs) ≡ length xs
 length-mapped f [] = refl

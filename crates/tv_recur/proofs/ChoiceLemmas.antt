@@ -15,6 +15,8 @@ use Rattle.tv_linear.specs.declared.cover.CoverTree.{CoverTree}
 use Rattle.tv_linear.specs.declared.cover.CoverTree as cover
 use Rattle.tv_linear.specs.declared.choice.ChoiceTree.{ChoiceTree}
 use Rattle.tv_linear.specs.declared.choice.ChoiceTree as choice
+use Rattle.tv_linear.specs.Same.{AreSame}
+use Rattle.tv_linear.proofs.SameLemmas.{all_same, shown_same}
 use Rattle.tv_farkas.specs.Refuting.{AreShort}
 use Rattle.tv_farkas.specs.Trees.{TreeRows, TreeNumbers}
 use Rattle.tv_farkas.proofs.SystemLemmas.{all_of}
@@ -25,10 +27,9 @@ use Rattle.tv_cert.specs.Pieces.{rows_of, pieces_at}
 use Rattle.tv_cert.specs.Shapes.{ChoiceShape, TakeShape, ListsShape}
 use Rattle.tv_cert.specs.Targets.{target_rows, no_fall}
 use Rattle.tv_cover.specs.Targets.{owed_lists}
+use Rattle.tv_cover.specs.Single.{IsCoverInto}
 use Rattle.tv_shape.specs.Narrow.{ChoiceNarrow, RowNarrow, AreNarrow, CountNarrow}
 use Rattle.tv_recur.specs.Choosing.{IsChoiceOf, entering, IsChoiceAt, LeadsInto}
-use Rattle.tv_recur.specs.Covering.{IsCoverInto}
-use Rattle.tv_recur.proofs.SameLemmas.{AreSame, all_same, shown_same}
 
 -- ---- lists of lines
 shown_many : (n : ℕ) (known owed : List Known) (lists : List (List ℤ)) → Shown n known owed lists → length lists ≡ length owed

@@ -9,13 +9,14 @@ use Rattle.tv_linear.specs.Terms.{table, terms_after, draw_terms}
 use Rattle.tv_linear.proofs.Entries.{entry-raised_inner, entry-raised_last, entry-combined, columns-combined}
 use Rattle.tv_linear.proofs.PlainLists.{length-unit, length-zeros}
 use Rattle.tv_linear.proofs.RowValues.{value-composed, value-constant_row, value-column_row}
+use Rattle.tv_linear.specs.Same.{SameNumbers, AreSame}
+use Rattle.tv_linear.proofs.SameLemmas.{same_self}
 use Rattle.tv_cases.specs.EdgeCases.{columns_from}
 use Rattle.tv_cases.specs.LinearCases.{LinearCase}
-use Rattle.tv_cases.specs.Before.{before as case_before}
+use Rattle.tv_cases.specs.Before.{before as case_before, FitsBefore, rows_before}
+use Rattle.tv_cases.proofs.BeforeLemmas.{IsTerm, AreTerms, PutIn, composed_same, kept_term, put_term, before_same, before_even}
 use Rattle.tv_cert.specs.Choices.{drawn_change}
-use Rattle.tv_recur.specs.Making.{FitsBefore, rows_before, FitsPut, rows_put, number_rows, drawn_terms}
-use Rattle.tv_recur.proofs.SameLemmas.{SameNumbers, AreSame, same_self}
-use Rattle.tv_recur.proofs.ComposeLemmas.{IsTerm, AreTerms, PutIn, composed_same, kept_term, put_term, before_same, before_even}
+use Rattle.tv_recur.specs.Making.{FitsPut, rows_put, number_rows, drawn_terms}
 
 -- ---- the terms
 pub columns_from-wide : (w v n : ℕ) → All (λ r. columns r ≡ w) (columns_from w v n)

@@ -10,6 +10,8 @@ use Rattle.tv_linear.specs.Terms.{terms_after}
 use Rattle.tv_linear.specs.declared.choice.ChoiceTree.{ChoiceTree}
 use Rattle.tv_program.specs.Steps.{State}
 use Rattle.tv_cases.specs.LinearCases.{LinearCase, CaseSystem, CaseSteps}
+use Rattle.tv_cases.specs.Before.{rows_before}
+use Rattle.tv_cases.proofs.BeforeLemmas.{all_before_even}
 use Rattle.tv_cert.specs.declared.node.Marked.{Marked}
 use Rattle.tv_cert.specs.declared.node.Node.{Node}
 use Rattle.tv_cert.specs.declared.node.Proof.{Proof}
@@ -26,7 +28,7 @@ use Rattle.tv_known.specs.Cycles.{IsInitialAt}
 use Rattle.tv_known.specs.Recurrences.{IsKeptLoop, IsEntered, HasSimpleRecurrence}
 use Rattle.tv_known.proofs.RankedEnds.{values_kept}
 use Rattle.tv_points.specs.Nodes.{IsInside}
-use Rattle.tv_recur.specs.Making.{rows_before, rows_put, drawn_terms}
+use Rattle.tv_recur.specs.Making.{rows_put, drawn_terms}
 use Rattle.tv_recur.specs.Owing.{Enters, IsLeft}
 use Rattle.tv_recur.specs.Choosing.{LeadsInto, IsChoiceAt}
 use Rattle.tv_recur.specs.Staying.{NeverStaysBelow}
@@ -36,7 +38,6 @@ use Rattle.tv_recur.specs.Recurring.{IsRecurrence}
 use Rattle.tv_recur.specs.declared.entering.Entry.{Entry}
 use Rattle.tv_recur.specs.declared.entering.Stem.{Stem}
 use Rattle.tv_recur.specs.declared.recurrence.Recurrence.{Recurrence}
-use Rattle.tv_recur.proofs.ComposeLemmas.{all_before_even}
 use Rattle.tv_recur.proofs.ReadLemmas.{read_at, same_read}
 use Rattle.tv_recur.proofs.OwedLemmas.{put_met_back, before_met, before_met_back}
 use Rattle.tv_recur.proofs.StayLemmas.{split_met}

@@ -9,11 +9,13 @@ use Rattle.tv_linear.specs.declared.choice.ChoiceTree.{ChoiceTree}
 use Rattle.tv_cases.specs.LinearCases.{LinearCase}
 use Rattle.tv_cases.specs.Systems.{cases_of}
 use Rattle.tv_cases.specs.Views.{case_view}
+use Rattle.tv_cases.specs.Before.{rows_before}
 use Rattle.tv_cover.specs.Covering.{IsHole}
-use Rattle.tv_recur.specs.Making.{rows_before, rows_put, number_rows, drawn_terms}
+use Rattle.tv_cover.specs.Single.{IsCoverInto}
+use Rattle.tv_recur.specs.Making.{rows_put, number_rows, drawn_terms}
 use Rattle.tv_recur.specs.Owing.{AreOwed, IsLeft, IsTaking}
 use Rattle.tv_recur.specs.Choosing.{IsChoiceOf, LeadsInto}
-use Rattle.tv_recur.specs.Covering.{IsCoverInto, IsTakenBy}
+use Rattle.tv_recur.specs.Covering.{IsTakenBy}
 use Rattle.tv_recur.specs.declared.taking.Taking.{Taking}
 use Rattle.tv_recur.proofs.ChoiceLemmas.{leads_into}
 use Rattle.tv_recur.proofs.DrawLemmas.{all_put_wide, number_rows-wide}

@@ -1,8 +1,5 @@
-pub mod SameLemmas
-pub mod ComposeLemmas
 pub mod DrawLemmas
 pub mod RowLoops
-pub mod CoverLemmas
 pub mod ChoiceLemmas
 pub mod ReadLemmas
 pub mod LeadLemmas

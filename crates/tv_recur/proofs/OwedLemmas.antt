@@ -5,22 +5,24 @@ use Rattle.tv_linear.specs.Linear.{Linear, columns, value, IsMet}
 use Rattle.tv_linear.specs.Arithmetic.{composed, width_of}
 use Rattle.tv_linear.specs.Known.{as_given, term_value}
 use Rattle.tv_linear.specs.Terms.{terms_after}
-use Rattle.tv_cases.specs.Before.{before as case_before}
+use Rattle.tv_linear.specs.Same.{AreSame}
+use Rattle.tv_linear.proofs.SameLemmas.{same_append}
+use Rattle.tv_linear.proofs.KnownLemmas.{as_given-append}
+use Rattle.tv_cases.specs.Before.{before as case_before, rows_before}
 use Rattle.tv_cases.specs.LinearCases.{LinearCase}
 use Rattle.tv_cases.proofs.BeforeValue.{before-value}
 use Rattle.tv_cert.specs.Choices.{drawn_change, drawn_guards}
 use Rattle.tv_cover.specs.Covering.{IsHole}
 use Rattle.tv_cover.specs.Targets.{IsOutside}
-use Rattle.tv_recur.specs.Making.{rows_before, rows_put, number_rows, drawn_terms}
+use Rattle.tv_recur.specs.Making.{rows_put, number_rows, drawn_terms}
 use Rattle.tv_recur.specs.Owing.{owed_rows, AreOwed, Enters, IsLeft}
-use Rattle.tv_recur.proofs.SameLemmas.{AreSame, same_append, given_append}
 use Rattle.tv_recur.proofs.DrawLemmas.{guards_same, into_same, put_value, terms-wide, terms-width, terms-length}
 
 -- ---- the same numbers
 pub owed_same : (n : ℕ) (c : LinearCase) (ds : List ℤ) (into made : List Linear) → length ds ≡ c.draws → All (λ r. columns r ≡ n + c.draws) c.guards → All (λ u. columns u.term ≡ n + c.draws) c.updates → All (λ r. columns r ≡ n) into → AreOwed n c ds into made → AreSame n (as_given made) (drawn_guards n c (number_rows n ds) ++ map (drawn_change n c (number_rows n ds)) into)
 owed_same n c ds into made counted guards us wide owed =
     subst (λ ks. AreSame n ks (drawn_guards n c (number_rows n ds) ++ map (drawn_change n c (number_rows n ds)) into))
-    (sym (ap as_given owed.exact ∙ given_append (rows_put (drawn_terms n ds) c.guards) (rows_put (drawn_terms n ds) (rows_before c into))))
+    (sym (ap as_given owed.exact ∙ as_given-append (rows_put (drawn_terms n ds) c.guards) (rows_put (drawn_terms n ds) (rows_before c into))))
     (same_append n (as_given (rows_put (drawn_terms n ds) c.guards)) (drawn_guards n c (number_rows n ds)) (as_given (rows_put (drawn_terms n ds) (rows_before c into))) (map (drawn_change n c (number_rows n ds)) into)
     (guards_same n c ds counted c.guards guards owed.guards)
     (into_same n c ds counted us into wide owed.before owed.put))

@@ -8,7 +8,7 @@ use Rattle.tv_linear.specs.Arithmetic.{composed, constant_row}
 use Rattle.tv_linear.specs.declared.fault.RowFault.TheVariants as row
 use Rattle.tv_linear.specs.declared.region.Update.{Update}
 use Rattle.tv_cases.specs.LinearCases.{LinearCase, CaseSystem}
-use Rattle.tv_cases.specs.Before.{before as case_before}
+use Rattle.tv_cases.specs.Before.{before as case_before, FitsBefore, rows_before}
 use Rattle.tv_farkas.specs.EmptyPaths.{IsEmptyFault, IsWholePointOf}
 use Rattle.tv_farkas.specs.declared.branch.Branch.{Branch}
 use Rattle.tv_farkas.specs.declared.budget.Budget.{Budget}
@@ -22,7 +22,7 @@ use Rattle.tv_derived.proofs.Carried.{monotone}
 use Rattle.tv_derived.proofs.Steps.{narrow_all, after_step, after_before, after_terms}
 use Rattle.tv_derived.proofs.Listing.{empty_refusal}
 use Rattle.tv_cover_refusals.proofs.Refusals.{refusal}
-use Rattle.tv_recur.specs.Making.{FitsBefore, rows_before, FitsPut, rows_put, ArePut, number_rows, drawn_terms, IsUnmade, RefusesBefore, RefusesPut}
+use Rattle.tv_recur.specs.Making.{FitsPut, rows_put, ArePut, number_rows, drawn_terms, IsUnmade, RefusesBefore, RefusesPut}
 use Rattle.tv_recur.specs.Keeping.{AreEntering}
 use Rattle.tv_recur.specs.Owing.{AreOwed}
 use Rattle.tv_recur.specs.Refusing.{IsSpent, IsRefusal, AreFrom, MayPut, MayPutAt, IsUnmadeUpdate, IsUnmadeAmong}

@@ -17,18 +17,6 @@ use Rattle.tv_recur.specs.Making.{number_rows}
 use Rattle.tv_recur.specs.Choosing.{IsChoiceOf}
 use Rattle.tv_recur.specs.declared.taking.Taking.{Taking}
 
--- a cover of the rows, over n columns, into one target
-pub record IsCoverInto (n : ℕ) (rows target : List Linear) (tree : CoverTree) : Type 0 where
-  pub met : IsMetCover n (owed_lists (target ∷ [])) (as_given rows) tree
-  pub shallow : splits tree ≤ 128
-  pub short : TreeNumbers AreShort tree
-  pub even : TreeRows (λ r. columns r ≡ n) tree
-
--- such a cover, or a hole
-abbrev pub IsCoveredByOne : ℕ → List Linear → List Linear → Covered → Type 0
-IsCoveredByOne n rows target (Tree tree) = IsCoverInto n rows target tree
-IsCoveredByOne n rows target (Hole values) = IsHole n (target ∷ []) rows values.items
-
 -- the choice is that of the cover, where it takes the case with its numbers, each of which is narrow
 pub record IsTakenBy (t : Taking) (old : CoverTree) (new : ChoiceTree) : Type 0 where
   pub draws : List Linear

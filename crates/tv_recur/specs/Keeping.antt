@@ -7,8 +7,8 @@ use Rattle.tv_farkas.specs.EmptyPaths.{IsWholePointOf}
 use Rattle.tv_farkas.specs.Refuting.{AreShort}
 use Rattle.tv_cases.specs.LinearCases.{LinearCase, CaseSystem}
 use Rattle.tv_cases.specs.Views.{case_view}
+use Rattle.tv_cases.specs.Before.{FitsBefore, rows_before}
 use Rattle.tv_known.specs.Recurrences.{IsKeptLoop, IsEntered}
-use Rattle.tv_recur.specs.Making.{FitsBefore, rows_before}
 use Rattle.tv_recur.specs.Choosing.{LeadsInto}
 use Rattle.tv_recur.specs.declared.entering.Entry.{Entry}
 use Rattle.tv_recur.specs.declared.entering.Stem.{Stem}

@@ -11,20 +11,6 @@ use Rattle.tv_cases.specs.LinearCases.{LinearCase}
 use Rattle.tv_farkas.specs.declared.fault.CoverFault.{CoverFault}
 use Rattle.tv_farkas.specs.declared.fault.CoverFault.TheVariants.{Splits, Solve, Wide, Memory}
 
--- ---- before a case
-
--- each column of the row before the case fits
-abbrev pub FitsBefore : LinearCase → Linear → Type 0
-FitsBefore c r = (column : ℕ) → column ≤ columns (before r c) → FitsTerms (columns r + c.draws) r (rows_after r c) column
-
-abbrev pub rows_before : LinearCase → List Linear → List Linear
-rows_before c rows = map (λ r. before r c) rows
-
--- the rows before the case, each of which fits
-pub record AreRowsBefore (c : LinearCase) (rows made : List Linear) : Type 0 where
-  pub exact : made ≡ rows_before c rows
-  pub fits : All (FitsBefore c) rows
-
 -- ---- with terms put in
 
 -- each column of the row with a term for each of its own fits

@@ -1,4 +1,5 @@
 -- Nodes from whose pieces choices lead on.
+use Rattle.tv_shape.specs.Made.{IsFitted}
 use Rattle.std.specs.Prelude.{◌≡◌, ℕ, List, []}
 use Rattle.tv_linear.specs.Linear.{Linear}
 use Rattle.tv_cases.specs.LinearCases.{CaseSystem}
@@ -11,7 +12,7 @@ use Rattle.tv_cert.specs.Claims.{about_with}
 use Rattle.tv_cert.specs.MarkedRows.{MarkedRows, marked}
 use Rattle.tv_cert.specs.Nodes.{pieces_of}
 use Rattle.tv_cert.specs.Pieces.{place_of, rows_of}
-use Rattle.tv_points.specs.Nodes.{endless, IsFitted}
+use Rattle.tv_points.specs.Nodes.{endless}
 use Rattle.tv_recur.specs.Choosing.{IsChoiceAt}
 
 -- the piece of the rows at a location that goes on, without ranks

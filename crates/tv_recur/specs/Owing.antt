@@ -6,8 +6,9 @@ use Rattle.tv_linear.specs.Terms.{terms_after}
 use Rattle.tv_cases.specs.LinearCases.{LinearCase}
 use Rattle.tv_cases.specs.Systems.{cases_of}
 use Rattle.tv_cases.specs.Views.{case_view}
+use Rattle.tv_cases.specs.Before.{FitsBefore, rows_before}
 use Rattle.tv_farkas.specs.Paths.{IsWholePoint}
-use Rattle.tv_recur.specs.Making.{FitsBefore, rows_before, FitsPut, rows_put, drawn_terms}
+use Rattle.tv_recur.specs.Making.{FitsPut, rows_put, drawn_terms}
 use Rattle.tv_recur.specs.Refusing.{MayPut}
 use Rattle.tv_recur.specs.declared.taking.Taking.{Taking}
 

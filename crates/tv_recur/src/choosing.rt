@@ -1,11 +1,10 @@
 // Choices made of covers.
 
 ghost use Rattle.std.specs.Prelude.{◌≡◌, IfOk};
-ghost use Rattle.tv_linear.specs.Linear.{IsNarrow};
 ghost use Rattle.tv_recur.specs.Choosing.{IsChoiceOf, IsSplitOf, IsTakeOf};
 
 use std::alloc::{AllocError, Global};
-use tv_linear::{ChoiceTree, CoverTree, Row, copies_of_lists, push_copies};
+use tv_linear::{ChoiceTree, CoverTree, Row, copies_of_lists, copy_row, push_copies};
 
 /// What a choice does where the cover that it is made of enters a target.
 #[derive(Drop)]
@@ -16,15 +15,6 @@ pub(crate) struct Entered<'a> {
     pub place: u32,
     /// A term for each draw.
     pub draws: &'a [Row],
-}
-
-/// A copy of a row, which is narrow.
-fn copy_row(alloc: Global, row: &Row) -> Result<Row, AllocError>
-    ensures same { IfOk result (λ copy. copy ≡ row.now) }
-    ensures narrow { IsNarrow row.now }
-{
-    let _columns = row.columns();
-    row.copy(alloc)
 }
 
 /// A split at a row, with the choices where it is met and where it is not.

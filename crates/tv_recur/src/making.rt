@@ -6,10 +6,11 @@ ghost use Rattle.tv_linear.specs.Linear.{columns as width, IsWithin};
 ghost use Rattle.tv_linear.specs.Arithmetic.{constant_row, width_of};
 ghost use Rattle.tv_cases.specs.EdgeCases.{columns_from};
 ghost use Rattle.tv_cases.specs.Views.{case_view};
-ghost use Rattle.tv_recur.specs.Making.{AreRowsBefore, ArePut, number_rows, drawn_terms, IsUnmade, RefusesBefore, RefusesPut, IsHandedOn};
+ghost use Rattle.tv_cases.specs.Before.{AreRowsBefore};
+ghost use Rattle.tv_recur.specs.Making.{ArePut, number_rows, drawn_terms, IsUnmade, RefusesBefore, RefusesPut, IsHandedOn};
 
 use std::alloc::{AllocError, Global};
-use tv_cases::{Case, before};
+use tv_cases::{Case, all_before};
 use tv_farkas::CoverFault;
 use tv_linear::{Row, RowFault, push_item};
 
@@ -36,15 +37,11 @@ pub(crate) fn rows_before(
     ensures rows { IfOk result (λ v. AreRowsBefore (case_view case.now) rows.now v.items) }
     ensures refusals { IfErr result (IsUnmade (RefusesBefore (case_view case.now)) rows.now) }
 {
-    let mut all = Vec::new(alloc);
-    'rows: for row in rows {
-        match before(alloc, row, case) {
-            Ok(made) => push_item(&mut all, made)?,
-            Err(RowFault::Wide { column }) => return Err(CoverFault::Wide { column }),
-            Err(RowFault::Memory) => return Err(CoverFault::Memory),
-        }
+    match all_before(alloc, rows, case, variables) {
+        Ok(all) => Ok(all),
+        Err(RowFault::Wide { column }) => Err(CoverFault::Wide { column }),
+        Err(RowFault::Memory) => Err(CoverFault::Memory),
     }
-    Ok(all)
 }
 
 /// The rows with a term put in for each of their columns.

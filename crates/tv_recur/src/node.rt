@@ -1,17 +1,16 @@
 // Nodes that show that some run never ends.
 
-ghost use Rattle.std.specs.Prelude.{◌≡◌, [], ◌-◌, ◌^◌, ◌<◌, All, IfOk, length, false};
+ghost use Rattle.std.specs.Prelude.{◌≡◌, ◌-◌, ◌^◌, ◌<◌, All, IfOk, length, false};
 ghost use Rattle.std.specs.List.{AllZip};
 ghost use Rattle.tv_cases.specs.Systems.{cases_of};
 ghost use Rattle.tv_cert.specs.Shapes.{PieceShape};
-ghost use Rattle.tv_points.specs.Nodes.{HasOwn};
 ghost use Rattle.tv_recur.specs.Nodes.{on_piece, GoesOn, IsEndlessNode};
 
 use std::alloc::{AllocError, Global};
 use tv_cases::Cases;
-use tv_cert::{Mark, Marked, Node, Pieces, Proof};
+use tv_cert::{Mark, Marked, Node, Proof};
 use tv_linear::Row;
-use tv_shape::narrow_pieces;
+use tv_shape::node_of;
 
 /// The piece of these rows at a location. There is no room for 2^32 rows.
 pub(crate) fn piece_of(
@@ -29,20 +28,6 @@ pub(crate) fn piece_of(
     }
 }
 
-/// The node of these pieces and proofs.
-fn node_of(alloc: Global, list: Vec<Marked>, proofs: Vec<Proof>) -> Result<Node, AllocError>
-    ensures { IfOk result (λ node. HasOwn node list.items 0 [] proofs.items) }
-{
-    narrow_pieces(&list);
-    let pieces = Pieces::new(alloc, list)?;
-    Ok(Node {
-        pieces,
-        ranks: 0,
-        children: Vec::new(alloc),
-        proofs,
-    })
-}
-
 /// The node of these pieces, from each of which a choice leads into one of them.
 pub(crate) fn endless_node(
     alloc: Global,
@@ -55,6 +40,6 @@ pub(crate) fn endless_node(
     requires goes_on { AllZip (GoesOn (cases_of about.now) list.items) list.items proofs.items }
     ensures { IfOk result (IsEndlessNode (cases_of about.now) list.items) }
 {
-    let node = node_of(alloc, list, proofs)?;
+    let node = node_of(alloc, list, 0, Vec::new(alloc), proofs)?;
     Ok(node)
 }

@@ -7,9 +7,10 @@ ghost use Rattle.tv_cases.specs.Systems.{cases_of};
 ghost use Rattle.tv_cases.specs.Views.{case_view};
 ghost use Rattle.tv_cover.specs.Covering.{IsCoverFault};
 ghost use Rattle.tv_cover.specs.Targets.{AreEven};
+ghost use Rattle.tv_cover.specs.Single.{IsCoveredByOne};
 ghost use Rattle.tv_derived.specs.Scopes.{at_location};
 ghost use Rattle.tv_recur.specs.Choosing.{LeadsInto};
-ghost use Rattle.tv_recur.specs.Covering.{IsCoveredByOne, IsTakenBy};
+ghost use Rattle.tv_recur.specs.Covering.{IsTakenBy};
 ghost use Rattle.tv_recur.specs.Owing.{IsLeft, IsTaking};
 ghost use Rattle.tv_recur.specs.Refusing.{IsRefusal, AreFrom};
 
@@ -18,9 +19,9 @@ use crate::making::numbers_as_rows;
 use crate::owing::owed;
 use std::alloc::{AllocError, Global};
 use tv_cases::{Case, Cases};
-use tv_cover::{Covered, cover};
+use tv_cover::{Covered, cover_one};
 use tv_farkas::{Budget, CoverFault};
-use tv_linear::{Choice, Cover, Poly, Row, push_item};
+use tv_linear::{Choice, Cover, Poly, Row};
 
 /// What stays the same in a search.
 #[derive(Drop)]
@@ -50,35 +51,6 @@ pub(crate) struct Taking<'a> {
     /// The place of the piece that is entered, among those at its location.
     pub place: u32,
     pub budget: &'a Budget,
-}
-
-/// A cover of rows into one target, or a hole.
-fn cover_one(
-    alloc: Global,
-    ambient: &Poly,
-    target: Vec<Row>,
-    budget: &Budget,
-) -> Result<Covered, CoverFault>
-    requires few { ambient.now.columns < 2 ^ 32 - 1 }
-    requires even { AreEven ambient.now.columns ambient.now.rows.items }
-    requires same { AreEven ambient.now.columns target.items }
-    requires splits { budget.now.splits ≤ 128 }
-    ensures answers { IfOk result (IsCoveredByOne ambient.now.columns ambient.now.rows.items target.items) }
-    ensures refusals { let rows = ambient.now.rows.items in
-        IfErr result (IsCoverFault ambient.now.columns (target.items ∷ []) rows budget.now.pivots budget.now.splits) }
-{
-    let mut targets = Vec::new(alloc);
-    push_item(
-        &mut targets,
-        Poly {
-            columns: ambient.columns,
-            rows: target,
-        },
-    )?;
-    match cover(alloc, ambient, &targets, budget) {
-        Ok(covered) => Ok(covered),
-        Err(fault) => Err(fault),
-    }
 }
 
 /// Each number of the rows is below 2^62 in magnitude.

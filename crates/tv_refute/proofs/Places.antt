@@ -5,6 +5,7 @@ use Rattle.tv_linear.specs.Known.{kept, put, unit_number}
 use Rattle.tv_linear.specs.Linear.{Linear}
 use Rattle.tv_linear.specs.Terms.{update_of, table, draw_terms}
 use Rattle.tv_linear.specs.declared.region.Update.{Update}
+use Rattle.tv_linear.proofs.PlainLists.{length-table}
 
 pub unit_same : (j v : ℕ) → j ≡ v → pos 1 ≡ unit_number j v
 unit_same zero zero e = refl
@@ -17,10 +18,6 @@ unit_other zero zero n = absurd (n refl)
 unit_other zero (suc v) n = refl
 unit_other (suc j) zero n = refl
 unit_other (suc j) (suc v) n = unit_other j v (λ e. n (ap suc e))
-
-pub length-table : {A : Type 0} (n : ℕ) (f : ℕ → A) → length (table n f) ≡ n
-length-table zero f = refl
-length-table (suc n) f = ap suc (length-table n (λ j. f (suc j)))
 
 pub get_or-table : {A : Type 0} (n : ℕ) (f : ℕ → A) (v : ℕ) (d : A) → v < n → get_or (table n f) v d ≡ f v
 get_or-table zero f v d h = absurd (omega arith)

@@ -1,4 +1,5 @@
 -- The node fits and is met.
+use Rattle.tv_shape.specs.Made.{HasOwn, IsFitted, IsOffered}
 use Rattle.std.proofs.Common.{◌≡◌, ℕ, zero, suc, ◌<◌, List, [], ◌∷◌, ◌++◌, Some, Bool, true, false, arith, refl, sym, ap, ◌∙◌, subst}
 use Rattle.std.specs.Prelude.{slice_get, not}
 use Rattle.std.specs.List.{AllZip, flat_map}
@@ -17,17 +18,16 @@ use Rattle.tv_cert.specs.Nodes.{piece_of, own_of}
 use Rattle.tv_cert.specs.Pieces.{pieces_at}
 use Rattle.tv_cert.specs.Shapes.{PieceShape}
 use Rattle.tv_cert.proofs.NodeLemmas.{pieces_are}
-use Rattle.tv_lexrank.specs.Offered.{IsOffered}
 use Rattle.tv_lexrank.proofs.MetLemmas.{over_at}
-use Rattle.tv_points.specs.Nodes.{HasOwn, IsFitted, IsWholeNode, whole_piece}
+use Rattle.tv_points.specs.Nodes.{IsWholeNode, whole_piece}
 use Rattle.tv_points.proofs.BareMet.{atoms_offered, whole_shape}
-use Rattle.tv_points.proofs.NodeLemmas as points
+use Rattle.tv_shape.proofs.MadeLemmas.{node_fitted}
 use Rattle.tv_points.proofs.RunMet.{zip_both}
 use Rattle.tv_settling.specs.Below.{pieces_below, elsewhere}
 use Rattle.tv_settling.specs.Nodes.{system_of, asked, known_piece, known_there, known_pieces, pieces_elsewhere, owed_at, AreShownBelow, ShowsNever}
 use Rattle.tv_settling.specs.declared.barrier.Barrier.{Barrier}
 use Rattle.tv_settling.proofs.BelowLemmas.{each_below, length_below, elsewhere_placed, elsewhere_short, each_elsewhere}
-use Rattle.tv_settling.proofs.ShownLemmas.{as_given_back, known_placed, known_found}
+use Rattle.tv_settling.proofs.ShownLemmas.{, known_placed, known_found}
 
 -- ---- the children
 module _ (b : Barrier) where
@@ -39,8 +39,8 @@ module _ (b : Barrier) where
   OwesNothing number q = piece_of number (asked b) (negated (at b.location)) (pieces_elsewhere b) [] q ≡ atom_of number (asked b) q ([] ∷ []) ∷ []
 
   pub elsewhere_fitted : (node : Node) → IsWholeNode node (pieces_elsewhere b) → IsFitted (asked b) (negated (at b.location)) 2 node
-  elsewhere_fitted node h = points.node_fitted (asked b) (negated (at b.location)) 2 node (pieces_elsewhere b) 0 [] h.proofs h.own (record {
-    normal = tt;
+  elsewhere_fitted node h = node_fitted (asked b) (negated (at b.location)) 2 node (pieces_elsewhere b) 0 [] h.proofs h.own (record {
+    said = tt;
     ranked = λ e. refl;
     small = omega arith;
     few = (
@@ -57,8 +57,8 @@ module _ (b : Barrier) where
   })
 
   pub false_fitted : (node : Node) → IsWholeNode node [] → IsFitted (asked b) (truth false) 2 node
-  false_fitted node h = points.node_fitted (asked b) (truth false) 2 node [] 0 [] h.proofs h.own (record {
-    normal = tt;
+  false_fitted node h = node_fitted (asked b) (truth false) 2 node [] 0 [] h.proofs h.own (record {
+    said = tt;
     ranked = λ e. refl;
     small = omega arith;
     few = omega arith;
@@ -92,12 +92,6 @@ module _ (b : Barrier) where
       (subst (λ z. AllZip IsOffered z (front ++ shown.more)) (sym (flat_map-append (owes number) (pieces_below (known_there b) l) (known_piece b l ∷ []) ∙ ap (λ z. flat_map (owes number) (pieces_below (known_there b) l) ++ z) (append-nil (owes number (known_piece b l)))))
       (zip_both IsOffered (flat_map (owes number) (pieces_below (known_there b) l)) (owed_at b number l) front shown.more (all_offered number l front below) (shown.each number)))
 
-  all_back : (os : List Obligation) (proofs : List Proof) → AllZip IsOffered os proofs → AllZip points.IsOffered os proofs
-  all_back [] [] h = tt
-  all_back [] (p ∷ proofs) h = absurd h
-  all_back (o ∷ os) [] h = absurd h
-  all_back (o ∷ os) (p ∷ proofs) h = (as_given_back o p h.0, all_back os proofs h.1)
-
   module _ (node : Node) (pieces : List Marked) (children : List Node) (proofs : List Proof) (away never : Node) (same : pieces ≡ known_pieces b) (own : HasOwn node pieces 0 children proofs) (parts : children ≡ away ∷ never ∷ []) (away_is : IsWholeNode away (pieces_elsewhere b)) (never_is : IsWholeNode never []) (shown : AreShownBelow b (system_of b).locations proofs) where
     owned : HasOwn node (known_pieces b) 0 (away ∷ never ∷ []) proofs
     owned = subst (λ ps. HasOwn node ps 0 (away ∷ never ∷ []) proofs) same (subst (λ ns. HasOwn node pieces 0 ns proofs) parts own)
@@ -106,8 +100,8 @@ module _ (b : Barrier) where
     pieces_of_kids = (λ i. away_is.own.pieces_are i ∷ never_is.own.pieces_are i ∷ [])
 
     fitted : IsFitted (asked b) (never_at b.location) 1 node
-    fitted = points.node_fitted (asked b) (never_at b.location) 1 node (known_pieces b) 0 (away ∷ never ∷ []) proofs owned (record {
-      normal = tt;
+    fitted = node_fitted (asked b) (never_at b.location) 1 node (known_pieces b) 0 (away ∷ never ∷ []) proofs owned (record {
+      said = tt;
       ranked = λ e. refl;
       small = omega arith;
       few = (
@@ -117,8 +111,8 @@ module _ (b : Barrier) where
           );
       each = each_below (known_there b) (known_placed b) (PieceShape (system_of b) 0 true) (system_of b).locations
           (λ l inside. All-cons (PieceShape (system_of b) 0 true) (known_piece b l) [] (known_shape l inside) (All-nil (PieceShape (system_of b) 0 true)));
-      offered = λ number. subst (λ ks. AllZip points.IsOffered (own_of number (asked b) (never_at b.location) (known_pieces b) ks) proofs) (sym pieces_of_kids)
-          (all_back (own_of number (asked b) (never_at b.location) (known_pieces b) kids) proofs (all_offered number (system_of b).locations proofs shown));
+      offered = λ number. subst (λ ks. AllZip IsOffered (own_of number (asked b) (never_at b.location) (known_pieces b) ks) proofs) (sym pieces_of_kids)
+          (all_offered number (system_of b).locations proofs shown);
       below = (elsewhere_fitted away away_is, (false_fitted never never_is, tt));
       shallow = omega arith;
     })

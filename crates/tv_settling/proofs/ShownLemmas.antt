@@ -17,27 +17,20 @@ use Rattle.tv_cert.specs.Obligations.{Obligation, case_change}
 use Rattle.tv_cert.specs.Pieces.{place_of, pieces_at}
 use Rattle.tv_cert.specs.Targets.{target_rows, owed_into, no_fall}
 use Rattle.tv_shape.specs.Narrow.{CoverNarrow}
+use Rattle.tv_shape.specs.Made.{IsOffered}
 use Rattle.tv_rank.specs.Ways.{Way, way_of, rows_at, case_at}
 use Rattle.tv_lexrank.specs.Closing.{owed_plain, changed, IsClosed}
 use Rattle.tv_lexrank.specs.Known.{way_rows}
-use Rattle.tv_lexrank.specs.Offered.{IsOffered}
 use Rattle.tv_lexrank.proofs.NodeLemmas.{met_weaker}
 use Rattle.tv_lexrank.proofs.OfferLemmas.{met_shape}
 use Rattle.tv_lexrank.proofs.SortLemmas.{of_case}
 use Rattle.tv_points.specs.Nodes.{IsBare}
 use Rattle.tv_points.proofs.BareMet.{bare_offered}
-use Rattle.tv_points.proofs.NodeLemmas as points
 use Rattle.tv_settling.specs.Nodes.{system_of, known_piece, known_there, known_pieces, pieces_elsewhere, IsHoldProof, IsStepProof}
 use Rattle.tv_settling.specs.declared.barrier.Barrier.{Barrier}
 use Rattle.tv_settling.proofs.BelowLemmas.{AreAt, found, elsewhere_leads}
 
 -- ---- that the states are not at the location
-pub as_offered : (o : Obligation) (p : Proof) → points.IsOffered o p → IsOffered o p
-as_offered o p h = record { shape = h.shape; met = h.met; narrow = h.narrow; shallow = h.shallow }
-
-pub as_given_back : (o : Obligation) (p : Proof) → IsOffered o p → points.IsOffered o p
-as_given_back o p h = record { shape = h.shape; met = h.met; narrow = h.narrow; shallow = h.shallow }
-
 module _ (b : Barrier) where
   abbrev v : ℕ
   v = (system_of b).variables
@@ -46,14 +39,14 @@ module _ (b : Barrier) where
   hold_owed l = owed_into (pieces_elsewhere b) l given no_fall
 
   pub bare_holds : (l : ℕ) (p : Proof) → l < (system_of b).locations → (l ≡ b.location → ⊥) → IsBare p → IsHoldProof b l p
-  bare_holds l p inside other bare = λ number. as_offered _ p
-      (bare_offered v (as_given (rows_at b.known.now.pieces.items l)) (hold_owed l) (elsewhere_leads v b.location (system_of b).locations l inside other) number kind.Hold p bare)
+  bare_holds l p inside other bare = λ number.
+      bare_offered v (as_given (rows_at b.known.now.pieces.items l)) (hold_owed l) (elsewhere_leads v b.location (system_of b).locations l inside other) number kind.Hold p bare
 
   pub empty_holds : (tree : CoverTree) → IsMetCover v no_target (as_given (rows_at b.known.now.pieces.items b.location)) tree → splits tree ≤ 128 → TreeRows (λ r. columns r ≡ v) tree → CoverNarrow tree → IsHoldProof b b.location (Covered tree)
   empty_holds tree empty shallow even narrow = λ number.
       let rows = as_given (rows_at b.known.now.pieces.items b.location) in
       let met = met_weaker v no_target (hold_owed b.location) (λ k j more e. absurd cc) rows tree empty in
-      record { shape = (met_shape v (hold_owed b.location) rows tree even met, shallow); met = met; narrow = narrow; shallow = shallow }
+      record { shape = (met_shape v (hold_owed b.location) rows tree even met, shallow); met = met; narrow = narrow }
 
   -- ---- that a case leads into the known rows
   pub known_placed : (l : ℕ) → AreAt l (known_there b l)
@@ -85,4 +78,4 @@ module _ (b : Barrier) where
     closed_shows tree h narrow = λ number.
         let n = v + c.draws in
         let met = met_weaker n (owed_plain (map (changed v w) (rows_at b.known.now.pieces.items c.to))) step_owed owed_there (way_rows w) tree h.met in
-        record { shape = (met_shape n step_owed (way_rows w) tree h.even met, h.shallow); met = met; narrow = narrow; shallow = h.shallow }
+        record { shape = (met_shape n step_owed (way_rows w) tree h.even met, h.shallow); met = met; narrow = narrow }

@@ -4,7 +4,7 @@ use Rattle.std.specs.List.{AllZip}
 use Rattle.tv_cases.specs.LinearCases.{LinearCase, leaving}
 use Rattle.tv_cert.specs.declared.node.Proof.{Proof}
 use Rattle.tv_rank.specs.Ways.{case_at}
-use Rattle.tv_lexrank.specs.Offered.{IsOffered}
+use Rattle.tv_shape.specs.Made.{IsOffered}
 use Rattle.tv_lexrank.proofs.StandLemmas.{IsLeaving, take_more, take_all}
 use Rattle.tv_settling.specs.Nodes.{system_of, owed_step, IsHoldProof, IsStepAt, IsStepProof, AreStepsShown, AreShownAt, AreShownBelow}
 use Rattle.tv_settling.specs.declared.barrier.Barrier.{Barrier}

@@ -17,8 +17,7 @@ use Rattle.tv_cert.specs.Obligations.{About, Obligation, cover_of, step_of}
 use Rattle.tv_cert.specs.Targets.{no_fall}
 use Rattle.tv_rank.specs.Ways.{rows_at, case_at}
 use Rattle.tv_lexrank.specs.Nodes.{IsPieceAt}
-use Rattle.tv_lexrank.specs.Offered.{IsOffered}
-use Rattle.tv_points.specs.Nodes.{IsFitted}
+use Rattle.tv_shape.specs.Made.{IsFitted, IsOffered}
 use Rattle.tv_settling.specs.Below.{pieces_below, elsewhere}
 use Rattle.tv_settling.specs.Refusals.{RefusesOver}
 use Rattle.tv_settling.specs.declared.barrier.Barrier.{Barrier}

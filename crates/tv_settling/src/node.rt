@@ -13,7 +13,8 @@ use std::alloc::{AllocError, Global};
 use tv_cert::Node;
 use tv_farkas::CoverFault;
 use tv_linear::push_item;
-use tv_points::{node_of, whole_node};
+use tv_points::whole_node;
+use tv_shape::node_of;
 
 /// The node of the test that the state is not at the location.
 fn elsewhere_node(alloc: Global, barrier: &Barrier) -> Result<Node, AllocError>

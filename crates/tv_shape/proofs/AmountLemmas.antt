@@ -2,15 +2,15 @@
 use Rattle.std.proofs.Common.{true, Option, None, Some, ◌≡◌, ℕ, zero, suc, ◌+◌, ◌<◌, ◌≤◌, List, [], ◌∷◌, length, drop, get_or, arith, refl, sym, ap, ◌∙◌, length-append, drop-cons}
 use Rattle.std.proofs.lemmas.Slice.Zip.{AllZip-long}
 use Rattle.std.specs.Option.{SomeIff, is_some}
-use Rattle.tv_formula.specs.Properties.{Property, Properties, none, more}
+use Rattle.tv_formula.specs.Properties.{Property}
+use Rattle.tv_cases.specs.LinearCases.{CaseSystem}
 use Rattle.tv_cert.specs.declared.node.Node.{Node, Node', Row_of-Node, end_of-Node, more_of-Node, items-the_row-Node, outs-Node'}
 use Rattle.tv_cert.specs.declared.node.Verdict.{Verdict}
 use Rattle.tv_cert.specs.Obligations.{About, paired}
-use Rattle.tv_cert.specs.Nodes.{parts, kid_pieces, size, entries, kid_entries, obligations, root_entry, pieces_of, own_of}
-use Rattle.tv_cert.specs.Shapes.{ProofShape, HasShape, HaveShapes}
+use Rattle.tv_cert.specs.Nodes.{kid_pieces, size, entries, node_entries, children_entries, obligations, root_entry, pieces_of, node_owes}
+use Rattle.tv_cert.specs.Shapes.{ProofShape, NodeShape, KidsShape, HasShape}
 use Rattle.tv_cert.proofs.NodeLemmas.{kids_of, sizes_list, proofs_list, out_is, length-paired}
-use Rattle.tv_cert.proofs.StatedLemmas.{entries_are}
-use Rattle.tv_cert.specs.Statements.{stated}
+use Rattle.tv_cert.specs.Statements.{Statement, Statements, no_statement, statement, parts_of, stated}
 use Rattle.tv_shape.specs.Amounts.{proofs_below, kid_proofs}
 use Rattle.tv_shape.proofs.NumberLemmas.{own_many}
 
@@ -51,28 +51,24 @@ sizes_end (a ∷ kids) (suc i) h = sizes_end kids i (omega arith)
 
 -- ---- as many proofs as obligations
 
-own_counted : (number : ℕ) (about : About) (f : Property) (ps : _) (kids : _) → length (own_of number about f ps kids) ≡ length (own_of 0 about f ps kids)
-own_counted number about f ps kids = own_many number about.system (stated about.tests f) ps kids
-
 mutual
-  pub entries_counted : (number : ℕ) (about : About) (f : Property) (node : Node) → HasShape about f node → length (entries number about f node) ≡ proofs_below node
-  entries_counted number about f (Node' ps m shape kids proofs) h =
-      let below = kid_entries_counted (number + 1) about (parts f) kids h.1 in
-      let own = length-paired (own_of number about f ps (kid_pieces kids)) proofs.items in
-      let same = own_counted number about f ps (kid_pieces kids) in
-      let long = AllZip-long (λ o p. ProofShape o.owed p) (own_of 0 about f ps (kid_pieces kids)) proofs.items h.0.offered in
-      let all = length-append (kid_entries (number + 1) about (parts f) kids) (paired (own_of number about f ps (kid_pieces kids)) proofs.items) in
-      let parts_entries = ap length (entries_are number about f ps m shape kids proofs) in
-      omega (arith, below, own, same, long, all, parts_entries)
+  pub entries_counted : (number : ℕ) (system : CaseSystem) (s : Statement) (node : Node) → NodeShape system s node → length (node_entries number system s node) ≡ proofs_below node
+  entries_counted number system s (Node' ps m shape kids proofs) h =
+      let below = kid_entries_counted (number + 1) system (parts_of s) kids h.1 in
+      let own = length-paired (node_owes number system s ps (kid_pieces kids)) proofs.items in
+      let same = own_many number system s ps (kid_pieces kids) in
+      let long = AllZip-long (λ o p. ProofShape o.owed p) (node_owes 0 system s ps (kid_pieces kids)) proofs.items h.0.offered in
+      let all = length-append (children_entries (number + 1) system (parts_of s) kids) (paired (node_owes number system s ps (kid_pieces kids)) proofs.items) in
+      omega (arith, below, own, same, long, all)
 
-  kid_entries_counted : {k : _} (number : ℕ) (about : About) (fs : Properties) (kids : Row_of-Node k) → HaveShapes about fs kids → length (kid_entries number about fs kids) ≡ kid_proofs kids
-  kid_entries_counted number about none end_of-Node h = refl
-  kid_entries_counted number about none (more_of-Node a kids) h = absurd h
-  kid_entries_counted number about (more f fs) end_of-Node h = absurd h
-  kid_entries_counted number about (more f fs) (more_of-Node a kids) h =
-      let one = entries_counted number about f a h.0 in
-      let rest = kid_entries_counted (number + size a) about fs kids h.1 in
-      omega (arith, one, rest, length-append (entries number about f a) (kid_entries (number + size a) about fs kids))
+  kid_entries_counted : {k : _} (number : ℕ) (system : CaseSystem) (ss : Statements) (kids : Row_of-Node k) → KidsShape system ss kids → length (children_entries number system ss kids) ≡ kid_proofs kids
+  kid_entries_counted number system no_statement end_of-Node h = refl
+  kid_entries_counted number system no_statement (more_of-Node a kids) h = absurd h
+  kid_entries_counted number system (statement s ss) end_of-Node h = absurd h
+  kid_entries_counted number system (statement s ss) (more_of-Node a kids) h =
+      let one = entries_counted number system s a h.0 in
+      let rest = kid_entries_counted (number + size a) system ss kids h.1 in
+      omega (arith, one, rest, length-append (node_entries number system s a) (children_entries (number + size a) system ss kids))
 
 -- and one more for the root
 pub obligations_long : (about : About) (f : Property) (root : Node) (verdict : Verdict) → length (obligations about f root verdict) ≡ length (entries 0 about f root) + 1
@@ -81,7 +77,7 @@ obligations_long about f root verdict = length-append (entries 0 about f root) (
 pub obligations_counted : (about : About) (f : Property) (root : Node) (verdict : Verdict) → HasShape about f root → length (obligations about f root verdict) ≡ proofs_below root + 1
 obligations_counted about f root verdict h =
     let a = obligations_long about f root verdict in
-    let b = entries_counted 0 about f root h in
+    let b = entries_counted 0 about.system (stated about.tests f) root h in
     omega (arith, a, b)
 
 -- what is told where there is an answer

@@ -6,3 +6,4 @@ pub mod StationLemmas
 pub mod FitLemmas
 pub mod AmountLemmas
 pub mod FaultLemmas
+pub mod MadeLemmas

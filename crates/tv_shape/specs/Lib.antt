@@ -8,3 +8,4 @@ pub mod Fitting
 pub mod Kinds
 pub mod Amounts
 pub mod Certificates
+pub mod Made

@@ -1,15 +1,13 @@
 -- The shape of a certificate node by node, in pre-order.
-use Rattle.std.specs.Prelude.{◌≡◌, ℕ, ◌+◌, ◌^◌, ◌<◌, ◌≤◌, List, [], ◌∷◌, ◌++◌, length, map, All, Bool, true, false}
-use Rattle.std.specs.List.{AllZip}
-use Rattle.tv_formula.specs.declared.tree.Shape.TheVariants.{Until, Strong}
+use Rattle.std.specs.Prelude.{◌≡◌, ℕ, ◌+◌, ◌≤◌, List, [], ◌∷◌, ◌++◌, length, map, All}
 use Rattle.tv_cases.specs.LinearCases.{CaseSystem}
 use Rattle.tv_cert.specs.declared.node.Marked.{Marked}
 use Rattle.tv_cert.specs.declared.node.Proof.{Proof}
 use Rattle.tv_cert.specs.declared.node.Node.{Node, Node', Row_of-Node, end_of-Node, more_of-Node}
 use Rattle.tv_cert.specs.Listed.{pieces_list}
-use Rattle.tv_cert.specs.Nodes.{size, node_owes}
-use Rattle.tv_cert.specs.Shapes.{PieceShape, ProofShape}
-use Rattle.tv_cert.specs.Statements.{Statement, ends, along, unsaid, Statements, no_statement, statement, parts_of, count}
+use Rattle.tv_cert.specs.Nodes.{size}
+use Rattle.tv_cert.specs.Shapes.{OwnShape}
+use Rattle.tv_cert.specs.Statements.{Statement, Statements, no_statement, statement, parts_of, count}
 use Rattle.tv_shape.specs.Parts.{children_of, proofs_of, ranks_at}
 use Rattle.tv_shape.specs.Narrow.{PartsNarrow}
 use Rattle.tv_shape.specs.Depths.{proof_splits}
@@ -37,35 +35,10 @@ abbrev mutual
   kid_stations number depth no_statement (more_of-Node a kids) = []
   kid_stations number depth (statement s ss) (more_of-Node a kids) = stations number depth s a ++ kid_stations (number + size a) depth ss kids
 
--- whether pieces may be done: in fixed points alone
-abbrev pub done_may_be : Statement → Bool
-done_may_be (along path shape s t) = true
-done_may_be s = false
-
--- whether pieces may have ranks: where what is claimed is that something comes at last
-abbrev pub ranks_may_be : Statement → Bool
-ranks_may_be ends = true
-ranks_may_be (along path Until s t) = true
-ranks_may_be (along path Strong s t) = true
-ranks_may_be s = false
-
--- the formula is normal
-abbrev pub IsSaid : Statement → Type 0
-IsSaid unsaid = ⊥
-IsSaid s = Unit {0}
-
--- the shape of a node's own parts, where these are the pieces of its children
-pub record OwnParts (system : CaseSystem) (s : Statement) (m : ℕ) (ps : List Marked) (kids : List (List Marked)) (proofs : List Proof) : Type 0 where
-  pub said : IsSaid s
-  pub ranked : ranks_may_be s ≡ false → m ≡ 0
-  pub small : m < 2 ^ 32
-  pub each : All (PieceShape system m (done_may_be s)) ps
-  pub offered : AllZip (λ o p. ProofShape o.owed p) (node_owes 0 system s ps kids) proofs
-
 -- the node has a child for each argument, the shape of its own parts, and narrow numbers
 pub record IsShaped (system : CaseSystem) (t : Station) : Type 0 where
   pub arguments : length (children_of t.node) ≡ count (parts_of t.states)
-  pub own : OwnParts system t.states (ranks_at t.node) (pieces_list t.node) (map pieces_list (children_of t.node)) (proofs_of t.node)
+  pub own : OwnShape system t.states (ranks_at t.node) (pieces_list t.node) (map pieces_list (children_of t.node)) (proofs_of t.node)
   pub narrow : PartsNarrow (ranks_at t.node) (pieces_list t.node) (proofs_of t.node)
 
 -- neither the node nor a split of its proofs lies deeper than 384

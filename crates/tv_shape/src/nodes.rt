@@ -4,10 +4,10 @@ ghost use Rattle.tv_cases.specs.Systems.{cases_of};
 ghost use Rattle.tv_cert.specs.AimViews.{aim_states, aims_state};
 ghost use Rattle.tv_cert.specs.Listed.{pieces_list};
 ghost use Rattle.tv_cert.specs.Nodes.{node_owes};
-ghost use Rattle.tv_cert.specs.Shapes.{ProofShape};
+ghost use Rattle.tv_cert.specs.Shapes.{ProofShape, OwnShape, may_be_done, may_rank};
 ghost use Rattle.tv_cert.specs.Statements.{Statement, count, parts_of};
 ghost use Rattle.tv_shape.specs.Parts.{children_of, proofs_of, ranks_at};
-ghost use Rattle.tv_shape.specs.Stations.{OwnParts, IsShaped, IsShallow, IsRight, IsFaultAt, station, done_may_be, ranks_may_be};
+ghost use Rattle.tv_shape.specs.Stations.{IsShaped, IsShallow, IsRight, IsFaultAt, station};
 
 use crate::depths::proofs_go_within;
 use crate::fault::ShapeFault;
@@ -23,14 +23,14 @@ pub const MAX_DEPTH: u32 = 384;
 
 /// Whether pieces may be done.
 pub fn may_be_done(aim: &Aim) -> bool
-    ensures { result ≡ done_may_be (aim_states aim.now) }
+    ensures { result ≡ may_be_done (aim_states aim.now) }
 {
     matches!(aim, Aim::Along(..))
 }
 
 /// Whether pieces may have ranks.
 pub fn may_rank(aim: &Aim) -> bool
-    ensures { result ≡ ranks_may_be (aim_states aim.now) }
+    ensures { result ≡ may_rank (aim_states aim.now) }
 {
     matches!(
         aim,
@@ -80,7 +80,7 @@ fn has_own_parts(about: &Cases, aim: &Aim, node: &Node) -> bool
     ensures { let system = cases_of about.now in
         let states = aim_states aim.now in
         let below = map pieces_list (children_of node.now) in
-        IsTrue result ↔ OwnParts system states (ranks_at node.now) (pieces_list node.now) below (proofs_of node.now) }
+        IsTrue result ↔ OwnShape system states (ranks_at node.now) (pieces_list node.now) below (proofs_of node.now) }
 {
     let done = may_be_done(aim);
     (node.ranks == 0 || may_rank(aim))

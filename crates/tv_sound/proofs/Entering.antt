@@ -13,6 +13,7 @@ use Rattle.tv_linear.specs.Falls.{Falls, fall_rows}
 use Rattle.tv_linear.specs.Covers.{IsMetCover}
 use Rattle.tv_linear.proofs.Covered.{covered}
 use Rattle.tv_linear.proofs.KnownLemmas.{value-composed, met-as_given}
+use Rattle.tv_linear.proofs.PlainLists.{length-table}
 use Rattle.tv_program.specs.Steps.{State}
 use Rattle.tv_cases.specs.LinearCases.{LinearCase, CaseDoes}
 use Rattle.tv_cert.specs.declared.node.Marked.{Marked}
@@ -162,11 +163,6 @@ module _ (n : ℕ) (p : Marked) (c : LinearCase) (ds : List ℤ) (s t : State) (
 
   pub ranks_now : (q : Marked) → map (known_value (s.values ++ ds)) (map (case_change n c) (ranks_of q)) ≡ map (known_value t.values) (as_given (ranks_of q))
   ranks_now q = ranks-after (s.values ++ ds) (terms_after n c.updates) (ranks_of q) ∙ (λ i. map (known_value (sym gives i)) (as_given (ranks_of q)))
-
--- the number of values stays
-length-table : {A : Type 0} (n : ℕ) (f : ℕ → A) → length (table n f) ≡ n
-length-table zero f = refl
-length-table (suc n) f = ap suc (length-table n (λ j. f (suc j)))
 
 pub wide_after : (n : ℕ) (c : LinearCase) (ds : List ℤ) (s t : State) → CaseDoes c ds s t → length s.values ≡ n → length t.values ≡ n
 wide_after n c ds s t does wide = ap length does.gives ∙ length-map (terms_after (length s.values) c.updates) (term_value (s.values ++ ds)) ∙ length-table (length s.values) (update_of c.updates) ∙ wide

@@ -9,7 +9,7 @@ use crate::rows::solving::Effort;
 use std::alloc::{AllocError, Global};
 use tv_cert::{Mark, Marked, Node, Proof};
 use tv_linear::Row;
-use tv_points::node_of;
+use tv_shape::node_of;
 
 /// Areas where a fixed point holds, and what shows it.
 #[derive(Drop)]

@@ -10,7 +10,7 @@ use std::alloc::{AllocError, Global};
 use tv_cases::Case;
 use tv_cert::{Mark, Marked, Node, Proof};
 use tv_linear::{Cover, Row, copies};
-use tv_points::node_of;
+use tv_shape::node_of;
 
 /// A formula where it is shown to hold: its node, and the areas of its pieces, in their order.
 #[derive(Drop)]

@@ -7,7 +7,7 @@ use crate::question::Question;
 use std::alloc::{AllocError, Global};
 use tv_cert::{Mark, Marked, Node, Proof};
 use tv_linear::Row;
-use tv_points::node_of;
+use tv_shape::node_of;
 
 /// A node whose pieces are states of a graph, in their order.
 #[derive(Drop)]

@@ -16,6 +16,7 @@ use Rattle.tv_shape.specs.declared.certificate.Certificate.{Certificate}
 use Rattle.tv_cert_reader.specs.CertificateLines.{node_lines, certificate_lines}
 use Rattle.tv_cert_spelling.specs.Spelling.{spelled, all_spelled, lines_with, said_lines, at_lines}
 use Rattle.tv_cert_reader.proofs.KindLemmas.{size_is_kinds}
+use Rattle.tv_cert_reader.proofs.CompleteStated.{lines_as}
 use Rattle.tv_cert_spelling.proofs.KindLines.{lines_again}
 use Rattle.tv_cert_spelling.proofs.Again.{written_again}
 use Rattle.tv_cert_spelling.proofs.certificates.write_certificate.Goals as goal
@@ -40,12 +41,13 @@ whole a b c d e first last said nodes start ha hb hc hd he =
 lines_kept : (about : About) (f : Property) (c : Certificate) → IsOf about f c → lines_with c.kinds.items c.root ≡ node_lines f c.root
 lines_kept about f c h =
     ap (λ ks. lines_with ks c.root) (h.named ∙ sym (append-nil (kinds_stated (stated about.tests f))))
-    ∙ lines_again about f c.root [] h.fits.nodes.shape
+    ∙ lines_again about.system (stated about.tests f) c.root [] h.fits.nodes.shape
+    ∙ lines_as about f c.root
 
 pub append_node-requires : goal.append_node-requires
 append_node-requires c =
     let made = c.requires.made in
-    let same = size_is_kinds made.about made.formula c.args.certificate.now.root made.is.fits.nodes.shape in
+    let same = size_is_kinds made.about.system (stated made.about.tests made.formula) c.args.certificate.now.root made.is.fits.nodes.shape in
     let long = ap length made.is.named in
     let kinds = ap length c.kinds.ensures in
     let root = ap size c.root.ensures in

@@ -5,11 +5,11 @@ use Rattle.tv_linear.specs.Linear.{columns as width}
 use Rattle.tv_cases.specs.Views.{case_view}
 use Rattle.tv_choice.specs.Asked.{query_of}
 use Rattle.tv_choice.specs.ChoicePaths.{IsInner, starting}
-use Rattle.tv_choice.proofs.WayLemmas.{padded_even}
 use Rattle.tv_choice.proofs.RefusalLemmas.{inner_fault}
 use Rattle.tv_choice.proofs.StopLemmas.{stopped_by}
 use Rattle.tv_choice.proofs.stopping.stop_by.Goals as goal
 use Rattle.tv_linear.specs.Arithmetic.{padded_row}
+use Rattle.tv_linear.proofs.PaddedLemmas.{padded_even}
 
 pub empty-requires-clause-even : goal.empty-requires-clause-even
 empty-requires-clause-even c =

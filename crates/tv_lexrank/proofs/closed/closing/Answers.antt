@@ -1,12 +1,14 @@
 use Rattle.std.proofs.Common.{◌≡◌, ◌∙◌, ◌+◌, ◌<◌, ◌≤◌, ◌++◌, map, length, All, ap, sym, subst, arith}
+use Rattle.tv_cover.specs.Single.{IsCoverInto}
 use Rattle.tv_linear.specs.Linear.{columns}
+use Rattle.tv_linear.specs.Arithmetic.{padded_row}
 use Rattle.tv_cases.specs.Systems.{cases_of}
+use Rattle.tv_cases.specs.Before.{AreRowsBefore}
+use Rattle.tv_cases.proofs.BeforeLemmas.{all_before_even}
 use Rattle.tv_rank.specs.Ways.{rows_at, case_at, way_of}
-use Rattle.tv_lexrank.specs.Known.{padded_row}
-use Rattle.tv_lexrank.specs.Closing.{AreRowsBefore, IsCoverInto, RefusesCover}
+use Rattle.tv_lexrank.specs.Closing.{RefusesCover}
 use Rattle.tv_lexrank.proofs.ClosingLemmas.{leads_into, uncovered_closed}
-use Rattle.tv_lexrank.proofs.ComposeLemmas.{all_before_even}
-use Rattle.tv_lexrank.proofs.MetLemmas.{not_empty, all_within, over_at, rows_even}
+use Rattle.tv_lexrank.proofs.MetLemmas.{not_empty, have_room, over_at, rows_even}
 use Rattle.tv_lexrank.proofs.SortLemmas.{of_case}
 use Rattle.tv_lexrank.proofs.closed.closing.Goals as goal
 
@@ -20,17 +22,18 @@ rows_before-requires-clause-even c =
     subst (λ n. All (λ r. columns r ≡ n) c.known_at-owed.result.now) (sym c.variables-2.ensures.same)
     (subst (All (λ r. columns r ≡ about.variables)) (sym owed) (over_at about.variables known (case_at about.cases k).to c.requires.known.over))
 
-pub rows_with-requires-clause-more : goal.rows_with-requires-clause-more
-rows_with-requires-clause-more c =
+pub rows_with-requires-clause-few : goal.rows_with-requires-clause-few
+rows_with-requires-clause-few c =
     let about = cases_of c.args.about.now in
     let known = c.args.known.now.pieces.items in
     let k = c.args.number in
     let case = c.case_of-case.ensures.is in
     let started = c.known_at-started.ensures ∙ (λ i. rows_at (c.deref-2.ensures.value i) (case i).from) in
-    let v = c.variables.ensures.same in
-    let few : about.variables ≤ c.variables.result + c.case_of-case.result.now.draws = omega (arith, v) in
-    subst (All (λ r. columns r ≤ c.variables.result + c.case_of-case.result.now.draws)) (sym started)
-    (all_within about.variables (c.variables.result + c.case_of-case.result.now.draws) (rows_at known (case_at about.cases k).from) few (over_at about.variables known (case_at about.cases k).from c.requires.known.over))
+    let all = over_at about.variables known (case_at about.cases k).from c.requires.known.over in
+    let draws = c.case_of-case.ensures.limits.few_draws in
+    let variables = c.case_of-case.ensures.few in
+    have_room about.variables c.case_of-case.result.now.draws c.known_at-started.result.now (omega (arith, draws, variables))
+    (subst (All (λ r. columns r ≡ about.variables)) (sym started) all)
 
 pub cover_into-requires-clause-even : goal.cover_into-requires-clause-even
 cover_into-requires-clause-even c =
@@ -41,7 +44,7 @@ cover_into-requires-clause-even c =
     let started = c.known_at-started.ensures ∙ (λ i. rows_at (c.deref-2.ensures.value i) (case i).from) in
     let wide : c.variables.result + c.case_of-case.result.now.draws ≡ about.variables + (case_at about.cases k).draws = (λ i. c.variables.ensures.same i + (case i).draws) in
     let guards = c.deref-3.ensures.value ∙ ap (λ z. z.guards) case in
-    let met = c.in_ok-rows.ensures ∙ (λ i. map (padded_row (wide i)) (started i) ++ guards i) in
+    let met = c.in_ok-rows.ensures ∙ (λ i. map (padded_row (case i).draws) (started i) ++ guards i) in
     subst (λ n. All (λ r. columns r ≡ n) c.in_ok-rows.rows.items) (sym wide)
     (subst (All (λ r. columns r ≡ about.variables + (case_at about.cases k).draws)) (sym met)
     (rows_even about.variables (way_of about.cases known k) (over_at about.variables known (case_at about.cases k).from c.requires.known.over) (of_case about k c.args.about.now.are_cases c.requires.number).guards))
@@ -70,7 +73,7 @@ returns-in-Ok-cover_into-clause-closed c =
     let started = c.known_at-started.ensures ∙ (λ i. rows_at (c.deref-2.ensures.value i) (case i).from) in
     let wide : c.variables.result + c.case_of-case.result.now.draws ≡ about.variables + (case_at about.cases k).draws = (λ i. c.variables.ensures.same i + (case i).draws) in
     let guards = c.deref-3.ensures.value ∙ ap (λ z. z.guards) case in
-    let met = c.in_ok-rows.ensures ∙ (λ i. map (padded_row (wide i)) (started i) ++ guards i) in
+    let met = c.in_ok-rows.ensures ∙ (λ i. map (padded_row (case i).draws) (started i) ++ guards i) in
     let made = subst (λ z. AreRowsBefore (case_at about.cases k) z c.in-Ok.target.items) owed (subst (λ z. AreRowsBefore z c.known_at-owed.result.now c.in-Ok.target.items) case c.in-Ok.ensures.rows) in
     let proper = of_case about k c.args.about.now.are_cases c.requires.number in
     let into = over_at about.variables known (case_at about.cases k).to c.requires.known.over in
@@ -87,7 +90,7 @@ returns-clause-refusals c =
     let started = c.known_at-started.ensures ∙ (λ i. rows_at (c.deref-2.ensures.value i) (case i).from) in
     let wide : c.variables.result + c.case_of-case.result.now.draws ≡ about.variables + (case_at about.cases k).draws = (λ i. c.variables.ensures.same i + (case i).draws) in
     let guards = c.deref-3.ensures.value ∙ ap (λ z. z.guards) case in
-    let met = c.in_ok-rows.ensures ∙ (λ i. map (padded_row (wide i)) (started i) ++ guards i) in
+    let met = c.in_ok-rows.ensures ∙ (λ i. map (padded_row (case i).draws) (started i) ++ guards i) in
     let made = subst (λ z. AreRowsBefore (case_at about.cases k) z c.in-Ok.target.items) owed (subst (λ z. AreRowsBefore z c.known_at-owed.result.now c.in-Ok.target.items) case c.in-Ok.ensures.rows) in
     let proper = of_case about k c.args.about.now.are_cases c.requires.number in
     let some = subst (λ z. 0 < length z) owed (not_empty c.known_at-owed.result.now c.is_empty.result c.is_empty.ensures c.if-is_empty.false) in

@@ -14,7 +14,7 @@ use Rattle.tv_region.specs.StepRegions.{InState}
 use Rattle.tv_pre.specs.Around.{Around, next_of}
 use Rattle.tv_pre.specs.Inclusions.{OfPiece, LeadsTo}
 use Rattle.tv_pre.specs.Making.{plain_pieces}
-use Rattle.tv_pre.specs.Offers.{Offers}
+use Rattle.tv_shape.specs.Made.{Offers}
 use Rattle.tv_pre.specs.Parts.{AreParts}
 use Rattle.tv_pre.specs.Pieces.{IsMarked, AreMarked}
 use Rattle.tv_pre.specs.Questions.{AsksOf, AsksNext}

@@ -3,8 +3,9 @@ use Rattle.tv_shape.specs.Narrow.{CoverNarrow}
 use Rattle.tv_cases.specs.Systems.{cases_of}
 use Rattle.tv_cover.specs.Targets.{lists_of, AreEven}
 use Rattle.tv_cover.specs.Covering.{IsCovered, HasNoHole, IsShallow, IsShortCovered, HasSplitRows, IsCoverFault}
+use Rattle.tv_cover.proofs.SingleLemmas.{rows_even}
 use Rattle.tv_choice.specs.Leading.{piece_rows}
-use Rattle.tv_pre.proofs.OfferLemmas.{shows_inside, rows_even}
+use Rattle.tv_pre.proofs.OfferLemmas.{shows_inside}
 use Rattle.tv_pre.proofs.inside.cover_at.Goals as goal
 
 pub cover-requires-clause-same : goal.cover-requires-clause-same

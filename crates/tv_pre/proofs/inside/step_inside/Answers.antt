@@ -1,18 +1,18 @@
 use Rattle.std.proofs.Common.{◌∙◌, ◌≡◌, ◌+◌, ◌++◌, ap, refl, sym, subst, arith, map, All}
 use Rattle.tv_linear.specs.Linear.{columns}
+use Rattle.tv_linear.specs.Arithmetic.{padded_row}
 use Rattle.tv_shape.specs.Narrow.{CoverNarrow}
 use Rattle.tv_cases.specs.LinearCases.{IsCase}
 use Rattle.tv_cases.specs.Systems.{cases_of}
 use Rattle.tv_cases.specs.Views.{case_view}
+use Rattle.tv_cases.specs.Before.{rows_before}
 use Rattle.tv_cover.specs.Targets.{lists_of, AreEven}
 use Rattle.tv_cover.specs.Covering.{IsCovered, IsShallow, HasSplitRows, IsCoverFault}
+use Rattle.tv_cover.proofs.SingleLemmas.{rows_even}
 use Rattle.tv_region.specs.Regions.{lists_at}
 use Rattle.tv_choice.specs.Leading.{piece_rows}
-use Rattle.tv_lexrank.specs.Known.{padded_row}
-use Rattle.tv_lexrank.specs.Closing.{rows_before}
 use Rattle.tv_pre.specs.Questions.{steps, step_rows, uncovered}
 use Rattle.tv_pre.specs.Targets.{AreBefore}
-use Rattle.tv_pre.proofs.OfferLemmas.{rows_even}
 use Rattle.tv_pre.proofs.StepLemmas.{case_among, shows_step, step_even, step_whole, targets_even}
 use Rattle.tv_pre.proofs.RefusalLemmas.{refusal_of, unmade_step}
 use Rattle.tv_pre.proofs.inside.step_inside.Goals as goal
@@ -21,10 +21,10 @@ pub returns-in-Err-clause-refusals : goal.returns-in-Err-clause-refusals
 returns-in-Err-clause-refusals c = unmade_step (cases_of c.args.setting.now.about.now) c.args.setting.now.budget.now c.args.piece.now (case_view c.args.case.now) c.args.into.now c.in-Err.fault c.in-Err.ensures.refusals
 
 -- the rows that are asked about
-asked : (c : goal.After-deref-3) → c.push_copies.new.list.items ≡ step_rows (cases_of c.args.setting.now.about.now).variables (case_view c.args.case.now) (piece_rows c.args.piece.now)
+asked : (c : goal.After-deref-3) → c.push_copies.new.list.items ≡ step_rows (case_view c.args.case.now) (piece_rows c.args.piece.now)
 asked c =
     c.in_ok-push_copies.ensures.copied
-    ∙ (λ i. (c.in_ok-rows.ensures ∙ (λ j. map (padded_row (c.variables-variables.ensures.same j + c.args.case.now.draws)) (c.deref.ensures.value j))) i ++ c.deref-2.ensures.value i)
+    ∙ (λ i. (c.in_ok-rows.ensures.exact ∙ ap (map (padded_row c.args.case.now.draws)) c.deref.ensures.value) i ++ c.deref-2.ensures.value i)
 
 made : (c : goal.After-deref-3) → AreBefore (case_view c.args.case.now) (lists_at c.args.case.now.to c.args.into.now) (lists_of c.deref-3.result.now)
 made c = subst (λ ts. AreBefore (case_view c.args.case.now) (lists_at c.args.case.now.to c.args.into.now) (lists_of ts)) (sym c.deref-3.ensures.value) c.in-Ok.ensures.targets
@@ -55,9 +55,9 @@ returns-in-Err-cover-clause-refusals c =
     let wide : n ≡ about.variables + case.draws = ap (λ n. n + c.args.case.now.draws) c.variables-variables.ensures.same in
     let rows = c.push_copies.new.list.items in
     let lists = lists_of c.deref-3.result.now in
-    let asked : rows ≡ step_rows about.variables case (piece_rows piece) =
+    let asked : rows ≡ step_rows case (piece_rows piece) =
     c.in_ok-push_copies.ensures.copied
-    ∙ (λ i. (c.in_ok-rows.ensures ∙ (λ j. map (padded_row (c.variables-variables.ensures.same j + c.args.case.now.draws)) (c.deref.ensures.value j))) i ++ c.deref-2.ensures.value i)
+    ∙ (λ i. (c.in_ok-rows.ensures.exact ∙ ap (map (padded_row c.args.case.now.draws)) c.deref.ensures.value) i ++ c.deref-2.ensures.value i)
     in
     let made : AreBefore case (lists_at case.to into) lists = subst (λ ts. AreBefore case (lists_at case.to into) (lists_of ts)) (sym c.deref-3.ensures.value) c.in-Ok.ensures.targets in
     let budget = c.args.setting.now.budget.now in
@@ -78,9 +78,9 @@ unreachable-requires c =
     let wide : n ≡ about.variables + case.draws = ap (λ n. n + c.args.case.now.draws) c.variables-variables.ensures.same in
     let rows = c.push_copies.new.list.items in
     let lists = lists_of c.deref-3.result.now in
-    let asked : rows ≡ step_rows about.variables case (piece_rows piece) =
+    let asked : rows ≡ step_rows case (piece_rows piece) =
     c.in_ok-push_copies.ensures.copied
-    ∙ (λ i. (c.in_ok-rows.ensures ∙ (λ j. map (padded_row (c.variables-variables.ensures.same j + c.args.case.now.draws)) (c.deref.ensures.value j))) i ++ c.deref-2.ensures.value i)
+    ∙ (λ i. (c.in_ok-rows.ensures.exact ∙ ap (map (padded_row c.args.case.now.draws)) c.deref.ensures.value) i ++ c.deref-2.ensures.value i)
     in
     let made : AreBefore case (lists_at case.to into) lists = subst (λ ts. AreBefore case (lists_at case.to into) (lists_of ts)) (sym c.deref-3.ensures.value) c.in-Ok.ensures.targets in
     let is_case = case_among about case c.variables-variables.ensures.limits c.requires.among in
@@ -97,9 +97,9 @@ returns-clause-shows c =
     let wide : n ≡ about.variables + case.draws = ap (λ n. n + c.args.case.now.draws) c.variables-variables.ensures.same in
     let rows = c.push_copies.new.list.items in
     let lists = lists_of c.deref-3.result.now in
-    let asked : rows ≡ step_rows about.variables case (piece_rows piece) =
+    let asked : rows ≡ step_rows case (piece_rows piece) =
     c.in_ok-push_copies.ensures.copied
-    ∙ (λ i. (c.in_ok-rows.ensures ∙ (λ j. map (padded_row (c.variables-variables.ensures.same j + c.args.case.now.draws)) (c.deref.ensures.value j))) i ++ c.deref-2.ensures.value i)
+    ∙ (λ i. (c.in_ok-rows.ensures.exact ∙ ap (map (padded_row c.args.case.now.draws)) c.deref.ensures.value) i ++ c.deref-2.ensures.value i)
     in
     let made : AreBefore case (lists_at case.to into) lists = subst (λ ts. AreBefore case (lists_at case.to into) (lists_of ts)) (sym c.deref-3.ensures.value) c.in-Ok.ensures.targets in
     let is_case = case_among about case c.variables-variables.ensures.limits c.requires.among in

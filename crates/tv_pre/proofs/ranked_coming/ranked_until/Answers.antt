@@ -70,6 +70,6 @@ returns-clause-part c f g below =
     in
     subst (λ path. IsPart about (fix path sides.shape f g) c.in_ok-part_of.field-0.region node) c.requires.path
     (subst (λ r. IsPart about (fix sides.path sides.shape f g) r node) (sym c.in_ok-part_of.ensures.region)
-    (fixed_part about sides.path sides.shape f g own node ranks ps qs sides.first.now sides.second.now nodes proofs made (ranks_may sides.path sides.shape f g ranks c.requires.shape) (each_goes n Done [] done) (ranked_goes n ranked onward) below
+    (fixed_part about sides.path sides.shape f g own node ranks ps qs sides.first.now sides.second.now nodes proofs made (ranks_may sides.path sides.shape (states about f) (states about g) ranks c.requires.shape) (each_goes n Done [] done) (ranked_goes n ranked onward) below
     (λ number a b m k. c.in-Ok.ensures.shows number a b ps qs m k (subst (AreMarked (ps ++ qs)) (sym c.deref-list.ensures.value) same)
     (subst (AreMarked ps) (sym front) (are_marked n Done [] done)) (subst (AreMarked qs) (sym back) (ranked_marked n ranked onward)) (each_done n done) (ranked_each n ranked onward))))

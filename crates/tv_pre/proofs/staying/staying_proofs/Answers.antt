@@ -1,4 +1,5 @@
 use Rattle.std.proofs.Common.{◌≡◌, ◌⊎◌, inl, inr, [], ◌∷◌, ◌++◌, List, get_or, true, false, subst, sym}
+use Rattle.tv_shape.specs.Made.{Offers}
 use Rattle.std.specs.List.{flat_map}
 use Rattle.tv_linear.specs.declared.region.Region.{Region}
 use Rattle.tv_cases.specs.LinearCases.{CaseSteps}
@@ -14,7 +15,7 @@ use Rattle.tv_choice.specs.Leading.{state}
 use Rattle.tv_pre.specs.Around.{Around, stay_of}
 use Rattle.tv_pre.specs.Fixed.{AtEnd, OnWay, fixed_owes, AsksEnds, AsksStaying}
 use Rattle.tv_pre.specs.Inclusions.{OfPiece}
-use Rattle.tv_pre.specs.Offers.{Offers, Adds}
+use Rattle.tv_pre.specs.Offers.{Adds}
 use Rattle.tv_pre.specs.Pieces.{IsMarked, AreMarked}
 use Rattle.tv_pre.specs.Questions.{lies, AsksOf, AsksStay}
 use Rattle.tv_pre.proofs.AddLemmas.{adds_then, all_added}

@@ -1,7 +1,7 @@
 use Rattle.std.proofs.Common.{◌+◌, [], ◌∷◌, take, sym, subst, refl}
 use Rattle.tv_cases.specs.Views.{case_view}
+use Rattle.tv_cases.specs.Before.{AreRowsBefore}
 use Rattle.tv_cover.specs.Targets.{lists_of}
-use Rattle.tv_lexrank.specs.Closing.{AreRowsBefore}
 use Rattle.tv_region.specs.Regions.{lists_at}
 use Rattle.tv_region.proofs.RegionLemmas.{lists_at-there}
 use Rattle.tv_choice.specs.Leading.{piece_rows}

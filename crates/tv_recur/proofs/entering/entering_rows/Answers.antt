@@ -1,9 +1,9 @@
 use Rattle.std.proofs.Common.{◌∙◌, ◌++◌, All, ap, subst}
 use Rattle.tv_cases.specs.Views.{case_view}
-use Rattle.tv_recur.specs.Making.{FitsBefore, rows_before}
 use Rattle.std.proofs.Common.{◌≡◌, sym}
 use Rattle.tv_linear.specs.Linear.{columns}
 use Rattle.tv_cases.specs.Systems.{cases_of}
+use Rattle.tv_cases.specs.Before.{FitsBefore, rows_before}
 use Rattle.tv_derived.specs.Scopes.{at_location}
 use Rattle.tv_recur.specs.Refusing.{AreFrom}
 use Rattle.tv_recur.proofs.RefusalLemmas.{before_refused}

@@ -2,8 +2,9 @@ use Rattle.std.proofs.Common.{◌≡◌, ◌+◌, ◌∙◌, All, arith, sym, su
 use Rattle.tv_linear.specs.Linear.{columns}
 use Rattle.tv_cases.specs.Systems.{cases_of}
 use Rattle.tv_cases.specs.Views.{case_view}
-use Rattle.tv_recur.specs.Making.{rows_before, drawn_terms}
-use Rattle.tv_recur.proofs.ComposeLemmas.{all_before_even}
+use Rattle.tv_cases.specs.Before.{rows_before}
+use Rattle.tv_cases.proofs.BeforeLemmas.{all_before_even}
+use Rattle.tv_recur.specs.Making.{drawn_terms}
 use Rattle.tv_recur.proofs.OwedLemmas.{terms_each, terms_even}
 use Rattle.tv_recur.proofs.ReadLemmas.{taking_case}
 use Rattle.tv_derived.specs.Scopes.{over_case}

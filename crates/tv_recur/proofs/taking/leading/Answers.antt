@@ -1,7 +1,7 @@
 use Rattle.std.proofs.Common.{◌^◌, ◌<◌, arith, subst}
 use Rattle.tv_cases.specs.Systems.{cases_of}
 use Rattle.tv_cases.specs.Views.{case_view}
-use Rattle.tv_recur.specs.Covering.{IsCoveredByOne}
+use Rattle.tv_cover.specs.Single.{IsCoveredByOne}
 use Rattle.tv_recur.proofs.LeadLemmas.{owed_wide, lead_by, left_by}
 use Rattle.tv_recur.proofs.ReadLemmas.{read_inside}
 use Rattle.std.proofs.Common.{◌≡◌, All}

@@ -1,8 +1,9 @@
 use Rattle.std.proofs.Common.{◌≡◌, sym, ap, ◌∙◌, length, subst, ◌<◌, get_or, MatchOption}
 use Rattle.tv_linear.specs.Known.{kept, put}
 use Rattle.tv_linear.specs.Terms.{update_of}
+use Rattle.tv_linear.proofs.PlainLists.{length-table}
 use Rattle.tv_refute.specs.Terms.{terms_of}
-use Rattle.tv_refute.proofs.Places.{length-table, length-draw_terms, get_or-table}
+use Rattle.tv_refute.proofs.Places.{length-draw_terms, get_or-table}
 use Rattle.tv_refute.proofs.terms.row_put.Goals as goal
 
 pub drawn-requires : goal.drawn-requires

@@ -1,7 +1,8 @@
 use Rattle.std.proofs.Common.{sym, ap, ◌∙◌, length}
 use Rattle.tv_linear.specs.Terms.{update_of}
+use Rattle.tv_linear.proofs.PlainLists.{length-table}
 use Rattle.tv_refute.specs.Terms.{terms_of}
-use Rattle.tv_refute.proofs.Places.{length-table, length-draw_terms}
+use Rattle.tv_refute.proofs.Places.{length-draw_terms}
 use Rattle.tv_refute.proofs.terms.term_count.Goals as goal
 
 pub returns-in-After : goal.returns-in-After

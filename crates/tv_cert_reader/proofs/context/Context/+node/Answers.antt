@@ -5,9 +5,9 @@ use Rattle.tv_cert.specs.declared.node.Marked.{Marked}
 use Rattle.tv_cert.specs.Listed.{pieces_list}
 use Rattle.tv_cert.specs.Nodes.{node_owes}
 use Rattle.tv_cert.specs.Statements.{parts_of, part_at, count}
+use Rattle.tv_cert.specs.Shapes.{NodeShape}
 use Rattle.tv_cert_reader.specs.NodeGrammar.{node}
 use Rattle.tv_cert_reader.specs.Nodes.{ReadsNode}
-use Rattle.tv_cert_reader.specs.Shaped.{IsShapedAs}
 use Rattle.tv_cert_reader.specs.Proofs.{ReadsProofs, AreProofsOf}
 use Rattle.tv_cert_reader.specs.Reading.{FailsBy, Takes}
 use Rattle.tv_cert_reader.specs.Regions.{region_with}
@@ -51,7 +51,7 @@ children-preserved t c =
     let part = c.part.ensures ∙ ap (λ i. part_at i (parts_of s)) (sym o.1) in
     let long = ap length c.in_ok-push.ensures.items ∙ length-append c.children.children.items (c.in_ok-child.child ∷ []) in (
       opened_next system s c.args.cursor.now c.children.cursor c.node.new.cursor c.pieces.inside.list.items c.in_ok-pieces.ranks c.children.children.items c.push.new.self.items c.in_ok-child.child o.0 few
-          (subst (λ p. IsShapedAs system p c.in_ok-child.child) part c.in_ok-child.ensures.read.0)
+          (subst (λ p. NodeShape system p c.in_ok-child.child) part c.in_ok-child.ensures.read.0)
           (subst (λ p. Takes (stated_lines p c.in_ok-child.child) c.children.cursor c.node.new.cursor) part c.in_ok-child.ensures.read.1)
           c.in_ok-push.ensures.items,
       (let n = o.1 in omega (arith, long, n)),

@@ -1,11 +1,11 @@
 // Nodes as they are put together.
 
 ghost use Rattle.std.specs.Prelude.{IfOk};
-ghost use Rattle.tv_points.specs.Nodes.{HasOwn};
+ghost use Rattle.tv_shape.specs.Made.{HasOwn};
 
 use std::alloc::{AllocError, Global};
 use tv_cert::{Marked, Node, Pieces, Proof};
-use tv_shape::narrow_pieces;
+use crate::narrow::narrow_pieces;
 
 /// The node of these parts.
 pub fn node_of(

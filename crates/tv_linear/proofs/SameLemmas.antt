@@ -1,32 +1,12 @@
 -- Rows that are known in different ways and have the same numbers.
 use Rattle.std.proofs.Common.{◌≡◌, ℕ, suc, ◌<◌, List, [], ◌∷◌, ◌++◌, length, map, Option, None, Some, refl, sym, ap, ◌∙◌, subst, ℤ, pos, neg_ℤ, ◌+ℤ◌, ◌-ℤ◌, ◌*ℤ◌, ◌<ℤ◌}
-use Rattle.tv_linear.specs.Linear.{Linear, dot}
+use Rattle.tv_linear.specs.Linear.{dot}
 use Rattle.tv_linear.specs.Fits.{IsHeld}
-use Rattle.tv_linear.specs.Known.{Known, given, denied, known_number, as_given, KnownHeld}
+use Rattle.tv_linear.specs.Known.{Known, given, denied, known_number, KnownHeld}
 use Rattle.tv_linear.specs.Refutation.{RowsHeld, Refutes}
 use Rattle.tv_linear.specs.Covers.{Shown, ShownAt, IsMetCover}
+use Rattle.tv_linear.specs.Same.{SameNumbers, AreSame, OwedSame}
 use Rattle.tv_linear.specs.declared.cover.CoverTree.{CoverTree, Split', Empty, Into}
-
--- the two rows have the same numbers in the first n columns and the same constant; where those of the first can be told, so can those of
--- the second
-pub record SameNumbers (n : ℕ) (k q : Known) : Type 0 where
-  pub inner : (j : ℕ) → j < n → known_number q (Some j) ≡ known_number k (Some j)
-  pub constant : known_number q None ≡ known_number k None
-  pub inner_held : (j : ℕ) → j < n → KnownHeld k (Some j) → KnownHeld q (Some j)
-  pub constant_held : KnownHeld k None → KnownHeld q None
-
--- the same of as many rows in order
-abbrev pub AreSame : ℕ → List Known → List Known → Type 0
-AreSame n [] [] = Unit {0}
-AreSame n [] (q ∷ qs) = ⊥
-AreSame n (k ∷ ks) [] = ⊥
-AreSame n (k ∷ ks) (q ∷ qs) = SameNumbers n k q × AreSame n ks qs
-
--- what is owed first is owed in another way too
-abbrev pub OwedSame : ℕ → Option (List Known) → Option (List Known) → Type 0
-OwedSame n None b = Unit {0}
-OwedSame n (Some xs) None = ⊥
-OwedSame n (Some xs) (Some ys) = AreSame n xs ys
 
 pub same_self : (n : ℕ) (k : Known) → SameNumbers n k k
 same_self n k = record { inner = λ j l. refl; constant = refl; inner_held = λ j l h. h; constant_held = λ h. h }
@@ -34,6 +14,22 @@ same_self n k = record { inner = λ j l. refl; constant = refl; inner_held = λ 
 pub all_same : (n : ℕ) (ks : List Known) → AreSame n ks ks
 all_same n [] = tt
 all_same n (k ∷ ks) = (same_self n k, all_same n ks)
+
+pub same_then : (n : ℕ) (a b c : Known) → SameNumbers n a b → SameNumbers n b c → SameNumbers n a c
+same_then n a b c h g = record {
+  inner = λ j l. g.inner j l ∙ h.inner j l;
+  constant = g.constant ∙ h.constant;
+  inner_held = λ j l k. g.inner_held j l (h.inner_held j l k);
+  constant_held = λ k. g.constant_held (h.constant_held k);
+}
+
+pub are_same_then : (n : ℕ) (xs ys zs : List Known) → AreSame n xs ys → AreSame n ys zs → AreSame n xs zs
+are_same_then n [] [] [] h g = tt
+are_same_then n [] [] (c ∷ zs) h g = absurd g
+are_same_then n [] (b ∷ ys) zs h g = absurd h
+are_same_then n (a ∷ xs) [] zs h g = absurd h
+are_same_then n (a ∷ xs) (b ∷ ys) [] h g = absurd g
+are_same_then n (a ∷ xs) (b ∷ ys) (c ∷ zs) h g = (same_then n a b c h.0 g.0, are_same_then n xs ys zs h.1 g.1)
 
 pub same_append : (n : ℕ) (ks qs js ps : List Known) → AreSame n ks qs → AreSame n js ps → AreSame n (ks ++ js) (qs ++ ps)
 same_append n [] [] js ps h g = g
@@ -43,10 +39,6 @@ same_append n (k ∷ ks) (q ∷ qs) js ps h g = (h.0, same_append n ks qs js ps 
 
 pub same_push : (n : ℕ) (ks qs : List Known) (k q : Known) → AreSame n ks qs → SameNumbers n k q → AreSame n (ks ++ k ∷ []) (qs ++ q ∷ [])
 same_push n ks qs k q h g = same_append n ks qs (k ∷ []) (q ∷ []) h (g, tt)
-
-pub given_append : (xs ys : List Linear) → as_given (xs ++ ys) ≡ as_given xs ++ as_given ys
-given_append [] ys = refl
-given_append (x ∷ xs) ys = ap (λ ks. given x ∷ ks) (given_append xs ys)
 
 -- ---- refutations
 same_length : (n : ℕ) (ks qs : List Known) → AreSame n ks qs → length qs ≡ length ks

@@ -5,53 +5,58 @@ use Rattle.std.proofs.lemmas.List.Elements.{All-nil, All-cons}
 use Rattle.tv_formula.specs.Properties.{Property, Properties, none, more}
 use Rattle.tv_cert.specs.declared.node.Marked.{Marked}
 use Rattle.tv_cert.specs.declared.node.Proof.{Proof}
+use Rattle.tv_cert.specs.declared.node.Proof.TheVariants.{Covered, Chosen}
 use Rattle.tv_cert.specs.declared.node.Node.{Node, Node', Row_of-Node, end_of-Node, more_of-Node, items-the_row-Node, outs-Node'}
 use Rattle.tv_cert.specs.Listed.{pieces_list}
 use Rattle.tv_cert.specs.Nodes.{parts, kid_pieces, size, entries, kid_entries, own_of}
-use Rattle.tv_cert.specs.Obligations.{About, Obligation, Entry, OwedMet, AllMet, paired}
-use Rattle.tv_cert.specs.Shapes.{ProofShape, PieceShape, OwnShape, HaveShapes, IsNormalHead, may_rank, may_be_done}
-use Rattle.tv_cert.proofs.StatedLemmas.{entries_are}
+use Rattle.tv_cert.specs.Obligations.{About, Obligation, Owed, a_cover, a_choice, a_point, Entry, AllMet, paired}
+use Rattle.tv_cert.specs.Shapes.{ProofShape, PieceShape, OwnShape, KidsShape, HaveShapes, IsSaid, may_rank, may_be_done}
+use Rattle.tv_cert.specs.Statements.{stated}
+use Rattle.tv_cert.proofs.StatedLemmas.{parts-stated, entries_are}
 use Rattle.tv_cert.proofs.NodeLemmas.{out_is, kid_pieces_are}
 use Rattle.tv_shape.specs.Depths.{proof_splits}
 use Rattle.tv_shape.specs.Fitting.{KidsNarrow, KidsGoWithin}
 use Rattle.tv_shape.specs.Narrow.{PieceNarrow, ProofNarrow}
-use Rattle.tv_points.specs.Nodes.{HasOwn, IsFitted}
+use Rattle.tv_shape.specs.Made.{HasOwn, IsFitted, Offers}
 
 -- ---- proofs that are offered
 
--- the proof is one of what is owed, has its shape and narrow numbers, and at most 128 splits on a path
-pub record IsOffered (o : Obligation) (p : Proof) : Type 0 where
-  pub shape : ProofShape o.owed p
-  pub met : OwedMet o.owed (Some p)
-  pub narrow : ProofNarrow p
-  pub shallow : proof_splits p ≤ 128
+pub shape_shallow : (o : Owed) (p : Proof) → ProofShape o p → proof_splits p ≤ 128
+shape_shallow (a_cover n known owed) (Covered tree) h = h.1
+shape_shallow (a_cover n known owed) (Chosen tree) h = absurd h
+shape_shallow (a_choice n cases l stop owed known) (Covered tree) h = absurd h
+shape_shallow (a_choice n cases l stop owed known) (Chosen tree) h = h.1
+shape_shallow (a_point xs rows) p h = absurd h
 
 pub both_met : (es fs : List Entry) → AllMet es → AllMet fs → AllMet (es ++ fs)
 both_met [] fs h g = g
 both_met (e ∷ es) fs h g = (h.0, both_met es fs h.1 g)
 
-all_met : (os : List Obligation) (proofs : List Proof) → AllZip IsOffered os proofs → AllMet (paired os proofs)
+pub all_met : (os : List Obligation) (proofs : List Proof) → Offers os proofs → AllMet (paired os proofs)
 all_met [] proofs h = tt
 all_met (o ∷ os) [] h = absurd h
 all_met (o ∷ os) (p ∷ proofs) h = (h.0.met, all_met os proofs h.1)
 
-all_shaped : (os : List Obligation) (proofs : List Proof) → AllZip IsOffered os proofs → AllZip (λ o p. ProofShape o.owed p) os proofs
+pub all_shaped : (os : List Obligation) (proofs : List Proof) → Offers os proofs → AllZip (λ o p. ProofShape o.owed p) os proofs
 all_shaped [] [] h = tt
 all_shaped [] (p ∷ proofs) h = absurd h
 all_shaped (o ∷ os) [] h = absurd h
 all_shaped (o ∷ os) (p ∷ proofs) h = (h.0.shape, all_shaped os proofs h.1)
 
-all_narrow : (os : List Obligation) (proofs : List Proof) → AllZip IsOffered os proofs → All ProofNarrow proofs
+pub all_narrow : (os : List Obligation) (proofs : List Proof) → Offers os proofs → All ProofNarrow proofs
 all_narrow [] [] h = All-nil ProofNarrow
 all_narrow [] (p ∷ proofs) h = absurd h
 all_narrow (o ∷ os) [] h = absurd h
 all_narrow (o ∷ os) (p ∷ proofs) h = All-cons ProofNarrow p proofs h.0.narrow (all_narrow os proofs h.1)
 
-all_shallow : (depth : ℕ) (os : List Obligation) (proofs : List Proof) → depth ≤ 256 → AllZip IsOffered os proofs → All (λ p. depth + proof_splits p ≤ 384) proofs
-all_shallow depth [] [] l h = All-nil (λ p. depth + proof_splits p ≤ 384)
-all_shallow depth [] (p ∷ proofs) l h = absurd h
-all_shallow depth (o ∷ os) [] l h = absurd h
-all_shallow depth (o ∷ os) (p ∷ proofs) l h = All-cons (λ p. depth + proof_splits p ≤ 384) p proofs (let f = h.0.shallow in omega (arith, f, l)) (all_shallow depth os proofs l h.1)
+pub shapes_shallow : (depth : ℕ) (os : List Obligation) (proofs : List Proof) → depth ≤ 256 → AllZip (λ o p. ProofShape o.owed p) os proofs → All (λ p. depth + proof_splits p ≤ 384) proofs
+shapes_shallow depth [] [] l h = All-nil (λ p. depth + proof_splits p ≤ 384)
+shapes_shallow depth [] (p ∷ proofs) l h = absurd h
+shapes_shallow depth (o ∷ os) [] l h = absurd h
+shapes_shallow depth (o ∷ os) (p ∷ proofs) l h = All-cons (λ p. depth + proof_splits p ≤ 384) p proofs (let f = shape_shallow o.owed p h.0 in omega (arith, f, l)) (shapes_shallow depth os proofs l h.1)
+
+pub all_shallow : (depth : ℕ) (os : List Obligation) (proofs : List Proof) → depth ≤ 256 → Offers os proofs → All (λ p. depth + proof_splits p ≤ 384) proofs
+all_shallow depth os proofs l h = shapes_shallow depth os proofs l (all_shaped os proofs h)
 
 -- ---- children that fit
 abbrev pub AllFitted : About → Properties → ℕ → List Node → Type 0
@@ -87,18 +92,18 @@ kids_met about (more f fs) depth number (more_of-Node a kids) h =
 
 -- ---- the node
 pub record IsRight (about : About) (f : Property) (depth : ℕ) (pieces : List Marked) (ranks : ℕ) (kids : List Node) (proofs : List Proof) : Type 0 where
-  pub normal : IsNormalHead f
-  pub ranked : may_rank f ≡ false → ranks ≡ 0
+  pub said : IsSaid (stated about.tests f)
+  pub ranked : may_rank (stated about.tests f) ≡ false → ranks ≡ 0
   pub small : ranks < 2 ^ 32
   pub few : length pieces < 2 ^ 32
-  pub each : All (PieceShape about.system ranks (may_be_done f)) pieces
-  pub offered : (number : ℕ) → AllZip IsOffered (own_of number about f pieces (map pieces_list kids)) proofs
+  pub each : All (PieceShape about.system ranks (may_be_done (stated about.tests f))) pieces
+  pub offered : (number : ℕ) → Offers (own_of number about f pieces (map pieces_list kids)) proofs
   pub below : AllFitted about (parts f) (depth + 1) kids
   pub shallow : depth ≤ 256
 
 pub node_fitted : (about : About) (f : Property) (depth : ℕ) (node : Node) (pieces : List Marked) (ranks : ℕ) (kids : List Node) (proofs : List Proof) → HasOwn node pieces ranks kids proofs → IsRight about f depth pieces ranks kids proofs → IsFitted about f depth node
 node_fitted about f depth (Node' ps m shape row list) pieces ranks kids proofs own right = record {
-  shape = (own_shape, kids_shape about (parts f) (depth + 1) row below);
+  shape = (own_shape, subst (λ ss. KidsShape about.system ss row) (sym (parts-stated about f)) (kids_shape about (parts f) (depth + 1) row below));
   narrow = (
     record {
       count = (let e = ap length pieces_same in let n = right.few in omega (arith, e, n));
@@ -135,12 +140,12 @@ node_fitted about f depth (Node' ps m shape row list) pieces ranks kids proofs o
     own_are : (number : ℕ) → paired (own_of number about f ps (kid_pieces row)) list.items ≡ paired (own_of number about f pieces (map pieces_list kids)) proofs
     own_are number = (λ i. paired (own_of number about f (pieces_same i) (kid_pieces_same i)) (proofs_same i))
 
-    own_shape : OwnShape about f m ps (kid_pieces row) list.items
-    own_shape = subst (λ z. OwnShape about f z ps (kid_pieces row) list.items) (sym ranks_same)
-        (subst (λ z. OwnShape about f ranks z (kid_pieces row) list.items) (sym pieces_same)
-        (subst (λ z. OwnShape about f ranks pieces z list.items) (sym kid_pieces_same)
-        (subst (λ z. OwnShape about f ranks pieces (map pieces_list kids) z) (sym proofs_same) (record {
-          normal = right.normal;
+    own_shape : OwnShape about.system (stated about.tests f) m ps (kid_pieces row) list.items
+    own_shape = subst (λ z. OwnShape about.system (stated about.tests f) z ps (kid_pieces row) list.items) (sym ranks_same)
+        (subst (λ z. OwnShape about.system (stated about.tests f) ranks z (kid_pieces row) list.items) (sym pieces_same)
+        (subst (λ z. OwnShape about.system (stated about.tests f) ranks pieces z list.items) (sym kid_pieces_same)
+        (subst (λ z. OwnShape about.system (stated about.tests f) ranks pieces (map pieces_list kids) z) (sym proofs_same) (record {
+          said = right.said;
           ranked = right.ranked;
           small = right.small;
           each = right.each;

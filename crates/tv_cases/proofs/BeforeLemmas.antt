@@ -1,8 +1,9 @@
 -- Rows before a case have the numbers of those that a certificate composes with it.
-use Rattle.std.proofs.Common.{◌≡◌, ℕ, zero, suc, ◌+◌, ◌<◌, ◌≤◌, ◌^◌, List, [], ◌∷◌, length, map, get_or, All, Bool, true, false, ◌==◌, if◌then◌else◌, None, Some, arith, refl, sym, ap, ◌∙◌, subst, ℤ, pos, ◌+ℤ◌, ◌*ℤ◌, unsigned_abs}
+use Rattle.std.proofs.Common.{◌≡◌, ℕ, zero, suc, ◌+◌, ◌<◌, ◌≤◌, ◌^◌, List, [], ◌∷◌, length, map, get_or, All, Bool, true, false, ◌==◌, if◌then◌else◌, None, Some, arith, refl, sym, ap, ◌∙◌, subst, ℤ, pos, ◌+ℤ◌, ◌*ℤ◌, unsigned_abs, take, ◌++◌}
 use Rattle.std.proofs.lemmas.Int.{ints}
-use Rattle.std.proofs.lemmas.List.{get_or_past, get_or_default, length-map}
-use Rattle.std.proofs.lemmas.List.Elements.{All-nil, All-cons, All-head, All-tail}
+use Rattle.std.proofs.lemmas.List.{get_or_past, get_or_default, length-map, map-append}
+use Rattle.std.proofs.lemmas.List.Elements.{All-nil, All-cons, All-head, All-tail, All-push}
+use Rattle.std.proofs.Math.Seq.{take-suc}
 use Rattle.tv_linear.specs.Linear.{Linear, columns, entry, dot, IsWithin}
 use Rattle.tv_linear.specs.Arithmetic.{unit, column_row, combined}
 use Rattle.tv_linear.specs.Fits.{IsHeld, SumsHeld}
@@ -10,11 +11,11 @@ use Rattle.tv_linear.specs.Known.{Term, kept, put, Known, given, composed, as_gi
 use Rattle.tv_linear.specs.Terms.{table, update_of, terms_after}
 use Rattle.tv_linear.specs.declared.region.Update.{Update}
 use Rattle.tv_linear.proofs.Entries.{entry-raised_inner, entry-raised_last, entry-combined, columns-combined}
-use Rattle.tv_linear.proofs.PlainLists.{length-unit, get_or-zeros}
-use Rattle.tv_cases.specs.Before.{term_row, rows_after, before, FitsTerms}
+use Rattle.tv_linear.proofs.PlainLists.{length-unit, get_or-zeros, length-table}
+use Rattle.tv_linear.specs.Same.{SameNumbers, AreSame}
+use Rattle.tv_linear.proofs.SameLemmas.{same_self}
+use Rattle.tv_cases.specs.Before.{term_row, rows_after, before, FitsTerms, FitsBefore, rows_before, AreRowsBefore}
 use Rattle.tv_cases.specs.LinearCases.{LinearCase}
-use Rattle.tv_recur.proofs.SameLemmas.{SameNumbers, AreSame, same_self}
-use Rattle.tv_recur.specs.Making.{rows_before, FitsBefore}
 
 -- the row over n columns has the numbers of the term
 pub record IsTerm (n : ℕ) (t : Term) (row : Linear) : Type 0 where
@@ -193,10 +194,6 @@ put_before n r c e us fits = subst (λ m. PutIn (m + c.draws) r (map (term_row (
         }
 
 -- ---- the rows before a case
-pub length-table : {A : Type 0} (n : ℕ) (f : ℕ → A) → length (table n f) ≡ n
-length-table zero f = refl
-length-table (suc n) f = ap suc (length-table n (λ j. f (suc j)))
-
 pub before_same : (n : ℕ) (c : LinearCase) (r : Linear) → columns r ≡ n → All (λ u. columns u.term ≡ n + c.draws) c.updates → FitsBefore c r → SameNumbers (n + c.draws) (given (before r c)) (composed (given r) (terms_after n c.updates))
 before_same n c r wide us fits =
     composed_same n (n + c.draws) r (before r c) (given r) (terms_after n c.updates) (map (term_row (n + c.draws)) (terms_after n c.updates)) wide
@@ -219,3 +216,16 @@ all_before_even n c (r ∷ rows) wide us fits =
     All-cons (λ r. columns r ≡ n + c.draws) (before r c) (rows_before c rows)
     (before_even n c r (All-head (λ r. columns r ≡ n) r rows wide) us (All-head (FitsBefore c) r rows fits))
     (all_before_even n c rows (All-tail (λ r. columns r ≡ n) r rows wide) us (All-tail (FitsBefore c) r rows fits))
+
+-- ---- one more row of a loop
+pub take_next : {A : Type 0} (rows : List A) (i : ℕ) (r : A) → i < length rows → r ≡ get_or rows i r → take (i + 1) rows ≡ take i rows ++ r ∷ []
+take_next rows i r l e = ap (λ k. take k rows) (let q : i + 1 ≡ suc i = omega arith in q) ∙ take-suc rows i r l ∙ ap (λ y. take i rows ++ y ∷ []) (sym e)
+
+pub no_rows_before : (c : LinearCase) (all : List Linear) → all ≡ [] → AreRowsBefore c [] all
+no_rows_before c all e = record { exact = e; fits = All-nil (FitsBefore c) }
+
+pub row_before : (c : LinearCase) (rows : List Linear) (i : ℕ) (r s : Linear) (all new : List Linear) → i < length rows → r ≡ get_or rows i r → s ≡ before r c → FitsBefore c r → new ≡ all ++ s ∷ [] → AreRowsBefore c (take i rows) all → AreRowsBefore c (take (i + 1) rows) new
+row_before c rows i r s all new l e same fits m h = subst (λ z. AreRowsBefore c z new) (sym (take_next rows i r l e)) (record {
+  exact = m ∙ (λ k. h.exact k ++ same k ∷ []) ∙ sym (map-append (λ q. before q c) (take i rows) (r ∷ []));
+  fits = All-push (FitsBefore c) (take i rows) r h.fits fits;
+})

@@ -1,5 +1,5 @@
-use Rattle.tv_lexrank.proofs.ClosingLemmas.{one_target, covered_one}
-use Rattle.tv_lexrank.proofs.closed.cover_one.Goals as goal
+use Rattle.tv_cover.proofs.SingleLemmas.{one_target, covered_one}
+use Rattle.tv_cover.proofs.single.cover_one.Goals as goal
 
 pub returns-in-Ok-clause-answers : goal.returns-in-Ok-clause-answers
 returns-in-Ok-clause-answers c =

@@ -1,4 +1,4 @@
--- Covers into one target.
+-- A cover that was found is one into its one target.
 use Rattle.std.proofs.Common.{◌≡◌, ℕ, ◌≤◌, List, [], ◌∷◌, ◌++◌, arith, ap, ◌∙◌, subst}
 use Rattle.tv_linear.specs.Linear.{Linear, columns}
 use Rattle.tv_linear.specs.Known.{as_given}
@@ -11,12 +11,12 @@ use Rattle.tv_cover.specs.Covering.{IsHole, IsCovered, IsShallow, IsShortCovered
 use Rattle.tv_cover.specs.declared.covered.Covered.{Covered}
 use Rattle.tv_cover.specs.declared.covered.Covered.TheVariants.{Tree, Hole}
 use Rattle.tv_cover.specs.Targets.{owed_lists, lists_of}
-use Rattle.tv_recur.specs.Covering.{IsCoveredByOne}
+use Rattle.tv_cover.specs.Single.{IsCoveredByOne}
 
 pub one_target : (targets new old : List Poly) (p : Poly) → targets ≡ new → new ≡ old ++ p ∷ [] → old ≡ [] → lists_of targets ≡ p.rows.items ∷ []
 one_target targets new old p e f g = ap lists_of (e ∙ f ∙ ap (λ z. z ++ p ∷ []) g)
 
-rows_even : (n : ℕ) (lists : List (List Linear)) (tree : CoverTree) → TreeRows (IsSplitRow n lists) tree → TreeRows (λ r. columns r ≡ n) tree
+pub rows_even : (n : ℕ) (lists : List (List Linear)) (tree : CoverTree) → TreeRows (IsSplitRow n lists) tree → TreeRows (λ r. columns r ≡ n) tree
 rows_even n lists (cover.Split' r p a q b) h = (h.0.even, rows_even n lists a h.1, rows_even n lists b h.2)
 rows_even n lists (cover.Empty ms) h = tt
 rows_even n lists (cover.Into target fall ls) h = tt
