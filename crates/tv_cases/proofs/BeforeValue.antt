@@ -11,20 +11,13 @@ use Rattle.tv_linear.specs.Fits.{SumsHeld, IsNarrowAt, FitsComposed, GivesWhere,
 use Rattle.tv_linear.specs.declared.fault.RowFault.{RowFault}
 use Rattle.tv_linear.specs.declared.fault.RowFault.TheVariants.{Wide, Memory}
 use Rattle.tv_linear.specs.declared.region.Update.{Update}
+use Rattle.tv_linear.proofs.ListLaws.{map-push, table-push}
 use Rattle.tv_cases.specs.LinearCases.{LinearCase}
 use Rattle.tv_cases.specs.Before.{term_row, put_in, rows_after, before, FitsTerms, GivesBefore}
 use Rattle.tv_cases.proofs.RowValues.{value-constant_row, value-column_row, value-plus, value-scaled, value-raised}
 use Rattle.tv_cases.proofs.FormValues.{values}
 
 -- ---- terms one by one
-
-table-push : {A : Type 0} (n : ℕ) (f : ℕ → A) → table (suc n) f ≡ table n f ++ f n ∷ []
-table-push zero f = refl
-table-push (suc n) f = ap (λ xs. f 0 ∷ xs) (table-push n (λ j. f (suc j)))
-
-map-push : {A B : Type 0} (f : A → B) (xs : List A) (x : A) → map f (xs ++ x ∷ []) ≡ map f xs ++ f x ∷ []
-map-push f [] x = refl
-map-push f (y ∷ xs) x = ap (λ ys. f y ∷ ys) (map-push f xs x)
 
 pub terms-push : (w : ℕ) (us : List Update) (n : ℕ) → map (term_row w) (terms_after (n + 1) us) ≡ map (term_row w) (terms_after n us) ++ term_row w (update_of us n) ∷ []
 terms-push w us n =

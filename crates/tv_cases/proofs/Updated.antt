@@ -7,6 +7,7 @@ use Rattle.tv_linear.specs.Linear.{Linear, value}
 use Rattle.tv_linear.specs.Known.{kept, put, term_value}
 use Rattle.tv_linear.specs.Terms.{update_of, table, terms_after}
 use Rattle.tv_linear.proofs.PlainLists.{length-table}
+use Rattle.tv_linear.proofs.ListLaws.{get_or-table}
 use Rattle.tv_program.specs.Trees.{Instruction}
 use Rattle.tv_cases.specs.EdgeCases.{assigns, update, updates_from}
 use Rattle.tv_cases.proofs.FormValues.{values}
@@ -46,11 +47,6 @@ update_of-at instructions v (t ∷ ts) (suc k) d h =
           update_of (cond b (update v t ∷ updates_from instructions (suc v) ts) (updates_from instructions (suc v) ts)) (v + suc k) ≡ cond (assigns instructions (v + suc k)) (put (get_or ts k d)) (kept (v + suc k))
       by_test true later = ap (λ b. if b then put t else update_of (updates_from instructions (suc v) ts) (v + suc k)) (other_number v (v + suc k) (omega arith)) ∙ later
       by_test false later = later
-
-get_or-table : {A : Type 0} (n : ℕ) (f : ℕ → A) (k : ℕ) (d : A) → k < n → get_or (table n f) k d ≡ f k
-get_or-table zero f k d h = absurd (omega arith)
-get_or-table (suc n) f zero d h = refl
-get_or-table (suc n) f (suc k) d h = get_or-table n (λ j. f (suc j)) k d (omega arith)
 
 get_or-mapped : {A B : Type 0} (f : A → B) (xs : List A) (k : ℕ) (d : A) (e : B) → k < length xs → get_or (map f xs) k e ≡ f (get_or xs k d)
 get_or-mapped f [] k d e h = absurd (omega arith)

@@ -3,17 +3,9 @@ use Rattle.std.proofs.lemmas.Bool.Decides.{nat_tests}
 use Rattle.std.proofs.lemmas.Option.{slice_get_within, get_or_from_slice_get}
 use Rattle.std.proofs.lemmas.List.Elements.{All-filter, All-contains_itself, filter_passes}
 use Rattle.std.specs.Prelude.{slice_get, Contains}
+use Rattle.tv_linear.proofs.ListLaws.{test_true, true_test}
 use Rattle.tv_cert.specs.declared.node.Marked.{Marked}
 use Rattle.tv_cert.specs.Pieces.{place_of, pieces_at}
-
-pub test_true : (a b : ℕ) → a ≡ b → (a == b) ≡ true
-test_true a b h = grind (arith, nat_tests)
-
-pub test_false : (a b : ℕ) → (a ≡ b → ⊥) → (a == b) ≡ false
-test_false a b h = grind (arith, nat_tests)
-
-pub true_test : (a b : ℕ) → (a == b) ≡ true → a ≡ b
-true_test a b h = grind (arith, nat_tests)
 
 -- what stands among the pieces at a location is there, and is one of the pieces
 pub piece_got : (ps : List Marked) (l k : ℕ) (p : Marked) → slice_get (pieces_at ps l) k ≡ Some p → (place_of p ≡ l) × Contains ps p

@@ -1,14 +1,9 @@
 -- Obligations visited in parts.
 use Rattle.std.proofs.Common.{◌≡◌, ℕ, zero, suc, ◌+◌, ◌<◌, ◌≤◌, Bool, true, false, List, [], ◌∷◌, ◌++◌, length, drop, get_or, refl, sym, ap, ◌∙◌, subst, arith, length-append, drop-cons, append_assoc}
 use Rattle.std.specs.Bool.{OnTrue, OnFalse}
+use Rattle.tv_linear.proofs.ListLaws.{drop_past}
 use Rattle.tv_cert.specs.Obligations.{Obligation}
 use Rattle.tv_cert.specs.Visits.{Passed, none, one, Visits}
-
-drop_past : {A : Type 0} (xs : List A) (i : ℕ) → length xs ≤ i → drop i xs ≡ []
-drop_past [] zero h = refl
-drop_past [] (suc i) h = refl
-drop_past (x ∷ xs) zero h = absurd (omega arith)
-drop_past (x ∷ xs) (suc i) h = drop_past xs i (omega arith)
 
 module _ {S : Type 0} (passes stops : S → Obligation → S → Type 0) (room : S → ℕ) where
   passed_then : (s t u : S) (xs ys : List Obligation) → Passed passes s xs t → Passed passes t ys u → Passed passes s (xs ++ ys) u

@@ -14,6 +14,7 @@ use Rattle.tv_linear.specs.ChoiceDepth.{most_splits, choice_splits}
 use Rattle.tv_linear.specs.declared.row.Row.{Row}
 use Rattle.tv_linear.specs.declared.cover.CoverTree.{CoverTree}
 use Rattle.tv_linear.specs.declared.choice.ChoiceTree.{ChoiceTree, Split', Empty, NoStep, Take}
+use Rattle.tv_linear.proofs.ListLaws.{test_true, true_test, test_false}
 use Rattle.tv_cases.specs.LinearCases.{LinearCase, CaseSystem, leaving}
 use Rattle.tv_cert.specs.declared.node.Marked.{Marked}
 use Rattle.tv_cert.specs.declared.owes.Destination.{Destination}
@@ -23,7 +24,6 @@ use Rattle.tv_cert.specs.Owing.{destination_owes, falls_where}
 use Rattle.tv_cert.specs.Pieces.{place_of, ranks_of}
 use Rattle.tv_cert.specs.Shapes.{ChoiceShape, ListsShape, NoStepShape, TakeShape, owed_count}
 use Rattle.tv_cert.specs.Targets.{owed_into}
-use Rattle.tv_cert.proofs.PieceLemmas.{test_true, true_test, test_false}
 use Rattle.tv_shape.specs.Counts.{AreFewAt}
 use Rattle.tv_shape.proofs.CountLemmas.{count_same}
 use Rattle.tv_cert_reader.specs.CertificateLines.{row_lines, row_line, by_lines, cover_lines, choice_lines}

@@ -8,6 +8,7 @@ use Rattle.tv_lines.specs.declared.head.Head.TheVariants as heads
 use Rattle.tv_formula.specs.Properties.{Property}
 use Rattle.tv_linear.specs.Known.{given}
 use Rattle.tv_linear.specs.declared.cover.CoverTree.{CoverTree}
+use Rattle.tv_linear.proofs.ListLaws.{test_true}
 use Rattle.tv_cases.specs.LinearCases.{CaseSystem}
 use Rattle.tv_cert.specs.declared.node.Node.{Node}
 use Rattle.tv_cert.specs.declared.node.Verdict.TheVariants.{Proved, Disproved}
@@ -15,7 +16,6 @@ use Rattle.tv_cert.specs.Nodes.{pieces_of}
 use Rattle.tv_cert.specs.Obligations.{About}
 use Rattle.tv_cert.specs.Shapes.{CoverShape, NodeShape}
 use Rattle.tv_cert.specs.Statements.{Statement, stated}
-use Rattle.tv_cert.proofs.PieceLemmas.{test_true}
 use Rattle.tv_shape.specs.Fitting.{Fits}
 use Rattle.tv_cert_reader.specs.CertificateLines.{cover_lines, node_lines, certificate_lines}
 use Rattle.tv_cert_reader.specs.declared.kind.LineKind.TheVariants.{Syntax}

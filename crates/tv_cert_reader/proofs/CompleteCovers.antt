@@ -17,13 +17,13 @@ use Rattle.tv_linear.specs.declared.cover.CoverTree.{CoverTree}
 use Rattle.tv_linear.specs.declared.cover.CoverTree as cover_trees
 use Rattle.tv_linear.specs.declared.choice.ChoiceTree.{ChoiceTree}
 use Rattle.tv_linear.specs.declared.choice.ChoiceTree as choice_trees
+use Rattle.tv_linear.proofs.ListLaws.{test_true}
 use Rattle.tv_cases.specs.LinearCases.{LinearCase, leaving}
 use Rattle.tv_cert.specs.declared.node.Proof.{Proof}
 use Rattle.tv_cert.specs.declared.node.Proof.TheVariants.{Covered, Chosen}
 use Rattle.tv_cert.specs.Obligations.{Owed, Obligation}
 use Rattle.tv_cert.specs.Obligations as obligations
 use Rattle.tv_cert.specs.Shapes.{owed_count, ListsShape, CoverShape, NoStepShape, TakeShape, ChoiceShape, ProofShape}
-use Rattle.tv_cert.proofs.PieceLemmas.{test_true}
 use Rattle.tv_cert_reader.specs.CertificateLines.{row_line, row_lines, by_lines, cover_lines, choice_lines, proof_lines}
 use Rattle.tv_cert_reader.specs.Demands.{Demand, demand_of, no_counts}
 use Rattle.tv_cert_reader.specs.LineGrammar.{Grammar, many, by, draw}

@@ -12,6 +12,7 @@ use Rattle.tv_lines.specs.declared.head.Head.TheVariants as heads
 use Rattle.tv_lines.specs.declared.head.NodeKind.{NodeKind}
 use Rattle.tv_lines.specs.declared.head.NodeKind.TheVariants as kinds
 use Rattle.tv_linear.specs.Linear.{Linear, columns}
+use Rattle.tv_linear.proofs.ListLaws.{test_true}
 use Rattle.tv_cases.specs.LinearCases.{CaseSystem}
 use Rattle.tv_cert.specs.declared.node.Mark.{Mark}
 use Rattle.tv_cert.specs.declared.node.Mark.TheVariants.{Done, Go}
@@ -19,7 +20,6 @@ use Rattle.tv_cert.specs.declared.node.Marked.{Marked}
 use Rattle.tv_cert.specs.Pieces.{place_of, rows_of, ranks_of, is_go, goes}
 use Rattle.tv_cert.specs.Shapes.{PieceShape, may_be_done, may_rank}
 use Rattle.tv_cert.specs.Statements.{Statement}
-use Rattle.tv_cert.proofs.PieceLemmas.{test_true}
 use Rattle.tv_cert_reader.specs.CertificateLines.{row_line, row_lines, by_lines, mark_named, piece_lines}
 use Rattle.tv_cert_reader.specs.Demands.{Outline, outline, outlines}
 use Rattle.tv_cert_reader.specs.LineGrammar.{Grammar, line, line_branch, guarded, is_row, is_rank, is_by, is_draw, sized, row, rank, draw, by, many, same_kind, kind_of, NodeHead, node_line, is_going, piece_numbers, piece_line, rank_count, piece, region_of, region}

@@ -10,8 +10,8 @@ use Rattle.tv_lines.specs.declared.head.Head.TheVariants as heads
 use Rattle.tv_linear.specs.Linear.{Linear, columns}
 use Rattle.tv_linear.specs.Depth.{splits}
 use Rattle.tv_linear.specs.declared.cover.CoverTree.{CoverTree, Split', Empty, Into}
+use Rattle.tv_linear.proofs.ListLaws.{test_true, test_false}
 use Rattle.tv_cert.specs.Shapes.{CoverShape, ListsShape}
-use Rattle.tv_cert.proofs.PieceLemmas.{test_true, test_false}
 use Rattle.tv_cert_reader.specs.CertificateLines.{row_line, by_lines, cover_lines}
 use Rattle.tv_cert_reader.specs.declared.kind.LineKind.{LineKind}
 use Rattle.tv_cert_reader.specs.declared.kind.LineKind.TheVariants.{Syntax, Deep, Shape}

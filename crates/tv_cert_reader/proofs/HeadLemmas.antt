@@ -11,7 +11,7 @@ use Rattle.tv_lines.specs.declared.head.PieceMark.TheVariants as marks
 use Rattle.tv_cert.specs.declared.node.Mark.{Mark}
 use Rattle.tv_cert.specs.declared.node.Mark.TheVariants.{Done, Go}
 use Rattle.tv_cert.specs.Pieces.{is_go}
-use Rattle.tv_cert.proofs.PieceLemmas.{test_true, true_test}
+use Rattle.tv_linear.proofs.ListLaws.{test_true, true_test}
 use Rattle.tv_cert_reader.specs.CertificateLines.{mark_named}
 use Rattle.tv_cert_reader.specs.Demands.{Outline}
 use Rattle.tv_cert_reader.specs.LineGrammar.{guarded, same_kind, NodeHead, node_line, is_going, piece_numbers, piece_line}

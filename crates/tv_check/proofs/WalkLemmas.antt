@@ -1,5 +1,6 @@
 use Rattle.std.proofs.Common.{◌≡◌, ◌^◌, ℕ, zero, suc, ◌+◌, ◌<◌, ◌≤◌, List, [], ◌∷◌, ◌++◌, length, drop, get_or, arith, refl, sym, ap, ◌∙◌, subst, append_assoc, length-append, drop-cons}
 use Rattle.std.proofs.lemmas.List.{append-nil}
+use Rattle.tv_linear.proofs.ListLaws.{drop_past}
 use Rattle.tv_cases.specs.LinearCases.{CaseSystem}
 use Rattle.tv_cert.specs.declared.node.Node.{Node}
 use Rattle.tv_cert.specs.Obligations.{Entry, AllMet}
@@ -89,12 +90,6 @@ module _ (system : CaseSystem) (ss : Statements) (kids : List Node) (start from 
         so_far = (let l = length-append h.done (node_entries next system (part_at i ss) a) in omega (arith, l, e, s));
         nodes = (let z = ap (λ j. sizes_list (drop j kids)) one in omega (arith, n, sizes_there, k, z));
       }
-
-drop_past : {A : Type 0} (xs : List A) (i : ℕ) → length xs ≤ i → drop i xs ≡ []
-drop_past [] zero h = refl
-drop_past [] (suc i) h = refl
-drop_past (x ∷ xs) zero h = absurd (omega arith)
-drop_past (x ∷ xs) (suc i) h = drop_past xs i (omega arith)
 
 no_kids : (next : ℕ) (system : CaseSystem) (ss : Statements) → listed_entries next system ss [] ≡ []
 no_kids next system no_statement = refl

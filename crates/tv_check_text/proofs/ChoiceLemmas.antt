@@ -13,6 +13,7 @@ use Rattle.tv_linear.specs.Refutation.{Refutes}
 use Rattle.tv_linear.specs.Terms.{draw_terms}
 use Rattle.tv_linear.specs.declared.row.Row.{Row}
 use Rattle.tv_linear.specs.declared.choice.ChoiceTree.{Split', Empty, NoStep, Take}
+use Rattle.tv_linear.proofs.ListLaws.{test_true}
 use Rattle.tv_cases.specs.LinearCases.{LinearCase, CaseSystem, leaving}
 use Rattle.tv_cert.specs.declared.node.Marked.{Marked}
 use Rattle.tv_cert.specs.declared.owes.Destination.{Destination}
@@ -20,7 +21,6 @@ use Rattle.tv_cert.specs.Choices.{TakeMet, drawn_guards}
 use Rattle.tv_cert.specs.Owing.{destination_owes}
 use Rattle.tv_cert.specs.Pieces.{place_of}
 use Rattle.tv_cert_reader.specs.CertificateLines.{row_lines}
-use Rattle.tv_cert.proofs.PieceLemmas.{test_true}
 use Rattle.tv_cert_reader.specs.ChoiceGrammar.{choice, stop_cover}
 use Rattle.tv_cert_reader.specs.CoverGrammar.{both}
 use Rattle.tv_cert_reader.specs.LineGrammar.{Grammar, many, by}

@@ -12,9 +12,9 @@ use Rattle.tv_linear.specs.Known.{Known, given, denied}
 use Rattle.tv_linear.specs.Covers.{ShownAt}
 use Rattle.tv_linear.specs.Refutation.{Refutes}
 use Rattle.tv_linear.specs.declared.cover.CoverTree.{Split', Empty, Into}
+use Rattle.tv_linear.proofs.ListLaws.{test_true}
 use Rattle.tv_cert.specs.Shapes.{owed_count}
 use Rattle.tv_cert_reader.specs.CertificateLines.{by_lines}
-use Rattle.tv_cert.proofs.PieceLemmas.{test_true}
 use Rattle.tv_cert_reader.specs.CoverGrammar.{both, cover}
 use Rattle.tv_cert_reader.specs.LineGrammar.{Grammar, many, by}
 use Rattle.tv_cert_reader.proofs.CompleteParts.{numbers_long}

@@ -6,6 +6,7 @@ use Rattle.std.proofs.lemmas.List.Elements.{All-nil, All-cons, All-head, All-tai
 use Rattle.tv_linear.specs.Linear.{Linear, columns}
 use Rattle.tv_linear.specs.Arithmetic.{opposite}
 use Rattle.tv_linear.specs.declared.region.Piece.{Piece}
+use Rattle.tv_linear.proofs.ListLaws.{test_true, test_false}
 use Rattle.tv_cases.specs.declared.case.Case.{Case}
 use Rattle.tv_cases.specs.LinearCases.{LinearCase, leaving}
 use Rattle.tv_cases.specs.Views.{case_view, case_views}
@@ -19,7 +20,6 @@ use Rattle.tv_choice.specs.Refusals.{IsWideHere, entering, drawing}
 use Rattle.tv_choice.specs.Ways.{IsEntered, AreCaseRows, IsWayOf, IsWay}
 use Rattle.tv_choice.specs.Targets.{front, term_by, term_of, one_term, terms_given, draw_choices, targets_into, targets_by, targets_from, AreMadeInto, IsFirstWidePut, with_later, IsWideInto, IsFirstWideInto, into_this, into_later, IsFirstWideFrom, by_this, by_later}
 use Rattle.tv_choice.proofs.WayLemmas.{drop_more, is_way, in_way}
-use Rattle.tv_choice.proofs.PieceLemmas.{test_true, test_false}
 
 -- ---- one term
 pub plus_one : (c : ℤ) (rest : Linear) → c ≡ pos 1 → term_by c rest ≡ Some (opposite rest)

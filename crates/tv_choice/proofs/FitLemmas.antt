@@ -10,12 +10,12 @@ use Rattle.std.proofs.lemmas.List.Elements.{filter_passes}
 use Rattle.tv_simplex.specs.Outcomes.{IsShort}
 use Rattle.tv_linear.specs.Linear.{columns}
 use Rattle.tv_linear.specs.declared.region.Piece.{Piece}
+use Rattle.tv_linear.proofs.ListLaws.{take_past, true_test, test_true}
 use Rattle.tv_cases.specs.declared.case.Case.{Case}
 use Rattle.tv_cases.specs.LinearCases.{LinearCase, IsCase, from_of, leaving}
 use Rattle.tv_cases.specs.Views.{case_view, case_views}
 use Rattle.tv_cases.proofs.LeavingLemmas.{none_more}
 use Rattle.tv_choice.specs.Leading.{place_of, pieces_at, piece_rows}
-use Rattle.tv_choice.proofs.PieceLemmas.{true_test, test_true}
 
 pub less_fits : (z : ℤ) → IsShort z → FitsSigned w128 (z -ℤ pos 1)
 less_fits z h = fits_signed_from_abs w128 (z -ℤ pos 1) (let l : unsigned_abs (z -ℤ pos 1) < 2 ^ 127 = omega (arith, ints, h) in l)
@@ -86,14 +86,8 @@ take_suc_some xs i x e = ap (λ k. take k xs) (let g : i + 1 ≡ suc i = omega a
 pub contains_more : {A : Type 0} (xs : List A) (i : ℕ) (x y : A) → slice_get xs i ≡ Some x → Contains (take (i + 1) xs) y → (x ≡ y) ⊎ Contains (take i xs) y
 contains_more xs i x y e c = contains_last (take i xs) x y (subst (λ k. Contains k y) (take_suc_some xs i x e) c)
 
-pub take_whole : {A : Type 0} (xs : List A) (i : ℕ) → length xs ≤ i → take i xs ≡ xs
-take_whole [] zero l = refl
-take_whole [] (suc i) l = refl
-take_whole (x ∷ xs) zero l = absurd (omega (arith, l))
-take_whole (x ∷ xs) (suc i) l = ap (λ ys. x ∷ ys) (take_whole xs i (omega (arith, l)))
-
 pub contains_all : {A : Type 0} (xs : List A) (i : ℕ) (y : A) → length xs ≤ i → Contains xs y → Contains (take i xs) y
-contains_all xs i y l c = subst (λ k. Contains k y) (sym (take_whole xs i l)) c
+contains_all xs i y l c = subst (λ k. Contains k y) (sym (take_past xs i l)) c
 
 -- what is got among the cases from a location is from there
 pub leaving_from : (l : ℕ) (cs : List LinearCase) (k : ℕ) (c : LinearCase) → slice_get (leaving l cs) k ≡ Some c → c.from ≡ l

@@ -5,6 +5,7 @@ use Rattle.tv_linear.specs.Linear.{Linear}
 use Rattle.tv_linear.specs.Arithmetic.{denial}
 use Rattle.tv_linear.specs.Known.{as_given}
 use Rattle.tv_linear.specs.Refutation.{Refutes}
+use Rattle.tv_linear.proofs.ListLaws.{take_past}
 use Rattle.tv_farkas.specs.Paths.{TakenOnce}
 use Rattle.tv_farkas.specs.Judging.{IsPointAt, IsJudgeFault}
 use Rattle.tv_farkas.specs.declared.fault.CoverFault.{CoverFault}
@@ -26,7 +27,7 @@ use Rattle.tv_choice.specs.Refusals.{IsTried, tried}
 use Rattle.tv_choice.specs.Looking.{IsWayRow, IsLookFault, ShowsRow, AreShown, IsAt, AreEntered, IsOpen, NoneShown, IsBest, IsOpened, IsLook, IsOneMore}
 use Rattle.tv_choice.specs.Ways.{way_rows, IsWay, IsUnmade}
 use Rattle.tv_choice.proofs.WayLemmas.{take_more}
-use Rattle.tv_choice.proofs.FitLemmas.{contains_last, take_whole}
+use Rattle.tv_choice.proofs.FitLemmas.{contains_last}
 
 -- ---- points
 pub point_of : (n : ℕ) (rows : List Linear) (values : List ℤ) (scale : ℤ) → IsPointAt n rows values scale → HasPoint n rows
@@ -158,7 +159,7 @@ entered_next n rows owed i r l e one h s c = elim (contains_last (take i owed) r
 ]
 
 pub entered_all : (n : ℕ) (rows owed : List Linear) (i : ℕ) → length owed ≤ i → AreEntered n rows (take i owed) → AreEntered n rows owed
-entered_all n rows owed i l h = subst (AreEntered n rows) (take_whole owed i l) h
+entered_all n rows owed i l h = subst (AreEntered n rows) (take_past owed i l) h
 
 -- a row of a way
 pub row_at : (n : ℕ) (q : Query) (above owed : List Linear) (i : ℕ) (r : Linear) → IsWayRows n q above owed → i < length owed → r ≡ get_or owed i r → IsWayRow n q above r

@@ -17,10 +17,11 @@ use Rattle.tv_linear.specs.ChoiceDepth.{choice_splits}
 use Rattle.tv_linear.specs.declared.choice.ChoiceTree.{ChoiceTree, Split', Empty, NoStep, Take}
 use Rattle.tv_linear.specs.declared.cover.CoverTree.{CoverTree}
 use Rattle.tv_linear.specs.declared.region.Piece.{Piece}
-use Rattle.tv_linear.proofs.KnownLemmas.{refuted, met-as_given}
+use Rattle.tv_linear.proofs.KnownLemmas.{refuted, met-as_given, length-given}
 use Rattle.tv_linear.proofs.RowValues.{value-denial}
 use Rattle.tv_linear.specs.Same.{SameNumbers, AreSame}
 use Rattle.tv_linear.proofs.SameLemmas.{same_self, refutes_same}
+use Rattle.tv_linear.proofs.ListLaws.{test_true, all_front, all_back}
 use Rattle.tv_simplex.proofs.Ring.{by_sign}
 use Rattle.tv_farkas.specs.Refuting.{AreShort}
 use Rattle.tv_farkas.specs.Paths.{IsWholePoint}
@@ -46,9 +47,9 @@ use Rattle.tv_choice.specs.Stepping.{IsWayFrom, IsStepInto}
 use Rattle.tv_choice.specs.Stopping.{AreStopTrees}
 use Rattle.tv_choice.specs.Settling.{IsTreeAt, IsHoleAt, IsSplitOf, IsTakeOf, IsGoing}
 use Rattle.tv_choice.proofs.SameLemmas.{known_more, shown_same}
-use Rattle.tv_choice.proofs.PieceLemmas.{piece_got, test_true}
+use Rattle.tv_choice.proofs.PieceLemmas.{piece_got}
 use Rattle.tv_choice.proofs.FitLemmas.{contains_filter, place_fits}
-use Rattle.tv_choice.proofs.WayLemmas.{map-append, all_before, all_behind, put_met, met_before}
+use Rattle.tv_choice.proofs.WayLemmas.{map-append, put_met, met_before}
 
 -- ---- rows and denials
 met_or_not : (z : ℤ) → (z ≤ℤ pos 0) ⊎ (z ≤ℤ pos 0 → ⊥)
@@ -88,7 +89,7 @@ way_leads n q above w xs h e met = record {
       leaves = sym h.leaves;
       enters = refl;
       drawn = many;
-      guards = all_before (IsMet (xs ++ ds)) c.guards (map (λ r. before r c) (piece_rows h.piece)) rows;
+      guards = all_front (IsMet (xs ++ ds)) c.guards (map (λ r. before r c) (piece_rows h.piece)) rows;
       gives = refl;
     };
   };
@@ -97,7 +98,7 @@ way_leads n q above w xs h e met = record {
   inside = record {
     place = sym got.0;
     inside = subst (λ k. All (IsMet (map (term_value (xs ++ ds)) (terms_after k c.updates))) (piece_rows h.piece)) (sym e)
-        (met_before n c (piece_rows h.piece) xs ds h.owed e many (all_behind (IsMet (xs ++ ds)) c.guards (map (λ r. before r c) (piece_rows h.piece)) rows));
+        (met_before n c (piece_rows h.piece) xs ds h.owed e many (all_back (IsMet (xs ++ ds)) c.guards (map (λ r. before r c) (piece_rows h.piece)) rows));
   };
 }
   where
@@ -132,16 +133,13 @@ shown_many n rows [] (ms ∷ lists) h = absurd h
 shown_many n rows (r ∷ owed) [] h = absurd h
 shown_many n rows (r ∷ owed) (ms ∷ lists) h = ap suc (shown_many n rows owed lists h.1)
 
-given_many : (rows : List Linear) → length (as_given rows) ≡ length rows
-given_many rows = length-map rows (λ r. given r)
-
 shown_each : (n : ℕ) (rows owed : List Linear) (lists : List (List ℤ)) → AreShown n rows owed lists → All (λ ms. length ms ≡ length rows + 1) lists
 shown_each n rows [] [] h = All-nil (λ ms. length ms ≡ length rows + 1)
 shown_each n rows [] (ms ∷ lists) h = absurd h
 shown_each n rows (r ∷ owed) [] h = absurd h
 shown_each n rows (r ∷ owed) (ms ∷ lists) h =
     All-cons (λ ms. length ms ≡ length rows + 1) ms lists
-    (h.0.refutes.as_many ∙ given_many (rows ++ denial r ∷ []) ∙ length-append rows (denial r ∷ []))
+    (h.0.refutes.as_many ∙ length-given (rows ++ denial r ∷ []) ∙ length-append rows (denial r ∷ []))
     (shown_each n rows owed lists h.1)
 
 shown_short : (n : ℕ) (rows owed : List Linear) (lists : List (Vec ℤ Global)) → AreShown n rows owed (map (λ l. l.items) lists) → ListsNarrow lists
@@ -168,7 +166,7 @@ module _ (n : ℕ) (q : Query) where
   empty_leaf rows left ms h s = record {
     met = λ known k. refutes_same n (as_given rows) known ms.items (k n) h;
     shallow = omega arith;
-    shape = h.as_many ∙ given_many rows;
+    shape = h.as_many ∙ length-given rows;
     narrow = short_all ms.items s;
     none = λ xs p hole. refuted n (as_given rows) ms.items xs h p.width ((met-as_given xs rows).0 p.met);
   }
@@ -209,7 +207,7 @@ module _ (n : ℕ) (q : Query) where
         h.terms,
         subst (λ o. ListsShape (length rows + 1) (option_map (λ rows. length c.guards + length rows) (option_map (λ p. map (drawn_change n c ds) (piece_rows p)) o)) lists) (sym h.enters) (
           shown_many n rows (way_rows w) lists s
-              ∙ sym (given_many (way_rows w))
+              ∙ sym (length-given (way_rows w))
               ∙ seen_many (as_given (way_rows w)) (drawn_guards n c ds ++ map (drawn_change n c ds) (piece_rows h.piece)) h.seen
               ∙ length-append (drawn_guards n c ds) (map (drawn_change n c ds) (piece_rows h.piece))
               ∙ ap (λ m. m + length (map (drawn_change n c ds) (piece_rows h.piece))) (length-map c.guards _),
@@ -280,7 +278,7 @@ module _ (n : ℕ) (q : Query) where
 
   -- ---- holes
   pub hole_of_side : (rows : List Linear) (r : Linear) (xs : List ℤ) → IsHoleAt n q (rows ++ r ∷ []) xs → IsHoleAt n q rows xs
-  hole_of_side rows r xs h = record { inside = record { width = h.inside.width; met = all_before (IsMet xs) rows (r ∷ []) h.inside.met }; hole = h.hole; short = h.short }
+  hole_of_side rows r xs h = record { inside = record { width = h.inside.width; met = all_front (IsMet xs) rows (r ∷ []) h.inside.met }; hole = h.hole; short = h.short }
 
   pub no_step_hole : (rows : List Linear) (xs : List ℤ) → IsGoing n q rows xs → IsStepInto n q rows xs None → IsHoleAt n q rows xs
   no_step_hole rows xs g h = record {

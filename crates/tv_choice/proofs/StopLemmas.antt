@@ -27,12 +27,12 @@ use Rattle.tv_choice.specs.ChoicePaths.{starting_rows, start}
 use Rattle.tv_choice.specs.Stopping.{IsStopTree, IsStart, IsStoppedBy, AreStopTrees, IsLeading}
 use Rattle.tv_choice.proofs.SameLemmas.{known_self}
 use Rattle.tv_choice.proofs.FitLemmas.{Contains-leaving}
-use Rattle.tv_choice.proofs.WayLemmas.{front_back, length-drop, all_before, all_behind}
 use Rattle.tv_linear.specs.Arithmetic.{padded_row}
 use Rattle.tv_linear.specs.Same.{AreSame}
 use Rattle.tv_linear.proofs.SameLemmas.{cover_same, same_append, are_same_then, all_same}
 use Rattle.tv_linear.proofs.KnownLemmas.{as_given-append}
 use Rattle.tv_linear.proofs.PaddedLemmas.{padded_same, padded_met, met_padded}
+use Rattle.tv_linear.proofs.ListLaws.{length-front, front_back, length-back, all_front, all_back}
 
 -- ---- trees without targets
 one_more : (known : List Known) (x : Known) (count : ℕ) → length known ≡ count → length (known ++ x ∷ []) ≡ count + 1
@@ -116,10 +116,6 @@ all_stopped n q rows left covers even h = record {
 }
 
 -- ---- what `empty` says of the rows and the guards of a case
-length-take : (n d : ℕ) (zs : List ℤ) → length zs ≡ n + d → length (take n zs) ≡ n
-length-take zero d zs e = refl
-length-take (suc n) d [] e = absurd (omega (arith, e))
-length-take (suc n) d (z ∷ zs) e = ap suc (length-take n d zs (omega (arith, e)))
 
 short_front : (n : ℕ) (zs : List ℤ) → ((j : ℕ) → j < length zs → unsigned_abs (get_or zs j (pos 0)) < 2 ^ 62) → (j : ℕ) → j < length (take n zs) → unsigned_abs (get_or (take n zs) j (pos 0)) < 2 ^ 62
 short_front zero zs h j l = absurd (omega (arith, l))
@@ -151,10 +147,10 @@ module _ (n : ℕ) (rows all : List Linear) (c : LinearCase) (left : ℕ) (even 
         size = h.width;
         short = t;
         inside = record {
-          width = length-take n c.draws values.items h.width;
-          met = padded_met n c.draws rows values.items even (all_before (IsMet values.items) (map (padded_row c.draws) rows) c.guards met);
+          width = length-front n c.draws values.items h.width;
+          met = padded_met n c.draws rows values.items even (all_front (IsMet values.items) (map (padded_row c.draws) rows) c.guards met);
         };
-        guards = all_behind (IsMet values.items) (map (padded_row c.draws) rows) c.guards met;
+        guards = all_back (IsMet values.items) (map (padded_row c.draws) rows) c.guards met;
         origin = subst (λ rs. IsWholePointOf (n + c.draws) rs values.items) is f;
       }
 
@@ -172,7 +168,7 @@ leading n q rows c zs xs stop among from h e = subst (IsLeading n q rows) (sym e
       does = record {
         leaves = sym from;
         enters = refl;
-        drawn = length-drop n c.draws zs h.size;
+        drawn = length-back n c.draws zs h.size;
         guards = subst (λ ys. All (IsMet ys) c.guards) (sym (front_back n zs)) h.guards;
         gives = refl;
       };

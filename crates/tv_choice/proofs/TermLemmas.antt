@@ -8,6 +8,7 @@ use Rattle.tv_linear.specs.Arithmetic.{zeros, unit, constant_row}
 use Rattle.tv_linear.proofs.PlainLists.{length-zeros}
 use Rattle.tv_linear.proofs.RowValues.{value-constant_row}
 use Rattle.tv_linear.proofs.PaddedLemmas.{dot-zeros}
+use Rattle.tv_linear.proofs.ListLaws.{length-back}
 use Rattle.tv_choice.specs.ChoicePaths.{GivesAlone, IsTermAt, number, tight, AreTermsAt}
 
 -- ---- what a row gives
@@ -40,22 +41,17 @@ get_or-behind zero zs j = ap (λ k. get_or zs k (pos 0)) (let g : j ≡ 0 + j = 
 get_or-behind (suc n) [] j = refl
 get_or-behind (suc n) (z ∷ zs) j = get_or-behind n zs j ∙ ap (λ k. get_or (z ∷ zs) k (pos 0)) (let g : suc (n + j) ≡ suc n + j = omega arith in g)
 
-length-behind : (n d : ℕ) (zs : List ℤ) → length zs ≡ n + d → length (drop n zs) ≡ d
-length-behind zero d zs e = e ∙ (let g : 0 + d ≡ d = omega arith in g)
-length-behind (suc n) d [] e = absurd (omega (arith, e))
-length-behind (suc n) d (z ∷ zs) e = length-behind n d zs (omega (arith, e))
-
 alone_value : (n d : ℕ) (r : Linear) (j : ℕ) (t : Linear) (zs : List ℤ) → length zs ≡ n + d → j < d → GivesAlone n d r j t → value r zs ≡ pos 0 → value t (take n zs) ≡ get_or zs (n + j) (pos 0)
 alone_value n d r j t zs e l (inl (part, is)) zero_there =
     let f = dot-front n r.coefficients zs in
-    let u = ap (λ cs. dot cs (drop n zs)) part ∙ dot-unit d j (drop n zs) (length-behind n d zs e) l ∙ get_or-behind n zs j in
+    let u = ap (λ cs. dot cs (drop n zs)) part ∙ dot-unit d j (drop n zs) (length-back n d zs e) l ∙ get_or-behind n zs j in
     let o = dot-opposite (take n r.coefficients) (take n zs) in
     let v = ap (λ x. value x (take n zs)) is in
     omega (arith, ints, f, u, o, v, zero_there)
 alone_value n d r j t zs e l (inr (part, is)) zero_there =
     let f = dot-front n r.coefficients zs in
     let u = ap (λ cs. dot cs (drop n zs)) part ∙ dot-opposite (unit d j) (drop n zs) in
-    let w = dot-unit d j (drop n zs) (length-behind n d zs e) l ∙ get_or-behind n zs j in
+    let w = dot-unit d j (drop n zs) (length-back n d zs e) l ∙ get_or-behind n zs j in
     let v = ap (λ x. value x (take n zs)) is in
     omega (arith, ints, f, u, w, v, zero_there)
 
@@ -93,7 +89,7 @@ get_or-map f (x ∷ xs) zero d l = refl
 get_or-map f (x ∷ xs) (suc j) d l = get_or-map f xs j d (omega (arith, l))
 
 pub terms_values : (n d : ℕ) (rows : List Linear) (zs : List ℤ) (draws : List Linear) → length zs ≡ n + d → AreTermsAt n d rows zs draws → map (λ t. value t (take n zs)) draws ≡ drop n zs
-terms_values n d rows zs draws e t = same_lists (map (λ t. value t (take n zs)) draws) (drop n zs) (length-map draws (λ t. value t (take n zs)) ∙ t.many ∙ sym (length-behind n d zs e))
+terms_values n d rows zs draws e t = same_lists (map (λ t. value t (take n zs)) draws) (drop n zs) (length-map draws (λ t. value t (take n zs)) ∙ t.many ∙ sym (length-back n d zs e))
     (λ j l. (let m = t.many in let k = length-map draws (λ t. value t (take n zs)) in let inside : j < d = omega (arith, l, m, k) in
     get_or-map (λ t. value t (take n zs)) draws j (constant_row n (pos 0)) (omega (arith, l, k))
     ∙ term_value_is n d rows zs j (get_or draws j (constant_row n (pos 0))) e inside (t.each j (constant_row n (pos 0)) inside)

@@ -22,6 +22,7 @@ use Rattle.tv_linear.proofs.RowValues.{value-column_row, value-denial, value-com
 use Rattle.tv_linear.specs.Same.{SameNumbers, AreSame}
 use Rattle.tv_linear.proofs.SameLemmas.{same_self, all_same, same_push}
 use Rattle.tv_linear.proofs.KnownLemmas.{as_given-append}
+use Rattle.tv_linear.proofs.ListLaws.{front_back, all_back, all_front}
 use Rattle.tv_farkas.specs.Paths.{at_most_row, at_least_row, IsWholePoint}
 use Rattle.tv_cases.specs.EdgeCases.{columns_from}
 use Rattle.tv_cases.specs.Before.{before, rows_after, term_row, FitsTerms}
@@ -154,11 +155,6 @@ pub get_or_front : (xs ds : List ℤ) (j : ℕ) → j < length xs → get_or (xs
 get_or_front [] ds j l = absurd (omega (arith, l))
 get_or_front (x ∷ xs) ds zero l = refl
 get_or_front (x ∷ xs) ds (suc j) l = get_or_front xs ds j (omega (arith, l))
-
-pub front_back : {A : Type 0} (n : ℕ) (xs : List A) → take n xs ++ drop n xs ≡ xs
-front_back zero xs = refl
-front_back (suc n) [] = refl
-front_back (suc n) (x ∷ xs) = ap (λ ys. x ∷ ys) (front_back n xs)
 
 -- ---- padded rows
 
@@ -379,18 +375,9 @@ asked_met n c owed rows xs ds h even e d guards met = record {
     long : length (xs ++ ds) ≡ n + c.draws
     long = length-append xs ds ∙ (λ i. e i + d i)
 
--- a whole point of the rows that are asked is the point and draws
-pub all_behind : {A : Type 0} (P : A → Type 0) (xs ys : List A) → All P (xs ++ ys) → All P ys
-all_behind P [] ys h = h
-all_behind P (x ∷ xs) ys h = all_behind P xs ys (All-tail P x (xs ++ ys) h)
-
-pub all_before : {A : Type 0} (P : A → Type 0) (xs ys : List A) → All P (xs ++ ys) → All P xs
-all_before P [] ys h = All-nil P
-all_before P (x ∷ xs) ys h = All-cons P x xs (All-head P x (xs ++ ys) h) (all_before P xs ys (All-tail P x (xs ++ ys) h))
-
 pub answered : (n d : ℕ) (rows : List Linear) (xs zs : List ℤ) → length xs ≡ n → IsWholePoint (n + d) (fixes (n + d) 0 xs ++ rows) zs → zs ≡ xs ++ drop n zs
 answered n d rows xs zs e p =
-    let f = fixes_equal (n + d) 0 xs zs p.width (all_before (IsMet zs) (fixes (n + d) 0 xs) rows p.met) in
+    let f = fixes_equal (n + d) 0 xs zs p.width (all_front (IsMet zs) (fixes (n + d) 0 xs) rows p.met) in
     let w = p.width in
     let t = same_front xs zs (omega (arith, e, w)) (λ j l. ap (λ k. get_or zs k (pos 0)) (let g : j ≡ 0 + j = omega arith in g) ∙ f j l) in
     sym (front_back n zs) ∙ ap (λ ys. ys ++ drop n zs) (ap (λ k. take k zs) (sym e) ∙ t)
@@ -403,12 +390,7 @@ answered_front n d rows xs zs e p = ap (λ k. take k zs) (sym e) ∙ ap (take (l
     take_all (y ∷ ys) later = ap (λ k. y ∷ k) (take_all ys later)
 
 pub answered_met : (n d : ℕ) (rows : List Linear) (xs zs : List ℤ) → length xs ≡ n → IsWholePoint (n + d) (fixes (n + d) 0 xs ++ rows) zs → All (IsMet (xs ++ drop n zs)) rows
-answered_met n d rows xs zs e p = subst (λ ys. All (IsMet ys) rows) (answered n d rows xs zs e p) (all_behind (IsMet zs) (fixes (n + d) 0 xs) rows p.met)
-
-pub length-drop : (n d : ℕ) (zs : List ℤ) → length zs ≡ n + d → length (drop n zs) ≡ d
-length-drop zero d zs e = e ∙ (let g : 0 + d ≡ d = omega arith in g)
-length-drop (suc n) d [] e = absurd (omega (arith, e))
-length-drop (suc n) d (z ∷ zs) e = length-drop n d zs (omega (arith, e))
+answered_met n d rows xs zs e p = subst (λ ys. All (IsMet ys) rows) (answered n d rows xs zs e p) (all_back (IsMet zs) (fixes (n + d) 0 xs) rows p.met)
 
 pub asked_even : (n : ℕ) (c : LinearCase) (owed rows : List Linear) (xs : List ℤ) → AreCaseRows n c owed rows → All (λ r. columns r ≡ n + c.draws) (fixes (n + c.draws) 0 xs ++ rows)
 asked_even n c owed rows xs h = All-append (λ r. columns r ≡ n + c.draws) (fixes (n + c.draws) 0 xs) rows (fixes_even (n + c.draws) 0 xs) h.even

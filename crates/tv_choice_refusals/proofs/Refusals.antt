@@ -6,6 +6,7 @@ use Rattle.std.proofs.lemmas.List.Elements.{All-filter, All-contains_itself, fil
 use Rattle.tv_linear.specs.Linear.{Linear, linear, columns}
 use Rattle.tv_linear.specs.Arithmetic.{unit, opposite, denial, composed as with_terms, padded_row}
 use Rattle.tv_linear.specs.declared.region.Piece.{Piece}
+use Rattle.tv_linear.proofs.ListLaws.{true_test}
 use Rattle.tv_cases.specs.LinearCases.{LinearCase, CaseSystem, from_of, leaving}
 use Rattle.tv_cases.specs.Before.{before}
 use Rattle.tv_cases.proofs.Listed.{Contains-here, Contains-later, Contains-map, Contains-from_map}
@@ -22,7 +23,6 @@ use Rattle.tv_choice.specs.Leading.{IsServed, IsEntry, place_of, piece_rows, pie
 use Rattle.tv_choice.specs.Targets.{front, term_by, term_of, one_term, terms_given, draw_choices, IsFirstWidePut, with_these, with_later, IsWideInto, reading, putting, IsFirstWideInto, into_this, into_later, IsFirstWideFrom, by_this, by_later}
 use Rattle.tv_choice.specs.ChoicePaths.{starting_rows, stepping_rows, IsPointHere, own as own_point, start as start_point, AreDrawTerms, by_rows, at_point, IsTermAt, number as number_there, tight as tight_there, IsWayIn, IsWayRows, SplitsBy, IsSplit, IsChoicePath, IsInner, starting, stepping}
 use Rattle.tv_choice.specs.Refusals.{IsTried, IsUnsolvedHere, place as at_place, tried as with_tried, inner as of_inner, IsWideHere, entering, drawing, denying, IsWideChoice, target, behind}
-use Rattle.tv_choice.proofs.PieceLemmas.{true_test}
 use Rattle.tv_derived.specs.Scopes.{Scope, scope, at_location, over_case, width_at, with_more, Placed}
 use Rattle.tv_derived.specs.Derived.{IsDerived, IsMade, IsDrawTerm, IsListed, AreListed, guard, made, denied, composed, drawn, below as term_below, above as term_above, value as term_value, derived, fixed, unsplit, IsFixing, false_row}
 use Rattle.tv_derived.specs.Faults.{IsWideStep, IsUnsolvedList, number as wide_number, before_case, put_terms as put_wide}

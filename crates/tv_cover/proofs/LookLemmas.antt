@@ -7,6 +7,7 @@ use Rattle.tv_linear.specs.Linear.{Linear, scaled_value, IsScaledPoint}
 use Rattle.tv_linear.specs.Arithmetic.{denial}
 use Rattle.tv_linear.specs.Known.{as_given}
 use Rattle.tv_linear.specs.Refutation.{Refutes}
+use Rattle.tv_linear.proofs.ListLaws.{all_front}
 use Rattle.tv_farkas.specs.declared.refuted.Refuted.{Refuted}
 use Rattle.tv_farkas.specs.declared.refuted.Refuted.TheVariants.{Empty, Point}
 use Rattle.tv_farkas.specs.declared.fault.CoverFault.{CoverFault}
@@ -16,7 +17,6 @@ use Rattle.std.proofs.lemmas.Int.{to_z-of_z}
 use mir.Val.{to_z, of_z}
 use Rattle.tv_simplex.proofs.AnswerLemmas.{short_fits}
 use Rattle.tv_farkas.specs.Refuting.{IsSystemFault, IsRefuted, IsShortRefuted, AreShort}
-use Rattle.tv_farkas.proofs.SideLemmas.{all_left}
 use Rattle.tv_cover.specs.declared.witness.Witness.{Witness}
 use Rattle.tv_cover.specs.Targets.{HasPoint}
 use Rattle.tv_cover.specs.Covering.{IsRowOrDenial}
@@ -42,7 +42,7 @@ among_or_new n kept row false h p = λ c. cc_false (h.1 c)
 pub one_witness : (n : ℕ) (kept : List Linear) (row : Linear) (points : List Witness) (point : Witness) → AreWitnesses n kept points → length point.values.items ≡ n → IsScaledPoint (kept ++ row ∷ []) point.values.items point.scale → AreWitnesses n kept (points ++ point ∷ [])
 one_witness n kept row points point h e m = All-push (IsWitness n kept) points point h record {
   size = e;
-  meets = record { positive = m.positive; met = all_left (λ r. scaled_value r point.values.items point.scale ≤ℤ pos 0) kept (row ∷ []) m.met };
+  meets = record { positive = m.positive; met = all_front (λ r. scaled_value r point.values.items point.scale ≤ℤ pos 0) kept (row ∷ []) m.met };
 }
 
 -- ---- refusals

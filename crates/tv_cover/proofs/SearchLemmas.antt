@@ -13,6 +13,7 @@ use Rattle.tv_linear.specs.Depth.{splits}
 use Rattle.tv_linear.specs.Fits.{IsHeld}
 use Rattle.tv_linear.specs.Linear.{Linear, columns, IsMet, scaled_value}
 use Rattle.tv_linear.specs.Known.{Known, given, denied, as_given, KnownHeld, IsKnownMet}
+use Rattle.tv_linear.proofs.ListLaws.{all_front}
 use Rattle.tv_farkas.specs.declared.branch.Branch.{Branch}
 use Rattle.tv_farkas.specs.declared.fault.CoverFault.{CoverFault}
 use Rattle.tv_farkas.specs.declared.fault.CoverFault.TheVariants as faults
@@ -23,7 +24,7 @@ use Rattle.tv_farkas.specs.Stretching.{IsTakenBy, stretched, IsSide, AreSides, I
 use Rattle.tv_farkas.proofs.StretchLemmas.{stretched_refutes}
 use Rattle.tv_farkas.proofs.TakenLemmas.{all_taken}
 use Rattle.tv_farkas.proofs.PathLemmas.{append-nil, after_is, after_more, path_more, rows_more}
-use Rattle.tv_farkas.proofs.SideLemmas.{given_side, given_sides, sides_more, get_or-neg, popped, whole_met, all_left}
+use Rattle.tv_farkas.proofs.SideLemmas.{given_side, given_sides, sides_more, get_or-neg, popped, whole_met}
 use Rattle.tv_cover.specs.declared.covering.Place.{Place}
 use Rattle.tv_cover.specs.declared.covering.Found.{Found}
 use Rattle.tv_cover.specs.declared.covering.Found.TheVariants.{Tree, Hole}
@@ -228,7 +229,7 @@ hole_found n lists rows marks place xs s h =
       hole = record {
         point = record {
           width = h.divided.size;
-          met = all_left (IsMet xs) rows (rows_of place.path.items) (subst (λ k. All (IsMet xs) k) (after_is rows place.path.items) (all_taken (IsMet xs) (rows_after rows place.path.items) kept s.taken met));
+          met = all_front (IsMet xs) rows (rows_of place.path.items) (subst (λ k. All (IsMet xs) k) (after_is rows place.path.items) (all_taken (IsMet xs) (rows_after rows place.path.items) kept s.taken met));
         };
         outside = All-weaker (IsShut n kept) (IsOutside xs) (λ target o. (o.0, o.1, λ m. o.2 (whole_point o.0 met m))) lists h.shut;
       };

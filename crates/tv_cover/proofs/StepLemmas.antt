@@ -5,6 +5,7 @@ use Rattle.std.proofs.lemmas.Option.{slice_get-get_or, get_or_from_slice_get, sl
 use Rattle.tv_linear.specs.Linear.{Linear, columns}
 use Rattle.tv_linear.specs.Arithmetic.{denial}
 use Rattle.tv_linear.specs.declared.region.Poly.{Poly}
+use Rattle.tv_linear.proofs.ListLaws.{last_or_below}
 use Rattle.tv_farkas.proofs.SystemLemmas.{length-map}
 use Rattle.tv_cover.specs.declared.witness.Witness.{Witness}
 use Rattle.tv_cover.specs.Targets.{AreEven, HasPoint, IsTargetRow, IsNarrowRow, lists_of}
@@ -52,9 +53,6 @@ open_none n lists rows points places h e = record {
   as_many = ap length e;
   each = λ k l. absurd (omega (arith, l));
 }
-
-last_or_below : (n j : ℕ) → j < n + 1 → (j ≡ n) ⊎ (j < n)
-last_or_below n j h = grind arith
 
 get_last : (places : List ℕ) (place : ℕ) → get_or (places ++ place ∷ []) (length places) 0 ≡ place
 get_last [] place = refl

@@ -3,6 +3,7 @@ use Rattle.std.specs.Int.{int_div_euclid}
 use Rattle.std.proofs.lemmas.Int.{ints}
 use Rattle.std.proofs.Math.IntN.{*ℤ_comm}
 use Rattle.tv_linear.proofs.Tightened.{floor-bounds}
+use Rattle.tv_linear.proofs.ListLaws.{last_or_below}
 use Rattle.tv_simplex.proofs.Ring.{by_sign, less_times, times_less, under_times, not_under_times}
 use Rattle.tv_simplex.specs.Outcomes.{IsShort}
 use Rattle.tv_simplex.proofs.ScaleLemmas.{get_or-append-last, get_or-append-before}
@@ -47,9 +48,6 @@ floor_same x z k q p f e =
 -- a number that is not its floor is not whole
 pub not_whole : (values : List ℤ) (z k : ℤ) (j : ℕ) → pos 0 <ℤ z → IsFloor (get_or values j (pos 0)) z k → (k *ℤ z ≡ get_or values j (pos 0) → ⊥) → IsWholeAt values z j → ⊥
 not_whole values z k j p f h w = h (floor_same (get_or values j (pos 0)) z k w.0 p f w.1)
-
-last_or_below : (n j : ℕ) → j < n + 1 → (j ≡ n) ⊎ (j < n)
-last_or_below n j h = grind arith
 
 pub whole_more : (values : List ℤ) (z k : ℤ) (n : ℕ) → k *ℤ z ≡ get_or values n (pos 0) → ((j : ℕ) → j < n → IsWholeAt values z j) → (j : ℕ) → j < n + 1 → IsWholeAt values z j
 whole_more values z k n e h j l = elim (last_or_below n j l) [

@@ -119,7 +119,3 @@ whole_met r values xs z p e h m =
         | inr high ↦ (let k = above_times (value r xs) z high p in absurd (omega (arith, ints, k, d, f, m)))
       ]
     ]
-
-pub all_left : {A : Type 0} (P : A → Type 0) (xs ys : List A) → All P (xs ++ ys) → All P xs
-all_left P [] ys h = All-nil P
-all_left P (x ∷ xs) ys h = All-cons P x xs (All-head P x (xs ++ ys) h) (all_left P xs ys (All-tail P x (xs ++ ys) h))

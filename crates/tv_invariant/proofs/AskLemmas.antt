@@ -7,6 +7,7 @@ use Rattle.tv_linear.specs.Linear.{Linear, columns}
 use Rattle.tv_linear.specs.Arithmetic.{constant_row}
 use Rattle.tv_linear.specs.Terms.{table}
 use Rattle.tv_linear.proofs.PlainLists.{length-zeros}
+use Rattle.tv_linear.proofs.ListLaws.{zip_push, table-push}
 use Rattle.tv_cases.specs.LinearCases.{CaseSystem}
 use Rattle.tv_candidates.specs.declared.candidate.Candidate.{Candidate}
 use Rattle.tv_candidates.specs.Inductive.{IsInductive, IsPart, IsLargestInductive}
@@ -51,12 +52,6 @@ pub asked_end : (about : CaseSystem) (first now next : Option (List Candidate)) 
 asked_end about first now next old list h g = (h.0, subst (IsTold first) (append-nil h.0) (h.2 [] (told_end now next g)), h.1)
 
 -- ---- all proposers
-
-zip_push : {A B : Type 0} (R : A → B → Type 0) (xs : List A) (ys : List B) (x : A) (y : B) → AllZip R xs ys → R x y → AllZip R (xs ++ x ∷ []) (ys ++ y ∷ [])
-zip_push R [] [] x y h r = (r, tt)
-zip_push R [] (b ∷ ys) x y h r = absurd h
-zip_push R (a ∷ xs) [] x y h r = absurd h
-zip_push R (a ∷ xs) (b ∷ ys) x y h r = (h.0, zip_push R xs ys x y h.1 r)
 
 joined_more : (lists : List (List Candidate)) (given : List Candidate) → joined (lists ++ given ∷ []) ≡ joined lists ++ given
 joined_more [] given = append-nil given
@@ -138,14 +133,10 @@ module _ {A : Type 0} (left : A → ℕ) where
 
 -- ---- the false rows
 
-table_more : {A : Type 0} (n : ℕ) (f : ℕ → A) → table (suc n) f ≡ table n f ++ f n ∷ []
-table_more zero f = refl
-table_more (suc n) f = ap (λ xs. f 0 ∷ xs) (table_more n (λ j. f (suc j)))
-
 pub false_more : (n k : ℕ) (old new : List Candidate) (r : Linear) → old ≡ table k (λ l. candidate l (constant_row n (pos 1))) → r ≡ constant_row n (pos 1) → new ≡ old ++ candidate k r ∷ [] → new ≡ table (k + 1) (λ l. candidate l (constant_row n (pos 1)))
 false_more n k old new r e f g =
     let next : suc k ≡ k + 1 = omega arith in
-    g ∙ (λ i. e i ++ candidate k (f i) ∷ []) ∙ sym (table_more k (λ l. candidate l (constant_row n (pos 1)))) ∙ ap (λ m. table m (λ l. candidate l (constant_row n (pos 1)))) next
+    g ∙ (λ i. e i ++ candidate k (f i) ∷ []) ∙ sym (table-push k (λ l. candidate l (constant_row n (pos 1)))) ∙ ap (λ m. table m (λ l. candidate l (constant_row n (pos 1)))) next
 
 table_over : (n m : ℕ) (f : ℕ → ℕ) → All (λ c. columns c.row ≡ n) (table m (λ l. candidate (f l) (constant_row n (pos 1))))
 table_over n zero f = All-nil (λ c. columns c.row ≡ n)

@@ -18,19 +18,6 @@ pub all_by : {A : Type 0} (P : A → Type 0) (xs : List A) → ((x : A) → Cont
 all_by P [] h = All-nil P
 all_by P (x ∷ xs) h = All-cons P x xs (h x (Contains-here x xs)) (all_by P xs (λ y c. h y (Contains-later x y xs c)))
 
-pub all_behind : {A : Type 0} (P : A → Type 0) (xs ys : List A) → All P (xs ++ ys) → All P ys
-all_behind P [] ys h = h
-all_behind P (x ∷ xs) ys h = all_behind P xs ys (All-tail P x (xs ++ ys) h)
-
-pub all_before : {A : Type 0} (P : A → Type 0) (xs ys : List A) → All P (xs ++ ys) → All P xs
-all_before P [] ys h = All-nil P
-all_before P (x ∷ xs) ys h = All-cons P x xs (All-head P x (xs ++ ys) h) (all_before P xs ys (All-tail P x (xs ++ ys) h))
-
-pub front_back : {A : Type 0} (n : ℕ) (xs : List A) → take n xs ++ drop n xs ≡ xs
-front_back zero xs = refl
-front_back (suc n) [] = refl
-front_back (suc n) (x ∷ xs) = ap (λ ys. x ∷ ys) (front_back n xs)
-
 pub length-front : {A : Type 0} (n d : ℕ) (zs : List A) → length zs ≡ n + d → length (take n zs) ≡ n
 length-front zero d zs e = refl
 length-front (suc n) d [] e = absurd (omega (arith, e))

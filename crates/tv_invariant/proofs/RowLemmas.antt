@@ -11,6 +11,7 @@ use Rattle.tv_linear.specs.declared.region.Update.{Update}
 use Rattle.tv_linear.specs.declared.region.Poly.{Poly}
 use Rattle.tv_linear.proofs.PlainLists.{length-zeros, zeros-narrow, length-unit}
 use Rattle.tv_linear.proofs.Entries.{columns-combined}
+use Rattle.tv_linear.proofs.ListLaws.{all_front, all_back}
 use Rattle.tv_cases.specs.LinearCases.{LinearCase}
 use Rattle.tv_cases.specs.Before.{term_row, rows_after, before}
 use Rattle.std.specs.Prelude.{Result, Ok, Err, IfOk}
@@ -22,7 +23,7 @@ use Rattle.tv_invariant.specs.Seen.{IsAsked}
 use Rattle.tv_cover.specs.Targets.{IsInTarget, IsOutside, lists_of}
 use Rattle.tv_invariant.specs.Rows.{Implies, IsStronger}
 use Rattle.tv_cases.proofs.Listed.{Contains-none}
-use Rattle.tv_invariant.proofs.ListLemmas.{in_one, all_before, all_behind}
+use Rattle.tv_invariant.proofs.ListLemmas.{in_one}
 
 -- ---- padding
 
@@ -89,7 +90,7 @@ module _ (all rest kept : List Linear) (row : Linear) where
   kept_from h g r c = elim (Contains-append_cases kept (row ∷ []) r c) [ inl k ↦ g r k | inr o ↦ h r (Contains-append_right rest (row ∷ []) r o) ]
 
   pub kept_met : (xs : List ℤ) → (All (IsMet xs) (rest ++ row ∷ []) → All (IsMet xs) kept → All (IsMet xs) all) → All (IsMet xs) rest → All (IsMet xs) (kept ++ row ∷ []) → All (IsMet xs) all
-  kept_met xs h rested more = h (All-push (IsMet xs) rest row rested (All-head (IsMet xs) row [] (all_behind (IsMet xs) kept (row ∷ []) more))) (all_before (IsMet xs) kept (row ∷ []) more)
+  kept_met xs h rested more = h (All-push (IsMet xs) rest row rested (All-head (IsMet xs) row [] (all_back (IsMet xs) kept (row ∷ []) more))) (all_front (IsMet xs) kept (row ∷ []) more)
 
   pub dropped_met : (xs : List ℤ) → (All (IsMet xs) kept → IsMet xs row) → (All (IsMet xs) (rest ++ row ∷ []) → All (IsMet xs) kept → All (IsMet xs) all) → All (IsMet xs) rest → All (IsMet xs) kept → All (IsMet xs) all
   dropped_met xs implied h rested had = h (All-push (IsMet xs) rest row rested (implied had)) had

@@ -10,6 +10,7 @@ use Rattle.tv_linear.specs.Known.{term_value}
 use Rattle.tv_linear.specs.Terms.{update_of, table, terms_after}
 use Rattle.tv_linear.specs.declared.region.Update.{Update}
 use Rattle.tv_linear.proofs.PlainLists.{length-table}
+use Rattle.tv_linear.proofs.ListLaws.{map-push, table-push, true_test}
 use Rattle.tv_program.specs.Steps.{State}
 use Rattle.tv_program.specs.Runs.{IsRun, last_of}
 use Rattle.tv_cases.specs.LinearCases.{LinearCase, CaseSystem, CaseDoes, CaseSteps, from_of, leaving}
@@ -19,7 +20,6 @@ use Rattle.tv_candidates.specs.Inductive.{IsInductive}
 use Rattle.tv_candidates.specs.Laws.{IsRunFromStart}
 use Rattle.tv_candidates.proofs.OnRuns.{on_runs}
 use Rattle.tv_invariant.specs.declared.reached.Reached.{Reached}
-use Rattle.tv_invariant.proofs.StepLemmas.{test_true}
 use Rattle.tv_invariant.specs.Reached.{state_of, IsReached, IsInNone, AreDrawn}
 
 -- ---- lists
@@ -52,14 +52,6 @@ drawn_more count old mid new x h e = record {
 }
 
 -- ---- values after a case, one by one
-
-table-push : {A : Type 0} (n : ℕ) (f : ℕ → A) → table (suc n) f ≡ table n f ++ f n ∷ []
-table-push zero f = refl
-table-push (suc n) f = ap (λ xs. f 0 ∷ xs) (table-push n (λ j. f (suc j)))
-
-map-push : {A B : Type 0} (f : A → B) (xs : List A) (x : A) → map f (xs ++ x ∷ []) ≡ map f xs ++ f x ∷ []
-map-push f [] x = refl
-map-push f (y ∷ xs) x = ap (λ ys. f y ∷ ys) (map-push f xs x)
 
 pub values-push : (point : List ℤ) (us : List Update) (n : ℕ) → map (term_value point) (terms_after (n + 1) us) ≡ map (term_value point) (terms_after n us) ++ term_value point (update_of us n) ∷ []
 values-push point us n =
@@ -120,7 +112,7 @@ module _ (l : ℕ) (c : LinearCase) where
   at_one : (d : LinearCase) (cs : List LinearCase) (b : Bool) → (from_of d == l) ≡ b → ((k : ℕ) → slice_get (leaving l cs) k ≡ Some c → Contains cs c × (c.from ≡ l)) → (k : ℕ) → slice_get (cond b (d ∷ leaving l cs) (leaving l cs)) k ≡ Some c → Contains (d ∷ cs) c × (c.from ≡ l)
   at_one d cs true t again zero e =
       let s : d ≡ c = cc in
-      (subst (Contains (d ∷ cs)) s (Contains-here d cs), sym (ap from_of s) ∙ test_true (from_of d) l t)
+      (subst (Contains (d ∷ cs)) s (Contains-here d cs), sym (ap from_of s) ∙ true_test (from_of d) l t)
   at_one d cs true t again (suc k) e = let r = again k e in (Contains-later d c cs r.0, r.1)
   at_one d cs false t again k e = let r = again k e in (Contains-later d c cs r.0, r.1)
 

@@ -9,6 +9,7 @@ use Rattle.tv_linear.specs.Known.{term_value}
 use Rattle.tv_linear.specs.Terms.{terms_after}
 use Rattle.tv_linear.proofs.PlainLists.{length-zeros}
 use Rattle.tv_linear.proofs.PaddedLemmas.{value-padded, padded_even}
+use Rattle.tv_linear.proofs.ListLaws.{test_true, true_test, all_front, all_back, front_back}
 use Rattle.tv_farkas.specs.Paths.{IsWholePoint}
 use Rattle.tv_farkas.specs.declared.fault.CoverFault.{CoverFault}
 use Rattle.tv_farkas.specs.declared.fault.CoverFault.TheVariants.{Memory}
@@ -24,16 +25,10 @@ use Rattle.tv_invariant.specs.Sieves.{Sieved}
 use Rattle.tv_invariant.specs.Falling.{KeptBy, IsFallen, IsUnmade, IsStepRefusal}
 use Rattle.tv_invariant.specs.Passes.{AreOver}
 use Rattle.tv_cases.proofs.Listed.{Contains-cases, Contains-here, Contains-later, Contains-none}
-use Rattle.tv_invariant.proofs.ListLemmas.{all_by, all_before, all_behind, front_back, length-front, length-back}
+use Rattle.tv_invariant.proofs.ListLemmas.{all_by, length-front, length-back}
 use Rattle.tv_invariant.proofs.SieveLemmas.{sieved_map}
 use Rattle.std.specs.Prelude.{Vec, Result, Ok, Err, IfOk}
 use Rattle.std.specs.Result.{IfErr}
-
-pub test_is : (a b : ℕ) → a ≡ b → (a == b) ≡ true
-test_is a b h = grind (arith, nat_tests)
-
-pub test_true : (a b : ℕ) → (a == b) ≡ true → a ≡ b
-test_true a b h = grind (arith, nat_tests)
 
 module _ (w l : ℕ) where
   all_rows : List Candidate → List Linear
@@ -45,7 +40,7 @@ module _ (w l : ℕ) where
 
   pub all_at : (P : Linear → Type 0) (now : List Candidate) → ((c : Candidate) → Contains now c → c.location ≡ l → P (padded_row w c.row)) → All P (map (padded_row w) (rows_at l now))
   all_at P [] h = All-nil P
-  all_at P (c ∷ now) h = cond_all P (place_of c == l) c (filter (λ d. place_of d == l) now) (λ e. h c (Contains-here c now) (test_true (place_of c) l e)) (all_at P now (λ d a e. h d (Contains-later c d now a) e))
+  all_at P (c ∷ now) h = cond_all P (place_of c == l) c (filter (λ d. place_of d == l) now) (λ e. h c (Contains-here c now) (true_test (place_of c) l e)) (all_at P now (λ d a e. h d (Contains-later c d now a) e))
 
   cond_head : (b : Bool) (c : Candidate) (cs : List Candidate) → b ≡ true → Contains (map (padded_row w) (map row_of (cond b (c ∷ cs) cs))) (padded_row w c.row)
   cond_head true c cs e = Contains-here (padded_row w c.row) (map (padded_row w) (map row_of cs))
@@ -58,7 +53,7 @@ module _ (w l : ℕ) where
   pub in_rows : (now : List Candidate) (c : Candidate) → Contains now c → c.location ≡ l → Contains (map (padded_row w) (rows_at l now)) (padded_row w c.row)
   in_rows [] c a e = absurd (Contains-none c a)
   in_rows (d ∷ now) c a e = elim (Contains-cases d c now a) [
-    | inl same ↦ subst (λ r. Contains (map (padded_row w) (rows_at l (d ∷ now))) (padded_row w r)) (ap row_of same) (cond_head (place_of d == l) d (filter (λ x. place_of x == l) now) (test_is (place_of d) l (ap place_of same ∙ e)))
+    | inl same ↦ subst (λ r. Contains (map (padded_row w) (rows_at l (d ∷ now))) (padded_row w r)) (ap row_of same) (cond_head (place_of d == l) d (filter (λ x. place_of x == l) now) (test_true (place_of d) l (ap place_of same ∙ e)))
     | inr r ↦ cond_tail (place_of d == l) d (filter (λ x. place_of x == l) now) (padded_row w c.row) (in_rows now c r e)
   ]
 
@@ -89,8 +84,8 @@ module _ (n : ℕ) (case : LinearCase) (now : List Candidate) (c : Candidate) (r
       let lx = length-front n case.draws zs size in
       let ld = length-back n case.draws zs size in
       let same : xs ++ ds ≡ zs = front_back n zs in
-      let front = all_before (IsMet zs) (map (padded_row case.draws) (rows_at case.from now)) case.guards all in
-      let guards = all_behind (IsMet zs) (map (padded_row case.draws) (rows_at case.from now)) case.guards all in
+      let front = all_front (IsMet zs) (map (padded_row case.draws) (rows_at case.from now)) case.guards all in
+      let guards = all_back (IsMet zs) (map (padded_row case.draws) (rows_at case.from now)) case.guards all in
       let v = before-value c.row case xs ds (lx ∙ sym wide) ld in
       record {
         old = record { location = case.from; values = xs };

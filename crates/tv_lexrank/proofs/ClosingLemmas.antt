@@ -19,6 +19,7 @@ use Rattle.tv_linear.specs.Same.{AreSame, OwedSame}
 use Rattle.tv_linear.proofs.SameLemmas.{cover_same}
 use Rattle.tv_linear.specs.Arithmetic.{padded_row}
 use Rattle.tv_linear.proofs.PaddedLemmas.{dot-padded, padded_met}
+use Rattle.tv_linear.proofs.ListLaws.{length-back, length-front, all_front, all_back}
 use Rattle.tv_cases.specs.Before.{before, FitsBefore, rows_before, AreRowsBefore}
 use Rattle.tv_cases.specs.LinearCases.{LinearCase, CaseSystem, IsCase}
 use Rattle.tv_cases.proofs.BeforeValue.{before-value}
@@ -32,8 +33,6 @@ use Rattle.tv_farkas.specs.Paths.{IsWholePoint}
 use Rattle.tv_farkas.specs.Refuting.{AreShort}
 use Rattle.tv_farkas.specs.Trees.{TreeRows}
 use Rattle.tv_rank.specs.Ways.{Way, way_of, case_at, rows_at}
-use Rattle.tv_farkas.proofs.SideLemmas.{all_left}
-use Rattle.tv_cover.proofs.PointLemmas.{all_right}
 use Rattle.tv_cover.specs.Single.{IsCoverInto, IsCoveredByOne}
 use Rattle.tv_cases.proofs.Listed.{Contains-from_map}
 use Rattle.tv_cases.proofs.BeforeLemmas.{all_before_same}
@@ -97,15 +96,6 @@ leads_into v w into rows target tree e made wide us h = record {
     owed (suc k) (suc j) = tt
 
 -- ---- holes
-length-front : (n d : ℕ) (zs : List ℤ) → length zs ≡ n + d → length (take n zs) ≡ n
-length-front zero d zs e = refl
-length-front (suc n) d [] e = absurd (omega (arith, e))
-length-front (suc n) d (z ∷ zs) e = ap suc (length-front n d zs (omega (arith, e)))
-
-length-back : (n d : ℕ) (zs : List ℤ) → length zs ≡ n + d → length (drop n zs) ≡ d
-length-back zero d zs e = e ∙ (let g : 0 + d ≡ d = omega arith in g)
-length-back (suc n) d [] e = absurd (omega (arith, e))
-length-back (suc n) d (z ∷ zs) e = length-back n d zs (omega (arith, e))
 
 all_in : {A : Type 0} (P : A → Type 0) (xs : List A) (x : A) → All P xs → Contains xs x → P x
 all_in P xs x h c = subst P c.2 (h c.0 x c.1)
@@ -141,10 +131,10 @@ module _ (about : CaseSystem) (known : List Piece) (k : ℕ) (rows target : List
           leaves = refl;
           enters = refl;
           drawn = length-back v c.draws zs size;
-          guards = subst (λ ys. All (IsMet ys) c.guards) whole (all_right (IsMet zs) (map (padded_row c.draws) (rows_at known c.from)) c.guards point.met);
+          guards = subst (λ ys. All (IsMet ys) c.guards) whole (all_back (IsMet zs) (map (padded_row c.draws) (rows_at known c.from)) c.guards point.met);
           gives = refl;
         };
-        meets = padded_met v c.draws (rows_at known c.from) zs (over_at v known c.from fits.over) (all_left (IsMet zs) (map (padded_row c.draws) (rows_at known c.from)) c.guards point.met);
+        meets = padded_met v c.draws (rows_at known c.from) zs (over_at v known c.from fits.over) (all_front (IsMet zs) (map (padded_row c.draws) (rows_at known c.from)) c.guards point.met);
         row = at.0;
         among = at.1;
         unmet = λ m. outside.2 (subst (IsMet zs) at.2 (subst (λ ys. IsMet ys (before at.0 c)) (sym whole)

@@ -8,10 +8,9 @@ use Rattle.tv_places.specs.Places.{places_from, places_of}
 use Rattle.tv_places.proofs.PlaceLemmas.{place_told, places_counted}
 use Rattle.tv_refute.proofs.Places.{get_or-map}
 use Rattle.tv_linear.specs.declared.region.Piece.{Piece}
+use Rattle.tv_linear.proofs.ListLaws.{test_true, true_test}
 use Rattle.tv_cases.specs.LinearCases.{LinearCase, CaseSystem}
 use Rattle.tv_rank.specs.Ways.{case_at, no_case}
-use Rattle.tv_rank.proofs.Over.{equal}
-use Rattle.tv_cert.proofs.PieceLemmas.{true_test}
 use Rattle.tv_rank.proofs.Solved.{past_end}
 use Rattle.tv_lexrank.specs.Inside.{inside_key, inside_keys, behind}
 use Rattle.tv_lexrank.specs.Sorting.{LeadsInside, AreSorted}
@@ -107,7 +106,7 @@ module _ (about : CaseSystem) (numbers : List ℕ) (component count : ℕ) where
   key_at k l = get_or-map (inside_key numbers count) about.cases k no_case 0 l
 
   inside_has_key : (c : LinearCase) → LeadsInside numbers component c → inside_key numbers count c ≡ component
-  inside_has_key c h = by_test (get_or numbers c.from 0 == get_or numbers c.to 0) (equal (get_or numbers c.from 0) (get_or numbers c.to 0) (h.0 ∙ sym h.1))
+  inside_has_key c h = by_test (get_or numbers c.from 0 == get_or numbers c.to 0) (test_true (get_or numbers c.from 0) (get_or numbers c.to 0) (h.0 ∙ sym h.1))
     where
       by_test : (b : Bool) → b ≡ true → (if b then get_or numbers c.from 0 else count) ≡ component
       by_test true e = h.0

@@ -1,10 +1,10 @@
 use Rattle.std.proofs.Common.{◌≡◌, ℕ, ◌<◌, List, [], length, get_or, sym, subst, ℤ, pos, ◌≤ℤ◌}
 use Rattle.tv_linear.specs.Linear.{Linear, scaled_value}
 use Rattle.tv_linear.specs.declared.region.Piece.{Piece}
+use Rattle.tv_linear.proofs.ListLaws.{all_back}
 use Rattle.tv_cases.specs.LinearCases.{LinearCase, CaseSystem}
 use Rattle.tv_rank.specs.Ways.{case_at, way_at}
 use Rattle.tv_rank.specs.Rankings.{IsWayPoint, Ranks}
-use Rattle.tv_cover.proofs.PointLemmas.{all_right}
 use Rattle.tv_lexrank.specs.declared.round.Round.{Round}
 use Rattle.tv_lexrank.specs.declared.greedy.Greedy.{Greedy}
 use Rattle.tv_lexrank.specs.declared.greedy.Greedy.TheVariants as greedy
@@ -38,7 +38,7 @@ point_of_guards v about known set k xs z h = record {
   width = h.width;
   meets = record {
     positive = h.meets.positive;
-    met = all_right (λ r. scaled_value r xs z ≤ℤ pos 0) (way_at about.cases known set k).known (case_in about set k).guards h.meets.met;
+    met = all_back (λ r. scaled_value r xs z ≤ℤ pos 0) (way_at about.cases known set k).known (case_in about set k).guards h.meets.met;
   };
 }
 

@@ -8,6 +8,7 @@ use Rattle.tv_linear.specs.Known.{Known, given, denied}
 use Rattle.tv_linear.specs.Covers.{Shown, ShownAt, IsMetCover}
 use Rattle.tv_linear.specs.declared.cover.CoverTree.{CoverTree}
 use Rattle.tv_linear.specs.declared.cover.CoverTree as cover
+use Rattle.tv_linear.proofs.SameLemmas.{shown_shape}
 use Rattle.tv_cases.specs.Systems.{cases_of}
 use Rattle.tv_cert.specs.declared.node.Marked.{Marked}
 use Rattle.tv_cert.specs.declared.node.Proof.TheVariants.{Covered}
@@ -29,13 +30,6 @@ use Rattle.tv_lexrank.proofs.NodeLemmas.{fall_padded, met_weaker}
 use Rattle.tv_lexrank.proofs.SortLemmas.{of_case}
 
 -- ---- the shape of a cover that is met
-shown_shape : (n : ℕ) (known rows : List Known) (ls : List (List ℤ)) → Shown n known rows ls → (length ls ≡ length rows) × All (λ ms. length ms ≡ length known + 1) ls
-shown_shape n known [] [] h = (refl, All-nil (λ ms. length ms ≡ length known + 1))
-shown_shape n known [] (m ∷ ms) h = absurd h
-shown_shape n known (r ∷ rows) [] h = absurd h
-shown_shape n known (r ∷ rows) (m ∷ ms) h =
-    let s = shown_shape n known rows ms h.1 in
-    (ap suc s.0, All-cons (λ x. length x ≡ length known + 1) m ms (h.0.as_many ∙ length-append known (denied r ∷ [])) s.1)
 
 pub met_shape : (n : ℕ) (owed : ℕ → ℕ → Option (List Known)) (known : List Known) (tree : CoverTree) → TreeRows (λ r. columns r ≡ n) tree → IsMetCover n owed known tree → CoverShape n (owed_count owed) (length known) tree
 met_shape n owed known (cover.Split' r p a q b) even h = (

@@ -7,6 +7,7 @@ use Rattle.std.proofs.Math.Seq.{take-suc}
 use Rattle.tv_linear.specs.Linear.{Linear}
 use Rattle.tv_linear.specs.Known.{Known}
 use Rattle.tv_linear.specs.Covers.{ShownAt}
+use Rattle.tv_linear.proofs.ListLaws.{zip_push}
 use Rattle.tv_cases.specs.LinearCases.{LinearCase, IsCase}
 use Rattle.tv_cases.specs.Systems.{cases_of}
 use Rattle.tv_cert.specs.declared.node.Marked.{Marked}
@@ -23,7 +24,6 @@ use Rattle.tv_lexrank.specs.Steps.{ranks_of, ShowsOver, ShowsCase, ShowsThese, S
 use Rattle.tv_lexrank.specs.Pieces.{zero_ranks, all_ranks, ranked_piece}
 use Rattle.tv_lexrank.specs.Offered.{ArePieces}
 use Rattle.tv_lexrank.proofs.NodeLemmas.{fall_padded}
-use Rattle.tv_lexrank.proofs.StandLemmas.{zip_push}
 
 -- further ranks behind do not change what shows a case
 shown_padded : (v : ℕ) (w : Way) (old new more more' : List Linear) (s : CaseShown) → IsShownBy v w old new s → IsShownBy v w (old ++ more) (new ++ more') s

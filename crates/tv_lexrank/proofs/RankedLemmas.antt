@@ -8,6 +8,7 @@ use Rattle.std.proofs.lemmas.Grind.{flat_map-append}
 use Rattle.tv_linear.specs.Linear.{columns}
 use Rattle.tv_linear.specs.Arithmetic.{constant_row}
 use Rattle.tv_linear.proofs.PlainLists.{length-zeros}
+use Rattle.tv_linear.proofs.ListLaws.{test_true, test_false}
 use Rattle.tv_cases.specs.LinearCases.{LinearCase, leaving}
 use Rattle.tv_cases.specs.Systems.{cases_of}
 use Rattle.tv_formula.specs.Properties.{term, none}
@@ -25,7 +26,6 @@ use Rattle.tv_shape.specs.Depths.{proof_splits}
 use Rattle.tv_shape.specs.Fitting.{KidsNarrow, KidsGoWithin}
 use Rattle.tv_shape.specs.Narrow.{PieceNarrow, ProofNarrow}
 use Rattle.tv_shape.specs.Made.{HasOwn, IsOffered}
-use Rattle.tv_rank.proofs.Over.{equal, unequal}
 use Rattle.tv_lexrank.specs.declared.round.Round.{Round}
 use Rattle.tv_lexrank.specs.declared.ranking.Ranking.{Ranking}
 use Rattle.tv_lexrank.specs.Rounds.{terms_at}
@@ -54,13 +54,13 @@ module _ (r : Ranking) where
   drop_if false p e = refl
 
   one_at : (l m : ℕ) → l ≡ m → pieces_at (ranked_piece r l ∷ []) m ≡ ranked_piece r l ∷ []
-  one_at l m e = by_test (l == m) (equal l m e)
+  one_at l m e = by_test (l == m) (test_true l m e)
     where
       by_test : (b : _) → b ≡ true → (if b then ranked_piece r l ∷ [] else []) ≡ ranked_piece r l ∷ []
       by_test b e = keep_if b (ranked_piece r l) e
 
   none_at : (l m : ℕ) → (l ≡ m → ⊥) → pieces_at (ranked_piece r l ∷ []) m ≡ []
-  none_at l m n = by_test (l == m) (unequal l m n)
+  none_at l m n = by_test (l == m) (test_false l m n)
     where
       by_test : (b : _) → b ≡ false → (if b then ranked_piece r l ∷ [] else []) ≡ []
       by_test b e = drop_if b (ranked_piece r l) e

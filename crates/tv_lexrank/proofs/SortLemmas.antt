@@ -2,6 +2,7 @@ use Rattle.std.proofs.Common.{◌≡◌, ◌⊎◌, inl, inr, ℕ, zero, suc, �
 use Rattle.std.proofs.lemmas.List.Elements.{All-nil, All-push}
 use Rattle.tv_linear.specs.Linear.{IsWithin}
 use Rattle.tv_linear.specs.declared.region.Piece.{Piece}
+use Rattle.tv_linear.proofs.ListLaws.{last_or_below}
 use Rattle.tv_cases.specs.LinearCases.{LinearCase, CaseSystem, IsCase, AreCases}
 use Rattle.tv_cases.specs.declared.case.Case.{Case}
 use Rattle.tv_cases.specs.Views.{case_view, case_views}
@@ -11,9 +12,6 @@ use Rattle.tv_rank.specs.Given.{AreNumbered}
 use Rattle.tv_rank.specs.Ways.{case_at, no_case, way_of}
 use Rattle.tv_rank.specs.Rankings.{HasPoint}
 use Rattle.tv_lexrank.specs.Sorting.{LeadsInside, StandsIn, Ascends, IsNeverTaken, AreSorted}
-
-last_or_below : (n j : ℕ) → j < n + 1 → (j ≡ n) ⊎ (j < n)
-last_or_below n j h = grind arith
 
 -- what holds at each place of a list, and of a further item
 grown : (P : ℕ → Type 0) (xs : List ℕ) (x : ℕ) → ((j : ℕ) → j < length xs → P (get_or xs j 0)) → P x → (j : ℕ) → j < length (xs ++ x ∷ []) → P (get_or (xs ++ x ∷ []) j 0)

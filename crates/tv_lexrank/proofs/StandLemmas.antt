@@ -4,6 +4,7 @@ use Rattle.std.proofs.Common.{◌≡◌, ℕ, zero, suc, ◌+◌, ◌<◌, List,
 use Rattle.std.specs.Prelude.{slice_get}
 use Rattle.std.specs.List.{AllZip, filter}
 use Rattle.std.proofs.lemmas.Option.{slice_get_within, slice_get-get_or, get_or_from_slice_get}
+use Rattle.tv_linear.proofs.ListLaws.{zip_push, true_test}
 use Rattle.tv_cases.specs.LinearCases.{LinearCase, from_of, leaving}
 use Rattle.tv_cases.specs.Systems.{cases_of}
 use Rattle.tv_cert.specs.declared.node.Proof.{Proof}
@@ -11,7 +12,6 @@ use Rattle.tv_cert.specs.declared.node.Proof.TheVariants.{Covered, Chosen}
 use Rattle.tv_places.specs.Places.{places_of}
 use Rattle.tv_places.proofs.PlaceLemmas.{place_told, places_counted}
 use Rattle.tv_rank.specs.Ways.{case_at, no_case}
-use Rattle.tv_cert.proofs.PieceLemmas.{true_test}
 use Rattle.tv_lexrank.specs.declared.ranking.Ranking.{Ranking}
 use Rattle.tv_lexrank.specs.Offered.{IsStepProof, IsOfferedAt, step_owed, AreStepsShown, AreShownBelow}
 use Rattle.tv_lexrank.proofs.OfferLemmas.{step_offered}
@@ -54,12 +54,6 @@ take_more (y ∷ ys) (suc k) x h = ap (λ n. take n (y ∷ ys)) (let e : suc k +
 pub take_all : {A : Type 0} (xs : List A) → take (length xs) xs ≡ xs
 take_all [] = refl
 take_all (x ∷ xs) = ap (λ ys. x ∷ ys) (take_all xs)
-
-pub zip_push : {A B : Type 0} (R : A → B → Type 0) (xs : List A) (ys : List B) (x : A) (y : B) → AllZip R xs ys → R x y → AllZip R (xs ++ x ∷ []) (ys ++ y ∷ [])
-zip_push R [] [] x y h g = (g, tt)
-zip_push R [] (z ∷ ys) x y h g = absurd h
-zip_push R (z ∷ xs) [] x y h g = absurd h
-zip_push R (z ∷ xs) (w ∷ ys) x y h g = (h.0, zip_push R xs ys x y h.1 g)
 
 proof_offered : (r : Ranking) (l number : ℕ) (p : Proof) → number < length (cases_of r.about.now).cases → (case_at (cases_of r.about.now).cases number).from ≡ l → IsStepProof r number p → IsOfferedAt r l (case_at (cases_of r.about.now).cases number) p
 proof_offered r l number (Covered tree) k_in e h = λ n ps pieces. subst (λ z. IsOffered (step_owed r n ps z (case_at (cases_of r.about.now).cases number)) (Covered tree)) e (step_offered r number k_in ps pieces n tree h)

@@ -2,6 +2,7 @@ use Rattle.std.proofs.Common.{◌≡◌, ◌⊎◌, inl, inr, ℕ, ◌+◌, ◌<
 use Rattle.std.specs.Global.{Global}
 use Rattle.std.proofs.lemmas.List.{map-append}
 use Rattle.tv_linear.specs.declared.region.Piece.{Piece}
+use Rattle.tv_linear.proofs.ListLaws.{last_or_below}
 use Rattle.tv_cases.specs.LinearCases.{CaseSystem}
 use Rattle.tv_refute.proofs.Places.{get_or-left, get_or-right}
 use Rattle.tv_simplex.specs.Outcomes.{IsBarrierOf}
@@ -20,9 +21,6 @@ use Rattle.tv_lexrank.specs.declared.round.Round.{Round}
 use Rattle.tv_lexrank.specs.declared.component.Component.{Component}
 use Rattle.tv_simplex.specs.declared.fault.SolveFault.{SolveFault}
 use Rattle.tv_lexrank.specs.Greedy.{without, IsRound, AreFirst, Lead, more, RefusesFalling, RefusesTurn, RefusesGreedy, ForFirst, IsUnsolvedAt, IsNameIn, RefusesTurnIn}
-
-last_or_below : (n j : ℕ) → j < n + 1 → (j ≡ n) ⊎ (j < n)
-last_or_below n j h = grind arith
 
 -- one more barrier
 pub first_more : (about : CaseSystem) (known : List Piece) (set : List ℕ) (n : ℕ) (bs : List (Vec ℤ Global)) (b : Vec ℤ Global) (f : Found) (news : List (Vec ℤ Global)) → AreFirst about known set n (lists bs) → IsRankedAt about known set n f → f ≡ found.None b → news ≡ bs ++ b ∷ [] → AreFirst about known set (n + 1) (lists news)

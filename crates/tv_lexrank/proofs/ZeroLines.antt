@@ -8,10 +8,9 @@ use Rattle.tv_linear.specs.Fits.{IsHeld}
 use Rattle.tv_linear.specs.Linear.{Linear, dot}
 use Rattle.tv_linear.specs.Known.{Term, Known, given, denied, composed, less, number, known_number, KnownHeld, PlacesHeld, place_sum, term_number, as_given}
 use Rattle.tv_linear.specs.Refutation.{RowsHeld, Refutes}
-use Rattle.tv_linear.proofs.KnownLemmas.{as_given-append}
+use Rattle.tv_linear.proofs.KnownLemmas.{as_given-append, length-given}
 use Rattle.tv_rank.specs.Ways.{Way, met_rows}
 use Rattle.tv_rank.specs.Rankings.{IsShownBy}
-use Rattle.tv_rank.proofs.ShownRows.{length-given}
 
 -- multipliers 0, and 1 for the denial of the row
 abbrev pub zero_line : ℕ → List ℤ

@@ -1,6 +1,7 @@
 use Rattle.std.proofs.Common.{◌≡◌, ◌↔◌, ℕ, zero, suc, ◌⊎◌, inl, inr, ◌<◌, List, [], ◌∷◌, ◌++◌, length, All, map, None, Some, arith, refl, sym, ap, ℤ, pos, neg_ℤ, ◌+ℤ◌, ◌-ℤ◌, ◌*ℤ◌, ◌≤ℤ◌, slice_index_or}
 use Rattle.std.proofs.lemmas.Int.{ints}
 use Rattle.std.proofs.lemmas.List.Elements.{All-nil, All-cons, All-head, All-tail}
+use Rattle.std.proofs.lemmas.List.{length-map}
 use Rattle.tv_linear.proofs.Ring.{neg_times_z, distribute_z, distribute_right_z, mul_assoc_z, not_above, one_or_other}
 use Rattle.tv_linear.specs.Linear.{dot, Linear, value, IsMet}
 use Rattle.tv_linear.specs.Known.{place_sum, Term, kept, put, Known, given, denied, composed, less, term_number, term_value, known_number, known_value, IsKnownMet, as_given}
@@ -152,3 +153,6 @@ refuted n rows ms xs h e k =
 
 pub met_or_denied : (xs : List ℤ) (k : Known) → IsKnownMet xs k ⊎ IsKnownMet xs (denied k)
 met_or_denied xs k = elim (one_or_other (known_value xs k)) [ inl h ↦ inl h | inr h ↦ inr (let e = value-denied xs k in omega (arith, ints, e, h)) ]
+
+pub length-given : (rows : List Linear) → length (as_given rows) ≡ length rows
+length-given rows = length-map rows (λ r. given r)

@@ -15,3 +15,4 @@ pub mod PackedLemmas
 pub mod Copied
 pub mod SameLemmas
 pub mod PaddedLemmas
+pub mod ListLaws

@@ -1,5 +1,6 @@
 -- Rows that are known in different ways and have the same numbers.
-use Rattle.std.proofs.Common.{◌≡◌, ℕ, suc, ◌<◌, List, [], ◌∷◌, ◌++◌, length, map, Option, None, Some, refl, sym, ap, ◌∙◌, subst, ℤ, pos, neg_ℤ, ◌+ℤ◌, ◌-ℤ◌, ◌*ℤ◌, ◌<ℤ◌}
+use Rattle.std.proofs.Common.{◌≡◌, ℕ, suc, ◌<◌, List, [], ◌∷◌, ◌++◌, length, map, Option, None, Some, refl, sym, ap, ◌∙◌, subst, ℤ, pos, neg_ℤ, ◌+ℤ◌, ◌-ℤ◌, ◌*ℤ◌, ◌<ℤ◌, All, ◌+◌, length-append}
+use Rattle.std.proofs.lemmas.List.Elements.{All-nil, All-cons}
 use Rattle.tv_linear.specs.Linear.{dot}
 use Rattle.tv_linear.specs.Fits.{IsHeld}
 use Rattle.tv_linear.specs.Known.{Known, given, denied, known_number, KnownHeld}
@@ -128,3 +129,11 @@ cover_same n owed wanted e ks qs same (Split' r p a q b) h = (
 )
 cover_same n owed wanted e ks qs same (Empty ms) h = refutes_same n ks qs ms.items same h
 cover_same n owed wanted e ks qs same (Into k j lists) h = at_same n ks qs same (owed k j) (wanted k j) (e k j) (map (λ l. l.items) lists.items) h
+
+pub shown_shape : (n : ℕ) (known rows : List Known) (ls : List (List ℤ)) → Shown n known rows ls → (length ls ≡ length rows) × All (λ ms. length ms ≡ length known + 1) ls
+shown_shape n known [] [] h = (refl, All-nil (λ ms. length ms ≡ length known + 1))
+shown_shape n known [] (m ∷ ms) h = absurd h
+shown_shape n known (r ∷ rows) [] h = absurd h
+shown_shape n known (r ∷ rows) (m ∷ ms) h =
+    let s = shown_shape n known rows ms h.1 in
+    (ap suc s.0, All-cons (λ x. length x ≡ length known + 1) m ms (h.0.as_many ∙ length-append known (denied r ∷ [])) s.1)

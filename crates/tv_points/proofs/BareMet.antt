@@ -10,6 +10,7 @@ use Rattle.tv_linear.specs.Covers.{ShownAt, IsMetCover}
 use Rattle.tv_linear.specs.Depth.{splits}
 use Rattle.tv_linear.specs.declared.cover.CoverTree.{CoverTree}
 use Rattle.tv_linear.specs.declared.cover.CoverTree as cover
+use Rattle.tv_linear.proofs.ListLaws.{test_true}
 use Rattle.tv_formula.specs.Properties.{truth, at}
 use Rattle.tv_cases.specs.LinearCases.{CaseSystem}
 use Rattle.tv_cert.specs.declared.node.Kind.{Kind}
@@ -23,7 +24,6 @@ use Rattle.tv_cert.specs.Nodes.{piece_of}
 use Rattle.tv_cert.specs.Pieces.{pieces_at}
 use Rattle.tv_cert.specs.Shapes.{owed_count, ListsShape, CoverShape, PieceShape}
 use Rattle.tv_cert.specs.Targets.{target_rows, owed_into, no_fall}
-use Rattle.tv_cert.proofs.PieceLemmas.{test_true}
 use Rattle.tv_shape.specs.Narrow.{CountNarrow, AreNarrow, ListsNarrow, CoverNarrow}
 use Rattle.tv_shape.specs.Made.{IsFitted, IsOffered}
 use Rattle.tv_shape.proofs.MadeLemmas.{node_fitted}

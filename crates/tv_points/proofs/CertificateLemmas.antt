@@ -22,7 +22,7 @@ use Rattle.tv_shape.specs.declared.fault.ShapeFault.{ShapeFault}
 use Rattle.tv_shape.proofs.FaultLemmas.{unfit}
 use Rattle.tv_shape.specs.Made.{IsFitted}
 use Rattle.tv_shape.proofs.MadeLemmas.{both_met}
-use Rattle.tv_cert.proofs.PieceLemmas.{test_true}
+use Rattle.tv_linear.proofs.ListLaws.{test_true}
 use Rattle.tv_points.specs.Nodes.{IsInside, IsRunNode, SaysDisproved, IsDisproof}
 use Rattle.tv_points.specs.StatePieces.{state_piece, state_pieces}
 use Rattle.tv_points.specs.States.{IsState, StartsAt}

@@ -10,6 +10,7 @@ use Rattle.tv_linear.specs.Terms.{table, terms_after, draw_terms}
 use Rattle.tv_linear.specs.Falls.{zero_row}
 use Rattle.tv_linear.proofs.KnownLemmas.{value-composed, value-given, value-less}
 use Rattle.tv_linear.proofs.RowValues.{value-constant_row, value-column_row, value-opposite}
+use Rattle.tv_linear.proofs.ListLaws.{table_of}
 use Rattle.tv_cases.specs.LinearCases.{LinearCase}
 use Rattle.tv_cert.specs.Pieces.{rows_of, goes}
 use Rattle.tv_cert.specs.Choices.{drawn_guards, drawn_change}
@@ -21,11 +22,6 @@ use Rattle.tv_points.specs.declared.state.State.{State}
 use Rattle.tv_points.proofs.FlatLemmas.{IsLone, AreNarrowUpdates, guard_flat, changed_flat, less_flat, not_below_flat, at_most_lone, opposite_lone, map_table, map_both}
 
 -- ---- the numbers for the draws stand behind the values
-table_of : (n : ℕ) (xs : List ℤ) → length xs ≡ n → table n (λ j. get_or xs j (pos 0)) ≡ xs
-table_of zero [] e = refl
-table_of zero (x ∷ xs) e = absurd (omega arith)
-table_of (suc n) [] e = absurd (omega arith)
-table_of (suc n) (x ∷ xs) e = ap (λ ys. x ∷ ys) (table_of n xs (omega arith))
 
 draw_values : (n : ℕ) (xs ds : List ℤ) → map (term_value xs) (map (λ d. put d) (number_rows n ds)) ≡ ds
 draw_values n xs [] = refl

@@ -6,6 +6,7 @@ use Rattle.std.proofs.lemmas.List.{append_assoc, append-nil}
 use Rattle.tv_cases.specs.LinearCases.{CaseSystem}
 use Rattle.tv_cases.specs.Systems.{cases_of}
 use Rattle.tv_linear.specs.declared.choice.ChoiceTree.{ChoiceTree}
+use Rattle.tv_linear.proofs.ListLaws.{drop_past}
 use Rattle.tv_cert.specs.declared.node.Marked.{Marked}
 use Rattle.tv_cert.specs.declared.node.Proof.{Proof}
 use Rattle.tv_cert.specs.Pieces.{goes}
@@ -101,17 +102,12 @@ later_fault run place steps s proof x l e h k =
     subst (λ ls. IsLineFault ls x) (sym (lines_split about run.ends run.states.now place steps s l e)) (fault_behind (step_lines about run.ends run.states.now place s) (run_lines about run.ends run.states.now (place + 1) (rest_of steps)) x h.shown k)
 
 -- ---- what is pushed
-drop_none : {A : Type 0} (xs : List A) (i : ℕ) → length xs ≤ i → drop i xs ≡ []
-drop_none [] zero h = refl
-drop_none [] (suc i) h = refl
-drop_none (x ∷ xs) zero h = absurd (omega (arith, h))
-drop_none (x ∷ xs) (suc i) h = drop_none xs i (omega (arith, h))
 
 pub no_choices : (run : Run) (place : ℕ) (old : List Proof) → length run.pieces.now ≤ place → AreChoicesPushed run place old old
 no_choices run place old l = record {
   more = [];
   parts = sym (append-nil old);
-  each = subst (λ qs. AllZip (IsChosenAt (cases_of run.about.now) run.pieces.now run.ends) qs []) (sym (drop_none run.pieces.now place l)) tt;
+  each = subst (λ qs. AllZip (IsChosenAt (cases_of run.about.now) run.pieces.now run.ends) qs []) (sym (drop_past run.pieces.now place l)) tt;
 }
 
 there : (run : Run) → IsRunMade run → (place : ℕ) (s : Step) (leads : IsStepAt (cases_of run.about.now) run.states.now place s) → slice_get run.pieces.now place ≡ Some (piece_there (cases_of run.about.now).variables run.ends run.states.now place leads.before)
@@ -151,7 +147,7 @@ last_pushed run place x y old mid new made ends many bare bare2 m k =
     let at : slice_get run.pieces.now place ≡ Some p = subst (λ ps. slice_get ps place ≡ Some p) (sym made.pieces) (piece_got about.variables run.ends run.states.now place last.0 last.1) in
     let left : length run.states.now - (place + 1) ≡ 0 = omega (arith, many) in
     let done : goes p ≡ false = subst (λ b. goes (state_piece about.variables b (length run.states.now - (place + 1)) last.0) ≡ false) (sym ends) (is_done about.variables (length run.states.now - (place + 1)) last.0 left) in
-    let none : drop (place + 1) run.pieces.now ≡ [] = drop_none run.pieces.now (place + 1) (let a = as_many run made in omega (arith, a, many)) in
+    let none : drop (place + 1) run.pieces.now ≡ [] = drop_past run.pieces.now (place + 1) (let a = as_many run made in omega (arith, a, many)) in
     record {
       more = x ∷ y ∷ [];
       parts = k ∙ ap (λ ys. ys ++ y ∷ []) m ∙ append_assoc old (x ∷ []) (y ∷ []);

@@ -11,6 +11,7 @@ use Rattle.tv_linear.specs.Terms.{draw_terms}
 use Rattle.tv_linear.specs.Covers.{Shown, ShownAt}
 use Rattle.tv_linear.specs.Falls.{fall_rows}
 use Rattle.tv_linear.proofs.PlainLists.{length-zeros}
+use Rattle.tv_linear.proofs.SameLemmas.{shown_shape}
 use Rattle.tv_cases.specs.LinearCases.{LinearCase, CaseSystem}
 use Rattle.tv_cert.specs.declared.node.Marked.{Marked}
 use Rattle.tv_cert.specs.Pieces.{place_of, rows_of, ranks_of, goes, pieces_at}
@@ -26,15 +27,6 @@ use Rattle.tv_points.specs.Taking.{fall_list, fall_owed, fall_number, entered_ro
 shown_all : (xs : List ℤ) (rows : List Known) → All IsShown (lines_at xs rows) → Shown (length xs) (as_given (point_rows xs)) rows (multiplier_lists xs rows)
 shown_all xs [] h = tt
 shown_all xs (r ∷ rows) h = ((All-head IsShown (line xs r) (lines_at xs rows) h).refutes, shown_all xs rows (All-tail IsShown (line xs r) (lines_at xs rows) h))
-
--- the multipliers have the shape, and are narrow
-shown_shape : (n : ℕ) (known rows : List Known) (ls : List (List ℤ)) → Shown n known rows ls → (length ls ≡ length rows) × All (λ ms. length ms ≡ length known + 1) ls
-shown_shape n known [] [] h = (refl, All-nil (λ ms. length ms ≡ length known + 1))
-shown_shape n known [] (m ∷ ms) h = absurd h
-shown_shape n known (r ∷ rows) [] h = absurd h
-shown_shape n known (r ∷ rows) (m ∷ ms) h =
-    let s = shown_shape n known rows ms h.1 in
-    (ap suc s.0, All-cons (λ x. length x ≡ length known + 1) m ms (h.0.as_many ∙ length-append known (denied r ∷ [])) s.1)
 
 lists_narrow : (xs : List ℤ) (rows : List Known) → All IsShown (lines_at xs rows) → All AreNarrow (multiplier_lists xs rows)
 lists_narrow xs [] h = All-nil AreNarrow

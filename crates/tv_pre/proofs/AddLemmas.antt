@@ -8,6 +8,7 @@ use Rattle.std.proofs.lemmas.Option.{slice_get_within, get_or_from_slice_get}
 use Rattle.std.proofs.lemmas.List.{append_assoc, append-nil, map-append}
 use Rattle.std.proofs.lemmas.List.Elements.{filter_passes}
 use Rattle.tv_linear.specs.declared.region.Piece.{Piece}
+use Rattle.tv_linear.proofs.ListLaws.{true_test}
 use Rattle.tv_cases.specs.LinearCases.{LinearCase, from_of, leaving}
 use Rattle.tv_cert.specs.declared.node.Marked.{Marked}
 use Rattle.tv_cert.specs.declared.node.Proof.{Proof}
@@ -78,8 +79,6 @@ pub pieces_all : (fits : Marked → Piece → Type 0) (owes : Marked → List Ob
 pieces_all fits owes ps qs i old now z l h = let e = zip_length fits ps qs z in subst (λ xs. Adds (flat_map owes xs) old now) (take_whole ps i (omega (arith, e, l))) h
 
 -- ---- the cases from a location
-true_test : (a b : ℕ) → (a == b) ≡ true → a ≡ b
-true_test a b h = grind (arith, nat_tests)
 
 pub leaving_from : (l : ℕ) (cs : List LinearCase) (k : ℕ) (c : LinearCase) → slice_get (leaving l cs) k ≡ Some c → c.from ≡ l
 leaving_from l cs k c e =

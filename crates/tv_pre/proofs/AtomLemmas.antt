@@ -9,6 +9,7 @@ use Rattle.tv_linear.specs.Linear.{Linear, IsNarrow}
 use Rattle.tv_linear.specs.declared.cover.CoverTree.{CoverTree}
 use Rattle.tv_linear.specs.declared.region.Piece.{Piece}
 use Rattle.tv_linear.specs.declared.region.Region.{Region}
+use Rattle.tv_linear.proofs.ListLaws.{test_true, test_false, map-push}
 use Rattle.tv_cases.specs.LinearCases.{CaseSystem}
 use Rattle.tv_cert.specs.declared.node.Mark.TheVariants.{Go}
 use Rattle.tv_cert.specs.declared.node.Marked.{Marked}
@@ -21,7 +22,6 @@ use Rattle.tv_cert.specs.Pieces.{place_of, rows_of, pieces_at}
 use Rattle.tv_cert.specs.Shapes.{IsSaid, may_be_done}
 use Rattle.tv_cover.specs.Targets.{AreEven}
 use Rattle.tv_region.specs.Regions.{IsPieceOf, lists_at}
-use Rattle.tv_region.proofs.MetLemmas.{map_push}
 use Rattle.tv_choice.specs.Leading.{piece_rows}
 use Rattle.tv_pre.specs.Pieces.{ArePieces, marked_as}
 use Rattle.tv_shape.specs.Made.{Offers}
@@ -59,10 +59,10 @@ one_atom about l k count lists rows q tree pieces now new proofs offered more in
     even = subst (AreEven about.variables) (sym same) even;
   }));
   marked =
-      ap (map mark) e ∙ map_push mark now q
+      ap (map mark) e ∙ map-push mark now q
       ∙ (λ i. h.marked i ++ one i ∷ [])
       ∙ append_assoc (map mark pieces) (map piece (take k lists)) (piece rows ∷ [])
-      ∙ ap (λ ps. map mark pieces ++ ps) (sym (ap (map piece) taken ∙ map_push piece (take k lists) rows));
+      ∙ ap (λ ps. map mark pieces ++ ps) (sym (ap (map piece) taken ∙ map-push piece (take k lists) rows));
   adds = λ number. one_done (λ rs. atom_of number (about_with about) (piece rs) lists) lists k rows proofs offered more got
       (adds_one (atom_of number (about_with about) (piece rows) lists) (Covered tree) offered more f (own_offered about number l k count rows lists tree got many few narrow own)) (h.adds number);
 }
@@ -209,12 +209,6 @@ cond_here : {A : Type 0} (b : Bool) (x : A) (xs : List A) → b ≡ true → con
 cond_here true x xs e = refl
 cond_here false x xs e = absurd (let no : ⊥ = cc in no)
 
-test_is : (a b : ℕ) → a ≡ b → (a == b) ≡ true
-test_is a b h = grind (arith, nat_tests)
-
-test_not : (a b : ℕ) → (a ≡ b → ⊥) → (a == b) ≡ false
-test_not a b h = grind (arith, nat_tests)
-
 abbrev lists_there : List Marked → ℕ → List (List Linear)
 lists_there ps l = map rows_of (pieces_at ps l)
 
@@ -228,11 +222,11 @@ at_append (x ∷ xs) ys l = cond_append (place_of x == l) x (pieces_at (xs ++ ys
 
 here_lists : (n k l : ℕ) (ls : List (List Linear)) → k ≡ l → lists_there (map (atom_piece n k) ls) l ≡ ls
 here_lists n k l [] e = refl
-here_lists n k l (rs ∷ ls) e = ap (map rows_of) (cond_here (k == l) (atom_piece n k rs) (pieces_at (map (atom_piece n k) ls) l) (test_is k l e)) ∙ ap (λ zs. rs ∷ zs) (here_lists n k l ls e)
+here_lists n k l (rs ∷ ls) e = ap (map rows_of) (cond_here (k == l) (atom_piece n k rs) (pieces_at (map (atom_piece n k) ls) l) (test_true k l e)) ∙ ap (λ zs. rs ∷ zs) (here_lists n k l ls e)
 
 other_lists : (n k l : ℕ) (ls : List (List Linear)) → (k ≡ l → ⊥) → pieces_at (map (atom_piece n k) ls) l ≡ []
 other_lists n k l [] e = refl
-other_lists n k l (rs ∷ ls) e = cond_none (k == l) (atom_piece n k rs) (pieces_at (map (atom_piece n k) ls) l) (test_not k l e) ∙ other_lists n k l ls e
+other_lists n k l (rs ∷ ls) e = cond_none (k == l) (atom_piece n k rs) (pieces_at (map (atom_piece n k) ls) l) (test_false k l e) ∙ other_lists n k l ls e
 
 none_past : (n : ℕ) (test : Test) (k l : ℕ) → k ≤ l → pieces_at (atom_pieces n test k) l ≡ []
 none_past n test zero l h = refl
@@ -250,7 +244,7 @@ atoms_at n test (suc k) l h =
     by_place : (n : ℕ) (test : Test) (k l : ℕ) → l < suc k → (b : Bool) → nat_eq k l ≡ b → (l < k → lists_there (atom_pieces n test k) l ≡ test_lists test l) → lists_there (atom_pieces n test k) l ++ lists_there (map (atom_piece n k) (test_lists test k)) l ≡ test_lists test l
     by_place n test k l h true e rest = (let is : k ≡ l = grind (arith, nat_tests, e) in
         (λ i. map rows_of (none_past n test k l (omega (arith, is)) i) ++ here_lists n k l (test_lists test k) is i) ∙ ap (test_lists test) is)
-    by_place n test k l h false e rest = (let not_is : k ≡ l → ⊥ = λ is. differs (test_is k l is) e in
+    by_place n test k l h false e rest = (let not_is : k ≡ l → ⊥ = λ is. differs (test_true k l is) e in
         (λ i. rest (below k l h not_is) i ++ map rows_of (other_lists n k l (test_lists test k) not_is i)) ∙ append-nil (test_lists test l))
       where
         differs : (k == l) ≡ true → nat_eq k l ≡ false → ⊥

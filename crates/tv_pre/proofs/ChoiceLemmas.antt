@@ -10,7 +10,8 @@ use Rattle.tv_linear.specs.ChoiceDepth.{choice_splits}
 use Rattle.tv_linear.specs.declared.choice.ChoiceTree.{ChoiceTree, Split', Empty, NoStep, Take}
 use Rattle.tv_linear.specs.declared.region.Piece.{Piece}
 use Rattle.tv_linear.specs.Same.{OwedSame}
-use Rattle.tv_linear.proofs.SameLemmas.{all_same, same_append, shown_same}
+use Rattle.tv_linear.proofs.SameLemmas.{all_same, same_append, shown_same, shown_shape}
+use Rattle.tv_linear.proofs.KnownLemmas.{length-given}
 use Rattle.tv_farkas.proofs.SideLemmas.{given_sides}
 use Rattle.tv_cases.specs.LinearCases.{LinearCase, CaseSystem}
 use Rattle.tv_cert.specs.declared.node.Marked.{Marked}
@@ -67,14 +68,6 @@ choice_same n cases l stop owed wanted e ks (Take k target j draws lists) h = ta
 abbrev pub DrawsEven : ℕ → Option LinearCase → List Linear → Type 0
 DrawsEven n None draws = Unit {0}
 DrawsEven n (Some c) draws = All (λ r. columns r ≡ n) draws
-
-shown_shape : (n : ℕ) (known rows : List Known) (ls : List (List ℤ)) → Shown n known rows ls → (length ls ≡ length rows) × All (λ ms. length ms ≡ length known + 1) ls
-shown_shape n known [] [] h = (refl, All-nil (λ ms. length ms ≡ length known + 1))
-shown_shape n known [] (m ∷ ms) h = absurd h
-shown_shape n known (r ∷ rows) [] h = absurd h
-shown_shape n known (r ∷ rows) (m ∷ ms) h =
-    let s = shown_shape n known rows ms h.1 in
-    (ap suc s.0, All-cons (λ x. length x ≡ length known + 1) m ms (h.0.as_many ∙ length-append known (denied r ∷ [])) s.1)
 
 pub lists_shape : (n : ℕ) (known : List Known) (c : LinearCase) (draws : List Linear) (o : Option (List Known)) (lists : List (List ℤ)) → ShownAt n known (option_map (λ rows. drawn_guards n c draws ++ rows) o) lists → ListsShape (length known + 1) (option_map (λ rows. length c.guards + length rows) o) lists
 lists_shape n known c draws None lists h = absurd h
@@ -137,9 +130,6 @@ IsMetAnywhere about q stop into tree = (known : List Known) → AreKnownAs (piec
 pub met_given : (about : CaseSystem) (q : Piece) (stop : Bool) (into : List Piece) (tree : ChoiceTree) → IsMetAnywhere about q stop into tree → IsMetChoice about.variables about.cases q.location stop (region_owes about.variables into) (as_given (piece_rows q)) tree
 met_given about q stop into tree h = h (as_given (piece_rows q)) (λ w. given_sides w (piece_rows q))
 
-given_many : (rows : List Linear) → length (as_given rows) ≡ length rows
-given_many rows = length-map rows (λ r. given r)
-
 pub shows_choice : (about : CaseSystem) (q : Piece) (stop : Bool) (into : List Piece) (tree : ChoiceTree) → IsMetAnywhere about q stop into tree → ChoiceShape about.variables about.cases q.location stop (region_owes about.variables into) (length (piece_rows q)) tree → ChoiceNarrow tree → choice_splits tree ≤ 128 → ShowsChoice about q stop into tree
 shows_choice about q stop into tree met shape narrow shallow number k p ps m ms = record {
   shape = (subst (λ l. ChoiceShape n about.cases l stop wanted (length (as_given (rows_of p))) tree) (sym m.0) (subst (λ rs. ChoiceShape n about.cases q.location stop wanted (length (as_given rs)) tree) (sym m.1) own_shape), shallow);
@@ -157,7 +147,7 @@ shows_choice about q stop into tree met shape narrow shallow number k p ps m ms 
     own_met = choice_same about.variables about.cases q.location stop (region_owes about.variables into) (choice_into (about_with about) ps (λ c draws. no_fall)) (choice_owed about.variables ps into ms) (as_given (piece_rows q)) tree (met_given about q stop into tree met)
 
     own_shape : ChoiceShape about.variables about.cases q.location stop (choice_into (about_with about) ps (λ c draws. no_fall)) (length (as_given (piece_rows q))) tree
-    own_shape = choice_shape about.variables about.cases q.location stop (region_owes about.variables into) (choice_into (about_with about) ps (λ c draws. no_fall)) (as_given (piece_rows q)) tree (subst (λ k. ChoiceShape about.variables about.cases q.location stop (region_owes about.variables into) k tree) (sym (given_many (piece_rows q))) shape) own_met
+    own_shape = choice_shape about.variables about.cases q.location stop (region_owes about.variables into) (choice_into (about_with about) ps (λ c draws. no_fall)) (as_given (piece_rows q)) tree (subst (λ k. ChoiceShape about.variables about.cases q.location stop (region_owes about.variables into) k tree) (sym (length-given (piece_rows q))) shape) own_met
 
 -- ---- no hole
 pub choice_whole : (about : CaseSystem) (q : Piece) (stop : Bool) (into : List Piece) (xs : List ℤ) → Chooses about stop into (state q.location xs) → IsHole (query_of about q stop into) xs → ⊥

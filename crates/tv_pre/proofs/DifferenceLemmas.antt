@@ -3,10 +3,10 @@ use Rattle.std.proofs.Common.{◌+◌, get_or, take, ◌≡◌, ◌⊎◌, inl, 
 use Rattle.std.specs.Prelude.{All, cond, ◌≤ℤ◌, slice_index_or}
 use Rattle.std.proofs.lemmas.Int.{ints}
 use Rattle.std.proofs.lemmas.List.Elements.{All-nil, All-cons, All-head, All-tail, All-more}
-use Rattle.tv_region.proofs.RegionLemmas.{is_same}
 use Rattle.tv_linear.specs.Linear.{Linear}
 use Rattle.tv_linear.specs.declared.region.Piece.{Piece}
 use Rattle.tv_linear.specs.declared.region.Region.{Region}
+use Rattle.tv_linear.proofs.ListLaws.{test_true}
 use Rattle.tv_cases.specs.LinearCases.{LinearCase}
 use Rattle.tv_cases.specs.declared.case.Case.{Case}
 use Rattle.tv_cases.specs.Views.{case_view, case_views}
@@ -122,7 +122,7 @@ case_has (k ∷ ks) (suc i) c l e = inr (case_has ks i c (omega (arith, l)) e)
 pub piece_row : (pieces : List Piece) (i : ℕ) (p : Piece) → i < length pieces → p ≡ get_or pieces i p → (r : Linear) → Has p.poly.rows.items r → InSome (lists_at p.location pieces) r
 piece_row [] i p l e r m = absurd (omega (arith, l))
 piece_row (q ∷ qs) zero p l e r m =
-    subst (λ b. InSome (cond b (q.poly.rows.items ∷ lists_at p.location qs) (lists_at p.location qs)) r) (sym (is_same q.location p.location (ap (λ (z : Piece). z.location) (sym e))))
+    subst (λ b. InSome (cond b (q.poly.rows.items ∷ lists_at p.location qs) (lists_at p.location qs)) r) (sym (test_true q.location p.location (ap (λ (z : Piece). z.location) (sym e))))
     (inl (subst (λ (z : Piece). Has z.poly.rows.items r) e m))
 piece_row (q ∷ qs) (suc i) p l e r m = behind (q.location == p.location) (piece_row qs i p (omega (arith, l)) e r m) where
   behind : (b : Bool) → InSome (lists_at p.location qs) r → InSome (cond b (q.poly.rows.items ∷ lists_at p.location qs) (lists_at p.location qs)) r

@@ -16,6 +16,7 @@ use Rattle.tv_linear.specs.declared.choice.ChoiceTree.{ChoiceTree}
 use Rattle.tv_linear.specs.declared.choice.ChoiceTree as choice
 use Rattle.tv_linear.specs.declared.region.Piece.{Piece}
 use Rattle.tv_linear.proofs.SameLemmas.{all_same, same_append}
+use Rattle.tv_linear.proofs.KnownLemmas.{length-given}
 use Rattle.tv_farkas.specs.Trees.{TreeRows}
 use Rattle.tv_cases.specs.LinearCases.{LinearCase, CaseSystem}
 use Rattle.tv_cert.specs.declared.node.Kind.TheVariants as kind
@@ -171,9 +172,6 @@ pub held_append : (N : ℕ) (ks qs : List Known) → AllHeld N ks → AllHeld N 
 held_append N [] qs h g = g
 held_append N (k ∷ ks) qs h g = (h.0, h.1, held_append N ks qs h.2 g)
 
-given_many : (rows : List Linear) → length (as_given rows) ≡ length rows
-given_many rows = length-map rows (λ r. given r)
-
 -- as many pieces that are done at a location
 pub done_count : (l : ℕ) (dones : List Marked) (done : List Piece) → AreMarked dones done → length (pieces_at dones l) ≡ length (filter (λ p. p.location == l) done)
 done_count l dones done h =
@@ -199,7 +197,7 @@ shows_falling_step about q c done into first count old new e many shows falling 
     plain = shows number p (h.dones ++ h.ranked) h.marked h.all_are
 
     many_known : length (as_given (rows_of p) ++ as_given c.guards) ≡ count
-    many_known = length-append (as_given (rows_of p)) (as_given c.guards) ∙ (λ i. (given_many (rows_of p) ∙ ap length h.marked.1) i + given_many c.guards i) ∙ sym many
+    many_known = length-append (as_given (rows_of p)) (as_given c.guards) ∙ (λ i. (length-given (rows_of p) ∙ ap length h.marked.1) i + length-given c.guards i) ∙ sym many
 
     owed : FallsOwed (about.variables + c.draws) first (owed_into (h.dones ++ h.ranked) c.to (case_change about.variables c) no_fall) (owed_into all c.to (case_change about.variables c) (step_fall (about_with about) p c))
     owed =
@@ -241,7 +239,7 @@ shows_falling_choice about q done into count old new many shows falling number p
         (falls_owed n n h.rank change (drawn_keeps n n c draws) h.low h.small h.dones h.ranked h.later c.to (record { done_with = h.done_with; ranked = h.below }))))
 
     met : IsMetChoice about.variables about.cases (place_of p) false (choice_into (about_with about) all (choice_fall (about_with about) p)) (as_given (rows_of p)) new
-    met = choice_falls about (place_of p) done plain_owed wanted owed count (as_given (rows_of p)) old new (given_many (rows_of p) ∙ ap length h.marked.1 ∙ sym many) (given_held n (rows_of p)) plain.narrow falling plain.met
+    met = choice_falls about (place_of p) done plain_owed wanted owed count (as_given (rows_of p)) old new (length-given (rows_of p) ∙ ap length h.marked.1 ∙ sym many) (given_held n (rows_of p)) plain.narrow falling plain.met
 
 -- ---- no choice stops where none may
 shape_goes : (n : ℕ) (cases : List LinearCase) (l : ℕ) (owed : Owing) (count : ℕ) (tree : ChoiceTree) → ChoiceShape n cases l false owed count tree → NeverStops tree

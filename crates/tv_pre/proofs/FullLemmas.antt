@@ -13,6 +13,7 @@ use Rattle.tv_meaning.specs.Meaning.{Holds, AllHold, SomeHolds}
 use Rattle.tv_meaning.proofs.Negation.{negation_excludes}
 use Rattle.tv_meaning.proofs.LocalNegation.{negation_says}
 use Rattle.tv_linear.specs.declared.region.Region.{Region}
+use Rattle.tv_linear.proofs.ListLaws.{test_true}
 use Rattle.tv_cases.specs.Comparisons.{has_rows, comparison_lists}
 use Rattle.tv_cases.specs.EdgeCases.{columns_from}
 use Rattle.tv_cases.specs.Lists.{lists_of}
@@ -30,7 +31,6 @@ use Rattle.tv_region.specs.Met.{some_met}
 use Rattle.tv_region.specs.Regions.{IsRegion}
 use Rattle.tv_region.specs.StepRegions.{InState, IsTame}
 use Rattle.tv_region.proofs.AlgebraLemmas.{in_state}
-use Rattle.tv_region.proofs.RegionLemmas.{is_same}
 use Rattle.tv_rounds.proofs.SetLemmas.{own_set, told}
 use Rattle.tv_pre.specs.declared.test.Test.{Test}
 use Rattle.tv_pre.specs.declared.test.Test.TheVariants.{Rows, Here, Elsewhere}
@@ -65,7 +65,7 @@ module _ (about : CaseSystem) where
   test_met (Rows lists) (fix path shape f g) h w s p m = absurd h
   test_met (Here k) (truth b) h w s p m = absurd h
   test_met (Here k) (compare r a b) h w s p m = absurd h
-  test_met (Here k) (at l) h w s p m = true_met (s.location == k) s.values (is_same s.location k (m ∙ h))
+  test_met (Here k) (at l) h w s p m = true_met (s.location == k) s.values (test_true s.location k (m ∙ h))
   test_met (Here k) term h w s p m = absurd h
   test_met (Here k) (negated f) h w s p m = absurd h
   test_met (Here k) (all_of fs) h w s p m = absurd h

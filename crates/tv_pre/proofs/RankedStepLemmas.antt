@@ -9,6 +9,7 @@ use Rattle.tv_linear.specs.Refutation.{Refutes}
 use Rattle.tv_linear.specs.declared.cover.CoverTree.{CoverTree}
 use Rattle.tv_linear.specs.declared.cover.CoverTree as cover
 use Rattle.tv_linear.specs.declared.region.Piece.{Piece}
+use Rattle.tv_linear.proofs.ListLaws.{test_true, test_false}
 use Rattle.tv_cases.specs.LinearCases.{LinearCase, CaseSystem, from_of, leaving}
 use Rattle.tv_cases.specs.declared.case.Case.{Case}
 use Rattle.tv_cases.specs.Views.{case_view, case_views}
@@ -19,7 +20,6 @@ use Rattle.tv_cert.specs.Obligations.{step_fall, case_change}
 use Rattle.tv_cert.specs.Pieces.{rows_of}
 use Rattle.tv_cert.specs.Targets.{owed_into}
 use Rattle.tv_shape.specs.Narrow.{AreNarrow}
-use Rattle.tv_rank.proofs.Over.{equal, unequal}
 use Rattle.tv_choice.specs.Leading.{piece_rows}
 use Rattle.tv_lexrank.specs.declared.shown.CaseShown.{CaseShown}
 use Rattle.tv_lexrank.specs.More.{way_with, IsUnderMore}
@@ -71,10 +71,10 @@ next_taken : (l : ℕ) (cs : List LinearCase) (k : ℕ) (c : LinearCase) → sli
 next_taken l cs k c e = ap (leaving l) (take_suc_some cs k c e) ∙ filter-append (λ c. from_of c == l) (take k cs) (c ∷ [])
 
 pub leaving_kept : (l : ℕ) (cs : List LinearCase) (k : ℕ) (c : LinearCase) → slice_get cs k ≡ Some c → c.from ≡ l → leaving l (take (k + 1) cs) ≡ leaving l (take k cs) ++ c ∷ []
-leaving_kept l cs k c e t = next_taken l cs k c e ∙ ap (λ xs. leaving l (take k cs) ++ xs) (one_kept c (from_of c == l) (equal c.from l t))
+leaving_kept l cs k c e t = next_taken l cs k c e ∙ ap (λ xs. leaving l (take k cs) ++ xs) (one_kept c (from_of c == l) (test_true c.from l t))
 
 pub leaving_skipped : (l : ℕ) (cs : List LinearCase) (k : ℕ) (c : LinearCase) → slice_get cs k ≡ Some c → (c.from ≡ l → ⊥) → leaving l (take (k + 1) cs) ≡ leaving l (take k cs)
-leaving_skipped l cs k c e t = next_taken l cs k c e ∙ (ap (λ xs. leaving l (take k cs) ++ xs) (one_skipped c (from_of c == l) (unequal c.from l t)) ∙ append-nil (leaving l (take k cs)))
+leaving_skipped l cs k c e t = next_taken l cs k c e ∙ (ap (λ xs. leaving l (take k cs) ++ xs) (one_skipped c (from_of c == l) (test_false c.from l t)) ∙ append-nil (leaving l (take k cs)))
 
 -- ---- the case with a number
 here : (list : List Case) (k : ℕ) (x : Case) → k < length list → x ≡ get_or list k x → slice_get (case_views list) k ≡ Some (case_view x)

@@ -15,6 +15,7 @@ use Rattle.tv_known.specs.Cycles.{IsStateOf}
 use Rattle.tv_known.specs.Rounds.{HoldSide, EndSides}
 use Rattle.tv_cert.specs.Obligations.{hold_side}
 use Rattle.tv_linear.specs.Linear.{Linear}
+use Rattle.tv_linear.proofs.ListLaws.{take_past}
 use Rattle.tv_region.specs.Met.{InSome}
 use Rattle.tv_region.specs.Regions.{IsRegion, lists_at}
 use Rattle.tv_region.specs.Algebra.{IsBoth, IsEither}
@@ -94,12 +95,6 @@ to_two Strong P Q s t h = h
 pub no_piece : (qs : List Piece) (s : State) → qs ≡ [] → InPieces qs s → ⊥
 no_piece qs s e m = Contains-none m.0 (subst (λ ps. Contains ps m.0) e m.1)
 
-take_all : {A : Type 0} (xs : List A) (i : ℕ) → length xs ≤ i → take i xs ≡ xs
-take_all [] zero l = refl
-take_all [] (suc i) l = refl
-take_all (x ∷ xs) zero l = absurd (omega (arith, l))
-take_all (x ∷ xs) (suc i) l = ap (λ ys. x ∷ ys) (take_all xs i (omega (arith, l)))
-
 module _ (about : CaseSystem) (regions : List Region) where
   pub common_first : (common : Region) → IsEverywhere about common → IsCommon about regions 0 common
   common_first common e = record {
@@ -121,7 +116,7 @@ module _ (about : CaseSystem) (regions : List Region) where
       }
 
   pub common_all : (i : ℕ) (common : Region) → length regions ≤ i → IsCommon about regions i common → All (λ x. OfPieces about common.pieces.items (InState x)) regions
-  common_all i common l g = subst (All (λ x. OfPieces about common.pieces.items (InState x))) (take_all regions i l) g.inside
+  common_all i common l g = subst (All (λ x. OfPieces about common.pieces.items (InState x))) (take_past regions i l) g.inside
 
   pub item_over : (i : ℕ) (r : Region) → i < length regions → r ≡ get_or regions i r → All (IsRegion about.variables about.locations) regions → IsRegion about.variables about.locations r
   item_over i r l e all = subst (IsRegion about.variables about.locations) (sym e) (all i r l)
@@ -147,7 +142,7 @@ module _ (about : CaseSystem) (regions : List Region) where
       }
 
   pub whole_all : (i : ℕ) (whole : Region) → length regions ≤ i → IsWhole about regions i whole → All (λ x. OfPieces about x.pieces.items (InState whole)) regions
-  whole_all i whole l g = subst (All (λ x. OfPieces about x.pieces.items (InState whole))) (take_all regions i l) g.all
+  whole_all i whole l g = subst (All (λ x. OfPieces about x.pieces.items (InState whole))) (take_past regions i l) g.all
 
 module _ (about : CaseSystem) where
   no_state : (none : Region) → IsNowhere about none → (s : State) → InState none s → ⊥

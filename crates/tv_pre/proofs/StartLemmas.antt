@@ -15,6 +15,7 @@ use Rattle.tv_linear.specs.declared.cover.CoverTree.{CoverTree}
 use Rattle.tv_linear.specs.declared.cover.CoverTree as cover
 use Rattle.tv_linear.specs.declared.region.Piece.{Piece}
 use Rattle.tv_linear.specs.declared.region.Region.{Region}
+use Rattle.tv_linear.proofs.ListLaws.{test_true}
 use Rattle.tv_farkas.specs.Paths.{IsWholePoint}
 use Rattle.tv_farkas.specs.Refuting.{AreShort}
 use Rattle.tv_farkas.specs.Trees.{TreeRows}
@@ -41,7 +42,7 @@ use Rattle.tv_cover.specs.declared.covered.Covered.TheVariants.{Tree, Hole}
 use Rattle.tv_cover.specs.Covering.{IsHole}
 use Rattle.tv_cover.specs.Targets.{IsInTarget}
 use Rattle.tv_region.specs.Regions.{lists_at}
-use Rattle.tv_region.proofs.RegionLemmas.{is_same, lists_at-here, lists_at-there}
+use Rattle.tv_region.proofs.RegionLemmas.{lists_at-here, lists_at-there}
 use Rattle.tv_choice.specs.Leading.{piece_rows}
 use Rattle.tv_lexrank.specs.Certified.{IsRoot, IsProofOf, SaysProved}
 use Rattle.tv_points.specs.Nodes.{IsDisproof, SaysDisproved}
@@ -148,7 +149,7 @@ pub place_there : (k : ℕ) (pieces : List Piece) (i : ℕ) (p : Piece) → i < 
 place_there k [] i p l e h = absurd (let no : ⊥ = omega (arith, l) in no)
 place_there k (q ∷ qs) zero p l e h =
     subst (λ z. slice_get (lists_at k (q ∷ qs)) 0 ≡ Some (piece_rows z)) (sym e)
-    (first_there (q.location == k) (piece_rows q) (lists_at k qs) (is_same q.location k (subst (λ z. z.location ≡ k) e h)))
+    (first_there (q.location == k) (piece_rows q) (lists_at k qs) (test_true q.location k (subst (λ z. z.location ≡ k) e h)))
 place_there k (q ∷ qs) (suc i) p l e h =
     later_there (q.location == k) (piece_rows q) (piece_rows p) (lists_at k qs) (lists_at k (take i qs)) (place_there k qs i p (omega (arith, l)) e h)
 

@@ -17,6 +17,7 @@ use Rattle.tv_linear.specs.declared.region.Piece.{Piece}
 use Rattle.tv_linear.specs.Same.{AreSame, OwedSame}
 use Rattle.tv_linear.proofs.SameLemmas.{cover_same}
 use Rattle.tv_linear.proofs.PaddedLemmas.{padded_met}
+use Rattle.tv_linear.proofs.ListLaws.{test_true, length-back, length-front, front_back, all_back, all_front}
 use Rattle.tv_farkas.specs.Trees.{TreeRows}
 use Rattle.tv_cases.specs.Before.{before, FitsBefore, rows_before}
 use Rattle.tv_cases.specs.LinearCases.{LinearCase, CaseSystem, IsCase, AreCases}
@@ -44,8 +45,6 @@ use Rattle.tv_pre.specs.Targets.{AreBefore}
 use Rattle.tv_pre.proofs.OfferLemmas.{lists_marked, got_mapped, no_hole}
 
 -- ---- the pieces at a location
-test_is : (a b : ℕ) → a ≡ b → (a == b) ≡ true
-test_is a b h = grind (arith, nat_tests)
 
 kept_later : (b : Bool) (a : List Linear) (ls : List (List Linear)) (x : List Linear) → Contains ls x → Contains (cond b (a ∷ ls) ls) x
 kept_later true a ls x c = Contains-later a x ls c
@@ -54,7 +53,7 @@ kept_later false a ls x c = c
 pub listed : (qs : List Piece) (q : Piece) (l : ℕ) → q.location ≡ l → Contains qs q → Contains (lists_at l qs) (piece_rows q)
 listed [] q l e c = absurd (omega (arith, c))
 listed (a ∷ qs) q l e (zero, s, is) =
-    let t : (a.location == l) ≡ true = test_is a.location l (ap (λ p. p.location) is ∙ e) in
+    let t : (a.location == l) ≡ true = test_true a.location l (ap (λ p. p.location) is ∙ e) in
     subst (λ b. Contains (cond b (piece_rows a ∷ lists_at l qs) (lists_at l qs)) (piece_rows q)) (sym t)
     (subst (λ p. Contains (piece_rows a ∷ lists_at l qs) (piece_rows p)) is (Contains-here (piece_rows a) (lists_at l qs)))
 listed (a ∷ qs) q l e (suc k, s, is) = kept_later (a.location == l) (piece_rows a) (lists_at l qs) (piece_rows q) (listed qs q l e (k, omega (arith, s), is))
@@ -75,28 +74,6 @@ rows_of_even n m [] h = All-nil (λ p. All (λ r. columns r ≡ n) (piece_rows p
 rows_of_even n m (q ∷ qs) h = All-cons (λ p. All (λ r. columns r ≡ n) (piece_rows p)) q qs (All-head (IsPieceOf n m) q qs h).even (rows_of_even n m qs (All-tail (IsPieceOf n m) q qs h))
 
 -- ---- rows over the columns of a case
-front_back : {A : Type 0} (n : ℕ) (xs : List A) → take n xs ++ drop n xs ≡ xs
-front_back zero xs = refl
-front_back (suc n) [] = refl
-front_back (suc n) (x ∷ xs) = ap (λ ys. x ∷ ys) (front_back n xs)
-
-length-front : (n d : ℕ) (zs : List ℤ) → length zs ≡ n + d → length (take n zs) ≡ n
-length-front zero d zs e = refl
-length-front (suc n) d [] e = absurd (omega (arith, e))
-length-front (suc n) d (z ∷ zs) e = ap suc (length-front n d zs (omega (arith, e)))
-
-length-back : (n d : ℕ) (zs : List ℤ) → length zs ≡ n + d → length (drop n zs) ≡ d
-length-back zero d zs e = e ∙ (let g : 0 + d ≡ d = omega arith in g)
-length-back (suc n) d [] e = absurd (omega (arith, e))
-length-back (suc n) d (z ∷ zs) e = length-back n d zs (omega (arith, e))
-
-all_behind : {A : Type 0} (P : A → Type 0) (xs ys : List A) → All P (xs ++ ys) → All P ys
-all_behind P [] ys h = h
-all_behind P (x ∷ xs) ys h = all_behind P xs ys (All-tail P x (xs ++ ys) h)
-
-all_front : {A : Type 0} (P : A → Type 0) (xs ys : List A) → All P (xs ++ ys) → All P xs
-all_front P [] ys h = All-nil P
-all_front P (x ∷ xs) ys h = All-cons P x xs (All-head P x (xs ++ ys) h) (all_front P xs ys (All-tail P x (xs ++ ys) h))
 
 before_met : (n : ℕ) (c : LinearCase) (owed : List Linear) (xs ds : List ℤ) → All (λ r. columns r ≡ n) owed → length xs ≡ n → length ds ≡ c.draws → All (IsMet (map (term_value (xs ++ ds)) (terms_after n c.updates))) owed → All (IsMet (xs ++ ds)) (rows_before c owed)
 before_met n c [] xs ds even e d h = All-nil (IsMet (xs ++ ds))
@@ -196,7 +173,7 @@ module _ (about : CaseSystem) (c : LinearCase) (case : IsCase about.variables ab
       let ld = length-back n c.draws zs size in
       let whole : zs ≡ xs ++ ds = sym (front_back n zs) in
       let place = padded_met n c.draws rows zs piece.even (all_front (IsMet zs) (map (padded_row c.draws) rows) c.guards hole.point.met) in
-      let guards = subst (λ ys. All (IsMet ys) c.guards) whole (all_behind (IsMet zs) (map (padded_row c.draws) rows) c.guards hole.point.met) in
+      let guards = subst (λ ys. All (IsMet ys) c.guards) whole (all_back (IsMet zs) (map (padded_row c.draws) rows) c.guards hole.point.met) in
       let ys = map (term_value (xs ++ ds)) (terms_after n c.updates) in
       let i = in_lists c.to ys into (inside xs (record { width = lx; met = place }) (state c.to ys) (record {
         taken = c;

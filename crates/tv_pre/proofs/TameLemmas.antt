@@ -6,6 +6,7 @@ use Rattle.std.proofs.lemmas.List.Elements.{All-head, All-tail}
 use Rattle.tv_linear.specs.Linear.{Linear}
 use Rattle.tv_linear.specs.declared.region.Piece.{Piece}
 use Rattle.tv_linear.specs.declared.region.Region.{Region}
+use Rattle.tv_linear.proofs.ListLaws.{true_test}
 use Rattle.tv_cases.specs.LinearCases.{CaseSystem}
 use Rattle.tv_cases.proofs.Listed.{Contains-here, Contains-later}
 use Rattle.tv_cert.specs.Obligations.{truth_targets}
@@ -18,8 +19,6 @@ use Rattle.tv_pre.specs.Finding.{AreAtomsOfDifferences, IsTameStatement, IsTameF
 use Rattle.tv_pre.specs.Parts.{joined_pieces}
 
 -- ---- rows of pieces
-true_test : (a b : ℕ) → (a == b) ≡ true → a ≡ b
-true_test a b h = grind (arith, nat_tests)
 
 -- a piece at the location or one behind it has the row
 in_front : (b : Bool) (rs : List Linear) (rest : List (List Linear)) (r : Linear) (P : Type 0) → (InSome rest r → P) → (b ≡ true → P) → InSome (cond b (rs ∷ rest) rest) r → P

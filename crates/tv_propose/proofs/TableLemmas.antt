@@ -10,17 +10,13 @@ use Rattle.tv_linear.specs.Linear.{Linear, linear, columns, IsWithin, IsNarrow}
 use Rattle.tv_linear.specs.Arithmetic.{zeros, unit, plus_each, opposite, plus, column_row}
 use Rattle.tv_linear.specs.Terms.{table}
 use Rattle.tv_linear.proofs.PlainLists.{length-table}
+use Rattle.tv_linear.proofs.ListLaws.{get_or-table}
 use Rattle.tv_cases.specs.LinearCases.{LinearCase, CaseSystem, AreCases, IsCase}
 use Rattle.tv_cases.specs.declared.case.Case.{Case}
 use Rattle.tv_cases.specs.Views.{case_view, case_views}
 use Rattle.tv_propose.specs.GuardLists.{has_no_draw, has_narrow_denial, over_variables, guard_at, denial_at, guard_rows, guard_table}
 use Rattle.tv_propose.specs.DifferenceLists.{difference, difference_rows, difference_table}
 use Rattle.tv_propose.specs.BoundLists.{upper_bound, lower_bound, bound_table}
-
-pub get_or-table : {A : Type 0} (n : ℕ) (f : ℕ → A) (k : ℕ) (d : A) → k < n → get_or (table n f) k d ≡ f k
-get_or-table zero f k d l = absurd (omega (arith, l))
-get_or-table (suc n) f zero d l = refl
-get_or-table (suc n) f (suc k) d l = get_or-table n (λ j. f (suc j)) k d (omega (arith, l))
 
 -- ---- guards
 

@@ -3,6 +3,7 @@ use Rattle.std.proofs.lemmas.Int.{ints}
 use Rattle.tv_linear.proofs.Ring.{neg_times_z}
 use Rattle.tv_linear.specs.Linear.{linear}
 use Rattle.tv_linear.specs.Known.{number}
+use Rattle.tv_linear.proofs.ListLaws.{test_true, test_false}
 use Rattle.tv_simplex.specs.Sums.{total}
 use Rattle.tv_simplex.proofs.Sums.{total-same, total-less, total-times, total-zero, total-swap}
 use Rattle.tv_simplex.proofs.Ring.{times_less, less_times, times_zero}
@@ -13,7 +14,7 @@ use Rattle.tv_rank.specs.declared.unknown.Unknown.TheVariants.{Positive, Negativ
 use Rattle.tv_rank.specs.declared.unknown.Line.{Line}
 use Rattle.tv_rank.specs.Ways.{Way, met_rows, touches}
 use Rattle.tv_rank.specs.RankingSystem.{unit_at, after, entered, left, entry, right_of}
-use Rattle.tv_rank.proofs.Over.{over, Inside, over-same, over-less, over-zero, over-neg, over-total, if_false, equal, unequal, picked, unit_times}
+use Rattle.tv_rank.proofs.Over.{over, Inside, over-same, over-less, over-zero, over-neg, over-total, if_false, picked, unit_times}
 
 abbrev pub line : Identity → Option ℕ → Line
 line id c = record { identity = id; column = c }
@@ -56,7 +57,7 @@ pub record Balance (v many : ℕ) (ways : ℕ → Way) (falling : ℕ) (p : ℕ 
 
 -- ---- one place that counts
 turned : (a b : ℕ) → (a == b) ≡ (b == a)
-turned a b = elim (one a b) [ inl e ↦ equal a b e ∙ sym (equal b a (sym e)) | inr n ↦ unequal a b n ∙ sym (unequal b a (λ e. n (sym e))) ]
+turned a b = elim (one a b) [ inl e ↦ test_true a b e ∙ sym (test_true b a (sym e)) | inr n ↦ test_false a b n ∙ sym (test_false b a (λ e. n (sym e))) ]
   where
     one : (a b : ℕ) → (a ≡ b) ⊎ ((a ≡ b) → ⊥)
     one a b = grind arith

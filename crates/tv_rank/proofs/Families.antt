@@ -9,6 +9,7 @@ use Rattle.tv_linear.specs.Falls.{zero_row}
 use Rattle.tv_linear.specs.Linear.{Linear, columns, IsWithin}
 use Rattle.tv_linear.specs.Known.{Known, given, composed, less, number, known_number, term_number, KnownHeld, PlacesHeld, place_sum}
 use Rattle.tv_linear.specs.Terms.{table, update_of, terms_after}
+use Rattle.tv_linear.proofs.ListLaws.{test_true}
 use Rattle.tv_refute.proofs.Places.{get_or-left, get_or-right, get_or-table}
 use Rattle.tv_farkas.proofs.SystemLemmas.{all_of}
 use Rattle.tv_simplex.proofs.SettleLemmas.{given_left}
@@ -21,7 +22,7 @@ use Rattle.tv_rank.specs.Ways.{Way, met_rows, touches}
 use Rattle.tv_rank.specs.RankingSystem.{unit_at, after, entered, left, entry, right_of, terms_below, steps_below, identity_unknowns, unknowns, lines, step_lines, identity_lines, ranking_system}
 use Rattle.tv_rank.specs.Rankings.{change_row, bound_row, IsShownBy, fall_of, IsFamily}
 use Rattle.tv_rank.specs.Reading.{difference, differences, term_read, read_at, terms_read, multipliers_read, line_read, lines_read, all_read}
-use Rattle.tv_rank.proofs.Over.{Inside, if_true, equal}
+use Rattle.tv_rank.proofs.Over.{Inside, if_true}
 use Rattle.tv_rank.proofs.Listed.{all_first, all_second, all_by_place, of_lines, of_step_lines, of_terms, of_identity, of_steps}
 use Rattle.tv_rank.proofs.Barriers.{line, row_of, width}
 use Rattle.tv_rank.proofs.Points.{map-table}
@@ -60,7 +61,7 @@ or_true_second false b e = e
 pub touched_to : (ways : ℕ → Way) (many k : ℕ) → k < many → touches ways many (ways k).taken.to ≡ true
 touched_to ways zero k h = absurd (omega (arith, h))
 touched_to ways (suc m) k h = elim (last_or_below m k h) [
-  | inl e ↦ or_true_second (touches ways m (ways k).taken.to) ((ways m).taken.from == (ways k).taken.to || (ways m).taken.to == (ways k).taken.to) (or_true_second ((ways m).taken.from == (ways k).taken.to) ((ways m).taken.to == (ways k).taken.to) (equal (ways m).taken.to (ways k).taken.to (ap (λ z. (ways z).taken.to) (sym e))))
+  | inl e ↦ or_true_second (touches ways m (ways k).taken.to) ((ways m).taken.from == (ways k).taken.to || (ways m).taken.to == (ways k).taken.to) (or_true_second ((ways m).taken.from == (ways k).taken.to) ((ways m).taken.to == (ways k).taken.to) (test_true (ways m).taken.to (ways k).taken.to (ap (λ z. (ways z).taken.to) (sym e))))
   | inr b ↦ or_true_first (touches ways m (ways k).taken.to) ((ways m).taken.from == (ways k).taken.to || (ways m).taken.to == (ways k).taken.to) (touched_to ways m k b)
 ]
 
@@ -132,7 +133,7 @@ module _ (v locations many : ℕ) (ways : ℕ → Way) (falling : ℕ) (falling_
   row_narrow k i c k_in i_in c_in =
       let P = λ (u : Unknown). IsNarrow (entry ways falling (line (Step k) c) u) in
       let a = (of_identity P (Step k) (ways k) (of_steps P ways many k (all_second P (terms_below ways many v locations) (steps_below ways many) (narrow_terms k c k_in c_in)) k_in)).0 i i_in in
-      let e = if_true (k == k) (neg_ℤ (row_of (ways k) i c)) (pos 0) (equal k k refl) in
+      let e = if_true (k == k) (neg_ℤ (row_of (ways k) i c)) (pos 0) (test_true k k refl) in
       plain (row_of (ways k) i c) (subst IsNarrow e a)
     where
       plain : (z : ℤ) → unsigned_abs (neg_ℤ z) < 2 ^ 40 → unsigned_abs z < 2 ^ 41
@@ -143,7 +144,7 @@ module _ (v locations many : ℕ) (ways : ℕ → Way) (falling : ℕ) (falling_
       let P = λ (u : Unknown). IsNarrow (entry ways falling (line (Step k) c) u) in
       let l = (ways k).taken.to in
       let a = (of_terms P ways many v locations l (Some j) (all_first P (terms_below ways many v locations) (steps_below ways many) (narrow_terms k c k_in c_in)) (to_in k k_in) (touched_to ways many k k_in) j_in).0 in
-      let e = if_true (l == l) (after (ways k).taken (Some j) c) (pos 0) (equal l l refl) in
+      let e = if_true (l == l) (after (ways k).taken (Some j) c) (pos 0) (test_true l l refl) in
       let o = of_term_number (update_of (ways k).taken.updates j) c in
       let u = if_small ((ways k).taken.from == l) (unit_at (Some j) c) (unit_small (Some j) c) in
       plain (entered (ways k).taken l (Some j) c) (left (ways k).taken l (Some j) c) (term_number c (update_of (ways k).taken.updates j)) (e ∙ o) u a

@@ -4,6 +4,7 @@ use Rattle.std.proofs.lemmas.List.{append-nil}
 use Rattle.std.proofs.lemmas.List.Elements.{All-nil, All-cons, All-append}
 use Rattle.tv_linear.specs.Linear.{Linear}
 use Rattle.tv_linear.specs.Arithmetic.{constant_row}
+use Rattle.tv_linear.proofs.ListLaws.{test_true, test_false}
 use Rattle.tv_rank.specs.declared.found.LocalTerm.{LocalTerm}
 use Rattle.tv_rank.specs.declared.span.Span.{Span}
 use Rattle.tv_rank.specs.Ways.{Way, touches}
@@ -11,7 +12,6 @@ use Rattle.tv_rank.specs.Spans.{Reaches, Spans}
 use Rattle.tv_rank.specs.RankingSystem.{term_unknowns, terms_below}
 use Rattle.tv_rank.specs.Reading.{term_read, read_at, term_there, terms_read}
 use Rattle.tv_rank.specs.Rankings.{local_term}
-use Rattle.tv_rank.proofs.Over.{equal, unequal}
 
 last_or_below : (n j : ℕ) → j < suc n → (j ≡ n) ⊎ (j < n)
 last_or_below n j h = grind arith
@@ -36,14 +36,14 @@ nowhere_both l (t ∷ ts) us h g = (h.0, nowhere_both l ts us h.1 g)
 
 nowhere_left : (v l : ℕ) (ts us : List LocalTerm) → Nowhere l ts → local_term v (ts ++ us) l ≡ local_term v us l
 nowhere_left v l [] us h = refl
-nowhere_left v l (t ∷ ts) us h = row_else (t.location == l) t.row (local_term v (ts ++ us) l) (unequal t.location l h.0) ∙ nowhere_left v l ts us h.1
+nowhere_left v l (t ∷ ts) us h = row_else (t.location == l) t.row (local_term v (ts ++ us) l) (test_false t.location l h.0) ∙ nowhere_left v l ts us h.1
 
 nowhere_right : (v l : ℕ) (ts us : List LocalTerm) → Nowhere l us → local_term v (ts ++ us) l ≡ local_term v ts l
 nowhere_right v l [] us h = none us h
   where
     none : (us : List LocalTerm) → Nowhere l us → local_term v us l ≡ constant_row v (pos 0)
     none [] h = refl
-    none (t ∷ us) h = row_else (t.location == l) t.row (local_term v us l) (unequal t.location l h.0) ∙ none us h.1
+    none (t ∷ us) h = row_else (t.location == l) t.row (local_term v us l) (test_false t.location l h.0) ∙ none us h.1
 nowhere_right v l (t ∷ ts) us h = ap (λ r. if t.location == l then t.row else r) (nowhere_right v l ts us h)
 
 module _ (ways : ℕ → Way) (many v : ℕ) (xs : List ℤ) where
@@ -66,7 +66,7 @@ module _ (ways : ℕ → Way) (many v : ℕ) (xs : List ℤ) where
   ]
     where
       by_test : (b : Bool) → local_term v (if b then record { location = l; row = term_read v xs (length (terms_below ways many v l)) } ∷ [] else []) l ≡ (if b then term_read v xs (length (terms_below ways many v l)) else constant_row v (pos 0))
-      by_test true = row_if (l == l) (term_read v xs (length (terms_below ways many v l))) (constant_row v (pos 0)) (equal l l refl)
+      by_test true = row_if (l == l) (term_read v xs (length (terms_below ways many v l))) (constant_row v (pos 0)) (test_true l l refl)
       by_test false = refl
 
   -- each stands at one of the first locations, and is over the variables
@@ -118,9 +118,9 @@ or_false false b e f = f
 pub spans_more : (ways : ℕ → Way) (many locations : ℕ) (span mid last : Span) → Spans ways many locations span → Reaches span (ways many).taken.from mid → Reaches mid (ways many).taken.to last → (ways many).taken.from < locations → (ways many).taken.to < locations → Spans ways (many + 1) locations last
 spans_more ways many locations span mid last h r q from to = subst (λ z. Spans ways z locations last) (let e : suc many ≡ many + 1 = omega arith in e) (record {
   none_below = λ l k. or_false (touches ways many l) ((ways many).taken.from == l || (ways many).taken.to == l) (h.none_below l (let a = r.low in let b = q.low in omega (arith, a, b, k)))
-      (or_false ((ways many).taken.from == l) ((ways many).taken.to == l) (unequal (ways many).taken.from l (λ e. let a = r.from in let b = q.low in omega (arith, a, b, k, e))) (unequal (ways many).taken.to l (λ e. let a = q.from in omega (arith, a, k, e))));
+      (or_false ((ways many).taken.from == l) ((ways many).taken.to == l) (test_false (ways many).taken.from l (λ e. let a = r.from in let b = q.low in omega (arith, a, b, k, e))) (test_false (ways many).taken.to l (λ e. let a = q.from in omega (arith, a, k, e))));
   none_past = λ l k. or_false (touches ways many l) ((ways many).taken.from == l || (ways many).taken.to == l) (h.none_past l (let a = r.high in let b = q.high in omega (arith, a, b, k)))
-      (or_false ((ways many).taken.from == l) ((ways many).taken.to == l) (unequal (ways many).taken.from l (λ e. let a = r.past in let b = q.high in omega (arith, a, b, k, e))) (unequal (ways many).taken.to l (λ e. let a = q.past in omega (arith, a, k, e))));
+      (or_false ((ways many).taken.from == l) ((ways many).taken.to == l) (test_false (ways many).taken.from l (λ e. let a = r.past in let b = q.high in omega (arith, a, b, k, e))) (test_false (ways many).taken.to l (λ e. let a = q.past in omega (arith, a, k, e))));
   some = (let a = q.low in let b = r.low in let d = h.some in let e = r.high in let f = q.high in omega (arith, a, b, d, e, f));
   within = q.within locations (r.within locations h.within from) to;
 })

@@ -4,6 +4,7 @@ use Rattle.std.proofs.lemmas.Bool.Decides.{nat_tests}
 use Rattle.tv_simplex.specs.Sums.{total}
 use Rattle.tv_simplex.proofs.Sums.{total-same, total-less, total-add, total-times, total-zero, total-swap}
 use Rattle.tv_linear.proofs.Ring.{distribute_z}
+use Rattle.tv_linear.proofs.ListLaws.{test_true, test_false}
 use Rattle.tv_rank.specs.RankingSystem.{unit_at}
 
 -- ---- sums over the first n columns and the constant
@@ -51,30 +52,24 @@ pub if_false : (b : Bool) (x y : ℤ) → b ≡ false → (if b then x else y) �
 if_false true x y e = cc
 if_false false x y e = refl
 
-pub equal : (a b : ℕ) → a ≡ b → (a == b) ≡ true
-equal a b e = grind (arith, nat_tests)
-
-pub unequal : (a b : ℕ) → (a ≡ b → ⊥) → (a == b) ≡ false
-unequal a b h = grind (arith, nat_tests)
-
 same_or_below : (n r : ℕ) → r < suc n → (n ≡ r) ⊎ (r < n)
 same_or_below n r h = grind arith
 
 -- ---- one place of a sum
 none_picked : (n t : ℕ) (g : ℕ → ℤ) → n ≤ t → total n (λ l. if t == l then g l else pos 0) ≡ pos 0
-none_picked n t g h = total-zero n (λ l. if t == l then g l else pos 0) (λ l k. if_false (t == l) (g l) (pos 0) (unequal t l (λ e. omega (arith, e, h, k))))
+none_picked n t g h = total-zero n (λ l. if t == l then g l else pos 0) (λ l k. if_false (t == l) (g l) (pos 0) (test_false t l (λ e. omega (arith, e, h, k))))
 
 pub picked : (n t : ℕ) (g : ℕ → ℤ) → t < n → total n (λ l. if t == l then g l else pos 0) ≡ g t
 picked zero t g h = absurd (omega (arith, h))
 picked (suc n) t g h = elim (same_or_below n t h) [
   | inl e ↦ (
       let a = none_picked n t g (omega (arith, e)) in
-      let b = if_true (t == n) (g n) (pos 0) (equal t n (sym e)) in
+      let b = if_true (t == n) (g n) (pos 0) (test_true t n (sym e)) in
       let c = ap g e in
       omega (arith, ints, a, b, c))
   | inr l ↦ (
       let a = picked n t g l in
-      let b = if_false (t == n) (g n) (pos 0) (unequal t n (λ e. omega (arith, e, l))) in
+      let b = if_false (t == n) (g n) (pos 0) (test_false t n (λ e. omega (arith, e, l))) in
       omega (arith, ints, a, b))
 ]
 

@@ -7,7 +7,7 @@ use Rattle.tv_linear.specs.Linear.{Linear, linear, dot}
 use Rattle.tv_linear.specs.Fits.{IsHeld}
 use Rattle.tv_linear.specs.Known.{Known, given, denied, number, known_number, KnownHeld, as_given, place_sum, PlacesHeld}
 use Rattle.tv_linear.specs.Refutation.{RowsHeld, column_sum, ColumnHeld, Refutes}
-use Rattle.tv_linear.proofs.KnownLemmas.{as_given-append}
+use Rattle.tv_linear.proofs.KnownLemmas.{as_given-append, length-given}
 use Rattle.tv_refute.proofs.Places.{get_or-left, get_or-right, get_or-map}
 use Rattle.tv_farkas.proofs.SystemLemmas.{all_of, dot-total}
 use Rattle.tv_simplex.specs.Sums.{total}
@@ -30,9 +30,6 @@ dot-last (x ∷ ms) (y ∷ rs) m r e = (let h = dot-last ms rs m r (omega (arith
 given-numbers : (c : Option ℕ) (rows : List Linear) → map (λ k. known_number k c) (as_given rows) ≡ map (λ r. number c r) rows
 given-numbers c [] = refl
 given-numbers c (r ∷ rows) = ap (λ zs. number c r ∷ zs) (given-numbers c rows)
-
-pub length-given : (rows : List Linear) → length (as_given rows) ≡ length rows
-length-given rows = length-map rows (λ r. given r)
 
 pub length-read : (xs : List ℤ) (s n : ℕ) → length (multipliers_read xs s n) ≡ n
 length-read xs s zero = refl

@@ -8,6 +8,7 @@ use Rattle.tv_linear.specs.Arithmetic.{constant_row}
 use Rattle.tv_linear.specs.Linear.{Linear, columns}
 use Rattle.tv_linear.specs.Known.{Term, kept, put, number, given, composed, known_number, term_number, place_sum}
 use Rattle.tv_linear.specs.Terms.{table, update_of, terms_after}
+use Rattle.tv_linear.proofs.ListLaws.{test_true, test_false}
 use Rattle.tv_refute.proofs.Places.{get_or-left, get_or-right, get_or-map, unit_same, unit_other}
 use Rattle.tv_simplex.specs.Sums.{total}
 use Rattle.tv_simplex.specs.Systems.{entry_at}
@@ -22,7 +23,7 @@ use Rattle.tv_rank.specs.declared.unknown.Line.{Line}
 use Rattle.tv_rank.specs.Ways.{Way, met_rows, touches}
 use Rattle.tv_rank.specs.RankingSystem.{unit_at, number_of, after, entered, left, term_entry, entry, right_of, pairs_below, term_unknowns, terms_below, multipliers_below, identity_unknowns, steps_below, unknowns, lines, step_lines, identity_lines, ranking_system}
 use Rattle.tv_rank.specs.Reading.{difference, differences, term_read, read_at}
-use Rattle.tv_rank.proofs.Over.{over, Inside, over-same, over-less, over-zero, if_true, if_false, equal, unequal, picked}
+use Rattle.tv_rank.proofs.Over.{over, Inside, over-same, over-less, over-zero, if_true, if_false, picked}
 use Rattle.tv_rank.proofs.Listed.{all_first, all_second, all_by_place, of_lines, of_step_lines, weighted, weighted-append, weighted-last, weighted-total, total-front}
 use Rattle.tv_rank.proofs.Barriers.{line, row_of, width, over_put, over_opposite, picked_turned}
 use Rattle.tv_rank.proofs.Points.{map-table}
@@ -101,7 +102,7 @@ unit-number v (Some j) f e = elim (below_or_past j v) [
       let b = picked_turned v j (λ m. number (Some m) f) l in
       omega (arith, ints, a, b))
   | inr p ↦ (
-      let a = total-zero v (λ m. unit_at (Some m) (Some j) *ℤ number (Some m) f) (λ m k. one (m == j) (number (Some m) f) ∙ if_false (m == j) (number (Some m) f) (pos 0) (unequal m j (λ q. omega (arith, q, k, p)))) in
+      let a = total-zero v (λ m. unit_at (Some m) (Some j) *ℤ number (Some m) f) (λ m k. one (m == j) (number (Some m) f) ∙ if_false (m == j) (number (Some m) f) (pos 0) (test_false m j (λ q. omega (arith, q, k, p)))) in
       let b = past_end f.coefficients j (pos 0) (omega (arith, e, p)) in
       omega (arith, ints, a, b))
 ]
@@ -116,8 +117,8 @@ unit-number v (Some j) f e = elim (below_or_past j v) [
 pub of_term_number : (t : Term) (c : Option ℕ) → number_of c t ≡ term_number c t
 of_term_number (kept w) None = refl
 of_term_number (kept w) (Some j) = elim (same_or_other w j) [
-  | inl e ↦ if_true (w == j) (pos 1) (pos 0) (equal w j e) ∙ unit_same j w (sym e)
-  | inr n ↦ if_false (w == j) (pos 1) (pos 0) (unequal w j n) ∙ unit_other j w (λ e. n (sym e))
+  | inl e ↦ if_true (w == j) (pos 1) (pos 0) (test_true w j e) ∙ unit_same j w (sym e)
+  | inr n ↦ if_false (w == j) (pos 1) (pos 0) (test_false w j n) ∙ unit_other j w (λ e. n (sym e))
 ]
   where
     same_or_other : (a b : ℕ) → (a ≡ b) ⊎ ((a ≡ b) → ⊥)

@@ -6,6 +6,7 @@ use Rattle.tv_linear.specs.Known.{term_value}
 use Rattle.tv_linear.specs.Terms.{update_of, table, terms_after}
 use Rattle.tv_linear.specs.declared.region.Update.{Update}
 use Rattle.tv_linear.proofs.PlainLists.{length-table}
+use Rattle.tv_linear.proofs.ListLaws.{map-push, table-push, get_or-table}
 use Rattle.tv_reaching.specs.FoundRuns.{IsWideAt}
 
 -- ---- lists without their first item
@@ -32,13 +33,6 @@ dot_first (d ∷ cs) [] c x h k e f = absurd (omega (arith, k))
 dot_first (d ∷ cs) (y ∷ xs) c x h k e f = (λ i. (sym e i *ℤ sym f i) +ℤ dot (sym (rest_is d cs) i) (sym (rest_is y xs) i))
 
 -- ---- terms one by one
-table-push : {A : Type 0} (n : ℕ) (f : ℕ → A) → table (suc n) f ≡ table n f ++ f n ∷ []
-table-push zero f = refl
-table-push (suc n) f = ap (λ xs. f 0 ∷ xs) (table-push n (λ j. f (suc j)))
-
-map-push : {A B : Type 0} (f : A → B) (xs : List A) (x : A) → map f (xs ++ x ∷ []) ≡ map f xs ++ f x ∷ []
-map-push f [] x = refl
-map-push f (y ∷ xs) x = ap (λ ys. f y ∷ ys) (map-push f xs x)
 
 pub values-push : (point : List ℤ) (us : List Update) (n : ℕ) → map (term_value point) (terms_after (n + 1) us) ≡ map (term_value point) (terms_after n us) ++ term_value point (update_of us n) ∷ []
 values-push point us n =
@@ -52,11 +46,6 @@ length-mapped f (x ∷ xs) = ap suc (length-mapped f xs)
 
 pub length-values : (point : List ℤ) (us : List Update) (n : ℕ) → length (map (term_value point) (terms_after n us)) ≡ n
 length-values point us n = length-mapped (term_value point) (terms_after n us) ∙ length-table n (update_of us)
-
-get_or-table : {A : Type 0} (n : ℕ) (f : ℕ → A) (k : ℕ) (d : A) → k < n → get_or (table n f) k d ≡ f k
-get_or-table zero f k d h = absurd (omega arith)
-get_or-table (suc n) f zero d h = refl
-get_or-table (suc n) f (suc k) d h = get_or-table n (λ j. f (suc j)) k d (omega arith)
 
 get_or-mapped : {A B : Type 0} (f : A → B) (xs : List A) (k : ℕ) (d : A) (e : B) → k < length xs → get_or (map f xs) k e ≡ f (get_or xs k d)
 get_or-mapped f [] k d e h = absurd (omega arith)

@@ -11,6 +11,7 @@ use Rattle.tv_linear.proofs.PlainLists.{length-unit, length-zeros}
 use Rattle.tv_linear.proofs.RowValues.{value-composed, value-constant_row, value-column_row}
 use Rattle.tv_linear.specs.Same.{SameNumbers, AreSame}
 use Rattle.tv_linear.proofs.SameLemmas.{same_self}
+use Rattle.tv_linear.proofs.ListLaws.{table_of}
 use Rattle.tv_cases.specs.EdgeCases.{columns_from}
 use Rattle.tv_cases.specs.LinearCases.{LinearCase}
 use Rattle.tv_cases.specs.Before.{before as case_before, FitsBefore, rows_before}
@@ -130,12 +131,6 @@ module _ (n : ℕ) (c : LinearCase) (ds : List ℤ) (counted : length ds ≡ c.d
 variables_at : (w v k : ℕ) (xs : List ℤ) → length xs ≤ w → map (λ t. value t xs) (columns_from w v k) ≡ table k (λ j. get_or xs (v + j) (pos 0))
 variables_at w v zero xs l = refl
 variables_at w v (suc k) xs l = (λ i. (value-column_row w v xs l ∙ ap (λ j. get_or xs j (pos 0)) (let e : v ≡ v + 0 = omega arith in e)) i ∷ (variables_at w (suc v) k xs l ∙ ap (table k) (λ p j. get_or xs (let e : suc v + j ≡ v + suc j = omega arith in e p) (pos 0))) i)
-
-table_of : (n : ℕ) (xs : List ℤ) → length xs ≡ n → table n (λ j. get_or xs j (pos 0)) ≡ xs
-table_of zero [] e = refl
-table_of zero (x ∷ xs) e = absurd (omega arith)
-table_of (suc n) [] e = absurd (omega arith)
-table_of (suc n) (x ∷ xs) e = ap (λ ys. x ∷ ys) (table_of n xs (omega arith))
 
 numbers_at : (n : ℕ) (ds xs : List ℤ) → map (λ t. value t xs) (number_rows n ds) ≡ ds
 numbers_at n [] xs = refl

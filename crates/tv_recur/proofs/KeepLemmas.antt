@@ -8,6 +8,7 @@ use Rattle.tv_linear.specs.Linear.{Linear, columns, IsMet, IsWithin}
 use Rattle.tv_linear.specs.Known.{term_value}
 use Rattle.tv_linear.specs.Terms.{terms_after}
 use Rattle.tv_linear.specs.declared.choice.ChoiceTree.{ChoiceTree}
+use Rattle.tv_linear.proofs.ListLaws.{test_true, test_false}
 use Rattle.tv_program.specs.Steps.{State}
 use Rattle.tv_cases.specs.LinearCases.{LinearCase, CaseSystem, CaseSteps}
 use Rattle.tv_cases.specs.Before.{rows_before}
@@ -19,7 +20,6 @@ use Rattle.tv_cert.specs.declared.node.Proof.TheVariants.{Chosen}
 use Rattle.tv_cert.specs.Nodes.{pieces_of}
 use Rattle.tv_cert.specs.Pieces.{place_of, rows_of, pieces_at}
 use Rattle.tv_cert.specs.Shapes.{PieceShape}
-use Rattle.tv_cert.proofs.PieceLemmas.{test_true, test_false}
 use Rattle.tv_farkas.specs.Paths.{IsWholePoint}
 use Rattle.tv_farkas.specs.EmptyPaths.{IsWholePointOf}
 use Rattle.tv_farkas.specs.Refuting.{AreShort}

@@ -12,8 +12,8 @@ use Rattle.tv_linear.specs.declared.region.Update.{Update}
 use Rattle.tv_linear.proofs.Entries.{columns-plus, columns-opposite}
 use Rattle.tv_linear.proofs.PlainLists.{length-unit}
 use Rattle.tv_linear.proofs.RowValues.{value-plus, value-opposite, value-column_row}
+use Rattle.tv_linear.proofs.ListLaws.{test_true, test_false, true_test}
 use Rattle.tv_cases.specs.LinearCases.{LinearCase, CaseSystem, IsCase, ascends}
-use Rattle.tv_cert.proofs.PieceLemmas.{test_true, test_false, true_test}
 use Rattle.tv_farkas.specs.Paths.{IsWholePoint}
 use Rattle.tv_recur.specs.Making.{rows_put, drawn_terms}
 use Rattle.tv_recur.specs.Owing.{Enters, IsLeft}

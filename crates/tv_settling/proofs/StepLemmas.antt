@@ -1,6 +1,7 @@
 -- The proofs of a location, one after the other, and of all locations.
 use Rattle.std.proofs.Common.{◌≡◌, ℕ, suc, ◌+◌, List, [], ◌∷◌, ◌++◌, length, map, take, arith, sym, ap, ◌∙◌, subst, append_assoc}
 use Rattle.std.specs.List.{AllZip}
+use Rattle.tv_linear.proofs.ListLaws.{zip_push}
 use Rattle.tv_cases.specs.LinearCases.{LinearCase, leaving}
 use Rattle.tv_cert.specs.declared.node.Proof.{Proof}
 use Rattle.tv_rank.specs.Ways.{case_at}
@@ -8,12 +9,6 @@ use Rattle.tv_shape.specs.Made.{IsOffered}
 use Rattle.tv_lexrank.proofs.StandLemmas.{IsLeaving, take_more, take_all}
 use Rattle.tv_settling.specs.Nodes.{system_of, owed_step, IsHoldProof, IsStepAt, IsStepProof, AreStepsShown, AreShownAt, AreShownBelow}
 use Rattle.tv_settling.specs.declared.barrier.Barrier.{Barrier}
-
-zip_push : {A B : Type 0} (R : A → B → Type 0) (xs : List A) (ys : List B) (x : A) (y : B) → AllZip R xs ys → R x y → AllZip R (xs ++ x ∷ []) (ys ++ y ∷ [])
-zip_push R [] [] x y h g = (g, tt)
-zip_push R [] (z ∷ ys) x y h g = absurd h
-zip_push R (z ∷ xs) [] x y h g = absurd h
-zip_push R (z ∷ xs) (w ∷ ys) x y h g = (h.0, zip_push R xs ys x y h.1 g)
 
 module _ (b : Barrier) (l : ℕ) where
   abbrev left : List LinearCase

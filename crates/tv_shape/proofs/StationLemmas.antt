@@ -1,5 +1,6 @@
 -- The nodes of a certificate one after another.
 use Rattle.std.proofs.Common.{◌≡◌, ◌^◌, ℕ, zero, suc, ◌+◌, ◌<◌, ◌≤◌, List, [], ◌∷◌, ◌++◌, length, drop, get_or, arith, refl, sym, ap, ◌∙◌, subst, append_assoc, drop-cons}
+use Rattle.tv_linear.proofs.ListLaws.{drop_past}
 use Rattle.tv_cases.specs.LinearCases.{CaseSystem}
 use Rattle.tv_cert.specs.declared.node.Node.{Node, Node', Row_of-Node, end_of-Node, more_of-Node, items-the_row-Node}
 use Rattle.tv_cert.specs.Nodes.{size}
@@ -96,12 +97,6 @@ module _ (system : CaseSystem) (ss : Statements) (kids : List Node) (start depth
         right = right_join system h.done (stations next depth (part_at i ss) a) h.right t;
         nodes = (let z = ap (λ j. sizes_list (drop j kids)) one in omega (arith, n, sizes_there, k, z));
       }
-
-drop_past : {A : Type 0} (xs : List A) (i : ℕ) → length xs ≤ i → drop i xs ≡ []
-drop_past [] zero h = refl
-drop_past [] (suc i) h = refl
-drop_past (x ∷ xs) zero h = absurd (omega arith)
-drop_past (x ∷ xs) (suc i) h = drop_past xs i (omega arith)
 
 append_nil : (ts : List Station) → ts ++ [] ≡ ts
 append_nil [] = refl

@@ -13,24 +13,18 @@ use Rattle.tv_linear.specs.Terms.{table, terms_after, draw_terms}
 use Rattle.tv_linear.specs.Covers.{no_target, IsMetCover}
 use Rattle.tv_linear.proofs.Covered.{covered, shown_at_met}
 use Rattle.tv_linear.proofs.KnownLemmas.{refuted, met_or_denied, value-composed, value-denied, value-given, met-as_given}
+use Rattle.tv_linear.proofs.ListLaws.{table_of, test_true}
 use Rattle.tv_program.specs.Steps.{State}
 use Rattle.tv_cases.specs.LinearCases.{LinearCase, CaseSystem, CaseSteps, leaving}
 use Rattle.tv_cert.specs.declared.node.Marked.{Marked}
 use Rattle.tv_cert.specs.Pieces.{rows_of, InMarked}
 use Rattle.tv_cert.specs.Choices.{drawn_change, drawn_guards, TakeMet, NoStepMet, IsMetChoice, ChoiceFits}
-use Rattle.tv_cert.proofs.PieceLemmas.{test_true}
 use Rattle.tv_sound.proofs.Membership.{got_in, zip_some, Contains-filter}
 use Rattle.tv_sound.proofs.Entering.{Entered, value-longer, met-after, joined_is, All-left, All-right}
 
 map-table : {A B : Type 0} (g : A → B) (n : ℕ) (f : ℕ → A) → map g (table n f) ≡ table n (λ j. g (f j))
 map-table g zero f = refl
 map-table g (suc n) f = ap (λ ys. g (f 0) ∷ ys) (map-table g n (λ j. f (suc j)))
-
-table_of : (n : ℕ) (xs : List ℤ) → length xs ≡ n → table n (λ j. get_or xs j (pos 0)) ≡ xs
-table_of zero [] e = refl
-table_of zero (x ∷ xs) e = absurd (omega arith)
-table_of (suc n) [] e = absurd (omega arith)
-table_of (suc n) (x ∷ xs) e = ap (λ ys. x ∷ ys) (table_of n xs (omega arith))
 
 kept_values : (n : ℕ) (xs : List ℤ) → length xs ≡ n → map (term_value xs) (table n (λ j. kept j)) ≡ xs
 kept_values n xs e = map-table (term_value xs) n (λ j. kept j) ∙ table_of n xs e

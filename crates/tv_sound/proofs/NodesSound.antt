@@ -4,6 +4,7 @@ use Rattle.std.specs.Prelude.{Contains}
 use Rattle.std.specs.List.{flat_map}
 use Rattle.tv_linear.specs.Linear.{Linear}
 use Rattle.tv_linear.specs.Known.{Known, IsKnownMet, as_given}
+use Rattle.tv_linear.proofs.ListLaws.{true_test, test_true}
 use Rattle.tv_program.specs.declared.tree.Relation.{Relation}
 use Rattle.tv_program.specs.Trees.{Expression}
 use Rattle.tv_program.specs.Meaning.{value_of, compares}
@@ -28,7 +29,6 @@ use Rattle.tv_cert.specs.Obligations.{About, Obligation, Entry, AllMet, cover_of
 use Rattle.tv_cert.specs.Nodes.{pieces_of, kid_pieces, parts, entries, kid_entries, size, piece_of, own_of}
 use Rattle.tv_cert.specs.Fits.{PieceFits, ProofFits, OwnFits, NodeFits, KidsFit}
 use Rattle.tv_cert.proofs.StatedLemmas.{entries_are}
-use Rattle.tv_cert.proofs.PieceLemmas.{true_test, test_true}
 use Rattle.tv_sound.proofs.Shown.{AllStepsCovered, HasChoice}
 use Rattle.tv_sound.proofs.Entering.{piece_covered}
 use Rattle.tv_sound.proofs.Regions.{Placed, lands, onward, term_sound, noterm_sound, weak_every_sound, until_every_sound, until_any_sound, weak_any_sound}

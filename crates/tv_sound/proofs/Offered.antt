@@ -9,6 +9,7 @@ use Rattle.tv_linear.specs.Linear.{Linear}
 use Rattle.tv_linear.specs.Known.{Known, IsKnownMet, as_given}
 use Rattle.tv_linear.specs.Covers.{IsMetCover}
 use Rattle.tv_linear.proofs.Covered.{covered}
+use Rattle.tv_linear.proofs.ListLaws.{test_true}
 use Rattle.tv_program.specs.Steps.{State}
 use Rattle.tv_cases.specs.LinearCases.{LinearCase, leaving}
 use Rattle.tv_cert.specs.declared.node.Kind.{Kind}
@@ -21,7 +22,6 @@ use Rattle.tv_cert.specs.Choices.{IsMetChoice, ChoiceFits}
 use Rattle.tv_cert.specs.Obligations.{About, a_cover, a_choice, Obligation, OwedMet, AllMet, cover_of, atom_of, step_of, steps_of, choice_of, paired}
 use Rattle.tv_cert.specs.Fits.{ProofFits}
 use Rattle.tv_cases.proofs.Listed.{Contains-here, Contains-later, Contains-map}
-use Rattle.tv_cert.proofs.PieceLemmas.{test_true}
 use Rattle.tv_sound.proofs.Membership.{Contains-filter, Contains-flat_map, got_in}
 use Rattle.tv_sound.proofs.Shown.{PieceCovered, AtomCovered, AllStepsCovered, HasChoice}
 use Rattle.tv_sound.proofs.Entering.{seen}

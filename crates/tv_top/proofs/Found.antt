@@ -32,7 +32,7 @@ use Rattle.tv_recur.specs.Refusing.{IsRefusal}
 use Rattle.tv_search.specs.Answers.{IsKnown, HasNoPoint, IsReached, IsUnsearched}
 use Rattle.tv_search.specs.declared.search_fault.SearchFault.TheVariants as searches
 use Rattle.tv_invariant.specs.Places.{rows_at}
-use Rattle.tv_invariant.proofs.ListLemmas.{all_by, all_before, all_behind}
+use Rattle.tv_invariant.proofs.ListLemmas.{all_by}
 use Rattle.tv_causes.specs.CasePaths.{AreCasesAt}
 use Rattle.tv_cases.specs.LinearCases.{LinearCase}
 use Rattle.tv_program.specs.Steps.{State}
@@ -44,6 +44,7 @@ use Rattle.tv_recur.proofs.PointLemmas.{short_within}
 use Rattle.tv_search.specs.Runs as searched
 use Rattle.tv_invariant.proofs.PieceLemmas.{in_rows}
 use Rattle.tv_linear.specs.Linear.{columns, IsMet, IsWithin}
+use Rattle.tv_linear.proofs.ListLaws.{all_front, all_back}
 use Rattle.tv_top.specs.declared.cause.Cause.{Cause}
 use Rattle.tv_top.specs.declared.cause.Cause.TheVariants.{Unsolved, Spent, Composed, Unranked, Weak, TooManyPaths, TooManyPieces, Drawn, Unsettled, WideComparison}
 use Rattle.tv_shape.specs.Certificates.{IsSettling}
@@ -303,7 +304,7 @@ along_of about (k ∷ numbers) (c ∷ path) (ds ∷ draws) s (t ∷ run) are h =
 
 all_parts : (P : ℤ → Type 0) (lists : List (List ℤ)) → All P (searched.joined lists) → All (All P) lists
 all_parts P [] h = All-nil (All P)
-all_parts P (ds ∷ lists) h = All-cons (All P) ds lists (all_before P ds (searched.joined lists) h) (all_parts P lists (all_behind P ds (searched.joined lists) h))
+all_parts P (ds ∷ lists) h = All-cons (All P) ds lists (all_front P ds (searched.joined lists) h) (all_parts P lists (all_back P ds (searched.joined lists) h))
 
 -- a run that the search gives is a run to the location
 pub is_found : (about : CaseSystem) (run : Found) → IsReached about run.location run.path.now run.values.now (lists_of run.draws.now) → IsFoundRun about run
@@ -314,8 +315,8 @@ is_found about run h =
       along = along_of about run.path.now h.path (lists_of run.draws.now) (searched.initial about run.values.now) h.run h.numbered h.along;
       ends = h.ends;
       counted = h.counted;
-      narrow = all_before (IsWithin 62) run.values.now (searched.joined (lists_of run.draws.now)) all;
-      narrow_draws = all_parts (IsWithin 62) (lists_of run.draws.now) (all_behind (IsWithin 62) run.values.now (searched.joined (lists_of run.draws.now)) all);
+      narrow = all_front (IsWithin 62) run.values.now (searched.joined (lists_of run.draws.now)) all;
+      narrow_draws = all_parts (IsWithin 62) (lists_of run.draws.now) (all_back (IsWithin 62) run.values.now (searched.joined (lists_of run.draws.now)) all);
       few = (let e = h.few in omega (arith, e));
     }
 

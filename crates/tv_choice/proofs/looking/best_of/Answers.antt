@@ -6,7 +6,7 @@ use Rattle.tv_choice.specs.Refusals.{IsWideHere, denying}
 use Rattle.tv_cover.specs.Trying.{IsWideIn}
 use Rattle.tv_choice.specs.Ways.{way_rows, IsWay}
 use Rattle.tv_choice.proofs.WayLemmas.{take_more, at_of}
-use Rattle.tv_choice.proofs.FitLemmas.{take_whole}
+use Rattle.tv_linear.proofs.ListLaws.{take_past}
 use Rattle.tv_choice.proofs.LookLemmas.{best_next, best_taken, length-take_all, way_is_rows, look_other}
 use Rattle.tv_choice.proofs.looking.best_of.Goals as goal
 
@@ -48,7 +48,7 @@ ways-preserved c =
     subst (λ us. IsBest n rows us c.one_more-best.result) (sym more) (best_next n rows (take i ws) way c.in-Ok.look c.ways.best c.one_more-best.result c.ways.invariant look one)
 
 pub returns-clause-best : goal.returns-clause-best
-returns-clause-best c = subst (λ ws. IsBest c.args.question.now.columns c.args.place.now.rows.now ws c.ways.best) (take_whole c.args.ways.now c.ways.way (let t = c.ways-test.false in omega (arith, t))) c.ways.invariant
+returns-clause-best c = subst (λ ws. IsBest c.args.question.now.columns c.args.place.now.rows.now ws c.ways.best) (take_past c.args.ways.now c.ways.way (let t = c.ways-test.false in omega (arith, t))) c.ways.invariant
 
 pub returns-in-Err-clause-refusals : goal.returns-in-Err-clause-refusals
 returns-in-Err-clause-refusals c =

@@ -2,12 +2,13 @@ use Rattle.std.proofs.Common.{◌∙◌, ◌++◌, ◌∷◌, [], take, subst, s
 use Rattle.tv_cases.specs.LinearCases.{leaving}
 use Rattle.tv_cases.specs.Systems.{cases_of}
 use Rattle.tv_linear.specs.Linear.{IsNarrow}
+use Rattle.tv_linear.proofs.ListLaws.{take_past}
 use Rattle.tv_farkas.specs.Trees.{TreeRows}
 use Rattle.tv_cases.specs.Views.{case_view}
 use Rattle.tv_cases.proofs.LeavingLemmas.{none_more, case_within, case_among}
 use Rattle.tv_choice.specs.Asked.{query_of}
 use Rattle.tv_choice.specs.Stopping.{IsStoppedBy}
-use Rattle.tv_choice.proofs.FitLemmas.{among_case, leaving_from, take_suc_some, take_whole}
+use Rattle.tv_choice.proofs.FitLemmas.{among_case, leaving_from, take_suc_some}
 use Rattle.tv_choice.proofs.StopLemmas.{StopsUpTo, stops_more, all_stopped, leading, tree_narrow}
 use Rattle.tv_choice.proofs.stopping.stop.Goals as goal
 
@@ -65,4 +66,4 @@ returns-clause-stopped c =
     let q = c.args.question.now in
     let all = leaving q.location (cases_of q.about.now).cases in
     all_stopped q.columns (query_of q) c.args.rows.now c.args.left c.cases.covers.items c.requires.even
-    (subst (λ cs. StopsUpTo q.columns c.args.rows.now c.args.left cs c.cases.covers.items) (take_whole all c.cases.k (none_more all c.cases.k c.in_default.ensures.case)) c.cases.invariant)
+    (subst (λ cs. StopsUpTo q.columns c.args.rows.now c.args.left cs c.cases.covers.items) (take_past all c.cases.k (none_more all c.cases.k c.in_default.ensures.case)) c.cases.invariant)

@@ -1,9 +1,9 @@
 use Rattle.std.proofs.Common.{◌≡◌, ◌∙◌, ◌++◌, ◌+◌, All, subst, arith}
 use Rattle.tv_cases.specs.Before.{before, rows_after, FitsTerms}
 use Rattle.tv_choice.specs.Rows.{AreRead, IsWideBefore}
-use Rattle.tv_choice.proofs.FitLemmas.{take_whole}
 use Rattle.tv_cases.specs.Views.{case_view}
 use Rattle.tv_linear.specs.Linear.{columns as width, IsNarrow}
+use Rattle.tv_linear.proofs.ListLaws.{take_past}
 use Rattle.tv_choice.proofs.WayLemmas.{made_none, made_more, made_wide, at_of, not_made}
 use Rattle.tv_choice.proofs.ways.case_rows.Goals as goal
 
@@ -24,4 +24,4 @@ returns-in-Err-clause-refusals c =
     not_made (FitsTerms (width r + case.draws) r (rows_after r case)) (width (before r case)) (IsWideBefore case c.args.owed.now) c.in-Err.fault c.unmade.result c.unmade.ensures c.in-Err.ensures.exact (λ column w. made_wide c.args.columns case c.args.owed.now c.owed.row-index r c.owed.rows.items column c.owed-test.true c.row-item.is c.owed.invariant w)
 
 pub returns-clause-fits : goal.returns-clause-fits
-returns-clause-fits c = subst (AreRead (case_view c.args.case.now)) (take_whole c.args.owed.now c.owed.row-index (let t = c.owed-test.false in omega (arith, t))) c.owed.invariant.fits
+returns-clause-fits c = subst (AreRead (case_view c.args.case.now)) (take_past c.args.owed.now c.owed.row-index (let t = c.owed-test.false in omega (arith, t))) c.owed.invariant.fits

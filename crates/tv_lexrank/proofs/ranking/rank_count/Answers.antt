@@ -1,4 +1,5 @@
 use Rattle.std.proofs.Common.{◌≡◌, ◌⊎◌, inl, inr, ℕ, ◌+◌, ◌<◌, length, ap, arith}
+use Rattle.tv_linear.proofs.ListLaws.{last_or_below}
 use Rattle.tv_lexrank.specs.Attempt.{rounds_in}
 use Rattle.tv_lexrank.proofs.AttemptLemmas.{rounds_are}
 use Rattle.tv_lexrank.proofs.ranking.rank_count.Goals as goal
@@ -20,9 +21,6 @@ overflow_add-len c =
     let l = c.len.ensures in
     let o = c.part-item.result.rounds.ok in
     omega (arith, e, f, l, o)
-
-last_or_below : (n j : ℕ) → j < n + 1 → (j ≡ n) ⊎ (j < n)
-last_or_below n j h = grind arith
 
 pub parts-preserved : goal.parts-preserved
 parts-preserved c =

@@ -1,6 +1,6 @@
 use Rattle.std.proofs.Common.{◌≡◌, ◌==◌, ◌∙◌, length, take, ap, sym, subst, refl, Some, slice_get, arith}
 use Rattle.tv_cert.specs.Pieces.{place_of, pieces_at}
-use Rattle.tv_cert.proofs.PieceLemmas.{test_true}
+use Rattle.tv_linear.proofs.ListLaws.{test_true}
 use Rattle.tv_points.proofs.PlaceLemmas.{got, got_one, among, filter_short}
 use Rattle.tv_points.proofs.pieces.place_among.Goals as goal
 

@@ -7,7 +7,7 @@ use Rattle.tv_shape.proofs.NumberLemmas.{own_within}
 use Rattle.tv_cert.specs.AimViews.{aim_states}
 use Rattle.tv_cert.specs.Listed.{pieces_list}
 use Rattle.tv_cert.specs.Nodes.{node_owes}
-use Rattle.tv_cert.proofs.PieceLemmas.{test_true, true_test}
+use Rattle.tv_linear.proofs.ListLaws.{test_true, true_test}
 use Rattle.tv_shape.specs.Parts.{children_of, proofs_of}
 use Rattle.tv_shape.proofs.ShaperLemmas.{Offered, taken_all, taken_fails, none_left, left_none}
 use Rattle.tv_shape.proofs.nodes.proofs_have_shape.Goals as goal
