@@ -4,11 +4,11 @@ ghost use Rattle.std.specs.Prelude.{◌≡◌, ◌++◌, ◌∷◌, [], ◌-◌,
 ghost use Rattle.tv_cert.specs.declared.node.Marked.{Marked};
 ghost use Rattle.tv_points.specs.Nodes.{IsBare, ArePushedBare, IsWholeNode, whole_piece, whole_pieces};
 
-use tv_shape::node_of;
 use crate::state::State;
 use std::alloc::{AllocError, Global};
 use tv_cert::{Mark, Marked, Node, Proof};
 use tv_linear::{Cover, CoverTree, push_item};
+use tv_shape::node_of;
 
 /// The cover into the first target by no fall, with nothing to be shown.
 pub fn bare_proof(alloc: Global) -> Proof

@@ -1,6 +1,5 @@
 // Certificates that a property is disproved.
 ghost use Rattle.tv_shape.specs.Made.{IsFitted};
-
 ghost use Rattle.std.specs.Prelude.{◌≡◌, IfOk, MatchResult, false, true};
 ghost use Rattle.tv_formula.specs.Formulas.{property_of};
 ghost use Rattle.tv_cases.specs.Systems.{cases_of};

@@ -8,7 +8,6 @@ ghost use Rattle.tv_points.specs.RunLines.{run_lines};
 ghost use Rattle.tv_points.specs.Nodes.{endless, IsRunNode};
 
 use crate::fault::PointFault;
-use tv_shape::node_of;
 use crate::pieces::pieces_of;
 use crate::state::State;
 use crate::step::Step;
@@ -16,6 +15,7 @@ use crate::steps::{Run, push_choices};
 use std::alloc::Global;
 use tv_cases::Cases;
 use tv_cert::Node;
+use tv_shape::node_of;
 
 /// The node that shows that from each of the states some run never ends: each of them has a step to one of them. There is a piece for each
 /// state, in their order.

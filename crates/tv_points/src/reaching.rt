@@ -9,7 +9,6 @@ ghost use Rattle.tv_points.specs.Nodes.{reaches, IsRunNode, AreEnds};
 
 use crate::bare::{location_node, truth_node};
 use crate::fault::PointFault;
-use tv_shape::node_of;
 use crate::pieces::pieces_of;
 use crate::state::State;
 use crate::step::Step;
@@ -18,6 +17,7 @@ use std::alloc::{AllocError, Global};
 use tv_cases::Cases;
 use tv_cert::Node;
 use tv_linear::push_item;
+use tv_shape::node_of;
 
 /// The nodes of the two arguments: that the run is at the location, and truth.
 fn end_nodes(

@@ -29,7 +29,6 @@ use Rattle.tv_pre.specs.Parts.{IsPart, AreParts}
 use Rattle.tv_pre.specs.Around.{AreKids}
 use Rattle.tv_pre.specs.Making.{IsMade}
 
-
 -- ---- children
 
 kids_shape : {k : _} (about : CaseSystem) (fs : Properties) (regions : List Region) (row : Row_of-Node k) → AreParts about fs regions (items-the_row-Node k row) → HaveShapes (about_with about) fs row

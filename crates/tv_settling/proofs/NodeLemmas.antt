@@ -27,7 +27,7 @@ use Rattle.tv_settling.specs.Below.{pieces_below, elsewhere}
 use Rattle.tv_settling.specs.Nodes.{system_of, asked, known_piece, known_there, known_pieces, pieces_elsewhere, owed_at, AreShownBelow, ShowsNever}
 use Rattle.tv_settling.specs.declared.barrier.Barrier.{Barrier}
 use Rattle.tv_settling.proofs.BelowLemmas.{each_below, length_below, elsewhere_placed, elsewhere_short, each_elsewhere}
-use Rattle.tv_settling.proofs.ShownLemmas.{, known_placed, known_found}
+use Rattle.tv_settling.proofs.ShownLemmas.{known_placed, known_found}
 
 -- ---- the children
 module _ (b : Barrier) where

@@ -3,9 +3,9 @@
 ghost use Rattle.std.specs.Prelude.{IfOk};
 ghost use Rattle.tv_shape.specs.Made.{HasOwn};
 
+use crate::narrow::narrow_pieces;
 use std::alloc::{AllocError, Global};
 use tv_cert::{Marked, Node, Pieces, Proof};
-use crate::narrow::narrow_pieces;
 
 /// The node of these parts.
 pub fn node_of(
