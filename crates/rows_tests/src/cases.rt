@@ -1,21 +1,22 @@
-ghost use Rattle.std.specs.Prelude.{◌≡◌};
+ghost use Rattle.std.specs.Prelude.{◌≡◌, All, IfOk};
 ghost use Rattle.tv_linear.specs.Linear.{columns};
 
-use crate::given::{is, row};
-use std::alloc::Global;
+use crate::given::{is, one_row, row};
+use std::alloc::{AllocError, Global};
 use std::test::Fail;
-use tv_cases::{Case, Cases, before, cases, comparison_lists};
+use tv_cases::{Case, Cases, all_before, before, cases, comparison_lists};
 use tv_linear::{Poly, Row, RowFault, Update};
 use tv_program::{Edge, Expr, Names, Program, Relation};
 
-/// The row before a case that changes the one variable alone.
-fn before_assignment(alloc: Global, row: &Row, term: Row) -> Result<Row, RowFault>
-    requires row { columns row.now ≡ 1 }
-    requires term { columns term ≡ 1 }
+/// A case that changes the one variable alone.
+fn assignment(alloc: Global, term: Row) -> Result<Case, AllocError>
+    requires { columns term ≡ 1 }
+    ensures drawless { IfOk result (λ c. c.draws ≡ 0) }
+    ensures even { IfOk result (λ c. All (λ u. columns u.term ≡ 1) c.updates.items) }
 {
     let mut updates = Vec::new(alloc);
     updates.push(Update { variable: 0, term })?;
-    let assignment = Case {
+    Ok(Case {
         from: 0,
         to: 0,
         draws: 0,
@@ -24,8 +25,33 @@ fn before_assignment(alloc: Global, row: &Row, term: Row) -> Result<Row, RowFaul
             rows: Vec::new(alloc),
         },
         updates,
-    };
-    before(alloc, row, &assignment)
+    })
+}
+
+/// The row before such a case.
+fn before_assignment(alloc: Global, row: &Row, term: Row) -> Result<Row, RowFault>
+    requires row { columns row.now ≡ 1 }
+    requires term { columns term ≡ 1 }
+{
+    before(alloc, row, &assignment(alloc, term)?)
+}
+
+/// Whether the one row before such a case has these numbers.
+fn is_one_before(
+    alloc: Global,
+    rows: &[Row],
+    term: Row,
+    numbers: &[i64],
+    constant: i128,
+) -> Result<bool, RowFault>
+    requires rows { All (λ r. columns r ≡ 1) rows.now }
+    requires term { columns term ≡ 1 }
+{
+    let before = all_before(alloc, rows, &assignment(alloc, term)?, 1)?;
+    match before.as_slice() {
+        [only] => Ok(is(only, numbers, constant)),
+        _ => Ok(false),
+    }
 }
 
 #[test]
@@ -33,6 +59,14 @@ fn rows_are_read_before_a_case(rt: HostRuntime) -> Result<(), Fail> {
     let five = row(rt.alloc(), &[1], -5)?;
     let next = row(rt.alloc(), &[1], 1)?;
     assert!(rt; is(&before_assignment(rt.alloc(), &five, next)?, &[1], -4));
+    Ok(())
+}
+
+#[test]
+fn lists_of_rows_are_read_before_a_case(rt: HostRuntime) -> Result<(), Fail> {
+    let fives = one_row(rt.alloc(), 1, -5)?;
+    let next = row(rt.alloc(), &[1], 1)?;
+    assert!(rt; is_one_before(rt.alloc(), &fives, next, &[1], -4)?);
     Ok(())
 }
 

@@ -2,7 +2,9 @@
 
 use crate::given::{is, one_row, row};
 use std::test::Fail;
-use tv_linear::{Row, copies, copies_of_lists, joined, push_copies, push_item};
+use tv_linear::{
+    Row, all_padded, copies, copies_of_lists, copy_row, joined, push_copies, push_item,
+};
 
 fn are_both(rows: &[Row]) -> bool {
     match rows {
@@ -28,6 +30,15 @@ fn rows_are_copied_and_joined(rt: HostRuntime) -> Result<(), Fail> {
 }
 
 #[test]
+fn one_row_is_copied(rt: HostRuntime) -> Result<(), Fail> {
+    let alloc = rt.alloc();
+    if !is(&copy_row(alloc, &row(alloc, &[2], 7)?)?, &[2], 7) {
+        return Err(Fail::from("copied"));
+    }
+    Ok(())
+}
+
+#[test]
 fn lists_are_copied(rt: HostRuntime) -> Result<(), Fail> {
     let alloc = rt.alloc();
     let mut lists = Vec::new(alloc);
@@ -46,8 +57,17 @@ fn lists_are_copied(rt: HostRuntime) -> Result<(), Fail> {
 #[test]
 fn new_columns_have_zeros(rt: HostRuntime) -> Result<(), Fail> {
     let alloc = rt.alloc();
-    if !is(&row(alloc, &[3], -5)?.padded(alloc, 2)?, &[3, 0, 0], -5) {
-        return Err(Fail::from("padded"));
+    let three = row(alloc, &[3], -5)?;
+    if !is(&three.padded(alloc, 2)?, &[3, 0, 0], -5) {
+        return Err(Fail::from("one"));
+    }
+    let rows = one_row(alloc, 3, -5)?;
+    let is_padded = match all_padded(alloc, &rows, 1)?.as_slice() {
+        [only] => is(only, &[3, 0], -5),
+        _ => false,
+    };
+    if !is_padded {
+        return Err(Fail::from("all"));
     }
     Ok(())
 }

@@ -1,6 +1,6 @@
 //! Rows that tests begin with.
 
-ghost use Rattle.std.specs.Prelude.{◌≡◌, length, IfOk};
+ghost use Rattle.std.specs.Prelude.{◌≡◌, All, length, IfOk};
 ghost use Rattle.tv_linear.specs.Linear.{columns};
 
 use std::alloc::Global;
@@ -19,7 +19,9 @@ pub(crate) fn row(alloc: Global, coefficients: &[i128], constant: i128) -> Resul
     Ok(row)
 }
 
-pub(crate) fn one_row(alloc: Global, coefficient: i128, constant: i128) -> Result<Vec<Row>, Fail> {
+pub(crate) fn one_row(alloc: Global, coefficient: i128, constant: i128) -> Result<Vec<Row>, Fail>
+    ensures { IfOk result (λ v. All (λ r. columns r ≡ 1) v.items) }
+{
     let mut rows = Vec::new(alloc);
     rows.push(row(alloc, &[coefficient], constant)?)?;
     Ok(rows)

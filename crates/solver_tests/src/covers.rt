@@ -2,7 +2,7 @@ use crate::tables::{HALF, LARGE, Numbers, PARITY, is_leaf, is_row, rows_of};
 use std::alloc::Global;
 use std::process::Abort;
 use std::test::Fail;
-use tv_cover::{Covered, are_even, cover, is_even};
+use tv_cover::{Covered, are_even, cover, cover_one, is_even};
 use tv_farkas::{Branch, Budget, CoverFault};
 use tv_linear::{CoverTree, Poly};
 use tv_simplex::SolveFault;
@@ -243,5 +243,35 @@ fn rows_are_covered(rt: HostRuntime) -> Result<(), Fail> {
     for (place, question) in cases.iter().enumerate() {
         assert!(rt; holds(&rt, rt.alloc(), question)?, "case {place}");
     }
+    Ok(())
+}
+
+/// Whether the rows over one column are covered by those of one target.
+fn is_covered(
+    rt: &impl Abort,
+    alloc: Global,
+    rows: &'static [Numbers],
+    target: &'static [Numbers],
+) -> Result<bool, Fail> {
+    let ambient = poly(rt, alloc, 1, rows)?;
+    let target = rows_of(rt, alloc, target)?;
+    assert!(rt; is_even(&ambient.rows, ambient.columns) && is_even(&target, ambient.columns));
+    assert!(rt; ambient.columns < 2000);
+    let budget = Budget {
+        pivots: 99,
+        splits: 4,
+        disjuncts: 1,
+    };
+    match cover_one(alloc, &ambient, target, &budget) {
+        Ok(Covered::Tree(_)) => Ok(true),
+        Ok(Covered::Hole(_)) => Ok(false),
+        Err(_) => Err(Fail::from("refused")),
+    }
+}
+
+#[test]
+fn rows_are_covered_by_one_target(rt: HostRuntime) -> Result<(), Fail> {
+    assert!(rt; is_covered(&rt, rt.alloc(), FROM_2, FROM_1)?);
+    assert!(rt; !is_covered(&rt, rt.alloc(), FROM_1, FROM_2)?);
     Ok(())
 }

@@ -24,6 +24,7 @@ use Rattle.tv_linear.proofs.SameLemmas.{same_self, all_same, same_push}
 use Rattle.tv_linear.proofs.KnownLemmas.{as_given-append}
 use Rattle.tv_linear.proofs.ListLaws.{front_back, all_back, all_front}
 use Rattle.tv_farkas.specs.Paths.{at_most_row, at_least_row, IsWholePoint}
+use Rattle.tv_farkas.specs.Unmade.{IsUnmadeBy}
 use Rattle.tv_cases.specs.EdgeCases.{columns_from}
 use Rattle.tv_cases.specs.Before.{before, rows_after, term_row, FitsTerms}
 use Rattle.tv_cases.specs.LinearCases.{LinearCase, IsCase}
@@ -36,7 +37,7 @@ use Rattle.tv_cover.specs.Targets.{IsNarrowRow}
 use Rattle.tv_choice.specs.Rows.{fixes, put_terms, put_rows, IsWideBefore, IsWidePut}
 use Rattle.tv_choice.specs.Leading.{Query, pieces_at, piece_rows}
 use Rattle.tv_choice.specs.ChoicePaths.{AreDrawTerms, IsWayIn}
-use Rattle.tv_choice.specs.Ways.{AreCaseRows, AreComposed, IsWayOf, IsWay, IsFaultOf, IsUnmade}
+use Rattle.tv_choice.specs.Ways.{AreCaseRows, AreComposed, IsWayOf, IsWay, IsUnmade}
 use Rattle.tv_choice.proofs.ComposeLemmas.{drawn_terms, put_drawn, length-put_terms}
 
 -- ---- lists
@@ -71,7 +72,7 @@ narrow_at r h column l = elim (inside_or_last column (columns r) l) [
     inside_or_last j n l = grind arith
 
 -- ---- rows that were not made
-pub not_made : (Fits : ℕ → Type 0) (last : ℕ) (wide : ℕ → Type 0) (row_fault : RowFault) (fault : CoverFault) → IsFaultOf row_fault fault → IsFaultWhere Fits last row_fault → ((column : ℕ) → IsFirstWide Fits last column → wide column) → IsUnmade wide fault
+pub not_made : (Fits : ℕ → Type 0) (last : ℕ) (wide : ℕ → Type 0) (row_fault : RowFault) (fault : CoverFault) → IsUnmadeBy row_fault fault → IsFaultWhere Fits last row_fault → ((column : ℕ) → IsFirstWide Fits last column → wide column) → IsUnmade wide fault
 not_made Fits last wide (row_faults.Wide column) fault e h w = subst (IsUnmade wide) (sym e) (w column h)
 not_made Fits last wide row_faults.Memory fault e h w = subst (IsUnmade wide) (sym e) tt
 

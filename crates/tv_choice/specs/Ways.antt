@@ -88,8 +88,3 @@ IsUnmade wide (Splits path) = ⊥
 IsUnmade wide (Solve kept fault) = ⊥
 IsUnmade wide (Wide column) = wide column
 IsUnmade wide Memory = Unit {0}
-
--- the refusal says that the row was not made
-abbrev pub IsFaultOf : RowFault → CoverFault → Type 0
-IsFaultOf (row_fault.Wide column) fault = fault ≡ Wide column
-IsFaultOf row_fault.Memory fault = fault ≡ Memory

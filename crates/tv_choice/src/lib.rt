@@ -5,7 +5,6 @@ mod choosing;
 mod chosen;
 mod differing;
 mod drawing;
-mod faults;
 mod lists;
 mod looking;
 mod pieces;

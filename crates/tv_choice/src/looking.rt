@@ -11,12 +11,11 @@ ghost use Rattle.tv_choice.specs.Refusals.{IsWideHere};
 ghost use Rattle.tv_choice.specs.Looking.{IsPlace, IsWayRow, IsLookFault, no_wide, IsShown, AreAllShown, IsAnyExcluded, IsLook, IsOneMore, IsBest};
 ghost use Rattle.tv_choice.specs.Ways.{AreWays};
 
-use crate::faults::unmade;
 use crate::lists::with_row;
 use crate::place::{Place, is_met};
 use crate::question::Question;
 use crate::ways::Way;
-use tv_farkas::{CoverFault, Judged, judge};
+use tv_farkas::{CoverFault, Judged, judge, unmade};
 use tv_linear::{Row, push_item};
 
 /// Whether rows are shown.

@@ -13,12 +13,11 @@ ghost use Rattle.tv_choice.specs.Targets.{targets, targets_into, targets_by, dra
 ghost use Rattle.tv_choice.specs.Ways.{lists_of, IsEntered, AreCaseRows, AreComposed, IsWayOf, IsWay, IsUnmade};
 
 use crate::drawing::draw_choices;
-use crate::faults::unmade;
 use crate::pieces::piece_at;
 use crate::question::Question;
 use std::alloc::{AllocError, Global};
 use tv_cases::{Case, before};
-use tv_farkas::CoverFault;
+use tv_farkas::{CoverFault, unmade};
 use tv_linear::{Piece, Row, push_copies, push_item};
 
 /// A case from the location, a piece at its end, and a term for each draw. The step leads into the piece where the

@@ -6,3 +6,4 @@ pub mod EmptyPaths
 pub mod Stretching
 pub mod Halving
 pub mod Judging
+pub mod Unmade

@@ -1,6 +1,8 @@
+ghost use Rattle.tv_farkas.specs.Unmade.{IsUnmadeBy};
+
 use crate::Branch;
 use std::alloc::AllocError;
-use tv_linear::Row;
+use tv_linear::{Row, RowFault};
 use tv_simplex::SolveFault;
 
 /// Why no cover and no whole point was found.
@@ -25,5 +27,15 @@ impl From<AllocError> for CoverFault {
 
     fn from(_: AllocError) -> CoverFault {
         CoverFault::Memory
+    }
+}
+
+/// The fault of a row that was not made as that of a cover.
+pub fn unmade(fault: RowFault) -> CoverFault
+    ensures { IsUnmadeBy fault result }
+{
+    match fault {
+        RowFault::Wide { column } => CoverFault::Wide { column },
+        RowFault::Memory => CoverFault::Memory,
     }
 }

@@ -17,7 +17,7 @@ mod stretching;
 
 pub use branch::Branch;
 pub use budget::Budget;
-pub use fault::CoverFault;
+pub use fault::{CoverFault, unmade};
 pub use judged::Judged;
 pub use judging::{judge, unsolved};
 pub use points::{divided, first_fraction, floor_of};

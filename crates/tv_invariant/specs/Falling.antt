@@ -51,11 +51,6 @@ IsUnmade r case (Solve kept fault) = ⊥
 IsUnmade r case (Wide column) = GivesBefore r case (Err (rows.Wide column))
 IsUnmade r case Memory = Unit {0}
 
--- a row that was not made is refused so
-abbrev pub IsUnmadeBy : RowFault → CoverFault → Type 0
-IsUnmadeBy (rows.Wide column) fault = fault ≡ Wide column
-IsUnmadeBy rows.Memory fault = fault ≡ Memory
-
 -- a refusal of the cover of rows that hold over a case by the row before the case
 pub record IsCoverRefusal (n : ℕ) (case : LinearCase) (now : List Candidate) (pivots splits : ℕ) (c : Candidate) (fault : CoverFault) : Type 0 where
   pub row : Linear

@@ -4,7 +4,6 @@ ghost use Rattle.std.specs.Prelude.{◌≡◌, ◌+◌, ◌-◌, ◌^◌, ◌<�
 ghost use Rattle.std.specs.Result.{IfErr};
 ghost use Rattle.tv_linear.specs.Linear.{columns as width};
 ghost use Rattle.tv_cover.specs.Targets.{AreEven};
-ghost use Rattle.tv_invariant.specs.Falling.{IsUnmadeBy};
 
 use crate::kept::Kept;
 use crate::question::is_met_by_all;
@@ -12,18 +11,8 @@ use crate::seen::Seen;
 use std::alloc::Global;
 use tv_candidates::Candidate;
 use tv_cases::{Case, before};
-use tv_farkas::{Budget, CoverFault};
-use tv_linear::{Poly, Row, RowFault};
-
-/// The refusal of a row that was not made.
-fn unmade(fault: RowFault) -> CoverFault
-    ensures { IsUnmadeBy fault result }
-{
-    match fault {
-        RowFault::Wide { column } => CoverFault::Wide { column },
-        RowFault::Memory => CoverFault::Memory,
-    }
-}
+use tv_farkas::{Budget, CoverFault, unmade};
+use tv_linear::{Poly, Row};
 
 /// Tells the candidates that a case keeps from those that it does not.
 #[derive(Drop)]

@@ -24,7 +24,7 @@ use tv_graph::{Arc, components};
 use tv_linear::{Region, push_item};
 
 /// An arc for each case, in order.
-fn arcs_of(alloc: Global, list: &[Case]) -> Result<Vec<Arc>, AllocError>
+pub fn arcs_of(alloc: Global, list: &[Case]) -> Result<Vec<Arc>, AllocError>
     ensures { IfOk result (λ v. v.items ≡ map arc_of (case_views list.now)) }
 {
     let mut arcs = Vec::with_capacity(alloc, list.len())?;

@@ -1,33 +1,15 @@
 // Whether some run of cases comes back to where it began.
 
-ghost use Rattle.std.specs.Prelude.{◌≡◌, ◌<◌, ◌↔◌, IsTrue, IfOk, length, map};
+ghost use Rattle.std.specs.Prelude.{◌<◌, ◌↔◌, IsTrue, IfOk, length};
 ghost use Rattle.tv_cases.specs.Systems.{cases_of};
 ghost use Rattle.tv_cases.specs.Views.{case_views};
 ghost use Rattle.tv_known.specs.Cycles.{HasCycle};
-ghost use Rattle.tv_lexrank.specs.First.{arc_of};
 ghost use Rattle.tv_pre.specs.Finding.{AreBetween, StaysTogether};
 
 use std::alloc::{AllocError, Global};
 use tv_cases::{Case, Cases};
-use tv_graph::{Arc, components};
-use tv_linear::push_item;
-
-/// An arc for each case, in order.
-fn arcs_of(alloc: Global, list: &[Case]) -> Result<Vec<Arc>, AllocError>
-    ensures { IfOk result (λ v. v.items ≡ map arc_of (case_views list.now)) }
-{
-    let mut arcs = Vec::with_capacity(alloc, list.len())?;
-    'cases: for case in list {
-        push_item(
-            &mut arcs,
-            Arc {
-                from: case.from,
-                to: case.to,
-            },
-        )?;
-    }
-    Ok(arcs)
-}
+use tv_graph::components;
+use tv_lexrank::arcs_of;
 
 /// Whether some case stays in its component.
 fn some_stays(list: &[Case], numbers: &[u32]) -> bool

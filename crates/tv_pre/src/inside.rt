@@ -19,12 +19,12 @@ ghost use Rattle.tv_pre.specs.Starting.{CoversOrLeaves};
 ghost use Rattle.tv_formula.specs.declared.tree.Path.TheVariants.{Every};
 
 use crate::Setting;
-use crate::narrow::narrow_tree;
 use crate::targets::{targets_at, targets_before, targets_in};
 use tv_cases::Case;
 use tv_choice::{Chosen, choose};
 use tv_cover::{Covered, cover};
 use tv_farkas::CoverFault;
+use tv_lexrank::narrow_tree;
 use tv_linear::{Choice, Cover, Piece, Poly, Region, all_padded, push_copies};
 
 /// A cover of a piece by these targets, or values in the piece that lie in none of them.

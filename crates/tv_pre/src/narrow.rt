@@ -1,12 +1,9 @@
-// The numbers of covers and of pieces.
+// The numbers of rows.
 
 ghost use Rattle.std.specs.Prelude.{All};
-ghost use Rattle.tv_farkas.specs.Refuting.{AreShort};
-ghost use Rattle.tv_farkas.specs.Trees.{TreeNumbers};
 ghost use Rattle.tv_linear.specs.Linear.{IsNarrow};
-ghost use Rattle.tv_shape.specs.Narrow.{CountNarrow, CoverNarrow};
 
-use tv_linear::{CoverTree, Row};
+use tv_linear::Row;
 
 /// Each number of a row is below 2^62 in magnitude, whatever the row.
 fn narrow_row(row: &Row)
@@ -20,35 +17,5 @@ pub(crate) fn narrow_rows(rows: &[Row])
 {
     for row in rows {
         narrow_row(row);
-    }
-}
-
-/// So is a number of 32 bits.
-fn narrow_count(count: u32)
-    ensures { CountNarrow count }
-{
-    let _count = count;
-}
-
-/// So is each number of a cover, where its multipliers are.
-pub(crate) fn narrow_tree(tree: &CoverTree)
-    requires { TreeNumbers AreShort tree.now }
-    ensures { CoverNarrow tree.now }
-{
-    match tree {
-        CoverTree::Split(row, holds, fails) => {
-            narrow_row(row);
-            narrow_tree(holds);
-            narrow_tree(fails);
-        }
-        CoverTree::Empty(_) => {}
-        CoverTree::Into {
-            target,
-            fall,
-            refutations: _,
-        } => {
-            narrow_count(*target);
-            narrow_count(*fall);
-        }
     }
 }

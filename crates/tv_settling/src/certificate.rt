@@ -15,7 +15,6 @@ ghost use Rattle.tv_settling.specs.Nodes.{Refuses};
 ghost use Rattle.tv_settling.specs.Refusals.{RefusesSafety};
 
 use crate::barrier::Barrier;
-use crate::narrow::narrow_tree;
 use crate::node::barrier_node;
 use std::alloc::Global;
 use tv_candidates::Candidate;
@@ -23,7 +22,7 @@ use tv_cases::Cases;
 use tv_cert::Claim;
 use tv_farkas::{Budget, CoverFault};
 use tv_invariant::known_pieces;
-use tv_lexrank::{proved_certificate, start_cover};
+use tv_lexrank::{narrow_tree, proved_certificate, start_cover};
 use tv_shape::Certificate;
 
 /// The certificate over rows that are known.

@@ -6,12 +6,11 @@ ghost use Rattle.tv_cases.specs.Systems.{cases_of};
 ghost use Rattle.tv_settling.specs.Nodes.{IsHoldProof, Refuses};
 
 use crate::barrier::Barrier;
-use crate::narrow::narrow_tree;
 use std::alloc::Global;
 use tv_cert::Proof;
 use tv_cover::{Emptied, empty};
 use tv_farkas::CoverFault;
-use tv_lexrank::known_at;
+use tv_lexrank::{known_at, narrow_tree};
 use tv_points::bare_proof;
 
 /// The proof at the location itself, where no whole point meets the rows that are known there.

@@ -8,7 +8,6 @@ mod certificate;
 mod ending;
 mod fault;
 mod hold;
-mod narrow;
 mod node;
 mod offered;
 mod pieces;

@@ -6,11 +6,10 @@ ghost use Rattle.tv_cases.specs.Systems.{cases_of};
 ghost use Rattle.tv_settling.specs.Nodes.{IsStepProof, Refuses};
 
 use crate::barrier::Barrier;
-use crate::narrow::narrow_tree;
 use std::alloc::Global;
 use tv_cert::Proof;
 use tv_farkas::CoverFault;
-use tv_lexrank::{RankFault, closing};
+use tv_lexrank::{RankFault, closing, narrow_tree};
 
 /// The proof that the case with a number leads into the known rows. None leads out of them.
 pub fn step_proof(alloc: Global, barrier: &Barrier, number: u32) -> Result<Proof, CoverFault>

@@ -4,7 +4,7 @@ use Rattle.tv_farkas.specs.Trees.{TreeNumbers}
 use Rattle.tv_shape.specs.Narrow.{CoverNarrow, AreNarrow}
 use Rattle.tv_farkas.proofs.StretchLemmas.{short_all}
 use Rattle.tv_lexrank.proofs.FallLemmas.{short_narrow, all_back}
-use Rattle.tv_pre.proofs.narrow.+narrow_tree.Goals as goal
+use Rattle.tv_lexrank.proofs.narrow.+narrow_tree.Goals as goal
 
 pub returns-in-Empty : goal.returns-in-Empty
 returns-in-Empty t c = subst CoverNarrow (sym c.in-Empty.is) (short_all c.in-Empty.field-0.items (subst (TreeNumbers AreShort) c.in-Empty.is c.requires))
