@@ -32,7 +32,7 @@ use Rattle.tv_cert_reader.specs.NodeGrammar.{node}
 use Rattle.tv_cert_reader.specs.CertificateGrammar.{Sides, said_line, said, certificate, IsRight, IsFirstFault}
 use Rattle.tv_cert_reader.proofs.CompleteDemands.{outline_got}
 use Rattle.tv_cert_reader.proofs.CompleteNodes.{node_read}
-use Rattle.tv_cert_reader.proofs.CompleteStated.{shaped_as, lines_as}
+use Rattle.tv_cert_reader.proofs.CompleteStated.{lines_as}
 use Rattle.tv_cert_reader.proofs.CompleteCertificates as complete
 use Rattle.tv_cert_reader.proofs.CompleteCertificates.{header_read, certificate_read_proved, certificate_read_disproved}
 use Rattle.tv_cert_reader.proofs.ExactNodes.{certificate_exact}
@@ -112,7 +112,7 @@ module _ (about : About) (some : 0 < about.system.locations) (fp fd : Property) 
       record {
         text = all_found kinds.Syntax (certificate false about.system both_sides) (certificate_exact false about.system some both_sides) (certificate_lines fd root (Disproved k values)) tt [] (certificate_read_disproved about fp fd root k values fits);
         there = piece_there about.system some both_sides (certificate_lines fd root (Disproved k values)) (node_lines fd root ++ behind) behind (outlines (pieces_of root)) k values.items (formed heads.End [] ∷ []) refl
-            (ap (λ ls. (node false about.system (stated about.tests fd)).read (ls ++ behind)) (sym (lines_as about fd root)) ∙ node_read false about.system (stated about.tests fd) root behind (shaped_as about fd root fits.nodes.shape)) refl
+            (ap (λ ls. (node false about.system (stated about.tests fd)).read (ls ++ behind)) (sym (lines_as about fd root)) ∙ node_read false about.system (stated about.tests fd) root behind fits.nodes.shape) refl
             (λ none. not_none (slice_get (pieces_at (pieces_of root) about.system.start) k) fits.said.shape.1 (got_none (slice_get (pieces_at (pieces_of root) about.system.start) k) (sym (outline_got (pieces_of root) about.system.start k) ∙ none)));
       }
 

@@ -27,6 +27,7 @@ use Rattle.tv_shape.specs.Certificates.{IsOf}
 use Rattle.tv_shape.specs.Fitting.{NodeNarrow, GoesWithin}
 use Rattle.tv_shape.specs.Narrow.{PieceNarrow}
 use Rattle.tv_shape.specs.declared.certificate.Certificate.{Certificate}
+use Rattle.tv_shape.specs.Made.{HasOwn, IsFitted}
 use Rattle.tv_points.specs.StatePieces.{state_pieces}
 use Rattle.tv_points.specs.Lines.{Line, IsShown}
 use Rattle.tv_points.specs.RunLines.{step_lines, run_lines}
