@@ -1,4 +1,4 @@
-use Rattle.std.proofs.Common.{arith, ◌≡◌, ◌<◌, ◌^◌, refl, ap, ◌∙◌}
+use Rattle.std.proofs.Common.{inr, arith, ◌≡◌, ◌<◌, ◌^◌, refl, ap, ◌∙◌}
 use Rattle.tv_cases.specs.Comparisons.{comparison_lists}
 use Rattle.tv_cases.specs.Systems.{cases_of}
 use Rattle.tv_cert.specs.AimViews.{aim_states}
@@ -37,3 +37,17 @@ returns-in-Ok-kinds_of c =
       refl,
       refl,
     )
+
+pub returns-in-None : goal.returns-in-None
+returns-in-None c =
+    let about = about_with (cases_of c.args.about.now) in
+    let f = shown c.args.claim.now c.args.verdict in
+    let aim_is : aim_states c.aim-aim.result.now ≡ stated about.tests f = c.aim-aim.ensures ∙ ap (λ n. stated (comparison_lists n) f) c.requires.variables in
+    inr (c.in-Ok.ensures about f refl aim_is)
+
+pub returns-in-Err-kinds_of : goal.returns-in-Err-kinds_of
+returns-in-Err-kinds_of c =
+    let about = about_with (cases_of c.args.about.now) in
+    let f = shown c.args.claim.now c.args.verdict in
+    let aim_is : aim_states c.aim-aim.result.now ≡ stated about.tests f = c.aim-aim.ensures ∙ ap (λ n. stated (comparison_lists n) f) c.requires.variables in
+    inr (c.in-Ok.ensures about f refl aim_is)
