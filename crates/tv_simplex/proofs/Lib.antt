@@ -1,3 +1,4 @@
+pub mod AddingLemmas
 pub mod Ring
 pub mod Sums
 pub mod Unique

@@ -5,7 +5,7 @@ use Rattle.std.proofs.lemmas.List.{length-set}
 use Rattle.tv_linear.proofs.Ring.{mul_assoc_z}
 use Rattle.tv_fraction.specs.declared.Fraction.{Fraction}
 use Rattle.tv_simplex.proofs.Ring.{zero_times, less_times}
-use Rattle.tv_simplex.specs.Ratios.{Ratio, IsRest}
+use Rattle.tv_simplex.specs.Ratios.{Ratio, IsQuotient, IsRest}
 use Rattle.tv_simplex.specs.Rows.{ratio, ratio_at, IsNarrowRatio, AreRests, IsWideRest}
 
 pub at_get : (xs : List Fraction) (j : ℕ) (d : Fraction) → j < length xs → ratio (get_or xs j d) ≡ ratio_at xs j
@@ -60,6 +60,16 @@ rest_zero g h k p e = record {
       let w = zero_times ((h.numerator *ℤ k.numerator) *ℤ g.denominator) g.denominator z in
       let a = mul_assoc_z g.numerator d g.denominator ∙ ap (λ y. g.numerator *ℤ y) (*ℤ_comm d g.denominator) in
       omega (arith, ints, s, w, a));
+}
+
+-- a fraction divided by 1 stays
+pub quotient_one : (g h : Ratio) → pos 0 <ℤ g.denominator → (h.numerator ≡ pos 1) × (h.denominator ≡ pos 1) → IsQuotient g g h
+quotient_one g h p one = record {
+  positive = p;
+  same = (
+      let under : g.denominator *ℤ h.numerator ≡ g.denominator = ap (λ z. g.denominator *ℤ z) one.0 ∙ (let o : g.denominator *ℤ pos 1 ≡ g.denominator = omega (arith, ints) in o) in
+      let over : g.numerator *ℤ h.denominator ≡ g.numerator = ap (λ z. g.numerator *ℤ z) one.1 ∙ (let o : g.numerator *ℤ pos 1 ≡ g.numerator = omega (arith, ints) in o) in
+      ap (λ z. g.numerator *ℤ z) under ∙ ap (λ z. z *ℤ g.denominator) (sym over));
 }
 
 -- what was read at the place that is reached is the old fraction

@@ -1,4 +1,4 @@
-use Rattle.std.specs.Prelude.{◌≡◌, ℕ, ◌+◌, ◌-◌, ◌<◌, ◌≤◌, List, length, Vec, ℤ, pos, ◌-ℤ◌, cond, nat_lt}
+use Rattle.std.specs.Prelude.{◌≡◌, ℕ, ◌+◌, ◌-◌, ◌*◌, ◌^◌, ◌<◌, ◌≤◌, List, length, get_or, Vec, ℤ, pos, ◌-ℤ◌, unsigned_abs, cond, nat_lt}
 use Rattle.tv_fraction.specs.declared.Fraction.{Fraction}
 use Rattle.tv_simplex.specs.Sums.{total}
 use Rattle.tv_simplex.specs.Systems.{Equations, matrix}
@@ -57,6 +57,16 @@ pub record IsFirstTable {A : Type 0} (s : Equations) (rows : List (Vec Fraction 
   pub height : length rows ≡ s.rows + 1
   pub row : (i : ℕ) → i < s.rows → IsRowOf s (matrix s i) (row_of rows i)
   pub objective : IsRowOf s (first_objective s) (row_of rows s.rows)
+
+-- z is the sum of the first n rows in the column at the slot
+pub record IsSum (s : Equations) (n k : ℕ) (z : ℤ) : Type 0 where
+  pub value : z ≡ total n (λ i. matrix s i (first_slot s k))
+  pub bound : unsigned_abs z ≤ 2 ^ 40 * n
+
+-- the sums of the first n rows in the columns outside of the artificial basis
+pub record AreSums (s : Equations) (n : ℕ) (sums : List ℤ) : Type 0 where
+  pub size : length sums ≡ s.columns + 1
+  pub each : (k : ℕ) → k < s.columns + 1 → IsSum s n k (get_or sums k (pos 0))
 
 -- the number of the objective row in the column is not narrow
 pub record IsWideObjective (s : Equations) (row column : ℕ) : Type 0 where

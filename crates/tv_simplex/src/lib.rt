@@ -5,6 +5,7 @@
 //! over a tableau of exact fractions.
 #![tactic(auto)]
 
+mod adding;
 mod answer;
 mod answering;
 mod entering;

@@ -98,21 +98,6 @@ pub fn number_at(system: &System, row: usize, column: usize) -> i128
     if column == columns + row { 1 } else { 0 }
 }
 
-/// The sum of the numbers in a column.
-fn column_sum(system: &System, column: usize) -> i128
-    requires whole { IsWhole (equations system.now) }
-    requires narrow { IsNarrowSystem (equations system.now) }
-    requires column { column ≤ system.now.columns + system.now.rows }
-    ensures value { result ≡ total system.now.rows (λ k. matrix (equations system.now) k column) }
-    ensures bound { unsigned_abs result ≤ 2 ^ 40 * system.now.rows }
-{
-    let mut sum = 0;
-    'rows: for row in 0..system.rows as usize {
-        sum += number_at(system, row, column);
-    }
-    sum
-}
-
 fn cost_at(system: &System, column: usize) -> i128
     requires whole { IsWhole (equations system.now) }
     requires column { column ≤ system.now.columns + system.now.rows }
@@ -127,13 +112,14 @@ fn cost_at(system: &System, column: usize) -> i128
     if column < columns + rows { 1 } else { 0 }
 }
 
-/// The number in a column of the objective row of the artificial basis.
-pub fn objective_at(system: &System, column: usize) -> i128
+/// The number in a column of the objective row of the artificial basis, where the column has this sum.
+pub fn objective_at(system: &System, column: usize, sum: i128) -> i128
     requires whole { IsWhole (equations system.now) }
-    requires narrow { IsNarrowSystem (equations system.now) }
     requires column { column ≤ system.now.columns + system.now.rows }
+    requires sum { sum ≡ total system.now.rows (λ k. matrix (equations system.now) k column) }
+    requires bound { unsigned_abs sum ≤ 2 ^ 40 * system.now.rows }
     ensures value { result ≡ first_objective (equations system.now) column }
     ensures bound { unsigned_abs result < 2 ^ 80 }
 {
-    cost_at(system, column) - column_sum(system, column)
+    cost_at(system, column) - sum
 }

@@ -1,7 +1,7 @@
 // Rows of fractions, and what an exchange does to them.
 
 ghost use Rattle.std.specs.Prelude.{◌≡◌, ℕ, ◌<◌, length, pos, ◌<ℤ◌, IsTrue, ◌↔◌, IfOk, MatchOption, Option, None, slice_set};
-ghost use Rattle.tv_fraction.specs.Fraction.{numerator_of, IsNarrow};
+ghost use Rattle.tv_fraction.specs.Fraction.{numerator_of, denominator_of, IsNarrow};
 ghost use Rattle.tv_simplex.specs.Ratios.{IsQuotient, IsRest};
 ghost use Rattle.tv_simplex.specs.Rows.{ratio, ratio_at, row_of, IsNarrowRatio, IsNarrowRow, AreQuotients, AreRests, IsWideQuotient, IsWideRest};
 ghost use Rattle.tv_simplex.specs.Chosen.{IsAdded, IsNonzero, AreNonzero};
@@ -49,6 +49,13 @@ pub fn is_zero(fraction: &Fraction) -> bool
     fraction.numerator() == 0
 }
 
+/// Whether the fraction is 1.
+fn is_one(fraction: &Fraction) -> bool
+    ensures { IsTrue result ↔ (numerator_of fraction.now ≡ pos 1) × (denominator_of fraction.now ≡ pos 1) }
+{
+    fraction.numerator() == 1 && fraction.denominator() == 1
+}
+
 /// A fraction less a product of two.
 fn rest(fraction: &Fraction, factor: &Fraction, pivot: &Fraction) -> Fraction
     requires fraction { IsNarrow fraction.now }
@@ -59,7 +66,8 @@ fn rest(fraction: &Fraction, factor: &Fraction, pivot: &Fraction) -> Fraction
     mul_sub(fraction, factor, pivot)
 }
 
-/// Divides the row, up to the first place where what comes of it is not narrow.
+/// Divides the row, up to the first place where what comes of it is not narrow. It stays as it is where the divisor
+/// is 1.
 pub fn divide_row(row: &mut [Fraction], divisor: &Fraction) -> Option<usize>
     requires row { IsNarrowRow row.old }
     requires divisor { IsNarrow divisor.now }
@@ -68,6 +76,9 @@ pub fn divide_row(row: &mut [Fraction], divisor: &Fraction) -> Option<usize>
     ensures divided { result ≡ None → IsNarrowRow row.new × AreQuotients row.old (ratio divisor.now) row.new }
     ensures wide { MatchOption result (Unit {0}) (λ j. IsWideQuotient row.old (ratio divisor.now) j) }
 {
+    if is_one(divisor) {
+        return None;
+    }
     'places: for j in 0..row.len() {
         let old = fraction_at(row, j);
         let new = quotient(&old, divisor);

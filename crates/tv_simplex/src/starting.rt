@@ -11,6 +11,7 @@ ghost use Rattle.tv_simplex.specs.Starting.{AreFirstSlots, AreFirstPlaces, IsRow
 ghost use Rattle.tv_simplex.specs.Starting.{first_place as spec_place};
 
 use crate::System;
+use crate::adding::{column_sums, slot_column, sum_at};
 use crate::numbers::{number_at, objective_at};
 use crate::stop::Stop;
 use crate::table::Place;
@@ -28,20 +29,6 @@ pub fn artificial_basis(alloc: Global, system: &System) -> Result<Vec<u32>, Allo
         push_item(&mut basis, system.columns + row)?;
     }
     Ok(basis)
-}
-
-/// The column at a slot outside of the artificial basis: those of the system come first, and then the right side.
-fn slot_column(system: &System, slot: usize) -> usize
-    requires whole { IsWhole (equations system.now) }
-    requires slot { slot ≤ system.now.columns }
-    ensures is { result ≡ first_slot (equations system.now) slot }
-    ensures within { result ≤ system.now.columns + system.now.rows }
-{
-    if slot < system.columns as usize {
-        slot
-    } else {
-        system.columns as usize + system.rows as usize
-    }
 }
 
 /// The columns outside of the artificial basis.
@@ -117,10 +104,11 @@ fn objective_row(alloc: Global, system: &System) -> Result<Vec<Fraction>, Stop>
         (λ v. IsRowOf (equations system.now) (first_objective (equations system.now)) v.items)
         (λ stop. IsStartStop (equations system.now) stop) }
 {
+    let sums = column_sums(alloc, system)?;
     let mut fractions = Vec::with_capacity(alloc, system.columns as usize + 1)?;
     'slots: for slot in 0..system.columns as usize + 1 {
         let column = slot_column(system, slot);
-        let entry = whole(objective_at(system, column));
+        let entry = whole(objective_at(system, column, sum_at(&sums, slot)));
         if !entry.is_narrow() {
             return Err(Stop::Wide {
                 row: system.rows as usize,

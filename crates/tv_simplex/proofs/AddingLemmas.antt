@@ -1,0 +1,39 @@
+use Rattle.std.proofs.Common.{◌≡◌, ◌⊎◌, inl, inr, ℕ, suc, ◌+◌, ◌*◌, ◌^◌, ◌<◌, ◌≤◌, List, length, get_or, set, arith, sym, ap, ◌∙◌, subst, ℤ, pos, ◌+ℤ◌, unsigned_abs}
+use Rattle.std.proofs.lemmas.List.{length-set, get_or-set_same, get_or-set_other}
+use Rattle.tv_simplex.specs.Sums.{total}
+use Rattle.tv_simplex.specs.Systems.{Equations, matrix}
+use Rattle.tv_simplex.specs.Starting.{IsSum, AreSums, first_slot}
+
+-- the sums to which the numbers of row n were added at the first k slots
+pub record SumsTo (s : Equations) (n k : ℕ) (sums : List ℤ) : Type 0 where
+  pub size : length sums ≡ s.columns + 1
+  pub added : (j : ℕ) → j < k → j < s.columns + 1 → IsSum s (n + 1) j (get_or sums j (pos 0))
+  pub left : (j : ℕ) → k ≤ j → j < s.columns + 1 → IsSum s n j (get_or sums j (pos 0))
+
+total_more : (n : ℕ) (f : ℕ → ℤ) → total n f +ℤ f n ≡ total (n + 1) f
+total_more n f = let e : suc n ≡ n + 1 = omega arith in ap (λ k. total k f) e
+
+last_or_below : (n j : ℕ) → j < n + 1 → (j ≡ n) ⊎ (j < n)
+last_or_below n j h = grind arith
+
+pub one_added : (s : Equations) (n k : ℕ) (sums : List ℤ) (z : ℤ) → k < length sums → SumsTo s n k sums → z ≡ get_or sums k (pos 0) +ℤ matrix s n (first_slot s k) → unsigned_abs z ≤ 2 ^ 40 * (n + 1) → SumsTo s n (k + 1) (set sums k z)
+one_added s n k sums z k_in h e bound = record {
+  size = length-set sums k z ∙ h.size;
+  added = λ j below l. elim (last_or_below k j below) [
+    | inl at ↦ subst (λ i. IsSum s (n + 1) i (get_or (set sums k z) i (pos 0))) (sym at) (subst (λ x. IsSum s (n + 1) k x) (sym (get_or-set_same sums k z (pos 0) k_in)) record {
+      value = e ∙ ap (λ x. x +ℤ matrix s n (first_slot s k)) (h.left k (omega arith) (let w = h.size in omega (arith, w, k_in))).value ∙ total_more n (λ i. matrix s i (first_slot s k));
+      bound = bound;
+    })
+    | inr before ↦ subst (λ x. IsSum s (n + 1) j x) (sym (get_or-set_other sums k j z (pos 0) (λ w. absurd (omega (arith, w, before))))) (h.added j before l)
+  ];
+  left = λ j from l. subst (λ x. IsSum s n j x) (sym (get_or-set_other sums k j z (pos 0) (λ w. absurd (omega (arith, w, from))))) (h.left j (omega (arith, from)) l);
+}
+
+-- what is read of the sums is the sum
+pub sum_read : (s : Equations) (sums read : List ℤ) (k j : ℕ) (z : ℤ) → AreSums s s.rows sums → read ≡ sums → k < s.columns + 1 → j ≡ first_slot s k → z ≡ get_or read k (pos 0) → (z ≡ total s.rows (λ i. matrix s i j)) × (unsigned_abs z ≤ 2 ^ 40 * s.rows)
+sum_read s sums read k j z h e l is at =
+    let here = h.each k l in
+    let same : z ≡ get_or sums k (pos 0) = at ∙ ap (λ x. get_or x k (pos 0)) e in (
+      same ∙ here.value ∙ ap (λ c. total s.rows (λ i. matrix s i c)) (sym is),
+      subst (λ x. unsigned_abs x ≤ 2 ^ 40 * s.rows) (sym same) here.bound,
+    )

@@ -1,0 +1,72 @@
+// The sums of the columns, row by row.
+
+ghost use Rattle.std.specs.Prelude.{◌≡◌, ◌+◌, ◌*◌, ◌^◌, ◌<◌, ◌≤◌, length, get_or, pos, ◌+ℤ◌, unsigned_abs, IfOk};
+ghost use Rattle.tv_simplex.specs.Systems.{IsWhole};
+ghost use Rattle.tv_simplex.specs.Outcomes.{IsNarrow, IsNarrowSystem};
+ghost use Rattle.tv_simplex.specs.Views.{equations};
+ghost use Rattle.tv_simplex.specs.Starting.{AreSums, first_slot};
+
+use crate::System;
+use crate::numbers::number_at;
+use std::alloc::{AllocError, Global};
+
+/// The column at a slot outside of the artificial basis: those of the system come first, and then the right side.
+pub fn slot_column(system: &System, slot: usize) -> usize
+    requires whole { IsWhole (equations system.now) }
+    requires slot { slot ≤ system.now.columns }
+    ensures is { result ≡ first_slot (equations system.now) slot }
+    ensures within { result ≤ system.now.columns + system.now.rows }
+{
+    if slot < system.columns as usize {
+        slot
+    } else {
+        system.columns as usize + system.rows as usize
+    }
+}
+
+/// The sum of the numbers before a row, and the one there.
+fn with_number(sum: i128, number: i128, row: usize) -> i128
+    requires sum { unsigned_abs sum ≤ 2 ^ 40 * row }
+    requires number { IsNarrow number }
+    requires few { row < 2 ^ 32 }
+    ensures value { result ≡ sum +ℤ number }
+    ensures bound { unsigned_abs result ≤ 2 ^ 40 * (row + 1) }
+{
+    sum + number
+}
+
+/// The sum at a slot.
+pub fn sum_at(sums: &[i128], slot: usize) -> i128
+    requires { slot < length sums.now }
+    ensures { result ≡ get_or sums.now slot (pos 0) }
+{
+    sums[slot]
+}
+
+/// Adds a number of the row to each sum.
+fn add_row(system: &System, row: usize, sums: &mut [i128])
+    requires whole { IsWhole (equations system.now) }
+    requires narrow { IsNarrowSystem (equations system.now) }
+    requires row { row < system.now.rows }
+    requires sums { AreSums (equations system.now) row sums.old }
+    ensures { AreSums (equations system.now) (row + 1) sums.new }
+{
+    'slots: for slot in 0..sums.len() {
+        let number = number_at(system, row, slot_column(system, slot));
+        let sum = with_number(sum_at(sums, slot), number, row);
+        sums[slot] = sum;
+    }
+}
+
+/// The sums of the columns outside of the artificial basis. The system is read row by row, as it is held.
+pub fn column_sums(alloc: Global, system: &System) -> Result<Vec<i128>, AllocError>
+    requires whole { IsWhole (equations system.now) }
+    requires narrow { IsNarrowSystem (equations system.now) }
+    ensures { IfOk result (λ sums. AreSums (equations system.now) system.now.rows sums.items) }
+{
+    let mut sums = vec![in alloc; 0i128; system.columns as usize + 1]?;
+    'rows: for row in 0..system.rows as usize {
+        add_row(system, row, &mut sums);
+    }
+    Ok(sums)
+}
