@@ -2,19 +2,23 @@
 # How long the built program takes to settle linear equations and to refute rows, and how much memory: systems of small whole numbers,
 # dense and sparse, flows in networks, whose tableaux stay narrow, rows of differences around a cycle, and systems with as many entries
 # as there may be. The best of 3 runs, in which its start and the reading of the text are counted, and the least time of a processor that
-# one of them took, beside that of a run that tries no basis. The word tells how many bases are tried, 4,000 if left out. Where glpsol is
-# installed, it solves the same equations by exact arithmetic.
+# one of them took, beside that of a run that tries no basis. The word tells how many bases are tried, 4,000 if left out. Those of glpsol,
+# QSopt_ex and z3 that are installed solve the same equations by exact arithmetic, started in the same way and given the entries that are
+# not 0: the least time of a processor that each took, and how many times this program's it is, so that above 1 this program is the faster.
 # Build it first: (cd crates/timing && rt run)
 set -eu
 cd "$(dirname "$0")/.."
 PYTHONPATH=bench exec python3 -B - crates/timing/out/timing "${1:-4000}" <<'END_OF_PROGRAM'
-import random, resource, shutil, subprocess, sys, tempfile, time
+import math, random, resource, shutil, signal, sys, tempfile
 from measure import best, run
 
 PROGRAM, PIVOTS = sys.argv[1], sys.argv[2]
 MOST_MEMORY = 4 << 30
 ROOM = 60
 resource.setrlimit(resource.RLIMIT_AS, (MOST_MEMORY, MOST_MEMORY))
+# Each solver is stopped after so many seconds of a processor; this script handles the signal and goes on.
+signal.signal(signal.SIGXCPU, lambda *_: None)
+resource.setrlimit(resource.RLIMIT_CPU, (ROOM, resource.RLIM_INFINITY))
 
 
 def product(rows, values):
@@ -68,22 +72,47 @@ def term(entries):
     return " ".join(f"{entry:+d} x{number}" for number, entry in enumerate(entries) if entry) or "0 x0"
 
 
-def other_solver(table, right):
-    """How long glpsol takes for the equations, and what it says."""
-    with tempfile.NamedTemporaryFile("w", suffix=".lp") as file:
-        file.write("Minimize\n o: 0 x0\nSubject To\n")
-        file.writelines(f" r{number}: {term(row)} = {last}\n" for number, (row, last) in enumerate(zip(table, right)))
-        file.write("End\n")
+def linear_program(table, right):
+    """The equations with nothing to minimize, as glpsol and QSopt_ex read them."""
+    yield "Minimize\n o: 0 x0\nSubject To\n"
+    for number, (row, last) in enumerate(zip(table, right)):
+        yield f" r{number}: {term(row)} = {last}\n"
+    yield "End\n"
+
+
+def signed(number):
+    return f"(- {-number})" if number < 0 else str(number)
+
+
+def assertions(table, right):
+    """The equations as z3 reads them."""
+    yield "(set-logic QF_LRA)\n"
+    for column in range(len(table[0])):
+        yield f"(declare-const x{column} Real)(assert (>= x{column} 0))\n"
+    for row, last in zip(table, right):
+        products = " ".join(f"(* {signed(entry)} x{number})" for number, entry in enumerate(row) if entry)
+        yield f"(assert (= (+ {products} 0 0) {signed(last)}))\n"
+    yield "(check-sat)\n"
+
+
+# A solver's name, its words before the name of the file, how the file ends, and what is written there.
+OTHERS = [
+    ("glpsol", ["glpsol", "--exact", "--lp"], ".lp", linear_program),
+    ("QSopt_ex", ["esolver", "-L"], ".lp", linear_program),
+    ("z3", ["z3"], ".smt2", assertions),
+]
+
+
+def processor_of(words, ending, made, table, right):
+    """The least time of a processor that another solver takes in three runs, or in one that takes long; None where it fails."""
+    with tempfile.NamedTemporaryFile("w", suffix=ending) as file:
+        file.writelines(made(table, right))
         file.flush()
-        times = []
-        for _ in range(3):
-            before = time.monotonic()
-            try:
-                ended = subprocess.run(["glpsol", "--exact", "--lp", file.name], capture_output=True, text=True, timeout=ROOM)
-            except subprocess.TimeoutExpired:
-                return ROOM, f"not within {ROOM} s"
-            times.append(time.monotonic() - before)
-    return min(times), "none" if "NO" in ended.stdout and "FEASIBLE" in ended.stdout else "solution"
+        command = [*words, file.name]
+        one = run(command, "/dev/null")
+        if one.seconds < 2:
+            one = best(command, "/dev/null", 3)
+    return one.processor if one.status == 0 else None
 
 
 SYSTEMS = [
@@ -105,9 +134,11 @@ SYSTEMS = [
     ("flow 100,000 x 40", "solving", lambda: flow(100_000, 40, True, 12)),
 ]
 
-compares = shutil.which("glpsol") is not None
-if not compares:
-    print("glpsol is not installed: times of this program alone")
+others = [other for other in OTHERS if shutil.which(other[1][0])]
+for name, words, *_ in OTHERS:
+    if not shutil.which(words[0]):
+        print(f"{name} is not installed")
+ratios = {name: [] for name, *_ in others}
 for name, word, made in SYSTEMS:
     table, right = made()
     with tempfile.NamedTemporaryFile("w") as file:
@@ -118,8 +149,16 @@ for name, word, made in SYSTEMS:
     answer = one.lines[0] or f"status {one.status >> 8}"
     line = f"{name:28s} {answer:22s} {one.seconds * 1000:8.1f} ms, {one.processor * 1000:8.1f} ms of a processor"
     line += f" ({reading * 1000:8.1f} ms where no basis is tried)  {one.memory:5d} MB"
-    if compares and word == "solving":
-        other, said = other_solver(table, right)
-        line += f"  glpsol {said} {other * 1000:9.1f} ms, ratio {one.seconds / other:6.2f}"
+    for other, words, ending, written in others if word == "solving" else []:
+        took = processor_of(words, ending, written, table, right)
+        if took is None:
+            line += f"  {other} fails, or takes more than {ROOM} s"
+        else:
+            ratios[other].append(took / one.processor)
+            line += f"  {other} {took * 1000:9.1f} ms, {ratios[other][-1]:6.2f} times"
     print(line, flush=True)
+for name, each in ratios.items():
+    if each:
+        mean = math.exp(sum(map(math.log, each)) / len(each))
+        print(f"{name}: {mean:.2f} times in the geometric mean, {min(each):.2f} at least")
 END_OF_PROGRAM
