@@ -22,6 +22,12 @@ LOCK = ("START: 0; FROM: 0; l := 0; f := 0; TO: 1; FROM: 1; assume(l == 0); l :=
         "FROM: 3; assume(l != 1); TO: bad; FROM: 3; assume(l == 1); l := 0; TO: 1; FROM: bad; TO: bad;")
 LOOPS = ("START: 0; FROM: 0; assume(x > 0); x := x - 1; TO: 0; FROM: 0; assume(x <= 0); TO: 1; "
          "FROM: 1; assume(y > 0); y := y - 1; TO: 1;")
+LIFT = ("START: idle; FROM: idle; way := nondet(); TO: moving; FROM: moving; assume(way > 0 && floor < 9); floor := floor + 1; TO: moving; "
+        "FROM: moving; assume(way <= 0 && floor > 0); floor := floor - 1; TO: moving; FROM: moving; assume(way > 0 && floor >= 9); TO: open; "
+        "FROM: moving; assume(way <= 0 && floor <= 0); TO: open; FROM: open; TO: idle;")
+ENDING = "START: 0; FROM: 0; assume(x > 0); x := x + y; y := y - 1; TO: 0; FROM: 0; assume(x <= 0); TO: 1;"
+CHAIN = "START: 0; " + " ".join(f"FROM: {here}; assume(x > 0); x := x - 1; TO: {here}; FROM: {here}; assume(x <= 0); x := y; TO: {here + 1};"
+                                for here in range(10))
 QUESTIONS = [
     ("grows by y", "START: 0; FROM: 0; assume(x > 0); x := x + y; TO: 0;", ["--termination"]),
     ("falls by two", "START: 0; FROM: 0; assume(x != 0); x := x - 2; TO: 0;", ["--termination"]),
@@ -44,6 +50,9 @@ QUESTIONS = [
     ("a lock with a flag", LOCK, ["--safety", "bad"]),
     ("both loops end", LOOPS, ["--ctl", "[AG]([EF](y <= 0))"]),
     ("from any number to 0", open("examples/countdown.t2").read(), ["--ctl", "[EF](x <= 0)"]),
+    ("a lift opens", LIFT, ["--ctl", "[AG](!at(moving) || [AF](at(open)))"]),
+    ("a sum falls in the end", ENDING, ["--ctl", "[EF](at(1))"]),
+    ("ten loops in a row", CHAIN, ["--ctl", "[EF](at(10))"]),
 ]
 
 

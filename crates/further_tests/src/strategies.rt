@@ -44,6 +44,26 @@ const LEAKING: &str =
 const LIFT: &str =
     "START: idle; FROM: idle; goal := nondet(); assume(goal >= 0); TO: moving; FROM: moving; assume(floor < goal); floor := floor + 1; TO: moving; FROM: moving; assume(floor > goal); floor := floor - 1; TO: moving; FROM: moving; assume(floor == goal); TO: open; FROM: open; TO: idle; FROM: open; TO: open;";
 
+/// A lift whose direction says whether it goes up or down until it opens.
+const DIRECTED: &str =
+    "START: idle; FROM: idle; way := nondet(); TO: moving; FROM: moving; assume(way > 0 && floor < 9); floor := floor + 1; TO: moving; FROM: moving; assume(way <= 0 && floor > 0); floor := floor - 1; TO: moving; FROM: moving; assume(way > 0 && floor >= 9); TO: open; FROM: moving; assume(way <= 0 && floor <= 0); TO: open; FROM: open; TO: idle;";
+
+/// Falls by a number that falls: at first it may grow.
+const FALLING: &str =
+    "START: 0; FROM: 0; assume(x > 0); x := x + y; y := y - 1; TO: 0; FROM: 0; assume(x <= 0); TO: 1; FROM: 1; TO: 1;";
+
+/// Nine loops, one after the other.
+const LOOPS: &str =
+    "START: 0; FROM: 0; assume(x > 0); x := x - 1; TO: 0; FROM: 0; assume(x <= 0); x := y; TO: 1; \
+     FROM: 1; assume(x > 0); x := x - 1; TO: 1; FROM: 1; assume(x <= 0); x := y; TO: 2; \
+     FROM: 2; assume(x > 0); x := x - 1; TO: 2; FROM: 2; assume(x <= 0); x := y; TO: 3; \
+     FROM: 3; assume(x > 0); x := x - 1; TO: 3; FROM: 3; assume(x <= 0); x := y; TO: 4; \
+     FROM: 4; assume(x > 0); x := x - 1; TO: 4; FROM: 4; assume(x <= 0); x := y; TO: 5; \
+     FROM: 5; assume(x > 0); x := x - 1; TO: 5; FROM: 5; assume(x <= 0); x := y; TO: 6; \
+     FROM: 6; assume(x > 0); x := x - 1; TO: 6; FROM: 6; assume(x <= 0); x := y; TO: 7; \
+     FROM: 7; assume(x > 0); x := x - 1; TO: 7; FROM: 7; assume(x <= 0); x := y; TO: 8; \
+     FROM: 8; assume(x > 0); x := x - 1; TO: 8; FROM: 8; assume(x <= 0); x := y; TO: 9;";
+
 /// A program, a property of it, and what is said: counters.
 const COUNTING: &[(&str, &str, Said)] = &[
     (COUNTDOWN, "[EF](x <= 0)", Said::Proved),
@@ -137,6 +157,19 @@ const EVERY: &[(&str, &str, Said)] = &[
     ),
 ];
 
+/// The same of every path through loops that change with a variable, or follow one another.
+const PARTED: &[(&str, &str, Said)] = &[
+    (
+        DIRECTED,
+        "[AG](!at(moving) || [AF](at(open)))",
+        Said::Proved,
+    ),
+    (DIRECTED, "[AG]([AF](at(idle)))", Said::Proved),
+    (FALLING, "[AF](at(1))", Said::Proved),
+    (LOOPS, "[AF](at(9))", Said::Proved),
+    (LOOPS, "[EF](at(9))", Said::Proved),
+];
+
 /// Compares what is said of each row.
 fn all_are_said(rt: &HostRuntime, rows: &[(&str, &str, Said)]) -> Result<(), Fail> {
     for (program, property, wanted) in rows {
@@ -171,4 +204,9 @@ fn cycles_go_on_for_ever(rt: HostRuntime) -> Result<(), Fail> {
 #[test]
 fn every_path_comes_to_the_end(rt: HostRuntime) -> Result<(), Fail> {
     all_are_said(&rt, EVERY)
+}
+
+#[test]
+fn every_path_leaves_loops_that_are_parted(rt: HostRuntime) -> Result<(), Fail> {
+    all_are_said(&rt, PARTED)
 }

@@ -28,6 +28,9 @@ const APART: &str = "START: 0; FROM: 0; x := x; TO: 1; FROM: 2; TO: 2;";
 /// Falls by a number that falls.
 const FALLING: &str = "START: 0; FROM: 0; assume(x > 0); x := x + y; y := y - 1; TO: 0;";
 
+/// Falls over each two steps by 1, but in between it may grow by any number.
+const TURNING: &str = "START: 0; FROM: 0; assume(x > 0); x := x + y; y := 0 - y - 1; TO: 0;";
+
 /// Draws half of a number, if there is one.
 const HALF: &str = "START: 0; FROM: 0; y := nondet(); assume(2*y == x); TO: 1;";
 
@@ -174,7 +177,7 @@ fn pieces_that_nothing_enters_are_left_out(rt: HostRuntime) -> Result<(), Fail> 
 fn formulas_are_left_open(rt: HostRuntime) -> Result<(), Fail> {
     let words = ["--ctl", "[AF](x <= 0)"];
     let lines = "Unknown template\nsubformula 0\n";
-    assert!(rt; says_of(rt.alloc(), &words, &[FALLING], lines, Status::Unknown)?);
+    assert!(rt; says_of(rt.alloc(), &words, &[TURNING], lines, Status::Unknown)?);
     let words = ["--ctl", "[EX](true)"];
     let lines = "Unknown template\ndraw case 0\n";
     assert!(rt; says_of(rt.alloc(), &words, &[HALF], lines, Status::Unknown)?);
@@ -185,6 +188,7 @@ fn formulas_are_left_open(rt: HostRuntime) -> Result<(), Fail> {
 #[test]
 fn a_formula_is_settled_by_a_further_search(rt: HostRuntime) -> Result<(), Fail> {
     assert!(rt; is_settled(rt.alloc(), LOOP, "[EF](x <= 0)", "Proved\n", Status::Proved)?);
+    assert!(rt; is_settled(rt.alloc(), FALLING, "[AF](x <= 0)", "Proved\n", Status::Proved)?);
     Ok(())
 }
 

@@ -12,3 +12,4 @@ pub(crate) mod sides;
 pub(crate) mod stages;
 pub(crate) mod stopping;
 pub(crate) mod taking;
+pub(crate) mod terms;

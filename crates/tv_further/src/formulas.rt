@@ -2,6 +2,7 @@
 
 pub(crate) mod atom_part;
 pub(crate) mod cycles_within;
+pub(crate) mod falling_choice;
 pub(crate) mod fixed_part;
 pub(crate) mod formula_part;
 pub(crate) mod found;
@@ -14,3 +15,4 @@ pub(crate) mod next_part;
 pub(crate) mod ranked_regions;
 pub(crate) mod region_part;
 pub(crate) mod until_by_ranks;
+pub(crate) mod until_splits;

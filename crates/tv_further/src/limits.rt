@@ -101,8 +101,10 @@ pub(crate) const STRATEGY_CUTS: u32 = 4;
 
 pub(crate) const STRATEGY_SPLITS: u32 = 8;
 
-/// How often areas from which every path is to come to the end are cut.
+/// How often areas from which every path is to come to the end are cut, and how often they are split.
 pub(crate) const STEP_CUTS: u32 = 4;
+
+pub(crate) const STEP_SPLITS: u32 = 4;
 
 /// How many closed walks are tried inside of a part of a formula, and after how many calls of the solver none is begun.
 pub(crate) const TRIED_CYCLES: usize = 24;

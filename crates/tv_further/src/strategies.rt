@@ -1,5 +1,6 @@
 // Until over some path, by strategies.
 
+pub(crate) mod favouring;
 pub(crate) mod link;
 pub(crate) mod plan;
 pub(crate) mod strategy;

@@ -2,8 +2,9 @@
 
 use crate::areas::area::{Area, both, denials};
 use crate::limits::AREAS;
+use crate::question::Question;
 use crate::rows::combining::is_constant;
-use crate::rows::solving::{Effort, shown};
+use crate::rows::solving::{Effort, denied, shown};
 use std::alloc::{AllocError, Global};
 use tv_linear::{Row, copies};
 
@@ -152,4 +153,29 @@ pub(crate) fn is_inside_any(
         }
     }
     Ok(false)
+}
+
+/// The two parts of an area, where the row is met and where it is not; `None` where one of them is empty.
+pub(crate) fn halves_of(
+    question: &Question,
+    area: &Area,
+    row: &Row,
+    effort: &mut Effort,
+) -> Result<Option<(Vec<Row>, Vec<Row>)>, AllocError> {
+    let alloc = question.alloc;
+    let columns = question.about.variables() as usize;
+    let Some(denial) = denied(alloc, row)? else {
+        return Ok(None);
+    };
+    let mut rows = Vec::new(alloc);
+    rows.push(row.copy(alloc)?)?;
+    let Some(met) = both(alloc, columns, &area.rows, &rows, effort)? else {
+        return Ok(None);
+    };
+    let mut rows = Vec::new(alloc);
+    rows.push(denial)?;
+    match both(alloc, columns, &area.rows, &rows, effort)? {
+        None => Ok(None),
+        Some(other) => Ok(Some((met, other))),
+    }
 }

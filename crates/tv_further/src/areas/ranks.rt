@@ -1,12 +1,13 @@
 // Ranks of areas, so that over each passage a component falls before which none grows. The terms that are tried are those that the rows
-// of the areas and the guards keep from falling below 0.
+// of the areas and the guards keep from falling below 0. Areas that reach one another are a part, and each part has a term of its own in
+// each component, so the number of components grows with the loops inside of one another, and not with those one after another.
 
 use crate::areas::area::Area;
 use crate::areas::passage::{Effect, Passage, effect_of, widened_row};
 use crate::areas::reach::Reach;
-use crate::graphs::expanding::is_without_draws;
+use crate::areas::terms::terms_of;
 use crate::graphs::proving::number_row;
-use crate::limits::{RANK_ROUNDS, RANK_TERMS};
+use crate::limits::RANK_ROUNDS;
 use crate::question::Question;
 use crate::rows::combining::{is_constant, less, put_in};
 use crate::rows::solving::{Effort, is_known};
@@ -22,73 +23,6 @@ pub(crate) enum Change {
     Stays,
     /// It falls, from a value that is not below 0.
     Falls,
-}
-
-/// Puts the opposite of the row at the end of the terms, unless it is among them.
-fn push_term(
-    alloc: Global,
-    columns: usize,
-    row: &Row,
-    terms: &mut Vec<Row>,
-) -> Result<(), AllocError> {
-    let Some(zero) = number_row(alloc, columns, 0)? else {
-        return Ok(());
-    };
-    let Some(term) = less(alloc, columns, &zero, row)? else {
-        return Ok(());
-    };
-    if is_constant(&term) {
-        return Ok(());
-    }
-    add_term(terms, term)?;
-    Ok(())
-}
-
-/// Adds the term, unless there are too many. Of two that differ in the constant alone the greater is kept, which is the later below 0.
-fn add_term(terms: &mut Vec<Row>, term: Row) -> Result<(), AllocError> {
-    let same = terms
-        .iter()
-        .position(|other| other.coefficients() == term.coefficients());
-    if let Some(place) = same
-        && let Some(other) = terms.get_mut(place)
-    {
-        if other.constant() < term.constant() {
-            *other = term;
-        }
-        return Ok(());
-    }
-    if terms.len() < RANK_TERMS {
-        terms.push(term)?;
-    }
-    Ok(())
-}
-
-/// Puts the opposites of the rows that speak of the variables alone at the end of the terms.
-pub(crate) fn push_terms(
-    alloc: Global,
-    columns: usize,
-    rows: &[Row],
-    terms: &mut Vec<Row>,
-) -> Result<(), AllocError> {
-    for row in rows {
-        if is_without_draws(row, columns) {
-            push_term(alloc, columns, row, terms)?;
-        }
-    }
-    Ok(())
-}
-
-/// The terms that are tried as ranks.
-pub(crate) fn terms_of(question: &Question, areas: &[Area]) -> Result<Vec<Row>, AllocError> {
-    let columns = question.about.variables() as usize;
-    let mut terms = Vec::new(question.alloc);
-    for case in question.about.list() {
-        push_terms(question.alloc, columns, &case.guards.rows, &mut terms)?;
-    }
-    for area in areas {
-        push_terms(question.alloc, columns, &area.rows, &mut terms)?;
-    }
-    Ok(terms)
 }
 
 /// The row plus 1.
@@ -204,6 +138,30 @@ pub(crate) fn steady_change(
     }
 }
 
+/// Whether the value of the row is the same before the step and after it.
+pub(crate) fn is_steady(
+    question: &Question,
+    effect: &Effect,
+    row: &Row,
+) -> Result<bool, AllocError> {
+    match growth(question, effect, row, row)? {
+        None => Ok(false),
+        Some(more) => Ok(is_constant(&more) && more.constant() == 0),
+    }
+}
+
+/// The row that is met where the value of the term falls over the step; `None` where that is so everywhere, or nowhere.
+pub(crate) fn falling_row(
+    question: &Question,
+    effect: &Effect,
+    term: &Row,
+) -> Result<Option<Row>, AllocError> {
+    match growth(question, effect, term, term)? {
+        Some(more) if !is_constant(&more) => raised(question.alloc, effect.width, &more),
+        _ => Ok(None),
+    }
+}
+
 /// The places of the passages left inside the part of an area over which the term falls; `None` where it may grow over one of them.
 fn falling_in(
     question: &Question,
@@ -276,58 +234,27 @@ impl Ranks {
         Ok(())
     }
 
-    /// Adds the term as a rank of the areas in the part of one of them, and 0 of the others.
-    fn add_term(
+    /// Adds a rank: of each area the term that falls in its part, and 0 where none does.
+    fn add_terms(
         &mut self,
         alloc: Global,
         columns: usize,
-        reach: &Reach,
-        area: usize,
-        term: &Row,
+        tried: &Tried,
+        parts: &[Falling],
     ) -> Result<(), AllocError> {
         self.count = self.count.saturating_add(1);
-        for (other, ranks) in self.rows.iter_mut().enumerate() {
-            if reach.are_joined(area, other) {
-                ranks.push(term.copy(alloc)?)?;
-            } else if let Some(zero) = number_row(alloc, columns, 0)? {
-                ranks.push(zero)?;
+        for (area, ranks) in self.rows.iter_mut().enumerate() {
+            match tried.term_at(parts, area) {
+                Some(term) => ranks.push(term.copy(alloc)?)?,
+                None => {
+                    if let Some(zero) = number_row(alloc, columns, 0)? {
+                        ranks.push(zero)?;
+                    }
+                }
             }
         }
         Ok(())
     }
-}
-
-/// The first passage over which no rank falls yet.
-fn first_left(passages: &[Passage]) -> Option<usize> {
-    for passage in passages {
-        if passage.fall == 0 {
-            return Some(passage.from);
-        }
-    }
-    None
-}
-
-/// Adds the first of the terms that falls over a passage left in the part of the area and grows over none; whether there is one.
-fn add_falling(
-    question: &Question,
-    tried: &Tried,
-    area: usize,
-    passages: &mut [Passage],
-    ranks: &mut Ranks,
-    effort: &mut Effort,
-) -> Result<bool, AllocError> {
-    let columns = question.about.variables() as usize;
-    let reach = tried.reach;
-    for term in tried.terms {
-        if let Some(falling) = falling_in(question, passages, reach, area, term, effort)?
-            && !falling.is_empty()
-        {
-            ranks.add_term(question.alloc, columns, reach, area, term)?;
-            set_falls(passages, &falling, ranks.count);
-            return Ok(true);
-        }
-    }
-    Ok(false)
 }
 
 /// The terms that are tried, over the passages that are left.
@@ -335,6 +262,104 @@ fn add_falling(
 struct Tried<'a> {
     terms: &'a [Row],
     reach: &'a Reach,
+}
+
+/// A term that falls in a part of the areas, whose areas reach one another.
+#[derive(Drop)]
+struct Falling {
+    /// An area of the part.
+    area: usize,
+    /// The place of the term.
+    term: usize,
+    /// The places of the passages over which it falls.
+    passages: Vec<usize>,
+}
+
+impl Tried<'_> {
+    /// The term that falls in the part of the area.
+    fn term_at(&self, parts: &[Falling], area: usize) -> Option<&Row> {
+        for part in parts {
+            if self.reach.are_joined(part.area, area) {
+                return self.terms.get(part.term);
+            }
+        }
+        None
+    }
+}
+
+/// An area of each part with a passage over which no rank falls yet.
+fn parts_left(
+    alloc: Global,
+    reach: &Reach,
+    passages: &[Passage],
+) -> Result<Vec<usize>, AllocError> {
+    let mut parts: Vec<usize> = Vec::new(alloc);
+    for passage in passages {
+        if passage.fall == 0
+            && parts
+                .iter()
+                .all(|area| !reach.are_joined(*area, passage.from))
+        {
+            parts.push(passage.from)?;
+        }
+    }
+    Ok(parts)
+}
+
+/// The first of the terms that falls over a passage left in the part of the area and grows over none.
+fn falling_at(
+    question: &Question,
+    tried: &Tried,
+    area: usize,
+    passages: &[Passage],
+    effort: &mut Effort,
+) -> Result<Option<Falling>, AllocError> {
+    for (place, term) in tried.terms.iter().enumerate() {
+        if let Some(falling) = falling_in(question, passages, tried.reach, area, term, effort)?
+            && !falling.is_empty()
+        {
+            return Ok(Some(Falling {
+                area,
+                term: place,
+                passages: falling,
+            }));
+        }
+    }
+    Ok(None)
+}
+
+/// What falls in the parts with a passage left.
+#[derive(Drop)]
+enum Parts {
+    /// A term in each of them.
+    Falling(Vec<Falling>),
+    /// None in the part of this area.
+    Stuck(usize),
+}
+
+/// What falls in the parts of these areas.
+fn falling_parts(
+    question: &Question,
+    tried: &Tried,
+    areas: &[usize],
+    passages: &[Passage],
+    effort: &mut Effort,
+) -> Result<Parts, AllocError> {
+    let mut list = Vec::new(question.alloc);
+    for area in areas {
+        match falling_at(question, tried, *area, passages, effort)? {
+            None => return Ok(Parts::Stuck(*area)),
+            Some(falling) => list.push(falling)?,
+        }
+    }
+    Ok(Parts::Falling(list))
+}
+
+/// Sets the fall of the passages over which a term falls in a part.
+fn set_falls_in(passages: &mut [Passage], parts: &[Falling], fall: u32) {
+    for part in parts {
+        set_falls(passages, &part.passages, fall);
+    }
 }
 
 /// What the search for ranks ends with.
@@ -386,16 +411,23 @@ pub(crate) fn ranks_among(
     for _ in 0..RANK_ROUNDS {
         let reach = Reach::new(question.alloc, areas, passages)?;
         ranks.add_reach(question.alloc, columns, &reach, passages)?;
-        let Some(area) = first_left(passages) else {
+        let left = parts_left(question.alloc, &reach, passages)?;
+        if left.is_empty() {
             return Ok(Ranking::Found(ranks));
-        };
+        }
         let tried = Tried {
             terms,
             reach: &reach,
         };
-        if !add_falling(question, &tried, area, passages, &mut ranks, effort)? {
-            let stuck = joined_with(question.alloc, &reach, areas, area)?;
-            return Ok(Ranking::Stuck(stuck));
+        match falling_parts(question, &tried, &left, passages, effort)? {
+            Parts::Stuck(area) => {
+                let stuck = joined_with(question.alloc, &reach, areas, area)?;
+                return Ok(Ranking::Stuck(stuck));
+            }
+            Parts::Falling(parts) => {
+                ranks.add_terms(question.alloc, columns, &tried, &parts)?;
+                set_falls_in(passages, &parts, ranks.count);
+            }
         }
     }
     Ok(Ranking::Stuck(Vec::new(question.alloc)))

@@ -15,20 +15,31 @@ impl Reach {
         count: usize,
         passages: &[Passage],
     ) -> Result<Reach, AllocError> {
-        let flags = vec![in alloc; false; count.saturating_mul(count)]?;
-        let mut reach = Reach { count, flags };
-        for area in 0..count {
-            reach.set(area, area);
-        }
+        let mut reach = Reach::alone(alloc, count)?;
         for passage in passages {
             if passage.fall == 0 {
                 reach.set(passage.from, passage.to);
             }
         }
-        for middle in 0..count {
-            reach.go_through(middle);
+        reach.close();
+        Ok(reach)
+    }
+
+    /// The reach of so many areas where each reaches itself alone.
+    pub(crate) fn alone(alloc: Global, count: usize) -> Result<Reach, AllocError> {
+        let flags = vec![in alloc; false; count.saturating_mul(count)]?;
+        let mut reach = Reach { count, flags };
+        for area in 0..count {
+            reach.set(area, area);
         }
         Ok(reach)
+    }
+
+    /// Sets what is reached through other areas.
+    pub(crate) fn close(&mut self) {
+        for middle in 0..self.count {
+            self.go_through(middle);
+        }
     }
 
     /// Where the flag of two areas stands.
@@ -45,7 +56,7 @@ impl Reach {
     }
 
     /// Sets that the one area reaches the other.
-    fn set(&mut self, from: usize, to: usize) {
+    pub(crate) fn set(&mut self, from: usize, to: usize) {
         let place = self.place(from, to);
         if let Some(flag) = self.flags.get_mut(place) {
             *flag = true;

@@ -2,11 +2,11 @@
 
 use crate::areas::sides::{Sides, common_areas};
 use crate::formulas::cycles_within::with_cycles;
-use crate::formulas::found::{Found, end_alone, part_found};
+use crate::formulas::found::{Ended, Found, better, end_alone, part_found};
 use crate::formulas::kept::with_kept;
 use crate::formulas::layers::with_layers;
 use crate::formulas::region_part::Part;
-use crate::formulas::until_by_ranks::every_until_by_ranks;
+use crate::formulas::until_by_ranks::until_by_ranks;
 use crate::limits::CUTS;
 use crate::question::Question;
 use crate::rows::solving::Effort;
@@ -15,6 +15,23 @@ use std::alloc::{AllocError, Global};
 use tv_cert::Node;
 use tv_formula::{Path, Shape};
 
+/// What a strategy finds of until over some path; where it loses areas, what ranks over every step find, if that is more.
+fn any_until(
+    question: &Question,
+    path: &Path,
+    sides: &Sides,
+    effort: &mut Effort,
+) -> Result<Option<Ended>, AllocError> {
+    let chosen = any_until_by_strategy(question, sides, effort)?;
+    if let Some(ended) = &chosen
+        && ended.lost == 0
+    {
+        return Ok(chosen);
+    }
+    let ranked = until_by_ranks(question, path, sides, effort)?;
+    Ok(better(chosen, ranked))
+}
+
 /// What a way finds of a fixed point that comes to the end, from which layers go on: at least the end.
 fn first_ending(
     question: &Question,
@@ -22,12 +39,12 @@ fn first_ending(
     sides: &Sides,
     effort: &mut Effort,
 ) -> Result<Option<Found>, AllocError> {
-    let found = match path {
-        Path::Every => every_until_by_ranks(question, sides, effort)?,
-        Path::Any => any_until_by_strategy(question, sides, effort)?,
+    let ended = match path {
+        Path::Every => until_by_ranks(question, path, sides, effort)?,
+        Path::Any => any_until(question, path, sides, effort)?,
     };
-    match found {
-        Some(found) => Ok(Some(found)),
+    match ended {
+        Some(ended) => Ok(Some(ended.found)),
         None => end_alone(question, sides, 1, effort),
     }
 }

@@ -22,6 +22,28 @@ pub(crate) struct Found {
     pub proofs: Vec<Proof>,
 }
 
+/// What was found, and how many areas were lost.
+#[derive(Drop)]
+pub(crate) struct Ended {
+    pub found: Found,
+    pub lost: usize,
+}
+
+/// The one that lost fewer areas, or the first.
+pub(crate) fn better(first: Option<Ended>, second: Option<Ended>) -> Option<Ended> {
+    match (first, second) {
+        (Some(first), Some(second)) => {
+            if second.lost < first.lost {
+                Some(second)
+            } else {
+                Some(first)
+            }
+        }
+        (Some(first), None) => Some(first),
+        (None, second) => second,
+    }
+}
+
 /// The areas at the end alone, with so many ranks for others; `None` where one of them is not shown to be at the end.
 pub(crate) fn end_alone(
     question: &Question,

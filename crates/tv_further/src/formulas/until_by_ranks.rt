@@ -1,20 +1,23 @@
-// Until over every path, by ranks.
+// Until by ranks that fall over every step.
 
-use crate::areas::area::{Area, place_among};
+use crate::areas::area::place_among;
 use crate::areas::covers::Target;
 use crate::areas::passage::{Passage, passages, rows_entered};
 use crate::areas::ranks::{Ranking, Ranks, push_fall, ranks_of};
 use crate::areas::sides::Sides;
 use crate::areas::stages::{Stages, stages_of, without};
-use crate::formulas::found::Found;
+use crate::formulas::falling_choice::push_falling_choice;
+use crate::formulas::found::{Ended, Found};
 use crate::formulas::going_cut::cut_at;
 use crate::formulas::region_part::{push_cover, push_some_step, step_cover, targets_after};
-use crate::limits::{AREAS, STEP_CUTS};
+use crate::formulas::until_splits::{Stuck, split_at};
+use crate::limits::{AREAS, STEP_CUTS, STEP_SPLITS};
 use crate::question::Question;
 use crate::rows::solving::Effort;
 use std::alloc::{AllocError, Global};
 use tv_cases::Case;
 use tv_cert::Proof;
+use tv_formula::Path;
 
 /// Targets of a step by the case from an area, where the ranks fall: the areas at the end, and those that the passages enter.
 fn falling_targets(
@@ -110,40 +113,66 @@ fn going_passages(
     Ok(list)
 }
 
-/// An attempt at until over every path.
+/// An attempt at until.
 #[derive(Drop)]
 enum Until {
     /// The ranks and the proofs.
     Shown { ranks: Ranks, proofs: Vec<Proof> },
     /// From the areas at these places a step may be wanting, or lead out.
     Open(Vec<usize>),
-    /// The ranks do not fall between the areas at these places; none where nothing is known of one.
-    Stuck(Vec<usize>),
+    /// The ranks do not fall.
+    Stuck(Stuck),
 }
 
 /// Passages and the ranks that fall over them.
 #[derive(Drop)]
-struct Ranked {
-    passages: Vec<Passage>,
-    ranks: Ranks,
+pub(crate) struct Ranked {
+    pub passages: Vec<Passage>,
+    pub ranks: Ranks,
 }
 
-/// Puts the proofs of an area that is at the end, or goes on outside of it, up to the steps, at the end of the list; whether all are found.
-fn push_sides(
+/// The proofs that were found, and what is left of the effort.
+#[derive(Drop)]
+struct Shown<'a> {
+    path: &'a Path,
+    proofs: Vec<Proof>,
+    effort: &'a mut Effort,
+}
+
+/// Puts the proofs of the steps from the area at this place at the end of the list; whether all are found.
+fn push_steps(
     question: &Question,
-    sides: &Sides,
-    area: &Area,
-    is_done: bool,
-    effort: &mut Effort,
-    proofs: &mut Vec<Proof>,
+    stages: &Stages,
+    place: usize,
+    ranked: &Ranked,
+    shown: &mut Shown,
 ) -> Result<bool, AllocError> {
-    if is_done {
-        return sides.push_done(question, area, effort, proofs);
-    }
-    if !sides.push_hold(question, area, effort, proofs)? {
+    let Some(area) = stages.areas.get(place) else {
         return Ok(false);
+    };
+    match shown.path {
+        Path::Every => {
+            if !push_some_step(question, area, shown.effort, &mut shown.proofs)? {
+                return Ok(false);
+            }
+            push_falling(
+                question,
+                stages,
+                place,
+                ranked,
+                shown.effort,
+                &mut shown.proofs,
+            )
+        }
+        Path::Any => push_falling_choice(
+            question,
+            stages,
+            place,
+            ranked,
+            shown.effort,
+            &mut shown.proofs,
+        ),
     }
-    push_some_step(question, area, effort, proofs)
 }
 
 /// Puts the proofs of the area at this place at the end of the list; whether all are found.
@@ -158,47 +187,30 @@ fn push_stage(
     let Some(area) = stages.areas.get(place) else {
         return Ok(false);
     };
-    let is_done = place < stages.done;
-    if !push_sides(
-        question,
-        sides,
-        area,
-        is_done,
-        shown.effort,
-        &mut shown.proofs,
-    )? {
+    if place < stages.done {
+        return sides.push_done(question, area, shown.effort, &mut shown.proofs);
+    }
+    if !sides.push_hold(question, area, shown.effort, &mut shown.proofs)? {
         return Ok(false);
     }
-    if is_done {
-        return Ok(true);
-    }
-    push_falling(
-        question,
-        stages,
-        place,
-        ranked,
-        shown.effort,
-        &mut shown.proofs,
-    )
+    push_steps(question, stages, place, ranked, shown)
 }
 
-/// The proofs that were found, and what is left of the effort.
-#[derive(Drop)]
-struct Shown<'a> {
-    proofs: Vec<Proof>,
-    effort: &'a mut Effort,
-}
-
-/// The proofs of until over every path under these ranks.
+/// The proofs of until under these ranks.
 fn until_under(
     question: &Question,
+    path: &Path,
     sides: &Sides,
     stages: &Stages,
     ranked: Ranked,
     effort: &mut Effort,
 ) -> Result<Until, AllocError> {
     let proofs = Vec::new(question.alloc);
-    let mut shown = Shown { proofs, effort };
+    let mut shown = Shown {
+        path,
+        proofs,
+        effort,
+    };
     let mut open = Vec::new(question.alloc);
     for place in 0..stages.areas.len() {
         if !push_stage(question, sides, stages, place, &ranked, &mut shown)? {
@@ -213,53 +225,97 @@ fn until_under(
     Ok(Until::Shown { ranks, proofs })
 }
 
-/// An attempt at until over every path with these stages.
+/// An attempt at until with these stages.
 fn try_until(
     question: &Question,
+    path: &Path,
     sides: &Sides,
     stages: &Stages,
     effort: &mut Effort,
 ) -> Result<Until, AllocError> {
     let mut passages = going_passages(question, stages, effort)?;
     match ranks_of(question, &stages.areas, &mut passages, effort)? {
-        Ranking::Stuck(places) => Ok(Until::Stuck(places)),
+        Ranking::Stuck(places) => Ok(Until::Stuck(Stuck { places, passages })),
         Ranking::Found(ranks) => {
             let ranked = Ranked { passages, ranks };
-            until_under(question, sides, stages, ranked, effort)
+            until_under(question, path, sides, stages, ranked, effort)
         }
     }
 }
 
-/// Until over every path: what holds outside of the end comes to it, by ranks. Areas from which a step may be wanting or lead out are cut a
-/// few times, and then left out, as those are between which no ranks fall.
-pub(crate) fn every_until_by_ranks(
+/// What was done so far to areas that are not shown.
+#[derive(Clone, Copy)]
+struct Tries {
+    cuts: u32,
+    splits: u32,
+    /// How many areas were left out.
+    lost: usize,
+}
+
+/// The stages that are tried next, where areas are cut or split, while that may be done once more, or else left out; `None` where none is
+/// left to leave out.
+fn next_stages(
     question: &Question,
+    stages: &Stages,
+    open: Until,
+    tries: &mut Tries,
+    effort: &mut Effort,
+) -> Result<Option<Stages>, AllocError> {
+    match open {
+        Until::Shown { .. } => Ok(None),
+        Until::Open(places) => {
+            if tries.cuts < STEP_CUTS {
+                tries.cuts = tries.cuts.saturating_add(1);
+                return Ok(Some(cut_at(question, stages, &places, effort)?));
+            }
+            tries.lost = tries.lost.saturating_add(places.len());
+            without(question.alloc, stages, &places)
+        }
+        Until::Stuck(stuck) => {
+            if tries.splits < STEP_SPLITS
+                && let Some(split) = split_at(question, stages, &stuck, effort)?
+            {
+                tries.splits = tries.splits.saturating_add(1);
+                return Ok(Some(split));
+            }
+            tries.lost = tries.lost.saturating_add(stuck.places.len());
+            without(question.alloc, stages, &stuck.places)
+        }
+    }
+}
+
+/// Until by ranks that fall over every step: over every path, or over some path since some step is always there. Areas from which a step may
+/// be wanting or lead out are cut a few times, and then left out; those between which no ranks fall are split a few times, and then left out.
+pub(crate) fn until_by_ranks(
+    question: &Question,
+    path: &Path,
     sides: &Sides,
     effort: &mut Effort,
-) -> Result<Option<Found>, AllocError> {
+) -> Result<Option<Ended>, AllocError> {
     let Some(mut stages) = stages_of(question, sides, effort)? else {
         return Ok(None);
     };
-    let mut cuts = 0;
+    let mut tries = Tries {
+        cuts: 0,
+        splits: 0,
+        lost: 0,
+    };
     for _ in 0..AREAS {
-        let left = match try_until(question, sides, &stages, effort)? {
+        let open = match try_until(question, path, sides, &stages, effort)? {
             Until::Shown { ranks, proofs } => {
-                return Ok(Some(Found {
+                let found = Found {
                     stages,
                     ranks,
                     proofs,
-                }));
+                };
+                let lost = tries.lost;
+                return Ok(Some(Ended { found, lost }));
             }
-            Until::Open(places) if cuts < STEP_CUTS => {
-                cuts += 1;
-                stages = cut_at(question, &stages, &places, effort)?;
-                continue;
-            }
-            Until::Open(places) | Until::Stuck(places) => places,
+            open => open,
         };
-        match without(question.alloc, &stages, &left)? {
+        match next_stages(question, &stages, open, &mut tries, effort)? {
             None => return Ok(None),
-            Some(fewer) => stages = fewer,
+            Some(next) => stages = next,
         }
     }
     Ok(None)

@@ -2,14 +2,16 @@
 // lead to the end.
 
 use crate::areas::passage::{Effect, Passage};
-use crate::areas::ranks::{Change, Ranking, push_terms, ranks_among, terms_of};
+use crate::areas::ranks::{Ranking, ranks_among};
 use crate::areas::sides::Sides;
 use crate::areas::stages::stages_of;
+use crate::areas::terms::{push_terms, terms_of};
 use crate::cycles::way::Way;
-use crate::formulas::found::Found;
+use crate::formulas::found::{Ended, Found, better};
 use crate::limits::{STRATEGY_CUTS, STRATEGY_ROUNDS, STRATEGY_SPLITS};
 use crate::question::Question;
 use crate::rows::solving::{Effort, denied};
+use crate::strategies::favouring::favour_next;
 use crate::strategies::link::{Between, Link, distinct_ways};
 use crate::strategies::plan::{Leaf, Plan, Planner, plan_of};
 use crate::strategies::strategy_draft::{Cutting, Draft, First};
@@ -134,69 +136,6 @@ fn try_once(field: &Field, draft: &Draft, effort: &mut Effort) -> Result<Tried, 
     }))
 }
 
-/// Whether a link from the area does not let the term grow, and whether it falls over one between the areas at these places.
-fn outlook(
-    field: &Field,
-    term: usize,
-    area: usize,
-    places: &[usize],
-    effort: &mut Effort,
-) -> Result<(bool, bool), AllocError> {
-    let mut goes_on = false;
-    let mut falls = false;
-    for link in field.links {
-        if link.passage.from == area {
-            if !places.contains(&link.passage.to) {
-                goes_on = true;
-            } else {
-                match field.change(term, link, effort)? {
-                    Change::Grows => {}
-                    Change::Stays => goes_on = true,
-                    Change::Falls => {
-                        goes_on = true;
-                        falls = true;
-                    }
-                }
-            }
-        }
-    }
-    Ok((goes_on, falls))
-}
-
-/// Whether each of the areas at these places may go on so that the term does not grow, and falls over some link.
-fn is_promising(
-    field: &Field,
-    term: usize,
-    places: &[usize],
-    effort: &mut Effort,
-) -> Result<bool, AllocError> {
-    let mut falls = false;
-    for area in places {
-        let (goes_on, fallen) = outlook(field, term, *area, places, effort)?;
-        if !goes_on {
-            return Ok(false);
-        }
-        falls = falls || fallen;
-    }
-    Ok(falls)
-}
-
-/// The next term to favour at the areas at these places.
-fn next_term(
-    field: &Field,
-    draft: &Draft,
-    places: &[usize],
-    effort: &mut Effort,
-) -> Result<Option<usize>, AllocError> {
-    let known = draft.greatest_at(places);
-    for term in known.saturating_add(1)..field.terms.len().saturating_add(1) {
-        if is_promising(field, term, places, effort)? {
-            return Ok(Some(term));
-        }
-    }
-    Ok(None)
-}
-
 /// The row that tells where the first of these terms is not below 0 by which one of the areas at these places is split.
 fn splitting_row(
     field: &Field,
@@ -274,9 +213,8 @@ fn try_terms(field: &Field, draft: &mut Draft, effort: &mut Effort) -> Result<Tr
             },
             tried => return Ok(tried),
         };
-        match next_term(field, draft, &places, effort)? {
-            Some(term) => draft.favour(&places, term),
-            None => return no_term(field, draft, left, places, effort),
+        if !favour_next(field, draft, &places, effort)? {
+            return no_term(field, draft, left, places, effort);
         }
     }
     Ok(Tried::Stuck(Vec::new(alloc)))
@@ -342,13 +280,6 @@ fn push_denied_terms(
 enum Round {
     Ended(Option<Ended>),
     Next(Draft),
-}
-
-/// What was found, and how many areas were lost.
-#[derive(Drop)]
-struct Ended {
-    found: Found,
-    lost: usize,
 }
 
 /// What a strategy is sought for.
@@ -457,30 +388,19 @@ fn ended_from(
     Ok(None)
 }
 
-/// The one that lost fewer areas, or the first.
-fn better(first: Ended, second: Option<Ended>) -> Found {
-    match second {
-        Some(second) if second.lost < first.lost => second.found,
-        _ => first.found,
-    }
-}
-
 /// Until over some path: at each state of an area a way is taken, so that ranks fall until the end. Areas for which no such ways are found
 /// are cut to where some can be taken, or split, and then left out.
 pub(crate) fn any_until_by_strategy(
     question: &Question,
     sides: &Sides,
     effort: &mut Effort,
-) -> Result<Option<Found>, AllocError> {
-    match ended_from(question, sides, First::Cuts, effort)? {
-        Some(ended) if ended.lost == 0 => Ok(Some(ended.found)),
-        Some(ended) => {
-            let other = ended_from(question, sides, First::Splits, effort)?;
-            Ok(Some(better(ended, other)))
-        }
-        None => match ended_from(question, sides, First::Splits, effort)? {
-            None => Ok(None),
-            Some(ended) => Ok(Some(ended.found)),
-        },
+) -> Result<Option<Ended>, AllocError> {
+    let cut = ended_from(question, sides, First::Cuts, effort)?;
+    if let Some(ended) = &cut
+        && ended.lost == 0
+    {
+        return Ok(cut);
     }
+    let split = ended_from(question, sides, First::Splits, effort)?;
+    Ok(better(cut, split))
 }

@@ -1,11 +1,12 @@
 // Areas for which a strategy is sought.
 
 use crate::areas::area::{Area, both};
+use crate::areas::cutting::halves_of;
 use crate::areas::stages::Stages;
 use crate::cycles::way::Way;
 use crate::limits::{AREAS, STRATEGY_CUTS};
 use crate::question::Question;
-use crate::rows::solving::{Effort, denied};
+use crate::rows::solving::Effort;
 use crate::strategies::link::{Link, are_same};
 use std::alloc::{AllocError, Global};
 use tv_linear::{Row, copies};
@@ -210,31 +211,6 @@ impl Draft {
             }
         }
         Ok(next)
-    }
-}
-
-/// The two parts of an area, where the row is met and where it is not; `None` where one of them is empty.
-fn halves_of(
-    question: &Question,
-    area: &Area,
-    row: &Row,
-    effort: &mut Effort,
-) -> Result<Option<(Vec<Row>, Vec<Row>)>, AllocError> {
-    let alloc = question.alloc;
-    let columns = question.about.variables() as usize;
-    let Some(denial) = denied(alloc, row)? else {
-        return Ok(None);
-    };
-    let mut rows = Vec::new(alloc);
-    rows.push(row.copy(alloc)?)?;
-    let Some(met) = both(alloc, columns, &area.rows, &rows, effort)? else {
-        return Ok(None);
-    };
-    let mut rows = Vec::new(alloc);
-    rows.push(denial)?;
-    match both(alloc, columns, &area.rows, &rows, effort)? {
-        None => Ok(None),
-        Some(other) => Ok(Some((met, other))),
     }
 }
 

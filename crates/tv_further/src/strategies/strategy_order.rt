@@ -1,6 +1,7 @@
 // In which order the links from an area are tried.
 
 use crate::areas::ranks::{Change, drift_over, steady_change};
+use crate::areas::reach::Reach;
 use crate::limits::AREAS;
 use crate::question::Question;
 use crate::rows::solving::{Effort, is_shown_at_once};
@@ -45,6 +46,16 @@ impl Field<'_> {
             None => Ok(Change::Stays),
             Some(term) => drift_over(self.question, &link.passage, term, effort),
         }
+    }
+
+    /// Which of so many areas are reached from which over the links.
+    pub(crate) fn reach(&self, areas: usize) -> Result<Reach, AllocError> {
+        let mut reach = Reach::alone(self.question.alloc, areas)?;
+        for link in self.links {
+            reach.set(link.passage.from, link.passage.to);
+        }
+        reach.close();
+        Ok(reach)
     }
 
     /// What the link is worth.
