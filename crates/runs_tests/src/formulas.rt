@@ -188,7 +188,15 @@ fn formulas_are_left_open(rt: HostRuntime) -> Result<(), Fail> {
 #[test]
 fn a_formula_is_settled_by_a_further_search(rt: HostRuntime) -> Result<(), Fail> {
     assert!(rt; is_settled(rt.alloc(), LOOP, "[EF](x <= 0)", "Proved\n", Status::Proved)?);
-    assert!(rt; is_settled(rt.alloc(), FALLING, "[AF](x <= 0)", "Proved\n", Status::Proved)?);
+    assert!(rt;
+        is_settled(
+            rt.alloc(),
+            FALLING,
+            "[AF](x <= 0)",
+            "Proved\n",
+            Status::Proved
+        )?
+    );
     Ok(())
 }
 
