@@ -12,13 +12,13 @@ ghost use Rattle.tv_lexrank.specs.Known.{AreKnown};
 ghost use Rattle.tv_lexrank.specs.Nodes.{IsRankedNode, ShowsEnd};
 ghost use Rattle.tv_lexrank.specs.Certified.{BeginsKnown, IsStartCover, IsRoot, IsProofOf, IsProofOfEnd};
 
-use crate::closed::{cover_one, whole_cover};
+use crate::closed::whole_cover;
 use crate::falling::{Fall, with_fall};
 use crate::known::known_at;
 use std::alloc::{AllocError, Global};
 use tv_cases::Cases;
 use tv_cert::{Claim, Node, Verdict};
-use tv_cover::Covered;
+use tv_cover::{Covered, cover_one};
 use tv_farkas::{Budget, CoverFault};
 use tv_linear::{Cover, Poly, Region, copies};
 use tv_shape::{Certificate, ShapeFault};
