@@ -19,7 +19,7 @@ use Rattle.tv_rounds.specs.declared.fixed_point.FixedPoint.{FixedPoint}
 use Rattle.tv_rounds.specs.declared.answer.Rounds.{Rounds}
 use Rattle.tv_rounds.specs.declared.answer.Rounds.TheVariants.{Settled, Open}
 use Rattle.tv_rounds.specs.Sides.{AreSides, AreTame, RoundOf, IsSettledBy}
-use Rattle.tv_rounds.specs.Answers.{AreOpen, IsRound, AreLayers, IsAnswer, IsSettledAt, IsOpenAt}
+use Rattle.tv_rounds.specs.Answers.{Differ, IsRound, AreLayers, IsAnswer, IsSettledAt, IsOpenAt}
 use Rattle.tv_rounds.proofs.MadeLemmas.{made_tame}
 use Rattle.tv_pre.specs.declared.sides.Sides.{Sides}
 use Rattle.tv_pre.specs.Pieces.{InPieces}
@@ -174,9 +174,10 @@ settled_layers about last sides end answer region at layers e t h = subst (λ b.
 pub open_layers : (about : CaseSystem) (last : ℕ) (sides : Sides) (end : Region) (answer : Rounds) (region : Region) (layers : Vec Region Global) → answer ≡ Open region layers → must_end sides.shape ≡ true → (h : AreRoundsOf about last sides end answer) → IsOpenAt true about h.point last region layers.items
 open_layers about last sides end answer region layers e t h = subst (λ b. IsAnswer b about h.point last (Open region layers)) t (subst (IsAnswer (must_end sides.shape) about h.point last) e h.rounds)
 
--- no round up to the last is settled
-pub open_rounds : (about : CaseSystem) (last : ℕ) (sides : Sides) (end : Region) (answer : Rounds) (region : Region) (layers : Vec Region Global) → answer ≡ Open region layers → (h : AreRoundsOf about last sides end answer) → AreOpen (must_end sides.shape) about h.point (suc last)
-open_rounds about last sides end answer region layers e h = let told = subst (IsAnswer (must_end sides.shape) about h.point last) e h.rounds in told.all_open
+-- the last round differs from the next one
+pub open_rounds : (about : CaseSystem) (last : ℕ) (sides : Sides) (end : Region) (answer : Rounds) (region : Region) (layers : Vec Region Global) → answer ≡ Open region layers → (h : AreRoundsOf about last sides end answer) →
+    Differ about (RoundOf (must_end sides.shape) about h.point last) (RoundOf (must_end sides.shape) about h.point (suc last))
+open_rounds about last sides end answer region layers e h = let told = subst (IsAnswer (must_end sides.shape) about h.point last) e h.rounds in told.differs
 
 pub settled_round : (about : CaseSystem) (last : ℕ) (sides : Sides) (end : Region) (answer : Rounds) (region : Region) (at : ℕ) (layers : Vec Region Global) → answer ≡ Settled region at layers → must_end sides.shape ≡ false → (h : AreRoundsOf about last sides end answer) → IsSettledAt false about h.point last region at layers.items
 settled_round about last sides end answer region at layers e t h = subst (λ b. IsAnswer b about h.point last (Settled region at layers)) t (subst (IsAnswer (must_end sides.shape) about h.point last) e h.rounds)

@@ -1,5 +1,5 @@
 -- Regions that have exactly the states where a formula holds, and rounds of such regions.
-use Rattle.std.proofs.Common.{inl, inr, ℕ, suc, List, [], ◌∷◌, sym, ◌∙◌, subst, arith}
+use Rattle.std.proofs.Common.{◌⊎◌, inl, inr, ℕ, suc, List, [], ◌∷◌, sym, ◌∙◌, subst}
 use Rattle.std.specs.Prelude.{All, Contains, ◌↔◌}
 use Rattle.tv_formula.specs.declared.tree.Path.{Path}
 use Rattle.tv_formula.specs.declared.tree.Shape.{Shape}
@@ -24,20 +24,27 @@ use Rattle.tv_cert.proofs.ShapeFits.{shape_fits}
 use Rattle.tv_sound.proofs.NodesSound.{node_sound}
 use Rattle.tv_sound.proofs.Soundness.{comparisons_show}
 use Rattle.tv_known.specs.Cycles.{IsStateOf}
-use Rattle.tv_known.specs.Rounds.{HoldSide, EndSides, RoundBy, must_end, IsFixSettled}
+use Rattle.tv_formula.specs.Normal.{negation}
+use Rattle.tv_meaning.proofs.Negation.{negation_excludes}
+use Rattle.tv_known.specs.Laws.{Decides}
+use Rattle.tv_known.specs.Rounds.{HoldSide, EndSides, RoundBy, must_end, FixRound, Goes}
+use Rattle.tv_known.proofs.RoundLemmas.{stays_state}
 use Rattle.tv_known.specs.Subformulas.{IsUnsettled}
 use Rattle.tv_region.specs.Regions.{IsRegion}
 use Rattle.tv_region.specs.StepRegions.{InState}
 use Rattle.tv_rounds.specs.declared.fixed_point.FixedPoint.{FixedPoint}
-use Rattle.tv_rounds.specs.Answers.{AreOpen}
+use Rattle.tv_rounds.specs.Answers.{Differ}
+use Rattle.tv_rounds.specs.Sides.{RoundOf}
+use Rattle.tv_rounds.proofs.SetLemmas.{own_set, told}
 use Rattle.tv_pre.specs.declared.sides.Sides.{Sides}
-use Rattle.tv_pre.specs.Along.{IsOfSides, AreAtEnd}
+use Rattle.tv_pre.specs.Along.{IsOfSides, AreAtEnd, IsOpenAlong}
 use Rattle.tv_pre.specs.Full.{IsFull, IsExactly}
 use Rattle.tv_pre.specs.Parts.{IsPart}
 use Rattle.tv_pre.specs.Pieces.{IsMarked, AreMarked}
 use Rattle.tv_pre.proofs.FullLemmas.{full_has_all}
 use Rattle.tv_pre.proofs.SetLemmas.{hold_on, on_hold}
-use Rattle.tv_pre.proofs.SettledRounds.{settled_same, fix_settled_same}
+use Rattle.tv_pre.proofs.OppositeRounds.{opposite_open}
+use Rattle.tv_pre.proofs.SettledRounds.{fix_settled_same, round_wider}
 
 module _ (about : CaseSystem) where
   marked_has : (ps : List Marked) (qs : List Piece) (q : Piece) → AreMarked ps qs → Contains qs q → (p : Marked) × Contains ps p × IsMarked p q
@@ -77,13 +84,29 @@ module _ (about : CaseSystem) where
         inside = record { place = sym got.0; rows = subst (All (IsMet s.values)) (sym p.has) (All-nil (IsMet s.values)) };
       })
 
-  module _ (cases : All (IsCase about.variables about.locations) about.cases) where
-    -- where the regions of the arguments are exact, what a round of them does not settle the same round of the arguments does not
-    pub fix_open : (path : Path) (shape : Shape) (f k : Property) (a b : Region) → IsExactly about f a → IsExactly about k b → (last : ℕ) → (IsFixSettled about path shape (InState a) (InState b) last → ⊥) → IsUnsettled about last (fix path shape f k)
-    fix_open path shape f k a b first second last unsettled settled =
-        unsettled (fix_settled_same about cases path shape (InState a) (InState b) (λ s. Holds (CaseSteps about) f s) (λ s. Holds (CaseSteps about) k s) first second last settled)
+  -- each state is in the region, or one where the negation holds
+  in_or_denied : (f : Property) (region : Region) → IsRegion about.variables about.locations region → IsFull about f region → (s : State) → IsStateOf about s → InState region s ⊎ Holds (CaseSteps about) (negation f) s
+  in_or_denied f region over full s is = elim (told about (InState region) region (own_set about region over) s is) [ inl m ↦ inl m | inr n ↦ inr (full s is n) ]
 
-    -- the rounds of a fixed point of these sides are open where those of the regions of the arguments are
+  module _ (cases : All (IsCase about.variables about.locations) about.cases) where
+    -- where the regions of the arguments are exact, and a round of them differs from the next one, that of the arguments is not settled
+    module _ (path : Path) (shape : Shape) (f k : Property) (a b : Region) (first : IsExactly about f a) (second : IsExactly about k b) (last : ℕ)
+        (differs : Differ about (FixRound about path shape (InState a) (InState b) last) (FixRound about path shape (InState a) (InState b) (suc last))) where
+      pub fix_open : IsUnsettled about last (fix path shape f k)
+      fix_open settled =
+          let same = fix_settled_same about cases path shape (InState a) (InState b) (λ s. Holds (CaseSteps about) f s) (λ s. Holds (CaseSteps about) k s) first second last settled in
+          elim differs.1 [ inl o ↦ o.outside ((same differs.0 o.state).0 o.inside) | inr o ↦ o.outside ((same differs.0 o.state).1 o.inside) ]
+
+      -- nor is that of the negation
+      pub denied_open : IsRegion about.variables about.locations a → IsRegion about.variables about.locations b → IsFull about f a → IsFull about k b → Decides about (Goes about) → IsUnsettled about last (negation (fix path shape f k))
+      denied_open over_first over_second full_first full_second goes settled =
+          opposite_open about cases (InState a) (InState b) (λ s. Holds (CaseSteps about) (negation f) s) (λ s. Holds (CaseSteps about) (negation k) s)
+          (λ s is x y. negation_excludes (CaseSteps about) f s y ((first s is).0 x)) (λ s is x y. negation_excludes (CaseSteps about) k s y ((second s is).0 x))
+          (λ s is. in_or_denied f a over_first full_first s is) (λ s is. in_or_denied k b over_second full_second s is) goes last path shape
+          differs.0 (elim differs.1 [ inl o ↦ o.state | inr o ↦ o.state ])
+          (elim differs.1 [ inl o ↦ inl (o.inside, o.outside) | inr o ↦ inr (o.inside, o.outside) ]) settled
+
+    -- the rounds of a fixed point of these sides differ where those of the regions of the arguments do
     module _ (sides : Sides) (end : Region) (point : FixedPoint) (of : IsOfSides sides end point) (ends : AreAtEnd about sides end) where
       way_same : (s : State) → IsStateOf about s → InState point.hold.now s ↔ HoldSide sides.shape (InState sides.first.now) (InState sides.second.now) s
       way_same s is = (
@@ -94,9 +117,26 @@ module _ (about : CaseSystem) where
       end_same : (s : State) → IsStateOf about s → InState point.end.now s ↔ EndSides sides.shape (InState sides.first.now) (InState sides.second.now) s
       end_same s is = (λ m. ends.right s is (subst (λ r. InState r s) of.ends m), λ m. subst (λ r. InState r s) (sym of.ends) (ends.all tt s is m))
 
-      pub open_sides : (last : ℕ) → AreOpen (must_end sides.shape) about point (suc last) → IsFixSettled about sides.path sides.shape (InState sides.first.now) (InState sides.second.now) last → ⊥
-      open_sides last unsettled settled =
-          unsettled last (omega arith)
-          (subst (λ (q : Path). (s : State) → IsStateOf about s → RoundBy (must_end sides.shape) (CaseSteps about) q (InState point.hold.now) (InState point.end.now) last s ↔ RoundBy (must_end sides.shape) (CaseSteps about) q (InState point.hold.now) (InState point.end.now) (suc last) s) (sym of.path)
-          (settled_same about cases sides.path (must_end sides.shape) (InState point.hold.now) (InState point.end.now)
-          (HoldSide sides.shape (InState sides.first.now) (InState sides.second.now)) (EndSides sides.shape (InState sides.first.now) (InState sides.second.now)) way_same end_same last settled))
+      to_sides : (j : ℕ) (s : State) → IsStateOf about s → RoundOf (must_end sides.shape) about point j s → FixRound about sides.path sides.shape (InState sides.first.now) (InState sides.second.now) j s
+      to_sides j s is r =
+          round_wider (CaseSteps about) (IsStateOf about) (λ t u q st. stays_state about cases t u q st) sides.path (InState point.hold.now) (InState point.end.now)
+          (HoldSide sides.shape (InState sides.first.now) (InState sides.second.now)) (EndSides sides.shape (InState sides.first.now) (InState sides.second.now))
+          (λ t q x. (way_same t q).0 x) (λ t q x. (end_same t q).0 x) (must_end sides.shape) j s is
+          (subst (λ (q : Path). RoundBy (must_end sides.shape) (CaseSteps about) q (InState point.hold.now) (InState point.end.now) j s) of.path r)
+
+      from_sides : (j : ℕ) (s : State) → IsStateOf about s → FixRound about sides.path sides.shape (InState sides.first.now) (InState sides.second.now) j s → RoundOf (must_end sides.shape) about point j s
+      from_sides j s is r =
+          subst (λ (q : Path). RoundBy (must_end sides.shape) (CaseSteps about) q (InState point.hold.now) (InState point.end.now) j s) (sym of.path)
+          (round_wider (CaseSteps about) (IsStateOf about) (λ t u q st. stays_state about cases t u q st) sides.path
+          (HoldSide sides.shape (InState sides.first.now) (InState sides.second.now)) (EndSides sides.shape (InState sides.first.now) (InState sides.second.now))
+          (InState point.hold.now) (InState point.end.now)
+          (λ t q x. (way_same t q).1 x) (λ t q x. (end_same t q).1 x) (must_end sides.shape) j s is r)
+
+      pub open_sides : (last : ℕ) → Differ about (RoundOf (must_end sides.shape) about point last) (RoundOf (must_end sides.shape) about point (suc last)) → IsOpenAlong about last sides
+      open_sides last d = (
+        d.0,
+        elim d.1 [
+          | inl o ↦ inl (record { state = o.state; inside = to_sides last d.0 o.state o.inside; outside = λ r. o.outside (from_sides (suc last) d.0 o.state r) })
+          | inr o ↦ inr (record { state = o.state; inside = to_sides (suc last) d.0 o.state o.inside; outside = λ r. o.outside (from_sides last d.0 o.state r) })
+        ],
+      )

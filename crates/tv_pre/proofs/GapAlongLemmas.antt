@@ -1,23 +1,25 @@
 -- What gaps say of formulas on the next states and of fixed points.
-use Rattle.std.proofs.Common.{◌≡◌, inl, inr, ℕ, ◌+◌, [], ◌∷◌, ◌++◌, length, refl, sym, ap, ◌∙◌, subst, arith, slice_get}
+use Rattle.std.proofs.Common.{◌≡◌, inl, inr, ℕ, suc, ◌+◌, [], ◌∷◌, ◌++◌, length, refl, sym, ap, ◌∙◌, subst, arith, slice_get}
 use Rattle.std.specs.Prelude.{All, Option, None, Some, IfSome}
 use Rattle.tv_formula.specs.declared.tree.Path.{Path}
 use Rattle.tv_formula.specs.declared.tree.Shape.{Shape}
 use Rattle.tv_formula.specs.Properties.{Property, fix}
+use Rattle.tv_program.specs.Steps.{State}
 use Rattle.tv_linear.specs.declared.region.Region.{Region}
 use Rattle.tv_cases.specs.Comparisons.{comparison_lists}
 use Rattle.tv_cases.specs.LinearCases.{CaseSystem, IsCase}
 use Rattle.tv_cert.specs.Statements.{Statement, after, along}
-use Rattle.tv_known.specs.Rounds.{IsFixSettled}
+use Rattle.tv_known.specs.Rounds.{FixRound}
 use Rattle.tv_known.specs.Subformulas.{subformulas}
 use Rattle.tv_region.specs.StepRegions.{InState}
+use Rattle.tv_rounds.specs.Answers.{Differ}
 use Rattle.tv_pre.specs.declared.gap.Gap.{Gap}
 use Rattle.tv_pre.specs.declared.gap.Gap.TheVariants.{Inexact, Open}
 use Rattle.tv_pre.specs.declared.outcome.Found.{Found}
 use Rattle.tv_pre.specs.Built.{IsBuilt, AreBuilt}
 use Rattle.tv_pre.specs.Full.{HasRows}
 use Rattle.tv_pre.specs.Finding.{first_of, gap_behind, steps_back, size, IsTameStatement, IsOpenAt, IsGapFor, IsWildStep, IsFound}
-use Rattle.tv_pre.proofs.ExactLemmas.{part_exact, fix_open}
+use Rattle.tv_pre.proofs.ExactLemmas.{part_exact, fix_open, denied_open}
 use Rattle.tv_pre.proofs.FormulaLemmas.{along_is}
 use Rattle.tv_pre.proofs.FoundLemmas.{none_of_two, none_behind, sides_built}
 use Rattle.tv_pre.proofs.GapLemmas.{gap_in_order, gap_later, tame_less, size_is, front_open, back_open, inner_open}
@@ -32,6 +34,9 @@ module _ (about : CaseSystem) (last : ℕ) where
 
   -- ---- fixed points
   module _ (cases : All (IsCase about.variables about.locations) about.cases) (path : Path) (shape : Shape) (s t : Statement) (first second : Found) (h : IsFound about last s first) (g : IsFound about last t second) where
+    abbrev round : ℕ → State → Type 0
+    round k = FixRound about path shape (InState first.part.region) (InState second.part.region) k
+
     left_gap : IfSome (gap_behind 1 first.gap) (IsGapFor about last (along path shape s t))
     left_gap =
         gap_later (IsGapFor about last s) (IsGapFor about last (along path shape s t)) 1 first.gap (λ inexact tame. inexact (tame_less about s (along path shape s t) (λ a k. inl k) tame))
@@ -54,7 +59,7 @@ module _ (about : CaseSystem) (last : ℕ) where
     -- the gap of the fixed point itself, where its arguments have none
     own_gap : (own gap : Option Gap) → own ≡ gap → first.gap ≡ None → second.gap ≡ None →
         (own ≡ Some Inexact → (u : Statement) (k : ℕ) → AreBuilt about u k (first.part.region ∷ second.part.region ∷ []) → IsTameStatement about u → ⊥) →
-        ((place : ℕ) → own ≡ Some (Open place) → (place ≡ 0) × (IsFixSettled about path shape (InState first.part.region) (InState second.part.region) last → ⊥)) →
+        ((place : ℕ) → own ≡ Some (Open place) → (place ≡ 0) × Differ about (round last) (round (suc last))) →
         IfSome gap (IsGapFor about last (along path shape s t))
     own_gap own None e one two a b = tt
     own_gap own (Some Inexact) e one two a b = a e (along path shape s t) (steps_back last s + steps_back last t) (sides_built about last path shape s t first second h g)
@@ -62,17 +67,20 @@ module _ (about : CaseSystem) (last : ℕ) where
         (let k = along_is (comparison_lists about.variables) path shape s t f x in
         let kept = subst (HasRows about.variables) k.2 w in
         let o = b place e in
+        let one_full = h.full one k.0 k.3 kept.0 in
+        let two_full = g.full two k.1 k.4 kept.1 in
+        let first_exact = part_exact about k.0 first.part.region first.part.node h.over (h.shows k.0 k.3) one_full in
+        let second_exact = part_exact about k.1 second.part.region second.part.node g.over (g.shows k.1 k.4) two_full in
         subst (λ (z : Property). IsOpenAt about last (subformulas z) place) (sym k.2) (record {
           part = fix path shape k.0 k.1;
           there = subst (λ j. slice_get (subformulas (fix path shape k.0 k.1)) j ≡ Some (fix path shape k.0 k.1)) (sym o.0) refl;
-          unsettled = inl (fix_open about cases path shape k.0 k.1 first.part.region second.part.region
-              (part_exact about k.0 first.part.region first.part.node h.over (h.shows k.0 k.3) (h.full one k.0 k.3 kept.0))
-              (part_exact about k.1 second.part.region second.part.node g.over (g.shows k.1 k.4) (g.full two k.1 k.4 kept.1)) last o.1);
+          unsettled = inl (fix_open about cases path shape k.0 k.1 first.part.region second.part.region first_exact second_exact last o.1);
+          denied = λ goes. inl (denied_open about cases path shape k.0 k.1 first.part.region second.part.region first_exact second_exact last o.1 h.over g.over one_full two_full goes);
         }))
 
     pub along_gap : (own : Option Gap) →
         (own ≡ Some Inexact → (u : Statement) (k : ℕ) → AreBuilt about u k (first.part.region ∷ second.part.region ∷ []) → IsTameStatement about u → ⊥) →
-        ((place : ℕ) → own ≡ Some (Open place) → (place ≡ 0) × (IsFixSettled about path shape (InState first.part.region) (InState second.part.region) last → ⊥)) →
+        ((place : ℕ) → own ≡ Some (Open place) → (place ≡ 0) × Differ about (round last) (round (suc last))) →
         IfSome (first_of (first_of (gap_behind 1 first.gap) (gap_behind (1 + first.size) second.gap)) own) (IsGapFor about last (along path shape s t))
     along_gap own a b =
         let left = gap_behind 1 first.gap in

@@ -46,3 +46,8 @@ pub mod ExactLemmas
 pub mod GapLemmas
 pub mod GapAlongLemmas
 pub mod ToldLemmas
+pub mod OppositeRounds
+pub mod NegationLemmas
+pub mod ContraryRows
+pub mod ContraryAtoms
+pub mod PlainSteps

@@ -1,23 +1,34 @@
 -- Where no gap is told.
-use Rattle.std.proofs.Common.{◌≡◌, inl, inr, ℕ, zero, suc, List, [], ◌∷◌, refl, subst, slice_get}
+use Rattle.std.proofs.Common.{◌≡◌, inl, inr, ℕ, zero, suc, List, [], ◌∷◌, refl, sym, ap, ◌∙◌, subst, slice_get}
 use Rattle.std.specs.Prelude.{All, Contains, Option, None, Some, IfSome}
 use Rattle.std.proofs.lemmas.List.Elements.{Contains-append_left, Contains-append_right}
 use Rattle.tv_formula.specs.Formulas.{property_of}
-use Rattle.tv_formula.specs.Properties.{Property}
+use Rattle.tv_formula.specs.Normal.{negation, normal}
+use Rattle.tv_formula.specs.Properties.{Property, truth, compare, at, term, negated, all_of, some_of, next, fix}
 use Rattle.tv_farkas.specs.declared.budget.Budget.{Budget}
 use Rattle.tv_linear.specs.declared.region.Region.{Region}
 use Rattle.tv_cases.specs.LinearCases.{CaseSystem, IsCase}
+use Rattle.tv_cases.specs.Comparisons.{comparison_lists}
 use Rattle.tv_cases.proofs.Listed.{Contains-here, Contains-later}
 use Rattle.tv_cert.specs.declared.claim.Claim.{Claim}
 use Rattle.tv_cert.specs.declared.node.Node.{Node}
-use Rattle.tv_cert.specs.Statements.{Statement}
+use Rattle.tv_cert.specs.AimViews.{aim_states}
+use Rattle.tv_cert.specs.Claims.{claim_variables}
+use Rattle.tv_cert.specs.Statements.{Statement, stated}
 use Rattle.tv_known.specs.Cycles.{HasCycle, IsLastRound}
+use Rattle.tv_known.specs.Rounds.{Goes}
+use Rattle.tv_known.specs.Laws.{Decides}
 use Rattle.tv_known.specs.Subformulas.{subformulas}
 use Rattle.tv_region.specs.Regions.{IsRegion}
 use Rattle.tv_pre.specs.declared.gap.Gap.{Gap}
 use Rattle.tv_pre.specs.declared.gap.Gap.TheVariants.{Inexact, Open}
-use Rattle.tv_pre.specs.Finding.{IsGapFor, IsOpenAt, NoneIsTerminal, IsPlainProgram, HasNoGapIfPlain, IsPartFor, IsFullFor, IsExactFor}
-use Rattle.tv_pre.specs.Told.{AreSettled, SettledIsTold, PlainIsTold}
+use Rattle.tv_pre.specs.Finding.{IsGapFor, IsOpenAt, IsTerminal, AreAtomsOfDifferences, NoneIsTerminal, IsPlainProgram, HasNoGapIfPlain, IsPartFor, IsFullFor, IsExactFor}
+use Rattle.tv_pre.specs.Full.{HasRows}
+use Rattle.tv_pre.specs.Proving.{IsTameClaim}
+use Rattle.tv_pre.specs.Told.{AreSettled, IsClaimOn, IsTameFrom, SettledIsTold, PlainIsTold}
+use Rattle.tv_pre.proofs.ContraryAtoms.{denied_atoms}
+use Rattle.tv_pre.proofs.NegationLemmas.{denied_stands}
+use Rattle.tv_pre.proofs.PlainSteps.{plain_goes}
 use Rattle.tv_pre.proofs.ExactLemmas.{part_exact}
 use Rattle.tv_pre.proofs.SettledRounds.{none_unsettled}
 
@@ -48,14 +59,53 @@ module _ (about : CaseSystem) (cases : All (IsCase about.variables about.locatio
   ]
 
 -- ---- tame programs
+terminal_denied : (f : Property) → IsTerminal f → IsTerminal (negation f)
+terminal_denied (truth b) t = absurd t
+terminal_denied (compare r a b) t = absurd t
+terminal_denied (at l) t = absurd t
+terminal_denied term t = tt
+terminal_denied (negated (truth b)) t = absurd t
+terminal_denied (negated (compare r a b)) t = absurd t
+terminal_denied (negated (at l)) t = absurd t
+terminal_denied (negated term) t = tt
+terminal_denied (negated (negated f)) t = absurd t
+terminal_denied (negated (all_of fs)) t = absurd t
+terminal_denied (negated (some_of fs)) t = absurd t
+terminal_denied (negated (next path f)) t = absurd t
+terminal_denied (negated (fix path shape f g)) t = absurd t
+terminal_denied (all_of fs) t = absurd t
+terminal_denied (some_of fs) t = absurd t
+terminal_denied (next path f) t = absurd t
+terminal_denied (fix path shape f g) t = absurd t
+
+-- it can be told whether a state has a step
+tame_told : (about : CaseSystem) (s : Statement) → IsTameFrom about s → Decides about (Goes about)
+tame_told about s (inl plain) = plain_goes about plain
+tame_told about s (inr d) = d.2
+
+-- the negation is as tame as the normal form
+tame_claim : (about : CaseSystem) (claim : Claim) (f : Property) → IsClaimOn about claim f → HasRows about.variables (property_of claim.proved) → IsTameFrom about (aim_states claim.proved_aim) → IsTameClaim about claim
+tame_claim about claim f on rows (inl plain) = inl plain
+tame_claim about claim f on rows (inr d) =
+    let n = claim_variables claim in
+    let have : HasRows n (normal f) = subst (HasRows n) on.is.proved (subst (λ k. HasRows k (property_of claim.proved)) (sym on.variables) rows) in
+    let first : aim_states claim.proved_aim ≡ stated (comparison_lists n) (normal f) = on.is.states.proved ∙ ap (stated (comparison_lists n)) on.is.proved in
+    let second : aim_states claim.denied_aim ≡ stated (comparison_lists n) (negation f) = on.is.states.denied ∙ ap (stated (comparison_lists n)) on.is.denied in
+    inr (d.0, d.1, subst AreAtomsOfDifferences (sym second) (denied_atoms n f have (subst AreAtomsOfDifferences first d.1)))
+
 none_settled : (about : CaseSystem) (last : ℕ) (fs : List Property) → AreSettled about last fs → (place : ℕ) → IsOpenAt about last fs place → ⊥
 none_settled about last fs h place o = h o.part (got_among fs place o.part o.there) o.unsettled
 
-pub settled_told : (about : CaseSystem) (claim : Claim) (budget : Budget) (gap : Gap) → SettledIsTold about claim budget gap
-settled_told about claim budget Inexact tame last l settled h = h.1.tells last l tame
-settled_told about claim budget (Open place) tame last l settled h = elim (h.1.tells last l) [
-  | inl o ↦ none_settled about last (subformulas (property_of claim.proved)) (λ f m u. settled f (Contains-append_left (subformulas (property_of claim.proved)) (subformulas (property_of claim.denied)) f m) u) place o
-  | inr o ↦ none_settled about last (subformulas (property_of claim.denied)) (λ f m u. settled f (Contains-append_right (subformulas (property_of claim.proved)) (subformulas (property_of claim.denied)) f m) u) place o
+-- nor does it settle what the negation has in place of one of these
+none_denied : (about : CaseSystem) (last : ℕ) (f : Property) → AreSettled about last (subformulas (normal f)) → Decides about (Goes about) → (place : ℕ) → IsOpenAt about last (subformulas (negation f)) place → ⊥
+none_denied about last f h goes place o =
+    h (negation o.part) (denied_stands f o.part (got_among (subformulas (negation f)) place o.part o.there)) (elim (o.denied goes) [ inl u ↦ inl u | inr t ↦ inr (terminal_denied o.part t) ])
+
+pub settled_told : (about : CaseSystem) (claim : Claim) (f : Property) (budget : Budget) (gap : Gap) → SettledIsTold about claim f budget gap
+settled_told about claim f budget Inexact on tame last l settled h = h.1.tells last l (tame_claim about claim f on h.1.have_rows.0 tame)
+settled_told about claim f budget (Open place) on tame last l settled h = elim (h.1.tells last l) [
+  | inl o ↦ none_settled about last (subformulas (normal f)) settled place (subst (λ g. IsOpenAt about last (subformulas g) place) on.is.proved o)
+  | inr o ↦ none_denied about last f settled (tame_told about (aim_states claim.proved_aim) tame) place (subst (λ g. IsOpenAt about last (subformulas g) place) on.is.denied o)
 ]
 
 -- ---- exact regions

@@ -1,5 +1,5 @@
 -- The regions of a fixed point, made of those of its arguments.
-use Rattle.std.specs.Prelude.{◌≡◌, ℕ, List, [], ◌∷◌}
+use Rattle.std.specs.Prelude.{◌≡◌, ℕ, suc, List, [], ◌∷◌}
 use Rattle.tv_program.specs.Steps.{State}
 use Rattle.tv_formula.specs.declared.tree.Path.{Path}
 use Rattle.tv_formula.specs.Normal.{other_path}
@@ -8,13 +8,13 @@ use Rattle.tv_linear.specs.declared.region.Region.{Region}
 use Rattle.tv_cases.specs.LinearCases.{CaseSystem, CaseSteps}
 use Rattle.tv_cert.specs.declared.node.Node.{Node}
 use Rattle.tv_known.specs.Cycles.{IsStateOf}
-use Rattle.tv_known.specs.Rounds.{StaysIn, must_end, IsFixSettled}
+use Rattle.tv_known.specs.Rounds.{StaysIn, must_end, FixRound}
 use Rattle.tv_cert.specs.Statements.{Statement}
 use Rattle.tv_cert.specs.Obligations.{hold_side}
 use Rattle.tv_rounds.specs.declared.fixed_point.FixedPoint.{FixedPoint}
 use Rattle.tv_rounds.specs.declared.answer.Rounds.{Rounds}
 use Rattle.tv_rounds.specs.Sides.{AreTame}
-use Rattle.tv_rounds.specs.Answers.{IsAnswer, IsExactBy, IsFullBy}
+use Rattle.tv_rounds.specs.Answers.{IsAnswer, IsExactBy, IsFullBy, Differ}
 use Rattle.tv_region.specs.Regions.{IsRegion}
 use Rattle.tv_region.specs.StepRegions.{InState, IsTame}
 use Rattle.tv_pre.specs.declared.part.Part.{Part}
@@ -87,9 +87,15 @@ abbrev pub IsFullAlong : CaseSystem → Sides → Region → Type 0
 IsFullAlong about sides region =
     (f g : Property) → IsFull about f sides.first.now → IsFull about g sides.second.now → IsFull about (fix sides.path sides.shape f g) region
 
+-- the last round of the fixed point of the regions of the arguments has other states than the next one
+abbrev pub IsOpenAlong : CaseSystem → ℕ → Sides → Type 0
+IsOpenAlong about last sides =
+    let round = FixRound about sides.path sides.shape (InState sides.first.now) (InState sides.second.now) in
+    Differ about (round last) (round (suc last))
+
 -- what a gap of a fixed point itself says: whatever statement its arguments are made for, going back is not exact; or it has the number 0, and
--- the last round does not settle the fixed point of the regions of the arguments
+-- the last round has other states than the next one
 abbrev pub IsGapAlong : CaseSystem → ℕ → Sides → Gap → Type 0
 IsGapAlong about last sides Inexact = (s : Statement) (h : ℕ) → AreBuilt about s h (arguments sides) → IsTameStatement about s → ⊥
 IsGapAlong about last sides (Open place) =
-    (place ≡ 0) × (IsFixSettled about sides.path sides.shape (InState sides.first.now) (InState sides.second.now) last → ⊥)
+    (place ≡ 0) × IsOpenAlong about last sides

@@ -9,7 +9,10 @@ use Rattle.tv_cert.specs.declared.node.Node.{Node}
 use Rattle.tv_cert.specs.Statements.{Statement, rows, here, elsewhere, ends, never_ends, each_of, one_of, after, along, unsaid, Statements, no_statement, statement, stated, stated_all}
 use Rattle.tv_cover.specs.Targets.{AreEven}
 use Rattle.tv_region.specs.Regions.{IsRegion}
+use Rattle.tv_formula.specs.Normal.{negation}
 use Rattle.tv_known.specs.Cycles.{HasCycle}
+use Rattle.tv_known.specs.Rounds.{Goes}
+use Rattle.tv_known.specs.Laws.{Decides}
 use Rattle.tv_known.specs.Subformulas.{subformulas, all_subformulas, IsUnsettled}
 use Rattle.tv_region.specs.Met.{InSome}
 use Rattle.tv_region.specs.Differences.{IsDifference, AreOfDifferences, IsOfDifferences}
@@ -173,11 +176,13 @@ IsTerminal term = Unit {0}
 IsTerminal (negated term) = Unit {0}
 IsTerminal f = ⊥
 
--- the property with this number is a fixed point that round k does not settle, or termination or its negation
+-- The property with this number is a fixed point that round k does not settle, or termination or its negation. Where it can be told whether a
+-- state has a step, round k does not settle the negation of the fixed point either.
 pub record IsOpenAt (about : CaseSystem) (k : ℕ) (fs : List Property) (place : ℕ) : Type 0 where
   pub part : Property
   pub there : slice_get fs place ≡ Some part
   pub unsettled : IsUnsettled about k part ⊎ IsTerminal part
+  pub denied : Decides about (Goes about) → IsUnsettled about k (negation part) ⊎ IsTerminal part
 
 -- what a gap says of the formula that the statement is of, where rounds are made up to the last and each comparison has rows: going back is
 -- not exact, or the last round does not settle the subformula with the number

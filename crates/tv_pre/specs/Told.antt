@@ -1,20 +1,27 @@
 -- When the search for a formula tells of no gap.
-use Rattle.std.specs.Prelude.{◌⊎◌, ℕ, List, ◌++◌, Contains}
+use Rattle.std.specs.Prelude.{◌≡◌, ◌⊎◌, ℕ, List, ◌++◌, Contains}
 use Rattle.tv_program.specs.Steps.{State}
 use Rattle.tv_formula.specs.Formulas.{property_of}
+use Rattle.tv_formula.specs.Normal.{normal}
 use Rattle.tv_formula.specs.declared.tree.Path.{Path}
 use Rattle.tv_formula.specs.declared.tree.Shape.{Shape}
 use Rattle.tv_formula.specs.Properties.{Property}
 use Rattle.tv_farkas.specs.declared.budget.Budget.{Budget}
 use Rattle.tv_cases.specs.LinearCases.{CaseSystem}
 use Rattle.tv_cert.specs.declared.claim.Claim.{Claim}
+use Rattle.tv_cert.specs.AimViews.{aim_states}
+use Rattle.tv_cert.specs.Claims.{IsClaim, claim_variables}
+use Rattle.tv_cert.specs.Statements.{Statement}
+use Rattle.tv_region.specs.Differences.{AreOfDifferences}
+use Rattle.tv_region.specs.StepRegions.{HasNoDraws}
 use Rattle.tv_known.specs.Cycles.{HasCycle, IsLastRound}
-use Rattle.tv_known.specs.Rounds.{IsSettled}
+use Rattle.tv_known.specs.Rounds.{IsSettled, Goes}
+use Rattle.tv_known.specs.Laws.{Decides}
 use Rattle.tv_known.specs.Subformulas.{subformulas, IsUnsettled}
 use Rattle.tv_pre.specs.declared.gap.Gap.{Gap}
 use Rattle.tv_pre.specs.declared.deciding.Unproved.TheVariants as unproved
-use Rattle.tv_pre.specs.Finding.{IsTerminal, NoneIsTerminal, IsPlainProgram}
-use Rattle.tv_pre.specs.Proving.{IsTameClaim, IsUnproved}
+use Rattle.tv_pre.specs.Finding.{AreAtomsOfDifferences, IsTerminal, NoneIsTerminal, IsPlainProgram}
+use Rattle.tv_pre.specs.Proving.{IsUnproved}
 
 -- round k settles each fixed point among the properties, and none of them is termination or its negation
 abbrev pub AreSettled : CaseSystem → ℕ → List Property → Type 0
@@ -24,11 +31,22 @@ AreSettled about k fs = (f : Property) → Contains fs f → IsUnsettled about k
 abbrev pub claimed : Claim → List Property
 claimed claim = subformulas (property_of claim.proved) ++ subformulas (property_of claim.denied)
 
--- where the program is tame for the claim and the last round settles each fixed point, no claim is left open with a gap
-abbrev pub SettledIsTold : CaseSystem → Claim → Budget → Gap → Type 0
-SettledIsTold about claim budget gap =
-    IsTameClaim about claim → (last : ℕ) → IsLastRound about 8 last → AreSettled about last (claimed claim)
-    → IsUnproved about claim budget (unproved.Left gap) → ⊥
+-- the claim is one of the property, over the variables of the program
+pub record IsClaimOn (about : CaseSystem) (claim : Claim) (f : Property) : Type 0 where
+  pub is : IsClaim claim f
+  pub variables : claim_variables claim ≡ about.variables
+
+-- going back is exact for the statement: no case has a draw; or the cases and the comparisons are of differences, and it can be told of each
+-- state whether it has a step
+abbrev pub IsTameFrom : CaseSystem → Statement → Type 0
+IsTameFrom about s = HasNoDraws about ⊎ (AreOfDifferences about × AreAtomsOfDifferences s × Decides about (Goes about))
+
+-- where the program is tame for the normal form of a property and the last round settles each fixed point of it, no claim of the property
+-- is left open with a gap: nothing is asked of the negation
+abbrev pub SettledIsTold : CaseSystem → Claim → Property → Budget → Gap → Type 0
+SettledIsTold about claim f budget gap =
+    IsClaimOn about claim f → IsTameFrom about (aim_states claim.proved_aim) → (last : ℕ) → IsLastRound about 8 last
+    → AreSettled about last (subformulas (normal f)) → IsUnproved about claim budget (unproved.Left gap) → ⊥
 
 -- nor where the program has neither a draw nor a cycle
 abbrev pub PlainIsTold : CaseSystem → Claim → Budget → Gap → Type 0

@@ -20,10 +20,11 @@ pub fn full_regions_tell()
     ensures tell { (about : CaseSystem) (f : Property) → FullTell about f }
 {}
 
-/// No claim is left open with a gap where the program is tame for it and the last round settles each fixed point of the normal form and of
-/// the negation, nor where the program has neither a draw nor a cycle; if termination does not stand in them.
+/// No claim is left open with a gap where the program is tame for the normal form and the last round settles each fixed point of it, nor
+/// where the program has neither a draw nor a cycle; if termination does not stand in them. Nothing is asked of the negation, as its rounds are
+/// the complements of those of the normal form.
 pub fn settled_claims_are_told()
-    ensures tame { (about : CaseSystem) (claim : Claim) (budget : Budget) (gap : Gap) → SettledIsTold about claim budget gap }
+    ensures tame { (about : CaseSystem) (claim : Claim) (f : Property) (budget : Budget) (gap : Gap) → SettledIsTold about claim f budget gap }
     ensures plain { (about : CaseSystem) → AreProper about → (claim : Claim) (budget : Budget) (gap : Gap) → PlainIsTold about claim budget gap }
 {}
 
