@@ -331,9 +331,10 @@ fn found_of(search: &Search, aim: &Aim) -> Result<Found, PreFault>
 /// The region of an atom has its rows at each location; conjunctions and disjunctions have the states that each argument has, or one of
 /// them. A formula on the next states has those all of whose steps lead into the region of its argument, or some step. A fixed point has the
 /// states at its end, and, where going back over the steps is exact, those of its rounds: up to the eighth in a program with a cycle, and
-/// else up to as many as it has locations. A `gap` says why the region may lack states, of the first subformula where it may: those before
-/// have none, and nor have its arguments. Where there is none, and each comparison has rows, the region has exactly the states where the
-/// formula holds, and at each other one its negation does.
+/// else up to as many as it has locations. A `gap` says why the region may lack states: the program is not tame for the formula; or, if each
+/// comparison has rows, the subformula that it names is a fixed point that the last round does not settle, or termination or its negation.
+/// Where there is none, and each comparison has rows, the region has exactly the states where the formula holds, and at each other one its
+/// negation does.
 ///
 /// Where the whole program has a lexicographic ranking, termination holds everywhere, and so does a fixed point over every run that must
 /// come to an end if each state is at its end, or on the way with a step. A ranking system that is not settled counts as none.
