@@ -1,0 +1,208 @@
+//! What is proved of formulas, or why nothing is.
+
+use crate::claims::{Asks, is_said_of_texts};
+use crate::programs::{BESIDE, BOTH_WAYS, CHAIN, CLIMBER, DRAWN, EMPTY, HALF, LOOP, STEP};
+use std::test::Fail;
+use tv_cert::{Claim, Verdict};
+use tv_farkas::{Budget, CoverFault};
+use tv_pre::{Gap, PreFault, Setting, Unproved, prove};
+use tv_region::RegionFault;
+use tv_shape::Certificate;
+
+const AMPLE: Budget = Budget {
+    pivots: 1000,
+    splits: 64,
+    disjuncts: 256,
+};
+
+/// For one piece at a location.
+const ONE: Budget = Budget {
+    pivots: 1000,
+    splits: 64,
+    disjuncts: 1,
+};
+
+/// Without a split.
+const UNSPLIT: Budget = Budget {
+    pivots: 1000,
+    splits: 0,
+    disjuncts: 256,
+};
+
+/// What is to come of a formula.
+#[derive(Clone, Copy)]
+enum Wanted {
+    Proved,
+    Disproved,
+    /// Going back is not exact.
+    Inexact,
+    /// The subformula with this number is left open.
+    Open(u32),
+    /// The comparison with this number has no rows.
+    Wide(u32),
+    /// So many pieces at this location are more than is allowed.
+    Pieces(u32, u64),
+    /// A question takes more splits than are allowed.
+    Splits,
+}
+
+/// Whether it is left as is wanted.
+fn is_left(wanted: &Wanted, why: &Unproved) -> bool {
+    match (wanted, why) {
+        (Wanted::Inexact, Unproved::Left(Gap::Inexact)) => true,
+        (Wanted::Open(number), Unproved::Left(Gap::Open { place })) => number == place,
+        (Wanted::Wide(number), Unproved::Wide { place }) => number == place,
+        _ => false,
+    }
+}
+
+/// Whether it is refused as is wanted.
+fn is_refused(wanted: &Wanted, fault: &PreFault) -> bool {
+    match (wanted, fault) {
+        (
+            Wanted::Pieces(there, many),
+            PreFault::Region {
+                fault: RegionFault::Disjuncts { location, count },
+            },
+        ) => there == location && many == count,
+        (
+            Wanted::Splits,
+            PreFault::Cover {
+                fault: CoverFault::Splits { .. },
+            },
+        ) => true,
+        _ => false,
+    }
+}
+
+/// Whether the certificate says what is wanted.
+fn is_settled(wanted: &Wanted, certificate: &Certificate) -> bool {
+    match (wanted, certificate.verdict()) {
+        (Wanted::Proved, Verdict::Proved(_)) => true,
+        (Wanted::Disproved, Verdict::Disproved { .. }) => true,
+        _ => false,
+    }
+}
+
+impl Asks for Wanted {
+    fn is_answered(&self, setting: &Setting, claim: &Claim) -> bool {
+        match prove(setting, claim) {
+            Ok(certificate) => is_settled(self, &certificate),
+            Err(Unproved::Refused(fault)) => is_refused(self, &fault),
+            Err(why) => is_left(self, &why),
+        }
+    }
+}
+
+/// A program, a formula, and what is to come of it.
+type Example = (&'static str, &'static str, Wanted);
+
+/// Atoms, what is made of them, and the next states.
+const STATES: &[Example] = &[
+    (EMPTY, "at(0)", Wanted::Proved),
+    (EMPTY, "!at(0)", Wanted::Disproved),
+    (LOOP, "x > 0 || x <= 0", Wanted::Proved),
+    (LOOP, "at(0) && x > 0", Wanted::Disproved),
+    (STEP, "[AX](at(1))", Wanted::Proved),
+    (STEP, "[EX](x == 1 || x == 3)", Wanted::Disproved),
+    (EMPTY, "[AX](false)", Wanted::Proved),
+    (EMPTY, "[EX](true)", Wanted::Disproved),
+    (DRAWN, "[EX](x == 7)", Wanted::Proved),
+];
+
+/// Fixed points, by rounds and by ranks.
+const PATHS: &[Example] = &[
+    (LOOP, "[AF](x <= 0)", Wanted::Proved),
+    (LOOP, "[AF](x < 0)", Wanted::Disproved),
+    (LOOP, "[EU](x > 3)(x <= 0)", Wanted::Disproved),
+    (LOOP, "[AG](x >= 0)", Wanted::Disproved),
+    (LOOP, "[EG](true)", Wanted::Proved),
+    (CLIMBER, "[AG](x >= 0)", Wanted::Disproved),
+    (CLIMBER, "[EG](x > 0)", Wanted::Disproved),
+    (CLIMBER, "x <= 0 || [EG](x > 0)", Wanted::Proved),
+    (CHAIN, "[AF](at(1))", Wanted::Proved),
+    (CHAIN, "[EF](at(2))", Wanted::Disproved),
+    (CHAIN, "x <= 0 || [AF](at(2))", Wanted::Proved),
+    (DRAWN, "[EF](x == 7)", Wanted::Proved),
+    (DRAWN, "[AF](x < 0)", Wanted::Disproved),
+];
+
+/// Termination inside formulas.
+const TERMINATION: &[Example] = &[
+    (LOOP, "[AX](term)", Wanted::Proved),
+    (LOOP, "[EX](!term)", Wanted::Disproved),
+    (CHAIN, "[AX](term)", Wanted::Proved),
+];
+
+/// What is left open. In the last one every run does come to its end, and the program is ranked; but that no number is even and odd is
+/// not told by the ranks, as the rows have a rational point.
+const LEFT: &[Example] = &[
+    (BOTH_WAYS, "[AF](x == 100)", Wanted::Open(0)),
+    (BOTH_WAYS, "x == 100 || [EF](x == 90)", Wanted::Open(2)),
+    (CLIMBER, "x <= 0 || [AF](x > 100)", Wanted::Open(2)),
+    (HALF, "[EX](at(1))", Wanted::Inexact),
+    (LOOP, "[AX](x < 4611686018427387903 + 1)", Wanted::Wide(1)),
+    (
+        BESIDE,
+        "[AF](x <= 0 && (2*y != z || 2*w + 1 != z))",
+        Wanted::Open(0),
+    ),
+];
+
+#[test]
+fn states_are_told(rt: HostRuntime) -> Result<(), Fail> {
+    for (program, property, wanted) in STATES {
+        assert!(rt;
+            is_said_of_texts(rt.alloc(), program, property, &AMPLE, wanted)?,
+            "{property}"
+        );
+    }
+    Ok(())
+}
+
+#[test]
+fn paths_are_told(rt: HostRuntime) -> Result<(), Fail> {
+    for (program, property, wanted) in PATHS {
+        assert!(rt;
+            is_said_of_texts(rt.alloc(), program, property, &AMPLE, wanted)?,
+            "{property}"
+        );
+    }
+    Ok(())
+}
+
+#[test]
+fn termination_is_told(rt: HostRuntime) -> Result<(), Fail> {
+    for (program, property, wanted) in TERMINATION {
+        assert!(rt;
+            is_said_of_texts(rt.alloc(), program, property, &AMPLE, wanted)?,
+            "{property}"
+        );
+    }
+    Ok(())
+}
+
+#[test]
+fn what_is_left_has_its_cause(rt: HostRuntime) -> Result<(), Fail> {
+    for (program, property, wanted) in LEFT {
+        assert!(rt;
+            is_said_of_texts(rt.alloc(), program, property, &AMPLE, wanted)?,
+            "{property}"
+        );
+    }
+    Ok(())
+}
+
+#[test]
+fn the_pieces_of_a_region_are_counted(rt: HostRuntime) -> Result<(), Fail> {
+    let wanted = Wanted::Pieces(0, 2);
+    assert!(rt; is_said_of_texts(rt.alloc(), STEP, "[EX](x == 1 || x == 3)", &ONE, &wanted)?);
+    Ok(())
+}
+
+#[test]
+fn the_splits_of_a_question_are_counted(rt: HostRuntime) -> Result<(), Fail> {
+    let property = "x <= 0 || x > 0";
+    assert!(rt; is_said_of_texts(rt.alloc(), LOOP, property, &UNSPLIT, &Wanted::Splits)?);
+    Ok(())
+}
