@@ -29,7 +29,7 @@ use Rattle.tv_cases.specs.EdgeCases.{columns_from}
 use Rattle.tv_cases.specs.Before.{before, rows_after, term_row, FitsTerms}
 use Rattle.tv_cases.specs.LinearCases.{LinearCase, IsCase}
 use Rattle.tv_cases.proofs.BeforeValue.{before-value}
-use Rattle.tv_cases.proofs.BeforeLemmas.{PutIn, composed_same, after_terms, put_before}
+use Rattle.tv_cases.proofs.BeforeLemmas.{composed_same, before_same, before_even}
 use Rattle.tv_cert.specs.Choices.{drawn_change, drawn_guards}
 use Rattle.tv_cert.specs.Obligations.{case_change}
 use Rattle.tv_choice.specs.declared.ways.Way.{Way}
@@ -194,7 +194,7 @@ pub case_rows_more : (n : ℕ) (c : LinearCase) (owed : List Linear) (i : ℕ) (
 case_rows_more n c owed i r s rows new l e wide us same fits en h =
     subst (λ os. AreCaseRows n c os new) (sym (take_more owed i r l e)) (subst (λ rs. AreCaseRows n c (take i owed ++ r ∷ []) rs) (sym (en ∙ ap (λ x. rows ++ x ∷ []) same)) record {
       exact = ap (λ rs. rs ++ before r c ∷ []) h.exact ∙ append_assoc c.guards (map (λ q. before q c) (take i owed)) (before r c ∷ []) ∙ ap (λ rs. c.guards ++ rs) (sym (map-append (λ q. before q c) (take i owed) (r ∷ [])));
-      even = All-push (λ q. columns q ≡ n + c.draws) rows (before r c) h.even put.even;
+      even = All-push (λ q. columns q ≡ n + c.draws) rows (before r c) h.even (before_even n c r wide us fits);
       narrow = All-push IsNarrowRow rows (before r c) h.narrow (λ column l. (fits column l).narrow);
       seen = subst (λ ks. AreSame (n + c.draws) ks (as_given c.guards ++ map (case_change n c) (take i owed ++ r ∷ []))) (sym (as_given-append rows (before r c ∷ [])))
           (subst (λ ks. AreSame (n + c.draws) (as_given rows ++ given (before r c) ∷ []) ks)
@@ -202,14 +202,8 @@ case_rows_more n c owed i r s rows new l e wide us same fits en h =
           (same_push (n + c.draws) (as_given rows) (as_given c.guards ++ map (case_change n c) (take i owed)) (given (before r c)) (case_change n c r) h.seen one));
     })
   where
-    put : PutIn (n + c.draws) r (map (term_row (n + c.draws)) (terms_after n c.updates)) (before r c)
-    put = put_before n r c wide us fits
-
-    many : length (map (term_row (n + c.draws)) (terms_after n c.updates)) ≡ n
-    many = length-map (terms_after n c.updates) (term_row (n + c.draws)) ∙ length-table n (update_of c.updates)
-
     one : SameNumbers (n + c.draws) (given (before r c)) (case_change n c r)
-    one = composed_same n (n + c.draws) r (before r c) (given r) (terms_after n c.updates) (map (term_row (n + c.draws)) (terms_after n c.updates)) wide many (same_self n (given r)) (after_terms (n + c.draws) n c.updates us) put
+    one = before_same n c r wide us fits
 
 pub made_more : (n : ℕ) (c : LinearCase) (owed : List Linear) (i : ℕ) (r s : Linear) (rows new : List Linear) → i < length owed → r ≡ get_or owed i r → columns r ≡ n → All (λ u. columns u.term ≡ n + c.draws) c.updates → s ≡ before r c → ((column : ℕ) → column ≤ columns (before r c) → FitsTerms (columns r + c.draws) r (rows_after r c) column) → new ≡ rows ++ s ∷ [] → AreMade n c (take i owed) rows → AreMade n c (take (i + 1) owed) new
 made_more n c owed i r s rows new l e wide us same fits en h = record {

@@ -21,7 +21,7 @@ use Rattle.tv_cert.specs.Obligations.{About, Obligation, AllMet, paired}
 use Rattle.tv_cert.specs.Pieces.{place_of, pieces_at}
 use Rattle.tv_cert.specs.Statements.{ends}
 use Rattle.tv_cert.specs.Shapes.{ProofShape, PieceShape, OwnShape, HaveShapes}
-use Rattle.tv_cert.proofs.NodeLemmas.{out_is}
+use Rattle.tv_cert.proofs.NodeLemmas.{out_is, pieces_are}
 use Rattle.tv_shape.specs.Depths.{proof_splits}
 use Rattle.tv_shape.specs.Fitting.{KidsNarrow, KidsGoWithin}
 use Rattle.tv_shape.specs.Narrow.{PieceNarrow, ProofNarrow}

@@ -22,8 +22,8 @@ rows_before-requires-clause-even c =
     subst (λ n. All (λ r. columns r ≡ n) c.known_at-owed.result.now) (sym c.variables-2.ensures.same)
     (subst (All (λ r. columns r ≡ about.variables)) (sym owed) (over_at about.variables known (case_at about.cases k).to c.requires.known.over))
 
-pub rows_with-requires-clause-few : goal.rows_with-requires-clause-few
-rows_with-requires-clause-few c =
+pub rows_with-requires : goal.rows_with-requires
+rows_with-requires c =
     let about = cases_of c.args.about.now in
     let known = c.args.known.now.pieces.items in
     let k = c.args.number in

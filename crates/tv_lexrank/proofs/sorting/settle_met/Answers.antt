@@ -8,8 +8,8 @@ use Rattle.tv_lexrank.proofs.SettleLemmas.{taken_met}
 use Rattle.tv_lexrank.proofs.SortLemmas.{of_case}
 use Rattle.tv_lexrank.proofs.sorting.settle_met.Goals as goal
 
-pub rows_with-requires-clause-few : goal.rows_with-requires-clause-few
-rows_with-requires-clause-few c =
+pub rows_with-requires : goal.rows_with-requires
+rows_with-requires c =
     let q = c.args.component.now in
     let about = cases_of q.about.now in
     let known = q.known.now.pieces.items in
