@@ -25,7 +25,7 @@ use Rattle.tv_cert.proofs.NodeLemmas.{out_is, pieces_are}
 use Rattle.tv_shape.specs.Depths.{proof_splits}
 use Rattle.tv_shape.specs.Fitting.{KidsNarrow, KidsGoWithin}
 use Rattle.tv_shape.specs.Narrow.{PieceNarrow, ProofNarrow}
-use Rattle.tv_shape.specs.Made.{HasOwn, IsOffered}
+use Rattle.tv_shape.specs.Made.{HasOwn, IsOffered, IsFitted}
 use Rattle.tv_lexrank.specs.declared.round.Round.{Round}
 use Rattle.tv_lexrank.specs.declared.ranking.Ranking.{Ranking}
 use Rattle.tv_lexrank.specs.Rounds.{terms_at}

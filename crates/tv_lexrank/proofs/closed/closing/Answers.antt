@@ -32,8 +32,10 @@ rows_with-requires c =
     let all = over_at about.variables known (case_at about.cases k).from c.requires.known.over in
     let draws = c.case_of-case.ensures.limits.few_draws in
     let variables = c.case_of-case.ensures.few in
-    have_room about.variables c.case_of-case.result.now.draws c.known_at-started.result.now (omega (arith, draws, variables))
-    (subst (All (λ r. columns r ≡ about.variables)) (sym started) all)
+    record {
+      few = have_room about.variables c.case_of-case.result.now.draws c.known_at-started.result.now (omega (arith, draws, variables))
+          (subst (All (λ r. columns r ≡ about.variables)) (sym started) all);
+    }
 
 pub cover_into-requires-clause-even : goal.cover_into-requires-clause-even
 cover_into-requires-clause-even c =

@@ -19,8 +19,10 @@ rows_with-requires c =
     let all = over_at about.variables known (case_at about.cases k).from q.known_rows.over in
     let draws = c.case_of-case.ensures.limits.few_draws in
     let variables = c.case_of-case.ensures.few in
-    have_room about.variables c.case_of-case.result.now.draws c.known_at-rows.result.now (omega (arith, draws, variables))
-    (subst (All (λ r. columns r ≡ about.variables)) (sym rows) all)
+    record {
+      few = have_room about.variables c.case_of-case.result.now.draws c.known_at-known.result.now (omega (arith, draws, variables))
+          (subst (All (λ r. columns r ≡ about.variables)) (sym rows) all);
+    }
 
 pub settle_rows-requires-clause-even : goal.settle_rows-requires-clause-even
 settle_rows-requires-clause-even c =
