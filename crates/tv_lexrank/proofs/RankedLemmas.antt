@@ -26,6 +26,7 @@ use Rattle.tv_shape.specs.Depths.{proof_splits}
 use Rattle.tv_shape.specs.Fitting.{KidsNarrow, KidsGoWithin}
 use Rattle.tv_shape.specs.Narrow.{PieceNarrow, ProofNarrow}
 use Rattle.tv_shape.specs.Made.{HasOwn, IsOffered, IsFitted}
+use Rattle.tv_shape.proofs.MadeLemmas.{node_fitted}
 use Rattle.tv_lexrank.specs.declared.round.Round.{Round}
 use Rattle.tv_lexrank.specs.declared.ranking.Ranking.{Ranking}
 use Rattle.tv_lexrank.specs.Rounds.{terms_at}
