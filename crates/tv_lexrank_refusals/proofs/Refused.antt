@@ -4,8 +4,8 @@ use Rattle.std.specs.Prelude.{Ok, Err}
 use Rattle.std.specs.List.{Contains}
 use Rattle.std.proofs.lemmas.List.{get_or_default}
 use Rattle.std.proofs.lemmas.List.Elements.{All-contains, Contains-append_cases, Contains-append_left, Contains-append_right}
-use Rattle.tv_linear.specs.Linear.{Linear, linear, columns}
-use Rattle.tv_linear.specs.Arithmetic.{zeros, padded_row}
+use Rattle.tv_linear.specs.Linear.{Linear, columns}
+use Rattle.tv_linear.specs.Arithmetic.{padded_row}
 use Rattle.tv_linear.specs.declared.fault.RowFault.TheVariants as row
 use Rattle.tv_linear.specs.declared.region.Piece.{Piece}
 use Rattle.tv_cases.specs.LinearCases.{LinearCase, CaseSystem}
@@ -67,15 +67,11 @@ module _ (about : CaseSystem) (known : List Piece) where
     wide : (l : ℕ) (r : Linear) → Contains (rows_at known l) r → columns r ≡ about.variables
     wide l r a = All-contains (λ r. columns r ≡ about.variables) (rows_at known l) r (over_at about.variables known l fits.over) a
 
-    -- a row that is known where the case starts, with a column for each draw
-    padded_is : (r : Linear) → columns r ≡ about.variables → with_more r (zeros c.draws) ≡ padded_row (about.variables + c.draws) r
-    padded_is r e = ap (λ n. linear (r.coefficients ++ zeros n) r.constant) (let q : c.draws ≡ about.variables + c.draws - columns r = omega (arith, e) in q)
-
     pub over_derived : (h : ℕ) (r : Linear) → Contains (padded_rows (way_of about.cases known k)) r → IsDerived about base (over_case c) h r
-    over_derived h r a = elim (Contains-append_cases (map (padded_row (about.variables + c.draws)) (rows_at known c.from)) c.guards r a) [
+    over_derived h r a = elim (Contains-append_cases (map (padded_row c.draws) (rows_at known c.from)) c.guards r a) [
       | inl there ↦
-          let from = Contains-from_map (padded_row (about.variables + c.draws)) (rows_at known c.from) r there in
-          subst (IsDerived about base (over_case c) h) (padded_is from.0 (wide c.from from.0 from.1) ∙ from.2)
+          let from = Contains-from_map (padded_row c.draws) (rows_at known c.from) r there in
+          subst (IsDerived about base (over_case c) h) from.2
           (over about base c h from.0 (row_derived h c.from from.0 from.1))
       | inr of ↦ guard c r among of
     ]
