@@ -41,6 +41,7 @@ use Rattle.tv_pre.specs.Ranked.{EachOf, IsRankBelow, IsLayered}
 use Rattle.tv_pre.proofs.AddLemmas.{flat_append}
 use Rattle.tv_pre.proofs.FixedLemmas.{EachGoes, each_goes, fixed_part}
 use Rattle.tv_pre.proofs.PieceLemmas.{are_marked, marked_append, marked_shape}
+use Rattle.tv_pre.proofs.NodeLemmas.{states}
 
 pub come_is : (about : CaseSystem) (number : ℕ) (path : Path) (shape : Shape) (all first second : List Marked) (p : Marked) → must_end shape ≡ true → cover_of number kind.Hold (about_with about) p (hold_side shape first second) ∷ come_of about number path p all ≡ fix_of number (about_with about) path shape all first second p true
 come_is about number path Weak all first second p e = absurd (let no : ⊥ = cc in no)

@@ -21,6 +21,7 @@ use Rattle.tv_pre.proofs.GrowingLemmas.{each_done, ranks_may}
 use Rattle.tv_pre.proofs.PieceLemmas.{are_marked, marked_append, marked_shape}
 use Rattle.tv_pre.proofs.RankedUntilLemmas.{ranked_each, ranked_goes, ranked_marked, ranked_shape}
 use Rattle.tv_pre.proofs.ranked_coming.ranked_until.Goals as goal
+use Rattle.tv_pre.proofs.NodeLemmas.{states}
 
 pub returns-clause-region : goal.returns-clause-region
 returns-clause-region c =
