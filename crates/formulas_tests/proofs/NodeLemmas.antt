@@ -50,10 +50,13 @@ module _ (about : CaseSystem) where
   leads_before into back b s p m = (every_before about into back b).right s p m
 
   pub stops_first : (none stops : Region) (layers : List Region) → IsNowhere about none → IsBeforeAll about none stops → layers ≡ stops ∷ [] → AreEndLayers about [] layers
-  stops_first none stops layers n b e = subst (AreEndLayers about []) (sym e) (record {
-    over = b.fits;
-    leads = λ s p m t st. absurd (no_piece none.pieces.items t n.none (leads_before none stops b s p m t st));
-  }, tt)
+  stops_first none stops layers n b e = subst (AreEndLayers about []) (sym e) (
+    record {
+      over = b.fits;
+      leads = λ s p m t st. absurd (no_piece none.pieces.items t n.none (leads_before none stops b s p m t st));
+    },
+    tt,
+  )
 
   -- ---- the end alone
   pub no_layers : (sides : Sides) (end : Region) (layers : List Region) → layers ≡ [] → AreNextLayers about sides end.pieces.items layers
