@@ -1,6 +1,7 @@
 // Areas, the steps between them, and ranks of them.
 
 pub(crate) mod area;
+pub(crate) mod changes;
 pub(crate) mod covers;
 pub(crate) mod cutting;
 pub(crate) mod entering;

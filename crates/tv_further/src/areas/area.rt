@@ -12,6 +12,13 @@ pub(crate) struct Area {
     pub rows: Vec<Row>,
 }
 
+/// A copy of the area.
+pub(crate) fn copy_of(alloc: Global, area: &Area) -> Result<Area, AllocError> {
+    let rows = copies(alloc, &area.rows)?;
+    let location = area.location;
+    Ok(Area { location, rows })
+}
+
 /// Each location whole, in their order.
 pub(crate) fn whole_locations(question: &Question) -> Result<Vec<Area>, AllocError> {
     let mut areas = Vec::new(question.alloc);
@@ -82,18 +89,37 @@ pub(crate) fn each_with_each(
     })
 }
 
+/// The row as a list.
+pub(crate) fn list_of(alloc: Global, row: Row) -> Result<Vec<Row>, AllocError> {
+    let mut list = Vec::new(alloc);
+    list.push(row)?;
+    Ok(list)
+}
+
 /// The denials of the rows, each as a list of its own; `None` where one is too wide.
 pub(crate) fn denials(alloc: Global, rows: &[Row]) -> Result<Option<Vec<Vec<Row>>>, AllocError> {
     let mut lists = Vec::new(alloc);
     for row in rows {
-        let Some(denial) = denied(alloc, row)? else {
-            return Ok(None);
-        };
-        let mut list = Vec::new(alloc);
-        list.push(denial)?;
-        lists.push(list)?;
+        match denied(alloc, row)? {
+            None => return Ok(None),
+            Some(denial) => lists.push(list_of(alloc, denial)?)?,
+        }
     }
     Ok(Some(lists))
+}
+
+/// Each list with the denial of each of the rows; `None` where there are too many, or a denial is too wide.
+fn each_outside(
+    alloc: Global,
+    columns: usize,
+    lists: &[Vec<Row>],
+    rows: &[Row],
+    effort: &mut Effort,
+) -> Result<Option<Vec<Vec<Row>>>, AllocError> {
+    match denials(alloc, rows)? {
+        None => Ok(None),
+        Some(more) => each_with_each(alloc, columns, lists, &more, effort),
+    }
 }
 
 /// Lists of rows one of which is met where none of these lists is met whole; `None` where there are too many.
@@ -106,10 +132,7 @@ pub(crate) fn outside(
     let mut all = Vec::new(alloc);
     all.push(Vec::new(alloc))?;
     for rows in lists {
-        let Some(more) = denials(alloc, rows)? else {
-            return Ok(None);
-        };
-        match each_with_each(alloc, columns, &all, &more, effort)? {
+        match each_outside(alloc, columns, &all, rows, effort)? {
             None => return Ok(None),
             Some(next) => all = next,
         }

@@ -1,6 +1,6 @@
 // Lists of rows cut by others, and which lie inside which.
 
-use crate::areas::area::{Area, both, denials};
+use crate::areas::area::{Area, both, denials, list_of, lists_at};
 use crate::limits::AREAS;
 use crate::question::Question;
 use crate::rows::combining::is_constant;
@@ -121,6 +121,18 @@ pub(crate) fn cut_by_all(
     Ok(Some(parts))
 }
 
+/// The parts of an area outside of others; `None` where there are too many.
+pub(crate) fn parts_outside(
+    question: &Question,
+    area: &Area,
+    others: &[Area],
+    effort: &mut Effort,
+) -> Result<Option<Vec<Vec<Row>>>, AllocError> {
+    let columns = question.about.variables() as usize;
+    let inner = lists_at(question.alloc, others, area.location)?;
+    cut_by_all(question.alloc, columns, &area.rows, &inner, effort)
+}
+
 /// Whether the first rows are shown to ask for at least as much as the second.
 fn is_inside(
     alloc: Global,
@@ -155,6 +167,34 @@ pub(crate) fn is_inside_any(
     Ok(false)
 }
 
+/// Puts the area of these rows at the location at the end of the areas, unless it lies inside one of them.
+pub(crate) fn push_apart(
+    question: &Question,
+    location: u32,
+    rows: Vec<Row>,
+    areas: &mut Vec<Area>,
+    effort: &mut Effort,
+) -> Result<(), AllocError> {
+    let columns = question.about.variables() as usize;
+    let area = Area { location, rows };
+    if !is_inside_any(question.alloc, columns, &area, areas, effort)? {
+        areas.push(area)?;
+    }
+    Ok(())
+}
+
+/// The rows of the part of an area where one more row is met; `None` where it is empty.
+fn rows_with(
+    question: &Question,
+    area: &Area,
+    row: Row,
+    effort: &mut Effort,
+) -> Result<Option<Vec<Row>>, AllocError> {
+    let columns = question.about.variables() as usize;
+    let more = list_of(question.alloc, row)?;
+    both(question.alloc, columns, &area.rows, &more, effort)
+}
+
 /// The two parts of an area, where the row is met and where it is not; `None` where one of them is empty.
 pub(crate) fn halves_of(
     question: &Question,
@@ -162,19 +202,13 @@ pub(crate) fn halves_of(
     row: &Row,
     effort: &mut Effort,
 ) -> Result<Option<(Vec<Row>, Vec<Row>)>, AllocError> {
-    let alloc = question.alloc;
-    let columns = question.about.variables() as usize;
-    let Some(denial) = denied(alloc, row)? else {
+    let Some(denial) = denied(question.alloc, row)? else {
         return Ok(None);
     };
-    let mut rows = Vec::new(alloc);
-    rows.push(row.copy(alloc)?)?;
-    let Some(met) = both(alloc, columns, &area.rows, &rows, effort)? else {
+    let Some(met) = rows_with(question, area, row.copy(question.alloc)?, effort)? else {
         return Ok(None);
     };
-    let mut rows = Vec::new(alloc);
-    rows.push(denial)?;
-    match both(alloc, columns, &area.rows, &rows, effort)? {
+    match rows_with(question, area, denial, effort)? {
         None => Ok(None),
         Some(other) => Ok(Some((met, other))),
     }

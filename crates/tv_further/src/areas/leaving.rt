@@ -1,7 +1,7 @@
 // Where a step may lead out of some areas.
 
 use crate::areas::area::Area;
-use crate::areas::cutting::cut_by;
+use crate::areas::cutting::{cut_by, cut_by_all};
 use crate::areas::passage::{rows_entered, rows_left, width_of};
 use crate::question::Question;
 use crate::rows::shadow::shadow;
@@ -9,6 +9,37 @@ use crate::rows::solving::{Effort, may_have_point};
 use std::alloc::AllocError;
 use tv_cases::Case;
 use tv_linear::Row;
+
+/// The steps by the case from the area, as one list of rows; `None` where a row is too wide.
+fn all_steps(
+    question: &Question,
+    area: &Area,
+    case: &Case,
+) -> Result<Option<Vec<Vec<Row>>>, AllocError> {
+    let columns = question.about.variables() as usize;
+    let Some(rows) = rows_left(question.alloc, columns, case, &area.rows)? else {
+        return Ok(None);
+    };
+    let mut lists = Vec::new(question.alloc);
+    lists.push(rows)?;
+    Ok(Some(lists))
+}
+
+/// The parts of the steps by the case that do not lead into the area; `None` where there are too many.
+fn steps_past(
+    question: &Question,
+    case: &Case,
+    steps: &[Vec<Row>],
+    entered: &Area,
+    effort: &mut Effort,
+) -> Result<Option<Vec<Vec<Row>>>, AllocError> {
+    let alloc = question.alloc;
+    let columns = question.about.variables() as usize;
+    match rows_entered(alloc, columns, case, &entered.rows)? {
+        None => Ok(None),
+        Some(rows) => cut_by(alloc, width_of(columns, case), steps, &rows, effort),
+    }
+}
 
 /// The parts of the steps by the case from the area that lead into none of the areas; `None` where there are too many.
 fn steps_out(
@@ -18,26 +49,18 @@ fn steps_out(
     areas: &[Area],
     effort: &mut Effort,
 ) -> Result<Option<Vec<Vec<Row>>>, AllocError> {
-    let alloc = question.alloc;
-    let columns = question.about.variables() as usize;
-    let width = width_of(columns, case);
-    let Some(rows) = rows_left(alloc, columns, case, &area.rows)? else {
+    let Some(mut steps) = all_steps(question, area, case)? else {
         return Ok(None);
     };
-    let mut lists = Vec::new(alloc);
-    lists.push(rows)?;
     for entered in areas {
         if entered.location == case.to {
-            let Some(rows) = rows_entered(alloc, columns, case, &entered.rows)? else {
-                return Ok(None);
-            };
-            match cut_by(alloc, width, &lists, &rows, effort)? {
+            match steps_past(question, case, &steps, entered, effort)? {
                 None => return Ok(None),
-                Some(next) => lists = next,
+                Some(fewer) => steps = fewer,
             }
         }
     }
-    Ok(Some(lists))
+    Ok(Some(steps))
 }
 
 /// Puts what the steps have before them, whatever is drawn, at the end of the lists.
@@ -77,4 +100,18 @@ pub(crate) fn lists_leaving(
         }
     }
     Ok(Some(lists))
+}
+
+/// The parts of an area from which no step leads out of the areas; `None` where there are too many.
+pub(crate) fn parts_staying(
+    question: &Question,
+    area: &Area,
+    areas: &[Area],
+    effort: &mut Effort,
+) -> Result<Option<Vec<Vec<Row>>>, AllocError> {
+    let columns = question.about.variables() as usize;
+    match lists_leaving(question, area, areas, effort)? {
+        None => Ok(None),
+        Some(lists) => cut_by_all(question.alloc, columns, &area.rows, &lists, effort),
+    }
 }

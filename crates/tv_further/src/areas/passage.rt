@@ -5,7 +5,7 @@ use crate::rows::combining::{all_put_in, put_in, unit_row};
 use crate::rows::solving::{Effort, may_have_point};
 use std::alloc::{AllocError, Global};
 use tv_cases::Case;
-use tv_linear::{Row, copies};
+use tv_linear::{Row, push_copies};
 
 /// What a step makes of the variables: the term of each after it, over so many columns, of which the variables before it are the first.
 #[derive(Drop)]
@@ -54,6 +54,19 @@ fn kept_terms(alloc: Global, columns: usize, width: usize) -> Result<Vec<Row>, A
     Ok(terms)
 }
 
+/// The term of a variable after the case, over so many columns; `None` where there are too many.
+fn case_term(
+    alloc: Global,
+    width: usize,
+    case: &Case,
+    variable: usize,
+) -> Result<Option<Row>, AllocError> {
+    match term_of(case, variable) {
+        Some(term) => Ok(Some(term.copy(alloc)?)),
+        None => unit_row(alloc, width, variable),
+    }
+}
+
 /// The terms of the variables after the case, over the variables and its draws.
 pub(crate) fn case_terms(
     alloc: Global,
@@ -63,13 +76,8 @@ pub(crate) fn case_terms(
     let width = width_of(columns, case);
     let mut terms = Vec::new(alloc);
     for variable in 0..columns {
-        match term_of(case, variable) {
-            Some(term) => terms.push(term.copy(alloc)?)?,
-            None => {
-                if let Some(row) = unit_row(alloc, width, variable)? {
-                    terms.push(row)?;
-                }
-            }
+        if let Some(term) = case_term(alloc, width, case, variable)? {
+            terms.push(term)?;
         }
     }
     Ok(terms)
@@ -98,8 +106,7 @@ pub(crate) fn rows_left(
     let Some(mut all) = all_put_in(alloc, width, rows, &kept)? else {
         return Ok(None);
     };
-    let mut guards = copies(alloc, &case.guards.rows)?;
-    all.append(&mut guards)?;
+    push_copies(alloc, &case.guards.rows, &mut all)?;
     Ok(Some(all))
 }
 

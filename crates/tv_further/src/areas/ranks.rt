@@ -3,164 +3,16 @@
 // each component, so the number of components grows with the loops inside of one another, and not with those one after another.
 
 use crate::areas::area::Area;
-use crate::areas::passage::{Effect, Passage, effect_of, widened_row};
+use crate::areas::changes::{Change, change_over, growth, not_below, raised};
+use crate::areas::passage::{Effect, Passage, effect_of};
 use crate::areas::reach::Reach;
 use crate::areas::terms::terms_of;
 use crate::graphs::proving::number_row;
 use crate::limits::RANK_ROUNDS;
 use crate::question::Question;
-use crate::rows::combining::{is_constant, less, put_in};
-use crate::rows::solving::{Effort, is_known};
+use crate::rows::solving::Effort;
 use std::alloc::{AllocError, Global};
 use tv_linear::Row;
-
-/// How a term changes over a passage.
-#[derive(Clone, Copy, PartialEq, Eq)]
-pub(crate) enum Change {
-    /// It may grow.
-    Grows,
-    /// It does not grow.
-    Stays,
-    /// It falls, from a value that is not below 0.
-    Falls,
-}
-
-/// The row plus 1.
-fn raised(alloc: Global, width: usize, row: &Row) -> Result<Option<Row>, AllocError> {
-    match number_row(alloc, width, -1)? {
-        None => Ok(None),
-        Some(less_one) => less(alloc, width, row, &less_one),
-    }
-}
-
-/// What a term after the step is more than another one before it; at most 0 where it does not grow.
-fn growth(
-    question: &Question,
-    effect: &Effect,
-    before: &Row,
-    after: &Row,
-) -> Result<Option<Row>, AllocError> {
-    let alloc = question.alloc;
-    let columns = question.about.variables() as usize;
-    let Some(new) = put_in(alloc, effect.width, after, &effect.terms)? else {
-        return Ok(None);
-    };
-    match widened_row(alloc, columns, effect.width, before)? {
-        None => Ok(None),
-        Some(old) => less(alloc, effect.width, &new, &old),
-    }
-}
-
-/// The row that is met where the term is not below 0 before a step over so many columns.
-fn not_below(question: &Question, width: usize, term: &Row) -> Result<Option<Row>, AllocError> {
-    let columns = question.about.variables() as usize;
-    match widened_row(question.alloc, columns, width, term)? {
-        None => Ok(None),
-        Some(row) => Ok(Some(row.opposite(question.alloc)?)),
-    }
-}
-
-/// Whether the row is shown where the passage is taken.
-fn is_shown(
-    question: &Question,
-    passage: &Passage,
-    row: Option<Row>,
-    effort: &mut Effort,
-) -> Result<bool, AllocError> {
-    match row {
-        None => Ok(false),
-        Some(row) => is_known(
-            question.alloc,
-            &passage.rows,
-            &row,
-            passage.effect.width,
-            effort,
-        ),
-    }
-}
-
-/// Whether the term is not below 0 where the passage is taken.
-fn is_bounded(
-    question: &Question,
-    passage: &Passage,
-    term: &Row,
-    effort: &mut Effort,
-) -> Result<bool, AllocError> {
-    let bound = not_below(question, passage.effect.width, term)?;
-    is_shown(question, passage, bound, effort)
-}
-
-/// How the term changes over the passage, where it falls from any value.
-pub(crate) fn drift_over(
-    question: &Question,
-    passage: &Passage,
-    term: &Row,
-    effort: &mut Effort,
-) -> Result<Change, AllocError> {
-    let Some(more) = growth(question, &passage.effect, term, term)? else {
-        return Ok(Change::Grows);
-    };
-    let fallen = raised(question.alloc, passage.effect.width, &more)?;
-    if is_shown(question, passage, fallen, effort)? {
-        return Ok(Change::Falls);
-    }
-    if is_shown(question, passage, Some(more), effort)? {
-        Ok(Change::Stays)
-    } else {
-        Ok(Change::Grows)
-    }
-}
-
-/// How the term changes over the passage.
-fn change_over(
-    question: &Question,
-    passage: &Passage,
-    term: &Row,
-    effort: &mut Effort,
-) -> Result<Change, AllocError> {
-    let drift = drift_over(question, passage, term, effort)?;
-    if drift == Change::Falls && !is_bounded(question, passage, term, effort)? {
-        return Ok(Change::Stays);
-    }
-    Ok(drift)
-}
-
-/// How the value of the row changes over the step, as far as that is the same everywhere.
-pub(crate) fn steady_change(
-    question: &Question,
-    effect: &Effect,
-    row: &Row,
-) -> Result<Change, AllocError> {
-    match growth(question, effect, row, row)? {
-        Some(more) if is_constant(&more) && more.constant() > 0 => Ok(Change::Grows),
-        Some(more) if is_constant(&more) && more.constant() < 0 => Ok(Change::Falls),
-        _ => Ok(Change::Stays),
-    }
-}
-
-/// Whether the value of the row is the same before the step and after it.
-pub(crate) fn is_steady(
-    question: &Question,
-    effect: &Effect,
-    row: &Row,
-) -> Result<bool, AllocError> {
-    match growth(question, effect, row, row)? {
-        None => Ok(false),
-        Some(more) => Ok(is_constant(&more) && more.constant() == 0),
-    }
-}
-
-/// The row that is met where the value of the term falls over the step; `None` where that is so everywhere, or nowhere.
-pub(crate) fn falling_row(
-    question: &Question,
-    effect: &Effect,
-    term: &Row,
-) -> Result<Option<Row>, AllocError> {
-    match growth(question, effect, term, term)? {
-        Some(more) if !is_constant(&more) => raised(question.alloc, effect.width, &more),
-        _ => Ok(None),
-    }
-}
 
 /// The places of the passages left inside the part of an area over which the term falls; `None` where it may grow over one of them.
 fn falling_in(
@@ -234,6 +86,36 @@ impl Ranks {
         Ok(())
     }
 
+    /// Adds the reach as a rank, and one of the terms that fall in each part with a passage left.
+    fn add_round(
+        &mut self,
+        question: &Question,
+        terms: &[Row],
+        passages: &mut [Passage],
+        effort: &mut Effort,
+    ) -> Result<Round, AllocError> {
+        let alloc = question.alloc;
+        let columns = question.about.variables() as usize;
+        let areas = self.rows.len();
+        let reach = Reach::new(alloc, areas, passages)?;
+        self.add_reach(alloc, columns, &reach, passages)?;
+        let tried = Tried {
+            terms,
+            reach: &reach,
+        };
+        match tried.falling_parts(question, passages, effort)? {
+            Parts::Stuck(area) => Ok(Round::Stuck(joined_with(alloc, &reach, areas, area)?)),
+            Parts::Falling(parts) => {
+                if parts.is_empty() {
+                    return Ok(Round::Ended);
+                }
+                self.add_terms(alloc, columns, &tried, &parts)?;
+                set_falls_in(passages, &parts, self.count);
+                Ok(Round::Added)
+            }
+        }
+    }
+
     /// Adds a rank: of each area the term that falls in its part, and 0 where none does.
     fn add_terms(
         &mut self,
@@ -255,6 +137,17 @@ impl Ranks {
         }
         Ok(())
     }
+}
+
+/// What a round of ranks comes to.
+#[derive(Drop)]
+enum Round {
+    /// Ranks were added that fall over some passages, but not over all.
+    Added,
+    /// A rank falls over each passage.
+    Ended,
+    /// No term falls between the areas at these places.
+    Stuck(Vec<usize>),
 }
 
 /// The terms that are tried, over the passages that are left.
@@ -284,6 +177,23 @@ impl Tried<'_> {
             }
         }
         None
+    }
+
+    /// What falls in the parts with a passage left.
+    fn falling_parts(
+        &self,
+        question: &Question,
+        passages: &[Passage],
+        effort: &mut Effort,
+    ) -> Result<Parts, AllocError> {
+        let mut list = Vec::new(question.alloc);
+        for area in parts_left(question.alloc, self.reach, passages)? {
+            match falling_at(question, self, area, passages, effort)? {
+                None => return Ok(Parts::Stuck(area)),
+                Some(falling) => list.push(falling)?,
+            }
+        }
+        Ok(Parts::Falling(list))
     }
 }
 
@@ -337,24 +247,6 @@ enum Parts {
     Stuck(usize),
 }
 
-/// What falls in the parts of these areas.
-fn falling_parts(
-    question: &Question,
-    tried: &Tried,
-    areas: &[usize],
-    passages: &[Passage],
-    effort: &mut Effort,
-) -> Result<Parts, AllocError> {
-    let mut list = Vec::new(question.alloc);
-    for area in areas {
-        match falling_at(question, tried, *area, passages, effort)? {
-            None => return Ok(Parts::Stuck(*area)),
-            Some(falling) => list.push(falling)?,
-        }
-    }
-    Ok(Parts::Falling(list))
-}
-
 /// Sets the fall of the passages over which a term falls in a part.
 fn set_falls_in(passages: &mut [Passage], parts: &[Falling], fall: u32) {
     for part in parts {
@@ -406,28 +298,12 @@ pub(crate) fn ranks_among(
     passages: &mut [Passage],
     effort: &mut Effort,
 ) -> Result<Ranking, AllocError> {
-    let columns = question.about.variables() as usize;
     let mut ranks = Ranks::new(question.alloc, areas)?;
     for _ in 0..RANK_ROUNDS {
-        let reach = Reach::new(question.alloc, areas, passages)?;
-        ranks.add_reach(question.alloc, columns, &reach, passages)?;
-        let left = parts_left(question.alloc, &reach, passages)?;
-        if left.is_empty() {
-            return Ok(Ranking::Found(ranks));
-        }
-        let tried = Tried {
-            terms,
-            reach: &reach,
-        };
-        match falling_parts(question, &tried, &left, passages, effort)? {
-            Parts::Stuck(area) => {
-                let stuck = joined_with(question.alloc, &reach, areas, area)?;
-                return Ok(Ranking::Stuck(stuck));
-            }
-            Parts::Falling(parts) => {
-                ranks.add_terms(question.alloc, columns, &tried, &parts)?;
-                set_falls_in(passages, &parts, ranks.count);
-            }
+        match ranks.add_round(question, terms, passages, effort)? {
+            Round::Added => {}
+            Round::Ended => return Ok(Ranking::Found(ranks)),
+            Round::Stuck(places) => return Ok(Ranking::Stuck(places)),
         }
     }
     Ok(Ranking::Stuck(Vec::new(question.alloc)))
@@ -463,16 +339,11 @@ pub(crate) fn push_fall_over(
 ) -> Result<bool, AllocError> {
     for (place, (before, after)) in old.iter().zip(new).enumerate() {
         if place < fall {
-            let Some(mut more) = growth(question, effect, before, after)? else {
-                return Ok(false);
-            };
-            if place.saturating_add(1) == fall {
-                match raised(question.alloc, effect.width, &more)? {
-                    None => return Ok(false),
-                    Some(row) => more = row,
-                }
+            let falls = place.saturating_add(1) == fall;
+            match growth_owed(question, effect, before, after, falls)? {
+                None => return Ok(false),
+                Some(row) => rows.push(row)?,
             }
-            rows.push(more)?;
         }
     }
     match fall.checked_sub(1).and_then(|place| old.get(place)) {
@@ -484,5 +355,19 @@ pub(crate) fn push_fall_over(
                 Ok(true)
             }
         },
+    }
+}
+
+/// The row that is met where a rank does not grow, or falls, over a step of this effect; `None` where it is too wide.
+fn growth_owed(
+    question: &Question,
+    effect: &Effect,
+    before: &Row,
+    after: &Row,
+    falls: bool,
+) -> Result<Option<Row>, AllocError> {
+    match growth(question, effect, before, after)? {
+        Some(more) if falls => raised(question.alloc, effect.width, &more),
+        more => Ok(more),
     }
 }

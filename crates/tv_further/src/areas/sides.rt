@@ -6,6 +6,7 @@ use crate::question::Question;
 use crate::rows::solving::Effort;
 use std::alloc::AllocError;
 use tv_cert::Proof;
+use tv_linear::Row;
 
 /// The areas of the two arguments of a fixed point.
 #[derive(Drop)]
@@ -49,6 +50,20 @@ impl Sides<'_> {
     }
 }
 
+/// Lists of rows one of which is met where both arguments hold at the location; `None` where there are too many.
+fn common_lists(
+    question: &Question,
+    first: &[Area],
+    second: &[Area],
+    location: u32,
+    effort: &mut Effort,
+) -> Result<Option<Vec<Vec<Row>>>, AllocError> {
+    let columns = question.about.variables() as usize;
+    let firsts = lists_at(question.alloc, first, location)?;
+    let seconds = lists_at(question.alloc, second, location)?;
+    each_with_each(question.alloc, columns, &firsts, &seconds, effort)
+}
+
 /// The areas where both arguments hold; `None` where there are too many.
 pub(crate) fn common_areas(
     question: &Question,
@@ -56,12 +71,9 @@ pub(crate) fn common_areas(
     second: &[Area],
     effort: &mut Effort,
 ) -> Result<Option<Vec<Area>>, AllocError> {
-    let columns = question.about.variables() as usize;
     let mut areas = Vec::new(question.alloc);
     for location in 0..question.about.locations() {
-        let firsts = lists_at(question.alloc, first, location)?;
-        let seconds = lists_at(question.alloc, second, location)?;
-        match each_with_each(question.alloc, columns, &firsts, &seconds, effort)? {
+        match common_lists(question, first, second, location, effort)? {
             None => return Ok(None),
             Some(lists) => push_areas(&mut areas, location, lists)?,
         }

@@ -1,12 +1,12 @@
 // The areas of a fixed point.
 
-use crate::areas::area::{Area, each_with_each, lists_at, outside, push_areas};
+use crate::areas::area::{Area, copy_of, each_with_each, lists_at, outside, push_areas};
 use crate::areas::sides::Sides;
 use crate::limits::AREAS;
 use crate::question::Question;
 use crate::rows::solving::Effort;
 use std::alloc::{AllocError, Global};
-use tv_linear::copies;
+use tv_linear::Row;
 
 /// The pieces of a fixed point: the first so many are at the end, and the others go on.
 #[derive(Drop)]
@@ -22,12 +22,26 @@ pub(crate) fn push_copied(
     list: &mut Vec<Area>,
 ) -> Result<(), AllocError> {
     for area in areas {
-        list.push(Area {
-            location: area.location,
-            rows: copies(alloc, &area.rows)?,
-        })?;
+        list.push(copy_of(alloc, area)?)?;
     }
     Ok(())
+}
+
+/// Lists of rows one of which is met where the fixed point may go on at the location and is not at the end; `None` where there are too many.
+fn going_lists(
+    question: &Question,
+    sides: &Sides,
+    location: u32,
+    effort: &mut Effort,
+) -> Result<Option<Vec<Vec<Row>>>, AllocError> {
+    let alloc = question.alloc;
+    let columns = question.about.variables() as usize;
+    let ends = lists_at(alloc, sides.end, location)?;
+    let Some(others) = outside(alloc, columns, &ends, effort)? else {
+        return Ok(None);
+    };
+    let holds = lists_at(alloc, sides.hold, location)?;
+    each_with_each(alloc, columns, &holds, &others, effort)
 }
 
 /// The areas at the end, and those that hold outside of them; `None` where there are too many.
@@ -36,18 +50,11 @@ pub(crate) fn stages_of(
     sides: &Sides,
     effort: &mut Effort,
 ) -> Result<Option<Stages>, AllocError> {
-    let alloc = question.alloc;
-    let columns = question.about.variables() as usize;
-    let mut areas = Vec::new(alloc);
-    push_copied(alloc, sides.end, &mut areas)?;
+    let mut areas = Vec::new(question.alloc);
+    push_copied(question.alloc, sides.end, &mut areas)?;
     let done = areas.len();
     for location in 0..question.about.locations() {
-        let ends = lists_at(alloc, sides.end, location)?;
-        let holds = lists_at(alloc, sides.hold, location)?;
-        let Some(others) = outside(alloc, columns, &ends, effort)? else {
-            return Ok(None);
-        };
-        match each_with_each(alloc, columns, &holds, &others, effort)? {
+        match going_lists(question, sides, location, effort)? {
             None => return Ok(None),
             Some(lists) => push_areas(&mut areas, location, lists)?,
         }
@@ -68,10 +75,7 @@ pub(crate) fn without(
     let mut areas = Vec::new(alloc);
     for (place, area) in stages.areas.iter().enumerate() {
         if place < stages.done || !places.contains(&place) {
-            areas.push(Area {
-                location: area.location,
-                rows: copies(alloc, &area.rows)?,
-            })?;
+            areas.push(copy_of(alloc, area)?)?;
         }
     }
     let done = stages.done;

@@ -88,6 +88,37 @@ fn with_row(alloc: Global, area: &Area, row: Row) -> Result<Area, AllocError> {
     Ok(Area { location, rows })
 }
 
+/// The parts of an area where a row is met and where it is not.
+#[derive(Drop)]
+struct Halves {
+    met: Area,
+    other: Area,
+}
+
+/// The parts of the area by the row; `None` where its denial is too wide.
+fn halves_by(alloc: Global, area: &Area, row: &Row) -> Result<Option<Halves>, AllocError> {
+    match denied(alloc, row)? {
+        None => Ok(None),
+        Some(denial) => {
+            let other = with_row(alloc, area, denial)?;
+            let met = with_row(alloc, area, row.copy(alloc)?)?;
+            Ok(Some(Halves { met, other }))
+        }
+    }
+}
+
+/// The choice that is made of those where the row is met and where it is not.
+pub(crate) fn split_choice(
+    alloc: Global,
+    row: &Row,
+    holds: ChoiceTree,
+    fails: ChoiceTree,
+) -> Result<ChoiceTree, AllocError> {
+    let holds = Box::new(alloc, holds)?;
+    let fails = Box::new(alloc, fails)?;
+    Ok(ChoiceTree::Split(row.copy(alloc)?, holds, fails))
+}
+
 /// The choice that the tree is, where target `k` is to make move `k`.
 fn choice_tree(
     question: &Question,
@@ -99,20 +130,16 @@ fn choice_tree(
     let alloc = question.alloc;
     match tree {
         CoverTree::Split(row, holds, fails) => {
-            let Some(denial) = denied(alloc, row)? else {
+            let Some(parts) = halves_by(alloc, area, row)? else {
                 return Ok(None);
             };
-            let inner = with_row(alloc, area, row.copy(alloc)?)?;
-            let Some(holds) = choice_tree(question, &inner, holds, moves, effort)? else {
+            let Some(holds) = choice_tree(question, &parts.met, holds, moves, effort)? else {
                 return Ok(None);
             };
-            let outer = with_row(alloc, area, denial)?;
-            let Some(fails) = choice_tree(question, &outer, fails, moves, effort)? else {
-                return Ok(None);
-            };
-            let holds = Box::new(alloc, holds)?;
-            let fails = Box::new(alloc, fails)?;
-            Ok(Some(ChoiceTree::Split(row.copy(alloc)?, holds, fails)))
+            match choice_tree(question, &parts.other, fails, moves, effort)? {
+                None => Ok(None),
+                Some(fails) => Ok(Some(split_choice(alloc, row, holds, fails)?)),
+            }
         }
         CoverTree::Empty(multipliers) => Ok(Some(ChoiceTree::Empty(Vec::from_slice(
             alloc,

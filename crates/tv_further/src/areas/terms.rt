@@ -16,17 +16,20 @@ fn push_term(
     row: &Row,
     terms: &mut Vec<Row>,
 ) -> Result<(), AllocError> {
-    let Some(zero) = number_row(alloc, columns, 0)? else {
-        return Ok(());
-    };
-    let Some(term) = less(alloc, columns, &zero, row)? else {
-        return Ok(());
-    };
-    if is_constant(&term) {
-        return Ok(());
+    if let Some(term) = opposite_of(alloc, columns, row)?
+        && !is_constant(&term)
+    {
+        add_term(terms, term)?;
     }
-    add_term(terms, term)?;
     Ok(())
+}
+
+/// The opposite of the row over so many columns; `None` where it is too wide.
+fn opposite_of(alloc: Global, columns: usize, row: &Row) -> Result<Option<Row>, AllocError> {
+    match number_row(alloc, columns, 0)? {
+        None => Ok(None),
+        Some(zero) => less(alloc, columns, &zero, row),
+    }
 }
 
 /// Adds the term, unless there are too many. Of two that differ in the constant alone the greater is kept, which is the later below 0.

@@ -14,12 +14,12 @@ pub(crate) fn rows_before(
     way: &Way,
     rows: &[Row],
 ) -> Result<Option<Vec<Row>>, AllocError> {
-    let Some(before) = all_put_in(alloc, columns, rows, &way.terms)? else {
+    let Some(mut before) = all_put_in(alloc, columns, rows, &way.terms)? else {
         return Ok(None);
     };
     let mut all = copies(alloc, &way.guards)?;
     push_copies(alloc, &way.conditions, &mut all)?;
-    push_copies(alloc, &before, &mut all)?;
+    all.append(&mut before)?;
     Ok(Some(all))
 }
 
@@ -160,8 +160,8 @@ fn closed_rows(
     }
 }
 
-/// Rows where the walk can be gone through again and again; `None` where none were found.
-pub(crate) fn closed(
+/// The guards of the walk, read at its beginning and tightened; `None` where no point meets them.
+fn rows_at_first(
     alloc: Global,
     columns: usize,
     ways: &[Way],
@@ -171,16 +171,30 @@ pub(crate) fn closed(
     let Some(guards) = rows_of_walk(alloc, columns, ways, walk, &[])? else {
         return Ok(None);
     };
+    let mut rows = Vec::new(alloc);
+    if push_all_tight(alloc, &guards, &mut rows)?
+        && may_have_point(alloc, &rows, columns, effort)?
+    {
+        Ok(Some(rows))
+    } else {
+        Ok(None)
+    }
+}
+
+/// Rows where the walk can be gone through again and again; `None` where none were found.
+pub(crate) fn closed(
+    alloc: Global,
+    columns: usize,
+    ways: &[Way],
+    walk: &[usize],
+    effort: &mut Effort,
+) -> Result<Option<Vec<Row>>, AllocError> {
     let Some(terms) = terms_of_walk(alloc, columns, ways, walk)? else {
         return Ok(None);
     };
-    let mut rows = Vec::new(alloc);
-    if !push_all_tight(alloc, &guards, &mut rows)? {
+    let Some(rows) = rows_at_first(alloc, columns, ways, walk, effort)? else {
         return Ok(None);
-    }
-    if !may_have_point(alloc, &rows, columns, effort)? {
-        return Ok(None);
-    }
+    };
     let closing = Closing {
         columns,
         terms: &terms,

@@ -77,25 +77,39 @@ pub(crate) fn push_states(
         let Some(way) = ways.get(*place) else {
             return Ok(false);
         };
-        let Some(draws) = draws_at(alloc, graph.variables, way, &now)? else {
-            return Ok(false);
-        };
-        let Some(after) = next_values(alloc, way, &now)? else {
-            return Ok(false);
-        };
-        let step = Step {
-            taken: way.number,
-            draws,
-            next: place_after(graph),
-        };
-        let spot = Spot {
-            location: way.from,
-            inside: Inside::Point(now),
-        };
-        push_spot(alloc, graph, spot, step)?;
-        now = after;
+        match push_state(alloc, graph, way, now)? {
+            None => return Ok(false),
+            Some(after) => now = after,
+        }
     }
     Ok(true)
+}
+
+/// Puts the state with these values, from which the way is taken, at the end of the graph. Gives the values after it; `None` where a number
+/// is too large.
+fn push_state(
+    alloc: Global,
+    graph: &mut Graph,
+    way: &Way,
+    values: Vec<i64>,
+) -> Result<Option<Vec<i64>>, AllocError> {
+    let Some(draws) = draws_at(alloc, graph.variables, way, &values)? else {
+        return Ok(None);
+    };
+    let Some(after) = next_values(alloc, way, &values)? else {
+        return Ok(None);
+    };
+    let step = Step {
+        taken: way.number,
+        draws,
+        next: place_after(graph),
+    };
+    let spot = Spot {
+        location: way.from,
+        inside: Inside::Point(values),
+    };
+    push_spot(alloc, graph, spot, step)?;
+    Ok(Some(after))
 }
 
 /// The rows that are met at each place of a closed walk, the last first, where these rows are met at its first.
@@ -106,17 +120,19 @@ pub(crate) fn regions_of(
     walk: &[usize],
     rows: &[Row],
 ) -> Result<Option<Vec<Vec<Row>>>, AllocError> {
-    let mut regions = Vec::new(alloc);
-    let mut now = copies(alloc, rows)?;
+    let mut regions: Vec<Vec<Row>> = Vec::new(alloc);
     for number in walk.iter().rev() {
         let Some(way) = ways.get(*number) else {
             return Ok(None);
         };
-        match rows_before(alloc, columns, way, &now)? {
+        let after: &[Row] = match regions.last() {
+            Some(last) => last,
+            None => rows,
+        };
+        match rows_before(alloc, columns, way, after)? {
             None => return Ok(None),
-            Some(before) => now = before,
+            Some(before) => regions.push(before)?,
         }
-        regions.push(copies(alloc, &now)?)?;
     }
     Ok(Some(regions))
 }

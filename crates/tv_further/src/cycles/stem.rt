@@ -1,3 +1,4 @@
+use crate::cycles::walking::longer_walk;
 use crate::cycles::way::Way;
 use crate::limits::{LONGEST_STEM, STEMS};
 use crate::question::Question;
@@ -60,25 +61,36 @@ fn longer(
     way: &Way,
     effort: &mut Effort,
 ) -> Result<Option<Stem>, AllocError> {
-    let mut asked = copies(alloc, &way.guards)?;
-    push_copies(alloc, &way.conditions, &mut asked)?;
-    let Some(guards) = guards_with(alloc, columns, stem, &asked)? else {
+    let Some(guards) = guards_through(alloc, columns, stem, way, effort)? else {
         return Ok(None);
     };
-    if !may_have_point(alloc, &guards, columns, effort)? {
-        return Ok(None);
-    }
     let Some(terms) = all_put_in(alloc, columns, &way.terms, &stem.terms)? else {
         return Ok(None);
     };
-    let mut walk = Vec::from_slice(alloc, &stem.walk)?;
-    walk.push(place)?;
     Ok(Some(Stem {
         location: way.to,
-        walk,
+        walk: longer_walk(alloc, &stem.walk, place)?,
         guards,
         terms,
     }))
+}
+
+/// What the values at the start have to meet, so that the way can be taken at the end of the path; `None` where none can.
+fn guards_through(
+    alloc: Global,
+    columns: usize,
+    stem: &Stem,
+    way: &Way,
+    effort: &mut Effort,
+) -> Result<Option<Vec<Row>>, AllocError> {
+    let mut asked = copies(alloc, &way.guards)?;
+    push_copies(alloc, &way.conditions, &mut asked)?;
+    if let Some(guards) = guards_with(alloc, columns, stem, &asked)?
+        && may_have_point(alloc, &guards, columns, effort)?
+    {
+        return Ok(Some(guards));
+    }
+    Ok(None)
 }
 
 /// Puts the paths that are one way longer at the end of the list.

@@ -59,7 +59,11 @@ fn goes_on(ways: &[Way], walk: &[usize], way: &Way, wanted: Wanted) -> bool {
 }
 
 /// The walk and one way after it.
-fn longer(alloc: Global, walk: &[usize], way: usize) -> Result<Vec<usize>, AllocError> {
+pub(crate) fn longer_walk(
+    alloc: Global,
+    walk: &[usize],
+    way: usize,
+) -> Result<Vec<usize>, AllocError> {
     let mut list = Vec::from_slice(alloc, walk)?;
     list.push(way)?;
     Ok(list)
@@ -75,7 +79,7 @@ fn push_longer(
 ) -> Result<(), AllocError> {
     for (place, way) in ways.iter().enumerate() {
         if walks.len() < PATHS && goes_on(ways, walk, way, wanted) {
-            walks.push(longer(alloc, walk, place)?)?;
+            walks.push(longer_walk(alloc, walk, place)?)?;
         }
     }
     Ok(())
@@ -85,7 +89,7 @@ fn push_longer(
 fn short_walks(alloc: Global, ways: &[Way]) -> Result<Vec<Vec<usize>>, AllocError> {
     let mut walks = Vec::new(alloc);
     for place in 0..ways.len() {
-        walks.push(longer(alloc, &[], place)?)?;
+        walks.push(longer_walk(alloc, &[], place)?)?;
     }
     Ok(walks)
 }

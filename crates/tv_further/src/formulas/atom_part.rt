@@ -2,43 +2,74 @@
 
 use crate::areas::area::Area;
 use crate::areas::covers::{Target, cover_by};
-use crate::formulas::region_part::{Part, plain_part, push_cover};
+use crate::formulas::region_part::{Part, Shown, plain_part, push_cover};
 use crate::question::Question;
 use crate::rows::conditions::conditions_at;
 use crate::rows::solving::{Effort, may_have_point};
 use std::alloc::AllocError;
-use tv_cert::{Aim, Proof};
-use tv_linear::copies;
+use tv_cert::Aim;
+use tv_linear::{Cover, Row, copies};
 
-/// Puts the areas of the location and what shows them at the end of the lists; whether all are shown. What is known there is put into each,
-/// and one that no point meets is left out.
-fn push_plain(
+/// The rows, and what is known at the location.
+fn with_known(question: &Question, location: u32, rows: &[Row]) -> Result<Vec<Row>, AllocError> {
+    let mut all = copies(question.alloc, rows)?;
+    all.append(&mut question.known_at(location)?)?;
+    Ok(all)
+}
+
+/// The cover of the rows by one target.
+fn cover_alone(
+    question: &Question,
+    rows: &[Row],
+    target: Target,
+    effort: &mut Effort,
+) -> Result<Option<Cover>, AllocError> {
+    let columns = question.about.variables() as usize;
+    let mut targets = Vec::new(question.alloc);
+    targets.push(target)?;
+    cover_by(question.alloc, columns, rows, &targets, effort)
+}
+
+/// Adds the area of the rows of a target, with what is known at the location, unless no point meets it; whether it is shown.
+fn add_plain(
+    question: &Question,
+    location: u32,
+    target: Target,
+    effort: &mut Effort,
+    shown: &mut Shown,
+) -> Result<bool, AllocError> {
+    let columns = question.about.variables() as usize;
+    let rows = with_known(question, location, &target.rows)?;
+    if !question.known.is_empty() && !may_have_point(question.alloc, &rows, columns, effort)? {
+        return Ok(true);
+    }
+    let cover = cover_alone(question, &rows, target, effort)?;
+    if !push_cover(&mut shown.proofs, cover)? {
+        return Ok(false);
+    }
+    shown.areas.push(Area { location, rows })?;
+    Ok(true)
+}
+
+/// Adds the areas of the location and what shows them; whether all are shown.
+fn add_all_plain(
     question: &Question,
     aim: &Aim,
     location: u32,
     effort: &mut Effort,
-    areas: &mut Vec<Area>,
-    proofs: &mut Vec<Proof>,
+    shown: &mut Shown,
 ) -> Result<bool, AllocError> {
-    let alloc = question.alloc;
-    let columns = question.about.variables() as usize;
-    let mut targets = Vec::new(alloc);
-    let mut target: u32 = 0;
-    for rows in conditions_at(alloc, aim, location)? {
-        let fall = 0;
-        let mut all = copies(alloc, &rows)?;
-        all.append(&mut question.known_at(location)?)?;
-        targets.clear();
-        targets.push(Target { rows, target, fall })?;
-        if question.known.is_empty() || may_have_point(alloc, &all, columns, effort)? {
-            let cover = cover_by(alloc, columns, &all, &targets, effort)?;
-            if !push_cover(proofs, cover)? {
-                return Ok(false);
-            }
-            let rows = all;
-            areas.push(Area { location, rows })?;
+    let mut number: u32 = 0;
+    for rows in conditions_at(question.alloc, aim, location)? {
+        let target = Target {
+            rows,
+            target: number,
+            fall: 0,
+        };
+        if !add_plain(question, location, target, effort, shown)? {
+            return Ok(false);
         }
-        target = target.saturating_add(1);
+        number = number.saturating_add(1);
     }
     Ok(true)
 }
@@ -49,13 +80,13 @@ pub(crate) fn atom_part(
     aim: &Aim,
     effort: &mut Effort,
 ) -> Result<Option<Part>, AllocError> {
-    let mut areas = Vec::new(question.alloc);
-    let mut proofs = Vec::new(question.alloc);
+    let mut shown = Shown::new(question.alloc);
     for location in 0..question.about.locations() {
-        if !push_plain(question, aim, location, effort, &mut areas, &mut proofs)? {
+        if !add_all_plain(question, aim, location, effort, &mut shown)? {
             return Ok(None);
         }
     }
+    let Shown { areas, proofs } = shown;
     let children = Vec::new(question.alloc);
     plain_part(question, areas, children, proofs)
 }

@@ -10,9 +10,8 @@ use crate::cycles::way::Way;
 use crate::formulas::found::Found;
 use crate::limits::{AREAS, TRIED_CYCLE_CALLS, TRIED_CYCLES};
 use crate::question::Question;
-use crate::rows::combining::all_put_in;
-use crate::rows::solving::{Effort, shown_by};
-use crate::strategies::link::distinct_ways;
+use crate::rows::solving::{Effort, all_shown_by};
+use crate::strategies::link::{distinct_ways, owed_into};
 use std::alloc::{AllocError, Global};
 use tv_cert::Proof;
 use tv_linear::{Choice, ChoiceTree, Row, copies};
@@ -104,18 +103,12 @@ fn choice_into(
 ) -> Result<Option<Choice>, AllocError> {
     let alloc = question.alloc;
     let columns = question.about.variables() as usize;
-    let Some(mut entered) = all_put_in(alloc, columns, &to.rows, &way.terms)? else {
+    let Some(owed) = owed_into(alloc, columns, way, to)? else {
         return Ok(None);
     };
-    let mut owed = copies(alloc, &way.guards)?;
-    owed.append(&mut entered)?;
-    let mut refutations = Vec::new(alloc);
-    for row in &owed {
-        match shown_by(alloc, &from.rows, row, columns, effort)? {
-            None => return Ok(None),
-            Some(line) => refutations.push(line)?,
-        }
-    }
+    let Some(refutations) = all_shown_by(alloc, &from.rows, &owed, columns, effort)? else {
+        return Ok(None);
+    };
     Ok(Choice::new(ChoiceTree::Take {
         taken: way.number,
         target,
@@ -148,22 +141,39 @@ fn proofs_of(
     effort: &mut Effort,
 ) -> Result<Option<Vec<Proof>>, AllocError> {
     let mut proofs = Vec::new(question.alloc);
-    for (place, (area, way)) in cycle.areas.iter().zip(&cycle.ways).enumerate() {
-        let after = place.saturating_add(1);
-        let next = if after < cycle.areas.len() { after } else { 0 };
-        let Some(to) = cycle.areas.get(next) else {
-            return Ok(None);
-        };
-        let target = target_of(known, cycle, next);
+    for (place, area) in cycle.areas.iter().enumerate() {
         if !sides.push_hold(question, area, effort, &mut proofs)? {
             return Ok(None);
         }
-        match choice_into(question, area, way, to, target, effort)? {
+        match choice_after(question, known, cycle, place, effort)? {
             None => return Ok(None),
             Some(choice) => proofs.push(Proof::Chosen(choice))?,
         }
     }
     Ok(Some(proofs))
+}
+
+/// The choice that takes the way from the area of the cycle at this place into the next one.
+fn choice_after(
+    question: &Question,
+    known: &[Area],
+    cycle: &Cycle,
+    place: usize,
+    effort: &mut Effort,
+) -> Result<Option<Choice>, AllocError> {
+    let after = place.saturating_add(1);
+    let next = if after < cycle.areas.len() { after } else { 0 };
+    let target = target_of(known, cycle, next);
+    match (
+        cycle.areas.get(place),
+        cycle.ways.get(place),
+        cycle.areas.get(next),
+    ) {
+        (Some(area), Some(way), Some(to)) => {
+            choice_into(question, area, way, to, target, effort)
+        }
+        _ => Ok(None),
+    }
 }
 
 /// Whether the first area of the cycle lies in the areas.

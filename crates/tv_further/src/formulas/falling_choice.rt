@@ -2,6 +2,7 @@
 
 use crate::areas::area::place_among;
 use crate::areas::entering::{Entry, entries_from};
+use crate::areas::passage::Effect;
 use crate::areas::ranks::push_fall_over;
 use crate::areas::stages::Stages;
 use crate::areas::taking::{Move, Taken, push_choice};
@@ -24,6 +25,20 @@ fn fall_between(ranked: &Ranked, from: usize, number: u32, to: usize) -> Option<
     None
 }
 
+/// The effect of the case of the entry with its draws; `None` where a row is too wide.
+fn effect_of_entry(question: &Question, entry: &Entry) -> Result<Option<Effect>, AllocError> {
+    let alloc = question.alloc;
+    let columns = question.about.variables() as usize;
+    let Some(case) = question.about.list().get(entry.number as usize) else {
+        return Ok(None);
+    };
+    let draws = copies(alloc, &entry.draws)?;
+    match way_of(alloc, columns, entry.number, case, draws)? {
+        None => Ok(None),
+        Some(way) => Ok(Some(effect_of_way(alloc, columns, &way)?)),
+    }
+}
+
 /// The rows of what is entered from the area at this place, and those of the fall of this rank; `None` where one is too wide.
 fn rows_with_fall(
     question: &Question,
@@ -32,21 +47,16 @@ fn rows_with_fall(
     entry: &Entry,
     fall: u32,
 ) -> Result<Option<Vec<Row>>, AllocError> {
-    let alloc = question.alloc;
-    let columns = question.about.variables() as usize;
-    let (Some(case), Some(old), Some(new)) = (
-        question.about.list().get(entry.number as usize),
+    let (Some(old), Some(new)) = (
         ranked.ranks.rows.get(place),
         ranked.ranks.rows.get(entry.to),
     ) else {
         return Ok(None);
     };
-    let draws = copies(alloc, &entry.draws)?;
-    let Some(way) = way_of(alloc, columns, entry.number, case, draws)? else {
+    let Some(effect) = effect_of_entry(question, entry)? else {
         return Ok(None);
     };
-    let effect = effect_of_way(alloc, columns, &way)?;
-    let mut rows = copies(alloc, &entry.rows)?;
+    let mut rows = copies(question.alloc, &entry.rows)?;
     if push_fall_over(question, &effect, fall as usize, old, new, &mut rows)? {
         Ok(Some(rows))
     } else {

@@ -1,8 +1,8 @@
 // Areas from which every path is to come to the end, cut to where that may be.
 
-use crate::areas::area::{Area, both};
-use crate::areas::cutting::{cut_by_all, is_inside_any};
-use crate::areas::leaving::lists_leaving;
+use crate::areas::area::{Area, both, copy_of};
+use crate::areas::cutting::push_apart;
+use crate::areas::leaving::parts_staying;
 use crate::areas::stages::Stages;
 use crate::formulas::region_part::push_some_step;
 use crate::limits::AREAS;
@@ -10,7 +10,7 @@ use crate::question::Question;
 use crate::rows::solving::Effort;
 use crate::strategies::link::distinct_ways;
 use std::alloc::AllocError;
-use tv_linear::{Row, copies};
+use tv_linear::Row;
 
 /// The parts of an area where a way can be taken.
 fn parts_with_step(
@@ -37,12 +37,7 @@ fn parts_that_stay(
     areas: &[Area],
     effort: &mut Effort,
 ) -> Result<Vec<Vec<Row>>, AllocError> {
-    let columns = question.about.variables() as usize;
-    let parts = match lists_leaving(question, area, areas, effort)? {
-        None => None,
-        Some(lists) => cut_by_all(question.alloc, columns, &area.rows, &lists, effort)?,
-    };
-    match parts {
+    match parts_staying(question, area, areas, effort)? {
         None => Ok(Vec::new(question.alloc)),
         Some(parts) => Ok(parts),
     }
@@ -71,11 +66,9 @@ fn push_parts(
     areas: &mut Vec<Area>,
     effort: &mut Effort,
 ) -> Result<(), AllocError> {
-    let columns = question.about.variables() as usize;
     for rows in parts {
-        let area = Area { location, rows };
-        if areas.len() < AREAS && !is_inside_any(question.alloc, columns, &area, areas, effort)? {
-            areas.push(area)?;
+        if areas.len() < AREAS {
+            push_apart(question, location, rows, areas, effort)?;
         }
     }
     Ok(())
@@ -95,9 +88,7 @@ pub(crate) fn cut_at(
             let parts = parts_of(question, area, &stages.areas, effort)?;
             push_parts(question, area.location, parts, &mut areas, effort)?;
         } else {
-            let rows = copies(question.alloc, &area.rows)?;
-            let location = area.location;
-            areas.push(Area { location, rows })?;
+            areas.push(copy_of(question.alloc, area)?)?;
         }
     }
     Ok(Stages { done, areas })

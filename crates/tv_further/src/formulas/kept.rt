@@ -1,7 +1,7 @@
 // Fixed points that may go on for ever: areas of the hold side are cut until from each of them every step, or some step, stays.
 
-use crate::areas::area::{Area, both, lists_at, place_among};
-use crate::areas::cutting::{cut_by_all, is_inside_any};
+use crate::areas::area::{Area, both, place_among, push_areas};
+use crate::areas::cutting::{cut_by_all, parts_outside, push_apart};
 use crate::areas::entering::entries_from;
 use crate::areas::leaving::lists_leaving;
 use crate::areas::sides::Sides;
@@ -33,19 +33,13 @@ fn keeping_of(
     found: &Found,
     effort: &mut Effort,
 ) -> Result<Option<Keeping>, AllocError> {
-    let alloc = question.alloc;
-    let columns = question.about.variables() as usize;
-    let mut areas = Vec::new(alloc);
-    push_copied(alloc, &found.stages.areas, &mut areas)?;
+    let mut areas = Vec::new(question.alloc);
+    push_copied(question.alloc, &found.stages.areas, &mut areas)?;
     let known = areas.len();
     for area in sides.hold {
-        let location = area.location;
-        let inner = lists_at(alloc, &found.stages.areas, location)?;
-        let Some(parts) = cut_by_all(alloc, columns, &area.rows, &inner, effort)? else {
-            return Ok(None);
-        };
-        for rows in parts {
-            areas.push(Area { location, rows })?;
+        match parts_outside(question, area, &found.stages.areas, effort)? {
+            None => return Ok(None),
+            Some(parts) => push_areas(&mut areas, area.location, parts)?,
         }
     }
     Ok(if areas.len() > AREAS {
@@ -114,19 +108,28 @@ fn kept_any(
     areas: &[Area],
     effort: &mut Effort,
 ) -> Result<Kept, AllocError> {
-    let alloc = question.alloc;
-    let columns = question.about.variables() as usize;
     let moves = moves_into(question, area.location, areas, effort)?;
-    if choice_by(question, area, &moves, effort)?.is_some() {
-        return Ok(Kept::Whole);
+    match choice_by(question, area, &moves, effort)? {
+        Some(_) => Ok(Kept::Whole),
+        None => Ok(Kept::Parts(lists_by(question, area, &moves, effort)?)),
     }
-    let mut parts = Vec::new(alloc);
-    for made in &moves {
-        if let Some(rows) = both(alloc, columns, &area.rows, &made.rows, effort)? {
+}
+
+/// The rows of the parts of the area from which one of the moves can be made.
+fn lists_by(
+    question: &Question,
+    area: &Area,
+    moves: &[Move],
+    effort: &mut Effort,
+) -> Result<Vec<Vec<Row>>, AllocError> {
+    let columns = question.about.variables() as usize;
+    let mut parts = Vec::new(question.alloc);
+    for made in moves {
+        if let Some(rows) = both(question.alloc, columns, &area.rows, &made.rows, effort)? {
             parts.push(rows)?;
         }
     }
-    Ok(Kept::Parts(parts))
+    Ok(parts)
 }
 
 /// What is kept of the area.
@@ -151,12 +154,8 @@ fn push_parts(
     areas: &mut Vec<Area>,
     effort: &mut Effort,
 ) -> Result<(), AllocError> {
-    let columns = question.about.variables() as usize;
     for rows in parts {
-        let area = Area { location, rows };
-        if !is_inside_any(question.alloc, columns, &area, areas, effort)? {
-            areas.push(area)?;
-        }
+        push_apart(question, location, rows, areas, effort)?;
     }
     Ok(())
 }

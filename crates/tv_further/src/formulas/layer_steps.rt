@@ -1,10 +1,10 @@
 // The areas of a layer, and the steps from it.
 
-use crate::areas::area::{Area, both, lists_at, place_among};
+use crate::areas::area::{Area, both, place_among};
 use crate::areas::covers::Target;
-use crate::areas::cutting::cut_by_all;
+use crate::areas::cutting::parts_outside;
 use crate::areas::entering::{Entry, entries_from};
-use crate::areas::leaving::lists_leaving;
+use crate::areas::leaving::parts_staying;
 use crate::areas::passage::{rows_entered, width_of};
 use crate::areas::taking::{Move, Taken};
 use crate::formulas::found::Found;
@@ -127,14 +127,11 @@ fn parts_left(
     found: &Found,
     effort: &mut Effort,
 ) -> Result<Vec<Vec<Row>>, AllocError> {
-    let alloc = question.alloc;
-    let columns = question.about.variables() as usize;
-    let known = lists_at(alloc, &found.stages.areas, area.location)?;
-    match cut_by_all(alloc, columns, &area.rows, &known, effort)? {
+    match parts_outside(question, area, &found.stages.areas, effort)? {
         Some(parts) => Ok(parts),
         None => {
-            let mut parts = Vec::new(alloc);
-            parts.push(copies(alloc, &area.rows)?)?;
+            let mut parts = Vec::new(question.alloc);
+            parts.push(copies(question.alloc, &area.rows)?)?;
             Ok(parts)
         }
     }
@@ -148,13 +145,7 @@ fn push_candidates(
     effort: &mut Effort,
     list: &mut Vec<Candidate>,
 ) -> Result<(), AllocError> {
-    let columns = question.about.variables() as usize;
-    let areas = &found.stages.areas;
-    let Some(leaving) = lists_leaving(question, area, areas, effort)? else {
-        return Ok(());
-    };
-    let cut = cut_by_all(question.alloc, columns, &area.rows, &leaving, effort)?;
-    if let Some(parts) = cut {
+    if let Some(parts) = parts_staying(question, area, &found.stages.areas, effort)? {
         for rows in parts {
             let location = area.location;
             let area = Area { location, rows };
@@ -220,21 +211,39 @@ pub(crate) fn candidates_any(
     layer: &Layer,
     effort: &mut Effort,
 ) -> Result<Vec<Candidate>, AllocError> {
-    let alloc = question.alloc;
-    let columns = question.about.variables() as usize;
-    let mut list = Vec::new(alloc);
+    let mut list = Vec::new(question.alloc);
     for entry in entries_from(question, area.location, &found.stages.areas, layer.older)? {
         if entry.to < layer.earlier
-            && let Some(rows) = both(alloc, columns, &area.rows, &entry.rows, effort)?
-            && let Some(made) = move_of(question, found, layer, entry)?
+            && let Some(candidate) = candidate_by(question, area, found, layer, entry, effort)?
         {
-            let location = area.location;
-            let area = Area { location, rows };
-            let mut moves = Vec::new(alloc);
-            moves.push(made)?;
-            let moves = Some(moves);
-            list.push(Candidate { area, moves })?;
+            list.push(candidate)?;
         }
     }
     Ok(list)
+}
+
+/// The part of the area from which an earlier one can be entered in this way; `None` where there is none.
+fn candidate_by(
+    question: &Question,
+    area: &Area,
+    found: &Found,
+    layer: &Layer,
+    entry: Entry,
+    effort: &mut Effort,
+) -> Result<Option<Candidate>, AllocError> {
+    let columns = question.about.variables() as usize;
+    let Some(rows) = both(question.alloc, columns, &area.rows, &entry.rows, effort)? else {
+        return Ok(None);
+    };
+    let location = area.location;
+    let area = Area { location, rows };
+    match move_of(question, found, layer, entry)? {
+        None => Ok(None),
+        Some(made) => {
+            let mut moves = Vec::new(question.alloc);
+            moves.push(made)?;
+            let moves = Some(moves);
+            Ok(Some(Candidate { area, moves }))
+        }
+    }
 }

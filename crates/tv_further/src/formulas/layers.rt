@@ -105,20 +105,33 @@ fn add_candidate(
     found: &mut Found,
     effort: &mut Effort,
 ) -> Result<(), AllocError> {
-    let alloc = question.alloc;
     let columns = question.about.variables() as usize;
-    if found.stages.areas.len() >= AREAS
-        || is_inside_any(alloc, columns, &candidate.area, &found.stages.areas, effort)?
+    let areas = &found.stages.areas;
+    if areas.len() >= AREAS
+        || is_inside_any(question.alloc, columns, &candidate.area, areas, effort)?
     {
         return Ok(());
     }
-    let Some(ranks) = layer_ranks(alloc, columns, layer.rank, found.ranks.count)? else {
-        return Ok(());
-    };
-    if let Some(mut proofs) = layer_proofs(question, sides, found, layer, &candidate, effort)? {
+    match layer_proofs(question, sides, found, layer, &candidate, effort)? {
+        None => Ok(()),
+        Some(proofs) => push_found(question, layer, candidate.area, proofs, found),
+    }
+}
+
+/// Puts the area of the layer, with its ranks and these proofs, at the end of what was found, unless a rank is too wide.
+fn push_found(
+    question: &Question,
+    layer: &Layer,
+    area: Area,
+    mut proofs: Vec<Proof>,
+    found: &mut Found,
+) -> Result<(), AllocError> {
+    let columns = question.about.variables() as usize;
+    let ranks = layer_ranks(question.alloc, columns, layer.rank, found.ranks.count)?;
+    if let Some(ranks) = ranks {
         found.proofs.append(&mut proofs)?;
         found.ranks.rows.push(ranks)?;
-        found.stages.areas.push(candidate.area)?;
+        found.stages.areas.push(area)?;
     }
     Ok(())
 }

@@ -1,24 +1,16 @@
 // What holds after a step.
 
 use crate::areas::area::{Area, place_among};
-use crate::areas::cutting::{cut_by_all, is_inside_any, push_strongest};
+use crate::areas::cutting::{is_inside_any, push_strongest};
 use crate::areas::entering::{Entry, entries_from};
-use crate::areas::leaving::lists_leaving;
+use crate::areas::leaving::parts_staying;
 use crate::areas::taking::{Move, Taken, push_choice};
-use crate::formulas::region_part::{Part, plain_part, push_steps_into};
+use crate::formulas::region_part::{Part, Shown, plain_part, push_steps_into};
 use crate::limits::AREAS;
 use crate::question::Question;
 use crate::rows::solving::{Effort, may_have_point};
-use std::alloc::AllocError;
-use tv_cert::Proof;
+use std::alloc::{AllocError, Global};
 use tv_linear::Row;
-
-/// Areas and what shows them.
-#[derive(Drop)]
-struct Shown {
-    areas: Vec<Area>,
-    proofs: Vec<Proof>,
-}
 
 /// The parts of the location, as far as it is known, from which every step leads into the areas; the whole of it where there are too many.
 fn parts_before(
@@ -27,18 +19,16 @@ fn parts_before(
     areas: &[Area],
     effort: &mut Effort,
 ) -> Result<Vec<Vec<Row>>, AllocError> {
-    let alloc = question.alloc;
-    let columns = question.about.variables() as usize;
     let rows = question.known_at(location)?;
     let whole = Area { location, rows };
-    if let Some(leaving) = lists_leaving(question, &whole, areas, effort)?
-        && let Some(parts) = cut_by_all(alloc, columns, &whole.rows, &leaving, effort)?
-    {
-        return Ok(parts);
+    match parts_staying(question, &whole, areas, effort)? {
+        Some(parts) => Ok(parts),
+        None => {
+            let mut lists = Vec::new(question.alloc);
+            lists.push(whole.rows)?;
+            Ok(lists)
+        }
     }
-    let mut lists = Vec::new(alloc);
-    lists.push(whole.rows)?;
-    Ok(lists)
 }
 
 /// Adds the part of the location, where every step from it is shown to lead into the areas.
@@ -67,10 +57,7 @@ pub(crate) fn after_each(
     inner: Part,
     effort: &mut Effort,
 ) -> Result<Option<Part>, AllocError> {
-    let mut shown = Shown {
-        areas: Vec::new(question.alloc),
-        proofs: Vec::new(question.alloc),
-    };
+    let mut shown = Shown::new(question.alloc);
     for location in 0..question.about.locations() {
         for rows in parts_before(question, location, &inner.areas, effort)? {
             let area = Area { location, rows };
@@ -100,32 +87,50 @@ fn add_entry(
     effort: &mut Effort,
     shown: &mut Shown,
 ) -> Result<(), AllocError> {
-    let alloc = question.alloc;
     let columns = question.about.variables() as usize;
-    let mut rows = Vec::new(alloc);
-    if !push_strongest(alloc, &entry.rows, &mut rows)?
-        || !may_have_point(alloc, &rows, columns, effort)?
-    {
+    let Some(rows) = strongest_rows(question, &entry.rows, effort)? else {
         return Ok(());
-    }
+    };
     let area = Area { location, rows };
-    if is_inside_any(alloc, columns, &area, &shown.areas, effort)? {
+    if is_inside_any(question.alloc, columns, &area, &shown.areas, effort)? {
         return Ok(());
     }
-    let mut moves = Vec::new(alloc);
-    moves.push(Move {
-        rows: entry.rows,
-        taken: Some(Taken {
-            number: entry.number,
-            draws: entry.draws,
-            target: place_among(inner, entry.to),
-            fall: 0,
-        }),
-    })?;
+    let moves = one_move(question.alloc, inner, entry)?;
     if push_choice(question, &area, &moves, effort, &mut shown.proofs)? {
         shown.areas.push(area)?;
     }
     Ok(())
+}
+
+/// The rows, tightened, the strongest of those with the same coefficients; `None` where no point meets them all.
+fn strongest_rows(
+    question: &Question,
+    rows: &[Row],
+    effort: &mut Effort,
+) -> Result<Option<Vec<Row>>, AllocError> {
+    let columns = question.about.variables() as usize;
+    let mut strongest = Vec::new(question.alloc);
+    if push_strongest(question.alloc, rows, &mut strongest)?
+        && may_have_point(question.alloc, &strongest, columns, effort)?
+    {
+        Ok(Some(strongest))
+    } else {
+        Ok(None)
+    }
+}
+
+/// The move by the entry into one of the areas, alone.
+fn one_move(alloc: Global, inner: &[Area], entry: Entry) -> Result<Vec<Move>, AllocError> {
+    let taken = Some(Taken {
+        number: entry.number,
+        draws: entry.draws,
+        target: place_among(inner, entry.to),
+        fall: 0,
+    });
+    let rows = entry.rows;
+    let mut moves = Vec::new(alloc);
+    moves.push(Move { rows, taken })?;
+    Ok(moves)
 }
 
 /// The part of what holds after some step.
@@ -134,10 +139,7 @@ pub(crate) fn after_some(
     inner: Part,
     effort: &mut Effort,
 ) -> Result<Option<Part>, AllocError> {
-    let mut shown = Shown {
-        areas: Vec::new(question.alloc),
-        proofs: Vec::new(question.alloc),
-    };
+    let mut shown = Shown::new(question.alloc);
     for location in 0..question.about.locations() {
         for entry in entries_from(question, location, &inner.areas, 0)? {
             add_entry(question, location, entry, &inner.areas, effort, &mut shown)?;

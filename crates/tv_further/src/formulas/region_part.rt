@@ -1,6 +1,6 @@
-use crate::areas::area::{Area, both, place_among, whole_locations};
+use crate::areas::area::{Area, both, copy_of, place_among, whole_locations};
 use crate::areas::covers::{Target, cover_by, cover_into};
-use crate::areas::cutting::is_inside_any;
+use crate::areas::cutting::push_apart;
 use crate::areas::entering::entries_from;
 use crate::areas::passage::{rows_entered, rows_left, width_of};
 use crate::areas::taking::{Move, Taken, choice_by, push_choice};
@@ -9,7 +9,7 @@ use crate::rows::solving::Effort;
 use std::alloc::{AllocError, Global};
 use tv_cases::Case;
 use tv_cert::{Mark, Marked, Node, Proof};
-use tv_linear::{Cover, Row, copies};
+use tv_linear::{Cover, Row};
 use tv_shape::node_of;
 
 /// A formula where it is shown to hold: its node, and the areas of its pieces, in their order.
@@ -17,6 +17,23 @@ use tv_shape::node_of;
 pub(crate) struct Part {
     pub node: Node,
     pub areas: Vec<Area>,
+}
+
+/// Areas and what shows them.
+#[derive(Drop)]
+pub(crate) struct Shown {
+    pub areas: Vec<Area>,
+    pub proofs: Vec<Proof>,
+}
+
+impl Shown {
+    /// No areas yet.
+    pub(crate) fn new(alloc: Global) -> Shown {
+        Shown {
+            areas: Vec::new(alloc),
+            proofs: Vec::new(alloc),
+        }
+    }
 }
 
 /// The piece of an area.
@@ -206,22 +223,30 @@ pub(crate) fn live_parts(
     area: &Area,
     effort: &mut Effort,
 ) -> Result<Vec<Area>, AllocError> {
+    let moves = moves_from(question, area.location)?;
+    match choice_by(question, area, &moves, effort)? {
+        None => parts_by(question, area, &moves, effort),
+        Some(_) => {
+            let mut parts = Vec::new(question.alloc);
+            parts.push(copy_of(question.alloc, area)?)?;
+            Ok(parts)
+        }
+    }
+}
+
+/// The parts of the area from each of which one of the moves can be made, none of them inside of an earlier one.
+fn parts_by(
+    question: &Question,
+    area: &Area,
+    moves: &[Move],
+    effort: &mut Effort,
+) -> Result<Vec<Area>, AllocError> {
     let alloc = question.alloc;
     let columns = question.about.variables() as usize;
-    let location = area.location;
-    let moves = moves_from(question, location)?;
     let mut parts = Vec::new(alloc);
-    if choice_by(question, area, &moves, effort)?.is_some() {
-        let rows = copies(alloc, &area.rows)?;
-        parts.push(Area { location, rows })?;
-        return Ok(parts);
-    }
-    for made in &moves {
+    for made in moves {
         if let Some(rows) = both(alloc, columns, &area.rows, &made.rows, effort)? {
-            let part = Area { location, rows };
-            if !is_inside_any(alloc, columns, &part, &parts, effort)? {
-                parts.push(part)?;
-            }
+            push_apart(question, area.location, rows, &mut parts, effort)?;
         }
     }
     Ok(parts)

@@ -14,7 +14,7 @@ use crate::formulas::until_splits::{Stuck, split_at};
 use crate::limits::{AREAS, STEP_CUTS, STEP_SPLITS};
 use crate::question::Question;
 use crate::rows::solving::Effort;
-use std::alloc::{AllocError, Global};
+use std::alloc::AllocError;
 use tv_cases::Case;
 use tv_cert::Proof;
 use tv_formula::Path;

@@ -1,10 +1,10 @@
 // Areas between which no rank falls, split by a row: a loop may count up where a variable has one value and down where it has another, or
 // fall only once what it falls by has one sign.
 
-use crate::areas::area::Area;
+use crate::areas::area::{Area, copy_of};
+use crate::areas::changes::{falling_row, is_steady};
 use crate::areas::cutting::halves_of;
 use crate::areas::passage::Passage;
-use crate::areas::ranks::{falling_row, is_steady};
 use crate::areas::stages::Stages;
 use crate::areas::terms::terms_of;
 use crate::graphs::expanding::is_without_draws;
@@ -12,7 +12,7 @@ use crate::limits::AREAS;
 use crate::question::Question;
 use crate::rows::solving::Effort;
 use std::alloc::AllocError;
-use tv_linear::{Row, copies};
+use tv_linear::Row;
 
 /// Areas between which no rank falls.
 #[derive(Drop)]
@@ -133,8 +133,7 @@ fn push_halves(
     };
     match halves {
         None => {
-            let rows = copies(question.alloc, &area.rows)?;
-            areas.push(Area { location, rows })?;
+            areas.push(copy_of(question.alloc, area)?)?;
             Ok(false)
         }
         Some((rows, other)) => {
@@ -198,15 +197,35 @@ pub(crate) fn split_at(
     stuck: &Stuck,
     effort: &mut Effort,
 ) -> Result<Option<Stages>, AllocError> {
-    let places = &stuck.places;
     let guards = guards_at(question, stages, stuck)?;
-    let kept = kept_rows(question, stuck, &guards)?;
-    if let Some(split) = split_by_first(question, stages, places, &kept, effort)? {
+    if let Some(split) = split_by_kept(question, stages, stuck, &guards, effort)? {
         return Ok(Some(split));
     }
+    if let Some(split) = split_by_falls(question, stages, stuck, effort)? {
+        return Ok(Some(split));
+    }
+    split_by_first(question, stages, &stuck.places, &guards, effort)
+}
+
+/// The same by the first of the guards that none of the passages changes.
+fn split_by_kept(
+    question: &Question,
+    stages: &Stages,
+    stuck: &Stuck,
+    guards: &[Row],
+    effort: &mut Effort,
+) -> Result<Option<Stages>, AllocError> {
+    let kept = kept_rows(question, stuck, guards)?;
+    split_by_first(question, stages, &stuck.places, &kept, effort)
+}
+
+/// The same by the first row that tells where a term falls over one of the passages.
+fn split_by_falls(
+    question: &Question,
+    stages: &Stages,
+    stuck: &Stuck,
+    effort: &mut Effort,
+) -> Result<Option<Stages>, AllocError> {
     let falls = falls_at(question, stages, stuck)?;
-    if let Some(split) = split_by_first(question, stages, places, &falls, effort)? {
-        return Ok(Some(split));
-    }
-    split_by_first(question, stages, places, &guards, effort)
+    split_by_first(question, stages, &stuck.places, &falls, effort)
 }

@@ -12,7 +12,7 @@ use crate::question::Question;
 use crate::rows::combining::all_put_in;
 use std::alloc::{AllocError, Global};
 use tv_cert::Proof;
-use tv_linear::{Choice, ChoiceTree, Cover, copies};
+use tv_linear::{Choice, ChoiceTree, Cover, Row, copies};
 
 /// A step that is taken from a spot into another.
 #[derive(Drop)]
@@ -85,20 +85,30 @@ fn push_target(
     lines: &mut Vec<Vec<i64>>,
 ) -> Result<bool, AllocError> {
     let columns = question.about.variables() as usize;
-    let Some(rows) = taking.into.rows(question.alloc)? else {
-        return Ok(false);
-    };
-    let Some(before) = all_put_in(question.alloc, columns, &rows, &way.terms)? else {
+    let Some(rows) = rows_entered(question, taking.into, way)? else {
         return Ok(false);
     };
     if !taking
         .from
-        .push_lines(question.alloc, columns, &before, lines)?
+        .push_lines(question.alloc, columns, &rows, lines)?
     {
         return Ok(false);
     }
     push_falls(question.alloc, taking.from.row_count(), taking.fall, lines)?;
     Ok(true)
+}
+
+/// The rows of the spot that is entered, read before the way; `None` where one is too wide.
+fn rows_entered(
+    question: &Question,
+    into: &Spot,
+    way: &Way,
+) -> Result<Option<Vec<Row>>, AllocError> {
+    let columns = question.about.variables() as usize;
+    match into.rows(question.alloc)? {
+        None => Ok(None),
+        Some(rows) => all_put_in(question.alloc, columns, &rows, &way.terms),
+    }
 }
 
 /// Puts the same of a step from a state to another at the end of the list.
@@ -125,34 +135,34 @@ fn push_taking(
     taking: &Taking,
     proofs: &mut Vec<Proof>,
 ) -> Result<bool, AllocError> {
+    match lines_of(question, taking)? {
+        None => Ok(false),
+        Some(lines) => {
+            let Taking { target, fall, .. } = *taking;
+            let proof = taken(question.alloc, taking.step, target, fall, lines)?;
+            push_proof(proofs, proof)
+        }
+    }
+}
+
+/// The lines of the guards and of the rows of the spot that is entered; `None` where one is not shown.
+fn lines_of(question: &Question, taking: &Taking) -> Result<Option<Vec<Vec<i64>>>, AllocError> {
+    let alloc = question.alloc;
     let columns = question.about.variables() as usize;
     let Some(way) = way_by(question, taking.step)? else {
-        return Ok(false);
+        return Ok(None);
     };
-    let mut lines = Vec::new(question.alloc);
-    if !taking
-        .from
-        .push_lines(question.alloc, columns, &way.guards, &mut lines)?
-    {
-        return Ok(false);
-    }
+    let mut lines = Vec::new(alloc);
     let are_points = taking.from.is_point() && taking.into.is_point();
-    let shown = if are_points {
-        push_point_target(question, taking, columns, &mut lines)?
-    } else {
-        push_target(question, taking, &way, &mut lines)?
-    };
-    if !shown {
-        return Ok(false);
-    }
-    let proof = taken(
-        question.alloc,
-        taking.step,
-        taking.target,
-        taking.fall,
-        lines,
-    )?;
-    push_proof(proofs, proof)
+    let shown = taking
+        .from
+        .push_lines(alloc, columns, &way.guards, &mut lines)?
+        && if are_points {
+            push_point_target(question, taking, columns, &mut lines)?
+        } else {
+            push_target(question, taking, &way, &mut lines)?
+        };
+    Ok(if shown { Some(lines) } else { None })
 }
 
 /// Puts the choice of the step from this place into the pieces that are entered at the end of the list.

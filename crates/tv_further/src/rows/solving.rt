@@ -211,6 +211,24 @@ pub(crate) fn shown_by(
     }
 }
 
+/// The same of each of the rows; `None` where the multipliers of one were not found.
+pub(crate) fn all_shown_by(
+    alloc: Global,
+    known: &[Row],
+    rows: &[Row],
+    columns: usize,
+    effort: &mut Effort,
+) -> Result<Option<Vec<Vec<i64>>>, AllocError> {
+    let mut lines = Vec::new(alloc);
+    for row in rows {
+        match shown_by(alloc, known, row, columns, effort)? {
+            None => return Ok(None),
+            Some(line) => lines.push(line)?,
+        }
+    }
+    Ok(Some(lines))
+}
+
 /// Whether the known rows, which some point meets, show the row.
 pub(crate) fn is_known(
     alloc: Global,

@@ -1,6 +1,6 @@
 // Which term is favoured next: one that need not grow at any of some areas, and falls at one.
 
-use crate::areas::ranks::Change;
+use crate::areas::changes::Change;
 use crate::rows::solving::Effort;
 use crate::strategies::strategy_draft::Draft;
 use crate::strategies::strategy_order::Field;

@@ -43,7 +43,7 @@ pub(crate) fn distinct_ways(question: &Question) -> Result<Vec<Way>, AllocError>
 }
 
 /// What is owed where the way is taken into the area; `None` where a row is too wide.
-fn owed_into(
+pub(crate) fn owed_into(
     alloc: Global,
     columns: usize,
     way: &Way,

@@ -42,15 +42,44 @@ struct Turn {
     entered: bool,
 }
 
+impl Turn {
+    /// The option, which can be taken at some of the states.
+    fn entered(option: usize) -> Turn {
+        Turn {
+            option,
+            entered: true,
+        }
+    }
+
+    /// The option after this one.
+    fn after(option: usize) -> Turn {
+        Turn {
+            option: option.saturating_add(1),
+            entered: false,
+        }
+    }
+}
+
 /// What is done next.
 #[derive(Drop)]
 enum Next {
     /// No option is left.
     Hole,
-    /// The link at this place is taken.
-    Take(usize),
-    /// The row of this option is met by some of the states, and by others it is not known to be.
-    Split { option: usize, row: Row },
+    /// The link of the leaf is taken.
+    Take(Leaf),
+    /// The row of an option is met by some of the states, and by others it is not known to be.
+    Split(Split),
+}
+
+/// Some states in two parts.
+#[derive(Drop)]
+struct Split {
+    /// The option that the row belongs to.
+    option: usize,
+    row: Row,
+    /// What is met where the row is, and what is met where it is not.
+    met: Vec<Row>,
+    other: Vec<Row>,
 }
 
 impl Planner<'_> {
@@ -92,22 +121,46 @@ impl Planner<'_> {
         Ok(None)
     }
 
-    /// What is done next at the states that meet these rows.
-    fn next(&self, known: &[Row], turn: Turn, effort: &mut Effort) -> Result<Next, AllocError> {
-        let possible = if turn.entered {
-            Some(turn.option)
+    /// The option of this turn that can be taken at some of the states.
+    fn option_at(
+        &self,
+        known: &[Row],
+        turn: Turn,
+        effort: &mut Effort,
+    ) -> Result<Option<usize>, AllocError> {
+        if turn.entered {
+            Ok(Some(turn.option))
         } else {
-            self.first_possible(known, turn.option, effort)?
+            self.first_possible(known, turn.option, effort)
+        }
+    }
+
+    /// The states that meet these rows in two parts by a row of the option; there is nothing to do where its denial is too wide.
+    fn split(&self, known: &[Row], option: usize, row: Row) -> Result<Next, AllocError> {
+        let Some(denial) = denied(self.alloc, &row)? else {
+            return Ok(Next::Hole);
         };
-        let Some(option) = possible else {
+        let met = and_row(self.alloc, known, &row)?;
+        let other = and_row(self.alloc, known, &denial)?;
+        Ok(Next::Split(Split {
+            option,
+            row,
+            met,
+            other,
+        }))
+    }
+
+    /// What is done next at the states that meet these rows.
+    fn next(&self, known: Vec<Row>, turn: Turn, effort: &mut Effort) -> Result<Next, AllocError> {
+        let Some(option) = self.option_at(&known, turn, effort)? else {
             return Ok(Next::Hole);
         };
         let Some((place, link)) = self.link_at(option) else {
             return Ok(Next::Hole);
         };
-        match self.first_open(known, &link.owed, effort)? {
-            None => Ok(Next::Take(place)),
-            Some(row) => Ok(Next::Split { option, row }),
+        match self.first_open(&known, &link.owed, effort)? {
+            None => Ok(Next::Take(Leaf { link: place, known })),
+            Some(row) => self.split(&known, option, row),
         }
     }
 }
@@ -119,6 +172,20 @@ fn and_row(alloc: Global, rows: &[Row], row: &Row) -> Result<Vec<Row>, AllocErro
     Ok(more)
 }
 
+/// The plan that takes the link of the leaf, which is put at the end of the list.
+fn take_at(leaves: &mut Vec<Leaf>, leaf: Leaf) -> Result<Plan, AllocError> {
+    let place = leaves.len();
+    leaves.push(leaf)?;
+    Ok(Plan::Take(place))
+}
+
+/// The plan of both parts.
+fn split_by(alloc: Global, row: Row, holds: Plan, fails: Plan) -> Result<Plan, AllocError> {
+    let holds = Box::new(alloc, holds)?;
+    let fails = Box::new(alloc, fails)?;
+    Ok(Plan::Split(row, holds, fails))
+}
+
 /// The plan at the states that meet these rows, below which so many splits may lie; `None` where some of them have no link.
 fn plan_at(
     planner: &Planner,
@@ -128,41 +195,28 @@ fn plan_at(
     leaves: &mut Vec<Leaf>,
     effort: &mut Effort,
 ) -> Result<Option<Plan>, AllocError> {
-    let alloc = planner.alloc;
-    let (option, row) = match planner.next(&known, turn, effort)? {
+    let Split {
+        option,
+        row,
+        met,
+        other,
+    } = match planner.next(known, turn, effort)? {
         Next::Hole => return Ok(None),
-        Next::Take(link) => {
-            let place = leaves.len();
-            leaves.push(Leaf { link, known })?;
-            return Ok(Some(Plan::Take(place)));
-        }
-        Next::Split { option, row } => (option, row),
+        Next::Take(leaf) => return Ok(Some(take_at(leaves, leaf)?)),
+        Next::Split(split) => split,
     };
     if left == 0 {
         return Ok(None);
     }
-    let Some(denial) = denied(alloc, &row)? else {
-        return Ok(None);
-    };
-    let met = and_row(alloc, &known, &row)?;
-    let entered = Turn {
-        option,
-        entered: true,
-    };
+    let entered = Turn::entered(option);
     let Some(holds) = plan_at(planner, met, entered, left - 1, leaves, effort)? else {
         return Ok(None);
     };
-    let other = and_row(alloc, &known, &denial)?;
-    let after = Turn {
-        option: option.saturating_add(1),
-        entered: false,
-    };
-    let Some(fails) = plan_at(planner, other, after, left - 1, leaves, effort)? else {
-        return Ok(None);
-    };
-    let holds = Box::new(alloc, holds)?;
-    let fails = Box::new(alloc, fails)?;
-    Ok(Some(Plan::Split(row, holds, fails)))
+    let after = Turn::after(option);
+    match plan_at(planner, other, after, left - 1, leaves, effort)? {
+        None => Ok(None),
+        Some(fails) => Ok(Some(split_by(planner.alloc, row, holds, fails)?)),
+    }
 }
 
 /// The plan of an area with these rows, whose leaves are put at the end of the list; `None` where some of its states have no link.
@@ -174,9 +228,5 @@ pub(crate) fn plan_of(
     effort: &mut Effort,
 ) -> Result<Option<Plan>, AllocError> {
     let known = copies(planner.alloc, rows)?;
-    let first = Turn {
-        option: 0,
-        entered: true,
-    };
-    plan_at(planner, known, first, splits, leaves, effort)
+    plan_at(planner, known, Turn::entered(0), splits, leaves, effort)
 }

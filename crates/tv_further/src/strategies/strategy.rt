@@ -1,6 +1,7 @@
 // Until over some path, by a strategy: at each area that goes on a way for each of its states, so that ranks fall over the ways that do not
 // lead to the end.
 
+use crate::areas::area::Area;
 use crate::areas::passage::{Effect, Passage};
 use crate::areas::ranks::{Ranking, ranks_among};
 use crate::areas::sides::Sides;
@@ -49,35 +50,61 @@ struct Plans {
     costs: Vec<Option<u32>>,
 }
 
-/// The plans of the areas of a draft.
-fn plans_of(field: &Field, draft: &Draft, effort: &mut Effort) -> Result<Plans, AllocError> {
-    let alloc = field.question.alloc;
-    let worths = field.worths(draft, effort)?;
-    let costs = costs_of(alloc, draft, field.links, &worths)?;
-    let mut plans = Vec::new(alloc);
-    let mut leaves = Vec::new(alloc);
-    let mut holes = Vec::new(alloc);
-    for (place, area) in draft.stages.areas.iter().enumerate() {
-        if place >= draft.stages.done {
-            let options = options_from(field.question, field.links, &costs, place, &area.rows)?;
-            let planner = Planner {
-                alloc,
-                columns: field.question.about.variables() as usize,
-                links: field.links,
-                options: &options,
-            };
-            match plan_of(&planner, &area.rows, STRATEGY_SPLITS, &mut leaves, effort)? {
-                Some(plan) => plans.push(plan)?,
-                None => holes.push(place)?,
-            }
+impl Plans {
+    /// No plan yet over links that cost this.
+    fn new(alloc: Global, costs: Vec<Option<u32>>) -> Plans {
+        Plans {
+            plans: Vec::new(alloc),
+            leaves: Vec::new(alloc),
+            holes: Vec::new(alloc),
+            costs,
         }
     }
-    Ok(Plans {
-        plans,
-        leaves,
-        holes,
-        costs,
-    })
+
+    /// Adds the plan of the area at this place, or the place where it has none.
+    fn add(
+        &mut self,
+        field: &Field,
+        place: usize,
+        area: &Area,
+        effort: &mut Effort,
+    ) -> Result<(), AllocError> {
+        let rows = &area.rows;
+        let options = options_from(field.question, field.links, &self.costs, place, rows)?;
+        let planner = Planner {
+            alloc: field.question.alloc,
+            columns: field.question.about.variables() as usize,
+            links: field.links,
+            options: &options,
+        };
+        match plan_of(&planner, rows, STRATEGY_SPLITS, &mut self.leaves, effort)? {
+            Some(plan) => self.plans.push(plan)?,
+            None => self.holes.push(place)?,
+        }
+        Ok(())
+    }
+}
+
+/// The cost of each link of the draft.
+fn link_costs(
+    field: &Field,
+    draft: &Draft,
+    effort: &mut Effort,
+) -> Result<Vec<Option<u32>>, AllocError> {
+    let worths = field.worths(draft, effort)?;
+    costs_of(field.question.alloc, draft, field.links, &worths)
+}
+
+/// The plans of the areas of a draft.
+fn plans_of(field: &Field, draft: &Draft, effort: &mut Effort) -> Result<Plans, AllocError> {
+    let costs = link_costs(field, draft, effort)?;
+    let mut plans = Plans::new(field.question.alloc, costs);
+    for (place, area) in draft.stages.areas.iter().enumerate() {
+        if place >= draft.stages.done {
+            plans.add(field, place, area, effort)?;
+        }
+    }
+    Ok(plans)
 }
 
 /// The passages over the leaves, in their order. Those that lead to the end are marked as fallen.
@@ -86,22 +113,28 @@ fn passages_of(field: &Field, draft: &Draft, leaves: &[Leaf]) -> Result<Vec<Pass
     let mut passages = Vec::new(alloc);
     for leaf in leaves {
         if let Some(link) = field.links.get(leaf.link) {
-            let own = &link.passage;
-            let is_end = own.to < draft.stages.done;
-            passages.push(Passage {
-                from: own.from,
-                number: own.number,
-                effect: Effect {
-                    width: own.effect.width,
-                    terms: copies(alloc, &own.effect.terms)?,
-                },
-                to: own.to,
-                rows: copies(alloc, &leaf.known)?,
-                fall: if is_end { 1 } else { 0 },
-            })?;
+            let is_end = link.passage.to < draft.stages.done;
+            let fall = if is_end { 1 } else { 0 };
+            passages.push(passage_at(alloc, link, &leaf.known, fall)?)?;
         }
     }
     Ok(passages)
+}
+
+/// The passage over the link where these rows are met, with this fall.
+fn passage_at(alloc: Global, link: &Link, known: &[Row], fall: u32) -> Result<Passage, AllocError> {
+    let own = &link.passage;
+    let width = own.effect.width;
+    let terms = copies(alloc, &own.effect.terms)?;
+    let rows = copies(alloc, known)?;
+    Ok(Passage {
+        from: own.from,
+        number: own.number,
+        effect: Effect { width, terms },
+        to: own.to,
+        rows,
+        fall,
+    })
 }
 
 /// What is known of the draft where each area has a plan.
@@ -287,8 +320,35 @@ enum Round {
 struct Sought<'a> {
     question: &'a Question<'a>,
     sides: &'a Sides<'a>,
-    ways: &'a [Way],
-    terms: &'a [Row],
+    ways: Vec<Way>,
+    terms: Vec<Row>,
+}
+
+impl<'a> Sought<'a> {
+    /// What is sought from the draft on.
+    fn new(
+        question: &'a Question<'a>,
+        sides: &'a Sides<'a>,
+        draft: &Draft,
+    ) -> Result<Sought<'a>, AllocError> {
+        let ways = distinct_ways(question)?;
+        let terms = terms_for(question, &ways, draft)?;
+        Ok(Sought {
+            question,
+            sides,
+            ways,
+            terms,
+        })
+    }
+
+    /// The links between the areas of the draft.
+    fn links(&self, draft: &Draft, effort: &mut Effort) -> Result<Vec<Link>, AllocError> {
+        let between = Between {
+            stages: &draft.stages,
+            ways: &self.ways,
+        };
+        between.links(self.question, effort)
+    }
 }
 
 /// What is found of the draft by this strategy.
@@ -302,7 +362,7 @@ fn found_by(
     let proving = Proving {
         question: sought.question,
         stages: &draft.stages,
-        ways: sought.ways,
+        ways: &sought.ways,
         links,
         strategy: &strategy,
     };
@@ -318,46 +378,59 @@ fn found_by(
     Ok(Some(Ended { found, lost }))
 }
 
-/// One round: what is found of the draft, or the draft that is tried next.
-fn settle(sought: &Sought, draft: Draft, effort: &mut Effort) -> Result<Round, AllocError> {
-    let mut draft = draft;
-    let between = Between {
-        stages: &draft.stages,
-        ways: sought.ways,
+/// The draft in which the areas with holes are cut.
+fn cut_at(
+    sought: &Sought,
+    draft: &Draft,
+    links: &[Link],
+    holes: &Holes,
+    effort: &mut Effort,
+) -> Result<Draft, AllocError> {
+    let cutting = Cutting {
+        ways: &sought.ways,
+        links,
+        costs: &holes.costs,
+        cut: draft.next_cut(),
     };
-    let links = between.links(sought.question, effort)?;
-    let field = Field {
-        question: sought.question,
-        terms: sought.terms,
-        links: &links,
-    };
-    match try_terms(&field, &mut draft, effort)? {
+    draft.cut(sought.question, &cutting, &holes.places, effort)
+}
+
+/// What becomes of the draft by what is known of it.
+fn round_of(
+    sought: &Sought,
+    draft: Draft,
+    links: &[Link],
+    tried: Tried,
+    effort: &mut Effort,
+) -> Result<Round, AllocError> {
+    let next = match tried {
         Tried::Shown(strategy) => {
-            let ended = found_by(sought, draft, &links, strategy, effort)?;
-            Ok(Round::Ended(ended))
+            let ended = found_by(sought, draft, links, strategy, effort)?;
+            return Ok(Round::Ended(ended));
         }
-        Tried::Holes(holes) => {
-            let cutting = Cutting {
-                ways: sought.ways,
-                links: &links,
-                costs: &holes.costs,
-                cut: draft.next_cut(),
-            };
-            let next = draft.cut(sought.question, &cutting, &holes.places, effort)?;
-            Ok(Round::Next(next))
-        }
-        Tried::Split { places, row } => {
-            let next = draft.split(sought.question, &places, &row, effort)?;
-            Ok(Round::Next(next))
-        }
+        Tried::Holes(holes) => cut_at(sought, &draft, links, &holes, effort)?,
+        Tried::Split { places, row } => draft.split(sought.question, &places, &row, effort)?,
         Tried::Stuck(places) => {
             if places.is_empty() {
                 return Ok(Round::Ended(None));
             }
-            let next = draft.without(sought.question.alloc, &places)?;
-            Ok(Round::Next(next))
+            draft.without(sought.question.alloc, &places)?
         }
-    }
+    };
+    Ok(Round::Next(next))
+}
+
+/// One round: what is found of the draft, or the draft that is tried next.
+fn settle(sought: &Sought, draft: Draft, effort: &mut Effort) -> Result<Round, AllocError> {
+    let mut draft = draft;
+    let links = sought.links(&draft, effort)?;
+    let field = Field {
+        question: sought.question,
+        terms: &sought.terms,
+        links: &links,
+    };
+    let tried = try_terms(&field, &mut draft, effort)?;
+    round_of(sought, draft, &links, tried, effort)
 }
 
 /// What the rounds from the first draft end with.
@@ -370,15 +443,8 @@ fn ended_from(
     let Some(stages) = stages_of(question, sides, effort)? else {
         return Ok(None);
     };
-    let ways = distinct_ways(question)?;
     let mut draft = Draft::new(question.alloc, stages, first)?;
-    let terms = terms_for(question, &ways, &draft)?;
-    let sought = Sought {
-        question,
-        sides,
-        ways: &ways,
-        terms: &terms,
-    };
+    let sought = Sought::new(question, sides, &draft)?;
     for _ in 0..STRATEGY_ROUNDS {
         match settle(&sought, draft, effort)? {
             Round::Ended(ended) => return Ok(ended),

@@ -1,6 +1,6 @@
 // In which order the links from an area are tried.
 
-use crate::areas::ranks::{Change, drift_over, steady_change};
+use crate::areas::changes::{Change, drift_over, steady_change};
 use crate::areas::reach::Reach;
 use crate::limits::AREAS;
 use crate::question::Question;

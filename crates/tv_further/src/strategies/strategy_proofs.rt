@@ -5,9 +5,10 @@ use crate::areas::passage::Passage;
 use crate::areas::ranks::{Ranks, push_fall_over};
 use crate::areas::sides::Sides;
 use crate::areas::stages::Stages;
+use crate::areas::taking::split_choice;
 use crate::cycles::way::Way;
 use crate::question::Question;
-use crate::rows::solving::{Effort, shown_by};
+use crate::rows::solving::{Effort, all_shown_by};
 use crate::strategies::link::Link;
 use crate::strategies::plan::{Leaf, Plan};
 use std::alloc::AllocError;
@@ -53,23 +54,25 @@ impl Proving<'_> {
         }
     }
 
-    /// The multipliers that show each of the rows where these are met.
-    fn lines(
+    /// The number of the rank that falls over the passage, and the multipliers that show what is owed for it and the link; `None` where
+    /// these were not found.
+    fn refutations(
         &self,
         known: &[Row],
-        owed: &[Row],
+        link: &Link,
+        passage: &Passage,
         effort: &mut Effort,
-    ) -> Result<Option<Vec<Vec<i64>>>, AllocError> {
+    ) -> Result<Option<(u32, Vec<Vec<i64>>)>, AllocError> {
         let alloc = self.question.alloc;
         let columns = self.question.about.variables() as usize;
-        let mut lines = Vec::new(alloc);
-        for row in owed {
-            match shown_by(alloc, known, row, columns, effort)? {
-                None => return Ok(None),
-                Some(line) => lines.push(line)?,
-            }
+        let mut owed = copies(alloc, &link.owed)?;
+        let Some(fall) = self.push_fall(passage, &mut owed)? else {
+            return Ok(None);
+        };
+        match all_shown_by(alloc, known, &owed, columns, effort)? {
+            None => Ok(None),
+            Some(lines) => Ok(Some((fall, lines))),
         }
-        Ok(Some(lines))
     }
 
     /// The choice that takes the link of the leaf.
@@ -79,27 +82,22 @@ impl Proving<'_> {
         passage: &Passage,
         effort: &mut Effort,
     ) -> Result<Option<ChoiceTree>, AllocError> {
-        let alloc = self.question.alloc;
         let Some(link) = self.links.get(leaf.link) else {
             return Ok(None);
         };
         let Some(way) = self.ways.get(link.way) else {
             return Ok(None);
         };
-        let mut owed = copies(alloc, &link.owed)?;
-        let Some(fall) = self.push_fall(passage, &mut owed)? else {
-            return Ok(None);
-        };
-        let Some(refutations) = self.lines(&leaf.known, &owed, effort)? else {
-            return Ok(None);
-        };
-        Ok(Some(ChoiceTree::Take {
-            taken: way.number,
-            target: place_among(&self.stages.areas, passage.to),
-            fall,
-            draws: copies(alloc, &way.draws)?,
-            refutations,
-        }))
+        match self.refutations(&leaf.known, link, passage, effort)? {
+            None => Ok(None),
+            Some((fall, refutations)) => Ok(Some(ChoiceTree::Take {
+                taken: way.number,
+                target: place_among(&self.stages.areas, passage.to),
+                fall,
+                draws: copies(self.question.alloc, &way.draws)?,
+                refutations,
+            })),
+        }
     }
 
     /// The choice that takes the link of the leaf at this place.
@@ -120,19 +118,19 @@ fn choice_by(
     plan: &Plan,
     effort: &mut Effort,
 ) -> Result<Option<ChoiceTree>, AllocError> {
-    let alloc = proving.question.alloc;
     match plan {
         Plan::Take(place) => proving.take_at(*place, effort),
         Plan::Split(row, holds, fails) => {
             let Some(holds) = choice_by(proving, holds, effort)? else {
                 return Ok(None);
             };
-            let Some(fails) = choice_by(proving, fails, effort)? else {
-                return Ok(None);
-            };
-            let holds = Box::new(alloc, holds)?;
-            let fails = Box::new(alloc, fails)?;
-            Ok(Some(ChoiceTree::Split(row.copy(alloc)?, holds, fails)))
+            match choice_by(proving, fails, effort)? {
+                None => Ok(None),
+                Some(fails) => {
+                    let alloc = proving.question.alloc;
+                    Ok(Some(split_choice(alloc, row, holds, fails)?))
+                }
+            }
         }
     }
 }
