@@ -95,14 +95,23 @@ pub(crate) fn drift_over(
     term: &Row,
     effort: &mut Effort,
 ) -> Result<Change, AllocError> {
-    let Some(more) = growth(question, &passage.effect, term, term)? else {
-        return Ok(Change::Grows);
-    };
+    match growth(question, &passage.effect, term, term)? {
+        None => Ok(Change::Grows),
+        Some(more) => drift_by(question, passage, more, effort),
+    }
+}
+
+/// The same of a term that is so much more after the step.
+fn drift_by(
+    question: &Question,
+    passage: &Passage,
+    more: Row,
+    effort: &mut Effort,
+) -> Result<Change, AllocError> {
     let fallen = raised(question.alloc, passage.effect.width, &more)?;
     if is_shown(question, passage, fallen, effort)? {
-        return Ok(Change::Falls);
-    }
-    if is_shown(question, passage, Some(more), effort)? {
+        Ok(Change::Falls)
+    } else if is_shown(question, passage, Some(more), effort)? {
         Ok(Change::Stays)
     } else {
         Ok(Change::Grows)

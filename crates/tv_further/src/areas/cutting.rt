@@ -90,16 +90,30 @@ pub(crate) fn cut_by(
 ) -> Result<Option<Vec<Vec<Row>>>, AllocError> {
     let mut parts = Vec::new(alloc);
     for list in lists {
-        if both(alloc, columns, list, rows, effort)?.is_none() {
-            parts.push(copies(alloc, list)?)?;
-        } else if !push_outside(alloc, columns, list, rows, effort, &mut parts)? {
-            return Ok(None);
-        }
-        if parts.len() > AREAS {
+        if !push_cut(alloc, columns, list, rows, effort, &mut parts)? || parts.len() > AREAS {
             return Ok(None);
         }
     }
     Ok(Some(parts))
+}
+
+/// Puts the list at the end of the lists where it meets the rows nowhere, and else its parts where they are not all met; whether no row is
+/// too wide.
+fn push_cut(
+    alloc: Global,
+    columns: usize,
+    list: &[Row],
+    rows: &[Row],
+    effort: &mut Effort,
+    lists: &mut Vec<Vec<Row>>,
+) -> Result<bool, AllocError> {
+    match both(alloc, columns, list, rows, effort)? {
+        Some(_) => push_outside(alloc, columns, list, rows, effort, lists),
+        None => {
+            lists.push(copies(alloc, list)?)?;
+            Ok(true)
+        }
+    }
 }
 
 /// The parts of what the rows meet that lie outside of each of the lists; `None` where there are too many.

@@ -55,13 +55,13 @@ pub(crate) struct Ranks {
 }
 
 impl Ranks {
-    /// No ranks of so many areas.
-    fn new(alloc: Global, areas: usize) -> Result<Ranks, AllocError> {
+    /// So many areas without ranks, where others have so many.
+    pub(crate) fn new(alloc: Global, areas: usize, count: u32) -> Result<Ranks, AllocError> {
         let mut rows = Vec::new(alloc);
         for _ in 0..areas {
             rows.push(Vec::new(alloc))?;
         }
-        Ok(Ranks { rows, count: 0 })
+        Ok(Ranks { rows, count })
     }
 
     /// Adds the number of areas that are reached as a rank, and sets the falls over the passages that never come back.
@@ -105,15 +105,25 @@ impl Ranks {
         };
         match tried.falling_parts(question, passages, effort)? {
             Parts::Stuck(area) => Ok(Round::Stuck(joined_with(alloc, &reach, areas, area)?)),
-            Parts::Falling(parts) => {
-                if parts.is_empty() {
-                    return Ok(Round::Ended);
-                }
-                self.add_terms(alloc, columns, &tried, &parts)?;
-                set_falls_in(passages, &parts, self.count);
-                Ok(Round::Added)
-            }
+            Parts::Falling(parts) => self.add_falls(question, &tried, &parts, passages),
         }
+    }
+
+    /// Adds the terms that fall in the parts as a rank, and sets its falls; there is nothing to do where there is no part.
+    fn add_falls(
+        &mut self,
+        question: &Question,
+        tried: &Tried,
+        parts: &[Falling],
+        passages: &mut [Passage],
+    ) -> Result<Round, AllocError> {
+        if parts.is_empty() {
+            return Ok(Round::Ended);
+        }
+        let columns = question.about.variables() as usize;
+        self.add_terms(question.alloc, columns, tried, parts)?;
+        set_falls_in(passages, parts, self.count);
+        Ok(Round::Added)
     }
 
     /// Adds a rank: of each area the term that falls in its part, and 0 where none does.
@@ -298,7 +308,7 @@ pub(crate) fn ranks_among(
     passages: &mut [Passage],
     effort: &mut Effort,
 ) -> Result<Ranking, AllocError> {
-    let mut ranks = Ranks::new(question.alloc, areas)?;
+    let mut ranks = Ranks::new(question.alloc, areas, 0)?;
     for _ in 0..RANK_ROUNDS {
         match ranks.add_round(question, terms, passages, effort)? {
             Round::Added => {}

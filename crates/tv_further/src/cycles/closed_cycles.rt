@@ -120,18 +120,29 @@ fn attempt_under(
     kept: Option<&Aim>,
     effort: &mut Effort,
 ) -> Result<Option<Attempt>, AllocError> {
-    let mut ways = ways_under(question, kept)?;
+    let ways = ways_under(question, kept)?;
     let walks = closed_walks(question.alloc, &ways)?;
-    if kept.is_some() {
-        let mut others = ways_under(question, None)?;
-        ways.append(&mut others)?;
-    }
+    let ways = with_others(question, kept, ways)?;
     let stems = stems(question, &ways, effort)?;
     let known = Known {
         ways: &ways,
         stems: &stems,
     };
     attempt_at(question, &known, &walks, effort)
+}
+
+/// The ways, and then those on which nothing is kept to, where the first ones keep to a formula.
+fn with_others(
+    question: &Question,
+    kept: Option<&Aim>,
+    ways: Vec<Way>,
+) -> Result<Vec<Way>, AllocError> {
+    let mut ways = ways;
+    if kept.is_some() {
+        let mut others = ways_under(question, None)?;
+        ways.append(&mut others)?;
+    }
+    Ok(ways)
 }
 
 impl Search for ClosedCycles {

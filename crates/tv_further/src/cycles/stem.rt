@@ -131,21 +131,34 @@ pub(crate) fn stems(
     ways: &[Way],
     effort: &mut Effort,
 ) -> Result<Vec<Stem>, AllocError> {
-    let columns = question.about.variables() as usize;
     let mut list = Vec::new(question.alloc);
     if let Some(first) = first_stem(question)? {
         list.push(first)?;
     }
     for place in 0..STEMS {
-        let Some(next) = list.get(place) else {
-            return Ok(list);
-        };
-        if next.walk.len() < LONGEST_STEM {
-            let stem = copy_of(question.alloc, next)?;
-            push_longer(question.alloc, columns, ways, &stem, effort, &mut list)?;
+        if place < list.len() {
+            push_longer_at(question, ways, place, effort, &mut list)?;
         }
     }
     Ok(list)
+}
+
+/// Puts the paths that are one way longer than that at this place at the end of the list, unless it is long.
+fn push_longer_at(
+    question: &Question,
+    ways: &[Way],
+    place: usize,
+    effort: &mut Effort,
+    list: &mut Vec<Stem>,
+) -> Result<(), AllocError> {
+    let columns = question.about.variables() as usize;
+    if let Some(next) = list.get(place)
+        && next.walk.len() < LONGEST_STEM
+    {
+        let stem = copy_of(question.alloc, next)?;
+        push_longer(question.alloc, columns, ways, &stem, effort, list)?;
+    }
+    Ok(())
 }
 
 /// Values at the start from which the path leads to where the rows are met.

@@ -86,21 +86,34 @@ pub(crate) fn way_of(
     let Some(inputs) = inputs_of(alloc, columns, &draws)? else {
         return Ok(None);
     };
-    let Some(guards) = all_put_in(alloc, columns, &case.guards.rows, &inputs)? else {
+    match guards_and_terms(alloc, columns, case, &inputs)? {
+        None => Ok(None),
+        Some((guards, terms)) => Ok(Some(Way {
+            number,
+            from: case.from,
+            to: case.to,
+            draws,
+            guards,
+            conditions: Vec::new(alloc),
+            terms,
+        })),
+    }
+}
+
+/// The guards of the case and the terms of the variables after it, over the variables alone; `None` where a row is too wide.
+fn guards_and_terms(
+    alloc: Global,
+    columns: usize,
+    case: &Case,
+    inputs: &[Row],
+) -> Result<Option<(Vec<Row>, Vec<Row>)>, AllocError> {
+    let Some(guards) = all_put_in(alloc, columns, &case.guards.rows, inputs)? else {
         return Ok(None);
     };
-    let Some(terms) = terms_after(alloc, columns, case, &inputs)? else {
-        return Ok(None);
-    };
-    Ok(Some(Way {
-        number,
-        from: case.from,
-        to: case.to,
-        draws,
-        guards,
-        conditions: Vec::new(alloc),
-        terms,
-    }))
+    match terms_after(alloc, columns, case, inputs)? {
+        None => Ok(None),
+        Some(terms) => Ok(Some((guards, terms))),
+    }
 }
 
 /// The term of a draw at which the value of the guard is 0, where the draw's coefficient is 1 or -1.

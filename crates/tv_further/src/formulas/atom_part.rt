@@ -7,8 +7,8 @@ use crate::question::Question;
 use crate::rows::conditions::conditions_at;
 use crate::rows::solving::{Effort, may_have_point};
 use std::alloc::AllocError;
-use tv_cert::Aim;
-use tv_linear::{Cover, Row, copies};
+use tv_cert::{Aim, Proof};
+use tv_linear::{Row, copies};
 
 /// The rows, and what is known at the location.
 fn with_known(question: &Question, location: u32, rows: &[Row]) -> Result<Vec<Row>, AllocError> {
@@ -17,17 +17,19 @@ fn with_known(question: &Question, location: u32, rows: &[Row]) -> Result<Vec<Ro
     Ok(all)
 }
 
-/// The cover of the rows by one target.
-fn cover_alone(
+/// Puts the cover of the rows by one target at the end of the list; whether there is one.
+fn push_alone(
     question: &Question,
     rows: &[Row],
     target: Target,
     effort: &mut Effort,
-) -> Result<Option<Cover>, AllocError> {
+    proofs: &mut Vec<Proof>,
+) -> Result<bool, AllocError> {
     let columns = question.about.variables() as usize;
     let mut targets = Vec::new(question.alloc);
     targets.push(target)?;
-    cover_by(question.alloc, columns, rows, &targets, effort)
+    let cover = cover_by(question.alloc, columns, rows, &targets, effort)?;
+    push_cover(proofs, cover)
 }
 
 /// Adds the area of the rows of a target, with what is known at the location, unless no point meets it; whether it is shown.
@@ -43,12 +45,11 @@ fn add_plain(
     if !question.known.is_empty() && !may_have_point(question.alloc, &rows, columns, effort)? {
         return Ok(true);
     }
-    let cover = cover_alone(question, &rows, target, effort)?;
-    if !push_cover(&mut shown.proofs, cover)? {
-        return Ok(false);
+    let is_shown = push_alone(question, &rows, target, effort, &mut shown.proofs)?;
+    if is_shown {
+        shown.areas.push(Area { location, rows })?;
     }
-    shown.areas.push(Area { location, rows })?;
-    Ok(true)
+    Ok(is_shown)
 }
 
 /// Adds the areas of the location and what shows them; whether all are shown.

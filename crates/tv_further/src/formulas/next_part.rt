@@ -87,19 +87,34 @@ fn add_entry(
     effort: &mut Effort,
     shown: &mut Shown,
 ) -> Result<(), AllocError> {
-    let columns = question.about.variables() as usize;
-    let Some(rows) = strongest_rows(question, &entry.rows, effort)? else {
+    let Some(area) = area_outside(question, location, &entry.rows, &shown.areas, effort)? else {
         return Ok(());
     };
-    let area = Area { location, rows };
-    if is_inside_any(question.alloc, columns, &area, &shown.areas, effort)? {
-        return Ok(());
-    }
     let moves = one_move(question.alloc, inner, entry)?;
     if push_choice(question, &area, &moves, effort, &mut shown.proofs)? {
         shown.areas.push(area)?;
     }
     Ok(())
+}
+
+/// The area of the rows at the location; `None` where no point meets them, or it lies inside one of the areas.
+fn area_outside(
+    question: &Question,
+    location: u32,
+    rows: &[Row],
+    areas: &[Area],
+    effort: &mut Effort,
+) -> Result<Option<Area>, AllocError> {
+    let columns = question.about.variables() as usize;
+    let Some(rows) = strongest_rows(question, rows, effort)? else {
+        return Ok(None);
+    };
+    let area = Area { location, rows };
+    if is_inside_any(question.alloc, columns, &area, areas, effort)? {
+        Ok(None)
+    } else {
+        Ok(Some(area))
+    }
 }
 
 /// The rows, tightened, the strongest of those with the same coefficients; `None` where no point meets them all.

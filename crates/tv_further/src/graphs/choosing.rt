@@ -138,7 +138,7 @@ fn push_taking(
     match lines_of(question, taking)? {
         None => Ok(false),
         Some(lines) => {
-            let Taking { target, fall, .. } = *taking;
+            let (target, fall) = (taking.target, taking.fall);
             let proof = taken(question.alloc, taking.step, target, fall, lines)?;
             push_proof(proofs, proof)
         }

@@ -1,7 +1,7 @@
 // Nodes of the formulas that hold in a graph.
 
 use crate::graphs::choosing::{push_choice, push_no_step};
-use crate::graphs::fixed::{Fixed, fixed_node, has_falls, needed_of};
+use crate::graphs::fixed::{Fixed, Needed, fixed_node, has_falls, needed_of};
 use crate::graphs::graph::Graph;
 use crate::graphs::holding::{Holding, first_with};
 use crate::graphs::made::{Made, Marks, Parts};
@@ -289,18 +289,17 @@ pub(crate) fn made_of(
             let [first_part, second_part] = holding.parts.as_slice() else {
                 return Ok(None);
             };
+            let onward = onward_by(*path, has_falls(*shape));
             let mut all = selected;
-            close(
-                graph,
-                &holding.layers,
-                onward_by(*path, has_falls(*shape)),
-                &mut all,
-            );
-            let needed = needed_of(question.alloc, *shape, &holding.layers, &all)?;
-            let Some(first) = made_of(question, graph, first, first_part, needed.first)? else {
+            close(graph, &holding.layers, onward, &mut all);
+            let Needed {
+                first: at_first,
+                second: at_second,
+            } = needed_of(question.alloc, *shape, &holding.layers, &all)?;
+            let Some(first) = made_of(question, graph, first, first_part, at_first)? else {
                 return Ok(None);
             };
-            let Some(second) = made_of(question, graph, second, second_part, needed.second)? else {
+            let Some(second) = made_of(question, graph, second, second_part, at_second)? else {
                 return Ok(None);
             };
             let fixed = Fixed {
