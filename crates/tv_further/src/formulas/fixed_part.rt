@@ -32,33 +32,36 @@ fn any_until(
     Ok(better(chosen, ranked))
 }
 
-/// What a way finds of a fixed point that comes to the end, from which layers go on: at least the end.
+/// What a way finds of a fixed point that comes to the end.
 fn first_ending(
     question: &Question,
     path: &Path,
     sides: &Sides,
     effort: &mut Effort,
-) -> Result<Option<Found>, AllocError> {
-    let ended = match path {
-        Path::Every => until_by_ranks(question, path, sides, effort)?,
-        Path::Any => any_until(question, path, sides, effort)?,
-    };
-    match ended {
-        Some(ended) => Ok(Some(ended.found)),
-        None => end_alone(question, sides, 1, effort),
+) -> Result<Option<Ended>, AllocError> {
+    match path {
+        Path::Every => until_by_ranks(question, path, sides, effort),
+        Path::Any => any_until(question, path, sides, effort),
     }
 }
 
-/// What the ways find of a fixed point that comes to the end.
+/// What the ways find of a fixed point that comes to the end: at least the end, and layers from there on where areas may be wanting.
 fn ending(
     question: &Question,
     path: &Path,
     sides: &Sides,
     effort: &mut Effort,
 ) -> Result<Option<Found>, AllocError> {
-    match first_ending(question, path, sides, effort)? {
-        None => Ok(None),
-        Some(found) => Ok(Some(with_layers(question, path, sides, found, effort)?)),
+    let (found, is_whole) = match first_ending(question, path, sides, effort)? {
+        Some(ended) => (Some(ended.found), ended.is_whole),
+        None => (end_alone(question, sides, 1, effort)?, false),
+    };
+    match found {
+        Some(found) if !is_whole => {
+            let found = with_layers(question, path, sides, found, effort)?;
+            Ok(Some(found))
+        }
+        found => Ok(found),
     }
 }
 

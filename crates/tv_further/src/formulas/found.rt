@@ -27,6 +27,8 @@ pub(crate) struct Found {
 pub(crate) struct Ended {
     pub found: Found,
     pub lost: usize,
+    /// Whether nothing else can show more: no area was lost, or cut where it may hold.
+    pub is_whole: bool,
 }
 
 /// The one that lost fewer areas, or the first.
@@ -51,21 +53,19 @@ pub(crate) fn end_alone(
     count: u32,
     effort: &mut Effort,
 ) -> Result<Option<Found>, AllocError> {
-    let alloc = question.alloc;
-    let mut proofs = Vec::new(alloc);
-    let mut rows = Vec::new(alloc);
+    let mut proofs = Vec::new(question.alloc);
     for area in sides.end {
         if !sides.push_done(question, area, effort, &mut proofs)? {
             return Ok(None);
         }
-        rows.push(Vec::new(alloc))?;
     }
-    let mut areas = Vec::new(alloc);
-    push_copied(alloc, sides.end, &mut areas)?;
+    let ranks = Ranks::new(question.alloc, sides.end.len(), count)?;
+    let mut areas = Vec::new(question.alloc);
+    push_copied(question.alloc, sides.end, &mut areas)?;
     let done = areas.len();
     Ok(Some(Found {
         stages: Stages { done, areas },
-        ranks: Ranks { rows, count },
+        ranks,
         proofs,
     }))
 }

@@ -301,22 +301,43 @@ pub(crate) fn until_by_ranks(
         lost: 0,
     };
     for _ in 0..AREAS {
-        let open = match try_until(question, path, sides, &stages, effort)? {
-            Until::Shown { ranks, proofs } => {
-                let found = Found {
-                    stages,
-                    ranks,
-                    proofs,
-                };
-                let lost = tries.lost;
-                return Ok(Some(Ended { found, lost }));
-            }
-            open => open,
-        };
-        match next_stages(question, &stages, open, &mut tries, effort)? {
-            None => return Ok(None),
-            Some(next) => stages = next,
+        match round_of(question, path, sides, stages, &mut tries, effort)? {
+            Round::Ended(ended) => return Ok(ended),
+            Round::Next(next) => stages = next,
         }
     }
     Ok(None)
+}
+
+/// What becomes of stages.
+#[derive(Drop)]
+enum Round {
+    Ended(Option<Ended>),
+    Next(Stages),
+}
+
+/// One round: what is found of the stages, or those that are tried next.
+fn round_of(
+    question: &Question,
+    path: &Path,
+    sides: &Sides,
+    stages: Stages,
+    tries: &mut Tries,
+    effort: &mut Effort,
+) -> Result<Round, AllocError> {
+    match try_until(question, path, sides, &stages, effort)? {
+        Until::Shown { ranks, proofs } => Ok(Round::Ended(Some(Ended {
+            found: Found {
+                stages,
+                ranks,
+                proofs,
+            },
+            lost: tries.lost,
+            is_whole: tries.lost == 0 && tries.cuts == 0,
+        }))),
+        open => match next_stages(question, &stages, open, tries, effort)? {
+            None => Ok(Round::Ended(None)),
+            Some(next) => Ok(Round::Next(next)),
+        },
+    }
 }

@@ -8,20 +8,21 @@ use std::alloc::AllocError;
 
 /// Whether a link from the area does not let the term grow, and whether it falls over one between the areas at these places.
 fn outlook(
-    field: &Field,
+    field: &mut Field,
     term: usize,
     area: usize,
     places: &[usize],
     effort: &mut Effort,
 ) -> Result<(bool, bool), AllocError> {
+    let links = field.links;
     let mut goes_on = false;
     let mut falls = false;
-    for link in field.links {
+    for (place, link) in links.iter().enumerate() {
         if link.passage.from == area {
             if !places.contains(&link.passage.to) {
                 goes_on = true;
             } else {
-                match field.change(term, link, effort)? {
+                match field.change(term, place, effort)? {
                     Change::Grows => {}
                     Change::Stays => goes_on = true,
                     Change::Falls => {
@@ -37,7 +38,7 @@ fn outlook(
 
 /// Whether each of the areas at these places may go on so that the term does not grow, and falls over some link.
 fn is_promising(
-    field: &Field,
+    field: &mut Field,
     term: usize,
     places: &[usize],
     effort: &mut Effort,
@@ -53,14 +54,13 @@ fn is_promising(
     Ok(falls)
 }
 
-/// The next term to favour at the areas at these places.
+/// The next term after a known one to favour at the areas at these places.
 fn next_term(
-    field: &Field,
-    draft: &Draft,
+    field: &mut Field,
+    known: usize,
     places: &[usize],
     effort: &mut Effort,
 ) -> Result<Option<usize>, AllocError> {
-    let known = draft.greatest_at(places);
     for term in known.saturating_add(1)..field.terms.len().saturating_add(1) {
         if is_promising(field, term, places, effort)? {
             return Ok(Some(term));
@@ -82,14 +82,16 @@ fn joined_with(field: &Field, draft: &Draft, places: &[usize]) -> Result<Vec<usi
     Ok(joined)
 }
 
-/// Favours the next term at the areas at these places, or else at all that are joined with them; whether there is one.
+/// Favours the next term at the areas at these places, or else at all that are joined with them, where those count that are favoured at some
+/// of them alone; whether there is one.
 pub(crate) fn favour_next(
-    field: &Field,
+    field: &mut Field,
     draft: &mut Draft,
     places: &[usize],
     effort: &mut Effort,
 ) -> Result<bool, AllocError> {
-    if let Some(term) = next_term(field, draft, places, effort)? {
+    let greatest = draft.greatest_at(places);
+    if let Some(term) = next_term(field, greatest, places, effort)? {
         draft.favour(places, term);
         return Ok(true);
     }
@@ -97,7 +99,7 @@ pub(crate) fn favour_next(
     if joined.len() <= places.len() {
         return Ok(false);
     }
-    match next_term(field, draft, &joined, effort)? {
+    match next_term(field, draft.least_at(&joined), &joined, effort)? {
         None => Ok(false),
         Some(term) => {
             draft.favour(&joined, term);

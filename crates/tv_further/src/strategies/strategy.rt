@@ -87,7 +87,7 @@ impl Plans {
 
 /// The cost of each link of the draft.
 fn link_costs(
-    field: &Field,
+    field: &mut Field,
     draft: &Draft,
     effort: &mut Effort,
 ) -> Result<Vec<Option<u32>>, AllocError> {
@@ -96,7 +96,7 @@ fn link_costs(
 }
 
 /// The plans of the areas of a draft.
-fn plans_of(field: &Field, draft: &Draft, effort: &mut Effort) -> Result<Plans, AllocError> {
+fn plans_of(field: &mut Field, draft: &Draft, effort: &mut Effort) -> Result<Plans, AllocError> {
     let costs = link_costs(field, draft, effort)?;
     let mut plans = Plans::new(field.question.alloc, costs);
     for (place, area) in draft.stages.areas.iter().enumerate() {
@@ -158,7 +158,7 @@ fn ranked(
 }
 
 /// What is known of the draft.
-fn try_once(field: &Field, draft: &Draft, effort: &mut Effort) -> Result<Tried, AllocError> {
+fn try_once(field: &mut Field, draft: &Draft, effort: &mut Effort) -> Result<Tried, AllocError> {
     let plans = plans_of(field, draft, effort)?;
     if plans.holes.is_empty() {
         return ranked(field, draft, plans, effort);
@@ -228,14 +228,19 @@ impl Left {
 }
 
 /// What is known of the areas of the draft, whatever term is favoured: places are stuck only where no term helps.
-fn try_terms(field: &Field, draft: &mut Draft, effort: &mut Effort) -> Result<Tried, AllocError> {
+fn try_terms(
+    field: &mut Field,
+    draft: &mut Draft,
+    effort: &mut Effort,
+) -> Result<Tried, AllocError> {
     let alloc = field.question.alloc;
     let mut left = Left {
         tried: Vec::new(alloc),
         held: None,
     };
+    let mut places = Vec::new(alloc);
     for _ in 0..STRATEGY_ROUNDS {
-        let places = match try_once(field, draft, effort)? {
+        places = match try_once(field, draft, effort)? {
             Tried::Stuck(places) => {
                 left.tried.push(draft.greatest_at(&places))?;
                 places
@@ -247,10 +252,10 @@ fn try_terms(field: &Field, draft: &mut Draft, effort: &mut Effort) -> Result<Tr
             tried => return Ok(tried),
         };
         if !favour_next(field, draft, &places, effort)? {
-            return no_term(field, draft, left, places, effort);
+            break;
         }
     }
-    Ok(Tried::Stuck(Vec::new(alloc)))
+    no_term(field, draft, left, places, effort)
 }
 
 /// What is known where no term is left for the areas at these places: how they may be split, or where the first term that left holes did.
@@ -370,12 +375,17 @@ fn found_by(
         return Ok(None);
     };
     let lost = draft.lost;
+    let is_whole = draft.is_whole(sought.question);
     let found = Found {
         stages: draft.stages,
         ranks: strategy.ranks,
         proofs,
     };
-    Ok(Some(Ended { found, lost }))
+    Ok(Some(Ended {
+        found,
+        lost,
+        is_whole,
+    }))
 }
 
 /// The draft in which the areas with holes are cut.
@@ -424,12 +434,8 @@ fn round_of(
 fn settle(sought: &Sought, draft: Draft, effort: &mut Effort) -> Result<Round, AllocError> {
     let mut draft = draft;
     let links = sought.links(&draft, effort)?;
-    let field = Field {
-        question: sought.question,
-        terms: &sought.terms,
-        links: &links,
-    };
-    let tried = try_terms(&field, &mut draft, effort)?;
+    let mut field = Field::new(sought.question, &sought.terms, &links)?;
+    let tried = try_terms(&mut field, &mut draft, effort)?;
     round_of(sought, draft, &links, tried, effort)
 }
 
@@ -443,10 +449,20 @@ fn ended_from(
     let Some(stages) = stages_of(question, sides, effort)? else {
         return Ok(None);
     };
-    let mut draft = Draft::new(question.alloc, stages, first)?;
+    let draft = Draft::new(question.alloc, stages, first)?;
     let sought = Sought::new(question, sides, &draft)?;
+    rounds_of(&sought, draft, effort)
+}
+
+/// The same of this draft.
+fn rounds_of(
+    sought: &Sought,
+    draft: Draft,
+    effort: &mut Effort,
+) -> Result<Option<Ended>, AllocError> {
+    let mut draft = draft;
     for _ in 0..STRATEGY_ROUNDS {
-        match settle(&sought, draft, effort)? {
+        match settle(sought, draft, effort)? {
             Round::Ended(ended) => return Ok(ended),
             Round::Next(next) => draft = next,
         }

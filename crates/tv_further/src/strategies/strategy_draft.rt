@@ -22,6 +22,8 @@ pub(crate) struct Draft {
     pub splits: u32,
     /// How many areas were left out, or cut for the sake of a term.
     pub lost: usize,
+    /// How many areas were cut to nothing, or found no room.
+    pub dropped: usize,
     pub first: First,
 }
 
@@ -55,6 +57,7 @@ impl Draft {
             cuts: 0,
             splits: 0,
             lost: 0,
+            dropped: 0,
             first,
         })
     }
@@ -71,6 +74,15 @@ impl Draft {
             greatest = greatest.max(self.favoured_at(*place));
         }
         greatest
+    }
+
+    /// The least number of a term that is favoured at the areas at these places.
+    pub(crate) fn least_at(&self, places: &[usize]) -> usize {
+        let mut least = usize::MAX;
+        for place in places {
+            least = least.min(self.favoured_at(*place));
+        }
+        least
     }
 
     /// The places of the areas at which this term is favoured.
@@ -115,8 +127,15 @@ impl Draft {
             cuts: self.cuts,
             splits: self.splits,
             lost: self.lost,
+            dropped: self.dropped,
             first: self.first,
         }
+    }
+
+    /// Whether no other way can show more: no area was lost or dropped. Where there are draws, not all of them are tried before areas are cut.
+    pub(crate) fn is_whole(&self, question: &Question) -> bool {
+        let is_exact = self.cuts == 0 || question.about.list().iter().all(|case| case.draws == 0);
+        self.lost == 0 && self.dropped == 0 && is_exact
     }
 
     /// Puts an area at the end, at which the term is favoured, unless there are too many.
@@ -124,6 +143,24 @@ impl Draft {
         if self.stages.areas.len() < AREAS {
             self.stages.areas.push(Area { location, rows })?;
             self.favoured.push(term)?;
+        } else {
+            self.dropped = self.dropped.saturating_add(1);
+        }
+        Ok(())
+    }
+
+    /// Puts the pieces of an area that is cut at the end.
+    fn push_pieces(
+        &mut self,
+        location: u32,
+        pieces: Vec<Vec<Row>>,
+        term: usize,
+    ) -> Result<(), AllocError> {
+        if pieces.is_empty() {
+            self.dropped = self.dropped.saturating_add(1);
+        }
+        for rows in pieces {
+            self.push(location, rows, term)?;
         }
         Ok(())
     }
@@ -205,9 +242,8 @@ impl Draft {
             if !places.contains(&place) {
                 next.push(area.location, copies(question.alloc, &area.rows)?, term)?;
             } else {
-                for rows in cutting.pieces(question, area, place, effort)? {
-                    next.push(area.location, rows, term)?;
-                }
+                let pieces = cutting.pieces(question, area, place, effort)?;
+                next.push_pieces(area.location, pieces, term)?;
             }
         }
         Ok(next)

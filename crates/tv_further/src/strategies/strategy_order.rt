@@ -29,23 +29,51 @@ pub(crate) struct Field<'a> {
     pub question: &'a Question<'a>,
     pub terms: &'a [Row],
     pub links: &'a [Link],
+    /// How the terms change over the links, as far as that was asked: a place for each link, term by term.
+    changes: Vec<Option<Change>>,
 }
 
-impl Field<'_> {
-    /// How the favoured term changes over the link, which counts from 1; it stays where there is none.
+impl<'a> Field<'a> {
+    /// The field of these terms and links.
+    pub(crate) fn new(
+        question: &'a Question<'a>,
+        terms: &'a [Row],
+        links: &'a [Link],
+    ) -> Result<Field<'a>, AllocError> {
+        let count = terms.len().saturating_mul(links.len());
+        let changes = vec![in question.alloc; None; count]?;
+        Ok(Field {
+            question,
+            terms,
+            links,
+            changes,
+        })
+    }
+
+    /// How the favoured term, which counts from 1, changes over the link at this place; it stays where there is none.
     pub(crate) fn change(
-        &self,
+        &mut self,
         favoured: usize,
-        link: &Link,
+        place: usize,
         effort: &mut Effort,
     ) -> Result<Change, AllocError> {
-        match favoured
-            .checked_sub(1)
-            .and_then(|place| self.terms.get(place))
-        {
-            None => Ok(Change::Stays),
-            Some(term) => drift_over(self.question, &link.passage, term, effort),
+        let (links, terms) = (self.links, self.terms);
+        let number = favoured.saturating_sub(1);
+        let (Some(link), Some(term)) = (links.get(place), terms.get(number)) else {
+            return Ok(Change::Stays);
+        };
+        if favoured == 0 {
+            return Ok(Change::Stays);
         }
+        let slot = number.saturating_mul(links.len()).saturating_add(place);
+        if let Some(Some(change)) = self.changes.get(slot) {
+            return Ok(*change);
+        }
+        let change = drift_over(self.question, &link.passage, term, effort)?;
+        if let Some(known) = self.changes.get_mut(slot) {
+            *known = Some(change);
+        }
+        Ok(change)
     }
 
     /// Which of so many areas are reached from which over the links.
@@ -58,13 +86,19 @@ impl Field<'_> {
         Ok(reach)
     }
 
-    /// What the link is worth.
-    fn worth(&self, draft: &Draft, link: &Link, effort: &mut Effort) -> Result<Worth, AllocError> {
+    /// What the link at this place is worth.
+    fn worth(
+        &mut self,
+        draft: &Draft,
+        place: usize,
+        link: &Link,
+        effort: &mut Effort,
+    ) -> Result<Worth, AllocError> {
         let favoured = draft.favoured_at(link.passage.from);
         if favoured == 0 || favoured != draft.favoured_at(link.passage.to) {
             return Ok(Worth::Leaves);
         }
-        match self.change(favoured, link, effort)? {
+        match self.change(favoured, place, effort)? {
             Change::Grows => Ok(Worth::Barred),
             Change::Stays => Ok(Worth::Stays),
             Change::Falls => Ok(Worth::Falls),
@@ -73,13 +107,14 @@ impl Field<'_> {
 
     /// What the links are worth.
     pub(crate) fn worths(
-        &self,
+        &mut self,
         draft: &Draft,
         effort: &mut Effort,
     ) -> Result<Vec<Worth>, AllocError> {
+        let links = self.links;
         let mut worths = Vec::new(self.question.alloc);
-        for link in self.links {
-            worths.push(self.worth(draft, link, effort)?)?;
+        for (place, link) in links.iter().enumerate() {
+            worths.push(self.worth(draft, place, link, effort)?)?;
         }
         Ok(worths)
     }
