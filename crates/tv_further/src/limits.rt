@@ -106,6 +106,9 @@ pub(crate) const STEP_CUTS: u32 = 4;
 
 pub(crate) const STEP_SPLITS: u32 = 4;
 
+/// How often areas from which every run is to end are split.
+pub(crate) const ENDING_SPLITS: u32 = 6;
+
 /// How many closed walks are tried inside of a part of a formula, and after how many calls of the solver none is begun.
 pub(crate) const TRIED_CYCLES: usize = 24;
 

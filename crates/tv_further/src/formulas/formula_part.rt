@@ -1,6 +1,7 @@
 // The regions of a formula and of its parts, from the innermost on.
 
 use crate::formulas::atom_part::atom_part;
+use crate::formulas::ending_part::ending_part;
 use crate::formulas::fixed_part::fixed_part;
 use crate::formulas::joined_part::{each_of, one_of};
 use crate::formulas::next_part::{after_each, after_some};
@@ -45,7 +46,8 @@ pub(crate) fn part_of(
             };
             fixed_part(question, path, shape, first, second, effort)
         }
-        _ => Ok(None),
+        Aim::Ends => ending_part(question, effort),
+        Aim::NeverEnds => Ok(None),
     }
 }
 

@@ -73,7 +73,7 @@ fn falling_target(
 }
 
 /// Puts the covers of the steps from an area where the ranks fall at the end of the list.
-fn push_falling(
+pub(crate) fn push_falling(
     question: &Question,
     stages: &Stages,
     place: usize,
@@ -99,7 +99,7 @@ fn push_falling(
 }
 
 /// The passages between areas that go on.
-fn going_passages(
+pub(crate) fn going_passages(
     question: &Question,
     stages: &Stages,
     effort: &mut Effort,

@@ -189,6 +189,23 @@ fn split_by_first(
     Ok(None)
 }
 
+/// The stages in which the areas between which no rank falls are split by a guard: one that none of their passages changes, or else another.
+/// `None` where none splits them.
+pub(crate) fn split_by_guards(
+    question: &Question,
+    stages: &Stages,
+    stuck: &Stuck,
+    effort: &mut Effort,
+) -> Result<Option<Stages>, AllocError> {
+    let places = &stuck.places;
+    let guards = guards_at(question, stages, stuck)?;
+    let kept = kept_rows(question, stuck, &guards)?;
+    if let Some(split) = split_by_first(question, stages, places, &kept, effort)? {
+        return Ok(Some(split));
+    }
+    split_by_first(question, stages, places, &guards, effort)
+}
+
 /// The stages in which the areas between which no rank falls are split: by a guard that none of their passages changes, or else by where a
 /// term falls over one of them, or else by another guard. `None` where nothing splits them.
 pub(crate) fn split_at(

@@ -1,0 +1,124 @@
+// Where every run ends: ranks of areas that fall over every step, where guards split the areas between which none falls at first.
+
+use crate::areas::area::Area;
+use crate::areas::ranks::{Ranking, Ranks, ranks_of};
+use crate::areas::stages::{Stages, without};
+use crate::formulas::found::{Found, part_found};
+use crate::formulas::region_part::Part;
+use crate::formulas::until_by_ranks::{Ranked, going_passages, push_falling};
+use crate::formulas::until_splits::{Stuck, split_by_guards};
+use crate::limits::{AREAS, ENDING_SPLITS};
+use crate::question::Question;
+use crate::rows::solving::Effort;
+use std::alloc::AllocError;
+use tv_cert::Proof;
+
+/// An attempt to show that every run from the areas ends.
+#[derive(Drop)]
+enum Ending {
+    /// The ranks and the proofs.
+    Shown { ranks: Ranks, proofs: Vec<Proof> },
+    /// From the areas at these places a step may lead out of all of them.
+    Open(Vec<usize>),
+    /// The ranks do not fall.
+    Stuck(Stuck),
+}
+
+/// Each location, with the rows that are known there.
+fn first_areas(question: &Question) -> Result<Vec<Area>, AllocError> {
+    let mut areas = Vec::new(question.alloc);
+    for location in 0..question.about.locations() {
+        let rows = question.known_at(location)?;
+        areas.push(Area { location, rows })?;
+    }
+    Ok(areas)
+}
+
+/// The proofs of the steps under these ranks.
+fn ending_under(
+    question: &Question,
+    stages: &Stages,
+    ranked: Ranked,
+    effort: &mut Effort,
+) -> Result<Ending, AllocError> {
+    let mut proofs = Vec::new(question.alloc);
+    let mut open = Vec::new(question.alloc);
+    for place in 0..stages.areas.len() {
+        if !push_falling(question, stages, place, &ranked, effort, &mut proofs)? {
+            open.push(place)?;
+        }
+    }
+    if !open.is_empty() {
+        return Ok(Ending::Open(open));
+    }
+    let ranks = ranked.ranks;
+    Ok(Ending::Shown { ranks, proofs })
+}
+
+/// An attempt with these areas.
+fn try_ending(
+    question: &Question,
+    stages: &Stages,
+    effort: &mut Effort,
+) -> Result<Ending, AllocError> {
+    let mut passages = going_passages(question, stages, effort)?;
+    match ranks_of(question, &stages.areas, &mut passages, effort)? {
+        Ranking::Stuck(places) => Ok(Ending::Stuck(Stuck { places, passages })),
+        Ranking::Found(ranks) => {
+            let ranked = Ranked { passages, ranks };
+            ending_under(question, stages, ranked, effort)
+        }
+    }
+}
+
+/// The areas that are tried next, where those that are stuck are split, while that may be done once more, and else left out; `None` where
+/// none is left to leave out.
+fn next_areas(
+    question: &Question,
+    stages: &Stages,
+    ending: Ending,
+    splits: &mut u32,
+    effort: &mut Effort,
+) -> Result<Option<Stages>, AllocError> {
+    match ending {
+        Ending::Shown { .. } => Ok(None),
+        Ending::Open(places) => without(question.alloc, stages, &places),
+        Ending::Stuck(stuck) => {
+            if *splits < ENDING_SPLITS
+                && let Some(split) = split_by_guards(question, stages, &stuck, effort)?
+            {
+                *splits = splits.saturating_add(1);
+                return Ok(Some(split));
+            }
+            without(question.alloc, stages, &stuck.places)
+        }
+    }
+}
+
+/// Where every run is shown to end; `None` where nothing was found.
+pub(crate) fn ending_part(
+    question: &Question,
+    effort: &mut Effort,
+) -> Result<Option<Part>, AllocError> {
+    let areas = first_areas(question)?;
+    let mut stages = Stages { done: 0, areas };
+    let mut splits = 0;
+    for _ in 0..AREAS {
+        let ending = match try_ending(question, &stages, effort)? {
+            Ending::Shown { ranks, proofs } => {
+                let found = Found {
+                    stages,
+                    ranks,
+                    proofs,
+                };
+                return part_found(question, found, Vec::new(question.alloc));
+            }
+            ending => ending,
+        };
+        match next_areas(question, &stages, ending, &mut splits, effort)? {
+            None => return Ok(None),
+            Some(next) => stages = next,
+        }
+    }
+    Ok(None)
+}
