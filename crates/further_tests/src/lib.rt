@@ -4,6 +4,8 @@
 #[cfg(test)]
 mod disproofs;
 #[cfg(test)]
+mod endings;
+#[cfg(test)]
 mod proofs;
 #[cfg(test)]
 mod regions;

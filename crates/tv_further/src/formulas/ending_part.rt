@@ -18,10 +18,8 @@ use tv_cert::Proof;
 enum Ending {
     /// The ranks and the proofs.
     Shown { ranks: Ranks, proofs: Vec<Proof> },
-    /// From the areas at these places a step may lead out of all of them.
-    Open(Vec<usize>),
-    /// The ranks do not fall.
-    Stuck(Stuck),
+    /// From these areas a step may lead out of all of them, or no ranks fall between them.
+    Left(Stuck),
 }
 
 /// Each location, with the rows that are known there.
@@ -42,17 +40,18 @@ fn ending_under(
     effort: &mut Effort,
 ) -> Result<Ending, AllocError> {
     let mut proofs = Vec::new(question.alloc);
-    let mut open = Vec::new(question.alloc);
+    let mut places = Vec::new(question.alloc);
     for place in 0..stages.areas.len() {
         if !push_falling(question, stages, place, &ranked, effort, &mut proofs)? {
-            open.push(place)?;
+            places.push(place)?;
         }
     }
-    if !open.is_empty() {
-        return Ok(Ending::Open(open));
-    }
-    let ranks = ranked.ranks;
-    Ok(Ending::Shown { ranks, proofs })
+    let Ranked { passages, ranks } = ranked;
+    Ok(if places.is_empty() {
+        Ending::Shown { ranks, proofs }
+    } else {
+        Ending::Left(Stuck { places, passages })
+    })
 }
 
 /// An attempt with these areas.
@@ -63,7 +62,7 @@ fn try_ending(
 ) -> Result<Ending, AllocError> {
     let mut passages = going_passages(question, stages, effort)?;
     match ranks_of(question, &stages.areas, &mut passages, effort)? {
-        Ranking::Stuck(places) => Ok(Ending::Stuck(Stuck { places, passages })),
+        Ranking::Stuck(places) => Ok(Ending::Left(Stuck { places, passages })),
         Ranking::Found(ranks) => {
             let ranked = Ranked { passages, ranks };
             ending_under(question, stages, ranked, effort)
@@ -71,28 +70,22 @@ fn try_ending(
     }
 }
 
-/// The areas that are tried next, where those that are stuck are split, while that may be done once more, and else left out; `None` where
-/// none is left to leave out.
+/// The areas that are tried next, where those that are left are split, while that may be done once more, and else dropped; `None` where there
+/// is none to drop.
 fn next_areas(
     question: &Question,
     stages: &Stages,
-    ending: Ending,
+    left: &Stuck,
     splits: &mut u32,
     effort: &mut Effort,
 ) -> Result<Option<Stages>, AllocError> {
-    match ending {
-        Ending::Shown { .. } => Ok(None),
-        Ending::Open(places) => without(question.alloc, stages, &places),
-        Ending::Stuck(stuck) => {
-            if *splits < ENDING_SPLITS
-                && let Some(split) = split_by_guards(question, stages, &stuck, effort)?
-            {
-                *splits = splits.saturating_add(1);
-                return Ok(Some(split));
-            }
-            without(question.alloc, stages, &stuck.places)
-        }
+    if *splits < ENDING_SPLITS
+        && let Some(split) = split_by_guards(question, stages, left, effort)?
+    {
+        *splits = splits.saturating_add(1);
+        return Ok(Some(split));
     }
+    without(question.alloc, stages, &left.places)
 }
 
 /// Where every run is shown to end; `None` where nothing was found.
@@ -104,7 +97,8 @@ pub(crate) fn ending_part(
     let mut stages = Stages { done: 0, areas };
     let mut splits = 0;
     for _ in 0..AREAS {
-        let ending = match try_ending(question, &stages, effort)? {
+        let left = match try_ending(question, &stages, effort)? {
+            Ending::Left(left) => left,
             Ending::Shown { ranks, proofs } => {
                 let found = Found {
                     stages,
@@ -113,9 +107,8 @@ pub(crate) fn ending_part(
                 };
                 return part_found(question, found, Vec::new(question.alloc));
             }
-            ending => ending,
         };
-        match next_areas(question, &stages, ending, &mut splits, effort)? {
+        match next_areas(question, &stages, &left, &mut splits, effort)? {
             None => return Ok(None),
             Some(next) => stages = next,
         }
