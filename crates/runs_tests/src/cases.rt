@@ -1,6 +1,5 @@
 use crate::texts::repeated;
-use std::alloc::Global;
-use std::test::Fail;
+use std::alloc::{AllocError, Global};
 use tv_cases::{Case, CaseFault, Cases, cases};
 use tv_linear::{Row, Update};
 use tv_reader::read_program;
@@ -14,13 +13,15 @@ type Wanted = (u32, &'static [Numbers], &'static [(u32, Numbers)]);
 /// The commands of an edge, and its cases. The columns are the variables by their first places, and then the draws.
 type Example = (&'static str, &'static [Wanted]);
 
-/// The cases of the program in the text.
-fn cases_of(alloc: Global, text: &[u8]) -> Result<Result<Cases, CaseFault>, Fail> {
+/// The cases of the program in the text; `None` where that is no program.
+fn cases_of(alloc: Global, text: &[u8]) -> Option<Result<Cases, CaseFault>> {
     if text.len() > 1048576 {
-        return Err(Fail::from("too long"));
+        return None;
     }
-    let program = read_program(alloc, text)?;
-    Ok(cases(alloc, &program))
+    match read_program(alloc, text) {
+        Ok(program) => Some(cases(alloc, &program)),
+        Err(_) => None,
+    }
 }
 
 fn is_row(row: &Row, numbers: &Numbers) -> bool {
@@ -125,31 +126,37 @@ fn are_wanted(list: &[Case], wanted: &'static [Wanted]) -> bool {
 }
 
 /// Whether the edges with these commands have the wanted cases.
-fn are_cases(alloc: Global, commands: &str, wanted: &'static [Wanted]) -> Result<bool, Fail> {
+fn are_cases(alloc: Global, commands: &str, wanted: &'static [Wanted]) -> Result<bool, AllocError> {
     let text = repeated(alloc, "START: 0; FROM: 0; ", commands, 1, " TO: 0;")?;
-    let cases = cases_of(alloc, &text)??;
-    Ok(are_wanted(cases.list(), wanted))
+    match cases_of(alloc, &text) {
+        Some(Ok(cases)) => Ok(are_wanted(cases.list(), wanted)),
+        _ => Ok(false),
+    }
 }
 
+const EXAMPLES: &[Example] = &[
+    EITHER,
+    LOWERED,
+    HALF,
+    TIGHTENED,
+    DENIED,
+    BOTH,
+    ONE_AFTER_ANOTHER,
+    NONE,
+    FREE,
+    TESTED_BETWEEN,
+    LATER_FIRST,
+    TWO_DRAWS,
+];
+
 #[test]
-fn cases_are_those_of_the_commands(rt: HostRuntime) -> Result<(), Fail> {
-    for (commands, wanted) in [
-        EITHER,
-        LOWERED,
-        HALF,
-        TIGHTENED,
-        DENIED,
-        BOTH,
-        ONE_AFTER_ANOTHER,
-        NONE,
-        FREE,
-        TESTED_BETWEEN,
-        LATER_FIRST,
-        TWO_DRAWS,
-    ] {
-        assert!(rt; are_cases(rt.alloc(), commands, wanted)?, "{commands}");
+fn cases_are_those_of_the_commands(rt: HostRuntime) {
+    for (commands, wanted) in EXAMPLES {
+        assert!(rt;
+            are_cases(rt.alloc(), commands, wanted) == Ok(true),
+            "{commands}"
+        );
     }
-    Ok(())
 }
 
 /// A location, which of the cases from there is asked for, and where it leads.
@@ -174,19 +181,32 @@ fn lead_so(cases: &Cases, wanted: &[(u32, u32)]) -> bool {
             .all(|(case, (from, to))| case.from == *from && case.to == *to)
 }
 
-// Two cases of the first edge, and one of the second.
-#[test]
-fn cases_follow_the_edges(rt: HostRuntime) -> Result<(), Fail> {
+/// Whether there are two cases of the first edge, and one of the second.
+fn follow_the_edges(cases: &Cases) -> bool {
+    cases.variables() == 1
+        && cases.locations() == 3
+        && cases.start() == 0
+        && lead_so(cases, &[(0, 1), (0, 1), (1, 2)])
+        && leave_so(cases)
+}
+
+fn are_of_two_edges(alloc: Global) -> bool {
     let text = "START: 0; FROM: 0; assume(x != 0); TO: 1; FROM: 1; TO: 2;";
-    let cases = cases_of(rt.alloc(), text.as_bytes())??;
-    assert!(rt; cases.variables() == 1 && cases.locations() == 3 && cases.start() == 0);
-    assert!(rt; lead_so(&cases, &[(0, 1), (0, 1), (1, 2)]));
-    assert!(rt; leave_so(&cases));
-    Ok(())
+    match cases_of(alloc, text.as_bytes()) {
+        Some(Ok(cases)) => follow_the_edges(&cases),
+        _ => false,
+    }
+}
+
+#[test]
+fn cases_follow_the_edges(rt: HostRuntime) {
+    assert!(rt; are_of_two_edges(rt.alloc()));
 }
 
 /// How often a test stands on an edge, what stands behind it, and how many cases there are, or why there are none.
-const LIMITS: &[(u32, &str, Result<usize, CaseFault>)] = &[
+type Limit = (u32, &'static str, Result<usize, CaseFault>);
+
+const LIMITS: &[Limit] = &[
     (13, "TO: 0;", Ok(8192)),
     (14, "TO: 0;", Err(CaseFault::TooMany { edge: 0 })),
     (14, "assume(false); TO: 0;", Ok(0)),
@@ -224,18 +244,19 @@ fn are_so_many(found: &Result<Cases, CaseFault>, wanted: &Result<usize, CaseFaul
     }
 }
 
-#[test]
-fn limits_of_cases_are_kept(rt: HostRuntime) -> Result<(), Fail> {
-    for (times, end, wanted) in LIMITS {
-        let text = repeated(
-            rt.alloc(),
-            "START: 0; FROM: 0; ",
-            "assume(x != 0);",
-            *times,
-            end,
-        )?;
-        let found = cases_of(rt.alloc(), &text)?;
-        assert!(rt; are_so_many(&found, wanted), "{times} {end}");
+/// Whether the cases are so many, or are refused so.
+fn is_kept(alloc: Global, limit: &Limit) -> Result<bool, AllocError> {
+    let (times, end, wanted) = limit;
+    let text = repeated(alloc, "START: 0; FROM: 0; ", "assume(x != 0);", *times, end)?;
+    match cases_of(alloc, &text) {
+        Some(found) => Ok(are_so_many(&found, wanted)),
+        None => Ok(false),
     }
-    Ok(())
+}
+
+#[test]
+fn limits_of_cases_are_kept(rt: HostRuntime) {
+    for limit in LIMITS {
+        assert!(rt; is_kept(rt.alloc(), limit) == Ok(true), "{limit:?}");
+    }
 }

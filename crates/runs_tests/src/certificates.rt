@@ -1,5 +1,4 @@
-use crate::texts::says_of;
-use std::test::Fail;
+use crate::texts::{Asked, expect_said};
 use tv_top::Status;
 
 /// Counts x down to 0.
@@ -37,115 +36,95 @@ const NEVER_BELOW: &str =
 
 pub(crate) const TERMINATION: &[&str] = &["--check", "--termination"];
 
-/// A program, a certificate in two parts, the words, what is written, and the status.
-const ROWS: &[(&str, &str, &str, &[&str], &str, Status)] = &[
+const ROWS: &[Asked] = &[
     (
-        COUNTDOWN,
-        UNENDED,
-        ENDED,
         TERMINATION,
+        &[COUNTDOWN, UNENDED, ENDED],
         "Proved\n",
         Status::Proved,
     ),
     (
-        COUNTDOWN,
-        UNENDED,
-        ENDED,
         &["--termination", "--check"],
+        &[COUNTDOWN, UNENDED, ENDED],
         "Proved\n",
         Status::Proved,
     ),
     (
-        COUNTDOWN,
-        UNENDED,
-        ENDED,
         &["--check", "--ctl", "term"],
+        &[COUNTDOWN, UNENDED, ENDED],
         "Proved\n",
         Status::Proved,
     ),
     (
-        CLIMBER,
-        ENDLESS,
-        "",
         TERMINATION,
+        &[CLIMBER, ENDLESS],
         "Disproved\nx = 1\n",
         Status::Disproved,
     ),
     (
-        CLIMBER,
-        ENDLESS,
-        "",
         &["--check", "--ctl", "term"],
+        &[CLIMBER, ENDLESS],
         "Disproved\nx = 1\n",
         Status::Disproved,
     ),
     (
-        LOOP,
-        DOWN,
-        "",
         &["--ctl", "[AF](x <= 0)", "--check"],
+        &[LOOP, DOWN],
         "Proved\n",
         Status::Proved,
     ),
     (
-        LOOP,
-        NEVER_BELOW,
-        "",
         &["--check", "--ctl", "[AF](x < 0)"],
+        &[LOOP, NEVER_BELOW],
         "Disproved\nx = 0\n",
         Status::Disproved,
     ),
     (
-        LOOP,
-        BELOW,
-        "",
         &["--check", "--ctl", "[AF](x < 0)"],
+        &[LOOP, BELOW],
         "Certificate refused obligation 5 node 0 successor\n",
         Status::CertificateRefused,
     ),
     (
-        "START: 0; FROM: 0; assume(y > x); TO: 0;\nCERTIFICATE:\n",
-        "T2CERT 1\ndisproved\nnode atom 1 0\npiece 0 go 0\ninto 0 0\nat 0 5 -3\n",
-        ENDED,
         &["--check", "--ctl", "false"],
+        &[
+            "START: 0; FROM: 0; assume(y > x); TO: 0;\nCERTIFICATE:\n",
+            "T2CERT 1\ndisproved\nnode atom 1 0\npiece 0 go 0\ninto 0 0\nat 0 5 -3\n",
+            ENDED,
+        ],
         "Disproved\ny = 5\nx = -3\n",
         Status::Disproved,
     ),
     (
-        "START: 0; FROM: 0; TO: 0;\nCERTIFICATE:\n",
-        "T2CERT 1\ndisproved\nnode noterm 1 0\npiece 0 go 0\ntake 0 0 0\nat 0\n",
-        ENDED,
         TERMINATION,
+        &[
+            "START: 0; FROM: 0; TO: 0;\nCERTIFICATE:\n",
+            "T2CERT 1\ndisproved\nnode noterm 1 0\npiece 0 go 0\ntake 0 0 0\nat 0\n",
+            ENDED,
+        ],
         "Disproved\n",
         Status::Disproved,
     ),
     (
-        "START: 0;\nCERTIFICATE:\n",
-        "T2CERT 1\nproved\nnode atom 1 0\npiece 0 go 0\ninto 0 0\ninto 0 0\n",
-        ENDED,
         &["--check", "--ctl", "true"],
+        &[
+            "START: 0;\nCERTIFICATE:\n",
+            "T2CERT 1\nproved\nnode atom 1 0\npiece 0 go 0\ninto 0 0\ninto 0 0\n",
+            ENDED,
+        ],
         "Proved\n",
         Status::Proved,
     ),
     // `!!term` says what `term` does.
     (
-        CLIMBER,
-        ENDLESS,
-        "",
         &["--check", "--ctl", "!(!term)"],
+        &[CLIMBER, ENDLESS],
         "Disproved\nx = 1\n",
         Status::Disproved,
     ),
 ];
 
 #[test]
-fn certificates_are_checked(rt: HostRuntime) -> Result<(), Fail> {
-    for (program, certificate, end, words, written, status) in ROWS {
-        let texts = [*program, *certificate, *end];
-        assert!(rt;
-            says_of(rt.alloc(), words, &texts, written, *status)?,
-            "{program}"
-        );
-    }
-    Ok(())
+fn certificates_are_checked(rt: HostRuntime) {
+    expect_said(&rt, rt.alloc(), ROWS);
 }

@@ -1,9 +1,12 @@
-use crate::file::FILE;
-use crate::texts::{is_accepted, output, says, says_of};
+use crate::file::{FILE, says_with_ends};
+use crate::texts::{Asked, expect_said, expect_shown, output};
 use crate::words::COUNTDOWN;
 use std::alloc::{AllocError, Global};
-use std::test::Fail;
 use tv_top::Status;
+
+const TERMINATION: &[&str] = &["--termination"];
+
+const PROVED: &str = "Proved\n";
 
 const DRAWN_COUNTDOWN: &str =
     "START: 0; FROM: 0; x := nondet(); TO: 1; FROM: 1; assume(x > 0); x := x - 1; TO: 1;";
@@ -24,31 +27,19 @@ const WIDE: &str =
 const NARROW: &str = "START: 0; FROM: 0; assume(x > 0); assume(1000*x > y); x := x - 1; TO: 0;";
 
 /// Programs all of whose runs are shown to end.
-const ENDING: &[&str] = &[
-    COUNTDOWN,
-    "START: 0;",
-    DRAWN_COUNTDOWN,
-    DRAWN_FALL,
-    NESTED,
-    NARROW,
-    FILE,
+const ENDING: &[Asked] = &[
+    (TERMINATION, &[COUNTDOWN], PROVED, Status::Proved),
+    (TERMINATION, &["START: 0;"], PROVED, Status::Proved),
+    (TERMINATION, &[DRAWN_COUNTDOWN], PROVED, Status::Proved),
+    (TERMINATION, &[DRAWN_FALL], PROVED, Status::Proved),
+    (TERMINATION, &[NESTED], PROVED, Status::Proved),
+    (TERMINATION, &[NARROW], PROVED, Status::Proved),
+    (TERMINATION, &[FILE], PROVED, Status::Proved),
 ];
 
 #[test]
-fn every_run_ends(rt: HostRuntime) -> Result<(), Fail> {
-    for text in ENDING {
-        assert!(rt;
-            says_of(
-                rt.alloc(),
-                &["--termination"],
-                &[text],
-                "Proved\n",
-                Status::Proved
-            )?,
-            "{text}"
-        );
-    }
-    Ok(())
+fn every_run_ends(rt: HostRuntime) {
+    expect_said(&rt, rt.alloc(), ENDING);
 }
 
 /// An idle loop behind a guard that no whole number meets: one that is odd and even is found by its rounded bounds.
@@ -62,173 +53,149 @@ const PARITY: &str =
 const STEPPED: &str =
     "START: 0; FROM: 0; y := 2; TO: 1; FROM: 1; assume(x > 0); x := x - y; TO: 1;";
 
-/// Every run ends, under rows that hold on every run.
+/// Programs all of whose runs are shown to end, under rows that hold on every run.
+const UNDER_ROWS: &[Asked] = &[
+    (TERMINATION, &[HALF], PROVED, Status::Proved),
+    (TERMINATION, &[STEPPED], PROVED, Status::Proved),
+];
+
 #[test]
-fn ranks_are_found_under_rows_that_hold(rt: HostRuntime) -> Result<(), Fail> {
-    for text in [HALF, STEPPED] {
-        assert!(rt;
-            says_of(
-                rt.alloc(),
-                &["--termination"],
-                &[text],
-                "Proved\n",
-                Status::Proved
-            )?,
-            "{text}"
-        );
-    }
-    Ok(())
+fn ranks_are_found_under_rows_that_hold(rt: HostRuntime) {
+    expect_said(&rt, rt.alloc(), UNDER_ROWS);
 }
 
 /// Programs of which it is not known, and why.
-const STUCK: &[(&str, &str)] = &[
-    (FALLING_SUM, "Unknown rank\ncases 0\n"),
-    (PARITY, "Unknown splits\nsplits 64\n"),
+const STUCK: &[Asked] = &[
+    (
+        TERMINATION,
+        &[FALLING_SUM],
+        "Unknown rank\ncases 0\n",
+        Status::Unknown,
+    ),
+    (
+        TERMINATION,
+        &[PARITY],
+        "Unknown splits\nsplits 64\n",
+        Status::Unknown,
+    ),
 ];
 
 #[test]
-fn no_linear_ranks_are_found(rt: HostRuntime) -> Result<(), Fail> {
-    for (text, lines) in STUCK {
-        assert!(rt;
-            says_of(
-                rt.alloc(),
-                &["--termination"],
-                &[text],
-                lines,
-                Status::Unknown
-            )?,
-            "{text}"
-        );
-    }
-    Ok(())
+fn no_linear_ranks_are_found(rt: HostRuntime) {
+    expect_said(&rt, rt.alloc(), STUCK);
 }
 
 /// Words, a program, and the lines of the system that was not settled.
-const UNSETTLED: &[(&[&str], &str, &str)] = &[
+const UNSETTLED: &[Asked] = &[
     (
-        &["--termination"],
-        WIDE,
+        TERMINATION,
+        &[WIDE],
         "Unknown width\nsystem empty 0 row 0 column 1\n",
+        Status::Unknown,
     ),
     (
         &["--termination", "--pivots", "1"],
-        NESTED,
+        &[NESTED],
         "Unknown pivots\nsystem rank 0 0 0 bases 1\n",
+        Status::Unknown,
     ),
     (
         &["--splits", "128", "--ctl", "term", "--pivots", "1"],
-        NESTED,
+        &[NESTED],
         "Unknown pivots\nsystem rank 0 0 0 bases 1\n",
+        Status::Unknown,
     ),
 ];
 
 #[test]
-fn a_system_is_not_settled(rt: HostRuntime) -> Result<(), Fail> {
-    for (words, text, lines) in UNSETTLED {
-        assert!(rt;
-            says_of(rt.alloc(), words, &[text], lines, Status::Unknown)?,
-            "{words:?}"
-        );
-    }
-    Ok(())
+fn a_system_is_not_settled(rt: HostRuntime) {
+    expect_said(&rt, rt.alloc(), UNSETTLED);
 }
+
+/// Programs at fault.
+const AT_FAULT: &[Asked] = &[
+    (
+        TERMINATION,
+        &["START: 0; FROM: 0; assume(x"],
+        "Refused text syntax line 1 column 28\n",
+        Status::Refused,
+    ),
+    (
+        TERMINATION,
+        &[""],
+        "Refused text no start\n",
+        Status::Refused,
+    ),
+    (
+        TERMINATION,
+        &["START: 0; FROM: 0; x := 4611686018427387903 * 2; TO: 0;"],
+        "Refused text wide edge 0\n",
+        Status::Refused,
+    ),
+];
 
 /// Faults of a program are reported as they are beside a certificate.
 #[test]
-fn programs_at_fault_are_refused(rt: HostRuntime) -> Result<(), Fail> {
-    for (text, line) in [
-        (
-            "START: 0; FROM: 0; assume(x",
-            "Refused text syntax line 1 column 28\n",
-        ),
-        ("", "Refused text no start\n"),
-        (
-            "START: 0; FROM: 0; x := 4611686018427387903 * 2; TO: 0;",
-            "Refused text wide edge 0\n",
-        ),
-    ] {
-        assert!(rt;
-            says_of(
-                rt.alloc(),
-                &["--termination"],
-                &[text],
-                line,
-                Status::Refused
-            )?,
-            "{text}"
-        );
-    }
-    Ok(())
+fn programs_at_fault_are_refused(rt: HostRuntime) {
+    expect_said(&rt, rt.alloc(), AT_FAULT);
 }
 
-/// The text with a CR before each LF.
-fn with_returns(alloc: Global, text: &str) -> Result<Vec<u8>, AllocError> {
-    let mut returned = Vec::new(alloc);
-    for byte in text.as_bytes() {
-        if *byte == b'\n' {
-            returned.push(b'\r')?;
-        }
-        returned.push(*byte)?;
-    }
-    Ok(returned)
+/// Whether all runs of the file with a CR before each LF are shown to end.
+fn returns_end(alloc: Global) -> Result<bool, AllocError> {
+    says_with_ends(
+        alloc,
+        TERMINATION,
+        FILE.as_bytes(),
+        "\r\n",
+        PROVED,
+        Status::Proved,
+    )
 }
 
 #[test]
-fn a_file_with_returns_ends(rt: HostRuntime) -> Result<(), Fail> {
-    let text = with_returns(rt.alloc(), FILE)?;
-    let words = ["--termination"];
-    assert!(rt; says(rt.alloc(), &words, text, PROVED, Status::Proved)?);
-    Ok(())
+fn a_file_with_returns_ends(rt: HostRuntime) {
+    assert!(rt; returns_end(rt.alloc()) == Ok(true));
 }
 
-const PROVED: &str = "Proved\n";
-
 #[test]
-fn certificates_that_are_written_are_accepted(rt: HostRuntime) -> Result<(), Fail> {
-    for text in ENDING {
-        assert!(rt;
-            is_accepted(rt.alloc(), &["--termination"], text, PROVED, Status::Proved)?,
-            "{text}"
-        );
-    }
-    for text in [HALF, STEPPED] {
-        assert!(rt;
-            is_accepted(rt.alloc(), &["--termination"], text, PROVED, Status::Proved)?,
-            "{text}"
-        );
-    }
-    Ok(())
+fn certificates_that_are_written_are_accepted(rt: HostRuntime) {
+    expect_shown(&rt, rt.alloc(), ENDING);
+    expect_shown(&rt, rt.alloc(), UNDER_ROWS);
 }
 
 /// Programs with runs that never end, and the lines behind the verdict.
-const ENDLESS: &[(&str, &str)] = &[
-    (CLIMBER, "Disproved\nx = 1\n"),
-    ("START: 0; FROM: 0; TO: 0;", "Disproved\n"),
+const ENDLESS: &[Asked] = &[
+    (
+        TERMINATION,
+        &[CLIMBER],
+        "Disproved\nx = 1\n",
+        Status::Disproved,
+    ),
+    (
+        TERMINATION,
+        &["START: 0; FROM: 0; TO: 0;"],
+        "Disproved\n",
+        Status::Disproved,
+    ),
 ];
 
 #[test]
-fn runs_that_never_end_are_found(rt: HostRuntime) -> Result<(), Fail> {
-    let words = ["--termination"];
-    for (text, lines) in ENDLESS {
-        assert!(rt;
-            says_of(rt.alloc(), &words, &[text], lines, Status::Disproved)?,
-            "{text}"
-        );
-        assert!(rt;
-            is_accepted(rt.alloc(), &words, text, lines, Status::Disproved)?,
-            "{text}"
-        );
-    }
-    Ok(())
+fn runs_that_never_end_are_found(rt: HostRuntime) {
+    expect_said(&rt, rt.alloc(), ENDLESS);
+    expect_shown(&rt, rt.alloc(), ENDLESS);
 }
 
 /// How the answer to the countdown begins with its certificate.
 const FIRST_LINES: &[u8] = b"Proved\nT2CERT 1\nproved\nnode term 2 2\n";
 
-#[test]
-fn a_certificate_is_behind_the_verdict(rt: HostRuntime) -> Result<(), Fail> {
+/// Whether the answer to the countdown begins with these lines, and ends with the last line of a certificate.
+fn is_behind_the_verdict(alloc: Global) -> Result<bool, AllocError> {
     let words = ["--certificate", "--termination"];
-    let written = output(rt.alloc(), &words, COUNTDOWN)?;
-    assert!(rt; written.starts_with(FIRST_LINES) && written.ends_with(b"\nend\n"));
-    Ok(())
+    let written = output(alloc, &words, &[COUNTDOWN])?;
+    Ok(written.starts_with(FIRST_LINES) && written.ends_with(b"\nend\n"))
+}
+
+#[test]
+fn a_certificate_is_behind_the_verdict(rt: HostRuntime) {
+    assert!(rt; is_behind_the_verdict(rt.alloc()) == Ok(true));
 }

@@ -1,7 +1,6 @@
 use crate::texts::says;
 use crate::words::MISSING;
 use std::alloc::{AllocError, Global};
-use std::test::Fail;
 use tv_top::Status;
 
 /// Nested loops, a branch and a countdown, as a translator of programs writes them.
@@ -39,32 +38,37 @@ ERROR: 99;
 const PIECES: &str =
     "piece 0 go 0\npiece 1 go 0\npiece 2 go 0\npiece 3 go 0\npiece 4 go 0\npiece 5 go 0\npiece 6 go 0\npiece 7 go 0\npiece 8 go 0\npiece 9 go 0\npiece 10 go 0\npiece 11 go 0\npiece 12 go 0\n";
 
+/// The parts of a certificate that no run reaches location 13, and how often each stands there.
+const PARTS: [(&str, u32); 8] = [
+    ("CERTIFICATE:\nT2CERT 1\nproved\nnode fix 13 0\n", 1),
+    (PIECES, 1),
+    ("node atom 13 0\n", 1),
+    (PIECES, 1),
+    ("into 0 0\n", 13),
+    ("node atom 0 0\n", 1),
+    ("into 0 0\n", 29),
+    ("empty\ninto 0 0\nend\n", 1),
+];
+
+/// Puts the part at the end of the text so many times.
+fn push_times(text: &mut Vec<u8>, part: &str, times: u32) -> Result<(), AllocError> {
+    for _ in 0..times {
+        text.extend_from_slice(part.as_bytes())?;
+    }
+    Ok(())
+}
+
 /// The file with a certificate that no run reaches location 13.
 fn certified(alloc: Global) -> Result<Vec<u8>, AllocError> {
     let mut text = Vec::from_slice(alloc, FILE.as_bytes())?;
-    for (part, times) in [
-        ("CERTIFICATE:\nT2CERT 1\nproved\nnode fix 13 0\n", 1),
-        (PIECES, 1),
-        ("node atom 13 0\n", 1),
-        (PIECES, 1),
-        ("into 0 0\n", 13),
-        ("node atom 0 0\n", 1),
-        ("into 0 0\n", 29),
-        ("empty\ninto 0 0\nend\n", 1),
-    ] {
-        for _ in 0..times {
-            text.extend_from_slice(part.as_bytes())?;
-        }
+    for (part, times) in PARTS {
+        push_times(&mut text, part, times)?;
     }
     Ok(text)
 }
 
 /// The text with this end of a line in place of each LF.
-pub(crate) fn with_line_ends(
-    alloc: Global,
-    text: &[u8],
-    line_end: &str,
-) -> Result<Vec<u8>, AllocError> {
+fn with_line_ends(alloc: Global, text: &[u8], line_end: &str) -> Result<Vec<u8>, AllocError> {
     let mut bytes = Vec::new(alloc);
     for byte in text {
         if *byte == b'\n' {
@@ -76,32 +80,45 @@ pub(crate) fn with_line_ends(
     Ok(bytes)
 }
 
+/// Whether a run with the words on the text, with this end of a line in place of each LF, writes this, and ends so.
+pub(crate) fn says_with_ends(
+    alloc: Global,
+    words: &[&str],
+    text: &[u8],
+    line_end: &str,
+    written: &str,
+    status: Status,
+) -> Result<bool, AllocError> {
+    let text = with_line_ends(alloc, text, line_end)?;
+    says(alloc, words, text, written, status)
+}
+
 const WORDS: [&str; 3] = ["--check", "--safety", "13"];
 
+/// Whether this is written of the text with such ends of lines, whose certificate is refused.
+fn is_refused(alloc: Global, text: &[u8], line_end: &str, written: &str) -> bool {
+    let status = Status::CertificateRefused;
+    says_with_ends(alloc, &WORDS, text, line_end, written, status) == Ok(true)
+}
+
 #[test]
-fn both_line_ends_are_read(rt: HostRuntime) -> Result<(), Fail> {
+fn both_line_ends_are_read(rt: HostRuntime) {
     for line_end in ["\n", "\r\n"] {
-        let bare = with_line_ends(rt.alloc(), FILE.as_bytes(), line_end)?;
-        assert!(rt;
-            says(
-                rt.alloc(),
-                &WORDS,
-                bare,
-                MISSING,
-                Status::CertificateRefused
-            )?
-        );
+        assert!(rt; is_refused(rt.alloc(), FILE.as_bytes(), line_end, MISSING));
     }
-    Ok(())
+}
+
+/// Whether this is written of the file with its certificate and such ends of lines.
+fn is_certified(alloc: Global, line_end: &str, written: &str) -> Result<bool, AllocError> {
+    let text = certified(alloc)?;
+    Ok(is_refused(alloc, &text, line_end, written))
 }
 
 // The certificate holds up to the step from 12: before it are 13 pieces of the child, and 13 holds and 16 steps of the root.
 #[test]
-fn both_line_ends_are_read_in_certificates(rt: HostRuntime) -> Result<(), Fail> {
+fn both_line_ends_are_read_in_certificates(rt: HostRuntime) {
     let unmet = "Certificate refused obligation 43 node 0 step\n";
     for line_end in ["\n", "\r\n"] {
-        let whole = with_line_ends(rt.alloc(), &certified(rt.alloc())?, line_end)?;
-        assert!(rt; says(rt.alloc(), &WORDS, whole, unmet, Status::CertificateRefused)?);
+        assert!(rt; is_certified(rt.alloc(), line_end, unmet) == Ok(true));
     }
-    Ok(())
 }

@@ -1,10 +1,12 @@
-use crate::file::{FILE, with_line_ends};
-use crate::texts::{is_accepted, output, says, says_of};
+use crate::file::{FILE, says_with_ends};
+use crate::texts::{Asked, expect_said, expect_shown, output};
 use crate::words::COUNTDOWN;
-use std::alloc::Global;
+use std::alloc::{AllocError, Global};
+use std::process::Abort;
 use std::str;
-use std::test::Fail;
 use tv_top::Status;
+
+const PROVED: &str = "Proved\n";
 
 /// Counts down to 0 and stops.
 const LOOP: &str = "START: 0; FROM: 0; assume(x > 0); x := x - 1; TO: 0;";
@@ -35,123 +37,241 @@ const TURNING: &str = "START: 0; FROM: 0; assume(x > 0); x := x + y; y := 0 - y 
 const HALF: &str = "START: 0; FROM: 0; y := nondet(); assume(2*y == x); TO: 1;";
 
 /// Formulas that hold of the loop.
-const HOLD: &[&str] = &[
-    "[AX](x >= 0)",
-    "[AF](x <= 0)",
-    "[AG](x <= 5 || x > 5)",
-    "[EG](true)",
-    "[AU](x > 0)(x <= 0)",
-    "[AW](x > 0)(x <= 0)",
-    "[EW](x > 0)(x <= 0)",
-    "[AR](x <= 0)(x <= 0 || x > 0)",
-    "[ER](false)(true)",
-    "[AM](x <= 0)(true)",
-    "[AG]([AF](x <= 0))",
+const HOLD: &[Asked] = &[
+    (&["--ctl", "[AX](x >= 0)"], &[LOOP], PROVED, Status::Proved),
+    (&["--ctl", "[AF](x <= 0)"], &[LOOP], PROVED, Status::Proved),
+    (
+        &["--ctl", "[AG](x <= 5 || x > 5)"],
+        &[LOOP],
+        PROVED,
+        Status::Proved,
+    ),
+    (&["--ctl", "[EG](true)"], &[LOOP], PROVED, Status::Proved),
+    (
+        &["--ctl", "[AU](x > 0)(x <= 0)"],
+        &[LOOP],
+        PROVED,
+        Status::Proved,
+    ),
+    (
+        &["--ctl", "[AW](x > 0)(x <= 0)"],
+        &[LOOP],
+        PROVED,
+        Status::Proved,
+    ),
+    (
+        &["--ctl", "[EW](x > 0)(x <= 0)"],
+        &[LOOP],
+        PROVED,
+        Status::Proved,
+    ),
+    (
+        &["--ctl", "[AR](x <= 0)(x <= 0 || x > 0)"],
+        &[LOOP],
+        PROVED,
+        Status::Proved,
+    ),
+    (
+        &["--ctl", "[ER](false)(true)"],
+        &[LOOP],
+        PROVED,
+        Status::Proved,
+    ),
+    (
+        &["--ctl", "[AM](x <= 0)(true)"],
+        &[LOOP],
+        PROVED,
+        Status::Proved,
+    ),
+    (
+        &["--ctl", "[AG]([AF](x <= 0))"],
+        &[LOOP],
+        PROVED,
+        Status::Proved,
+    ),
 ];
 
 /// Formulas that fail at an initial state of the loop, and what is written of one.
-const FAIL: &[(&str, &str)] = &[
-    ("[AX](x > 0)", "Disproved\nx = 1\n"),
-    ("[EX](true)", "Disproved\nx = 0\n"),
-    ("[AF](x < 0)", "Disproved\nx = 1\n"),
-    ("[EF](x < 0)", "Disproved\nx = 0\n"),
-    ("[AG](x >= 0)", "Disproved\nx = -1\n"),
-    ("[EG](x > 0)", "Disproved\nx = 0\n"),
-    ("[AU](x > 3)(x <= 0)", "Disproved\nx = 1\n"),
-    ("[EU](x > 3)(x <= 0)", "Disproved\nx = 1\n"),
-    ("[AW](x > 3)(x <= 0)", "Disproved\nx = 1\n"),
-    ("[EW](x > 3)(x <= 0)", "Disproved\nx = 1\n"),
-    ("[AR](false)(x > 0)", "Disproved\nx = 0\n"),
-    ("[ER](false)(x > 0)", "Disproved\nx = 0\n"),
-    ("[AM](x < 0)(true)", "Disproved\nx = 1\n"),
-    ("[EM](x < 0)(true)", "Disproved\nx = 0\n"),
-    ("[AG]([EF]([AG](x > 0)))", "Disproved\nx = 0\n"),
-    ("!at(0)", "Disproved\nx = 1\n"),
-];
-
-/// Other programs, a formula, and the lines of the verdict.
-const OTHERS: &[(&str, &str, &str, Status)] = &[
+const FAIL: &[Asked] = &[
     (
-        COUNTDOWN,
-        "[AG](x >= 0)",
-        "Disproved\nx = -1\n",
-        Status::Disproved,
-    ),
-    (COUNTDOWN, "[AF](x <= 0)", "Proved\n", Status::Proved),
-    (DRAW, "[EX](y == x + 5)", "Proved\n", Status::Proved),
-    (
-        STEP,
-        "[EX](x == 1 || x == 3)",
-        "Disproved\nx = 2\n",
-        Status::Disproved,
-    ),
-    (DRAWN, "[EF](x == 7)", "Proved\n", Status::Proved),
-    (
-        DRAWN,
-        "[AF](x < 0)",
+        &["--ctl", "[AX](x > 0)"],
+        &[LOOP],
         "Disproved\nx = 1\n",
         Status::Disproved,
     ),
-    (SERVER, "[AG]([AF](at(0)))", "Proved\n", Status::Proved),
+    (
+        &["--ctl", "[EX](true)"],
+        &[LOOP],
+        "Disproved\nx = 0\n",
+        Status::Disproved,
+    ),
+    (
+        &["--ctl", "[AF](x < 0)"],
+        &[LOOP],
+        "Disproved\nx = 1\n",
+        Status::Disproved,
+    ),
+    (
+        &["--ctl", "[EF](x < 0)"],
+        &[LOOP],
+        "Disproved\nx = 0\n",
+        Status::Disproved,
+    ),
+    (
+        &["--ctl", "[AG](x >= 0)"],
+        &[LOOP],
+        "Disproved\nx = -1\n",
+        Status::Disproved,
+    ),
+    (
+        &["--ctl", "[EG](x > 0)"],
+        &[LOOP],
+        "Disproved\nx = 0\n",
+        Status::Disproved,
+    ),
+    (
+        &["--ctl", "[AU](x > 3)(x <= 0)"],
+        &[LOOP],
+        "Disproved\nx = 1\n",
+        Status::Disproved,
+    ),
+    (
+        &["--ctl", "[EU](x > 3)(x <= 0)"],
+        &[LOOP],
+        "Disproved\nx = 1\n",
+        Status::Disproved,
+    ),
+    (
+        &["--ctl", "[AW](x > 3)(x <= 0)"],
+        &[LOOP],
+        "Disproved\nx = 1\n",
+        Status::Disproved,
+    ),
+    (
+        &["--ctl", "[EW](x > 3)(x <= 0)"],
+        &[LOOP],
+        "Disproved\nx = 1\n",
+        Status::Disproved,
+    ),
+    (
+        &["--ctl", "[AR](false)(x > 0)"],
+        &[LOOP],
+        "Disproved\nx = 0\n",
+        Status::Disproved,
+    ),
+    (
+        &["--ctl", "[ER](false)(x > 0)"],
+        &[LOOP],
+        "Disproved\nx = 0\n",
+        Status::Disproved,
+    ),
+    (
+        &["--ctl", "[AM](x < 0)(true)"],
+        &[LOOP],
+        "Disproved\nx = 1\n",
+        Status::Disproved,
+    ),
+    (
+        &["--ctl", "[EM](x < 0)(true)"],
+        &[LOOP],
+        "Disproved\nx = 0\n",
+        Status::Disproved,
+    ),
+    (
+        &["--ctl", "[AG]([EF]([AG](x > 0)))"],
+        &[LOOP],
+        "Disproved\nx = 0\n",
+        Status::Disproved,
+    ),
+    (
+        &["--ctl", "!at(0)"],
+        &[LOOP],
+        "Disproved\nx = 1\n",
+        Status::Disproved,
+    ),
 ];
 
-/// Whether the formula is answered so of the program, and the certificate that is written behind the answer is accepted.
-fn is_settled(
-    alloc: Global,
-    text: &str,
-    formula: &str,
-    lines: &str,
-    status: Status,
-) -> Result<bool, Fail> {
-    let words = ["--ctl", formula];
-    let is_said = says_of(alloc, &words, &[text], lines, status)?;
-    Ok(is_said && is_accepted(alloc, &words, text, lines, status)?)
+/// Formulas of other programs, and the lines of the verdict.
+const OTHERS: &[Asked] = &[
+    (
+        &["--ctl", "[AG](x >= 0)"],
+        &[COUNTDOWN],
+        "Disproved\nx = -1\n",
+        Status::Disproved,
+    ),
+    (
+        &["--ctl", "[AF](x <= 0)"],
+        &[COUNTDOWN],
+        PROVED,
+        Status::Proved,
+    ),
+    (
+        &["--ctl", "[EX](y == x + 5)"],
+        &[DRAW],
+        PROVED,
+        Status::Proved,
+    ),
+    (
+        &["--ctl", "[EX](x == 1 || x == 3)"],
+        &[STEP],
+        "Disproved\nx = 2\n",
+        Status::Disproved,
+    ),
+    (&["--ctl", "[EF](x == 7)"], &[DRAWN], PROVED, Status::Proved),
+    (
+        &["--ctl", "[AF](x < 0)"],
+        &[DRAWN],
+        "Disproved\nx = 1\n",
+        Status::Disproved,
+    ),
+    (
+        &["--ctl", "[AG]([AF](at(0)))"],
+        &[SERVER],
+        PROVED,
+        Status::Proved,
+    ),
+];
+
+/// Each formula is to be answered so, and the certificate that is written behind the answer accepted.
+fn expect_settled(rt: &impl Abort, alloc: Global, list: &[Asked]) {
+    expect_said(rt, alloc, list);
+    expect_shown(rt, alloc, list);
 }
 
 #[test]
-fn formulas_that_hold_are_proved(rt: HostRuntime) -> Result<(), Fail> {
-    for formula in HOLD {
-        assert!(rt;
-            is_settled(rt.alloc(), LOOP, formula, "Proved\n", Status::Proved)?,
-            "{formula}"
-        );
-    }
-    Ok(())
+fn formulas_that_hold_are_proved(rt: HostRuntime) {
+    expect_settled(&rt, rt.alloc(), HOLD);
 }
 
 #[test]
-fn formulas_that_fail_are_disproved(rt: HostRuntime) -> Result<(), Fail> {
-    for (formula, lines) in FAIL {
-        assert!(rt;
-            is_settled(rt.alloc(), LOOP, formula, lines, Status::Disproved)?,
-            "{formula}"
-        );
-    }
-    Ok(())
+fn formulas_that_fail_are_disproved(rt: HostRuntime) {
+    expect_settled(&rt, rt.alloc(), FAIL);
 }
 
 #[test]
-fn formulas_of_other_programs_are_settled(rt: HostRuntime) -> Result<(), Fail> {
-    for (text, formula, lines, status) in OTHERS {
-        assert!(rt;
-            is_settled(rt.alloc(), text, formula, lines, *status)?,
-            "{formula}"
-        );
-    }
-    Ok(())
+fn formulas_of_other_programs_are_settled(rt: HostRuntime) {
+    expect_settled(&rt, rt.alloc(), OTHERS);
 }
 
 /// Too few pieces may be kept for the states before a step, and enough.
+const COUNTED: &[Asked] = &[
+    (
+        &["--ctl", "[EX](x == 1 || x == 3)", "--disjuncts", "1"],
+        &[STEP],
+        "Unknown disjuncts\nlocation 0 count 2\n",
+        Status::Unknown,
+    ),
+    (
+        &["--ctl", "[EX](x == 1 || x == 3)", "--disjuncts", "4"],
+        &[STEP],
+        "Disproved\nx = 2\n",
+        Status::Disproved,
+    ),
+];
+
 #[test]
-fn pieces_are_counted(rt: HostRuntime) -> Result<(), Fail> {
-    let formula = "[EX](x == 1 || x == 3)";
-    let few = ["--ctl", formula, "--disjuncts", "1"];
-    let enough = ["--ctl", formula, "--disjuncts", "4"];
-    let lines = "Unknown disjuncts\nlocation 0 count 2\n";
-    assert!(rt; says_of(rt.alloc(), &few, &[STEP], lines, Status::Unknown)?);
-    let lines = "Disproved\nx = 2\n";
-    assert!(rt; says_of(rt.alloc(), &enough, &[STEP], lines, Status::Disproved)?);
-    Ok(())
+fn pieces_are_counted(rt: HostRuntime) {
+    expect_said(&rt, rt.alloc(), COUNTED);
 }
 
 /// Whether a line of the text begins so.
@@ -162,51 +282,68 @@ fn has_line(text: &[u8], begins: &str) -> bool {
     }
 }
 
+/// Whether a certificate of that which always holds has a piece at the location that is entered, and none at the other.
+fn has_what_is_entered(alloc: Global) -> Result<bool, AllocError> {
+    let words = ["--ctl", "[AG](true)", "--certificate"];
+    let text = output(alloc, &words, &[APART])?;
+    Ok(has_line(&text, "piece 1 go") && !has_line(&text, "piece 2 go"))
+}
+
 /// A certificate has no piece that nothing enters.
 #[test]
-fn pieces_that_nothing_enters_are_left_out(rt: HostRuntime) -> Result<(), Fail> {
-    let words = ["--ctl", "[AG](true)", "--certificate"];
-    let text = output(rt.alloc(), &words, APART)?;
-    assert!(rt; has_line(&text, "piece 1 go"));
-    assert!(rt; !has_line(&text, "piece 2 go"));
-    Ok(())
+fn pieces_that_nothing_enters_are_left_out(rt: HostRuntime) {
+    assert!(rt; has_what_is_entered(rt.alloc()) == Ok(true));
 }
 
-/// Rounds that are not settled are named, and a case with a draw over which going back is not exact.
+/// Rounds that are not settled, and a case with a draw over which going back is not exact.
+const LEFT_OPEN: &[Asked] = &[
+    (
+        &["--ctl", "[AF](x <= 0)"],
+        &[TURNING],
+        "Unknown template\nsubformula 0\n",
+        Status::Unknown,
+    ),
+    (
+        &["--ctl", "[EX](true)"],
+        &[HALF],
+        "Unknown template\ndraw case 0\n",
+        Status::Unknown,
+    ),
+];
+
+/// What is left open is named.
 #[test]
-fn formulas_are_left_open(rt: HostRuntime) -> Result<(), Fail> {
-    let words = ["--ctl", "[AF](x <= 0)"];
-    let lines = "Unknown template\nsubformula 0\n";
-    assert!(rt; says_of(rt.alloc(), &words, &[TURNING], lines, Status::Unknown)?);
-    let words = ["--ctl", "[EX](true)"];
-    let lines = "Unknown template\ndraw case 0\n";
-    assert!(rt; says_of(rt.alloc(), &words, &[HALF], lines, Status::Unknown)?);
-    Ok(())
+fn formulas_are_left_open(rt: HostRuntime) {
+    expect_said(&rt, rt.alloc(), LEFT_OPEN);
 }
 
-/// What the rounds leave open a further search may settle.
+/// What the rounds leave open and a further search settles.
+const FURTHER: &[Asked] = &[
+    (&["--ctl", "[EF](x <= 0)"], &[LOOP], PROVED, Status::Proved),
+    (
+        &["--ctl", "[AF](x <= 0)"],
+        &[FALLING],
+        PROVED,
+        Status::Proved,
+    ),
+];
+
 #[test]
-fn a_formula_is_settled_by_a_further_search(rt: HostRuntime) -> Result<(), Fail> {
-    assert!(rt; is_settled(rt.alloc(), LOOP, "[EF](x <= 0)", "Proved\n", Status::Proved)?);
-    assert!(rt;
-        is_settled(
-            rt.alloc(),
-            FALLING,
-            "[AF](x <= 0)",
-            "Proved\n",
-            Status::Proved
-        )?
-    );
-    Ok(())
+fn a_formula_is_settled_by_a_further_search(rt: HostRuntime) {
+    expect_settled(&rt, rt.alloc(), FURTHER);
+}
+
+/// Whether a formula of the file with such ends of lines is proved.
+fn is_proved_of_the_file(alloc: Global, line_end: &str) -> bool {
+    let words = ["--ctl", "[AG](!at(9) || [AF](at(13)))"];
+    let status = Status::Proved;
+    says_with_ends(alloc, &words, FILE.as_bytes(), line_end, PROVED, status) == Ok(true)
 }
 
 /// A formula of a program with nested loops and draws, whatever ends its lines.
 #[test]
-fn a_formula_of_nested_loops_is_proved(rt: HostRuntime) -> Result<(), Fail> {
-    let words = ["--ctl", "[AG](!at(9) || [AF](at(13)))"];
+fn a_formula_of_nested_loops_is_proved(rt: HostRuntime) {
     for line_end in ["\n", "\r\n"] {
-        let text = with_line_ends(rt.alloc(), FILE.as_bytes(), line_end)?;
-        assert!(rt; says(rt.alloc(), &words, text, "Proved\n", Status::Proved)?);
+        assert!(rt; is_proved_of_the_file(rt.alloc(), line_end));
     }
-    Ok(())
 }

@@ -1,9 +1,8 @@
 ghost use Rattle.std.specs.Prelude.{None};
 
 use crate::proving::SETTLED;
-use crate::texts::{add_proposers, joined, says_under};
+use crate::texts::{Asked, add_proposers, joined, says_under};
 use std::alloc::{AllocError, Global};
-use std::test::Fail;
 use tv_candidates::Candidate;
 use tv_cases::Cases;
 use tv_linear::Row;
@@ -43,15 +42,19 @@ fn with_spending(alloc: Global) -> Result<Vec<Box<dyn Proposer>>, AllocError> {
     Ok(proposers)
 }
 
+fn is_said_beside_spending(alloc: Global, asked: &Asked) -> Result<bool, AllocError> {
+    let (words, texts, lines, status) = asked;
+    let proposers = with_spending(alloc)?;
+    let text = joined(alloc, texts)?;
+    says_under(alloc, words, text, proposers, lines, *status)
+}
+
 #[test]
-fn a_proposer_that_spends_fast_changes_no_answer(rt: HostRuntime) -> Result<(), Fail> {
-    for (words, text, lines, status) in SETTLED {
-        let given = joined(rt.alloc(), &[text])?;
-        let proposers = with_spending(rt.alloc())?;
+fn a_proposer_that_spends_fast_changes_no_answer(rt: HostRuntime) {
+    for asked in SETTLED {
         assert!(rt;
-            says_under(rt.alloc(), words, given, proposers, lines, *status)?,
-            "{words:?} {text}"
+            is_said_beside_spending(rt.alloc(), asked) == Ok(true),
+            "{asked:?}"
         );
     }
-    Ok(())
 }

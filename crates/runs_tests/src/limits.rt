@@ -1,7 +1,6 @@
 use crate::texts::{repeated, says};
 use crate::words::MISSING;
 use std::alloc::{AllocError, Global};
-use std::test::Fail;
 use tv_top::Status;
 
 const WORDS: [&str; 3] = ["--check", "--safety", "0"];
@@ -22,8 +21,11 @@ fn status_with(line: &str) -> Status {
     }
 }
 
-/// A front, a part so many times, an end, and the line: at each limit the certificate is missing, past it the text is refused.
-const TEXTS: &[(&str, &str, u32, &str, &str)] = &[
+/// A front, a part so many times, an end, and the line.
+type Limit = (&'static str, &'static str, u32, &'static str, &'static str);
+
+/// At each limit the certificate is missing, past it the text is refused.
+const TEXTS: &[Limit] = &[
     (EDGE, "#:=0;", 512, "TO: 0;", MISSING),
     (
         EDGE,
@@ -105,16 +107,18 @@ const TEXTS: &[(&str, &str, u32, &str, &str)] = &[
     ),
 ];
 
+/// Whether the line is written of the text.
+fn says_of_limit(alloc: Global, limit: &Limit) -> Result<bool, AllocError> {
+    let (front, part, times, end, line) = limit;
+    let text = repeated(alloc, front, part, *times, end)?;
+    says(alloc, &WORDS, text, line, status_with(line))
+}
+
 #[test]
-fn texts_keep_their_limits(rt: HostRuntime) -> Result<(), Fail> {
-    for (front, part, times, end, line) in TEXTS {
-        let text = repeated(rt.alloc(), front, part, *times, end)?;
-        assert!(rt;
-            says(rt.alloc(), &WORDS, text, line, status_with(line))?,
-            "{times} {part}"
-        );
+fn texts_keep_their_limits(rt: HostRuntime) {
+    for limit in TEXTS {
+        assert!(rt; says_of_limit(rt.alloc(), limit) == Ok(true), "{limit:?}");
     }
-    Ok(())
 }
 
 /// Whether the byte is no blank, and no token begins with it.
@@ -130,34 +134,36 @@ fn around(alloc: Global, front: &str, byte: u8, end: &str) -> Result<Vec<u8>, Al
     Ok(text)
 }
 
-#[test]
-fn many_bytes_begin_no_token(rt: HostRuntime) -> Result<(), Fail> {
-    let count = (0..=255u8).filter(|byte| begins_no_token(*byte)).count();
-    assert!(rt; count == 176);
-    Ok(())
+/// Whether this is written of a text with the byte in it.
+fn says_around(
+    alloc: Global,
+    front: &str,
+    byte: u8,
+    end: &str,
+    line: &str,
+) -> Result<bool, AllocError> {
+    let text = around(alloc, front, byte, end)?;
+    says(alloc, &WORDS, text, line, status_with(line))
 }
 
-// Each of them alone behind a START, and in a comment, where each byte may stand.
 #[test]
-fn bytes_that_begin_no_token_are_refused(rt: HostRuntime) -> Result<(), Fail> {
+fn many_bytes_begin_no_token(rt: HostRuntime) {
+    let count = (0..=255u8).filter(|byte| begins_no_token(*byte)).count();
+    assert!(rt; count == 176);
+}
+
+/// Whether the byte is refused alone behind a START, and read in a comment, where each byte may stand.
+fn stands_in_comments_alone(alloc: Global, byte: u8) -> bool {
     let refused = "Refused text syntax line 1 column 11\n";
-    for byte in (0..=255u8).filter(|byte| begins_no_token(*byte)) {
-        let alone = around(rt.alloc(), "START: 0; ", byte, "")?;
-        assert!(rt;
-            says(rt.alloc(), &WORDS, alone, refused, Status::Refused)?,
-            "{byte}"
-        );
-        let inside = around(rt.alloc(), "START: 0; /*", byte, "*/")?;
-        assert!(rt;
-            says(
-                rt.alloc(),
-                &WORDS,
-                inside,
-                MISSING,
-                Status::CertificateRefused
-            )?,
-            "{byte}"
-        );
+    says_around(alloc, "START: 0; ", byte, "", refused) == Ok(true)
+        && says_around(alloc, "START: 0; /*", byte, "*/", MISSING) == Ok(true)
+}
+
+#[test]
+fn bytes_that_begin_no_token_are_refused(rt: HostRuntime) {
+    for byte in 0..=255u8 {
+        if begins_no_token(byte) {
+            assert!(rt; stands_in_comments_alone(rt.alloc(), byte), "{byte}");
+        }
     }
-    Ok(())
 }

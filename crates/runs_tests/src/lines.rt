@@ -1,7 +1,6 @@
 use crate::certificates::{COUNTDOWN, ENDED, TERMINATION, UNENDED};
 use crate::texts::{repeated, says, with_line, with_lines};
 use std::alloc::{AllocError, Global};
-use std::test::Fail;
 use tv_top::Status;
 
 /// Whether this is written of the countdown, where a line of its certificate is another one, and this is its end.
@@ -75,16 +74,18 @@ const FORMS: &[(u32, &str, u32)] = &[
     (17, "split 1\n", 17),
 ];
 
+/// Whether the line is told where another one stands in the place of that with the number.
+fn is_told(alloc: Global, number: u32, line: &str, told: u32) -> Result<bool, AllocError> {
+    let written = format!(in alloc; "Certificate refused line {told}\n")?;
+    says_with_line(alloc, number, line, ENDED, &written)
+}
+
 #[test]
-fn each_form_of_line_is_told(rt: HostRuntime) -> Result<(), Fail> {
+fn each_form_of_line_is_told(rt: HostRuntime) {
     for (number, line, told) in FORMS {
-        let written = format!(in rt.alloc(); "Certificate refused line {told}\n")?;
-        assert!(rt;
-            says_with_line(rt.alloc(), *number, line, ENDED, &written)?,
-            "{number} {line}"
-        );
+        let is_told = is_told(rt.alloc(), *number, line, *told);
+        assert!(rt; is_told == Ok(true), "{number} {line}");
     }
-    Ok(())
 }
 
 /// A line of the certificate of the countdown, what stands in its place, the end, and what is told.
@@ -117,61 +118,73 @@ const ENDS: &[(u32, &str, &str, &str)] = &[
 ];
 
 #[test]
-fn lines_come_before_obligations(rt: HostRuntime) -> Result<(), Fail> {
+fn lines_come_before_obligations(rt: HostRuntime) {
     for (number, line, end, written) in ENDS {
-        assert!(rt;
-            says_with_line(rt.alloc(), *number, line, end, written)?,
-            "{number} {line}"
-        );
+        let is_said = says_with_line(rt.alloc(), *number, line, end, written);
+        assert!(rt; is_said == Ok(true), "{number} {line}");
     }
-    Ok(())
+}
+
+/// Whether the line behind so many lines of the certificate of the countdown is told.
+fn is_missing(alloc: Global, count: u32, missing: u32) -> Result<bool, AllocError> {
+    let text = with_lines(alloc, COUNTDOWN, UNENDED, count)?;
+    let written = format!(in alloc; "Certificate refused line {missing}\n")?;
+    says(
+        alloc,
+        TERMINATION,
+        text,
+        &written,
+        Status::CertificateRefused,
+    )
 }
 
 // The first lines of the certificate of the countdown: the next one is missing.
 #[test]
-fn the_first_missing_line_is_told(rt: HostRuntime) -> Result<(), Fail> {
+fn the_first_missing_line_is_told(rt: HostRuntime) {
     for count in 0..18u32 {
-        let text = with_lines(rt.alloc(), COUNTDOWN, UNENDED, count)?;
-        let missing = count + 1;
-        let written = format!(in rt.alloc(); "Certificate refused line {missing}\n")?;
         assert!(rt;
-            says(
-                rt.alloc(),
-                TERMINATION,
-                text,
-                &written,
-                Status::CertificateRefused
-            )?
+            is_missing(rt.alloc(), count, count + 1) == Ok(true),
+            "{count}"
         );
     }
-    Ok(())
+}
+
+/// So many splits at the root.
+fn push_splits(alloc: Global, text: &mut Vec<u8>, times: u32) -> Result<(), AllocError> {
+    let splits = repeated(alloc, "", "split 1 0\n", times, "into 0 0\n")?;
+    text.extend_from_slice(&splits)
+}
+
+/// The other side of each of so many splits, and the end.
+fn push_sides(alloc: Global, text: &mut Vec<u8>, times: u32) -> Result<(), AllocError> {
+    let sides = repeated(alloc, "", "into 0 0\n", times, ENDED)?;
+    text.extend_from_slice(&sides)
 }
 
 /// The countdown with so many splits at the root, each with both of its sides.
 fn with_splits(alloc: Global, times: u32) -> Result<Vec<u8>, AllocError> {
     let mut text = with_lines(alloc, COUNTDOWN, UNENDED, 16)?;
-    let splits = repeated(alloc, "", "split 1 0\n", times, "into 0 0\n")?;
-    let sides = repeated(alloc, "", "into 0 0\n", times, ENDED)?;
-    text.extend_from_slice(&splits)?;
-    text.extend_from_slice(&sides)?;
+    push_splits(alloc, &mut text, times)?;
+    push_sides(alloc, &mut text, times)?;
     Ok(text)
+}
+
+/// Whether this is written of so many splits.
+fn says_of_splits(
+    alloc: Global,
+    times: u32,
+    written: &str,
+    status: Status,
+) -> Result<bool, AllocError> {
+    let text = with_splits(alloc, times)?;
+    says(alloc, TERMINATION, text, written, status)
 }
 
 // 128 of them are met; the 129th is told.
 #[test]
-fn splits_lie_128_deep(rt: HostRuntime) -> Result<(), Fail> {
-    let deep = with_splits(rt.alloc(), 128)?;
-    assert!(rt; says(rt.alloc(), TERMINATION, deep, "Proved\n", Status::Proved)?);
-    let deeper = with_splits(rt.alloc(), 129)?;
-    let refused = "Certificate refused line 145\n";
-    assert!(rt;
-        says(
-            rt.alloc(),
-            TERMINATION,
-            deeper,
-            refused,
-            Status::CertificateRefused
-        )?
-    );
-    Ok(())
+fn splits_lie_128_deep(rt: HostRuntime) {
+    let told = "Certificate refused line 145\n";
+    let deep = says_of_splits(rt.alloc(), 128, "Proved\n", Status::Proved);
+    let deeper = says_of_splits(rt.alloc(), 129, told, Status::CertificateRefused);
+    assert!(rt; deep == Ok(true) && deeper == Ok(true));
 }

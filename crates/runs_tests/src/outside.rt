@@ -1,7 +1,6 @@
 use crate::safety::{BACK, COUNTER, FRONT, HEADING, STEP};
 use crate::texts::joined;
 use std::alloc::{AllocError, Global};
-use std::test::Fail;
 use tv_text::{MemSink, MemSource};
 use tv_top::{Status, run};
 
@@ -19,25 +18,31 @@ fn sink(alloc: Global, piece: usize, failing: u64) -> Result<MemSink, AllocError
     MemSink::new(alloc, 100, piece.max(1), fails)
 }
 
-// Each call of a source of ten bytes a call.
+/// Whether a run over the source and the sink writes this, and ends so.
+fn writes(
+    alloc: Global,
+    mut source: MemSource,
+    mut sink: MemSink,
+    written: &str,
+    status: Status,
+) -> bool {
+    let found = run(alloc, &WORDS, &mut source, &mut sink, Vec::new(alloc));
+    found == status && sink.written() == written.as_bytes()
+}
+
+/// Whether nothing is written where this call of a source of ten bytes a call fails.
+fn is_read_fault(alloc: Global, call: u64) -> Result<bool, AllocError> {
+    let source = source(alloc, 10, call)?;
+    let sink = sink(alloc, 4096, 0)?;
+    Ok(writes(alloc, source, sink, "", Status::ReadFault))
+}
+
+// Each call of the source.
 #[test]
-fn a_read_fault_writes_nothing(rt: HostRuntime) -> Result<(), Fail> {
+fn a_read_fault_writes_nothing(rt: HostRuntime) {
     for call in 1..35u64 {
-        let mut source = source(rt.alloc(), 10, call)?;
-        let mut sink = sink(rt.alloc(), 4096, 0)?;
-        let status = run(
-            rt.alloc(),
-            &WORDS,
-            &mut source,
-            &mut sink,
-            Vec::new(rt.alloc()),
-        );
-        assert!(rt;
-            status == Status::ReadFault && sink.written().is_empty(),
-            "{call}"
-        );
+        assert!(rt; is_read_fault(rt.alloc(), call) == Ok(true), "{call}");
     }
-    Ok(())
 }
 
 /// The call of a sink of three bytes a call that fails, what is written, and the status.
@@ -48,22 +53,19 @@ const WRITES: [(u64, &str, Status); 4] = [
     (4, "Proved\n", Status::Proved),
 ];
 
+/// Whether this is written where the call of a sink of three bytes a call fails.
+fn leaves(alloc: Global, call: u64, written: &str, status: Status) -> Result<bool, AllocError> {
+    let source = source(alloc, 4096, 0)?;
+    let sink = sink(alloc, 3, call)?;
+    Ok(writes(alloc, source, sink, written, status))
+}
+
 #[test]
-fn a_write_fault_leaves_a_front(rt: HostRuntime) -> Result<(), Fail> {
-    for (call, written, wanted) in WRITES {
-        let mut source = source(rt.alloc(), 4096, 0)?;
-        let mut sink = sink(rt.alloc(), 3, call)?;
-        let status = run(
-            rt.alloc(),
-            &WORDS,
-            &mut source,
-            &mut sink,
-            Vec::new(rt.alloc()),
-        );
+fn a_write_fault_leaves_a_front(rt: HostRuntime) {
+    for (call, written, status) in WRITES {
         assert!(rt;
-            status == wanted && sink.written() == written.as_bytes(),
+            leaves(rt.alloc(), call, written, status) == Ok(true),
             "{call}"
         );
     }
-    Ok(())
 }

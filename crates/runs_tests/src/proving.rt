@@ -1,5 +1,5 @@
 use crate::safety::COUNTER;
-use crate::texts::{add_proposers, is_accepted, joined, says_of, says_under};
+use crate::texts::{Asked, add_proposers, expect_said, expect_shown, joined, says_under};
 use crate::words::COUNTDOWN;
 use std::alloc::Global;
 use std::test::Fail;
@@ -37,61 +37,62 @@ const DOUBLED: &str =
     "START: 0; FROM: 0; x := 4000000000000000000; TO: 1; FROM: 1; x := x + x; TO: 2;";
 
 /// Words, a program, and the lines of the verdict.
-pub(crate) const SETTLED: &[(&[&str], &str, &str, Status)] = &[
-    (SAFETY_2, COUNTER, PROVED, Status::Proved),
-    (&["--ctl", "[AG](!at(2))"], COUNTER, PROVED, Status::Proved),
-    (SAFETY_2, PASSES, "Disproved\nx = 1\n", Status::Disproved),
+pub(crate) const SETTLED: &[Asked] = &[
+    (SAFETY_2, &[COUNTER], PROVED, Status::Proved),
+    (
+        &["--ctl", "[AG](!at(2))"],
+        &[COUNTER],
+        PROVED,
+        Status::Proved,
+    ),
+    (SAFETY_2, &[PASSES], "Disproved\nx = 1\n", Status::Disproved),
     (
         SAFETY_2,
-        DRAWS,
+        &[DRAWS],
         "Disproved\ny = 7\nx = 7\n",
         Status::Disproved,
     ),
     (
         &["--safety", "0"],
-        COUNTDOWN,
+        &[COUNTDOWN],
         "Disproved\nx = 1\n",
         Status::Disproved,
     ),
-    (SAFETY_2, FAR, "Disproved\nx = 0\n", Status::Disproved),
+    (SAFETY_2, &[FAR], "Disproved\nx = 0\n", Status::Disproved),
 ];
 
 /// The verdict is written, and the certificate that is written behind it is accepted.
 #[test]
-fn whether_runs_come_to_a_location_is_settled(rt: HostRuntime) -> Result<(), Fail> {
-    for (words, text, lines, status) in SETTLED {
-        assert!(rt;
-            says_of(rt.alloc(), words, &[text], lines, *status)?,
-            "{words:?} {text}"
-        );
-        assert!(rt;
-            is_accepted(rt.alloc(), words, text, lines, *status)?,
-            "{words:?} {text}"
-        );
-    }
-    Ok(())
+fn whether_runs_come_to_a_location_is_settled(rt: HostRuntime) {
+    expect_said(&rt, rt.alloc(), SETTLED);
+    expect_shown(&rt, rt.alloc(), SETTLED);
 }
 
 /// Words, a program, and the cause that it is not known.
-const OPEN: &[(&[&str], &str, &str)] = &[
-    (SAFETY_2, TWICE, "Unknown invariant\nlocation 2 at 3 3\n"),
+const OPEN: &[Asked] = &[
+    (
+        SAFETY_2,
+        &[TWICE],
+        "Unknown invariant\nlocation 2 at 3 3\n",
+        Status::Unknown,
+    ),
     (
         &["--safety", "2", "--disjuncts", "1"],
-        BRANCHES,
+        &[BRANCHES],
         "Unknown disjuncts\nlocation 2 count 2\n",
+        Status::Unknown,
     ),
-    (SAFETY_2, DOUBLED, "Unknown width\ncomposed column 1\n"),
+    (
+        SAFETY_2,
+        &[DOUBLED],
+        "Unknown width\ncomposed column 1\n",
+        Status::Unknown,
+    ),
 ];
 
 #[test]
-fn why_it_is_not_settled_is_told(rt: HostRuntime) -> Result<(), Fail> {
-    for (words, text, lines) in OPEN {
-        assert!(rt;
-            says_of(rt.alloc(), words, &[text], lines, Status::Unknown)?,
-            "{text}"
-        );
-    }
-    Ok(())
+fn why_it_is_not_settled_is_told(rt: HostRuntime) {
+    expect_said(&rt, rt.alloc(), OPEN);
 }
 
 /// A location, and a row by its coefficients and its constant.
@@ -108,51 +109,75 @@ fn candidate(alloc: Global, placed: &Placed) -> Result<Candidate, Fail> {
     })
 }
 
-/// A proposer of these rows, each so many times.
-fn offering(alloc: Global, list: &[Placed], times: u32) -> Result<Box<dyn Proposer>, Fail> {
-    let mut candidates = Vec::new(alloc);
-    for placed in list {
-        for _ in 0..times {
-            candidates.push(candidate(alloc, placed)?)?;
-        }
+/// Puts the row at the end so many times.
+fn push_times(
+    alloc: Global,
+    candidates: &mut Vec<Candidate>,
+    placed: &Placed,
+    times: u32,
+) -> Result<(), Fail> {
+    for _ in 0..times {
+        candidates.push(candidate(alloc, placed)?)?;
     }
-    let proposer: Box<dyn Proposer> = Box::new(alloc, Scripted::new(candidates))?;
-    Ok(proposer)
+    Ok(())
 }
 
-/// A program, what is offered alone, and what is answered: rows that do not hold, or that are about no location, do no harm.
-const OFFERED: &[(&str, &[Placed], &str, Status)] = &[
-    (COUNTER, &[], PROVED, Status::Proved),
+/// These rows, each so many times.
+fn candidates(alloc: Global, list: &[Placed], times: u32) -> Result<Vec<Candidate>, Fail> {
+    let mut candidates = Vec::new(alloc);
+    for placed in list {
+        push_times(alloc, &mut candidates, placed, times)?;
+    }
+    Ok(candidates)
+}
+
+/// A proposer of these rows, each so many times, behind the others.
+fn push_offering(
+    alloc: Global,
+    proposers: &mut Vec<Box<dyn Proposer>>,
+    list: &[Placed],
+    times: u32,
+) -> Result<(), Fail> {
+    let candidates = candidates(alloc, list, times)?;
+    proposers.push(Box::new(alloc, Scripted::new(candidates))?)?;
+    Ok(())
+}
+
+/// A program, and what is offered alone.
+type Offer = (&'static str, &'static [Placed]);
+
+/// Rows that do not hold, or that are about no location, do no harm.
+const OFFERED: &[Offer] = &[
+    (COUNTER, &[]),
     (
         COUNTER,
         &[(1, &[1], 0), (2, &[0], 1), (0, &[0], 1), (7, &[0], 1)],
-        PROVED,
-        Status::Proved,
     ),
     (
         COUNTER,
         &[(1, &[1], 0), (9, &[1], -5), (1, &[1], -5), (2, &[0], 1)],
-        PROVED,
-        Status::Proved,
     ),
-    (
-        TWICE,
-        &[(1, &[-2, 1], 0), (1, &[2, -1], 0)],
-        PROVED,
-        Status::Proved,
-    ),
+    (TWICE, &[(1, &[-2, 1], 0), (1, &[2, -1], 0)]),
 ];
+
+/// A proposer of these rows alone.
+fn offering(alloc: Global, list: &[Placed]) -> Result<Vec<Box<dyn Proposer>>, Fail> {
+    let mut proposers = Vec::new(alloc);
+    push_offering(alloc, &mut proposers, list, 1)?;
+    Ok(proposers)
+}
+
+/// Whether it is proved under what is offered that no run comes to location 2.
+fn is_proved_under(alloc: Global, offered: &Offer) -> Result<bool, Fail> {
+    let proposers = offering(alloc, offered.1)?;
+    let text = joined(alloc, &[offered.0])?;
+    Ok(says_under(alloc, SAFETY_2, text, proposers, PROVED, Status::Proved)?)
+}
 
 #[test]
 fn rows_that_are_offered_are_looked_at(rt: HostRuntime) -> Result<(), Fail> {
-    for (text, list, lines, status) in OFFERED {
-        let given = joined(rt.alloc(), &[text])?;
-        let mut proposers: Vec<Box<dyn Proposer>> = Vec::new(rt.alloc());
-        proposers.push(offering(rt.alloc(), list, 1)?)?;
-        assert!(rt;
-            says_under(rt.alloc(), SAFETY_2, given, proposers, lines, *status)?,
-            "{text} {list:?}"
-        );
+    for offered in OFFERED {
+        assert!(rt; is_proved_under(rt.alloc(), offered)?, "{offered:?}");
     }
     Ok(())
 }
@@ -169,19 +194,27 @@ const USELESS: &[Placed] = &[
 /// A row that does not hold, though it does at first.
 const ONE_ROW: &[Placed] = &[(1, &[1], -5)];
 
-/// What is of no use, again and again, changes no answer.
+/// Proposers of what is of no use, again and again, and those of rows of each kind.
+fn useless(alloc: Global) -> Result<Vec<Box<dyn Proposer>>, Fail> {
+    let mut proposers = Vec::new(alloc);
+    push_offering(alloc, &mut proposers, USELESS, 50)?;
+    push_offering(alloc, &mut proposers, ONE_ROW, 1000)?;
+    add_proposers(alloc, &mut proposers)?;
+    Ok(proposers)
+}
+
+fn is_said_beside_useless(alloc: Global, asked: &Asked) -> Result<bool, Fail> {
+    let (words, texts, lines, status) = asked;
+    let proposers = useless(alloc)?;
+    let text = joined(alloc, texts)?;
+    Ok(says_under(alloc, words, text, proposers, lines, *status)?)
+}
+
+/// What is of no use changes no answer.
 #[test]
 fn useless_rows_change_no_answer(rt: HostRuntime) -> Result<(), Fail> {
-    for (words, text, lines, status) in SETTLED {
-        let given = joined(rt.alloc(), &[text])?;
-        let mut proposers = Vec::new(rt.alloc());
-        proposers.push(offering(rt.alloc(), USELESS, 50)?)?;
-        proposers.push(offering(rt.alloc(), ONE_ROW, 1000)?)?;
-        add_proposers(rt.alloc(), &mut proposers)?;
-        assert!(rt;
-            says_under(rt.alloc(), words, given, proposers, lines, *status)?,
-            "{words:?} {text}"
-        );
+    for asked in SETTLED {
+        assert!(rt; is_said_beside_useless(rt.alloc(), asked)?, "{asked:?}");
     }
     Ok(())
 }

@@ -1,5 +1,4 @@
-use crate::texts::says_of;
-use std::test::Fail;
+use crate::texts::{Asked, expect_said};
 use tv_top::Status;
 
 pub(crate) const COUNTER: &str =
@@ -43,8 +42,7 @@ const NO_CERTIFICATE: &str = "Certificate refused line 1\n";
 
 const CHECK_2: &[&str] = &["--check", "--safety", "2"];
 
-/// The words, the text in parts, what is written, and the status.
-const ROWS: &[(&[&str], &[&str], &str, Status)] = &[
+const ROWS: &[Asked] = &[
     (
         CHECK_2,
         &[COUNTER, HEADING, FRONT, STEP, BACK],
@@ -127,12 +125,6 @@ const ROWS: &[(&[&str], &[&str], &str, Status)] = &[
 ];
 
 #[test]
-fn safety_is_checked(rt: HostRuntime) -> Result<(), Fail> {
-    for (words, texts, written, status) in ROWS {
-        assert!(rt;
-            says_of(rt.alloc(), words, texts, written, *status)?,
-            "{texts:?}"
-        );
-    }
-    Ok(())
+fn safety_is_checked(rt: HostRuntime) {
+    expect_said(&rt, rt.alloc(), ROWS);
 }

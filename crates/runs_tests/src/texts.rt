@@ -1,9 +1,18 @@
 use std::alloc::{AllocError, Global};
+use std::process::Abort;
 use tv_propose::{Bounds, Differences, GuardRows, Proposer};
 use tv_text::{MemSink, MemSource};
 use tv_top::{Status, run};
 
-/// Adds what offers rows of each kind.
+/// Words, texts in a row, what a run with the words on the texts writes, and how it ends.
+pub(crate) type Asked = (
+    &'static [&'static str],
+    &'static [&'static str],
+    &'static str,
+    Status,
+);
+
+/// What offers rows of each kind.
 pub(crate) fn add_proposers(
     alloc: Global,
     proposers: &mut Vec<Box<dyn Proposer>>,
@@ -12,6 +21,25 @@ pub(crate) fn add_proposers(
     proposers.push(Box::new(alloc, Bounds::new(2000))?)?;
     proposers.push(Box::new(alloc, Differences::new(2000))?)?;
     Ok(())
+}
+
+/// What offers rows of each kind, and nothing else.
+fn all_proposers(alloc: Global) -> Result<Vec<Box<dyn Proposer>>, AllocError> {
+    let mut proposers = Vec::new(alloc);
+    add_proposers(alloc, &mut proposers)?;
+    Ok(proposers)
+}
+
+/// Runs the words on the text into the sink, under what these proposers offer.
+fn run_into(
+    alloc: Global,
+    words: &[&str],
+    text: Vec<u8>,
+    sink: &mut MemSink,
+    proposers: Vec<Box<dyn Proposer>>,
+) -> Status {
+    let mut source = MemSource::new(text, 4096, Vec::new(alloc));
+    run(alloc, words, &mut source, sink, proposers)
 }
 
 /// Whether a run with the words on the text, under what these proposers offer, writes this, and ends so.
@@ -23,9 +51,8 @@ pub(crate) fn says_under(
     written: &str,
     status: Status,
 ) -> Result<bool, AllocError> {
-    let mut source = MemSource::new(text, 4096, Vec::new(alloc));
     let mut sink = MemSink::new(alloc, 2000, 4096, Vec::new(alloc))?;
-    let found = run(alloc, words, &mut source, &mut sink, proposers);
+    let found = run_into(alloc, words, text, &mut sink, proposers);
     Ok(found == status && sink.written() == written.as_bytes())
 }
 
@@ -37,8 +64,7 @@ pub(crate) fn says(
     written: &str,
     status: Status,
 ) -> Result<bool, AllocError> {
-    let mut proposers = Vec::new(alloc);
-    add_proposers(alloc, &mut proposers)?;
+    let proposers = all_proposers(alloc)?;
     says_under(alloc, words, text, proposers, written, status)
 }
 
@@ -53,14 +79,30 @@ pub(crate) fn says_of(
     says(alloc, words, joined(alloc, texts)?, written, status)
 }
 
+/// Whether a run writes what it is to write, and ends so. Where memory is wanting, it is not.
+fn is_said(alloc: Global, asked: &Asked) -> bool {
+    let (words, texts, written, status) = asked;
+    says_of(alloc, words, texts, written, *status) == Ok(true)
+}
+
+/// Each run is to write what is wanted, and to end so.
+pub(crate) fn expect_said(rt: &impl Abort, alloc: Global, list: &[Asked]) {
+    for asked in list {
+        assert!(rt; is_said(alloc, asked), "{asked:?}");
+    }
+}
+
 /// What a run with the words on the text writes.
-pub(crate) fn output(alloc: Global, words: &[&str], text: &str) -> Result<Vec<u8>, AllocError> {
-    let bytes = Vec::from_slice(alloc, text.as_bytes())?;
-    let mut source = MemSource::new(bytes, 4096, Vec::new(alloc));
+fn written_by(alloc: Global, words: &[&str], text: Vec<u8>) -> Result<MemSink, AllocError> {
+    let proposers = all_proposers(alloc)?;
     let mut sink = MemSink::new(alloc, 65536, 4096, Vec::new(alloc))?;
-    let mut proposers = Vec::new(alloc);
-    add_proposers(alloc, &mut proposers)?;
-    run(alloc, words, &mut source, &mut sink, proposers);
+    run_into(alloc, words, text, &mut sink, proposers);
+    Ok(sink)
+}
+
+/// What a run with the words on the texts in a row writes.
+pub(crate) fn output(alloc: Global, words: &[&str], texts: &[&str]) -> Result<Vec<u8>, AllocError> {
+    let sink = written_by(alloc, words, joined(alloc, texts)?)?;
     Vec::from_slice(alloc, sink.written())
 }
 
@@ -71,6 +113,68 @@ pub(crate) fn joined(alloc: Global, texts: &[&str]) -> Result<Vec<u8>, AllocErro
         text.extend_from_slice(part.as_bytes())?;
     }
     Ok(text)
+}
+
+/// The words, and one more behind them.
+fn with_word<'a>(
+    alloc: Global,
+    words: &[&'a str],
+    word: &'a str,
+) -> Result<Vec<&'a str>, AllocError> {
+    let mut longer = Vec::from_slice(alloc, words)?;
+    longer.push(word)?;
+    Ok(longer)
+}
+
+/// What a run that is to show a certificate writes.
+fn output_with_certificate(
+    alloc: Global,
+    words: &[&str],
+    texts: &[&str],
+) -> Result<Vec<u8>, AllocError> {
+    let words = with_word(alloc, words, "--certificate")?;
+    output(alloc, &words, texts)
+}
+
+/// The texts in a row, and the certificate behind them.
+fn with_certificate(
+    alloc: Global,
+    texts: &[&str],
+    certificate: &[u8],
+) -> Result<Vec<u8>, AllocError> {
+    let mut text = joined(alloc, texts)?;
+    text.extend_from_slice("\nCERTIFICATE:\n".as_bytes())?;
+    text.extend_from_slice(certificate)?;
+    Ok(text)
+}
+
+/// Whether the certificate is accepted for what is asked, with the same lines.
+fn is_checked(alloc: Global, asked: &Asked, certificate: &[u8]) -> Result<bool, AllocError> {
+    let (words, texts, lines, status) = asked;
+    let words = with_word(alloc, words, "--check")?;
+    let text = with_certificate(alloc, texts, certificate)?;
+    says(alloc, &words, text, lines, *status)
+}
+
+/// Whether the certificate that is written behind the lines of the verdict is accepted, with the same lines.
+fn shows(alloc: Global, asked: &Asked) -> Result<bool, AllocError> {
+    let (words, texts, lines, _) = asked;
+    let written = output_with_certificate(alloc, words, texts)?;
+    match written.strip_prefix(lines.as_bytes()) {
+        Some(certificate) => is_checked(alloc, asked, certificate),
+        None => Ok(false),
+    }
+}
+
+fn is_shown(alloc: Global, asked: &Asked) -> bool {
+    shows(alloc, asked) == Ok(true)
+}
+
+/// The certificate that each run writes behind its verdict is to be accepted, with the same verdict.
+pub(crate) fn expect_shown(rt: &impl Abort, alloc: Global, list: &[Asked]) {
+    for asked in list {
+        assert!(rt; is_shown(alloc, asked), "{asked:?}");
+    }
 }
 
 /// The front, and behind it the lines of the certificate, with this text in place of the line with the number.
@@ -152,23 +256,4 @@ pub(crate) fn repeated(
     }
     text.extend_from_slice(end.as_bytes())?;
     Ok(text)
-}
-
-/// Whether the certificate that a run with the words writes behind these lines of its verdict is accepted, with the same lines.
-pub(crate) fn is_accepted(
-    alloc: Global,
-    words: &[&str],
-    text: &str,
-    lines: &str,
-    status: Status,
-) -> Result<bool, AllocError> {
-    let mut asked = Vec::from_slice(alloc, words)?;
-    asked.push("--certificate")?;
-    let written = output(alloc, &asked, text)?;
-    let (verdict, certificate) = written.split_at(lines.len().min(written.len()));
-    let mut given = joined(alloc, &[text, "\nCERTIFICATE:\n"])?;
-    given.extend_from_slice(certificate)?;
-    let mut asked = Vec::from_slice(alloc, words)?;
-    asked.push("--check")?;
-    Ok(verdict == lines.as_bytes() && says(alloc, &asked, given, lines, status)?)
 }

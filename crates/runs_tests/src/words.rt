@@ -1,6 +1,5 @@
-use crate::texts::says_of;
-use std::alloc::AllocError;
-use std::test::Fail;
+use crate::texts::{Asked, expect_said, says_of};
+use std::alloc::Global;
 use tv_top::Status;
 
 pub(crate) const COUNTDOWN: &str =
@@ -14,94 +13,133 @@ pub(crate) const UNKNOWN: &str = "Refused property unknown name column 1\n";
 const PROVED: &str = "Proved\n";
 
 /// Forms of words about a certificate of the countdown, also where a label or a formula begins with `-`.
-const CHECKS: &[(&[&str], &str, Status)] = &[
+const CHECKS: &[Asked] = &[
     (
         &["--check", "--safety", "1"],
+        &[COUNTDOWN],
         MISSING,
         Status::CertificateRefused,
     ),
     (
         &["--safety=1", "--check"],
+        &[COUNTDOWN],
         MISSING,
         Status::CertificateRefused,
     ),
     (
         &["--termination", "--check"],
+        &[COUNTDOWN],
         MISSING,
         Status::CertificateRefused,
     ),
     (
         &["--check", "--pivots", "1", "--termination"],
+        &[COUNTDOWN],
         MISSING,
         Status::CertificateRefused,
     ),
     (
         &["--ctl=-x > 0", "--check"],
+        &[COUNTDOWN],
         MISSING,
         Status::CertificateRefused,
     ),
     (
         &["--ctl", "true", "--check"],
+        &[COUNTDOWN],
         MISSING,
         Status::CertificateRefused,
     ),
-    (&["--check", "--safety", "9"], UNKNOWN, Status::Refused),
-    (&["--check", "--safety", "00"], UNKNOWN, Status::Refused),
-    (&["--check", "--safety", ""], UNKNOWN, Status::Refused),
-    (&["--check", "--safety", "-"], UNKNOWN, Status::Refused),
-    (&["--safety=--check", "--check"], UNKNOWN, Status::Refused),
+    (
+        &["--check", "--safety", "9"],
+        &[COUNTDOWN],
+        UNKNOWN,
+        Status::Refused,
+    ),
+    (
+        &["--check", "--safety", "00"],
+        &[COUNTDOWN],
+        UNKNOWN,
+        Status::Refused,
+    ),
+    (
+        &["--check", "--safety", ""],
+        &[COUNTDOWN],
+        UNKNOWN,
+        Status::Refused,
+    ),
+    (
+        &["--check", "--safety", "-"],
+        &[COUNTDOWN],
+        UNKNOWN,
+        Status::Refused,
+    ),
+    (
+        &["--safety=--check", "--check"],
+        &[COUNTDOWN],
+        UNKNOWN,
+        Status::Refused,
+    ),
 ];
 
 /// Forms of words that ask for a search.
-const SEARCHES: &[(&[&str], &str, Status)] = &[
-    (&["--termination"], PROVED, Status::Proved),
-    (&["--ctl", "term"], PROVED, Status::Proved),
-    (&["--ctl=!!term"], PROVED, Status::Proved),
-    (&["--termination", "--"], PROVED, Status::Proved),
+const SEARCHES: &[Asked] = &[
+    (&["--termination"], &[COUNTDOWN], PROVED, Status::Proved),
+    (&["--ctl", "term"], &[COUNTDOWN], PROVED, Status::Proved),
+    (&["--ctl=!!term"], &[COUNTDOWN], PROVED, Status::Proved),
+    (
+        &["--termination", "--"],
+        &[COUNTDOWN],
+        PROVED,
+        Status::Proved,
+    ),
     (
         &["--pivots", "1000000", "--termination", "--splits=128"],
+        &[COUNTDOWN],
         PROVED,
         Status::Proved,
     ),
     (
         &["--disjuncts", "4096", "--termination"],
+        &[COUNTDOWN],
         PROVED,
         Status::Proved,
     ),
-    (&["--safety", "1"], "Disproved\nx = 1\n", Status::Disproved),
     (
-        &["--ctl", "[AG](!at(1))"],
+        &["--safety", "1"],
+        &[COUNTDOWN],
         "Disproved\nx = 1\n",
         Status::Disproved,
     ),
-    (&["--ctl", "x > 0"], "Disproved\nx = 0\n", Status::Disproved),
-    (&["--safety", "9"], UNKNOWN, Status::Refused),
+    (
+        &["--ctl", "[AG](!at(1))"],
+        &[COUNTDOWN],
+        "Disproved\nx = 1\n",
+        Status::Disproved,
+    ),
+    (
+        &["--ctl", "x > 0"],
+        &[COUNTDOWN],
+        "Disproved\nx = 0\n",
+        Status::Disproved,
+    ),
+    (&["--safety", "9"], &[COUNTDOWN], UNKNOWN, Status::Refused),
     (
         &["--ctl", "x > "],
+        &[COUNTDOWN],
         "Refused property syntax column 5\n",
         Status::Refused,
     ),
 ];
 
-fn are_answered(rt: &HostRuntime, forms: &[(&[&str], &str, Status)]) -> Result<bool, AllocError> {
-    for (words, line, status) in forms {
-        if !says_of(rt.alloc(), words, &[COUNTDOWN], line, *status)? {
-            return Ok(false);
-        }
-    }
-    Ok(true)
+#[test]
+fn words_ask_about_a_certificate(rt: HostRuntime) {
+    expect_said(&rt, rt.alloc(), CHECKS);
 }
 
 #[test]
-fn words_ask_about_a_certificate(rt: HostRuntime) -> Result<(), Fail> {
-    assert!(rt; are_answered(&rt, CHECKS)?);
-    Ok(())
-}
-
-#[test]
-fn words_ask_for_a_search(rt: HostRuntime) -> Result<(), Fail> {
-    assert!(rt; are_answered(&rt, SEARCHES)?);
-    Ok(())
+fn words_ask_for_a_search(rt: HostRuntime) {
+    expect_said(&rt, rt.alloc(), SEARCHES);
 }
 
 /// Words that ask nothing.
@@ -149,14 +187,19 @@ const OTHERS: &[&[&str]] = &[
     &["--generate", "3", "--generate", "3"],
 ];
 
+fn are_refused(alloc: Global, words: &[&str]) -> bool {
+    says_of(
+        alloc,
+        words,
+        &[COUNTDOWN],
+        "Refused words\n",
+        Status::Refused,
+    ) == Ok(true)
+}
+
 #[test]
-fn other_words_are_refused(rt: HostRuntime) -> Result<(), Fail> {
-    let line = "Refused words\n";
+fn other_words_are_refused(rt: HostRuntime) {
     for words in OTHERS {
-        assert!(rt;
-            says_of(rt.alloc(), words, &[COUNTDOWN], line, Status::Refused)?,
-            "{words:?}"
-        );
+        assert!(rt; are_refused(rt.alloc(), words), "{words:?}");
     }
-    Ok(())
 }
