@@ -25,11 +25,10 @@ use Rattle.tv_cert.specs.Obligations.{Owed, Obligation}
 use Rattle.tv_cert.specs.Obligations as obligations
 use Rattle.tv_cert.specs.Shapes.{owed_count, ListsShape, CoverShape, NoStepShape, TakeShape, ChoiceShape, ProofShape}
 use Rattle.tv_cert_reader.specs.CertificateLines.{row_line, row_lines, by_lines, cover_lines, choice_lines, proof_lines}
-use Rattle.tv_cert_reader.specs.Demands.{Demand, demand_of, no_counts}
+use Rattle.tv_cert_reader.specs.Demands.{Demand, demand_of, no_counts, IsDrawFree}
 use Rattle.tv_cert_reader.specs.LineGrammar.{Grammar, many, by, draw}
 use Rattle.tv_cert_reader.specs.CoverGrammar.{lists_behind, empty_behind, sides_behind, both, cover}
 use Rattle.tv_cert_reader.specs.ChoiceGrammar.{Choosing, stop_cover, no_step, no_step_behind, only_where, taken_rows, taken_case, take_behind, choice, demanded}
-use Rattle.tv_cert_reader.specs.Shaped.{IsDrawFree}
 use Rattle.tv_cert_reader.proofs.CompleteReads.{then_read, mapped_read, each_read}
 use Rattle.tv_cert_reader.proofs.CompleteParts.{numbers_long, draws_read, lists_read}
 

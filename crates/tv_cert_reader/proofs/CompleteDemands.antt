@@ -28,8 +28,7 @@ use Rattle.tv_cert.specs.Shapes.{owed_count, PieceShape}
 use Rattle.tv_cert.specs.Statements.{Statement, rows, here, elsewhere, ends, never_ends, each_of, one_of, after, along, unsaid}
 use Rattle.tv_cert.proofs.PieceLemmas.{piece_got}
 use Rattle.tv_shape.proofs.CountLemmas.{count_same, fall_long, fall_some}
-use Rattle.tv_cert_reader.specs.Demands.{outline, outlines, outlines_at, fall_count, entered_count, into_counts, list_counts, truth_counts}
-use Rattle.tv_cert_reader.specs.Shaped.{IsDrawFree}
+use Rattle.tv_cert_reader.specs.Demands.{outline, outlines, outlines_at, fall_count, entered_count, into_counts, list_counts, truth_counts, IsDrawFree}
 
 -- ---- how many rows a choice owes does not depend on the terms of its draws
 

@@ -12,12 +12,11 @@ use Rattle.tv_cert.specs.declared.node.Node.{Node, Node', Row_of-Node, end_of-No
 use Rattle.tv_cert.specs.Nodes.{pieces_of, kid_pieces, node_owes}
 use Rattle.tv_cert.specs.Statements.{Statement, rows, here, elsewhere, ends, never_ends, each_of, one_of, after, along, unsaid, Statements, no_statement, statement, parts_of}
 use Rattle.tv_cert.specs.Shapes.{OwnShape, NodeShape, KidsShape}
-use Rattle.tv_cert_reader.specs.CertificateLines.{piece_lines, proof_lines}
+use Rattle.tv_cert_reader.specs.CertificateLines.{piece_lines, proof_lines, node_lines, kid_lines}
 use Rattle.tv_cert_reader.specs.Demands.{Outline, outlines, demands}
 use Rattle.tv_cert_reader.specs.LineGrammar.{Grammar, kind_of, Region, region_of, region}
 use Rattle.tv_cert_reader.specs.ChoiceGrammar.{demanded}
 use Rattle.tv_cert_reader.specs.NodeGrammar.{proofs, over_children, node, nodes}
-use Rattle.tv_cert_reader.specs.Shaped.{stated_lines, children_lines}
 use Rattle.tv_cert_reader.proofs.CompleteReads.{then_read, mapped_read}
 use Rattle.tv_cert_reader.proofs.CompleteParts.{region_read}
 use Rattle.tv_cert_reader.proofs.CompleteCovers.{proofs_read}
@@ -63,16 +62,16 @@ module _ (over : Bool) (system : CaseSystem) where
   node_is unsaid ts = refl
 
   mutual
-    pub node_read : (s : Statement) (n : Node) (rest : List PlainLine) → NodeShape system s n → (node over system s).read (stated_lines s n ++ rest) ≡ Ok (outlines (pieces_of n), rest)
+    pub node_read : (s : Statement) (n : Node) (rest : List PlainLine) → NodeShape system s n → (node over system s).read (node_lines s n ++ rest) ≡ Ok (outlines (pieces_of n), rest)
     node_read s (Node' ps m shape kids offered) rest h =
-        node_is s (stated_lines s (Node' ps m shape kids offered) ++ rest)
-        ∙ own_read s m ps (kid_pieces kids) offered.items h.0 (nodes over system (parts_of s)) (children_lines (parts_of s) kids) (λ r. nodes_read (parts_of s) kids r h.1) rest
+        node_is s (node_lines s (Node' ps m shape kids offered) ++ rest)
+        ∙ own_read s m ps (kid_pieces kids) offered.items h.0 (nodes over system (parts_of s)) (kid_lines (parts_of s) kids) (λ r. nodes_read (parts_of s) kids r h.1) rest
 
-    pub nodes_read : {k : _} (ss : Statements) (kids : Row_of-Node k) (rest : List PlainLine) → KidsShape system ss kids → (nodes over system ss).read (children_lines ss kids ++ rest) ≡ Ok (map outlines (kid_pieces kids), rest)
+    pub nodes_read : {k : _} (ss : Statements) (kids : Row_of-Node k) (rest : List PlainLine) → KidsShape system ss kids → (nodes over system ss).read (kid_lines ss kids ++ rest) ≡ Ok (map outlines (kid_pieces kids), rest)
     nodes_read no_statement end_of-Node rest h = refl
     nodes_read no_statement (more_of-Node a kids) rest h = absurd h
     nodes_read (statement s ss) end_of-Node rest h = absurd h
     nodes_read (statement s ss) (more_of-Node a kids) rest h =
-        ap (nodes over system (statement s ss)).read (append_assoc (stated_lines s a) (children_lines ss kids) rest)
-        ∙ then_read (node over system s) (λ os. mapped (λ more. os ∷ more) (nodes over system ss)) (stated_lines s a ++ (children_lines ss kids ++ rest)) (outlines (pieces_of a)) (children_lines ss kids ++ rest) (node_read s a (children_lines ss kids ++ rest) h.0)
-        ∙ mapped_read (λ more. outlines (pieces_of a) ∷ more) (nodes over system ss) (children_lines ss kids ++ rest) (map outlines (kid_pieces kids)) rest (nodes_read ss kids rest h.1)
+        ap (nodes over system (statement s ss)).read (append_assoc (node_lines s a) (kid_lines ss kids) rest)
+        ∙ then_read (node over system s) (λ os. mapped (λ more. os ∷ more) (nodes over system ss)) (node_lines s a ++ (kid_lines ss kids ++ rest)) (outlines (pieces_of a)) (kid_lines ss kids ++ rest) (node_read s a (kid_lines ss kids ++ rest) h.0)
+        ∙ mapped_read (λ more. outlines (pieces_of a) ∷ more) (nodes over system ss) (kid_lines ss kids ++ rest) (map outlines (kid_pieces kids)) rest (nodes_read ss kids rest h.1)

@@ -1,9 +1,7 @@
 -- What is read fits, and its lines are those of its certificate.
-use Rattle.std.proofs.Common.{◌≡◌, ℕ, ◌+◌, ◌≤◌, List, [], ◌∷◌, ◌++◌, All, refl, sym, ap, ◌∙◌, subst, arith}
+use Rattle.std.proofs.Common.{◌≡◌, ℕ, ◌+◌, ◌≤◌, List, ◌++◌, refl, sym, ap, ◌∙◌, subst, arith}
 use Rattle.std.specs.Prelude.{max, IsTrue, nat_le}
-use Rattle.std.specs.List.{AllZip}
 use Rattle.std.proofs.lemmas.Bool.Decides.{nat_tests}
-use Rattle.std.proofs.lemmas.List.Elements.{All-nil, All-cons}
 use Rattle.tv_lines.specs.Lines.{PlainLine}
 use Rattle.tv_formula.specs.Formulas.{property_of}
 use Rattle.tv_formula.specs.Limits.{operators, most_operators}
@@ -12,23 +10,18 @@ use Rattle.tv_cases.specs.Comparisons.{comparison_lists}
 use Rattle.tv_cases.specs.LinearCases.{CaseSystem}
 use Rattle.tv_cert.specs.declared.claim.Claim.{Claim}
 use Rattle.tv_cert.specs.declared.node.Node.{Node, Node', Row_of-Node, end_of-Node, more_of-Node}
-use Rattle.tv_cert.specs.declared.node.Proof.{Proof}
-use Rattle.tv_cert.specs.declared.node.Proof.TheVariants.{Covered, Chosen}
 use Rattle.tv_cert.specs.declared.node.Verdict.{Verdict}
 use Rattle.tv_cert.specs.declared.node.Verdict.TheVariants.{Proved, Disproved}
 use Rattle.tv_cert.specs.Claims.{about_with, claim_variables, shown}
 use Rattle.tv_cert.specs.Nodes.{parts, pieces_of}
-use Rattle.tv_cert.specs.Obligations.{About, Obligation, Owed, a_cover, a_choice, a_point}
-use Rattle.tv_cert.specs.Shapes.{HasShape, HaveShapes, ProofShape, NodeShape, KidsShape}
+use Rattle.tv_cert.specs.Obligations.{About}
+use Rattle.tv_cert.specs.Shapes.{HasShape, HaveShapes, NodeShape, KidsShape}
 use Rattle.tv_cert.proofs.StatedLemmas.{parts-stated}
-use Rattle.tv_cert.specs.Statements.{stated}
+use Rattle.tv_cert.specs.Statements.{Statement, stated}
 use Rattle.tv_cert.proofs.NodeLemmas.{pieces_are}
-use Rattle.tv_shape.specs.Depths.{proof_splits}
 use Rattle.tv_shape.specs.Fitting.{GoesWithin, KidsGoWithin, Fits, VerdictFits, VerdictNarrow, VerdictShallow}
 use Rattle.tv_shape.proofs.MadeLemmas.{shapes_shallow}
 use Rattle.tv_cert_reader.specs.CertificateLines.{node_lines, certificate_lines}
-use Rattle.tv_cert_reader.specs.Shaped.{stated_lines}
-use Rattle.tv_cert_reader.proofs.CompleteStated.{lines_as}
 use Rattle.tv_cert_reader.proofs.FitLines.{AreFit, root_and_rest, node_fit, verdict_fit}
 use Rattle.tv_cert_reader.specs.Texts.{sides_of}
 use Rattle.tv_cert_reader.specs.Wholes.{IsVerdictOver, behind_root, says, IsBehindSaid, begun, side}
@@ -110,11 +103,11 @@ module _ (system : CaseSystem) (claim : Claim) (variables : claim_variables clai
         said = verdict_fits root verdict h.verdict_is (verdict_fit verdict lines.1);
       }
 
-  lines_with : (verdict : Verdict) (root : Node) → begun (says verdict) (node_lines (shown claim verdict) root ++ behind_root verdict) ≡ certificate_lines (shown claim verdict) root verdict
-  lines_with (Proved tree) root = refl
-  lines_with (Disproved k values) root = refl
+  lines_with : (s : Statement) (verdict : Verdict) (root : Node) → begun (says verdict) (node_lines s root ++ behind_root verdict) ≡ certificate_lines s root verdict
+  lines_with s (Proved tree) root = refl
+  lines_with s (Disproved k values) root = refl
 
-  pub read_lines : (rest : List PlainLine) (root : Node) (verdict : Verdict) → IsBehindSaid system (side (sides_of claim) (says verdict)) (says verdict) rest root verdict → begun (says verdict) rest ≡ certificate_lines (shown claim verdict) root verdict
+  pub read_lines : (rest : List PlainLine) (root : Node) (verdict : Verdict) → IsBehindSaid system (side (sides_of claim) (says verdict)) (says verdict) rest root verdict → begun (says verdict) rest ≡ certificate_lines (stated about.tests (shown claim verdict)) root verdict
   read_lines rest root verdict h =
-      ap (begun (says verdict)) (h.lines ∙ ap (λ s. stated_lines s root ++ behind_root verdict) (shows verdict) ∙ ap (λ ls. ls ++ behind_root verdict) (lines_as about (shown claim verdict) root))
-      ∙ lines_with verdict root
+      ap (begun (says verdict)) (h.lines ∙ ap (λ s. node_lines s root ++ behind_root verdict) (shows verdict))
+      ∙ lines_with (stated about.tests (shown claim verdict)) verdict root

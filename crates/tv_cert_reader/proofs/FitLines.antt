@@ -1,5 +1,5 @@
 -- The lines of a certificate have narrow numbers exactly where the certificate has.
-use Rattle.std.proofs.Common.{◌≡◌, ℕ, ℤ, pos, List, [], ◌∷◌, ◌++◌, length, map, All, Option, Some, None, refl, sym, ap, ◌∙◌, subst}
+use Rattle.std.proofs.Common.{◌≡◌, ℕ, ℤ, pos, List, [], ◌∷◌, ◌++◌, length, map, All, Some, None, refl, ap, ◌∙◌}
 use Rattle.std.specs.Global.{Vec}
 use Rattle.std.specs.List.{flat_map}
 use Rattle.std.proofs.lemmas.List.Elements.{All-nil, All-cons, All-head, All-tail, All-append}
@@ -9,7 +9,6 @@ use Rattle.tv_lines.specs.Lines.{PlainLine, formed, formless, wide, line_of, lin
 use Rattle.tv_lines.specs.declared.head.Head.{Head}
 use Rattle.tv_lines.specs.declared.head.Head.TheVariants as heads
 use Rattle.tv_lines.proofs.FitLemmas.{line_fit}
-use Rattle.tv_formula.specs.Properties.{Property, Properties, none, more}
 use Rattle.tv_linear.specs.Linear.{Linear}
 use Rattle.tv_linear.specs.declared.cover.CoverTree.{CoverTree}
 use Rattle.tv_linear.specs.declared.cover.CoverTree as cover
@@ -22,14 +21,12 @@ use Rattle.tv_cert.specs.declared.node.Proof.TheVariants.{Covered, Chosen}
 use Rattle.tv_cert.specs.declared.node.Node.{Node, Node', Row_of-Node, end_of-Node, more_of-Node}
 use Rattle.tv_cert.specs.declared.node.Verdict.{Verdict}
 use Rattle.tv_cert.specs.declared.node.Verdict.TheVariants.{Proved, Disproved}
-use Rattle.tv_cert.specs.Nodes.{parts}
 use Rattle.tv_cert.specs.Pieces.{place_of, rows_of, ranks_of}
 use Rattle.tv_cert.specs.Statements.{Statement, parts_of, Statements, no_statement, statement}
 use Rattle.tv_cert.specs.Shapes.{NodeShape, KidsShape}
 use Rattle.tv_shape.specs.Fitting.{NodeNarrow, KidsNarrow, VerdictNarrow}
 use Rattle.tv_shape.specs.Narrow.{ListsNarrow, RowNarrow, CoverNarrow, ChoiceNarrow, ProofNarrow, PieceNarrow}
 use Rattle.tv_cert_reader.specs.CertificateLines.{row_line, row_lines, by_lines, piece_lines, cover_lines, choice_lines, proof_lines, node_lines, kid_lines, certificate_lines}
-use Rattle.tv_cert_reader.specs.Shaped.{stated_lines, children_lines}
 use Rattle.tv_cert_reader.specs.Wholes.{behind_root}
 
 -- ---- lines
@@ -162,10 +159,10 @@ pieces_fit [] h = All-nil PieceNarrow
 pieces_fit (p ∷ ps) h = All-cons PieceNarrow p ps (piece_fit p (fit_left (piece_lines p) (flat_map piece_lines ps) h)) (pieces_fit ps (fit_right (piece_lines p) (flat_map piece_lines ps) h))
 
 mutual
-  pub node_fit : (system : CaseSystem) (s : Statement) (node : Node) → NodeShape system s node → AreFit (stated_lines s node) → NodeNarrow node
+  pub node_fit : (system : CaseSystem) (s : Statement) (node : Node) → NodeShape system s node → AreFit (node_lines s node) → NodeNarrow node
   node_fit system s (Node' ps m shape kids proofs) has h =
       let first = flat_map piece_lines ps in
-      let below = children_lines (parts_of s) kids in
+      let below = kid_lines (parts_of s) kids in
       let last = flat_map proof_lines proofs.items in
       let later = fit_right first (below ++ last) h.1 in (
         record {
@@ -177,19 +174,19 @@ mutual
         kids_fit system (parts_of s) kids has.1 (fit_left below last later),
       )
 
-  kids_fit : {k : _} (system : CaseSystem) (ss : Statements) (kids : Row_of-Node k) → KidsShape system ss kids → AreFit (children_lines ss kids) → KidsNarrow kids
+  kids_fit : {k : _} (system : CaseSystem) (ss : Statements) (kids : Row_of-Node k) → KidsShape system ss kids → AreFit (kid_lines ss kids) → KidsNarrow kids
   kids_fit system ss end_of-Node has h = tt
   kids_fit system no_statement (more_of-Node a kids) has h = absurd has
   kids_fit system (statement s ss) (more_of-Node a kids) has h =
-      (node_fit system s a has.0 (fit_left (stated_lines s a) (children_lines ss kids) h), kids_fit system ss kids has.1 (fit_right (stated_lines s a) (children_lines ss kids) h))
+      (node_fit system s a has.0 (fit_left (node_lines s a) (kid_lines ss kids) h), kids_fit system ss kids has.1 (fit_right (node_lines s a) (kid_lines ss kids) h))
 
 pub verdict_fit : (verdict : Verdict) → AreFit (behind_root verdict) → VerdictNarrow verdict
 verdict_fit (Proved tree) h = cover_fit tree (fit_left (cover_lines tree) (formed heads.End [] ∷ []) h)
 verdict_fit (Disproved k values) h = (first_of_two (pos k) values.items h.0.narrow, All-tail IsNarrow (pos k) values.items h.0.narrow)
 
 -- the lines of what is read of a text
-pub root_and_rest : (s : Statement) (root : Node) (verdict : Verdict) → AreFit (stated_lines s root ++ behind_root verdict) → AreFit (stated_lines s root) × AreFit (behind_root verdict)
-root_and_rest s root verdict h = (fit_left (stated_lines s root) (behind_root verdict) h, fit_right (stated_lines s root) (behind_root verdict) h)
+pub root_and_rest : (s : Statement) (root : Node) (verdict : Verdict) → AreFit (node_lines s root ++ behind_root verdict) → AreFit (node_lines s root) × AreFit (behind_root verdict)
+root_and_rest s root verdict h = (fit_left (node_lines s root) (behind_root verdict) h, fit_right (node_lines s root) (behind_root verdict) h)
 
 -- ---- narrow numbers are told
 
@@ -246,23 +243,23 @@ pieces_told [] h = tt
 pieces_told (p ∷ ps) h = told_both (piece_lines p) (flat_map piece_lines ps) (piece_told p (All-head PieceNarrow p ps h)) (pieces_told ps (All-tail PieceNarrow p ps h))
 
 mutual
-  node_told : (f : Property) (node : Node) → NodeNarrow node → AreTold (node_lines f node)
-  node_told f (Node' ps m shape kids proofs) h = (
+  node_told : (s : Statement) (node : Node) → NodeNarrow node → AreTold (node_lines s node)
+  node_told s (Node' ps m shape kids proofs) h = (
     counted (heads.Node _) (pos (length ps) ∷ pos m ∷ []) 2 refl refl (two (pos (length ps)) (pos m) h.0.count h.0.ranks),
-    told_both (flat_map piece_lines ps) (kid_lines (parts f) kids ++ flat_map proof_lines proofs.items) (pieces_told ps h.0.pieces)
-        (told_both (kid_lines (parts f) kids) (flat_map proof_lines proofs.items) (kids_told (parts f) kids h.1) (proofs_told proofs.items h.0.offered)),
+    told_both (flat_map piece_lines ps) (kid_lines (parts_of s) kids ++ flat_map proof_lines proofs.items) (pieces_told ps h.0.pieces)
+        (told_both (kid_lines (parts_of s) kids) (flat_map proof_lines proofs.items) (kids_told (parts_of s) kids h.1) (proofs_told proofs.items h.0.offered)),
   )
 
-  kids_told : {k : _} (fs : Properties) (kids : Row_of-Node k) → KidsNarrow kids → AreTold (kid_lines fs kids)
-  kids_told fs end_of-Node h = tt
-  kids_told none (more_of-Node a kids) h = tt
-  kids_told (more f fs) (more_of-Node a kids) h = told_both (node_lines f a) (kid_lines fs kids) (node_told f a h.0) (kids_told fs kids h.1)
+  kids_told : {k : _} (ss : Statements) (kids : Row_of-Node k) → KidsNarrow kids → AreTold (kid_lines ss kids)
+  kids_told ss end_of-Node h = tt
+  kids_told no_statement (more_of-Node a kids) h = tt
+  kids_told (statement s ss) (more_of-Node a kids) h = told_both (node_lines s a) (kid_lines ss kids) (node_told s a h.0) (kids_told ss kids h.1)
 
 bare : (head : Head) → count_of head ≡ Some 0 → FitsHead head []
 bare head e = counted head [] 0 e refl (All-nil IsNarrow)
 
-pub certificate_told : (f : Property) (root : Node) (verdict : Verdict) → NodeNarrow root → VerdictNarrow verdict → AreTold (certificate_lines f root verdict)
-certificate_told f root (Proved tree) h k =
-    (bare heads.Header refl, (bare heads.Proved refl, told_both (node_lines f root) (cover_lines tree ++ formed heads.End [] ∷ []) (node_told f root h) (told_both (cover_lines tree) (formed heads.End [] ∷ []) (cover_told tree k) (bare heads.End refl, tt))))
-certificate_told f root (Disproved j values) h k =
-    (bare heads.Header refl, (bare heads.Disproved refl, told_both (node_lines f root) (formed heads.At (pos j ∷ values.items) ∷ formed heads.End [] ∷ []) (node_told f root h) (uncounted heads.At (pos j ∷ values.items) refl (All-cons IsNarrow (pos j) values.items k.0 k.1), (bare heads.End refl, tt))))
+pub certificate_told : (s : Statement) (root : Node) (verdict : Verdict) → NodeNarrow root → VerdictNarrow verdict → AreTold (certificate_lines s root verdict)
+certificate_told s root (Proved tree) h k =
+    (bare heads.Header refl, (bare heads.Proved refl, told_both (node_lines s root) (cover_lines tree ++ formed heads.End [] ∷ []) (node_told s root h) (told_both (cover_lines tree) (formed heads.End [] ∷ []) (cover_told tree k) (bare heads.End refl, tt))))
+certificate_told s root (Disproved j values) h k =
+    (bare heads.Header refl, (bare heads.Disproved refl, told_both (node_lines s root) (formed heads.At (pos j ∷ values.items) ∷ formed heads.End [] ∷ []) (node_told s root h) (uncounted heads.At (pos j ∷ values.items) refl (All-cons IsNarrow (pos j) values.items k.0 k.1), (bare heads.End refl, tt))))

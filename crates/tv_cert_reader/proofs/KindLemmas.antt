@@ -1,5 +1,5 @@
 -- The kinds of the nodes of a certificate, which are as many as its nodes.
-use Rattle.std.proofs.Common.{◌≡◌, [], ◌∷◌, ◌++◌, length, arith, refl, sym, ap, length-append}
+use Rattle.std.proofs.Common.{◌≡◌, ◌∷◌, ◌++◌, length, arith, refl, sym, ap, length-append}
 use Rattle.std.proofs.lemmas.List.{append-nil}
 use Rattle.tv_lines.specs.declared.head.NodeKind.TheVariants as kinds
 use Rattle.tv_cases.specs.LinearCases.{CaseSystem}

@@ -15,7 +15,6 @@ pub mod CompleteCovers
 pub mod CompleteDemands
 pub mod CompleteWanted
 pub mod CompleteNodes
-pub mod CompleteStated
 pub mod CompleteCertificates
 pub mod ReadingLemmas
 pub mod PartLemmas

@@ -1,9 +1,8 @@
 -- What is read of a node, by its lists.
-use Rattle.std.proofs.Common.{◌≡◌, ℕ, zero, suc, ◌+◌, ◌^◌, ◌≤◌, ◌<◌, pos, false, List, [], ◌∷◌, ◌++◌, length, map, All, Ok, refl, sym, ap, ◌∙◌, subst, arith, length-append}
+use Rattle.std.proofs.Common.{◌≡◌, ℕ, zero, suc, ◌+◌, ◌^◌, ◌≤◌, ◌<◌, pos, false, List, [], ◌∷◌, ◌++◌, length, map, Ok, refl, sym, ap, ◌∙◌, subst, arith, length-append}
 use Rattle.std.specs.Global.{Vec}
-use Rattle.std.specs.List.{AllZip, flat_map}
+use Rattle.std.specs.List.{flat_map}
 use Rattle.std.proofs.lemmas.List.{append_assoc, append-nil}
-use Rattle.std.proofs.lemmas.List.Elements.{All-nil, All-cons}
 use Rattle.tv_grammar.specs.Reads.{fault, ◌>>=◌}
 use Rattle.tv_grammar.specs.Langs.{then, mapped, each}
 use Rattle.tv_lines.specs.Lines.{PlainLine, formed}
@@ -15,16 +14,14 @@ use Rattle.tv_cert.specs.declared.node.Node.{Node, Node', Row_of-Node, end_of-No
 use Rattle.tv_cert.specs.declared.node.Node.TheViews.{roll-Node, out-roll-Node}
 use Rattle.tv_cert.specs.Listed.{pieces_list}
 use Rattle.tv_cert.specs.Nodes.{pieces_of, node_owes}
-use Rattle.tv_cert.specs.Obligations.{Obligation}
-use Rattle.tv_cert.specs.Shapes.{ProofShape, OwnShape, IsSaid, may_be_done, may_rank, NodeShape, KidsShape}
+use Rattle.tv_cert.specs.Shapes.{OwnShape, IsSaid, may_be_done, may_rank, NodeShape, KidsShape}
 use Rattle.tv_cert.specs.Statements.{Statement, rows, here, elsewhere, ends, never_ends, each_of, one_of, after, along, unsaid, Statements, no_statement, statement, parts_of, part_at, count}
 use Rattle.tv_cert.proofs.NodeLemmas.{kids_of, proofs_list, out_is, pieces_are, kid_pieces_are}
-use Rattle.tv_cert_reader.specs.CertificateLines.{piece_lines, proof_lines}
+use Rattle.tv_cert_reader.specs.CertificateLines.{piece_lines, proof_lines, node_lines, kid_lines}
 use Rattle.tv_cert_reader.specs.Demands.{Outline, outlines, demand_of, demands}
 use Rattle.tv_cert_reader.specs.LineGrammar.{Grammar, kind_of, Region, region_of, region}
 use Rattle.tv_cert_reader.specs.ChoiceGrammar.{demanded}
 use Rattle.tv_cert_reader.specs.NodeGrammar.{proofs, node, nodes}
-use Rattle.tv_cert_reader.specs.Shaped.{stated_lines, children_lines}
 use Rattle.tv_cert_reader.proofs.CompleteReads.{then_read}
 use Rattle.tv_cert_reader.proofs.CompleteParts.{region_read}
 use Rattle.tv_cert_reader.proofs.CompleteNodes.{node_is, node_read}
@@ -97,8 +94,8 @@ module _ (system : CaseSystem) where
   nodes_fault no_statement kids now r k h few e = absurd (omega (arith, few))
   nodes_fault (statement s ss) [] now r k h few e = ap (λ o. o >>= λ x. (mapped (λ xs. x.0 ∷ xs) (nodes false system ss)).read x.1) e
   nodes_fault (statement s ss) (a ∷ kids) now r k h few e =
-      ap (nodes false system (statement s ss)).read (append_assoc (stated_lines s a) (nodes_lines ss kids) now)
-      ∙ then_read (node false system s) (λ os. mapped (λ xs. os ∷ xs) (nodes false system ss)) (stated_lines s a ++ (nodes_lines ss kids ++ now)) (outlines (pieces_of a)) (nodes_lines ss kids ++ now) (node_read false system s a (nodes_lines ss kids ++ now) h.0)
+      ap (nodes false system (statement s ss)).read (append_assoc (node_lines s a) (nodes_lines ss kids) now)
+      ∙ then_read (node false system s) (λ os. mapped (λ xs. os ∷ xs) (nodes false system ss)) (node_lines s a ++ (nodes_lines ss kids ++ now)) (outlines (pieces_of a)) (nodes_lines ss kids ++ now) (node_read false system s a (nodes_lines ss kids ++ now) h.0)
       ∙ ap (λ o. o >>= λ y. Ok (outlines (pieces_of a) ∷ y.0, y.1)) (nodes_fault ss kids now r k h.1 (omega (arith, few)) e)
 
   -- all children are read
@@ -107,22 +104,22 @@ module _ (system : CaseSystem) where
   all_read no_statement (a ∷ kids) r h n = absurd h
   all_read (statement s ss) [] r h n = absurd (omega (arith, n))
   all_read (statement s ss) (a ∷ kids) r h n =
-      ap (nodes false system (statement s ss)).read (append_assoc (stated_lines s a) (nodes_lines ss kids) r)
-      ∙ then_read (node false system s) (λ os. mapped (λ xs. os ∷ xs) (nodes false system ss)) (stated_lines s a ++ (nodes_lines ss kids ++ r)) (outlines (pieces_of a)) (nodes_lines ss kids ++ r) (node_read false system s a (nodes_lines ss kids ++ r) h.0)
+      ap (nodes false system (statement s ss)).read (append_assoc (node_lines s a) (nodes_lines ss kids) r)
+      ∙ then_read (node false system s) (λ os. mapped (λ xs. os ∷ xs) (nodes false system ss)) (node_lines s a ++ (nodes_lines ss kids ++ r)) (outlines (pieces_of a)) (nodes_lines ss kids ++ r) (node_read false system s a (nodes_lines ss kids ++ r) h.0)
       ∙ ap (λ o. o >>= λ y. Ok (outlines (pieces_of a) ∷ y.0, y.1)) (all_read ss kids r h.1 (omega (arith, n)))
       ∙ ap (λ ps. Ok (outlines ps ∷ map outlines (map pieces_list kids), r)) (pieces_are a)
 
   -- ---- a node by its lists
 
-  lines_row : {k : _} (ss : Statements) (kids : Row_of-Node k) → children_lines ss kids ≡ nodes_lines ss (items-the_row-Node k kids)
+  lines_row : {k : _} (ss : Statements) (kids : Row_of-Node k) → kid_lines ss kids ≡ nodes_lines ss (items-the_row-Node k kids)
   lines_row ss end_of-Node = refl
   lines_row no_statement (more_of-Node a kids) = refl
-  lines_row (statement s ss) (more_of-Node a kids) = ap (λ ls. stated_lines s a ++ ls) (lines_row ss kids)
+  lines_row (statement s ss) (more_of-Node a kids) = ap (λ ls. node_lines s a ++ ls) (lines_row ss kids)
 
 abbrev listed : Statement → ℕ → List Marked → List Node → List Proof → List PlainLine
 listed s m ps kids shown = formed (heads.Node (kind_of s)) (pos (length ps) ∷ pos m ∷ []) ∷ (flat_map piece_lines ps ++ (nodes_lines (parts_of s) kids ++ flat_map proof_lines shown))
 
-pub stated_is : (system : CaseSystem) (s : Statement) (n : Node) → stated_lines s n ≡ listed s (out-Node n).ranks (pieces_list n) (kids_of n) (proofs_list n)
+pub stated_is : (system : CaseSystem) (s : Statement) (n : Node) → node_lines s n ≡ listed s (out-Node n).ranks (pieces_list n) (kids_of n) (proofs_list n)
 stated_is system s (Node' ps m shape kids shown) =
     let e = outs-Node' ps m shape kids shown in
     ap (λ ls. formed (heads.Node (kind_of s)) (pos (length ps) ∷ pos m ∷ []) ∷ (flat_map piece_lines ps ++ (ls ++ flat_map proof_lines shown.items))) (lines_row system (parts_of s) kids ∙ ap (nodes_lines (parts_of s)) (sym (out_is ps m shape kids shown)))
@@ -167,19 +164,19 @@ module _ (system : CaseSystem) (s : Statement) (old : Cursor) where
     took = takes_as (region_lines (kind_of s) (ps, m)) (region_lines (kind_of s) (ps, m) ++ []) old now (sym (append-nil (region_lines (kind_of s) (ps, m)))) took;
   })
 
-  lines_next : (ss : Statements) (kids : List Node) (a : Node) → AreFirstOf system ss kids → length kids < count ss → nodes_lines ss kids ++ stated_lines (part_at (length kids) ss) a ≡ nodes_lines ss (kids ++ a ∷ [])
+  lines_next : (ss : Statements) (kids : List Node) (a : Node) → AreFirstOf system ss kids → length kids < count ss → nodes_lines ss kids ++ node_lines (part_at (length kids) ss) a ≡ nodes_lines ss (kids ++ a ∷ [])
   lines_next no_statement kids a h few = absurd (omega (arith, few))
-  lines_next (statement t ss) [] a h few = sym (append-nil (stated_lines t a))
+  lines_next (statement t ss) [] a h few = sym (append-nil (node_lines t a))
   lines_next (statement t ss) (b ∷ kids) a h few =
-      append_assoc (stated_lines t b) (nodes_lines ss kids) (stated_lines (part_at (length kids) ss) a) ∙ ap (λ ls. stated_lines t b ++ ls) (lines_next ss kids a h.1 (omega (arith, few)))
+      append_assoc (node_lines t b) (nodes_lines ss kids) (node_lines (part_at (length kids) ss) a) ∙ ap (λ ls. node_lines t b ++ ls) (lines_next ss kids a h.1 (omega (arith, few)))
 
-  pub opened_next : (now new : Cursor) (ps : List Marked) (m : ℕ) (kids more_kids : List Node) (a : Node) → Opened system s old now ps m kids → length kids < count (parts_of s) → NodeShape system (part_at (length kids) (parts_of s)) a → Takes (stated_lines (part_at (length kids) (parts_of s)) a) now new → more_kids ≡ kids ++ a ∷ [] → Opened system s old new ps m more_kids
+  pub opened_next : (now new : Cursor) (ps : List Marked) (m : ℕ) (kids more_kids : List Node) (a : Node) → Opened system s old now ps m kids → length kids < count (parts_of s) → NodeShape system (part_at (length kids) (parts_of s)) a → Takes (node_lines (part_at (length kids) (parts_of s)) a) now new → more_kids ≡ kids ++ a ∷ [] → Opened system s old new ps m more_kids
   opened_next now new ps m kids more_kids a o few n took is = subst (Opened system s old new ps m) (sym is) (record {
     region = o.region;
     first = first_next system (parts_of s) kids a o.first few n;
-    took = takes_as ((region_lines (kind_of s) (ps, m) ++ nodes_lines (parts_of s) kids) ++ stated_lines (part_at (length kids) (parts_of s)) a) (region_lines (kind_of s) (ps, m) ++ nodes_lines (parts_of s) (kids ++ a ∷ [])) old new
-        (append_assoc (region_lines (kind_of s) (ps, m)) (nodes_lines (parts_of s) kids) (stated_lines (part_at (length kids) (parts_of s)) a) ∙ ap (λ ls. region_lines (kind_of s) (ps, m) ++ ls) (lines_next (parts_of s) kids a o.first few))
-        (takes_both (region_lines (kind_of s) (ps, m) ++ nodes_lines (parts_of s) kids) (stated_lines (part_at (length kids) (parts_of s)) a) old now new o.took took);
+    took = takes_as ((region_lines (kind_of s) (ps, m) ++ nodes_lines (parts_of s) kids) ++ node_lines (part_at (length kids) (parts_of s)) a) (region_lines (kind_of s) (ps, m) ++ nodes_lines (parts_of s) (kids ++ a ∷ [])) old new
+        (append_assoc (region_lines (kind_of s) (ps, m)) (nodes_lines (parts_of s) kids) (node_lines (part_at (length kids) (parts_of s)) a) ∙ ap (λ ls. region_lines (kind_of s) (ps, m) ++ ls) (lines_next (parts_of s) kids a o.first few))
+        (takes_both (region_lines (kind_of s) (ps, m) ++ nodes_lines (parts_of s) kids) (node_lines (part_at (length kids) (parts_of s)) a) old now new o.took took);
   })
 
   module _ (now : Cursor) (ps : List Marked) (m : ℕ) (kids : List Node) (o : Opened system s old now ps m kids) where
@@ -216,7 +213,7 @@ module _ (system : CaseSystem) (s : Statement) (old : Cursor) where
           let inner : FailsBy (each (demanded false) wanted) now f = subst (λ ds. FailsBy (each (demanded false) ds) now f) (demands_same 0 system s m ps (map pieces_list kids) o.region.each) h in
           by_all f (mapped_fails (λ _. outlines ps) (proofs false system s (region_of m (outlines ps)) (map outlines (map pieces_list kids))) now f (mapped_fails (λ all. tt) (each (demanded false) wanted) now f inner))
 
-pub node_built : (system : CaseSystem) (s : Statement) (old now new : Cursor) (ps : List Marked) (m : ℕ) (kids : Vec Node) (shown : Vec Proof) → IsSaid s → Opened system s old now ps m kids.items → length kids.items ≡ count (parts_of s) → AreProofsOf (node_owes 0 system s ps (map pieces_list kids.items)) shown.items → Takes (flat_map proof_lines shown.items) now new → NodeShape system s (node_of ps m kids shown) × Takes (stated_lines s (node_of ps m kids shown)) old new
+pub node_built : (system : CaseSystem) (s : Statement) (old now new : Cursor) (ps : List Marked) (m : ℕ) (kids : Vec Node) (shown : Vec Proof) → IsSaid s → Opened system s old now ps m kids.items → length kids.items ≡ count (parts_of s) → AreProofsOf (node_owes 0 system s ps (map pieces_list kids.items)) shown.items → Takes (flat_map proof_lines shown.items) now new → NodeShape system s (node_of ps m kids shown) × Takes (node_lines s (node_of ps m kids shown)) old new
 node_built system s old now new ps m kids shown said o many offered took =
     let n = node_of ps m kids shown in
     let e = out-roll-Node (record { pieces = ps; ranks = m; children = kids; proofs = shown }) in
@@ -233,7 +230,7 @@ node_built system s old now new ps m kids shown said o many offered took =
     } in
     let lines = append_assoc (region_lines (kind_of s) (ps, m)) (nodes_lines (parts_of s) kids.items) (flat_map proof_lines shown.items) in (
       node_shaped system s n (subst (λ (x : Type 0). x) (λ i. OwnShape system s (r i) (p i) (map pieces_list (k i)) (q i)) own) (subst (AreFirstOf system (parts_of s)) k o.first) (ap length (sym k) ∙ many),
-      takes_as ((region_lines (kind_of s) (ps, m) ++ nodes_lines (parts_of s) kids.items) ++ flat_map proof_lines shown.items) (stated_lines s n) old new
+      takes_as ((region_lines (kind_of s) (ps, m) ++ nodes_lines (parts_of s) kids.items) ++ flat_map proof_lines shown.items) (node_lines s n) old new
           (lines ∙ (λ i. listed s (r i) (p i) (k i) (q i)) ∙ sym (stated_is system s n))
           (takes_both (region_lines (kind_of s) (ps, m) ++ nodes_lines (parts_of s) kids.items) (flat_map proof_lines shown.items) old now new o.took took),
     )

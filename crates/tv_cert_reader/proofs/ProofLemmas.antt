@@ -10,9 +10,8 @@ use Rattle.tv_cert.specs.declared.node.Proof.{Proof}
 use Rattle.tv_cert.specs.Obligations.{Obligation}
 use Rattle.tv_cert.specs.Visits.{Passed, none, one, Stopped}
 use Rattle.tv_cert_reader.specs.CertificateLines.{proof_lines}
-use Rattle.tv_cert_reader.specs.Demands.{Demand, demand_of}
+use Rattle.tv_cert_reader.specs.Demands.{Demand, demand_of, IsDrawFree}
 use Rattle.tv_cert_reader.specs.ChoiceGrammar.{demanded}
-use Rattle.tv_cert_reader.specs.Shaped.{IsDrawFree}
 use Rattle.tv_cert_reader.proofs.CompleteReads.{then_read}
 use Rattle.tv_cert_reader.proofs.CompleteCovers.{proof_read}
 use Rattle.tv_cert_reader.specs.declared.cursor.Cursor.{Cursor}

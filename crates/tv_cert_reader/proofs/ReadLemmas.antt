@@ -4,7 +4,7 @@ use Rattle.std.specs.Prelude.{slice_get, ◌==◌, IsSome, IfOk, MatchResult, Re
 use Rattle.std.proofs.lemmas.List.{length-map}
 use Rattle.tv_grammar.specs.Langs.{then}
 use Rattle.tv_grammar.proofs.WholeTexts.{all_found}
-use Rattle.tv_lines.specs.Lines.{formed, line_of, line_texts, lines_of}
+use Rattle.tv_lines.specs.Lines.{PlainLine, formed, line_of, line_texts, lines_of}
 use Rattle.tv_lines.specs.Pieces.{pieces, onto}
 use Rattle.tv_lines.specs.declared.head.Head.TheVariants as heads
 use Rattle.tv_formula.specs.Formulas.{property_of}
@@ -28,11 +28,9 @@ use Rattle.tv_cert_reader.specs.declared.kind.LineKind.{LineKind}
 use Rattle.tv_cert_reader.specs.declared.kind.LineKind.TheVariants as kinds
 use Rattle.tv_cert_reader.specs.Demands.{outlines}
 use Rattle.tv_cert_reader.specs.LineGrammar.{line, header}
-use Rattle.tv_cert_reader.specs.NodeGrammar.{node}
 use Rattle.tv_cert_reader.specs.CertificateGrammar.{Sides, said_line, said, certificate, IsRight, IsFirstFault}
 use Rattle.tv_cert_reader.proofs.CompleteDemands.{outline_got}
 use Rattle.tv_cert_reader.proofs.CompleteNodes.{node_read}
-use Rattle.tv_cert_reader.proofs.CompleteStated.{lines_as}
 use Rattle.tv_cert_reader.proofs.CompleteCertificates as complete
 use Rattle.tv_cert_reader.proofs.CompleteCertificates.{header_read, certificate_read_proved, certificate_read_disproved}
 use Rattle.tv_cert_reader.proofs.ExactNodes.{certificate_exact}
@@ -96,23 +94,23 @@ module _ (about : About) (some : 0 < about.system.locations) (fp fd : Property) 
   abbrev both_sides : Sides
   both_sides = complete.sides_of about fp fd
 
-  proved_right : (tree : _) → Fits about fp root (Proved tree) → IsRight about.system both_sides (certificate_lines fp root (Proved tree))
+  proved_right : (tree : _) → Fits about fp root (Proved tree) → IsRight about.system both_sides (certificate_lines (stated about.tests fp) root (Proved tree))
   proved_right tree fits = record {
-    text = all_found kinds.Syntax (certificate false about.system both_sides) (certificate_exact false about.system some both_sides) (certificate_lines fp root (Proved tree)) tt [] (certificate_read_proved about fp fd root tree fits);
-    there = proved_text about.system some both_sides (certificate_lines fp root (Proved tree)) _ refl;
+    text = all_found kinds.Syntax (certificate false about.system both_sides) (certificate_exact false about.system some both_sides) (certificate_lines (stated about.tests fp) root (Proved tree)) tt [] (certificate_read_proved about fp fd root tree fits);
+    there = proved_text about.system some both_sides (certificate_lines (stated about.tests fp) root (Proved tree)) _ refl;
   }
 
   not_none : {X : Type 0} (o : Option X) → IsSome o → o ≡ None → ⊥
   not_none None h e = absurd cc
   not_none (Some x) h e = absurd cc
 
-  disproved_right : (k : ℕ) (values : _) → Fits about fd root (Disproved k values) → IsRight about.system both_sides (certificate_lines fd root (Disproved k values))
+  disproved_right : (k : ℕ) (values : _) → Fits about fd root (Disproved k values) → IsRight about.system both_sides (certificate_lines (stated about.tests fd) root (Disproved k values))
   disproved_right k values fits =
       let behind = formed heads.At (pos k ∷ values.items) ∷ formed heads.End [] ∷ [] in
       record {
-        text = all_found kinds.Syntax (certificate false about.system both_sides) (certificate_exact false about.system some both_sides) (certificate_lines fd root (Disproved k values)) tt [] (certificate_read_disproved about fp fd root k values fits);
-        there = piece_there about.system some both_sides (certificate_lines fd root (Disproved k values)) (node_lines fd root ++ behind) behind (outlines (pieces_of root)) k values.items (formed heads.End [] ∷ []) refl
-            (ap (λ ls. (node false about.system (stated about.tests fd)).read (ls ++ behind)) (sym (lines_as about fd root)) ∙ node_read false about.system (stated about.tests fd) root behind fits.nodes.shape) refl
+        text = all_found kinds.Syntax (certificate false about.system both_sides) (certificate_exact false about.system some both_sides) (certificate_lines (stated about.tests fd) root (Disproved k values)) tt [] (certificate_read_disproved about fp fd root k values fits);
+        there = piece_there about.system some both_sides (certificate_lines (stated about.tests fd) root (Disproved k values)) (node_lines (stated about.tests fd) root ++ behind) behind (outlines (pieces_of root)) k values.items (formed heads.End [] ∷ []) refl
+            (node_read false about.system (stated about.tests fd) root behind fits.nodes.shape) refl
             (λ none. not_none (slice_get (pieces_at (pieces_of root) about.system.start) k) fits.said.shape.1 (got_none (slice_get (pieces_at (pieces_of root) about.system.start) k) (sym (outline_got (pieces_of root) about.system.start k) ∙ none)));
       }
 
@@ -120,9 +118,13 @@ module _ (system : CaseSystem) (some : 0 < system.locations) (claim : Claim) (va
   sides_are : sides_of claim ≡ complete.sides_of (about_with system) (property_of claim.proved) (property_of claim.denied)
   sides_are = ap (λ n. record { proved = stated (comparison_lists n) (property_of claim.proved); denied = stated (comparison_lists n) (property_of claim.denied) }) variables
 
-  fitting_right : (root : Node) (verdict : Verdict) → Fits (about_with system) (shown claim verdict) root verdict → IsRight system (sides_of claim) (certificate_lines (shown claim verdict) root verdict)
-  fitting_right root (Proved tree) fits = subst (λ s. IsRight system s (certificate_lines (property_of claim.proved) root (Proved tree))) (sym sides_are) (proved_right (about_with system) some (property_of claim.proved) (property_of claim.denied) root tree fits)
-  fitting_right root (Disproved k values) fits = subst (λ s. IsRight system s (certificate_lines (property_of claim.denied) root (Disproved k values))) (sym sides_are) (disproved_right (about_with system) some (property_of claim.proved) (property_of claim.denied) root k values fits)
+  -- the lines of a certificate of what the verdict shows
+  abbrev lines_shown : Verdict → Node → List PlainLine
+  lines_shown verdict root = certificate_lines (stated (about_with system).tests (shown claim verdict)) root verdict
+
+  fitting_right : (root : Node) (verdict : Verdict) → Fits (about_with system) (shown claim verdict) root verdict → IsRight system (sides_of claim) (lines_shown verdict root)
+  fitting_right root (Proved tree) fits = subst (λ s. IsRight system s (lines_shown (Proved tree) root)) (sym sides_are) (proved_right (about_with system) some (property_of claim.proved) (property_of claim.denied) root tree fits)
+  fitting_right root (Disproved k values) fits = subst (λ s. IsRight system s (lines_shown (Disproved k values) root)) (sym sides_are) (disproved_right (about_with system) some (property_of claim.proved) (property_of claim.denied) root k values fits)
 
   of_none : (text : List ℕ) (k : LineKind) (number : ℕ) → IsFirstFault system (sides_of claim) (lines_of text) k number → IsOfNone system claim text
   of_none text k number first c is =
@@ -138,12 +140,12 @@ module _ (system : CaseSystem) (some : 0 < system.locations) (claim : Claim) (va
   refused text (Fault kinds.Deep number) c is none h = at_fault text kinds.Deep number (subst (λ ls. IsFirstFault system (sides_of claim) ls kinds.Deep number) is (h none))
   refused text (Fault kinds.Shape number) c is none h = at_fault text kinds.Shape number (subst (λ ls. IsFirstFault system (sides_of claim) ls kinds.Shape number) is (h none))
 
-  pub found : (text : List ℕ) (root : Node) (verdict : Verdict) (result : Result Certificate CertFault) → lines_of text ≡ certificate_lines (shown claim verdict) root verdict → MatchResult result (λ c. IsOf (about_with system) (shown claim verdict) c × (c.root ≡ root) × (c.verdict ≡ verdict)) (λ f. f ≡ faults.Memory) → IfOk result (λ c. IsCertificateText system claim text c)
+  pub found : (text : List ℕ) (root : Node) (verdict : Verdict) (result : Result Certificate CertFault) → lines_of text ≡ lines_shown verdict root → MatchResult result (λ c. IsOf (about_with system) (shown claim verdict) c × (c.root ≡ root) × (c.verdict ≡ verdict)) (λ f. f ≡ faults.Memory) → IfOk result (λ c. IsCertificateText system claim text c)
   found text root verdict (Ok c) lines h =
       let v = sym h.2 in
       let r = sym h.1 in
       record {
-        lines = lines ∙ (λ i. certificate_lines (shown claim (v i)) (r i) (v i));
+        lines = lines ∙ (λ i. lines_shown (v i) (r i));
         is = subst (λ w. IsOf (about_with system) (shown claim w) c) v h.0;
       }
   found text root verdict (Err f) lines h = tt

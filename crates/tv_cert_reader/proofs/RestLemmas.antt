@@ -17,14 +17,13 @@ use Rattle.tv_cert.specs.Pieces.{place_of, pieces_at}
 use Rattle.tv_cert.specs.Statements.{Statement}
 use Rattle.tv_cert.specs.Shapes.{NodeShape}
 use Rattle.tv_cert.proofs.NodeLemmas.{pieces_are}
-use Rattle.tv_cert_reader.specs.CertificateLines.{cover_lines}
+use Rattle.tv_cert_reader.specs.CertificateLines.{cover_lines, node_lines}
 use Rattle.tv_cert_reader.specs.declared.kind.LineKind.{LineKind}
 use Rattle.tv_cert_reader.specs.declared.kind.LineKind.TheVariants.{Syntax, Shape}
 use Rattle.tv_cert_reader.specs.Demands.{Outline, outline, outlines, into_counts}
 use Rattle.tv_cert_reader.specs.LineGrammar.{Grammar, line, last}
 use Rattle.tv_cert_reader.specs.CoverGrammar.{cover, both}
 use Rattle.tv_cert_reader.specs.NodeGrammar.{node}
-use Rattle.tv_cert_reader.specs.Shaped.{stated_lines}
 use Rattle.tv_cert_reader.specs.CertificateGrammar.{Sides, at_line, at_values, proved, denied}
 use Rattle.tv_cert_reader.proofs.CompleteReads.{then_read}
 use Rattle.tv_cert_reader.proofs.CompleteCovers.{cover_read}
@@ -46,7 +45,7 @@ use Rattle.tv_cert_reader.proofs.ReadingLemmas.{first_fails, second_fails}
 root_outlines : (root : Node) → outlines (pieces_of root) ≡ outlines (pieces_list root)
 root_outlines root = ap outlines (pieces_are root)
 
-node_taken : (system : CaseSystem) (s : Statement) (root : Node) (old mid : Cursor) → NodeShape system s root → Takes (stated_lines s root) old mid → (node false system s).read old.lines ≡ Ok (outlines (pieces_list root), mid.lines)
+node_taken : (system : CaseSystem) (s : Statement) (root : Node) (old mid : Cursor) → NodeShape system s root → Takes (node_lines s root) old mid → (node false system s).read old.lines ≡ Ok (outlines (pieces_list root), mid.lines)
 node_taken system s root old mid is took = ap (node false system s).read took.lines ∙ node_read false system s root mid.lines is ∙ ap (λ os. Ok (os, mid.lines)) (root_outlines root)
 
 pub got_none : (o : Option Marked) → option_map outline o ≡ None → o ≡ None
@@ -114,7 +113,7 @@ module _ (system : CaseSystem) (some : 0 < system.locations) (s : Statement) (ol
   pub proved_root_fails : (f : Failure) → FailsBy (node false system s) old f → ReadsRest system s true old (Err f)
   proved_root_fails f h = proved_fails f (first_fails (node false system s) (λ os. both (start os) last) old f h)
 
-  module _ (root : Node) (mid : Cursor) (is : NodeShape system s root) (took : Takes (stated_lines s root) old mid) where
+  module _ (root : Node) (mid : Cursor) (is : NodeShape system s root) (took : Takes (node_lines s root) old mid) where
     abbrev root_read : (node false system s).read old.lines ≡ Ok (outlines (pieces_list root), mid.lines)
     root_read = node_taken system s root old mid is took
 
@@ -156,7 +155,7 @@ module _ (system : CaseSystem) (some : 0 < system.locations) (s : Statement) (ol
       stopped_denied system some s old k number g.rest (ended (denied false system s) old.lines g.rest k g.read)
       (λ sides is. nodes_fail system some sides (begun false old.lines) old.lines h.rest k refl (ap (λ t. (node false system t).read old.lines) is ∙ h.read)) g.counted
 
-  module _ (root : Node) (mid : Cursor) (is : NodeShape system s root) (took : Takes (stated_lines s root) old mid) where
+  module _ (root : Node) (mid : Cursor) (is : NodeShape system s root) (took : Takes (node_lines s root) old mid) where
     abbrev root_there : (node false system s).read old.lines ≡ Ok (outlines (pieces_list root), mid.lines)
     root_there = node_taken system s root old mid is took
 
@@ -186,7 +185,7 @@ module _ (system : CaseSystem) (some : 0 < system.locations) (s : Statement) (ol
 
         values_read : (at_values false system s).read old.lines ≡ Ok ((outlines (pieces_list root), place), next.lines)
         values_read =
-            ap (at_values false system s).read (took.lines ∙ ap (λ ls. stated_lines s root ++ ls) went.lines)
+            ap (at_values false system s).read (took.lines ∙ ap (λ ls. node_lines s root ++ ls) went.lines)
             ∙ at_values_read false system s root place values next.lines is many
             ∙ ap (λ os. Ok ((os, place), next.lines)) (root_outlines root)
 

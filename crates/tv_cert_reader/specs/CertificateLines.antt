@@ -4,11 +4,9 @@ use Rattle.std.specs.List.{flat_map}
 use Rattle.tv_lines.specs.Lines.{PlainLine, formed}
 use Rattle.tv_lines.specs.declared.head.Head.{Head}
 use Rattle.tv_lines.specs.declared.head.Head.TheVariants as heads
-use Rattle.tv_lines.specs.declared.head.NodeKind.{NodeKind}
-use Rattle.tv_lines.specs.declared.head.NodeKind.TheVariants as kinds
 use Rattle.tv_lines.specs.declared.head.PieceMark.{PieceMark}
 use Rattle.tv_lines.specs.declared.head.PieceMark.TheVariants as marks
-use Rattle.tv_formula.specs.Properties.{Property, truth, compare, at, term, negated, all_of, some_of, next, fix, Properties, none, more}
+use Rattle.tv_formula.specs.Properties.{Property}
 use Rattle.tv_linear.specs.Linear.{Linear}
 use Rattle.tv_linear.specs.declared.cover.CoverTree.{CoverTree}
 use Rattle.tv_linear.specs.declared.cover.CoverTree as cover
@@ -23,7 +21,10 @@ use Rattle.tv_cert.specs.declared.node.Node.{Node, Node', Row_of-Node, end_of-No
 use Rattle.tv_cert.specs.declared.node.Verdict.{Verdict}
 use Rattle.tv_cert.specs.declared.node.Verdict.TheVariants.{Proved, Disproved}
 use Rattle.tv_cert.specs.Pieces.{place_of, rows_of, ranks_of}
-use Rattle.tv_cert.specs.Nodes.{parts}
+use Rattle.tv_cert.specs.Obligations.{About}
+use Rattle.tv_cert.specs.Statements.{Statement, Statements, no_statement, statement, parts_of, stated}
+use Rattle.tv_shape.specs.declared.certificate.Certificate.{Certificate}
+use Rattle.tv_cert_reader.specs.LineGrammar.{kind_of}
 
 -- a row or a term: its coefficients and then its constant
 abbrev pub row_line : Head → Linear → PlainLine
@@ -65,35 +66,26 @@ abbrev pub proof_lines : Proof → List PlainLine
 proof_lines (Covered tree) = cover_lines tree
 proof_lines (Chosen tree) = choice_lines tree
 
--- the kind of the node of a formula
-abbrev pub kind_named : Property → NodeKind
-kind_named (truth b) = kinds.Atom
-kind_named (compare r a b) = kinds.Atom
-kind_named (at l) = kinds.Atom
-kind_named term = kinds.Term
-kind_named (negated term) = kinds.NoTerm
-kind_named (negated f) = kinds.Atom
-kind_named (all_of fs) = kinds.And
-kind_named (some_of fs) = kinds.Or
-kind_named (next path f) = kinds.Next
-kind_named (fix path shape f g) = kinds.Fix
-
 abbrev mutual
-  -- a node: its kind, the numbers of its pieces and its ranks, then its pieces, its children and its proofs
-  pub node_lines : Property → Node → List PlainLine
-  node_lines f (Node' ps m shape kids proofs) =
-      formed (heads.Node (kind_named f)) (pos (length ps) ∷ pos m ∷ [])
-      ∷ (flat_map piece_lines ps ++ (kid_lines (parts f) kids ++ flat_map proof_lines proofs.items))
+  -- a node, told what it is to show: its kind, the numbers of its pieces and its ranks, then its pieces, its children and its proofs
+  pub node_lines : Statement → Node → List PlainLine
+  node_lines s (Node' ps m shape kids proofs) =
+      formed (heads.Node (kind_of s)) (pos (length ps) ∷ pos m ∷ [])
+      ∷ (flat_map piece_lines ps ++ (kid_lines (parts_of s) kids ++ flat_map proof_lines proofs.items))
 
-  -- the children, told the formulas that they are of
-  pub kid_lines : {k : _} → Properties → Row_of-Node k → List PlainLine
-  kid_lines fs end_of-Node = []
-  kid_lines none (more_of-Node a kids) = []
-  kid_lines (more f fs) (more_of-Node a kids) = node_lines f a ++ kid_lines fs kids
+  -- the children, told what they are to show
+  pub kid_lines : {k : _} → Statements → Row_of-Node k → List PlainLine
+  kid_lines ss end_of-Node = []
+  kid_lines no_statement (more_of-Node a kids) = []
+  kid_lines (statement s ss) (more_of-Node a kids) = node_lines s a ++ kid_lines ss kids
 
--- a certificate of the formula: version 1, what is said of the formula, the nodes, and the proof or the values for the start
-abbrev pub certificate_lines : Property → Node → Verdict → List PlainLine
-certificate_lines f root (Proved tree) =
-    formed heads.Header [] ∷ formed heads.Proved [] ∷ (node_lines f root ++ (cover_lines tree ++ formed heads.End [] ∷ []))
-certificate_lines f root (Disproved k values) =
-    formed heads.Header [] ∷ formed heads.Disproved [] ∷ (node_lines f root ++ formed heads.At (pos k ∷ values.items) ∷ formed heads.End [] ∷ [])
+-- a certificate of a statement: version 1, what is said of it, the nodes, and the proof or the values for the start
+abbrev pub certificate_lines : Statement → Node → Verdict → List PlainLine
+certificate_lines s root (Proved tree) =
+    formed heads.Header [] ∷ formed heads.Proved [] ∷ (node_lines s root ++ (cover_lines tree ++ formed heads.End [] ∷ []))
+certificate_lines s root (Disproved k values) =
+    formed heads.Header [] ∷ formed heads.Disproved [] ∷ (node_lines s root ++ formed heads.At (pos k ∷ values.items) ∷ formed heads.End [] ∷ [])
+
+-- the lines of a certificate of the formula
+abbrev pub lines_about : About → Property → Certificate → List PlainLine
+lines_about about f c = certificate_lines (stated about.tests f) c.root c.verdict

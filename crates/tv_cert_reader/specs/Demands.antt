@@ -1,11 +1,12 @@
 -- What proofs a node wants, by what the lines of its pieces say.
-use Rattle.std.specs.Prelude.{ℕ, zero, suc, ◌+◌, List, [], ◌∷◌, length, map, slice_get, Option, None, Some, Bool, true, false, not, nat_lt, ◌==◌, if◌then◌else◌}
+use Rattle.std.specs.Prelude.{◌≡◌, ℕ, zero, suc, ◌+◌, List, [], ◌∷◌, length, map, slice_get, Option, None, Some, Bool, true, false, not, nat_lt, ◌==◌, if◌then◌else◌}
 use Rattle.std.specs.List.{filter, flat_map}
 use Rattle.std.specs.Option.{option_map}
 use Rattle.tv_formula.specs.declared.tree.Path.{Path}
 use Rattle.tv_formula.specs.declared.tree.Path.TheVariants.{Every, Any}
 use Rattle.tv_formula.specs.declared.tree.Shape.{Shape}
 use Rattle.tv_formula.specs.declared.tree.Shape.TheVariants.{Until, Weak, Release, Strong}
+use Rattle.tv_linear.specs.Linear.{Linear}
 use Rattle.tv_cases.specs.LinearCases.{LinearCase, CaseSystem, leaving}
 use Rattle.tv_cert.specs.declared.node.Marked.{Marked}
 use Rattle.tv_cert.specs.Pieces.{place_of, rows_of, goes}
@@ -142,3 +143,9 @@ demands_at system unsaid m os kids o = []
 -- what it wants, by pieces in order
 abbrev pub demands : CaseSystem → Statement → ℕ → List Outline → List (List Outline) → List Demand
 demands system s m os kids = flat_map (demands_at system s m os kids) os
+
+-- how many rows a choice owes does not depend on the terms of its draws
+abbrev pub IsDrawFree : Owed → Type 0
+IsDrawFree (obligations.a_cover n known owed) = Unit {0}
+IsDrawFree (obligations.a_choice n cases l stop owed known) = (c : LinearCase) (draws : List Linear) → owed_count (owed c draws) ≡ owed_count (owed c [])
+IsDrawFree (obligations.a_point values needed) = Unit {0}

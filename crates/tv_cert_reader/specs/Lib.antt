@@ -5,7 +5,6 @@ pub mod CoverGrammar
 pub mod ChoiceGrammar
 pub mod NodeGrammar
 pub mod CertificateGrammar
-pub mod Shaped
 pub mod Reading
 pub mod Sorts
 pub mod Parts

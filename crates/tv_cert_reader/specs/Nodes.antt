@@ -6,14 +6,14 @@ use Rattle.tv_cert.specs.declared.node.Node.{Node}
 use Rattle.tv_cert.specs.Statements.{Statement, Statements, no_statement, statement}
 use Rattle.tv_cert.specs.Shapes.{NodeShape}
 use Rattle.tv_cert_reader.specs.NodeGrammar.{node}
-use Rattle.tv_cert_reader.specs.Shaped.{stated_lines}
+use Rattle.tv_cert_reader.specs.CertificateLines.{node_lines}
 use Rattle.tv_cert_reader.specs.declared.cursor.Cursor.{Cursor}
 use Rattle.tv_cert_reader.specs.declared.failure.Failure.{Failure}
 use Rattle.tv_cert_reader.specs.Reading.{Reads, Takes}
 
 -- a node that is to show this is read
 abbrev pub ReadsNode : CaseSystem → Statement → Cursor → Cursor → Result Node Failure → Type 0
-ReadsNode system s old new result = Reads (λ n. n) (NodeShape system s) (stated_lines s) (node false system s) old new result
+ReadsNode system s old new result = Reads (λ n. n) (NodeShape system s) (node_lines s) (node false system s) old new result
 
 -- the nodes are those of the first arguments
 abbrev pub AreFirstOf : CaseSystem → Statements → List Node → Type 0
@@ -25,7 +25,7 @@ AreFirstOf system (statement s ss) (a ∷ kids) = NodeShape system s a × AreFir
 abbrev pub nodes_lines : Statements → List Node → List PlainLine
 nodes_lines ss [] = []
 nodes_lines no_statement (a ∷ kids) = []
-nodes_lines (statement s ss) (a ∷ kids) = stated_lines s a ++ nodes_lines ss kids
+nodes_lines (statement s ss) (a ∷ kids) = node_lines s a ++ nodes_lines ss kids
 
 -- the first children are read
 pub record HaveRead (system : CaseSystem) (ss : Statements) (old now : Cursor) (kids : List Node) : Type 0 where

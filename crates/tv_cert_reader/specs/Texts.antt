@@ -7,7 +7,7 @@ use Rattle.tv_cases.specs.LinearCases.{CaseSystem}
 use Rattle.tv_cert.specs.declared.claim.Claim.{Claim}
 use Rattle.tv_cert.specs.Claims.{about_with, claim_variables, shown}
 use Rattle.tv_cert.specs.Statements.{stated}
-use Rattle.tv_cert_reader.specs.CertificateLines.{certificate_lines}
+use Rattle.tv_cert_reader.specs.CertificateLines.{lines_about}
 use Rattle.tv_shape.specs.declared.certificate.Certificate.{Certificate}
 use Rattle.tv_shape.specs.Certificates.{IsOf}
 use Rattle.tv_cert_reader.specs.declared.kind.LineKind.{LineKind}
@@ -20,7 +20,7 @@ use Rattle.tv_cert_reader.specs.declared.fault.CertFault.TheVariants.{Syntax, Wi
 
 -- The text is one of the certificate: its lines are the lines of the certificate, which fits the cases and what is claimed.
 pub record IsCertificateText (system : CaseSystem) (claim : Claim) (text : List ℕ) (c : Certificate) : Type 0 where
-  pub lines : lines_of text ≡ certificate_lines (shown claim c.verdict) c.root c.verdict
+  pub lines : lines_of text ≡ lines_about (about_with system) (shown claim c.verdict) c
   pub is : IsOf (about_with system) (shown claim c.verdict) c
 
 -- the text is one of no certificate

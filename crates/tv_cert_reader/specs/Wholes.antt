@@ -12,9 +12,8 @@ use Rattle.tv_cert.specs.Pieces.{pieces_at}
 use Rattle.tv_cert.specs.Shapes.{owed_count, NodeShape}
 use Rattle.tv_cert.specs.Statements.{Statement}
 use Rattle.tv_cert.specs.Targets.{owed_into, no_fall}
-use Rattle.tv_cert_reader.specs.CertificateLines.{cover_lines}
+use Rattle.tv_cert_reader.specs.CertificateLines.{cover_lines, node_lines}
 use Rattle.tv_cert_reader.specs.LineGrammar.{line}
-use Rattle.tv_cert_reader.specs.Shaped.{stated_lines}
 use Rattle.tv_cert_reader.specs.CertificateGrammar.{Sides, said_line, IsFirstFault}
 use Rattle.tv_cert_reader.specs.declared.cursor.Cursor.{Cursor}
 use Rattle.tv_cert_reader.specs.declared.failure.Failure.{Failure}
@@ -52,7 +51,7 @@ pub record IsBehindSaid (system : CaseSystem) (s : Statement) (proved : Bool) (l
   pub root_is : NodeShape system s root
   pub said : says verdict ≡ proved
   pub verdict_is : IsVerdictOver system root verdict
-  pub lines : ls ≡ stated_lines s root ++ behind_root verdict
+  pub lines : ls ≡ node_lines s root ++ behind_root verdict
 
 -- the lines of the text up to what is said
 abbrev pub begun : Bool → List PlainLine → List PlainLine

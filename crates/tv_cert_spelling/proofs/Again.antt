@@ -1,5 +1,5 @@
 -- What is written of a certificate has its lines.
-use Rattle.std.proofs.Common.{◌≡◌, ℕ, List, [], ◌∷◌, ◌++◌, ap, ◌∙◌}
+use Rattle.std.proofs.Common.{◌≡◌, ℕ, List, [], ◌∷◌, ap, ◌∙◌}
 use Rattle.std.proofs.lemmas.List.{append_assoc}
 use Rattle.tv_lines.specs.Lines.{PlainLine, formed, formless, wide, lines_of}
 use Rattle.tv_lines.specs.Writing.{spelling}
@@ -7,9 +7,10 @@ use Rattle.tv_lines.proofs.TextLemmas.{no_lines}
 use Rattle.tv_lines.proofs.ReadAgain.{text_again}
 use Rattle.tv_formula.specs.Properties.{Property}
 use Rattle.tv_cert.specs.Obligations.{About}
+use Rattle.tv_cert.specs.Statements.{stated}
 use Rattle.tv_shape.specs.Certificates.{IsOf}
 use Rattle.tv_shape.specs.declared.certificate.Certificate.{Certificate}
-use Rattle.tv_cert_reader.specs.CertificateLines.{certificate_lines}
+use Rattle.tv_cert_reader.specs.CertificateLines.{lines_about}
 use Rattle.tv_cert_reader.proofs.FitLines.{AreTold, certificate_told}
 use Rattle.tv_cert_spelling.specs.Spelling.{all_spelled}
 
@@ -22,6 +23,6 @@ spelled_again (formed head zs ∷ ls) h =
 spelled_again (formless ∷ ls) h = absurd h.0
 spelled_again (wide ∷ ls) h = absurd h.0
 
-pub written_again : (about : About) (f : Property) (c : Certificate) → IsOf about f c → (text : List ℕ) → text ≡ all_spelled (certificate_lines f c.root c.verdict) → lines_of text ≡ certificate_lines f c.root c.verdict
+pub written_again : (about : About) (f : Property) (c : Certificate) → IsOf about f c → (text : List ℕ) → text ≡ all_spelled (lines_about about f c) → lines_of text ≡ lines_about about f c
 written_again about f c is text w =
-    ap lines_of w ∙ spelled_again (certificate_lines f c.root c.verdict) (certificate_told f c.root c.verdict is.fits.nodes.narrow is.fits.said.narrow)
+    ap lines_of w ∙ spelled_again (lines_about about f c) (certificate_told (stated about.tests f) c.root c.verdict is.fits.nodes.narrow is.fits.said.narrow)

@@ -10,9 +10,8 @@ use Rattle.tv_cert.specs.Nodes.{pieces_of, kid_pieces, node_owes}
 use Rattle.tv_cert.specs.Pieces.{is_go}
 use Rattle.tv_cert.specs.Shapes.{PieceShape, may_be_done, OwnShape, NodeShape, KidsShape}
 use Rattle.tv_cert.specs.Statements.{Statement, Statements, no_statement, statement, parts_of}
-use Rattle.tv_cert_reader.specs.CertificateLines.{piece_lines, proof_lines}
+use Rattle.tv_cert_reader.specs.CertificateLines.{piece_lines, proof_lines, node_lines, kid_lines}
 use Rattle.tv_cert_reader.specs.Demands.{Outline, outline, outlines, demands}
-use Rattle.tv_cert_reader.specs.Shaped.{stated_lines, children_lines}
 use Rattle.tv_cert_reader.proofs.CompleteDemands.{draw_free}
 use Rattle.tv_cert_reader.proofs.CompleteWanted.{demands_same}
 use Rattle.tv_cert_spelling.specs.NodeValues.{PieceValue, piece_value, proof_value, NodeValue, node, NodeValues, none, more, node_value, child_values}
@@ -72,13 +71,13 @@ module _ (system : CaseSystem) where
       (own_long s n qs others offered g) e
 
   mutual
-    pub node_told : (s : Statement) (a b : Node) (xs ys : List PlainLine) → NodeShape system s a → NodeShape system s b → stated_lines s a ++ xs ≡ stated_lines s b ++ ys → (node_value a ≡ node_value b) × (xs ≡ ys)
+    pub node_told : (s : Statement) (a b : Node) (xs ys : List PlainLine) → NodeShape system s a → NodeShape system s b → node_lines s a ++ xs ≡ node_lines s b ++ ys → (node_value a ≡ node_value b) × (xs ≡ ys)
     node_told s (Node' ps m shape kids proofs) (Node' qs n other others offered) xs ys h g e =
         let two = same_two (length ps) m (length qs) n (same_numbers _ _ _ _ (same_head _ _ _ _ e)) in
         let mine = flat_map proof_lines proofs.items in
         let theirs = flat_map proof_lines offered.items in
-        let kid = children_lines (parts_of s) kids in
-        let twin = children_lines (parts_of s) others in
+        let kid = kid_lines (parts_of s) kids in
+        let twin = kid_lines (parts_of s) others in
         let behind = behind_first (flat_map piece_lines ps) (kid ++ mine) (flat_map piece_lines qs) (twin ++ theirs) xs ys (same_tail _ _ _ _ e) in
         let each = subst (λ r. All (PieceShape system r (may_be_done s)) qs) (sym two.1) g.0.each in
         let pieces = each_told piece_lines piece_value (PieceShape system m (may_be_done s)) (piece_told system m (may_be_done s)) ps qs ((kid ++ mine) ++ xs) ((twin ++ theirs) ++ ys) two.0 h.0.each each behind in
@@ -86,13 +85,13 @@ module _ (system : CaseSystem) where
         let shown = own_told s m n ps qs (kid_pieces kids) (kid_pieces others) proofs.items offered.items xs ys h.0 g.0 two.1 (same_pieces ps qs pieces.0) (same_kids kids others below.0) below.1 in
         (λ i. node (pieces.0 i) (two.1 i) (below.0 i) (shown.0 i), shown.1)
 
-    pub children_told : {j : _} {k : _} (ss : Statements) (kids : Row_of-Node j) (others : Row_of-Node k) (xs ys : List PlainLine) → KidsShape system ss kids → KidsShape system ss others → children_lines ss kids ++ xs ≡ children_lines ss others ++ ys → (child_values kids ≡ child_values others) × (xs ≡ ys)
+    pub children_told : {j : _} {k : _} (ss : Statements) (kids : Row_of-Node j) (others : Row_of-Node k) (xs ys : List PlainLine) → KidsShape system ss kids → KidsShape system ss others → kid_lines ss kids ++ xs ≡ kid_lines ss others ++ ys → (child_values kids ≡ child_values others) × (xs ≡ ys)
     children_told no_statement end_of-Node end_of-Node xs ys h g e = (refl, e)
     children_told no_statement end_of-Node (more_of-Node b others) xs ys h g e = absurd g
     children_told no_statement (more_of-Node a kids) others xs ys h g e = absurd h
     children_told (statement s ss) end_of-Node others xs ys h g e = absurd h
     children_told (statement s ss) (more_of-Node a kids) end_of-Node xs ys h g e = absurd g
     children_told (statement s ss) (more_of-Node a kids) (more_of-Node b others) xs ys h g e =
-        let first = node_told s a b (children_lines ss kids ++ xs) (children_lines ss others ++ ys) h.0 g.0 (behind_first (stated_lines s a) (children_lines ss kids) (stated_lines s b) (children_lines ss others) xs ys e) in
+        let first = node_told s a b (kid_lines ss kids ++ xs) (kid_lines ss others ++ ys) h.0 g.0 (behind_first (node_lines s a) (kid_lines ss kids) (node_lines s b) (kid_lines ss others) xs ys e) in
         let rest = children_told ss kids others xs ys h.1 g.1 first.1 in
         (λ i. more (first.0 i) (rest.0 i), rest.1)

@@ -17,8 +17,7 @@ use Rattle.tv_cert.specs.Obligations.{Owed, Obligation}
 use Rattle.tv_cert.specs.Obligations as obligations
 use Rattle.tv_cert.specs.Shapes.{owed_count, ListsShape, CoverShape, NoStepShape, TakeShape, ChoiceShape, ProofShape}
 use Rattle.tv_cert_reader.specs.CertificateLines.{row_lines, by_lines, choice_lines, proof_lines}
-use Rattle.tv_cert_reader.specs.Demands.{Demand, a_cover, a_choice, demand_of}
-use Rattle.tv_cert_reader.specs.Shaped.{IsDrawFree}
+use Rattle.tv_cert_reader.specs.Demands.{Demand, a_cover, a_choice, demand_of, IsDrawFree}
 use Rattle.tv_cert_spelling.specs.ChoiceValues as choices
 use Rattle.tv_cert_spelling.specs.ChoiceValues.{choice_value}
 use Rattle.tv_cert_spelling.specs.NodeValues.{covered, chosen, proof_value}

@@ -4,7 +4,7 @@ ghost use Rattle.tv_lines.specs.declared.head.Head.TheVariants as heads;
 ghost use Rattle.tv_formula.specs.Properties.{Property};
 ghost use Rattle.tv_cert.specs.Obligations.{About};
 ghost use Rattle.tv_shape.specs.Certificates.{IsOf};
-ghost use Rattle.tv_cert_reader.specs.CertificateLines.{certificate_lines};
+ghost use Rattle.tv_cert_reader.specs.CertificateLines.{lines_about};
 ghost use Rattle.tv_cert_spelling.specs.Spelling.{IsMade, all_spelled, said_lines, at_lines};
 
 use crate::nodes::append_node;
@@ -55,10 +55,10 @@ fn append_start(alloc: Global, out: &mut Vec<u8>, verdict: &Verdict) -> Result<(
 pub fn write_certificate(alloc: Global, certificate: &Certificate) -> Result<Vec<u8>, AllocError>
     requires made { IsMade certificate.now }
     ensures spelled { (about : About) → (f : Property) → IsOf about f certificate.now →
-        IfOk result (λ text. text.items ≡ all_spelled (certificate_lines f certificate.now.root certificate.now.verdict)) }
+        IfOk result (λ text. text.items ≡ all_spelled (lines_about about f certificate.now)) }
     // It is read again as the lines that were written.
     ensures again { (about : About) → (f : Property) → IsOf about f certificate.now →
-        IfOk result (λ text. lines_of text.items ≡ certificate_lines f certificate.now.root certificate.now.verdict) }
+        IfOk result (λ text. lines_of text.items ≡ lines_about about f certificate.now) }
 {
     let mut text = Vec::new(alloc);
     append_line(alloc, &mut text, Head::Header, &[])?;

@@ -6,7 +6,7 @@ ghost use Rattle.tv_cases.specs.LinearCases.{CaseSystem};
 ghost use Rattle.tv_cert.specs.Obligations.{About};
 ghost use Rattle.tv_cert.specs.Claims.{about_with, shown};
 ghost use Rattle.tv_cert.specs.declared.claim.Claim.{Claim};
-ghost use Rattle.tv_cert_reader.specs.CertificateLines.{certificate_lines};
+ghost use Rattle.tv_cert_reader.specs.CertificateLines.{lines_about};
 ghost use Rattle.tv_shape.specs.Certificates.{IsOf};
 ghost use Rattle.tv_shape.specs.declared.certificate.Certificate.{Certificate};
 ghost use Rattle.tv_cert_reader.specs.Texts.{IsCertificateText};
@@ -16,7 +16,7 @@ ghost use Rattle.tv_cert_spelling.specs.CertificateValues.{certificate_value};
 /// A certificate of a formula is told by its lines: all that can be seen of it, apart from where it lies in memory.
 pub fn same_lines_same_certificate()
     ensures { (about : About) (f : Property) (c d : Certificate) → IsOf about f c → IsOf about f d →
-        certificate_lines f c.root c.verdict ≡ certificate_lines f d.root d.verdict →
+        lines_about about f c ≡ lines_about about f d →
         certificate_value c ≡ certificate_value d }
 {}
 
@@ -24,7 +24,7 @@ pub fn same_lines_same_certificate()
 pub fn same_lines_of_one_claim()
     ensures { (about : About) (claim : Claim) (c d : Certificate) → IsOf about (shown claim c.verdict) c →
         IsOf about (shown claim d.verdict) d →
-        certificate_lines (shown claim c.verdict) c.root c.verdict ≡ certificate_lines (shown claim d.verdict) d.root d.verdict →
+        lines_about about (shown claim c.verdict) c ≡ lines_about about (shown claim d.verdict) d →
         certificate_value c ≡ certificate_value d }
 {}
 
@@ -33,9 +33,9 @@ pub fn same_lines_of_one_claim()
 pub fn written_is_read()
     ensures read { (system : CaseSystem) (claim : Claim) (c : Certificate) →
         IsOf (about_with system) (shown claim c.verdict) c →
-        IsCertificateText system claim (all_spelled (certificate_lines (shown claim c.verdict) c.root c.verdict)) c }
+        IsCertificateText system claim (all_spelled (lines_about (about_with system) (shown claim c.verdict) c)) c }
     ensures equal { (system : CaseSystem) (claim : Claim) (c d : Certificate) →
         IsOf (about_with system) (shown claim c.verdict) c →
-        IsCertificateText system claim (all_spelled (certificate_lines (shown claim c.verdict) c.root c.verdict)) d →
+        IsCertificateText system claim (all_spelled (lines_about (about_with system) (shown claim c.verdict) c)) d →
         certificate_value d ≡ certificate_value c }
 {}

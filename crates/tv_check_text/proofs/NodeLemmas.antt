@@ -20,12 +20,11 @@ use Rattle.tv_cert.specs.Shapes.{IsSaid, may_be_done, may_rank, NodeShape}
 use Rattle.tv_cert.proofs.NodeLemmas.{kids_of, proofs_list, sizes_list, size_is, length-paired}
 use Rattle.tv_cert.proofs.EntryLists.{listed_entries, node_entries_are, own_entries_are}
 use Rattle.tv_shape.proofs.NumberLemmas.{renumbered, own_renumbered}
-use Rattle.tv_cert_reader.specs.CertificateLines.{proof_lines}
+use Rattle.tv_cert_reader.specs.CertificateLines.{proof_lines, node_lines}
 use Rattle.tv_cert_reader.specs.Demands.{demand_of}
 use Rattle.tv_cert_reader.specs.ChoiceGrammar.{demanded}
 use Rattle.tv_cert_reader.specs.LineGrammar.{kind_of}
 use Rattle.tv_cert_reader.specs.NodeGrammar.{node}
-use Rattle.tv_cert_reader.specs.Shaped.{stated_lines}
 use Rattle.tv_cert_reader.proofs.CompleteWanted.{demands_same}
 use Rattle.tv_cert_reader.specs.declared.cursor.Cursor.{Cursor}
 use Rattle.tv_cert_reader.specs.declared.failure.Failure.{Failure}
@@ -94,7 +93,7 @@ kids_long system no_statement (a ∷ kids) h = absurd h
 kids_long system (statement s ss) (a ∷ kids) h =
     let one = ap length (stated_is system s a) in
     let rest = kids_long system ss kids h.1 in
-    let e = length-append (stated_lines s a) (nodes_lines ss kids) in
+    let e = length-append (node_lines s a) (nodes_lines ss kids) in
     omega (arith, one, rest, e)
 
 module _ (system : CaseSystem) (s : Statement) (old now : Judge) (ps : List Marked) (m : ℕ) (heads : List Node) (h : Stands system s old now ps m heads) where
@@ -116,7 +115,7 @@ module _ (system : CaseSystem) (s : Statement) (old now : Judge) (ps : List Mark
       record {
         kids = h.kids ++ b ∷ [];
         opened = opened_next system s old.cursor now.cursor new.cursor ps m h.kids (h.kids ++ b ∷ []) b h.opened few_kids
-            (subst (λ p. NodeShape system p b) part k.is_node) (subst (λ p. Takes (stated_lines p b) now.cursor new.cursor) part k.took) refl;
+            (subst (λ p. NodeShape system p b) part k.is_node) (subst (λ p. Takes (node_lines p b) now.cursor new.cursor) part k.took) refl;
         pieces = ap (map pieces_list) is ∙ map-append pieces_list heads (a ∷ []) ∙ (λ i. h.pieces i ++ k.pieces i ∷ []) ∙ sym (map-append pieces_list h.kids (b ∷ []));
         nodes = (let z = sizes_next h.kids b in let x = h.nodes in let y = k.nodes in omega (arith, x, y, z));
         seen = (let x = h.seen in let y = k.seen in let e = ap length own in let n = ap length next in omega (arith, x, y, e, n, length-append before (node_entries (old.nodes + 1 + sizes_list h.kids) system (part_at (length h.kids) (parts_of s)) b)));
@@ -199,7 +198,7 @@ module _ (system : CaseSystem) (s : Statement) (old now new : Judge) (ps : List 
   offered : AreProofsOf (node_owes 0 system s ps (map pieces_list h.kids)) own.proofs
   offered = are_renumbered old.nodes (node_owes 0 system s ps (map pieces_list h.kids)) own.proofs (subst (λ os. AreProofsOf os own.proofs) (owed_there ∙ own_renumbered old.nodes system s ps (map pieces_list h.kids)) own.are)
 
-  built : NodeShape system s whole × Takes (stated_lines s whole) old.cursor new.cursor
+  built : NodeShape system s whole × Takes (node_lines s whole) old.cursor new.cursor
   built = node_built system s old.cursor now.cursor new.cursor ps m kids shown said h.opened (sym (as_many system s old now ps m heads.items h) ∙ many) offered own.took
 
   kids_there : kids_of whole ≡ h.kids

@@ -13,9 +13,8 @@ use Rattle.tv_grammar.specs.Langs.{each}
 use Rattle.tv_cert.specs.Obligations.{Obligation, Entry, paired}
 use Rattle.tv_cert.specs.Visits.{Passed, none, one, Stopped}
 use Rattle.tv_cert_reader.specs.CertificateLines.{proof_lines}
-use Rattle.tv_cert_reader.specs.Demands.{demand_of}
+use Rattle.tv_cert_reader.specs.Demands.{demand_of, IsDrawFree}
 use Rattle.tv_cert_reader.specs.ChoiceGrammar.{demanded}
-use Rattle.tv_cert_reader.specs.Shaped.{IsDrawFree}
 use Rattle.tv_cert_reader.specs.declared.failure.Failure.{Failure}
 use Rattle.tv_cert_reader.specs.declared.failure.Failure.TheVariants.{Fault, Memory}
 use Rattle.tv_cert_reader.specs.Reading.{FaultAt, FailsBy}

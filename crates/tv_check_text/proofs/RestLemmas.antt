@@ -24,8 +24,7 @@ use Rattle.tv_cert.specs.Statements.{Statement}
 use Rattle.tv_cert.specs.Targets.{owed_into, no_fall}
 use Rattle.tv_cert.proofs.NodeLemmas.{pieces_are}
 use Rattle.tv_check.specs.Roots.{AreOver}
-use Rattle.tv_cert_reader.specs.CertificateLines.{cover_lines}
-use Rattle.tv_cert_reader.specs.Shaped.{stated_lines}
+use Rattle.tv_cert_reader.specs.CertificateLines.{cover_lines, node_lines}
 use Rattle.tv_cert_reader.specs.declared.cursor.Cursor.{Cursor}
 use Rattle.tv_cert_reader.specs.Reading.{Takes}
 use Rattle.tv_cert_reader.specs.Covers.{IsCoverWithin}
@@ -96,7 +95,7 @@ module _ (system : CaseSystem) (s : Statement) (old mid : Judge) (fresh : IsFres
             root_is = h.is_node;
             said = refl;
             verdict_is = subst (λ ps. IsCoverWithin system.variables (start_counts system ps) 0 128 start.tree) h.pieces start.within;
-            lines = h.took.lines ∙ ap (λ ls. stated_lines s h.node ++ ls) (start.took.lines ∙ ap (λ ls. cover_lines start.tree ++ ls) (off.lines ∙ ap (λ ls. formed heads.End [] ∷ ls) none));
+            lines = h.took.lines ∙ ap (λ ls. node_lines s h.node ++ ls) (start.took.lines ∙ ap (λ ls. cover_lines start.tree ++ ls) (off.lines ∙ ap (λ ls. formed heads.End [] ∷ ls) none));
           };
           at_values = refl;
           seen = all_seen verdict;
@@ -116,7 +115,7 @@ module _ (system : CaseSystem) (s : Statement) (old mid : Judge) (fresh : IsFres
             root_is = h.is_node;
             said = refl;
             verdict_is = (are.many, subst (λ ps. IsSome (slice_get (pieces_at ps system.start) place)) h.pieces there);
-            lines = h.took.lines ∙ ap (λ ls. stated_lines s h.node ++ ls) (took.lines ∙ ap (λ ls. formed heads.At (pos place ∷ values.items) ∷ ls) (off.lines ∙ ap (λ ls. formed heads.End [] ∷ ls) none));
+            lines = h.took.lines ∙ ap (λ ls. node_lines s h.node ++ ls) (took.lines ∙ ap (λ ls. formed heads.At (pos place ∷ values.items) ∷ ls) (off.lines ∙ ap (λ ls. formed heads.End [] ∷ ls) none));
           };
           at_values = refl;
           seen = all_seen verdict;

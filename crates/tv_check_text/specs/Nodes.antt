@@ -7,7 +7,7 @@ use Rattle.tv_cert.specs.Nodes.{size, node_entries}
 use Rattle.tv_cert.specs.Statements.{Statement}
 use Rattle.tv_cert.specs.Shapes.{NodeShape}
 use Rattle.tv_cert_reader.specs.NodeGrammar.{node}
-use Rattle.tv_cert_reader.specs.Shaped.{stated_lines}
+use Rattle.tv_cert_reader.specs.CertificateLines.{node_lines}
 use Rattle.tv_cert_reader.specs.declared.failure.Failure.{Failure}
 use Rattle.tv_cert_reader.specs.Reading.{Takes, FailsBy}
 use Rattle.tv_check_text.specs.declared.judge.Judge.{Judge}
@@ -18,7 +18,7 @@ use Rattle.tv_check_text.specs.Visits.{IsCounted}
 pub record IsJudgedNode (system : CaseSystem) (s : Statement) (old new : Judge) (head : Node) : Type 0 where
   pub node : Node
   pub is_node : NodeShape system s node
-  pub took : Takes (stated_lines s node) old.cursor new.cursor
+  pub took : Takes (node_lines s node) old.cursor new.cursor
   pub pieces : pieces_list head ≡ pieces_list node
   pub nodes : new.nodes ≡ old.nodes + size node
   pub seen : new.seen ≡ old.seen + length (node_entries old.nodes system s node)

@@ -11,7 +11,7 @@ use Rattle.tv_cert_reader.specs.Nodes.{ReadsNode}
 use Rattle.tv_cert_reader.specs.Proofs.{ReadsProofs, AreProofsOf}
 use Rattle.tv_cert_reader.specs.Reading.{FailsBy, Takes}
 use Rattle.tv_cert_reader.specs.Regions.{region_with}
-use Rattle.tv_cert_reader.specs.Shaped.{stated_lines}
+use Rattle.tv_cert_reader.specs.CertificateLines.{node_lines}
 use Rattle.tv_cert_reader.proofs.ReadingLemmas.{at_exit}
 use Rattle.tv_cert_reader.proofs.NodeLemmas.{Opened, weight, part_lighter, region_fails, child_fails, opened_next, proofs_fail, node_built, few_pieces, pieces_in_node}
 use Rattle.tv_cert_reader.proofs.context.Context.+node.Goals as goal
@@ -52,7 +52,7 @@ children-preserved t c =
     let long = ap length c.in_ok-push.ensures.items ∙ length-append c.children.children.items (c.in_ok-child.child ∷ []) in (
       opened_next system s c.args.cursor.now c.children.cursor c.node.new.cursor c.pieces.inside.list.items c.in_ok-pieces.ranks c.children.children.items c.push.new.self.items c.in_ok-child.child o.0 few
           (subst (λ p. NodeShape system p c.in_ok-child.child) part c.in_ok-child.ensures.read.0)
-          (subst (λ p. Takes (stated_lines p c.in_ok-child.child) c.children.cursor c.node.new.cursor) part c.in_ok-child.ensures.read.1)
+          (subst (λ p. Takes (node_lines p c.in_ok-child.child) c.children.cursor c.node.new.cursor) part c.in_ok-child.ensures.read.1)
           c.in_ok-push.ensures.items,
       (let n = o.1 in omega (arith, long, n)),
       (let n = o.1 in omega (arith, few, n)),

@@ -1,8 +1,7 @@
-use Rattle.std.proofs.Common.{◌≡◌, ◌↔◌, ◌++◌, ◌∷◌, [], IsTrue, suc, arith, ap, sym, ◌∙◌, subst, get_or, slice_get}
+use Rattle.std.proofs.Common.{◌≡◌, suc, arith, ap, ◌∙◌, subst, get_or, slice_get}
 use Rattle.std.specs.Prelude.{Some, pos}
-use Rattle.tv_linear.specs.Known.{given, denied, less}
+use Rattle.tv_linear.specs.Known.{given, less}
 use Rattle.tv_linear.specs.Falls.{zero_row}
-use Rattle.tv_linear.specs.Refutation.{Refutes}
 use Rattle.tv_refute.specs.Built.{change_of}
 use Rattle.tv_refute.specs.Frames.{known_at}
 use Rattle.tv_linear.specs.Views.{row_seen, rows_seen}
