@@ -25,6 +25,8 @@ LOOPS = ("START: 0; FROM: 0; assume(x > 0); x := x - 1; TO: 0; FROM: 0; assume(x
 LIFT = ("START: idle; FROM: idle; way := nondet(); TO: moving; FROM: moving; assume(way > 0 && floor < 9); floor := floor + 1; TO: moving; "
         "FROM: moving; assume(way <= 0 && floor > 0); floor := floor - 1; TO: moving; FROM: moving; assume(way > 0 && floor >= 9); TO: open; "
         "FROM: moving; assume(way <= 0 && floor <= 0); TO: open; FROM: open; TO: idle;")
+TOWARDS = open("examples/towards.t2").read()
+MEETING = "START: 0; FROM: 0; i := 0; TO: 1; FROM: 1; assume(i != n && n >= 0); i := i + 1; TO: 1;"
 ENDING = "START: 0; FROM: 0; assume(x > 0); x := x + y; y := y - 1; TO: 0; FROM: 0; assume(x <= 0); TO: 1;"
 CHAIN = "START: 0; " + " ".join(f"FROM: {here}; assume(x > 0); x := x - 1; TO: {here}; FROM: {here}; assume(x <= 0); x := y; TO: {here + 1};"
                                 for here in range(10))
@@ -34,6 +36,8 @@ QUESTIONS = [
     ("doubles or resets", "START: 0; FROM: 0; assume(x < 5); x := 2*x; TO: 0; FROM: 0; assume(x >= 5); x := 1; TO: 0;", ["--termination"]),
     ("hands back and forth", "START: 0; FROM: 0; TO: 1; FROM: 1; n := n + 1; TO: 0;", ["--termination"]),
     ("a draw keeps it alive", "START: 0; FROM: 0; assume(x > 0); x := nondet(); TO: 0;", ["--termination"]),
+    ("towards 0 from either side", TOWARDS, ["--termination"]),
+    ("counts until it meets a number", MEETING, ["--termination"]),
     ("after 12 steps", COUNTED.format(10), ["--safety", "2"]),
     ("after 40 steps", COUNTED.format(38), ["--safety", "2"]),
     ("after 60 steps", COUNTED.format(58), ["--safety", "2"]),

@@ -64,6 +64,26 @@ fn ranks_are_found_under_rows_that_hold(rt: HostRuntime) {
     expect_said(&rt, rt.alloc(), UNDER_ROWS);
 }
 
+/// Goes towards 0 from either side, so that the rank of one side grows on the other.
+const TOWARDS: &str =
+    "START: 0; FROM: 0; assume(x > 0); x := x - 1; TO: 0; FROM: 0; assume(x < 0); x := x + 1; TO: 0;";
+
+/// Counts from 0 until it meets a number, which it would miss from above.
+const MEETING: &str =
+    "START: 0; FROM: 0; i := 0; TO: 1; FROM: 1; assume(i != n && n >= 0); i := i + 1; TO: 1;";
+
+/// Programs all of whose runs are shown to end by ranks of parts of their locations.
+const IN_PARTS: &[Asked] = &[
+    (TERMINATION, &[TOWARDS], PROVED, Status::Proved),
+    (TERMINATION, &[MEETING], PROVED, Status::Proved),
+];
+
+#[test]
+fn ranks_are_found_where_guards_split(rt: HostRuntime) {
+    expect_said(&rt, rt.alloc(), IN_PARTS);
+    expect_shown(&rt, rt.alloc(), IN_PARTS);
+}
+
 /// Programs of which it is not known, and why.
 const STUCK: &[Asked] = &[
     (
