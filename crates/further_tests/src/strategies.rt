@@ -52,6 +52,10 @@ const DIRECTED: &str =
 const FALLING: &str =
     "START: 0; FROM: 0; assume(x > 0); x := x + y; y := y - 1; TO: 0; FROM: 0; assume(x <= 0); TO: 1; FROM: 1; TO: 1;";
 
+/// A lock for which others may begin to wait at any time; when it is given back, one of them goes.
+const WAITERS: &str =
+    "START: free; FROM: free; w := w + 1; TO: free; FROM: free; TO: held; FROM: held; w := w + 1; TO: held; FROM: held; assume(w > 0); w := w - 1; TO: free; FROM: held; assume(w <= 0); TO: free;";
+
 /// Nine loops, one after the other.
 const LOOPS: &str =
     "START: 0; FROM: 0; assume(x > 0); x := x - 1; TO: 0; FROM: 0; assume(x <= 0); x := y; TO: 1; \
@@ -170,6 +174,14 @@ const PARTED: &[(&str, &str, Said)] = &[
     (LOOPS, "[EF](at(9))", Said::Proved),
 ];
 
+/// The same of a number that falls over several areas in turn.
+const WAITING: &[(&str, &str, Said)] = &[
+    (WAITERS, "[EF](w == 10)", Said::Proved),
+    (WAITERS, "[AG]([EF](w == 0))", Said::Proved),
+    (FALLING, "[EF](at(1))", Said::Proved),
+    (FALLING, "[AG](at(1) || [EF](at(1)))", Said::Proved),
+];
+
 /// Compares what is said of each row.
 fn all_are_said(rt: &HostRuntime, rows: &[(&str, &str, Said)]) -> Result<(), Fail> {
     for (program, property, wanted) in rows {
@@ -209,4 +221,9 @@ fn every_path_comes_to_the_end(rt: HostRuntime) -> Result<(), Fail> {
 #[test]
 fn every_path_leaves_loops_that_are_parted(rt: HostRuntime) -> Result<(), Fail> {
     all_are_said(&rt, PARTED)
+}
+
+#[test]
+fn waiters_are_served(rt: HostRuntime) -> Result<(), Fail> {
+    all_are_said(&rt, WAITING)
 }
