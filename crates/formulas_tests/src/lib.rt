@@ -6,8 +6,6 @@ mod answers;
 #[cfg(test)]
 mod claims;
 #[cfg(test)]
-mod laws;
-#[cfg(test)]
 mod nodes;
 #[cfg(test)]
 mod programs;
