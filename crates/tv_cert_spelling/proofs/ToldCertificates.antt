@@ -70,11 +70,11 @@ same_certificate about f c d h g e =
 -- ---- certificates of what is claimed
 
 -- the second line says whether it is of the property or of its negation
-same_shown : (claim : Claim) (s t : Statement) (a b : Node) (v w : Verdict) → certificate_lines s a v ≡ certificate_lines t b w → shown claim v ≡ shown claim w
-same_shown claim s t a b (Proved t) (Proved u) e = refl
-same_shown claim s t a b (Proved t) (Disproved j ws) e = other_head heads.Proved heads.Disproved _ _ _ _ (λ n. cc) (same_tail _ _ _ _ e)
-same_shown claim s t a b (Disproved k vs) (Proved u) e = other_head heads.Disproved heads.Proved _ _ _ _ (λ n. cc) (same_tail _ _ _ _ e)
-same_shown claim s t a b (Disproved k vs) (Disproved j ws) e = refl
+same_shown : (claim : Claim) (first second : Statement) (a b : Node) (v w : Verdict) → certificate_lines first a v ≡ certificate_lines second b w → shown claim v ≡ shown claim w
+same_shown claim first second a b (Proved t) (Proved u) e = refl
+same_shown claim first second a b (Proved t) (Disproved j ws) e = other_head heads.Proved heads.Disproved _ _ _ _ (λ n. cc) (same_tail _ _ _ _ e)
+same_shown claim first second a b (Disproved k vs) (Proved u) e = other_head heads.Disproved heads.Proved _ _ _ _ (λ n. cc) (same_tail _ _ _ _ e)
+same_shown claim first second a b (Disproved k vs) (Disproved j ws) e = refl
 
 pub same_claimed : (about : About) (claim : Claim) (c d : Certificate) → IsOf about (shown claim c.verdict) c → IsOf about (shown claim d.verdict) d → lines_about about (shown claim c.verdict) c ≡ lines_about about (shown claim d.verdict) d → certificate_value c ≡ certificate_value d
 same_claimed about claim c d h g e =
