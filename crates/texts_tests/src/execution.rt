@@ -2,12 +2,12 @@ ghost use Rattle.std.specs.Prelude.{◌≡◌, ◌<◌, IsTrue, length};
 ghost use Rattle.tv_exec.specs.Execution.{draws_of};
 ghost use Rattle.tv_program.specs.Programs.{system_of};
 
-use crate::texts::{joined, program_of};
+use crate::texts::{joined, read};
 use std::alloc::Global;
-use std::test::Fail;
 use tv_exec::ExecFault::{Blocked, Memory, Wide};
 use tv_exec::{ExecFault, exec_values};
 use tv_program::Program;
+use tv_reader::ReadFault;
 
 fn has_edge(program: &Program, edge: u32) -> bool
     ensures { IsTrue result → edge < length (system_of program.now).edges }
@@ -42,35 +42,43 @@ fn after(alloc: Global, program: &Program, edge: u32, value: i128) -> Result<i12
     Ok(values.first().copied().unwrap_or(0))
 }
 
-/// What an edge does that assumes x == x and then goes on with these commands.
-fn outcome(alloc: Global, commands: &str, value: i128) -> Result<Result<i128, ExecFault>, Fail> {
-    let text = joined(
-        alloc,
-        "START: 0; FROM: 0; assume(x == x); ",
-        commands,
-        " TO: 0;",
-    )?;
-    let program = program_of(alloc, &text)?;
-    Ok(after(alloc, &program, 0, value))
+/// An edge that assumes x == x and then goes on with these commands.
+fn program_with(alloc: Global, commands: &str) -> Result<Program, ReadFault> {
+    let front = "START: 0; FROM: 0; assume(x == x); ";
+    let text = joined(alloc, front, commands, " TO: 0;")?;
+    read(alloc, &text)
 }
 
-#[test]
-fn counts_down_while_positive(rt: HostRuntime) -> Result<(), Fail> {
-    let text = b"START: 0; FROM: 0; TO: 1; FROM: 1; assume(x > 0); x := x - 1; TO: 1;".as_slice();
-    let program = program_of(rt.alloc(), text)?;
-    for (edge, value, want) in [
-        (0, 3, Ok(3)),
-        (1, 3, Ok(2)),
-        (1, 1, Ok(0)),
-        (1, 0, Err(Blocked)),
-    ] {
-        assert_eq!(rt;
-            after(rt.alloc(), &program, edge, value),
-            want,
-            "{edge} {value}"
-        );
+/// What an edge does that assumes x == x and then goes on with these commands.
+fn outcome(alloc: Global, commands: &str, value: i128) -> Result<i128, ExecFault> {
+    match program_with(alloc, commands) {
+        Ok(program) => after(alloc, &program, 0, value),
+        Err(_) => Err(Memory),
     }
-    Ok(())
+}
+
+/// What the edges of a countdown do.
+fn counted(alloc: Global, edge: u32, value: i128) -> Result<i128, ExecFault> {
+    let text = b"START: 0; FROM: 0; TO: 1; FROM: 1; assume(x > 0); x := x - 1; TO: 1;".as_slice();
+    match read(alloc, text) {
+        Ok(program) => after(alloc, &program, edge, value),
+        Err(_) => Err(Memory),
+    }
+}
+
+// An edge, a value of x, and the value after the edge or why there is none.
+const COUNTED: [(u32, i128, Result<i128, ExecFault>); 4] = [
+    (0, 3, Ok(3)),
+    (1, 3, Ok(2)),
+    (1, 1, Ok(0)),
+    (1, 0, Err(Blocked)),
+];
+
+#[test]
+fn counts_down_while_positive(rt: HostRuntime) {
+    for (edge, value, want) in COUNTED {
+        assert!(rt; counted(rt.alloc(), edge, value) == want, "{edge} {value}");
+    }
 }
 
 const LEAST: i128 = i128::MIN;
@@ -98,11 +106,10 @@ const OUTCOMES: [(&str, i128, Result<i128, ExecFault>); 14] = [
 ];
 
 #[test]
-fn stops_where_a_value_leaves_128_bits(rt: HostRuntime) -> Result<(), Fail> {
+fn stops_where_a_value_leaves_128_bits(rt: HostRuntime) {
     for (commands, value, want) in OUTCOMES {
-        assert_eq!(rt; outcome(rt.alloc(), commands, value)?, want, "{commands}");
+        assert!(rt; outcome(rt.alloc(), commands, value) == want, "{commands}");
     }
-    Ok(())
 }
 
 // Two opposite assumptions on x and a draw, which is 5, and whether the first one holds where x is -5, 5 and 6.
@@ -156,20 +163,18 @@ fn passed(holds: bool, value: i128) -> Result<i128, ExecFault> {
     if holds { Ok(value) } else { Err(Blocked) }
 }
 
+/// Whether a relation of x and the draw holds or not at this value, and its opposite not or does.
+fn is_passed(alloc: Global, relation: &str, opposite: &str, value: i128, holds: bool) -> bool {
+    outcome(alloc, relation, value) == passed(holds, value)
+        && outcome(alloc, opposite, value) == passed(!holds, value)
+}
+
 #[test]
-fn each_relation_compares(rt: HostRuntime) -> Result<(), Fail> {
+fn each_relation_compares(rt: HostRuntime) {
     for (relation, opposite, at_less, at_equal, at_greater) in RELATIONS {
-        for (value, holds) in [(-5, at_less), (5, at_equal), (6, at_greater)] {
-            let outcomes = (
-                outcome(rt.alloc(), relation, value)?,
-                outcome(rt.alloc(), opposite, value)?,
-            );
-            assert_eq!(rt;
-                outcomes,
-                (passed(holds, value), passed(!holds, value)),
-                "{relation}"
-            );
-        }
+        let is_less = is_passed(rt.alloc(), relation, opposite, -5, at_less);
+        let is_equal = is_passed(rt.alloc(), relation, opposite, 5, at_equal);
+        let is_greater = is_passed(rt.alloc(), relation, opposite, 6, at_greater);
+        assert!(rt; is_less && is_equal && is_greater, "{relation}");
     }
-    Ok(())
 }

@@ -55,19 +55,27 @@ fn are_alike(alloc: Global, first: &Program, second: &Program) -> Result<bool, F
     Ok(one.as_slice() == other.as_slice())
 }
 
+fn is_program_again(alloc: Global, text: &str) -> Result<bool, Fail> {
+    if text.len() >= 200 {
+        return Err(Fail::from("a long text"));
+    }
+    let (first, second) = program_again(alloc, text.as_bytes())?;
+    are_alike(alloc, &first, &second)
+}
+
+const PROGRAMS: &[&str] = &[
+    "START: 0; FROM: 0; TO: 1; FROM: 1; assume(x > 0); x := x - 1; TO: 1;",
+    "START: a; FROM: b; AT(1, x) y := ((2)) * -(x - -at); assume(!(y < nondet() && true)); TO: a;",
+    "START: 1; CUTPOINT: 4; FROM: 2; term := nondet() - nondet(); TO: 3;",
+    "START: 0; FROM: 0; assume(!(!!(x > 0)) && (true || y-1 != x)); TO: 0;",
+    "START: 0; FROM: 0; assume((a < b && (false && -a == 3)) || ((c >= (0)))); TO: 0;",
+];
+
 // What is written of a program is read again.
 #[test]
 fn programs_are_read_again(rt: HostRuntime) -> Result<(), Fail> {
-    for text in [
-        "START: 0; FROM: 0; TO: 1; FROM: 1; assume(x > 0); x := x - 1; TO: 1;",
-        "START: a; FROM: b; AT(1, x) y := ((2)) * -(x - -at); assume(!(y < nondet() && true)); TO: a;",
-        "START: 1; CUTPOINT: 4; FROM: 2; term := nondet() - nondet(); TO: 3;",
-        "START: 0; FROM: 0; assume(!(!!(x > 0)) && (true || y-1 != x)); TO: 0;",
-        "START: 0; FROM: 0; assume((a < b && (false && -a == 3)) || ((c >= (0)))); TO: 0;",
-    ] {
-        assert!(rt; text.len() < 200);
-        let (first, second) = program_again(rt.alloc(), text.as_bytes())?;
-        assert!(rt; are_alike(rt.alloc(), &first, &second)?, "{text}");
+    for text in PROGRAMS {
+        assert!(rt; is_program_again(rt.alloc(), text)?, "{text}");
     }
     Ok(())
 }
@@ -83,18 +91,24 @@ fn are_same(
     Ok(one.as_slice() == other.as_slice())
 }
 
+fn is_formula_again(alloc: Global, text: &str) -> Result<bool, Fail> {
+    let program = program_of(alloc, b"START: at; FROM: at; x := term; TO: 17;")?;
+    let (first, second) = formula_again(alloc, text.as_bytes(), &program)?;
+    are_same(alloc, &first, &second, &program)
+}
+
+const FORMULAS: &[&str] = &[
+    "!(!!term || (x) * 2 - -1 < 3 && at(17))",
+    "[AU](true)([EW](x == 0)(false))",
+    "[EM]([AG](true))([AF](((at(17)))))",
+    "(true && x >= -x) && ([AX](false) || [ER](x != 1)(term))",
+];
+
 // What is written of a formula is read again.
 #[test]
 fn formulas_are_read_again(rt: HostRuntime) -> Result<(), Fail> {
-    let program = program_of(rt.alloc(), b"START: at; FROM: at; x := term; TO: 17;")?;
-    for text in [
-        "!(!!term || (x) * 2 - -1 < 3 && at(17))",
-        "[AU](true)([EW](x == 0)(false))",
-        "[EM]([AG](true))([AF](((at(17)))))",
-        "(true && x >= -x) && ([AX](false) || [ER](x != 1)(term))",
-    ] {
-        let (first, second) = formula_again(rt.alloc(), text.as_bytes(), &program)?;
-        assert!(rt; are_same(rt.alloc(), &first, &second, &program)?, "{text}");
+    for text in FORMULAS {
+        assert!(rt; is_formula_again(rt.alloc(), text)?, "{text}");
     }
     Ok(())
 }

@@ -31,13 +31,23 @@ fn is_y(names: &Names) -> bool {
     }
 }
 
+fn are_copied(names: &Names) -> Result<bool, Fail> {
+    let copy = names.copy()?;
+    Ok(are_three(&copy) && is_y(&copy))
+}
+
+fn are_numbered(alloc: Global) -> Result<bool, Fail> {
+    let names = named(alloc)?;
+    Ok(are_three(&names) && is_y(&names) && are_copied(&names)?)
+}
+
+fn is_empty_at_first(alloc: Global) -> bool {
+    Names::new(alloc).is_empty()
+}
+
 #[test]
 fn texts_are_numbered_in_the_order_first_seen(rt: HostRuntime) -> Result<(), Fail> {
-    assert!(rt; Names::new(rt.alloc()).is_empty());
-    let names = named(rt.alloc())?;
-    assert!(rt; are_three(&names) && is_y(&names));
-    let copy = names.copy()?;
-    assert!(rt; are_three(&copy) && is_y(&copy));
+    assert!(rt; is_empty_at_first(rt.alloc()) && are_numbered(rt.alloc())?);
     Ok(())
 }
 

@@ -1,6 +1,5 @@
-use crate::texts::{program_of, read};
+use crate::texts::read;
 use std::alloc::{AllocError, Global};
-use std::test::Fail;
 use tv_program::Program;
 use tv_reader::{ReadFault, What};
 
@@ -102,11 +101,20 @@ fn has_draws(program: &Program) -> bool {
     program.edges().len() == 17
 }
 
+fn is_of_the_file(program: &Program) -> bool {
+    has_variables(program) && has_locations(program) && has_draws(program)
+}
+
+fn is_file_read(alloc: Global) -> bool {
+    match read(alloc, FILE.as_bytes()) {
+        Ok(program) => is_of_the_file(&program),
+        Err(_) => false,
+    }
+}
+
 #[test]
-fn reads_a_file(rt: HostRuntime) -> Result<(), Fail> {
-    let program = program_of(rt.alloc(), FILE.as_bytes())?;
-    assert!(rt; has_variables(&program) && has_locations(&program) && has_draws(&program));
-    Ok(())
+fn reads_a_file(rt: HostRuntime) {
+    assert!(rt; is_file_read(rt.alloc()));
 }
 
 fn has_labels(program: &Program) -> bool {
@@ -127,108 +135,114 @@ fn goes_around(program: &Program) -> bool {
     }
 }
 
+fn is_start_first(alloc: Global) -> bool {
+    let text = b"FROM: a; x := 1; TO: b; FROM: b; TO: c; START: c;".as_slice();
+    match read(alloc, text) {
+        Ok(program) => has_labels(&program) && goes_around(&program),
+        Err(_) => false,
+    }
+}
+
 // START stands last, and its label is number 0.
 #[test]
-fn numbers_the_start_first(rt: HostRuntime) -> Result<(), Fail> {
-    let text = b"FROM: a; x := 1; TO: b; FROM: b; TO: c; START: c;".as_slice();
-    let program = program_of(rt.alloc(), text)?;
-    assert!(rt; has_labels(&program) && goes_around(&program));
-    Ok(())
+fn numbers_the_start_first(rt: HostRuntime) {
+    assert!(rt; is_start_first(rt.alloc()));
 }
 
 // A text and its first fault.
+const FAULTS: &[(&str, Option<ReadFault>)] = &[
+    ("START: 0;", None),
+    (
+        "START: 0; START: 0",
+        Some(ReadFault::TwoStarts {
+            line: 1,
+            column: 11,
+        }),
+    ),
+    ("START 0;", Some(ReadFault::Syntax { line: 1, column: 7 })),
+    ("", Some(ReadFault::NoStart)),
+    ("FROM: 0; TO: 0;", Some(ReadFault::NoStart)),
+    (
+        "START: 0; FROM: 0; assume(x",
+        Some(ReadFault::Syntax {
+            line: 1,
+            column: 28,
+        }),
+    ),
+    (
+        "START: 0; FROM: 0; TO: 1; FROM: 1; assume(x > 0); x := x * y; TO: 1;",
+        Some(ReadFault::NotLinear {
+            line: 1,
+            column: 60,
+        }),
+    ),
+    (
+        "START: 0; FROM: 0; assume(x > 4611686018427387904); TO: 0;",
+        Some(ReadFault::Wide {
+            line: 1,
+            column: 31,
+        }),
+    ),
+    (
+        "START: 4611686018427387904;",
+        Some(ReadFault::Wide { line: 1, column: 8 }),
+    ),
+    (
+        "START 4611686018427387904;",
+        Some(ReadFault::Syntax { line: 1, column: 7 }),
+    ),
+    (
+        "START: 0;\nSTART: 0;",
+        Some(ReadFault::TwoStarts { line: 2, column: 1 }),
+    ),
+    (
+        "START: 0;\r\nFROM 0; ?",
+        Some(ReadFault::Syntax { line: 2, column: 6 }),
+    ),
+    (
+        "START: 0; ; ",
+        Some(ReadFault::Syntax {
+            line: 1,
+            column: 11,
+        }),
+    ),
+    ("START: 0; AT(1); ERROR: ; AT(2)", None),
+    (
+        "START: 0; /* open",
+        Some(ReadFault::Syntax {
+            line: 1,
+            column: 11,
+        }),
+    ),
+    (
+        "START: 0; FROM: 0; x := 1; TO: 1",
+        Some(ReadFault::Syntax {
+            line: 1,
+            column: 33,
+        }),
+    ),
+    (
+        "START: 0; FROM: 0; TO: 1; TO: 2;",
+        Some(ReadFault::Syntax {
+            line: 1,
+            column: 27,
+        }),
+    ),
+    ("START: TO;", Some(ReadFault::Syntax { line: 1, column: 8 })),
+    (
+        "START: 0; FROM: 0; true := 1; TO: 1;",
+        Some(ReadFault::Syntax {
+            line: 1,
+            column: 20,
+        }),
+    ),
+];
+
 #[test]
-fn tells_the_first_fault(rt: HostRuntime) -> Result<(), Fail> {
-    for (text, fault) in [
-        ("START: 0;", None),
-        (
-            "START: 0; START: 0",
-            Some(ReadFault::TwoStarts {
-                line: 1,
-                column: 11,
-            }),
-        ),
-        ("START 0;", Some(ReadFault::Syntax { line: 1, column: 7 })),
-        ("", Some(ReadFault::NoStart)),
-        ("FROM: 0; TO: 0;", Some(ReadFault::NoStart)),
-        (
-            "START: 0; FROM: 0; assume(x",
-            Some(ReadFault::Syntax {
-                line: 1,
-                column: 28,
-            }),
-        ),
-        (
-            "START: 0; FROM: 0; TO: 1; FROM: 1; assume(x > 0); x := x * y; TO: 1;",
-            Some(ReadFault::NotLinear {
-                line: 1,
-                column: 60,
-            }),
-        ),
-        (
-            "START: 0; FROM: 0; assume(x > 4611686018427387904); TO: 0;",
-            Some(ReadFault::Wide {
-                line: 1,
-                column: 31,
-            }),
-        ),
-        (
-            "START: 4611686018427387904;",
-            Some(ReadFault::Wide { line: 1, column: 8 }),
-        ),
-        (
-            "START 4611686018427387904;",
-            Some(ReadFault::Syntax { line: 1, column: 7 }),
-        ),
-        (
-            "START: 0;\nSTART: 0;",
-            Some(ReadFault::TwoStarts { line: 2, column: 1 }),
-        ),
-        (
-            "START: 0;\r\nFROM 0; ?",
-            Some(ReadFault::Syntax { line: 2, column: 6 }),
-        ),
-        (
-            "START: 0; ; ",
-            Some(ReadFault::Syntax {
-                line: 1,
-                column: 11,
-            }),
-        ),
-        ("START: 0; AT(1); ERROR: ; AT(2)", None),
-        (
-            "START: 0; /* open",
-            Some(ReadFault::Syntax {
-                line: 1,
-                column: 11,
-            }),
-        ),
-        (
-            "START: 0; FROM: 0; x := 1; TO: 1",
-            Some(ReadFault::Syntax {
-                line: 1,
-                column: 33,
-            }),
-        ),
-        (
-            "START: 0; FROM: 0; TO: 1; TO: 2;",
-            Some(ReadFault::Syntax {
-                line: 1,
-                column: 27,
-            }),
-        ),
-        ("START: TO;", Some(ReadFault::Syntax { line: 1, column: 8 })),
-        (
-            "START: 0; FROM: 0; true := 1; TO: 1;",
-            Some(ReadFault::Syntax {
-                line: 1,
-                column: 20,
-            }),
-        ),
-    ] {
-        assert_eq!(rt; fault_of(rt.alloc(), text.as_bytes()), fault, "{text:?}");
+fn tells_the_first_fault(rt: HostRuntime) {
+    for (text, fault) in FAULTS {
+        assert!(rt; fault_of(rt.alloc(), text.as_bytes()) == *fault, "{text:?}");
     }
-    Ok(())
 }
 
 /// The fault of a text with so many parts.
@@ -280,39 +294,41 @@ const LIMITS: [(&str, &str, u32, &str, What, u32); 4] = [
 ];
 
 #[test]
-fn keeps_the_limits(rt: HostRuntime) -> Result<(), Fail> {
+fn keeps_the_limits(rt: HostRuntime) {
     for (front, part, most, end, _, _) in LIMITS {
-        let fault = fault_at(rt.alloc(), front, part, most, end)?;
-        assert_eq!(rt; fault, None, "{front} {part}");
+        let fault = fault_at(rt.alloc(), front, part, most, end);
+        assert!(rt; fault == Ok(None), "{front} {part}");
     }
-    Ok(())
 }
 
 #[test]
-fn tells_where_a_limit_is_passed(rt: HostRuntime) -> Result<(), Fail> {
+fn tells_where_a_limit_is_passed(rt: HostRuntime) {
     for (front, part, most, end, what, column) in LIMITS {
-        let fault = fault_at(rt.alloc(), front, part, most + 1, end)?;
         let line = 1;
-        assert_eq!(rt;
-            fault,
-            Some(ReadFault::TooMany { what, line, column }),
-            "{front} {part}"
-        );
+        let wanted = ReadFault::TooMany { what, line, column };
+        let fault = fault_at(rt.alloc(), front, part, most + 1, end);
+        assert!(rt; fault == Ok(Some(wanted)), "{front} {part}");
     }
-    Ok(())
 }
 
-// Each byte that no token can hold, at the front and behind a START.
+fn begins_no_token(byte: u8) -> bool {
+    !byte.is_ascii_alphanumeric() && !b" \t\r\n\x0c_:;()[]+-*<>!".contains(&byte)
+}
+
+/// The fault of a text with this byte behind a START.
+fn fault_behind(alloc: Global, byte: u8) -> Result<Option<ReadFault>, AllocError> {
+    let mut text = b"START: 0;\n ".as_slice().to_vec(alloc)?;
+    text.push(byte)?;
+    Ok(fault_of(alloc, &text))
+}
+
+// Each byte that no token can hold, behind a START.
 #[test]
-fn refuses_bytes_that_no_token_holds(rt: HostRuntime) -> Result<(), Fail> {
+fn refuses_bytes_that_no_token_holds(rt: HostRuntime) {
     for byte in 0..=255u8 {
-        let known = byte.is_ascii_alphanumeric() || b" \t\r\n\x0c_:;()[]+-*<>!".contains(&byte);
-        if !known {
-            let mut text = b"START: 0;\n ".as_slice().to_vec(rt.alloc())?;
-            text.push(byte)?;
+        if begins_no_token(byte) {
             let fault = ReadFault::Syntax { line: 2, column: 2 };
-            assert_eq!(rt; fault_of(rt.alloc(), &text), Some(fault), "{byte}");
+            assert!(rt; fault_behind(rt.alloc(), byte) == Ok(Some(fault)), "{byte}");
         }
     }
-    Ok(())
 }

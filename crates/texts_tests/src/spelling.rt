@@ -4,10 +4,11 @@ ghost use Rattle.tv_program.specs.Trees.{compare, no_part, part};
 ghost use Rattle.tv_program.specs.Views.{condition, expression};
 ghost use Rattle.tv_program.specs.declared.tree.Relation.TheVariants.{Greater};
 
-use crate::texts::{joined, program_of};
+use crate::texts::{joined, read};
 use std::alloc::{AllocError, Global};
 use std::test::Fail;
 use tv_program::{Cond, Expr, Names, Relation};
+use tv_reader::ReadFault;
 use tv_spelling::{append_sum, write_condition, write_program, write_sum};
 
 /// `x - 1`
@@ -39,14 +40,22 @@ fn names(alloc: Global) -> Result<Names, Fail>
     Ok(names)
 }
 
+fn is_sum_written(alloc: Global) -> Result<bool, Fail> {
+    let names = names(alloc)?;
+    let sum = one_less(alloc)?;
+    let text = write_sum(alloc, &sum, &names)?;
+    Ok(text.as_slice() == b"x - 1".as_slice())
+}
+
+fn is_condition_written(alloc: Global) -> Result<bool, Fail> {
+    let names = names(alloc)?;
+    let text = write_condition(alloc, &is_positive(), &names)?;
+    Ok(text.as_slice() == b"x > 0".as_slice())
+}
+
 #[test]
 fn a_sum_and_a_condition(rt: HostRuntime) -> Result<(), Fail> {
-    let names = names(rt.alloc())?;
-    let sum = one_less(rt.alloc())?;
-    let text = write_sum(rt.alloc(), &sum, &names)?;
-    assert!(rt; text.as_slice() == b"x - 1".as_slice());
-    let text = write_condition(rt.alloc(), &is_positive(), &names)?;
-    assert!(rt; text.as_slice() == b"x > 0".as_slice());
+    assert!(rt; is_sum_written(rt.alloc())? && is_condition_written(rt.alloc())?);
     Ok(())
 }
 
@@ -63,19 +72,23 @@ fn with_negative_number(alloc: Global) -> Result<Expr, AllocError> {
     Ok(Expr::Product(pair(alloc, sum, Expr::Number(3))?))
 }
 
+fn is_number_written(alloc: Global) -> Result<bool, Fail> {
+    let product = with_negative_number(alloc)?;
+    let names = names(alloc)?;
+    let mut text = Vec::new(alloc);
+    append_sum(alloc, &mut text, &product, &names)?;
+    Ok(text.as_slice() == b"(x + -1) * 3".as_slice())
+}
+
 #[test]
 fn a_number_below_0(rt: HostRuntime) -> Result<(), Fail> {
-    let product = with_negative_number(rt.alloc())?;
-    let names = names(rt.alloc())?;
-    let mut text = Vec::new(rt.alloc());
-    append_sum(rt.alloc(), &mut text, &product, &names)?;
-    assert!(rt; text.as_slice() == b"(x + -1) * 3".as_slice());
+    assert!(rt; is_number_written(rt.alloc())?);
     Ok(())
 }
 
 /// Whether the program of one text is written as the other.
-fn is_written(alloc: Global, text: &[u8], wanted: &[u8]) -> Result<bool, Fail> {
-    let program = program_of(alloc, text)?;
+fn is_written(alloc: Global, text: &[u8], wanted: &[u8]) -> Result<bool, ReadFault> {
+    let program = read(alloc, text)?;
     let written = write_program(alloc, &program)?;
     Ok(written.as_slice() == wanted)
 }
@@ -87,7 +100,7 @@ fn is_part_written(
     part: &str,
     wanted: &str,
     end: &str,
-) -> Result<bool, Fail> {
+) -> Result<bool, ReadFault> {
     let text = joined(alloc, front, part, end)?;
     let written = joined(alloc, front, wanted, end)?;
     is_written(alloc, &text, &written)
@@ -114,16 +127,16 @@ const SUMS: [(&str, &str); 14] = [
     ("((x))", "x"),
 ];
 
-#[test]
-fn sums_in_their_one_spelling(rt: HostRuntime) -> Result<(), Fail> {
+fn is_sum_of_edge(alloc: Global, sum: &str, written: &str) -> bool {
     let front = "START: a;\nFROM: a;\nassume(x == y);\nx := ";
+    is_part_written(alloc, front, sum, written, ";\nTO: a;\n") == Ok(true)
+}
+
+#[test]
+fn sums_in_their_one_spelling(rt: HostRuntime) {
     for (sum, written) in SUMS {
-        assert!(rt;
-            is_part_written(rt.alloc(), front, sum, written, ";\nTO: a;\n")?,
-            "{sum}"
-        );
+        assert!(rt; is_sum_of_edge(rt.alloc(), sum, written), "{sum}");
     }
-    Ok(())
 }
 
 // A condition, and how it is written.
@@ -147,16 +160,19 @@ const CONDITIONS: [(&str, &str); 15] = [
     ("(((x > 0)))", "x > 0"),
 ];
 
-#[test]
-fn conditions_in_their_one_spelling(rt: HostRuntime) -> Result<(), Fail> {
+fn is_condition_of_edge(alloc: Global, tested: &str, written: &str) -> bool {
     let front = "START: a;\nFROM: a;\nassume(";
+    is_part_written(alloc, front, tested, written, ");\nTO: a;\n") == Ok(true)
+}
+
+#[test]
+fn conditions_in_their_one_spelling(rt: HostRuntime) {
     for (tested, written) in CONDITIONS {
         assert!(rt;
-            is_part_written(rt.alloc(), front, tested, written, ");\nTO: a;\n")?,
+            is_condition_of_edge(rt.alloc(), tested, written),
             "{tested}"
         );
     }
-    Ok(())
 }
 
 // A program, and how it is written.
@@ -173,12 +189,9 @@ const PROGRAMS: [(&str, &str); 3] = [
 ];
 
 #[test]
-fn programs_in_their_one_spelling(rt: HostRuntime) -> Result<(), Fail> {
+fn programs_in_their_one_spelling(rt: HostRuntime) {
     for (text, written) in PROGRAMS {
-        assert!(rt;
-            is_written(rt.alloc(), text.as_bytes(), written.as_bytes())?,
-            "{text}"
-        );
+        let is_written = is_written(rt.alloc(), text.as_bytes(), written.as_bytes());
+        assert!(rt; is_written == Ok(true), "{text}");
     }
-    Ok(())
 }

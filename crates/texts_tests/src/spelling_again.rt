@@ -77,32 +77,49 @@ fn are_alike(alloc: Global, first: &Expr, second: &Expr, names: &Names) -> Resul
     Ok(one.as_slice() == other.as_slice())
 }
 
+fn is_sum_again(alloc: Global, text: &str) -> Result<bool, Fail> {
+    if text.len() >= 200 {
+        return Err(Fail::from("a long text"));
+    }
+    let (first, second, names) = sum_again(alloc, text.as_bytes())?;
+    are_alike(alloc, &first, &second, &names)
+}
+
+const SUMS: &[&str] = &[
+    "((x)) + - -(y-1)",
+    "2*(3*x)-(x*4)*5 )",
+    "-(-at) - (term - (c)) * 1",
+    "4611686018427387903 - /* most */ 00",
+];
+
 // What is written of a sum is read again.
 #[test]
 fn sums_are_read_again(rt: HostRuntime) -> Result<(), Fail> {
-    for text in [
-        "((x)) + - -(y-1)",
-        "2*(3*x)-(x*4)*5 )",
-        "-(-at) - (term - (c)) * 1",
-        "4611686018427387903 - /* most */ 00",
-    ] {
-        assert!(rt; text.len() < 200);
-        let (first, second, names) = sum_again(rt.alloc(), text.as_bytes())?;
-        assert!(rt; are_alike(rt.alloc(), &first, &second, &names)?, "{text}");
+    for text in SUMS {
+        assert!(rt; is_sum_again(rt.alloc(), text)?, "{text}");
     }
     Ok(())
 }
 
+/// How many names the condition of a text has that is read again.
+fn names_again(alloc: Global, text: &str) -> Result<u32, Fail> {
+    if text.len() >= 200 {
+        return Err(Fail::from("a long text"));
+    }
+    let (_, _, names) = condition_again(alloc, text.as_bytes())?;
+    Ok(names.len())
+}
+
+const CONDITIONS: &[(&str, u32)] = &[
+    ("!(!!(x > 0)) && (true || y-1 != x)", 2),
+    ("(a < b && (false && -a == 3)) || ((c >= (0)))", 3),
+];
+
 // What is written of a condition is read again. That the two are the same is proved; programs have their texts compared.
 #[test]
 fn conditions_are_read_again(rt: HostRuntime) -> Result<(), Fail> {
-    for (text, count) in [
-        ("!(!!(x > 0)) && (true || y-1 != x)", 2),
-        ("(a < b && (false && -a == 3)) || ((c >= (0)))", 3),
-    ] {
-        assert!(rt; text.len() < 200);
-        let (_, _, names) = condition_again(rt.alloc(), text.as_bytes())?;
-        assert_eq!(rt; names.len(), count, "{text}");
+    for (text, count) in CONDITIONS {
+        assert!(rt; names_again(rt.alloc(), text)? == *count, "{text}");
     }
     Ok(())
 }
