@@ -127,22 +127,25 @@ fn is_read_where_it_may_be(alloc: Global, task: &Task, unmet: &Unmet) -> Result<
     Ok(is_read == matches!(unmet.wanted, TextFailing::Obligation(_)))
 }
 
+/// Whether each is refused as is wanted, and read where it may be.
+fn are_refused(alloc: Global, list: &[Unmet]) -> Result<bool, Fail> {
+    for unmet in list {
+        let task = claimed(alloc, unmet.program, unmet.property)?;
+        if !is_refused(alloc, &task, unmet)? || !is_read_where_it_may_be(alloc, &task, unmet)? {
+            return Ok(false);
+        }
+    }
+    Ok(true)
+}
+
 #[test]
 fn other_countdowns_are_refused(rt: HostRuntime) -> Result<(), Fail> {
-    for unmet in COUNTDOWNS {
-        let task = claimed(rt.alloc(), unmet.program, unmet.property)?;
-        assert!(rt; is_refused(rt.alloc(), &task, &unmet)?);
-        assert!(rt; is_read_where_it_may_be(rt.alloc(), &task, &unmet)?);
-    }
+    assert!(rt; are_refused(rt.alloc(), &COUNTDOWNS)?);
     Ok(())
 }
 
 #[test]
 fn what_is_not_met_is_refused(rt: HostRuntime) -> Result<(), Fail> {
-    for unmet in OTHERS {
-        let task = claimed(rt.alloc(), unmet.program, unmet.property)?;
-        assert!(rt; is_refused(rt.alloc(), &task, &unmet)?);
-        assert!(rt; is_read_where_it_may_be(rt.alloc(), &task, &unmet)?);
-    }
+    assert!(rt; are_refused(rt.alloc(), &OTHERS)?);
     Ok(())
 }

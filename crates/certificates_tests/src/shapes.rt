@@ -121,46 +121,53 @@ fn a_countdown_fits(rt: HostRuntime) -> Result<(), Fail> {
     Ok(())
 }
 
+/// Nodes of a countdown that do not fit.
+const OTHER_COUNTDOWNS: &[Sketch] = &[
+    Sketch {
+        location: 2,
+        ..COUNTED
+    },
+    Sketch {
+        mark: Mark::Done,
+        ..COUNTED
+    },
+    Sketch {
+        ranks: 1,
+        ..COUNTED
+    },
+    Sketch { fall: 0, ..COUNTED },
+    Sketch { fall: 3, ..COUNTED },
+    Sketch {
+        shown: &[&[1]],
+        ..COUNTED
+    },
+    Sketch {
+        shown: &[&[1], &[1, 1]],
+        ..COUNTED
+    },
+    Sketch {
+        shown: &[&[1], &[1 << 62]],
+        ..COUNTED
+    },
+];
+
+/// Whether the node of a countdown is misshapen, where the start lies in this piece.
+fn is_misshapen_countdown(alloc: Global, sketch: Sketch, piece: u32) -> Result<bool, Fail> {
+    let made = countdown(alloc, sketch, piece)?;
+    Ok(is_misshapen(&made, 0))
+}
+
 #[test]
 fn other_countdowns_do_not(rt: HostRuntime) -> Result<(), Fail> {
-    for wrong in [
-        Sketch {
-            location: 2,
-            ..COUNTED
-        },
-        Sketch {
-            mark: Mark::Done,
-            ..COUNTED
-        },
-        Sketch {
-            ranks: 1,
-            ..COUNTED
-        },
-        Sketch { fall: 0, ..COUNTED },
-        Sketch { fall: 3, ..COUNTED },
-        Sketch {
-            shown: &[&[1]],
-            ..COUNTED
-        },
-        Sketch {
-            shown: &[&[1], &[1, 1]],
-            ..COUNTED
-        },
-        Sketch {
-            shown: &[&[1], &[1 << 62]],
-            ..COUNTED
-        },
-    ] {
-        let made = countdown(rt.alloc(), wrong, 0)?;
-        assert!(rt; is_misshapen(&made, 0));
+    for wrong in OTHER_COUNTDOWNS {
+        assert!(rt; is_misshapen_countdown(rt.alloc(), *wrong, 0)?);
     }
     Ok(())
 }
 
 #[test]
 fn the_start_has_one_piece(rt: HostRuntime) -> Result<(), Fail> {
-    let made = countdown(rt.alloc(), COUNTED, 1)?;
-    assert!(rt; is_misshapen(&made, 0));
+    assert!(rt; is_misshapen_countdown(rt.alloc(), COUNTED, 1)?);
     Ok(())
 }
 
@@ -218,11 +225,20 @@ const OTHER_CLIMBERS: [(&[i128], u32, &[&[i64]]); 4] = [
     (&[1], 2, &[&[1, 1]]),
 ];
 
+fn is_misshapen_climber(
+    alloc: Global,
+    of: &[i128],
+    taken: u32,
+    shown: &[&[i64]],
+) -> Result<bool, Fail> {
+    let made = climber(alloc, of, taken, shown)?;
+    Ok(is_misshapen(&made, 0))
+}
+
 #[test]
 fn other_climbers_do_not(rt: HostRuntime) -> Result<(), Fail> {
     for (of, taken, shown) in OTHER_CLIMBERS {
-        let made = climber(rt.alloc(), of, taken, shown)?;
-        assert!(rt; is_misshapen(&made, 0));
+        assert!(rt; is_misshapen_climber(rt.alloc(), of, taken, shown)?);
     }
     Ok(())
 }
@@ -249,11 +265,16 @@ fn three_nodes_fit(rt: HostRuntime) -> Result<(), Fail> {
     Ok(())
 }
 
+/// Whether of three nodes this one is misshapen.
+fn is_misshapen_of_three(alloc: Global, first: u32, second: u32, at: u32) -> Result<bool, Fail> {
+    let made = three(alloc, first, second)?;
+    Ok(is_misshapen(&made, at))
+}
+
 #[test]
 fn the_first_fault_comes_before_others(rt: HostRuntime) -> Result<(), Fail> {
     for (first, second, at) in [(0, 1, 2), (1, 0, 1), (1, 1, 1)] {
-        let made = three(rt.alloc(), first, second)?;
-        assert!(rt; is_misshapen(&made, at));
+        assert!(rt; is_misshapen_of_three(rt.alloc(), first, second, at)?);
     }
     Ok(())
 }
@@ -304,11 +325,16 @@ fn an_invariant_fits(rt: HostRuntime) -> Result<(), Fail> {
     Ok(())
 }
 
+/// Whether of the nodes of an invariant this one is misshapen.
+fn is_misshapen_invariant(alloc: Global, fall: u32, ranks: u32, at: u32) -> Result<bool, Fail> {
+    let made = invariant(alloc, fall, ranks)?;
+    Ok(is_misshapen(&made, at))
+}
+
 #[test]
 fn other_invariants_do_not(rt: HostRuntime) -> Result<(), Fail> {
     for (fall, ranks, at) in [(1, 0, 0), (0, 1, 1)] {
-        let made = invariant(rt.alloc(), fall, ranks)?;
-        assert!(rt; is_misshapen(&made, at));
+        assert!(rt; is_misshapen_invariant(rt.alloc(), fall, ranks, at)?);
     }
     Ok(())
 }
