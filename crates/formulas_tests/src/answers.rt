@@ -134,19 +134,34 @@ const TERMINATION: &[Example] = &[
     (CHAIN, "[AX](term)", Wanted::Proved),
 ];
 
-/// What is left open. In the last one every run does come to its end, and the program is ranked; but that no number is even and odd is
-/// not told by the ranks, as the rows have a rational point.
+/// Ends on every run of a ranked program, where no state is neither at the end nor on the way: the rows of such states have a rational point,
+/// and no whole one.
+const RANKED: &[Example] = &[
+    (
+        BESIDE,
+        "[AF](x <= 0 && (y != z || y + z != 1))",
+        Wanted::Proved,
+    ),
+    (
+        BESIDE,
+        "[AU](x > 0 || y != z)(x <= 0 && (y != z || y + z != 1))",
+        Wanted::Proved,
+    ),
+    (
+        BESIDE,
+        "[AF](x <= 0 && (2*y != z || 2*w + 1 != z))",
+        Wanted::Splits,
+    ),
+];
+
+/// What is left open. In the last one some state is neither at the end nor on the way.
 const LEFT: &[Example] = &[
     (BOTH_WAYS, "[AF](x == 100)", Wanted::Open(0)),
     (BOTH_WAYS, "x == 100 || [EF](x == 90)", Wanted::Open(2)),
     (CLIMBER, "x <= 0 || [AF](x > 100)", Wanted::Open(2)),
     (HALF, "[EX](at(1))", Wanted::Inexact),
     (LOOP, "[AX](x < 4611686018427387903 + 1)", Wanted::Wide(1)),
-    (
-        BESIDE,
-        "[AF](x <= 0 && (2*y != z || 2*w + 1 != z))",
-        Wanted::Open(0),
-    ),
+    (BESIDE, "x <= 0 || [AF](x <= 0 && y != z)", Wanted::Open(2)),
 ];
 
 #[test]
@@ -174,6 +189,17 @@ fn paths_are_told(rt: HostRuntime) -> Result<(), Fail> {
 #[test]
 fn termination_is_told(rt: HostRuntime) -> Result<(), Fail> {
     for (program, property, wanted) in TERMINATION {
+        assert!(rt;
+            is_said_of_texts(rt.alloc(), program, property, &AMPLE, wanted)?,
+            "{property}"
+        );
+    }
+    Ok(())
+}
+
+#[test]
+fn ends_of_ranked_programs_are_told(rt: HostRuntime) -> Result<(), Fail> {
+    for (program, property, wanted) in RANKED {
         assert!(rt;
             is_said_of_texts(rt.alloc(), program, property, &AMPLE, wanted)?,
             "{property}"

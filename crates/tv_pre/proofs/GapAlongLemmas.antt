@@ -1,7 +1,8 @@
 -- What gaps say of formulas on the next states and of fixed points.
 use Rattle.std.proofs.Common.{◌≡◌, inl, inr, ℕ, suc, ◌+◌, [], ◌∷◌, ◌++◌, length, refl, sym, ap, ◌∙◌, subst, arith, slice_get}
-use Rattle.std.specs.Prelude.{All, Option, None, Some, IfSome}
+use Rattle.std.specs.Prelude.{All, Option, None, Some, IfSome, true}
 use Rattle.tv_formula.specs.declared.tree.Path.{Path}
+use Rattle.tv_formula.specs.declared.tree.Path.TheVariants.{Every, Any}
 use Rattle.tv_formula.specs.declared.tree.Shape.{Shape}
 use Rattle.tv_formula.specs.Properties.{Property, fix}
 use Rattle.tv_program.specs.Steps.{State}
@@ -9,7 +10,7 @@ use Rattle.tv_linear.specs.declared.region.Region.{Region}
 use Rattle.tv_cases.specs.Comparisons.{comparison_lists}
 use Rattle.tv_cases.specs.LinearCases.{CaseSystem, IsCase}
 use Rattle.tv_cert.specs.Statements.{Statement, after, along}
-use Rattle.tv_known.specs.Rounds.{FixRound}
+use Rattle.tv_known.specs.Rounds.{FixRound, must_end}
 use Rattle.tv_known.specs.Subformulas.{subformulas}
 use Rattle.tv_region.specs.StepRegions.{InState}
 use Rattle.tv_rounds.specs.Answers.{Differ}
@@ -17,13 +18,15 @@ use Rattle.tv_pre.specs.declared.gap.Gap.{Gap}
 use Rattle.tv_pre.specs.declared.gap.Gap.TheVariants.{Inexact, Open}
 use Rattle.tv_pre.specs.declared.outcome.Found.{Found}
 use Rattle.tv_pre.specs.Built.{IsBuilt, AreBuilt}
-use Rattle.tv_pre.specs.Full.{HasRows}
+use Rattle.tv_pre.specs.Full.{HasRows, IsExactly}
+use Rattle.tv_pre.specs.Unserved.{IsUnservedBy, IsUnserved}
 use Rattle.tv_pre.specs.Finding.{first_of, gap_behind, steps_back, size, IsTameStatement, IsOpenAt, IsGapFor, IsWildStep, IsFound}
 use Rattle.tv_pre.proofs.ExactLemmas.{part_exact, fix_open, denied_open}
 use Rattle.tv_pre.proofs.FormulaLemmas.{along_is}
 use Rattle.tv_pre.proofs.FoundLemmas.{none_of_two, none_behind, sides_built}
 use Rattle.tv_pre.proofs.GapLemmas.{gap_in_order, gap_later, tame_less, size_is, front_open, back_open, inner_open}
 use Rattle.tv_pre.proofs.TameLemmas.{tame_built}
+use Rattle.tv_pre.proofs.VacantLemmas.{unserved_same}
 
 module _ (about : CaseSystem) (last : ℕ) where
   -- ---- next states
@@ -56,14 +59,22 @@ module _ (about : CaseSystem) (last : ℕ) where
         subst (λ (z : Property). IsOpenAt about last (subformulas z) ((1 + first.size) + place)) (sym k.2)
         (back_open about last (fix path shape k.0 k.1 ∷ subformulas k.0) (subformulas k.1) (1 + first.size) place (omega (arith, many)) (x k.1 k.4 kept.1)))) g.gap
 
+    -- the ranks do not serve for the regions of the arguments
+    abbrev IsUnservedHere : Path → Type 0
+    IsUnservedHere p = p ≡ Every → must_end shape ≡ true → IsUnservedBy about shape (InState first.part.region) (InState second.part.region)
+
+    unserved_of : (p : Path) (f k : Property) → IsExactly about f first.part.region → IsExactly about k second.part.region → IsUnservedHere p → IsUnserved about (fix p shape f k)
+    unserved_of Every f k one two u = λ must. unserved_same about shape f k first.part.region second.part.region one two (u refl must)
+    unserved_of Any f k one two u = tt
+
     -- the gap of the fixed point itself, where its arguments have none
     own_gap : (own gap : Option Gap) → own ≡ gap → first.gap ≡ None → second.gap ≡ None →
         (own ≡ Some Inexact → (u : Statement) (k : ℕ) → AreBuilt about u k (first.part.region ∷ second.part.region ∷ []) → IsTameStatement about u → ⊥) →
         ((place : ℕ) → own ≡ Some (Open place) → (place ≡ 0) × Differ about (round last) (round (suc last))) →
-        IfSome gap (IsGapFor about last (along path shape s t))
-    own_gap own None e one two a b = tt
-    own_gap own (Some Inexact) e one two a b = a e (along path shape s t) (steps_back last s + steps_back last t) (sides_built about last path shape s t first second h g)
-    own_gap own (Some (Open place)) e one two a b = λ f x w.
+        ((place : ℕ) → own ≡ Some (Open place) → IsUnservedHere path) → IfSome gap (IsGapFor about last (along path shape s t))
+    own_gap own None e one two a b u = tt
+    own_gap own (Some Inexact) e one two a b u = a e (along path shape s t) (steps_back last s + steps_back last t) (sides_built about last path shape s t first second h g)
+    own_gap own (Some (Open place)) e one two a b u = λ f x w.
         (let k = along_is (comparison_lists about.variables) path shape s t f x in
         let kept = subst (HasRows about.variables) k.2 w in
         let o = b place e in
@@ -76,20 +87,27 @@ module _ (about : CaseSystem) (last : ℕ) where
           there = subst (λ j. slice_get (subformulas (fix path shape k.0 k.1)) j ≡ Some (fix path shape k.0 k.1)) (sym o.0) refl;
           unsettled = inl (fix_open about cases path shape k.0 k.1 first.part.region second.part.region first_exact second_exact last o.1);
           denied = λ goes. inl (denied_open about cases path shape k.0 k.1 first.part.region second.part.region first_exact second_exact last o.1 h.over g.over one_full two_full goes);
+          unserved = unserved_of path k.0 k.1 first_exact second_exact (u place e);
         }))
 
     pub along_gap : (own : Option Gap) →
         (own ≡ Some Inexact → (u : Statement) (k : ℕ) → AreBuilt about u k (first.part.region ∷ second.part.region ∷ []) → IsTameStatement about u → ⊥) →
         ((place : ℕ) → own ≡ Some (Open place) → (place ≡ 0) × Differ about (round last) (round (suc last))) →
+        ((place : ℕ) → own ≡ Some (Open place) → IsUnservedHere path) →
         IfSome (first_of (first_of (gap_behind 1 first.gap) (gap_behind (1 + first.size) second.gap)) own) (IsGapFor about last (along path shape s t))
-    along_gap own a b =
+    along_gap own a b u =
         let left = gap_behind 1 first.gap in
         let right = gap_behind (1 + first.size) second.gap in
         let whole = IsGapFor about last (along path shape s t) in
         gap_in_order whole (first_of left right) own (gap_in_order whole left right left_gap (λ e. right_gap))
         (λ e. (let sides = none_of_two left right e in
-        own_gap own own refl (none_behind 1 first.gap sides.0) (none_behind (1 + first.size) second.gap sides.1) a b))
+        own_gap own own refl (none_behind 1 first.gap sides.0) (none_behind (1 + first.size) second.gap sides.1) a b u))
 
 -- what a gap is said to be, where there is this one
 pub said_of : (P : Gap → Type 0) (own : Option Gap) (gap : Gap) → own ≡ Some gap → IfSome own P → P gap
 said_of P own gap e said = subst (λ o. IfSome o P) e said
+
+-- what is so of any gap
+pub some_said : (P : Type 0) (gap : Option Gap) → P → IfSome gap (λ g. P)
+some_said P None h = tt
+some_said P (Some gap) h = h

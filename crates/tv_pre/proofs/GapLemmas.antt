@@ -118,7 +118,7 @@ module _ (about : CaseSystem) where
   module _ (last : ℕ) where
     -- ---- numbers among more subformulas
     pub front_open : (xs ys : List Property) (place : ℕ) → IsOpenAt about last xs place → IsOpenAt about last (xs ++ ys) place
-    front_open xs ys place h = record { part = h.part; there = left_get xs ys place h.part h.there; unsettled = h.unsettled; denied = h.denied }
+    front_open xs ys place h = record { part = h.part; there = left_get xs ys place h.part h.there; unsettled = h.unsettled; denied = h.denied; unserved = h.unserved }
 
     pub back_open : (xs ys : List Property) (count place : ℕ) → count ≡ length xs → IsOpenAt about last ys place → IsOpenAt about last (xs ++ ys) (count + place)
     back_open xs ys count place c h = record {
@@ -126,6 +126,7 @@ module _ (about : CaseSystem) where
       there = subst (λ k. slice_get (xs ++ ys) k ≡ Some h.part) (ap (λ k. k + place) (sym c)) (right_get xs ys place h.part h.there);
       unsettled = h.unsettled;
       denied = h.denied;
+      unserved = h.unserved;
     }
 
     pub inner_open : (f : Property) (xs : List Property) (place : ℕ) → IsOpenAt about last xs place → IsOpenAt about last (f ∷ xs) (1 + place)
@@ -170,10 +171,10 @@ module _ (about : CaseSystem) where
 
     -- ---- termination
     pub ends_gap : IsGapFor about last statements.ends (Open 0)
-    ends_gap f e w = subst (λ (z : Property). IsOpenAt about last (subformulas z) 0) (sym (ends_is (comparison_lists about.variables) f e)) (record { part = term; there = refl; unsettled = inr tt; denied = λ g. inr tt })
+    ends_gap f e w = subst (λ (z : Property). IsOpenAt about last (subformulas z) 0) (sym (ends_is (comparison_lists about.variables) f e)) (record { part = term; there = refl; unsettled = inr tt; denied = λ g. inr tt; unserved = tt })
 
     pub never_gap : IsGapFor about last statements.never_ends (Open 0)
-    never_gap f e w = subst (λ (z : Property). IsOpenAt about last (subformulas z) 0) (sym (never_is (comparison_lists about.variables) f e)) (record { part = negated term; there = refl; unsettled = inr tt; denied = λ g. inr tt })
+    never_gap f e w = subst (λ (z : Property). IsOpenAt about last (subformulas z) 0) (sym (never_is (comparison_lists about.variables) f e)) (record { part = negated term; there = refl; unsettled = inr tt; denied = λ g. inr tt; unserved = tt })
 
     -- ---- next states
     pub after_gap : (path : Path) (s : Statement) (child own : Option Gap) → IfSome child (IsGapFor about last s) → IfSome own (IsGapFor about last (after path s)) → IfSome (first_of (gap_behind 1 child) own) (IsGapFor about last (after path s))

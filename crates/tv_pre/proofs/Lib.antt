@@ -36,6 +36,7 @@ pub mod EvenLemmas
 pub mod FoundLemmas
 pub mod PassedLemmas
 pub mod RankedAlongLemmas
+pub mod VacantLemmas
 pub mod WideLemmas
 pub mod FullLemmas
 pub mod FullAlongLemmas
@@ -46,8 +47,10 @@ pub mod ExactLemmas
 pub mod GapLemmas
 pub mod GapAlongLemmas
 pub mod ToldLemmas
+pub mod RankedToldLemmas
 pub mod OppositeRounds
 pub mod NegationLemmas
 pub mod ContraryRows
 pub mod ContraryAtoms
-pub mod PlainSteps
+pub mod DifferenceDraws
+pub mod StepsTold

@@ -1,18 +1,17 @@
 -- Fixed points that are to come to an end, where all states are ranked.
-use Rattle.std.proofs.Common.{◌≡◌, ◌⊎◌, inl, inr, ℕ, suc, ◌+◌, ◌≤◌, List, [], ◌∷◌, sym, ◌∙◌, subst, arith}
+use Rattle.std.proofs.Common.{◌≡◌, ◌⊎◌, inl, inr, ℕ, suc, ◌+◌, ◌≤◌, List, [], ◌∷◌, sym, subst, arith}
 use Rattle.std.specs.Prelude.{All}
 use Rattle.tv_formula.specs.declared.tree.Path.{Path}
 use Rattle.tv_formula.specs.declared.tree.Path.TheVariants.{Every, Any}
 use Rattle.tv_linear.specs.declared.region.Region.{Region}
 use Rattle.tv_cases.specs.LinearCases.{CaseSystem, IsCase}
-use Rattle.tv_cases.proofs.Listed.{Contains-here, Contains-later}
 use Rattle.tv_cert.specs.Obligations.{hold_side}
 use Rattle.tv_cert.specs.Statements.{Statement}
 use Rattle.tv_known.proofs.RoundLemmas.{stays_state}
-use Rattle.tv_region.specs.Algebra.{IsBoth, IsEither, IsRest}
+use Rattle.tv_region.specs.Algebra.{IsBoth}
 use Rattle.tv_region.specs.Regions.{IsRegion}
 use Rattle.tv_region.specs.StepRegions.{InState}
-use Rattle.tv_rounds.proofs.SetLemmas.{own_set, both_set, either_set, told}
+use Rattle.tv_rounds.proofs.SetLemmas.{own_set, both_set}
 use Rattle.tv_pre.specs.declared.sides.Sides.{Sides}
 use Rattle.tv_pre.specs.Along.{arguments, AreBefore, AreAtEnd}
 use Rattle.tv_farkas.specs.declared.budget.Budget.{Budget}
@@ -26,7 +25,7 @@ use Rattle.tv_pre.specs.RankedAlong.{HasAll, AreGoing}
 use Rattle.tv_pre.specs.RankedUntil.{AreComing, AsksComing}
 use Rattle.tv_pre.proofs.AskedLemmas.{ends_asked, layers_asked}
 use Rattle.tv_pre.proofs.BuiltLemmas.{asked_to, built_to, all_built_to, first_built, rest_built, more_built, one_built, pieces_of, joined_of, hold_built, fault_to}
-use Rattle.tv_pre.proofs.SetLemmas.{hold_on, on_hold, in_joined, no_piece}
+use Rattle.tv_pre.proofs.SetLemmas.{hold_on, on_hold}
 
 module _ (about : CaseSystem) where
   -- ---- states with a step
@@ -44,20 +43,6 @@ module _ (about : CaseSystem) where
           b.all (inl plain) s p (h.1.0, h.1.1, every.all h.1.0 (stays_state about cases s h.1.0 p h.1.1).location),
         );
       }
-
-  -- ---- where no other state is left
-  pub none_left : (a b whole rest : Region) → IsRegion about.variables about.locations a → IsRegion about.variables about.locations b → IsEither a b whole → IsRest whole rest → rest.pieces.items ≡ [] → HasAll about (joined_pieces (a ∷ b ∷ []))
-  none_left a b whole rest f g is left none s p =
-      let w = either_set about (InState a) (InState b) a b whole (own_set about a f) (own_set about b g) is in
-      let e = w.fits.locations in
-      let l = p.location in
-      elim (told about (InState whole) whole (own_set about whole w.fits) s p) [
-        | inl m ↦ elim ((w.same s p).0 m) [
-          | inl x ↦ in_joined (a ∷ b ∷ []) a s (Contains-here a (b ∷ [])) x
-          | inr x ↦ in_joined (a ∷ b ∷ []) b s (Contains-later a b (b ∷ []) (Contains-here b [])) x
-        ]
-        | inr n ↦ absurd (no_piece rest.pieces.items s none ((left.exact s.location s.values (record { location = omega (arith, e, l); values = p.values ∙ sym w.fits.variables })).1 n))
-      ]
 
   -- ---- what they are made of
   pub hold_side_at : (sides : Sides) (hold : Region) → hold ≡ hold_side sides.shape sides.first.now sides.second.now → (s : Statement) (h : ℕ) → AreBuilt about s h (arguments sides) → IsBuilt about s (1 + h) hold

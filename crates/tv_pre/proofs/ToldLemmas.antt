@@ -22,17 +22,17 @@ use Rattle.tv_known.specs.Subformulas.{subformulas}
 use Rattle.tv_region.specs.Regions.{IsRegion}
 use Rattle.tv_pre.specs.declared.gap.Gap.{Gap}
 use Rattle.tv_pre.specs.declared.gap.Gap.TheVariants.{Inexact, Open}
-use Rattle.tv_pre.specs.Finding.{IsGapFor, IsOpenAt, IsTerminal, AreAtomsOfDifferences, NoneIsTerminal, IsPlainProgram, HasNoGapIfPlain, IsPartFor, IsFullFor, IsExactFor}
+use Rattle.tv_pre.specs.Finding.{IsGapFor, IsOpenAt, IsTerminal, AreAtomsOfDifferences, IsTameStatement, NoneIsTerminal, IsPlainProgram, HasNoGapIfPlain, IsPartFor, IsFullFor, IsExactFor}
 use Rattle.tv_pre.specs.Full.{HasRows}
 use Rattle.tv_pre.specs.Proving.{IsTameClaim}
-use Rattle.tv_pre.specs.Told.{AreSettled, IsClaimOn, IsTameFrom, SettledIsTold, PlainIsTold}
+use Rattle.tv_pre.specs.Told.{AreSettled, IsClaimOn, SettledIsTold, PlainIsTold}
 use Rattle.tv_pre.proofs.ContraryAtoms.{denied_atoms}
 use Rattle.tv_pre.proofs.NegationLemmas.{denied_stands}
-use Rattle.tv_pre.proofs.PlainSteps.{plain_goes}
+use Rattle.tv_pre.proofs.StepsTold.{tame_goes}
 use Rattle.tv_pre.proofs.ExactLemmas.{part_exact}
 use Rattle.tv_pre.proofs.SettledRounds.{none_unsettled}
 
-got_among : {A : Type 0} (xs : List A) (i : ℕ) (x : A) → slice_get xs i ≡ Some x → Contains xs x
+pub got_among : {A : Type 0} (xs : List A) (i : ℕ) (x : A) → slice_get xs i ≡ Some x → Contains xs x
 got_among [] i x e = absurd cc
 got_among (y ∷ xs) zero x e = (let same : y ≡ x = cc in subst (Contains (y ∷ xs)) same (Contains-here y xs))
 got_among (y ∷ xs) (suc i) x e = Contains-later y x xs (got_among xs i x e)
@@ -78,13 +78,8 @@ terminal_denied (some_of fs) t = absurd t
 terminal_denied (next path f) t = absurd t
 terminal_denied (fix path shape f g) t = absurd t
 
--- it can be told whether a state has a step
-tame_told : (about : CaseSystem) (s : Statement) → IsTameFrom about s → Decides about (Goes about)
-tame_told about s (inl plain) = plain_goes about plain
-tame_told about s (inr d) = d.2
-
 -- the negation is as tame as the normal form
-tame_claim : (about : CaseSystem) (claim : Claim) (f : Property) → IsClaimOn about claim f → HasRows about.variables (property_of claim.proved) → IsTameFrom about (aim_states claim.proved_aim) → IsTameClaim about claim
+tame_claim : (about : CaseSystem) (claim : Claim) (f : Property) → IsClaimOn about claim f → HasRows about.variables (property_of claim.proved) → IsTameStatement about (aim_states claim.proved_aim) → IsTameClaim about claim
 tame_claim about claim f on rows (inl plain) = inl plain
 tame_claim about claim f on rows (inr d) =
     let n = claim_variables claim in
@@ -105,7 +100,7 @@ pub settled_told : (about : CaseSystem) (claim : Claim) (f : Property) (budget :
 settled_told about claim f budget Inexact on tame last l settled h = h.1.tells last l (tame_claim about claim f on h.1.have_rows.0 tame)
 settled_told about claim f budget (Open place) on tame last l settled h = elim (h.1.tells last l) [
   | inl o ↦ none_settled about last (subformulas (normal f)) settled place (subst (λ g. IsOpenAt about last (subformulas g) place) on.is.proved o)
-  | inr o ↦ none_denied about last f settled (tame_told about (aim_states claim.proved_aim) tame) place (subst (λ g. IsOpenAt about last (subformulas g) place) on.is.denied o)
+  | inr o ↦ none_denied about last f settled (tame_goes about (aim_states claim.proved_aim) tame) place (subst (λ g. IsOpenAt about last (subformulas g) place) on.is.denied o)
 ]
 
 -- ---- exact regions

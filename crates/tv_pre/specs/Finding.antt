@@ -27,6 +27,7 @@ use Rattle.tv_pre.specs.declared.fault.PreFault.{PreFault}
 use Rattle.tv_pre.specs.declared.test.Test.{Test}
 use Rattle.tv_pre.specs.declared.test.Test.TheVariants.{Rows, Here, Elsewhere}
 use Rattle.tv_pre.specs.Built.{HasAtom, IsBuilt, IsPreFault}
+use Rattle.tv_pre.specs.Unserved.{IsUnserved}
 
 -- ---- the program
 
@@ -177,12 +178,14 @@ IsTerminal (negated term) = Unit {0}
 IsTerminal f = ⊥
 
 -- The property with this number is a fixed point that round k does not settle, or termination or its negation. Where it can be told whether a
--- state has a step, round k does not settle the negation of the fixed point either.
+-- state has a step, round k does not settle the negation of the fixed point either. A fixed point that is to come to its end on every run is not
+-- served by the ranks of the program.
 pub record IsOpenAt (about : CaseSystem) (k : ℕ) (fs : List Property) (place : ℕ) : Type 0 where
   pub part : Property
   pub there : slice_get fs place ≡ Some part
   pub unsettled : IsUnsettled about k part ⊎ IsTerminal part
   pub denied : Decides about (Goes about) → IsUnsettled about k (negation part) ⊎ IsTerminal part
+  pub unserved : IsUnserved about part
 
 -- what a gap says of the formula that the statement is of, where rounds are made up to the last and each comparison has rows: going back is
 -- not exact, or the last round does not settle the subformula with the number

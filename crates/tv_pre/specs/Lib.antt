@@ -15,6 +15,7 @@ pub mod Growing
 pub mod Starting
 pub mod Built
 pub mod Faults
+pub mod Unserved
 pub mod Finding
 pub mod Along
 pub mod Proving

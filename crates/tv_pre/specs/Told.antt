@@ -11,17 +11,16 @@ use Rattle.tv_cases.specs.LinearCases.{CaseSystem}
 use Rattle.tv_cert.specs.declared.claim.Claim.{Claim}
 use Rattle.tv_cert.specs.AimViews.{aim_states}
 use Rattle.tv_cert.specs.Claims.{IsClaim, claim_variables}
-use Rattle.tv_cert.specs.Statements.{Statement}
-use Rattle.tv_region.specs.Differences.{AreOfDifferences}
-use Rattle.tv_region.specs.StepRegions.{HasNoDraws}
 use Rattle.tv_known.specs.Cycles.{HasCycle, IsLastRound}
-use Rattle.tv_known.specs.Rounds.{IsSettled, Goes}
-use Rattle.tv_known.specs.Laws.{Decides}
+use Rattle.tv_known.specs.Laws.{IsRankedUntil}
+use Rattle.tv_known.specs.Rounds.{IsSettled}
 use Rattle.tv_known.specs.Subformulas.{subformulas, IsUnsettled}
+use Rattle.tv_region.specs.StepRegions.{HasNoDraws}
 use Rattle.tv_pre.specs.declared.gap.Gap.{Gap}
 use Rattle.tv_pre.specs.declared.deciding.Unproved.TheVariants as unproved
-use Rattle.tv_pre.specs.Finding.{AreAtomsOfDifferences, IsTerminal, NoneIsTerminal, IsPlainProgram}
+use Rattle.tv_pre.specs.Finding.{IsTameStatement, IsTerminal, NoneIsTerminal, IsPlainProgram}
 use Rattle.tv_pre.specs.Proving.{IsUnproved}
+use Rattle.tv_pre.specs.Unserved.{IsRankingRefused}
 
 -- round k settles each fixed point among the properties, and none of them is termination or its negation
 abbrev pub AreSettled : CaseSystem → ℕ → List Property → Type 0
@@ -36,22 +35,24 @@ pub record IsClaimOn (about : CaseSystem) (claim : Claim) (f : Property) : Type 
   pub is : IsClaim claim f
   pub variables : claim_variables claim ≡ about.variables
 
--- going back is exact for the statement: no case has a draw; or the cases and the comparisons are of differences, and it can be told of each
--- state whether it has a step
-abbrev pub IsTameFrom : CaseSystem → Statement → Type 0
-IsTameFrom about s = HasNoDraws about ⊎ (AreOfDifferences about × AreAtomsOfDifferences s × Decides about (Goes about))
-
--- where the program is tame for the normal form of a property and the last round settles each fixed point of it, no claim of the property
--- is left open with a gap: nothing is asked of the negation
+-- where going back is exact for the normal form of a property - no case has a draw, or the cases and the comparisons are of differences - and
+-- the last round settles each fixed point of it, no claim of the property is left open with a gap: nothing is asked of the negation
 abbrev pub SettledIsTold : CaseSystem → Claim → Property → Budget → Gap → Type 0
 SettledIsTold about claim f budget gap =
-    IsClaimOn about claim f → IsTameFrom about (aim_states claim.proved_aim) → (last : ℕ) → IsLastRound about 8 last
+    IsClaimOn about claim f → IsTameStatement about (aim_states claim.proved_aim) → (last : ℕ) → IsLastRound about 8 last
     → AreSettled about last (subformulas (normal f)) → IsUnproved about claim budget (unproved.Left gap) → ⊥
 
 -- nor where the program has neither a draw nor a cycle
 abbrev pub PlainIsTold : CaseSystem → Claim → Budget → Gap → Type 0
 PlainIsTold about claim budget gap =
     IsPlainProgram about → NoneIsTerminal (claimed claim) → IsUnproved about claim budget (unproved.Left gap) → ⊥
+
+-- Where the property is to come to its end on every run of a program without draws that has a lexicographic ranking, its arguments are of one
+-- state each, and each state is at the end, or on the way with a step, a gap is told only if it was not settled whether there is a ranking.
+abbrev pub RankedUntilIsTold : CaseSystem → Claim → Property → Budget → Gap → Type 0
+RankedUntilIsTold about claim f budget gap =
+    IsClaimOn about claim f → HasNoDraws about → IsRankedUntil about f → (last : ℕ) → IsLastRound about 8 last
+    → IsUnproved about claim budget (unproved.Left gap) → IsRankingRefused about
 
 -- in a program without a cycle the round of the number of locations is settled
 abbrev pub AcyclicIsSettled : CaseSystem → Path → Shape → (State → Type 0) → (State → Type 0) → Type 0

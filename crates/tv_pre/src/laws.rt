@@ -4,12 +4,12 @@ ghost use Rattle.tv_formula.specs.Properties.{Property};
 ghost use Rattle.tv_formula.specs.declared.tree.Path.{Path};
 ghost use Rattle.tv_formula.specs.declared.tree.Shape.{Shape};
 ghost use Rattle.tv_farkas.specs.declared.budget.Budget.{Budget};
-ghost use Rattle.tv_cases.specs.LinearCases.{CaseSystem};
+ghost use Rattle.tv_cases.specs.LinearCases.{CaseSystem, AreCases};
 ghost use Rattle.tv_cert.specs.declared.claim.Claim.{Claim};
 ghost use Rattle.tv_known.specs.Laws.{AreProper};
 ghost use Rattle.tv_pre.specs.declared.gap.Gap.{Gap};
 ghost use Rattle.tv_pre.specs.Full.{FullHasAll, FullTell};
-ghost use Rattle.tv_pre.specs.Told.{AcyclicIsSettled, NoneIsUnsettled, SettledIsTold, PlainIsTold};
+ghost use Rattle.tv_pre.specs.Told.{AcyclicIsSettled, NoneIsUnsettled, SettledIsTold, PlainIsTold, RankedUntilIsTold};
 
 use tv_known::Sides;
 
@@ -26,6 +26,14 @@ pub fn full_regions_tell()
 pub fn settled_claims_are_told()
     ensures tame { (about : CaseSystem) (claim : Claim) (f : Property) (budget : Budget) (gap : Gap) → SettledIsTold about claim f budget gap }
     ensures plain { (about : CaseSystem) → AreProper about → (claim : Claim) (budget : Budget) (gap : Gap) → PlainIsTold about claim budget gap }
+{}
+
+/// Where a property that is to come to its end on every run has arguments of one state, the program has no draw and a lexicographic ranking,
+/// and each state is at the end, or on the way with a step, no claim is left open with a gap, unless a system of the search for a ranking is
+/// refused.
+pub fn ranked_untils_are_told()
+    ensures { (about : CaseSystem) → AreCases about → (claim : Claim) (f : Property) (budget : Budget) (gap : Gap) →
+        RankedUntilIsTold about claim f budget gap }
 {}
 
 /// In a program without a cycle, the round of the number of locations equals the next one: it settles each fixed point, and each subformula.

@@ -45,6 +45,7 @@ mod staying;
 mod targets;
 mod test;
 mod trees;
+mod vacant;
 mod wide;
 
 pub use after::next;
@@ -57,7 +58,9 @@ pub use finding::found;
 pub use gap::Gap;
 pub use growing::until;
 pub use junction::{each_of, one_of};
-pub use laws::{acyclic_rounds_settle, full_regions_tell, settled_claims_are_told};
+pub use laws::{
+    acyclic_rounds_settle, full_regions_tell, ranked_untils_are_told, settled_claims_are_told,
+};
 pub use outcome::Found;
 pub use part::Part;
 pub use ranked_cases::RankedCases;

@@ -1,6 +1,6 @@
 // Fixed points that are to come to an end, where all states are ranked.
 
-ghost use Rattle.std.specs.Prelude.{◌≡◌, ◌≤◌, [], ◌∷◌, true, IsTrue, IfOk};
+ghost use Rattle.std.specs.Prelude.{◌≡◌, ◌≤◌, [], ◌∷◌, true, IsTrue, IsFalse, IfOk};
 ghost use Rattle.std.specs.Result.{IfErr};
 ghost use Rattle.tv_formula.specs.declared.tree.Path.TheVariants.{Every};
 ghost use Rattle.tv_cases.specs.Systems.{cases_of};
@@ -11,11 +11,13 @@ ghost use Rattle.tv_pre.specs.Along.{arguments, AreAtEnd};
 ghost use Rattle.tv_pre.specs.Built.{IsBuiltOf, IsFaultOf};
 ghost use Rattle.tv_pre.specs.Fixed.{AreOver};
 ghost use Rattle.tv_pre.specs.Parts.{joined_pieces};
-ghost use Rattle.tv_pre.specs.RankedAlong.{AreGoing, HasAll, IsRankedAlong};
+ghost use Rattle.tv_pre.specs.RankedAlong.{AreGoing, HasAll, IsRankedAlong, IsUntoldAlong};
+ghost use Rattle.tv_pre.specs.Unserved.{SomeIsOutside};
 
 use crate::coming::everywhere;
 use crate::ends::hold_of;
 use crate::regions::back_into;
+use crate::vacant::are_vacant;
 use crate::{Part, PreFault, RankedCases, Setting, Sides, ranked_until};
 use tv_cert::Node;
 use tv_formula::Path;
@@ -27,8 +29,14 @@ use tv_region::{both, complement, either};
 pub(crate) enum RankedAlong {
     /// It holds everywhere: every state is at the end, or on the way with a step.
     Everywhere(Part),
-    /// Nothing: some state may be neither. The nodes of the arguments and the states at the end are given back.
+    /// Nothing: some state is neither. The nodes of the arguments and the states at the end are given back.
     Unsettled { children: Vec<Node>, end: Region },
+    /// It was not settled whether some state is neither, for this reason. The same is given back.
+    Untold {
+        children: Vec<Node>,
+        end: Region,
+        fault: PreFault,
+    },
 }
 
 /// The states on the way with a step.
@@ -44,18 +52,20 @@ fn going(setting: &Setting, sides: &Sides) -> Result<Region, PreFault>
     Ok(both(setting.alloc, hold_of(sides), &goes, setting.budget)?)
 }
 
-/// Whether it is found that every state is in one of the two regions.
+/// Whether every state is in one of the two regions.
 fn have_all(setting: &Setting, end: &Region, onward: &Region) -> Result<bool, PreFault>
+    requires splits { setting.now.budget.now.splits ≤ 128 }
     requires end { IsRegion (cases_of setting.now.about.now).variables (cases_of setting.now.about.now).locations end.now }
     requires onward { IsRegion (cases_of setting.now.about.now).variables (cases_of setting.now.about.now).locations onward.now }
     ensures all { let about = cases_of setting.now.about.now in
         IfOk result (λ all. IsTrue all → HasAll about (joined_pieces (end.now ∷ onward.now ∷ []))) }
+    ensures others { IfOk result (λ all. IsFalse all → SomeIsOutside (cases_of setting.now.about.now) end.now onward.now) }
     ensures refused { IfErr result (IsFaultOf (cases_of setting.now.about.now) setting.now.budget.now 0 (end.now ∷ onward.now ∷ [])) }
 {
     let _variables = setting.about.variables();
     let whole = either(setting.alloc, end, onward, setting.budget)?;
     let rest = complement(setting.alloc, &whole, setting.budget)?;
-    Ok(rest.pieces.is_empty())
+    Ok(are_vacant(setting, &rest.pieces)?)
 }
 
 /// The part of an until or a strong until over every run in a program whose states are all ranked, where every state is at the end, or on
@@ -74,11 +84,20 @@ pub(crate) fn ranked_along(
     requires end { AreAtEnd (cases_of setting.now.about.now) sides.now end }
     requires ranked { IsRankedBy (cases_of setting.now.about.now) [] ranking.now.node.now ranking.now.shown.now }
     ensures along { IfOk result (IsRankedAlong (cases_of setting.now.about.now) sides.now children.items end) }
+    ensures untold { IfOk result (IsUntoldAlong (cases_of setting.now.about.now) setting.now.budget.now sides.now end) }
     ensures refused { IfErr result (IsFaultOf (cases_of setting.now.about.now) setting.now.budget.now 2 (end ∷ arguments sides.now)) }
 {
     let _variables = setting.about.variables();
     let onward = going(setting, sides)?;
-    if !have_all(setting, &end, &onward)? {
+    let all = match have_all(setting, &end, &onward) {
+        Err(fault) => return Ok(RankedAlong::Untold {
+            children,
+            end,
+            fault,
+        }),
+        Ok(all) => all,
+    };
+    if !all {
         return Ok(RankedAlong::Unsettled { children, end });
     }
     let part = ranked_until(setting, sides, children, end, onward, ranking)?;

@@ -1,8 +1,9 @@
 // The ranks of a whole program.
 
-ghost use Rattle.std.specs.Prelude.{IfOk, IfSome};
+ghost use Rattle.std.specs.Prelude.{◌≡◌, None, IfOk, IfSome};
 ghost use Rattle.tv_cases.specs.Systems.{cases_of};
 ghost use Rattle.tv_pre.specs.Search.{IsRanking};
+ghost use Rattle.tv_pre.specs.Unserved.{IsUnranked};
 
 use crate::Setting;
 use std::alloc::AllocError;
@@ -16,9 +17,10 @@ pub(crate) struct Ranking {
     pub shown: Vec<CaseShown>,
 }
 
-/// The ranking of the program, where it has a lexicographic one. A refusal to settle a ranking system counts as none.
+/// The ranking of the program; `None` where it has no lexicographic one, or a system of the search for one is not settled.
 pub(crate) fn ranking_of(setting: &Setting) -> Result<Option<Ranking>, AllocError>
-    ensures { IfOk result (λ ranking. IfSome ranking (IsRanking (cases_of setting.now.about.now))) }
+    ensures ranked { IfOk result (λ ranking. IfSome ranking (IsRanking (cases_of setting.now.about.now))) }
+    ensures unranked { IfOk result (λ ranking. ranking ≡ None → IsUnranked (cases_of setting.now.about.now)) }
 {
     match first_attempt(setting.alloc, setting.about, setting.budget.pivots) {
         Ok(Ranked::Node { node, shown }) => Ok(Some(Ranking { node, shown })),
@@ -28,7 +30,12 @@ pub(crate) fn ranking_of(setting: &Setting) -> Result<Option<Ranking>, AllocErro
                 barriers: _,
             },
         ) => Ok(None),
-        Err(RankFault::Memory) => Err(AllocError),
-        Err(_) => Ok(None),
+        Err(
+            RankFault::Solve {
+                system: _,
+                fault: _,
+            },
+        ) => Ok(None),
+        Err(_) => Err(AllocError),
     }
 }

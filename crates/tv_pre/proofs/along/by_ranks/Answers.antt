@@ -1,7 +1,7 @@
-use Rattle.std.proofs.Common.{◌+◌, subst, arith}
+use Rattle.std.proofs.Common.{refl, ◌+◌, subst, arith}
 use Rattle.tv_pre.specs.Along.{arguments}
 use Rattle.tv_pre.specs.Built.{IsFaultOf}
-use Rattle.tv_pre.specs.RankedAlong.{IsRankedAlong}
+use Rattle.tv_pre.specs.RankedAlong.{IsRankedAlong, IsUntoldAlong}
 use Rattle.tv_pre.specs.Search.{system_of}
 use Rattle.tv_pre.proofs.AlongLemmas.{along_less, given_less}
 use Rattle.tv_pre.proofs.PassedLemmas.{passed_on}
@@ -34,3 +34,13 @@ returns-in-Everywhere-clause-full c none f g x y =
     let sides = c.args.sides.now in
     let told = subst (IsRankedAlong about sides c.args.children.items c.args.end) c.in-Everywhere.is c.in_ok-part.ensures.along in
     all_full about (fix sides.path sides.shape f g) c.in-Everywhere.part.region told.1
+
+pub returns-in-Some-clause-refused : goal.returns-in-Some-clause-refused
+returns-in-Some-clause-refused c =
+    let about = system_of c.args.search.now in
+    let budget = c.args.search.now.setting.now.budget.now in
+    let last = c.args.search.now.last in
+    let sides = c.args.sides.now in
+    let given = arguments sides in
+    let told = subst (IsUntoldAlong about budget sides c.args.end) c.in-Untold.is c.in_ok-part.ensures.untold in
+    given_less about budget 2 (last + 2) c.args.end given c.in-Untold.fault c.in-Untold.fault (omega arith) refl c.requires.built told

@@ -46,4 +46,5 @@ returns-clause-found c s t h g =
     (subst (λ n. IfSome (first_of (first_of (gap_behind 1 c.args.first.gap) (gap_behind n c.args.second.gap)) own) whole) (sym c.in_ok-added-2.ensures)
     (along_gap about last c.variables-variables.ensures.limits.cases c.args.path c.args.shape s t c.args.first c.args.second h g own
     (λ e. said_of _ own Inexact e told)
-    (λ place e. said_of _ own (Open place) e told)))))))
+    (λ place e. said_of _ own (Open place) e told)
+    (λ place e. said_of _ own (Open place) e c.in_ok-part.ensures.unserved)))))))

@@ -1,4 +1,4 @@
-use Rattle.std.proofs.Common.{sym, subst, ◌+◌, ◌∷◌, [], rules, IsTrue}
+use Rattle.std.proofs.Common.{refl, sym, subst, ◌+◌, ◌∷◌, [], rules, IsTrue, IsFalse}
 use Rattle.tv_formula.specs.declared.tree.Path.{Path}
 use Rattle.tv_formula.specs.Properties.{fix}
 use Rattle.tv_cases.specs.Systems.{cases_of}
@@ -11,6 +11,7 @@ use Rattle.tv_pre.proofs.AlongLemmas.{is_along}
 use Rattle.tv_pre.proofs.BuiltLemmas.{rest_built}
 use Rattle.tv_pre.proofs.PassedLemmas.{passed_on, cover_fault}
 use Rattle.tv_pre.proofs.RankedAlongLemmas.{sides_fault, ends_fault, coming_is, both_built, coming_asked}
+use Rattle.tv_pre.proofs.VacantLemmas.{beside_of}
 use Rattle.tv_pre.proofs.ranked_along.ranked_along.Goals as goal
 
 pub returns-in_err-onward-clause-refused : goal.returns-in_err-onward-clause-refused
@@ -21,21 +22,24 @@ returns-in_err-onward-clause-refused c =
     passed_on (IsFaultOf about budget 2 (c.args.end ∷ arguments sides)) c.from_residual.result c.from_residual.ensures.1
     (λ r is. sides_fault about budget sides c.args.end c.in_err-onward.field-0.0 r is c.in_err-onward.ensures.refused)
 
-pub returns-in_err-have_all-clause-refused : goal.returns-in_err-have_all-clause-refused
-returns-in_err-have_all-clause-refused c =
+pub returns-in-Err-clause-untold : goal.returns-in-Err-clause-untold
+returns-in-Err-clause-untold c =
     let about = cases_of c.args.setting.now.about.now in
     let budget = c.args.setting.now.budget.now in
-    let sides = c.args.sides.now in
-    let end = c.args.end in
-    passed_on (IsFaultOf about budget 2 (end ∷ arguments sides)) c.from_residual-in_err-have_all.result c.from_residual-in_err-have_all.ensures.1
-    (λ r is. ends_fault about budget sides end c.in_ok-onward.onward c.in_err-have_all.field-0.0 r is c.in_ok-onward.ensures.built c.in_err-have_all.ensures.refused)
+    ends_fault about budget c.args.sides.now c.args.end c.in_ok-onward.onward c.in-Err.fault c.in-Err.fault refl c.in_ok-onward.ensures.built c.in-Err.ensures.refused
+
+pub returns-then-not-all-clause-along : goal.returns-then-not-all-clause-along
+returns-then-not-all-clause-along c =
+    let onward = c.in_ok-onward.onward in
+    let told : IsFalse c.in-Ok.all = search rules in
+    (refl, refl, beside_of (cases_of c.args.setting.now.about.now) c.args.sides.now c.args.end onward c.requires.end c.in_ok-onward.ensures.going (c.in-Ok.ensures.others told))
 
 pub ranked_until-requires-clause-coming : goal.ranked_until-requires-clause-coming
 ranked_until-requires-clause-coming c =
     let about = cases_of c.args.setting.now.about.now in
     let onward = c.in_ok-onward.onward in
-    let told : IsTrue c.in_ok-have_all.field-0 = search rules in
-    coming_is about c.args.sides.now c.args.end onward c.variables-variables.ensures.limits.cases c.requires.end c.in_ok-onward.ensures.going (c.in_ok-have_all.ensures.all told)
+    let told : IsTrue c.in-Ok.all = search rules in
+    coming_is about c.args.sides.now c.args.end onward c.variables-variables.ensures.limits.cases c.requires.end c.in_ok-onward.ensures.going (c.in-Ok.ensures.all told)
 
 pub returns-in_err-part-clause-refused : goal.returns-in_err-part-clause-refused
 returns-in_err-part-clause-refused c =
@@ -57,9 +61,9 @@ returns-clause-along c =
     let end = c.args.end in
     let onward = c.in_ok-onward.onward in
     let part = c.in_ok-part.part in
-    let told : IsTrue c.in_ok-have_all.field-0 = search rules in (
+    let told : IsTrue c.in-Ok.all = search rules in (
       is_along about 1 sides c.args.children.items part (end ∷ onward ∷ []) (end ∷ arguments sides) c.in_ok-part.ensures.region
           (λ f g w. subst (λ (p : Path). IsPart about (fix p sides.shape f g) part.region part.node) (sym c.requires.path) (c.in_ok-part.ensures.part f g w))
           (λ s h m. both_built about sides end onward s h m (c.in_ok-onward.ensures.built s h (rest_built about s h end (arguments sides) m))),
-      subst (HasAll about) (sym c.in_ok-part.ensures.region.pieces) (c.in_ok-have_all.ensures.all told),
+      subst (HasAll about) (sym c.in_ok-part.ensures.region.pieces) (c.in-Ok.ensures.all told),
     )

@@ -1,0 +1,148 @@
+-- Where no gap is told of a fixed point that is to come to its end on every run of a ranked program.
+use Rattle.std.proofs.Common.{◌≡◌, ◌⊎◌, inl, inr, ℕ, List, [], ◌∷◌, ◌++◌, refl, sym, ap, ◌∙◌, subst, true}
+use Rattle.std.specs.Prelude.{All, Contains, Option, None, Some, IfSome, ◌&&◌}
+use Rattle.std.proofs.lemmas.List.Elements.{Contains-append_cases}
+use Rattle.tv_program.specs.Steps.{State}
+use Rattle.tv_formula.specs.Formulas.{property_of}
+use Rattle.tv_formula.specs.Normal.{normal, negation}
+use Rattle.tv_formula.specs.Forms.{is_local, are_local}
+use Rattle.tv_formula.specs.Properties.{Property, truth, compare, at, term, negated, all_of, some_of, next, fix, Properties, none, more}
+use Rattle.tv_formula.specs.declared.tree.Path.TheVariants.{Every}
+use Rattle.tv_formula.specs.declared.tree.Shape.{Shape}
+use Rattle.tv_formula.specs.declared.tree.Shape.TheVariants.{Until, Weak, Release, Strong}
+use Rattle.tv_farkas.specs.declared.budget.Budget.{Budget}
+use Rattle.tv_meaning.specs.Meaning.{Holds}
+use Rattle.tv_meaning.proofs.Negation.{negation_excludes}
+use Rattle.tv_cases.specs.Comparisons.{comparison_lists}
+use Rattle.tv_cases.specs.LinearCases.{CaseSystem, CaseSteps, IsCase, AreCases}
+use Rattle.tv_cases.proofs.Listed.{Contains-cases, Contains-none}
+use Rattle.tv_cert.specs.declared.claim.Claim.{Claim}
+use Rattle.tv_cert.specs.AimViews.{aim_states}
+use Rattle.tv_cert.specs.Claims.{claim_variables}
+use Rattle.tv_cert.specs.Statements.{stated}
+use Rattle.tv_choice.specs.Leading.{state}
+use Rattle.tv_known.specs.Cycles.{IsLastRound, IsStateOf}
+use Rattle.tv_known.specs.Laws.{MustReach, GoesOn, IsRankedUntil}
+use Rattle.tv_known.specs.Ranking.{HasLexicographicRanking}
+use Rattle.tv_known.specs.Rounds.{must_end}
+use Rattle.tv_known.specs.Subformulas.{subformulas, all_subformulas, IsUnsettled}
+use Rattle.tv_known.proofs.KnownHolds.{fix_known}
+use Rattle.tv_known.proofs.Ranked.{left_true, right_true}
+use Rattle.tv_region.specs.Regions.{lists_at}
+use Rattle.tv_region.specs.StepRegions.{HasNoDraws}
+use Rattle.tv_rounds.proofs.InsideLemmas.{out_of_targets}
+use Rattle.tv_pre.specs.declared.gap.Gap.{Gap}
+use Rattle.tv_pre.specs.declared.gap.Gap.TheVariants.{Inexact, Open}
+use Rattle.tv_pre.specs.Finding.{IsGapFor, IsOpenAt, IsTerminal}
+use Rattle.tv_pre.specs.Full.{HasRows}
+use Rattle.tv_pre.specs.Proving.{IsProofLeft}
+use Rattle.tv_pre.specs.Told.{IsClaimOn, RankedUntilIsTold}
+use Rattle.tv_pre.specs.Unserved.{IsRankingRefused, IsUnserved}
+use Rattle.tv_pre.proofs.DecidingLemmas.{states_of}
+use Rattle.tv_pre.proofs.ToldLemmas.{got_among}
+
+-- ---- properties of one state
+module _ (about : CaseSystem) (last : ℕ) where
+  -- what is not settled, or says whether runs end
+  abbrev IsLater : Property → Type 0
+  IsLater f = IsUnsettled about last f ⊎ IsTerminal f
+
+  neither : ⊥ ⊎ ⊥ → ⊥
+  neither (inl wrong) = wrong
+  neither (inr wrong) = wrong
+
+  one_or_rest : (f : Property) (fs : List Property) (part : Property) → Contains (f ∷ fs) part → (IsLater f → ⊥) → (Contains fs part → IsLater part → ⊥) → IsLater part → ⊥
+  one_or_rest f fs part m a b later = elim (Contains-cases f part fs m) [
+    | inl e ↦ a (subst (λ g. IsUnsettled about last g ⊎ IsTerminal g) (sym e) later)
+    | inr k ↦ b k later
+  ]
+
+  denied_now : (f : Property) → is_local f ≡ true → IsLater (negated f) → ⊥
+  denied_now (truth b) e later = neither later
+  denied_now (compare r a b) e later = neither later
+  denied_now (at l) e later = neither later
+  denied_now term e later = absurd cc
+  denied_now (negated f) e later = neither later
+  denied_now (all_of fs) e later = neither later
+  denied_now (some_of fs) e later = neither later
+  denied_now (next path f) e later = neither later
+  denied_now (fix path shape f g) e later = neither later
+
+  mutual
+    local_now : (f : Property) → is_local f ≡ true → (part : Property) → Contains (subformulas f) part → IsLater part → ⊥
+    local_now (truth b) e part m = one_or_rest (truth b) [] part m (λ later. neither later) (λ k. absurd (Contains-none part k))
+    local_now (compare r a b) e part m = one_or_rest (compare r a b) [] part m (λ later. neither later) (λ k. absurd (Contains-none part k))
+    local_now (at l) e part m = one_or_rest (at l) [] part m (λ later. neither later) (λ k. absurd (Contains-none part k))
+    local_now term e part m = absurd cc
+    local_now (negated f) e part m = one_or_rest (negated f) [] part m (denied_now f e) (λ k. absurd (Contains-none part k))
+    local_now (all_of fs) e part m = one_or_rest (all_of fs) (all_subformulas fs) part m (λ later. neither later) (λ k. each_now fs e part k)
+    local_now (some_of fs) e part m = one_or_rest (some_of fs) (all_subformulas fs) part m (λ later. neither later) (λ k. each_now fs e part k)
+    local_now (next path f) e part m = absurd cc
+    local_now (fix path shape f g) e part m = absurd cc
+
+    each_now : (fs : Properties) → are_local fs ≡ true → (part : Property) → Contains (all_subformulas fs) part → IsLater part → ⊥
+    each_now none e part m = absurd (Contains-none part m)
+    each_now (more f fs) e part m = elim (Contains-append_cases (subformulas f) (all_subformulas fs) part m) [
+      | inl k ↦ local_now f (left_true (is_local f) (are_local fs) e) part k
+      | inr k ↦ each_now fs (right_true (is_local f) (are_local fs) e) part k
+    ]
+
+-- ---- it holds everywhere
+comes : (shape : Shape) → MustReach shape → must_end shape ≡ true
+comes Until must = refl
+comes Strong must = refl
+comes Weak must = absurd must
+comes Release must = absurd must
+
+all_hold : (about : CaseSystem) → All (IsCase about.variables about.locations) about.cases → (shape : Shape) → MustReach shape → (f g : Property) → HasLexicographicRanking about → GoesOn about shape f g → (s : State) → IsStateOf about s → Holds (CaseSteps about) (fix Every shape f g) s
+all_hold about cases Until must f g ranking goes s is =
+    fix_known about cases 0 (λ t. Holds (CaseSteps about) f t) (λ t. Holds (CaseSteps about) g t) (λ t. Holds (CaseSteps about) f t) (λ t. Holds (CaseSteps about) g t) (λ t i k. k) (λ t i k. k) Every Until s is (inr (record { ranking = ranking; goes = goes }))
+all_hold about cases Strong must f g ranking goes s is =
+    fix_known about cases 0 (λ t. Holds (CaseSteps about) f t) (λ t. Holds (CaseSteps about) g t) (λ t. Holds (CaseSteps about) f t) (λ t. Holds (CaseSteps about) g t) (λ t i k. k) (λ t i k. k) Every Strong s is (inr (record { ranking = ranking; goes = goes }))
+all_hold about cases Weak must f g ranking goes s is = absurd must
+all_hold about cases Release must f g ranking goes s is = absurd must
+
+-- ---- its gaps
+module _ (about : CaseSystem) (limits : AreCases about) (claim : Claim) (f : Property) (on : IsClaimOn about claim f) (plain : HasNoDraws about) (is : IsRankedUntil about f) (last : ℕ) (round : IsLastRound about 8 last) (have : HasRows about.variables (property_of claim.proved)) where
+  rows : HasRows about.variables (normal f)
+  rows = subst (HasRows about.variables) on.is.proved have
+
+  states : aim_states claim.proved_aim ≡ stated (comparison_lists about.variables) (normal f)
+  states = states_of about (claim_variables claim) (aim_states claim.proved_aim) (normal f) (on.is.states.proved ∙ ap (stated (comparison_lists (claim_variables claim))) on.is.proved) on.variables
+
+  served : IsUnserved about (fix Every is.shape is.left is.right) → IsRankingRefused about
+  served u = elim (u (comes is.shape is.must)) [
+    | inl unranked ↦ elim unranked [ inl lacks ↦ absurd (lacks is.ranking) | inr refused ↦ refused ]
+    | inr some ↦ absurd (let w = some plain in elim (is.goes w.state w.is) [ inl e ↦ w.not_end e | inr g ↦ w.not_way g.0 g.1 ])
+  ]
+
+  own_or_later : (part : Property) → Contains (subformulas (fix Every is.shape is.left is.right)) part → IsUnserved about part → IsUnsettled about last part ⊎ IsTerminal part → IsRankingRefused about
+  own_or_later part m u later = elim (Contains-cases (fix Every is.shape is.left is.right) part (subformulas is.left ++ subformulas is.right) m) [
+    | inl e ↦ served (subst (IsUnserved about) (sym e) u)
+    | inr k ↦ absurd (elim (Contains-append_cases (subformulas is.left) (subformulas is.right) part k) [
+      | inl a ↦ local_now about last is.left is.left_local part a later
+      | inr b ↦ local_now about last is.right is.right_local part b later
+    ])
+  ]
+
+  open_place : (place : ℕ) → IsOpenAt about last (subformulas (fix Every is.shape is.left is.right)) place → IsRankingRefused about
+  open_place place o = own_or_later o.part (got_among (subformulas (fix Every is.shape is.left is.right)) place o.part o.there) o.unserved o.unsettled
+
+  by_gap : (gap : Gap) → IsGapFor about last (aim_states claim.proved_aim) gap → IsRankingRefused about
+  by_gap Inexact h = absurd (h (inl plain))
+  by_gap (Open place) h = open_place place (subst (λ g. IsOpenAt about last (subformulas g) place) is.same (h (normal f) states rows))
+
+  holds_at : (s : State) → IsStateOf about s → Holds (CaseSteps about) (normal f) s
+  holds_at s p = subst (λ g. Holds (CaseSteps about) g s) (sym is.same) (all_hold about limits.cases is.shape is.must is.left is.right is.ranking is.goes s p)
+
+  pub told_first : (first : Option Gap) → IsProofLeft about (aim_states claim.proved_aim) first → IsRankingRefused about
+  told_first None left =
+      let s = state about.start left.values in
+      let p : IsStateOf about s = record { location = limits.starts; values = left.outside.point.width } in
+      let fails = left.is.full (sym left.same) (normal f) states rows s p
+      (out_of_targets about.start left.found.part.region (lists_at about.start left.found.part.region.pieces.items) refl left.values left.outside.outside) in
+      absurd (negation_excludes (CaseSteps about) (normal f) s fails (holds_at s p))
+  told_first (Some gap) left = by_gap gap (subst (λ o. IfSome o (IsGapFor about last (aim_states claim.proved_aim))) (sym left.same) (left.is.tells last round))
+
+pub ranked_told : (about : CaseSystem) → AreCases about → (claim : Claim) (f : Property) (budget : Budget) (gap : Gap) → RankedUntilIsTold about claim f budget gap
+ranked_told about limits claim f budget gap on plain is last round h = told_first about limits claim f on plain is last round h.1.have_rows.0 h.1.first h.1.left.proof

@@ -1,0 +1,72 @@
+-- Why the ranks of a program do not serve for a fixed point that is to come to its end on every run.
+use Rattle.std.specs.Prelude.{◌≡◌, ◌⊎◌, ℕ, List, [], true}
+use Rattle.tv_program.specs.Steps.{State}
+use Rattle.tv_formula.specs.declared.tree.Path.TheVariants.{Every}
+use Rattle.tv_formula.specs.declared.tree.Shape.{Shape}
+use Rattle.tv_formula.specs.Properties.{Property, fix}
+use Rattle.tv_linear.specs.declared.region.Piece.{Piece}
+use Rattle.tv_linear.specs.declared.region.Region.{Region}
+use Rattle.tv_simplex.specs.declared.fault.SolveFault.{SolveFault}
+use Rattle.tv_meaning.specs.Meaning.{Holds}
+use Rattle.tv_cases.specs.LinearCases.{CaseSystem, CaseSteps}
+use Rattle.tv_known.specs.Cycles.{IsStateOf}
+use Rattle.tv_known.specs.Ranking.{HasLexicographicRanking}
+use Rattle.tv_known.specs.Rounds.{HoldSide, EndSides, Goes, must_end}
+use Rattle.tv_rank.specs.declared.name.Name.{Name}
+use Rattle.tv_region.specs.StepRegions.{HasNoDraws, InState}
+use Rattle.tv_lexrank.specs.First.{RefusesFirst}
+use Rattle.tv_lexrank.specs.declared.fault.RankFault.TheVariants as ranks
+use Rattle.tv_pre.specs.Pieces.{InPieces}
+use Rattle.tv_pre.specs.Questions.{Question, lies, AsksOf}
+
+-- ---- the ranking
+
+-- for so many pivots, the system of this name of the search for a ranking has the fault
+pub record IsRankingRefused (about : CaseSystem) : Type 0 where
+  pub pivots : ℕ
+  pub system : Name
+  pub fault : SolveFault
+  pub refuses : RefusesFirst about pivots (ranks.Solve system fault)
+
+-- the cases have no lexicographic ranking, or it was not settled whether they have one
+abbrev pub IsUnranked : CaseSystem → Type 0
+IsUnranked about = (HasLexicographicRanking about → ⊥) ⊎ IsRankingRefused about
+
+-- ---- the states
+
+-- none of the pieces has a state of the program
+abbrev pub AreVacant : CaseSystem → List Piece → Type 0
+AreVacant about qs = (s : State) → IsStateOf about s → InPieces qs s → ⊥
+
+-- some piece has one
+abbrev pub SomeIsIn : CaseSystem → List Piece → Type 0
+SomeIsIn about qs = (s : State) × IsStateOf about s × InPieces qs s
+
+-- whether each of the pieces lies in no piece at all
+abbrev pub AsksVacant : List Piece → Question → Type 0
+AsksVacant qs a = AsksOf (λ q b. b ≡ lies q []) qs a
+
+-- some state of the program is in neither region
+pub record SomeIsOutside (about : CaseSystem) (first second : Region) : Type 0 where
+  pub state : State
+  pub is : IsStateOf about state
+  pub not_first : InState first state → ⊥
+  pub not_second : InState second state → ⊥
+
+-- some state of the program is neither at the end nor on the way with a step
+pub record SomeIsBeside (about : CaseSystem) (hold end : State → Type 0) : Type 0 where
+  pub state : State
+  pub is : IsStateOf about state
+  pub not_end : end state → ⊥
+  pub not_way : hold state → Goes about state → ⊥
+
+-- ---- the fixed point
+
+-- of two sets: there is no ranking; or, where no case has a draw, some state is neither at the end of the fixed point nor on the way with a step
+abbrev pub IsUnservedBy : CaseSystem → Shape → (State → Type 0) → (State → Type 0) → Type 0
+IsUnservedBy about shape f g = IsUnranked about ⊎ (HasNoDraws about → SomeIsBeside about (λ s. HoldSide shape f g s) (λ s. EndSides shape f g s))
+
+-- so it is with the property, if it is such a fixed point
+abbrev pub IsUnserved : CaseSystem → Property → Type 0
+IsUnserved about (fix Every shape f g) = must_end shape ≡ true → IsUnservedBy about shape (λ s. Holds (CaseSteps about) f s) (λ s. Holds (CaseSteps about) g s)
+IsUnserved about f = Unit {0}
