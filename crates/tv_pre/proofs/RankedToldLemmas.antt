@@ -1,10 +1,10 @@
 -- Where no gap is told of a fixed point that is to come to its end on every run of a ranked program.
 use Rattle.std.proofs.Common.{◌≡◌, ◌⊎◌, inl, inr, ℕ, List, [], ◌∷◌, ◌++◌, refl, sym, ap, ◌∙◌, subst, true}
-use Rattle.std.specs.Prelude.{All, Contains, Option, None, Some, IfSome, ◌&&◌}
+use Rattle.std.specs.Prelude.{All, Contains, Option, None, Some, IfSome}
 use Rattle.std.proofs.lemmas.List.Elements.{Contains-append_cases}
 use Rattle.tv_program.specs.Steps.{State}
 use Rattle.tv_formula.specs.Formulas.{property_of}
-use Rattle.tv_formula.specs.Normal.{normal, negation}
+use Rattle.tv_formula.specs.Normal.{normal}
 use Rattle.tv_formula.specs.Forms.{is_local, are_local}
 use Rattle.tv_formula.specs.Properties.{Property, truth, compare, at, term, negated, all_of, some_of, next, fix, Properties, none, more}
 use Rattle.tv_formula.specs.declared.tree.Path.TheVariants.{Every}

@@ -1,8 +1,8 @@
 -- Where going back is exact, it can be told whether a state has a step.
-use Rattle.std.proofs.Common.{◌≡◌, ◌⊎◌, inl, inr, List, [], ◌∷◌, ◌++◌, length, map, refl, sym, ◌∙◌, subst, ℤ, Bool, true, false, ◌==◌}
-use Rattle.std.specs.Prelude.{All, Contains}
+use Rattle.std.proofs.Common.{◌≡◌, ◌⊎◌, inl, inr, List, [], ◌∷◌, ◌++◌, length, map, refl, sym, subst, ℤ, Bool, true, false, ◌==◌}
+use Rattle.std.specs.Prelude.{Contains}
 use Rattle.tv_program.specs.Steps.{State}
-use Rattle.tv_linear.specs.Linear.{Linear, IsMet}
+use Rattle.tv_linear.specs.Linear.{Linear}
 use Rattle.tv_linear.specs.Known.{term_value}
 use Rattle.tv_linear.specs.Terms.{terms_after}
 use Rattle.tv_cases.specs.LinearCases.{LinearCase, CaseSystem, CaseDoes}

@@ -1,5 +1,5 @@
 -- Pieces that have no state, and states that are in no region.
-use Rattle.std.proofs.Common.{◌≡◌, ◌⊎◌, inl, inr, ℕ, ◌+◌, ◌<◌, ◌≤◌, List, [], ◌∷◌, ◌++◌, length, take, get_or, refl, sym, ap, ◌∙◌, subst, arith, ℤ, true}
+use Rattle.std.proofs.Common.{◌≡◌, inl, inr, ℕ, ◌+◌, ◌<◌, ◌≤◌, List, [], ◌∷◌, length, take, get_or, refl, sym, ◌∙◌, subst, arith, ℤ}
 use Rattle.std.specs.Prelude.{All, Contains}
 use Rattle.std.proofs.lemmas.List.{take_all}
 use Rattle.std.proofs.lemmas.List.Elements.{Contains-append_cases}
@@ -7,7 +7,7 @@ use Rattle.tv_program.specs.Steps.{State}
 use Rattle.tv_formula.specs.declared.tree.Shape.{Shape}
 use Rattle.tv_formula.specs.declared.tree.Shape.TheVariants.{Until, Weak, Release, Strong}
 use Rattle.tv_formula.specs.Properties.{Property}
-use Rattle.tv_linear.specs.Linear.{Linear, IsMet}
+use Rattle.tv_linear.specs.Linear.{IsMet}
 use Rattle.tv_linear.specs.declared.region.Piece.{Piece}
 use Rattle.tv_linear.specs.declared.region.Region.{Region}
 use Rattle.tv_farkas.specs.Paths.{IsWholePoint}
@@ -17,11 +17,10 @@ use Rattle.tv_cases.proofs.Listed.{Contains-here, Contains-later, Contains-cases
 use Rattle.tv_cert.specs.Statements.{Statement}
 use Rattle.tv_choice.specs.Leading.{piece_rows, state}
 use Rattle.tv_cover.specs.Targets.{IsInTarget}
-use Rattle.tv_known.specs.Cycles.{IsStateOf}
-use Rattle.tv_known.specs.Rounds.{Goes, HoldSide, EndSides}
+use Rattle.tv_known.specs.Rounds.{HoldSide, EndSides}
 use Rattle.tv_region.specs.Algebra.{IsEither, IsRest}
 use Rattle.tv_region.specs.Regions.{IsRegion, IsPieceOf}
-use Rattle.tv_region.specs.StepRegions.{HasNoDraws, InState}
+use Rattle.tv_region.specs.StepRegions.{InState}
 use Rattle.tv_region.proofs.MetLemmas.{take_next}
 use Rattle.tv_rounds.proofs.SetLemmas.{own_set, either_set, told}
 use Rattle.tv_pre.specs.declared.sides.Sides.{Sides}
@@ -29,10 +28,9 @@ use Rattle.tv_pre.specs.Along.{AreAtEnd}
 use Rattle.tv_pre.specs.Built.{IsBuilt, IsAsked, of_place}
 use Rattle.tv_pre.specs.Full.{IsExactly}
 use Rattle.tv_pre.specs.Parts.{joined_pieces}
-use Rattle.tv_pre.specs.Pieces.{InPieces}
 use Rattle.tv_pre.specs.Questions.{Question}
 use Rattle.tv_pre.specs.RankedAlong.{HasAll, AreGoing, IsBesideIfPlain}
-use Rattle.tv_pre.specs.Unserved.{AreVacant, SomeIsIn, AsksVacant, SomeIsOutside, SomeIsBeside, IsUnservedBy}
+use Rattle.tv_pre.specs.Unserved.{AreVacant, SomeIsIn, AsksVacant, SomeIsOutside, IsUnservedBy}
 use Rattle.tv_pre.proofs.BuiltLemmas.{pieces_of}
 use Rattle.tv_pre.proofs.SetLemmas.{in_joined}
 

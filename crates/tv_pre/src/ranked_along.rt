@@ -30,7 +30,10 @@ pub(crate) enum RankedAlong {
     /// It holds everywhere: every state is at the end, or on the way with a step.
     Everywhere(Part),
     /// Nothing: some state is neither. The nodes of the arguments and the states at the end are given back.
-    Unsettled { children: Vec<Node>, end: Region },
+    Unsettled {
+        children: Vec<Node>,
+        end: Region,
+    },
     /// It was not settled whether some state is neither, for this reason. The same is given back.
     Untold {
         children: Vec<Node>,

@@ -1,4 +1,4 @@
-use Rattle.std.proofs.Common.{inl, inr, subst, IfOk}
+use Rattle.std.proofs.Common.{inl, inr, subst}
 use Rattle.tv_cases.specs.Systems.{cases_of}
 use Rattle.tv_lexrank.specs.First.{IsNode, RefusesFirst}
 use Rattle.tv_pre.proofs.ranking.ranking_of.Goals as goal
