@@ -36,6 +36,13 @@ pub(crate) fn ranking_of(setting: &Setting) -> Result<Option<Ranking>, AllocErro
                 fault: _,
             },
         ) => Ok(None),
-        Err(_) => Err(AllocError),
+        Err(
+            RankFault::Open {
+                taken: _,
+                values: _,
+            },
+        ) => unreachable!(),
+        Err(RankFault::Cover { fault: _ }) => unreachable!(),
+        Err(RankFault::Memory) => Err(AllocError),
     }
 }

@@ -11,3 +11,15 @@ returns-in-Err-Solve-clause-unranked c = λ none.
     let about = cases_of c.args.setting.now.about.now in
     let pivots = c.args.setting.now.budget.now.pivots in
     inr (record { pivots = pivots; system = _; fault = _; refuses = subst (RefusesFirst about pivots) c.in-Err-Solve.field-0-is c.in-Err-Solve.ensures.refusals })
+
+pub unreachable-requires : goal.unreachable-requires
+unreachable-requires c =
+    let about = cases_of c.args.setting.now.about.now in
+    let pivots = c.args.setting.now.budget.now.pivots in
+    subst (RefusesFirst about pivots) c.in-Err-Open.field-0-is c.in-Err-Open.ensures.refusals
+
+pub unreachable-requires-in-Err-Cover : goal.unreachable-requires-in-Err-Cover
+unreachable-requires-in-Err-Cover c =
+    let about = cases_of c.args.setting.now.about.now in
+    let pivots = c.args.setting.now.budget.now.pivots in
+    subst (RefusesFirst about pivots) c.in-Err-Cover.field-0-is c.in-Err-Cover.ensures.refusals
