@@ -135,7 +135,7 @@ const TERMINATION: &[Example] = &[
 ];
 
 /// Ends on every run of a ranked program, where no state is neither at the end nor on the way: the rows of such states have a rational point,
-/// and no whole one.
+/// and no whole one. In the last example that takes more splits than there are, and the rounds are open.
 const RANKED: &[Example] = &[
     (
         BESIDE,
