@@ -18,10 +18,12 @@ const MEETING: &str =
     "START: 0; FROM: 0; i := 0; TO: 1; FROM: 1; assume(i != n && n >= 0); i := i + 1; TO: 1;";
 
 /// The same where the number may be below 0.
-const MISSING: &str = "START: 0; FROM: 0; i := 0; TO: 1; FROM: 1; assume(i != n); i := i + 1; TO: 1;";
+const MISSING: &str =
+    "START: 0; FROM: 0; i := 0; TO: 1; FROM: 1; assume(i != n); i := i + 1; TO: 1;";
 
 /// Ends from some states alone.
-const HALF: &str = "START: 0; FROM: 0; assume(x > 0); x := x - 1; TO: 0; FROM: 0; assume(x < 0); TO: 1; FROM: 1; TO: 1;";
+const HALF: &str =
+    "START: 0; FROM: 0; assume(x > 0); x := x - 1; TO: 0; FROM: 0; assume(x < 0); TO: 1; FROM: 1; TO: 1;";
 
 /// Falls by a number that falls.
 const FALLING: &str = "START: 0; FROM: 0; assume(x > 0); x := x + y; y := y - 1; TO: 0;";
