@@ -36,6 +36,14 @@ const GROWING: &str =
 const COUNTERS: &str =
     "START: 0; FROM: 0; x := 0; y := 0; TO: 1; FROM: 1; x := x + 1; y := y + 2; TO: 1; FROM: 1; assume(x == 3); assume(y != 6); TO: 2;";
 
+/// Each step takes from what is left of the steps, and from a number.
+const SPENDING: &str = "START: 0; FROM: 0; assume(n > 0); n := n - 1; x := x - 1; TO: 0;";
+
+/// Two ways to spend what is left, one of which takes from a number too.
+const BURNING: &str =
+    "START: 0; FROM: 0; assume(f > 0); f := f - 1; h := h - 1; TO: 0; FROM: 0; assume(f > 0); f := f - 1; TO: 0; \
+     FROM: 0; assume(f <= 0); TO: 1; FROM: 1; TO: 1;";
+
 /// Steps, untils and what is kept, over some path and every path: a program, a property of it, and what is said.
 const PATHS: &[(&str, &str, Said)] = &[
     (ROUND, "[EX](at(1) || x < 100)", Said::Disproved),
@@ -127,6 +135,17 @@ const SAFE: &[(&str, &str, Said)] = &[
     (COUNTERS, "[AG](!at(2))", Said::Nothing),
 ];
 
+/// A number that stays in bounds since what takes from it must stop before.
+const STOPPING: &[(&str, &str, Said)] = &[
+    (SPENDING, "x < n || x < 0 || [AG](x >= 0)", Said::Proved),
+    (
+        SPENDING,
+        "[AG](x < n || x < 0 || [AG](x >= 0))",
+        Said::Proved,
+    ),
+    (BURNING, "f < 0 || h < f || [AG](h >= 0)", Said::Proved),
+];
+
 #[test]
 fn paths_are_settled_by_rounds(rt: HostRuntime) -> Result<(), Fail> {
     for (program, property, wanted) in PATHS {
@@ -148,6 +167,15 @@ fn paths_with_a_number_that_grows_are_settled(rt: HostRuntime) -> Result<(), Fai
 #[test]
 fn releases_are_settled_by_rounds(rt: HostRuntime) -> Result<(), Fail> {
     for (program, property, wanted) in RELEASES {
+        let answer = answer_to(rt.alloc(), program, property)?;
+        assert_eq!(rt; answer, *wanted, "{property} {program}");
+    }
+    Ok(())
+}
+
+#[test]
+fn bounds_are_kept_by_what_must_stop(rt: HostRuntime) -> Result<(), Fail> {
+    for (program, property, wanted) in STOPPING {
         let answer = answer_to(rt.alloc(), program, property)?;
         assert_eq!(rt; answer, *wanted, "{property} {program}");
     }

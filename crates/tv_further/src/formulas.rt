@@ -15,5 +15,6 @@ pub(crate) mod layers;
 pub(crate) mod next_part;
 pub(crate) mod ranked_regions;
 pub(crate) mod region_part;
+pub(crate) mod stopping_rows;
 pub(crate) mod until_by_ranks;
 pub(crate) mod until_splits;

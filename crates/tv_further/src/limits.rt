@@ -113,3 +113,8 @@ pub(crate) const ENDING_SPLITS: u32 = 6;
 pub(crate) const TRIED_CYCLES: usize = 24;
 
 pub(crate) const TRIED_CYCLE_CALLS: usize = 100;
+
+/// How many turns of loops are looked at for rows that are lost, and how often a row is asked in place of another.
+pub(crate) const TURNS: usize = 40;
+
+pub(crate) const STOPPING_ROUNDS: usize = 3;

@@ -3,9 +3,10 @@
 use crate::areas::sides::{Sides, common_areas};
 use crate::formulas::cycles_within::with_cycles;
 use crate::formulas::found::{Ended, Found, better, end_alone, part_found};
-use crate::formulas::kept::with_kept;
+use crate::formulas::kept::{Seeking, with_kept};
 use crate::formulas::layers::with_layers;
 use crate::formulas::region_part::Part;
+use crate::formulas::stopping_rows::areas_asked;
 use crate::formulas::until_by_ranks::until_by_ranks;
 use crate::limits::CUTS;
 use crate::question::Question;
@@ -81,20 +82,61 @@ fn first_keeping(
     }
 }
 
-/// What the ways find of a fixed point that may go on for ever: first with cuts, and then from whole areas.
+/// What was found of a fixed point that may go on for ever, and areas of the hold side that stay: first with cuts, and then from whole areas.
+fn with_hold(
+    question: &Question,
+    path: &Path,
+    sides: &Sides,
+    found: Found,
+    effort: &mut Effort,
+) -> Result<Found, AllocError> {
+    let mut found = found;
+    for rounds in [CUTS, 0] {
+        let areas = sides.hold;
+        let seeking = Seeking {
+            path,
+            areas,
+            rounds,
+        };
+        found = with_kept(question, sides, &seeking, found, effort)?;
+    }
+    Ok(found)
+}
+
+/// The same over every path where rows of the hold side are lost in turns that must stop before.
+fn with_stops(
+    question: &Question,
+    sides: &Sides,
+    found: Found,
+    effort: &mut Effort,
+) -> Result<Found, AllocError> {
+    match areas_asked(question, sides.hold, &found.stages.areas, effort)? {
+        None => Ok(found),
+        Some(areas) => {
+            let seeking = Seeking {
+                path: &Path::Every,
+                areas: &areas,
+                rounds: CUTS,
+            };
+            with_kept(question, sides, &seeking, found, effort)
+        }
+    }
+}
+
+/// What the ways find of a fixed point that may go on for ever.
 fn keeping(
     question: &Question,
     path: &Path,
     sides: &Sides,
     effort: &mut Effort,
 ) -> Result<Option<Found>, AllocError> {
-    match first_keeping(question, path, sides, effort)? {
-        None => Ok(None),
-        Some(found) => {
-            let cut = with_kept(question, path, sides, found, CUTS, effort)?;
-            let whole = with_kept(question, path, sides, cut, 0, effort)?;
-            Ok(Some(whole))
-        }
+    let Some(first) = first_keeping(question, path, sides, effort)? else {
+        return Ok(None);
+    };
+    let found = with_hold(question, path, sides, first, effort)?;
+    match path {
+        Path::Every => Ok(Some(with_stops(question, sides, found, effort)?)),
+        Path::Any => Ok(Some(found)),
     }
 }
 

@@ -26,17 +26,17 @@ struct Keeping {
     areas: Vec<Area>,
 }
 
-/// What was found, and the areas of the hold side outside of it; `None` where there are too many.
+/// What was found, and what of the areas lies outside of it; `None` where there are too many.
 fn keeping_of(
     question: &Question,
-    sides: &Sides,
+    hold: &[Area],
     found: &Found,
     effort: &mut Effort,
 ) -> Result<Option<Keeping>, AllocError> {
     let mut areas = Vec::new(question.alloc);
     push_copied(question.alloc, &found.stages.areas, &mut areas)?;
     let known = areas.len();
-    for area in sides.hold {
+    for area in hold {
         match parts_outside(question, area, &found.stages.areas, effort)? {
             None => return Ok(None),
             Some(parts) => push_areas(&mut areas, area.location, parts)?,
@@ -261,20 +261,28 @@ fn kept_proofs(
     Ok(Some(proofs))
 }
 
-/// What was found of a fixed point that may go on for ever, and areas of the hold side that stay, after so many rounds of cuts.
+/// From which areas on, over which paths and by how many rounds of cuts areas that stay are sought.
+#[derive(Drop)]
+pub(crate) struct Seeking<'a> {
+    pub path: &'a Path,
+    pub areas: &'a [Area],
+    pub rounds: usize,
+}
+
+/// What was found of a fixed point that may go on for ever, and areas of the hold side that stay.
 pub(crate) fn with_kept(
     question: &Question,
-    path: &Path,
     sides: &Sides,
+    seeking: &Seeking,
     found: Found,
-    rounds: usize,
     effort: &mut Effort,
 ) -> Result<Found, AllocError> {
+    let path = seeking.path;
     let mut found = found;
-    let Some(start) = keeping_of(question, sides, &found, effort)? else {
+    let Some(start) = keeping_of(question, seeking.areas, &found, effort)? else {
         return Ok(found);
     };
-    if let Some(keeping) = settled(question, path, start, rounds, effort)?
+    if let Some(keeping) = settled(question, path, start, seeking.rounds, effort)?
         && let Some(mut proofs) = kept_proofs(question, path, sides, &keeping, effort)?
     {
         found.proofs.append(&mut proofs)?;

@@ -197,13 +197,11 @@ pub(crate) fn split_by_guards(
     stuck: &Stuck,
     effort: &mut Effort,
 ) -> Result<Option<Stages>, AllocError> {
-    let places = &stuck.places;
     let guards = guards_at(question, stages, stuck)?;
-    let kept = kept_rows(question, stuck, &guards)?;
-    if let Some(split) = split_by_first(question, stages, places, &kept, effort)? {
+    if let Some(split) = split_by_kept(question, stages, stuck, &guards, effort)? {
         return Ok(Some(split));
     }
-    split_by_first(question, stages, places, &guards, effort)
+    split_by_first(question, stages, &stuck.places, &guards, effort)
 }
 
 /// The stages in which the areas between which no rank falls are split: by a guard that none of their passages changes, or else by where a
