@@ -178,6 +178,7 @@ const PARTED: &[(&str, &str, Said)] = &[
 const WAITING: &[(&str, &str, Said)] = &[
     (WAITERS, "[EF](w == 10)", Said::Proved),
     (WAITERS, "[AG]([EF](w == 0))", Said::Proved),
+    (WAITERS, "[AG]([EF](w == 0 && at(free)))", Said::Proved),
     (FALLING, "[EF](at(1))", Said::Proved),
     (FALLING, "[AG](at(1) || [EF](at(1)))", Said::Proved),
 ];

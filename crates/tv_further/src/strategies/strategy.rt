@@ -15,6 +15,7 @@ use crate::rows::solving::{Effort, denied};
 use crate::strategies::favouring::favour_next;
 use crate::strategies::link::{Between, Link, distinct_ways};
 use crate::strategies::plan::{Leaf, Plan, Planner, plan_of};
+use crate::strategies::splitting::{Attempted, Splitting, splitting_at};
 use crate::strategies::strategy_draft::{Cutting, Draft, First};
 use crate::strategies::strategy_order::{Field, costs_of, options_from};
 use crate::strategies::strategy_proofs::{Proving, Strategy, proofs_of};
@@ -29,7 +30,7 @@ enum Tried {
     /// The ranks do not fall between the areas at these places.
     Stuck(Vec<usize>),
     /// Nor do they, but for where the row is met they may.
-    Split { places: Vec<usize>, row: Row },
+    Split(Splitting),
 }
 
 /// Areas some of whose states have no link.
@@ -169,28 +170,6 @@ fn try_once(field: &mut Field, draft: &Draft, effort: &mut Effort) -> Result<Tri
     }))
 }
 
-/// The row that tells where the first of these terms is not below 0 by which one of the areas at these places is split.
-fn splitting_row(
-    field: &Field,
-    draft: &Draft,
-    terms: &[usize],
-    places: &[usize],
-    effort: &mut Effort,
-) -> Result<Option<Row>, AllocError> {
-    for number in terms {
-        if let Some(term) = number
-            .checked_sub(1)
-            .and_then(|place| field.terms.get(place))
-        {
-            let row = term.opposite(field.question.alloc)?;
-            if draft.are_split(field.question, places, &row, effort)? {
-                return Ok(Some(row));
-            }
-        }
-    }
-    Ok(None)
-}
-
 /// Holes that are left where a term is favoured at some areas.
 #[derive(Drop)]
 struct Held {
@@ -203,12 +182,19 @@ struct Held {
 #[derive(Drop)]
 struct Left {
     /// The terms that were favoured: areas may be split by where they are below 0.
-    tried: Vec<usize>,
+    tried: Vec<Attempted>,
     /// The first term that left holes.
     held: Option<Held>,
 }
 
 impl Left {
+    /// Adds that the term did not help at the areas at these places.
+    fn add(&mut self, alloc: Global, term: usize, places: &[usize]) -> Result<(), AllocError> {
+        let places = Vec::from_slice(alloc, places)?;
+        self.tried.push(Attempted { term, places })?;
+        Ok(())
+    }
+
     /// Notes what is left of a term that is favoured at the areas at these places; which areas it is favoured at.
     fn note(
         &mut self,
@@ -219,7 +205,7 @@ impl Left {
     ) -> Result<Vec<usize>, AllocError> {
         let group = draft.favouring(alloc, term)?;
         let places = Vec::from_slice(alloc, &group)?;
-        self.tried.push(term)?;
+        self.add(alloc, term, &group)?;
         if self.held.is_none() {
             self.held = Some(Held { term, group, holes });
         }
@@ -242,7 +228,7 @@ fn try_terms(
     for _ in 0..STRATEGY_ROUNDS {
         places = match try_once(field, draft, effort)? {
             Tried::Stuck(places) => {
-                left.tried.push(draft.greatest_at(&places))?;
+                left.add(alloc, draft.greatest_at(&places), &places)?;
                 places
             }
             Tried::Holes(holes) => match draft.greatest_at(&holes.places) {
@@ -271,9 +257,9 @@ fn no_term(
     let splits_first = draft.first == First::Splits || !may_cut;
     if splits_first
         && draft.splits < STRATEGY_CUTS
-        && let Some(row) = splitting_row(field, draft, &tried, &places, effort)?
+        && let Some(split) = splitting_at(field, draft, &tried, &places, effort)?
     {
-        return Ok(Tried::Split { places, row });
+        return Ok(Tried::Split(split));
     }
     match held {
         Some(held) if may_cut => {
@@ -419,7 +405,7 @@ fn round_of(
             return Ok(Round::Ended(ended));
         }
         Tried::Holes(holes) => cut_at(sought, &draft, links, &holes, effort)?,
-        Tried::Split { places, row } => draft.split(sought.question, &places, &row, effort)?,
+        Tried::Split(split) => { draft.split(sought.question, &split.places, &split.row, effort)? }
         Tried::Stuck(places) => {
             if places.is_empty() {
                 return Ok(Round::Ended(None));
