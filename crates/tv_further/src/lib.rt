@@ -18,4 +18,4 @@ mod strategies;
 pub use answer::Further;
 pub use budget::{Budget, Spent};
 pub use search::Name;
-pub use searching::further;
+pub use searching::{further, look};

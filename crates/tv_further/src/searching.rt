@@ -61,6 +61,19 @@ fn index_of(alloc: Global, list: &[Case]) -> Result<Vec<Stand>, AllocError> {
     index(alloc, &left)
 }
 
+/// What is found by single states.
+fn by_states(question: &Question, claim: &Claim) -> Result<Option<Further>, AllocError>
+    requires states { StatesIts claim.now }
+    requires variables { claim_variables claim.now ≡ (cases_of question.now.about.now).variables }
+    ensures { IfOk result (λ found. IfSome found (λ f. IsSettling (cases_of question.now.about.now) claim.now f.certificate)) }
+{
+    let mut spent = Spent {
+        states: 0,
+        calls: 0,
+    };
+    found_by(&ExplicitGraph, question, claim, &mut spent)
+}
+
 /// What is found by the searches that make no claim but that they end: the first of them, in their order.
 fn first_found(question: &Question, claim: &Claim) -> Result<Option<Further>, AllocError>
     requires states { StatesIts claim.now }
@@ -83,16 +96,22 @@ fn first_found(question: &Question, claim: &Claim) -> Result<Option<Further>, Al
     found_by(&Walks, question, claim, &mut spent)
 }
 
-/// A certificate of the claim that a further search finds and the checker accepts: that of the first search that finds one.
-///
-/// The known rows may be put into its pieces: they are of use where they hold whenever a run is at their location, and do no harm where they do
-/// not. Nothing is promised of when there is a certificate. It depends on the program, the claim, the rows and the budget alone.
-pub fn further(
+/// Which searches are made.
+#[derive(Clone, Copy)]
+enum Reach {
+    /// That of single states alone.
+    States,
+    All,
+}
+
+/// What the searches find of the claim.
+fn reached(
     alloc: Global,
     about: &Cases,
     claim: &Claim,
     known: &[Candidate],
     budget: &Budget,
+    reach: Reach,
 ) -> Result<Option<Further>, AllocError>
     requires states { StatesIts claim.now }
     requires variables { claim_variables claim.now ≡ (cases_of about.now).variables }
@@ -110,5 +129,40 @@ pub fn further(
         index: &index,
         constants: &constants,
     };
-    first_found(&question, claim)
+    match reach {
+        Reach::States => by_states(&question, claim),
+        Reach::All => first_found(&question, claim),
+    }
+}
+
+/// A certificate of the claim that a further search finds and the checker accepts: that of the first search that finds one.
+///
+/// The known rows may be put into its pieces: they are of use where they hold whenever a run is at their location, and do no harm where they do
+/// not. Nothing is promised of when there is a certificate. It depends on the program, the claim, the rows and the budget alone.
+pub fn further(
+    alloc: Global,
+    about: &Cases,
+    claim: &Claim,
+    known: &[Candidate],
+    budget: &Budget,
+) -> Result<Option<Further>, AllocError>
+    requires states { StatesIts claim.now }
+    requires variables { claim_variables claim.now ≡ (cases_of about.now).variables }
+    ensures { IfOk result (λ found. IfSome found (λ f. IsSettling (cases_of about.now) claim.now f.certificate)) }
+{
+    reached(alloc, about, claim, known, budget, Reach::All)
+}
+
+/// The same by single states alone, which takes little time however large the program is.
+pub fn look(
+    alloc: Global,
+    about: &Cases,
+    claim: &Claim,
+    budget: &Budget,
+) -> Result<Option<Further>, AllocError>
+    requires states { StatesIts claim.now }
+    requires variables { claim_variables claim.now ≡ (cases_of about.now).variables }
+    ensures { IfOk result (λ found. IfSome found (λ f. IsSettling (cases_of about.now) claim.now f.certificate)) }
+{
+    reached(alloc, about, claim, &[], budget, Reach::States)
 }

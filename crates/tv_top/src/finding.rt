@@ -20,7 +20,7 @@ use crate::answer::Answer;
 use crate::assignment::Assignment;
 use crate::cause::Cause;
 use crate::excluded::excluded;
-use crate::further::or_further;
+use crate::further::{looked_at, or_further};
 use crate::limits::Limits;
 use crate::making::count_lines;
 use crate::paths::over_paths;
@@ -292,6 +292,11 @@ fn settle(alloc: Global, search: &Search, proposers: &mut Vec<Box<dyn Proposer>>
     ensures { (f : Property) → IsClaim search.now.claim.now f →
         Answers (offers_of (λ p. rest p) proposers.old.items) search.now f result }
 {
+    match looked_at(alloc, search) {
+        Ok(Some(certificate)) => return told(alloc, search, &certificate),
+        Ok(None) => {}
+        Err(_) => return Answer::Memory,
+    }
     let answer = settle_once(alloc, search, proposers);
     or_further(alloc, search, proposers, answer)
 }

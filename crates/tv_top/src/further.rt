@@ -11,13 +11,39 @@ use crate::answer::Answer;
 use crate::cause::Cause;
 use crate::finding::{budget_of, told};
 use crate::search::Search;
+use crate::wanted::Wanted;
 use std::alloc::{AllocError, Global};
 use tv_candidates::Candidate;
 use tv_farkas::CoverFault;
-use tv_further::{Budget, further};
+use tv_further::{Budget, further, look};
 use tv_invariant::strengthen;
 use tv_propose::Proposer;
 use tv_shape::Certificate;
+
+/// A program of more cases than that is looked at by single states before ranks, rows and regions are sought, which may take long there.
+const MANY_CASES: usize = 24;
+
+/// Whether the program is looked at by single states first.
+fn is_looked_at(search: &Search) -> bool {
+    match search.task.wanted {
+        Wanted::Counts(_) => false,
+        _ => search.about.list().len() > MANY_CASES,
+    }
+}
+
+/// A certificate that single states give, where the program is looked at by them first, if there is one.
+pub(crate) fn looked_at(alloc: Global, search: &Search) -> Result<Option<Certificate>, AllocError>
+    requires one { IsOfOne search.now }
+    ensures { IfOk result (λ found. IfSome found (IsSettling (cases_of search.now.about.now) search.now.claim.now)) }
+{
+    if !is_looked_at(search) {
+        return Ok(None);
+    }
+    match look(alloc, search.about, search.claim, &Budget::usual())? {
+        None => Ok(None),
+        Some(found) => Ok(Some(found.certificate)),
+    }
+}
 
 /// Whether a further search is begun after the answer: where no ranks, no rows or no rounds were found, and not where a limit of the search
 /// was met.
