@@ -34,3 +34,4 @@ pub mod ChoiceLemmas
 pub mod TakenLemmas
 pub mod StopLemmas
 pub mod ProofLemmas
+pub mod WalkLemmas

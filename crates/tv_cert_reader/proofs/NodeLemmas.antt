@@ -11,7 +11,7 @@ use Rattle.tv_cases.specs.LinearCases.{CaseSystem}
 use Rattle.tv_cert.specs.declared.node.Marked.{Marked}
 use Rattle.tv_cert.specs.declared.node.Proof.{Proof}
 use Rattle.tv_cert.specs.declared.node.Node.{Node, Node', Row_of-Node, end_of-Node, more_of-Node, items-the_row-Node, out-Node, outs-Node'}
-use Rattle.tv_cert.specs.declared.node.Node.TheViews.{roll-Node, out-roll-Node}
+use Rattle.tv_cert.specs.declared.node.Node.TheViews.{out-roll-Node}
 use Rattle.tv_cert.specs.Listed.{pieces_list}
 use Rattle.tv_cert.specs.Nodes.{pieces_of, node_owes}
 use Rattle.tv_cert.specs.Shapes.{OwnShape, IsSaid, may_be_done, may_rank, NodeShape, KidsShape}
@@ -32,7 +32,7 @@ use Rattle.tv_cert_reader.specs.declared.failure.Failure.TheVariants.{Fault, Mem
 use Rattle.tv_cert_reader.specs.Reading.{Takes, FailsBy}
 use Rattle.tv_cert_reader.specs.Regions.{IsRegion, region_lines, region_with}
 use Rattle.tv_cert_reader.specs.Proofs.{AreProofsOf}
-use Rattle.tv_cert_reader.specs.Nodes.{AreFirstOf, nodes_lines}
+use Rattle.tv_cert_reader.specs.Nodes.{AreFirstOf, nodes_lines, node_of}
 use Rattle.tv_cert_reader.proofs.ReadingLemmas.{first_fails, mapped_fails, takes_both, takes_as}
 
 -- ---- how long what is to be shown is
@@ -132,10 +132,6 @@ node_shaped system s (Node' ps m shape kids shown) own first many =
     let below = ap (map pieces_list) out ∙ sym (kid_pieces_are kids) in
     let first_there = subst (AreFirstOf system (parts_of s)) out first in
     (subst (λ (x : Type 0). x) (λ i. OwnShape system s (ap (λ x. x.ranks) e i) (ap (λ x. x.pieces) e i) (below i) (ap (λ x. x.proofs.items) e i)) own, first_row system (parts_of s) kids first_there (ap length (sym out) ∙ many))
-
--- a node made of its parts
-abbrev pub node_of : List Marked → ℕ → Vec Node → Vec Proof → Node
-node_of ps m kids shown = roll-Node (record { pieces = ps; ranks = m; children = kids; proofs = shown })
 
 pub pieces_in_node : (ps : List Marked) (m : ℕ) (kids : Vec Node) (shown : Vec Proof) → ps ≡ pieces_list (node_of ps m kids shown)
 pieces_in_node ps m kids shown = sym (ap (λ x. x.pieces) (out-roll-Node (record { pieces = ps; ranks = m; children = kids; proofs = shown })))

@@ -18,3 +18,4 @@ pub mod Nodes
 pub mod Wholes
 pub mod Values
 pub mod Visits
+pub mod Walks

@@ -1,8 +1,6 @@
 -- What is read of the proofs of a node.
-use Rattle.std.specs.Prelude.{List, map, false, Result}
-use Rattle.std.specs.List.{AllZip, flat_map}
-use Rattle.std.specs.Global.{Vec}
-use Rattle.tv_grammar.specs.Langs.{each}
+use Rattle.std.specs.Prelude.{List, false, Result}
+use Rattle.std.specs.List.{AllZip}
 use Rattle.tv_cert.specs.declared.node.Proof.{Proof}
 use Rattle.tv_cert.specs.Obligations.{Obligation, Owed}
 use Rattle.tv_cert.specs.Shapes.{ProofShape}
@@ -20,10 +18,3 @@ ReadsProof o old new result = Reads (λ p. p) (ProofShape o) proof_lines (demand
 -- one for each obligation, in order
 abbrev pub AreProofsOf : List Obligation → List Proof → Type 0
 AreProofsOf os proofs = AllZip (λ o p. ProofShape o.owed p) os proofs
-
-abbrev pub proofs_in : Vec Proof → List Proof
-proofs_in v = v.items
-
--- they are read
-abbrev pub ReadsProofs : List Obligation → Cursor → Cursor → Result (Vec Proof) Failure → Type 0
-ReadsProofs os old new result = Reads proofs_in (AreProofsOf os) (flat_map proof_lines) (each (demanded false) (map (λ o. demand_of o.owed) os)) old new result

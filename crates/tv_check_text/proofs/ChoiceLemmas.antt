@@ -36,7 +36,8 @@ use Rattle.tv_cert_reader.proofs.ChoiceLemmas.{choice_goes, owes_free, split_rea
 use Rattle.tv_cert_reader.proofs.ReadingLemmas.{first_fails, second_fails}
 use Rattle.tv_cert_reader.proofs.SideLemmas.{sides_go}
 use Rattle.tv_check_text.specs.Judging.{choice_side, numbers_in, JudgedChoice, JudgedChoiceSides, JudgedLists, JudgedStops, JudgesChoice, JudgesChoiceSides, JudgesStops}
-use Rattle.tv_check_text.proofs.TreeLemmas.{vector, room_at, few_taken, one_more}
+use Rattle.tv_cert_reader.proofs.WalkLemmas.{vector}
+use Rattle.tv_check_text.proofs.TreeLemmas.{room_at, few_taken, one_more}
 use Rattle.tv_check_text.proofs.StopLemmas.{zip_many}
 
 module _ (system : CaseSystem) (p : Marked) (stop : Bool) (destination : Destination) where

@@ -6,7 +6,5 @@ pub mod ChoiceLemmas
 pub mod ProofLemmas
 pub mod TargetLemmas
 pub mod SettlingLemmas
-pub mod PassedLemmas
-pub mod NodeLemmas
 pub mod RestLemmas
 pub mod TextLemmas

@@ -29,12 +29,13 @@ use Rattle.tv_cert_reader.specs.declared.cursor.Cursor.{Cursor}
 use Rattle.tv_cert_reader.specs.Reading.{Takes}
 use Rattle.tv_cert_reader.specs.Covers.{IsCoverWithin}
 use Rattle.tv_cert_reader.specs.Values.{AreValues, start_counts, values_line}
+use Rattle.tv_cert_reader.specs.declared.walk.Walk.{Walk}
+use Rattle.tv_cert_reader.specs.Walks.{IsWalked}
 use Rattle.tv_check_text.specs.declared.judge.Judge.{Judge}
 use Rattle.tv_check_text.specs.Judging.{JudgedCover}
-use Rattle.tv_check_text.specs.Nodes.{IsJudgedNode}
 use Rattle.tv_check_text.specs.Rest.{IsFresh, IsJudgedRest, all_entries}
-use Rattle.tv_check_text.specs.Settling.{Settles, first_failing}
-use Rattle.tv_check_text.proofs.SettlingLemmas.{settles_both, settles_one}
+use Rattle.tv_check_text.specs.Settling.{Settles, first_failing, Judges, uncounted}
+use Rattle.tv_check_text.proofs.SettlingLemmas.{settles_both, settles_one, all_settled}
 
 -- ---- the rows of pieces are over the variables
 
@@ -52,7 +53,7 @@ there_by now (Some x) v m e = subst IsSome (sym m) refl
 -- ---- the last obligation
 
 -- the judge stands behind the root, and its pieces are kept
-module _ (system : CaseSystem) (s : Statement) (old mid : Judge) (fresh : IsFresh old) (head : Node) (h : IsJudgedNode system s old mid head) where
+module _ (system : CaseSystem) (s : Statement) (old mid : Walk Judge) (fresh : IsFresh old) (head : Node) (h : IsWalked Judges uncounted false system s old mid head) where
   pub kept : pieces_of h.node ≡ pieces_list head
   kept = pieces_are h.node ∙ sym h.pieces
 
@@ -62,27 +63,30 @@ module _ (system : CaseSystem) (s : Statement) (old mid : Judge) (fresh : IsFres
   below_is : node_entries old.nodes system s h.node ≡ below
   below_is = ap (λ n. node_entries n system s h.node) fresh.nodes
 
-  seen_below : mid.seen ≡ 0 + length below
-  seen_below = (let a = h.seen in let b = fresh.seen in let c = ap length below_is in omega (arith, a, b, c))
+  settled : (mid.taker.seen ≡ old.taker.seen + length (node_entries old.nodes system s h.node)) × Settles old.taker.seen old.taker.failing (node_entries old.nodes system s h.node) mid.taker.failing
+  settled = all_settled (node_entries old.nodes system s h.node) old.taker mid.taker h.taken
 
-  settles_below : Settles 0 None below mid.failing
-  settles_below = subst (λ (x : Type 0). x) (λ i. Settles (fresh.seen i) (fresh.failing i) (below_is i) mid.failing) h.settles
+  seen_below : mid.taker.seen ≡ 0 + length below
+  seen_below = (let a = settled.0 in let b = fresh.seen in let c = ap length below_is in omega (arith, a, b, c))
+
+  settles_below : Settles 0 None below mid.taker.failing
+  settles_below = subst (λ (x : Type 0). x) (λ i. Settles (fresh.seen i) (fresh.failing i) (below_is i) mid.taker.failing) settled.1
 
   few_nodes : size h.node < 2 ^ 32
-  few_nodes = (let a = h.nodes in let b = fresh.nodes in let c = h.counted in let d = mid.cursor.room in omega (arith, a, b, c, d))
+  few_nodes = (let a = h.nodes in let b = fresh.nodes in let c = h.counted.nodes in let d = mid.cursor.room in omega (arith, a, b, c, d))
 
   -- the last obligation is judged, which has this entry
-  module _ (new : Judge) (met : Bool) (seen : new.seen ≡ mid.seen + 1) (failing : new.failing ≡ first_failing mid.failing met (record { number = mid.seen + 1; node = 0; kind = kinds.Root })) where
+  module _ (new : Judge) (met : Bool) (seen : new.seen ≡ mid.taker.seen + 1) (failing : new.failing ≡ first_failing mid.taker.failing met (record { number = mid.taker.seen + 1; node = 0; kind = kinds.Root })) where
     few_entries : (verdict : Verdict) → length (all_entries system s h.node verdict) < 2 ^ 64
-    few_entries verdict = (let a = seen_below in let b = h.counted in let c = mid.cursor.room in let e = length-append below (root_entry (about_of system) (pieces_of h.node) verdict ∷ []) in omega (arith, a, b, c, e))
+    few_entries verdict = (let a = seen_below in let b = h.counted.left in let c = mid.cursor.room in let e = length-append below (root_entry (about_of system) (pieces_of h.node) verdict ∷ []) in omega (arith, a, b, c, e))
 
     all_seen : (verdict : Verdict) → new.seen ≡ length (all_entries system s h.node verdict)
     all_seen verdict = (let a = seen_below in let e = length-append below (root_entry (about_of system) (pieces_of h.node) verdict ∷ []) in omega (arith, a, e, seen))
 
     all_settles : (e : Entry) → e.obligation.node ≡ 0 → e.obligation.kind ≡ kinds.Root → (IsTrue met ↔ IsMetEntry e) → Settles 0 None (below ++ e ∷ []) new.failing
     all_settles e node kind told =
-        settles_both 0 mid.seen None mid.failing new.failing below (e ∷ []) seen_below settles_below
-        (subst (λ x. Settles mid.seen mid.failing (e ∷ []) x) (sym (failing ∙ ap (first_failing mid.failing met) (λ i. record { number = mid.seen + 1; node = sym node i; kind = sym kind i }))) (settles_one mid.seen mid.failing e met told))
+        settles_both 0 mid.taker.seen None mid.taker.failing new.failing below (e ∷ []) seen_below settles_below
+        (subst (λ x. Settles mid.taker.seen mid.taker.failing (e ∷ []) x) (sym (failing ∙ ap (first_failing mid.taker.failing met) (λ i. record { number = mid.taker.seen + 1; node = sym node i; kind = sym kind i }))) (settles_one mid.taker.seen mid.taker.failing e met told))
 
     -- a cover of the start is judged
     pub proved_judged : (next end : Cursor) → JudgedCover system.variables (owed_into (pieces_list head) system.start given no_fall) [] 128 mid.cursor next met → Takes (formed heads.End [] ∷ []) next end → end.lines ≡ [] → IsJudgedRest system s true [] old.cursor.lines new

@@ -3,7 +3,9 @@ use Rattle.std.proofs.Common.{◌≡◌, ◌↔◌, ℕ, ◌+◌, Bool, true, fa
 use Rattle.tv_cert.specs.Obligations.{Entry, IsMetEntry}
 use Rattle.tv_cert.specs.declared.failing.Failing.{Failing}
 use Rattle.tv_cert.proofs.FailingLemmas.{all_join, failing_left, failing_right}
-use Rattle.tv_check_text.specs.Settling.{Settles, first_failing}
+use Rattle.tv_cert_reader.specs.Walks.{Through, at_end, further}
+use Rattle.tv_check_text.specs.declared.judge.Judge.{Judge}
+use Rattle.tv_check_text.specs.Settling.{Settles, first_failing, Judges}
 
 pub settles_none : (from : ℕ) (x : Option Failing) → Settles from x [] x
 settles_none from (Some f) = refl
@@ -23,3 +25,12 @@ settles_one from None e false told = record { before = []; failing = e; after = 
   where
     never : ◌≡◌ {A = Bool} false true → ⊥
     never h = cc
+
+-- one after another
+pub all_settled : (es : List Entry) (v w : Judge) → Through Judges v es w → (w.seen ≡ v.seen + length es) × Settles v.seen v.failing es w.failing
+all_settled [] v w at_end = (omega arith, settles_none v.seen v.failing)
+all_settled (e ∷ es) v w (further {v = t} h rest) =
+    let later = all_settled es t w rest in (
+      (let a = h.seen in let b = later.0 in omega (arith, a, b)),
+      settles_both v.seen t.seen v.failing t.failing w.failing (e ∷ []) es h.seen h.settles later.1,
+    )

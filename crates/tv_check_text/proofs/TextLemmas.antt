@@ -25,7 +25,7 @@ use Rattle.tv_cert_reader.specs.Wholes.{IsBehindSaid, begun, said_head, side, sa
 use Rattle.tv_cert_reader.proofs.FitLemmas.{shows, read_fits, read_lines}
 use Rattle.tv_cert_reader.proofs.FitLines.{AreFit, behind_two, text_fit}
 use Rattle.tv_cert.specs.declared.failing.Failing.{Failing}
-use Rattle.tv_check_text.proofs.TreeLemmas.{vector}
+use Rattle.tv_cert_reader.proofs.WalkLemmas.{vector}
 use Rattle.tv_check_text.specs.declared.judge.Judge.{Judge}
 use Rattle.tv_check_text.specs.declared.text.Accepted.{Accepted}
 use Rattle.tv_check_text.specs.Rest.{IsJudgedRest, all_entries}

@@ -27,11 +27,8 @@ use Rattle.tv_cert_reader.specs.Covers.{IsBehind, IsCoverWithin, IsTarget, Names
 use Rattle.tv_cert_reader.proofs.CoverLemmas.{cover_goes, split_read, into_read, lists_stop}
 use Rattle.tv_cert_reader.proofs.ReadingLemmas.{first_fails, second_fails}
 use Rattle.tv_cert_reader.proofs.SideLemmas.{sides_go}
+use Rattle.tv_cert_reader.proofs.WalkLemmas.{vector}
 use Rattle.tv_check_text.specs.Judging.{numbers_in, cover_side, EntersNone, JudgedCover, JudgedLists, JudgedSides, JudgesCover, JudgesLists, JudgesSides}
-
--- a list of some length as a vector, wherever it lies
-abbrev pub vector : {X : Type 0} → Global → (xs : List X) → length xs < 2 ^ 63 → Vec X
-vector heap xs few = record { ptr = null_ptr; len = length xs; cap = length xs; alloc = heap; items = xs; ok = (refl, omega arith); small = few }
 
 -- where a value might lie
 abbrev pub room_at : Global → Box (Unit {0})

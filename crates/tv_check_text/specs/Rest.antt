@@ -12,15 +12,16 @@ use Rattle.tv_cert.specs.Plain.{about_of}
 use Rattle.tv_cert.specs.Statements.{Statement}
 use Rattle.tv_cert_reader.specs.CertificateGrammar.{Sides}
 use Rattle.tv_cert_reader.specs.declared.failure.Failure.{Failure}
+use Rattle.tv_cert_reader.specs.declared.walk.Walk.{Walk}
 use Rattle.tv_cert_reader.specs.Wholes.{IsBehindSaid, ReadsRest, ReadsAll, begun, side}
 use Rattle.tv_check_text.specs.declared.judge.Judge.{Judge}
 use Rattle.tv_check_text.specs.Settling.{Settles}
 
 -- nothing is judged yet
-pub record IsFresh (judge : Judge) : Type 0 where
-  pub nodes : judge.nodes ≡ 0
-  pub seen : judge.seen ≡ 0
-  pub failing : judge.failing ≡ None
+pub record IsFresh (walk : Walk Judge) : Type 0 where
+  pub nodes : walk.nodes ≡ 0
+  pub seen : walk.taker.seen ≡ 0
+  pub failing : walk.taker.failing ≡ None
 
 -- the obligations below a root that is to show this, and its own, with their proofs
 abbrev pub all_entries : CaseSystem → Statement → Node → Verdict → List Entry
@@ -42,11 +43,11 @@ pub record IsJudgedRest (system : CaseSystem) (s : Statement) (proved : Bool) (v
   pub few_entries : length (all_entries system s root verdict) < 2 ^ 64
   pub settles : Settles 0 None (all_entries system s root verdict) new.failing
 
-abbrev pub JudgesProved : CaseSystem → Statement → Judge → Judge → Result (Unit {0}) Failure → Type 0
+abbrev pub JudgesProved : CaseSystem → Statement → Walk Judge → Judge → Result (Unit {0}) Failure → Type 0
 JudgesProved system s old new (Ok done) = IsJudgedRest system s true [] old.cursor.lines new
 JudgesProved system s old new (Err f) = ReadsRest system s true old.cursor (Err f)
 
-abbrev pub JudgesDenied : CaseSystem → Statement → Judge → Judge → Result (Vec ℤ) Failure → Type 0
+abbrev pub JudgesDenied : CaseSystem → Statement → Walk Judge → Judge → Result (Vec ℤ) Failure → Type 0
 JudgesDenied system s old new (Ok values) = IsJudgedRest system s false values.items old.cursor.lines new
 JudgesDenied system s old new (Err f) = ReadsRest system s false old.cursor (Err f)
 
@@ -60,6 +61,6 @@ values_in None = []
 values_in (Some values) = values.items
 
 -- all lines are those of a certificate, and what is owed is judged
-abbrev pub JudgesWhole : CaseSystem → Sides → Judge → Judge → Result (Option (Vec ℤ)) Failure → Type 0
+abbrev pub JudgesWhole : CaseSystem → Sides → Walk Judge → Judge → Result (Option (Vec ℤ)) Failure → Type 0
 JudgesWhole system sides old new (Ok x) = (rest : List PlainLine) × (old.cursor.lines ≡ begun (is_proved x) rest) × IsJudgedRest system (side sides (is_proved x)) (is_proved x) (values_in x) rest new
 JudgesWhole system sides old new (Err f) = ReadsAll system sides old.cursor (Err f)

@@ -1,8 +1,9 @@
 -- The first obligation that is not met, over one part of a certificate after another.
-use Rattle.std.specs.Prelude.{◌≡◌, ℕ, Bool, true, false, List, Option, None, Some}
+use Rattle.std.specs.Prelude.{◌≡◌, ℕ, ◌+◌, ◌-◌, Bool, true, false, List, [], ◌∷◌, Option, None, Some}
 use Rattle.tv_cert.specs.Obligations.{Entry, AllMet}
 use Rattle.tv_cert.specs.declared.failing.Failing.{Failing}
 use Rattle.tv_cert.specs.FirstFailing.{IsFirstFailing}
+use Rattle.tv_check_text.specs.declared.judge.Judge.{Judge}
 
 -- Where `from` entries come before the list: one that is not met before it stays the first, else it is the first of the list.
 abbrev pub Settles : ℕ → Option Failing → List Entry → Option Failing → Type 0
@@ -15,3 +16,12 @@ abbrev pub first_failing : Option Failing → Bool → Failing → Option Failin
 first_failing (Some earlier) met f = Some earlier
 first_failing None true f = None
 first_failing None false f = Some f
+
+-- an obligation is judged by its proof
+pub record Judges (old : Judge) (e : Entry) (new : Judge) : Type 0 where
+  pub seen : new.seen ≡ old.seen + 1
+  pub settles : Settles old.seen old.failing (e ∷ []) new.failing
+
+-- how many obligations more can be counted
+abbrev pub uncounted : Judge → ℕ
+uncounted judge = 18446744073709551615 - judge.seen

@@ -9,16 +9,14 @@ ghost use Rattle.tv_check_text.specs.Rest.{IsFresh, JudgesProved, JudgesDenied, 
 
 use crate::judge::Judge;
 use crate::judging::judged_start;
-use crate::nodes::judge_node;
 use crate::visiting::first_failing;
 use tv_cert::{Aim, Claim, Failing, Kind};
-use tv_cert_reader::{Context, Failure, LineKind, Sort, finish, numbers, said, values};
+use tv_cert_reader::{Context, Failure, LineKind, Sort, Walk, finish, numbers, said, values};
 use tv_check::is_inside;
 
 /// Takes note of the last obligation, which is the root's.
 fn settle_root(judge: &mut Judge, met: bool)
     requires { judge.old.seen < 2 ^ 32 }
-    ensures cursor { judge.new.cursor ≡ judge.old.cursor }
     ensures seen { judge.new.seen ≡ judge.old.seen + 1 }
     ensures failing { judge.new.failing ≡ first_failing judge.old.failing met (record { number = judge.old.seen + 1; node = 0; kind = kinds.Root }) }
 {
@@ -33,56 +31,56 @@ fn settle_root(judge: &mut Judge, met: bool)
 }
 
 /// Reads and judges what stands behind the line that says that the property is proved.
-fn judge_proved(context: &Context, judge: &mut Judge, aim: &Aim) -> Result<(), Failure>
-    requires { IsFresh judge.old }
-    ensures { JudgesProved (cases_of context.now.about.now) (aim_states aim.now) judge.old judge.new result }
+fn judge_proved(context: &Context, walk: &mut Walk<Judge>, aim: &Aim) -> Result<(), Failure>
+    requires { IsFresh walk.old }
+    ensures { JudgesProved (cases_of context.now.about.now) (aim_states aim.now) walk.old walk.new.taker result }
 {
-    let root = judge_node(context, judge, aim)?;
-    let met = judged_start(context, &mut judge.cursor, &root.pieces)?;
-    settle_root(judge, met);
-    numbers(context.alloc, &mut judge.cursor, Sort::End, 0)?;
-    finish(context.alloc, &mut judge.cursor)?;
+    let root = walk.node(context.about, aim)?;
+    let met = judged_start(context, &mut walk.cursor, &root.pieces)?;
+    settle_root(&mut walk.taker, met);
+    numbers(context.alloc, &mut walk.cursor, Sort::End, 0)?;
+    finish(context.alloc, &mut walk.cursor)?;
     Ok(())
 }
 
 /// Reads and judges what stands behind the line that says that the property is disproved; the values at which it is.
-fn judge_denied(context: &Context, judge: &mut Judge, aim: &Aim) -> Result<Vec<i128>, Failure>
-    requires { IsFresh judge.old }
-    ensures { JudgesDenied (cases_of context.now.about.now) (aim_states aim.now) judge.old judge.new result }
+fn judge_denied(context: &Context, walk: &mut Walk<Judge>, aim: &Aim) -> Result<Vec<i128>, Failure>
+    requires { IsFresh walk.old }
+    ensures { JudgesDenied (cases_of context.now.about.now) (aim_states aim.now) walk.old walk.new.taker result }
 {
     let about = context.about;
-    let root = judge_node(context, judge, aim)?;
-    let (place, values) = values(context.alloc, &mut judge.cursor, about.variables())?;
+    let root = walk.node(about, aim)?;
+    let (place, values) = values(context.alloc, &mut walk.cursor, about.variables())?;
     if place >= 1 << 32 {
-        return Err(Failure::Fault(LineKind::Shape, judge.cursor.taken));
+        return Err(Failure::Fault(LineKind::Shape, walk.cursor.taken));
     }
     let piece = place as u32;
     if root.pieces.at(about.start(), piece).is_none() {
-        return Err(Failure::Fault(LineKind::Shape, judge.cursor.taken));
+        return Err(Failure::Fault(LineKind::Shape, walk.cursor.taken));
     }
     let met = is_inside(&root.pieces, about.start(), piece, &values);
-    settle_root(judge, met);
-    numbers(context.alloc, &mut judge.cursor, Sort::End, 0)?;
-    finish(context.alloc, &mut judge.cursor)?;
+    settle_root(&mut walk.taker, met);
+    numbers(context.alloc, &mut walk.cursor, Sort::End, 0)?;
+    finish(context.alloc, &mut walk.cursor)?;
     Ok(values)
 }
 
 /// Reads and judges a whole certificate of what is claimed; the values at which it is disproved, if it is.
 pub fn judge_whole(
     context: &Context,
-    judge: &mut Judge,
+    walk: &mut Walk<Judge>,
     claim: &Claim,
 ) -> Result<Option<Vec<i128>>, Failure>
     requires states { StatesIts claim.now }
-    requires fresh { IsFresh judge.old }
-    ensures { JudgesWhole (cases_of context.now.about.now) (sides_of claim.now) judge.old judge.new result }
+    requires fresh { IsFresh walk.old }
+    ensures { JudgesWhole (cases_of context.now.about.now) (sides_of claim.now) walk.old walk.new.taker result }
 {
-    numbers(context.alloc, &mut judge.cursor, Sort::Header, 0)?;
-    if said(context.alloc, &mut judge.cursor)? {
-        judge_proved(context, judge, claim.proved_aim())?;
+    numbers(context.alloc, &mut walk.cursor, Sort::Header, 0)?;
+    if said(context.alloc, &mut walk.cursor)? {
+        judge_proved(context, walk, claim.proved_aim())?;
         Ok(None)
     } else {
-        let values = judge_denied(context, judge, claim.denied_aim())?;
+        let values = judge_denied(context, walk, claim.denied_aim())?;
         Ok(Some(values))
     }
 }

@@ -8,7 +8,7 @@ use crate::rest::judge_whole;
 use std::alloc::Global;
 use tv_cases::Cases;
 use tv_cert::{Claim, Failing};
-use tv_cert_reader::{Context, Cursor, Failure, LineKind};
+use tv_cert_reader::{Context, Cursor, Failure, LineKind, Walk};
 use tv_lines::Lines;
 
 /// Why the text is not accepted as a certificate. A fault at a line comes before an obligation that is not met.
@@ -90,19 +90,22 @@ pub fn check_text(
         lines: Lines::new(text),
         taken: 0,
     };
-    let mut judge = Judge {
+    let mut walk = Walk {
         alloc,
         cursor,
         nodes: 0,
-        seen: 0,
-        failing: None,
+        taker: Judge {
+            seen: 0,
+            failing: None,
+        },
+        proofs: Vec::new(alloc),
         failure: None,
     };
-    match judge_whole(&context, &mut judge, claim) {
+    match judge_whole(&context, &mut walk, claim) {
         Err(failure) => Err(failing_of(failure)),
-        Ok(values) => match judge.failing {
+        Ok(values) => match walk.taker.failing {
             Some(failing) => Err(TextFailing::Obligation(failing)),
-            None => Ok(accepted_with(alloc, values, judge.seen)),
+            None => Ok(accepted_with(alloc, values, walk.taker.seen)),
         },
     }
 }

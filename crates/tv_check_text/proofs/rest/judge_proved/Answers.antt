@@ -19,53 +19,53 @@ returns-in_err-root c =
     let system = cases_of c.args.context.now.about.now in
     let s = aim_states c.args.aim.now in
     let a = c.args.context.now.about.now.are_cases.starts in
-    at_exit (JudgesProved system s c.args.judge.now c.judge_node.new.judge) c.from_residual.result c.in_err-root.field-0.0 c.from_residual.ensures.1
-    (proved_root_fails system (omega (arith, a)) s c.args.judge.now.cursor c.in_err-root.field-0.0 c.in_err-root.ensures.judged)
+    at_exit (JudgesProved system s c.args.walk.now c.node.new.self.taker) c.from_residual.result c.in_err-root.field-0.0 c.from_residual.ensures.1
+    (proved_root_fails system (omega (arith, a)) s c.args.walk.now.cursor c.in_err-root.field-0.0 c.in_err-root.ensures.walked)
 
 pub returns-in_err-met : goal.returns-in_err-met
 returns-in_err-met c =
     let system = cases_of c.args.context.now.about.now in
     let s = aim_states c.args.aim.now in
     let a = c.args.context.now.about.now.are_cases.starts in
-    let j = c.in_ok-root.ensures.judged in
+    let j = c.in_ok-root.ensures.walked in
     let f = c.in_err-met.field-0.0 in
-    at_exit (JudgesProved system s c.args.judge.now _) c.from_residual-in_err-met.result f c.from_residual-in_err-met.ensures.1
-    (start_fails system (omega (arith, a)) s c.args.judge.now.cursor j.node c.judge_node.new.judge.cursor j.is_node j.took f
-    (subst (λ ps. FailsBy (cover false 128 system.variables 0 (start_counts system ps)) c.judge_node.new.judge.cursor f) j.pieces c.in_err-met.ensures))
+    at_exit (JudgesProved system s c.args.walk.now _) c.from_residual-in_err-met.result f c.from_residual-in_err-met.ensures.1
+    (start_fails system (omega (arith, a)) s c.args.walk.now.cursor j.node c.node.new.self.cursor j.is_node j.took f
+    (subst (λ ps. FailsBy (cover false 128 system.variables 0 (start_counts system ps)) c.node.new.self.cursor f) j.pieces c.in_err-met.ensures))
 
 pub returns-in_err-numbers : goal.returns-in_err-numbers
 returns-in_err-numbers c =
     let system = cases_of c.args.context.now.about.now in
     let s = aim_states c.args.aim.now in
     let a = c.args.context.now.about.now.are_cases.starts in
-    let j = c.in_ok-root.ensures.judged in
+    let j = c.in_ok-root.ensures.walked in
     let start = c.in_ok-met.ensures in
     let f = c.in_err-numbers.field-0.0 in
-    at_exit (JudgesProved system s c.args.judge.now _) c.from_residual-in_err-numbers.result f c.from_residual-in_err-numbers.ensures.1
-    (last_fails system (omega (arith, a)) s c.args.judge.now.cursor j.node c.judge_node.new.judge.cursor j.is_node j.took start.tree c.judged_start.new.cursor
+    at_exit (JudgesProved system s c.args.walk.now _) c.from_residual-in_err-numbers.result f c.from_residual-in_err-numbers.ensures.1
+    (last_fails system (omega (arith, a)) s c.args.walk.now.cursor j.node c.node.new.self.cursor j.is_node j.took start.tree c.judged_start.new.cursor
     (subst (λ ps. IsCoverWithin system.variables (start_counts system ps) 0 128 start.tree) j.pieces start.within) start.took f
-    (subst (λ k. FailsBy last k f) c.settle_root.ensures.cursor c.in_err-numbers.ensures))
+    c.in_err-numbers.ensures)
 
 pub returns-in_err-finish : goal.returns-in_err-finish
 returns-in_err-finish c =
     let system = cases_of c.args.context.now.about.now in
     let s = aim_states c.args.aim.now in
     let a = c.args.context.now.about.now.are_cases.starts in
-    let j = c.in_ok-root.ensures.judged in
+    let j = c.in_ok-root.ensures.walked in
     let start = c.in_ok-met.ensures in
     let f = c.in_err-finish.field-0.0 in
     let none = no_numbers c.in_ok-numbers.field-0.items c.in_ok-numbers.ensures.0.many in
-    at_exit (JudgesProved system s c.args.judge.now _) c.from_residual-in_err-finish.result f c.from_residual-in_err-finish.ensures.1
-    (end_fails system (omega (arith, a)) s c.args.judge.now.cursor j.node c.judge_node.new.judge.cursor j.is_node j.took start.tree c.judged_start.new.cursor
+    at_exit (JudgesProved system s c.args.walk.now _) c.from_residual-in_err-finish.result f c.from_residual-in_err-finish.ensures.1
+    (end_fails system (omega (arith, a)) s c.args.walk.now.cursor j.node c.node.new.self.cursor j.is_node j.took start.tree c.judged_start.new.cursor
     (subst (λ ps. IsCoverWithin system.variables (start_counts system ps) 0 128 start.tree) j.pieces start.within) start.took c.numbers.new.cursor f
-    (subst (λ (x : Type 0). x) (λ i. Takes (formed heads.End (none i) ∷ []) (c.settle_root.ensures.cursor i) c.numbers.new.cursor) c.in_ok-numbers.ensures.1) c.in_err-finish.ensures)
+    (subst (λ zs. Takes (formed heads.End zs ∷ []) c.judged_start.new.cursor c.numbers.new.cursor) none c.in_ok-numbers.ensures.1) c.in_err-finish.ensures)
 
 pub returns : goal.returns
 returns c =
     let system = cases_of c.args.context.now.about.now in
     let s = aim_states c.args.aim.now in
     let none = no_numbers c.in_ok-numbers.field-0.items c.in_ok-numbers.ensures.0.many in
-    proved_judged system s c.args.judge.now c.judge_node.new.judge c.requires c.in_ok-root.root c.in_ok-root.ensures.judged _ c.in_ok-met.met c.settle_root.ensures.seen c.settle_root.ensures.failing
+    proved_judged system s c.args.walk.now c.node.new.self c.requires c.in_ok-root.root c.in_ok-root.ensures.walked _ c.in_ok-met.met c.settle_root.ensures.seen c.settle_root.ensures.failing
     c.judged_start.new.cursor c.numbers.new.cursor c.in_ok-met.ensures
-    (subst (λ (x : Type 0). x) (λ i. Takes (formed heads.End (none i) ∷ []) (c.settle_root.ensures.cursor i) c.numbers.new.cursor) c.in_ok-numbers.ensures.1)
+    (subst (λ zs. Takes (formed heads.End zs ∷ []) c.judged_start.new.cursor c.numbers.new.cursor) none c.in_ok-numbers.ensures.1)
     c.in_ok-finish.ensures
