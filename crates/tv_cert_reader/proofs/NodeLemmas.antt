@@ -133,9 +133,6 @@ node_shaped system s (Node' ps m shape kids shown) own first many =
     let first_there = subst (AreFirstOf system (parts_of s)) out first in
     (subst (λ (x : Type 0). x) (λ i. OwnShape system s (ap (λ x. x.ranks) e i) (ap (λ x. x.pieces) e i) (below i) (ap (λ x. x.proofs.items) e i)) own, first_row system (parts_of s) kids first_there (ap length (sym out) ∙ many))
 
-pub pieces_in_node : (ps : List Marked) (m : ℕ) (kids : Vec Node) (shown : Vec Proof) → ps ≡ pieces_list (node_of ps m kids shown)
-pieces_in_node ps m kids shown = sym (ap (λ x. x.pieces) (out-roll-Node (record { pieces = ps; ranks = m; children = kids; proofs = shown })))
-
 -- ---- reading a node
 
 -- its region and its first children are read
@@ -244,6 +241,3 @@ module _ (system : CaseSystem) (s : Statement) (old now : Cursor) (ps : List Mar
       let b = length-append (region_lines (kind_of s) (ps, m) ++ nodes_lines (parts_of s) kids) now.lines in
       let c = length-append (region_lines (kind_of s) (ps, m)) (nodes_lines (parts_of s) kids) in
       omega (arith, a, b, c)
-
-  pub few_pieces : length ps < 2 ^ 32
-  few_pieces = (let a = took_long in let b = pieces_long ps in let r = old.room in omega (arith, a, b, r))

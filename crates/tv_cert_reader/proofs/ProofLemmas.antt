@@ -14,11 +14,10 @@ use Rattle.tv_cert_reader.specs.Demands.{Demand, demand_of, IsDrawFree}
 use Rattle.tv_cert_reader.specs.ChoiceGrammar.{demanded}
 use Rattle.tv_cert_reader.proofs.CompleteReads.{then_read}
 use Rattle.tv_cert_reader.proofs.CompleteCovers.{proof_read}
-use Rattle.tv_cert_reader.specs.declared.cursor.Cursor.{Cursor}
 use Rattle.tv_cert_reader.specs.declared.failure.Failure.{Failure}
 use Rattle.tv_cert_reader.specs.declared.failure.Failure.TheVariants.{Fault, Memory}
 use Rattle.tv_cert_reader.specs.declared.walk.Walk.{Walk}
-use Rattle.tv_cert_reader.specs.Reading.{Takes, FaultAt, FailsBy}
+use Rattle.tv_cert_reader.specs.Reading.{FaultAt, FailsBy}
 use Rattle.tv_cert_reader.specs.Proofs.{AreProofsOf}
 use Rattle.tv_cert_reader.specs.Visits.{IsStopped}
 use Rattle.tv_cert_reader.specs.Walks.{kept_proofs, at_end, further, IsPassed, AreTaken}
@@ -92,9 +91,3 @@ module _ {T : Type 0} (takes : T → Entry → T → Type 0) (whole : Bool) wher
     where
       the_same : (x y : Failure) → ◌≡◌ {A = Option Failure} (Some x) (Some y) → x ≡ y
       the_same x y e = cc
-
-  pub told : (os : List Obligation) (v w : Walk T) → Stopped Passes Stops v os w → w.failure ≡ None → ⊥
-  told os v w h e = none_told h.stopped.failure (sym h.stopped.is_told ∙ e)
-    where
-      none_told : (x : Failure) → ◌≡◌ {A = Option Failure} (Some x) None → ⊥
-      none_told x e = cc

@@ -38,7 +38,7 @@ use Rattle.tv_cert_reader.specs.Nodes.{ReadsNode, AreFirstOf, nodes_lines, node_
 use Rattle.tv_cert_reader.specs.Proofs.{AreProofsOf}
 use Rattle.tv_cert_reader.specs.Reading.{Takes, FailsBy}
 use Rattle.tv_cert_reader.specs.Regions.{IsRegion, region_lines}
-use Rattle.tv_cert_reader.specs.Walks.{kept_proofs, Through, at_end, further, HasRoom, AreTaken, IsWalked, Walks}
+use Rattle.tv_cert_reader.specs.Walks.{Through, at_end, further, HasRoom, AreTaken, IsWalked, Walks}
 use Rattle.tv_cert_reader.proofs.NodeLemmas.{Opened, took_long, pieces_long, stated_is, opened, opened_next, child_fails, proofs_fail, node_built}
 
 -- ---- the entries of one child after another

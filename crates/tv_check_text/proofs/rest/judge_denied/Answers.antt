@@ -8,7 +8,7 @@ use Rattle.tv_cert.specs.AimViews.{aim_states}
 use Rattle.tv_cert.specs.Listed.{pieces_list}
 use Rattle.tv_cert.specs.Obligations.{PointMet}
 use Rattle.tv_cert.specs.Pieces.{pieces_at, rows_of}
-use Rattle.tv_cert_reader.specs.LineGrammar.{line, last}
+use Rattle.tv_cert_reader.specs.LineGrammar.{line}
 use Rattle.tv_cert_reader.specs.CertificateGrammar.{at_line}
 use Rattle.tv_cert_reader.specs.Reading.{Takes, FailsBy}
 use Rattle.tv_cert_reader.proofs.ReadingLemmas.{at_exit}

@@ -4,7 +4,6 @@ use Rattle.tv_lines.specs.declared.head.Head.TheVariants as heads
 use Rattle.tv_cases.specs.Systems.{cases_of}
 use Rattle.tv_cert.specs.AimViews.{aim_states}
 use Rattle.tv_cert_reader.specs.CoverGrammar.{cover}
-use Rattle.tv_cert_reader.specs.LineGrammar.{last}
 use Rattle.tv_cert_reader.specs.Covers.{IsCoverWithin}
 use Rattle.tv_cert_reader.specs.Reading.{Takes, FailsBy}
 use Rattle.tv_cert_reader.specs.Values.{start_counts}
