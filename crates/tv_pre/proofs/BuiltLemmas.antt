@@ -69,6 +69,7 @@ module _ (about : CaseSystem) where
   pub fault_to : (s : Statement) (budget : Budget) (h k : ℕ) (fault : PreFault) → h ≤ k → IsPreFault about s budget h fault → IsPreFault about s budget k fault
   fault_to s budget h k (faults.Region f) l m = (lift_to (λ x. IsRefusedRegion about s budget x f) (λ x. refused_up s budget x f) h k l m.0, m.1)
   fault_to s budget h k (faults.Cover f) l m = (record { question = m.0.question; asked = asked_to s h k m.0.question l m.0.asked; refuses = m.0.refuses }, m.1)
+  fault_to s budget h k (faults.Rank system f) l m = m
   fault_to s budget h k faults.Memory l m = tt
 
   pub one_more : (s : Statement) (h : ℕ) (r : Region) → IsBuilt about s (suc h) r → IsBuilt about s (1 + h) r
@@ -108,6 +109,7 @@ module _ (about : CaseSystem) where
     pub fault_wider : (budget : Budget) (h : ℕ) (fault : PreFault) → IsPreFault about s budget h fault → IsPreFault about t budget h fault
     fault_wider budget h (faults.Region f) m = (refused_wider budget h f m.0, m.1)
     fault_wider budget h (faults.Cover f) m = (record { question = m.0.question; asked = asked_wider h m.0.question m.0.asked; refuses = m.0.refuses }, m.1)
+    fault_wider budget h (faults.Rank system f) m = m
     fault_wider budget h faults.Memory m = tt
 
   -- ---- pieces of regions

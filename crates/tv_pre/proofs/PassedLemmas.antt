@@ -32,6 +32,7 @@ module _ (about : CaseSystem) (budget : Budget) where
   pub region_fault : (s : Statement) (h : ℕ) (fault : RegionFault) (r : PreFault) → IsOfRegion fault r → IsRefusedRegion about s budget h fault → IsPreFault about s budget h r
   region_fault s h fault (faults.Region k) is m = (subst (IsRefusedRegion about s budget h) is.0 m, is.1)
   region_fault s h fault (faults.Cover k) is m = absurd is
+  region_fault s h fault (faults.Rank system k) is m = absurd is
   region_fault s h fault faults.Memory is m = tt
 
   question_fault : (s : Statement) (h : ℕ) (asks : Question → Type 0) → ((a : Question) → asks a → IsAsked about s h a) → (fault : CoverFault) → (fault ≡ covers.Memory → ⊥) → IsRefusal about budget asks fault → IsPreFault about s budget h (faults.Cover fault)
@@ -43,6 +44,7 @@ module _ (about : CaseSystem) (budget : Budget) where
   pub cover_fault : (s : Statement) (h : ℕ) (asks : Question → Type 0) → ((a : Question) → asks a → IsAsked about s h a) → (fault : CoverFault) (r : PreFault) → IsOfCover fault r → IsRefusal about budget asks fault → IsPreFault about s budget h r
   cover_fault s h asks w fault (faults.Region k) is m = absurd is
   cover_fault s h asks w fault (faults.Cover k) is m = question_fault s h asks w k is.1 (subst (IsRefusal about budget asks) is.0 m)
+  cover_fault s h asks w fault (faults.Rank system k) is m = absurd is
   cover_fault s h asks w fault faults.Memory is m = tt
 
   -- a fault of regions is passed on as it is
@@ -75,4 +77,5 @@ module _ (about : CaseSystem) (budget : Budget) where
           },
           w.1,
         ))
+    rounds_fault grows fault (faults.Rank system k) is m = absurd is
     rounds_fault grows fault faults.Memory is m = tt

@@ -37,7 +37,7 @@ use Rattle.tv_pre.specs.Finding.{IsGapFor, IsOpenAt, IsTerminal}
 use Rattle.tv_pre.specs.Full.{HasRows}
 use Rattle.tv_pre.specs.Proving.{IsProofLeft}
 use Rattle.tv_pre.specs.Told.{IsClaimOn, RankedUntilIsTold}
-use Rattle.tv_pre.specs.Unserved.{IsRankingRefused, IsUnserved}
+use Rattle.tv_pre.specs.Unserved.{IsUnserved}
 use Rattle.tv_pre.proofs.DecidingLemmas.{states_of}
 use Rattle.tv_pre.proofs.ToldLemmas.{got_among}
 
@@ -110,38 +110,38 @@ module _ (about : CaseSystem) (limits : AreCases about) (claim : Claim) (f : Pro
   states : aim_states claim.proved_aim ≡ stated (comparison_lists about.variables) (normal f)
   states = states_of about (claim_variables claim) (aim_states claim.proved_aim) (normal f) (on.is.states.proved ∙ ap (stated (comparison_lists (claim_variables claim))) on.is.proved) on.variables
 
-  served : IsUnserved about (fix Every is.shape is.left is.right) → IsRankingRefused about
+  served : IsUnserved about (fix Every is.shape is.left is.right) → ⊥
   served u = elim (u (comes is.shape is.must)) [
-    | inl unranked ↦ elim unranked [ inl lacks ↦ absurd (lacks is.ranking) | inr refused ↦ refused ]
-    | inr some ↦ absurd (let w = some plain in elim (is.goes w.state w.is) [ inl e ↦ w.not_end e | inr g ↦ w.not_way g.0 g.1 ])
+    | inl lacks ↦ lacks is.ranking
+    | inr some ↦ (let w = some plain in elim (is.goes w.state w.is) [ inl e ↦ w.not_end e | inr g ↦ w.not_way g.0 g.1 ])
   ]
 
-  own_or_later : (part : Property) → Contains (subformulas (fix Every is.shape is.left is.right)) part → IsUnserved about part → IsUnsettled about last part ⊎ IsTerminal part → IsRankingRefused about
+  own_or_later : (part : Property) → Contains (subformulas (fix Every is.shape is.left is.right)) part → IsUnserved about part → IsUnsettled about last part ⊎ IsTerminal part → ⊥
   own_or_later part m u later = elim (Contains-cases (fix Every is.shape is.left is.right) part (subformulas is.left ++ subformulas is.right) m) [
     | inl e ↦ served (subst (IsUnserved about) (sym e) u)
-    | inr k ↦ absurd (elim (Contains-append_cases (subformulas is.left) (subformulas is.right) part k) [
+    | inr k ↦ elim (Contains-append_cases (subformulas is.left) (subformulas is.right) part k) [
       | inl a ↦ local_now about last is.left is.left_local part a later
       | inr b ↦ local_now about last is.right is.right_local part b later
-    ])
+    ]
   ]
 
-  open_place : (place : ℕ) → IsOpenAt about last (subformulas (fix Every is.shape is.left is.right)) place → IsRankingRefused about
+  open_place : (place : ℕ) → IsOpenAt about last (subformulas (fix Every is.shape is.left is.right)) place → ⊥
   open_place place o = own_or_later o.part (got_among (subformulas (fix Every is.shape is.left is.right)) place o.part o.there) o.unserved o.unsettled
 
-  by_gap : (gap : Gap) → IsGapFor about last (aim_states claim.proved_aim) gap → IsRankingRefused about
-  by_gap Inexact h = absurd (h (inl plain))
+  by_gap : (gap : Gap) → IsGapFor about last (aim_states claim.proved_aim) gap → ⊥
+  by_gap Inexact h = h (inl plain)
   by_gap (Open place) h = open_place place (subst (λ g. IsOpenAt about last (subformulas g) place) is.same (h (normal f) states rows))
 
   holds_at : (s : State) → IsStateOf about s → Holds (CaseSteps about) (normal f) s
   holds_at s p = subst (λ g. Holds (CaseSteps about) g s) (sym is.same) (all_hold about limits.cases is.shape is.must is.left is.right is.ranking is.goes s p)
 
-  pub told_first : (first : Option Gap) → IsProofLeft about (aim_states claim.proved_aim) first → IsRankingRefused about
+  pub told_first : (first : Option Gap) → IsProofLeft about (aim_states claim.proved_aim) first → ⊥
   told_first None left =
       let s = state about.start left.values in
       let p : IsStateOf about s = record { location = limits.starts; values = left.outside.point.width } in
       let fails = left.is.full (sym left.same) (normal f) states rows s p
       (out_of_targets about.start left.found.part.region (lists_at about.start left.found.part.region.pieces.items) refl left.values left.outside.outside) in
-      absurd (negation_excludes (CaseSteps about) (normal f) s fails (holds_at s p))
+      negation_excludes (CaseSteps about) (normal f) s fails (holds_at s p)
   told_first (Some gap) left = by_gap gap (subst (λ o. IfSome o (IsGapFor about last (aim_states claim.proved_aim))) (sym left.same) (left.is.tells last round))
 
 pub ranked_told : (about : CaseSystem) → AreCases about → (claim : Claim) (f : Property) (budget : Budget) (gap : Gap) → RankedUntilIsTold about claim f budget gap

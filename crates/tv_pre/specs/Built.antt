@@ -21,6 +21,7 @@ use Rattle.tv_pre.specs.Fixed.{IsJoined}
 use Rattle.tv_pre.specs.Growing.{IsEverywhere}
 use Rattle.tv_pre.specs.Parts.{joined_pieces}
 use Rattle.tv_pre.specs.Questions.{Question, lies, steps, chooses, Refuses}
+use Rattle.tv_pre.specs.Unserved.{IsRankingRefused}
 
 -- ---- atoms
 abbrev mutual
@@ -120,6 +121,7 @@ pub record IsRefusedQuestion (about : CaseSystem) (s : Statement) (budget : Budg
 abbrev pub IsPreFault : CaseSystem → Statement → Budget → ℕ → PreFault → Type 0
 IsPreFault about s budget h (faults.Region fault) = IsRefusedRegion about s budget h fault × (fault ≡ regions.Memory → ⊥)
 IsPreFault about s budget h (faults.Cover fault) = IsRefusedQuestion about s budget h fault × (fault ≡ covers.Memory → ⊥)
+IsPreFault about s budget h (faults.Rank system fault) = IsRankingRefused about budget.pivots system fault
 IsPreFault about s budget h faults.Memory = Unit {0}
 
 -- ---- what is made of given regions

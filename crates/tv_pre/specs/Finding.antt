@@ -157,7 +157,7 @@ test_statement (Rows lists) = rows (map (λ v. v.items) lists.now)
 test_statement (Here l) = here l
 test_statement (Elsewhere l) = elsewhere l
 
--- a refusal is of regions that are made of the atoms of the formula
+-- a refusal is of regions that are made of the atoms of the formula, or of the ranks of the program
 abbrev pub IsRefusedFor : CaseSystem → Budget → ℕ → Statement → PreFault → Type 0
 IsRefusedFor about budget last s fault = IsPreFault about s budget (steps_back last s) fault
 

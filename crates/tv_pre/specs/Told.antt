@@ -20,7 +20,6 @@ use Rattle.tv_pre.specs.declared.gap.Gap.{Gap}
 use Rattle.tv_pre.specs.declared.deciding.Unproved.TheVariants as unproved
 use Rattle.tv_pre.specs.Finding.{IsTameStatement, IsTerminal, NoneIsTerminal, IsPlainProgram}
 use Rattle.tv_pre.specs.Proving.{IsUnproved}
-use Rattle.tv_pre.specs.Unserved.{IsRankingRefused}
 
 -- round k settles each fixed point among the properties, and none of them is termination or its negation
 abbrev pub AreSettled : CaseSystem → ℕ → List Property → Type 0
@@ -48,11 +47,11 @@ PlainIsTold about claim budget gap =
     IsPlainProgram about → NoneIsTerminal (claimed claim) → IsUnproved about claim budget (unproved.Left gap) → ⊥
 
 -- Where the property is to come to its end on every run of a program without draws that has a lexicographic ranking, its arguments are of one
--- state each, and each state is at the end, or on the way with a step, a gap is told only if it was not settled whether there is a ranking.
+-- state each, and each state is at the end, or on the way with a step, no claim of it is left open with a gap.
 abbrev pub RankedUntilIsTold : CaseSystem → Claim → Property → Budget → Gap → Type 0
 RankedUntilIsTold about claim f budget gap =
     IsClaimOn about claim f → HasNoDraws about → IsRankedUntil about f → (last : ℕ) → IsLastRound about 8 last
-    → IsUnproved about claim budget (unproved.Left gap) → IsRankingRefused about
+    → IsUnproved about claim budget (unproved.Left gap) → ⊥
 
 -- in a program without a cycle the round of the number of locations is settled
 abbrev pub AcyclicIsSettled : CaseSystem → Path → Shape → (State → Type 0) → (State → Type 0) → Type 0

@@ -7,6 +7,7 @@ use Rattle.tv_formula.specs.Properties.{Property, fix}
 use Rattle.tv_linear.specs.declared.region.Piece.{Piece}
 use Rattle.tv_linear.specs.declared.region.Region.{Region}
 use Rattle.tv_simplex.specs.declared.fault.SolveFault.{SolveFault}
+use Rattle.tv_simplex.specs.declared.fault.SolveFault.TheVariants as solving
 use Rattle.tv_meaning.specs.Meaning.{Holds}
 use Rattle.tv_cases.specs.LinearCases.{CaseSystem, CaseSteps}
 use Rattle.tv_known.specs.Cycles.{IsStateOf}
@@ -21,16 +22,14 @@ use Rattle.tv_pre.specs.Questions.{Question, lies, AsksOf}
 
 -- ---- the ranking
 
--- for so many pivots, the system of this name of the search for a ranking has the fault
-pub record IsRankingRefused (about : CaseSystem) : Type 0 where
-  pub pivots : ℕ
-  pub system : Name
-  pub fault : SolveFault
+-- for so many pivots, the system of this name of the search for a ranking has the fault, which is no want of memory
+pub record IsRankingRefused (about : CaseSystem) (pivots : ℕ) (system : Name) (fault : SolveFault) : Type 0 where
   pub refuses : RefusesFirst about pivots (ranks.Solve system fault)
+  pub is_no_want : fault ≡ solving.Memory → ⊥
 
--- the cases have no lexicographic ranking, or it was not settled whether they have one
+-- the cases have no lexicographic ranking
 abbrev pub IsUnranked : CaseSystem → Type 0
-IsUnranked about = (HasLexicographicRanking about → ⊥) ⊎ IsRankingRefused about
+IsUnranked about = HasLexicographicRanking about → ⊥
 
 -- ---- the states
 

@@ -1,7 +1,9 @@
 use std::alloc::{AllocError, AllocFailed};
 use tv_farkas::CoverFault;
+use tv_rank::Name;
 use tv_region::RegionFault;
 use tv_rounds::RoundFault;
+use tv_simplex::SolveFault;
 
 /// Why no region of a formula was found.
 #[derive(Drop)]
@@ -10,6 +12,9 @@ pub enum PreFault {
     Region { fault: RegionFault },
     /// A question about pieces was refused; the fault is no want of memory.
     Cover { fault: CoverFault },
+    /// A system of the search for ranks of the whole program was not settled, where they might show what the rounds leave open; the fault is
+    /// no want of memory.
+    Rank { system: Name, fault: SolveFault },
     Memory,
 }
 

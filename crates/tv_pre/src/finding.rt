@@ -20,7 +20,7 @@ ghost use Rattle.tv_pre.specs.Arguments.{AreArguments, AreArgumentsOf};
 use crate::along::{Along, part_along};
 use crate::empty::empty_part;
 use crate::gap::{added, first_gap, gap_after};
-use crate::ranking::ranking_of;
+use crate::ranking::{Ranks, ranks_of};
 use crate::regions::{back_into, intersection, union};
 use crate::search::{Search, search_in};
 use crate::{
@@ -106,23 +106,30 @@ fn termination_found(search: &Search) -> Result<Found, PreFault>
     Ok(Found { part, gap, size: 1 })
 }
 
-/// What is found of termination: where the program is ranked it holds everywhere; else so far nothing. The ranking is looked for anew, as
-/// its node is given away.
-fn ends_found(search: &Search) -> Result<Found, PreFault>
+/// What is found of termination in a ranked program: it holds everywhere. The ranks are looked for anew, as their node is given away.
+fn ends_anew(search: &Search) -> Result<Found, PreFault>
     ensures found { IfOk result (IsFound (system_of search.now) search.now.last statements.ends) }
     ensures memory { IfErr result (λ fault. fault ≡ Memory) }
 {
-    if search.ranking.is_none() {
-        return Ok(termination_found(search)?);
-    }
     let setting = search.setting;
-    match ranking_of(setting)? {
-        None => Ok(termination_found(search)?),
-        Some(ranking) => {
+    match ranks_of(setting)? {
+        Ranks::Known(ranking) => {
             let part = ends_ranked(setting.alloc, setting.about, ranking.node)?;
             let gap = None;
             Ok(Found { part, gap, size: 1 })
         }
+        _ => Ok(termination_found(search)?),
+    }
+}
+
+/// What is found of termination: where the program is ranked it holds everywhere; else so far nothing.
+fn ends_found(search: &Search) -> Result<Found, PreFault>
+    ensures found { IfOk result (IsFound (system_of search.now) search.now.last statements.ends) }
+    ensures memory { IfErr result (λ fault. fault ≡ Memory) }
+{
+    match &search.ranks {
+        Ranks::Known(_) => ends_anew(search),
+        _ => termination_found(search),
     }
 }
 
@@ -132,13 +139,13 @@ fn never_found(search: &Search) -> Result<Found, PreFault>
     ensures found { IfOk result (IsFound (system_of search.now) search.now.last statements.never_ends) }
     ensures memory { IfErr result (λ fault. fault ≡ Memory) }
 {
-    match &search.ranking {
-        None => Ok(termination_found(search)?),
-        Some(_) => {
+    match &search.ranks {
+        Ranks::Known(_) => {
             let part = empty_part(search.setting)?;
             let gap = None;
             Ok(Found { part, gap, size: 1 })
         }
+        _ => Ok(termination_found(search)?),
     }
 }
 
@@ -337,9 +344,10 @@ fn found_of(search: &Search, aim: &Aim) -> Result<Found, PreFault>
 /// negation does.
 ///
 /// Where the whole program has a lexicographic ranking, termination holds everywhere, and so does a fixed point over every run that must
-/// come to an end if each state is at its end, or on the way with a step. A ranking system that is not settled counts as none.
+/// come to an end if each state is at its end, or on the way with a step. Where a system of the search for the ranking is refused, and the
+/// rounds of such a fixed point leave a gap, the refusal is given in place of the gap.
 ///
-/// A refusal is of a call on regions, or of a question about their pieces, that are made of the atoms of the formula.
+/// Any other refusal is of a call on regions, or of a question about their pieces, that are made of the atoms of the formula.
 pub fn found(setting: &Setting, aim: &Aim) -> Result<Found, PreFault>
     requires splits { setting.now.budget.now.splits ≤ 128 }
     requires stated { (f : Property) × States (cases_of setting.now.about.now) (aim_states aim.now) f }

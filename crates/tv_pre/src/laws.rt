@@ -29,8 +29,8 @@ pub fn settled_claims_are_told()
 {}
 
 /// Where a property that is to come to its end on every run has arguments of one state, the program has no draw and a lexicographic ranking,
-/// and each state is at the end, or on the way with a step, no claim is left open with a gap, unless a system of the search for a ranking is
-/// refused.
+/// and each state is at the end, or on the way with a step, no claim of it is left open with a gap. Where a system of the search for the ranking
+/// is refused, that refusal is told.
 pub fn ranked_untils_are_told()
     ensures { (about : CaseSystem) → AreCases about → (claim : Claim) (f : Property) (budget : Budget) (gap : Gap) →
         RankedUntilIsTold about claim f budget gap }

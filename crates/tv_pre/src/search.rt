@@ -10,7 +10,7 @@ ghost use Rattle.tv_pre.specs.Search.{IsSearch};
 use crate::Setting;
 use crate::cycle::has_cycle;
 use crate::differences::{are_cases_of_differences, is_of_differences};
-use crate::ranking::{Ranking, ranking_of};
+use crate::ranking::{Ranks, ranks_of};
 use std::alloc::AllocError;
 use tv_linear::Region;
 use tv_rounds::has_no_draws;
@@ -18,7 +18,8 @@ use tv_rounds::has_no_draws;
 /// The last round that is made in a program with a cycle.
 const LAST_OF_CYCLE: u32 = 8;
 
-/// A setting, with the last round of a fixed point that is made, what going back over the steps of the program is exact for, and its ranks.
+/// A setting, with the last round of a fixed point that is made, what going back over the steps of the program is exact for, and what is
+/// known of its ranks.
 #[derive(Drop)]
 pub(crate) struct Search<'a> {
     pub setting: &'a Setting<'a>,
@@ -27,8 +28,7 @@ pub(crate) struct Search<'a> {
     pub plain: bool,
     /// Each case is of differences.
     pub differences: bool,
-    /// What ranks the whole program, if it was found.
-    pub ranking: Option<Ranking>,
+    pub ranks: Ranks,
 }
 
 /// The last round that is made of each fixed point: in a program without a cycle one for each location.
@@ -49,13 +49,13 @@ pub(crate) fn search_in<'a>(setting: &'a Setting<'a>) -> Result<Search<'a>, Allo
     ensures setting { IfOk result (λ search. search.setting.now ≡ setting.now) }
 {
     let last = last_round(setting)?;
-    let ranking = ranking_of(setting)?;
+    let ranks = ranks_of(setting)?;
     Ok(Search {
         setting,
         last,
         plain: has_no_draws(setting.about),
         differences: are_cases_of_differences(setting.about),
-        ranking,
+        ranks,
     })
 }
 

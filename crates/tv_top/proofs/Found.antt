@@ -253,18 +253,19 @@ module _ (offers : Offers) (task : Task) (p : System) (f : Property) (about : Ca
   region_so : (fault : RegionFault) (answer : Answer) → AnswersRegion p fault answer → IsUnprovedOf about f spent (Refused (faults.Region fault)) → Finds offers task p f about answer
   region_so (regions.Disjuncts l count) answer a h = subst (Finds offers task p f about) (sym a.is) (pieces_so a.cause l count a.many h)
   region_so (regions.Wide column) answer a h = subst (Finds offers task p f about) (sym a) (of_formula other (inl h))
-  region_so (regions.Solve rows e) answer a h = subst (Finds offers task p f about) (sym a) (of_formula other (rows, refl, inl h))
+  region_so (regions.Solve rows e) answer a h = subst (Finds offers task p f about) (sym a) (of_formula other (inl (rows, refl, inl h)))
   region_so regions.Memory answer a h = subst (Finds offers task p f about) (sym a) tt
 
   question_so : (fault : CoverFault) → IsUnprovedOf about f spent (Refused (faults.Cover fault)) → Finds offers task p f about (uncovered fault)
   question_so (covers.Splits path) h = of_formula other h
-  question_so (covers.Solve rows e) h = of_formula other (rows, refl, inr h)
+  question_so (covers.Solve rows e) h = of_formula other (inl (rows, refl, inr h))
   question_so (covers.Wide column) h = of_formula other (inr h)
   question_so covers.Memory h = tt
 
   refused_so : (fault : PreFault) (answer : Answer) → AnswersRefusal p fault answer → IsUnprovedOf about f spent (Refused fault) → Finds offers task p f about answer
   refused_so (faults.Region fault) answer a h = region_so fault answer a h
   refused_so (faults.Cover fault) answer a h = subst (Finds offers task p f about) (sym a) (question_so fault h)
+  refused_so (faults.Rank system e) answer a h = subst (Finds offers task p f about) (sym a) (of_formula other (inr h))
   refused_so faults.Memory answer a h = subst (Finds offers task p f about) (sym a) tt
 
   left_so : (gap : Gap) (answer : Answer) → AnswersLeft about gap answer → IsUnprovedOf about f spent (Left gap) → Finds offers task p f about answer

@@ -22,7 +22,9 @@ use Rattle.tv_search.specs.declared.search_fault.SearchFault.TheVariants as sear
 use Rattle.tv_farkas.specs.declared.budget.Budget.{Budget}
 use Rattle.tv_farkas.specs.declared.fault.CoverFault.{CoverFault}
 use Rattle.tv_farkas.specs.declared.fault.CoverFault.TheVariants as covers
+use Rattle.tv_rank.specs.declared.name.Name.{Name}
 use Rattle.tv_rank.specs.declared.name.Name.TheVariants as systems
+use Rattle.tv_simplex.specs.declared.fault.SolveFault.{SolveFault}
 use Rattle.tv_cert.specs.declared.claim.Claim.{Claim}
 use Rattle.tv_cert.specs.declared.node.Verdict.{Verdict}
 use Rattle.tv_cert.specs.declared.node.Verdict.TheVariants as verdicts
@@ -229,8 +231,14 @@ abbrev pub IsEither : CaseSystem → Property → Budget → RegionFault → Cov
 IsEither about f budget region cover =
     IsUnprovedOf about f budget (Refused (faults.Region region)) ⊎ IsUnprovedOf about f budget (Refused (faults.Cover cover))
 
+-- it is a system of rows, of such a call or question; or one of the search for ranks of the program
+abbrev pub IsUnsolved : CaseSystem → Property → Budget → Name → SolveFault → Type 0
+IsUnsolved about f budget system e =
+    ((rows : _) × (system ≡ systems.Rows rows) × IsEither about f budget (regions.Solve rows e) (covers.Solve rows e))
+    ⊎ IsUnprovedOf about f budget (Refused (faults.Rank system e))
+
 abbrev pub IsFormulaCause : System → CaseSystem → Property → Budget → Cause → Type 0
-IsFormulaCause p about f budget (Unsolved system e) = (rows : _) × (system ≡ systems.Rows rows) × IsEither about f budget (regions.Solve rows e) (covers.Solve rows e)
+IsFormulaCause p about f budget (Unsolved system e) = IsUnsolved about f budget system e
 IsFormulaCause p about f budget (Spent path) = IsUnprovedOf about f budget (Refused (faults.Cover (covers.Splits path)))
 IsFormulaCause p about f budget (Composed column) = IsEither about f budget (regions.Wide column) (covers.Wide column)
 IsFormulaCause p about f budget (TooManyPieces label count) = (l : ℕ) × IsLabelAt p l label.items × IsUnprovedOf about f budget (Refused (faults.Region (regions.Disjuncts l count)))

@@ -70,10 +70,11 @@ AnswersRegion p (regions.Wide column) answer = answer ≡ answers.Unknown (cause
 AnswersRegion p (regions.Solve rows e) answer = answer ≡ answers.Unknown (causes.Unsolved (systems.Rows rows) e)
 AnswersRegion p regions.Memory answer = answer ≡ answers.Memory
 
--- or a question of regions
+-- or a question of regions, or a system of the search for ranks
 abbrev pub AnswersRefusal : System → PreFault → Answer → Type 0
 AnswersRefusal p (faults.Region fault) answer = AnswersRegion p fault answer
 AnswersRefusal p (faults.Cover fault) answer = answer ≡ uncovered fault
+AnswersRefusal p (faults.Rank system e) answer = answer ≡ answers.Unknown (causes.Unsolved system e)
 AnswersRefusal p faults.Memory answer = answer ≡ answers.Memory
 
 -- where a region may lack states, since going back is not exact: the answer names a case with a draw

@@ -66,13 +66,14 @@ fn unregioned(alloc: Global, program: &Program, fault: RegionFault) -> Answer
     }
 }
 
-/// The answer where a call on regions, or a question of them, was refused.
+/// The answer where a call on regions, or a question of them, was refused, or a system of the search for ranks was not settled.
 fn refused(alloc: Global, program: &Program, fault: PreFault) -> Answer
     ensures { AnswersRefusal (system_of program.now) fault result }
 {
     match fault {
         PreFault::Region { fault } => unregioned(alloc, program, fault),
         PreFault::Cover { fault } => uncovered(fault),
+        PreFault::Rank { system, fault } => Answer::Unknown(Cause::Unsolved { system, fault }),
         PreFault::Memory => Answer::Memory,
     }
 }

@@ -1,16 +1,19 @@
-use Rattle.std.proofs.Common.{inl, inr, subst}
+use Rattle.std.proofs.Common.{sym, subst}
 use Rattle.tv_cases.specs.Systems.{cases_of}
 use Rattle.tv_lexrank.specs.First.{IsNode, RefusesFirst}
-use Rattle.tv_pre.proofs.ranking.ranking_of.Goals as goal
+use Rattle.tv_region.proofs.AlgebraLemmas.{if_ok}
+use Rattle.tv_pre.specs.Search.{AreRanks}
+use Rattle.tv_pre.proofs.ranking.ranks_of.Goals as goal
 
-pub returns-in-Ok-Stuck-clause-unranked : goal.returns-in-Ok-Stuck-clause-unranked
-returns-in-Ok-Stuck-clause-unranked c = λ none. inl (λ has. subst IsNode c.in-Ok-Stuck.field-0-is (c.in-Ok-Stuck.ensures.never_stuck has))
+pub returns-in-Ok-Stuck : goal.returns-in-Ok-Stuck
+returns-in-Ok-Stuck c = λ has. subst IsNode c.in-Ok-Stuck.field-0-is (c.in-Ok-Stuck.ensures.never_stuck has)
 
-pub returns-in-Err-Solve-clause-unranked : goal.returns-in-Err-Solve-clause-unranked
-returns-in-Err-Solve-clause-unranked c = λ none.
+pub returns-in-Err-Solve : goal.returns-in-Err-Solve
+returns-in-Err-Solve c =
     let about = cases_of c.args.setting.now.about.now in
     let pivots = c.args.setting.now.budget.now.pivots in
-    inr (record { pivots = pivots; system = _; fault = _; refuses = subst (RefusesFirst about pivots) c.in-Err-Solve.field-0-is c.in-Err-Solve.ensures.refusals })
+    let refuses = subst (RefusesFirst about pivots) c.in-Err-Solve.field-0-is c.in-Err-Solve.ensures.refusals in
+    if_ok c.refused.result (λ r is. subst (AreRanks about pivots) (sym is.0) (record { refuses = refuses; is_no_want = is.1 })) c.refused.ensures
 
 pub unreachable-requires : goal.unreachable-requires
 unreachable-requires c =
