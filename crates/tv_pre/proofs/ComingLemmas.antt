@@ -39,7 +39,7 @@ cond_none false x xs e = refl
 test_not : (a b : ℕ) → a < b → (a == b) ≡ false
 test_not a b h = grind (arith, nat_tests)
 
-past_lists : (n m l : ℕ) (qs : List Piece) → All (IsPieceOf n m) qs → m ≤ l → lists_at l qs ≡ []
+pub past_lists : (n m l : ℕ) (qs : List Piece) → All (IsPieceOf n m) qs → m ≤ l → lists_at l qs ≡ []
 past_lists n m l [] h d = refl
 past_lists n m l (q ∷ qs) h d =
     cond_none (q.location == l) q.poly.rows.items (lists_at l qs) (test_not q.location l (let p = (All-head (IsPieceOf n m) q qs h).place in omega (arith, p, d)))

@@ -1,6 +1,7 @@
 -- What is found of a formula, from what is found of its arguments.
-use Rattle.std.proofs.Common.{zero, ◌<◌, length, get_or, take, ◌≡◌, inl, inr, ℕ, suc, ◌+◌, ◌≤◌, List, [], ◌∷◌, ◌++◌, map, refl, sym, ap, ◌∙◌, subst, arith}
-use Rattle.std.specs.Prelude.{All, Option, None, Some, IfSome}
+use Rattle.std.proofs.Common.{zero, ◌<◌, ◌*◌, ◌==◌, length, get_or, take, Bool, true, false, ◌≡◌, inl, inr, ℕ, suc, ◌+◌, ◌≤◌, List, [], ◌∷◌, ◌++◌, map, refl, sym, ap, ◌∙◌, subst, arith}
+use Rattle.std.specs.Prelude.{All, Option, None, Some, IfSome, sum, not, nat_lt}
+use Rattle.std.proofs.lemmas.Bool.Decides.{nat_tests}
 use Rattle.std.proofs.lemmas.List.{take_more, map-append}
 use Rattle.std.proofs.lemmas.List.Elements.{All-nil, All-cons}
 use Rattle.tv_formula.specs.declared.tree.Path.{Path}
@@ -12,6 +13,7 @@ use Rattle.tv_cases.specs.Comparisons.{comparison_lists}
 use Rattle.tv_cases.specs.LinearCases.{CaseSystem, CaseSteps, IsCase}
 use Rattle.tv_program.specs.Runs.{Ends}
 use Rattle.tv_cases.proofs.Listed.{Contains-none}
+use Rattle.tv_cert.specs.Obligations.{truth_targets}
 use Rattle.tv_cert.specs.declared.node.Node.{Node}
 use Rattle.tv_cert.specs.declared.aim.Aim.{Aim}
 use Rattle.tv_cert.specs.AimViews.{statements_of, aim_states, aims_state}
@@ -20,9 +22,11 @@ use Rattle.tv_cert.specs.Statements as statements
 use Rattle.tv_farkas.specs.declared.budget.Budget.{Budget}
 use Rattle.tv_farkas.specs.declared.fault.CoverFault.{CoverFault}
 use Rattle.tv_known.specs.Cycles.{IsLastRound, IsStateOf}
+use Rattle.tv_known.specs.Sizes.{product, fix_count, count, negated_count, product_count, sum_count, term_count, comparison_count}
 use Rattle.tv_program.specs.Steps.{State}
-use Rattle.tv_region.specs.Regions.{IsRegion}
-use Rattle.tv_region.specs.StepRegions.{InState, IsTame}
+use Rattle.tv_region.specs.Regions.{IsRegion, count_at}
+use Rattle.tv_region.specs.StepRegions.{InState, IsTame, HasNoDraws}
+use Rattle.tv_rounds.proofs.CountLemmas.{times}
 use Rattle.tv_rounds.specs.Calls.{IsNowhere}
 use Rattle.tv_pre.specs.declared.fault.PreFault.{PreFault}
 use Rattle.tv_pre.specs.declared.outcome.Found.{Found}
@@ -41,6 +45,7 @@ use Rattle.tv_pre.specs.Finding.{IsGapFor, IsGapAmong, first_of, gap_behind, IsF
 use Rattle.tv_pre.specs.Arguments.{IsArgument, AreEachArgument, AreFullFor, AreArguments}
 use Rattle.tv_pre.specs.declared.finding.Arguments.{Arguments}
 use Rattle.tv_pre.specs.Growing.{IsEverywhere}
+use Rattle.tv_pre.specs.Sized.{counts_at, IsFewBefore}
 use Rattle.tv_pre.specs.Built.{HasAtom, SomeHasAtom, atom_lists, IsAtomRegion, IsBuilt, of_atom, of_everywhere, of_nowhere, AreBuilt, IsBuiltOf, IsFaultOf, IsPreFault}
 use Rattle.tv_pre.proofs.BuiltLemmas.{built_to, built_wider, fault_to, fault_wider, one_built, more_built, pieces_of, joined_of, first_built}
 use Rattle.tv_pre.proofs.PassedLemmas.{cover_fault}
@@ -49,6 +54,8 @@ use Rattle.tv_pre.proofs.FullLemmas.{atom_full, each_full, some_full, next_full}
 use Rattle.tv_pre.proofs.FullAlongLemmas.{all_full}
 use Rattle.tv_pre.proofs.GapLemmas.{gap_weaker, among_more, each_gap, one_gap}
 use Rattle.tv_pre.proofs.FormulaLemmas.{each_is, one_is, after_is, along_is, ends_is, never_is}
+use Rattle.tv_pre.proofs.ComingLemmas.{past_lists}
+use Rattle.tv_pre.proofs.SizedLemmas.{trans, none_less, none_summed, more_summed, everywhere_few, nowhere_few, comparison_few, term_one}
 
 -- ---- gaps
 pub none_of_two : (first second : Option Gap) → first_of first second ≡ None → (first ≡ None) × (second ≡ None)
@@ -70,7 +77,7 @@ one_last about n m (inr a) (inr b) = a.1 ∙ sym b.1
 module _ (about : CaseSystem) (last : ℕ) where
   -- ---- arguments
   pub found_argument : (s : Statement) (found : Found) → IsFound about last s found → IsArgument about last s found.part.region found.part.node
-  found_argument s found h = record { over = h.over; shows = h.shows; built = h.built }
+  found_argument s found h = record { over = h.over; shows = h.shows; built = h.built; few = h.few }
 
   pub argument_more : (ss : List Statement) (rs : List Region) (ns : List Node) (s : Statement) (r : Region) (n : Node) → AreEachArgument about last ss rs ns → IsArgument about last s r n → AreEachArgument about last (ss ++ s ∷ []) (rs ++ r ∷ []) (ns ++ n ∷ [])
   argument_more [] [] [] s r n h k = (k, tt)
@@ -123,6 +130,34 @@ module _ (about : CaseSystem) (last : ℕ) where
       let rest : statements_of ss ≡ stated_all (comparison_lists about.variables) fs = cc in
       (h.0 f first w.0, argument_full ss rs h.1 fs rest w.1)
 
+  -- so many pieces of the arguments at a location, where no case has a draw
+  module _ (plain : HasNoDraws about) (m : ℕ) (is : IsLastRound about 9 m) (l : ℕ) where
+    argument_product : (ss : List Statement) (rs : List Region) (ns : List Node) → AreEachArgument about last ss rs ns → (fs : Properties) → statements_of ss ≡ stated_all (comparison_lists about.variables) fs → product (counts_at l rs) ≤ product_count about.cases m fs l
+    argument_product [] [] [] h none e = omega arith
+    argument_product [] [] [] h (more f fs) e = absurd cc
+    argument_product [] [] (n ∷ ns) h fs e = absurd h
+    argument_product [] (q ∷ rs) ns h fs e = absurd h
+    argument_product (t ∷ ss) [] ns h fs e = absurd h
+    argument_product (t ∷ ss) (q ∷ rs) [] h fs e = absurd h
+    argument_product (t ∷ ss) (q ∷ rs) (n ∷ ns) h none e = absurd cc
+    argument_product (t ∷ ss) (q ∷ rs) (n ∷ ns) h (more f fs) e =
+        let first : t ≡ stated (comparison_lists about.variables) f = cc in
+        let rest : statements_of ss ≡ stated_all (comparison_lists about.variables) fs = cc in
+        times (count_at l q) (product (counts_at l rs)) (count about.cases m f l) (product_count about.cases m fs l) (h.0.few plain m is f first l) (argument_product ss rs ns h.1 fs rest)
+
+    argument_sum : (ss : List Statement) (rs : List Region) (ns : List Node) → AreEachArgument about last ss rs ns → (fs : Properties) → statements_of ss ≡ stated_all (comparison_lists about.variables) fs → sum (counts_at l rs) ≤ sum_count about.cases m fs l
+    argument_sum [] [] [] h none e = none_summed
+    argument_sum [] [] [] h (more f fs) e = absurd cc
+    argument_sum [] [] (n ∷ ns) h fs e = absurd h
+    argument_sum [] (q ∷ rs) ns h fs e = absurd h
+    argument_sum (t ∷ ss) [] ns h fs e = absurd h
+    argument_sum (t ∷ ss) (q ∷ rs) [] h fs e = absurd h
+    argument_sum (t ∷ ss) (q ∷ rs) (n ∷ ns) h none e = absurd cc
+    argument_sum (t ∷ ss) (q ∷ rs) (n ∷ ns) h (more f fs) e =
+        let first : t ≡ stated (comparison_lists about.variables) f = cc in
+        let rest : statements_of ss ≡ stated_all (comparison_lists about.variables) fs = cc in
+        more_summed (count_at l q) (counts_at l rs) (count about.cases m f l) (sum_count about.cases m fs l) (h.0.few plain m is f first l) (argument_sum ss rs ns h.1 fs rest)
+
   full_more : (ss : List Statement) (rs : List Region) (s : Statement) (r : Region) → AreFullFor about ss rs → IsFullFor about s r → AreFullFor about (ss ++ s ∷ []) (rs ++ r ∷ [])
   full_more [] [] s r h k = (k, tt)
   full_more [] (q ∷ rs) s r h k = absurd h
@@ -138,8 +173,12 @@ module _ (about : CaseSystem) (last : ℕ) where
     some_built = argument_built ss rs ns (one_of (statements_of ss)) (all_steps_back last (statements_of ss)) (λ a x. x) (omega arith) h
 
     pub each_is_found : (found : Found) → IsRegion about.variables about.locations found.part.region → ((fs : Properties) → AreParts about fs rs ns → IsPart about (props.all_of fs) found.part.region found.part.node) → IsBuiltOf about 0 rs found.part.region → found.size ≡ 1 + total_size (statements_of ss) →
-        (found.gap ≡ None → AreFullFor about ss rs) → ((s : State) → IsStateOf about s → All (λ x. InState x s) rs → InState found.part.region s) → IfSome found.gap (IsGapAmong about last (statements_of ss)) → IsFound about last (each_of (statements_of ss)) found
-    each_is_found found over p b z full all of = record {
+        (found.gap ≡ None → AreFullFor about ss rs) → ((s : State) → IsStateOf about s → All (λ x. InState x s) rs → InState found.part.region s) → IfSome found.gap (IsGapAmong about last (statements_of ss)) →
+        ((l : ℕ) → count_at l found.part.region ≤ product (counts_at l rs)) → IsFound about last (each_of (statements_of ss)) found
+    each_is_found found over p b z full all of few = record {
+      few = λ plain m is f e l.
+          (let w = each_is (comparison_lists about.variables) (statements_of ss) f e in
+          subst (λ g. count_at l found.part.region ≤ count about.cases m g l) (sym w.1) (trans (count_at l found.part.region) (product (counts_at l rs)) (product_count about.cases m w.0 l) (few l) (argument_product plain m is l ss rs ns h w.0 w.2)));
       gap = gap_weaker (IsGapAmong about last (statements_of ss)) (IsGapFor about last (each_of (statements_of ss))) found.gap (each_gap about last (statements_of ss)) of;
       over = over;
       shows = λ f e. (let w = each_is (comparison_lists about.variables) (statements_of ss) f e in subst (λ g. IsPart about g found.part.region found.part.node) (sym w.1) (p w.0 (argument_parts ss rs ns h w.0 w.2)));
@@ -152,8 +191,12 @@ module _ (about : CaseSystem) (last : ℕ) where
     }
 
     pub some_is_found : (found : Found) → IsRegion about.variables about.locations found.part.region → ((fs : Properties) → AreParts about fs rs ns → IsPart about (props.some_of fs) found.part.region found.part.node) → IsBuiltOf about 0 rs found.part.region → found.size ≡ 1 + total_size (statements_of ss) →
-        (found.gap ≡ None → AreFullFor about ss rs) → All (λ x. OfPieces about x.pieces.items (InState found.part.region)) rs → IfSome found.gap (IsGapAmong about last (statements_of ss)) → IsFound about last (one_of (statements_of ss)) found
-    some_is_found found over p b z full all of = record {
+        (found.gap ≡ None → AreFullFor about ss rs) → All (λ x. OfPieces about x.pieces.items (InState found.part.region)) rs → IfSome found.gap (IsGapAmong about last (statements_of ss)) →
+        ((l : ℕ) → count_at l found.part.region ≤ sum (counts_at l rs)) → IsFound about last (one_of (statements_of ss)) found
+    some_is_found found over p b z full all of few = record {
+      few = λ plain m is f e l.
+          (let w = one_is (comparison_lists about.variables) (statements_of ss) f e in
+          subst (λ g. count_at l found.part.region ≤ count about.cases m g l) (sym w.1) (trans (count_at l found.part.region) (sum (counts_at l rs)) (sum_count about.cases m w.0 l) (few l) (argument_sum plain m is l ss rs ns h w.0 w.2)));
       gap = gap_weaker (IsGapAmong about last (statements_of ss)) (IsGapFor about last (one_of (statements_of ss))) found.gap (one_gap about last (statements_of ss)) of;
       over = over;
       shows = λ f e. (let w = one_is (comparison_lists about.variables) (statements_of ss) f e in subst (λ g. IsPart about g found.part.region found.part.node) (sym w.1) (p w.0 (argument_parts ss rs ns h w.0 w.2)));
@@ -196,8 +239,12 @@ module _ (about : CaseSystem) (last : ℕ) where
     child_built = one_built about (after path s) (steps_back last s) child.part.region (built_wider about s (after path s) (λ a x. x) (steps_back last s) child.part.region h.built)
 
     pub after_is_found : (found : Found) → IsRegion about.variables about.locations found.part.region → ((f : Property) → AreParts about (more f none) (child.part.region ∷ []) (child.part.node ∷ []) → IsPart about (props.next path f) found.part.region found.part.node) → IsBuiltOf about 1 (child.part.region ∷ []) found.part.region → found.size ≡ 1 + child.size →
-        All (IsCase about.variables about.locations) about.cases → (found.gap ≡ None → IsTame about child.part.region × (child.gap ≡ None)) → OthersLeadOut about path child.part.region found.part.region → IfSome found.gap (IsGapFor about last (after path s)) → IsFound about last (after path s) found
-    after_is_found found over p b z cases told others of = record {
+        All (IsCase about.variables about.locations) about.cases → (found.gap ≡ None → IsTame about child.part.region × (child.gap ≡ None)) → OthersLeadOut about path child.part.region found.part.region → IfSome found.gap (IsGapFor about last (after path s)) →
+        IsFewBefore about path child.part.region found.part.region → IsFound about last (after path s) found
+    after_is_found found over p b z cases told others of few = record {
+      few = λ plain m is f e l.
+          (let w = after_is (comparison_lists about.variables) path s f e in
+          subst (λ g. count_at l found.part.region ≤ count about.cases m g l) (sym w.1) (few plain (λ k. count about.cases m w.0 k) (λ k. h.few plain m is w.0 w.2 k) l));
       gap = of;
       over = over;
       shows = λ f e. (let w = after_is (comparison_lists about.variables) path s f e in subst (λ g. IsPart about g found.part.region found.part.node) (sym w.1) (p w.0 (h.shows w.0 w.2, tt)));
@@ -238,8 +285,14 @@ module _ (about : CaseSystem) (last : ℕ) where
     pub along_is_found : (found : Found) → IsRegion about.variables about.locations found.part.region →
         ((f k : Property) → AreParts about (more f (more k none)) (first.part.region ∷ second.part.region ∷ []) (first.part.node ∷ second.part.node ∷ []) → IsPart about (props.fix path shape f k) found.part.region found.part.node) →
         IsBuiltOf about (last + 2) (first.part.region ∷ second.part.region ∷ []) found.part.region → found.size ≡ 1 + (first.size + second.size) →
-        (found.gap ≡ None → (first.gap ≡ None) × (second.gap ≡ None) × ((f k : Property) → IsFull about f first.part.region → IsFull about k second.part.region → IsFull about (props.fix path shape f k) found.part.region)) → IfSome found.gap (IsGapFor about last (along path shape s t)) → IsFound about last (along path shape s t) found
-    along_is_found found over p b z told of = record {
+        (found.gap ≡ None → (first.gap ≡ None) × (second.gap ≡ None) × ((f k : Property) → IsFull about f first.part.region → IsFull about k second.part.region → IsFull about (props.fix path shape f k) found.part.region)) → IfSome found.gap (IsGapFor about last (along path shape s t)) →
+        (HasNoDraws about → (m : ℕ) → IsLastRound about 9 m → (a b : ℕ → ℕ) → ((l : ℕ) → count_at l first.part.region ≤ a l) → ((l : ℕ) → count_at l second.part.region ≤ b l) → (l : ℕ) → count_at l found.part.region ≤ fix_count about.cases m path shape a b l) →
+        IsFound about last (along path shape s t) found
+    along_is_found found over p b z told of few = record {
+      few = λ plain m is f e l.
+          (let w = along_is (comparison_lists about.variables) path shape s t f e in
+          subst (λ z. count_at l found.part.region ≤ count about.cases m z l) (sym w.2)
+          (few plain m is (λ k. count about.cases m w.0 k) (λ k. count about.cases m w.1 k) (λ k. h.few plain m is w.0 w.3 k) (λ k. g.few plain m is w.1 w.4 k) l));
       gap = of;
       over = over;
       shows = λ f e. (let w = along_is (comparison_lists about.variables) path shape s t f e in subst (λ z. IsPart about z found.part.region found.part.node) (sym w.2) (p w.0 w.1 (h.shows w.0 w.3, (g.shows w.1 w.4, tt))));
@@ -340,6 +393,57 @@ module _ (about : CaseSystem) (last : ℕ) where
   one_size (Here k) = refl
   one_size (Elsewhere k) = refl
 
+  truth_few : (b : Bool) → length (truth_targets b) ≤ 1
+  truth_few true = omega arith
+  truth_few false = omega arith
+
+  -- the lists of a test are no more than the formula counts that it is
+  test_few : (m : ℕ) (t : Test) (f : Property) → IsTestOf about.variables t f → (l : ℕ) → length (test_lists t l) ≤ count about.cases m f l
+  test_few m (Rows lists) (props.truth b) e l = subst (λ ls. length ls ≤ 1) (sym e) (truth_few b)
+  test_few m (Rows lists) (props.compare r a b) e l = subst (λ ls. length ls ≤ comparison_count r) (sym e) (comparison_few about.variables r a b)
+  test_few m (Rows lists) (props.at k) e l = absurd e
+  test_few m (Rows lists) props.term e l = absurd e
+  test_few m (Rows lists) (props.negated f) e l = absurd e
+  test_few m (Rows lists) (props.all_of fs) e l = absurd e
+  test_few m (Rows lists) (props.some_of fs) e l = absurd e
+  test_few m (Rows lists) (props.next path f) e l = absurd e
+  test_few m (Rows lists) (props.fix path shape f g) e l = absurd e
+  test_few m (Here k) (props.at j) e l = truth_few (l == k)
+  test_few m (Here k) (props.truth b) e l = absurd e
+  test_few m (Here k) (props.compare r a b) e l = absurd e
+  test_few m (Here k) props.term e l = absurd e
+  test_few m (Here k) (props.negated f) e l = absurd e
+  test_few m (Here k) (props.all_of fs) e l = absurd e
+  test_few m (Here k) (props.some_of fs) e l = absurd e
+  test_few m (Here k) (props.next path f) e l = absurd e
+  test_few m (Here k) (props.fix path shape f g) e l = absurd e
+  test_few m (Elsewhere k) (props.negated f) e l = denied_few f e where
+    denied_few : (f : Property) → IsTestOf about.variables (Elsewhere k) (props.negated f) → length (test_lists (Elsewhere k) l) ≤ negated_count about.cases m f l
+    denied_few (props.at j) e = truth_few (not (l == k))
+    denied_few (props.truth b) e = absurd e
+    denied_few (props.compare r a b) e = absurd e
+    denied_few props.term e = absurd e
+    denied_few (props.negated f) e = absurd e
+    denied_few (props.all_of fs) e = absurd e
+    denied_few (props.some_of fs) e = absurd e
+    denied_few (props.next path f) e = absurd e
+    denied_few (props.fix path shape f g) e = absurd e
+  test_few m (Elsewhere k) (props.at j) e l = absurd e
+  test_few m (Elsewhere k) (props.truth b) e l = absurd e
+  test_few m (Elsewhere k) (props.compare r a b) e l = absurd e
+  test_few m (Elsewhere k) props.term e l = absurd e
+  test_few m (Elsewhere k) (props.all_of fs) e l = absurd e
+  test_few m (Elsewhere k) (props.some_of fs) e l = absurd e
+  test_few m (Elsewhere k) (props.next path f) e l = absurd e
+  test_few m (Elsewhere k) (props.fix path shape f g) e l = absurd e
+
+  -- at a location of the program, and past the last one
+  tested_few : (t : Test) (region : Region) → IsTested about t region → (n l : ℕ) → length (test_lists t l) ≤ n → count_at l region ≤ n
+  tested_few t region h n l few = by_place (nat_lt l about.locations) refl where
+    by_place : (b : Bool) → nat_lt l about.locations ≡ b → count_at l region ≤ n
+    by_place true e = subst (λ ls. length ls ≤ n) (sym (h.lists l (let k : l < about.locations = grind (arith, nat_tests, e) in k))) few
+    by_place false e = subst (λ ls. length ls ≤ n) (sym (past_lists about.variables about.locations l region.pieces.items h.over.pieces (let k : about.locations ≤ l = grind (arith, nat_tests, e) in k))) (none_less n)
+
   pub atom_is_found : (t : Test) (found : Found) → IsTested about t found.part.region → ((f : Property) → IsTestOf about.variables t f → IsPart about f found.part.region found.part.node) → found.size ≡ 1 → IfSome found.gap (IsGapFor about last (test_statement t)) → IsFound about last (test_statement t) found
   atom_is_found t found h p z of = record {
     gap = of;
@@ -348,6 +452,7 @@ module _ (about : CaseSystem) (last : ℕ) where
     built = no_steps t found (of_atom 0 (test_statement t) found.part.region (own_atom t) (test_region t found.part.region h));
     size = z ∙ sym (one_size t);
     full = λ gap f e rows. atom_full about t f found.part.region (test_states t f e) rows h;
+    few = λ plain m is f e l. tested_few t found.part.region h (count about.cases m f l) l (test_few m t f (test_states t f e) l);
   }
 
   -- ---- termination
@@ -359,6 +464,7 @@ module _ (about : CaseSystem) (last : ℕ) where
     built = of_nowhere ((last + 2) + (last + 2)) found.part.region n;
     size = z;
     full = λ none f e rows. absurd (gap none);
+    few = λ plain m is f e l. trans (count_at l found.part.region) 0 (count about.cases m f l) (nowhere_few about found.part.region n l) (none_less (count about.cases m f l));
   }
 
   pub all_end_found : (found : Found) → IsEverywhere about found.part.region → IsPart about props.term found.part.region found.part.node → found.size ≡ 1 → IfSome found.gap (IsGapFor about last statements.ends) → IsFound about last statements.ends found
@@ -369,6 +475,8 @@ module _ (about : CaseSystem) (last : ℕ) where
     built = of_everywhere ((last + 2) + (last + 2)) found.part.region e;
     size = z;
     full = λ none f w rows. all_full about f found.part.region (λ s q. e.all s q.location);
+    few = λ plain m is f w l. subst (λ g. count_at l found.part.region ≤ count about.cases m g l) (sym (ends_is (comparison_lists about.variables) f w))
+        (trans (count_at l found.part.region) 1 (term_count about.cases m l) (everywhere_few about found.part.region e l) (term_one about.cases m l));
   }
 
   pub never_is_found : (found : Found) → IsNowhere about found.part.region → IsPart about (props.negated props.term) found.part.region found.part.node → found.size ≡ 1 → (found.gap ≡ None → ⊥) → IfSome found.gap (IsGapFor about last statements.never_ends) → IsFound about last statements.never_ends found
@@ -379,6 +487,7 @@ module _ (about : CaseSystem) (last : ℕ) where
     built = of_nowhere ((last + 2) + (last + 2)) found.part.region n;
     size = z;
     full = λ none f e rows. absurd (gap none);
+    few = λ plain m is f e l. trans (count_at l found.part.region) 0 (count about.cases m f l) (nowhere_few about found.part.region n l) (none_less (count about.cases m f l));
   }
 
   pub none_never_found : (found : Found) → IsNowhere about found.part.region → IsPart about (props.negated props.term) found.part.region found.part.node → found.size ≡ 1 → IfSome found.gap (IsGapFor about last statements.never_ends) → ((s : State) → IsStateOf about s → Ends (CaseSteps about) s) → IsFound about last statements.never_ends found
@@ -389,6 +498,7 @@ module _ (about : CaseSystem) (last : ℕ) where
     built = of_nowhere ((last + 2) + (last + 2)) found.part.region n;
     size = z;
     full = λ none f e rows. subst (λ g. IsFull about g found.part.region) (sym (never_is (comparison_lists about.variables) f e)) (λ s q m. all s q);
+    few = λ plain m is f e l. trans (count_at l found.part.region) 0 (count about.cases m f l) (nowhere_few about found.part.region n l) (none_less (count about.cases m f l));
   }
 
   -- ---- arguments one after the other

@@ -25,6 +25,7 @@ pub mod LoweringLemmas
 pub mod RankedStepLemmas
 pub mod RankedUntilLemmas
 pub mod BuiltLemmas
+pub mod SizedLemmas
 pub mod SetLemmas
 pub mod AskedLemmas
 pub mod AlongLemmas

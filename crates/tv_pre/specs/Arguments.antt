@@ -9,12 +9,14 @@ use Rattle.tv_region.specs.Regions.{IsRegion}
 use Rattle.tv_pre.specs.declared.finding.Arguments.{Arguments}
 use Rattle.tv_pre.specs.Finding.{IsGapAmong, IsPartFor, IsFullFor, steps_back, total_size}
 use Rattle.tv_pre.specs.Built.{IsBuilt}
+use Rattle.tv_pre.specs.Sized.{IsFewFor}
 
 -- the region and the node of one argument
 pub record IsArgument (about : CaseSystem) (last : ℕ) (s : Statement) (region : Region) (node : Node) : Type 0 where
   pub over : IsRegion about.variables about.locations region
   pub shows : IsPartFor about s region node
   pub built : IsBuilt about s (steps_back last s) region
+  pub few : IsFewFor about s region
 
 -- those of each, in order
 abbrev pub AreEachArgument : CaseSystem → ℕ → List Statement → List Region → List Node → Type 0

@@ -28,6 +28,7 @@ use Rattle.tv_pre.specs.declared.test.Test.{Test}
 use Rattle.tv_pre.specs.declared.test.Test.TheVariants.{Rows, Here, Elsewhere}
 use Rattle.tv_pre.specs.Built.{HasAtom, IsBuilt, IsPreFault}
 use Rattle.tv_pre.specs.Unserved.{IsUnserved}
+use Rattle.tv_pre.specs.Sized.{IsFewFor}
 
 -- ---- the program
 
@@ -226,3 +227,4 @@ pub record IsFound (about : CaseSystem) (last : ℕ) (s : Statement) (found : Fo
   pub size : found.size ≡ size s
   pub gap : IfSome found.gap (IsGapFor about last s)
   pub full : found.gap ≡ None → IsFullFor about s found.part.region
+  pub few : IsFewFor about s found.part.region

@@ -16,6 +16,7 @@ pub mod Starting
 pub mod Built
 pub mod Faults
 pub mod Unserved
+pub mod Sized
 pub mod Finding
 pub mod Along
 pub mod Proving

@@ -14,6 +14,7 @@ ghost use Rattle.tv_pre.specs.declared.fault.PreFault.TheVariants.{Memory};
 ghost use Rattle.tv_pre.specs.Atoms.{IsEvenTest};
 ghost use Rattle.tv_pre.specs.Built.{IsBuilt};
 ghost use Rattle.tv_pre.specs.Finding.{States, IsEvenStatement, AreEvenStatements, steps_back, size, first_of, gap_behind, IsGapOf, IsGapFor, IsWildStep, IsPartFor, IsFullFor, IsExactFor, HasNoGapIfPlain, IsFound, test_statement, IsRefusedFor};
+ghost use Rattle.tv_pre.specs.Sized.{IsFewFor};
 ghost use Rattle.tv_pre.specs.Search.{system_of, IsSearch};
 ghost use Rattle.tv_pre.specs.Arguments.{AreArguments, AreArgumentsOf};
 
@@ -366,6 +367,8 @@ pub fn found(setting: &Setting, aim: &Aim) -> Result<Found, PreFault>
         IfOk result (λ found. found.gap ≡ None → IsFullFor system (aim_states aim.now) found.part.region) }
     ensures exact { let system = cases_of setting.now.about.now in
         IfOk result (λ found. found.gap ≡ None → IsExactFor system (aim_states aim.now) found.part.region) }
+    ensures few { let system = cases_of setting.now.about.now in
+        IfOk result (λ found. IsFewFor system (aim_states aim.now) found.part.region) }
     ensures plain { let system = cases_of setting.now.about.now in
         IfOk result (λ found. HasNoGapIfPlain system (aim_states aim.now) found.gap) }
     ensures refused { let system = cases_of setting.now.about.now in

@@ -8,7 +8,9 @@ ghost use Rattle.tv_cases.specs.LinearCases.{CaseSystem, AreCases};
 ghost use Rattle.tv_cert.specs.declared.claim.Claim.{Claim};
 ghost use Rattle.tv_known.specs.Laws.{AreProper};
 ghost use Rattle.tv_pre.specs.declared.gap.Gap.{Gap};
+ghost use Rattle.tv_linear.specs.declared.region.Region.{Region};
 ghost use Rattle.tv_pre.specs.Full.{FullHasAll, FullTell};
+ghost use Rattle.tv_pre.specs.Sized.{FewIsWithinSize};
 ghost use Rattle.tv_pre.specs.Told.{AcyclicIsSettled, NoneIsUnsettled, SettledIsTold, PlainIsTold, RankedUntilIsTold};
 
 use tv_known::Sides;
@@ -40,4 +42,10 @@ pub fn ranked_untils_are_told()
 pub fn acyclic_rounds_settle<S: Sides>()
     ensures rounds { (about : CaseSystem) → AreProper about → (path : Path) (shape : Shape) → AcyclicIsSettled about path shape S.hold S.end }
     ensures formulas { (about : CaseSystem) → AreProper about → (f : Property) → NoneIsUnsettled about f }
+{}
+
+/// Where no case has a draw, a region with no more pieces than are counted for a formula has no more than the size of each property in whose
+/// normal form or negation the formula stands.
+pub fn regions_are_within_size()
+    ensures { (about : CaseSystem) (f part : Property) (region : Region) → FewIsWithinSize about f part region }
 {}

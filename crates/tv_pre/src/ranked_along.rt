@@ -12,6 +12,7 @@ ghost use Rattle.tv_pre.specs.Built.{IsBuiltOf, IsFaultOf};
 ghost use Rattle.tv_pre.specs.Fixed.{AreOver};
 ghost use Rattle.tv_pre.specs.Parts.{joined_pieces};
 ghost use Rattle.tv_pre.specs.RankedAlong.{AreGoing, HasAll, IsRankedAlong, IsUntoldAlong};
+ghost use Rattle.tv_pre.specs.Sized.{IsFewEnd, IsFewGoing, IsFewRanked};
 ghost use Rattle.tv_pre.specs.Unserved.{SomeIsOutside};
 
 use crate::coming::everywhere;
@@ -46,6 +47,7 @@ pub(crate) enum RankedAlong {
 fn going(setting: &Setting, sides: &Sides) -> Result<Region, PreFault>
     requires sides { AreOver (cases_of setting.now.about.now) sides.now }
     ensures going { IfOk result (AreGoing (cases_of setting.now.about.now) sides.now) }
+    ensures few { IfOk result (IsFewGoing (cases_of setting.now.about.now) sides.now) }
     ensures built { IfOk result (IsBuiltOf (cases_of setting.now.about.now) 1 (arguments sides.now)) }
     ensures refused { IfErr result (IsFaultOf (cases_of setting.now.about.now) setting.now.budget.now 1 (arguments sides.now)) }
 {
@@ -85,8 +87,10 @@ pub(crate) fn ranked_along(
     requires shape { must_end sides.now.shape ≡ true }
     requires sides { AreOver (cases_of setting.now.about.now) sides.now }
     requires end { AreAtEnd (cases_of setting.now.about.now) sides.now end }
+    requires end_few { IsFewEnd sides.now end }
     requires ranked { IsRankedBy (cases_of setting.now.about.now) [] ranking.now.node.now ranking.now.shown.now }
     ensures along { IfOk result (IsRankedAlong (cases_of setting.now.about.now) sides.now children.items end) }
+    ensures few { IfOk result (IsFewRanked (cases_of setting.now.about.now) sides.now) }
     ensures untold { IfOk result (IsUntoldAlong (cases_of setting.now.about.now) setting.now.budget.now sides.now end) }
     ensures refused { IfErr result (IsFaultOf (cases_of setting.now.about.now) setting.now.budget.now 2 (end ∷ arguments sides.now)) }
 {

@@ -1,11 +1,12 @@
 // Regions made of those of the arguments of a formula.
 
-ghost use Rattle.std.specs.Prelude.{◌≡◌, [], ◌∷◌, All, IfOk};
+ghost use Rattle.std.specs.Prelude.{◌≡◌, ◌≤◌, ℕ, [], ◌∷◌, sum, All, IfOk};
 ghost use Rattle.tv_program.specs.Steps.{State};
 ghost use Rattle.std.specs.Result.{IfErr};
 ghost use Rattle.tv_cases.specs.Systems.{cases_of};
 ghost use Rattle.tv_known.specs.Cycles.{IsStateOf};
-ghost use Rattle.tv_region.specs.Regions.{IsRegion};
+ghost use Rattle.tv_known.specs.Sizes.{product};
+ghost use Rattle.tv_region.specs.Regions.{IsRegion, count_at};
 ghost use Rattle.tv_region.specs.StepRegions.{InState};
 ghost use Rattle.tv_rounds.specs.Calls.{IsNowhere};
 ghost use Rattle.tv_pre.specs.Pieces.{InPieces};
@@ -13,6 +14,7 @@ ghost use Rattle.tv_pre.specs.Inclusions.{OfPieces};
 ghost use Rattle.tv_pre.specs.Parts.{joined_pieces};
 ghost use Rattle.tv_pre.specs.Fixed.{AreOver};
 ghost use Rattle.tv_pre.specs.Built.{IsBuiltOf, IsFaultOf};
+ghost use Rattle.tv_pre.specs.Sized.{IsFewBefore, IsFewEnd, counts_at};
 ghost use Rattle.tv_pre.specs.Along.{arguments, AreBefore, OthersLeadOut, AreAtEnd};
 
 use crate::coming::everywhere;
@@ -41,6 +43,7 @@ pub(crate) fn intersection(setting: &Setting, regions: &[Region]) -> Result<Regi
         IfOk result (λ r. All (λ x. OfPieces about r.pieces.items (InState x)) regions.now) }
     ensures all { let about = cases_of setting.now.about.now in
         IfOk result (λ r. (s : State) → IsStateOf about s → All (λ x. InState x s) regions.now → InState r s) }
+    ensures few { IfOk result (λ r. (l : ℕ) → count_at l r ≤ product (counts_at l regions.now)) }
     ensures built { IfOk result (IsBuiltOf (cases_of setting.now.about.now) 0 regions.now) }
     ensures refused { IfErr result (IsFaultOf (cases_of setting.now.about.now) setting.now.budget.now 0 regions.now) }
 {
@@ -60,6 +63,7 @@ pub(crate) fn union(setting: &Setting, regions: &[Region]) -> Result<Region, Pre
         IfOk result (λ r. OfPieces about r.pieces.items (InPieces (joined_pieces regions.now))) }
     ensures all { let about = cases_of setting.now.about.now in
         IfOk result (λ r. All (λ x. OfPieces about x.pieces.items (InState r)) regions.now) }
+    ensures few { IfOk result (λ r. (l : ℕ) → count_at l r ≤ sum (counts_at l regions.now)) }
     ensures built { IfOk result (IsBuiltOf (cases_of setting.now.about.now) 0 regions.now) }
     ensures refused { IfErr result (IsFaultOf (cases_of setting.now.about.now) setting.now.budget.now 0 regions.now) }
 {
@@ -76,6 +80,7 @@ pub(crate) fn back_into(setting: &Setting, path: Path, region: &Region) -> Resul
     requires over { IsRegion (cases_of setting.now.about.now).variables (cases_of setting.now.about.now).locations region.now }
     ensures before { IfOk result (AreBefore (cases_of setting.now.about.now) path region.now) }
     ensures others { IfOk result (OthersLeadOut (cases_of setting.now.about.now) path region.now) }
+    ensures few { IfOk result (IsFewBefore (cases_of setting.now.about.now) path region.now) }
     ensures built { IfOk result (IsBuiltOf (cases_of setting.now.about.now) 1 (region.now ∷ [])) }
     ensures refused { IfErr result (IsFaultOf (cases_of setting.now.about.now) setting.now.budget.now 1 (region.now ∷ [])) }
 {
@@ -89,6 +94,7 @@ pub(crate) fn back_into(setting: &Setting, path: Path, region: &Region) -> Resul
 pub(crate) fn end_of(setting: &Setting, sides: &Sides) -> Result<Region, PreFault>
     requires sides { AreOver (cases_of setting.now.about.now) sides.now }
     ensures end { IfOk result (AreAtEnd (cases_of setting.now.about.now) sides.now) }
+    ensures few { IfOk result (IsFewEnd sides.now) }
     ensures built { IfOk result (IsBuiltOf (cases_of setting.now.about.now) 0 (arguments sides.now)) }
     ensures refused { IfErr result (IsFaultOf (cases_of setting.now.about.now) setting.now.budget.now 0 (arguments sides.now)) }
 {

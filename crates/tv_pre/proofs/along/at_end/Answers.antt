@@ -10,6 +10,7 @@ use Rattle.tv_pre.proofs.BuiltLemmas.{first_built, rest_built, first_alone, piec
 use Rattle.tv_pre.proofs.PassedLemmas.{passed_on, cover_fault}
 use Rattle.tv_pre.proofs.AskedLemmas.{ends_asked, staying_asked}
 use Rattle.tv_pre.proofs.AlongLemmas.{is_along, no_onward}
+use Rattle.tv_pre.proofs.SizedLemmas.{ended_few, none_joined, nowhere_joined}
 use Rattle.tv_pre.proofs.along.at_end.Goals as goal
 
 pub until-requires-clause-layers : goal.until-requires-clause-layers
@@ -72,3 +73,13 @@ returns-in_ok-weak-clause-along c =
     is_along about 0 sides c.args.children.items c.in_ok-weak.field-0 (end ∷ none ∷ []) (end ∷ arguments sides) c.in_ok-weak.ensures.region
     (λ f g w. c.in_ok-weak.ensures.part f g w)
     (λ s h m. all_built_to about s h (0 + h) (end ∷ none ∷ []) (omega arith) (more_built about s h end (none ∷ []) (first_built about s h end (arguments sides) m) (one_built about s h none (of_nowhere h none c.nowhere.ensures))))
+
+pub returns-in_ok-until-clause-few : goal.returns-in_ok-until-clause-few
+returns-in_ok-until-clause-few c =
+    ended_few (cases_of c.args.setting.now.about.now) c.args.sides.now c.args.end c.in_ok-until.field-0.region c.requires.end_few c.new.result.items (none_joined c.new.result.items c.new.ensures.items) c.in_ok-until.ensures.region
+
+pub returns-in_ok-weak-clause-few : goal.returns-in_ok-weak-clause-few
+returns-in_ok-weak-clause-few c =
+    let about = cases_of c.args.setting.now.about.now in
+    let none = c.nowhere.result in
+    ended_few about c.args.sides.now c.args.end c.in_ok-weak.field-0.region c.requires.end_few (none ∷ []) (nowhere_joined about none c.nowhere.ensures) c.in_ok-weak.ensures.region

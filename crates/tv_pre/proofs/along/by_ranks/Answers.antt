@@ -3,6 +3,7 @@ use Rattle.tv_pre.specs.Along.{arguments}
 use Rattle.tv_pre.specs.Built.{IsFaultOf}
 use Rattle.tv_pre.specs.RankedAlong.{IsRankedAlong, IsUntoldAlong}
 use Rattle.tv_pre.specs.Search.{system_of}
+use Rattle.tv_pre.specs.Sized.{IsFewRanked}
 use Rattle.tv_pre.proofs.AlongLemmas.{along_less, given_less}
 use Rattle.tv_pre.proofs.PassedLemmas.{passed_on}
 use Rattle.tv_formula.specs.Properties.{fix}
@@ -44,3 +45,6 @@ returns-in-Some-clause-refused c =
     let given = arguments sides in
     let told = subst (IsUntoldAlong about budget sides c.args.end) c.in-Untold.is c.in_ok-part.ensures.untold in
     given_less about budget 2 (last + 2) c.args.end given c.in-Untold.fault c.in-Untold.fault (omega arith) refl c.requires.built told
+
+pub returns-in-Everywhere-clause-few : goal.returns-in-Everywhere-clause-few
+returns-in-Everywhere-clause-few c = subst (IsFewRanked (system_of c.args.search.now) c.args.sides.now) c.in-Everywhere.is c.in_ok-part.ensures.few

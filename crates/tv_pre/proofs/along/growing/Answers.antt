@@ -11,6 +11,7 @@ use Rattle.tv_pre.proofs.AlongLemmas.{open_rounds, first_layers, settled_layers,
 use Rattle.tv_rounds.specs.Answers.{IsFullBy}
 use Rattle.tv_known.specs.Rounds.{must_end}
 use Rattle.tv_pre.proofs.FullAlongLemmas.{grown_full}
+use Rattle.tv_pre.proofs.SizedLemmas.{grown_few, last_before}
 use Rattle.tv_pre.proofs.along.growing.Goals as goal
 
 pub returns-in_err-layers-clause-refused : goal.returns-in_err-layers-clause-refused
@@ -126,3 +127,33 @@ returns-clause-gap c =
       open_sides about c.variables-variables.ensures.limits.cases c.args.sides.now c.args.end rounds.point rounds.of c.requires.end c.args.search.now.last
           (open_rounds about c.args.search.now.last c.args.sides.now c.args.end c.in_ok-layers.field-0 c.in-Open.region c.in-Open.layers c.in-Open.is rounds),
     )
+
+pub returns-in-Settled-clause-few : goal.returns-in-Settled-clause-few
+returns-in-Settled-clause-few c =
+    let about = system_of c.args.search.now in
+    let last = c.args.search.now.last in
+    let sides = c.args.sides.now in
+    let end = c.args.end in
+    let layers = c.in-Settled.layers.items in
+    let rounds = c.in_ok-layers.ensures.rounds in
+    let told = settled_layers about last sides end c.in_ok-layers.field-0 c.in-Settled.region c.in-Settled.at c.in-Settled.layers c.in-Settled.is c.requires.shape rounds in
+    let count = told.layers.many in
+    let early = told.early in
+    let few : length layers ≤ last = omega (arith, count, early) in
+    grown_few about sides end c.in_ok-part-in-Settled.part.region c.requires.end_few c.requires.shape rounds.point rounds.of layers told.layers.each
+    (λ m is. last_before about last m (length layers) c.requires.search.last is few) c.in_ok-part-in-Settled.ensures.region
+
+pub returns-clause-few : goal.returns-clause-few
+returns-clause-few c =
+    let about = system_of c.args.search.now in
+    let last = c.args.search.now.last in
+    let sides = c.args.sides.now in
+    let end = c.args.end in
+    let layers = c.in-Open.layers.items in
+    let rounds = c.in_ok-layers.ensures.rounds in
+    let told = open_layers about last sides end c.in_ok-layers.field-0 c.in-Open.region c.in-Open.layers c.in-Open.is c.requires.shape rounds in
+    let count = told.layers.many in
+    let early : last ≤ last = omega arith in
+    let few : length layers ≤ last = omega (arith, count, early) in
+    grown_few about sides end c.in_ok-part-in-Open.part.region c.requires.end_few c.requires.shape rounds.point rounds.of layers told.layers.each
+    (λ m is. last_before about last m (length layers) c.requires.search.last is few) c.in_ok-part-in-Open.ensures.region

@@ -7,6 +7,7 @@ use Rattle.tv_pre.specs.Built.{IsPreFault, IsBuilt, in_both, of_both, IsFaultOf}
 use Rattle.tv_pre.proofs.BuiltLemmas.{first_alone, rest_built, hold_built, built_to}
 use Rattle.tv_pre.proofs.PassedLemmas.{passed_on, region_fault}
 use Rattle.tv_pre.proofs.SetLemmas.{onward_is, hold_over}
+use Rattle.tv_pre.proofs.SizedLemmas.{onward_few}
 use Rattle.tv_pre.proofs.along.onward.Goals as goal
 
 pub returns-in_err-stays-clause-refused : goal.returns-in_err-stays-clause-refused
@@ -61,3 +62,6 @@ returns-clause-built c =
     (let l : h ≤ 1 + h = omega arith in
     built_to about s h (1 + h) hold l (subst (IsBuilt about s h) (sym c.hold_of.ensures) (hold_built about s h sides.shape sides.first.now sides.second.now (rest_built about s h region (arguments sides) m))))
     (c.in_ok-stays.ensures.built s h (first_alone about s h region (arguments sides) m)) c.in_ok-both.ensures.both)
+
+pub returns-clause-few : goal.returns-clause-few
+returns-clause-few c = onward_few (cases_of c.args.setting.now.about.now) c.args.sides.now c.args.region.now c.in_ok-stays.stays c.hold_of.result.now c.in_ok-both.field-0 c.hold_of.ensures c.in_ok-stays.ensures.few c.in_ok-both.ensures.both

@@ -1,4 +1,4 @@
-use Rattle.std.proofs.Common.{refl, ◌+◌, ◌∷◌, [], sym, subst, arith}
+use Rattle.std.proofs.Common.{refl, ◌+◌, ◌∷◌, [], false, sym, subst, arith}
 use Rattle.tv_pre.specs.Search.{system_of}
 use Rattle.tv_pre.specs.Along.{arguments}
 use Rattle.tv_pre.specs.Fixed.{AsksStaying}
@@ -11,6 +11,7 @@ use Rattle.tv_pre.proofs.AlongLemmas.{open_rounds, settled_stays, settled_round,
 use Rattle.tv_rounds.specs.Answers.{IsFullBy}
 use Rattle.tv_known.specs.Rounds.{must_end}
 use Rattle.tv_pre.proofs.FullAlongLemmas.{shrunk_full}
+use Rattle.tv_pre.proofs.SizedLemmas.{shrunk_few, one_later}
 use Rattle.tv_pre.proofs.along.shrinking.Goals as goal
 
 pub returns-in_err-region-clause-refused : goal.returns-in_err-region-clause-refused
@@ -116,3 +117,17 @@ returns-clause-gap c =
       open_sides about c.variables-variables.ensures.limits.cases c.args.sides.now c.args.end rounds.point rounds.of c.requires.end c.args.search.now.last
           (open_rounds about c.args.search.now.last c.args.sides.now c.args.end c.in_ok-region.field-0 c.in-Open.region c.in-Open.layers c.in-Open.is rounds),
     )
+
+pub returns-in-Settled-clause-few : goal.returns-in-Settled-clause-few
+returns-in-Settled-clause-few c =
+    let about = system_of c.args.search.now in
+    let last = c.args.search.now.last in
+    let sides = c.args.sides.now in
+    let end = c.args.end in
+    let round = c.in-Settled.region in
+    let at = c.in-Settled.at in
+    let rounds = c.in_ok-region.ensures.rounds in
+    let limits = c.variables-variables.ensures.limits in
+    let told = settled_round about last sides end c.in_ok-region.field-0 round at c.in-Settled.layers c.in-Settled.is c.requires.shape rounds in
+    shrunk_few about sides end c.in_ok-part-in-Settled.part.region c.requires.end_few c.requires.shape rounds.point rounds.of at round c.in_ok-more-in-Settled.more told.round c.in_ok-more-in-Settled.ensures.few
+    (λ m is. one_later about limits.cases last m at limits.starts c.requires.search.last is told.early false rounds.point told.open_before) c.in_ok-part-in-Settled.ensures.region

@@ -4,6 +4,7 @@ use Rattle.tv_pre.specs.Built.{IsPreFault, in_either, of_either, of_nowhere, IsF
 use Rattle.tv_pre.proofs.BuiltLemmas.{one_built}
 use Rattle.tv_pre.proofs.PassedLemmas.{passed_on, region_fault}
 use Rattle.tv_pre.proofs.SetLemmas.{every_stays_at, any_stays_at}
+use Rattle.tv_pre.proofs.SizedLemmas.{every_few, any_few}
 use Rattle.tv_pre.proofs.along.stays_in.Goals as goal
 
 pub returns-in_err-stops-in-Any-clause-refused : goal.returns-in_err-stops-in-Any-clause-refused
@@ -42,3 +43,11 @@ returns-in_ok-either-in-Any-clause-built c =
     let about = cases_of c.args.setting.now.about.now in
     let none = c.nowhere.result in
     (λ s h m. of_either (1 + h) c.in_ok-back.back c.in_ok-stops-in-Any.stops c.in_ok-either-in-Any.field-0 (c.in_ok-back.ensures.built s h m) (c.in_ok-stops-in-Any.ensures.built s h (one_built about s h none (of_nowhere h none c.nowhere.ensures))) c.in_ok-either-in-Any.ensures.either)
+
+pub returns-in-Every-clause-few : goal.returns-in-Every-clause-few
+returns-in-Every-clause-few c = every_few (cases_of c.args.setting.now.about.now) c.args.path c.args.region.now c.in_ok-back.back c.in-Every.is c.in_ok-back.ensures.few
+
+pub returns-in_ok-either-in-Any-clause-few : goal.returns-in_ok-either-in-Any-clause-few
+returns-in_ok-either-in-Any-clause-few c =
+    let about = cases_of c.args.setting.now.about.now in
+    any_few about c.args.path c.args.region.now c.in_ok-back.back c.nowhere.result c.in_ok-stops-in-Any.stops c.in_ok-either-in-Any.field-0 c.in-Any.is c.nowhere.ensures c.in_ok-back.ensures.few c.in_ok-stops-in-Any.ensures.few c.in_ok-either-in-Any.ensures.either

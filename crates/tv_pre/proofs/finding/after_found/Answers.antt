@@ -8,6 +8,7 @@ use Rattle.tv_cert.specs.Statements as statements
 use Rattle.tv_region.specs.Regions.{IsRegion}
 use Rattle.tv_pre.specs.Parts.{IsPart, AreParts}
 use Rattle.tv_pre.specs.Search.{system_of}
+use Rattle.tv_pre.specs.Sized.{IsFewBefore}
 use Rattle.tv_pre.specs.Along.{OthersLeadOut}
 use Rattle.tv_pre.specs.Built.{IsBuiltOf}
 use Rattle.tv_pre.specs.Finding.{first_of, steps_back, IsGapFor, IsFound, IsRefusedFor}
@@ -53,3 +54,4 @@ returns-clause-found c s h =
     (subst (λ o. IfSome o (IsGapFor about last (statements.after c.args.path s))) (sym c.first_gap-gap.ensures)
     (subst (λ o. IfSome (first_of o c.gap_before.result) (IsGapFor about last (statements.after c.args.path s))) (sym c.in_ok-inner.ensures)
     (after_gap about last c.args.path s child.gap c.gap_before.result h.gap (step_gap about last c.args.path s (steps_back last s) child.part.region h.built c.gap_before.result c.gap_before.ensures.some))))
+    (subst (IsFewBefore about c.args.path child.part.region) same c.in_ok-region.ensures.few)

@@ -1,4 +1,4 @@
-use Rattle.std.proofs.Common.{◌∙◌, List, All, ap, sym, subst, ◌+◌}
+use Rattle.std.proofs.Common.{◌∙◌, ℕ, ◌≤◌, List, All, ap, sym, subst, ◌+◌}
 use Rattle.tv_linear.specs.declared.region.Region.{Region}
 use Rattle.tv_formula.specs.Properties.{Properties}
 use Rattle.tv_formula.specs.Properties as props
@@ -7,12 +7,14 @@ use Rattle.tv_cert.specs.Statements.{Statement}
 use Rattle.tv_cert.specs.Statements as statements
 use Rattle.tv_program.specs.Steps.{State}
 use Rattle.tv_known.specs.Cycles.{IsStateOf}
-use Rattle.tv_region.specs.Regions.{IsRegion}
+use Rattle.tv_known.specs.Sizes.{product}
+use Rattle.tv_region.specs.Regions.{IsRegion, count_at}
 use Rattle.tv_region.specs.StepRegions.{InState}
 use Rattle.tv_pre.specs.Inclusions.{OfPieces}
 use Rattle.tv_pre.specs.Questions.{IsRefusal, AsksOf, AsksEach}
 use Rattle.tv_pre.specs.Parts.{IsPart, AreParts}
 use Rattle.tv_pre.specs.Search.{system_of}
+use Rattle.tv_pre.specs.Sized.{counts_at}
 use Rattle.tv_pre.specs.Arguments.{AreArguments}
 use Rattle.tv_pre.specs.Built.{IsBuiltOf, IsFaultOf}
 use Rattle.tv_pre.specs.Finding.{IsRefusedFor}
@@ -63,3 +65,5 @@ returns-clause-found c ss h =
     (c.in_ok-size.ensures ∙ ap (λ k. 1 + k) h.size) h.full
     (subst (λ (r : Region). (s : State) → IsStateOf about s → All (λ x. InState x s) arguments.regions.items → InState r s) same
     (subst (λ rs. (s : State) → IsStateOf about s → All (λ x. InState x s) rs → InState c.in_ok-region.region s) c.deref.ensures.value c.in_ok-region.ensures.all)) h.gap
+    (subst (λ (r : Region). (l : ℕ) → count_at l r ≤ product (counts_at l arguments.regions.items)) same
+    (subst (λ rs. (l : ℕ) → count_at l c.in_ok-region.region ≤ product (counts_at l rs)) c.deref.ensures.value c.in_ok-region.ensures.few))

@@ -9,6 +9,7 @@ use Rattle.tv_cases.specs.Systems.{cases_of}
 use Rattle.tv_cert.specs.AimViews.{aim_states}
 use Rattle.tv_pre.specs.declared.setting.Setting.{Setting}
 use Rattle.tv_pre.specs.Finding.{IsGapOf, IsGapFor, IsExactFor, HasNoGapIfPlain, IsEvenStatement, steps_back, IsPartFor, IsFullFor, IsRefusedFor}
+use Rattle.tv_pre.specs.Sized.{IsFewFor}
 use Rattle.tv_pre.proofs.EvenLemmas.{stated_even}
 use Rattle.tv_pre.proofs.FoundLemmas.{one_last}
 use Rattle.tv_pre.proofs.ToldLemmas.{exact_for, no_gap}
@@ -89,3 +90,10 @@ returns-clause-refused c =
     let about = cases_of search.setting.now.about.now in
     subst (λ (z : Setting). IfErr r (λ fault. (last : ℕ) → IsLastRound (cases_of z.about.now) 8 last → IsRefusedFor (cases_of z.about.now) z.budget.now last s fault)) c.in_ok-search.ensures.setting
     (if_err r (λ x h last l. subst (λ n. IsRefusedFor about search.setting.now.budget.now n s x) (one_last about search.last last c.in_ok-search.ensures.search.last l) h) c.found_of.ensures.refused)
+
+pub returns-clause-few : goal.returns-clause-few
+returns-clause-few c =
+    let r = c.found_of.result in
+    let s = aim_states c.args.aim.now in
+    subst (λ (z : Setting). IfOk r (λ found. IsFewFor (cases_of z.about.now) s found.part.region)) c.in_ok-search.ensures.setting
+    (if_ok r (λ x h. h.few) c.found_of.ensures.found)

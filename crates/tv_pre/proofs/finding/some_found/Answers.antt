@@ -1,17 +1,19 @@
-use Rattle.std.proofs.Common.{◌≡◌, ◌∙◌, All, List, ap, sym, subst, ◌+◌}
+use Rattle.std.specs.Prelude.{sum}
+use Rattle.std.proofs.Common.{◌≡◌, ◌∙◌, ℕ, ◌≤◌, All, List, ap, sym, subst, ◌+◌}
 use Rattle.tv_linear.specs.declared.region.Region.{Region}
 use Rattle.tv_formula.specs.Properties.{Properties}
 use Rattle.tv_formula.specs.Properties as props
 use Rattle.tv_cert.specs.AimViews.{statements_of}
 use Rattle.tv_cert.specs.Statements.{Statement}
 use Rattle.tv_cert.specs.Statements as statements
-use Rattle.tv_region.specs.Regions.{IsRegion}
+use Rattle.tv_region.specs.Regions.{IsRegion, count_at}
 use Rattle.tv_region.specs.StepRegions.{InState}
 use Rattle.tv_pre.specs.Pieces.{InPieces}
 use Rattle.tv_pre.specs.Inclusions.{OfPieces}
 use Rattle.tv_pre.specs.Questions.{lies, IsRefusal, AsksOf}
 use Rattle.tv_pre.specs.Parts.{IsPart, AreParts, joined_pieces}
 use Rattle.tv_pre.specs.Search.{system_of}
+use Rattle.tv_pre.specs.Sized.{counts_at}
 use Rattle.tv_pre.specs.Arguments.{AreArguments}
 use Rattle.tv_pre.specs.Built.{IsBuiltOf, IsFaultOf}
 use Rattle.tv_pre.specs.Finding.{IsRefusedFor}
@@ -62,3 +64,5 @@ returns-clause-found c ss h =
     (c.in_ok-size.ensures ∙ ap (λ k. 1 + k) h.size) h.full
     (subst (λ (r : Region). All (λ x. OfPieces about x.pieces.items (InState r)) arguments.regions.items) same
     (subst (All (λ x. OfPieces about x.pieces.items (InState c.in_ok-region.region))) c.deref.ensures.value c.in_ok-region.ensures.all)) h.gap
+    (subst (λ (r : Region). (l : ℕ) → count_at l r ≤ sum (counts_at l arguments.regions.items)) same
+    (subst (λ rs. (l : ℕ) → count_at l c.in_ok-region.region ≤ sum (counts_at l rs)) c.deref.ensures.value c.in_ok-region.ensures.few))

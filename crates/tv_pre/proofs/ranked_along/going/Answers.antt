@@ -6,6 +6,7 @@ use Rattle.tv_pre.proofs.BuiltLemmas.{one_built}
 use Rattle.tv_pre.proofs.PassedLemmas.{passed_on, region_fault}
 use Rattle.tv_pre.proofs.RankedAlongLemmas.{going_is, hold_side_at}
 use Rattle.tv_pre.proofs.SetLemmas.{hold_over}
+use Rattle.tv_pre.proofs.SizedLemmas.{going_few}
 use Rattle.tv_pre.proofs.ranked_along.going.Goals as goal
 
 pub returns-in_err-goes-clause-refused : goal.returns-in_err-goes-clause-refused
@@ -44,3 +45,6 @@ returns-clause-built c =
     let hold = c.hold_of.result.now in
     (λ s h m. of_both (1 + h) hold c.in_ok-goes.goes c.in_ok-both.field-0 (hold_side_at about sides hold c.hold_of.ensures s h m)
     (c.in_ok-goes.ensures.built s h (one_built about s h all (of_everywhere h all c.in_ok-anywhere.ensures))) c.in_ok-both.ensures.both)
+
+pub returns-clause-few : goal.returns-clause-few
+returns-clause-few c = going_few (cases_of c.args.setting.now.about.now) c.args.sides.now c.in_ok-anywhere.anywhere c.in_ok-goes.goes c.hold_of.result.now c.in_ok-both.field-0 c.in_ok-anywhere.ensures c.hold_of.ensures c.in_ok-goes.ensures.few c.in_ok-both.ensures.both

@@ -12,6 +12,7 @@ use Rattle.tv_pre.proofs.BuiltLemmas.{rest_built}
 use Rattle.tv_pre.proofs.PassedLemmas.{passed_on, cover_fault}
 use Rattle.tv_pre.proofs.RankedAlongLemmas.{sides_fault, ends_fault, coming_is, both_built, coming_asked}
 use Rattle.tv_pre.proofs.VacantLemmas.{beside_of}
+use Rattle.tv_pre.proofs.SizedLemmas.{came_few}
 use Rattle.tv_pre.proofs.ranked_along.ranked_along.Goals as goal
 
 pub returns-in_err-onward-clause-refused : goal.returns-in_err-onward-clause-refused
@@ -67,3 +68,6 @@ returns-clause-along c =
           (λ s h m. both_built about sides end onward s h m (c.in_ok-onward.ensures.built s h (rest_built about s h end (arguments sides) m))),
       subst (HasAll about) (sym c.in_ok-part.ensures.region.pieces) (c.in-Ok.ensures.all told),
     )
+
+pub returns-clause-few : goal.returns-clause-few
+returns-clause-few c = came_few (cases_of c.args.setting.now.about.now) c.args.sides.now c.args.end c.in_ok-part.part.region c.requires.end_few c.requires.shape c.requires.path c.in_ok-onward.onward c.in_ok-onward.ensures.few c.variables-variables.ensures.limits.starts c.in_ok-part.ensures.region

@@ -2,10 +2,12 @@ use Rattle.std.proofs.Common.{sym, subst, ◌+◌, ◌∷◌, []}
 use Rattle.tv_cases.specs.Systems.{cases_of}
 use Rattle.tv_formula.specs.declared.tree.Path.{Path}
 use Rattle.tv_pre.specs.Along.{AreBefore, OthersLeadOut}
+use Rattle.tv_pre.specs.Sized.{IsFewBefore}
 use Rattle.tv_pre.specs.Built.{in_any, in_every, of_any, of_every, IsFaultOf}
 use Rattle.tv_pre.proofs.BuiltLemmas.{first_built, one_more, one_more_refused}
 use Rattle.tv_pre.proofs.PassedLemmas.{passed_on, region_fault}
 use Rattle.tv_pre.proofs.SetLemmas.{every_before, every_others, any_others}
+use Rattle.tv_pre.proofs.SizedLemmas.{every_back_few, any_back_few}
 use Rattle.tv_pre.proofs.regions.back_into.Goals as goal
 
 pub returns-in_err-before_every-in-Every-clause-refused : goal.returns-in_err-before_every-in-Every-clause-refused
@@ -60,3 +62,17 @@ returns-in_ok-before_any-in-Any-clause-others c =
     let region = c.args.region.now in
     let back = c.in_ok-before_any-in-Any.field-0 in
     subst (λ (p : Path). OthersLeadOut about p region back) (sym c.in-Any.is) (any_others about region back c.in_ok-before_any-in-Any.ensures.before)
+
+pub returns-in_ok-before_every-in-Every-clause-few : goal.returns-in_ok-before_every-in-Every-clause-few
+returns-in_ok-before_every-in-Every-clause-few c =
+    let about = cases_of c.args.setting.now.about.now in
+    let region = c.args.region.now in
+    let back = c.in_ok-before_every-in-Every.field-0 in
+    subst (λ (p : Path). IsFewBefore about p region back) (sym c.in-Every.is) (every_back_few about region back c.in_ok-before_every-in-Every.ensures.before)
+
+pub returns-in_ok-before_any-in-Any-clause-few : goal.returns-in_ok-before_any-in-Any-clause-few
+returns-in_ok-before_any-in-Any-clause-few c =
+    let about = cases_of c.args.setting.now.about.now in
+    let region = c.args.region.now in
+    let back = c.in_ok-before_any-in-Any.field-0 in
+    subst (λ (p : Path). IsFewBefore about p region back) (sym c.in-Any.is) (any_back_few about region back c.in_ok-before_any-in-Any.ensures.before)

@@ -6,6 +6,7 @@ use Rattle.tv_pre.specs.Built.{in_both, in_either, of_both, of_either, of_nowher
 use Rattle.tv_pre.proofs.BuiltLemmas.{first_of_two, second_of_two}
 use Rattle.tv_pre.proofs.PassedLemmas.{passed_on, region_fault}
 use Rattle.tv_pre.proofs.SetLemmas.{one_end, both_ends}
+use Rattle.tv_pre.proofs.SizedLemmas.{one_end_few, two_ends_few}
 use Rattle.tv_pre.proofs.regions.end_of.Goals as goal
 
 pub returns-in_err-both-clause-refused : goal.returns-in_err-both-clause-refused
@@ -49,3 +50,13 @@ returns-in_ok-either-clause-built c =
     let about = cases_of c.args.setting.now.about.now in
     let sides = c.args.sides.now in
     (λ s h m. of_either (0 + h) sides.second.now c.nowhere.result c.in_ok-either.field-0 (second_of_two about s h sides.first.now sides.second.now m) (of_nowhere (0 + h) c.nowhere.result c.nowhere.ensures) c.in_ok-either.ensures.either)
+
+pub returns-in_ok-both-clause-few : goal.returns-in_ok-both-clause-few
+returns-in_ok-both-clause-few c =
+    let told : two_ends c.args.sides.now.shape ≡ true = sym c.has_two_ends.ensures ∙ c.if-has_two_ends.true in
+    two_ends_few c.args.sides.now c.in_ok-both.field-0 told c.in_ok-both.ensures.both
+
+pub returns-in_ok-either-clause-few : goal.returns-in_ok-either-clause-few
+returns-in_ok-either-clause-few c =
+    let told : two_ends c.args.sides.now.shape ≡ false = sym c.has_two_ends.ensures ∙ c.if-has_two_ends.false in
+    one_end_few (cases_of c.args.setting.now.about.now) c.args.sides.now c.nowhere.result c.in_ok-either.field-0 c.nowhere.ensures told c.in_ok-either.ensures.either

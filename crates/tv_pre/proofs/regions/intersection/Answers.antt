@@ -4,7 +4,7 @@ use Rattle.tv_rounds.proofs.SetLemmas.{as_first}
 use Rattle.tv_pre.specs.Built.{in_both, IsFaultOf}
 use Rattle.tv_pre.proofs.BuiltLemmas.{member_built}
 use Rattle.tv_pre.proofs.PassedLemmas.{passed_on, region_fault}
-use Rattle.tv_pre.proofs.SetLemmas.{common_first, common_more, common_all, item_over}
+use Rattle.tv_pre.proofs.SetLemmas.{common_first, common_more, common_all, common_few, item_over}
 use Rattle.tv_pre.proofs.regions.intersection.Goals as goal
 
 pub regions-init : goal.regions-init
@@ -41,3 +41,6 @@ regions-preserved c =
 
 pub returns-clause-inside : goal.returns-clause-inside
 returns-clause-inside c = common_all (cases_of c.args.setting.now.about.now) c.args.regions.now c.regions.region-index c.regions.common c.regions-test.false c.regions.invariant
+
+pub returns-clause-few : goal.returns-clause-few
+returns-clause-few c = common_few (cases_of c.args.setting.now.about.now) c.args.regions.now c.regions.region-index c.regions.common c.regions-test.false c.regions.invariant

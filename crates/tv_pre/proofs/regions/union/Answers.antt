@@ -4,7 +4,7 @@ use Rattle.tv_rounds.proofs.SetLemmas.{as_first}
 use Rattle.tv_pre.specs.Built.{in_either, IsFaultOf}
 use Rattle.tv_pre.proofs.BuiltLemmas.{member_built}
 use Rattle.tv_pre.proofs.PassedLemmas.{passed_on, region_fault}
-use Rattle.tv_pre.proofs.SetLemmas.{whole_first, whole_more, whole_all, item_over}
+use Rattle.tv_pre.proofs.SetLemmas.{whole_first, whole_more, whole_all, whole_few, item_over}
 use Rattle.tv_pre.proofs.regions.union.Goals as goal
 
 pub regions-init : goal.regions-init
@@ -41,3 +41,6 @@ regions-preserved c =
 
 pub returns-clause-all : goal.returns-clause-all
 returns-clause-all c = whole_all (cases_of c.args.setting.now.about.now) c.args.regions.now c.regions.region-index c.regions.whole c.regions-test.false c.regions.invariant
+
+pub returns-clause-few : goal.returns-clause-few
+returns-clause-few c = whole_few (cases_of c.args.setting.now.about.now) c.args.regions.now c.regions.region-index c.regions.whole c.regions-test.false c.regions.invariant
