@@ -1,4 +1,5 @@
 pub mod TargetLemmas
+pub mod AcyclicRanks
 pub mod RefusalLemmas
 pub mod OfferLemmas
 pub mod StepLemmas

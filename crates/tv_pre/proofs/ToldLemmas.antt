@@ -1,7 +1,6 @@
 -- Where no gap is told.
 use Rattle.std.proofs.Common.{◌≡◌, inl, inr, ℕ, zero, suc, List, [], ◌∷◌, refl, sym, ap, ◌∙◌, subst, slice_get}
 use Rattle.std.specs.Prelude.{All, Contains, Option, None, Some, IfSome}
-use Rattle.std.proofs.lemmas.List.Elements.{Contains-append_left, Contains-append_right}
 use Rattle.tv_formula.specs.Formulas.{property_of}
 use Rattle.tv_formula.specs.Normal.{negation, normal}
 use Rattle.tv_formula.specs.Properties.{Property, truth, compare, at, term, negated, all_of, some_of, next, fix}
@@ -22,10 +21,12 @@ use Rattle.tv_known.specs.Subformulas.{subformulas}
 use Rattle.tv_region.specs.Regions.{IsRegion}
 use Rattle.tv_pre.specs.declared.gap.Gap.{Gap}
 use Rattle.tv_pre.specs.declared.gap.Gap.TheVariants.{Inexact, Open}
-use Rattle.tv_pre.specs.Finding.{IsGapFor, IsOpenAt, IsTerminal, AreAtomsOfDifferences, IsTameStatement, NoneIsTerminal, IsPlainProgram, HasNoGapIfPlain, IsPartFor, IsFullFor, IsExactFor}
+use Rattle.tv_pre.specs.Finding.{IsGapFor, IsOpenAt, IsTerminal, AreAtomsOfDifferences, IsTameStatement, IsPlainProgram, HasNoGapIfPlain, IsPartFor, IsFullFor, IsExactFor}
 use Rattle.tv_pre.specs.Full.{HasRows}
 use Rattle.tv_pre.specs.Proving.{IsTameClaim}
+use Rattle.tv_pre.specs.Unserved.{IsUnranked, IsUnserved}
 use Rattle.tv_pre.specs.Told.{AreSettled, IsClaimOn, SettledIsTold, PlainIsTold}
+use Rattle.tv_pre.proofs.AcyclicRanks.{acyclic_ranked}
 use Rattle.tv_pre.proofs.ContraryAtoms.{denied_atoms}
 use Rattle.tv_pre.proofs.NegationLemmas.{denied_stands}
 use Rattle.tv_pre.proofs.StepsTold.{tame_goes}
@@ -38,24 +39,43 @@ got_among (y ∷ xs) zero x e = (let same : y ≡ x = cc in subst (Contains (y �
 got_among (y ∷ xs) (suc i) x e = Contains-later y x xs (got_among xs i x e)
 
 -- ---- programs without cycles and draws
+terminal_unranked : (about : CaseSystem) (f : Property) → IsTerminal f → IsUnserved about f → IsUnranked about
+terminal_unranked about (truth b) t u = absurd t
+terminal_unranked about (compare r a b) t u = absurd t
+terminal_unranked about (at l) t u = absurd t
+terminal_unranked about term t u = u
+terminal_unranked about (negated (truth b)) t u = absurd t
+terminal_unranked about (negated (compare r a b)) t u = absurd t
+terminal_unranked about (negated (at l)) t u = absurd t
+terminal_unranked about (negated term) t u = u
+terminal_unranked about (negated (negated f)) t u = absurd t
+terminal_unranked about (negated (all_of fs)) t u = absurd t
+terminal_unranked about (negated (some_of fs)) t u = absurd t
+terminal_unranked about (negated (next path f)) t u = absurd t
+terminal_unranked about (negated (fix path shape f g)) t u = absurd t
+terminal_unranked about (all_of fs) t u = absurd t
+terminal_unranked about (some_of fs) t u = absurd t
+terminal_unranked about (next path f) t u = absurd t
+terminal_unranked about (fix path shape f g) t u = absurd t
+
 module _ (about : CaseSystem) (cases : All (IsCase about.variables about.locations) about.cases) where
-  none_open : (HasCycle about → ⊥) → (fs : List Property) → NoneIsTerminal fs → (place : ℕ) → IsOpenAt about about.locations fs place → ⊥
-  none_open none fs n place h = elim h.unsettled [ inl u ↦ none_unsettled about cases h.part none u | inr t ↦ n h.part (got_among fs place h.part h.there) t ]
+  none_open : (HasCycle about → ⊥) → (fs : List Property) → (place : ℕ) → IsOpenAt about about.locations fs place → ⊥
+  none_open none fs place h = elim h.unsettled [ inl u ↦ none_unsettled about cases h.part none u | inr t ↦ terminal_unranked about h.part t h.unserved (acyclic_ranked about none) ]
 
   plain_last : IsPlainProgram about → (last : ℕ) → IsLastRound about 8 last → last ≡ about.locations
   plain_last plain last (inl h) = absurd (plain.acyclic h.0)
   plain_last plain last (inr h) = h.1
 
   pub no_gap : (last : ℕ) → IsLastRound about 8 last → (s : Statement) (gap : Option Gap) → IfSome gap (IsGapFor about last s) → HasNoGapIfPlain about s gap
-  no_gap last l s None h plain f e w n = refl
-  no_gap last l s (Some Inexact) h plain f e w n = absurd (h (inl plain.draws))
-  no_gap last l s (Some (Open place)) h plain f e w n = absurd (none_open plain.acyclic (subformulas f) n place (subst (λ k. IsOpenAt about k (subformulas f) place) (plain_last plain last l) (h f e w)))
+  no_gap last l s None h plain f e w = refl
+  no_gap last l s (Some Inexact) h plain f e w = absurd (h (inl plain.draws))
+  no_gap last l s (Some (Open place)) h plain f e w = absurd (none_open plain.acyclic (subformulas f) place (subst (λ k. IsOpenAt about k (subformulas f) place) (plain_last plain last l) (h f e w)))
 
   pub plain_told : (claim : Claim) (budget : Budget) (gap : Gap) → PlainIsTold about claim budget gap
-  plain_told claim budget Inexact plain n h = h.1.tells about.locations (inr (plain.acyclic, refl)) (inl plain.draws)
-  plain_told claim budget (Open place) plain n h = elim (h.1.tells about.locations (inr (plain.acyclic, refl))) [
-    | inl o ↦ none_open plain.acyclic (subformulas (property_of claim.proved)) (λ f m t. n f (Contains-append_left (subformulas (property_of claim.proved)) (subformulas (property_of claim.denied)) f m) t) place o
-    | inr o ↦ none_open plain.acyclic (subformulas (property_of claim.denied)) (λ f m t. n f (Contains-append_right (subformulas (property_of claim.proved)) (subformulas (property_of claim.denied)) f m) t) place o
+  plain_told claim budget Inexact plain h = h.1.tells about.locations (inr (plain.acyclic, refl)) (inl plain.draws)
+  plain_told claim budget (Open place) plain h = elim (h.1.tells about.locations (inr (plain.acyclic, refl))) [
+    | inl o ↦ none_open plain.acyclic (subformulas (property_of claim.proved)) place o
+    | inr o ↦ none_open plain.acyclic (subformulas (property_of claim.denied)) place o
   ]
 
 -- ---- tame programs

@@ -201,19 +201,15 @@ IsGapAmong about last ss (Open place) =
     (f : Property) (fs : Properties) → ss ≡ stated_all (comparison_lists about.variables) fs → AllHaveRows about.variables fs
     → IsOpenAt about last (f ∷ all_subformulas fs) place
 
--- none of these properties is termination or its negation
-abbrev pub NoneIsTerminal : List Property → Type 0
-NoneIsTerminal fs = (f : Property) → Contains fs f → IsTerminal f → ⊥
-
 -- no case has a draw, and the cases have no cycle
 pub record IsPlainProgram (about : CaseSystem) : Type 0 where
   pub draws : HasNoDraws about
   pub acyclic : HasCycle about → ⊥
 
--- there no gap of the formula is told, if each comparison has rows and it has no termination
+-- there no gap of the formula is told, if each comparison has rows
 abbrev pub HasNoGapIfPlain : CaseSystem → Statement → Option Gap → Type 0
 HasNoGapIfPlain about s gap =
-    IsPlainProgram about → (f : Property) → States about s f → HasRows about.variables f → NoneIsTerminal (subformulas f) → gap ≡ None
+    IsPlainProgram about → (f : Property) → States about s f → HasRows about.variables f → gap ≡ None
 
 -- the gap of the states before a region: going back into it is not exact
 abbrev pub IsWildStep : CaseSystem → Region → Gap → Type 0

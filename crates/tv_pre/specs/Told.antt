@@ -1,7 +1,6 @@
 -- When the search for a formula tells of no gap.
-use Rattle.std.specs.Prelude.{◌≡◌, ◌⊎◌, ℕ, List, ◌++◌, Contains}
+use Rattle.std.specs.Prelude.{◌≡◌, ◌⊎◌, ℕ, List, Contains}
 use Rattle.tv_program.specs.Steps.{State}
-use Rattle.tv_formula.specs.Formulas.{property_of}
 use Rattle.tv_formula.specs.Normal.{normal}
 use Rattle.tv_formula.specs.declared.tree.Path.{Path}
 use Rattle.tv_formula.specs.declared.tree.Shape.{Shape}
@@ -13,21 +12,21 @@ use Rattle.tv_cert.specs.AimViews.{aim_states}
 use Rattle.tv_cert.specs.Claims.{IsClaim, claim_variables}
 use Rattle.tv_known.specs.Cycles.{HasCycle, IsLastRound}
 use Rattle.tv_known.specs.Laws.{IsRankedUntil}
+use Rattle.tv_known.specs.Ranking.{HasLexicographicRanking}
 use Rattle.tv_known.specs.Rounds.{IsSettled}
 use Rattle.tv_known.specs.Subformulas.{subformulas, IsUnsettled}
+use Rattle.tv_rank.specs.declared.name.Name.{Name}
 use Rattle.tv_region.specs.StepRegions.{HasNoDraws}
+use Rattle.tv_simplex.specs.declared.fault.SolveFault.{SolveFault}
 use Rattle.tv_pre.specs.declared.gap.Gap.{Gap}
 use Rattle.tv_pre.specs.declared.deciding.Unproved.TheVariants as unproved
-use Rattle.tv_pre.specs.Finding.{IsTameStatement, IsTerminal, NoneIsTerminal, IsPlainProgram}
+use Rattle.tv_pre.specs.Finding.{IsTameStatement, IsTerminal, IsPlainProgram}
 use Rattle.tv_pre.specs.Proving.{IsUnproved}
+use Rattle.tv_pre.specs.Unserved.{IsRankingRefused}
 
 -- round k settles each fixed point among the properties, and none of them is termination or its negation
 abbrev pub AreSettled : CaseSystem → ℕ → List Property → Type 0
 AreSettled about k fs = (f : Property) → Contains fs f → IsUnsettled about k f ⊎ IsTerminal f → ⊥
-
--- the subformulas of the normal form and of the negation
-abbrev pub claimed : Claim → List Property
-claimed claim = subformulas (property_of claim.proved) ++ subformulas (property_of claim.denied)
 
 -- the claim is one of the property, over the variables of the program
 pub record IsClaimOn (about : CaseSystem) (claim : Claim) (f : Property) : Type 0 where
@@ -44,7 +43,7 @@ SettledIsTold about claim f budget gap =
 -- nor where the program has neither a draw nor a cycle
 abbrev pub PlainIsTold : CaseSystem → Claim → Budget → Gap → Type 0
 PlainIsTold about claim budget gap =
-    IsPlainProgram about → NoneIsTerminal (claimed claim) → IsUnproved about claim budget (unproved.Left gap) → ⊥
+    IsPlainProgram about → IsUnproved about claim budget (unproved.Left gap) → ⊥
 
 -- Where the property is to come to its end on every run of a program without draws that has a lexicographic ranking, its arguments are of one
 -- state each, and each state is at the end, or on the way with a step, no claim of it is left open with a gap.
@@ -60,3 +59,12 @@ AcyclicIsSettled about path shape hold end = (HasCycle about → ⊥) → IsSett
 -- so it settles each fixed point, `term` and its negation
 abbrev pub NoneIsUnsettled : CaseSystem → Property → Type 0
 NoneIsUnsettled about f = (HasCycle about → ⊥) → IsUnsettled about about.locations f → ⊥
+
+-- a program without a cycle has a lexicographic ranking
+abbrev pub AcyclicIsRanked : CaseSystem → Type 0
+AcyclicIsRanked about = (HasCycle about → ⊥) → HasLexicographicRanking about
+
+-- and no system of the search for it is refused
+abbrev pub AcyclicIsUnrefused : CaseSystem → Type 0
+AcyclicIsUnrefused about =
+    (HasCycle about → ⊥) → (pivots : ℕ) (system : Name) (fault : SolveFault) → IsRankingRefused about pivots system fault → ⊥

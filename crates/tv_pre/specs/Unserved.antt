@@ -3,7 +3,7 @@ use Rattle.std.specs.Prelude.{◌≡◌, ◌⊎◌, ℕ, List, [], true}
 use Rattle.tv_program.specs.Steps.{State}
 use Rattle.tv_formula.specs.declared.tree.Path.TheVariants.{Every}
 use Rattle.tv_formula.specs.declared.tree.Shape.{Shape}
-use Rattle.tv_formula.specs.Properties.{Property, fix}
+use Rattle.tv_formula.specs.Properties.{Property, fix, term, negated}
 use Rattle.tv_linear.specs.declared.region.Piece.{Piece}
 use Rattle.tv_linear.specs.declared.region.Region.{Region}
 use Rattle.tv_simplex.specs.declared.fault.SolveFault.{SolveFault}
@@ -65,7 +65,9 @@ pub record SomeIsBeside (about : CaseSystem) (hold end : State → Type 0) : Typ
 abbrev pub IsUnservedBy : CaseSystem → Shape → (State → Type 0) → (State → Type 0) → Type 0
 IsUnservedBy about shape f g = IsUnranked about ⊎ (HasNoDraws about → SomeIsBeside about (λ s. HoldSide shape f g s) (λ s. EndSides shape f g s))
 
--- so it is with the property, if it is such a fixed point
+-- so it is with the property, if it is such a fixed point; if it is termination or its negation, there is no ranking
 abbrev pub IsUnserved : CaseSystem → Property → Type 0
+IsUnserved about term = IsUnranked about
+IsUnserved about (negated term) = IsUnranked about
 IsUnserved about (fix Every shape f g) = must_end shape ≡ true → IsUnservedBy about shape (λ s. Holds (CaseSteps about) f s) (λ s. Holds (CaseSteps about) g s)
 IsUnserved about f = Unit {0}

@@ -15,13 +15,14 @@ ghost use Rattle.tv_pre.specs.Atoms.{IsEvenTest};
 ghost use Rattle.tv_pre.specs.Built.{IsBuilt};
 ghost use Rattle.tv_pre.specs.Finding.{States, IsEvenStatement, AreEvenStatements, steps_back, size, first_of, gap_behind, IsGapOf, IsGapFor, IsWildStep, IsPartFor, IsFullFor, IsExactFor, HasNoGapIfPlain, IsFound, test_statement, IsRefusedFor};
 ghost use Rattle.tv_pre.specs.Sized.{IsFewFor};
-ghost use Rattle.tv_pre.specs.Search.{system_of, IsSearch};
+ghost use Rattle.tv_pre.specs.Search.{system_of, IsSearch, IsRanking};
+ghost use Rattle.tv_pre.specs.Unserved.{IsUnranked};
 ghost use Rattle.tv_pre.specs.Arguments.{AreArguments, AreArgumentsOf};
 
 use crate::along::{Along, part_along};
 use crate::empty::empty_part;
 use crate::gap::{added, first_gap, gap_after};
-use crate::ranking::{Ranks, ranks_of};
+use crate::ranking::{Ranking, Ranks, ranks_of};
 use crate::regions::{back_into, intersection, union};
 use crate::search::{Search, search_in};
 use crate::{
@@ -96,8 +97,9 @@ fn atom_found(search: &Search, test: &Test) -> Result<Found, PreFault>
     Ok(Found { part, gap, size: 1 })
 }
 
-/// What is found of termination or of its negation: so far nothing.
+/// What is found of termination or of its negation in a program without a ranking: so far nothing.
 fn termination_found(search: &Search) -> Result<Found, PreFault>
+    requires unranked { IsUnranked (system_of search.now) }
     ensures ends { IfOk result (IsFound (system_of search.now) search.now.last statements.ends) }
     ensures never_ends { IfOk result (IsFound (system_of search.now) search.now.last statements.never_ends) }
     ensures memory { IfErr result (λ fault. fault ≡ Memory) }
@@ -107,10 +109,11 @@ fn termination_found(search: &Search) -> Result<Found, PreFault>
     Ok(Found { part, gap, size: 1 })
 }
 
-/// What is found of termination in a ranked program: it holds everywhere. The ranks are looked for anew, as their node is given away.
+/// What is found of termination where the ranks are looked for anew, as their node, or the fault of a system, is given away.
 fn ends_anew(search: &Search) -> Result<Found, PreFault>
     ensures found { IfOk result (IsFound (system_of search.now) search.now.last statements.ends) }
-    ensures memory { IfErr result (λ fault. fault ≡ Memory) }
+    ensures refused { let about = system_of search.now in
+        IfErr result (IsRefusedFor about search.now.setting.now.budget.now search.now.last statements.ends) }
 {
     let setting = search.setting;
     match ranks_of(setting)? {
@@ -119,34 +122,62 @@ fn ends_anew(search: &Search) -> Result<Found, PreFault>
             let gap = None;
             Ok(Found { part, gap, size: 1 })
         }
-        _ => Ok(termination_found(search)?),
+        Ranks::Lacking => Ok(termination_found(search)?),
+        Ranks::Refused { system, fault } => Err(PreFault::Rank { system, fault }),
     }
 }
 
-/// What is found of termination: where the program is ranked it holds everywhere; else so far nothing.
+/// What is found of termination: where the program is ranked it holds everywhere; where it has no ranking so far nothing.
 fn ends_found(search: &Search) -> Result<Found, PreFault>
+    requires search { IsSearch search.now }
     ensures found { IfOk result (IsFound (system_of search.now) search.now.last statements.ends) }
-    ensures memory { IfErr result (λ fault. fault ≡ Memory) }
+    ensures refused { let about = system_of search.now in
+        IfErr result (IsRefusedFor about search.now.setting.now.budget.now search.now.last statements.ends) }
 {
     match &search.ranks {
-        Ranks::Known(_) => ends_anew(search),
-        _ => termination_found(search),
+        Ranks::Lacking => Ok(termination_found(search)?),
+        _ => ends_anew(search),
     }
 }
 
-/// What is found of the negation of termination: where the program is ranked it holds nowhere; else so far nothing.
-fn never_found(search: &Search) -> Result<Found, PreFault>
-    requires search { IsSearch search.now }
+/// What is found of the negation of termination in a ranked program: it holds nowhere.
+fn never_ranked(search: &Search, _ranking: &Ranking) -> Result<Found, PreFault>
+    requires ranking { IsRanking (system_of search.now) _ranking.now }
     ensures found { IfOk result (IsFound (system_of search.now) search.now.last statements.never_ends) }
     ensures memory { IfErr result (λ fault. fault ≡ Memory) }
 {
+    let part = empty_part(search.setting)?;
+    let gap = None;
+    Ok(Found { part, gap, size: 1 })
+}
+
+/// What is found of the negation of termination where the ranks are looked for anew, as the fault of a system is given away.
+fn never_anew(search: &Search) -> Result<Found, PreFault>
+    ensures found { IfOk result (IsFound (system_of search.now) search.now.last statements.never_ends) }
+    ensures refused { let about = system_of search.now in
+        IfErr result (IsRefusedFor about search.now.setting.now.budget.now search.now.last statements.never_ends) }
+{
+    match ranks_of(search.setting)? {
+        Ranks::Known(ranking) => Ok(never_ranked(search, &ranking)?),
+        Ranks::Lacking => Ok(termination_found(search)?),
+        Ranks::Refused { system, fault } => Err(PreFault::Rank { system, fault }),
+    }
+}
+
+/// What is found of the negation of termination: where the program is ranked it holds nowhere; where it has no ranking so far nothing.
+fn never_found(search: &Search) -> Result<Found, PreFault>
+    requires search { IsSearch search.now }
+    ensures found { IfOk result (IsFound (system_of search.now) search.now.last statements.never_ends) }
+    ensures refused { let about = system_of search.now in
+        IfErr result (IsRefusedFor about search.now.setting.now.budget.now search.now.last statements.never_ends) }
+{
     match &search.ranks {
-        Ranks::Known(_) => {
-            let part = empty_part(search.setting)?;
-            let gap = None;
-            Ok(Found { part, gap, size: 1 })
-        }
-        _ => Ok(termination_found(search)?),
+        Ranks::Known(ranking) => Ok(never_ranked(search, ranking)?),
+        Ranks::Lacking => Ok(termination_found(search)?),
+        Ranks::Refused {
+            system: _,
+            fault: _,
+        } => never_anew(search),
     }
 }
 

@@ -11,7 +11,7 @@ ghost use Rattle.tv_pre.specs.declared.gap.Gap.{Gap};
 ghost use Rattle.tv_linear.specs.declared.region.Region.{Region};
 ghost use Rattle.tv_pre.specs.Full.{FullHasAll, FullTell};
 ghost use Rattle.tv_pre.specs.Sized.{FewIsWithinSize};
-ghost use Rattle.tv_pre.specs.Told.{AcyclicIsSettled, NoneIsUnsettled, SettledIsTold, PlainIsTold, RankedUntilIsTold};
+ghost use Rattle.tv_pre.specs.Told.{AcyclicIsSettled, NoneIsUnsettled, SettledIsTold, PlainIsTold, RankedUntilIsTold, AcyclicIsRanked, AcyclicIsUnrefused};
 
 use tv_known::Sides;
 
@@ -22,8 +22,8 @@ pub fn full_regions_tell()
     ensures tell { (about : CaseSystem) (f : Property) → FullTell about f }
 {}
 
-/// No claim is left open with a gap where the program is tame for the normal form and the last round settles each fixed point of it, nor
-/// where the program has neither a draw nor a cycle; if termination does not stand in them. Nothing is asked of the negation, as its rounds are
+/// No claim is left open with a gap where the program is tame for the normal form, the last round settles each fixed point of it, and
+/// termination does not stand in it; nor where the program has neither a draw nor a cycle. Nothing is asked of the negation, as its rounds are
 /// the complements of those of the normal form.
 pub fn settled_claims_are_told()
     ensures tame { (about : CaseSystem) (claim : Claim) (f : Property) (budget : Budget) (gap : Gap) → SettledIsTold about claim f budget gap }
@@ -42,6 +42,12 @@ pub fn ranked_untils_are_told()
 pub fn acyclic_rounds_settle<S: Sides>()
     ensures rounds { (about : CaseSystem) → AreProper about → (path : Path) (shape : Shape) → AcyclicIsSettled about path shape S.hold S.end }
     ensures formulas { (about : CaseSystem) → AreProper about → (f : Property) → NoneIsUnsettled about f }
+{}
+
+/// A program without a cycle has a lexicographic ranking, and no system of the search for it is refused.
+pub fn acyclic_programs_are_ranked()
+    ensures ranked { (about : CaseSystem) → AcyclicIsRanked about }
+    ensures unrefused { (about : CaseSystem) → AreProper about → AcyclicIsUnrefused about }
 {}
 
 /// Where no case has a draw, a region with no more pieces than are counted for a formula has no more than the size of each property in whose
