@@ -31,7 +31,7 @@ pub(crate) enum Tried {
 /// Why there is no certificate.
 #[derive(Drop)]
 pub enum Unproved {
-    /// A call on regions, or a question of them, was refused.
+    /// A call on regions, or a question of them, was refused, or a system of the search for ranks.
     Refused(PreFault),
     /// Some initial state is not known to have the property, and none is known not to have it: a region may lack states, for this reason.
     Left(Gap),
@@ -137,10 +137,33 @@ fn left(setting: &Setting, claim: &Claim, first: Option<Gap>, second: Option<Gap
     }
 }
 
+/// What comes of a claim whose proof was refused. Where that is a system of the search for ranks, the negation may tell still.
+fn or_disproof(
+    setting: &Setting,
+    claim: &Claim,
+    fault: PreFault,
+) -> Result<Certificate, Unproved>
+    requires splits { setting.now.budget.now.splits ≤ 128 }
+    requires states { StatesIts claim.now }
+    requires variables { claim_variables claim.now ≡ (cases_of setting.now.about.now).variables }
+    requires refused { IsProofFault (cases_of setting.now.about.now) claim.now setting.now.budget.now fault }
+    ensures settled { IfOk result (IsSettling (cases_of setting.now.about.now) claim.now) }
+    ensures unproved { IfErr result (IsUnproved (cases_of setting.now.about.now) claim.now setting.now.budget.now) }
+{
+    match fault {
+        PreFault::Rank { system, fault } => match try_disproof(setting, claim) {
+            Ok(Tried::Settled(certificate)) => Ok(certificate),
+            _ => Err(Unproved::Refused(PreFault::Rank { system, fault })),
+        },
+        fault => Err(Unproved::Refused(fault)),
+    }
+}
+
 /// The certificate that a property holds at all initial states, or fails at one of them.
 ///
 /// A region and a node are made of each subformula, bottom-up: of the normal form first, and where its region does not have all initial
-/// states, of its negation. Where neither region lacks states for a known gap, and each comparison has rows, one of the two tells.
+/// states, or a system of ranks is refused, of its negation. Where neither region lacks states for a known gap, and each comparison has rows,
+/// one of the two tells.
 pub fn prove(setting: &Setting, claim: &Claim) -> Result<Certificate, Unproved>
     requires splits { setting.now.budget.now.splits ≤ 128 }
     requires states { StatesIts claim.now }
@@ -150,7 +173,7 @@ pub fn prove(setting: &Setting, claim: &Claim) -> Result<Certificate, Unproved>
     ensures unproved { IfErr result (IsUnproved (cases_of setting.now.about.now) claim.now setting.now.budget.now) }
 {
     let first = match try_proof(setting, claim) {
-        Err(fault) => return Err(Unproved::Refused(fault)),
+        Err(fault) => return or_disproof(setting, claim, fault),
         Ok(Tried::Settled(certificate)) => return Ok(certificate),
         Ok(Tried::Left(gap)) => gap,
     };

@@ -71,7 +71,7 @@ fn ended(fault: EndFault) -> Answer
 }
 
 /// Whether the formula says that every run ends.
-fn is_termination(formula: &Formula) -> bool
+pub(crate) fn is_termination(formula: &Formula) -> bool
     ensures { IsTrue result ↔ (property_of formula.now ≡ term) }
 {
     match formula.tree() {

@@ -9,15 +9,17 @@ ghost use Rattle.tv_top.specs.Searching.{IsOfOne, IsSameOrSettles};
 
 use crate::answer::Answer;
 use crate::cause::Cause;
-use crate::finding::{budget_of, told};
+use crate::finding::{budget_of, is_termination, told};
 use crate::search::Search;
 use crate::wanted::Wanted;
 use std::alloc::{AllocError, Global};
 use tv_candidates::Candidate;
+use tv_cert::Claim;
 use tv_farkas::CoverFault;
 use tv_further::{Budget, further, look};
 use tv_invariant::strengthen;
 use tv_propose::Proposer;
+use tv_rank::Name;
 use tv_shape::Certificate;
 
 /// A program of more cases than that is looked at by single states before ranks, rows and regions are sought, which may take long there.
@@ -45,10 +47,30 @@ pub(crate) fn looked_at(alloc: Global, search: &Search) -> Result<Option<Certifi
     }
 }
 
+/// Whether the system is one of the search for ranks of a whole program without known rows.
+fn is_of_ranks(system: &Name) -> bool {
+    match system {
+        Name::Empty(_) => true,
+        Name::Rank {
+            component: _,
+            round: _,
+            falling: _,
+        } => true,
+        Name::Rows(_) => false,
+        Name::Later { set: _, falling: _ } => false,
+    }
+}
+
 /// Whether a further search is begun after the answer: where no ranks, no rows or no rounds were found, and not where a limit of the search
-/// was met.
-fn leaves_open(answer: &Answer) -> bool {
+/// was met. Ranks of a formula that is not termination are but one way to show it, so there a limit that they met ends nothing.
+fn leaves_open(claim: &Claim, answer: &Answer) -> bool {
     match answer {
+        Answer::Unknown(Cause::Unsolved { system, fault: _ }) => {
+            if is_termination(claim.proved()) {
+                return false;
+            }
+            is_of_ranks(system)
+        }
         Answer::Unknown(Cause::Unranked { .. }) => true,
         Answer::Unknown(Cause::Weak { .. }) => true,
         Answer::Unknown(Cause::TooManyPaths { .. }) => true,
@@ -99,7 +121,7 @@ pub(crate) fn or_further(
     requires one { IsOfOne search.now }
     ensures { (f : Property) → IsClaim search.now.claim.now f → IsSameOrSettles search.now f answer result }
 {
-    if !leaves_open(&answer) {
+    if !leaves_open(search.claim, &answer) {
         return answer;
     }
     match found(alloc, search, proposers) {
