@@ -1,7 +1,6 @@
 -- What is found of a formula, from what is found of its arguments.
-use Rattle.std.proofs.Common.{zero, ◌<◌, ◌*◌, ◌==◌, length, get_or, take, Bool, true, false, ◌≡◌, inl, inr, ℕ, suc, ◌+◌, ◌≤◌, List, [], ◌∷◌, ◌++◌, map, refl, sym, ap, ◌∙◌, subst, arith}
-use Rattle.std.specs.Prelude.{All, Option, None, Some, IfSome, sum, not, nat_lt}
-use Rattle.std.proofs.lemmas.Bool.Decides.{nat_tests}
+use Rattle.std.proofs.Common.{zero, ◌<◌, length, get_or, take, ◌≡◌, inl, inr, ℕ, suc, ◌+◌, ◌≤◌, List, [], ◌∷◌, ◌++◌, map, refl, sym, ap, ◌∙◌, subst, arith}
+use Rattle.std.specs.Prelude.{All, Option, None, Some, IfSome, sum}
 use Rattle.std.proofs.lemmas.List.{take_more, map-append}
 use Rattle.std.proofs.lemmas.List.Elements.{All-nil, All-cons}
 use Rattle.tv_formula.specs.declared.tree.Path.{Path}
@@ -13,7 +12,6 @@ use Rattle.tv_cases.specs.Comparisons.{comparison_lists}
 use Rattle.tv_cases.specs.LinearCases.{CaseSystem, CaseSteps, IsCase}
 use Rattle.tv_program.specs.Runs.{Ends}
 use Rattle.tv_cases.proofs.Listed.{Contains-none}
-use Rattle.tv_cert.specs.Obligations.{truth_targets}
 use Rattle.tv_cert.specs.declared.node.Node.{Node}
 use Rattle.tv_cert.specs.declared.aim.Aim.{Aim}
 use Rattle.tv_cert.specs.AimViews.{statements_of, aim_states, aims_state}
@@ -22,7 +20,7 @@ use Rattle.tv_cert.specs.Statements as statements
 use Rattle.tv_farkas.specs.declared.budget.Budget.{Budget}
 use Rattle.tv_farkas.specs.declared.fault.CoverFault.{CoverFault}
 use Rattle.tv_known.specs.Cycles.{IsLastRound, IsStateOf}
-use Rattle.tv_known.specs.Sizes.{product, fix_count, count, negated_count, product_count, sum_count, term_count, comparison_count}
+use Rattle.tv_known.specs.Sizes.{product, fix_count, count, product_count, sum_count, term_count}
 use Rattle.tv_program.specs.Steps.{State}
 use Rattle.tv_region.specs.Regions.{IsRegion, count_at}
 use Rattle.tv_region.specs.StepRegions.{InState, IsTame, HasNoDraws}
@@ -54,8 +52,8 @@ use Rattle.tv_pre.proofs.FullLemmas.{atom_full, each_full, some_full, next_full}
 use Rattle.tv_pre.proofs.FullAlongLemmas.{all_full}
 use Rattle.tv_pre.proofs.GapLemmas.{gap_weaker, among_more, each_gap, one_gap}
 use Rattle.tv_pre.proofs.FormulaLemmas.{each_is, one_is, after_is, along_is, ends_is, never_is}
-use Rattle.tv_pre.proofs.ComingLemmas.{past_lists}
-use Rattle.tv_pre.proofs.SizedLemmas.{trans, none_less, none_summed, more_summed, everywhere_few, nowhere_few, comparison_few, term_one}
+use Rattle.tv_pre.proofs.SizedAtoms.{test_few, tested_few}
+use Rattle.tv_pre.proofs.SizedLemmas.{trans, none_less, none_summed, more_summed, everywhere_few, nowhere_few, term_one}
 
 -- ---- gaps
 pub none_of_two : (first second : Option Gap) → first_of first second ≡ None → (first ≡ None) × (second ≡ None)
@@ -393,57 +391,6 @@ module _ (about : CaseSystem) (last : ℕ) where
   one_size (Here k) = refl
   one_size (Elsewhere k) = refl
 
-  truth_few : (b : Bool) → length (truth_targets b) ≤ 1
-  truth_few true = omega arith
-  truth_few false = omega arith
-
-  -- the lists of a test are no more than the formula counts that it is
-  test_few : (m : ℕ) (t : Test) (f : Property) → IsTestOf about.variables t f → (l : ℕ) → length (test_lists t l) ≤ count about.cases m f l
-  test_few m (Rows lists) (props.truth b) e l = subst (λ ls. length ls ≤ 1) (sym e) (truth_few b)
-  test_few m (Rows lists) (props.compare r a b) e l = subst (λ ls. length ls ≤ comparison_count r) (sym e) (comparison_few about.variables r a b)
-  test_few m (Rows lists) (props.at k) e l = absurd e
-  test_few m (Rows lists) props.term e l = absurd e
-  test_few m (Rows lists) (props.negated f) e l = absurd e
-  test_few m (Rows lists) (props.all_of fs) e l = absurd e
-  test_few m (Rows lists) (props.some_of fs) e l = absurd e
-  test_few m (Rows lists) (props.next path f) e l = absurd e
-  test_few m (Rows lists) (props.fix path shape f g) e l = absurd e
-  test_few m (Here k) (props.at j) e l = truth_few (l == k)
-  test_few m (Here k) (props.truth b) e l = absurd e
-  test_few m (Here k) (props.compare r a b) e l = absurd e
-  test_few m (Here k) props.term e l = absurd e
-  test_few m (Here k) (props.negated f) e l = absurd e
-  test_few m (Here k) (props.all_of fs) e l = absurd e
-  test_few m (Here k) (props.some_of fs) e l = absurd e
-  test_few m (Here k) (props.next path f) e l = absurd e
-  test_few m (Here k) (props.fix path shape f g) e l = absurd e
-  test_few m (Elsewhere k) (props.negated f) e l = denied_few f e where
-    denied_few : (f : Property) → IsTestOf about.variables (Elsewhere k) (props.negated f) → length (test_lists (Elsewhere k) l) ≤ negated_count about.cases m f l
-    denied_few (props.at j) e = truth_few (not (l == k))
-    denied_few (props.truth b) e = absurd e
-    denied_few (props.compare r a b) e = absurd e
-    denied_few props.term e = absurd e
-    denied_few (props.negated f) e = absurd e
-    denied_few (props.all_of fs) e = absurd e
-    denied_few (props.some_of fs) e = absurd e
-    denied_few (props.next path f) e = absurd e
-    denied_few (props.fix path shape f g) e = absurd e
-  test_few m (Elsewhere k) (props.at j) e l = absurd e
-  test_few m (Elsewhere k) (props.truth b) e l = absurd e
-  test_few m (Elsewhere k) (props.compare r a b) e l = absurd e
-  test_few m (Elsewhere k) props.term e l = absurd e
-  test_few m (Elsewhere k) (props.all_of fs) e l = absurd e
-  test_few m (Elsewhere k) (props.some_of fs) e l = absurd e
-  test_few m (Elsewhere k) (props.next path f) e l = absurd e
-  test_few m (Elsewhere k) (props.fix path shape f g) e l = absurd e
-
-  -- at a location of the program, and past the last one
-  tested_few : (t : Test) (region : Region) → IsTested about t region → (n l : ℕ) → length (test_lists t l) ≤ n → count_at l region ≤ n
-  tested_few t region h n l few = by_place (nat_lt l about.locations) refl where
-    by_place : (b : Bool) → nat_lt l about.locations ≡ b → count_at l region ≤ n
-    by_place true e = subst (λ ls. length ls ≤ n) (sym (h.lists l (let k : l < about.locations = grind (arith, nat_tests, e) in k))) few
-    by_place false e = subst (λ ls. length ls ≤ n) (sym (past_lists about.variables about.locations l region.pieces.items h.over.pieces (let k : about.locations ≤ l = grind (arith, nat_tests, e) in k))) (none_less n)
-
   pub atom_is_found : (t : Test) (found : Found) → IsTested about t found.part.region → ((f : Property) → IsTestOf about.variables t f → IsPart about f found.part.region found.part.node) → found.size ≡ 1 → IfSome found.gap (IsGapFor about last (test_statement t)) → IsFound about last (test_statement t) found
   atom_is_found t found h p z of = record {
     gap = of;
@@ -452,7 +399,7 @@ module _ (about : CaseSystem) (last : ℕ) where
     built = no_steps t found (of_atom 0 (test_statement t) found.part.region (own_atom t) (test_region t found.part.region h));
     size = z ∙ sym (one_size t);
     full = λ gap f e rows. atom_full about t f found.part.region (test_states t f e) rows h;
-    few = λ plain m is f e l. tested_few t found.part.region h (count about.cases m f l) l (test_few m t f (test_states t f e) l);
+    few = λ plain m is f e l. tested_few about t found.part.region h (count about.cases m f l) l (test_few about m t f (test_states t f e) l);
   }
 
   -- ---- termination
@@ -475,8 +422,7 @@ module _ (about : CaseSystem) (last : ℕ) where
     built = of_everywhere ((last + 2) + (last + 2)) found.part.region e;
     size = z;
     full = λ none f w rows. all_full about f found.part.region (λ s q. e.all s q.location);
-    few = λ plain m is f w l. subst (λ g. count_at l found.part.region ≤ count about.cases m g l) (sym (ends_is (comparison_lists about.variables) f w))
-        (trans (count_at l found.part.region) 1 (term_count about.cases m l) (everywhere_few about found.part.region e l) (term_one about.cases m l));
+    few = λ plain m is f w l. subst (λ g. count_at l found.part.region ≤ count about.cases m g l) (sym (ends_is (comparison_lists about.variables) f w)) (trans (count_at l found.part.region) 1 (term_count about.cases m l) (everywhere_few about found.part.region e l) (term_one about.cases m l));
   }
 
   pub never_is_found : (found : Found) → IsNowhere about found.part.region → IsPart about (props.negated props.term) found.part.region found.part.node → found.size ≡ 1 → (found.gap ≡ None → ⊥) → IfSome found.gap (IsGapFor about last statements.never_ends) → IsFound about last statements.never_ends found

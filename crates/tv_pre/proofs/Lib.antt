@@ -35,6 +35,7 @@ pub mod CycleLemmas
 pub mod EmptyLemmas
 pub mod FormulaLemmas
 pub mod EvenLemmas
+pub mod SizedAtoms
 pub mod FoundLemmas
 pub mod PassedLemmas
 pub mod RankedAlongLemmas

@@ -1,7 +1,7 @@
 -- How many pieces the regions of a formula have.
 use Rattle.std.proofs.Common.{◌≡◌, inl, inr, ℕ, zero, suc, ◌+◌, ◌*◌, ◌<◌, ◌≤◌, List, [], ◌∷◌, ◌++◌, length, length-append, get_or, take, map, refl, sym, ap, ◌∙◌, subst, arith, Bool, true, false, cond}
 use Rattle.std.specs.Prelude.{All, max, sum}
-use Rattle.std.proofs.Math.Nat.{le-max_left, le-max_right}
+use Rattle.std.proofs.Math.Nat.{le-max_left}
 use Rattle.std.proofs.lemmas.List.{take_more, map-append}
 use Rattle.std.proofs.lemmas.List.Elements.{All-contains}
 use Rattle.tv_program.specs.declared.tree.Relation.{Relation}
@@ -23,7 +23,7 @@ use Rattle.tv_cases.proofs.AmountLemmas.{sum-cons}
 use Rattle.tv_cert.specs.Obligations.{hold_side}
 use Rattle.tv_known.specs.Cycles.{HasCycle, IsLastRound}
 use Rattle.tv_known.specs.Rounds.{must_end}
-use Rattle.tv_known.specs.Sizes.{product, some_count, all_count, stop_count, next_count, going_count, staying_count, growing_count, shrinking_count, round_count, fix_count, comparison_count, term_count, count, size_bound}
+use Rattle.tv_known.specs.Sizes.{product, some_count, all_count, stop_count, next_count, staying_count, growing_count, shrinking_count, round_count, fix_count, comparison_count, term_count, count, size_bound}
 use Rattle.tv_known.proofs.Numbers.{same_number}
 use Rattle.tv_known.proofs.SizeLemmas.{up_to_greatest, bounds_counts}
 use Rattle.tv_region.specs.Regions.{lists_at, count_at}

@@ -41,12 +41,14 @@ counts_at l regions = map (λ r. count_at l r) regions
 -- no more pieces than are counted for the states before so many pieces
 abbrev pub IsFewBefore : CaseSystem → Path → Region → Region → Type 0
 IsFewBefore about path into region =
-    HasNoDraws about → (b : ℕ → ℕ) → ((l : ℕ) → count_at l into ≤ b l) → (l : ℕ) → count_at l region ≤ next_count about.cases path b l
+    HasNoDraws about → (b : ℕ → ℕ) → ((l : ℕ) → count_at l into ≤ b l) →
+    (l : ℕ) → count_at l region ≤ next_count about.cases path b l
 
 -- the same of those that stay in so many pieces
 abbrev pub IsFewStaying : CaseSystem → Path → Region → Region → Type 0
 IsFewStaying about path into region =
-    HasNoDraws about → (b : ℕ → ℕ) → ((l : ℕ) → count_at l into ≤ b l) → (l : ℕ) → count_at l region ≤ staying_count about.cases path b l
+    HasNoDraws about → (b : ℕ → ℕ) → ((l : ℕ) → count_at l into ≤ b l) →
+    (l : ℕ) → count_at l region ≤ staying_count about.cases path b l
 
 -- ---- fixed points
 
