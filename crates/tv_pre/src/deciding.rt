@@ -138,11 +138,7 @@ fn left(setting: &Setting, claim: &Claim, first: Option<Gap>, second: Option<Gap
 }
 
 /// What comes of a claim whose proof was refused. Where that is a system of the search for ranks, the negation may tell still.
-fn or_disproof(
-    setting: &Setting,
-    claim: &Claim,
-    fault: PreFault,
-) -> Result<Certificate, Unproved>
+fn or_disproof(setting: &Setting, claim: &Claim, fault: PreFault) -> Result<Certificate, Unproved>
     requires splits { setting.now.budget.now.splits ≤ 128 }
     requires states { StatesIts claim.now }
     requires variables { claim_variables claim.now ≡ (cases_of setting.now.about.now).variables }
