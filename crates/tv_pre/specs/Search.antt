@@ -1,5 +1,5 @@
 -- What a search for the regions of a formula goes by.
-use Rattle.std.specs.Prelude.{ℕ, ◌≤◌, ◌↔◌, [], IsTrue}
+use Rattle.std.specs.Prelude.{ℕ, ◌≤◌, ◌↔◌, [], IsTrue, IfSome}
 use Rattle.tv_cases.specs.LinearCases.{CaseSystem}
 use Rattle.tv_cases.specs.Systems.{cases_of}
 use Rattle.tv_known.specs.Cycles.{IsLastRound}
@@ -31,4 +31,4 @@ pub record IsSearch (search : Search) : Type 0 where
   pub last : IsLastRound (system_of search) 8 search.last
   pub plain : IsTrue search.plain ↔ HasNoDraws (system_of search)
   pub differences : IsTrue search.differences ↔ AreOfDifferences (system_of search)
-  pub ranks : AreRanks (system_of search) search.setting.now.budget.now.pivots search.ranks
+  pub ranks : IfSome search.ranks (AreRanks (system_of search) search.setting.now.budget.now.pivots)

@@ -135,7 +135,7 @@ fn ends_found(search: &Search) -> Result<Found, PreFault>
         IfErr result (IsRefusedFor about search.now.setting.now.budget.now search.now.last statements.ends) }
 {
     match &search.ranks {
-        Ranks::Lacking => Ok(termination_found(search)?),
+        Some(Ranks::Lacking) => Ok(termination_found(search)?),
         _ => ends_anew(search),
     }
 }
@@ -172,12 +172,9 @@ fn never_found(search: &Search) -> Result<Found, PreFault>
         IfErr result (IsRefusedFor about search.now.setting.now.budget.now search.now.last statements.never_ends) }
 {
     match &search.ranks {
-        Ranks::Known(ranking) => Ok(never_ranked(search, ranking)?),
-        Ranks::Lacking => Ok(termination_found(search)?),
-        Ranks::Refused {
-            system: _,
-            fault: _,
-        } => never_anew(search),
+        Some(Ranks::Known(ranking)) => Ok(never_ranked(search, ranking)?),
+        Some(Ranks::Lacking) => Ok(termination_found(search)?),
+        _ => never_anew(search),
     }
 }
 
@@ -408,6 +405,6 @@ pub fn found(setting: &Setting, aim: &Aim) -> Result<Found, PreFault>
 {
     // That the cases are proper is known by this call.
     let _variables = setting.about.variables();
-    let search = search_in(setting)?;
+    let search = search_in(setting, aim)?;
     found_of(&search, aim)
 }

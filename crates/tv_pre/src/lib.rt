@@ -3,6 +3,7 @@
 
 mod after;
 mod along;
+mod asking;
 mod atoms;
 mod coming;
 mod cycle;

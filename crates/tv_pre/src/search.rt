@@ -1,25 +1,27 @@
 // What the search for the regions of a formula goes by.
 
-ghost use Rattle.std.specs.Prelude.{◌≡◌, ◌≤◌, IsTrue, IsFalse, IfOk};
+ghost use Rattle.std.specs.Prelude.{◌≡◌, ◌≤◌, IsTrue, IsFalse, IfOk, IfSome};
 ghost use Rattle.tv_cases.specs.Systems.{cases_of};
 ghost use Rattle.tv_known.specs.Cycles.{IsLastRound};
 ghost use Rattle.tv_region.specs.StepRegions.{HasNoDraws};
 ghost use Rattle.tv_pre.specs.Finding.{IsTameFor};
-ghost use Rattle.tv_pre.specs.Search.{IsSearch};
+ghost use Rattle.tv_pre.specs.Search.{IsSearch, AreRanks};
 
 use crate::Setting;
+use crate::asking::asks_ranks;
 use crate::cycle::has_cycle;
 use crate::differences::{are_cases_of_differences, is_of_differences};
 use crate::ranking::{Ranks, ranks_of};
 use std::alloc::AllocError;
+use tv_cert::Aim;
 use tv_linear::Region;
 use tv_rounds::has_no_draws;
 
 /// The last round that is made in a program with a cycle.
 const LAST_OF_CYCLE: u32 = 8;
 
-/// A setting, with the last round of a fixed point that is made, what going back over the steps of the program is exact for, and what is
-/// known of its ranks.
+/// A setting, with the last round of a fixed point that is made, what going back over the steps of the program is exact for, and its
+/// ranks.
 #[derive(Drop)]
 pub(crate) struct Search<'a> {
     pub setting: &'a Setting<'a>,
@@ -28,7 +30,8 @@ pub(crate) struct Search<'a> {
     pub plain: bool,
     /// Each case is of differences.
     pub differences: bool,
-    pub ranks: Ranks,
+    /// What is known of its ranks, where they may serve for the formula.
+    pub ranks: Option<Ranks>,
 }
 
 /// The last round that is made of each fixed point: in a program without a cycle one for each location.
@@ -43,13 +46,25 @@ fn last_round(setting: &Setting) -> Result<u32, AllocError>
     }
 }
 
-pub(crate) fn search_in<'a>(setting: &'a Setting<'a>) -> Result<Search<'a>, AllocError>
+/// The ranks of the program, where they may serve for the formula.
+fn ranks_for(setting: &Setting, aim: &Aim) -> Result<Option<Ranks>, AllocError>
+    ensures { let about = cases_of setting.now.about.now in
+        IfOk result (λ ranks. IfSome ranks (AreRanks about setting.now.budget.now.pivots)) }
+{
+    if !asks_ranks(aim) {
+        return Ok(None);
+    }
+    let ranks = ranks_of(setting)?;
+    Ok(Some(ranks))
+}
+
+pub(crate) fn search_in<'a>(setting: &'a Setting<'a>, aim: &Aim) -> Result<Search<'a>, AllocError>
     requires splits { setting.now.budget.now.splits ≤ 128 }
     ensures search { IfOk result IsSearch }
     ensures setting { IfOk result (λ search. search.setting.now ≡ setting.now) }
 {
     let last = last_round(setting)?;
-    let ranks = ranks_of(setting)?;
+    let ranks = ranks_for(setting, aim)?;
     Ok(Search {
         setting,
         last,
