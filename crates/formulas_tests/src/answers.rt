@@ -6,8 +6,10 @@ use std::test::Fail;
 use tv_cert::{Claim, Verdict};
 use tv_farkas::{Budget, CoverFault};
 use tv_pre::{Gap, PreFault, Setting, Unproved, prove};
+use tv_rank::Name;
 use tv_region::RegionFault;
 use tv_shape::Certificate;
+use tv_simplex::SolveFault;
 
 const AMPLE: Budget = Budget {
     pivots: 1000,
@@ -29,6 +31,13 @@ const UNSPLIT: Budget = Budget {
     disjuncts: 256,
 };
 
+/// Enough for a question, and not for ranks.
+const HASTY: Budget = Budget {
+    pivots: 4,
+    splits: 64,
+    disjuncts: 256,
+};
+
 /// What is to come of a formula.
 #[derive(Clone, Copy)]
 enum Wanted {
@@ -44,6 +53,8 @@ enum Wanted {
     Pieces(u32, u64),
     /// A question takes more splits than are allowed.
     Splits,
+    /// A system of the search for ranks is not settled by so many bases.
+    Ranks(u64),
 }
 
 /// Whether it is left as is wanted.
@@ -71,6 +82,13 @@ fn is_refused(wanted: &Wanted, fault: &PreFault) -> bool {
                 fault: CoverFault::Splits { .. },
             },
         ) => true,
+        (
+            Wanted::Ranks(many),
+            PreFault::Rank {
+                system: Name::Rank { .. },
+                fault: SolveFault::Pivots { bases },
+            },
+        ) => many == bases,
         _ => false,
     }
 }
@@ -132,6 +150,7 @@ const TERMINATION: &[Example] = &[
     (LOOP, "[AX](term)", Wanted::Proved),
     (LOOP, "[EX](!term)", Wanted::Disproved),
     (CHAIN, "[AX](term)", Wanted::Proved),
+    (BOTH_WAYS, "[EX](!term)", Wanted::Disproved),
 ];
 
 /// Ends on every run of a ranked program, where no state is neither at the end nor on the way: the rows of such states have a rational point,
@@ -154,6 +173,16 @@ const RANKED: &[Example] = &[
     ),
 ];
 
+/// Where ranks are not settled by so few bases. In the first two the rounds are open too, or there are none; in the others the formula is settled
+/// without ranks, or its negation is.
+const UNRANKED: &[Example] = &[
+    (LOOP, "[AF](x <= 0)", Wanted::Ranks(4)),
+    (LOOP, "[AX](term)", Wanted::Ranks(4)),
+    (LOOP, "[AF](x < 0)", Wanted::Disproved),
+    (CHAIN, "[AF](at(1))", Wanted::Proved),
+    (CHAIN, "[AX](term)", Wanted::Proved),
+];
+
 /// What is left open. In the last one some state is neither at the end nor on the way.
 const LEFT: &[Example] = &[
     (BOTH_WAYS, "[AF](x == 100)", Wanted::Open(0)),
@@ -161,6 +190,7 @@ const LEFT: &[Example] = &[
     (CLIMBER, "x <= 0 || [AF](x > 100)", Wanted::Open(2)),
     (HALF, "[EX](at(1))", Wanted::Inexact),
     (LOOP, "[AX](x < 4611686018427387903 + 1)", Wanted::Wide(1)),
+    (BOTH_WAYS, "[AX](term)", Wanted::Open(1)),
     (BESIDE, "x <= 0 || [AF](x <= 0 && y != z)", Wanted::Open(2)),
 ];
 
@@ -230,5 +260,16 @@ fn the_pieces_of_a_region_are_counted(rt: HostRuntime) -> Result<(), Fail> {
 fn the_splits_of_a_question_are_counted(rt: HostRuntime) -> Result<(), Fail> {
     let property = "x <= 0 || x > 0";
     assert!(rt; is_said_of_texts(rt.alloc(), LOOP, property, &UNSPLIT, &Wanted::Splits)?);
+    Ok(())
+}
+
+#[test]
+fn refused_ranks_are_told(rt: HostRuntime) -> Result<(), Fail> {
+    for (program, property, wanted) in UNRANKED {
+        assert!(rt;
+            is_said_of_texts(rt.alloc(), program, property, &HASTY, wanted)?,
+            "{property}"
+        );
+    }
     Ok(())
 }
