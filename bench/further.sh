@@ -30,6 +30,13 @@ MEETING = "START: 0; FROM: 0; i := 0; TO: 1; FROM: 1; assume(i != n && n >= 0); 
 ENDING = "START: 0; FROM: 0; assume(x > 0); x := x + y; y := y - 1; TO: 0; FROM: 0; assume(x <= 0); TO: 1;"
 CHAIN = "START: 0; " + " ".join(f"FROM: {here}; assume(x > 0); x := x - 1; TO: {here}; FROM: {here}; assume(x <= 0); x := y; TO: {here + 1};"
                                 for here in range(10))
+SPENDING = "START: 0; FROM: 0; assume(n > 0); n := n - 1; x := x - 1; TO: 0;"
+BURNING = ("START: 0; FROM: 0; assume(f > 0); f := f - 1; h := h - 1; TO: 0; FROM: 0; assume(f > 0); f := f - 1; TO: 0; "
+           "FROM: 0; assume(f <= 0); TO: 1; FROM: 1; TO: 1;")
+RING = "START: 0; " + " ".join(f"FROM: {here}; assume(v{here % 7} >= v{here % 5}); v{here % 7} := v{here % 5}; TO: {(here + 1) % 30};"
+                               for here in range(30))
+WAITERS = ("START: free; FROM: free; w := w + 1; TO: free; FROM: free; TO: held; FROM: held; w := w + 1; TO: held; "
+           "FROM: held; assume(w > 0); w := w - 1; TO: free; FROM: held; assume(w <= 0); TO: free;")
 QUESTIONS = [
     ("grows by y", "START: 0; FROM: 0; assume(x > 0); x := x + y; TO: 0;", ["--termination"]),
     ("falls by two", "START: 0; FROM: 0; assume(x != 0); x := x - 2; TO: 0;", ["--termination"]),
@@ -56,6 +63,10 @@ QUESTIONS = [
     ("from any number to 0", open("examples/countdown.t2").read(), ["--ctl", "[EF](x <= 0)"]),
     ("a lift opens", LIFT, ["--ctl", "[AG](!at(moving) || [AF](at(open)))"]),
     ("a sum falls in the end", ENDING, ["--ctl", "[EF](at(1))"]),
+    ("a number spent with the steps", SPENDING, ["--ctl", "[AG](x < n || x < 0 || [AG](x >= 0))"]),
+    ("a number spent by some steps", BURNING, ["--ctl", "[AG](f < 0 || h < f || [AG](h >= 0))"]),
+    ("a lock comes free of waiters", WAITERS, ["--ctl", "[AG]([EF](w == 0 && at(free)))"]),
+    ("thirty locations in a ring", RING, ["--termination"]),
     ("ten loops in a row", CHAIN, ["--ctl", "[EF](at(10))"]),
 ]
 
