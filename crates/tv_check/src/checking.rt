@@ -1,4 +1,4 @@
-ghost use Rattle.std.specs.Prelude.{◌≡◌, ◌↔◌, ◌+◌, ◌++◌, ◌∷◌, [], ◌<◌, ◌^◌, length, All, IsTrue, MatchResult, slice_get};
+ghost use Rattle.std.specs.Prelude.{◌≡◌, ◌↔◌, ◌+◌, ◌++◌, ◌∷◌, [], ◌<◌, ◌^◌, length, All, IsTrue, slice_get};
 ghost use Rattle.std.specs.Option.{option_map};
 ghost use Rattle.tv_linear.specs.Linear.{columns, IsMet};
 ghost use Rattle.tv_cases.specs.Systems.{cases_of};
@@ -9,7 +9,7 @@ ghost use Rattle.tv_cert.specs.Nodes.{size, pieces_of, root_entry, node_entries,
 ghost use Rattle.tv_cert.specs.AimViews.{aim_states};
 ghost use Rattle.tv_cert.specs.Listed.{pieces_list};
 ghost use Rattle.tv_cert.specs.Plain.{about_of};
-ghost use Rattle.tv_cert.specs.FirstFailing.{Checks, IsFirstFailing};
+ghost use Rattle.tv_cert.specs.FirstFailing.{Checks};
 ghost use Rattle.tv_check.specs.Roots.{AreOver, ValuesFit, SettlesRoot};
 ghost use Rattle.tv_linear.specs.Views.{rows_seen};
 
@@ -150,21 +150,5 @@ pub fn check(about: &Cases, aim: &Aim, root: &Node, verdict: &Verdict) -> Result
     match verdict {
         Verdict::Proved(start) => check_proved(about, aim, root, start),
         Verdict::Disproved { piece, values } => check_disproved(about, aim, root, *piece, values),
-    }
-}
-
-/// How many obligations a certificate has whose nodes owe only what is met: that of its end is counted too. Else the first that is not met.
-///
-/// It takes no memory.
-pub fn count(about: &Cases, aim: &Aim, root: &Node) -> Result<u64, Failing>
-    requires parts { HasParts (aim_states aim.now) root.now }
-    requires room { length (node_entries 0 (cases_of about.now) (aim_states aim.now) root.now) + 1 < 2 ^ 64 }
-    requires nodes { size root.now < 2 ^ 32 }
-    ensures { let entries = node_entries 0 (cases_of about.now) (aim_states aim.now) root.now in
-        MatchResult result (λ n. n ≡ length entries + 1) (λ f. IsFirstFailing entries 0 f) }
-{
-    match walk(about, aim, 0, root, 0) {
-        Err(failing) => Err(failing),
-        Ok((seen, _)) => Ok(seen + 1),
     }
 }

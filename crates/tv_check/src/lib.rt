@@ -10,5 +10,5 @@ mod settler;
 mod steps;
 mod walking;
 
-pub use checking::{check, count, is_inside};
+pub use checking::{check, is_inside};
 pub use falls::{shows_less, shows_not_below};

@@ -4,7 +4,7 @@ use Rattle.std.specs.Prelude.{Result, Ok, Err, IfOk}
 use Rattle.std.proofs.lemmas.Int.{ints}
 use Rattle.std.proofs.lemmas.List.{length-map}
 use Rattle.tv_linear.specs.Linear.{Linear, columns, dot, value}
-use Rattle.tv_linear.specs.Arithmetic.{zeros, unit, constant_row}
+use Rattle.tv_linear.specs.Arithmetic.{unit, constant_row}
 use Rattle.tv_linear.proofs.PlainLists.{length-zeros}
 use Rattle.tv_linear.proofs.RowValues.{value-constant_row}
 use Rattle.tv_linear.proofs.PaddedLemmas.{dot-zeros}

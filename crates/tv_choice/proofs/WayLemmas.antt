@@ -1,5 +1,5 @@
 -- Rows of cases, and ways made of them.
-use Rattle.std.proofs.Common.{◌≡◌, ℕ, zero, suc, ◌+◌, ◌-◌, ◌<◌, ◌≤◌, ◌^◌, List, [], ◌∷◌, ◌++◌, length, map, get_or, take, drop, drop-cons, All, Some, arith, refl, sym, ap, ◌∙◌, subst, ℤ, pos, neg_ℤ, ◌+ℤ◌, ◌-ℤ◌, ◌*ℤ◌, ◌≤ℤ◌, length-append, append_assoc, ◌⊎◌, inl, inr}
+use Rattle.std.proofs.Common.{◌≡◌, ℕ, zero, suc, ◌+◌, ◌-◌, ◌<◌, ◌≤◌, List, [], ◌∷◌, ◌++◌, length, map, get_or, take, drop, drop-cons, All, Some, arith, refl, sym, ap, ◌∙◌, subst, ℤ, pos, neg_ℤ, ◌+ℤ◌, ◌-ℤ◌, ◌≤ℤ◌, length-append, append_assoc, ◌⊎◌, inl, inr}
 use Rattle.std.proofs.Math.Seq.{take-suc}
 use Rattle.std.specs.Prelude.{slice_get, Result, Ok, Err, IfOk}
 use Rattle.std.specs.Result.{IfErr}
@@ -7,26 +7,26 @@ use Rattle.std.proofs.lemmas.Option.{slice_get_read, slice_get_within, get_or_fr
 use Rattle.std.proofs.lemmas.Int.{ints}
 use Rattle.std.proofs.lemmas.List.{length-map, get_or_past}
 use Rattle.std.proofs.lemmas.List.Elements.{All-nil, All-cons, All-head, All-tail, All-push, All-append}
-use Rattle.tv_linear.specs.Linear.{Linear, linear, columns, dot, value, IsMet, IsWithin, IsNarrow}
-use Rattle.tv_linear.specs.Arithmetic.{zeros, unit, column_row, composed as composed_row, padded_row}
+use Rattle.tv_linear.specs.Linear.{Linear, columns, value, IsMet, IsWithin, IsNarrow}
+use Rattle.tv_linear.specs.Arithmetic.{unit, column_row, composed as composed_row}
 use Rattle.tv_linear.specs.Fits.{FitsComposed, IsFirstWide, IsFaultWhere}
 use Rattle.tv_linear.specs.declared.fault.RowFault.{RowFault}
 use Rattle.tv_linear.specs.declared.fault.RowFault.TheVariants as row_faults
 use Rattle.tv_farkas.specs.declared.fault.CoverFault.{CoverFault}
 use Rattle.tv_farkas.specs.declared.fault.CoverFault.TheVariants.{Splits, Solve, Wide, Memory}
 use Rattle.tv_linear.specs.Known.{Known, given, composed, as_given, term_value}
-use Rattle.tv_linear.specs.Terms.{table, update_of, terms_after, draw_terms}
+use Rattle.tv_linear.specs.Terms.{terms_after, draw_terms}
 use Rattle.tv_linear.specs.declared.region.Piece.{Piece}
-use Rattle.tv_linear.proofs.PlainLists.{length-unit, length-zeros, get_or-zeros, zeros-narrow, length-table}
+use Rattle.tv_linear.proofs.PlainLists.{length-unit}
 use Rattle.tv_linear.proofs.RowValues.{value-column_row, value-denial, value-composed}
 use Rattle.tv_linear.specs.Same.{SameNumbers, AreSame}
-use Rattle.tv_linear.proofs.SameLemmas.{same_self, all_same, same_push}
+use Rattle.tv_linear.proofs.SameLemmas.{all_same, same_push}
 use Rattle.tv_linear.proofs.KnownLemmas.{as_given-append}
 use Rattle.tv_linear.proofs.ListLaws.{front_back, all_back, all_front}
 use Rattle.tv_farkas.specs.Paths.{at_most_row, at_least_row, IsWholePoint}
 use Rattle.tv_farkas.specs.Unmade.{IsUnmadeBy}
 use Rattle.tv_cases.specs.EdgeCases.{columns_from}
-use Rattle.tv_cases.specs.Before.{before, rows_after, term_row, FitsTerms}
+use Rattle.tv_cases.specs.Before.{before, rows_after, FitsTerms}
 use Rattle.tv_cases.specs.LinearCases.{LinearCase, IsCase}
 use Rattle.tv_cases.proofs.BeforeValue.{before-value}
 use Rattle.tv_cases.proofs.BeforeLemmas.{composed_same, before_same, before_even}

@@ -1,7 +1,7 @@
 -- Rows that are made for a choice.
 use Rattle.std.specs.Prelude.{◌≡◌, ℕ, suc, ◌+◌, ◌≤◌, List, [], ◌∷◌, ◌++◌, map, take, All, ℤ, pos, ◌-ℤ◌, slice_get, Some}
-use Rattle.tv_linear.specs.Linear.{Linear, linear, columns}
-use Rattle.tv_linear.specs.Arithmetic.{zeros, composed}
+use Rattle.tv_linear.specs.Linear.{Linear, columns}
+use Rattle.tv_linear.specs.Arithmetic.{composed}
 use Rattle.tv_linear.specs.Fits.{FitsComposed, IsFirstWide}
 use Rattle.tv_farkas.specs.Paths.{at_most_row, at_least_row}
 use Rattle.tv_cases.specs.Before.{before, rows_after, FitsTerms}

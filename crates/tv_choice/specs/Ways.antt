@@ -4,8 +4,6 @@ use Rattle.tv_linear.specs.Arithmetic.{composed}
 use Rattle.tv_linear.specs.Fits.{FitsComposed}
 use Rattle.tv_linear.specs.Known.{as_given}
 use Rattle.tv_linear.specs.declared.region.Piece.{Piece}
-use Rattle.tv_linear.specs.declared.fault.RowFault.{RowFault}
-use Rattle.tv_linear.specs.declared.fault.RowFault.TheVariants as row_fault
 use Rattle.tv_linear.specs.Same.{AreSame}
 use Rattle.tv_cases.specs.LinearCases.{LinearCase, IsCase}
 use Rattle.tv_cases.specs.Views.{case_view}

@@ -13,7 +13,7 @@ use Rattle.tv_language.specs.Sums.{IsSum}
 use Rattle.tv_language.proofs.DrawLemmas.{none_in}
 use Rattle.tv_language.proofs.PlaceOfWords.{found}
 use Rattle.tv_reading.specs.Marks as marks
-use Rattle.tv_reading.specs.Marks.{Mark, plain, is_formula_word}
+use Rattle.tv_reading.specs.Marks.{plain, is_formula_word}
 use Rattle.tv_reading.proofs.FitLemmas.{all_fit, sum_fits}
 use Rattle.tv_reading.proofs.LinearLemmas.{and_left, and_right, and_both}
 use Rattle.tv_reading.proofs.LongestTexts.{plains}
@@ -22,7 +22,7 @@ use Rattle.tv_reading.proofs.SymbolLemmas.{sum_uses}
 use Rattle.tv_formula_reader.specs.Signs.{Sign, symbol_in, sign, symbols_of}
 use Rattle.tv_formula_reader.specs.FormulaTexts.{ended}
 use Rattle.tv_spelling.proofs.Pieces as pieces
-use Rattle.tv_spelling.proofs.Pieces.{Piece, blank, line_feed, word, bytes, laid}
+use Rattle.tv_spelling.proofs.Pieces.{Piece, blank, line_feed, word}
 use Rattle.tv_spelling.proofs.SumPieces.{expression_pieces, expression_leads}
 use Rattle.tv_spelling.proofs.SumLevels.{sum_levels, is_regular}
 use Rattle.tv_spelling.proofs.SumLeast.{sum_least}

@@ -1,5 +1,5 @@
 -- Marked items of the front of a list.
-use Rattle.std.proofs.Common.{◌≡◌, ◌⊎◌, inl, inr, ℕ, ℤ, Vec, Global, map, zero, suc, List, [], ◌∷◌, ◌++◌, take, get_or, Bool, true, false, cond, Some, None, ◌+◌, ◌<◌, length, add-one, append-nil, length-append, subst, arith, rules, refl, sym, ap, ◌∙◌}
+use Rattle.std.proofs.Common.{◌≡◌, ◌⊎◌, inl, inr, ℕ, ℤ, Vec, Global, map, zero, suc, List, [], ◌∷◌, ◌++◌, take, get_or, Bool, true, false, cond, Some, ◌+◌, ◌<◌, length, add-one, append-nil, length-append, subst, arith, rules, refl, sym, ap, ◌∙◌}
 use Rattle.std.proofs.lemmas.Option.{slice_get-get_or}
 use Rattle.std.specs.Prelude.{slice_get}
 use Rattle.std.specs.Prelude.{◌↔◌, IsTrue}

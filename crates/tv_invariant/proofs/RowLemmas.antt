@@ -1,15 +1,14 @@
 -- Rows over the columns of a case, and rows that others imply.
-use Rattle.std.proofs.Common.{◌≡◌, inl, inr, ℕ, zero, suc, ◌+◌, ◌-◌, ◌<◌, ◌^◌, List, [], ◌∷◌, ◌++◌, length, map, All, arith, refl, sym, ap, ◌∙◌, subst, ℤ, pos, ◌+ℤ◌, ◌*ℤ◌, length-append, Bool, true, false, ◌==◌, if◌then◌else◌}
+use Rattle.std.proofs.Common.{◌≡◌, inl, inr, ℕ, zero, suc, ◌+◌, ◌-◌, List, [], ◌∷◌, ◌++◌, map, All, arith, sym, ap, ◌∙◌, subst, ℤ, Bool, true, false, ◌==◌, if◌then◌else◌}
 use Rattle.std.specs.List.{Contains}
 use Rattle.std.proofs.lemmas.Int.{ints}
-use Rattle.std.proofs.lemmas.List.Elements.{All-nil, All-cons, All-head, All-tail, All-append, All-push, Contains-append_left, Contains-append_right, Contains-append_cases}
-use Rattle.tv_linear.specs.Linear.{Linear, linear, columns, dot, value, IsMet, IsWithin, IsNarrow}
-use Rattle.tv_linear.specs.Arithmetic.{zeros, padded_row}
+use Rattle.std.proofs.lemmas.List.Elements.{All-nil, All-cons, All-head, All-tail, All-push, Contains-append_left, Contains-append_right, Contains-append_cases}
+use Rattle.tv_linear.specs.Linear.{Linear, columns, dot, IsMet}
 use Rattle.tv_linear.specs.Known.{Term, put}
 use Rattle.tv_linear.specs.Terms.{table, update_of}
 use Rattle.tv_linear.specs.declared.region.Update.{Update}
 use Rattle.tv_linear.specs.declared.region.Poly.{Poly}
-use Rattle.tv_linear.proofs.PlainLists.{length-zeros, zeros-narrow, length-unit}
+use Rattle.tv_linear.proofs.PlainLists.{length-unit}
 use Rattle.tv_linear.proofs.Entries.{columns-combined}
 use Rattle.tv_linear.proofs.ListLaws.{all_front, all_back}
 use Rattle.tv_cases.specs.LinearCases.{LinearCase}

@@ -1,13 +1,13 @@
 -- Runs, step by step.
-use Rattle.std.proofs.Common.{◌≡◌, ℕ, zero, suc, ◌+◌, ◌<◌, ◌≤◌, ◌∙◌, List, [], ◌∷◌, ◌++◌, length, map, All, ℤ, Some, refl, sym, ap, subst, arith, add-one, length-append, Bool, true, false, cond, ◌==◌, get_or}
+use Rattle.std.proofs.Common.{◌≡◌, ℕ, zero, suc, ◌+◌, ◌<◌, ◌∙◌, List, [], ◌∷◌, ◌++◌, length, map, All, ℤ, Some, refl, sym, ap, subst, arith, add-one, length-append, Bool, true, false, cond, ◌==◌, get_or}
 use Rattle.std.specs.Prelude.{Vec, Result, Ok, Err, IfOk}
 use Rattle.std.specs.Global.{Global}
 use Rattle.std.proofs.lemmas.List.Elements.{All-get_or, All-push}
-use Rattle.std.specs.List.{Contains, filter, slice_get}
+use Rattle.std.specs.List.{Contains, slice_get}
 use Rattle.std.proofs.lemmas.List.{length-map}
 use Rattle.tv_linear.specs.Linear.{IsMet}
 use Rattle.tv_linear.specs.Known.{term_value}
-use Rattle.tv_linear.specs.Terms.{update_of, table, terms_after}
+use Rattle.tv_linear.specs.Terms.{update_of, terms_after}
 use Rattle.tv_linear.specs.declared.region.Update.{Update}
 use Rattle.tv_linear.proofs.PlainLists.{length-table}
 use Rattle.tv_linear.proofs.ListLaws.{map-push, table-push, true_test}
@@ -16,8 +16,6 @@ use Rattle.tv_program.specs.Runs.{IsRun, last_of}
 use Rattle.tv_cases.specs.LinearCases.{LinearCase, CaseSystem, CaseDoes, CaseSteps, from_of, leaving}
 use Rattle.tv_cases.proofs.Listed.{Contains-here, Contains-later}
 use Rattle.tv_candidates.specs.declared.candidate.Candidate.{Candidate}
-use Rattle.tv_candidates.specs.Inductive.{IsInductive}
-use Rattle.tv_candidates.specs.Laws.{IsRunFromStart}
 use Rattle.tv_candidates.proofs.OnRuns.{on_runs}
 use Rattle.tv_invariant.specs.declared.reached.Reached.{Reached}
 use Rattle.tv_invariant.specs.Reached.{state_of, IsReached, IsInNone, AreDrawn}

@@ -1,13 +1,11 @@
 -- Candidates before and after a case.
 use Rattle.std.proofs.Common.{◌≡◌, ◌⊎◌, inl, inr, ℕ, ◌+◌, List, [], ◌∷◌, ◌++◌, length, map, take, drop, All, arith, refl, sym, ap, ◌∙◌, subst, pos, ◌≤ℤ◌, length-append, Bool, true, false, cond, ◌==◌}
 use Rattle.std.specs.List.{filter, Contains}
-use Rattle.std.proofs.lemmas.Bool.Decides.{nat_tests}
 use Rattle.std.proofs.lemmas.List.Elements.{All-nil, All-cons, All-head, All-tail, All-append, All-contains}
 use Rattle.tv_linear.specs.Linear.{Linear, columns, value, IsMet}
-use Rattle.tv_linear.specs.Arithmetic.{zeros, padded_row}
+use Rattle.tv_linear.specs.Arithmetic.{padded_row}
 use Rattle.tv_linear.specs.Known.{term_value}
 use Rattle.tv_linear.specs.Terms.{terms_after}
-use Rattle.tv_linear.proofs.PlainLists.{length-zeros}
 use Rattle.tv_linear.proofs.PaddedLemmas.{value-padded, padded_even}
 use Rattle.tv_linear.proofs.ListLaws.{test_true, true_test, all_front, all_back, front_back}
 use Rattle.tv_farkas.specs.Paths.{IsWholePoint}

@@ -2,7 +2,6 @@
 use Rattle.std.specs.Prelude.{◌≡◌, ◌⊎◌, ℕ, ◌+◌, List, [], ◌∷◌, length, ℤ, Ok, Err}
 use Rattle.std.specs.List.{Contains}
 use Rattle.tv_linear.specs.Linear.{Linear, IsMet}
-use Rattle.tv_linear.specs.declared.fault.RowFault.{RowFault}
 use Rattle.tv_linear.specs.declared.fault.RowFault.TheVariants as rows
 use Rattle.tv_program.specs.Steps.{State}
 use Rattle.tv_cases.specs.Before.{GivesBefore}

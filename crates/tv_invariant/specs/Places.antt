@@ -1,8 +1,8 @@
 -- Rows at locations, and over the columns of a case.
 use Rattle.std.specs.Prelude.{ℕ, List, ◌++◌, map, ◌==◌}
 use Rattle.std.specs.List.{filter}
-use Rattle.tv_linear.specs.Linear.{Linear, linear}
-use Rattle.tv_linear.specs.Arithmetic.{zeros, padded_row}
+use Rattle.tv_linear.specs.Linear.{Linear}
+use Rattle.tv_linear.specs.Arithmetic.{padded_row}
 use Rattle.tv_cases.specs.LinearCases.{LinearCase}
 use Rattle.tv_candidates.specs.declared.candidate.Candidate.{Candidate}
 

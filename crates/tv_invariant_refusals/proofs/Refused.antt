@@ -1,12 +1,11 @@
 -- the rows that are asked of come from the candidates
-use Rattle.std.proofs.Common.{◌≡◌, inl, inr, ℕ, zero, suc, ◌≤◌, List, [], ◌∷◌, ◌++◌, map, length, sym, subst, arith}
+use Rattle.std.proofs.Common.{◌≡◌, inl, inr, ℕ, zero, suc, List, [], ◌∷◌, map, sym, subst, arith}
 use Rattle.std.specs.Prelude.{Ok, Err}
 use Rattle.std.specs.List.{Contains}
 use Rattle.std.proofs.lemmas.List.Elements.{All-contains, Contains-append_cases}
 use Rattle.tv_linear.specs.Linear.{Linear, columns}
 use Rattle.tv_linear.specs.declared.fault.RowFault.TheVariants as rows
 use Rattle.tv_cases.specs.LinearCases.{LinearCase, CaseSystem}
-use Rattle.tv_cases.specs.Before.{GivesBefore}
 use Rattle.tv_cases.proofs.Listed.{Contains-map}
 use Rattle.tv_farkas.specs.declared.fault.CoverFault.{CoverFault}
 use Rattle.tv_farkas.specs.declared.fault.CoverFault.TheVariants.{Splits, Solve, Wide, Memory}
@@ -20,8 +19,7 @@ use Rattle.tv_derived.proofs.Steps.{after_before, over}
 use Rattle.tv_cover_refusals.specs.Covers.{IsSpentOnTargets}
 use Rattle.tv_cover_refusals.proofs.Refusals.{refusal}
 use Rattle.tv_invariant.specs.Places.{rows_at, step_rows}
-use Rattle.tv_invariant.specs.Falling.{IsUnmade, IsCoverRefusal, IsCaseRefusal, IsRefusal}
-use Rattle.tv_invariant.specs.Passes.{AreOver}
+use Rattle.tv_invariant.specs.Falling.{IsUnmade, IsCoverRefusal}
 use Rattle.tv_invariant.proofs.StepLemmas.{all_at}
 use Rattle.tv_invariant.proofs.PassLemmas.{left_part}
 use Rattle.tv_invariant_refusals.specs.Refusals.{placed_row, handed_candidates, InductiveRefuses}

@@ -1,39 +1,34 @@
 -- The cover of the rows that are met where a case is taken, and the values of a hole.
-use Rattle.std.proofs.Common.{◌≡◌, inl, inr, ℕ, zero, suc, ◌+◌, ◌-◌, ◌<◌, ◌≤◌, List, [], ◌∷◌, ◌++◌, length, map, take, drop, get_or, All, Option, None, Some, arith, refl, sym, ap, ◌∙◌, subst, ℤ, pos, ◌+ℤ◌, ◌*ℤ◌, ◌≤ℤ◌}
+use Rattle.std.proofs.Common.{◌≡◌, inl, inr, ℕ, zero, suc, ◌+◌, ◌-◌, ◌<◌, ◌≤◌, List, [], ◌∷◌, ◌++◌, length, map, take, drop, All, Option, None, Some, arith, refl, sym, ◌∙◌, subst, ℤ, pos, ◌≤ℤ◌}
 use Rattle.std.specs.Prelude.{Contains, slice_get}
 use Rattle.std.specs.Option.{option_map}
-use Rattle.std.proofs.lemmas.Int.{ints}
-use Rattle.std.proofs.lemmas.List.{map-append, take-append-drop}
-use Rattle.std.proofs.lemmas.List.Elements.{All-nil, All-cons, All-push, All-head, All-tail}
-use Rattle.std.proofs.Math.Seq.{take-suc}
-use Rattle.tv_linear.specs.Linear.{Linear, columns, dot, IsMet}
+use Rattle.std.proofs.lemmas.List.{take-append-drop}
+use Rattle.std.proofs.lemmas.List.Elements.{All-nil, All-head}
+use Rattle.tv_linear.specs.Linear.{Linear, columns, IsMet}
 use Rattle.tv_linear.specs.Known.{as_given, term_value}
 use Rattle.tv_linear.specs.Terms.{terms_after}
-use Rattle.tv_linear.specs.Covers.{ShownAt, IsMetCover}
+use Rattle.tv_linear.specs.Covers.{ShownAt}
 use Rattle.tv_linear.specs.Depth.{splits}
 use Rattle.tv_linear.specs.declared.cover.CoverTree.{CoverTree}
 use Rattle.tv_linear.specs.declared.cover.CoverTree as cover
 use Rattle.tv_linear.specs.declared.region.Piece.{Piece}
-use Rattle.tv_linear.specs.declared.region.Poly.{Poly}
 use Rattle.tv_linear.specs.Same.{AreSame, OwedSame}
 use Rattle.tv_linear.proofs.SameLemmas.{cover_same}
 use Rattle.tv_linear.specs.Arithmetic.{padded_row}
-use Rattle.tv_linear.proofs.PaddedLemmas.{dot-padded, padded_met}
+use Rattle.tv_linear.proofs.PaddedLemmas.{padded_met}
 use Rattle.tv_linear.proofs.ListLaws.{length-back, length-front, all_front, all_back}
-use Rattle.tv_cases.specs.Before.{before, FitsBefore, rows_before, AreRowsBefore}
+use Rattle.tv_cases.specs.Before.{before, rows_before, AreRowsBefore}
 use Rattle.tv_cases.specs.LinearCases.{LinearCase, CaseSystem, IsCase}
 use Rattle.tv_cases.proofs.BeforeValue.{before-value}
-use Rattle.tv_cover.specs.Covering.{IsHole, IsCovered, IsShallow, IsShortCovered, IsSplitRow, HasSplitRows, IsCoverFault}
-use Rattle.tv_cover.specs.declared.covered.Covered.{Covered}
-use Rattle.tv_cover.specs.declared.covered.Covered.TheVariants.{Tree, Hole}
-use Rattle.tv_cover.specs.Targets.{IsOutside, owed_lists, lists_of}
+use Rattle.tv_cover.specs.Covering.{IsHole, IsCoverFault}
+use Rattle.tv_cover.specs.Targets.{IsOutside, owed_lists}
 use Rattle.tv_farkas.specs.declared.budget.Budget.{Budget}
 use Rattle.tv_farkas.specs.declared.fault.CoverFault.TheVariants.{Splits, Solve, Wide, Memory}
 use Rattle.tv_farkas.specs.Paths.{IsWholePoint}
 use Rattle.tv_farkas.specs.Refuting.{AreShort}
 use Rattle.tv_farkas.specs.Trees.{TreeRows}
 use Rattle.tv_rank.specs.Ways.{Way, way_of, case_at, rows_at}
-use Rattle.tv_cover.specs.Single.{IsCoverInto, IsCoveredByOne}
+use Rattle.tv_cover.specs.Single.{IsCoverInto}
 use Rattle.tv_cases.proofs.Listed.{Contains-from_map}
 use Rattle.tv_cases.proofs.BeforeLemmas.{all_before_same}
 use Rattle.tv_lexrank.specs.declared.fault.RankFault.{RankFault}

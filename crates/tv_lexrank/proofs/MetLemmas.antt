@@ -1,14 +1,12 @@
 -- The rows that are met where a case is taken, over its columns.
-use Rattle.std.proofs.Common.{◌≡◌, ℕ, zero, suc, ◌+◌, ◌-◌, ◌<◌, ◌≤◌, ◌^◌, List, [], ◌∷◌, ◌++◌, length, length-append, map, get_or, All, Option, None, Some, Vec, Bool, true, false, ◌==◌, arith, refl, sym, ap, subst, ℤ, pos, ◌+ℤ◌, ◌*ℤ◌, ◌≤ℤ◌}
+use Rattle.std.proofs.Common.{◌≡◌, ℕ, zero, suc, ◌+◌, ◌-◌, ◌<◌, ◌≤◌, ◌^◌, List, [], ◌∷◌, length, map, All, Option, None, Some, Vec, Bool, true, false, ◌==◌, arith, refl, sym, subst, ℤ, pos, ◌≤ℤ◌}
 use Rattle.std.specs.Global.{Global}
 use Rattle.std.proofs.lemmas.Bool.Decides.{nat_tests}
-use Rattle.std.proofs.lemmas.Int.{ints}
-use Rattle.std.proofs.lemmas.List.Elements.{All-nil, All-cons, All-head, All-tail, All-append, All-weaker}
-use Rattle.tv_linear.specs.Linear.{Linear, linear, columns, dot, scaled_value, IsWithin, IsNarrow}
-use Rattle.tv_linear.specs.Arithmetic.{zeros, padded_row}
+use Rattle.std.proofs.lemmas.List.Elements.{All-nil, All-head, All-tail, All-append, All-weaker}
+use Rattle.tv_linear.specs.Linear.{Linear, columns, scaled_value}
+use Rattle.tv_linear.specs.Arithmetic.{padded_row}
 use Rattle.tv_linear.specs.Known.{as_given}
 use Rattle.tv_linear.specs.declared.region.Piece.{Piece}
-use Rattle.tv_linear.proofs.PlainLists.{length-zeros, get_or-zeros, zeros-narrow}
 use Rattle.tv_linear.proofs.KnownLemmas.{as_given-append}
 use Rattle.tv_linear.specs.Same.{AreSame}
 use Rattle.tv_linear.proofs.SameLemmas.{same_append, all_same, refutes_same}

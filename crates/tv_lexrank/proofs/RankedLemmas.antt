@@ -11,20 +11,16 @@ use Rattle.tv_linear.proofs.PlainLists.{length-zeros}
 use Rattle.tv_linear.proofs.ListLaws.{test_true, test_false}
 use Rattle.tv_cases.specs.LinearCases.{LinearCase, leaving}
 use Rattle.tv_cases.specs.Systems.{cases_of}
-use Rattle.tv_formula.specs.Properties.{term, none}
+use Rattle.tv_formula.specs.Properties.{term}
 use Rattle.tv_cert.specs.declared.node.Marked.{Marked}
 use Rattle.tv_cert.specs.declared.node.Proof.{Proof}
-use Rattle.tv_cert.specs.declared.node.Node.{Node, Node', Row_of-Node, end_of-Node, more_of-Node, items-the_row-Node, outs-Node'}
+use Rattle.tv_cert.specs.declared.node.Node.{Node, Node', outs-Node'}
 use Rattle.tv_cert.specs.Claims.{about_with}
-use Rattle.tv_cert.specs.Nodes.{kid_pieces, pieces_of, entries, kid_entries, own_of, piece_of}
-use Rattle.tv_cert.specs.Obligations.{About, Obligation, AllMet, paired}
+use Rattle.tv_cert.specs.Nodes.{pieces_of, own_of, piece_of}
+use Rattle.tv_cert.specs.Obligations.{About, Obligation}
 use Rattle.tv_cert.specs.Pieces.{place_of, pieces_at}
-use Rattle.tv_cert.specs.Statements.{ends}
-use Rattle.tv_cert.specs.Shapes.{ProofShape, PieceShape, OwnShape, HaveShapes}
-use Rattle.tv_cert.proofs.NodeLemmas.{out_is, pieces_are}
-use Rattle.tv_shape.specs.Depths.{proof_splits}
-use Rattle.tv_shape.specs.Fitting.{KidsNarrow, KidsGoWithin}
-use Rattle.tv_shape.specs.Narrow.{PieceNarrow, ProofNarrow}
+use Rattle.tv_cert.specs.Shapes.{PieceShape}
+use Rattle.tv_cert.proofs.NodeLemmas.{pieces_are}
 use Rattle.tv_shape.specs.Made.{HasOwn, IsOffered, IsFitted}
 use Rattle.tv_shape.proofs.MadeLemmas.{node_fitted}
 use Rattle.tv_lexrank.specs.declared.round.Round.{Round}

@@ -1,8 +1,8 @@
 -- Whether the cases lead from the known rows into the known rows.
-use Rattle.std.specs.Prelude.{◌≡◌, ◌⊎◌, ℕ, zero, suc, ◌+◌, ◌<◌, ◌≤◌, List, [], ◌∷◌, ◌++◌, length, map, Contains, All, ℤ, Option, None, Some, Err}
+use Rattle.std.specs.Prelude.{◌≡◌, ◌⊎◌, ℕ, zero, suc, ◌+◌, ◌<◌, ◌≤◌, List, [], ◌∷◌, ◌++◌, length, map, Contains, All, ℤ, Option, None, Some}
 use Rattle.tv_program.specs.Steps.{State}
 use Rattle.tv_linear.specs.Linear.{Linear, columns, IsMet}
-use Rattle.tv_linear.specs.Known.{Known, given, composed, as_given}
+use Rattle.tv_linear.specs.Known.{Known, given, composed}
 use Rattle.tv_linear.specs.Terms.{terms_after}
 use Rattle.tv_linear.specs.Covers.{IsMetCover}
 use Rattle.tv_linear.specs.Depth.{splits}
@@ -10,7 +10,7 @@ use Rattle.tv_linear.specs.declared.cover.CoverTree.{CoverTree}
 use Rattle.tv_linear.specs.declared.cover.CoverTree as cover
 use Rattle.tv_linear.specs.declared.fault.RowFault.TheVariants as row
 use Rattle.tv_linear.specs.declared.region.Piece.{Piece}
-use Rattle.tv_cases.specs.Before.{before, rows_after, FitsTerms, GivesBefore, FitsBefore, rows_before, AreRowsBefore, IsTooWide}
+use Rattle.tv_cases.specs.Before.{before, FitsBefore, rows_before, IsTooWide}
 use Rattle.tv_cases.specs.LinearCases.{LinearCase, CaseSystem, CaseDoes}
 use Rattle.tv_farkas.specs.Refuting.{AreShort}
 use Rattle.tv_farkas.specs.Trees.{TreeRows, TreeNumbers}
@@ -18,9 +18,6 @@ use Rattle.tv_farkas.specs.declared.budget.Budget.{Budget}
 use Rattle.tv_farkas.specs.declared.fault.CoverFault.{CoverFault}
 use Rattle.tv_farkas.specs.declared.fault.CoverFault.TheVariants.{Splits, Solve, Wide, Memory}
 use Rattle.tv_cover.specs.Covering.{IsHole, IsCoverFault}
-use Rattle.tv_cover.specs.declared.covered.Covered.{Covered}
-use Rattle.tv_cover.specs.declared.covered.Covered.TheVariants.{Tree, Hole}
-use Rattle.tv_cover.specs.Targets.{owed_lists}
 use Rattle.tv_rank.specs.Ways.{Way, way_of, case_at, rows_at}
 use Rattle.tv_lexrank.specs.Known.{way_rows, padded_rows}
 use Rattle.tv_lexrank.specs.declared.fault.RankFault.{RankFault}

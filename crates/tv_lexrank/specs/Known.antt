@@ -1,7 +1,7 @@
 -- The rows that are known at locations, and those that are met where a case is taken.
-use Rattle.std.specs.Prelude.{◌≡◌, ℕ, ◌+◌, ◌-◌, ◌<◌, List, [], ◌++◌, length, map, All}
-use Rattle.tv_linear.specs.Linear.{Linear, linear, columns}
-use Rattle.tv_linear.specs.Arithmetic.{zeros, padded_row}
+use Rattle.std.specs.Prelude.{◌≡◌, ℕ, ◌+◌, ◌<◌, List, [], ◌++◌, length, map, All}
+use Rattle.tv_linear.specs.Linear.{Linear, columns}
+use Rattle.tv_linear.specs.Arithmetic.{padded_row}
 use Rattle.tv_linear.specs.Known.{Known, as_given}
 use Rattle.tv_linear.specs.declared.region.Piece.{Piece}
 use Rattle.tv_cases.specs.LinearCases.{CaseSystem}

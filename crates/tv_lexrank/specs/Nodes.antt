@@ -5,10 +5,8 @@ use Rattle.tv_linear.specs.declared.region.Piece.{Piece}
 use Rattle.tv_cases.specs.LinearCases.{CaseSystem}
 use Rattle.tv_formula.specs.Properties.{term}
 use Rattle.tv_cert.specs.declared.node.Marked.{Marked}
-use Rattle.tv_cert.specs.declared.node.Proof.{Proof}
-use Rattle.tv_cert.specs.declared.node.Node.{Node, out-Node}
+use Rattle.tv_cert.specs.declared.node.Node.{Node}
 use Rattle.tv_cert.specs.Claims.{about_with}
-use Rattle.tv_cert.specs.Listed.{pieces_list}
 use Rattle.tv_cert.specs.Nodes.{pieces_of, entries}
 use Rattle.tv_cert.specs.Obligations.{AllMet}
 use Rattle.tv_cert.specs.Pieces.{pieces_at, rows_of}

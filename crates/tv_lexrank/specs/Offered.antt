@@ -1,5 +1,5 @@
 -- The proofs of the node of a ranking.
-use Rattle.std.specs.Prelude.{◌≡◌, ℕ, zero, suc, ◌<◌, ◌≤◌, List, [], ◌++◌, Some, slice_get}
+use Rattle.std.specs.Prelude.{◌≡◌, ℕ, zero, suc, ◌<◌, List, [], ◌++◌, Some, slice_get}
 use Rattle.std.specs.List.{AllZip}
 use Rattle.tv_cases.specs.LinearCases.{LinearCase, leaving}
 use Rattle.tv_cases.specs.Systems.{cases_of}
@@ -7,11 +7,8 @@ use Rattle.tv_cert.specs.declared.node.Marked.{Marked}
 use Rattle.tv_cert.specs.declared.node.Proof.{Proof}
 use Rattle.tv_cert.specs.declared.node.Proof.TheVariants.{Covered, Chosen}
 use Rattle.tv_cert.specs.Claims.{about_with}
-use Rattle.tv_cert.specs.Obligations.{Obligation, OwedMet, step_of, step_fall}
+use Rattle.tv_cert.specs.Obligations.{Obligation, step_of, step_fall}
 use Rattle.tv_cert.specs.Pieces.{pieces_at}
-use Rattle.tv_cert.specs.Shapes.{ProofShape}
-use Rattle.tv_shape.specs.Depths.{proof_splits}
-use Rattle.tv_shape.specs.Narrow.{ProofNarrow}
 use Rattle.tv_shape.specs.Made.{IsOffered}
 use Rattle.tv_lexrank.specs.declared.ranking.Ranking.{Ranking}
 use Rattle.tv_lexrank.specs.Pieces.{ranked_piece}

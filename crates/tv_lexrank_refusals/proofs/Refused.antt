@@ -1,5 +1,5 @@
 -- the rows that are asked of come from the rows that are known
-use Rattle.std.proofs.Common.{◌≡◌, inl, inr, ℕ, zero, suc, ◌+◌, ◌-◌, ◌<◌, List, [], ◌∷◌, ◌++◌, length, map, All, arith, refl, sym, ap, ◌∙◌, subst}
+use Rattle.std.proofs.Common.{◌≡◌, inl, inr, ℕ, zero, suc, ◌+◌, ◌-◌, ◌<◌, List, [], ◌∷◌, length, map, All, arith, refl, sym, subst}
 use Rattle.std.specs.Prelude.{Ok, Err}
 use Rattle.std.specs.List.{Contains}
 use Rattle.std.proofs.lemmas.List.{get_or_default}
@@ -15,7 +15,7 @@ use Rattle.tv_farkas.specs.declared.budget.Budget.{Budget}
 use Rattle.tv_farkas.specs.declared.fault.CoverFault.{CoverFault}
 use Rattle.tv_farkas.specs.declared.fault.CoverFault.TheVariants.{Splits, Solve, Wide, Memory}
 use Rattle.tv_cover.specs.Covering.{IsCoverFault}
-use Rattle.tv_derived.specs.Scopes.{at_location, over_case, with_more, Placed, placed}
+use Rattle.tv_derived.specs.Scopes.{at_location, over_case, Placed, placed}
 use Rattle.tv_derived.specs.Derived.{IsDerived, handed, guard, derived, unsplit}
 use Rattle.tv_derived.specs.Faults.{IsRefusalOf}
 use Rattle.tv_derived.proofs.Listing.{handed_list}

@@ -6,7 +6,7 @@ use Rattle.std.proofs.lemmas.List.{length-map}
 use Rattle.std.proofs.lemmas.List.Elements.{All-nil, All-cons, All-head, All-tail}
 use Rattle.tv_linear.specs.Linear.{Linear, IsWithin, columns}
 use Rattle.tv_linear.specs.Arithmetic.{zeros, constant_row}
-use Rattle.tv_linear.specs.Known.{Known, given, denied, composed, as_given}
+use Rattle.tv_linear.specs.Known.{Known, given, composed, as_given}
 use Rattle.tv_linear.specs.Terms.{draw_terms}
 use Rattle.tv_linear.specs.Covers.{Shown, ShownAt}
 use Rattle.tv_linear.specs.Falls.{fall_rows}

@@ -12,20 +12,16 @@ use Rattle.tv_cases.specs.Systems.{cases_of}
 use Rattle.tv_cert.specs.declared.node.Marked.{Marked}
 use Rattle.tv_cert.specs.declared.node.Proof.{Proof}
 use Rattle.tv_cert.specs.declared.node.Proof.TheVariants.{Covered, Chosen}
-use Rattle.tv_cert.specs.declared.node.Node.{Node, out-Node}
+use Rattle.tv_cert.specs.declared.node.Node.{Node}
 use Rattle.tv_cert.specs.declared.node.Mark.TheVariants.{Go}
 use Rattle.tv_cert.specs.declared.node.Verdict.{Verdict}
 use Rattle.tv_cert.specs.declared.node.Verdict.TheVariants.{Proved, Disproved}
 use Rattle.tv_cert.specs.Claims.{about_with}
-use Rattle.tv_cert.specs.Listed.{pieces_list}
 use Rattle.tv_cert.specs.MarkedRows.{MarkedRows, marked}
-use Rattle.tv_cert.specs.Nodes.{pieces_of, entries, obligations}
-use Rattle.tv_cert.specs.Obligations.{About, AllMet}
+use Rattle.tv_cert.specs.Nodes.{pieces_of, obligations}
+use Rattle.tv_cert.specs.Obligations.{AllMet}
 use Rattle.tv_cert.specs.Pieces.{rows_of, goes, pieces_at}
-use Rattle.tv_cert.specs.Shapes.{HasShape}
 use Rattle.tv_shape.specs.Certificates.{IsOf}
-use Rattle.tv_shape.specs.Fitting.{NodeNarrow, GoesWithin}
-use Rattle.tv_shape.specs.Narrow.{PieceNarrow}
 use Rattle.tv_shape.specs.declared.certificate.Certificate.{Certificate}
 use Rattle.tv_shape.specs.Made.{HasOwn, IsFitted}
 use Rattle.tv_points.specs.StatePieces.{state_pieces}

@@ -1,6 +1,6 @@
 // Certificates without the pieces that are not needed.
 
-ghost use Rattle.std.specs.Prelude.{◌≡◌, ◌<◌, IfOk, IfSome};
+ghost use Rattle.std.specs.Prelude.{◌≡◌, ◌<◌, ◌≤◌, IfOk, IfSome};
 ghost use Rattle.tv_cases.specs.Systems.{cases_of};
 ghost use Rattle.tv_cert.specs.Claims.{StatesIts, claim_variables};
 ghost use Rattle.tv_shape.specs.Certificates.{IsSettling};
@@ -95,11 +95,9 @@ fn pruned_parts(
     }
 }
 
-/// A certificate of the same claim with fewer obligations: the given one without the pieces that no proof enters on the way from those that
-/// its verdict speaks of. `None` where nothing can be left out.
-///
-/// What is made is checked, so that nothing rests on how it was found.
-pub fn smaller(
+/// The certificate without the pieces that no proof enters on the way from those that its verdict speaks of, where it has fewer obligations
+/// then. What is made is checked, so that nothing rests on how it was found.
+fn with_fewer(
     alloc: Global,
     about: &Cases,
     claim: &Claim,
@@ -123,5 +121,25 @@ pub fn smaller(
                 Ok(None)
             }
         }
+    }
+}
+
+/// A certificate of the same claim with as few obligations as leaving pieces out gives: the given one, or the same without the pieces that no
+/// proof enters on the way from those that its verdict speaks of.
+pub fn smaller(
+    alloc: Global,
+    about: &Cases,
+    claim: &Claim,
+    certificate: Certificate,
+) -> Result<Certificate, AllocError>
+    requires states { StatesIts claim.now }
+    requires variables { claim_variables claim.now ≡ (cases_of about.now).variables }
+    requires settling { IsSettling (cases_of about.now) claim.now certificate }
+    ensures settling { IfOk result (IsSettling (cases_of about.now) claim.now) }
+    ensures no_more { IfOk result (λ c. c.obligations ≤ certificate.obligations) }
+{
+    match with_fewer(alloc, about, claim, &certificate)? {
+        None => Ok(certificate),
+        Some(found) => Ok(found),
     }
 }

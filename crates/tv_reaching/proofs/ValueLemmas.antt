@@ -3,7 +3,7 @@ use Rattle.std.proofs.Common.{◌≡◌, ℕ, zero, suc, ◌+◌, ◌-◌, ◌<�
 use Rattle.std.proofs.lemmas.List.Elements.{All-get_or}
 use Rattle.tv_linear.specs.Linear.{IsWithin, dot}
 use Rattle.tv_linear.specs.Known.{term_value}
-use Rattle.tv_linear.specs.Terms.{update_of, table, terms_after}
+use Rattle.tv_linear.specs.Terms.{update_of, terms_after}
 use Rattle.tv_linear.specs.declared.region.Update.{Update}
 use Rattle.tv_linear.proofs.PlainLists.{length-table}
 use Rattle.tv_linear.proofs.ListLaws.{map-push, table-push, get_or-table}

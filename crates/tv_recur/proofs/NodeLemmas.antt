@@ -1,5 +1,5 @@
 -- A node from each of whose pieces a choice leads into one of them fits, and is met.
-use Rattle.std.proofs.Common.{◌≡◌, ℕ, ◌^◌, ◌<◌, List, [], ◌∷◌, length, All, false, arith, refl, ◌∙◌}
+use Rattle.std.proofs.Common.{ℕ, ◌^◌, ◌<◌, List, [], ◌∷◌, length, All, false, arith, refl, ◌∙◌}
 use Rattle.std.specs.List.{AllZip, flat_map}
 use Rattle.tv_cases.specs.LinearCases.{CaseSystem}
 use Rattle.tv_cert.specs.declared.node.Marked.{Marked}

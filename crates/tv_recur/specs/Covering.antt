@@ -1,18 +1,9 @@
 -- Covers into one target, and the choices that are made of them.
-use Rattle.std.specs.Prelude.{◌≡◌, ℕ, ◌≤◌, List, [], ◌∷◌, All}
-use Rattle.tv_linear.specs.Linear.{Linear, columns, IsNarrow}
-use Rattle.tv_linear.specs.Known.{as_given}
-use Rattle.tv_linear.specs.Covers.{IsMetCover}
-use Rattle.tv_linear.specs.Depth.{splits}
+use Rattle.std.specs.Prelude.{◌≡◌, List, All}
+use Rattle.tv_linear.specs.Linear.{Linear, IsNarrow}
 use Rattle.tv_linear.specs.declared.cover.CoverTree.{CoverTree}
 use Rattle.tv_linear.specs.declared.choice.ChoiceTree.{ChoiceTree}
 use Rattle.tv_cases.specs.Systems.{cases_of}
-use Rattle.tv_farkas.specs.Refuting.{AreShort}
-use Rattle.tv_farkas.specs.Trees.{TreeRows, TreeNumbers}
-use Rattle.tv_cover.specs.Covering.{IsHole}
-use Rattle.tv_cover.specs.Targets.{owed_lists}
-use Rattle.tv_cover.specs.declared.covered.Covered.{Covered}
-use Rattle.tv_cover.specs.declared.covered.Covered.TheVariants.{Tree, Hole}
 use Rattle.tv_recur.specs.Making.{number_rows}
 use Rattle.tv_recur.specs.Choosing.{IsChoiceOf}
 use Rattle.tv_recur.specs.declared.taking.Taking.{Taking}

@@ -5,7 +5,7 @@ use Rattle.tv_linear.specs.Arithmetic.{constant_row, composed}
 use Rattle.tv_linear.specs.Fits.{FitsComposed, GivesComposed}
 use Rattle.tv_linear.specs.declared.fault.RowFault.{RowFault}
 use Rattle.tv_linear.specs.declared.fault.RowFault.TheVariants as row
-use Rattle.tv_cases.specs.Before.{before, rows_after, FitsTerms, GivesBefore}
+use Rattle.tv_cases.specs.Before.{before, GivesBefore}
 use Rattle.tv_cases.specs.EdgeCases.{columns_from}
 use Rattle.tv_cases.specs.LinearCases.{LinearCase}
 use Rattle.tv_farkas.specs.declared.fault.CoverFault.{CoverFault}

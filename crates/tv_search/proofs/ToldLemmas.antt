@@ -8,7 +8,6 @@ use Rattle.tv_candidates.specs.declared.candidate.Candidate.{Candidate}
 use Rattle.tv_candidates.specs.Inductive.{IsLargestInductive}
 use Rattle.tv_candidates.specs.Offered.{offered}
 use Rattle.tv_invariant.specs.Asking.{IsTold, Gave}
-use Rattle.tv_formula.specs.Properties.{Property}
 use Rattle.tv_farkas.specs.declared.budget.Budget.{Budget}
 use Rattle.tv_causes.specs.Bases as bases
 use Rattle.tv_causes.specs.CasePaths.{IsOpenPath}

@@ -13,11 +13,10 @@ use Rattle.tv_farkas.specs.Trees.{TreeRows}
 use Rattle.tv_cert.specs.declared.node.Kind.TheVariants as kind
 use Rattle.tv_cert.specs.declared.node.Proof.{Proof}
 use Rattle.tv_cert.specs.declared.node.Proof.TheVariants.{Covered}
-use Rattle.tv_cert.specs.Obligations.{Obligation, case_change}
+use Rattle.tv_cert.specs.Obligations.{case_change}
 use Rattle.tv_cert.specs.Pieces.{place_of, pieces_at}
 use Rattle.tv_cert.specs.Targets.{target_rows, owed_into, no_fall}
 use Rattle.tv_shape.specs.Narrow.{CoverNarrow}
-use Rattle.tv_shape.specs.Made.{IsOffered}
 use Rattle.tv_rank.specs.Ways.{Way, way_of, rows_at, case_at}
 use Rattle.tv_lexrank.specs.Closing.{owed_plain, changed, IsClosed}
 use Rattle.tv_lexrank.specs.Known.{way_rows}

@@ -1,5 +1,5 @@
 -- What a met choice shows of a state: a step is there, or there is none.
-use Rattle.std.proofs.Common.{◌≡◌, ℕ, zero, suc, ◌⊎◌, inl, inr, ◌+◌, ◌≤◌, List, [], ◌∷◌, ◌++◌, length, All, map, Option, None, Some, Bool, IsTrue, arith, refl, subst, sym, ap, ◌∙◌, ℤ, pos, ◌≤ℤ◌, slice_get, get_or, ◌==◌, length-append}
+use Rattle.std.proofs.Common.{◌≡◌, ℕ, zero, suc, ◌⊎◌, inl, inr, ◌+◌, ◌≤◌, List, [], ◌∷◌, ◌++◌, length, All, map, Option, None, Some, Bool, IsTrue, arith, refl, subst, sym, ap, ◌∙◌, ℤ, pos, ◌≤ℤ◌, slice_get, ◌==◌, length-append}
 use Rattle.std.specs.Prelude.{Contains}
 use Rattle.std.specs.Option.{option_map}
 use Rattle.std.proofs.lemmas.Int.{ints}

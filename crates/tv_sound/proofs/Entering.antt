@@ -8,7 +8,7 @@ use Rattle.std.proofs.lemmas.List.Elements.{All-nil, All-cons, All-head, All-tai
 use Rattle.tv_linear.specs.declared.cover.CoverTree.{CoverTree}
 use Rattle.tv_linear.specs.Linear.{Linear, columns}
 use Rattle.tv_linear.specs.Known.{place_sum, number, Term, Known, given, composed, known_value, term_value, IsKnownMet, as_given}
-use Rattle.tv_linear.specs.Terms.{table, update_of, terms_after}
+use Rattle.tv_linear.specs.Terms.{update_of, terms_after}
 use Rattle.tv_linear.specs.Falls.{Falls, fall_rows}
 use Rattle.tv_linear.specs.Covers.{IsMetCover}
 use Rattle.tv_linear.proofs.Covered.{covered}

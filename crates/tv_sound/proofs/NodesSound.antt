@@ -25,7 +25,7 @@ use Rattle.tv_cert.specs.declared.node.Node.{Node, Node', Row_of-Node, end_of-No
 use Rattle.tv_cert.specs.Pieces.{place_of, goes, InMarked, InPieces}
 use Rattle.tv_cert.specs.Targets.{no_fall, owed_nothing}
 use Rattle.tv_cert.specs.Obligations as obligations
-use Rattle.tv_cert.specs.Obligations.{About, Obligation, Entry, AllMet, cover_of, atom_of, steps_of, choice_of, choice_into, step_fall, choice_fall, truth_targets, hold_side, end_sides, go_of, fix_of, paired}
+use Rattle.tv_cert.specs.Obligations.{About, Obligation, Entry, AllMet, cover_of, steps_of, choice_of, choice_into, step_fall, choice_fall, truth_targets, hold_side, end_sides, go_of, fix_of, paired}
 use Rattle.tv_cert.specs.Nodes.{pieces_of, kid_pieces, parts, entries, kid_entries, size, piece_of, own_of}
 use Rattle.tv_cert.specs.Fits.{PieceFits, ProofFits, OwnFits, NodeFits, KidsFit}
 use Rattle.tv_cert.proofs.StatedLemmas.{entries_are}

@@ -1,4 +1,4 @@
-ghost use Rattle.std.specs.Prelude.{◌≡◌, length, OnOk};
+ghost use Rattle.std.specs.Prelude.{◌≡◌, OnOk};
 ghost use Rattle.tv_program.specs.Programs.{system_of};
 ghost use Rattle.tv_formula.specs.Normal.{normal};
 ghost use Rattle.tv_formula.specs.Properties.{Property, term};
@@ -6,7 +6,6 @@ ghost use Rattle.tv_cases.specs.Systems.{cases_of};
 ghost use Rattle.tv_cases.specs.Answers.{IsOfProgram, HaveSameSteps};
 ghost use Rattle.tv_cert.specs.Claims.{IsClaim, StatesIts, about_with, claim_variables, shown};
 ghost use Rattle.tv_cert.specs.Nodes.{obligations};
-ghost use Rattle.tv_cert.specs.Obligations.{AllMet};
 ghost use Rattle.tv_cert.specs.FirstFailing.{Checks};
 ghost use Rattle.tv_shape.specs.Certificates.{IsOf};
 ghost use Rattle.tv_sound.specs.Following.{FollowsFrom};
@@ -14,7 +13,7 @@ ghost use Rattle.tv_sound.specs.Settled.{IsSettled};
 
 use tv_cases::Cases;
 use tv_cert::{Claim, Failing};
-use tv_check::{check, count};
+use tv_check::check;
 use tv_program::Program;
 use tv_shape::Certificate;
 
@@ -44,23 +43,4 @@ pub fn check_claim(
 {
     let verdict = certificate.verdict();
     check(about, claim.aim(verdict), certificate.root(), verdict)
-}
-
-/// How many obligations a certificate has, all of which are met.
-///
-/// It takes no memory.
-pub fn count_obligations(about: &Cases, claim: &Claim, certificate: &Certificate) -> u64
-    requires states { StatesIts claim.now }
-    requires variables { claim_variables claim.now ≡ (cases_of about.now).variables }
-    requires fits { IsOf (about_with (cases_of about.now)) (shown claim.now certificate.now.verdict) certificate.now }
-    requires met { let system = cases_of about.now in
-        AllMet (obligations (about_with system) (shown claim.now certificate.now.verdict) certificate.now.root certificate.now.verdict) }
-    ensures { let system = cases_of about.now in
-        let owed = obligations (about_with system) (shown claim.now certificate.now.verdict) certificate.now.root certificate.now.verdict in
-        result ≡ length owed }
-{
-    match count(about, claim.aim(certificate.verdict()), certificate.root()) {
-        Ok(number) => number,
-        Err(_) => unreachable!(),
-    }
 }

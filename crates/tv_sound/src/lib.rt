@@ -5,4 +5,4 @@ mod accepting;
 mod claims;
 
 pub use accepting::accepted;
-pub use claims::{check_claim, count_obligations};
+pub use claims::check_claim;

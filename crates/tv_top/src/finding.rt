@@ -41,7 +41,7 @@ use tv_rank::Name;
 use tv_recur::{Recurrence, recur, recurrence_certificate};
 use tv_settling::{EndFault, first_end, found_end};
 use tv_shape::Certificate;
-use tv_sound::{check_claim, count_obligations};
+use tv_sound::check_claim;
 
 /// The answer where a question of whole points was not settled.
 pub(crate) fn uncovered(fault: CoverFault) -> Answer
@@ -97,8 +97,8 @@ fn text_of(
         Wanted::Nothing => Ok(Vec::new(alloc)),
         Wanted::Certificate => write_certificate(alloc, certificate),
         Wanted::Counts(loops) => {
-            let obligations = count_obligations(about, claim, certificate);
-            count_lines(alloc, loops.count, about.list().len() as u64, obligations)
+            let cases = about.list().len() as u64;
+            count_lines(alloc, loops.count, cases, certificate.obligations())
         }
     }
 }
@@ -152,31 +152,31 @@ fn told_by(alloc: Global, search: &Search, certificate: &Certificate) -> Answer
     }
 }
 
-/// A smaller certificate of the same, where one is to be written and there is one.
+/// The certificate, or a smaller one of the same where it is to be written.
 fn shortened(
     alloc: Global,
     search: &Search,
-    certificate: &Certificate,
-) -> Result<Option<Certificate>, AllocError>
+    certificate: Certificate,
+) -> Result<Certificate, AllocError>
     requires one { IsOfOne search.now }
-    ensures { IfOk result (λ found. IfSome found (IsSettling (cases_of search.now.about.now) search.now.claim.now)) }
+    requires settling { IsSettling (cases_of search.now.about.now) search.now.claim.now certificate }
+    ensures { IfOk result (IsSettling (cases_of search.now.about.now) search.now.claim.now) }
 {
     match search.task.wanted {
         Wanted::Certificate => smaller(alloc, search.about, search.claim, certificate),
-        _ => Ok(None),
+        _ => Ok(certificate),
     }
 }
 
 /// The answer of a certificate that settles what is claimed. Where it is to be written, the pieces that nothing enters are left out.
-pub(crate) fn told(alloc: Global, search: &Search, certificate: &Certificate) -> Answer
+pub(crate) fn told(alloc: Global, search: &Search, certificate: Certificate) -> Answer
     requires one { IsOfOne search.now }
-    requires settling { IsSettling (cases_of search.now.about.now) search.now.claim.now certificate.now }
+    requires settling { IsSettling (cases_of search.now.about.now) search.now.claim.now certificate }
     ensures { (f : Property) → IsClaim search.now.claim.now f →
         Settles (wanted_view search.now.task.now.wanted) (system_of search.now.program.now) f (cases_of search.now.about.now) result }
 {
     match shortened(alloc, search, certificate) {
-        Ok(Some(found)) => told_by(alloc, search, &found),
-        Ok(None) => told_by(alloc, search, certificate),
+        Ok(found) => told_by(alloc, search, &found),
         Err(_) => Answer::Memory,
     }
 }
@@ -209,7 +209,7 @@ fn ends_under_rows(
         Answers (offers_of (λ p. rest p) proposers.old.items) search.now f result }
 {
     match found_end(alloc, search.about, search.claim, proposers, budget) {
-        Ok(certificate) => told(alloc, search, &certificate),
+        Ok(certificate) => told(alloc, search, certificate),
         Err(fault) => ended(fault),
     }
 }
@@ -223,7 +223,7 @@ fn endless_run(alloc: Global, search: &Search, recurrence: Recurrence) -> Answer
         Settles (wanted_view search.now.task.now.wanted) (system_of search.now.program.now) f (cases_of search.now.about.now) result }
 {
     match recurrence_certificate(alloc, search.about, search.claim, recurrence) {
-        Ok(certificate) => told(alloc, search, &certificate),
+        Ok(certificate) => told(alloc, search, certificate),
         Err(_) => Answer::Memory,
     }
 }
@@ -259,7 +259,7 @@ fn ends(alloc: Global, search: &Search, proposers: &mut Vec<Box<dyn Proposer>>) 
 {
     let budget = budget_of(&search.task.limits);
     match first_end(alloc, search.about, search.claim, &budget) {
-        Ok(Some(certificate)) => told(alloc, search, &certificate),
+        Ok(Some(certificate)) => told(alloc, search, certificate),
         Ok(None) => ends_later(alloc, search, proposers, &budget),
         Err(fault) => ended(fault),
     }
@@ -293,7 +293,7 @@ fn settle(alloc: Global, search: &Search, proposers: &mut Vec<Box<dyn Proposer>>
         Answers (offers_of (λ p. rest p) proposers.old.items) search.now f result }
 {
     match looked_at(alloc, search) {
-        Ok(Some(certificate)) => return told(alloc, search, &certificate),
+        Ok(Some(certificate)) => return told(alloc, search, certificate),
         Ok(None) => {}
         Err(_) => return Answer::Memory,
     }

@@ -125,7 +125,7 @@ pub(crate) fn or_further(
         return answer;
     }
     match found(alloc, search, proposers) {
-        Ok(Some(certificate)) => told(alloc, search, &certificate),
+        Ok(Some(certificate)) => told(alloc, search, certificate),
         Ok(None) => answer,
         Err(_) => Answer::Memory,
     }

@@ -130,7 +130,7 @@ pub(crate) fn over_paths(alloc: Global, search: &Search) -> Answer
         budget: &budget,
     };
     match prove(&setting, search.claim) {
-        Ok(certificate) => told(alloc, search, &certificate),
+        Ok(certificate) => told(alloc, search, certificate),
         Err(why) => unproved(alloc, search.program, search.about, why),
     }
 }

@@ -88,7 +88,7 @@ fn shown(
     ensures { (f : Property) → IsClaim search.now.claim.now f → IsShownOrNot search.now f location list.now budget.now result }
 {
     match safety_certificate(alloc, search.about, search.claim, location, list, budget) {
-        Ok(certificate) => told(alloc, search, &certificate),
+        Ok(certificate) => told(alloc, search, certificate),
         Err(fault) => uncovered(fault),
     }
 }
@@ -111,7 +111,7 @@ fn reached(alloc: Global, search: &Search, found: &Found) -> Answer
     ensures { (f : Property) → IsClaim search.now.claim.now f → IsReachedOrNot search.now f found.now result }
 {
     match run_certificate(alloc, search.about, search.claim, found) {
-        Ok(certificate) => told(alloc, search, &certificate),
+        Ok(certificate) => told(alloc, search, certificate),
         Err(fault) => too_wide(fault),
     }
 }

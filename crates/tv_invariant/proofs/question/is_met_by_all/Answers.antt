@@ -1,4 +1,4 @@
-use Rattle.std.proofs.Common.{◌≡◌, All, map, sym, subst, refl}
+use Rattle.std.proofs.Common.{All, map, sym, subst, refl}
 use Rattle.std.proofs.lemmas.List.Elements.{All-push}
 use Rattle.tv_linear.specs.Linear.{IsMet}
 use Rattle.tv_farkas.specs.Paths.{IsWholePoint}

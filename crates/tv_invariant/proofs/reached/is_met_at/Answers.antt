@@ -1,4 +1,4 @@
-use Rattle.std.proofs.Common.{◌≡◌, All, ap, sym, subst, length, ◌∙◌}
+use Rattle.std.proofs.Common.{ap, sym, subst, length, ◌∙◌}
 use Rattle.tv_linear.specs.Linear.{IsMet, columns}
 use Rattle.tv_cases.specs.Systems.{cases_of}
 use Rattle.tv_simplex.proofs.RowLemmas.{tested_false}

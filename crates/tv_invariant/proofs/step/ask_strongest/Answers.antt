@@ -1,5 +1,4 @@
 use Rattle.std.proofs.Common.{◌≡◌, ◌+◌, inr, subst, sym, ap, ◌∙◌}
-use Rattle.std.specs.List.{All}
 use Rattle.std.proofs.lemmas.List.Elements.{All-contains}
 use Rattle.tv_linear.specs.Linear.{columns}
 use Rattle.tv_invariant.specs.Rows.{IsStronger}

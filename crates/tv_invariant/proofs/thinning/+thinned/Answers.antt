@@ -1,4 +1,4 @@
-use Rattle.std.proofs.Common.{◌≡◌, ◌∙◌, ap, sym, refl, map}
+use Rattle.std.proofs.Common.{◌∙◌, ap, map}
 use Rattle.tv_invariant.specs.Thinning.{picked}
 use Rattle.tv_invariant.proofs.PickLemmas.{thinned-into}
 use Rattle.tv_invariant.proofs.thinning.+thinned.Goals as goal

@@ -1,11 +1,10 @@
-use Rattle.std.proofs.Common.{◌≡◌, ◌∙◌, ◌++◌, All, ap, map, subst, sym, refl}
-use Rattle.std.specs.Prelude.{IfSome, Vec, ℤ}
+use Rattle.std.proofs.Common.{◌≡◌, ◌∙◌, ◌++◌, All, ap, map, subst, refl}
+use Rattle.std.specs.Prelude.{IfSome}
 use Rattle.tv_linear.specs.Linear.{IsMet}
 use Rattle.tv_linear.specs.Known.{term_value}
 use Rattle.tv_linear.specs.Terms.{terms_after}
 use Rattle.tv_cases.specs.Systems.{cases_of}
 use Rattle.tv_cases.specs.Views.{case_view}
-use Rattle.tv_simplex.proofs.RowLemmas.{tested_true}
 use Rattle.tv_invariant.proofs.RunLemmas.{reached_next}
 use Rattle.tv_invariant.proofs.walks.after.Goals as goal
 

@@ -1,4 +1,4 @@
-use Rattle.std.proofs.Common.{◌∙◌, ap, length, [], ◌++◌, ◌≡◌}
+use Rattle.std.proofs.Common.{◌∙◌, ap, length, ◌++◌, ◌≡◌}
 use Rattle.tv_cases.specs.Systems.{cases_of}
 use Rattle.tv_invariant.proofs.RunLemmas.{reached_first}
 use Rattle.tv_invariant.proofs.walks.first.Goals as goal

@@ -1,4 +1,4 @@
-use Rattle.std.proofs.Common.{subst, refl}
+use Rattle.std.proofs.Common.{subst}
 use Rattle.tv_linear.specs.Linear.{IsMet}
 use Rattle.std.proofs.lemmas.List.Elements.{All-more}
 use Rattle.tv_simplex.proofs.RowLemmas.{tested_true}

@@ -1,4 +1,4 @@
-use Rattle.tv_invariant.proofs.RunLemmas.{drawn_none, drawn_more}
+use Rattle.tv_invariant.proofs.RunLemmas.{drawn_none}
 use Rattle.tv_invariant.proofs.walks.push_numbers.Goals as goal
 
 pub numbers-init : goal.numbers-init

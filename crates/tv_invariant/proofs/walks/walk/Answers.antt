@@ -1,4 +1,3 @@
-use Rattle.std.proofs.Common.{All, subst, sym}
 use Rattle.tv_cases.specs.Systems.{cases_of}
 use Rattle.tv_invariant.specs.Reached.{IsReached}
 use Rattle.tv_invariant.proofs.RunLemmas.{pushed_all}

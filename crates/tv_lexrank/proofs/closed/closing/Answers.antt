@@ -1,4 +1,4 @@
-use Rattle.std.proofs.Common.{◌≡◌, ◌∙◌, ◌+◌, ◌<◌, ◌≤◌, ◌++◌, map, length, All, ap, sym, subst, arith}
+use Rattle.std.proofs.Common.{◌≡◌, ◌∙◌, ◌+◌, ◌<◌, ◌++◌, map, length, All, ap, sym, subst, arith}
 use Rattle.tv_cover.specs.Single.{IsCoverInto}
 use Rattle.tv_linear.specs.Linear.{columns}
 use Rattle.tv_linear.specs.Arithmetic.{padded_row}

@@ -1,4 +1,4 @@
-use Rattle.std.proofs.Common.{◌∙◌, ◌<◌, ◌^◌, arith, rules, subst}
+use Rattle.std.proofs.Common.{◌<◌, ◌^◌, arith, rules, subst}
 use Rattle.tv_shape.specs.Made.{HasOwn}
 use Rattle.tv_lexrank.proofs.RankedLemmas.{node_ranked, node_shown}
 use Rattle.tv_lexrank.proofs.node.ranked_node.Goals as goal

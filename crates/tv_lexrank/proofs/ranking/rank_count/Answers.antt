@@ -1,4 +1,4 @@
-use Rattle.std.proofs.Common.{◌≡◌, ◌⊎◌, inl, inr, ℕ, ◌+◌, ◌<◌, length, ap, arith}
+use Rattle.std.proofs.Common.{inl, inr, length, ap, arith}
 use Rattle.tv_linear.proofs.ListLaws.{last_or_below}
 use Rattle.tv_lexrank.specs.Attempt.{rounds_in}
 use Rattle.tv_lexrank.proofs.AttemptLemmas.{rounds_are}

@@ -1,15 +1,13 @@
-use Rattle.std.proofs.Common.{◌≡◌, ℕ, ◌+◌, ◌++◌, ◌∷◌, [], ◌<◌, ◌^◌, length, sym, ◌∙◌, subst}
-use Rattle.tv_cases.specs.Comparisons.{comparison_lists}
+use Rattle.std.proofs.Common.{◌≡◌, ◌+◌, ◌++◌, ◌∷◌, [], ◌<◌, ◌^◌, length, sym, subst}
 use Rattle.tv_cases.specs.LinearCases.{CaseSystem}
 use Rattle.tv_cases.specs.Systems.{cases_of}
-use Rattle.tv_cert.specs.declared.claim.Claim.{Claim}
 use Rattle.tv_cert.specs.declared.node.Node.{Node}
 use Rattle.tv_cert.specs.declared.node.Verdict.{Verdict}
 use Rattle.tv_cert.specs.AimViews.{aim_states}
 use Rattle.tv_cert.specs.Claims.{shown}
 use Rattle.tv_cert.specs.Nodes.{size, pieces_of, root_entry, node_entries, HasParts}
 use Rattle.tv_cert.specs.Plain.{about_of}
-use Rattle.tv_cert.specs.Statements.{Statement, stated}
+use Rattle.tv_cert.specs.Statements.{Statement}
 use Rattle.tv_cert.specs.Obligations.{AllMet}
 use Rattle.tv_sound.proofs.ClaimLemmas.{aim_is, owed, has_parts, has_room}
 use Rattle.tv_sound.proofs.accepting.is_met.Goals as goal
