@@ -1,7 +1,7 @@
 -- How many pieces the rounds have.
 use Rattle.std.proofs.Common.{◌≡◌, inl, inr, ℕ, ◌+◌, ◌*◌, ◌≤◌, List, [], ◌∷◌, map, length, refl, sym, subst, arith, Bool, true, false, cond}
 use Rattle.std.specs.Prelude.{max, sum, ◌==◌}
-use Rattle.std.proofs.Math.Nat.{le-max_right}
+use Rattle.std.proofs.Math.Nat.{le-max_left, le-max_right}
 use Rattle.tv_formula.specs.declared.tree.Path.{Path}
 use Rattle.tv_formula.specs.declared.tree.Path.TheVariants.{Every, Any}
 use Rattle.tv_linear.specs.declared.region.Piece.{Piece}
@@ -18,13 +18,26 @@ use Rattle.tv_known.specs.Sizes.{product, some_count, all_count, stop_count, nex
 use Rattle.tv_rounds.specs.Calls.{IsNowhere}
 use Rattle.tv_rounds.specs.Walks.{IsBack, IsGoing, IsStopping}
 
-trans : (a b c : ℕ) → a ≤ b → b ≤ c → a ≤ c
+pub trans : (a b c : ℕ) → a ≤ b → b ≤ c → a ≤ c
 trans a b c h k = omega arith
 
 pub times : (a b c d : ℕ) → a ≤ c → b ≤ d → a * b ≤ c * d
 times a b c d h k = grind arith
 
+two_ones : (a b : ℕ) → 1 ≤ a → 1 ≤ b → 1 ≤ a * b
+two_ones a b l m = grind arith
+
 -- ---- over the cases from a location
+product_one : (g : LinearCase → ℕ) → ((c : LinearCase) → 1 ≤ g c) → (cs : List LinearCase) → 1 ≤ product (map g cs)
+product_one g w [] = omega arith
+product_one g w (c ∷ cs) = two_ones (g c) (product (map g cs)) (w c) (product_one g w cs)
+
+pub all_one : (cases : List LinearCase) (b : ℕ → ℕ) (l : ℕ) → 1 ≤ all_count cases b l
+all_one cases b l = product_one (λ c. max 1 (length c.guards + b c.to)) (λ c. le-max_left 1 (length c.guards + b c.to)) (leaving l cases)
+
+pub some_one : (cases : List LinearCase) (b : ℕ → ℕ) (l : ℕ) → 1 ≤ some_count cases b l
+some_one cases b l = le-max_left 1 (sum (map (λ c. b c.to) (leaving l cases)))
+
 summed : (b : Bool) (n m : ℕ) (g : LinearCase → ℕ) (c : LinearCase) (rest : List LinearCase) → n ≤ g c → m ≤ sum (map g rest) → cond b n 0 + m ≤ sum (map g (cond b (c ∷ rest) rest))
 summed true n m g c rest h k = subst (λ x. n + m ≤ x) (sym (sum-cons (g c) (map g rest))) (omega (arith, h, k))
 summed false n m g c rest h k = omega (arith, k)
@@ -38,11 +51,11 @@ no_draw : (n : ℕ) → n ≡ 0 → (n == 0) ≡ true
 no_draw n e = subst (λ k. (k == 0) ≡ true) (sym e) refl
 
 module _ (l : ℕ) (target : List Piece) (g : LinearCase → ℕ) where
-  some_sum : (cs : List LinearCase) → ((c : LinearCase) → length (lists_at c.to target) ≤ g c) → regions.some_count l cs target ≤ sum (map g (leaving l cs))
+  pub some_sum : (cs : List LinearCase) → ((c : LinearCase) → length (lists_at c.to target) ≤ g c) → regions.some_count l cs target ≤ sum (map g (leaving l cs))
   some_sum [] h = omega arith
   some_sum (c ∷ cs) h = summed (c.from == l) (length (lists_at c.to target)) (regions.some_count l cs target) g c (leaving l cs) (h c) (some_sum cs h)
 
-  every_product : (cs : List LinearCase) → ((c : LinearCase) → Has cs c → c.draws ≡ 0) → ((c : LinearCase) → length c.guards + length (lists_at c.to target) ≤ g c) → regions.every_count l cs target ≤ product (map g (leaving l cs))
+  pub every_product : (cs : List LinearCase) → ((c : LinearCase) → Has cs c → c.draws ≡ 0) → ((c : LinearCase) → length c.guards + length (lists_at c.to target) ≤ g c) → regions.every_count l cs target ≤ product (map g (leaving l cs))
   every_product [] plain h = omega arith
   every_product (c ∷ cs) plain h =
       multiplied (c.from == l) (c.draws == 0) (length c.guards + length (lists_at c.to target)) (regions.every_count l cs target) g c (leaving l cs) (no_draw c.draws (plain c (inl refl))) (h c)
@@ -71,7 +84,7 @@ module _ (about : CaseSystem) where
   pub none_at : (a : Region) → IsNowhere about a → (l : ℕ) → count_at l a ≤ 0
   none_at a n l = subst (λ ps. length (lists_at l ps) ≤ 0) (sym n.none) (omega arith)
 
-  one_at : (a b : Region) → IsNowhere about a → IsRest a b → (l : ℕ) → count_at l b ≤ 1
+  pub one_at : (a b : Region) → IsNowhere about a → IsRest a b → (l : ℕ) → count_at l b ≤ 1
   one_at a b n h l = subst (λ ps. count_at l b ≤ row_product (lists_at l ps)) n.none (h.few l)
 
   pub going_few : (region : Region) → IsGoing about region → (l : ℕ) → count_at l region ≤ some_count about.cases (λ k. 1) l

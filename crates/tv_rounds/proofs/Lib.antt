@@ -8,3 +8,5 @@ pub mod ShrinkLemmas
 pub mod FaultLemmas
 pub mod InsideLemmas
 pub mod FullLemmas
+pub mod FaultCounts
+pub mod CountedCalls
