@@ -143,7 +143,7 @@ module _ (about : CaseSystem) (last : ℕ) where
         let rest : statements_of ss ≡ stated_all (comparison_lists about.variables) fs = cc in
         times (count_at l q) (product (counts_at l rs)) (count about.cases m f l) (product_count about.cases m fs l) (h.0.few plain m is f first l) (argument_product ss rs ns h.1 fs rest)
 
-    argument_sum : (ss : List Statement) (rs : List Region) (ns : List Node) → AreEachArgument about last ss rs ns → (fs : Properties) → statements_of ss ≡ stated_all (comparison_lists about.variables) fs → sum (counts_at l rs) ≤ sum_count about.cases m fs l
+    pub argument_sum : (ss : List Statement) (rs : List Region) (ns : List Node) → AreEachArgument about last ss rs ns → (fs : Properties) → statements_of ss ≡ stated_all (comparison_lists about.variables) fs → sum (counts_at l rs) ≤ sum_count about.cases m fs l
     argument_sum [] [] [] h none e = none_summed
     argument_sum [] [] [] h (more f fs) e = absurd cc
     argument_sum [] [] (n ∷ ns) h fs e = absurd h

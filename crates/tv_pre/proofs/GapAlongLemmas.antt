@@ -26,7 +26,7 @@ use Rattle.tv_pre.proofs.FormulaLemmas.{along_is}
 use Rattle.tv_pre.proofs.FoundLemmas.{none_of_two, none_behind, sides_built}
 use Rattle.tv_pre.proofs.GapLemmas.{gap_in_order, gap_later, tame_less, size_is, front_open, back_open, inner_open}
 use Rattle.tv_pre.proofs.TameLemmas.{tame_built}
-use Rattle.tv_pre.proofs.VacantLemmas.{unserved_same}
+use Rattle.tv_pre.proofs.BetweenLemmas.{unserved_same}
 
 module _ (about : CaseSystem) (last : ℕ) where
   -- ---- next states

@@ -39,7 +39,7 @@ pub mod SizedAtoms
 pub mod FoundLemmas
 pub mod PassedLemmas
 pub mod RankedAlongLemmas
-pub mod VacantLemmas
+pub mod BetweenLemmas
 pub mod WideLemmas
 pub mod FullLemmas
 pub mod FullAlongLemmas
@@ -57,3 +57,7 @@ pub mod ContraryRows
 pub mod ContraryAtoms
 pub mod DifferenceDraws
 pub mod StepsTold
+pub mod CountedLemmas
+pub mod CountedFormulas
+pub mod FarCounts
+pub mod WithinSize

@@ -1,22 +1,19 @@
 -- A node whose own obligations are offered proofs, over parts, is a part.
-use Rattle.std.proofs.Common.{◌≡◌, ◌⊎◌, inl, inr, ℕ, ◌+◌, ◌≤◌, List, [], ◌∷◌, ◌++◌, length, map, All, false, arith, refl, sym, ap, ◌∙◌, subst}
+use Rattle.std.proofs.Common.{◌≡◌, ◌⊎◌, inl, inr, ℕ, ◌+◌, ◌≤◌, List, [], ◌∷◌, length, map, All, false, arith, refl, sym, ap, ◌∙◌, subst}
 use Rattle.std.specs.Prelude.{max}
-use Rattle.std.specs.List.{AllZip}
-use Rattle.std.proofs.lemmas.List.Elements.{All-nil, All-cons}
 use Rattle.tv_formula.specs.Limits.{operators, most_operators}
 use Rattle.tv_formula.specs.Properties.{Property, truth, compare, at, term, negated, all_of, some_of, next, fix, Properties, none, more}
 use Rattle.tv_linear.specs.declared.region.Region.{Region}
 use Rattle.tv_cases.specs.LinearCases.{CaseSystem}
 use Rattle.tv_cert.specs.declared.node.Marked.{Marked}
 use Rattle.tv_cert.specs.declared.node.Proof.{Proof}
-use Rattle.tv_cert.specs.declared.node.Proof.TheVariants.{Covered, Chosen}
 use Rattle.tv_cert.specs.declared.node.Node.{Node, Node', Row_of-Node, end_of-Node, more_of-Node, items-the_row-Node, outs-Node'}
 use Rattle.tv_cert.specs.Claims.{about_with}
 use Rattle.tv_cert.specs.Listed.{pieces_list}
 use Rattle.tv_cert.specs.Nodes.{parts, kid_pieces, kid_entries, size, own_of}
-use Rattle.tv_cert.specs.Obligations.{Entry, Obligation, Owed, a_cover, a_choice, a_point, AllMet, paired}
+use Rattle.tv_cert.specs.Obligations.{AllMet, paired}
 use Rattle.tv_cert.specs.Statements.{Statement, stated}
-use Rattle.tv_cert.specs.Shapes.{ProofShape, OwnShape, KidsShape, HaveShapes, IsSaid, may_rank, may_be_done}
+use Rattle.tv_cert.specs.Shapes.{OwnShape, KidsShape, HaveShapes, IsSaid, may_rank, may_be_done}
 use Rattle.tv_cert.proofs.StatedLemmas.{parts-stated, entries_are}
 use Rattle.tv_cert.proofs.NodeLemmas.{out_is, pieces_are, kid_pieces_are}
 use Rattle.tv_shape.specs.Depths.{proof_splits}

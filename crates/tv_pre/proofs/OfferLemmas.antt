@@ -7,7 +7,6 @@ use Rattle.tv_linear.specs.Known.{Known, given, as_given}
 use Rattle.tv_linear.specs.Covers.{IsMetCover}
 use Rattle.tv_linear.specs.Depth.{splits}
 use Rattle.tv_linear.specs.declared.cover.CoverTree.{CoverTree}
-use Rattle.tv_linear.specs.declared.cover.CoverTree as cover
 use Rattle.tv_linear.specs.declared.region.Piece.{Piece}
 use Rattle.tv_linear.specs.Same.{AreSame, OwedSame}
 use Rattle.tv_linear.proofs.SameLemmas.{same_self, all_same, cover_same}
@@ -17,7 +16,7 @@ use Rattle.tv_cert.specs.declared.node.Marked.{Marked}
 use Rattle.tv_cert.specs.Pieces.{place_of, rows_of, pieces_at}
 use Rattle.tv_cert.specs.Targets.{owed_into, target_rows, no_fall}
 use Rattle.tv_cover.specs.Targets.{owed_lists, IsInTarget, IsOutside}
-use Rattle.tv_cover.specs.Covering.{IsHole, IsSplitRow}
+use Rattle.tv_cover.specs.Covering.{IsHole}
 use Rattle.tv_region.specs.Regions.{lists_at}
 use Rattle.tv_shape.specs.Narrow.{CoverNarrow}
 use Rattle.tv_choice.specs.Leading.{piece_rows}

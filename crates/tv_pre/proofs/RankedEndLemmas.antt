@@ -1,6 +1,5 @@
 -- The node of a ranking as a part.
 use Rattle.std.proofs.Common.{◌≡◌, ℕ, suc, ◌+◌, ◌<◌, ◌≤◌, List, [], ◌∷◌, ◌++◌, length, map, get_or, take, All, Some, slice_get, Bool, true, false, cond, ◌==◌, arith, sym, ap, ◌∙◌, subst}
-use Rattle.std.specs.List.{AllZip}
 use Rattle.std.proofs.lemmas.Bool.Decides.{nat_tests}
 use Rattle.std.proofs.Math.Seq.{take-suc}
 use Rattle.std.proofs.lemmas.List.Elements.{All-nil, All-cons, All-head, All-tail, All-push}
@@ -10,18 +9,16 @@ use Rattle.tv_linear.specs.declared.region.Piece.{Piece}
 use Rattle.tv_linear.specs.declared.region.Region.{Region}
 use Rattle.tv_cases.specs.LinearCases.{CaseSystem}
 use Rattle.tv_cert.specs.declared.node.Marked.{Marked}
-use Rattle.tv_cert.specs.declared.node.Proof.{Proof}
 use Rattle.tv_cert.specs.declared.node.Node.{Node, Node', Row_of-Node, end_of-Node, more_of-Node}
 use Rattle.tv_cert.specs.Claims.{about_with}
 use Rattle.tv_cert.specs.Listed.{pieces_list}
 use Rattle.tv_cert.specs.Nodes.{pieces_of}
-use Rattle.tv_cert.specs.Obligations.{About, Obligation}
+use Rattle.tv_cert.specs.Obligations.{About}
 use Rattle.tv_cert.specs.Pieces.{place_of, rows_of, pieces_at}
-use Rattle.tv_cert.specs.Shapes.{ProofShape, HasShape, HaveShapes}
+use Rattle.tv_cert.specs.Shapes.{HasShape, HaveShapes}
 use Rattle.tv_cert.proofs.NodeLemmas.{pieces_are}
-use Rattle.tv_shape.specs.Depths.{proof_splits}
 use Rattle.tv_shape.specs.Fitting.{GoesWithin, KidsGoWithin}
-use Rattle.tv_shape.proofs.MadeLemmas.{shape_shallow, shapes_shallow}
+use Rattle.tv_shape.proofs.MadeLemmas.{shapes_shallow}
 use Rattle.tv_region.specs.Regions.{IsPieceOf, IsRegion}
 use Rattle.tv_lexrank.specs.Nodes.{IsPieceAt, IsRankedNode}
 use Rattle.tv_pre.specs.Growing.{IsEverywhere}

@@ -1,5 +1,5 @@
 -- Regions made of those of the arguments of a formula, as sets of states.
-use Rattle.std.proofs.Common.{◌≡◌, inl, inr, ℕ, zero, suc, ◌+◌, ◌<◌, ◌≤◌, List, [], ◌∷◌, length, get_or, take, refl, sym, ap, subst, arith, true, false}
+use Rattle.std.proofs.Common.{◌≡◌, inl, inr, ℕ, ◌+◌, ◌<◌, ◌≤◌, List, [], ◌∷◌, length, get_or, take, sym, subst, arith, true, false}
 use Rattle.std.specs.Prelude.{All, Contains, sum}
 use Rattle.std.proofs.lemmas.List.Elements.{All-nil, All-get_or, All-weaker, All-more, Contains-get_or, Contains-append_left, Contains-append_right}
 use Rattle.tv_formula.specs.declared.tree.Path.{Path}

@@ -1,7 +1,6 @@
 -- How many pieces the regions of a formula have.
 use Rattle.std.proofs.Common.{◌≡◌, inl, inr, ℕ, zero, suc, ◌+◌, ◌*◌, ◌<◌, ◌≤◌, List, [], ◌∷◌, ◌++◌, length, length-append, get_or, take, map, refl, sym, ap, ◌∙◌, subst, arith, Bool, true, false, cond}
 use Rattle.std.specs.Prelude.{All, max, sum}
-use Rattle.std.proofs.Math.Nat.{le-max_left}
 use Rattle.std.proofs.lemmas.List.{take_more, map-append}
 use Rattle.std.proofs.lemmas.List.Elements.{All-contains}
 use Rattle.tv_program.specs.declared.tree.Relation.{Relation}
@@ -34,7 +33,7 @@ use Rattle.tv_rounds.specs.Sides.{OnWay, AtEnd, IsSettledBy}
 use Rattle.tv_rounds.specs.Calls.{IsNowhere}
 use Rattle.tv_rounds.specs.Counts.{AreCounts, added_bound}
 use Rattle.tv_rounds.specs.Answers.{IsRound, AreLayers, AreOpen}
-use Rattle.tv_rounds.proofs.CountLemmas.{times, back_few}
+use Rattle.tv_rounds.proofs.CountLemmas.{times, all_one, back_few}
 use Rattle.tv_pre.specs.declared.sides.Sides.{Sides}
 use Rattle.tv_pre.specs.Along.{IsOfSides}
 use Rattle.tv_pre.specs.Around.{two_ends}
@@ -50,7 +49,7 @@ use Rattle.tv_pre.proofs.SettledRounds.{short_settles}
 pub trans : (a b c : ℕ) → a ≤ b → b ≤ c → a ≤ c
 trans a b c h k = omega (arith, h, k)
 
-itself : (n : ℕ) → n ≤ n
+pub itself : (n : ℕ) → n ≤ n
 itself n = omega arith
 
 pub none_less : (n : ℕ) → 0 ≤ n
@@ -62,14 +61,11 @@ plus a b c d h k = omega (arith, h, k)
 times_one : (a b : ℕ) → 1 ≤ b → a ≤ a * b
 times_one a b l = grind arith
 
-two_ones : (a b : ℕ) → 1 ≤ a → 1 ≤ b → 1 ≤ a * b
-two_ones a b l m = grind arith
-
 pub product_last : (ns : List ℕ) (n : ℕ) → product (ns ++ n ∷ []) ≡ product ns * n
 product_last [] n = grind arith
 product_last (m ∷ ns) n = (let e = product_last ns n in grind (arith, e))
 
-sum_last : (ns : List ℕ) (n : ℕ) → sum (ns ++ n ∷ []) ≡ sum ns + n
+pub sum_last : (ns : List ℕ) (n : ℕ) → sum (ns ++ n ∷ []) ≡ sum ns + n
 sum_last [] n = (let e = sum-cons n [] in omega (arith, e))
 sum_last (m ∷ ns) n = (let a = sum-cons m (ns ++ n ∷ []) in let b = sum-cons m ns in let c = sum_last ns n in omega (arith, a, b, c))
 
@@ -84,20 +80,10 @@ product_up : (g h : LinearCase → ℕ) → ((c : LinearCase) → g c ≤ h c) �
 product_up g h w [] = omega arith
 product_up g h w (c ∷ cs) = times (g c) (product (map g cs)) (h c) (product (map h cs)) (w c) (product_up g h w cs)
 
-product_one : (g : LinearCase → ℕ) → ((c : LinearCase) → 1 ≤ g c) → (cs : List LinearCase) → 1 ≤ product (map g cs)
-product_one g w [] = omega arith
-product_one g w (c ∷ cs) = two_ones (g c) (product (map g cs)) (w c) (product_one g w cs)
-
-all_of_none : (cases : List LinearCase) (l : ℕ) → all_count cases (λ k. 0) l ≤ stop_count cases l
+pub all_of_none : (cases : List LinearCase) (l : ℕ) → all_count cases (λ k. 0) l ≤ stop_count cases l
 all_of_none cases l =
     product_up (λ c. max 1 (length c.guards + 0)) (λ c. max 1 (length c.guards))
     (λ c. (let e : length c.guards + 0 ≡ length c.guards = omega arith in subst (λ n. max 1 n ≤ max 1 (length c.guards)) (sym e) (itself (max 1 (length c.guards))))) (leaving l cases)
-
-pub all_one : (cases : List LinearCase) (b : ℕ → ℕ) (l : ℕ) → 1 ≤ all_count cases b l
-all_one cases b l = product_one (λ c. max 1 (length c.guards + b c.to)) (λ c. le-max_left 1 (length c.guards + b c.to)) (leaving l cases)
-
-pub some_one : (cases : List LinearCase) (b : ℕ → ℕ) (l : ℕ) → 1 ≤ some_count cases b l
-some_one cases b l = le-max_left 1 (sum (map (λ c. b c.to) (leaving l cases)))
 
 pub term_one : (cases : List LinearCase) (m l : ℕ) → 1 ≤ term_count cases m l
 term_one cases m l =
@@ -190,7 +176,7 @@ module _ (sides : Sides) (f g : ℕ → ℕ) (h : AreCounted sides f g) where
   pub side_few : (hold : Region) → hold ≡ hold_side sides.shape sides.first.now sides.second.now → (l : ℕ) → count_at l hold ≤ hold_count sides.shape f g l
   side_few hold e l = subst (λ r. count_at l r ≤ hold_count sides.shape f g l) (sym e) (hold_few sides.shape sides.first.now sides.second.now f g l (h.first l) (h.second l))
 
-  sides_counted : (end : Region) (point : FixedPoint) → IsOfSides sides end point → IsFewEnd sides end → AreCounts point (hold_count sides.shape f g) (end_count sides.shape f g)
+  pub sides_counted : (end : Region) (point : FixedPoint) → IsOfSides sides end point → IsFewEnd sides end → AreCounts point (hold_count sides.shape f g) (end_count sides.shape f g)
   sides_counted end point of few = record {
     hold = side_few point.hold.now of.hold;
     end = λ l. subst (λ r. count_at l r ≤ end_count sides.shape f g l) (sym of.ends) (few f g h l);
@@ -207,13 +193,13 @@ going_few about sides all goes hold region a e few is plain f g h l =
     (times (count_at l hold) (count_at l goes) (hold_count sides.shape f g l) (some_count about.cases (λ k. 1) l) (side_few sides f g h hold e l) (few plain (λ k. 1) (everywhere_few about all a) l))
 
 -- ---- the end
-one_end_of : (shape : Shape) (f g : ℕ → ℕ) (l : ℕ) → two_ends shape ≡ false → end_count shape f g l ≡ g l
+pub one_end_of : (shape : Shape) (f g : ℕ → ℕ) (l : ℕ) → two_ends shape ≡ false → end_count shape f g l ≡ g l
 one_end_of Until f g l e = refl
 one_end_of Weak f g l e = refl
 one_end_of Release f g l e = absurd cc
 one_end_of Strong f g l e = absurd cc
 
-two_ends_of : (shape : Shape) (f g : ℕ → ℕ) (l : ℕ) → two_ends shape ≡ true → end_count shape f g l ≡ f l * g l
+pub two_ends_of : (shape : Shape) (f g : ℕ → ℕ) (l : ℕ) → two_ends shape ≡ true → end_count shape f g l ≡ f l * g l
 two_ends_of Until f g l e = absurd cc
 two_ends_of Weak f g l e = absurd cc
 two_ends_of Release f g l e = refl
@@ -242,7 +228,7 @@ shrinking_round Strong e cases path f g k l = absurd cc
 shrinking_round Weak e cases path f g k l = refl
 shrinking_round Release e cases path f g k l = refl
 
-first_round : (shape : Shape) (cases : List LinearCase) (path : Path) (f g : ℕ → ℕ) (l : ℕ) → end_count shape f g l ≤ round_count cases path shape f g 0 l
+pub first_round : (shape : Shape) (cases : List LinearCase) (path : Path) (f g : ℕ → ℕ) (l : ℕ) → end_count shape f g l ≤ round_count cases path shape f g 0 l
 first_round Until cases path f g l = itself (g l)
 first_round Strong cases path f g l = itself (f l * g l)
 first_round Weak cases path f g l = later (f l) (g l) where
@@ -254,15 +240,15 @@ first_round Release cases path f g l = later (g l) (f l * g l) where
 
 module _ (about : CaseSystem) (sides : Sides) (f g : ℕ → ℕ) (last l : ℕ) where
   -- a number that one of the rounds up to the last counts
-  within : (n k : ℕ) → k ≤ last → n ≤ round_count about.cases sides.path sides.shape f g k l → n ≤ fix_count about.cases last sides.path sides.shape f g l
+  pub within : (n k : ℕ) → k ≤ last → n ≤ round_count about.cases sides.path sides.shape f g k l → n ≤ fix_count about.cases last sides.path sides.shape f g l
   within n k early h =
       let round = λ (j : ℕ). round_count about.cases sides.path sides.shape f g j l in
       trans n (round k) (fix_count about.cases last sides.path sides.shape f g l) h (up_to_greatest last round k early)
 
-  grown_within : must_end sides.shape ≡ true → (n k : ℕ) → k ≤ last → n ≤ growing_count about.cases sides.path (hold_count sides.shape f g) (end_count sides.shape f g) k l → n ≤ fix_count about.cases last sides.path sides.shape f g l
+  pub grown_within : must_end sides.shape ≡ true → (n k : ℕ) → k ≤ last → n ≤ growing_count about.cases sides.path (hold_count sides.shape f g) (end_count sides.shape f g) k l → n ≤ fix_count about.cases last sides.path sides.shape f g l
   grown_within must n k early h = within n k early (subst (λ j. n ≤ j) (growing_round sides.shape must about.cases sides.path f g k l) h)
 
-  shrunk_within : must_end sides.shape ≡ false → (n k : ℕ) → k ≤ last → n ≤ shrinking_count about.cases sides.path (hold_count sides.shape f g) (end_count sides.shape f g) k l → n ≤ fix_count about.cases last sides.path sides.shape f g l
+  pub shrunk_within : must_end sides.shape ≡ false → (n k : ℕ) → k ≤ last → n ≤ shrinking_count about.cases sides.path (hold_count sides.shape f g) (end_count sides.shape f g) k l → n ≤ fix_count about.cases last sides.path sides.shape f g l
   shrunk_within must n k early h = within n k early (subst (λ j. n ≤ j) (shrinking_round sides.shape must about.cases sides.path f g k l) h)
 
 -- the pieces of layers behind those of the round before them
@@ -276,7 +262,7 @@ layers_few about plain point h e counts l k n m (r ∷ rs) same base each =
     let q = joined_count l r rs in
     omega (arith, rest, q)
 
-last_is_one : (about : CaseSystem) (m : ℕ) → about.start < about.locations → IsLastRound about 9 m → 1 ≤ m
+pub last_is_one : (about : CaseSystem) (m : ℕ) → about.start < about.locations → IsLastRound about 9 m → 1 ≤ m
 last_is_one about m s (inl b) = (let y = b.1 in omega (arith, y))
 last_is_one about m s (inr b) = (let y = b.1 in omega (arith, y, s))
 

@@ -1,13 +1,11 @@
 -- Covers of steps, and why there is no hole where each step leads inside.
-use Rattle.std.proofs.Common.{◌≡◌, ℕ, zero, suc, ◌+◌, ◌-◌, ◌≤◌, List, [], ◌∷◌, ◌++◌, length, map, take, drop, All, Option, None, Some, Bool, true, false, cond, slice_get, ◌==◌, arith, refl, sym, ap, ◌∙◌, subst, ℤ, pos, ◌+ℤ◌, ◌*ℤ◌, ◌≤ℤ◌}
+use Rattle.std.proofs.Common.{◌≡◌, ℕ, zero, suc, ◌+◌, ◌≤◌, List, [], ◌∷◌, ◌++◌, length, map, take, drop, All, Option, None, Some, Bool, true, false, cond, slice_get, ◌==◌, arith, refl, sym, ap, ◌∙◌, subst, ℤ, pos, ◌≤ℤ◌}
 use Rattle.std.specs.Prelude.{Contains}
 use Rattle.std.specs.Option.{option_map}
-use Rattle.std.proofs.lemmas.Bool.Decides.{nat_tests}
-use Rattle.std.proofs.lemmas.Int.{ints}
 use Rattle.std.proofs.lemmas.List.Elements.{All-nil, All-cons, All-head, All-tail, All-contains}
 use Rattle.std.proofs.lemmas.Option.{slice_get_within, get_or_from_slice_get}
-use Rattle.tv_linear.specs.Linear.{Linear, columns, dot, value, IsMet}
-use Rattle.tv_linear.specs.Arithmetic.{zeros, padded_row}
+use Rattle.tv_linear.specs.Linear.{Linear, columns, value, IsMet}
+use Rattle.tv_linear.specs.Arithmetic.{padded_row}
 use Rattle.tv_linear.specs.Known.{Known, as_given, term_value}
 use Rattle.tv_linear.specs.Terms.{terms_after}
 use Rattle.tv_linear.specs.Covers.{IsMetCover}

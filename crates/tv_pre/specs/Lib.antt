@@ -17,6 +17,7 @@ pub mod Built
 pub mod Faults
 pub mod Unserved
 pub mod Sized
+pub mod Counted
 pub mod Finding
 pub mod Along
 pub mod Proving

@@ -1,6 +1,5 @@
 -- What is offered for the obligations of a node.
-use Rattle.std.specs.Prelude.{ℕ, List, ◌++◌, Some}
-use Rattle.std.specs.List.{AllZip}
+use Rattle.std.specs.Prelude.{ℕ, List, ◌++◌}
 use Rattle.tv_linear.specs.declared.cover.CoverTree.{CoverTree}
 use Rattle.tv_linear.specs.declared.choice.ChoiceTree.{ChoiceTree}
 use Rattle.tv_linear.specs.declared.region.Piece.{Piece}
@@ -11,11 +10,9 @@ use Rattle.tv_cert.specs.declared.node.Marked.{Marked}
 use Rattle.tv_cert.specs.declared.node.Proof.{Proof}
 use Rattle.tv_cert.specs.declared.node.Proof.TheVariants.{Covered, Chosen}
 use Rattle.tv_cert.specs.Claims.{about_with}
-use Rattle.tv_cert.specs.Obligations.{Obligation, OwedMet, cover_of, step_of, choice_of, choice_into}
-use Rattle.tv_cert.specs.Shapes.{ProofShape}
+use Rattle.tv_cert.specs.Obligations.{Obligation, cover_of, step_of, choice_of, choice_into}
 use Rattle.tv_cert.specs.Targets.{no_fall, owed_nothing}
 use Rattle.std.specs.Prelude.{Bool, false}
-use Rattle.tv_shape.specs.Narrow.{ProofNarrow}
 use Rattle.tv_shape.specs.Made.{IsOffered, Offers}
 use Rattle.tv_pre.specs.Pieces.{IsMarked, AreMarked}
 

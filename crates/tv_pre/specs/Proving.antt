@@ -23,6 +23,7 @@ use Rattle.tv_pre.specs.declared.deciding.Tried.TheVariants as tried
 use Rattle.tv_pre.specs.declared.deciding.Unproved.{Unproved}
 use Rattle.tv_pre.specs.declared.deciding.Unproved.TheVariants as unproved
 use Rattle.tv_pre.specs.Built.{IsBuilt, IsPreFault}
+use Rattle.tv_pre.specs.Counted.{IsCountedFor}
 use Rattle.tv_pre.specs.Finding.{IsGapOf, first_of, IsPartFor, IsFullFor, steps_back, size, AreAtomsOfDifferences, IsOpenAt, IsGapFor}
 use Rattle.tv_pre.specs.Full.{HasRows}
 use Rattle.tv_region.specs.Differences.{AreOfDifferences}
@@ -74,7 +75,8 @@ IsDisproofTried about claim (tried.Left gap) = IsDisproofLeft about (aim_states 
 
 -- A call on regions, or a question of them, was refused on the way to what was found; or a question of the start was, about what was found.
 pub data IsRefusedWith (about : CaseSystem) (s : Statement) (budget : Budget) (asks : List Piece → Question → Type 0) : PreFault → Type 0 where
-  of_formula : (fault : PreFault) → ((last : ℕ) → IsLastRound about 8 last → IsPreFault about s budget (steps_back last s) fault) → IsRefusedWith about s budget asks fault
+  of_formula : (fault : PreFault) → ((last : ℕ) → IsLastRound about 8 last → IsPreFault about s budget (steps_back last s) fault) →
+      IsCountedFor about s fault → IsRefusedWith about s budget asks fault
   of_start : (found : Found) (fault : CoverFault) → IsFoundOf about s found → IsRefusal about budget (asks (pieces_of found)) fault → IsRefusedWith about s budget asks (faults.Cover fault)
 
 -- of the formula, whether all states at the start lie in its region

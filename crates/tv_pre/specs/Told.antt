@@ -1,5 +1,5 @@
 -- When the search for a formula tells of no gap.
-use Rattle.std.specs.Prelude.{◌≡◌, ◌⊎◌, ℕ, List, Contains}
+use Rattle.std.specs.Prelude.{◌≡◌, ◌⊎◌, ℕ, ◌<◌, ◌≤◌, List, Contains}
 use Rattle.tv_program.specs.Steps.{State}
 use Rattle.tv_formula.specs.Normal.{normal}
 use Rattle.tv_formula.specs.declared.tree.Path.{Path}
@@ -14,12 +14,16 @@ use Rattle.tv_known.specs.Cycles.{HasCycle, IsLastRound}
 use Rattle.tv_known.specs.Laws.{IsRankedUntil}
 use Rattle.tv_known.specs.Ranking.{HasLexicographicRanking}
 use Rattle.tv_known.specs.Rounds.{IsSettled}
+use Rattle.tv_known.specs.Sizes.{IsSize}
 use Rattle.tv_known.specs.Subformulas.{subformulas, IsUnsettled}
 use Rattle.tv_rank.specs.declared.name.Name.{Name}
 use Rattle.tv_region.specs.StepRegions.{HasNoDraws}
+use Rattle.tv_region.specs.declared.fault.RegionFault.TheVariants as regions
 use Rattle.tv_simplex.specs.declared.fault.SolveFault.{SolveFault}
 use Rattle.tv_pre.specs.declared.gap.Gap.{Gap}
 use Rattle.tv_pre.specs.declared.deciding.Unproved.TheVariants as unproved
+use Rattle.tv_pre.specs.declared.fault.PreFault.TheVariants as faults
+use Rattle.tv_pre.specs.Counted.{HasParts}
 use Rattle.tv_pre.specs.Finding.{IsTameStatement, IsTerminal, IsPlainProgram}
 use Rattle.tv_pre.specs.Proving.{IsUnproved}
 use Rattle.tv_pre.specs.Unserved.{IsRankingRefused}
@@ -51,6 +55,14 @@ abbrev pub RankedUntilIsTold : CaseSystem → Claim → Property → Budget → 
 RankedUntilIsTold about claim f budget gap =
     IsClaimOn about claim f → HasNoDraws about → IsRankedUntil about f → (last : ℕ) → IsLastRound about 8 last
     → IsUnproved about claim budget (unproved.Left gap) → ⊥
+
+-- Where no case has a draw, and each conjunction and disjunction of the property has a part, a claim of it that is refused for too many pieces
+-- is refused for no more of them than the size of the property; and the limit is below that number.
+abbrev pub RefusalIsWithinSize : CaseSystem → Claim → Property → Budget → Type 0
+RefusalIsWithinSize about claim f budget =
+    IsClaimOn about claim f → HasNoDraws about → HasParts f → (location pieces : ℕ) →
+    IsUnproved about claim budget (unproved.Refused (faults.Region (regions.Disjuncts location pieces))) →
+    (n : ℕ) → IsSize about f n → (budget.disjuncts < pieces) × (pieces ≤ n)
 
 -- in a program without a cycle the round of the number of locations is settled
 abbrev pub AcyclicIsSettled : CaseSystem → Path → Shape → (State → Type 0) → (State → Type 0) → Type 0

@@ -1,10 +1,9 @@
 -- Why the ranks of a program do not serve for a fixed point that is to come to its end on every run.
-use Rattle.std.specs.Prelude.{◌≡◌, ◌⊎◌, ℕ, List, [], true}
+use Rattle.std.specs.Prelude.{◌≡◌, ◌⊎◌, ℕ, true}
 use Rattle.tv_program.specs.Steps.{State}
 use Rattle.tv_formula.specs.declared.tree.Path.TheVariants.{Every}
 use Rattle.tv_formula.specs.declared.tree.Shape.{Shape}
 use Rattle.tv_formula.specs.Properties.{Property, fix, term, negated}
-use Rattle.tv_linear.specs.declared.region.Piece.{Piece}
 use Rattle.tv_linear.specs.declared.region.Region.{Region}
 use Rattle.tv_simplex.specs.declared.fault.SolveFault.{SolveFault}
 use Rattle.tv_simplex.specs.declared.fault.SolveFault.TheVariants as solving
@@ -17,8 +16,6 @@ use Rattle.tv_rank.specs.declared.name.Name.{Name}
 use Rattle.tv_region.specs.StepRegions.{HasNoDraws, InState}
 use Rattle.tv_lexrank.specs.First.{RefusesFirst}
 use Rattle.tv_lexrank.specs.declared.fault.RankFault.TheVariants as ranks
-use Rattle.tv_pre.specs.Pieces.{InPieces}
-use Rattle.tv_pre.specs.Questions.{Question, lies, AsksOf}
 
 -- ---- the ranking
 
@@ -32,18 +29,6 @@ abbrev pub IsUnranked : CaseSystem → Type 0
 IsUnranked about = HasLexicographicRanking about → ⊥
 
 -- ---- the states
-
--- none of the pieces has a state of the program
-abbrev pub AreVacant : CaseSystem → List Piece → Type 0
-AreVacant about qs = (s : State) → IsStateOf about s → InPieces qs s → ⊥
-
--- some piece has one
-abbrev pub SomeIsIn : CaseSystem → List Piece → Type 0
-SomeIsIn about qs = (s : State) × IsStateOf about s × InPieces qs s
-
--- whether each of the pieces lies in no piece at all
-abbrev pub AsksVacant : List Piece → Question → Type 0
-AsksVacant qs a = AsksOf (λ q b. b ≡ lies q []) qs a
 
 -- some state of the program is in neither region
 pub record SomeIsOutside (about : CaseSystem) (first second : Region) : Type 0 where

@@ -15,6 +15,7 @@ ghost use Rattle.tv_pre.specs.Atoms.{IsEvenTest};
 ghost use Rattle.tv_pre.specs.Built.{IsBuilt};
 ghost use Rattle.tv_pre.specs.Finding.{States, IsEvenStatement, AreEvenStatements, steps_back, size, first_of, gap_behind, IsGapOf, IsGapFor, IsWildStep, IsPartFor, IsFullFor, IsExactFor, HasNoGapIfPlain, IsFound, test_statement, IsRefusedFor};
 ghost use Rattle.tv_pre.specs.Sized.{IsFewFor};
+ghost use Rattle.tv_pre.specs.Counted.{IsCountedFor, AreCountedFor};
 ghost use Rattle.tv_pre.specs.Search.{system_of, IsSearch, IsRanking};
 ghost use Rattle.tv_pre.specs.Unserved.{IsUnranked};
 ghost use Rattle.tv_pre.specs.Arguments.{AreArguments, AreArgumentsOf};
@@ -114,6 +115,7 @@ fn ends_anew(search: &Search) -> Result<Found, PreFault>
     ensures found { IfOk result (IsFound (system_of search.now) search.now.last statements.ends) }
     ensures refused { let about = system_of search.now in
         IfErr result (IsRefusedFor about search.now.setting.now.budget.now search.now.last statements.ends) }
+    ensures counted { IfErr result (IsCountedFor (system_of search.now) statements.ends) }
 {
     let setting = search.setting;
     match ranks_of(setting)? {
@@ -133,6 +135,7 @@ fn ends_found(search: &Search) -> Result<Found, PreFault>
     ensures found { IfOk result (IsFound (system_of search.now) search.now.last statements.ends) }
     ensures refused { let about = system_of search.now in
         IfErr result (IsRefusedFor about search.now.setting.now.budget.now search.now.last statements.ends) }
+    ensures counted { IfErr result (IsCountedFor (system_of search.now) statements.ends) }
 {
     match &search.ranks {
         Some(Ranks::Lacking) => Ok(termination_found(search)?),
@@ -156,6 +159,7 @@ fn never_anew(search: &Search) -> Result<Found, PreFault>
     ensures found { IfOk result (IsFound (system_of search.now) search.now.last statements.never_ends) }
     ensures refused { let about = system_of search.now in
         IfErr result (IsRefusedFor about search.now.setting.now.budget.now search.now.last statements.never_ends) }
+    ensures counted { IfErr result (IsCountedFor (system_of search.now) statements.never_ends) }
 {
     match ranks_of(search.setting)? {
         Ranks::Known(ranking) => Ok(never_ranked(search, &ranking)?),
@@ -170,6 +174,7 @@ fn never_found(search: &Search) -> Result<Found, PreFault>
     ensures found { IfOk result (IsFound (system_of search.now) search.now.last statements.never_ends) }
     ensures refused { let about = system_of search.now in
         IfErr result (IsRefusedFor about search.now.setting.now.budget.now search.now.last statements.never_ends) }
+    ensures counted { IfErr result (IsCountedFor (system_of search.now) statements.never_ends) }
 {
     match &search.ranks {
         Some(Ranks::Known(ranking)) => Ok(never_ranked(search, ranking)?),
@@ -188,6 +193,9 @@ fn each_found(search: &Search, arguments: Arguments) -> Result<Found, PreFault>
     ensures refused { let about = system_of search.now in
         IfErr result (λ fault. (ss : List Statement) → AreArguments about search.now.last ss arguments →
         IsRefusedFor about search.now.setting.now.budget.now search.now.last (statements.each_of (statements_of ss)) fault) }
+    ensures counted { let about = system_of search.now in
+        IfErr result (λ fault. (ss : List Statement) → AreArguments about search.now.last ss arguments →
+        IsCountedFor about (statements.each_of (statements_of ss)) fault) }
 {
     let Arguments {
         regions,
@@ -211,6 +219,9 @@ fn some_found(search: &Search, arguments: Arguments) -> Result<Found, PreFault>
     ensures refused { let about = system_of search.now in
         IfErr result (λ fault. (ss : List Statement) → AreArguments about search.now.last ss arguments →
         IsRefusedFor about search.now.setting.now.budget.now search.now.last (statements.one_of (statements_of ss)) fault) }
+    ensures counted { let about = system_of search.now in
+        IfErr result (λ fault. (ss : List Statement) → AreArguments about search.now.last ss arguments →
+        IsCountedFor about (statements.one_of (statements_of ss)) fault) }
 {
     let Arguments {
         regions,
@@ -247,6 +258,8 @@ fn after_found(search: &Search, path: Path, child: Found) -> Result<Found, PreFa
     ensures refused { let about = system_of search.now in
         IfErr result (λ fault. (s : Statement) → IsFound about search.now.last s child →
         IsRefusedFor about search.now.setting.now.budget.now search.now.last (statements.after path s) fault) }
+    ensures counted { let about = system_of search.now in
+        IfErr result (λ fault. (s : Statement) → IsFound about search.now.last s child → IsCountedFor about (statements.after path s) fault) }
 {
     // That the cases are proper is known by this call.
     let _variables = search.setting.about.variables();
@@ -278,6 +291,9 @@ fn along_found(
     ensures refused { let about = system_of search.now in
         IfErr result (λ fault. (s t : Statement) → IsFound about search.now.last s first → IsFound about search.now.last t second →
         IsRefusedFor about search.now.setting.now.budget.now search.now.last (statements.along path shape s t) fault) }
+    ensures counted { let about = system_of search.now in
+        IfErr result (λ fault. (s t : Statement) → IsFound about search.now.last s first → IsFound about search.now.last t second →
+        IsCountedFor about (statements.along path shape s t) fault) }
 {
     // That the cases are proper is known by this call.
     let _variables = search.setting.about.variables();
@@ -318,6 +334,7 @@ fn all_found(search: &Search, aims: &[Aim]) -> Result<Arguments, PreFault>
     ensures refused_one { let about = system_of search.now in
         let s = statements.one_of (aims_state aims.now) in
         IfErr result (IsRefusedFor about search.now.setting.now.budget.now search.now.last s) }
+    ensures counted { IfErr result (AreCountedFor (system_of search.now) (aims_state aims.now)) }
 {
     let mut arguments = no_arguments(search.setting.alloc);
     'aims: for aim in aims {
@@ -335,6 +352,7 @@ fn found_of(search: &Search, aim: &Aim) -> Result<Found, PreFault>
     ensures found { IfOk result (IsFound (system_of search.now) search.now.last (aim_states aim.now)) }
     ensures refused { let about = system_of search.now in
         IfErr result (IsRefusedFor about search.now.setting.now.budget.now search.now.last (aim_states aim.now)) }
+    ensures counted { IfErr result (IsCountedFor (system_of search.now) (aim_states aim.now)) }
 {
     match aim {
         Aim::Rows(lists) => atom_found(search, &Test::Rows(lists)),
@@ -402,6 +420,7 @@ pub fn found(setting: &Setting, aim: &Aim) -> Result<Found, PreFault>
     ensures refused { let system = cases_of setting.now.about.now in
         IfErr result (λ fault. (last : ℕ) → IsLastRound system 8 last →
         IsRefusedFor system setting.now.budget.now last (aim_states aim.now) fault) }
+    ensures counted { IfErr result (IsCountedFor (cases_of setting.now.about.now) (aim_states aim.now)) }
 {
     // That the cases are proper is known by this call.
     let _variables = setting.about.variables();

@@ -11,7 +11,7 @@ ghost use Rattle.tv_pre.specs.declared.gap.Gap.{Gap};
 ghost use Rattle.tv_linear.specs.declared.region.Region.{Region};
 ghost use Rattle.tv_pre.specs.Full.{FullHasAll, FullTell};
 ghost use Rattle.tv_pre.specs.Sized.{FewIsWithinSize};
-ghost use Rattle.tv_pre.specs.Told.{AcyclicIsSettled, NoneIsUnsettled, SettledIsTold, PlainIsTold, RankedUntilIsTold, AcyclicIsRanked, AcyclicIsUnrefused};
+ghost use Rattle.tv_pre.specs.Told.{AcyclicIsSettled, NoneIsUnsettled, SettledIsTold, PlainIsTold, RankedUntilIsTold, AcyclicIsRanked, AcyclicIsUnrefused, RefusalIsWithinSize};
 
 use tv_known::Sides;
 
@@ -54,4 +54,11 @@ pub fn acyclic_programs_are_ranked()
 /// normal form or negation the formula stands.
 pub fn regions_are_within_size()
     ensures { (about : CaseSystem) (f part : Property) (region : Region) → FewIsWithinSize about f part region }
+{}
+
+/// Where no case has a draw, a claim of a property whose conjunctions and disjunctions have parts is refused for too many pieces only where the
+/// limit is below the size of the property: the number that is told is above the limit, and no greater than the size.
+pub fn refusals_are_within_size()
+    ensures { (about : CaseSystem) → AreCases about → (claim : Claim) (f : Property) (budget : Budget) →
+        RefusalIsWithinSize about claim f budget }
 {}

@@ -5,6 +5,7 @@ mod after;
 mod along;
 mod asking;
 mod atoms;
+mod between;
 mod coming;
 mod cycle;
 mod deciding;
@@ -46,7 +47,6 @@ mod staying;
 mod targets;
 mod test;
 mod trees;
-mod vacant;
 mod wide;
 
 pub use after::next;
@@ -61,7 +61,7 @@ pub use growing::until;
 pub use junction::{each_of, one_of};
 pub use laws::{
     acyclic_programs_are_ranked, acyclic_rounds_settle, full_regions_tell, ranked_untils_are_told,
-    regions_are_within_size, settled_claims_are_told,
+    refusals_are_within_size, regions_are_within_size, settled_claims_are_told,
 };
 pub use outcome::Found;
 pub use part::Part;

@@ -8,6 +8,7 @@ ghost use Rattle.tv_known.specs.Rounds.{must_end};
 ghost use Rattle.tv_lexrank.specs.Nodes.{IsRankedBy};
 ghost use Rattle.tv_region.specs.Regions.{IsRegion};
 ghost use Rattle.tv_pre.specs.Along.{arguments, AreAtEnd};
+ghost use Rattle.tv_pre.specs.Counted.{IsNoCall, IsCountedGoing, IsCountedAlong, IsUntoldCount};
 ghost use Rattle.tv_pre.specs.Built.{IsBuiltOf, IsFaultOf};
 ghost use Rattle.tv_pre.specs.Fixed.{AreOver};
 ghost use Rattle.tv_pre.specs.Parts.{joined_pieces};
@@ -15,15 +16,15 @@ ghost use Rattle.tv_pre.specs.RankedAlong.{AreGoing, HasAll, IsRankedAlong, IsUn
 ghost use Rattle.tv_pre.specs.Sized.{IsFewEnd, IsFewGoing, IsFewRanked};
 ghost use Rattle.tv_pre.specs.Unserved.{SomeIsOutside};
 
+use crate::between::lie_between;
 use crate::coming::everywhere;
 use crate::ends::hold_of;
 use crate::regions::back_into;
-use crate::vacant::are_vacant;
 use crate::{Part, PreFault, RankedCases, Setting, Sides, ranked_until};
 use tv_cert::Node;
 use tv_formula::Path;
 use tv_linear::Region;
-use tv_region::{both, complement, either};
+use tv_region::both;
 
 /// What the ranks of a program tell of a fixed point that is to come to an end.
 #[derive(Drop)]
@@ -50,6 +51,7 @@ fn going(setting: &Setting, sides: &Sides) -> Result<Region, PreFault>
     ensures few { IfOk result (IsFewGoing (cases_of setting.now.about.now) sides.now) }
     ensures built { IfOk result (IsBuiltOf (cases_of setting.now.about.now) 1 (arguments sides.now)) }
     ensures refused { IfErr result (IsFaultOf (cases_of setting.now.about.now) setting.now.budget.now 1 (arguments sides.now)) }
+    ensures counted { IfErr result (IsCountedGoing (cases_of setting.now.about.now) sides.now) }
 {
     let _variables = setting.about.variables();
     let anywhere = everywhere(setting.alloc, setting.about)?;
@@ -57,7 +59,7 @@ fn going(setting: &Setting, sides: &Sides) -> Result<Region, PreFault>
     Ok(both(setting.alloc, hold_of(sides), &goes, setting.budget)?)
 }
 
-/// Whether every state is in one of the two regions.
+/// Whether every state is in one of the two regions. No region is made of them for that: each of all states is covered by their pieces.
 fn have_all(setting: &Setting, end: &Region, onward: &Region) -> Result<bool, PreFault>
     requires splits { setting.now.budget.now.splits ≤ 128 }
     requires end { IsRegion (cases_of setting.now.about.now).variables (cases_of setting.now.about.now).locations end.now }
@@ -66,11 +68,10 @@ fn have_all(setting: &Setting, end: &Region, onward: &Region) -> Result<bool, Pr
         IfOk result (λ all. IsTrue all → HasAll about (joined_pieces (end.now ∷ onward.now ∷ []))) }
     ensures others { IfOk result (λ all. IsFalse all → SomeIsOutside (cases_of setting.now.about.now) end.now onward.now) }
     ensures refused { IfErr result (IsFaultOf (cases_of setting.now.about.now) setting.now.budget.now 0 (end.now ∷ onward.now ∷ [])) }
+    ensures no_call { IfErr result IsNoCall }
 {
-    let _variables = setting.about.variables();
-    let whole = either(setting.alloc, end, onward, setting.budget)?;
-    let rest = complement(setting.alloc, &whole, setting.budget)?;
-    Ok(are_vacant(setting, &rest.pieces)?)
+    let anywhere = everywhere(setting.alloc, setting.about)?;
+    Ok(lie_between(setting, &anywhere.pieces, end, onward)?)
 }
 
 /// The part of an until or a strong until over every run in a program whose states are all ranked, where every state is at the end, or on
@@ -92,7 +93,9 @@ pub(crate) fn ranked_along(
     ensures along { IfOk result (IsRankedAlong (cases_of setting.now.about.now) sides.now children.items end) }
     ensures few { IfOk result (IsFewRanked (cases_of setting.now.about.now) sides.now) }
     ensures untold { IfOk result (IsUntoldAlong (cases_of setting.now.about.now) setting.now.budget.now sides.now end) }
+    ensures untold_count { IfOk result (IsUntoldCount (cases_of setting.now.about.now) sides.now) }
     ensures refused { IfErr result (IsFaultOf (cases_of setting.now.about.now) setting.now.budget.now 2 (end ∷ arguments sides.now)) }
+    ensures counted { IfErr result (IsCountedAlong (cases_of setting.now.about.now) sides.now) }
 {
     let _variables = setting.about.variables();
     let onward = going(setting, sides)?;

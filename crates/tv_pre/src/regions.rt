@@ -15,6 +15,7 @@ ghost use Rattle.tv_pre.specs.Parts.{joined_pieces};
 ghost use Rattle.tv_pre.specs.Fixed.{AreOver};
 ghost use Rattle.tv_pre.specs.Built.{IsBuiltOf, IsFaultOf};
 ghost use Rattle.tv_pre.specs.Sized.{IsFewBefore, IsFewEnd, counts_at};
+ghost use Rattle.tv_pre.specs.Counted.{IsWithin, IsCountedBefore, IsCountedEnd, some_counts_at};
 ghost use Rattle.tv_pre.specs.Along.{arguments, AreBefore, OthersLeadOut, AreAtEnd};
 
 use crate::coming::everywhere;
@@ -46,6 +47,7 @@ pub(crate) fn intersection(setting: &Setting, regions: &[Region]) -> Result<Regi
     ensures few { IfOk result (λ r. (l : ℕ) → count_at l r ≤ product (counts_at l regions.now)) }
     ensures built { IfOk result (IsBuiltOf (cases_of setting.now.about.now) 0 regions.now) }
     ensures refused { IfErr result (IsFaultOf (cases_of setting.now.about.now) setting.now.budget.now 0 regions.now) }
+    ensures counted { IfErr result (IsWithin (λ l. product (some_counts_at l regions.now))) }
 {
     let _variables = setting.about.variables();
     let mut common = everywhere(setting.alloc, setting.about)?;
@@ -66,6 +68,7 @@ pub(crate) fn union(setting: &Setting, regions: &[Region]) -> Result<Region, Pre
     ensures few { IfOk result (λ r. (l : ℕ) → count_at l r ≤ sum (counts_at l regions.now)) }
     ensures built { IfOk result (IsBuiltOf (cases_of setting.now.about.now) 0 regions.now) }
     ensures refused { IfErr result (IsFaultOf (cases_of setting.now.about.now) setting.now.budget.now 0 regions.now) }
+    ensures counted { IfErr result (IsWithin (λ l. sum (counts_at l regions.now))) }
 {
     let _variables = setting.about.variables();
     let mut whole = nowhere(setting);
@@ -83,6 +86,7 @@ pub(crate) fn back_into(setting: &Setting, path: Path, region: &Region) -> Resul
     ensures few { IfOk result (IsFewBefore (cases_of setting.now.about.now) path region.now) }
     ensures built { IfOk result (IsBuiltOf (cases_of setting.now.about.now) 1 (region.now ∷ [])) }
     ensures refused { IfErr result (IsFaultOf (cases_of setting.now.about.now) setting.now.budget.now 1 (region.now ∷ [])) }
+    ensures counted { IfErr result (IsCountedBefore (cases_of setting.now.about.now) path region.now) }
 {
     match path {
         Path::Every => { Ok(before_every(setting.alloc, setting.about, region, setting.budget)?) }
@@ -97,6 +101,7 @@ pub(crate) fn end_of(setting: &Setting, sides: &Sides) -> Result<Region, PreFaul
     ensures few { IfOk result (IsFewEnd sides.now) }
     ensures built { IfOk result (IsBuiltOf (cases_of setting.now.about.now) 0 (arguments sides.now)) }
     ensures refused { IfErr result (IsFaultOf (cases_of setting.now.about.now) setting.now.budget.now 0 (arguments sides.now)) }
+    ensures counted { IfErr result (IsCountedEnd sides.now) }
 {
     let _variables = setting.about.variables();
     let alloc = setting.alloc;

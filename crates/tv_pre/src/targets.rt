@@ -1,6 +1,6 @@
 // The pieces at a location as the targets of a cover.
 
-ghost use Rattle.std.specs.Prelude.{◌≡◌, ◌+◌, ◌++◌, ◌-◌, ◌^◌, ◌<◌, All, IfOk, length};
+ghost use Rattle.std.specs.Prelude.{◌≡◌, ◌+◌, ◌++◌, ◌-◌, ◌^◌, ◌<◌, [], ◌∷◌, All, IfOk, length};
 ghost use Rattle.std.specs.Result.{IfErr};
 ghost use Rattle.tv_linear.specs.Linear.{columns as width};
 ghost use Rattle.tv_cases.specs.Views.{case_view};
@@ -69,6 +69,25 @@ pub(crate) fn targets_in(
     'regions: for region in regions {
         push_targets(alloc, &region.pieces, location, &mut targets)?;
     }
+    if targets.len() > MOST_TARGETS {
+        return Err(AllocError);
+    }
+    Ok(targets)
+}
+
+/// The pieces of two regions at the location.
+pub(crate) fn targets_of_two(
+    alloc: Global,
+    first: &Region,
+    second: &Region,
+    location: u32,
+) -> Result<Vec<Poly>, AllocError>
+    ensures targets { IfOk result (λ v. lists_of v.items ≡ lists_at location (joined_pieces (first.now ∷ second.now ∷ []))) }
+    ensures few { IfOk result (λ v. length v.items < 2 ^ 32 - 1) }
+{
+    let mut targets = Vec::new(alloc);
+    push_targets(alloc, &first.pieces, location, &mut targets)?;
+    push_targets(alloc, &second.pieces, location, &mut targets)?;
     if targets.len() > MOST_TARGETS {
         return Err(AllocError);
     }

@@ -11,6 +11,8 @@ use Rattle.tv_pre.proofs.PassedLemmas.{passed_on, cover_fault}
 use Rattle.tv_pre.proofs.AskedLemmas.{ends_asked, staying_asked}
 use Rattle.tv_pre.proofs.AlongLemmas.{is_along, no_onward}
 use Rattle.tv_pre.proofs.SizedLemmas.{ended_few, none_joined, nowhere_joined}
+use Rattle.tv_pre.specs.Counted.{IsCountedAlong}
+use Rattle.tv_pre.proofs.CountedLemmas.{cover_along}
 use Rattle.tv_pre.proofs.along.at_end.Goals as goal
 
 pub until-requires-clause-layers : goal.until-requires-clause-layers
@@ -83,3 +85,15 @@ returns-in_ok-weak-clause-few c =
     let about = cases_of c.args.setting.now.about.now in
     let none = c.nowhere.result in
     ended_few about c.args.sides.now c.args.end c.in_ok-weak.field-0.region c.requires.end_few (none ∷ []) (nowhere_joined about none c.nowhere.ensures) c.in_ok-weak.ensures.region
+
+pub returns-in_err-until-clause-counted : goal.returns-in_err-until-clause-counted
+returns-in_err-until-clause-counted c =
+    let about = cases_of c.args.setting.now.about.now in
+    let sides = c.args.sides.now in
+    passed_on (IsCountedAlong about sides) c.from_residual.result c.from_residual.ensures.1 (cover_along about sides c.in_err-until.field-0.0)
+
+pub returns-in_err-weak-clause-counted : goal.returns-in_err-weak-clause-counted
+returns-in_err-weak-clause-counted c =
+    let about = cases_of c.args.setting.now.about.now in
+    let sides = c.args.sides.now in
+    passed_on (IsCountedAlong about sides) c.from_residual-in_err-weak.result c.from_residual-in_err-weak.ensures.1 (cover_along about sides c.in_err-weak.field-0.0)

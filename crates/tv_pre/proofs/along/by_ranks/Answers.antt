@@ -8,6 +8,7 @@ use Rattle.tv_pre.proofs.AlongLemmas.{along_less, given_less}
 use Rattle.tv_pre.proofs.PassedLemmas.{passed_on}
 use Rattle.tv_formula.specs.Properties.{fix}
 use Rattle.tv_pre.proofs.FullAlongLemmas.{all_full}
+use Rattle.tv_pre.specs.Counted.{IsUntoldCount}
 use Rattle.tv_pre.proofs.along.by_ranks.Goals as goal
 
 pub returns-in_err-part-clause-refused : goal.returns-in_err-part-clause-refused
@@ -48,3 +49,6 @@ returns-in-Some-clause-refused c =
 
 pub returns-in-Everywhere-clause-few : goal.returns-in-Everywhere-clause-few
 returns-in-Everywhere-clause-few c = subst (IsFewRanked (system_of c.args.search.now) c.args.sides.now) c.in-Everywhere.is c.in_ok-part.ensures.few
+
+pub returns-in-Some-clause-counted : goal.returns-in-Some-clause-counted
+returns-in-Some-clause-counted c = subst (IsUntoldCount (system_of c.args.search.now) c.args.sides.now) c.in-Untold.is c.in_ok-part.ensures.untold_count

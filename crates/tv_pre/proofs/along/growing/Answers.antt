@@ -12,6 +12,8 @@ use Rattle.tv_rounds.specs.Answers.{IsFullBy}
 use Rattle.tv_known.specs.Rounds.{must_end}
 use Rattle.tv_pre.proofs.FullAlongLemmas.{grown_full}
 use Rattle.tv_pre.proofs.SizedLemmas.{grown_few, last_before}
+use Rattle.tv_pre.specs.Counted.{IsCountedAlong}
+use Rattle.tv_pre.proofs.CountedLemmas.{cover_along}
 use Rattle.tv_pre.proofs.along.growing.Goals as goal
 
 pub returns-in_err-layers-clause-refused : goal.returns-in_err-layers-clause-refused
@@ -157,3 +159,15 @@ returns-clause-few c =
     let few : length layers ≤ last = omega (arith, count, early) in
     grown_few about sides end c.in_ok-part-in-Open.part.region c.requires.end_few c.requires.shape rounds.point rounds.of layers told.layers.each
     (λ m is. last_before about last m (length layers) c.requires.search.last is few) c.in_ok-part-in-Open.ensures.region
+
+pub returns-in_err-part-in-Settled-clause-counted : goal.returns-in_err-part-in-Settled-clause-counted
+returns-in_err-part-in-Settled-clause-counted c =
+    let about = system_of c.args.search.now in
+    let sides = c.args.sides.now in
+    passed_on (IsCountedAlong about sides) c.from_residual-in_err-part-in-Settled.result c.from_residual-in_err-part-in-Settled.ensures.1 (cover_along about sides c.in_err-part-in-Settled.field-0.0)
+
+pub returns-in_err-part-in-Open-clause-counted : goal.returns-in_err-part-in-Open-clause-counted
+returns-in_err-part-in-Open-clause-counted c =
+    let about = system_of c.args.search.now in
+    let sides = c.args.sides.now in
+    passed_on (IsCountedAlong about sides) c.from_residual-in_err-part-in-Open.result c.from_residual-in_err-part-in-Open.ensures.1 (cover_along about sides c.in_err-part-in-Open.field-0.0)

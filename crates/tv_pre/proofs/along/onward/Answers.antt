@@ -8,6 +8,8 @@ use Rattle.tv_pre.proofs.BuiltLemmas.{first_alone, rest_built, hold_built, built
 use Rattle.tv_pre.proofs.PassedLemmas.{passed_on, region_fault}
 use Rattle.tv_pre.proofs.SetLemmas.{onward_is, hold_over}
 use Rattle.tv_pre.proofs.SizedLemmas.{onward_few}
+use Rattle.tv_pre.specs.Counted.{IsCountedOnward}
+use Rattle.tv_pre.proofs.CountedLemmas.{staying_onward, onward_counted}
 use Rattle.tv_pre.proofs.along.onward.Goals as goal
 
 pub returns-in_err-stays-clause-refused : goal.returns-in_err-stays-clause-refused
@@ -65,3 +67,20 @@ returns-clause-built c =
 
 pub returns-clause-few : goal.returns-clause-few
 returns-clause-few c = onward_few (cases_of c.args.setting.now.about.now) c.args.sides.now c.args.region.now c.in_ok-stays.stays c.hold_of.result.now c.in_ok-both.field-0 c.hold_of.ensures c.in_ok-stays.ensures.few c.in_ok-both.ensures.both
+
+pub returns-in_err-stays-clause-counted : goal.returns-in_err-stays-clause-counted
+returns-in_err-stays-clause-counted c =
+    let about = cases_of c.args.setting.now.about.now in
+    let sides = c.args.sides.now in
+    let region = c.args.region.now in
+    let P = IsCountedOnward about sides region in
+    passed_on P c.from_residual.result c.from_residual.ensures.1
+    (λ r is. subst P (sym is) (staying_onward about sides region c.in_err-stays.field-0.0 c.in_err-stays.ensures.counted))
+
+pub returns-in_err-both-clause-counted : goal.returns-in_err-both-clause-counted
+returns-in_err-both-clause-counted c =
+    let about = cases_of c.args.setting.now.about.now in
+    let sides = c.args.sides.now in
+    let region = c.args.region.now in
+    passed_on (IsCountedOnward about sides region) c.from_residual-in_err-both.result c.from_residual-in_err-both.ensures.1
+    (λ r is. onward_counted about sides region c.in_ok-stays.stays c.hold_of.result.now c.args.setting.now.budget.now c.in_err-both.field-0.0 r c.hold_of.ensures c.in_ok-stays.ensures.few is c.in_err-both.ensures.refused)

@@ -7,6 +7,8 @@ use Rattle.tv_pre.specs.Built.{IsFaultOf}
 use Rattle.tv_pre.proofs.PassedLemmas.{passed_on, rounds_fault}
 use Rattle.tv_pre.proofs.BuiltLemmas.{fault_to}
 use Rattle.tv_pre.proofs.AlongLemmas.{tame_sides, over_sides, hold_side_built, end_side_built}
+use Rattle.tv_pre.specs.Counted.{IsCountedAlong}
+use Rattle.tv_pre.proofs.CountedLemmas.{rounds_along}
 use Rattle.tv_pre.proofs.along.rounds_of.Goals as goal
 
 pub rounds-requires-clause-sides : goal.rounds-requires-clause-sides
@@ -51,3 +53,15 @@ returns-clause-rounds c =
       exact = c.in_ok-answer.ensures.exact;
       full = c.in_ok-answer.ensures.full;
     }
+
+pub returns-in_err-answer-clause-counted : goal.returns-in_err-answer-clause-counted
+returns-in_err-answer-clause-counted c =
+    let about = system_of c.args.search.now in
+    let last = c.args.search.now.last in
+    let sides = c.args.sides.now in
+    let end = c.args.end.now in
+    let limits = c.variables-variables.ensures.limits in
+    let point : FixedPoint = record { path = sides.path; shape = sides.shape; hold = c.hold_of.result; end = c.args.end } in
+    let of : IsOfSides sides end point = record { path = refl; shape = refl; hold = c.hold_of.ensures; ends = refl } in
+    passed_on (IsCountedAlong about sides) c.from_residual.result c.from_residual.ensures.1
+    (λ r is. rounds_along about sides end c.requires.end_few point of limits.cases limits.starts last c.requires.search.last c.in_err-answer.field-0.0 r is c.in_err-answer.ensures.counted)

@@ -12,6 +12,8 @@ use Rattle.tv_rounds.specs.Answers.{IsFullBy}
 use Rattle.tv_known.specs.Rounds.{must_end}
 use Rattle.tv_pre.proofs.FullAlongLemmas.{shrunk_full}
 use Rattle.tv_pre.proofs.SizedLemmas.{shrunk_few, one_later}
+use Rattle.tv_pre.specs.Counted.{IsCountedAlong}
+use Rattle.tv_pre.proofs.CountedLemmas.{cover_along, onward_along}
 use Rattle.tv_pre.proofs.along.shrinking.Goals as goal
 
 pub returns-in_err-region-clause-refused : goal.returns-in_err-region-clause-refused
@@ -131,3 +133,27 @@ returns-in-Settled-clause-few c =
     let told = settled_round about last sides end c.in_ok-region.field-0 round at c.in-Settled.layers c.in-Settled.is c.requires.shape rounds in
     shrunk_few about sides end c.in_ok-part-in-Settled.part.region c.requires.end_few c.requires.shape rounds.point rounds.of at round c.in_ok-more-in-Settled.more told.round c.in_ok-more-in-Settled.ensures.few
     (λ m is. one_later about limits.cases last m at limits.starts c.requires.search.last is told.early false rounds.point told.open_before) c.in_ok-part-in-Settled.ensures.region
+
+pub returns-in_err-more-in-Settled-clause-counted : goal.returns-in_err-more-in-Settled-clause-counted
+returns-in_err-more-in-Settled-clause-counted c =
+    let about = system_of c.args.search.now in
+    let last = c.args.search.now.last in
+    let sides = c.args.sides.now in
+    let end = c.args.end in
+    let round = c.in-Settled.region in
+    let at = c.in-Settled.at in
+    let rounds = c.in_ok-region.ensures.rounds in
+    let limits = c.variables-variables.ensures.limits in
+    let told = settled_round about last sides end c.in_ok-region.field-0 round at c.in-Settled.layers c.in-Settled.is c.requires.shape rounds in
+    let fault = c.in_err-more-in-Settled.field-0.0 in
+    let P = IsCountedAlong about sides in
+    passed_on P c.from_residual-in_err-more-in-Settled.result c.from_residual-in_err-more-in-Settled.ensures.1
+    (λ r is. subst P (sym is)
+    (onward_along about sides end c.requires.end_few rounds.point rounds.of c.requires.shape at round told.round
+    (λ m o. one_later about limits.cases last m at limits.starts c.requires.search.last o told.early false rounds.point told.open_before) fault c.in_err-more-in-Settled.ensures.counted))
+
+pub returns-in_err-part-in-Settled-clause-counted : goal.returns-in_err-part-in-Settled-clause-counted
+returns-in_err-part-in-Settled-clause-counted c =
+    let about = system_of c.args.search.now in
+    let sides = c.args.sides.now in
+    passed_on (IsCountedAlong about sides) c.from_residual-in_err-part-in-Settled.result c.from_residual-in_err-part-in-Settled.ensures.1 (cover_along about sides c.in_err-part-in-Settled.field-0.0)

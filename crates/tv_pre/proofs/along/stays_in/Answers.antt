@@ -5,6 +5,8 @@ use Rattle.tv_pre.proofs.BuiltLemmas.{one_built}
 use Rattle.tv_pre.proofs.PassedLemmas.{passed_on, region_fault}
 use Rattle.tv_pre.proofs.SetLemmas.{every_stays_at, any_stays_at}
 use Rattle.tv_pre.proofs.SizedLemmas.{every_few, any_few}
+use Rattle.tv_pre.specs.Counted.{IsCountedStaying}
+use Rattle.tv_pre.proofs.CountedLemmas.{before_staying, stops_staying, stay_counted}
 use Rattle.tv_pre.proofs.along.stays_in.Goals as goal
 
 pub returns-in_err-stops-in-Any-clause-refused : goal.returns-in_err-stops-in-Any-clause-refused
@@ -51,3 +53,26 @@ pub returns-in_ok-either-in-Any-clause-few : goal.returns-in_ok-either-in-Any-cl
 returns-in_ok-either-in-Any-clause-few c =
     let about = cases_of c.args.setting.now.about.now in
     any_few about c.args.path c.args.region.now c.in_ok-back.back c.nowhere.result c.in_ok-stops-in-Any.stops c.in_ok-either-in-Any.field-0 c.in-Any.is c.nowhere.ensures c.in_ok-back.ensures.few c.in_ok-stops-in-Any.ensures.few c.in_ok-either-in-Any.ensures.either
+
+pub returns-in_err-back-clause-counted : goal.returns-in_err-back-clause-counted
+returns-in_err-back-clause-counted c =
+    let about = cases_of c.args.setting.now.about.now in
+    let region = c.args.region.now in
+    let P = IsCountedStaying about c.args.path region in
+    passed_on P c.from_residual.result c.from_residual.ensures.1
+    (λ r is. subst P (sym is) (before_staying about c.args.path region c.in_err-back.field-0.0 c.in_err-back.ensures.counted))
+
+pub returns-in_err-stops-in-Any-clause-counted : goal.returns-in_err-stops-in-Any-clause-counted
+returns-in_err-stops-in-Any-clause-counted c =
+    let about = cases_of c.args.setting.now.about.now in
+    let region = c.args.region.now in
+    let P = IsCountedStaying about c.args.path region in
+    passed_on P c.from_residual-in_err-stops-in-Any.result c.from_residual-in_err-stops-in-Any.ensures.1
+    (λ r is. subst P (sym is) (stops_staying about c.args.path region c.nowhere.result c.in_err-stops-in-Any.field-0.0 c.in-Any.is c.nowhere.ensures c.in_err-stops-in-Any.ensures.counted))
+
+pub returns-in_err-either-in-Any-clause-counted : goal.returns-in_err-either-in-Any-clause-counted
+returns-in_err-either-in-Any-clause-counted c =
+    let about = cases_of c.args.setting.now.about.now in
+    let region = c.args.region.now in
+    passed_on (IsCountedStaying about c.args.path region) c.from_residual-in_err-either-in-Any.result c.from_residual-in_err-either-in-Any.ensures.1
+    (λ r is. stay_counted about c.args.path region c.in_ok-back.back c.nowhere.result c.in_ok-stops-in-Any.stops c.args.setting.now.budget.now c.in_err-either-in-Any.field-0.0 r c.in-Any.is c.nowhere.ensures c.in_ok-back.ensures.few c.in_ok-stops-in-Any.ensures.few is c.in_err-either-in-Any.ensures.refused)

@@ -8,7 +8,7 @@ use Rattle.tv_pre.proofs.DecidingLemmas.{left_none, left_gap, left_by, not_left}
 use Rattle.tv_pre.proofs.deciding.left.Goals as goal
 
 pub returns-in-Err : goal.returns-in-Err
-returns-in-Err c = inl (of_formula Memory (λ last h. tt))
+returns-in-Err c = inl (of_formula Memory (λ last h. tt) (λ plain last is f parts e. tt))
 
 pub returns-in-Ok-Some : goal.returns-in-Ok-Some
 returns-in-Ok-Some c =

@@ -6,6 +6,7 @@ use Rattle.tv_cert.specs.AimViews.{aim_states}
 use Rattle.tv_pre.specs.declared.fault.PreFault.TheVariants.{Memory}
 use Rattle.tv_pre.specs.Questions.{IsRefusal}
 use Rattle.tv_pre.specs.Starting.{HasNoStart, IsInside, AsksEmpty}
+use Rattle.tv_pre.specs.Counted.{IsCountedFor}
 use Rattle.tv_pre.specs.Proving.{of_formula, of_start}
 use Rattle.tv_pre.proofs.DecidingLemmas.{states_of, found_of, fault_of}
 use Rattle.tv_pre.proofs.StartLemmas.{inside_of}
@@ -17,7 +18,7 @@ returns-in-Err-clause-refused c =
     let t = aim_states c.denied_aim.result.now in
     let s = aim_states c.args.claim.now.denied_aim in
     let e : t ≡ s = c.denied_aim.ensures ∙ sym c.requires.states.denied in
-    of_formula c.in-Err.fault (fault_of about t s c.args.setting.now.budget.now c.in-Err.fault e c.in-Err.ensures.refused)
+    of_formula c.in-Err.fault (fault_of about t s c.args.setting.now.budget.now c.in-Err.fault e c.in-Err.ensures.refused) (subst (λ u. IsCountedFor about u c.in-Err.fault) e c.in-Err.ensures.counted)
 
 pub returns-in-Err-first_inside-clause-refused : goal.returns-in-Err-first_inside-clause-refused
 returns-in-Err-first_inside-clause-refused c =
@@ -56,4 +57,4 @@ disproved_certificate-requires-clause-inside c =
     inside_of about found.part.region.pieces.items _ c.in-Ok-Some.field-0-0 part.pieces (subst (λ qs. IsInside about qs c.in-Ok-Some.field-0-0) c.deref.ensures.value h)
 
 pub returns-in-Err-disproved_certificate-clause-refused : goal.returns-in-Err-disproved_certificate-clause-refused
-returns-in-Err-disproved_certificate-clause-refused c = of_formula Memory (λ last h. tt)
+returns-in-Err-disproved_certificate-clause-refused c = of_formula Memory (λ last h. tt) (λ plain last is f parts e. tt)

@@ -5,6 +5,7 @@ use Rattle.tv_cases.specs.Systems.{cases_of}
 use Rattle.tv_cert.specs.AimViews.{aim_states}
 use Rattle.tv_pre.specs.declared.fault.PreFault.TheVariants.{Memory}
 use Rattle.tv_pre.specs.Starting.{StartAnswer}
+use Rattle.tv_pre.specs.Counted.{IsCountedFor}
 use Rattle.tv_pre.specs.Proving.{of_formula, of_start}
 use Rattle.tv_pre.proofs.DecidingLemmas.{states_of, found_of, fault_of}
 use Rattle.tv_pre.proofs.StartLemmas.{root_of, few_operators}
@@ -16,7 +17,7 @@ returns-in-Err-clause-refused c =
     let t = aim_states c.proved_aim.result.now in
     let s = aim_states c.args.claim.now.proved_aim in
     let e : t ≡ s = c.proved_aim.ensures ∙ sym c.requires.states.proved in
-    of_formula c.in-Err.fault (fault_of about t s c.args.setting.now.budget.now c.in-Err.fault e c.in-Err.ensures.refused)
+    of_formula c.in-Err.fault (fault_of about t s c.args.setting.now.budget.now c.in-Err.fault e c.in-Err.ensures.refused) (subst (λ u. IsCountedFor about u c.in-Err.fault) e c.in-Err.ensures.counted)
 
 pub returns-in-Err-start_covered-clause-refused : goal.returns-in-Err-start_covered-clause-refused
 returns-in-Err-start_covered-clause-refused c =
@@ -54,4 +55,4 @@ proved_certificate-requires-clause-root c =
     root_of about f found.part.region found.part.node a.0 c.in-Ok-Tree.start part (few_operators _ _ f limits) a.1 a.2
 
 pub returns-in-Err-proved_certificate-clause-refused : goal.returns-in-Err-proved_certificate-clause-refused
-returns-in-Err-proved_certificate-clause-refused c = of_formula Memory (λ last h. tt)
+returns-in-Err-proved_certificate-clause-refused c = of_formula Memory (λ last h. tt) (λ plain last is f parts e. tt)

@@ -1,7 +1,7 @@
-use Rattle.std.proofs.Common.{◌+◌, ◌≡◌, ◌∙◌, ◌≤◌, sym, ap, subst, arith}
+use Rattle.std.proofs.Common.{◌+◌, ◌≡◌, ◌∙◌, ◌≤◌, sym, ap, subst, arith, map}
 use Rattle.std.specs.Result.{IfErr}
 use Rattle.tv_cert.specs.declared.aim.Aim.{Aim, Aim-F, fold-roll-Aim}
-use Rattle.tv_cert.specs.declared.aim.Aim.TheVariants.{rolls-After, rolls-Along}
+use Rattle.tv_cert.specs.declared.aim.Aim.TheVariants.{rolls-EachOf, rolls-OneOf, rolls-After, rolls-Along}
 use Rattle.tv_cert.specs.AimViews.{aim_states, aims_state, aim_node}
 use Rattle.tv_cert.specs.Statements as statements
 use Rattle.tv_pre.specs.Search.{system_of}
@@ -10,6 +10,11 @@ use Rattle.tv_pre.specs.Finding.{all_steps_back, IsRefusedFor}
 use Rattle.tv_pre.proofs.EvenLemmas.{even_later}
 use Rattle.tv_pre.proofs.PassedLemmas.{passed_on}
 use Rattle.tv_pre.proofs.FoundLemmas.{arguments_more, argument_fault, argument_over, after_argument, first_argument, second_argument}
+use Rattle.tv_region.proofs.AlgebraLemmas.{if_err}
+use Rattle.tv_pre.specs.Arguments.{AreArguments}
+use Rattle.tv_pre.specs.Finding.{IsFound}
+use Rattle.tv_pre.specs.Counted.{IsCountedFor, AreCountedFor}
+use Rattle.tv_pre.proofs.CountedFormulas.{argument_counted, each_argument_counted, one_argument_counted, after_argument_counted, first_argument_counted, second_argument_counted}
 use Rattle.tv_pre.proofs.finding.+finding.Goals as goal
 
 pub all_found-returns-in_err-found-clause-refused_each : goal.all_found-returns-in_err-found-clause-refused_each
@@ -86,3 +91,116 @@ found_of-returns-in_err-second-in-Along-clause-refused t c =
     subst (λ (w : statements.Statement). IfErr c.from_residual-in_err-second-in-Along.result (IsRefusedFor about budget last w)) (sym e)
     (passed_on (IsRefusedFor about budget last (statements.along c.in-Along.path c.in-Along.shape s o)) c.from_residual-in_err-second-in-Along.result c.from_residual-in_err-second-in-Along.ensures.1
     (λ r is. second_argument about last budget c.in-Along.path c.in-Along.shape s o c.in_err-second-in-Along.field-0.0 r is (subst (λ (a : Aim). IsRefusedFor about budget last (aim_states a) c.in_err-second-in-Along.field-0.0) c.deref-in-Along-2.ensures c.in_err-second-in-Along.ensures.refused)))
+
+pub all_found-returns-in_err-found-clause-counted : goal.all_found-returns-in_err-found-clause-counted
+all_found-returns-in_err-found-clause-counted t c =
+    let about = system_of c.args.search.now in
+    let P = AreCountedFor about (aims_state c.args.aims.now) in
+    passed_on P c.from_residual.result c.from_residual.ensures.1
+    (λ r is. subst P (sym is) (argument_counted about c.in_err-found.field-0.0 c.args.aims.now c.aims.aim-index c.aim-item.result c.aims-test.true c.aim-item.is c.in_err-found.ensures.counted))
+
+pub found_of-returns-in_err-child-in-After-clause-counted : goal.found_of-returns-in_err-child-in-After-clause-counted
+found_of-returns-in_err-child-in-After-clause-counted t c =
+    let about = system_of c.args.search.now in
+    let s = aim_states c.in-After.inner.value in
+    let fault = c.in_err-child-in-After.field-0.0 in
+    let e : aim_states c.args.aim.now ≡ statements.after c.in-After.path s =
+    ap aim_states c.in-After.is ∙ ap aim_states (sym (rolls-After c.in-After.path c.in-After.inner)) ∙ fold-roll-Aim statements.Statement aim_node (Aim-F.After c.in-After.path c.in-After.inner) in
+    subst (λ (w : statements.Statement). IfErr c.from_residual-in_err-child-in-After.result (IsCountedFor about w)) (sym e)
+    (passed_on (IsCountedFor about (statements.after c.in-After.path s)) c.from_residual-in_err-child-in-After.result c.from_residual-in_err-child-in-After.ensures.1
+    (λ r is. subst (IsCountedFor about (statements.after c.in-After.path s)) (sym is) (after_argument_counted about fault c.in-After.path s (subst (λ (a : Aim). IsCountedFor about (aim_states a) fault) c.deref-in-After.ensures c.in_err-child-in-After.ensures.counted))))
+
+pub found_of-returns-in_err-first-in-Along-clause-counted : goal.found_of-returns-in_err-first-in-Along-clause-counted
+found_of-returns-in_err-first-in-Along-clause-counted t c =
+    let about = system_of c.args.search.now in
+    let s = aim_states c.in-Along.first.value in
+    let o = aim_states c.in-Along.second.value in
+    let fault = c.in_err-first-in-Along.field-0.0 in
+    let whole = statements.along c.in-Along.path c.in-Along.shape s o in
+    let e : aim_states c.args.aim.now ≡ whole =
+    ap aim_states c.in-Along.is ∙ ap aim_states (sym (rolls-Along c.in-Along.path c.in-Along.shape c.in-Along.first c.in-Along.second)) ∙ fold-roll-Aim statements.Statement aim_node (Aim-F.Along c.in-Along.path c.in-Along.shape c.in-Along.first c.in-Along.second) in
+    subst (λ (w : statements.Statement). IfErr c.from_residual-in_err-first-in-Along.result (IsCountedFor about w)) (sym e)
+    (passed_on (IsCountedFor about whole) c.from_residual-in_err-first-in-Along.result c.from_residual-in_err-first-in-Along.ensures.1
+    (λ r is. subst (IsCountedFor about whole) (sym is) (first_argument_counted about fault c.in-Along.path c.in-Along.shape s o (subst (λ (a : Aim). IsCountedFor about (aim_states a) fault) c.deref-in-Along.ensures c.in_err-first-in-Along.ensures.counted))))
+
+pub found_of-returns-in_err-second-in-Along-clause-counted : goal.found_of-returns-in_err-second-in-Along-clause-counted
+found_of-returns-in_err-second-in-Along-clause-counted t c =
+    let about = system_of c.args.search.now in
+    let s = aim_states c.in-Along.first.value in
+    let o = aim_states c.in-Along.second.value in
+    let fault = c.in_err-second-in-Along.field-0.0 in
+    let whole = statements.along c.in-Along.path c.in-Along.shape s o in
+    let e : aim_states c.args.aim.now ≡ whole =
+    ap aim_states c.in-Along.is ∙ ap aim_states (sym (rolls-Along c.in-Along.path c.in-Along.shape c.in-Along.first c.in-Along.second)) ∙ fold-roll-Aim statements.Statement aim_node (Aim-F.Along c.in-Along.path c.in-Along.shape c.in-Along.first c.in-Along.second) in
+    subst (λ (w : statements.Statement). IfErr c.from_residual-in_err-second-in-Along.result (IsCountedFor about w)) (sym e)
+    (passed_on (IsCountedFor about whole) c.from_residual-in_err-second-in-Along.result c.from_residual-in_err-second-in-Along.ensures.1
+    (λ r is. subst (IsCountedFor about whole) (sym is) (second_argument_counted about fault c.in-Along.path c.in-Along.shape s o (subst (λ (a : Aim). IsCountedFor about (aim_states a) fault) c.deref-in-Along-2.ensures c.in_err-second-in-Along.ensures.counted))))
+
+pub found_of-returns-in_err-arguments-in-EachOf-clause-counted : goal.found_of-returns-in_err-arguments-in-EachOf-clause-counted
+found_of-returns-in_err-arguments-in-EachOf-clause-counted t c =
+    let about = system_of c.args.search.now in
+    let aims = c.in-EachOf.aims.items in
+    let fault = c.in_err-arguments-in-EachOf.field-0.0 in
+    let whole = statements.each_of (aims_state aims) in
+    let e : aim_states c.args.aim.now ≡ whole =
+    ap aim_states c.in-EachOf.is ∙ ap aim_states (sym (rolls-EachOf c.in-EachOf.aims)) ∙ fold-roll-Aim statements.Statement aim_node (Aim-F.EachOf c.in-EachOf.aims) in
+    subst (λ (w : statements.Statement). IfErr c.from_residual.result (IsCountedFor about w)) (sym e)
+    (passed_on (IsCountedFor about whole) c.from_residual.result c.from_residual.ensures.1
+    (λ r is. subst (IsCountedFor about whole) (sym is) (each_argument_counted about fault (aims_state aims) (subst (λ xs. AreCountedFor about (aims_state xs) fault) c.deref-in-EachOf.ensures.value c.in_err-arguments-in-EachOf.ensures.counted))))
+
+pub found_of-returns-in_ok-arguments-in-EachOf-clause-counted : goal.found_of-returns-in_ok-arguments-in-EachOf-clause-counted
+found_of-returns-in_ok-arguments-in-EachOf-clause-counted t c =
+    let about = system_of c.args.search.now in
+    let last = c.args.search.now.last in
+    let aims = c.in-EachOf.aims.items in
+    let arguments = c.in_ok-arguments-in-EachOf.arguments in
+    let e : aim_states c.args.aim.now ≡ statements.each_of (aims_state aims) =
+    ap aim_states c.in-EachOf.is ∙ ap aim_states (sym (rolls-EachOf c.in-EachOf.aims)) ∙ fold-roll-Aim statements.Statement aim_node (Aim-F.EachOf c.in-EachOf.aims) in
+    let told : AreArguments about last (map aim_states aims) arguments = subst (λ xs. AreArguments about last (map aim_states xs) arguments) c.deref-in-EachOf.ensures.value c.in_ok-arguments-in-EachOf.ensures.found in
+    subst (λ (w : statements.Statement). IfErr c.each_found.result (IsCountedFor about w)) (sym e) (if_err c.each_found.result (λ x h. h (map aim_states aims) told) c.each_found.ensures.counted)
+
+pub found_of-returns-in_err-arguments-in-OneOf-clause-counted : goal.found_of-returns-in_err-arguments-in-OneOf-clause-counted
+found_of-returns-in_err-arguments-in-OneOf-clause-counted t c =
+    let about = system_of c.args.search.now in
+    let aims = c.in-OneOf.aims.items in
+    let fault = c.in_err-arguments-in-OneOf.field-0.0 in
+    let whole = statements.one_of (aims_state aims) in
+    let e : aim_states c.args.aim.now ≡ whole =
+    ap aim_states c.in-OneOf.is ∙ ap aim_states (sym (rolls-OneOf c.in-OneOf.aims)) ∙ fold-roll-Aim statements.Statement aim_node (Aim-F.OneOf c.in-OneOf.aims) in
+    subst (λ (w : statements.Statement). IfErr c.from_residual-in_err-arguments-in-OneOf.result (IsCountedFor about w)) (sym e)
+    (passed_on (IsCountedFor about whole) c.from_residual-in_err-arguments-in-OneOf.result c.from_residual-in_err-arguments-in-OneOf.ensures.1
+    (λ r is. subst (IsCountedFor about whole) (sym is) (one_argument_counted about fault (aims_state aims) (subst (λ xs. AreCountedFor about (aims_state xs) fault) c.deref-in-OneOf.ensures.value c.in_err-arguments-in-OneOf.ensures.counted))))
+
+pub found_of-returns-in_ok-arguments-in-OneOf-clause-counted : goal.found_of-returns-in_ok-arguments-in-OneOf-clause-counted
+found_of-returns-in_ok-arguments-in-OneOf-clause-counted t c =
+    let about = system_of c.args.search.now in
+    let last = c.args.search.now.last in
+    let aims = c.in-OneOf.aims.items in
+    let arguments = c.in_ok-arguments-in-OneOf.arguments in
+    let e : aim_states c.args.aim.now ≡ statements.one_of (aims_state aims) =
+    ap aim_states c.in-OneOf.is ∙ ap aim_states (sym (rolls-OneOf c.in-OneOf.aims)) ∙ fold-roll-Aim statements.Statement aim_node (Aim-F.OneOf c.in-OneOf.aims) in
+    let told : AreArguments about last (map aim_states aims) arguments = subst (λ xs. AreArguments about last (map aim_states xs) arguments) c.deref-in-OneOf.ensures.value c.in_ok-arguments-in-OneOf.ensures.found in
+    subst (λ (w : statements.Statement). IfErr c.some_found.result (IsCountedFor about w)) (sym e) (if_err c.some_found.result (λ x h. h (map aim_states aims) told) c.some_found.ensures.counted)
+
+pub found_of-returns-in_ok-child-in-After-clause-counted : goal.found_of-returns-in_ok-child-in-After-clause-counted
+found_of-returns-in_ok-child-in-After-clause-counted t c =
+    let about = system_of c.args.search.now in
+    let last = c.args.search.now.last in
+    let s = aim_states c.in-After.inner.value in
+    let child = c.in_ok-child-in-After.child in
+    let e : aim_states c.args.aim.now ≡ statements.after c.in-After.path s =
+    ap aim_states c.in-After.is ∙ ap aim_states (sym (rolls-After c.in-After.path c.in-After.inner)) ∙ fold-roll-Aim statements.Statement aim_node (Aim-F.After c.in-After.path c.in-After.inner) in
+    let told = subst (λ (a : Aim). IsFound about last (aim_states a) child) c.deref-in-After.ensures c.in_ok-child-in-After.ensures.found in
+    subst (λ (w : statements.Statement). IfErr c.after_found.result (IsCountedFor about w)) (sym e) (if_err c.after_found.result (λ x h. h s told) c.after_found.ensures.counted)
+
+pub found_of-returns-in_ok-second-in-Along-clause-counted : goal.found_of-returns-in_ok-second-in-Along-clause-counted
+found_of-returns-in_ok-second-in-Along-clause-counted t c =
+    let about = system_of c.args.search.now in
+    let last = c.args.search.now.last in
+    let s = aim_states c.in-Along.first.value in
+    let o = aim_states c.in-Along.second.value in
+    let e : aim_states c.args.aim.now ≡ statements.along c.in-Along.path c.in-Along.shape s o =
+    ap aim_states c.in-Along.is ∙ ap aim_states (sym (rolls-Along c.in-Along.path c.in-Along.shape c.in-Along.first c.in-Along.second)) ∙ fold-roll-Aim statements.Statement aim_node (Aim-F.Along c.in-Along.path c.in-Along.shape c.in-Along.first c.in-Along.second) in
+    let one = subst (λ (a : Aim). IsFound about last (aim_states a) c.in_ok-first-in-Along.first) c.deref-in-Along.ensures c.in_ok-first-in-Along.ensures.found in
+    let other = subst (λ (a : Aim). IsFound about last (aim_states a) c.in_ok-second-in-Along.second) c.deref-in-Along-2.ensures c.in_ok-second-in-Along.ensures.found in
+    subst (λ (w : statements.Statement). IfErr c.along_found.result (IsCountedFor about w)) (sym e) (if_err c.along_found.result (λ x h. h s o one other) c.along_found.ensures.counted)

@@ -16,6 +16,10 @@ use Rattle.tv_pre.proofs.GapLemmas.{after_gap}
 use Rattle.tv_pre.proofs.GapAlongLemmas.{step_gap}
 use Rattle.tv_pre.proofs.PassedLemmas.{passed_on}
 use Rattle.tv_pre.proofs.FoundLemmas.{none_of_two, none_behind, after_is_found, after_fault, after_question}
+use Rattle.tv_known.specs.Sizes.{greatest_count}
+use Rattle.tv_pre.specs.Counted.{IsCountedFor, IsCountedBefore}
+use Rattle.tv_pre.proofs.CountedFormulas.{after_counted}
+use Rattle.tv_pre.proofs.CountedLemmas.{cover_within}
 use Rattle.tv_pre.proofs.finding.after_found.Goals as goal
 
 pub returns-in_err-region-clause-refused : goal.returns-in_err-region-clause-refused
@@ -55,3 +59,19 @@ returns-clause-found c s h =
     (subst (λ o. IfSome (first_of o c.gap_before.result) (IsGapFor about last (statements.after c.args.path s))) (sym c.in_ok-inner.ensures)
     (after_gap about last c.args.path s child.gap c.gap_before.result h.gap (step_gap about last c.args.path s (steps_back last s) child.part.region h.built c.gap_before.result c.gap_before.ensures.some))))
     (subst (IsFewBefore about c.args.path child.part.region) same c.in_ok-region.ensures.few)
+
+pub returns-in_err-region-clause-counted : goal.returns-in_err-region-clause-counted
+returns-in_err-region-clause-counted c =
+    let about = system_of c.args.search.now in
+    let last = c.args.search.now.last in
+    passed_on (λ fault. (s : Statement) → IsFound about last s c.args.child → IsCountedFor about (statements.after c.args.path s) fault)
+    c.from_residual-in_err-region.result c.from_residual-in_err-region.ensures.1
+    (λ r is s h. after_counted about last r c.args.path s c.args.child h (subst (IsCountedBefore about c.args.path c.args.child.part.region) (sym is) c.in_err-region.ensures.counted))
+
+pub returns-in_err-part-clause-counted : goal.returns-in_err-part-clause-counted
+returns-in_err-part-clause-counted c =
+    let about = system_of c.args.search.now in
+    let last = c.args.search.now.last in
+    passed_on (λ fault. (s : Statement) → IsFound about last s c.args.child → IsCountedFor about (statements.after c.args.path s) fault)
+    c.from_residual-in_err-part.result c.from_residual-in_err-part.ensures.1
+    (λ r is s h plain m o f parts e. cover_within (greatest_count about.cases m f) c.in_err-part.field-0.0 r is)

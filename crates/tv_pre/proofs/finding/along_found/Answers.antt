@@ -10,6 +10,9 @@ use Rattle.tv_pre.specs.declared.gap.Gap.TheVariants.{Inexact, Open}
 use Rattle.tv_pre.proofs.GapAlongLemmas.{along_gap, said_of}
 use Rattle.tv_pre.proofs.PassedLemmas.{passed_on}
 use Rattle.tv_pre.proofs.FoundLemmas.{along_is_found, along_fault, none_of_two, none_behind}
+use Rattle.tv_pre.specs.Counted.{IsWithin, IsCountedFor}
+use Rattle.tv_known.specs.Sizes.{fix_count}
+use Rattle.tv_pre.proofs.CountedFormulas.{along_counted}
 use Rattle.tv_pre.proofs.finding.along_found.Goals as goal
 
 pub returns-in_err-part-clause-refused : goal.returns-in_err-part-clause-refused
@@ -49,3 +52,13 @@ returns-clause-found c s t h g =
     (λ place e. said_of _ own (Open place) e told)
     (λ place e. said_of _ own (Open place) e c.in_ok-part.ensures.unserved)))))))
     (λ plain m is a b x y l. c.in_ok-part.ensures.few plain m is a b (record { first = x; second = y }) l)
+
+pub returns-in_err-part-clause-counted : goal.returns-in_err-part-clause-counted
+returns-in_err-part-clause-counted c =
+    let about = system_of c.args.search.now in
+    let last = c.args.search.now.last in
+    passed_on (λ fault. (s t : Statement) → IsFound about last s c.args.first → IsFound about last t c.args.second → IsCountedFor about (statements.along c.args.path c.args.shape s t) fault)
+    c.from_residual-in_err-part.result c.from_residual-in_err-part.ensures.1
+    (λ r is s t h g. along_counted about last r c.args.path c.args.shape s t c.args.first c.args.second h g
+    (λ plain m o a b x y u v. subst (IsWithin (fix_count about.cases m c.args.path c.args.shape a b)) (sym is)
+    (c.in_err-part.ensures.counted plain m o a b (record { counts = record { first = x; second = y }; some_first = u; some_second = v }))))

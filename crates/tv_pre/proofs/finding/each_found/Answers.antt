@@ -20,6 +20,10 @@ use Rattle.tv_pre.specs.Built.{IsBuiltOf, IsFaultOf}
 use Rattle.tv_pre.specs.Finding.{IsRefusedFor}
 use Rattle.tv_pre.proofs.PassedLemmas.{passed_on}
 use Rattle.tv_pre.proofs.FoundLemmas.{each_is_found, each_fault, each_question}
+use Rattle.tv_known.specs.Sizes.{greatest_count}
+use Rattle.tv_pre.specs.Counted.{IsWithin, some_counts_at, IsCountedFor}
+use Rattle.tv_pre.proofs.CountedFormulas.{each_counted}
+use Rattle.tv_pre.proofs.CountedLemmas.{cover_within}
 use Rattle.tv_pre.proofs.finding.each_found.Goals as goal
 
 pub returns-in_err-region-clause-refused : goal.returns-in_err-region-clause-refused
@@ -67,3 +71,22 @@ returns-clause-found c ss h =
     (subst (λ rs. (s : State) → IsStateOf about s → All (λ x. InState x s) rs → InState c.in_ok-region.region s) c.deref.ensures.value c.in_ok-region.ensures.all)) h.gap
     (subst (λ (r : Region). (l : ℕ) → count_at l r ≤ product (counts_at l arguments.regions.items)) same
     (subst (λ rs. (l : ℕ) → count_at l c.in_ok-region.region ≤ product (counts_at l rs)) c.deref.ensures.value c.in_ok-region.ensures.few))
+
+pub returns-in_err-region-clause-counted : goal.returns-in_err-region-clause-counted
+returns-in_err-region-clause-counted c =
+    let about = system_of c.args.search.now in
+    let last = c.args.search.now.last in
+    let arguments = c.args.arguments in
+    passed_on (λ fault. (ss : List Statement) → AreArguments about last ss arguments → IsCountedFor about (statements.each_of (statements_of ss)) fault)
+    c.from_residual-in_err-region.result c.from_residual-in_err-region.ensures.1
+    (λ r is ss h. each_counted about last r ss arguments.regions.items arguments.nodes.items h.each
+    (subst (λ rs. IsWithin (λ (l : ℕ). product (some_counts_at l rs)) r) c.deref.ensures.value (subst (λ f. IsWithin (λ (l : ℕ). product (some_counts_at l c.deref.result.now)) f) (sym is) c.in_err-region.ensures.counted)))
+
+pub returns-in_err-part-clause-counted : goal.returns-in_err-part-clause-counted
+returns-in_err-part-clause-counted c =
+    let about = system_of c.args.search.now in
+    let last = c.args.search.now.last in
+    let arguments = c.args.arguments in
+    passed_on (λ fault. (ss : List Statement) → AreArguments about last ss arguments → IsCountedFor about (statements.each_of (statements_of ss)) fault)
+    c.from_residual-in_err-part.result c.from_residual-in_err-part.ensures.1
+    (λ r is ss h plain m o f parts e. cover_within (greatest_count about.cases m f) c.in_err-part.field-0.0 r is)

@@ -14,6 +14,7 @@ use Rattle.tv_pre.proofs.EvenLemmas.{stated_even}
 use Rattle.tv_pre.proofs.FoundLemmas.{one_last}
 use Rattle.tv_pre.proofs.ToldLemmas.{exact_for, no_gap}
 use Rattle.tv_pre.proofs.GapLemmas.{gap_weaker, gap_drawn}
+use Rattle.tv_pre.specs.Counted.{IsCountedFor}
 use Rattle.tv_pre.proofs.finding.found.Goals as goal
 
 pub found_of-requires-clause-even : goal.found_of-requires-clause-even
@@ -97,3 +98,9 @@ returns-clause-few c =
     let s = aim_states c.args.aim.now in
     subst (λ (z : Setting). IfOk r (λ found. IsFewFor (cases_of z.about.now) s found.part.region)) c.in_ok-search.ensures.setting
     (if_ok r (λ x h. h.few) c.found_of.ensures.found)
+
+pub returns-clause-counted : goal.returns-clause-counted
+returns-clause-counted c =
+    let r = c.found_of.result in
+    let s = aim_states c.args.aim.now in
+    subst (λ (z : Setting). IfErr r (IsCountedFor (cases_of z.about.now) s)) c.in_ok-search.ensures.setting c.found_of.ensures.counted

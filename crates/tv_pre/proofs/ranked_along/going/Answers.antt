@@ -7,6 +7,8 @@ use Rattle.tv_pre.proofs.PassedLemmas.{passed_on, region_fault}
 use Rattle.tv_pre.proofs.RankedAlongLemmas.{going_is, hold_side_at}
 use Rattle.tv_pre.proofs.SetLemmas.{hold_over}
 use Rattle.tv_pre.proofs.SizedLemmas.{going_few}
+use Rattle.tv_pre.specs.Counted.{IsCountedGoing}
+use Rattle.tv_pre.proofs.CountedLemmas.{goes_going, going_counted}
 use Rattle.tv_pre.proofs.ranked_along.going.Goals as goal
 
 pub returns-in_err-goes-clause-refused : goal.returns-in_err-goes-clause-refused
@@ -48,3 +50,18 @@ returns-clause-built c =
 
 pub returns-clause-few : goal.returns-clause-few
 returns-clause-few c = going_few (cases_of c.args.setting.now.about.now) c.args.sides.now c.in_ok-anywhere.anywhere c.in_ok-goes.goes c.hold_of.result.now c.in_ok-both.field-0 c.in_ok-anywhere.ensures c.hold_of.ensures c.in_ok-goes.ensures.few c.in_ok-both.ensures.both
+
+pub returns-in_err-goes-clause-counted : goal.returns-in_err-goes-clause-counted
+returns-in_err-goes-clause-counted c =
+    let about = cases_of c.args.setting.now.about.now in
+    let sides = c.args.sides.now in
+    let P = IsCountedGoing about sides in
+    passed_on P c.from_residual-in_err-goes.result c.from_residual-in_err-goes.ensures.1
+    (λ r is. subst P (sym is) (goes_going about sides c.in_ok-anywhere.anywhere c.in_err-goes.field-0.0 c.in_ok-anywhere.ensures c.in_err-goes.ensures.counted))
+
+pub returns-in_err-both-clause-counted : goal.returns-in_err-both-clause-counted
+returns-in_err-both-clause-counted c =
+    let about = cases_of c.args.setting.now.about.now in
+    let sides = c.args.sides.now in
+    passed_on (IsCountedGoing about sides) c.from_residual-in_err-both.result c.from_residual-in_err-both.ensures.1
+    (λ r is. going_counted about sides c.in_ok-anywhere.anywhere c.in_ok-goes.goes c.hold_of.result.now c.args.setting.now.budget.now c.in_err-both.field-0.0 r c.in_ok-anywhere.ensures c.hold_of.ensures c.in_ok-goes.ensures.few is c.in_err-both.ensures.refused)

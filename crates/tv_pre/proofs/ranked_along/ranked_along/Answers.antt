@@ -11,8 +11,10 @@ use Rattle.tv_pre.proofs.AlongLemmas.{is_along}
 use Rattle.tv_pre.proofs.BuiltLemmas.{rest_built}
 use Rattle.tv_pre.proofs.PassedLemmas.{passed_on, cover_fault}
 use Rattle.tv_pre.proofs.RankedAlongLemmas.{sides_fault, ends_fault, coming_is, both_built, coming_asked}
-use Rattle.tv_pre.proofs.VacantLemmas.{beside_of}
+use Rattle.tv_pre.proofs.BetweenLemmas.{beside_of}
 use Rattle.tv_pre.proofs.SizedLemmas.{came_few}
+use Rattle.tv_pre.specs.Counted.{IsCountedAlong}
+use Rattle.tv_pre.proofs.CountedLemmas.{cover_along, going_along, no_call_along}
 use Rattle.tv_pre.proofs.ranked_along.ranked_along.Goals as goal
 
 pub returns-in_err-onward-clause-refused : goal.returns-in_err-onward-clause-refused
@@ -71,3 +73,20 @@ returns-clause-along c =
 
 pub returns-clause-few : goal.returns-clause-few
 returns-clause-few c = came_few (cases_of c.args.setting.now.about.now) c.args.sides.now c.args.end c.in_ok-part.part.region c.requires.end_few c.requires.shape c.requires.path c.in_ok-onward.onward c.in_ok-onward.ensures.few c.variables-variables.ensures.limits.starts c.in_ok-part.ensures.region
+
+pub returns-in_err-onward-clause-counted : goal.returns-in_err-onward-clause-counted
+returns-in_err-onward-clause-counted c =
+    let about = cases_of c.args.setting.now.about.now in
+    let sides = c.args.sides.now in
+    let P = IsCountedAlong about sides in
+    passed_on P c.from_residual.result c.from_residual.ensures.1
+    (λ r is. subst P (sym is) (going_along about sides c.requires.shape c.requires.path c.variables-variables.ensures.limits.starts c.in_err-onward.field-0.0 c.in_err-onward.ensures.counted))
+
+pub returns-in-Err-clause-untold_count : goal.returns-in-Err-clause-untold_count
+returns-in-Err-clause-untold_count c = no_call_along (cases_of c.args.setting.now.about.now) c.args.sides.now c.in-Err.fault c.in-Err.ensures.no_call
+
+pub returns-in_err-part-clause-counted : goal.returns-in_err-part-clause-counted
+returns-in_err-part-clause-counted c =
+    let about = cases_of c.args.setting.now.about.now in
+    let sides = c.args.sides.now in
+    passed_on (IsCountedAlong about sides) c.from_residual-in_err-part.result c.from_residual-in_err-part.ensures.1 (cover_along about sides c.in_err-part.field-0.0)

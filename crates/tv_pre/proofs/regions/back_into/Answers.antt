@@ -8,6 +8,9 @@ use Rattle.tv_pre.proofs.BuiltLemmas.{first_built, one_more, one_more_refused}
 use Rattle.tv_pre.proofs.PassedLemmas.{passed_on, region_fault}
 use Rattle.tv_pre.proofs.SetLemmas.{every_before, every_others, any_others}
 use Rattle.tv_pre.proofs.SizedLemmas.{every_back_few, any_back_few}
+use Rattle.tv_formula.specs.declared.tree.Path.TheVariants.{Every, Any}
+use Rattle.tv_pre.specs.Counted.{IsCountedBefore}
+use Rattle.tv_pre.proofs.CountedLemmas.{before_counted}
 use Rattle.tv_pre.proofs.regions.back_into.Goals as goal
 
 pub returns-in_err-before_every-in-Every-clause-refused : goal.returns-in_err-before_every-in-Every-clause-refused
@@ -76,3 +79,19 @@ returns-in_ok-before_any-in-Any-clause-few c =
     let region = c.args.region.now in
     let back = c.in_ok-before_any-in-Any.field-0 in
     subst (λ (p : Path). IsFewBefore about p region back) (sym c.in-Any.is) (any_back_few about region back c.in_ok-before_any-in-Any.ensures.before)
+
+pub returns-in_err-before_every-in-Every-clause-counted : goal.returns-in_err-before_every-in-Every-clause-counted
+returns-in_err-before_every-in-Every-clause-counted c =
+    let about = cases_of c.args.setting.now.about.now in
+    let region = c.args.region.now in
+    let fault = c.in_err-before_every-in-Every.field-0.0 in
+    passed_on (IsCountedBefore about c.args.path region) c.from_residual.result c.from_residual.ensures.1
+    (λ r is. subst (λ (p : Path). IsCountedBefore about p region r) (sym c.in-Every.is) (before_counted about Every region c.args.setting.now.budget.now fault r is c.in_err-before_every-in-Every.ensures.refused))
+
+pub returns-in_err-before_any-in-Any-clause-counted : goal.returns-in_err-before_any-in-Any-clause-counted
+returns-in_err-before_any-in-Any-clause-counted c =
+    let about = cases_of c.args.setting.now.about.now in
+    let region = c.args.region.now in
+    let fault = c.in_err-before_any-in-Any.field-0.0 in
+    passed_on (IsCountedBefore about c.args.path region) c.from_residual-in_err-before_any-in-Any.result c.from_residual-in_err-before_any-in-Any.ensures.1
+    (λ r is. subst (λ (p : Path). IsCountedBefore about p region r) (sym c.in-Any.is) (before_counted about Any region c.args.setting.now.budget.now fault r is c.in_err-before_any-in-Any.ensures.refused))

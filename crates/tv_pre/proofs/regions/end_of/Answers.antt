@@ -7,6 +7,8 @@ use Rattle.tv_pre.proofs.BuiltLemmas.{first_of_two, second_of_two}
 use Rattle.tv_pre.proofs.PassedLemmas.{passed_on, region_fault}
 use Rattle.tv_pre.proofs.SetLemmas.{one_end, both_ends}
 use Rattle.tv_pre.proofs.SizedLemmas.{one_end_few, two_ends_few}
+use Rattle.tv_pre.specs.Counted.{IsCountedEnd}
+use Rattle.tv_pre.proofs.CountedLemmas.{one_end_counted, two_ends_counted}
 use Rattle.tv_pre.proofs.regions.end_of.Goals as goal
 
 pub returns-in_err-both-clause-refused : goal.returns-in_err-both-clause-refused
@@ -60,3 +62,19 @@ pub returns-in_ok-either-clause-few : goal.returns-in_ok-either-clause-few
 returns-in_ok-either-clause-few c =
     let told : two_ends c.args.sides.now.shape ≡ false = sym c.has_two_ends.ensures ∙ c.if-has_two_ends.false in
     one_end_few (cases_of c.args.setting.now.about.now) c.args.sides.now c.nowhere.result c.in_ok-either.field-0 c.nowhere.ensures told c.in_ok-either.ensures.either
+
+pub returns-in_err-both-clause-counted : goal.returns-in_err-both-clause-counted
+returns-in_err-both-clause-counted c =
+    let sides = c.args.sides.now in
+    let fault = c.in_err-both.field-0.0 in
+    let told : two_ends sides.shape ≡ true = sym c.has_two_ends.ensures ∙ c.if-has_two_ends.true in
+    passed_on (IsCountedEnd sides) c.from_residual.result c.from_residual.ensures.1
+    (λ r is. two_ends_counted sides c.args.setting.now.budget.now fault r told is c.in_err-both.ensures.refused)
+
+pub returns-in_err-either-clause-counted : goal.returns-in_err-either-clause-counted
+returns-in_err-either-clause-counted c =
+    let sides = c.args.sides.now in
+    let fault = c.in_err-either.field-0.0 in
+    let told : two_ends sides.shape ≡ false = sym c.has_two_ends.ensures ∙ c.if-has_two_ends.false in
+    passed_on (IsCountedEnd sides) c.from_residual-in_err-either.result c.from_residual-in_err-either.ensures.1
+    (λ r is. one_end_counted (cases_of c.args.setting.now.about.now) sides c.nowhere.result c.args.setting.now.budget.now fault r c.nowhere.ensures told is c.in_err-either.ensures.refused)

@@ -1,10 +1,13 @@
-use Rattle.std.proofs.Common.{◌+◌, arith}
+use Rattle.std.proofs.Common.{◌+◌, arith, ℕ}
 use Rattle.tv_cases.specs.Systems.{cases_of}
 use Rattle.tv_rounds.proofs.SetLemmas.{as_first}
 use Rattle.tv_pre.specs.Built.{in_both, IsFaultOf}
 use Rattle.tv_pre.proofs.BuiltLemmas.{member_built}
 use Rattle.tv_pre.proofs.PassedLemmas.{passed_on, region_fault}
 use Rattle.tv_pre.proofs.SetLemmas.{common_first, common_more, common_all, common_few, item_over}
+use Rattle.tv_known.specs.Sizes.{product}
+use Rattle.tv_pre.specs.Counted.{IsWithin, some_counts_at}
+use Rattle.tv_pre.proofs.CountedLemmas.{region_within, common_counted}
 use Rattle.tv_pre.proofs.regions.intersection.Goals as goal
 
 pub regions-init : goal.regions-init
@@ -44,3 +47,12 @@ returns-clause-inside c = common_all (cases_of c.args.setting.now.about.now) c.a
 
 pub returns-clause-few : goal.returns-clause-few
 returns-clause-few c = common_few (cases_of c.args.setting.now.about.now) c.args.regions.now c.regions.region-index c.regions.common c.regions-test.false c.regions.invariant
+
+pub returns-in_err-common-2-clause-counted : goal.returns-in_err-common-2-clause-counted
+returns-in_err-common-2-clause-counted c =
+    let regions = c.args.regions.now in
+    let fault = c.in_err-common-2.field-0.0 in
+    let bound = λ (l : ℕ). product (some_counts_at l regions) in
+    passed_on (IsWithin bound) c.from_residual-in_err-common-2.result c.from_residual-in_err-common-2.ensures.1
+    (λ r is. region_within bound fault r is
+    (common_counted regions c.regions.region-index c.regions.common c.region-item.result c.args.setting.now.budget.now fault c.regions-test.true c.region-item.is c.regions.invariant.few c.in_err-common-2.ensures.refused))

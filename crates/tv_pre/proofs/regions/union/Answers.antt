@@ -1,10 +1,14 @@
-use Rattle.std.proofs.Common.{◌+◌, arith}
+use Rattle.std.proofs.Common.{◌+◌, arith, ℕ}
 use Rattle.tv_cases.specs.Systems.{cases_of}
 use Rattle.tv_rounds.proofs.SetLemmas.{as_first}
 use Rattle.tv_pre.specs.Built.{in_either, IsFaultOf}
 use Rattle.tv_pre.proofs.BuiltLemmas.{member_built}
 use Rattle.tv_pre.proofs.PassedLemmas.{passed_on, region_fault}
 use Rattle.tv_pre.proofs.SetLemmas.{whole_first, whole_more, whole_all, whole_few, item_over}
+use Rattle.std.specs.Prelude.{sum}
+use Rattle.tv_pre.specs.Sized.{counts_at}
+use Rattle.tv_pre.specs.Counted.{IsWithin}
+use Rattle.tv_pre.proofs.CountedLemmas.{region_within, whole_counted}
 use Rattle.tv_pre.proofs.regions.union.Goals as goal
 
 pub regions-init : goal.regions-init
@@ -44,3 +48,12 @@ returns-clause-all c = whole_all (cases_of c.args.setting.now.about.now) c.args.
 
 pub returns-clause-few : goal.returns-clause-few
 returns-clause-few c = whole_few (cases_of c.args.setting.now.about.now) c.args.regions.now c.regions.region-index c.regions.whole c.regions-test.false c.regions.invariant
+
+pub returns-in_err-whole-clause-counted : goal.returns-in_err-whole-clause-counted
+returns-in_err-whole-clause-counted c =
+    let regions = c.args.regions.now in
+    let fault = c.in_err-whole.field-0.0 in
+    let bound = λ (l : ℕ). sum (counts_at l regions) in
+    passed_on (IsWithin bound) c.from_residual.result c.from_residual.ensures.1
+    (λ r is. region_within bound fault r is
+    (whole_counted regions c.regions.region-index c.regions.whole c.region-item.result c.args.setting.now.budget.now fault c.regions-test.true c.region-item.is c.regions.invariant.few c.in_err-whole.ensures.refused))

@@ -1,0 +1,210 @@
+-- How many pieces the refusals of a formula tell of.
+use Rattle.std.proofs.Common.{◌≡◌, ℕ, zero, suc, ◌+◌, ◌*◌, ◌<◌, ◌≤◌, List, [], ◌∷◌, length, get_or, sym, subst, arith}
+use Rattle.std.specs.Prelude.{max, sum}
+use Rattle.std.proofs.Math.Nat.{le-max_left, le-max_right, max-le}
+use Rattle.tv_program.specs.declared.tree.Relation.{Relation}
+use Rattle.tv_program.specs.declared.tree.Relation.TheVariants.{Less, LessEqual, Greater, GreaterEqual, Equal, NotEqual}
+use Rattle.tv_formula.specs.declared.tree.Path.{Path}
+use Rattle.tv_formula.specs.declared.tree.Path.TheVariants.{Every, Any}
+use Rattle.tv_formula.specs.declared.tree.Shape.{Shape}
+use Rattle.tv_formula.specs.declared.tree.Shape.TheVariants.{Release}
+use Rattle.tv_formula.specs.Properties.{Property, truth, compare, at, term, negated, all_of, some_of, next, fix, Properties, none, more}
+use Rattle.tv_linear.specs.declared.region.Region.{Region}
+use Rattle.tv_cases.specs.Comparisons.{comparison_lists}
+use Rattle.tv_cases.specs.LinearCases.{LinearCase, CaseSystem}
+use Rattle.tv_cert.specs.declared.aim.Aim.{Aim}
+use Rattle.tv_cert.specs.declared.node.Node.{Node}
+use Rattle.tv_cert.specs.AimViews.{statements_of, aim_states, aims_state}
+use Rattle.tv_cert.specs.Statements.{Statement, each_of, one_of, after, along, Statements, stated, stated_all}
+use Rattle.tv_known.specs.Cycles.{IsLastRound}
+use Rattle.tv_known.specs.Sizes.{product, next_count, fix_count, round_count, comparison_count, negated_count, count, product_count, sum_count, greatest_count, greatest_counts}
+use Rattle.tv_known.proofs.SizeLemmas.{up_to_greatest}
+use Rattle.tv_region.specs.Regions.{count_at}
+use Rattle.tv_region.specs.StepRegions.{HasNoDraws}
+use Rattle.tv_rounds.proofs.CountLemmas.{times, all_one, some_one}
+use Rattle.tv_pre.specs.declared.fault.PreFault.{PreFault}
+use Rattle.tv_pre.specs.declared.outcome.Found.{Found}
+use Rattle.tv_pre.specs.Arguments.{AreEachArgument}
+use Rattle.tv_pre.specs.Counted.{IsWithin, HasParts, AreSomeParts, AllHaveParts, IsCountedFor, AreCountedFor, some_counts_at, IsCountedBefore}
+use Rattle.tv_pre.specs.Finding.{IsFound}
+use Rattle.tv_pre.specs.Sized.{counts_at, end_count}
+use Rattle.tv_pre.proofs.CountedLemmas.{within_more, end_one}
+use Rattle.tv_pre.proofs.FormulaLemmas.{each_is, one_is, after_is, along_is}
+use Rattle.tv_pre.proofs.FoundLemmas.{argument_sum}
+use Rattle.tv_pre.proofs.SizedLemmas.{trans, itself, none_less, first_round, term_one}
+
+-- ---- each counts at least 1
+two_ones : (a b : ℕ) → 1 ≤ a → 1 ≤ b → 1 ≤ a * b
+two_ones a b l m = grind arith
+
+plus_one : (a b : ℕ) → 1 ≤ a → 1 ≤ a + b
+plus_one a b l = omega (arith, l)
+
+next_one : (cases : List LinearCase) (path : Path) (b : ℕ → ℕ) (l : ℕ) → 1 ≤ next_count cases path b l
+next_one cases Every b l = all_one cases b l
+next_one cases Any b l = some_one cases b l
+
+fix_one : (cases : List LinearCase) (m : ℕ) (path : Path) (shape : Shape) (f g : ℕ → ℕ) (l : ℕ) → 1 ≤ f l → 1 ≤ g l → 1 ≤ fix_count cases m path shape f g l
+fix_one cases m path shape f g l h k =
+    trans 1 (end_count shape f g l) (fix_count cases m path shape f g l) (end_one shape f g l h k)
+    (trans (end_count shape f g l) (round_count cases path shape f g 0 l) (fix_count cases m path shape f g l) (first_round shape cases path f g l)
+    (up_to_greatest m (λ j. round_count cases path shape f g j l) 0 (none_less m)))
+
+comparison_one : (r : Relation) → 1 ≤ comparison_count r
+comparison_one Less = itself 1
+comparison_one LessEqual = itself 1
+comparison_one Greater = itself 1
+comparison_one GreaterEqual = itself 1
+comparison_one Equal = itself 1
+comparison_one NotEqual = omega arith
+
+pub all_have : (fs : Properties) → AreSomeParts fs → AllHaveParts fs
+all_have none h = absurd h
+all_have (more f fs) h = h
+
+module _ (cases : List LinearCase) (m l : ℕ) where
+  negated_one : (f : Property) → 1 ≤ negated_count cases m f l
+  negated_one term = fix_one cases m Any Release (λ k. 1) (next_count cases Any (λ k. 1)) l (itself 1) (next_one cases Any (λ k. 1) l)
+  negated_one (truth b) = itself 1
+  negated_one (compare r a b) = itself 1
+  negated_one (at k) = itself 1
+  negated_one (negated f) = itself 1
+  negated_one (all_of fs) = itself 1
+  negated_one (some_of fs) = itself 1
+  negated_one (next path f) = itself 1
+  negated_one (fix path shape f g) = itself 1
+
+  mutual
+    pub count_one : (f : Property) → HasParts f → 1 ≤ count cases m f l
+    count_one (truth b) h = itself 1
+    count_one (compare r a b) h = comparison_one r
+    count_one (at k) h = itself 1
+    count_one term h = term_one cases m l
+    count_one (negated f) h = negated_one f
+    count_one (all_of fs) h = product_one fs (all_have fs h)
+    count_one (some_of fs) h = sum_one fs h
+    count_one (next path f) h = next_one cases path (λ k. count cases m f k) l
+    count_one (fix path shape f g) h = fix_one cases m path shape (λ k. count cases m f k) (λ k. count cases m g k) l (count_one f h.0) (count_one g h.1)
+
+    product_one : (fs : Properties) → AllHaveParts fs → 1 ≤ product_count cases m fs l
+    product_one none h = itself 1
+    product_one (more f fs) h = two_ones (count cases m f l) (product_count cases m fs l) (count_one f h.0) (product_one fs h.1)
+
+    sum_one : (fs : Properties) → AreSomeParts fs → 1 ≤ sum_count cases m fs l
+    sum_one none h = absurd h
+    sum_one (more f fs) h = plus_one (count cases m f l) (sum_count cases m fs l) (count_one f h.0)
+
+module _ (about : CaseSystem) where
+  -- ---- arguments
+  module _ (fault : PreFault) where
+    first_counted : (a : Aim) (aims : List Aim) → IsCountedFor about (aim_states a) fault → AreCountedFor about (aims_state (a ∷ aims)) fault
+    first_counted a aims h plain m is none parts w = absurd cc
+    first_counted a aims h plain m is (more f fs) parts w =
+        let first : aim_states a ≡ stated (comparison_lists about.variables) f = cc in
+        within_more (greatest_count about.cases m f) (greatest_counts about.cases m (more f fs)) (λ l. le-max_left (greatest_count about.cases m f l) (greatest_counts about.cases m fs l)) fault (h plain m is f parts.0 first)
+
+    rest_counted : (a : Aim) (aims : List Aim) → AreCountedFor about (aims_state aims) fault → AreCountedFor about (aims_state (a ∷ aims)) fault
+    rest_counted a aims h plain m is none parts w = absurd cc
+    rest_counted a aims h plain m is (more f fs) parts w =
+        let rest : aims_state aims ≡ stated_all (comparison_lists about.variables) fs = cc in
+        within_more (greatest_counts about.cases m fs) (greatest_counts about.cases m (more f fs)) (λ l. le-max_right (greatest_count about.cases m f l) (greatest_counts about.cases m fs l)) fault (h plain m is fs parts.1 rest)
+
+    -- of one argument
+    pub argument_counted : (aims : List Aim) (i : ℕ) (aim : Aim) → i < length aims → aim ≡ get_or aims i aim → IsCountedFor about (aim_states aim) fault → AreCountedFor about (aims_state aims) fault
+    argument_counted [] i aim l e h = absurd (omega (arith, l))
+    argument_counted (a ∷ aims) zero aim l e h = first_counted a aims (subst (λ (z : Aim). IsCountedFor about (aim_states z) fault) e h)
+    argument_counted (a ∷ aims) (suc i) aim l e h = rest_counted a aims (argument_counted aims i aim (omega (arith, l)) e h)
+
+    pub each_argument_counted : (ss : Statements) → AreCountedFor about ss fault → IsCountedFor about (each_of ss) fault
+    each_argument_counted ss h plain m is f parts e =
+        let w = each_is (comparison_lists about.variables) ss f e in
+        let have : AreSomeParts w.0 = subst HasParts w.1 parts in
+        subst (λ g. IsWithin (greatest_count about.cases m g) fault) (sym w.1)
+        (within_more (greatest_counts about.cases m w.0) (greatest_count about.cases m (all_of w.0)) (λ l. le-max_right (count about.cases m (all_of w.0) l) (greatest_counts about.cases m w.0 l)) fault (h plain m is w.0 (all_have w.0 have) w.2))
+
+    pub one_argument_counted : (ss : Statements) → AreCountedFor about ss fault → IsCountedFor about (one_of ss) fault
+    one_argument_counted ss h plain m is f parts e =
+        let w = one_is (comparison_lists about.variables) ss f e in
+        let have : AreSomeParts w.0 = subst HasParts w.1 parts in
+        subst (λ g. IsWithin (greatest_count about.cases m g) fault) (sym w.1)
+        (within_more (greatest_counts about.cases m w.0) (greatest_count about.cases m (some_of w.0)) (λ l. le-max_right (count about.cases m (some_of w.0) l) (greatest_counts about.cases m w.0 l)) fault (h plain m is w.0 (all_have w.0 have) w.2))
+
+    pub after_argument_counted : (path : Path) (s : Statement) → IsCountedFor about s fault → IsCountedFor about (after path s) fault
+    after_argument_counted path s h plain m is f parts e =
+        let w = after_is (comparison_lists about.variables) path s f e in
+        let have : HasParts w.0 = subst HasParts w.1 parts in
+        subst (λ g. IsWithin (greatest_count about.cases m g) fault) (sym w.1)
+        (within_more (greatest_count about.cases m w.0) (greatest_count about.cases m (next path w.0)) (λ l. le-max_right (count about.cases m (next path w.0) l) (greatest_count about.cases m w.0 l)) fault (h plain m is w.0 have w.2))
+
+    module _ (path : Path) (shape : Shape) (s t : Statement) where
+      pub first_argument_counted : IsCountedFor about s fault → IsCountedFor about (along path shape s t) fault
+      first_argument_counted h plain m is f parts e =
+          let w = along_is (comparison_lists about.variables) path shape s t f e in
+          let have : HasParts w.0 × HasParts w.1 = subst HasParts w.2 parts in
+          let a = greatest_count about.cases m w.0 in
+          let b = greatest_count about.cases m w.1 in
+          let whole = fix path shape w.0 w.1 in
+          subst (λ g. IsWithin (greatest_count about.cases m g) fault) (sym w.2)
+          (within_more a (greatest_count about.cases m whole) (λ l. trans (a l) (max (a l) (b l)) (greatest_count about.cases m whole l) (le-max_left (a l) (b l)) (le-max_right (count about.cases m whole l) (max (a l) (b l)))) fault (h plain m is w.0 have.0 w.3))
+
+      pub second_argument_counted : IsCountedFor about t fault → IsCountedFor about (along path shape s t) fault
+      second_argument_counted h plain m is f parts e =
+          let w = along_is (comparison_lists about.variables) path shape s t f e in
+          let have : HasParts w.0 × HasParts w.1 = subst HasParts w.2 parts in
+          let a = greatest_count about.cases m w.0 in
+          let b = greatest_count about.cases m w.1 in
+          let whole = fix path shape w.0 w.1 in
+          subst (λ g. IsWithin (greatest_count about.cases m g) fault) (sym w.2)
+          (within_more b (greatest_count about.cases m whole) (λ l. trans (b l) (max (a l) (b l)) (greatest_count about.cases m whole l) (le-max_right (a l) (b l)) (le-max_right (count about.cases m whole l) (max (a l) (b l)))) fault (h plain m is w.1 have.1 w.4))
+
+  -- ---- the formula itself
+  module _ (last : ℕ) (fault : PreFault) where
+    some_argument_product : HasNoDraws about → (m : ℕ) → IsLastRound about 9 m → (l : ℕ) (ss : List Statement) (rs : List Region) (ns : List Node) → AreEachArgument about last ss rs ns → (fs : Properties) → AllHaveParts fs → statements_of ss ≡ stated_all (comparison_lists about.variables) fs → product (some_counts_at l rs) ≤ product_count about.cases m fs l
+    some_argument_product plain m is l [] [] [] h none parts e = omega arith
+    some_argument_product plain m is l [] [] [] h (more f fs) parts e = absurd cc
+    some_argument_product plain m is l [] [] (n ∷ ns) h fs parts e = absurd h
+    some_argument_product plain m is l [] (q ∷ rs) ns h fs parts e = absurd h
+    some_argument_product plain m is l (t ∷ ss) [] ns h fs parts e = absurd h
+    some_argument_product plain m is l (t ∷ ss) (q ∷ rs) [] h fs parts e = absurd h
+    some_argument_product plain m is l (t ∷ ss) (q ∷ rs) (n ∷ ns) h none parts e = absurd cc
+    some_argument_product plain m is l (t ∷ ss) (q ∷ rs) (n ∷ ns) h (more f fs) parts e =
+        let first : t ≡ stated (comparison_lists about.variables) f = cc in
+        let rest : statements_of ss ≡ stated_all (comparison_lists about.variables) fs = cc in
+        times (max 1 (count_at l q)) (product (some_counts_at l rs)) (count about.cases m f l) (product_count about.cases m fs l)
+        (max-le (count_one about.cases m l f parts.0) (h.0.few plain m is f first l)) (some_argument_product plain m is l ss rs ns h.1 fs parts.1 rest)
+
+    pub each_counted : (ss : List Statement) (rs : List Region) (ns : List Node) → AreEachArgument about last ss rs ns → IsWithin (λ l. product (some_counts_at l rs)) fault → IsCountedFor about (each_of (statements_of ss)) fault
+    each_counted ss rs ns h k plain m is f parts e =
+        let w = each_is (comparison_lists about.variables) (statements_of ss) f e in
+        let have : AreSomeParts w.0 = subst HasParts w.1 parts in
+        subst (λ g. IsWithin (greatest_count about.cases m g) fault) (sym w.1)
+        (within_more (λ l. product (some_counts_at l rs)) (greatest_count about.cases m (all_of w.0))
+        (λ l. trans (product (some_counts_at l rs)) (product_count about.cases m w.0 l) (greatest_count about.cases m (all_of w.0) l) (some_argument_product plain m is l ss rs ns h w.0 (all_have w.0 have) w.2) (le-max_left (product_count about.cases m w.0 l) (greatest_counts about.cases m w.0 l))) fault k)
+
+    pub some_counted : (ss : List Statement) (rs : List Region) (ns : List Node) → AreEachArgument about last ss rs ns → IsWithin (λ l. sum (counts_at l rs)) fault → IsCountedFor about (one_of (statements_of ss)) fault
+    some_counted ss rs ns h k plain m is f parts e =
+        let w = one_is (comparison_lists about.variables) (statements_of ss) f e in
+        subst (λ g. IsWithin (greatest_count about.cases m g) fault) (sym w.1)
+        (within_more (λ l. sum (counts_at l rs)) (greatest_count about.cases m (some_of w.0))
+        (λ l. trans (sum (counts_at l rs)) (sum_count about.cases m w.0 l) (greatest_count about.cases m (some_of w.0) l) (argument_sum about last plain m is l ss rs ns h w.0 w.2) (le-max_left (sum_count about.cases m w.0 l) (greatest_counts about.cases m w.0 l))) fault k)
+
+    pub after_counted : (path : Path) (s : Statement) (child : Found) → IsFound about last s child → IsCountedBefore about path child.part.region fault → IsCountedFor about (after path s) fault
+    after_counted path s child h k plain m is f parts e =
+        let w = after_is (comparison_lists about.variables) path s f e in
+        let whole = next path w.0 in
+        let b = λ (j : ℕ). count about.cases m w.0 j in
+        subst (λ g. IsWithin (greatest_count about.cases m g) fault) (sym w.1)
+        (within_more (next_count about.cases path b) (greatest_count about.cases m whole) (λ l. le-max_left (next_count about.cases path b l) (greatest_count about.cases m w.0 l)) fault (k plain b (λ j. h.few plain m is w.0 w.2 j)))
+
+    pub along_counted : (path : Path) (shape : Shape) (s t : Statement) (first second : Found) → IsFound about last s first → IsFound about last t second →
+        (HasNoDraws about → (m : ℕ) → IsLastRound about 9 m → (a b : ℕ → ℕ) → ((l : ℕ) → count_at l first.part.region ≤ a l) → ((l : ℕ) → count_at l second.part.region ≤ b l) → ((l : ℕ) → 1 ≤ a l) → ((l : ℕ) → 1 ≤ b l) → IsWithin (fix_count about.cases m path shape a b) fault) → IsCountedFor about (along path shape s t) fault
+    along_counted path shape s t first second h g k plain m is f parts e =
+        let w = along_is (comparison_lists about.variables) path shape s t f e in
+        let have : HasParts w.0 × HasParts w.1 = subst HasParts w.2 parts in
+        let whole = fix path shape w.0 w.1 in
+        let a = λ (j : ℕ). count about.cases m w.0 j in
+        let b = λ (j : ℕ). count about.cases m w.1 j in
+        subst (λ z. IsWithin (greatest_count about.cases m z) fault) (sym w.2)
+        (within_more (fix_count about.cases m path shape a b) (greatest_count about.cases m whole)
+        (λ l. le-max_left (fix_count about.cases m path shape a b l) (max (greatest_count about.cases m w.0 l) (greatest_count about.cases m w.1 l))) fault
+        (k plain m is a b (λ j. h.few plain m is w.0 w.3 j) (λ j. g.few plain m is w.1 w.4 j) (λ j. count_one about.cases m j w.0 have.0) (λ j. count_one about.cases m j w.1 have.1)))
