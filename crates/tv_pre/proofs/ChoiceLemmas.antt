@@ -23,7 +23,7 @@ use Rattle.tv_cert.specs.Targets.{owed_into, target_rows, no_fall}
 use Rattle.tv_region.specs.Regions.{lists_at}
 use Rattle.tv_shape.specs.Narrow.{ChoiceNarrow}
 use Rattle.tv_choice.specs.Choosing.{AreKnownAs}
-use Rattle.tv_choice.specs.Leading.{Query, piece_rows, region_owes, state, IsHole}
+use Rattle.tv_choice.specs.Leading.{piece_rows, region_owes, state, IsHole}
 use Rattle.tv_choice.specs.Leading as leading
 use Rattle.tv_pre.specs.Pieces.{AreMarked}
 use Rattle.tv_pre.specs.Inclusions.{Chooses}

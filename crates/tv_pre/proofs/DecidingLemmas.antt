@@ -30,7 +30,6 @@ use Rattle.tv_cert.specs.Claims.{StatesIts, claim_variables}
 use Rattle.tv_choice.specs.Leading.{state}
 use Rattle.tv_known.specs.Cycles.{IsStateOf}
 use Rattle.tv_linear.specs.declared.region.Region.{Region}
-use Rattle.tv_region.specs.Met.{some_met}
 use Rattle.tv_region.specs.Regions.{lists_at}
 use Rattle.tv_region.specs.StepRegions.{InState}
 use Rattle.tv_region.proofs.AlgebraLemmas.{state_in}

@@ -15,7 +15,7 @@ use Rattle.tv_cases.proofs.Listed.{Contains-none}
 use Rattle.tv_cert.specs.declared.node.Node.{Node}
 use Rattle.tv_cert.specs.declared.aim.Aim.{Aim}
 use Rattle.tv_cert.specs.AimViews.{statements_of, aim_states, aims_state}
-use Rattle.tv_cert.specs.Statements.{Statement, each_of, one_of, after, along, Statements, no_statement, statement, denial_of, stated, stated_all}
+use Rattle.tv_cert.specs.Statements.{Statement, each_of, one_of, after, along, no_statement, denial_of, stated, stated_all}
 use Rattle.tv_cert.specs.Statements as statements
 use Rattle.tv_farkas.specs.declared.budget.Budget.{Budget}
 use Rattle.tv_farkas.specs.declared.fault.CoverFault.{CoverFault}

@@ -13,7 +13,7 @@ use Rattle.tv_region.specs.declared.fault.RegionFault.{RegionFault}
 use Rattle.tv_rounds.specs.declared.fixed_point.FixedPoint.{FixedPoint}
 use Rattle.tv_rounds.specs.declared.fault.RoundFault.{RoundFault}
 use Rattle.tv_rounds.specs.Answers as answers
-use Rattle.tv_rounds.specs.Answers.{IsRefusedCover, IsCompared, growing, shrinking}
+use Rattle.tv_rounds.specs.Answers.{IsCompared, growing, shrinking}
 use Rattle.tv_pre.specs.declared.fault.PreFault.{PreFault}
 use Rattle.tv_pre.specs.declared.fault.PreFault.TheVariants as faults
 use Rattle.tv_pre.specs.Faults.{IsOfRegion, IsOfCover, IsOfRounds}

@@ -1,7 +1,7 @@
 use Rattle.std.specs.Prelude.{IfSome}
 use Rattle.std.proofs.Common.{◌≡◌, ◌∙◌, [], ◌∷◌, ◌++◌, ap, sym, subst}
 use Rattle.tv_linear.specs.declared.region.Region.{Region}
-use Rattle.tv_formula.specs.Properties.{Property, none, more}
+use Rattle.tv_formula.specs.Properties.{none, more}
 use Rattle.tv_formula.specs.Properties as props
 use Rattle.tv_cert.specs.Statements.{Statement}
 use Rattle.tv_cert.specs.Statements as statements

@@ -1,6 +1,5 @@
 use Rattle.std.proofs.Common.{◌∙◌, ℕ, ◌≤◌, List, All, ap, sym, subst, ◌+◌}
 use Rattle.tv_linear.specs.declared.region.Region.{Region}
-use Rattle.tv_formula.specs.Properties.{Properties}
 use Rattle.tv_formula.specs.Properties as props
 use Rattle.tv_cert.specs.AimViews.{statements_of}
 use Rattle.tv_cert.specs.Statements.{Statement}
