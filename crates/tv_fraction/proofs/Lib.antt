@@ -1,4 +1,5 @@
-pub mod LowestTerms
-pub mod Products
 pub mod CrossProducts
 pub mod Lowest
+pub mod LowestTerms
+mod NarrowLemmas
+pub mod Products

@@ -1,2 +1,3 @@
 pub mod Coprime
 pub mod Fraction
+pub mod Narrow

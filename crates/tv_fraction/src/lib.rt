@@ -6,10 +6,12 @@ ghost use Rattle.tv_fraction.specs.Coprime.{AreCoprime};
 
 mod arithmetic;
 mod comparison;
+mod narrow;
 mod reduction;
 
 pub use arithmetic::{div, mul_sub};
 pub use comparison::cmp;
+pub use narrow::Narrow;
 pub use reduction::gcd;
 use reduction::{lowest_terms, with_sign};
 

@@ -2,7 +2,7 @@ use Rattle.std.proofs.Common.{◌≡◌, ◌⊎◌, inl, inr, ℕ, suc, ◌+◌,
 use Rattle.std.proofs.lemmas.List.{length-set, get_or-set_same, get_or-set_other}
 use Rattle.tv_simplex.specs.Sums.{total}
 use Rattle.tv_simplex.specs.Systems.{Equations, matrix}
-use Rattle.tv_simplex.specs.Starting.{IsSum, AreSums, first_slot}
+use Rattle.tv_simplex.specs.Starting.{IsSum, first_slot}
 
 -- the sums to which the numbers of row n were added at the first k slots
 pub record SumsTo (s : Equations) (n k : ℕ) (sums : List ℤ) : Type 0 where
@@ -28,12 +28,3 @@ one_added s n k sums z k_in h e bound = record {
   ];
   left = λ j from l. subst (λ x. IsSum s n j x) (sym (get_or-set_other sums k j z (pos 0) (λ w. absurd (omega (arith, w, from))))) (h.left j (omega (arith, from)) l);
 }
-
--- what is read of the sums is the sum
-pub sum_read : (s : Equations) (sums read : List ℤ) (k j : ℕ) (z : ℤ) → AreSums s s.rows sums → read ≡ sums → k < s.columns + 1 → j ≡ first_slot s k → z ≡ get_or read k (pos 0) → (z ≡ total s.rows (λ i. matrix s i j)) × (unsigned_abs z ≤ 2 ^ 40 * s.rows)
-sum_read s sums read k j z h e l is at =
-    let here = h.each k l in
-    let same : z ≡ get_or sums k (pos 0) = at ∙ ap (λ x. get_or x k (pos 0)) e in (
-      same ∙ here.value ∙ ap (λ c. total s.rows (λ i. matrix s i c)) (sym is),
-      subst (λ x. unsigned_abs x ≤ 2 ^ 40 * s.rows) (sym same) here.bound,
-    )

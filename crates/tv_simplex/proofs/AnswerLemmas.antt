@@ -10,10 +10,9 @@ use Rattle.tv_simplex.specs.Systems.{Equations, sign}
 use Rattle.tv_simplex.specs.Chains.{column}
 use Rattle.tv_simplex.specs.Ratios.{Ratio}
 use Rattle.tv_simplex.specs.Outcomes.{IsShort}
-use Rattle.tv_simplex.proofs.ScaleLemmas.{get_or-append-last, get_or-append-before}
-use Rattle.tv_simplex.proofs.StartLemmas.{at_end, before_end}
-use Rattle.tv_simplex.specs.Rows.{ratio, ratio_at}
-use Rattle.tv_simplex.specs.Scales.{AreBounded}
+use Rattle.tv_simplex.proofs.ScaleLemmas.{get_or-append-last, get_or-append-before, at_end, before_end}
+use Rattle.tv_simplex.specs.Rows.{ratio}
+use Rattle.tv_simplex.specs.Scales.{AreBounded, ratio_at}
 use Rattle.tv_simplex.specs.Walking.{AreOfColumn, IsLessOne, AreOfObjective, AreDistinct, AreValues, AreSigned}
 
 last_or_below : (n j : ℕ) → j < n + 1 → (j ≡ n) ⊎ (j < n)

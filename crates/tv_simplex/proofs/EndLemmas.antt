@@ -21,10 +21,9 @@ use Rattle.tv_simplex.specs.Outcomes.{IsShort, IsSolutionOf, IsBarrierOf, InChai
 use Rattle.tv_simplex.specs.declared.stop.Stop.{Stop}
 use Rattle.tv_simplex.specs.declared.stop.Stop.TheVariants.{Wide, Scale, Memory}
 use Rattle.tv_simplex.specs.declared.table.Table.{Table}
-use Rattle.tv_simplex.specs.Rows.{ratio_at}
 use Rattle.tv_simplex.specs.Tables.{shown}
 use Rattle.tv_simplex.specs.Choosing.{NoneNegative as NoneBelow}
-use Rattle.tv_simplex.specs.Scales.{AreScaled, HaveScale, IsScalingStop, numerator_at, denominator_at}
+use Rattle.tv_simplex.specs.Scales.{AreScaled, HaveScale, IsScalingStop, numerator_at, denominator_at, ratio_at}
 use Rattle.tv_simplex.specs.Walking.{AreOfColumn, AreOfObjective, AreDistinct, AreValues, AreSigned, StandsAt, IsSolved, IsUnsolvedAt, IsAnswerStop}
 
 -- w over a scale is a fraction, which is e / d

@@ -1,4 +1,4 @@
-use Rattle.std.proofs.Common.{Option, None, Some, MatchOption, ◌≡◌, ◌⊎◌, inl, inr, ℕ, suc, ◌+◌, ◌<◌, ◌≤◌, List, arith, refl, sym, ap, ◌∙◌, subst, ℤ, pos, ◌-ℤ◌, ◌*ℤ◌, ◌<ℤ◌, ◌≤ℤ◌}
+use Rattle.std.proofs.Common.{Option, None, Some, MatchOption, ◌≡◌, ◌⊎◌, inl, inr, ℕ, zero, suc, ◌+◌, ◌-◌, ◌<◌, ◌≤◌, List, [], ◌∷◌, arith, refl, sym, ap, ◌∙◌, subst, ℤ, pos, ◌-ℤ◌, ◌*ℤ◌, ◌<ℤ◌, ◌≤ℤ◌}
 use Rattle.std.specs.declared.cmp.Ordering.{Ordering}
 use Rattle.std.specs.declared.cmp.Ordering.TheVariants.{Less, Equal, Greater}
 use Rattle.std.specs.Ordering.{MatchOrdering, int_cmp}
@@ -14,8 +14,10 @@ use Rattle.tv_simplex.proofs.Leads.{leads-same}
 use Rattle.tv_simplex.specs.Chains.{order, column}
 use Rattle.tv_simplex.specs.Orders.{LeastOf, against}
 use Rattle.tv_simplex.specs.Ratios.{Ratio, IsRatio, IsQuotient, Shows}
-use Rattle.tv_simplex.specs.Rows.{ratio}
-use Rattle.tv_simplex.specs.Choosing.{IsPicture, IsSignOf, ComparesAt, difference_at, IsLexicographic, Compares, NoneAbove, IsLeast}
+use Rattle.tv_simplex.specs.declared.rows.Entry.{Entry}
+use Rattle.tv_simplex.specs.Rows.{ratio, none, IsSparse, BeginsWith, IsNextColumn}
+use Rattle.tv_simplex.proofs.RowLemmas.{last_or_below, below_or_from}
+use Rattle.tv_simplex.specs.Choosing.{IsSignOf, ComparesAt, difference_at, IsLexicographic, Compares, NoneAbove, IsLeast}
 
 turned : (k e x y w d : ℤ) → k *ℤ (x -ℤ y) ≡ e *ℤ w → d ≡ pos 0 -ℤ w → k *ℤ (y -ℤ x) ≡ e *ℤ d
 turned k e x y w d h g =
@@ -62,29 +64,6 @@ both_none last c o first second o_in fz gz u v scale positive fs gs =
 pub both_zero : (last c o : ℕ) (first second : ℕ → Ratio) (f g : Fraction) → o ≤ last → ratio f ≡ first o → ratio g ≡ second o → f.numerator ≡ pos 0 → g.numerator ≡ pos 0 → ComparesAt last c o first second Equal
 both_zero last c o first second f g o_in fe ge fz gz = both_none last c o first second o_in (sym (ap (λ z. z.numerator) fe) ∙ fz) (sym (ap (λ z. z.numerator) ge) ∙ gz)
 
--- where one row has 0, and the other an entry above 0, their quotients are not equal
-pub first_alone : (last c o : ℕ) (first second : ℕ → Ratio) → c ≤ last → o ≤ last → pos 0 <ℤ (second c).numerator → pos 0 <ℤ (first o).numerator → (second o).numerator ≡ pos 0 → ComparesAt last c o first second Equal →
-    (u v : ℕ → ℤ) (scale : ℤ) → pos 0 <ℤ scale → IsPicture last first u scale → IsPicture last second v scale → ⊥
-first_alone last c o first second c_in o_in above here none h u v scale positive fs gs =
-    let a = value_above (first o) (u o) scale positive (fs o o_in) here in
-    let b = value_zero (second o) (v o) scale (gs o o_in) none in
-    let e = value_above (second c) (v c) scale positive (gs c c_in) above in
-    let p = above_times (v c) (u o) e a in
-    let z = times_zero (u c) (v o) b in
-    let d = h u v scale positive fs gs in
-    omega (arith, ints, p, z, d)
-
-pub second_alone : (last c o : ℕ) (first second : ℕ → Ratio) → c ≤ last → o ≤ last → pos 0 <ℤ (first c).numerator → (first o).numerator ≡ pos 0 → pos 0 <ℤ (second o).numerator → ComparesAt last c o first second Equal →
-    (u v : ℕ → ℤ) (scale : ℤ) → pos 0 <ℤ scale → IsPicture last first u scale → IsPicture last second v scale → ⊥
-second_alone last c o first second c_in o_in above none here h u v scale positive fs gs =
-    let a = value_zero (first o) (u o) scale (fs o o_in) none in
-    let b = value_above (second o) (v o) scale positive (gs o o_in) here in
-    let e = value_above (first c) (u c) scale positive (fs c c_in) above in
-    let p = above_times (u c) (v o) e b in
-    let z = times_zero (v c) (u o) a in
-    let d = h u v scale positive fs gs in
-    omega (arith, ints, p, z, d)
-
 pub quotient_of : {f g g' h h' : Ratio} → g ≡ g' → h ≡ h' → IsQuotient f g h → IsQuotient f g' h'
 quotient_of {f = f} {g' = g'} {h = h} e d r = subst (λ z. IsQuotient f g' z) d (subst (λ z. IsQuotient f z h) e r)
 
@@ -101,15 +80,55 @@ module _ (m n c : ℕ) (first second : ℕ → Ratio) where
     here = (let e = here u v scale p fs gs in omega (arith, ints, e));
   }
 
+  -- the right sides and the artificial columns before this one compare as equal
+  module _ (tied : ComparesAt (n + m) c (n + m) first second Equal) (column : ℕ) (low : n ≤ column) (before : (j : ℕ) → n ≤ j → j < column → ComparesAt (n + m) c j first second Equal) where
+    places : (q : ℕ) → q < suc (column - n) → ComparesAt (n + m) c (order m n q) first second Equal
+    places zero l = tied
+    places (suc p) l = before (n + p) (omega arith) (omega (arith, l, low))
+
+    here_as : (o : Ordering) → ComparesAt (n + m) c column first second o → ComparesAt (n + m) c (n + (column - n)) first second o
+    here_as o here = subst (λ z. ComparesAt (n + m) c z first second o) (let e : column ≡ n + (column - n) = omega (arith, low) in e) here
+
+    last_or_before : column ≤ n + m → (column ≡ n + m) ⊎ (column < n + m)
+    last_or_before l = grind arith
+
+    pub differs_less : column ≤ n + m → ComparesAt (n + m) c column first second Less → Compares m n c first second Less
+    differs_less l here u v scale p fs gs = elim (last_or_before l) [
+      | inl e ↦ (let d = subst (λ z. ComparesAt (n + m) c z first second Less) e here u v scale p fs gs in let z = tied u v scale p fs gs in absurd (omega (arith, ints, d, z)))
+      | inr g ↦ ends_less (suc (column - n)) (omega (arith, low, g)) places (here_as Less here) u v scale p fs gs
+    ]
+
+    pub differs_greater : column ≤ n + m → ComparesAt (n + m) c column first second Greater → Compares m n c first second Greater
+    differs_greater l here u v scale p fs gs = elim (last_or_before l) [
+      | inl e ↦ (let d = subst (λ z. ComparesAt (n + m) c z first second Greater) e here u v scale p fs gs in let z = tied u v scale p fs gs in absurd (omega (arith, ints, d, z)))
+      | inr g ↦ ends_greater (suc (column - n)) (omega (arith, low, g)) places (here_as Greater here) u v scale p fs gs
+    ]
+
+    pub differs_nowhere : n + m ≤ column → Compares m n c first second Equal
+    differs_nowhere l u v scale p fs gs q q_in = places q (omega (arith, l, q_in)) u v scale p fs gs
+
+  -- the columns in which both rows have nothing compare as equal
+  pub none_differ : (from column : ℕ) → column ≤ n + m + 1 → ((j : ℕ) → n ≤ j → j < from → ComparesAt (n + m) c j first second Equal) → ((j : ℕ) → from ≤ j → j < column → (first j ≡ none) × (second j ≡ none)) →
+      (j : ℕ) → n ≤ j → j < column → ComparesAt (n + m) c j first second Equal
+  none_differ from column high before gap j low up = elim (below_or_from j from) [
+    | inl g ↦ before j low g
+    | inr g ↦ (let z = gap j g up in both_none (n + m) c j first second (omega (arith, high, up)) (ap (λ z. z.numerator) z.0) (ap (λ z. z.numerator) z.1))
+  ]
+
+-- the next column of two rows
+pub next_within : (from width column : ℕ) (left right : List Entry) → IsSparse from width left → IsSparse from width right → IsNextColumn left right column → (from ≤ column) × (column < width)
+next_within from width column left right h g is = elim is.begins [ inl e ↦ one left h e | inr e ↦ one right g e ]
+  where
+    one : (es : List Entry) → IsSparse from width es → BeginsWith es column → (from ≤ column) × (column < width)
+    one [] s e = absurd e
+    one (x ∷ es) s e = (let f = s.0.from in let b = s.0.below in (omega (arith, f, e), omega (arith, b, e)))
+
 -- ---- the least row
 pub entry_not_above : (f : Ratio) (v s : ℤ) → pos 0 <ℤ s → IsRatio f v s → f.numerator ≤ℤ pos 0 → v ≤ℤ pos 0
 entry_not_above f v s p h l = elim (by_sign v) [
   | inl k ↦ omega (arith, ints, k)
   | inr w ↦ elim w [ inl k ↦ omega (arith, ints, k) | inr k ↦ (let u = num_above f v s p h k in absurd (omega (arith, ints, u, l))) ]
 ]
-
-last_or_below : (p j : ℕ) → j < p + 1 → (j ≡ p) ⊎ (j < p)
-last_or_below p j h = grind arith
 
 module _ (m n : ℕ) (read : ℕ → ℕ → Ratio) (c k : ℕ) (c_in : c ≤ n + m) (k_in : k < m) where
   counted : (a : ℕ → ℕ → ℤ) (b : List ℕ) (bs : List (List ℕ)) (x : Shows a m n b bs read) (r : ℕ) → LeastOf a m n (column b) x.table c (suc k) r → LeastOf a m n (column b) x.table c (k + 1) r

@@ -23,16 +23,11 @@ pub mod Faults
 pub mod AnswersMet
 pub mod Transferred
 pub mod RowLemmas
-pub mod ChosenLemmas
 pub mod TableLemmas
-pub mod TakenLemmas
-pub mod EnterLemmas
 pub mod LeavingLemmas
-pub mod OutsideLemmas
 pub mod ScaleLemmas
 pub mod StartLemmas
 pub mod AnswerLemmas
 pub mod EndLemmas
 pub mod WalkLemmas
-pub mod PlaceLemmas
 pub mod SettleLemmas

@@ -9,8 +9,8 @@ use Rattle.tv_fraction.proofs.Lowest.{divides}
 use Rattle.tv_fraction.proofs.LowestTerms.{gcd_above, lowest_same, lowest_above, lowest_coprime}
 use Rattle.tv_fraction.specs.Coprime.{AreCoprime}
 use Rattle.tv_fraction.specs.declared.Fraction.{Fraction}
-use Rattle.tv_simplex.specs.Rows.{ratio, ratio_at}
-use Rattle.tv_simplex.specs.Scales.{numerator_at, denominator_at, IsMultiple, IsCommon, HasNoCommon, IsLarger, HasNoLarger, IsTimes, HaveScale}
+use Rattle.tv_simplex.specs.Rows.{ratio}
+use Rattle.tv_simplex.specs.Scales.{ratio_at, numerator_at, denominator_at, IsMultiple, IsCommon, HasNoCommon, IsLarger, HasNoLarger, IsTimes, HaveScale}
 
 pub get_or-append-last : {A : Type 0} (xs : List A) (x : A) (n : ℕ) (d : A) → length xs ≡ n → get_or (xs ++ x ∷ []) n d ≡ x
 get_or-append-last [] x zero d e = refl
@@ -22,6 +22,23 @@ pub get_or-append-before : {A : Type 0} (xs : List A) (x : A) (j : ℕ) (d : A) 
 get_or-append-before [] x j d h = absurd (omega (arith, h))
 get_or-append-before (y ∷ ys) x zero d h = refl
 get_or-append-before (y ∷ ys) x (suc j) d h = get_or-append-before ys x j d (omega (arith, h))
+
+-- ---- lists of fractions
+pub at_get : (xs : List Fraction) (j : ℕ) (d : Fraction) → j < length xs → ratio (get_or xs j d) ≡ ratio_at xs j
+at_get [] j d h = absurd (omega arith)
+at_get (x ∷ xs) zero d h = refl
+at_get (x ∷ xs) (suc j) d h = at_get xs j d (omega arith)
+
+pub at_end : (xs : List Fraction) (f : Fraction) (n : ℕ) → length xs ≡ n → ratio_at (xs ++ f ∷ []) n ≡ ratio f
+at_end [] f zero e = refl
+at_end [] f (suc n) e = absurd (omega (arith, e))
+at_end (x ∷ xs) f zero e = absurd (omega (arith, e))
+at_end (x ∷ xs) f (suc n) e = at_end xs f n (omega (arith, e))
+
+pub before_end : (xs : List Fraction) (f : Fraction) (j : ℕ) → j < length xs → ratio_at (xs ++ f ∷ []) j ≡ ratio_at xs j
+before_end [] f j h = absurd (omega (arith, h))
+before_end (x ∷ xs) f zero h = refl
+before_end (x ∷ xs) f (suc j) h = before_end xs f j (omega (arith, h))
 
 above_product : (a b : ℕ) → 0 < a → 0 < b → 0 < a * b
 above_product a b h k = grind arith

@@ -1,14 +1,20 @@
-use Rattle.std.proofs.Common.{◌≡◌, ◌⊎◌, inl, inr, ℕ, zero, suc, ◌+◌, ◌-◌, ◌<◌, ◌≤◌, List, [], ◌∷◌, ◌++◌, length, length-append, arith, refl, sym, ap, ◌∙◌, subst, ℤ, pos}
+use Rattle.std.proofs.Common.{◌≡◌, inl, inr, ℕ, ◌+◌, ◌-◌, ◌<◌, ◌≤◌, [], length, arith, refl, sym, ap, ◌∙◌, subst, ℤ, pos, ◌*ℤ◌}
+use Rattle.std.proofs.lemmas.Int.{ints}
 use Rattle.std.proofs.lemmas.Bool.Decides.{nat_tests}
-use Rattle.tv_fraction.specs.declared.Fraction.{Fraction}
-use Rattle.tv_simplex.proofs.Sums.{delta-same, delta-other}
+use Rattle.tv_simplex.proofs.RowLemmas.{last_or_below}
+use Rattle.tv_simplex.proofs.Starts.{shows_start}
+use Rattle.tv_simplex.proofs.Sums.{total-same, total-delta, delta-same, delta-other}
 use Rattle.tv_simplex.proofs.Answered.{cost-one, cost-right}
 use Rattle.tv_simplex.proofs.Matrices.{matrix_is_system}
+use Rattle.tv_simplex.specs.Sums.{delta}
 use Rattle.tv_simplex.specs.Systems.{Equations, matrix, right_at}
-use Rattle.tv_simplex.specs.Chains.{cost}
-use Rattle.tv_simplex.specs.Ratios.{IsRatio}
-use Rattle.tv_simplex.specs.Rows.{ratio, ratio_at, IsNarrowRatio}
+use Rattle.tv_simplex.specs.Chains.{cost, IsArtificial}
+use Rattle.tv_simplex.specs.Rows.{none, row_of, IsSparse, IsGrid}
+use Rattle.tv_simplex.specs.declared.table.Table.{Table}
+use Rattle.tv_simplex.specs.Tables.{shown, width_of}
 use Rattle.tv_simplex.specs.Outcomes.{IsNarrow, IsNarrowSystem, given}
+use Rattle.tv_simplex.specs.Starting.{last, first_objective, AreZero, IsNumber, IsFirstTable}
+use Rattle.tv_simplex.specs.Walking.{StandsAt}
 
 pub cost_artificial : (m n j : ℕ) → n ≤ j → j < n + m → cost m n j ≡ pos 1
 cost_artificial m n j h l = (let e : j ≡ n + (j - n) = omega arith in ap (cost m n) e) ∙ cost-one m n (j - n) (omega arith)
@@ -36,35 +42,51 @@ matrix_other s k j l low high last own =
     strictly : (p q : ℕ) → q ≤ p → (q ≡ p → ⊥) → q < p
     strictly p q h n = grind arith
 
-last_or_below : (n j : ℕ) → j < n + 1 → (j ≡ n) ⊎ (j < n)
-last_or_below n j h = grind arith
+-- a row has 0 in the artificial columns of the other rows
+pub zero_under : (s : Equations) (k : ℕ) → k < s.rows → AreZero (matrix s k) s.columns (s.columns + k)
+zero_under s k l j low high = matrix_other s k j l low (omega (arith, l, high)) (λ e. absurd (omega (arith, l, high, e))) (λ e. absurd (omega (arith, high, e)))
 
-pub at_end : (xs : List Fraction) (f : Fraction) (n : ℕ) → length xs ≡ n → ratio_at (xs ++ f ∷ []) n ≡ ratio f
-at_end [] f zero e = refl
-at_end [] f (suc n) e = absurd (omega (arith, e))
-at_end (x ∷ xs) f zero e = absurd (omega (arith, e))
-at_end (x ∷ xs) f (suc n) e = at_end xs f n (omega (arith, e))
+pub zero_over : (s : Equations) (k : ℕ) → k < s.rows → AreZero (matrix s k) (s.columns + k + 1) (s.columns + s.rows)
+zero_over s k l j low high = matrix_other s k j l (omega (arith, low)) (omega (arith, high)) (λ e. absurd (omega (arith, high, e))) (λ e. absurd (omega (arith, low, e)))
 
-pub before_end : (xs : List Fraction) (f : Fraction) (j : ℕ) → j < length xs → ratio_at (xs ++ f ∷ []) j ≡ ratio_at xs j
-before_end [] f j h = absurd (omega (arith, h))
-before_end (x ∷ xs) f zero h = refl
-before_end (x ∷ xs) f (suc j) h = before_end xs f j (omega (arith, h))
+-- ---- rows of whole numbers
+pub number_none : (numbers : ℕ → ℤ) (j : ℕ) → numbers j ≡ pos 0 → IsNumber numbers j none
+number_none numbers j e = record { positive = omega (arith, ints); same = ap (λ z. z *ℤ pos 1) (sym e) }
 
--- the first n places of a row that is made
-pub record RowSoFar (numbers : ℕ → ℤ) (n : ℕ) (row : List Fraction) : Type 0 where
-  pub size : length row ≡ n
-  pub narrow : (j : ℕ) → j < n → IsNarrowRatio (ratio_at row j)
-  pub same : (j : ℕ) → j < n → IsRatio (ratio_at row j) (numbers j) (pos 1)
+-- the objective row has 0 in the artificial columns
+pub objective_zero : (s : Equations) → AreZero (first_objective s) s.columns (s.columns + s.rows)
+objective_zero s j low high =
+    let k = j - s.columns in
+    let l : k < s.rows = omega (arith, low, high) in
+    let at : j ≡ s.columns + k = omega (arith, low) in
+    let sum = total-same s.rows (λ i. matrix s i (s.columns + k)) (λ i. delta i k *ℤ pos 1) (λ i g. (matrix_is_system s).artificial i k g l ∙ one (delta i k)) ∙ total-delta s.rows k (λ i. pos 1) l in
+    let cost = cost-one s.rows s.columns k l in
+    ap (first_objective s) at ∙ omega (arith, ints, sum, cost)
+  where
+    one : (z : ℤ) → z ≡ z *ℤ pos 1
+    one z = omega (arith, ints)
 
-pub row_more : (numbers : ℕ → ℤ) (n : ℕ) (row new : List Fraction) (f : Fraction) (z : ℤ) → RowSoFar numbers n row → new ≡ row ++ f ∷ [] → z ≡ numbers n → IsRatio (ratio f) z (pos 1) → IsNarrowRatio (ratio f) → RowSoFar numbers (n + 1) new
-row_more numbers n row new f z h e g same narrow = subst (λ r. RowSoFar numbers (n + 1) r) (sym e) record {
-  size = length-append row (f ∷ []) ∙ (let s = h.size in let k : length row + 1 ≡ n + 1 = omega (arith, s) in k);
-  narrow = λ j j_in. elim (last_or_below n j j_in) [
-    | inl k ↦ subst (λ i. IsNarrowRatio (ratio_at (row ++ f ∷ []) i)) (sym k) (subst (λ r. IsNarrowRatio r) (sym (at_end row f n h.size)) narrow)
-    | inr k ↦ subst (λ r. IsNarrowRatio r) (sym (before_end row f j (let s = h.size in omega (arith, s, k)))) (h.narrow j k)
-  ];
-  same = λ j j_in. elim (last_or_below n j j_in) [
-    | inl k ↦ subst (λ i. IsRatio (ratio_at (row ++ f ∷ []) i) (numbers i) (pos 1)) (sym k) (subst (λ r. IsRatio r (numbers n) (pos 1)) (sym (at_end row f n h.size)) (subst (λ v. IsRatio (ratio f) v (pos 1)) g same))
-    | inr k ↦ subst (λ r. IsRatio r (numbers j) (pos 1)) (sym (before_end row f j (let s = h.size in omega (arith, s, k)))) (h.same j k)
-  ];
-}
+-- ---- the table of the artificial basis stands
+module _ (s : Equations) (t : Table) (b : IsArtificial s.rows s.columns t.basis.items) (columns : t.columns ≡ s.columns) (h : IsFirstTable s t.rows.items) where
+  width : width_of t ≡ last s + 1
+  width = (let n = b.size in omega (arith, n, columns))
+
+  grid : (i : ℕ) → i < length t.rows.items → IsSparse 0 (last s + 1) (row_of t.rows.items i)
+  grid i l = elim (last_or_below s.rows i (let k = h.height in omega (arith, k, l))) [
+    | inl e ↦ subst (λ z. IsSparse 0 (last s + 1) (row_of t.rows.items z)) (sym e) h.objective.sparse
+    | inr g ↦ (h.row i g).sparse
+  ]
+
+  pub first_stands : StandsAt s 0 t
+  first_stands = record {
+    table = record {
+      height = h.height ∙ (let n = b.size in let e : s.rows + 1 ≡ length t.basis.items + 1 = omega (arith, n) in e);
+      grid = subst (λ z. IsGrid z t.rows.items) (sym width) grid;
+    };
+    size = record { basis = b.size; columns = columns };
+    earlier = [];
+    many = refl;
+    shows = shows_start (matrix s) s.rows s.columns (matrix_is_system s) t.basis.items b (shown t)
+        (λ i j l k. (h.row i l).each j (omega (arith, k)))
+        (λ j k. h.objective.each j (omega (arith, k)));
+  }

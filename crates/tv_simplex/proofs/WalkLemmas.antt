@@ -1,12 +1,10 @@
-use Rattle.std.proofs.Common.{◌≡◌, ◌⊎◌, inl, inr, ℕ, suc, ◌+◌, ◌<◌, ◌≤◌, List, [], ◌∷◌, length, set, Bool, true, false, cond, arith, refl, sym, ap, ◌∙◌, subst, pos}
+use Rattle.std.proofs.Common.{◌≡◌, ◌⊎◌, inl, inr, ℕ, suc, ◌+◌, ◌<◌, ◌≤◌, List, [], ◌∷◌, length, set, Bool, true, false, cond, arith, refl, sym, ap, ◌∙◌, subst}
 use Rattle.std.specs.Prelude.{nat_lt}
 use Rattle.std.specs.List.{AllByRecursion}
 use Rattle.std.proofs.lemmas.Bool.Decides.{nat_tests}
 use Rattle.std.proofs.lemmas.List.{length-set}
 use Rattle.tv_simplex.proofs.GoesOn.{entry_above}
 use Rattle.tv_simplex.proofs.Matrices.{matrix_is_system}
-use Rattle.std.proofs.lemmas.Int.{ints}
-use Rattle.tv_simplex.proofs.Sums.{delta-above}
 use Rattle.tv_simplex.proofs.Reduced.{lowest_narrow}
 use Rattle.tv_simplex.proofs.Shown.{enters, unsolved, next_chain, next_is, next_row, next_objective, shows_next}
 use Rattle.tv_simplex.proofs.Transferred.{settles_any}
@@ -17,11 +15,10 @@ use Rattle.tv_simplex.specs.Outcomes.{HasNarrow, IsWide, TableauOf, AreUnsettled
 use Rattle.tv_simplex.specs.declared.table.Table.{Table}
 use Rattle.tv_simplex.specs.declared.stop.Stop.{Stop}
 use Rattle.tv_simplex.specs.declared.stop.Stop.TheVariants.{Wide, Scale, Memory}
-use Rattle.tv_simplex.specs.Rows.{ratio, row_of}
-use Rattle.tv_simplex.specs.Tables.{shown, place_of, at_place, IsPlace}
-use Rattle.tv_simplex.specs.declared.table.Place.TheVariants.{Row}
-use Rattle.tv_simplex.specs.Exchanges.{IsEntered, IsWideEntry}
-use Rattle.tv_simplex.specs.Stops.{IsEnteringStop}
+use Rattle.tv_simplex.specs.Rows.{ratio, IsGrid}
+use Rattle.tv_simplex.specs.Tables.{shown, width_of}
+use Rattle.tv_simplex.specs.Exchanges.{IsNext, IsWideNext}
+use Rattle.tv_simplex.specs.Stops.{IsExchangeStop}
 use Rattle.tv_simplex.specs.Choosing.{NoneAbove, IsLeast}
 use Rattle.tv_simplex.specs.Walking.{StandsAt, IsEntering, IsStepStop}
 use Rattle.tv_simplex.proofs.LeavingLemmas.{entry_not_above}
@@ -30,8 +27,8 @@ use Rattle.tv_simplex.proofs.LeavingLemmas.{entry_not_above}
 pub height : (s : Equations) (n : ℕ) (t : Table) → StandsAt s n t → length t.rows.items ≡ s.rows + 1
 height s n t st = (let h = st.table.height in let b = st.size.basis in omega (arith, h, b))
 
-pub width : (s : Equations) (n : ℕ) (t : Table) → StandsAt s n t → length t.places.items ≡ s.columns + s.rows + 1
-width s n t st = (let h = st.table.many in let b = st.size.basis in let k = st.size.slots in omega (arith, h, b, k))
+pub width : (s : Equations) (n : ℕ) (t : Table) → StandsAt s n t → width_of t ≡ s.columns + s.rows + 1
+width s n t st = (let b = st.size.basis in let k = st.size.columns in omega (arith, b, k))
 
 module _ (s : Equations) (n : ℕ) (t : Table) (st : StandsAt s n t) (c : ℕ) (e : IsEntering s t c) where
   abbrev never_solves : Solves (matrix s) s.rows s.columns (column t.basis.items) st.shows.table → ⊥
@@ -45,32 +42,29 @@ module _ (s : Equations) (n : ℕ) (t : Table) (st : StandsAt s n t) (c : ℕ) (
   some_leaves none = entry_above (matrix s) s.rows s.columns (column t.basis.items) st.shows.table c e.first.within does_enter.negative
       (λ i l. entry_not_above (shown t i c) (st.shows.table.entry i c) st.shows.table.scale st.shows.table.positive (st.shows.rows i c l (let g = e.first.within in omega arith)) (none i l))
 
-  -- the column that enters is outside of the basis, whose columns have 0 in the objective row
-  pub enters_outside : (l : ℕ) → place_of t.places.items c ≡ Row l → ⊥
-  enters_outside l at =
-      let c_in : c < length t.places.items = (let w = width s n t st in let g = e.first.within in omega (arith, w, g)) in
-      let l_in : l < length t.basis.items = subst (λ p. IsPlace t p) at (st.table.there c c_in).0 in
-      let none : (shown t s.rows c).numerator ≡ pos 0 = ap (λ p. (at_place (row_of t.rows.items s.rows) s.rows p).numerator) at ∙ delta-above s.rows l (let b = st.size.basis in omega (arith, b, l_in)) in
-      let low = e.first.negative in
-      omega (arith, ints, none, low)
-
   module _ (r : ℕ) (least : IsLeast s.rows s.columns (shown t) c s.rows r) where
     abbrev does_leave : Leaves (matrix s) s.rows s.columns (column t.basis.items) st.shows.table c r
     does_leave = (let l = least.least (matrix s) t.basis.items st.earlier st.shows in record { within = l.within; above = l.above; least = l.least })
 
     -- the next basis
-    pub next_stands : (t' : Table) → IsEntered r c t t' → StandsAt s (n + 1) t'
-    next_stands t' next = record {
-      table = next.table;
-      size = record { basis = ap length next.basis ∙ length-set t.basis.items r c ∙ st.size.basis; slots = next.as_wide ∙ st.size.slots };
+    pub next_stands : (t' : Table) → t'.basis.items ≡ set t.basis.items r c → t'.columns ≡ t.columns → IsNext (width_of t) r c t.rows.items t'.rows.items → StandsAt s (n + 1) t'
+    next_stands t' basis columns next = record {
+      table = record {
+        height = next.size ∙ st.table.height ∙ ap (λ k. k + 1) (sym size);
+        grid = subst (λ k. IsGrid k t'.rows.items) (let e : width_of t ≡ width_of t' = omega (arith, size, columns) in e) next.grid;
+      };
+      size = record { basis = size ∙ st.size.basis; columns = columns ∙ st.size.columns };
       earlier = t.basis.items ∷ st.earlier;
       many = (let k : suc (length st.earlier) ≡ n + 1 = (let m = st.many in omega (arith, m)) in k);
-      shows = subst (λ b. Shows (matrix s) s.rows s.columns b (t.basis.items ∷ st.earlier) (shown t')) (sym next.basis)
+      shows = subst (λ b. Shows (matrix s) s.rows s.columns b (t.basis.items ∷ st.earlier) (shown t')) (sym basis)
           (shows_next (matrix s) s.rows s.columns (matrix_is_system s) t.basis.items st.earlier (shown t) st.shows c r never_solves does_enter does_leave (shown t')
           (λ i j i_in j_in. next.exchanged i j (let h = height s n t st in omega (arith, h, i_in)) (let h = width s n t st in omega (arith, h, j_in))));
     }
+      where
+        size : length t'.basis.items ≡ length t.basis.items
+        size = ap length basis ∙ length-set t.basis.items r c
 
-    pub wide_next : (i j : ℕ) → IsWideEntry r c t i j → IsWide s (set t.basis.items r c) i j
+    pub wide_next : (i j : ℕ) → IsWideNext (width_of t) r c t.rows.items i j → IsWide s (set t.basis.items r c) i j
     wide_next i j w = record {
       in_chain = record {
         earlier = t.basis.items ∷ st.earlier;
@@ -98,7 +92,7 @@ module _ (s : Equations) (n : ℕ) (t : Table) (st : StandsAt s n t) (c : ℕ) (
             (next_objective (matrix s) s.rows s.columns (matrix_is_system s) t.basis.items st.earlier (shown t) st.shows c r never_solves does_enter does_leave j (ratio w.fraction) column_in
             (subst (λ k. IsExchanged r c (shown t) k j (ratio w.fraction)) (let l = g refl in let m = row_in in let q : i ≡ s.rows = omega (arith, l, m) in q) w.is)).same h)
 
-    pub step_stops : (basis : List ℕ) (stop : Stop) → basis ≡ set t.basis.items r c → IsEnteringStop r c t stop → IsStepStop s basis stop
+    pub step_stops : (basis : List ℕ) (stop : Stop) → basis ≡ set t.basis.items r c → IsExchangeStop (width_of t) r c t.rows.items stop → IsStepStop s basis stop
     step_stops basis (Wide i j) is h = subst (λ b. IsWide s b i j) (sym is) (wide_next i j h)
     step_stops basis Scale is h = h
     step_stops basis Memory is h = tt

@@ -35,6 +35,12 @@ ComparesAt last c o first second order =
     (u v : ℕ → ℤ) (scale : ℤ) → pos 0 <ℤ scale → IsPicture last first u scale → IsPicture last second v scale →
     IsSignOf order (difference_at c u v o)
 
+-- the order of two fractions, each divided by another, is that of two rows at a column where these are their entries
+abbrev pub OrdersQuotients : Ratio → Ratio → Ratio → Ratio → Ordering → Type 0
+OrdersQuotients left left_pivot right right_pivot order =
+    (last c o : ℕ) (first second : ℕ → Ratio) → c ≤ last → o ≤ last → left ≡ first o → right ≡ second o →
+    left_pivot ≡ first c → right_pivot ≡ second c → ComparesAt last c o first second order
+
 -- the lexicographic order of two lists of numbers by their differences
 abbrev pub IsLexicographic : ℕ → (ℕ → ℤ) → Ordering → Type 0
 IsLexicographic m d Less = LeadsAbove m d

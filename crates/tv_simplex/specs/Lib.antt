@@ -13,8 +13,6 @@ pub mod Tables
 pub mod Exchanges
 pub mod Stops
 pub mod Choosing
-pub mod Chosen
-pub mod Outside
 pub mod Scales
 pub mod Starting
 pub mod Walking

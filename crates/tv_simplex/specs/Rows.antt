@@ -1,95 +1,137 @@
-use Rattle.std.specs.Prelude.{◌≡◌, ◌⊎◌, ℕ, zero, suc, ◌^◌, ◌<◌, List, [], ◌∷◌, length, map, get_or, Vec, pos, unsigned_abs}
+use Rattle.std.specs.Prelude.{◌≡◌, ◌⊎◌, ℕ, ◌+◌, ◌^◌, ◌<◌, ◌≤◌, List, [], ◌∷◌, ◌++◌, length, map, get_or, cond, nat_eq, Vec, pos, unsigned_abs}
 use Rattle.tv_fraction.specs.declared.Fraction.{Fraction}
-use Rattle.tv_simplex.specs.Sums.{delta}
 use Rattle.tv_simplex.specs.Ratios.{Ratio, IsQuotient, IsRest}
+use Rattle.tv_simplex.specs.declared.rows.Entry.{Entry}
 
 abbrev pub ratio : Fraction → Ratio
 ratio f = record { numerator = f.numerator; denominator = f.denominator }
 
--- the fraction at a place of a row; past the end it is 0
-abbrev pub ratio_at : List Fraction → ℕ → Ratio
-ratio_at [] j = record { numerator = pos 0; denominator = pos 1 }
-ratio_at (f ∷ fs) zero = ratio f
-ratio_at (f ∷ fs) (suc j) = ratio_at fs j
+abbrev pub none : Ratio
+none = record { numerator = pos 0; denominator = pos 1 }
 
--- a row of a table, and the fraction at a place of it
-abbrev pub row_of : {A : Type 0} → List (Vec Fraction A) → ℕ → List Fraction
+-- the number of an entry
+abbrev pub ratio_of : Entry → Ratio
+ratio_of e = record { numerator = e.number.numerator; denominator = e.number.denominator }
+
+-- the fraction of a row in a column: 0 where the row has no entry
+abbrev pub entry_in : List Entry → ℕ → Ratio
+entry_in [] j = none
+entry_in (e ∷ es) j = cond (nat_eq e.column j) (ratio_of e) (entry_in es j)
+
+-- a row of a table, and the fraction in a column of it
+abbrev pub row_of : {A : Type 0} → List (Vec Entry A) → ℕ → List Entry
 row_of rows i = get_or (map (λ v. v.items) rows) i []
 
-abbrev pub read : {A : Type 0} → List (Vec Fraction A) → ℕ → ℕ → Ratio
-read rows i j = ratio_at (row_of rows i) j
-
--- the unit column of row r, in row i
-abbrev pub unit_at : ℕ → ℕ → Ratio
-unit_at i r = record { numerator = delta i r; denominator = pos 1 }
+abbrev pub read : {A : Type 0} → List (Vec Entry A) → ℕ → ℕ → Ratio
+read rows i j = entry_in (row_of rows i) j
 
 -- both parts are below 2^40 in magnitude
 abbrev pub IsNarrowRatio : Ratio → Type 0
 IsNarrowRatio f = (unsigned_abs f.numerator < 2 ^ 40) × (unsigned_abs f.denominator < 2 ^ 40)
 
-abbrev pub IsNarrowRow : List Fraction → Type 0
-IsNarrowRow row = (j : ℕ) → j < length row → IsNarrowRatio (ratio_at row j)
+-- the column of the entry is one of these, and its number is not 0
+pub record IsEntry (first end : ℕ) (e : Entry) : Type 0 where
+  pub from : first ≤ e.column
+  pub below : e.column < end
+  pub nonzero : e.number.numerator ≡ pos 0 → ⊥
 
--- the rows have this width and are narrow
-pub record IsGrid {A : Type 0} (width : ℕ) (rows : List (Vec Fraction A)) : Type 0 where
-  pub wide : (i : ℕ) → i < length rows → length (row_of rows i) ≡ width
-  pub narrow : (i : ℕ) → i < length rows → IsNarrowRow (row_of rows i)
+-- the columns of the entries increase, from the first to below the end, and the numbers are not 0
+abbrev pub IsSparse : ℕ → ℕ → List Entry → Type 0
+IsSparse first end [] = Unit {0}
+IsSparse first end (e ∷ es) = IsEntry first end e × IsSparse (e.column + 1) end es
 
--- the new row is the old one, each fraction divided by the divisor
-abbrev pub AreQuotients : List Fraction → Ratio → List Fraction → Type 0
-AreQuotients old divisor new = (j : ℕ) → j < length old → IsQuotient (ratio_at new j) (ratio_at old j) divisor
+-- a sparse row of so many columns, whose fraction in each of them keeps the rule
+pub record IsRow (rule : ℕ → Ratio → Type 0) (width : ℕ) (row : List Entry) : Type 0 where
+  pub sparse : IsSparse 0 width row
+  pub each : (j : ℕ) → j < width → rule j (entry_in row j)
 
--- the new row is the old one less the factor times the pivot row
-abbrev pub AreRests : List Fraction → Ratio → List Fraction → List Fraction → Type 0
-AreRests old factor pivots new = (j : ℕ) → j < length old → IsRest (ratio_at new j) (ratio_at old j) factor (ratio_at pivots j)
+-- the entries begin with this column, or no earlier
+abbrev pub BeginsWith : List Entry → ℕ → Type 0
+BeginsWith [] column = ⊥
+BeginsWith (e ∷ es) column = e.column ≡ column
 
--- at the place stands a fraction that is not narrow, where the row is divided
-pub record IsWideQuotient (old : List Fraction) (divisor : Ratio) (j : ℕ) : Type 0 where
-  pub within : j < length old
+abbrev pub BeginsFrom : List Entry → ℕ → Type 0
+BeginsFrom [] column = Unit {0}
+BeginsFrom (e ∷ es) column = column ≤ e.column
+
+-- the least column of the entries of two rows
+pub record IsNextColumn (left right : List Entry) (column : ℕ) : Type 0 where
+  pub begins : BeginsWith left column ⊎ BeginsWith right column
+  pub left_from : BeginsFrom left column
+  pub right_from : BeginsFrom right column
+
+-- the entries are those of the row from the column on
+pub record IsRestOf (row : ℕ → Ratio) (column width : ℕ) (entries : List Entry) : Type 0 where
+  pub sparse : IsSparse column width entries
+  pub same : (j : ℕ) → column ≤ j → entry_in entries j ≡ row j
+
+-- the row goes on with one more entry, of the fraction in the column
+pub record IsAppended (column : ℕ) (f : Ratio) (old new : List Entry) : Type 0 where
+  pub entry : Entry
+  pub column_is : entry.column ≡ column
+  pub number_is : ratio_of entry ≡ f
+  pub appended : new ≡ old ++ entry ∷ []
+
+-- the fraction stands in the column at the end of the row, where it is not 0
+abbrev pub IsPut : ℕ → Ratio → List Entry → List Entry → Type 0
+IsPut column f old new = ((f ≡ none) × (new ≡ old)) ⊎ ((f.numerator ≡ pos 0 → ⊥) × IsAppended column f old new)
+
+-- the fraction of the old row, divided by the divisor
+abbrev pub IsDivided : List Entry → Ratio → ℕ → Ratio → Type 0
+IsDivided old divisor j f = IsQuotient f (entry_in old j) divisor
+
+-- the fraction of the old row, less the factor times that of the pivot row
+abbrev pub IsTaken : List Entry → Ratio → List Entry → ℕ → Ratio → Type 0
+IsTaken old factor pivots j f = IsRest f (entry_in old j) factor (entry_in pivots j)
+
+-- in the column stands a fraction that is not narrow, by this rule
+pub record IsWideBy (rule : ℕ → Ratio → Type 0) (width j : ℕ) : Type 0 where
+  pub within : j < width
   pub fraction : Fraction
-  pub is : IsQuotient (ratio fraction) (ratio_at old j) divisor
+  pub is : rule j (ratio fraction)
   pub wide : IsNarrowRatio (ratio fraction) → ⊥
 
--- at the place stands a fraction that is not narrow, where the pivot row is taken away
-pub record IsWideRest (old : List Fraction) (factor : Ratio) (pivots : List Fraction) (j : ℕ) : Type 0 where
-  pub within : j < length old
-  pub fraction : Fraction
-  pub is : IsRest (ratio fraction) (ratio_at old j) factor (ratio_at pivots j)
-  pub wide : IsNarrowRatio (ratio fraction) → ⊥
+-- the row is made by the rule in the columns below this one, and the entries that are left are those of the old row from it on
+pub record IsMade (rule : ℕ → Ratio → Type 0) (old : List Entry) (width column : ℕ) (entries new : List Entry) : Type 0 where
+  pub within : column ≤ width
+  pub left : IsRestOf (entry_in old) column width entries
+  pub made : IsRow rule column new
 
--- what row i holds after the exchange in row r, at a place whose column had the entries, where that which enters had the factors
-abbrev pub IsMoved : ℕ → (ℕ → Ratio) → (ℕ → Ratio) → ℕ → Ratio → Type 0
-IsMoved r entry factor i f =
-    ((i ≡ r) × IsQuotient f (entry r) (factor r))
-    ⊎ ((i ≡ r → ⊥) × ((q : Ratio) × IsQuotient q (entry r) (factor r) × IsRest f (entry i) (factor i) q))
+-- from a column on the row has none before another
+abbrev pub NoneBetween : List Entry → ℕ → ℕ → Type 0
+NoneBetween row first end = (j : ℕ) → first ≤ j → j < end → entry_in row j ≡ none
 
--- the column at place k is taken out of the rows, and the unit column of row r stands there; the rows stay narrow
-pub record IsTaken {A : Type 0} (width r k : ℕ) (old new : List (Vec Fraction A)) (factors : List Fraction) : Type 0 where
+-- of whatever rows the new one is made, it goes on with the entries below the column, where the pivot row has none
+abbrev pub IsCopied : ℕ → List Entry → List Entry → List Entry → List Entry → Type 0
+IsCopied column entries made left new =
+    (old pivots : List Entry) (factor : Ratio) (width from : ℕ) → from ≤ column → column ≤ width → NoneBetween pivots from column →
+    IsMade (IsTaken old factor pivots) old width from entries made → IsMade (IsTaken old factor pivots) old width column left new
+
+-- the entry is the first of the pivot row from a column on
+pub record IsNextPivot (row : List Entry) (width column : ℕ) (e : Entry) : Type 0 where
+  pub from : column ≤ e.column
+  pub below : e.column < width
+  pub none_before : NoneBetween row column e.column
+  pub is : entry_in row e.column ≡ ratio_of e
+
+-- of whatever rows the new one is made, it goes on to the column of the next pivot
+abbrev pub IsTakenOnce : Ratio → Entry → List Entry → List Entry → List Entry → List Entry → Type 0
+IsTakenOnce factor pivot entries made left new =
+    (old pivots : List Entry) (width from : ℕ) → IsNextPivot pivots width from pivot →
+    IsMade (IsTaken old factor pivots) old width from entries made → IsMade (IsTaken old factor pivots) old width (pivot.column + 1) left new
+
+-- or a fraction there is not narrow
+abbrev pub IsWideOnce : Ratio → Entry → List Entry → List Entry → Type 0
+IsWideOnce factor pivot entries made =
+    (old pivots : List Entry) (width from : ℕ) → IsNextPivot pivots width from pivot →
+    IsMade (IsTaken old factor pivots) old width from entries made → IsWideBy (IsTaken old factor pivots) width pivot.column
+
+-- the rows are sparse
+abbrev pub IsGrid : {A : Type 0} → ℕ → List (Vec Entry A) → Type 0
+IsGrid width rows = (i : ℕ) → i < length rows → IsSparse 0 width (row_of rows i)
+
+-- each row but row r is less its factor times the pivot row; row r stays
+pub record AreCleared {A : Type 0} (width r : ℕ) (factor : ℕ → Ratio) (pivots : List Entry) (old new : List (Vec Entry A)) : Type 0 where
   pub size : length new ≡ length old
-  pub grid : IsGrid width new
-  pub as_many : length factors ≡ length old
-  pub narrow : IsNarrowRow factors
-  pub factor : (i : ℕ) → i < length old → ratio_at factors i ≡ read old i k
-  pub unit : (i : ℕ) → i < length old → read new i k ≡ unit_at i r
-  pub kept : (i j : ℕ) → i < length old → (j ≡ k → ⊥) → read new i j ≡ read old i j
-
--- each row but row r is less its factor times row r, which stays; all are narrow
-pub record AreCleared {A : Type 0} (width r : ℕ) (factor : ℕ → Ratio) (old new : List (Vec Fraction A)) : Type 0 where
-  pub size : length new ≡ length old
-  pub grid : IsGrid width new
   pub kept : row_of new r ≡ row_of old r
-  pub cleared : (i : ℕ) → i < length old → (i ≡ r → ⊥) → AreRests (row_of old i) (factor i) (row_of old r) (row_of new i)
-
--- the column of the factors entered in the row
-pub record IsNext {A : Type 0} (width r : ℕ) (factor : ℕ → Ratio) (old new : List (Vec Fraction A)) : Type 0 where
-  pub size : length new ≡ length old
-  pub grid : IsGrid width new
-  pub exchanged : (i j : ℕ) → i < length old → j < width → IsMoved r (λ k. read old k j) factor i (read new i j)
-
--- at the place stands a fraction that is not narrow, where the column of the factors enters in the row
-pub record IsWideNext {A : Type 0} (width r : ℕ) (factor : ℕ → Ratio) (old : List (Vec Fraction A)) (i j : ℕ) : Type 0 where
-  pub row_within : i < length old
-  pub column_within : j < width
-  pub fraction : Fraction
-  pub is : IsMoved r (λ k. read old k j) factor i (ratio fraction)
-  pub wide : IsNarrowRatio (ratio fraction) → ⊥
+  pub cleared : (i : ℕ) → i < length old → (i ≡ r → ⊥) → IsRow (IsTaken (row_of old i) (factor i) pivots) width (row_of new i)

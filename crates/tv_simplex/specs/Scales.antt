@@ -1,10 +1,17 @@
-use Rattle.std.specs.Prelude.{◌≡◌, ℕ, ◌<◌, ◌≤◌, ◌^◌, List, length, get_or, ℤ, pos, ◌*ℤ◌, ◌<ℤ◌, unsigned_abs}
+use Rattle.std.specs.Prelude.{◌≡◌, ℕ, zero, suc, ◌<◌, ◌≤◌, ◌^◌, List, [], ◌∷◌, length, get_or, ℤ, pos, ◌*ℤ◌, ◌<ℤ◌, unsigned_abs}
 use Prim.Native.Nat.{◌∣◌}
 use Rattle.tv_fraction.specs.declared.Fraction.{Fraction}
 use Rattle.tv_simplex.specs.Outcomes.{IsShort}
-use Rattle.tv_simplex.specs.Rows.{ratio_at}
+use Rattle.tv_simplex.specs.Ratios.{Ratio}
+use Rattle.tv_simplex.specs.Rows.{ratio, none, IsNarrowRatio}
 use Rattle.tv_simplex.specs.declared.stop.Stop.{Stop}
 use Rattle.tv_simplex.specs.declared.stop.Stop.TheVariants.{Wide, Scale, Memory}
+
+-- the fraction at a place of a list; past the end it is 0
+abbrev pub ratio_at : List Fraction → ℕ → Ratio
+ratio_at [] j = none
+ratio_at (f ∷ fs) zero = ratio f
+ratio_at (f ∷ fs) (suc j) = ratio_at fs j
 
 abbrev pub numerator_at : List Fraction → ℕ → ℤ
 numerator_at fractions j = (ratio_at fractions j).numerator
@@ -15,6 +22,10 @@ denominator_at fractions j = (ratio_at fractions j).denominator
 -- each numerator is below 2^41 in magnitude
 abbrev pub AreBounded : List Fraction → Type 0
 AreBounded fractions = (j : ℕ) → j < length fractions → unsigned_abs (numerator_at fractions j) < 2 ^ 41
+
+-- both parts of each are below 2^40 in magnitude
+abbrev pub AreNarrow : List Fraction → Type 0
+AreNarrow fractions = (j : ℕ) → j < length fractions → IsNarrowRatio (ratio_at fractions j)
 
 -- k is a multiple of each of the first n denominators
 abbrev pub IsMultiple : List Fraction → ℕ → ℕ → Type 0

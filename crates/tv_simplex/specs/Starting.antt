@@ -1,16 +1,14 @@
-use Rattle.std.specs.Prelude.{◌≡◌, ℕ, ◌+◌, ◌-◌, ◌*◌, ◌^◌, ◌<◌, ◌≤◌, List, length, get_or, Vec, ℤ, pos, ◌-ℤ◌, unsigned_abs, cond, nat_lt}
+use Rattle.std.specs.Prelude.{◌≡◌, ℕ, ◌+◌, ◌*◌, ◌^◌, ◌<◌, ◌≤◌, List, length, get_or, Vec, ℤ, pos, ◌-ℤ◌, unsigned_abs, cond, nat_lt}
 use Rattle.tv_fraction.specs.declared.Fraction.{Fraction}
 use Rattle.tv_simplex.specs.Sums.{total}
 use Rattle.tv_simplex.specs.Systems.{Equations, matrix}
-use Rattle.tv_simplex.specs.Chains.{column, cost}
-use Rattle.tv_simplex.specs.Ratios.{IsRatio}
+use Rattle.tv_simplex.specs.Chains.{cost}
+use Rattle.tv_simplex.specs.Ratios.{Ratio, IsRatio}
 use Rattle.tv_simplex.specs.Outcomes.{IsNarrow, IsGivenColumn, given}
+use Rattle.tv_simplex.specs.declared.rows.Entry.{Entry}
 use Rattle.tv_simplex.specs.declared.stop.Stop.{Stop}
 use Rattle.tv_simplex.specs.declared.stop.Stop.TheVariants.{Wide, Scale, Memory}
-use Rattle.tv_simplex.specs.declared.table.Place.{Place}
-use Rattle.tv_simplex.specs.declared.table.Place.TheVariants.{Slot, Row}
-use Rattle.tv_simplex.specs.Tables.{place_of}
-use Rattle.tv_simplex.specs.Rows.{ratio, ratio_at, row_of, IsNarrowRatio, IsNarrowRow}
+use Rattle.tv_simplex.specs.Rows.{ratio, row_of, IsRow, IsNarrowRatio}
 
 -- every number of the row is narrow
 abbrev pub IsNarrowRowOf : Equations → ℕ → Type 0
@@ -30,40 +28,44 @@ last s = s.columns + s.rows
 abbrev pub first_objective : Equations → ℕ → ℤ
 first_objective s j = cost s.rows s.columns j -ℤ total s.rows (λ k. matrix s k j)
 
--- the columns outside of the artificial basis: those of the system, and the right side
+-- the column of a sum: those of the system come first, and then the right side
 abbrev pub first_slot : Equations → ℕ → ℕ
 first_slot s k = cond (nat_lt k s.columns) k (last s)
 
-pub record AreFirstSlots (s : Equations) (slots : List ℕ) : Type 0 where
-  pub size : length slots ≡ s.columns + 1
-  pub each : (k : ℕ) → k < s.columns + 1 → column slots k ≡ first_slot s k
+-- the fraction is this whole number of the column
+abbrev pub IsNumber : (ℕ → ℤ) → ℕ → Ratio → Type 0
+IsNumber numbers j f = IsRatio f (numbers j) (pos 1)
 
--- where each column of the tableau of the artificial basis stands
-abbrev pub first_place : Equations → ℕ → Place
-first_place s j = cond (nat_lt j s.columns) (Slot j) (cond (nat_lt j (last s)) (Row (j - s.columns)) (Slot s.columns))
+-- from a column on the numbers are 0 before another
+abbrev pub AreZero : (ℕ → ℤ) → ℕ → ℕ → Type 0
+AreZero numbers first end = (j : ℕ) → first ≤ j → j < end → numbers j ≡ pos 0
 
-pub record AreFirstPlaces (s : Equations) (places : List Place) : Type 0 where
-  pub size : length places ≡ last s + 1
-  pub each : (j : ℕ) → j < last s + 1 → place_of places j ≡ first_place s j
+-- whatever numbers the row holds, it goes on with this one in the column
+abbrev pub IsNumberPut : ℕ → ℤ → List Entry → List Entry → Type 0
+IsNumberPut column number old new =
+    (numbers : ℕ → ℤ) (from : ℕ) → from ≤ column → numbers column ≡ number → AreZero numbers from column →
+    IsRow (IsNumber numbers) from old → IsRow (IsNumber numbers) (column + 1) new
 
--- the row holds these numbers of the columns outside of the artificial basis, and is narrow
-pub record IsRowOf (s : Equations) (numbers : ℕ → ℤ) (row : List Fraction) : Type 0 where
-  pub size : length row ≡ s.columns + 1
-  pub narrow : IsNarrowRow row
-  pub same : (k : ℕ) → k < s.columns + 1 → IsRatio (ratio_at row k) (numbers (first_slot s k)) (pos 1)
+-- the row holds the numbers of row k of the system, its artificial column and its right side
+abbrev pub IsFirstRow : Equations → ℕ → List Entry → Type 0
+IsFirstRow s k row = IsRow (IsNumber (matrix s k)) (last s + 1) row
+
+-- the row holds the objective row of the artificial basis
+abbrev pub IsFirstObjective : Equations → List Entry → Type 0
+IsFirstObjective s row = IsRow (IsNumber (first_objective s)) (last s + 1) row
 
 -- the rows hold the system and the objective of the artificial basis
-pub record IsFirstTable {A : Type 0} (s : Equations) (rows : List (Vec Fraction A)) : Type 0 where
+pub record IsFirstTable {A : Type 0} (s : Equations) (rows : List (Vec Entry A)) : Type 0 where
   pub height : length rows ≡ s.rows + 1
-  pub row : (i : ℕ) → i < s.rows → IsRowOf s (matrix s i) (row_of rows i)
-  pub objective : IsRowOf s (first_objective s) (row_of rows s.rows)
+  pub row : (i : ℕ) → i < s.rows → IsFirstRow s i (row_of rows i)
+  pub objective : IsFirstObjective s (row_of rows s.rows)
 
--- z is the sum of the first n rows in the column at the slot
+-- z is the sum of the first n rows in the column of sum k
 pub record IsSum (s : Equations) (n k : ℕ) (z : ℤ) : Type 0 where
   pub value : z ≡ total n (λ i. matrix s i (first_slot s k))
   pub bound : unsigned_abs z ≤ 2 ^ 40 * n
 
--- the sums of the first n rows in the columns outside of the artificial basis
+-- the sums of the first n rows in the columns of the system and of the right side
 pub record AreSums (s : Equations) (n : ℕ) (sums : List ℤ) : Type 0 where
   pub size : length sums ≡ s.columns + 1
   pub each : (k : ℕ) → k < s.columns + 1 → IsSum s n k (get_or sums k (pos 0))

@@ -1,31 +1,24 @@
 use Rattle.std.specs.Prelude.{◌≡◌, ℕ, ◌<◌, ◌^◌, List, length, Vec}
-use Rattle.tv_fraction.specs.declared.Fraction.{Fraction}
 use Rattle.tv_simplex.specs.Ratios.{Ratio}
+use Rattle.tv_simplex.specs.declared.rows.Entry.{Entry}
 use Rattle.tv_simplex.specs.declared.stop.Stop.{Stop}
 use Rattle.tv_simplex.specs.declared.stop.Stop.TheVariants.{Wide, Scale, Memory}
 use Rattle.tv_simplex.specs.declared.fault.SolveFault.{SolveFault}
 use Rattle.tv_simplex.specs.declared.fault.SolveFault.TheVariants as faults
-use Rattle.tv_simplex.specs.declared.table.Table.{Table}
-use Rattle.tv_simplex.specs.Rows.{row_of, IsWideRest, IsWideNext}
-use Rattle.tv_simplex.specs.Exchanges.{IsWideEntry}
+use Rattle.tv_simplex.specs.Rows.{row_of, IsTaken, IsWideBy}
+use Rattle.tv_simplex.specs.Exchanges.{IsWideNext}
 
--- at a place of another row than r stands a fraction that is not narrow, where row r is taken away
-abbrev pub IsClearingStop : {A : Type 0} → ℕ → (ℕ → Ratio) → List (Vec Fraction A) → Stop → Type 0
-IsClearingStop r factor rows (Wide i j) = (i < length rows) × (i ≡ r → ⊥) × IsWideRest (row_of rows i) (factor i) (row_of rows r) j
-IsClearingStop r factor rows Scale = ⊥
-IsClearingStop r factor rows Memory = ⊥
+-- at a place of another row than r stands a fraction that is not narrow, where the pivot row is taken away
+abbrev pub IsClearingStop : {A : Type 0} → ℕ → ℕ → (ℕ → Ratio) → List Entry → List (Vec Entry A) → Stop → Type 0
+IsClearingStop width r factor pivots rows (Wide i j) = (i < length rows) × (i ≡ r → ⊥) × IsWideBy (IsTaken (row_of rows i) (factor i) pivots) width j
+IsClearingStop width r factor pivots rows Scale = ⊥
+IsClearingStop width r factor pivots rows Memory = Unit {0}
 
--- at a place stands a fraction that is not narrow, where the column of the factors enters in the row
-abbrev pub IsExchangeStop : {A : Type 0} → ℕ → ℕ → (ℕ → Ratio) → List (Vec Fraction A) → Stop → Type 0
-IsExchangeStop width r factor rows (Wide i j) = IsWideNext width r factor rows i j
-IsExchangeStop width r factor rows Scale = ⊥
-IsExchangeStop width r factor rows Memory = Unit {0}
-
--- at a place of the whole tableau stands a fraction that is not narrow, where the column enters in the row
-abbrev pub IsEnteringStop : ℕ → ℕ → Table → Stop → Type 0
-IsEnteringStop r c t (Wide i j) = IsWideEntry r c t i j
-IsEnteringStop r c t Scale = ⊥
-IsEnteringStop r c t Memory = Unit {0}
+-- at a place stands a fraction that is not narrow, where column c enters in row r
+abbrev pub IsExchangeStop : {A : Type 0} → ℕ → ℕ → ℕ → List (Vec Entry A) → Stop → Type 0
+IsExchangeStop width r c rows (Wide i j) = IsWideNext width r c rows i j
+IsExchangeStop width r c rows Scale = ⊥
+IsExchangeStop width r c rows Memory = Unit {0}
 
 -- the place has numbers of 32 bits
 abbrev pub HasNumberedPlace : Stop → Type 0

@@ -12,10 +12,9 @@ use Rattle.tv_simplex.specs.declared.table.Table.{Table}
 use Rattle.tv_simplex.specs.declared.table.Settled.{Settled}
 use Rattle.tv_simplex.specs.declared.table.Settled.TheVariants.{Done, Enters}
 use Rattle.tv_simplex.specs.Views.{IsAnswer, GivesAnswer}
-use Rattle.tv_simplex.specs.Rows.{ratio_at}
 use Rattle.tv_simplex.specs.Tables.{shown, IsTable, HasSize}
 use Rattle.tv_simplex.specs.Choosing.{IsFirstNegative}
-use Rattle.tv_simplex.specs.Scales.{AreBounded}
+use Rattle.tv_simplex.specs.Scales.{ratio_at, AreBounded}
 
 -- the fractions are those of the first rows in a column
 pub record AreOfColumn (height column : ℕ) (read : ℕ → ℕ → Ratio) (fractions : List Fraction) : Type 0 where

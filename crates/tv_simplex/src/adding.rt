@@ -10,8 +10,8 @@ use crate::System;
 use crate::numbers::number_at;
 use std::alloc::{AllocError, Global};
 
-/// The column at a slot outside of the artificial basis: those of the system come first, and then the right side.
-pub fn slot_column(system: &System, slot: usize) -> usize
+/// The column of a sum: those of the system come first, and then the right side.
+fn slot_column(system: &System, slot: usize) -> usize
     requires whole { IsWhole (equations system.now) }
     requires slot { slot ≤ system.now.columns }
     ensures is { result ≡ first_slot (equations system.now) slot }
@@ -35,7 +35,7 @@ fn with_number(sum: i128, number: i128, row: usize) -> i128
     sum + number
 }
 
-/// The sum at a slot.
+/// The sum at a place.
 pub fn sum_at(sums: &[i128], slot: usize) -> i128
     requires { slot < length sums.now }
     ensures { result ≡ get_or sums.now slot (pos 0) }
@@ -58,7 +58,7 @@ fn add_row(system: &System, row: usize, sums: &mut [i128])
     }
 }
 
-/// The sums of the columns outside of the artificial basis. The system is read row by row, as it is held.
+/// The sums of the columns of the system and of the right sides. The system is read row by row, as it is held.
 pub fn column_sums(alloc: Global, system: &System) -> Result<Vec<i128>, AllocError>
     requires whole { IsWhole (equations system.now) }
     requires narrow { IsNarrowSystem (equations system.now) }

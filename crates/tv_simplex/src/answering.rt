@@ -7,38 +7,19 @@ ghost use Rattle.tv_simplex.specs.Views.{equations};
 ghost use Rattle.tv_simplex.specs.Rows.{ratio};
 ghost use Rattle.tv_simplex.specs.Tables.{shown, IsTable};
 ghost use Rattle.tv_simplex.specs.Choosing.{NoneNegative};
-ghost use Rattle.tv_simplex.specs.Walking.{AreOfColumn, IsLessOne, AreOfObjective, AreDistinct, AreValues, AreSigned, Stands, IsSolved, IsUnsolvedAt, IsRight, IsSettledBy, IsAnswerStop};
+ghost use Rattle.tv_simplex.specs.Walking.{IsLessOne, AreOfObjective, AreDistinct, AreValues, AreSigned, Stands, IsSolved, IsUnsolvedAt, IsRight, IsSettledBy, IsAnswerStop};
 ghost use Rattle.tv_fraction.specs.Fraction.{IsNarrow, numerator_of};
 
 use crate::entering::entering_column;
+use crate::fractions::is_zero;
 use crate::numbers::{right_at, signed};
-use crate::rows::is_zero;
 use crate::scaling::bring_to_scale;
 use crate::stop::Stop;
-use crate::table::{Settled, Table, entry_at};
+use crate::table::{Settled, Table, column_of, entry_at};
 use crate::{Answer, System};
 use std::alloc::{AllocError, Global};
 use tv_fraction::Fraction;
 use tv_linear::push_item;
-
-/// The fractions of so many rows in a column.
-fn column_of(
-    alloc: Global,
-    table: &Table,
-    height: usize,
-    column: usize,
-) -> Result<Vec<Fraction>, AllocError>
-    requires table { IsTable table.now }
-    requires height { height ≤ length table.now.rows.items }
-    requires column { column < length table.now.places.items }
-    ensures { IfOk result (λ v. AreOfColumn height column (shown table.now) v.items) }
-{
-    let mut fractions = Vec::with_capacity(alloc, height)?;
-    'rows: for row in 0..height {
-        push_item(&mut fractions, entry_at(table, row, column))?;
-    }
-    Ok(fractions)
-}
 
 /// A fraction less 1.
 fn less_one(fraction: &Fraction) -> Fraction
@@ -62,7 +43,6 @@ fn objective_of(
     requires few { (rows < 2 ^ 32) × (columns < 2 ^ 32) }
     requires table { IsTable table.now }
     requires height { rows < length table.now.rows.items }
-    requires wide { columns + rows < length table.now.places.items }
     ensures { IfOk result (λ v. AreOfObjective rows columns (shown table.now rows) v.items) }
 {
     let mut fractions = Vec::with_capacity(alloc, rows)?;
@@ -188,7 +168,7 @@ pub fn settle(alloc: Global, system: &System, table: &Table) -> Result<Settled, 
             Err(stop) => Err(stop),
             Ok(answer) => Ok(Settled::Done(answer)),
         },
-        Some(_) => match entering_column(table, system.rows as usize, system.columns as usize) {
+        Some(_) => match entering_column(table, system.rows as usize) {
             Some(column) => Ok(Settled::Enters(column)),
             None => match barrier(alloc, system, table) {
                 Err(stop) => Err(stop),

@@ -1,146 +1,165 @@
-// Rows of fractions, and what an exchange does to them.
+// Sparse rows of fractions, and what an exchange does to them.
 
-ghost use Rattle.std.specs.Prelude.{◌≡◌, ℕ, ◌<◌, length, pos, ◌<ℤ◌, IsTrue, ◌↔◌, IfOk, MatchOption, Option, None, slice_set};
-ghost use Rattle.tv_fraction.specs.Fraction.{numerator_of, denominator_of, IsNarrow};
-ghost use Rattle.tv_simplex.specs.Ratios.{IsQuotient, IsRest};
-ghost use Rattle.tv_simplex.specs.Rows.{ratio, ratio_at, row_of, IsNarrowRatio, IsNarrowRow, AreQuotients, AreRests, IsWideQuotient, IsWideRest};
-ghost use Rattle.tv_simplex.specs.Chosen.{IsAdded, IsNonzero, AreNonzero};
+ghost use Rattle.std.specs.Prelude.{◌≡◌, ℕ, ◌+◌, ◌^◌, ◌<◌, ◌≤◌, [], length, take, pos, ◌<ℤ◌, IsTrue, IfOk, MatchOption};
+ghost use Rattle.tv_fraction.specs.Fraction.{numerator_of, IsNarrow};
+ghost use Rattle.tv_simplex.specs.Rows.{ratio, ratio_of, entry_in, row_of, IsSparse, IsRow, IsRestOf, BeginsWith, BeginsFrom, IsPut, IsDivided, IsWideBy};
 
-use std::alloc::{AllocError, Global};
-use tv_fraction::{Fraction, div, mul_sub};
+use crate::fractions::{is_zero, quotient};
+use std::alloc::AllocError;
+use tv_fraction::{Fraction, Narrow};
 use tv_linear::push_item;
 
-pub fn row_at(rows: &[Vec<Fraction>], row: usize) -> &[Fraction]
+/// A number of a row that is not 0, and its column.
+#[derive(Clone, Copy)]
+pub struct Entry {
+    pub column: u32,
+    pub number: Narrow,
+}
+
+/// The number of the entry.
+pub fn fraction_of(entry: &Entry) -> Fraction
+    ensures is { ratio result ≡ ratio_of entry.now }
+    ensures narrow { IsNarrow result }
+{
+    entry.number.fraction()
+}
+
+pub fn row_at(rows: &[Vec<Entry>], row: usize) -> &[Entry]
     requires { row < length rows.now }
     ensures { result.now ≡ row_of rows.now row }
 {
     &rows[row]
 }
 
-/// The fraction at a place.
-pub fn fraction_at(row: &[Fraction], place: usize) -> Fraction
-    requires { place < length row.now }
-    ensures is { ratio result ≡ ratio_at row.now place }
-    ensures narrow { IsNarrowRatio (ratio_at row.now place) → IsNarrow result }
+/// Whether no entry is in an earlier column.
+fn begins_from(entries: &[Entry], column: usize) -> bool
+    ensures { IsTrue result → BeginsFrom entries.now column }
 {
-    row[place]
-}
-
-pub fn put_fraction(row: &mut [Fraction], place: usize, fraction: Fraction)
-    requires { place < length row.old }
-    ensures { row.new ≡ slice_set row.old place fraction }
-{
-    row[place] = fraction;
-}
-
-/// A fraction divided by one above 0.
-pub fn quotient(fraction: &Fraction, divisor: &Fraction) -> Fraction
-    requires fraction { IsNarrow fraction.now }
-    requires divisor { IsNarrow divisor.now }
-    requires above { pos 0 <ℤ numerator_of divisor.now }
-    ensures { IsQuotient (ratio result) (ratio fraction.now) (ratio divisor.now) }
-{
-    div(fraction, divisor)
-}
-
-pub fn is_zero(fraction: &Fraction) -> bool
-    ensures { IsTrue result ↔ numerator_of fraction.now ≡ pos 0 }
-{
-    fraction.numerator() == 0
-}
-
-/// Whether the fraction is 1.
-fn is_one(fraction: &Fraction) -> bool
-    ensures { IsTrue result ↔ (numerator_of fraction.now ≡ pos 1) × (denominator_of fraction.now ≡ pos 1) }
-{
-    fraction.numerator() == 1 && fraction.denominator() == 1
-}
-
-/// A fraction less a product of two.
-fn rest(fraction: &Fraction, factor: &Fraction, pivot: &Fraction) -> Fraction
-    requires fraction { IsNarrow fraction.now }
-    requires factor { IsNarrow factor.now }
-    requires pivot { IsNarrow pivot.now }
-    ensures { IsRest (ratio result) (ratio fraction.now) (ratio factor.now) (ratio pivot.now) }
-{
-    mul_sub(fraction, factor, pivot)
-}
-
-/// Divides the row, up to the first place where what comes of it is not narrow. It stays as it is where the divisor
-/// is 1.
-pub fn divide_row(row: &mut [Fraction], divisor: &Fraction) -> Option<usize>
-    requires row { IsNarrowRow row.old }
-    requires divisor { IsNarrow divisor.now }
-    requires above { pos 0 <ℤ numerator_of divisor.now }
-    ensures size { length row.new ≡ length row.old }
-    ensures divided { result ≡ None → IsNarrowRow row.new × AreQuotients row.old (ratio divisor.now) row.new }
-    ensures wide { MatchOption result (Unit {0}) (λ j. IsWideQuotient row.old (ratio divisor.now) j) }
-{
-    if is_one(divisor) {
-        return None;
+    match entries {
+        [first, ..] => first.column as usize >= column,
+        [] => true,
     }
-    'places: for j in 0..row.len() {
-        let old = fraction_at(row, j);
-        let new = quotient(&old, divisor);
-        if !new.is_narrow() {
-            return Some(j);
+}
+
+/// Where the search for the column begins: at the last entry, if its column is no later, and else at the first.
+fn search_from(row: &[Entry], column: usize) -> usize
+    ensures inside { result ≤ length row.now }
+    ensures below { (width : ℕ) → IsSparse 0 width row.now → IsSparse 0 column (take result row.now) }
+{
+    if row.is_empty() {
+        return 0;
+    }
+    let last = row.len() - 1;
+    if row[last].column as usize <= column {
+        return last;
+    }
+    0
+}
+
+/// The entries of the row from the column on, by binary search.
+pub fn entries_from(row: &[Entry], column: usize) -> &[Entry]
+    ensures { (width : ℕ) → IsSparse 0 width row.now → IsRestOf (entry_in row.now) column width result.now }
+{
+    if begins_from(row, column) {
+        return row;
+    }
+    let mut first = search_from(row, column);
+    let mut end = row.len();
+    'halves: while first < end {
+        let middle = first + (end - first) / 2;
+        if (row[middle].column as usize) < column {
+            first = middle + 1;
+        } else {
+            end = middle;
         }
-        row[j] = new;
     }
-    None
+    &row[first..]
 }
 
-/// Puts the place at the end of the list, where the fraction there is not 0.
-fn push_nonzero(places: &mut Vec<usize>, row: &[Fraction], place: usize) -> Result<(), AllocError>
-    requires { place < length row.now }
-    ensures { IfOk result (λ _. IsAdded (IsNonzero row.now) place places.old.items places.new.items) }
+/// The fraction in the column, which is no later than that of the first entry.
+pub fn front_at(entries: &[Entry], column: usize) -> Fraction
+    ensures is { (width : ℕ) → IsSparse column width entries.now → ratio result ≡ entry_in entries.now column }
+    ensures narrow { IsNarrow result }
 {
-    if is_zero(&fraction_at(row, place)) {
+    match entries {
+        [first, ..] => {
+            if first.column as usize == column {
+                fraction_of(first)
+            } else {
+                Fraction::new(0, 1)
+            }
+        }
+        [] => Fraction::new(0, 1),
+    }
+}
+
+/// The entries behind the column, which is no later than that of the first.
+pub fn behind(entries: &[Entry], column: usize) -> &[Entry]
+    ensures rest { (width : ℕ) → IsSparse column width entries.now → IsRestOf (entry_in entries.now) (column + 1) width result.now }
+    ensures few { length result.now ≤ length entries.now }
+    ensures fewer { BeginsWith entries.now column → length result.now < length entries.now }
+{
+    match entries {
+        [first, rest @ ..] => {
+            if first.column as usize == column {
+                rest
+            } else {
+                entries
+            }
+        }
+        [] => entries,
+    }
+}
+
+/// The fraction in the column of the row.
+pub fn fraction_in(row: &[Entry], column: usize) -> Fraction
+    requires { (width : ℕ) × IsSparse 0 width row.now }
+    ensures is { ratio result ≡ entry_in row.now column }
+    ensures narrow { IsNarrow result }
+{
+    front_at(entries_from(row, column), column)
+}
+
+/// Puts the fraction into the column at the end of the row, where it is not 0.
+pub fn put_last(row: &mut Vec<Entry>, column: usize, fraction: Fraction) -> Result<(), AllocError>
+    requires column { column < 2 ^ 32 }
+    requires narrow { IsNarrow fraction }
+    ensures { IfOk result (λ _. IsPut column (ratio fraction) row.old.items row.new.items) }
+{
+    if is_zero(&fraction) {
         return Ok(());
     }
-    push_item(places, place)
+    push_item(
+        row,
+        Entry {
+            column: column as u32,
+            number: Narrow::new(&fraction),
+        },
+    )
 }
 
-/// The places of the row where it is not 0, in increasing order.
-pub fn nonzero_places(alloc: Global, row: &[Fraction]) -> Result<Vec<usize>, AllocError>
-    ensures { IfOk result (λ places. AreNonzero row.now places.items) }
+/// Divides the row, up to the first column where what comes of it is not narrow.
+pub fn divide(
+    row: &[Entry],
+    divisor: &Fraction,
+    made: &mut Vec<Entry>,
+) -> Result<Option<usize>, AllocError>
+    requires row { (width : ℕ) × IsSparse 0 width row.now }
+    requires divisor { IsNarrow divisor.now }
+    requires above { pos 0 <ℤ numerator_of divisor.now }
+    requires empty { made.old.items ≡ [] }
+    ensures { (width : ℕ) → IsSparse 0 width row.now → IfOk result (λ found. MatchOption found
+        (IsRow (IsDivided row.now (ratio divisor.now)) width made.new.items)
+        (λ j. IsWideBy (IsDivided row.now (ratio divisor.now)) width j)) }
 {
-    let mut places = Vec::new(alloc);
-    'places: for place in 0..row.len() {
-        push_nonzero(&mut places, row, place)?;
-    }
-    Ok(places)
-}
-
-/// Takes the factor times the pivot row from the row, up to the first place where what is left is not narrow. The row
-/// stays as it is where the pivot row is 0, so that only the other places are visited.
-pub fn take_from(
-    row: &mut [Fraction],
-    factor: &Fraction,
-    pivots: &[Fraction],
-    places: &[usize],
-) -> Option<usize>
-    requires same { length row.old ≡ length pivots.now }
-    requires row { IsNarrowRow row.old }
-    requires factor { IsNarrow factor.now }
-    requires pivots { IsNarrowRow pivots.now }
-    requires places { AreNonzero pivots.now places.now }
-    ensures size { length row.new ≡ length row.old }
-    ensures taken { result ≡ None → IsNarrowRow row.new × AreRests row.old (ratio factor.now) pivots.now row.new }
-    ensures wide { MatchOption result (Unit {0}) (λ j. IsWideRest row.old (ratio factor.now) pivots.now j) }
-{
-    if is_zero(factor) {
-        return None;
-    }
-    'places: for place in 0..places.len() {
-        let at = places[place];
-        let old = fraction_at(row, at);
-        let pivot = fraction_at(pivots, at);
-        let new = rest(&old, factor, &pivot);
+    let mut left = row;
+    'entries: while let [first, rest @ ..] = left {
+        let new = quotient(&fraction_of(first), divisor);
         if !new.is_narrow() {
-            return Some(at);
+            return Ok(Some(first.column as usize));
         }
-        put_fraction(row, at, new);
+        put_last(made, first.column as usize, new)?;
+        left = rest;
     }
-    None
+    Ok(None)
 }

@@ -6,7 +6,7 @@ ghost use Rattle.tv_fraction.specs.Fraction.{numerator_of, denominator_of};
 ghost use Rattle.tv_simplex.specs.Scales.{AreBounded, IsCommon, HasNoCommon, IsLarger, HasNoLarger, IsTimes, AreScaled, IsScalingStop};
 ghost use Rattle.tv_simplex.specs.Scales.{denominator_at as spec_denominator};
 
-use crate::rows::fraction_at;
+use crate::fractions::fraction_at;
 use crate::stop::Stop;
 use std::alloc::Global;
 use tv_fraction::{Fraction, gcd};

@@ -9,9 +9,9 @@ ghost use Rattle.tv_simplex.specs.Stops.{HasNumberedPlace, IsFaultAt};
 ghost use Rattle.tv_simplex.specs.Views.{equations, IsAnswer, GivesAnswer, IsFault, IsFirstRefusal, IsNotSpent};
 
 use crate::numbers::first_wide;
-use crate::starting::{artificial_basis, first_places, first_rows, first_slots};
+use crate::starting::{artificial_basis, first_rows};
 use crate::stop::Stop;
-use crate::table::Table;
+use crate::table::{Spare, Table};
 use crate::walking::walk;
 use crate::{Answer, SolveFault, System};
 use std::alloc::Global;
@@ -60,19 +60,14 @@ pub fn solve(alloc: Global, system: &System, pivots: u64) -> Result<Answer, Solv
         Ok(rows) => rows,
         Err(stop) => return Err(fault_at(stop, basis)),
     };
-    let slots = match first_slots(alloc, system) {
-        Ok(slots) => slots,
-        Err(_) => return Err(SolveFault::Memory),
-    };
-    let places = match first_places(alloc, system) {
-        Ok(places) => places,
-        Err(_) => return Err(SolveFault::Memory),
-    };
     let mut table = Table {
         rows,
         basis,
-        slots,
-        places,
+        columns: system.columns as usize,
+        spare: Spare {
+            pivots: Vec::new(alloc),
+            other: Vec::new(alloc),
+        },
     };
     match walk(alloc, system, &mut table, pivots) {
         Ok(Some(answer)) => Ok(answer),

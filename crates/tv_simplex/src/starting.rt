@@ -1,20 +1,20 @@
 // The tableau of the artificial basis.
 
-ghost use Rattle.std.specs.Prelude.{◌≡◌, ◌+◌, ◌^◌, ◌<◌, ◌≤◌, pos, IfOk, MatchResult, unsigned_abs};
+ghost use Rattle.std.specs.Prelude.{◌≡◌, ℕ, ℤ, ◌+◌, ◌*◌, ◌^◌, ◌<◌, ◌≤◌, pos, IfOk, MatchResult, unsigned_abs};
+ghost use Rattle.tv_simplex.specs.Sums.{total};
 ghost use Rattle.tv_simplex.specs.Systems.{IsWhole, matrix};
 ghost use Rattle.tv_simplex.specs.Chains.{IsArtificial};
 ghost use Rattle.tv_simplex.specs.Ratios.{IsRatio};
 ghost use Rattle.tv_simplex.specs.Outcomes.{IsNarrow, IsNarrowSystem};
 ghost use Rattle.tv_simplex.specs.Views.{equations};
 ghost use Rattle.tv_simplex.specs.Rows.{ratio, IsNarrowRatio};
-ghost use Rattle.tv_simplex.specs.Starting.{AreFirstSlots, AreFirstPlaces, IsRowOf, IsFirstTable, IsStartStop, first_objective, first_slot};
-ghost use Rattle.tv_simplex.specs.Starting.{first_place as spec_place};
+ghost use Rattle.tv_simplex.specs.Starting.{IsNumberPut, IsFirstRow, IsFirstObjective, IsFirstTable, IsStartStop, first_objective};
 
 use crate::System;
-use crate::adding::{column_sums, slot_column, sum_at};
-use crate::numbers::{number_at, objective_at};
+use crate::adding::{column_sums, sum_at};
+use crate::numbers::{entry_at, number_at, objective_at};
+use crate::rows::{Entry, put_last};
 use crate::stop::Stop;
-use crate::table::Place;
 use std::alloc::{AllocError, Global};
 use tv_fraction::Fraction;
 use tv_linear::push_item;
@@ -31,47 +31,6 @@ pub fn artificial_basis(alloc: Global, system: &System) -> Result<Vec<u32>, Allo
     Ok(basis)
 }
 
-/// The columns outside of the artificial basis.
-pub fn first_slots(alloc: Global, system: &System) -> Result<Vec<u32>, AllocError>
-    requires { IsWhole (equations system.now) }
-    ensures { IfOk result (λ slots. AreFirstSlots (equations system.now) slots.items) }
-{
-    let mut slots = Vec::with_capacity(alloc, system.columns as usize + 1)?;
-    'slots: for slot in 0..system.columns as usize + 1 {
-        push_item(&mut slots, slot_column(system, slot) as u32)?;
-    }
-    Ok(slots)
-}
-
-/// Where a column of the tableau of the artificial basis stands.
-fn first_place(system: &System, column: usize) -> Place
-    requires whole { IsWhole (equations system.now) }
-    requires column { column ≤ system.now.columns + system.now.rows }
-    ensures { result ≡ spec_place (equations system.now) column }
-{
-    let columns = system.columns as usize;
-    if column < columns {
-        return Place::Slot(column as u32);
-    }
-    if column < columns + system.rows as usize {
-        return Place::Row((column - columns) as u32);
-    }
-    Place::Slot(system.columns)
-}
-
-/// The places of the columns in the tableau of the artificial basis.
-pub fn first_places(alloc: Global, system: &System) -> Result<Vec<Place>, AllocError>
-    requires { IsWhole (equations system.now) }
-    ensures { IfOk result (λ places. AreFirstPlaces (equations system.now) places.items) }
-{
-    let count = system.columns as usize + system.rows as usize + 1;
-    let mut places = Vec::with_capacity(alloc, count)?;
-    'columns: for column in 0..count {
-        push_item(&mut places, first_place(system, column))?;
-    }
-    Ok(places)
-}
-
 /// A whole number as a fraction.
 fn whole(number: i128) -> Fraction
     requires { unsigned_abs number < 2 ^ 80 }
@@ -81,47 +40,104 @@ fn whole(number: i128) -> Fraction
     Fraction::new(number, 1)
 }
 
-/// A row of the system as fractions.
-fn first_row(alloc: Global, system: &System, row: usize) -> Result<Vec<Fraction>, AllocError>
+/// Puts a narrow number into the column at the end of the row.
+fn put_number(entries: &mut Vec<Entry>, column: usize, number: i128) -> Result<(), AllocError>
+    requires narrow { IsNarrow number }
+    requires column { column < 2 ^ 32 }
+    ensures { IfOk result (λ _. IsNumberPut column number entries.old.items entries.new.items) }
+{
+    put_last(entries, column, whole(number))
+}
+
+/// How many numbers of the row are not 0.
+fn nonzero_in_row(system: &System, row: usize) -> usize
+    requires whole { IsWhole (equations system.now) }
+    requires row { row < system.now.rows }
+    ensures { result ≤ system.now.columns }
+{
+    let mut count = 0;
+    'columns: for column in 0..system.columns as usize {
+        if entry_at(system, row, column) != 0 {
+            count += 1;
+        }
+    }
+    count
+}
+
+/// A row of the system, its artificial column and its right side.
+fn first_row(alloc: Global, system: &System, row: usize) -> Result<Vec<Entry>, AllocError>
     requires whole { IsWhole (equations system.now) }
     requires narrow { IsNarrowSystem (equations system.now) }
     requires row { row < system.now.rows }
-    ensures { IfOk result (λ v. IsRowOf (equations system.now) (matrix (equations system.now) row) v.items) }
+    ensures { IfOk result (λ v. IsFirstRow (equations system.now) row v.items) }
 {
-    let mut fractions = Vec::with_capacity(alloc, system.columns as usize + 1)?;
-    'slots: for slot in 0..system.columns as usize + 1 {
-        let number = number_at(system, row, slot_column(system, slot));
-        push_item(&mut fractions, whole(number))?;
+    let columns = system.columns as usize;
+    let rows = system.rows as usize;
+    let mut entries = Vec::with_capacity(alloc, nonzero_in_row(system, row) + 2)?;
+    'columns: for column in 0..columns {
+        put_number(&mut entries, column, number_at(system, row, column))?;
     }
-    Ok(fractions)
+    put_number(&mut entries, columns + row, 1)?;
+    put_number(
+        &mut entries,
+        columns + rows,
+        number_at(system, row, columns + rows),
+    )?;
+    Ok(entries)
+}
+
+/// Puts the number of the objective row in the column, which has this sum, at the end of the row, where it is narrow.
+fn put_objective(
+    system: &System,
+    entries: &mut Vec<Entry>,
+    column: usize,
+    sum: i128,
+) -> Result<(), Stop>
+    requires whole { IsWhole (equations system.now) }
+    requires column { column ≤ system.now.columns + system.now.rows }
+    requires sum { sum ≡ total system.now.rows (λ k. matrix (equations system.now) k column) }
+    requires bound { unsigned_abs sum ≤ 2 ^ 40 * system.now.rows }
+    ensures { MatchResult result
+        (λ _. IsNumberPut column (first_objective (equations system.now) column) entries.old.items entries.new.items)
+        (λ stop. IsStartStop (equations system.now) stop) }
+{
+    let entry = whole(objective_at(system, column, sum));
+    if !entry.is_narrow() {
+        return Err(Stop::Wide {
+            row: system.rows as usize,
+            column,
+        });
+    }
+    put_last(entries, column, entry)?;
+    Ok(())
 }
 
 /// The objective row of the artificial basis, up to the first place that is not narrow.
-fn objective_row(alloc: Global, system: &System) -> Result<Vec<Fraction>, Stop>
+fn objective_row(alloc: Global, system: &System) -> Result<Vec<Entry>, Stop>
     requires whole { IsWhole (equations system.now) }
     requires narrow { IsNarrowSystem (equations system.now) }
     ensures { MatchResult result
-        (λ v. IsRowOf (equations system.now) (first_objective (equations system.now)) v.items)
+        (λ v. IsFirstObjective (equations system.now) v.items)
         (λ stop. IsStartStop (equations system.now) stop) }
 {
+    let columns = system.columns as usize;
+    let last = columns + system.rows as usize;
     let sums = column_sums(alloc, system)?;
-    let mut fractions = Vec::with_capacity(alloc, system.columns as usize + 1)?;
-    'slots: for slot in 0..system.columns as usize + 1 {
-        let column = slot_column(system, slot);
-        let entry = whole(objective_at(system, column, sum_at(&sums, slot)));
-        if !entry.is_narrow() {
-            return Err(Stop::Wide {
-                row: system.rows as usize,
-                column,
-            });
+    let mut entries = Vec::new(alloc);
+    'columns: for column in 0..columns {
+        match put_objective(system, &mut entries, column, sum_at(&sums, column)) {
+            Err(stop) => return Err(stop),
+            Ok(()) => {}
         }
-        push_item(&mut fractions, entry)?;
     }
-    Ok(fractions)
+    match put_objective(system, &mut entries, last, sum_at(&sums, columns)) {
+        Err(stop) => Err(stop),
+        Ok(()) => Ok(entries),
+    }
 }
 
 /// The rows of the tableau of the artificial basis, the objective last.
-pub fn first_rows(alloc: Global, system: &System) -> Result<Vec<Vec<Fraction>>, Stop>
+pub fn first_rows(alloc: Global, system: &System) -> Result<Vec<Vec<Entry>>, Stop>
     requires whole { IsWhole (equations system.now) }
     requires narrow { IsNarrowSystem (equations system.now) }
     ensures { MatchResult result

@@ -1,33 +1,36 @@
 // The tableau of a basis.
 
-ghost use Rattle.std.specs.Prelude.{◌≡◌, ◌<◌, length};
+ghost use Rattle.std.specs.Prelude.{◌≡◌, ◌<◌, ◌≤◌, length, IfOk};
 ghost use Rattle.tv_fraction.specs.Fraction.{IsNarrow};
-ghost use Rattle.tv_simplex.specs.Rows.{ratio, unit_at};
+ghost use Rattle.tv_simplex.specs.Rows.{ratio};
 ghost use Rattle.tv_simplex.specs.Tables.{shown, IsTable};
+ghost use Rattle.tv_simplex.specs.Walking.{AreOfColumn};
 
 use crate::Answer;
-use crate::rows::{fraction_at, row_at};
+use crate::rows::{Entry, fraction_in, row_at};
+use std::alloc::{AllocError, Global};
 use tv_fraction::Fraction;
+use tv_linear::push_item;
 
-/// Where a column of the tableau stands.
-#[derive(Clone, Copy)]
-pub enum Place {
-    /// Outside of the basis: each row has its fraction at this slot.
-    Slot(u32),
-    /// In the basis: it is the unit column of this row, and is not kept.
-    Row(u32),
+/// Lists to write to, whose memory is kept over the walk.
+#[derive(Drop)]
+pub struct Spare {
+    /// The row that leaves, divided.
+    pub pivots: Vec<Entry>,
+    /// What becomes of another row.
+    pub other: Vec<Entry>,
 }
 
-/// The tableau of a basis. Its rows, the objective last, hold the columns outside of the basis and the right side.
+/// The tableau of a basis.
 #[derive(Drop)]
 pub struct Table {
-    pub rows: Vec<Vec<Fraction>>,
+    /// The rows, the objective last: entries that are not 0, in the order of their columns.
+    pub rows: Vec<Vec<Entry>>,
     /// The column of each row.
     pub basis: Vec<u32>,
-    /// The column of each slot.
-    pub slots: Vec<u32>,
-    /// The place of each column, and of the right side.
-    pub places: Vec<Place>,
+    /// How many columns the system has. The artificial ones and the right side follow.
+    pub columns: usize,
+    pub spare: Spare,
 }
 
 /// What a basis of the chain is.
@@ -39,27 +42,30 @@ pub enum Settled {
     Enters(usize),
 }
 
-/// The fraction of a unit column in a row.
-pub fn unit(row: usize, at: usize) -> Fraction
-    ensures is { ratio result ≡ unit_at row at }
-    ensures narrow { IsNarrow result }
-{
-    if row == at {
-        return Fraction::new(1, 1);
-    }
-    Fraction::new(0, 1)
-}
-
-/// The fraction in a row and a column of the whole tableau.
+/// The fraction in a row and a column of the tableau.
 pub fn entry_at(table: &Table, row: usize, column: usize) -> Fraction
     requires table { IsTable table.now }
     requires row { row < length table.now.rows.items }
-    requires column { column < length table.now.places.items }
     ensures is { ratio result ≡ shown table.now row column }
     ensures narrow { IsNarrow result }
 {
-    match table.places[column] {
-        Place::Slot(slot) => fraction_at(row_at(&table.rows, row), slot as usize),
-        Place::Row(at) => unit(row, at as usize),
+    fraction_in(row_at(&table.rows, row), column)
+}
+
+/// The fractions of so many rows in a column.
+pub fn column_of(
+    alloc: Global,
+    table: &Table,
+    height: usize,
+    column: usize,
+) -> Result<Vec<Fraction>, AllocError>
+    requires table { IsTable table.now }
+    requires height { height ≤ length table.now.rows.items }
+    ensures { IfOk result (λ v. AreOfColumn height column (shown table.now) v.items) }
+{
+    let mut fractions = Vec::with_capacity(alloc, height)?;
+    'rows: for row in 0..height {
+        push_item(&mut fractions, entry_at(table, row, column))?;
     }
+    Ok(fractions)
 }

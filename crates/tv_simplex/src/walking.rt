@@ -10,7 +10,7 @@ use crate::answering::settle;
 use crate::exchanging::enter;
 use crate::leaving::leaving_row;
 use crate::stop::Stop;
-use crate::table::{Settled, Table};
+use crate::table::{Settled, Table, column_of};
 use crate::{Answer, System};
 use std::alloc::Global;
 
@@ -23,10 +23,10 @@ fn step(alloc: Global, system: &System, table: &mut Table, column: usize) -> Res
         (λ _. (n : ℕ) → StandsAt (equations system.now) n table.old → StandsAt (equations system.now) (n + 1) table.new)
         (λ stop. IsStepStop (equations system.now) table.new.basis.items stop) }
 {
-    let columns = system.columns as usize;
-    match leaving_row(alloc, table, column, columns)? {
+    let factors = column_of(alloc, table, table.rows.len(), column)?;
+    match leaving_row(table, column, &factors) {
         None => unreachable!(),
-        Some(row) => enter(alloc, table, row, column),
+        Some(row) => enter(table, row, column, &factors),
     }
 }
 

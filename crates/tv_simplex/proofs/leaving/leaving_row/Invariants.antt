@@ -4,4 +4,4 @@ use Rattle.tv_simplex.specs.Tables.{shown}
 use Rattle.tv_simplex.proofs.leaving.leaving_row.Given as goal
 
 abbrev pub invariant-rows : goal.invariant-rows
-invariant-rows l = MatchOption l.best (NoneAbove (shown l.table) l.column l.row) (λ r. IsLeast (length l.table.basis.items) l.columns (shown l.table) l.column l.row r)
+invariant-rows l = MatchOption l.best (NoneAbove (shown l.table) l.column l.row) (λ r. IsLeast (length l.table.basis.items) l.table.columns (shown l.table) l.column l.row r)

@@ -1,9 +1,10 @@
+use Rattle.std.proofs.Common.{refl}
 use Rattle.tv_simplex.specs.Views.{equations}
 use Rattle.std.proofs.lemmas.Option.{MatchOption-at_none}
 use Rattle.tv_simplex.specs.Outcomes.{AreUnsettled}
 use Rattle.tv_simplex.specs.Walking.{IsRight}
 use Rattle.tv_simplex.proofs.SettleLemmas.{wide_given, start_numbered, start_fault, walk_numbered, never_spent}
-use Rattle.tv_simplex.proofs.PlaceLemmas.{first_stands}
+use Rattle.tv_simplex.proofs.StartLemmas.{first_stands}
 use Rattle.tv_simplex.proofs.settling.solve.Goals as goal
 
 pub returns-in-Some-clause-refusals : goal.returns-in-Some-clause-refusals
@@ -16,7 +17,7 @@ pub returns-in-Err-first_rows-clause-refusals : goal.returns-in-Err-first_rows-c
 returns-in-Err-first_rows-clause-refusals c = start_fault (equations c.args.system.now) c.in-Ok.basis.items c.args.pivots c.in-Err-first_rows.stop c.fault_at.result c.in-Ok.ensures c.in-Err-first_rows.ensures c.fault_at.ensures
 
 pub walk-requires-clause-stands : goal.walk-requires-clause-stands
-walk-requires-clause-stands c = first_stands (equations c.args.system.now) _ c.in-Ok.ensures c.in-Ok-first_slots.ensures c.in-Ok-first_places.ensures c.in-Ok-first_rows.ensures
+walk-requires-clause-stands c = first_stands (equations c.args.system.now) _ c.in-Ok.ensures refl c.in-Ok-first_rows.ensures
 
 pub returns-in-Ok-None-clause-enough : goal.returns-in-Ok-None-clause-enough
 returns-in-Ok-None-clause-enough c = never_spent (equations c.args.system.now) c.args.pivots (MatchOption-at_none (AreUnsettled (equations c.args.system.now) c.args.pivots) (λ a. IsRight (equations c.args.system.now) a) c.in-Ok-None.field-0-is c.in-Ok-None.ensures)

@@ -1,9 +1,8 @@
 use Rattle.std.proofs.Common.{ℕ, ◌≡◌, ◌<◌, length}
-use Rattle.tv_simplex.specs.Systems.{matrix}
 use Rattle.tv_simplex.specs.Views.{equations}
 use Rattle.tv_simplex.specs.Rows.{row_of}
-use Rattle.tv_simplex.specs.Starting.{IsRowOf}
+use Rattle.tv_simplex.specs.Starting.{IsFirstRow}
 use Rattle.tv_simplex.proofs.starting.first_rows.Given as goal
 
 abbrev pub invariant-rows : goal.invariant-rows
-invariant-rows l = (length l.rows.items ≡ l.row) × ((i : ℕ) → i < l.row → IsRowOf (equations l.system) (matrix (equations l.system) i) (row_of l.rows.items i))
+invariant-rows l = (length l.rows.items ≡ l.row) × ((i : ℕ) → i < l.row → IsFirstRow (equations l.system) i (row_of l.rows.items i))

@@ -1,0 +1,15 @@
+use Rattle.std.proofs.Common.{pos, ◌<ℤ◌, unsigned_abs, subst, sym, w64, to_z, of_z}
+use Rattle.std.specs.Int.{w128}
+use Rattle.tv_fraction.specs.Coprime.{AreCoprime}
+use Rattle.tv_fraction.proofs.NarrowLemmas.{to_128}
+use Rattle.tv_fraction.proofs.narrow.Narrow.fraction.Goals as goal
+
+pub invariant_of-result : goal.invariant_of-result
+invariant_of-result c =
+    let f = c.args.self.now in
+    let n = sym (to_128 f.numerator f.numerator_bound) in
+    let d = sym (to_128 f.denominator f.denominator_bound) in
+    record {
+      positive = subst (λ z. pos 0 <ℤ z) d f.positive;
+      reduced = subst (λ z. AreCoprime (unsigned_abs z) (unsigned_abs (to_z w128 (of_z w128 (to_z w64 (of_z w64 f.denominator)))))) n (subst (λ z. AreCoprime (unsigned_abs f.numerator) (unsigned_abs z)) d f.reduced);
+    }
