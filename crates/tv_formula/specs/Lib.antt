@@ -3,4 +3,5 @@ pub mod Views
 pub mod Normal
 pub mod Forms
 pub mod Limits
+pub mod Parts
 pub mod Formulas

@@ -2,6 +2,7 @@ ghost use Rattle.std.specs.Prelude.{◌≡◌, ◌<◌, IfOk, length};
 ghost use Rattle.tv_program.specs.Programs.{system_of};
 ghost use Rattle.tv_formula.specs.Forms.{never_at};
 ghost use Rattle.tv_formula.specs.Formulas.{property_of, variables_of, locations_of};
+ghost use Rattle.tv_formula.specs.Parts.{HasParts};
 ghost use Rattle.tv_formula.specs.Properties as properties;
 ghost use Rattle.tv_formula.specs.Views.{property};
 
@@ -13,6 +14,7 @@ use tv_program::Program;
 /// `term`: no endless run begins at the state.
 pub fn termination(_alloc: Global, program: &Program) -> Result<Formula, AllocError>
     ensures gives { IfOk result (λ f. property_of f ≡ properties.term) }
+    ensures parts { IfOk result (λ f. HasParts (property_of f)) }
     ensures variables { IfOk result (λ f. variables_of f ≡ length (system_of program.now).variables) }
     ensures locations { IfOk result (λ f. locations_of f ≡ length (system_of program.now).locations) }
 {
@@ -34,6 +36,7 @@ fn never_at(alloc: Global, location: u32) -> Result<Tree, AllocError>
 pub fn unreachable(alloc: Global, program: &Program, location: u32) -> Result<Formula, AllocError>
     requires { location < length (system_of program.now).locations }
     ensures gives { IfOk result (λ f. property_of f ≡ never_at location) }
+    ensures parts { IfOk result (λ f. HasParts (property_of f)) }
     ensures variables { IfOk result (λ f. variables_of f ≡ length (system_of program.now).variables) }
     ensures locations { IfOk result (λ f. locations_of f ≡ length (system_of program.now).locations) }
 {

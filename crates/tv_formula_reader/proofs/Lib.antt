@@ -10,6 +10,7 @@ pub mod SourceLemmas
 pub mod SumRead
 pub mod Steps
 pub mod FormulaTexts
+pub mod FormulaParts
 pub mod LimitLemmas
 pub mod ReadLemmas
 pub mod FormulaRead

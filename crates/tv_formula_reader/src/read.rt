@@ -2,6 +2,7 @@ ghost use Rattle.std.specs.Prelude.{◌≡◌, ◌↔◌, ◌+◌, ◌^◌, ◌<
 ghost use Rattle.tv_program.specs.Programs.{system_of};
 ghost use Rattle.tv_reading.specs.SumGrammar.{every};
 ghost use Rattle.tv_formula.specs.Formulas.{property_of, variables_of, locations_of};
+ghost use Rattle.tv_formula.specs.Parts.{HasParts};
 ghost use Rattle.tv_formula.specs.Properties.{Property};
 ghost use Rattle.tv_formula.specs.Views.{property};
 ghost use Rattle.tv_formula_reader.specs.Answers.{left, IsOver, Stays, Ends};
@@ -82,6 +83,8 @@ fn read(alloc: Global, text: &[u8], program: &Program) -> Result<Formula, Formul
 pub fn read_formula(alloc: Global, text: &[u8], program: &Program) -> Result<Formula, FormulaFault>
     // What is read is the formula of the text.
     ensures found { IfOk result (λ f. IsFormulaText (system_of program.now) text.now (property_of f)) }
+    // No conjunction or disjunction of it is empty.
+    ensures parts { IfOk result (λ f. HasParts (property_of f)) }
     // The text of a formula is read, unless it is long.
     ensures only { (f : Property) → length text.now ≤ 65536 → IsFormulaText (system_of program.now) text.now f →
         IsGiven result (λ g. property_of g ≡ f) }

@@ -8,6 +8,7 @@ use Rattle.tv_formula.specs.declared.tree.Path.{Path}
 use Rattle.tv_formula.specs.declared.tree.Path.TheVariants.{Every, Any}
 use Rattle.tv_formula.specs.declared.tree.Shape.{Shape}
 use Rattle.tv_formula.specs.declared.tree.Shape.TheVariants.{Release}
+use Rattle.tv_formula.specs.Parts.{HasParts, AreSomeParts, AllHaveParts}
 use Rattle.tv_formula.specs.Properties.{Property, truth, compare, at, term, negated, all_of, some_of, next, fix, Properties, none, more}
 use Rattle.tv_linear.specs.declared.region.Region.{Region}
 use Rattle.tv_cases.specs.Comparisons.{comparison_lists}
@@ -25,7 +26,7 @@ use Rattle.tv_rounds.proofs.CountLemmas.{times, all_one, some_one}
 use Rattle.tv_pre.specs.declared.fault.PreFault.{PreFault}
 use Rattle.tv_pre.specs.declared.outcome.Found.{Found}
 use Rattle.tv_pre.specs.Arguments.{AreEachArgument}
-use Rattle.tv_pre.specs.Counted.{IsWithin, HasParts, AreSomeParts, AllHaveParts, IsCountedFor, AreCountedFor, some_counts_at, IsCountedBefore}
+use Rattle.tv_pre.specs.Counted.{IsWithin, IsCountedFor, AreCountedFor, some_counts_at, IsCountedBefore}
 use Rattle.tv_pre.specs.Finding.{IsFound}
 use Rattle.tv_pre.specs.Sized.{counts_at, end_count}
 use Rattle.tv_pre.proofs.CountedLemmas.{within_more, end_one}

@@ -5,6 +5,7 @@ use Rattle.std.proofs.Math.Nat.{le-max_left, le-max_right}
 use Rattle.std.proofs.lemmas.Bool.Decides.{nat_tests}
 use Rattle.tv_formula.specs.Formulas.{property_of}
 use Rattle.tv_formula.specs.Normal.{normal, negation, normals, negations}
+use Rattle.tv_formula.specs.Parts.{HasParts, AreSomeParts, AllHaveParts}
 use Rattle.tv_formula.specs.Properties.{Property, truth, compare, at, term, negated, all_of, some_of, next, fix, Properties, none, more}
 use Rattle.tv_linear.specs.declared.region.Piece.{Piece}
 use Rattle.tv_farkas.specs.declared.budget.Budget.{Budget}
@@ -23,7 +24,7 @@ use Rattle.tv_region.specs.declared.fault.RegionFault.TheVariants as regions
 use Rattle.tv_pre.specs.declared.fault.PreFault.{PreFault}
 use Rattle.tv_pre.specs.declared.fault.PreFault.TheVariants as faults
 use Rattle.tv_pre.specs.Built.{IsRefusedRegion, in_both, in_either, in_rest, in_any, in_every, IsPreFault}
-use Rattle.tv_pre.specs.Counted.{HasParts, AreSomeParts, AllHaveParts, IsCountedFor}
+use Rattle.tv_pre.specs.Counted.{IsCountedFor}
 use Rattle.tv_pre.specs.Finding.{steps_back}
 use Rattle.tv_pre.specs.Proving.{IsRefusedWith, of_formula, of_start}
 use Rattle.tv_pre.specs.Questions.{Question}

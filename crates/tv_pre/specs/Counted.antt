@@ -1,7 +1,8 @@
 -- How many pieces a refusal tells of, where no case has a draw.
 use Rattle.std.specs.Prelude.{◌≡◌, ℕ, ◌*◌, ◌≤◌, max, List, map}
 use Rattle.tv_formula.specs.declared.tree.Path.{Path}
-use Rattle.tv_formula.specs.Properties.{Property, truth, compare, at, term, negated, all_of, some_of, next, fix, Properties, none, more}
+use Rattle.tv_formula.specs.Parts.{HasParts, AllHaveParts}
+use Rattle.tv_formula.specs.Properties.{Property, Properties}
 use Rattle.tv_linear.specs.declared.region.Region.{Region}
 use Rattle.tv_cases.specs.Comparisons.{comparison_lists}
 use Rattle.tv_cases.specs.LinearCases.{CaseSystem}
@@ -34,30 +35,8 @@ IsNoCall faults.Memory = Unit {0}
 
 -- ---- the formula
 
-abbrev mutual
-  -- each conjunction and each disjunction of the property has a part
-  pub HasParts : Property → Type 0
-  HasParts (truth b) = Unit {0}
-  HasParts (compare r a b) = Unit {0}
-  HasParts (at l) = Unit {0}
-  HasParts term = Unit {0}
-  HasParts (negated f) = HasParts f
-  HasParts (all_of fs) = AreSomeParts fs
-  HasParts (some_of fs) = AreSomeParts fs
-  HasParts (next path f) = HasParts f
-  HasParts (fix path shape f g) = HasParts f × HasParts g
-
-  -- there is one, and so it is with each
-  pub AreSomeParts : Properties → Type 0
-  AreSomeParts none = ⊥
-  AreSomeParts (more f fs) = HasParts f × AllHaveParts fs
-
-  pub AllHaveParts : Properties → Type 0
-  AllHaveParts none = Unit {0}
-  AllHaveParts (more f fs) = HasParts f × AllHaveParts fs
-
--- Whatever formula with such parts the statement is of, the refusal tells of no more pieces than are counted for the formula or for one of its
--- subformulas at the location, with the rounds of its fixed points up to the last that the size takes.
+-- Whatever formula the statement is of, if each conjunction and disjunction in it has a part, the refusal tells of no more pieces than are
+-- counted for the formula or for one of its subformulas at the location, with the rounds of its fixed points up to the last that the size takes.
 abbrev pub IsCountedFor : CaseSystem → Statement → PreFault → Type 0
 IsCountedFor about s fault =
     HasNoDraws about → (last : ℕ) → IsLastRound about 9 last → (f : Property) → HasParts f → s ≡ stated (comparison_lists about.variables) f →

@@ -2,6 +2,7 @@
 use Rattle.std.specs.Prelude.{◌≡◌, ◌⊎◌, ℕ, ◌<◌, ◌≤◌, List, Contains}
 use Rattle.tv_program.specs.Steps.{State}
 use Rattle.tv_formula.specs.Normal.{normal}
+use Rattle.tv_formula.specs.Parts.{HasParts}
 use Rattle.tv_formula.specs.declared.tree.Path.{Path}
 use Rattle.tv_formula.specs.declared.tree.Shape.{Shape}
 use Rattle.tv_formula.specs.Properties.{Property}
@@ -23,7 +24,6 @@ use Rattle.tv_simplex.specs.declared.fault.SolveFault.{SolveFault}
 use Rattle.tv_pre.specs.declared.gap.Gap.{Gap}
 use Rattle.tv_pre.specs.declared.deciding.Unproved.TheVariants as unproved
 use Rattle.tv_pre.specs.declared.fault.PreFault.TheVariants as faults
-use Rattle.tv_pre.specs.Counted.{HasParts}
 use Rattle.tv_pre.specs.Finding.{IsTameStatement, IsTerminal, IsPlainProgram}
 use Rattle.tv_pre.specs.Proving.{IsUnproved}
 use Rattle.tv_pre.specs.Unserved.{IsRankingRefused}

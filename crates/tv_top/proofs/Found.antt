@@ -7,8 +7,9 @@ use Rattle.std.proofs.lemmas.List.Elements.{All-nil, All-cons, All-contains}
 use Rattle.tv_program.specs.Systems.{System}
 use Rattle.tv_formula.specs.Forms.{never_at}
 use Rattle.tv_formula.specs.Normal.{normal}
+use Rattle.tv_formula.specs.Parts.{HasParts}
 use Rattle.tv_formula.specs.Properties.{Property, term}
-use Rattle.tv_cases.specs.LinearCases.{CaseSystem}
+use Rattle.tv_cases.specs.LinearCases.{CaseSystem, AreCases}
 use Rattle.tv_farkas.specs.declared.budget.Budget.{Budget}
 use Rattle.tv_farkas.specs.declared.fault.CoverFault.{CoverFault}
 use Rattle.tv_farkas.specs.declared.fault.CoverFault.TheVariants as covers
@@ -58,10 +59,11 @@ use Rattle.tv_pre.specs.declared.gap.Gap.{Gap}
 use Rattle.tv_pre.specs.declared.gap.Gap.TheVariants.{Inexact, Open}
 use Rattle.tv_pre.specs.declared.deciding.Unproved.{Unproved}
 use Rattle.tv_pre.specs.declared.deciding.Unproved.TheVariants.{Refused, Left, Wide}
+use Rattle.tv_pre.proofs.WithinSize.{refusal_within_size}
 use Rattle.tv_top.specs.Searching.{AnswersRegion, AnswersRefusal, AnswersLeft, AnswersUnproved}
 use Rattle.tv_top.specs.Answers.{ended, uncovered, unknown, too_wide}
 use Rattle.tv_top.specs.Tasks.{Wanted, Task}
-use Rattle.tv_top.specs.Finding.{Offers, Finds, Settles, TellsClaim, SaysVerdict, IsTextOf, IsOpenEnd, IsEndFault, alone, round, found, IsSearchFault, IsWeakAt, AreTooManyAt, KeepsFrom, of_ends, of_safety, of_formula, budget_of, IsOther, IsUnprovedOf, AreTooManyPieces}
+use Rattle.tv_top.specs.Finding.{Offers, Finds, Settles, TellsClaim, SaysVerdict, IsTextOf, IsOpenEnd, IsEndFault, alone, round, found, IsSearchFault, IsWeakAt, AreTooManyAt, KeepsFrom, of_ends, of_safety, of_formula, budget_of, IsOther, IsUnprovedOf, AreTooMany, AreTooManyPieces}
 
 met_there : (before after : List Entry) (e : Entry) → AllMet (before ++ e ∷ after) → (P : Type 0) → (AllMet (e ∷ after) → P) → P
 met_there [] after e h P f = f h
@@ -233,12 +235,16 @@ module _ (offers : Offers) (task : Task) (p : System) (f : Property) (about : Ca
       wide_so points.Memory w = tt
 
 -- ---- why it is not known whether another formula holds
-module _ (offers : Offers) (task : Task) (p : System) (f : Property) (about : CaseSystem) (other : IsOther about f) where
+module _ (offers : Offers) (task : Task) (p : System) (f : Property) (about : CaseSystem) (other : IsOther about f) (cases : AreCases about) (parts : HasParts f) where
   abbrev spent : Budget
   spent = budget_of task.limits
 
+  many_pieces : (l count : ℕ) → IsUnprovedOf about f spent (Refused (faults.Region (regions.Disjuncts l count))) → AreTooMany about f spent l count
+  many_pieces l count h =
+      (h, λ plain n size. refusal_within_size about cases h.claim f spent (record { is = h.is_claim; variables = h.variables }) plain parts l count h.shows n size)
+
   pieces_so : (r : Result Cause AllocError) (l count : ℕ) → IfOk r (AreTooManyPieces p l count) → IsUnprovedOf about f spent (Refused (faults.Region (regions.Disjuncts l count))) → Finds offers task p f about (unknown r)
-  pieces_so (Ok (TooManyPieces label n)) l count w h = of_formula other (l, w.0, subst (λ k. IsUnprovedOf about f spent (Refused (faults.Region (regions.Disjuncts l k)))) (sym w.1) h)
+  pieces_so (Ok (TooManyPieces label n)) l count w h = of_formula other (l, w.0, subst (AreTooMany about f spent l) (sym w.1) (many_pieces l count h))
   pieces_so (Ok (Unsolved system fault)) l count w h = absurd w
   pieces_so (Ok (Spent path)) l count w h = absurd w
   pieces_so (Ok (Composed column)) l count w h = absurd w
@@ -279,10 +285,10 @@ module _ (offers : Offers) (task : Task) (p : System) (f : Property) (about : Ca
   unproved_so (Wide place) answer a h = subst (Finds offers task p f about) (sym a) (of_formula other h)
 
 -- what comes of a formula
-pub answered_so : (offers : Offers) (task : Task) (p : System) (f : Property) (about : CaseSystem) → IsOther about f → (answer : Answer)
+pub answered_so : (offers : Offers) (task : Task) (p : System) (f : Property) (about : CaseSystem) → IsOther about f → AreCases about → HasParts f → (answer : Answer)
     → Settles task.wanted p f about answer ⊎ ((why : Unproved) × AnswersUnproved p about why answer × IsUnprovedOf about f (budget_of task.limits) why) → Finds offers task p f about answer
-answered_so offers task p f about other answer (inl h) = settles_found offers task p f about answer h
-answered_so offers task p f about other answer (inr h) = unproved_so offers task p f about other h.0 answer h.1 h.2
+answered_so offers task p f about other cases parts answer (inl h) = settles_found offers task p f about answer h
+answered_so offers task p f about other cases parts answer (inr h) = unproved_so offers task p f about other cases parts h.0 answer h.1 h.2
 
 -- what comes of a further search
 pub further_so : (offers : Offers) (task : Task) (p : System) (f : Property) (about : CaseSystem) (old new : Answer) → Finds offers task p f about old

@@ -1,5 +1,5 @@
 -- What the answer of a search says of a program and a property.
-use Rattle.std.specs.Prelude.{◌≡◌, ◌⊎◌, ℕ, ◌<◌, ℤ, List, [], length, Option, Some, slice_get, Vec}
+use Rattle.std.specs.Prelude.{◌≡◌, ◌⊎◌, ℕ, ◌<◌, ◌≤◌, ℤ, List, [], length, Option, Some, slice_get, Vec}
 use Rattle.std.specs.Global.{Global}
 use Rattle.tv_program.specs.Systems.{System}
 use Rattle.tv_formula.specs.Properties.{Property, term}
@@ -13,6 +13,7 @@ use Rattle.tv_invariant.specs.Asking.{Gave}
 use Rattle.tv_invariant.specs.Passes.{AreOver}
 use Rattle.tv_invariant.specs.Places.{rows_at}
 use Rattle.tv_known.specs.Recurrences.{HasSimpleRecurrence}
+use Rattle.tv_known.specs.Sizes.{IsSize}
 use Rattle.tv_recur.specs.Refusing.{IsRefusal}
 use Rattle.tv_points.specs.declared.fault.PointFault.TheVariants as points
 use Rattle.tv_reaching.specs.FoundRuns.{IsFoundRun, IsRunFault}
@@ -28,7 +29,7 @@ use Rattle.tv_simplex.specs.declared.fault.SolveFault.{SolveFault}
 use Rattle.tv_cert.specs.declared.claim.Claim.{Claim}
 use Rattle.tv_cert.specs.declared.node.Verdict.{Verdict}
 use Rattle.tv_cert.specs.declared.node.Verdict.TheVariants as verdicts
-use Rattle.tv_cert.specs.Claims.{IsClaim, about_with, shown}
+use Rattle.tv_cert.specs.Claims.{IsClaim, about_with, claim_variables, shown}
 use Rattle.tv_cert.specs.Nodes.{obligations}
 use Rattle.tv_cert.specs.Obligations.{AllMet}
 use Rattle.tv_cert_reader.specs.Texts.{IsCertificateText}
@@ -42,6 +43,7 @@ use Rattle.tv_settling.specs.declared.fault.EndFault.TheVariants as ends
 use Rattle.tv_settling.specs.Closed.{HaveNoPoint}
 use Rattle.tv_settling.specs.Ends.{IsStuckAlone, IsFirstFault, RefusesFound}
 use Rattle.tv_settling.specs.Refusals.{RefusesSafety}
+use Rattle.tv_region.specs.StepRegions.{HasNoDraws}
 use Rattle.tv_region.specs.declared.fault.RegionFault.{RegionFault}
 use Rattle.tv_region.specs.declared.fault.RegionFault.TheVariants as regions
 use Rattle.tv_pre.specs.declared.fault.PreFault.TheVariants as faults
@@ -220,10 +222,11 @@ pub record IsDrawnAt (about : CaseSystem) (number : ℕ) : Type 0 where
 abbrev pub NoneDraws : CaseSystem → Type 0
 NoneDraws about = (number : ℕ) (c : LinearCase) → slice_get about.cases number ≡ Some c → c.draws ≡ 0
 
--- no certificate of the property, or of its negation, was made, for this reason
+-- no certificate of the property, or of its negation, over the variables of the program was made, for this reason
 pub record IsUnprovedOf (about : CaseSystem) (f : Property) (budget : Budget) (why : Unproved) : Type 0 where
   pub claim : Claim
   pub is_claim : IsClaim claim f
+  pub variables : claim_variables claim ≡ about.variables
   pub shows : IsUnproved about claim budget why
 
 -- a call on regions that are made of the formula's, or a question of them, has the fault
@@ -237,11 +240,20 @@ IsUnsolved about f budget system e =
     ((rows : _) × (system ≡ systems.Rows rows) × IsEither about f budget (regions.Solve rows e) (covers.Solve rows e))
     ⊎ IsUnprovedOf about f budget (Refused (faults.Rank system e))
 
+-- where no case has a draw, so many pieces are above the limit, and no more than each size of the property
+abbrev pub IsWithinSize : CaseSystem → Property → Budget → ℕ → Type 0
+IsWithinSize about f budget count = HasNoDraws about → (n : ℕ) → IsSize about f n → (budget.disjuncts < count) × (count ≤ n)
+
+-- so many pieces of a region of the formula's are made at the location
+abbrev pub AreTooMany : CaseSystem → Property → Budget → ℕ → ℕ → Type 0
+AreTooMany about f budget l count =
+    IsUnprovedOf about f budget (Refused (faults.Region (regions.Disjuncts l count))) × IsWithinSize about f budget count
+
 abbrev pub IsFormulaCause : System → CaseSystem → Property → Budget → Cause → Type 0
 IsFormulaCause p about f budget (Unsolved system e) = IsUnsolved about f budget system e
 IsFormulaCause p about f budget (Spent path) = IsUnprovedOf about f budget (Refused (faults.Cover (covers.Splits path)))
 IsFormulaCause p about f budget (Composed column) = IsEither about f budget (regions.Wide column) (covers.Wide column)
-IsFormulaCause p about f budget (TooManyPieces label count) = (l : ℕ) × IsLabelAt p l label.items × IsUnprovedOf about f budget (Refused (faults.Region (regions.Disjuncts l count)))
+IsFormulaCause p about f budget (TooManyPieces label count) = (l : ℕ) × IsLabelAt p l label.items × AreTooMany about f budget l count
 IsFormulaCause p about f budget (Drawn number) = IsDrawnAt about number × IsUnprovedOf about f budget (Left Inexact)
 IsFormulaCause p about f budget (Unsettled place) = IsUnprovedOf about f budget (Left (Open place))
 IsFormulaCause p about f budget (WideComparison place) = IsUnprovedOf about f budget (Wide place)

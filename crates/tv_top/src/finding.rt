@@ -3,6 +3,7 @@
 ghost use Rattle.std.specs.Prelude.{◌≡◌, ◌↔◌, ◌≤◌, IfOk, IfSome, IsTrue, length};
 ghost use Rattle.tv_program.specs.Programs.{system_of};
 ghost use Rattle.tv_formula.specs.Formulas.{property_of, variables_of};
+ghost use Rattle.tv_formula.specs.Parts.{HasParts};
 ghost use Rattle.tv_formula.specs.Properties.{Property, term};
 ghost use Rattle.tv_cases.specs.Answers.{IsOfProgram, HaveSameSteps};
 ghost use Rattle.tv_cases.specs.Systems.{cases_of};
@@ -268,7 +269,7 @@ fn ends(alloc: Global, search: &Search, proposers: &mut Vec<Box<dyn Proposer>>) 
 /// The answer to what is claimed, by the search for its kind of property.
 fn settle_once(alloc: Global, search: &Search, proposers: &mut Vec<Box<dyn Proposer>>) -> Answer
     requires { IsOfOne search.now }
-    ensures { (f : Property) → IsClaim search.now.claim.now f →
+    ensures { (f : Property) → IsClaim search.now.claim.now f → HasParts f →
         Answers (offers_of (λ p. rest p) proposers.old.items) search.now f result }
 {
     if is_termination(search.claim.proved()) {
@@ -289,7 +290,7 @@ fn settle_once(alloc: Global, search: &Search, proposers: &mut Vec<Box<dyn Propo
 /// The answer to what is claimed.
 fn settle(alloc: Global, search: &Search, proposers: &mut Vec<Box<dyn Proposer>>) -> Answer
     requires { IsOfOne search.now }
-    ensures { (f : Property) → IsClaim search.now.claim.now f →
+    ensures { (f : Property) → IsClaim search.now.claim.now f → HasParts f →
         Answers (offers_of (λ p. rest p) proposers.old.items) search.now f result }
 {
     match looked_at(alloc, search) {
@@ -311,6 +312,7 @@ pub fn find(
     proposers: &mut Vec<Box<dyn Proposer>>,
 ) -> Answer
     requires variables { variables_of property.now ≡ length (system_of program.now).variables }
+    requires parts { HasParts (property_of property.now) }
     requires same_program { IsOfProgram (system_of program.now) (cases_of about.now) }
     requires same_steps { HaveSameSteps (system_of program.now) (cases_of about.now) }
     ensures { Finds (offers_of (λ p. rest p) proposers.old.items)

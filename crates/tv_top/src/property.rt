@@ -1,6 +1,7 @@
 ghost use Rattle.std.specs.Prelude.{◌≡◌, IfOk, IfErr, length};
 ghost use Rattle.tv_program.specs.Programs.{system_of};
 ghost use Rattle.tv_formula.specs.Formulas.{property_of, variables_of};
+ghost use Rattle.tv_formula.specs.Parts.{HasParts};
 ghost use Rattle.tv_top.specs.Tasks.{safety, ctl};
 ghost use Rattle.tv_top.specs.Views.{query_of};
 ghost use Rattle.tv_top.specs.Properties.{IsNamed, IsUnnamed, UnlessMemory};
@@ -18,6 +19,7 @@ const MOST_BYTES: usize = 65536;
 fn safety(alloc: Global, label: &str, program: &Program) -> Result<Formula, FormulaFault>
     ensures named { IfOk result (λ f. IsNamed (system_of program.now) (safety label.now) (property_of f)) }
     ensures unnamed { IfErr result (λ fault. UnlessMemory fault (IsUnnamed (system_of program.now) (safety label.now) fault)) }
+    ensures parts { IfOk result (λ f. HasParts (property_of f)) }
     ensures variables { IfOk result (λ f. variables_of f ≡ length (system_of program.now).variables) }
 {
     match program.locations().find(label.as_bytes()) {
@@ -33,6 +35,7 @@ fn safety(alloc: Global, label: &str, program: &Program) -> Result<Formula, Form
 fn formula(alloc: Global, text: &str, program: &Program) -> Result<Formula, FormulaFault>
     ensures named { IfOk result (λ f. IsNamed (system_of program.now) (ctl text.now) (property_of f)) }
     ensures unnamed { IfErr result (λ fault. UnlessMemory fault (IsUnnamed (system_of program.now) (ctl text.now) fault)) }
+    ensures parts { IfOk result (λ f. HasParts (property_of f)) }
     ensures variables { IfOk result (λ f. variables_of f ≡ length (system_of program.now).variables) }
 {
     if text.len() > MOST_BYTES {
@@ -49,6 +52,7 @@ pub fn property(
 ) -> Result<Formula, FormulaFault>
     ensures named { IfOk result (λ f. IsNamed (system_of program.now) (query_of question.entry) (property_of f)) }
     ensures unnamed { IfErr result (λ fault. UnlessMemory fault (IsUnnamed (system_of program.now) (query_of question.entry) fault)) }
+    ensures parts { IfOk result (λ f. HasParts (property_of f)) }
     ensures variables { IfOk result (λ f. variables_of f ≡ length (system_of program.now).variables) }
 {
     match question {

@@ -7,14 +7,14 @@ use Rattle.tv_top.proofs.Found.{settles_found, further_so}
 use Rattle.tv_top.proofs.finding.settle.Goals as goal
 
 pub returns-in-Ok-Some : goal.returns-in-Ok-Some
-returns-in-Ok-Some g c = λ f is.
+returns-in-Ok-Some g c = λ f is parts.
     let search = c.args.search.now in
     let offers : Offers = λ about. Gave (λ p. (goal.Proposer-dyn g (p.vtable, p.value)).rest p.value about) c.args.proposers.now.items in
     settles_found offers (task_view search.task.now) (system_of search.program.now) f (cases_of search.about.now) c.told.result (c.told.ensures f is)
 
 pub returns : goal.returns
-returns g c = λ f is.
+returns g c = λ f is parts.
     let search = c.args.search.now in
     let about = cases_of search.about.now in
     let offers : Offers = λ about. Gave (λ p. (goal.Proposer-dyn g (p.vtable, p.value)).rest p.value about) c.args.proposers.now.items in
-    further_so offers (task_view search.task.now) (system_of search.program.now) f about c.settle_once-answer.result c.or_further.result (c.settle_once-answer.ensures f is) (c.or_further.ensures f is)
+    further_so offers (task_view search.task.now) (system_of search.program.now) f about c.settle_once-answer.result c.or_further.result (c.settle_once-answer.ensures f is parts) (c.or_further.ensures f is)

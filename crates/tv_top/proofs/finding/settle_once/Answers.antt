@@ -8,17 +8,17 @@ use Rattle.tv_top.proofs.Found.{answered_so}
 use Rattle.tv_top.proofs.finding.settle_once.Goals as goal
 
 pub returns-else-location-locations : goal.returns-else-location-locations
-returns-else-location-locations g c = λ f is.
+returns-else-location-locations g c = λ f is parts.
     let s = c.args.search.now in
     let about = cases_of s.about.now in
     let offers : Offers = λ about. Gave (λ p. (goal.Proposer-dyn g (p.vtable, p.value)).rest p.value about) c.args.proposers.now.items in
     let other : IsOther about f = record { not_ends = search rules; not_safety = search rules } in
-    answered_so offers (task_view s.task.now) (system_of s.program.now) f about other c.over_paths.result (c.over_paths.ensures f is)
+    answered_so offers (task_view s.task.now) (system_of s.program.now) f about other s.about.now.are_cases parts c.over_paths.result (c.over_paths.ensures f is)
 
 pub returns-in-None : goal.returns-in-None
-returns-in-None g c = λ f is.
+returns-in-None g c = λ f is parts.
     let s = c.args.search.now in
     let about = cases_of s.about.now in
     let offers : Offers = λ about. Gave (λ p. (goal.Proposer-dyn g (p.vtable, p.value)).rest p.value about) c.args.proposers.now.items in
     let other : IsOther about f = record { not_ends = search rules; not_safety = search rules } in
-    answered_so offers (task_view s.task.now) (system_of s.program.now) f about other c.over_paths-in-None.result (c.over_paths-in-None.ensures f is)
+    answered_so offers (task_view s.task.now) (system_of s.program.now) f about other s.about.now.are_cases parts c.over_paths-in-None.result (c.over_paths-in-None.ensures f is)

@@ -13,6 +13,7 @@ returns-in-Err c = λ f is.
       record {
         claim = claim;
         is_claim = is;
+        variables = c.requires.one.variables;
         shows = subst (λ b. IsUnproved (cases_of search.about.now) claim b c.in-Err.why) c.budget_of-budget.ensures.exact c.in-Err.ensures.unproved;
       },
     )
