@@ -1,11 +1,11 @@
 -- inductive rows along a run
-use Rattle.std.proofs.Common.{◌≡◌, ℕ, zero, suc, ◌∙◌, List, [], ◌∷◌, ◌++◌, length, refl, ap, arith, ℤ, pos}
+use Rattle.std.proofs.Common.{◌≡◌, ℕ, ◌∙◌, List, [], ◌∷◌, ◌++◌, length, ap, arith, ℤ, pos}
 use Rattle.std.proofs.lemmas.Int.{ints}
 use Rattle.std.proofs.lemmas.List.{length-map}
 use Rattle.tv_linear.specs.Linear.{IsMet}
 use Rattle.tv_linear.specs.Arithmetic.{constant_row}
 use Rattle.tv_linear.specs.Known.{term_value}
-use Rattle.tv_linear.specs.Terms.{table, terms_after, update_of}
+use Rattle.tv_linear.specs.Terms.{terms_after, update_of}
 use Rattle.tv_linear.proofs.RowValues.{value-constant_row}
 use Rattle.tv_linear.proofs.PlainLists.{length-table}
 use Rattle.tv_program.specs.Steps.{State}

@@ -1,12 +1,12 @@
 -- the row before a case has at the old values and draws the value that the row has at the new values
-use Rattle.std.proofs.Common.{◌≡◌, ℕ, zero, suc, ◌+◌, ◌<◌, ◌≤◌, ◌∙◌, List, [], ◌∷◌, ◌++◌, map, length, refl, sym, ap, subst, arith, add-one, ℤ, pos, ◌+ℤ◌, length-append}
+use Rattle.std.proofs.Common.{◌≡◌, ℕ, ◌+◌, ◌<◌, ◌≤◌, ◌∙◌, List, [], ◌∷◌, ◌++◌, map, length, refl, sym, ap, subst, arith, add-one, ℤ, pos, ◌+ℤ◌, length-append}
 use Rattle.std.specs.Prelude.{All, Result, Ok, Err, IfOk}
 use Rattle.std.proofs.lemmas.Int.{ints}
 use Rattle.std.proofs.lemmas.List.Elements.{All-head}
 use Rattle.tv_linear.specs.Linear.{Linear, columns, dot, value, entry}
 use Rattle.tv_linear.specs.Arithmetic.{constant_row, scaled, raised, combined, composed, width_of}
 use Rattle.tv_linear.specs.Known.{Term, kept, put, term_value}
-use Rattle.tv_linear.specs.Terms.{table, update_of, terms_after}
+use Rattle.tv_linear.specs.Terms.{update_of, terms_after}
 use Rattle.tv_linear.specs.Fits.{SumsHeld, IsNarrowAt, FitsComposed, GivesWhere, GivesComposed, GivesRow}
 use Rattle.tv_linear.specs.declared.fault.RowFault.{RowFault}
 use Rattle.tv_linear.specs.declared.fault.RowFault.TheVariants.{Wide, Memory}

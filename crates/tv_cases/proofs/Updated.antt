@@ -5,7 +5,7 @@ use Rattle.std.proofs.lemmas.Bool.Decides.{nat_tests}
 use Rattle.std.proofs.lemmas.List.{same_lists, length-map}
 use Rattle.tv_linear.specs.Linear.{Linear, value}
 use Rattle.tv_linear.specs.Known.{kept, put, term_value}
-use Rattle.tv_linear.specs.Terms.{update_of, table, terms_after}
+use Rattle.tv_linear.specs.Terms.{update_of, terms_after}
 use Rattle.tv_linear.proofs.PlainLists.{length-table}
 use Rattle.tv_linear.proofs.ListLaws.{get_or-table}
 use Rattle.tv_program.specs.Trees.{Instruction}

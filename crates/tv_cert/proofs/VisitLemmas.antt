@@ -1,5 +1,5 @@
 -- Obligations visited in parts.
-use Rattle.std.proofs.Common.{◌≡◌, ℕ, zero, suc, ◌+◌, ◌<◌, ◌≤◌, Bool, true, false, List, [], ◌∷◌, ◌++◌, length, drop, get_or, refl, sym, ap, ◌∙◌, subst, arith, length-append, drop-cons, append_assoc}
+use Rattle.std.proofs.Common.{◌≡◌, ℕ, suc, ◌+◌, ◌<◌, ◌≤◌, Bool, true, false, List, [], ◌∷◌, ◌++◌, length, drop, get_or, refl, sym, ap, ◌∙◌, subst, arith, length-append, drop-cons, append_assoc}
 use Rattle.std.specs.Bool.{OnTrue, OnFalse}
 use Rattle.tv_linear.proofs.ListLaws.{drop_past}
 use Rattle.tv_cert.specs.Obligations.{Obligation}

@@ -1,5 +1,5 @@
 -- Tokens are refused in one place: what stands before it is one text's front, and with its token it is none's.
-use Rattle.std.proofs.Common.{◌≡◌, Bool, true, false, List, [], ◌∷◌, ◌++◌, length, Option, Some, Result, Ok, Err, refl, sym, ap, subst, ◌∙◌, append_assoc, arith}
+use Rattle.std.proofs.Common.{◌≡◌, Bool, true, false, List, [], ◌∷◌, ◌++◌, length, Some, Result, Ok, Err, refl, sym, ap, subst, ◌∙◌, append_assoc, arith}
 use Rattle.std.proofs.lemmas.List.{append-nil}
 use Rattle.tv_grammar.specs.Reads.{Fault, faulty, fault, next}
 use Rattle.tv_grammar.specs.Langs.{Lang}

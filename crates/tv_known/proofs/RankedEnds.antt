@@ -6,7 +6,7 @@ use Rattle.std.proofs.lemmas.List.{length-map}
 use Rattle.std.proofs.lemmas.List.Elements.{All-nil, All-cons, All-head, All-tail}
 use Rattle.tv_linear.specs.Linear.{Linear, columns, dot, value, IsMet, scaled_value}
 use Rattle.tv_linear.specs.Known.{Term, kept, put, term_value}
-use Rattle.tv_linear.specs.Terms.{table, terms_after, update_of}
+use Rattle.tv_linear.specs.Terms.{terms_after, update_of}
 use Rattle.tv_linear.proofs.PlainLists.{length-table}
 use Rattle.tv_program.specs.Steps.{State}
 use Rattle.tv_cases.specs.LinearCases.{LinearCase, CaseSystem, CaseDoes, CaseSteps}

@@ -1,13 +1,13 @@
 -- The rows of the tables.
-use Rattle.std.proofs.Common.{◌≡◌, ℕ, zero, suc, ◌+◌, ◌-◌, ◌<◌, ◌≤◌, ◌^◌, List, [], ◌∷◌, ◌++◌, length, map, set, get_or, All, arith, refl, sym, ap, ◌∙◌, subst, Option, None, Some, Bool, true, false, ◌&&◌, cond, ◌==◌, ℤ, pos, negsuc, neg_ℤ, ◌+ℤ◌}
+use Rattle.std.proofs.Common.{◌≡◌, ℕ, zero, suc, ◌+◌, ◌-◌, ◌<◌, ◌≤◌, List, [], ◌∷◌, length, map, set, get_or, All, arith, refl, sym, ap, ◌∙◌, subst, None, Some, Bool, true, false, ◌&&◌, cond, ◌==◌, ℤ, pos, negsuc, neg_ℤ, ◌+ℤ◌}
 use Rattle.std.specs.List.{slice_get}
 use Rattle.std.specs.Prelude.{IfOk, Result, Ok, Err}
 use Rattle.std.proofs.lemmas.Int.{ints}
 use Rattle.std.proofs.lemmas.Bool.Decides.{nat_tests}
 use Rattle.std.proofs.lemmas.List.{get_or-map, length-map}
-use Rattle.std.proofs.lemmas.List.Elements.{All-nil, All-cons, All-head, All-tail}
-use Rattle.tv_linear.specs.Linear.{Linear, linear, columns, IsWithin, IsNarrow}
-use Rattle.tv_linear.specs.Arithmetic.{zeros, unit, plus_each, opposite, plus, column_row}
+use Rattle.std.proofs.lemmas.List.Elements.{All-cons, All-head, All-tail}
+use Rattle.tv_linear.specs.Linear.{Linear, columns}
+use Rattle.tv_linear.specs.Arithmetic.{zeros, unit, plus_each}
 use Rattle.tv_linear.specs.Terms.{table}
 use Rattle.tv_linear.proofs.PlainLists.{length-table}
 use Rattle.tv_linear.proofs.ListLaws.{get_or-table}

@@ -1,15 +1,15 @@
 -- A walk over a table of rows.
-use Rattle.std.proofs.Common.{◌≡◌, ℕ, zero, suc, ◌+◌, ◌-◌, ◌<◌, ◌≤◌, List, [], ◌∷◌, ◌++◌, length, map, take, drop, get_or, arith, refl, sym, ap, ◌∙◌, subst, append_assoc, append-nil, Option, None, Some}
-use Rattle.std.specs.List.{flat_map, slice_get}
+use Rattle.std.proofs.Common.{◌≡◌, ℕ, zero, suc, ◌+◌, ◌-◌, ◌<◌, ◌≤◌, List, [], ◌∷◌, ◌++◌, length, map, take, drop, get_or, arith, refl, sym, ap, ◌∙◌, None, Some}
+use Rattle.std.specs.List.{slice_get}
 use Rattle.tv_linear.specs.Linear.{Linear}
 use Rattle.tv_cases.specs.LinearCases.{CaseSystem}
 use Rattle.tv_candidates.specs.declared.candidate.Candidate.{Candidate}
 use Rattle.tv_candidates.specs.Offered.{candidate}
 use Rattle.tv_propose.specs.declared.walk.Walk.{Walk}
-use Rattle.tv_propose.specs.Rests.{IsFirstOf, IsGiven}
+use Rattle.tv_propose.specs.Rests.{IsGiven}
 use Rattle.tv_propose.specs.Everywhere.{from_location}
 use Rattle.tv_propose.specs.Walks.{flat, rows_of, left_in_group, left_in_table, left_from, rest_of}
-use Rattle.tv_propose.proofs.FlatLemmas.{flat_next, past_end, none_past, drop_some, drop_none, nothing_left, take_nothing, take_one}
+use Rattle.tv_propose.proofs.FlatLemmas.{flat_next, past_end, none_past, drop_some, drop_none, nothing_left, take_one}
 
 -- ---- in a group
 

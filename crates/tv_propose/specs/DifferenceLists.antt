@@ -1,7 +1,7 @@
 -- Differences of two variables as candidates.
 use Rattle.std.specs.Prelude.{ℕ, List, [], ◌∷◌, map, ℤ, pos, negsuc, ◌==◌, if◌then◌else◌}
 use Rattle.tv_linear.specs.Linear.{Linear, linear}
-use Rattle.tv_linear.specs.Arithmetic.{plus_each, unit, opposite, plus, column_row}
+use Rattle.tv_linear.specs.Arithmetic.{opposite, plus, column_row}
 use Rattle.tv_linear.specs.Terms.{table}
 use Rattle.tv_cases.specs.LinearCases.{CaseSystem}
 use Rattle.tv_candidates.specs.declared.candidate.Candidate.{Candidate}

@@ -1,10 +1,10 @@
 -- The guards of the cases as candidates.
-use Rattle.std.specs.Prelude.{ℕ, ◌^◌, List, [], ◌∷◌, ◌++◌, map, take, drop, pos, ◌-ℤ◌, unsigned_abs, nat_lt, Bool, ◌&&◌, if◌then◌else◌, Option, None, Some}
+use Rattle.std.specs.Prelude.{ℕ, ◌^◌, List, [], ◌∷◌, map, take, drop, pos, ◌-ℤ◌, unsigned_abs, nat_lt, Bool, ◌&&◌, if◌then◌else◌, Option, None, Some}
 use Rattle.std.specs.List.{list_all}
 use Rattle.tv_linear.specs.Linear.{Linear, linear}
 use Rattle.tv_linear.specs.Arithmetic.{denial}
 use Rattle.tv_cases.specs.Forms.{is_zero}
-use Rattle.tv_cases.specs.LinearCases.{LinearCase, CaseSystem}
+use Rattle.tv_cases.specs.LinearCases.{CaseSystem}
 use Rattle.tv_candidates.specs.declared.candidate.Candidate.{Candidate}
 use Rattle.tv_propose.specs.Everywhere.{everywhere}
 use Rattle.tv_propose.specs.Walks.{rows_of}

@@ -5,7 +5,7 @@ use Rattle.std.proofs.lemmas.List.Elements.{All-head, All-tail}
 use Rattle.std.proofs.Math.IntN.{*ℤ_comm}
 use Rattle.tv_linear.specs.Linear.{Linear, linear, dot}
 use Rattle.tv_linear.specs.Fits.{IsHeld}
-use Rattle.tv_linear.specs.Known.{Known, given, denied, number, known_number, KnownHeld, as_given, place_sum, PlacesHeld}
+use Rattle.tv_linear.specs.Known.{Known, denied, number, known_number, KnownHeld, as_given, place_sum, PlacesHeld}
 use Rattle.tv_linear.specs.Refutation.{RowsHeld, column_sum, ColumnHeld, Refutes}
 use Rattle.tv_linear.proofs.KnownLemmas.{as_given-append, length-given}
 use Rattle.tv_refute.proofs.Places.{get_or-left, get_or-right, get_or-map}

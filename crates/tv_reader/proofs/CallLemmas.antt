@@ -7,7 +7,7 @@ use Rattle.tv_program.specs.Views.{expression, condition}
 use Rattle.tv_language.specs.Programs.{draws_in, draws_tested}
 use Rattle.tv_grammar.specs.Reads.{fault}
 use Rattle.tv_reading.specs.Marks as marks
-use Rattle.tv_reading.specs.Marks.{Kind, Mark, Stand, Passes}
+use Rattle.tv_reading.specs.Marks.{Kind, Stand, Passes}
 use Rattle.tv_reading.specs.Readings.{IsRead, sum_levels, condition_levels}
 use Rattle.tv_reading.specs.SumGrammar.{every, sum_at}
 use Rattle.tv_reading.specs.ConditionGrammar.{condition_at}

@@ -16,7 +16,7 @@ use Rattle.tv_reading.specs.ConditionGrammar.{condition_at}
 use Rattle.tv_reading.proofs.SumTexts.{sum_is}
 use Rattle.tv_reading.proofs.ConditionTexts.{condition_is}
 use Rattle.tv_reader.specs.ProgramGrammar as grammar
-use Rattle.tv_reader.specs.ProgramGrammar.{go_if, token_cases, token, is_semicolon, is_left, is_right, is_assign, is_to, ended, semicolon_cases, perhaps_ended, label_cases, place, command_cases, Items, no_items, with_start, with_edge, until, last_of_edge, has_start, is_full, item_cases, last_of_program, program_at}
+use Rattle.tv_reader.specs.ProgramGrammar.{go_if, token_cases, token, is_semicolon, is_left, is_right, is_assign, ended, semicolon_cases, perhaps_ended, label_cases, place, command_cases, Items, no_items, with_start, with_edge, last_of_edge, has_start, is_full, item_cases, last_of_program, program_at}
 
 -- ---- one token
 

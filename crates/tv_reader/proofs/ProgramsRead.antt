@@ -16,7 +16,7 @@ use Rattle.tv_reading.specs.ConditionGrammar.{condition_at}
 use Rattle.tv_reading.proofs.SumTexts.{Back, front, sum_is_read}
 use Rattle.tv_reading.proofs.ConditionsRead.{condition_is_read}
 use Rattle.tv_reader.specs.ProgramGrammar as grammar
-use Rattle.tv_reader.specs.ProgramGrammar.{token, is_right, ended, label_cases, place, command_cases, Items, no_items, with_start, with_edge, last_of_edge, has_start, is_full, item_cases, last_of_program, program_at}
+use Rattle.tv_reader.specs.ProgramGrammar.{place, command_cases, Items, no_items, with_start, with_edge, has_start, is_full, item_cases, program_at}
 
 -- ---- labels
 

@@ -9,10 +9,10 @@ use Rattle.tv_language.specs.declared.token.Token.{Token}
 use Rattle.tv_language.specs.Numbers.{value_of_digits}
 use Rattle.tv_program.specs.Words.{Word, number_of, with_new}
 use Rattle.tv_language.specs.Symbols as symbols
-use Rattle.tv_language.specs.Symbols.{Symbol, name, drawn, fixed, lexeme, Lexeme, lexemes, Vocabulary, is_colon, variable_words, variable_by}
+use Rattle.tv_language.specs.Symbols.{name, drawn, fixed, lexeme, lexemes, Vocabulary, is_colon, variable_words, variable_by}
 use Rattle.tv_grammar.specs.Reads.{next}
 use Rattle.tv_reading.specs.Marks as marks
-use Rattle.tv_reading.specs.Marks.{Kind, Mark, plain, refused, symbol_of, symbols_of, TooMany, Stand, past, first, Passes, stay, pass}
+use Rattle.tv_reading.specs.Marks.{Mark, plain, refused, symbol_of, symbols_of, TooMany, Stand, past, first, Passes, stay, pass}
 use Rattle.tv_reading.specs.Readings.{taken, token_at, or_end}
 use Rattle.tv_reading.proofs.LinearLemmas.{and_left, and_right, and_both}
 use Rattle.tv_reading.proofs.PassedLemmas.{between, here_is, symbols-append, passes_kept}

@@ -10,9 +10,9 @@ use Rattle.tv_program.specs.Words.{Word, number_of}
 use Rattle.tv_program.specs.Trees.{Transition}
 use Rattle.tv_program.specs.Limits.{transition_fits}
 use Rattle.tv_language.specs.Symbols as symbols
-use Rattle.tv_language.specs.Symbols.{Symbol, number, name, label, drawn, fixed, Lexeme, Vocabulary, symbol_by, is_colon, symbols_from, is_label, is_name, in_front, label_words, variable_words}
+use Rattle.tv_language.specs.Symbols.{Symbol, number, name, label, drawn, fixed, Lexeme, Vocabulary, symbol_by, is_colon, symbols_from, is_label, in_front, label_words, variable_words}
 use Rattle.tv_language.specs.Programs as programs
-use Rattle.tv_language.specs.Programs.{edge_of, AreItems, no_item, start, passed, draws_counted}
+use Rattle.tv_language.specs.Programs.{AreItems, no_item, start, passed, draws_counted}
 use Rattle.tv_reading.specs.Marks.{plain, refused, symbol_of, symbols_of, TooMany}
 use Rattle.tv_reading.proofs.LinearLemmas.{and_left, and_right, and_both}
 use Rattle.tv_reader.specs.ProgramMarks.{label_behind, start_word, numbered, mark_by, draws_behind, marks_from}

@@ -4,7 +4,7 @@ use Rattle.tv_language.specs.declared.token.TokenKind.{TokenKind}
 use Rattle.tv_language.specs.declared.token.TokenKind.TheVariants as kinds
 use Rattle.tv_program.specs.declared.tree.Relation.{Relation}
 use Rattle.tv_program.specs.Trees as trees
-use Rattle.tv_program.specs.Trees.{Expression, Condition, truth, negated, all_of, some_of}
+use Rattle.tv_program.specs.Trees.{Expression, Condition}
 use Rattle.tv_language.specs.Symbols.{fixed}
 use Rattle.tv_language.specs.Sums.{gathered}
 use Rattle.tv_language.specs.Conditions.{relation_of}

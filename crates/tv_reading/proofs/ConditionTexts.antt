@@ -5,7 +5,7 @@ use Rattle.tv_language.specs.declared.token.TokenKind.{TokenKind}
 use Rattle.tv_language.specs.declared.token.TokenKind.TheVariants as kinds
 use Rattle.tv_program.specs.declared.tree.Relation.{Relation}
 use Rattle.tv_program.specs.Trees as trees
-use Rattle.tv_program.specs.Trees.{Expression, Condition, truth, compare, negated, all_of, some_of}
+use Rattle.tv_program.specs.Trees.{Expression, Condition, compare, all_of, some_of}
 use Rattle.tv_program.specs.Views.{parts_of}
 use Rattle.tv_program.specs.Limits.{is_linear_product}
 use Rattle.tv_language.specs.Symbols.{Symbol, fixed}

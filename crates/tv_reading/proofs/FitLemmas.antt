@@ -2,7 +2,7 @@
 use Rattle.std.proofs.Common.{◌≡◌, ℕ, ◌+◌, ◌*◌, ◌^◌, ◌≤◌, Bool, true, List, [], ◌∷◌, refl, arith}
 use Rattle.std.specs.Prelude.{◌&&◌, nat_lt, max}
 use Rattle.tv_program.specs.Trees as trees
-use Rattle.tv_program.specs.Trees.{Expression, Condition, compare, all_of, some_of}
+use Rattle.tv_program.specs.Trees.{Expression, Condition, all_of, some_of}
 use Rattle.tv_program.specs.Views.{parts_of, tests_of}
 use Rattle.tv_program.specs.Limits.{is_linear_product, expression_fits, expressions_fit, expression_depth, expressions_depth, condition_fits, conditions_fit, condition_depth, conditions_depth}
 use Rattle.tv_language.specs.Symbols.{Symbol, number, name, drawn}

@@ -1,5 +1,5 @@
 -- Where no name is added, the names stay, and no name and no draw is one too many.
-use Rattle.std.proofs.Common.{◌≡◌, ℕ, ◌^◌, Bool, true, false, List, [], ◌∷◌, drop, Option, Some, None, Result, Ok, Err, cond, refl, sym, ap, subst, ◌∙◌}
+use Rattle.std.proofs.Common.{◌≡◌, ℕ, ◌^◌, Bool, true, false, List, [], ◌∷◌, drop, Option, Some, None, Result, Ok, Err, cond, refl, sym, subst, ◌∙◌}
 use Rattle.std.specs.Prelude.{nat_lt, ◌≢◌}
 use Rattle.tv_language.specs.declared.token.TokenKind.{TokenKind}
 use Rattle.tv_language.specs.declared.token.TokenKind.TheVariants as kinds
@@ -10,14 +10,14 @@ use Rattle.tv_program.specs.declared.tree.Expr.{Expr}
 use Rattle.tv_program.specs.declared.tree.Cond.{Cond}
 use Rattle.tv_program.specs.Views.{expression, condition}
 use Rattle.tv_language.specs.Symbols.{number, name, fixed, lexeme}
-use Rattle.tv_grammar.specs.Reads.{Fault, fault, next}
+use Rattle.tv_grammar.specs.Reads.{next}
 use Rattle.tv_grammar.specs.Faults.{Kinded, KindedBranch}
-use Rattle.tv_reading.specs.Marks.{Kind, Syntax, TooMany, Mark, plain, refused, is_formula_word, known_name, number_mark, mark_by, marks_from, names_behind, Stand, left, Passes, stay, pass}
+use Rattle.tv_reading.specs.Marks.{Syntax, TooMany, Mark, plain, refused, is_formula_word, known_name, number_mark, mark_by, marks_from, names_behind, Stand, left, Passes, stay, pass}
 use Rattle.tv_reading.specs.SumGrammar.{Grammar, every, sum_at}
 use Rattle.tv_reading.specs.ConditionGrammar.{condition_at}
 use Rattle.tv_reading.specs.declared.fault.PartFault.{PartFault}
 use Rattle.tv_reading.specs.declared.fault.PartFault.TheVariants as faults
-use Rattle.tv_reading.specs.Readings.{IsRead, IsFault, sum_levels, condition_levels, one_name, name_cases}
+use Rattle.tv_reading.specs.Readings.{IsRead, sum_levels, condition_levels, one_name, name_cases}
 use Rattle.tv_grammar.proofs.KindLemmas.{unit_kinded, headed_kinded}
 use Rattle.tv_reading.proofs.PassedLemmas.{passes_kept}
 use Rattle.tv_reading.proofs.KindsOfFaults.{refusal, Marked, marked, sums_kinded, conditions_kinded}

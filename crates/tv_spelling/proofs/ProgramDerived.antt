@@ -11,7 +11,7 @@ use Rattle.tv_program.specs.Limits.{condition_fits, condition_depth, expression_
 use Rattle.tv_program.specs.Systems.{System}
 use Rattle.tv_language.specs.Symbols.{Symbol, Vocabulary, name, label, fixed, numbered}
 use Rattle.tv_language.specs.Programs as programs
-use Rattle.tv_language.specs.Programs.{draws_counted, edge_of, IsCommand, AreCommands, AreItems}
+use Rattle.tv_language.specs.Programs.{draws_counted, IsCommand, AreCommands, AreItems}
 use Rattle.tv_spelling.specs.ReadAgain.{AreNames, draws_after, draws_after_test, IsOrdered, IsOrderedTest}
 use Rattle.tv_spelling.proofs.Pieces.{Piece, line_feed, word, symbols_of}
 use Rattle.tv_spelling.proofs.SumPieces.{both_hold, below, expression_pieces}

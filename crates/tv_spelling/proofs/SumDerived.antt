@@ -9,7 +9,7 @@ use Rattle.tv_program.specs.Limits.{expression_fits, expressions_fit, is_constan
 use Rattle.tv_language.specs.Symbols as symbols
 use Rattle.tv_language.specs.Symbols.{Symbol, Vocabulary, numbered, fixed}
 use Rattle.tv_language.specs.Sums as grammar
-use Rattle.tv_language.specs.Sums.{gathered, IsFactor, AreFactors, IsProduct, AreProducts, IsSum}
+use Rattle.tv_language.specs.Sums.{IsFactor, AreFactors, IsProduct, AreProducts, IsSum}
 use Rattle.tv_spelling.specs.Sums.{is_sum, is_product}
 use Rattle.tv_spelling.specs.ReadAgain.{AreNames, draws_after, draws_after_all, IsOrdered, AreOrdered}
 use Rattle.tv_spelling.proofs.Pieces.{Piece, word, symbols_of, bracket_pieces}

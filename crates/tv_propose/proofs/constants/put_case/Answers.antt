@@ -1,4 +1,4 @@
-use Rattle.std.proofs.Common.{◌≡◌, ap, sym, ◌∙◌}
+use Rattle.std.proofs.Common.{ap, sym, ◌∙◌}
 use Rattle.tv_propose.specs.Constants.{with_numbers, row_constants, term_constants}
 use Rattle.tv_propose.proofs.ConstantLemmas.{with_append}
 use Rattle.tv_propose.proofs.constants.put_case.Goals as goal

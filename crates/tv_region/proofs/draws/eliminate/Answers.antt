@@ -1,7 +1,5 @@
-use Rattle.std.proofs.Common.{◌≡◌, ◌⊎◌, ◌+◌, subst, sym, pos, negsuc}
-use Rattle.tv_linear.specs.Linear.{Linear}
+use Rattle.std.proofs.Common.{◌⊎◌, ◌+◌, subst, sym, pos, negsuc}
 use Rattle.tv_region.specs.Met.{Has}
-use Rattle.tv_region.specs.Made.{last_of}
 use Rattle.tv_region.specs.Draws.{AllEnd, IsSummed, IsWideAmong, IsWideDrawn}
 use Rattle.tv_region.proofs.AddLemmas.{row_fault_weaker}
 use Rattle.tv_region.proofs.PartLemmas.{wide_among_drawn}

@@ -1,9 +1,8 @@
-use Rattle.std.proofs.Common.{◌≡◌, ◌<◌, ◌≤◌, ◌∙◌, sym, subst, arith, rules, FitsSigned, get_or, length, [], ap}
+use Rattle.std.proofs.Common.{◌<◌, ◌∙◌, sym, subst, arith, rules, FitsSigned, length}
 use Rattle.std.specs.Int.{w128}
 use Rattle.std.proofs.lemmas.Int.{to_z-of_z}
 use Rattle.tv_linear.specs.Linear.{IsWithin}
 use Rattle.tv_cases.specs.Systems.{cases_of}
-use Rattle.tv_propose.specs.BoundLists.{upper_bound, lower_bound, bound_table}
 use Rattle.tv_propose.proofs.TableLemmas.{bound_groups, bound_places, upper_there, lower_there, no_bound_there}
 use Rattle.tv_propose.proofs.bounds.BoundTableTable.row.Goals as goal
 

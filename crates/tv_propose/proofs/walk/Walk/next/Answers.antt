@@ -1,4 +1,4 @@
-use Rattle.std.proofs.Common.{◌≡◌, ◌<◌, ◌+◌, ◌-◌, ◌∷◌, Some, None, arith, refl, ap, sym, subst, ◌∙◌}
+use Rattle.std.proofs.Common.{◌<◌, ◌+◌, ◌-◌, ◌∷◌, Some, None, arith, refl, ap, sym, subst, ◌∙◌}
 use Rattle.tv_cases.specs.Systems.{cases_of}
 use Rattle.tv_candidates.specs.Offered.{candidate}
 use Rattle.tv_propose.specs.declared.walk.Walk.{Walk}
