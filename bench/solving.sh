@@ -1,7 +1,7 @@
 #!/usr/bin/env bash
 # How long the built program takes to settle linear equations and to refute rows, and how much memory: systems of small whole numbers,
-# dense and sparse, flows in networks, whose tableaux stay narrow, rows of differences around a cycle, and systems with as many entries
-# as there may be. The best of 3 runs, in which its start and the reading of the text are counted, and the least time of a processor that
+# dense and sparse, flows in networks, whose tableaux stay narrow, rows of differences around a cycle, systems with as many entries as there
+# may be, and those that the program's own searches ask for: ranks of a loop of so many cases, and whether a step keeps a sum at 0 or above. The best of 3 runs, in which its start and the reading of the text are counted, and the least time of a processor that
 # one of them took, beside that of a run that tries no basis. The word tells how many bases are tried, 4,000 if left out. Those of glpsol,
 # QSopt_ex and z3 that are installed solve the same equations by exact arithmetic, started in the same way and given the entries that are
 # not 0: the least time of a processor that each took, and how many times this program's it is, so that above 1 this program is the faster.
@@ -11,6 +11,7 @@ cd "$(dirname "$0")/.."
 PYTHONPATH=bench exec python3 -B - crates/timing/out/timing "${1:-4000}" <<'END_OF_PROGRAM'
 import math, random, resource, shutil, signal, sys, tempfile
 from measure import best, run
+from systems import chain_step, nested_counters, ring
 
 PROGRAM, PIVOTS = sys.argv[1], sys.argv[2]
 MOST_MEMORY = 4 << 30
@@ -132,6 +133,13 @@ SYSTEMS = [
     ("flow 4,000 x 1,000", "solving", lambda: flow(4_000, 1_000, True, 10)),
     ("flow 8,000 x 500", "solving", lambda: flow(8_000, 500, True, 11)),
     ("flow 100,000 x 40", "solving", lambda: flow(100_000, 40, True, 12)),
+    ("ranks of two nested counters", "solving", nested_counters),
+    ("ranks of 5 cases", "solving", lambda: ring(5)),
+    ("ranks of 10 cases", "solving", lambda: ring(10)),
+    ("ranks of 20 cases", "solving", lambda: ring(20)),
+    ("ranks of 40 cases", "solving", lambda: ring(40)),
+    ("step of 10 counters", "solving", lambda: chain_step(10)),
+    ("step of 50 counters", "solving", lambda: chain_step(50)),
 ]
 
 others = [other for other in OTHERS if shutil.which(other[1][0])]
