@@ -41,7 +41,7 @@ sum-cons x xs = sum_by-cons (λ y. y) x xs
 rows-cons : (l : List Linear) (ls : List (List Linear)) → sum (map length (l ∷ ls)) ≡ length l + sum (map length ls)
 rows-cons l ls = sum-cons (length l) (map length ls)
 
-suc-times : (a b : ℕ) → suc a * b ≡ b + a * b
+pub suc-times : (a b : ℕ) → suc a * b ≡ b + a * b
 suc-times a b = grind arith
 
 spread : (a b c : ℕ) → (a + b) * c ≡ a * c + b * c

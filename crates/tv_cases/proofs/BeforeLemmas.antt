@@ -3,7 +3,6 @@ use Rattle.std.proofs.Common.{◌≡◌, ℕ, zero, suc, ◌+◌, ◌<◌, ◌�
 use Rattle.std.proofs.lemmas.Int.{ints}
 use Rattle.std.proofs.lemmas.List.{get_or_past, get_or_default, length-map, map-append}
 use Rattle.std.proofs.lemmas.List.Elements.{All-nil, All-cons, All-head, All-tail, All-push}
-use Rattle.std.proofs.Math.Seq.{take-suc}
 use Rattle.tv_linear.specs.Linear.{Linear, columns, entry, dot, IsWithin}
 use Rattle.tv_linear.specs.Arithmetic.{unit, column_row, combined}
 use Rattle.tv_linear.specs.Fits.{IsHeld, SumsHeld}
@@ -16,6 +15,7 @@ use Rattle.tv_linear.specs.Same.{SameNumbers, AreSame}
 use Rattle.tv_linear.proofs.SameLemmas.{same_self}
 use Rattle.tv_cases.specs.Before.{term_row, rows_after, before, FitsTerms, FitsBefore, rows_before, AreRowsBefore}
 use Rattle.tv_cases.specs.LinearCases.{LinearCase}
+use Rattle.tv_linear.proofs.ListLaws.{take_next}
 
 -- the row over n columns has the numbers of the term
 pub record IsTerm (n : ℕ) (t : Term) (row : Linear) : Type 0 where
@@ -73,7 +73,7 @@ places_held told f sum v (c ∷ cs) (y ∷ ys) e t h s =
           (λ i l. ap f (let g : suc v + i ≡ v + suc i = omega arith in g) ∙ h (suc i) (omega (arith, l))) s.2),
     )
 
-narrow_held : (z : ℤ) → unsigned_abs z < 2 ^ 62 → IsHeld z
+pub narrow_held : (z : ℤ) → unsigned_abs z < 2 ^ 62 → IsHeld z
 narrow_held z h = omega (arith, h)
 
 -- a row with rows put in, and the same with terms
@@ -83,12 +83,6 @@ pub record PutIn (n : ℕ) (r : Linear) (rows : List Linear) (s : Linear) : Type
   pub last : entry s n ≡ dot r.coefficients (map (λ t. entry t n) rows) +ℤ r.constant
   pub held : (j : ℕ) → j ≤ n → SumsHeld (pos 0) r.coefficients (map (λ t. entry t j) rows)
   pub narrow : (j : ℕ) → j ≤ n → IsWithin 62 (entry s j)
-
-pub terms_length : (n : ℕ) (ts : List Term) (rows : List Linear) → AreTerms n ts rows → length ts ≡ length rows
-terms_length n [] [] h = refl
-terms_length n [] (row ∷ rows) h = absurd h
-terms_length n (t ∷ ts) [] h = absurd h
-terms_length n (t ∷ ts) (row ∷ rows) h = ap suc (terms_length n ts rows h.1)
 
 pub composed_same : (w n : ℕ) (r s : Linear) (k : Known) (ts : List Term) (rows : List Linear) → columns r ≡ w → length rows ≡ w → SameNumbers w (given r) k → AreTerms n ts rows → PutIn n r rows s → SameNumbers n (given s) (composed k ts)
 composed_same w n r s k ts rows wide many same terms p = record {
@@ -132,7 +126,7 @@ composed_same w n r s k ts rows wide many same terms p = record {
         ∙ last_is
 
 -- ---- what is put in
-unit_number_is : (w v j : ℕ) → j < w → get_or (unit w v) j (pos 0) ≡ unit_number j v
+pub unit_number_is : (w v j : ℕ) → j < w → get_or (unit w v) j (pos 0) ≡ unit_number j v
 unit_number_is zero v j l = absurd (omega (arith, l))
 unit_number_is (suc w) zero zero l = refl
 unit_number_is (suc w) zero (suc j) l = get_or-zeros w j
@@ -218,14 +212,14 @@ all_before_even n c (r ∷ rows) wide us fits =
     (all_before_even n c rows (All-tail (λ r. columns r ≡ n) r rows wide) us (All-tail (FitsBefore c) r rows fits))
 
 -- ---- one more row of a loop
-pub take_next : {A : Type 0} (rows : List A) (i : ℕ) (r : A) → i < length rows → r ≡ get_or rows i r → take (i + 1) rows ≡ take i rows ++ r ∷ []
-take_next rows i r l e = ap (λ k. take k rows) (let q : i + 1 ≡ suc i = omega arith in q) ∙ take-suc rows i r l ∙ ap (λ y. take i rows ++ y ∷ []) (sym e)
-
-pub no_rows_before : (c : LinearCase) (all : List Linear) → all ≡ [] → AreRowsBefore c [] all
-no_rows_before c all e = record { exact = e; fits = All-nil (FitsBefore c) }
-
 pub row_before : (c : LinearCase) (rows : List Linear) (i : ℕ) (r s : Linear) (all new : List Linear) → i < length rows → r ≡ get_or rows i r → s ≡ before r c → FitsBefore c r → new ≡ all ++ s ∷ [] → AreRowsBefore c (take i rows) all → AreRowsBefore c (take (i + 1) rows) new
 row_before c rows i r s all new l e same fits m h = subst (λ z. AreRowsBefore c z new) (sym (take_next rows i r l e)) (record {
   exact = m ∙ (λ k. h.exact k ++ same k ∷ []) ∙ sym (map-append (λ q. before q c) (take i rows) (r ∷ []));
   fits = All-push (FitsBefore c) (take i rows) r h.fits fits;
 })
+
+pub terms_append : (n : ℕ) (ts us : List Term) (rows more : List Linear) → AreTerms n ts rows → AreTerms n us more → AreTerms n (ts ++ us) (rows ++ more)
+terms_append n [] us [] more h g = g
+terms_append n [] us (row ∷ rows) more h g = absurd h
+terms_append n (t ∷ ts) us [] more h g = absurd h
+terms_append n (t ∷ ts) us (row ∷ rows) more h g = (h.0, terms_append n ts us rows more h.1 g)

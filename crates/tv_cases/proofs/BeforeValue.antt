@@ -11,11 +11,12 @@ use Rattle.tv_linear.specs.Fits.{SumsHeld, IsNarrowAt, FitsComposed, GivesWhere,
 use Rattle.tv_linear.specs.declared.fault.RowFault.{RowFault}
 use Rattle.tv_linear.specs.declared.fault.RowFault.TheVariants.{Wide, Memory}
 use Rattle.tv_linear.specs.declared.region.Update.{Update}
-use Rattle.tv_linear.proofs.ListLaws.{map-push, table-push}
+use Rattle.tv_linear.proofs.ListLaws.{table-push}
 use Rattle.tv_cases.specs.LinearCases.{LinearCase}
 use Rattle.tv_cases.specs.Before.{term_row, put_in, rows_after, before, FitsTerms, GivesBefore}
-use Rattle.tv_cases.proofs.RowValues.{value-constant_row, value-column_row, value-plus, value-scaled, value-raised}
 use Rattle.tv_cases.proofs.FormValues.{values}
+use Rattle.tv_linear.proofs.RowValues.{value-constant_row, value-column_row, value-plus, value-scaled, value-raised}
+use Rattle.std.proofs.lemmas.List.{map_push}
 
 -- ---- terms one by one
 
@@ -23,7 +24,7 @@ pub terms-push : (w : ℕ) (us : List Update) (n : ℕ) → map (term_row w) (te
 terms-push w us n =
     ap (λ k. map (term_row w) (terms_after k us)) (add-one n)
     ∙ ap (map (term_row w)) (table-push n (update_of us))
-    ∙ map-push (term_row w) (terms_after n us) (update_of us n)
+    ∙ map_push (term_row w) (terms_after n us) (update_of us n)
 
 -- ---- values
 
@@ -83,7 +84,7 @@ before-composed r c terms result is some all h =
     (composed-terms (columns r + c.draws) r terms result (width-some (columns r + c.draws) terms some all) h)
 
 -- a row without columns stays, over the draws
-no_columns : (cs : List ℤ) → length cs ≡ 0 → cs ≡ []
+pub no_columns : (cs : List ℤ) → length cs ≡ 0 → cs ≡ []
 no_columns [] h = refl
 no_columns (c ∷ cs) h = absurd (omega arith)
 

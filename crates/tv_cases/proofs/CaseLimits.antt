@@ -1,5 +1,5 @@
 -- what the limits of a program say of its edges and its cases
-use Rattle.std.proofs.Common.{◌≡◌, ℕ, suc, ◌<◌, ◌≤◌, ◌∙◌, List, [], ◌∷◌, ◌++◌, map, length, refl, sym, ap, arith, true, subst}
+use Rattle.std.proofs.Common.{◌≡◌, ℕ, suc, ◌<◌, ◌∙◌, List, [], ◌∷◌, ◌++◌, map, length, refl, sym, ap, arith, true, subst}
 use Rattle.std.specs.Prelude.{◌&&◌, nat_le, nat_lt, All, Result, Ok, Err, sum}
 use Rattle.std.specs.List.{list_all}
 use Rattle.std.proofs.lemmas.Bool.Decides.{nat_tests}
@@ -18,9 +18,10 @@ use Rattle.tv_cases.specs.declared.case.Cases.{Cases}
 use Rattle.tv_cases.specs.declared.case.CaseFault.{CaseFault}
 use Rattle.tv_cases.specs.Systems.{cases_of}
 use Rattle.tv_cases.specs.Answers.{Answers, HaveSameSteps}
-use Rattle.tv_cases.proofs.Listed.{both_true}
 use Rattle.tv_cases.proofs.SameSteps.{cases_from-ok, IsPlain, same-steps}
 use Rattle.tv_cases.proofs.EdgeLimits.{edge-are_cases}
+use Rattle.tv_cases.proofs.EdgeRoom.{at_most-true}
+use Rattle.std.proofs.lemmas.Bool.{and_parts}
 
 module _ (variables draws : ℕ) where
   mutual
@@ -31,14 +32,14 @@ module _ (variables draws : ℕ) where
     fits-linear (minus e) h = fits-linear e h
     fits-linear (added es) h = fit-linear es h
     fits-linear (product es) h =
-        let both = both_true (is_linear_product es) (expressions_fit variables draws es) h in
+        let both = and_parts (is_linear_product es) (expressions_fit variables draws es) h in
         let rest = fit-linear es both.1 in
         (λ i. both.0 i && rest i)
 
     fit-linear : (es : Expressions) → expressions_fit variables draws es ≡ true → are_linear es ≡ true
     fit-linear no_part h = refl
     fit-linear (part e es) h =
-        let both = both_true (expression_fits variables draws e) (expressions_fit variables draws es) h in
+        let both = and_parts (expression_fits variables draws e) (expressions_fit variables draws es) h in
         let here = fits-linear e both.0 in
         let rest = fit-linear es both.1 in
         (λ i. here i && rest i)
@@ -47,7 +48,7 @@ module _ (variables draws : ℕ) where
     condition-linear : (c : Condition) → condition_fits variables draws c ≡ true → condition_is_linear c ≡ true
     condition-linear (truth b) h = refl
     condition-linear (compare r e f) h =
-        let both = both_true (expression_fits variables draws e) (expression_fits variables draws f) h in
+        let both = and_parts (expression_fits variables draws e) (expression_fits variables draws f) h in
         let here = fits-linear e both.0 in
         let rest = fits-linear f both.1 in
         (λ i. here i && rest i)
@@ -58,29 +59,26 @@ module _ (variables draws : ℕ) where
     conditions-linear : (cs : Conditions) → conditions_fit variables draws cs ≡ true → conditions_are_linear cs ≡ true
     conditions-linear no_test h = refl
     conditions-linear (test c cs) h =
-        let both = both_true (condition_fits variables draws c) (conditions_fit variables draws cs) h in
+        let both = and_parts (condition_fits variables draws c) (conditions_fit variables draws cs) h in
         let here = condition-linear c both.0 in
         let rest = conditions-linear cs both.1 in
         (λ i. here i && rest i)
 
   instruction-linear : (i : Instruction) → instruction_fits variables draws i ≡ true → instruction_is_linear i ≡ true
-  instruction-linear (assume c) h = condition-linear c (both_true (condition_fits variables draws c) (nat_le (condition_depth c) 400) h).0
+  instruction-linear (assume c) h = condition-linear c (and_parts (condition_fits variables draws c) (nat_le (condition_depth c) 400) h).0
   instruction-linear (assign v e) h =
-      fits-linear e (both_true (nat_lt v variables) (expression_fits variables draws e) (both_true (nat_lt v variables && expression_fits variables draws e) (nat_le (expression_depth e) 400) h).0).1
+      fits-linear e (and_parts (nat_lt v variables) (expression_fits variables draws e) (and_parts (nat_lt v variables && expression_fits variables draws e) (nat_le (expression_depth e) 400) h).0).1
 
   instructions-linear : (is : List Instruction) → list_all (instruction_fits variables draws) is ≡ true → instructions_are_linear is ≡ true
   instructions-linear [] h = refl
   instructions-linear (i ∷ is) h =
-      let both = both_true (instruction_fits variables draws i) (list_all (instruction_fits variables draws) is) h in
+      let both = and_parts (instruction_fits variables draws i) (list_all (instruction_fits variables draws) is) h in
       let here = instruction-linear i both.0 in
       let rest = instructions-linear is both.1 in
       (λ j. here j && rest j)
 
-under : (a b : ℕ) → nat_lt a b ≡ true → a < b
+pub under : (a b : ℕ) → nat_lt a b ≡ true → a < b
 under a b h = grind (arith, nat_tests)
-
-at_most : (a b : ℕ) → nat_le a b ≡ true → a ≤ b
-at_most a b h = grind (arith, nat_tests)
 
 -- what is known of an edge that fits
 pub record IsFit (variables locations : ℕ) (e : Transition) : Type 0 where
@@ -90,19 +88,19 @@ pub record IsFit (variables locations : ℕ) (e : Transition) : Type 0 where
 
 fits-edge : (variables locations : ℕ) (e : Transition) → transition_fits variables locations e ≡ true → IsFit variables locations e
 fits-edge variables locations e h =
-    let three = both_true ((nat_lt e.from locations && nat_lt e.to locations) && nat_le e.draws 64) (list_all (instruction_fits variables e.draws) e.instructions) h in
-    let two = both_true (nat_lt e.from locations && nat_lt e.to locations) (nat_le e.draws 64) three.0 in
-    let one = both_true (nat_lt e.from locations) (nat_lt e.to locations) two.0 in
+    let three = and_parts ((nat_lt e.from locations && nat_lt e.to locations) && nat_le e.draws 64) (list_all (instruction_fits variables e.draws) e.instructions) h in
+    let two = and_parts (nat_lt e.from locations && nat_lt e.to locations) (nat_le e.draws 64) three.0 in
+    let one = and_parts (nat_lt e.from locations) (nat_lt e.to locations) two.0 in
     record {
       from = under e.from locations one.0;
       to = under e.to locations one.1;
-      linear = record { few_draws = at_most e.draws 64 two.1; linear = instructions-linear variables e.draws e.instructions three.1 };
+      linear = record { few_draws = at_most-true e.draws 64 two.1; linear = instructions-linear variables e.draws e.instructions three.1 };
     }
 
 fits-edges : (variables locations : ℕ) (es : List Transition) → list_all (transition_fits variables locations) es ≡ true → All (IsFit variables locations) es
 fits-edges variables locations [] h = All-nil (IsFit variables locations)
 fits-edges variables locations (e ∷ es) h =
-    let both = both_true (transition_fits variables locations e) (list_all (transition_fits variables locations) es) h in
+    let both = and_parts (transition_fits variables locations e) (list_all (transition_fits variables locations) es) h in
     All-cons (IsFit variables locations) e es (fits-edge variables locations e both.0) (fits-edges variables locations es both.1)
 
 pub plain-edges : (variables locations start : ℕ) (es : List Transition) → IsWithinLimits variables locations start es → All IsPlain es
@@ -116,7 +114,7 @@ linear-edges variables locations start edges h = each edges h.edges_fit where
   each : (es : List Edge) → list_all (transition_fits variables locations) (transitions es) ≡ true → All (λ e. IsLinearEdge (transition e)) es
   each [] k = All-nil (λ e. IsLinearEdge (transition e))
   each (e ∷ es) k =
-      let both = both_true (transition_fits variables locations (transition e)) (list_all (transition_fits variables locations) (transitions es)) k in
+      let both = and_parts (transition_fits variables locations (transition e)) (list_all (transition_fits variables locations) (transitions es)) k in
       All-cons (λ e. IsLinearEdge (transition e)) e es (fits-edge variables locations (transition e) both.0).linear (each es both.1)
 
 -- ---- the limits of the cases
@@ -136,13 +134,13 @@ cases-are n locations k before (e ∷ es) all h fit cases =
 
 pub are-cases : (n locations start : ℕ) (es : List Transition) (all : List LinearCase) → IsWithinLimits n locations start es → cases_from n 0 [] es ≡ Ok all → AreCases (record { variables = n; locations = locations; start = start; cases = all })
 are-cases n locations start es all h ok =
-    let few = both_true (nat_le (length all) 8192) (nat_le (sum (map coefficients all)) 8000000) (cases-few n 0 [] es all ok refl) in
+    let few = and_parts (nat_le (length all) 8192) (nat_le (sum (map coefficients all)) 8000000) (cases-few n 0 [] es all ok refl) in
     record {
-      few_variables = at_most n 512 h.few_variables;
-      few_locations = at_most locations 1024 h.few_locations;
+      few_variables = at_most-true n 512 h.few_variables;
+      few_locations = at_most-true locations 1024 h.few_locations;
       starts = under start locations h.starts;
-      few_cases = at_most (length all) 8192 few.0;
-      few_coefficients = at_most (sum (map coefficients all)) 8000000 few.1;
+      few_cases = at_most-true (length all) 8192 few.0;
+      few_coefficients = at_most-true (sum (map coefficients all)) 8000000 few.1;
       cases = cases-are n locations 0 [] es all ok (fits-edges n locations es h.edges_fit) (All-nil (IsCase n locations));
     }
 

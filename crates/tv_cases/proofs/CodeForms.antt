@@ -16,7 +16,7 @@ unit-outside (suc w) (suc column) h = ap (λ zs. pos 0 ∷ zs) (unit-outside w c
 pub column_row-outside : (w column : ℕ) → w ≤ column → column_row w column ≡ constant_row w (pos 0)
 column_row-outside w column h = ap (λ zs. linear zs (pos 0)) (unit-outside w column h)
 
-columns_from-more : (w v n : ℕ) → columns_from w v (n + 1) ≡ columns_from w v n ++ column_row w (v + n) ∷ []
+pub columns_from-more : (w v n : ℕ) → columns_from w v (n + 1) ≡ columns_from w v n ++ column_row w (v + n) ∷ []
 columns_from-more w v zero = ap (λ u. column_row w u ∷ []) (sym (add-zero v))
 columns_from-more w v (suc n) =
     let later = columns_from-more w (suc v) n in

@@ -14,7 +14,8 @@ use Rattle.tv_cases.proofs.FormValues.{values}
 use Rattle.tv_cases.proofs.ListsMet.{is_met, all_met, some_met, lists_of-met}
 use Rattle.tv_cases.proofs.Executed.{values-beginning}
 use Rattle.tv_cases.proofs.SameSteps.{true-at_most}
-use Rattle.tv_cases.proofs.Listed.{both_true, some_passes-back, test_from-All}
+use Rattle.tv_cases.proofs.Listed.{some_passes-back, test_from-All}
+use Rattle.std.proofs.lemmas.Bool.{and_parts}
 
 module _ (n : ℕ) (r : Relation) (a b : Expression) (xs : List ℤ) (wide : length xs ≡ n) where
   no_draw : (d : ℕ) → get_or xs (n + d) (pos 0) ≡ get_or [] d (pos 0)
@@ -32,7 +33,7 @@ module _ (n : ℕ) (r : Relation) (a b : Expression) (xs : List ℤ) (wide : len
   shows_by : (told : Bool) → has_rows n r a b ≡ told → (lines : List Linear) → Contains (cond told (lists_of n n (columns_from n 0 n) true (compare r a b)) []) lines → All (IsMet xs) lines → compares r (value_of a xs []) (value_of b xs []) ≡ true
   shows_by false e lines among met = absurd (omega (arith, among.1))
   shows_by true e lines among met =
-      sym (some_list ((both_true _ _ e).0))
+      sym (some_list ((and_parts _ _ e).0))
       ∙ some_passes-back (all_met xs) (lists_of n n (columns_from n 0 n) true (compare r a b)) lines among
       (test_from-All (IsMet xs) (is_met xs) (λ t k. true-at_most (value t xs) k) lines met)
 

@@ -3,7 +3,7 @@ use Rattle.std.proofs.Common.{◌≡◌, ℕ, ◌+◌, ◌*◌, ◌<◌, ◌≤�
 use Rattle.std.specs.Prelude.{◌&&◌, nat_le, sum}
 use Rattle.std.proofs.lemmas.Grind.{common_steps}
 use Rattle.std.proofs.lemmas.List.{length-map}
-use Rattle.std.proofs.lemmas.Bool.{cases_lt}
+use Rattle.std.proofs.lemmas.Bool.{cases_lt, and_parts}
 use Rattle.std.proofs.lemmas.Bool.Decides.{nat_tests}
 use Rattle.tv_program.specs.Trees.{Transition}
 use Rattle.tv_cases.specs.declared.amount.Amount.{Amount}
@@ -17,7 +17,6 @@ use Rattle.tv_cases.specs.EdgeCases.{case_of, beginning, edge_end, edge_cases, e
 use Rattle.tv_cases.specs.ProgramCases.{are_few}
 use Rattle.tv_cases.specs.Answers.{IsCollected, IsAdded}
 use Rattle.tv_cases.proofs.AmountLemmas.{sum-cons, no_lists, after-counted, same-times, same-plus, capped-twice}
-use Rattle.tv_cases.proofs.Listed.{both_true}
 use Rattle.tv_cases.proofs.EdgeLimits.{edge-coefficients}
 
 pub edge-counted : (n : ℕ) (e : Transition) → amount_after (amount 1 0) e.instructions ≡ counted (edge_end n e).lists
@@ -74,7 +73,7 @@ room-is n e items before count a is_before is_amount is_count =
     ∙ ap (λ k. nat_le k 8000000) (sym (sum-cases (case_views items) (edge_cases n e))) in
     (λ i. first i && second i)
 
-at_most-true : (a b : ℕ) → nat_le a b ≡ true → a ≤ b
+pub at_most-true : (a b : ℕ) → nat_le a b ≡ true → a ≤ b
 at_most-true a b h = grind (arith, nat_tests)
 
 append-none : (xs ys : List LinearCase) → ys ≡ [] → xs ≡ xs ++ ys
@@ -95,7 +94,7 @@ pub added-cases : (n : ℕ) (e : Transition) (so_far next : Collected) (count : 
     (nat_le (length so_far.cases.items + a.lists) 8192 && nat_le (so_far.coefficients + count) 8000000) ≡ true → edge_is_narrow n e ≡ true → IsCollected so_far →
     case_views next.cases.items ≡ case_views so_far.cases.items ++ edge_cases n e → next.coefficients ≡ so_far.coefficients + count → IsAdded n (case_views so_far.cases.items) e next
 added-cases n e so_far next count a is_amount is_count fits narrow collected cases coefs =
-    let both = both_true (nat_le (length so_far.cases.items + a.lists) 8192) (nat_le (so_far.coefficients + count) 8000000) fits in
+    let both = and_parts (nat_le (length so_far.cases.items + a.lists) 8192) (nat_le (so_far.coefficients + count) 8000000) fits in
     let small = at_most-true (so_far.coefficients + count) 8000000 both.1 in
     let exact : count ≡ sum (map coefficients (edge_cases n e)) = omega (arith, small, is_count) in
     record {

@@ -1,8 +1,8 @@
 -- each row of an edge has a column for each variable and each draw
 use Rattle.std.proofs.Common.{◌≡◌, ℕ, zero, suc, ◌+◌, ◌∙◌, List, [], ◌∷◌, ◌++◌, map, get_or, set, refl, sym, ℤ, pos, neg_ℤ, Bool, true, false, not}
-use Rattle.std.specs.Prelude.{cond, All}
+use Rattle.std.specs.Prelude.{cond, All, ◌==◌, if◌then◌else◌}
 use Rattle.std.proofs.lemmas.List.{length-map}
-use Rattle.std.proofs.lemmas.List.Elements.{All-nil, All-cons}
+use Rattle.std.proofs.lemmas.List.Elements.{All-nil, All-cons, All-head, All-tail}
 use Rattle.tv_linear.specs.Linear.{Linear, columns}
 use Rattle.tv_linear.specs.Arithmetic.{constant_row, plus, opposite, scaled}
 use Rattle.tv_linear.specs.Tight.{divisor, rounded_up, divided_unless_zero}
@@ -13,6 +13,12 @@ use Rattle.tv_program.specs.Trees.{Expression, number, variable, draw, minus, su
 use Rattle.tv_cases.specs.Forms.{is_number, times, form, sum_form, product_form}
 use Rattle.tv_cases.specs.Lists.{pairs, difference, at_most, compared, relation_for, agrees, truth_lists, lists_of, paired, joined}
 use Rattle.tv_cases.specs.EdgeCases.{Progress, columns_from, progressed, after, beginning, edge_end}
+use Rattle.tv_linear.specs.Known.{Term, put}
+use Rattle.tv_linear.specs.Terms.{table, update_of}
+use Rattle.tv_linear.specs.declared.region.Update.{Update}
+use Rattle.tv_linear.proofs.Entries.{columns-combined}
+use Rattle.tv_cases.specs.LinearCases.{LinearCase}
+use Rattle.tv_cases.specs.Before.{term_row, rows_after, before}
 
 -- each row has so many columns
 abbrev pub AreWide : ℕ → List Linear → Type 0
@@ -72,7 +78,7 @@ module _ (n w : ℕ) (terms : List Linear) (wide : AreWide w terms) where
 
 -- ---- lists
 
-divided-wide : (g : ℕ) (r : Linear) → columns (divided_unless_zero g r) ≡ columns r
+pub divided-wide : (g : ℕ) (r : Linear) → columns (divided_unless_zero g r) ≡ columns r
 divided-wide zero r = refl
 divided-wide (suc g) r = length-map r.coefficients (rounded_up (suc g))
 
@@ -143,3 +149,22 @@ after-wide n w (assign v e ∷ rest) p h =
 
 pub edge-wide : (n : ℕ) (e : Transition) → IsWide (n + e.draws) (edge_end n e)
 edge-wide n e = after-wide n (n + e.draws) e.instructions (beginning n (n + e.draws)) (record { terms = columns_from-wide (n + e.draws) 0 n; lists = (tt, tt) })
+
+-- ---- before a case
+
+module _ (w : ℕ) where
+  if_wide : (b : Bool) (t u : Term) → columns (term_row w t) ≡ w → columns (term_row w u) ≡ w → columns (term_row w (if b then t else u)) ≡ w
+  if_wide true t u h g = h
+  if_wide false t u h g = g
+
+  update_wide : (us : List Update) (v : ℕ) → All (λ u. columns u.term ≡ w) us → columns (term_row w (update_of us v)) ≡ w
+  update_wide [] v h = length-unit w v
+  update_wide (u ∷ us) v h = if_wide (u.variable == v) (put u.term) (update_of us v) (All-head (λ u. columns u.term ≡ w) u us h) (update_wide us v (All-tail (λ u. columns u.term ≡ w) u us h))
+
+  table_wide : (n : ℕ) (f : ℕ → Term) → ((j : ℕ) → columns (term_row w (f j)) ≡ w) → All (λ r. columns r ≡ w) (map (term_row w) (table n f))
+  table_wide zero f h = All-nil (λ r. columns r ≡ w)
+  table_wide (suc n) f h = All-cons (λ r. columns r ≡ w) (term_row w (f 0)) (map (term_row w) (table n (λ j. f (suc j)))) (h 0) (table_wide n (λ j. f (suc j)) (λ j. h (suc j)))
+
+pub columns-before : (r : Linear) (c : LinearCase) → All (λ u. columns u.term ≡ columns r + c.draws) c.updates → columns (before r c) ≡ columns r + c.draws
+columns-before r c h =
+    columns-combined (columns r + c.draws) r.coefficients (rows_after r c) (table_wide (columns r + c.draws) (columns r) (update_of c.updates) (λ j. update_wide (columns r + c.draws) c.updates j h))

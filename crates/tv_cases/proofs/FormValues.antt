@@ -9,9 +9,10 @@ use Rattle.tv_program.specs.Meaning.{value_of, sum_of, product_of}
 use Rattle.tv_program.specs.Limits.{is_linear_product}
 use Rattle.tv_cases.specs.Linearity.{is_linear, are_linear}
 use Rattle.tv_cases.specs.Forms.{times, form, sum_form, product_form}
-use Rattle.tv_cases.proofs.Listed.{both_true}
-use Rattle.tv_cases.proofs.RowValues.{value-constant_row, value-column_row, value-plus, value-opposite, times-value}
+use Rattle.tv_cases.proofs.RowValues.{times-value}
 use Rattle.tv_cases.proofs.FormLemmas.{is_alone, alone-first, alone-now, alone-rest}
+use Rattle.tv_linear.proofs.RowValues.{value-constant_row, value-column_row, value-plus, value-opposite}
+use Rattle.std.proofs.lemmas.Bool.{and_parts}
 
 -- the values of terms at a point
 abbrev pub values : List ℤ → List Linear → List ℤ
@@ -40,14 +41,14 @@ module _ (n w : ℕ) (point ds : List ℤ) (terms : List Linear) (wide : length 
         sum_form-value (constant_row w (pos 0)) es l
         ∙ from_zero (value (constant_row w (pos 0)) point) (sum_of es (values point terms) ds) (value-constant_row w (pos 0) point)
     form-value (product es) l =
-        let both = both_true (is_linear_product es) (are_linear es) l in
+        let both = and_parts (is_linear_product es) (are_linear es) l in
         product_form-value (constant_row w (pos 1)) es both.1 (alone-first w es both.0)
         ∙ from_one (value (constant_row w (pos 1)) point) (product_of es (values point terms) ds) (value-constant_row w (pos 1) point)
 
     sum_form-value : (total : Linear) (es : Expressions) → are_linear es ≡ true → value (sum_form n w terms total es) point ≡ value total point +ℤ sum_of es (values point terms) ds
     sum_form-value total no_part l = omega (arith, ints)
     sum_form-value total (part e es) l =
-        let both = both_true (is_linear e) (are_linear es) l in
+        let both = and_parts (is_linear e) (are_linear es) l in
         sum_form-value (plus total (form n w terms e)) es both.1
         ∙ ap (λ z. z +ℤ sum_of es (values point terms) ds) (value-plus total (form n w terms e) point ∙ ap (λ z. value total point +ℤ z) (form-value e both.0))
         ∙ add_assoc_z (value total point) (value_of e (values point terms) ds) (sum_of es (values point terms) ds)
@@ -55,7 +56,7 @@ module _ (n w : ℕ) (point ds : List ℤ) (terms : List Linear) (wide : length 
     product_form-value : (total : Linear) (es : Expressions) → are_linear es ≡ true → is_alone total es ≡ true → value (product_form n w terms total es) point ≡ value total point *ℤ product_of es (values point terms) ds
     product_form-value total no_part l alone = omega (arith, ints)
     product_form-value total (part e es) l alone =
-        let both = both_true (is_linear e) (are_linear es) l in
+        let both = and_parts (is_linear e) (are_linear es) l in
         product_form-value (times total (form n w terms e)) es both.1 (alone-rest n w terms total e es alone)
         ∙ ap (λ z. z *ℤ product_of es (values point terms) ds) (times-value total (form n w terms e) point (alone-now n w terms total e es alone) ∙ ap (λ z. value total point *ℤ z) (form-value e both.0))
         ∙ mul_assoc_z (value total point) (value_of e (values point terms) ds) (product_of es (values point terms) ds)

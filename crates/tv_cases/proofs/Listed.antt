@@ -2,6 +2,7 @@ use Rattle.std.proofs.Common.{◌≡◌, ◌⊎◌, inl, inr, zero, suc, List, [
 use Rattle.std.specs.Prelude.{◌&&◌, ◌||◌}
 use Rattle.std.specs.List.{Contains, All, list_all, list_any}
 use Rattle.std.proofs.lemmas.List.Elements.{All-nil, All-cons, All-head, All-tail}
+use Rattle.std.proofs.lemmas.Bool.{or_right, and_parts}
 
 pub Contains-here : {X : Type 0} (x : X) (xs : List X) → Contains (x ∷ xs) x
 Contains-here x xs = (0, omega arith, refl)
@@ -35,24 +36,16 @@ some_passes {X} test (x ∷ xs) h = by_test (test x) refl h (λ k. some_passes t
   by_test true e k later = (x, Contains-here x xs, e)
   by_test false e k later = let r = later k in (r.0, Contains-later x r.0 xs r.1, r.2)
 
-or_true : (a b : Bool) → b ≡ true → (a || b) ≡ true
-or_true true b h = refl
-or_true false b h = h
-
 pub some_passes-back : {X : Type 0} (test : X → Bool) (xs : List X) (x : X) → Contains xs x → test x ≡ true → list_any test xs ≡ true
 some_passes-back test [] x c h = absurd (Contains-none x c)
 some_passes-back test (y ∷ xs) x (zero, l, e) h = ap (λ b. b || list_any test xs) (ap test e ∙ h)
-some_passes-back test (y ∷ xs) x (suc k, l, e) h = or_true (test y) (list_any test xs) (some_passes-back test xs x (k, omega arith, e) h)
-
-pub both_true : (a b : Bool) → (a && b) ≡ true → (a ≡ true) × (b ≡ true)
-both_true true b h = (refl, h)
-both_true false b h = cc
+some_passes-back test (y ∷ xs) x (suc k, l, e) h = or_right (test y) (list_any test xs) (some_passes-back test xs x (k, omega arith, e) h)
 
 -- a test on all elements
 pub All-from_test : {X : Type 0} (P : X → Type 0) (test : X → Bool) → ((x : X) → test x ≡ true → P x) → (xs : List X) → list_all test xs ≡ true → All P xs
 All-from_test P test says [] h = All-nil P
 All-from_test P test says (x ∷ xs) h =
-    let both = both_true (test x) (list_all test xs) h in All-cons P x xs (says x both.0) (All-from_test P test says xs both.1)
+    let both = and_parts (test x) (list_all test xs) h in All-cons P x xs (says x both.0) (All-from_test P test says xs both.1)
 
 pub test_from-All : {X : Type 0} (P : X → Type 0) (test : X → Bool) → ((x : X) → P x → test x ≡ true) → (xs : List X) → All P xs → list_all test xs ≡ true
 test_from-All P test says [] h = refl

@@ -16,9 +16,10 @@ use Rattle.tv_program.specs.Meaning.{compares, truth_of, all_true, some_true}
 use Rattle.tv_cases.specs.Linearity.{is_linear, condition_is_linear, conditions_are_linear}
 use Rattle.tv_cases.specs.Forms.{form}
 use Rattle.tv_cases.specs.Lists.{pairs, difference, at_most, compared, relation_for, agrees, truth_lists, lists_of, paired, joined}
-use Rattle.tv_cases.proofs.Listed.{both_true}
-use Rattle.tv_cases.proofs.RowValues.{value-plus, value-opposite, value-raised}
 use Rattle.tv_cases.proofs.FormValues.{values, form-value}
+use Rattle.std.proofs.Math.Bool.{and-true}
+use Rattle.tv_linear.proofs.RowValues.{value-plus, value-opposite, value-raised}
+use Rattle.std.proofs.lemmas.Bool.{and_parts}
 
 abbrev pub is_met : List ℤ → Linear → Bool
 is_met point r = int_le (value r point) (pos 0)
@@ -32,11 +33,11 @@ some_met point lists = list_any (all_met point) lists
 
 -- ---- truth values
 
-and_assoc : (a b c : Bool) → ((a && b) && c) ≡ (a && (b && c))
+pub and_assoc : (a b c : Bool) → ((a && b) && c) ≡ (a && (b && c))
 and_assoc true b c = refl
 and_assoc false b c = refl
 
-or_assoc : (a b c : Bool) → ((a || b) || c) ≡ (a || (b || c))
+pub or_assoc : (a b c : Bool) → ((a || b) || c) ≡ (a || (b || c))
 or_assoc true b c = refl
 or_assoc false b c = refl
 
@@ -49,11 +50,7 @@ or_and true true c = grind arith
 or_and true false c = grind arith
 or_and false b c = refl
 
-and_true : (a : Bool) → (a && true) ≡ a
-and_true true = refl
-and_true false = refl
-
-or_false : (a : Bool) → (a || false) ≡ a
+pub or_false : (a : Bool) → (a || false) ≡ a
 or_false true = refl
 or_false false = refl
 
@@ -83,7 +80,7 @@ not_and : (a b : Bool) → (not a || not b) ≡ not (a && b)
 not_and true b = refl
 not_and false b = refl
 
-not_or : (a b : Bool) → (not a && not b) ≡ not (a || b)
+pub not_or : (a b : Bool) → (not a && not b) ≡ not (a || b)
 not_or true b = refl
 not_or false b = refl
 
@@ -177,7 +174,7 @@ module _ (n w : ℕ) (point ds : List ℤ) (terms : List Linear) (wide : length 
     pub lists_of-met : (wanted : Bool) (c : Condition) → condition_is_linear c ≡ true → some_met point (lists_of n w terms wanted c) ≡ agrees wanted (truth_of c (values point terms) ds)
     lists_of-met wanted (truth b) l = truth_lists-met point (agrees wanted b)
     lists_of-met wanted (compare r e f) l =
-        let both = both_true (is_linear e) (is_linear f) l in
+        let both = and_parts (is_linear e) (is_linear f) l in
         compared-met point (relation_for wanted r) (form n w terms e) (form n w terms f)
         ∙ relation-agrees wanted r (value (form n w terms e) point) (value (form n w terms f) point)
         ∙ (λ i. agrees wanted (compares r (form-value n w point ds terms wide drawn e both.0 i) (form-value n w point ds terms wide drawn f both.1 i)))
@@ -188,18 +185,18 @@ module _ (n w : ℕ) (point ds : List ℤ) (terms : List Linear) (wide : length 
     lists_of-met false (some_of cs) l = paired-false ([] ∷ []) cs l
 
     paired-true : (so_far : List (List Linear)) (cs : Conditions) → conditions_are_linear cs ≡ true → some_met point (paired n w terms true so_far cs) ≡ (some_met point so_far && all_true cs (values point terms) ds)
-    paired-true so_far no_test l = sym (and_true (some_met point so_far))
+    paired-true so_far no_test l = sym (and-true (some_met point so_far))
     paired-true so_far (test c cs) l =
-        let both = both_true (condition_is_linear c) (conditions_are_linear cs) l in
+        let both = and_parts (condition_is_linear c) (conditions_are_linear cs) l in
         paired-true (pairs so_far (lists_of n w terms true c)) cs both.1
         ∙ (λ i. some_met-pairs point so_far (lists_of n w terms true c) i && all_true cs (values point terms) ds)
         ∙ (λ i. (some_met point so_far && lists_of-met true c both.0 i) && all_true cs (values point terms) ds)
         ∙ and_assoc (some_met point so_far) (truth_of c (values point terms) ds) (all_true cs (values point terms) ds)
 
     paired-false : (so_far : List (List Linear)) (cs : Conditions) → conditions_are_linear cs ≡ true → some_met point (paired n w terms false so_far cs) ≡ (some_met point so_far && not (some_true cs (values point terms) ds))
-    paired-false so_far no_test l = sym (and_true (some_met point so_far))
+    paired-false so_far no_test l = sym (and-true (some_met point so_far))
     paired-false so_far (test c cs) l =
-        let both = both_true (condition_is_linear c) (conditions_are_linear cs) l in
+        let both = and_parts (condition_is_linear c) (conditions_are_linear cs) l in
         paired-false (pairs so_far (lists_of n w terms false c)) cs both.1
         ∙ (λ i. some_met-pairs point so_far (lists_of n w terms false c) i && not (some_true cs (values point terms) ds))
         ∙ (λ i. (some_met point so_far && lists_of-met false c both.0 i) && not (some_true cs (values point terms) ds))
@@ -209,7 +206,7 @@ module _ (n w : ℕ) (point ds : List ℤ) (terms : List Linear) (wide : length 
     joined-true : (so_far : List (List Linear)) (cs : Conditions) → conditions_are_linear cs ≡ true → some_met point (joined n w terms true so_far cs) ≡ (some_met point so_far || some_true cs (values point terms) ds)
     joined-true so_far no_test l = sym (or_false (some_met point so_far))
     joined-true so_far (test c cs) l =
-        let both = both_true (condition_is_linear c) (conditions_are_linear cs) l in
+        let both = and_parts (condition_is_linear c) (conditions_are_linear cs) l in
         joined-true (so_far ++ lists_of n w terms true c) cs both.1
         ∙ (λ i. some_met-append point so_far (lists_of n w terms true c) i || some_true cs (values point terms) ds)
         ∙ (λ i. (some_met point so_far || lists_of-met true c both.0 i) || some_true cs (values point terms) ds)
@@ -218,7 +215,7 @@ module _ (n w : ℕ) (point ds : List ℤ) (terms : List Linear) (wide : length 
     joined-false : (so_far : List (List Linear)) (cs : Conditions) → conditions_are_linear cs ≡ true → some_met point (joined n w terms false so_far cs) ≡ (some_met point so_far || not (all_true cs (values point terms) ds))
     joined-false so_far no_test l = sym (or_false (some_met point so_far))
     joined-false so_far (test c cs) l =
-        let both = both_true (condition_is_linear c) (conditions_are_linear cs) l in
+        let both = and_parts (condition_is_linear c) (conditions_are_linear cs) l in
         joined-false (so_far ++ lists_of n w terms false c) cs both.1
         ∙ (λ i. some_met-append point so_far (lists_of n w terms false c) i || not (all_true cs (values point terms) ds))
         ∙ (λ i. (some_met point so_far || lists_of-met false c both.0 i) || not (all_true cs (values point terms) ds))

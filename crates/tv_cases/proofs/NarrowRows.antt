@@ -1,5 +1,5 @@
 -- a narrow row is one that is narrow at each of its columns
-use Rattle.std.proofs.Common.{◌≡◌, ℕ, zero, suc, ◌<◌, ◌≤◌, ◌∙◌, refl, ap, arith, subst, ℤ, pos, Bool, true, false}
+use Rattle.std.proofs.Common.{◌≡◌, ℕ, ◌<◌, ◌≤◌, ◌∙◌, ap, arith, subst, ℤ, pos, Bool, true, false}
 use Rattle.std.specs.Prelude.{◌&&◌, All, Option, SomeIff, Some, None}
 use Rattle.std.specs.List.{list_all}
 use Rattle.std.proofs.lemmas.Bool.Decides.{nat_tests}
@@ -14,7 +14,9 @@ use Rattle.tv_cases.specs.declared.fault.PartFault.{PartFault}
 use Rattle.tv_cases.specs.Given.{IsMade, Gives}
 use Rattle.tv_linear.proofs.Entries.{entry-last}
 use Rattle.tv_cases.specs.Forms.{is_narrow_number, is_narrow}
-use Rattle.tv_cases.proofs.Listed.{both_true, All-from_test, test_from-All}
+use Rattle.tv_cases.proofs.Listed.{All-from_test, test_from-All}
+use Rattle.tv_cases.proofs.ProductLemmas.{zeros-narrow}
+use Rattle.std.proofs.lemmas.Bool.{and_parts, false_from_ne_true}
 
 within-test : (z : ℤ) → IsWithin 62 z → is_narrow_number z ≡ true
 within-test z h = grind (arith, nat_tests)
@@ -33,14 +35,10 @@ is_narrow-columns r h =
     is_narrow-both r (All-from_get_or (IsWithin 62) r.coefficients r.constant (λ i l. h i (omega arith)))
     (subst (IsWithin 62) (entry-last r (columns r) (omega arith)) (h (columns r) (omega arith)))
 
-not_true : (b : Bool) → (b ≡ true → ⊥) → b ≡ false
-not_true true h = absurd (h refl)
-not_true false h = refl
-
 pub is_narrow-not : (r : Linear) → columns r < 4294967295 → (IsNarrow r → ⊥) → is_narrow r ≡ false
 is_narrow-not r few h =
-    not_true (is_narrow r) (λ narrow.
-    let both = both_true (list_all is_narrow_number r.coefficients) (is_narrow_number r.constant) narrow in
+    false_from_ne_true (is_narrow r) (λ narrow.
+    let both = and_parts (list_all is_narrow_number r.coefficients) (is_narrow_number r.constant) narrow in
     h (record {
       coefficients = All-from_test (IsWithin 62) is_narrow_number test-within r.coefficients both.0;
       constant = test-within r.constant both.1;
@@ -61,9 +59,5 @@ pub given-columns : (w : ℕ) (narrow : Bool) (meant : Linear) (result : Result 
 given-columns w narrow meant (Ok row) e h = ap (λ (r : Linear). columns r) h.1 ∙ e
 given-columns w narrow meant (Err fault) e h = tt
 
-zeros-are_narrow : (w : ℕ) → list_all is_narrow_number (zeros w) ≡ true
-zeros-are_narrow zero = refl
-zeros-are_narrow (suc w) = zeros-are_narrow w
-
 pub one-narrow : (w : ℕ) → is_narrow (constant_row w (pos 1)) ≡ true
-one-narrow w = ap (λ b. b && true) (zeros-are_narrow w)
+one-narrow w = ap (λ b. b && true) (zeros-narrow w)

@@ -5,7 +5,6 @@ use Rattle.std.proofs.lemmas.List.{length-map}
 use Rattle.tv_cases.specs.declared.products.Partial.TheVariants.{Narrow, Wide}
 use Rattle.tv_cases.specs.declared.products.Partial.{Partial}
 use Rattle.tv_cases.specs.Partial.{Stands}
-use Rattle.tv_cases.proofs.Listed.{both_true}
 use Rattle.std.specs.List.{list_all}
 use Rattle.std.proofs.lemmas.Int.{ints, unsigned_abs-mul}
 use Rattle.std.proofs.Math.IntN.{*ℤ_comm}
@@ -13,12 +12,10 @@ use Rattle.std.proofs.lemmas.Bool.Decides.{nat_tests}
 use Rattle.tv_linear.specs.Linear.{Linear, linear, columns}
 use Rattle.tv_linear.specs.Arithmetic.{zeros, constant_row, scaled}
 use Rattle.tv_cases.specs.Forms.{is_zero, is_number, is_narrow_number, is_narrow, times}
+use Rattle.tv_cases.proofs.RowValues.{is_zero-true}
+use Rattle.std.proofs.lemmas.Bool.{and_parts, and_right}
 
-and_false : (a b : Bool) → b ≡ false → (a && b) ≡ false
-and_false true b h = h
-and_false false b h = refl
-
-larger : (m n : ℕ) → 1 ≤ m → n ≤ m * n
+pub larger : (m n : ℕ) → 1 ≤ m → n ≤ m * n
 larger m n h = grind arith
 
 nonzero : (z : ℤ) → is_zero z ≡ false → 1 ≤ unsigned_abs z
@@ -32,7 +29,7 @@ wide_number c h = grind (arith, nat_tests)
 number_wide : (c : ℤ) → 2 ^ 62 ≤ unsigned_abs c → is_narrow_number c ≡ false
 number_wide c h = grind (arith, nat_tests)
 
-zero_times : (c : ℤ) → pos 0 *ℤ c ≡ pos 0
+pub zero_times : (c : ℤ) → pos 0 *ℤ c ≡ pos 0
 zero_times c = omega (arith, ints)
 
 not_zero : (z : ℤ) → 1 ≤ unsigned_abs z → is_zero z ≡ false
@@ -61,14 +58,14 @@ one_fails : (t s : ℤ → Bool) (f : ℤ → ℤ) (cs : List ℤ) → ((c : ℤ
 one_fails t s f [] says h = cc
 one_fails t s f (c ∷ cs) says h = by_test (t c) refl h (one_fails t s f cs says) where
   by_test : (b : Bool) → t c ≡ b → (b && list_all t cs) ≡ false → (list_all t cs ≡ false → list_all s (map f cs) ≡ false) → list_all s (map f (c ∷ cs)) ≡ false
-  by_test true e k later = and_false (s (f c)) (list_all s (map f cs)) (later k)
+  by_test true e k later = and_right (s (f c)) (list_all s (map f cs)) (later k)
   by_test false e k later = ap (λ b. b && list_all s (map f cs)) (says c e)
 
 -- a wide row stays wide
 pub scaled-wide : (z : ℤ) (r : Linear) → is_zero z ≡ false → is_narrow r ≡ false → is_narrow (scaled z r) ≡ false
 scaled-wide z r h k = by_test (list_all is_narrow_number r.coefficients) refl k where
   by_test : (b : Bool) → list_all is_narrow_number r.coefficients ≡ b → (b && is_narrow_number r.constant) ≡ false → is_narrow (scaled z r) ≡ false
-  by_test true e j = and_false (list_all is_narrow_number (map (λ c. z *ℤ c) r.coefficients)) (is_narrow_number (z *ℤ r.constant)) (wide-times z r.constant h j)
+  by_test true e j = and_right (list_all is_narrow_number (map (λ c. z *ℤ c) r.coefficients)) (is_narrow_number (z *ℤ r.constant)) (wide-times z r.constant h j)
   by_test false e j = ap (λ b. b && is_narrow_number (z *ℤ r.constant)) (one_fails is_narrow_number is_narrow_number (λ c. z *ℤ c) r.coefficients (λ c l. wide-times z c h l) e)
 
 -- a wide number times a row with a coefficient is wide
@@ -98,18 +95,13 @@ scaled_by_zero r = (λ i. linear (zeros-times r.coefficients i) (zero_times r.co
 
 -- ---- what is kept of a product
 
-zero_is : (z : ℤ) → is_zero z ≡ true → z ≡ pos 0
-zero_is (pos zero) h = refl
-zero_is (pos (suc n)) h = cc
-zero_is (negsuc n) h = cc
-
 length-scaled : (z : ℤ) (r : Linear) → length (scaled z r).coefficients ≡ length r.coefficients
 length-scaled z r = length-map r.coefficients (λ c. z *ℤ c)
 
 scaled-of_zero : (z : ℤ) (r : Linear) → is_zero z ≡ true → scaled z r ≡ constant_row (columns r) (pos 0)
-scaled-of_zero z r h = ap (λ y. scaled y r) (zero_is z h) ∙ scaled_by_zero r
+scaled-of_zero z r h = ap (λ y. scaled y r) (is_zero-true z h) ∙ scaled_by_zero r
 
-zeros-narrow : (w : ℕ) → list_all is_narrow_number (zeros w) ≡ true
+pub zeros-narrow : (w : ℕ) → list_all is_narrow_number (zeros w) ≡ true
 zeros-narrow zero = refl
 zeros-narrow (suc w) = zeros-narrow w
 
@@ -136,8 +128,8 @@ wide-scaled w z t b h s = record {
 constants-narrow : (cs : List ℤ) → list_all is_zero cs ≡ true → list_all is_narrow_number cs ≡ true
 constants-narrow [] h = refl
 constants-narrow (c ∷ cs) h =
-    let k = both_true (is_zero c) (list_all is_zero cs) h in
-    (λ i. is_narrow_number (zero_is c k.0 i) && constants-narrow cs k.1 i)
+    let k = and_parts (is_zero c) (list_all is_zero cs) h in
+    (λ i. is_narrow_number (is_zero-true c k.0 i) && constants-narrow cs k.1 i)
 
 constant-wide : (t : Linear) → is_narrow t ≡ false → is_number t ≡ true → is_narrow_number t.constant ≡ false
 constant-wide t h k = ap (λ b. b && is_narrow_number t.constant) (sym (constants-narrow t.coefficients k)) ∙ h

@@ -22,7 +22,7 @@ use Rattle.tv_cases.proofs.Executed.{after-gives, values-beginning, after-kept}
 use Rattle.tv_cases.proofs.Updated.{updates-give}
 use Rattle.tv_cases.proofs.Listed.{Contains-here, Contains-later, Contains-cases, Contains-none, Contains-map, Contains-from_map, some_passes, some_passes-back, All-from_test, test_from-All}
 
-zero_row : Linear
+pub zero_row : Linear
 zero_row = linear [] (pos 0)
 
 pub length-columns_from : (w v n : ℕ) → length (columns_from w v n) ≡ n
@@ -33,7 +33,7 @@ only_if-some : (b : Bool) (vs ys : List ℤ) → only_if b (Some vs) ≡ Some ys
 only_if-some true vs ys h = (refl, cc)
 only_if-some false vs ys h = cc
 
-at_most-true : (z : ℤ) → int_le z (pos 0) ≡ true → z ≤ℤ pos 0
+pub at_most-true : (z : ℤ) → int_le z (pos 0) ≡ true → z ≤ℤ pos 0
 at_most-true z h = grind (arith, ints)
 
 pub true-at_most : (z : ℤ) → z ≤ℤ pos 0 → int_le z (pos 0) ≡ true
@@ -44,7 +44,7 @@ get_or-values point [] k d h = absurd (omega arith)
 get_or-values point (t ∷ ts) zero d h = refl
 get_or-values point (t ∷ ts) (suc k) d h = get_or-values point ts k d (omega arith)
 
-front-get_or : (xs ds : List ℤ) (k : ℕ) → k < length xs → get_or (xs ++ ds) k (pos 0) ≡ get_or xs k (pos 0)
+pub front-get_or : (xs ds : List ℤ) (k : ℕ) → k < length xs → get_or (xs ++ ds) k (pos 0) ≡ get_or xs k (pos 0)
 front-get_or [] ds k h = absurd (omega arith)
 front-get_or (x ∷ xs) ds zero h = refl
 front-get_or (x ∷ xs) ds (suc k) h = front-get_or xs ds k (omega arith)

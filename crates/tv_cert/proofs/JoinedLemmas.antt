@@ -10,7 +10,7 @@ one_more : (b : Bool) (p : Marked) (xs ys : List Marked) → cond b (p ∷ (xs +
 one_more true p xs ys = refl
 one_more false p xs ys = refl
 
-pieces_at-append : (ps qs : List Marked) (l : ℕ) → pieces_at (ps ++ qs) l ≡ pieces_at ps l ++ pieces_at qs l
+pub pieces_at-append : (ps qs : List Marked) (l : ℕ) → pieces_at (ps ++ qs) l ≡ pieces_at ps l ++ pieces_at qs l
 pieces_at-append [] qs l = refl
 pieces_at-append (p ∷ ps) qs l = ap (λ rest. cond (place_of p == l) (p ∷ rest) rest) (pieces_at-append ps qs l) ∙ one_more (place_of p == l) p (pieces_at ps l) (pieces_at qs l)
 

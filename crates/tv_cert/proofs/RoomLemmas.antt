@@ -22,7 +22,7 @@ length_cond : {A : Type 0} (b : Bool) (x : A) (xs : List A) → length (cond b (
 length_cond true x xs = omega arith
 length_cond false x xs = omega arith
 
-few_left : {A : Type 0} (f : A → Bool) (xs : List A) → length (filter f xs) ≤ length xs
+pub few_left : {A : Type 0} (f : A → Bool) (xs : List A) → length (filter f xs) ≤ length xs
 few_left f [] = omega arith
 few_left f (x ∷ xs) = omega (arith, few_left f xs, length_cond (f x) x (filter f xs))
 

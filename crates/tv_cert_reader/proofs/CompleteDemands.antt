@@ -29,6 +29,7 @@ use Rattle.tv_cert.specs.Statements.{Statement, rows, here, elsewhere, ends, nev
 use Rattle.tv_cert.proofs.PieceLemmas.{piece_got}
 use Rattle.tv_shape.proofs.CountLemmas.{count_same, fall_long, fall_some}
 use Rattle.tv_cert_reader.specs.Demands.{outline, outlines, outlines_at, fall_count, entered_count, into_counts, list_counts, truth_counts, IsDrawFree}
+use Rattle.tv_linear.proofs.KnownLemmas.{length-given}
 
 -- ---- how many rows a choice owes does not depend on the terms of its draws
 
@@ -103,9 +104,6 @@ outline_filter (p ∷ ps) l = kept (outline_filter ps l) (place_of p == l) where
 pub outline_got : (ps : List Marked) (l k : ℕ) → slice_get (outlines_at (outlines ps) l) k ≡ option_map outline (slice_get (pieces_at ps l) k)
 outline_got ps l k = ap (λ os. slice_get os k) (outline_filter ps l) ∙ slice_get-map outline (pieces_at ps l) k
 
-pub given_long : (rs : List Linear) → length (as_given rs) ≡ length rs
-given_long rs = length-map rs given
-
 entered_plain : (change : Linear → Known) (q : Option Marked) (j : ℕ) → option_map length (target_rows change no_fall q j) ≡ entered_count None (option_map outline q) j
 entered_plain change None j = refl
 entered_plain change (Some q) zero = ap Some (ap length (append-nil (map change (rows_of q))) ∙ length-map (rows_of q) change ∙ omega arith)
@@ -142,7 +140,7 @@ module _ (system : CaseSystem) (m : ℕ) (done : Bool) (old : List Linear) (long
   entered_falls None shape j = refl
   entered_falls (Some q) shape j =
       behind_rows (map given (rows_of q)) (fall_from given old q j)
-      ∙ (λ i. option_map (λ n. given_long (rows_of q) i + n) (fall_counted old q (ranks_of q) m j (goes q) long (ranks_there system m done q (shape q refl)) i))
+      ∙ (λ i. option_map (λ n. length-given (rows_of q) i + n) (fall_counted old q (ranks_of q) m j (goes q) long (ranks_there system m done q (shape q refl)) i))
 
 -- where falls are owed from a piece that goes on
 pub into_falls : (system : CaseSystem) (m : ℕ) (done : Bool) (p : Marked) → PieceShape system m done p → goes p ≡ true → (into : List Marked) → All (PieceShape system m done) into → (l : ℕ) (change : Linear → Known) → owed_count (owed_into into l change (fall_from change (ranks_of p))) ≡ into_counts (Some m) (outlines into) l
@@ -160,7 +158,7 @@ lists_counted lists k zero = each (slice_get lists k) ∙ sym (slice_get-map len
   where
     each : (o : Option (List Linear)) → option_map length (option_map as_given o) ≡ option_map length o
     each None = refl
-    each (Some rs) = ap Some (given_long rs)
+    each (Some rs) = ap Some (length-given rs)
 
 pub truth_counted : (b : Bool) → list_counts (map length (truth_targets b)) ≡ truth_counts b
 truth_counted true = refl

@@ -71,11 +71,11 @@ lists_read count n lists rest e all =
 
 -- ---- pieces
 
-mark_going : (k : Mark) → is_going (mark_named k) ≡ is_go k
+pub mark_going : (k : Mark) → is_going (mark_named k) ≡ is_go k
 mark_going Done = refl
 mark_going Go = refl
 
-marked : (done going : Bool) → (done ≡ false → going ≡ true) → (done || going) ≡ true
+pub marked : (done going : Bool) → (done ≡ false → going ≡ true) → (done || going) ≡ true
 marked true going h = refl
 marked false going h = h refl
 
@@ -109,7 +109,7 @@ module _ (system : CaseSystem) (m : ℕ) (done : Bool) where
 
 -- ---- the head of a node, and its pieces
 
-kind_same : (k : NodeKind) → same_kind k k ≡ true
+pub kind_same : (k : NodeKind) → same_kind k k ≡ true
 kind_same kinds.Atom = refl
 kind_same kinds.And = refl
 kind_same kinds.Or = refl
@@ -118,7 +118,7 @@ kind_same kinds.Fix = refl
 kind_same kinds.Term = refl
 kind_same kinds.NoTerm = refl
 
-ranked : (m : ℕ) (may : Bool) → (may ≡ false → m ≡ 0) → ((m == 0) || may) ≡ true
+pub ranked : (m : ℕ) (may : Bool) → (may ≡ false → m ≡ 0) → ((m == 0) || may) ≡ true
 ranked m true h = either (m == 0)
   where
     either : (b : Bool) → (b || true) ≡ true

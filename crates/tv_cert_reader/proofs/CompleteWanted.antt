@@ -23,7 +23,8 @@ use Rattle.tv_cert.specs.Nodes.{piece_owes, node_owes}
 use Rattle.tv_cert.specs.Shapes.{owed_count, PieceShape, may_be_done}
 use Rattle.tv_cert.specs.Statements.{Statement, rows, here, elsewhere, ends, never_ends, each_of, one_of, after, along, unsaid}
 use Rattle.tv_cert_reader.specs.Demands.{outline, outlines, into_counts, list_counts, truth_counts, Demand, a_cover, a_choice, demand_of, cover_demand, into_demand, step_demand, step_demands, choice_demand, case_counts, go_demands, fix_demands, first_outlines, second_outlines, demands_at, demands}
-use Rattle.tv_cert_reader.proofs.CompleteDemands.{given_long, into_plain, into_falls, lists_counted, truth_counted}
+use Rattle.tv_cert_reader.proofs.CompleteDemands.{into_plain, into_falls, lists_counted, truth_counted}
+use Rattle.tv_linear.proofs.KnownLemmas.{length-given}
 
 -- ---- lists
 
@@ -70,19 +71,19 @@ wanted o = demand_of o.owed
 
 module _ (number : ℕ) (system : CaseSystem) (p : Marked) where
   atom_wanted : (lists : List (List Linear)) → wanted (atom_of number (about_of system) p lists) ≡ cover_demand system (outline p) (list_counts (map length lists))
-  atom_wanted lists = λ i. a_cover system.variables (given_long (rows_of p) i) (λ k j. lists_counted lists k j i)
+  atom_wanted lists = λ i. a_cover system.variables (length-given (rows_of p) i) (λ k j. lists_counted lists k j i)
 
   truth_wanted : (b : Bool) → wanted (atom_of number (about_of system) p (truth_targets b)) ≡ cover_demand system (outline p) (truth_counts b)
   truth_wanted b = atom_wanted (truth_targets b) ∙ ap (cover_demand system (outline p)) (truth_counted b)
 
   cover_wanted : (k : Kind) (into : List Marked) → wanted (cover_of number k (about_of system) p into) ≡ into_demand system (outline p) (outlines into)
-  cover_wanted k into = λ i. a_cover system.variables (given_long (rows_of p) i) (into_plain into (place_of p) given i)
+  cover_wanted k into = λ i. a_cover system.variables (length-given (rows_of p) i) (into_plain into (place_of p) given i)
 
   covers_wanted : (k : Kind) (kids : List (List Marked)) → map wanted (map (cover_of number k (about_of system) p) kids) ≡ map (into_demand system (outline p)) (map outlines kids)
   covers_wanted k kids = mapped_same (cover_of number k (about_of system) p) wanted outlines (into_demand system (outline p)) (cover_wanted k) kids
 
   known_long : (c : LinearCase) → length (as_given (rows_of p) ++ as_given c.guards) ≡ length (rows_of p) + length c.guards
-  known_long c = length-append (as_given (rows_of p)) (as_given c.guards) ∙ (λ i. given_long (rows_of p) i + given_long c.guards i)
+  known_long c = length-append (as_given (rows_of p)) (as_given c.guards) ∙ (λ i. length-given (rows_of p) i + length-given c.guards i)
 
   steps_wanted : (falls : Option ℕ) (into : List Marked) (fall : LinearCase → Marked → ℕ → Option (List Known)) → ((c : LinearCase) → owed_count (owed_into into c.to (case_change system.variables c) (fall c)) ≡ into_counts falls (outlines into) c.to) → map wanted (steps_of number (about_of system) p into fall) ≡ step_demands system (outline p) falls (outlines into)
   steps_wanted falls into fall same =
@@ -92,7 +93,7 @@ module _ (number : ℕ) (system : CaseSystem) (p : Marked) where
   plain_steps into = steps_wanted None into (λ c. no_fall) (λ c. into_plain into c.to (case_change system.variables c))
 
   choice_wanted : (k : Kind) (stop : Bool) (owed : LinearCase → List Linear → ℕ → ℕ → Option (List Known)) (counts : LinearCase → ℕ → ℕ → Option ℕ) → ((c : LinearCase) → owed_count (owed c []) ≡ counts c) → wanted (choice_of number k (about_of system) p stop owed) ≡ choice_demand system (outline p) stop counts
-  choice_wanted k stop owed counts same = λ i. a_choice system.variables system.cases (place_of p) stop (given_long (rows_of p) i) (λ c. same c i)
+  choice_wanted k stop owed counts same = λ i. a_choice system.variables system.cases (place_of p) stop (length-given (rows_of p) i) (λ c. same c i)
 
   plain_choice : (k : Kind) (stop : Bool) (into : List Marked) → wanted (choice_of number k (about_of system) p stop (choice_into (about_of system) into (λ c draws. no_fall))) ≡ choice_demand system (outline p) stop (case_counts None (outlines into))
   plain_choice k stop into = choice_wanted k stop (choice_into (about_of system) into (λ c draws. no_fall)) (case_counts None (outlines into)) (λ c. into_plain into c.to (drawn_change system.variables c []))

@@ -3,7 +3,7 @@ use Rattle.std.proofs.Common.{◌≡◌, ℕ, zero, suc, ◌<◌, ◌≤◌, ◌
 use Rattle.std.specs.Prelude.{◌==◌}
 use Rattle.std.specs.Global.{Vec}
 use Rattle.std.specs.Borrow.{Bor}
-use Rattle.std.specs.List.{filter, flat_map}
+use Rattle.std.specs.List.{flat_map}
 use Rattle.std.specs.Option.{option_map}
 use Rattle.std.proofs.lemmas.List.{length-map}
 use Rattle.tv_linear.specs.Linear.{Linear}
@@ -21,20 +21,10 @@ use Rattle.tv_shape.specs.Counts.{falls_past, counts_of, ranks_past, AreFew}
 use Rattle.tv_shape.proofs.CountLemmas.{fall_some, none_or}
 use Rattle.tv_cert_reader.specs.LineGrammar.{with_two}
 use Rattle.tv_cert_reader.specs.Covers.{IsTarget, NamesNone}
+use Rattle.tv_cert.proofs.RoomLemmas.{few_left}
+use Rattle.std.proofs.lemmas.Option.{slice_get_within}
 
 -- ---- targets and falls that are there are few
-
-pub within_list : {X : Type 0} (xs : List X) (k : ℕ) (x : X) → slice_get xs k ≡ Some x → k < length xs
-within_list [] k x e = absurd cc
-within_list (y ∷ xs) zero x e = omega arith
-within_list (y ∷ xs) (suc k) x e = let h = within_list xs k x e in omega (arith, h)
-
-fewer : {X : Type 0} (f : X → Bool) (xs : List X) → length (filter f xs) ≤ length xs
-fewer f [] = omega arith
-fewer f (x ∷ xs) = kept (fewer f xs) (f x) where
-  kept : length (filter f xs) ≤ length xs → (b : Bool) → length (cond b (x ∷ filter f xs) (filter f xs)) ≤ suc (length xs)
-  kept h true = omega (arith, h)
-  kept h false = omega (arith, h)
 
 fall_within : (p q : Marked) (j n : ℕ) → option_map length (fall_from given (ranks_of p) q j) ≡ Some n → j ≤ length (ranks_of p)
 fall_within p q j n e = going (goes q) e where
@@ -57,30 +47,30 @@ mapped_some xs (Some ys) n e = (length ys, refl)
 
 few_rows : (from : Option (Bor Marked)) (ps : List Marked) (o : Option Marked) (k j n : ℕ) → slice_get ps k ≡ o → option_map length (target_rows given (falls_past given from) o j) ≡ Some n → (k < length ps) × (j ≤ length (ranks_past from))
 few_rows from ps None k j n is e = absurd (let h : ⊥ = cc in h)
-few_rows from ps (Some q) k j n is e = (within_list ps k q is, (let h = mapped_some (map given (rows_of q)) (falls_past given from q j) n e in few_falls from q j h.0 h.1))
+few_rows from ps (Some q) k j n is e = (slice_get_within ps k q is, (let h = mapped_some (map given (rows_of q)) (falls_past given from q j) n e in few_falls from q j h.0 h.1))
 
 pub few_into : (from : Option (Bor Marked)) (ps : List Marked) (l k j n : ℕ) → option_map length (owed_into ps l given (falls_past given from) k j) ≡ Some n → (k < length ps) × (j ≤ length (ranks_past from))
 few_into from ps l k j n e =
     let h = few_rows from (pieces_at ps l) (slice_get (pieces_at ps l) k) k j n refl e in
-    let m = fewer (λ p. place_of p == l) ps in
+    let m = few_left (λ p. place_of p == l) ps in
     (omega (arith, h.0, m), h.1)
 
 few_entered : (p : Marked) (ps : List Marked) (o : Option Marked) (k j n : ℕ) → slice_get ps k ≡ o → option_map length (target_rows given (fall_from given (ranks_of p)) o j) ≡ Some n → (k < length ps) × (j ≤ length (ranks_of p))
 few_entered p ps None k j n is e = absurd (let h : ⊥ = cc in h)
-few_entered p ps (Some q) k j n is e = (within_list ps k q is, (let h = mapped_some (map given (rows_of q)) (fall_from given (ranks_of p) q j) n e in fall_within p q j h.0 h.1))
+few_entered p ps (Some q) k j n is e = (slice_get_within ps k q is, (let h = mapped_some (map given (rows_of q)) (fall_from given (ranks_of p) q j) n e in fall_within p q j h.0 h.1))
 
 -- a fall from the ranks of a piece
 pub few_ranked : (p : Marked) (ps : List Marked) (l k j n : ℕ) → option_map length (owed_into ps l given (fall_from given (ranks_of p)) k j) ≡ Some n → (k < length ps) × (j ≤ length (ranks_of p))
 few_ranked p ps l k j n e =
     let h = few_entered p (pieces_at ps l) (slice_get (pieces_at ps l) k) k j n refl e in
-    let m = fewer (λ p. place_of p == l) ps in
+    let m = few_left (λ p. place_of p == l) ps in
     (omega (arith, h.0, m), h.1)
 
 pub few_lists : (lists : List (List Linear)) (k j n : ℕ) → option_map length (owed_lists lists k j) ≡ Some n → (k < length lists) × (j ≡ 0)
 few_lists lists k zero n e = (got (slice_get lists k) refl e, refl) where
   got : (o : Option (List Linear)) → slice_get lists k ≡ o → option_map length (option_map as_given o) ≡ Some n → k < length lists
   got None is e = absurd (let h : ⊥ = cc in h)
-  got (Some rows) is e = within_list lists k rows is
+  got (Some rows) is e = slice_get_within lists k rows is
 few_lists lists k (suc j) n e = absurd (let h : ⊥ = cc in h)
 
 few_truths : (t : Bool) → length (truth_targets t) ≤ 1

@@ -17,7 +17,9 @@ use Rattle.tv_cases.specs.LinearCases.{CaseSystem}
 use Rattle.tv_cert.specs.Statements.{Statement}
 use Rattle.tv_cert.specs.Shapes.{may_be_done, may_rank}
 use Rattle.tv_cert_reader.specs.declared.kind.LineKind.TheVariants.{Syntax}
-use Rattle.tv_cert_reader.specs.LineGrammar.{Grammar, line_branch, line_cases, line, sized, is_row, is_rank, is_by, is_draw, is_header, is_end, row, rank, draw, by, header, last, many, same_kind, kind_of, node_line, piece_line, rank_count, piece, region_of, region}
+use Rattle.tv_cert_reader.specs.LineGrammar.{Grammar, line_branch, line_cases, line, sized, is_row, is_rank, is_by, is_draw, is_header, is_end, row, rank, draw, by, header, last, many, kind_of, node_line, piece_line, rank_count, piece, region_of, region}
+use Rattle.tv_cases.proofs.Updated.{same_number}
+use Rattle.tv_cert_reader.proofs.CompleteParts.{kind_same}
 
 -- ---- one line
 
@@ -37,9 +39,6 @@ some_line (Some y) x e = tt
 -- where some line is one
 pub line_exact : {X : Type 0} (f : Head → List ℤ → Option X) (head : Head) (zs : List ℤ) (x : X) → f head zs ≡ Some x → Exact (line f)
 line_exact f head zs x e = headed_exact Syntax (line_cases f) (line_cases_exact f) (formed head zs) (some_line (f head zs) x e)
-
-pub same_number : (n : ℕ) → (n == n) ≡ true
-same_number n = grind (arith, nat_tests)
 
 pub zeros_are : (n : ℕ) → (length (zeros n) == n) ≡ true
 zeros_are n = ap (λ (m : ℕ). m == n) (length-zeros n) ∙ same_number n
@@ -70,17 +69,8 @@ many_exact count l h = mapped_exact (λ all. tt) (times count l) (times_exact co
 
 -- ---- pieces: a program has a location
 
-same_kind_is : (kind : NodeKind) → same_kind kind kind ≡ true
-same_kind_is kinds.Atom = refl
-same_kind_is kinds.And = refl
-same_kind_is kinds.Or = refl
-same_kind_is kinds.Next = refl
-same_kind_is kinds.Fix = refl
-same_kind_is kinds.Term = refl
-same_kind_is kinds.NoTerm = refl
-
 node_line_exact : (kind : NodeKind) (ranked : Bool) → Exact (line (node_line kind ranked))
-node_line_exact kind ranked = line_exact (node_line kind ranked) (heads.Node kind) (pos 0 ∷ pos 0 ∷ []) (record { pieces = 0; ranks = 0 }) (rw (same_kind_is kind) refl)
+node_line_exact kind ranked = line_exact (node_line kind ranked) (heads.Node kind) (pos 0 ∷ pos 0 ∷ []) (record { pieces = 0; ranks = 0 }) (rw (kind_same kind) refl)
 
 some_location : (n : ℕ) → 0 < n → nat_lt 0 n ≡ true
 some_location n h = grind (arith, nat_tests)

@@ -1,6 +1,6 @@
 -- What is read fits, and its lines are those of its certificate.
 use Rattle.std.proofs.Common.{◌≡◌, ℕ, ◌+◌, ◌≤◌, List, ◌++◌, refl, sym, ap, ◌∙◌, subst, arith}
-use Rattle.std.specs.Prelude.{max, IsTrue, nat_le}
+use Rattle.std.specs.Prelude.{IsTrue, nat_le}
 use Rattle.std.proofs.lemmas.Bool.Decides.{nat_tests}
 use Rattle.tv_lines.specs.Lines.{PlainLine}
 use Rattle.tv_formula.specs.Formulas.{property_of}
@@ -25,6 +25,7 @@ use Rattle.tv_cert_reader.specs.CertificateLines.{node_lines, certificate_lines}
 use Rattle.tv_cert_reader.proofs.FitLines.{AreFit, root_and_rest, node_fit, verdict_fit}
 use Rattle.tv_cert_reader.specs.Texts.{sides_of}
 use Rattle.tv_cert_reader.specs.Wholes.{IsVerdictOver, behind_root, says, IsBehindSaid, begun, side}
+use Rattle.std.proofs.Math.Nat.{le-max_left, le-max_right}
 
 -- ---- how deep it goes
 
@@ -33,16 +34,10 @@ abbrev AreShort : ℕ → Properties → Type 0
 AreShort depth none = Unit {0}
 AreShort depth (more f fs) = (depth + operators f ≤ 256) × AreShort depth fs
 
-max_left : (a b : ℕ) → a ≤ max a b
-max_left a b = grind (arith, nat_tests)
-
-max_right : (a b : ℕ) → b ≤ max a b
-max_right a b = grind (arith, nat_tests)
-
 short : (depth : ℕ) (fs : Properties) → depth + most_operators fs ≤ 256 → AreShort depth fs
 short depth none h = tt
 short depth (more f fs) h =
-    (let a = max_left (operators f) (most_operators fs) in omega (arith, a, h), short depth fs (let a = max_right (operators f) (most_operators fs) in omega (arith, a, h)))
+    (let a = le-max_left (operators f) (most_operators fs) in omega (arith, a, h), short depth fs (let a = le-max_right (operators f) (most_operators fs) in omega (arith, a, h)))
 
 parts_short : (depth : ℕ) (f : Property) → depth + operators f ≤ 256 → AreShort (depth + 1) (parts f)
 parts_short depth (truth b) h = tt
@@ -54,7 +49,7 @@ parts_short depth (all_of fs) h = short (depth + 1) fs (omega (arith, h))
 parts_short depth (some_of fs) h = short (depth + 1) fs (omega (arith, h))
 parts_short depth (next path f) h = (omega (arith, h), tt)
 parts_short depth (fix path shape f g) h =
-    (let a = max_left (operators f) (operators g) in omega (arith, a, h), (let a = max_right (operators f) (operators g) in omega (arith, a, h), tt))
+    (let a = le-max_left (operators f) (operators g) in omega (arith, a, h), (let a = le-max_right (operators f) (operators g) in omega (arith, a, h), tt))
 
 mutual
   goes_within : (about : About) (f : Property) (n : Node) (depth : ℕ) → HasShape about f n → depth + operators f ≤ 256 → GoesWithin depth n

@@ -11,17 +11,16 @@ use Rattle.tv_lines.specs.declared.head.PieceMark.TheVariants as marks
 use Rattle.tv_cert.specs.declared.node.Mark.{Mark}
 use Rattle.tv_cert.specs.declared.node.Mark.TheVariants.{Done, Go}
 use Rattle.tv_cert.specs.Pieces.{is_go}
-use Rattle.tv_linear.proofs.ListLaws.{test_true, true_test}
+use Rattle.tv_linear.proofs.ListLaws.{true_test}
 use Rattle.tv_cert_reader.specs.CertificateLines.{mark_named}
 use Rattle.tv_cert_reader.specs.Demands.{Outline}
 use Rattle.tv_cert_reader.specs.LineGrammar.{guarded, same_kind, NodeHead, node_line, is_going, piece_numbers, piece_line}
 use Rattle.tv_cert_reader.specs.Heads.{IsPieceHead, IsNodeHead}
+use Rattle.tv_cases.proofs.CaseLimits.{under}
+use Rattle.tv_cert_reader.proofs.CompleteParts.{mark_going, marked as either, kind_same, ranked as some_ranks}
 
 below : (a b : ℕ) → a < b → nat_lt a b ≡ true
 below a b h = grind (arith, nat_tests)
-
-is_below : (a b : ℕ) → nat_lt a b ≡ true → a < b
-is_below a b h = grind (arith, nat_tests)
 
 two_none : {X : Type 0} (x : X) (a b : Bool) → (a ≡ true → b ≡ true → ⊥) → guarded (a && b) x ≡ None
 two_none x true true h = absurd (h refl refl)
@@ -49,17 +48,9 @@ back_going done marks.Go e f = refl
 back_going true marks.Done e f = absurd cc
 back_going false marks.Done e f = absurd cc
 
-mark_going : (k : Mark) → is_going (mark_named k) ≡ is_go k
-mark_going Done = refl
-mark_going Go = refl
-
-either : (done going : Bool) → (done ≡ false → going ≡ true) → (done || going) ≡ true
-either true going h = refl
-either false going h = h refl
-
 pub piece_none : (locations : ℕ) (done : Bool) (head : Head) (zs : List ℤ) → ((mark : Mark) (l count : ℕ) → IsPieceHead locations done head zs mark l count → ⊥) → piece_line locations done head zs ≡ None
 piece_none locations done (heads.Piece k) (pos l ∷ pos r ∷ []) h =
-    two_none _ (nat_lt l locations) (done || is_going k) (λ a b. h (mark_back k) l r (record { opening = ap heads.Piece (back_named k); numbers = refl; place = is_below l locations a; marked = back_going done k b }))
+    two_none _ (nat_lt l locations) (done || is_going k) (λ a b. h (mark_back k) l r (record { opening = ap heads.Piece (back_named k); numbers = refl; place = under l locations a; marked = back_going done k b }))
 piece_none locations done (heads.Piece k) (pos l ∷ negsuc r ∷ []) h = refl
 piece_none locations done (heads.Piece k) (negsuc l ∷ r ∷ []) h = refl
 piece_none locations done (heads.Piece k) [] h = refl
@@ -90,34 +81,18 @@ same_is kinds.Term kinds.Term e = refl
 same_is kinds.NoTerm kinds.NoTerm e = refl
 same_is a b e = absurd cc
 
-kind_same : (k : NodeKind) → same_kind k k ≡ true
-kind_same kinds.Atom = refl
-kind_same kinds.And = refl
-kind_same kinds.Or = refl
-kind_same kinds.Next = refl
-kind_same kinds.Fix = refl
-kind_same kinds.Term = refl
-kind_same kinds.NoTerm = refl
-
 no_ranks : (m : ℕ) (ranked : Bool) → ((m == 0) || ranked) ≡ true → ranked ≡ false → m ≡ 0
 no_ranks m ranked e f = true_test m 0 (kept (m == 0) ranked e f) where
   kept : (a b : Bool) → (a || b) ≡ true → b ≡ false → a ≡ true
   kept true b e f = refl
   kept false b e f = absurd cc
 
-some_ranks : (m : ℕ) (ranked : Bool) → (ranked ≡ false → m ≡ 0) → ((m == 0) || ranked) ≡ true
-some_ranks m true h = right (m == 0) where
-  right : (a : Bool) → (a || true) ≡ true
-  right true = refl
-  right false = refl
-some_ranks m false h = ap (λ b. b || false) (test_true m 0 (h refl))
-
 abbrev pub counted : ℕ → ℕ → NodeHead
 counted count m = record { pieces = count; ranks = m }
 
 pub node_none : (kind : NodeKind) (ranked : Bool) (head : Head) (zs : List ℤ) → ((count m : ℕ) → IsNodeHead kind ranked head zs count m → ⊥) → node_line kind ranked head zs ≡ None
 node_none kind ranked (heads.Node k) (pos p ∷ pos m ∷ []) h =
-    three_none _ (same_kind kind k) ((m == 0) || ranked) (nat_lt m (2 ^ 32)) (λ a b c. h p m (record { opening = ap heads.Node (same_is kind k a); numbers = refl; ranks = no_ranks m ranked b; small = is_below m (2 ^ 32) c }))
+    three_none _ (same_kind kind k) ((m == 0) || ranked) (nat_lt m (2 ^ 32)) (λ a b c. h p m (record { opening = ap heads.Node (same_is kind k a); numbers = refl; ranks = no_ranks m ranked b; small = under m (2 ^ 32) c }))
 node_none kind ranked (heads.Node k) (pos p ∷ negsuc m ∷ []) h = refl
 node_none kind ranked (heads.Node k) (negsuc p ∷ m ∷ []) h = refl
 node_none kind ranked (heads.Node k) [] h = refl

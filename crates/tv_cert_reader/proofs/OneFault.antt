@@ -15,11 +15,12 @@ use Rattle.tv_cert_reader.specs.declared.kind.LineKind.TheVariants.{Syntax, Wide
 use Rattle.tv_cert_reader.specs.LineGrammar.{line_branch}
 use Rattle.tv_cert_reader.specs.NodeGrammar.{node}
 use Rattle.tv_cert_reader.specs.CertificateGrammar.{Sides, at_line, certificate, CanBe, IsOneTooMany, Stops, NamesNoPiece, IsFault, goes_no_further, behind_the_last, no_piece, HaveOneFault}
-use Rattle.tv_cert_reader.proofs.ExactLines.{same_number, some_line}
+use Rattle.tv_cert_reader.proofs.ExactLines.{some_line}
 use Rattle.tv_cert_reader.proofs.ExactNodes.{node_exact, certificate_exact}
 use Rattle.tv_cert_reader.proofs.Closed.{node_closed, certificate_closed}
 use Rattle.tv_cert_reader.proofs.Faults.{disproved}
 use Rattle.tv_cert_reader.proofs.Places.{begins_before, one_place}
+use Rattle.tv_cases.proofs.Updated.{same_number}
 
 nothing : {T : Type 0} (us : List T) (t : T) → us ≡ [] → next us ≡ Some t → ⊥
 nothing [] t e i = absurd cc

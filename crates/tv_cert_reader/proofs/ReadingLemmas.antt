@@ -3,7 +3,7 @@ use Rattle.std.proofs.Common.{◌≡◌, ℕ, zero, suc, ◌+◌, ◌<◌, ℤ, 
 use Rattle.std.specs.List.{flat_map}
 use Rattle.std.specs.Result.{IsErrAnd}
 use Rattle.std.proofs.lemmas.Result.{err_from_is_err_and}
-use Rattle.std.proofs.lemmas.List.{append_assoc}
+use Rattle.std.proofs.lemmas.List.{append_assoc, length_push}
 use Rattle.std.proofs.lemmas.Grind.{flat_map-append}
 use Rattle.std.proofs.lemmas.List.{append-nil}
 use Rattle.std.proofs.lemmas.List.Elements.{All-nil, All-head, All-tail, All-push}
@@ -96,17 +96,13 @@ pub record Gathered {A : Type 0} (P : A → Type 0) (text : A → List PlainLine
 pub last_text : {A : Type 0} (text : A → List PlainLine) (xs : List A) (x : A) → flat_map text xs ++ text x ≡ flat_map text (xs ++ x ∷ [])
 last_text text xs x = sym (flat_map-append text xs (x ∷ []) ∙ ap (λ ls. flat_map text xs ++ ls) (append-nil (text x)))
 
-length_last : {A : Type 0} (xs : List A) (x : A) → length (xs ++ x ∷ []) ≡ length xs + 1
-length_last [] x = refl
-length_last (y ∷ xs) x = (let e = length_last xs x in omega (arith, e))
-
 module _ {A : Type 0} (P : A → Type 0) (text : A → List PlainLine) (old : Cursor) where
   pub gathered_none : Gathered P text old 0 old []
   gathered_none = record { many = refl; each = All-nil P; took = takes_none old }
 
   pub gathered_next : (i : ℕ) (now new : Cursor) (xs ys : List A) (x : A) → Gathered P text old i now xs → P x → Takes (text x) now new → ys ≡ xs ++ x ∷ [] → Gathered P text old (i + 1) new ys
   gathered_next i now new xs ys x g p t e = subst (Gathered P text old (i + 1) new) (sym e) (record {
-    many = length_last xs x ∙ ap (λ n. n + 1) g.many;
+    many = length_push xs x ∙ ap (λ n. n + 1) g.many;
     each = All-push P xs x g.each p;
     took = takes_as (flat_map text xs ++ text x) (flat_map text (xs ++ x ∷ [])) old new (last_text text xs x) (takes_both (flat_map text xs) (text x) old now new g.took t);
   })

@@ -52,11 +52,6 @@ pub got_none : (o : Option Marked) → option_map outline o ≡ None → o ≡ N
 got_none None e = refl
 got_none (Some p) e = absurd cc
 
--- a line of no numbers
-pub no_numbers : (zs : List ℤ) → length zs ≡ 0 → zs ≡ []
-no_numbers [] e = refl
-no_numbers (z ∷ zs) e = absurd (omega (arith, e))
-
 -- behind the last there is none
 past : (ps : List Marked) (k : ℕ) → length ps ≤ k → slice_get ps k ≡ None
 past [] k h = refl

@@ -1,7 +1,6 @@
 -- Lines are those of a certificate, or have a first one at fault, and not both.
 use Rattle.std.proofs.Common.{◌≡◌, ◌<◌, ◌+◌, ℕ, ℤ, pos, false, List, [], ◌∷◌, ◌++◌, length, Option, Some, None, Result, Ok, Err, refl, sym, ap, ◌∙◌, inl, inr, ◌⊎◌, length-append, arith}
 use Rattle.std.specs.Prelude.{slice_get}
-use Rattle.std.proofs.lemmas.Bool.Decides.{nat_tests}
 use Rattle.tv_grammar.specs.Reads.{Fault, faulty, fault}
 use Rattle.tv_grammar.specs.Langs.{read_all}
 use Rattle.tv_grammar.proofs.ExactLemmas.{apart}
@@ -19,6 +18,7 @@ use Rattle.tv_cert_reader.proofs.Closed.{certificate_ends}
 use Rattle.tv_cert_reader.proofs.Faults.{disproved, no_piece_fault}
 use Rattle.tv_cert_reader.proofs.OneFault.{ended_stop}
 use Rattle.tv_cert_reader.proofs.FirstFaults.{NamesPieces, nodes_fail, line_fails, piece_there, first_stopped, first_no_piece}
+use Rattle.std.proofs.lemmas.Bool.{cases_eq}
 
 -- ---- what stands where a piece is named
 
@@ -56,10 +56,6 @@ at_has : (us : List PlainLine) (place : ℕ) (values : List ℤ) (behind : List 
 unfolding values_of
 at_has us place values behind e = ap values_of e
 
--- how many there are is what is wanted, or is not
-same_or_not : (m n : ℕ) → (m ≡ n) ⊎ (m ≡ n → ⊥)
-same_or_not m n = grind (arith, nat_tests)
-
 module _ (system : CaseSystem) (some : 0 < system.locations) (sides : Sides) where
   -- ---- each piece that is named is there, or one is not
 
@@ -76,7 +72,7 @@ module _ (system : CaseSystem) (some : 0 < system.locations) (sides : Sides) whe
   by_values : (ls us rest : List PlainLine) (os : List Outline) → ls ≡ disproved us → (node false system sides.denied).read us ≡ Ok (os, rest) → (v : Option Values) → values_of rest ≡ v → Named ls
   unfolding Named
   by_values ls us rest os is e None none = inl (line_fails system some sides ls us rest os is e (λ place values behind many at. not_none (record { place = place; values = values; behind = behind }) (sym (at_has rest place values behind at) ∙ none)))
-  by_values ls us rest os is e (Some v) at = elim (same_or_not (length v.values) system.variables) [
+  by_values ls us rest os is e (Some v) at = elim (cases_eq (length v.values) system.variables) [
     | inl many ↦ by_piece ls us rest os v.place v.values v.behind is e (at_is rest v at) many (slice_get (outlines_at os system.start) v.place) refl
     | inr other ↦ inl (line_fails system some sides ls us rest os is e (λ place values behind many here.
         other (ap (λ (w : Values). length w.values) (some_is v (record { place = place; values = values; behind = behind }) (sym at ∙ at_has rest place values behind here)) ∙ many)))

@@ -20,6 +20,7 @@ use Rattle.tv_cert_reader.specs.declared.failure.Failure.TheVariants.{Fault, Mem
 use Rattle.tv_cert_reader.specs.Reading.{Takes, FailsBy}
 use Rattle.tv_cert_reader.specs.Choices.{IsStop}
 use Rattle.tv_cert_reader.proofs.ReadingLemmas.{mapped_fails, takes_both, takes_as, last_text}
+use Rattle.tv_linear.proofs.ListLaws.{zip_push}
 
 -- what was read for some of a list, and what of the list is left
 pub record Stepped {B A : Type 0} (R : B → A → Type 0) (text : A → List PlainLine) (all left : List B) (old now : Cursor) (xs : List A) : Type 0 where
@@ -28,18 +29,12 @@ pub record Stepped {B A : Type 0} (R : B → A → Type 0) (text : A → List Pl
   pub zip : AllZip R done xs
   pub took : Takes (flat_map text xs) old now
 
-zip_last : {B A : Type 0} (R : B → A → Type 0) (bs : List B) (xs : List A) (b : B) (x : A) → AllZip R bs xs → R b x → AllZip R (bs ++ b ∷ []) (xs ++ x ∷ [])
-zip_last R [] [] b x h r = (r, tt)
-zip_last R [] (y ∷ xs) b x h r = absurd h
-zip_last R (c ∷ bs) [] b x h r = absurd h
-zip_last R (c ∷ bs) (y ∷ xs) b x h r = (h.0, zip_last R bs xs b x h.1 r)
-
 module _ {B A : Type 0} (R : B → A → Type 0) (text : A → List PlainLine) (all : List B) (old : Cursor) where
   pub stepped_next : (b : B) (left more : List B) (now new : Cursor) (xs ys : List A) (x : A) → Stepped R text all more old now xs → more ≡ b ∷ left → R b x → Takes (text x) now new → ys ≡ xs ++ x ∷ [] → Stepped R text all left old new ys
   stepped_next b left more now new xs ys x s is r t e = subst (Stepped R text all left old new) (sym e) (record {
     done = s.done ++ b ∷ [];
     parts = s.parts ∙ ap (λ l. s.done ++ l) is ∙ sym (append_assoc s.done (b ∷ []) left);
-    zip = zip_last R s.done xs b x s.zip r;
+    zip = zip_push R s.done xs b x s.zip r;
     took = takes_as (flat_map text xs ++ text x) (flat_map text (xs ++ x ∷ [])) old new (last_text text xs x) (takes_both (flat_map text xs) (text x) old now new s.took t);
   })
 

@@ -12,8 +12,8 @@ use Rattle.tv_cert.specs.Pieces.{place_of}
 use Rattle.tv_cert.specs.Shapes.{owed_count}
 use Rattle.tv_shape.specs.Counts.{AreFewAt}
 use Rattle.tv_cert_reader.specs.Choices.{IsTaken, NamesNoCase}
-use Rattle.tv_cert_reader.proofs.CountLemmas.{within_list}
 use Rattle.tv_cert_reader.proofs.ChoiceLemmas.{few_taken}
+use Rattle.std.proofs.lemmas.Option.{slice_get_within}
 
 got_view : (list : List Case) (i : ℕ) → slice_get (case_views list) i ≡ option_map case_view (slice_get list i)
 got_view [] i = refl
@@ -36,7 +36,7 @@ module _ (system : CaseSystem) (p : Marked) (destination : Destination) (zs : Li
   pub no_numbers : length system.cases ≤ 8192 → ((c k j : ℕ) → zs ≡ pos c ∷ pos k ∷ pos j ∷ [] → c < 2 ^ 32 → k < 2 ^ 32 → j < 2 ^ 32 → ⊥) → NamesNoCase system p destination zs
   no_numbers many none case c k j n text there from owes =
       let h = few_taken system p destination case [] k j n few owes in
-      let w = within_list system.cases c case there in
+      let w = slice_get_within system.cases c case there in
       none c k j text (omega (arith, w, many)) h.0 h.1
 
   module _ (list : List Case) (same : case_views list ≡ system.cases) (a b d : ℕ) (is : zs ≡ pos a ∷ pos b ∷ pos d ∷ []) where

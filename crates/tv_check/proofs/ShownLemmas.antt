@@ -1,4 +1,4 @@
-use Rattle.std.proofs.Common.{◌≡◌, ◌↔◌, ℕ, zero, suc, ◌≤◌, List, [], ◌∷◌, ◌++◌, length, map, take, drop, arith, refl, sym, ap, ◌∙◌, subst, ℤ, Option, None, Some, Vec, Global, Bool, IsTrue}
+use Rattle.std.proofs.Common.{◌≡◌, ◌↔◌, ℕ, ◌≤◌, List, [], ◌∷◌, ◌++◌, length, map, take, drop, arith, sym, ap, ◌∙◌, subst, ℤ, Option, None, Some, Vec, Global, Bool, IsTrue}
 use Rattle.std.specs.Option.{option_map}
 use Rattle.tv_linear.specs.Known.{Known, given, composed}
 use Rattle.tv_linear.specs.Covers.{Shown, ShownAt, IsMetCover}
@@ -9,6 +9,8 @@ use Rattle.tv_linear.specs.declared.rows.Rows.{Rows}
 use Rattle.tv_cert.specs.declared.node.Marked.{Marked}
 use Rattle.tv_cert.specs.Targets.{owed_into}
 use Rattle.tv_check.specs.Owes.{falls_of}
+use Rattle.std.proofs.lemmas.List.{map-append}
+use Rattle.tv_refute.proofs.Sums.{split_is}
 
 -- rows joined are shown by lists joined
 pub shown_join : (n : ℕ) (known : List Known) (xs ys : List Known) (ls ms : List (List ℤ)) → length xs ≡ length ls → Shown n known (xs ++ ys) (ls ++ ms) ↔ (Shown n known xs ls × Shown n known ys ms)
@@ -36,18 +38,8 @@ shown_with n known xs (Some ys) all ls ms p e =
     let j = shown_join n known xs ys ls ms e in
     (λ h. j.0 (subst (Shown n known (xs ++ ys)) p h), λ h. subst (Shown n known (xs ++ ys)) (sym p) (j.1 h))
 
-map_join : {A B : Type 0} (f : A → B) (xs ys : List A) → map f (xs ++ ys) ≡ map f xs ++ map f ys
-map_join f [] ys = refl
-map_join f (x ∷ xs) ys = ap (λ zs. f x ∷ zs) (map_join f xs ys)
-
-split_is : {A : Type 0} (xs : List A) (k : ℕ) → xs ≡ take k xs ++ drop k xs
-split_is [] zero = refl
-split_is [] (suc k) = refl
-split_is (x ∷ xs) zero = refl
-split_is (x ∷ xs) (suc k) = ap (λ ys. x ∷ ys) (split_is xs k)
-
 pub lists_split : (lists front back : List (Vec ℤ Global)) (k : ℕ) → front ≡ take k lists → back ≡ drop k lists → map (λ l. l.items) lists ≡ map (λ l. l.items) front ++ map (λ l. l.items) back
-lists_split lists front back k p q = ap (map (λ l. l.items)) (split_is lists k ∙ (λ i. sym p i ++ sym q i)) ∙ map_join (λ l. l.items) front back
+lists_split lists front back k p q = ap (map (λ l. l.items)) (split_is lists k ∙ (λ i. sym p i ++ sym q i)) ∙ map-append (λ l. l.items) front back
 
 -- the updates and the rows as they lie in the case
 pub updates_moved : (t : Bool) (n m : ℕ) (into : List Marked) (to : ℕ) (ranks : Option Rows) (known known' : List Known) (tree : CoverTree) (us vs : List Update) → us ≡ vs → known ≡ known' → (IsTrue t ↔ IsMetCover m (owed_into into to (λ r. composed (given r) (terms_after n us)) (falls_of (λ r. composed (given r) (terms_after n us)) ranks)) known tree) → IsTrue t ↔ IsMetCover m (owed_into into to (λ r. composed (given r) (terms_after n vs)) (falls_of (λ r. composed (given r) (terms_after n vs)) ranks)) known' tree

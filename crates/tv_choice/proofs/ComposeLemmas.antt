@@ -1,5 +1,5 @@
 -- Rows that were composed with terms for the draws have the numbers of what a certificate composes.
-use Rattle.std.proofs.Common.{◌≡◌, ℕ, zero, suc, ◌+◌, ◌≤◌, List, [], ◌∷◌, ◌++◌, length, map, All, arith, refl, sym, ap, ◌∙◌, subst, ◌+ℤ◌, length-append}
+use Rattle.std.proofs.Common.{◌≡◌, ℕ, zero, suc, ◌+◌, ◌≤◌, List, [], ◌∷◌, length, map, All, arith, refl, sym, ap, ◌∙◌, subst, ◌+ℤ◌, length-append}
 use Rattle.std.proofs.lemmas.List.Elements.{All-head, All-tail}
 use Rattle.tv_linear.specs.Linear.{Linear, columns}
 use Rattle.tv_linear.specs.Arithmetic.{column_row, combined, composed as composed_row, width_of}
@@ -8,14 +8,9 @@ use Rattle.tv_linear.specs.Known.{Term, kept, put}
 use Rattle.tv_linear.specs.Terms.{table, draw_terms}
 use Rattle.tv_linear.proofs.Entries.{entry-raised_inner, entry-raised_last, entry-combined, columns-combined}
 use Rattle.tv_cases.specs.EdgeCases.{columns_from}
-use Rattle.tv_cases.proofs.BeforeLemmas.{IsTerm, AreTerms, PutIn, terms_even, kept_term, put_term}
+use Rattle.tv_cases.proofs.BeforeLemmas.{IsTerm, AreTerms, PutIn, terms_even, kept_term, put_term, terms_append}
 use Rattle.tv_choice.specs.Rows.{put_terms}
-
-pub terms_append : (n : ℕ) (ts us : List Term) (rows more : List Linear) → AreTerms n ts rows → AreTerms n us more → AreTerms n (ts ++ us) (rows ++ more)
-terms_append n [] us [] more h g = g
-terms_append n [] us (row ∷ rows) more h g = absurd h
-terms_append n (t ∷ ts) us [] more h g = absurd h
-terms_append n (t ∷ ts) us (row ∷ rows) more h g = (h.0, terms_append n ts us rows more h.1 g)
+use Rattle.tv_cases.proofs.SameSteps.{length-columns_from}
 
 -- ---- terms for the draws
 kept_terms : (w v m : ℕ) (f : ℕ → Term) → ((j : ℕ) → f j ≡ kept (v + j)) → AreTerms w (table m f) (columns_from w v m)
@@ -37,10 +32,6 @@ drawn_terms n draws h = terms_append n (table n (λ j. kept j)) (map (λ d. put 
 width_or_none : (n : ℕ) (terms : List Linear) → All (λ t. columns t ≡ n) terms → (length terms ≡ 0 → n ≡ 0) → width_of terms ≡ n
 width_or_none n [] all h = sym (h refl)
 width_or_none n (t ∷ terms) all h = All-head (λ t. columns t ≡ n) t terms all
-
-length-columns_from : (w v m : ℕ) → length (columns_from w v m) ≡ m
-length-columns_from w v zero = refl
-length-columns_from w v (suc m) = ap suc (length-columns_from w (suc v) m)
 
 pub length-put_terms : (n : ℕ) (draws : List Linear) → length (put_terms n draws) ≡ n + length draws
 length-put_terms n draws = length-append (columns_from n 0 n) draws ∙ ap (λ k. k + length draws) (length-columns_from n 0 n)

@@ -1,13 +1,12 @@
 -- Ways whose rows differ.
 use Rattle.std.proofs.Common.{◌≡◌, ◌⊎◌, inl, inr, ℕ, zero, suc, ◌+◌, ◌<◌, ◌≤◌, List, [], ◌∷◌, ◌++◌, length, get_or, arith, refl, sym, ap, ◌∙◌, subst}
 use Rattle.std.specs.Prelude.{Contains}
-use Rattle.std.proofs.lemmas.List.{get_or_default}
+use Rattle.std.proofs.lemmas.List.{map-append}
 use Rattle.std.proofs.lemmas.List.Elements.{Contains-append_left, Contains-append_right, Contains-append_cases}
 use Rattle.tv_cases.proofs.Listed.{Contains-here, Contains-later}
 use Rattle.tv_linear.specs.Linear.{Linear}
 use Rattle.tv_choice.specs.declared.ways.Way.{Way}
 use Rattle.tv_choice.specs.Ways.{way_rows, lists_of, AreDifferentOf}
-use Rattle.tv_choice.proofs.WayLemmas.{map-append}
 
 -- ---- lists that are the same up to a place
 abbrev pub AreSameTo : List Linear → List Linear → ℕ → Type 0
@@ -15,15 +14,6 @@ AreSameTo xs ys place = (k : ℕ) (d : Linear) → k < place → get_or xs k d �
 
 pub same_none : (xs ys : List Linear) → AreSameTo xs ys 0
 same_none xs ys k d l = absurd (omega (arith, l))
-
-last_or_below : (j k : ℕ) → j < k + 1 → (j ≡ k) ⊎ (j < k)
-last_or_below j k h = grind arith
-
-pub same_more : (xs ys : List Linear) (place : ℕ) (x y : Linear) → place < length xs → length xs ≡ length ys → x ≡ get_or xs place x → y ≡ get_or ys place y → x ≡ y → AreSameTo xs ys place → AreSameTo xs ys (place + 1)
-same_more xs ys place x y inside e left right same h k d l = elim (last_or_below k place l) [
-  | inl here ↦ ap (λ i. get_or xs i d) here ∙ get_or_default xs place d x inside ∙ sym left ∙ same ∙ right ∙ sym (get_or_default ys place d y (omega (arith, inside, e))) ∙ ap (λ i. get_or ys i d) (sym here)
-  | inr before ↦ h k d before
-]
 
 pub same_all : (xs ys : List Linear) (place : ℕ) → length xs ≡ length ys → length xs ≤ place → AreSameTo xs ys place → xs ≡ ys
 same_all [] [] place e l h = refl

@@ -1,32 +1,30 @@
 -- Terms for draws, and the ways that they make.
-use Rattle.std.proofs.Common.{◌≡◌, ℕ, zero, suc, ◌+◌, ◌<◌, ◌≤◌, List, [], ◌∷◌, ◌++◌, length, map, take, drop, get_or, All, Some, None, Option, arith, refl, sym, ap, ◌∙◌, subst, ℤ, pos, negsuc, neg_ℤ, append_assoc, cond}
+use Rattle.std.proofs.Common.{◌≡◌, ℕ, zero, suc, ◌+◌, ◌<◌, ◌≤◌, List, [], ◌∷◌, ◌++◌, length, map, drop, get_or, All, Some, None, Option, arith, refl, sym, ap, ◌∙◌, subst, ℤ, pos, negsuc, neg_ℤ, append_assoc, cond}
 use Rattle.std.specs.Prelude.{slice_get, Contains}
-use Rattle.std.proofs.lemmas.List.{length-map}
-use Rattle.std.proofs.lemmas.List.Elements.{All-nil, All-cons, All-head, All-tail, All-append}
+use Rattle.std.proofs.lemmas.List.{length-map, append-nil}
+use Rattle.std.proofs.lemmas.List.Elements.{All-nil, All-cons, All-head, All-tail, All-append, All-contains_itself}
 use Rattle.tv_linear.specs.Linear.{Linear, columns}
 use Rattle.tv_linear.specs.Arithmetic.{opposite}
 use Rattle.tv_linear.specs.declared.region.Piece.{Piece}
-use Rattle.tv_linear.proofs.ListLaws.{test_true, test_false}
+use Rattle.tv_linear.proofs.ListLaws.{test_true, test_false, length-front}
 use Rattle.tv_cases.specs.declared.case.Case.{Case}
 use Rattle.tv_cases.specs.LinearCases.{LinearCase, leaving}
 use Rattle.tv_cases.specs.Views.{case_view, case_views}
 use Rattle.std.proofs.lemmas.Option.{slice_get_within, get_or_from_slice_get}
 use Rattle.tv_choice.specs.declared.ways.Way.{Way}
 use Rattle.tv_choice.specs.declared.ways.Entry.{Entry}
-use Rattle.tv_choice.specs.Rows.{case_rows, put_rows, put_terms, ArePut, IsWideBefore, IsWidePut}
+use Rattle.tv_choice.specs.Rows.{put_rows, put_terms, ArePut, IsWideBefore, IsWidePut}
 use Rattle.tv_choice.specs.Leading.{Query, IsEntry, pieces_at, piece_rows}
 use Rattle.tv_choice.specs.ChoicePaths.{AreDrawTerms, by_rows}
 use Rattle.tv_choice.specs.Refusals.{IsWideHere, entering, drawing}
 use Rattle.tv_choice.specs.Ways.{IsEntered, AreCaseRows, IsWayOf, IsWay}
 use Rattle.tv_choice.specs.Targets.{front, term_by, term_of, one_term, terms_given, draw_choices, targets_into, targets_by, targets_from, AreMadeInto, IsFirstWidePut, with_later, IsWideInto, IsFirstWideInto, into_this, into_later, IsFirstWideFrom, by_this, by_later}
 use Rattle.tv_choice.proofs.WayLemmas.{drop_more, is_way, in_way}
+use Rattle.tv_cases.proofs.LeavingLemmas.{none_left, first_left as get_drop}
 
 -- ---- one term
 pub plus_one : (c : ℤ) (rest : Linear) → c ≡ pos 1 → term_by c rest ≡ Some (opposite rest)
 plus_one c rest e = ap (λ z. term_by z rest) e
-
-pub minus_one : (c : ℤ) (rest : Linear) → c ≡ negsuc 0 → term_by c rest ≡ Some rest
-minus_one c rest e = ap (λ z. term_by z rest) e
 
 pub no_term : (c : ℤ) (rest : Linear) → (c ≡ pos 1 → ⊥) → (c ≡ negsuc 0 → ⊥) → term_by c rest ≡ None
 no_term (pos zero) rest p q = refl
@@ -66,16 +64,11 @@ one_even : (n : ℕ) (o : Option Linear) → ((t : Linear) → o ≡ Some t → 
 one_even n None h = All-nil (AreTermsFor n 1)
 one_even n (Some t) h = All-cons (AreTermsFor n 1) (t ∷ []) [] record { many = refl; even = All-cons (λ r. columns r ≡ n) t [] (h t refl) (All-nil (λ r. columns r ≡ n)) } (All-nil (AreTermsFor n 1))
 
-length-take_front : (n d : ℕ) (xs : List ℤ) → length xs ≡ n + d → length (take n xs) ≡ n
-length-take_front zero d xs e = refl
-length-take_front (suc n) d [] e = absurd (omega (arith, e))
-length-take_front (suc n) d (x ∷ xs) e = ap suc (length-take_front n d xs (omega (arith, e)))
-
 given_even : (n : ℕ) (rows : List Linear) → All (λ r. columns r ≡ n + 1) rows → All (AreTermsFor n 1) (terms_given n rows)
 given_even n [] h = All-nil (AreTermsFor n 1)
 given_even n (r ∷ rows) h =
     All-append (AreTermsFor n 1) (one_term (term_of n r)) (terms_given n rows)
-    (one_even n (term_of n r) (λ t. even_term n (get_or r.coefficients n (pos 0)) (front n r) t (length-take_front n 1 r.coefficients (All-head (λ r. columns r ≡ n + 1) r rows h))))
+    (one_even n (term_of n r) (λ t. even_term n (get_or r.coefficients n (pos 0)) (front n r) t (length-front n 1 r.coefficients (All-head (λ r. columns r ≡ n + 1) r rows h))))
     (given_even n rows (All-tail (λ r. columns r ≡ n + 1) r rows h))
 
 pub choices_even : (n d : ℕ) (rows : List Linear) → All (λ r. columns r ≡ n + d) rows → All (AreTermsFor n d) (draw_choices d n rows)
@@ -88,13 +81,6 @@ no_choices n zero rows l = absurd (omega (arith, l))
 no_choices n (suc zero) rows l = absurd (omega (arith, l))
 no_choices n (suc (suc k)) rows l = refl
 
-append-none : {A : Type 0} (xs : List A) → xs ++ [] ≡ xs
-append-none [] = refl
-append-none (x ∷ xs) = ap (λ ys. x ∷ ys) (append-none xs)
-
-pub no_targets : (n : ℕ) (c : LinearCase) (owed : List Linear) (old : List (List Linear)) → 1 < c.draws → old ≡ old ++ targets_into n c owed
-no_targets n c owed old l = sym (ap (λ cs. old ++ map (λ draws. put_rows n draws (case_rows c owed)) cs) (no_choices n c.draws (case_rows c owed) l) ∙ append-none old)
-
 -- ---- choices that are left
 -- with those that are left the ways have all that the choices make, and each that is left is one of the choices
 pub record AreLeft (n d : ℕ) (rows : List Linear) (old now rest : List (List Linear)) : Type 0 where
@@ -102,16 +88,8 @@ pub record AreLeft (n d : ℕ) (rows : List Linear) (old now rest : List (List L
   pub terms : All (AreTermsFor n d) rest
   pub among : All (Contains (draw_choices d n rows)) rest
 
-contains_each : {A : Type 0} (xs : List A) → All (Contains xs) xs
-contains_each xs i x l = (i, l, get_same xs i x l)
-  where
-    get_same : {A : Type 0} (xs : List A) (i : ℕ) (x : A) → i < length xs → get_or xs i (get_or xs i x) ≡ get_or xs i x
-    get_same [] i x l = absurd (omega (arith, l))
-    get_same (y ∷ ys) zero x l = refl
-    get_same (y ∷ ys) (suc i) x l = get_same ys i x (omega (arith, l))
-
 pub left_first : (n d : ℕ) (rows : List Linear) (old rest : List (List Linear)) → All (λ r. columns r ≡ n + d) rows → rest ≡ draw_choices d n rows → AreLeft n d rows old old rest
-left_first n d rows old rest h e = subst (AreLeft n d rows old old) (sym e) record { all = refl; terms = choices_even n d rows h; among = contains_each (draw_choices d n rows) }
+left_first n d rows old rest h e = subst (AreLeft n d rows old old) (sym e) record { all = refl; terms = choices_even n d rows h; among = All-contains_itself (draw_choices d n rows) }
 
 pub left_next : (n d : ℕ) (rows : List Linear) (old now new : List (List Linear)) (draws : List Linear) (rest : List (List Linear)) → new ≡ now ++ put_rows n draws rows ∷ [] → AreLeft n d rows old now (draws ∷ rest) → AreLeft n d rows old new rest
 left_next n d rows old now new draws rest e h = record {
@@ -120,29 +98,10 @@ left_next n d rows old now new draws rest e h = record {
   among = All-tail (Contains (draw_choices d n rows)) draws rest h.among;
 }
 
-pub nil_of : {A : Type 0} (xs : List A) → length xs ≡ 0 → xs ≡ []
-nil_of [] e = refl
-nil_of (x ∷ xs) e = absurd (omega (arith, e))
-
 pub left_none : (n d : ℕ) (rows : List Linear) (old now rest : List (List Linear)) → rest ≡ [] → AreLeft n d rows old now rest → now ≡ old ++ map (λ draws. put_rows n draws rows) (draw_choices d n rows)
-left_none n d rows old now rest e h = sym (h.all ∙ ap (λ r. now ++ map (λ draws. put_rows n draws rows) r) e ∙ append-none now)
+left_none n d rows old now rest e h = sym (h.all ∙ ap (λ r. now ++ map (λ draws. put_rows n draws rows) r) e ∙ append-nil now)
 
 -- ---- pieces and cases that are left
-get_drop : {A : Type 0} (xs : List A) (i : ℕ) (x : A) → slice_get xs i ≡ Some x → drop i xs ≡ x ∷ drop (i + 1) xs
-get_drop [] zero x e = cc
-get_drop [] (suc i) x e = cc
-get_drop (y ∷ xs) zero x e = ap (λ z. z ∷ xs) (some_is y x e)
-  where
-    some_is : {A : Type 0} (a b : A) → ◌≡◌ {A = Option A} (Some a) (Some b) → a ≡ b
-    some_is a b g = cc
-get_drop (y ∷ xs) (suc i) x e = get_drop xs i x e ∙ ap (λ k. x ∷ drop k (y ∷ xs)) (let g : suc (i + 1) ≡ suc i + 1 = omega arith in g)
-
-drop_past : {A : Type 0} (xs : List A) (i : ℕ) → slice_get xs i ≡ None → drop i xs ≡ []
-drop_past [] zero e = refl
-drop_past [] (suc i) e = refl
-drop_past (y ∷ xs) zero e = cc
-drop_past (y ∷ xs) (suc i) e = drop_past xs i e
-
 pub pieces_next : (n : ℕ) (c : LinearCase) (ps : List Piece) (i : ℕ) (p : Piece) (all now new : List (List Linear)) → slice_get ps i ≡ Some p → new ≡ now ++ targets_into n c (piece_rows p) → all ≡ now ++ targets_by n c (drop i ps) → all ≡ new ++ targets_by n c (drop (i + 1) ps)
 pieces_next n c ps i p all now new g e h =
     h
@@ -151,7 +110,7 @@ pieces_next n c ps i p all now new g e h =
     ∙ ap (λ ls. ls ++ targets_by n c (drop (i + 1) ps)) (sym e)
 
 pub pieces_done : (n : ℕ) (c : LinearCase) (ps : List Piece) (i : ℕ) (all now : List (List Linear)) → slice_get ps i ≡ None → all ≡ now ++ targets_by n c (drop i ps) → now ≡ all
-pieces_done n c ps i all now g h = sym (h ∙ ap (λ qs. now ++ targets_by n c qs) (drop_past ps i g) ∙ append-none now)
+pieces_done n c ps i all now g h = sym (h ∙ ap (λ qs. now ++ targets_by n c qs) (none_left ps i g) ∙ append-nil now)
 
 views_drop : (cs : List Case) (i : ℕ) (c : Case) → i < length cs → c ≡ get_or cs i c → case_views (drop i cs) ≡ case_view c ∷ case_views (drop (i + 1) cs)
 views_drop cs i c l e = ap case_views (drop_more cs i c l e)
@@ -171,7 +130,7 @@ cases_skip n ps l cs i c all now b e from h =
     ∙ ap (λ t. now ++ targets_from n ps (cond t (case_view c ∷ leaving l (case_views (drop (i + 1) cs))) (leaving l (case_views (drop (i + 1) cs))))) (test_false c.from l from)
 
 pub cases_done : (n : ℕ) (ps : List Piece) (l : ℕ) (cs : List Case) (i : ℕ) (all now : List (List Linear)) → length cs ≤ i → all ≡ now ++ targets_from n ps (leaving l (case_views (drop i cs))) → now ≡ all
-cases_done n ps l cs i all now b h = sym (h ∙ ap (λ vs. now ++ targets_from n ps (leaving l (case_views vs))) (drop_end cs i b) ∙ append-none now)
+cases_done n ps l cs i all now b h = sym (h ∙ ap (λ vs. now ++ targets_from n ps (leaving l (case_views vs))) (drop_end cs i b) ∙ append-nil now)
   where
     drop_end : {A : Type 0} (xs : List A) (i : ℕ) → length xs ≤ i → drop i xs ≡ []
     drop_end [] zero l = refl
@@ -222,9 +181,6 @@ pub record ArePiecesLeft (n : ℕ) (c : LinearCase) (all rest : List Piece) : Ty
   pub wide : (column : ℕ) → IsFirstWideInto n c column rest → IsFirstWideInto n c column all
   pub fits : All (AreMadeInto n c) rest → All (AreMadeInto n c) all
 
-pub pieces_left : (n : ℕ) (c : LinearCase) (ps : List Piece) → ArePiecesLeft n c ps ps
-pieces_left n c ps = record { wide = λ column h. h; fits = λ h. h }
-
 pub piece_left : (n : ℕ) (c : LinearCase) (ps : List Piece) (i : ℕ) (p : Piece) → slice_get ps i ≡ Some p → AreMadeInto n c p → ArePiecesLeft n c ps (drop i ps) → ArePiecesLeft n c ps (drop (i + 1) ps)
 piece_left n c ps i p g made h =
     let k = subst (ArePiecesLeft n c ps) (get_drop ps i p g) h in
@@ -237,13 +193,10 @@ pub piece_wide : (n : ℕ) (c : LinearCase) (ps : List Piece) (i : ℕ) (p : Pie
 piece_wide n c ps i p g h column w = (subst (ArePiecesLeft n c ps) (get_drop ps i p g) h).wide column (into_this p (drop (i + 1) ps) w)
 
 pub pieces_fit : (n : ℕ) (c : LinearCase) (ps : List Piece) (i : ℕ) → slice_get ps i ≡ None → ArePiecesLeft n c ps (drop i ps) → All (AreMadeInto n c) ps
-pieces_fit n c ps i g h = h.fits (subst (All (AreMadeInto n c)) (sym (drop_past ps i g)) (All-nil (AreMadeInto n c)))
+pieces_fit n c ps i g h = h.fits (subst (All (AreMadeInto n c)) (sym (none_left ps i g)) (All-nil (AreMadeInto n c)))
 
 pub record AreCasesLeft (n : ℕ) (ps : List Piece) (all rest : List LinearCase) : Type 0 where
   pub wide : (column : ℕ) → IsFirstWideFrom n ps column rest → IsFirstWideFrom n ps column all
-
-pub cases_left : (n : ℕ) (ps : List Piece) (cases : List LinearCase) → AreCasesLeft n ps cases cases
-cases_left n ps cases = record { wide = λ column h. h }
 
 leaving_here : (l : ℕ) (cs : List Case) (i : ℕ) (c : Case) → i < length cs → c ≡ get_or cs i c → c.from ≡ l → leaving l (case_views (drop i cs)) ≡ case_view c ∷ leaving l (case_views (drop (i + 1) cs))
 leaving_here l cs i c b e from = ap (leaving l) (views_drop cs i c b e) ∙ ap (λ t. cond t (case_view c ∷ leaving l (case_views (drop (i + 1) cs))) (leaving l (case_views (drop (i + 1) cs)))) (test_true c.from l from)

@@ -1,21 +1,18 @@
 -- Numbers that have 128 bits, and places.
-use Rattle.std.proofs.Common.{FitsSigned, ◌≡◌, ℕ, zero, suc, ◌+◌, ◌<◌, ◌≤◌, ◌^◌, List, [], ◌∷◌, ◌++◌, length, take, get_or, All, arith, refl, sym, ap, ◌∙◌, subst, ℤ, pos, ◌-ℤ◌, unsigned_abs, Option, None, Some, slice_get, Bool, cond, true, false, ◌==◌, ◌⊎◌, inl, inr}
+use Rattle.std.proofs.Common.{FitsSigned, ◌≡◌, ℕ, zero, suc, ◌+◌, ◌<◌, ◌≤◌, ◌^◌, List, [], ◌∷◌, ◌++◌, length, take, All, arith, refl, sym, ap, ◌∙◌, subst, ℤ, pos, ◌-ℤ◌, unsigned_abs, Option, None, Some, slice_get, Bool, cond, true, false, ◌==◌, ◌⊎◌, inl, inr}
 use Rattle.std.specs.Int.{w128}
 use Rattle.std.specs.Prelude.{Contains}
 use Rattle.std.specs.List.{filter}
-use Rattle.std.proofs.Math.Seq.{take-suc}
 use Rattle.std.proofs.lemmas.Int.{ints, fits_signed_from_abs}
 use Rattle.std.proofs.lemmas.Option.{slice_get_within, get_or_from_slice_get, slice_get_read}
 use Rattle.std.proofs.lemmas.List.Elements.{filter_passes}
 use Rattle.tv_simplex.specs.Outcomes.{IsShort}
 use Rattle.tv_linear.specs.Linear.{columns}
 use Rattle.tv_linear.specs.declared.region.Piece.{Piece}
-use Rattle.tv_linear.proofs.ListLaws.{take_past, true_test, test_true}
-use Rattle.tv_cases.specs.declared.case.Case.{Case}
+use Rattle.tv_linear.proofs.ListLaws.{take_past, true_test, test_true, take_more}
 use Rattle.tv_cases.specs.LinearCases.{LinearCase, IsCase, from_of, leaving}
-use Rattle.tv_cases.specs.Views.{case_view, case_views}
-use Rattle.tv_cases.proofs.LeavingLemmas.{none_more}
 use Rattle.tv_choice.specs.Leading.{place_of, pieces_at, piece_rows}
+use Rattle.tv_places.proofs.PlaceLemmas.{past_end}
 
 pub less_fits : (z : ℤ) → IsShort z → FitsSigned w128 (z -ℤ pos 1)
 less_fits z h = fits_signed_from_abs w128 (z -ℤ pos 1) (let l : unsigned_abs (z -ℤ pos 1) < 2 ^ 127 = omega (arith, ints, h) in l)
@@ -38,27 +35,16 @@ place_fits ps l k p few e = (let a = piece_within ps l k p e in let b = fewer_at
 -- what holds of the pieces at the places below one past the last holds of each
 pub all_below : {A : Type 0} (P : A → Type 0) (xs : List A) (k : ℕ) → slice_get xs k ≡ None → ((j : ℕ) (x : A) → j < k → slice_get xs j ≡ Some x → P x) → (x : A) → Contains xs x → P x
 all_below P xs k e h x c =
-    let m = none_more xs k e in
+    let m = past_end xs k e in
     h c.0 x (let l = c.1 in omega (arith, m, l)) (slice_get_read xs (length xs) c.0 x refl c.1 (sym c.2))
 
-last_or_below : (j k : ℕ) → j < k + 1 → (j ≡ k) ⊎ (j < k)
+pub last_or_below : (j k : ℕ) → j < k + 1 → (j ≡ k) ⊎ (j < k)
 last_or_below j k h = grind arith
 
 some_same : {A : Type 0} (x y : A) → ◌≡◌ {A = Option A} (Some x) (Some y) → x ≡ y
 some_same x y e = cc
 
-pub one_below : {A : Type 0} (P : A → Type 0) (xs : List A) (k : ℕ) (x : A) → slice_get xs k ≡ Some x → P x → ((j : ℕ) (y : A) → j < k → slice_get xs j ≡ Some y → P y) → (j : ℕ) (y : A) → j < k + 1 → slice_get xs j ≡ Some y → P y
-one_below P xs k x e p h j y l g = elim (last_or_below j k l) [
-  | inl same ↦ subst P (some_same x y (sym e ∙ (ap (λ i. slice_get xs i) (sym same) ∙ g))) p
-  | inr below ↦ h j y below g
-]
-
 -- ---- cases
-pub case_at : (cs : List Case) (i : ℕ) (c : Case) → i < length cs → c ≡ get_or cs i c → slice_get (case_views cs) i ≡ Some (case_view c)
-case_at [] i c l e = absurd (omega (arith, l))
-case_at (d ∷ cs) zero c l e = ap (λ x. Some (case_view x)) (sym e)
-case_at (d ∷ cs) (suc i) c l e = case_at cs i c (omega (arith, l)) e
-
 pub is_case : (v m : ℕ) (cases : List LinearCase) (i : ℕ) (c : LinearCase) → All (IsCase v m) cases → slice_get cases i ≡ Some c → IsCase v m c
 is_case v m cases i c h e = subst (IsCase v m) (get_or_from_slice_get cases i c c e) (h i c (slice_get_within cases i c e))
 
@@ -80,11 +66,8 @@ contains_last (z ∷ xs) x y (suc k, l, e) = later (contains_last xs x y (k, ome
     later (inl s) = inl s
     later (inr c) = inr (suc c.0, (let l' = c.1 in omega (arith, l')), c.2)
 
-pub take_suc_some : {A : Type 0} (xs : List A) (i : ℕ) (x : A) → slice_get xs i ≡ Some x → take (i + 1) xs ≡ take i xs ++ x ∷ []
-take_suc_some xs i x e = ap (λ k. take k xs) (let g : i + 1 ≡ suc i = omega arith in g) ∙ take-suc xs i x (slice_get_within xs i x e) ∙ ap (λ y. take i xs ++ y ∷ []) (get_or_from_slice_get xs i x x e)
-
 pub contains_more : {A : Type 0} (xs : List A) (i : ℕ) (x y : A) → slice_get xs i ≡ Some x → Contains (take (i + 1) xs) y → (x ≡ y) ⊎ Contains (take i xs) y
-contains_more xs i x y e c = contains_last (take i xs) x y (subst (λ k. Contains k y) (take_suc_some xs i x e) c)
+contains_more xs i x y e c = contains_last (take i xs) x y (subst (λ k. Contains k y) (take_more xs i x e) c)
 
 pub contains_all : {A : Type 0} (xs : List A) (i : ℕ) (y : A) → length xs ≤ i → Contains xs y → Contains (take i xs) y
 contains_all xs i y l c = subst (λ k. Contains k y) (sym (take_past xs i l)) c

@@ -5,7 +5,7 @@ use Rattle.tv_linear.specs.Linear.{Linear}
 use Rattle.tv_linear.specs.Arithmetic.{denial}
 use Rattle.tv_linear.specs.Known.{as_given}
 use Rattle.tv_linear.specs.Refutation.{Refutes}
-use Rattle.tv_linear.proofs.ListLaws.{take_past}
+use Rattle.tv_linear.proofs.ListLaws.{take_past, take_next}
 use Rattle.tv_farkas.specs.Paths.{TakenOnce}
 use Rattle.tv_farkas.specs.Judging.{IsPointAt, IsJudgeFault}
 use Rattle.tv_farkas.specs.declared.fault.CoverFault.{CoverFault}
@@ -26,7 +26,6 @@ use Rattle.tv_choice.specs.ChoicePaths.{IsWayRows}
 use Rattle.tv_choice.specs.Refusals.{IsTried, tried}
 use Rattle.tv_choice.specs.Looking.{IsWayRow, IsLookFault, ShowsRow, AreShown, IsAt, AreEntered, IsOpen, NoneShown, IsBest, IsOpened, IsLook, IsOneMore}
 use Rattle.tv_choice.specs.Ways.{way_rows, IsWay, IsUnmade}
-use Rattle.tv_choice.proofs.WayLemmas.{take_more}
 use Rattle.tv_choice.proofs.FitLemmas.{contains_last}
 
 -- ---- points
@@ -85,7 +84,7 @@ shown_push n rows (q ∷ owed) (l ∷ lists) r ms h g = (h.0, shown_push n rows 
 
 pub shown_more : (n : ℕ) (rows owed : List Linear) (i : ℕ) (r : Linear) (old new : List (List ℤ)) (ms : List ℤ) → i < length owed → r ≡ get_or owed i r → new ≡ old ++ ms ∷ [] → ShowsRow n rows r ms → AreShown n rows (take i owed) old → AreShown n rows (take (i + 1) owed) new
 shown_more n rows owed i r old new ms l e en g h =
-    subst (λ os. AreShown n rows os new) (sym (take_more owed i r l e)) (subst (λ ls. AreShown n rows (take i owed ++ r ∷ []) ls) (sym en) (shown_push n rows (take i owed) old r ms h g))
+    subst (λ os. AreShown n rows os new) (sym (take_next owed i r l e)) (subst (λ ls. AreShown n rows (take i owed ++ r ∷ []) ls) (sym en) (shown_push n rows (take i owed) old r ms h g))
 
 -- ---- one more way
 at_longer : {A : Type 0} (xs : List A) (x y : A) (i : ℕ) → IsAt xs i y → IsAt (xs ++ x ∷ []) i y
@@ -153,7 +152,7 @@ length-take_all (x ∷ xs) (suc i) l = ap suc (length-take_all xs i (omega (arit
 
 -- ---- lists of rows
 pub entered_next : (n : ℕ) (rows owed : List Linear) (i : ℕ) (r : Linear) → i < length owed → r ≡ get_or owed i r → AreEntered n rows (r ∷ []) → AreEntered n rows (take i owed) → AreEntered n rows (take (i + 1) owed)
-entered_next n rows owed i r l e one h s c = elim (contains_last (take i owed) r s (subst (λ rs. Contains rs s) (take_more owed i r l e) c)) [
+entered_next n rows owed i r l e one h s c = elim (contains_last (take i owed) r s (subst (λ rs. Contains rs s) (take_next owed i r l e) c)) [
   | inl same ↦ one s (0, omega arith, same)
   | inr before ↦ h s before
 ]

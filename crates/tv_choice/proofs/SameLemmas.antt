@@ -1,5 +1,5 @@
 -- Denials of rows, and rows that are shown, by rows with the same numbers.
-use Rattle.std.proofs.Common.{◌≡◌, ℕ, ◌<◌, ◌≤◌, ◌^◌, List, [], ◌∷◌, ◌++◌, get_or, None, Some, arith, sym, ap, ◌∙◌, subst, ℤ, pos, neg_ℤ, ◌-ℤ◌, unsigned_abs, ◌⊎◌, inl, inr}
+use Rattle.std.proofs.Common.{◌≡◌, ℕ, ◌<◌, ◌≤◌, ◌^◌, List, [], ◌∷◌, ◌++◌, get_or, None, Some, arith, sym, ap, ◌∙◌, subst, ℤ, pos, neg_ℤ, ◌-ℤ◌, unsigned_abs, inl, inr}
 use Rattle.std.proofs.lemmas.List.{get_or_past, get_or_default}
 use Rattle.tv_linear.specs.Linear.{Linear, columns}
 use Rattle.tv_linear.specs.Arithmetic.{denial}
@@ -13,15 +13,14 @@ use Rattle.tv_farkas.specs.Stretching.{AreSides}
 use Rattle.tv_farkas.proofs.SideLemmas.{get_or-neg}
 use Rattle.tv_choice.specs.Same.{AreKnown}
 use Rattle.tv_choice.specs.Looking.{AreShown}
+use Rattle.tv_cases.proofs.BeforeLemmas.{narrow_held}
+use Rattle.std.proofs.lemmas.Bool.{cases_lt}
 
 -- ---- denials
 
-inside_or_past : (j n : ℕ) → (j < n) ⊎ (n ≤ j)
-inside_or_past j n = grind arith
-
 -- the numbers of a narrow row
 pub small_number : (r : Linear) → ((column : ℕ) → column ≤ columns r → IsNarrowAt r column) → (j : ℕ) → unsigned_abs (get_or r.coefficients j (pos 0)) < 2 ^ 62
-small_number r h j = elim (inside_or_past j (columns r)) [
+small_number r h j = elim (cases_lt j (columns r)) [
   | inl l ↦ subst (λ z. unsigned_abs z < 2 ^ 62) (get_or_default r.coefficients j r.constant (pos 0) l) (h j (omega (arith, l)))
   | inr p ↦ subst (λ z. unsigned_abs z < 2 ^ 62) (sym (get_or_past r.coefficients j (pos 0) p)) (omega arith)
 ]
@@ -29,15 +28,12 @@ small_number r h j = elim (inside_or_past j (columns r)) [
 pub small_constant : (r : Linear) → ((column : ℕ) → column ≤ columns r → IsNarrowAt r column) → unsigned_abs r.constant < 2 ^ 62
 small_constant r h = subst (λ z. unsigned_abs z < 2 ^ 62) (get_or_past r.coefficients (columns r) r.constant (omega arith)) (h (columns r) (omega arith))
 
-short_held : (z : ℤ) → unsigned_abs z < 2 ^ 62 → IsHeld z
-short_held z h = omega (arith, h)
-
 pub denied_same : (n : ℕ) (r : Linear) (k : Known) → SameNumbers n (given r) k → ((column : ℕ) → column ≤ columns (denial r) → IsNarrowAt (denial r) column) → SameNumbers n (given (denial r)) (denied k)
 denied_same n r k h narrow = record {
   inner = λ j l. inner_is j l;
   constant = constant_is;
-  inner_held = λ j l g. (h.inner_held j l tt, subst (λ z. IsHeld z) (sym (inner_is j l)) (short_held (get_or (denial r).coefficients j (pos 0)) (small_number (denial r) narrow j)));
-  constant_held = λ g. (h.constant_held tt, subst (λ z. IsHeld z) (sym constant_is) (short_held (denial r).constant (small_constant (denial r) narrow)));
+  inner_held = λ j l g. (h.inner_held j l tt, subst (λ z. IsHeld z) (sym (inner_is j l)) (narrow_held (get_or (denial r).coefficients j (pos 0)) (small_number (denial r) narrow j)));
+  constant_held = λ g. (h.constant_held tt, subst (λ z. IsHeld z) (sym constant_is) (narrow_held (denial r).constant (small_constant (denial r) narrow)));
 }
   where
     inner_is : (j : ℕ) → j < n → known_number (denied k) (Some j) ≡ known_number (given (denial r)) (Some j)

@@ -4,10 +4,10 @@ use Rattle.std.specs.Prelude.{Contains}
 use Rattle.std.specs.Global.{Global}
 use Rattle.std.specs.Option.{option_map}
 use Rattle.std.proofs.lemmas.Int.{ints}
-use Rattle.std.proofs.lemmas.List.{length-map}
+use Rattle.std.proofs.lemmas.List.{length-map, map-append}
 use Rattle.std.proofs.lemmas.Option.{slice_get_within, get_or_from_slice_get}
 use Rattle.std.proofs.lemmas.List.Elements.{All-nil, All-cons, All-head, All-tail, All-push, All-contains, All-contains_itself, Contains-append_left}
-use Rattle.tv_linear.specs.Linear.{Linear, columns, value, IsMet, IsNarrow, scaled_value}
+use Rattle.tv_linear.specs.Linear.{Linear, columns, value, IsMet, scaled_value}
 use Rattle.tv_linear.specs.Arithmetic.{denial}
 use Rattle.tv_linear.specs.Known.{Known, given, denied, as_given, term_value}
 use Rattle.tv_linear.specs.Terms.{terms_after}
@@ -49,7 +49,8 @@ use Rattle.tv_choice.specs.Settling.{IsTreeAt, IsHoleAt, IsSplitOf, IsTakeOf, Is
 use Rattle.tv_choice.proofs.SameLemmas.{known_more, shown_same}
 use Rattle.tv_choice.proofs.PieceLemmas.{piece_got}
 use Rattle.tv_choice.proofs.FitLemmas.{contains_filter, place_fits}
-use Rattle.tv_choice.proofs.WayLemmas.{map-append, put_met, met_before}
+use Rattle.tv_choice.proofs.WayLemmas.{put_met, met_before}
+use Rattle.tv_shape.proofs.NumberLemmas.{narrow_count, rows_narrow}
 
 -- ---- rows and denials
 met_or_not : (z : ℤ) → (z ≤ℤ pos 0) ⊎ (z ≤ℤ pos 0 → ⊥)
@@ -148,15 +149,6 @@ shown_short n rows [] (ms ∷ lists) h = absurd h
 shown_short n rows (r ∷ owed) [] h = absurd h
 shown_short n rows (r ∷ owed) (ms ∷ lists) h = All-cons (λ (l : Vec ℤ Global). AreNarrow l.items) ms lists (short_all ms.items h.0.short) (shown_short n rows owed lists h.1)
 
-narrow_rows : (rows : List Linear) → All IsNarrow rows → All RowNarrow rows
-narrow_rows [] h = All-nil RowNarrow
-narrow_rows (r ∷ rows) h =
-    let a = All-head IsNarrow r rows h in
-    All-cons RowNarrow r rows record { coefficients = a.coefficients; constant = a.constant } (narrow_rows rows (All-tail IsNarrow r rows h))
-
-small_count : (k : ℕ) → k < 2 ^ 32 → CountNarrow k
-small_count k h = omega (arith, h)
-
 fewer_pieces : (ps : List Piece) (l k : ℕ) (p : Piece) → length ps < 2 ^ 32 → slice_get (pieces_at ps l) k ≡ Some p → k < 2 ^ 32
 fewer_pieces ps l k p few e = (let a = place_fits ps l k p few e in omega (arith, a))
 
@@ -236,10 +228,10 @@ module _ (n : ℕ) (q : Query) where
         (subst (λ i. TakeShape n q.location (region_owes n q.pieces) (length rows) (slice_get q.system.cases w.taken) w.target 0 w.draws.items (map (λ x. x.items) i.items)) (sym el)
         (way_shaped rows w (map (λ x. x.items) all.items) h s)))));
     narrow = (
-      subst CountNarrow (sym et) (small_count w.taken (let l = slice_get_within q.system.cases w.taken h.case h.found in omega (arith, l, few))),
-      subst CountNarrow (sym eg) (small_count w.target (fewer_pieces q.pieces h.case.to w.target h.piece pieces h.enters)),
-      subst CountNarrow (sym ef) (small_count 0 (omega arith)),
-      subst (All RowNarrow) (sym ed) (narrow_rows w.draws.items en),
+      subst CountNarrow (sym et) (narrow_count w.taken (let l = slice_get_within q.system.cases w.taken h.case h.found in omega (arith, l, few))),
+      subst CountNarrow (sym eg) (narrow_count w.target (fewer_pieces q.pieces h.case.to w.target h.piece pieces h.enters)),
+      subst CountNarrow (sym ef) (narrow_count 0 (omega arith)),
+      subst (All RowNarrow) (sym ed) (rows_narrow w.draws.items en),
       subst (λ i. ListsNarrow i.items) (sym el) (shown_short n rows (way_rows w) all.items s),
     );
     none = λ xs p hole. hole.none (way_leads n q rows w xs h p.width (shown_met n rows (way_rows w) (map (λ x. x.items) all.items) xs s p));

@@ -27,6 +27,7 @@ use Rattle.tv_choice.specs.Looking.{AreEntered}
 use Rattle.tv_choice.specs.Settling.{AreHalves}
 use Rattle.tv_choice.proofs.SameLemmas.{small_number, small_constant}
 use Rattle.tv_choice.proofs.SettleLemmas.{denial_met, row_met}
+use Rattle.std.proofs.Math.IntN.{neg_ℤ-neg_ℤ}
 
 -- ---- the numbers of the second side
 opposite_held : (z : ℤ) → unsigned_abs z < 2 ^ 62 → IsHeld (neg_ℤ z)
@@ -35,16 +36,13 @@ opposite_held z h = omega (arith, ints, h)
 less_held : (z : ℤ) → unsigned_abs z < 2 ^ 62 → IsHeld (pos 1 -ℤ z)
 less_held z h = omega (arith, ints, h)
 
-neg_twice : (z : ℤ) → neg_ℤ (neg_ℤ z) ≡ z
-neg_twice z = omega (arith, ints)
-
 less_twice : (z : ℤ) → pos 1 -ℤ (pos 1 -ℤ z) ≡ z
 less_twice z = omega (arith, ints)
 
 -- a row has the numbers of its denial's denial
 row_opposite : (w : ℕ) (row : Linear) → IsNarrowRow (denial row) → SameNumbers w (given row) (denied (given (denial row)))
 row_opposite w row narrow = record {
-  inner = λ j l. ap neg_ℤ (get_or-neg row.coefficients j) ∙ neg_twice (get_or row.coefficients j (pos 0));
+  inner = λ j l. ap neg_ℤ (get_or-neg row.coefficients j) ∙ neg_ℤ-neg_ℤ (get_or row.coefficients j (pos 0));
   constant = less_twice row.constant;
   inner_held = λ j l g. (tt, opposite_held (get_or (denial row).coefficients j (pos 0)) (small_number (denial row) narrow j));
   constant_held = λ g. (tt, less_held (denial row).constant (small_constant (denial row) narrow));

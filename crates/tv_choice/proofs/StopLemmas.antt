@@ -2,7 +2,7 @@
 use Rattle.std.proofs.Common.{◌≡◌, ℕ, zero, suc, ◌+◌, ◌<◌, ◌≤◌, ◌^◌, List, [], ◌∷◌, ◌++◌, length, map, take, drop, get_or, All, IsTrue, arith, refl, sym, ap, ◌∙◌, subst, ℤ, pos, unsigned_abs, length-append}
 use Rattle.std.specs.Prelude.{Contains}
 use Rattle.std.specs.List.{AllZip}
-use Rattle.std.proofs.lemmas.List.{length-map}
+use Rattle.std.proofs.lemmas.List.{length-map, take-append-drop}
 use Rattle.std.proofs.lemmas.List.Elements.{All-nil, All-cons, All-append}
 use Rattle.tv_linear.specs.Linear.{Linear, columns, IsMet, IsNarrow}
 use Rattle.tv_linear.specs.Known.{Known, given, denied, as_given, term_value}
@@ -32,10 +32,10 @@ use Rattle.tv_linear.specs.Same.{AreSame}
 use Rattle.tv_linear.proofs.SameLemmas.{cover_same, same_append, are_same_then, all_same}
 use Rattle.tv_linear.proofs.KnownLemmas.{as_given-append}
 use Rattle.tv_linear.proofs.PaddedLemmas.{padded_same, padded_met, met_padded}
-use Rattle.tv_linear.proofs.ListLaws.{length-front, front_back, length-back, all_front, all_back}
+use Rattle.tv_linear.proofs.ListLaws.{length-front, length-back, all_front, all_back}
 
 -- ---- trees without targets
-one_more : (known : List Known) (x : Known) (count : ℕ) → length known ≡ count → length (known ++ x ∷ []) ≡ count + 1
+pub one_more : (known : List Known) (x : Known) (count : ℕ) → length known ≡ count → length (known ++ x ∷ []) ≡ count + 1
 one_more known x count e = length-append known (x ∷ []) ∙ ap (λ m. m + 1) e
 
 pub cover_shape : (n count : ℕ) (known : List Known) (tree : CoverTree) → length known ≡ count → IsMetCover n no_target known tree → TreeRows (λ r. columns r ≡ n) tree → CoverShape n (owed_count no_target) count tree
@@ -169,7 +169,7 @@ leading n q rows c zs xs stop among from h e = subst (IsLeading n q rows) (sym e
         leaves = sym from;
         enters = refl;
         drawn = length-back n c.draws zs h.size;
-        guards = subst (λ ys. All (IsMet ys) c.guards) (sym (front_back n zs)) h.guards;
+        guards = subst (λ ys. All (IsMet ys) c.guards) (sym (take-append-drop n zs)) h.guards;
         gives = refl;
       };
     };

@@ -1,15 +1,15 @@
 -- Terms for draws at a whole point.
-use Rattle.std.proofs.Common.{◌≡◌, ◌⊎◌, inl, inr, ℕ, zero, suc, ◌+◌, ◌<◌, List, [], ◌∷◌, ◌++◌, length, map, take, drop, get_or, All, arith, refl, sym, ap, ◌∙◌, subst, ℤ, pos, neg_ℤ, ◌+ℤ◌, ◌*ℤ◌, length-append}
+use Rattle.std.proofs.Common.{◌≡◌, inl, inr, ℕ, zero, suc, ◌+◌, ◌<◌, List, [], ◌∷◌, ◌++◌, length, map, take, drop, get_or, All, arith, refl, sym, ap, ◌∙◌, subst, ℤ, pos, neg_ℤ, ◌+ℤ◌, length-append}
 use Rattle.std.specs.Prelude.{Result, Ok, Err, IfOk}
 use Rattle.std.proofs.lemmas.Int.{ints}
 use Rattle.std.proofs.lemmas.List.{length-map}
 use Rattle.tv_linear.specs.Linear.{Linear, columns, dot, value}
 use Rattle.tv_linear.specs.Arithmetic.{unit, constant_row}
 use Rattle.tv_linear.proofs.PlainLists.{length-zeros}
-use Rattle.tv_linear.proofs.RowValues.{value-constant_row}
-use Rattle.tv_linear.proofs.PaddedLemmas.{dot-zeros}
-use Rattle.tv_linear.proofs.ListLaws.{length-back}
+use Rattle.tv_linear.proofs.RowValues.{value-constant_row, dot-zeros, dot-opposite}
+use Rattle.tv_linear.proofs.ListLaws.{length-back, length-front}
 use Rattle.tv_choice.specs.ChoicePaths.{GivesAlone, IsTermAt, number, tight, AreTermsAt}
+use Rattle.tv_choice.proofs.FitLemmas.{last_or_below}
 
 -- ---- what a row gives
 dot-front : (n : ℕ) (cs zs : List ℤ) → dot cs zs ≡ dot (take n cs) (take n zs) +ℤ dot (drop n cs) (drop n zs)
@@ -21,14 +21,6 @@ dot-front (suc n) (c ∷ cs) [] = dot-none (drop n cs)
     dot-none [] = refl
     dot-none (c ∷ cs) = refl
 dot-front (suc n) (c ∷ cs) (z ∷ zs) = (let h = dot-front n cs zs in omega (arith, ints, h))
-
-dot-opposite : (cs xs : List ℤ) → dot (map neg_ℤ cs) xs ≡ neg_ℤ (dot cs xs)
-dot-opposite [] xs = refl
-dot-opposite (a ∷ cs) [] = refl
-dot-opposite (a ∷ cs) (x ∷ xs) =
-    let product : neg_ℤ a *ℤ x ≡ neg_ℤ (a *ℤ x) = grind (arith, ints) in
-    let later = dot-opposite cs xs in
-    omega (arith, ints, product, later)
 
 dot-unit : (d j : ℕ) (ds : List ℤ) → length ds ≡ d → j < d → dot (unit d j) ds ≡ get_or ds j (pos 0)
 dot-unit zero j ds e l = absurd (omega (arith, l))
@@ -60,14 +52,9 @@ term_value_is : (n d : ℕ) (rows : List Linear) (zs : List ℤ) (j : ℕ) (t : 
 term_value_is n d rows zs j t e l number = value-constant_row n (get_or zs (n + j) (pos 0)) (take n zs)
 term_value_is n d rows zs j t e l (tight r s among g v) = alone_value n d r j s zs e l g v
 
-length-take_front : (n d : ℕ) (xs : List ℤ) → length xs ≡ n + d → length (take n xs) ≡ n
-length-take_front zero d xs e = refl
-length-take_front (suc n) d [] e = absurd (omega (arith, e))
-length-take_front (suc n) d (x ∷ xs) e = ap suc (length-take_front n d xs (omega (arith, e)))
-
 alone_even : (n d : ℕ) (r : Linear) (j : ℕ) (t : Linear) → columns r ≡ n + d → GivesAlone n d r j t → columns t ≡ n
-alone_even n d r j t e (inl (part, is)) = ap columns is ∙ length-map (take n r.coefficients) neg_ℤ ∙ length-take_front n d r.coefficients e
-alone_even n d r j t e (inr (part, is)) = ap columns is ∙ length-take_front n d r.coefficients e
+alone_even n d r j t e (inl (part, is)) = ap columns is ∙ length-map (take n r.coefficients) neg_ℤ ∙ length-front n d r.coefficients e
+alone_even n d r j t e (inr (part, is)) = ap columns is ∙ length-front n d r.coefficients e
 
 term_even : (n d : ℕ) (rows : List Linear) (zs : List ℤ) (j : ℕ) (t : Linear) → All (λ r. columns r ≡ n + d) rows → IsTermAt n d rows zs j t → columns t ≡ n
 term_even n d rows zs j t h number = length-zeros n
@@ -99,12 +86,6 @@ terms_values n d rows zs draws e t = same_lists (map (λ t. value t (take n zs))
 pub record AreTermsTo (n d : ℕ) (rows : List Linear) (zs : List ℤ) (count : ℕ) (draws : List Linear) : Type 0 where
   pub many : length draws ≡ count
   pub each : (j : ℕ) (other : Linear) → j < count → IsTermAt n d rows zs j (get_or draws j other)
-
-pub terms_none : (n d : ℕ) (rows : List Linear) (zs : List ℤ) (draws : List Linear) → draws ≡ [] → AreTermsTo n d rows zs 0 draws
-terms_none n d rows zs draws e = record { many = ap length e; each = λ j other l. absurd (omega (arith, l)) }
-
-last_or_below : (j k : ℕ) → j < k + 1 → (j ≡ k) ⊎ (j < k)
-last_or_below j k h = grind arith
 
 get_or-last : (xs : List Linear) (x other : Linear) → get_or (xs ++ x ∷ []) (length xs) other ≡ x
 get_or-last [] x other = refl

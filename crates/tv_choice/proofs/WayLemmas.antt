@@ -1,11 +1,10 @@
 -- Rows of cases, and ways made of them.
-use Rattle.std.proofs.Common.{◌≡◌, ℕ, zero, suc, ◌+◌, ◌-◌, ◌<◌, ◌≤◌, List, [], ◌∷◌, ◌++◌, length, map, get_or, take, drop, drop-cons, All, Some, arith, refl, sym, ap, ◌∙◌, subst, ℤ, pos, neg_ℤ, ◌+ℤ◌, ◌-ℤ◌, ◌≤ℤ◌, length-append, append_assoc, ◌⊎◌, inl, inr}
-use Rattle.std.proofs.Math.Seq.{take-suc}
+use Rattle.std.proofs.Common.{◌≡◌, ℕ, zero, suc, ◌+◌, ◌-◌, ◌<◌, ◌≤◌, List, [], ◌∷◌, ◌++◌, length, map, get_or, take, drop, drop-cons, All, Some, arith, refl, sym, ap, ◌∙◌, subst, ℤ, pos, ◌+ℤ◌, ◌-ℤ◌, ◌≤ℤ◌, length-append, append_assoc, ◌⊎◌, inl, inr}
 use Rattle.std.specs.Prelude.{slice_get, Result, Ok, Err, IfOk}
 use Rattle.std.specs.Result.{IfErr}
 use Rattle.std.proofs.lemmas.Option.{slice_get_read, slice_get_within, get_or_from_slice_get}
 use Rattle.std.proofs.lemmas.Int.{ints}
-use Rattle.std.proofs.lemmas.List.{length-map, get_or_past}
+use Rattle.std.proofs.lemmas.List.{get_or_past, map-append, append-nil, take-append-drop}
 use Rattle.std.proofs.lemmas.List.Elements.{All-nil, All-cons, All-head, All-tail, All-push, All-append}
 use Rattle.tv_linear.specs.Linear.{Linear, columns, value, IsMet, IsWithin, IsNarrow}
 use Rattle.tv_linear.specs.Arithmetic.{unit, column_row, composed as composed_row}
@@ -22,7 +21,7 @@ use Rattle.tv_linear.proofs.RowValues.{value-column_row, value-denial, value-com
 use Rattle.tv_linear.specs.Same.{SameNumbers, AreSame}
 use Rattle.tv_linear.proofs.SameLemmas.{all_same, same_push}
 use Rattle.tv_linear.proofs.KnownLemmas.{as_given-append}
-use Rattle.tv_linear.proofs.ListLaws.{front_back, all_back, all_front}
+use Rattle.tv_linear.proofs.ListLaws.{all_back, all_front, take_next}
 use Rattle.tv_farkas.specs.Paths.{at_most_row, at_least_row, IsWholePoint}
 use Rattle.tv_farkas.specs.Unmade.{IsUnmadeBy}
 use Rattle.tv_cases.specs.EdgeCases.{columns_from}
@@ -39,23 +38,15 @@ use Rattle.tv_choice.specs.Leading.{Query, pieces_at, piece_rows}
 use Rattle.tv_choice.specs.ChoicePaths.{AreDrawTerms, IsWayIn}
 use Rattle.tv_choice.specs.Ways.{AreCaseRows, AreComposed, IsWayOf, IsWay, IsUnmade}
 use Rattle.tv_choice.proofs.ComposeLemmas.{drawn_terms, put_drawn, length-put_terms}
+use Rattle.tv_cases.proofs.SameSteps.{front-get_or}
+use Rattle.tv_cover.proofs.HalfLemmas.{length-neg}
 
 -- ---- lists
 pub next_of : (j : ℕ) → j + 1 ≡ suc j
 next_of j = omega arith
 
-pub take_more : {A : Type 0} (xs : List A) (i : ℕ) (x : A) → i < length xs → x ≡ get_or xs i x → take (i + 1) xs ≡ take i xs ++ x ∷ []
-take_more xs i x l e = ap (λ k. take k xs) (next_of i) ∙ take-suc xs i x l ∙ ap (λ y. take i xs ++ y ∷ []) (sym e)
-
 pub drop_more : {A : Type 0} (xs : List A) (i : ℕ) (x : A) → i < length xs → x ≡ get_or xs i x → drop i xs ≡ x ∷ drop (i + 1) xs
 drop_more xs i x l e = drop-cons xs i x l ∙ (λ j. sym e j ∷ drop (sym (next_of i) j) xs)
-
-pub map-append : {A B : Type 0} (f : A → B) (xs ys : List A) → map f (xs ++ ys) ≡ map f xs ++ map f ys
-map-append f [] ys = refl
-map-append f (x ∷ xs) ys = ap (λ zs. f x ∷ zs) (map-append f xs ys)
-
-pub at_of : {A : Type 0} (P : A → Type 0) (xs : List A) (i : ℕ) (x : A) → All P xs → i < length xs → x ≡ get_or xs i x → P x
-at_of P xs i x h l e = subst P (sym e) (h i x l)
 
 -- ---- narrow rows
 all_map : (P Q : Linear → Type 0) (xs : List Linear) → ((x : Linear) → P x → Q x) → All P xs → All Q xs
@@ -100,9 +91,6 @@ fixing_more w column values v rows one new a b l e ea eb eo en h =
     ∙ ap (λ rs. rs ++ b ∷ fixes w (column + 1) (drop (column + 1) values)) (sym eo)
     ∙ sym (append_assoc one (b ∷ []) (fixes w (column + 1) (drop (column + 1) values)))
     ∙ ap (λ rs. rs ++ fixes w (column + 1) (drop (column + 1) values)) (sym en)
-
-length-neg : (xs : List ℤ) → length (map neg_ℤ xs) ≡ length xs
-length-neg xs = length-map xs neg_ℤ
 
 pub fixes_even : (w column : ℕ) (xs : List ℤ) → All (λ r. columns r ≡ w) (fixes w column xs)
 fixes_even w column [] = All-nil (λ r. columns r ≡ w)
@@ -152,24 +140,13 @@ same_front [] zs l h = refl
 same_front (x ∷ xs) [] l h = absurd (omega (arith, l))
 same_front (x ∷ xs) (z ∷ zs) l h = (λ i. h 0 (omega arith) i ∷ same_front xs zs (omega (arith, l)) (λ j k. h (suc j) (omega (arith, k))) i)
 
-pub get_or_front : (xs ds : List ℤ) (j : ℕ) → j < length xs → get_or (xs ++ ds) j (pos 0) ≡ get_or xs j (pos 0)
-get_or_front [] ds j l = absurd (omega (arith, l))
-get_or_front (x ∷ xs) ds zero l = refl
-get_or_front (x ∷ xs) ds (suc j) l = get_or_front xs ds j (omega (arith, l))
-
--- ---- padded rows
-
 -- ---- the rows of a case
-append_none : {A : Type 0} (xs : List A) → xs ++ [] ≡ xs
-append_none [] = refl
-append_none (x ∷ xs) = ap (λ ys. x ∷ ys) (append_none xs)
-
 given_guards : (n : ℕ) (c : LinearCase) → as_given c.guards ++ map (case_change n c) [] ≡ as_given c.guards
-given_guards n c = append_none (as_given c.guards)
+given_guards n c = append-nil (as_given c.guards)
 
 pub case_rows_none : (n : ℕ) (c : LinearCase) (rows : List Linear) → All (λ r. columns r ≡ n + c.draws) c.guards → All IsNarrow c.guards → rows ≡ c.guards → AreCaseRows n c [] rows
 case_rows_none n c rows even narrow e = subst (λ rs. AreCaseRows n c [] rs) (sym e) record {
-  exact = sym (append_none c.guards);
+  exact = sym (append-nil c.guards);
   even = even;
   narrow = all_map IsNarrow IsNarrowRow c.guards narrow_at narrow;
   seen = subst (λ ks. AreSame (n + c.draws) (as_given c.guards) ks) (sym (given_guards n c)) (all_same (n + c.draws) (as_given c.guards));
@@ -192,7 +169,7 @@ composed_wide rows terms i r all column l e h w = record { place = i; row = r; f
 -- one more row
 pub case_rows_more : (n : ℕ) (c : LinearCase) (owed : List Linear) (i : ℕ) (r s : Linear) (rows new : List Linear) → i < length owed → r ≡ get_or owed i r → columns r ≡ n → All (λ u. columns u.term ≡ n + c.draws) c.updates → s ≡ before r c → ((column : ℕ) → column ≤ columns (before r c) → FitsTerms (columns r + c.draws) r (rows_after r c) column) → new ≡ rows ++ s ∷ [] → AreCaseRows n c (take i owed) rows → AreCaseRows n c (take (i + 1) owed) new
 case_rows_more n c owed i r s rows new l e wide us same fits en h =
-    subst (λ os. AreCaseRows n c os new) (sym (take_more owed i r l e)) (subst (λ rs. AreCaseRows n c (take i owed ++ r ∷ []) rs) (sym (en ∙ ap (λ x. rows ++ x ∷ []) same)) record {
+    subst (λ os. AreCaseRows n c os new) (sym (take_next owed i r l e)) (subst (λ rs. AreCaseRows n c (take i owed ++ r ∷ []) rs) (sym (en ∙ ap (λ x. rows ++ x ∷ []) same)) record {
       exact = ap (λ rs. rs ++ before r c ∷ []) h.exact ∙ append_assoc c.guards (map (λ q. before q c) (take i owed)) (before r c ∷ []) ∙ ap (λ rs. c.guards ++ rs) (sym (map-append (λ q. before q c) (take i owed) (r ∷ [])));
       even = All-push (λ q. columns q ≡ n + c.draws) rows (before r c) h.even (before_even n c r wide us fits);
       narrow = All-push IsNarrowRow rows (before r c) h.narrow (λ column l. (fits column l).narrow);
@@ -208,7 +185,7 @@ case_rows_more n c owed i r s rows new l e wide us same fits en h =
 pub made_more : (n : ℕ) (c : LinearCase) (owed : List Linear) (i : ℕ) (r s : Linear) (rows new : List Linear) → i < length owed → r ≡ get_or owed i r → columns r ≡ n → All (λ u. columns u.term ≡ n + c.draws) c.updates → s ≡ before r c → ((column : ℕ) → column ≤ columns (before r c) → FitsTerms (columns r + c.draws) r (rows_after r c) column) → new ≡ rows ++ s ∷ [] → AreMade n c (take i owed) rows → AreMade n c (take (i + 1) owed) new
 made_more n c owed i r s rows new l e wide us same fits en h = record {
   are = case_rows_more n c owed i r s rows new l e wide us same fits en h.are;
-  fits = subst (All Fits) (sym (take_more owed i r l e)) (All-push Fits (take i owed) r h.fits fits);
+  fits = subst (All Fits) (sym (take_next owed i r l e)) (All-push Fits (take i owed) r h.fits fits);
 }
   where
     Fits : Linear → Type 0
@@ -225,7 +202,7 @@ columns_more n column terms new l e h =
 
 pub composed_more : (rows terms : List Linear) (i : ℕ) (r s : Linear) (all new : List Linear) → i < length rows → r ≡ get_or rows i r → s ≡ composed_row r terms → ((column : ℕ) → column ≤ columns (composed_row r terms) → FitsComposed r terms column) → new ≡ all ++ s ∷ [] → AreComposed (take i rows) terms all → AreComposed (take (i + 1) rows) terms new
 composed_more rows terms i r s all new l e same fits en h =
-    subst (λ rs. AreComposed rs terms new) (sym (take_more rows i r l e)) record {
+    subst (λ rs. AreComposed rs terms new) (sym (take_next rows i r l e)) record {
       exact = en ∙ (λ j. h.exact j ++ same j ∷ []) ∙ sym (map-append (λ q. composed_row q terms) (take i rows) (r ∷ []));
       fits = All-push (λ q. (column : ℕ) → column ≤ columns (composed_row q terms) → FitsComposed q terms column) (take i rows) r h.fits fits;
     }
@@ -363,7 +340,7 @@ pub asked_met : (n : ℕ) (c : LinearCase) (owed rows : List Linear) (xs ds : Li
 asked_met n c owed rows xs ds h even e d guards met = record {
   width = long;
   met = All-append (IsMet (xs ++ ds)) (fixes (n + c.draws) 0 xs) rows
-      (fixes_met (n + c.draws) 0 xs (xs ++ ds) long (λ j l. ap (λ k. get_or (xs ++ ds) k (pos 0)) (let g : 0 + j ≡ j = omega arith in g) ∙ get_or_front xs ds j l))
+      (fixes_met (n + c.draws) 0 xs (xs ++ ds) long (λ j l. ap (λ k. get_or (xs ++ ds) k (pos 0)) (let g : 0 + j ≡ j = omega arith in g) ∙ front-get_or xs ds j l))
       (subst (λ rs. All (IsMet (xs ++ ds)) rs) (sym h.exact) (All-append (IsMet (xs ++ ds)) c.guards (map (λ r. before r c) owed) guards (before_met n c owed xs ds even e d met)));
 }
   where
@@ -375,7 +352,7 @@ answered n d rows xs zs e p =
     let f = fixes_equal (n + d) 0 xs zs p.width (all_front (IsMet zs) (fixes (n + d) 0 xs) rows p.met) in
     let w = p.width in
     let t = same_front xs zs (omega (arith, e, w)) (λ j l. ap (λ k. get_or zs k (pos 0)) (let g : j ≡ 0 + j = omega arith in g) ∙ f j l) in
-    sym (front_back n zs) ∙ ap (λ ys. ys ++ drop n zs) (ap (λ k. take k zs) (sym e) ∙ t)
+    sym (take-append-drop n zs) ∙ ap (λ ys. ys ++ drop n zs) (ap (λ k. take k zs) (sym e) ∙ t)
 
 pub answered_front : (n d : ℕ) (rows : List Linear) (xs zs : List ℤ) → length xs ≡ n → IsWholePoint (n + d) (fixes (n + d) 0 xs ++ rows) zs → take n zs ≡ xs
 answered_front n d rows xs zs e p = ap (λ k. take k zs) (sym e) ∙ ap (take (length xs)) (answered n d rows xs zs e p) ∙ take_all xs (drop n zs)

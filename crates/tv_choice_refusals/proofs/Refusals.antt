@@ -28,22 +28,12 @@ use Rattle.tv_derived.specs.Derived.{IsDerived, IsMade, IsDrawTerm, IsListed, Ar
 use Rattle.tv_derived.specs.Faults.{IsWideStep, IsUnsolvedList, number as wide_number, before_case, put_terms as put_wide}
 use Rattle.tv_derived.specs.Laws.{IsTargetSplit}
 use Rattle.tv_derived.proofs.Carried.{monotone}
-use Rattle.tv_derived.proofs.Steps.{listed_over}
+use Rattle.tv_derived.proofs.Steps.{listed_over, with_none, none_more}
 use Rattle.tv_derived.proofs.Listing.{one_more, handed_list, path_listed, point_split, goes_on, target_listed}
 use Rattle.tv_choice_refusals.specs.Choices.{asked_of, ChoiceRefuses}
 
 found_among : (rows : List Linear) (k : ℕ) (r : Linear) → slice_get rows k ≡ Some r → Contains rows r
 found_among rows k r e = (k, slice_get_within rows k r e, get_or_from_slice_get rows k r r e)
-
-with_none : (r : Linear) → with_more r [] ≡ r
-with_none r = ap (λ cs. linear cs r.constant) (append-none r.coefficients)
-  where
-    append-none : (xs : List ℤ) → xs ++ [] ≡ xs
-    append-none [] = refl
-    append-none (x ∷ xs) = ap (λ ys. x ∷ ys) (append-none xs)
-
-none_more : (n : ℕ) → n + 0 ≡ n
-none_more n = omega arith
 
 -- ---- the row that gives a term for a draw
 -- a row over n columns and one more

@@ -1,8 +1,6 @@
 -- A cover without targets shows that rows have no whole point.
-use Rattle.std.proofs.Common.{◌≡◌, inl, inr, ℕ, zero, suc, List, [], ◌∷◌, ◌++◌, map, Option, None, Some, Vec, arith, refl, ap, ◌∙◌, subst, ℤ, slice_get}
+use Rattle.std.proofs.Common.{◌≡◌, inl, inr, ℕ, zero, suc, List, [], ◌∷◌, ◌++◌, Option, None, Some, Vec, arith, ap, ◌∙◌, subst, ℤ, slice_get}
 use Rattle.tv_linear.specs.Linear.{Linear, columns}
-use Rattle.tv_linear.specs.Known.{Known, given, denied}
-use Rattle.tv_linear.specs.Covers.{no_target, IsMetCover, ShownAt}
 use Rattle.tv_linear.specs.declared.cover.CoverTree.{CoverTree, Split', Empty, Into}
 use Rattle.tv_farkas.specs.declared.branch.Branch.{Branch}
 use Rattle.tv_farkas.specs.declared.fault.CoverFault.{CoverFault}
@@ -10,10 +8,10 @@ use Rattle.tv_farkas.specs.declared.fault.CoverFault.TheVariants.{Splits, Solve,
 use Rattle.tv_farkas.specs.Trees.{TreeRows}
 use Rattle.tv_farkas.specs.Paths.{TakenOnce, IsPointSplit, SplitsAt, rows_after}
 use Rattle.tv_farkas.specs.EmptyPaths.{IsEmptyPath, IsEmptyFault, IsWholePointOf}
-use Rattle.tv_farkas.proofs.PathLemmas.{append-nil}
-use Rattle.tv_cover.specs.Targets.{IsInTarget, IsTargetRow, owed_lists}
+use Rattle.tv_cover.specs.Targets.{IsInTarget, IsTargetRow}
 use Rattle.tv_cover.specs.CoverPaths.{SplitsBy, IsCoverPath}
 use Rattle.tv_cover.specs.Covering.{IsPointAfter, IsSplitRow, IsOneMore, IsCoverFault}
+use Rattle.std.proofs.lemmas.List.{append-nil}
 
 -- no row is one of a target, and no point lies in one
 no_row : (r : Linear) → IsTargetRow [] r → ⊥
@@ -62,17 +60,6 @@ whole_point n rows xs h = record {
   point = h.point;
   whole = h.whole;
 }
-
-none_owed : (k j : ℕ) → owed_lists [] k j ≡ no_target k j
-none_owed zero zero = refl
-none_owed (suc k) zero = refl
-none_owed k (suc j) = refl
-
-pub without_targets : (n : ℕ) (known : List Known) (tree : CoverTree) → IsMetCover n (owed_lists []) known tree → IsMetCover n no_target known tree
-without_targets n known (Split' r p holds q fails) h =
-    (without_targets n (known ++ given r ∷ []) holds h.0, without_targets n (known ++ denied (given r) ∷ []) fails h.1)
-without_targets n known (Empty ms) h = h
-without_targets n known (Into target fall lists) h = subst (λ o. ShownAt n known o (map (λ l. l.items) lists.items)) (none_owed target fall) h
 
 pub even_splits : (n : ℕ) (tree : CoverTree) → TreeRows (IsSplitRow n []) tree → TreeRows (λ r. columns r ≡ n) tree
 even_splits n (Split' r p holds q fails) h = (h.0.even, even_splits n holds h.1, even_splits n fails h.2)

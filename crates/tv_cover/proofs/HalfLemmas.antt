@@ -18,13 +18,12 @@ use Rattle.tv_farkas.specs.Halving.{Keeps, ArePointSides}
 use Rattle.tv_cover.specs.Halving.{IsBare, AreRowSides}
 use Rattle.tv_cover.specs.Stepping.{AreHalves}
 use Rattle.tv_cover.proofs.PointLemmas.{point_above, point_front, open_above, shut_above, denied_new, met_new}
+use Rattle.tv_farkas.proofs.SystemLemmas.{get_or-past}
+use Rattle.std.proofs.Math.IntN.{neg_ℤ-neg_ℤ}
 
-length-neg : (xs : List ℤ) → length (map neg_ℤ xs) ≡ length xs
+pub length-neg : (xs : List ℤ) → length (map neg_ℤ xs) ≡ length xs
 length-neg [] = refl
 length-neg (x ∷ xs) = ap suc (length-neg xs)
-
-neg_twice : (z : ℤ) → neg_ℤ (neg_ℤ z) ≡ z
-neg_twice z = omega (arith, ints)
 
 -- ---- a row and its denial
 pub narrow_inner : (cs : List ℤ) (k : ℤ) → ((column : ℕ) → column ≤ length cs → unsigned_abs (get_or cs column k) < 2 ^ 62) → (j : ℕ) → unsigned_abs (get_or cs j (pos 0)) < 2 ^ 62
@@ -32,15 +31,10 @@ narrow_inner [] k h j = omega arith
 narrow_inner (c ∷ cs) k h zero = h 0 (omega arith)
 narrow_inner (c ∷ cs) k h (suc j) = narrow_inner cs k (λ i l. h (suc i) (omega (arith, l))) j
 
-pub get_or-past : (xs : List ℤ) (i : ℕ) (d : ℤ) → length xs ≤ i → get_or xs i d ≡ d
-get_or-past [] i d h = refl
-get_or-past (x ∷ xs) zero d h = absurd (omega arith)
-get_or-past (x ∷ xs) (suc i) d h = get_or-past xs i d (omega arith)
-
 -- the row has the numbers of its denial's denial
 row_side : (n : ℕ) (row : Linear) → IsNarrowRow (denial row) → IsSide n row (denied (given (denial row)))
 row_side n row narrow = record {
-  inner = λ j l. ap neg_ℤ (get_or-neg row.coefficients j) ∙ neg_twice (get_or row.coefficients j (pos 0));
+  inner = λ j l. ap neg_ℤ (get_or-neg row.coefficients j) ∙ neg_ℤ-neg_ℤ (get_or row.coefficients j (pos 0));
   constant = twice row.constant;
   held = held;
 }

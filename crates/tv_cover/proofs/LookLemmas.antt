@@ -1,13 +1,12 @@
-use Rattle.std.proofs.Common.{All, Global, ◌≡◌, ◌⊎◌, inr, ℕ, suc, ◌+◌, ◌<◌, List, [], ◌∷◌, ◌++◌, take, length, get_or, map, Bool, true, false, Option, None, Some, Vec, arith, refl, sym, ap, ◌∙◌, subst, ℤ, pos, ◌≤ℤ◌, IsTrue, ◌↔◌, MatchBool, MatchOption}
+use Rattle.std.proofs.Common.{All, Global, ◌≡◌, ◌⊎◌, inr, ℕ, ◌+◌, ◌<◌, List, [], ◌∷◌, ◌++◌, take, length, get_or, map, Bool, true, false, Option, None, Some, Vec, refl, sym, ap, ◌∙◌, subst, ℤ, pos, ◌≤ℤ◌, IsTrue, ◌↔◌, MatchBool, MatchOption}
 use Rattle.std.specs.List.{Contains}
-use Rattle.std.proofs.Math.Seq.{take-suc}
 use Rattle.std.proofs.lemmas.Option.{slice_get-get_or}
 use Rattle.std.proofs.lemmas.List.Elements.{All-nil, All-cons, All-push, All-get_or}
 use Rattle.tv_linear.specs.Linear.{Linear, scaled_value, IsScaledPoint}
 use Rattle.tv_linear.specs.Arithmetic.{denial}
 use Rattle.tv_linear.specs.Known.{as_given}
 use Rattle.tv_linear.specs.Refutation.{Refutes}
-use Rattle.tv_linear.proofs.ListLaws.{all_front}
+use Rattle.tv_linear.proofs.ListLaws.{all_front, take_next}
 use Rattle.tv_farkas.specs.declared.refuted.Refuted.{Refuted}
 use Rattle.tv_farkas.specs.declared.refuted.Refuted.TheVariants.{Empty, Point}
 use Rattle.tv_farkas.specs.declared.fault.CoverFault.{CoverFault}
@@ -59,10 +58,6 @@ other_place_fault wide more n lists old new pivots (faults.Wide column) e f h = 
 other_place_fault wide more n lists old new pivots faults.Memory e f h = tt
 other_place_fault wide more n lists old new pivots (faults.Solve rows fault) e f h = subst (λ k. ((rows.items ≡ k) ⊎ IsOneMoreOf lists k rows.items) × IsSystemFault n rows.items pivots fault) e h
 
--- want of memory may come at each place
-pub memory_fault : (wide : ℕ → Type 0) (n : ℕ) (lists : List (List Linear)) (kept : List Linear) (pivots : ℕ) (fault : CoverFault) → fault ≡ faults.Memory → IsPlaceFault wide n lists kept pivots fault
-memory_fault wide n lists kept pivots fault e = subst (λ f. IsPlaceFault wide n lists kept pivots f) (sym e) tt
-
 -- ---- targets, row by row
 pub showing_short : (n : ℕ) (marks : List Bool) (kept target : List Linear) (lists : List (List ℤ)) → AreShowing n marks kept target lists → All AreShort lists
 showing_short n marks kept [] [] h = All-nil AreShort
@@ -81,9 +76,6 @@ showing_more n marks kept [] [] row numbers h g = (g, tt)
 showing_more n marks kept [] (ms ∷ lists) row numbers h g = absurd h
 showing_more n marks kept (r ∷ target) [] row numbers h g = absurd h
 showing_more n marks kept (r ∷ target) (ms ∷ lists) row numbers h g = (h.0, showing_more n marks kept target lists row numbers h.1 g)
-
-pub one_more_item : {A : Type 0} (rows : List A) (i : ℕ) (r : A) → i < length rows → r ≡ get_or rows i r → take (i + 1) rows ≡ take i rows ++ r ∷ []
-one_more_item rows i r l e = (let g : i + 1 ≡ suc i = omega arith in ap (λ k. take k rows) g) ∙ take-suc rows i r l ∙ ap (λ x. take i rows ++ x ∷ []) (sym e)
 
 -- ---- what the solver says of the rows and one more
 pub refuted_with : (n : ℕ) (kept : List Linear) (copy row : Linear) (refuted : Refuted) (ms : Vec ℤ Global) → copy ≡ row → refuted ≡ Empty ms → IsRefutedWith n kept copy refuted → Refutes n (as_given (kept ++ row ∷ [])) ms.items
@@ -146,7 +138,7 @@ pub shown_more : (n : ℕ) (marks : List Bool) (old mid new : List Linear) (poin
 shown_more n marks old mid new points after target i row lists more last h looked s l e g = record {
   looked = looked_again n old mid new after h.looked.same looked;
   shown = subst (λ k. AreShowing n marks old (take (i + 1) target) k) (sym (ap (λ k. map (λ v. v.items) k) g ∙ items_more lists last))
-      (subst (λ t. AreShowing n marks old t (map (λ v. v.items) lists ++ last.items ∷ [])) (sym (one_more_item target i row l e))
+      (subst (λ t. AreShowing n marks old t (map (λ v. v.items) lists ++ last.items ∷ [])) (sym (take_next target i row l e))
       (showing_more n marks old (take i target) (map (λ v. v.items) lists) row last.items h.shown (subst (λ k. IsShowing n marks k row last.items) h.looked.same s)));
 }
 
@@ -156,7 +148,7 @@ entered_none n rows points h = record { looked = looked_none n rows points h; en
 pub entered_more : (n : ℕ) (old mid new : List Linear) (points after : List Witness) (target : List Linear) (i : ℕ) (row : Linear) → EnteredTo n old mid points (take i target) → IsLookedAt n mid new after → HasPoint n (mid ++ row ∷ []) → i < length target → row ≡ get_or target i row → EnteredTo n old new after (take (i + 1) target)
 entered_more n old mid new points after target i row h looked p l e = record {
   looked = looked_again n old mid new after h.looked.same looked;
-  entered = subst (λ t. AreEntered n old t) (sym (one_more_item target i row l e)) (All-push (λ r. HasPoint n (old ++ r ∷ [])) (take i target) row h.entered (subst (λ k. HasPoint n (k ++ row ∷ [])) h.looked.same p));
+  entered = subst (λ t. AreEntered n old t) (sym (take_next target i row l e)) (All-push (λ r. HasPoint n (old ++ r ∷ [])) (take i target) row h.entered (subst (λ k. HasPoint n (k ++ row ∷ [])) h.looked.same p));
 }
 
 -- the rows before a place are shown

@@ -23,7 +23,7 @@ use Rattle.tv_farkas.specs.Paths.{TakenOnce, first, IsWholePoint, rows_after}
 use Rattle.tv_farkas.specs.Stretching.{IsTakenBy, stretched, IsSide, AreSides, IsSplitOf, rows_of}
 use Rattle.tv_farkas.proofs.StretchLemmas.{stretched_refutes}
 use Rattle.tv_farkas.proofs.TakenLemmas.{all_taken}
-use Rattle.tv_farkas.proofs.PathLemmas.{append-nil, after_is, after_more, path_more, rows_more}
+use Rattle.tv_farkas.proofs.PathLemmas.{after_is, after_more, path_more, rows_more}
 use Rattle.tv_farkas.proofs.SideLemmas.{given_side, given_sides, sides_more, get_or-neg, popped, whole_met}
 use Rattle.tv_cover.specs.declared.covering.Place.{Place}
 use Rattle.tv_cover.specs.declared.covering.Found.{Found}
@@ -38,12 +38,12 @@ use Rattle.tv_cover.specs.Stepping.{IsLeaf, IsHoleAt, AreHalves}
 use Rattle.tv_cover.specs.Searching.{Searches, SearchesAt, IsTreeOf, IsSideTree, IsHoleFound, IsFound, IsSideFound, MaySplit, IsSearched}
 use Rattle.tv_cover.proofs.PointLemmas.{all_kept, point_above, point_kept, point_with}
 use Rattle.tv_cover.proofs.LookLemmas.{showing_short}
-use Rattle.tv_cover.proofs.HalfLemmas.{narrow_inner, get_or-past}
+use Rattle.tv_cover.proofs.HalfLemmas.{narrow_inner}
+use Rattle.std.proofs.lemmas.List.{append-nil}
+use Rattle.tv_farkas.proofs.SystemLemmas.{get_or-past}
+use Rattle.std.proofs.lemmas.Option.{same_Some}
 
 -- ---- a target that is entered
-same_some : {A : Type 0} (x y : A) → Some x ≡ Some y → x ≡ y
-same_some x y e = cc
-
 in_target : (lists : List (List Linear)) (k j : ℕ) (rows : List Known) (xs : List ℤ) → owed_lists lists k j ≡ Some rows → All (IsKnownMet xs) rows → IsInTarget lists xs
 in_target [] k zero rows xs e h = cc
 in_target [] k (suc j) rows xs e h = cc
@@ -51,7 +51,7 @@ in_target (l ∷ lists) k (suc j) rows xs e h = cc
 in_target (l ∷ lists) zero zero rows xs e h = record {
   rows = l;
   target = (0, omega arith, refl);
-  met = (met-as_given xs l).1 (subst (λ ks. All (IsKnownMet xs) ks) (sym (same_some (as_given l) rows e)) h);
+  met = (met-as_given xs l).1 (subst (λ ks. All (IsKnownMet xs) ks) (sym (same_Some (as_given l) rows e)) h);
 }
 in_target (l ∷ lists) (suc k) zero rows xs e h =
     let t = in_target lists k zero rows xs e h in record {

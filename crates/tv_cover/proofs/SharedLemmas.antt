@@ -8,14 +8,15 @@ use Rattle.tv_linear.specs.Known.{number, known_number, as_given, KnownHeld}
 use Rattle.tv_linear.specs.Refutation.{RowsHeld, column_sum, Refutes}
 use Rattle.tv_linear.proofs.PlainLists.{length-unit, unit-narrow}
 use Rattle.tv_simplex.proofs.Ring.{zero_times}
-use Rattle.tv_farkas.proofs.SystemLemmas.{length-map, at_of}
+use Rattle.tv_farkas.proofs.SystemLemmas.{at_of, get_or-past}
 use Rattle.tv_farkas.proofs.StretchLemmas.{stretched_short}
 use Rattle.tv_farkas.specs.Refuting.{AreShort}
 use Rattle.tv_farkas.proofs.SideLemmas.{get_or-neg}
 use Rattle.tv_farkas.specs.Stretching.{stretched}
 use Rattle.tv_cover.specs.Targets.{IsNarrowRow}
 use Rattle.tv_cover.specs.Looking.{IsShowing}
-use Rattle.tv_cover.proofs.HalfLemmas.{narrow_inner, get_or-past}
+use Rattle.tv_cover.proofs.HalfLemmas.{narrow_inner}
+use Rattle.std.proofs.lemmas.List.{length-map}
 
 -- ---- the sums
 zeros_sum : (column : Option ℕ) (kept : List Linear) (last : Linear) → column_sum (zeros (length kept) ++ pos 1 ∷ []) (as_given (kept ++ last ∷ [])) column ≡ number column last
@@ -79,7 +80,7 @@ module _ (column : Option ℕ) where
       )
 
 -- ---- a row and its denial refute each other
-zeros_signs : (n : ℕ) → All (λ m. pos 0 ≤ℤ m) (zeros n)
+pub zeros_signs : (n : ℕ) → All (λ m. pos 0 ≤ℤ m) (zeros n)
 zeros_signs zero = All-nil (λ m. pos 0 ≤ℤ m)
 zeros_signs (suc n) = All-cons (λ m. pos 0 ≤ℤ m) (pos 0) (zeros n) (omega (arith, ints)) (zeros_signs n)
 
@@ -99,7 +100,7 @@ pair_refutes n kept i row l e narrow = record {
 }
   where
     count : length (unit (length kept) i ++ pos 1 ∷ []) ≡ length (as_given (kept ++ denial row ∷ []))
-    count = counts (length (unit (length kept) i)) (length kept) (length-append (unit (length kept) i) (pos 1 ∷ [])) (length-unit (length kept) i) (length-map _ (kept ++ denial row ∷ [])) (length-append kept (denial row ∷ []))
+    count = counts (length (unit (length kept) i)) (length kept) (length-append (unit (length kept) i) (pos 1 ∷ [])) (length-unit (length kept) i) (length-map (kept ++ denial row ∷ []) _) (length-append kept (denial row ∷ []))
       where
         counts : {x y z : ℕ} (a b : ℕ) → x ≡ a + 1 → a ≡ b → y ≡ z → z ≡ b + 1 → x ≡ y
         counts a b p q s t = omega (arith, p, q, s, t)

@@ -5,8 +5,7 @@ use Rattle.std.proofs.lemmas.Option.{slice_get-get_or, get_or_from_slice_get, sl
 use Rattle.tv_linear.specs.Linear.{Linear, columns}
 use Rattle.tv_linear.specs.Arithmetic.{denial}
 use Rattle.tv_linear.specs.declared.region.Poly.{Poly}
-use Rattle.tv_linear.proofs.ListLaws.{last_or_below}
-use Rattle.tv_farkas.proofs.SystemLemmas.{length-map}
+use Rattle.tv_linear.proofs.ListLaws.{last_or_below, take_next, contains_at}
 use Rattle.tv_cover.specs.declared.witness.Witness.{Witness}
 use Rattle.tv_cover.specs.Targets.{AreEven, HasPoint, IsTargetRow, IsNarrowRow, lists_of}
 use Rattle.tv_cover.specs.CoverPaths.{IsShut, IsLeftOpen}
@@ -16,7 +15,8 @@ use Rattle.tv_cover.specs.Trying.{IsOpenAt, IsOpenTarget, IsWideIn, IsWideAt}
 use Rattle.tv_cover.specs.Looking.{AreWitnesses, IsLookedAt, AreEntered}
 use Rattle.tv_cover.specs.Stepping.{AreOpenTargets, MayEnter, AreHalves}
 use Rattle.tv_cover.proofs.HalfLemmas.{row_halves}
-use Rattle.tv_cover.proofs.LookLemmas.{looked_none, looked_again, one_more_item}
+use Rattle.tv_cover.proofs.LookLemmas.{looked_none, looked_again}
+use Rattle.std.proofs.lemmas.List.{length-map}
 
 -- ---- the rows of a target
 get_or-lists : (targets : List Poly) (i : ℕ) (p : Poly) → i < length targets → get_or (lists_of targets) i p.rows.items ≡ (get_or targets i p).rows.items
@@ -26,12 +26,12 @@ get_or-lists (t ∷ targets) (suc i) p l = get_or-lists targets i p (omega (arit
 
 pub list_at : (targets : List Poly) (i : ℕ) (p : Poly) (rows : List Linear) → i < length targets → rows ≡ (get_or targets i p).rows.items → slice_get (lists_of targets) i ≡ Some rows
 list_at targets i p rows l g =
-    slice_get-get_or (lists_of targets) i p.rows.items (let h = length-map (λ (t : Poly). t.rows.items) targets in omega (arith, h, l))
+    slice_get-get_or (lists_of targets) i p.rows.items (let h = length-map targets (λ (t : Poly). t.rows.items) in omega (arith, h, l))
     ∙ ap Some (get_or-lists targets i p l ∙ sym g)
 
 pub list_among : (targets : List Poly) (i : ℕ) (p : Poly) (rows : List Linear) → i < length targets → rows ≡ (get_or targets i p).rows.items → Contains (lists_of targets) rows
 list_among targets i p rows l g =
-    let h = length-map (λ (t : Poly). t.rows.items) targets in
+    let h = length-map targets (λ (t : Poly). t.rows.items) in
     subst (λ k. Contains (lists_of targets) k) (get_or-lists targets i p l ∙ sym g) (Contains-get_or (lists_of targets) i p.rows.items (omega (arith, h, l)))
 
 pub list_even : (n : ℕ) (targets : List Poly) (rows : List Linear) → All (AreEven n) (lists_of targets) → Contains (lists_of targets) rows → AreEven n rows
@@ -82,11 +82,11 @@ shut_none n rows points h = record { looked = looked_none n rows points h; shut 
 pub shut_more : (n : ℕ) (lists : List (List Linear)) (old mid new : List Linear) (points after : List Witness) (number : ℕ) (target : List Linear) → ShutTo n old mid points (take number lists) → IsLookedAt n mid new after → IsShut n mid target → number < length lists → target ≡ get_or lists number target → ShutTo n old new after (take (number + 1) lists)
 shut_more n lists old mid new points after number target h looked s l e = record {
   looked = looked_again n old mid new after h.looked.same looked;
-  shut = subst (λ t. All (IsShut n old) t) (sym (one_more_item lists number target l e)) (All-push (IsShut n old) (take number lists) target h.shut (subst (λ k. IsShut n k target) h.looked.same s));
+  shut = subst (λ t. All (IsShut n old) t) (sym (take_next lists number target l e)) (All-push (IsShut n old) (take number lists) target h.shut (subst (λ k. IsShut n k target) h.looked.same s));
 }
 
 pub list_count : (targets : List Poly) → length (lists_of targets) ≡ length targets
-list_count targets = length-map (λ (t : Poly). t.rows.items) targets
+list_count targets = length-map targets (λ (t : Poly). t.rows.items)
 
 pub list_same : (targets : List Poly) (i : ℕ) (p : Poly) (rows : List Linear) → i < length targets → rows ≡ (get_or targets i p).rows.items → rows ≡ get_or (lists_of targets) i rows
 list_same targets i p rows l g = read (lists_of targets) i rows (list_at targets i p rows l g)
@@ -102,16 +102,10 @@ all_of_take P zero (x ∷ xs) l h = absurd (omega (arith, l))
 all_of_take P (suc k) (x ∷ xs) l h = All-cons P x xs (All-head P x (take k xs) h) (all_of_take P k xs (omega (arith, l)) (All-tail P x (take k xs) h))
 
 -- ---- splits at a row
-contains_at : {A : Type 0} (xs : List A) (i : ℕ) (x : A) → slice_get xs i ≡ Some x → Contains xs x
-contains_at xs i x e = (i, slice_get_within xs i x e, get_or_from_slice_get xs i x x e)
-
-get_at : {A : Type 0} (xs : List A) (i : ℕ) (x d : A) → slice_get xs i ≡ Some x → get_or xs i d ≡ x
-get_at xs i x d e = get_or_from_slice_get xs i x d e
-
 pub all_open : (n : ℕ) (lists : List (List Linear)) (kept : List Linear) (places : List ℕ) → AreOpenTargets n lists kept places → All (IsLeftOpen n kept) lists
 all_open n lists kept places h = All-from_get_or (IsLeftOpen n kept) lists [] (λ k l.
     let o = h.each k l in
-    subst (IsLeftOpen n kept) (sym (get_at lists k o.target [] o.found)) (o.here.row, contains_at o.target (get_or places k 0) o.here.row o.here.found, o.here.point))
+    subst (IsLeftOpen n kept) (sym (get_or_from_slice_get lists k o.target [] o.found)) (o.here.row, contains_at o.target (get_or places k 0) o.here.row o.here.found, o.here.point))
 
 -- the row where the target at the number is open
 pub record EntersAt (n : ℕ) (lists : List (List Linear)) (kept : List Linear) (number : ℕ) (places : List ℕ) : Type 0 where
@@ -150,7 +144,7 @@ entered_row targets n kept number places p row e r =
     let c = list_count targets in
     let i = e.number_within in
     let same : (get_or targets number p).rows.items ≡ e.target = same_Some (get_or targets number p).rows.items e.target (sym (list_at targets number p (get_or targets number p).rows.items (omega (arith, c, i)) refl) ∙ e.found) in
-    r ∙ ap (λ xs. get_or xs (get_or places number 0) row) same ∙ get_at e.target (get_or places number 0) e.row row e.at
+    r ∙ ap (λ xs. get_or xs (get_or places number 0) row) same ∙ get_or_from_slice_get e.target (get_or places number 0) e.row row e.at
 
 pub row_step : (n : ℕ) (lists : List (List Linear)) (kept : List Linear) (number : ℕ) (places : List ℕ) (row : Linear) (halves : Halves) → All (AreEven n) lists → MayEnter n lists kept number places → (e : EntersAt n lists kept number places) → row ≡ e.row → AreRowSides row halves → AreHalves n lists kept halves
 row_step n lists kept number places row halves even h e same s =

@@ -1,7 +1,6 @@
 -- the rows that a cover solves and splits at are derived
 use Rattle.std.proofs.Common.{◌≡◌, ◌⊎◌, inl, inr, ℕ, zero, suc, ◌≤◌, List, [], ◌∷◌, ◌++◌, length, refl, sym, subst, arith}
-use Rattle.std.specs.Prelude.{Option, Some, None, Vec, ℤ, Ok, slice_get}
-use Rattle.std.proofs.lemmas.Option.{slice_get_within, get_or_from_slice_get}
+use Rattle.std.specs.Prelude.{Option, Some, None, Vec, ℤ, Ok}
 use Rattle.std.specs.List.{Contains}
 use Rattle.tv_linear.specs.Linear.{Linear}
 use Rattle.tv_linear.specs.Arithmetic.{denial}
@@ -10,7 +9,6 @@ use Rattle.tv_farkas.specs.declared.branch.Branch.{Branch}
 use Rattle.tv_farkas.specs.declared.fault.CoverFault.{CoverFault}
 use Rattle.tv_farkas.specs.declared.fault.CoverFault.TheVariants.{Splits, Solve, Wide, Memory}
 use Rattle.tv_farkas.specs.Paths.{rows_after}
-use Rattle.tv_farkas.proofs.PathLemmas.{append-nil}
 use Rattle.tv_cover.specs.Targets.{IsInTarget, IsTargetRow, IsNarrowRow}
 use Rattle.tv_cover.specs.CoverPaths.{IsSplit, SplitsBy}
 use Rattle.tv_cover.specs.Covering.{IsCoverFault, IsRowOrDenial, IsOneMore}
@@ -22,9 +20,8 @@ use Rattle.tv_derived.specs.Laws.{IsTargetSplit}
 use Rattle.tv_derived.proofs.CaseMade.{known, put}
 use Rattle.tv_derived.proofs.Listing.{one_of, one_more, handed_list, path_listed, point_split, target_listed}
 use Rattle.tv_cover_refusals.specs.Covers.{IsSpentOnTargets, CoverRefusesCase}
-
-found_among : {X : Type 0} (xs : List X) (k : ℕ) (x : X) → slice_get xs k ≡ Some x → Contains xs x
-found_among xs k x e = (k, slice_get_within xs k x e, get_or_from_slice_get xs k x x e)
+use Rattle.std.proofs.lemmas.List.{append-nil}
+use Rattle.tv_linear.proofs.ListLaws.{contains_at}
 
 module _ (about : CaseSystem) (base : List Placed) (f : Scope) (h : ℕ) (lists : List (List Linear)) (into : (target : List Linear) → Contains lists target → AreDerived about base f h target) where
   target_split : (row q : Linear) → IsTargetRow lists q → (row ≡ q) ⊎ ((row ≡ denial q) × IsNarrowRow (denial q)) → IsTargetSplit about base f h row
@@ -64,8 +61,8 @@ module _ (about : CaseSystem) (base : List Placed) (f : Scope) (h : ℕ) (lists 
   )
   refusal many rows pivots splits (Wide column) are few is =
       let at = is.wide.here in
-      let target = found_among lists is.wide.number is.wide.target is.wide.found in
-      number f (denial at.row) (denied at.row (into is.wide.target target at.row (found_among is.wide.target at.place at.row at.found))) at.wide.inside at.wide.wide
+      let target = contains_at lists is.wide.number is.wide.target is.wide.found in
+      number f (denial at.row) (denied at.row (into is.wide.target target at.row (contains_at is.wide.target at.place at.row at.found))) at.wide.inside at.wide.wide
   refusal many rows pivots splits Memory are few is = tt
 
 -- ---- the cover that shows that a case keeps a row

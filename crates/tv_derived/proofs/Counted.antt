@@ -12,6 +12,7 @@ use Rattle.tv_cases.proofs.Listed.{Contains-none}
 use Rattle.tv_derived.specs.Scopes.{Scope, Placed}
 use Rattle.tv_derived.specs.Derived.{IsDerived, IsMade, coefficient, handed, never, guard, made, longer, shorter, settled, denied, tightened, composed, added, taken_off, cancelled, drawn}
 use Rattle.tv_derived.specs.Laws.{IsBlank}
+use Rattle.tv_simplex.proofs.Ring.{zero_times as no_times}
 
 -- each number is 0
 abbrev pub AreZero : List ℤ → Type 0
@@ -34,11 +35,6 @@ zero_map : (f : ℤ → ℤ) → f (pos 0) ≡ pos 0 → (cs : List ℤ) → Are
 zero_map f e [] h j = refl
 zero_map f e (c ∷ cs) h zero = ap f (h 0) ∙ e
 zero_map f e (c ∷ cs) h (suc j) = zero_map f e cs (later c cs h) j
-
-no_times : (c z : ℤ) → c ≡ pos 0 → c *ℤ z ≡ pos 0
-no_times c z e = ap (λ x. x *ℤ z) e ∙ none z where
-  none : (z : ℤ) → pos 0 *ℤ z ≡ pos 0
-  none z = omega (arith, ints)
 
 zero_times : (c : ℤ) → c ≡ pos 0 → (cs : List ℤ) → AreZero (map (λ z. c *ℤ z) cs)
 zero_times c e [] j = refl

@@ -7,7 +7,7 @@ use Rattle.tv_linear.specs.Linear.{Linear}
 use Rattle.tv_farkas.specs.Paths.{TakenOnce, none, first, again}
 use Rattle.tv_derived.specs.Laws.{AreDifferent}
 
-front_or_last : (i n : ℕ) → i < n + 1 → (i < n) ⊎ (i ≡ n)
+pub front_or_last : (i n : ℕ) → i < n + 1 → (i < n) ⊎ (i ≡ n)
 front_or_last i n l = grind arith
 
 module _ (ks : List Linear) (r : Linear) where

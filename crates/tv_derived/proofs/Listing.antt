@@ -1,5 +1,5 @@
 -- lists that go on with the rows of a path
-use Rattle.std.proofs.Common.{◌≡◌, ◌⊎◌, inl, inr, ℕ, zero, suc, List, [], ◌∷◌, ◌++◌, refl, sym, subst, arith, ℤ}
+use Rattle.std.proofs.Common.{◌≡◌, inl, inr, ℕ, zero, suc, List, [], ◌∷◌, ◌++◌, refl, sym, subst, arith, ℤ}
 use Rattle.std.specs.Prelude.{Option, Some, None, Vec}
 use Rattle.std.specs.List.{Contains}
 use Rattle.std.proofs.lemmas.List.Elements.{Contains-append_left, Contains-append_right, Contains-append_cases}
@@ -104,12 +104,3 @@ target_listed {about} {base} {f} {h} row is = elim is.2 [
   | inl same ↦ subst (λ r. IsListed about base f h r) (sym same) (unsplit is.0 (derived is.0 is.1))
   | inr opposed ↦ subst (λ r. IsListed about base f h r) (sym opposed.0) (unsplit (denial is.0) (derived (denial is.0) (made (denial is.0) (denied is.0 is.1) opposed.1)))
 ]
-
--- the rows at the end of a path whose splits are at coordinates or at rows of targets
-pub path_of_targets : (about : CaseSystem) (base : List Placed) (f : Scope) (h : ℕ) (settled : List ℤ → Type 0) (rule : List Linear → Branch → Type 0) → ((above : List Linear) (b : Branch) → rule above b → IsCoordinateSplit (width_at about f) settled above b ⊎ IsTargetSplit about base f h b.row) → (rows kept : List Linear) (path : List Branch) → AreListed about base f h rows → IsPath rule rows path → TakenOnce (rows_after rows path) kept → IsDerivedList about base f h kept
-path_of_targets about base f h settled rule of rows kept path listed is taken =
-    handed_list (rows_after rows path) kept taken
-    (path_listed rule (λ above b above_listed r. elim (of above b r) [
-      | inl point ↦ splits_listed (width_at about f) settled above b refl above_listed point
-      | inr target ↦ target_listed b.row target
-    ]) rows path listed is)

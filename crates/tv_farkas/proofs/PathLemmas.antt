@@ -3,10 +3,7 @@ use Rattle.tv_linear.specs.Linear.{Linear}
 use Rattle.tv_farkas.specs.declared.branch.Branch.{Branch}
 use Rattle.tv_farkas.specs.Paths.{IsPath, rows_after}
 use Rattle.tv_farkas.specs.Stretching.{rows_of}
-
-pub append-nil : {A : Type 0} (xs : List A) → xs ++ [] ≡ xs
-append-nil [] = refl
-append-nil (x ∷ xs) = ap (λ ys. x ∷ ys) (append-nil xs)
+use Rattle.std.proofs.lemmas.List.{append-nil}
 
 -- the rows at the end of a path are the rows above it and its own
 pub after_is : (rows : List Linear) (path : List Branch) → rows_after rows path ≡ rows ++ rows_of path

@@ -1,14 +1,16 @@
 use Rattle.std.proofs.Common.{take, ◌≡◌, ℕ, zero, suc, ◌+◌, ◌<◌, ◌≤◌, List, [], ◌∷◌, ◌++◌, length, length-append, map, get_or, All, arith, refl, sym, ap, ◌∙◌, ℤ, pos, neg_ℤ, ◌*ℤ◌, ◌<ℤ◌, ◌≤ℤ◌}
 use Rattle.std.proofs.lemmas.Int.{ints}
-use Rattle.std.proofs.Math.IntN.{*ℤ_comm}
+use Rattle.std.proofs.Math.IntN.{*ℤ_comm, neg_ℤ-neg_ℤ}
 use Rattle.tv_linear.specs.Linear.{Linear, columns, entry, scaled_value, IsScaledPoint}
-use Rattle.tv_refute.proofs.Places.{get_or-left, get_or-right, get_or-map}
+use Rattle.tv_refute.proofs.Places.{get_or-left, get_or-right}
 use Rattle.tv_linear.proofs.Ring.{neg_times_z}
 use Rattle.tv_simplex.specs.Sums.{total}
 use Rattle.tv_simplex.specs.Systems.{entry_at, right_at}
 use Rattle.tv_simplex.specs.Outcomes.{IsBarrierOf}
 use Rattle.tv_farkas.specs.RefutationSystem.{refutation_system}
-use Rattle.tv_farkas.proofs.SystemLemmas.{row_at, get_or-any, all_of, at_of, entry_is, right_inner, right_last, total-last, dot-total}
+use Rattle.tv_farkas.proofs.SystemLemmas.{row_at, get_or-any, at_of, entry_is, right_inner, right_last, total-last, dot-total}
+use Rattle.std.proofs.lemmas.List.{get_or-map}
+use Rattle.std.proofs.lemmas.List.Elements.{All-from_get_or}
 
 opposite_at : (xs : List ℤ) (k : ℕ) → k < length xs → get_or (map neg_ℤ xs) k (pos 0) ≡ neg_ℤ (get_or xs k (pos 0))
 opposite_at xs k l = get_or-map neg_ℤ xs k (pos 0) (pos 0) l
@@ -72,7 +74,7 @@ module _ (n : ℕ) (rows : List Linear) (even : All (λ r. columns r ≡ n) rows
   pub point_meets : IsScaledPoint rows values scale
   point_meets = record {
     positive = scale_above;
-    met = all_of (λ r. scaled_value r values scale ≤ℤ pos 0) rows (record { coefficients = []; constant = pos 0 }) (λ i l. let b = h.not_under i l in let e = sum_is i l in omega (arith, ints, b, e));
+    met = All-from_get_or (λ r. scaled_value r values scale ≤ℤ pos 0) rows (record { coefficients = []; constant = pos 0 }) (λ i l. let b = h.not_under i l in let e = sum_is i l in omega (arith, ints, b, e));
   }
 
 -- the opposites of a list, the last one apart
@@ -82,12 +84,9 @@ parted (x ∷ []) zero e = refl
 parted (x ∷ (z ∷ zs)) zero e = absurd (omega (arith, e))
 parted (x ∷ xs) (suc n) e = ap (λ w. x ∷ w) (parted xs n (omega (arith, e)))
 
-neg_twice : (z : ℤ) → neg_ℤ (neg_ℤ z) ≡ z
-neg_twice z = omega (arith, ints)
-
 opposites_back : (xs : List ℤ) (z : ℤ) → map neg_ℤ (map neg_ℤ xs ++ neg_ℤ z ∷ []) ≡ xs ++ z ∷ []
-opposites_back [] z = ap (λ w. w ∷ []) (neg_twice z)
-opposites_back (x ∷ xs) z = (λ i. neg_twice x i ∷ opposites_back xs z i)
+opposites_back [] z = ap (λ w. w ∷ []) (neg_ℤ-neg_ℤ z)
+opposites_back (x ∷ xs) z = (λ i. neg_ℤ-neg_ℤ x i ∷ opposites_back xs z i)
 
 pub opposites : (y : List ℤ) (n : ℕ) (values : List ℤ) (scale : ℤ) → length y ≡ n + 1 → values ≡ map neg_ℤ (take n y) → scale ≡ neg_ℤ (get_or y n (pos 0)) → y ≡ map neg_ℤ (values ++ scale ∷ [])
 opposites y n values scale size e g =

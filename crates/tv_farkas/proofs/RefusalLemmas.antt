@@ -6,11 +6,11 @@ use Rattle.tv_farkas.specs.declared.refuted.Refuted.{Refuted}
 use Rattle.tv_farkas.specs.declared.refuted.Refuted.TheVariants.{Empty, Point}
 use Rattle.tv_farkas.specs.RefutationSystem.{refutation_system}
 use Rattle.tv_farkas.specs.Refuting.{IsRefuted, GivesRefuted, IsOppositePoint, IsShortRefuted}
-use Rattle.tv_farkas.proofs.SystemLemmas.{length-map}
 use Rattle.tv_farkas.proofs.PointLemmas.{point_meets, inner_is, last_is}
+use Rattle.std.proofs.lemmas.List.{length-map}
 
 count_of : (values : List ℤ) (scale : ℤ) (n : ℕ) → length (map neg_ℤ (values ++ scale ∷ [])) ≡ n + 1 → length values ≡ n
-count_of values scale n e = (let a = length-map neg_ℤ (values ++ scale ∷ []) in let b = length-append values (scale ∷ []) in omega (arith, a, b, e))
+count_of values scale n e = (let a = length-map (values ++ scale ∷ []) neg_ℤ in let b = length-append values (scale ∷ []) in omega (arith, a, b, e))
 
 -- the point of a barrier of the refutation system
 pub point_answers : (n : ℕ) (rows : List Linear) (y : List ℤ) (point : Refuted) → All (λ r. columns r ≡ n) rows → IsBarrierOf (refutation_system n rows) y → IsOppositePoint y point → IsRefuted n rows point

@@ -65,9 +65,6 @@ small_at [] h j = omega arith
 small_at (x ∷ xs) h zero = All-head (IsWithin 62) x xs h
 small_at (x ∷ xs) h (suc j) = small_at xs (All-tail (IsWithin 62) x xs h) j
 
-pub low_side : (n c : ℕ) (k : ℤ) → IsSide n (at_most_row n c k) (given (at_most_row n c k))
-low_side n c k = given_side n (at_most_row n c k)
-
 pub high_side : (n c : ℕ) (k : ℤ) → IsShort k → IsSide n (at_least_row n c k) (denied (given (at_most_row n c k)))
 high_side n c k short = record {
   inner = λ j l. sym (get_or-neg (unit n c) j);

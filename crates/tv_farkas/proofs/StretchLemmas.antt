@@ -9,7 +9,7 @@ use Rattle.tv_simplex.proofs.Ring.{zero_times}
 use Rattle.tv_simplex.specs.Outcomes.{IsShort}
 use Rattle.tv_farkas.specs.Refuting.{AreShort}
 use Rattle.tv_farkas.specs.Stretching.{IsTakenBy, stretched, IsSide, AreSides}
-use Rattle.tv_farkas.proofs.PathLemmas.{append-nil}
+use Rattle.std.proofs.lemmas.List.{append-nil}
 
 -- the columns that count
 abbrev pub IsColumn : ℕ → Option ℕ → Type 0

@@ -1,55 +1,45 @@
 use Rattle.std.proofs.Common.{◌≡◌, ◌⊎◌, inl, inr, ℕ, zero, suc, ◌+◌, ◌*◌, ◌<◌, ◌≤◌, ◌-◌, ◌^◌, List, [], ◌∷◌, ◌++◌, length, length-append, map, get_or, All, Option, None, Some, arith, refl, sym, ap, ◌∙◌, subst, ℤ, pos, ◌+ℤ◌, ◌*ℤ◌, ◌≤ℤ◌, unsigned_abs}
 use Rattle.std.proofs.lemmas.Int.{ints, unsigned_abs-mul}
-use Rattle.std.proofs.lemmas.List.Elements.{All-nil, All-cons, All-head, All-tail}
+use Rattle.std.proofs.lemmas.List.Elements.{All-head, All-tail, All-from_get_or}
 use Rattle.std.proofs.Math.IntN.{*ℤ_comm}
 use Rattle.tv_linear.proofs.PlainLists.{length-zeros, get_or-zeros}
 use Rattle.tv_linear.specs.Arithmetic.{zeros}
 use Rattle.tv_linear.specs.Linear.{Linear, columns, entry, dot}
 use Rattle.tv_linear.specs.Known.{given, number, known_number, as_given, KnownHeld}
 use Rattle.tv_linear.specs.Refutation.{RowsHeld, column_sum, ColumnHeld, Refutes}
-use Rattle.tv_refute.proofs.Places.{get_or-left, get_or-right, get_or-map}
+use Rattle.tv_refute.proofs.Places.{get_or-left, get_or-right}
 use Rattle.tv_simplex.proofs.Sums.{total-same}
 use Rattle.tv_simplex.specs.Sums.{total}
 use Rattle.tv_simplex.specs.Systems.{Equations, IsWhole, entry_at, right_at}
 use Rattle.tv_simplex.specs.Outcomes.{IsShort, IsSolutionOf, IsNarrowSystem}
 use Rattle.tv_simplex.proofs.SettleLemmas.{given_left}
 use Rattle.tv_farkas.specs.RefutationSystem.{numbers_below, refutation_system}
+use Rattle.std.proofs.lemmas.List.{get_or-map, length-map}
+use Rattle.tv_simplex.proofs.ScaleLemmas.{scaled_up}
 
 abbrev pub row_at : List Linear → ℕ → Linear
 row_at rows i = get_or rows i (record { coefficients = []; constant = pos 0 })
 
 -- ---- lists
-pub length-map : {A B : Type 0} (f : A → B) (xs : List A) → length (map f xs) ≡ length xs
-length-map f [] = refl
-length-map f (x ∷ xs) = ap suc (length-map f xs)
-
 pub get_or-any : (xs : List ℤ) (i : ℕ) (d e : ℤ) → i < length xs → get_or xs i d ≡ get_or xs i e
 get_or-any [] i d e h = absurd (omega arith)
 get_or-any (x ∷ xs) zero d e h = refl
 get_or-any (x ∷ xs) (suc i) d e h = get_or-any xs i d e (omega arith)
 
-get_or-past : (xs : List ℤ) (i : ℕ) (d : ℤ) → length xs ≤ i → get_or xs i d ≡ d
+pub get_or-past : (xs : List ℤ) (i : ℕ) (d : ℤ) → length xs ≤ i → get_or xs i d ≡ d
 get_or-past [] i d h = refl
 get_or-past (x ∷ xs) zero d h = absurd (omega arith)
 get_or-past (x ∷ xs) (suc i) d h = get_or-past xs i d (omega arith)
-
--- what holds at each place holds of all
-pub all_of : {A : Type 0} (P : A → Type 0) (xs : List A) (d : A) → ((i : ℕ) → i < length xs → P (get_or xs i d)) → All P xs
-all_of P [] d h = All-nil P
-all_of P (x ∷ xs) d h = All-cons P x xs (h 0 (omega arith)) (all_of P xs d (λ i l. h (suc i) (omega arith)))
 
 pub at_of : {A : Type 0} (P : A → Type 0) (xs : List A) (d : A) → All P xs → (i : ℕ) → i < length xs → P (get_or xs i d)
 at_of P [] d h i l = absurd (omega arith)
 at_of P (x ∷ xs) d h zero l = All-head P x xs h
 at_of P (x ∷ xs) d h (suc i) l = at_of P xs d (All-tail P x xs h) i (omega arith)
 
-grown : (a b x : ℕ) → a ≤ b → a * x ≤ b * x
-grown a b x h = grind arith
-
 -- ---- the entries of the refutation system
 length-numbers : (m : ℕ) (rows : List Linear) → length (numbers_below m rows) ≡ m * length rows
 length-numbers zero rows = omega arith
-length-numbers (suc m) rows = length-append (numbers_below m rows) (map (λ r. entry r m) rows) ∙ (let h = length-numbers m rows in let g = length-map (λ r. entry r m) rows in omega (arith, h, g))
+length-numbers (suc m) rows = length-append (numbers_below m rows) (map (λ r. entry r m) rows) ∙ (let h = length-numbers m rows in let g = length-map rows (λ r. entry r m) in omega (arith, h, g))
 
 pub number_below : (m : ℕ) (rows : List Linear) (k i : ℕ) → k < m → i < length rows → get_or (numbers_below m rows) (k * length rows + i) (pos 0) ≡ entry (row_at rows i) k
 number_below zero rows k i l g = absurd (omega arith)
@@ -67,7 +57,7 @@ number_below (suc m) rows k i l g = elim (last_or_below m k l) [
     last_or_below n j h = grind arith
 
     row_within : (k m q i : ℕ) → k < m → i < q → k * q + i < m * q
-    row_within k m q i h p = (let l = grown (k + 1) m q (omega (arith, h)) in omega (arith, l, p))
+    row_within k m q i h p = (let l = scaled_up (k + 1) m q (omega (arith, h)) in omega (arith, l, p))
 
 pub entry_is : (n : ℕ) (rows : List Linear) (k i : ℕ) → k < n + 1 → i < length rows → entry_at (refutation_system n rows) k i ≡ entry (row_at rows i) k
 entry_is n rows k i l g = number_below (n + 1) rows k i l g
@@ -79,7 +69,7 @@ pub right_last : (n : ℕ) (rows : List Linear) → right_at (refutation_system 
 right_last n rows = get_or-right (zeros n) (pos 1 ∷ []) n 0 (pos 0) (let h = length-zeros n in omega (arith, h))
 
 -- ---- sums
-total-front : (n : ℕ) (f : ℕ → ℤ) → total (suc n) f ≡ f 0 +ℤ total n (λ k. f (suc k))
+pub total-front : (n : ℕ) (f : ℕ → ℤ) → total (suc n) f ≡ f 0 +ℤ total n (λ k. f (suc k))
 total-front zero f = omega (arith, ints)
 total-front (suc n) f = (let h = total-front n f in omega (arith, ints, h))
 
@@ -92,7 +82,7 @@ dot-total (c ∷ cs) [] e = absurd (omega (arith, e))
 dot-total (c ∷ cs) (x ∷ xs) e = (let h = dot-total cs xs (omega (arith, e)) in let f = total-front (length cs) (λ k. get_or (c ∷ cs) k (pos 0) *ℤ get_or (x ∷ xs) k (pos 0)) in omega (arith, ints, h, f))
 
 -- ---- solutions refute
-known-given : (column : Option ℕ) (rows : List Linear) → map (λ k. known_number k column) (as_given rows) ≡ map (λ r. number column r) rows
+pub known-given : (column : Option ℕ) (rows : List Linear) → map (λ k. known_number k column) (as_given rows) ≡ map (λ r. number column r) rows
 known-given column [] = refl
 known-given column (r ∷ rows) = ap (λ xs. number column r ∷ xs) (known-given column rows)
 
@@ -109,7 +99,7 @@ number_entry n (Some j) r e (inr z) = cc
 pub column_total : (n : ℕ) (rows : List Linear) (ms : List ℤ) (column : Option ℕ) → All (λ r. columns r ≡ n) rows → length ms ≡ length rows → (place_of n column < n) ⊎ (column ≡ None) → column_sum ms (as_given rows) column ≡ total (length rows) (λ i. entry_at (refutation_system n rows) (place_of n column) i *ℤ get_or ms i (pos 0))
 column_total n rows ms column even e h =
     ap (dot ms) (known-given column rows)
-    ∙ dot-total ms (map (λ r. number column r) rows) (e ∙ sym (length-map (λ r. number column r) rows))
+    ∙ dot-total ms (map (λ r. number column r) rows) (e ∙ sym (length-map rows (λ r. number column r)))
     ∙ ap (λ z. total z (λ k. get_or ms k (pos 0) *ℤ get_or (map (λ r. number column r) rows) k (pos 0))) e
     ∙ total-same (length rows) (λ k. get_or ms k (pos 0) *ℤ get_or (map (λ r. number column r) rows) k (pos 0)) (λ i. entry_at (refutation_system n rows) (place_of n column) i *ℤ get_or ms i (pos 0))
     (λ i l. *ℤ_comm (get_or ms i (pos 0)) (get_or (map (λ r. number column r) rows) i (pos 0)) ∙ ap (λ z. z *ℤ get_or ms i (pos 0)) (
@@ -142,15 +132,15 @@ rows_held column many sum (m ∷ ms) (r ∷ rows) l b short narrow =
     small_product a b h g = (let e = unsigned_abs-mul a b in let f = less_product (unsigned_abs a) (unsigned_abs b) h g in omega (arith, e, f))
       where
         less_product : (x y : ℕ) → x < 2 ^ 62 → y < 2 ^ 40 → x * y < 2 ^ 102
-        less_product x y u v = (let w : x * y ≤ 2 ^ 62 * y = grown x (2 ^ 62) y (omega (arith, u)) in omega (arith, w, v))
+        less_product x y u v = (let w : x * y ≤ 2 ^ 62 * y = scaled_up x (2 ^ 62) y (omega (arith, u)) in omega (arith, w, v))
 
     sum_below : (a b : ℤ) (n : ℕ) → unsigned_abs a ≤ n * 2 ^ 102 → unsigned_abs b < 2 ^ 102 → unsigned_abs (a +ℤ b) ≤ (n + 1) * 2 ^ 102
     sum_below a b n h g = omega (arith, ints, h, g)
 
 pub solution_refutes : (n : ℕ) (rows : List Linear) (ms : List ℤ) (scale : ℤ) → All (λ r. columns r ≡ n) rows → (n + 1) * length rows ≤ 4000000 → IsNarrowSystem (refutation_system n rows) → IsSolutionOf (refutation_system n rows) ms scale → Refutes n (as_given rows) ms
 solution_refutes n rows ms scale even size narrow h = record {
-  as_many = h.as_many ∙ sym (length-map (λ r. given r) rows);
-  none_negative = all_of (λ m. pos 0 ≤ℤ m) ms (pos 0) (λ i l. h.none_negative i (let e = h.as_many in omega (arith, e, l)));
+  as_many = h.as_many ∙ sym (length-map rows (λ r. given r));
+  none_negative = All-from_get_or (λ m. pos 0 ≤ℤ m) ms (pos 0) (λ i l. h.none_negative i (let e = h.as_many in omega (arith, e, l)));
   columns = λ j l.
       column_total n rows ms (Some j) even h.as_many (inl l) ∙ h.met j (omega (arith, l)) ∙ ap (λ z. scale *ℤ z) (right_inner n rows j l) ∙ omega (arith, ints);
   constant = (
@@ -169,8 +159,8 @@ solution_refutes n rows ms scale even size narrow h = record {
 
     held : (column : Option ℕ) → (place_of n column < n) ⊎ (column ≡ None) → ColumnHeld ms (as_given rows) column
     held column k = rows_held column 0 (pos 0) ms rows (omega (arith, few)) (omega arith)
-        (all_of IsShort ms (pos 0) (λ i l. h.short i (let e = h.as_many in omega (arith, e, l))))
-        (all_of (λ r. unsigned_abs (number column r) < 2 ^ 40) rows (record { coefficients = []; constant = pos 0 }) (λ i l.
+        (All-from_get_or IsShort ms (pos 0) (λ i l. h.short i (let e = h.as_many in omega (arith, e, l))))
+        (All-from_get_or (λ r. unsigned_abs (number column r) < 2 ^ 40) rows (record { coefficients = []; constant = pos 0 }) (λ i l.
         subst (λ z. unsigned_abs z < 2 ^ 40) (sym (number_entry n column (row_at rows i) (at_of (λ r. columns r ≡ n) rows (record { coefficients = []; constant = pos 0 }) even i l) k))
         (subst (λ z. unsigned_abs z < 2 ^ 40) (entry_is n rows (place_of n column) i (within column k) l) (subst (λ z. unsigned_abs z < 2 ^ 40) (given_left (refutation_system n rows) (place_of n column) i l) (narrow (place_of n column) i (within column k) (inl l))))))
       where

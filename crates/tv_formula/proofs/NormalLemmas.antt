@@ -7,6 +7,7 @@ use Rattle.tv_formula.specs.Views.{properties_of}
 use Rattle.tv_formula.specs.Forms.{is_mark, is_normal, are_normal}
 use Rattle.tv_formula.specs.Normal.{negation, normal, negations, normals}
 use Rattle.tv_formula.specs.Limits.{property_fits, properties_fit, operators, most_operators, nots, most_nots, IsFormula}
+use Rattle.std.proofs.lemmas.Bool.{and_from}
 
 -- the parts of a list, one by one
 pub negations_of : (fs : List Property) → negations (properties_of fs) ≡ properties_of (map negation fs)
@@ -16,11 +17,6 @@ negations_of (f ∷ fs) = ap (more (negation f)) (negations_of fs)
 pub normals_of : (fs : List Property) → normals (properties_of fs) ≡ properties_of (map normal fs)
 normals_of [] = refl
 normals_of (f ∷ fs) = ap (more (normal f)) (normals_of fs)
-
-both_true : (a b : Bool) → a ≡ true → b ≡ true → (a && b) ≡ true
-both_true true true h i = refl
-both_true true false h i = absurd cc
-both_true false b h i = absurd cc
 
 mutual
   pub negation_normal : (f : Property) → is_normal (negation f) ≡ true
@@ -32,7 +28,7 @@ mutual
   negation_normal (all_of fs) = negations_normal fs
   negation_normal (some_of fs) = negations_normal fs
   negation_normal (next p f) = negation_normal f
-  negation_normal (fix p s f g) = both_true _ _ (negation_normal f) (negation_normal g)
+  negation_normal (fix p s f g) = and_from _ _ (negation_normal f) (negation_normal g)
 
   pub normal_normal : (f : Property) → is_normal (normal f) ≡ true
   normal_normal (truth b) = refl
@@ -43,15 +39,15 @@ mutual
   normal_normal (all_of fs) = normals_normal fs
   normal_normal (some_of fs) = normals_normal fs
   normal_normal (next p f) = normal_normal f
-  normal_normal (fix p s f g) = both_true _ _ (normal_normal f) (normal_normal g)
+  normal_normal (fix p s f g) = and_from _ _ (normal_normal f) (normal_normal g)
 
   negations_normal : (fs : Properties) → are_normal (negations fs) ≡ true
   negations_normal none = refl
-  negations_normal (more f fs) = both_true _ _ (negation_normal f) (negations_normal fs)
+  negations_normal (more f fs) = and_from _ _ (negation_normal f) (negations_normal fs)
 
   normals_normal : (fs : Properties) → are_normal (normals fs) ≡ true
   normals_normal none = refl
-  normals_normal (more f fs) = both_true _ _ (normal_normal f) (normals_normal fs)
+  normals_normal (more f fs) = and_from _ _ (normal_normal f) (normals_normal fs)
 
 -- a normal property has one negation on a path at most
 mark_nots : (f : Property) → is_mark f ≡ true → nots f ≡ 0
@@ -65,11 +61,11 @@ mark_nots (some_of fs) h = absurd cc
 mark_nots (next p f) h = absurd cc
 mark_nots (fix p s f g) h = absurd cc
 
-left_true : (a b : Bool) → (a && b) ≡ true → a ≡ true
+pub left_true : (a b : Bool) → (a && b) ≡ true → a ≡ true
 left_true true b h = refl
 left_true false b h = absurd cc
 
-right_true : (a b : Bool) → (a && b) ≡ true → b ≡ true
+pub right_true : (a b : Bool) → (a && b) ≡ true → b ≡ true
 right_true true b h = h
 right_true false b h = absurd cc
 

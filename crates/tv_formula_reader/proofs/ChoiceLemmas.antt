@@ -11,6 +11,7 @@ use Rattle.tv_reading.specs.Marks.{Kind, Syntax, Wide, Deep, NotLinear, TwoStart
 use Rattle.tv_reading.specs.SumGrammar as sums
 use Rattle.tv_formula_reader.specs.Seen.{Seen, marks}
 use Rattle.tv_formula_reader.specs.Choice.{Grammar, mark_at, last, lifted_read, Marked, lifted, OfEither, further, or_further, either_read, either}
+use Rattle.tv_reading.proofs.PassedLemmas.{less_is, is_less}
 
 -- ---- lists
 
@@ -185,20 +186,14 @@ other_kept TwoStarts n s out = refl
 other_kept TooMany n s out = refl
 other_kept UnknownName n s out = refl
 
-is_shorter : (m n : ℕ) → m < n → nat_lt m n ≡ true
-is_shorter m n l = grind (arith, nat_tests)
-
 not_shorter : (m n : ℕ) → n ≤ m → nat_lt m n ≡ false
 not_shorter m n l = grind (arith, nat_tests)
-
-pub shorter_is : (m n : ℕ) → nat_lt m n ≡ true → m < n
-shorter_is m n e = grind (arith, nat_tests)
 
 pub shorter_not : (m n : ℕ) → nat_lt m n ≡ false → n ≤ m
 shorter_not m n e = grind (arith, nat_tests)
 
 pub first_further : {X : Type 0} (r : List Seen) (k : Kind) (s : List Seen) → length r < length s → further {X = X} r k s ≡ fault Syntax r
-first_further r k s l = rw (is_shorter (length r) (length s) l) refl
+first_further r k s l = rw (less_is (length r) (length s) l) refl
 
 pub second_further : {X : Type 0} (r : List Seen) (k : Kind) (s : List Seen) → length s ≤ length r → further {X = X} r k s ≡ fault k s
 second_further r k s l = rw (not_shorter (length r) (length s) l) refl
@@ -285,7 +280,7 @@ module _ {X : Type 0} (a b : Grammar X) (h : Exact a) (i : Exact b) (halts : (d 
       at j u is true l g =
           let kind : Syntax ≡ k = cc in
           let left : s ≡ r = cc in
-          subst (λ (q : Kind × List Seen). Least (either a b) q.0 ts q.1) (ap (λ (z : Kind). (z, s)) kind ∙ ap (λ (z : List Seen). (k, z)) left) (first_least ts s j u e is (shorter_is (length s) (length u) l))
+          subst (λ (q : Kind × List Seen). Least (either a b) q.0 ts q.1) (ap (λ (z : Kind). (z, s)) kind ∙ ap (λ (z : List Seen). (k, z)) left) (first_least ts s j u e is (is_less (length s) (length u) l))
       at j u is false l g =
           let kind : j ≡ k = cc in
           let left : u ≡ r = cc in

@@ -1,5 +1,5 @@
 -- Each formula is read.
-use Rattle.std.proofs.Common.{◌≡◌, ℕ, zero, suc, Bool, true, false, List, [], ◌∷◌, ◌++◌, inl, inr, Option, Some, None, refl, sym, ap, subst, ◌∙◌, append_assoc}
+use Rattle.std.proofs.Common.{◌≡◌, ℕ, zero, suc, Bool, true, false, List, [], ◌∷◌, ◌++◌, inl, inr, Option, Some, refl, sym, ap, subst, ◌∙◌, append_assoc}
 use Rattle.std.proofs.lemmas.List.{append-nil}
 use Rattle.std.proofs.lemmas.Slice.Eq.{bytes_eq-Decides}
 use Rattle.std.specs.Prelude.{codes}
@@ -32,6 +32,7 @@ use Rattle.tv_formula_reader.specs.FormulaTexts.{joined, IsPlain, always, never,
 use Rattle.tv_formula_reader.specs.FormulaGrammar as grammar
 use Rattle.tv_formula_reader.specs.FormulaGrammar.{at_kind, opened, open_by, closed, close_by, behind_square, square_by, at_end, end_by, summed, relation_by, related_by, related, label_cases, labelled, place, word_by, word_cases, argument, operator_by, operated, of_one, of_two, plain_by, plain_over, below, is_and, is_or, more_by, more_cases, conjunction_from, conjunction_over, formula_from, plain_at, literal_at, formula_at, text_at}
 use Rattle.tv_formula_reader.proofs.FormulaTexts.{sign_of, signs_of, symbols_same}
+use Rattle.tv_reading.proofs.ConditionSteps.{stands as relation_stands}
 
 -- these tokens are a derivation that stands for x, and then tokens of these signs
 pub record Back {X : Type 0} (l : Grammar X) (x : X) (ts : List Seen) (rest : List Sign) : Type 0 where
@@ -149,9 +150,6 @@ sum_back n a ts ss rest h e =
       same = p.backs;
       is = b.is;
     }
-
-relation_stands : (kind : TokenKind) (r : Relation) → relation_of kind ≡ Some r → kind ≡ kinds.Unread → ⊥
-relation_stands kind r e w = let none : None ≡ Some r = ap relation_of (sym w) ∙ e in cc
 
 made_relation : (a : Expression) (sum : Grammar Expression) (o : Option Relation) (r : Relation) → o ≡ Some r → (d : (mapped (compare r a) sum).Of) → Made (relation_by a sum o) (mapped (compare r a) sum) d
 made_relation a sum o r e d = subst (λ (p : Option Relation). Made (relation_by a sum p) (mapped (compare r a) sum) d) (sym e) (made_go (mapped (compare r a) sum) d)

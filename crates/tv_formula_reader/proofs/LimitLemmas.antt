@@ -26,8 +26,9 @@ use Rattle.tv_formula_reader.specs.FormulaTexts as texts
 use Rattle.tv_formula_reader.specs.FormulaTexts.{joined, IsPlain, always, never, ends, located, denied, bracketed, of_one, of_two, IsArgument, enclosed, IsLiteral, comparison, AreLiterals, no_literal, and, IsConjunction, literals, AreConjunctions, no_conjunction, or, conjunctions}
 use Rattle.tv_reading.specs.Marks.{plain, symbol_of, known_name, mark_by, is_formula_word}
 use Rattle.tv_reading.proofs.FitLemmas.{symbol_fits, all_fit, sum_fits, sum_shallow}
-use Rattle.tv_reading.proofs.LinearLemmas.{and_left, and_right, and_both}
+use Rattle.tv_reading.proofs.LinearLemmas.{and_left, and_right}
 use Rattle.tv_formula_reader.proofs.FormulaTexts.{signs_of}
+use Rattle.std.proofs.lemmas.Bool.{and_from}
 
 -- ---- how many operators and negations lie on a path
 
@@ -141,7 +142,7 @@ signs_fit variables locations (t ∷ ts) = sign_fits variables locations t && si
 module _ (v l : ℕ) where
   in_front : (a b : List Sign) → signs_fit v l (a ++ b) ≡ true → signs_fit v l a ≡ true
   in_front [] b h = refl
-  in_front (t ∷ a) b h = and_both _ _ (and_left _ _ h) (in_front a b (and_right (sign_fits v l t) _ h))
+  in_front (t ∷ a) b h = and_from _ _ (and_left _ _ h) (in_front a b (and_right (sign_fits v l t) _ h))
 
   behind : (a b : List Sign) → signs_fit v l (a ++ b) ≡ true → signs_fit v l b ≡ true
   behind [] b h = h
@@ -149,7 +150,7 @@ module _ (v l : ℕ) where
 
   symbols_fit : (ts : List Sign) → signs_fit v l ts ≡ true → all_fit v 0 (symbols_of ts) ≡ true
   symbols_fit [] h = refl
-  symbols_fit (t ∷ ts) h = and_both _ _ (and_left _ _ (and_left _ _ h)) (symbols_fit ts (and_right (sign_fits v l t) _ h))
+  symbols_fit (t ∷ ts) h = and_from _ _ (and_left _ _ (and_left _ _ h)) (symbols_fit ts (and_right (sign_fits v l t) _ h))
 
   tail : (t : Sign) (ts : List Sign) → signs_fit v l (t ∷ ts) ≡ true → signs_fit v l ts ≡ true
   tail t ts h = and_right (sign_fits v l t) _ h
@@ -167,13 +168,13 @@ module _ (v l : ℕ) where
   applied_fits : (p : Path) (k : Single) (f : Property) → property_fits v l f ≡ true → property_fits v l (applied p k f) ≡ true
   applied_fits p Successor f h = h
   applied_fits p Finally f h = h
-  applied_fits p Globally f h = and_both _ _ h refl
+  applied_fits p Globally f h = and_from _ _ h refl
 
   shallow : (m : ℕ) → m ≤ 400 → nat_le m 400 ≡ true
   shallow m h = grind (arith, nat_tests)
 
   part_fit : (n : ℕ) (e : Expression) (ts : List Sign) → n ≤ 64 → IsSum n e (symbols_of ts) [] → signs_fit v l ts ≡ true → part_fits v e ≡ true
-  part_fit n e ts m s h = and_both _ _ (sum_fits v 0 s (symbols_fit ts h)).0 (shallow (expression_depth e) (let d = sum_shallow s in omega arith))
+  part_fit n e ts m s h = and_from _ _ (sum_fits v 0 s (symbols_fit ts h)).0 (shallow (expression_depth e) (let d = sum_shallow s in omega arith))
 
   label_at : (k : ℕ) (s : Symbol) → s ≡ label k → label_fits l s ≡ true → nat_lt k l ≡ true
   label_at k s e h = subst (λ (x : Symbol). label_fits l x ≡ true) e h
@@ -197,7 +198,7 @@ module _ (v l : ℕ) where
     plain_fit (of_two {o = o} {t = t} {c = c} {ts = ts} x y z a b) m h =
         let i = argument_fit a (omega arith) (tail c ts (tail t (c ∷ ts) (tail o (t ∷ c ∷ ts) h))) in
         let j = argument_fit b (omega arith) i.1 in
-        (and_both _ _ i.0 j.0, j.1)
+        (and_from _ _ i.0 j.0, j.1)
 
     argument_fit : {n : ℕ} {f : Property} {ts rest : List Sign} → IsArgument n f ts rest → n ≤ 64 → signs_fit v l ts ≡ true → Fit f rest
     argument_fit (enclosed {o = o} {c = c} {ts = ts} {rest = rest} a p b) m h = let i = formula_fit p m (tail o ts h) in (i.0, tail c rest i.1)
@@ -206,21 +207,21 @@ module _ (v l : ℕ) where
     literal_fit (texts.plain p) m h = plain_fit p m h
     literal_fit (comparison {n} {a} {b} {rest = rest} left t right p is r q) m h =
         let i = tail t (right ++ rest) (behind left (t ∷ (right ++ rest)) h) in
-        (and_both _ _ (part_fit n a left m p (in_front left (t ∷ (right ++ rest)) h)) (part_fit n b right m q (in_front right rest i)), behind right rest i)
+        (and_from _ _ (part_fit n a left m p (in_front left (t ∷ (right ++ rest)) h)) (part_fit n b right m q (in_front right rest i)), behind right rest i)
 
     literals_fit : {n : ℕ} {fs : List Property} {ts rest : List Sign} → AreLiterals n fs ts rest → n ≤ 64 → signs_fit v l ts ≡ true → (properties_fit v l (properties_of fs) ≡ true) × (signs_fit v l rest ≡ true)
     literals_fit no_literal m h = (refl, h)
-    literals_fit (and {t = t} {ts = ts} e p ps) m h = let i = literal_fit p m (tail t ts h) in let j = literals_fit ps m i.1 in (and_both _ _ i.0 j.0, j.1)
+    literals_fit (and {t = t} {ts = ts} e p ps) m h = let i = literal_fit p m (tail t ts h) in let j = literals_fit ps m i.1 in (and_from _ _ i.0 j.0, j.1)
 
     conjunction_fit : {n : ℕ} {f : Property} {ts rest : List Sign} → IsConjunction n f ts rest → n ≤ 64 → signs_fit v l ts ≡ true → Fit f rest
-    conjunction_fit (literals {f = f} {fs = fs} p ps) m h = let i = literal_fit p m h in let j = literals_fit ps m i.1 in (all_fit_of (f ∷ fs) (and_both _ _ i.0 j.0), j.1)
+    conjunction_fit (literals {f = f} {fs = fs} p ps) m h = let i = literal_fit p m h in let j = literals_fit ps m i.1 in (all_fit_of (f ∷ fs) (and_from _ _ i.0 j.0), j.1)
 
     conjunctions_fit : {n : ℕ} {fs : List Property} {ts rest : List Sign} → AreConjunctions n fs ts rest → n ≤ 64 → signs_fit v l ts ≡ true → (properties_fit v l (properties_of fs) ≡ true) × (signs_fit v l rest ≡ true)
     conjunctions_fit no_conjunction m h = (refl, h)
-    conjunctions_fit (or {t = t} {ts = ts} e p ps) m h = let i = conjunction_fit p m (tail t ts h) in let j = conjunctions_fit ps m i.1 in (and_both _ _ i.0 j.0, j.1)
+    conjunctions_fit (or {t = t} {ts = ts} e p ps) m h = let i = conjunction_fit p m (tail t ts h) in let j = conjunctions_fit ps m i.1 in (and_from _ _ i.0 j.0, j.1)
 
     formula_fit : {n : ℕ} {f : Property} {ts rest : List Sign} → texts.IsFormula n f ts rest → n ≤ 64 → signs_fit v l ts ≡ true → Fit f rest
-    formula_fit (conjunctions {f = f} {fs = fs} p ps) m h = let i = conjunction_fit p m h in let j = conjunctions_fit ps m i.1 in (some_fit_of (f ∷ fs) (and_both _ _ i.0 j.0), j.1)
+    formula_fit (conjunctions {f = f} {fs = fs} p ps) m h = let i = conjunction_fit p m h in let j = conjunctions_fit ps m i.1 in (some_fit_of (f ∷ fs) (and_from _ _ i.0 j.0), j.1)
 
 -- ---- the signs of a text
 
@@ -250,7 +251,7 @@ mark_fits names kind w = refl
 
 seen_fit : (v : Vocabulary) (text : List ℕ) (ts : List Token) → signs_fit (length v.variables) (length v.labels) (signs_of (seen_all v text ts)) ≡ true
 seen_fit v text [] = refl
-seen_fit v text (t ∷ ts) = and_both _ _ (and_both _ _ (mark_fits v.variables t.kind (lexeme text t).word) (labels_fit v.labels t.kind (lexeme text t).word)) (seen_fit v text ts)
+seen_fit v text (t ∷ ts) = and_from _ _ (and_from _ _ (mark_fits v.variables t.kind (lexeme text t).word) (labels_fit v.labels t.kind (lexeme text t).word)) (seen_fit v text ts)
 
 few : (n m : ℕ) → n ≤ m → nat_le n m ≡ true
 few n m h = grind (arith, nat_tests)

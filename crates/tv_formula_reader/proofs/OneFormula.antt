@@ -1,5 +1,5 @@
 -- A text over the words of a program is that of one formula, or it has one first fault.
-use Rattle.std.proofs.Common.{◌≡◌, ℕ, ◌+◌, ◌≤◌, List, [], ◌∷◌, ◌++◌, length, Some, Ok, refl, sym, ap, subst, ◌∙◌, arith, length-append}
+use Rattle.std.proofs.Common.{◌≡◌, ℕ, ◌+◌, List, [], ◌∷◌, ◌++◌, length, Some, refl, sym, ap, ◌∙◌, arith, length-append}
 use Rattle.std.proofs.lemmas.List.{append-nil}
 use Rattle.tv_language.specs.declared.token.Token.{Token}
 use Rattle.tv_language.specs.Tokens.{IsTokens}
@@ -8,16 +8,14 @@ use Rattle.tv_program.specs.Systems.{System}
 use Rattle.tv_language.specs.Symbols.{lexeme, Vocabulary}
 use Rattle.tv_formula.specs.Properties.{Property}
 use Rattle.tv_grammar.specs.Reads.{next}
-use Rattle.tv_grammar.specs.Faults.{Begins}
 use Rattle.tv_grammar.proofs.ExactLemmas.{apart}
 use Rattle.tv_grammar.proofs.OneRefusal.{even_parts}
 use Rattle.tv_reading.specs.Marks.{Kind, first}
 use Rattle.tv_reading.specs.Readings.{or_end}
 use Rattle.tv_reading.specs.SumGrammar.{every}
 use Rattle.tv_reading.proofs.OneRefusal.{Refusal, not_refused, one_refusal}
-use Rattle.tv_formula_reader.specs.Signs.{Sign}
 use Rattle.tv_formula_reader.specs.Seen.{Seen, seen, seen_all}
-use Rattle.tv_formula_reader.specs.FormulaGrammar.{at_end, formula_at, text_at}
+use Rattle.tv_formula_reader.specs.FormulaGrammar.{formula_at, text_at}
 use Rattle.tv_formula_reader.specs.FormulaTexts.{words_of, IsFormulaText}
 use Rattle.tv_formula_reader.specs.Refusals.{Refuses, IsFirstFault}
 use Rattle.tv_formula_reader.proofs.FormulaExact.{formula_exact, text_exact}
@@ -26,6 +24,7 @@ use Rattle.tv_formula_reader.proofs.FormulaLoose.{text_loose}
 use Rattle.tv_formula_reader.proofs.FormulaTexts.{signs_of, signs-append, formula_is}
 use Rattle.tv_formula_reader.proofs.InnerSigns.{closed, closed-append, formula_inner, tokens_closed}
 use Rattle.tv_formula_reader.proofs.ReadLemmas.{ending_of, text_read, same_value}
+use Rattle.tv_formula_reader.proofs.SourceLemmas.{length-seen}
 
 -- ---- one formula
 
@@ -107,10 +106,6 @@ here p text k at h = by h.behind refl
 
 -- ---- one fault
 
-seen_length : (v : Vocabulary) (text : List ℕ) (ts : List Token) → length (seen_all v text ts) ≡ length ts
-seen_length v text [] = refl
-seen_length v text (t ∷ ts) = let rest = seen_length v text ts in omega (arith, rest)
-
 pub one_fault : (p : System) (text : List ℕ) (j k : Kind) (m n : ℕ) → IsFirstFault p text j m → IsFirstFault p text k n → (j ≡ k) × (m ≡ n)
 one_fault p text j k m n f g =
     let v = words_of p in
@@ -121,8 +116,8 @@ one_fault p text j k m n f g =
     let one = one_refusal text_at text_exact text_ends (λ kept syntax n m l. text_loose kept syntax n m l) 64 j k f.refuses.before g.refuses.before _ _ (seen v (lexeme text t.token)) is whole (refusal j _ _ f.refuses) (refusal k _ _ g.refuses) in
     let parts : f.before ++ f.behind ≡ g.before ++ g.behind = sym f.parts ∙ e ∙ g.parts in
     let rests = ap length one.rest in
-    let first_rest = seen_length v text f.behind in
-    let second_rest = seen_length v text g.behind in
+    let first_rest = length-seen v text f.behind in
+    let second_rest = length-seen v text g.behind in
     let first_parts = length-append f.before f.behind in
     let second_parts = length-append g.before g.behind in
     let both = ap length parts in

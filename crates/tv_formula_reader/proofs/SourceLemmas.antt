@@ -109,7 +109,7 @@ back_left source s u g n level h i names at e =
     let tokens : u.tokens ≡ s.tokens = i.tokens ∙ sym h.tokens in
     ap (left source) e ∙ rw (names, text, tokens, at) refl
 
-length-seen : (v : Vocabulary) (text : List ℕ) (ts : List Token) → length (seen_all v text ts) ≡ length ts
+pub length-seen : (v : Vocabulary) (text : List ℕ) (ts : List Token) → length (seen_all v text ts) ≡ length ts
 length-seen v text [] = refl
 length-seen v text (t ∷ ts) = ap suc (length-seen v text ts)
 

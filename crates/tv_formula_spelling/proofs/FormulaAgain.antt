@@ -1,6 +1,6 @@
 -- The spelling of a formula that has a text is a text of it, too.
-use Rattle.std.proofs.Common.{◌≡◌, ℕ, ◌+◌, ◌≤◌, List, [], ◌∷◌, ◌++◌, length, take, drop, refl, sym, ap, subst, ◌∙◌}
-use Rattle.std.proofs.lemmas.List.{append-nil, drop-drop}
+use Rattle.std.proofs.Common.{◌≡◌, ℕ, ◌+◌, ◌≤◌, List, [], ◌∷◌, length, take, drop, refl, sym, ap, subst, ◌∙◌}
+use Rattle.std.proofs.lemmas.List.{append-nil}
 use Rattle.tv_language.specs.Tokens.{IsTokens}
 use Rattle.tv_program.specs.Systems.{System}
 use Rattle.tv_program.specs.Words.{Word}
@@ -8,7 +8,7 @@ use Rattle.tv_language.specs.Symbols.{Vocabulary, lexemes}
 use Rattle.tv_formula.specs.Properties.{Property}
 use Rattle.tv_formula_reader.specs.Signs.{Sign, signs}
 use Rattle.tv_formula_reader.specs.FormulaTexts.{words_of, ended, IsFormula}
-use Rattle.tv_spelling.proofs.Pieces.{Piece, blank, line_feed, word, bytes, laid, laid_tokens, taken, dropped}
+use Rattle.tv_spelling.proofs.Pieces.{Piece, blank, line_feed, word, bytes, laid, laid_tokens, taken, further}
 use Rattle.tv_spelling.proofs.SumAgain.{ready_end}
 use Rattle.tv_spelling.proofs.FrontWords.{words_read}
 use Rattle.tv_formula_spelling.specs.Formulas.{text_of, IsFormulaAgain}
@@ -17,9 +17,6 @@ use Rattle.tv_formula_spelling.proofs.FormulaFronts.{formula_fronts}
 use Rattle.tv_formula_spelling.proofs.FormulaReady.{signs_good, formula_shown, formula_levels}
 use Rattle.tv_formula_spelling.proofs.FormulaDerived.{formula_derived}
 use Rattle.tv_formula_spelling.proofs.SumSigns.{sign_of, signs_of}
-
-further : (text w x : List ℕ) (at : ℕ) → drop at text ≡ w ++ x → drop (at + length w) text ≡ x
-further text w x at h = sym (drop-drop (length w) at text) ∙ ap (drop (length w)) h ∙ dropped w x
 
 laid_signs : (v : Vocabulary) (text : List ℕ) (at : ℕ) (bs : List Piece) → drop at text ≡ bytes bs → signs v (lexemes text (laid at bs)) ≡ signs_of v bs
 laid_signs v text at [] h = refl

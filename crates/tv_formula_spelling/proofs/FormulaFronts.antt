@@ -6,7 +6,6 @@ use Rattle.tv_language.specs.declared.front.Front.TheVariants as fronts
 use Rattle.tv_language.specs.Fronts.{front_of}
 use Rattle.tv_language.specs.WordTexts.{continues_name, word_kind}
 use Rattle.tv_program.specs.Words.{Word}
-use Rattle.tv_reading.proofs.LinearLemmas.{and_both}
 use Rattle.tv_language.specs.Symbols.{Vocabulary}
 use Rattle.tv_formula.specs.declared.tree.Path.{Path}
 use Rattle.tv_formula.specs.declared.tree.Path.TheVariants.{Every, Any}
@@ -24,6 +23,7 @@ use Rattle.tv_formula_spelling.specs.Formulas.{path_letter, shape_letter, is_joi
 use Rattle.tv_formula_spelling.proofs.FormulaPieces.{operator_pieces, place_pieces, letter_by, arguments_by, formula_pieces, further_all_pieces, further_some_pieces}
 use Rattle.tv_formula_spelling.proofs.FormulaReady.{IsPlace, Ready, AllReady}
 use Rattle.tv_formula_spelling.proofs.SumSigns.{ready_fits, ready_known}
+use Rattle.std.proofs.lemmas.Bool.{and_from}
 
 -- ---- operators
 
@@ -32,8 +32,8 @@ abbrev IsLetter : ℕ → Type 0
 IsLetter letter = (continues_name letter ≡ true) × (word_kind (65 ∷ letter ∷ []) ≡ Name) × (word_kind (69 ∷ letter ∷ []) ≡ Name)
 
 letters_front : (p : Path) (letter : ℕ) → IsLetter letter → (x : List ℕ) → continues_name (slice_index x 0) ≡ false → front_of (path_letter p ∷ letter ∷ x) ≡ fronts.Token Name 2
-letters_front Every letter h x stops = word_at_front Name (λ n rest. refl) 65 (letter ∷ []) x refl (and_both _ _ h.0 refl) h.1 stops
-letters_front Any letter h x stops = word_at_front Name (λ n rest. refl) 69 (letter ∷ []) x refl (and_both _ _ h.0 refl) h.2 stops
+letters_front Every letter h x stops = word_at_front Name (λ n rest. refl) 65 (letter ∷ []) x refl (and_from _ _ h.0 refl) h.1 stops
+letters_front Any letter h x stops = word_at_front Name (λ n rest. refl) 69 (letter ∷ []) x refl (and_from _ _ h.0 refl) h.2 stops
 
 shape_is : (s : Shape) → IsLetter (shape_letter s)
 shape_is Until = (refl, refl, refl)

@@ -28,6 +28,7 @@ use Rattle.tv_spelling.proofs.FrontWords as words
 use Rattle.tv_spelling.proofs.FrontWords.{IsLabelWord, named, IsWordOf, AreRead}
 use Rattle.tv_spelling.proofs.ProgramPieces.{kind_by, label_kind, number_begins_no_name}
 use Rattle.tv_formula_spelling.specs.Formulas.{is_joined, is_all, is_some}
+use Rattle.tv_spelling.proofs.ConditionLeast.{conjunction_fewer}
 
 -- ---- the symbols and labels of a text
 
@@ -179,11 +180,6 @@ literal_fewer (all_of fs) n h = h
 literal_fewer (some_of fs) n h = h
 literal_fewer (next p f) n h = h
 literal_fewer (fix p s f g) n h = h
-
-conjunction_fewer : (a s : Bool) (k n : ℕ) → bracket_levels (a || s) k ≤ n → bracket_levels s k ≤ n
-conjunction_fewer true true k n h = h
-conjunction_fewer true false k n h = omega arith
-conjunction_fewer false s k n h = h
 
 one_conjunction : (v : Vocabulary) (f : Property) (fs : List Property) (n : ℕ) (us rest : List Sign) → Shown v (Ready v f) (literal_levels f) n us → Shown v (AllReady v (properties_of fs)) (all_levels (properties_of fs)) n rest
     → Shown v (Ready v (joined all_of (f ∷ fs))) (conjunction_levels (joined all_of (f ∷ fs))) n rest

@@ -15,7 +15,7 @@ use Rattle.tv_language.proofs.PlaceOfWords.{found}
 use Rattle.tv_reading.specs.Marks as marks
 use Rattle.tv_reading.specs.Marks.{plain, is_formula_word}
 use Rattle.tv_reading.proofs.FitLemmas.{all_fit, sum_fits}
-use Rattle.tv_reading.proofs.LinearLemmas.{and_left, and_right, and_both}
+use Rattle.tv_reading.proofs.LinearLemmas.{and_left, and_right}
 use Rattle.tv_reading.proofs.LongestTexts.{plains}
 use Rattle.tv_reading.proofs.PassedLemmas.{symbols-append}
 use Rattle.tv_reading.proofs.SymbolLemmas.{sum_uses}
@@ -30,9 +30,10 @@ use Rattle.tv_spelling.proofs.SumDerived.{known_shown}
 use Rattle.tv_spelling.proofs.Ordered.{ordered_without_draws}
 use Rattle.tv_spelling.proofs.Mentioned.{variables_in, variables_of, sum_mentions}
 use Rattle.tv_spelling.proofs.KnownNames.{AreKnownIn, EachKnown, known_in}
-use Rattle.tv_spelling.proofs.SettledMarks.{AreFree, settled, all_settled, settled_before_end, not_true}
+use Rattle.tv_spelling.proofs.SettledMarks.{AreFree, settled, all_settled, settled_before_end}
 use Rattle.tv_spelling.proofs.FoundAgain.{sum_to_end}
 use Rattle.tv_formula_spelling.proofs.FormulaReady.{AreGood, SumReady}
+use Rattle.std.proofs.lemmas.Bool.{and_from, not-true}
 
 -- ---- the signs of words and spaces
 
@@ -62,8 +63,8 @@ signs-append v (word kind w ∷ a) b = ap (λ (ts : List Sign). sign_of v kind w
 
 good_fits : (ws : List Word) (ss : List Symbol) → AreGood ws ss → all_fit (length ws) 0 ss ≡ true
 good_fits ws [] h = refl
-good_fits ws (number k ∷ ss) h = and_both _ _ h.0 (good_fits ws ss h.1)
-good_fits ws (name v ∷ ss) h = and_both _ _ h.0.1 (good_fits ws ss h.1)
+good_fits ws (number k ∷ ss) h = and_from _ _ h.0 (good_fits ws ss h.1)
+good_fits ws (name v ∷ ss) h = and_from _ _ h.0.1 (good_fits ws ss h.1)
 good_fits ws (label l ∷ ss) h = good_fits ws ss h.1
 good_fits ws (drawn d ∷ ss) h = absurd h.0
 good_fits ws (fixed kind ∷ ss) h = good_fits ws ss h.1
@@ -104,7 +105,7 @@ module _ (ws : List Word) (e : Expression) (h : SumReady ws e) where
 
 name_as : (ws : List Word) (w : Word) (o : Option ℕ) → number_of w ws ≡ o → settled false ws (numbered name o) ≡ true → cond (is_formula_word w) (fixed kinds.Name) (numbered name o) ≡ numbered name o
 name_as ws w None e h = absurd cc
-name_as ws w (Some k) e h = ap (λ (b : Bool). cond b (fixed kinds.Name) (name k)) (ap is_formula_word (sym (found w ws k e)) ∙ not_true (is_formula_word (slice_index_or ws k [])) h)
+name_as ws w (Some k) e h = ap (λ (b : Bool). cond b (fixed kinds.Name) (name k)) (ap is_formula_word (sym (found w ws k e)) ∙ not-true (is_formula_word (slice_index_or ws k [])) h)
 
 number_as : (n : ℕ) → nat_lt n (2 ^ 62) ≡ true → cond (nat_lt n (2 ^ 62)) (number n) (fixed kinds.Wide) ≡ number n
 number_as n h = ap (λ (b : Bool). cond b (number n) (fixed kinds.Wide)) h

@@ -3,7 +3,8 @@ use Rattle.std.proofs.Common.{◌≡◌, ℕ, zero, suc, false, List, [], ◌∷
 use Rattle.tv_grammar.specs.Reads.{Fault, faulty, fault, next, first_or}
 use Rattle.tv_grammar.specs.Langs.{Lang, unit, then, mapped, Branch, stop, go, OfBranch, branch_text, branch_value, branch_goes_on, branch_read, headed_read, headed, times, each, refused}
 use Rattle.tv_grammar.specs.Exact.{Found, Least, Exact, ExactBranch}
-use Rattle.tv_grammar.proofs.Results.{bind_ok, bind_err, ok_is, next-append, next_same, neither, not_left, not_right}
+use Rattle.tv_grammar.proofs.Results.{bind_ok, bind_err, ok_is, next-append, next_same, not_left, not_right}
+use Rattle.std.proofs.lemmas.Bool.{or_from}
 
 -- what stands behind a derivation can be put apart
 pub apart : {T K X : Type 0} (l : Lang T K X) → Exact l → (d : l.Of) (r : List T) → l.text d r ≡ l.text d [] ++ r
@@ -50,7 +51,7 @@ module _ {T K X Y : Type 0} (a : Lang T K X) (b : X → Lang T K Y) (h : Exact a
         it = (f.it, g.it);
         text = f.text ∙ ap (a.text f.it) g.text;
         is = g.is;
-        stops = neither _ _ g.stops (ap (a.goes_on f.it) (sym (next_behind l (i (a.value f.it)) g.it r) ∙ ap next (sym g.text)) ∙ f.stops);
+        stops = or_from _ _ g.stops (ap (a.goes_on f.it) (sym (next_behind l (i (a.value f.it)) g.it r) ∙ ap next (sym g.text)) ∙ f.stops);
       }
 
   then_least : (ts : List T) (k : K) (r : List T) → (then a b).read ts ≡ fault k r → Least (then a b) k ts r

@@ -22,7 +22,7 @@ or_false : (a b : Bool) → b ≡ false → (a || b) ≡ a
 or_false true b e = refl
 or_false false b e = e
 
-none_or : (b : Bool) → (b || false) ≡ b
+pub none_or : (b : Bool) → (b || false) ≡ b
 none_or true = refl
 none_or false = refl
 

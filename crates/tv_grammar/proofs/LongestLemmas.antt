@@ -1,7 +1,6 @@
 -- Reading gives the longest front: where it is read, no text begins with it and the next token, and such a front is read.
-use Rattle.std.proofs.Common.{◌≡◌, Bool, true, false, List, [], ◌∷◌, ◌++◌, Option, Some, None, Ok, refl, sym, ap, ◌∙◌, append_assoc, inl, inr, ◌⊎◌}
+use Rattle.std.proofs.Common.{◌≡◌, Bool, true, false, List, [], ◌∷◌, ◌++◌, Option, Some, None, Ok, refl, sym, ap, ◌∙◌, append_assoc, inl, inr}
 use Rattle.std.proofs.lemmas.List.{append_cancel_right}
-use Rattle.std.specs.Prelude.{◌||◌}
 use Rattle.tv_grammar.specs.Reads.{Fault, fault, next, first_or}
 use Rattle.tv_grammar.specs.Langs.{Lang, unit, then, mapped, Branch, stop, go, OfBranch, branch_text, branch_value, branch_goes_on, is_go, headed, Turns, done, turn, turns_text, turns_go_on, turns, narrowed}
 use Rattle.tv_grammar.specs.Exact.{Exact, ExactBranch, Ends}
@@ -10,6 +9,7 @@ use Rattle.tv_grammar.specs.Longest.{IsLongest, Further}
 use Rattle.tv_grammar.proofs.Results.{ok_is, not_left, not_right}
 use Rattle.tv_grammar.proofs.ExactLemmas.{apart, branch_append}
 use Rattle.tv_grammar.proofs.NarrowLemmas.{Extended}
+use Rattle.std.proofs.lemmas.Bool.{or_cases}
 
 -- ---- the longest front is read, and no other
 
@@ -45,10 +45,6 @@ longest_read {T} {K} {X} l h ends further ts x r w = ap l.read w.text ∙ h.only
 pub unit_further : {T X : Type 0} (K : Type 0) (x : X) → Further {T = T} {K = K} (unit x)
 unit_further K x d n t e = absurd cc
 
-one_of : (a b : Bool) → (a || b) ≡ true → (a ≡ true) ⊎ (b ≡ true)
-one_of true b e = inl refl
-one_of false b e = inr e
-
 module _ {T K X Y : Type 0} (a : Lang T K X) (b : X → Lang T K Y) (h : Exact a) (i : (x : X) → Exact (b x)) (fa : Further a) (fb : (x : X) → Further (b x)) where
   -- what stands behind is empty where the front goes on past it
   at_front : (d : (then a b).Of) (us : List T) → (b (a.value d.0)).text d.1 [] ≡ us → a.goes_on d.0 (first_or us None) ≡ false → (t : T) → a.goes_on d.0 (first_or us (Some t)) ≡ true → Begins (then a b) (a.text d.0 us ++ t ∷ [])
@@ -63,7 +59,7 @@ module _ {T K X Y : Type 0} (a : Lang T K X) (b : X → Lang T K Y) (h : Exact a
   at_front d (u ∷ us) e n t g = let no : true ≡ false = sym g ∙ n in absurd cc
 
   pub then_further : Further (then a b)
-  then_further d n t g = elim (one_of _ _ g) [
+  then_further d n t g = elim (or_cases _ _ g) [
     | inl x ↦
         let w = fb (a.value d.0) d.1 (not_left _ _ n) t x in
         record {
@@ -110,7 +106,7 @@ module _ {T K S : Type 0} (cases : S → T → Branch T K S) (h : (s : S) (t : T
 
   further_turns : (s : S) (d : Turns cases s) → turns_go_on cases s d None ≡ false → (t : T) → turns_go_on cases s d (Some t) ≡ true → TurnsBegin s (turns_text cases s d [] ++ t ∷ [])
   further_turns s done n t g = record { it = turn t (some_of (cases s t) (h s t) g) done; more = branch_text (cases s t) (some_of (cases s t) (h s t) g) []; whole = refl }
-  further_turns s (turn u d ds) n t g = elim (one_of _ _ g) [
+  further_turns s (turn u d ds) n t g = elim (or_cases _ _ g) [
     | inl x ↦
         let v : S = branch_value (cases s u) d in
         let w = further_turns v ds (not_left _ _ n) t x in

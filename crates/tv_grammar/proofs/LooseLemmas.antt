@@ -2,11 +2,11 @@
 use Rattle.std.proofs.Common.{◌≡◌, ℕ, zero, suc, ◌≤◌, Bool, true, false, List, [], ◌∷◌, ◌++◌, length, Some, Result, Ok, Err, refl, sym, ap, subst, ◌∙◌, length-append, arith}
 use Rattle.std.proofs.lemmas.List.{append-nil}
 use Rattle.tv_grammar.specs.Reads.{Fault, faulty, Read, ◌>>=◌, fault, next}
-use Rattle.tv_grammar.specs.Langs.{Lang, unit, then, mapped, Branch, stop, go, branch_read, headed_read, headed, turn_read, turns_read, turns, times, each}
+use Rattle.tv_grammar.specs.Langs.{Lang, unit, then, mapped, Branch, stop, go, branch_read, headed_read, headed, turn_read, turns_read, turns, each}
 use Rattle.tv_grammar.specs.Exact.{Exact, Least, Ends}
 use Rattle.tv_grammar.specs.Faults.{Kinded, AllKept, Below, AfterFault, Follows, Loosens, LoosensBranch, LoosensTurn, NoneIn, Begins}
 use Rattle.tv_grammar.proofs.Results.{clash}
-use Rattle.tv_grammar.proofs.ExactLemmas.{unit_exact, mapped_exact, times_exact, each_exact}
+use Rattle.tv_grammar.proofs.ExactLemmas.{unit_exact, mapped_exact, each_exact}
 use Rattle.tv_grammar.proofs.TurningLemmas.{shrinks}
 
 reach_by : {T K X : Type 0} (l : Lang T K X) → Exact l → (ts : List T) (r : Result (X × List T) (Fault T K)) → l.read ts ≡ r → Below (suc (length ts)) r
@@ -41,11 +41,6 @@ then_loose kept a a' b b' h i e = record { at = λ ts. follows_bind kept (λ x. 
 
 pub mapped_loose : {T K X Y : Type 0} (kept : K → Bool) (f : X → Y) (l m : Lang T K X) → Loosens kept l m → Loosens kept (mapped f l) (mapped f m)
 mapped_loose kept f l m h = then_loose kept l m (λ x. unit (f x)) (λ x. unit (f x)) h (λ x. unit_loose kept (f x)) (λ x. unit_exact (f x))
-
-pub times_loose : {T K X : Type 0} (kept : K → Bool) (n : ℕ) (l m : Lang T K X) → Exact m → Loosens kept l m → Loosens kept (times n l) (times n m)
-unfolding times
-times_loose kept zero l m e h = unit_loose kept []
-times_loose kept (suc n) l m e h = then_loose kept l m (λ x. mapped (λ xs. x ∷ xs) (times n l)) (λ x. mapped (λ xs. x ∷ xs) (times n m)) h (λ x. mapped_loose kept (λ xs. x ∷ xs) (times n l) (times n m) (times_loose kept n l m e h)) (λ x. mapped_exact (λ xs. x ∷ xs) (times n m) (times_exact n m e))
 
 pub each_loose : {T K A X : Type 0} (kept : K → Bool) (l m : A → Lang T K X) (for : List A) → ((a : A) → Exact (m a)) → ((a : A) → Loosens kept (l a) (m a)) → Loosens kept (each l for) (each m for)
 unfolding each

@@ -1,15 +1,12 @@
 -- Tokens at which no derivation goes on.
-use Rattle.std.proofs.Common.{◌≡◌, Bool, false, List, [], Option, Some, None, ◌∙◌}
+use Rattle.std.proofs.Common.{◌≡◌, Bool, false, List, [], Option, Some, None}
 use Rattle.tv_grammar.specs.Reads.{first_or}
 use Rattle.tv_grammar.specs.Langs.{Lang, then, mapped, Branch, OfBranch, branch_value, branch_goes_on, headed, Turns, done, turn, turns_text, goes_at, turns}
-use Rattle.tv_grammar.specs.Exact.{Goes, Outside, Ends}
-use Rattle.tv_grammar.proofs.Results.{neither}
+use Rattle.tv_grammar.specs.Exact.{Outside, Ends}
+use Rattle.std.proofs.lemmas.Bool.{or_from}
 
 abbrev pub BranchOutside : {T K X : Type 0} → Branch T K X → (Option T → Bool) → Type 0
 BranchOutside {T} b g = (d : OfBranch b) (t : Option T) → g t ≡ false → branch_goes_on b d t ≡ false
-
-pub goes_outside : {T K X : Type 0} (l : Lang T K X) (at g : Option T → Bool) → Goes l at → ((t : Option T) → g t ≡ false → at t ≡ false) → Outside l g
-goes_outside l at g h i d t e = h d t ∙ i t e
 
 pub outside_ends : {T K X : Type 0} (l : Lang T K X) (g : Option T → Bool) → Outside l g → g None ≡ false → Ends l
 outside_ends l g h e d = h d None e
@@ -22,7 +19,7 @@ headed_outside missing cases g h d t e = h d.0 d.1 t e
 
 -- where what stands behind begins with none of the tokens at which the front goes on
 pub then_outside : {T K X Y : Type 0} (a : Lang T K X) (b : X → Lang T K Y) (ga gb : Option T → Bool) → Outside a ga → ((x : X) → Outside (b x) gb) → ((x : X) (d : (b x).Of) (t : Option T) → gb t ≡ false → ga (first_or ((b x).text d []) t) ≡ false) → Outside (then a b) gb
-then_outside a b ga gb h i split d t e = neither _ _ (i (a.value d.0) d.1 t e) (h d.0 (first_or ((b (a.value d.0)).text d.1 []) t) (split (a.value d.0) d.1 t e))
+then_outside a b ga gb h i split d t e = or_from _ _ (i (a.value d.0) d.1 t e) (h d.0 (first_or ((b (a.value d.0)).text d.1 []) t) (split (a.value d.0) d.1 t e))
 
 module _ {T K S : Type 0} (cases : S → T → Branch T K S) (g : Option T → Bool) (split : (s : S) (t : T) → OfBranch (cases s t) → g (Some t) ≡ false) where
   -- turns begin with no token of g
@@ -32,4 +29,4 @@ module _ {T K S : Type 0} (cases : S → T → Branch T K S) (g : Option T → B
 
   pub turns_outside : (out : Option T → Bool) → ((s : S) (t : Option T) → out t ≡ false → goes_at (cases s) t ≡ false) → ((s : S) (t : T) → BranchOutside (cases s t) g) → ((t : Option T) → out t ≡ false → g t ≡ false) → (s : S) → Outside (turns cases s) out
   turns_outside out starts items within s done u e = starts s u e
-  turns_outside out starts items within s (turn t d ds) u e = neither _ _ (turns_outside out starts items within (branch_value (cases s t) d) ds u e) (items s t d (first_or (turns_text cases (branch_value (cases s t) d) ds []) u) (turns_first (branch_value (cases s t) d) ds [] u (within u e)))
+  turns_outside out starts items within s (turn t d ds) u e = or_from _ _ (turns_outside out starts items within (branch_value (cases s t) d) ds u e) (items s t d (first_or (turns_text cases (branch_value (cases s t) d) ds []) u) (turns_first (branch_value (cases s t) d) ds [] u (within u e)))

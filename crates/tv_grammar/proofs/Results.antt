@@ -28,11 +28,6 @@ pub next_same : {T : Type 0} (a r s : List T) → next r ≡ next s → next (a 
 next_same [] r s e = e
 next_same (t ∷ a) r s e = refl
 
-pub neither : (a b : Bool) → a ≡ false → b ≡ false → (a || b) ≡ false
-neither false false h i = refl
-neither true b h i = absurd cc
-neither false true h i = absurd cc
-
 pub not_left : (a b : Bool) → (a || b) ≡ false → a ≡ false
 not_left false b h = refl
 not_left true b h = absurd cc

@@ -3,8 +3,9 @@ use Rattle.std.proofs.Common.{◌≡◌, ℕ, zero, suc, ◌<◌, ◌≤◌, fal
 use Rattle.tv_grammar.specs.Reads.{Fault, faulty, Read, fault, next, first_or}
 use Rattle.tv_grammar.specs.Langs.{Branch, stop, go, OfBranch, branch_text, branch_value, branch_goes_on, is_go, Turns, done, turn, turns_text, turns_value, turns_go_on, goes_at, turn_read, turns_read, turns}
 use Rattle.tv_grammar.specs.Exact.{Exact, ExactBranch}
-use Rattle.tv_grammar.proofs.Results.{bind_ok, bind_err, ok_is, clash, next-append, next_same, neither, not_left, not_right}
+use Rattle.tv_grammar.proofs.Results.{bind_ok, bind_err, ok_is, clash, next-append, next_same, not_left, not_right}
 use Rattle.tv_grammar.proofs.ExactLemmas.{branch_append}
+use Rattle.std.proofs.lemmas.Bool.{or_from}
 
 turn_only : {T K S : Type 0} (b : Branch T K S) → ExactBranch b → (again : S → Read T K S) (s : S) (d : OfBranch b) (here us : List T) → branch_goes_on b d (next us) ≡ false → turn_read b again s here (branch_text b d us) ≡ again (branch_value b d) us
 turn_only (stop k) h again s d here us n = absurd d
@@ -94,7 +95,7 @@ module _ {T K S : Type 0} (cases : S → T → Branch T K S) (h : (s : S) (t : T
           it = turn t g.it f.it;
           text = ap (λ (r : List T). t ∷ r) (g.text ∙ ap (branch_text (cases s t) g.it) f.text);
           is = f.is;
-          stops = neither _ _ f.stops (ap (branch_goes_on (cases s t) g.it) (sym (behind (branch_value (cases s t) g.it) f.it x.1) ∙ ap next (sym f.text)) ∙ g.stops);
+          stops = or_from _ _ f.stops (ap (branch_goes_on (cases s t) g.it) (sym (behind (branch_value (cases s t) g.it) f.it x.1) ∙ ap next (sym f.text)) ∙ g.stops);
         }
   ]
 

@@ -1,10 +1,9 @@
 -- Whole texts: what is read is one, one is read, and a fault is at the first token that no text has there.
-use Rattle.std.proofs.Common.{◌≡◌, false, List, [], ◌∷◌, Option, None, Ok, refl, sym, ap, ◌∙◌, inl, inr, ◌⊎◌}
+use Rattle.std.proofs.Common.{◌≡◌, false, List, [], ◌∷◌, None, Ok, refl, sym, ap, ◌∙◌, inl, inr}
 use Rattle.std.proofs.lemmas.List.{append-nil}
 use Rattle.tv_grammar.specs.Reads.{Fault, faulty, fault, next}
 use Rattle.tv_grammar.specs.Langs.{Lang, at_end, read_all}
-use Rattle.tv_grammar.specs.Exact.{Exact, Ends, IsText, StopsAt, Ended}
-use Rattle.tv_grammar.specs.Faults.{Kinded}
+use Rattle.tv_grammar.specs.Exact.{Exact, Ends, IsText, StopsAt}
 use Rattle.tv_grammar.proofs.Results.{bind_ok, bind_err, ok_is, clash}
 use Rattle.tv_grammar.proofs.ExactLemmas.{apart}
 
@@ -45,10 +44,6 @@ all_found {T} {K} {X} after l h ts x r e =
     let f = h.found ts y.0.0 y.0.1 y.1 in
     record { it = f.it; text = f.text ∙ ap (l.text f.it) w.none; is = f.is ∙ w.same }
 
--- a text is read
-pub all_only : {T K X : Type 0} (after : K) (l : Lang T K X) → Exact l → Ends l → (ts : List T) (x : X) → IsText l ts x → read_all after l ts ≡ Ok (x, [])
-all_only {T} {K} {X} after l h ends ts x d = rw (d.text, h.only d.it [] (ends d.it)) (ap (λ (y : X). Ok (y, [])) d.is)
-
 -- a fault is the first one
 pub all_least : {T K X : Type 0} (after : K) (l : Lang T K X) → Exact l → Ends l → (k : K) (ts r : List T) → read_all after l ts ≡ fault k r → StopsAt l ts r
 all_least {T} {K} {X} after l h ends k ts r e = elim (bind_err (l.read ts) (λ x. at_end after x.0 x.1) (faulty k r) e) [
@@ -67,14 +62,4 @@ all_least {T} {K} {X} after l h ends k ts r e = elim (bind_err (l.read ts) (λ x
             w.some (ap next w.left ∙ sym same ∙ ap next (sym (ap (λ (p : X × List T). p.1) is)));
         some = (f.it, ([], sym (append-nil (l.text f.it []))));
       }
-]
-
--- the kind is one that its token can have, or the text ended before
-pub all_kinded : {T K X : Type 0} (P : K → Option T → Type 0) (after : K) (l : Lang T K X) → Exact l → Kinded P l → (k : K) (ts r : List T) → read_all after l ts ≡ fault k r → P k (next r) ⊎ Ended l after k ts r
-all_kinded {T} P after l e h k ts r is = elim (bind_err (l.read ts) (λ x. at_end after x.0 x.1) (faulty k r) is) [
-  | inl x ↦ inl (h.kind ts k r x)
-  | inr y ↦
-      let w = end_fault after y.0.0 y.0.1 k r y.2 in
-      let f = e.found ts y.0.0 y.0.1 y.1 in
-      inr (record { is = sym w.is; it = f.it; text = f.text ∙ ap (l.text f.it) w.left })
 ]

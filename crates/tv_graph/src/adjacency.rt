@@ -4,8 +4,8 @@ ghost use Rattle.std.specs.Prelude.{IfOk};
 ghost use Rattle.tv_graph.specs.Arcs.{InRange, HasLatest, HasEarlier};
 
 use crate::Arc;
-use crate::push::push_item;
 use std::alloc::{AllocError, Global};
+use tv_linear::push_item;
 
 /// The arcs as linked lists by their start, from the last arc to the first.
 ///

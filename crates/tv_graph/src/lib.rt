@@ -7,7 +7,6 @@ ghost use Rattle.tv_graph.specs.Graph.{IsBetween, AreStronglyConnected, HasNoGap
 
 mod adjacency;
 mod marks;
-mod push;
 mod search;
 
 use adjacency::AdjacencyLists;

@@ -9,8 +9,8 @@ ghost use Rattle.tv_graph.specs.PathSearch.{IsValid, KeepsReached, EntersNode, C
 
 use crate::Arc;
 use crate::marks::{Mark, close_nodes, numbers_of};
-use crate::push::push_item;
 use std::alloc::{AllocError, Global};
+use tv_linear::push_item;
 
 /// The state of the search.
 ///

@@ -21,9 +21,6 @@ use Rattle.tv_invariant.specs.Asking.{IsTold, Gave, AreTaken, HaveNoMore}
 abbrev pub Asked : CaseSystem → Option (List Candidate) → Option (List Candidate) → List Candidate → List Candidate → Type 0
 Asked about first now old list = (given : List Candidate) × AreTaken about old given list × ((after : List Candidate) → IsTold now after → IsTold first (given ++ after))
 
-pub asked_none : (about : CaseSystem) (first : Option (List Candidate)) (list : List Candidate) → Asked about first first list list
-asked_none about first list = ([], sym (append-nil list), λ after t. t)
-
 taken_more : (about : CaseSystem) (old list new given more : List Candidate) → AreTaken about old given list → AreTaken about list more new → AreTaken about old (given ++ more) new
 taken_more about old list new given more e f =
     f

@@ -6,7 +6,6 @@ mod SieveLemmas
 pub mod StepLemmas
 pub mod PickLemmas
 pub mod PieceLemmas
-mod MarkLemmas
 pub mod PassLemmas
 pub mod AskLemmas
 pub mod RunLemmas

@@ -8,11 +8,6 @@ use Rattle.std.proofs.lemmas.List.Elements.{All-nil, All-cons, All-head, All-tai
 pub in_one : {A : Type 0} (y x : A) → Contains (y ∷ []) x → y ≡ x
 in_one y x c = elim (Contains-cases y x [] c) [ inl e ↦ e | inr r ↦ absurd (Contains-none x r) ]
 
-pub in_get : {A : Type 0} (xs : List A) (k : ℕ) (d : A) → k < length xs → Contains xs (get_or xs k d)
-in_get [] k d l = absurd (omega (arith, l))
-in_get (x ∷ xs) zero d l = (0, omega arith, refl)
-in_get (x ∷ xs) (suc k) d l = let r = in_get xs k d (omega (arith, l)) in (suc r.0, (let m = r.1 in omega (arith, m)), r.2)
-
 -- All by membership
 pub all_by : {A : Type 0} (P : A → Type 0) (xs : List A) → ((x : A) → Contains xs x → P x) → All P xs
 all_by P [] h = All-nil P

@@ -1,7 +1,7 @@
 -- Passes over all cases.
 use Rattle.std.proofs.Common.{◌≡◌, ◌⊎◌, inl, inr, ℕ, zero, suc, ◌+◌, ◌<◌, ◌≤◌, List, [], ◌∷◌, length, set, replicate, get_or, All, Bool, true, false, MatchBool, ℤ, Some, arith, refl, sym, ap, ◌∙◌, subst}
 use Rattle.std.specs.List.{Contains, slice_get}
-use Rattle.std.proofs.lemmas.Option.{slice_get_within, slice_get-get_or, get_or_from_slice_get}
+use Rattle.std.proofs.lemmas.Option.{slice_get-get_or}
 use Rattle.std.proofs.lemmas.List.Elements.{All-contains}
 use Rattle.tv_linear.specs.Linear.{columns, IsMet}
 use Rattle.tv_cases.specs.LinearCases.{LinearCase, CaseSystem}
@@ -19,6 +19,9 @@ use Rattle.tv_invariant.specs.Reopened.{IsReopened}
 use Rattle.tv_program.specs.Steps.{State}
 use Rattle.tv_invariant.proofs.ListLemmas.{all_by}
 use Rattle.tv_invariant.proofs.SieveLemmas.{sieved_part, sieved_stay, sieved_fall, sieved_length, sieved_same, sieved_again}
+use Rattle.tv_propose.proofs.TableLemmas.{length-views}
+use Rattle.tv_linear.proofs.ListLaws.{contains_at}
+use Rattle.tv_cases.proofs.LeavingLemmas.{case_at as case_there}
 
 left_all : (about : CaseSystem) (now : List Candidate) → IsLeft about now now
 left_all about now = every (IsInNoPart about now) now
@@ -115,9 +118,6 @@ module _ (about : CaseSystem) (number : ℕ) (case : LinearCase) (there : slice_
 
 -- ---- passes
 
-pub passed_none : (about : CaseSystem) (now : List Candidate) (marks : List Bool) → IsPassed about 0 now now marks marks
-passed_none about now marks = record { left = λ list h. h; shorter = omega arith; closed = λ h. h; settled = λ l. (refl, λ k m. absurd (omega (arith, m))) }
-
 pub passed_closed : (about : CaseSystem) (count : ℕ) (old new : List Candidate) (before after : List Bool) → IsPassed about count old new before after → IsClosed after count → IsPassed about (count + 1) old new before after
 passed_closed about count old new before after h shut = record {
   left = h.left;
@@ -151,18 +151,6 @@ passed_part about count old new before after h = left_part about old new (h.left
 
 -- ---- cases by number
 
-case_there : (cs : List Case) (k : ℕ) (x : Case) → k < length cs → x ≡ get_or cs k x → slice_get (case_views cs) k ≡ Some (case_view x)
-case_there [] k x l e = absurd (omega (arith, l))
-case_there (c ∷ cs) zero x l e = ap (λ y. Some (case_view y)) (sym e)
-case_there (c ∷ cs) (suc k) x l e = case_there cs k x (omega (arith, l)) e
-
-length-views : (cs : List Case) → length (case_views cs) ≡ length cs
-length-views [] = refl
-length-views (c ∷ cs) = ap suc (length-views cs)
-
-found_among : {X : Type 0} (xs : List X) (k : ℕ) (x : X) → slice_get xs k ≡ Some x → Contains xs x
-found_among xs k x e = (k, slice_get_within xs k x e, get_or_from_slice_get xs k x x e)
-
 view_from : (cs : List Case) (k : ℕ) (other : LinearCase) → slice_get (case_views cs) k ≡ Some other → (x : Case) × (x ≡ get_or cs k x) × (case_view x ≡ other)
 view_from [] k other e = absurd cc
 view_from (c ∷ cs) zero other e = (c, refl, (let s : case_view c ≡ other = cc in s))
@@ -184,7 +172,7 @@ module _ (about : CaseSystem) (cs : List Case) (is : case_views cs ≡ about.cas
     case_at = subst (λ ds. slice_get ds k ≡ Some (case_view x)) is (case_there cs k x l here)
 
     pub among_cases : Contains about.cases (case_view x)
-    among_cases = found_among about.cases k (case_view x) case_at
+    among_cases = contains_at about.cases k (case_view x) case_at
 
 -- all cases are open at first
 pub all_open : (about : CaseSystem) (now : List Candidate) (n : ℕ) → ClosedKeep about now (replicate n true)

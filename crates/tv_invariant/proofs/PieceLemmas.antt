@@ -2,7 +2,7 @@
 use Rattle.std.proofs.Common.{◌≡◌, ◌⊎◌, inl, inr, ℕ, zero, suc, ◌<◌, get_or, List, [], ◌∷◌, ◌++◌, length, map, All, Some, Bool, true, false, cond, refl, sym, ap, ◌∙◌, subst}
 use Rattle.std.specs.Prelude.{◌==◌}
 use Rattle.std.specs.List.{slice_get, filter, Contains}
-use Rattle.std.proofs.lemmas.List.Elements.{All-contains, All-filter, All-map}
+use Rattle.std.proofs.lemmas.List.Elements.{All-contains, All-filter, All-map, Contains-get_or}
 use Rattle.tv_linear.specs.Linear.{Linear, columns}
 use Rattle.tv_linear.specs.declared.region.Piece.{Piece}
 use Rattle.tv_linear.proofs.ListLaws.{test_true, true_test}
@@ -12,7 +12,7 @@ use Rattle.tv_invariant.specs.Places.{row_of, place_of, rows_at}
 use Rattle.tv_invariant.specs.Passes.{AreOver}
 use Rattle.tv_invariant.specs.Pieces.{IsPieceOf, AreInPlace}
 use Rattle.tv_cases.proofs.Listed.{Contains-here, Contains-later, Contains-cases, Contains-none}
-use Rattle.tv_invariant.proofs.ListLemmas.{all_by, in_get}
+use Rattle.tv_invariant.proofs.ListLemmas.{all_by}
 
 old_or_last : {A : Type 0} (xs : List A) (y x : A) (k : ℕ) → slice_get (xs ++ y ∷ []) k ≡ Some x → (slice_get xs k ≡ Some x) ⊎ ((k ≡ length xs) × (y ≡ x))
 old_or_last [] y x zero h = inr (refl, cc)
@@ -71,4 +71,4 @@ module _ (l : ℕ) where
   -- so is each of the strongest
   pub strongest_there : (list : List Candidate) (new items : List Linear) (k : ℕ) (r : Linear) → IsStronger (rows_at l list) new → items ≡ new → k < length items → r ≡ get_or items k r → (c : Candidate) × Contains list c × (c.location ≡ l) × (c.row ≡ r)
   strongest_there list new items k r h e inside is =
-      row_there list r (h.from r (subst (λ rs. Contains rs r) e (subst (Contains items) (sym is) (in_get items k r inside))))
+      row_there list r (h.from r (subst (λ rs. Contains rs r) e (subst (Contains items) (sym is) (Contains-get_or items k r inside))))

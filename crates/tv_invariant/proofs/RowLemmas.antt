@@ -1,18 +1,11 @@
 -- Rows over the columns of a case, and rows that others imply.
-use Rattle.std.proofs.Common.{◌≡◌, inl, inr, ℕ, zero, suc, ◌+◌, ◌-◌, List, [], ◌∷◌, ◌++◌, map, All, arith, sym, ap, ◌∙◌, subst, ℤ, Bool, true, false, ◌==◌, if◌then◌else◌}
+use Rattle.std.proofs.Common.{◌≡◌, inl, inr, ℕ, ◌+◌, ◌-◌, List, [], ◌∷◌, ◌++◌, All, arith, sym, ap, ◌∙◌, subst, ℤ}
 use Rattle.std.specs.List.{Contains}
 use Rattle.std.proofs.lemmas.Int.{ints}
-use Rattle.std.proofs.lemmas.List.Elements.{All-nil, All-cons, All-head, All-tail, All-push, Contains-append_left, Contains-append_right, Contains-append_cases}
+use Rattle.std.proofs.lemmas.List.Elements.{All-head, All-push, Contains-append_left, Contains-append_right, Contains-append_cases}
 use Rattle.tv_linear.specs.Linear.{Linear, columns, dot, IsMet}
-use Rattle.tv_linear.specs.Known.{Term, put}
-use Rattle.tv_linear.specs.Terms.{table, update_of}
-use Rattle.tv_linear.specs.declared.region.Update.{Update}
 use Rattle.tv_linear.specs.declared.region.Poly.{Poly}
-use Rattle.tv_linear.proofs.PlainLists.{length-unit}
-use Rattle.tv_linear.proofs.Entries.{columns-combined}
 use Rattle.tv_linear.proofs.ListLaws.{all_front, all_back}
-use Rattle.tv_cases.specs.LinearCases.{LinearCase}
-use Rattle.tv_cases.specs.Before.{term_row, rows_after, before}
 use Rattle.std.specs.Prelude.{Result, Ok, Err, IfOk}
 use Rattle.tv_farkas.specs.declared.fault.CoverFault.{CoverFault}
 use Rattle.tv_cover.specs.declared.covered.Covered.{Covered}
@@ -20,11 +13,8 @@ use Rattle.tv_cover.specs.declared.covered.Covered.TheVariants.{Tree, Hole}
 use Rattle.tv_cover.specs.Covering.{IsCovered, HasNoHole}
 use Rattle.tv_invariant.specs.Seen.{IsAsked}
 use Rattle.tv_cover.specs.Targets.{IsInTarget, IsOutside, lists_of}
-use Rattle.tv_invariant.specs.Rows.{Implies, IsStronger}
-use Rattle.tv_cases.proofs.Listed.{Contains-none}
+use Rattle.tv_invariant.specs.Rows.{Implies}
 use Rattle.tv_invariant.proofs.ListLemmas.{in_one}
-
--- ---- padding
 
 -- ---- rows that others imply
 
@@ -33,12 +23,6 @@ implied strong weak h xs m =
     let e : dot strong.coefficients xs ≡ dot weak.coefficients xs = ap (λ cs. dot cs xs) h.same in
     let k = h.more in
     omega (arith, ints, e, k, m)
-
-pub stronger_none : (rows : List Linear) → (r : Linear) → Contains [] r → Contains rows r
-stronger_none rows r c = absurd (Contains-none r c)
-
-pub stronger_twice : (old mid new : List Linear) → IsStronger old mid → IsStronger mid new → IsStronger old new
-stronger_twice old mid new h k = record { from = λ r c. h.from r (k.from r c); met = λ xs m. h.met xs (k.met xs m) }
 
 -- ---- one target of one row
 
@@ -59,25 +43,6 @@ pub asked_of : (n : ℕ) (rows : List Linear) (r : Linear) (lists : List (List L
 asked_of n rows r lists e (Ok (Tree cover)) h none = λ xs w. in_only r xs lists e (none xs w)
 asked_of n rows r lists e (Ok (Hole point)) h none = (h.point, out_of_only r point.items lists e h.outside)
 asked_of n rows r lists e (Err fault) h none = tt
-
--- ---- before a case
-
-module _ (w : ℕ) where
-  if_wide : (b : Bool) (t u : Term) → columns (term_row w t) ≡ w → columns (term_row w u) ≡ w → columns (term_row w (if b then t else u)) ≡ w
-  if_wide true t u h g = h
-  if_wide false t u h g = g
-
-  update_wide : (us : List Update) (v : ℕ) → All (λ u. columns u.term ≡ w) us → columns (term_row w (update_of us v)) ≡ w
-  update_wide [] v h = length-unit w v
-  update_wide (u ∷ us) v h = if_wide (u.variable == v) (put u.term) (update_of us v) (All-head (λ u. columns u.term ≡ w) u us h) (update_wide us v (All-tail (λ u. columns u.term ≡ w) u us h))
-
-  table_wide : (n : ℕ) (f : ℕ → Term) → ((j : ℕ) → columns (term_row w (f j)) ≡ w) → All (λ r. columns r ≡ w) (map (term_row w) (table n f))
-  table_wide zero f h = All-nil (λ r. columns r ≡ w)
-  table_wide (suc n) f h = All-cons (λ r. columns r ≡ w) (term_row w (f 0)) (map (term_row w) (table n (λ j. f (suc j)))) (h 0) (table_wide n (λ j. f (suc j)) (λ j. h (suc j)))
-
-pub columns_before : (r : Linear) (c : LinearCase) → All (λ u. columns u.term ≡ columns r + c.draws) c.updates → columns (before r c) ≡ columns r + c.draws
-columns_before r c h =
-    columns-combined (columns r + c.draws) r.coefficients (rows_after r c) (table_wide (columns r + c.draws) (columns r) (update_of c.updates) (λ j. update_wide (columns r + c.draws) c.updates j h))
 
 -- ---- the last row of a list is looked at
 

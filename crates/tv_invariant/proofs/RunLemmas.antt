@@ -1,16 +1,16 @@
 -- Runs, step by step.
-use Rattle.std.proofs.Common.{◌≡◌, ℕ, zero, suc, ◌+◌, ◌<◌, ◌∙◌, List, [], ◌∷◌, ◌++◌, length, map, All, ℤ, Some, refl, sym, ap, subst, arith, add-one, length-append, Bool, true, false, cond, ◌==◌, get_or}
+use Rattle.std.proofs.Common.{◌≡◌, ℕ, zero, suc, ◌+◌, ◌∙◌, List, [], ◌∷◌, ◌++◌, length, map, All, ℤ, Some, refl, sym, ap, subst, add-one, Bool, true, false, cond, ◌==◌}
 use Rattle.std.specs.Prelude.{Vec, Result, Ok, Err, IfOk}
 use Rattle.std.specs.Global.{Global}
-use Rattle.std.proofs.lemmas.List.Elements.{All-get_or, All-push}
+use Rattle.std.proofs.lemmas.List.Elements.{All-push}
 use Rattle.std.specs.List.{Contains, slice_get}
-use Rattle.std.proofs.lemmas.List.{length-map}
+use Rattle.std.proofs.lemmas.List.{length-map, map_push}
 use Rattle.tv_linear.specs.Linear.{IsMet}
 use Rattle.tv_linear.specs.Known.{term_value}
 use Rattle.tv_linear.specs.Terms.{update_of, terms_after}
 use Rattle.tv_linear.specs.declared.region.Update.{Update}
 use Rattle.tv_linear.proofs.PlainLists.{length-table}
-use Rattle.tv_linear.proofs.ListLaws.{map-push, table-push, true_test}
+use Rattle.tv_linear.proofs.ListLaws.{table-push, true_test}
 use Rattle.tv_program.specs.Steps.{State}
 use Rattle.tv_program.specs.Runs.{IsRun, last_of}
 use Rattle.tv_cases.specs.LinearCases.{LinearCase, CaseSystem, CaseDoes, CaseSteps, from_of, leaving}
@@ -21,9 +21,6 @@ use Rattle.tv_invariant.specs.declared.reached.Reached.{Reached}
 use Rattle.tv_invariant.specs.Reached.{state_of, IsReached, IsInNone, AreDrawn}
 
 -- ---- lists
-
-pub one_of : {A : Type 0} (P : A → Type 0) (xs : List A) (k : ℕ) (x : A) → All P xs → k < length xs → x ≡ get_or xs k x → P x
-one_of P xs k x all inside is = subst P (sym is) (All-get_or P xs k x inside all)
 
 pub pushed_all : {A B E : Type 0} (P : A → Type 0) (xs : List A) (x : A) → All P xs → P x → (result : Result B E) (new : Vec A Global) → IfOk result (λ _. new.items ≡ xs ++ x ∷ []) → IfOk result (λ _. All P new.items)
 pushed_all P xs x all one (Ok b) new h = subst (All P) (sym h) (All-push P xs x all one)
@@ -38,24 +35,13 @@ drawn_none list = record { drawn = []; counted = refl; parts = sym (append-nil l
     append-nil [] = refl
     append-nil (x ∷ xs) = ap (λ ys. x ∷ ys) (append-nil xs)
 
-append-assoc : (xs ys zs : List ℤ) → xs ++ ys ++ zs ≡ xs ++ (ys ++ zs)
-append-assoc [] ys zs = refl
-append-assoc (x ∷ xs) ys zs = ap (λ ws. x ∷ ws) (append-assoc xs ys zs)
-
-pub drawn_more : (count : ℕ) (old mid new : List ℤ) (x : ℤ) → AreDrawn count old mid → new ≡ mid ++ x ∷ [] → AreDrawn (count + 1) old new
-drawn_more count old mid new x h e = record {
-  drawn = h.drawn ++ x ∷ [];
-  counted = (let l = length-append h.drawn (x ∷ []) in let m = h.counted in omega (arith, l, m));
-  parts = (e ∙ ap (λ ys. ys ++ x ∷ []) h.parts) ∙ append-assoc old h.drawn (x ∷ []);
-}
-
 -- ---- values after a case, one by one
 
 pub values-push : (point : List ℤ) (us : List Update) (n : ℕ) → map (term_value point) (terms_after (n + 1) us) ≡ map (term_value point) (terms_after n us) ++ term_value point (update_of us n) ∷ []
 values-push point us n =
     ap (λ k. map (term_value point) (terms_after k us)) (add-one n)
     ∙ ap (map (term_value point)) (table-push n (update_of us))
-    ∙ map-push (term_value point) (terms_after n us) (update_of us n)
+    ∙ map_push (term_value point) (terms_after n us) (update_of us n)
 
 -- ---- runs
 

@@ -1,37 +1,12 @@
 -- Rows that each list of numbers meets.
-use Rattle.std.proofs.Common.{◌≡◌, ℕ, zero, suc, ◌+◌, ◌*◌, ◌<◌, ◌≤◌, List, [], ◌∷◌, length, arith, refl, sym, ap, ◌∙◌, ℤ, pos, negsuc, ◌+ℤ◌, ◌*ℤ◌, ◌≤ℤ◌, ◌<ℤ◌, Bool, true, false, ◌&&◌, MatchBool, int_le}
+use Rattle.std.proofs.Common.{◌≡◌, ℕ, zero, suc, ◌+◌, ◌*◌, ◌<◌, ◌≤◌, List, [], ◌∷◌, length, arith, refl, sym, ap, ℤ, pos, negsuc, ◌+ℤ◌, ◌*ℤ◌, ◌≤ℤ◌, ◌<ℤ◌, Bool, true, false, ◌&&◌, MatchBool, int_le}
 use Rattle.std.specs.List.{list_all}
 use Rattle.std.proofs.lemmas.Int.{ints}
 use Rattle.tv_linear.specs.Linear.{Linear, columns, dot, IsMet}
 use Rattle.tv_linear.specs.Arithmetic.{zeros}
 use Rattle.tv_linear.proofs.PlainLists.{length-zeros}
 use Rattle.tv_cases.specs.Forms.{is_zero}
-
-zero_is : (z : ℤ) → is_zero z ≡ true → z ≡ pos 0
-zero_is (pos zero) e = refl
-zero_is (pos (suc n)) e = absurd cc
-zero_is (negsuc n) e = absurd cc
-
-no_first : (b c : Bool) → (b && c) ≡ true → b ≡ true
-no_first true c e = refl
-no_first false c e = absurd cc
-
-no_second : (b c : Bool) → (b && c) ≡ true → c ≡ true
-no_second true true e = refl
-no_second true false e = absurd cc
-no_second false c e = absurd cc
-
-constant_dot : (cs xs : List ℤ) → list_all is_zero cs ≡ true → dot cs xs ≡ pos 0
-constant_dot [] xs e = refl
-constant_dot (c ∷ cs) [] e = refl
-constant_dot (c ∷ cs) (x ∷ xs) e =
-    let z = zero_is c (no_first (is_zero c) (list_all is_zero cs) e) in
-    let h = constant_dot cs xs (no_second (is_zero c) (list_all is_zero cs) e) in
-    let t : (c *ℤ x) ≡ pos 0 = ap (λ y. y *ℤ x) z ∙ none x in
-    omega (arith, ints, t, h)
-  where
-    none : (x : ℤ) → (pos 0 *ℤ x) ≡ pos 0
-    none x = omega (arith, ints)
+use Rattle.tv_cases.proofs.RowValues.{dot-constant}
 
 at_zeros : (cs : List ℤ) (n : ℕ) → dot cs (zeros n) ≡ pos 0
 at_zeros [] n = refl
@@ -68,7 +43,7 @@ somewhere_above (c ∷ cs) k e = above_first (is_zero c) c cs k refl e (somewher
 
 -- a row whose constant is at most 0 and whose coefficients are 0
 pub always_met : (r : Linear) → r.constant ≤ℤ pos 0 → list_all is_zero r.coefficients ≡ true → (xs : List ℤ) → IsMet xs r
-always_met r k e xs = let d = constant_dot r.coefficients xs e in omega (arith, ints, k, d)
+always_met r k e xs = let d = dot-constant r.coefficients xs e in omega (arith, ints, k, d)
 
 pub not_met_for_constant : (r : Linear) → (r.constant ≤ℤ pos 0 → ⊥) → (xs : List ℤ) × (length xs ≡ columns r) × (IsMet xs r → ⊥)
 not_met_for_constant r k = (
@@ -81,9 +56,6 @@ pub not_met_for_coefficients : (r : Linear) → list_all is_zero r.coefficients 
 not_met_for_coefficients r e =
     let h = somewhere_above r.coefficients r.constant e in
     (h.xs, h.long, λ m. (let a = h.above in omega (arith, ints, a, m)))
-
-pub le_from_test : (a b : ℤ) → int_le a b ≡ true → a ≤ℤ b
-le_from_test a b h = grind (arith, ints)
 
 pub above_from_test : (a b : ℤ) → int_le a b ≡ false → a ≤ℤ b → ⊥
 above_from_test a b h = grind (arith, ints)

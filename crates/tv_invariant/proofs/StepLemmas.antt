@@ -7,7 +7,7 @@ use Rattle.tv_linear.specs.Arithmetic.{padded_row}
 use Rattle.tv_linear.specs.Known.{term_value}
 use Rattle.tv_linear.specs.Terms.{terms_after}
 use Rattle.tv_linear.proofs.PaddedLemmas.{value-padded, padded_even}
-use Rattle.tv_linear.proofs.ListLaws.{test_true, true_test, all_front, all_back, front_back}
+use Rattle.tv_linear.proofs.ListLaws.{test_true, true_test, all_front, all_back}
 use Rattle.tv_farkas.specs.Paths.{IsWholePoint}
 use Rattle.tv_farkas.specs.declared.fault.CoverFault.{CoverFault}
 use Rattle.tv_farkas.specs.declared.fault.CoverFault.TheVariants.{Memory}
@@ -27,6 +27,7 @@ use Rattle.tv_invariant.proofs.ListLemmas.{all_by, length-front, length-back}
 use Rattle.tv_invariant.proofs.SieveLemmas.{sieved_map}
 use Rattle.std.specs.Prelude.{Vec, Result, Ok, Err, IfOk}
 use Rattle.std.specs.Result.{IfErr}
+use Rattle.std.proofs.lemmas.List.{take-append-drop}
 
 module _ (w l : ℕ) where
   all_rows : List Candidate → List Linear
@@ -81,7 +82,7 @@ module _ (n : ℕ) (case : LinearCase) (now : List Candidate) (c : Candidate) (r
       let ds = drop n zs in
       let lx = length-front n case.draws zs size in
       let ld = length-back n case.draws zs size in
-      let same : xs ++ ds ≡ zs = front_back n zs in
+      let same : xs ++ ds ≡ zs = take-append-drop n zs in
       let front = all_front (IsMet zs) (map (padded_row case.draws) (rows_at case.from now)) case.guards all in
       let guards = all_back (IsMet zs) (map (padded_row case.draws) (rows_at case.from now)) case.guards all in
       let v = before-value c.row case xs ds (lx ∙ sym wide) ld in

@@ -15,9 +15,9 @@ use Rattle.tv_meaning.proofs.RunLemmas.{Never_ends_by}
 use Rattle.tv_known.specs.Cycles.{IsStateOf}
 use Rattle.tv_known.specs.Rounds.{ShrinkingRound, Goes, Stops}
 use Rattle.tv_known.specs.Known.{FixKnown, Known, AllKnown, SomeKnown, NotKnown}
-use Rattle.tv_known.proofs.Ranked.{left_true, right_true}
 use Rattle.tv_known.proofs.RankedEnds.{every_run_ends}
 use Rattle.tv_known.proofs.RoundLemmas.{stays_state, growing_right, shrinking_right}
+use Rattle.tv_formula.proofs.NormalLemmas.{left_true, right_true}
 
 module _ (about : CaseSystem) (cases : All (IsCase about.variables about.locations) about.cases) where
   -- ---- a ranked fixed point is met at each state

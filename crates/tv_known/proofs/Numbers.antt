@@ -2,13 +2,7 @@
 use Rattle.std.proofs.Common.{◌≡◌, ◌⊎◌, inl, inr, ℕ, zero, suc, ◌<◌, ◌≤◌, List, [], ◌∷◌, length, get_or, refl, sym, subst, arith, Bool, true, false}
 use Rattle.std.specs.Prelude.{nat_eq, cond}
 use Rattle.std.proofs.lemmas.Bool.Decides.{nat_tests}
-
-pub same_number : (k c : ℕ) → (k ≡ c) ⊎ (k ≡ c → ⊥)
-same_number k c = by (nat_eq k c) refl
-  where
-    by : (b : Bool) → nat_eq k c ≡ b → (k ≡ c) ⊎ (k ≡ c → ⊥)
-    by true e = inl (grind (arith, nat_tests))
-    by false e = inr (λ s. grind (arith, nat_tests))
+use Rattle.std.proofs.lemmas.Bool.{cases_eq}
 
 -- the number stands in the list
 abbrev pub Among : ℕ → List ℕ → Type 0
@@ -103,7 +97,7 @@ below (suc n) = n ∷ below n
 
 pub among_below : (n k : ℕ) → k < n → Among k (below n)
 among_below zero k l = absurd (omega arith)
-among_below (suc n) k l = elim (same_number k n) [ inl e ↦ inl e | inr o ↦ inr (among_below n k (omega arith)) ]
+among_below (suc n) k l = elim (cases_eq k n) [ inl e ↦ inl e | inr o ↦ inr (among_below n k (omega arith)) ]
 
 pub below_are : (n k : ℕ) → Among k (below n) → k < n
 below_are zero k a = absurd a

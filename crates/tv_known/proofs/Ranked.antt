@@ -1,5 +1,5 @@
 -- a ranked until is decided
-use Rattle.std.proofs.Common.{◌≡◌, inl, inr, ℕ, Bool, true, false, refl, sym, ap, subst, ◌∙◌}
+use Rattle.std.proofs.Common.{◌≡◌, inl, inr, ℕ, true, refl, sym, ap, subst, ◌∙◌}
 use Rattle.std.specs.Prelude.{◌&&◌}
 use Rattle.tv_program.specs.Steps.{State}
 use Rattle.tv_formula.specs.declared.tree.Path.TheVariants.{Every}
@@ -7,20 +7,12 @@ use Rattle.tv_formula.specs.declared.tree.Shape.{Shape}
 use Rattle.tv_formula.specs.declared.tree.Shape.TheVariants.{Until, Weak, Release, Strong}
 use Rattle.tv_formula.specs.Properties.{Property, truth, compare, at, term, negated, all_of, some_of, next, fix, Properties, none, more}
 use Rattle.tv_formula.specs.Forms.{is_normal, are_normal, is_local, are_local}
-use Rattle.tv_formula.proofs.NormalLemmas.{normal_normal}
+use Rattle.tv_formula.proofs.NormalLemmas.{normal_normal, left_true, right_true}
 use Rattle.tv_cases.specs.LinearCases.{CaseSystem, CaseSteps}
 use Rattle.tv_meaning.specs.Meaning.{Holds, AllHold, SomeHolds}
 use Rattle.tv_known.specs.Rounds.{HoldSide, EndSides}
 use Rattle.tv_known.specs.Known.{Known, AllKnown, SomeKnown, IsRanked, IsDecided}
 use Rattle.tv_known.specs.Laws.{MustReach, IsRankedUntil}
-
-pub left_true : (a b : Bool) → (a && b) ≡ true → a ≡ true
-left_true true b h = refl
-left_true false b h = absurd cc
-
-pub right_true : (a b : Bool) → (a && b) ≡ true → b ≡ true
-right_true true b h = h
-right_true false b h = absurd cc
 
 module _ (about : CaseSystem) (last : ℕ) where
   mutual

@@ -13,7 +13,8 @@ use Rattle.tv_cases.specs.LinearCases.{LinearCase, CaseSystem, CaseDoes, CaseSte
 use Rattle.tv_program.specs.Runs.{Ends, all_end}
 use Rattle.tv_known.specs.Cycles.{case_at, Leads, here, along}
 use Rattle.tv_known.specs.Ranking.{IsCasePoint, HasCasePoint, term_at, scaled_term, value_before, value_after, RanksCases, case_in, AreInside, HasLexicographicRanking}
-use Rattle.tv_known.proofs.Numbers.{same_number, Among, without, stays, stood, shorter, place_of, at_place, below, among_below, below_are, Pairs, none, pair, IsPair, all_pairs, in_all}
+use Rattle.tv_known.proofs.Numbers.{Among, without, stays, stood, shorter, place_of, at_place, below, among_below, below_are, Pairs, none, pair, IsPair, all_pairs, in_all}
+use Rattle.std.proofs.lemmas.Bool.{cases_eq}
 
 -- ---- a step is a point over 1
 
@@ -113,7 +114,7 @@ module _ (about : CaseSystem) where
 
     module _ (others : AllEnd (without c set)) (kept : Stays) (falls : Falls) where
       within : (bound : ℤ) → ((s t : State) → IsEven t → pos 0 ≤ℤ rank terms s → (rank terms t +ℤ pos 1) ≤ℤ rank terms s → rank terms s <ℤ bound → Ends (StepsBy about set) t) → {s : State} → Ends (StepsBy about (without c set)) s → IsEven s → rank terms s <ℤ bound → Ends (StepsBy about set) s
-      within bound later {s} (all_end e) even low = all_end (λ t st. elim (same_number st.number c) [
+      within bound later {s} (all_end e) even low = all_end (λ t st. elim (cases_eq st.number c) [
         | inl is ↦ let f = falls s t even st is in later s t (even_after even st) f.0 f.1 low
         | inr n ↦
             let k = kept s t even st in
@@ -136,7 +137,7 @@ module _ (about : CaseSystem) where
 
   module _ (set : List ℕ) (numbered : (k : ℕ) → Among k set → k < length about.cases) (c d : ℕ) (later : Follows c d → AllEnd set) where
     after : HasCasePoint about.variables (case_at about.cases c) → {s : State} → Ends (StepsBy about (without d set)) s → IsEven s → Leads about.cases (case_at about.cases c).to s.location → Ends (StepsBy about set) s
-    after point {s} (all_end e) even led = all_end (λ t st. elim (same_number st.number d) [
+    after point {s} (all_end e) even led = all_end (λ t st. elim (cases_eq st.number d) [
       | inl is ↦
           let from = st.does.leaves ∙ ap (λ k. (case_at about.cases k).from) is in
           let found : Follows c d = record {
@@ -151,7 +152,7 @@ module _ (about : CaseSystem) where
     ])
 
     before : AllEnd (without d set) → {s : State} → Ends (StepsBy about (without c set)) s → IsEven s → Ends (StepsBy about set) s
-    before others {s} (all_end e) even = all_end (λ t st. elim (same_number st.number c) [
+    before others {s} (all_end e) even = all_end (λ t st. elim (cases_eq st.number c) [
       | inl is ↦
           let point = subst (λ k. HasCasePoint about.variables (case_at about.cases k)) is (has_point {set = set} {s = s} {t = t} even st) in
           let entered = st.does.enters ∙ ap (λ k. (case_at about.cases k).to) is in

@@ -1,8 +1,7 @@
 -- What the size of a property bounds.
 use Rattle.std.proofs.Common.{◌≡◌, inl, inr, ℕ, zero, suc, ◌+◌, ◌*◌, ◌<◌, ◌≤◌, List, [], ◌∷◌, ◌++◌, map, length, refl, sym, ap, subst, ◌∙◌, arith, Bool, true, false, cond}
 use Rattle.std.specs.Prelude.{max, sum, Contains, ◌==◌}
-use Rattle.std.proofs.Math.Nat.{le-max_left, le-max_right}
-use Rattle.std.proofs.lemmas.Bool.Decides.{nat_tests}
+use Rattle.std.proofs.Math.Nat.{le-max_left, le-max_right, le_refl}
 use Rattle.std.proofs.lemmas.List.Elements.{Contains-append_cases}
 use Rattle.tv_formula.specs.Properties.{Property, truth, compare, at, term, negated, all_of, some_of, next, fix, Properties, none, more}
 use Rattle.tv_formula.specs.Normal.{normal, negation}
@@ -12,28 +11,27 @@ use Rattle.tv_cases.proofs.Listed.{Contains-cases, Contains-none}
 use Rattle.tv_known.specs.Subformulas.{subformulas, all_subformulas}
 use Rattle.tv_known.specs.Sizes.{product, some_count, all_count, stop_count, round_count, greatest_up_to, count, negated_count, greatest_of_negated, greatest_count, greatest_counts, greatest_below, size_bound}
 use Rattle.tv_known.specs.Laws.{SizeBoundsCounts, SizeBoundsRounds, EachCaseCounts}
-use Rattle.tv_known.proofs.Numbers.{same_number}
+use Rattle.tv_cases.proofs.Updated.{same_number}
+use Rattle.tv_cases.proofs.ProductLemmas.{larger}
+use Rattle.std.proofs.lemmas.Bool.{cases_eq}
 
 -- ---- greatest numbers
 
-trans : (a b c : ℕ) → a ≤ b → b ≤ c → a ≤ c
+pub trans : (a b c : ℕ) → a ≤ b → b ≤ c → a ≤ c
 trans a b c h k = omega arith
-
-itself : (n : ℕ) → n ≤ n
-itself n = omega arith
 
 pub below_greatest : (n : ℕ) (f : ℕ → ℕ) (k : ℕ) → k < n → f k ≤ greatest_below n f
 below_greatest zero f k l = absurd (omega arith)
-below_greatest (suc n) f k l = elim (same_number k n) [
+below_greatest (suc n) f k l = elim (cases_eq k n) [
   | inl e ↦ subst (λ j. f j ≤ greatest_below (suc n) f) (sym e) (le-max_right (greatest_below n f) (f n))
   | inr o ↦ trans (f k) (greatest_below n f) (greatest_below (suc n) f) (below_greatest n f k (omega arith)) (le-max_left (greatest_below n f) (f n))
 ]
 
 pub up_to_greatest : (n : ℕ) (f : ℕ → ℕ) (k : ℕ) → k ≤ n → f k ≤ greatest_up_to n f
-up_to_greatest zero f k l = subst (λ j. f j ≤ f 0) (sym (none_below k l)) (itself (f 0)) where
+up_to_greatest zero f k l = subst (λ j. f j ≤ f 0) (sym (none_below k l)) (le_refl (f 0)) where
   none_below : (k : ℕ) → k ≤ 0 → k ≡ 0
   none_below k l = omega arith
-up_to_greatest (suc n) f k l = elim (same_number k (suc n)) [
+up_to_greatest (suc n) f k l = elim (cases_eq k (suc n)) [
   | inl e ↦ subst (λ j. f j ≤ greatest_up_to (suc n) f) (sym e) (le-max_right (greatest_up_to n f) (f (suc n)))
   | inr o ↦ trans (f k) (greatest_up_to n f) (greatest_up_to (suc n) f) (up_to_greatest n f k (omega arith)) (le-max_left (greatest_up_to n f) (f (suc n)))
 ]
@@ -43,19 +41,19 @@ up_to_greatest (suc n) f k l = elim (same_number k (suc n)) [
 module _ (cases : List LinearCase) (last l : ℕ) where
   own_negated : (f : Property) → negated_count cases last f l ≤ greatest_of_negated cases last f l
   own_negated term = le-max_left _ _
-  own_negated (truth b) = itself 1
-  own_negated (compare r a b) = itself 1
-  own_negated (at k) = itself 1
-  own_negated (negated f) = itself 1
-  own_negated (all_of fs) = itself 1
-  own_negated (some_of fs) = itself 1
-  own_negated (next p f) = itself 1
-  own_negated (fix p w f g) = itself 1
+  own_negated (truth b) = le_refl 1
+  own_negated (compare r a b) = le_refl 1
+  own_negated (at k) = le_refl 1
+  own_negated (negated f) = le_refl 1
+  own_negated (all_of fs) = le_refl 1
+  own_negated (some_of fs) = le_refl 1
+  own_negated (next p f) = le_refl 1
+  own_negated (fix p w f g) = le_refl 1
 
   own_count : (f : Property) → count cases last f l ≤ greatest_count cases last f l
-  own_count (truth b) = itself 1
-  own_count (compare r a b) = itself (count cases last (compare r a b) l)
-  own_count (at k) = itself 1
+  own_count (truth b) = le_refl 1
+  own_count (compare r a b) = le_refl (count cases last (compare r a b) l)
+  own_count (at k) = le_refl 1
   own_count term = le-max_left _ _
   own_count (negated f) = own_negated f
   own_count (all_of fs) = le-max_left (count cases last (all_of fs) l) (greatest_counts cases last fs l)
@@ -124,23 +122,17 @@ bounds_rounds about last f path shape left right k l stands early inside =
 
 -- ---- cases from a location
 
-times_one : (a b : ℕ) → 1 ≤ b → a ≤ a * b
+pub times_one : (a b : ℕ) → 1 ≤ b → a ≤ a * b
 times_one a b l = grind arith
 
-one_times : (a b : ℕ) → 1 ≤ a → b ≤ a * b
-one_times a b l = grind arith
-
-two_ones : (a b : ℕ) → 1 ≤ a → 1 ≤ b → 1 ≤ a * b
+pub two_ones : (a b : ℕ) → 1 ≤ a → 1 ≤ b → 1 ≤ a * b
 two_ones a b l m = grind arith
 
-plus_first : (a b : ℕ) → a ≤ a + b
+pub plus_first : (a b : ℕ) → a ≤ a + b
 plus_first a b = omega arith
 
 plus_later : (a b n : ℕ) → n ≤ b → n ≤ a + b
 plus_later a b n h = omega arith
-
-own_location : (l : ℕ) → (l == l) ≡ true
-own_location l = grind (arith, nat_tests)
 
 module _ (g : LinearCase → ℕ) (l : ℕ) where
   -- a case from the location adds its number
@@ -155,7 +147,7 @@ module _ (g : LinearCase → ℕ) (l : ℕ) where
   in_sum : (cases : List LinearCase) (c : LinearCase) → Contains cases c → from_of c ≡ l → g c ≤ sum (map g (leaving l cases))
   in_sum [] c k e = absurd (Contains-none c k)
   in_sum (d ∷ cases) c k e = elim (Contains-cases d c cases k) [
-    | inl is ↦ subst (λ x. g x ≤ sum (map g (leaving l (d ∷ cases)))) is (added_up (from_of d == l) d (leaving l cases) (subst (λ n. (n == l) ≡ true) (sym (ap from_of is ∙ e)) (own_location l)))
+    | inl is ↦ subst (λ x. g x ≤ sum (map g (leaving l (d ∷ cases)))) is (added_up (from_of d == l) d (leaving l cases) (subst (λ n. (n == l) ≡ true) (sym (ap from_of is ∙ e)) (same_number l)))
     | inr later ↦ further_up (from_of d == l) d (leaving l cases) (g c) (in_sum cases c later e)
   ]
 
@@ -170,13 +162,13 @@ module _ (g : LinearCase → ℕ) (l : ℕ) where
     multiplied false c rest e = absurd cc
 
     further_times : (b : Bool) (c : LinearCase) (rest : List LinearCase) (n : ℕ) → n ≤ product (map g rest) → n ≤ product (map g (cond b (c ∷ rest) rest))
-    further_times true c rest n h = trans n (product (map g rest)) (g c * product (map g rest)) h (one_times (g c) (product (map g rest)) (positive c))
+    further_times true c rest n h = trans n (product (map g rest)) (g c * product (map g rest)) h (larger (g c) (product (map g rest)) (positive c))
     further_times false c rest n h = h
 
     in_product : (cases : List LinearCase) (c : LinearCase) → Contains cases c → from_of c ≡ l → g c ≤ product (map g (leaving l cases))
     in_product [] c k e = absurd (Contains-none c k)
     in_product (d ∷ cases) c k e = elim (Contains-cases d c cases k) [
-      | inl is ↦ subst (λ x. g x ≤ product (map g (leaving l (d ∷ cases)))) is (multiplied (from_of d == l) d (leaving l cases) (subst (λ n. (n == l) ≡ true) (sym (ap from_of is ∙ e)) (own_location l)))
+      | inl is ↦ subst (λ x. g x ≤ product (map g (leaving l (d ∷ cases)))) is (multiplied (from_of d == l) d (leaving l cases) (subst (λ n. (n == l) ≡ true) (sym (ap from_of is ∙ e)) (same_number l)))
       | inr later ↦ further_times (from_of d == l) d (leaving l cases) (g c) (in_product cases c later e)
     ]
 

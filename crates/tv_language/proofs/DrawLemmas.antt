@@ -51,7 +51,7 @@ mutual
 both_zero : (a b : ℕ) → a + b ≡ 0 → (a ≡ 0) × (b ≡ 0)
 both_zero a b h = (omega (arith, h), omega (arith, h))
 
-both_of : (a b : Bool) → IsTrue a → IsTrue b → IsTrue (a && b)
+pub both_of : (a b : Bool) → IsTrue a → IsTrue b → IsTrue (a && b)
 both_of true b h k = k
 both_of false b h k = absurd cc
 

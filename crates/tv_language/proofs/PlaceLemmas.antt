@@ -19,7 +19,7 @@ pub leads : (w : Word) (known ws : List Word) → Leads w known → Leads w (by_
 leads w known [] h = h
 leads w known (u ∷ ws) h = leads w (words_with u known) ws (leads-new w u known (number_of u known) h)
 
-bytes-same : (w : Word) → bytes_eq w w ≡ true
+pub bytes-same : (w : Word) → bytes_eq w w ≡ true
 bytes-same w = (bytes_eq-Decides w w).1 refl
 
 pub leader-number : (w : Word) (ws : List Word) → Leads w ws → number_of w ws ≡ Some 0

@@ -1,18 +1,12 @@
 -- The number of a word that is seen at a place.
-use Rattle.std.proofs.Common.{◌≡◌, ℕ, zero, suc, Bool, true, false, true≢false, List, [], ◌∷◌, Some, refl, ap, sym, subst, ◌∙◌}
+use Rattle.std.proofs.Common.{◌≡◌, ℕ, zero, suc, Bool, false, List, [], ◌∷◌, Some, ap, sym, subst, ◌∙◌}
 use Rattle.std.proofs.lemmas.Slice.Eq.{bytes_eq-Decides}
 use Rattle.std.specs.Prelude.{slice_get}
 use Rattle.std.specs.List.{AllByRecursion, IsDistinct}
 use Rattle.std.specs.Str.{bytes_eq}
 use Rattle.tv_program.specs.Words.{Word, number_of}
 use Rattle.tv_language.proofs.PlaceOfWords.{shifted, here_or, number_first}
-
-differs_too : (u v : Word) → bytes_eq u v ≡ false → bytes_eq v u ≡ false
-differs_too u v e = by (bytes_eq v u) refl
-  where
-    by : (b : Bool) → bytes_eq v u ≡ b → bytes_eq v u ≡ false
-    by false is = is
-    by true is = absurd (true≢false (sym ((bytes_eq-Decides u v).1 (sym ((bytes_eq-Decides v u).0 is))) ∙ e))
+use Rattle.tv_program.proofs.WordLemmas.{differs_too}
 
 differs_from : (x : Word) (ws : List Word) (n : ℕ) (w : Word) → slice_get ws n ≡ Some w → AllByRecursion (λ v. bytes_eq x v ≡ false) ws → bytes_eq x w ≡ false
 differs_from x [] n w e h = absurd cc

@@ -1,12 +1,12 @@
 use Rattle.std.proofs.Common.{◌≡◌, ℕ, zero, suc, ◌+◌, ◌<◌, List, [], ◌∷◌, ◌++◌, length, get_or, arith, sym, ap, ◌∙◌, subst}
 use Rattle.tv_linear.specs.declared.region.Piece.{Piece}
 use Rattle.tv_cases.specs.LinearCases.{CaseSystem}
-use Rattle.tv_refute.proofs.Places.{get_or-map}
 use Rattle.tv_lexrank.specs.declared.fault.RankFault.{RankFault}
 use Rattle.tv_lexrank.specs.declared.fault.RankFault.TheVariants as fault
 use Rattle.tv_lexrank.specs.declared.part.Part.{Part}
 use Rattle.tv_lexrank.specs.Parts.{IsPart, RefusesPart}
 use Rattle.tv_lexrank.specs.Attempt.{PartsFrom, rounds_in, RefusesAttempt}
+use Rattle.std.proofs.lemmas.List.{get_or-map}
 
 parts_from : (about : CaseSystem) (known : List Piece) (numbers : List ℕ) (c d : ℕ) (ps : List Part) (p : Part) → PartsFrom about known numbers c ps → d ≡ c + length ps → IsPart about known numbers d p → PartsFrom about known numbers c (ps ++ p ∷ [])
 parts_from about known numbers c d [] p h e i = (subst (λ z. IsPart about known numbers z p) (let q : d ≡ c = omega (arith, e) in q) i, tt)

@@ -1,14 +1,12 @@
 -- The certificate that every run ends.
-use Rattle.std.proofs.Common.{◌≡◌, ℕ, zero, suc, ◌<◌, List, [], ◌∷◌, ◌++◌, map, All, Some, arith, refl, sym, ap, ◌∙◌, subst, ℤ}
-use Rattle.std.proofs.lemmas.List.Elements.{All-nil, All-head}
-use Rattle.tv_linear.specs.Linear.{Linear, IsMet}
+use Rattle.std.proofs.Common.{◌≡◌, ℕ, ◌<◌, List, [], ◌∷◌, ◌++◌, map, All, Some, arith, refl, sym, ap, ◌∙◌, subst}
+use Rattle.std.proofs.lemmas.List.Elements.{All-nil}
+use Rattle.tv_linear.specs.Linear.{Linear}
 use Rattle.tv_linear.specs.Known.{given, as_given}
 use Rattle.tv_linear.specs.Covers.{Shown, ShownAt, IsMetCover}
 use Rattle.tv_linear.specs.declared.cover.CoverTree.{CoverTree}
 use Rattle.tv_linear.specs.declared.cover.CoverTree as cover
 use Rattle.tv_linear.specs.declared.region.Piece.{Piece}
-use Rattle.tv_linear.specs.Same.{OwedSame}
-use Rattle.tv_linear.proofs.SameLemmas.{all_same, cover_same}
 use Rattle.tv_cases.specs.LinearCases.{CaseSystem}
 use Rattle.tv_formula.specs.Properties.{Property, term}
 use Rattle.tv_cert.specs.declared.node.Marked.{Marked}
@@ -19,10 +17,6 @@ use Rattle.tv_cert.specs.Nodes.{pieces_of, entries, root_entry, obligations}
 use Rattle.tv_cert.specs.Obligations.{AllMet}
 use Rattle.tv_cert.specs.Pieces.{rows_of}
 use Rattle.tv_cert.specs.Targets.{owed_into, target_rows, no_fall}
-use Rattle.tv_cover.specs.Covering.{IsHole}
-use Rattle.tv_cover.specs.Targets.{IsOutside, owed_lists}
-use Rattle.tv_cover.specs.Single.{IsCoverInto}
-use Rattle.tv_farkas.specs.Refuting.{AreShort}
 use Rattle.tv_rank.specs.Given.{lists}
 use Rattle.tv_rank.specs.Ways.{rows_at}
 use Rattle.tv_shape.specs.Certificates.{IsOf}
@@ -34,9 +28,9 @@ use Rattle.tv_shape.proofs.FaultLemmas.{unfit}
 use Rattle.tv_cert.proofs.FailingLemmas.{all_join}
 use Rattle.tv_lexrank.specs.declared.falling.Fall.{Fall}
 use Rattle.tv_lexrank.specs.Nodes.{IsPieceAt, IsRankedNode, ShowsEnd}
-use Rattle.tv_lexrank.specs.Closing.{IsWholeCover, owed_plain}
+use Rattle.tv_lexrank.specs.Closing.{IsWholeCover}
 use Rattle.tv_lexrank.specs.Falling.{HasFall}
-use Rattle.tv_lexrank.specs.Certified.{BeginsKnown, IsStartCover, IsRoot, SaysProved, IsProofOf}
+use Rattle.tv_lexrank.specs.Certified.{IsStartCover, IsRoot, SaysProved, IsProofOf}
 use Rattle.tv_lexrank.proofs.ClosingLemmas.{whole_splits, whole_even}
 use Rattle.tv_lexrank.proofs.OfferLemmas.{met_shape}
 
@@ -71,42 +65,6 @@ whole_root about node tree starts ranked bare = record {
   even = whole_even about.variables tree bare;
   narrow = bare_narrow tree bare;
 }
-
--- a cover of the start by no rows
-pub whole_start : (v : ℕ) (rows : List Linear) (tree : CoverTree) → rows ≡ [] → IsWholeCover tree → IsStartCover v rows tree
-whole_start v rows (cover.Split' r p a q b) e h = absurd h
-whole_start v rows (cover.Empty ms) e h = absurd h
-whole_start v rows (cover.Into target fall ls) e h = subst (λ z. IsStartCover v z (cover.Into target fall ls)) (sym e) (record {
-  met = subst (λ z. ShownAt v [] (owed_plain [] z fall) (map (λ y. y.items) ls.items)) (sym h.0)
-      (subst (λ z. ShownAt v [] (owed_plain [] 0 z) (map (λ y. y.items) ls.items)) (sym h.1)
-      (subst (λ z. ShownAt v [] (owed_plain [] 0 0) (map (λ y. y.items) z)) (sym h.2) tt));
-  shallow = omega arith;
-  short = subst (λ z. All AreShort (map (λ y. y.items) z)) (sym h.2) (All-nil AreShort);
-  even = tt;
-})
-
--- one by rows
-pub start_into : (v : ℕ) (rows target : List Linear) (tree : CoverTree) → target ≡ rows → IsCoverInto v [] target tree → IsStartCover v rows tree
-start_into v rows target tree e h = subst (λ z. IsStartCover v z tree) e (record {
-  met = cover_same v (owed_lists (target ∷ [])) (owed_plain (as_given target)) owed [] [] tt tree h.met;
-  shallow = h.shallow;
-  short = h.short;
-  even = h.even;
-})
-  where
-    owed : (k j : ℕ) → OwedSame v (owed_lists (target ∷ []) k j) (owed_plain (as_given target) k j)
-    owed zero zero = all_same v (as_given target)
-    owed (suc k) zero = tt
-    owed zero (suc j) = tt
-    owed (suc k) (suc j) = tt
-
--- all values meet the rows, so there is no hole
-pub no_start_hole : (about : CaseSystem) (known : List Piece) (target : List Linear) (zs : List ℤ) → BeginsKnown about known → target ≡ rows_at known about.start → IsHole about.variables (target ∷ []) [] zs → ⊥
-no_start_hole about known target zs begins e h =
-    let outside = All-head (IsOutside zs) target [] h.outside in
-    let all = subst (All (IsMet zs)) (sym e) (begins zs h.point.width) in
-    let at = outside.1 in
-    outside.2 (subst (IsMet zs) at.2 (all at.0 outside.0 at.1))
 
 -- the cover of the start by the known rows, with no fall behind it, is met by the piece there
 pub known_root : (about : CaseSystem) (known : List Piece) (node : Node) (fall : Fall) (base tree : CoverTree) → about.start < about.locations → ShowsEnd about known node → fall.number ≡ 0 → lists fall.lines.items ≡ [] → IsStartCover about.variables (rows_at known about.start) base → HasFall fall 0 base tree → IsRoot about term node tree

@@ -1,6 +1,5 @@
 use Rattle.std.proofs.Common.{◌≡◌, ℕ, zero, suc, ◌+◌, ◌<◌, List, [], ◌∷◌, ◌++◌, length, map, get_or, Option, None, Some, Bool, true, false, ◌==◌, if◌then◌else◌, arith, refl, sym, ap, ◌∙◌, subst, ℤ, pos}
 use Rattle.std.proofs.lemmas.List.{append_assoc, append-nil}
-use Rattle.std.proofs.lemmas.Bool.Decides.{nat_tests}
 use Rattle.std.specs.Option.{option_map}
 use Rattle.tv_linear.specs.Known.{Known, as_given}
 use Rattle.tv_linear.specs.Falls.{fall_rows_at}
@@ -16,6 +15,7 @@ use Rattle.tv_lexrank.specs.Known.{way_rows}
 use Rattle.tv_lexrank.specs.Closing.{changed}
 use Rattle.tv_lexrank.specs.Greedy.{without, Lead, none, more}
 use Rattle.tv_lexrank.specs.Rounds.{place_in, line_at, falling_of, lines_of, falls_in, terms_at, Chain, end, next}
+use Rattle.tv_places.proofs.IndexLemmas.{false_test}
 
 pub lead_then : (about : CaseSystem) (known : List Piece) (set : List ℕ) (rounds : List Round) (left : List ℕ) (rs : List Round) → Lead about known set rounds left → Chain about known left rs → Chain about known set (rounds ++ rs)
 lead_then about known set rounds left rs (none s) h = h
@@ -23,9 +23,6 @@ lead_then about known set rounds left rs (more s l front r lead round) h = subst
 
 pub emptied_chain : (about : CaseSystem) (known : List Piece) (set : List ℕ) (rounds : List Round) → Lead about known set rounds [] → Chain about known set rounds
 emptied_chain about known set rounds h = subst (λ z. Chain about known set z) (append-nil rounds) (lead_then about known set rounds [] [] h end)
-
-pub other_of : (a b : ℕ) → (a == b) ≡ false → a ≡ b → ⊥
-other_of a b h e = grind (arith, nat_tests)
 
 -- what is not taken out is still there
 still_there : (xs : List ℕ) (p j : ℕ) → j < length xs → (get_or xs p 0 ≡ get_or xs j 0 → ⊥) → (i : ℕ) × (i < length (without xs p)) × (get_or (without xs p) i 0 ≡ get_or xs j 0)
@@ -47,7 +44,7 @@ found_at (x ∷ xs) k j h e = by_test (x == k) refl (λ n. let i = later j h e n
     by_test : (b : Bool) → (x == k) ≡ b → ((x ≡ k → ⊥) → (place_in xs k < length xs) × (get_or xs (place_in xs k) 0 ≡ k)) → ((if b then 0 else suc (place_in xs k)) < suc (length xs)) × (get_or (x ∷ xs) (if b then 0 else suc (place_in xs k)) 0 ≡ k)
     by_test true t rest = (omega arith, true_test x k t)
     by_test false t rest =
-        let r = rest (other_of x k t) in
+        let r = rest (false_test x k t) in
         let l = r.0 in
         ((let q : suc (place_in xs k) < suc (length xs) = omega (arith, l) in q), r.1)
 
@@ -77,7 +74,7 @@ chain_shown about known set rounds (next s r rs round chain) k j h e = by_test (
           (subst (λ y. IsShownBy about.variables (way_of about.cases known k) (bound_row about.variables r.terms.items (way_of about.cases known k)) (line_at r (length y))) (sym round.set_is) (subst (λ y. IsShownBy about.variables (way_of about.cases known y) (bound_row about.variables r.terms.items (way_of about.cases known y)) (line_at r (length s))) f round.family.bound), tt),
         )
     by_test false t rest =
-        let n = other_of (falling_of r) k t in
+        let n = false_test (falling_of r) k t in
         let p = found_at s k j h e in
         let o : r.place ≡ place_in s k → ⊥ = λ q. n (falling_is ∙ ap (λ z. get_or s z 0) q ∙ p.1) in
         let z = if_false (place_in s k == r.place) (pos 1) (pos 0) (test_false (place_in s k) r.place (λ q. o (sym q))) in

@@ -1,13 +1,12 @@
 -- The cover of the rows that are met where a case is taken, and the values of a hole.
-use Rattle.std.proofs.Common.{◌≡◌, inl, inr, ℕ, zero, suc, ◌+◌, ◌-◌, ◌<◌, ◌≤◌, List, [], ◌∷◌, ◌++◌, length, map, take, drop, All, Option, None, Some, arith, refl, sym, ◌∙◌, subst, ℤ, pos, ◌≤ℤ◌}
+use Rattle.std.proofs.Common.{◌≡◌, inl, inr, ℕ, zero, suc, ◌+◌, ◌-◌, ◌<◌, ◌≤◌, List, [], ◌∷◌, ◌++◌, length, map, take, drop, All, Option, None, Some, refl, sym, ◌∙◌, subst, ℤ, pos, ◌≤ℤ◌}
 use Rattle.std.specs.Prelude.{Contains, slice_get}
 use Rattle.std.specs.Option.{option_map}
 use Rattle.std.proofs.lemmas.List.{take-append-drop}
-use Rattle.std.proofs.lemmas.List.Elements.{All-nil, All-head}
+use Rattle.std.proofs.lemmas.List.Elements.{All-head, All-contains}
 use Rattle.tv_linear.specs.Linear.{Linear, columns, IsMet}
 use Rattle.tv_linear.specs.Known.{as_given, term_value}
 use Rattle.tv_linear.specs.Terms.{terms_after}
-use Rattle.tv_linear.specs.Covers.{ShownAt}
 use Rattle.tv_linear.specs.Depth.{splits}
 use Rattle.tv_linear.specs.declared.cover.CoverTree.{CoverTree}
 use Rattle.tv_linear.specs.declared.cover.CoverTree as cover
@@ -25,7 +24,6 @@ use Rattle.tv_cover.specs.Targets.{IsOutside, owed_lists}
 use Rattle.tv_farkas.specs.declared.budget.Budget.{Budget}
 use Rattle.tv_farkas.specs.declared.fault.CoverFault.TheVariants.{Splits, Solve, Wide, Memory}
 use Rattle.tv_farkas.specs.Paths.{IsWholePoint}
-use Rattle.tv_farkas.specs.Refuting.{AreShort}
 use Rattle.tv_farkas.specs.Trees.{TreeRows}
 use Rattle.tv_rank.specs.Ways.{Way, way_of, case_at, rows_at}
 use Rattle.tv_cover.specs.Single.{IsCoverInto}
@@ -48,22 +46,6 @@ pub whole_even : (n : ℕ) (tree : CoverTree) → IsWholeCover tree → TreeRows
 whole_even n (cover.Split' r p a q b) h = absurd h
 whole_even n (cover.Empty ms) h = absurd h
 whole_even n (cover.Into target fall ls) h = tt
-
--- into no rows
-pub leads_anywhere : (v : ℕ) (w : Way) (into : List Linear) (tree : CoverTree) → into ≡ [] → IsWholeCover tree → Leads v w into tree
-leads_anywhere v w into (cover.Split' r p a q b) e h = absurd h
-leads_anywhere v w into (cover.Empty ms) e h = absurd h
-leads_anywhere v w into (cover.Into target fall ls) e (t, f, l) = subst (λ z. Leads v w z (cover.Into target fall ls)) (sym e) (record {
-  met = subst (λ z. ShownAt n (way_rows w) (owed_plain [] z fall) (map (λ y. y.items) ls.items)) (sym t)
-      (subst (λ z. ShownAt n (way_rows w) (owed_plain [] 0 z) (map (λ y. y.items) ls.items)) (sym f)
-      (subst (λ z. ShownAt n (way_rows w) (owed_plain [] 0 0) (map (λ y. y.items) z)) (sym l) tt));
-  shallow = omega arith;
-  short = subst (λ z. All AreShort (map (λ y. y.items) z)) (sym l) (All-nil AreShort);
-  even = tt;
-})
-  where
-    n : ℕ
-    n = v + w.taken.draws
 
 -- into the rows before the case
 pub leads_into : (v : ℕ) (w : Way) (into rows target : List Linear) (tree : CoverTree) → rows ≡ padded_rows w → AreRowsBefore w.taken into target → All (λ r. columns r ≡ v) into → All (λ u. columns u.term ≡ v + w.taken.draws) w.taken.updates → IsCoverInto (v + w.taken.draws) rows target tree → Leads v w into tree
@@ -91,9 +73,6 @@ leads_into v w into rows target tree e made wide us h = record {
     owed (suc k) (suc j) = tt
 
 -- ---- holes
-
-all_in : {A : Type 0} (P : A → Type 0) (xs : List A) (x : A) → All P xs → Contains xs x → P x
-all_in P xs x h c = subst P c.2 (h c.0 x c.1)
 
 module _ (about : CaseSystem) (known : List Piece) (k : ℕ) (rows target : List Linear) (k_in : k < length about.cases) (fits : AreKnown about known) (proper : IsCase about.variables about.locations (case_at about.cases k)) where
   abbrev v : ℕ
@@ -133,7 +112,7 @@ module _ (about : CaseSystem) (known : List Piece) (k : ℕ) (rows target : List
         row = at.0;
         among = at.1;
         unmet = λ m. outside.2 (subst (IsMet zs) at.2 (subst (λ ys. IsMet ys (before at.0 c)) (sym whole)
-            (subst (λ z. z ≤ℤ pos 0) (sym (before-value at.0 c xs ds (length-front v c.draws zs size ∙ sym (all_in (λ r. columns r ≡ v) into at.0 (over_at v known c.to fits.over) at.1)) (length-back v c.draws zs size))) m)));
+            (subst (λ z. z ≤ℤ pos 0) (sym (before-value at.0 c xs ds (length-front v c.draws zs size ∙ sym (All-contains (λ r. columns r ≡ v) into at.0 (over_at v known c.to fits.over) at.1)) (length-back v c.draws zs size))) m)));
       }
     where
       before_of : Linear → Linear

@@ -17,21 +17,20 @@ use Rattle.tv_linear.proofs.PlainLists.{zeros-narrow}
 use Rattle.tv_farkas.specs.Refuting.{AreShort}
 use Rattle.tv_farkas.specs.Stretching.{IsSplitOf}
 use Rattle.tv_farkas.specs.Trees.{TreeRows}
-use Rattle.tv_shape.specs.Narrow.{CoverNarrow, CountNarrow, AreNarrow}
+use Rattle.tv_shape.specs.Narrow.{CoverNarrow, AreNarrow}
 use Rattle.tv_rank.specs.Given.{lists}
 use Rattle.tv_farkas.proofs.StretchLemmas.{short_all}
 use Rattle.tv_lexrank.specs.Closing.{owed_plain}
 use Rattle.tv_lexrank.specs.Falling.{spread, AreNarrowLines, AllHeld, HasFall}
 use Rattle.tv_lexrank.specs.declared.falling.Fall.{Fall}
-use Rattle.tv_lexrank.proofs.PadLemmas.{spread_shown}
+use Rattle.tv_lexrank.proofs.PadLemmas.{spread_shown, nothing}
+use Rattle.tv_linear.proofs.ListLaws.{all_unmapped}
+use Rattle.tv_shape.proofs.NumberLemmas.{narrow_count}
 
 -- ---- a split
-held_push : (n : ℕ) (ks : List Known) (k : Known) → AllHeld n ks → ((j : ℕ) → j < n → KnownHeld k (Some j)) → KnownHeld k None → AllHeld n (ks ++ k ∷ [])
+pub held_push : (n : ℕ) (ks : List Known) (k : Known) → AllHeld n ks → ((j : ℕ) → j < n → KnownHeld k (Some j)) → KnownHeld k None → AllHeld n (ks ++ k ∷ [])
 held_push n [] k h a b = (a, b, tt)
 held_push n (q ∷ ks) k h a b = (h.0, h.1, held_push n ks k h.2 a b)
-
-nothing : IsHeld (pos 0)
-nothing = omega arith
 
 narrow_number : (r : Linear) (j : ℕ) → IsNarrow r → IsHeld (neg_ℤ (slice_index_or r.coefficients j (pos 0)))
 narrow_number r j h = by_place r.coefficients j h.coefficients
@@ -81,7 +80,7 @@ empty_falls fall above old new e short = record {
 }
 
 -- ---- a target that is entered
-shown_append : (n : ℕ) (ks xs ys : List Known) (ms ns : List (List ℤ)) → Shown n ks xs ms → Shown n ks ys ns → Shown n ks (xs ++ ys) (ms ++ ns)
+pub shown_append : (n : ℕ) (ks xs ys : List Known) (ms ns : List (List ℤ)) → Shown n ks xs ms → Shown n ks ys ns → Shown n ks (xs ++ ys) (ms ++ ns)
 shown_append n ks [] ys [] ns h g = g
 shown_append n ks [] ys (m ∷ ms) ns h g = absurd h
 shown_append n ks (x ∷ xs) ys [] ns h g = absurd h
@@ -102,13 +101,6 @@ pub short_narrow : (lines : List (List ℤ)) → All AreShort lines → AreNarro
 short_narrow [] h = All-nil (All (IsWithin 62))
 short_narrow (l ∷ lines) h = All-cons (All (IsWithin 62)) l lines (short_all l (All-head AreShort l lines h)) (short_narrow lines (All-tail AreShort l lines h))
 
-pub all_back : {A B : Type 0} (P : B → Type 0) (f : A → B) (xs : List A) → All P (map f xs) → All (λ x. P (f x)) xs
-all_back P f [] h = All-nil (λ x. P (f x))
-all_back P f (x ∷ xs) h = All-cons (λ x. P (f x)) x xs (All-head P (f x) (map f xs) h) (all_back P f xs (All-tail P (f x) (map f xs) h))
-
-pub narrow_count : (n : ℕ) → n < 2 ^ 32 → CountNarrow n
-narrow_count n h = omega (arith, h)
-
 pub into_falls : (fall : Fall) (above target none : ℕ) (old new : Vec (Vec ℤ Global) Global) → lists new.items ≡ lists old.items ++ map (spread above) (lists fall.lines.items) → target < 2 ^ 32 → fall.number < 2 ^ 32 → All AreShort (lists old.items) → AreNarrowLines (lists fall.lines.items) → HasFall fall above (Into target none old) (Into target fall.number new)
 into_falls fall above target none old new e small slim short narrow = record {
   goes_on = λ n known sides rows falls wanted many held shown w met. by_place n known sides rows falls wanted many held shown w target none met;
@@ -117,7 +109,7 @@ into_falls fall above target none old new e small slim short narrow = record {
   narrow = (
     narrow_count target small,
     narrow_count fall.number slim,
-    all_back AreNarrow (λ l. l.items) new.items (subst AreNarrowLines (sym e) (All-append (All (IsWithin 62)) (lists old.items) (map (spread above) (lists fall.lines.items)) (short_narrow (lists old.items) short) (spreads_narrow above (lists fall.lines.items) narrow))),
+    all_unmapped AreNarrow (λ l. l.items) new.items (subst AreNarrowLines (sym e) (All-append (All (IsWithin 62)) (lists old.items) (map (spread above) (lists fall.lines.items)) (short_narrow (lists old.items) short) (spreads_narrow above (lists fall.lines.items) narrow))),
   );
 }
   where

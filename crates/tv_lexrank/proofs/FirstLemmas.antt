@@ -1,8 +1,7 @@
 use Rattle.std.proofs.Common.{◌≡◌, ◌∙◌, ℕ, ◌<◌, ◌≤◌, List, [], ◌∷◌, length, map, get_or, All, sym, ap, subst, arith, ℤ}
 use Rattle.std.specs.Prelude.{◌↔◌, slice_index, Contains}
-use Rattle.std.proofs.lemmas.List.{length-map}
-use Rattle.tv_refute.proofs.Places.{get_or-map}
-use Rattle.tv_farkas.proofs.SystemLemmas.{all_of, at_of}
+use Rattle.std.proofs.lemmas.List.{length-map, get_or-map}
+use Rattle.tv_farkas.proofs.SystemLemmas.{at_of}
 use Rattle.tv_linear.specs.declared.region.Piece.{Piece}
 use Rattle.tv_cases.specs.LinearCases.{LinearCase, CaseSystem, AreCases}
 use Rattle.tv_graph.specs.declared.Arc.{Arc}
@@ -32,6 +31,7 @@ use Rattle.tv_rank.specs.Rankings.{HasPoint, NoneRanks}
 use Rattle.tv_lexrank.specs.Parts.{IsStuck}
 use Rattle.tv_lexrank.proofs.NotStuck.{bare_ways}
 use Rattle.tv_lexrank.proofs.SortLemmas.{of_case}
+use Rattle.std.proofs.lemmas.List.Elements.{All-from_get_or}
 
 arc_at : (cases : List LinearCase) (k : ℕ) (d : Arc) → k < length cases → get_or (map arc_of cases) k d ≡ arc_of (case_at cases k)
 arc_at cases k d l = get_or-map arc_of cases k no_case d l
@@ -40,7 +40,7 @@ no_arc : Arc
 no_arc = record { from = 0; to = 0 }
 
 pub arcs_between : (about : CaseSystem) → AreCases about → All (IsBetween about.locations) (map arc_of about.cases)
-arcs_between about h = all_of (IsBetween about.locations) (map arc_of about.cases) no_arc (λ k l.
+arcs_between about h = All-from_get_or (IsBetween about.locations) (map arc_of about.cases) no_arc (λ k l.
     let q : k < length about.cases = (let e = length-map about.cases arc_of in omega (arith, e, l)) in
     let c = of_case about k h q in
     subst (IsBetween about.locations) (sym (arc_at about.cases k no_arc q)) (c.leaves, c.enters))

@@ -2,20 +2,18 @@
 use Rattle.std.proofs.Common.{◌≡◌, ◌⊎◌, inl, inr, ℕ, zero, suc, ◌+◌, ◌-◌, ◌<◌, ◌≤◌, List, [], ◌∷◌, ◌++◌, length, map, take, get_or, ℤ, Bool, true, false, cond, ◌==◌, if◌then◌else◌, arith, refl, sym, ap, ◌∙◌}
 use Rattle.std.specs.Prelude.{slice_get, Some}
 use Rattle.std.specs.List.{filter}
-use Rattle.std.proofs.lemmas.List.{length-map, map-append}
+use Rattle.std.proofs.lemmas.List.{length-map, map-append, get_or-map, get_or_past}
 use Rattle.std.proofs.lemmas.Option.{slice_get_within, slice_get-get_or, get_or_from_slice_get}
 use Rattle.tv_places.specs.Places.{places_from, places_of}
 use Rattle.tv_places.proofs.PlaceLemmas.{place_told, places_counted}
-use Rattle.tv_refute.proofs.Places.{get_or-map}
 use Rattle.tv_linear.specs.declared.region.Piece.{Piece}
-use Rattle.tv_linear.proofs.ListLaws.{test_true, true_test}
+use Rattle.tv_linear.proofs.ListLaws.{test_true, true_test, take_more}
 use Rattle.tv_cases.specs.LinearCases.{LinearCase, CaseSystem}
 use Rattle.tv_rank.specs.Ways.{case_at, no_case}
-use Rattle.tv_rank.proofs.Solved.{past_end}
 use Rattle.tv_lexrank.specs.Inside.{inside_key, inside_keys, behind}
 use Rattle.tv_lexrank.specs.Sorting.{LeadsInside, AreSorted}
-use Rattle.tv_lexrank.proofs.Chained.{other_of}
-use Rattle.tv_lexrank.proofs.StandLemmas.{kept_holds, take_more}
+use Rattle.tv_lexrank.proofs.StandLemmas.{kept_holds}
+use Rattle.tv_places.proofs.IndexLemmas.{false_test}
 
 abbrev behind_from : ℕ → List ℕ → ℕ → ℕ
 behind_from start xs zero = start
@@ -64,7 +62,7 @@ gap_first l start x ks rest false t p h ih =
       from = f;
       ordered = omega (arith, u, o, w);
       none = λ k a b s. elim (first_or_later start k (omega (arith, f, a))) [
-        | inl e ↦ other_of x l t (sym (ap (λ z. get_or (x ∷ ks) z 0) (let z : k - start ≡ 0 = omega (arith, e) in z)) ∙ s)
+        | inl e ↦ false_test x l t (sym (ap (λ z. get_or (x ∷ ks) z 0) (let z : k - start ≡ 0 = omega (arith, e) in z)) ∙ s)
         | inr e ↦ g.none k (next p k e a) (omega (arith, u, b)) (later_key start k x l ks (omega (arith, e)) s)
       ];
     }
@@ -181,7 +179,7 @@ module _ (about : CaseSystem) (numbers : List ℕ) (component count : ℕ) where
       before_or_past k n = grind arith
 
   pub sorted_all : (known : List Piece) (p : ℕ) (set empty : List ℕ) (refutations : List (List ℤ)) → p ≡ length places → AreSorted about known numbers component (behind places p) set empty refutations → AreSorted about known numbers component (length about.cases) set empty refutations
-  sorted_all known p set empty refutations e s = sorted_until known p (length about.cases) set empty refutations (omega (arith, e)) (omega arith) (sym (past_end places p (length about.cases) (omega (arith, e)))) s
+  sorted_all known p set empty refutations e s = sorted_until known p (length about.cases) set empty refutations (omega (arith, e)) (omega arith) (sym (get_or_past places p (length about.cases) (omega (arith, e)))) s
 
   pub sorted_next : (known : List Piece) (p number : ℕ) (set empty : List ℕ) (refutations : List (List ℤ)) → slice_get places p ≡ Some number → IsInside p number → AreSorted about known numbers component (behind places p) set empty refutations → AreSorted about known numbers component number set empty refutations
   sorted_next known p number set empty refutations h at s = (let a = at.counted in let b = at.within in sorted_until known p number set empty refutations (omega (arith, a)) (omega (arith, b)) (sym (get_or_from_slice_get places p number (length about.cases) h)) s)

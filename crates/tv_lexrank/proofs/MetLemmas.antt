@@ -11,7 +11,6 @@ use Rattle.tv_linear.proofs.KnownLemmas.{as_given-append}
 use Rattle.tv_linear.specs.Same.{AreSame}
 use Rattle.tv_linear.proofs.SameLemmas.{same_append, all_same, refutes_same}
 use Rattle.tv_linear.proofs.PaddedLemmas.{padded_same, padded_even, padded_below}
-use Rattle.tv_cases.specs.LinearCases.{LinearCase}
 use Rattle.tv_rank.specs.Ways.{Way, rows_at}
 use Rattle.tv_lexrank.specs.Known.{piece_rows, way_rows, padded_rows}
 use Rattle.tv_lexrank.specs.Sorting.{IsSettled, IsTaken}
@@ -56,11 +55,3 @@ IsBelow xs z r = scaled_value r xs z ≤ℤ pos 0
 pub taken_padded : (v : ℕ) (w : Way) (o : Option (Vec ℤ Global)) → IsSettled (v + w.taken.draws) (padded_rows w) o → IsTaken v w o
 taken_padded v w None (xs, z, size, p) = (xs, z, record { width = size; meets = record { positive = p.positive; met = padded_below w.taken.draws w.known w.taken.guards xs z p.met } })
 taken_padded v w (Some ms) (r, short) = (refutes_same (v + w.taken.draws) (as_given (padded_rows w)) (way_rows w) ms.items (padded_rows_same (v + w.taken.draws) w) r, short)
-
--- where no rows are known they are the guards
-pub taken_bare : (v : ℕ) (c : LinearCase) (rows : List Linear) (o : Option (Vec ℤ Global)) → rows ≡ [] → IsSettled (v + c.draws) c.guards o → IsTaken v (record { taken = c; known = rows }) o
-taken_bare v c rows o e h = subst (λ z. IsTaken v (record { taken = c; known = z }) o) (sym e) (by_answer o h)
-  where
-    by_answer : (o : Option (Vec ℤ Global)) → IsSettled (v + c.draws) c.guards o → IsTaken v (record { taken = c; known = [] }) o
-    by_answer None (xs, z, size, p) = (xs, z, record { width = size; meets = p })
-    by_answer (Some ms) g = g

@@ -20,7 +20,7 @@ use Rattle.tv_lexrank.specs.Shown.{owed_fall}
 use Rattle.tv_lexrank.specs.More.{way_with, IsUnderMore}
 use Rattle.tv_lexrank.proofs.PadLemmas.{zeros_keep}
 
-given_held : (n : ℕ) (rows : List Linear) → AllHeld n (as_given rows)
+pub given_held : (n : ℕ) (rows : List Linear) → AllHeld n (as_given rows)
 given_held n [] = tt
 given_held n (r ∷ rows) = ((λ j l. tt), tt, given_held n rows)
 

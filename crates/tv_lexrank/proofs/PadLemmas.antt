@@ -11,11 +11,9 @@ use Rattle.tv_linear.specs.Covers.{Shown}
 use Rattle.tv_linear.specs.Refutation.{RowsHeld, Refutes}
 use Rattle.tv_linear.proofs.PlainLists.{length-zeros}
 use Rattle.tv_lexrank.specs.Falling.{spread, AllHeld}
+use Rattle.tv_cases.proofs.ProductLemmas.{zero_times}
 
-zero_times : (z : ℤ) → pos 0 *ℤ z ≡ pos 0
-zero_times z = omega (arith, ints)
-
-nothing : IsHeld (pos 0)
+pub nothing : IsHeld (pos 0)
 nothing = omega arith
 
 zeros_sum : (p : Known → ℤ) (zs ys : List Known) (ns : List ℤ) → dot (zeros (length zs) ++ ns) (map p (zs ++ ys)) ≡ dot ns (map p ys)

@@ -2,17 +2,15 @@ use Rattle.std.proofs.Common.{◌∙◌, ℕ, List, length, get_or, Vec, ℤ, sy
 use Rattle.tv_linear.specs.declared.region.Piece.{Piece}
 use Rattle.tv_cases.specs.LinearCases.{CaseSystem, AreCases}
 use Rattle.tv_rank.specs.Ways.{case_at}
-use Rattle.tv_rank.specs.declared.name.Name.{Name}
 use Rattle.tv_rank.specs.declared.name.Name.TheVariants as name
-use Rattle.tv_lexrank.specs.declared.fault.RankFault.{RankFault}
 use Rattle.tv_lexrank.specs.declared.fault.RankFault.TheVariants as fault
 use Rattle.std.specs.Global.{Global}
 use Rattle.tv_rank.specs.Given.{lists}
 use Rattle.tv_lexrank.specs.declared.greedy.Greedy.TheVariants as greedy
-use Rattle.tv_lexrank.specs.Greedy.{IsGreedy, RefusesGreedy}
+use Rattle.tv_lexrank.specs.Greedy.{IsGreedy}
 use Rattle.tv_known.specs.Ranking.{AreInside}
-use Rattle.tv_lexrank.specs.Sorting.{Ascends, AreSorted, RefusesSorting}
-use Rattle.tv_lexrank.specs.Parts.{AreGrouped, IsStuck, RefusesPart}
+use Rattle.tv_lexrank.specs.Sorting.{Ascends, AreSorted}
+use Rattle.tv_lexrank.specs.Parts.{AreGrouped, IsStuck}
 use Rattle.tv_lexrank.proofs.Removing.{ascends_left}
 use Rattle.tv_lexrank.proofs.SortLemmas.{of_case}
 
@@ -26,30 +24,6 @@ are_inside about known numbers component set empty refutations limits grouped h 
       let d = of_case about (get_or set j 0) limits (h.numbered j g) in
       grouped (case_at about.cases (get_or set k 0)).from (case_at about.cases (get_or set j 0)).from c.leaves d.leaves ((h.inside k l).0 ∙ sym (h.inside j g).0);
 }
-
-pub sorting_refused : (about : CaseSystem) (known : List Piece) (numbers : List ℕ) (component pivots : ℕ) (e : RankFault) → RefusesSorting about known numbers component pivots e → RefusesPart about known numbers component pivots e
-sorting_refused about known numbers component pivots (fault.Solve system e) h = by_name system h
-  where
-    by_name : (system : Name) → RefusesSorting about known numbers component pivots (fault.Solve system e) → RefusesPart about known numbers component pivots (fault.Solve system e)
-    by_name (name.Empty k) h = h
-    by_name (name.Rank c r falling) h = absurd h
-    by_name (name.Rows rows) h = h
-    by_name (name.Later s falling) h = absurd h
-sorting_refused about known numbers component pivots (fault.Open taken values) h = absurd h
-sorting_refused about known numbers component pivots (fault.Cover f) h = absurd h
-sorting_refused about known numbers component pivots fault.Memory h = tt
-
-pub greedy_refused : (about : CaseSystem) (known : List Piece) (numbers : List ℕ) (component pivots : ℕ) (set empty : List ℕ) (refutations : List (List ℤ)) → AreSorted about known numbers component (length about.cases) set empty refutations → (e : RankFault) → RefusesGreedy about known set pivots component e → RefusesPart about known numbers component pivots e
-greedy_refused about known numbers component pivots set empty refutations s (fault.Solve system e) h = by_name system h
-  where
-    by_name : (system : Name) → RefusesGreedy about known set pivots component (fault.Solve system e) → RefusesPart about known numbers component pivots (fault.Solve system e)
-    by_name (name.Empty k) h = absurd h
-    by_name (name.Rank c r falling) h = (set, (empty, refutations, s), h)
-    by_name (name.Rows rows) h = absurd h
-    by_name (name.Later t falling) h = (set, (empty, refutations, s), h)
-greedy_refused about known numbers component pivots set empty refutations s (fault.Open taken values) h = absurd h
-greedy_refused about known numbers component pivots set empty refutations s (fault.Cover f) h = absurd h
-greedy_refused about known numbers component pivots set empty refutations s fault.Memory h = tt
 
 -- what is left is stuck
 pub stuck_left : (about : CaseSystem) (known : List Piece) (set : List ℕ) (left : Vec ℕ Global) (barriers : Vec (Vec ℤ Global) Global) → Ascends set → IsGreedy about known set (greedy.Left left barriers) → IsStuck about known left.items (lists barriers.items)

@@ -1,5 +1,5 @@
 -- What is settled of the rows that are met where a case inside a component is taken.
-use Rattle.std.proofs.Common.{◌≡◌, ℕ, ◌+◌, ◌<◌, List, [], length, Option, Vec, sym, subst, ℤ}
+use Rattle.std.proofs.Common.{◌≡◌, ℕ, ◌+◌, ◌<◌, List, length, Option, Vec, sym, subst, ℤ}
 use Rattle.std.specs.Global.{Global}
 use Rattle.tv_linear.specs.Linear.{Linear}
 use Rattle.tv_linear.specs.declared.region.Piece.{Piece}
@@ -13,13 +13,10 @@ use Rattle.tv_lexrank.specs.declared.fault.RankFault.{RankFault}
 use Rattle.tv_lexrank.specs.declared.fault.RankFault.TheVariants as fault
 use Rattle.tv_lexrank.specs.Known.{AreBare, HaveRows, padded_rows}
 use Rattle.tv_lexrank.specs.Sorting.{IsSettled, IsTaken, LeadsInside, RefusesGuards, RefusesRows, RefusesSorting}
-use Rattle.tv_lexrank.proofs.MetLemmas.{taken_padded, taken_bare}
+use Rattle.tv_lexrank.proofs.MetLemmas.{taken_padded}
 
 pub taken_met : (v n : ℕ) (w : Way) (rows : List Linear) (o : Option (Vec ℤ Global)) → n ≡ v + w.taken.draws → rows ≡ padded_rows w → IsSettled n rows o → IsTaken v w o
 taken_met v n w rows o e f h = taken_padded v w o (subst (λ m. IsSettled m (padded_rows w) o) e (subst (λ z. IsSettled n z o) f h))
-
-pub taken_guards : (v n : ℕ) (w : Way) (rows : List Linear) (o : Option (Vec ℤ Global)) → w.known ≡ [] → n ≡ v + w.taken.draws → rows ≡ w.taken.guards → IsSettled n rows o → IsTaken v w o
-taken_guards v n w rows o bare e f h = taken_bare v w.taken w.known o bare (subst (λ m. IsSettled m w.taken.guards o) e (subst (λ z. IsSettled n z o) f h))
 
 module _ (about : CaseSystem) (known : List Piece) (numbers : List ℕ) (component pivots k n : ℕ) (rows : List Linear) (k_in : k < length about.cases) (inside : LeadsInside numbers component (case_at about.cases k)) (wide : n ≡ about.variables + (case_at about.cases k).draws) where
   pub rows_refused : HaveRows known → rows ≡ padded_rows (way_of about.cases known k) → (e : RankFault) → RefusesRows n rows pivots e → RefusesSorting about known numbers component pivots e

@@ -1,17 +1,18 @@
-use Rattle.std.proofs.Common.{◌≡◌, inl, inr, ℕ, zero, suc, ◌+◌, ◌<◌, ◌≤◌, List, [], ◌∷◌, ◌++◌, length, length-append, get_or, All, arith, refl, sym, ap, ◌∙◌, subst, ℤ}
-use Rattle.std.proofs.lemmas.List.Elements.{All-nil, All-push}
+use Rattle.std.proofs.Common.{◌≡◌, inl, inr, ℕ, zero, suc, ◌+◌, ◌<◌, ◌≤◌, List, [], ◌∷◌, ◌++◌, length, length-append, get_or, All, arith, sym, ap, ◌∙◌, subst, ℤ}
+use Rattle.std.proofs.lemmas.List.Elements.{All-push}
 use Rattle.tv_linear.specs.Linear.{IsWithin}
 use Rattle.tv_linear.specs.declared.region.Piece.{Piece}
 use Rattle.tv_linear.proofs.ListLaws.{last_or_below}
 use Rattle.tv_cases.specs.LinearCases.{LinearCase, CaseSystem, IsCase, AreCases}
 use Rattle.tv_cases.specs.declared.case.Case.{Case}
 use Rattle.tv_cases.specs.Views.{case_view, case_views}
-use Rattle.tv_refute.proofs.Places.{get_or-left, get_or-right, get_or-map}
+use Rattle.tv_refute.proofs.Places.{get_or-left, get_or-right}
 use Rattle.tv_farkas.proofs.SystemLemmas.{at_of}
 use Rattle.tv_rank.specs.Given.{AreNumbered}
 use Rattle.tv_rank.specs.Ways.{case_at, no_case, way_of}
 use Rattle.tv_rank.specs.Rankings.{HasPoint}
 use Rattle.tv_lexrank.specs.Sorting.{LeadsInside, StandsIn, Ascends, IsNeverTaken, AreSorted}
+use Rattle.std.proofs.lemmas.List.{get_or-map}
 
 -- what holds at each place of a list, and of a further item
 grown : (P : ℕ → Type 0) (xs : List ℕ) (x : ℕ) → ((j : ℕ) → j < length xs → P (get_or xs j 0)) → P x → (j : ℕ) → j < length (xs ++ x ∷ []) → P (get_or (xs ++ x ∷ []) j 0)
@@ -105,18 +106,6 @@ module _ (about : CaseSystem) (known : List Piece) (numbers : List ℕ) (compone
     narrow = All-push (All (IsWithin 62)) refutations ms h.narrow short;
     each = λ i l inside'. elim (last_or_below k i l) [ inl q ↦ inr (subst (λ y. StandsIn (empty ++ k ∷ []) y) (sym q) (stands_last empty k)) | inr b ↦ elim (h.each i b inside') [ inl s ↦ inl s | inr s ↦ inr (stands_more empty k i s) ] ];
   }))
-
-pub none_sorted : (about : CaseSystem) (known : List Piece) (numbers : List ℕ) (component : ℕ) → AreSorted about known numbers component 0 [] [] []
-none_sorted about known numbers component = record {
-  numbered = λ k l. absurd (omega (arith, l));
-  ascends = λ i j l m. absurd (omega (arith, m));
-  inside = λ k l. absurd (omega (arith, l));
-  points = λ k l. absurd (omega (arith, l));
-  counted = refl;
-  refuted = λ i l. absurd (omega (arith, l));
-  narrow = All-nil (All (IsWithin 62));
-  each = λ k l inside. absurd (omega (arith, l));
-}
 
 -- the case at a place of the cases
 pub case_is : (list : List Case) (cases : List LinearCase) (k : ℕ) (d : Case) → case_views list ≡ cases → k < length list → case_view (get_or list k d) ≡ case_at cases k

@@ -4,7 +4,7 @@ use Rattle.std.proofs.Common.{◌≡◌, ℕ, zero, suc, ◌+◌, ◌<◌, List,
 use Rattle.std.specs.Prelude.{slice_get}
 use Rattle.std.specs.List.{AllZip, filter}
 use Rattle.std.proofs.lemmas.Option.{slice_get_within, slice_get-get_or, get_or_from_slice_get}
-use Rattle.tv_linear.proofs.ListLaws.{zip_push, true_test}
+use Rattle.tv_linear.proofs.ListLaws.{zip_push, true_test, take_more}
 use Rattle.tv_cases.specs.LinearCases.{LinearCase, from_of, leaving}
 use Rattle.tv_cases.specs.Systems.{cases_of}
 use Rattle.tv_cert.specs.declared.node.Proof.{Proof}
@@ -15,6 +15,7 @@ use Rattle.tv_rank.specs.Ways.{case_at, no_case}
 use Rattle.tv_lexrank.specs.declared.ranking.Ranking.{Ranking}
 use Rattle.tv_lexrank.specs.Offered.{IsStepProof, IsOfferedAt, step_owed, AreStepsShown, AreShownBelow}
 use Rattle.tv_lexrank.proofs.OfferLemmas.{step_offered}
+use Rattle.std.proofs.Math.Seq.{take-length}
 
 pub kept_holds : {A : Type 0} (p : A → Bool) (xs : List A) (k : ℕ) (y : A) → slice_get (filter p xs) k ≡ Some y → p y ≡ true
 kept_holds p [] k y h = absurd cc
@@ -46,15 +47,6 @@ leaving_at cases l k number h =
       leaves = true_test (case_at cases number).from l (kept_holds (λ c. from_of c == l) cases k (case_at cases number) found);
     }
 
-pub take_more : {A : Type 0} (xs : List A) (k : ℕ) (x : A) → slice_get xs k ≡ Some x → take (k + 1) xs ≡ take k xs ++ x ∷ []
-take_more [] k x h = absurd cc
-take_more (y ∷ ys) zero x h = (let e : y ≡ x = cc in ap (λ z. z ∷ []) e)
-take_more (y ∷ ys) (suc k) x h = ap (λ n. take n (y ∷ ys)) (let e : suc k + 1 ≡ suc (k + 1) = omega arith in e) ∙ ap (λ zs. y ∷ zs) (take_more ys k x h)
-
-pub take_all : {A : Type 0} (xs : List A) → take (length xs) xs ≡ xs
-take_all [] = refl
-take_all (x ∷ xs) = ap (λ ys. x ∷ ys) (take_all xs)
-
 proof_offered : (r : Ranking) (l number : ℕ) (p : Proof) → number < length (cases_of r.about.now).cases → (case_at (cases_of r.about.now).cases number).from ≡ l → IsStepProof r number p → IsOfferedAt r l (case_at (cases_of r.about.now).cases number) p
 proof_offered r l number (Covered tree) k_in e h = λ n ps pieces. subst (λ z. IsOffered (step_owed r n ps z (case_at (cases_of r.about.now).cases number)) (Covered tree)) e (step_offered r number k_in ps pieces n tree h)
 proof_offered r l number (Chosen tree) k_in e h = absurd h
@@ -70,7 +62,7 @@ steps_more r l k number p old mid new at shown h e = record {
 
 -- all of them
 pub all_steps : (r : Ranking) (l k : ℕ) (old new : List Proof) → k ≡ length (leaving l (cases_of r.about.now).cases) → AreStepsShown r l (take k (leaving l (cases_of r.about.now).cases)) old new → AreStepsShown r l (leaving l (cases_of r.about.now).cases) old new
-all_steps r l k old new e h = subst (λ z. AreStepsShown r l z old new) (ap (λ n. take n (leaving l (cases_of r.about.now).cases)) e ∙ take_all (leaving l (cases_of r.about.now).cases)) h
+all_steps r l k old new e h = subst (λ z. AreStepsShown r l z old new) (ap (λ n. take n (leaving l (cases_of r.about.now).cases)) e ∙ take-length (leaving l (cases_of r.about.now).cases)) h
 
 -- one more location
 pub location_more : (r : Ranking) (l : ℕ) (front proofs : List Proof) → AreShownBelow r l front → AreStepsShown r l (leaving l (cases_of r.about.now).cases) front proofs → AreShownBelow r (l + 1) proofs

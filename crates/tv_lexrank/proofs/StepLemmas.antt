@@ -1,11 +1,10 @@
 use Rattle.std.proofs.Common.{Option, None, Some, inl, inr, All, Bool, true, false, ◌==◌, if◌then◌else◌, ◌≡◌, ℕ, suc, ◌+◌, ◌<◌, ◌^◌, List, [], ◌∷◌, ◌++◌, length, map, get_or, arith, refl, sym, ap, subst, ℤ, pos}
 use Rattle.std.proofs.lemmas.Int.{ints}
-use Rattle.tv_linear.specs.Linear.{Linear, IsWithin}
+use Rattle.tv_linear.specs.Linear.{Linear}
 use Rattle.tv_linear.specs.Arithmetic.{constant_row}
 use Rattle.tv_linear.specs.Known.{Known, given, less, as_given}
 use Rattle.tv_linear.specs.Covers.{ShownAt, IsMetCover}
 use Rattle.tv_linear.specs.Falls.{fall_rows_at}
-use Rattle.tv_linear.specs.Refutation.{Refutes}
 use Rattle.tv_linear.specs.Terms.{terms_after}
 use Rattle.tv_linear.specs.declared.region.Piece.{Piece}
 use Rattle.tv_cases.specs.LinearCases.{CaseSystem}
@@ -27,7 +26,7 @@ use Rattle.tv_lexrank.specs.declared.falling.Fall.{Fall}
 use Rattle.tv_lexrank.specs.Closing.{owed_plain, changed, Leads}
 use Rattle.tv_lexrank.specs.Falling.{HasFall}
 use Rattle.tv_lexrank.specs.Shown.{owed_fall}
-use Rattle.tv_lexrank.specs.Steps.{owed_step, IsStepCover, IsRefutation}
+use Rattle.tv_lexrank.specs.Steps.{owed_step, IsStepCover}
 use Rattle.tv_lexrank.proofs.Chained.{chain_shown, shown_more, found_at}
 use Rattle.tv_lexrank.proofs.ZeroLines.{zero_line, change_shown, constant_shown}
 
@@ -71,16 +70,6 @@ falling_met v w into old new fall base tree leads shown h = record {
         subst (λ ks. IsMetCover n (owed_step v w into old new) ks tree) (append-nil (way_rows w))
         (h.goes_on n (way_rows w) [] (map (changed v w) into) falls (owed_step v w into old new) refl tt g (ap (option_map (λ falls. map (changed v w) into ++ falls)) e)
         (subst (λ ks. IsMetCover n (owed_plain (map (changed v w) into)) ks base) (sym (append-nil (way_rows w))) leads.met))
-
-pub refutation_met : (v : ℕ) (w : Way) (into old new : List Linear) (ms : List ℤ) (tree : CoverTree) → IsRefutation ms tree → Refutes (v + w.taken.draws) (way_rows w) ms → All (IsWithin 62) ms → IsStepCover v w into old new tree
-refutation_met v w into old new ms (cover.Split' r p a q b) h g narrow = absurd h
-refutation_met v w into old new ms (cover.Empty m) h g narrow = record {
-  met = subst (λ z. Refutes (v + w.taken.draws) (way_rows w) z) (sym h) g;
-  shallow = omega arith;
-  even = tt;
-  narrow = subst (All (IsWithin 62)) (sym h) narrow;
-}
-refutation_met v w into old new ms (cover.Into target fall ls) h g narrow = absurd h
 
 -- ---- what a component has
 lined : (about : CaseSystem) (known : List Piece) (set : List ℕ) (r : Round) → IsRound about known set r → IsLined r

@@ -1,4 +1,4 @@
-use Rattle.std.proofs.Common.{◌≡◌, inl, inr, ℕ, ◌+◌, ◌<◌, List, [], ◌∷◌, ◌++◌, length, length-append, get_or, Vec, arith, sym, ap, ◌∙◌, subst, ℤ}
+use Rattle.std.proofs.Common.{◌≡◌, inl, inr, ℕ, ◌+◌, List, [], ◌∷◌, ◌++◌, length, length-append, get_or, Vec, arith, sym, ap, ◌∙◌, subst, ℤ}
 use Rattle.std.specs.Global.{Global}
 use Rattle.std.proofs.lemmas.List.{map-append}
 use Rattle.tv_linear.specs.declared.region.Piece.{Piece}
@@ -18,9 +18,7 @@ use Rattle.tv_rank.specs.Rankings.{NoneRanks}
 use Rattle.tv_lexrank.specs.declared.fault.RankFault.{RankFault}
 use Rattle.tv_lexrank.specs.declared.fault.RankFault.TheVariants as fault
 use Rattle.tv_lexrank.specs.declared.round.Round.{Round}
-use Rattle.tv_lexrank.specs.declared.component.Component.{Component}
-use Rattle.tv_simplex.specs.declared.fault.SolveFault.{SolveFault}
-use Rattle.tv_lexrank.specs.Greedy.{without, IsRound, AreFirst, Lead, more, RefusesFalling, RefusesTurn, RefusesGreedy, ForFirst, IsUnsolvedAt, IsNameIn, RefusesTurnIn}
+use Rattle.tv_lexrank.specs.Greedy.{without, IsRound, AreFirst, Lead, more, RefusesFalling, RefusesTurn, RefusesGreedy}
 
 -- one more barrier
 pub first_more : (about : CaseSystem) (known : List Piece) (set : List ℕ) (n : ℕ) (bs : List (Vec ℤ Global)) (b : Vec ℤ Global) (f : Found) (news : List (Vec ℤ Global)) → AreFirst about known set n (lists bs) → IsRankedAt about known set n f → f ≡ found.None b → news ≡ bs ++ b ∷ [] → AreFirst about known set (n + 1) (lists news)
@@ -52,13 +50,6 @@ refused_round about known set pivots component rounds left round lead many (faul
 refused_round about known set pivots component rounds left round lead many (fault.Open taken values) h = absurd h
 refused_round about known set pivots component rounds left round lead many (fault.Cover f) h = absurd h
 refused_round about known set pivots component rounds left round lead many fault.Memory h = tt
-
--- the refusal of the system of a set, which has this name
-pub refused_named : (c : Component) (set : List ℕ) (round falling place : ℕ) (system : Name) (e : SolveFault) → place < length set → get_or set place 0 ≡ falling → ForFirst c set place → IsUnsolvedAt c set place e → IsNameIn c set round falling system → RefusesTurnIn c set round (fault.Solve system e)
-refused_named c set round falling place (name.Empty k) e l is first refused h = absurd h
-refused_named c set round falling place (name.Rank d r f) e l is first refused (bare, component, same, falls) = (bare, component, same, record { place = place; within = l; is = is ∙ sym falls; before = first; refuses = refused })
-refused_named c set round falling place (name.Rows rows) e l is first refused h = absurd h
-refused_named c set round falling place (name.Later s f) e l is first refused (rows, same, falls) = (rows, same, record { place = place; within = l; is = is ∙ sym falls; before = first; refuses = refused })
 
 pub one_more : (about : CaseSystem) (known : List Piece) (set left : List ℕ) (rounds news : List Round) (round : Round) (rest : List ℕ) → Lead about known set rounds left → IsRound about known left round → news ≡ rounds ++ round ∷ [] → rest ≡ without left round.place → Lead about known set news rest
 one_more about known set left rounds news round rest h r e f = subst (λ z. Lead about known set z rest) (sym e) (subst (λ z. Lead about known set (rounds ++ round ∷ []) z) (sym f) (more set left rounds round h r))

@@ -60,7 +60,7 @@ number_shown v w row zero_columns constant small held = subst (λ zs. Refutes (v
 constant_number : (v : ℕ) (c : ℤ) (j : ℕ) → number (Some j) (constant_row v c) ≡ pos 0
 constant_number v c j = get_or-zeros v j
 
-places_zero : (f : ℕ → ℤ) (xs : List ℤ) → ((j : ℕ) → f j ≡ pos 0) → place_sum f xs ≡ pos 0
+pub places_zero : (f : ℕ → ℤ) (xs : List ℤ) → ((j : ℕ) → f j ≡ pos 0) → place_sum f xs ≡ pos 0
 places_zero f [] h = refl
 places_zero f (x ∷ xs) h = (let a = places_zero (λ j. f (suc j)) xs (λ j. h (suc j)) in let b : f 0 *ℤ x ≡ pos 0 = ap (λ z. z *ℤ x) (h 0) ∙ omega (arith, ints) in omega (arith, ints, a, b))
 

@@ -1,10 +1,8 @@
 -- copies of rows, and rows with more columns, each of them narrow
-use Rattle.std.proofs.Common.{◌≡◌, ℕ, ◌+◌, ◌-◌, ◌<◌, List, [], ◌∷◌, ◌++◌, length, get_or, take, All, sym, ap, ◌∙◌, subst, append_assoc, ◌^◌, arith, ℤ, length-append}
+use Rattle.std.proofs.Common.{◌≡◌, ℕ, ◌+◌, ◌-◌, ◌<◌, List, [], ◌∷◌, ◌++◌, length, get_or, take, All, sym, ap, ◌∙◌, subst, append_assoc}
 use Rattle.std.proofs.lemmas.List.{take_more}
-use Rattle.std.proofs.lemmas.List.Elements.{All-push, All-append}
-use Rattle.tv_linear.specs.Linear.{Linear, linear, IsWithin, IsNarrow}
-use Rattle.tv_linear.specs.Arithmetic.{zeros}
-use Rattle.tv_linear.proofs.PlainLists.{length-zeros, zeros-narrow}
+use Rattle.std.proofs.lemmas.List.Elements.{All-push}
+use Rattle.tv_linear.specs.Linear.{Linear, IsNarrow}
 
 module _ (old items new rows : List Linear) (i : ℕ) (r s : Linear) where
   pub copied_more : i < length rows → r ≡ get_or rows i r → s ≡ r → IsNarrow r → new ≡ items ++ s ∷ [] → (items ≡ old ++ take i rows) × All IsNarrow (take i rows) → (new ≡ old ++ take (i + 1) rows) × All IsNarrow (take (i + 1) rows)
@@ -13,10 +11,3 @@ module _ (old items new rows : List Linear) (i : ℕ) (r s : Linear) where
         en ∙ (λ j. h.0 j ++ same j ∷ []) ∙ append_assoc old (take i rows) (r ∷ []) ∙ ap (λ rs. old ++ rs) (sym more),
         subst (All IsNarrow) (sym more) (All-push IsNarrow (take i rows) r h.1 narrow),
       )
-
-pub padded_narrow : (cs : List ℤ) (k : ℤ) (m : ℕ) → IsNarrow (linear cs k) → length cs + m < 2 ^ 32 - 1 → IsNarrow (linear (cs ++ zeros m) k)
-padded_narrow cs k m h l = record {
-  coefficients = All-append (IsWithin 62) cs (zeros m) h.coefficients (zeros-narrow m);
-  constant = h.constant;
-  few = (let a = length-append cs (zeros m) in let z = length-zeros m in omega (arith, a, z, l));
-}

@@ -7,6 +7,7 @@ use Rattle.tv_linear.specs.Arithmetic.{zeros, padded_row}
 use Rattle.tv_linear.specs.Known.{as_given}
 use Rattle.tv_linear.specs.Same.{AreSame}
 use Rattle.tv_linear.proofs.PlainLists.{length-zeros, get_or-zeros}
+use Rattle.tv_linear.proofs.RowValues.{dot-zeros}
 
 get_or-zeros_after : (cs : List ℤ) (m j : ℕ) → get_or (cs ++ zeros m) j (pos 0) ≡ get_or cs j (pos 0)
 get_or-zeros_after [] m j = get_or-zeros m j
@@ -35,11 +36,6 @@ padded_even n more (r ∷ rows) h =
     All-cons (λ r. columns r ≡ n + more) (padded_row more r) (map (padded_row more) rows) (omega (arith, a, z, e)) (padded_even n more rows (All-tail (λ r. columns r ≡ n) r rows h))
 
 -- ---- at a point
-pub dot-zeros : (m : ℕ) (xs : List ℤ) → dot (zeros m) xs ≡ pos 0
-dot-zeros zero xs = refl
-dot-zeros (suc m) [] = refl
-dot-zeros (suc m) (x ∷ xs) = let h = dot-zeros m xs in omega (arith, ints, h)
-
 pub dot-padded : (m : ℕ) (cs xs : List ℤ) → dot (cs ++ zeros m) xs ≡ dot cs xs
 dot-padded m [] xs = dot-zeros m xs
 dot-padded m (c ∷ cs) [] = refl

@@ -7,12 +7,12 @@ use Rattle.tv_linear.specs.Tight.{tight}
 use Rattle.tv_linear.proofs.Ring.{distribute_z, distribute_right_z, mul_assoc_z, neg_times_z}
 use Rattle.tv_linear.proofs.Tightened.{tight-met}
 
-dot-zeros : (n : ℕ) (xs : List ℤ) → dot (zeros n) xs ≡ pos 0
+pub dot-zeros : (n : ℕ) (xs : List ℤ) → dot (zeros n) xs ≡ pos 0
 dot-zeros zero xs = refl
 dot-zeros (suc n) [] = refl
 dot-zeros (suc n) (x ∷ xs) = let h = dot-zeros n xs in omega (arith, ints, h)
 
-dot-unit : (n column : ℕ) (xs : List ℤ) → length xs ≤ n → dot (unit n column) xs ≡ get_or xs column (pos 0)
+pub dot-unit : (n column : ℕ) (xs : List ℤ) → length xs ≤ n → dot (unit n column) xs ≡ get_or xs column (pos 0)
 dot-unit zero column [] h = refl
 dot-unit zero column (x ∷ xs) h = absurd (omega arith)
 dot-unit (suc n) zero [] h = refl
@@ -20,7 +20,7 @@ dot-unit (suc n) zero (x ∷ xs) h = let e = dot-zeros n xs in omega (arith, int
 dot-unit (suc n) (suc column) [] h = refl
 dot-unit (suc n) (suc column) (x ∷ xs) h = let e = dot-unit n column xs (omega arith) in omega (arith, ints, e)
 
-dot-plus : (cs bs xs : List ℤ) → dot (plus_each cs bs) xs ≡ dot cs xs +ℤ dot bs xs
+pub dot-plus : (cs bs xs : List ℤ) → dot (plus_each cs bs) xs ≡ dot cs xs +ℤ dot bs xs
 dot-plus [] bs xs = omega (arith, ints)
 dot-plus (a ∷ cs) [] xs = omega (arith, ints)
 dot-plus (a ∷ cs) (b ∷ bs) [] = refl
@@ -29,7 +29,7 @@ dot-plus (a ∷ cs) (b ∷ bs) (x ∷ xs) =
     let later = dot-plus cs bs xs in
     omega (arith, ints, here, later)
 
-dot-opposite : (cs xs : List ℤ) → dot (map neg_ℤ cs) xs ≡ neg_ℤ (dot cs xs)
+pub dot-opposite : (cs xs : List ℤ) → dot (map neg_ℤ cs) xs ≡ neg_ℤ (dot cs xs)
 dot-opposite [] xs = refl
 dot-opposite (a ∷ cs) [] = refl
 dot-opposite (a ∷ cs) (x ∷ xs) =
@@ -37,7 +37,7 @@ dot-opposite (a ∷ cs) (x ∷ xs) =
     let later = dot-opposite cs xs in
     omega (arith, ints, here, later)
 
-dot-scaled : (z : ℤ) (cs xs : List ℤ) → dot (map (λ c. z *ℤ c) cs) xs ≡ z *ℤ dot cs xs
+pub dot-scaled : (z : ℤ) (cs xs : List ℤ) → dot (map (λ c. z *ℤ c) cs) xs ≡ z *ℤ dot cs xs
 dot-scaled z [] xs = omega (arith, ints)
 dot-scaled z (a ∷ cs) [] = omega (arith, ints)
 dot-scaled z (a ∷ cs) (x ∷ xs) =

@@ -17,7 +17,7 @@ pub floor-bounds : (g : ℕ) (z : ℤ) → 0 < g → ((pos g *ℤ int_div_euclid
 floor-bounds g (pos n) h = (omega (arith, ints), omega (arith, ints))
 floor-bounds g (negsuc n) h = (omega (arith, ints), omega (arith, ints))
 
-times_neg : (a b : ℤ) → a *ℤ neg_ℤ b ≡ neg_ℤ (a *ℤ b)
+pub times_neg : (a b : ℤ) → a *ℤ neg_ℤ b ≡ neg_ℤ (a *ℤ b)
 times_neg a b = *ℤ_comm a (neg_ℤ b) ∙ neg_times_z b a ∙ ap neg_ℤ (*ℤ_comm b a)
 
 -- g times the rounded quotient is at least z, by less than g
@@ -34,7 +34,7 @@ below_zero g z h k = grind (arith, ints)
 above_zero : (g : ℕ) (z : ℤ) → 0 < g → pos 0 ≤ℤ (pos g *ℤ z) → pos 0 ≤ℤ z
 above_zero g z h k = grind (arith, ints)
 
-times_at_most : (g : ℕ) (z : ℤ) → z ≤ℤ pos 0 → (pos g *ℤ z) ≤ℤ pos 0
+pub times_at_most : (g : ℕ) (z : ℤ) → z ≤ℤ pos 0 → (pos g *ℤ z) ≤ℤ pos 0
 times_at_most g z k = grind (arith, ints)
 
 -- a multiple of g, as a product

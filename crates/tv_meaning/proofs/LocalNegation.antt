@@ -1,8 +1,6 @@
 -- A property of one state holds or does not, so its negation says exactly that it does not.
-use Rattle.std.proofs.Common.{◌≡◌, ◌⊎◌, inl, inr, ℕ, Bool, true, false, not, IsTrue, [], refl, arith}
-use Rattle.std.proofs.lemmas.Bool.Decides.{nat_tests}
+use Rattle.std.proofs.Common.{◌≡◌, ◌⊎◌, inl, inr, Bool, true, false, not, IsTrue, [], refl}
 use Rattle.std.proofs.Common.{ℤ, int_eq, int_lt}
-use Rattle.std.specs.Prelude.{◌&&◌, nat_eq}
 use Rattle.tv_program.specs.declared.tree.Relation.{Relation}
 use Rattle.tv_program.specs.declared.tree.Relation.TheVariants.{Less, LessEqual, Greater, GreaterEqual, Equal, NotEqual}
 use Rattle.tv_program.specs.Meaning.{value_of, compares}
@@ -13,14 +11,8 @@ use Rattle.tv_formula.specs.Normal.{negation, normal, negations, normals, opposi
 use Rattle.tv_meaning.specs.Meaning.{Holds, AllHold, SomeHolds}
 use Rattle.tv_meaning.specs.Laws.{NormalSays, NegationSays}
 use Rattle.tv_meaning.proofs.Negation.{negation_excludes, normal_holds}
-
-left_true : (a b : Bool) → (a && b) ≡ true → a ≡ true
-left_true true b h = refl
-left_true false b h = absurd cc
-
-right_true : (a b : Bool) → (a && b) ≡ true → b ≡ true
-right_true true b h = h
-right_true false b h = absurd cc
+use Rattle.tv_formula.proofs.NormalLemmas.{left_true, right_true}
+use Rattle.std.proofs.lemmas.Bool.{cases_eq}
 
 one_of_two : (b : Bool) → IsTrue b ⊎ IsTrue (not b)
 one_of_two true = inl refl
@@ -38,20 +30,13 @@ compared GreaterEqual a b = the_other (int_lt a b)
 compared Equal a b = one_of_two (int_eq a b)
 compared NotEqual a b = the_other (int_eq a b)
 
-same_place : (l m : ℕ) → (l ≡ m) ⊎ (l ≡ m → ⊥)
-same_place l m = by (nat_eq l m) refl
-  where
-    by : (b : Bool) → nat_eq l m ≡ b → (l ≡ m) ⊎ (l ≡ m → ⊥)
-    by true e = inl (grind (arith, nat_tests))
-    by false e = inr (λ s. grind (arith, nat_tests))
-
 -- the property holds, with its normal form, or the negation does
 module _ (step : State → State → Type 0) where
   mutual
     decided : (f : Property) → is_local f ≡ true → (s : State) → Holds step (normal f) s ⊎ Holds step (negation f) s
     decided (truth b) h s = one_of_two b
     decided (compare r a b) h s = compared r (value_of a s.values []) (value_of b s.values [])
-    decided (at l) h s = same_place s.location l
+    decided (at l) h s = cases_eq s.location l
     decided term h s = absurd cc
     decided (negated f) h s = elim (decided f h s) [ inl k ↦ inr k | inr k ↦ inl k ]
     decided (all_of fs) h s = all_decided fs h s

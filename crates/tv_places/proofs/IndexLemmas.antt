@@ -1,4 +1,4 @@
-use Rattle.std.proofs.Common.{◌≡◌, ℕ, zero, suc, ◌+◌, ◌<◌, ◌≤◌, List, [], ◌∷◌, ◌++◌, map, length, take, drop, get_or, Some, None, Bool, true, false, cond, not, ◌&&◌, ◌==◌, refl, sym, ap, ◌∙◌, subst, arith, ltb, ◌⊎◌, inl, inr}
+use Rattle.std.proofs.Common.{◌≡◌, ℕ, zero, suc, ◌+◌, ◌<◌, ◌≤◌, List, [], ◌∷◌, ◌++◌, map, length, take, drop, get_or, Some, None, Bool, true, false, cond, not, ◌&&◌, ◌==◌, refl, sym, ap, ◌∙◌, subst, arith, ltb, inl, inr}
 use Rattle.std.proofs.lemmas.Bool.Decides.{nat_tests}
 use Rattle.std.proofs.lemmas.List.{take-append-drop, take_more, map-append, length-map, append-nil, get_or-drop, get_or-take, length-drop, length-take-le}
 use Rattle.std.proofs.lemmas.List.Elements.{All-head, All-tail, filter-append, filter_agree}
@@ -12,6 +12,7 @@ use Rattle.std.specs.declared.cmp.Ordering.TheVariants.{Less, Equal, Greater}
 use Rattle.std.specs.Option.{option_map}
 use Rattle.tv_places.specs.declared.places.Stand.{Stand}
 use Rattle.tv_places.specs.Places.{places_from, places_of, number_of, place_of, stands_of, IsIndexOf, IsFrom}
+use Rattle.std.proofs.lemmas.Bool.{ltb-false, cases_Bool}
 
 test_true : (a b : ℕ) → a ≡ b → (a == b) ≡ true
 test_true a b h = grind (arith, nat_tests)
@@ -22,18 +23,11 @@ test_false a b h = grind (arith, nat_tests)
 true_test : (a b : ℕ) → (a == b) ≡ true → a ≡ b
 true_test a b h = grind (arith, nat_tests)
 
-false_test : (a b : ℕ) → (a == b) ≡ false → a ≡ b → ⊥
+pub false_test : (a b : ℕ) → (a == b) ≡ false → a ≡ b → ⊥
 false_test a b h e = grind (arith, nat_tests)
-
-not_below : (a b : ℕ) → ltb a b ≡ false → b ≤ a
-not_below a b h = grind (arith, nat_tests)
 
 below_other : (a b : ℕ) → ltb a b ≡ true → (a == b) ≡ false
 below_other a b h = grind (arith, nat_tests)
-
-either : (b : Bool) → (b ≡ true) ⊎ (b ≡ false)
-either true = inl refl
-either false = inr refl
 
 -- a filter of a list in which each element passes, and in which none does
 filter_all : {X : Type 0} (test : X → Bool) (xs : List X) → All (λ x. test x ≡ true) xs → filter test xs ≡ xs
@@ -76,7 +70,7 @@ from_first l stands rest first rises within point is =
     let back = rest_of (λ y. ltb (number_of y) l ≡ true) (λ y. ltb (number_of y) l ≡ false) stands first point in
     subst (IsFrom l stands) is (record {
       rises = IsNonDecreasingBy-drop number_of first stands rises;
-      least = λ k d below. not_below (number_of (get_or (drop first stands) k d)) l (back k d below);
+      least = λ k d below. ltb-false (number_of (get_or (drop first stands) k d)) l (back k d below);
       same = sym (filter_from (λ y. number_of y == l) stands first (λ k d below. below_other (number_of (get_or (take first stands) k d)) l (front k d below)));
     })
 
@@ -88,7 +82,7 @@ kept_first test x xs (suc k) e rest = ap (λ b. slice_get (cond b (x ∷ filter 
 first_kept : {X : Type 0} (n : X → ℕ) (l : ℕ) (xs : List X) → IsNonDecreasingBy n xs → All (λ x. l ≤ n x) xs → (k : ℕ) → slice_get (filter (λ x. n x == l) xs) k ≡ option_filter (λ x. n x == l) (slice_get xs k)
 first_kept n l [] rises least k = refl
 first_kept n l (x ∷ xs) rises least k =
-    elim (either (n x == l)) [
+    elim (cases_Bool (n x == l)) [
       | inl e ↦ kept_first (λ y. n y == l) x xs k e (first_kept n l xs (IsNonDecreasingBy-drop n 1 (x ∷ xs) rises) (All-tail (λ y. l ≤ n y) x xs least))
       | inr e ↦
           let other = false_test (n x) l e in

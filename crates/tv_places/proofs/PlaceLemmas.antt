@@ -31,7 +31,7 @@ unfolding places_from
 counted_from key [] l start = refl
 counted_from key (x ∷ xs) l start = counted_first (key x == l) x (filter (λ x. key x == l) xs) start (places_from l (start + 1) (map key xs)) (counted_from key xs l (start + 1))
 
-past_end : {A : Type 0} (xs : List A) (k : ℕ) → slice_get xs k ≡ None → length xs ≤ k
+pub past_end : {A : Type 0} (xs : List A) (k : ℕ) → slice_get xs k ≡ None → length xs ≤ k
 past_end xs k h = elim (slice_get_cases xs k).1 [ inl (x, _, e, _) ↦ cc | inr (e, _) ↦ e ]
 
 -- the k-th place of a number is that of the k-th element with this number

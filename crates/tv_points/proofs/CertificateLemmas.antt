@@ -21,13 +21,13 @@ use Rattle.tv_shape.specs.declared.certificate.Certificate.{Certificate}
 use Rattle.tv_shape.specs.declared.fault.ShapeFault.{ShapeFault}
 use Rattle.tv_shape.proofs.FaultLemmas.{unfit}
 use Rattle.tv_shape.specs.Made.{IsFitted}
-use Rattle.tv_shape.proofs.MadeLemmas.{both_met}
 use Rattle.tv_linear.proofs.ListLaws.{test_true}
 use Rattle.tv_points.specs.Nodes.{IsInside, IsRunNode, SaysDisproved, IsDisproof}
 use Rattle.tv_points.specs.StatePieces.{state_piece, state_pieces}
 use Rattle.tv_points.specs.States.{IsState, StartsAt}
 use Rattle.tv_points.specs.declared.state.State.{State}
 use Rattle.tv_points.proofs.MetLemmas.{point_met}
+use Rattle.tv_cert.proofs.FailingLemmas.{all_join}
 
 there_is : (o : Option Marked) (p : Marked) → o ≡ Some p → IsSome o
 there_is o p e = subst IsSome (sym e) refl
@@ -50,7 +50,7 @@ module _ (about : CaseSystem) (f : Property) (node : Node) (piece : ℕ) (values
   root_met = subst (λ o. PointMet values.items (option_map rows_of o)) (sym inside.found) inside.met
 
   all_obligations : AllMet (obligations (about_with about) f node verdict)
-  all_obligations = both_met (entries 0 (about_with about) f node) (root_entry (about_with about) (pieces_of node) verdict ∷ []) (fitted.met 0) (root_met, tt)
+  all_obligations = all_join (entries 0 (about_with about) f node) (root_entry (about_with about) (pieces_of node) verdict ∷ []) (fitted.met 0) (root_met, tt)
 
   pub is_disproof : (c : Certificate) → IsOf (about_with about) f c → c.root ≡ node → c.verdict ≡ verdict → IsDisproof about f values.items c
   is_disproof c h e g = record {

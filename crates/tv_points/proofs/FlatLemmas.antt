@@ -13,6 +13,9 @@ use Rattle.tv_linear.specs.Falls.{zero_row}
 use Rattle.tv_linear.proofs.PlainLists.{get_or-zeros}
 use Rattle.tv_points.specs.PointRows.{at_most_row, coefficient_of, number_rows}
 use Rattle.tv_points.specs.Lines.{IsNarrowIn}
+use Rattle.std.proofs.lemmas.List.{map-append}
+use Rattle.tv_cases.proofs.FormLemmas.{times_zero}
+use Rattle.tv_linear.proofs.ListLaws.{map-table}
 
 -- ---- sums of which all products but one are 0
 abbrev Nulls : (ℕ → ℤ) → ℕ → List ℤ → Type 0
@@ -62,9 +65,6 @@ lone_sum f g y v (x ∷ xs) e (inr h) =
     let later = lone_sum f (λ j. g (suc j)) y (suc v) xs (λ j. (let k : v + suc j ≡ suc v + j = omega arith in e (suc j) ∙ ap f k)) h.1 in
     omega (arith, ints, here, later)
 
-times_zero : (z : ℤ) → z *ℤ pos 0 ≡ pos 0
-times_zero z = omega (arith, ints)
-
 zero_times : (c z : ℤ) → c ≡ pos 0 → c *ℤ z ≡ pos 0
 zero_times c z e = ap (λ d. d *ℤ z) e ∙ (let k : pos 0 *ℤ z ≡ pos 0 = omega (arith, ints) in k)
 
@@ -93,22 +93,14 @@ unit_table zero j l = absurd (omega (arith, l))
 unit_table (suc n) zero l = ap (λ ys. pos 1 ∷ ys) (zero_table n)
 unit_table (suc n) (suc j) l = ap (λ ys. pos 0 ∷ ys) (unit_table n j (omega (arith, l)))
 
-pub map_table : {A B : Type 0} (g : A → B) (n : ℕ) (f : ℕ → A) → map g (table n f) ≡ table n (λ j. g (f j))
-map_table g zero f = refl
-map_table g (suc n) f = ap (λ ys. g (f 0) ∷ ys) (map_table g n (λ j. f (suc j)))
-
-pub map_both : {A B : Type 0} (g : A → B) (xs ys : List A) → map g (xs ++ ys) ≡ map g xs ++ map g ys
-map_both g [] ys = refl
-map_both g (x ∷ xs) ys = ap (λ zs. g x ∷ zs) (map_both g xs ys)
-
 draw_numbers : (n j : ℕ) (ds : List ℤ) → map (term_number (Some j)) (map (λ d. put d) (number_rows n ds)) ≡ zeros (length ds)
 draw_numbers n j [] = refl
 draw_numbers n j (d ∷ ds) = (λ i. get_or-zeros n j i ∷ draw_numbers n j ds i)
 
 terms_are : (n j : ℕ) (ds : List ℤ) → j < n → map (term_number (Some j)) (draw_terms n (number_rows n ds)) ≡ unit n j ++ zeros (length ds)
 terms_are n j ds l =
-    map_both (term_number (Some j)) (table n (λ v. kept v)) (map (λ d. put d) (number_rows n ds))
-    ∙ (λ i. (map_table (term_number (Some j)) n (λ v. kept v) ∙ unit_table n j l) i ++ draw_numbers n j ds i)
+    map-append (term_number (Some j)) (table n (λ v. kept v)) (map (λ d. put d) (number_rows n ds))
+    ∙ (λ i. (map-table (term_number (Some j)) n (λ v. kept v) ∙ unit_table n j l) i ++ draw_numbers n j ds i)
 
 -- a row that is told and narrow keeps its coefficients
 pub drawn_flat : (n : ℕ) (ds : List ℤ) (k : Known) (j : ℕ) → j < n → ((w : ℕ) → KnownHeld k (Some w)) → IsWithin 62 (coefficient_of k j) → IsNarrowIn (composed k (draw_terms n (number_rows n ds))) j
@@ -172,7 +164,7 @@ table_narrow zero f h = All-nil (IsWithin 62)
 table_narrow (suc n) f h = All-cons (IsWithin 62) (f 0) (table n (λ j. f (suc j))) (h 0) (table_narrow n (λ j. f (suc j)) (λ v. h (suc v)))
 
 after_narrow : (n j : ℕ) (us : List Update) → AreNarrowUpdates us → All (IsWithin 62) (map (term_number (Some j)) (terms_after n us))
-after_narrow n j us h = subst (All (IsWithin 62)) (sym (map_table (term_number (Some j)) n (update_of us))) (table_narrow n (λ v. term_number (Some j) (update_of us v)) (λ v. update_narrow j us v h))
+after_narrow n j us h = subst (All (IsWithin 62)) (sym (map-table (term_number (Some j)) n (update_of us))) (table_narrow n (λ v. term_number (Some j) (update_of us v)) (λ v. update_narrow j us v h))
 
 -- a row with one coefficient at most is narrow after the updates
 pub after_flat : (n : ℕ) (us : List Update) (r : Linear) (j : ℕ) → IsLone r → AreNarrowUpdates us → KnownHeld (composed (given r) (terms_after n us)) (Some j) × IsWithin 62 (known_number (composed (given r) (terms_after n us)) (Some j))

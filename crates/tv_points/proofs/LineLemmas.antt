@@ -7,10 +7,10 @@ use Rattle.tv_linear.specs.Linear.{Linear, dot, IsWithin}
 use Rattle.tv_linear.specs.Fits.{IsHeld, SumsHeld, IsFirstWide}
 use Rattle.tv_linear.specs.Known.{Known, denied, KnownHeld, known_number, known_value, given, as_given}
 use Rattle.tv_linear.specs.Refutation.{column_sum}
-use Rattle.tv_refute.proofs.Sums.{Fit, Sum, joins, rest_sum}
+use Rattle.tv_refute.proofs.Sums.{Fit, Sum, joins, rest_sum, RowsHeld-given}
 use Rattle.tv_points.specs.PointRows.{point_rows, constants_of, multipliers_from, coefficient_of, point_multipliers}
 use Rattle.tv_points.specs.Lines.{beside, LineHeld, FitsLine, IsNarrowIn, IsShowable, ShowsAt}
-use Rattle.tv_points.proofs.Signs.{signs_are, constants_are, column_held, column_sum_is, constant_sum_is, rows_length, all_positive, all_narrow, weighted-given, RowsHeld-given, rows_length_is}
+use Rattle.tv_points.proofs.Signs.{signs_are, constants_are, column_held, column_sum_is, constant_sum_is, rows_length, all_positive, all_narrow, weighted-given, rows_length_is}
 
 module _ (row : Known) (xs : List ℤ) where
   abbrev pub ms : List ℤ

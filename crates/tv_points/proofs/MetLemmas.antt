@@ -10,7 +10,7 @@ use Rattle.tv_linear.specs.Terms.{table, terms_after, draw_terms}
 use Rattle.tv_linear.specs.Falls.{zero_row}
 use Rattle.tv_linear.proofs.KnownLemmas.{value-composed, value-given, value-less}
 use Rattle.tv_linear.proofs.RowValues.{value-constant_row, value-column_row, value-opposite}
-use Rattle.tv_linear.proofs.ListLaws.{table_of}
+use Rattle.tv_linear.proofs.ListLaws.{table_of, map-table}
 use Rattle.tv_cases.specs.LinearCases.{LinearCase}
 use Rattle.tv_cert.specs.Pieces.{rows_of, goes}
 use Rattle.tv_cert.specs.Choices.{drawn_guards, drawn_change}
@@ -19,7 +19,8 @@ use Rattle.tv_points.specs.Lines.{IsShowable}
 use Rattle.tv_points.specs.StatePieces.{state_piece}
 use Rattle.tv_points.specs.Taking.{fall_owed, entered_rows, taken_rows}
 use Rattle.tv_points.specs.declared.state.State.{State}
-use Rattle.tv_points.proofs.FlatLemmas.{IsLone, AreNarrowUpdates, guard_flat, changed_flat, less_flat, not_below_flat, at_most_lone, opposite_lone, map_table, map_both}
+use Rattle.tv_points.proofs.FlatLemmas.{IsLone, AreNarrowUpdates, guard_flat, changed_flat, less_flat, not_below_flat, at_most_lone, opposite_lone}
+use Rattle.std.proofs.lemmas.List.{map-append}
 
 -- ---- the numbers for the draws stand behind the values
 
@@ -29,8 +30,8 @@ draw_values n xs (d ∷ ds) = (λ i. value-constant_row n d xs i ∷ draw_values
 
 drawn_point : (n : ℕ) (xs ds : List ℤ) → length xs ≡ n → map (term_value xs) (draw_terms n (number_rows n ds)) ≡ xs ++ ds
 drawn_point n xs ds e =
-    map_both (term_value xs) (table n (λ v. kept v)) (map (λ d. put d) (number_rows n ds))
-    ∙ (λ i. (map_table (term_value xs) n (λ v. kept v) ∙ table_of n xs e) i ++ draw_values n xs ds i)
+    map-append (term_value xs) (table n (λ v. kept v)) (map (λ d. put d) (number_rows n ds))
+    ∙ (λ i. (map-table (term_value xs) n (λ v. kept v) ∙ table_of n xs e) i ++ draw_values n xs ds i)
 
 guard_value : (n : ℕ) (xs ds : List ℤ) (r : Linear) → length xs ≡ n → known_value xs (composed (given r) (draw_terms n (number_rows n ds))) ≡ value r (xs ++ ds)
 guard_value n xs ds r e = value-composed xs (given r) (draw_terms n (number_rows n ds)) ∙ ap (λ p. known_value p (given r)) (drawn_point n xs ds e) ∙ value-given (xs ++ ds) r

@@ -1,5 +1,5 @@
 -- places in lists
-use Rattle.std.proofs.Common.{◌≡◌, ℕ, zero, suc, ◌+◌, ◌-◌, ◌<◌, ◌≤◌, List, [], ◌∷◌, length, take, drop, get_or, All, Some, slice_get, Bool, true, false, if◌then◌else◌, arith, sym, ap, ◌∙◌, subst}
+use Rattle.std.proofs.Common.{◌≡◌, ℕ, zero, suc, ◌+◌, ◌-◌, ◌<◌, List, [], ◌∷◌, length, take, get_or, All, Some, slice_get, Bool, true, false, if◌then◌else◌, arith, sym, ap, ◌∙◌, subst}
 use Rattle.std.specs.List.{filter}
 use Rattle.std.proofs.lemmas.List.Elements.{All-head, All-tail}
 use Rattle.tv_points.specs.StatePieces.{state_piece, state_pieces, piece_there}
@@ -12,11 +12,6 @@ got [] i x l e = absurd (omega (arith, l))
 got (y ∷ xs) zero x l e = ap (λ z. Some z) (sym e)
 got (y ∷ xs) (suc i) x l e = got xs i x (omega (arith, l)) e
 
-pub got_inside : {A : Type 0} (xs : List A) (i : ℕ) (x : A) → slice_get xs i ≡ Some x → i < length xs
-got_inside [] i x e = absurd cc
-got_inside (y ∷ xs) zero x e = omega arith
-got_inside (y ∷ xs) (suc i) x e = let h = got_inside xs i x e in omega (arith, h)
-
 pub got_one : {A : Type 0} (xs : List A) (i : ℕ) (x y : A) → slice_get xs i ≡ Some x → slice_get xs i ≡ Some y → x ≡ y
 got_one xs i x y e f = cc
 
@@ -24,11 +19,6 @@ pub got_all : {A : Type 0} (P : A → Type 0) (xs : List A) (i : ℕ) (x : A) �
 got_all P [] i x h e = absurd cc
 got_all P (y ∷ xs) zero x h e = subst P (let s : y ≡ x = cc in s) (All-head P y xs h)
 got_all P (y ∷ xs) (suc i) x h e = got_all P xs i x (All-tail P y xs h) e
-
-pub dropped : {A : Type 0} (xs : List A) (i : ℕ) (x : A) → slice_get xs i ≡ Some x → drop i xs ≡ x ∷ drop (i + 1) xs
-dropped [] i x e = absurd cc
-dropped (y ∷ xs) zero x e = ap (λ z. z ∷ xs) (let s : y ≡ x = cc in s)
-dropped (y ∷ xs) (suc i) x e = dropped xs i x e ∙ ap (λ k. x ∷ drop k (y ∷ xs)) (let k : suc (i + 1) ≡ suc i + 1 = omega arith in k)
 
 -- ---- the place among those that a test lets through
 by_test : {A : Type 0} (P : A → Bool) (b : Bool) (y : A) (ys zs : List A) (x : A) → slice_get ys (length zs) ≡ Some x → slice_get (if b then y ∷ ys else ys) (length (if b then y ∷ zs else zs)) ≡ Some x
@@ -58,12 +48,3 @@ piece_got n ends (t ∷ states) (suc i) s e =
 pub read_piece : (n : ℕ) (ends : Bool) (states : List State) (pieces : List MarkedRows) (i : ℕ) (s : State) (p : MarkedRows) → pieces ≡ state_pieces n ends states → slice_get states i ≡ Some s → slice_get pieces i ≡ Some p → p ≡ piece_there n ends states i s
 read_piece n ends states pieces i s p same e f =
     got_one (state_pieces n ends states) i p (piece_there n ends states i s) (subst (λ ps. slice_get ps i ≡ Some p) same f) (piece_got n ends states i s e)
-
--- a test lets no more through
-kept_short : {A : Type 0} (b : Bool) (y : A) (ys zs : List A) → length ys ≤ length zs → length (if b then y ∷ ys else ys) ≤ length (y ∷ zs)
-kept_short true y ys zs h = omega (arith, h)
-kept_short false y ys zs h = omega (arith, h)
-
-pub filter_short : {A : Type 0} (P : A → Bool) (xs : List A) → length (filter P xs) ≤ length xs
-filter_short P [] = omega arith
-filter_short P (x ∷ xs) = kept_short (P x) x (filter P xs) xs (filter_short P xs)

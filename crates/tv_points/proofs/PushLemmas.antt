@@ -1,27 +1,14 @@
 -- lines that are pushed one after another
 use Rattle.std.proofs.Common.{◌≡◌, List, [], ◌∷◌, ◌++◌, length, All, map, refl, sym, ap, subst, ◌∙◌, ℕ, ℤ}
 use Rattle.std.specs.Prelude.{Result, Ok, Err, MatchResult}
-use Rattle.std.proofs.lemmas.List.{append_assoc, append-nil}
-use Rattle.std.proofs.lemmas.List.Elements.{All-nil, All-cons, All-head, All-tail, All-append}
+use Rattle.std.proofs.lemmas.List.{append_assoc, append-nil, map-append}
+use Rattle.std.proofs.lemmas.List.Elements.{All-nil, All-cons, All-append}
 use Rattle.tv_linear.specs.Fits.{IsFirstWide}
 use Rattle.tv_linear.specs.Known.{Known}
 use Rattle.tv_points.specs.PointRows.{point_multipliers}
 use Rattle.tv_points.specs.Lines.{Line, line, lines_at, FitsLine, ShowsAt, IsShown, IsLineFault, multiplier_lists, ArePushed}
 use Rattle.tv_points.specs.declared.fault.PointFault.{PointFault}
 use Rattle.tv_points.specs.declared.fault.PointFault.TheVariants.{Wide, Memory}
-
--- ---- parts of lists
-pub left_part : {A : Type 0} (P : A → Type 0) (rs bs : List A) → All P (rs ++ bs) → All P rs
-left_part P [] bs h = All-nil P
-left_part P (a ∷ rs) bs h = All-cons P a rs (All-head P a (rs ++ bs) h) (left_part P rs bs (All-tail P a (rs ++ bs) h))
-
-pub right_part : {A : Type 0} (P : A → Type 0) (rs bs : List A) → All P (rs ++ bs) → All P bs
-right_part P [] bs h = h
-right_part P (a ∷ rs) bs h = right_part P rs bs (All-tail P a (rs ++ bs) h)
-
-map_join : {A B : Type 0} (f : A → B) (rs bs : List A) → map f (rs ++ bs) ≡ map f rs ++ map f bs
-map_join f [] bs = refl
-map_join f (r ∷ rs) bs = ap (λ ys. f r ∷ ys) (map_join f rs bs)
 
 -- ---- refusals
 -- lines behind change nothing
@@ -53,7 +40,7 @@ one_fault xs row c h = record { before = []; wide = line xs row; after = []; par
 
 module _ (xs : List ℤ) where
   lines_join : (rs bs : List Known) → lines_at xs (rs ++ bs) ≡ lines_at xs rs ++ lines_at xs bs
-  lines_join rs bs = map_join (λ r. line xs r) rs bs
+  lines_join rs bs = map-append (λ r. line xs r) rs bs
 
   rows_fault_before : (rs bs : List Known) (x : PointFault) → IsLineFault (lines_at xs rs) x → IsLineFault (lines_at xs (rs ++ bs)) x
   rows_fault_before rs bs x h = subst (λ ls. IsLineFault ls x) (sym (lines_join rs bs)) (fault_before (lines_at xs rs) (lines_at xs bs) x h)
@@ -71,7 +58,7 @@ module _ (xs : List ℤ) where
   both_pushed : (rs bs : List Known) (old mid new : List (List ℤ)) → ArePushed xs rs old mid → ArePushed xs bs mid new → ArePushed xs (rs ++ bs) old new
   both_pushed rs bs old mid new h k = record {
     shown = subst (All IsShown) (sym (lines_join rs bs)) (All-append IsShown (lines_at xs rs) (lines_at xs bs) h.shown k.shown);
-    pushed = k.pushed ∙ ap (λ ls. ls ++ multiplier_lists xs bs) h.pushed ∙ append_assoc old (multiplier_lists xs rs) (multiplier_lists xs bs) ∙ ap (λ ls. old ++ ls) (sym (map_join (λ r. point_multipliers r xs) rs bs));
+    pushed = k.pushed ∙ ap (λ ls. ls ++ multiplier_lists xs bs) h.pushed ∙ append_assoc old (multiplier_lists xs rs) (multiplier_lists xs bs) ∙ ap (λ ls. old ++ ls) (sym (map-append (λ r. point_multipliers r xs) rs bs));
   }
 
   -- the rows before are shown, and then this comes of the others

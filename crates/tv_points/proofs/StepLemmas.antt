@@ -21,9 +21,12 @@ use Rattle.tv_points.specs.declared.state.State.{State}
 use Rattle.tv_points.specs.declared.step.Step.{Step}
 use Rattle.tv_points.specs.declared.steps.Run.{Run}
 use Rattle.tv_points.specs.declared.taking.Taking.{Taking}
-use Rattle.tv_points.proofs.PlaceLemmas.{got, got_inside, got_all, dropped, piece_got, read_piece}
+use Rattle.tv_points.proofs.PlaceLemmas.{got, got_all, piece_got, read_piece}
 use Rattle.tv_points.proofs.PushLemmas.{fault_before, fault_behind}
 use Rattle.tv_points.proofs.RunMet.{states_length}
+use Rattle.std.proofs.Math.Seq.{take-length}
+use Rattle.tv_cases.proofs.LeavingLemmas.{first_left}
+use Rattle.std.proofs.lemmas.Option.{slice_get_within}
 
 -- what is read at a place is what stands there
 pub read_is : {A : Type 0} (xs : List A) (i : ℕ) (x d : A) → slice_get xs i ≡ Some x → x ≡ get_or xs i d
@@ -38,7 +41,7 @@ as_many run made = ap length made.pieces ∙ states_length (cases_of run.about.n
 pub piece_is : (run : Run) → IsRunMade run → (i : ℕ) (s : State) (p : Marked) → slice_get run.states.now i ≡ Some s → p ≡ get_or run.pieces.now i p → p ≡ piece_there (cases_of run.about.now).variables run.ends run.states.now i s
 piece_is run made i s p e is =
     read_piece (cases_of run.about.now).variables run.ends run.states.now run.pieces.now i s p made.pieces e
-    (got run.pieces.now i p (let l = got_inside run.states.now i s e in let m = as_many run made in omega (arith, l, m)) is)
+    (got run.pieces.now i p (let l = slice_get_within run.states.now i s e in let m = as_many run made in omega (arith, l, m)) is)
 
 -- ---- the step of the state at a place
 module _ (t : Taking) (states : List State) (place : ℕ) (leads : IsStepAt (cases_of t.about.now) states place t.step.now) where
@@ -55,7 +58,7 @@ module _ (t : Taking) (states : List State) (place : ℕ) (leads : IsStepAt (cas
     from = from ∙ ap (state_piece n t.falls (length states - (place + 1))) before;
     less = length states - (t.step.now.next + 1);
     into = into;
-    falling = λ e. (let l = falling e in let k = got_inside states t.step.now.next leads.after leads.there in omega (arith, l, k));
+    falling = λ e. (let l = falling e in let k = slice_get_within states t.step.now.next leads.after leads.there in omega (arith, l, k));
     placed = placed;
   }
 
@@ -71,15 +74,11 @@ module _ (t : Taking) (states : List State) (place : ℕ) (leads : IsStepAt (cas
   lines_refused x h before from into = subst (λ ls. IsLineFault ls x) (lines_are before from into) h.lines
 
 -- ---- the steps of a list
-take_whole : {A : Type 0} (xs : List A) → take (length xs) xs ≡ xs
-take_whole [] = refl
-take_whole (x ∷ xs) = ap (λ ys. x ∷ ys) (take_whole xs)
-
 front_is : {A : Type 0} (xs : List A) (x : A) → 1 ≤ length xs → x ≡ get_or xs 0 x → xs ≡ x ∷ take (length xs - 1) (drop 1 xs)
 front_is [] x h e = absurd (omega (arith, h))
 front_is (y ∷ ys) x h e =
     let k : length (y ∷ ys) - 1 ≡ length ys = omega arith in
-    let whole : take (length (y ∷ ys) - 1) ys ≡ ys = ap (λ j. take j ys) k ∙ take_whole ys in
+    let whole : take (length (y ∷ ys) - 1) ys ≡ ys = ap (λ j. take j ys) k ∙ take-length ys in
     (λ i. sym e i ∷ sym whole i)
 
 pub first_step : (about : CaseSystem) (states : List State) (place : ℕ) (steps : List Step) (s : Step) → 1 ≤ length steps → s ≡ get_or steps 0 s → AreSteps about states place steps → IsStepAt about states place s
@@ -120,7 +119,7 @@ choices_more run place steps s proof old mid new (Ok u) made leads l e h m k =
     record {
       more = proof ∷ k.more;
       parts = k.parts ∙ ap (λ ys. ys ++ k.more) m ∙ append_assoc old (proof ∷ []) k.more;
-      each = subst (λ qs. AllZip (IsChosenAt (cases_of run.about.now) run.pieces.now run.ends) qs (proof ∷ k.more)) (sym (dropped run.pieces.now place p at)) (h.chosen p at, k.each);
+      each = subst (λ qs. AllZip (IsChosenAt (cases_of run.about.now) run.pieces.now run.ends) qs (proof ∷ k.more)) (sym (first_left run.pieces.now place p at)) (h.chosen p at, k.each);
     }
 choices_more run place steps s proof old mid new (Err x) made leads l e h m k = later_fault run place steps s proof x l e h k
 
@@ -151,7 +150,7 @@ last_pushed run place x y old mid new made ends many bare bare2 m k =
     record {
       more = x ∷ y ∷ [];
       parts = k ∙ ap (λ ys. ys ++ y ∷ []) m ∙ append_assoc old (x ∷ []) (y ∷ []);
-      each = subst (λ qs. AreTwo about run.pieces.now qs (x ∷ y ∷ [])) (sym (dropped run.pieces.now place p at ∙ ap (λ qs. p ∷ qs) none))
+      each = subst (λ qs. AreTwo about run.pieces.now qs (x ∷ y ∷ [])) (sym (first_left run.pieces.now place p at ∙ ap (λ qs. p ∷ qs) none))
           (bare, subst (λ g. IsSecond about run.pieces.now p g y) (sym done) bare2, tt);
     }
 
@@ -165,7 +164,7 @@ two_more run place steps s x proof old mid both new (Ok u) made leads ends more 
     record {
       more = x ∷ proof ∷ k.more;
       parts = k.parts ∙ ap (λ ys. ys ++ k.more) (b ∙ ap (λ ys. ys ++ proof ∷ []) m ∙ append_assoc old (x ∷ []) (proof ∷ [])) ∙ append_assoc old (x ∷ proof ∷ []) k.more;
-      each = subst (λ qs. AreTwo about run.pieces.now qs (x ∷ proof ∷ k.more)) (sym (dropped run.pieces.now place p at))
+      each = subst (λ qs. AreTwo about run.pieces.now qs (x ∷ proof ∷ k.more)) (sym (first_left run.pieces.now place p at))
           (bare, subst (λ g. IsSecond about run.pieces.now p g proof) (sym on) chosen, k.each);
     }
 two_more run place steps s x proof old mid both new (Err f) made leads ends more l e h bare m b k = later_fault run place steps s proof f l e h k

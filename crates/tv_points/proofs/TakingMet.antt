@@ -21,8 +21,9 @@ use Rattle.tv_points.specs.declared.state.State.{State}
 use Rattle.tv_points.specs.declared.taking.Taking.{Taking}
 use Rattle.tv_points.proofs.FlatLemmas.{AreNarrowUpdates}
 use Rattle.tv_points.proofs.MetLemmas.{taken_show}
-use Rattle.tv_points.proofs.PlaceLemmas.{got_inside, got_one}
+use Rattle.tv_points.proofs.PlaceLemmas.{got_one}
 use Rattle.tv_points.proofs.TakeLemmas.{HaveRanks, take_met, take_shape, lists_are_narrow, numbers_narrow}
+use Rattle.std.proofs.lemmas.Option.{slice_get_within}
 
 have_ranks : (n : ℕ) (ends : Bool) (left rest : ℕ) (s t : State) → (ends ≡ true → rest < left) → HaveRanks (ends && goes (state_piece n ends rest t)) (state_piece n ends left s) (state_piece n ends rest t)
 have_ranks n false left rest s t h = tt
@@ -68,7 +69,7 @@ module _ (t : Taking) (h : IsTaking t) (c : LinearCase) (found : slice_get (case
     shape = subst (λ rs. TakeShape n (place_of p) (choice_owes n ps t.falls p) (length (as_given (rows_of p))) (slice_get about.cases t.step.now.taken) t.place j rs (map (λ l. l.items) lists.items)) (sym drawn)
         (take_shape about ps t.falls p q c ds t.place xs t.step.now.taken j (map (λ l. l.items) lists.items) h.state.point.many rows found leaves does.drawn there ranks number pushed.shown meant);
     narrow = (
-      (let l = got_inside about.cases t.step.now.taken c found in let f = t.about.now.are_cases.few_cases in omega (arith, l, f)),
+      (let l = slice_get_within about.cases t.step.now.taken c found in let f = t.about.now.are_cases.few_cases in omega (arith, l, f)),
       (let l = h.placed in omega (arith, l)),
       subst CountNarrow (sym number) (fall_small (t.falls && goes q)),
       subst (All RowNarrow) (sym drawn) (numbers_narrow n ds h.leads.narrow),

@@ -1,27 +1,21 @@
 -- Proofs that are added.
 use Rattle.tv_shape.specs.Made.{IsOffered, Offers}
-use Rattle.std.proofs.Common.{All, ◌≡◌, ℕ, zero, suc, ◌+◌, ◌<◌, ◌≤◌, ◌++◌, List, [], ◌∷◌, map, take, length, get_or, Bool, true, Some, slice_get, ◌==◌, arith, refl, sym, ap, ◌∙◌, subst}
+use Rattle.std.proofs.Common.{◌≡◌, ℕ, zero, suc, ◌+◌, ◌<◌, ◌≤◌, ◌++◌, List, [], ◌∷◌, map, take, length, get_or, Some, slice_get, arith, refl, sym, ap, ◌∙◌, subst}
 use Rattle.std.specs.List.{flat_map, AllZip}
-use Rattle.std.proofs.Math.Seq.{take-suc}
-use Rattle.std.proofs.lemmas.Option.{slice_get_within, get_or_from_slice_get}
 use Rattle.std.proofs.lemmas.List.{append_assoc, append-nil, map-append}
-use Rattle.std.proofs.lemmas.List.Elements.{filter_passes}
 use Rattle.tv_linear.specs.declared.region.Piece.{Piece}
-use Rattle.tv_linear.proofs.ListLaws.{true_test}
-use Rattle.tv_cases.specs.LinearCases.{LinearCase, from_of, leaving}
+use Rattle.tv_linear.proofs.ListLaws.{take_past, take_more}
 use Rattle.tv_cert.specs.declared.node.Marked.{Marked}
 use Rattle.tv_cert.specs.declared.node.Proof.{Proof}
 use Rattle.tv_cert.specs.Obligations.{Obligation}
 use Rattle.tv_pre.specs.Offers.{Adds}
+use Rattle.std.proofs.lemmas.Grind.{flat_map-append}
 
 pub offers_append : (os more : List Obligation) (ps qs : List Proof) → Offers os ps → Offers more qs → Offers (os ++ more) (ps ++ qs)
 offers_append [] more [] qs h g = g
 offers_append [] more (p ∷ ps) qs h g = absurd h
 offers_append (o ∷ os) more [] qs h g = absurd h
 offers_append (o ∷ os) more (p ∷ ps) qs h g = (h.0, offers_append os more ps qs h.1 g)
-
-pub adds_none : (proofs : List Proof) → Adds [] proofs proofs
-adds_none proofs before h = subst (λ os. Offers os proofs) (sym (append-nil before)) h
 
 pub adds_then : (os more : List Obligation) (a b c : List Proof) → Adds os a b → Adds more b c → Adds (os ++ more) a c
 adds_then os more a b c h g before k = subst (λ os. Offers os c) (append_assoc before os more) (g (before ++ os) (h before k))
@@ -33,26 +27,13 @@ pub all_added : (os : List Obligation) (old new : List Proof) → old ≡ [] →
 all_added os old new e h = h [] (subst (Offers []) (sym e) tt)
 
 -- ---- one more
-pub take_suc_some : {A : Type 0} (xs : List A) (i : ℕ) (x : A) → slice_get xs i ≡ Some x → take (i + 1) xs ≡ take i xs ++ x ∷ []
-take_suc_some xs i x e = ap (λ k. take k xs) (let g : i + 1 ≡ suc i = omega arith in g) ∙ take-suc xs i x (slice_get_within xs i x e) ∙ ap (λ y. take i xs ++ y ∷ []) (get_or_from_slice_get xs i x x e)
-
-pub take_whole : {A : Type 0} (xs : List A) (k : ℕ) → length xs ≤ k → take k xs ≡ xs
-take_whole [] zero l = refl
-take_whole [] (suc k) l = refl
-take_whole (x ∷ xs) zero l = absurd (omega (arith, l))
-take_whole (x ∷ xs) (suc k) l = ap (λ ys. x ∷ ys) (take_whole xs k (omega (arith, l)))
-
 pub one_done : {A : Type 0} (f : A → Obligation) (xs : List A) (k : ℕ) (x : A) (old now new : List Proof) → slice_get xs k ≡ Some x → Adds (f x ∷ []) now new → Adds (map f (take k xs)) old now → Adds (map f (take (k + 1) xs)) old new
 one_done f xs k x old now new got one h =
-    subst (λ os. Adds os old new) (sym (ap (map f) (take_suc_some xs k x got) ∙ map-append f (take k xs) (x ∷ [])))
+    subst (λ os. Adds os old new) (sym (ap (map f) (take_more xs k x got) ∙ map-append f (take k xs) (x ∷ [])))
     (adds_then (map f (take k xs)) (f x ∷ []) old now new h one)
 
 pub steps_whole : {A : Type 0} (f : A → Obligation) (xs : List A) (k : ℕ) (old now : List Proof) → length xs ≤ k → Adds (map f (take k xs)) old now → Adds (map f xs) old now
-steps_whole f xs k old now l h = subst (λ ys. Adds (map f ys) old now) (take_whole xs k l) h
-
-pub flat_append : {A B : Type 0} (f : A → List B) (xs ys : List A) → flat_map f (xs ++ ys) ≡ flat_map f xs ++ flat_map f ys
-flat_append f [] ys = refl
-flat_append f (x ∷ xs) ys = ap (λ zs. f x ++ zs) (flat_append f xs ys) ∙ sym (append_assoc (f x) (flat_map f xs) (flat_map f ys))
+steps_whole f xs k old now l h = subst (λ ys. Adds (map f ys) old now) (take_past xs k l) h
 
 pub zip_at : {A B : Type 0} (R : A → B → Type 0) (xs : List A) (ys : List B) (i : ℕ) (y : B) → AllZip R xs ys → i < length ys → y ≡ get_or ys i y → (x : A) × (slice_get xs i ≡ Some x) × R x y
 zip_at R [] [] i y h l e = absurd (omega (arith, l))
@@ -71,20 +52,8 @@ pub pieces_more : (fits : Marked → Piece → Type 0) (owes : Marked → List O
 pieces_more fits owes ps qs i q old now new z l e one h =
     let x = zip_at fits ps qs i q z l e in
     let p = x.0 in
-    subst (λ os. Adds os old new) (sym (ap (flat_map owes) (take_suc_some ps i p x.1) ∙ flat_append owes (take i ps) (p ∷ []) ∙ ap (λ os. flat_map owes (take i ps) ++ os) (append-nil (owes p))))
+    subst (λ os. Adds os old new) (sym (ap (flat_map owes) (take_more ps i p x.1) ∙ flat_map-append owes (take i ps) (p ∷ []) ∙ ap (λ os. flat_map owes (take i ps) ++ os) (append-nil (owes p))))
     (adds_then (flat_map owes (take i ps)) (owes p) old now new h (one p x.2))
 
 pub pieces_all : (fits : Marked → Piece → Type 0) (owes : Marked → List Obligation) (ps : List Marked) (qs : List Piece) (i : ℕ) (old now : List Proof) → AllZip fits ps qs → length qs ≤ i → Adds (flat_map owes (take i ps)) old now → Adds (flat_map owes ps) old now
-pieces_all fits owes ps qs i old now z l h = let e = zip_length fits ps qs z in subst (λ xs. Adds (flat_map owes xs) old now) (take_whole ps i (omega (arith, e, l))) h
-
--- ---- the cases from a location
-
-pub leaving_from : (l : ℕ) (cs : List LinearCase) (k : ℕ) (c : LinearCase) → slice_get (leaving l cs) k ≡ Some c → c.from ≡ l
-leaving_from l cs k c e =
-    let test : LinearCase → Bool = λ q. from_of q == l in
-    let within = slice_get_within (leaving l cs) k c e in
-    let is = get_or_from_slice_get (leaving l cs) k c c e in
-    true_test (from_of c) l (subst (λ q. test q ≡ true) is (filter_passes test cs k c within))
-
-pub at_place : {A : Type 0} (P : A → Type 0) (xs : List A) (i : ℕ) (x : A) → All P xs → i < length xs → x ≡ get_or xs i x → P x
-at_place P xs i x h l e = subst P (sym e) (h i x l)
+pieces_all fits owes ps qs i old now z l h = let e = zip_length fits ps qs z in subst (λ xs. Adds (flat_map owes xs) old now) (take_past ps i (omega (arith, e, l))) h

@@ -42,7 +42,7 @@ use Rattle.tv_farkas.specs.declared.budget.Budget.{Budget}
 use Rattle.tv_pre.specs.declared.fault.PreFault.{PreFault}
 use Rattle.tv_pre.proofs.BuiltLemmas.{fault_to, built_to, all_built_to, asked_to, made_built, hold_built, first_built, rest_built, more_built, one_built, pieces_of, joined_of}
 use Rattle.tv_pre.proofs.AskedLemmas.{ends_asked, layers_asked, staying_asked}
-use Rattle.tv_pre.proofs.SetLemmas.{hold_on, in_joined, hold_over}
+use Rattle.tv_pre.proofs.SetLemmas.{hold_on, in_joined, hold_over, no_piece}
 
 module _ (about : CaseSystem) (cases : All (IsCase about.variables about.locations) about.cases) where
   goes_more : (path : Path) (P Q : State → Type 0) (s : State) → IsStateOf about s → ((t : State) → IsStateOf about t → P t → Q t) → GoesInto (CaseSteps about) path P s → GoesInto (CaseSteps about) path Q s
@@ -136,14 +136,11 @@ pub given_less : (about : CaseSystem) (budget : Budget) (k n : ℕ) (end : Regio
 given_less about budget k n end given fault r l i e f = λ s h m.
     subst (IsPreFault about s budget (n + h)) (sym i) (fault_to about s budget (k + (0 + h)) (n + h) fault (omega (arith, l)) (f s (0 + h) (end_and_given about end given e s h m)))
 
-no_member : (qs : List Piece) (s : State) → qs ≡ [] → InPieces qs s → ⊥
-no_member qs s e m = Contains-none m.0 (subst (λ ps. Contains ps m.0) e m.1)
-
 pub no_onward : (about : CaseSystem) (sides : Sides) (end onward : Region) → AreAtEnd about sides end → IsNowhere about onward → AreStaying about sides end.pieces.items onward.pieces.items (joined_pieces (end ∷ onward ∷ []))
 no_onward about sides end onward e n = record {
   ends = λ s p m. e.right s p m;
-  hold = λ s p m. absurd (no_member onward.pieces.items s n.none m);
-  stays = λ s p m. absurd (no_member onward.pieces.items s n.none m);
+  hold = λ s p m. absurd (no_piece onward.pieces.items s n.none m);
+  stays = λ s p m. absurd (no_piece onward.pieces.items s n.none m);
 }
 
 -- ---- rounds of given sides

@@ -20,8 +20,8 @@ use Rattle.tv_pre.specs.Fixed.{AsksEnds, AsksWay, AsksStaying}
 use Rattle.tv_pre.specs.Growing.{AsksCome, AsksLayer, AsksLayers}
 use Rattle.tv_pre.specs.Along.{arguments}
 use Rattle.tv_pre.specs.Built.{IsBuilt, of_everywhere, AreBuilt, ArePiecesBuilt, IsAsked, of_place, of_steps, of_choice}
-use Rattle.tv_pre.proofs.AddLemmas.{flat_append}
 use Rattle.tv_pre.proofs.BuiltLemmas.{asked_to, pieces_of, hold_built}
+use Rattle.std.proofs.lemmas.Grind.{flat_map-append}
 
 module _ (about : CaseSystem) (s : Statement) (h : ℕ) where
   -- ---- pieces
@@ -60,7 +60,7 @@ module _ (about : CaseSystem) (s : Statement) (h : ℕ) where
       | inl k ↦ f.built x k
       | inr k ↦ elim (Contains-cases r x [] k) [ inl e ↦ subst (IsBuilt about s h) e b | inr n ↦ absurd (Contains-none x n) ]
     ];
-    whole = ap (λ ps. ps ++ r.pieces.items) f.whole ∙ ap (λ ps. joined_pieces f.regions ++ ps) (sym (append-nil r.pieces.items)) ∙ sym (flat_append (λ (z : Region). z.pieces.items) f.regions (r ∷ []));
+    whole = ap (λ ps. ps ++ r.pieces.items) f.whole ∙ ap (λ ps. joined_pieces f.regions ++ ps) (sym (append-nil r.pieces.items)) ∙ sym (flat_map-append (λ (z : Region). z.pieces.items) f.regions (r ∷ []));
   }
 
   -- ---- sides

@@ -1,15 +1,15 @@
 -- The pieces of atoms.
-use Rattle.std.proofs.Common.{◌≡◌, ℕ, zero, suc, ◌+◌, ◌^◌, ◌<◌, ◌≤◌, List, [], ◌∷◌, ◌++◌, length, map, take, get_or, All, Some, slice_get, Bool, true, false, cond, not, ◌==◌, nat_eq, arith, refl, sym, ap, ◌∙◌, subst}
+use Rattle.std.proofs.Common.{◌≡◌, ℕ, zero, suc, ◌+◌, ◌^◌, ◌<◌, ◌≤◌, List, [], ◌∷◌, ◌++◌, length, map, take, All, Some, slice_get, Bool, true, false, cond, not, ◌==◌, nat_eq, arith, refl, sym, ap, ◌∙◌, subst}
 use Rattle.std.specs.List.{flat_map}
 use Rattle.std.proofs.lemmas.Bool.Decides.{nat_tests}
-use Rattle.std.proofs.lemmas.List.{append_assoc, append-nil, map-append}
-use Rattle.std.proofs.lemmas.List.Elements.{All-nil, All-push}
+use Rattle.std.proofs.lemmas.List.{append_assoc, append-nil, map-append, map_push}
+use Rattle.std.proofs.lemmas.List.Elements.{All-push}
 use Rattle.tv_formula.specs.Properties.{Property, truth, compare, at, term, negated, all_of, some_of, next, fix, none}
 use Rattle.tv_linear.specs.Linear.{Linear, IsNarrow}
 use Rattle.tv_linear.specs.declared.cover.CoverTree.{CoverTree}
 use Rattle.tv_linear.specs.declared.region.Piece.{Piece}
 use Rattle.tv_linear.specs.declared.region.Region.{Region}
-use Rattle.tv_linear.proofs.ListLaws.{test_true, test_false, map-push}
+use Rattle.tv_linear.proofs.ListLaws.{test_true, test_false, take_more}
 use Rattle.tv_cases.specs.LinearCases.{CaseSystem}
 use Rattle.tv_cert.specs.declared.node.Mark.TheVariants.{Go}
 use Rattle.tv_cert.specs.declared.node.Marked.{Marked}
@@ -33,20 +33,15 @@ use Rattle.tv_cert.specs.Listed.{pieces_list}
 use Rattle.tv_cert.specs.Nodes.{parts, piece_of}
 use Rattle.tv_pre.specs.Parts.{IsPart, AreParts}
 use Rattle.tv_pre.proofs.ShapeLemmas.{flat_same}
-use Rattle.tv_pre.proofs.AddLemmas.{adds_none, adds_one, one_done, take_suc_some, flat_append}
+use Rattle.tv_pre.proofs.AddLemmas.{adds_one, one_done}
 use Rattle.tv_pre.proofs.LineLemmas.{own_offered}
 use Rattle.tv_pre.proofs.NodeLemmas.{states, part_made}
 use Rattle.tv_pre.proofs.OfferLemmas.{lists_marked}
 use Rattle.tv_pre.proofs.PieceLemmas.{are_marked}
+use Rattle.tv_cert.proofs.JoinedLemmas.{pieces_at-append}
+use Rattle.std.proofs.lemmas.Grind.{flat_map-append}
 
 -- ---- one more piece
-pub no_atoms : (about : CaseSystem) (l : ℕ) (lists : List (List Linear)) (pieces : List Piece) (proofs : List Proof) → ArePieces about pieces → AreAtoms about l lists [] pieces proofs pieces proofs
-no_atoms about l lists pieces proofs over = record {
-  over = over;
-  marked = sym (append-nil (map (marked_as about.variables Go []) pieces));
-  adds = λ number. adds_none proofs;
-}
-
 pub one_atom : (about : CaseSystem) (l k count : ℕ) (lists : List (List Linear)) (rows : List Linear) (q : Piece) (tree : CoverTree) (pieces now new : List Piece) (proofs offered more : List Proof) →
     l < about.locations → k < 2 ^ 32 → slice_get lists k ≡ Some rows → AreEven about.variables rows → All IsNarrow rows →
     q.location ≡ l → q.poly.columns ≡ about.variables → piece_rows q ≡ rows → count ≡ length rows → IsOwnCover count k tree →
@@ -59,10 +54,10 @@ one_atom about l k count lists rows q tree pieces now new proofs offered more in
     even = subst (AreEven about.variables) (sym same) even;
   }));
   marked =
-      ap (map mark) e ∙ map-push mark now q
+      ap (map mark) e ∙ map_push mark now q
       ∙ (λ i. h.marked i ++ one i ∷ [])
       ∙ append_assoc (map mark pieces) (map piece (take k lists)) (piece rows ∷ [])
-      ∙ ap (λ ps. map mark pieces ++ ps) (sym (ap (map piece) taken ∙ map-push piece (take k lists) rows));
+      ∙ ap (λ ps. map mark pieces ++ ps) (sym (ap (map piece) taken ∙ map_push piece (take k lists) rows));
   adds = λ number. one_done (λ rs. atom_of number (about_with about) (piece rs) lists) lists k rows proofs offered more got
       (adds_one (atom_of number (about_with about) (piece rows) lists) (Covered tree) offered more f (own_offered about number l k count rows lists tree got many few narrow own)) (h.adds number);
 }
@@ -74,7 +69,7 @@ one_atom about l k count lists rows q tree pieces now new proofs offered more in
     piece = atom_piece about.variables l
 
     taken : take (k + 1) lists ≡ take k lists ++ rows ∷ []
-    taken = take_suc_some lists k rows got
+    taken = take_more lists k rows got
 
     one : marked_as about.variables Go [] q ≡ atom_piece about.variables l rows
     one = λ i. atom_piece' (place i) (same i)
@@ -82,21 +77,13 @@ one_atom about l k count lists rows q tree pieces now new proofs offered more in
         atom_piece' : ℕ → List Linear → Marked
         atom_piece' z rs = atom_piece about.variables z rs
 
-pub got_at : {A : Type 0} (xs : List A) (i : ℕ) (x : A) → i < length xs → x ≡ get_or xs i x → slice_get xs i ≡ Some x
-got_at [] i x l e = absurd (omega (arith, l))
-got_at (y ∷ xs) zero x l e = ap (λ z. Some z) (sym e)
-got_at (y ∷ xs) (suc i) x l e = got_at xs i x (omega (arith, l)) e
-
 -- ---- the locations
-pub no_locations : (about : CaseSystem) (test : Test) → AreAllAtoms about test 0 [] []
-no_locations about test = record { over = All-nil (IsPieceOf about.variables about.locations); marked = refl; offers = λ number. tt }
-
 pub one_location : (about : CaseSystem) (test : Test) (l : ℕ) (lists : List (List Linear)) (pieces new : List Piece) (proofs more : List Proof) → lists ≡ test_lists test l → AreAllAtoms about test l pieces proofs → AreAtoms about l lists lists pieces proofs new more → AreAllAtoms about test (l + 1) new more
 one_location about test l lists pieces new proofs more same h g = subst (λ k. AreAllAtoms about test k new more) (let e : suc l ≡ l + 1 = omega arith in e) (record {
   over = g.over;
   marked = g.marked ∙ (λ i. h.marked i ++ map (atom_piece about.variables l) (same i));
   offers = λ number.
-      subst (λ os. Offers os more) (sym (flat_append (owes number) (atom_pieces about.variables test l) (map (atom_piece about.variables l) (test_lists test l)) ∙ ap (λ os. flat_map (owes number) (atom_pieces about.variables test l) ++ os) (own number (test_lists test l))))
+      subst (λ os. Offers os more) (sym (flat_map-append (owes number) (atom_pieces about.variables test l) (map (atom_piece about.variables l) (test_lists test l)) ∙ ap (λ os. flat_map (owes number) (atom_pieces about.variables test l) ++ os) (own number (test_lists test l))))
       (subst (λ ls. Offers (flat_map (owes number) (atom_pieces about.variables test l) ++ map (λ rs. atom_of number (about_with about) (atom_piece about.variables l rs) ls) ls) more) same (g.adds number (flat_map (owes number) (atom_pieces about.variables test l)) (h.offers number)));
 })
   where
@@ -212,13 +199,9 @@ cond_here false x xs e = absurd (let no : ⊥ = cc in no)
 abbrev lists_there : List Marked → ℕ → List (List Linear)
 lists_there ps l = map rows_of (pieces_at ps l)
 
-cond_append : (b : Bool) (x : Marked) (all xs ys : List Marked) → all ≡ xs ++ ys → cond b (x ∷ all) all ≡ cond b (x ∷ xs) xs ++ ys
+pub cond_append : (b : Bool) (x : Marked) (all xs ys : List Marked) → all ≡ xs ++ ys → cond b (x ∷ all) all ≡ cond b (x ∷ xs) xs ++ ys
 cond_append true x all xs ys e = ap (λ zs. x ∷ zs) e
 cond_append false x all xs ys e = e
-
-at_append : (xs ys : List Marked) (l : ℕ) → pieces_at (xs ++ ys) l ≡ pieces_at xs l ++ pieces_at ys l
-at_append [] ys l = refl
-at_append (x ∷ xs) ys l = cond_append (place_of x == l) x (pieces_at (xs ++ ys) l) (pieces_at xs l) (pieces_at ys l) (at_append xs ys l)
 
 here_lists : (n k l : ℕ) (ls : List (List Linear)) → k ≡ l → lists_there (map (atom_piece n k) ls) l ≡ ls
 here_lists n k l [] e = refl
@@ -231,13 +214,13 @@ other_lists n k l (rs ∷ ls) e = cond_none (k == l) (atom_piece n k rs) (pieces
 none_past : (n : ℕ) (test : Test) (k l : ℕ) → k ≤ l → pieces_at (atom_pieces n test k) l ≡ []
 none_past n test zero l h = refl
 none_past n test (suc k) l h =
-    at_append (atom_pieces n test k) (map (atom_piece n k) (test_lists test k)) l
+    pieces_at-append (atom_pieces n test k) (map (atom_piece n k) (test_lists test k)) l
     ∙ (λ i. none_past n test k l (omega (arith, h)) i ++ other_lists n k l (test_lists test k) (λ e. omega (arith, h, e)) i)
 
 atoms_at : (n : ℕ) (test : Test) (k l : ℕ) → l < k → lists_there (atom_pieces n test k) l ≡ test_lists test l
 atoms_at n test zero l h = absurd (omega (arith, h))
 atoms_at n test (suc k) l h =
-    ap (map rows_of) (at_append (atom_pieces n test k) (map (atom_piece n k) (test_lists test k)) l)
+    ap (map rows_of) (pieces_at-append (atom_pieces n test k) (map (atom_piece n k) (test_lists test k)) l)
     ∙ map-append rows_of (pieces_at (atom_pieces n test k) l) (pieces_at (map (atom_piece n k) (test_lists test k)) l)
     ∙ by_place n test k l h (nat_eq k l) refl (λ d. atoms_at n test k l d)
   where

@@ -1,5 +1,5 @@
 -- Regions that are built of the atoms of a formula.
-use Rattle.std.proofs.Common.{◌<◌, length, get_or, ◌≡◌, inl, inr, ℕ, zero, suc, ◌+◌, ◌-◌, ◌≤◌, List, [], ◌∷◌, refl, sym, subst, arith}
+use Rattle.std.proofs.Common.{◌<◌, length, get_or, ◌≡◌, inl, inr, ℕ, suc, ◌+◌, ◌-◌, ◌≤◌, List, [], ◌∷◌, refl, sym, subst, arith}
 use Rattle.std.specs.Prelude.{Contains}
 use Rattle.std.proofs.lemmas.List.{append-nil}
 use Rattle.std.proofs.lemmas.List.Elements.{Contains-get_or}
@@ -21,15 +21,9 @@ use Rattle.tv_pre.specs.declared.fault.PreFault.TheVariants as faults
 use Rattle.tv_pre.specs.Questions.{Question}
 use Rattle.tv_pre.specs.Parts.{joined_pieces}
 use Rattle.tv_pre.specs.Built.{HasAtom, IsBuilt, of_atom, of_everywhere, of_nowhere, of_joined, of_both, of_either, of_rest, of_any, of_every, AreBuilt, ArePiecesBuilt, IsRefusedRegion, in_both, in_either, in_rest, in_any, in_every, IsAsked, of_place, of_steps, of_choice, IsPreFault}
+use Rattle.tv_rounds.proofs.MadeLemmas.{lift_to}
 
 -- ---- more steps back
-lift : (P : ℕ → Type 0) → ((h : ℕ) → P h → P (suc h)) → (d h : ℕ) → P h → P (d + h)
-lift P up zero h p = subst P (let e : h ≡ 0 + h = omega arith in e) p
-lift P up (suc d) h p = subst P (let e : suc (d + h) ≡ suc d + h = omega arith in e) (up (d + h) (lift P up d h p))
-
-lift_to : (P : ℕ → Type 0) → ((h : ℕ) → P h → P (suc h)) → (h k : ℕ) → h ≤ k → P h → P k
-lift_to P up h k l p = subst P (let e : (k - h) + h ≡ k = omega (arith, l) in e) (lift P up (k - h) h p)
-
 module _ (about : CaseSystem) where
   built_up : (s : Statement) (h : ℕ) (r : Region) → IsBuilt about s h r → IsBuilt about s (suc h) r
   built_up s h _ (of_atom _ a r m is) = of_atom (suc h) a r m is

@@ -29,20 +29,18 @@ use Rattle.tv_pre.specs.Pieces.{marked_as}
 use Rattle.tv_pre.proofs.ChoiceLemmas.{choice_same, choice_shape}
 use Rattle.tv_pre.proofs.OfferLemmas.{lists_marked}
 use Rattle.tv_pre.proofs.PieceLemmas.{are_marked}
-use Rattle.tv_pre.proofs.StepLemmas.{case_among}
+use Rattle.tv_cases.proofs.Updated.{other_number}
+use Rattle.tv_cases.proofs.LeavingLemmas.{case_of_system}
 
 -- ---- all states
 cond_none : (b : Bool) (x : List Linear) (xs : List (List Linear)) → b ≡ false → cond b (x ∷ xs) xs ≡ xs
 cond_none true x xs e = absurd (let no : ⊥ = cc in no)
 cond_none false x xs e = refl
 
-test_not : (a b : ℕ) → a < b → (a == b) ≡ false
-test_not a b h = grind (arith, nat_tests)
-
 pub past_lists : (n m l : ℕ) (qs : List Piece) → All (IsPieceOf n m) qs → m ≤ l → lists_at l qs ≡ []
 past_lists n m l [] h d = refl
 past_lists n m l (q ∷ qs) h d =
-    cond_none (q.location == l) q.poly.rows.items (lists_at l qs) (test_not q.location l (let p = (All-head (IsPieceOf n m) q qs h).place in omega (arith, p, d)))
+    cond_none (q.location == l) q.poly.rows.items (lists_at l qs) (other_number q.location l (let p = (All-head (IsPieceOf n m) q qs h).place in omega (arith, p, d)))
     ∙ past_lists n m l qs (All-tail (IsPieceOf n m) q qs h) d
 
 pub everywhere_is : (about : CaseSystem) (region : Region) → IsRegion about.variables about.locations region → ((l : ℕ) → l < about.locations → lists_at l region.pieces.items ≡ [] ∷ []) → IsEverywhere about region
@@ -59,7 +57,7 @@ everywhere_is about region over lists = record {
 -- ---- successors
 pub goes_anywhere : (about : CaseSystem) (region : Region) (s : State) → AreCases about → IsEverywhere about region → Goes about s → Chooses about false region.pieces.items s
 goes_anywhere about region s limits any (t, step) =
-    inl (t, step, any.all t (let c = case_among about step.taken limits step.among in subst (λ l. l < about.locations) (sym step.does.enters) c.enters))
+    inl (t, step, any.all t (let c = case_of_system about step.taken limits step.among in subst (λ l. l < about.locations) (sym step.does.enters) c.enters))
 
 nothing_owed : (n : ℕ) (change : Linear → Known) (xs : List Marked) → (map rows_of xs ≡ [] ∷ []) ⊎ (map rows_of xs ≡ []) → (k j : ℕ) → OwedSame n (target_rows change no_fall (slice_get xs k) j) (owed_nothing k j)
 nothing_owed n change [] h k zero = tt

@@ -19,6 +19,7 @@ use Rattle.tv_pre.specs.Built.{SomeHasAtom}
 use Rattle.tv_pre.specs.Finding.{AreAtomsOfDifferences}
 use Rattle.tv_pre.specs.Full.{HasRows, AllHaveRows}
 use Rattle.tv_pre.proofs.ContraryRows.{contrary}
+use Rattle.tv_pre.proofs.TameLemmas.{truth_rows}
 
 -- ---- the rows of a comparison
 one_row : (x q : Linear) → InSome ((x ∷ []) ∷ []) q → x ≡ q
@@ -56,11 +57,6 @@ in_given : (t : Bool) (lists : List (List Linear)) (q : Linear) → InSome (cond
 in_given true lists q m = m
 in_given false lists q m = absurd m
 
-no_rows : (b : Bool) (q : Linear) → InSome (truth_targets b) q → ⊥
-no_rows true q (inl n) = n
-no_rows true q (inr n) = n
-no_rows false q n = n
-
 module _ (n : ℕ) where
   abbrev states : Property → Statement
   states f = stated (comparison_lists n) f
@@ -72,7 +68,7 @@ module _ (n : ℕ) where
   AreAll ss = (lists : List (List Linear)) (q : Linear) → SomeHasAtom ss (rows lists) → InSome lists q → IsDifference q
 
   truth_atoms : (b : Bool) → AreAtomsOfDifferences (states (truth b))
-  truth_atoms b lists q e m = (let same : lists ≡ truth_targets b = cc in absurd (no_rows b q (subst (λ ls. InSome ls q) same m)))
+  truth_atoms b lists q e m = (let same : lists ≡ truth_targets b = cc in absurd (truth_rows b q (subst (λ ls. InSome ls q) same m)))
 
   compare_contrary : (r : Relation) (a b : Expression) → has_rows n r a b ≡ true → AreAtomsOfDifferences (states (compare r a b)) → AreAtomsOfDifferences (states (compare (opposite r) a b))
   compare_contrary r a b w h lists q e m =

@@ -5,19 +5,17 @@ use Rattle.std.specs.Prelude.{neg_ℤ, unsigned_abs, slice_index_or}
 use Rattle.tv_linear.specs.Linear.{Linear}
 use Rattle.tv_linear.specs.Arithmetic.{plus_each}
 use Rattle.tv_linear.specs.Tight.{gcd, divisor_from, divisor, rounded_up, divided_unless_zero, tight}
-use Rattle.std.proofs.Math.IntN.{*ℤ_comm}
+use Rattle.std.proofs.Math.IntN.{*ℤ_comm, neg_ℤ-neg_ℤ}
 use Rattle.tv_linear.proofs.Ring.{distribute_z, neg_times_z, not_above, one_or_other}
 use Rattle.tv_linear.proofs.Euclid.{AllMultiples, divisor_from-multiples}
 use Rattle.tv_linear.proofs.Tightened.{rounded_up-multiple}
 use Rattle.tv_cases.specs.Lists.{at_most}
 use Rattle.tv_region.specs.Differences.{IsDifference}
-
-turned_twice : (z : ℤ) → neg_ℤ (neg_ℤ z) ≡ z
-turned_twice z = omega (arith, ints)
+use Rattle.tv_region.proofs.DifferenceLemmas.{number-neg}
 
 all_turned_twice : (zs : List ℤ) → map neg_ℤ (map neg_ℤ zs) ≡ zs
 all_turned_twice [] = refl
-all_turned_twice (z ∷ zs) = λ i. turned_twice z i ∷ all_turned_twice zs i
+all_turned_twice (z ∷ zs) = λ i. neg_ℤ-neg_ℤ z i ∷ all_turned_twice zs i
 
 -- ---- differences of two rows
 turned_sum : (x y : ℤ) → (y +ℤ neg_ℤ x) ≡ neg_ℤ (x +ℤ neg_ℤ y)
@@ -85,11 +83,6 @@ turned_tight r q e =
     ∙ by_divisor (divisor r.coefficients) r q (divisor_from-multiples 0 r.coefficients) (subst (λ g. AllMultiples g q.coefficients) d (divisor_from-multiples 0 q.coefficients)) e
 
 -- ---- differences of two variables
-turned_at : (zs : List ℤ) (j : ℕ) → slice_index_or (map neg_ℤ zs) j (pos 0) ≡ neg_ℤ (slice_index_or zs j (pos 0))
-turned_at [] j = refl
-turned_at (z ∷ zs) zero = refl
-turned_at (z ∷ zs) (suc j) = turned_at zs j
-
 is_added : (z : ℤ) → neg_ℤ z ≡ pos 1 → z ≡ negsuc 0
 is_added z e = omega (arith, ints, e)
 
@@ -107,7 +100,7 @@ turned_difference t u e d = record {
 }
   where
     at : (j : ℕ) → slice_index_or u.coefficients j (pos 0) ≡ neg_ℤ (slice_index_or t.coefficients j (pos 0))
-    at j = ap (λ zs. slice_index_or zs j (pos 0)) e ∙ turned_at t.coefficients j
+    at j = ap (λ zs. slice_index_or zs j (pos 0)) e ∙ number-neg t.coefficients j
 
 pub contrary : (z w : ℤ) (a b : Linear) → IsDifference (at_most z a b) → IsDifference (at_most w b a)
 contrary z w a b d = turned_difference (at_most z a b) (at_most w b a) (turned_tight _ _ (turned_sums a.coefficients b.coefficients)) d

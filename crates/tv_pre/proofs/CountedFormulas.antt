@@ -1,7 +1,7 @@
 -- How many pieces the refusals of a formula tell of.
-use Rattle.std.proofs.Common.{◌≡◌, ℕ, zero, suc, ◌+◌, ◌*◌, ◌<◌, ◌≤◌, List, [], ◌∷◌, length, get_or, sym, subst, arith}
+use Rattle.std.proofs.Common.{◌≡◌, ℕ, zero, suc, ◌+◌, ◌<◌, ◌≤◌, List, [], ◌∷◌, length, get_or, sym, subst, arith}
 use Rattle.std.specs.Prelude.{max, sum}
-use Rattle.std.proofs.Math.Nat.{le-max_left, le-max_right, max-le}
+use Rattle.std.proofs.Math.Nat.{le-max_left, le-max_right, max-le, le_refl}
 use Rattle.tv_program.specs.declared.tree.Relation.{Relation}
 use Rattle.tv_program.specs.declared.tree.Relation.TheVariants.{Less, LessEqual, Greater, GreaterEqual, Equal, NotEqual}
 use Rattle.tv_formula.specs.declared.tree.Path.{Path}
@@ -19,10 +19,10 @@ use Rattle.tv_cert.specs.AimViews.{statements_of, aim_states, aims_state}
 use Rattle.tv_cert.specs.Statements.{Statement, each_of, one_of, after, along, Statements, stated, stated_all}
 use Rattle.tv_known.specs.Cycles.{IsLastRound}
 use Rattle.tv_known.specs.Sizes.{product, next_count, fix_count, round_count, comparison_count, negated_count, count, product_count, sum_count, greatest_count, greatest_counts}
-use Rattle.tv_known.proofs.SizeLemmas.{up_to_greatest}
+use Rattle.tv_known.proofs.SizeLemmas.{up_to_greatest, trans, two_ones}
 use Rattle.tv_region.specs.Regions.{count_at}
 use Rattle.tv_region.specs.StepRegions.{HasNoDraws}
-use Rattle.tv_rounds.proofs.CountLemmas.{times, all_one, some_one}
+use Rattle.tv_rounds.proofs.CountLemmas.{all_one, some_one}
 use Rattle.tv_pre.specs.declared.fault.PreFault.{PreFault}
 use Rattle.tv_pre.specs.declared.outcome.Found.{Found}
 use Rattle.tv_pre.specs.Arguments.{AreEachArgument}
@@ -32,12 +32,10 @@ use Rattle.tv_pre.specs.Sized.{counts_at, end_count}
 use Rattle.tv_pre.proofs.CountedLemmas.{within_more, end_one}
 use Rattle.tv_pre.proofs.FormulaLemmas.{each_is, one_is, after_is, along_is}
 use Rattle.tv_pre.proofs.FoundLemmas.{argument_sum}
-use Rattle.tv_pre.proofs.SizedLemmas.{trans, itself, none_less, first_round, term_one}
+use Rattle.tv_pre.proofs.SizedLemmas.{none_less, first_round, term_one}
+use Rattle.std.proofs.lemmas.Nat.{mul-le}
 
 -- ---- each counts at least 1
-two_ones : (a b : ℕ) → 1 ≤ a → 1 ≤ b → 1 ≤ a * b
-two_ones a b l m = grind arith
-
 plus_one : (a b : ℕ) → 1 ≤ a → 1 ≤ a + b
 plus_one a b l = omega (arith, l)
 
@@ -52,11 +50,11 @@ fix_one cases m path shape f g l h k =
     (up_to_greatest m (λ j. round_count cases path shape f g j l) 0 (none_less m)))
 
 comparison_one : (r : Relation) → 1 ≤ comparison_count r
-comparison_one Less = itself 1
-comparison_one LessEqual = itself 1
-comparison_one Greater = itself 1
-comparison_one GreaterEqual = itself 1
-comparison_one Equal = itself 1
+comparison_one Less = le_refl 1
+comparison_one LessEqual = le_refl 1
+comparison_one Greater = le_refl 1
+comparison_one GreaterEqual = le_refl 1
+comparison_one Equal = le_refl 1
 comparison_one NotEqual = omega arith
 
 pub all_have : (fs : Properties) → AreSomeParts fs → AllHaveParts fs
@@ -65,21 +63,21 @@ all_have (more f fs) h = h
 
 module _ (cases : List LinearCase) (m l : ℕ) where
   negated_one : (f : Property) → 1 ≤ negated_count cases m f l
-  negated_one term = fix_one cases m Any Release (λ k. 1) (next_count cases Any (λ k. 1)) l (itself 1) (next_one cases Any (λ k. 1) l)
-  negated_one (truth b) = itself 1
-  negated_one (compare r a b) = itself 1
-  negated_one (at k) = itself 1
-  negated_one (negated f) = itself 1
-  negated_one (all_of fs) = itself 1
-  negated_one (some_of fs) = itself 1
-  negated_one (next path f) = itself 1
-  negated_one (fix path shape f g) = itself 1
+  negated_one term = fix_one cases m Any Release (λ k. 1) (next_count cases Any (λ k. 1)) l (le_refl 1) (next_one cases Any (λ k. 1) l)
+  negated_one (truth b) = le_refl 1
+  negated_one (compare r a b) = le_refl 1
+  negated_one (at k) = le_refl 1
+  negated_one (negated f) = le_refl 1
+  negated_one (all_of fs) = le_refl 1
+  negated_one (some_of fs) = le_refl 1
+  negated_one (next path f) = le_refl 1
+  negated_one (fix path shape f g) = le_refl 1
 
   mutual
     pub count_one : (f : Property) → HasParts f → 1 ≤ count cases m f l
-    count_one (truth b) h = itself 1
+    count_one (truth b) h = le_refl 1
     count_one (compare r a b) h = comparison_one r
-    count_one (at k) h = itself 1
+    count_one (at k) h = le_refl 1
     count_one term h = term_one cases m l
     count_one (negated f) h = negated_one f
     count_one (all_of fs) h = product_one fs (all_have fs h)
@@ -88,7 +86,7 @@ module _ (cases : List LinearCase) (m l : ℕ) where
     count_one (fix path shape f g) h = fix_one cases m path shape (λ k. count cases m f k) (λ k. count cases m g k) l (count_one f h.0) (count_one g h.1)
 
     product_one : (fs : Properties) → AllHaveParts fs → 1 ≤ product_count cases m fs l
-    product_one none h = itself 1
+    product_one none h = le_refl 1
     product_one (more f fs) h = two_ones (count cases m f l) (product_count cases m fs l) (count_one f h.0) (product_one fs h.1)
 
     sum_one : (fs : Properties) → AreSomeParts fs → 1 ≤ sum_count cases m fs l
@@ -158,7 +156,7 @@ module _ (about : CaseSystem) where
           subst (λ g. IsWithin (greatest_count about.cases m g) fault) (sym w.2)
           (within_more b (greatest_count about.cases m whole) (λ l. trans (b l) (max (a l) (b l)) (greatest_count about.cases m whole l) (le-max_right (a l) (b l)) (le-max_right (count about.cases m whole l) (max (a l) (b l)))) fault (h plain m is w.1 have.1 w.4))
 
-  -- ---- the formula itself
+  -- ---- the formula le_refl
   module _ (last : ℕ) (fault : PreFault) where
     some_argument_product : HasNoDraws about → (m : ℕ) → IsLastRound about 9 m → (l : ℕ) (ss : List Statement) (rs : List Region) (ns : List Node) → AreEachArgument about last ss rs ns → (fs : Properties) → AllHaveParts fs → statements_of ss ≡ stated_all (comparison_lists about.variables) fs → product (some_counts_at l rs) ≤ product_count about.cases m fs l
     some_argument_product plain m is l [] [] [] h none parts e = omega arith
@@ -171,7 +169,7 @@ module _ (about : CaseSystem) where
     some_argument_product plain m is l (t ∷ ss) (q ∷ rs) (n ∷ ns) h (more f fs) parts e =
         let first : t ≡ stated (comparison_lists about.variables) f = cc in
         let rest : statements_of ss ≡ stated_all (comparison_lists about.variables) fs = cc in
-        times (max 1 (count_at l q)) (product (some_counts_at l rs)) (count about.cases m f l) (product_count about.cases m fs l)
+        mul-le (max 1 (count_at l q)) (product (some_counts_at l rs)) (count about.cases m f l) (product_count about.cases m fs l)
         (max-le (count_one about.cases m l f parts.0) (h.0.few plain m is f first l)) (some_argument_product plain m is l ss rs ns h.1 fs parts.1 rest)
 
     pub each_counted : (ss : List Statement) (rs : List Region) (ns : List Node) → AreEachArgument about last ss rs ns → IsWithin (λ l. product (some_counts_at l rs)) fault → IsCountedFor about (each_of (statements_of ss)) fault

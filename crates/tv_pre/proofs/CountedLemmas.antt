@@ -2,7 +2,7 @@
 use Rattle.std.proofs.Common.{◌≡◌, ℕ, zero, suc, ◌+◌, ◌*◌, ◌<◌, ◌≤◌, List, [], ◌∷◌, length, get_or, take, refl, sym, ap, ◌∙◌, subst, arith, Bool, true, false}
 use Rattle.std.specs.Prelude.{All, max, sum}
 use Rattle.tv_cases.proofs.AmountLemmas.{sum-cons}
-use Rattle.std.proofs.Math.Nat.{le-max_left, le-max_right}
+use Rattle.std.proofs.Math.Nat.{le-max_left, le-max_right, le_refl}
 use Rattle.tv_formula.specs.declared.tree.Path.{Path}
 use Rattle.tv_formula.specs.declared.tree.Path.TheVariants.{Every, Any}
 use Rattle.tv_formula.specs.declared.tree.Shape.{Shape}
@@ -24,8 +24,8 @@ use Rattle.tv_rounds.specs.Calls.{IsNowhere}
 use Rattle.tv_rounds.specs.Counts.{IsFaultWithin, round_bound}
 use Rattle.tv_rounds.specs.Walks.{IsBackFault}
 use Rattle.tv_rounds.specs.Answers.{IsRound, IsCountedBy}
-use Rattle.tv_rounds.proofs.CountLemmas.{times, all_one}
-use Rattle.tv_rounds.proofs.CountedCalls.{one_times, next_staying}
+use Rattle.tv_rounds.proofs.CountLemmas.{all_one}
+use Rattle.tv_rounds.proofs.CountedCalls.{next_staying}
 use Rattle.tv_rounds.proofs.FaultCounts as calls
 use Rattle.tv_rounds.proofs.FaultCounts.{both_counted, either_counted, back_counted}
 use Rattle.tv_pre.specs.declared.fault.PreFault.{PreFault}
@@ -37,7 +37,10 @@ use Rattle.tv_pre.specs.Counted.{IsWithin, IsNoCall, some_counts_at, IsCountedBe
 use Rattle.tv_pre.specs.Faults.{IsOfRegion, IsOfCover, IsOfRounds}
 use Rattle.tv_pre.specs.Growing.{IsEverywhere}
 use Rattle.tv_pre.specs.Sized.{counts_at, hold_count, end_count, IsFewBefore, IsFewStaying, IsFewEnd}
-use Rattle.tv_pre.proofs.SizedLemmas.{trans, itself, none_less, product_last, sum_last, counts_more, everywhere_few, nowhere_few, all_of_none, stops_few, side_few, sides_counted, one_end_of, two_ends_of, within, grown_within, shrunk_within, first_round, last_is_one, one_later}
+use Rattle.tv_pre.proofs.SizedLemmas.{none_less, product_last, sum_last, counts_more, everywhere_few, nowhere_few, all_of_none, stops_few, side_few, sides_counted, one_end_of, two_ends_of, within, grown_within, shrunk_within, first_round, last_is_one, one_later, plus}
+use Rattle.tv_cases.proofs.ProductLemmas.{larger}
+use Rattle.tv_known.proofs.SizeLemmas.{trans, two_ones}
+use Rattle.std.proofs.lemmas.Nat.{mul-le}
 
 -- ---- faults that are kept
 pub region_within : (bound : ℕ → ℕ) (fault : RegionFault) (r : PreFault) → IsOfRegion fault r → IsFaultWithin bound fault → IsWithin bound r
@@ -59,42 +62,39 @@ within_more b c w (faults.Rank system k) h = tt
 within_more b c w faults.Memory h = tt
 
 -- ---- regions together
-plus : (a b c d : ℕ) → a ≤ c → b ≤ d → a + b ≤ c + d
-plus a b c d h k = omega (arith, h, k)
-
 some_product : (l : ℕ) (regions : List Region) → 1 ≤ product (some_counts_at l regions)
-some_product l [] = itself 1
+some_product l [] = le_refl 1
 some_product l (r ∷ rs) = trans 1 (max 1 (count_at l r)) (max 1 (count_at l r) * product (some_counts_at l rs)) (le-max_left 1 (count_at l r)) (times_some (max 1 (count_at l r)) (product (some_counts_at l rs)) (some_product l rs)) where
   times_some : (a b : ℕ) → 1 ≤ b → a ≤ a * b
   times_some a b h = grind arith
 
 taken_product : (l : ℕ) (regions : List Region) (j : ℕ) → product (counts_at l (take j regions)) ≤ product (some_counts_at l regions)
-taken_product l [] zero = itself 1
-taken_product l [] (suc j) = itself 1
+taken_product l [] zero = le_refl 1
+taken_product l [] (suc j) = le_refl 1
 taken_product l (r ∷ rs) zero = some_product l (r ∷ rs)
-taken_product l (r ∷ rs) (suc j) = times (count_at l r) (product (counts_at l (take j rs))) (max 1 (count_at l r)) (product (some_counts_at l rs)) (le-max_right 1 (count_at l r)) (taken_product l rs j)
+taken_product l (r ∷ rs) (suc j) = mul-le (count_at l r) (product (counts_at l (take j rs))) (max 1 (count_at l r)) (product (some_counts_at l rs)) (le-max_right 1 (count_at l r)) (taken_product l rs j)
 
 taken_sum : (l : ℕ) (regions : List Region) (j : ℕ) → sum (counts_at l (take j regions)) ≤ sum (counts_at l regions)
-taken_sum l [] zero = itself (sum [])
-taken_sum l [] (suc j) = itself (sum [])
+taken_sum l [] zero = le_refl (sum [])
+taken_sum l [] (suc j) = le_refl (sum [])
 taken_sum l (r ∷ rs) zero = none_less (sum (counts_at l (r ∷ rs)))
 taken_sum l (r ∷ rs) (suc j) =
     subst (λ n. n ≤ sum (counts_at l (r ∷ rs))) (sym (sum-cons (count_at l r) (counts_at l (take j rs))))
     (subst (λ n. count_at l r + sum (counts_at l (take j rs)) ≤ n) (sym (sum-cons (count_at l r) (counts_at l rs)))
-    (plus (count_at l r) (sum (counts_at l (take j rs))) (count_at l r) (sum (counts_at l rs)) (itself (count_at l r)) (taken_sum l rs j)))
+    (plus (count_at l r) (sum (counts_at l (take j rs))) (count_at l r) (sum (counts_at l rs)) (le_refl (count_at l r)) (taken_sum l rs j)))
 
 pub common_counted : (regions : List Region) (i : ℕ) (common r : Region) (budget : Budget) (fault : RegionFault) → i < length regions → r ≡ get_or regions i r → ((l : ℕ) → count_at l common ≤ product (counts_at l (take i regions))) → IsBothFault common r budget fault → IsFaultWithin (λ l. product (some_counts_at l regions)) fault
 common_counted regions i common r budget fault n e few h =
     both_counted common r budget (λ l. product (some_counts_at l regions))
     (λ l. trans (count_at l common * count_at l r) (product (counts_at l (take i regions)) * count_at l r) (product (some_counts_at l regions))
-    (times (count_at l common) (count_at l r) (product (counts_at l (take i regions))) (count_at l r) (few l) (itself (count_at l r)))
+    (mul-le (count_at l common) (count_at l r) (product (counts_at l (take i regions))) (count_at l r) (few l) (le_refl (count_at l r)))
     (subst (λ k. k ≤ product (some_counts_at l regions)) (ap product (counts_more l regions i r n e) ∙ product_last (counts_at l (take i regions)) (count_at l r)) (taken_product l regions (i + 1)))) fault h
 
 pub whole_counted : (regions : List Region) (i : ℕ) (whole r : Region) (budget : Budget) (fault : RegionFault) → i < length regions → r ≡ get_or regions i r → ((l : ℕ) → count_at l whole ≤ sum (counts_at l (take i regions))) → IsEitherFault whole r budget fault → IsFaultWithin (λ l. sum (counts_at l regions)) fault
 whole_counted regions i whole r budget fault n e few h =
     either_counted whole r budget (λ l. sum (counts_at l regions))
     (λ l. trans (count_at l whole + count_at l r) (sum (counts_at l (take i regions)) + count_at l r) (sum (counts_at l regions))
-    (plus (count_at l whole) (count_at l r) (sum (counts_at l (take i regions))) (count_at l r) (few l) (itself (count_at l r)))
+    (plus (count_at l whole) (count_at l r) (sum (counts_at l (take i regions))) (count_at l r) (few l) (le_refl (count_at l r)))
     (subst (λ k. k ≤ sum (counts_at l regions)) (ap sum (counts_more l regions i r n e) ∙ sum_last (counts_at l (take i regions)) (count_at l r)) (taken_sum l regions (i + 1)))) fault h
 
 -- ---- going back
@@ -125,9 +125,6 @@ hold_one Weak f g l h k = h
 hold_one Release f g l h k = k
 hold_one Strong f g l h k = k
 
-two_ones : (a b : ℕ) → 1 ≤ a → 1 ≤ b → 1 ≤ a * b
-two_ones a b l m = grind arith
-
 pub end_one : (shape : Shape) (f g : ℕ → ℕ) (l : ℕ) → 1 ≤ f l → 1 ≤ g l → 1 ≤ end_count shape f g l
 end_one Until f g l h k = k
 end_one Weak f g l h k = k
@@ -146,33 +143,33 @@ two_ends_counted sides budget fault r t is h f g few =
     region_within (end_count sides.shape f g) fault r is
     (both_counted sides.first.now sides.second.now budget (end_count sides.shape f g)
     (λ l. subst (λ k. count_at l sides.first.now * count_at l sides.second.now ≤ k) (sym (two_ends_of sides.shape f g l t))
-    (times (count_at l sides.first.now) (count_at l sides.second.now) (f l) (g l) (few.first l) (few.second l))) fault h)
+    (mul-le (count_at l sides.first.now) (count_at l sides.second.now) (f l) (g l) (few.first l) (few.second l))) fault h)
 
 module _ (about : CaseSystem) (sides : Sides) where
   -- ---- those on the way
   pub staying_onward : (into : Region) (r : PreFault) → IsCountedStaying about sides.path into r → IsCountedOnward about sides into r
   staying_onward into r h plain f g b full few =
       let staying = staying_count about.cases sides.path b in
-      within_more staying (λ l. hold_count sides.shape f g l * staying l) (λ l. one_times (hold_count sides.shape f g l) (staying l) (hold_one sides.shape f g l (full.some_first l) (full.some_second l))) r (h plain b few)
+      within_more staying (λ l. hold_count sides.shape f g l * staying l) (λ l. larger (hold_count sides.shape f g l) (staying l) (hold_one sides.shape f g l (full.some_first l) (full.some_second l))) r (h plain b few)
 
   pub onward_counted : (into stays hold : Region) (budget : Budget) (fault : RegionFault) (r : PreFault) → hold ≡ hold_side sides.shape sides.first.now sides.second.now → IsFewStaying about sides.path into stays → IsOfRegion fault r → IsBothFault hold stays budget fault → IsCountedOnward about sides into r
   onward_counted into stays hold budget fault r e few is h plain f g b full w =
       let bound = λ (l : ℕ). hold_count sides.shape f g l * staying_count about.cases sides.path b l in
       region_within bound fault r is
       (both_counted hold stays budget bound
-      (λ l. times (count_at l hold) (count_at l stays) (hold_count sides.shape f g l) (staying_count about.cases sides.path b l) (side_few sides f g full.counts hold e l) (few plain b w l)) fault h)
+      (λ l. mul-le (count_at l hold) (count_at l stays) (hold_count sides.shape f g l) (staying_count about.cases sides.path b l) (side_few sides f g full.counts hold e l) (few plain b w l)) fault h)
 
   pub goes_going : (all : Region) (r : PreFault) → IsEverywhere about all → IsCountedBefore about Any all r → IsCountedGoing about sides r
   goes_going all r a h plain f g full =
       let some = some_count about.cases (λ k. 1) in
-      within_more some (λ l. hold_count sides.shape f g l * some l) (λ l. one_times (hold_count sides.shape f g l) (some l) (hold_one sides.shape f g l (full.some_first l) (full.some_second l))) r (h plain (λ k. 1) (everywhere_few about all a))
+      within_more some (λ l. hold_count sides.shape f g l * some l) (λ l. larger (hold_count sides.shape f g l) (some l) (hold_one sides.shape f g l (full.some_first l) (full.some_second l))) r (h plain (λ k. 1) (everywhere_few about all a))
 
   pub going_counted : (all goes hold : Region) (budget : Budget) (fault : RegionFault) (r : PreFault) → IsEverywhere about all → hold ≡ hold_side sides.shape sides.first.now sides.second.now → IsFewBefore about Any all goes → IsOfRegion fault r → IsBothFault hold goes budget fault → IsCountedGoing about sides r
   going_counted all goes hold budget fault r a e few is h plain f g full =
       let bound = λ (l : ℕ). hold_count sides.shape f g l * some_count about.cases (λ k. 1) l in
       region_within bound fault r is
       (both_counted hold goes budget bound
-      (λ l. times (count_at l hold) (count_at l goes) (hold_count sides.shape f g l) (some_count about.cases (λ k. 1) l) (side_few sides f g full.counts hold e l) (few plain (λ k. 1) (everywhere_few about all a) l)) fault h)
+      (λ l. mul-le (count_at l hold) (count_at l goes) (hold_count sides.shape f g l) (some_count about.cases (λ k. 1) l) (side_few sides f g full.counts hold e l) (few plain (λ k. 1) (everywhere_few about all a) l)) fault h)
 
   -- ---- the fixed point
   pub cover_along : (fault : CoverFault) (r : PreFault) → IsOfCover fault r → IsCountedAlong about sides r
@@ -198,7 +195,7 @@ module _ (about : CaseSystem) (sides : Sides) where
       within_more (λ l. hold l * some l) (fix_count about.cases last sides.path sides.shape f g)
       (λ l.
       (let all = all_count about.cases ends l in
-      let m = times (hold l) (some l) (hold l) (some l * all) (itself (hold l)) (times_some (some l) all (all_one about.cases ends l)) in
+      let m = mul-le (hold l) (some l) (hold l) (some l * all) (le_refl (hold l)) (times_some (some l) all (all_one about.cases ends l)) in
       let one : hold l * some l ≤ growing_count about.cases Every hold ends 1 l = omega (arith, m) in
       grown_within about sides f g last l must (hold l * some l) 1 (last_is_one about last start is) (subst (λ (p : Path). hold l * some l ≤ growing_count about.cases p hold ends 1 l) (sym path) one))) r (h plain f g full)
     where
@@ -239,12 +236,12 @@ module _ (about : CaseSystem) (sides : Sides) where
             let hold = hold_count sides.shape f g in
             let ends = end_count sides.shape f g in
             subst (λ (p : Path). growing_count about.cases p hold ends j x ≤ fix_count about.cases last sides.path sides.shape f g x) (sym of.path)
-            (grown_within about sides f g last x e (growing_count about.cases sides.path hold ends j x) j m (itself (growing_count about.cases sides.path hold ends j x)))
+            (grown_within about sides f g last x e (growing_count about.cases sides.path hold ends j x) j m (le_refl (growing_count about.cases sides.path hold ends j x)))
         by_growth false e j m x =
             let hold = hold_count sides.shape f g in
             let ends = end_count sides.shape f g in
             subst (λ (p : Path). shrinking_count about.cases p hold ends j x ≤ fix_count about.cases last sides.path sides.shape f g x) (sym of.path)
-            (shrunk_within about sides f g last x e (shrinking_count about.cases sides.path hold ends j x) j m (itself (shrinking_count about.cases sides.path hold ends j x)))
+            (shrunk_within about sides f g last x e (shrinking_count about.cases sides.path hold ends j x) j m (le_refl (shrinking_count about.cases sides.path hold ends j x)))
     rounds_along cases start n l fault (faults.Cover k) is h plain last o f g full = tt
     rounds_along cases start n l fault (faults.Rank system k) is h plain last o f g full = tt
     rounds_along cases start n l fault faults.Memory is h plain last o f g full = tt

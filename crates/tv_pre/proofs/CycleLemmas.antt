@@ -14,9 +14,6 @@ use Rattle.tv_known.specs.Cycles as cycles
 use Rattle.tv_lexrank.specs.First.{arc_of}
 use Rattle.tv_pre.specs.Finding.{AreBetween, StaysTogether}
 
-get_or_same : {A : Type 0} (xs : List A) (k : ℕ) (d e : A) → k < length xs → get_or xs k d ≡ get_or xs k e
-get_or_same xs k d e l = get_or_default xs k d e l
-
 pub case_there : (list : List Case) (i : ℕ) (c : Case) → i < length list → c ≡ get_or list i c → Contains (case_views list) (case_view c)
 case_there list i c l e = Contains-map case_view list c (subst (Contains list) (sym e) (Contains-get_or list i c l))
 
@@ -40,7 +37,7 @@ module _ (cases : List LinearCase) where
       let w = Contains-from_map arc_of cases arc m in
       let k = w.1.0 in
       let q = w.1.1 in
-      let c : arc_of (case_at cases k) ≡ arc = ap arc_of (get_or_same cases k no_case w.0 q ∙ w.1.2) ∙ w.2 in
+      let c : arc_of (case_at cases k) ≡ arc = ap arc_of (get_or_default cases k no_case w.0 q ∙ w.1.2) ∙ w.2 in
       subst (λ (z : Arc). Leads cases z.from t) c (cycles.along k t q (subst (λ (z : Arc). Leads cases z.to t) (sym c) (leads arc.to t r)))
 
   there : (k : ℕ) → k < length cases → Contains (map arc_of cases) (arc_of (case_at cases k))
@@ -54,7 +51,7 @@ pub cycle_is : (about : CaseSystem) (numbers : List ℕ) → AreCases about → 
 cycle_is about numbers limits same = (
   λ s. (let k = s.1.0 in
       let l = s.1.1 in
-      let at : case_at about.cases k ≡ s.0 = get_or_same about.cases k no_case s.0 l ∙ s.1.2 in
+      let at : case_at about.cases k ≡ s.0 = get_or_default about.cases k no_case s.0 l ∙ s.1.2 in
       let c = All-contains (IsCase about.variables about.locations) about.cases s.0 limits.cases s.1 in
       (k, l, subst (λ (z : LinearCase). Leads about.cases z.to z.from) (sym at) (leads about.cases s.0.to s.0.from ((same s.0.from s.0.to c.leaves c.enters).0 s.2).1))),
   λ h. (let z = case_at about.cases h.0 in

@@ -1,5 +1,5 @@
 -- It can be told whether some numbers, put behind a point, meet rows that are differences.
-use Rattle.std.proofs.Common.{◌≡◌, ◌⊎◌, inl, inr, ℕ, zero, suc, ◌+◌, List, [], ◌∷◌, ◌++◌, length, map, refl, sym, ap, ◌∙◌, subst, arith, ℤ, pos, negsuc, neg_ℤ, ◌+ℤ◌, ◌-ℤ◌, ◌*ℤ◌, ◌≤ℤ◌, Bool, true, false, slice_index_or, length-append, append_assoc}
+use Rattle.std.proofs.Common.{◌≡◌, ◌⊎◌, inl, inr, ℕ, zero, suc, ◌+◌, List, [], ◌∷◌, ◌++◌, length, map, refl, sym, ap, ◌∙◌, subst, arith, ℤ, pos, negsuc, neg_ℤ, ◌+ℤ◌, ◌-ℤ◌, ◌*ℤ◌, ◌≤ℤ◌, true, slice_index_or, length-append, append_assoc}
 use Rattle.std.specs.Prelude.{◌&&◌}
 use Rattle.std.specs.Int.RustNames.{int_le}
 use Rattle.std.specs.List.{AllByRecursion}
@@ -12,9 +12,10 @@ use Rattle.tv_region.specs.Made.{last_of, shortened, cancelled, IsOpposite}
 use Rattle.tv_region.specs.Met.{meets, all_met, Has}
 use Rattle.tv_region.proofs.Between.{between}
 use Rattle.tv_region.proofs.DifferenceLemmas.{shortened_difference, sum_difference, tight_difference}
-use Rattle.tv_region.proofs.DrawLemmas.{all_met-from}
+use Rattle.tv_region.proofs.DrawLemmas.{all_met-from, recursion_has, has_recursion}
 use Rattle.tv_region.proofs.MetLemmas.{is_met, met_is, all_met-has, has_left, has_right, has_append}
 use Rattle.tv_region.proofs.SumLemmas.{value-last, columns-shortened, met_sum, sum_met, columns-sum}
+use Rattle.tv_rounds.proofs.SetLemmas.{in_or_out}
 
 -- each of the rows is a difference
 abbrev pub AreDifferences : List Linear → Type 0
@@ -25,15 +26,6 @@ abbrev AreOver : ℕ → List Linear → Type 0
 AreOver n rows = (r : Linear) → Has rows r → columns r ≡ n
 
 -- ---- lists
-recursion_has : {A : Type 0} (P : A → Type 0) (xs : List A) → ((x : A) → Has xs x → P x) → AllByRecursion P xs
-recursion_has P [] h = tt
-recursion_has P (x ∷ xs) h = (h x (inl refl), recursion_has P xs (λ y k. h y (inr k)))
-
-has_recursion : {A : Type 0} (P : A → Type 0) (xs : List A) (x : A) → AllByRecursion P xs → Has xs x → P x
-has_recursion P [] x h k = absurd k
-has_recursion P (y ∷ xs) x h (inl e) = subst P e h.0
-has_recursion P (y ∷ xs) x h (inr k) = has_recursion P xs x h.1 k
-
 has_map : (f : Linear → Linear) (rows : List Linear) (r : Linear) → Has rows r → Has (map f rows) (f r)
 has_map f [] r h = absurd h
 has_map f (s ∷ rows) r (inl e) = inl (ap f e)
@@ -366,17 +358,13 @@ pub record MeetsBehind (k : ℕ) (rows : List Linear) (xs : List ℤ) : Type 0 w
   pub drawn : length draws ≡ k
   pub met : all_met (xs ++ draws) rows ≡ true
 
-either_truth : (b : Bool) → (b ≡ true) ⊎ (b ≡ true → ⊥)
-either_truth true = inl refl
-either_truth false = inr (λ e. cc)
-
 pub draws_told : (k : ℕ) (rows : List Linear) → AreDifferences rows → (xs : List ℤ) → MeetsBehind k rows xs ⊎ (MeetsBehind k rows xs → ⊥)
 draws_told k rows differ xs =
     let n = length xs + k in
     let free = free_of k (length xs) (map (fitted n) rows)
     (λ r m. (let w = map_has (fitted n) rows r m in subst IsDifference w.2 (fitted_difference n w.0 (differ w.0 w.1))))
     (λ r m. (let w = map_has (fitted n) rows r m in ap (λ (x : Linear). columns x) (sym w.2) ∙ length-fitted n w.0.coefficients)) in
-    elim (either_truth (all_met xs free.0)) [
+    elim (in_or_out (all_met xs free.0)) [
       | inl yes_ ↦ (
           let w = free.1.lifted xs refl yes_ in
           let d = w.1 in

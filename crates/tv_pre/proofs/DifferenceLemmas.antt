@@ -2,7 +2,7 @@
 use Rattle.std.proofs.Common.{◌+◌, get_or, take, ◌≡◌, ◌⊎◌, inl, inr, ℕ, zero, suc, ◌<◌, ◌≤◌, List, [], ◌∷◌, length, refl, sym, ap, ◌∙◌, subst, arith, ℤ, pos, negsuc, true, false, Bool, ◌==◌}
 use Rattle.std.specs.Prelude.{All, cond, ◌≤ℤ◌, slice_index_or}
 use Rattle.std.proofs.lemmas.Int.{ints}
-use Rattle.std.proofs.lemmas.List.Elements.{All-nil, All-cons, All-head, All-tail, All-more}
+use Rattle.std.proofs.lemmas.List.Elements.{All-head, All-tail, All-more}
 use Rattle.tv_linear.specs.Linear.{Linear}
 use Rattle.tv_linear.specs.declared.region.Piece.{Piece}
 use Rattle.tv_linear.specs.declared.region.Region.{Region}
@@ -14,16 +14,12 @@ use Rattle.tv_region.specs.Met.{Has, InSome}
 use Rattle.tv_region.specs.Regions.{lists_at}
 use Rattle.tv_region.specs.Differences.{coefficient, IsDifference, IsShift, IsCaseOfDifferences, IsOfDifferences}
 use Rattle.tv_pre.specs.Finding.{AreBetweenNumbers, IsAtMostOnce}
+use Rattle.std.proofs.lemmas.Bool.{cases_lt}
 
 beyond : (xs : List ℤ) (j : ℕ) → length xs ≤ j → slice_index_or xs j (pos 0) ≡ pos 0
 beyond [] j l = refl
 beyond (x ∷ xs) zero l = absurd (omega (arith, l))
 beyond (x ∷ xs) (suc j) l = beyond xs j (omega (arith, l))
-
-inside_or_not : (i n : ℕ) → (i < n) ⊎ (n ≤ i)
-inside_or_not i zero = inr (omega arith)
-inside_or_not zero (suc n) = inl (omega arith)
-inside_or_not (suc i) (suc n) = elim (inside_or_not i n) [ inl l ↦ inl (omega (arith, l)) | inr l ↦ inr (omega (arith, l)) ]
 
 unit : (z : ℤ) → negsuc 0 ≤ℤ z → z ≤ℤ pos 1 → (z ≡ pos 0) ⊎ ((z ≡ pos 1) ⊎ (z ≡ negsuc 0))
 unit (pos zero) l m = inl refl
@@ -39,8 +35,8 @@ bit (pos (suc (suc n))) l m = absurd (omega (arith, ints, m))
 bit (negsuc n) l m = absurd (omega (arith, ints, l))
 
 once : (xs : List ℤ) (w : ℤ) → (w ≡ pos 0 → ⊥) → IsAtMostOnce w xs → (i j : ℕ) → slice_index_or xs i (pos 0) ≡ w → slice_index_or xs j (pos 0) ≡ w → i ≡ j
-once xs w n h i j e f = elim (inside_or_not i (length xs)) [
-  | inl l ↦ elim (inside_or_not j (length xs)) [
+once xs w n h i j e f = elim (cases_lt i (length xs)) [
+  | inl l ↦ elim (cases_lt j (length xs)) [
     | inl m ↦ h i j l m e f
     | inr m ↦ absurd (n (sym f ∙ beyond xs j m))
   ]
@@ -49,14 +45,14 @@ once xs w n h i j e f = elim (inside_or_not i (length xs)) [
 
 pub is_difference : (r : Linear) → AreBetweenNumbers (negsuc 0) (pos 1) r.coefficients → IsAtMostOnce (pos 1) r.coefficients → IsAtMostOnce (negsuc 0) r.coefficients → IsDifference r
 is_difference r b o t = record {
-  each = λ j. elim (inside_or_not j (length r.coefficients)) [ inl l ↦ unit (coefficient r j) (b j l).0 (b j l).1 | inr l ↦ inl (beyond r.coefficients j l) ];
+  each = λ j. elim (cases_lt j (length r.coefficients)) [ inl l ↦ unit (coefficient r j) (b j l).0 (b j l).1 | inr l ↦ inl (beyond r.coefficients j l) ];
   one_added = λ i j e f. once r.coefficients (pos 1) (λ n. cc) o i j e f;
   one_taken_off = λ i j e f. once r.coefficients (negsuc 0) (λ n. cc) t i j e f;
 }
 
 pub is_shift : (r : Linear) → AreBetweenNumbers (pos 0) (pos 1) r.coefficients → IsAtMostOnce (pos 1) r.coefficients → IsShift r
 is_shift r b o = record {
-  each = λ j. elim (inside_or_not j (length r.coefficients)) [ inl l ↦ bit (coefficient r j) (b j l).0 (b j l).1 | inr l ↦ inl (beyond r.coefficients j l) ];
+  each = λ j. elim (cases_lt j (length r.coefficients)) [ inl l ↦ bit (coefficient r j) (b j l).0 (b j l).1 | inr l ↦ inl (beyond r.coefficients j l) ];
   one = λ i j e f. once r.coefficients (pos 1) (λ n. cc) o i j e f;
 }
 
@@ -94,30 +90,6 @@ not_false b t f = sym f ∙ t
 
 abbrev IsBetween : ℤ → ℤ → ℤ → Type 0
 IsBetween least most z = (least ≤ℤ z) × (z ≤ℤ most)
-
-pub between_units : (r : Linear) → IsDifference r → AreBetweenNumbers (negsuc 0) (pos 1) r.coefficients
-between_units r h j l = elim (h.each j) [
-  | inl e ↦ subst (IsBetween (negsuc 0) (pos 1)) (sym e) (omega (arith, ints), omega (arith, ints))
-  | inr k ↦ elim k [
-    | inl e ↦ subst (IsBetween (negsuc 0) (pos 1)) (sym e) (omega (arith, ints), omega (arith, ints))
-    | inr e ↦ subst (IsBetween (negsuc 0) (pos 1)) (sym e) (omega (arith, ints), omega (arith, ints))
-  ]
-]
-
-pub between_bits : (r : Linear) → IsShift r → AreBetweenNumbers (pos 0) (pos 1) r.coefficients
-between_bits r h j l = elim (h.each j) [
-  | inl e ↦ subst (IsBetween (pos 0) (pos 1)) (sym e) (omega (arith, ints), omega (arith, ints))
-  | inr e ↦ subst (IsBetween (pos 0) (pos 1)) (sym e) (omega (arith, ints), omega (arith, ints))
-]
-
-pub has_all : {A : Type 0} (P : A → Type 0) (xs : List A) → ((x : A) → Has xs x → P x) → All P xs
-has_all P [] h = All-nil P
-has_all P (y ∷ ys) h = All-cons P y ys (h y (inl refl)) (has_all P ys (λ x m. h x (inr m)))
-
-pub case_has : (cases : List Case) (i : ℕ) (c : Case) → i < length cases → c ≡ get_or cases i c → Has (case_views cases) (case_view c)
-case_has [] i c l e = absurd (omega (arith, l))
-case_has (k ∷ ks) zero c l e = inl (ap case_view (sym e))
-case_has (k ∷ ks) (suc i) c l e = inr (case_has ks i c (omega (arith, l)) e)
 
 pub piece_row : (pieces : List Piece) (i : ℕ) (p : Piece) → i < length pieces → p ≡ get_or pieces i p → (r : Linear) → Has p.poly.rows.items r → InSome (lists_at p.location pieces) r
 piece_row [] i p l e r m = absurd (omega (arith, l))

@@ -1,6 +1,6 @@
 -- Nodes of termination that grow by rounds.
 use Rattle.tv_shape.specs.Made.{Offers}
-use Rattle.std.proofs.Common.{◌≡◌, inr, ℕ, suc, List, [], ◌∷◌, ◌++◌, map, All, refl, sym, ap, ◌∙◌, subst, pos, Vec, false}
+use Rattle.std.proofs.Common.{◌≡◌, ℕ, suc, List, [], ◌∷◌, ◌++◌, map, All, refl, sym, ap, ◌∙◌, subst, pos, Vec, false}
 use Rattle.std.specs.Global.{Global}
 use Rattle.std.specs.List.{flat_map}
 use Rattle.std.proofs.lemmas.List.{append_assoc, append-nil}
@@ -28,11 +28,11 @@ use Rattle.tv_pre.specs.Parts.{IsPart, joined_pieces}
 use Rattle.tv_pre.specs.Pieces.{AreMarked, marked_as}
 use Rattle.tv_pre.specs.Questions.{Question}
 use Rattle.tv_pre.specs.Ranked.{EachOf, IsRankBelow, IsLayered}
-use Rattle.tv_pre.proofs.AddLemmas.{flat_append}
 use Rattle.tv_pre.proofs.GrowingLemmas.{each_so, each_append, each_ranked, still_below, not_below_zero, row_columns}
 use Rattle.tv_pre.proofs.NodeLemmas.{part_made}
 use Rattle.tv_pre.proofs.PieceLemmas.{are_marked, marked_append, marked_shape}
 use Rattle.tv_pre.proofs.ShapeLemmas.{flat_same}
+use Rattle.std.proofs.lemmas.Grind.{flat_map-append}
 
 -- a piece of the next layer
 pub descends : (about : CaseSystem) (old : Grown) → IsEnding about old → (k : ℕ) → k ≡ suc old.round → IsWithin 62 (pos k) → (q : Piece) (later : List Marked) →
@@ -98,24 +98,13 @@ end_next about old new proofs layer g over has adds = record {
         in
         subst (Offers (flat_map (end_owes about number all) new.pieces.items)) (sym has.proofs)
         (subst (λ ps. Offers (flat_map (end_owes about number all) ps) proofs.items) (sym has.pieces)
-        (subst (λ os. Offers os proofs.items) (sym (flat_append (end_owes about number all) old.pieces.items added)) whole))
+        (subst (λ os. Offers os proofs.items) (sym (flat_map-append (end_owes about number all) old.pieces.items added)) whole))
 
 -- ---- the layers that are left
 pub record AreEndLeft (about : CaseSystem) (all : List Region) (earlier : List Piece) (left : List Region) : Type 0 where
   pub layers : AreEndLayers about earlier left
   pub pieces : earlier ++ joined_pieces left ≡ joined_pieces all
   pub asks : (a : Question) → AsksEndLayers about earlier left a → AsksEndLayers about [] all a
-
-pub end_all : (about : CaseSystem) (all : List Region) (earlier : List Piece) → earlier ≡ [] → AreEndLayers about [] all → AreEndLeft about all earlier all
-end_all about all earlier e h = subst (λ qs. AreEndLeft about all qs all) (sym e) (record { layers = h; pieces = refl; asks = λ a k. k })
-
-pub end_later : (about : CaseSystem) (all : List Region) (earlier next : List Piece) (layer : Region) (left : List Region) →
-    AreEndLeft about all earlier (layer ∷ left) → next ≡ earlier ++ layer.pieces.items → AreEndLeft about all next left
-end_later about all earlier next layer left h e = subst (λ qs. AreEndLeft about all qs left) (sym e) (record {
-  layers = h.layers.1;
-  pieces = append_assoc earlier layer.pieces.items (joined_pieces left) ∙ h.pieces;
-  asks = λ a k. h.asks a (inr k);
-})
 
 -- ---- the part
 pub ending_part : (about : CaseSystem) (grown : Grown) (node : Node) → IsEnding about grown → (nodes : List Node) → nodes ≡ [] → IsMade about grown.region false 1 grown.pieces.items nodes grown.proofs.items node → IsPart about term grown.region node

@@ -42,9 +42,10 @@ use Rattle.tv_pre.specs.Full.{IsFull, IsExactly}
 use Rattle.tv_pre.specs.Parts.{IsPart}
 use Rattle.tv_pre.specs.Pieces.{IsMarked, AreMarked}
 use Rattle.tv_pre.proofs.FullLemmas.{full_has_all}
-use Rattle.tv_pre.proofs.SetLemmas.{hold_on, on_hold}
+use Rattle.tv_pre.proofs.SetLemmas.{hold_on}
 use Rattle.tv_pre.proofs.OppositeRounds.{opposite_open}
 use Rattle.tv_pre.proofs.SettledRounds.{fix_settled_same, round_wider}
+use Rattle.tv_pre.proofs.SideLemmas.{hold_in}
 
 module _ (about : CaseSystem) where
   marked_has : (ps : List Marked) (qs : List Piece) (q : Piece) → AreMarked ps qs → Contains qs q → (p : Marked) × Contains ps p × IsMarked p q
@@ -111,7 +112,7 @@ module _ (about : CaseSystem) where
       way_same : (s : State) → IsStateOf about s → InState point.hold.now s ↔ HoldSide sides.shape (InState sides.first.now) (InState sides.second.now) s
       way_same s is = (
         λ m. hold_on sides.shape sides.first.now sides.second.now s (subst (λ r. InState r s) of.hold m),
-        λ m. subst (λ r. InState r s) (sym of.hold) (on_hold sides.shape sides.first.now sides.second.now s m),
+        λ m. subst (λ r. InState r s) (sym of.hold) (hold_in sides.shape sides.first.now sides.second.now s m),
       )
 
       end_same : (s : State) → IsStateOf about s → InState point.end.now s ↔ EndSides sides.shape (InState sides.first.now) (InState sides.second.now) s

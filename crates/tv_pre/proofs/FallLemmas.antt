@@ -18,6 +18,9 @@ use Rattle.tv_cert.specs.Obligations.{case_change}
 use Rattle.tv_cert.specs.Pieces.{place_of, rows_of, ranks_of, goes, pieces_at}
 use Rattle.tv_cert.specs.Targets.{owed_into, target_rows, no_fall, fall_from}
 use Rattle.tv_pre.specs.Ranked.{EachOf, IsRankBelow}
+use Rattle.tv_cases.proofs.ProductLemmas.{zero_times}
+use Rattle.tv_lexrank.proofs.ZeroLines.{places_zero}
+use Rattle.tv_lexrank.proofs.PadLemmas.{nothing}
 
 -- a row that every point over n columns meets: its number in each is 0, and its constant is at most 0
 pub record IsAlways (n : ℕ) (k : Known) : Type 0 where
@@ -64,19 +67,6 @@ pub record AreLayers (n : ℕ) (a : ℤ) (dones goes_on : List Marked) : Type 0 
   pub done_with : EachOf (λ p. goes p ≡ false) dones
   pub ranked : EachOf (IsRankBelow n a) goes_on
 
-zero_times : (z : ℤ) → pos 0 *ℤ z ≡ pos 0
-zero_times z = omega (arith, ints)
-
-nothing : IsHeld (pos 0)
-nothing = omega arith
-
-zero_sum : (f : ℕ → ℤ) (xs : List ℤ) → ((v : ℕ) → f v ≡ pos 0) → place_sum f xs ≡ pos 0
-zero_sum f [] h = refl
-zero_sum f (x ∷ xs) h =
-    let a : f 0 *ℤ x ≡ pos 0 = ap (λ z. z *ℤ x) (h 0) ∙ zero_times x in
-    let b = zero_sum (λ j. f (suc j)) xs (λ v. h (suc v)) in
-    omega (arith, ints, a, b)
-
 zero_held : (told : ℕ → Type 0) (f : ℕ → ℤ) (v : ℕ) (xs : List ℤ) → ((v : ℕ) → told v) → ((v : ℕ) → f v ≡ pos 0) → PlacesHeld told f (pos 0) v xs
 zero_held told f v [] t h = tt
 zero_held told f v (x ∷ xs) t h =
@@ -90,7 +80,7 @@ zero_held told f v (x ∷ xs) t h =
 
 pub number_composed : (k : Known) (b : ℤ) (terms : List Term) → IsHeld b → IsNumber k b → IsNumber (composed k terms) b
 number_composed k b terms held h = record {
-  inner = λ v. zero_sum (λ v. known_number k (Some v)) (map (term_number (Some v)) terms) h.inner;
+  inner = λ v. places_zero (λ v. known_number k (Some v)) (map (term_number (Some v)) terms) h.inner;
   constant = whole;
   inner_held = λ v. zero_held (λ v. KnownHeld k (Some v)) (λ v. known_number k (Some v)) 0 (map (term_number (Some v)) terms) h.inner_held h.inner;
   constant_held = (
@@ -102,7 +92,7 @@ number_composed k b terms held h = record {
   where
     whole : place_sum (λ v. known_number k (Some v)) (map (term_number None) terms) +ℤ known_number k None ≡ b
     whole =
-        let s = zero_sum (λ v. known_number k (Some v)) (map (term_number None) terms) h.inner in
+        let s = places_zero (λ v. known_number k (Some v)) (map (term_number None) terms) h.inner in
         let c = h.constant in
         omega (arith, ints, s, c)
 

@@ -34,7 +34,6 @@ use Rattle.tv_shape.specs.Made.{IsOffered}
 use Rattle.tv_choice.specs.Leading.{piece_rows}
 use Rattle.tv_choice.specs.Leading as leading
 use Rattle.tv_lexrank.specs.Falling.{AllHeld}
-use Rattle.tv_lexrank.proofs.FallLemmas.{all_back}
 use Rattle.tv_lexrank.proofs.OfferLemmas.{met_shape}
 use Rattle.tv_pre.specs.Offers.{ShowsStep, ShowsChoice}
 use Rattle.tv_pre.specs.Pieces.{AreMarked, marked_as}
@@ -43,7 +42,10 @@ use Rattle.tv_pre.proofs.ChoiceLemmas.{Owing, guards_before, lists_shape, lists_
 use Rattle.tv_pre.proofs.FallLemmas.{WithFalls, FallsOwed, falls_owed, case_keeps, drawn_keeps}
 use Rattle.tv_pre.proofs.OfferLemmas.{lists_marked}
 use Rattle.tv_pre.proofs.PieceLemmas.{are_marked}
-use Rattle.tv_pre.proofs.ShownLemmas.{entry_shown, given_more, denied_more, one_more, cover_falls, falling_even, falling_splits, falling_narrow, entry_narrow, all_mapped}
+use Rattle.tv_pre.proofs.ShownLemmas.{entry_shown, given_more, denied_more, cover_falls, falling_even, falling_splits, falling_narrow, entry_narrow, all_mapped}
+use Rattle.tv_choice.proofs.StopLemmas.{one_more}
+use Rattle.tv_lexrank.proofs.MoreLemmas.{given_held}
+use Rattle.tv_linear.proofs.ListLaws.{all_unmapped}
 
 -- ---- with the guards of a case before
 with_guards : (n : ℕ) (guards : List Known) (a b : Option (List Known)) → WithFalls n a b → WithFalls n (option_map (λ rows. guards ++ rows) a) (option_map (λ rows. guards ++ rows) b)
@@ -156,17 +158,13 @@ choice_narrow about done count (choice.Take taken k j draws ls) (choice.Empty ms
 choice_narrow about done count (choice.Take taken k j draws ls) (choice.NoStep covers) h w = absurd h
 choice_narrow about done count (choice.Take taken k j draws ls) (choice.Take other o i terms ns) h w =
     let e = entry_narrow (first_past (slice_get about.cases taken) done) count k j o i (map (λ l. l.items) ls.items) (map (λ l. l.items) ns.items) h.2 w.1 w.2 (all_mapped AreNarrow (λ l. l.items) ls.items w.4) in
-    (subst CountNarrow (sym h.0) w.0, e.0, e.1, subst (All RowNarrow) (sym h.1) w.3, all_back AreNarrow (λ l. l.items) ns.items e.2)
+    (subst CountNarrow (sym h.0) w.0, e.0, e.1, subst (All RowNarrow) (sym h.1) w.3, all_unmapped AreNarrow (λ l. l.items) ns.items e.2)
 
 -- ---- what they are offered for
 pub shape_even : (n : ℕ) (counts : ℕ → ℕ → Option ℕ) (count : ℕ) (tree : CoverTree) → CoverShape n counts count tree → TreeRows (λ r. columns r ≡ n) tree
 shape_even n counts count (cover.Split' r p a q b) h = (h.0, shape_even n counts (count + 1) a h.1, shape_even n counts (count + 1) b h.2)
 shape_even n counts count (cover.Empty ms) h = tt
 shape_even n counts count (cover.Into k j ls) h = tt
-
-pub given_held : (N : ℕ) (rows : List Linear) → AllHeld N (as_given rows)
-given_held N [] = tt
-given_held N (r ∷ rows) = ((λ j l. tt), tt, given_held N rows)
 
 pub held_append : (N : ℕ) (ks qs : List Known) → AllHeld N ks → AllHeld N qs → AllHeld N (ks ++ qs)
 held_append N [] qs h g = g

@@ -22,9 +22,9 @@ use Rattle.tv_shape.specs.Made.{Offers}
 use Rattle.tv_pre.specs.Parts.{IsPart, AreParts}
 use Rattle.tv_pre.specs.Making.{IsMade}
 use Rattle.tv_pre.specs.Around.{AreKids}
-use Rattle.tv_pre.proofs.AddLemmas.{flat_append}
 use Rattle.tv_pre.proofs.NodeLemmas.{states, part_made, are_kids}
 use Rattle.tv_pre.proofs.ShapeLemmas.{first_marked, second_marked}
+use Rattle.std.proofs.lemmas.Grind.{flat_map-append}
 
 -- each of the pieces has the mark
 abbrev pub EachGoes : Bool → List Marked → Type 0
@@ -35,17 +35,13 @@ pub each_goes : (n : ℕ) (mark : Mark) (ranks : List Linear) (qs : List Piece) 
 each_goes n mark ranks [] = tt
 each_goes n mark ranks (q ∷ qs) = (refl, each_goes n mark ranks qs)
 
-pub goes_append : (go : Bool) (ps qs : List Marked) → EachGoes go ps → EachGoes go qs → EachGoes go (ps ++ qs)
-goes_append go [] qs h g = g
-goes_append go (p ∷ ps) qs h g = (h.0, goes_append go ps qs h.1 g)
-
 flat_each : (go : Bool) (F : Bool → Marked → List Obligation) (ps : List Marked) → EachGoes go ps → flat_map (λ p. F (goes p) p) ps ≡ flat_map (F go) ps
 flat_each go F [] h = refl
 flat_each go F (p ∷ ps) h = λ i. F (h.0 i) p ++ flat_each go F ps h.1 i
 
 -- the pieces that are done and then those that go on
 two_marks : (F : Bool → Marked → List Obligation) (ps qs : List Marked) → EachGoes false ps → EachGoes true qs → flat_map (λ p. F (goes p) p) (ps ++ qs) ≡ flat_map (F false) ps ++ flat_map (F true) qs
-two_marks F ps qs d o = flat_append (λ p. F (goes p) p) ps qs ∙ (λ i. flat_each false F ps d i ++ flat_each true F qs o i)
+two_marks F ps qs d o = flat_map-append (λ p. F (goes p) p) ps qs ∙ (λ i. flat_each false F ps d i ++ flat_each true F qs o i)
 
 pub fixed_part : (about : CaseSystem) (path : Path) (shape : Shape) (f g : Property) (region : Region) (node : Node) (m : ℕ) (ps qs : List Marked) (first second : Region) (nodes : List Node) (proofs : List Proof) →
     IsMade about region true m (ps ++ qs) nodes proofs node → (may_rank (states about (fix path shape f g)) ≡ false → m ≡ 0) → EachGoes false ps → EachGoes true qs →

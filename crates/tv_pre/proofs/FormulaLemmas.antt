@@ -1,36 +1,14 @@
 -- Formulas by what they state.
-use Rattle.std.proofs.Common.{◌≡◌, ℕ, List, refl, sym, ap}
+use Rattle.std.proofs.Common.{◌≡◌, List, refl, sym, ap}
 use Rattle.tv_formula.specs.declared.tree.Path.{Path}
 use Rattle.tv_formula.specs.declared.tree.Shape.{Shape}
 use Rattle.tv_formula.specs.Properties.{Property, truth, compare, at, term, negated, all_of, some_of, next, fix, Properties}
 use Rattle.tv_program.specs.declared.tree.Relation.{Relation}
 use Rattle.tv_program.specs.Trees.{Expression}
 use Rattle.tv_linear.specs.Linear.{Linear}
-use Rattle.tv_cert.specs.Statements.{Statement, rows, here, ends, never_ends, each_of, one_of, after, along, Statements, denial_of, stated, stated_all}
+use Rattle.tv_cert.specs.Statements.{Statement, ends, never_ends, each_of, one_of, after, along, Statements, denial_of, stated, stated_all}
 
 -- ---- what a negation does not state
-rows_undenied : (lists : List (List Linear)) (f : Property) → rows lists ≡ denial_of f → ⊥
-rows_undenied lists (truth b) e = cc
-rows_undenied lists (compare r a b) e = cc
-rows_undenied lists (at l) e = cc
-rows_undenied lists term e = cc
-rows_undenied lists (negated f) e = cc
-rows_undenied lists (all_of fs) e = cc
-rows_undenied lists (some_of fs) e = cc
-rows_undenied lists (next path f) e = cc
-rows_undenied lists (fix path shape f g) e = cc
-
-here_undenied : (k : ℕ) (f : Property) → here k ≡ denial_of f → ⊥
-here_undenied k (truth b) e = cc
-here_undenied k (compare r a b) e = cc
-here_undenied k (at l) e = cc
-here_undenied k term e = cc
-here_undenied k (negated f) e = cc
-here_undenied k (all_of fs) e = cc
-here_undenied k (some_of fs) e = cc
-here_undenied k (next path f) e = cc
-here_undenied k (fix path shape f g) e = cc
-
 ends_undenied : (f : Property) → ends ≡ denial_of f → ⊥
 ends_undenied (truth b) e = cc
 ends_undenied (compare r a b) e = cc

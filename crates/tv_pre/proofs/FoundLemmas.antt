@@ -24,7 +24,6 @@ use Rattle.tv_known.specs.Sizes.{product, fix_count, count, product_count, sum_c
 use Rattle.tv_program.specs.Steps.{State}
 use Rattle.tv_region.specs.Regions.{IsRegion, count_at}
 use Rattle.tv_region.specs.StepRegions.{InState, IsTame, HasNoDraws}
-use Rattle.tv_rounds.proofs.CountLemmas.{times}
 use Rattle.tv_rounds.specs.Calls.{IsNowhere}
 use Rattle.tv_pre.specs.declared.fault.PreFault.{PreFault}
 use Rattle.tv_pre.specs.declared.outcome.Found.{Found}
@@ -53,7 +52,9 @@ use Rattle.tv_pre.proofs.FullAlongLemmas.{all_full}
 use Rattle.tv_pre.proofs.GapLemmas.{gap_weaker, among_more, each_gap, one_gap}
 use Rattle.tv_pre.proofs.FormulaLemmas.{each_is, one_is, after_is, along_is, ends_is, never_is}
 use Rattle.tv_pre.proofs.SizedAtoms.{test_few, tested_few}
-use Rattle.tv_pre.proofs.SizedLemmas.{trans, none_less, none_summed, more_summed, everywhere_few, nowhere_few, term_one}
+use Rattle.tv_pre.proofs.SizedLemmas.{none_less, none_summed, more_summed, everywhere_few, nowhere_few, term_one}
+use Rattle.tv_known.proofs.SizeLemmas.{trans}
+use Rattle.std.proofs.lemmas.Nat.{mul-le}
 
 -- ---- gaps
 pub none_of_two : (first second : Option Gap) → first_of first second ≡ None → (first ≡ None) × (second ≡ None)
@@ -141,7 +142,7 @@ module _ (about : CaseSystem) (last : ℕ) where
     argument_product (t ∷ ss) (q ∷ rs) (n ∷ ns) h (more f fs) e =
         let first : t ≡ stated (comparison_lists about.variables) f = cc in
         let rest : statements_of ss ≡ stated_all (comparison_lists about.variables) fs = cc in
-        times (count_at l q) (product (counts_at l rs)) (count about.cases m f l) (product_count about.cases m fs l) (h.0.few plain m is f first l) (argument_product ss rs ns h.1 fs rest)
+        mul-le (count_at l q) (product (counts_at l rs)) (count about.cases m f l) (product_count about.cases m fs l) (h.0.few plain m is f first l) (argument_product ss rs ns h.1 fs rest)
 
     pub argument_sum : (ss : List Statement) (rs : List Region) (ns : List Node) → AreEachArgument about last ss rs ns → (fs : Properties) → statements_of ss ≡ stated_all (comparison_lists about.variables) fs → sum (counts_at l rs) ≤ sum_count about.cases m fs l
     argument_sum [] [] [] h none e = none_summed

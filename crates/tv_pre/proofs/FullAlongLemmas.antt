@@ -29,8 +29,9 @@ use Rattle.tv_pre.specs.Fixed.{AreOver, IsJoined}
 use Rattle.tv_pre.specs.Full.{IsFull}
 use Rattle.tv_pre.specs.Parts.{joined_pieces}
 use Rattle.tv_pre.specs.Pieces.{InPieces}
-use Rattle.tv_pre.proofs.SetLemmas.{on_hold, in_joined}
+use Rattle.tv_pre.proofs.SetLemmas.{in_joined}
 use Rattle.tv_pre.proofs.AlongLemmas.{settled_inside}
+use Rattle.tv_pre.proofs.SideLemmas.{hold_in}
 
 -- ---- fixed points of wider sides
 -- where the way is in the new way or at the new end, and the end is in the new end, of the states of the program
@@ -110,7 +111,7 @@ module _ (about : CaseSystem) (cases : All (IsCase about.variables about.locatio
   fails_is f g first second s p x =
       shape_fails about cases (InState sides.first.now) (InState sides.second.now) (InState point.hold.now) (InState point.end.now) (λ t. Holds (CaseSteps about) (negation f) t) (λ t. Holds (CaseSteps about) (negation g) t)
       (told about (InState sides.first.now) sides.first.now (own_set about sides.first.now over.first)) first second sides.shape (other_path sides.path)
-      (λ t q m. subst (λ r. InState r t) (sym of.hold) (on_hold sides.shape sides.first.now sides.second.now t m))
+      (λ t q m. subst (λ r. InState r t) (sym of.hold) (hold_in sides.shape sides.first.now sides.second.now t m))
       (λ t q m. subst (λ r. InState r t) (sym of.ends) (ends.all tt t q m))
       s p (subst (λ (z : Path). HoldsBy (not (must_end sides.shape)) (CaseSteps about) (other_path z) (λ t. ¬ (InState point.end.now t)) (λ t. ¬ (InState point.hold.now t) × ¬ (InState point.end.now t)) s) of.path x)
 

@@ -23,7 +23,6 @@ use Rattle.tv_program.specs.Trees as trees
 use Rattle.tv_program.specs.Meaning.{compares, value_of}
 use Rattle.tv_cases.specs.LinearCases.{CaseSystem, CaseSteps, IsCase}
 use Rattle.tv_cases.proofs.ComparisonLemmas.{some_list}
-use Rattle.tv_cases.proofs.Listed.{both_true}
 use Rattle.tv_cert.specs.Obligations.{truth_targets}
 use Rattle.tv_known.specs.Cycles.{IsStateOf}
 use Rattle.tv_known.proofs.RoundLemmas.{stays_state}
@@ -38,6 +37,7 @@ use Rattle.tv_pre.specs.Along.{OthersLeadOut}
 use Rattle.tv_pre.specs.Atoms.{test_lists, IsTestOf, IsTested}
 use Rattle.tv_pre.specs.Full.{HasRows, IsFull, AreFull, FullHasAll, FullTell}
 use Rattle.tv_pre.specs.Inclusions.{OfPieces}
+use Rattle.std.proofs.lemmas.Bool.{and_parts}
 
 -- ---- atoms
 true_met : (b : Bool) (xs : List ℤ) → b ≡ true → some_met xs (truth_targets b) ≡ true
@@ -49,7 +49,7 @@ apart_true l k n = grind (arith, nat_tests)
 
 compared_met : (n : ℕ) (r : Relation) (a b : Expression) (xs : List ℤ) → length xs ≡ n → has_rows n r a b ≡ true → compares r (value_of a xs []) (value_of b xs []) ≡ true → some_met xs (comparison_lists n r a b) ≡ true
 compared_met n r a b xs wide rows holds =
-    subst (λ t. some_met xs (cond t (lists_of n n (columns_from n 0 n) true (trees.compare r a b)) []) ≡ true) (sym rows) (some_list n r a b xs wide ((both_true _ _ rows).0) ∙ holds)
+    subst (λ t. some_met xs (cond t (lists_of n n (columns_from n 0 n) true (trees.compare r a b)) []) ≡ true) (sym rows) (some_list n r a b xs wide ((and_parts _ _ rows).0) ∙ holds)
 
 module _ (about : CaseSystem) where
   -- the lists of a test have each state where the formula holds

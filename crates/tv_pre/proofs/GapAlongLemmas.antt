@@ -106,8 +106,3 @@ module _ (about : CaseSystem) (last : ℕ) where
 -- what a gap is said to be, where there is this one
 pub said_of : (P : Gap → Type 0) (own : Option Gap) (gap : Gap) → own ≡ Some gap → IfSome own P → P gap
 said_of P own gap e said = subst (λ o. IfSome o P) e said
-
--- what is so of any gap
-pub some_said : (P : Type 0) (gap : Option Gap) → P → IfSome gap (λ g. P)
-some_said P None h = tt
-some_said P (Some gap) h = h

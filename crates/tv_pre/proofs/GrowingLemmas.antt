@@ -38,10 +38,10 @@ use Rattle.tv_pre.specs.Parts.{IsPart, AreParts, joined_pieces}
 use Rattle.tv_pre.specs.Pieces.{AreMarked, marked_as}
 use Rattle.tv_pre.specs.Questions.{Question}
 use Rattle.tv_pre.specs.Ranked.{EachOf, IsRankBelow, IsLayered}
-use Rattle.tv_pre.proofs.AddLemmas.{flat_append}
 use Rattle.tv_pre.proofs.FixedLemmas.{EachGoes, each_goes, fixed_part}
 use Rattle.tv_pre.proofs.PieceLemmas.{are_marked, marked_append, marked_shape}
 use Rattle.tv_pre.proofs.NodeLemmas.{states}
+use Rattle.std.proofs.lemmas.Grind.{flat_map-append}
 
 pub come_is : (about : CaseSystem) (number : ℕ) (path : Path) (shape : Shape) (all first second : List Marked) (p : Marked) → must_end shape ≡ true → cover_of number kind.Hold (about_with about) p (hold_side shape first second) ∷ come_of about number path p all ≡ fix_of number (about_with about) path shape all first second p true
 come_is about number path Weak all first second p e = absurd (let no : ⊥ = cc in no)
@@ -186,7 +186,7 @@ grown_next about sides old new layer g over count round variables locations whol
         let before : Offers (flat_map (F all false) dones ++ flat_map (F all true) g.ranked) old.proofs.items =
         subst (λ ps. Offers (flat_map (F ps false) dones ++ flat_map (F ps true) g.ranked) old.proofs.items) same_all (g.offers number first second (added ++ later) a b)
         in
-        subst (λ os. Offers (flat_map (F all false) dones ++ os) new.proofs.items) (sym (flat_append (F all true) g.ranked added))
+        subst (λ os. Offers (flat_map (F all false) dones ++ os) new.proofs.items) (sym (flat_map-append (F all true) g.ranked added))
         (subst (λ os. Offers os new.proofs.items) (append_assoc (flat_map (F all false) dones) (flat_map (F all true) g.ranked) (flat_map (F all true) added))
         (adds number first second later a b (flat_map (F all false) dones ++ flat_map (F all true) g.ranked) before))
 

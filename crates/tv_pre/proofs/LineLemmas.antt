@@ -23,9 +23,10 @@ use Rattle.tv_cert.specs.Obligations.{atom_of}
 use Rattle.tv_cert.specs.Targets.{owed_lists}
 use Rattle.tv_shape.specs.Narrow.{AreNarrow, CountNarrow, CoverNarrow}
 use Rattle.tv_shape.specs.Made.{IsOffered}
-use Rattle.tv_lexrank.proofs.FallLemmas.{all_back}
 use Rattle.tv_lexrank.proofs.OfferLemmas.{met_shape}
 use Rattle.tv_pre.specs.Atoms.{atom_piece, own_line, own_lines, IsOwnCover}
+use Rattle.tv_cover.proofs.SharedLemmas.{zeros_signs}
+use Rattle.tv_linear.proofs.ListLaws.{all_unmapped}
 
 -- ---- multipliers 0 for the first rows
 zeros_dot : (c : Option ℕ) (xs : List Linear) (ms : List ℤ) (ks : List Known) → dot (zeros (length xs) ++ ms) (map (λ k. known_number k c) (as_given xs ++ ks)) ≡ dot ms (map (λ k. known_number k c) ks)
@@ -38,10 +39,6 @@ zeros_held c sum (x ∷ xs) ms ks s h =
     let p : pos 0 *ℤ number c x ≡ pos 0 = omega (arith, ints) in
     let q : sum +ℤ pos 0 *ℤ number c x ≡ sum = omega (arith, ints) in
     (tt, subst IsHeld (sym p) (let w : unsigned_abs (pos 0) < 2 ^ 127 = omega arith in w), subst IsHeld (sym q) s, subst (λ z. RowsHeld (λ k. KnownHeld k c) z (λ k. known_number k c) (zeros (length xs) ++ ms) (as_given xs ++ ks)) (sym q) (zeros_held c sum xs ms ks s h))
-
-zeros_least : (n : ℕ) → All (λ m. pos 0 ≤ℤ m) (zeros n)
-zeros_least zero = All-nil (λ m. pos 0 ≤ℤ m)
-zeros_least (suc n) = All-cons (λ m. pos 0 ≤ℤ m) (pos 0) (zeros n) (omega (arith, ints)) (zeros_least n)
 
 -- ---- the row and its denial
 abbrev line_between : ℕ → ℕ → List ℤ
@@ -85,9 +82,9 @@ module _ (xs : List Linear) (r : Linear) (ys : List Linear) (narrow : (c : Optio
 
   least : All (λ m. pos 0 ≤ℤ m) (line_between (length xs) (length ys))
   least =
-      All-append (λ m. pos 0 ≤ℤ m) (zeros (length xs)) (pos 1 ∷ (zeros (length ys) ++ pos 1 ∷ [])) (zeros_least (length xs))
+      All-append (λ m. pos 0 ≤ℤ m) (zeros (length xs)) (pos 1 ∷ (zeros (length ys) ++ pos 1 ∷ [])) (zeros_signs (length xs))
       (All-cons (λ m. pos 0 ≤ℤ m) (pos 1) (zeros (length ys) ++ pos 1 ∷ []) (omega (arith, ints))
-      (All-append (λ m. pos 0 ≤ℤ m) (zeros (length ys)) (pos 1 ∷ []) (zeros_least (length ys)) (All-cons (λ m. pos 0 ≤ℤ m) (pos 1) [] (omega (arith, ints)) (All-nil (λ m. pos 0 ≤ℤ m)))))
+      (All-append (λ m. pos 0 ≤ℤ m) (zeros (length ys)) (pos 1 ∷ []) (zeros_signs (length ys)) (All-cons (λ m. pos 0 ≤ℤ m) (pos 1) [] (omega (arith, ints)) (All-nil (λ m. pos 0 ≤ℤ m)))))
 
   many : length (line_between (length xs) (length ys)) ≡ length (as_given xs ++ given r ∷ (as_given ys ++ denied (given r) ∷ []))
   many =
@@ -169,7 +166,7 @@ own_narrow count k (cover.Empty ms) few h = absurd h
 own_narrow count k (cover.Into target fall ls) few h = (
   subst CountNarrow (sym h.0) (omega (arith, few)),
   subst CountNarrow (sym h.1) (omega arith),
-  all_back AreNarrow (λ l. l.items) ls.items (subst (All AreNarrow) (sym h.2) (lines_narrow count 0 count)),
+  all_unmapped AreNarrow (λ l. l.items) ls.items (subst (All AreNarrow) (sym h.2) (lines_narrow count 0 count)),
 )
 
 own_even : (n count k : ℕ) (tree : CoverTree) → IsOwnCover count k tree → TreeRows (λ r. columns r ≡ n) tree

@@ -14,7 +14,7 @@ use Rattle.tv_linear.specs.Falls.{fall_rows}
 use Rattle.tv_linear.specs.declared.cover.CoverTree.{CoverTree}
 use Rattle.tv_linear.specs.declared.cover.CoverTree as cover
 use Rattle.tv_linear.specs.declared.region.Piece.{Piece}
-use Rattle.tv_linear.proofs.ListLaws.{true_test}
+use Rattle.tv_linear.proofs.ListLaws.{true_test, all_unmapped}
 use Rattle.tv_farkas.specs.Stretching.{IsSplitOf}
 use Rattle.tv_cases.specs.LinearCases.{LinearCase, CaseSystem}
 use Rattle.tv_cert.specs.declared.node.Mark.TheVariants.{Go}
@@ -31,7 +31,7 @@ use Rattle.tv_choice.specs.Leading.{piece_rows}
 use Rattle.tv_lexrank.specs.declared.falling.Fall.{Fall}
 use Rattle.tv_lexrank.specs.Falling.{spread, AllHeld, AreNarrowLines}
 use Rattle.tv_lexrank.specs.Shown.{ranks_there}
-use Rattle.tv_lexrank.proofs.FallLemmas.{all_back, spreads_narrow}
+use Rattle.tv_lexrank.proofs.FallLemmas.{spreads_narrow, shown_append}
 use Rattle.tv_lexrank.proofs.OfferLemmas.{met_shape}
 use Rattle.tv_lexrank.proofs.PadLemmas.{spread_shown}
 use Rattle.tv_pre.specs.Offers.{ShowsStep}
@@ -40,7 +40,8 @@ use Rattle.tv_pre.specs.Ranked.{EachOf}
 use Rattle.tv_pre.specs.Lowering.{IsOwedWith, IsLowered, IsRankedAs, ShowsRankedStep, FallsFrom}
 use Rattle.tv_pre.proofs.FallingLemmas.{done_count, shape_even}
 use Rattle.tv_pre.proofs.PieceLemmas.{are_marked}
-use Rattle.tv_pre.proofs.ShownLemmas.{all_mapped, denied_more, given_more, shown_append}
+use Rattle.tv_pre.proofs.ShownLemmas.{all_mapped, denied_more, given_more}
+use Rattle.tv_cert.proofs.JoinedLemmas.{pieces_at-append}
 
 -- ---- part by part
 split_lowers : (fall : Fall) (first above : ℕ) (r s : Linear) (p q t u : _) (x y a b : CoverTree) → RowNarrow r → s ≡ r → IsLowered fall first (above + 1) x a → IsLowered fall first (above + 1) y b →
@@ -82,7 +83,7 @@ done_lowers fall first above target none old new e below narrow = record {
   lower = λ n known sides owed wanted many held with met. by_fall n (known ++ sides) owed wanted none (with.before target below) (with.only target) met;
   deep = refl;
   even = λ n w. tt;
-  narrow = (narrow.0, narrow.1, all_back AreNarrow (λ l. l.items) new.items (subst AreNarrowLines (sym e) (all_mapped AreNarrow (λ l. l.items) old.items narrow.2)));
+  narrow = (narrow.0, narrow.1, all_unmapped AreNarrow (λ l. l.items) new.items (subst AreNarrowLines (sym e) (all_mapped AreNarrow (λ l. l.items) old.items narrow.2)));
 }
   where
     by_fall : (n : ℕ) (known : List Known) (owed wanted : ℕ → ℕ → Option (List Known)) (none : ℕ) → wanted target 0 ≡ owed target 0 → ((j : ℕ) → owed target (suc j) ≡ None) → ShownAt n known (owed target none) (lists old.items) → ShownAt n known (wanted target none) (lists new.items)
@@ -99,7 +100,7 @@ onward_lowers fall first above target none old new e past small narrow lines = r
   narrow = (
     narrow.0,
     small,
-    all_back AreNarrow (λ l. l.items) new.items (subst AreNarrowLines (sym e) (All-append (All (IsWithin 62)) (lists old.items) (map (spread above) (lists fall.lines.items)) (all_mapped AreNarrow (λ l. l.items) old.items narrow.2) (spreads_narrow above (lists fall.lines.items) lines))),
+    all_unmapped AreNarrow (λ l. l.items) new.items (subst AreNarrowLines (sym e) (All-append (All (IsWithin 62)) (lists old.items) (map (spread above) (lists fall.lines.items)) (all_mapped AreNarrow (λ l. l.items) old.items narrow.2) (spreads_narrow above (lists fall.lines.items) lines))),
   );
 }
   where
@@ -122,14 +123,6 @@ onward_lowers fall first above target none old new e past small narrow lines = r
     by_fall n known sides owed wanted (suc j) many held with only met = absurd (subst (λ o. ShownAt n (known ++ sides) o (lists old.items)) (only j) met)
 
 -- ---- what is owed on entering the pieces of a node
-cond_append : (b : Bool) (x : Marked) (all xs ys : List Marked) → all ≡ xs ++ ys → cond b (x ∷ all) all ≡ cond b (x ∷ xs) xs ++ ys
-cond_append true x all xs ys e = ap (λ zs. x ∷ zs) e
-cond_append false x all xs ys e = e
-
-at_append : (xs ys : List Marked) (l : ℕ) → pieces_at (xs ++ ys) l ≡ pieces_at xs l ++ pieces_at ys l
-at_append [] ys l = refl
-at_append (x ∷ xs) ys l = cond_append (place_of x == l) x (pieces_at (xs ++ ys) l) (pieces_at xs l) (pieces_at ys l) (at_append xs ys l)
-
 kept_done : (b : Bool) (x : Marked) (xs : List Marked) → goes x ≡ false → EachOf (λ p. goes p ≡ false) xs → EachOf (λ p. goes p ≡ false) (cond b (x ∷ xs) xs)
 kept_done true x xs p h = (p, h)
 kept_done false x xs p h = h
@@ -195,7 +188,7 @@ module _ (N : ℕ) (change : Linear → Known) (old new : List Linear) (fall : F
   pub ranks_owed : (dones onward : List Marked) (l : ℕ) → EachOf (λ p. goes p ≡ false) (pieces_at dones l) → EachOf (GoesWith new) (pieces_at onward l) →
       IsOwedWith N (length (pieces_at dones l)) base fall (owed_into (dones ++ onward) l change no_fall) (owed_into (dones ++ onward) l change (fall_from change old))
   ranks_owed dones onward l d o =
-      let split = at_append dones onward l in
+      let split = pieces_at-append dones onward l in
       record {
         before = λ k s.
             subst (λ ps. target_rows change fall_of (slice_get ps k) 0 ≡ target_rows change no_fall (slice_get ps k) 0) (sym split) (before_same (pieces_at dones l) (pieces_at onward l) d k s);

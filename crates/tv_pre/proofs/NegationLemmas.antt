@@ -1,7 +1,7 @@
 -- What stands in a negation, and that it is denied twice by the formula itself.
-use Rattle.std.proofs.Common.{◌≡◌, ◌⊎◌, inl, inr, List, [], ◌∷◌, ◌++◌, refl, sym, ap, ◌∙◌, subst, Bool, true, false}
+use Rattle.std.proofs.Common.{◌≡◌, inl, inr, List, [], ◌∷◌, ◌++◌, refl, sym, ap, ◌∙◌, subst}
 use Rattle.std.specs.Prelude.{Contains, not}
-use Rattle.std.proofs.lemmas.List.Elements.{Contains-append_left, Contains-append_right}
+use Rattle.std.proofs.lemmas.List.Elements.{Contains-append_left, Contains-append_right, Contains-append_cases}
 use Rattle.tv_program.specs.declared.tree.Relation.{Relation}
 use Rattle.tv_program.specs.declared.tree.Relation.TheVariants.{Less, LessEqual, Greater, GreaterEqual, Equal, NotEqual}
 use Rattle.tv_formula.specs.declared.tree.Path.{Path}
@@ -12,12 +12,9 @@ use Rattle.tv_formula.specs.Properties.{Property, truth, compare, at, term, nega
 use Rattle.tv_formula.specs.Normal.{opposite, other_path, other_shape, negation, normal, negations, normals}
 use Rattle.tv_known.specs.Subformulas.{subformulas, all_subformulas}
 use Rattle.tv_cases.proofs.Listed.{Contains-here, Contains-later, Contains-cases, Contains-none}
+use Rattle.std.proofs.Math.Bool.{not-not}
 
-not_twice : (b : Bool) → not (not b) ≡ b
-not_twice true = refl
-not_twice false = refl
-
-opposite_twice : (r : Relation) → opposite (opposite r) ≡ r
+pub opposite_twice : (r : Relation) → opposite (opposite r) ≡ r
 opposite_twice Less = refl
 opposite_twice LessEqual = refl
 opposite_twice Greater = refl
@@ -25,11 +22,11 @@ opposite_twice GreaterEqual = refl
 opposite_twice Equal = refl
 opposite_twice NotEqual = refl
 
-path_twice : (p : Path) → other_path (other_path p) ≡ p
+pub path_twice : (p : Path) → other_path (other_path p) ≡ p
 path_twice Every = refl
 path_twice Any = refl
 
-shape_twice : (s : Shape) → other_shape (other_shape s) ≡ s
+pub shape_twice : (s : Shape) → other_shape (other_shape s) ≡ s
 shape_twice Until = refl
 shape_twice Weak = refl
 shape_twice Release = refl
@@ -48,7 +45,7 @@ mutual
   negation_of_normal (fix p s f g) = λ i. fix (other_path p) (other_shape s) (negation_of_normal f i) (negation_of_normal g i)
 
   pub negation_twice : (f : Property) → negation (negation f) ≡ normal f
-  negation_twice (truth b) = ap truth (not_twice b)
+  negation_twice (truth b) = ap truth (not-not b)
   negation_twice (compare r a b) = ap (λ q. compare q a b) (opposite_twice r)
   negation_twice (at l) = refl
   negation_twice term = refl
@@ -67,13 +64,6 @@ mutual
   negations_twice (more f fs) = λ i. more (negation_twice f i) (negations_twice fs i)
 
 -- ---- the negation of each subformula of the negation stands in the normal form, and the other way round
-in_either : {A : Type 0} (xs ys : List A) (x : A) → Contains (xs ++ ys) x → Contains xs x ⊎ Contains ys x
-in_either [] ys x m = inr m
-in_either (y ∷ xs) ys x m = elim (Contains-cases y x (xs ++ ys) m) [
-  | inl e ↦ inl (subst (Contains (y ∷ xs)) e (Contains-here y xs))
-  | inr n ↦ elim (in_either xs ys x n) [ inl k ↦ inl (Contains-later y x xs k) | inr k ↦ inr k ]
-]
-
 alone : (a b p : Property) (gs hs : List Property) → negation a ≡ b → (Contains gs p → Contains hs (negation p)) → Contains (a ∷ gs) p → Contains (b ∷ hs) (negation p)
 alone a b p gs hs e later m = elim (Contains-cases a p gs m) [
   | inl x ↦ subst (Contains (b ∷ hs)) (sym e ∙ ap negation x) (Contains-here b hs)
@@ -81,7 +71,7 @@ alone a b p gs hs e later m = elim (Contains-cases a p gs m) [
 ]
 
 both : (p : Property) (gs hs ks ms : List Property) → (Contains gs p → Contains ks (negation p)) → (Contains hs p → Contains ms (negation p)) → Contains (gs ++ hs) p → Contains (ks ++ ms) (negation p)
-both p gs hs ks ms left right m = elim (in_either gs hs p m) [
+both p gs hs ks ms left right m = elim (Contains-append_cases gs hs p m) [
   | inl n ↦ Contains-append_left ks ms (negation p) (left n)
   | inr n ↦ Contains-append_right ks ms (negation p) (right n)
 ]

@@ -1,6 +1,5 @@
 -- A node whose own obligations are offered proofs, over parts, is a part.
 use Rattle.std.proofs.Common.{◌≡◌, ◌⊎◌, inl, inr, ℕ, ◌+◌, ◌≤◌, List, [], ◌∷◌, length, map, All, false, arith, refl, sym, ap, ◌∙◌, subst}
-use Rattle.std.specs.Prelude.{max}
 use Rattle.tv_formula.specs.Limits.{operators, most_operators}
 use Rattle.tv_formula.specs.Properties.{Property, truth, compare, at, term, negated, all_of, some_of, next, fix, Properties, none, more}
 use Rattle.tv_linear.specs.declared.region.Region.{Region}
@@ -19,12 +18,14 @@ use Rattle.tv_cert.proofs.NodeLemmas.{out_is, pieces_are, kid_pieces_are}
 use Rattle.tv_shape.specs.Depths.{proof_splits}
 use Rattle.tv_shape.specs.Fitting.{KidsNarrow, KidsGoWithin}
 use Rattle.tv_shape.specs.Narrow.{PieceNarrow, ProofNarrow}
-use Rattle.tv_shape.proofs.MadeLemmas.{both_met, all_met, all_shaped, all_narrow, all_shallow}
+use Rattle.tv_shape.proofs.MadeLemmas.{all_met, all_shaped, all_narrow, all_shallow}
 use Rattle.tv_shape.specs.Made.{Offers}
 use Rattle.tv_pre.specs.Pieces.{AreMarked}
 use Rattle.tv_pre.specs.Parts.{IsPart, AreParts}
 use Rattle.tv_pre.specs.Around.{AreKids}
 use Rattle.tv_pre.specs.Making.{IsMade}
+use Rattle.tv_cert.proofs.FailingLemmas.{all_join}
+use Rattle.std.proofs.Math.Nat.{le-max_left, le-max_right}
 
 -- ---- children
 
@@ -44,12 +45,6 @@ kids_narrow about (more f fs) [] row h = absurd h
 kids_narrow about (more f fs) (r ∷ regions) end_of-Node h = absurd h
 kids_narrow about (more f fs) (r ∷ regions) (more_of-Node a row) h = (h.0.shows.narrow, kids_narrow about fs regions row h.1)
 
-left_most : (a b : ℕ) → a ≤ max a b
-left_most a b = omega arith
-
-right_most : (a b : ℕ) → b ≤ max a b
-right_most a b = omega arith
-
 kids_within : {k : _} (about : CaseSystem) (depth : ℕ) (fs : Properties) (regions : List Region) (row : Row_of-Node k) → depth + most_operators fs ≤ 256 → AreParts about fs regions (items-the_row-Node k row) → KidsGoWithin depth row
 kids_within about depth none [] end_of-Node d h = tt
 kids_within about depth none [] (more_of-Node a row) d h = absurd h
@@ -57,8 +52,8 @@ kids_within about depth none (r ∷ regions) row d h = absurd h
 kids_within about depth (more f fs) [] row d h = absurd h
 kids_within about depth (more f fs) (r ∷ regions) end_of-Node d h = absurd h
 kids_within about depth (more f fs) (r ∷ regions) (more_of-Node a row) d h =
-    let left = left_most (operators f) (most_operators fs) in
-    let right = right_most (operators f) (most_operators fs) in
+    let left = le-max_left (operators f) (most_operators fs) in
+    let right = le-max_right (operators f) (most_operators fs) in
     (h.0.shows.within depth (omega (arith, left, d)), kids_within about depth fs regions row (omega (arith, right, d)) h.1)
 
 kids_met : {k : _} (about : CaseSystem) (number : ℕ) (fs : Properties) (regions : List Region) (row : Row_of-Node k) → AreParts about fs regions (items-the_row-Node k row) → AllMet (kid_entries number (about_with about) fs row)
@@ -67,7 +62,7 @@ kids_met about number none [] (more_of-Node a row) h = absurd h
 kids_met about number none (r ∷ regions) row h = absurd h
 kids_met about number (more f fs) [] row h = absurd h
 kids_met about number (more f fs) (r ∷ regions) end_of-Node h = absurd h
-kids_met about number (more f fs) (r ∷ regions) (more_of-Node a row) h = both_met _ _ (h.0.shows.met number) (kids_met about (number + size a) fs regions row h.1)
+kids_met about number (more f fs) (r ∷ regions) (more_of-Node a row) h = all_join _ _ (h.0.shows.met number) (kids_met about (number + size a) fs regions row h.1)
 
 no_kids_within : {k : _} (about : CaseSystem) (depth : ℕ) (fs : Properties) (regions : List Region) (row : Row_of-Node k) → fs ≡ none → AreParts about fs regions (items-the_row-Node k row) → KidsGoWithin depth row
 no_kids_within about depth none [] end_of-Node e h = tt
@@ -119,7 +114,7 @@ part_made about f region (Node' ps m' shape row list) m pieces regions kids proo
       kids_at depth d,
     );
     met = λ number. subst AllMet (sym (entries_are number (about_with about) f ps m' shape row list))
-        (both_met _ _ (kids_met about (number + 1) (parts f) regions row row_parts) (subst AllMet (sym (own_are number)) (all_met (own_of number (about_with about) f pieces (map pieces_list kids)) proofs (offers number))));
+        (all_join _ _ (kids_met about (number + 1) (parts f) regions row row_parts) (subst AllMet (sym (own_are number)) (all_met (own_of number (about_with about) f pieces (map pieces_list kids)) proofs (offers number))));
   };
   pieces = subst (λ qs. AreMarked qs region.pieces.items) (sym pieces_same) made.are.same;
 }

@@ -25,7 +25,8 @@ use Rattle.tv_pre.specs.RankedAlong.{HasAll, AreGoing}
 use Rattle.tv_pre.specs.RankedUntil.{AreComing, AsksComing}
 use Rattle.tv_pre.proofs.AskedLemmas.{ends_asked, layers_asked}
 use Rattle.tv_pre.proofs.BuiltLemmas.{asked_to, built_to, all_built_to, first_built, rest_built, more_built, one_built, pieces_of, joined_of, hold_built, fault_to}
-use Rattle.tv_pre.proofs.SetLemmas.{hold_on, on_hold}
+use Rattle.tv_pre.proofs.SetLemmas.{hold_on}
+use Rattle.tv_pre.proofs.SideLemmas.{hold_in}
 
 module _ (about : CaseSystem) where
   -- ---- states with a step
@@ -39,7 +40,7 @@ module _ (about : CaseSystem) where
           (let step = b.right s p ((w.same s p).0 m).1 in (step.0, step.1)),
         );
         all = λ plain s p h. (w.same s p).1 (
-          subst (λ r. InState r s) (sym e) (on_hold sides.shape sides.first.now sides.second.now s h.0),
+          subst (λ r. InState r s) (sym e) (hold_in sides.shape sides.first.now sides.second.now s h.0),
           b.all (inl plain) s p (h.1.0, h.1.1, every.all h.1.0 (stays_state about cases s h.1.0 p h.1.1).location),
         );
       }

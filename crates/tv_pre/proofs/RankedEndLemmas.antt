@@ -1,6 +1,5 @@
 -- The node of a ranking as a part.
 use Rattle.std.proofs.Common.{◌≡◌, ℕ, suc, ◌+◌, ◌<◌, ◌≤◌, List, [], ◌∷◌, ◌++◌, length, map, get_or, take, All, Some, slice_get, Bool, true, false, cond, ◌==◌, arith, sym, ap, ◌∙◌, subst}
-use Rattle.std.proofs.lemmas.Bool.Decides.{nat_tests}
 use Rattle.std.proofs.Math.Seq.{take-suc}
 use Rattle.std.proofs.lemmas.List.Elements.{All-nil, All-cons, All-head, All-tail, All-push}
 use Rattle.tv_formula.specs.Properties.{term, none}
@@ -26,9 +25,10 @@ use Rattle.tv_pre.specs.Parts.{IsPart}
 use Rattle.tv_pre.specs.Pieces.{ArePieces, IsMarked, AreMarked}
 use Rattle.tv_pre.specs.Ranked.{EachOf}
 use Rattle.tv_pre.proofs.ComingLemmas.{everywhere_is}
-use Rattle.tv_pre.proofs.AddLemmas.{take_whole}
 use Rattle.tv_pre.proofs.OfferLemmas.{lists_marked}
 use Rattle.tv_pre.proofs.PieceLemmas.{marked_append}
+use Rattle.tv_linear.proofs.ListLaws.{take_past}
+use Rattle.tv_cases.proofs.Updated.{same_number}
 
 -- ---- the pieces of the node
 -- its pieces are at locations of the program
@@ -68,18 +68,12 @@ rest_kept : (b : Bool) (p : Marked) (ps : List Marked) → IsBareList (cond b (p
 rest_kept true p ps h = h.1
 rest_kept false p ps h = h
 
-same_place : (l : ℕ) → (l == l) ≡ true
-same_place l = grind (arith, nat_tests)
-
 each_bare : (m : ℕ) (ps : List Marked) → All (λ p. place_of p < m) ps → ((l : ℕ) → l < m → IsBareList (pieces_at ps l)) → All (λ p. rows_of p ≡ []) ps
 each_bare m [] places h = All-nil (λ p. rows_of p ≡ [])
 each_bare m (p ∷ ps) places h =
     let at = All-head (λ q. place_of q < m) p ps places in
-    All-cons (λ q. rows_of q ≡ []) p ps (first_kept (place_of p == place_of p) p (pieces_at ps (place_of p)) (same_place (place_of p)) (h (place_of p) at))
+    All-cons (λ q. rows_of q ≡ []) p ps (first_kept (place_of p == place_of p) p (pieces_at ps (place_of p)) (same_number (place_of p)) (h (place_of p) at))
     (each_bare m ps (All-tail (λ q. place_of q < m) p ps places) (λ l d. rest_kept (place_of p == l) p (pieces_at ps l) (h l d)))
-
-pub ranked_places : (about : CaseSystem) (node : Node) → IsRankedNode about node → All (λ p. place_of p < about.locations) (pieces_list node)
-ranked_places about node h = subst (All (λ p. place_of p < about.locations)) (pieces_are node) (shaped_places about node h.fits.shape)
 
 pub ranked_bare : (about : CaseSystem) (node : Node) → IsRankedNode about node → All (λ p. rows_of p ≡ []) (pieces_list node)
 ranked_bare about node h =
@@ -99,7 +93,7 @@ marked_none [] qs e = subst (AreMarked []) (sym e) tt
 marked_none (p ∷ ps) qs e = subst (AreMarked []) (sym e) tt
 
 pub marked_whole : (ps : List Marked) (i : ℕ) (qs : List Piece) → length ps ≤ i → AreMarked (take i ps) qs → AreMarked ps qs
-marked_whole ps i qs l h = subst (λ xs. AreMarked xs qs) (take_whole ps i l) h
+marked_whole ps i qs l h = subst (λ xs. AreMarked xs qs) (take_past ps i l) h
 
 pub over_more : (about : CaseSystem) (old new : List Piece) (q : Piece) → new ≡ old ++ q ∷ [] → q.location < about.locations → q.poly.columns ≡ about.variables → q.poly.rows.items ≡ [] → ArePieces about old → ArePieces about new
 over_more about old new q same place wide bare h =

@@ -1,5 +1,5 @@
 -- Steps over which the ranks of a program fall.
-use Rattle.std.proofs.Common.{◌≡◌, ℕ, zero, suc, ◌+◌, ◌<◌, get_or, ◌++◌, List, [], ◌∷◌, take, length, Some, Bool, true, false, if◌then◌else◌, slice_get, ◌==◌, arith, refl, sym, ap, ◌∙◌, subst, ℤ}
+use Rattle.std.proofs.Common.{◌≡◌, ℕ, ◌+◌, ◌<◌, get_or, ◌++◌, List, [], ◌∷◌, take, length, Some, Bool, true, false, if◌then◌else◌, slice_get, ◌==◌, arith, refl, sym, ap, ◌∙◌, subst, ℤ}
 use Rattle.std.specs.Prelude.{Contains}
 use Rattle.std.proofs.lemmas.List.{append-nil, length-map}
 use Rattle.std.proofs.lemmas.List.Elements.{filter-append}
@@ -9,11 +9,10 @@ use Rattle.tv_linear.specs.Refutation.{Refutes}
 use Rattle.tv_linear.specs.declared.cover.CoverTree.{CoverTree}
 use Rattle.tv_linear.specs.declared.cover.CoverTree as cover
 use Rattle.tv_linear.specs.declared.region.Piece.{Piece}
-use Rattle.tv_linear.proofs.ListLaws.{test_true, test_false}
+use Rattle.tv_linear.proofs.ListLaws.{test_true, test_false, take_more}
 use Rattle.tv_cases.specs.LinearCases.{LinearCase, CaseSystem, from_of, leaving}
 use Rattle.tv_cases.specs.declared.case.Case.{Case}
 use Rattle.tv_cases.specs.Views.{case_view, case_views}
-use Rattle.tv_cases.proofs.Listed.{Contains-here, Contains-later}
 use Rattle.tv_cert.specs.declared.node.Marked.{Marked}
 use Rattle.tv_cert.specs.Claims.{about_with}
 use Rattle.tv_cert.specs.Obligations.{step_fall, case_change}
@@ -27,7 +26,9 @@ use Rattle.tv_lexrank.specs.Shown.{RefutesWay, IsShownBy, IsShownIn, AreShown, r
 use Rattle.tv_lexrank.specs.Steps.{IsRefutation}
 use Rattle.tv_lexrank.proofs.OfferLemmas.{met_shape}
 use Rattle.tv_pre.specs.Lowering.{ShowsRankedStep}
-use Rattle.tv_pre.proofs.AddLemmas.{take_suc_some, zip_at, zip_length}
+use Rattle.tv_pre.proofs.AddLemmas.{zip_at, zip_length}
+use Rattle.tv_pre.proofs.CycleLemmas.{case_there}
+use Rattle.tv_cases.proofs.LeavingLemmas.{case_at}
 
 -- what shows a case shows it under the rows of a piece
 pub more_shown : (about : CaseSystem) (ranked : List Marked) (q : Piece) (c : LinearCase) (many : ℕ) (shown new : CaseShown) → many ≡ length (piece_rows q) → IsUnderMore 0 many shown new → IsShownIn about [] ranked c shown →
@@ -68,7 +69,7 @@ one_skipped c false e = refl
 one_skipped c true e = absurd (let no : ⊥ = cc in no)
 
 next_taken : (l : ℕ) (cs : List LinearCase) (k : ℕ) (c : LinearCase) → slice_get cs k ≡ Some c → leaving l (take (k + 1) cs) ≡ leaving l (take k cs) ++ leaving l (c ∷ [])
-next_taken l cs k c e = ap (leaving l) (take_suc_some cs k c e) ∙ filter-append (λ c. from_of c == l) (take k cs) (c ∷ [])
+next_taken l cs k c e = ap (leaving l) (take_more cs k c e) ∙ filter-append (λ c. from_of c == l) (take k cs) (c ∷ [])
 
 pub leaving_kept : (l : ℕ) (cs : List LinearCase) (k : ℕ) (c : LinearCase) → slice_get cs k ≡ Some c → c.from ≡ l → leaving l (take (k + 1) cs) ≡ leaving l (take k cs) ++ c ∷ []
 leaving_kept l cs k c e t = next_taken l cs k c e ∙ ap (λ xs. leaving l (take k cs) ++ xs) (one_kept c (from_of c == l) (test_true c.from l t))
@@ -77,21 +78,11 @@ pub leaving_skipped : (l : ℕ) (cs : List LinearCase) (k : ℕ) (c : LinearCase
 leaving_skipped l cs k c e t = next_taken l cs k c e ∙ (ap (λ xs. leaving l (take k cs) ++ xs) (one_skipped c (from_of c == l) (test_false c.from l t)) ∙ append-nil (leaving l (take k cs)))
 
 -- ---- the case with a number
-here : (list : List Case) (k : ℕ) (x : Case) → k < length list → x ≡ get_or list k x → slice_get (case_views list) k ≡ Some (case_view x)
-here [] k x l e = absurd (omega (arith, l))
-here (y ∷ list) zero x l e = ap (λ z. Some (case_view z)) (sym e)
-here (y ∷ list) (suc k) x l e = here list k x (omega (arith, l)) e
-
 pub got_case : (list : List Case) (cases : List LinearCase) (k : ℕ) (x : Case) → case_views list ≡ cases → k < length list → x ≡ get_or list k x → slice_get cases k ≡ Some (case_view x)
-got_case list cases k x same l e = subst (λ cs. slice_get cs k ≡ Some (case_view x)) same (here list k x l e)
-
-among_here : (list : List Case) (k : ℕ) (x : Case) → k < length list → x ≡ get_or list k x → Contains (case_views list) (case_view x)
-among_here [] k x l e = absurd (omega (arith, l))
-among_here (y ∷ list) zero x l e = subst (λ z. Contains (case_views (y ∷ list)) (case_view z)) (sym e) (Contains-here (case_view y) (case_views list))
-among_here (y ∷ list) (suc k) x l e = Contains-later (case_view y) (case_view x) (case_views list) (among_here list k x (omega (arith, l)) e)
+got_case list cases k x same l e = subst (λ cs. slice_get cs k ≡ Some (case_view x)) same (case_at list k x l e)
 
 pub case_within : (list : List Case) (cases : List LinearCase) (k : ℕ) (x : Case) → case_views list ≡ cases → k < length list → x ≡ get_or list k x → Contains cases (case_view x)
-case_within list cases k x same l e = subst (λ cs. Contains cs (case_view x)) same (among_here list k x l e)
+case_within list cases k x same l e = subst (λ cs. Contains cs (case_view x)) same (case_there list k x l e)
 
 pub many_cases : (list : List Case) (cases : List LinearCase) → case_views list ≡ cases → length list ≡ length cases
 many_cases list cases same = sym (length-map list case_view) ∙ ap length same

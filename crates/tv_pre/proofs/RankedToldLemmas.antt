@@ -27,7 +27,6 @@ use Rattle.tv_known.specs.Ranking.{HasLexicographicRanking}
 use Rattle.tv_known.specs.Rounds.{must_end}
 use Rattle.tv_known.specs.Subformulas.{subformulas, all_subformulas, IsUnsettled}
 use Rattle.tv_known.proofs.KnownHolds.{fix_known}
-use Rattle.tv_known.proofs.Ranked.{left_true, right_true}
 use Rattle.tv_region.specs.Regions.{lists_at}
 use Rattle.tv_region.specs.StepRegions.{HasNoDraws}
 use Rattle.tv_rounds.proofs.InsideLemmas.{out_of_targets}
@@ -39,7 +38,8 @@ use Rattle.tv_pre.specs.Proving.{IsProofLeft}
 use Rattle.tv_pre.specs.Told.{IsClaimOn, RankedUntilIsTold}
 use Rattle.tv_pre.specs.Unserved.{IsUnserved}
 use Rattle.tv_pre.proofs.DecidingLemmas.{states_of}
-use Rattle.tv_pre.proofs.ToldLemmas.{got_among}
+use Rattle.tv_formula.proofs.NormalLemmas.{left_true, right_true}
+use Rattle.tv_linear.proofs.ListLaws.{contains_at}
 
 -- ---- properties of one state
 module _ (about : CaseSystem) (last : ℕ) where
@@ -126,7 +126,7 @@ module _ (about : CaseSystem) (limits : AreCases about) (claim : Claim) (f : Pro
   ]
 
   open_place : (place : ℕ) → IsOpenAt about last (subformulas (fix Every is.shape is.left is.right)) place → ⊥
-  open_place place o = own_or_later o.part (got_among (subformulas (fix Every is.shape is.left is.right)) place o.part o.there) o.unserved o.unsettled
+  open_place place o = own_or_later o.part (contains_at (subformulas (fix Every is.shape is.left is.right)) place o.part o.there) o.unserved o.unsettled
 
   by_gap : (gap : Gap) → IsGapFor about last (aim_states claim.proved_aim) gap → ⊥
   by_gap Inexact h = h (inl plain)

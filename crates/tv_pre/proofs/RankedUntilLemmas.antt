@@ -1,5 +1,5 @@
 -- Nodes of fixed points with the ranks of another node.
-use Rattle.std.proofs.Common.{◌≡◌, ℕ, ◌<◌, List, [], ◌∷◌, ◌++◌, map, length, All, None, Some, slice_get, Bool, true, false, cond, if◌then◌else◌, ◌==◌, refl, sym, ap, ◌∙◌, subst}
+use Rattle.std.proofs.Common.{◌≡◌, ℕ, ◌<◌, List, [], ◌∷◌, ◌++◌, map, length, All, Some, slice_get, Bool, true, false, cond, if◌then◌else◌, ◌==◌, refl, sym, ap, ◌∙◌, subst}
 use Rattle.std.specs.List.{AllZip}
 use Rattle.std.proofs.lemmas.List.Elements.{All-nil, All-cons, All-head, All-tail}
 use Rattle.tv_linear.specs.Linear.{Linear, columns}
@@ -28,10 +28,6 @@ first_found (p ∷ ps) q e = ap ranks_of (got e)
   where
     got : Some p ≡ Some q → q ≡ p
     got e = cc
-
-pub none_found : (ps : List Marked) → slice_get ps 0 ≡ None → first_ranks ps ≡ []
-none_found [] e = refl
-none_found (p ∷ ps) e = absurd (let no : ⊥ = cc in no)
 
 -- ---- pieces with the ranks of a node
 pub ranked_marked : (n : ℕ) (ranked : List Marked) (qs : List Piece) → AreMarked (map (ranked_as n ranked) qs) qs

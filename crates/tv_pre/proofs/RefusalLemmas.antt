@@ -1,11 +1,10 @@
 -- Refusals of questions.
-use Rattle.std.proofs.Common.{◌≡◌, ℕ, zero, suc, ◌<◌, List, [], ◌∷◌, length, get_or, arith, refl, sym, subst}
-use Rattle.std.specs.Prelude.{Contains, Err}
+use Rattle.std.proofs.Common.{◌≡◌, zero, suc, List, [], ◌∷◌, arith, refl, sym, subst}
+use Rattle.std.specs.Prelude.{Contains}
 use Rattle.tv_linear.specs.Linear.{Linear}
 use Rattle.tv_linear.specs.declared.fault.RowFault.TheVariants as row
 use Rattle.tv_linear.specs.declared.region.Piece.{Piece}
 use Rattle.tv_linear.specs.declared.region.Region.{Region}
-use Rattle.tv_cases.specs.Before.{GivesBefore}
 use Rattle.tv_cases.specs.LinearCases.{LinearCase, CaseSystem}
 use Rattle.tv_farkas.specs.declared.budget.Budget.{Budget}
 use Rattle.tv_farkas.specs.declared.fault.CoverFault.{CoverFault}
@@ -31,7 +30,7 @@ refusal_weaker about budget asks more (Wide column) w h = refused_weaker about b
 refusal_weaker about budget asks more Memory w h = tt
 
 -- ---- rows that were not made
-one_list : (rows at : List Linear) → Contains (rows ∷ []) at → at ≡ rows
+pub one_list : (rows at : List Linear) → Contains (rows ∷ []) at → at ≡ rows
 one_list rows at (zero, l, e) = sym e
 one_list rows at (suc k, l, e) = absurd (omega (arith, l))
 
@@ -40,10 +39,6 @@ unmade_target c lists rows (Splits path) among h = absurd h
 unmade_target c lists rows (Solve kept f) among h = absurd h
 unmade_target c lists rows (Wide column) among h = record { rows = rows; target = among; at = h.at; among = subst (λ rs. Contains rs h.at) (one_list rows h.rows h.target) h.among; wide = h.wide }
 unmade_target c lists rows Memory among h = tt
-
--- the first row that was not made
-pub unmade_row : (c : LinearCase) (rows : List Linear) (i : ℕ) (r : Linear) (column : ℕ) → i < length rows → r ≡ get_or rows i r → GivesBefore r c (Err (row.Wide column)) → IsUnmade c (rows ∷ []) (Wide column)
-unmade_row c rows i r column l e h = record { rows = rows; target = (0, omega arith, refl); at = r; among = (i, l, sym e); wide = h }
 
 pub unmade_step : (about : CaseSystem) (budget : Budget) (q : Piece) (c : LinearCase) (into : List Piece) (fault : CoverFault) → IsUnmade c (lists_at c.to into) fault → IsRefusal about budget (λ a. a ≡ steps q c into) fault
 unmade_step about budget q c into (Splits path) h = absurd h

@@ -36,6 +36,7 @@ use Rattle.tv_pre.specs.Fixed.{AreOver}
 use Rattle.tv_pre.specs.Sized.{counts_at}
 use Rattle.tv_pre.proofs.BuiltLemmas.{built_to}
 use Rattle.tv_pre.proofs.SizedLemmas.{everywhere_few, first_whole, more_common, more_whole}
+use Rattle.tv_pre.proofs.SideLemmas.{hold_in}
 
 -- the region has only states of the first so many regions, has the states that all regions have, and is made of them
 pub record IsCommon (about : CaseSystem) (regions : List Region) (count : ℕ) (common : Region) : Type 0 where
@@ -66,12 +67,6 @@ hold_on Until a b s h = h
 hold_on Weak a b s h = h
 hold_on Release a b s h = h
 hold_on Strong a b s h = h
-
-pub on_hold : (shape : Shape) (a b : Region) (s : State) → HoldSide shape (InState a) (InState b) s → InState (hold_side shape a b) s
-on_hold Until a b s h = h
-on_hold Weak a b s h = h
-on_hold Release a b s h = h
-on_hold Strong a b s h = h
 
 one_to : (shape : Shape) (P Q : State → Type 0) (s : State) → two_ends shape ≡ false → Q s → EndSides shape P Q s
 one_to Until P Q s t h = h
@@ -234,7 +229,7 @@ module _ (about : CaseSystem) where
       let w = both_set about (InState hold) (InState stays) hold stays region (own_set about hold f) (own_set about stays b.over) is in record {
         over = w.fits;
         right = λ s p m. (hold_on sides.shape sides.first.now sides.second.now s (subst (λ r. InState r s) e ((w.same s p).0 m).0), b.right s p ((w.same s p).0 m).1);
-        all = λ tame s p h. (w.same s p).1 (subst (λ r. InState r s) (sym e) (on_hold sides.shape sides.first.now sides.second.now s h.0), b.all tame s p h.1);
+        all = λ tame s p h. (w.same s p).1 (subst (λ r. InState r s) (sym e) (hold_in sides.shape sides.first.now sides.second.now s h.0), b.all tame s p h.1);
       }
 
   -- ---- the end

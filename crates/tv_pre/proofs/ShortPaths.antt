@@ -1,6 +1,6 @@
 -- In a program without a cycle no path of cases is as long as there are locations.
-use Rattle.std.proofs.Common.{◌≡◌, ◌⊎◌, inl, inr, ℕ, zero, suc, ◌+◌, ◌<◌, ◌≤◌, List, [], ◌∷◌, length, refl, sym, ◌∙◌, subst, arith, Bool, true, false, ◌==◌}
-use Rattle.std.specs.Prelude.{All, Contains, ◌||◌}
+use Rattle.std.proofs.Common.{◌≡◌, ◌⊎◌, inl, inr, ℕ, zero, suc, ◌+◌, ◌<◌, ◌≤◌, List, [], ◌∷◌, length, sym, ◌∙◌, subst, arith, true, false, ◌==◌}
+use Rattle.std.specs.Prelude.{All, Contains}
 use Rattle.std.specs.List.{list_any, IsDistinct, AllByRecursion}
 use Rattle.std.proofs.lemmas.Bool.Decides.{nat_tests}
 use Rattle.std.proofs.lemmas.List.{get_or_default}
@@ -8,6 +8,7 @@ use Rattle.std.proofs.lemmas.List.Elements.{All-contains}
 use Rattle.std.proofs.lemmas.Map.Steps.{length-le_from_distinct_below}
 use Rattle.tv_cases.specs.LinearCases.{LinearCase, CaseSystem, IsCase}
 use Rattle.tv_known.specs.Cycles.{no_case, case_at, Leads, here, along, HasCycle}
+use Rattle.std.proofs.lemmas.Bool.{or_cases}
 
 -- no path of so many cases leaves the location
 abbrev pub IsShort : List LinearCase → ℕ → ℕ → Type 0
@@ -23,17 +24,6 @@ abbrev AreApart : List ℕ → Type 0
 AreApart [] = Unit {0}
 AreApart (v ∷ vs) = (IsAmong v vs → ⊥) × AreApart vs
 
-test_same : (m n : ℕ) (b : Bool) → (m == n) ≡ b → (m ≡ n) ⊎ (m ≡ n → ⊥)
-test_same m n true e = inl (grind (arith, nat_tests))
-test_same m n false e = inr (λ k. grind (arith, nat_tests))
-
-among_or_not : (l : ℕ) (vs : List ℕ) → IsAmong l vs ⊎ (IsAmong l vs → ⊥)
-among_or_not l [] = inr (λ h. h)
-among_or_not l (v ∷ vs) = elim (test_same l v (l == v) refl) [
-  | inl e ↦ inl (inl e)
-  | inr n ↦ elim (among_or_not l vs) [ inl h ↦ inl (inr h) | inr k ↦ inr (λ h. elim h [ inl e ↦ n e | inr m ↦ k m ]) ]
-]
-
 apart_tests : (v : ℕ) (vs : List ℕ) → (IsAmong v vs → ⊥) → AllByRecursion (λ y. (v == y) ≡ false) vs
 apart_tests v [] n = tt
 apart_tests v (w ∷ vs) n = (let k : v ≡ w → ⊥ = λ e. n (inl e) in grind (arith, nat_tests), apart_tests v vs (λ h. n (inr h)))
@@ -43,13 +33,9 @@ unfolding IsDistinct
 distinct [] h = tt
 distinct (v ∷ vs) h = (apart_tests v vs h.0, distinct vs h.1)
 
-either_true : (a b : Bool) → (a || b) ≡ true → (a ≡ true) ⊎ (b ≡ true)
-either_true true b e = inl refl
-either_true false b e = inr e
-
 is_among : (q : ℕ) (vs : List ℕ) → list_any (λ y. q == y) vs ≡ true → IsAmong q vs
 is_among q [] e = absurd cc
-is_among q (v ∷ vs) e = elim (either_true (q == v) (list_any (λ y. q == y) vs) e) [ inl t ↦ inl (let k : q ≡ v = grind (arith, nat_tests) in k) | inr t ↦ inr (is_among q vs t) ]
+is_among q (v ∷ vs) e = elim (or_cases (q == v) (list_any (λ y. q == y) vs) e) [ inl t ↦ inl (let k : q ≡ v = grind (arith, nat_tests) in k) | inr t ↦ inr (is_among q vs t) ]
 
 few_apart : (vs : List ℕ) (n : ℕ) → AreApart vs → ((q : ℕ) → IsAmong q vs → q < n) → length vs ≤ n
 few_apart vs n h below = length-le_from_distinct_below vs n (distinct vs h) (λ q e. below q (is_among q vs e))

@@ -18,19 +18,17 @@ use Rattle.tv_linear.proofs.SameLemmas.{all_same, shown_same}
 use Rattle.tv_farkas.specs.Trees.{TreeRows}
 use Rattle.tv_shape.specs.Narrow.{AreNarrow, CountNarrow, RowNarrow, CoverNarrow}
 use Rattle.tv_lexrank.specs.Falling.{AllHeld}
-use Rattle.tv_lexrank.proofs.FallLemmas.{all_back}
+use Rattle.tv_lexrank.proofs.FallLemmas.{held_push, shown_append}
 use Rattle.tv_pre.specs.Ranked.{last_line, IsFallingEntry, IsFallingCover}
 use Rattle.tv_pre.proofs.ChoiceLemmas.{at_same}
 use Rattle.tv_pre.proofs.FallLemmas.{IsAlways, WithFalls, FallsOwed}
-
-zero_times : (z : ℤ) → pos 0 *ℤ z ≡ pos 0
-zero_times z = omega (arith, ints)
+use Rattle.tv_cases.proofs.ProductLemmas.{zero_times}
+use Rattle.tv_lexrank.proofs.PadLemmas.{nothing}
+use Rattle.tv_choice.proofs.StopLemmas.{one_more}
+use Rattle.tv_linear.proofs.ListLaws.{all_unmapped}
 
 one_times : (z : ℤ) → pos 1 *ℤ z ≡ z
 one_times z = omega (arith, ints)
-
-nothing : IsHeld (pos 0)
-nothing = omega arith
 
 last_dot : (xs : List ℤ) (y : ℤ) → dot (zeros (length xs) ++ pos 1 ∷ []) (xs ++ y ∷ []) ≡ y
 last_dot [] y = omega (arith, ints)
@@ -95,12 +93,6 @@ always_refuted n ks f h a = record {
     no_number : (j : ℕ) → j < n → IsHeld (neg_ℤ (known_number f (Some j)))
     no_number j l = subst (λ z. IsHeld (neg_ℤ z)) (sym (a.inner j l)) nothing
 
-pub shown_append : (n : ℕ) (ks xs ys : List Known) (ms ns : List (List ℤ)) → Shown n ks xs ms → Shown n ks ys ns → Shown n ks (xs ++ ys) (ms ++ ns)
-shown_append n ks [] ys [] ns h g = g
-shown_append n ks [] ys (m ∷ ms) ns h g = absurd h
-shown_append n ks (x ∷ xs) ys [] ns h g = absurd h
-shown_append n ks (x ∷ xs) ys (m ∷ ms) ns h g = (h.0, shown_append n ks xs ys ms ns h.1 g)
-
 -- a target that goes on: two more lists
 pub falls_at : (n : ℕ) (ks : List Known) (a b : Option (List Known)) (lists : List (List ℤ)) → AllHeld n ks → WithFalls n a b → ShownAt n ks a lists → ShownAt n ks b (lists ++ (zeros (length ks) ++ pos 1 ∷ []) ∷ (zeros (length ks) ++ pos 1 ∷ []) ∷ [])
 falls_at n ks None b lists h w s = absurd s
@@ -110,10 +102,6 @@ falls_at n ks (Some rows) (Some owed) lists h w s =
     subst (λ os. Shown n ks os (lists ++ one ∷ one ∷ [])) (sym w.exact)
     (shown_append n ks w.same (w.first ∷ w.second ∷ []) lists (one ∷ one ∷ []) (shown_same n ks ks (all_same n ks) rows w.same w.are lists s)
     (always_refuted n ks w.first h w.first_always, (always_refuted n ks w.second h w.second_always, tt)))
-
-held_push : (n : ℕ) (ks : List Known) (k : Known) → AllHeld n ks → ((j : ℕ) → j < n → KnownHeld k (Some j)) → KnownHeld k None → AllHeld n (ks ++ k ∷ [])
-held_push n [] k h a b = (a, b, tt)
-held_push n (q ∷ ks) k h a b = (h.0, h.1, held_push n ks k h.2 a b)
 
 narrow_number : (r : Linear) (j : ℕ) → RowNarrow r → IsHeld (neg_ℤ (slice_index_or r.coefficients j (pos 0)))
 narrow_number r j h = by_place r.coefficients j h.coefficients
@@ -148,9 +136,6 @@ given_more n known r h = held_push n known (given r) h (λ j l. tt) tt
 
 pub denied_more : (n : ℕ) (known : List Known) (r : Linear) → RowNarrow r → AllHeld n known → AllHeld n (known ++ denied (given r) ∷ [])
 denied_more n known r w h = held_push n known (denied (given r)) h (λ j l. (tt, narrow_number r j w)) (tt, (let c = w.constant in omega (arith, ints, c)))
-
-pub one_more : (known : List Known) (x : Known) (count : ℕ) → length known ≡ count → length (known ++ x ∷ []) ≡ count + 1
-one_more known x count e = length-append known (x ∷ []) ∙ ap (λ m. m + 1) e
 
 pub cover_falls : (n first count : ℕ) (owed wanted : ℕ → ℕ → Option (List Known)) → FallsOwed n first owed wanted → (known : List Known) (old new : CoverTree) → length known ≡ count → AllHeld n known → CoverNarrow old → IsFallingCover first count old new → IsMetCover n owed known old → IsMetCover n wanted known new
 cover_falls n first count owed wanted f known (cover.Split' r p a q b) (cover.Split' s t x u y) e held w h m = (
@@ -225,4 +210,4 @@ falling_narrow first count (cover.Into k j ls) (cover.Split' s t x u y) h w = ab
 falling_narrow first count (cover.Into k j ls) (cover.Empty ms) h w = absurd h
 falling_narrow first count (cover.Into k j ls) (cover.Into o i ns) h w =
     let e = entry_narrow first count k j o i (map (λ l. l.items) ls.items) (map (λ l. l.items) ns.items) h w.0 w.1 (all_mapped AreNarrow (λ l. l.items) ls.items w.2) in
-    (e.0, e.1, all_back AreNarrow (λ l. l.items) ns.items e.2)
+    (e.0, e.1, all_unmapped AreNarrow (λ l. l.items) ns.items e.2)

@@ -1,26 +1,21 @@
 -- The sides of fixed points.
-use Rattle.std.proofs.Common.{◌≡◌, ℕ, List, [], ◌∷◌, ◌++◌, map, Bool, true, false, refl, ap}
+use Rattle.std.proofs.Common.{◌≡◌, ℕ, List, [], ◌∷◌, true, false, refl}
 use Rattle.std.specs.Prelude.{Contains}
-use Rattle.std.specs.List.{flat_map}
 use Rattle.tv_program.specs.Steps.{State}
-use Rattle.tv_linear.specs.Linear.{Linear}
-use Rattle.tv_linear.specs.declared.region.Piece.{Piece}
 use Rattle.tv_linear.specs.declared.region.Region.{Region}
 use Rattle.tv_cases.specs.LinearCases.{CaseSystem}
 use Rattle.tv_cases.proofs.Listed.{Contains-here, Contains-later}
 use Rattle.tv_cert.specs.declared.node.Kind.TheVariants as kind
-use Rattle.tv_cert.specs.declared.node.Mark.{Mark}
 use Rattle.tv_cert.specs.declared.node.Marked.{Marked}
 use Rattle.tv_cert.specs.Claims.{about_with}
-use Rattle.tv_cert.specs.Obligations.{Obligation, cover_of, fix_of, end_sides, hold_side}
-use Rattle.tv_cert.specs.Pieces.{goes, is_go}
+use Rattle.tv_cert.specs.Obligations.{cover_of, fix_of, end_sides, hold_side}
 use Rattle.tv_formula.specs.declared.tree.Path.{Path}
 use Rattle.tv_formula.specs.declared.tree.Path.TheVariants.{Every, Any}
 use Rattle.tv_formula.specs.declared.tree.Shape.{Shape}
 use Rattle.tv_formula.specs.declared.tree.Shape.TheVariants.{Until, Weak, Release, Strong}
 use Rattle.tv_known.specs.Rounds.{EndSides, HoldSide, must_end}
 use Rattle.tv_region.specs.StepRegions.{InState}
-use Rattle.tv_pre.specs.Pieces.{AreMarked, marked_as}
+use Rattle.tv_pre.specs.Pieces.{AreMarked}
 use Rattle.tv_pre.specs.Around.{two_ends, stay_of}
 
 pub ends_second : {S : Type 0} (shape : Shape) (f g : S → Type 0) (s : S) → EndSides shape f g s → g s
@@ -86,7 +81,3 @@ stay_is about number Every Weak all first second p e = refl
 stay_is about number Any Weak all first second p e = refl
 stay_is about number Every Release all first second p e = refl
 stay_is about number Any Release all first second p e = refl
-
-pub flat_marked : (F : Bool → Marked → List Obligation) (n : ℕ) (mark : Mark) (ranks : List Linear) (qs : List Piece) → flat_map (λ p. F (goes p) p) (map (marked_as n mark ranks) qs) ≡ flat_map (F (is_go mark)) (map (marked_as n mark ranks) qs)
-flat_marked F n mark ranks [] = refl
-flat_marked F n mark ranks (q ∷ qs) = ap (λ os. F (is_go mark) (marked_as n mark ranks q) ++ os) (flat_marked F n mark ranks qs)

@@ -23,8 +23,7 @@ use Rattle.tv_cert.specs.Obligations.{hold_side}
 use Rattle.tv_known.specs.Cycles.{HasCycle, IsLastRound}
 use Rattle.tv_known.specs.Rounds.{must_end}
 use Rattle.tv_known.specs.Sizes.{product, some_count, all_count, stop_count, next_count, staying_count, growing_count, shrinking_count, round_count, fix_count, comparison_count, term_count, count, size_bound}
-use Rattle.tv_known.proofs.Numbers.{same_number}
-use Rattle.tv_known.proofs.SizeLemmas.{up_to_greatest, bounds_counts}
+use Rattle.tv_known.proofs.SizeLemmas.{up_to_greatest, bounds_counts, trans, times_one}
 use Rattle.tv_region.specs.Regions.{lists_at, count_at}
 use Rattle.tv_region.specs.Algebra.{IsBoth, IsEither}
 use Rattle.tv_region.specs.StepRegions.{HasNoDraws, IsBefore, IsBeforeAll}
@@ -33,7 +32,7 @@ use Rattle.tv_rounds.specs.Sides.{OnWay, AtEnd, IsSettledBy}
 use Rattle.tv_rounds.specs.Calls.{IsNowhere}
 use Rattle.tv_rounds.specs.Counts.{AreCounts, added_bound}
 use Rattle.tv_rounds.specs.Answers.{IsRound, AreLayers, AreOpen}
-use Rattle.tv_rounds.proofs.CountLemmas.{times, all_one, back_few}
+use Rattle.tv_rounds.proofs.CountLemmas.{all_one, back_few}
 use Rattle.tv_pre.specs.declared.sides.Sides.{Sides}
 use Rattle.tv_pre.specs.Along.{IsOfSides}
 use Rattle.tv_pre.specs.Around.{two_ends}
@@ -44,22 +43,16 @@ use Rattle.tv_pre.specs.Sized.{counts_at, hold_count, end_count, AreCounted, IsF
 use Rattle.tv_pre.proofs.TargetLemmas.{lists_at-append}
 use Rattle.tv_pre.proofs.ShortPaths.{IsShort, no_long_path}
 use Rattle.tv_pre.proofs.SettledRounds.{short_settles}
+use Rattle.std.proofs.lemmas.Bool.{cases_eq}
+use Rattle.std.proofs.lemmas.Nat.{mul-le}
+use Rattle.std.proofs.Math.Nat.{le_refl}
 
 -- ---- numbers
-pub trans : (a b c : ℕ) → a ≤ b → b ≤ c → a ≤ c
-trans a b c h k = omega (arith, h, k)
-
-pub itself : (n : ℕ) → n ≤ n
-itself n = omega arith
-
 pub none_less : (n : ℕ) → 0 ≤ n
 none_less n = omega arith
 
-plus : (a b c d : ℕ) → a ≤ c → b ≤ d → a + b ≤ c + d
+pub plus : (a b c d : ℕ) → a ≤ c → b ≤ d → a + b ≤ c + d
 plus a b c d h k = omega (arith, h, k)
-
-times_one : (a b : ℕ) → 1 ≤ b → a ≤ a * b
-times_one a b l = grind arith
 
 pub product_last : (ns : List ℕ) (n : ℕ) → product (ns ++ n ∷ []) ≡ product ns * n
 product_last [] n = grind arith
@@ -78,12 +71,12 @@ more_summed n ns a b h k = (let e = sum-cons n ns in omega (arith, e, h, k))
 -- of the cases from a location
 product_up : (g h : LinearCase → ℕ) → ((c : LinearCase) → g c ≤ h c) → (cs : List LinearCase) → product (map g cs) ≤ product (map h cs)
 product_up g h w [] = omega arith
-product_up g h w (c ∷ cs) = times (g c) (product (map g cs)) (h c) (product (map h cs)) (w c) (product_up g h w cs)
+product_up g h w (c ∷ cs) = mul-le (g c) (product (map g cs)) (h c) (product (map h cs)) (w c) (product_up g h w cs)
 
 pub all_of_none : (cases : List LinearCase) (l : ℕ) → all_count cases (λ k. 0) l ≤ stop_count cases l
 all_of_none cases l =
     product_up (λ c. max 1 (length c.guards + 0)) (λ c. max 1 (length c.guards))
-    (λ c. (let e : length c.guards + 0 ≡ length c.guards = omega arith in subst (λ n. max 1 n ≤ max 1 (length c.guards)) (sym e) (itself (max 1 (length c.guards))))) (leaving l cases)
+    (λ c. (let e : length c.guards + 0 ≡ length c.guards = omega arith in subst (λ n. max 1 n ≤ max 1 (length c.guards)) (sym e) (le_refl (max 1 (length c.guards))))) (leaving l cases)
 
 pub term_one : (cases : List LinearCase) (m l : ℕ) → 1 ≤ term_count cases m l
 term_one cases m l =
@@ -109,14 +102,14 @@ more_common regions i common r new n e b l h =
     let so_far = counts_at l (take i regions) in
     subst (λ ns. count_at l new ≤ product ns) (sym (counts_more l regions i r n e))
     (subst (λ k. count_at l new ≤ k) (sym (product_last so_far (count_at l r)))
-    (trans (count_at l new) (count_at l common * count_at l r) (product so_far * count_at l r) (b.few l) (times (count_at l common) (count_at l r) (product so_far) (count_at l r) h (itself (count_at l r)))))
+    (trans (count_at l new) (count_at l common * count_at l r) (product so_far * count_at l r) (b.few l) (mul-le (count_at l common) (count_at l r) (product so_far) (count_at l r) h (le_refl (count_at l r)))))
 
 pub more_whole : (regions : List Region) (i : ℕ) (whole r new : Region) → i < length regions → r ≡ get_or regions i r → IsEither whole r new → (l : ℕ) → count_at l whole ≤ sum (counts_at l (take i regions)) → count_at l new ≤ sum (counts_at l (take (i + 1) regions))
 more_whole regions i whole r new n e b l h =
     let so_far = counts_at l (take i regions) in
     subst (λ ns. count_at l new ≤ sum ns) (sym (counts_more l regions i r n e))
     (subst (λ k. count_at l new ≤ k) (sym (sum_last so_far (count_at l r)))
-    (trans (count_at l new) (count_at l whole + count_at l r) (sum so_far + count_at l r) (b.few l) (plus (count_at l whole) (count_at l r) (sum so_far) (count_at l r) h (itself (count_at l r)))))
+    (trans (count_at l new) (count_at l whole + count_at l r) (sum so_far + count_at l r) (b.few l) (plus (count_at l whole) (count_at l r) (sum so_far) (count_at l r) h (le_refl (count_at l r)))))
 
 pub first_whole : (about : CaseSystem) (whole : Region) → IsNowhere about whole → (l : ℕ) → count_at l whole ≤ sum []
 first_whole about whole n l = trans (count_at l whole) 0 (sum []) (nowhere_few about whole n l) (none_less (sum []))
@@ -125,7 +118,7 @@ joined_count : (l : ℕ) (r : Region) (rs : List Region) → length (lists_at l 
 joined_count l r rs = ap length (lists_at-append l r.pieces.items (joined_pieces rs)) ∙ length-append (lists_at l r.pieces.items) (lists_at l (joined_pieces rs))
 
 pub none_joined : (rest : List Region) → rest ≡ [] → (l : ℕ) → length (lists_at l (joined_pieces rest)) ≤ 0
-none_joined rest e l = subst (λ rs. length (lists_at l (joined_pieces rs)) ≤ 0) (sym e) (itself 0)
+none_joined rest e l = subst (λ rs. length (lists_at l (joined_pieces rs)) ≤ 0) (sym e) (le_refl 0)
 
 pub nowhere_joined : (about : CaseSystem) (none : Region) → IsNowhere about none → (l : ℕ) → length (lists_at l (joined_pieces (none ∷ []))) ≤ 0
 nowhere_joined about none n l = (let q = joined_count l none [] in let z = nowhere_few about none n l in omega (arith, q, z))
@@ -134,12 +127,12 @@ nowhere_joined about none n l = (let q = joined_count l none [] in let z = nowhe
 pub comparison_few : (n : ℕ) (r : Relation) (a b : Expression) → length (comparison_lists n r a b) ≤ comparison_count r
 comparison_few n r a b = by_width (has_rows n r a b) where
   whole : (q : Relation) (x y : Linear) → length (compared q x y) ≤ comparison_count q
-  whole Less x y = itself 1
-  whole LessEqual x y = itself 1
-  whole Greater x y = itself 1
-  whole GreaterEqual x y = itself 1
-  whole Equal x y = itself 1
-  whole NotEqual x y = itself 2
+  whole Less x y = le_refl 1
+  whole LessEqual x y = le_refl 1
+  whole Greater x y = le_refl 1
+  whole GreaterEqual x y = le_refl 1
+  whole Equal x y = le_refl 1
+  whole NotEqual x y = le_refl 2
 
   by_width : (w : Bool) → length (cond w (lists_of n n (columns_from n 0 n) true (compare r a b)) []) ≤ comparison_count r
   by_width true = whole r (form n n (columns_from n 0 n) a) (form n n (columns_from n 0 n) b)
@@ -185,12 +178,12 @@ module _ (sides : Sides) (f g : ℕ → ℕ) (h : AreCounted sides f g) where
 pub onward_few : (about : CaseSystem) (sides : Sides) (into stays hold region : Region) → hold ≡ hold_side sides.shape sides.first.now sides.second.now → IsFewStaying about sides.path into stays → IsBoth hold stays region → IsFewOnward about sides into region
 onward_few about sides into stays hold region e few is plain f g b h w l =
     trans (count_at l region) (count_at l hold * count_at l stays) (hold_count sides.shape f g l * staying_count about.cases sides.path b l) (is.few l)
-    (times (count_at l hold) (count_at l stays) (hold_count sides.shape f g l) (staying_count about.cases sides.path b l) (side_few sides f g h hold e l) (few plain b w l))
+    (mul-le (count_at l hold) (count_at l stays) (hold_count sides.shape f g l) (staying_count about.cases sides.path b l) (side_few sides f g h hold e l) (few plain b w l))
 
 pub going_few : (about : CaseSystem) (sides : Sides) (all goes hold region : Region) → IsEverywhere about all → hold ≡ hold_side sides.shape sides.first.now sides.second.now → IsFewBefore about Any all goes → IsBoth hold goes region → IsFewGoing about sides region
 going_few about sides all goes hold region a e few is plain f g h l =
     trans (count_at l region) (count_at l hold * count_at l goes) (hold_count sides.shape f g l * some_count about.cases (λ k. 1) l) (is.few l)
-    (times (count_at l hold) (count_at l goes) (hold_count sides.shape f g l) (some_count about.cases (λ k. 1) l) (side_few sides f g h hold e l) (few plain (λ k. 1) (everywhere_few about all a) l))
+    (mul-le (count_at l hold) (count_at l goes) (hold_count sides.shape f g l) (some_count about.cases (λ k. 1) l) (side_few sides f g h hold e l) (few plain (λ k. 1) (everywhere_few about all a) l))
 
 -- ---- the end
 pub one_end_of : (shape : Shape) (f g : ℕ → ℕ) (l : ℕ) → two_ends shape ≡ false → end_count shape f g l ≡ g l
@@ -213,7 +206,7 @@ one_end_few about sides none end n t is f g h l =
 pub two_ends_few : (sides : Sides) (end : Region) → two_ends sides.shape ≡ true → IsBoth sides.first.now sides.second.now end → IsFewEnd sides end
 two_ends_few sides end t is f g h l =
     subst (λ k. count_at l end ≤ k) (sym (two_ends_of sides.shape f g l t))
-    (trans (count_at l end) (count_at l sides.first.now * count_at l sides.second.now) (f l * g l) (is.few l) (times (count_at l sides.first.now) (count_at l sides.second.now) (f l) (g l) (h.first l) (h.second l)))
+    (trans (count_at l end) (count_at l sides.first.now * count_at l sides.second.now) (f l * g l) (is.few l) (mul-le (count_at l sides.first.now) (count_at l sides.second.now) (f l) (g l) (h.first l) (h.second l)))
 
 -- ---- rounds
 growing_round : (shape : Shape) → must_end shape ≡ true → (cases : List LinearCase) (path : Path) (f g : ℕ → ℕ) (k l : ℕ) → growing_count cases path (hold_count shape f g) (end_count shape f g) k l ≡ round_count cases path shape f g k l
@@ -229,8 +222,8 @@ shrinking_round Weak e cases path f g k l = refl
 shrinking_round Release e cases path f g k l = refl
 
 pub first_round : (shape : Shape) (cases : List LinearCase) (path : Path) (f g : ℕ → ℕ) (l : ℕ) → end_count shape f g l ≤ round_count cases path shape f g 0 l
-first_round Until cases path f g l = itself (g l)
-first_round Strong cases path f g l = itself (f l * g l)
+first_round Until cases path f g l = le_refl (g l)
+first_round Strong cases path f g l = le_refl (f l * g l)
 first_round Weak cases path f g l = later (f l) (g l) where
   later : (a b : ℕ) → b ≤ a + b
   later a b = omega arith
@@ -310,7 +303,7 @@ module _ (about : CaseSystem) (sides : Sides) (end region : Region) (few : IsFew
       let some = some_count about.cases (λ k. 1) l in
       let all = all_count about.cases ends l in
       let first = few f g h l in
-      let second = trans (count_at l onward) (hold l * some) (hold l * (some * all)) (going plain f g h l) (times (hold l) some (hold l) (some * all) (itself (hold l)) (times_one some all (all_one about.cases ends l))) in
+      let second = trans (count_at l onward) (hold l * some) (hold l * (some * all)) (going plain f g h l) (mul-le (hold l) some (hold l) (some * all) (le_refl (hold l)) (times_one some all (all_one about.cases ends l))) in
       let q = joined_count l end (onward ∷ []) in
       let r = joined_count l onward [] in
       let sum : length (lists_at l (joined_pieces (end ∷ onward ∷ []))) ≤ ends l + hold l * (some * all) = omega (arith, q, r, first, second) in
@@ -342,7 +335,7 @@ module _ (about : CaseSystem) (cases : All (IsCase about.variables about.locatio
   one_later n m k s (inl a) (inl b) early grows fix opens = (let x = a.1 in let y = b.1 in omega (arith, early, x, y))
   one_later n m k s (inl a) (inr b) early grows fix opens = absurd (b.0 a.0)
   one_later n m k s (inr a) (inl b) early grows fix opens = absurd (a.0 b.0)
-  one_later n m k s (inr a) (inr b) early grows fix opens = elim (same_number k about.locations) [
+  one_later n m k s (inr a) (inr b) early grows fix opens = elim (cases_eq k about.locations) [
     | inl e ↦ absurd (last_open a.0 k about.locations refl s e grows fix opens)
     | inr o ↦ (let x = a.1 in let y = b.1 in omega (arith, early, x, y, o))
   ]

@@ -1,5 +1,5 @@
 -- Certificates from nodes and from what is known of the start.
-use Rattle.std.proofs.Common.{◌≡◌, ◌⊎◌, inl, inr, ℕ, zero, suc, ◌+◌, ◌<◌, ◌≤◌, List, [], ◌∷◌, map, take, length, length-append, get_or, All, Option, None, Some, slice_get, Bool, true, false, cond, ◌==◌, arith, refl, sym, ap, ◌∙◌, subst, ℤ, pos}
+use Rattle.std.proofs.Common.{◌≡◌, ◌⊎◌, inl, inr, ℕ, zero, suc, ◌+◌, ◌<◌, ◌≤◌, List, [], ◌∷◌, map, take, length, length-append, get_or, All, Option, None, Some, slice_get, Bool, true, false, cond, ◌==◌, arith, refl, sym, ap, ◌∙◌, subst, ℤ}
 use Rattle.std.specs.Option.{option_map}
 use Rattle.std.proofs.lemmas.Bool.Decides.{nat_tests}
 use Rattle.std.specs.Prelude.{Contains}
@@ -8,7 +8,7 @@ use Rattle.std.proofs.lemmas.List.Elements.{Contains-append_cases}
 use Rattle.tv_formula.specs.Formulas.{property_of}
 use Rattle.tv_formula.specs.Limits.{operators, IsFormula}
 use Rattle.tv_formula.specs.Properties.{Property}
-use Rattle.tv_linear.specs.Linear.{Linear, columns, IsMet, IsWithin}
+use Rattle.tv_linear.specs.Linear.{Linear, IsMet}
 use Rattle.tv_linear.specs.Known.{given, as_given}
 use Rattle.tv_linear.specs.Covers.{IsMetCover}
 use Rattle.tv_linear.specs.declared.cover.CoverTree.{CoverTree}
@@ -17,9 +17,6 @@ use Rattle.tv_linear.specs.declared.region.Piece.{Piece}
 use Rattle.tv_linear.specs.declared.region.Region.{Region}
 use Rattle.tv_linear.proofs.ListLaws.{test_true}
 use Rattle.tv_farkas.specs.Paths.{IsWholePoint}
-use Rattle.tv_farkas.specs.Refuting.{AreShort}
-use Rattle.tv_farkas.specs.Trees.{TreeRows}
-use Rattle.tv_farkas.proofs.SystemLemmas.{all_of}
 use Rattle.tv_cases.specs.LinearCases.{CaseSystem}
 use Rattle.tv_cert.specs.declared.claim.Claim.{Claim}
 use Rattle.tv_cert.specs.declared.node.Kind.TheVariants as kind
@@ -28,15 +25,11 @@ use Rattle.tv_cert.specs.declared.node.Marked.{Marked}
 use Rattle.tv_cert.specs.declared.node.Node.{Node}
 use Rattle.tv_cert.specs.declared.node.Verdict.{Verdict}
 use Rattle.tv_cert.specs.declared.node.Verdict.TheVariants.{Proved, Disproved}
-use Rattle.tv_cert.specs.Claims.{about_with, shown}
-use Rattle.tv_cert.specs.Nodes.{pieces_of, obligations}
-use Rattle.tv_cert.specs.Obligations.{AllMet}
+use Rattle.tv_cert.specs.Claims.{shown}
+use Rattle.tv_cert.specs.Nodes.{pieces_of}
 use Rattle.tv_cert.specs.Pieces.{rows_of, pieces_at}
-use Rattle.tv_cert.specs.Shapes.{CoverShape}
 use Rattle.tv_cert.specs.Targets.{owed_into, no_fall}
-use Rattle.tv_shape.specs.Certificates.{IsOf, IsSettling}
-use Rattle.tv_shape.specs.declared.certificate.Certificate.{Certificate}
-use Rattle.tv_shape.specs.Made.{IsFitted, IsOffered}
+use Rattle.tv_shape.specs.Made.{IsOffered}
 use Rattle.tv_cover.specs.declared.covered.Covered.{Covered}
 use Rattle.tv_cover.specs.declared.covered.Covered.TheVariants.{Tree, Hole}
 use Rattle.tv_cover.specs.Covering.{IsHole}
@@ -44,8 +37,7 @@ use Rattle.tv_cover.specs.Targets.{IsInTarget}
 use Rattle.tv_region.specs.Regions.{lists_at}
 use Rattle.tv_region.proofs.RegionLemmas.{lists_at-here, lists_at-there}
 use Rattle.tv_choice.specs.Leading.{piece_rows}
-use Rattle.tv_lexrank.specs.Certified.{IsRoot, IsProofOf, SaysProved}
-use Rattle.tv_points.specs.Nodes.{IsDisproof, SaysDisproved}
+use Rattle.tv_lexrank.specs.Certified.{IsRoot, SaysProved}
 use Rattle.tv_points.specs.Nodes as points
 use Rattle.tv_pre.specs.Pieces.{AreMarked, marked_as}
 use Rattle.tv_pre.specs.Offers.{ShowsInside}
@@ -53,13 +45,10 @@ use Rattle.tv_pre.specs.Parts.{IsPart}
 use Rattle.tv_pre.specs.Starting.{IsStart, IsInside, HasNoStart, CoversOrLeaves, StartAnswer}
 use Rattle.tv_pre.specs.declared.starting.Inside.{Inside}
 use Rattle.tv_pre.proofs.OfferLemmas.{lists_marked, got_mapped}
+use Rattle.tv_pre.proofs.FallingLemmas.{shape_even}
+use Rattle.tv_pre.proofs.RefusalLemmas.{one_list}
 
 -- ---- the root of a proof
-shape_even : (n : ℕ) (counts : ℕ → ℕ → Option ℕ) (known : ℕ) (tree : CoverTree) → CoverShape n counts known tree → TreeRows (λ r. columns r ≡ n) tree
-shape_even n counts known (cover.Split' r p a q b) h = (h.0, shape_even n counts (known + 1) a h.1, shape_even n counts (known + 1) b h.2)
-shape_even n counts known (cover.Empty ms) h = tt
-shape_even n counts known (cover.Into k j ls) h = tt
-
 start_met : (about : CaseSystem) (ps : List Marked) (q : Piece) (tree : CoverTree) → IsStart about q → IsMetCover about.variables (owed_into ps q.location given no_fall) (as_given (piece_rows q)) tree → IsMetCover about.variables (owed_into ps about.start given no_fall) [] tree
 start_met about ps q tree start h =
     subst (λ l. IsMetCover about.variables (owed_into ps l given no_fall) [] tree) start.place
@@ -79,14 +68,6 @@ root_of about f region node q tree part few start shows =
     }
 
 -- ---- the root of a disproof
-pub fitted_of : (about : CaseSystem) (f : Property) (region : Region) (node : Node) → IsPart about f region node → operators f ≤ 200 → IsFitted (about_with about) f 1 node
-fitted_of about f region node part few = record {
-  shape = part.shows.shape;
-  narrow = part.shows.narrow;
-  within = part.shows.within 1 (omega (arith, few));
-  met = part.shows.met;
-}
-
 some_mapped : {A B : Type 0} (f : A → B) (x : Option A) (y : B) → option_map f x ≡ Some y → (a : A) × (x ≡ Some a) × (f a ≡ y)
 some_mapped f None y e = absurd (let no : ⊥ = cc in no)
 some_mapped f (Some a) y e = (a, refl, (let same : f a ≡ y = cc in same))
@@ -103,33 +84,10 @@ inside_of about pieces ps found ms h =
       met = subst (λ rows. All (IsMet found.values.items) rows) (sym m.2) h.point.met;
     }
 
-pub short_within : (zs : List ℤ) → AreShort zs → All (IsWithin 62) zs
-short_within zs h = all_of (IsWithin 62) zs (pos 0) h
-
 -- ---- what a certificate settles
 shown_proved : (claim : Claim) (verdict : Verdict) → SaysProved verdict → shown claim verdict ≡ property_of claim.proved
 shown_proved claim (Proved start) says = refl
 shown_proved claim (Disproved k values) says = absurd says
-
-shown_denied : (claim : Claim) (values : List ℤ) (verdict : Verdict) → SaysDisproved values verdict → shown claim verdict ≡ property_of claim.denied
-shown_denied claim values (Proved start) says = absurd says
-shown_denied claim values (Disproved k xs) says = refl
-
-pub proof_settles : (about : CaseSystem) (claim : Claim) (c : Certificate) → IsProofOf about (property_of claim.proved) c → IsSettling about claim c
-proof_settles about claim c h =
-    let same : property_of claim.proved ≡ shown claim c.verdict = sym (shown_proved claim c.verdict h.proved) in
-    record {
-      of = subst (λ g. IsOf (about_with about) g c) same h.of;
-      met = subst (λ g. AllMet (obligations (about_with about) g c.root c.verdict)) same h.met;
-    }
-
-pub disproof_settles : (about : CaseSystem) (claim : Claim) (values : List ℤ) (c : Certificate) → IsDisproof about (property_of claim.denied) values c → IsSettling about claim c
-disproof_settles about claim values c h =
-    let same : property_of claim.denied ≡ shown claim c.verdict = sym (shown_denied claim values c.verdict h.said) in
-    record {
-      of = subst (λ g. IsOf (about_with about) g c) same h.of;
-      met = subst (λ g. AllMet (obligations (about_with about) g c.root c.verdict)) same h.met;
-    }
 
 -- the limits of a formula leave room for its operators
 pub few_operators : (n m : ℕ) (f : Property) → IsFormula n m f → operators f ≤ 200
@@ -153,10 +111,6 @@ place_there k (q ∷ qs) zero p l e h =
 place_there k (q ∷ qs) (suc i) p l e h =
     later_there (q.location == k) (piece_rows q) (piece_rows p) (lists_at k qs) (lists_at k (take i qs)) (place_there k qs i p (omega (arith, l)) e h)
 
-only_one : (rows at : List Linear) → Contains (rows ∷ []) at → at ≡ rows
-only_one rows at (zero, l, e) = sym e
-only_one rows at (suc k, l, e) = absurd (let no : ⊥ = omega (arith, l) in no)
-
 none_in : (rows : List Linear) → Contains {X = List Linear} [] rows → ⊥
 none_in rows (k, l, e) = let no : ⊥ = omega (arith, l) in no
 
@@ -168,7 +122,7 @@ none_here about pieces i p l e h none empty rows among xs point =
     by_case : Contains (lists_at about.start (take i pieces)) rows ⊎ Contains (piece_rows p ∷ []) rows → ⊥
     by_case (inl a) = none rows a xs point
     by_case (inr a) =
-        let t = empty xs (subst (λ rs. IsWholePoint about.variables rs xs) (only_one (piece_rows p) rows a) point) in
+        let t = empty xs (subst (λ rs. IsWholePoint about.variables rs xs) (one_list (piece_rows p) rows a) point) in
         none_in t.rows t.target
 
 pub none_there : (about : CaseSystem) (pieces : List Piece) (i : ℕ) (p : Piece) → i < length pieces → p ≡ get_or pieces i p → (p.location ≡ about.start → ⊥) → HasNoStart about (take i pieces) → HasNoStart about (take (i + 1) pieces)

@@ -15,12 +15,12 @@ use Rattle.tv_linear.specs.declared.region.Piece.{Piece}
 use Rattle.tv_linear.specs.Same.{AreSame, OwedSame}
 use Rattle.tv_linear.proofs.SameLemmas.{cover_same}
 use Rattle.tv_linear.proofs.PaddedLemmas.{padded_met}
-use Rattle.tv_linear.proofs.ListLaws.{test_true, length-back, length-front, front_back, all_back, all_front}
+use Rattle.tv_linear.proofs.ListLaws.{test_true, length-back, length-front, all_back, all_front}
 use Rattle.tv_farkas.specs.Trees.{TreeRows}
 use Rattle.tv_cases.specs.Before.{before, FitsBefore, rows_before}
-use Rattle.tv_cases.specs.LinearCases.{LinearCase, CaseSystem, IsCase, AreCases}
+use Rattle.tv_cases.specs.LinearCases.{LinearCase, CaseSystem, IsCase}
 use Rattle.tv_cases.proofs.BeforeValue.{before-value}
-use Rattle.tv_cases.proofs.Listed.{Contains-here, Contains-later}
+use Rattle.tv_cases.proofs.Listed.{Contains-here, Contains-later, Contains-map}
 use Rattle.tv_cases.proofs.BeforeLemmas.{all_before_same, all_before_even}
 use Rattle.tv_cert.specs.declared.node.Marked.{Marked}
 use Rattle.tv_cert.specs.Obligations.{case_change}
@@ -41,6 +41,7 @@ use Rattle.tv_pre.specs.Offers.{ShowsStep}
 use Rattle.tv_pre.specs.Questions.{step_rows}
 use Rattle.tv_pre.specs.Targets.{AreBefore}
 use Rattle.tv_pre.proofs.OfferLemmas.{lists_marked, got_mapped, no_hole}
+use Rattle.std.proofs.lemmas.List.{take-append-drop}
 
 -- ---- the pieces at a location
 
@@ -67,10 +68,6 @@ pub lists_even : (n m l : ℕ) (qs : List Piece) → All (IsPieceOf n m) qs → 
 lists_even n m l [] h = All-nil (AreEven n)
 lists_even n m l (q ∷ qs) h = cond_all (AreEven n) (q.location == l) (piece_rows q) (lists_at l qs) (All-head (IsPieceOf n m) q qs h).even (lists_even n m l qs (All-tail (IsPieceOf n m) q qs h))
 
-pub rows_of_even : (n m : ℕ) (qs : List Piece) → All (IsPieceOf n m) qs → All (λ p. All (λ r. columns r ≡ n) (piece_rows p)) qs
-rows_of_even n m [] h = All-nil (λ p. All (λ r. columns r ≡ n) (piece_rows p))
-rows_of_even n m (q ∷ qs) h = All-cons (λ p. All (λ r. columns r ≡ n) (piece_rows p)) q qs (All-head (IsPieceOf n m) q qs h).even (rows_of_even n m qs (All-tail (IsPieceOf n m) q qs h))
-
 -- ---- rows over the columns of a case
 
 before_met : (n : ℕ) (c : LinearCase) (owed : List Linear) (xs ds : List ℤ) → All (λ r. columns r ≡ n) owed → length xs ≡ n → length ds ≡ c.draws → All (IsMet (map (term_value (xs ++ ds)) (terms_after n c.updates))) owed → All (IsMet (xs ++ ds)) (rows_before c owed)
@@ -81,11 +78,6 @@ before_met n c (r ∷ owed) xs ds even e d h =
     All-cons (IsMet (xs ++ ds)) (before r c) (rows_before c owed)
     (subst (λ z. z ≤ℤ pos 0) (sym v) (All-head (IsMet (map (term_value (xs ++ ds)) (terms_after n c.updates))) r owed h))
     (before_met n c owed xs ds (All-tail (λ r. columns r ≡ n) r owed even) e d (All-tail (IsMet (map (term_value (xs ++ ds)) (terms_after n c.updates))) r owed h))
-
-pub contains_mapped : {A B : Type 0} (f : A → B) (xs : List A) (x : A) → Contains xs x → Contains (map f xs) (f x)
-contains_mapped f [] x c = absurd (omega (arith, c))
-contains_mapped f (a ∷ xs) x (zero, l, e) = (0, omega arith, ap f e)
-contains_mapped f (a ∷ xs) x (suc k, l, e) = let r = contains_mapped f xs x (k, omega (arith, l), e) in (suc r.0, omega (arith, r), r.2)
 
 -- ---- what is owed
 append_none : (n : ℕ) (xs ys : List Known) → AreSame n xs ys → AreSame n xs (ys ++ [])
@@ -169,7 +161,7 @@ module _ (about : CaseSystem) (c : LinearCase) (case : IsCase about.variables ab
       let ds = drop n zs in
       let lx = length-front n c.draws zs size in
       let ld = length-back n c.draws zs size in
-      let whole : zs ≡ xs ++ ds = sym (front_back n zs) in
+      let whole : zs ≡ xs ++ ds = sym (take-append-drop n zs) in
       let place = padded_met n c.draws rows zs piece.even (all_front (IsMet zs) (map (padded_row c.draws) rows) c.guards hole.point.met) in
       let guards = subst (λ ys. All (IsMet ys) c.guards) whole (all_back (IsMet zs) (map (padded_row c.draws) rows) c.guards hole.point.met) in
       let ys = map (term_value (xs ++ ds)) (terms_after n c.updates) in
@@ -182,9 +174,6 @@ module _ (about : CaseSystem) (c : LinearCase) (case : IsCase about.variables ab
       let met = before_met n c i.rows xs ds (All-contains (AreEven n) (lists_at c.to into) i.rows even i.target) lx ld i.met in
       no_hole w lists (step_rows c rows) zs (record {
         rows = rows_before c i.rows;
-        target = subst (λ ls. Contains ls (rows_before c i.rows)) (sym t.exact) (contains_mapped (rows_before c) (lists_at c.to into) i.rows i.target);
+        target = subst (λ ls. Contains ls (rows_before c i.rows)) (sym t.exact) (Contains-map (rows_before c) (lists_at c.to into) i.rows i.target);
         met = subst (λ ys. All (IsMet ys) (rows_before c i.rows)) (sym whole) met;
       }) hole
-
-pub case_among : (about : CaseSystem) (c : LinearCase) → AreCases about → Contains about.cases c → IsCase about.variables about.locations c
-case_among about c limits among = All-contains (IsCase about.variables about.locations) about.cases c limits.cases among

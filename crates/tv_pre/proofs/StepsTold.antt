@@ -1,5 +1,5 @@
 -- Where going back is exact, it can be told whether a state has a step.
-use Rattle.std.proofs.Common.{◌≡◌, ◌⊎◌, inl, inr, List, [], ◌∷◌, ◌++◌, length, map, refl, sym, subst, ℤ, Bool, true, false, ◌==◌}
+use Rattle.std.proofs.Common.{◌≡◌, ◌⊎◌, inl, inr, List, [], ◌∷◌, ◌++◌, length, map, refl, sym, subst, ℤ, true, ◌==◌}
 use Rattle.std.specs.Prelude.{Contains}
 use Rattle.tv_program.specs.Steps.{State}
 use Rattle.tv_linear.specs.Linear.{Linear}
@@ -18,14 +18,8 @@ use Rattle.tv_linear.proofs.ListLaws.{true_test, test_true}
 use Rattle.tv_region.proofs.StepRegionLemmas.{contains_has}
 use Rattle.tv_pre.specs.Finding.{IsTameStatement}
 use Rattle.tv_pre.proofs.DifferenceDraws.{MeetsBehind, draws_told}
-
-true_or_not : (b : Bool) → (b ≡ true) ⊎ (b ≡ true → ⊥)
-true_or_not true = inl refl
-true_or_not false = inr (λ e. cc)
-
-no_numbers : (xs : List ℤ) → length xs ≡ 0 → xs ≡ []
-no_numbers [] e = refl
-no_numbers (x ∷ xs) e = absurd cc
+use Rattle.tv_cases.proofs.BeforeValue.{no_columns}
+use Rattle.tv_rounds.proofs.SetLemmas.{in_or_out}
 
 -- some draws meet the guards of the case, or none do
 abbrev TellsDraws : LinearCase → State → Type 0
@@ -37,7 +31,7 @@ module _ (about : CaseSystem) (s : State) (tells : (c : LinearCase) → Contains
 
   -- whether a step by the case leads on
   case_told : (c : LinearCase) → Contains about.cases c → Goes about s ⊎ ((draws : List ℤ) (t : State) → CaseDoes c draws s t → ⊥)
-  case_told c m = elim (true_or_not (s.location == c.from)) [
+  case_told c m = elim (in_or_out (s.location == c.from)) [
     | inr n ↦ inr (λ draws t does. n (test_true s.location c.from does.leaves))
     | inl here ↦ elim (tells c m) [
       | inr n ↦ inr (λ draws t does. n record { draws = draws; drawn = does.drawn; met = all-all_met (s.values ++ draws) c.guards does.guards })
@@ -81,9 +75,9 @@ module _ (about : CaseSystem) (s : State) (tells : (c : LinearCase) → Contains
 
 -- ---- no draws
 undrawn_told : (guards : List Linear) (xs : List ℤ) → MeetsBehind 0 guards xs ⊎ (MeetsBehind 0 guards xs → ⊥)
-undrawn_told guards xs = elim (true_or_not (all_met (xs ++ []) guards)) [
+undrawn_told guards xs = elim (in_or_out (all_met (xs ++ []) guards)) [
   | inl met ↦ inl record { draws = []; drawn = refl; met = met }
-  | inr n ↦ inr (λ w. n (subst (λ ds. all_met (xs ++ ds) guards ≡ true) (no_numbers w.draws w.drawn) w.met))
+  | inr n ↦ inr (λ w. n (subst (λ ds. all_met (xs ++ ds) guards ≡ true) (no_columns w.draws w.drawn) w.met))
 ]
 
 plain_draws : (c : LinearCase) (s : State) → c.draws ≡ 0 → TellsDraws c s

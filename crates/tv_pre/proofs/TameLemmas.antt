@@ -47,7 +47,7 @@ joined_row l (x ∷ regions) r m = elim (in_either l x.pieces.items (joined_piec
 ]
 
 -- ---- atoms
-truth_rows : (b : Bool) (r : Linear) → InSome (truth_targets b) r → ⊥
+pub truth_rows : (b : Bool) (r : Linear) → InSome (truth_targets b) r → ⊥
 truth_rows true r (inl m) = m
 truth_rows true r (inr m) = m
 truth_rows false r m = m

@@ -1,14 +1,13 @@
 -- One more target.
 use Rattle.std.proofs.Common.{◌≡◌, ℕ, suc, ◌+◌, ◌<◌, List, [], ◌∷◌, ◌++◌, length, take, get_or, All, Bool, true, false, cond, ◌==◌, arith, sym, ap, ◌∙◌, subst, refl}
 use Rattle.std.proofs.Math.Seq.{take-suc}
-use Rattle.std.proofs.lemmas.List.{append_assoc, append-nil}
+use Rattle.std.proofs.lemmas.List.{append_assoc, append-nil, map_push}
 use Rattle.tv_linear.specs.declared.region.Region.{Region}
 use Rattle.tv_pre.specs.Parts.{joined_pieces}
 use Rattle.std.proofs.lemmas.List.Elements.{All-nil, All-push}
 use Rattle.tv_linear.specs.Linear.{Linear}
 use Rattle.tv_linear.specs.declared.region.Piece.{Piece}
 use Rattle.tv_linear.specs.declared.region.Poly.{Poly}
-use Rattle.tv_linear.proofs.ListLaws.{map-push}
 use Rattle.tv_cases.specs.LinearCases.{LinearCase}
 use Rattle.tv_cases.specs.Before.{FitsBefore, rows_before, AreRowsBefore}
 use Rattle.tv_cover.specs.Targets.{lists_of}
@@ -22,9 +21,9 @@ none_before c = record { exact = refl; fits = All-nil (All (FitsBefore c)) }
 pub target_before : (c : LinearCase) (ps : List Piece) (i : ℕ) (p : Piece) (made : List Linear) (old new : List Poly) (poly : Poly) → i < length ps → p ≡ get_or ps i p → p.location ≡ c.to → AreRowsBefore c p.poly.rows.items made → poly.rows.items ≡ made → new ≡ old ++ poly ∷ [] → AreBefore c (lists_at c.to (take i ps)) (lists_of old) → AreBefore c (lists_at c.to (take (i + 1) ps)) (lists_of new)
 target_before c ps i p made old new poly l e at r is m h = subst (λ ls. AreBefore c ls (lists_of new)) (sym (lists_at-here c.to ps i p l e at)) (record {
   exact =
-      ap lists_of m ∙ map-push (λ (t : Poly). t.rows.items) old poly
+      ap lists_of m ∙ map_push (λ (t : Poly). t.rows.items) old poly
       ∙ (λ j. h.exact j ++ (is ∙ r.exact) j ∷ [])
-      ∙ sym (map-push (rows_before c) (lists_at c.to (take i ps)) p.poly.rows.items);
+      ∙ sym (map_push (rows_before c) (lists_at c.to (take i ps)) p.poly.rows.items);
   fits = All-push (All (FitsBefore c)) (lists_at c.to (take i ps)) p.poly.rows.items h.fits r.fits;
 })
 

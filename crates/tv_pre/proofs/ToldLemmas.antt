@@ -1,6 +1,6 @@
 -- Where no gap is told.
-use Rattle.std.proofs.Common.{◌≡◌, inl, inr, ℕ, zero, suc, List, [], ◌∷◌, refl, sym, ap, ◌∙◌, subst, slice_get}
-use Rattle.std.specs.Prelude.{All, Contains, Option, None, Some, IfSome}
+use Rattle.std.proofs.Common.{◌≡◌, inl, inr, ℕ, List, refl, sym, ap, ◌∙◌, subst}
+use Rattle.std.specs.Prelude.{All, Option, None, Some, IfSome}
 use Rattle.tv_formula.specs.Formulas.{property_of}
 use Rattle.tv_formula.specs.Normal.{negation, normal}
 use Rattle.tv_formula.specs.Properties.{Property, truth, compare, at, term, negated, all_of, some_of, next, fix}
@@ -8,7 +8,6 @@ use Rattle.tv_farkas.specs.declared.budget.Budget.{Budget}
 use Rattle.tv_linear.specs.declared.region.Region.{Region}
 use Rattle.tv_cases.specs.LinearCases.{CaseSystem, IsCase}
 use Rattle.tv_cases.specs.Comparisons.{comparison_lists}
-use Rattle.tv_cases.proofs.Listed.{Contains-here, Contains-later}
 use Rattle.tv_cert.specs.declared.claim.Claim.{Claim}
 use Rattle.tv_cert.specs.declared.node.Node.{Node}
 use Rattle.tv_cert.specs.AimViews.{aim_states}
@@ -32,11 +31,7 @@ use Rattle.tv_pre.proofs.NegationLemmas.{denied_stands}
 use Rattle.tv_pre.proofs.StepsTold.{tame_goes}
 use Rattle.tv_pre.proofs.ExactLemmas.{part_exact}
 use Rattle.tv_pre.proofs.SettledRounds.{none_unsettled}
-
-pub got_among : {A : Type 0} (xs : List A) (i : ℕ) (x : A) → slice_get xs i ≡ Some x → Contains xs x
-got_among [] i x e = absurd cc
-got_among (y ∷ xs) zero x e = (let same : y ≡ x = cc in subst (Contains (y ∷ xs)) same (Contains-here y xs))
-got_among (y ∷ xs) (suc i) x e = Contains-later y x xs (got_among xs i x e)
+use Rattle.tv_linear.proofs.ListLaws.{contains_at}
 
 -- ---- programs without cycles and draws
 terminal_unranked : (about : CaseSystem) (f : Property) → IsTerminal f → IsUnserved about f → IsUnranked about
@@ -109,12 +104,12 @@ tame_claim about claim f on rows (inr d) =
     inr (d.0, d.1, subst AreAtomsOfDifferences (sym second) (denied_atoms n f have (subst AreAtomsOfDifferences first d.1)))
 
 none_settled : (about : CaseSystem) (last : ℕ) (fs : List Property) → AreSettled about last fs → (place : ℕ) → IsOpenAt about last fs place → ⊥
-none_settled about last fs h place o = h o.part (got_among fs place o.part o.there) o.unsettled
+none_settled about last fs h place o = h o.part (contains_at fs place o.part o.there) o.unsettled
 
 -- nor does it settle what the negation has in place of one of these
 none_denied : (about : CaseSystem) (last : ℕ) (f : Property) → AreSettled about last (subformulas (normal f)) → Decides about (Goes about) → (place : ℕ) → IsOpenAt about last (subformulas (negation f)) place → ⊥
 none_denied about last f h goes place o =
-    h (negation o.part) (denied_stands f o.part (got_among (subformulas (negation f)) place o.part o.there)) (elim (o.denied goes) [ inl u ↦ inl u | inr t ↦ inr (terminal_denied o.part t) ])
+    h (negation o.part) (denied_stands f o.part (contains_at (subformulas (negation f)) place o.part o.there)) (elim (o.denied goes) [ inl u ↦ inl u | inr t ↦ inr (terminal_denied o.part t) ])
 
 pub settled_told : (about : CaseSystem) (claim : Claim) (f : Property) (budget : Budget) (gap : Gap) → SettledIsTold about claim f budget gap
 settled_told about claim f budget Inexact on tame last l settled h = h.1.tells last l (tame_claim about claim f on h.1.have_rows.0 tame)

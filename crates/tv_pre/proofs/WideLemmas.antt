@@ -6,16 +6,14 @@ use Rattle.std.proofs.lemmas.List.Elements.{All-nil, All-cons, All-append, All-c
 use Rattle.tv_formula.specs.Properties.{Property, truth, compare, at, term, negated, all_of, some_of, next, fix, Properties, none, more}
 use Rattle.tv_formula.specs.Views.{property, properties, properties_of}
 use Rattle.tv_formula.specs.declared.tree.Tree.{Tree}
-use Rattle.tv_program.specs.Trees.{Expression}
-use Rattle.tv_program.specs.Limits.{expression_fits}
 use Rattle.tv_formula.specs.Limits.{property_fits, properties_fit, part_fits}
-use Rattle.tv_cases.specs.Linearity.{is_linear}
-use Rattle.tv_cases.proofs.Listed.{both_true, Contains-here, Contains-later}
-use Rattle.tv_cases.proofs.CaseLimits.{fits-linear}
+use Rattle.tv_cases.proofs.Listed.{Contains-here, Contains-later}
 use Rattle.tv_known.specs.Subformulas.{subformulas, all_subformulas}
 use Rattle.tv_pre.specs.declared.wide.Comparisons.TheVariants.{HaveRows}
 use Rattle.tv_pre.specs.Full.{HasRows, AllHaveRows}
 use Rattle.tv_pre.specs.Wide.{IsLinear, AreLinear, HasOwnRows, IsWideAt, AreTold}
+use Rattle.tv_cert.proofs.AimedLemmas.{part_linear}
+use Rattle.std.proofs.lemmas.Bool.{and_parts}
 
 pub left_get : {X : Type 0} (xs ys : List X) (i : ℕ) (x : X) → slice_get xs i ≡ Some x → slice_get (xs ++ ys) i ≡ Some x
 left_get [] ys i x h = absurd cc
@@ -59,24 +57,18 @@ one_more_told trees i tree l e =
     ∙ all_append (map property (take i trees)) (property (get_or trees i tree))
     ∙ ap (λ (t : Tree). all_subformulas (properties (take i trees)) ++ subformulas (property t)) (sym e)
 
-pub none_told : (n : ℕ) → AreTold n [] (HaveRows 0)
-none_told n = (All-nil (HasOwnRows n), refl)
-
 pub linear_later : (trees : List Tree) (i : ℕ) → AreLinear (properties trees) → AreLinear (properties (drop i trees))
 linear_later trees zero h = h
 linear_later [] (suc i) h = tt
 linear_later (t ∷ trees) (suc i) h = linear_later trees i h.1
 
 -- ---- whole formulas
-part_linear : (variables : ℕ) (e : Expression) → part_fits variables e ≡ true → is_linear e ≡ true
-part_linear variables e h = fits-linear variables 0 e (both_true (expression_fits variables 0 e) _ h).0
-
 mutual
   -- of a formula within its limits
   pub is_linear_in : (variables locations : ℕ) (f : Property) → property_fits variables locations f ≡ true → IsLinear f
   is_linear_in variables locations (truth b) h = tt
   is_linear_in variables locations (compare r a b) h =
-      let both = both_true (part_fits variables a) (part_fits variables b) h in
+      let both = and_parts (part_fits variables a) (part_fits variables b) h in
       let first = part_linear variables a both.0 in
       let second = part_linear variables b both.1 in
       (λ i. first i && second i)
@@ -87,13 +79,13 @@ mutual
   is_linear_in variables locations (some_of fs) h = are_linear_in variables locations fs h
   is_linear_in variables locations (next p f) h = is_linear_in variables locations f h
   is_linear_in variables locations (fix p s f g) h =
-      let fit = both_true (property_fits variables locations f) (property_fits variables locations g) h in
+      let fit = and_parts (property_fits variables locations f) (property_fits variables locations g) h in
       (is_linear_in variables locations f fit.0, is_linear_in variables locations g fit.1)
 
   are_linear_in : (variables locations : ℕ) (fs : Properties) → properties_fit variables locations fs ≡ true → AreLinear fs
   are_linear_in variables locations none h = tt
   are_linear_in variables locations (more f fs) h =
-      let fit = both_true (property_fits variables locations f) (properties_fit variables locations fs) h in
+      let fit = and_parts (property_fits variables locations f) (properties_fit variables locations fs) h in
       (is_linear_in variables locations f fit.0, are_linear_in variables locations fs fit.1)
 
 mutual

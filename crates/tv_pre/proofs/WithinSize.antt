@@ -16,7 +16,7 @@ use Rattle.tv_cert.specs.AimViews.{aim_states}
 use Rattle.tv_cert.specs.Statements.{Statement, stated}
 use Rattle.tv_known.specs.Cycles.{IsLastRound}
 use Rattle.tv_known.specs.Sizes.{greatest_count, size_bound}
-use Rattle.tv_known.proofs.SizeLemmas.{below_greatest}
+use Rattle.tv_known.proofs.SizeLemmas.{below_greatest, trans}
 use Rattle.tv_region.specs.Algebra.{IsBothFault, IsEitherFault, IsRestFault}
 use Rattle.tv_region.specs.StepRegions.{HasNoDraws, IsAnyFault, IsEveryFault}
 use Rattle.tv_region.specs.declared.fault.RegionFault.{RegionFault}
@@ -31,7 +31,6 @@ use Rattle.tv_pre.specs.Questions.{Question}
 use Rattle.tv_pre.specs.Starting.{AsksStart, AsksEmpty}
 use Rattle.tv_pre.specs.Told.{RefusalIsWithinSize}
 use Rattle.tv_pre.proofs.FarCounts.{none_leaving, far_greatest}
-use Rattle.tv_pre.proofs.SizedLemmas.{trans}
 
 -- ---- parts of normal forms and of negations
 mutual

@@ -1,6 +1,6 @@
 -- What is left of lists that are joined.
-use Rattle.std.proofs.Common.{◌≡◌, ℕ, zero, suc, ◌+◌, ◌-◌, ◌<◌, ◌≤◌, List, [], ◌∷◌, ◌++◌, length, take, drop, get_or, arith, refl, sym, ap, ◌∙◌, None, Some}
-use Rattle.std.specs.List.{flat_map, slice_get}
+use Rattle.std.proofs.Common.{◌≡◌, ℕ, zero, suc, ◌+◌, ◌-◌, ◌<◌, ◌≤◌, List, [], ◌∷◌, ◌++◌, length, take, drop, get_or, arith, refl, sym, ap, ◌∙◌}
+use Rattle.std.specs.List.{flat_map}
 
 next_of : (n : ℕ) → n + 1 ≡ suc n
 next_of n = omega arith
@@ -15,39 +15,11 @@ flat_next_suc f d e (x ∷ xs) (suc k) = flat_next_suc f d e xs k
 pub flat_next : {X A : Type 0} (f : X → List A) (d : X) → f d ≡ [] → (xs : List X) (k : ℕ) → flat_map f (drop k xs) ≡ f (get_or xs k d) ++ flat_map f (drop (k + 1) xs)
 flat_next f d e xs k = flat_next_suc f d e xs k ∙ ap (λ i. f (get_or xs k d) ++ flat_map f (drop i xs)) (sym (next_of k))
 
-pub past_end : {A : Type 0} (n : ℕ) (xs : List A) → length xs ≤ n → drop n xs ≡ []
-past_end zero [] l = refl
-past_end zero (x ∷ xs) l = absurd (omega (arith, l))
-past_end (suc n) [] l = refl
-past_end (suc n) (x ∷ xs) l = past_end n xs (omega (arith, l))
-
 pub none_past : {A : Type 0} (n : ℕ) (xs : List A) (d : A) → length xs ≤ n → get_or xs n d ≡ d
 none_past zero [] d l = refl
 none_past zero (x ∷ xs) d l = absurd (omega (arith, l))
 none_past (suc n) [] d l = refl
 none_past (suc n) (x ∷ xs) d l = none_past n xs d (omega (arith, l))
-
-drop_some_suc : {A : Type 0} (xs : List A) (k : ℕ) (x : A) → slice_get xs k ≡ Some x → drop k xs ≡ x ∷ drop (suc k) xs
-drop_some_suc [] k x e = absurd cc
-drop_some_suc (y ∷ xs) zero x e = let s : y ≡ x = cc in ap (λ z. z ∷ xs) s
-drop_some_suc (y ∷ xs) (suc k) x e = drop_some_suc xs k x e
-
-pub drop_some : {A : Type 0} (xs : List A) (k : ℕ) (x : A) → slice_get xs k ≡ Some x → drop k xs ≡ x ∷ drop (k + 1) xs
-drop_some xs k x e = drop_some_suc xs k x e ∙ ap (λ i. x ∷ drop i xs) (sym (next_of k))
-
-pub drop_none : {A : Type 0} (xs : List A) (k : ℕ) → slice_get xs k ≡ None → drop k xs ≡ []
-drop_none [] zero e = refl
-drop_none [] (suc k) e = refl
-drop_none (y ∷ xs) zero e = absurd cc
-drop_none (y ∷ xs) (suc k) e = drop_none xs k e
-
-pub nothing_left : {A : Type 0} (n : ℕ) → (let none : List A = [] in drop n none ≡ none)
-nothing_left zero = refl
-nothing_left (suc n) = refl
-
-pub take_nothing : {A : Type 0} (n : ℕ) → (let none : List A = [] in take n none ≡ none)
-take_nothing zero = refl
-take_nothing (suc n) = refl
 
 pub take_one : {A : Type 0} (n : ℕ) (x : A) (xs : List A) → 0 < n → take n (x ∷ xs) ≡ x ∷ take (n - 1) xs
 take_one zero x xs l = absurd (omega (arith, l))

@@ -1,4 +1,4 @@
 mod FlatLemmas
 pub mod WalkLemmas
-mod TableLemmas
+pub mod TableLemmas
 mod ConstantLemmas

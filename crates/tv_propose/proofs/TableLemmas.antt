@@ -5,12 +5,12 @@ use Rattle.std.specs.Prelude.{IfOk, Result, Ok, Err}
 use Rattle.std.proofs.lemmas.Int.{ints}
 use Rattle.std.proofs.lemmas.Bool.Decides.{nat_tests}
 use Rattle.std.proofs.lemmas.List.{get_or-map, length-map}
-use Rattle.std.proofs.lemmas.List.Elements.{All-cons, All-head, All-tail}
+use Rattle.std.proofs.lemmas.List.Elements.{All-head, All-tail}
 use Rattle.tv_linear.specs.Linear.{Linear, columns}
 use Rattle.tv_linear.specs.Arithmetic.{zeros, unit, plus_each}
 use Rattle.tv_linear.specs.Terms.{table}
 use Rattle.tv_linear.proofs.PlainLists.{length-table}
-use Rattle.tv_linear.proofs.ListLaws.{get_or-table}
+use Rattle.tv_linear.proofs.ListLaws.{get_or-table, test_false}
 use Rattle.tv_cases.specs.LinearCases.{LinearCase, CaseSystem, AreCases, IsCase}
 use Rattle.tv_cases.specs.declared.case.Case.{Case}
 use Rattle.tv_cases.specs.Views.{case_view, case_views}
@@ -20,7 +20,7 @@ use Rattle.tv_propose.specs.BoundLists.{upper_bound, lower_bound, bound_table}
 
 -- ---- guards
 
-length-views : (cs : List Case) → length (case_views cs) ≡ length cs
+pub length-views : (cs : List Case) → length (case_views cs) ≡ length cs
 length-views [] = refl
 length-views (c ∷ cs) = ap suc (length-views cs)
 
@@ -138,9 +138,6 @@ past_three false x y z (suc (suc (suc k))) l = refl
 pub no_more_differences : (n g p k : ℕ) → 2 < k → slice_get (difference_rows n g p) k ≡ None
 no_more_differences n g p k l = past_three (g == p) _ _ _ k l
 
-different : (g p : ℕ) → (g ≡ p → ⊥) → (g == p) ≡ false
-different g p h = grind (arith, nat_tests)
-
 one_of : (f : ℤ → Linear) (b : Bool) (k : ℕ) (z : ℤ) → b ≡ false → k ≤ 2 → z +ℤ pos 1 ≡ pos k → slice_get (cond b [] (map f (negsuc 0 ∷ pos 0 ∷ pos 1 ∷ []))) k ≡ Some (f z)
 one_of f true k z e l h = absurd cc
 one_of f false zero z e l h = ap (λ y. Some (f y)) (let g : negsuc 0 ≡ z = omega (arith, ints, h) in g)
@@ -149,7 +146,7 @@ one_of f false (suc (suc zero)) z e l h = ap (λ y. Some (f y)) (let g : pos 1 �
 one_of f false (suc (suc (suc k))) z e l h = absurd (omega (arith, l))
 
 one_difference : (n g p k : ℕ) (z : ℤ) → (g ≡ p → ⊥) → k ≤ 2 → z +ℤ pos 1 ≡ pos k → slice_get (difference_rows n g p) k ≡ Some (difference n g p z)
-one_difference n g p k z d l h = one_of (difference n g p) (g == p) k z (different g p d) l h
+one_difference n g p k z d l h = one_of (difference n g p) (g == p) k z (test_false g p d) l h
 
 pub difference_there : (about : CaseSystem) (g p k n : ℕ) (row : Linear) (z : ℤ) → row ≡ difference n g p z → z +ℤ pos 1 ≡ pos k → g < about.variables → p < about.variables → n ≡ about.variables → (g ≡ p → ⊥) → k ≤ 2 → Some row ≡ slice_get (get_or (get_or (difference_table about) g []) p []) k
 difference_there about g p k n row z e h l m v d i =
@@ -186,11 +183,6 @@ set_unit (suc n) (suc x) zero l m d = ap (λ zs. negsuc 0 ∷ zs) (kept n x) whe
   kept : (k j : ℕ) → unit k j ≡ plus_each (unit k j) (map neg_ℤ (zeros k))
   kept k j = plus_zeros (unit k j) ∙ ap (λ i. plus_each (unit k j) (map neg_ℤ (zeros i))) (long k j)
 set_unit (suc n) (suc x) (suc y) l m d = ap (λ zs. pos 0 ∷ zs) (set_unit n x y (omega (arith, l)) (omega (arith, m)) (λ e. d (ap suc e)))
-
-pub set_all : (P : ℤ → Type 0) (xs : List ℤ) (y : ℕ) (z : ℤ) → P z → All P xs → All P (set xs y z)
-set_all P [] y z p h = h
-set_all P (x ∷ xs) zero z p h = All-cons P z xs p (All-tail P x xs h)
-set_all P (x ∷ xs) (suc y) z p h = All-cons P x (set xs y z) (All-head P x xs h) (set_all P xs y z p (All-tail P x xs h))
 
 -- ---- bounds
 

@@ -1,5 +1,5 @@
 -- A walk over a table of rows.
-use Rattle.std.proofs.Common.{◌≡◌, ℕ, zero, suc, ◌+◌, ◌-◌, ◌<◌, ◌≤◌, List, [], ◌∷◌, ◌++◌, length, map, take, drop, get_or, arith, refl, sym, ap, ◌∙◌, None, Some}
+use Rattle.std.proofs.Common.{◌≡◌, ℕ, zero, suc, ◌+◌, ◌-◌, ◌<◌, List, [], ◌∷◌, ◌++◌, map, take, drop, get_or, arith, refl, sym, ap, ◌∙◌, None, Some}
 use Rattle.std.specs.List.{slice_get}
 use Rattle.tv_linear.specs.Linear.{Linear}
 use Rattle.tv_cases.specs.LinearCases.{CaseSystem}
@@ -9,49 +9,23 @@ use Rattle.tv_propose.specs.declared.walk.Walk.{Walk}
 use Rattle.tv_propose.specs.Rests.{IsGiven}
 use Rattle.tv_propose.specs.Everywhere.{from_location}
 use Rattle.tv_propose.specs.Walks.{flat, rows_of, left_in_group, left_in_table, left_from, rest_of}
-use Rattle.tv_propose.proofs.FlatLemmas.{flat_next, past_end, none_past, drop_some, drop_none, nothing_left, take_one}
+use Rattle.tv_propose.proofs.FlatLemmas.{flat_next, take_one}
+use Rattle.tv_cases.proofs.LeavingLemmas.{none_left}
 
 -- ---- in a group
-
-pub group_some : (places : List (List Linear)) (p r : ℕ) (x : Linear) → slice_get (get_or places p []) r ≡ Some x → left_in_group places p r ≡ x ∷ left_in_group places p (r + 1)
-group_some places p r x e = ap (λ xs. xs ++ flat (drop (p + 1) places)) (drop_some (get_or places p []) r x e)
 
 pub group_start : (places : List (List Linear)) (p : ℕ) → left_in_group places p 0 ≡ flat (drop p places)
 group_start places p = sym (flat_next (λ xs. xs) [] refl places p)
 
 pub group_none : (places : List (List Linear)) (p r : ℕ) → slice_get (get_or places p []) r ≡ None → left_in_group places p r ≡ left_in_group places (p + 1) 0
-group_none places p r e = ap (λ xs. xs ++ flat (drop (p + 1) places)) (drop_none (get_or places p []) r e) ∙ sym (group_start places (p + 1))
-
-pub group_end : (places : List (List Linear)) (p r : ℕ) → length places ≤ p → left_in_group places p r ≡ []
-group_end places p r l =
-    ap (λ xs. drop r xs ++ flat (drop (p + 1) places)) (none_past p places [] l)
-    ∙ ap (λ xs. xs ++ flat (drop (p + 1) places)) (nothing_left r)
-    ∙ ap flat (past_end (p + 1) places (omega (arith, l)))
+group_none places p r e = ap (λ xs. xs ++ flat (drop (p + 1) places)) (none_left (get_or places p []) r e) ∙ sym (group_start places (p + 1))
 
 -- ---- in a table
-
-pub table_some : (groups : List (List (List Linear))) (old new : Walk) (x : Linear) → new.group ≡ old.group → left_in_group (get_or groups old.group []) old.place old.row ≡ x ∷ left_in_group (get_or groups old.group []) new.place new.row → left_in_table groups old ≡ x ∷ left_in_table groups new
-table_some groups old new x g e =
-    ap (λ xs. xs ++ rows_of (drop (old.group + 1) groups)) e
-    ∙ ap (λ k. x ∷ (left_in_group (get_or groups k []) new.place new.row ++ rows_of (drop (k + 1) groups))) (sym g)
 
 pub table_start : (groups : List (List (List Linear))) (left location group : ℕ) → left_in_table groups record { left = left; location = location; group = group; place = 0; row = 0 } ≡ rows_of (drop group groups)
 table_start groups left location group =
     ap (λ xs. xs ++ rows_of (drop (group + 1) groups)) (group_start (get_or groups group []) 0)
     ∙ sym (flat_next flat [] refl groups group)
-
-pub table_none : (groups : List (List (List Linear))) (old new : Walk) → new.group ≡ old.group + 1 → new.place ≡ 0 → new.row ≡ 0 → left_in_group (get_or groups old.group []) old.place old.row ≡ [] → left_in_table groups old ≡ left_in_table groups new
-table_none groups old new g p r e =
-    ap (λ xs. xs ++ rows_of (drop (old.group + 1) groups)) e
-    ∙ ap (λ k. rows_of (drop k groups)) (sym g)
-    ∙ sym (table_start groups new.left new.location new.group)
-    ∙ (λ i. left_in_group (get_or groups new.group []) (sym p i) (sym r i) ++ rows_of (drop (new.group + 1) groups))
-
-pub table_end : (groups : List (List (List Linear))) (w : Walk) → length groups ≤ w.group → left_in_table groups w ≡ []
-table_end groups w l =
-    ap (λ xs. left_in_group xs w.place w.row ++ rows_of (drop (w.group + 1) groups)) (none_past w.group groups [] l)
-    ∙ ap (λ xs. xs ++ rows_of (drop (w.group + 1) groups)) (group_end [] w.place w.row (omega arith))
-    ∙ ap rows_of (past_end (w.group + 1) groups (omega (arith, l)))
 
 -- ---- at all locations
 
@@ -86,23 +60,9 @@ walk_none about groups old new within next g p r e =
       whole : left_in_table groups new ≡ rows_of groups
       whole = (λ i. left_in_group (get_or groups (g i) []) (p i) (r i) ++ rows_of (drop (g i + 1) groups)) ∙ table_start groups 0 0 0
 
-pub walk_end : (about : CaseSystem) (groups : List (List (List Linear))) (w : Walk) → about.locations ≤ w.location → left_of about groups w ≡ []
-walk_end about groups w l = ap (λ m. left_from m w.location (left_in_table groups w) (rows_of groups)) (let z : about.locations - w.location ≡ 0 = omega (arith, l) in z)
-
--- what a new walk gives
-pub rest_at_start : (about : CaseSystem) (groups : List (List (List Linear))) (limit : ℕ) → rest_of about groups record { left = limit; location = 0; group = 0; place = 0; row = 0 } ≡ Some (take limit (from_location about.locations 0 (rows_of groups)))
-rest_at_start about groups limit =
-    ap (λ xs. Some (take limit xs))
-    ((λ i. left_from (zero_off i) 0 (table_start groups limit 0 0 i) (rows_of groups)) ∙ from_all about.locations 0 (rows_of groups)) where
-      zero_off : about.locations - 0 ≡ about.locations
-      zero_off = omega arith
-
 pub given_some : (about : CaseSystem) (groups : List (List (List Linear))) (old new : Walk) (c : Candidate) → 0 < old.left → new.left ≡ old.left - 1 → left_of about groups old ≡ c ∷ left_of about groups new → IsGiven (rest_of about groups old) (rest_of about groups new) (Some c)
 given_some about groups old new c more less e = (
   take new.left (left_of about groups new),
   refl,
   ap (take old.left) e ∙ take_one old.left c (left_of about groups new) more ∙ ap (λ k. c ∷ take k (left_of about groups new)) (sym less),
 )
-
-pub given_none : (about : CaseSystem) (groups : List (List (List Linear))) (old new : Walk) → new.left ≡ 0 → take old.left (left_of about groups old) ≡ [] → IsGiven (rest_of about groups old) (rest_of about groups new) None
-given_none about groups old new none e = (take new.left (left_of about groups new), refl, (e, ap (λ k. take k (left_of about groups new)) none))

@@ -1,7 +1,7 @@
-use Rattle.std.proofs.Common.{◌≡◌, ◌⊎◌, inl, inr, ℕ, zero, suc, ◌+◌, ◌*◌, ◌^◌, ◌<◌, ◌≤◌, List, [], ◌∷◌, ◌++◌, length, length-append, map, get_or, All, Option, None, Some, Bool, true, false, ◌==◌, ◌||◌, if◌then◌else◌, arith, refl, sym, ap, ◌∙◌, subst, ℤ, pos, neg_ℤ, ◌+ℤ◌, ◌-ℤ◌, ◌*ℤ◌, ◌≤ℤ◌, ◌<ℤ◌, unsigned_abs}
+use Rattle.std.proofs.Common.{◌≡◌, inl, inr, ℕ, zero, suc, ◌+◌, ◌*◌, ◌^◌, ◌<◌, ◌≤◌, List, [], ◌∷◌, ◌++◌, length, length-append, map, get_or, All, Option, None, Some, Bool, true, false, ◌==◌, ◌||◌, if◌then◌else◌, arith, refl, sym, ap, ◌∙◌, subst, ℤ, pos, neg_ℤ, ◌+ℤ◌, ◌-ℤ◌, ◌*ℤ◌, ◌≤ℤ◌, ◌<ℤ◌, unsigned_abs}
 use Rattle.std.proofs.lemmas.Int.{ints}
-use Rattle.std.proofs.lemmas.List.{length-map}
-use Rattle.std.proofs.lemmas.List.Elements.{All-nil, All-push}
+use Rattle.std.proofs.lemmas.List.{length-map, get_or_past}
+use Rattle.std.proofs.lemmas.List.Elements.{All-nil, All-push, All-from_get_or}
 use Rattle.std.specs.List.{AllByRecursion}
 use Rattle.tv_linear.specs.Arithmetic.{constant_row}
 use Rattle.tv_linear.proofs.PlainLists.{get_or-zeros, length-table}
@@ -9,9 +9,8 @@ use Rattle.tv_linear.specs.Falls.{zero_row}
 use Rattle.tv_linear.specs.Linear.{Linear, columns, IsWithin}
 use Rattle.tv_linear.specs.Known.{Known, given, composed, less, number, known_number, term_number, KnownHeld, PlacesHeld, place_sum}
 use Rattle.tv_linear.specs.Terms.{table, update_of, terms_after}
-use Rattle.tv_linear.proofs.ListLaws.{test_true}
-use Rattle.tv_refute.proofs.Places.{get_or-left, get_or-right, get_or-table}
-use Rattle.tv_farkas.proofs.SystemLemmas.{all_of}
+use Rattle.tv_linear.proofs.ListLaws.{test_true, get_or-table, map-table}
+use Rattle.tv_refute.proofs.Places.{get_or-left, get_or-right}
 use Rattle.tv_simplex.proofs.SettleLemmas.{given_left}
 use Rattle.tv_simplex.specs.Outcomes.{IsShort, IsNarrow, IsSolutionOf, IsNarrowSystem}
 use Rattle.tv_rank.specs.declared.unknown.Identity.TheVariants.{Step, Bound}
@@ -25,18 +24,13 @@ use Rattle.tv_rank.specs.Reading.{difference, differences, term_read, read_at, t
 use Rattle.tv_rank.proofs.Over.{Inside, if_true}
 use Rattle.tv_rank.proofs.Listed.{all_first, all_second, all_by_place, of_lines, of_step_lines, of_terms, of_identity, of_steps}
 use Rattle.tv_rank.proofs.Barriers.{line, row_of, width}
-use Rattle.tv_rank.proofs.Points.{map-table}
 use Rattle.tv_rank.proofs.Locals.{local-read, all-read}
 use Rattle.tv_rank.proofs.Lengths.{length-differences, steps-more, steps-within}
 use Rattle.tv_rank.proofs.Flattened.{entry_of}
-use Rattle.tv_rank.proofs.Solved.{get-differences, of_term_number, rows_sum, slack_of, step_start, step_sum, bound_sum, step_row, bound_row_is, past_end}
+use Rattle.tv_rank.proofs.Solved.{get-differences, of_term_number, rows_sum, slack_of, step_start, step_sum, bound_sum, step_row, bound_row_is}
 use Rattle.tv_rank.proofs.ShownRows.{places_held, shown}
-
-last_or_below : (n j : ℕ) → j < suc n → (j ≡ n) ⊎ (j < n)
-last_or_below n j h = grind arith
-
-below_or_past : (l n : ℕ) → (l < n) ⊎ (n ≤ l)
-below_or_past l n = grind arith
+use Rattle.std.proofs.lemmas.Bool.{or_right, cases_lt, or_left}
+use Rattle.tv_simplex.proofs.Counting.{last_or_below}
 
 -- ---- what is read stands at its place
 length-lines : (ways : ℕ → Way) (xs : List ℤ) (s n : ℕ) → length (lines_read ways xs s n) ≡ n
@@ -50,19 +44,11 @@ line-read ways xs s (suc n) k h = elim (last_or_below n k h) [
   | inr b ↦ get_or-left (lines_read ways xs s n) (line_read xs (s + length (steps_below ways n)) (ways n) ∷ []) k [] (let f = length-lines ways xs s n in omega (arith, b, f)) ∙ line-read ways xs s n k b
 ]
 
-or_true_first : (a b : Bool) → a ≡ true → (a || b) ≡ true
-or_true_first true b e = refl
-or_true_first false b e = absurd cc
-
-or_true_second : (a b : Bool) → b ≡ true → (a || b) ≡ true
-or_true_second true b e = refl
-or_true_second false b e = e
-
 pub touched_to : (ways : ℕ → Way) (many k : ℕ) → k < many → touches ways many (ways k).taken.to ≡ true
 touched_to ways zero k h = absurd (omega (arith, h))
 touched_to ways (suc m) k h = elim (last_or_below m k h) [
-  | inl e ↦ or_true_second (touches ways m (ways k).taken.to) ((ways m).taken.from == (ways k).taken.to || (ways m).taken.to == (ways k).taken.to) (or_true_second ((ways m).taken.from == (ways k).taken.to) ((ways m).taken.to == (ways k).taken.to) (test_true (ways m).taken.to (ways k).taken.to (ap (λ z. (ways z).taken.to) (sym e))))
-  | inr b ↦ or_true_first (touches ways m (ways k).taken.to) ((ways m).taken.from == (ways k).taken.to || (ways m).taken.to == (ways k).taken.to) (touched_to ways m k b)
+  | inl e ↦ or_right (touches ways m (ways k).taken.to) ((ways m).taken.from == (ways k).taken.to || (ways m).taken.to == (ways k).taken.to) (or_right ((ways m).taken.from == (ways k).taken.to) ((ways m).taken.to == (ways k).taken.to) (test_true (ways m).taken.to (ways k).taken.to (ap (λ z. (ways z).taken.to) (sym e))))
+  | inr b ↦ or_left (touches ways m (ways k).taken.to) ((ways m).taken.from == (ways k).taken.to || (ways m).taken.to == (ways k).taken.to) (touched_to ways m k b)
 ]
 
 unit_small : (m c : Option ℕ) → unsigned_abs (unit_at m c) ≤ 1
@@ -82,15 +68,15 @@ if_small false z h = omega arith
 module _ (v locations many : ℕ) (ways : ℕ → Way) (falling : ℕ) (falling_in : falling < many) (xs : List ℤ) (scale : ℤ) (h : IsSolutionOf (ranking_system ways many falling v locations) xs scale) (narrow : IsNarrowSystem (ranking_system ways many falling v locations)) (from_in : (k : ℕ) → k < many → (ways k).taken.from < locations) (to_in : (k : ℕ) → k < many → (ways k).taken.to < locations) (few : v ≤ 512) (size : length (unknowns ways many falling v locations) ≤ 4000000) where
   -- ---- each number of the solution is short and at least 0, past the end too
   short : (j : ℕ) → IsShort (get_or xs j (pos 0))
-  short j = elim (below_or_past j (length xs)) [
+  short j = elim (cases_lt j (length xs)) [
     | inl l ↦ h.short j (let e = h.as_many in omega (arith, e, l))
-    | inr p ↦ subst IsShort (sym (past_end xs j (pos 0) p)) (omega arith)
+    | inr p ↦ subst IsShort (sym (get_or_past xs j (pos 0) p)) (omega arith)
   ]
 
   positive : (j : ℕ) → pos 0 ≤ℤ get_or xs j (pos 0)
-  positive j = elim (below_or_past j (length xs)) [
+  positive j = elim (cases_lt j (length xs)) [
     | inl l ↦ h.none_negative j (let e = h.as_many in omega (arith, e, l))
-    | inr p ↦ subst (λ z. pos 0 ≤ℤ z) (sym (past_end xs j (pos 0) p)) (omega (arith, ints))
+    | inr p ↦ subst (λ z. pos 0 ≤ℤ z) (sym (get_or_past xs j (pos 0) p)) (omega (arith, ints))
   ]
 
   difference_short : (s j : ℕ) → unsigned_abs (difference xs s j) < 2 ^ 62
@@ -109,9 +95,9 @@ module _ (v locations many : ℕ) (ways : ℕ → Way) (falling : ℕ) (falling_
     where
       by_touch : (b : Bool) (s : ℕ) (m : Option ℕ) → unsigned_abs (number m (if b then term_read v xs s else constant_row v (pos 0))) < 2 ^ 62
       by_touch true s None = difference_short s v
-      by_touch true s (Some j) = elim (below_or_past j v) [
+      by_touch true s (Some j) = elim (cases_lt j v) [
         | inl l ↦ subst (λ z. unsigned_abs z < 2 ^ 62) (sym (get-differences xs s v j l)) (difference_short s j)
-        | inr p ↦ subst (λ z. unsigned_abs z < 2 ^ 62) (sym (past_end (differences xs s v) j (pos 0) (let e = length-differences xs s v in omega (arith, e, p)))) (omega arith)
+        | inr p ↦ subst (λ z. unsigned_abs z < 2 ^ 62) (sym (get_or_past (differences xs s v) j (pos 0) (let e = length-differences xs s v in omega (arith, e, p)))) (omega arith)
       ]
       by_touch false s None = omega arith
       by_touch false s (Some j) = subst (λ z. unsigned_abs z < 2 ^ 62) (sym (get_or-zeros v j)) (omega arith)
@@ -153,7 +139,7 @@ module _ (v locations many : ℕ) (ways : ℕ → Way) (falling : ℕ) (falling_
       plain x y z e p q = omega (arith, ints, e, p, q)
 
   updates_narrow : (k : ℕ) (c : Option ℕ) → k < many → Inside (width v (ways k)) c → All (λ x. unsigned_abs x < 2 ^ 41) (map (term_number c) (terms_after v (ways k).taken.updates))
-  updates_narrow k c k_in c_in = subst (All (λ x. unsigned_abs x < 2 ^ 41)) (sym (map-table (term_number c) v (update_of (ways k).taken.updates))) (all_of (λ x. unsigned_abs x < 2 ^ 41) (table v (λ j. term_number c (update_of (ways k).taken.updates j))) (pos 0) (λ i l.
+  updates_narrow k c k_in c_in = subst (All (λ x. unsigned_abs x < 2 ^ 41)) (sym (map-table (term_number c) v (update_of (ways k).taken.updates))) (All-from_get_or (λ x. unsigned_abs x < 2 ^ 41) (table v (λ j. term_number c (update_of (ways k).taken.updates j))) (pos 0) (λ i l.
       let i_in : i < v = (let e = length-table v (λ j. term_number c (update_of (ways k).taken.updates j)) in omega (arith, e, l)) in
       subst (λ z. unsigned_abs z < 2 ^ 41) (sym (get_or-table v (λ j. term_number c (update_of (ways k).taken.updates j)) i (pos 0) i_in)) (update_narrow k i c k_in i_in c_in)))
 

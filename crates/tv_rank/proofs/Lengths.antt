@@ -1,7 +1,6 @@
-use Rattle.std.proofs.Common.{◌≡◌, ℕ, zero, suc, ◌+◌, ◌*◌, ◌≤◌, ◌-◌, List, [], ◌∷◌, ◌++◌, length, length-append, None, Some, true, false, if◌then◌else◌, arith, refl, ap, ◌∙◌}
-use Rattle.std.proofs.Common.{ℤ, pos}
-use Rattle.tv_linear.specs.Arithmetic.{constant_row}
-use Rattle.tv_rank.specs.Reading.{difference, differences, term_read, read_at}
+use Rattle.std.proofs.Common.{◌≡◌, ℕ, zero, suc, ◌+◌, ◌*◌, ◌≤◌, ◌-◌, List, [], ◌∷◌, ◌++◌, length, length-append, None, Some, true, if◌then◌else◌, arith, refl, ap, ◌∙◌}
+use Rattle.std.proofs.Common.{ℤ}
+use Rattle.tv_rank.specs.Reading.{difference, differences}
 use Rattle.tv_rank.specs.declared.unknown.Identity.{Identity}
 use Rattle.tv_rank.specs.declared.unknown.Identity.TheVariants.{Step}
 use Rattle.tv_rank.specs.declared.unknown.Unknown.TheVariants.{Positive, Negative, Multiplier, Slack}
@@ -21,13 +20,6 @@ terms-more ways many v l e =
     ∙ ap (λ b. length (terms_below ways many v l ++ (if b then term_unknowns v l else []))) e
     ∙ length-append (terms_below ways many v l) (term_unknowns v l)
     ∙ (let h = length-term v l in omega (arith, h))
-
-pub terms-same : (ways : ℕ → Way) (many v l : ℕ) → touches ways many l ≡ false → length (terms_below ways many v (l + 1)) ≡ length (terms_below ways many v l)
-terms-same ways many v l e =
-    ap (λ z. length (terms_below ways many v z)) (let s : l + 1 ≡ suc l = omega arith in s)
-    ∙ ap (λ b. length (terms_below ways many v l ++ (if b then term_unknowns v l else []))) e
-    ∙ length-append (terms_below ways many v l) []
-    ∙ omega arith
 
 terms-grow : (ways : ℕ → Way) (many v l d : ℕ) → length (terms_below ways many v l) ≤ length (terms_below ways many v (l + d))
 terms-grow ways many v l zero = (let e = ap (λ z. length (terms_below ways many v z)) (let s : l + 0 ≡ l = omega arith in s) in omega (arith, e))
@@ -71,9 +63,3 @@ length-differences xs s (suc v) = length-append (differences xs s v) (difference
 -- there is room for the pairs of a location below another
 pub room_for_term : (ways : ℕ → Way) (many v l n : ℕ) → touches ways many l ≡ true → length (terms_below ways many v (l + 1)) ≤ n → length (terms_below ways many v l) + (2 * v + 2) ≤ n
 room_for_term ways many v l n t h = (let e = terms-more ways many v l t in omega (arith, e, h))
-
-pub term_is_read : (ways : ℕ → Way) (many v l : ℕ) (xs : List ℤ) → touches ways many l ≡ true → read_at ways many v xs l ≡ term_read v xs (length (terms_below ways many v l))
-term_is_read ways many v l xs t = ap (λ b. if b then term_read v xs (length (terms_below ways many v l)) else constant_row v (pos 0)) t
-
-pub zero_is_read : (ways : ℕ → Way) (many v l : ℕ) (xs : List ℤ) → touches ways many l ≡ false → read_at ways many v xs l ≡ constant_row v (pos 0)
-zero_is_read ways many v l xs t = ap (λ b. if b then term_read v xs (length (terms_below ways many v l)) else constant_row v (pos 0)) t

@@ -1,4 +1,4 @@
-use Rattle.std.proofs.Common.{◌≡◌, ℕ, zero, suc, ◌⊎◌, inl, inr, ◌+◌, ◌*◌, ◌<◌, List, [], ◌∷◌, ◌++◌, length, length-append, map, get_or, Option, None, Some, Bool, true, false, if◌then◌else◌, arith, refl, sym, ap, ◌∙◌, subst, ℤ, pos, ◌+ℤ◌, ◌*ℤ◌}
+use Rattle.std.proofs.Common.{◌≡◌, ℕ, zero, suc, inl, inr, ◌+◌, ◌*◌, ◌<◌, List, [], ◌∷◌, ◌++◌, length, length-append, map, get_or, Option, None, Some, Bool, true, false, if◌then◌else◌, arith, refl, sym, ap, ◌∙◌, subst, ℤ, pos, ◌+ℤ◌, ◌*ℤ◌}
 use Rattle.std.proofs.lemmas.Int.{ints}
 use Rattle.std.specs.List.{AllByRecursion, flat_map}
 use Rattle.tv_simplex.specs.Sums.{total}
@@ -12,6 +12,9 @@ use Rattle.tv_rank.specs.declared.unknown.Line.{Line}
 use Rattle.tv_rank.specs.Ways.{Way, met_rows, touches}
 use Rattle.tv_rank.specs.RankingSystem.{pairs_below, term_unknowns, terms_below, multipliers_below, identity_unknowns, steps_below, columns_below, identity_lines, step_lines}
 use Rattle.tv_rank.proofs.Over.{Inside}
+use Rattle.tv_cases.proofs.AmountLemmas.{suc-times}
+use Rattle.tv_simplex.proofs.Counting.{last_or_below}
+use Rattle.tv_farkas.proofs.SystemLemmas.{total-front}
 
 -- ---- what holds of each item
 pub all_first : {A : Type 0} (P : A → Type 0) (xs ys : List A) → AllByRecursion P (xs ++ ys) → AllByRecursion P xs
@@ -29,9 +32,6 @@ all_both P (x ∷ xs) ys h g = (h.0, all_both P xs ys h.1 g)
 pub all_by_place : {A : Type 0} (P : A → Type 0) (xs : List A) (d : A) → ((k : ℕ) → k < length xs → P (get_or xs k d)) → AllByRecursion P xs
 all_by_place P [] d h = tt
 all_by_place P (x ∷ xs) d h = (h 0 (omega arith), all_by_place P xs d (λ k l. h (suc k) (omega (arith, l))))
-
-last_or_below : (n j : ℕ) → j < suc n → (j ≡ n) ⊎ (j < n)
-last_or_below n j h = grind arith
 
 -- ---- each unknown is in the list
 module _ (P : Unknown → Type 0) where
@@ -109,10 +109,6 @@ weighted-append g (u ∷ us) vs xs p q e = (let h = weighted-append g us vs xs (
 pub weighted-last : {A : Type 0} (g : A → ℤ) (us : List A) (u : A) (xs : List ℤ) (p q : ℕ) → q ≡ p + length us → weighted g (us ++ u ∷ []) xs p ≡ weighted g us xs p +ℤ g u *ℤ get_or xs q (pos 0)
 weighted-last g us u xs p q e = (let h = weighted-append g us (u ∷ []) xs p q e in omega (arith, ints, h))
 
-pub total-front : (n : ℕ) (f : ℕ → ℤ) → total (suc n) f ≡ f 0 +ℤ total n (λ k. f (suc k))
-total-front zero f = omega (arith, ints)
-total-front (suc n) f = (let h = total-front n f in omega (arith, ints, h))
-
 pub weighted-total : {A : Type 0} (g : A → ℤ) (us : List A) (xs : List ℤ) (p : ℕ) → total (length us) (λ j. get_or (map g us) j (pos 0) *ℤ get_or xs (p + j) (pos 0)) ≡ weighted g us xs p
 weighted-total g [] xs p = refl
 weighted-total g (u ∷ us) xs p =
@@ -124,16 +120,13 @@ weighted-total g (u ∷ us) xs p =
     omega (arith, ints, f, h, s, y)
 
 -- ---- the entries, row by row
-more : (k n : ℕ) → suc k * n ≡ n + k * n
-more k n = grind arith
-
 pub flat_at : {A : Type 0} (f : A → List ℤ) (n : ℕ) (ls : List A) (d : A) → ((a : A) → length (f a) ≡ n) → (k j : ℕ) → k < length ls → j < n → get_or (flat_map f ls) (k * n + j) (pos 0) ≡ get_or (f (get_or ls k d)) j (pos 0)
 flat_at f n [] d s k j l g = absurd (omega (arith, l))
 flat_at f n (a ∷ ls) d s zero j l g = ap (λ z. get_or (f a ++ flat_map f ls) z (pos 0)) (let e : 0 * n + j ≡ j = omega arith in e) ∙ get_or-left (f a) (flat_map f ls) j (pos 0) (let e = s a in omega (arith, e, g))
 flat_at f n (a ∷ ls) d s (suc k) j l g =
-    get_or-right (f a) (flat_map f ls) (suc k * n + j) (k * n + j) (pos 0) (let e = s a in let m = more k n in omega (arith, e, m))
+    get_or-right (f a) (flat_map f ls) (suc k * n + j) (k * n + j) (pos 0) (let e = s a in let m = suc-times k n in omega (arith, e, m))
     ∙ flat_at f n ls d s k j (omega (arith, l)) g
 
 pub length-flat : {A : Type 0} (f : A → List ℤ) (n : ℕ) (ls : List A) → ((a : A) → length (f a) ≡ n) → length (flat_map f ls) ≡ length ls * n
 length-flat f n [] s = omega arith
-length-flat f n (a ∷ ls) s = length-append (f a) (flat_map f ls) ∙ (let e = s a in let h = length-flat f n ls s in let m = more (length ls) n in omega (arith, e, h, m))
+length-flat f n (a ∷ ls) s = length-append (f a) (flat_map f ls) ∙ (let e = s a in let h = length-flat f n ls s in let m = suc-times (length ls) n in omega (arith, e, h, m))

@@ -1,20 +1,16 @@
 -- The terms that are read, by their locations, and the span of a set.
-use Rattle.std.proofs.Common.{◌≡◌, ◌⊎◌, inl, inr, ℕ, zero, suc, ◌+◌, ◌-◌, ◌<◌, ◌≤◌, List, [], ◌∷◌, ◌++◌, length, Bool, true, false, ◌==◌, ◌||◌, if◌then◌else◌, All, arith, refl, ap, ◌∙◌, subst, ℤ, pos}
+use Rattle.std.proofs.Common.{◌≡◌, inl, inr, ℕ, zero, suc, ◌+◌, ◌-◌, ◌<◌, ◌≤◌, List, [], ◌∷◌, ◌++◌, length, Bool, true, false, ◌==◌, if◌then◌else◌, All, arith, refl, ap, ◌∙◌, subst, ℤ, pos}
 use Rattle.std.proofs.lemmas.List.{append-nil}
 use Rattle.std.proofs.lemmas.List.Elements.{All-nil, All-cons, All-append}
 use Rattle.tv_linear.specs.Linear.{Linear}
 use Rattle.tv_linear.specs.Arithmetic.{constant_row}
 use Rattle.tv_linear.proofs.ListLaws.{test_true, test_false}
 use Rattle.tv_rank.specs.declared.found.LocalTerm.{LocalTerm}
-use Rattle.tv_rank.specs.declared.span.Span.{Span}
 use Rattle.tv_rank.specs.Ways.{Way, touches}
-use Rattle.tv_rank.specs.Spans.{Reaches, Spans}
 use Rattle.tv_rank.specs.RankingSystem.{term_unknowns, terms_below}
 use Rattle.tv_rank.specs.Reading.{term_read, read_at, term_there, terms_read}
 use Rattle.tv_rank.specs.Rankings.{local_term}
-
-last_or_below : (n j : ℕ) → j < suc n → (j ≡ n) ⊎ (j < n)
-last_or_below n j h = grind arith
+use Rattle.tv_simplex.proofs.Counting.{last_or_below}
 
 row_if : (b : Bool) (x y : Linear) → b ≡ true → (if b then x else y) ≡ x
 row_if true x y e = refl
@@ -108,19 +104,3 @@ module _ (ways : ℕ → Way) (many v : ℕ) where
 
     pub all_terms : (n m : ℕ) → n ≤ m → ((l : ℕ) → n ≤ l → touches ways many l ≡ false) → terms_read ways many v xs m ≡ terms_read ways many v xs n
     all_terms n m k h = ap (terms_read ways many v xs) (let e : m ≡ n + (m - n) = omega (arith, k) in e) ∙ more_terms n (m - n) h
-
--- ---- spans
-or_false : (a b : Bool) → a ≡ false → b ≡ false → (a || b) ≡ false
-or_false true b e f = absurd cc
-or_false false b e f = f
-
--- one more way, to both of whose locations the span reaches
-pub spans_more : (ways : ℕ → Way) (many locations : ℕ) (span mid last : Span) → Spans ways many locations span → Reaches span (ways many).taken.from mid → Reaches mid (ways many).taken.to last → (ways many).taken.from < locations → (ways many).taken.to < locations → Spans ways (many + 1) locations last
-spans_more ways many locations span mid last h r q from to = subst (λ z. Spans ways z locations last) (let e : suc many ≡ many + 1 = omega arith in e) (record {
-  none_below = λ l k. or_false (touches ways many l) ((ways many).taken.from == l || (ways many).taken.to == l) (h.none_below l (let a = r.low in let b = q.low in omega (arith, a, b, k)))
-      (or_false ((ways many).taken.from == l) ((ways many).taken.to == l) (test_false (ways many).taken.from l (λ e. let a = r.from in let b = q.low in omega (arith, a, b, k, e))) (test_false (ways many).taken.to l (λ e. let a = q.from in omega (arith, a, k, e))));
-  none_past = λ l k. or_false (touches ways many l) ((ways many).taken.from == l || (ways many).taken.to == l) (h.none_past l (let a = r.high in let b = q.high in omega (arith, a, b, k)))
-      (or_false ((ways many).taken.from == l) ((ways many).taken.to == l) (test_false (ways many).taken.from l (λ e. let a = r.past in let b = q.high in omega (arith, a, b, k, e))) (test_false (ways many).taken.to l (λ e. let a = q.past in omega (arith, a, k, e))));
-  some = (let a = q.low in let b = r.low in let d = h.some in let e = r.high in let f = q.high in omega (arith, a, b, d, e, f));
-  within = q.within locations (r.within locations h.within from) to;
-})

@@ -72,19 +72,6 @@ picked (suc n) t g h = elim (same_or_below n t h) [
       omega (arith, ints, a, b))
 ]
 
--- a factor that is put or not
-pub if_times : (b : Bool) (x y : ℤ) → x *ℤ (if b then y else pos 0) ≡ (if b then x *ℤ y else pos 0)
-if_times true x y = refl
-if_times false x y = omega (arith, ints)
-
-pub times_if : (b : Bool) (x y : ℤ) → (if b then x else pos 0) *ℤ y ≡ (if b then x *ℤ y else pos 0)
-times_if true x y = refl
-times_if false x y = omega (arith, ints)
-
-pub over_if : (b : Bool) (n : ℕ) (f : Option ℕ → ℤ) → over n (λ c. if b then f c else pos 0) ≡ (if b then over n f else pos 0)
-over_if true n f = refl
-over_if false n f = over-zero n (λ c. pos 0) (λ c l. refl)
-
 pub unit_times : (n : ℕ) (m : Option ℕ) (p : Option ℕ → ℤ) → Inside n m → over n (λ c. unit_at m c *ℤ p c) ≡ p m
 unit_times n None p h = (let a = total-zero n (λ c. unit_at None (Some c) *ℤ p (Some c)) (λ c l. omega (arith, ints)) in omega (arith, ints, a))
 unit_times n (Some j) p h =

@@ -1,21 +1,22 @@
-use Rattle.std.proofs.Common.{◌⊎◌, inl, inr, ◌≡◌, ℕ, zero, suc, ◌+◌, ◌<◌, ◌≤◌, List, [], ◌∷◌, length, map, get_or, All, Option, None, Some, Bool, true, false, ◌==◌, if◌then◌else◌, arith, refl, sym, ap, ◌∙◌, subst, ℤ, pos, ◌+ℤ◌, ◌*ℤ◌, ◌≤ℤ◌}
+use Rattle.std.proofs.Common.{inl, inr, ◌≡◌, ℕ, zero, suc, ◌+◌, ◌<◌, ◌≤◌, List, [], ◌∷◌, length, map, get_or, All, Option, None, Some, Bool, true, false, ◌==◌, if◌then◌else◌, arith, refl, sym, ap, ◌∙◌, subst, ℤ, pos, ◌+ℤ◌, ◌*ℤ◌, ◌≤ℤ◌}
 use Rattle.std.proofs.lemmas.Int.{ints}
 use Rattle.tv_linear.specs.Linear.{Linear, linear, columns, dot, scaled_value}
 use Rattle.tv_linear.specs.Known.{Term, kept, put, number}
 use Rattle.tv_linear.specs.Terms.{table, update_of}
 use Rattle.tv_linear.specs.declared.region.Update.{Update}
 use Rattle.tv_linear.proofs.PlainLists.{length-table}
-use Rattle.tv_refute.proofs.Places.{get_or-table}
-use Rattle.tv_farkas.proofs.SystemLemmas.{all_of, at_of}
+use Rattle.tv_farkas.proofs.SystemLemmas.{at_of, total-front}
 use Rattle.tv_simplex.specs.Sums.{total}
 use Rattle.tv_simplex.proofs.Sums.{total-same, total-zero}
-use Rattle.tv_rank.proofs.Listed.{total-front}
 use Rattle.tv_rank.specs.Ways.{Way, met_rows}
 use Rattle.tv_rank.specs.RankingSystem.{number_of}
 use Rattle.tv_rank.specs.Rankings.{term_at, scaled_term, value_before, value_after, IsWayPoint, HasPoint, Ranks}
 use Rattle.tv_rank.proofs.Over.{over, Inside, over-same, unit_times}
 use Rattle.tv_rank.proofs.Barriers.{value, width, row_of, there_before, there_after, before_at, after_at}
 use Rattle.tv_rank.proofs.Excluded.{IsPoint, RanksAt}
+use Rattle.tv_linear.proofs.ListLaws.{get_or-table, map-table}
+use Rattle.std.proofs.lemmas.Bool.{cases_lt}
+use Rattle.std.proofs.lemmas.List.Elements.{All-from_get_or}
 
 -- the products of two lists, as many as the second has
 pub dot-by : (cs xs : List ℤ) → dot cs xs ≡ total (length xs) (λ c. get_or cs c (pos 0) *ℤ get_or xs c (pos 0))
@@ -28,10 +29,6 @@ dot-table cs n g =
     dot-by cs (table n g)
     ∙ ap (λ z. total z (λ c. get_or cs c (pos 0) *ℤ get_or (table n g) c (pos 0))) (length-table n g)
     ∙ total-same n (λ c. get_or cs c (pos 0) *ℤ get_or (table n g) c (pos 0)) (λ c. get_or cs c (pos 0) *ℤ g c) (λ c l. ap (λ z. get_or cs c (pos 0) *ℤ z) (get_or-table n g c (pos 0) l))
-
-pub map-table : {A B : Type 0} (f : A → B) (n : ℕ) (g : ℕ → A) → map f (table n g) ≡ table n (λ j. f (g j))
-map-table f zero g = refl
-map-table f (suc n) g = ap (λ zs. f (g 0) ∷ zs) (map-table f n (λ j. g (suc j)))
 
 -- only the first n numbers count
 total-short : (m n : ℕ) (cs : List ℤ) (g : ℕ → ℤ) → length cs ≤ n → total (n + m) (λ c. get_or cs c (pos 0) *ℤ g c) ≡ total n (λ c. get_or cs c (pos 0) *ℤ g c)
@@ -59,16 +56,13 @@ value_listed n r p = ap (λ z. z +ℤ r.constant *ℤ p None) (dot-table r.coeff
 pub value_pointed : (r : Linear) (xs : List ℤ) (z : ℤ) → scaled_value r xs z ≡ value (length xs) (λ c. number c r) (point_of xs z)
 value_pointed r xs z = ap (λ y. y +ℤ r.constant *ℤ z) (dot-by r.coefficients xs)
 
-no_row : Linear
-no_row = linear [] (pos 0)
-
 -- a point of a function is one of a list
 pub listed_point : (v : ℕ) (w : Way) (p : Option ℕ → ℤ) → IsPoint v w p → IsWayPoint v w (list_of (width v w) p) (p None)
 listed_point v w p h = record {
   width = length-table (width v w) (λ c. p (Some c));
   meets = record {
     positive = h.positive;
-    met = all_of (λ r. scaled_value r (list_of (width v w) p) (p None) ≤ℤ pos 0) (met_rows w) (linear [] (pos 0)) (λ i l. subst (λ z. z ≤ℤ pos 0) (sym (value_listed (width v w) (get_or (met_rows w) i (linear [] (pos 0))) p)) (h.meets i l));
+    met = All-from_get_or (λ r. scaled_value r (list_of (width v w) p) (p None) ≤ℤ pos 0) (met_rows w) (linear [] (pos 0)) (λ i l. subst (λ z. z ≤ℤ pos 0) (sym (value_listed (width v w) (get_or (met_rows w) i (linear [] (pos 0))) p)) (h.meets i l));
   };
 }
 
@@ -141,11 +135,8 @@ terms_past [] l k = refl
 terms_past (t ∷ ts) zero k = absurd (omega (arith, k))
 terms_past (t ∷ ts) (suc l) k = terms_past ts l (omega (arith, k))
 
-below_or_past : (l n : ℕ) → (l < n) ⊎ (n ≤ l)
-below_or_past l n = grind arith
-
 pub terms_wide : (v : ℕ) (terms : List Linear) (l : ℕ) → All (λ t. columns t ≡ v) terms → columns (term_at terms l) ≤ v
-terms_wide v terms l h = elim (below_or_past l (length terms)) [
+terms_wide v terms l h = elim (cases_lt l (length terms)) [
   | inl k ↦ (let e = at_of (λ t. columns t ≡ v) terms (linear [] (pos 0)) h l k in omega (arith, e))
   | inr k ↦ (let e = terms_past terms l k in omega (arith, e))
 ]

@@ -1,15 +1,15 @@
 use Rattle.std.proofs.Common.{◌≡◌, ◌⊎◌, inl, inr, ℕ, zero, suc, ◌+◌, ◌*◌, ◌^◌, ◌<◌, ◌≤◌, List, [], ◌∷◌, ◌++◌, length, length-append, map, get_or, All, Option, None, Some, arith, refl, sym, ap, ◌∙◌, subst, ℤ, pos, neg_ℤ, ◌+ℤ◌, ◌-ℤ◌, ◌*ℤ◌, ◌≤ℤ◌, ◌<ℤ◌, unsigned_abs}
 use Rattle.std.proofs.lemmas.Int.{ints, unsigned_abs-mul}
-use Rattle.std.proofs.lemmas.List.{length-map, map-append}
-use Rattle.std.proofs.lemmas.List.Elements.{All-head, All-tail}
+use Rattle.std.proofs.lemmas.List.{length-map, map-append, get_or-map}
+use Rattle.std.proofs.lemmas.List.Elements.{All-head, All-tail, All-from_get_or}
 use Rattle.std.proofs.Math.IntN.{*ℤ_comm}
 use Rattle.tv_linear.specs.Linear.{Linear, linear, dot}
 use Rattle.tv_linear.specs.Fits.{IsHeld}
 use Rattle.tv_linear.specs.Known.{Known, denied, number, known_number, KnownHeld, as_given, place_sum, PlacesHeld}
 use Rattle.tv_linear.specs.Refutation.{RowsHeld, column_sum, ColumnHeld, Refutes}
 use Rattle.tv_linear.proofs.KnownLemmas.{as_given-append, length-given}
-use Rattle.tv_refute.proofs.Places.{get_or-left, get_or-right, get_or-map}
-use Rattle.tv_farkas.proofs.SystemLemmas.{all_of, dot-total}
+use Rattle.tv_refute.proofs.Places.{get_or-left, get_or-right}
+use Rattle.tv_farkas.proofs.SystemLemmas.{dot-total, known-given}
 use Rattle.tv_simplex.specs.Sums.{total}
 use Rattle.tv_simplex.specs.Outcomes.{IsShort}
 use Rattle.tv_simplex.proofs.Sums.{total-same}
@@ -26,10 +26,6 @@ dot-last [] [] m r e = omega (arith, ints)
 dot-last [] (y ∷ rs) m r e = absurd (omega (arith, e))
 dot-last (x ∷ ms) [] m r e = absurd (omega (arith, e))
 dot-last (x ∷ ms) (y ∷ rs) m r e = (let h = dot-last ms rs m r (omega (arith, e)) in omega (arith, ints, h))
-
-given-numbers : (c : Option ℕ) (rows : List Linear) → map (λ k. known_number k c) (as_given rows) ≡ map (λ r. number c r) rows
-given-numbers c [] = refl
-given-numbers c (r ∷ rows) = ap (λ zs. number c r ∷ zs) (given-numbers c rows)
 
 pub length-read : (xs : List ℤ) (s n : ℕ) → length (multipliers_read xs s n) ≡ n
 length-read xs s zero = refl
@@ -110,7 +106,7 @@ module _ (v : ℕ) (w : Way) (row : Known) (xs : List ℤ) (s : ℕ) where
 
   sum_is : (c : Option ℕ) → column_sum (line_read xs s w) (as_given (met_rows w) ++ denied row ∷ []) c ≡ rows_sum w xs s c +ℤ known_number (denied row) c
   sum_is c =
-      ap (dot (line_read xs s w)) (map-append (λ k. known_number k c) (as_given (met_rows w)) (denied row ∷ []) ∙ ap (λ zs. zs ++ known_number (denied row) c ∷ []) (given-numbers c (met_rows w)))
+      ap (dot (line_read xs s w)) (map-append (λ k. known_number k c) (as_given (met_rows w)) (denied row ∷ []) ∙ ap (λ zs. zs ++ known_number (denied row) c ∷ []) (known-given c (met_rows w)))
       ∙ dot-last ms (map (λ r. number c r) (met_rows w)) (pos 1) (known_number (denied row) c) (length-read xs s n ∙ sym (length-map (met_rows w) (λ r. number c r)))
       ∙ (λ i. dot_is c i +ℤ one (known_number (denied row) c) i)
     where
@@ -131,7 +127,7 @@ module _ (v : ℕ) (w : Way) (row : Known) (xs : List ℤ) (s : ℕ) where
       → IsShownBy v w row (line_read xs s w)
   shown few short positive narrow columns constant bounded held small = subst (λ zs. Refutes (width v w) (zs ++ denied row ∷ []) (line_read xs s w)) (as_given-append w.known w.taken.guards) (record {
     as_many = length-append ms (pos 1 ∷ []) ∙ (let a = length-read xs s n in let b = length-append (as_given (met_rows w)) (denied row ∷ []) in let d = length-given (met_rows w) in omega (arith, a, b, d));
-    none_negative = all_of (λ m. pos 0 ≤ℤ m) (line_read xs s w) (pos 0) (λ i l. sign i l);
+    none_negative = All-from_get_or (λ m. pos 0 ≤ℤ m) (line_read xs s w) (pos 0) (λ i l. sign i l);
     columns = λ j l. sum_is (Some j) ∙ (let e = columns j l in omega (arith, ints, e));
     constant = (let e = sum_is None in omega (arith, ints, e, constant));
     columns_held = λ j l. rows_held (Some j) l (let e = columns j l in omega (arith, ints, e)) (held (Some j) l, (let b = small (Some j) l in let w : unsigned_abs (neg_ℤ (known_number row (Some j))) < 2 ^ 127 = omega (arith, ints, b) in w));
@@ -149,8 +145,8 @@ module _ (v : ℕ) (w : Way) (row : Known) (xs : List ℤ) (s : ℕ) where
 
       rows_held : (c : Option ℕ) → Inside (width v w) c → unsigned_abs (rows_sum w xs s c +ℤ known_number (denied row) c) < 2 ^ 127 → KnownHeld (denied row) c → ColumnHeld (line_read xs s w) (as_given (met_rows w) ++ denied row ∷ []) c
       rows_held c c_in end denial = rows_held_last c row 0 (pos 0) ms (met_rows w) (length-read xs s n) (omega (arith, few)) (omega arith)
-          (all_of IsShort ms (pos 0) (λ i l. subst IsShort (sym (get-read xs s n i (at i l))) (short i (at i l))))
-          (all_of (λ r. unsigned_abs (number c r) < 2 ^ 41) (met_rows w) (linear [] (pos 0)) (λ i l. narrow i c l c_in))
+          (All-from_get_or IsShort ms (pos 0) (λ i l. subst IsShort (sym (get-read xs s n i (at i l))) (short i (at i l))))
+          (All-from_get_or (λ r. unsigned_abs (number c r) < 2 ^ 41) (met_rows w) (linear [] (pos 0)) (λ i l. narrow i c l c_in))
           denial
           (denial_held c c_in)
           (subst IsHeld (let d = dot_is c in let z : rows_sum w xs s c +ℤ known_number (denied row) c ≡ (pos 0 +ℤ dot ms (map (λ r. number c r) (met_rows w))) +ℤ pos 1 *ℤ known_number (denied row) c = omega (arith, ints, d) in z) end)

@@ -8,8 +8,8 @@ use Rattle.tv_linear.specs.Arithmetic.{constant_row}
 use Rattle.tv_linear.specs.Linear.{Linear, columns}
 use Rattle.tv_linear.specs.Known.{Term, kept, put, number, given, composed, known_number, term_number, place_sum}
 use Rattle.tv_linear.specs.Terms.{table, update_of, terms_after}
-use Rattle.tv_linear.proofs.ListLaws.{test_true, test_false}
-use Rattle.tv_refute.proofs.Places.{get_or-left, get_or-right, get_or-map, unit_same, unit_other}
+use Rattle.tv_linear.proofs.ListLaws.{test_true, test_false, map-table}
+use Rattle.tv_refute.proofs.Places.{get_or-left, get_or-right, unit_same, unit_other}
 use Rattle.tv_simplex.specs.Sums.{total}
 use Rattle.tv_simplex.specs.Systems.{entry_at}
 use Rattle.tv_simplex.specs.Outcomes.{IsSolutionOf}
@@ -24,11 +24,12 @@ use Rattle.tv_rank.specs.Ways.{Way, met_rows, touches}
 use Rattle.tv_rank.specs.RankingSystem.{unit_at, number_of, after, entered, left, term_entry, entry, right_of, pairs_below, term_unknowns, terms_below, multipliers_below, identity_unknowns, steps_below, unknowns, lines, step_lines, identity_lines, ranking_system}
 use Rattle.tv_rank.specs.Reading.{difference, differences, term_read, read_at}
 use Rattle.tv_rank.proofs.Over.{over, Inside, over-same, over-less, over-zero, if_true, if_false, picked}
-use Rattle.tv_rank.proofs.Listed.{all_first, all_second, all_by_place, of_lines, of_step_lines, weighted, weighted-append, weighted-last, weighted-total, total-front}
+use Rattle.tv_rank.proofs.Listed.{all_first, all_second, all_by_place, of_lines, of_step_lines, weighted, weighted-append, weighted-last, weighted-total}
 use Rattle.tv_rank.proofs.Barriers.{line, row_of, width, over_put, over_opposite, picked_turned}
-use Rattle.tv_rank.proofs.Points.{map-table}
 use Rattle.tv_rank.proofs.Lengths.{length-pairs, length-multipliers, length-differences}
 use Rattle.tv_rank.proofs.Flattened.{entry_of}
+use Rattle.std.proofs.lemmas.List.{get_or-map, get_or_past}
+use Rattle.tv_farkas.proofs.SystemLemmas.{total-front}
 
 -- ---- the numbers that are read
 pub get-differences : (xs : List ℤ) (s v j : ℕ) → j < v → get_or (differences xs s v) j (pos 0) ≡ difference xs s j
@@ -89,11 +90,6 @@ terms-sum g x positive negative xs ways many v (suc l) =
     by_touch false s = sym (over-zero v (λ m. x l m *ℤ number m (constant_row v (pos 0))) (λ m k. ap (λ z. x l m *ℤ z) (constant-numbers v m) ∙ omega (arith, ints)))
 
 -- ---- the number of a term in a column
-pub past_end : {A : Type 0} (cs : List A) (j : ℕ) (d : A) → length cs ≤ j → get_or cs j d ≡ d
-past_end [] j d h = refl
-past_end (c ∷ cs) zero d h = absurd (omega (arith, h))
-past_end (c ∷ cs) (suc j) d h = past_end cs j d (omega (arith, h))
-
 pub unit-number : (v : ℕ) (c : Option ℕ) (f : Linear) → columns f ≡ v → over v (λ m. unit_at m c *ℤ number m f) ≡ number c f
 unit-number v None f e = (let z = total-zero v (λ m. pos 0 *ℤ number (Some m) f) (λ m l. omega (arith, ints)) in omega (arith, ints, z))
 unit-number v (Some j) f e = elim (below_or_past j v) [
@@ -103,7 +99,7 @@ unit-number v (Some j) f e = elim (below_or_past j v) [
       omega (arith, ints, a, b))
   | inr p ↦ (
       let a = total-zero v (λ m. unit_at (Some m) (Some j) *ℤ number (Some m) f) (λ m k. one (m == j) (number (Some m) f) ∙ if_false (m == j) (number (Some m) f) (pos 0) (test_false m j (λ q. omega (arith, q, k, p)))) in
-      let b = past_end f.coefficients j (pos 0) (omega (arith, e, p)) in
+      let b = get_or_past f.coefficients j (pos 0) (omega (arith, e, p)) in
       omega (arith, ints, a, b))
 ]
   where

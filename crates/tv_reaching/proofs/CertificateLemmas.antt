@@ -18,6 +18,7 @@ use Rattle.tv_points.specs.Lines.{IsLineFault}
 use Rattle.tv_points.specs.RunLines.{run_lines}
 use Rattle.tv_points.specs.Nodes.{IsDisproof, DisprovesFirst}
 use Rattle.tv_points.specs.declared.fault.PointFault.{PointFault}
+use Rattle.std.proofs.lemmas.List.{length-map}
 
 abbrev taken_of : List Step → List ℕ
 taken_of steps = map (λ (s : Step). s.taken) steps
@@ -34,12 +35,8 @@ along_lengths about (k ∷ path) [] s run h = absurd h
 along_lengths about (k ∷ path) (ds ∷ draws) s [] h = absurd h
 along_lengths about (k ∷ path) (ds ∷ draws) s (t ∷ run) h = let a = along_lengths about path draws t run h.1 in (ap suc a.0, ap suc a.1)
 
-length-mapped : {A B : Type 0} (f : A → B) (xs : List A) → length (map f xs) ≡ length xs
-length-mapped f [] = refl
-length-mapped f (x ∷ xs) = ap suc (length-mapped f xs)
-
 pub even : (about : CaseSystem) (path : List ℕ) (draws : List (Vec ℤ)) (s : programs.State) (run : List programs.State) → IsAlong about path (lists_of draws) s run → length draws ≡ length path
-even about path draws s run h = sym (length-mapped (λ (v : Vec ℤ). v.items) draws) ∙ (along_lengths about path (lists_of draws) s run h).0
+even about path draws s run h = sym (length-map draws (λ (v : Vec ℤ). v.items)) ∙ (along_lengths about path (lists_of draws) s run h).0
 
 -- from the place on, the list goes on with these
 abbrev Reads : {A : Type 0} → List A → ℕ → List A → Type 0
@@ -89,8 +86,8 @@ module _ (about : CaseSystem) (found : Found) (h : IsFoundRun about found) where
       let first : seen s ≡ first_state about found = cc in
       let later : map seen rest ≡ h.run = cc in
       let lengths = along_lengths about found.path.now (lists_of found.draws.now) (first_state about found) h.run h.along in
-      let many : length rest ≡ length h.run = sym (length-mapped seen rest) ∙ ap length later in
-      let taken : length steps ≡ length found.path.now = sym (length-mapped (λ (s : Step). s.taken) steps) ∙ ap length parts.path in
+      let many : length rest ≡ length h.run = sym (length-map rest seen) ∙ ap length later in
+      let taken : length steps ≡ length found.path.now = sym (length-map steps (λ (s : Step). s.taken)) ∙ ap length parts.path in
       let same : length rest ≡ length steps = many ∙ lengths.1 ∙ sym taken in
       let l = last_is s rest in
       let few = h.few in

@@ -1,6 +1,5 @@
 -- the state after a step
-use Rattle.std.proofs.Common.{◌≡◌, ℕ, zero, suc, ◌<◌, ◌∙◌, List, [], ◌∷◌, ◌++◌, length, map, All, Some, slice_get, ℤ, sym, ap, subst}
-use Rattle.std.proofs.lemmas.List.Elements.{All-head, All-tail}
+use Rattle.std.proofs.Common.{◌≡◌, ℕ, ◌<◌, ◌∙◌, List, ◌++◌, length, map, Some, slice_get, ℤ, sym, ap, subst}
 use Rattle.tv_linear.specs.Known.{term_value}
 use Rattle.tv_linear.specs.Terms.{terms_after}
 use Rattle.tv_program.specs.Steps as programs
@@ -11,14 +10,7 @@ use Rattle.tv_points.specs.declared.fault.PointFault.{PointFault}
 use Rattle.tv_reaching.specs.FoundRuns.{Takes, state_at}
 use Rattle.tv_reaching.specs.Making.{AreNumbers, IsNext, IsWideValue}
 use Rattle.tv_reaching.proofs.ValueLemmas.{length-values}
-
-got_all : {A : Type 0} (P : A → Type 0) (xs : List A) (i : ℕ) (x : A) → All P xs → slice_get xs i ≡ Some x → P x
-got_all P [] i x h e = absurd cc
-got_all P (y ∷ xs) zero x h e = subst P (let s : y ≡ x = cc in s) (All-head P y xs h)
-got_all P (y ∷ xs) (suc i) x h e = got_all P xs i x (All-tail P y xs h) e
-
-got_one : {A : Type 0} (xs : List A) (i : ℕ) (x y : A) → slice_get xs i ≡ Some x → slice_get xs i ≡ Some y → x ≡ y
-got_one xs i x y e f = cc
+use Rattle.tv_points.proofs.PlaceLemmas.{got_one, got_all}
 
 -- the state is what the case computes at the point of values and draws
 module _ (about : CaseSystem) (c : LinearCase) (number n : ℕ) (draws point : List ℤ) (s : State) (found : slice_get about.cases number ≡ Some c) (counted : n ≡ about.variables) (state : IsState about s) (point_is : point ≡ s.values.items ++ draws) where

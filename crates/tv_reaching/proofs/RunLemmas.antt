@@ -10,11 +10,10 @@ use Rattle.tv_program.specs.Steps as programs
 use Rattle.tv_cases.specs.LinearCases.{CaseSystem}
 use Rattle.tv_points.specs.States.{seen, IsState}
 use Rattle.tv_points.specs.declared.state.State.{State}
-use Rattle.tv_points.specs.declared.step.Step.{Step}
 use Rattle.tv_points.specs.declared.fault.PointFault.{PointFault}
 use Rattle.tv_points.specs.declared.fault.PointFault.TheVariants.{Wide, Memory}
 use Rattle.tv_reaching.specs.FoundRuns.{IsAlong, Takes, IsWideRun, lists_of}
-use Rattle.tv_reaching.specs.Making.{IsNext, IsWideValue, CanRun, ArePushed, AreStepsPushed}
+use Rattle.tv_reaching.specs.Making.{IsNext, IsWideValue, CanRun, ArePushed}
 use Rattle.tv_reaching.proofs.ValueLemmas.{rest_of, rest_is}
 
 -- the first step of a run, and the steps behind it
@@ -95,17 +94,3 @@ states_more about path draws k v state next old pushed new result l m e f here i
     MatchResult-weaker result (behind a.later (further about path draws k v (seen state) run a next n))
     (λ _ p. one_more about state next run a.later a.next old pushed new a.parts here n.same put p)
     (λ fault w. subst (λ r. IsWideRun r fault) (sym a.parts) (wide_later a.next a.later fault (subst (λ (t : programs.State). All (IsWithin 62) t.values) n.same n.state.point.narrow) w))
-
--- ---- steps
-pub step_more : (path : List ℕ) (draws : List (Vec ℤ)) (k : ℕ) (v : Vec ℤ) (place : ℕ) (step : Step) (old pushed new : List Step) → 1 ≤ length path → 1 ≤ length draws → k ≡ get_or path 0 0 → v ≡ get_or draws 0 v →
-    step.taken ≡ k → step.draws.items ≡ v.items → step.next ≡ place + 1 → pushed ≡ old ++ step ∷ [] →
-    AreStepsPushed (rest_of path) (lists_of (rest_of draws)) (place + 1) pushed new → AreStepsPushed path (lists_of draws) place old new
-step_more [] draws k v place step old pushed new l m e f taken drawn next put h = absurd (omega (arith, l))
-step_more (i ∷ path) [] k v place step old pushed new l m e f taken drawn next put h = absurd (omega (arith, m))
-step_more (i ∷ path) (w ∷ draws) k v place step old pushed new l m e f taken drawn next put h = record {
-  more = step ∷ h.more;
-  parts = h.parts ∙ ap (λ xs. xs ++ h.more) put ∙ append_assoc old (step ∷ []) h.more;
-  path_is = (λ j. (taken ∙ e) j ∷ (h.path_is ∙ rest_is i path) j);
-  draws_are = (λ j. (drawn ∙ ap (λ (u : Vec ℤ). u.items) f) j ∷ (h.draws_are ∙ ap lists_of (rest_is w draws)) j);
-  in_order = (next, h.in_order);
-}

@@ -1,26 +1,24 @@
 -- values of variables after a case
-use Rattle.std.proofs.Common.{◌≡◌, ℕ, zero, suc, ◌+◌, ◌-◌, ◌<◌, ◌≤◌, ◌∙◌, List, [], ◌∷◌, ◌++◌, length, map, take, drop, get_or, All, ℤ, pos, ◌+ℤ◌, ◌*ℤ◌, refl, sym, ap, subst, arith, add-one}
+use Rattle.std.proofs.Common.{◌≡◌, ℕ, ◌+◌, ◌-◌, ◌<◌, ◌≤◌, ◌∙◌, List, [], ◌∷◌, ◌++◌, length, map, take, drop, get_or, All, ℤ, pos, ◌+ℤ◌, ◌*ℤ◌, sym, ap, subst, arith, add-one}
 use Rattle.std.proofs.lemmas.List.Elements.{All-get_or}
 use Rattle.tv_linear.specs.Linear.{IsWithin, dot}
 use Rattle.tv_linear.specs.Known.{term_value}
 use Rattle.tv_linear.specs.Terms.{update_of, terms_after}
 use Rattle.tv_linear.specs.declared.region.Update.{Update}
 use Rattle.tv_linear.proofs.PlainLists.{length-table}
-use Rattle.tv_linear.proofs.ListLaws.{map-push, table-push, get_or-table}
+use Rattle.tv_linear.proofs.ListLaws.{table-push, get_or-table}
 use Rattle.tv_reaching.specs.FoundRuns.{IsWideAt}
+use Rattle.std.proofs.Math.Seq.{take-length}
+use Rattle.std.proofs.lemmas.List.{get_or-map, length-map, map_push}
 
 -- ---- lists without their first item
 abbrev pub rest_of : {A : Type 0} → List A → List A
 rest_of xs = take (length xs - 1) (drop 1 xs)
 
-take_whole : {A : Type 0} (xs : List A) → take (length xs) xs ≡ xs
-take_whole [] = refl
-take_whole (x ∷ xs) = ap (λ ys. x ∷ ys) (take_whole xs)
-
 pub rest_is : {A : Type 0} (x : A) (xs : List A) → rest_of (x ∷ xs) ≡ xs
 rest_is x xs =
     let k : length (x ∷ xs) - 1 ≡ length xs = omega arith in
-    ap (λ j. take j xs) k ∙ take_whole xs
+    ap (λ j. take j xs) k ∙ take-length xs
 
 pub length-rest : {A : Type 0} (xs : List A) → 1 ≤ length xs → length (rest_of xs) + 1 ≡ length xs
 length-rest [] l = absurd (omega (arith, l))
@@ -38,24 +36,15 @@ pub values-push : (point : List ℤ) (us : List Update) (n : ℕ) → map (term_
 values-push point us n =
     ap (λ k. map (term_value point) (terms_after k us)) (add-one n)
     ∙ ap (map (term_value point)) (table-push n (update_of us))
-    ∙ map-push (term_value point) (terms_after n us) (update_of us n)
-
-length-mapped : {A B : Type 0} (f : A → B) (xs : List A) → length (map f xs) ≡ length xs
-length-mapped f [] = refl
-length-mapped f (x ∷ xs) = ap suc (length-mapped f xs)
+    ∙ map_push (term_value point) (terms_after n us) (update_of us n)
 
 pub length-values : (point : List ℤ) (us : List Update) (n : ℕ) → length (map (term_value point) (terms_after n us)) ≡ n
-length-values point us n = length-mapped (term_value point) (terms_after n us) ∙ length-table n (update_of us)
-
-get_or-mapped : {A B : Type 0} (f : A → B) (xs : List A) (k : ℕ) (d : A) (e : B) → k < length xs → get_or (map f xs) k e ≡ f (get_or xs k d)
-get_or-mapped f [] k d e h = absurd (omega arith)
-get_or-mapped f (x ∷ xs) zero d e h = refl
-get_or-mapped f (x ∷ xs) (suc k) d e h = get_or-mapped f xs k d e (omega arith)
+length-values point us n = length-map (terms_after n us) (term_value point) ∙ length-table n (update_of us)
 
 value_at : (point : List ℤ) (us : List Update) (n v : ℕ) → v < n → get_or (map (term_value point) (terms_after n us)) v (pos 0) ≡ term_value point (update_of us v)
 value_at point us n v h =
     let l = length-table n (update_of us) in
-    get_or-mapped (term_value point) (terms_after n us) v (update_of us v) (pos 0) (omega (arith, h, l))
+    get_or-map (term_value point) (terms_after n us) v (update_of us v) (pos 0) (omega (arith, h, l))
     ∙ ap (term_value point) (get_or-table n (update_of us) v (update_of us v) h)
 
 -- the first value that is too wide

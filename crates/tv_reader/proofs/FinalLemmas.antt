@@ -33,7 +33,7 @@ use Rattle.tv_reader.specs.ProgramGrammar.{Items, program_at}
 use Rattle.tv_reader.specs.Places.{line_of, column_of}
 use Rattle.tv_reader.specs.Readers.{is_closed, are_known, left, Fixture, fixture, Steady, IsSteady, Unless, kind_of, starts_view, items_view}
 use Rattle.tv_reader.specs.FirstFaults.{ends_with_colon, brought_in, HasFault, IsRefused, IsReadAs, fault_at, IsMade}
-use Rattle.tv_reading.proofs.LinearLemmas.{and_left, and_right, and_both}
+use Rattle.tv_reading.proofs.LinearLemmas.{and_left, and_right}
 use Rattle.tv_reader.proofs.WordLemmas.{has, has_all, has_each, take_all}
 use Rattle.tv_reader.proofs.TokenLemmas.{tokens_closed}
 use Rattle.tv_reader.proofs.StepLemmas.{here}
@@ -41,6 +41,8 @@ use Rattle.tv_reader.proofs.ProgramExact.{program_exact}
 use Rattle.tv_reader.proofs.ProgramEnds.{program_ends}
 use Rattle.tv_reader.proofs.ProgramLoose.{program_loose}
 use Rattle.tv_reader.proofs.WholeTexts.{program_found, IsReadWhole, program_only}
+use Rattle.std.proofs.lemmas.List.{take-append-drop}
+use Rattle.std.proofs.lemmas.Bool.{and_from}
 
 -- ---- lists
 
@@ -64,17 +66,11 @@ drop_front : {X : Type 0} (b c : List X) → drop (length b) (b ++ c) ≡ c
 drop_front [] c = drop_none c
 drop_front (x ∷ b) c = drop_front b c
 
-take_drop : {X : Type 0} (n : ℕ) (xs : List X) → take n xs ++ drop n xs ≡ xs
-take_drop zero [] = refl
-take_drop zero (x ∷ xs) = refl
-take_drop (suc n) [] = refl
-take_drop {X} (suc n) (x ∷ xs) = ap (λ (ys : List X). x ∷ ys) (take_drop n xs)
-
 -- ---- at the front of a text
 
 all_known : (names ws : List Word) → has_all names ws ≡ true → are_known names ws ≡ true
 all_known names [] h = refl
-all_known names (w ∷ ws) h = and_both _ _ (first (has names w) (and_left _ _ h)) (all_known names ws (and_right _ _ h))
+all_known names (w ∷ ws) h = and_from _ _ (first (has names w) (and_left _ _ h)) (all_known names ws (and_right _ _ h))
   where
     first : (b : Bool) → b ≡ true → (b || nat_le 512 (length names)) ≡ true
     first true e = refl
@@ -82,7 +78,7 @@ all_known names (w ∷ ws) h = and_both _ _ (first (has names w) (and_left _ _ h
 
 all_full : (names ws : List Word) → 512 ≤ length names → are_known names ws ≡ true
 all_full names [] h = refl
-all_full names (w ∷ ws) h = and_both _ _ (either (has names w)) (all_full names ws h)
+all_full names (w ∷ ws) h = and_from _ _ (either (has names w)) (all_full names ws h)
   where
     many : nat_le 512 (length names) ≡ true
     many = grind (arith, nat_tests)
@@ -227,7 +223,7 @@ module _ (text : List ℕ) (tokens : List Token) (scanned : IsTokens 0 text toke
         let h = here u.reading steady.reads.closed in
         let before : List Token = take u.reading.at tokens in
         let behind : drop u.reading.at tokens ≡ h.token ∷ h.rest = ap (drop u.reading.at) (sym (same_tokens u same)) ∙ h.parts in
-        let parts : before ++ h.token ∷ h.rest ≡ tokens = ap (λ (ts : List Token). before ++ ts) (sym behind) ∙ take_drop u.reading.at tokens in
+        let parts : before ++ h.token ∷ h.rest ≡ tokens = ap (λ (ts : List Token). before ++ ts) (sym behind) ∙ take-append-drop u.reading.at tokens in
         let f : Refuses program_at 63 k (left r) (left u) = refuses program_at program_exact program_ends (λ kept syntax n m l. program_loose kept syntax n m l) 63 k (left r) (left u) e in
         let long : length (left u) ≡ length (drop u.reading.at u.reading.tokens) = marks_length _ u.behind_colon u.reading.draws _ ∙ lexemes_length u.reading.text (drop u.reading.at u.reading.tokens) in
         let rest : length (left u) ≡ length (h.token ∷ h.rest) = long ∙ ap length h.parts in

@@ -7,7 +7,6 @@ use Rattle.tv_program.specs.Trees.{Instruction, assume, assign}
 use Rattle.tv_language.specs.Symbols.{name, label, fixed, is_colon}
 use Rattle.tv_grammar.specs.Langs.{unit, then, mapped, OfBranch, headed, goes_at, turns}
 use Rattle.tv_grammar.specs.Exact.{Outside, Ends, nowhere}
-use Rattle.tv_grammar.proofs.Results.{neither}
 use Rattle.tv_grammar.proofs.OutsideLemmas.{BranchOutside, mapped_outside, headed_outside, then_outside, outside_ends, turns_outside}
 use Rattle.tv_reading.specs.Marks.{Kind, Syntax, Wide, TwoStarts, TooMany, Mark, plain, refused}
 use Rattle.tv_reading.specs.SumGrammar.{Grammar, Behind, refuse_by, sum_at}
@@ -15,6 +14,8 @@ use Rattle.tv_reading.specs.ConditionGrammar.{condition_at}
 use Rattle.tv_reading.proofs.SumLemmas.{sum_goes_on}
 use Rattle.tv_reading.proofs.ConditionEnds.{condition_closes}
 use Rattle.tv_reader.specs.ProgramGrammar.{go_if, token_cases, token, is_semicolon, is_left, is_right, is_assign, ended, semicolon_cases, perhaps_ended, label_cases, place, assumption, assignment, command_cases, Items, no_items, with_start, with_edge, until, last_of_edge, edge, has_start, is_full, item_cases, last_of_program, program_at}
+use Rattle.tv_reader.proofs.ProgramTexts.{one_semicolon, one_right}
+use Rattle.std.proofs.lemmas.Bool.{or_from}
 
 -- nothing goes on
 abbrev Stops : {X : Type 0} → Grammar X → Type 0
@@ -58,15 +59,7 @@ then_token : {X Y : Type 0} (a : Grammar X) (is : TokenKind → Bool) (kind : To
 then_token a is kind one h b i d t e =
     let m : Mark = d.1.0 in
     let head : m ≡ plain (fixed kind) = token_head is (b (a.value d.0)) kind one d.1.0 d.1.1 in
-    neither _ _ (token_stops is (b (a.value d.0)) (i (a.value d.0)) d.1 t e) (rw head (h d.0))
-
-one_semicolon : (k : TokenKind) → is_semicolon k ≡ true → k ≡ kinds.Semicolon
-one_semicolon kinds.Semicolon e = refl
-one_semicolon k e = absurd cc
-
-one_right : (k : TokenKind) → is_right k ≡ true → k ≡ kinds.RightRound
-one_right kinds.RightRound e = refl
-one_right k e = absurd cc
+    or_from _ _ (token_stops is (b (a.value d.0)) (i (a.value d.0)) d.1 t e) (rw head (h d.0))
 
 refuse_stops : {X : Type 0} (b : Bool) (k : Kind) (l : Grammar X) → Stops l → BranchStops (refuse_by b k l)
 refuse_stops true k l h d t e = absurd d

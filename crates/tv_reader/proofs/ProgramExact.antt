@@ -10,9 +10,9 @@ use Rattle.tv_grammar.specs.Exact.{Exact, ExactBranch}
 use Rattle.tv_grammar.proofs.ExactLemmas.{unit_exact, then_exact, mapped_exact, headed_exact}
 use Rattle.tv_grammar.proofs.TurnLemmas.{turns_exact}
 use Rattle.tv_reading.specs.Marks.{Kind, Syntax, Wide, TwoStarts, TooMany, Mark, plain, refused}
-use Rattle.tv_reading.specs.SumGrammar.{Grammar, Behind, refuse_by, sum_at}
+use Rattle.tv_reading.specs.SumGrammar.{Grammar, Behind, sum_at}
 use Rattle.tv_reading.specs.ConditionGrammar.{condition_at}
-use Rattle.tv_reading.proofs.SumLemmas.{sum_exact}
+use Rattle.tv_reading.proofs.SumLemmas.{sum_exact, refuse_exact}
 use Rattle.tv_reading.proofs.ConditionLemmas.{condition_exact}
 use Rattle.tv_reader.specs.ProgramGrammar.{go_if, token_cases, token, is_semicolon, is_left, is_right, is_assign, ended, semicolon_cases, perhaps_ended, label_cases, place, assumption, assignment, command_cases, Items, no_items, with_start, with_edge, until, last_of_edge, edge, has_start, is_full, item_cases, last_of_program, program_at}
 
@@ -42,10 +42,6 @@ semicolon_branch false _ = tt
 
 pub perhaps_exact : {X : Type 0} (x : X) → Exact (perhaps_ended x)
 perhaps_exact x = mapped_exact (λ came. x) (turns semicolon_cases true) (turns_exact semicolon_cases semicolon_branch true)
-
-refuse_exact : {X : Type 0} (b : Bool) (k : Kind) (l : Grammar X) → Exact l → ExactBranch (refuse_by b k l)
-refuse_exact true k l h = tt
-refuse_exact false k l h = h
 
 label_branch : (kept : Kind → Bool) (m : Mark) → ExactBranch (label_cases kept m)
 label_branch kept (plain (label l)) = unit_exact l

@@ -14,12 +14,13 @@ use Rattle.tv_grammar.specs.Reads.{next}
 use Rattle.tv_reading.specs.Marks as marks
 use Rattle.tv_reading.specs.Marks.{Mark, plain, refused, symbol_of, symbols_of, TooMany, Stand, past, first, Passes, stay, pass}
 use Rattle.tv_reading.specs.Readings.{taken, token_at, or_end}
-use Rattle.tv_reading.proofs.LinearLemmas.{and_left, and_right, and_both}
+use Rattle.tv_reading.proofs.LinearLemmas.{and_left, and_right}
 use Rattle.tv_reading.proofs.PassedLemmas.{between, here_is, symbols-append, passes_kept}
 use Rattle.tv_reader.specs.ProgramMarks.{mark_by, draws_behind, marks_from}
 use Rattle.tv_reader.specs.ProgramMarks as own
 use Rattle.tv_reader.specs.Readers.{is_last, is_closed, are_known, is_passing, Steady}
 use Rattle.tv_reading.proofs.SymbolLemmas.{body, all_body, draws_at, draws_at_all, draws-append}
+use Rattle.std.proofs.lemmas.Bool.{and_from}
 
 -- ---- the token that comes
 
@@ -241,7 +242,7 @@ module _ (labels : List Word) (u : Stand) (t : Token) (at : first (drop u.at u.t
 
 body_parts : (a : List Mark) (m : Mark) → all_body (symbols_of (a ++ m ∷ [])) ≡ true → (all_body (symbols_of a) ≡ true) × (body (symbol_of m) ≡ true)
 body_parts [] m h = (refl, and_left _ _ h)
-body_parts (x ∷ a) m h = let w = body_parts a m (and_right _ _ h) in (and_both _ _ (and_left _ _ h) w.0, w.1)
+body_parts (x ∷ a) m h = let w = body_parts a m (and_right _ _ h) in (and_from _ _ (and_left _ _ h) w.0, w.1)
 
 pub travels : (labels : List Word) {s u : Stand} → Passes s u → Steady false s → (passed : List Mark) → marks.left s ≡ passed ++ marks.left u → all_body (symbols_of passed) ≡ true → Travels labels s u passed
 travels labels (stay s) w passed e h =

@@ -14,8 +14,8 @@ use Rattle.tv_language.specs.Numbers.{value_of_digits}
 use Rattle.tv_language.specs.WordTexts.{begins_name, continues_name, word_kind, command_kind}
 use Rattle.tv_language.specs.Fronts.{span, section, word_front, single_front, symbol_front, solid_front, gap_or, front_of}
 use Rattle.tv_language.specs.Tokens.{IsTokens, end, gap, solid, unread}
-use Rattle.tv_reading.proofs.LinearLemmas.{and_both}
 use Rattle.tv_reader.specs.Readers.{is_last, is_closed}
+use Rattle.std.proofs.lemmas.Bool.{and_from}
 
 -- ---- no front ends a list as a token
 
@@ -88,7 +88,7 @@ front_going (b ∷ bs) = gap_going (gap_of (b ∷ bs)) (solid_front b bs) (solid
 
 longer : (t : Token) (ts : List Token) → is_last t.kind ≡ false → is_closed ts ≡ true → is_closed (t ∷ ts) ≡ true
 longer t [] h c = absurd cc
-longer t (u ∷ us) h c = and_both _ _ (ap not h) c
+longer t (u ∷ us) h c = and_from _ _ (ap not h) c
 
 pub tokens_closed : {at : ℕ} {text : List ℕ} {ts : List Token} → IsTokens at text ts → is_closed ts ≡ true
 tokens_closed (end e) = refl

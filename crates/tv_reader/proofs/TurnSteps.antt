@@ -22,6 +22,7 @@ use Rattle.tv_reader.specs.Readers.{Unless, kind_of, Turned}
 use Rattle.tv_reader.specs.declared.reason.Reason.{Reason}
 use Rattle.tv_reader.specs.declared.reason.Reason.TheVariants as reasons
 use Rattle.tv_reading.specs.declared.reason.Turn.TheVariants.{On, Off}
+use Rattle.std.proofs.Math.Bool.{and-true}
 
 -- ---- a turn that is taken
 
@@ -92,18 +93,14 @@ stop_refusable : {X : Type 0} (b : Bool) → b ≡ true → (k : Kind) (l : Gram
 stop_refusable true e k l = refl
 stop_refusable false e k l = absurd cc
 
-and_true : (b : Bool) → (b && true) ≡ b
-and_true true = refl
-and_true false = refl
-
 pub item_mark_begins : (s : Items) (ms us : List Mark) → ms ≡ plain (fixed kinds.Mark) ∷ us → Begins (item_cases every 63) s ms ((perhaps_ended s).read us)
 item_mark_begins s ms us e = (ap (λ x. goes_at (item_cases every 63 s) (next x)) e, ap (headed_read Syntax (item_cases every 63 s)) e)
 
 pub start_off : (s : Items) (ms : List Mark) → has_start s.starts ≡ true → next ms ≡ Some (plain (fixed kinds.Start)) → goes_at (item_cases every 63 s) (next ms) ≡ false
-start_off s ms h e = ap (goes_at (item_cases every 63 s)) e ∙ stop_refusable (has_start s.starts && true) (and_true (has_start s.starts) ∙ h) TwoStarts (mapped (with_start s) (place every))
+start_off s ms h e = ap (goes_at (item_cases every 63 s)) e ∙ stop_refusable (has_start s.starts && true) (and-true (has_start s.starts) ∙ h) TwoStarts (mapped (with_start s) (place every))
 
 pub from_off : (s : Items) (ms : List Mark) → is_full s.edges ≡ true → next ms ≡ Some (plain (fixed kinds.From)) → goes_at (item_cases every 63 s) (next ms) ≡ false
-from_off s ms h e = ap (goes_at (item_cases every 63 s)) e ∙ stop_refusable (is_full s.edges && true) (and_true (is_full s.edges) ∙ h) TooMany (grammar.edge every 63 s)
+from_off s ms h e = ap (goes_at (item_cases every 63 s)) e ∙ stop_refusable (is_full s.edges && true) (and-true (is_full s.edges) ∙ h) TooMany (grammar.edge every 63 s)
 
 pub item_off : (v : Vocabulary) (d : ℕ) (kind : TokenKind) (w : Word) (s : Items) → (kind ≡ kinds.Start → ⊥) → (kind ≡ kinds.From → ⊥) → (kind ≡ kinds.Passed → ⊥) → (kind ≡ kinds.Mark → ⊥) → goes_at (item_cases every 63 s) (Some (mark_by v false d kind w)) ≡ false
 item_off v d kinds.Start w s a b c e = absurd (a refl)

@@ -14,10 +14,11 @@ use Rattle.tv_language.specs.Symbols.{Symbol, number, name, label, drawn, fixed,
 use Rattle.tv_language.specs.Programs as programs
 use Rattle.tv_language.specs.Programs.{AreItems, no_item, start, passed, draws_counted}
 use Rattle.tv_reading.specs.Marks.{plain, refused, symbol_of, symbols_of, TooMany}
-use Rattle.tv_reading.proofs.LinearLemmas.{and_left, and_right, and_both}
+use Rattle.tv_reading.proofs.LinearLemmas.{and_left, and_right}
 use Rattle.tv_reader.specs.ProgramMarks.{label_behind, start_word, numbered, mark_by, draws_behind, marks_from}
 use Rattle.tv_reading.proofs.SymbolLemmas.{body, all_body, sound, all_sound, commands_uses}
 use Rattle.tv_reader.proofs.WordLemmas.{has, has_all, has_behind, has_here}
+use Rattle.std.proofs.lemmas.Bool.{and_from}
 
 -- ---- what stands in a program
 
@@ -38,7 +39,7 @@ body_fine s h = refl
 
 bodies_fine : (a rest : List Symbol) → all_body a ≡ true → all_fine rest ≡ true → all_fine (a ++ rest) ≡ true
 bodies_fine [] rest h i = i
-bodies_fine (s ∷ a) rest h i = and_both _ _ (body_fine s (and_left _ _ h)) (bodies_fine a rest (and_right _ _ h) i)
+bodies_fine (s ∷ a) rest h i = and_from _ _ (body_fine s (and_left _ _ h)) (bodies_fine a rest (and_right _ _ h) i)
 
 pub items_fine : {starts : List ℕ} {edges : List Transition} {ts : List Symbol} → AreItems starts edges ts → all_fine ts ≡ true
 items_fine no_item = refl
@@ -57,7 +58,7 @@ sound_more d (fixed k) le h = refl
 
 sounds_more : (d : ℕ) (a rest : List Symbol) → d ≤ 64 → all_sound d a ≡ true → all_sound 64 rest ≡ true → all_sound 64 (a ++ rest) ≡ true
 sounds_more d [] rest le h i = i
-sounds_more d (s ∷ a) rest le h i = and_both _ _ (sound_more d s le (and_left _ _ h)) (sounds_more d a rest le (and_right _ _ h) i)
+sounds_more d (s ∷ a) rest le h i = and_from _ _ (sound_more d s le (and_left _ _ h)) (sounds_more d a rest le (and_right _ _ h) i)
 
 pub items_sound : (v l : ℕ) {starts : List ℕ} {edges : List Transition} {ts : List Symbol} → AreItems starts edges ts → list_all (transition_fits v l) edges ≡ true → all_sound 64 ts ≡ true
 items_sound v l no_item h = refl
@@ -140,7 +141,7 @@ symbols_marked v b d [] h i = refl
 symbols_marked v b d (x ∷ xs) h i =
     let f = fine_mark v b d x.kind x.word (and_left _ _ h) (and_left _ _ i) in
     let a = alike v b d x.kind x.word f in
-    and_both _ _ f (symbols_marked v (is_colon x.kind) (draws_behind x.kind d) xs
+    and_from _ _ f (symbols_marked v (is_colon x.kind) (draws_behind x.kind d) xs
     (ap (λ (k : ℕ). all_fine (symbols_from v (is_colon x.kind) k xs)) a.1 ∙ and_right _ _ h)
     (ap (λ (k : ℕ). all_sound 64 (symbols_from v (is_colon x.kind) k xs)) a.1 ∙ and_right _ _ i))
 
@@ -155,13 +156,13 @@ name_has (Some n) h = refl
 name_has None h = absurd cc
 
 labels_by : (v : Vocabulary) (b : Bool) (d : ℕ) (kind : TokenKind) (w : Word) (ws : List Word) → fine (symbol_of (mark_by v b d kind w)) ≡ true → has_all v.labels ws ≡ true → has_all v.labels (symbols.label_by b kind w ws) ≡ true
-labels_by v true d kinds.Name w ws h i = and_both _ _ (label_has (number_of w v.labels) h) i
-labels_by v true d kinds.Number w ws h i = and_both _ _ (label_has (number_of w v.labels) h) i
+labels_by v true d kinds.Name w ws h i = and_from _ _ (label_has (number_of w v.labels) h) i
+labels_by v true d kinds.Number w ws h i = and_from _ _ (label_has (number_of w v.labels) h) i
 labels_by v true d kind w ws h i = i
 labels_by v false d kind w ws h i = i
 
 variables_by : (v : Vocabulary) (b : Bool) (d : ℕ) (kind : TokenKind) (w : Word) (ws : List Word) → fine (symbol_of (mark_by v b d kind w)) ≡ true → has_all v.variables ws ≡ true → has_all v.variables (symbols.variable_by b kind w ws) ≡ true
-variables_by v false d kinds.Name w ws h i = and_both _ _ (name_has (number_of w v.variables) h) i
+variables_by v false d kinds.Name w ws h i = and_from _ _ (name_has (number_of w v.variables) h) i
 variables_by v false d kind w ws h i = i
 variables_by v true d kind w ws h i = i
 
@@ -258,7 +259,7 @@ starts_here v b d x (y ∷ []) l is e = absurd cc
 starts_here v b d x (y ∷ z ∷ zs) l is e =
     let t : Symbol = symbol_by v (is_colon y.kind) (symbols.draws_behind y.kind d) z.kind z.word in
     let k = label_symbol v (is_colon y.kind) (symbols.draws_behind y.kind d) z.kind z.word l (second_is (symbol_by v false d y.kind y.word) t (symbols_from v (is_colon z.kind) (symbols.draws_behind z.kind (symbols.draws_behind y.kind d)) zs) l e) in
-    let both : (is_colon y.kind && is_label z.kind) ≡ true = and_both _ _ k.behind k.is in
+    let both : (is_colon y.kind && is_label z.kind) ≡ true = and_from _ _ k.behind k.is in
     let inner : has (symbols.label_by (is_colon y.kind) z.kind z.word (label_words (is_colon z.kind) zs)) z.word ≡ true = ap (λ (c : Bool). has (in_front c z.word (label_words (is_colon z.kind) zs)) z.word) both ∙ has_here (label_words (is_colon z.kind) zs) z.word in
     record {
       word = z.word;

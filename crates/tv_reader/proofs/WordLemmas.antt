@@ -10,8 +10,9 @@ use Rattle.tv_program.specs.Words.{Word, number_of, words_with, with_new}
 use Rattle.tv_language.specs.Symbols.{by_first_place}
 use Rattle.tv_language.proofs.PlaceOfWords.{shifted, here_or, number_first, or_last, number_more}
 use Rattle.tv_language.proofs.PlaceLemmas.{leads, leader-number}
-use Rattle.tv_reading.proofs.LinearLemmas.{and_left, and_right, and_both}
+use Rattle.tv_reading.proofs.LinearLemmas.{and_left, and_right}
 use Rattle.tv_reader.specs.ProgramMarks.{moved_in_front, led_by}
+use Rattle.std.proofs.lemmas.Bool.{and_from}
 
 -- whether the word has a number among these
 abbrev pub has : List Word → Word → Bool
@@ -50,7 +51,7 @@ has_placed known (u ∷ ws) w h = has_placed (words_with u known) ws w (has_more
 -- all words of a list have a number among them by their first place
 pub has_each : (known ws : List Word) → has_all (by_first_place known ws) ws ≡ true
 has_each known [] = refl
-has_each known (w ∷ ws) = and_both _ _ (has_placed (words_with w known) ws w (has_new known w)) (has_each (words_with w known) ws)
+has_each known (w ∷ ws) = and_from _ _ (has_placed (words_with w known) ws w (has_new known w)) (has_each (words_with w known) ws)
 
 -- ---- no word is placed that is not known or among the others
 
@@ -174,17 +175,17 @@ has_behind ws v u h = ap is_some (number_first u v ws) ∙ by (bytes_eq u v) (nu
 
 has_all_behind : (ws : List Word) (v : Word) (us : List Word) → has_all ws us ≡ true → has_all (v ∷ ws) us ≡ true
 has_all_behind ws v [] h = refl
-has_all_behind ws v (u ∷ us) h = and_both _ _ (has_behind ws v u (and_left _ _ h)) (has_all_behind ws v us (and_right _ _ h))
+has_all_behind ws v (u ∷ us) h = and_from _ _ (has_behind ws v u (and_left _ _ h)) (has_all_behind ws v us (and_right _ _ h))
 
 pub has_here : (ws : List Word) (v : Word) → has (v ∷ ws) v ≡ true
 has_here ws v = ap is_some (number_first v v ws) ∙ ap (λ (b : Bool). is_some (here_or b (number_of v ws))) ((bytes_eq-Decides v v).1 refl)
 
 pub has_itself : (ws : List Word) → has_all ws ws ≡ true
 has_itself [] = refl
-has_itself (w ∷ ws) = and_both _ _ (has_here ws w) (has_all_behind ws w ws (has_itself ws))
+has_itself (w ∷ ws) = and_from _ _ (has_here ws w) (has_all_behind ws w ws (has_itself ws))
 
 one_has : (ws : List Word) (w : Word) → has ws w ≡ true → (u : Word) → has (w ∷ []) u ≡ true → has ws u ≡ true
-one_has ws w h u e = among ws (w ∷ []) u e (and_both _ _ h refl)
+one_has ws w h u e = among ws (w ∷ []) u e (and_from _ _ h refl)
 
 -- a word that is led by is one of them
 pub led_has : (o : Option Word) (ws : List Word) (u : Word) → has (led_by o ws) u ≡ true → has ws u ≡ true

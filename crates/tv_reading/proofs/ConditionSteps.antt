@@ -39,7 +39,7 @@ Cases n = relation_cases (sum_at every n true)
 branches : (n : ℕ) (x : Thing) (m : Mark) → ExactBranch (Cases n x m)
 branches n = relation_branch (sum_at every n true) (sum_exact every n true)
 
-stands : (kind : TokenKind) (r : Relation) → relation_of kind ≡ Some r → kind ≡ kinds.Unread → ⊥
+pub stands : (kind : TokenKind) (r : Relation) → relation_of kind ≡ Some r → kind ≡ kinds.Unread → ⊥
 stands kind r e w = let none : None ≡ Some r = ap relation_of (sym w) ∙ e in cc
 
 goes_by : (o : Option Relation) (r : Relation) → o ≡ Some r → (a : Expression) (l : Grammar Expression) → is_go (relation_by o (compared a) l) ≡ true

@@ -9,7 +9,8 @@ use Rattle.tv_language.specs.Symbols.{Symbol, number, name, drawn}
 use Rattle.tv_language.specs.Sums.{gathered, IsFactor, constant, variable, draw, bracketed, negative, AreFactors, no_factor, times, IsProduct, factors, AreProducts, no_product, plus, less, IsSum, products}
 use Rattle.tv_language.specs.Conditions as conditions
 use Rattle.tv_language.specs.Conditions.{joined, IsPlain, always, never, denied, IsLiteral, comparison, AreLiterals, no_literal, and, IsConjunction, literals, AreConjunctions, no_conjunction, or, IsCondition, conjunctions}
-use Rattle.tv_reading.proofs.LinearLemmas.{and_left, and_right, and_both}
+use Rattle.tv_reading.proofs.LinearLemmas.{and_left, and_right}
+use Rattle.std.proofs.lemmas.Bool.{and_from}
 
 -- ---- depth
 
@@ -105,7 +106,7 @@ sum_fit v d (e ∷ f ∷ es) h = h
 product_fit : (v d : ℕ) (es : List Expression) → is_linear_product (parts_of es) ≡ true → expressions_fit v d (parts_of es) ≡ true → expression_fits v d (gathered trees.product es) ≡ true
 product_fit v d [] l h = refl
 product_fit v d (e ∷ []) l h = and_left _ _ h
-product_fit v d (e ∷ f ∷ es) l h = and_both _ _ l h
+product_fit v d (e ∷ f ∷ es) l h = and_from _ _ l h
 
 module _ (v d : ℕ) where
   mutual
@@ -118,18 +119,18 @@ module _ (v d : ℕ) where
 
     factors_fit : {n : ℕ} {es : List Expression} {ts rest : List Symbol} → AreFactors n es ts rest → all_fit v d ts ≡ true → (expressions_fit v d (parts_of es) ≡ true) × (all_fit v d rest ≡ true)
     factors_fit no_factor h = (refl, h)
-    factors_fit (times f fs) h = let a = factor_fits f h in let b = factors_fit fs a.1 in (and_both _ _ a.0 b.0, b.1)
+    factors_fit (times f fs) h = let a = factor_fits f h in let b = factors_fit fs a.1 in (and_from _ _ a.0 b.0, b.1)
 
     product_fits : {n : ℕ} {e : Expression} {ts rest : List Symbol} → IsProduct n e ts rest → all_fit v d ts ≡ true → (expression_fits v d e ≡ true) × (all_fit v d rest ≡ true)
-    product_fits (factors {e} {es} f fs l) h = let a = factor_fits f h in let b = factors_fit fs a.1 in (product_fit v d (e ∷ es) l (and_both _ _ a.0 b.0), b.1)
+    product_fits (factors {e} {es} f fs l) h = let a = factor_fits f h in let b = factors_fit fs a.1 in (product_fit v d (e ∷ es) l (and_from _ _ a.0 b.0), b.1)
 
     products_fit : {n : ℕ} {es : List Expression} {ts rest : List Symbol} → AreProducts n es ts rest → all_fit v d ts ≡ true → (expressions_fit v d (parts_of es) ≡ true) × (all_fit v d rest ≡ true)
     products_fit no_product h = (refl, h)
-    products_fit (plus p ps) h = let a = product_fits p h in let b = products_fit ps a.1 in (and_both _ _ a.0 b.0, b.1)
-    products_fit (less p ps) h = let a = product_fits p h in let b = products_fit ps a.1 in (and_both _ _ a.0 b.0, b.1)
+    products_fit (plus p ps) h = let a = product_fits p h in let b = products_fit ps a.1 in (and_from _ _ a.0 b.0, b.1)
+    products_fit (less p ps) h = let a = product_fits p h in let b = products_fit ps a.1 in (and_from _ _ a.0 b.0, b.1)
 
     pub sum_fits : {n : ℕ} {e : Expression} {ts rest : List Symbol} → IsSum n e ts rest → all_fit v d ts ≡ true → (expression_fits v d e ≡ true) × (all_fit v d rest ≡ true)
-    sum_fits (products {e} {es} p ps) h = let a = product_fits p h in let b = products_fit ps a.1 in (sum_fit v d (e ∷ es) (and_both _ _ a.0 b.0), b.1)
+    sum_fits (products {e} {es} p ps) h = let a = product_fits p h in let b = products_fit ps a.1 in (sum_fit v d (e ∷ es) (and_from _ _ a.0 b.0), b.1)
 
 all_fit_of : (v d : ℕ) (cs : List Condition) → conditions_fit v d (tests_of cs) ≡ true → condition_fits v d (joined all_of cs) ≡ true
 all_fit_of v d [] h = refl
@@ -151,18 +152,18 @@ module _ (v d : ℕ) where
 
     literal_fits : {n : ℕ} {c : Condition} {ts rest : List Symbol} → IsLiteral n c ts rest → all_fit v d ts ≡ true → (condition_fits v d c ≡ true) × (all_fit v d rest ≡ true)
     literal_fits (conditions.plain p) h = plain_fits p h
-    literal_fits (comparison p is q) h = let a = sum_fits v d p h in let b = sum_fits v d q a.1 in (and_both _ _ a.0 b.0, b.1)
+    literal_fits (comparison p is q) h = let a = sum_fits v d p h in let b = sum_fits v d q a.1 in (and_from _ _ a.0 b.0, b.1)
 
     literals_fit : {n : ℕ} {cs : List Condition} {ts rest : List Symbol} → AreLiterals n cs ts rest → all_fit v d ts ≡ true → (conditions_fit v d (tests_of cs) ≡ true) × (all_fit v d rest ≡ true)
     literals_fit no_literal h = (refl, h)
-    literals_fit (and p ps) h = let a = literal_fits p h in let b = literals_fit ps a.1 in (and_both _ _ a.0 b.0, b.1)
+    literals_fit (and p ps) h = let a = literal_fits p h in let b = literals_fit ps a.1 in (and_from _ _ a.0 b.0, b.1)
 
     conjunction_fits : {n : ℕ} {c : Condition} {ts rest : List Symbol} → IsConjunction n c ts rest → all_fit v d ts ≡ true → (condition_fits v d c ≡ true) × (all_fit v d rest ≡ true)
-    conjunction_fits (literals {c} {cs} p ps) h = let a = literal_fits p h in let b = literals_fit ps a.1 in (all_fit_of v d (c ∷ cs) (and_both _ _ a.0 b.0), b.1)
+    conjunction_fits (literals {c} {cs} p ps) h = let a = literal_fits p h in let b = literals_fit ps a.1 in (all_fit_of v d (c ∷ cs) (and_from _ _ a.0 b.0), b.1)
 
     conjunctions_fit : {n : ℕ} {cs : List Condition} {ts rest : List Symbol} → AreConjunctions n cs ts rest → all_fit v d ts ≡ true → (conditions_fit v d (tests_of cs) ≡ true) × (all_fit v d rest ≡ true)
     conjunctions_fit no_conjunction h = (refl, h)
-    conjunctions_fit (or p ps) h = let a = conjunction_fits p h in let b = conjunctions_fit ps a.1 in (and_both _ _ a.0 b.0, b.1)
+    conjunctions_fit (or p ps) h = let a = conjunction_fits p h in let b = conjunctions_fit ps a.1 in (and_from _ _ a.0 b.0, b.1)
 
     pub condition_fit : {n : ℕ} {c : Condition} {ts rest : List Symbol} → IsCondition n c ts rest → all_fit v d ts ≡ true → (condition_fits v d c ≡ true) × (all_fit v d rest ≡ true)
-    condition_fit (conjunctions {c} {cs} p ps) h = let a = conjunction_fits p h in let b = conjunctions_fit ps a.1 in (some_fit_of v d (c ∷ cs) (and_both _ _ a.0 b.0), b.1)
+    condition_fit (conjunctions {c} {cs} p ps) h = let a = conjunction_fits p h in let b = conjunctions_fit ps a.1 in (some_fit_of v d (c ∷ cs) (and_from _ _ a.0 b.0), b.1)

@@ -7,6 +7,8 @@ use Rattle.tv_program.specs.Trees.{Expression, Expressions, product, sum}
 use Rattle.tv_program.specs.Views.{parts_of, expression, expressions}
 use Rattle.tv_program.specs.Limits.{is_constant, are_constant, is_linear_product}
 use Rattle.tv_language.specs.Sums.{gathered}
+use Rattle.std.proofs.Math.Bool.{and-true}
+use Rattle.std.proofs.lemmas.Bool.{and_from}
 
 pub and_left : (a b : Bool) → (a && b) ≡ true → a ≡ true
 and_left true b h = refl
@@ -16,36 +18,28 @@ pub and_right : (a b : Bool) → (a && b) ≡ true → b ≡ true
 and_right true b h = h
 and_right false b h = absurd cc
 
-pub and_both : (a b : Bool) → a ≡ true → b ≡ true → (a && b) ≡ true
-and_both true b h i = i
-and_both false b h i = absurd cc
-
 -- ---- constant lists
 
 constant_step : (a b c : Bool) → (a && (b && c)) ≡ ((a && b) && c)
 constant_step true b c = refl
 constant_step false b c = refl
 
-and_true : (a : Bool) → (a && true) ≡ a
-and_true true = refl
-and_true false = refl
-
 pub constant-push : (es : List Expression) (e : Expression) → are_constant (parts_of (es ++ e ∷ [])) ≡ (are_constant (parts_of es) && is_constant e)
-constant-push [] e = and_true (is_constant e)
+constant-push [] e = and-true (is_constant e)
 constant-push (x ∷ es) e = ap (λ b. is_constant x && b) (constant-push es e) ∙ constant_step (is_constant x) (are_constant (parts_of es)) (is_constant e)
 
 pub product-constant : (es : List Expression) → is_constant (gathered product es) ≡ are_constant (parts_of es)
 product-constant [] = refl
-product-constant (e ∷ []) = sym (and_true (is_constant e))
+product-constant (e ∷ []) = sym (and-true (is_constant e))
 product-constant (e ∷ f ∷ es) = refl
 
 pub sum-constant : (es : List Expression) → is_constant (gathered sum es) ≡ are_constant (parts_of es)
 sum-constant [] = refl
-sum-constant (e ∷ []) = sym (and_true (is_constant e))
+sum-constant (e ∷ []) = sym (and-true (is_constant e))
 sum-constant (e ∷ f ∷ es) = refl
 
 pub constant_all : (es : List Expression) (e : Expression) → are_constant (parts_of es) ≡ true → is_constant e ≡ true → are_constant (parts_of (es ++ e ∷ [])) ≡ true
-constant_all es e h i = constant-push es e ∙ and_both _ _ h i
+constant_all es e h i = constant-push es e ∙ and_from _ _ h i
 
 pub constant_first : (e : Expression) (es : List Expression) → are_constant (parts_of (e ∷ es)) ≡ true → is_constant e ≡ true
 constant_first e es h = and_left _ _ h
@@ -100,7 +94,7 @@ splits false l k k' l' ce h i f g = (f h).1
 
 apart : (es : List Expression) (e : Expression) (more : List Expression) → are_constant (parts_of (es ++ e ∷ more)) ≡ true → (are_constant (parts_of es) ≡ true) × (is_constant e ≡ true)
 apart [] e more h = (refl, and_left _ _ h)
-apart (x ∷ es) e more h = let w = apart es e more (and_right (is_constant x) _ h) in (and_both _ _ (and_left _ _ h) w.0, w.1)
+apart (x ∷ es) e more h = let w = apart es e more (and_right (is_constant x) _ h) in (and_from _ _ (and_left _ _ h) w.0, w.1)
 
 pub linear-split : (es : List Expression) (e : Expression) (more : List Expression) → is_linear_product (parts_of (es ++ e ∷ more)) ≡ true → are_constant (parts_of es) ≡ false → is_constant e ≡ true
 linear-split [] e more h i = absurd cc

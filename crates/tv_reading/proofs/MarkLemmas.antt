@@ -7,7 +7,7 @@ use Rattle.tv_program.specs.Words.{Word}
 use Rattle.tv_language.specs.Symbols.{lexeme}
 use Rattle.tv_reading.specs.Marks.{mark_by, names_behind, draws_behind, marks_from, Stand, left, past, first, Passes, pass}
 
-starts : (ts : List Token) (t : Token) → first ts ≡ Some t → ts ≡ t ∷ drop 1 ts
+pub starts : (ts : List Token) (t : Token) → first ts ≡ Some t → ts ≡ t ∷ drop 1 ts
 starts [] t e = cc
 starts (u ∷ us) t e = let is : u ≡ t = cc in ap (λ (x : Token). x ∷ us) is
 

@@ -14,9 +14,10 @@ use Rattle.tv_language.specs.Symbols.{Symbol, number, name, label, drawn, fixed,
 use Rattle.tv_grammar.specs.Reads.{next}
 use Rattle.tv_reading.specs.Marks.{TooMany, Mark, plain, refused, symbol_of, symbols_of, new_name, known_name, draw_mark, number_mark, mark_by, names_behind, draws_behind, Stand, left, past, first, Passes, stay, pass, is_formula_word}
 use Rattle.tv_reading.specs.Readings.{IsWithin, IsKept}
-use Rattle.tv_reading.proofs.LinearLemmas.{and_left, and_right, and_both}
+use Rattle.tv_reading.proofs.LinearLemmas.{and_left, and_right}
 use Rattle.tv_reading.proofs.MarkLemmas.{next_is, left_past}
 use Rattle.tv_reading.proofs.FitLemmas.{symbol_fits, all_fit}
+use Rattle.std.proofs.lemmas.Bool.{and_from}
 
 pub position_within : {X : Type 0} (p : X → Bool) (xs : List X) (k : ℕ) → position p xs ≡ Some k → k < length xs
 position_within p xs k e = by (nat_lt (position_or_len p xs) (length xs)) refl e
@@ -25,7 +26,7 @@ position_within p xs k e = by (nat_lt (position_or_len p xs) (length xs)) refl e
     by true at is = let same : position_or_len p xs ≡ k = cc in grind (arith, nat_tests)
     by false at is = absurd cc
 
-less_is : (a b : ℕ) → a < b → nat_lt a b ≡ true
+pub less_is : (a b : ℕ) → a < b → nat_lt a b ≡ true
 less_is a b h = grind (arith, nat_tests)
 
 pub is_less : (a b : ℕ) → nat_lt a b ≡ true → a < b
@@ -107,7 +108,7 @@ symbol_more v d w e h i (fixed kind) f = refl
 
 all_more : (v d w e : ℕ) → v ≤ w → d ≤ e → (ss : List Symbol) → all_fit v d ss ≡ true → all_fit w e ss ≡ true
 all_more v d w e h i [] f = refl
-all_more v d w e h i (s ∷ ss) f = and_both _ _ (symbol_more v d w e h i s (and_left _ _ f)) (all_more v d w e h i ss (and_right _ _ f))
+all_more v d w e h i (s ∷ ss) f = and_from _ _ (symbol_more v d w e h i s (and_left _ _ f)) (all_more v d w e h i ss (and_right _ _ f))
 
 -- ---- what is passed
 
@@ -122,7 +123,7 @@ symbols-append (m ∷ a) b = ap (λ (us : List Symbol). symbol_of m ∷ us) (sym
 
 all-append : (v d : ℕ) (a b : List Symbol) → all_fit v d a ≡ true → all_fit v d b ≡ true → all_fit v d (a ++ b) ≡ true
 all-append v d [] b h i = i
-all-append v d (s ∷ a) b h i = and_both _ _ (and_left _ _ h) (all-append v d a b (and_right _ _ h) i)
+all-append v d (s ∷ a) b h i = and_from _ _ (and_left _ _ h) (all-append v d a b (and_right _ _ h) i)
 
 starts_with : (ms : List Mark) (m : Mark) → next ms ≡ Some m → ms ≡ m ∷ drop 1 ms
 starts_with [] m e = absurd cc
@@ -144,7 +145,7 @@ further s u t b e =
       parts = b.parts ∙ ap (λ (ms : List Mark). b.passed ++ ms) here ∙ sym (append_assoc b.passed (m ∷ []) (left (past u t)));
       fits = ap (all_fit v d) (symbols-append b.passed (m ∷ [])) ∙ all-append v d (symbols_of b.passed) (symbols_of (m ∷ []))
           (all_more (length u.names) u.draws v d (names_grow u.grows t.kind (lexeme u.text t).word u.names) (draws_grow t.kind u.draws) (symbols_of b.passed) b.fits)
-          (and_both _ _ (mark_fits u.grows u.names u.draws t.kind (lexeme u.text t).word) refl);
+          (and_from _ _ (mark_fits u.grows u.names u.draws t.kind (lexeme u.text t).word) refl);
     }
 
 pub between : {s u : Stand} → Passes s u → Between s u

@@ -12,7 +12,7 @@ use Rattle.tv_grammar.specs.Langs.{unit, then, mapped, headed, turns, OfBranch, 
 use Rattle.tv_grammar.specs.Exact.{Exact, ExactBranch, Goes, BranchGoes, nowhere, Ends}
 use Rattle.tv_grammar.proofs.ExactLemmas.{unit_exact, then_exact, mapped_exact, headed_exact}
 use Rattle.tv_grammar.proofs.TurnLemmas.{turns_exact}
-use Rattle.tv_grammar.proofs.GoesLemmas.{mapped_goes, headed_goes, then_turns_goes, goes_ends}
+use Rattle.tv_grammar.proofs.GoesLemmas.{mapped_goes, headed_goes, then_turns_goes, goes_ends, none_or}
 use Rattle.tv_reading.specs.Marks.{Kind, Syntax, Wide, NotLinear, Mark, plain, refused}
 use Rattle.tv_reading.specs.SumGrammar.{Grammar, refuse_by, close_cases, open_cases, closed, brackets, named_by, refused_by, leaf_cases, Inner, bottom, deeper, factor_cases, below, star_cases, product_over, sum_cases, sum_over, factor_at, product_at, sum_at, stars, signs, sum_goes}
 
@@ -32,7 +32,7 @@ open_branch l h _ = tt
 pub brackets_exact : {X : Type 0} (x : X) → Exact (brackets x)
 brackets_exact x = headed_exact Syntax (open_cases (closed x)) (open_branch (closed x) (closed_exact x)) (plain (fixed kinds.LeftRound)) (closed_exact x).some
 
-refuse_exact : {X : Type 0} (b : Bool) (k : Kind) (l : Grammar X) → Exact l → ExactBranch (refuse_by b k l)
+pub refuse_exact : {X : Type 0} (b : Bool) (k : Kind) (l : Grammar X) → Exact l → ExactBranch (refuse_by b k l)
 refuse_exact true k l h = tt
 refuse_exact false k l h = h
 
@@ -172,10 +172,6 @@ factor_goes_over kept free (deeper s f) h (plain (fixed kinds.Minus)) d t = mapp
 factor_goes_over kept free bottom h m d t = leaf_goes kept free m d t
 factor_goes_over kept free (deeper s f) h m d t = leaf_goes kept free m d t
 
-or_no : (b : Bool) → (b || false) ≡ b
-or_no true = refl
-or_no false = refl
-
 pub star_is : (factor : Bool → Grammar Expression) (free : Bool) (es : List Expression) (t : Option Mark) → goes_at (star_cases factor free es) t ≡ stars t
 star_is factor free es (Some (plain (fixed kinds.Star))) = refl
 star_is factor free es _ = refl
@@ -207,7 +203,7 @@ either (Some (plain (fixed kinds.Star))) = refl
 either _ = refl
 
 pub product_goes_over : (factor : Bool → Grammar Expression) → ((free : Bool) → Goes (factor free) nowhere) → (free : Bool) → Goes (product_over factor free) stars
-product_goes_over factor h free d u = then_turns_goes (star_cases factor free) stars nowhere (star_is factor free) (star_goes factor h free) (λ t e. refl) (factor free) (λ e. e ∷ []) (gathered trees.product) (h free) d u ∙ or_no (stars u)
+product_goes_over factor h free d u = then_turns_goes (star_cases factor free) stars nowhere (star_is factor free) (star_goes factor h free) (λ t e. refl) (factor free) (λ e. e ∷ []) (gathered trees.product) (h free) d u ∙ none_or (stars u)
 
 pub sum_goes_over : (p : Grammar Expression) → Goes p stars → Goes (sum_over p) sum_goes
 sum_goes_over p h d u = then_turns_goes (sum_cases p) signs stars (sum_is p) (part_goes p h) apart p (λ e. e ∷ []) (gathered trees.sum) h d u ∙ either u

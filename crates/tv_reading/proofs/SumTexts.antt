@@ -13,6 +13,7 @@ use Rattle.tv_grammar.specs.Langs.{then, OfBranch, branch_text, branch_value, Tu
 use Rattle.tv_reading.specs.Marks.{Mark, plain, refused, symbols_of}
 use Rattle.tv_reading.specs.SumGrammar.{Grammar, every, close_cases, open_cases, closed, brackets, leaf_cases, bottom, deeper, factor_cases, star_cases, product_over, sum_cases, sum_over, factor_at, product_at, sum_at}
 use Rattle.tv_reading.proofs.LinearLemmas.{constant_all, constant_first, constant_rest, product-constant, sum-constant, linear-push, linear-split}
+use Rattle.std.proofs.lemmas.Bool.{and_right, and_left}
 
 -- ---- what is read is in the grammar
 
@@ -97,14 +98,6 @@ pub record Added (n : ℕ) (free : Bool) (es all : List Expression) (ts rest : L
   pub linear : is_linear_product (parts_of es) ≡ true → is_linear_product (parts_of all) ≡ true
   pub constant : free ≡ false → are_constant (parts_of es) ≡ true → are_constant (parts_of all) ≡ true
 
-flag_left : (a b : Bool) → b ≡ false → (a && b) ≡ false
-flag_left true b h = h
-flag_left false b h = refl
-
-flag_right : (a b : Bool) → a ≡ false → (a && b) ≡ false
-flag_right true b h = absurd cc
-flag_right false b h = refl
-
 pub stars_are : (n : ℕ) (free : Bool) (f : Bool → Grammar Expression) → ((free : Bool) → AreFactor n free (f free)) → (es : List Expression) (d : Turns (star_cases f free) es) (rest : List Mark) → Added n free es (turns_value (star_cases f free) es d) (symbols_of (turns_text (star_cases f free) es d rest)) (symbols_of rest)
 stars_are n free f h es done rest = record { more = []; are = no_factor; joined = sym (append-nil es); linear = λ e. e; constant = λ e g. g }
 stars_are n free f h es (turn (plain (fixed kinds.Star)) d ds) rest =
@@ -117,8 +110,8 @@ stars_are n free f h es (turn (plain (fixed kinds.Star)) d ds) rest =
       more = e ∷ w.more;
       are = times one.0 w.are;
       joined = w.joined ∙ append_assoc es (e ∷ []) w.more;
-      linear = λ l. w.linear (linear-push es e l (λ c. one.1 (flag_left free (are_constant (parts_of es)) c)));
-      constant = λ c g. w.constant c (constant_all es e g (one.1 (flag_right free (are_constant (parts_of es)) c)));
+      linear = λ l. w.linear (linear-push es e l (λ c. one.1 (and_right free (are_constant (parts_of es)) c)));
+      constant = λ c g. w.constant c (constant_all es e g (one.1 (and_left free (are_constant (parts_of es)) c)));
     }
 stars_are n free f h es (turn m d ds) rest = absurd d
 

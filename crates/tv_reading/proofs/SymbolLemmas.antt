@@ -16,7 +16,8 @@ use Rattle.tv_language.specs.Conditions as conditions
 use Rattle.tv_language.specs.Conditions.{relation_of, joined, IsPlain, always, never, denied, IsLiteral, comparison, AreLiterals, no_literal, and, IsConjunction, literals, AreConjunctions, no_conjunction, or, IsCondition, conjunctions}
 use Rattle.tv_language.specs.Programs as programs
 use Rattle.tv_language.specs.Programs.{draws_in, draws_among, draws_tested, draws_of_tests, draws_of, draws_counted, IsCommand, assumption, assignment, AreCommands, no_command, command}
-use Rattle.tv_reading.proofs.LinearLemmas.{and_left, and_right, and_both}
+use Rattle.tv_reading.proofs.LinearLemmas.{and_left, and_right}
+use Rattle.std.proofs.lemmas.Bool.{and_from}
 
 -- the tokens that stand in commands
 abbrev pub body_kind : TokenKind → Bool
@@ -62,11 +63,11 @@ draws_at_all (s ∷ ss) = draws_at s + draws_at_all ss
 
 pub body-append : (a b : List Symbol) → all_body a ≡ true → all_body b ≡ true → all_body (a ++ b) ≡ true
 body-append [] b h i = i
-body-append (s ∷ a) b h i = and_both _ _ (and_left _ _ h) (body-append a b (and_right _ _ h) i)
+body-append (s ∷ a) b h i = and_from _ _ (and_left _ _ h) (body-append a b (and_right _ _ h) i)
 
 pub sound-append : (d : ℕ) (a b : List Symbol) → all_sound d a ≡ true → all_sound d b ≡ true → all_sound d (a ++ b) ≡ true
 sound-append d [] b h i = i
-sound-append d (s ∷ a) b h i = and_both _ _ (and_left _ _ h) (sound-append d a b (and_right _ _ h) i)
+sound-append d (s ∷ a) b h i = and_from _ _ (and_left _ _ h) (sound-append d a b (and_right _ _ h) i)
 
 pub draws-append : (a b : List Symbol) → draws_at_all (a ++ b) ≡ draws_at_all a + draws_at_all b
 draws-append [] b = omega arith
@@ -74,7 +75,7 @@ draws-append (s ∷ a) b = let again = draws-append a b in omega arith
 
 pub body_front : (a b : List Symbol) → all_body (a ++ b) ≡ true → all_body a ≡ true
 body_front [] b h = refl
-body_front (s ∷ a) b h = and_both _ _ (and_left _ _ h) (body_front a b (and_right _ _ h))
+body_front (s ∷ a) b h = and_from _ _ (and_left _ _ h) (body_front a b (and_right _ _ h))
 
 -- ts is these symbols, and rest; there are so many draws, and they are sound where fits says so
 pub record Uses (count : ℕ) (fits : ℕ → ℕ → Bool) (ts rest : List Symbol) : Type 0 where
@@ -95,9 +96,9 @@ lead : {count : ℕ} {fits : ℕ → ℕ → Bool} {ts rest : List Symbol} (s : 
 lead s b u = record {
   used = s ∷ u.used;
   parts = ap (λ (ss : List Symbol). s ∷ ss) u.parts;
-  plainly = and_both _ _ b.0 u.plainly;
+  plainly = and_from _ _ b.0 u.plainly;
   counted = omega (arith, b.1, u.counted);
-  soundly = λ v d h. and_both _ _ (b.2 d) (u.soundly v d h);
+  soundly = λ v d h. and_from _ _ (b.2 d) (u.soundly v d h);
 }
 
 both : {j k : ℕ} {f g : ℕ → ℕ → Bool} {ts us rest : List Symbol} → Uses j f ts us → Uses k g us rest → Uses (j + k) (λ v d. f v d && g v d) ts rest
@@ -122,15 +123,15 @@ gathered_count make h e [] = omega arith
 gathered_count make h e (f ∷ es) = sym (h (parts_of (e ∷ f ∷ es)))
 
 gathered_fits : (make : trees.Expressions → Expression) → ((v d : ℕ) (es : trees.Expressions) → expression_fits v d (make es) ≡ true → expressions_fit v d es ≡ true) → (e : Expression) (es : List Expression) (v d : ℕ) → expression_fits v d (gathered make (e ∷ es)) ≡ true → (expression_fits v d e && expressions_fit v d (parts_of es)) ≡ true
-gathered_fits make h e [] v d w = and_both _ _ w refl
+gathered_fits make h e [] v d w = and_from _ _ w refl
 gathered_fits make h e (f ∷ es) v d w = h v d (parts_of (e ∷ f ∷ es)) w
 
 mutual
   pub factor_uses : {n : ℕ} {e : Expression} {ts rest : List Symbol} → IsFactor n e ts rest → Uses (draws_in e) (λ v d. expression_fits v d e) ts rest
-  factor_uses (constant {k} {rest}) = record { used = number k ∷ []; parts = refl; plainly = refl; counted = refl; soundly = λ v d h. and_both _ _ h refl }
+  factor_uses (constant {k} {rest}) = record { used = number k ∷ []; parts = refl; plainly = refl; counted = refl; soundly = λ v d h. and_from _ _ h refl }
   factor_uses (variable {v} {rest}) = record { used = name v ∷ []; parts = refl; plainly = refl; counted = refl; soundly = λ v d h. refl }
-  factor_uses (draw {d = k} {rest}) = record { used = drawn k ∷ fixed kinds.LeftRound ∷ fixed kinds.RightRound ∷ []; parts = refl; plainly = refl; counted = refl; soundly = λ v d h. and_both _ _ h refl }
-  factor_uses (bracketed {e} {ts} {rest} s) = same (omega arith) (λ v d h. and_both _ _ h refl) (lead (fixed kinds.LeftRound) (bare kinds.LeftRound refl) (both (sum_uses s) (lead (fixed kinds.RightRound) (bare kinds.RightRound refl) (none rest))))
+  factor_uses (draw {d = k} {rest}) = record { used = drawn k ∷ fixed kinds.LeftRound ∷ fixed kinds.RightRound ∷ []; parts = refl; plainly = refl; counted = refl; soundly = λ v d h. and_from _ _ h refl }
+  factor_uses (bracketed {e} {ts} {rest} s) = same (omega arith) (λ v d h. and_from _ _ h refl) (lead (fixed kinds.LeftRound) (bare kinds.LeftRound refl) (both (sum_uses s) (lead (fixed kinds.RightRound) (bare kinds.RightRound refl) (none rest))))
   factor_uses (negative f) = lead (fixed kinds.Minus) (bare kinds.Minus refl) (factor_uses f)
 
   factors_uses : {n : ℕ} {es : List Expression} {ts rest : List Symbol} → AreFactors n es ts rest → Uses (draws_among (parts_of es)) (λ v d. expressions_fit v d (parts_of es)) ts rest
@@ -169,7 +170,7 @@ joined_count make h c [] = omega arith
 joined_count make h c (d ∷ cs) = sym (h (tests_of (c ∷ d ∷ cs)))
 
 joined_fits : (make : trees.Conditions → Condition) → ((v d : ℕ) (cs : trees.Conditions) → condition_fits v d (make cs) ≡ true → conditions_fit v d cs ≡ true) → (c : Condition) (cs : List Condition) (v d : ℕ) → condition_fits v d (joined make (c ∷ cs)) ≡ true → (condition_fits v d c && conditions_fit v d (tests_of cs)) ≡ true
-joined_fits make h c [] v d w = and_both _ _ w refl
+joined_fits make h c [] v d w = and_from _ _ w refl
 joined_fits make h c (e ∷ cs) v d w = h v d (tests_of (c ∷ e ∷ cs)) w
 
 mutual
@@ -177,7 +178,7 @@ mutual
   plain_uses (always {rest}) = lead (fixed kinds.True) (bare kinds.True refl) (none rest)
   plain_uses (never {rest}) = lead (fixed kinds.False) (bare kinds.False refl) (none rest)
   plain_uses (denied p) = lead (fixed kinds.Not) (bare kinds.Not refl) (plain_uses p)
-  plain_uses (conditions.bracketed {c} {rest} p) = same (omega arith) (λ v d h. and_both _ _ h refl) (lead (fixed kinds.LeftRound) (bare kinds.LeftRound refl) (both (condition_uses p) (lead (fixed kinds.RightRound) (bare kinds.RightRound refl) (none rest))))
+  plain_uses (conditions.bracketed {c} {rest} p) = same (omega arith) (λ v d h. and_from _ _ h refl) (lead (fixed kinds.LeftRound) (bare kinds.LeftRound refl) (both (condition_uses p) (lead (fixed kinds.RightRound) (bare kinds.RightRound refl) (none rest))))
 
   literal_uses : {n : ℕ} {c : Condition} {ts rest : List Symbol} → IsLiteral n c ts rest → Uses (draws_tested c) (λ v d. condition_fits v d c) ts rest
   literal_uses (conditions.plain p) = plain_uses p
@@ -200,8 +201,8 @@ mutual
 -- ---- commands
 
 pub command_uses : {c : Instruction} {ts rest : List Symbol} → IsCommand c ts rest → Uses (draws_of c) (λ v d. instruction_fits v d c) ts rest
-command_uses (assumption {rest} w) = same (omega arith) (λ v d h. and_both _ _ (and_left _ _ h) refl) (lead (fixed kinds.Assume) (bare kinds.Assume refl) (lead (fixed kinds.LeftRound) (bare kinds.LeftRound refl) (both (condition_uses w) (lead (fixed kinds.RightRound) (bare kinds.RightRound refl) (lead (fixed kinds.Semicolon) (bare kinds.Semicolon refl) (none rest))))))
-command_uses (assignment {v = w} {rest} s) = same (omega arith) (λ v d h. and_both _ _ (and_right _ _ (and_left _ _ h)) refl) (lead (name w) (refl, refl, λ d. refl) (lead (fixed kinds.Assign) (bare kinds.Assign refl) (both (sum_uses s) (lead (fixed kinds.Semicolon) (bare kinds.Semicolon refl) (none rest)))))
+command_uses (assumption {rest} w) = same (omega arith) (λ v d h. and_from _ _ (and_left _ _ h) refl) (lead (fixed kinds.Assume) (bare kinds.Assume refl) (lead (fixed kinds.LeftRound) (bare kinds.LeftRound refl) (both (condition_uses w) (lead (fixed kinds.RightRound) (bare kinds.RightRound refl) (lead (fixed kinds.Semicolon) (bare kinds.Semicolon refl) (none rest))))))
+command_uses (assignment {v = w} {rest} s) = same (omega arith) (λ v d h. and_from _ _ (and_right _ _ (and_left _ _ h)) refl) (lead (name w) (refl, refl, λ d. refl) (lead (fixed kinds.Assign) (bare kinds.Assign refl) (both (sum_uses s) (lead (fixed kinds.Semicolon) (bare kinds.Semicolon refl) (none rest)))))
 
 pub commands_uses : {cs : List Instruction} {ts rest : List Symbol} → AreCommands cs ts rest → Uses (draws_counted cs) (λ v d. list_all (instruction_fits v d) cs) ts rest
 commands_uses (no_command {rest}) = none rest

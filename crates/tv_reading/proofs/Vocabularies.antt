@@ -2,7 +2,6 @@
 use Rattle.std.proofs.Common.{◌≡◌, ℕ, suc, ◌+◌, ◌^◌, ◌<◌, Bool, true, false, List, [], ◌∷◌, ◌++◌, drop, length, Option, Some, None, cond, refl, sym, ap, subst, ◌∙◌, append_assoc, length-append, arith}
 use Rattle.std.proofs.lemmas.List.{drop-drop}
 use Rattle.std.proofs.lemmas.Bool.Decides.{nat_tests}
-use Rattle.std.proofs.lemmas.Slice.Eq.{bytes_eq-Decides}
 use Rattle.std.specs.Prelude.{◌&&◌, nat_lt}
 use Rattle.std.specs.List.{position, position_or_len}
 use Rattle.std.specs.Str.{bytes_eq}
@@ -19,8 +18,10 @@ use Rattle.tv_language.specs.Sums.{IsFactor, constant, variable, draw, bracketed
 use Rattle.tv_language.specs.Conditions as conditions
 use Rattle.tv_language.specs.Conditions.{relation_of, IsPlain, always, never, denied, IsLiteral, comparison, AreLiterals, no_literal, and, IsConjunction, literals, AreConjunctions, no_conjunction, or, IsCondition, conjunctions}
 use Rattle.tv_reading.specs.Marks.{Mark, plain, refused, symbol_of, symbols_of, TooMany, new_name, number_mark, draw_mark, mark_by, names_behind, draws_behind, Stand, past, first}
-use Rattle.tv_reading.proofs.LinearLemmas.{and_both}
 use Rattle.tv_reading.proofs.PassedLemmas.{is_less, symbols-append}
+use Rattle.tv_language.proofs.PlaceLemmas.{bytes-same}
+use Rattle.tv_reading.proofs.MarkLemmas.{starts}
+use Rattle.std.proofs.lemmas.Bool.{and_from}
 
 -- ---- symbols that sums and conditions have
 
@@ -85,7 +86,7 @@ mutual
 
   literal_ordinary : {n : ℕ} {c : Condition} {ts rest : List Symbol} → IsLiteral n c ts rest → all_ordinary rest ≡ true → all_ordinary ts ≡ true
   literal_ordinary (conditions.plain p) h = plain_ordinary p h
-  literal_ordinary (comparison {kind} {relation} p is q) h = sum_ordinary p (and_both _ _ (relation_ordinary kind relation is) (sum_ordinary q h))
+  literal_ordinary (comparison {kind} {relation} p is q) h = sum_ordinary p (and_from _ _ (relation_ordinary kind relation is) (sum_ordinary q h))
 
   literals_ordinary : {n : ℕ} {cs : List Condition} {ts rest : List Symbol} → AreLiterals n cs ts rest → all_ordinary rest ≡ true → all_ordinary ts ≡ true
   literals_ordinary no_literal h = h
@@ -137,11 +138,8 @@ number_stays w names more k e =
     let h = placed (bytes_eq w) names k e in
     at_place (bytes_eq w) (names ++ more) k (place_stays (bytes_eq w) names more (omega (arith, h.0, h.1)) ∙ h.0) (omega (arith, h.1, length-append names more))
 
-bytes_same : (w : Word) → bytes_eq w w ≡ true
-bytes_same w = (bytes_eq-Decides w w).1 refl
-
 number_last : (w : Word) (names more : List Word) → number_of w names ≡ None → number_of w (names ++ w ∷ more) ≡ Some (length names)
-number_last w names more e = at_place (bytes_eq w) (names ++ w ∷ more) (length names) (place_last (bytes_eq w) names w more (bytes_same w) (not_placed (bytes_eq w) names e)) (omega (arith, length-append names (w ∷ more)))
+number_last w names more e = at_place (bytes_eq w) (names ++ w ∷ more) (length names) (place_last (bytes_eq w) names w more (bytes-same w) (not_placed (bytes_eq w) names e)) (omega (arith, length-append names (w ∷ more)))
 
 -- ---- one token
 
@@ -201,10 +199,6 @@ pub record Spelled (v : Vocabulary) (s u : Stand) (passed : List Mark) : Type 0 
 lexemes-append : (text : List ℕ) (ts us : List Token) → lexemes text (ts ++ us) ≡ lexemes text ts ++ lexemes text us
 lexemes-append text [] us = refl
 lexemes-append text (t ∷ ts) us = ap (λ (xs : List Lexeme). lexeme text t ∷ xs) (lexemes-append text ts us)
-
-starts : (ts : List Token) (t : Token) → first ts ≡ Some t → ts ≡ t ∷ drop 1 ts
-starts [] t e = cc
-starts (x ∷ ts) t e = let is : x ≡ t = cc in ap (λ (y : Token). y ∷ ts) is
 
 one_more : (v : Vocabulary) (s u : Stand) (t : Token) (passed : List Mark) → s.text ≡ u.text → u.grows ≡ true → first (drop u.at u.tokens) ≡ Some t → Begins v (past u t).names → ordinary (symbol_of (mark_by u.grows u.names u.draws t.kind (lexeme u.text t).word)) ≡ true → Spelled v s u passed → Spelled v s (past u t) (passed ++ mark_by u.grows u.names u.draws t.kind (lexeme u.text t).word ∷ [])
 one_more v s u t passed text grows e b h w =

@@ -1,5 +1,5 @@
 -- A choice made of a cover is met, and has the shape of one.
-use Rattle.std.proofs.Common.{◌≡◌, ℕ, zero, suc, ◌+◌, ◌^◌, ◌<◌, List, [], ◌∷◌, ◌++◌, length, length-append, map, All, Some, slice_get, Vec, false, arith, refl, sym, ap, ◌∙◌, subst, ℤ, pos}
+use Rattle.std.proofs.Common.{◌≡◌, ℕ, zero, suc, ◌+◌, ◌^◌, ◌<◌, List, [], ◌∷◌, ◌++◌, length, length-append, map, All, Some, slice_get, Vec, false, arith, refl, sym, ap, ◌∙◌, subst, ℤ}
 use Rattle.std.specs.Prelude.{max}
 use Rattle.std.specs.Global.{Global}
 use Rattle.std.specs.Option.{option_map}
@@ -19,7 +19,6 @@ use Rattle.tv_linear.specs.Same.{AreSame}
 use Rattle.tv_linear.proofs.SameLemmas.{all_same, shown_same}
 use Rattle.tv_farkas.specs.Refuting.{AreShort}
 use Rattle.tv_farkas.specs.Trees.{TreeRows, TreeNumbers}
-use Rattle.tv_farkas.proofs.SystemLemmas.{all_of}
 use Rattle.tv_cases.specs.LinearCases.{LinearCase, CaseSystem}
 use Rattle.tv_cert.specs.declared.node.Marked.{Marked}
 use Rattle.tv_cert.specs.Choices.{IsMetChoice, TakeMet, drawn_change, drawn_guards}
@@ -30,6 +29,9 @@ use Rattle.tv_cover.specs.Targets.{owed_lists}
 use Rattle.tv_cover.specs.Single.{IsCoverInto}
 use Rattle.tv_shape.specs.Narrow.{ChoiceNarrow, RowNarrow, AreNarrow, CountNarrow}
 use Rattle.tv_recur.specs.Choosing.{IsChoiceOf, entering, IsChoiceAt, LeadsInto}
+use Rattle.tv_farkas.proofs.StretchLemmas.{short_all}
+use Rattle.tv_linear.proofs.ListLaws.{all_unmapped}
+use Rattle.tv_shape.proofs.NumberLemmas.{narrow_count, row_narrow, rows_narrow}
 
 -- ---- lists of lines
 shown_many : (n : ℕ) (known owed : List Known) (lists : List (List ℤ)) → Shown n known owed lists → length lists ≡ length owed
@@ -47,32 +49,9 @@ shown_each n count known (r ∷ owed) (ms ∷ lists) e h =
     (h.0.as_many ∙ length-append known (denied r ∷ []) ∙ ap (λ k. k + 1) e)
     (shown_each n count known owed lists e h.1)
 
-within_62 : (ms : List ℤ) → AreShort ms → All (IsWithin 62) ms
-within_62 ms h = all_of (IsWithin 62) ms (pos 0) h
-
-all_back : {A B : Type 0} (P : B → Type 0) (f : A → B) (xs : List A) → All P (map f xs) → All (λ x. P (f x)) xs
-all_back P f [] h = All-nil (λ x. P (f x))
-all_back P f (x ∷ xs) h = All-cons (λ x. P (f x)) x xs (All-head P (f x) (map f xs) h) (all_back P f xs (All-tail P (f x) (map f xs) h))
-
 all_within : (lists : List (List ℤ)) → All AreShort lists → All (All (IsWithin 62)) lists
 all_within [] h = All-nil (All (IsWithin 62))
-all_within (ms ∷ lists) h = All-cons (All (IsWithin 62)) ms lists (within_62 ms (All-head AreShort ms lists h)) (all_within lists (All-tail AreShort ms lists h))
-
-row_narrow : (r : Linear) → IsNarrow r → RowNarrow r
-row_narrow r h = record { coefficients = h.coefficients; constant = h.constant }
-
-rows_narrow : (rows : List Linear) → All IsNarrow rows → All RowNarrow rows
-rows_narrow [] h = All-nil RowNarrow
-rows_narrow (r ∷ rows) h = All-cons RowNarrow r rows (row_narrow r (All-head IsNarrow r rows h)) (rows_narrow rows (All-tail IsNarrow r rows h))
-
-count_narrow : (k : ℕ) → k < 2 ^ 32 → CountNarrow k
-count_narrow k h = omega (arith, h)
-
-same_many : (n : ℕ) (ks qs : List Known) → AreSame n ks qs → length ks ≡ length qs
-same_many n [] [] h = refl
-same_many n [] (q ∷ qs) h = absurd h
-same_many n (k ∷ ks) [] h = absurd h
-same_many n (k ∷ ks) (q ∷ qs) h = ap suc (same_many n ks qs h.1)
+all_within (ms ∷ lists) h = All-cons (All (IsWithin 62)) ms lists (short_all ms (All-head AreShort ms lists h)) (all_within lists (All-tail AreShort ms lists h))
 
 -- ---- the depth
 pub same_depth : (k place : ℕ) (draws : List Linear) (old : CoverTree) (new : ChoiceTree) → IsChoiceOf k place draws old new → choice_splits new ≡ splits old
@@ -97,18 +76,18 @@ choice_narrow k place draws small near narrow (cover.Split' r p a q b) (choice.E
 choice_narrow k place draws small near narrow (cover.Split' r p a q b) (choice.NoStep covers) n h = absurd h
 choice_narrow k place draws small near narrow (cover.Split' r p a q b) (choice.Take taken target fall terms lists) n h = absurd h
 choice_narrow k place draws small near narrow (cover.Empty ns) (choice.Split' s t x u y) n h = absurd h
-choice_narrow k place draws small near narrow (cover.Empty ns) (choice.Empty ms) n h = subst (All (IsWithin 62)) (sym h) (within_62 ns.items n)
+choice_narrow k place draws small near narrow (cover.Empty ns) (choice.Empty ms) n h = subst (All (IsWithin 62)) (sym h) (short_all ns.items n)
 choice_narrow k place draws small near narrow (cover.Empty ns) (choice.NoStep covers) n h = absurd h
 choice_narrow k place draws small near narrow (cover.Empty ns) (choice.Take taken target fall terms lists) n h = absurd h
 choice_narrow k place draws small near narrow (cover.Into other none lines) (choice.Split' s t x u y) n h = absurd h
 choice_narrow k place draws small near narrow (cover.Into other none lines) (choice.Empty ms) n h = absurd h
 choice_narrow k place draws small near narrow (cover.Into other none lines) (choice.NoStep covers) n h = absurd h
 choice_narrow k place draws small near narrow (cover.Into other none lines) (choice.Take taken target fall terms lists) n h = (
-  subst CountNarrow (sym h.0) (count_narrow k small),
-  subst CountNarrow (sym h.1) (count_narrow place near),
-  subst CountNarrow (sym h.2) (count_narrow 0 (omega arith)),
+  subst CountNarrow (sym h.0) (narrow_count k small),
+  subst CountNarrow (sym h.1) (narrow_count place near),
+  subst CountNarrow (sym h.2) (narrow_count 0 (omega arith)),
   subst (All RowNarrow) (sym h.3) (rows_narrow draws narrow),
-  all_back AreNarrow (λ (l : Vec ℤ Global). l.items) lists.items (subst (All AreNarrow) (sym h.4) (all_within (map (λ l. l.items) lines.items) n)),
+  all_unmapped AreNarrow (λ (l : Vec ℤ Global). l.items) lists.items (subst (All AreNarrow) (sym h.4) (all_within (map (λ l. l.items) lines.items) n)),
 )
 
 -- ---- the piece that is entered

@@ -1,13 +1,13 @@
 -- Numbers put in for the draws.
 use Rattle.std.proofs.Common.{◌≡◌, ℕ, zero, suc, ◌+◌, ◌≤◌, List, [], ◌∷◌, ◌++◌, length, length-append, map, get_or, All, ◌+ℤ◌, arith, refl, sym, ap, ◌∙◌, subst, ℤ, pos}
-use Rattle.std.proofs.lemmas.List.{length-map}
+use Rattle.std.proofs.lemmas.List.{length-map, map-append}
 use Rattle.std.proofs.lemmas.List.Elements.{All-nil, All-cons, All-head, All-tail, All-append}
 use Rattle.tv_linear.specs.Linear.{Linear, columns, value}
 use Rattle.tv_linear.specs.Arithmetic.{constant_row, column_row, combined, composed, width_of}
-use Rattle.tv_linear.specs.Known.{Term, kept, put, Known, given, composed as known_composed, as_given}
+use Rattle.tv_linear.specs.Known.{kept, put, Known, given, composed as known_composed, as_given}
 use Rattle.tv_linear.specs.Terms.{table, terms_after, draw_terms}
 use Rattle.tv_linear.proofs.Entries.{entry-raised_inner, entry-raised_last, entry-combined, columns-combined}
-use Rattle.tv_linear.proofs.PlainLists.{length-unit, length-zeros}
+use Rattle.tv_linear.proofs.PlainLists.{length-zeros}
 use Rattle.tv_linear.proofs.RowValues.{value-composed, value-constant_row, value-column_row}
 use Rattle.tv_linear.specs.Same.{SameNumbers, AreSame}
 use Rattle.tv_linear.proofs.SameLemmas.{same_self}
@@ -15,15 +15,13 @@ use Rattle.tv_linear.proofs.ListLaws.{table_of}
 use Rattle.tv_cases.specs.EdgeCases.{columns_from}
 use Rattle.tv_cases.specs.LinearCases.{LinearCase}
 use Rattle.tv_cases.specs.Before.{before as case_before, FitsBefore, rows_before}
-use Rattle.tv_cases.proofs.BeforeLemmas.{IsTerm, AreTerms, PutIn, composed_same, kept_term, put_term, before_same, before_even}
+use Rattle.tv_cases.proofs.BeforeLemmas.{IsTerm, AreTerms, PutIn, composed_same, kept_term, put_term, before_same, before_even, terms_append}
 use Rattle.tv_cert.specs.Choices.{drawn_change}
 use Rattle.tv_recur.specs.Making.{FitsPut, rows_put, number_rows, drawn_terms}
+use Rattle.tv_cases.proofs.SameSteps.{length-columns_from}
+use Rattle.tv_derived.proofs.Widths.{columns_from-wide, width_is, no_columns}
 
 -- ---- the terms
-pub columns_from-wide : (w v n : ℕ) → All (λ r. columns r ≡ w) (columns_from w v n)
-columns_from-wide w v zero = All-nil (λ r. columns r ≡ w)
-columns_from-wide w v (suc n) = All-cons (λ r. columns r ≡ w) (column_row w v) (columns_from w (suc v) n) (length-unit w v) (columns_from-wide w (suc v) n)
-
 pub number_rows-wide : (n : ℕ) (ds : List ℤ) → All (λ r. columns r ≡ n) (number_rows n ds)
 number_rows-wide n [] = All-nil (λ r. columns r ≡ n)
 number_rows-wide n (d ∷ ds) = All-cons (λ r. columns r ≡ n) (constant_row n d) (number_rows n ds) (length-zeros n) (number_rows-wide n ds)
@@ -31,27 +29,11 @@ number_rows-wide n (d ∷ ds) = All-cons (λ r. columns r ≡ n) (constant_row n
 pub terms-wide : (n : ℕ) (ds : List ℤ) → All (λ r. columns r ≡ n) (drawn_terms n ds)
 terms-wide n ds = All-append (λ r. columns r ≡ n) (columns_from n 0 n) (number_rows n ds) (columns_from-wide n 0 n) (number_rows-wide n ds)
 
-columns_from-length : (w v n : ℕ) → length (columns_from w v n) ≡ n
-columns_from-length w v zero = refl
-columns_from-length w v (suc n) = ap suc (columns_from-length w (suc v) n)
-
 pub terms-length : (n : ℕ) (ds : List ℤ) → length (drawn_terms n ds) ≡ n + length ds
-terms-length n ds = length-append (columns_from n 0 n) (number_rows n ds) ∙ (λ i. columns_from-length n 0 n i + length-map ds (λ d. constant_row n d) i)
-
-first_wide : (n : ℕ) (ts : List Linear) → All (λ r. columns r ≡ n) ts → (ts ≡ [] → n ≡ 0) → width_of ts ≡ n
-first_wide n [] h e = sym (e refl)
-first_wide n (t ∷ ts) h e = All-head (λ r. columns r ≡ n) t ts h
-
-no_terms : (n : ℕ) (ts : List Linear) → columns_from n 0 n ++ ts ≡ [] → n ≡ 0
-no_terms zero ts e = refl
-no_terms (suc n) ts e = absurd cc
+terms-length n ds = length-append (columns_from n 0 n) (number_rows n ds) ∙ (λ i. length-columns_from n 0 n i + length-map ds (λ d. constant_row n d) i)
 
 pub terms-width : (n : ℕ) (ds : List ℤ) → width_of (drawn_terms n ds) ≡ n
-terms-width n ds = first_wide n (drawn_terms n ds) (terms-wide n ds) (no_terms n (number_rows n ds))
-
-pub columns_from-push : (w v n : ℕ) → columns_from w v (n + 1) ≡ columns_from w v n ++ column_row w (v + n) ∷ []
-columns_from-push w v zero = ap (λ k. column_row w k ∷ []) (let e : v ≡ v + 0 = omega arith in e)
-columns_from-push w v (suc n) = ap (columns_from w v) (let e : suc n + 1 ≡ suc (n + 1) = omega arith in e) ∙ ap (λ rows. column_row w v ∷ rows) (columns_from-push w (suc v) n ∙ ap (λ k. columns_from w (suc v) n ++ column_row w k ∷ []) (let e : suc v + n ≡ v + suc n = omega arith in e))
+terms-width n ds = width_is n (drawn_terms n ds) (terms-wide n ds) (no_columns n (number_rows n ds))
 
 -- ---- as the terms of a choice
 kept_terms : (w v k : ℕ) → AreTerms w (table k (λ j. kept (v + j))) (columns_from w v k)
@@ -65,15 +47,9 @@ number_terms : (n : ℕ) (ds : List ℤ) → AreTerms n (map (λ d. put d) (numb
 number_terms n [] = tt
 number_terms n (d ∷ ds) = (put_term n (constant_row n d) (length-zeros n), number_terms n ds)
 
-both_terms : (n : ℕ) (ts us : List Term) (rows more : List Linear) → AreTerms n ts rows → AreTerms n us more → AreTerms n (ts ++ us) (rows ++ more)
-both_terms n [] us [] more h g = g
-both_terms n [] us (r ∷ rows) more h g = absurd h
-both_terms n (t ∷ ts) us [] more h g = absurd h
-both_terms n (t ∷ ts) us (r ∷ rows) more h g = (h.0, both_terms n ts us rows more h.1 g)
-
 pub are_terms : (n : ℕ) (ds : List ℤ) → AreTerms n (draw_terms n (number_rows n ds)) (drawn_terms n ds)
 are_terms n ds =
-    both_terms n (table n kept) (map (λ d. put d) (number_rows n ds)) (columns_from n 0 n) (number_rows n ds)
+    terms_append n (table n kept) (map (λ d. put d) (number_rows n ds)) (columns_from n 0 n) (number_rows n ds)
     (subst (λ f. AreTerms n (table n f) (columns_from n 0 n)) (λ i j. kept (let e : 0 + j ≡ j = omega arith in e i)) (kept_terms n 0 n))
     (number_terms n ds)
 
@@ -136,13 +112,9 @@ numbers_at : (n : ℕ) (ds xs : List ℤ) → map (λ t. value t xs) (number_row
 numbers_at n [] xs = refl
 numbers_at n (d ∷ ds) xs = (λ i. value-constant_row n d xs i ∷ numbers_at n ds xs i)
 
-map_both : {A B : Type 0} (f : A → B) (xs ys : List A) → map f (xs ++ ys) ≡ map f xs ++ map f ys
-map_both f [] ys = refl
-map_both f (x ∷ xs) ys = ap (λ zs. f x ∷ zs) (map_both f xs ys)
-
 pub terms_at : (n : ℕ) (ds xs : List ℤ) → length xs ≡ n → map (λ t. value t xs) (drawn_terms n ds) ≡ xs ++ ds
 terms_at n ds xs e =
-    map_both (λ t. value t xs) (columns_from n 0 n) (number_rows n ds)
+    map-append (λ t. value t xs) (columns_from n 0 n) (number_rows n ds)
     ∙ (λ i. (variables_at n 0 n xs (omega (arith, e)) ∙ ap (table n) (λ p j. get_or xs (let q : 0 + j ≡ j = omega arith in q p) (pos 0)) ∙ table_of n xs e) i ++ numbers_at n ds xs i)
 
 -- the value of a row with the numbers put in

@@ -117,9 +117,6 @@ piece_shape about l rows inside wide = record {
 }
 
 -- ---- one piece
-pub lone_shape : (about : CaseSystem) (l : ℕ) (rows : List Linear) (ps : List Marked) → ps ≡ on_piece about.variables l rows ∷ [] → l < about.locations → All (λ r. columns r ≡ about.variables) rows → All (PieceShape about 0 false) ps
-lone_shape about l rows ps e inside wide = subst (All (PieceShape about 0 false)) (sym e) (All-cons (PieceShape about 0 false) (on_piece about.variables l rows) [] (piece_shape about l rows inside wide) (All-nil (PieceShape about 0 false)))
-
 pub lone_goes : (about : CaseSystem) (c : LinearCase) (rows : List Linear) (choice : ChoiceTree) (ps : List Marked) (proofs : List Proof) → ps ≡ on_piece about.variables c.from rows ∷ [] → proofs ≡ Chosen choice ∷ [] → c.from ≡ c.to → LeadsInto about c 0 rows rows choice → AllZip (GoesOn about ps) ps proofs
 lone_goes about c rows choice ps proofs e f back leads =
     let p = on_piece about.variables c.from rows in

@@ -4,13 +4,10 @@ use Rattle.std.proofs.lemmas.List.{take-append-drop}
 use Rattle.std.proofs.lemmas.List.Elements.{All-take, All-drop}
 use Rattle.tv_linear.specs.Linear.{Linear, columns, IsMet, IsWithin}
 use Rattle.tv_farkas.specs.Refuting.{AreShort}
-use Rattle.tv_farkas.proofs.SystemLemmas.{all_of}
 use Rattle.tv_recur.specs.Making.{rows_put, drawn_terms, ArePut}
 use Rattle.tv_recur.proofs.DrawLemmas.{all_put_wide}
 use Rattle.tv_recur.proofs.OwedLemmas.{put_met}
-
-pub short_within : (zs : List ℤ) → AreShort zs → All (IsWithin 62) zs
-short_within zs h = all_of (IsWithin 62) zs (pos 0) h
+use Rattle.tv_farkas.proofs.StretchLemmas.{short_all}
 
 -- the first numbers are the values, and the others the draws
 pub record IsSplit (n d : ℕ) (zs xs ds : List ℤ) : Type 0 where
@@ -28,8 +25,8 @@ split_point v d zs xs ds many short e f =
       many = (let a = length-append xs ds in let b = ap length both in omega (arith, a, b, many, drawn));
       drawn = drawn;
       both = both;
-      values = subst (All (IsWithin 62)) (sym e) (All-take (IsWithin 62) v zs (short_within zs short));
-      draws = subst (All (IsWithin 62)) (sym f) (All-drop (IsWithin 62) v zs (short_within zs short));
+      values = subst (All (IsWithin 62)) (sym e) (All-take (IsWithin 62) v zs (short_all zs short));
+      draws = subst (All (IsWithin 62)) (sym f) (All-drop (IsWithin 62) v zs (short_all zs short));
     }
 
 -- the rows with the draws put in

@@ -178,7 +178,3 @@ module _ (about : CaseSystem) (b : Budget) where
     pub updates_refused : (w : ℕ) (us : List Update) (fault : CoverFault) → w ≡ n + c.draws → us ≡ c.updates → IsUnmadeAmong w us fault → IsRefusal about b fault
     updates_refused w us fault e f (inl m) = subst (IsRefusal about b) (sym m) tt
     updates_refused w us fault e f (inr (u, of, h)) = update_refused u fault (loop_update u (subst (λ z. Contains z u) f of)) (subst (λ k. IsUnmadeUpdate k u fault) e h)
-
--- nothing is put in for no draws
-pub none_put : (about : CaseSystem) (c : LinearCase) (ds : List ℤ) → c.draws ≡ 0 → MayPut about c ds
-none_put about c ds none j l = absurd (omega (arith, l, none))

@@ -1,14 +1,11 @@
 -- One more row of a loop.
 use Rattle.std.proofs.Common.{◌≡◌, ℕ, ◌+◌, ◌<◌, List, [], ◌∷◌, ◌++◌, length, take, get_or, sym, ◌∙◌, subst}
 use Rattle.std.proofs.lemmas.List.{map-append}
-use Rattle.std.proofs.lemmas.List.Elements.{All-nil, All-push}
+use Rattle.std.proofs.lemmas.List.Elements.{All-push}
 use Rattle.tv_linear.specs.Linear.{Linear}
 use Rattle.tv_linear.specs.Arithmetic.{composed}
-use Rattle.tv_cases.proofs.BeforeLemmas.{take_next}
 use Rattle.tv_recur.specs.Making.{FitsPut, ArePut}
-
-pub no_rows_put : (terms all : List Linear) → all ≡ [] → ArePut terms [] all
-no_rows_put terms all e = record { exact = e; fits = All-nil (FitsPut terms) }
+use Rattle.tv_linear.proofs.ListLaws.{take_next}
 
 pub row_put : (terms rows : List Linear) (i : ℕ) (r s : Linear) (all new : List Linear) → i < length rows → r ≡ get_or rows i r → s ≡ composed r terms → FitsPut terms r → new ≡ all ++ s ∷ [] → ArePut terms (take i rows) all → ArePut terms (take (i + 1) rows) new
 row_put terms rows i r s all new l e same fits m h = subst (λ z. ArePut terms z new) (sym (take_next rows i r l e)) (record {

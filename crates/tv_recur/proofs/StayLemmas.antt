@@ -1,7 +1,6 @@
 -- Where a case changes nothing.
-use Rattle.std.proofs.Common.{◌≡◌, ℕ, zero, suc, ◌+◌, ◌<◌, ◌≤◌, List, [], ◌∷◌, ◌++◌, length, length-append, map, get_or, All, Bool, true, false, ◌==◌, ◌&&◌, if◌then◌else◌, arith, refl, sym, ap, ◌∙◌, subst, ℤ, pos, ◌+ℤ◌}
+use Rattle.std.proofs.Common.{◌≡◌, ℕ, zero, suc, ◌+◌, ◌<◌, ◌≤◌, List, [], ◌∷◌, ◌++◌, length, length-append, map, get_or, All, Bool, true, false, ◌==◌, if◌then◌else◌, arith, refl, sym, ap, ◌∙◌, subst, ℤ, pos, ◌+ℤ◌}
 use Rattle.std.specs.Prelude.{nat_le}
-use Rattle.std.proofs.lemmas.Bool.Decides.{nat_tests}
 use Rattle.std.proofs.lemmas.Int.{ints}
 use Rattle.std.proofs.lemmas.List.Elements.{All-nil, All-cons, All-head, All-tail, All-append}
 use Rattle.tv_linear.specs.Linear.{Linear, columns, value, IsMet}
@@ -12,13 +11,16 @@ use Rattle.tv_linear.specs.declared.region.Update.{Update}
 use Rattle.tv_linear.proofs.Entries.{columns-plus, columns-opposite}
 use Rattle.tv_linear.proofs.PlainLists.{length-unit}
 use Rattle.tv_linear.proofs.RowValues.{value-plus, value-opposite, value-column_row}
-use Rattle.tv_linear.proofs.ListLaws.{test_true, test_false, true_test}
+use Rattle.tv_linear.proofs.ListLaws.{test_true, test_false, true_test, map-table}
 use Rattle.tv_cases.specs.LinearCases.{LinearCase, CaseSystem, IsCase, ascends}
 use Rattle.tv_farkas.specs.Paths.{IsWholePoint}
 use Rattle.tv_recur.specs.Making.{rows_put, drawn_terms}
 use Rattle.tv_recur.specs.Owing.{Enters, IsLeft}
 use Rattle.tv_recur.specs.Staying.{added, taken_off, unchanged_rows, staying_rows, NeverStays}
 use Rattle.tv_recur.proofs.OwedLemmas.{put_met_back}
+use Rattle.tv_cases.proofs.SameSteps.{front-get_or}
+use Rattle.tv_cases.proofs.EdgeRoom.{at_most-true}
+use Rattle.std.proofs.lemmas.Bool.{and_parts}
 
 -- ---- one update
 -- the value of its term is that of its variable
@@ -75,10 +77,6 @@ term_kept p (u ∷ us) v h =
     (λ e. All-head (Keeps p) u us h ∙ ap (λ k. get_or p k (pos 0)) (true_test u.variable v e))
     (term_kept p us v (All-tail (Keeps p) u us h))
 
-map_table : {A B : Type 0} (f : A → B) (n : ℕ) (g : ℕ → A) → map f (table n g) ≡ table n (λ j. f (g j))
-map_table f zero g = refl
-map_table f (suc n) g = ap (λ ys. f (g 0) ∷ ys) (map_table f n (λ j. g (suc j)))
-
 table_same : {A : Type 0} (n : ℕ) (f g : ℕ → A) → ((j : ℕ) → j < n → f j ≡ g j) → table n f ≡ table n g
 table_same zero f g h = refl
 table_same (suc n) f g h = (λ i. h 0 (omega arith) i ∷ table_same n (λ j. f (suc j)) (λ j. g (suc j)) (λ j l. h (suc j) (omega (arith, l))) i)
@@ -87,30 +85,18 @@ table_of : (xs : List ℤ) → table (length xs) (λ j. get_or xs j (pos 0)) ≡
 table_of [] = refl
 table_of (x ∷ xs) = ap (λ ys. x ∷ ys) (table_of xs)
 
-front : (xs ds : List ℤ) (j : ℕ) → j < length xs → get_or (xs ++ ds) j (pos 0) ≡ get_or xs j (pos 0)
-front [] ds j l = absurd (omega (arith, l))
-front (x ∷ xs) ds zero l = refl
-front (x ∷ xs) ds (suc j) l = front xs ds j (omega (arith, l))
-
 pub values_kept : (xs ds : List ℤ) (us : List Update) → All (Keeps (xs ++ ds)) us → map (term_value (xs ++ ds)) (terms_after (length xs) us) ≡ xs
 values_kept xs ds us h =
-    map_table (term_value (xs ++ ds)) (length xs) (update_of us)
-    ∙ table_same (length xs) (λ j. term_value (xs ++ ds) (update_of us j)) (λ j. get_or xs j (pos 0)) (λ j l. term_kept (xs ++ ds) us j h ∙ front xs ds j l)
+    map-table (term_value (xs ++ ds)) (length xs) (update_of us)
+    ∙ table_same (length xs) (λ j. term_value (xs ++ ds) (update_of us j)) (λ j. get_or xs j (pos 0)) (λ j l. term_kept (xs ++ ds) us j h ∙ front-get_or xs ds j l)
     ∙ table_of xs
 
 -- ---- and back: each update is the first of its variable
-both_true : (a b : Bool) → (a && b) ≡ true → (a ≡ true) × (b ≡ true)
-both_true true b h = (refl, h)
-both_true false b h = absurd cc
-
-le_true : (a b : ℕ) → nat_le a b ≡ true → a ≤ b
-le_true a b h = grind (arith, nat_tests)
-
 above : (v : ℕ) (us : List Update) → ascends v us ≡ true → All (λ u. v ≤ u.variable) us
 above v [] h = All-nil (λ u. v ≤ u.variable)
 above v (u ∷ us) h =
-    let k = both_true (nat_le v u.variable) (ascends (suc u.variable) us) h in
-    let l = le_true v u.variable k.0 in
+    let k = and_parts (nat_le v u.variable) (ascends (suc u.variable) us) h in
+    let l = at_most-true v u.variable k.0 in
     All-cons (λ u. v ≤ u.variable) u us l (higher v (suc u.variable) us (omega (arith, l)) (above (suc u.variable) us k.1))
   where
     higher : (v w : ℕ) (us : List Update) → v ≤ w → All (λ u. w ≤ u.variable) us → All (λ u. v ≤ u.variable) us
@@ -139,7 +125,7 @@ later_first u all (w ∷ us) l h =
 firsts : (v : ℕ) (us : List Update) → ascends v us ≡ true → All (IsFirst us) us
 firsts v [] h = All-nil (IsFirst [])
 firsts v (u ∷ us) h =
-    let k = both_true (nat_le v u.variable) (ascends (suc u.variable) us) h in
+    let k = and_parts (nat_le v u.variable) (ascends (suc u.variable) us) h in
     All-cons (IsFirst (u ∷ us)) u us
     (if_true (u.variable == u.variable) (put u.term) (update_of us u.variable) (test_true u.variable u.variable refl))
     (later_first u us us (above (suc u.variable) us k.1) (firsts (suc u.variable) us k.1))
@@ -155,8 +141,8 @@ each_kept xs ds all (u ∷ us) e l h =
     let k = All-head (λ u. u.variable < length xs) u us l in
     All-cons (Keeps (xs ++ ds)) u us
     (sym (
-    front xs ds u.variable k
-    ∙ ap (λ ys. get_or ys u.variable (pos 0)) (e ∙ map_table (term_value (xs ++ ds)) (length xs) (update_of all))
+    front-get_or xs ds u.variable k
+    ∙ ap (λ ys. get_or ys u.variable (pos 0)) (e ∙ map-table (term_value (xs ++ ds)) (length xs) (update_of all))
     ∙ in_table (length xs) (λ j. term_value (xs ++ ds) (update_of all j)) (pos 0) u.variable k
     ∙ ap (term_value (xs ++ ds)) (All-head (IsFirst all) u us h)
     ))

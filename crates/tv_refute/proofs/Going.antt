@@ -2,7 +2,7 @@ use Rattle.std.proofs.Common.{◌≡◌, ◌↔◌, ℕ, zero, suc, ◌+◌, ◌
 use Rattle.std.proofs.lemmas.Int.{ints}
 use Rattle.tv_linear.specs.Fits.{IsHeld}
 use Rattle.tv_linear.specs.Known.{Term, kept, term_number, place_sum, PlacesHeld, Known, KnownHeld, known_number}
-use Rattle.tv_refute.proofs.Places.{get_or-map}
+use Rattle.std.proofs.lemmas.List.{get_or-map}
 
 -- the sum of f j times the number at j - v
 abbrev pub place_from : ℕ → (ℕ → ℤ) → List ℤ → ℤ

@@ -1,11 +1,11 @@
-use Rattle.std.proofs.Common.{◌≡◌, ℕ, zero, suc, ◌+◌, ◌<◌, List, [], ◌∷◌, ◌++◌, map, length, drop, get_or, arith, refl, sym, ap, ◌∙◌, pos, true, false, ◌==◌, if◌then◌else◌, drop-cons, length-append}
-use Rattle.std.proofs.lemmas.List.{length-map}
-use Rattle.std.proofs.lemmas.Bool.Decides.{nat_tests}
+use Rattle.std.proofs.Common.{◌≡◌, ℕ, zero, suc, ◌+◌, ◌<◌, List, [], ◌∷◌, ◌++◌, map, length, drop, get_or, arith, refl, sym, ap, ◌∙◌, pos, if◌then◌else◌, drop-cons, length-append}
+use Rattle.std.proofs.lemmas.List.{length-map, get_or-map}
 use Rattle.tv_linear.specs.Known.{kept, put, unit_number}
 use Rattle.tv_linear.specs.Linear.{Linear}
 use Rattle.tv_linear.specs.Terms.{update_of, table, draw_terms}
 use Rattle.tv_linear.specs.declared.region.Update.{Update}
 use Rattle.tv_linear.proofs.PlainLists.{length-table}
+use Rattle.tv_linear.proofs.ListLaws.{test_true, test_false, get_or-table}
 
 pub unit_same : (j v : ℕ) → j ≡ v → pos 1 ≡ unit_number j v
 unit_same zero zero e = refl
@@ -19,11 +19,6 @@ unit_other zero (suc v) n = refl
 unit_other (suc j) zero n = refl
 unit_other (suc j) (suc v) n = unit_other j v (λ e. n (ap suc e))
 
-pub get_or-table : {A : Type 0} (n : ℕ) (f : ℕ → A) (v : ℕ) (d : A) → v < n → get_or (table n f) v d ≡ f v
-get_or-table zero f v d h = absurd (omega arith)
-get_or-table (suc n) f zero d h = refl
-get_or-table (suc n) f (suc v) d h = get_or-table n (λ j. f (suc j)) v d (omega arith)
-
 pub get_or-left : {A : Type 0} (xs ys : List A) (v : ℕ) (d : A) → v < length xs → get_or (xs ++ ys) v d ≡ get_or xs v d
 get_or-left [] ys v d h = absurd (omega arith)
 get_or-left (x ∷ xs) ys zero d h = refl
@@ -33,11 +28,6 @@ pub get_or-right : {A : Type 0} (xs ys : List A) (v k : ℕ) (d : A) → v ≡ l
 get_or-right [] ys v k d e = ap (λ i. get_or ys i d) (omega arith)
 get_or-right (x ∷ xs) ys zero k d e = absurd (omega arith)
 get_or-right (x ∷ xs) ys (suc v) k d e = get_or-right xs ys v k d (omega arith)
-
-pub get_or-map : {A B : Type 0} (f : A → B) (xs : List A) (k : ℕ) (a : A) (b : B) → k < length xs → get_or (map f xs) k b ≡ f (get_or xs k a)
-get_or-map f [] k a b h = absurd (omega arith)
-get_or-map f (x ∷ xs) zero a b h = refl
-get_or-map f (x ∷ xs) (suc k) a b h = get_or-map f xs k a b (omega arith)
 
 pub draw_term_first : (n : ℕ) (draws : List Linear) (v : ℕ) → v < n → get_or (draw_terms n draws) v (kept 0) ≡ kept v
 draw_term_first n draws v h = get_or-left (table n kept) (map (λ d. put d) draws) v (kept 0) (omega (arith, length-table n (λ j. kept j))) ∙ get_or-table n (λ j. kept j) v (kept 0) h
@@ -49,12 +39,6 @@ pub length-draw_terms : (n : ℕ) (draws : List Linear) → length (draw_terms n
 length-draw_terms n draws = length-append (table n kept) (map (λ d. put d) draws) ∙ (λ i. length-table n (λ j. kept j) i + length-map draws (λ d. put d) i)
 
 -- ---- updates
-test_true : (a b : ℕ) → a ≡ b → (a == b) ≡ true
-test_true a b h = grind (arith, nat_tests)
-
-test_false : (a b : ℕ) → (a ≡ b → ⊥) → (a == b) ≡ false
-test_false a b h = grind (arith, nat_tests)
-
 pub update_here : (us : List Update) (i v : ℕ) (u : Update) → i < length us → u ≡ get_or us i u → u.variable ≡ v → update_of (drop i us) v ≡ put u.term
 update_here us i v u l e h =
     let a : drop i us ≡ u ∷ drop (suc i) us = drop-cons us i u l ∙ ap (λ x. x ∷ drop (suc i) us) (sym e) in

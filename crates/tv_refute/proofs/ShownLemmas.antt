@@ -1,8 +1,9 @@
-use Rattle.std.proofs.Common.{◌≡◌, ◌↔◌, ℕ, zero, suc, ◌≤◌, List, [], ◌∷◌, length, drop, map, arith, refl, sym, ap, ◌∙◌, ℤ, subst, Vec, Global}
+use Rattle.std.proofs.Common.{◌≡◌, ◌↔◌, ℕ, suc, ◌≤◌, List, [], ◌∷◌, length, drop, map, arith, refl, sym, ap, ◌∙◌, ℤ, subst, Vec, Global}
 use Rattle.std.proofs.lemmas.List.{length-map}
 use Rattle.tv_linear.specs.Covers.{Shown}
 use Rattle.tv_linear.specs.Known.{Known}
 use Rattle.tv_linear.specs.Linear.{Linear}
+use Rattle.tv_linear.proofs.ListLaws.{drop_past}
 
 -- the lists of multipliers
 abbrev pub numbers : List (Vec ℤ Global) → List (List ℤ)
@@ -14,12 +15,6 @@ Shown_many n known [] [] h = refl
 Shown_many n known [] (l ∷ lists) h = absurd h
 Shown_many n known (r ∷ owed) [] h = absurd h
 Shown_many n known (r ∷ owed) (l ∷ lists) h = ap suc (Shown_many n known owed lists h.1)
-
-drop_past : {A : Type 0} (xs : List A) (i : ℕ) → length xs ≤ i → drop i xs ≡ []
-drop_past [] zero h = refl
-drop_past [] (suc i) h = refl
-drop_past (x ∷ xs) zero h = absurd (omega arith)
-drop_past (x ∷ xs) (suc i) h = drop_past xs i (omega arith)
 
 module _ (n : ℕ) (known : List Known) (change : Linear → Known) (owed : List Linear) (lists : List (Vec ℤ Global)) where
   -- what is left to show from place i on

@@ -1,6 +1,6 @@
 use Rattle.std.proofs.Common.{◌≡◌, ◌↔◌, ℕ, suc, zero, ◌+◌, ◌-◌, ◌<◌, ◌≤◌, List, [], ◌∷◌, ◌++◌, map, length, take, drop, get_or, arith, refl, sym, ap, ◌∙◌, ℤ, pos, ◌+ℤ◌, ◌*ℤ◌, subst, Option, Bool, true, false, length-take, length-append}
 use Rattle.std.proofs.lemmas.Int.{ints}
-use Rattle.std.proofs.lemmas.List.{take_more, length-map}
+use Rattle.std.proofs.lemmas.List.{take_more, length-map, get_or-map}
 use Rattle.tv_linear.specs.Fits.{SumsHeld, IsHeld}
 use Rattle.tv_linear.specs.Known.{number, Known, KnownHeld, known_number, given, as_given}
 use Rattle.tv_linear.specs.Linear.{Linear}
@@ -10,7 +10,6 @@ use Rattle.tv_linear.proofs.KnownLemmas.{weighted}
 use Rattle.tv_linear.proofs.Summing.{IsSummedTo, one_summed, held_here}
 use Rattle.tv_refute.specs.Blocks.{AreTold, IsAddedHeld, further}
 use Rattle.tv_refute.proofs.Telling.{AreTold_iff}
-use Rattle.tv_refute.proofs.Places.{get_or-map}
 use Rattle.tv_refute.specs.Built.{built}
 use Rattle.tv_refute.specs.Frames.{known_at}
 use Rattle.tv_refute.specs.declared.frames.Frames.{Frames}
@@ -19,6 +18,7 @@ use Rattle.tv_refute.specs.declared.built.Built.{Built}
 use Rattle.tv_linear.specs.declared.rows.Rows.{Rows}
 use Rattle.tv_linear.specs.Views.{rows_seen}
 use Rattle.std.specs.Borrow.{Bor}
+use Rattle.std.proofs.Math.Seq.{take-length}
 
 -- ---- given rows
 weighted-given : (column : Option ℕ) (ms : List ℤ) (rows : List Linear) → weighted (λ k. known_number k column) ms (as_given rows) ≡ weighted (number column) ms rows
@@ -26,7 +26,7 @@ weighted-given column [] rows = refl
 weighted-given column (m ∷ ms) [] = refl
 weighted-given column (m ∷ ms) (r ∷ rows) = ap (λ z. m *ℤ number column r +ℤ z) (weighted-given column ms rows)
 
-RowsHeld-given : (column : Option ℕ) (sum : ℤ) (ms : List ℤ) (rows : List Linear) → RowsHeld (λ k. KnownHeld k column) sum (λ k. known_number k column) ms (as_given rows) ↔ SumsHeld sum ms (map (number column) rows)
+pub RowsHeld-given : (column : Option ℕ) (sum : ℤ) (ms : List ℤ) (rows : List Linear) → RowsHeld (λ k. KnownHeld k column) sum (λ k. known_number k column) ms (as_given rows) ↔ SumsHeld sum ms (map (number column) rows)
 RowsHeld-given column sum [] rows = (λ h. tt, λ h. tt)
 RowsHeld-given column sum (m ∷ ms) [] = (λ h. tt, λ h. tt)
 RowsHeld-given column sum (m ∷ ms) (r ∷ rows) =
@@ -57,15 +57,11 @@ split_is [] (suc k) = refl
 split_is (x ∷ xs) zero = refl
 split_is (x ∷ xs) (suc k) = ap (λ ys. x ∷ ys) (split_is xs k)
 
-take_all : {A : Type 0} (xs : List A) → take (length xs) xs ≡ xs
-take_all [] = refl
-take_all (x ∷ xs) = ap (λ ys. x ∷ ys) (take_all xs)
-
 last_is : (ms : List ℤ) → 1 ≤ length ms → ms ≡ take (length ms - 1) ms ++ get_or ms (length ms - 1) (pos 0) ∷ []
 last_is ms h =
     let n : (length ms - 1) + 1 ≡ length ms = omega arith in
     let l : length ms - 1 < length ms = omega arith in
-    sym (take_all ms) ∙ ap (λ k. take k ms) (sym n) ∙ take_more ms (length ms - 1) (pos 0) l
+    sym (take-length ms) ∙ ap (λ k. take k ms) (sym n) ∙ take_more ms (length ms - 1) (pos 0) l
 
 -- ---- the sum at a place: `above` and what follows
 abbrev pub Fit : Option ℕ → ℤ → List ℤ → List Known → Type 0

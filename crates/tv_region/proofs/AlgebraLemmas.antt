@@ -27,9 +27,10 @@ use Rattle.tv_region.specs.declared.fault.RegionFault.{RegionFault}
 use Rattle.tv_region.specs.declared.fault.RegionFault.TheVariants as regions
 use Rattle.tv_region.specs.declared.fault.RegionFault.TheVariants.{Memory}
 use Rattle.tv_region.specs.Differences.{IsDifference, IsOfDifferences}
-use Rattle.tv_region.proofs.MetLemmas.{and_parts, and_join, or_parts, or_left, or_right, all_met-all, all-all_met, has_all}
+use Rattle.tv_region.proofs.MetLemmas.{all_met-all, all-all_met, has_all}
 use Rattle.tv_region.proofs.AddLemmas.{none_reduced, denied_more}
 use Rattle.tv_region.proofs.DifferenceLemmas.{denial_difference}
+use Rattle.std.proofs.lemmas.Bool.{or_right, cases_lt, and_parts, and_from, or_cases, or_left}
 
 -- ---- states of a region
 kept_in : (t : Bool) (xs : List ℤ) (rows : List Linear) (ls : List (List Linear)) → t ≡ true → all_met xs rows ≡ true → some_met xs (cond t (rows ∷ ls) ls) ≡ true
@@ -41,7 +42,7 @@ kept_later true xs rows ls h = or_right (all_met xs rows) (some_met xs ls) h
 kept_later false xs rows ls h = h
 
 kept_out : (t : Bool) (xs : List ℤ) (rows : List Linear) (ls : List (List Linear)) → some_met xs (cond t (rows ∷ ls) ls) ≡ true → ((t ≡ true) × (all_met xs rows ≡ true)) ⊎ (some_met xs ls ≡ true)
-kept_out true xs rows ls h = elim (or_parts (all_met xs rows) (some_met xs ls) h) [ inl k ↦ inl (refl, k) | inr k ↦ inr k ]
+kept_out true xs rows ls h = elim (or_cases (all_met xs rows) (some_met xs ls) h) [ inl k ↦ inl (refl, k) | inr k ↦ inr k ]
 kept_out false xs rows ls h = inr h
 
 module _ (l : ℕ) (xs : List ℤ) where
@@ -157,7 +158,7 @@ module _ (a : Region) (l : ℕ) (pieces : List (List Linear)) (f : IsRegion a.va
       same : (xs : List ℤ) → length xs ≡ a.variables → some_met xs lists ≡ not (has_state a l xs)
       same xs k = h.met xs k ∙ (λ i. not (some_met xs (e i)))
 
-zero_factor : (x y : ℕ) → x * y ≡ 0 → (x ≡ 0) ⊎ (y ≡ 0)
+pub zero_factor : (x y : ℕ) → x * y ≡ 0 → (x ≡ 0) ⊎ (y ≡ 0)
 zero_factor zero y h = inl refl
 zero_factor (suc x) zero h = inr refl
 zero_factor (suc x) (suc y) h = absurd (grind arith)
@@ -178,24 +179,18 @@ pub complement_zero : (n : ℕ) (ls : List (List Linear)) → row_product ls ≡
 complement_zero n ls z = record { met = λ xs e. ap not (sym (all_there xs ls z)); reduced = none_reduced n; from = λ r m. absurd m; few = omega arith }
 
 -- ---- whole regions
-below_or_not : (l m : ℕ) → (l < m) ⊎ (m ≤ l)
-below_or_not zero zero = inr (omega arith)
-below_or_not zero (suc m) = inl (omega arith)
-below_or_not (suc l) zero = inr (omega arith)
-below_or_not (suc l) (suc m) = elim (below_or_not l m) [ inl h ↦ inl (omega arith) | inr h ↦ inr (omega arith) ]
-
 module _ (n m : ℕ) (Only Out : ℕ → List ℤ → Type 0) (Made : ℕ → Linear → Type 0) (Few : ℕ → ℕ → Type 0) (region : Region) (h : IsAssembled n m Only Out Made Few region) where
   pub row_made : (l : ℕ) (r : Linear) → HasRowAt region l r → Made l r
-  row_made l r k = elim (below_or_not l m) [ inl b ↦ (h.at l b).made r k | inr b ↦ absurd (subst (λ ls. InSome ls r) (h.none l b) k) ]
+  row_made l r k = elim (cases_lt l m) [ inl b ↦ (h.at l b).made r k | inr b ↦ absurd (subst (λ ls. InSome ls r) (h.none l b) k) ]
 
   pub reduced_pieces : IsReduced region
-  reduced_pieces l = subst (λ k. AreReduced k (lists_at l region.pieces.items)) (sym h.fits.variables) (elim (below_or_not l m) [
+  reduced_pieces l = subst (λ k. AreReduced k (lists_at l region.pieces.items)) (sym h.fits.variables) (elim (cases_lt l m) [
     | inl b ↦ (h.at l b).reduced
     | inr b ↦ subst (AreReduced n) (sym (h.none l b)) (none_reduced n)
   ])
 
   pub few_pieces : ((l : ℕ) → Few l 0) → (l : ℕ) → Few l (count_at l region)
-  few_pieces zero_few l = elim (below_or_not l m) [ inl b ↦ (h.at l b).few | inr b ↦ subst (Few l) (sym (ap length (h.none l b))) (zero_few l) ]
+  few_pieces zero_few l = elim (cases_lt l m) [ inl b ↦ (h.at l b).few | inr b ↦ subst (Few l) (sym (ap length (h.none l b))) (zero_few l) ]
 
 not_out : (b goal : Bool) → (b ≡ false → goal ≡ false) → goal ≡ true → b ≡ true
 not_out true goal h k = refl
@@ -210,7 +205,7 @@ both_region a b region h = record {
   fits = h.fits;
   exact = λ l xs p. (
     λ k. (let w = and_parts (has_state a l xs) (has_state b l xs) ((h.at l p.location).only xs p.values (state_in l xs region k)) in (in_state l xs a w.0, in_state l xs b w.1)),
-    λ k. in_state l xs region (not_out (has_state region l xs) (has_state a l xs && has_state b l xs) ((h.at l p.location).out xs p.values) (and_join (has_state a l xs) (has_state b l xs) (state_in l xs a k.0) (state_in l xs b k.1))),
+    λ k. in_state l xs region (not_out (has_state region l xs) (has_state a l xs && has_state b l xs) ((h.at l p.location).out xs p.values) (and_from (has_state a l xs) (has_state b l xs) (state_in l xs a k.0) (state_in l xs b k.1))),
   );
   reduced = reduced_pieces a.variables a.locations (InBoth a b) (OutOfBoth a b) (OfEither a b) (λ l k. k ≤ count_at l a * count_at l b) region h;
   from = row_made a.variables a.locations (InBoth a b) (OutOfBoth a b) (OfEither a b) (λ l k. k ≤ count_at l a * count_at l b) region h;
@@ -222,7 +217,7 @@ pub either_region : (a b region : Region) → IsAssembled a.variables a.location
 either_region a b region h = record {
   fits = h.fits;
   exact = λ l xs p. (
-    λ k. elim (or_parts (has_state a l xs) (has_state b l xs) ((h.at l p.location).only xs p.values (state_in l xs region k))) [ inl w ↦ inl (in_state l xs a w) | inr w ↦ inr (in_state l xs b w) ],
+    λ k. elim (or_cases (has_state a l xs) (has_state b l xs) ((h.at l p.location).only xs p.values (state_in l xs region k))) [ inl w ↦ inl (in_state l xs a w) | inr w ↦ inr (in_state l xs b w) ],
     λ k. in_state l xs region (not_out (has_state region l xs) (has_state a l xs || has_state b l xs) ((h.at l p.location).out xs p.values) (elim k [ inl w ↦ or_left (has_state a l xs) (has_state b l xs) (state_in l xs a w) | inr w ↦ or_right (has_state a l xs) (has_state b l xs) (state_in l xs b w) ])),
   );
   reduced = reduced_pieces a.variables a.locations (InEither a b) (OutOfEither a b) (OfEither a b) (λ l k. k ≤ count_at l a + count_at l b) region h;

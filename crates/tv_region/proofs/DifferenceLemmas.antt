@@ -71,7 +71,7 @@ record IsFound (f : ℕ → ℤ) (z : ℤ) : Type 0 where
   here : (j : ℕ) → f j ≡ z → unit_of place j ≡ pos 1
   away : (j : ℕ) → (f j ≡ z → ⊥) → unit_of place j ≡ pos 0
 
-before_or_at : (j n : ℕ) → j < suc n → (j < n) ⊎ (j ≡ n)
+pub before_or_at : (j n : ℕ) → j < suc n → (j < n) ⊎ (j ≡ n)
 before_or_at zero zero h = inr refl
 before_or_at zero (suc n) h = inl (omega arith)
 before_or_at (suc j) zero h = absurd (omega arith)
@@ -162,7 +162,7 @@ same_numbers r s e h = record {
 }
 
 -- ---- numbers of rows that are made
-number-neg : (cs : List ℤ) (j : ℕ) → slice_index_or (map neg_ℤ cs) j (pos 0) ≡ neg_ℤ (slice_index_or cs j (pos 0))
+pub number-neg : (cs : List ℤ) (j : ℕ) → slice_index_or (map neg_ℤ cs) j (pos 0) ≡ neg_ℤ (slice_index_or cs j (pos 0))
 number-neg [] j = refl
 number-neg (c ∷ cs) zero = refl
 number-neg (c ∷ cs) (suc j) = number-neg cs j

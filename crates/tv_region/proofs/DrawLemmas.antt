@@ -13,19 +13,20 @@ use Rattle.tv_region.specs.Made.{Made, over_draws, of_tight, of_sum, of_shortene
 use Rattle.tv_region.specs.Draws.{sum_row, Drawn, drawn_one, drawn_sum, drawn_short, IsWideSum, IsWideDrawn, IsParted, IsSummed, IsProjected}
 use Rattle.tv_region.proofs.Between.{between}
 use Rattle.tv_region.proofs.DifferenceLemmas.{above_is_one, drawn_difference}
-use Rattle.tv_region.proofs.MetLemmas.{and_parts, and_join, is_met, met_is, all_met-has}
+use Rattle.tv_region.proofs.MetLemmas.{is_met, met_is, all_met-has}
 use Rattle.tv_region.proofs.SumLemmas.{value-last, columns-shortened, last-cancelled, sum_met, met_sum, columns-sum}
+use Rattle.std.proofs.lemmas.Bool.{and_parts, and_from}
 
 -- ---- lists
 pub all_met-from : (xs : List ℤ) (rows : List Linear) → ((r : Linear) → Has rows r → meets xs r ≡ true) → all_met xs rows ≡ true
 all_met-from xs [] h = refl
-all_met-from xs (r ∷ rows) h = and_join (meets xs r) (all_met xs rows) (h r (inl refl)) (all_met-from xs rows (λ s k. h s (inr k)))
+all_met-from xs (r ∷ rows) h = and_from (meets xs r) (all_met xs rows) (h r (inl refl)) (all_met-from xs rows (λ s k. h s (inr k)))
 
-recursion_has : {A : Type 0} (P : A → Type 0) (xs : List A) → ((x : A) → Has xs x → P x) → AllByRecursion P xs
+pub recursion_has : {A : Type 0} (P : A → Type 0) (xs : List A) → ((x : A) → Has xs x → P x) → AllByRecursion P xs
 recursion_has P [] h = tt
 recursion_has P (x ∷ xs) h = (h x (inl refl), recursion_has P xs (λ y k. h y (inr k)))
 
-has_recursion : {A : Type 0} (P : A → Type 0) (xs : List A) (x : A) → AllByRecursion P xs → Has xs x → P x
+pub has_recursion : {A : Type 0} (P : A → Type 0) (xs : List A) (x : A) → AllByRecursion P xs → Has xs x → P x
 has_recursion P [] x h k = absurd k
 has_recursion P (y ∷ xs) x h (inl e) = subst P e h.0
 has_recursion P (y ∷ xs) x h (inr k) = has_recursion P xs x h.1 k
@@ -176,20 +177,17 @@ projected_none n rows = record {
     nothing xs [] f h = subst (λ ys. all_met ys rows ≡ true) (append-nil xs) h
     nothing xs (d ∷ ds) f h = absurd (omega (arith, f))
 
-both_true : (a b : Bool) → (a && b) ≡ true → (a ≡ true) × (b ≡ true)
-both_true a b h = and_parts a b h
-
 pub projected_more : (n k : ℕ) (rows middle out : List Linear) (first then_ : Bool) → IsProjected (n + 1) k rows middle first → IsProjected n 1 middle out then_ → IsProjected n (k + 1) rows out (first && then_)
 projected_more n k rows middle out first then_ h g = record {
   met = λ xs ds e f m. by_first xs ds e f m;
   lifted = λ x xs e m.
-      let b = both_true first then_ x in
+      let b = and_parts first then_ x in
       let w = g.lifted b.1 xs e m in
       let d = w.1 in
       let v = h.lifted b.0 (xs ++ w.0) (omega (arith, length-append xs w.0, d, e)) w.2 in
       let c = v.1 in
       (w.0 ++ v.0, omega (arith, length-append w.0 v.0, d, c), subst (λ ys. all_met ys rows ≡ true) (append_assoc xs w.0 v.0) v.2);
-  differences = λ d. and_join first then_ (h.differences d) (g.differences (λ r m. drawn_difference ((n + 1) + k) rows d (n + 1) r (h.from r m)));
+  differences = λ d. and_from first then_ (h.differences d) (g.differences (λ r m. drawn_difference ((n + 1) + k) rows d (n + 1) r (h.from r m)));
   from = λ r m. (let e : (n + 1) + k ≡ n + (k + 1) = omega arith in subst (λ w. Drawn w rows n r) e (drawn_drawn ((n + 1) + k) (n + 1) rows middle h.from n r (g.from r m)));
   wide = λ w r m. g.wide (λ s j. h.wide (λ t i. (let a = w t i in omega (arith, a))) s j) r m;
 }

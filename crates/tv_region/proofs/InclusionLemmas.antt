@@ -1,35 +1,27 @@
 -- Rows inside of others, at whole points.
-use Rattle.std.proofs.Common.{◌≡◌, ◌∙◌, ℕ, ◌+◌, ◌<◌, List, [], ◌∷◌, ◌++◌, take, length, get_or, ap, sym, subst, ℤ, Bool, true, false}
+use Rattle.std.proofs.Common.{◌≡◌, ◌∙◌, ℕ, ◌+◌, ◌<◌, List, [], ◌∷◌, ◌++◌, length, get_or, ℤ, Bool, true, false}
 use Rattle.std.specs.Prelude.{not, Vec}
 use Rattle.std.specs.Global.{Global}
 use Rattle.tv_linear.specs.Linear.{Linear}
-use Rattle.tv_linear.specs.Arithmetic.{denial}
 use Rattle.tv_linear.specs.Known.{as_given}
 use Rattle.tv_linear.specs.Refutation.{Refutes}
 use Rattle.tv_linear.specs.declared.row.Row.{Row}
 use Rattle.tv_linear.proofs.KnownLemmas.{refuted, met-as_given}
 use Rattle.tv_cases.specs.Given.{row_lists}
 use Rattle.tv_region.specs.Met.{meets, all_met}
-use Rattle.tv_region.specs.Inclusion.{IsShown, LiesInside, LiesInSome}
-use Rattle.tv_region.proofs.MetLemmas.{and_join, all_met-push, all_met-all, take_next}
-use Rattle.tv_region.proofs.AddLemmas.{meets_denial, some_met-has, list_has}
+use Rattle.tv_region.specs.Inclusion.{LiesInside, LiesInSome}
+use Rattle.tv_region.proofs.MetLemmas.{all_met-push, all_met-all}
+use Rattle.tv_region.proofs.AddLemmas.{some_met-has, list_has}
+use Rattle.std.proofs.lemmas.Bool.{and_from}
 
 pub no_point : (n : ℕ) (rows : List Linear) (more : Linear) (ms : List ℤ) → Refutes n (as_given (rows ++ more ∷ [])) ms → (xs : List ℤ) → length xs ≡ n → all_met xs rows ≡ true → meets xs more ≡ true → ⊥
 no_point n rows more ms h xs e a b =
-    let all = all_met-push xs rows more ∙ and_join (all_met xs rows) (meets xs more) a b in
+    let all = all_met-push xs rows more ∙ and_from (all_met xs rows) (meets xs more) a b in
     refuted n (as_given (rows ++ more ∷ [])) ms xs h e ((met-as_given xs (rows ++ more ∷ [])).0 (all_met-all xs (rows ++ more ∷ []) all))
 
 is_or_not : (b : Bool) → (not b ≡ true → ⊥) → b ≡ true
 is_or_not true h = λ i. true
 is_or_not false h = absurd (h (λ i. true))
-
-pub shown_by_denial : (n : ℕ) (rows : List Linear) (r denied : Linear) → denied ≡ denial r → ((xs : List ℤ) → length xs ≡ n → all_met xs rows ≡ true → meets xs denied ≡ true → ⊥) → IsShown n rows r
-shown_by_denial n rows r denied e h xs l a =
-    is_or_not (meets xs r) (λ k. h xs l a (ap (meets xs) e ∙ meets_denial xs r ∙ k))
-
-pub inside_more : (n : ℕ) (rows outer : List Linear) (i : ℕ) (x : Linear) → i < length outer → x ≡ get_or outer i x → IsShown n rows x → LiesInside n rows (take i outer) → LiesInside n rows (take (i + 1) outer)
-inside_more n rows outer i x l e h k xs w m =
-    subst (λ ys. all_met xs ys ≡ true) (sym (take_next outer i x l e)) (all_met-push xs (take i outer) x ∙ and_join (all_met xs (take i outer)) (meets xs x) (k xs w m) (h xs w m))
 
 pub inside_some : (n : ℕ) (rows : List Linear) (vs : List (Vec Row Global)) (i : ℕ) (v : Vec Row Global) → i < length vs → v ≡ get_or vs i v → LiesInside n rows v.items → LiesInSome n rows (row_lists vs)
 inside_some n rows vs i v l e h xs w m = some_met-has xs (row_lists vs) v.items (list_has vs i v l e) (h xs w m)

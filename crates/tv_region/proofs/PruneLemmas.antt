@@ -1,5 +1,5 @@
 -- Lists without those that lie inside of others.
-use Rattle.std.proofs.Common.{◌≡◌, ◌∙◌, inl, inr, ℕ, ◌+◌, ◌≤◌, List, [], ◌∷◌, ◌++◌, length, refl, sym, ap, subst, arith, ℤ, Bool, true, false, length-append}
+use Rattle.std.proofs.Common.{◌≡◌, ◌∙◌, inl, inr, ℕ, ◌+◌, ◌≤◌, List, [], ◌∷◌, ◌++◌, length, refl, sym, ap, subst, arith, ℤ, Bool, true, false}
 use Rattle.std.specs.Prelude.{◌||◌}
 use Rattle.tv_linear.specs.Linear.{Linear}
 use Rattle.tv_linear.specs.declared.region.Piece.{Piece}
@@ -10,6 +10,7 @@ use Rattle.tv_region.specs.Inclusion.{LiesInSome, IsPruned}
 use Rattle.tv_region.specs.Steps.{IsBeforeAny}
 use Rattle.tv_region.proofs.MetLemmas.{has_push, has_left, has_right, apart_push, apart_front, some_met-push}
 use Rattle.tv_region.proofs.AddLemmas.{in_some-has, none_reduced}
+use Rattle.std.proofs.lemmas.List.{length_push}
 
 -- ---- one by one
 -- what is left and what is kept of all
@@ -22,21 +23,6 @@ pub record IsPruning (n : ℕ) (all left kept : List (List Linear)) : Type 0 whe
   pub apart : AreApart IsUnder all → (first second : List Linear) → Has left first → Has kept second → (IsUnder first second → ⊥) × (IsUnder second first → ⊥)
   pub few : length left + length kept ≤ length all
 
-or_none : (a : Bool) → (a || false) ≡ a
-or_none true = refl
-or_none false = refl
-
-pub pruning_none : (n : ℕ) (all : List (List Linear)) → IsPruning n all all []
-pruning_none n all = record {
-  met = λ xs e. or_none (some_met xs all);
-  among_left = λ list h. h;
-  among_kept = λ list h. absurd h;
-  apart_left = λ o. o;
-  apart_kept = λ o. tt;
-  apart = λ o first second h k. absurd k;
-  few = omega arith;
-}
-
 or_dropped : (a l k : Bool) → (l ≡ true → k ≡ true) → (a || k) ≡ ((a || l) || k)
 or_dropped true l k h = refl
 or_dropped false true k h = h refl
@@ -48,9 +34,6 @@ or_moved false true true = refl
 or_moved false true false = refl
 or_moved false false true = refl
 or_moved false false false = refl
-
-one_longer : {A : Type 0} (xs : List A) (x : A) → length (xs ++ x ∷ []) ≡ length xs + 1
-one_longer xs x = omega (arith, length-append xs (x ∷ []))
 
 module _ (n : ℕ) (all left rest kept : List (List Linear)) (list : List Linear) (e : left ≡ rest ++ list ∷ []) (h : IsPruning n all left kept) where
   in_left : (l : List Linear) → Has rest l → Has left l
@@ -70,7 +53,7 @@ module _ (n : ℕ) (all left rest kept : List (List Linear)) (list : List Linear
     apart_left = λ o. (apart_rest o).0;
     apart_kept = h.apart_kept;
     apart = λ o l k m i. h.apart o l k (in_left l m) i;
-    few = (let d = one_longer rest list in let g = ap (λ (ls : List (List Linear)). length ls) e in let f = h.few in omega (arith, d, g, f));
+    few = (let d = length_push rest list in let g = ap (λ (ls : List (List Linear)). length ls) e in let f = h.few in omega (arith, d, g, f));
   }
 
   pub pruning_kept : (new : List (List Linear)) → new ≡ kept ++ list ∷ [] → IsPruning n all rest new
@@ -81,16 +64,8 @@ module _ (n : ℕ) (all left rest kept : List (List Linear)) (list : List Linear
     apart_left = λ o. (apart_rest o).0;
     apart_kept = λ o. apart_push IsUnder kept list (h.apart_kept o) (λ l m. (let w = h.apart o list l last_left m in (w.1, w.0)));
     apart = λ o l k m i. elim (has_push kept list k i) [ inl j ↦ h.apart o l k (in_left l m) j | inr j ↦ subst (λ x. (IsUnder l x → ⊥) × (IsUnder x l → ⊥)) j ((apart_rest o).1 l m) ];
-    few = (let d = one_longer rest list in let q = one_longer kept list in let g = ap (λ (ls : List (List Linear)). length ls) e in let f = h.few in omega (arith, d, q, g, f));
+    few = (let d = length_push rest list in let q = length_push kept list in let g = ap (λ (ls : List (List Linear)). length ls) e in let f = h.few in omega (arith, d, q, g, f));
   }
-
-pub pruning_ends : (n : ℕ) (all left kept : List (List Linear)) → left ≡ [] → IsPruning n all left kept → IsPruned n all kept
-pruning_ends n all left kept e h = record {
-  met = λ xs w. sym (ap (λ ls. some_met xs ls || some_met xs kept) e) ∙ h.met xs w;
-  among = h.among_kept;
-  apart = h.apart_kept;
-  few = (let f = h.few in omega (arith, f));
-}
 
 -- ---- what stays so
 list_of : (ls : List (List Linear)) (r : Linear) → InSome ls r → (list : List Linear) × Has ls list × Has list r

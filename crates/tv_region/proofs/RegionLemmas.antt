@@ -6,10 +6,10 @@ use Rattle.std.proofs.lemmas.List.Elements.{All-nil, All-push}
 use borrow.Author.Count.{below_more}
 use Rattle.tv_linear.specs.Linear.{Linear, columns}
 use Rattle.tv_linear.specs.declared.region.Piece.{Piece}
-use Rattle.tv_linear.proofs.ListLaws.{test_true, test_false}
+use Rattle.tv_linear.proofs.ListLaws.{test_true, test_false, take_next}
 use Rattle.tv_region.specs.Adding.{row_product}
 use Rattle.tv_region.specs.Regions.{IsPieceOf, lists_at, capped, IsPlaced, IsAt, IsAssembledTo}
-use Rattle.tv_region.proofs.MetLemmas.{all_has, take_next}
+use Rattle.tv_region.proofs.MetLemmas.{all_has}
 use Rattle.tv_region.proofs.AddLemmas.{some_front, some_last, row_product-push}
 
 -- ---- numbers

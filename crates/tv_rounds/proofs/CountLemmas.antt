@@ -17,15 +17,8 @@ use Rattle.tv_region.specs.StepRegions.{HasNoDraws, IsBefore, IsBeforeAll}
 use Rattle.tv_known.specs.Sizes.{product, some_count, all_count, stop_count, next_count}
 use Rattle.tv_rounds.specs.Calls.{IsNowhere}
 use Rattle.tv_rounds.specs.Walks.{IsBack, IsGoing, IsStopping}
-
-pub trans : (a b c : ℕ) → a ≤ b → b ≤ c → a ≤ c
-trans a b c h k = omega arith
-
-pub times : (a b c d : ℕ) → a ≤ c → b ≤ d → a * b ≤ c * d
-times a b c d h k = grind arith
-
-two_ones : (a b : ℕ) → 1 ≤ a → 1 ≤ b → 1 ≤ a * b
-two_ones a b l m = grind arith
+use Rattle.tv_known.proofs.SizeLemmas.{trans, two_ones}
+use Rattle.std.proofs.lemmas.Nat.{mul-le}
 
 -- ---- over the cases from a location
 product_one : (g : LinearCase → ℕ) → ((c : LinearCase) → 1 ≤ g c) → (cs : List LinearCase) → 1 ≤ product (map g cs)
@@ -43,7 +36,7 @@ summed true n m g c rest h k = subst (λ x. n + m ≤ x) (sym (sum-cons (g c) (m
 summed false n m g c rest h k = omega (arith, k)
 
 multiplied : (b d : Bool) (n m : ℕ) (g : LinearCase → ℕ) (c : LinearCase) (rest : List LinearCase) → d ≡ true → n ≤ g c → m ≤ product (map g rest) → cond b (cond d n 1) 1 * m ≤ product (map g (cond b (c ∷ rest) rest))
-multiplied true true n m g c rest e h k = times n m (g c) (product (map g rest)) h k
+multiplied true true n m g c rest e h k = mul-le n m (g c) (product (map g rest)) h k
 multiplied true false n m g c rest e h k = cc
 multiplied false d n m g c rest e h k = omega (arith, k)
 

@@ -21,7 +21,8 @@ use Rattle.tv_known.specs.Sizes.{some_count, all_count, stop_count, next_count}
 use Rattle.tv_rounds.specs.Calls.{IsNowhere}
 use Rattle.tv_rounds.specs.Counts.{IsFaultWithin}
 use Rattle.tv_rounds.specs.Walks.{IsBackFault, IsGoingFault, IsStoppingFault}
-use Rattle.tv_rounds.proofs.CountLemmas.{trans, some_sum, every_product, none_at, one_at}
+use Rattle.tv_rounds.proofs.CountLemmas.{some_sum, every_product, none_at, one_at}
+use Rattle.tv_known.proofs.SizeLemmas.{trans}
 
 -- ---- cases with draws
 none_drawn : (cs : List LinearCase) → ((c : LinearCase) → Has cs c → c.draws ≡ 0) → (d : LinearCase) → Has (drawn_cases cs) d → ⊥

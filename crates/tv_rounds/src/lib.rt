@@ -17,5 +17,5 @@ pub use answer::Rounds;
 pub use fault::RoundFault;
 pub use fixed_point::FixedPoint;
 pub use laws::regions_are_derived;
-pub use shapes::rounds;
+pub use shapes::{must_end, rounds};
 pub use tame::has_no_draws;

@@ -101,18 +101,3 @@ module _ (n location : ℕ) where
       by_test : (l : ℕ) (b : Bool) → (l == location) ≡ b → ((l == location) ≡ false → P (whole_piece n l)) → All P (if b then [] else whole_piece n l ∷ [])
       by_test l true e k = All-nil P
       by_test l false e k = All-cons P (whole_piece n l) [] (k e) (All-nil P)
-
--- ---- one more location
-pub below_kept : (n location l : ℕ) (b : Bool) (old new : List Marked) → b ≡ (l == location) → b ≡ false → old ≡ pieces_below (elsewhere n location) l → new ≡ old ++ whole_piece n l ∷ [] → new ≡ pieces_below (elsewhere n location) (suc l)
-below_kept n location l b old new t f e g =
-    g ∙ ap (λ ps. ps ++ whole_piece n l ∷ []) e
-    ∙ ap (λ (z : Bool). pieces_below (elsewhere n location) l ++ (if z then [] else whole_piece n l ∷ [])) (sym f ∙ t)
-
-pub below_skipped : (n location l : ℕ) (b : Bool) (old : List Marked) → b ≡ (l == location) → b ≡ true → old ≡ pieces_below (elsewhere n location) l → old ≡ pieces_below (elsewhere n location) (suc l)
-below_skipped n location l b old t f e =
-    e ∙ sym (append-nothing (pieces_below (elsewhere n location) l))
-    ∙ ap (λ (z : Bool). pieces_below (elsewhere n location) l ++ (if z then [] else whole_piece n l ∷ [])) (sym f ∙ t)
-  where
-    append-nothing : (ps : List Marked) → ps ++ [] ≡ ps
-    append-nothing [] = refl
-    append-nothing (p ∷ ps) = ap (λ qs. p ∷ qs) (append-nothing ps)

@@ -1,5 +1,5 @@
 -- Certificates and refusals, as they are handed on.
-use Rattle.std.proofs.Common.{◌≡◌, inl, inr, List, refl, sym, ◌∙◌, subst}
+use Rattle.std.proofs.Common.{◌≡◌, inl, inr, List, refl}
 use Rattle.std.specs.Prelude.{Result, Ok, Err}
 use Rattle.std.specs.Result.{IfErr}
 use Rattle.tv_formula.specs.Formulas.{property_of}
@@ -7,13 +7,8 @@ use Rattle.tv_cases.specs.LinearCases.{CaseSystem}
 use Rattle.tv_cert.specs.declared.claim.Claim.{Claim}
 use Rattle.tv_cert.specs.declared.node.Verdict.{Verdict}
 use Rattle.tv_cert.specs.declared.node.Verdict.TheVariants.{Proved, Disproved}
-use Rattle.tv_cert.specs.Claims.{about_with, shown}
-use Rattle.tv_cert.specs.Nodes.{obligations}
-use Rattle.tv_cert.specs.Obligations.{AllMet}
-use Rattle.tv_shape.specs.Certificates.{IsOf, IsSettling}
-use Rattle.tv_shape.specs.declared.certificate.Certificate.{Certificate}
-use Rattle.tv_lexrank.specs.Certified.{SaysProved, IsProofOf}
-use Rattle.tv_formula.specs.Properties.{Property}
+use Rattle.tv_cert.specs.Claims.{shown}
+use Rattle.tv_lexrank.specs.Certified.{SaysProved}
 use Rattle.tv_farkas.specs.declared.budget.Budget.{Budget}
 use Rattle.tv_farkas.specs.declared.fault.CoverFault.{CoverFault}
 use Rattle.tv_farkas.specs.declared.fault.CoverFault.TheVariants as covers
@@ -33,15 +28,6 @@ use Rattle.tv_settling.specs.Ends.{IsUncovered, RefusesUnder, handed_on, IsClose
 pub shown_proved : (claim : Claim) (verdict : Verdict) → SaysProved verdict → shown claim verdict ≡ property_of claim.proved
 shown_proved claim (Proved start) says = refl
 shown_proved claim (Disproved k values) says = absurd says
-
--- a proof of what is claimed settles it
-pub settled_by : (about : CaseSystem) (claim : Claim) (f : Property) (c : Certificate) → property_of claim.proved ≡ f → IsProofOf about f c → IsSettling about claim c
-settled_by about claim f c e h =
-    let same : f ≡ shown claim c.verdict = sym (shown_proved claim c.verdict h.proved ∙ e) in
-    record {
-      of = subst (λ g. IsOf (about_with about) g c) same h.of;
-      met = subst (λ g. AllMet (obligations (about_with about) g c.root c.verdict)) same h.met;
-    }
 
 -- ---- refusals
 pub under_handed : (about : CaseSystem) (list : List Candidate) (budget : Budget) (known : Region) → ArePiecesOf about list known → (f : CoverFault) → IsUncovered about budget f known → RefusesUnder about list budget (handed_on f)

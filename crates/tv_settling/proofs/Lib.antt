@@ -1,4 +1,3 @@
-pub mod NarrowLemmas
 pub mod BelowLemmas
 pub mod ShownLemmas
 pub mod StepLemmas

@@ -1,14 +1,15 @@
 -- The proofs of a location, one after the other, and of all locations.
 use Rattle.std.proofs.Common.{◌≡◌, ℕ, suc, ◌+◌, List, [], ◌∷◌, ◌++◌, length, map, take, arith, sym, ap, ◌∙◌, subst, append_assoc}
 use Rattle.std.specs.List.{AllZip}
-use Rattle.tv_linear.proofs.ListLaws.{zip_push}
+use Rattle.tv_linear.proofs.ListLaws.{zip_push, take_more}
 use Rattle.tv_cases.specs.LinearCases.{LinearCase, leaving}
 use Rattle.tv_cert.specs.declared.node.Proof.{Proof}
 use Rattle.tv_rank.specs.Ways.{case_at}
 use Rattle.tv_shape.specs.Made.{IsOffered}
-use Rattle.tv_lexrank.proofs.StandLemmas.{IsLeaving, take_more, take_all}
+use Rattle.tv_lexrank.proofs.StandLemmas.{IsLeaving}
 use Rattle.tv_settling.specs.Nodes.{system_of, owed_step, IsHoldProof, IsStepAt, IsStepProof, AreStepsShown, AreShownAt, AreShownBelow}
 use Rattle.tv_settling.specs.declared.barrier.Barrier.{Barrier}
+use Rattle.std.proofs.Math.Seq.{take-length}
 
 module _ (b : Barrier) (l : ℕ) where
   abbrev left : List LinearCase
@@ -31,7 +32,7 @@ module _ (b : Barrier) (l : ℕ) where
 
   -- all of them
   pub all_steps : (k : ℕ) (old new : List Proof) → k ≡ length left → AreStepsShown b l (take k left) old new → AreStepsShown b l left old new
-  all_steps k old new e h = subst (λ z. AreStepsShown b l z old new) (ap (λ n. take n left) e ∙ take_all left) h
+  all_steps k old new e h = subst (λ z. AreStepsShown b l z old new) (ap (λ n. take n left) e ∙ take-length left) h
 
   steps_offered : (number : ℕ) (cases : List LinearCase) (proofs : List Proof) → AllZip (IsStepAt b l) cases proofs → AllZip IsOffered (map (owed_step b number l) cases) proofs
   steps_offered number [] [] h = tt

@@ -1,5 +1,5 @@
 -- A node whose own parts are right, and whose children fit, fits its formula and is met.
-use Rattle.std.proofs.Common.{◌≡◌, ℕ, ◌+◌, ◌^◌, ◌<◌, ◌≤◌, List, [], ◌∷◌, ◌++◌, length, map, All, false, arith, sym, ap, ◌∙◌, subst}
+use Rattle.std.proofs.Common.{◌≡◌, ℕ, ◌+◌, ◌^◌, ◌<◌, ◌≤◌, List, [], ◌∷◌, length, map, All, false, arith, sym, ap, ◌∙◌, subst}
 use Rattle.std.specs.List.{AllZip}
 use Rattle.std.proofs.lemmas.List.Elements.{All-nil, All-cons}
 use Rattle.tv_formula.specs.Properties.{Property, Properties, none, more}
@@ -9,7 +9,7 @@ use Rattle.tv_cert.specs.declared.node.Proof.TheVariants.{Covered, Chosen}
 use Rattle.tv_cert.specs.declared.node.Node.{Node, Node', Row_of-Node, end_of-Node, more_of-Node, items-the_row-Node, outs-Node'}
 use Rattle.tv_cert.specs.Listed.{pieces_list}
 use Rattle.tv_cert.specs.Nodes.{parts, kid_pieces, size, entries, kid_entries, own_of}
-use Rattle.tv_cert.specs.Obligations.{About, Obligation, Owed, a_cover, a_choice, a_point, Entry, AllMet, paired}
+use Rattle.tv_cert.specs.Obligations.{About, Obligation, Owed, a_cover, a_choice, a_point, AllMet, paired}
 use Rattle.tv_cert.specs.Shapes.{ProofShape, PieceShape, OwnShape, KidsShape, HaveShapes, IsSaid, may_rank, may_be_done}
 use Rattle.tv_cert.specs.Statements.{stated}
 use Rattle.tv_cert.proofs.StatedLemmas.{parts-stated, entries_are}
@@ -18,6 +18,7 @@ use Rattle.tv_shape.specs.Depths.{proof_splits}
 use Rattle.tv_shape.specs.Fitting.{KidsNarrow, KidsGoWithin}
 use Rattle.tv_shape.specs.Narrow.{PieceNarrow, ProofNarrow}
 use Rattle.tv_shape.specs.Made.{HasOwn, IsFitted, Offers}
+use Rattle.tv_cert.proofs.FailingLemmas.{all_join}
 
 -- ---- proofs that are offered
 
@@ -27,10 +28,6 @@ shape_shallow (a_cover n known owed) (Chosen tree) h = absurd h
 shape_shallow (a_choice n cases l stop owed known) (Covered tree) h = absurd h
 shape_shallow (a_choice n cases l stop owed known) (Chosen tree) h = h.1
 shape_shallow (a_point xs rows) p h = absurd h
-
-pub both_met : (es fs : List Entry) → AllMet es → AllMet fs → AllMet (es ++ fs)
-both_met [] fs h g = g
-both_met (e ∷ es) fs h g = (h.0, both_met es fs h.1 g)
 
 pub all_met : (os : List Obligation) (proofs : List Proof) → Offers os proofs → AllMet (paired os proofs)
 all_met [] proofs h = tt
@@ -88,7 +85,7 @@ kids_met about none depth number end_of-Node h = tt
 kids_met about none depth number (more_of-Node a kids) h = absurd h
 kids_met about (more f fs) depth number end_of-Node h = absurd h
 kids_met about (more f fs) depth number (more_of-Node a kids) h =
-    both_met (entries number about f a) (kid_entries (number + size a) about fs kids) (h.0.met number) (kids_met about fs depth (number + size a) kids h.1)
+    all_join (entries number about f a) (kid_entries (number + size a) about fs kids) (h.0.met number) (kids_met about fs depth (number + size a) kids h.1)
 
 -- ---- the node
 pub record IsRight (about : About) (f : Property) (depth : ℕ) (pieces : List Marked) (ranks : ℕ) (kids : List Node) (proofs : List Proof) : Type 0 where
@@ -115,7 +112,7 @@ node_fitted about f depth (Node' ps m shape row list) pieces ranks kids proofs o
   );
   within = ((let d = right.shallow in omega (arith, d)), subst (All (λ p. depth + proof_splits p ≤ 384)) (sym proofs_same) (all_shallow depth (own_of 0 about f pieces (map pieces_list kids)) proofs right.shallow (right.offered 0)), kids_within about (parts f) (depth + 1) row below);
   met = λ number. subst AllMet (sym (entries_are number about f ps m shape row list))
-      (both_met (kid_entries (number + 1) about (parts f) row) (paired (own_of number about f ps (kid_pieces row)) list.items) (kids_met about (parts f) (depth + 1) (number + 1) row below)
+      (all_join (kid_entries (number + 1) about (parts f) row) (paired (own_of number about f ps (kid_pieces row)) list.items) (kids_met about (parts f) (depth + 1) (number + 1) row below)
       (subst AllMet (sym (own_are number)) (all_met (own_of number about f pieces (map pieces_list kids)) proofs (right.offered number))));
 }
   where

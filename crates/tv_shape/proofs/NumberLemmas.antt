@@ -1,7 +1,7 @@
 -- What a node owes does not depend on its number.
-use Rattle.std.proofs.Common.{arith, ◌+◌, ◌^◌, ◌<◌, ◌≤◌, ◌≡◌, ℕ, Bool, true, false, List, [], ◌∷◌, ◌++◌, length, map, refl, sym, ap, ◌∙◌}
+use Rattle.std.proofs.Common.{arith, ◌+◌, ◌^◌, ◌<◌, ◌≤◌, ◌≡◌, ℕ, Bool, true, false, List, [], ◌∷◌, ◌++◌, length, map, refl, sym, ap, ◌∙◌, All}
 use Rattle.std.specs.List.{flat_map}
-use Rattle.std.proofs.lemmas.List.{length-map}
+use Rattle.std.proofs.lemmas.List.{length-map, map-append}
 use Rattle.std.proofs.lemmas.Nat.{mul-le}
 use Rattle.tv_cert.proofs.RoomLemmas.{own_few}
 use Rattle.tv_formula.specs.declared.tree.Path.{Path}
@@ -18,6 +18,9 @@ use Rattle.tv_cert.specs.Targets.{owed_nothing, no_fall}
 use Rattle.tv_cert.specs.Plain.{about_of}
 use Rattle.tv_cert.specs.Statements.{Statement, rows, here, elsewhere, ends, never_ends, each_of, one_of, after, along, unsaid}
 use Rattle.tv_cert.specs.Nodes.{piece_owes, node_owes}
+use Rattle.tv_shape.specs.Narrow.{CountNarrow, RowNarrow}
+use Rattle.tv_linear.specs.Linear.{Linear, IsNarrow}
+use Rattle.std.proofs.lemmas.List.Elements.{All-nil, All-cons, All-head, All-tail}
 
 abbrev pub renumbered : ℕ → Obligation → Obligation
 renumbered n o = record { node = n; kind = o.kind; owed = o.owed }
@@ -25,10 +28,6 @@ renumbered n o = record { node = n; kind = o.kind; owed = o.owed }
 map_twice : {A B C : Type 0} (g : B → C) (f : A → B) (xs : List A) → map (λ x. g (f x)) xs ≡ map g (map f xs)
 map_twice g f [] = refl
 map_twice g f (x ∷ xs) = ap (λ ys. g (f x) ∷ ys) (map_twice g f xs)
-
-map_joined : {A B : Type 0} (g : A → B) (xs ys : List A) → map g (xs ++ ys) ≡ map g xs ++ map g ys
-map_joined g [] ys = refl
-map_joined g (x ∷ xs) ys = ap (λ zs. g x ∷ zs) (map_joined g xs ys)
 
 steps_renumbered : (n : ℕ) (about : About) (p : Marked) (into : List Marked) (fall : LinearCase → _) → steps_of n about p into fall ≡ map (renumbered n) (steps_of 0 about p into fall)
 steps_renumbered n about p into fall = map_twice (renumbered n) (step_of 0 about p into fall) (leaving (place_of p) about.system.cases)
@@ -65,7 +64,7 @@ at_renumbered n system unsaid ps kids p = refl
 
 each_renumbered : (n : ℕ) (f g : Marked → List Obligation) → ((p : Marked) → f p ≡ map (renumbered n) (g p)) → (ps : List Marked) → flat_map f ps ≡ map (renumbered n) (flat_map g ps)
 each_renumbered n f g same [] = refl
-each_renumbered n f g same (p ∷ ps) = (λ i. same p i ++ each_renumbered n f g same ps i) ∙ sym (map_joined (renumbered n) (g p) (flat_map g ps))
+each_renumbered n f g same (p ∷ ps) = (λ i. same p i ++ each_renumbered n f g same ps i) ∙ sym (map-append (renumbered n) (g p) (flat_map g ps))
 
 pub own_renumbered : (n : ℕ) (system : CaseSystem) (s : Statement) (ps : List Marked) (kids : List (List Marked)) → node_owes n system s ps kids ≡ map (renumbered n) (node_owes 0 system s ps kids)
 own_renumbered n system s ps kids = each_renumbered n (piece_owes n system s ps kids) (piece_owes 0 system s ps kids) (at_renumbered n system s ps kids) ps
@@ -80,3 +79,15 @@ own_within n system s ps kids a b c =
     let few = own_few n system ps kids s in
     let most = mul-le (length ps) (length kids + length system.cases + 2) (2 ^ 63) (2 ^ 65) (omega (arith, a)) (omega (arith, b, c)) in
     omega (arith, few, most)
+
+pub narrow_count : (n : ℕ) → n < 2 ^ 32 → CountNarrow n
+narrow_count n h = omega (arith, h)
+
+pub row_narrow : (r : Linear) → IsNarrow r → RowNarrow r
+row_narrow r h = record { coefficients = h.coefficients; constant = h.constant }
+
+pub rows_narrow : (rs : List Linear) → All IsNarrow rs → All RowNarrow rs
+rows_narrow [] h = All-nil RowNarrow
+rows_narrow (r ∷ rs) h =
+    let a = All-head IsNarrow r rs h in
+    All-cons RowNarrow r rs record { coefficients = a.coefficients; constant = a.constant } (rows_narrow rs (All-tail IsNarrow r rs h))

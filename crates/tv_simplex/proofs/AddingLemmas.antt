@@ -1,8 +1,9 @@
-use Rattle.std.proofs.Common.{◌≡◌, ◌⊎◌, inl, inr, ℕ, suc, ◌+◌, ◌*◌, ◌^◌, ◌<◌, ◌≤◌, List, length, get_or, set, arith, sym, ap, ◌∙◌, subst, ℤ, pos, ◌+ℤ◌, unsigned_abs}
+use Rattle.std.proofs.Common.{◌≡◌, inl, inr, ℕ, suc, ◌+◌, ◌*◌, ◌^◌, ◌<◌, ◌≤◌, List, length, get_or, set, arith, sym, ap, ◌∙◌, subst, ℤ, pos, ◌+ℤ◌, unsigned_abs}
 use Rattle.std.proofs.lemmas.List.{length-set, get_or-set_same, get_or-set_other}
 use Rattle.tv_simplex.specs.Sums.{total}
 use Rattle.tv_simplex.specs.Systems.{Equations, matrix}
 use Rattle.tv_simplex.specs.Starting.{IsSum, first_slot}
+use Rattle.tv_linear.proofs.ListLaws.{last_or_below}
 
 -- the sums to which the numbers of row n were added at the first k slots
 pub record SumsTo (s : Equations) (n k : ℕ) (sums : List ℤ) : Type 0 where
@@ -12,9 +13,6 @@ pub record SumsTo (s : Equations) (n k : ℕ) (sums : List ℤ) : Type 0 where
 
 total_more : (n : ℕ) (f : ℕ → ℤ) → total n f +ℤ f n ≡ total (n + 1) f
 total_more n f = let e : suc n ≡ n + 1 = omega arith in ap (λ k. total k f) e
-
-last_or_below : (n j : ℕ) → j < n + 1 → (j ≡ n) ⊎ (j < n)
-last_or_below n j h = grind arith
 
 pub one_added : (s : Equations) (n k : ℕ) (sums : List ℤ) (z : ℤ) → k < length sums → SumsTo s n k sums → z ≡ get_or sums k (pos 0) +ℤ matrix s n (first_slot s k) → unsigned_abs z ≤ 2 ^ 40 * (n + 1) → SumsTo s n (k + 1) (set sums k z)
 one_added s n k sums z k_in h e bound = record {

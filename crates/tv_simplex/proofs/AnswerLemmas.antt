@@ -1,4 +1,4 @@
-use Rattle.std.proofs.Common.{FitsSigned, ◌≡◌, ◌⊎◌, inl, inr, ℕ, suc, ◌+◌, ◌<◌, ◌≤◌, ◌^◌, List, [], ◌∷◌, ◌++◌, length, length-append, get_or, set, arith, sym, ap, ◌∙◌, subst, ℤ, pos, ◌+ℤ◌, ◌*ℤ◌, unsigned_abs}
+use Rattle.std.proofs.Common.{FitsSigned, ◌≡◌, inl, inr, ℕ, suc, ◌+◌, ◌<◌, ◌≤◌, ◌^◌, List, [], ◌∷◌, ◌++◌, length, length-append, get_or, set, arith, sym, ap, ◌∙◌, subst, ℤ, pos, ◌+ℤ◌, ◌*ℤ◌, unsigned_abs}
 use Rattle.std.specs.Int.{w128}
 use Rattle.std.proofs.lemmas.Int.{ints, fits_signed_from_abs}
 use Rattle.std.proofs.lemmas.List.{length-set, get_or-set_same, get_or-set_other}
@@ -14,12 +14,8 @@ use Rattle.tv_simplex.proofs.ScaleLemmas.{get_or-append-last, get_or-append-befo
 use Rattle.tv_simplex.specs.Rows.{ratio}
 use Rattle.tv_simplex.specs.Scales.{AreBounded, ratio_at}
 use Rattle.tv_simplex.specs.Walking.{AreOfColumn, IsLessOne, AreOfObjective, AreDistinct, AreValues, AreSigned}
-
-last_or_below : (n j : ℕ) → j < n + 1 → (j ≡ n) ⊎ (j < n)
-last_or_below n j h = grind arith
-
-same_or_other : (i j : ℕ) → (i ≡ j) ⊎ (i ≡ j → ⊥)
-same_or_other i j = grind arith
+use Rattle.tv_linear.proofs.ListLaws.{last_or_below}
+use Rattle.std.proofs.lemmas.Bool.{cases_eq}
 
 -- ---- lists of fractions
 pub bounded_more : (fractions : List Fraction) (f : Fraction) (n : ℕ) → length fractions ≡ n → AreBounded fractions → unsigned_abs f.numerator < 2 ^ 41 → AreBounded (fractions ++ f ∷ [])
@@ -52,11 +48,11 @@ objective_more n c objective fractions new f h e g bound = subst (λ r. AreOfObj
 pub values_more : (n columns : ℕ) (basis : List ℕ) (numbers values : List ℤ) (count : ℕ) → n < count → AreDistinct count basis → column basis n < columns → IsShort (get_or numbers n (pos 0)) → AreValues n columns basis numbers values → AreValues (n + 1) columns basis numbers (set values (column basis n) (get_or numbers n (pos 0)))
 values_more n columns basis numbers values count n_in distinct inside short h = record {
   size = length-set values (column basis n) (get_or numbers n (pos 0)) ∙ h.size;
-  short = λ j l. elim (same_or_other j (column basis n)) [
+  short = λ j l. elim (cases_eq j (column basis n)) [
     | inl e ↦ subst (λ z. IsShort z) (sym (at e)) short
     | inr o ↦ subst (λ z. IsShort z) (sym (other j o)) (h.short j l)
   ];
-  sums = λ j l. elim (same_or_other j (column basis n)) [
+  sums = λ j l. elim (cases_eq j (column basis n)) [
     | inl e ↦
         let none = total-zero n (λ i. delta (column basis i) j *ℤ get_or numbers i (pos 0)) (λ i g. zero_times (delta (column basis i) j) (get_or numbers i (pos 0)) (delta-other (column basis i) j (λ k. distinct n i n_in g (sym e ∙ sym k)))) in
         let one : delta (column basis n) j ≡ pos 1 = ap (λ z. delta (column basis n) z) e ∙ delta-same (column basis n) in

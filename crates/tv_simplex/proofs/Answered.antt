@@ -3,23 +3,20 @@ use Rattle.std.proofs.lemmas.Int.{ints}
 use Rattle.std.proofs.Math.IntN.{*ℤ_comm}
 use Rattle.tv_simplex.proofs.Ring.{by_sign, times_zero, zero_times, not_under_times, mul_swap, less_times}
 use Rattle.tv_simplex.proofs.Sums.{total-same, total-zero, total-times, total-swap, total-delta, delta-same, delta-other, delta-swap}
-use Rattle.tv_simplex.proofs.Exchanged.{same_or_other}
 use Rattle.tv_simplex.proofs.Objective.{times_taken, taken}
 use Rattle.tv_simplex.proofs.GoesOn.{cost-none, cost-not_under, total-not_under, delta-not_under}
 use Rattle.tv_simplex.specs.Sums.{total, delta}
 use Rattle.tv_simplex.specs.Tableaus.{Tableau}
 use Rattle.tv_simplex.specs.Chains.{cost, Solves, NoneNegative}
 use Rattle.tv_simplex.specs.Answers.{IsSolution, IsBarrier, values_of, barrier_of}
-
-below_or_not : (p q : ℕ) → (p < q) ⊎ (q ≤ p)
-below_or_not p q = grind arith
+use Rattle.std.proofs.lemmas.Bool.{cases_lt, cases_eq}
 
 -- 1 at an artificial column
 pub cost-one : (m n i : ℕ) → i < m → cost m n (n + i) ≡ pos 1
 cost-one m n i l = total-same m (λ k. delta (n + k) (n + i)) (λ k. delta k i *ℤ pos 1) (λ k g. at k) ∙ total-delta m i (λ k. pos 1) l
   where
     at : (k : ℕ) → delta (n + k) (n + i) ≡ delta k i *ℤ pos 1
-    at k = elim (same_or_other k i) [
+    at k = elim (cases_eq k i) [
       | inl e ↦ (let p = ap (λ z. delta (n + z) (n + i)) e ∙ delta-same (n + i) in let q = ap (λ z. delta z i) e ∙ delta-same i in omega (arith, ints, p, q))
       | inr o ↦ (let p = delta-other (n + k) (n + i) (λ e. o (let f : k ≡ i = omega arith in f)) in let q = delta-other k i o in omega (arith, ints, p, q))
     ]
@@ -46,7 +43,7 @@ module _ (a : ℕ → ℕ → ℤ) (m n : ℕ) (b : ℕ → ℕ) (x : Tableau a 
           ∙ total-same m (λ i. a k j *ℤ (delta (b i) j *ℤ x.entry i (n + m))) (λ i. delta j (b i) *ℤ (a k j *ℤ x.entry i (n + m))) (λ i l. mul_swap (a k j) (delta (b i) j) (x.entry i (n + m)) ∙ ap (λ z. z *ℤ (a k j *ℤ x.entry i (n + m))) (delta-swap (b i) j))
 
       at_row : Solves a m n b x → (k i : ℕ) → i < m → total n (λ j. delta j (b i) *ℤ (a k j *ℤ x.entry i (n + m))) ≡ x.entry i (n + m) *ℤ a k (b i)
-      at_row h k i l = elim (below_or_not (b i) n) [
+      at_row h k i l = elim (cases_lt (b i) n) [
         | inl g ↦ total-delta n (b i) (λ j. a k j *ℤ x.entry i (n + m)) g ∙ *ℤ_comm (a k (b i)) (x.entry i (n + m))
         | inr g ↦ (
             let z = h.artificial i l g in

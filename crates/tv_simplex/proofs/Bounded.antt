@@ -1,4 +1,4 @@
-use Rattle.std.proofs.Common.{◌≡◌, ℕ, suc, ◌⊎◌, inl, inr, ◌+◌, ◌<◌, ◌≤◌, List, [], ◌∷◌, length, map, Bool, true, false, ◌||◌, arith, refl, sym, ap, ◌∙◌, ℤ, ◌*ℤ◌}
+use Rattle.std.proofs.Common.{◌≡◌, ℕ, inl, inr, ◌+◌, ◌<◌, ◌≤◌, List, [], ◌∷◌, length, map, true, false, arith, sym, ap, ◌∙◌, ℤ, ◌*ℤ◌}
 use Rattle.std.specs.List.{AllByRecursion, IsDistinct, list_any}
 use Rattle.std.proofs.lemmas.Int.{ints}
 use Rattle.std.proofs.lemmas.Bool.Decides.{nat_tests, eqb_tells}
@@ -6,7 +6,7 @@ use Rattle.std.proofs.lemmas.Map.Steps.{length-le_from_distinct_below}
 use lib.Dec.{eqb}
 use Rattle.tv_simplex.proofs.Ring.{times_zero}
 use Rattle.tv_simplex.proofs.Sums.{delta-same, delta-other}
-use Rattle.tv_simplex.proofs.Counting.{rank, rank-below, rank-same, is_column, is_column-from, is_column-at, count-columns}
+use Rattle.tv_simplex.proofs.Counting.{rank, rank-below, rank-same, is_column, is_column-from, is_column-at, count-columns, or_true}
 use Rattle.tv_simplex.proofs.Chains.{last_of, none_twice}
 use Rattle.tv_simplex.proofs.GoesOn.{goes_on}
 use Rattle.tv_simplex.proofs.Steps.{feasible-any}
@@ -14,6 +14,7 @@ use Rattle.tv_simplex.specs.Choices.{choices}
 use Rattle.tv_simplex.specs.Tableaus.{Tableau}
 use Rattle.tv_simplex.specs.Chains.{column, IsChain, IsSystem, Settles}
 use Rattle.tv_simplex.specs.Orders.{IsWithin, NoneTwice}
+use Rattle.std.proofs.lemmas.List.{length-map}
 
 -- the columns of a basis are different
 pub columns_apart : (a : ℕ → ℕ → ℤ) (m n : ℕ) (b : ℕ → ℕ) (x : Tableau a m n b) (i l : ℕ) → i < m → l < i → b i ≡ b l → ⊥
@@ -65,10 +66,6 @@ unfolding IsDistinct
 codes_distinct m n [] g h = tt
 codes_distinct m n (b ∷ bs) g h = (codes_apart m n b bs g.0 g.1 h.0, codes_distinct m n bs g.1 h.1)
 
-or_true : (s t : Bool) → s || t ≡ true → (s ≡ true) ⊎ (t ≡ true)
-or_true true t h = inl refl
-or_true false t h = inr h
-
 codes_below : (m n : ℕ) (bs : List (List ℕ)) → AllByRecursion (Good m n) bs → (q : ℕ) → list_any (eqb q) (map (code m n) bs) ≡ true → q < choices (n + m) m
 codes_below m n [] g q h = cc
 codes_below m n (b ∷ bs) g q h = elim (or_true (eqb q (code m n b)) (list_any (eqb q) (map (code m n) bs)) h) [
@@ -76,16 +73,12 @@ codes_below m n (b ∷ bs) g q h = elim (or_true (eqb q (code m n b)) (list_any 
   | inr e ↦ codes_below m n bs g.1 q e
 ]
 
-length-map : {X Y : Type 0} (f : X → Y) (xs : List X) → length (map f xs) ≡ length xs
-length-map f [] = refl
-length-map f (x ∷ xs) = ap suc (length-map f xs)
-
 -- a chain has at most as many bases as there are choices of m columns out of n + m
 pub bounded : (a : ℕ → ℕ → ℤ) (m n : ℕ) → IsSystem a m n → (bs : List (List ℕ)) → IsChain a m n bs → length bs ≤ choices (n + m) m
 bounded a m n s bs h =
     let g = good_all a m n s bs h in
     let k = length-le_from_distinct_below (map (code m n) bs) (choices (n + m) m) (codes_distinct m n bs g (none_twice a m n s bs h)) (codes_below m n bs g) in
-    let l = length-map (code m n) bs in
+    let l = length-map bs (code m n) in
     omega arith
 
 -- one whose last basis does not settle is shorter

@@ -1,13 +1,13 @@
 use Rattle.std.proofs.Common.{◌≡◌, ℕ, inl, inr, ◌+◌, ◌<◌, List, [], ◌∷◌, length, arith, ap, ◌∙◌, ℤ}
 use Rattle.std.specs.List.{AllByRecursion}
 use Rattle.std.proofs.lemmas.List.{get_or-set_same, get_or-set_other, length-set}
-use Rattle.tv_simplex.proofs.Exchanged.{same_or_other}
 use Rattle.tv_simplex.proofs.Steps.{next_tableau, next_feasible, next_above, feasible-any, below-any, below-trans, never_below, start_tableau, start_feasible}
 use Rattle.tv_simplex.specs.Tableaus.{Tableau, Exchange}
 use Rattle.tv_simplex.specs.Chains.{column, Step, IsChain, IsSystem}
 use Rattle.tv_simplex.specs.Orders.{Feasible, ObjectiveBelow, IsWithin, NoneTwice}
+use Rattle.std.proofs.lemmas.Bool.{cases_eq}
 
-all-weaker : {X : Type 0} (P Q : X → Type 0) → ((x : X) → P x → Q x) → (xs : List X) → AllByRecursion P xs → AllByRecursion Q xs
+pub all-weaker : {X : Type 0} (P Q : X → Type 0) → ((x : X) → P x → Q x) → (xs : List X) → AllByRecursion P xs → AllByRecursion Q xs
 all-weaker P Q f [] h = tt
 all-weaker P Q f (x ∷ xs) h = (f x h.0, all-weaker P Q f xs h.1)
 
@@ -36,7 +36,7 @@ module _ (a : ℕ → ℕ → ℤ) (m n : ℕ) (s : IsSystem a m n) where
       let here = below-any a m n (column old) (column new) x.table last.table y g in
       record {
         size = (let l = length-set old x.leaving x.entering in let k = last.size in ap length x.next ∙ l ∙ k);
-        inside = λ i i_in. elim (same_or_other i x.leaving) [
+        inside = λ i i_in. elim (cases_eq i x.leaving) [
           | inl h ↦ (let k = ap (column new) h ∙ e.at_place in let l = x.enters.within in omega arith)
           | inr h ↦ (let k = e.elsewhere i i_in h in let l = last.inside i i_in in omega arith)
         ];

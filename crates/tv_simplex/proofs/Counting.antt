@@ -2,10 +2,7 @@ use Rattle.std.proofs.Common.{◌≡◌, ℕ, zero, suc, ◌⊎◌, inl, inr, �
 use Rattle.std.proofs.lemmas.Bool.Decides.{nat_tests}
 use lib.Dec.{eqb}
 use Rattle.tv_simplex.specs.Choices.{choices}
-
-pub true_or_false : (t : Bool) → (t ≡ true) ⊎ (t ≡ false)
-true_or_false true = inl refl
-true_or_false false = inr refl
+use Rattle.std.proofs.lemmas.Bool.{cases_Bool}
 
 choices-more : (n k : ℕ) → choices n k ≤ choices (suc n) k
 choices-more n zero = omega arith
@@ -35,7 +32,7 @@ rank-false n f e = ap (λ t. cond t (choices n (cond t (suc (count n f)) (count 
 
 pub rank-below : (n : ℕ) (f : ℕ → Bool) → rank n f < choices n (count n f)
 rank-below zero f = omega arith
-rank-below (suc n) f = elim (true_or_false (f n)) [
+rank-below (suc n) f = elim (cases_Bool (f n)) [
   | inl e ↦ (
       let h = rank-below n f in
       let r = rank-true n f e in
@@ -49,13 +46,13 @@ rank-below (suc n) f = elim (true_or_false (f n)) [
       omega arith)
 ]
 
-last_or_below : (n j : ℕ) → j < suc n → (j ≡ n) ⊎ (j < n)
+pub last_or_below : (n j : ℕ) → j < suc n → (j ≡ n) ⊎ (j < n)
 last_or_below n j h = grind arith
 
 pub rank-same : (n : ℕ) (f g : ℕ → Bool) → count n f ≡ count n g → rank n f ≡ rank n g → (j : ℕ) → j < n → f j ≡ g j
 rank-same zero f g c r j l = absurd (omega arith)
-rank-same (suc n) f g c r j l = elim (true_or_false (f n)) [
-  | inl e ↦ elim (true_or_false (g n)) [
+rank-same (suc n) f g c r j l = elim (cases_Bool (f n)) [
+  | inl e ↦ elim (cases_Bool (g n)) [
     | inl e' ↦ (
         let a = count-true n f e in
         let b = count-true n g e' in
@@ -74,7 +71,7 @@ rank-same (suc n) f g c r j l = elim (true_or_false (f n)) [
         let w = rank-below n g in
         absurd (omega arith))
   ]
-  | inr e ↦ elim (true_or_false (g n)) [
+  | inr e ↦ elim (cases_Bool (g n)) [
     | inl e' ↦ (
         let a = count-false n f e in
         let b = count-true n g e' in
@@ -104,7 +101,7 @@ abbrev pub is_column : ℕ → (ℕ → ℕ) → ℕ → Bool
 is_column zero b j = false
 is_column (suc m) b j = eqb (b m) j || is_column m b j
 
-or_true : (s t : Bool) → s || t ≡ true → (s ≡ true) ⊎ (t ≡ true)
+pub or_true : (s t : Bool) → s || t ≡ true → (s ≡ true) ⊎ (t ≡ true)
 or_true true t h = inl refl
 or_true false t h = inr h
 
@@ -162,7 +159,7 @@ pub count-columns : (n m : ℕ) (b : ℕ → ℕ) → ((i : ℕ) → i < m → b
 count-columns n zero b inside apart = count-none n
 count-columns n (suc m) b inside apart =
     let before = count-columns n m b (λ i h. inside i (omega arith)) (λ i l h g. apart i l (omega arith) g) in
-    count-one_more n (b m) (is_column m b) (inside m (omega arith)) (elim (true_or_false (is_column m b (b m))) [
+    count-one_more n (b m) (is_column m b) (inside m (omega arith)) (elim (cases_Bool (is_column m b (b m))) [
       | inl e ↦ (let k = is_column-from m b (b m) e in absurd (apart m k.0 (omega arith) k.1 k.2))
       | inr e ↦ e
     ]) ∙ ap suc before

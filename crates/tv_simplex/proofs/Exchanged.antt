@@ -1,4 +1,4 @@
-use Rattle.std.proofs.Common.{◌≡◌, ℕ, ◌+◌, ◌<◌, ◌⊎◌, inl, inr, arith, sym, ap, ◌∙◌, ℤ, pos, ◌+ℤ◌, ◌-ℤ◌, ◌*ℤ◌, ◌<ℤ◌}
+use Rattle.std.proofs.Common.{◌≡◌, ℕ, ◌+◌, ◌<◌, inl, inr, arith, sym, ap, ◌∙◌, ℤ, pos, ◌+ℤ◌, ◌-ℤ◌, ◌*ℤ◌, ◌<ℤ◌}
 use Rattle.std.proofs.lemmas.Int.{ints}
 use Rattle.std.proofs.Math.IntN.{*ℤ_comm}
 use Rattle.tv_linear.proofs.Ring.{mul_assoc_z}
@@ -6,9 +6,7 @@ use Rattle.tv_simplex.proofs.Ring.{mul_swap, times_zero, zero_times, above_times
 use Rattle.tv_simplex.proofs.Sums.{total-same, total-times, total-add, total-less, total-two, total-delta, delta-swap, delta-same, delta-other}
 use Rattle.tv_simplex.specs.Sums.{total, delta}
 use Rattle.tv_simplex.specs.Tableaus.{Tableau, reduced, Exchange}
-
-pub same_or_other : (i j : ℕ) → (i ≡ j) ⊎ (i ≡ j → ⊥)
-same_or_other i j = grind arith
+use Rattle.std.proofs.lemmas.Bool.{cases_eq}
 
 -- the table after an exchange at row r and column c, times a further scale
 abbrev pub after : ℤ → (ℕ → ℕ → ℤ) → ℕ → ℕ → ℕ → ℕ → ℤ
@@ -46,7 +44,7 @@ reduced_after m e b b' s t r c r_in x j =
     (moved ∙ ap (λ z. z +ℤ new r *ℤ (e c -ℤ e (b r))) (old ∙ ap (λ z. d *ℤ total m (λ i. t i j *ℤ e (b i)) -ℤ t r j *ℤ z) parts))
   where
     one : (i : ℕ) → i < m → after s t r c i j *ℤ e (b' i) ≡ after s t r c i j *ℤ e (b i) +ℤ delta i r *ℤ (after s t r c i j *ℤ (e c -ℤ e (b r)))
-    one i l = elim (same_or_other i r) [
+    one i l = elim (cases_eq i r) [
       | inl h ↦ (
           let new = after s t r c i j in
           let k : delta i r ≡ pos 1 = ap (λ q. delta q r) h ∙ delta-same r in
@@ -89,7 +87,7 @@ module _ (a : ℕ → ℕ → ℤ) (m n : ℕ) (b b' : ℕ → ℕ) (x : Tableau
       ∙ sym (total-two m d g (λ k. x.entry i (n + k)) (λ k. x.entry r (n + k)) (λ k. a k j))
 
   pub after_unit : (i l : ℕ) → i < m → l < m → after x.scale x.entry r c i (b' l) ≡ (x.scale *ℤ x.entry r c) *ℤ delta i l
-  after_unit i l i_in l_in = elim (same_or_other l r) [
+  after_unit i l i_in l_in = elim (cases_eq l r) [
     | inl h ↦ (
         let to_c = ap (after x.scale x.entry r c i) (ap b' h ∙ e.at_place) in
         let d = x.entry r c in

@@ -5,15 +5,13 @@ use Rattle.tv_linear.proofs.Ring.{mul_assoc_z, not_above}
 use Rattle.tv_simplex.proofs.Ring.{by_sign, times_zero, is_zero}
 use Rattle.tv_simplex.proofs.Sums.{total-same, total-zero, total-times, delta-same, delta-other, delta-above}
 use Rattle.tv_simplex.proofs.Leads.{leads-same, leads-times, leads-divide, leads-add}
-use Rattle.tv_simplex.proofs.Exchanged.{same_or_other}
 use Rattle.tv_simplex.proofs.Steps.{joined}
 use Rattle.tv_simplex.specs.Sums.{total, delta}
 use Rattle.tv_simplex.specs.Tableaus.{Tableau}
 use Rattle.tv_simplex.specs.Chains.{LeadsAbove, order, cost, objective, column, Step, Solves, Settles}
 use Rattle.tv_simplex.specs.Orders.{Feasible, against, LeastOf}
-
-last_or_below : (n j : ℕ) → j < suc n → (j ≡ n) ⊎ (j < n)
-last_or_below n j h = grind arith
+use Rattle.tv_simplex.proofs.Counting.{last_or_below}
+use Rattle.std.proofs.lemmas.Bool.{cases_lt, cases_eq}
 
 -- ---- the first number below 0
 pub first_negative : (n : ℕ) (f : ℕ → ℤ) → ((j : ℕ) → j < n → pos 0 ≤ℤ f j) ⊎ ((c : ℕ) × (c < n) × (f c <ℤ pos 0) × ((j : ℕ) → j < c → pos 0 ≤ℤ f j))
@@ -156,7 +154,7 @@ module _ (a : ℕ → ℕ → ℤ) (m n : ℕ) (b : ℕ → ℕ) (x : Tableau a 
     above = p;
     least = λ i l o q. elim (last_or_below k i l) [
       | inl e ↦ absurd (o e)
-      | inr g ↦ elim (same_or_other i r) [
+      | inr g ↦ elim (cases_eq i r) [
         | inl e ↦ subst (λ y. LeadsAbove m (ratio c k y)) (sym e) turned
         | inr e ↦ ratio-trans c r k i old.above p q (old.least i g e q) turned
       ]
@@ -210,9 +208,6 @@ zero_or_not v = elim (by_sign v) [
   | inr w ↦ elim w [ inl e ↦ inl e | inr h ↦ inr (λ e. absurd (omega (arith, ints, e))) ]
 ]
 
-below_or_not : (p q : ℕ) → (p < q) ⊎ (q ≤ p)
-below_or_not p q = grind arith
-
 pub leads_value : (m : ℕ) (v : ℕ → ℤ) → LeadsAbove m v → pos 0 ≤ℤ v 0
 leads_value m v h = elim (first_or_later h.place) [
   | inl e ↦ (let k = subst (λ q. pos 0 <ℤ v q) e h.here in omega (arith, ints, k))
@@ -223,7 +218,7 @@ leads_value m v h = elim (first_or_later h.place) [
     first_or_later p = grind arith
 
 pub solves_or_not : (a : ℕ → ℕ → ℤ) (m n : ℕ) (b : ℕ → ℕ) (x : Tableau a m n b) → Feasible a m n b x → Solves a m n b x ⊎ (Solves a m n b x → ⊥)
-solves_or_not a m n b x f = elim (all_or_one m (λ i. n ≤ b i → x.entry i (n + m) ≡ pos 0) (λ i l. elim (below_or_not (b i) n) [
+solves_or_not a m n b x f = elim (all_or_one m (λ i. n ≤ b i → x.entry i (n + m) ≡ pos 0) (λ i l. elim (cases_lt (b i) n) [
   | inl g ↦ inl (λ h. absurd (omega arith))
   | inr g ↦ elim (zero_or_not (x.entry i (n + m))) [ inl e ↦ inl (λ h. e) | inr never ↦ inr (λ h. never (h g)) ]
 ])) [

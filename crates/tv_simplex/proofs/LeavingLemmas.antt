@@ -16,8 +16,9 @@ use Rattle.tv_simplex.specs.Orders.{LeastOf, against}
 use Rattle.tv_simplex.specs.Ratios.{Ratio, IsRatio, IsQuotient, Shows}
 use Rattle.tv_simplex.specs.declared.rows.Entry.{Entry}
 use Rattle.tv_simplex.specs.Rows.{ratio, none, IsSparse, BeginsWith, IsNextColumn}
-use Rattle.tv_simplex.proofs.RowLemmas.{last_or_below, below_or_from}
 use Rattle.tv_simplex.specs.Choosing.{IsSignOf, ComparesAt, difference_at, IsLexicographic, Compares, NoneAbove, IsLeast}
+use Rattle.tv_linear.proofs.ListLaws.{last_or_below}
+use Rattle.std.proofs.lemmas.Bool.{cases_lt}
 
 turned : (k e x y w d : ℤ) → k *ℤ (x -ℤ y) ≡ e *ℤ w → d ≡ pos 0 -ℤ w → k *ℤ (y -ℤ x) ≡ e *ℤ d
 turned k e x y w d h g =
@@ -110,7 +111,7 @@ module _ (m n c : ℕ) (first second : ℕ → Ratio) where
   -- the columns in which both rows have nothing compare as equal
   pub none_differ : (from column : ℕ) → column ≤ n + m + 1 → ((j : ℕ) → n ≤ j → j < from → ComparesAt (n + m) c j first second Equal) → ((j : ℕ) → from ≤ j → j < column → (first j ≡ none) × (second j ≡ none)) →
       (j : ℕ) → n ≤ j → j < column → ComparesAt (n + m) c j first second Equal
-  none_differ from column high before gap j low up = elim (below_or_from j from) [
+  none_differ from column high before gap j low up = elim (cases_lt j from) [
     | inl g ↦ before j low g
     | inr g ↦ (let z = gap j g up in both_none (n + m) c j first second (omega (arith, high, up)) (ap (λ z. z.numerator) z.0) (ap (λ z. z.numerator) z.1))
   ]

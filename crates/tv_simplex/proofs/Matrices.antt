@@ -3,10 +3,10 @@ use Rattle.std.proofs.lemmas.Int.{ints}
 use Rattle.std.proofs.lemmas.Bool.Decides.{nat_tests}
 use Rattle.std.specs.Prelude.{nat_lt, int_lt}
 use Rattle.tv_simplex.proofs.Sums.{delta-other, delta-same}
-use Rattle.tv_simplex.proofs.Exchanged.{same_or_other}
 use Rattle.tv_simplex.specs.Sums.{delta}
 use Rattle.tv_simplex.specs.Chains.{IsSystem}
 use Rattle.tv_simplex.specs.Systems.{Equations, right_at, entry_at, sign, matrix}
+use Rattle.std.proofs.lemmas.Bool.{cases_eq}
 
 matrix-artificial : (s : Equations) (k i : ℕ) → k < s.rows → i < s.rows → matrix s k (s.columns + i) ≡ delta k i
 matrix-artificial s k i k_in i_in = inside (nat_lt (s.columns + i) s.columns) (nat_lt (s.columns + i) (s.columns + s.rows)) (grind (arith, nat_tests)) (grind (arith, nat_tests)) ∙ shifted
@@ -17,7 +17,7 @@ matrix-artificial s k i k_in i_in = inside (nat_lt (s.columns + i) s.columns) (n
     inside false false e f = cc
 
     shifted : delta (s.columns + k) (s.columns + i) ≡ delta k i
-    shifted = elim (same_or_other k i) [
+    shifted = elim (cases_eq k i) [
       | inl e ↦ ap (λ z. delta (s.columns + z) (s.columns + i)) e ∙ delta-same (s.columns + i) ∙ sym (ap (λ z. delta z i) e ∙ delta-same i)
       | inr o ↦ delta-other (s.columns + k) (s.columns + i) (λ e. o (let f : k ≡ i = omega arith in f)) ∙ sym (delta-other k i o)
     ]

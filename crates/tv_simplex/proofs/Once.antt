@@ -1,13 +1,14 @@
-use Rattle.std.proofs.Common.{◌≡◌, ℕ, suc, ◌⊎◌, inl, inr, ◌<◌, List, [], ◌∷◌, length, set, get_or, arith, refl, sym, ap, ◌∙◌, subst, ℤ, pos, ◌+ℤ◌, ◌-ℤ◌, ◌*ℤ◌, ◌<ℤ◌}
+use Rattle.std.proofs.Common.{◌≡◌, ℕ, ◌⊎◌, inl, inr, ◌<◌, List, [], ◌∷◌, length, set, arith, refl, sym, ap, ◌∙◌, subst, ℤ, pos, ◌+ℤ◌, ◌-ℤ◌, ◌*ℤ◌, ◌<ℤ◌}
 use Rattle.std.proofs.lemmas.Int.{ints}
 use Rattle.tv_linear.proofs.Ring.{mul_assoc_z}
 use Rattle.tv_simplex.proofs.Ring.{times_zero, above_times, is_above, mul_swap, times_less}
 use Rattle.tv_simplex.proofs.Leads.{leads-times, leads-add, leads-never}
-use Rattle.tv_simplex.proofs.Exchanged.{same_or_other}
 use Rattle.tv_simplex.proofs.Unique.{same_tableau}
 use Rattle.tv_simplex.proofs.Steps.{same_objective}
 use Rattle.tv_simplex.specs.Tableaus.{Tableau}
 use Rattle.tv_simplex.specs.Chains.{order, objective, column, Enters, Leaves, Step, IsChain}
+use Rattle.std.proofs.lemmas.Grind.{same_number_lists}
+use Rattle.std.proofs.lemmas.Bool.{cases_eq}
 
 above_too : (p q u v : ℤ) → pos 0 <ℤ p → pos 0 <ℤ q → p *ℤ u ≡ q *ℤ v → pos 0 <ℤ u → pos 0 <ℤ v
 above_too p q u v h k e l = let a = above_times p u h l in is_above q v k (omega (arith, ints, a, e))
@@ -64,24 +65,18 @@ one_step a m n old new new' s t = elim (in_order s.entering t.entering) [
   | inl l ↦ absurd (entered a m n (column old) s.table t.table s.entering t.entering s.enters t.enters l)
   | inr w ↦ elim w [
     | inr l ↦ absurd (entered a m n (column old) t.table s.table t.entering s.entering t.enters s.enters l)
-    | inl e ↦ elim (same_or_other t.leaving s.leaving) [
+    | inl e ↦ elim (cases_eq t.leaving s.leaving) [
       | inl f ↦ s.next ∙ (λ i. set old (sym f i) (e i)) ∙ sym t.next
       | inr o ↦ absurd (left a m n (column old) s.table t.table s.entering s.leaving t.leaving s.leaves (subst (λ c. Leaves a m n (column old) t.table c t.leaving) (sym e) t.leaves) o)
     ]
   ]
 ]
 
-same_lists : (xs ys : List ℕ) → length xs ≡ length ys → ((i : ℕ) → i < length xs → get_or xs i 0 ≡ get_or ys i 0) → xs ≡ ys
-same_lists [] [] e h = refl
-same_lists [] (y ∷ ys) e h = absurd (omega arith)
-same_lists (x ∷ xs) [] e h = absurd (omega arith)
-same_lists (x ∷ xs) (y ∷ ys) e h = (λ i. h 0 (omega arith) i ∷ same_lists xs ys (omega arith) (λ k l. h (suc k) (omega arith)) i)
-
 -- the first bases of the chain are one list
 pub one_chain : (a : ℕ → ℕ → ℤ) (m n : ℕ) (bs bs' : List (List ℕ)) → IsChain a m n bs → IsChain a m n bs' → length bs ≡ length bs' → bs ≡ bs'
 one_chain a m n [] bs' h k e = absurd h
 one_chain a m n (b ∷ bs) [] h k e = absurd k
-one_chain a m n (b ∷ []) (b' ∷ []) h k e = ap (λ l. l ∷ []) (same_lists b b' (h.size ∙ sym k.size) (λ i l. let s = h.size in h.columns i (omega arith) ∙ sym (k.columns i (omega arith))))
+one_chain a m n (b ∷ []) (b' ∷ []) h k e = ap (λ l. l ∷ []) (same_number_lists b b' (h.size ∙ sym k.size) (λ i l. let s = h.size in h.columns i (omega arith) ∙ sym (k.columns i (omega arith))))
 one_chain a m n (b ∷ []) (b' ∷ (o' ∷ bs')) h k e = absurd (omega arith)
 one_chain a m n (b ∷ (o ∷ bs)) (b' ∷ []) h k e = absurd (omega arith)
 one_chain a m n (b ∷ (o ∷ bs)) (b' ∷ (o' ∷ bs')) h k e =

@@ -1,4 +1,4 @@
-use Rattle.std.proofs.Common.{Bool, true, false, IsTrue, cond, ◌≡◌, ◌⊎◌, inl, inr, ℕ, zero, suc, ◌+◌, ◌-◌, ◌<◌, ◌≤◌, List, [], ◌∷◌, ◌++◌, length, get_or, take, drop, length-drop, take_all, arith, refl, sym, ap, ◌∙◌, subst, ℤ, pos, ◌*ℤ◌, ◌<ℤ◌, ◌≤ℤ◌, unsigned_abs}
+use Rattle.std.proofs.Common.{Bool, true, false, IsTrue, cond, ◌≡◌, inl, inr, ℕ, zero, suc, ◌+◌, ◌-◌, ◌<◌, ◌≤◌, List, [], ◌∷◌, ◌++◌, length, get_or, take, drop, length-drop, take_all, arith, refl, sym, ap, ◌∙◌, subst, ℤ, pos, ◌*ℤ◌, ◌<ℤ◌, ◌≤ℤ◌, unsigned_abs}
 use Rattle.std.specs.Prelude.{nat_eq}
 use Rattle.std.proofs.lemmas.Int.{ints}
 use Rattle.std.proofs.lemmas.Bool.Decides.{nat_tests}
@@ -11,15 +11,8 @@ use Rattle.tv_simplex.proofs.Ring.{zero_times, times_zero, less_times, by_sign}
 use Rattle.tv_simplex.specs.Ratios.{Ratio, IsQuotient, IsRest}
 use Rattle.tv_simplex.specs.declared.rows.Entry.{Entry}
 use Rattle.tv_simplex.specs.Rows.{ratio, ratio_of, none, entry_in, IsNarrowRatio, IsEntry, IsSparse, IsRow, IsRestOf, BeginsFrom, IsPut, IsDivided, IsTaken, IsMade}
-
-pub same_or_other : (p q : ℕ) → (p ≡ q) ⊎ (p ≡ q → ⊥)
-same_or_other p q = grind arith
-
-pub last_or_below : (n j : ℕ) → j < n + 1 → (j ≡ n) ⊎ (j < n)
-last_or_below n j h = grind arith
-
-pub below_or_from : (p q : ℕ) → (p < q) ⊎ (q ≤ p)
-below_or_from p q = grind arith
+use Rattle.tv_linear.proofs.ListLaws.{last_or_below}
+use Rattle.std.proofs.lemmas.Bool.{cases_lt, cases_eq}
 
 -- ---- the fraction in a column
 pub entry-here : (e : Entry) (es : List Entry) (j : ℕ) → e.column ≡ j → entry_in (e ∷ es) j ≡ ratio_of e
@@ -46,14 +39,14 @@ none_after first end (e ∷ es) j h l = (let b = h.0.below in entry-behind e es 
 
 pub entry_narrow : (es : List Entry) (j : ℕ) → IsNarrowRatio (entry_in es j)
 entry_narrow [] j = (omega arith, omega arith)
-entry_narrow (e ∷ es) j = elim (same_or_other e.column j) [
+entry_narrow (e ∷ es) j = elim (cases_eq e.column j) [
   | inl g ↦ subst (λ z. IsNarrowRatio z) (sym (entry-here e es j g)) (e.number.numerator_bound, e.number.denominator_bound)
   | inr o ↦ subst (λ z. IsNarrowRatio z) (sym (entry-behind e es j o)) (entry_narrow es j)
 ]
 
 pub entry_above : (es : List Entry) (j : ℕ) → pos 0 <ℤ (entry_in es j).denominator
 entry_above [] j = omega (arith, ints)
-entry_above (e ∷ es) j = elim (same_or_other e.column j) [
+entry_above (e ∷ es) j = elim (cases_eq e.column j) [
   | inl g ↦ subst (λ z. pos 0 <ℤ z.denominator) (sym (entry-here e es j g)) e.number.positive
   | inr o ↦ subst (λ z. pos 0 <ℤ z.denominator) (sym (entry-behind e es j o)) (entry_above es j)
 ]
@@ -90,7 +83,7 @@ entry-last first end (x ∷ es) e h l = (let b = h.0.below in entry-behind x (es
 
 entry-before : (es : List Entry) (e : Entry) (j : ℕ) → (e.column ≡ j → ⊥) → entry_in (es ++ e ∷ []) j ≡ entry_in es j
 entry-before [] e j o = entry-behind e [] j o
-entry-before (x ∷ es) e j o = elim (same_or_other x.column j) [
+entry-before (x ∷ es) e j o = elim (cases_eq x.column j) [
   | inl g ↦ entry-here x (es ++ e ∷ []) j g ∙ sym (entry-here x es j g)
   | inr n ↦ entry-behind x (es ++ e ∷ []) j n ∙ entry-before es e j o ∙ sym (entry-behind x es j n)
 ]
@@ -101,7 +94,7 @@ module _ (rule : ℕ → Ratio → Type 0) where
   pub row_wider : (from end : ℕ) (row : List Entry) → from ≤ end → IsRow rule from row → ((j : ℕ) → from ≤ j → j < end → rule j none) → IsRow rule end row
   row_wider from end row l h gap = record {
     sparse = sparse_wider 0 from end row h.sparse l;
-    each = λ j j_in. elim (below_or_from j from) [
+    each = λ j j_in. elim (cases_lt j from) [
       | inl g ↦ h.each j g
       | inr g ↦ subst (rule j) (sym (none_after 0 from row j h.sparse g)) (gap j g j_in)
     ];

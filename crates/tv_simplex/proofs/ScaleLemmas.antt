@@ -1,4 +1,4 @@
-use Rattle.std.proofs.Common.{◌++◌, length-append, ◌≡◌, ◌⊎◌, inl, inr, ℕ, zero, suc, ◌+◌, ◌*◌, ◌/◌, ◌^◌, ◌<◌, ◌≤◌, List, [], ◌∷◌, length, get_or, arith, refl, sym, ap, ◌∙◌, subst, ℤ, pos, negsuc, ◌*ℤ◌, ◌<ℤ◌, unsigned_abs}
+use Rattle.std.proofs.Common.{◌++◌, length-append, ◌≡◌, inl, inr, ℕ, zero, suc, ◌+◌, ◌*◌, ◌/◌, ◌^◌, ◌<◌, ◌≤◌, List, [], ◌∷◌, length, get_or, arith, refl, sym, ap, ◌∙◌, subst, ℤ, pos, negsuc, ◌*ℤ◌, ◌<ℤ◌, unsigned_abs}
 use Rattle.std.proofs.lemmas.Int.{ints, unsigned_abs-mul}
 use Rattle.std.proofs.Math.IntN.{*ℤ_comm}
 use Rattle.std.proofs.Math.Nat.{one-dvd, dvd-mul_left, dvd-mul_right, div-mul_cancel, mul-div_cancel', le_of_dvd, le_of_mul-le-mul_right}
@@ -11,6 +11,7 @@ use Rattle.tv_fraction.specs.Coprime.{AreCoprime}
 use Rattle.tv_fraction.specs.declared.Fraction.{Fraction}
 use Rattle.tv_simplex.specs.Rows.{ratio}
 use Rattle.tv_simplex.specs.Scales.{ratio_at, numerator_at, denominator_at, IsMultiple, IsCommon, HasNoCommon, IsLarger, HasNoLarger, IsTimes, HaveScale}
+use Rattle.tv_linear.proofs.ListLaws.{last_or_below}
 
 pub get_or-append-last : {A : Type 0} (xs : List A) (x : A) (n : ℕ) (d : A) → length xs ≡ n → get_or (xs ++ x ∷ []) n d ≡ x
 get_or-append-last [] x zero d e = refl
@@ -88,9 +89,6 @@ is_larger a b g pa pb h short = record {
 pub no_larger : (a b g : ℕ) → 0 < a → 0 < b → IsGcd a b g → 2 ^ 62 ≤ a / g * b → HasNoLarger a b
 no_larger a b g pa pb h wide k above p q = (let l = le_of_dvd above (least_multiple a b g k pb h p q) in omega (arith, l, wide))
 
-last_or_below : (p j : ℕ) → j < p + 1 → (j ≡ p) ⊎ (j < p)
-last_or_below p j h = grind arith
-
 pub common_none : (fractions : List Fraction) → IsCommon fractions 0 1
 common_none fractions = record {
   positive = omega arith;
@@ -139,7 +137,7 @@ positive_at [] j h = absurd (omega arith)
 positive_at (x ∷ xs) zero h = x.positive
 positive_at (x ∷ xs) (suc j) h = positive_at xs j (omega arith)
 
-above_size : (z : ℤ) → pos 0 <ℤ z → 0 < unsigned_abs z
+pub above_size : (z : ℤ) → pos 0 <ℤ z → 0 < unsigned_abs z
 above_size z h = grind (arith, ints)
 
 -- a scale is a common multiple of the denominators
@@ -157,7 +155,7 @@ no_scale fractions none h =
     let s = h.scale_short in
     absurd (omega (arith, w, s))
 
-scaled_up : (s k x : ℕ) → s ≤ k → s * x ≤ k * x
+pub scaled_up : (s k x : ℕ) → s ≤ k → s * x ≤ k * x
 scaled_up s k x h = grind arith
 
 -- a whole number that is too great is so for each greater scale

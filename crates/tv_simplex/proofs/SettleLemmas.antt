@@ -24,6 +24,7 @@ use Rattle.tv_simplex.specs.Starting.{first_objective, IsWideObjective, IsStartS
 use Rattle.tv_simplex.specs.Stops.{HasNumberedPlace, IsFaultAt}
 use Rattle.tv_simplex.specs.Walking.{IsWalkStop}
 use Rattle.tv_simplex.proofs.EndLemmas.{sign_size}
+use Rattle.tv_simplex.proofs.ScaleLemmas.{above_size}
 
 -- the columns are counted by 32 bits, the artificial ones and the right side too
 few : (r c : ℕ) → r < 2 ^ 32 → c < 2 ^ 32 → r * c ≤ 4000000 → c + r < 2 ^ 32
@@ -74,9 +75,6 @@ same_ratio x d z e s h g =
 
 at_least_own : (x d : ℕ) → 0 < d → x ≤ x * d
 at_least_own x d h = grind arith
-
-above_size : (z : ℤ) → pos 0 <ℤ z → 0 < unsigned_abs z
-above_size z h = grind (arith, ints)
 
 -- a whole number that is a narrow fraction is narrow
 whole_narrow : (z e s : ℤ) → pos 0 <ℤ s → z *ℤ s ≡ e *ℤ pos 1 → HasNarrow e s → IsNarrow z

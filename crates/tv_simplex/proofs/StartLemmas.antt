@@ -1,7 +1,6 @@
 use Rattle.std.proofs.Common.{◌≡◌, inl, inr, ℕ, ◌+◌, ◌-◌, ◌<◌, ◌≤◌, [], length, arith, refl, sym, ap, ◌∙◌, subst, ℤ, pos, ◌*ℤ◌}
 use Rattle.std.proofs.lemmas.Int.{ints}
 use Rattle.std.proofs.lemmas.Bool.Decides.{nat_tests}
-use Rattle.tv_simplex.proofs.RowLemmas.{last_or_below}
 use Rattle.tv_simplex.proofs.Starts.{shows_start}
 use Rattle.tv_simplex.proofs.Sums.{total-same, total-delta, delta-same, delta-other}
 use Rattle.tv_simplex.proofs.Answered.{cost-one, cost-right}
@@ -15,6 +14,7 @@ use Rattle.tv_simplex.specs.Tables.{shown, width_of}
 use Rattle.tv_simplex.specs.Outcomes.{IsNarrow, IsNarrowSystem, given}
 use Rattle.tv_simplex.specs.Starting.{last, first_objective, AreZero, IsNumber, IsFirstTable}
 use Rattle.tv_simplex.specs.Walking.{StandsAt}
+use Rattle.tv_linear.proofs.ListLaws.{last_or_below}
 
 pub cost_artificial : (m n j : ℕ) → n ≤ j → j < n + m → cost m n j ≡ pos 1
 cost_artificial m n j h l = (let e : j ≡ n + (j - n) = omega arith in ap (cost m n) e) ∙ cost-one m n (j - n) (omega arith)

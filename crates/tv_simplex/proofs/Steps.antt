@@ -7,11 +7,12 @@ use Rattle.tv_simplex.proofs.Sums.{total-same, total-delta, delta-swap, delta-sa
 use Rattle.tv_simplex.proofs.Leads.{leads-same, leads-times, leads-divide, leads-add, leads-less, leads-never}
 use Rattle.tv_simplex.proofs.Unique.{same_tableau}
 use Rattle.tv_simplex.proofs.Objective.{same_reduced}
-use Rattle.tv_simplex.proofs.Exchanged.{same_or_other, after, after_at, reduced_after, exchanged}
+use Rattle.tv_simplex.proofs.Exchanged.{after, after_at, reduced_after, exchanged}
 use Rattle.tv_simplex.specs.Sums.{delta}
 use Rattle.tv_simplex.specs.Tableaus.{Tableau, reduced, Exchange}
 use Rattle.tv_simplex.specs.Chains.{LeadsAbove, order, cost, objective, Leaves, IsSystem}
 use Rattle.tv_simplex.specs.Orders.{Feasible, ObjectiveBelow}
+use Rattle.std.proofs.lemmas.Bool.{cases_eq}
 
 -- ---- one exchange
 module _ (a : ℕ → ℕ → ℤ) (m n : ℕ) (b b' : ℕ → ℕ) (x : Tableau a m n b) (r c : ℕ) (leaves : Leaves a m n b x c r) (e : Exchange m b b' r c) where
@@ -21,7 +22,7 @@ module _ (a : ℕ → ℕ → ℤ) (m n : ℕ) (b b' : ℕ → ℕ) (x : Tableau
   -- the rows stay feasible
   pub next_feasible : Feasible a m n b x → Feasible a m n b' next_tableau
   unfolding next_tableau exchanged
-  next_feasible f i i_in = elim (same_or_other i r) [
+  next_feasible f i i_in = elim (cases_eq i r) [
     | inl h ↦ leads-same m (λ q. x.scale *ℤ x.entry r (order m n q)) (λ q. after x.scale x.entry r c i (order m n q)) (leads-times m x.scale (λ q. x.entry r (order m n q)) x.positive (f r leaves.within)) (λ q l. sym (ap (λ z. after x.scale x.entry r c z (order m n q)) h ∙ after_at x.scale x.entry r c (order m n q)))
     | inr h ↦ leads-same m (λ q. x.entry r c *ℤ x.entry i (order m n q) -ℤ x.entry i c *ℤ x.entry r (order m n q)) (λ q. after x.scale x.entry r c i (order m n q)) (other i i_in h) (λ q l. sym (ap (λ z. x.entry r c *ℤ x.entry i (order m n q) -ℤ z *ℤ x.entry r (order m n q)) (let k = times_zero x.scale (delta i r) (delta-other i r h) in omega (arith, ints, k))))
   ]

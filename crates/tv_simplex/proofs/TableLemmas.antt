@@ -7,7 +7,8 @@ use Rattle.tv_simplex.specs.declared.stop.Stop.TheVariants.{Wide, Scale, Memory}
 use Rattle.tv_simplex.specs.Stops.{IsClearingStop, IsExchangeStop}
 use Rattle.tv_simplex.specs.Rows.{ratio, entry_in, row_of, read, IsSparse, IsRow, IsDivided, IsTaken, IsWideBy, AreCleared}
 use Rattle.tv_simplex.specs.Exchanges.{IsNext, IsWideNext}
-use Rattle.tv_simplex.proofs.RowLemmas.{same_or_other, last_or_below}
+use Rattle.tv_linear.proofs.ListLaws.{last_or_below}
+use Rattle.std.proofs.lemmas.Bool.{cases_eq}
 
 pub row_set-same : {A : Type 0} (rows : List (Vec Entry A)) (i : ℕ) (v : Vec Entry A) → i < length rows → row_of (set rows i v) i ≡ v.items
 row_set-same [] i v h = absurd (omega arith)
@@ -74,8 +75,8 @@ module _ {A : Type 0} (width r c : ℕ) (rows : List (Vec Entry A)) (l : r < len
     exchanged cleared v e h =
         record {
           size = length-set cleared r v ∙ h.size;
-          grid = λ i i_in. grid_at i (let n = length-set cleared r v in let m = h.size in omega (arith, n, m, i_in)) (same_or_other i r);
-          exchanged = λ i j i_in j_in. at i j i_in j_in (same_or_other i r);
+          grid = λ i i_in. grid_at i (let n = length-set cleared r v in let m = h.size in omega (arith, n, m, i_in)) (cases_eq i r);
+          exchanged = λ i j i_in j_in. at i j i_in j_in (cases_eq i r);
         }
       where
         r_in : r < length cleared

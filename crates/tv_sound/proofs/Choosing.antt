@@ -1,9 +1,9 @@
 -- What a met choice shows of a state: a step is there, or there is none.
-use Rattle.std.proofs.Common.{◌≡◌, ℕ, zero, suc, ◌⊎◌, inl, inr, ◌+◌, ◌≤◌, List, [], ◌∷◌, ◌++◌, length, All, map, Option, None, Some, Bool, IsTrue, arith, refl, subst, sym, ap, ◌∙◌, ℤ, pos, ◌≤ℤ◌, slice_get, ◌==◌, length-append}
+use Rattle.std.proofs.Common.{◌≡◌, ℕ, ◌⊎◌, inl, inr, ◌+◌, ◌≤◌, List, [], ◌∷◌, ◌++◌, length, All, map, Option, None, Some, Bool, IsTrue, arith, refl, subst, sym, ap, ◌∙◌, ℤ, pos, ◌≤ℤ◌, slice_get, ◌==◌, length-append}
 use Rattle.std.specs.Prelude.{Contains}
 use Rattle.std.specs.Option.{option_map}
 use Rattle.std.proofs.lemmas.Int.{ints}
-use Rattle.std.proofs.lemmas.List.{length-map}
+use Rattle.std.proofs.lemmas.List.{length-map, map-append}
 use Rattle.std.proofs.lemmas.List.Elements.{All-nil, All-cons, All-head, All-tail, All-push, All-append}
 use Rattle.tv_linear.specs.declared.cover.CoverTree.{CoverTree}
 use Rattle.tv_linear.specs.declared.choice.ChoiceTree.{ChoiceTree, Split', Empty, NoStep, Take}
@@ -13,25 +13,17 @@ use Rattle.tv_linear.specs.Terms.{table, terms_after, draw_terms}
 use Rattle.tv_linear.specs.Covers.{no_target, IsMetCover}
 use Rattle.tv_linear.proofs.Covered.{covered, shown_at_met}
 use Rattle.tv_linear.proofs.KnownLemmas.{refuted, met_or_denied, value-composed, value-denied, value-given, met-as_given}
-use Rattle.tv_linear.proofs.ListLaws.{table_of, test_true}
+use Rattle.tv_linear.proofs.ListLaws.{table_of, test_true, all_back, all_front, map-table, contains_at}
 use Rattle.tv_program.specs.Steps.{State}
 use Rattle.tv_cases.specs.LinearCases.{LinearCase, CaseSystem, CaseSteps, leaving}
 use Rattle.tv_cert.specs.declared.node.Marked.{Marked}
 use Rattle.tv_cert.specs.Pieces.{rows_of, InMarked}
 use Rattle.tv_cert.specs.Choices.{drawn_change, drawn_guards, TakeMet, NoStepMet, IsMetChoice, ChoiceFits}
-use Rattle.tv_sound.proofs.Membership.{got_in, zip_some, Contains-filter}
-use Rattle.tv_sound.proofs.Entering.{Entered, value-longer, met-after, joined_is, All-left, All-right}
-
-map-table : {A B : Type 0} (g : A → B) (n : ℕ) (f : ℕ → A) → map g (table n f) ≡ table n (λ j. g (f j))
-map-table g zero f = refl
-map-table g (suc n) f = ap (λ ys. g (f 0) ∷ ys) (map-table g n (λ j. f (suc j)))
+use Rattle.tv_sound.proofs.Membership.{zip_some, Contains-filter}
+use Rattle.tv_sound.proofs.Entering.{Entered, value-longer, met-after, joined_is}
 
 kept_values : (n : ℕ) (xs : List ℤ) → length xs ≡ n → map (term_value xs) (table n (λ j. kept j)) ≡ xs
 kept_values n xs e = map-table (term_value xs) n (λ j. kept j) ∙ table_of n xs e
-
-map-both : {A B : Type 0} (g : A → B) (xs ys : List A) → map g (xs ++ ys) ≡ map g xs ++ map g ys
-map-both g [] ys = refl
-map-both g (x ∷ xs) ys = ap (λ zs. g x ∷ zs) (map-both g xs ys)
 
 draw_values : (xs : List ℤ) (draws : List Linear) → map (term_value xs) (map (λ d. put d) draws) ≡ map (λ d. known_value xs (given d)) draws
 draw_values xs [] = refl
@@ -69,18 +61,18 @@ taken_into n l owed known xs c k j draws lists h e a =
     record {
       from = h.0;
       many = h.1;
-      guards = All-left (IsKnownMet xs) (drawn_guards n c draws) w.0 all;
+      guards = all_front (IsKnownMet xs) (drawn_guards n c draws) w.0 all;
       fall = j;
       rows = w.0;
       owes = w.1;
-      met = All-right (IsKnownMet xs) (drawn_guards n c draws) w.0 all;
+      met = all_back (IsKnownMet xs) (drawn_guards n c draws) w.0 all;
     }
 
 module _ (n : ℕ) (cases : List LinearCase) (l : ℕ) (owed : LinearCase → List Linear → ℕ → ℕ → Option (List Known)) where
   take_some : (known : List Known) (xs : List ℤ) (c : LinearCase) (i k j : ℕ) (draws : List Linear) (lists : List (List ℤ)) → slice_get cases i ≡ Some c → TakeMet n l owed known (Some c) k j draws lists → length xs ≡ n → All (IsKnownMet xs) known → Taken n cases l owed xs
   take_some known xs c i k j draws lists g h e a =
       let t = taken_into n l owed known xs c k j draws lists h e a in
-      record { taken = c; among = got_in cases i c g; from = t.from; draws = draws; many = t.many; guards = t.guards; target = k; fall = t.fall; rows = t.rows; owes = t.owes; met = t.met }
+      record { taken = c; among = contains_at cases i c g; from = t.from; draws = draws; many = t.many; guards = t.guards; target = k; fall = t.fall; rows = t.rows; owes = t.owes; met = t.met }
 
   take_is : (known : List Known) (xs : List ℤ) (i k j : ℕ) (draws : List Linear) (lists : List (List ℤ)) → length xs ≡ n → All (IsKnownMet xs) known → (o : Option LinearCase) → slice_get cases i ≡ o → TakeMet n l owed known o k j draws lists → Taken n cases l owed xs
   take_is known xs i k j draws lists e a None g h = absurd h
@@ -131,7 +123,7 @@ abbrev pub drawn : List ℤ → List Linear → List ℤ
 drawn xs draws = map (λ d. known_value xs (given d)) draws
 
 point_is : (n : ℕ) (xs : List ℤ) (draws : List Linear) → length xs ≡ n → map (term_value xs) (draw_terms n draws) ≡ xs ++ drawn xs draws
-point_is n xs draws e = map-both (term_value xs) (table n (λ j. kept j)) (map (λ d. put d) draws) ∙ (λ i. kept_values n xs e i ++ draw_values xs draws i)
+point_is n xs draws e = map-append (term_value xs) (table n (λ j. kept j)) (map (λ d. put d) draws) ∙ (λ i. kept_values n xs e i ++ draw_values xs draws i)
 
 met-chosen : (pt : List ℤ) (inner outer : List Term) (rows : List Linear) → All (IsKnownMet pt) (map (λ r. composed (composed (given r) inner) outer) rows) → All (IsKnownMet (map (term_value pt) outer)) (map (λ r. composed (given r) inner) rows)
 met-chosen pt inner outer [] h = All-nil (IsKnownMet (map (term_value pt) outer))

@@ -21,10 +21,10 @@ use Rattle.tv_sound.specs.Following.{Spot, offered, offered_at, all_offered, onw
 use Rattle.tv_program.specs.Runs.{IsRun}
 use Rattle.tv_cert.specs.declared.node.Proof.{Proof}
 use Rattle.tv_sound.specs.Settled.{IsSettled}
-use Rattle.tv_sound.proofs.Membership.{got_in}
 use Rattle.tv_sound.proofs.NodesSound.{AllMet-left, AllMet-right}
 use Rattle.tv_sound.proofs.Following.{first_got, among-filter, pieces_there, runs_on, Stands}
 use Rattle.tv_sound.proofs.Soundness.{root_met, proved_sound, disproved_sound, comparisons_show}
+use Rattle.tv_linear.proofs.ListLaws.{contains_at}
 
 -- the formula that the root of a certificate of the property shows
 abbrev pub shown_of : Property → Verdict → Property
@@ -54,7 +54,7 @@ module _ (p : System) (system : CaseSystem) (of_program : IsOfProgram p system) 
       let o = first_got (offered_at all system.start) k q (ap (λ ys. slice_get ys k) (pieces_there about qs proofs 0 met system.start) ∙ e) in
       let first : Spot = record { piece = q; proof = o.0; state = record { location = p.start; values = xs } } in
       let stands : Stands system.variables all first = record {
-        among = among-filter (λ o. place_of o.0 == system.start) all (q, o.0) (got_in (offered_at all system.start) k (q, o.0) o.1);
+        among = among-filter (λ o. place_of o.0 == system.start) all (q, o.0) (contains_at (offered_at all system.start) k (q, o.0) o.1);
         inside = record { place = sym of_program.start ∙ sym got.0; rows = h };
         wide = counted;
       } in

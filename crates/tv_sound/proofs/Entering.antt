@@ -23,16 +23,9 @@ use Rattle.tv_cert.specs.Obligations.{case_change}
 use Rattle.tv_cert.specs.Fits.{PieceFits}
 use Rattle.tv_cert.proofs.PieceLemmas.{piece_got}
 use Rattle.tv_sound.proofs.Shown.{PieceCovered, StepCovered}
+use Rattle.tv_linear.proofs.ListLaws.{all_back, all_front}
 
 -- ---- lists
-
-pub All-left : {X : Type 0} (P : X → Type 0) (xs ys : List X) → All P (xs ++ ys) → All P xs
-All-left P [] ys h = All-nil P
-All-left P (x ∷ xs) ys h = All-cons P x xs (All-head P x (xs ++ ys) h) (All-left P xs ys (All-tail P x (xs ++ ys) h))
-
-pub All-right : {X : Type 0} (P : X → Type 0) (xs ys : List X) → All P (xs ++ ys) → All P ys
-All-right P [] ys h = h
-All-right P (x ∷ xs) ys h = All-right P xs ys (All-tail P x (xs ++ ys) h)
 
 -- rows in front of others that there may be
 pub joined_is : (rows : List Known) (r : Option (List Known)) (out : List Known) → option_map (λ falls. rows ++ falls) r ≡ Some out → (falls : List Known) × (r ≡ Some falls) × (rows ++ falls ≡ out)
@@ -65,11 +58,11 @@ entered_some xs into l change fall q k j rows g e h =
       piece = q;
       among = got.1;
       place = got.0;
-      rows = All-left (IsKnownMet xs) (map change (rows_of q)) w.0 all;
+      rows = all_front (IsKnownMet xs) (map change (rows_of q)) w.0 all;
       number = j;
       falls = w.0;
       fell = w.1;
-      met = All-right (IsKnownMet xs) (map change (rows_of q)) w.0 all;
+      met = all_back (IsKnownMet xs) (map change (rows_of q)) w.0 all;
     }
 
 no_rows : {rows : List Known} → None ≡ Some rows → ⊥

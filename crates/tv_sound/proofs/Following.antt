@@ -26,11 +26,12 @@ use Rattle.tv_cert.specs.declared.node.Kind.TheVariants as kind
 use Rattle.tv_cert.proofs.PieceLemmas.{piece_got}
 use Rattle.tv_cases.proofs.Listed.{Contains-later}
 use Rattle.tv_sound.specs.Following.{Spot, offered, offered_at, chosen_at, after_case, entering, taking, going, onward, followed}
-use Rattle.tv_sound.proofs.Membership.{got_in}
-use Rattle.tv_sound.proofs.Entering.{Entered, joined_is, All-left, All-right, seen, wide_after}
+use Rattle.tv_sound.proofs.Entering.{Entered, joined_is, seen, wide_after}
 use Rattle.tv_sound.proofs.Choosing.{Taken, TakenInto, taken_into, Stepped, taken_step, stepped_in, drawn}
+use Rattle.tv_linear.proofs.ListLaws.{all_back, all_front, contains_at}
+use Rattle.tv_cases.proofs.SameSteps.{at_most-true}
 
-never : IsTrue false → ⊥
+pub never : IsTrue false → ⊥
 never h = cc
 
 run_pushed : {S : Type 0} (step : S → S → Type 0) (s : S) (ts : List S) (t : S) → IsRun step s ts → step (last_of s ts) t → IsRun step s (ts ++ t ∷ [])
@@ -56,9 +57,6 @@ record Led (n : ℕ) (cases : List LinearCase) (l : ℕ) (owed : LinearCase → 
   pub met : IsMetChoice n cases l false owed known leaf
   pub end : IsEnd leaf
 
-below : (z : ℤ) → int_le z (pos 0) ≡ true → z ≤ℤ pos 0
-below z h = grind (arith, ints)
-
 above : (z : ℤ) → int_le z (pos 0) ≡ false → (pos 1 -ℤ z) ≤ℤ pos 0
 above z h = grind (arith, ints)
 
@@ -67,7 +65,7 @@ by_truth P true yes_then no_then = yes_then refl
 by_truth P false yes_then no_then = no_then refl
 
 holds_there : (xs : List ℤ) (known : List Known) (r : Linear) → All (IsKnownMet xs) known → int_le (value r xs) (pos 0) ≡ true → All (IsKnownMet xs) (known ++ given r ∷ [])
-holds_there xs known r k e = All-push (IsKnownMet xs) known (given r) k (subst (λ z. z ≤ℤ pos 0) (sym (value-given xs r)) (below (value r xs) e))
+holds_there xs known r k e = All-push (IsKnownMet xs) known (given r) k (subst (λ z. z ≤ℤ pos 0) (sym (value-given xs r)) (at_most-true (value r xs) e))
 
 fails_there : (xs : List ℤ) (known : List Known) (r : Linear) → All (IsKnownMet xs) known → int_le (value r xs) (pos 0) ≡ false → All (IsKnownMet xs) (known ++ denied (given r) ∷ [])
 fails_there xs known r k e = All-push (IsKnownMet xs) known (denied (given r)) k (subst (λ z. z ≤ℤ pos 0) (sym (value-denied xs (given r) ∙ ap (λ z. pos 1 -ℤ z) (value-given xs r))) (above (value r xs) e))
@@ -170,18 +168,18 @@ module _ (about : About) (ps : List Marked) (proofs : List Proof) (number : ℕ)
     -- the piece q is entered over the case
     enters : (c : LinearCase) (k : ℕ) (draws : List Linear) (q : Marked) (rows : List Known) (j : ℕ) → (i : ℕ) → slice_get about.system.cases i ≡ Some c → (t : TakenInto n s.location (into about ps) s.values c draws k) → slice_get (pieces_at ps c.to) k ≡ Some q → Turns about all here (entering (slice_get (offered_at all c.to) k) (after_case n c draws s) here)
     enters c k draws q rows j i g t e =
-        let taken : Taken n about.system.cases s.location (into about ps) s.values = record { taken = c; among = got_in about.system.cases i c g; from = t.from; draws = draws; many = t.many; guards = t.guards; target = k; fall = t.fall; rows = t.rows; owes = t.owes; met = t.met } in
+        let taken : Taken n about.system.cases s.location (into about ps) s.values = record { taken = c; among = contains_at about.system.cases i c g; from = t.from; draws = draws; many = t.many; guards = t.guards; target = k; fall = t.fall; rows = t.rows; owes = t.owes; met = t.met } in
         let stepped = taken_step n about.system (into about ps) s wide taken in
         let o = first_got (offered_at all c.to) k q (ap (λ xs. slice_get xs k) (pieces_there c.to) ∙ e) in
         let owed : target_rows (drawn_change n c draws) no_fall (Some q) t.fall ≡ Some t.rows = subst (λ x. target_rows (drawn_change n c draws) no_fall x t.fall ≡ Some t.rows) e t.owes in
         let w = joined_is (map (drawn_change n c draws) (rows_of q)) (no_fall q t.fall) t.rows owed in
         let got = piece_got ps c.to k q e in
         let shown : All (IsKnownMet s.values) (map (drawn_change n c draws) (rows_of q) ++ w.0) = subst (All (IsKnownMet s.values)) (sym w.2) t.met in
-        let entered : Entered s.values ps c.to (drawn_change n c draws) no_fall = record { piece = q; among = got.1; place = got.0; rows = All-left (IsKnownMet s.values) (map (drawn_change n c draws) (rows_of q)) w.0 shown; number = t.fall; falls = w.0; fell = w.1; met = All-right (IsKnownMet s.values) (map (drawn_change n c draws) (rows_of q)) w.0 shown } in
+        let entered : Entered s.values ps c.to (drawn_change n c draws) no_fall = record { piece = q; among = got.1; place = got.0; rows = all_front (IsKnownMet s.values) (map (drawn_change n c draws) (rows_of q)) w.0 shown; number = t.fall; falls = w.0; fell = w.1; met = all_back (IsKnownMet s.values) (map (drawn_change n c draws) (rows_of q)) w.0 shown } in
         let same = next_is n about.system s c draws stepped in
         let inside = subst (InMarked q) same (stepped_in n about.system s c draws stepped wide ps no_fall entered) in
         let long = subst (λ x. length x.values ≡ n) same (wide_after n stepped.step.taken stepped.step.draws s stepped.next stepped.step.does wide) in
-        let turned : Turns about all here (record { piece = q; proof = o.0; state = after_case n c draws s }) = record { stands = record { among = among-filter (λ o. place_of o.0 == c.to) all (q, o.0) (got_in (offered_at all c.to) k (q, o.0) o.1); inside = inside; wide = long }; step = subst (CaseSteps about.system s) same stepped.step } in
+        let turned : Turns about all here (record { piece = q; proof = o.0; state = after_case n c draws s }) = record { stands = record { among = among-filter (λ o. place_of o.0 == c.to) all (q, o.0) (contains_at (offered_at all c.to) k (q, o.0) o.1); inside = inside; wide = long }; step = subst (CaseSteps about.system s) same stepped.step } in
         subst (λ x. Turns about all here (entering x (after_case n c draws s) here)) (sym o.1) turned
 
     by_target : (c : LinearCase) (k : ℕ) (draws : List Linear) (i : ℕ) → slice_get about.system.cases i ≡ Some c → (t : TakenInto n s.location (into about ps) s.values c draws k) → (q : Option Marked) → slice_get (pieces_at ps c.to) k ≡ q → Turns about all here (entering (slice_get (offered_at all c.to) k) (after_case n c draws s) here)

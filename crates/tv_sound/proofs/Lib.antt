@@ -6,7 +6,7 @@ mod Choosing
 mod Offered
 mod Regions
 pub mod NodesSound
-mod Following
+pub mod Following
 pub mod Soundness
 mod Claimed
 mod Ending

@@ -1,13 +1,9 @@
 -- What a list contains, by what it was made from.
-use Rattle.std.proofs.Common.{◌≡◌, ℕ, zero, suc, List, [], ◌∷◌, Bool, true, false, arith, sym, ap, subst, cond, ◌∙◌, slice_get, Some}
+use Rattle.std.proofs.Common.{◌≡◌, zero, suc, List, [], ◌∷◌, Bool, true, false, arith, sym, ap, subst, cond, ◌∙◌}
 use Rattle.std.specs.Prelude.{Contains}
 use Rattle.std.specs.List.{filter, flat_map, AllZip}
-use Rattle.std.proofs.lemmas.Option.{slice_get_within, get_or_from_slice_get}
 use Rattle.std.proofs.lemmas.List.Elements.{Contains-append_left, Contains-append_right}
 use Rattle.tv_cases.proofs.Listed.{Contains-here, Contains-later}
-
-pub got_in : {X : Type 0} (xs : List X) (k : ℕ) (x : X) → slice_get xs k ≡ Some x → Contains xs x
-got_in xs k x e = (k, slice_get_within xs k x e, get_or_from_slice_get xs k x x e)
 
 pub zip_some : {A B : Type 0} (R : A → B → Type 0) (xs : List A) (ys : List B) (x : A) → AllZip R xs ys → Contains xs x → (y : B) × R x y
 zip_some R [] ys x h c = absurd (omega arith)

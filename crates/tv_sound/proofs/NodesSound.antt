@@ -1,5 +1,5 @@
 -- Where the obligations of a node and of those below it are met, its formula holds at every state of its pieces.
-use Rattle.std.proofs.Common.{◌≡◌, ℕ, zero, suc, ◌+◌, ◌⊎◌, inl, inr, List, [], ◌∷◌, ◌++◌, length, Option, Bool, true, false, not, IsTrue, All, arith, refl, sym, subst, ℤ, ◌==◌, ◌∙◌}
+use Rattle.std.proofs.Common.{◌≡◌, ℕ, ◌+◌, inl, inr, List, [], ◌∷◌, ◌++◌, length, Option, Bool, true, false, not, IsTrue, All, arith, refl, sym, subst, ℤ, ◌==◌, ◌∙◌}
 use Rattle.std.specs.Prelude.{Contains}
 use Rattle.std.specs.List.{flat_map}
 use Rattle.tv_linear.specs.Linear.{Linear}
@@ -33,6 +33,7 @@ use Rattle.tv_sound.proofs.Shown.{AllStepsCovered, HasChoice}
 use Rattle.tv_sound.proofs.Entering.{piece_covered}
 use Rattle.tv_sound.proofs.Regions.{Placed, lands, onward, term_sound, noterm_sound, weak_every_sound, until_every_sound, until_any_sound, weak_any_sound}
 use Rattle.tv_sound.proofs.Offered.{has_cover, has_atom, has_steps, has_choice, atom_meets}
+use Rattle.std.proofs.lemmas.List.Elements.{Contains-append_cases}
 
 -- the lists of rows of each comparison show it
 pub record TestsShow (about : About) : Type 0 where
@@ -61,17 +62,12 @@ placed : (n : ℕ) (ps : List Marked) (s : State) → length s.values ≡ n → 
 placed n ps s wide h = record { piece = h.piece; among = h.among; inside = h.inside; wide = wide }
 
 -- ---- joined regions
-split_among : {X : Type 0} (xs ys : List X) (x : X) → Contains (xs ++ ys) x → Contains xs x ⊎ Contains ys x
-split_among [] ys x h = inr h
-split_among (a ∷ xs) ys x (zero, l, e) = inl (zero, omega arith, e)
-split_among (a ∷ xs) ys x (suc k, l, e) = elim (split_among xs ys x (k, omega arith, e)) [ inl h ↦ inl (Contains-later a x xs h) | inr h ↦ inr h ]
-
 some_part : (about : About) (fs : Properties) (kids : List (List Marked)) (s : State) → KidsSound about fs kids → length s.values ≡ about.system.variables → (q : Marked) → Contains (flat_map (λ a. a) kids) q → InMarked q s → SomeHolds (CaseSteps about.system) fs s
 some_part about none [] s h wide q c inside = absurd (omega arith)
 some_part about none (a ∷ kids) s h wide q c inside = absurd h
 some_part about (more f fs) [] s h wide q c inside = absurd h
 some_part about (more f fs) (a ∷ kids) s h wide q c inside =
-    elim (split_among a (flat_map (λ a. a) kids) q c) [
+    elim (Contains-append_cases a (flat_map (λ a. a) kids) q c) [
       | inl here ↦ inl (h.0 s wide (record { piece = q; among = here; inside = inside }))
       | inr there ↦ inr (some_part about fs kids s h.1 wide q there inside)
     ]

@@ -9,7 +9,7 @@ use Rattle.tv_linear.specs.Linear.{Linear}
 use Rattle.tv_linear.specs.Known.{Known, IsKnownMet, as_given}
 use Rattle.tv_linear.specs.Covers.{IsMetCover}
 use Rattle.tv_linear.proofs.Covered.{covered}
-use Rattle.tv_linear.proofs.ListLaws.{test_true}
+use Rattle.tv_linear.proofs.ListLaws.{test_true, contains_at}
 use Rattle.tv_program.specs.Steps.{State}
 use Rattle.tv_cases.specs.LinearCases.{LinearCase, leaving}
 use Rattle.tv_cert.specs.declared.node.Kind.{Kind}
@@ -22,7 +22,7 @@ use Rattle.tv_cert.specs.Choices.{IsMetChoice, ChoiceFits}
 use Rattle.tv_cert.specs.Obligations.{About, a_cover, a_choice, Obligation, OwedMet, AllMet, cover_of, atom_of, step_of, steps_of, choice_of, paired}
 use Rattle.tv_cert.specs.Fits.{ProofFits}
 use Rattle.tv_cases.proofs.Listed.{Contains-here, Contains-later, Contains-map}
-use Rattle.tv_sound.proofs.Membership.{Contains-filter, Contains-flat_map, got_in}
+use Rattle.tv_sound.proofs.Membership.{Contains-filter, Contains-flat_map}
 use Rattle.tv_sound.proofs.Shown.{PieceCovered, AtomCovered, AllStepsCovered, HasChoice}
 use Rattle.tv_sound.proofs.Entering.{seen}
 
@@ -86,7 +86,7 @@ target_is targets k None rows e h = absurd (no_row rows h)
   where
     no_row : (rows : List Known) → ◌≡◌ {A = Option (List Known)} None (Some rows) → ⊥
     no_row rows h = cc
-target_is targets k (Some lines) rows e h = (lines, got_in targets k lines e, row_is (as_given lines) rows h)
+target_is targets k (Some lines) rows e h = (lines, contains_at targets k lines e, row_is (as_given lines) rows h)
   where
     row_is : (p q : List Known) → ◌≡◌ {A = Option (List Known)} (Some p) (Some q) → p ≡ q
     row_is p q e = cc

@@ -21,6 +21,7 @@ use Rattle.tv_sound.proofs.Shown.{AllStepsCovered, HasChoice}
 use Rattle.tv_sound.proofs.Entering.{Entered, entered_at, seen, step_entered, inside_after, wide_after, fall_at, falls_moved, ranks_before, ranks_now, by_goes, met-longer}
 use Rattle.tv_sound.proofs.Choosing.{Taken, Stopped, chosen_or_stopped, taken_step, stepped_in, ranks_chosen}
 use Rattle.tv_sound.proofs.RankLemmas.{falls_end}
+use Rattle.tv_sound.proofs.Following.{never}
 
 -- a state in a piece of the list
 pub record Placed (n : ℕ) (ps : List Marked) (s : State) : Type 0 where
@@ -49,9 +50,6 @@ pub record Onward (system : CaseSystem) (P : State → Type 0) (s : State) : Typ
   pub next : State
   pub step : CaseSteps system s next
   pub into : P next
-
-never : IsTrue false → ⊥
-never h = cc
 
 -- the ranks are as many before as after
 as_many : (n m : ℕ) (p q : Marked) (change : Linear → Known) → PieceFits n m p → PieceFits n m q → goes p ≡ true → goes q ≡ true → length (map change (ranks_of q)) ≡ length (as_given (ranks_of p))

@@ -1,6 +1,6 @@
 -- Words at the front of a text.
 use Rattle.std.proofs.Common.{◌≡◌, ℕ, suc, ◌+◌, ◌-◌, ◌*◌, ◌<◌, ◌^◌, Bool, true, false, cond, List, [], ◌∷◌, ◌++◌, length, take, drop, None, refl, ap, ◌∙◌, arith, rules}
-use Rattle.std.specs.Prelude.{slice_index, ◌&&◌, ◌==◌, nat_le, fold}
+use Rattle.std.specs.Prelude.{slice_index, ◌==◌, nat_le, fold}
 use Rattle.std.specs.List.{prefix_len, list_all}
 use Rattle.std.specs.Char.{is_ascii_digit}
 use Rattle.std.specs.Fmt.{decimal}
@@ -16,6 +16,7 @@ use Rattle.tv_language.specs.WordTexts.{begins_name, continues_name, word_kind}
 use Rattle.tv_language.specs.Fronts.{front_of, solid_front, word_front, number_front}
 use Rattle.tv_spelling.specs.ReadAgain.{IsName}
 use Rattle.tv_spelling.proofs.Pieces.{taken}
+use Rattle.std.proofs.lemmas.Bool.{and_parts}
 
 -- ---- the bytes that pass a test, up to the first that does not
 
@@ -23,14 +24,10 @@ passed_by : (p : ℕ → Bool) (x : List ℕ) → p (slice_index x 0) ≡ false 
 passed_by p [] h = refl
 passed_by p (b ∷ x) h = ap (λ (t : Bool). cond t (1 + prefix_len p x) 0) h
 
-both : (a b : Bool) → (a && b) ≡ true → (a ≡ true) × (b ≡ true)
-both true b h = (refl, h)
-both false b h = absurd cc
-
 pub passed : (p : ℕ → Bool) (w x : List ℕ) → list_all p w ≡ true → p (slice_index x 0) ≡ false → prefix_len p (w ++ x) ≡ length w
 passed p [] x h s = passed_by p x s
 passed p (b ∷ w) x h s =
-    let t = both (p b) (list_all p w) h in
+    let t = and_parts (p b) (list_all p w) h in
     ap (λ (u : Bool). cond u (1 + prefix_len p (w ++ x)) 0) t.0 ∙ (let again = passed p w x t.1 s in omega arith)
 
 -- ---- no blank and no comment
@@ -70,7 +67,7 @@ word_at_front kind bare b w x begins goes is stops =
 
 pub name_front : (w x : List ℕ) → IsName w → continues_name (slice_index x 0) ≡ false → front_of (w ++ x) ≡ fronts.Token Name (length w)
 name_front [] x h stops = absurd (let k = h.begins in cc)
-name_front (b ∷ w) x h stops = word_at_front Name (λ n rest. refl) b w x h.begins (both (continues_name b) (list_all continues_name w) h.continues).1 h.free stops
+name_front (b ∷ w) x h stops = word_at_front Name (λ n rest. refl) b w x h.begins (and_parts (continues_name b) (list_all continues_name w) h.continues).1 h.free stops
 
 -- ---- a number
 
@@ -89,7 +86,7 @@ narrow_front len ds h = let t : nat_le (2 ^ 62) (value_of_digits ds) ≡ false =
 digits_front : (d : ℕ) (ds x : List ℕ) → list_all is_ascii_digit (d ∷ ds) ≡ true → value_of_digits (d ∷ ds) < 2 ^ 62 → continues_name (slice_index x 0) ≡ false
     → solid_front d (ds ++ x) ≡ fronts.Token Number (length (d ∷ ds))
 digits_front d ds x digits narrow stops =
-    let first = both (is_ascii_digit d) (list_all is_ascii_digit ds) digits in
+    let first = and_parts (is_ascii_digit d) (list_all is_ascii_digit ds) digits in
     let one : 1 + length ds ≡ suc (length ds) = omega arith in
     rw (digit_begins_no_name d first.0, first.0, passed is_ascii_digit ds x first.1 (digit_continues (slice_index x 0) stops), one, taken ds x)
     (narrow_front (suc (length ds)) (d ∷ ds) narrow)
@@ -99,6 +96,6 @@ pub number_front_is : (ds x : List ℕ) → 0 < length ds → list_all is_ascii_
 unfolding front_of
 number_front_is [] x some digits narrow stops = absurd (omega arith)
 number_front_is (d ∷ ds) x some digits narrow stops =
-    let first = both (is_ascii_digit d) (list_all is_ascii_digit ds) digits in
+    let first = and_parts (is_ascii_digit d) (list_all is_ascii_digit ds) digits in
     let gap = digit_is_no_gap d first.0 in
     rw (no_gap d (ds ++ x) gap.0 gap.1) (digits_front d ds x digits narrow stops)

@@ -64,7 +64,7 @@ laid_tokens at (blank ∷ bs) h = gap 1 refl (laid_tokens (at + 1) bs h)
 laid_tokens at (line_feed ∷ bs) h = gap 1 refl (laid_tokens (at + 1) bs h)
 laid_tokens at (word kind w ∷ bs) h = solid kind (length w) h.0 (rw (dropped w (bytes bs)) (laid_tokens (at + length w) bs h.1))
 
-further : (text w x : List ℕ) (at : ℕ) → drop at text ≡ w ++ x → drop (at + length w) text ≡ x
+pub further : (text w x : List ℕ) (at : ℕ) → drop at text ≡ w ++ x → drop (at + length w) text ≡ x
 further text w x at h = sym (drop-drop (length w) at text) ∙ ap (drop (length w)) h ∙ dropped w x
 
 pub laid_symbols : (v : Vocabulary) (text : List ℕ) (behind_colon : Bool) (draws at : ℕ) (bs : List Piece) → drop at text ≡ bytes bs

@@ -10,9 +10,10 @@ use Rattle.tv_language.specs.Symbols as symbols
 use Rattle.tv_language.specs.Symbols.{Symbol, number, name, label, drawn, fixed, lexeme, lexemes, Vocabulary, numbered, symbol_by, is_colon, symbols_from}
 use Rattle.tv_language.proofs.PlaceOfWords.{found}
 use Rattle.tv_reading.specs.Marks.{Mark, plain, symbol_of, symbols_of, is_formula_word, new_name, known_name, number_mark, mark_by, names_behind, draws_behind, marks_from}
-use Rattle.tv_reading.proofs.LinearLemmas.{and_left, and_right, and_both}
+use Rattle.tv_reading.proofs.LinearLemmas.{and_left, and_right}
 use Rattle.tv_reading.proofs.SymbolLemmas.{body_kind, all_body, all_sound, draws_at_all}
 use Rattle.tv_spelling.proofs.Mentioned.{variables_in}
+use Rattle.std.proofs.lemmas.Bool.{and_from, not-true}
 
 -- ---- symbols that are marks
 
@@ -44,11 +45,11 @@ settled_kind grows words kind h = refl
 -- symbols of a sum or a condition without draws, and the end of the text
 pub settled_before_end : (grows : Bool) (words : List Word) (d : ℕ) (ss : List Symbol) → all_body ss ≡ true → draws_at_all ss ≡ 0 → all_sound d ss ≡ true → AreFree grows words (variables_in (ss ++ fixed kinds.End ∷ [])) → all_settled grows words (ss ++ fixed kinds.End ∷ []) ≡ true
 settled_before_end grows words d [] b n w f = refl
-settled_before_end grows words d (number k ∷ ss) b n w f = and_both _ _ (and_left _ _ w) (settled_before_end grows words d ss b (omega (arith, n)) (and_right _ _ w) f)
-settled_before_end grows words d (name v ∷ ss) b n w f = and_both _ _ f.0 (settled_before_end grows words d ss b (omega (arith, n)) w f.1)
+settled_before_end grows words d (number k ∷ ss) b n w f = and_from _ _ (and_left _ _ w) (settled_before_end grows words d ss b (omega (arith, n)) (and_right _ _ w) f)
+settled_before_end grows words d (name v ∷ ss) b n w f = and_from _ _ f.0 (settled_before_end grows words d ss b (omega (arith, n)) w f.1)
 settled_before_end grows words d (label l ∷ ss) b n w f = cc
 settled_before_end grows words d (drawn k ∷ ss) b n w f = absurd (omega (arith, n))
-settled_before_end grows words d (fixed kind ∷ ss) b n w f = and_both (settled grows words (fixed kind)) (all_settled grows words (ss ++ fixed kinds.End ∷ [])) (settled_kind grows words kind (and_left (body_kind kind) (all_body ss) b)) (settled_before_end grows words d ss (and_right (body_kind kind) (all_body ss) b) (omega (arith, n)) w f)
+settled_before_end grows words d (fixed kind ∷ ss) b n w f = and_from (settled grows words (fixed kind)) (all_settled grows words (ss ++ fixed kinds.End ∷ [])) (settled_kind grows words kind (and_left (body_kind kind) (all_body ss) b)) (settled_before_end grows words d ss (and_right (body_kind kind) (all_body ss) b) (omega (arith, n)) w f)
 
 -- ---- the mark of one token
 
@@ -64,10 +65,6 @@ either_same : (b : Bool) (xs ys : List Word) → xs ≡ ys → cond b xs ys ≡ 
 either_same true xs ys e = e
 either_same false xs ys e = refl
 
-pub not_true : (b : Bool) → not b ≡ true → b ≡ false
-not_true false e = refl
-not_true true e = cc
-
 name_is : (grows : Bool) (words : List Word) (draws : ℕ) (w : Word) (o : Option ℕ) → number_of w words ≡ o → settled grows words (numbered name o) ≡ true → IsMark grows words draws kinds.Name w (numbered name o)
 name_is grows words draws w None e h = absurd cc
 name_is true words draws w (Some k) e h = record {
@@ -76,7 +73,7 @@ name_is true words draws w (Some k) e h = record {
   no_colon = refl;
 }
 name_is false words draws w (Some k) e h = record {
-  mark = ap (known_name (is_formula_word w)) e ∙ ap (λ (b : Bool). known_name b (Some k)) (ap is_formula_word (sym (found w words k e)) ∙ not_true (is_formula_word (slice_index_or words k [])) h);
+  mark = ap (known_name (is_formula_word w)) e ∙ ap (λ (b : Bool). known_name b (Some k)) (ap is_formula_word (sym (found w words k e)) ∙ not-true (is_formula_word (slice_index_or words k [])) h);
   names = refl;
   no_colon = refl;
 }
@@ -146,12 +143,12 @@ unfolding marks_from
 marks_quiet text words draws [] = refl
 marks_quiet text words draws (t ∷ ts) =
     let w : Word = (lexeme text t).word in
-    and_both _ _ (mark_quiet words draws t.kind w)
+    and_from _ _ (mark_quiet words draws t.kind w)
     (ap (λ (ns : List Word). all_quiet words (symbols_of (marks_from text false ns (draws_behind t.kind draws) ts))) (names_stay t.kind w words) ∙ marks_quiet text words (draws_behind t.kind draws) ts)
 
 pub quiet_front : (words : List Word) (a b : List Symbol) → all_quiet words (a ++ b) ≡ true → all_quiet words a ≡ true
 quiet_front words [] b h = refl
-quiet_front words (s ∷ a) b h = and_both _ _ (and_left _ _ h) (quiet_front words a b (and_right _ _ h))
+quiet_front words (s ∷ a) b h = and_from _ _ (and_left _ _ h) (quiet_front words a b (and_right _ _ h))
 
 pub quiet_free : (words : List Word) (ss : List Symbol) → all_quiet words ss ≡ true → AreFree false words (variables_in ss)
 quiet_free words [] h = tt

@@ -9,6 +9,7 @@ use Rattle.tv_language.specs.Sums.{gathered, IsFactor, constant, bracketed, nega
 use Rattle.tv_language.specs.Sums as grammar
 use Rattle.tv_spelling.specs.Sums.{is_sum, is_product}
 use Rattle.tv_spelling.proofs.SumLevels.{bracket_levels, sum_levels, further_levels, factors_levels, part_levels, factor_levels, is_regular, are_regular}
+use Rattle.std.proofs.lemmas.Bool.{and_from}
 
 pub bracket_most : (b : Bool) (k m : ℕ) → k ≤ m → bracket_levels b k ≤ suc m
 bracket_most true k m h = omega arith
@@ -30,10 +31,6 @@ further_fewer : (e : Expression) (es : Expressions) (n : ℕ) → part_levels e 
 further_fewer (minus e) es n h k = let f : part_levels e ≤ n = part_fewer e n (omega arith) in omega arith
 further_fewer e es n h k = omega arith
 
-pub both_true : (a b : Bool) → a ≡ true → b ≡ true → (a && b) ≡ true
-both_true true b h k = k
-both_true false b h k = absurd cc
-
 -- regular, and of so many levels at most
 abbrev pub IsLeast : Bool → ℕ → ℕ → Type 0
 IsLeast regular levels n = (regular ≡ true) × (levels ≤ n)
@@ -42,7 +39,7 @@ one_product : (e : Expression) (es : List Expression) (n : ℕ) → IsLeast (is_
     → IsLeast (is_regular (gathered product (e ∷ es))) (part_levels (gathered product (e ∷ es))) n
 one_product e [] n h k l = (h.0, part_fewer e n h.1)
 one_product e (f ∷ es) n h k l = (
-  both_true (is_linear_product (parts_of (e ∷ f ∷ es))) (is_regular e && are_regular (parts_of (f ∷ es))) l (both_true (is_regular e) (are_regular (parts_of (f ∷ es))) h.0 k.0),
+  and_from (is_linear_product (parts_of (e ∷ f ∷ es))) (is_regular e && are_regular (parts_of (f ∷ es))) l (and_from (is_regular e) (are_regular (parts_of (f ∷ es))) h.0 k.0),
   let a : factor_levels e ≤ n = h.1 in let b : factors_levels (parts_of (f ∷ es)) ≤ n = k.1 in omega arith,
 )
 
@@ -50,7 +47,7 @@ one_sum : (e : Expression) (es : List Expression) (n : ℕ) → IsLeast (is_regu
     → IsLeast (is_regular (gathered sum (e ∷ es))) (sum_levels (gathered sum (e ∷ es))) n
 one_sum e [] n h k = (h.0, bracket_least (is_sum e) (sum_levels e) n h.1)
 one_sum e (f ∷ es) n h k = (
-  both_true (is_regular e) (are_regular (parts_of (f ∷ es))) h.0 k.0,
+  and_from (is_regular e) (are_regular (parts_of (f ∷ es))) h.0 k.0,
   let a : part_levels e ≤ n = h.1 in let b : further_levels (parts_of (f ∷ es)) ≤ n = k.1 in omega arith,
 )
 
@@ -66,7 +63,7 @@ mutual
   factors_least n es ts rest no_factor = (refl, omega arith)
   factors_least n es ts rest (times {e = e} {es = others} d ds) =
       let h = factor_least n e _ _ d in let k = factors_least n others _ _ ds in
-      (both_true (is_regular e) (are_regular (parts_of others)) h.0 k.0, let a : factor_levels e ≤ n = h.1 in let b : factors_levels (parts_of others) ≤ n = k.1 in omega arith)
+      (and_from (is_regular e) (are_regular (parts_of others)) h.0 k.0, let a : factor_levels e ≤ n = h.1 in let b : factors_levels (parts_of others) ≤ n = k.1 in omega arith)
 
   pub product_least : (n : ℕ) (e : Expression) (ts rest : List Symbol) → IsProduct n e ts rest → IsLeast (is_regular e) (part_levels e) n
   product_least n e ts rest (factors {e = first} {es = others} d ds l) = one_product first others n (factor_least n first _ _ d) (factors_least n others _ _ ds) l
@@ -75,10 +72,10 @@ mutual
   products_least n es ts rest no_product = (refl, omega arith)
   products_least n es ts rest (plus {e = e} {es = others} d ds) =
       let h = product_least n e _ _ d in let k = products_least n others _ _ ds in
-      (both_true (is_regular e) (are_regular (parts_of others)) h.0 k.0, further_fewer e (parts_of others) n h.1 k.1)
+      (and_from (is_regular e) (are_regular (parts_of others)) h.0 k.0, further_fewer e (parts_of others) n h.1 k.1)
   products_least n es ts rest (less {e = e} {es = others} d ds) =
       let h = product_least n e _ _ d in let k = products_least n others _ _ ds in
-      (both_true (is_regular e) (are_regular (parts_of others)) h.0 k.0, let a : part_levels e ≤ n = h.1 in let b : further_levels (parts_of others) ≤ n = k.1 in omega arith)
+      (and_from (is_regular e) (are_regular (parts_of others)) h.0 k.0, let a : part_levels e ≤ n = h.1 in let b : further_levels (parts_of others) ≤ n = k.1 in omega arith)
 
   pub sum_least : (n : ℕ) (e : Expression) (ts rest : List Symbol) → IsSum n e ts rest → IsLeast (is_regular e) (sum_levels e) n
   sum_least n e ts rest (products {e = first} {es = others} d ds) = one_sum first others n (product_least n first _ _ d) (products_least n others _ _ ds)

@@ -3,23 +3,7 @@ use Rattle.std.specs.Prelude.{Option, None, Some}
 use Rattle.std.specs.Io.KnownBytes.{Consumes, Appends}
 use Rattle.std.proofs.lemmas.List.{take_at, drop-drop, take-append-drop}
 use Rattle.std.proofs.Math.Seq.{take-add}
-use Rattle.tv_text.specs.Stream.{Seen, Gave, GaveSome, Took, count_passed}
-
--- one read after others
-consumes_more : (o p q : Option (List ℕ)) (xs ys : List ℕ) → Consumes o p xs → Consumes p q ys → Consumes o q (xs ++ ys)
-consumes_more None p q xs ys first then = tt
-consumes_more (Some os) None q xs ys first then = absurd first
-consumes_more (Some os) (Some ps) None xs ys first then = absurd then
-consumes_more (Some os) (Some ps) (Some qs) xs ys first then = first ∙ ap (λ (zs : List ℕ). xs ++ zs) then ∙ sym (append_assoc xs ys qs)
-
-pub gave_more : (o p q : Seen) (xs ys : List ℕ) → Gave o p xs → Gave p q ys → Gave o q (xs ++ ys)
-gave_more o p q xs ys first then = record {
-  told = then.told ∙ ap (λ (zs : List ℕ). zs ++ ys) first.told ∙ append_assoc o.told xs ys;
-  lost = consumes_more o.known p.known q.known xs ys first.lost then.lost;
-}
-
-pub gave_some : (o p q : Seen) (xs ys : List ℕ) → Gave o p xs → Gave p q ys → GaveSome o q
-gave_some o p q xs ys first then = record { bytes = xs ++ ys; gave = gave_more o p q xs ys first then }
+use Rattle.tv_text.specs.Stream.{Seen, Gave, Took, count_passed}
 
 -- nothing came yet
 consumes_nothing : (o : Option (List ℕ)) → Consumes o o []

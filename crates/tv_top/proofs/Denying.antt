@@ -1,36 +1,10 @@
 -- The negation of a normal form is that of the property.
-use Rattle.std.proofs.Common.{◌≡◌, true, false, refl, ap, sym, ◌∙◌}
-use Rattle.std.specs.Prelude.{Bool, not}
-use Rattle.tv_program.specs.declared.tree.Relation.{Relation}
-use Rattle.tv_program.specs.declared.tree.Relation.TheVariants.{Less, LessEqual, Greater, GreaterEqual, Equal, NotEqual}
-use Rattle.tv_formula.specs.declared.tree.Path.{Path}
-use Rattle.tv_formula.specs.declared.tree.Path.TheVariants.{Every, Any}
-use Rattle.tv_formula.specs.declared.tree.Shape.{Shape}
-use Rattle.tv_formula.specs.declared.tree.Shape.TheVariants.{Until, Weak, Release, Strong}
+use Rattle.std.proofs.Common.{◌≡◌, refl, ap}
+use Rattle.std.specs.Prelude.{not}
 use Rattle.tv_formula.specs.Properties.{Property, truth, compare, at, term, negated, all_of, some_of, next, fix, Properties, none, more}
-use Rattle.tv_formula.specs.Normal.{opposite, other_path, other_shape, negation, normal, negations, normals}
-
-not_twice : (b : Bool) → not (not b) ≡ b
-not_twice true = refl
-not_twice false = refl
-
-opposite_twice : (r : Relation) → opposite (opposite r) ≡ r
-opposite_twice Less = refl
-opposite_twice LessEqual = refl
-opposite_twice Greater = refl
-opposite_twice GreaterEqual = refl
-opposite_twice Equal = refl
-opposite_twice NotEqual = refl
-
-path_twice : (p : Path) → other_path (other_path p) ≡ p
-path_twice Every = refl
-path_twice Any = refl
-
-shape_twice : (s : Shape) → other_shape (other_shape s) ≡ s
-shape_twice Until = refl
-shape_twice Weak = refl
-shape_twice Release = refl
-shape_twice Strong = refl
+use Rattle.tv_formula.specs.Normal.{other_path, other_shape, negation, normal, negations, normals}
+use Rattle.std.proofs.Math.Bool.{not-not}
+use Rattle.tv_pre.proofs.NegationLemmas.{opposite_twice, path_twice, shape_twice}
 
 mutual
   pub negation_of_normal : (f : Property) → negation (normal f) ≡ negation f
@@ -45,7 +19,7 @@ mutual
   negation_of_normal (fix p s f g) = λ i. fix (other_path p) (other_shape s) (negation_of_normal f i) (negation_of_normal g i)
 
   pub negation_twice : (f : Property) → negation (negation f) ≡ normal f
-  negation_twice (truth b) = ap truth (not_twice b)
+  negation_twice (truth b) = ap truth (not-not b)
   negation_twice (compare r a b) = ap (λ q. compare q a b) (opposite_twice r)
   negation_twice (at l) = refl
   negation_twice term = refl
@@ -62,7 +36,3 @@ mutual
   negations_twice : (fs : Properties) → negations (negations fs) ≡ normals fs
   negations_twice none = refl
   negations_twice (more f fs) = λ i. more (negation_twice f i) (negations_twice fs i)
-
--- what is denied goes by the normal form alone
-pub denied_by : (f n : Property) → normal f ≡ n → negation f ≡ negation n
-denied_by f n e = sym (negation_of_normal f) ∙ ap negation e

@@ -41,7 +41,6 @@ use Rattle.tv_points.specs.declared.fault.PointFault.{PointFault}
 use Rattle.tv_points.specs.declared.fault.PointFault.TheVariants as points
 use Rattle.tv_reaching.specs.FoundRuns.{IsAlong, IsFoundRun, IsRunFault, lists_of}
 use Rattle.tv_reaching.specs.declared.found.Found.{Found}
-use Rattle.tv_recur.proofs.PointLemmas.{short_within}
 use Rattle.tv_search.specs.Runs as searched
 use Rattle.tv_invariant.proofs.PieceLemmas.{in_rows}
 use Rattle.tv_linear.specs.Linear.{columns, IsMet, IsWithin}
@@ -64,6 +63,7 @@ use Rattle.tv_top.specs.Searching.{AnswersRegion, AnswersRefusal, AnswersLeft, A
 use Rattle.tv_top.specs.Answers.{ended, uncovered, unknown, too_wide}
 use Rattle.tv_top.specs.Tasks.{Wanted, Task}
 use Rattle.tv_top.specs.Finding.{Offers, Finds, Settles, TellsClaim, SaysVerdict, IsTextOf, IsOpenEnd, IsEndFault, alone, round, found, IsSearchFault, IsWeakAt, AreTooManyAt, KeepsFrom, of_ends, of_safety, of_formula, budget_of, IsOther, IsUnprovedOf, AreTooMany, AreTooManyPieces}
+use Rattle.tv_farkas.proofs.StretchLemmas.{short_all}
 
 met_there : (before after : List Entry) (e : Entry) → AllMet (before ++ e ∷ after) → (P : Type 0) → (AllMet (e ∷ after) → P) → P
 met_there [] after e h P f = f h
@@ -316,7 +316,7 @@ all_parts P (ds ∷ lists) h = All-cons (All P) ds lists (all_front P ds (search
 -- a run that the search gives is a run to the location
 pub is_found : (about : CaseSystem) (run : Found) → IsReached about run.location run.path.now run.values.now (lists_of run.draws.now) → IsFoundRun about run
 is_found about run h =
-    let all = short_within (run.values.now ++ searched.joined (lists_of run.draws.now)) h.short in
+    let all = short_all (run.values.now ++ searched.joined (lists_of run.draws.now)) h.short in
     record {
       run = h.run;
       along = along_of about run.path.now h.path (lists_of run.draws.now) (searched.initial about run.values.now) h.run h.numbered h.along;

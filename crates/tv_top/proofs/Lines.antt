@@ -1,20 +1,16 @@
 use Rattle.std.proofs.Common.{◌≡◌, ℕ, ◌+◌, ◌≤◌, List, [], ◌∷◌, ◌++◌, length, drop, ℤ, Some, refl, sym, ap, arith, append_assoc, ◌∙◌}
 use Rattle.std.specs.Prelude.{Result, Ok, Err, OnOk}
 use Rattle.std.specs.List.{slice_get}
-use Rattle.std.proofs.lemmas.List.{drop_more, drop_all}
-use Rattle.std.proofs.lemmas.Option.{slice_get_within, get_or_from_slice_get}
+use Rattle.std.proofs.lemmas.List.{drop_all}
 use Rattle.tv_program.specs.Words.{Word}
 use Rattle.tv_top.specs.Answers.{value_line, value_lines}
-
--- a list from one of its elements on
-from_here : {X : Type 0} (xs : List X) (i : ℕ) (x : X) → slice_get xs i ≡ Some x → drop i xs ≡ x ∷ drop (i + 1) xs
-from_here xs i x e = drop_more xs i x (slice_get_within xs i x e) ∙ ap (λ y. y ∷ drop (i + 1) xs) (get_or_from_slice_get xs i x x e)
+use Rattle.tv_cases.proofs.LeavingLemmas.{first_left}
 
 -- the lines from the variable with this number on begin with its line
 pub next_line : (names : List Word) (values : List ℤ) (n : ℕ) (w : Word) (v : ℤ) → slice_get names n ≡ Some w → slice_get values n ≡ Some v
     → value_lines (drop n names) (drop n values) ≡ value_line w v ++ value_lines (drop (n + 1) names) (drop (n + 1) values)
 next_line names values n w v e h =
-    ap (λ ns. value_lines ns (drop n values)) (from_here names n w e) ∙ ap (λ vs. value_lines (w ∷ drop (n + 1) names) vs) (from_here values n v h)
+    ap (λ ns. value_lines ns (drop n values)) (first_left names n w e) ∙ ap (λ vs. value_lines (w ∷ drop (n + 1) names) vs) (first_left values n v h)
 
 no_values : (names : List Word) → value_lines names [] ≡ []
 no_values [] = refl

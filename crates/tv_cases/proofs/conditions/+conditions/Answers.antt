@@ -5,8 +5,8 @@ use Rattle.tv_cases.specs.Given.{lists}
 use Rattle.tv_cases.specs.Linearity.{condition_is_linear, conditions_are_linear}
 use Rattle.tv_cases.specs.Lists.{paired, pairs, joined, conditions_are_narrow}
 use Rattle.tv_cases.proofs.CodeForms.{conditions-next}
-use Rattle.tv_cases.proofs.Listed.{both_true}
 use Rattle.tv_cases.proofs.conditions.+conditions.Goals as goal
+use Rattle.std.proofs.lemmas.Bool.{and_parts}
 
 pub paired-loop-part-preserved : goal.paired-loop-part-preserved
 paired-loop-part-preserved t c =
@@ -23,7 +23,7 @@ paired-loop-part-preserved t c =
           ∙ ap (λ ls. paired n w terms wanted (pairs so_far ls) rest) (sym c.in-Ok.ensures.1)
           ∙ ap (λ ls. paired n w terms wanted ls rest) (sym c.in_ok-so_far-2.ensures);
       narrow = before.narrow ∙ ap (conditions_are_narrow n w terms wanted) next ∙ ap (λ b. b && conditions_are_narrow n w terms wanted rest) c.in-Ok.ensures.0;
-      linear = (both_true (condition_is_linear (condition c.part-item.result)) (conditions_are_linear rest) (ap conditions_are_linear (sym next) ∙ before.linear)).1;
+      linear = (and_parts (condition_is_linear (condition c.part-item.result)) (conditions_are_linear rest) (ap conditions_are_linear (sym next) ∙ before.linear)).1;
     }
 
 pub joined-loop-part-preserved : goal.joined-loop-part-preserved
@@ -41,5 +41,5 @@ joined-loop-part-preserved t c =
           ∙ ap (λ ls. joined n w terms wanted (so_far ++ ls) rest) (sym c.in-Ok.ensures.1)
           ∙ ap (λ ls. joined n w terms wanted ls rest) (sym c.in_ok-so_far-2.ensures);
       narrow = before.narrow ∙ ap (conditions_are_narrow n w terms wanted) next ∙ ap (λ b. b && conditions_are_narrow n w terms wanted rest) c.in-Ok.ensures.0;
-      linear = (both_true (condition_is_linear (condition c.part-item.result)) (conditions_are_linear rest) (ap conditions_are_linear (sym next) ∙ before.linear)).1;
+      linear = (and_parts (condition_is_linear (condition c.part-item.result)) (conditions_are_linear rest) (ap conditions_are_linear (sym next) ∙ before.linear)).1;
     }

@@ -7,13 +7,13 @@ use Rattle.tv_program.specs.Views.{expression, expressions}
 use Rattle.tv_cases.specs.Forms.{times, form, sum_form, product_form, forms_are_narrow}
 use Rattle.tv_cases.specs.Linearity.{is_linear, are_linear}
 use Rattle.tv_cases.proofs.CodeForms.{expressions-next}
-use Rattle.tv_cases.proofs.Listed.{both_true}
 use Rattle.tv_cases.proofs.NarrowRows.{one-narrow}
 use Rattle.tv_cases.proofs.ProductLemmas.{stands-next}
 use Rattle.std.specs.Prelude.{◌&&◌}
 use Rattle.tv_program.specs.Limits.{is_linear_product}
 use Rattle.tv_cases.proofs.FormLemmas.{is_alone, alone-first, alone-now, alone-rest}
 use Rattle.tv_cases.proofs.linear_form.+forms.Goals as goal
+use Rattle.std.proofs.lemmas.Bool.{and_parts}
 
 pub sum_of-loop-part-init : goal.sum_of-loop-part-init
 sum_of-loop-part-init t c = record {
@@ -37,14 +37,14 @@ sum_of-loop-part-preserved t c =
       exact = before.exact ∙ ap (sum_form n w terms c.loop-part.total.row) next
           ∙ ap (λ r. sum_form n w terms r rest) (ap (plus c.loop-part.total.row) (sym c.in-Ok.ensures.exact.1) ∙ sym c.add.ensures.row);
       narrow = before.narrow ∙ ap (forms_are_narrow n w terms) next ∙ ap (λ b. b && forms_are_narrow n w terms rest) c.in-Ok.ensures.exact.0;
-      linear = (both_true (is_linear e) (are_linear rest) (ap are_linear (sym next) ∙ before.linear)).1;
+      linear = (and_parts (is_linear e) (are_linear rest) (ap are_linear (sym next) ∙ before.linear)).1;
       counted = search rules;
       even = ap (λ (r : Linear). columns r) c.add.ensures.row ∙ columns-plus c.loop-part.total.row c.in-Ok.row (before.even ∙ sym c.in-Ok.ensures.even) ∙ before.even;
     }
 
 pub product_of-loop-part-init : goal.product_of-loop-part-init
 product_of-loop-part-init t c =
-    let both = both_true (is_linear_product (expressions c.args.parts.now)) (are_linear (expressions c.args.parts.now)) c.requires.linear in
+    let both = and_parts (is_linear_product (expressions c.args.parts.now)) (are_linear (expressions c.args.parts.now)) c.requires.linear in
     record {
       so_far = record {
         product = constant_row c.args.width (pos 1);
@@ -76,5 +76,5 @@ product_of-loop-part-preserved t c =
         alone = alone-rest n w terms so_far.product e rest alone;
       };
       narrow = before.narrow ∙ ap (forms_are_narrow n w terms) next ∙ ap (λ b. b && forms_are_narrow n w terms rest) c.in-Ok-form_of.ensures.exact.0;
-      linear = (both_true (is_linear e) (are_linear rest) (ap are_linear (sym next) ∙ before.linear)).1;
+      linear = (and_parts (is_linear e) (are_linear rest) (ap are_linear (sym next) ∙ before.linear)).1;
     }

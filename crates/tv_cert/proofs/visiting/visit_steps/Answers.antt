@@ -2,7 +2,7 @@ use Rattle.std.proofs.Common.{◌≡◌, ℕ, List, ◌∷◌, [], length, map, 
 use Rattle.tv_cases.specs.LinearCases.{LinearCase, leaving}
 use Rattle.tv_cases.specs.Systems.{cases_of}
 use Rattle.tv_cases.specs.Views.{case_view}
-use Rattle.tv_cases.proofs.LeavingLemmas.{case_among, case_within, case_there, none_more}
+use Rattle.tv_cases.proofs.LeavingLemmas.{case_among, case_within, case_there}
 use Rattle.tv_cert.specs.Pieces.{place_of}
 use Rattle.tv_cert.specs.Obligations.{step_of}
 use Rattle.tv_cert.specs.Plain.{about_of}
@@ -10,6 +10,7 @@ use Rattle.tv_cert.specs.Owing.{case_falls}
 use Rattle.tv_cert.specs.Visits.{Visits}
 use Rattle.tv_cert.proofs.VisitLemmas.{ahead_end, ahead_fails, ahead_next, ahead_room}
 use Rattle.tv_cert.proofs.visiting.visit_steps.Goals as goal
+use Rattle.tv_places.proofs.PlaceLemmas.{past_end}
 
 -- the case from a location that is told
 case_at : (cases : List LinearCase) (k : ℕ) (case : Option LinearCase) (l m : ℕ) → l ≡ m → slice_get (leaving l cases) k ≡ case → slice_get (leaving m cases) k ≡ case
@@ -71,4 +72,4 @@ returns g c =
     let l = place_of c.args.piece.now in
     let step = step_of c.args.number (about_of system) c.args.piece.now c.args.into.now (case_falls c.args.falls system c.args.piece.now) in
     ahead_end (g.V.Visitor.passes system) (g.V.Visitor.stops system) g.V.Visitor.room (map step) refl (λ x xs. refl) (leaving l system.cases) c.args.visitor.now c.cases.visitor c.cases.k c.cases.invariant
-    (none_more (leaving l system.cases) c.cases.k (case_at (cases_of c.args.about.now).cases c.cases.k None _ _ c.location-location.ensures c.in_default.ensures.case))
+    (past_end (leaving l system.cases) c.cases.k (case_at (cases_of c.args.about.now).cases c.cases.k None _ _ c.location-location.ensures c.in_default.ensures.case))

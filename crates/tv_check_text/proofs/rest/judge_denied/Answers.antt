@@ -12,10 +12,11 @@ use Rattle.tv_cert_reader.specs.LineGrammar.{line}
 use Rattle.tv_cert_reader.specs.CertificateGrammar.{at_line}
 use Rattle.tv_cert_reader.specs.Reading.{Takes, FailsBy}
 use Rattle.tv_cert_reader.proofs.ReadingLemmas.{at_exit}
-use Rattle.tv_cert_reader.proofs.RestLemmas.{no_numbers, none_past, none_by, some_by, denied_root_fails, values_stop, piece_missing, denied_last_fails, denied_end_fails}
+use Rattle.tv_cert_reader.proofs.RestLemmas.{none_past, none_by, some_by, denied_root_fails, values_stop, piece_missing, denied_last_fails, denied_end_fails}
 use Rattle.tv_check_text.specs.Rest.{JudgesDenied}
 use Rattle.tv_check_text.proofs.RestLemmas.{denied_judged, pieces_over, there_by}
 use Rattle.tv_check_text.proofs.rest.judge_denied.Goals as goal
+use Rattle.tv_cases.proofs.BeforeValue.{no_columns}
 
 pub returns-in_err-root : goal.returns-in_err-root
 returns-in_err-root c =
@@ -78,7 +79,7 @@ returns-in_err-finish c =
     let a = c.args.context.now.about.now.are_cases.starts in
     let j = c.in_ok-root.ensures.walked in
     let f = c.in_err-finish.field-0.0 in
-    let none = no_numbers c.in_ok-numbers.field-0.items c.in_ok-numbers.ensures.0.many in
+    let none = no_columns c.in_ok-numbers.field-0.items c.in_ok-numbers.ensures.0.many in
     at_exit (JudgesDenied system s c.args.walk.now _) c.from_residual-in_err-finish.result f c.from_residual-in_err-finish.ensures.1
     (denied_end_fails system (omega (arith, a)) s c.args.walk.now.cursor j.node c.node.new.self.cursor j.is_node j.took c.in_ok-place.place c.in_ok-place.values.items c.values.new.cursor
     (c.in_ok-place.ensures.0.many ∙ c.variables.ensures.same) c.in_ok-place.ensures.1
@@ -100,7 +101,7 @@ returns c =
     let j = c.in_ok-root.ensures.walked in
     let ps = pieces_list c.in_ok-root.root in
     let place = c.in_ok-place.place in
-    let none = no_numbers c.in_ok-numbers.field-0.items c.in_ok-numbers.ensures.0.many in
+    let none = no_columns c.in_ok-numbers.field-0.items c.in_ok-numbers.ensures.0.many in
     denied_judged system s c.args.walk.now c.node.new.self c.requires c.in_ok-root.root j _ c.is_inside-met.result c.settle_root.ensures.seen c.settle_root.ensures.failing
     c.values.new.cursor c.numbers.new.cursor place c.in_ok-place.values (record { many = c.in_ok-place.ensures.0.many ∙ c.variables.ensures.same; narrow = c.in_ok-place.ensures.0.narrow }) c.in_ok-place.ensures.1
     (subst (λ l. IsSome (slice_get (pieces_at ps l) place)) c.start.ensures.same (there_by (λ q. q.now) c.at.result (slice_get (pieces_at ps c.start.result) place) c.at.ensures c.if-is_none.ensures))

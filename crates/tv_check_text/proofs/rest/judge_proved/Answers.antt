@@ -8,10 +8,11 @@ use Rattle.tv_cert_reader.specs.Covers.{IsCoverWithin}
 use Rattle.tv_cert_reader.specs.Reading.{Takes, FailsBy}
 use Rattle.tv_cert_reader.specs.Values.{start_counts}
 use Rattle.tv_cert_reader.proofs.ReadingLemmas.{at_exit}
-use Rattle.tv_cert_reader.proofs.RestLemmas.{no_numbers, proved_root_fails, start_fails, last_fails, end_fails}
+use Rattle.tv_cert_reader.proofs.RestLemmas.{proved_root_fails, start_fails, last_fails, end_fails}
 use Rattle.tv_check_text.specs.Rest.{JudgesProved}
 use Rattle.tv_check_text.proofs.RestLemmas.{proved_judged}
 use Rattle.tv_check_text.proofs.rest.judge_proved.Goals as goal
+use Rattle.tv_cases.proofs.BeforeValue.{no_columns}
 
 pub returns-in_err-root : goal.returns-in_err-root
 returns-in_err-root c =
@@ -53,7 +54,7 @@ returns-in_err-finish c =
     let j = c.in_ok-root.ensures.walked in
     let start = c.in_ok-met.ensures in
     let f = c.in_err-finish.field-0.0 in
-    let none = no_numbers c.in_ok-numbers.field-0.items c.in_ok-numbers.ensures.0.many in
+    let none = no_columns c.in_ok-numbers.field-0.items c.in_ok-numbers.ensures.0.many in
     at_exit (JudgesProved system s c.args.walk.now _) c.from_residual-in_err-finish.result f c.from_residual-in_err-finish.ensures.1
     (end_fails system (omega (arith, a)) s c.args.walk.now.cursor j.node c.node.new.self.cursor j.is_node j.took start.tree c.judged_start.new.cursor
     (subst (λ ps. IsCoverWithin system.variables (start_counts system ps) 0 128 start.tree) j.pieces start.within) start.took c.numbers.new.cursor f
@@ -63,7 +64,7 @@ pub returns : goal.returns
 returns c =
     let system = cases_of c.args.context.now.about.now in
     let s = aim_states c.args.aim.now in
-    let none = no_numbers c.in_ok-numbers.field-0.items c.in_ok-numbers.ensures.0.many in
+    let none = no_columns c.in_ok-numbers.field-0.items c.in_ok-numbers.ensures.0.many in
     proved_judged system s c.args.walk.now c.node.new.self c.requires c.in_ok-root.root c.in_ok-root.ensures.walked _ c.in_ok-met.met c.settle_root.ensures.seen c.settle_root.ensures.failing
     c.judged_start.new.cursor c.numbers.new.cursor c.in_ok-met.ensures
     (subst (λ zs. Takes (formed heads.End zs ∷ []) c.judged_start.new.cursor c.numbers.new.cursor) none c.in_ok-numbers.ensures.1)

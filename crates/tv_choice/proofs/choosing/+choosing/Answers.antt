@@ -25,12 +25,12 @@ use Rattle.tv_choice.specs.Stopping.{IsStopped}
 use Rattle.tv_choice.specs.Refusals.{IsWideHere, denying, IsChoiceFault}
 use Rattle.tv_cover.specs.Trying.{IsWideIn}
 use Rattle.tv_choice.specs.Settling.{IsFound, IsSplitOf}
-use Rattle.tv_choice.proofs.WayLemmas.{at_of}
 use Rattle.tv_choice.proofs.LookLemmas.{at_end, look_other, way_is_rows, not_shown, none_more}
 use Rattle.tv_choice.proofs.RefusalLemmas.{judge_fault, look_fault, here_fault, side_refused, ways_longer}
 use Rattle.tv_choice.proofs.SettleLemmas.{empty_leaf, stop_leaf, take_leaf, split_leaf, hole_of_side, no_step_hole, never_excluded, whole_going, of_targets, ways_more}
 use Rattle.tv_choice.proofs.SplitLemmas.{row_halves, point_halves, fraction_at}
 use Rattle.tv_choice.proofs.choosing.+choosing.Goals as goal
+use Rattle.tv_linear.proofs.ListLaws.{all_at}
 
 back : (k : ℕ) → (k ≡ 0 → ⊥) → k - 1 + 1 ≡ k
 back zero g = absurd (g refl)
@@ -67,7 +67,7 @@ settle-returns-in-Ok-Take-clause-found t c =
     let b' = subst (λ ws. IsBest q.columns c.args.rows.now ws (best.Take c.in-Ok-Take.way c.in-Ok-Take.lists)) c.deref-in-Ok-Point.ensures.value b in
     let way = c.index.result.now in
     let same = same_at c.args.ways.now.items c.in-Ok-Take.way b'.0 way b'.1 c.index.ensures in
-    let is = at_of (IsWay q.columns (query_of q) c.args.rows.now) c.args.ways.now.items c.in-Ok-Take.way way c.requires.ways.each b'.1.0 c.index.ensures in
+    let is = all_at (IsWay q.columns (query_of q) c.args.rows.now) c.args.ways.now.items c.in-Ok-Take.way way c.requires.ways.each b'.1.0 c.index.ensures in
     take_leaf q.columns (query_of q) c.args.rows.now c.args.left way c.in-Ok-Take.lists c.in_ok-take_of-in-Ok-Take.field-0 q.limits.few_cases q.few is (subst (λ w. AreShown q.columns c.args.rows.now (way_rows w) (map (λ x. x.items) c.in-Ok-Take.lists.items)) same b'.2) c.in_ok-take_of-in-Ok-Take.ensures
 
 pub settle-split_way-requires : goal.settle-split_way-requires
@@ -258,10 +258,10 @@ split_way-split-requires t c =
     let at = c.requires.open.1 in
     let o = c.requires.open.2 in
     let same = same_at c.args.ways.now.items c.args.way w c.index.result.now at c.index.ensures in
-    let is = at_of (IsWay n (query_of q) above) c.args.ways.now.items c.args.way w c.requires.ways.each at.0 (sym at.1) in
+    let is = all_at (IsWay n (query_of q) above) c.args.ways.now.items c.args.way w c.requires.ways.each at.0 (sym at.1) in
     let here = subst (λ u. IsAt (way_rows u) c.args.row o.0.0) same o.0.1 in
     let row = same_at c.index.result.now.rows.items c.args.row o.0.0 c.index-2.result.now here c.index-2.ensures in
-    let even = at_of (λ r. width r ≡ n) (way_rows w) c.args.row o.0.0 is.even o.0.1.0 (sym o.0.1.1) in
+    let even = all_at (λ r. width r ≡ n) (way_rows w) c.args.row o.0.0 is.even o.0.1.0 (sym o.0.1.1) in
     let left_open = of_targets n (query_of q) (IsLeftOpen n above) above c.args.ways.now.items c.requires.ways c.requires.none_shown in
     let sides = subst (λ r. AreRowSides r c.in_ok-halves.halves) (sym row) c.in_ok-halves.ensures in
     let halves = row_halves n (query_of q) above (way_rows w) o.0.0 c.in_ok-halves.halves sides even (way_is_rows n (query_of q) above w is) (c.args.row, o.0.1.0, o.0.1.1) o.1 o.0.2.1 left_open in

@@ -1,10 +1,10 @@
 use Rattle.std.proofs.Common.{◌∙◌, ◌∷◌, [], map, subst, ap}
 use Rattle.tv_choice.specs.Looking.{IsShown}
-use Rattle.tv_choice.proofs.WayLemmas.{map-append}
 use Rattle.tv_cover.specs.Trying.{IsWideDenialAt, IsWideIn}
 use Rattle.tv_choice.specs.Asked.{query_of}
 use Rattle.tv_choice.proofs.LookLemmas.{shown_more, look_other, wide_in}
 use Rattle.tv_choice.proofs.looking.all_shown.Goals as goal
+use Rattle.std.proofs.lemmas.List.{map-append}
 
 pub owed-preserved : goal.owed-preserved
 owed-preserved c =

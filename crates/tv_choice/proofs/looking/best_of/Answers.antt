@@ -5,8 +5,7 @@ use Rattle.tv_choice.specs.Looking.{IsLookFault, IsLook, IsBest, IsOneMore}
 use Rattle.tv_choice.specs.Refusals.{IsWideHere, denying}
 use Rattle.tv_cover.specs.Trying.{IsWideIn}
 use Rattle.tv_choice.specs.Ways.{way_rows, IsWay}
-use Rattle.tv_choice.proofs.WayLemmas.{take_more, at_of}
-use Rattle.tv_linear.proofs.ListLaws.{take_past}
+use Rattle.tv_linear.proofs.ListLaws.{take_past, take_next, all_at}
 use Rattle.tv_choice.proofs.LookLemmas.{best_next, best_taken, length-take_all, way_is_rows, look_other}
 use Rattle.tv_choice.proofs.looking.best_of.Goals as goal
 
@@ -14,7 +13,7 @@ pub look_at-requires-clause-way : goal.look_at-requires-clause-way
 look_at-requires-clause-way c =
     let q = c.args.question.now in
     let way = c.index-ways-way.result in
-    let is = at_of (IsWay q.columns (query_of q) c.args.place.now.rows.now) c.args.ways.now c.ways.way way c.requires.ways.each c.ways-test.true c.index-ways-way.is in
+    let is = all_at (IsWay q.columns (query_of q) c.args.place.now.rows.now) c.args.ways.now c.ways.way way c.requires.ways.each c.ways-test.true c.index-ways-way.is in
     subst (IsWayRows q.columns (query_of q) c.args.place.now.rows.now) (sym (c.deref.ensures.value ∙ ap (λ w. w.rows.items) (sym c.index-ways-way.is))) (way_is_rows q.columns (query_of q) c.args.place.now.rows.now way is)
 
 pub returns-in-Take-clause-best : goal.returns-in-Take-clause-best
@@ -24,7 +23,7 @@ returns-in-Take-clause-best c =
     let ws = c.args.ways.now in
     let i = c.ways.way in
     let way = c.index-ways-way.result in
-    let more = take_more ws i way c.ways-test.true c.index-ways-way.is in
+    let more = take_next ws i way c.ways-test.true c.index-ways-way.is in
     let same = c.deref.ensures.value ∙ ap (λ w. w.rows.items) (sym c.index-ways-way.is) in
     let e = length-take_all ws i (let t = c.ways-test.true in omega (arith, t)) in
     let look = subst (λ rs. IsLook n rows rs c.in-Ok.look) same c.in-Ok.ensures.look in
@@ -40,7 +39,7 @@ ways-preserved c =
     let ws = c.args.ways.now in
     let i = c.ways.way in
     let way = c.index-ways-way.result in
-    let more = take_more ws i way c.ways-test.true c.index-ways-way.is in
+    let more = take_next ws i way c.ways-test.true c.index-ways-way.is in
     let same = c.deref.ensures.value ∙ ap (λ w. w.rows.items) (sym c.index-ways-way.is) in
     let e = length-take_all ws i (let t = c.ways-test.true in omega (arith, t)) in
     let look = subst (λ rs. IsLook n rows rs c.in-Ok.look) same c.in-Ok.ensures.look in
@@ -55,7 +54,7 @@ returns-in-Err-clause-refusals c =
     let q = c.args.question.now in
     let above = c.args.place.now.rows.now in
     let way = c.index-ways-way.result in
-    let is = at_of (IsWay q.columns (query_of q) above) c.args.ways.now c.ways.way way c.requires.ways.each c.ways-test.true c.index-ways-way.is in
+    let is = all_at (IsWay q.columns (query_of q) above) c.args.ways.now c.ways.way way c.requires.ways.each c.ways-test.true c.index-ways-way.is in
     let same = c.deref.ensures.value ∙ ap (λ w. w.rows.items) (sym c.index-ways-way.is) in
     look_other (IsWideIn q.columns above (way_rows way)) (IsWideHere q.columns (query_of q) above) q.columns (query_of q) above q.pivots c.in-Err.fault
     (λ column w. denying (way_rows way) (way_is_rows q.columns (query_of q) above way is) w)

@@ -2,15 +2,16 @@ use Rattle.std.proofs.Common.{◌∙◌, ◌++◌, ◌∷◌, [], take, subst, s
 use Rattle.tv_cases.specs.LinearCases.{leaving}
 use Rattle.tv_cases.specs.Systems.{cases_of}
 use Rattle.tv_linear.specs.Linear.{IsNarrow}
-use Rattle.tv_linear.proofs.ListLaws.{take_past}
+use Rattle.tv_linear.proofs.ListLaws.{take_past, take_more}
 use Rattle.tv_farkas.specs.Trees.{TreeRows}
 use Rattle.tv_cases.specs.Views.{case_view}
-use Rattle.tv_cases.proofs.LeavingLemmas.{none_more, case_within, case_among}
+use Rattle.tv_cases.proofs.LeavingLemmas.{case_within, case_among}
 use Rattle.tv_choice.specs.Asked.{query_of}
 use Rattle.tv_choice.specs.Stopping.{IsStoppedBy}
-use Rattle.tv_choice.proofs.FitLemmas.{among_case, leaving_from, take_suc_some}
+use Rattle.tv_choice.proofs.FitLemmas.{among_case, leaving_from}
 use Rattle.tv_choice.proofs.StopLemmas.{StopsUpTo, stops_more, all_stopped, leading, tree_narrow}
 use Rattle.tv_choice.proofs.stopping.stop.Goals as goal
+use Rattle.tv_places.proofs.PlaceLemmas.{past_end}
 
 pub stop_by-requires-clause-case : goal.stop_by-requires-clause-case
 stop_by-requires-clause-case c =
@@ -57,7 +58,7 @@ cases-preserved c =
     let all = leaving q.location (cases_of q.about.now).cases in
     let case = case_view c.in-Some.case.now in
     let tree = subst (IsStoppedBy q.columns c.args.rows.now case c.args.left) c.in-Ok-Tree.field-0-is c.in-Ok-Tree.ensures.stopped in
-    subst (λ cs. StopsUpTo q.columns c.args.rows.now c.args.left cs c.push_item.new.items.items) (sym (take_suc_some all c.cases.k case c.in-Some.ensures.case))
+    subst (λ cs. StopsUpTo q.columns c.args.rows.now c.args.left cs c.push_item.new.items.items) (sym (take_more all c.cases.k case c.in-Some.ensures.case))
     (subst (λ ts. StopsUpTo q.columns c.args.rows.now c.args.left (take c.cases.k all ++ case ∷ []) ts) (sym c.in_ok-push_item-in-Ok-Tree.ensures)
     (stops_more q.columns c.args.rows.now c.args.left (take c.cases.k all) c.cases.covers.items case c.in-Ok-Tree.cover c.cases.invariant tree (tree_narrow q.columns c.args.rows.now case c.args.left c.in-Ok-Tree.cover tree (subst (TreeRows IsNarrow) c.tree.ensures.same c.narrow_rows.ensures))))
 
@@ -66,4 +67,4 @@ returns-clause-stopped c =
     let q = c.args.question.now in
     let all = leaving q.location (cases_of q.about.now).cases in
     all_stopped q.columns (query_of q) c.args.rows.now c.args.left c.cases.covers.items c.requires.even
-    (subst (λ cs. StopsUpTo q.columns c.args.rows.now c.args.left cs c.cases.covers.items) (take_past all c.cases.k (none_more all c.cases.k c.in_default.ensures.case)) c.cases.invariant)
+    (subst (λ cs. StopsUpTo q.columns c.args.rows.now c.args.left cs c.cases.covers.items) (take_past all c.cases.k (past_end all c.cases.k c.in_default.ensures.case)) c.cases.invariant)

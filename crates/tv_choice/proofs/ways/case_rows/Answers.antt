@@ -3,8 +3,8 @@ use Rattle.tv_cases.specs.Before.{before, rows_after, FitsTerms}
 use Rattle.tv_choice.specs.Rows.{AreRead, IsWideBefore}
 use Rattle.tv_cases.specs.Views.{case_view}
 use Rattle.tv_linear.specs.Linear.{columns as width, IsNarrow}
-use Rattle.tv_linear.proofs.ListLaws.{take_past}
-use Rattle.tv_choice.proofs.WayLemmas.{made_none, made_more, made_wide, at_of, not_made}
+use Rattle.tv_linear.proofs.ListLaws.{take_past, all_at}
+use Rattle.tv_choice.proofs.WayLemmas.{made_none, made_more, made_wide, not_made}
 use Rattle.tv_choice.proofs.ways.case_rows.Goals as goal
 
 pub owed-init : goal.owed-init
@@ -15,7 +15,7 @@ pub owed-preserved : goal.owed-preserved
 owed-preserved c =
     let g = c.in-Ok.ensures.exact in
     made_more c.args.columns (case_view c.args.case.now) c.args.owed.now c.owed.row-index c.row-item.result c.in-Ok.made c.owed.rows.items c.push_item.new.items.items c.owed-test.true c.row-item.is
-    (at_of (λ r. width r ≡ c.args.columns) c.args.owed.now c.owed.row-index c.row-item.result c.requires.owed c.owed-test.true c.row-item.is) c.requires.terms g.same g.fits c.in_ok-push_item-in-Ok.ensures c.owed.invariant
+    (all_at (λ r. width r ≡ c.args.columns) c.args.owed.now c.owed.row-index c.row-item.result c.requires.owed c.owed-test.true c.row-item.is) c.requires.terms g.same g.fits c.in_ok-push_item-in-Ok.ensures c.owed.invariant
 
 pub returns-in-Err-clause-refusals : goal.returns-in-Err-clause-refusals
 returns-in-Err-clause-refusals c =

@@ -7,11 +7,12 @@ use Rattle.tv_choice.specs.Asked.{query_of}
 use Rattle.tv_choice.specs.Leading.{pieces_at}
 use Rattle.tv_choice.specs.Targets.{targets_from, IsFirstWideInto, IsFirstWideFrom, IsWideTarget}
 use Rattle.tv_choice.specs.Ways.{lists_of, IsWay}
-use Rattle.tv_choice.proofs.FitLemmas.{case_at, is_case}
+use Rattle.tv_choice.proofs.FitLemmas.{is_case}
 use Rattle.tv_choice.proofs.DrawLemmas.{cases_next, cases_skip, cases_done, case_left, case_skipped, case_wide}
 use Rattle.tv_choice.proofs.WayLemmas.{unmade_more}
 use Rattle.tv_choice.proofs.ways.first_ways.Goals.{then-case-question+in-Ok, else-case-question}
 use Rattle.tv_choice.proofs.ways.first_ways.Goals as goal
+use Rattle.tv_cases.proofs.LeavingLemmas.{case_at}
 
 pub push_case-requires-clause-case : goal.push_case-requires-clause-case
 push_case-requires-clause-case c =

@@ -8,9 +8,10 @@ use Rattle.tv_choice.specs.Targets.{draw_choices, IsFirstWidePut, with_these}
 use Rattle.tv_choice.specs.Ways.{lists_of, way_rows, IsWay}
 use Rattle.tv_choice.proofs.PieceLemmas.{piece_got}
 use Rattle.tv_choice.proofs.FitLemmas.{piece_even}
-use Rattle.tv_choice.proofs.WayLemmas.{map-append, unmade_more}
-use Rattle.tv_choice.proofs.DrawLemmas.{AreLeft, AreTermsFor, IsFirstLeft, left_first, left_next, left_none, first_left, next_left, nil_of, drawn_way}
+use Rattle.tv_choice.proofs.WayLemmas.{unmade_more}
+use Rattle.tv_choice.proofs.DrawLemmas.{AreLeft, AreTermsFor, IsFirstLeft, left_first, left_next, left_none, first_left, next_left, drawn_way}
 use Rattle.tv_choice.proofs.ways.push_drawn.Goals as goal
+use Rattle.std.proofs.lemmas.List.{map-append, nil_from_length}
 
 pub choices-init : goal.choices-init
 choices-init c = (
@@ -74,7 +75,7 @@ returns c =
     let e = c.args.entry.now in
     let d = e.case.now.draws in
     let rows = c.args.rows.now in
-    let done = left_none n d rows (lists_of c.args.ways.now.items) (lists_of c.choices.ways.items) (map (λ x. x.items) c.choices.draws-iterator.rest.items) (ap (map (λ x. x.items)) (nil_of c.choices.draws-iterator.rest.items (sym c.choices.draws-iterator.rest.ok.0 ∙ c.in-None.ensures.steps.0))) c.choices.invariant.1 in
-    let none = ap (map (λ x. x.items)) (nil_of c.choices.draws-iterator.rest.items (sym c.choices.draws-iterator.rest.ok.0 ∙ c.in-None.ensures.steps.0)) in
+    let done = left_none n d rows (lists_of c.args.ways.now.items) (lists_of c.choices.ways.items) (map (λ x. x.items) c.choices.draws-iterator.rest.items) (ap (map (λ x. x.items)) (nil_from_length c.choices.draws-iterator.rest.items (sym c.choices.draws-iterator.rest.ok.0 ∙ c.in-None.ensures.steps.0))) c.choices.invariant.1 in
+    let none = ap (map (λ x. x.items)) (nil_from_length c.choices.draws-iterator.rest.items (sym c.choices.draws-iterator.rest.ok.0 ∙ c.in-None.ensures.steps.0)) in
     let fits = (subst (IsFirstLeft n rows (draw_choices d n rows)) none c.choices.invariant.2).fits (All-nil (λ draws. ArePut (put_terms n draws) rows)) in
     record { ways = c.choices.invariant.0; fits = fits; lists = done ∙ (λ i. lists_of c.args.ways.now.items ++ map (λ draws. put_rows n draws (c.requires.rows.exact i)) (draw_choices d n (c.requires.rows.exact i))); refusals = tt }

@@ -2,8 +2,8 @@ use Rattle.std.proofs.Common.{◌≤ℤ◌, rules, FitsSigned, ◌∙◌, sym, s
 use Rattle.std.specs.Int.{w128}
 use Rattle.std.specs.Cmp.Rules.{signed_items}
 use Rattle.std.proofs.lemmas.Int.{to_z-of_z}
-use Rattle.tv_invariant.proofs.StartLemmas.{le_from_test}
 use Rattle.tv_invariant.proofs.rows.implies.Goals as goal
+use Rattle.tv_linear.proofs.ListLaws.{le_from_test}
 
 pub returns-then-constant : goal.returns-then-constant
 returns-then-constant c h =

@@ -1,8 +1,9 @@
 use Rattle.std.proofs.Common.{rules, FitsSigned, subst, sym, pos, ◌≤ℤ◌}
 use Rattle.std.specs.Int.{w128}
 use Rattle.std.proofs.lemmas.Int.{to_z-of_z}
-use Rattle.tv_invariant.proofs.StartLemmas.{le_from_test, above_from_test, constant_met, never_met}
+use Rattle.tv_invariant.proofs.StartLemmas.{above_from_test, constant_met, never_met}
 use Rattle.tv_invariant.proofs.start.is_always_met.Goals as goal
+use Rattle.tv_linear.proofs.ListLaws.{le_from_test}
 
 pub returns-then-constant-le0 : goal.returns-then-constant-le0
 returns-then-constant-le0 c =

@@ -3,19 +3,20 @@ use Rattle.tv_refute.specs.Built.{change_of}
 use Rattle.tv_linear.specs.Views.{rows_seen}
 use Rattle.tv_points.specs.Lines.{IsShowable}
 use Rattle.tv_points.specs.Entering.{owed_falls, entering_rows}
-use Rattle.tv_points.proofs.PushLemmas.{then_pushed, then_fault, left_part, right_part}
+use Rattle.tv_points.proofs.PushLemmas.{then_pushed, then_fault}
 use Rattle.tv_points.proofs.falls.push_entered.Goals as goal
+use Rattle.tv_linear.proofs.ListLaws.{all_back, all_front}
 
 pub push_lines-requires-clause-showable : goal.push_lines-requires-clause-showable
 push_lines-requires-clause-showable c =
     let e = c.args.entering.now in
     let change = change_of e.change.now in
-    subst (λ rs. All (IsShowable c.args.point.now) (map change rs)) (sym c.rows.ensures) (left_part (IsShowable c.args.point.now) (map change e.into.now.rows) (owed_falls e) c.requires.showable)
+    subst (λ rs. All (IsShowable c.args.point.now) (map change rs)) (sym c.rows.ensures) (all_front (IsShowable c.args.point.now) (map change e.into.now.rows) (owed_falls e) c.requires.showable)
 
 pub push_owed-requires-clause-showable : goal.push_owed-requires-clause-showable
 push_owed-requires-clause-showable c =
     let e = c.args.entering.now in
-    right_part (IsShowable c.args.point.now) (map (change_of e.change.now) e.into.now.rows) (owed_falls e) c.requires.showable
+    all_back (IsShowable c.args.point.now) (map (change_of e.change.now) e.into.now.rows) (owed_falls e) c.requires.showable
 
 pub returns-in-Err : goal.returns-in-Err
 returns-in-Err c =

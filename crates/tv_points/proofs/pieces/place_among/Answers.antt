@@ -1,13 +1,14 @@
 use Rattle.std.proofs.Common.{◌≡◌, ◌==◌, ◌∙◌, length, take, ap, sym, subst, refl, Some, slice_get, arith}
 use Rattle.tv_cert.specs.Pieces.{place_of, pieces_at}
 use Rattle.tv_linear.proofs.ListLaws.{test_true}
-use Rattle.tv_points.proofs.PlaceLemmas.{got, got_one, among, filter_short}
+use Rattle.tv_points.proofs.PlaceLemmas.{got, got_one, among}
 use Rattle.tv_points.proofs.pieces.place_among.Goals as goal
+use Rattle.tv_cert.proofs.RoomLemmas.{few_left}
 
 pub overflow_cast-result : goal.overflow_cast-result
 overflow_cast-result c =
     let e = c.count_at.ensures in
-    let s = filter_short (λ q. place_of q == c.location-location.result) c.split_at.result.0.now in
+    let s = few_left (λ q. place_of q == c.location-location.result) c.split_at.result.0.now in
     let l = c.split_at.ensures.front_len in
     omega (arith, e, s, l)
 

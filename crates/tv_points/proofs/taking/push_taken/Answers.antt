@@ -7,8 +7,9 @@ use Rattle.tv_cases.specs.Views.{case_view}
 use Rattle.tv_cert.specs.Choices.{drawn_change}
 use Rattle.tv_points.specs.Lines.{IsShowable, IsLineFault, ArePushed, lines_at}
 use Rattle.tv_points.specs.Taking.{entered_rows, taken_rows}
-use Rattle.tv_points.proofs.PushLemmas.{then_pushed, then_fault, left_part, right_part}
+use Rattle.tv_points.proofs.PushLemmas.{then_pushed, then_fault}
 use Rattle.tv_points.proofs.taking.push_taken.Goals as goal
+use Rattle.tv_linear.proofs.ListLaws.{all_back, all_front}
 
 pub push_lines-requires-clause-showable : goal.push_lines-requires-clause-showable
 push_lines-requires-clause-showable c =
@@ -19,7 +20,7 @@ push_lines-requires-clause-showable c =
     let guards : List Known = map (λ r. composed (given r) (draw_terms c.variables-columns.result draws)) c.deref-2.result.now in
     let rest : List Known = entered_rows t.falls (drawn_change n (case_view c.args.case.now) draws) t.from.now t.into.now in
     let whole : all ≡ guards ++ rest = (λ i. map (λ r. composed (given r) (draw_terms (sym c.variables-columns.ensures.same i) draws)) (sym c.deref-2.ensures.value i) ++ rest) in
-    left_part (IsShowable c.deref.result.now) guards rest (subst (λ ys. All (IsShowable ys) (guards ++ rest)) (sym c.deref.ensures.value) (subst (All (IsShowable t.state.now.values.items)) whole c.requires.showable))
+    all_front (IsShowable c.deref.result.now) guards rest (subst (λ ys. All (IsShowable ys) (guards ++ rest)) (sym c.deref.ensures.value) (subst (All (IsShowable t.state.now.values.items)) whole c.requires.showable))
 
 pub push_entered-requires-clause-showable : goal.push_entered-requires-clause-showable
 push_entered-requires-clause-showable c =
@@ -31,7 +32,7 @@ push_entered-requires-clause-showable c =
     let guards : List Known = map (λ r. composed (given r) (draw_terms n draws)) c.args.case.now.guards.rows.items in
     let rest : List Known = entered_rows t.falls (λ r. composed (composed (given r) (terms_after k c.deref-in-Ok.result.now)) (draw_terms k draws)) t.from.now t.into.now in
     let whole : all ≡ guards ++ rest = (λ i. guards ++ entered_rows t.falls (λ r. composed (composed (given r) (terms_after (sym c.variables-columns.ensures.same i) (sym c.deref-in-Ok.ensures.value i))) (draw_terms (sym c.variables-columns.ensures.same i) draws)) t.from.now t.into.now) in
-    right_part (IsShowable c.deref-in-Ok-2.result.now) guards rest (subst (λ ys. All (IsShowable ys) (guards ++ rest)) (sym c.deref-in-Ok-2.ensures.value) (subst (All (IsShowable t.state.now.values.items)) whole c.requires.showable))
+    all_back (IsShowable c.deref-in-Ok-2.result.now) guards rest (subst (λ ys. All (IsShowable ys) (guards ++ rest)) (sym c.deref-in-Ok-2.ensures.value) (subst (All (IsShowable t.state.now.values.items)) whole c.requires.showable))
 
 pub returns-in-Err : goal.returns-in-Err
 returns-in-Err c =

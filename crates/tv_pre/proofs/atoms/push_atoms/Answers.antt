@@ -2,14 +2,14 @@ use Rattle.std.proofs.Common.{◌∙◌, All, map, length, arith, ap, subst}
 use Rattle.tv_linear.specs.Linear.{IsNarrow}
 use Rattle.tv_cases.specs.Systems.{cases_of}
 use Rattle.tv_cover.specs.Targets.{AreEven}
-use Rattle.tv_lexrank.proofs.FallLemmas.{all_back}
 use Rattle.tv_pre.specs.Atoms.{AreAtoms}
-use Rattle.tv_pre.proofs.AddLemmas.{at_place, take_whole}
-use Rattle.tv_pre.proofs.AtomLemmas.{one_atom, got_at}
+use Rattle.tv_pre.proofs.AtomLemmas.{one_atom}
 use Rattle.tv_pre.proofs.OfferLemmas.{got_mapped}
 use Rattle.tv_pre.proofs.atoms.push_atoms.Goals as goal
 use Rattle.std.proofs.lemmas.List.{length-map}
 use Rattle.std.specs.Option.{option_map}
+use Rattle.tv_linear.proofs.ListLaws.{take_past, all_at, all_unmapped}
+use Rattle.tv_points.proofs.PlaceLemmas.{got as got_at}
 
 pub lists-preserved : goal.lists-preserved
 lists-preserved c =
@@ -20,7 +20,7 @@ lists-preserved c =
     let lists = map (λ v. v.items) vs in
     let e = c.deref-rows.ensures.value in
     let got = got_mapped (λ v. v.items) vs k ∙ ap (option_map (λ v. v.items)) (got_at vs k v c.lists-test.true c.index-lists-place.is) in
-    let even = at_place (λ v. AreEven about.variables v.items) vs k v (all_back (AreEven about.variables) (λ v. v.items) vs c.requires.even) c.lists-test.true c.index-lists-place.is in
+    let even = all_at (λ v. AreEven about.variables v.items) vs k v (all_unmapped (AreEven about.variables) (λ v. v.items) vs c.requires.even) c.lists-test.true c.index-lists-place.is in
     let few = c.requires.few in
     let l = c.lists-test.true in
     let made = c.in_ok-piece_of.ensures in
@@ -34,4 +34,4 @@ returns c =
     let lists = map (λ v. v.items) c.args.lists.now in
     let l = c.lists-test.false in
     let many = length-map c.args.lists.now (λ v. v.items) in
-    subst (λ rows. AreAtoms about c.args.location lists rows c.args.made.now.pieces.items c.args.made.now.proofs.items c.lists.made.pieces.items c.lists.made.proofs.items) (take_whole lists c.lists.place (omega (arith, l, many))) c.lists.invariant
+    subst (λ rows. AreAtoms about c.args.location lists rows c.args.made.now.pieces.items c.args.made.now.proofs.items c.lists.made.pieces.items c.lists.made.proofs.items) (take_past lists c.lists.place (omega (arith, l, many))) c.lists.invariant

@@ -4,9 +4,10 @@ use Rattle.tv_cases.specs.declared.case.Case.{Case}
 use Rattle.tv_cases.specs.Views.{case_view}
 use Rattle.tv_region.specs.Met.{Has}
 use Rattle.tv_region.specs.Differences.{IsCaseOfDifferences}
-use Rattle.tv_pre.proofs.AddLemmas.{take_whole}
-use Rattle.tv_pre.proofs.DifferenceLemmas.{all_cases, case_more, case_has, not_false}
+use Rattle.tv_pre.proofs.DifferenceLemmas.{all_cases, case_more, not_false}
 use Rattle.tv_pre.proofs.differences.are_cases_of_differences.Goals as goal
+use Rattle.tv_linear.proofs.ListLaws.{take_past}
+use Rattle.tv_region.proofs.StepLemmas.{case_has}
 
 pub cases-preserved : goal.cases-preserved
 cases-preserved c =
@@ -15,7 +16,7 @@ cases-preserved c =
 
 pub returns-clause-found : goal.returns-clause-found
 returns-clause-found c = λ t k m.
-    let whole = take_whole c.list-case-items.result.now c.cases.case-index c.cases-test.false in
+    let whole = take_past c.list-case-items.result.now c.cases.case-index c.cases-test.false in
     all_cases c.list-case-items.result.now (subst (All (λ (x : Case). IsCaseOfDifferences (case_view x))) whole c.cases.invariant) k
     (subst (λ (cs : List LinearCase). Has cs k) (sym c.list-case-items.ensures.same) m)
 

@@ -1,8 +1,9 @@
 use Rattle.std.proofs.Common.{sym, subst, All}
 use Rattle.tv_linear.specs.declared.region.Update.{Update}
 use Rattle.tv_region.specs.Differences.{IsDifference, IsShift}
-use Rattle.tv_pre.proofs.DifferenceLemmas.{all_has, has_all, not_false}
+use Rattle.tv_pre.proofs.DifferenceLemmas.{all_has, not_false}
 use Rattle.tv_pre.proofs.differences.is_case_of_differences.Goals as goal
+use Rattle.tv_region.proofs.MetLemmas.{all_has as has_all}
 
 pub returns-clause-found : goal.returns-clause-found
 returns-clause-found c = λ t. record {

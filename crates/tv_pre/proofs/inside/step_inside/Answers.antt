@@ -13,9 +13,10 @@ use Rattle.tv_region.specs.Regions.{lists_at}
 use Rattle.tv_choice.specs.Leading.{piece_rows}
 use Rattle.tv_pre.specs.Questions.{steps, step_rows, uncovered}
 use Rattle.tv_pre.specs.Targets.{AreBefore}
-use Rattle.tv_pre.proofs.StepLemmas.{case_among, shows_step, step_even, step_whole, targets_even}
+use Rattle.tv_pre.proofs.StepLemmas.{shows_step, step_even, step_whole, targets_even}
 use Rattle.tv_pre.proofs.RefusalLemmas.{refusal_of, unmade_step}
 use Rattle.tv_pre.proofs.inside.step_inside.Goals as goal
+use Rattle.tv_cases.proofs.LeavingLemmas.{case_of_system}
 
 pub returns-in-Err-clause-refusals : goal.returns-in-Err-clause-refusals
 returns-in-Err-clause-refusals c = unmade_step (cases_of c.args.setting.now.about.now) c.args.setting.now.budget.now c.args.piece.now (case_view c.args.case.now) c.args.into.now c.in-Err.fault c.in-Err.ensures.refusals
@@ -30,7 +31,7 @@ made : (c : goal.After-deref-3) → AreBefore (case_view c.args.case.now) (lists
 made c = subst (λ ts. AreBefore (case_view c.args.case.now) (lists_at c.args.case.now.to c.args.into.now) (lists_of ts)) (sym c.deref-3.ensures.value) c.in-Ok.ensures.targets
 
 case_is : (c : goal.After-deref-3) → IsCase (cases_of c.args.setting.now.about.now).variables (cases_of c.args.setting.now.about.now).locations (case_view c.args.case.now)
-case_is c = case_among (cases_of c.args.setting.now.about.now) (case_view c.args.case.now) c.variables-variables.ensures.limits c.requires.among
+case_is c = case_of_system (cases_of c.args.setting.now.about.now) (case_view c.args.case.now) c.variables-variables.ensures.limits c.requires.among
 
 wide : (c : goal.After-deref-3) → c.variables-variables.result + c.args.case.now.draws ≡ (cases_of c.args.setting.now.about.now).variables + c.args.case.now.draws
 wide c = ap (λ n. n + c.args.case.now.draws) c.variables-variables.ensures.same
@@ -83,7 +84,7 @@ unreachable-requires c =
     ∙ (λ i. (c.in_ok-rows.ensures.exact ∙ ap (map (padded_row c.args.case.now.draws)) c.deref.ensures.value) i ++ c.deref-2.ensures.value i)
     in
     let made : AreBefore case (lists_at case.to into) lists = subst (λ ts. AreBefore case (lists_at case.to into) (lists_of ts)) (sym c.deref-3.ensures.value) c.in-Ok.ensures.targets in
-    let is_case = case_among about case c.variables-variables.ensures.limits c.requires.among in
+    let is_case = case_of_system about case c.variables-variables.ensures.limits c.requires.among in
     let hole = subst (IsCovered n lists rows) c.in-Ok-Hole.field-0-is c.in-Ok-Hole.ensures.answers in
     step_whole about case is_case piece c.requires.piece into c.requires.into lists rows n c.in-Ok-Hole.field-0-0.items c.requires.among c.requires.from c.requires.inside made asked wide hole
 
@@ -102,7 +103,7 @@ returns-clause-shows c =
     ∙ (λ i. (c.in_ok-rows.ensures.exact ∙ ap (map (padded_row c.args.case.now.draws)) c.deref.ensures.value) i ++ c.deref-2.ensures.value i)
     in
     let made : AreBefore case (lists_at case.to into) lists = subst (λ ts. AreBefore case (lists_at case.to into) (lists_of ts)) (sym c.deref-3.ensures.value) c.in-Ok.ensures.targets in
-    let is_case = case_among about case c.variables-variables.ensures.limits c.requires.among in
+    let is_case = case_of_system about case c.variables-variables.ensures.limits c.requires.among in
     let is = c.in-Ok-Tree.field-0-is in
     let tree = c.in-Ok-Tree.cover in
     shows_step about case is_case piece c.requires.piece into c.requires.into lists rows n tree made asked wide

@@ -2,16 +2,18 @@ use Rattle.std.proofs.Common.{◌≡◌, map, subst, sym, arith}
 use Rattle.tv_cases.specs.LinearCases.{leaving}
 use Rattle.tv_cases.specs.Systems.{cases_of}
 use Rattle.tv_cases.specs.Views.{case_view}
-use Rattle.tv_cases.proofs.LeavingLemmas.{none_more, case_within, case_among}
+use Rattle.tv_cases.proofs.LeavingLemmas.{case_within, case_among}
 use Rattle.tv_cert.specs.declared.node.Proof.TheVariants.{Covered}
 use Rattle.tv_cert.specs.Obligations.{step_of}
 use Rattle.tv_cert.specs.Targets.{no_fall}
 use Rattle.tv_cert.specs.Claims.{about_with}
 use Rattle.tv_pre.specs.Offers.{Adds}
 use Rattle.tv_pre.specs.Questions.{steps, AsksSteps}
-use Rattle.tv_pre.proofs.AddLemmas.{adds_one, one_done, steps_whole, leaving_from}
+use Rattle.tv_pre.proofs.AddLemmas.{adds_one, one_done, steps_whole}
 use Rattle.tv_pre.proofs.RefusalLemmas.{refusal_weaker}
 use Rattle.tv_pre.proofs.proving.prove_steps.Goals as goal
+use Rattle.tv_choice.proofs.FitLemmas.{leaving_from}
+use Rattle.tv_places.proofs.PlaceLemmas.{past_end}
 
 pub step_inside-requires-clause-among : goal.step_inside-requires-clause-among
 step_inside-requires-clause-among c = case_among c.args.piece.now.location (cases_of c.args.setting.now.about.now).cases c.cases.k (case_view c.in-Some.case.now) c.in-Some.ensures.case
@@ -53,4 +55,4 @@ returns-clause-adds c number p ps m h =
     let all = leaving c.args.piece.now.location system.cases in
     let f = step_of number (about_with system) p ps (λ c. no_fall) in
     subst (λ l. Adds (map f (leaving l system.cases)) c.args.proofs.now.items c.cases.proofs.items) (sym m.0)
-    (steps_whole f all c.cases.k c.args.proofs.now.items c.cases.proofs.items (none_more all c.cases.k c.in_default.ensures.case) (c.cases.invariant number p ps m h))
+    (steps_whole f all c.cases.k c.args.proofs.now.items c.cases.proofs.items (past_end all c.cases.k c.in_default.ensures.case) (c.cases.invariant number p ps m h))

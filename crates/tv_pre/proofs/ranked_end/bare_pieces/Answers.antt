@@ -5,9 +5,9 @@ use Rattle.tv_cases.specs.Systems.{cases_of}
 use Rattle.tv_cert.specs.Pieces.{place_of, rows_of}
 use Rattle.tv_region.specs.Regions.{IsPieceOf}
 use Rattle.tv_pre.specs.Pieces.{ArePieces}
-use Rattle.tv_pre.proofs.AddLemmas.{at_place}
 use Rattle.tv_pre.proofs.RankedEndLemmas.{marked_more, marked_none, marked_whole, over_more}
 use Rattle.tv_pre.proofs.ranked_end.bare_pieces.Goals as goal
+use Rattle.tv_linear.proofs.ListLaws.{all_at}
 
 pub pieces-init : goal.pieces-init
 pieces-init c = record {
@@ -26,8 +26,8 @@ pieces-preserved c =
     let old = c.pieces.all.items in
     let new = c.push_item.new.items.items in
     let q : Piece = record { location = c.location-location.result; poly = record { columns = c.variables-columns.result; rows = c.new-rows.result } } in
-    let place = at_place (λ p. place_of p < about.locations) ps i p c.requires.places c.pieces-test.true c.piece-item.is in
-    let bare = at_place (λ p. rows_of p ≡ []) ps i p c.requires.bare c.pieces-test.true c.piece-item.is in
+    let place = all_at (λ p. place_of p < about.locations) ps i p c.requires.places c.pieces-test.true c.piece-item.is in
+    let bare = all_at (λ p. rows_of p ≡ []) ps i p c.requires.bare c.pieces-test.true c.piece-item.is in
     record {
       marked = marked_more ps i p old new q c.pieces-test.true c.piece-item.is c.in_ok-push_item.ensures (sym c.location-location.ensures, bare ∙ sym c.new-rows.ensures.items) c.pieces.invariant.marked;
       over = over_more about old new q c.in_ok-push_item.ensures (subst (λ l. l < about.locations) (sym c.location-location.ensures) place) c.variables-columns.ensures.same c.new-rows.ensures.items c.pieces.invariant.over;

@@ -10,11 +10,12 @@ use Rattle.tv_cert.specs.Obligations.{step_of, step_fall}
 use Rattle.tv_lexrank.specs.Shown.{IsShownIn}
 use Rattle.tv_pre.specs.Offers.{Adds}
 use Rattle.tv_pre.specs.Questions.{steps, AsksSteps}
-use Rattle.tv_pre.proofs.AddLemmas.{adds_one, adds_then, take_whole}
+use Rattle.tv_pre.proofs.AddLemmas.{adds_one, adds_then}
 use Rattle.tv_pre.proofs.RankedStepLemmas.{case_within, got_case, leaving_kept, leaving_skipped, many_cases, many_shown, shown_at}
 use Rattle.tv_pre.proofs.RefusalLemmas.{refusal_weaker}
 use Rattle.tv_pre.proofs.ranked_steps.prove_ranked_steps.Goals.{then-case-piece+in-Ok+in_ok-push_item-in-Ok, else-case-piece}
 use Rattle.tv_pre.proofs.ranked_steps.prove_ranked_steps.Goals as goal
+use Rattle.tv_linear.proofs.ListLaws.{take_past}
 
 pub bounds-ranking-number : goal.bounds-ranking-number
 bounds-ranking-number c =
@@ -75,4 +76,4 @@ returns-clause-adds c k p all placed =
     let many = many_cases c.list-list.result.now about.cases c.list-list.ensures.same in
     let past = c.cases-test.false in
     subst (λ l. Adds (map f (leaving l about.cases)) c.args.proofs.now.items c.cases.proofs.items) (sym placed.marked.0)
-    (subst (λ cs. Adds (map f (leaving c.args.piece.now.location cs)) c.args.proofs.now.items c.cases.proofs.items) (take_whole about.cases c.cases.number (omega (arith, many, past))) (c.cases.invariant k p all placed))
+    (subst (λ cs. Adds (map f (leaving c.args.piece.now.location cs)) c.args.proofs.now.items c.cases.proofs.items) (take_past about.cases c.cases.number (omega (arith, many, past))) (c.cases.invariant k p all placed))

@@ -5,9 +5,10 @@ use Rattle.tv_choice.specs.Leading.{piece_rows}
 use Rattle.tv_pre.specs.Questions.{lies}
 use Rattle.tv_pre.specs.Starting.{CoversOrLeaves, AsksEmpty}
 use Rattle.tv_pre.proofs.RefusalLemmas.{refusal_of}
-use Rattle.tv_pre.proofs.StartLemmas.{place_there, none_here, none_there, none_at_all, count_here, count_there, short_within}
+use Rattle.tv_pre.proofs.StartLemmas.{place_there, none_here, none_there, none_at_all, count_here, count_there}
 use Rattle.tv_pre.proofs.starting.first_inside.Goals.{then-piece-start+in-Ok-Tree+else-place, else-piece-start}
 use Rattle.tv_pre.proofs.starting.first_inside.Goals as goal
+use Rattle.tv_farkas.proofs.StretchLemmas.{short_all}
 
 pub returns-in-Err-clause-refusals : goal.returns-in-Err-clause-refusals
 returns-in-Err-clause-refusals c =
@@ -26,7 +27,7 @@ returns-in-Ok-Hole-clause-answer c =
       there = ap (λ k. slice_get (lists_at about.start c.args.pieces.now) k) (c.pieces.invariant.count ∙ ap (λ l. length (lists_at l (take c.pieces.piece-index c.args.pieces.now))) c.start-start.ensures.same)
           ∙ place_there about.start c.args.pieces.now c.pieces.piece-index q c.pieces-test.true c.piece-item.is (c.if-piece-start.true ∙ c.start-start.ensures.same);
       point = left.hole.point;
-      narrow = short_within c.in-Ok-Hole.values.items left.short;
+      narrow = short_all c.in-Ok-Hole.values.items left.short;
     }
 
 pub pieces-preserved : goal.pieces-preserved

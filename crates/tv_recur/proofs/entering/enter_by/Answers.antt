@@ -7,12 +7,14 @@ use Rattle.tv_recur.specs.Nodes.{on_piece}
 use Rattle.tv_recur.proofs.KeepLemmas.{entry_by, entering_wide, never_left, inside_piece, second_there}
 use Rattle.tv_recur.proofs.OwedLemmas.{terms_each, terms_even}
 use Rattle.tv_recur.proofs.PointLemmas.{draw_at, split_point, put_is, put_even, split_met}
-use Rattle.tv_recur.proofs.ReadLemmas.{found_among, case_is, among_case, undrawn_wide}
+use Rattle.tv_recur.proofs.ReadLemmas.{case_is, undrawn_wide}
 use Rattle.tv_recur.specs.Refusing.{AreFrom}
 use Rattle.tv_derived.specs.Scopes.{at_location}
 use Rattle.tv_recur.specs.Making.{drawn_terms}
 use Rattle.tv_recur.proofs.RefusalLemmas.{may_put, undrawn_from, entering_from, put_refused, made_from}
 use Rattle.tv_recur.proofs.entering.enter_by.Goals as goal
+use Rattle.tv_linear.proofs.ListLaws.{contains_at}
+use Rattle.tv_cases.proofs.LeavingLemmas.{case_of_system}
 
 pub rows_put-requires-clause-each : goal.rows_put-requires-clause-each
 rows_put-requires-clause-each c =
@@ -24,7 +26,7 @@ rows_put-requires-clause-each c =
     let ds = c.split_at.result.1.now in
     let rows = c.deref-2.result.now in
     let e = entry_by about kept c.args.entry.now case rows c.requires.entry c.in-Some.ensures c.deref-2.ensures.value in
-    let good = among_case about kept c.args.search.now.about.now.are_cases c.requires.among in
+    let good = case_of_system about kept c.args.search.now.about.now.are_cases c.requires.among in
     let wide = undrawn_wide about.variables kept c.requires.kept.no_draws good.guards in
     let s = split_point v case.draws c.args.entry.now.point.items xs ds
     (e.point_is.width ∙ ap (λ k. k + case.draws) (sym c.variables-variables.ensures.same)) e.short (c.split_at.ensures.front ∙ ap (take v) c.deref.ensures.value) (c.split_at.ensures.back ∙ ap (drop v) c.deref.ensures.value) in
@@ -48,11 +50,11 @@ leading-requires-clause-taking c =
     let e = entry_by about kept c.args.entry.now case rows c.requires.entry c.in-Some.ensures c.deref-2.ensures.value in
     let s = split_point v case.draws c.args.entry.now.point.items xs ds
     (e.point_is.width ∙ ap (λ k. k + case.draws) (sym c.variables-variables.ensures.same)) e.short (c.split_at.ensures.front ∙ ap (take v) c.deref.ensures.value) (c.split_at.ensures.back ∙ ap (drop v) c.deref.ensures.value) in
-    let good = among_case about kept c.args.search.now.about.now.are_cases c.requires.among in
+    let good = case_of_system about kept c.args.search.now.about.now.are_cases c.requires.among in
     let wide = undrawn_wide about.variables kept c.requires.kept.no_draws good.guards in
     let b = c.args.search.now.budget.now in
     let from = subst (λ l. AreFrom about (at_location l) 1 kept.guards) (sym e.ends) (undrawn_from about b kept 1 c.requires.among c.requires.kept.no_draws) in
-    let rows_from = entering_from about b case kept.guards rows (found_among about.cases c.args.entry.now.number case c.in-Some.ensures) wide from e.entering in
+    let rows_from = entering_from about b case kept.guards rows (contains_at about.cases c.args.entry.now.number case c.in-Some.ensures) wide from e.entering in
     let may = may_put about c.args.search.now.budget.now 2 case rows c.args.entry.now.point.items ds (about.variables + case.draws) refl rows_from e.first s.drawn
     (λ j l. draw_at about.variables v case.draws c.args.entry.now.point.items xs ds c.variables-variables.ensures.same s j) in
     record { found = c.in-Some.ensures; counted = s.drawn; narrow = s.draws; may = may; near = omega arith; splits = c.requires.splits }
@@ -80,7 +82,7 @@ leading-requires-clause-same c =
     let ds = c.split_at.result.1.now in
     let rows = c.deref-2.result.now in
     let e = entry_by about kept c.args.entry.now case rows c.requires.entry c.in-Some.ensures c.deref-2.ensures.value in
-    let good = among_case about kept c.args.search.now.about.now.are_cases c.requires.among in
+    let good = case_of_system about kept c.args.search.now.about.now.are_cases c.requires.among in
     let wide = undrawn_wide about.variables kept c.requires.kept.no_draws good.guards in
     subst (λ k. All (λ r. columns r ≡ k) c.deref-4.result.now) (sym c.variables-variables.ensures.same) (subst (All (λ r. columns r ≡ about.variables)) (sym c.deref-4.ensures.value) wide)
 
@@ -94,7 +96,7 @@ unreachable-requires-in-Ok-None c =
     let ds = c.split_at.result.1.now in
     let rows = c.deref-2.result.now in
     let e = entry_by about kept c.args.entry.now case rows c.requires.entry c.in-Some.ensures c.deref-2.ensures.value in
-    let good = among_case about kept c.args.search.now.about.now.are_cases c.requires.among in
+    let good = case_of_system about kept c.args.search.now.about.now.are_cases c.requires.among in
     let wide = undrawn_wide about.variables kept c.requires.kept.no_draws good.guards in
     let s = split_point v case.draws c.args.entry.now.point.items xs ds
     (e.point_is.width ∙ ap (λ k. k + case.draws) (sym c.variables-variables.ensures.same)) e.short (c.split_at.ensures.front ∙ ap (take v) c.deref.ensures.value) (c.split_at.ensures.back ∙ ap (drop v) c.deref.ensures.value) in
@@ -162,11 +164,11 @@ returns-in-Err-clause-refusals c =
     let e = entry_by about kept c.args.entry.now case rows c.requires.entry c.in-Some.ensures c.deref-2.ensures.value in
     let s = split_point v case.draws c.args.entry.now.point.items xs ds
     (e.point_is.width ∙ ap (λ k. k + case.draws) (sym c.variables-variables.ensures.same)) e.short (c.split_at.ensures.front ∙ ap (take v) c.deref.ensures.value) (c.split_at.ensures.back ∙ ap (drop v) c.deref.ensures.value) in
-    let good = among_case about kept c.args.search.now.about.now.are_cases c.requires.among in
+    let good = case_of_system about kept c.args.search.now.about.now.are_cases c.requires.among in
     let wide = undrawn_wide about.variables kept c.requires.kept.no_draws good.guards in
     let b = c.args.search.now.budget.now in
     let from = subst (λ l. AreFrom about (at_location l) 1 kept.guards) (sym e.ends) (undrawn_from about b kept 1 c.requires.among c.requires.kept.no_draws) in
-    let rows_from = entering_from about b case kept.guards rows (found_among about.cases c.args.entry.now.number case c.in-Some.ensures) wide from e.entering in
+    let rows_from = entering_from about b case kept.guards rows (contains_at about.cases c.args.entry.now.number case c.in-Some.ensures) wide from e.entering in
     let may = may_put about c.args.search.now.budget.now 2 case rows c.args.entry.now.point.items ds (about.variables + case.draws) refl rows_from e.first s.drawn
     (λ j l. draw_at about.variables v case.draws c.args.entry.now.point.items xs ds c.variables-variables.ensures.same s j) in
     let terms = c.deref-3.ensures.value ∙ c.in_ok-terms.ensures ∙ ap (λ k. drawn_terms k ds) c.variables-variables.ensures.same in
@@ -184,11 +186,11 @@ leading-requires-clause-derived c =
     let e = entry_by about kept c.args.entry.now case rows c.requires.entry c.in-Some.ensures c.deref-2.ensures.value in
     let s = split_point v case.draws c.args.entry.now.point.items xs ds
     (e.point_is.width ∙ ap (λ k. k + case.draws) (sym c.variables-variables.ensures.same)) e.short (c.split_at.ensures.front ∙ ap (take v) c.deref.ensures.value) (c.split_at.ensures.back ∙ ap (drop v) c.deref.ensures.value) in
-    let good = among_case about kept c.args.search.now.about.now.are_cases c.requires.among in
+    let good = case_of_system about kept c.args.search.now.about.now.are_cases c.requires.among in
     let wide = undrawn_wide about.variables kept c.requires.kept.no_draws good.guards in
     let b = c.args.search.now.budget.now in
     let from = subst (λ l. AreFrom about (at_location l) 1 kept.guards) (sym e.ends) (undrawn_from about b kept 1 c.requires.among c.requires.kept.no_draws) in
-    let rows_from = entering_from about b case kept.guards rows (found_among about.cases c.args.entry.now.number case c.in-Some.ensures) wide from e.entering in
+    let rows_from = entering_from about b case kept.guards rows (contains_at about.cases c.args.entry.now.number case c.in-Some.ensures) wide from e.entering in
     let may = may_put about c.args.search.now.budget.now 2 case rows c.args.entry.now.point.items ds (about.variables + case.draws) refl rows_from e.first s.drawn
     (λ j l. draw_at about.variables v case.draws c.args.entry.now.point.items xs ds c.variables-variables.ensures.same s j) in
     let terms = c.deref-3.ensures.value ∙ c.in_ok-terms.ensures ∙ ap (λ k. drawn_terms k ds) c.variables-variables.ensures.same in
@@ -206,11 +208,11 @@ leading-requires-clause-entered c =
     let e = entry_by about kept c.args.entry.now case rows c.requires.entry c.in-Some.ensures c.deref-2.ensures.value in
     let s = split_point v case.draws c.args.entry.now.point.items xs ds
     (e.point_is.width ∙ ap (λ k. k + case.draws) (sym c.variables-variables.ensures.same)) e.short (c.split_at.ensures.front ∙ ap (take v) c.deref.ensures.value) (c.split_at.ensures.back ∙ ap (drop v) c.deref.ensures.value) in
-    let good = among_case about kept c.args.search.now.about.now.are_cases c.requires.among in
+    let good = case_of_system about kept c.args.search.now.about.now.are_cases c.requires.among in
     let wide = undrawn_wide about.variables kept c.requires.kept.no_draws good.guards in
     let b = c.args.search.now.budget.now in
     let from = subst (λ l. AreFrom about (at_location l) 1 kept.guards) (sym e.ends) (undrawn_from about b kept 1 c.requires.among c.requires.kept.no_draws) in
-    let rows_from = entering_from about b case kept.guards rows (found_among about.cases c.args.entry.now.number case c.in-Some.ensures) wide from e.entering in
+    let rows_from = entering_from about b case kept.guards rows (contains_at about.cases c.args.entry.now.number case c.in-Some.ensures) wide from e.entering in
     let may = may_put about c.args.search.now.budget.now 2 case rows c.args.entry.now.point.items ds (about.variables + case.draws) refl rows_from e.first s.drawn
     (λ j l. draw_at about.variables v case.draws c.args.entry.now.point.items xs ds c.variables-variables.ensures.same s j) in
     let terms = c.deref-3.ensures.value ∙ c.in_ok-terms.ensures ∙ ap (λ k. drawn_terms k ds) c.variables-variables.ensures.same in

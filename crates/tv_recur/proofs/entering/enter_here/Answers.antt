@@ -5,12 +5,12 @@ use Rattle.tv_cases.specs.Views.{case_view}
 use Rattle.tv_farkas.specs.Paths.{IsWholePoint}
 use Rattle.tv_recur.specs.Nodes.{on_piece}
 use Rattle.tv_recur.proofs.KeepLemmas.{inside_piece, first_there, not_entered_here}
-use Rattle.tv_recur.proofs.PointLemmas.{short_within}
 use Rattle.std.proofs.Common.{◌+◌, arith}
 use Rattle.tv_derived.specs.Scopes.{at_location}
 use Rattle.tv_recur.specs.Refusing.{AreFrom}
 use Rattle.tv_recur.proofs.RefusalLemmas.{empty_refused, undrawn_from}
 use Rattle.tv_recur.proofs.entering.enter_here.Goals as goal
+use Rattle.tv_farkas.proofs.StretchLemmas.{short_all}
 
 pub returns-in-Ok-Tree-clause-found : goal.returns-in-Ok-Tree-clause-found
 returns-in-Ok-Tree-clause-found c =
@@ -33,7 +33,7 @@ returns-in_ok-root-in-Ok-Whole-clause-found c =
       fitted = node.fitted;
       inside = inside_piece about (piece ∷ []) c.in_ok-root-in-Ok-Whole.root piece values node.pieces (first_there piece [] about.start c.requires.here)
           (whole.width ∙ c.variables-columns.ensures.same)
-          (short_within values short)
+          (short_all values short)
           (subst (All (IsMet values)) (c.deref.ensures.value ∙ sym c.deref-in-Ok-Whole.ensures.value) whole.met);
     }
 

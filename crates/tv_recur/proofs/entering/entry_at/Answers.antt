@@ -7,9 +7,9 @@ use Rattle.tv_recur.proofs.ReadLemmas.{case_is}
 use Rattle.std.proofs.Common.{ap}
 use Rattle.tv_derived.specs.Scopes.{at_location, over_case}
 use Rattle.tv_recur.specs.Refusing.{AreFrom}
-use Rattle.tv_recur.proofs.ReadLemmas.{found_among}
 use Rattle.tv_recur.proofs.RefusalLemmas.{empty_refused, entering_from}
 use Rattle.tv_recur.proofs.entering.entry_at.Goals as goal
+use Rattle.tv_linear.proofs.ListLaws.{contains_at}
 
 pub empty-requires-clause-even : goal.empty-requires-clause-even
 empty-requires-clause-even c =
@@ -28,5 +28,5 @@ returns-in-Err-empty-clause-refusals c =
     let guards = (case_view c.args.kept.now).guards in
     let from = subst (λ l. AreFrom about (at_location l) 1 guards) (sym c.if-case-kept.false) c.requires.from in
     empty_refused about b (over_case case) c.deref.result.now (c.variables.result + case.draws) c.in-Err-empty.fault (ap (λ k. k + case.draws) c.variables.ensures.same)
-    (subst (AreFrom about (over_case case) 2) (sym c.deref.ensures.value) (entering_from about b case guards c.in-Ok.rows.items (found_among about.cases c.args.number case c.in-Some.ensures) c.requires.even from c.in-Ok.ensures.entering))
+    (subst (AreFrom about (over_case case) 2) (sym c.deref.ensures.value) (entering_from about b case guards c.in-Ok.rows.items (contains_at about.cases c.args.number case c.in-Some.ensures) c.requires.even from c.in-Ok.ensures.entering))
     c.in-Err-empty.ensures.refusals

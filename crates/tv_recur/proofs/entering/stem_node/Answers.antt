@@ -4,14 +4,15 @@ use Rattle.tv_cases.specs.Views.{case_view}
 use Rattle.tv_cert.specs.declared.node.Proof.TheVariants.{Chosen}
 use Rattle.tv_recur.specs.Nodes.{on_piece}
 use Rattle.tv_recur.proofs.KeepLemmas.{stem_shape, stem_goes}
-use Rattle.tv_recur.proofs.ReadLemmas.{among_case, undrawn_wide}
+use Rattle.tv_recur.proofs.ReadLemmas.{undrawn_wide}
 use Rattle.tv_recur.proofs.entering.stem_node.Goals as goal
+use Rattle.tv_cases.proofs.LeavingLemmas.{case_of_system}
 
 pub endless_node-requires-clause-shape : goal.endless_node-requires-clause-shape
 endless_node-requires-clause-shape c =
     let about = cases_of c.args.about.now in
     let kept = case_view c.args.kept.now in
-    let good = among_case about kept c.args.about.now.are_cases c.requires.among in
+    let good = case_of_system about kept c.args.about.now.are_cases c.requires.among in
     let pieces : c.push_item-2.new.items.items ≡ on_piece about.variables kept.from kept.guards ∷ on_piece about.variables about.start c.args.stem.rows.now ∷ [] =
     c.in_ok-push_item-2.ensures
     ∙ (λ i. (c.in_ok-push_item.ensures ∙ (λ j. c.new-pieces.ensures.items j ++ (c.in_ok-guards.ensures ∙ (λ k. on_piece (c.variables.ensures.same k) kept.from (c.deref.ensures.value k))) j ∷ [])) i

@@ -9,9 +9,9 @@ use Rattle.tv_recur.proofs.OwedLemmas.{terms_each, terms_even}
 use Rattle.tv_recur.proofs.ReadLemmas.{taking_case}
 use Rattle.tv_derived.specs.Scopes.{over_case}
 use Rattle.tv_recur.specs.Refusing.{AreFrom}
-use Rattle.tv_recur.proofs.ReadLemmas.{found_among}
 use Rattle.tv_recur.proofs.RefusalLemmas.{guards_from, put_refused, before_refused, before_from}
 use Rattle.tv_recur.proofs.owing.owed.Goals as goal
+use Rattle.tv_linear.proofs.ListLaws.{contains_at}
 
 pub rows_put-requires-clause-each : goal.rows_put-requires-clause-each
 rows_put-requires-clause-each c =
@@ -54,7 +54,7 @@ returns-in-Err-clause-refusals c =
     let t = c.args.taking.now in
     let about = cases_of t.about.now in
     let case = case_view t.case.now in
-    let among = found_among about.cases t.number case c.requires.taking.found in
+    let among = contains_at about.cases t.number case c.requires.taking.found in
     put_refused about t.budget.now case t.draws.now c.requires.taking.counted c.requires.taking.may c.deref.result.now c.deref-2.result.now c.in-Err.fault
     (c.deref-2.ensures.value ∙ c.in_ok-terms.ensures ∙ ap (λ k. drawn_terms k t.draws.now) c.variables-variables.ensures.same)
     (subst (AreFrom about (over_case case) 2) (sym c.deref.ensures.value) (guards_from about t.budget.now case 2 among)) c.in-Err.ensures.refusals
@@ -64,14 +64,14 @@ returns-in-Err-rows_before-clause-refusals c =
     let t = c.args.taking.now in
     let about = cases_of t.about.now in
     let case = case_view t.case.now in
-    before_refused about t.budget.now case c.args.into.now c.in-Err-rows_before.fault (found_among about.cases t.number case c.requires.taking.found) c.requires.even c.requires.entered c.in-Err-rows_before.ensures.refusals
+    before_refused about t.budget.now case c.args.into.now c.in-Err-rows_before.fault (contains_at about.cases t.number case c.requires.taking.found) c.requires.even c.requires.entered c.in-Err-rows_before.ensures.refusals
 
 pub returns-in-Err-rows_put-clause-refusals : goal.returns-in-Err-rows_put-clause-refusals
 returns-in-Err-rows_put-clause-refusals c =
     let t = c.args.taking.now in
     let about = cases_of t.about.now in
     let case = case_view t.case.now in
-    let among = found_among about.cases t.number case c.requires.taking.found in
+    let among = contains_at about.cases t.number case c.requires.taking.found in
     let made = c.in-Ok-rows_before.ensures.rows in
     put_refused about t.budget.now case t.draws.now c.requires.taking.counted c.requires.taking.may c.deref-3.result.now c.deref-4.result.now c.in-Err-rows_put.fault
     (c.deref-4.ensures.value ∙ c.in_ok-terms.ensures ∙ ap (λ k. drawn_terms k t.draws.now) c.variables-variables.ensures.same)

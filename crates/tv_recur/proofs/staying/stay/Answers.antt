@@ -7,9 +7,10 @@ use Rattle.tv_recur.specs.Staying.{unchanged_rows, staying_rows, NeverStays}
 use Rattle.tv_derived.specs.Scopes.{over_case}
 use Rattle.tv_recur.specs.Refusing.{AreFrom}
 use Rattle.tv_recur.proofs.RefusalLemmas.{updates_refused, staying_from, empty_refused, more_from}
-use Rattle.tv_recur.proofs.ReadLemmas.{case_is, same_read, found_among}
+use Rattle.tv_recur.proofs.ReadLemmas.{case_is, same_read}
 use Rattle.tv_recur.proofs.StayLemmas.{never_stays, staying_wide}
 use Rattle.tv_recur.proofs.staying.stay.Goals as goal
+use Rattle.tv_linear.proofs.ListLaws.{contains_at}
 
 pub empty-requires-clause-even : goal.empty-requires-clause-even
 empty-requires-clause-even c =
@@ -38,7 +39,7 @@ returns-in-Err-clause-refusals c =
     let about = cases_of c.args.search.now.about.now in
     let b = c.args.search.now.budget.now in
     let case = case_view c.in-Some.case.now in
-    updates_refused about b case (found_among about.cases c.args.number case c.in-Some.ensures) (c.if-case-start.false ∙ c.start.ensures.same) (c.if-case-start-2.false ∙ c.start-else-case-start.ensures.same)
+    updates_refused about b case (contains_at about.cases c.args.number case c.in-Some.ensures) (c.if-case-start.false ∙ c.start.ensures.same) (c.if-case-start-2.false ∙ c.start-else-case-start.ensures.same)
     (c.variables.result + case.draws) c.deref-2.result.now c.in-Err.fault (ap (λ k. k + case.draws) c.variables.ensures.same) c.deref-2.ensures.value c.in-Err.ensures.refusals
 
 pub empty-requires-clause-few : goal.empty-requires-clause-few
@@ -57,7 +58,7 @@ returns-in-Err-empty-clause-refusals c =
     let made : c.deref-4.result.now ≡ staying_rows about.variables case =
     c.deref-4.ensures.value ∙ c.in-Ok.ensures.pushed
     ∙ (λ i. (c.in_ok-push_copies.ensures.copied ∙ (λ j. c.new-rows.ensures.items j ++ c.deref.ensures.value j)) i ++ unchanged_rows (c.variables.ensures.same i + case.draws) (c.deref-2.ensures.value i)) in
-    let among = found_among about.cases c.args.number case c.in-Some.ensures in
+    let among = contains_at about.cases c.args.number case c.in-Some.ensures in
     let narrow = subst (All IsNarrow) (c.deref-3.ensures.value ∙ sym c.deref-4.ensures.value) c.narrow_rows.ensures in
     let from = staying_from about c.args.search.now.budget.now case among (c.if-case-start.false ∙ c.start.ensures.same) (c.if-case-start-2.false ∙ c.start-else-case-start.ensures.same) c.deref-4.result.now made narrow in
     empty_refused about b (over_case case) c.deref-4.result.now (c.variables.result + case.draws) c.in-Err-empty.fault (ap (λ k. k + case.draws) c.variables.ensures.same) (more_from about b (over_case case) c.deref-4.result.now from) c.in-Err-empty.ensures.refusals
@@ -70,7 +71,7 @@ staying_at-requires-clause-from c =
     let made : c.deref-4.result.now ≡ staying_rows about.variables case =
     c.deref-4.ensures.value ∙ c.in-Ok.ensures.pushed
     ∙ (λ i. (c.in_ok-push_copies.ensures.copied ∙ (λ j. c.new-rows.ensures.items j ++ c.deref.ensures.value j)) i ++ unchanged_rows (c.variables.ensures.same i + case.draws) (c.deref-2.ensures.value i)) in
-    let among = found_among about.cases c.args.number case c.in-Some.ensures in
+    let among = contains_at about.cases c.args.number case c.in-Some.ensures in
     let narrow = subst (All IsNarrow) (c.deref-3.ensures.value ∙ sym c.deref-4.ensures.value) c.narrow_rows.ensures in
     let from = staying_from about c.args.search.now.budget.now case among (c.if-case-start.false ∙ c.start.ensures.same) (c.if-case-start-2.false ∙ c.start-else-case-start.ensures.same) c.deref-4.result.now made narrow in
     subst (AreFrom about (over_case case) 1) (c.deref-4.ensures.value ∙ sym c.deref-in-Ok-Whole.ensures.value) from

@@ -3,8 +3,9 @@ use Rattle.tv_linear.specs.Known.{kept, put}
 use Rattle.tv_linear.specs.Terms.{update_of}
 use Rattle.tv_linear.proofs.PlainLists.{length-table}
 use Rattle.tv_refute.specs.Terms.{terms_of}
-use Rattle.tv_refute.proofs.Places.{length-draw_terms, get_or-table}
+use Rattle.tv_refute.proofs.Places.{length-draw_terms}
 use Rattle.tv_refute.proofs.terms.row_put.Goals as goal
+use Rattle.tv_linear.proofs.ListLaws.{get_or-table}
 
 pub drawn-requires : goal.drawn-requires
 drawn-requires c = subst (λ n. c.args.v < n) (ap (λ t. length (terms_of t)) c.in-Drawn.is ∙ length-draw_terms c.in-Drawn.columns c.in-Drawn.draws.now) c.requires

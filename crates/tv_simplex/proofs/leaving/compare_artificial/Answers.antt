@@ -3,9 +3,10 @@ use Rattle.std.specs.declared.cmp.Ordering.TheVariants.{Equal}
 use Rattle.tv_simplex.specs.Choosing.{ComparesAt}
 use Rattle.tv_simplex.specs.Rows.{IsRestOf}
 use Rattle.tv_simplex.specs.Tables.{shown, width_of}
-use Rattle.tv_simplex.proofs.RowLemmas.{left_up, left_gap, left_none, left_of, last_or_below}
+use Rattle.tv_simplex.proofs.RowLemmas.{left_up, left_gap, left_none, left_of}
 use Rattle.tv_simplex.proofs.LeavingLemmas.{next_within, none_differ, differs_less, differs_greater, differs_nowhere}
 use Rattle.tv_simplex.proofs.leaving.compare_artificial.Goals as goal
+use Rattle.tv_linear.proofs.ListLaws.{last_or_below}
 
 pub returns-in-Less : goal.returns-in-Less
 returns-in-Less c =

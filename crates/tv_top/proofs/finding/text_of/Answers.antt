@@ -2,10 +2,10 @@ use Rattle.std.proofs.Common.{sym, subst}
 use Rattle.std.specs.Prelude.{IfOk}
 use Rattle.tv_cases.specs.Systems.{cases_of}
 use Rattle.tv_cert.specs.Claims.{about_with, shown}
-use Rattle.tv_search.proofs.NumberLemmas.{if_ok}
 use Rattle.tv_top.specs.Finding.{IsTextOf}
 use Rattle.tv_top.specs.Views.{wanted_view}
 use Rattle.tv_top.proofs.finding.text_of.Goals as goal
+use Rattle.tv_propose.proofs.TableLemmas.{if_ok}
 
 pub returns-in-Certificate : goal.returns-in-Certificate
 returns-in-Certificate c =

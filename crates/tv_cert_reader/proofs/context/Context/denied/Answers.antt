@@ -11,8 +11,9 @@ use Rattle.tv_cert_reader.specs.Wholes.{ReadsRest}
 use Rattle.tv_cert_reader.proofs.ReadingLemmas.{at_exit}
 use Rattle.tv_cert_reader.specs.LineGrammar.{line}
 use Rattle.tv_cert_reader.specs.CertificateGrammar.{at_line}
-use Rattle.tv_cert_reader.proofs.RestLemmas.{no_numbers, none_past, none_by, some_by, denied_root_fails, values_stop, piece_missing, denied_last_fails, denied_end_fails}
+use Rattle.tv_cert_reader.proofs.RestLemmas.{none_past, none_by, some_by, denied_root_fails, values_stop, piece_missing, denied_last_fails, denied_end_fails}
 use Rattle.tv_cert_reader.proofs.context.Context.denied.Goals as goal
+use Rattle.tv_cases.proofs.BeforeValue.{no_columns}
 
 pub returns-in_err-root : goal.returns-in_err-root
 returns-in_err-root c =
@@ -65,7 +66,7 @@ returns-in_err-finish c =
     let system = cases_of c.args.self.now.about.now in
     let s = aim_states c.args.aim.now in
     let a = c.args.self.now.about.now.are_cases.starts in
-    let none = no_numbers c.in_ok-numbers.field-0.items c.in_ok-numbers.ensures.0.many in
+    let none = no_columns c.in_ok-numbers.field-0.items c.in_ok-numbers.ensures.0.many in
     at_exit (ReadsRest system s false c.args.cursor.now) c.from_residual-in_err-finish.result c.in_err-finish.field-0.0 c.from_residual-in_err-finish.ensures.1
     (denied_end_fails system (omega (arith, a)) s c.args.cursor.now c.in_ok-root.root c.node.new.cursor c.in_ok-root.ensures.read.0 c.in_ok-root.ensures.read.1 c.in_ok-place.place c.in_ok-place.values.items c.values.new.cursor
     (c.in_ok-place.ensures.0.many ∙ c.variables.ensures.same) c.in_ok-place.ensures.1

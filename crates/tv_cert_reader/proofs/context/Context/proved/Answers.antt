@@ -6,8 +6,9 @@ use Rattle.tv_cert.specs.AimViews.{aim_states}
 use Rattle.tv_cert_reader.specs.Reading.{Takes}
 use Rattle.tv_cert_reader.specs.Wholes.{ReadsRest}
 use Rattle.tv_cert_reader.proofs.ReadingLemmas.{at_exit}
-use Rattle.tv_cert_reader.proofs.RestLemmas.{no_numbers, proved_root_fails, start_fails, last_fails, end_fails}
+use Rattle.tv_cert_reader.proofs.RestLemmas.{proved_root_fails, start_fails, last_fails, end_fails}
 use Rattle.tv_cert_reader.proofs.context.Context.proved.Goals as goal
+use Rattle.tv_cases.proofs.BeforeValue.{no_columns}
 
 pub returns-in_err-root : goal.returns-in_err-root
 returns-in_err-root c =
@@ -40,7 +41,7 @@ returns-in_err-finish c =
     let system = cases_of c.args.self.now.about.now in
     let s = aim_states c.args.aim.now in
     let a = c.args.self.now.about.now.are_cases.starts in
-    let none = no_numbers c.in_ok-numbers.field-0.items c.in_ok-numbers.ensures.0.many in
+    let none = no_columns c.in_ok-numbers.field-0.items c.in_ok-numbers.ensures.0.many in
     at_exit (ReadsRest system s true c.args.cursor.now) c.from_residual-in_err-finish.result c.in_err-finish.field-0.0 c.from_residual-in_err-finish.ensures.1
     (end_fails system (omega (arith, a)) s c.args.cursor.now c.in_ok-root.root c.node.new.cursor c.in_ok-root.ensures.read.0 c.in_ok-root.ensures.read.1 c.in_ok-start.start c.start.new.cursor
     c.in_ok-start.ensures.0 c.in_ok-start.ensures.1 c.numbers.new.cursor c.in_err-finish.field-0.0

@@ -6,9 +6,9 @@ use Rattle.tv_cert_reader.specs.Reading.{Takes}
 use Rattle.tv_cert_reader.specs.Texts.{sides_of}
 use Rattle.tv_cert_reader.specs.Wholes.{ReadsAll}
 use Rattle.tv_cert_reader.proofs.ReadingLemmas.{at_exit}
-use Rattle.tv_cert_reader.proofs.RestLemmas.{no_numbers}
 use Rattle.tv_cert_reader.proofs.ReadLemmas.{opening_fails, saying_fails}
 use Rattle.tv_cert_reader.proofs.context.Context.whole.Goals as goal
+use Rattle.tv_cases.proofs.BeforeValue.{no_columns}
 
 pub returns-in_err-numbers : goal.returns-in_err-numbers
 returns-in_err-numbers c =
@@ -23,7 +23,7 @@ returns-in_err-said c =
     let system = cases_of c.args.self.now.about.now in
     let sides = sides_of c.args.claim.now in
     let a = c.args.self.now.about.now.are_cases.starts in
-    let none = no_numbers c.in_ok-numbers.field-0.items c.in_ok-numbers.ensures.0.many in
+    let none = no_columns c.in_ok-numbers.field-0.items c.in_ok-numbers.ensures.0.many in
     at_exit (ReadsAll system sides c.args.cursor.now) c.from_residual-in_err-said.result c.in_err-said.field-0.0 c.from_residual-in_err-said.ensures.1
     (saying_fails system (omega (arith, a)) sides c.args.cursor.now c.numbers.new.cursor c.in_err-said.field-0.0
     (subst (λ zs. Takes (formed heads.Header zs ∷ []) c.args.cursor.now c.numbers.new.cursor) none c.in_ok-numbers.ensures.1) c.in_err-said.ensures)

@@ -9,20 +9,21 @@ use Rattle.tv_region.specs.StepRegions.{InState}
 use Rattle.tv_pre.specs.Pieces.{AreMarked, ArePieces, InPieces}
 use Rattle.tv_pre.specs.Inclusions.{OfPiece}
 use Rattle.tv_pre.specs.Questions.{lies, AsksEach}
-use Rattle.tv_pre.proofs.AddLemmas.{one_done, steps_whole, zip_at, zip_length, at_place}
+use Rattle.tv_pre.proofs.AddLemmas.{one_done, steps_whole, zip_at, zip_length}
 use Rattle.tv_pre.proofs.RefusalLemmas.{refusal_weaker}
 use Rattle.tv_pre.proofs.junction.InEachOwing.prove.Goals as goal
+use Rattle.tv_linear.proofs.ListLaws.{all_at}
 
 pub prove_cover-requires-clause-into : goal.prove_cover-requires-clause-into
 prove_cover-requires-clause-into c =
     let about = cases_of c.args.setting.now.about.now in
-    let each = at_place (λ (r : Region). IsRegion about.variables about.locations r × OfPiece about c.args.piece.now (InState r)) c.args.self.now.regions.now c.regions.region-index c.region-item.result c.requires.of.1 c.regions-test.true c.region-item.is in
+    let each = all_at (λ (r : Region). IsRegion about.variables about.locations r × OfPiece about c.args.piece.now (InState r)) c.args.self.now.regions.now c.regions.region-index c.region-item.result c.requires.of.1 c.regions-test.true c.region-item.is in
     subst (ArePieces about) (sym c.deref.ensures.value) each.0.pieces
 
 pub prove_cover-requires-clause-inside : goal.prove_cover-requires-clause-inside
 prove_cover-requires-clause-inside c =
     let about = cases_of c.args.setting.now.about.now in
-    let each = at_place (λ (r : Region). IsRegion about.variables about.locations r × OfPiece about c.args.piece.now (InState r)) c.args.self.now.regions.now c.regions.region-index c.region-item.result c.requires.of.1 c.regions-test.true c.region-item.is in
+    let each = all_at (λ (r : Region). IsRegion about.variables about.locations r × OfPiece about c.args.piece.now (InState r)) c.args.self.now.regions.now c.regions.region-index c.region-item.result c.requires.of.1 c.regions-test.true c.region-item.is in
     subst (λ qs. OfPiece about c.args.piece.now (InPieces qs)) (sym c.deref.ensures.value) each.1
 
 pub returns-in-Err-clause-refusals : goal.returns-in-Err-clause-refusals
