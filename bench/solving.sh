@@ -1,15 +1,17 @@
 #!/usr/bin/env bash
 # How long the built program takes to settle linear equations and to refute rows, and how much memory: systems of small whole numbers,
 # dense and sparse, flows in networks, whose tableaux stay narrow, rows of differences around a cycle, systems with as many entries as there
-# may be, and those that the program's own searches ask for: ranks of a loop of so many cases, and whether a step keeps a sum at 0 or above. The best of 3 runs, in which its start and the reading of the text are counted, and the least time of a processor that
-# one of them took, beside that of a run that tries no basis. The word tells how many bases are tried, 4,000 if left out. Those of glpsol,
-# QSopt_ex and z3 that are installed solve the same equations by exact arithmetic, started in the same way and given the entries that are
-# not 0: the least time of a processor that each took, and how many times this program's it is, so that above 1 this program is the faster.
+# may be, rows that tie, and those that the program's own searches ask for: ranks of a loop of so many cases, and whether a step keeps a sum
+# at 0 or above. The best of 3 runs, in which its start and the reading of the text are counted, and the least time of a processor that one of
+# them took, beside that of a run that tries no basis. The word tells how many bases are tried, 4,000 if left out. Those of glpsol, QSopt_ex
+# and z3 that are installed solve the same equations by exact arithmetic and are started in the same way: the least time of a processor that
+# each took, and how many times this program's it is, so that above 1 this program is the faster. Each is given the entries that are not 0.
 # Build it first: (cd crates/timing && rt run)
 set -eu
 cd "$(dirname "$0")/.."
 PYTHONPATH=bench exec python3 -B - crates/timing/out/timing "${1:-4000}" <<'END_OF_PROGRAM'
 import math, random, resource, shutil, signal, sys, tempfile
+from multiprocessing import Process
 from measure import best, run
 from systems import chain_step, nested_counters, ring
 
@@ -47,6 +49,11 @@ def flow(nodes, arcs, balanced, seed):
     return table, right
 
 
+def ties(rows, columns):
+    """Each column is 1, as one row after another says in turn: very many rows tie."""
+    return [[int(number % columns == column) for column in range(columns)] for number in range(rows)], [1] * rows
+
+
 def differences(columns, closed):
     """Rows that say that each column is above the one before, and perhaps the first above the last."""
     rows = []
@@ -57,9 +64,14 @@ def differences(columns, closed):
     return rows, [1] * len(rows)
 
 
-def text_of(table, right):
+def text_of(word, table, right):
+    """The equations by their entries that are not 0, or the rows with all of them."""
     lines = [f"{len(table)} {len(table[0])}"]
-    lines += [" ".join(map(str, row)) + f" {last}" for row, last in zip(table, right)]
+    for row, last in zip(table, right):
+        if word == "solving":
+            there = [(column, entry) for column, entry in enumerate(row) if entry]
+            row = [len(there), *(number for pair in there for number in pair)]
+        lines.append(" ".join(map(str, [*row, last])))
     return "\n".join(lines) + "\n"
 
 
@@ -104,15 +116,21 @@ OTHERS = [
 ]
 
 
-def processor_of(words, ending, made, table, right):
+def write_texts(folder, word, made):
+    """Writes a system as this program reads it, and as the other solvers do."""
+    table, right = made()
+    with open(f"{folder}/system", "w") as file:
+        file.write(text_of(word, table, right))
+    for _, _, ending, written in others if word == "solving" else []:
+        with open(f"{folder}/system{ending}", "w") as file:
+            file.writelines(written(table, right))
+
+
+def processor_of(command):
     """The least time of a processor that another solver takes in three runs, or in one that takes long; None where it fails."""
-    with tempfile.NamedTemporaryFile("w", suffix=ending) as file:
-        file.writelines(made(table, right))
-        file.flush()
-        command = [*words, file.name]
-        one = run(command, "/dev/null")
-        if one.seconds < 2:
-            one = best(command, "/dev/null", 3)
+    one = run(command, "/dev/null")
+    if one.seconds < 2:
+        one = best(command, "/dev/null", 3)
     return one.processor if one.status == 0 else None
 
 
@@ -133,6 +151,9 @@ SYSTEMS = [
     ("flow 4,000 x 1,000", "solving", lambda: flow(4_000, 1_000, True, 10)),
     ("flow 8,000 x 500", "solving", lambda: flow(8_000, 500, True, 11)),
     ("flow 100,000 x 40", "solving", lambda: flow(100_000, 40, True, 12)),
+    ("ties, 5,000 x 40", "solving", lambda: ties(5_000, 40)),
+    ("ties, 20,000 x 40", "solving", lambda: ties(20_000, 40)),
+    ("ties, 100,000 x 40", "solving", lambda: ties(100_000, 40)),
     ("ranks of two nested counters", "solving", nested_counters),
     ("ranks of 5 cases", "solving", lambda: ring(5)),
     ("ranks of 10 cases", "solving", lambda: ring(10)),
@@ -148,22 +169,23 @@ for name, words, *_ in OTHERS:
         print(f"{name} is not installed")
 ratios = {name: [] for name, *_ in others}
 for name, word, made in SYSTEMS:
-    table, right = made()
-    with tempfile.NamedTemporaryFile("w") as file:
-        file.write(text_of(table, right))
-        file.flush()
-        reading = best_of_three([word, "0"], file.name).processor
-        one = best_of_three([word, PIVOTS], file.name)
+    with tempfile.TemporaryDirectory() as folder:
+        # (another process makes the system: the memory of whoever starts a program is counted with that program's)
+        making = Process(target=write_texts, args=(folder, word, made))
+        making.start()
+        making.join()
+        reading = best_of_three([word, "0"], f"{folder}/system").processor
+        one = best_of_three([word, PIVOTS], f"{folder}/system")
+        took = [(other, processor_of([*words, f"{folder}/system{ending}"])) for other, words, ending, _ in others if word == "solving"]
     answer = one.lines[0] or f"status {one.status >> 8}"
     line = f"{name:28s} {answer:22s} {one.seconds * 1000:8.1f} ms, {one.processor * 1000:8.1f} ms of a processor"
     line += f" ({reading * 1000:8.1f} ms where no basis is tried)  {one.memory:5d} MB"
-    for other, words, ending, written in others if word == "solving" else []:
-        took = processor_of(words, ending, written, table, right)
-        if took is None:
+    for other, seconds in took:
+        if seconds is None:
             line += f"  {other} fails, or takes more than {ROOM} s"
         else:
-            ratios[other].append(took / one.processor)
-            line += f"  {other} {took * 1000:9.1f} ms, {ratios[other][-1]:6.2f} times"
+            ratios[other].append(seconds / one.processor)
+            line += f"  {other} {seconds * 1000:9.1f} ms, {ratios[other][-1]:6.2f} times"
     print(line, flush=True)
 for name, each in ratios.items():
     if each:

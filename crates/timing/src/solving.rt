@@ -1,12 +1,13 @@
 //! Linear equations that are settled.
 //!
-//! The text is how many rows and columns there are, and then the rows, each with its right side after its columns.
+//! The text is how many rows and columns there are, and then the rows: how many numbers besides 0 each has, these, each after its column, and the
+//! right side.
 
 ghost use Rattle.std.specs.Prelude.{IsTrue};
 ghost use Rattle.tv_simplex.specs.Views.{equations};
 ghost use Rattle.tv_simplex.specs.Systems.{IsWhole};
 
-use crate::words::{Fault, next_count, next_number, push_numbers};
+use crate::words::{Fault, next_count, next_number, push_sparse};
 use std::alloc::{AllocError, Global};
 use std::str::SplitWhitespace;
 use tv_simplex::{Answer, SolveFault, System, solve};
@@ -18,7 +19,7 @@ fn system_of(alloc: Global, words: &mut SplitWhitespace<'_>) -> Result<System, F
     let mut entries = Vec::new(alloc);
     let mut right = Vec::new(alloc);
     for _ in 0..rows {
-        push_numbers(&mut entries, words, columns)?;
+        push_sparse(&mut entries, words, columns)?;
         right.push(next_number(words)?)?;
     }
     Ok(System {

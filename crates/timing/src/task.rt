@@ -52,7 +52,7 @@ pub(crate) const TASKS: [(&str, Task, &str); 16] = [
         Task::Numbers,
         "START: 0;\nCERTIFICATE:\nrow 1 -5\nby 1 2\n",
     ),
-    ("solving", Task::Solving, "2 2 1 -1 0 0 1 1"),
+    ("solving", Task::Solving, "2 2 2 0 1 1 -1 0 1 1 1 1"),
     ("refuting", Task::Refuting, "2 1 1 -5 -1 6"),
     ("covering", Task::Covering, "1 2 0 1 1 0 1 -1 1"),
     (
