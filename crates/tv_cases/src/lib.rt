@@ -19,5 +19,6 @@ mod terms;
 pub use backward::{all_before, before};
 pub use case::{Case, CaseFault, Cases};
 pub use comparisons::comparison_lists;
+pub use products::{is_number, is_zero};
 pub use program::cases;
 pub use tv_linear::Update;

@@ -6,7 +6,6 @@ ghost use Rattle.tv_farkas.specs.Refuting.{AreShort};
 ghost use Rattle.tv_choice.specs.ChoicePaths.{GivesAlone, IsTermAt, AreTermsAt};
 ghost use Rattle.tv_choice.specs.Targets.{front, term_of, one_term, terms_given, draw_choices};
 
-use crate::lists::number_row;
 use std::alloc::{AllocError, Global};
 use tv_linear::sums::{Listed, dot_from};
 use tv_linear::{Row, held, push_item};
@@ -152,7 +151,7 @@ fn term_for(
             }
         }
     }
-    number_row(alloc, columns, values[(columns + draw) as usize])
+    Row::narrow_number(alloc, columns, values[(columns + draw) as usize])
 }
 
 /// A term for each of so many draws at a whole point.

@@ -1,8 +1,6 @@
 // Lists of rows.
 
 ghost use Rattle.std.specs.Prelude.{◌≡◌, ◌+◌, ◌-◌, ◌^◌, ◌<◌, ◌≤◌, ◌++◌, ◌∷◌, [], All, length, map, IfOk};
-ghost use Rattle.tv_linear.specs.Linear.{columns as width, IsWithin};
-ghost use Rattle.tv_linear.specs.Arithmetic.{constant_row};
 ghost use Rattle.tv_farkas.specs.Refuting.{AreShort};
 ghost use Rattle.tv_choice.specs.Rows.{fixes};
 
@@ -36,15 +34,4 @@ pub fn fixing(alloc: Global, columns: u32, values: &[i128]) -> Result<Vec<Row>, 
         )?;
     }
     Ok(rows)
-}
-
-/// The row of a number.
-pub fn number_row(alloc: Global, columns: u32, number: i128) -> Result<Row, AllocError>
-    requires few { columns < 2 ^ 32 - 1 }
-    requires narrow { IsWithin 62 number }
-    ensures { IfOk result (λ row. row ≡ constant_row columns number) }
-{
-    let zero = Row::zero(alloc, columns)?;
-    let row = zero.with_constant(alloc, number)?;
-    Ok(row)
 }

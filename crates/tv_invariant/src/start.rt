@@ -1,9 +1,7 @@
 // Candidates at the start.
 
 ghost use Rattle.std.specs.Prelude.{◌≡◌, ℤ, List, length, IfOk, MatchBool};
-ghost use Rattle.std.specs.List.{list_all};
 ghost use Rattle.tv_linear.specs.Linear.{columns as width, IsMet};
-ghost use Rattle.tv_cases.specs.Forms.{is_zero};
 ghost use Rattle.tv_cases.specs.Systems.{cases_of};
 ghost use Rattle.tv_invariant.specs.Sieves.{Sieved};
 ghost use Rattle.tv_invariant.specs.Falling.{Begins, IsInNoPart};
@@ -11,24 +9,8 @@ ghost use Rattle.tv_invariant.specs.Passes.{AreOver};
 
 use std::alloc::{AllocError, Global};
 use tv_candidates::Candidate;
-use tv_cases::Cases;
+use tv_cases::{Cases, is_number};
 use tv_linear::{Row, push_item};
-
-/// Whether a number is 0.
-fn is_zero(number: i128) -> bool
-    ensures { result ≡ is_zero number }
-{
-    number == 0
-}
-
-/// Whether each coefficient is 0.
-fn is_constant(row: &Row) -> bool
-    ensures { result ≡ list_all is_zero row.now.coefficients }
-{
-    row.coefficients()
-        .iter()
-        .all(|number| is_zero(i128::from(*number)))
-}
 
 /// Whether each list of numbers, one for each column, meets the row.
 fn is_always_met(row: &Row) -> bool
@@ -36,7 +18,7 @@ fn is_always_met(row: &Row) -> bool
         ((xs : List ℤ) → IsMet xs row.now)
         ((xs : List ℤ) × (length xs ≡ width row.now) × (IsMet xs row.now → ⊥)) }
 {
-    row.constant() <= 0 && is_constant(row)
+    row.constant() <= 0 && is_number(row)
 }
 
 /// The candidates that each state at the start meets, and those at other locations.

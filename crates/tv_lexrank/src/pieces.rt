@@ -1,7 +1,6 @@
 // The pieces of the node of a ranking: one at each location, with the rows that are known there and its ranks.
 
-ghost use Rattle.std.specs.Prelude.{◌≡◌, ◌+◌, ◌-◌, ◌<◌, ◌≤◌, ◌^◌, ◌++◌, length, IfOk, pos};
-ghost use Rattle.tv_linear.specs.Arithmetic.{constant_row};
+ghost use Rattle.std.specs.Prelude.{◌≡◌, ◌+◌, ◌-◌, ◌<◌, ◌≤◌, ◌^◌, ◌++◌, length, IfOk};
 ghost use Rattle.tv_cases.specs.Systems.{cases_of};
 ghost use Rattle.tv_cert.specs.MarkedRows.{marked};
 ghost use Rattle.tv_cert.specs.declared.node.Mark.TheVariants.{Go};
@@ -54,16 +53,6 @@ fn push_zeros(
     Ok(())
 }
 
-/// The term that is this number.
-fn number_row(alloc: Global, variables: u32, number: u32) -> Result<Row, AllocError>
-    requires { variables < 2 ^ 32 - 1 }
-    ensures { IfOk result (λ row. row ≡ constant_row variables (pos number)) }
-{
-    let zero = Row::zero(alloc, variables)?;
-    let row = zero.with_constant(alloc, i128::from(number))?;
-    Ok(row)
-}
-
 /// The ranks at a location of a component: the number of the component, the terms of its rounds, and zeros up to so many.
 fn ranks_of(
     alloc: Global,
@@ -78,7 +67,8 @@ fn ranks_of(
     ensures { IfOk result (λ v. v.items ≡ padded_ranks variables component rounds.now location count) }
 {
     let mut ranks = Vec::new(alloc);
-    push_item(&mut ranks, number_row(alloc, variables, component)?)?;
+    let row = Row::narrow_number(alloc, variables, i128::from(component))?;
+    push_item(&mut ranks, row)?;
     'rounds: for round in rounds {
         push_item(
             &mut ranks,

@@ -99,6 +99,17 @@ impl Row {
         build(alloc, &Constant { columns, number })
     }
 
+    /// The row of a number that is narrow.
+    pub fn narrow_number(alloc: Global, columns: u32, number: i128) -> Result<Row, AllocError>
+        requires few { columns < 2 ^ 32 - 1 }
+        requires narrow { IsWithin 62 number }
+        ensures { IfOk result (λ row. row ≡ constant_row columns number) }
+    {
+        let zero = Row::zero(alloc, columns)?;
+        let row = zero.with_constant(alloc, number)?;
+        Ok(row)
+    }
+
     /// The row of zeros.
     pub fn zero(alloc: Global, columns: u32) -> Result<Row, AllocError>
         requires { columns < 2 ^ 32 - 1 }

@@ -2,7 +2,6 @@
 
 ghost use Rattle.std.specs.Prelude.{◌≡◌, ◌++◌, ◌-◌, ◌^◌, ◌<◌, IfOk, MatchResult, MatchOption, None, Some, slice_get, length, All};
 ghost use Rattle.tv_linear.specs.Linear.{IsWithin, IsNarrow};
-ghost use Rattle.tv_linear.specs.Arithmetic.{constant_row};
 ghost use Rattle.tv_cases.specs.Systems.{cases_of};
 ghost use Rattle.tv_cases.specs.Views.{case_view};
 ghost use Rattle.tv_points.specs.PointRows.{number_rows};
@@ -42,17 +41,6 @@ pub fn case_at(about: &Cases, number: u32) -> Option<&Case>
     about.list().get(number as usize)
 }
 
-/// The row of a number.
-fn number_row(alloc: Global, columns: u32, number: i64) -> Result<Row, AllocError>
-    requires few { columns < 2 ^ 32 - 1 }
-    requires narrow { IsWithin 62 number }
-    ensures { IfOk result (λ row. row ≡ constant_row columns number) }
-{
-    let zero = Row::zero(alloc, columns)?;
-    let row = zero.with_constant(alloc, i128::from(number))?;
-    Ok(row)
-}
-
 /// Puts a row for each number at the end of the list.
 fn push_numbers(
     alloc: Global,
@@ -67,7 +55,8 @@ fn push_numbers(
     match numbers {
         [] => Ok(()),
         [number, rest @ ..] => {
-            push_item(rows, number_row(alloc, columns, *number)?)?;
+            let row = Row::narrow_number(alloc, columns, i128::from(*number))?;
+            push_item(rows, row)?;
             push_numbers(alloc, columns, rest, rows)
         }
     }

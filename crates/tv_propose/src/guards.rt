@@ -2,7 +2,6 @@
 
 ghost use Rattle.std.specs.Prelude.{◌≡◌, ◌≤◌, Some, take, drop, map, IfOk};
 ghost use Rattle.tv_linear.specs.Linear.{columns as width};
-ghost use Rattle.tv_cases.specs.Forms.{is_zero};
 ghost use Rattle.tv_cases.specs.LinearCases.{CaseSystem};
 ghost use Rattle.tv_propose.specs.GuardLists.{has_no_draw, over_variables, guard_at, denial_at, guard_table, guard_candidates};
 ghost use Rattle.tv_propose.specs.Walks.{rest_of};
@@ -12,15 +11,8 @@ use crate::table::Table;
 use crate::walk::Walk;
 use std::alloc::{AllocError, Global};
 use tv_candidates::Candidate;
-use tv_cases::Cases;
+use tv_cases::{Cases, is_zero};
 use tv_linear::{Row, is_narrow};
-
-/// Whether a number is 0.
-fn is_zero(number: i128) -> bool
-    ensures { result ≡ is_zero number }
-{
-    number == 0
-}
 
 /// Whether each coefficient behind those of the variables is 0.
 fn has_no_draw(row: &Row, variables: u32) -> bool

@@ -3,7 +3,7 @@
 ghost use Rattle.std.specs.Prelude.{◌≡◌, ◌+◌, ◌-◌, ◌^◌, ◌<◌, All, IfOk, length};
 ghost use Rattle.std.specs.Result.{IfErr};
 ghost use Rattle.tv_linear.specs.Linear.{columns as width, IsWithin};
-ghost use Rattle.tv_linear.specs.Arithmetic.{constant_row, width_of};
+ghost use Rattle.tv_linear.specs.Arithmetic.{width_of};
 ghost use Rattle.tv_cases.specs.EdgeCases.{columns_from};
 ghost use Rattle.tv_cases.specs.Views.{case_view};
 ghost use Rattle.tv_cases.specs.Before.{AreRowsBefore};
@@ -62,17 +62,6 @@ pub(crate) fn rows_put(alloc: Global, rows: &[Row], terms: &[Row]) -> Result<Vec
     Ok(all)
 }
 
-/// The row of a number.
-fn number_row(alloc: Global, columns: u32, number: i128) -> Result<Row, AllocError>
-    requires few { columns < 2 ^ 32 - 1 }
-    requires narrow { IsWithin 62 number }
-    ensures { IfOk result (λ row. row ≡ constant_row columns number) }
-{
-    let zero = Row::zero(alloc, columns)?;
-    let row = zero.with_constant(alloc, number)?;
-    Ok(row)
-}
-
 /// The variables as terms of their own.
 fn variable_rows(alloc: Global, columns: u32) -> Result<Vec<Row>, AllocError>
     requires few { columns < 2 ^ 32 - 1 }
@@ -97,7 +86,7 @@ pub(crate) fn numbers_as_rows(
 {
     let mut rows = Vec::new(alloc);
     'numbers: for number in numbers {
-        push_item(&mut rows, number_row(alloc, columns, *number)?)?;
+        push_item(&mut rows, Row::narrow_number(alloc, columns, *number)?)?;
     }
     Ok(rows)
 }

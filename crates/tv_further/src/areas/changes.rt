@@ -3,9 +3,10 @@
 use crate::areas::passage::{Effect, Passage, widened_row};
 use crate::graphs::proving::number_row;
 use crate::question::Question;
-use crate::rows::combining::{is_constant, less, put_in};
+use crate::rows::combining::{less, put_in};
 use crate::rows::solving::{Effort, is_known};
 use std::alloc::{AllocError, Global};
+use tv_cases::is_number;
 use tv_linear::Row;
 
 /// How a term changes over a passage.
@@ -139,8 +140,8 @@ pub(crate) fn steady_change(
     row: &Row,
 ) -> Result<Change, AllocError> {
     match growth(question, effect, row, row)? {
-        Some(more) if is_constant(&more) && more.constant() > 0 => Ok(Change::Grows),
-        Some(more) if is_constant(&more) && more.constant() < 0 => Ok(Change::Falls),
+        Some(more) if is_number(&more) && more.constant() > 0 => Ok(Change::Grows),
+        Some(more) if is_number(&more) && more.constant() < 0 => Ok(Change::Falls),
         _ => Ok(Change::Stays),
     }
 }
@@ -153,7 +154,7 @@ pub(crate) fn is_steady(
 ) -> Result<bool, AllocError> {
     match growth(question, effect, row, row)? {
         None => Ok(false),
-        Some(more) => Ok(is_constant(&more) && more.constant() == 0),
+        Some(more) => Ok(is_number(&more) && more.constant() == 0),
     }
 }
 
@@ -164,7 +165,7 @@ pub(crate) fn falling_row(
     term: &Row,
 ) -> Result<Option<Row>, AllocError> {
     match growth(question, effect, term, term)? {
-        Some(more) if !is_constant(&more) => raised(question.alloc, effect.width, &more),
+        Some(more) if !is_number(&more) => raised(question.alloc, effect.width, &more),
         _ => Ok(None),
     }
 }

@@ -3,9 +3,9 @@
 use crate::areas::area::{Area, both, denials, list_of, lists_at};
 use crate::limits::AREAS;
 use crate::question::Question;
-use crate::rows::combining::is_constant;
 use crate::rows::solving::{Effort, denied, shown};
 use std::alloc::{AllocError, Global};
+use tv_cases::is_number;
 use tv_linear::{Row, copies};
 
 /// The place of the row with the same coefficients.
@@ -49,7 +49,7 @@ pub(crate) fn push_strongest(
 ) -> Result<bool, AllocError> {
     for row in rows {
         let tight = row.tighten(alloc)?;
-        if !is_constant(&tight) {
+        if !is_number(&tight) {
             put_strongest(tight, list)?;
         } else if tight.constant() > 0 {
             return Ok(false);

@@ -5,8 +5,9 @@ use crate::graphs::expanding::is_without_draws;
 use crate::graphs::proving::number_row;
 use crate::limits::RANK_TERMS;
 use crate::question::Question;
-use crate::rows::combining::{is_constant, less};
+use crate::rows::combining::less;
 use std::alloc::{AllocError, Global};
+use tv_cases::is_number;
 use tv_linear::Row;
 
 /// Puts the opposite of the row at the end of the terms, unless it is among them.
@@ -17,7 +18,7 @@ fn push_term(
     terms: &mut Vec<Row>,
 ) -> Result<(), AllocError> {
     if let Some(term) = opposite_of(alloc, columns, row)?
-        && !is_constant(&term)
+        && !is_number(&term)
     {
         add_term(terms, term)?;
     }

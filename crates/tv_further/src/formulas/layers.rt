@@ -13,9 +13,9 @@ use crate::formulas::region_part::push_some_step;
 use crate::graphs::proving::number_row;
 use crate::limits::{AREAS, LAYERS};
 use crate::question::Question;
-use crate::rows::combining::is_constant;
 use crate::rows::solving::Effort;
 use std::alloc::{AllocError, Global};
+use tv_cases::is_number;
 use tv_cert::Proof;
 use tv_formula::Path;
 use tv_linear::Row;
@@ -37,7 +37,7 @@ pub(crate) fn first_rank(found: &Found, place: usize) -> Option<i64> {
         return Some(0);
     }
     let row = found.ranks.rows.get(place)?.first()?;
-    if is_constant(row) {
+    if is_number(row) {
         i64::try_from(row.constant()).ok()
     } else {
         None

@@ -10,10 +10,11 @@ use crate::cycles::walking::closed_walks;
 use crate::cycles::way::Way;
 use crate::limits::{STOPPING_ROUNDS, TURNS};
 use crate::question::Question;
-use crate::rows::combining::{is_constant, put_in, with_multiples};
+use crate::rows::combining::{put_in, with_multiples};
 use crate::rows::solving::{Effort, is_known};
 use crate::strategies::link::distinct_ways;
 use std::alloc::AllocError;
+use tv_cases::is_number;
 use tv_linear::{Row, copies, push_copies};
 
 /// A closed walk, read at its beginning.
@@ -61,7 +62,7 @@ fn turns_of(question: &Question) -> Result<Vec<Turn>, AllocError> {
 /// By how much the value of the row grows over the turn, as far as that is the same everywhere; 0 where it is not, or does not grow.
 fn steady_growth(question: &Question, turn: &Turn, row: &Row) -> Result<i128, AllocError> {
     match growth(question, &turn.effect, row, row)? {
-        Some(more) if is_constant(&more) && more.constant() > 0 => Ok(more.constant()),
+        Some(more) if is_number(&more) && more.constant() > 0 => Ok(more.constant()),
         _ => Ok(0),
     }
 }

@@ -2,6 +2,7 @@
 
 use crate::rows::drawing::coefficient_at;
 use std::alloc::{AllocError, Global};
+use tv_cases::is_number;
 use tv_linear::Row;
 use tv_linear::held::{add_product, difference};
 
@@ -158,16 +159,6 @@ pub(crate) fn unit_rows(alloc: Global, columns: usize) -> Result<Option<Vec<Row>
     Ok(Some(rows))
 }
 
-/// Whether no variable has a part in the row.
-pub(crate) fn is_constant(row: &Row) -> bool {
-    for coefficient in row.coefficients() {
-        if *coefficient != 0 {
-            return false;
-        }
-    }
-    true
-}
-
 /// Whether the row is among the rows.
 fn is_listed(rows: &[Row], row: &Row) -> bool {
     for other in rows {
@@ -185,7 +176,7 @@ pub(crate) fn push_tight(
     list: &mut Vec<Row>,
 ) -> Result<bool, AllocError> {
     let tight = row.tighten(alloc)?;
-    if is_constant(&tight) {
+    if is_number(&tight) {
         return Ok(tight.constant() <= 0);
     }
     if !is_listed(list, &tight) {

@@ -2,10 +2,10 @@
 
 use crate::budget::{Budget as SearchBudget, Spent};
 use crate::limits::{PIVOTS, SPLITS};
-use crate::rows::combining::is_constant;
 use crate::rows::drawing::coefficient_at;
 use crate::rows::values::bounded;
 use std::alloc::{AllocError, Global};
+use tv_cases::is_number;
 use tv_cover::{Emptied, empty};
 use tv_farkas::{Budget, CoverFault, Refuted, refute};
 use tv_linear::{Row, RowFault, copies, have_columns, is_narrow};
@@ -102,10 +102,7 @@ fn are_met_somewhere(alloc: Global, rows: &[Row], columns: usize) -> Result<bool
             break;
         }
     }
-    Ok(
-        left.iter()
-            .all(|row| is_constant(row) && row.constant() <= 0),
-    )
+    Ok(left.iter().all(|row| is_number(row) && row.constant() <= 0))
 }
 
 /// What the solver says of rows with so many columns; `None` where it does not settle them, or is not asked since some point meets them.
@@ -202,7 +199,7 @@ pub(crate) fn shown_by(
     columns: usize,
     effort: &mut Effort,
 ) -> Result<Option<Vec<i64>>, AllocError> {
-    if is_constant(row) && row.constant() <= 0 {
+    if is_number(row) && row.constant() <= 0 {
         return Ok(Some(pair_of(alloc, known.len(), known.len())?));
     }
     match place_showing(known, row) {
@@ -237,7 +234,7 @@ pub(crate) fn is_known(
     columns: usize,
     effort: &mut Effort,
 ) -> Result<bool, AllocError> {
-    if is_constant(row) {
+    if is_number(row) {
         return Ok(row.constant() <= 0);
     }
     Ok(shown_by(alloc, known, row, columns, effort)?.is_some())

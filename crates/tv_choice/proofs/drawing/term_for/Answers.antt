@@ -14,4 +14,4 @@ pub returns : goal.returns
 returns c =
     let inside : c.args.columns + c.args.draw < length c.args.values.now = (let a = c.requires.inside in let b = c.requires.size in omega (arith, a, b)) in
     let v = get_or c.args.values.now (c.args.columns + c.args.draw) (pos 0) in
-    number_for c.args.columns c.args.draws c.args.rows.now c.args.values.now c.args.draw _ c.number_row.result (to_z-of_z w128 v (short_fits v (c.requires.short (c.args.columns + c.args.draw) inside))) c.number_row.ensures
+    number_for c.args.columns c.args.draws c.args.rows.now c.args.values.now c.args.draw _ c.narrow_number.result (to_z-of_z w128 v (short_fits v (c.requires.short (c.args.columns + c.args.draw) inside))) c.narrow_number.ensures

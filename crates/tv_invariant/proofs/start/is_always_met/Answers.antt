@@ -9,7 +9,7 @@ pub returns-then-constant-le0 : goal.returns-then-constant-le0
 returns-then-constant-le0 c =
     let f : FitsSigned w128 c.constant.result = search rules in
     let t = le_from_test c.constant.result (pos 0) (simp to_z-of_z at c.if-constant-le0.true) in
-    constant_met c.args.row.now c.is_constant.result c.is_constant.ensures (subst (λ z. z ≤ℤ pos 0) c.constant.ensures.is t)
+    constant_met c.args.row.now c.is_number.result c.is_number.ensures (subst (λ z. z ≤ℤ pos 0) c.constant.ensures.is t)
 
 pub returns-else-constant-le0 : goal.returns-else-constant-le0
 returns-else-constant-le0 c =
