@@ -5,7 +5,7 @@ use Rattle.tv_simplex.proofs.Signed.{matrix-entry}
 use Rattle.tv_simplex.proofs.SettleLemmas.{given_left}
 use Rattle.tv_simplex.proofs.EntriesLemmas.{number-here, number-behind, zero_before}
 use Rattle.tv_simplex.specs.declared.entries.Kept.{Kept}
-use Rattle.tv_simplex.specs.Entries.{number_in, AreOrdered, AreKept}
+use Rattle.tv_simplex.specs.Entries.{AreOrdered, AreKept}
 use Rattle.tv_simplex.specs.Systems.{Equations, entry_at, sign, matrix}
 use Rattle.tv_simplex.specs.Outcomes.{IsNarrow, IsNarrowSystem, given}
 use Rattle.tv_simplex.specs.Starting.{AreZero}

@@ -1,4 +1,4 @@
-use Rattle.std.proofs.Common.{rules, FitsSigned, ◌≡◌, ◌+◌, ◌-◌, ◌*◌, length, get_or, set, arith, subst, sym, ap, ◌∙◌, pos, ◌+ℤ◌, ◌*ℤ◌}
+use Rattle.std.proofs.Common.{rules, FitsSigned, ◌+◌, ◌-◌, ◌*◌, get_or, arith, subst, sym, ap, ◌∙◌, pos, ◌+ℤ◌, ◌*ℤ◌}
 use Rattle.std.specs.Int.{w128}
 use Rattle.std.proofs.lemmas.Int.{to_z-of_z}
 use Rattle.tv_simplex.specs.Systems.{entry_at, sign, matrix}

@@ -1,4 +1,4 @@
-use Rattle.std.proofs.Common.{rules, FitsSigned, ◌≡◌, inl, inr, ◌+◌, ◌-◌, ◌*◌, ◌<◌, length, arith, subst, sym, ◌∙◌}
+use Rattle.std.proofs.Common.{rules, FitsSigned, inl, inr, ◌+◌, ◌-◌, ◌*◌, arith, subst, sym, ◌∙◌}
 use Rattle.std.specs.Int.{w128}
 use Rattle.std.proofs.lemmas.Int.{to_z-of_z}
 use Rattle.tv_linear.proofs.ListLaws.{last_or_below}
@@ -7,7 +7,7 @@ use Rattle.tv_simplex.specs.Outcomes.{IsNarrow}
 use Rattle.tv_simplex.specs.Views.{equations}
 use Rattle.tv_simplex.proofs.RowLemmas.{tested_true, tested_false}
 use Rattle.tv_simplex.proofs.SettleLemmas.{given_left}
-use Rattle.tv_simplex.proofs.KeptLemmas.{first_of, next_kept, none_kept, narrow_before, given_before}
+use Rattle.tv_simplex.proofs.KeptLemmas.{first_of, next_kept, narrow_before, given_before}
 use Rattle.tv_simplex.proofs.numbers.first_wide_column.Goals as goal
 
 pub kept-preserved : goal.kept-preserved

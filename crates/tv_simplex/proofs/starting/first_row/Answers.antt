@@ -1,4 +1,4 @@
-use Rattle.std.proofs.Common.{rules, FitsSigned, ◌≡◌, ◌+◌, ◌-◌, ◌*◌, length, arith, subst, sym, ap, ◌∙◌, pos, ◌*ℤ◌}
+use Rattle.std.proofs.Common.{rules, FitsSigned, ◌+◌, ◌-◌, ◌*◌, arith, subst, sym, ap, ◌∙◌, ◌*ℤ◌}
 use Rattle.std.specs.Int.{w128}
 use Rattle.std.proofs.lemmas.Int.{to_z-of_z}
 use Rattle.tv_simplex.specs.Systems.{entry_at, sign, matrix}
