@@ -1,6 +1,6 @@
 ghost use Rattle.std.specs.Prelude.{◌≡◌};
 ghost use Rattle.tv_cases.specs.Systems.{cases_of};
-ghost use Rattle.tv_cert.specs.Claims.{StatesIts, claim_variables};
+ghost use Rattle.tv_cert.specs.Claims.{claim_variables};
 
 use crate::tasks::{Task, claimed, text_of};
 use crate::texts::{CLIMBER, COUNTDOWN, DOWN, ENDED, ENDLESS, LOOP, NEVER_BELOW};
@@ -68,7 +68,6 @@ fn says(accepted: &Accepted, wanted: &Met) -> bool {
 }
 
 fn is_accepted(alloc: Global, task: &Task, wanted: &Met) -> Result<bool, Fail>
-    requires states { StatesIts task.now.claim }
     requires variables { claim_variables task.now.claim ≡ (cases_of task.now.about).variables }
 {
     let text = text_of(alloc, wanted.front, wanted.end)?;
@@ -79,7 +78,6 @@ fn is_accepted(alloc: Global, task: &Task, wanted: &Met) -> Result<bool, Fail>
 }
 
 fn is_read(alloc: Global, task: &Task, wanted: &Met) -> Result<bool, Fail>
-    requires states { StatesIts task.now.claim }
     requires variables { claim_variables task.now.claim ≡ (cases_of task.now.about).variables }
 {
     let text = text_of(alloc, wanted.front, wanted.end)?;

@@ -1,6 +1,6 @@
 ghost use Rattle.std.specs.Prelude.{◌≡◌};
 ghost use Rattle.tv_cases.specs.Systems.{cases_of};
-ghost use Rattle.tv_cert.specs.Claims.{StatesIts, claim_variables};
+ghost use Rattle.tv_cert.specs.Claims.{claim_variables};
 
 use crate::tasks::{Task, claimed, text_of};
 use crate::texts::{STANDING, STAYING};
@@ -68,7 +68,6 @@ const CHOICES: [(&str, Option<TextFailing>); 4] = [
 ];
 
 fn is_told(alloc: Global, task: &Task, end: &str, wanted: Option<TextFailing>) -> Result<bool, Fail>
-    requires states { StatesIts task.now.claim }
     requires variables { claim_variables task.now.claim ≡ (cases_of task.now.about).variables }
 {
     let text = text_of(alloc, STAYING, end)?;

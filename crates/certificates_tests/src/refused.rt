@@ -1,6 +1,6 @@
 ghost use Rattle.std.specs.Prelude.{◌≡◌};
 ghost use Rattle.tv_cases.specs.Systems.{cases_of};
-ghost use Rattle.tv_cert.specs.Claims.{StatesIts, claim_variables};
+ghost use Rattle.tv_cert.specs.Claims.{claim_variables};
 
 use crate::tasks::{Task, claimed, text_of};
 use crate::texts::{CLIMBER, COUNTDOWN, DOWN, ENDED, ENDLESS, LOOP, NEVER_BELOW};
@@ -107,7 +107,6 @@ const OTHERS: [Unmet; 5] = [
 ];
 
 fn is_refused(alloc: Global, task: &Task, unmet: &Unmet) -> Result<bool, Fail>
-    requires states { StatesIts task.now.claim }
     requires variables { claim_variables task.now.claim ≡ (cases_of task.now.about).variables }
 {
     let text = text_of(alloc, unmet.front, unmet.end)?;
@@ -119,7 +118,6 @@ fn is_refused(alloc: Global, task: &Task, unmet: &Unmet) -> Result<bool, Fail>
 
 /// Whether it is read exactly where an obligation is at fault and no line is.
 fn is_read_where_it_may_be(alloc: Global, task: &Task, unmet: &Unmet) -> Result<bool, Fail>
-    requires states { StatesIts task.now.claim }
     requires variables { claim_variables task.now.claim ≡ (cases_of task.now.about).variables }
 {
     let text = text_of(alloc, unmet.front, unmet.end)?;

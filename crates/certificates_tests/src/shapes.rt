@@ -1,6 +1,6 @@
 ghost use Rattle.std.specs.Prelude.{◌≡◌};
 ghost use Rattle.tv_cases.specs.Systems.{cases_of};
-ghost use Rattle.tv_cert.specs.Claims.{StatesIts, claim_variables};
+ghost use Rattle.tv_cert.specs.Claims.{claim_variables};
 
 use crate::sketches::{Part, fork, into, leaf, refuted, start, take, values};
 use crate::tasks::{Task, claimed};
@@ -18,7 +18,6 @@ fn made(
     verdict: Verdict,
     root: Node,
 ) -> Result<Result<Certificate, u32>, Fail>
-    requires states { StatesIts task.now.claim }
     requires variables { claim_variables task.now.claim ≡ (cases_of task.now.about).variables }
 {
     match Certificate::new(alloc, &task.about, &task.claim, verdict, root) {

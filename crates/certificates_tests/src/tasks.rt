@@ -1,7 +1,7 @@
 ghost use Rattle.std.specs.Prelude.{◌≡◌, ◌≤◌, IfOk, length};
 ghost use Rattle.tv_program.specs.Programs.{system_of};
 ghost use Rattle.tv_cases.specs.Systems.{cases_of};
-ghost use Rattle.tv_cert.specs.Claims.{StatesIts, claim_variables};
+ghost use Rattle.tv_cert.specs.Claims.{claim_variables};
 
 use std::alloc::Global;
 use std::test::Fail;
@@ -27,7 +27,6 @@ fn program_of(alloc: Global, text: &str) -> Result<Program, Fail> {
 }
 
 fn claim_of(alloc: Global, text: &str, program: &Program) -> Result<Claim, Fail>
-    ensures states { IfOk result (λ c. StatesIts c) }
     ensures variables { IfOk result (λ c. claim_variables c ≡ length (system_of program.now).variables) }
 {
     if text.len() > 65536 {
@@ -49,7 +48,6 @@ fn about_of(alloc: Global, program: &Program) -> Result<Cases, Fail>
 
 /// The property claimed of the program.
 pub fn claimed(alloc: Global, program: &str, property: &str) -> Result<Task, Fail>
-    ensures states { IfOk result (λ t. StatesIts t.claim) }
     ensures variables { IfOk result (λ t. claim_variables t.claim ≡ (cases_of t.about).variables) }
 {
     let program = program_of(alloc, program)?;

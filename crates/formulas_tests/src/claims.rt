@@ -5,7 +5,7 @@ ghost use Rattle.tv_program.specs.Programs.{system_of};
 ghost use Rattle.tv_formula.specs.Formulas.{property_of};
 ghost use Rattle.tv_formula.specs.Normal.{negation};
 ghost use Rattle.tv_cases.specs.Systems.{cases_of};
-ghost use Rattle.tv_cert.specs.Claims.{StatesIts, claim_variables};
+ghost use Rattle.tv_cert.specs.Claims.{claim_variables};
 
 use crate::programs::program_of;
 use std::alloc::Global;
@@ -22,7 +22,6 @@ pub(crate) trait Asks {
     /// Whether the claim is answered as is wanted.
     fn is_answered(&self, setting: &Setting, claim: &Claim) -> bool
         requires splits { setting.now.budget.now.splits ≤ 128 }
-        requires states { StatesIts claim.now }
         requires variables { claim_variables claim.now ≡ (cases_of setting.now.about.now).variables }
         requires denies { property_of claim.now.denied ≡ negation (property_of claim.now.proved) };
 }
@@ -35,7 +34,6 @@ fn is_said_of<A: Asks>(
     budget: &Budget,
     asks: &A,
 ) -> Result<bool, Fail>
-    requires states { StatesIts claim.now }
     requires variables { claim_variables claim.now ≡ (cases_of about.now).variables }
     requires denies { property_of claim.now.denied ≡ negation (property_of claim.now.proved) }
 {
@@ -58,7 +56,6 @@ fn is_said_of_program<A: Asks>(
     budget: &Budget,
     asks: &A,
 ) -> Result<bool, Fail>
-    requires states { StatesIts claim.now }
     requires variables { claim_variables claim.now ≡ length (system_of program.now).variables }
     requires denies { property_of claim.now.denied ≡ negation (property_of claim.now.proved) }
 {

@@ -3,7 +3,7 @@
 ghost use Rattle.std.specs.Prelude.{◌≡◌, ◌<◌, ◌≤◌, ◌-◌, ◌^◌, length};
 ghost use Rattle.tv_program.specs.Programs.{system_of};
 ghost use Rattle.tv_cases.specs.Systems.{cases_of};
-ghost use Rattle.tv_cert.specs.Claims.{StatesIts, claim_variables};
+ghost use Rattle.tv_cert.specs.Claims.{claim_variables};
 ghost use Rattle.tv_shape.specs.Certificates.{IsSettling};
 
 use std::alloc::Global;
@@ -35,7 +35,6 @@ fn said_by(
     claim: &Claim,
     certificate: &Certificate,
 ) -> Result<Said, Fail>
-    requires states { StatesIts claim.now }
     requires variables { claim_variables claim.now ≡ (cases_of about.now).variables }
     requires settling { IsSettling (cases_of about.now) claim.now certificate.now }
 {
@@ -54,7 +53,6 @@ fn said_by(
 
 /// What is said of the claim.
 fn said_of_claim(alloc: Global, about: &Cases, claim: &Claim) -> Result<Said, Fail>
-    requires states { StatesIts claim.now }
     requires variables { claim_variables claim.now ≡ (cases_of about.now).variables }
 {
     match further(alloc, about, claim, &[], &Budget::usual())? {
@@ -65,7 +63,6 @@ fn said_of_claim(alloc: Global, about: &Cases, claim: &Claim) -> Result<Said, Fa
 
 /// What is said of the claim over the program.
 fn said_of_program(alloc: Global, program: &Program, claim: &Claim) -> Result<Said, Fail>
-    requires states { StatesIts claim.now }
     requires variables { claim_variables claim.now ≡ length (system_of program.now).variables }
 {
     match cases(alloc, program) {

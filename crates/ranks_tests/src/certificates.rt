@@ -3,7 +3,7 @@ ghost use Rattle.tv_program.specs.Programs.{system_of};
 ghost use Rattle.tv_formula.specs.Formulas.{property_of};
 ghost use Rattle.tv_formula.specs.Properties.{term};
 ghost use Rattle.tv_cases.specs.Systems.{cases_of};
-ghost use Rattle.tv_cert.specs.Claims.{StatesIts, claim_variables};
+ghost use Rattle.tv_cert.specs.Claims.{claim_variables};
 ghost use Rattle.tv_lexrank.specs.Nodes.{IsRankedNode};
 
 use crate::programs::{COUNTDOWN, FILE, NESTED, program_of};
@@ -17,7 +17,6 @@ use tv_program::Program;
 
 /// What is claimed where every run is to end.
 fn claim_of(alloc: Global, program: &Program) -> Result<Claim, Fail>
-    ensures states { IfOk result StatesIts }
     ensures variables { IfOk result (λ claim. claim_variables claim ≡ length (system_of program.now).variables) }
     ensures ends { IfOk result (λ claim. property_of claim.proved ≡ term) }
 {

@@ -2,7 +2,7 @@ ghost use Rattle.std.specs.Prelude.{◌≡◌, ◌<◌, ◌≤◌, ◌-◌, ◌^
 ghost use Rattle.tv_program.specs.Programs.{system_of};
 ghost use Rattle.tv_cases.specs.Answers.{IsOfProgram, HaveSameSteps};
 ghost use Rattle.tv_cases.specs.Systems.{cases_of};
-ghost use Rattle.tv_cert.specs.Claims.{StatesIts, claim_variables};
+ghost use Rattle.tv_cert.specs.Claims.{claim_variables};
 
 use crate::words::COUNTDOWN;
 use std::alloc::Global;
@@ -222,7 +222,6 @@ fn of_text(
 ) -> Result<Judged, Fail>
     requires same_program { IsOfProgram (system_of program.now) (cases_of about.now) }
     requires same_steps { HaveSameSteps (system_of program.now) (cases_of about.now) }
-    requires states { StatesIts claim.now }
     requires variables { claim_variables claim.now ≡ (cases_of about.now).variables }
     requires few { length text.now < 2 ^ 32 - 1 }
 {
@@ -233,7 +232,6 @@ fn of_text(
 }
 
 fn of_claim(alloc: Global, program: &Program, claim: &Claim, text: &[u8]) -> Result<Judged, Fail>
-    requires states { StatesIts claim.now }
     requires variables { claim_variables claim.now ≡ length (system_of program.now).variables }
     requires few { length text.now < 2 ^ 32 - 1 }
 {

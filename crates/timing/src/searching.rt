@@ -3,7 +3,7 @@
 ghost use Rattle.std.specs.Prelude.{◌≡◌, ◌≤◌, length};
 ghost use Rattle.tv_program.specs.Programs.{system_of};
 ghost use Rattle.tv_cases.specs.Systems.{cases_of};
-ghost use Rattle.tv_cert.specs.Claims.{StatesIts, claim_variables};
+ghost use Rattle.tv_cert.specs.Claims.{claim_variables};
 
 use crate::words::Fault;
 use std::alloc::Global;
@@ -38,7 +38,6 @@ fn told(alloc: Global, found: &Further) -> Result<String, Fault> {
 
 /// What the searches find for the claim.
 fn found_for(alloc: Global, about: &Cases, claim: &Claim) -> Result<String, Fault>
-    requires states { StatesIts claim.now }
     requires variables { claim_variables claim.now ≡ (cases_of about.now).variables }
 {
     match further(alloc, about, claim, &[], &Budget::usual())? {
@@ -49,7 +48,6 @@ fn found_for(alloc: Global, about: &Cases, claim: &Claim) -> Result<String, Faul
 
 /// The same of the claim over the program.
 fn found_over(alloc: Global, program: &Program, claim: &Claim) -> Result<String, Fault>
-    requires states { StatesIts claim.now }
     requires variables { claim_variables claim.now ≡ length (system_of program.now).variables }
 {
     match cases(alloc, program) {

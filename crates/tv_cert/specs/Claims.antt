@@ -9,8 +9,6 @@ use Rattle.tv_cert.specs.declared.claim.Claim.{Claim}
 use Rattle.tv_cert.specs.declared.node.Verdict.{Verdict}
 use Rattle.tv_cert.specs.declared.node.Verdict.TheVariants.{Proved, Disproved}
 use Rattle.tv_cert.specs.Obligations.{About}
-use Rattle.tv_cert.specs.AimViews.{aim_states}
-use Rattle.tv_cert.specs.Statements.{stated}
 
 -- what a certificate is about whose comparisons have the rows of assumptions
 abbrev pub about_with : CaseSystem → About
@@ -28,13 +26,7 @@ abbrev pub shown : Claim → Verdict → Property
 shown c (Proved start) = property_of c.proved
 shown c (Disproved piece values) = property_of c.denied
 
--- the aims of a claim state its formulas
-pub record StatesIts (c : Claim) : Type 0 where
-  pub proved : aim_states c.proved_aim ≡ stated (comparison_lists (claim_variables c)) (property_of c.proved)
-  pub denied : aim_states c.denied_aim ≡ stated (comparison_lists (claim_variables c)) (property_of c.denied)
-
 -- the claim is of this property: it is proved by its normal form, and denied by its negation
 pub record IsClaim (c : Claim) (f : Property) : Type 0 where
   pub proved : property_of c.proved ≡ normal f
   pub denied : property_of c.denied ≡ negation f
-  pub states : StatesIts c

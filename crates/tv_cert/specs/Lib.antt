@@ -12,6 +12,7 @@ pub mod Listed
 pub mod Indexed
 pub mod Shapes
 pub mod Statements
+pub mod StatementSets
 pub mod AimViews
 pub mod Owing
 pub mod Visits

@@ -1,3 +1,10 @@
+ghost use Rattle.std.specs.Prelude.{◌≡◌};
+ghost use Rattle.tv_formula.specs.Formulas.{property_of, variables_of};
+ghost use Rattle.tv_cases.specs.Comparisons.{comparison_lists};
+ghost use Rattle.tv_cert.specs.AimViews.{aim_states};
+ghost use Rattle.tv_cert.specs.Statements.{stated};
+ghost use Rattle.tv_cert.specs.StatementSets.{equal_once};
+
 use crate::aim::Aim;
 use crate::aims::aim_of;
 use crate::node::Verdict;
@@ -11,15 +18,14 @@ pub struct Claim {
     denied: Formula,
     proved_aim: Aim,
     denied_aim: Aim,
+    pub ghost proved_stated: { aim_states proved_aim ≡ stated (comparison_lists (variables_of proved)) (property_of proved) } by { equal_once _ _ },
+    pub ghost denied_stated: { aim_states denied_aim ≡ stated (comparison_lists (variables_of proved)) (property_of denied) } by { equal_once _ _ },
 }
 
 impl Claim {
-    ghost use Rattle.std.specs.Prelude.{◌≡◌, ◌<◌, ◌-◌, ◌^◌, IfOk};
-    ghost use Rattle.tv_formula.specs.Formulas.{property_of, variables_of, locations_of};
-    ghost use Rattle.tv_cases.specs.Comparisons.{comparison_lists};
-    ghost use Rattle.tv_cert.specs.AimViews.{aim_states};
-    ghost use Rattle.tv_cert.specs.Statements.{stated};
-    ghost use Rattle.tv_cert.specs.Claims.{IsClaim, StatesIts, claim_variables, claim_locations, shown};
+    ghost use Rattle.std.specs.Prelude.{◌<◌, ◌-◌, ◌^◌, IfOk};
+    ghost use Rattle.tv_formula.specs.Formulas.{locations_of};
+    ghost use Rattle.tv_cert.specs.Claims.{IsClaim, claim_variables, claim_locations, shown};
 
     /// The claim of a property.
     pub fn new(alloc: Global, property: &Formula) -> Result<Claim, AllocError>
@@ -56,7 +62,6 @@ impl Claim {
 
     /// What the root of a certificate states that says proved.
     pub fn proved_aim(&self) -> &Aim
-        requires states { StatesIts self.now }
         ensures { aim_states result.now ≡ stated (comparison_lists (claim_variables self.now)) (property_of self.now.proved) }
     {
         &self.proved_aim
@@ -64,7 +69,6 @@ impl Claim {
 
     /// What the root of a certificate states that says disproved.
     pub fn denied_aim(&self) -> &Aim
-        requires states { StatesIts self.now }
         ensures { aim_states result.now ≡ stated (comparison_lists (claim_variables self.now)) (property_of self.now.denied) }
     {
         &self.denied_aim
@@ -72,7 +76,6 @@ impl Claim {
 
     /// What the root of a certificate with this verdict states.
     pub fn aim(&self, verdict: &Verdict) -> &Aim
-        requires states { StatesIts self.now }
         ensures { aim_states result.now ≡ stated (comparison_lists (claim_variables self.now)) (shown self.now verdict.now) }
     {
         match verdict {

@@ -3,8 +3,10 @@
 
 mod aim;
 mod aims;
+mod at;
 mod claim;
 mod failing;
+mod fixed_point;
 mod node;
 mod owes;
 mod parts;

@@ -3,8 +3,8 @@ ghost use Rattle.std.specs.List.{flat_map};
 ghost use Rattle.tv_formula.specs.declared.tree.Path.TheVariants.{Every, Any};
 ghost use Rattle.tv_cases.specs.Systems.{cases_of};
 ghost use Rattle.tv_cert.specs.Pieces.{place_of, goes};
-ghost use Rattle.tv_cert.specs.Targets.{owed_nothing};
-ghost use Rattle.tv_cert.specs.Obligations.{atom_of, steps_of, cover_of, choice_of, truth_targets, hold_side, end_sides, go_of, fix_of, step_fall, first_of, second_of};
+ghost use Rattle.tv_cert.specs.Targets.{owed_nothing, no_fall};
+ghost use Rattle.tv_cert.specs.Obligations.{atom_of, steps_of, cover_of, choice_of, choice_into, truth_targets, hold_side, end_sides, go_of, fix_of, step_fall, first_of, second_of};
 ghost use Rattle.tv_cert.specs.Plain.{about_of};
 ghost use Rattle.tv_cert.specs.Listed.{pieces_list};
 ghost use Rattle.tv_cert.specs.AimViews.{aim_states};
@@ -13,6 +13,8 @@ ghost use Rattle.tv_cert.specs.Owing.{OwedIn, case_falls, destination_owes, obli
 ghost use Rattle.tv_cert.specs.Visits.{Visits};
 
 use crate::aim::Aim;
+use crate::at::At;
+use crate::fixed_point::FixedPoint;
 use crate::node::{Kind, Mark, Marked, Node};
 use crate::owes::{Destination, Owes};
 use crate::pieces::Pieces;
@@ -21,105 +23,100 @@ use tv_cases::Cases;
 use tv_formula::{Path, Shape};
 
 /// Visits one obligation.
-fn visit<V: Visitor>(visitor: &mut V, about: &Cases, number: u32, kind: Kind, owes: &Owes) -> bool
-    requires owed { OwedIn (cases_of about.now) owes.now }
-    requires room { length (obligation_by (cases_of about.now) number kind owes.now ∷ []) ≤ V.room visitor.old }
-    ensures { let system = cases_of about.now in
-        let owed = obligation_by system number kind owes.now ∷ [] in
+fn visit<V: Visitor>(visitor: &mut V, at: &At, kind: Kind, owes: &Owes) -> bool
+    requires owed { OwedIn (cases_of at.now.about.now) owes.now }
+    requires room { length (obligation_by (cases_of at.now.about.now) at.now.number kind owes.now ∷ []) ≤ V.room visitor.old }
+    ensures { let system = cases_of at.now.about.now in
+        let owed = obligation_by system at.now.number kind owes.now ∷ [] in
         Visits (V.passes system) (V.stops system) V.room result visitor.old owed visitor.new }
 {
-    visitor.visit(about, number, kind, owes)
+    visitor.visit(at.about, at.number, kind, owes)
 }
 
 /// Visits a cover of a piece into the pieces of a region.
-fn visit_cover<V: Visitor>(
-    visitor: &mut V,
-    about: &Cases,
-    number: u32,
-    kind: Kind,
-    piece: &Marked,
-    into: &Pieces,
-) -> bool
-    requires { length (cover_of number kind (about_of (cases_of about.now)) piece.now into.now ∷ []) ≤ V.room visitor.old }
-    ensures { let system = cases_of about.now in
-        let owed = cover_of number kind (about_of system) piece.now into.now ∷ [] in
+fn visit_cover<V: Visitor>(visitor: &mut V, at: &At, kind: Kind, into: &Pieces) -> bool
+    requires { let system = cases_of at.now.about.now in
+        length (cover_of at.now.number kind (about_of system) at.now.piece.now into.now ∷ []) ≤ V.room visitor.old }
+    ensures { let system = cases_of at.now.about.now in
+        let owed = cover_of at.now.number kind (about_of system) at.now.piece.now into.now ∷ [] in
         Visits (V.passes system) (V.stops system) V.room result visitor.old owed visitor.new }
 {
-    visit(visitor, about, number, kind, &Owes::Pieces { piece, into })
+    let piece = at.piece;
+    visit(visitor, at, kind, &Owes::Pieces { piece, into })
 }
 
 /// Visits a cover of a piece by a location test that is true or false there.
-fn visit_truth<V: Visitor>(
-    visitor: &mut V,
-    about: &Cases,
-    number: u32,
-    piece: &Marked,
-    truth: bool,
-) -> bool
-    requires { let system = cases_of about.now in
-        length (atom_of number (about_of system) piece.now (truth_targets truth) ∷ []) ≤ V.room visitor.old }
-    ensures { let system = cases_of about.now in
-        let owed = atom_of number (about_of system) piece.now (truth_targets truth) ∷ [] in
+fn visit_truth<V: Visitor>(visitor: &mut V, at: &At, truth: bool) -> bool
+    requires { let system = cases_of at.now.about.now in
+        length (atom_of at.now.number (about_of system) at.now.piece.now (truth_targets truth) ∷ []) ≤ V.room visitor.old }
+    ensures { let system = cases_of at.now.about.now in
+        let owed = atom_of at.now.number (about_of system) at.now.piece.now (truth_targets truth) ∷ [] in
         Visits (V.passes system) (V.stops system) V.room result visitor.old owed visitor.new }
 {
-    visit(
-        visitor,
-        about,
-        number,
-        Kind::Atom,
-        &Owes::Truth { piece, truth },
-    )
+    let piece = at.piece;
+    visit(visitor, at, Kind::Atom, &Owes::Truth { piece, truth })
 }
 
 /// Visits a choice at a piece.
 fn visit_choice<V: Visitor>(
     visitor: &mut V,
-    about: &Cases,
-    number: u32,
+    at: &At,
     kind: Kind,
-    piece: &Marked,
     stop: bool,
     destination: Destination,
 ) -> bool
-    requires { let system = cases_of about.now in
-        length (choice_of number kind (about_of system) piece.now stop (destination_owes system.variables piece.now destination) ∷ []) ≤ V.room visitor.old }
-    ensures { let system = cases_of about.now in
-        let owed = choice_of number kind (about_of system) piece.now stop (destination_owes system.variables piece.now destination.entry) ∷ [] in
+    requires { let system = cases_of at.now.about.now in
+        let enters = destination_owes system.variables at.now.piece.now destination in
+        length (choice_of at.now.number kind (about_of system) at.now.piece.now stop enters ∷ []) ≤ V.room visitor.old }
+    ensures { let system = cases_of at.now.about.now in
+        let enters = destination_owes system.variables at.now.piece.now destination.entry in
+        let owed = choice_of at.now.number kind (about_of system) at.now.piece.now stop enters ∷ [] in
         Visits (V.passes system) (V.stops system) V.room result visitor.old owed visitor.new }
 {
     let owes = Owes::Choice {
-        piece,
+        piece: at.piece,
         stop,
         destination,
     };
-    visit(visitor, about, number, kind, &owes)
+    visit(visitor, at, kind, &owes)
+}
+
+/// Visits a choice that leads into the pieces, where no fall of the ranks is owed.
+fn visit_choice_into<V: Visitor>(visitor: &mut V, at: &At, pieces: &Pieces) -> bool
+    requires { let about = about_of (cases_of at.now.about.now) in
+        let enters = choice_into about pieces.now (λ c draws. no_fall) in
+        length (choice_of at.now.number Kind.Choice about at.now.piece.now false enters ∷ []) ≤ V.room visitor.old }
+    ensures { let system = cases_of at.now.about.now in
+        let enters = choice_into (about_of system) pieces.now (λ c draws. no_fall) in
+        let owed = choice_of at.now.number Kind.Choice (about_of system) at.now.piece.now false enters ∷ [] in
+        Visits (V.passes system) (V.stops system) V.room result visitor.old owed visitor.new }
+{
+    let falls = false;
+    let into = Destination::Into { pieces, falls };
+    visit_choice(visitor, at, Kind::Choice, false, into)
 }
 
 /// Visits the steps that a piece owes: one for each case from its location.
-fn visit_steps<V: Visitor>(
-    visitor: &mut V,
-    about: &Cases,
-    number: u32,
-    piece: &Marked,
-    into: &Pieces,
-    falls: bool,
-) -> bool
-    requires { let system = cases_of about.now in
-        length (steps_of number (about_of system) piece.now into.now (case_falls falls system piece.now)) ≤ V.room visitor.old }
-    ensures { let system = cases_of about.now in
-        let owed = steps_of number (about_of system) piece.now into.now (case_falls falls system piece.now) in
+fn visit_steps<V: Visitor>(visitor: &mut V, at: &At, into: &Pieces, falls: bool) -> bool
+    requires { let system = cases_of at.now.about.now in
+        let falls = case_falls falls system at.now.piece.now in
+        length (steps_of at.now.number (about_of system) at.now.piece.now into.now falls) ≤ V.room visitor.old }
+    ensures { let system = cases_of at.now.about.now in
+        let falls = case_falls falls system at.now.piece.now in
+        let owed = steps_of at.now.number (about_of system) at.now.piece.now into.now falls in
         Visits (V.passes system) (V.stops system) V.room result visitor.old owed visitor.new }
 {
+    let piece = at.piece;
     let location = piece.location();
     let mut k = 0;
-    'cases: while let Some(case) = about.leaving(location, k) {
+    'cases: while let Some(case) = at.about.leaving(location, k) {
         let owes = Owes::Step {
             piece,
             case,
             into,
             falls,
         };
-        if !visit(visitor, about, number, Kind::Step, &owes) {
+        if !visit(visitor, at, Kind::Step, &owes) {
             return false;
         }
         k += 1;
@@ -128,21 +125,17 @@ fn visit_steps<V: Visitor>(
 }
 
 /// Visits the covers of a piece into the pieces of each child.
-fn visit_children<V: Visitor>(
-    visitor: &mut V,
-    about: &Cases,
-    number: u32,
-    piece: &Marked,
-    children: &[Node],
-) -> bool
-    requires { let system = cases_of about.now in
-        length (map (cover_of number Kind.Child (about_of system) piece.now) (map pieces_list children.now)) ≤ V.room visitor.old }
-    ensures { let system = cases_of about.now in
-        let owed = map (cover_of number Kind.Child (about_of system) piece.now) (map pieces_list children.now) in
+fn visit_children<V: Visitor>(visitor: &mut V, at: &At, children: &[Node]) -> bool
+    requires { let system = cases_of at.now.about.now in
+        let cover = cover_of at.now.number Kind.Child (about_of system) at.now.piece.now in
+        length (map cover (map pieces_list children.now)) ≤ V.room visitor.old }
+    ensures { let system = cases_of at.now.about.now in
+        let cover = cover_of at.now.number Kind.Child (about_of system) at.now.piece.now in
+        let owed = map cover (map pieces_list children.now) in
         Visits (V.passes system) (V.stops system) V.room result visitor.old owed visitor.new }
 {
     for child in children {
-        if !visit_cover(visitor, about, number, Kind::Child, piece, &child.pieces) {
+        if !visit_cover(visitor, at, Kind::Child, &child.pieces) {
             return false;
         }
     }
@@ -150,145 +143,103 @@ fn visit_children<V: Visitor>(
 }
 
 /// Visits the covers of a piece that is done: into each side that holds at the end.
-fn visit_done<V: Visitor>(
-    visitor: &mut V,
-    about: &Cases,
-    number: u32,
-    shape: Shape,
-    piece: &Marked,
-    first: &Pieces,
-    second: &Pieces,
-) -> bool
-    requires { let system = cases_of about.now in
-        length (map (cover_of number Kind.Done (about_of system) piece.now) (end_sides shape first.now second.now)) ≤ V.room visitor.old }
-    ensures { let system = cases_of about.now in
-        let owed = map (cover_of number Kind.Done (about_of system) piece.now) (end_sides shape first.now second.now) in
+fn visit_done<V: Visitor>(visitor: &mut V, at: &At, fixed: &FixedPoint) -> bool
+    requires { let system = cases_of at.now.about.now in
+        let sides = end_sides fixed.now.shape fixed.now.first.now fixed.now.second.now in
+        length (map (cover_of at.now.number Kind.Done (about_of system) at.now.piece.now) sides) ≤ V.room visitor.old }
+    ensures { let system = cases_of at.now.about.now in
+        let sides = end_sides fixed.now.shape fixed.now.first.now fixed.now.second.now in
+        let owed = map (cover_of at.now.number Kind.Done (about_of system) at.now.piece.now) sides in
         Visits (V.passes system) (V.stops system) V.room result visitor.old owed visitor.new }
 {
-    match shape {
-        Shape::Until | Shape::Weak => {
-            visit_cover(visitor, about, number, Kind::Done, piece, second)
-        }
+    match fixed.shape {
+        Shape::Until | Shape::Weak => visit_cover(visitor, at, Kind::Done, fixed.second),
         Shape::Release | Shape::Strong => {
-            if !visit_cover(visitor, about, number, Kind::Done, piece, first) {
+            if !visit_cover(visitor, at, Kind::Done, fixed.first) {
                 return false;
             }
-            visit_cover(visitor, about, number, Kind::Done, piece, second)
+            visit_cover(visitor, at, Kind::Done, fixed.second)
         }
     }
 }
 
 /// Visits a choice that shows a successor, and then the steps, each of which makes the ranks fall.
-fn visit_ranked<V: Visitor>(
-    visitor: &mut V,
-    about: &Cases,
-    number: u32,
-    pieces: &Pieces,
-    piece: &Marked,
-) -> bool
-    requires { let system = cases_of about.now in
-        length (choice_of number Kind.Successor (about_of system) piece.now false (λ c draws. owed_nothing) ∷ steps_of number (about_of system) piece.now pieces.now (step_fall (about_of system) piece.now)) ≤ V.room visitor.old }
-    ensures { let system = cases_of about.now in
-        let owed = choice_of number Kind.Successor (about_of system) piece.now false (λ c draws. owed_nothing) ∷ steps_of number (about_of system) piece.now pieces.now (step_fall (about_of system) piece.now) in
+fn visit_ranked<V: Visitor>(visitor: &mut V, at: &At, pieces: &Pieces) -> bool
+    requires { let system = cases_of at.now.about.now in
+        let successor = choice_of at.now.number Kind.Successor (about_of system) at.now.piece.now false (λ c draws. owed_nothing) in
+        let fall = step_fall (about_of system) at.now.piece.now in
+        length (successor ∷ steps_of at.now.number (about_of system) at.now.piece.now pieces.now fall) ≤ V.room visitor.old }
+    ensures { let system = cases_of at.now.about.now in
+        let successor = choice_of at.now.number Kind.Successor (about_of system) at.now.piece.now false (λ c draws. owed_nothing) in
+        let fall = step_fall (about_of system) at.now.piece.now in
+        let owed = successor ∷ steps_of at.now.number (about_of system) at.now.piece.now pieces.now fall in
         Visits (V.passes system) (V.stops system) V.room result visitor.old owed visitor.new }
 {
     let anywhere = Destination::Anywhere;
-    if !visit_choice(
-        visitor,
-        about,
-        number,
-        Kind::Successor,
-        piece,
-        false,
-        anywhere,
-    ) {
+    if !visit_choice(visitor, at, Kind::Successor, false, anywhere) {
         return false;
     }
-    visit_steps(visitor, about, number, piece, pieces, true)
+    visit_steps(visitor, at, pieces, true)
 }
 
 /// Visits what follows the hold cover of a piece that goes on.
-fn visit_onward<V: Visitor>(
-    visitor: &mut V,
-    about: &Cases,
-    number: u32,
-    path: Path,
-    shape: Shape,
-    pieces: &Pieces,
-    piece: &Marked,
-) -> bool
-    requires { length (go_of number (about_of (cases_of about.now)) path shape pieces.now piece.now) ≤ V.room visitor.old }
-    ensures { let system = cases_of about.now in
-        let owed = go_of number (about_of system) path shape pieces.now piece.now in
+fn visit_onward<V: Visitor>(visitor: &mut V, at: &At, fixed: &FixedPoint, pieces: &Pieces) -> bool
+    requires { let about = about_of (cases_of at.now.about.now) in
+        length (go_of at.now.number about fixed.now.path fixed.now.shape pieces.now at.now.piece.now) ≤ V.room visitor.old }
+    ensures { let system = cases_of at.now.about.now in
+        let owed = go_of at.now.number (about_of system) fixed.now.path fixed.now.shape pieces.now at.now.piece.now in
         Visits (V.passes system) (V.stops system) V.room result visitor.old owed visitor.new }
 {
-    let falls = matches!(shape, Shape::Until | Shape::Strong);
-    match path {
+    let falls = matches!(fixed.shape, Shape::Until | Shape::Strong);
+    match fixed.path {
         Path::Every => {
             if falls {
-                visit_ranked(visitor, about, number, pieces, piece)
+                visit_ranked(visitor, at, pieces)
             } else {
-                visit_steps(visitor, about, number, piece, pieces, false)
+                visit_steps(visitor, at, pieces, false)
             }
         }
         Path::Any => {
             let into = Destination::Into { pieces, falls };
-            visit_choice(visitor, about, number, Kind::Choice, piece, !falls, into)
+            visit_choice(visitor, at, Kind::Choice, !falls, into)
         }
     }
 }
 
 /// Visits the cover of a piece that goes on into what holds on the way.
-fn visit_hold<V: Visitor>(
-    visitor: &mut V,
-    about: &Cases,
-    number: u32,
-    shape: Shape,
-    piece: &Marked,
-    first: &Pieces,
-    second: &Pieces,
-) -> bool
-    requires { let system = cases_of about.now in
-        length (cover_of number Kind.Hold (about_of system) piece.now (hold_side shape first.now second.now) ∷ []) ≤ V.room visitor.old }
-    ensures { let system = cases_of about.now in
-        let owed = cover_of number Kind.Hold (about_of system) piece.now (hold_side shape first.now second.now) ∷ [] in
+fn visit_hold<V: Visitor>(visitor: &mut V, at: &At, fixed: &FixedPoint) -> bool
+    requires { let system = cases_of at.now.about.now in
+        let side = hold_side fixed.now.shape fixed.now.first.now fixed.now.second.now in
+        length (cover_of at.now.number Kind.Hold (about_of system) at.now.piece.now side ∷ []) ≤ V.room visitor.old }
+    ensures { let system = cases_of at.now.about.now in
+        let side = hold_side fixed.now.shape fixed.now.first.now fixed.now.second.now in
+        let owed = cover_of at.now.number Kind.Hold (about_of system) at.now.piece.now side ∷ [] in
         Visits (V.passes system) (V.stops system) V.room result visitor.old owed visitor.new }
 {
-    match shape {
-        Shape::Until | Shape::Weak => {
-            visit_cover(visitor, about, number, Kind::Hold, piece, first)
-        }
-        Shape::Release | Shape::Strong => {
-            visit_cover(visitor, about, number, Kind::Hold, piece, second)
-        }
+    match fixed.shape {
+        Shape::Until | Shape::Weak => visit_cover(visitor, at, Kind::Hold, fixed.first),
+        Shape::Release | Shape::Strong => visit_cover(visitor, at, Kind::Hold, fixed.second),
     }
 }
 
 /// Visits what a piece of a fixed point owes.
-fn visit_fix<V: Visitor>(
-    visitor: &mut V,
-    about: &Cases,
-    number: u32,
-    path: Path,
-    shape: Shape,
-    pieces: &Pieces,
-    first: &Pieces,
-    second: &Pieces,
-    piece: &Marked,
-) -> bool
-    requires { let system = cases_of about.now in
-        length (fix_of number (about_of system) path shape pieces.now first.now second.now piece.now (goes piece.now)) ≤ V.room visitor.old }
-    ensures { let system = cases_of about.now in
-        let owed = fix_of number (about_of system) path shape pieces.now first.now second.now piece.now (goes piece.now) in
-        Visits (V.passes system) (V.stops system) V.room result visitor.old owed visitor.new }
+fn visit_fix<V: Visitor>(visitor: &mut V, at: &At, fixed: &FixedPoint, pieces: &Pieces) -> bool
+    requires { let system = cases_of at.now.about.now in
+        let piece = at.now.piece.now in
+        let owed = fix_of at.now.number (about_of system) fixed.now.path fixed.now.shape pieces.now fixed.now.first.now fixed.now.second.now in
+        length (owed piece (goes piece)) ≤ V.room visitor.old }
+    ensures { let system = cases_of at.now.about.now in
+        let piece = at.now.piece.now in
+        let owed = fix_of at.now.number (about_of system) fixed.now.path fixed.now.shape pieces.now fixed.now.first.now fixed.now.second.now in
+        Visits (V.passes system) (V.stops system) V.room result visitor.old (owed piece (goes piece)) visitor.new }
 {
-    match piece.mark() {
-        Mark::Done => visit_done(visitor, about, number, shape, piece, first, second),
+    match at.piece.mark() {
+        Mark::Done => visit_done(visitor, at, fixed),
         Mark::Go => {
-            if !visit_hold(visitor, about, number, shape, piece, first, second) {
+            if !visit_hold(visitor, at, fixed) {
                 return false;
             }
-            visit_onward(visitor, about, number, path, shape, pieces, piece)
+            visit_onward(visitor, at, fixed, pieces)
         }
     }
 }
@@ -318,64 +269,42 @@ fn second_pieces<'a>(nodes: &'a [Node], none: &'a Pieces) -> &'a Pieces
 /// Visits what a piece owes for what its node is to show.
 fn visit_piece<V: Visitor>(
     visitor: &mut V,
-    about: &Cases,
-    number: u32,
+    at: &At,
     aim: &Aim,
     pieces: &Pieces,
     children: &[Node],
-    piece: &Marked,
 ) -> bool
-    requires { let system = cases_of about.now in
-        length (piece_owes number system (aim_states aim.now) pieces.now (map pieces_list children.now) piece.now) ≤ V.room visitor.old }
-    ensures { let system = cases_of about.now in
-        let owed = piece_owes number system (aim_states aim.now) pieces.now (map pieces_list children.now) piece.now in
+    requires { let system = cases_of at.now.about.now in
+        let owed = piece_owes at.now.number system (aim_states aim.now) pieces.now (map pieces_list children.now) at.now.piece.now in
+        length owed ≤ V.room visitor.old }
+    ensures { let system = cases_of at.now.about.now in
+        let owed = piece_owes at.now.number system (aim_states aim.now) pieces.now (map pieces_list children.now) at.now.piece.now in
         Visits (V.passes system) (V.stops system) V.room result visitor.old owed visitor.new }
 {
     let none = pieces.none();
     let first = first_pieces(children, &none);
+    let piece = at.piece;
     match aim {
-        Aim::Rows(lists) => {
-            visit(
-                visitor,
-                about,
-                number,
-                Kind::Atom,
-                &Owes::Rows { piece, lists },
-            )
-        }
-        Aim::Here(l) => visit_truth(visitor, about, number, piece, piece.location() == *l),
-        Aim::Elsewhere(l) => visit_truth(visitor, about, number, piece, piece.location() != *l),
-        Aim::Ends => visit_steps(visitor, about, number, piece, pieces, true),
-        Aim::NeverEnds => {
-            let falls = false;
-            let into = Destination::Into { pieces, falls };
-            visit_choice(visitor, about, number, Kind::Choice, piece, false, into)
-        }
-        Aim::EachOf(_) => visit_children(visitor, about, number, piece, children),
+        Aim::Rows(lists) => visit(visitor, at, Kind::Atom, &Owes::Rows { piece, lists }),
+        Aim::Here(l) => visit_truth(visitor, at, piece.location() == *l),
+        Aim::Elsewhere(l) => visit_truth(visitor, at, piece.location() != *l),
+        Aim::Ends => visit_steps(visitor, at, pieces, true),
+        Aim::NeverEnds => visit_choice_into(visitor, at, pieces),
+        Aim::EachOf(_) => visit_children(visitor, at, children),
         Aim::OneOf(_) => {
             let nodes = children;
-            visit(
-                visitor,
-                about,
-                number,
-                Kind::Child,
-                &Owes::Joined { piece, nodes },
-            )
+            visit(visitor, at, Kind::Child, &Owes::Joined { piece, nodes })
         }
-        Aim::After(Path::Every, _) => visit_steps(visitor, about, number, piece, first, false),
-        Aim::After(Path::Any, _) => {
-            let falls = false;
-            let into = Destination::Into {
-                pieces: first,
-                falls,
-            };
-            visit_choice(visitor, about, number, Kind::Choice, piece, false, into)
-        }
+        Aim::After(Path::Every, _) => visit_steps(visitor, at, first, false),
+        Aim::After(Path::Any, _) => visit_choice_into(visitor, at, first),
         Aim::Along(path, shape, _, _) => {
-            let second = second_pieces(children, &none);
-            visit_fix(
-                visitor, about, number, *path, *shape, pieces, first, second, piece,
-            )
+            let fixed = FixedPoint {
+                path: *path,
+                shape: *shape,
+                first,
+                second: second_pieces(children, &none),
+            };
+            visit_fix(visitor, at, &fixed, pieces)
         }
     }
 }
@@ -396,7 +325,12 @@ pub fn visit_pieces<V: Visitor>(
         Visits (V.passes system) (V.stops system) V.room result visitor.old owed visitor.new }
 {
     for piece in pieces.list() {
-        if !visit_piece(visitor, about, number, aim, pieces, children, piece) {
+        let at = At {
+            about,
+            number,
+            piece,
+        };
+        if !visit_piece(visitor, &at, aim, pieces, children) {
             return false;
         }
     }

@@ -23,6 +23,14 @@ use tv_linear::{ChoiceTree, Cover, Row};
 use tv_lines::Head;
 use tv_shape::Targets;
 
+/// What choices are read with: the piece at which they are made, where they lead, and whether they may show that there is no step.
+#[derive(Clone, Copy)]
+pub struct Choosing<'a> {
+    pub piece: &'a Marked,
+    pub stop: bool,
+    pub destination: &'a Destination<'a>,
+}
+
 /// A split at the row.
 fn split_of(
     alloc: Global,
@@ -124,15 +132,14 @@ impl Context<'_> {
         &self,
         cursor: &mut Cursor,
         left: u32,
-        piece: &Marked,
-        stop: bool,
-        destination: &Destination,
+        choosing: &Choosing,
         known: u128,
     ) -> Result<ChoiceTree, Failure>
-        requires few { AreFewAt piece.now destination.now }
+        requires few { AreFewAt choosing.now.piece.now choosing.now.destination.now }
         requires shallow { left ≤ 128 }
         requires room { known + left < 2 ^ 125 }
-        ensures { ReadsChoice (cases_of self.now.about.now) piece.now stop destination.now known left cursor.old cursor.new result }
+        ensures { let reads = ReadsChoice (cases_of self.now.about.now) choosing.now.piece.now choosing.now.stop choosing.now.destination.now in
+            reads known left cursor.old cursor.new result }
     {
         let (head, numbers) = take(self.alloc, cursor)?;
         match head {
@@ -144,14 +151,14 @@ impl Context<'_> {
                     return Err(Failure::Fault(LineKind::Shape, cursor.taken));
                 };
                 let (below, rows) = (left - 1, known + 1);
-                let holds = self.choice_tree(cursor, below, piece, stop, destination, rows)?;
-                let fails = self.choice_tree(cursor, below, piece, stop, destination, rows)?;
+                let holds = self.choice_tree(cursor, below, choosing, rows)?;
+                let fails = self.choice_tree(cursor, below, choosing, rows)?;
                 let split = split_of(self.alloc, row, holds, fails)?;
                 Ok(split)
             }
             Head::Empty => empty_of(numbers, known, cursor.taken),
-            Head::NoStep => self.no_step(cursor, left, piece, stop, known),
-            Head::Take => self.takes(cursor, &numbers, piece, stop, destination, known),
+            Head::NoStep => self.no_step(cursor, left, choosing.piece, choosing.stop, known),
+            Head::Take => self.takes(cursor, &numbers, choosing, known),
             _ => Err(Failure::Fault(LineKind::Shape, cursor.taken)),
         }
     }

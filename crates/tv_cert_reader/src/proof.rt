@@ -8,6 +8,7 @@ ghost use Rattle.tv_cert.specs.declared.owes.Owes.TheVariants as owing;
 ghost use Rattle.tv_shape.specs.Counts.{counts_of};
 ghost use Rattle.tv_cert_reader.specs.Proofs.{ReadsProof};
 
+use crate::choices::Choosing;
 use crate::context::Context;
 use crate::cursor::Cursor;
 use crate::failure::Failure;
@@ -77,7 +78,12 @@ impl Context<'_> {
             return Err(Failure::Memory);
         }
         let known = piece.rows().len() as u128;
-        let tree = self.choice_tree(cursor, MAX_SPLITS, piece, stop, destination, known)?;
+        let choosing = Choosing {
+            piece,
+            stop,
+            destination,
+        };
+        let tree = self.choice_tree(cursor, MAX_SPLITS, &choosing, known)?;
         match Choice::new(tree) {
             Some(choice) => Ok(Proof::Chosen(choice)),
             None => unreachable!(),

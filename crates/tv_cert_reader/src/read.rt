@@ -1,6 +1,6 @@
 ghost use Rattle.std.specs.Prelude.{◌≡◌, ◌-◌, ◌<◌, ◌^◌, length, IfOk, IfErr, MatchResult};
 ghost use Rattle.tv_cases.specs.Systems.{cases_of};
-ghost use Rattle.tv_cert.specs.Claims.{StatesIts, about_with, claim_variables, shown};
+ghost use Rattle.tv_cert.specs.Claims.{about_with, claim_variables, shown};
 ghost use Rattle.tv_shape.specs.Certificates.{IsOf};
 ghost use Rattle.tv_shape.specs.Fitting.{Fits};
 ghost use Rattle.tv_cert_reader.specs.Texts.{IsCertificateText, IsRefusedText, fault_of, sides_of};
@@ -23,7 +23,6 @@ use tv_shape::{Certificate, ShapeFault};
 impl Context<'_> {
     /// The nodes and the verdict of a certificate of what is claimed, whose lines these are.
     fn whole(&self, cursor: &mut Cursor, claim: &Claim) -> Result<(Node, Verdict), Failure>
-        requires { StatesIts claim.now }
         ensures { ReadsAll (cases_of self.now.about.now) (sides_of claim.now) cursor.old result }
     {
         numbers(self.alloc, cursor, Sort::Header, 0)?;
@@ -56,7 +55,6 @@ fn certified(
     root: Node,
     verdict: Verdict,
 ) -> Result<Certificate, CertFault>
-    requires states { StatesIts claim.now }
     requires variables { claim_variables claim.now ≡ (cases_of about.now).variables }
     requires fits { Fits (about_with (cases_of about.now)) (shown claim.now verdict) root verdict }
     ensures { let system = cases_of about.now in
@@ -82,7 +80,6 @@ pub fn read_certificate(
     claim: &Claim,
 ) -> Result<Certificate, CertFault>
     requires few { length text.now < 2 ^ 32 - 1 }
-    requires states { StatesIts claim.now }
     requires variables { claim_variables claim.now ≡ (cases_of about.now).variables }
     // What is read is the certificate of the text.
     ensures found { IfOk result (λ c. IsCertificateText (cases_of about.now) claim.now text.now c) }

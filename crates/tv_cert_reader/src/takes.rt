@@ -6,6 +6,7 @@ ghost use Rattle.tv_cert_reader.specs.declared.cursor.Cursor.{Cursor};
 ghost use Rattle.tv_cert_reader.specs.Covers.{IsBehind};
 ghost use Rattle.tv_cert_reader.specs.Choices.{IsTaken, NamesNoCase, ReadsChoice};
 
+use crate::choices::Choosing;
 use crate::context::Context;
 use crate::covers::small;
 use crate::cursor::Cursor;
@@ -85,18 +86,16 @@ impl Context<'_> {
         &self,
         cursor: &mut Cursor,
         numbers: &[i64],
-        piece: &Marked,
-        stop: bool,
-        destination: &Destination,
+        choosing: &Choosing,
         known: u128,
     ) -> Result<ChoiceTree, Failure>
-        requires few { AreFewAt piece.now destination.now }
+        requires few { AreFewAt choosing.now.piece.now choosing.now.destination.now }
         requires room { known < 2 ^ 126 }
         ensures { let system = cases_of self.now.about.now in
-            (left : ℕ) (old : Cursor) → IsBehind Head.Take numbers.now old cursor.old →
-            ReadsChoice system piece.now stop destination.now known left old cursor.new result }
+            let reads = ReadsChoice system choosing.now.piece.now choosing.now.stop choosing.now.destination.now known in
+            (left : ℕ) (old : Cursor) → IsBehind Head.Take numbers.now old cursor.old → reads left old cursor.new result }
     {
-        let Some(taken) = self.taken_of(numbers, piece, destination) else {
+        let Some(taken) = self.taken_of(numbers, choosing.piece, choosing.destination) else {
             return Err(Failure::Fault(LineKind::Shape, cursor.taken));
         };
         let case = taken.case;

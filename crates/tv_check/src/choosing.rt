@@ -14,10 +14,21 @@ ghost use Rattle.tv_cert.specs.Owing.{destination_owes};
 ghost use Rattle.tv_check.specs.Owes.{falls_of};
 
 use crate::pieces::Entered;
+use crate::take::Take;
 use tv_cases::{Case, Cases};
 use tv_cert::{Destination, Marked, Pieces};
 use tv_linear::{ChoiceTree, Cover, Row, RowView, Rows};
 use tv_refute::{Built, Change, Frames, Targets, Terms, cover_is_met, refutes, shown_rows};
+
+/// What choices are judged with: the piece at which they are made, where they lead, and whether they may show that there is no step.
+#[derive(Clone, Copy)]
+pub struct Choosing<'a> {
+    pub columns: u32,
+    pub about: &'a Cases,
+    pub piece: &'a Marked,
+    pub stop: bool,
+    pub destination: &'a Destination<'a>,
+}
 
 /// Whether the one target without rows is named, and no list is left.
 fn nothing_is_shown(target: u32, fall: u32, lists: &[Vec<i64>]) -> bool
@@ -26,29 +37,29 @@ fn nothing_is_shown(target: u32, fall: u32, lists: &[Vec<i64>]) -> bool
     target == 0 && fall == 0 && lists.is_empty()
 }
 
-/// Whether the lists show a piece that is entered by the case, with terms for its draws, and a fall from these ranks where there
-/// are some.
+/// Whether the refutations show a piece that is entered by the case, with terms for its draws, and a fall from these ranks where
+/// there are some.
 fn entering_is_shown(
     columns: u32,
     frames: &Frames,
     case: &Case,
+    take: &Take,
     into: &Pieces,
     ranks: Option<Rows>,
-    draws: &[Row],
-    target: u32,
-    fall: u32,
-    lists: &[Vec<i64>],
 ) -> bool
     ensures { let taken = case_view case.now in
-        let change = drawn_change columns taken draws.now in
-        let owed = owed_into into.now case.now.to change (falls_of change ranks.entry) target fall in
-        IsTrue result ↔ ShownAt columns (known_at frames.now) owed (map (λ l. l.items) lists.now) }
+        let change = drawn_change columns taken take.now.draws.now in
+        let owed = owed_into into.now case.now.to change (falls_of change ranks.entry) take.now.target take.now.fall in
+        IsTrue result ↔ ShownAt columns (known_at frames.now) owed (map (λ l. l.items) take.now.refutations.now) }
 {
     let after = Terms::After {
         columns,
         updates: &case.updates,
     };
-    let drawn = Terms::Drawn { columns, draws };
+    let drawn = Terms::Drawn {
+        columns,
+        draws: take.draws,
+    };
     let change = Change::Twice(&after, &drawn);
     let targets = Entered {
         pieces: into,
@@ -56,32 +67,31 @@ fn entering_is_shown(
         change: &change,
         ranks,
     };
-    targets.are_shown(columns as usize, frames, target, fall, lists)
+    targets.are_shown(
+        columns as usize,
+        frames,
+        take.target,
+        take.fall,
+        take.refutations,
+    )
 }
 
-/// Whether the lists show the target after the case, with terms for its draws.
-fn destination_is_shown(
-    columns: u32,
-    frames: &Frames,
-    piece: &Marked,
-    case: &Case,
-    destination: &Destination,
-    draws: &[Row],
-    target: u32,
-    fall: u32,
-    lists: &[Vec<i64>],
-) -> bool
+/// Whether the refutations show the target after the case, with terms for its draws.
+fn destination_is_shown(choosing: &Choosing, frames: &Frames, case: &Case, take: &Take) -> bool
     ensures { let taken = case_view case.now in
-        let owes = destination_owes columns piece.now destination.now in
-        IsTrue result ↔ ShownAt columns (known_at frames.now) (owes taken draws.now target fall) (map (λ l. l.items) lists.now) }
+        let owes = destination_owes choosing.now.columns choosing.now.piece.now choosing.now.destination.now in
+        let rows = owes taken take.now.draws.now take.now.target take.now.fall in
+        IsTrue result ↔ ShownAt choosing.now.columns (known_at frames.now) rows (map (λ l. l.items) take.now.refutations.now) }
 {
-    match destination {
-        Destination::Anywhere => nothing_is_shown(target, fall, lists),
+    match choosing.destination {
+        Destination::Anywhere => nothing_is_shown(take.target, take.fall, take.refutations),
         Destination::Into { pieces, falls } => {
-            let ranks = if *falls { Some(piece.ranks()) } else { None };
-            entering_is_shown(
-                columns, frames, case, pieces, ranks, draws, target, fall, lists,
-            )
+            let ranks = if *falls {
+                Some(choosing.piece.ranks())
+            } else {
+                None
+            };
+            entering_is_shown(choosing.columns, frames, case, take, pieces, ranks)
         }
     }
 }
@@ -145,101 +155,67 @@ fn no_step_is_met(
     covers.len() <= k
 }
 
-/// Whether the lists show the guards of the case, with terms for its draws, and then the target.
-fn take_is_shown(
-    columns: u32,
-    frames: &Frames,
-    piece: &Marked,
-    case: &Case,
-    destination: &Destination,
-    draws: &[Row],
-    target: u32,
-    fall: u32,
-    lists: &[Vec<i64>],
-) -> bool
+/// Whether the refutations show the guards of the case, with terms for its draws, and then the target.
+fn take_is_shown(choosing: &Choosing, frames: &Frames, case: &Case, take: &Take) -> bool
     ensures { let taken = case_view case.now in
-        let owes = destination_owes columns piece.now destination.now in
-        let owed = option_map (λ rows. drawn_guards columns taken draws.now ++ rows) (owes taken draws.now target fall) in
-        IsTrue result ↔ ShownAt columns (known_at frames.now) owed (map (λ l. l.items) lists.now) }
+        let owes = destination_owes choosing.now.columns choosing.now.piece.now choosing.now.destination.now in
+        let entered = owes taken take.now.draws.now take.now.target take.now.fall in
+        let rows = option_map (λ rows. drawn_guards choosing.now.columns taken take.now.draws.now ++ rows) entered in
+        IsTrue result ↔ ShownAt choosing.now.columns (known_at frames.now) rows (map (λ l. l.items) take.now.refutations.now) }
 {
+    let columns = choosing.columns;
+    let lists = take.refutations;
     let guards: &[Row] = &case.guards.rows;
     if lists.len() < guards.len() {
         return false;
     }
     let (first, rest) = lists.split_at(guards.len());
-    let drawn = Terms::Drawn { columns, draws };
+    let drawn = Terms::Drawn {
+        columns,
+        draws: take.draws,
+    };
     let change = Change::Once(&drawn);
     if !shown_rows(columns as usize, frames, &change, Rows::Each(guards), first) {
         return false;
     }
-    destination_is_shown(
-        columns,
-        frames,
-        piece,
-        case,
-        destination,
-        draws,
-        target,
-        fall,
-        rest,
-    )
+    let entering = Take {
+        taken: take.taken,
+        target: take.target,
+        fall: take.fall,
+        draws: take.draws,
+        refutations: rest,
+    };
+    destination_is_shown(choosing, frames, case, &entering)
 }
 
-/// Whether there is this case from the location, a term for each of its draws, and the lists show its guards and the target.
-fn take_is_met(
-    columns: u32,
-    cases: &[Case],
-    piece: &Marked,
-    destination: &Destination,
-    frames: &Frames,
-    taken: u32,
-    target: u32,
-    fall: u32,
-    draws: &[Row],
-    lists: &[Vec<i64>],
-) -> bool
-    ensures { let owes = destination_owes columns piece.now destination.now in
-        let case = slice_get (case_views cases.now) taken in
-        let shown = map (λ l. l.items) lists.now in
-        IsTrue result ↔ TakeMet columns (place_of piece.now) owes (known_at frames.now) case target fall draws.now shown }
+/// Whether there is this case from the location, a term for each of its draws, and the refutations show its guards and the target.
+fn take_is_met(choosing: &Choosing, frames: &Frames, take: &Take) -> bool
+    ensures { let owes = destination_owes choosing.now.columns choosing.now.piece.now choosing.now.destination.now in
+        let case = slice_get (case_views (cases_of choosing.now.about.now).cases) take.now.taken in
+        let shown = map (λ l. l.items) take.now.refutations.now in
+        let met = TakeMet choosing.now.columns (place_of choosing.now.piece.now) owes (known_at frames.now) case in
+        IsTrue result ↔ met take.now.target take.now.fall take.now.draws.now shown }
 {
-    match cases.get(taken as usize) {
+    match choosing.about.list().get(take.taken as usize) {
         None => false,
         Some(case) => {
-            if case.from != piece.location() {
+            if case.from != choosing.piece.location() {
                 return false;
             }
-            if draws.len() != case.draws as usize {
+            if take.draws.len() != case.draws as usize {
                 return false;
             }
-            take_is_shown(
-                columns,
-                frames,
-                piece,
-                case,
-                destination,
-                draws,
-                target,
-                fall,
-                lists,
-            )
+            take_is_shown(choosing, frames, case, take)
         }
     }
 }
 
-/// Whether the choice is met at the place; `stop` tells whether it may show that there is no step.
-pub fn choice_is_met(
-    columns: u32,
-    about: &Cases,
-    piece: &Marked,
-    stop: bool,
-    destination: &Destination,
-    frames: &Frames,
-    tree: &ChoiceTree,
-) -> bool
-    ensures { let system = cases_of about.now in
-        let owes = destination_owes columns piece.now destination.now in
-        IsTrue result ↔ IsMetChoice columns system.cases (place_of piece.now) stop owes (known_at frames.now) tree.now }
+/// Whether the choice is met at the place.
+pub fn choice_is_met(choosing: &Choosing, frames: &Frames, tree: &ChoiceTree) -> bool
+    ensures { let system = cases_of choosing.now.about.now in
+        let owes = destination_owes choosing.now.columns choosing.now.piece.now choosing.now.destination.now in
+        let met = IsMetChoice choosing.now.columns system.cases (place_of choosing.now.piece.now) choosing.now.stop owes in
+        IsTrue result ↔ met (known_at frames.now) tree.now }
 {
     match tree {
         ChoiceTree::Split(row, holds, fails) => {
@@ -253,12 +229,13 @@ pub fn choice_is_met(
                 row: &denied,
                 above: &*frames,
             };
-            choice_is_met(columns, about, piece, stop, destination, &met, holds)
-                && choice_is_met(columns, about, piece, stop, destination, &not_met, fails)
+            choice_is_met(choosing, &met, holds) && choice_is_met(choosing, &not_met, fails)
         }
-        ChoiceTree::Empty(multipliers) => refutes(columns as usize, frames, multipliers),
+        ChoiceTree::Empty(multipliers) => refutes(choosing.columns as usize, frames, multipliers),
         ChoiceTree::NoStep(covers) => {
-            stop && no_step_is_met(columns, frames, piece.location(), about, covers)
+            let columns = choosing.columns;
+            let location = choosing.piece.location();
+            choosing.stop && no_step_is_met(columns, frames, location, choosing.about, covers)
         }
         ChoiceTree::Take {
             taken,
@@ -266,17 +243,15 @@ pub fn choice_is_met(
             fall,
             draws,
             refutations,
-        } => take_is_met(
-            columns,
-            about.list(),
-            piece,
-            destination,
-            frames,
-            *taken,
-            *target,
-            *fall,
-            draws,
-            refutations,
-        ),
+        } => {
+            let take = Take {
+                taken: *taken,
+                target: *target,
+                fall: *fall,
+                draws,
+                refutations,
+            };
+            take_is_met(choosing, frames, &take)
+        }
     }
 }

@@ -8,25 +8,26 @@ ghost use Rattle.tv_refute.specs.Frames.{known_at};
 ghost use Rattle.tv_refute.specs.Built.{change_of};
 ghost use Rattle.tv_linear.specs.Views.{row_seen, rows_seen};
 
-use tv_linear::{RowView, Rows};
-use tv_refute::{Built, Change, Frames, refutes_denial, shown_rows};
+use crate::rank::Rank;
+use crate::ranks::Ranks;
+use tv_linear::RowView;
+use tv_refute::{Built, Change, Frames, refutes_denial};
 
-/// Whether the multipliers show that the changed row, less another and plus a number, is met.
+/// Whether the multipliers show that the rank after, less the rank before and plus a number, is met.
 pub fn shows_less(
     columns: usize,
     frames: &Frames,
-    change: &Change,
-    new: RowView,
-    old: RowView,
+    rank: &Rank,
     more: i128,
     multipliers: &[i64],
 ) -> bool
-    ensures { let fall = less (change_of change.now (row_seen new.entry)) (given (row_seen old.entry)) more in
+    ensures { let after = change_of rank.now.change.now (row_seen rank.now.new) in
+        let fall = less after (given (row_seen rank.now.old)) more in
         IsTrue result ↔ Refutes columns (known_at frames.now ++ denied fall ∷ []) multipliers.now }
 {
-    let first = Built::Given(new);
-    let from = Built::Given(old);
-    match change {
+    let first = Built::Given(rank.new);
+    let from = Built::Given(rank.old);
+    match rank.change {
         Change::Kept => {
             let fall = Built::Less(&first, &from, more);
             refutes_denial(columns, frames, &fall, multipliers)
@@ -57,28 +58,23 @@ pub fn shows_not_below(columns: usize, frames: &Frames, old: RowView, multiplier
 }
 
 /// Whether the lists show the fall at place `j`, from 0, from the ranks before to the changed ranks after.
-fn shown_fall_at(
-    columns: usize,
-    frames: &Frames,
-    change: &Change,
-    old: Rows,
-    new: Rows,
-    j: u32,
-    lists: &[Vec<i64>],
-) -> bool
-    ensures { let falls = fall_rows_at (as_given (rows_seen old.entry)) (map (change_of change.now) (rows_seen new.entry)) j in
+fn shown_fall_at(columns: usize, frames: &Frames, ranks: &Ranks, j: u32, lists: &[Vec<i64>]) -> bool
+    ensures { let changed = map (change_of ranks.now.change.now) (rows_seen ranks.now.new) in
+        let falls = fall_rows_at (as_given (rows_seen ranks.now.old)) changed j in
         IsTrue result ↔ ShownAt columns (known_at frames.now) falls (map (λ l. l.items) lists.now) }
 {
-    match old.split_first() {
+    let change = ranks.change;
+    match ranks.old.split_first() {
         None => false,
-        Some((f, before)) => match new.split_first() {
+        Some((old, before)) => match ranks.new.split_first() {
             None => false,
-            Some((g, after)) => {
+            Some((new, after)) => {
+                let rank = Rank { change, old, new };
                 if j == 0 {
                     match lists {
                         [first, second] => {
-                            shows_less(columns, frames, change, g, f, 1, first)
-                                && shows_not_below(columns, frames, f, second)
+                            shows_less(columns, frames, &rank, 1, first)
+                                && shows_not_below(columns, frames, old, second)
                         }
                         _ => false,
                     }
@@ -86,16 +82,13 @@ fn shown_fall_at(
                     match lists {
                         [] => false,
                         [first, rest @ ..] => {
-                            shows_less(columns, frames, change, g, f, 0, first)
-                                && shown_fall_at(
-                                    columns,
-                                    frames,
-                                    change,
-                                    before,
-                                    after,
-                                    j - 1,
-                                    rest,
-                                )
+                            let ranks = Ranks {
+                                change,
+                                old: before,
+                                new: after,
+                            };
+                            shows_less(columns, frames, &rank, 0, first)
+                                && shown_fall_at(columns, frames, &ranks, j - 1, rest)
                         }
                     }
                 }
@@ -108,14 +101,13 @@ fn shown_fall_at(
 pub fn shown_fall(
     columns: usize,
     frames: &Frames,
-    change: &Change,
-    old: Rows,
-    new: Rows,
+    ranks: &Ranks,
     j: u32,
     lists: &[Vec<i64>],
 ) -> bool
-    ensures { let falls = fall_rows (as_given (rows_seen old.entry)) (map (change_of change.now) (rows_seen new.entry)) j in
+    ensures { let changed = map (change_of ranks.now.change.now) (rows_seen ranks.now.new) in
+        let falls = fall_rows (as_given (rows_seen ranks.now.old)) changed j in
         IsTrue result ↔ ShownAt columns (known_at frames.now) falls (map (λ l. l.items) lists.now) }
 {
-    j > 0 && shown_fall_at(columns, frames, change, old, new, j - 1, lists)
+    j > 0 && shown_fall_at(columns, frames, ranks, j - 1, lists)
 }

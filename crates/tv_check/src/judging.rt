@@ -15,7 +15,7 @@ ghost use Rattle.tv_cert.specs.Owing.{owed_by, falls_where, destination_owes};
 ghost use Rattle.tv_cert.specs.declared.node.Proof.TheVariants.{Covered, Chosen};
 ghost use Rattle.tv_check.specs.Settling.{first_proof};
 
-use crate::choosing::choice_is_met;
+use crate::choosing::{Choosing, choice_is_met};
 use crate::pieces::kept_is_shown;
 use crate::steps::{rows_are_covered, step_is_covered, truth_is_covered};
 use tv_cases::{Case, Cases};
@@ -152,15 +152,14 @@ fn choice_is_judged(
         rows: piece.rows(),
         above: &end,
     };
-    choice_is_met(
-        about.variables(),
+    let choosing = Choosing {
+        columns: about.variables(),
         about,
         piece,
         stop,
         destination,
-        &place,
-        tree,
-    )
+    };
+    choice_is_met(&choosing, &place, tree)
 }
 
 /// Whether the tree covers what is owed.

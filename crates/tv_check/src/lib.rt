@@ -3,12 +3,17 @@
 
 mod checking;
 mod choosing;
+mod entering;
 mod falls;
 mod judging;
 mod pieces;
+mod rank;
+mod ranks;
 mod settler;
 mod steps;
+mod take;
 mod walking;
 
 pub use checking::{check, is_inside};
 pub use falls::{shows_less, shows_not_below};
+pub use rank::Rank;

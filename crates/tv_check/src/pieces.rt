@@ -9,7 +9,9 @@ ghost use Rattle.tv_linear.specs.Views.{rows_seen};
 ghost use Rattle.tv_cert.specs.Targets.{owed_into, target_rows, no_fall};
 ghost use Rattle.tv_check.specs.Owes.{falls_of};
 
+use crate::entering::Entering;
 use crate::falls::shown_fall;
+use crate::ranks::Ranks;
 use tv_cert::{Mark, Marked, Pieces};
 use tv_linear::Rows;
 use tv_refute::{Change, Frames, Targets, shown_rows};
@@ -18,15 +20,13 @@ use tv_refute::{Change, Frames, Targets, shown_rows};
 fn shown_piece(
     columns: usize,
     frames: &Frames,
-    change: &Change,
     rows: Rows,
-    old: Rows,
-    new: Rows,
+    ranks: &Ranks,
     j: u32,
     lists: &[Vec<i64>],
 ) -> bool
-    ensures { let changed = map (change_of change.now) in
-        let falls = fall_rows (as_given (rows_seen old.entry)) (changed (rows_seen new.entry)) j in
+    ensures { let changed = map (change_of ranks.now.change.now) in
+        let falls = fall_rows (as_given (rows_seen ranks.now.old)) (changed (rows_seen ranks.now.new)) j in
         let owed = option_map (λ falls. changed (rows_seen rows.entry) ++ falls) falls in
         IsTrue result ↔ ShownAt columns (known_at frames.now) owed (map (λ l. l.items) lists.now) }
 {
@@ -34,10 +34,10 @@ fn shown_piece(
         return false;
     }
     let (first, rest) = lists.split_at(rows.len());
-    if !shown_rows(columns, frames, change, rows, first) {
+    if !shown_rows(columns, frames, ranks.change, rows, first) {
         return false;
     }
-    shown_fall(columns, frames, change, old, new, j, rest)
+    shown_fall(columns, frames, ranks, j, rest)
 }
 
 /// The pieces at a location, entered from a piece with these ranks, or without a fall.
@@ -60,9 +60,13 @@ impl Targets for Entered<'_> {
         fall: u32,
         lists: &[Vec<i64>],
     ) -> bool {
+        let entering = Entering {
+            change: self.change,
+            ranks: self.ranks,
+        };
         match self.pieces.at(self.location, target) {
             None => false,
-            Some(q) => entered_is_shown(columns, frames, self.change, self.ranks, q, fall, lists),
+            Some(q) => entered_is_shown(columns, frames, &entering, q, fall, lists),
         }
     }
 }
@@ -71,32 +75,25 @@ impl Targets for Entered<'_> {
 fn entered_is_shown(
     columns: usize,
     frames: &Frames,
-    change: &Change,
-    ranks: Option<Rows>,
+    entering: &Entering,
     piece: &Marked,
     fall: u32,
     lists: &[Vec<i64>],
 ) -> bool
-    ensures { let changed = change_of change.now in
-        let owed = target_rows changed (falls_of changed ranks.entry) (Some piece.now) fall in
+    ensures { let changed = change_of entering.now.change.now in
+        let owed = target_rows changed (falls_of changed entering.now.ranks) (Some piece.now) fall in
         IsTrue result ↔ ShownAt columns (known_at frames.now) owed (map (λ l. l.items) lists.now) }
 {
+    let change = entering.change;
     let rows = piece.rows();
-    match ranks {
+    match entering.ranks {
         None => fall == 0 && shown_rows(columns, frames, change, rows, lists),
-        Some(ranks) => match piece.mark() {
+        Some(old) => match piece.mark() {
             Mark::Done => fall == 0 && shown_rows(columns, frames, change, rows, lists),
             Mark::Go => {
-                shown_piece(
-                    columns,
-                    frames,
-                    change,
-                    rows,
-                    ranks,
-                    piece.ranks(),
-                    fall,
-                    lists,
-                )
+                let new = piece.ranks();
+                let ranks = Ranks { change, old, new };
+                shown_piece(columns, frames, rows, &ranks, fall, lists)
             }
         },
     }
@@ -139,5 +136,9 @@ pub fn kept_is_shown(
         IsTrue result ↔ ShownAt columns (known_at frames.now) owed (map (λ l. l.items) lists.now) }
 {
     let change = Change::Kept;
-    entered_is_shown(columns, frames, &change, None, piece, fall, lists)
+    let entering = Entering {
+        change: &change,
+        ranks: None,
+    };
+    entered_is_shown(columns, frames, &entering, piece, fall, lists)
 }

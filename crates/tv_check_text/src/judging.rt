@@ -25,28 +25,20 @@ use tv_shape::Targets;
 ///
 /// More targets than can be counted with 32 bits are more than memory holds.
 fn cover_is_met(
-    context: &Context,
+    covering: &Covering,
     cursor: &mut Cursor,
-    columns: u32,
     frames: &Frames,
     known: u128,
-    targets: &Targets,
-    change: &Change,
 ) -> Result<bool, Failure>
-    requires narrow { columns < 2 ^ 32 - 1 }
+    requires narrow { covering.now.columns < 2 ^ 32 - 1 }
     requires counted { known ≡ length (known_at frames.now) }
     requires room { known < 2 ^ 126 }
-    ensures { JudgesProof (a_cover columns (known_at frames.now) (owed_at (change_of change.now) targets.now)) cursor.old cursor.new result }
+    ensures { let owed = owed_at (change_of covering.now.change.now) covering.now.targets.now in
+        JudgesProof (a_cover covering.now.columns (known_at frames.now) owed) cursor.old cursor.new result }
 {
-    if !are_few(targets) {
+    if !are_few(covering.targets) {
         return Err(Failure::Memory);
     }
-    let covering = Covering {
-        alloc: context.alloc,
-        columns,
-        targets,
-        change,
-    };
     covering.is_met(cursor, MAX_SPLITS, frames, known)
 }
 
@@ -64,16 +56,13 @@ fn piece_is_covered(
     let rows = piece.rows();
     let end = Frames::End;
     let place = Frames::Rows { rows, above: &end };
-    let known = rows.len() as u128;
-    cover_is_met(
-        context,
-        cursor,
+    let covering = Covering {
+        alloc: context.alloc,
         columns,
-        &place,
-        known,
         targets,
-        &Change::Kept,
-    )
+        change: &Change::Kept,
+    };
+    cover_is_met(&covering, cursor, &place, rows.len() as u128)
 }
 
 /// Whether the cover that stands next is met: one of a piece and the guards of a case.
@@ -109,15 +98,13 @@ fn step_is_covered<'a>(
         above: &inside,
     };
     let known = piece.rows().len() as u128 + case.guards.rows.len() as u128;
-    cover_is_met(
-        context,
-        cursor,
-        variables + case.draws,
-        &place,
-        known,
-        &targets,
-        &Change::Once(&terms),
-    )
+    let covering = Covering {
+        alloc: context.alloc,
+        columns: variables + case.draws,
+        targets: &targets,
+        change: &Change::Once(&terms),
+    };
+    cover_is_met(&covering, cursor, &place, known)
 }
 
 /// Whether the choice at a piece that stands next is met.

@@ -6,7 +6,7 @@ ghost use Rattle.tv_refute.specs.Frames.{known_at};
 ghost use Rattle.tv_check_text.specs.Owed.{entered_listed, fall_listed, owed_listed, ShowsRow};
 
 use crate::fall::Fall;
-use tv_check::{shows_less, shows_not_below};
+use tv_check::{Rank, shows_less, shows_not_below};
 use tv_linear::{Row, RowView, Rows};
 use tv_refute::{Change, Frames, shows};
 
@@ -53,10 +53,12 @@ impl Fall<'_> {
         }
         let new = self.new.row(place);
         if place == self.place {
-            return shows_less(columns, frames, change, new, old, 1, multipliers);
+            let rank = Rank { change, old, new };
+            return shows_less(columns, frames, &rank, 1, multipliers);
         }
         let old = self.old.row(place);
-        shows_less(columns, frames, change, new, old, 0, multipliers)
+        let rank = Rank { change, old, new };
+        shows_less(columns, frames, &rank, 0, multipliers)
     }
 }
 

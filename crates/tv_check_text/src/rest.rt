@@ -1,7 +1,6 @@
 ghost use Rattle.std.specs.Prelude.{◌≡◌, ◌+◌, ◌^◌, ◌<◌};
 ghost use Rattle.tv_cases.specs.Systems.{cases_of};
 ghost use Rattle.tv_cert.specs.AimViews.{aim_states};
-ghost use Rattle.tv_cert.specs.Claims.{StatesIts};
 ghost use Rattle.tv_cert.specs.declared.node.Kind.TheVariants as kinds;
 ghost use Rattle.tv_cert_reader.specs.Texts.{sides_of};
 ghost use Rattle.tv_check_text.specs.Settling.{first_failing};
@@ -71,7 +70,6 @@ pub fn judge_whole(
     walk: &mut Walk<Judge>,
     claim: &Claim,
 ) -> Result<Option<Vec<i128>>, Failure>
-    requires states { StatesIts claim.now }
     requires fresh { IsFresh walk.old }
     ensures { JudgesWhole (cases_of context.now.about.now) (sides_of claim.now) walk.old walk.new.taker result }
 {

@@ -1,6 +1,6 @@
 ghost use Rattle.std.specs.Prelude.{◌≡◌, ◌-◌, ◌<◌, ◌^◌, length, IfOk, IfErr};
 ghost use Rattle.tv_cases.specs.Systems.{cases_of};
-ghost use Rattle.tv_cert.specs.Claims.{StatesIts, claim_variables};
+ghost use Rattle.tv_cert.specs.Claims.{claim_variables};
 ghost use Rattle.tv_check_text.specs.Texts.{IsAcceptedText, IsAcceptedWith, IsUnaccepted, failing_of};
 
 use crate::judge::Judge;
@@ -78,7 +78,6 @@ pub fn check_text(
     claim: &Claim,
 ) -> Result<Accepted, TextFailing>
     requires few { length text.now < 2 ^ 32 - 1 }
-    requires states { StatesIts claim.now }
     requires variables { claim_variables claim.now ≡ (cases_of about.now).variables }
     // The text is that of a certificate all of whose obligations are met.
     ensures accepted { IfOk result (λ a. IsAcceptedText (cases_of about.now) claim.now text.now a) }

@@ -2,7 +2,7 @@
 
 ghost use Rattle.std.specs.Prelude.{◌≡◌, IfOk, IfSome};
 ghost use Rattle.tv_cases.specs.Systems.{cases_of};
-ghost use Rattle.tv_cert.specs.Claims.{StatesIts, claim_variables};
+ghost use Rattle.tv_cert.specs.Claims.{claim_variables};
 ghost use Rattle.tv_shape.specs.Certificates.{IsSettling};
 
 use crate::answer::Further;
@@ -30,7 +30,6 @@ fn found_by<S: Search>(
     claim: &Claim,
     spent: &mut Spent,
 ) -> Result<Option<Further>, AllocError>
-    requires states { StatesIts claim.now }
     requires variables { claim_variables claim.now ≡ (cases_of question.now.about.now).variables }
     ensures { IfOk result (λ found. IfSome found (λ f. IsSettling (cases_of question.now.about.now) claim.now f.certificate)) }
 {
@@ -64,7 +63,6 @@ fn index_of(alloc: Global, list: &[Case]) -> Result<Vec<Stand>, AllocError> {
 
 /// What is found by single states.
 fn by_states(question: &Question, claim: &Claim) -> Result<Option<Further>, AllocError>
-    requires states { StatesIts claim.now }
     requires variables { claim_variables claim.now ≡ (cases_of question.now.about.now).variables }
     ensures { IfOk result (λ found. IfSome found (λ f. IsSettling (cases_of question.now.about.now) claim.now f.certificate)) }
 {
@@ -80,7 +78,6 @@ fn by_states(question: &Question, claim: &Claim) -> Result<Option<Further>, Allo
 
 /// What is found by the searches that make no claim but that they end: the first of them, in their order.
 fn first_found(question: &Question, claim: &Claim) -> Result<Option<Further>, AllocError>
-    requires states { StatesIts claim.now }
     requires variables { claim_variables claim.now ≡ (cases_of question.now.about.now).variables }
     ensures { IfOk result (λ found. IfSome found (λ f. IsSettling (cases_of question.now.about.now) claim.now f.certificate)) }
 {
@@ -118,7 +115,6 @@ fn reached(
     budget: &Budget,
     reach: Reach,
 ) -> Result<Option<Further>, AllocError>
-    requires states { StatesIts claim.now }
     requires variables { claim_variables claim.now ≡ (cases_of about.now).variables }
     ensures { IfOk result (λ found. IfSome found (λ f. IsSettling (cases_of about.now) claim.now f.certificate)) }
 {
@@ -151,7 +147,6 @@ pub fn further(
     known: &[Candidate],
     budget: &Budget,
 ) -> Result<Option<Further>, AllocError>
-    requires states { StatesIts claim.now }
     requires variables { claim_variables claim.now ≡ (cases_of about.now).variables }
     ensures { IfOk result (λ found. IfSome found (λ f. IsSettling (cases_of about.now) claim.now f.certificate)) }
 {
@@ -165,7 +160,6 @@ pub fn look(
     claim: &Claim,
     budget: &Budget,
 ) -> Result<Option<Further>, AllocError>
-    requires states { StatesIts claim.now }
     requires variables { claim_variables claim.now ≡ (cases_of about.now).variables }
     ensures { IfOk result (λ found. IfSome found (λ f. IsSettling (cases_of about.now) claim.now f.certificate)) }
 {

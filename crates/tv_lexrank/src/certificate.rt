@@ -5,7 +5,7 @@ ghost use Rattle.std.specs.Result.{IfErr};
 ghost use Rattle.tv_formula.specs.Formulas.{property_of};
 ghost use Rattle.tv_formula.specs.Properties.{term};
 ghost use Rattle.tv_cases.specs.Systems.{cases_of};
-ghost use Rattle.tv_cert.specs.Claims.{StatesIts, claim_variables};
+ghost use Rattle.tv_cert.specs.Claims.{claim_variables};
 ghost use Rattle.tv_cover.specs.Covering.{IsCoverFault};
 ghost use Rattle.tv_rank.specs.Ways.{rows_at};
 ghost use Rattle.tv_lexrank.specs.Known.{AreKnown};
@@ -31,7 +31,6 @@ pub fn proved_certificate(
     node: Node,
     start: Cover,
 ) -> Result<Certificate, AllocError>
-    requires states { StatesIts claim.now }
     requires variables { claim_variables claim.now ≡ (cases_of about.now).variables }
     requires root { IsRoot (cases_of about.now) (property_of claim.now.proved) node start }
     ensures { IfOk result (IsProofOf (cases_of about.now) (property_of claim.now.proved)) }
@@ -51,7 +50,6 @@ pub fn ranked_certificate(
     claim: &Claim,
     node: Node,
 ) -> Result<Certificate, AllocError>
-    requires states { StatesIts claim.now }
     requires variables { claim_variables claim.now ≡ (cases_of about.now).variables }
     requires ends { property_of claim.now.proved ≡ term }
     requires ranked { IsRankedNode (cases_of about.now) node }
@@ -103,7 +101,6 @@ pub fn known_certificate(
     node: Node,
     budget: &Budget,
 ) -> Result<Certificate, CoverFault>
-    requires states { StatesIts claim.now }
     requires variables { claim_variables claim.now ≡ (cases_of about.now).variables }
     requires ends { property_of claim.now.proved ≡ term }
     requires known { AreKnown (cases_of about.now) known.now.pieces.items }

@@ -3,7 +3,7 @@ ghost use Rattle.tv_shape.specs.Made.{IsFitted};
 ghost use Rattle.std.specs.Prelude.{◌≡◌, IfOk, MatchResult, false, true};
 ghost use Rattle.tv_formula.specs.Formulas.{property_of};
 ghost use Rattle.tv_cases.specs.Systems.{cases_of};
-ghost use Rattle.tv_cert.specs.Claims.{StatesIts, about_with, claim_variables};
+ghost use Rattle.tv_cert.specs.Claims.{about_with, claim_variables};
 ghost use Rattle.tv_cert.specs.Nodes.{pieces_of};
 ghost use Rattle.tv_points.specs.States.{ComesBack, ComesTo, StartsAt};
 ghost use Rattle.tv_points.specs.Lines.{IsLineFault};
@@ -31,7 +31,6 @@ pub fn disproved_certificate(
     piece: u32,
     values: Vec<i128>,
 ) -> Result<Certificate, AllocError>
-    requires states { StatesIts claim.now }
     requires variables { claim_variables claim.now ≡ (cases_of about.now).variables }
     requires fitted { IsFitted (about_with (cases_of about.now)) (property_of claim.now.denied) 1 node }
     requires inside { IsInside (cases_of about.now) (pieces_of node) piece values.items }
@@ -56,7 +55,6 @@ pub fn endless_certificate(
     states: &[State],
     steps: &[Step],
 ) -> Result<Certificate, PointFault>
-    requires states { StatesIts claim.now }
     requires variables { claim_variables claim.now ≡ (cases_of about.now).variables }
     requires denied { property_of claim.now.denied ≡ endless }
     requires run { ComesBack (cases_of about.now) states.now steps.now }
@@ -84,7 +82,6 @@ pub fn reaching_certificate(
     steps: &[Step],
     location: u32,
 ) -> Result<Certificate, PointFault>
-    requires states { StatesIts claim.now }
     requires variables { claim_variables claim.now ≡ (cases_of about.now).variables }
     requires denied { property_of claim.now.denied ≡ reaches location }
     requires run { ComesTo (cases_of about.now) location states.now steps.now }

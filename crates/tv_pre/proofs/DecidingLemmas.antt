@@ -26,7 +26,7 @@ use Rattle.tv_meaning.specs.Meaning.{Holds}
 use Rattle.tv_cases.specs.LinearCases.{CaseSteps}
 use Rattle.tv_cert.specs.declared.claim.Claim.{Claim}
 use Rattle.tv_cert.specs.AimViews.{aim_states}
-use Rattle.tv_cert.specs.Claims.{StatesIts, claim_variables}
+use Rattle.tv_cert.specs.Claims.{claim_variables}
 use Rattle.tv_choice.specs.Leading.{state}
 use Rattle.tv_known.specs.Cycles.{IsStateOf}
 use Rattle.tv_linear.specs.declared.region.Region.{Region}
@@ -57,18 +57,18 @@ out_of_none about region xs none wide m =
     none w.0 w.1 xs (record { width = wide; met = all_met-all xs w.0 w.2 })
 
 -- if no gap is known and each comparison has rows, the formula or its negation tells of each state
-pub not_left : (about : CaseSystem) (claim : Claim) → StatesIts claim → claim_variables claim ≡ about.variables → property_of claim.denied ≡ negation (property_of claim.proved) → about.start < about.locations →
+pub not_left : (about : CaseSystem) (claim : Claim) → claim_variables claim ≡ about.variables → property_of claim.denied ≡ negation (property_of claim.proved) → about.start < about.locations →
     HasRows about.variables (property_of claim.proved) → HasRows about.variables (property_of claim.denied) → IsLeft about claim None None → ⊥
-not_left about claim states same denies starts rows denied_rows left =
+not_left about claim same denies starts rows denied_rows left =
     let f = property_of claim.proved in
     let g = property_of claim.denied in
     let a = left.proof in
     let b = left.disproof in
     let s = state about.start a.values in
     let p : IsStateOf about s = record { location = starts; values = a.outside.point.width } in
-    let fails = a.is.full (sym a.same) f (states_of about (claim_variables claim) (aim_states claim.proved_aim) f states.proved same) rows s p
+    let fails = a.is.full (sym a.same) f (states_of about (claim_variables claim) (aim_states claim.proved_aim) f claim.proved_stated same) rows s p
     (out_of_targets about.start a.found.part.region (lists_at about.start a.found.part.region.pieces.items) refl a.values a.outside.outside) in
-    let holds = b.is.full (sym b.same) g (states_of about (claim_variables claim) (aim_states claim.denied_aim) g states.denied same) denied_rows s p
+    let holds = b.is.full (sym b.same) g (states_of about (claim_variables claim) (aim_states claim.denied_aim) g claim.denied_stated same) denied_rows s p
     (out_of_none about b.found.part.region a.values b.outside a.outside.point.width) in
     negation_excludes (CaseSteps about) g s holds (subst (λ h. Holds (CaseSteps about) h s) (sym denies) fails)
 
@@ -80,20 +80,20 @@ left_gap about claim first second gap left e =
     subst (λ o. IfSome o (IsGapOf about)) (sym e) (gap_in_order (IsGapOf about) first second a (λ n. b))
 
 -- and of the claim
-proof_tells : (about : CaseSystem) (claim : Claim) (last : ℕ) → StatesIts claim → claim_variables claim ≡ about.variables → HasRows about.variables (property_of claim.proved) → (gap : Gap) → IsGapFor about last (aim_states claim.proved_aim) gap → IsGapOfClaim about claim last gap
-proof_tells about claim last states same rows Inexact h = λ tame. h (elim tame [ inl plain ↦ inl plain | inr d ↦ inr (d.0, d.1) ])
-proof_tells about claim last states same rows (Open place) h =
+proof_tells : (about : CaseSystem) (claim : Claim) (last : ℕ) → claim_variables claim ≡ about.variables → HasRows about.variables (property_of claim.proved) → (gap : Gap) → IsGapFor about last (aim_states claim.proved_aim) gap → IsGapOfClaim about claim last gap
+proof_tells about claim last same rows Inexact h = λ tame. h (elim tame [ inl plain ↦ inl plain | inr d ↦ inr (d.0, d.1) ])
+proof_tells about claim last same rows (Open place) h =
     let f = property_of claim.proved in
-    inl (h f (states_of about (claim_variables claim) (aim_states claim.proved_aim) f states.proved same) rows)
+    inl (h f (states_of about (claim_variables claim) (aim_states claim.proved_aim) f claim.proved_stated same) rows)
 
-disproof_tells : (about : CaseSystem) (claim : Claim) (last : ℕ) → StatesIts claim → claim_variables claim ≡ about.variables → HasRows about.variables (property_of claim.denied) → (gap : Gap) → IsGapFor about last (aim_states claim.denied_aim) gap → IsGapOfClaim about claim last gap
-disproof_tells about claim last states same rows Inexact h = λ tame. h (elim tame [ inl plain ↦ inl plain | inr d ↦ inr (d.0, d.2) ])
-disproof_tells about claim last states same rows (Open place) h =
+disproof_tells : (about : CaseSystem) (claim : Claim) (last : ℕ) → claim_variables claim ≡ about.variables → HasRows about.variables (property_of claim.denied) → (gap : Gap) → IsGapFor about last (aim_states claim.denied_aim) gap → IsGapOfClaim about claim last gap
+disproof_tells about claim last same rows Inexact h = λ tame. h (elim tame [ inl plain ↦ inl plain | inr d ↦ inr (d.0, d.2) ])
+disproof_tells about claim last same rows (Open place) h =
     let f = property_of claim.denied in
-    inr (h f (states_of about (claim_variables claim) (aim_states claim.denied_aim) f states.denied same) rows)
+    inr (h f (states_of about (claim_variables claim) (aim_states claim.denied_aim) f claim.denied_stated same) rows)
 
-pub left_by : (about : CaseSystem) (claim : Claim) → StatesIts claim → claim_variables claim ≡ about.variables → ClaimHasRows about claim → (first second : Option Gap) (gap : Gap) → IsLeft about claim first second → Some gap ≡ first_of first second → IsLeftBy about claim gap
-left_by about claim states same rows first second gap left e = record {
+pub left_by : (about : CaseSystem) (claim : Claim) → claim_variables claim ≡ about.variables → ClaimHasRows about claim → (first second : Option Gap) (gap : Gap) → IsLeft about claim first second → Some gap ≡ first_of first second → IsLeftBy about claim gap
+left_by about claim same rows first second gap left e = record {
   first = first;
   second = second;
   left = left;
@@ -104,8 +104,8 @@ left_by about claim states same rows first second gap left e = record {
       let a = subst (λ o. IfSome o (IsGapFor about last (aim_states claim.proved_aim))) (sym left.proof.same) (left.proof.is.tells last l) in
       let b = subst (λ o. IfSome o (IsGapFor about last (aim_states claim.denied_aim))) (sym left.disproof.same) (left.disproof.is.tells last l) in
       subst (λ o. IfSome o whole) (sym e)
-      (gap_in_order whole first second (gap_weaker (IsGapFor about last (aim_states claim.proved_aim)) whole first (proof_tells about claim last states same rows.0) a)
-      (λ n. gap_weaker (IsGapFor about last (aim_states claim.denied_aim)) whole second (disproof_tells about claim last states same rows.1) b)));
+      (gap_in_order whole first second (gap_weaker (IsGapFor about last (aim_states claim.proved_aim)) whole first (proof_tells about claim last same rows.0) a)
+      (λ n. gap_weaker (IsGapFor about last (aim_states claim.denied_aim)) whole second (disproof_tells about claim last same rows.1) b)));
 }
 
 pub left_none : (about : CaseSystem) (claim : Claim) (first second : Option Gap) → None ≡ first_of first second → IsLeft about claim first second → IsLeft about claim None None

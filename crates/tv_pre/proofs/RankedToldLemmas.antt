@@ -108,7 +108,7 @@ module _ (about : CaseSystem) (limits : AreCases about) (claim : Claim) (f : Pro
   rows = subst (HasRows about.variables) on.is.proved have
 
   states : aim_states claim.proved_aim ≡ stated (comparison_lists about.variables) (normal f)
-  states = states_of about (claim_variables claim) (aim_states claim.proved_aim) (normal f) (on.is.states.proved ∙ ap (stated (comparison_lists (claim_variables claim))) on.is.proved) on.variables
+  states = states_of about (claim_variables claim) (aim_states claim.proved_aim) (normal f) (claim.proved_stated ∙ ap (stated (comparison_lists (claim_variables claim))) on.is.proved) on.variables
 
   served : IsUnserved about (fix Every is.shape is.left is.right) → ⊥
   served u = elim (u (comes is.shape is.must)) [

@@ -99,8 +99,8 @@ tame_claim about claim f on rows (inl plain) = inl plain
 tame_claim about claim f on rows (inr d) =
     let n = claim_variables claim in
     let have : HasRows n (normal f) = subst (HasRows n) on.is.proved (subst (λ k. HasRows k (property_of claim.proved)) (sym on.variables) rows) in
-    let first : aim_states claim.proved_aim ≡ stated (comparison_lists n) (normal f) = on.is.states.proved ∙ ap (stated (comparison_lists n)) on.is.proved in
-    let second : aim_states claim.denied_aim ≡ stated (comparison_lists n) (negation f) = on.is.states.denied ∙ ap (stated (comparison_lists n)) on.is.denied in
+    let first : aim_states claim.proved_aim ≡ stated (comparison_lists n) (normal f) = claim.proved_stated ∙ ap (stated (comparison_lists n)) on.is.proved in
+    let second : aim_states claim.denied_aim ≡ stated (comparison_lists n) (negation f) = claim.denied_stated ∙ ap (stated (comparison_lists n)) on.is.denied in
     inr (d.0, d.1, subst AreAtomsOfDifferences (sym second) (denied_atoms n f have (subst AreAtomsOfDifferences first d.1)))
 
 none_settled : (about : CaseSystem) (last : ℕ) (fs : List Property) → AreSettled about last fs → (place : ℕ) → IsOpenAt about last fs place → ⊥

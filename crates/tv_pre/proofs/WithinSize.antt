@@ -122,11 +122,11 @@ module _ (about : CaseSystem) where
   pub refusal_within_size : AreCases about → (claim : Claim) (f : Property) (budget : Budget) → RefusalIsWithinSize about claim f budget
   refusal_within_size cases claim f budget on plain parts l k (inl h) n size =
       let e : aim_states claim.proved_aim ≡ stated (comparison_lists about.variables) (normal f) =
-      on.is.states.proved ∙ ap (λ v. stated (comparison_lists v) (property_of claim.proved)) on.variables ∙ ap (stated (comparison_lists about.variables)) on.is.proved in
+      claim.proved_stated ∙ ap (λ v. stated (comparison_lists v) (property_of claim.proved)) on.variables ∙ ap (stated (comparison_lists about.variables)) on.is.proved in
       let w = of_size plain (aim_states claim.proved_aim) budget (AsksStart about) size.0 size.1 (normal f) (normal_parts f parts) e l k h in
       (w.0, subst (λ j. k ≤ j) (sym size.2) (trans k (greatest_count about.cases size.0 (normal f) l) (size_bound about size.0 f) w.1 (normal_within cases size.0 f l)))
   refusal_within_size cases claim f budget on plain parts l k (inr h) n size =
       let e : aim_states claim.denied_aim ≡ stated (comparison_lists about.variables) (negation f) =
-      on.is.states.denied ∙ ap (λ v. stated (comparison_lists v) (property_of claim.denied)) on.variables ∙ ap (stated (comparison_lists about.variables)) on.is.denied in
+      claim.denied_stated ∙ ap (λ v. stated (comparison_lists v) (property_of claim.denied)) on.variables ∙ ap (stated (comparison_lists about.variables)) on.is.denied in
       let w = of_size plain (aim_states claim.denied_aim) budget (AsksEmpty about) size.0 size.1 (negation f) (negation_parts f parts) e l k h in
       (w.0, subst (λ j. k ≤ j) (sym size.2) (trans k (greatest_count about.cases size.0 (negation f) l) (size_bound about size.0 f) w.1 (negation_within cases size.0 f l)))

@@ -5,7 +5,7 @@ ghost use Rattle.std.specs.Result.{IfErr};
 ghost use Rattle.tv_formula.specs.Formulas.{property_of};
 ghost use Rattle.tv_formula.specs.Normal.{negation};
 ghost use Rattle.tv_cases.specs.Systems.{cases_of};
-ghost use Rattle.tv_cert.specs.Claims.{StatesIts, claim_variables};
+ghost use Rattle.tv_cert.specs.Claims.{claim_variables};
 ghost use Rattle.tv_shape.specs.Certificates.{IsSettling};
 ghost use Rattle.tv_pre.specs.Proving.{IsProofTried, IsDisproofTried, IsProofFault, IsDisproofFault, IsLeft, ClaimHasRows, IsWideIn, IsUnproved};
 
@@ -43,7 +43,6 @@ pub enum Unproved {
 /// The certificate that the property holds, where all states at the start lie in the region of its normal form.
 fn try_proof(setting: &Setting, claim: &Claim) -> Result<Tried, PreFault>
     requires splits { setting.now.budget.now.splits ≤ 128 }
-    requires states { StatesIts claim.now }
     requires variables { claim_variables claim.now ≡ (cases_of setting.now.about.now).variables }
     ensures tried { IfOk result (IsProofTried (cases_of setting.now.about.now) claim.now) }
     ensures refused { IfErr result (IsProofFault (cases_of setting.now.about.now) claim.now setting.now.budget.now) }
@@ -72,7 +71,6 @@ fn try_proof(setting: &Setting, claim: &Claim) -> Result<Tried, PreFault>
 /// The certificate that the property fails, where some state at the start lies in the region of its negation.
 fn try_disproof(setting: &Setting, claim: &Claim) -> Result<Tried, PreFault>
     requires splits { setting.now.budget.now.splits ≤ 128 }
-    requires states { StatesIts claim.now }
     requires variables { claim_variables claim.now ≡ (cases_of setting.now.about.now).variables }
     ensures tried { IfOk result (IsDisproofTried (cases_of setting.now.about.now) claim.now) }
     ensures refused { IfErr result (IsDisproofFault (cases_of setting.now.about.now) claim.now setting.now.budget.now) }
@@ -119,7 +117,6 @@ fn first_wide(setting: &Setting, claim: &Claim) -> Result<Option<u32>, AllocErro
 /// Why there is no certificate, where the start tells nothing of either side: a comparison has no rows; or the first gap. One is known of, as
 /// else the formula and its negation would both fail at a state at the start.
 fn left(setting: &Setting, claim: &Claim, first: Option<Gap>, second: Option<Gap>) -> Unproved
-    requires states { StatesIts claim.now }
     requires variables { claim_variables claim.now ≡ (cases_of setting.now.about.now).variables }
     requires denies { property_of claim.now.denied ≡ negation (property_of claim.now.proved) }
     requires left { IsLeft (cases_of setting.now.about.now) claim.now first second }
@@ -140,7 +137,6 @@ fn left(setting: &Setting, claim: &Claim, first: Option<Gap>, second: Option<Gap
 /// What comes of a claim whose proof was refused. Where that is a system of the search for ranks, the negation may tell still.
 fn or_disproof(setting: &Setting, claim: &Claim, fault: PreFault) -> Result<Certificate, Unproved>
     requires splits { setting.now.budget.now.splits ≤ 128 }
-    requires states { StatesIts claim.now }
     requires variables { claim_variables claim.now ≡ (cases_of setting.now.about.now).variables }
     requires refused { IsProofFault (cases_of setting.now.about.now) claim.now setting.now.budget.now fault }
     ensures settled { IfOk result (IsSettling (cases_of setting.now.about.now) claim.now) }
@@ -162,7 +158,6 @@ fn or_disproof(setting: &Setting, claim: &Claim, fault: PreFault) -> Result<Cert
 /// one of the two tells.
 pub fn prove(setting: &Setting, claim: &Claim) -> Result<Certificate, Unproved>
     requires splits { setting.now.budget.now.splits ≤ 128 }
-    requires states { StatesIts claim.now }
     requires variables { claim_variables claim.now ≡ (cases_of setting.now.about.now).variables }
     requires denies { property_of claim.now.denied ≡ negation (property_of claim.now.proved) }
     ensures settled { IfOk result (IsSettling (cases_of setting.now.about.now) claim.now) }

@@ -2,7 +2,7 @@
 
 ghost use Rattle.std.specs.Prelude.{◌≡◌, ◌<◌, ◌≤◌, IfOk, IfSome};
 ghost use Rattle.tv_cases.specs.Systems.{cases_of};
-ghost use Rattle.tv_cert.specs.Claims.{StatesIts, claim_variables};
+ghost use Rattle.tv_cert.specs.Claims.{claim_variables};
 ghost use Rattle.tv_shape.specs.Certificates.{IsSettling};
 
 use crate::copying::Counting;
@@ -103,7 +103,6 @@ fn with_fewer(
     claim: &Claim,
     certificate: &Certificate,
 ) -> Result<Option<Certificate>, AllocError>
-    requires states { StatesIts claim.now }
     requires variables { claim_variables claim.now ≡ (cases_of about.now).variables }
     ensures settling { IfOk result (λ found. IfSome found (IsSettling (cases_of about.now) claim.now)) }
     ensures fewer { IfOk result (λ found. IfSome found (λ c. c.obligations < certificate.now.obligations)) }
@@ -132,7 +131,6 @@ pub fn smaller(
     claim: &Claim,
     certificate: Certificate,
 ) -> Result<Certificate, AllocError>
-    requires states { StatesIts claim.now }
     requires variables { claim_variables claim.now ≡ (cases_of about.now).variables }
     requires settling { IsSettling (cases_of about.now) claim.now certificate }
     ensures settling { IfOk result (IsSettling (cases_of about.now) claim.now) }

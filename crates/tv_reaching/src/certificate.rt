@@ -4,7 +4,7 @@ ghost use Rattle.std.specs.Prelude.{◌≡◌, IfOk};
 ghost use Rattle.std.specs.Result.{IfErr};
 ghost use Rattle.tv_formula.specs.Formulas.{property_of};
 ghost use Rattle.tv_cases.specs.Systems.{cases_of};
-ghost use Rattle.tv_cert.specs.Claims.{StatesIts, claim_variables};
+ghost use Rattle.tv_cert.specs.Claims.{claim_variables};
 ghost use Rattle.tv_points.specs.Nodes.{reaches, IsDisproof};
 ghost use Rattle.tv_reaching.specs.FoundRuns.{IsFoundRun, IsRunFault};
 
@@ -28,7 +28,6 @@ pub fn run_certificate(
     claim: &Claim,
     found: &Found,
 ) -> Result<Certificate, PointFault>
-    requires states { StatesIts claim.now }
     requires variables { claim_variables claim.now ≡ (cases_of about.now).variables }
     requires denied { property_of claim.now.denied ≡ reaches found.now.location }
     requires run { IsFoundRun (cases_of about.now) found.now }

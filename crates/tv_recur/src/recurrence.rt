@@ -1,7 +1,7 @@
 ghost use Rattle.std.specs.Prelude.{◌≡◌, IfOk};
 ghost use Rattle.tv_formula.specs.Formulas.{property_of};
 ghost use Rattle.tv_cases.specs.Systems.{cases_of};
-ghost use Rattle.tv_cert.specs.Claims.{StatesIts, claim_variables};
+ghost use Rattle.tv_cert.specs.Claims.{claim_variables};
 ghost use Rattle.tv_points.specs.Nodes.{endless, IsDisproof};
 ghost use Rattle.tv_recur.specs.Recurring.{IsRecurrence};
 
@@ -29,7 +29,6 @@ pub fn recurrence_certificate(
     claim: &Claim,
     recurrence: Recurrence,
 ) -> Result<Certificate, AllocError>
-    requires states { StatesIts claim.now }
     requires variables { claim_variables claim.now ≡ (cases_of about.now).variables }
     requires denied { property_of claim.now.denied ≡ endless }
     requires recurrence { IsRecurrence (cases_of about.now) recurrence }

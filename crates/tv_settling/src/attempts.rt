@@ -5,7 +5,7 @@ ghost use Rattle.std.specs.Result.{IfErr};
 ghost use Rattle.tv_formula.specs.Formulas.{property_of};
 ghost use Rattle.tv_formula.specs.Properties.{term};
 ghost use Rattle.tv_cases.specs.Systems.{cases_of};
-ghost use Rattle.tv_cert.specs.Claims.{StatesIts, claim_variables};
+ghost use Rattle.tv_cert.specs.Claims.{claim_variables};
 ghost use Rattle.tv_candidates.specs.Inductive.{IsInductive};
 ghost use Rattle.tv_invariant.specs.Passes.{AreOver};
 ghost use Rattle.tv_known.specs.Ranking.{HasLexicographicRanking};
@@ -32,7 +32,6 @@ pub fn first_end(
     claim: &Claim,
     budget: &Budget,
 ) -> Result<Option<Certificate>, EndFault>
-    requires states { StatesIts claim.now }
     requires variables { claim_variables claim.now ≡ (cases_of about.now).variables }
     requires ends { property_of claim.now.proved ≡ term }
     ensures settled { IfOk result (IsFirstEnd (cases_of about.now) claim.now) }
@@ -83,7 +82,6 @@ pub fn later_end(
     list: &[Candidate],
     budget: &Budget,
 ) -> Result<Certificate, EndFault>
-    requires states { StatesIts claim.now }
     requires variables { claim_variables claim.now ≡ (cases_of about.now).variables }
     requires ends { property_of claim.now.proved ≡ term }
     requires over { AreOver (cases_of about.now).variables list.now }

@@ -5,7 +5,7 @@ ghost use Rattle.std.specs.Result.{IfErr};
 ghost use Rattle.tv_cases.specs.Systems.{cases_of};
 ghost use Rattle.tv_formula.specs.Forms.{never_at};
 ghost use Rattle.tv_formula.specs.Formulas.{property_of};
-ghost use Rattle.tv_cert.specs.Claims.{StatesIts, claim_variables};
+ghost use Rattle.tv_cert.specs.Claims.{claim_variables};
 ghost use Rattle.tv_candidates.specs.Inductive.{IsInductive};
 ghost use Rattle.tv_invariant.specs.Passes.{AreOver};
 ghost use Rattle.tv_invariant.specs.Places.{rows_at};
@@ -31,7 +31,6 @@ fn barrier_certificate(
     barrier: &Barrier,
     claim: &Claim,
 ) -> Result<Certificate, CoverFault>
-    requires states { StatesIts claim.now }
     requires variables { claim_variables claim.now ≡ (cases_of barrier.now.about.now).variables }
     requires safety { property_of claim.now.proved ≡ never_at barrier.now.location }
     requires begins { BeginsKnown (cases_of barrier.now.about.now) barrier.now.known.now.pieces.items }
@@ -62,7 +61,6 @@ pub fn safety_certificate(
     list: &[Candidate],
     budget: &Budget,
 ) -> Result<Certificate, CoverFault>
-    requires states { StatesIts claim.now }
     requires variables { claim_variables claim.now ≡ (cases_of about.now).variables }
     requires location { location < (cases_of about.now).locations }
     requires safety { property_of claim.now.proved ≡ never_at location }

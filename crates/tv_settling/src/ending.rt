@@ -5,7 +5,7 @@ ghost use Rattle.std.specs.Result.{IfErr};
 ghost use Rattle.tv_formula.specs.Formulas.{property_of};
 ghost use Rattle.tv_formula.specs.Properties.{term};
 ghost use Rattle.tv_cases.specs.Systems.{cases_of};
-ghost use Rattle.tv_cert.specs.Claims.{StatesIts, claim_variables};
+ghost use Rattle.tv_cert.specs.Claims.{claim_variables};
 ghost use Rattle.tv_invariant.specs.Asking.{Gave, HaveNoMore};
 ghost use Rattle.tv_shape.specs.Certificates.{IsSettling};
 ghost use Rattle.tv_settling.specs.Ends.{RefusesFound};
@@ -30,7 +30,6 @@ pub fn found_end(
     proposers: &mut Vec<Box<dyn Proposer>>,
     budget: &Budget,
 ) -> Result<Certificate, EndFault>
-    requires states { StatesIts claim.now }
     requires variables { claim_variables claim.now ≡ (cases_of about.now).variables }
     requires ends { property_of claim.now.proved ≡ term }
     requires splits { budget.now.splits ≤ 128 }

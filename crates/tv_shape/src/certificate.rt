@@ -19,7 +19,7 @@ pub struct Certificate {
 impl Certificate {
     ghost use Rattle.std.specs.Prelude.{◌≡◌, MatchResult};
     ghost use Rattle.tv_cases.specs.Systems.{cases_of};
-    ghost use Rattle.tv_cert.specs.Claims.{StatesIts, about_with, claim_variables, shown};
+    ghost use Rattle.tv_cert.specs.Claims.{about_with, claim_variables, shown};
     ghost use Rattle.tv_shape.specs.Certificates.{IsOf, IsRefused};
 
     /// The certificate of these nodes: `Ok` exactly where they fit, for the property where the verdict is that it is proved, and for
@@ -34,7 +34,6 @@ impl Certificate {
         verdict: Verdict,
         root: Node,
     ) -> Result<Certificate, ShapeFault>
-        requires states { StatesIts claim.now }
         requires variables { claim_variables claim.now ≡ (cases_of about.now).variables }
         ensures { let system = cases_of about.now in
             let property = shown claim.now verdict in

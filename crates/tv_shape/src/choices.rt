@@ -11,10 +11,21 @@ ghost use Rattle.tv_cert.specs.Shapes.{ChoiceShape, CoverShape, NoStepShape, Tak
 ghost use Rattle.tv_shape.specs.Counts.{counts_of, AreFew, AreFewAt};
 
 use crate::covers::{cover_has_shape, have_length};
+use crate::take::Take;
 use crate::targets::{Targets, pieces_into};
 use tv_cases::{Case, Cases};
 use tv_cert::{Destination, Marked};
 use tv_linear::{ChoiceTree, Cover, Row, have_columns};
+
+/// What choices are looked at with: the piece at which they are made, where they lead, and whether they may show that there is no step.
+#[derive(Clone, Copy)]
+pub struct Choosing<'a> {
+    pub columns: u32,
+    pub about: &'a Cases,
+    pub piece: &'a Marked,
+    pub stop: bool,
+    pub destination: &'a Destination<'a>,
+}
 
 /// Where a choice leads by a case.
 pub fn taken_into<'a>(piece: &'a Marked, case: &Case, destination: &Destination<'a>) -> Targets<'a>
@@ -30,21 +41,13 @@ pub fn taken_into<'a>(piece: &'a Marked, case: &Case, destination: &Destination<
 }
 
 /// Whether the target after the case owes so many rows.
-fn destination_owes_rows(
-    columns: u32,
-    piece: &Marked,
-    case: &Case,
-    destination: &Destination,
-    draws: &[Row],
-    target: u32,
-    fall: u32,
-    rows: usize,
-) -> bool
+fn destination_owes_rows(choosing: &Choosing, case: &Case, take: &Take, rows: usize) -> bool
     ensures { let taken = case_view case.now in
-        let owes = destination_owes columns piece.now destination.now in
-        IsTrue result ↔ (owed_count (owes taken draws.now) target fall ≡ Some rows) }
+        let owes = destination_owes choosing.now.columns choosing.now.piece.now choosing.now.destination.now in
+        IsTrue result ↔ (owed_count (owes taken take.now.draws.now) take.now.target take.now.fall ≡ Some rows) }
 {
-    taken_into(piece, case, destination).rows(target, fall) == Some(rows)
+    let targets = taken_into(choosing.piece, case, choosing.destination);
+    targets.rows(take.target, take.fall) == Some(rows)
 }
 
 /// Whether there are terms of so many columns for the draws of the case.
@@ -56,41 +59,22 @@ fn draws_fit(columns: u32, case: &Case, draws: &[Row]) -> bool
 
 /// Whether the taken case leaves the location of the piece and has these terms for its draws, and the lists are as many as the rows of
 /// its guards and the target.
-fn take_has_shape(
-    columns: u32,
-    cases: &[Case],
-    piece: &Marked,
-    destination: &Destination,
-    known: u128,
-    taken: u32,
-    target: u32,
-    fall: u32,
-    draws: &[Row],
-    lists: &[Vec<i64>],
-) -> bool
+fn take_has_shape(choosing: &Choosing, known: u128, take: &Take) -> bool
     requires { known < 2 ^ 65 }
-    ensures { let owes = destination_owes columns piece.now destination.now in
-        let case = slice_get (case_views cases.now) taken in
-        let shown = map (λ l. l.items) lists.now in
-        IsTrue result ↔ TakeShape columns piece.now.location owes known case target fall draws.now shown }
+    ensures { let owes = destination_owes choosing.now.columns choosing.now.piece.now choosing.now.destination.now in
+        let case = slice_get (case_views (cases_of choosing.now.about.now).cases) take.now.taken in
+        let shape = TakeShape choosing.now.columns choosing.now.piece.now.location owes known case in
+        IsTrue result ↔ shape take.now.target take.now.fall take.now.draws.now (map (λ l. l.items) take.now.refutations.now) }
 {
-    match cases.get(taken as usize) {
+    match choosing.about.list().get(take.taken as usize) {
         None => false,
         Some(case) => {
             let guards = case.guards.rows.len();
-            case.from == piece.location()
-                && draws_fit(columns, case, draws)
+            let lists = take.refutations;
+            case.from == choosing.piece.location()
+                && draws_fit(choosing.columns, case, take.draws)
                 && lists.len() >= guards
-                && destination_owes_rows(
-                    columns,
-                    piece,
-                    case,
-                    destination,
-                    draws,
-                    target,
-                    fall,
-                    lists.len() - guards,
-                )
+                && destination_owes_rows(choosing, case, take, lists.len() - guards)
                 && have_length(lists, known + 1)
         }
     }
@@ -131,29 +115,24 @@ fn no_step_has_shape(
 }
 
 /// Whether the choice has the shape that is owed at a place with so many known rows.
-pub fn choice_has_shape(
-    tree: &ChoiceTree,
-    columns: u32,
-    about: &Cases,
-    piece: &Marked,
-    stop: bool,
-    destination: &Destination,
-    known: u128,
-) -> bool
+pub fn choice_has_shape(choosing: &Choosing, known: u128, tree: &ChoiceTree) -> bool
     requires { known + choice_splits tree.now < 2 ^ 65 }
-    ensures { let system = cases_of about.now in
-        let owes = destination_owes columns piece.now destination.now in
-        IsTrue result ↔ ChoiceShape columns system.cases piece.now.location stop owes known tree.now }
+    ensures { let system = cases_of choosing.now.about.now in
+        let owes = destination_owes choosing.now.columns choosing.now.piece.now choosing.now.destination.now in
+        let shape = ChoiceShape choosing.now.columns system.cases choosing.now.piece.now.location choosing.now.stop owes known in
+        IsTrue result ↔ shape tree.now }
 {
+    let columns = choosing.columns;
     match tree {
         ChoiceTree::Split(row, holds, fails) => {
             row.columns() == columns
-                && choice_has_shape(holds, columns, about, piece, stop, destination, known + 1)
-                && choice_has_shape(fails, columns, about, piece, stop, destination, known + 1)
+                && choice_has_shape(choosing, known + 1, holds)
+                && choice_has_shape(choosing, known + 1, fails)
         }
         ChoiceTree::Empty(multipliers) => multipliers.len() as u128 == known,
         ChoiceTree::NoStep(covers) => {
-            stop && no_step_has_shape(columns, known, piece.location(), about, covers)
+            let location = choosing.piece.location();
+            choosing.stop && no_step_has_shape(columns, known, location, choosing.about, covers)
         }
         ChoiceTree::Take {
             taken,
@@ -161,17 +140,15 @@ pub fn choice_has_shape(
             fall,
             draws,
             refutations,
-        } => take_has_shape(
-            columns,
-            about.list(),
-            piece,
-            destination,
-            known,
-            *taken,
-            *target,
-            *fall,
-            draws,
-            refutations,
-        ),
+        } => {
+            let take = Take {
+                taken: *taken,
+                target: *target,
+                fall: *fall,
+                draws,
+                refutations,
+            };
+            take_has_shape(choosing, known, &take)
+        }
     }
 }

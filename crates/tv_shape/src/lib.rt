@@ -16,6 +16,7 @@ mod nodes;
 mod offered;
 mod pieces;
 mod shaper;
+mod take;
 mod targets;
 mod verdicts;
 mod walking;

@@ -7,7 +7,7 @@ ghost use Rattle.tv_cert.specs.Owing.{owed_by};
 ghost use Rattle.tv_cert.specs.Shapes.{ProofShape};
 ghost use Rattle.tv_shape.specs.Offered.{FirstShape};
 
-use crate::choices::choice_has_shape;
+use crate::choices::{Choosing, choice_has_shape};
 use crate::covers::cover_has_shape;
 use crate::targets::{Targets, pieces_into};
 use tv_cases::Cases;
@@ -64,15 +64,16 @@ fn choice_is_owed(about: &Cases, owes: &Owes, tree: &ChoiceTree) -> bool
             piece,
             stop,
             destination,
-        } => choice_has_shape(
-            tree,
-            about.variables(),
-            about,
-            piece,
-            *stop,
-            destination,
-            piece.rows().len() as u128,
-        ),
+        } => {
+            let choosing = Choosing {
+                columns: about.variables(),
+                about,
+                piece,
+                stop: *stop,
+                destination,
+            };
+            choice_has_shape(&choosing, piece.rows().len() as u128, tree)
+        }
         _ => false,
     }
 }

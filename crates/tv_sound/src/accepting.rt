@@ -3,7 +3,7 @@
 ghost use Rattle.std.specs.Prelude.{◌≡◌, IfOk, IfSome};
 ghost use Rattle.std.specs.Bool.{OnTrue};
 ghost use Rattle.tv_cases.specs.Systems.{cases_of};
-ghost use Rattle.tv_cert.specs.Claims.{StatesIts, about_with, claim_variables, shown};
+ghost use Rattle.tv_cert.specs.Claims.{about_with, claim_variables, shown};
 ghost use Rattle.tv_cert.specs.Nodes.{obligations};
 ghost use Rattle.tv_cert.specs.Obligations.{AllMet};
 ghost use Rattle.tv_shape.specs.Certificates.{IsOf, IsSettling};
@@ -16,7 +16,6 @@ use tv_shape::{Certificate, ShapeFault};
 
 /// Whether all obligations of the certificate are met.
 fn is_met(about: &Cases, claim: &Claim, certificate: &Certificate) -> bool
-    requires states { StatesIts claim.now }
     requires variables { claim_variables claim.now ≡ (cases_of about.now).variables }
     requires fits { IsOf (about_with (cases_of about.now)) (shown claim.now certificate.now.verdict) certificate.now }
     ensures { let system = cases_of about.now in
@@ -38,7 +37,6 @@ pub fn accepted(
     verdict: Verdict,
     root: Node,
 ) -> Result<Option<Certificate>, AllocError>
-    requires states { StatesIts claim.now }
     requires variables { claim_variables claim.now ≡ (cases_of about.now).variables }
     ensures { IfOk result (λ found. IfSome found (IsSettling (cases_of about.now) claim.now)) }
 {

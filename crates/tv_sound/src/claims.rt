@@ -4,7 +4,7 @@ ghost use Rattle.tv_formula.specs.Normal.{normal};
 ghost use Rattle.tv_formula.specs.Properties.{Property, term};
 ghost use Rattle.tv_cases.specs.Systems.{cases_of};
 ghost use Rattle.tv_cases.specs.Answers.{IsOfProgram, HaveSameSteps};
-ghost use Rattle.tv_cert.specs.Claims.{IsClaim, StatesIts, about_with, claim_variables, shown};
+ghost use Rattle.tv_cert.specs.Claims.{IsClaim, about_with, claim_variables, shown};
 ghost use Rattle.tv_cert.specs.Nodes.{obligations};
 ghost use Rattle.tv_cert.specs.FirstFailing.{Checks};
 ghost use Rattle.tv_shape.specs.Certificates.{IsOf};
@@ -29,7 +29,6 @@ pub fn check_claim(
 ) -> Result<(), Failing>
     requires same_program { IsOfProgram (system_of program.now) (cases_of about.now) }
     requires same_steps { HaveSameSteps (system_of program.now) (cases_of about.now) }
-    requires states { StatesIts claim.now }
     requires variables { claim_variables claim.now ≡ (cases_of about.now).variables }
     requires fits { IsOf (about_with (cases_of about.now)) (shown claim.now certificate.now.verdict) certificate.now }
     ensures exact { let system = cases_of about.now in

@@ -11,7 +11,7 @@ use Rattle.tv_candidates.specs.declared.candidate.Candidate.{Candidate}
 use Rattle.tv_settling.specs.Refusals.{RefusesSafety}
 use Rattle.tv_cases.specs.Answers.{IsOfProgram, HaveSameSteps}
 use Rattle.tv_cases.specs.Systems.{cases_of}
-use Rattle.tv_cert.specs.Claims.{StatesIts, claim_variables}
+use Rattle.tv_cert.specs.Claims.{claim_variables}
 use Rattle.tv_top.specs.declared.answer.Answer.{Answer}
 use Rattle.tv_top.specs.declared.search.Search.{Search}
 use Rattle.tv_points.specs.declared.fault.PointFault.{PointFault}
@@ -39,7 +39,6 @@ use Rattle.tv_top.specs.Views.{wanted_view, task_view}
 pub record IsOfOne (s : Search) : Type 0 where
   pub same_program : IsOfProgram (system_of s.program.now) (cases_of s.about.now)
   pub same_steps : HaveSameSteps (system_of s.program.now) (cases_of s.about.now)
-  pub states : StatesIts s.claim.now
   pub variables : claim_variables s.claim.now ≡ (cases_of s.about.now).variables
   pub denies : property_of s.claim.now.denied ≡ negation (property_of s.claim.now.proved)
 

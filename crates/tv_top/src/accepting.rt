@@ -2,7 +2,7 @@ ghost use Rattle.std.specs.Prelude.{◌≡◌, ◌-◌, ◌<◌, ◌^◌, length
 ghost use Rattle.tv_program.specs.Programs.{system_of};
 ghost use Rattle.tv_cases.specs.Systems.{cases_of};
 ghost use Rattle.tv_cases.specs.Answers.{IsOfProgram, HaveSameSteps};
-ghost use Rattle.tv_cert.specs.Claims.{StatesIts, claim_variables};
+ghost use Rattle.tv_cert.specs.Claims.{claim_variables};
 ghost use Rattle.tv_check_text.specs.Texts.{IsUnaccepted};
 ghost use Rattle.tv_top.specs.Accepted.{IsAcceptedClaim};
 
@@ -23,7 +23,6 @@ pub(crate) fn check_claim_text(
 ) -> Result<Accepted, TextFailing>
     requires same_program { IsOfProgram (system_of program.now) (cases_of about.now) }
     requires same_steps { HaveSameSteps (system_of program.now) (cases_of about.now) }
-    requires states { StatesIts claim.now }
     requires variables { claim_variables claim.now ≡ (cases_of about.now).variables }
     requires few { length text.now < 2 ^ 32 - 1 }
     // The property holds at every initial state, or it fails at the values.

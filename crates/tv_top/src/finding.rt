@@ -7,7 +7,7 @@ ghost use Rattle.tv_formula.specs.Parts.{HasParts};
 ghost use Rattle.tv_formula.specs.Properties.{Property, term};
 ghost use Rattle.tv_cases.specs.Answers.{IsOfProgram, HaveSameSteps};
 ghost use Rattle.tv_cases.specs.Systems.{cases_of};
-ghost use Rattle.tv_cert.specs.Claims.{IsClaim, StatesIts, claim_variables, about_with, shown};
+ghost use Rattle.tv_cert.specs.Claims.{IsClaim, claim_variables, about_with, shown};
 ghost use Rattle.tv_shape.specs.Certificates.{IsOf, IsSettling};
 ghost use Rattle.tv_points.specs.Nodes.{endless};
 ghost use Rattle.tv_recur.specs.Recurring.{IsRecurrence};
@@ -90,7 +90,6 @@ fn text_of(
     certificate: &Certificate,
 ) -> Result<Vec<u8>, AllocError>
     requires settling { IsSettling (cases_of about.now) claim.now certificate.now }
-    requires states { StatesIts claim.now }
     requires variables { claim_variables claim.now ≡ (cases_of about.now).variables }
     ensures { IfOk result (λ text. IsTextOf (wanted_view wanted) (cases_of about.now) claim.now certificate.now text.items) }
 {

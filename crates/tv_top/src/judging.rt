@@ -4,7 +4,7 @@ ghost use Rattle.tv_formula.specs.Formulas.{property_of, variables_of};
 ghost use Rattle.tv_formula.specs.Properties.{Property};
 ghost use Rattle.tv_cases.specs.Answers.{IsOfProgram, HaveSameSteps};
 ghost use Rattle.tv_cases.specs.Systems.{cases_of};
-ghost use Rattle.tv_cert.specs.Claims.{IsClaim, StatesIts, claim_variables};
+ghost use Rattle.tv_cert.specs.Claims.{IsClaim, claim_variables};
 ghost use Rattle.tv_top.specs.Answers.{without_certificate};
 ghost use Rattle.tv_top.specs.Judging.{Judges, Says};
 
@@ -50,7 +50,6 @@ fn said(alloc: Global, program: &Program, accepted: &Accepted) -> Answer
 
 /// The answer to whether the text is a certificate of what is claimed, over the cases of the program, whose obligations are met.
 fn settle(alloc: Global, program: &Program, claim: &Claim, about: &Cases, text: &[u8]) -> Answer
-    requires states { StatesIts claim.now }
     requires variables { claim_variables claim.now ≡ (cases_of about.now).variables }
     requires same_program { IsOfProgram (system_of program.now) (cases_of about.now) }
     requires same_steps { HaveSameSteps (system_of program.now) (cases_of about.now) }

@@ -9,7 +9,7 @@ use Rattle.tv_cert.proofs.visiting.visit_children.Given as goal
 
 abbrev pub invariant-loop-child : goal.invariant-loop-child
 invariant-loop-child g l =
-    let system = cases_of l.about in
+    let system = cases_of l.at.about.now in
     Ahead (g.V.Visitor.passes system) (g.V.Visitor.stops system) g.V.Visitor.room
-    (λ kids. map (cover_of l.number kind.Child (about_of system) l.piece) (map pieces_list kids))
+    (λ kids. map (cover_of l.at.number kind.Child (about_of system) l.at.piece.now) (map pieces_list kids))
     l.children l.fn.visitor l.visitor l.child-index

@@ -17,59 +17,59 @@ case_at : (cases : List LinearCase) (k : ℕ) (case : Option LinearCase) (l m : 
 case_at cases k case l m e h = ap (λ l. slice_get (leaving l cases) k) (sym e) ∙ h
 
 pub visit-requires-clause-owed : goal.visit-requires-clause-owed
-visit-requires-clause-owed g c = case_among (place_of c.args.piece.now) (cases_of c.args.about.now).cases c.cases.k (case_view c.in-Some.case.now) (case_at (cases_of c.args.about.now).cases c.cases.k (Some (case_view c.in-Some.case.now)) _ _ c.location-location.ensures c.in-Some.ensures.case)
+visit-requires-clause-owed g c = case_among (place_of c.args.at.now.piece.now) (cases_of c.args.at.now.about.now).cases c.cases.k (case_view c.in-Some.case.now) (case_at (cases_of c.args.at.now.about.now).cases c.cases.k (Some (case_view c.in-Some.case.now)) _ _ c.location-location.ensures c.in-Some.ensures.case)
 
 pub visit-requires-clause-room : goal.visit-requires-clause-room
 visit-requires-clause-room g c =
-    let system = cases_of c.args.about.now in
-    let l = place_of c.args.piece.now in
+    let system = cases_of c.args.at.now.about.now in
+    let l = place_of c.args.at.now.piece.now in
     let case = case_view c.in-Some.case.now in
-    let step = step_of c.args.number (about_of system) c.args.piece.now c.args.into.now (case_falls c.args.falls system c.args.piece.now) in
+    let step = step_of c.args.at.now.number (about_of system) c.args.at.now.piece.now c.args.into.now (case_falls c.args.falls system c.args.at.now.piece.now) in
     ahead_room (g.V.Visitor.passes system) (g.V.Visitor.stops system) g.V.Visitor.room (map step) refl (λ x xs. refl) (leaving l system.cases) c.args.visitor.now c.cases.visitor c.cases.k c.cases.invariant case
-    (case_within l system.cases c.cases.k case (case_at (cases_of c.args.about.now).cases c.cases.k (Some (case_view c.in-Some.case.now)) _ _ c.location-location.ensures c.in-Some.ensures.case)) (case_there l system.cases c.cases.k case (case_at (cases_of c.args.about.now).cases c.cases.k (Some (case_view c.in-Some.case.now)) _ _ c.location-location.ensures c.in-Some.ensures.case))
+    (case_within l system.cases c.cases.k case (case_at (cases_of c.args.at.now.about.now).cases c.cases.k (Some (case_view c.in-Some.case.now)) _ _ c.location-location.ensures c.in-Some.ensures.case)) (case_there l system.cases c.cases.k case (case_at (cases_of c.args.at.now.about.now).cases c.cases.k (Some (case_view c.in-Some.case.now)) _ _ c.location-location.ensures c.in-Some.ensures.case))
 
 pub returns-then-not-visit : goal.returns-then-not-visit
 returns-then-not-visit g c =
-    let system = cases_of c.args.about.now in
+    let system = cases_of c.args.at.now.about.now in
     let passes = g.V.Visitor.passes system in
     let stops = g.V.Visitor.stops system in
-    let l = place_of c.args.piece.now in
+    let l = place_of c.args.at.now.piece.now in
     let case = case_view c.in-Some.case.now in
-    let step = step_of c.args.number (about_of system) c.args.piece.now c.args.into.now (case_falls c.args.falls system c.args.piece.now) in
+    let step = step_of c.args.at.now.number (about_of system) c.args.at.now.piece.now c.args.into.now (case_falls c.args.falls system c.args.at.now.piece.now) in
     ahead_fails passes stops g.V.Visitor.room (map step) refl (λ x xs. refl) (leaving l system.cases) c.args.visitor.now c.cases.visitor c.cases.k c.cases.invariant case
-    (case_within l system.cases c.cases.k case (case_at (cases_of c.args.about.now).cases c.cases.k (Some (case_view c.in-Some.case.now)) _ _ c.location-location.ensures c.in-Some.ensures.case)) (case_there l system.cases c.cases.k case (case_at (cases_of c.args.about.now).cases c.cases.k (Some (case_view c.in-Some.case.now)) _ _ c.location-location.ensures c.in-Some.ensures.case)) c.visit.new.visitor
+    (case_within l system.cases c.cases.k case (case_at (cases_of c.args.at.now.about.now).cases c.cases.k (Some (case_view c.in-Some.case.now)) _ _ c.location-location.ensures c.in-Some.ensures.case)) (case_there l system.cases c.cases.k case (case_at (cases_of c.args.at.now.about.now).cases c.cases.k (Some (case_view c.in-Some.case.now)) _ _ c.location-location.ensures c.in-Some.ensures.case)) c.visit.new.visitor
     (subst (λ r. Visits passes stops g.V.Visitor.room r c.cases.visitor (step case ∷ []) c.visit.new.visitor) c.if-not-visit.true c.visit.ensures)
 
 pub overflow_add-k : goal.overflow_add-k
 overflow_add-k g c =
-    let system = cases_of c.args.about.now in
-    let below = case_within (place_of c.args.piece.now) system.cases c.cases.k (case_view c.in-Some.case.now) (case_at (cases_of c.args.about.now).cases c.cases.k (Some (case_view c.in-Some.case.now)) _ _ c.location-location.ensures c.in-Some.ensures.case) in
+    let system = cases_of c.args.at.now.about.now in
+    let below = case_within (place_of c.args.at.now.piece.now) system.cases c.cases.k (case_view c.in-Some.case.now) (case_at (cases_of c.args.at.now.about.now).cases c.cases.k (Some (case_view c.in-Some.case.now)) _ _ c.location-location.ensures c.in-Some.ensures.case) in
     let few = c.in-Some.ensures.few in
     let same = ap (λ l. length (leaving l system.cases)) c.location-location.ensures in
     omega (arith, below, few, same)
 
 pub cases-smaller : goal.cases-smaller
 cases-smaller g c =
-    let system = cases_of c.args.about.now in
-    let below = case_within (place_of c.args.piece.now) system.cases c.cases.k (case_view c.in-Some.case.now) (case_at (cases_of c.args.about.now).cases c.cases.k (Some (case_view c.in-Some.case.now)) _ _ c.location-location.ensures c.in-Some.ensures.case) in
+    let system = cases_of c.args.at.now.about.now in
+    let below = case_within (place_of c.args.at.now.piece.now) system.cases c.cases.k (case_view c.in-Some.case.now) (case_at (cases_of c.args.at.now.about.now).cases c.cases.k (Some (case_view c.in-Some.case.now)) _ _ c.location-location.ensures c.in-Some.ensures.case) in
     omega (arith, below)
 
 pub cases-preserved : goal.cases-preserved
 cases-preserved g c =
-    let system = cases_of c.args.about.now in
+    let system = cases_of c.args.at.now.about.now in
     let passes = g.V.Visitor.passes system in
     let stops = g.V.Visitor.stops system in
-    let l = place_of c.args.piece.now in
+    let l = place_of c.args.at.now.piece.now in
     let case = case_view c.in-Some.case.now in
-    let step = step_of c.args.number (about_of system) c.args.piece.now c.args.into.now (case_falls c.args.falls system c.args.piece.now) in
+    let step = step_of c.args.at.now.number (about_of system) c.args.at.now.piece.now c.args.into.now (case_falls c.args.falls system c.args.at.now.piece.now) in
     ahead_next passes stops g.V.Visitor.room (map step) refl (λ x xs. refl) (leaving l system.cases) c.args.visitor.now c.cases.visitor c.cases.k c.cases.invariant case
-    (case_within l system.cases c.cases.k case (case_at (cases_of c.args.about.now).cases c.cases.k (Some (case_view c.in-Some.case.now)) _ _ c.location-location.ensures c.in-Some.ensures.case)) (case_there l system.cases c.cases.k case (case_at (cases_of c.args.about.now).cases c.cases.k (Some (case_view c.in-Some.case.now)) _ _ c.location-location.ensures c.in-Some.ensures.case)) c.visit.new.visitor
+    (case_within l system.cases c.cases.k case (case_at (cases_of c.args.at.now.about.now).cases c.cases.k (Some (case_view c.in-Some.case.now)) _ _ c.location-location.ensures c.in-Some.ensures.case)) (case_there l system.cases c.cases.k case (case_at (cases_of c.args.at.now.about.now).cases c.cases.k (Some (case_view c.in-Some.case.now)) _ _ c.location-location.ensures c.in-Some.ensures.case)) c.visit.new.visitor
     (subst (λ r. Visits passes stops g.V.Visitor.room r c.cases.visitor (step case ∷ []) c.visit.new.visitor) c.if-not-visit.false c.visit.ensures)
 
 pub returns : goal.returns
 returns g c =
-    let system = cases_of c.args.about.now in
-    let l = place_of c.args.piece.now in
-    let step = step_of c.args.number (about_of system) c.args.piece.now c.args.into.now (case_falls c.args.falls system c.args.piece.now) in
+    let system = cases_of c.args.at.now.about.now in
+    let l = place_of c.args.at.now.piece.now in
+    let step = step_of c.args.at.now.number (about_of system) c.args.at.now.piece.now c.args.into.now (case_falls c.args.falls system c.args.at.now.piece.now) in
     ahead_end (g.V.Visitor.passes system) (g.V.Visitor.stops system) g.V.Visitor.room (map step) refl (λ x xs. refl) (leaving l system.cases) c.args.visitor.now c.cases.visitor c.cases.k c.cases.invariant
-    (past_end (leaving l system.cases) c.cases.k (case_at (cases_of c.args.about.now).cases c.cases.k None _ _ c.location-location.ensures c.in_default.ensures.case))
+    (past_end (leaving l system.cases) c.cases.k (case_at (cases_of c.args.at.now.about.now).cases c.cases.k None _ _ c.location-location.ensures c.in_default.ensures.case))

@@ -22,12 +22,12 @@ returns-in-Some c =
     let claim = c.args.claim.now in
     let rows = subst (λ o. MatchOption o (ClaimHasRows about claim) (IsWideIn about claim)) c.in-Ok-None.field-0-is c.in-Ok-None.ensures in
     let first : Some c.in-Some.gap ≡ first_of c.args.first c.args.second = sym c.in-Some.is ∙ c.first_gap.ensures in
-    (left_gap about claim c.args.first c.args.second c.in-Some.gap c.requires.left first, left_by about claim c.requires.states c.requires.variables rows c.args.first c.args.second c.in-Some.gap c.requires.left first)
+    (left_gap about claim c.args.first c.args.second c.in-Some.gap c.requires.left first, left_by about claim c.requires.variables rows c.args.first c.args.second c.in-Some.gap c.requires.left first)
 
 pub unreachable-requires : goal.unreachable-requires
 unreachable-requires c =
     let about = cases_of c.args.setting.now.about.now in
     let claim = c.args.claim.now in
     let rows = subst (λ o. MatchOption o (ClaimHasRows about claim) (IsWideIn about claim)) c.in-Ok-None.field-0-is c.in-Ok-None.ensures in
-    not_left about claim c.requires.states c.requires.variables c.requires.denies c.variables-variables.ensures.limits.starts rows.0 rows.1
+    not_left about claim c.requires.variables c.requires.denies c.variables-variables.ensures.limits.starts rows.0 rows.1
     (left_none about claim c.args.first c.args.second (sym c.in-None.is ∙ c.first_gap.ensures) c.requires.left)

@@ -17,7 +17,7 @@ returns-in-Err-clause-refused c =
     let about = cases_of c.args.setting.now.about.now in
     let t = aim_states c.denied_aim.result.now in
     let s = aim_states c.args.claim.now.denied_aim in
-    let e : t ≡ s = c.denied_aim.ensures ∙ sym c.requires.states.denied in
+    let e : t ≡ s = c.denied_aim.ensures ∙ sym c.args.claim.now.denied_stated in
     of_formula c.in-Err.fault (fault_of about t s c.args.setting.now.budget.now c.in-Err.fault e c.in-Err.ensures.refused) (subst (λ u. IsCountedFor about u c.in-Err.fault) e c.in-Err.ensures.counted)
 
 pub returns-in-Err-first_inside-clause-refused : goal.returns-in-Err-first_inside-clause-refused
@@ -25,7 +25,7 @@ returns-in-Err-first_inside-clause-refused c =
     let about = cases_of c.args.setting.now.about.now in
     let t = aim_states c.denied_aim.result.now in
     let s = aim_states c.args.claim.now.denied_aim in
-    let e : t ≡ s = c.denied_aim.ensures ∙ sym c.requires.states.denied in
+    let e : t ≡ s = c.denied_aim.ensures ∙ sym c.args.claim.now.denied_stated in
     let o = c.in-Ok.ensures in
     of_start c.in-Ok.found c.in-Err-first_inside.fault (found_of about t s c.in-Ok.found e o.region o.part o.built o.size o.gap o.tells o.full)
     (subst (λ qs. IsRefusal about c.args.setting.now.budget.now (AsksEmpty about qs) c.in-Err-first_inside.fault) c.deref.ensures.value c.in-Err-first_inside.ensures.refusals)
@@ -35,7 +35,7 @@ returns-in-Ok-None-clause-tried c =
     let about = cases_of c.args.setting.now.about.now in
     let t = aim_states c.denied_aim.result.now in
     let s = aim_states c.args.claim.now.denied_aim in
-    let e : t ≡ s = c.denied_aim.ensures ∙ sym c.requires.states.denied in
+    let e : t ≡ s = c.denied_aim.ensures ∙ sym c.args.claim.now.denied_stated in
     let o = c.in-Ok.ensures in
     let pieces = c.deref.result.now in
     record {

@@ -16,7 +16,7 @@ returns-in-Err-clause-refused c =
     let about = cases_of c.args.setting.now.about.now in
     let t = aim_states c.proved_aim.result.now in
     let s = aim_states c.args.claim.now.proved_aim in
-    let e : t ≡ s = c.proved_aim.ensures ∙ sym c.requires.states.proved in
+    let e : t ≡ s = c.proved_aim.ensures ∙ sym c.args.claim.now.proved_stated in
     of_formula c.in-Err.fault (fault_of about t s c.args.setting.now.budget.now c.in-Err.fault e c.in-Err.ensures.refused) (subst (λ u. IsCountedFor about u c.in-Err.fault) e c.in-Err.ensures.counted)
 
 pub returns-in-Err-start_covered-clause-refused : goal.returns-in-Err-start_covered-clause-refused
@@ -24,7 +24,7 @@ returns-in-Err-start_covered-clause-refused c =
     let about = cases_of c.args.setting.now.about.now in
     let t = aim_states c.proved_aim.result.now in
     let s = aim_states c.args.claim.now.proved_aim in
-    let e : t ≡ s = c.proved_aim.ensures ∙ sym c.requires.states.proved in
+    let e : t ≡ s = c.proved_aim.ensures ∙ sym c.args.claim.now.proved_stated in
     let o = c.in-Ok.ensures in
     of_start c.in-Ok.found c.in-Err-start_covered.fault (found_of about t s c.in-Ok.found e o.region o.part o.built o.size o.gap o.tells o.full) c.in-Err-start_covered.ensures.refusals
 
@@ -33,7 +33,7 @@ returns-in-Ok-Hole-clause-tried c =
     let about = cases_of c.args.setting.now.about.now in
     let t = aim_states c.proved_aim.result.now in
     let s = aim_states c.args.claim.now.proved_aim in
-    let e : t ≡ s = c.proved_aim.ensures ∙ sym c.requires.states.proved in
+    let e : t ≡ s = c.proved_aim.ensures ∙ sym c.args.claim.now.proved_stated in
     let o = c.in-Ok.ensures in
     record {
       found = c.in-Ok.found;

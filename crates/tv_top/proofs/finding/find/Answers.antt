@@ -11,7 +11,6 @@ settle-requires g c =
     record {
       same_program = c.requires.same_program;
       same_steps = c.requires.same_steps;
-      states = is.states;
       variables = c.in-Ok.ensures.variables ∙ c.requires.variables ∙ sym c.requires.same_program.variables;
       denies = is.denied ∙ sym (negation_of_normal f) ∙ ap negation (sym is.proved);
     }
