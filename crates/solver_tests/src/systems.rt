@@ -5,7 +5,7 @@ ghost use Rattle.tv_simplex.specs.Views.{equations};
 use std::alloc::{AllocError, Global};
 use std::process::Abort;
 use std::test::Fail;
-use tv_simplex::{Answer, SolveFault, System, solve};
+use tv_simplex::{Answer, Entries, SolveFault, System, solve};
 
 /// What a system is to be answered.
 #[derive(Drop)]
@@ -46,18 +46,38 @@ fn case(
     }
 }
 
+fn put(rt: &impl Abort, entries: &mut Entries, number: i128) -> Result<(), AllocError> {
+    assert!(rt; entries.len() < 10_000);
+    entries.push(number)
+}
+
+fn put_zeros(rt: &impl Abort, entries: &mut Entries, count: u32) {
+    assert!(rt; entries.len() < 10_000);
+    entries.push_zeros(count);
+}
+
+/// The numbers as entries of a system.
+fn entries_of(rt: &impl Abort, alloc: Global, numbers: &[i128]) -> Result<Entries, AllocError> {
+    let mut entries = Entries::new(alloc);
+    for number in numbers {
+        put(rt, &mut entries, *number)?;
+    }
+    Ok(entries)
+}
+
 /// The system of a case, whose lengths agree.
 fn system_of(rt: &impl Abort, alloc: Global, case: &Question) -> Result<System, AllocError>
     ensures { IfOk result (λ s. IsWhole (equations s)) }
 {
     assert!(rt; case.rows <= 2000);
     assert!(rt; case.columns <= 2000);
-    assert!(rt; case.entries.len() == case.rows as usize * case.columns as usize);
     assert!(rt; case.right.len() == case.rows as usize);
+    let entries = entries_of(rt, alloc, case.entries)?;
+    assert!(rt; entries.len() == case.rows as usize * case.columns as usize);
     Ok(System {
         rows: case.rows,
         columns: case.columns,
-        entries: Vec::from_slice(alloc, case.entries)?,
+        entries,
         right: Vec::from_slice(alloc, case.right)?,
     })
 }
@@ -113,6 +133,37 @@ fn systems_are_settled(rt: HostRuntime) -> Result<(), Fail> {
         let system = system_of(&rt, rt.alloc(), case)?;
         let found = solve(rt.alloc(), &system, case.pivots);
         assert!(rt; is_answered(&case.wanted, &found));
+    }
+    Ok(())
+}
+
+/// The rows `0 .. 0 2` and `3 0 .. 0` with so many zeros.
+fn corners(rt: &impl Abort, alloc: Global, zeros: u32) -> Result<Entries, AllocError> {
+    let mut entries = Entries::new(alloc);
+    put_zeros(rt, &mut entries, zeros);
+    put(rt, &mut entries, 2)?;
+    put(rt, &mut entries, 3)?;
+    put_zeros(rt, &mut entries, zeros);
+    Ok(entries)
+}
+
+#[test]
+fn runs_of_zeros_are_read(rt: HostRuntime) -> Result<(), Fail> {
+    let entries = corners(&rt, rt.alloc(), 999)?;
+    assert!(rt; entries.len() == 2_000);
+    let system = System {
+        rows: 2,
+        columns: 1_000,
+        entries,
+        right: Vec::from_slice(rt.alloc(), &[4, 9])?,
+    };
+    match solve(rt.alloc(), &system, 9) {
+        Ok(Answer::Solution { values, scale }) => {
+            assert!(rt; scale == 1);
+            assert!(rt; values.first() == Some(&3));
+            assert!(rt; values.last() == Some(&2));
+        }
+        _ => assert!(rt; false),
     }
     Ok(())
 }

@@ -49,32 +49,6 @@ pub(crate) fn push_numbers(
     Ok(())
 }
 
-fn push_zeros(numbers: &mut Vec<i128>, count: u32) -> Result<(), Fault> {
-    for _ in 0..count {
-        numbers.push(0)?;
-    }
-    Ok(())
-}
-
-/// Puts so many numbers at the end of the list. The text says how many of them it has, and has each after its place; the others are 0.
-pub(crate) fn push_sparse(
-    numbers: &mut Vec<i128>,
-    words: &mut SplitWhitespace<'_>,
-    count: u32,
-) -> Result<(), Fault> {
-    let first = numbers.len();
-    push_zeros(numbers, count)?;
-    for _ in 0..next_count(words)? {
-        let place = next_count(words)?;
-        let number = next_number(words)?;
-        match numbers.get_mut(first.wrapping_add(place as usize)) {
-            Some(at) => *at = number,
-            None => return Err(Fault::Form),
-        }
-    }
-    Ok(())
-}
-
 /// The row of so many columns that comes next in the text: its coefficients and its constant.
 pub(crate) fn next_row(
     alloc: Global,

@@ -11,24 +11,25 @@ use crate::question::Question;
 use crate::unknown::{Line, Unknown};
 use std::alloc::{AllocError, Global};
 use tv_linear::push_item;
-use tv_simplex::System;
+use tv_simplex::{Entries, System};
 
 /// Puts the entries of a row of the system at the end of the list.
 fn push_row(
-    numbers: &mut Vec<i128>,
+    numbers: &mut Entries,
     asked: &Question,
     unknowns: &[Unknown],
     line: Line,
 ) -> Result<(), AllocError>
-    requires { IsPlaced (many_of asked.now) line.identity }
+    requires placed { IsPlaced (many_of asked.now) line.identity }
+    requires size { length numbers.old + length unknowns.now ≤ 4000000 }
     ensures { let row = map (spec_entry (ways_of asked.now) asked.now.falling line) unknowns.now in
-        IfOk result (λ _. numbers.new.items ≡ numbers.old.items ++ row) }
+        IfOk result (λ _. numbers.new ≡ numbers.old ++ row) }
 {
     let place = place_of(line.identity, asked.falling);
     let case = asked.case_at(place);
     let known = asked.known_at(place);
     'unknowns: for unknown in unknowns {
-        push_item(numbers, entry(case, known, line, *unknown))?;
+        numbers.push(entry(case, known, line, *unknown))?;
     }
     Ok(())
 }
@@ -39,12 +40,12 @@ pub fn entry_list(
     asked: &Question,
     unknowns: &[Unknown],
     lines: &[Line],
-) -> Result<Vec<i128>, AllocError>
+) -> Result<Entries, AllocError>
     requires placed { All (λ line. IsPlaced (many_of asked.now) line.identity) lines.now }
     requires size { length lines.now * length unknowns.now ≤ 4000000 }
-    ensures { IfOk result (λ v. v.items ≡ entry_rows (ways_of asked.now) asked.now.falling unknowns.now lines.now) }
+    ensures { IfOk result (λ v. v ≡ entry_rows (ways_of asked.now) asked.now.falling unknowns.now lines.now) }
 {
-    let mut numbers = Vec::with_capacity(alloc, lines.len() * unknowns.len())?;
+    let mut numbers = Entries::new(alloc);
     'lines: for line in lines {
         push_row(&mut numbers, asked, unknowns, *line)?;
     }
