@@ -4,6 +4,7 @@
 mod aim;
 mod aims;
 mod at;
+mod choosing;
 mod claim;
 mod failing;
 mod fixed_point;
@@ -11,16 +12,19 @@ mod node;
 mod owes;
 mod parts;
 mod pieces;
+mod take;
 mod visiting;
 mod visitor;
 
 pub use aim::Aim;
 pub use aims::aim_of;
+pub use choosing::Choosing;
 pub use claim::Claim;
 pub use failing::Failing;
 pub use node::{Kind, Mark, Marked, Node, Proof, Verdict};
 pub use owes::{Destination, Owes};
 pub use parts::part;
 pub use pieces::{Pieces, joined_piece_at};
+pub use take::Take;
 pub use visiting::visit_pieces;
 pub use visitor::Visitor;

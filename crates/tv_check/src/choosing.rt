@@ -14,21 +14,10 @@ ghost use Rattle.tv_cert.specs.Owing.{destination_owes};
 ghost use Rattle.tv_check.specs.Owes.{falls_of};
 
 use crate::pieces::Entered;
-use crate::take::Take;
 use tv_cases::{Case, Cases};
-use tv_cert::{Destination, Marked, Pieces};
+use tv_cert::{Choosing, Destination, Pieces, Take};
 use tv_linear::{ChoiceTree, Cover, Row, RowView, Rows};
 use tv_refute::{Built, Change, Frames, Targets, Terms, cover_is_met, refutes, shown_rows};
-
-/// What choices are judged with: the piece at which they are made, where they lead, and whether they may show that there is no step.
-#[derive(Clone, Copy)]
-pub struct Choosing<'a> {
-    pub columns: u32,
-    pub about: &'a Cases,
-    pub piece: &'a Marked,
-    pub stop: bool,
-    pub destination: &'a Destination<'a>,
-}
 
 /// Whether the one target without rows is named, and no list is left.
 fn nothing_is_shown(target: u32, fall: u32, lists: &[Vec<i64>]) -> bool

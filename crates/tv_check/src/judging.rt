@@ -15,11 +15,11 @@ ghost use Rattle.tv_cert.specs.Owing.{owed_by, falls_where, destination_owes};
 ghost use Rattle.tv_cert.specs.declared.node.Proof.TheVariants.{Covered, Chosen};
 ghost use Rattle.tv_check.specs.Settling.{first_proof};
 
-use crate::choosing::{Choosing, choice_is_met};
+use crate::choosing::choice_is_met;
 use crate::pieces::kept_is_shown;
 use crate::steps::{rows_are_covered, step_is_covered, truth_is_covered};
 use tv_cases::{Case, Cases};
-use tv_cert::{Destination, Marked, Node, Owes, Pieces, Proof, joined_piece_at};
+use tv_cert::{Choosing, Destination, Marked, Node, Owes, Pieces, Proof, joined_piece_at};
 use tv_linear::{ChoiceTree, CoverTree, Row, Rows};
 use tv_refute::{Change, Frames, Targets, cover_is_met, shown_rows};
 

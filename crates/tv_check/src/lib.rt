@@ -11,7 +11,6 @@ mod rank;
 mod ranks;
 mod settler;
 mod steps;
-mod take;
 mod walking;
 
 pub use checking::{check, is_inside};

@@ -11,21 +11,10 @@ ghost use Rattle.tv_cert.specs.Shapes.{ChoiceShape, CoverShape, NoStepShape, Tak
 ghost use Rattle.tv_shape.specs.Counts.{counts_of, AreFew, AreFewAt};
 
 use crate::covers::{cover_has_shape, have_length};
-use crate::take::Take;
 use crate::targets::{Targets, pieces_into};
 use tv_cases::{Case, Cases};
-use tv_cert::{Destination, Marked};
+use tv_cert::{Choosing, Destination, Marked, Take};
 use tv_linear::{ChoiceTree, Cover, Row, have_columns};
-
-/// What choices are looked at with: the piece at which they are made, where they lead, and whether they may show that there is no step.
-#[derive(Clone, Copy)]
-pub struct Choosing<'a> {
-    pub columns: u32,
-    pub about: &'a Cases,
-    pub piece: &'a Marked,
-    pub stop: bool,
-    pub destination: &'a Destination<'a>,
-}
 
 /// Where a choice leads by a case.
 pub fn taken_into<'a>(piece: &'a Marked, case: &Case, destination: &Destination<'a>) -> Targets<'a>

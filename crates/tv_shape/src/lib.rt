@@ -16,7 +16,6 @@ mod nodes;
 mod offered;
 mod pieces;
 mod shaper;
-mod take;
 mod targets;
 mod verdicts;
 mod walking;

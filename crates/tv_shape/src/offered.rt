@@ -7,11 +7,11 @@ ghost use Rattle.tv_cert.specs.Owing.{owed_by};
 ghost use Rattle.tv_cert.specs.Shapes.{ProofShape};
 ghost use Rattle.tv_shape.specs.Offered.{FirstShape};
 
-use crate::choices::{Choosing, choice_has_shape};
+use crate::choices::choice_has_shape;
 use crate::covers::cover_has_shape;
 use crate::targets::{Targets, pieces_into};
 use tv_cases::Cases;
-use tv_cert::{Owes, Proof};
+use tv_cert::{Choosing, Owes, Proof};
 use tv_linear::{ChoiceTree, CoverTree};
 
 /// Whether the cover has the shape that is owed.
