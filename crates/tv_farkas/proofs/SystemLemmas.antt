@@ -37,7 +37,7 @@ at_of P (x ∷ xs) d h zero l = All-head P x xs h
 at_of P (x ∷ xs) d h (suc i) l = at_of P xs d (All-tail P x xs h) i (omega arith)
 
 -- ---- the entries of the refutation system
-length-numbers : (m : ℕ) (rows : List Linear) → length (numbers_below m rows) ≡ m * length rows
+pub length-numbers : (m : ℕ) (rows : List Linear) → length (numbers_below m rows) ≡ m * length rows
 length-numbers zero rows = omega arith
 length-numbers (suc m) rows = length-append (numbers_below m rows) (map (λ r. entry r m) rows) ∙ (let h = length-numbers m rows in let g = length-map rows (λ r. entry r m) in omega (arith, h, g))
 

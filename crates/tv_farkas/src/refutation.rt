@@ -9,7 +9,7 @@ ghost use Rattle.tv_farkas.specs.RefutationSystem.{numbers_below, refutation_sys
 
 use std::alloc::{AllocError, Global};
 use tv_linear::{Row, push_item};
-use tv_simplex::System;
+use tv_simplex::{Entries, System};
 
 /// The number of a row in a column, of which the constant's is the last.
 fn number_at(row: &Row, column: usize) -> i128
@@ -23,20 +23,22 @@ fn number_at(row: &Row, column: usize) -> i128
 }
 
 /// Puts the numbers of the rows in a column at the end of the list.
-fn push_column(numbers: &mut Vec<i128>, rows: &[Row], column: usize) -> Result<(), AllocError>
-    ensures { IfOk result (λ _. numbers.new.items ≡ numbers.old.items ++ map (λ r. entry r column) rows.now) }
+fn push_column(numbers: &mut Entries, rows: &[Row], column: usize) -> Result<(), AllocError>
+    requires { length numbers.old + length rows.now ≤ 4000000 }
+    ensures { IfOk result (λ _. numbers.new ≡ numbers.old ++ map (λ r. entry r column) rows.now) }
 {
     'rows: for row in rows {
-        push_item(numbers, number_at(row, column))?;
+        numbers.push(number_at(row, column))?;
     }
     Ok(())
 }
 
 /// The numbers of the rows, column by column, the constants last.
-fn numbers_of(alloc: Global, rows: &[Row], columns: u32) -> Result<Vec<i128>, AllocError>
-    ensures { IfOk result (λ numbers. numbers.items ≡ numbers_below (columns + 1) rows.now) }
+fn numbers_of(alloc: Global, rows: &[Row], columns: u32) -> Result<Entries, AllocError>
+    requires { (columns + 1) * length rows.now ≤ 4000000 }
+    ensures { IfOk result (λ numbers. numbers ≡ numbers_below (columns + 1) rows.now) }
 {
-    let mut numbers = Vec::new(alloc);
+    let mut numbers = Entries::new(alloc);
     'columns: for column in 0..columns as usize + 1 {
         push_column(&mut numbers, rows, column)?;
     }

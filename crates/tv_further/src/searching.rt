@@ -12,6 +12,7 @@ use crate::formulas::ranked_regions::RankedRegions;
 use crate::graphs::explicit::ExplicitGraph;
 use crate::graphs::starting::constants_of;
 use crate::graphs::walks::Walks;
+use crate::limits::{FIRST_GRAPHS, GRAPHS};
 use crate::question::Question;
 use crate::rows::solving::Effort;
 use crate::search::{Attempt, Search};
@@ -69,7 +70,10 @@ fn by_states(question: &Question, claim: &Claim) -> Result<Option<Further>, Allo
         states: 0,
         calls: 0,
     };
-    found_by(&ExplicitGraph, question, claim, &mut spent)
+    let search = ExplicitGraph {
+        graphs: FIRST_GRAPHS,
+    };
+    found_by(&search, question, claim, &mut spent)
 }
 
 /// What is found by the searches that make no claim but that they end: the first of them, in their order.
@@ -81,7 +85,8 @@ fn first_found(question: &Question, claim: &Claim) -> Result<Option<Further>, Al
         states: 0,
         calls: 0,
     };
-    if let Some(found) = found_by(&ExplicitGraph, question, claim, &mut spent)? {
+    let graphs = ExplicitGraph { graphs: GRAPHS };
+    if let Some(found) = found_by(&graphs, question, claim, &mut spent)? {
         return Ok(Some(found));
     }
     if let Some(found) = found_by(&RankedRegions, question, claim, &mut spent)? {
@@ -148,7 +153,7 @@ pub fn further(
     reached(alloc, about, claim, known, budget, Reach::All)
 }
 
-/// The same by single states alone, which takes little time however large the program is.
+/// The same by a few graphs of single states alone.
 pub fn look(
     alloc: Global,
     about: &Cases,

@@ -1,4 +1,6 @@
 pub mod AddingLemmas
+pub mod EntriesLemmas
+pub mod KeptLemmas
 pub mod Ring
 pub mod Sums
 pub mod Unique

@@ -1,5 +1,6 @@
 pub mod Sums
 pub mod Systems
+pub mod Entries
 pub mod Tableaus
 pub mod Chains
 pub mod Orders

@@ -10,7 +10,7 @@ use Rattle.tv_simplex.specs.Outcomes.{IsSolutionOf, IsBarrierOf, GivesSolution, 
 
 -- the plain form of a system
 abbrev pub equations : System → Equations
-equations s = record { rows = s.rows; columns = s.columns; entries = s.entries.items; right = s.right.items }
+equations s = record { rows = s.rows; columns = s.columns; entries = s.entries; right = s.right.items }
 
 -- the answer solves the system, or shows that nothing does
 abbrev pub IsAnswer : Equations → Answer → Type 0

@@ -1,28 +1,14 @@
 // The sums of the columns, row by row.
 
-ghost use Rattle.std.specs.Prelude.{◌≡◌, ◌+◌, ◌*◌, ◌^◌, ◌<◌, ◌≤◌, length, get_or, pos, ◌+ℤ◌, unsigned_abs, IfOk};
+ghost use Rattle.std.specs.Prelude.{◌≡◌, ◌+◌, ◌*◌, ◌^◌, ◌<◌, ◌≤◌, length, get_or, set, pos, ◌+ℤ◌, unsigned_abs, IfOk};
 ghost use Rattle.tv_simplex.specs.Systems.{IsWhole};
 ghost use Rattle.tv_simplex.specs.Outcomes.{IsNarrow, IsNarrowSystem};
 ghost use Rattle.tv_simplex.specs.Views.{equations};
-ghost use Rattle.tv_simplex.specs.Starting.{AreSums, first_slot};
+ghost use Rattle.tv_simplex.specs.Starting.{AreSums};
 
 use crate::System;
-use crate::numbers::number_at;
+use crate::numbers::{kept_in, right_at, signed_in};
 use std::alloc::{AllocError, Global};
-
-/// The column of a sum: those of the system come first, and then the right side.
-fn slot_column(system: &System, slot: usize) -> usize
-    requires whole { IsWhole (equations system.now) }
-    requires slot { slot ≤ system.now.columns }
-    ensures is { result ≡ first_slot (equations system.now) slot }
-    ensures within { result ≤ system.now.columns + system.now.rows }
-{
-    if slot < system.columns as usize {
-        slot
-    } else {
-        system.columns as usize + system.rows as usize
-    }
-}
 
 /// The sum of the numbers before a row, and the one there.
 fn with_number(sum: i128, number: i128, row: usize) -> i128
@@ -43,7 +29,20 @@ pub fn sum_at(sums: &[i128], slot: usize) -> i128
     sums[slot]
 }
 
-/// Adds a number of the row to each sum.
+/// Adds a number of the row to the sum at a place.
+fn add_at(sums: &mut [i128], slot: usize, number: i128, row: usize)
+    requires slot { slot < length sums.old }
+    requires sum { unsigned_abs (get_or sums.old slot (pos 0)) ≤ 2 ^ 40 * row }
+    requires number { IsNarrow number }
+    requires few { row < 2 ^ 32 }
+    ensures value { sums.new ≡ set sums.old slot (get_or sums.old slot (pos 0) +ℤ number) }
+    ensures bound { unsigned_abs (get_or sums.old slot (pos 0) +ℤ number) ≤ 2 ^ 40 * (row + 1) }
+{
+    let sum = with_number(sum_at(sums, slot), number, row);
+    sums[slot] = sum;
+}
+
+/// Adds the numbers of the row to the sums of their columns, and its right side to the last.
 fn add_row(system: &System, row: usize, sums: &mut [i128])
     requires whole { IsWhole (equations system.now) }
     requires narrow { IsNarrowSystem (equations system.now) }
@@ -51,11 +50,16 @@ fn add_row(system: &System, row: usize, sums: &mut [i128])
     requires sums { AreSums (equations system.now) row sums.old }
     ensures { AreSums (equations system.now) (row + 1) sums.new }
 {
-    'slots: for slot in 0..sums.len() {
-        let number = number_at(system, row, slot_column(system, slot));
-        let sum = with_number(sum_at(sums, slot), number, row);
-        sums[slot] = sum;
+    let columns = system.columns as usize;
+    let start = row * columns;
+    let mut left = kept_in(system, row);
+    'kept: while let [first, rest @ ..] = left {
+        let number = signed_in(system, row, first.number);
+        add_at(sums, first.place - start, number, row);
+        left = rest;
     }
+    let right = signed_in(system, row, right_at(system, row));
+    add_at(sums, columns, right, row);
 }
 
 /// The sums of the columns of the system and of the right sides. The system is read row by row, as it is held.

@@ -9,6 +9,7 @@ mod adding;
 mod answer;
 mod answering;
 mod entering;
+mod entries;
 mod exchanging;
 mod fault;
 mod fractions;
@@ -26,6 +27,7 @@ mod table;
 mod walking;
 
 pub use answer::Answer;
+pub use entries::Entries;
 pub use fault::SolveFault;
 pub use laws::{
     chain_goes_on, chain_is_bounded, none_comes_twice, one_chain, one_tableau, settled_gives,

@@ -2,13 +2,15 @@
 
 ghost use Rattle.std.specs.Prelude.{◌≡◌, ◌+◌, ◌*◌, ◌^◌, ◌<◌, ◌≤◌, ℕ, ℤ, pos, ◌*ℤ◌, IsTrue, ◌↔◌, MatchOption, unsigned_abs};
 ghost use Rattle.tv_simplex.specs.Sums.{total};
-ghost use Rattle.tv_simplex.specs.Systems.{IsWhole, entry_at as spec_entry, right_at as spec_right, sign_of, matrix};
+ghost use Rattle.tv_simplex.specs.Systems.{IsWhole, entry_at as spec_entry, right_at as spec_right, sign, sign_of, matrix};
+ghost use Rattle.tv_simplex.specs.Entries.{AreKept};
 ghost use Rattle.tv_simplex.specs.Chains.{cost};
 ghost use Rattle.tv_simplex.specs.Outcomes.{IsShort, IsNarrow, IsNarrowSystem, IsFirstWide};
 ghost use Rattle.tv_simplex.specs.Views.{equations};
 ghost use Rattle.tv_simplex.specs.Starting.{IsNarrowRowOf, IsFirstWideColumn, first_objective};
 
 use crate::System;
+use crate::entries::Kept;
 
 pub fn right_at(system: &System, row: usize) -> i128
     requires whole { IsWhole (equations system.now) }
@@ -18,13 +20,14 @@ pub fn right_at(system: &System, row: usize) -> i128
     system.right[row]
 }
 
-pub fn entry_at(system: &System, row: usize, column: usize) -> i128
+/// The numbers of the row that are kept: all that are not 0.
+pub fn kept_in(system: &System, row: usize) -> &[Kept]
     requires whole { IsWhole (equations system.now) }
     requires row { row < system.now.rows }
-    requires column { column < system.now.columns }
-    ensures { result ≡ spec_entry (equations system.now) row column }
+    ensures { AreKept (spec_entry (equations system.now) row) (row * system.now.columns) 0 system.now.columns result.now }
 {
-    system.entries[row * system.columns as usize + column]
+    let columns = system.columns as usize;
+    system.entries.stretch(row * columns, columns)
 }
 
 fn is_narrow(number: i128) -> bool
@@ -42,10 +45,13 @@ fn first_wide_column(system: &System, row: usize) -> Option<u32>
         (IsNarrowRowOf (equations system.now) row)
         (λ column. IsFirstWideColumn (equations system.now) row column) }
 {
-    'columns: for column in 0..system.columns {
-        if !is_narrow(entry_at(system, row, column as usize)) {
-            return Some(column);
+    let start = row * system.columns as usize;
+    let mut left = kept_in(system, row);
+    'kept: while let [first, rest @ ..] = left {
+        if !is_narrow(first.number) {
+            return Some((first.place - start) as u32);
         }
+        left = rest;
     }
     if is_narrow(right_at(system, row)) {
         return None;
@@ -73,29 +79,20 @@ pub fn signed(right: i128, number: i128) -> i128
     requires { IsShort number }
     ensures value { result ≡ sign_of right *ℤ number }
     ensures magnitude { unsigned_abs result ≡ unsigned_abs number }
+    ensures narrow { IsNarrow number → IsNarrow result }
 {
     if right < 0 { -number } else { number }
 }
 
-/// The number in a row and a column of the system with its artificial columns and its right side.
-pub fn number_at(system: &System, row: usize, column: usize) -> i128
+/// A number of the row, with its sign turned where the right side of the row is negative.
+pub fn signed_in(system: &System, row: usize, number: i128) -> i128
     requires whole { IsWhole (equations system.now) }
-    requires narrow { IsNarrowSystem (equations system.now) }
     requires row { row < system.now.rows }
-    requires column { column ≤ system.now.columns + system.now.rows }
-    ensures value { result ≡ matrix (equations system.now) row column }
+    requires narrow { IsNarrow number }
+    ensures value { result ≡ sign (equations system.now) row *ℤ number }
     ensures narrow { IsNarrow result }
 {
-    let columns = system.columns as usize;
-    let rows = system.rows as usize;
-    let right = right_at(system, row);
-    if column < columns {
-        return signed(right, entry_at(system, row, column));
-    }
-    if column == columns + rows {
-        return signed(right, right);
-    }
-    if column == columns + row { 1 } else { 0 }
+    signed(right_at(system, row), number)
 }
 
 fn cost_at(system: &System, column: usize) -> i128

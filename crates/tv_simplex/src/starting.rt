@@ -12,7 +12,7 @@ ghost use Rattle.tv_simplex.specs.Starting.{IsNumberPut, IsFirstRow, IsFirstObje
 
 use crate::System;
 use crate::adding::{column_sums, sum_at};
-use crate::numbers::{entry_at, number_at, objective_at};
+use crate::numbers::{kept_in, objective_at, right_at, signed_in};
 use crate::rows::{Entry, put_last};
 use crate::stop::Stop;
 use std::alloc::{AllocError, Global};
@@ -49,21 +49,6 @@ fn put_number(entries: &mut Vec<Entry>, column: usize, number: i128) -> Result<(
     put_last(entries, column, whole(number))
 }
 
-/// How many numbers of the row are not 0.
-fn nonzero_in_row(system: &System, row: usize) -> usize
-    requires whole { IsWhole (equations system.now) }
-    requires row { row < system.now.rows }
-    ensures { result ≤ system.now.columns }
-{
-    let mut count = 0;
-    'columns: for column in 0..system.columns as usize {
-        if entry_at(system, row, column) != 0 {
-            count += 1;
-        }
-    }
-    count
-}
-
 /// A row of the system, its artificial column and its right side.
 fn first_row(alloc: Global, system: &System, row: usize) -> Result<Vec<Entry>, AllocError>
     requires whole { IsWhole (equations system.now) }
@@ -72,17 +57,17 @@ fn first_row(alloc: Global, system: &System, row: usize) -> Result<Vec<Entry>, A
     ensures { IfOk result (λ v. IsFirstRow (equations system.now) row v.items) }
 {
     let columns = system.columns as usize;
-    let rows = system.rows as usize;
-    let mut entries = Vec::with_capacity(alloc, nonzero_in_row(system, row) + 2)?;
-    'columns: for column in 0..columns {
-        put_number(&mut entries, column, number_at(system, row, column))?;
+    let start = row * columns;
+    let mut left = kept_in(system, row);
+    let mut entries = Vec::with_capacity(alloc, left.len() + 2)?;
+    'kept: while let [first, rest @ ..] = left {
+        let number = signed_in(system, row, first.number);
+        put_number(&mut entries, first.place - start, number)?;
+        left = rest;
     }
     put_number(&mut entries, columns + row, 1)?;
-    put_number(
-        &mut entries,
-        columns + rows,
-        number_at(system, row, columns + rows),
-    )?;
+    let right = signed_in(system, row, right_at(system, row));
+    put_number(&mut entries, columns + system.rows as usize, right)?;
     Ok(entries)
 }
 

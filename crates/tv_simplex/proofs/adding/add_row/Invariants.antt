@@ -1,6 +1,12 @@
+use Rattle.std.proofs.Common.{ℕ, ◌*◌, ◌≤◌, length}
+use Rattle.tv_simplex.specs.Systems.{entry_at}
+use Rattle.tv_simplex.specs.Entries.{AreKept}
 use Rattle.tv_simplex.specs.Views.{equations}
 use Rattle.tv_simplex.proofs.AddingLemmas.{SumsTo}
 use Rattle.tv_simplex.proofs.adding.add_row.Given as goal
 
-abbrev pub invariant-slots : goal.invariant-slots
-invariant-slots l = SumsTo (equations l.system) l.row l.slot l.sums
+abbrev pub invariant-kept : goal.invariant-kept
+invariant-kept l = (from : ℕ) × (from ≤ l.system.columns) × AreKept (entry_at (equations l.system) l.row) (l.row * l.system.columns) from l.system.columns l.left × SumsTo (equations l.system) l.row from l.sums
+
+abbrev pub decreases-kept : goal.decreases-kept
+decreases-kept l = length l.left

@@ -1,8 +1,13 @@
-use Rattle.tv_simplex.specs.Systems.{matrix}
+use Rattle.std.proofs.Common.{ℕ, ◌*◌, ◌≤◌, length}
+use Rattle.tv_simplex.specs.Systems.{entry_at, matrix}
+use Rattle.tv_simplex.specs.Entries.{AreKept}
 use Rattle.tv_simplex.specs.Views.{equations}
 use Rattle.tv_simplex.specs.Rows.{IsRow}
 use Rattle.tv_simplex.specs.Starting.{IsNumber}
 use Rattle.tv_simplex.proofs.starting.first_row.Given as goal
 
-abbrev pub invariant-columns : goal.invariant-columns
-invariant-columns l = IsRow (IsNumber (matrix (equations l.system) l.row)) l.column l.entries.items
+abbrev pub invariant-kept : goal.invariant-kept
+invariant-kept l = (from : ℕ) × (from ≤ l.system.columns) × AreKept (entry_at (equations l.system) l.row) (l.row * l.system.columns) from l.system.columns l.left × IsRow (IsNumber (matrix (equations l.system) l.row)) from l.entries.items
+
+abbrev pub decreases-kept : goal.decreases-kept
+decreases-kept l = length l.left
