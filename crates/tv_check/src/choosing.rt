@@ -6,7 +6,7 @@ ghost use Rattle.tv_linear.specs.Covers.{no_target, ShownAt, IsMetCover};
 ghost use Rattle.tv_refute.specs.Frames.{known_at};
 ghost use Rattle.tv_cases.specs.LinearCases.{LinearCase, leaving};
 ghost use Rattle.tv_cases.specs.Systems.{cases_of};
-ghost use Rattle.tv_cases.specs.Views.{case_view, case_views};
+ghost use Rattle.tv_cases.specs.Views.{case_view};
 ghost use Rattle.tv_cert.specs.Targets.{owed_into, owed_nothing};
 ghost use Rattle.tv_cert.specs.Choices.{NoStepMet, TakeMet, IsMetChoice, drawn_guards, drawn_change};
 ghost use Rattle.tv_cert.specs.Pieces.{place_of};
@@ -180,7 +180,7 @@ fn take_is_shown(choosing: &Choosing, frames: &Frames, case: &Case, take: &Take)
 /// Whether there is this case from the location, a term for each of its draws, and the refutations show its guards and the target.
 fn take_is_met(choosing: &Choosing, frames: &Frames, take: &Take) -> bool
     ensures { let owes = destination_owes choosing.now.columns choosing.now.piece.now choosing.now.destination.now in
-        let case = slice_get (case_views (cases_of choosing.now.about.now).cases) take.now.taken in
+        let case = slice_get (cases_of choosing.now.about.now).cases take.now.taken in
         let shown = map (λ l. l.items) take.now.refutations.now in
         let met = TakeMet choosing.now.columns (place_of choosing.now.piece.now) owes (known_at frames.now) case in
         IsTrue result ↔ met take.now.target take.now.fall take.now.draws.now shown }

@@ -166,17 +166,14 @@ fn enter_by(
     let Some(case) = case_of(search.about, entry.number) else {
         unreachable!()
     };
-    let variables = search.about.variables();
-    let (values, draws) = entry.point.split_at(variables as usize);
-    let terms = drawn_terms(alloc, variables, draws)?;
+    let columns = search.about.variables();
+    let (values, draws) = entry.point.split_at(columns as usize);
+    let terms = drawn_terms(alloc, columns, draws)?;
     let put = match rows_put(alloc, &entry.rows, &terms) {
         Ok(put) => put,
         Err(fault) => return Err(fault),
     };
-    let first = Poly {
-        columns: variables,
-        rows: put,
-    };
+    let first = Poly { columns, rows: put };
     let taking = Taking {
         alloc,
         about: search.about,

@@ -5,7 +5,7 @@ ghost use Rattle.tv_linear.specs.Linear.{Linear, columns as columns_of};
 ghost use Rattle.tv_linear.specs.Covers.{no_target};
 ghost use Rattle.tv_cases.specs.LinearCases.{leaving};
 ghost use Rattle.tv_cases.specs.Systems.{cases_of};
-ghost use Rattle.tv_cases.specs.Views.{case_view, case_views};
+ghost use Rattle.tv_cases.specs.Views.{case_view};
 ghost use Rattle.tv_cert.specs.Owing.{destination_owes};
 ghost use Rattle.tv_cert.specs.Shapes.{ChoiceShape, CoverShape, NoStepShape, TakeShape, owed_count};
 ghost use Rattle.tv_shape.specs.Counts.{counts_of, AreFew, AreFewAt};
@@ -51,7 +51,7 @@ fn draws_fit(columns: u32, case: &Case, draws: &[Row]) -> bool
 fn take_has_shape(choosing: &Choosing, known: u128, take: &Take) -> bool
     requires { known < 2 ^ 65 }
     ensures { let owes = destination_owes choosing.now.columns choosing.now.piece.now choosing.now.destination.now in
-        let case = slice_get (case_views (cases_of choosing.now.about.now).cases) take.now.taken in
+        let case = slice_get (cases_of choosing.now.about.now).cases take.now.taken in
         let shape = TakeShape choosing.now.columns choosing.now.piece.now.location owes known case in
         IsTrue result ↔ shape take.now.target take.now.fall take.now.draws.now (map (λ l. l.items) take.now.refutations.now) }
 {

@@ -14,7 +14,7 @@ use crate::graphs::spot::Spot;
 use crate::question::Question;
 use std::alloc::{AllocError, Global};
 use tv_cert::{Aim, Node, Proof};
-use tv_formula::Path;
+use tv_formula::{Path, Shape};
 
 /// Puts the proof of a formula without arguments at the spot at the end of the list.
 fn push_plain(
@@ -229,9 +229,9 @@ fn endings(
     graph: &Graph,
     path: Path,
     layers: &[Option<u32>],
-    falls: bool,
     mut selected: Vec<bool>,
 ) -> Result<Option<Made>, AllocError> {
+    let falls = matches!(path, Path::Every);
     close(graph, layers, onward_by(path, falls), &mut selected);
     let entered = Entered {
         selected: &selected,
@@ -252,6 +252,21 @@ fn endings(
     Made::new(question, graph, layers, marks, selected, parts)
 }
 
+/// The states of a fixed point and of what follows them, and those at which its arguments are needed.
+fn needed_along(
+    question: &Question,
+    graph: &Graph,
+    path: Path,
+    shape: Shape,
+    layers: &[Option<u32>],
+    mut selected: Vec<bool>,
+) -> Result<(Vec<bool>, Needed), AllocError> {
+    let onward = onward_by(path, has_falls(shape));
+    close(graph, layers, onward, &mut selected);
+    let needed = needed_of(question.alloc, shape, layers, &selected)?;
+    Ok((selected, needed))
+}
+
 /// The node that shows that the formula holds at these states, where it does; `None` where a part of it is too large.
 #[cycle(nodes)]
 pub(crate) fn made_of(
@@ -261,19 +276,10 @@ pub(crate) fn made_of(
     holding: &Holding,
     selected: Vec<bool>,
 ) -> Result<Option<Made>, AllocError> {
+    let layers: &[Option<u32>] = &holding.layers;
     match aim {
-        Aim::EachOf(parts) => {
-            let Some(list) = all_made(question, graph, parts, &holding.parts, &selected)? else {
-                return Ok(None);
-            };
-            each_of(question, graph, selected, list)
-        }
-        Aim::OneOf(parts) => {
-            let Some(list) = firsts_made(question, graph, parts, &holding.parts, &selected)? else {
-                return Ok(None);
-            };
-            one_of(question, graph, &holding.parts, selected, list)
-        }
+        Aim::EachOf(parts) => each_made(question, graph, parts, &holding.parts, selected),
+        Aim::OneOf(parts) => first_made(question, graph, parts, &holding.parts, selected),
         Aim::After(path, inner) => {
             let Some(part) = holding.parts.first() else {
                 return Ok(None);
@@ -289,17 +295,11 @@ pub(crate) fn made_of(
             let [first_part, second_part] = holding.parts.as_slice() else {
                 return Ok(None);
             };
-            let onward = onward_by(*path, has_falls(*shape));
-            let mut all = selected;
-            close(graph, &holding.layers, onward, &mut all);
-            let Needed {
-                first: at_first,
-                second: at_second,
-            } = needed_of(question.alloc, *shape, &holding.layers, &all)?;
-            let Some(first) = made_of(question, graph, first, first_part, at_first)? else {
+            let (all, needed) = needed_along(question, graph, *path, *shape, layers, selected)?;
+            let Some(first) = made_of(question, graph, first, first_part, needed.first)? else {
                 return Ok(None);
             };
-            let Some(second) = made_of(question, graph, second, second_part, at_second)? else {
+            let Some(second) = made_of(question, graph, second, second_part, needed.second)? else {
                 return Ok(None);
             };
             let fixed = Fixed {
@@ -308,57 +308,50 @@ pub(crate) fn made_of(
                 first,
                 second,
             };
-            fixed_node(question, graph, &holding.layers, all, fixed)
+            fixed_node(question, graph, layers, all, fixed)
         }
-        Aim::Ends => endings(
-            question,
-            graph,
-            Path::Every,
-            &holding.layers,
-            true,
-            selected,
-        ),
-        Aim::NeverEnds => endings(question, graph, Path::Any, &holding.layers, false, selected),
+        Aim::Ends => endings(question, graph, Path::Every, layers, selected),
+        Aim::NeverEnds => endings(question, graph, Path::Any, layers, selected),
         _ => plain(question, graph, aim, selected),
     }
 }
 
-/// The nodes of formulas all of which hold at these states.
+/// The node of formulas all of which hold at these states.
 #[cycle(nodes)]
-fn all_made(
+fn each_made(
     question: &Question,
     graph: &Graph,
     aims: &[Aim],
     holdings: &[Holding],
-    selected: &[bool],
-) -> Result<Option<Vec<Made>>, AllocError> {
+    selected: Vec<bool>,
+) -> Result<Option<Made>, AllocError> {
     let mut list = Vec::new(question.alloc);
     for (aim, holding) in aims.iter().zip(holdings) {
-        let flags = Vec::from_slice(question.alloc, selected)?;
+        let flags = Vec::from_slice(question.alloc, &selected)?;
         match made_of(question, graph, aim, holding, flags)? {
             None => return Ok(None),
             Some(made) => list.push(made)?,
         }
     }
-    Ok(Some(list))
+    each_of(question, graph, selected, list)
 }
 
-/// The nodes of formulas, each where it is the first that holds at these states.
+/// The node of formulas one of which holds at each of these states, which is shown by the first that does.
 #[cycle(nodes)]
-fn firsts_made(
+fn first_made(
     question: &Question,
     graph: &Graph,
     aims: &[Aim],
     holdings: &[Holding],
-    selected: &[bool],
-) -> Result<Option<Vec<Made>>, AllocError> {
+    selected: Vec<bool>,
+) -> Result<Option<Made>, AllocError> {
     let mut list = Vec::new(question.alloc);
     for (number, (aim, holding)) in aims.iter().zip(holdings).enumerate() {
-        let flags = first_at(question.alloc, holdings, number, selected)?;
+        let flags = first_at(question.alloc, holdings, number, &selected)?;
         match made_of(question, graph, aim, holding, flags)? {
             None => return Ok(None),
             Some(made) => list.push(made)?,
         }
     }
-    Ok(Some(list))
+    one_of(question, graph, holdings, selected, list)
 }
