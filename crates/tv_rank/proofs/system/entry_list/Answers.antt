@@ -1,4 +1,4 @@
-use Rattle.std.proofs.Common.{◌≤◌, ◌+◌, ◌*◌, length, length-take-le, map, take, arith, ap}
+use Rattle.std.proofs.Common.{◌+◌, ◌*◌, length, length-take-le, map, take, arith, ap}
 use Rattle.std.proofs.lemmas.List.{length-map}
 use Rattle.tv_simplex.proofs.ScaleLemmas.{scaled_up}
 use Rattle.tv_rank.specs.Questions.{ways_of}
