@@ -137,34 +137,37 @@ fn systems_are_settled(rt: HostRuntime) -> Result<(), Fail> {
     Ok(())
 }
 
-/// The rows `0 .. 0 2` and `3 0 .. 0` with so many zeros.
-fn corners(rt: &impl Abort, alloc: Global, zeros: u32) -> Result<Entries, AllocError> {
+/// The rows `0 0 0 0 2` and `3 0 0 0 0`.
+fn corners(rt: &impl Abort, alloc: Global) -> Result<Entries, AllocError> {
     let mut entries = Entries::new(alloc);
-    put_zeros(rt, &mut entries, zeros);
+    put_zeros(rt, &mut entries, 4);
     put(rt, &mut entries, 2)?;
     put(rt, &mut entries, 3)?;
-    put_zeros(rt, &mut entries, zeros);
+    put_zeros(rt, &mut entries, 4);
     Ok(entries)
+}
+
+/// The equations of these rows with the right sides 4 and 9.
+fn corner_system(rt: &impl Abort, alloc: Global) -> Result<System, AllocError>
+    ensures { IfOk result (λ s. IsWhole (equations s)) }
+{
+    let right = Vec::from_slice(alloc, &[4, 9])?;
+    let entries = corners(rt, alloc)?;
+    assert!(rt; right.len() == 2);
+    assert!(rt; entries.len() == 10);
+    Ok(System {
+        rows: 2,
+        columns: 5,
+        entries,
+        right,
+    })
 }
 
 #[test]
 fn runs_of_zeros_are_read(rt: HostRuntime) -> Result<(), Fail> {
-    let entries = corners(&rt, rt.alloc(), 999)?;
-    assert!(rt; entries.len() == 2_000);
-    let system = System {
-        rows: 2,
-        columns: 1_000,
-        entries,
-        right: Vec::from_slice(rt.alloc(), &[4, 9])?,
-    };
-    match solve(rt.alloc(), &system, 9) {
-        Ok(Answer::Solution { values, scale }) => {
-            assert!(rt; scale == 1);
-            assert!(rt; values.first() == Some(&3));
-            assert!(rt; values.last() == Some(&2));
-        }
-        _ => assert!(rt; false),
-    }
+    let system = corner_system(&rt, rt.alloc())?;
+    let found = solve(rt.alloc(), &system, 9);
+    assert!(rt; is_answered(&Wanted::Solution(&[3, 0, 0, 0, 2], 1), &found));
     Ok(())
 }
 
