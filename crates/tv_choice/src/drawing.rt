@@ -7,7 +7,7 @@ ghost use Rattle.tv_choice.specs.ChoicePaths.{GivesAlone, IsTermAt, AreTermsAt};
 ghost use Rattle.tv_choice.specs.Targets.{front, term_of, one_term, terms_given, draw_choices};
 
 use std::alloc::{AllocError, Global};
-use tv_linear::sums::{Listed, dot_from};
+use tv_linear::sums::{Slice, dot_from};
 use tv_linear::{Row, held, push_item};
 
 /// The row without its columns from `columns` on.
@@ -93,7 +93,7 @@ fn is_tight(row: &Row, values: &[i128]) -> bool
     requires { length values.now ≡ width row.now }
     ensures { IsTrue result → value row.now values.now ≡ pos 0 }
 {
-    match dot_from(0, row.coefficients(), &Listed(values)) {
+    match dot_from(0, row.coefficients(), &Slice(values)) {
         None => false,
         Some(total) => match held::sum(total, row.constant()) {
             None => false,

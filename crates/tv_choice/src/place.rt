@@ -3,7 +3,7 @@
 ghost use Rattle.std.specs.Prelude.{◌≡◌, length, pos, ◌≤ℤ◌, IfSome, IsTrue};
 ghost use Rattle.tv_linear.specs.Linear.{columns as width, scaled_value};
 
-use tv_linear::sums::{Listed, dot_from};
+use tv_linear::sums::{Slice, dot_from};
 use tv_linear::{Row, held};
 
 /// Rows, and a point over a scale that meets them.
@@ -19,7 +19,7 @@ fn value_at(row: &Row, place: &Place) -> Option<i128>
     requires { length place.now.values.now ≡ width row.now }
     ensures { IfSome result (λ v. v ≡ scaled_value row.now place.now.values.now place.now.scale) }
 {
-    match dot_from(0, row.coefficients(), &Listed(place.values)) {
+    match dot_from(0, row.coefficients(), &Slice(place.values)) {
         None => None,
         Some(total) => match held::product(row.constant(), place.scale) {
             None => None,

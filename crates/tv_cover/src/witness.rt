@@ -7,7 +7,7 @@ ghost use Rattle.tv_cover.specs.Targets.{HasPoint};
 ghost use Rattle.tv_cover.specs.Looking.{AreWitnesses};
 
 use tv_farkas::is_among;
-use tv_linear::sums::{Listed, dot_from};
+use tv_linear::sums::{Slice, dot_from};
 use tv_linear::{Row, held};
 
 /// The numbers of a point over its scale.
@@ -22,7 +22,7 @@ fn value_at(row: &Row, point: &Witness) -> Option<i128>
     requires { length point.now.values.items ≡ width row.now }
     ensures { IfSome result (λ v. v ≡ scaled_value row.now point.now.values.items point.now.scale) }
 {
-    match dot_from(0, row.coefficients(), &Listed(&point.values)) {
+    match dot_from(0, row.coefficients(), &Slice(&point.values)) {
         None => None,
         Some(total) => match held::product(row.constant(), point.scale) {
             None => None,

@@ -14,7 +14,7 @@ use rand_core::Rng;
 use rand_pcg::Pcg32;
 use std::alloc::{AllocError, Global};
 use tv_cases::{Case, Cases, Update};
-use tv_linear::sums::{Listed, dot_from};
+use tv_linear::sums::{Slice, dot_from};
 use tv_linear::{Row, RowView, push_item};
 use tv_refute::meets;
 
@@ -68,7 +68,7 @@ fn value_of(row: &Row, point: &[i128]) -> Option<i128>
     requires { length point.now ≡ width row.now }
     ensures { IfSome result (λ number. number ≡ value row.now point.now) }
 {
-    match dot_from(0, row.coefficients(), &Listed(point)) {
+    match dot_from(0, row.coefficients(), &Slice(point)) {
         None => None,
         Some(total) => tv_linear::held::sum(total, row.constant()),
     }

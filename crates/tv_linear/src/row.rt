@@ -9,7 +9,7 @@ use crate::fault::RowFault;
 use crate::held;
 use crate::lists::{all_opposite, all_zero, one_at, shortened};
 use crate::narrow::{are_narrow, is_narrow, opposite, short};
-use crate::sums::{Listed, dot_from};
+use crate::sums::{Slice, dot_from};
 use crate::tight::{all_rounded_up, common_divisor, rounded_up};
 use std::alloc::{AllocError, Global};
 use std::marker::Model;
@@ -105,9 +105,10 @@ impl Row {
         requires narrow { IsWithin 62 number }
         ensures { IfOk result (λ row. row ≡ constant_row columns number) }
     {
-        let zero = Row::zero(alloc, columns)?;
-        let row = zero.with_constant(alloc, number)?;
-        Ok(row)
+        Ok(Row {
+            coefficients: all_zero(alloc, columns)?,
+            constant: short(number),
+        })
     }
 
     /// The row of zeros.
@@ -215,7 +216,7 @@ impl Row {
         ensures held { IsSome result ↔ ValueHeld self.now values.now }
         ensures met { IfSome result (λ met. IsTrue met ↔ IsMet values.now self.now) }
     {
-        match dot_from(0, &self.coefficients, &Listed(values)) {
+        match dot_from(0, &self.coefficients, &Slice(values)) {
             None => None,
             Some(total) => match held::sum(total, i128::from(self.constant)) {
                 None => None,

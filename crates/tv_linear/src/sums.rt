@@ -17,9 +17,9 @@ pub trait Numbers {
 
 /// The numbers of a slice.
 #[derive(Drop)]
-pub struct Listed<'a>(pub &'a [i128]);
+pub struct Slice<'a>(pub &'a [i128]);
 
-impl Numbers for Listed<'_> {
+impl Numbers for Slice<'_> {
     ghost numbers = { λ l. l.0.now };
 
     fn number(&self, i: usize) -> i128 {

@@ -48,9 +48,9 @@ pub(crate) fn add_each<A: Addend>(
 
 /// The numbers of a row.
 #[derive(Drop)]
-pub(crate) struct Listed<'a>(pub(crate) &'a [i64]);
+pub(crate) struct RowNumbers<'a>(pub(crate) &'a [i64]);
 
-impl Addend for Listed<'_> {
+impl Addend for RowNumbers<'_> {
     ghost told = { λ l k. Unit {0} };
 
     ghost number = { λ l k. get_or l.0.now k (pos 0) };

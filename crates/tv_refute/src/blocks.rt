@@ -6,7 +6,7 @@ ghost use Rattle.tv_refute.specs.Blocks.{further, AreTold, IsAddedHeld, AreHeld,
 ghost use Rattle.tv_refute.specs.Terms.{terms_of};
 ghost use Rattle.tv_linear.specs.Views.{row_seen};
 
-use crate::addends::{Listed, Same, add_each};
+use crate::addends::{RowNumbers, Same, add_each};
 use crate::steps::{Put, PutSame, at, change_each};
 use crate::terms::{Terms, row_put, term_count};
 use tv_linear::RowView;
@@ -58,7 +58,12 @@ pub(crate) fn add_row(
 {
     match column {
         None => add_each(totals, count, factor, &Same(row.constant())),
-        Some(j) => add_each(totals, count, factor, &Listed(tail(row.coefficients(), j))),
+        Some(j) => add_each(
+            totals,
+            count,
+            factor,
+            &RowNumbers(tail(row.coefficients(), j)),
+        ),
     }
 }
 

@@ -9,7 +9,7 @@ ghost use Rattle.tv_region.specs.Inclusion.{IsShown, LiesInside, LiesInSome};
 use crate::limits::Limits;
 use std::alloc::{AllocError, Global};
 use tv_farkas::{Refuted, refute};
-use tv_linear::sums::{Listed, dot_from};
+use tv_linear::sums::{Slice, dot_from};
 use tv_linear::{Row, RowFault, copies, have_columns, held};
 use tv_simplex::SolveFault;
 
@@ -25,7 +25,7 @@ fn value_at(row: &Row, point: &Point) -> Option<i128>
     requires { length point.now.values.items ≡ width row.now }
     ensures { IfSome result (λ v. v ≡ scaled_value row.now point.now.values.items point.now.scale) }
 {
-    match dot_from(0, row.coefficients(), &Listed(&point.values)) {
+    match dot_from(0, row.coefficients(), &Slice(&point.values)) {
         None => None,
         Some(total) => match held::product(row.constant(), point.scale) {
             None => None,
