@@ -6,7 +6,7 @@ use Rattle.tv_formula.specs.declared.tree.Path.TheVariants.{Every}
 use Rattle.tv_linear.specs.declared.region.Piece.{Piece}
 use Rattle.tv_linear.specs.declared.region.Region.{Region}
 use Rattle.tv_cases.specs.LinearCases.{CaseSystem}
-use Rattle.tv_cases.proofs.Listed.{Contains-here}
+use Rattle.tv_cases.proofs.ContainsLemmas.{Contains-here}
 use Rattle.tv_region.specs.Algebra.{IsBoth}
 use Rattle.tv_region.specs.Regions.{IsRegion}
 use Rattle.tv_region.specs.StepRegions.{InState, IsBeforeAll}

@@ -79,7 +79,7 @@ pub(crate) fn says_of(
     says(alloc, words, joined(alloc, texts)?, written, status)
 }
 
-/// Whether a run writes what it is to write, and ends so. Where memory is wanting, it is not.
+/// Whether a run writes what it is to write, and ends so. Where memory runs out, it is not.
 fn is_said(alloc: Global, asked: &Asked) -> bool {
     let (words, texts, written, status) = asked;
     says_of(alloc, words, texts, written, *status) == Ok(true)

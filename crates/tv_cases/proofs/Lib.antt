@@ -1,4 +1,4 @@
-pub mod Listed
+pub mod ContainsLemmas
 pub mod NarrowRows
 pub mod RowValues
 pub mod ProductLemmas

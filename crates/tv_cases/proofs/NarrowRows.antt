@@ -14,7 +14,7 @@ use Rattle.tv_cases.specs.declared.fault.PartFault.{PartFault}
 use Rattle.tv_cases.specs.Given.{IsMade, Gives}
 use Rattle.tv_linear.proofs.Entries.{entry-last}
 use Rattle.tv_cases.specs.Forms.{is_narrow_number, is_narrow}
-use Rattle.tv_cases.proofs.Listed.{All-from_test, test_from-All}
+use Rattle.tv_cases.proofs.ContainsLemmas.{All-from_test, test_from-All}
 use Rattle.tv_cases.proofs.ProductLemmas.{zeros-narrow}
 use Rattle.std.proofs.lemmas.Bool.{and_parts, false_from_ne_true}
 

@@ -20,7 +20,7 @@ use Rattle.tv_cases.proofs.FormValues.{values}
 use Rattle.tv_cases.proofs.ListsMet.{is_met, all_met, some_met}
 use Rattle.tv_cases.proofs.Executed.{after-gives, values-beginning, after-kept}
 use Rattle.tv_cases.proofs.Updated.{updates-give}
-use Rattle.tv_cases.proofs.Listed.{Contains-here, Contains-later, Contains-cases, Contains-none, Contains-map, Contains-from_map, some_passes, some_passes-back, All-from_test, test_from-All}
+use Rattle.tv_cases.proofs.ContainsLemmas.{Contains-here, Contains-later, Contains-cases, Contains-none, Contains-map, Contains-from_map, some_passes, some_passes-back, All-from_test, test_from-All}
 
 pub zero_row : Linear
 zero_row = linear [] (pos 0)

@@ -16,13 +16,13 @@ use Rattle.tv_cases.specs.Systems.{cases_of}
 use Rattle.tv_cases.specs.EdgeCases.{edge_cases, edge_is_narrow}
 use Rattle.tv_cases.specs.ProgramCases.{LinearFault, wide, too_many, are_few, cases_from, linear_cases}
 
--- the fault is that of the definition, or memory is wanting
+-- the fault is that of the definition, or memory runs out
 abbrev pub IsFaultIn : Result (List LinearCase) LinearFault → CaseFault → Type 0
 IsFaultIn meant (Wide edge) = meant ≡ Err (wide edge)
 IsFaultIn meant (TooMany edge) = meant ≡ Err (too_many edge)
 IsFaultIn meant Memory = Unit {0}
 
--- the answer is the linear cases of the program or their fault, or memory is wanting
+-- the answer is the linear cases of the program or their fault, or memory runs out
 abbrev pub Answers : System → Result Cases CaseFault → Type 0
 Answers p answer = MatchResult answer (λ c. linear_cases p ≡ Ok (cases_of c).cases) (IsFaultIn (linear_cases p))
 

@@ -7,7 +7,7 @@ use Rattle.tv_cert.specs.declared.node.Node.{outs-Node'}
 use Rattle.tv_cert.specs.Obligations.{About, Entry, paired}
 use Rattle.tv_cert.specs.Nodes.{parts, size, node_owes, node_entries, children_entries, own_entries, HasParts, HaveParts}
 use Rattle.tv_cert.specs.Fits.{NodeFits, KidsFit}
-use Rattle.tv_cert.specs.Listed.{pieces_list}
+use Rattle.tv_cert.specs.NodeViews.{pieces_list}
 use Rattle.tv_cert.specs.Statements.{Statement, Statements, no_statement, statement, parts_of, stated, stated_all}
 use Rattle.tv_cert.proofs.NodeLemmas.{kids_of, proofs_list, out_is, kid_pieces_are}
 use Rattle.tv_cert.proofs.StatedLemmas.{parts-stated}

@@ -4,7 +4,7 @@ use Rattle.tv_cert.specs.declared.node.Node.{Node, Node', Row_of-Node, end_of-No
 use Rattle.tv_cert.specs.declared.node.Node.{outs-Node', items_shown-the_row-Node-0}
 use Rattle.tv_cert.specs.Obligations.{Obligation, paired}
 use Rattle.tv_cert.specs.Nodes.{pieces_of, kid_pieces, size, sizes}
-use Rattle.tv_cert.specs.Listed.{pieces_list}
+use Rattle.tv_cert.specs.NodeViews.{pieces_list}
 
 -- ---- children as a list
 

@@ -14,7 +14,7 @@ use Rattle.tv_cert.specs.declared.node.Marked.{Marked}
 use Rattle.tv_cert.specs.Pieces.{place_of, goes}
 use Rattle.tv_cert.specs.Targets.{no_fall}
 use Rattle.tv_cert.specs.Obligations.{About, step_of, steps_of, step_fall, cover_of, go_of, fix_of, first_of, second_of, end_sides}
-use Rattle.tv_cert.specs.Plain.{about_of}
+use Rattle.tv_cert.specs.AboutSystem.{about_of}
 use Rattle.tv_cert.specs.Nodes.{piece_owes, node_owes}
 use Rattle.tv_cert.specs.Statements.{Statement, rows, here, elsewhere, ends, never_ends, each_of, one_of, after, along, unsaid}
 

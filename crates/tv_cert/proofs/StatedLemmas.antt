@@ -6,7 +6,7 @@ use Rattle.tv_cert.specs.declared.node.Marked.{Marked}
 use Rattle.tv_cert.specs.declared.node.Verdict.{Verdict}
 use Rattle.tv_cert.specs.declared.node.Verdict.TheVariants.{Proved, Disproved}
 use Rattle.tv_cert.specs.Claims.{about_with}
-use Rattle.tv_cert.specs.Plain.{about_of}
+use Rattle.tv_cert.specs.AboutSystem.{about_of}
 use Rattle.tv_cert.specs.declared.node.Node.{Node'}
 use Rattle.tv_cert.specs.Obligations.{About, paired}
 use Rattle.tv_cert.specs.Nodes.{parts, kid_pieces, entries, kid_entries, own_of, children_entries, root_entry}

@@ -7,13 +7,13 @@ pub mod Obligations
 pub mod FirstFailing
 pub mod Nodes
 pub mod Fits
-pub mod Plain
-pub mod Listed
+pub mod AboutSystem
+pub mod NodeViews
 pub mod Indexed
 pub mod Shapes
 pub mod Statements
 pub mod StatementSets
 pub mod AimViews
-pub mod Owing
+pub mod OwesViews
 pub mod Visits
 pub mod Claims

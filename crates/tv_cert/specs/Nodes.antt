@@ -14,7 +14,7 @@ use Rattle.tv_cert.specs.declared.node.Verdict.TheVariants.{Proved, Disproved}
 use Rattle.tv_cert.specs.Pieces.{place_of, goes, rows_of, pieces_at}
 use Rattle.tv_cert.specs.Targets.{owed_into, no_fall}
 use Rattle.tv_cert.specs.Obligations.{About, Obligation, Entry, a_cover, a_point, atom_of, cover_of, steps_of, choice_of, choice_into, step_fall, truth_targets, fix_of, first_of, second_of, paired}
-use Rattle.tv_cert.specs.Plain.{about_of}
+use Rattle.tv_cert.specs.AboutSystem.{about_of}
 use Rattle.tv_cert.specs.Statements.{Statement, rows, here, elsewhere, ends, never_ends, each_of, one_of, after, along, unsaid, Statements, no_statement, statement, parts_of, stated, stated_all}
 
 -- the pieces of a node and of its children

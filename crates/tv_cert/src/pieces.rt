@@ -2,7 +2,7 @@ ghost use Rattle.std.specs.Prelude.{◌≡◌, [], IfOk, MatchOption, None, Some
 ghost use Rattle.std.specs.List.{flat_map};
 ghost use Rattle.tv_cert.specs.Pieces.{place_of, pieces_at};
 ghost use Rattle.tv_cert.specs.Indexed.{IsIndexed};
-ghost use Rattle.tv_cert.specs.Listed.{pieces_list};
+ghost use Rattle.tv_cert.specs.NodeViews.{pieces_list};
 
 use crate::node::{Marked, Node};
 use std::alloc::{AllocError, Global};

@@ -5,11 +5,11 @@ ghost use Rattle.tv_cases.specs.Systems.{cases_of};
 ghost use Rattle.tv_cert.specs.Pieces.{place_of, goes};
 ghost use Rattle.tv_cert.specs.Targets.{owed_nothing, no_fall};
 ghost use Rattle.tv_cert.specs.Obligations.{atom_of, steps_of, cover_of, choice_of, choice_into, truth_targets, hold_side, end_sides, go_of, fix_of, step_fall, first_of, second_of};
-ghost use Rattle.tv_cert.specs.Plain.{about_of};
-ghost use Rattle.tv_cert.specs.Listed.{pieces_list};
+ghost use Rattle.tv_cert.specs.AboutSystem.{about_of};
+ghost use Rattle.tv_cert.specs.NodeViews.{pieces_list};
 ghost use Rattle.tv_cert.specs.AimViews.{aim_states};
 ghost use Rattle.tv_cert.specs.Nodes.{piece_owes, node_owes};
-ghost use Rattle.tv_cert.specs.Owing.{OwedIn, case_falls, destination_owes, obligation_by};
+ghost use Rattle.tv_cert.specs.OwesViews.{OwedIn, case_falls, destination_owes, obligation_by};
 ghost use Rattle.tv_cert.specs.Visits.{Visits};
 
 use crate::aim::Aim;

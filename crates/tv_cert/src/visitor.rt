@@ -3,7 +3,7 @@ ghost use Rattle.std.specs.Bool.{OnTrue, OnFalse};
 ghost use Rattle.tv_cases.specs.LinearCases.{CaseSystem};
 ghost use Rattle.tv_cases.specs.Systems.{cases_of};
 ghost use Rattle.tv_cert.specs.Obligations.{Obligation};
-ghost use Rattle.tv_cert.specs.Owing.{OwedIn, obligation_by};
+ghost use Rattle.tv_cert.specs.OwesViews.{OwedIn, obligation_by};
 
 use crate::node::Kind;
 use crate::owes::Owes;

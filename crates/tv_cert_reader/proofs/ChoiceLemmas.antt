@@ -20,7 +20,7 @@ use Rattle.tv_cert.specs.declared.node.Marked.{Marked}
 use Rattle.tv_cert.specs.declared.owes.Destination.{Destination}
 use Rattle.tv_cert.specs.declared.owes.Destination.TheVariants.{Anywhere, Into}
 use Rattle.tv_cert.specs.Choices.{drawn_change}
-use Rattle.tv_cert.specs.Owing.{destination_owes, falls_where}
+use Rattle.tv_cert.specs.OwesViews.{destination_owes, falls_where}
 use Rattle.tv_cert.specs.Pieces.{place_of, ranks_of}
 use Rattle.tv_cert.specs.Shapes.{ChoiceShape, ListsShape, NoStepShape, TakeShape, owed_count}
 use Rattle.tv_cert.specs.Targets.{owed_into}

@@ -11,7 +11,7 @@ use Rattle.tv_linear.specs.Known.{Known, given, as_given}
 use Rattle.tv_linear.specs.declared.row.Row.{Row}
 use Rattle.tv_linear.specs.Falls.{fall_rows}
 use Rattle.tv_cert.specs.declared.node.Marked.{Marked}
-use Rattle.tv_cert.specs.Listed.{pieces_list}
+use Rattle.tv_cert.specs.NodeViews.{pieces_list}
 use Rattle.tv_cert.specs.Obligations.{truth_targets}
 use Rattle.tv_cert.specs.Pieces.{place_of, rows_of, ranks_of, goes, pieces_at}
 use Rattle.tv_cert.specs.Targets.{target_rows, owed_into, owed_lists, no_fall, fall_from}

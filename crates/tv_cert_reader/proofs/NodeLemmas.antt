@@ -12,7 +12,7 @@ use Rattle.tv_cert.specs.declared.node.Marked.{Marked}
 use Rattle.tv_cert.specs.declared.node.Proof.{Proof}
 use Rattle.tv_cert.specs.declared.node.Node.{Node, Node', Row_of-Node, end_of-Node, more_of-Node, items-the_row-Node, out-Node, outs-Node'}
 use Rattle.tv_cert.specs.declared.node.Node.TheViews.{out-roll-Node}
-use Rattle.tv_cert.specs.Listed.{pieces_list}
+use Rattle.tv_cert.specs.NodeViews.{pieces_list}
 use Rattle.tv_cert.specs.Nodes.{pieces_of, node_owes}
 use Rattle.tv_cert.specs.Shapes.{OwnShape, IsSaid, may_be_done, may_rank, NodeShape, KidsShape}
 use Rattle.tv_cert.specs.Statements.{Statement, rows, here, elsewhere, ends, never_ends, each_of, one_of, after, along, unsaid, Statements, no_statement, statement, parts_of, part_at, count}

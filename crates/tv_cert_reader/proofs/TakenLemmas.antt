@@ -7,7 +7,7 @@ use Rattle.tv_cases.specs.LinearCases.{LinearCase, CaseSystem}
 use Rattle.tv_cases.specs.Views.{case_view, case_views}
 use Rattle.tv_cert.specs.declared.node.Marked.{Marked}
 use Rattle.tv_cert.specs.declared.owes.Destination.{Destination}
-use Rattle.tv_cert.specs.Owing.{destination_owes}
+use Rattle.tv_cert.specs.OwesViews.{destination_owes}
 use Rattle.tv_cert.specs.Pieces.{place_of}
 use Rattle.tv_cert.specs.Shapes.{owed_count}
 use Rattle.tv_shape.specs.Counts.{AreFewAt}

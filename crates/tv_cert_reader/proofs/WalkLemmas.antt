@@ -16,7 +16,7 @@ use Rattle.tv_cert.specs.declared.node.Node.{Node}
 use Rattle.tv_cert.specs.declared.node.Node.TheViews.{out-roll-Node}
 use Rattle.tv_cert.specs.declared.node.Proof.{Proof}
 use Rattle.tv_cert.specs.declared.node.Proof.TheVariants.{Covered, Chosen}
-use Rattle.tv_cert.specs.Listed.{pieces_list}
+use Rattle.tv_cert.specs.NodeViews.{pieces_list}
 use Rattle.tv_cert.specs.Nodes.{size, node_owes, node_entries}
 use Rattle.tv_cert.specs.Obligations.{Entry, Obligation, paired}
 use Rattle.tv_cert.specs.Statements.{Statement, Statements, no_statement, statement, parts_of, part_at, count}

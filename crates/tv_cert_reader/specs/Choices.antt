@@ -11,7 +11,7 @@ use Rattle.tv_linear.specs.Covers.{no_target}
 use Rattle.tv_cases.specs.LinearCases.{LinearCase, CaseSystem}
 use Rattle.tv_cert.specs.declared.node.Marked.{Marked}
 use Rattle.tv_cert.specs.declared.owes.Destination.{Destination}
-use Rattle.tv_cert.specs.Owing.{destination_owes}
+use Rattle.tv_cert.specs.OwesViews.{destination_owes}
 use Rattle.tv_cert.specs.Pieces.{place_of}
 use Rattle.tv_cert.specs.Shapes.{ChoiceShape, owed_count}
 use Rattle.tv_cert_reader.specs.CertificateLines.{choice_lines, cover_lines}

@@ -6,7 +6,7 @@ use Rattle.tv_grammar.specs.Langs.{each}
 use Rattle.tv_cases.specs.LinearCases.{CaseSystem}
 use Rattle.tv_cert.specs.declared.node.Node.{Node}
 use Rattle.tv_cert.specs.declared.node.Proof.{Proof}
-use Rattle.tv_cert.specs.Listed.{pieces_list}
+use Rattle.tv_cert.specs.NodeViews.{pieces_list}
 use Rattle.tv_cert.specs.Nodes.{size, node_entries}
 use Rattle.tv_cert.specs.Obligations.{Obligation, Entry, paired}
 use Rattle.tv_cert.specs.Shapes.{ProofShape, NodeShape}

@@ -25,7 +25,7 @@ use tv_shape::Targets;
 
 /// What choices are read with: the piece at which they are made, where they lead, and whether they may show that there is no step.
 #[derive(Clone, Copy)]
-pub struct Choosing<'a> {
+pub struct ChoiceRead<'a> {
     pub piece: &'a Marked,
     pub stop: bool,
     pub destination: &'a Destination<'a>,
@@ -132,7 +132,7 @@ impl Context<'_> {
         &self,
         cursor: &mut Cursor,
         left: u32,
-        choosing: &Choosing,
+        choosing: &ChoiceRead,
         known: u128,
     ) -> Result<ChoiceTree, Failure>
         requires few { AreFewAt choosing.now.piece.now choosing.now.destination.now }

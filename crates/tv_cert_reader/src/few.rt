@@ -1,6 +1,6 @@
 ghost use Rattle.std.specs.Prelude.{◌↔◌, ◌≤◌, ◌<◌, ◌^◌, IsTrue, length, map};
 ghost use Rattle.std.specs.List.{flat_map};
-ghost use Rattle.tv_cert.specs.Listed.{pieces_list};
+ghost use Rattle.tv_cert.specs.NodeViews.{pieces_list};
 ghost use Rattle.tv_shape.specs.Counts.{AreFew, AreFewAt, ranks_past};
 
 use tv_cert::{Destination, Marked, Node};

@@ -2,13 +2,13 @@ ghost use Rattle.std.specs.Prelude.{◌≡◌, ◌^◌, ◌-◌, ◌<◌, ◌≤
 ghost use Rattle.tv_linear.specs.Known.{Known};
 ghost use Rattle.tv_cases.specs.Systems.{cases_of};
 ghost use Rattle.tv_cert.specs.Obligations.{a_cover};
-ghost use Rattle.tv_cert.specs.Owing.{OwedIn, owed_by};
+ghost use Rattle.tv_cert.specs.OwesViews.{OwedIn, owed_by};
 ghost use Rattle.tv_cert.specs.Shapes.{owed_count};
 ghost use Rattle.tv_cert.specs.declared.owes.Owes.TheVariants as owing;
 ghost use Rattle.tv_shape.specs.Counts.{counts_of};
 ghost use Rattle.tv_cert_reader.specs.Proofs.{ReadsProof};
 
-use crate::choices::Choosing;
+use crate::choices::ChoiceRead;
 use crate::context::Context;
 use crate::cursor::Cursor;
 use crate::failure::Failure;
@@ -78,7 +78,7 @@ impl Context<'_> {
             return Err(Failure::Memory);
         }
         let known = piece.rows().len() as u128;
-        let choosing = Choosing {
+        let choosing = ChoiceRead {
             piece,
             stop,
             destination,

@@ -83,7 +83,7 @@ pub fn read_certificate(
     requires variables { claim_variables claim.now ≡ (cases_of about.now).variables }
     // What is read is the certificate of the text.
     ensures found { IfOk result (λ c. IsCertificateText (cases_of about.now) claim.now text.now c) }
-    // Else the text is one of no certificate, and the first line at fault is told, unless memory is wanting.
+    // Else the text is one of no certificate, and the first line at fault is told, unless memory runs out.
     ensures refused { IfErr result (λ fault. IsRefusedText (cases_of about.now) claim.now text.now fault) }
 {
     let context = Context { alloc, about };

@@ -1,7 +1,7 @@
 ghost use Rattle.std.specs.Prelude.{◌≡◌, ◌+◌, ◌≤◌, ◌<◌, ℕ, Bool};
 ghost use Rattle.tv_cases.specs.Systems.{cases_of};
 ghost use Rattle.tv_cert.specs.Obligations.{Entry};
-ghost use Rattle.tv_cert.specs.Owing.{OwedIn, obligation_by};
+ghost use Rattle.tv_cert.specs.OwesViews.{OwedIn, obligation_by};
 ghost use Rattle.tv_cert_reader.specs.Visits.{TakesProof};
 
 use crate::context::Context;

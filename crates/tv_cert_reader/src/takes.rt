@@ -6,7 +6,7 @@ ghost use Rattle.tv_cert_reader.specs.declared.cursor.Cursor.{Cursor};
 ghost use Rattle.tv_cert_reader.specs.Covers.{IsBehind};
 ghost use Rattle.tv_cert_reader.specs.Choices.{IsTaken, NamesNoCase, ReadsChoice};
 
-use crate::choices::Choosing;
+use crate::choices::ChoiceRead;
 use crate::context::Context;
 use crate::covers::small;
 use crate::cursor::Cursor;
@@ -86,7 +86,7 @@ impl Context<'_> {
         &self,
         cursor: &mut Cursor,
         numbers: &[i64],
-        choosing: &Choosing,
+        choosing: &ChoiceRead,
         known: u128,
     ) -> Result<ChoiceTree, Failure>
         requires few { AreFewAt choosing.now.piece.now choosing.now.destination.now }

@@ -1,9 +1,9 @@
 ghost use Rattle.std.specs.Prelude.{◌≡◌, ◌+◌, ◌≤◌, ◌<◌, ◌^◌, true, IfOk, length, map};
 ghost use Rattle.tv_cases.specs.Systems.{cases_of};
 ghost use Rattle.tv_cert.specs.AimViews.{aim_states};
-ghost use Rattle.tv_cert.specs.Listed.{pieces_list};
+ghost use Rattle.tv_cert.specs.NodeViews.{pieces_list};
 ghost use Rattle.tv_cert.specs.Nodes.{node_owes};
-ghost use Rattle.tv_cert.specs.Owing.{OwedIn, obligation_by};
+ghost use Rattle.tv_cert.specs.OwesViews.{OwedIn, obligation_by};
 ghost use Rattle.tv_cert_reader.specs.Nodes.{node_of};
 ghost use Rattle.tv_cert_reader.specs.Visits.{IsStopped};
 ghost use Rattle.tv_cert_reader.specs.Walks.{HasRoom, IsPassed, PassesProof, TakesOwn, Walks};
@@ -76,7 +76,7 @@ impl<T: Taker> Walk<'_, T> {
     }
 
     /// Hands on the proofs of the node with this number, told its pieces and its children. Those that are kept come back.
-    fn own(
+    fn own_proofs(
         &mut self,
         about: &Cases,
         number: u32,
@@ -148,7 +148,7 @@ impl<T: Taker> Walk<'_, T> {
             let child = self.node(about, part(aim, i))?;
             children.push(child)?;
         }
-        let proofs = self.own(about, number, aim, &pieces, &children)?;
+        let proofs = self.own_proofs(about, number, aim, &pieces, &children)?;
         Ok(self.kept(pieces, ranks, children, proofs))
     }
 }

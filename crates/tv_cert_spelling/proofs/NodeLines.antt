@@ -7,7 +7,7 @@ use Rattle.tv_lines.specs.Lines.{PlainLine, formed}
 use Rattle.tv_lines.specs.declared.head.Head.TheVariants as heads
 use Rattle.tv_lines.specs.declared.head.NodeKind.{NodeKind}
 use Rattle.tv_cert.specs.declared.node.Node.{Node, Node', Row_of-Node, end_of-Node, more_of-Node, items-the_row-Node, out-Node, outs-Node'}
-use Rattle.tv_cert.specs.Listed.{pieces_list}
+use Rattle.tv_cert.specs.NodeViews.{pieces_list}
 use Rattle.tv_cert.specs.Nodes.{size}
 use Rattle.tv_cert.proofs.NodeLemmas.{kids_of, sizes_list, proofs_list, out_is}
 use Rattle.tv_cert_reader.specs.CertificateLines.{piece_lines, proof_lines}

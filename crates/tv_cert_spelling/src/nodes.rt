@@ -1,6 +1,6 @@
 ghost use Rattle.std.specs.Prelude.{◌≡◌, ◌≤◌, ◌++◌, ◌∷◌, [], pos, length, drop, IfOk};
 ghost use Rattle.tv_lines.specs.Lines.{formed};
-ghost use Rattle.tv_cert.specs.Listed.{pieces_list};
+ghost use Rattle.tv_cert.specs.NodeViews.{pieces_list};
 ghost use Rattle.tv_cert.specs.Nodes.{size};
 ghost use Rattle.tv_cert_spelling.specs.Spelling.{spelled, all_spelled, first_kind, lines_with};
 

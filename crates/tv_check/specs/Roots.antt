@@ -10,7 +10,7 @@ use Rattle.tv_cert.specs.declared.node.Verdict.TheVariants.{Proved, Disproved}
 use Rattle.tv_cert.specs.Pieces.{rows_of}
 use Rattle.tv_cert.specs.Obligations.{IsMetEntry}
 use Rattle.tv_cert.specs.Nodes.{pieces_of, root_entry}
-use Rattle.tv_cert.specs.Plain.{about_of}
+use Rattle.tv_cert.specs.AboutSystem.{about_of}
 use Rattle.tv_cert.specs.declared.failing.Failing.{Failing}
 
 -- the rows of the pieces are over n variables

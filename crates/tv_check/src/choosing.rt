@@ -10,7 +10,7 @@ ghost use Rattle.tv_cases.specs.Views.{case_view};
 ghost use Rattle.tv_cert.specs.Targets.{owed_into, owed_nothing};
 ghost use Rattle.tv_cert.specs.Choices.{NoStepMet, TakeMet, IsMetChoice, drawn_guards, drawn_change};
 ghost use Rattle.tv_cert.specs.Pieces.{place_of};
-ghost use Rattle.tv_cert.specs.Owing.{destination_owes};
+ghost use Rattle.tv_cert.specs.OwesViews.{destination_owes};
 ghost use Rattle.tv_check.specs.Owes.{falls_of};
 
 use crate::pieces::Entered;

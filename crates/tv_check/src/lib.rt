@@ -5,7 +5,7 @@ mod checking;
 mod choosing;
 mod entering;
 mod falls;
-mod judging;
+mod obligations;
 mod pieces;
 mod rank;
 mod ranks;

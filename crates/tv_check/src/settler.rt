@@ -2,7 +2,7 @@ ghost use Rattle.std.specs.Prelude.{◌≡◌, ◌+◌, ◌-◌, Some, drop};
 ghost use Rattle.tv_cert.specs.Obligations.{OwedMet};
 ghost use Rattle.tv_check.specs.Settling.{first_proof};
 
-use crate::judging::is_met;
+use crate::obligations::is_met;
 use tv_cases::Cases;
 use tv_cert::{Failing, Kind, Owes, Proof, Visitor};
 

@@ -18,7 +18,7 @@ use Rattle.tv_cases.specs.LinearCases.{LinearCase, CaseSystem, leaving}
 use Rattle.tv_cert.specs.declared.node.Marked.{Marked}
 use Rattle.tv_cert.specs.declared.owes.Destination.{Destination}
 use Rattle.tv_cert.specs.Choices.{TakeMet, drawn_guards}
-use Rattle.tv_cert.specs.Owing.{destination_owes}
+use Rattle.tv_cert.specs.OwesViews.{destination_owes}
 use Rattle.tv_cert.specs.Pieces.{place_of}
 use Rattle.tv_cert_reader.specs.CertificateLines.{row_lines}
 use Rattle.tv_cert_reader.specs.ChoiceGrammar.{choice, stop_cover}
@@ -35,7 +35,7 @@ use Rattle.tv_cert_reader.specs.Choices.{choosing_of, IsChoiceWithin, IsStop, Is
 use Rattle.tv_cert_reader.proofs.ChoiceLemmas.{choice_goes, owes_free, split_read, covers_fail, covers_read, shown_stop, take_read}
 use Rattle.tv_cert_reader.proofs.ReadingLemmas.{first_fails, second_fails}
 use Rattle.tv_cert_reader.proofs.SideLemmas.{sides_go}
-use Rattle.tv_check_text.specs.Judging.{choice_side, numbers_in, JudgedChoice, JudgedChoiceSides, JudgedLists, JudgedStops, JudgesChoice, JudgesChoiceSides, JudgesStops}
+use Rattle.tv_check_text.specs.Checking.{choice_side, numbers_in, CheckedChoice, CheckedChoiceSides, CheckedLists, CheckedStops, ChecksChoice, ChecksChoiceSides, ChecksStops}
 use Rattle.tv_cert_reader.proofs.WalkLemmas.{vector}
 use Rattle.tv_check_text.proofs.TreeLemmas.{room_at, few_taken, one_more}
 use Rattle.tv_check_text.proofs.StopLemmas.{zip_many}
@@ -52,7 +52,7 @@ module _ (system : CaseSystem) (p : Marked) (stop : Bool) (destination : Destina
     pub inside_fails : (f : Failure) → FailsChoice (known ++ given row ∷ []) left old f → FailsBy (both side side) old f
     inside_fails f h = first_fails side (λ _. side) old f (subst (λ m. FailsBy (choice false left (choosing_of system p stop destination) m) old f) (one_more known (given row)) h)
 
-    pub outside_fails : (next : Cursor) (inside : Bool) → JudgedChoice system p stop destination (known ++ given row ∷ []) left old next inside → (f : Failure) → FailsChoice (known ++ denied (given row) ∷ []) left next f → FailsBy (both side side) old f
+    pub outside_fails : (next : Cursor) (inside : Bool) → CheckedChoice system p stop destination (known ++ given row ∷ []) left old next inside → (f : Failure) → FailsChoice (known ++ denied (given row) ∷ []) left next f → FailsBy (both side side) old f
     outside_fails next inside one f h =
         let within = subst (λ m. IsChoiceWithin system p stop destination m left one.tree) (one_more known (given row)) one.within in
         second_fails side (λ _. side) tt old next f
@@ -65,8 +65,8 @@ module _ (system : CaseSystem) (p : Marked) (stop : Bool) (destination : Destina
         choice_goes system p stop destination (length known) left old mid heads.Split zs at (both (choice_side system p stop destination known (left - 1)) (choice_side system p stop destination known (left - 1))) f
         (sides_go (λ m l. choice false l (choosing_of system p stop destination) m) (length known) left (length zs == system.variables + 1) some (test_true (length zs) (system.variables + 1) (ap length is.numbers ∙ numbers_long system.variables row is.wide))) h
 
-    sides_judged : (heap : Global) (new : Cursor) (met : Bool) → JudgedChoiceSides system p stop destination known (left - 1) row mid new met → JudgedChoice system p stop destination known left old new met
-    sides_judged heap new met h =
+    sides_checked : (heap : Global) (new : Cursor) (met : Bool) → CheckedChoiceSides system p stop destination known (left - 1) row mid new met → CheckedChoice system p stop destination known left old new met
+    sides_checked heap new met h =
         let one = h.holds in
         let two = h.fails in
         let tree = Split' row (room_at heap) one.tree (room_at heap) two.tree in
@@ -75,13 +75,13 @@ module _ (system : CaseSystem) (p : Marked) (stop : Bool) (destination : Destina
         two.tree tree new (subst (λ m. IsChoiceWithin system p stop destination m (left - 1) two.tree) (one_more known (denied (given row))) two.within) two.took (refl, refl, refl) in
         record { tree = tree; within = r.0; took = r.1; told = (λ t. (one.told.0 (h.told.0 t).0, two.told.0 (h.told.0 t).1), λ k. h.told.1 (one.told.1 k.0, two.told.1 k.1)) }
 
-    pub split_judges : (heap : Global) (new : Cursor) (result : Result Bool Failure) → JudgesChoiceSides system p stop destination known (left - 1) row mid new result → JudgesChoice system p stop destination known left old new result
-    split_judges heap new (Ok met) h = sides_judged heap new met h
-    split_judges heap new (Err f) h = sides_fail f h
+    pub split_checks : (heap : Global) (new : Cursor) (result : Result Bool Failure) → ChecksChoiceSides system p stop destination known (left - 1) row mid new result → ChecksChoice system p stop destination known left old new result
+    split_checks heap new (Ok met) h = sides_checked heap new met h
+    split_checks heap new (Err f) h = sides_fail f h
 
   module _ (known : List Known) (left : ℕ) (old : Cursor) where
-    pub empty_judged : (new : Cursor) (ms : Vec ℤ) → IsBehind heads.Empty ms.items old new → length ms.items ≡ length known → (met : Bool) → (IsTrue met ↔ Refutes system.variables known ms.items) → JudgedChoice system p stop destination known left old new met
-    empty_judged new ms at many met told = record { tree = Empty ms; within = record { shape = many; shallow = omega arith }; took = at.front; told = told }
+    pub empty_checked : (new : Cursor) (ms : Vec ℤ) → IsBehind heads.Empty ms.items old new → length ms.items ≡ length known → (met : Bool) → (IsTrue met ↔ Refutes system.variables known ms.items) → CheckedChoice system p stop destination known left old new met
+    empty_checked new ms at many met told = record { tree = Empty ms; within = record { shape = many; shallow = omega arith }; took = at.front; told = told }
 
     -- ---- no step
 
@@ -89,16 +89,16 @@ module _ (system : CaseSystem) (p : Marked) (stop : Bool) (destination : Destina
       pub stops_fail : (f : Failure) → FailsBy (mapped (λ all. tt {0}) (each (stop_cover false left system.variables (length known)) (leaving (place_of p) system.cases))) mid f → FailsChoice known left old f
       stops_fail f h = covers_fail system p stop destination (length known) left old mid at may f h
 
-      pub stops_judged : (heap : Global) (new : Cursor) (met : Bool) → length (leaving (place_of p) system.cases) ≤ 8192 → JudgedStops system.variables known left (leaving (place_of p) system.cases) mid new met → JudgedChoice system p stop destination known left old new met
-      stops_judged heap new met few h =
+      pub stops_checked : (heap : Global) (new : Cursor) (met : Bool) → length (leaving (place_of p) system.cases) ≤ 8192 → CheckedStops system.variables known left (leaving (place_of p) system.cases) mid new met → CheckedChoice system p stop destination known left old new met
+      stops_checked heap new met few h =
           let many = zip_many (IsStop system.variables (length known) left) (leaving (place_of p) system.cases) h.covers h.zip in
           let covers = vector heap h.covers (omega (arith, few, many)) in
           let r = covers_read system p stop destination (length known) left old mid at may covers new h.zip h.took in
           record { tree = NoStep covers; within = r.0; took = r.1; told = (λ t. (may, h.told.0 t), λ m. h.told.1 m.1) }
 
-      pub stops_judges : (heap : Global) (new : Cursor) (result : Result Bool Failure) → length (leaving (place_of p) system.cases) ≤ 8192 → JudgesStops system.variables known left (leaving (place_of p) system.cases) mid new result → JudgesChoice system p stop destination known left old new result
-      stops_judges heap new (Ok met) few h = stops_judged heap new met few h
-      stops_judges heap new (Err f) few h = stops_fail f h
+      pub stops_checks : (heap : Global) (new : Cursor) (result : Result Bool Failure) → length (leaving (place_of p) system.cases) ≤ 8192 → ChecksStops system.variables known left (leaving (place_of p) system.cases) mid new result → ChecksChoice system p stop destination known left old new result
+      stops_checks heap new (Ok met) few h = stops_checked heap new met few h
+      stops_checks heap new (Err f) few h = stops_fail f h
 
     -- ---- a case that is taken
 
@@ -114,8 +114,8 @@ module _ (system : CaseSystem) (p : Marked) (stop : Bool) (destination : Destina
       pub rows_fail : (f : Failure) → FailsBy (many (length (drawn_guards system.variables case draws.items ++ rows)) (by (length known + 1))) next f → FailsChoice known left old f
       rows_fail f h = shown_stop system p stop destination (length known) left old mid zs at case c k j m is draws next are first f (subst (λ count. FailsBy (many count (by (length known + 1))) next f) counted h)
 
-      pub take_judged : (heap : Global) (new : Cursor) (met : Bool) → JudgedLists system.variables known (drawn_guards system.variables case draws.items ++ rows) next new met → JudgedChoice system p stop destination known left old new met
-      take_judged heap new met h =
+      pub take_checked : (heap : Global) (new : Cursor) (met : Bool) → CheckedLists system.variables known (drawn_guards system.variables case draws.items ++ rows) next new met → CheckedChoice system p stop destination known left old new met
+      take_checked heap new met h =
           let lists = vector heap h.lists (few_taken h.lists next new h.took) in
           let r = take_read system p stop destination (length known) left old mid zs at case c k j m is draws next are first lists new (subst (λ count. AreMany (AreNumbers (length known + 1)) count (numbers_in h.lists)) counted h.many) h.took (Take c k j draws lists) refl in
           let here : IsTrue met ↔ TakeMet system.variables (place_of p) (destination_owes system.variables p destination) known (Some case) k j draws.items (numbers_in h.lists) = (

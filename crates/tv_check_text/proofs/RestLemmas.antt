@@ -1,4 +1,4 @@
--- What a judge has done that went over a whole certificate.
+-- What a checker has done that went over a whole certificate.
 use Rattle.std.proofs.Common.{◌≡◌, ◌↔◌, ℕ, ◌+◌, ◌<◌, ◌^◌, ℤ, pos, true, false, Bool, IsTrue, List, [], ◌∷◌, ◌++◌, length, length-append, Option, None, Some, refl, sym, ap, ◌∙◌, subst, arith}
 use Rattle.std.specs.Prelude.{slice_get, IsSome, MatchOption}
 use Rattle.std.specs.Global.{Vec}
@@ -14,11 +14,11 @@ use Rattle.tv_cert.specs.declared.node.Marked.{Marked}
 use Rattle.tv_cert.specs.declared.node.Node.{Node, Node'}
 use Rattle.tv_cert.specs.declared.node.Verdict.{Verdict}
 use Rattle.tv_cert.specs.declared.node.Verdict.TheVariants.{Proved, Disproved}
-use Rattle.tv_cert.specs.Listed.{pieces_list}
+use Rattle.tv_cert.specs.NodeViews.{pieces_list}
 use Rattle.tv_cert.specs.Nodes.{pieces_of, root_entry, size, node_entries}
 use Rattle.tv_cert.specs.Obligations.{Entry, PointMet, IsMetEntry}
 use Rattle.tv_cert.specs.Pieces.{pieces_at, rows_of}
-use Rattle.tv_cert.specs.Plain.{about_of}
+use Rattle.tv_cert.specs.AboutSystem.{about_of}
 use Rattle.tv_cert.specs.Shapes.{PieceShape, may_be_done, NodeShape}
 use Rattle.tv_cert.specs.Statements.{Statement}
 use Rattle.tv_cert.specs.Targets.{owed_into, no_fall}
@@ -31,10 +31,10 @@ use Rattle.tv_cert_reader.specs.Covers.{IsCoverWithin}
 use Rattle.tv_cert_reader.specs.Values.{AreValues, start_counts, values_line}
 use Rattle.tv_cert_reader.specs.declared.walk.Walk.{Walk}
 use Rattle.tv_cert_reader.specs.Walks.{IsWalked}
-use Rattle.tv_check_text.specs.declared.judge.Judge.{Judge}
-use Rattle.tv_check_text.specs.Judging.{JudgedCover}
-use Rattle.tv_check_text.specs.Rest.{IsFresh, IsJudgedRest, all_entries}
-use Rattle.tv_check_text.specs.Settling.{Settles, first_failing, Judges, uncounted}
+use Rattle.tv_check_text.specs.declared.checker.Checker.{Checker}
+use Rattle.tv_check_text.specs.Checking.{CheckedCover}
+use Rattle.tv_check_text.specs.Rest.{IsFresh, IsCheckedRest, all_entries}
+use Rattle.tv_check_text.specs.Settling.{Settles, first_failing, ChecksEntry, uncounted}
 use Rattle.tv_check_text.proofs.SettlingLemmas.{settles_both, settles_one, all_settled}
 
 -- ---- the rows of pieces are over the variables
@@ -52,8 +52,8 @@ there_by now (Some x) v m e = subst IsSome (sym m) refl
 
 -- ---- the last obligation
 
--- the judge stands behind the root, and its pieces are kept
-module _ (system : CaseSystem) (s : Statement) (old mid : Walk Judge) (fresh : IsFresh old) (head : Node) (h : IsWalked Judges uncounted false system s old mid head) where
+-- the checker stands behind the root, and its pieces are kept
+module _ (system : CaseSystem) (s : Statement) (old mid : Walk Checker) (fresh : IsFresh old) (head : Node) (h : IsWalked ChecksEntry uncounted false system s old mid head) where
   pub kept : pieces_of h.node ≡ pieces_list head
   kept = pieces_are h.node ∙ sym h.pieces
 
@@ -75,8 +75,8 @@ module _ (system : CaseSystem) (s : Statement) (old mid : Walk Judge) (fresh : I
   few_nodes : size h.node < 2 ^ 32
   few_nodes = (let a = h.nodes in let b = fresh.nodes in let c = h.counted.nodes in let d = mid.cursor.room in omega (arith, a, b, c, d))
 
-  -- the last obligation is judged, which has this entry
-  module _ (new : Judge) (met : Bool) (seen : new.seen ≡ mid.taker.seen + 1) (failing : new.failing ≡ first_failing mid.taker.failing met (record { number = mid.taker.seen + 1; node = 0; kind = kinds.Root })) where
+  -- the last obligation is checked, which has this entry
+  module _ (new : Checker) (met : Bool) (seen : new.seen ≡ mid.taker.seen + 1) (failing : new.failing ≡ first_failing mid.taker.failing met (record { number = mid.taker.seen + 1; node = 0; kind = kinds.Root })) where
     few_entries : (verdict : Verdict) → length (all_entries system s h.node verdict) < 2 ^ 64
     few_entries verdict = (let a = seen_below in let b = h.counted.left in let c = mid.cursor.room in let e = length-append below (root_entry (about_of system) (pieces_of h.node) verdict ∷ []) in omega (arith, a, b, c, e))
 
@@ -88,9 +88,9 @@ module _ (system : CaseSystem) (s : Statement) (old mid : Walk Judge) (fresh : I
         settles_both 0 mid.taker.seen None mid.taker.failing new.failing below (e ∷ []) seen_below settles_below
         (subst (λ x. Settles mid.taker.seen mid.taker.failing (e ∷ []) x) (sym (failing ∙ ap (first_failing mid.taker.failing met) (λ i. record { number = mid.taker.seen + 1; node = sym node i; kind = sym kind i }))) (settles_one mid.taker.seen mid.taker.failing e met told))
 
-    -- a cover of the start is judged
-    pub proved_judged : (next end : Cursor) → JudgedCover system.variables (owed_into (pieces_list head) system.start given no_fall) [] 128 mid.cursor next met → Takes (formed heads.End [] ∷ []) next end → end.lines ≡ [] → IsJudgedRest system s true [] old.cursor.lines new
-    proved_judged next end start off none =
+    -- a cover of the start is checked
+    pub proved_checked : (next end : Cursor) → CheckedCover system.variables (owed_into (pieces_list head) system.start given no_fall) [] 128 mid.cursor next met → Takes (formed heads.End [] ∷ []) next end → end.lines ≡ [] → IsCheckedRest system s true [] old.cursor.lines new
+    proved_checked next end start off none =
         let verdict : Verdict = Proved start.tree in
         record {
           root = h.node;
@@ -108,9 +108,9 @@ module _ (system : CaseSystem) (s : Statement) (old mid : Walk Judge) (fresh : I
           settles = all_settles (root_entry (about_of system) (pieces_of h.node) verdict) refl refl (subst (λ ps. IsTrue met ↔ IsMetCover system.variables (owed_into ps system.start given no_fall) [] start.tree) (sym kept) start.told);
         }
 
-    -- values in a piece at the start are judged
-    pub denied_judged : (next end : Cursor) (place : ℕ) (values : Vec ℤ) → AreValues system.variables (place, values.items) → Takes (values_line (place, values.items)) mid.cursor next → IsSome (slice_get (pieces_at (pieces_list head) system.start) place) → (IsTrue met ↔ PointMet values.items (option_map rows_of (slice_get (pieces_at (pieces_list head) system.start) place))) → Takes (formed heads.End [] ∷ []) next end → end.lines ≡ [] → IsJudgedRest system s false values.items old.cursor.lines new
-    denied_judged next end place values are took there told off none =
+    -- values in a piece at the start are checked
+    pub denied_checked : (next end : Cursor) (place : ℕ) (values : Vec ℤ) → AreValues system.variables (place, values.items) → Takes (values_line (place, values.items)) mid.cursor next → IsSome (slice_get (pieces_at (pieces_list head) system.start) place) → (IsTrue met ↔ PointMet values.items (option_map rows_of (slice_get (pieces_at (pieces_list head) system.start) place))) → Takes (formed heads.End [] ∷ []) next end → end.lines ≡ [] → IsCheckedRest system s false values.items old.cursor.lines new
+    denied_checked next end place values are took there told off none =
         let verdict : Verdict = Disproved place values in
         record {
           root = h.node;

@@ -4,8 +4,8 @@ use Rattle.tv_cert.specs.Obligations.{Entry, IsMetEntry}
 use Rattle.tv_cert.specs.declared.failing.Failing.{Failing}
 use Rattle.tv_cert.proofs.FailingLemmas.{all_join, failing_left, failing_right}
 use Rattle.tv_cert_reader.specs.Walks.{Through, at_end, further}
-use Rattle.tv_check_text.specs.declared.judge.Judge.{Judge}
-use Rattle.tv_check_text.specs.Settling.{Settles, first_failing, Judges}
+use Rattle.tv_check_text.specs.declared.checker.Checker.{Checker}
+use Rattle.tv_check_text.specs.Settling.{Settles, first_failing, ChecksEntry}
 
 pub settles_none : (from : ℕ) (x : Option Failing) → Settles from x [] x
 settles_none from (Some f) = refl
@@ -27,7 +27,7 @@ settles_one from None e false told = record { before = []; failing = e; after = 
     never h = cc
 
 -- one after another
-pub all_settled : (es : List Entry) (v w : Judge) → Through Judges v es w → (w.seen ≡ v.seen + length es) × Settles v.seen v.failing es w.failing
+pub all_settled : (es : List Entry) (v w : Checker) → Through ChecksEntry v es w → (w.seen ≡ v.seen + length es) × Settles v.seen v.failing es w.failing
 all_settled [] v w at_end = (omega arith, settles_none v.seen v.failing)
 all_settled (e ∷ es) v w (further {v = t} h rest) =
     let later = all_settled es t w rest in (

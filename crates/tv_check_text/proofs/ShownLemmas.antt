@@ -13,7 +13,7 @@ use Rattle.tv_cert_reader.specs.Reading.{Takes, FailsBy}
 use Rattle.tv_cert_reader.specs.Parts.{AreNumbers}
 use Rattle.tv_cert_reader.proofs.PartLemmas.{AreListed, by_line, lists_fail, lists_end}
 use Rattle.tv_cert_reader.proofs.ReadingLemmas.{Gathered, gathered_next}
-use Rattle.tv_check_text.specs.Judging.{numbers_in, JudgedLists}
+use Rattle.tv_check_text.specs.Checking.{numbers_in, CheckedLists}
 use Rattle.tv_check_text.specs.Owed.{ShowsRow}
 
 -- what is told of two
@@ -46,7 +46,7 @@ module _ (n : ℕ) (known rows : List Known) (old : Cursor) where
     pub lines_fail : (f : Failure) → i < length rows → FailsBy (by (length known + 1)) now f → FailsBy (many (length rows) (by (length known + 1))) old f
     lines_fail f few k = lists_fail (length known + 1) (length rows) i old now h.lists f h.gathered few k
 
-    pub lines_end : length rows ≤ i → JudgedLists n known rows old now met
+    pub lines_end : length rows ≤ i → CheckedLists n known rows old now met
     lines_end past =
         let w = h.within in
         let e : i ≡ length rows = omega (arith, w, past) in

@@ -1,4 +1,4 @@
--- Covers without targets that are read and judged one after another.
+-- Covers without targets that are read and checked one after another.
 use Rattle.std.proofs.Common.{◌≡◌, ◌↔◌, ℕ, zero, suc, ◌+◌, ◌≤◌, Bool, false, IsTrue, List, [], ◌∷◌, ◌++◌, length, take, drop, slice_get, None, Some, refl, sym, ap, ◌∙◌, subst, arith, length-append}
 use Rattle.std.specs.List.{AllZip, flat_map}
 use Rattle.std.proofs.lemmas.List.{length-map, take_all}
@@ -19,7 +19,7 @@ use Rattle.tv_cert_reader.specs.Covers.{IsCoverWithin}
 use Rattle.tv_cert_reader.specs.Choices.{IsStop}
 use Rattle.tv_cert_reader.proofs.ReadingLemmas.{takes_both, takes_as, last_text}
 use Rattle.tv_cert_reader.proofs.StopLemmas.{Stepped, stop_fails}
-use Rattle.tv_check_text.specs.Judging.{JudgedCover, JudgedStops}
+use Rattle.tv_check_text.specs.Checking.{CheckedCover, CheckedStops}
 use Rattle.tv_check_text.proofs.ShownLemmas.{take_next}
 
 module _ {B A : Type 0} (R : B → A → Type 0) where
@@ -61,7 +61,7 @@ module _ (n : ℕ) (known : List Known) (left : ℕ) (all : List LinearCase) (ol
     pub told : IsTrue met ↔ NoStepMet n known (take k all) covers
 
   module _ (k : ℕ) (now : Cursor) (met : Bool) (h : StopsFirst k now met) where
-    pub stops_end : slice_get all k ≡ None → JudgedStops n known left all old now met
+    pub stops_end : slice_get all k ≡ None → CheckedStops n known left all old now met
     stops_end past =
         let e : take k all ≡ all = take_all k all (none_past all k past) in
         record { covers = h.covers; zip = subst (λ cs. AllZip Stop cs h.covers) e h.zip; took = h.took; told = subst (λ cs. IsTrue met ↔ NoStepMet n known cs h.covers) e h.told }
@@ -80,7 +80,7 @@ module _ (n : ℕ) (known : List Known) (left : ℕ) (all : List LinearCase) (ol
           stop_fails n (length known) left all (drop (suc k) all) (c ∷ drop (suc k) all) c old now h.covers f stepped refl
           (subst (λ m. FailsBy (cover false left (n + c.draws) m (owed_count no_target)) now f) (known_guards known c) e)
 
-      pub stops_next : (new : Cursor) (stuck both : Bool) → JudgedCover (n + c.draws) no_target (known ++ as_given c.guards) left now new stuck → (IsTrue both ↔ (IsTrue met × IsTrue stuck)) → StopsFirst (k + 1) new both
+      pub stops_next : (new : Cursor) (stuck both : Bool) → CheckedCover (n + c.draws) no_target (known ++ as_given c.guards) left now new stuck → (IsTrue both ↔ (IsTrue met × IsTrue stuck)) → StopsFirst (k + 1) new both
       stops_next new stuck both one joined =
           let e : take (k + 1) all ≡ take k all ++ c ∷ [] = (let x : k + 1 ≡ suc k = omega arith in ap (λ i. take i all) x) ∙ take_next all k c there in
           let many = zip_many Stop (take k all) h.covers h.zip in

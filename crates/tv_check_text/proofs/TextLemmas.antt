@@ -1,4 +1,4 @@
--- The certificate of a text that was judged while it was read.
+-- The certificate of a text that was checked while it was read.
 use Rattle.std.proofs.Common.{◌≡◌, ℕ, ◌<◌, ◌^◌, ℤ, Bool, List, [], ◌∷◌, ◌++◌, length, None, Some, refl, sym, ap, ◌∙◌, subst, arith}
 use Rattle.std.specs.Global.{Global}
 use Rattle.tv_lines.specs.Lines.{PlainLine, formed, lines_of}
@@ -10,7 +10,7 @@ use Rattle.tv_cert.specs.declared.node.Node.{Node}
 use Rattle.tv_cert.specs.declared.node.Verdict.{Verdict}
 use Rattle.tv_cert.specs.Claims.{about_with, claim_variables, shown}
 use Rattle.tv_cert.specs.Nodes.{pieces_of, root_entry, obligations, entries, node_entries}
-use Rattle.tv_cert.specs.Plain.{about_of}
+use Rattle.tv_cert.specs.AboutSystem.{about_of}
 use Rattle.tv_cert.specs.Statements.{Statement, stated}
 use Rattle.tv_cert.proofs.StatedLemmas.{root_same}
 use Rattle.tv_shape.specs.declared.certificate.Certificate.{Certificate}
@@ -26,9 +26,9 @@ use Rattle.tv_cert_reader.proofs.FitLemmas.{shows, read_fits, read_lines}
 use Rattle.tv_cert_reader.proofs.FitLines.{AreFit, behind_two, text_fit}
 use Rattle.tv_cert.specs.declared.failing.Failing.{Failing}
 use Rattle.tv_cert_reader.proofs.WalkLemmas.{vector}
-use Rattle.tv_check_text.specs.declared.judge.Judge.{Judge}
+use Rattle.tv_check_text.specs.declared.checker.Checker.{Checker}
 use Rattle.tv_check_text.specs.declared.text.Accepted.{Accepted}
-use Rattle.tv_check_text.specs.Rest.{IsJudgedRest, all_entries}
+use Rattle.tv_check_text.specs.Rest.{IsCheckedRest, all_entries}
 use Rattle.tv_check_text.specs.Settling.{Settles}
 use Rattle.tv_check_text.specs.Texts.{owed, IsAcceptedText, IsUnaccepted, FailsFirst, failing_of}
 
@@ -38,7 +38,7 @@ owed_is system f s root verdict same =
     (λ i. node_entries 0 system (same i) root ++ root_entry (about_of system) (pieces_of root) verdict ∷ [])
     ∙ (λ i. entries 0 (about_with system) f root ++ root_same system (pieces_of root) verdict i ∷ [])
 
-module _ (system : CaseSystem) (claim : Claim) (variables : claim_variables claim ≡ system.variables) (text : List ℕ) (heap : Global) (proved : Bool) (values : List ℤ) (rest : List PlainLine) (new : Judge) (h : IsJudgedRest system (side (sides_of claim) proved) proved values rest new) (lines : lines_of text ≡ begun proved rest) where
+module _ (system : CaseSystem) (claim : Claim) (variables : claim_variables claim ≡ system.variables) (text : List ℕ) (heap : Global) (proved : Bool) (values : List ℤ) (rest : List PlainLine) (new : Checker) (h : IsCheckedRest system (side (sides_of claim) proved) proved values rest new) (lines : lines_of text ≡ begun proved rest) where
   abbrev property : Property
   property = shown claim h.verdict
 

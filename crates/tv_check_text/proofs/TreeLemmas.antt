@@ -28,7 +28,7 @@ use Rattle.tv_cert_reader.proofs.CoverLemmas.{cover_goes, split_read, into_read,
 use Rattle.tv_cert_reader.proofs.ReadingLemmas.{first_fails, second_fails}
 use Rattle.tv_cert_reader.proofs.SideLemmas.{sides_go}
 use Rattle.tv_cert_reader.proofs.WalkLemmas.{vector}
-use Rattle.tv_check_text.specs.Judging.{numbers_in, cover_side, EntersNone, JudgedCover, JudgedLists, JudgedSides, JudgesCover, JudgesLists, JudgesSides}
+use Rattle.tv_check_text.specs.Checking.{numbers_in, cover_side, EntersNone, CheckedCover, CheckedLists, CheckedSides, ChecksCover, ChecksLists, ChecksSides}
 
 -- where a value might lie
 abbrev pub room_at : Global → Box (Unit {0})
@@ -68,7 +68,7 @@ module _ (n : ℕ) (owed : ℕ → ℕ → Option (List Known)) where
     pub inside_fails : (f : Failure) → Fails (known ++ given row ∷ []) left old f → FailsBy (both side side) old f
     inside_fails f h = first_fails side (λ _. side) old f (subst (λ m. FailsBy (cover false left n m (owed_count owed)) old f) (one_more known (given row)) h)
 
-    pub outside_fails : (next : Cursor) (inside : Bool) → JudgedCover n owed (known ++ given row ∷ []) left old next inside → (f : Failure) → Fails (known ++ denied (given row) ∷ []) left next f → FailsBy (both side side) old f
+    pub outside_fails : (next : Cursor) (inside : Bool) → CheckedCover n owed (known ++ given row ∷ []) left old next inside → (f : Failure) → Fails (known ++ denied (given row) ∷ []) left next f → FailsBy (both side side) old f
     outside_fails next inside one f h =
         let within = subst (λ m. IsCoverWithin n (owed_count owed) m left one.tree) (one_more known (given row)) one.within in
         second_fails side (λ _. side) tt old next f (ap side.read one.took.lines ∙ cover_read false left n (length known + 1) (owed_count owed) one.tree next.lines within.shape within.shallow) one.took.last
@@ -80,8 +80,8 @@ module _ (n : ℕ) (owed : ℕ → ℕ → Option (List Known)) where
         cover_goes n (owed_count owed) (length known) left old mid heads.Split zs at (both (cover_side n owed known (left - 1)) (cover_side n owed known (left - 1))) f
         (sides_go (λ m l. cover false l n m (owed_count owed)) (length known) left (length zs == n + 1) some (test_true (length zs) (n + 1) (ap length is.numbers ∙ numbers_long n row is.wide))) h
 
-    sides_judged : (heap : Global) (new : Cursor) (met : Bool) → JudgedSides n owed known (left - 1) row mid new met → JudgedCover n owed known left old new met
-    sides_judged heap new met h =
+    sides_checked : (heap : Global) (new : Cursor) (met : Bool) → CheckedSides n owed known (left - 1) row mid new met → CheckedCover n owed known left old new met
+    sides_checked heap new met h =
         let one = h.holds in
         let two = h.fails in
         let tree = Split' row (room_at heap) one.tree (room_at heap) two.tree in
@@ -90,13 +90,13 @@ module _ (n : ℕ) (owed : ℕ → ℕ → Option (List Known)) where
         two.tree tree new (subst (λ m. IsCoverWithin n (owed_count owed) m (left - 1) two.tree) (one_more known (denied (given row))) two.within) two.took (refl, refl, refl) in
         record { tree = tree; within = r.0; took = r.1; told = (λ t. (one.told.0 (h.told.0 t).0, two.told.0 (h.told.0 t).1), λ k. h.told.1 (one.told.1 k.0, two.told.1 k.1)) }
 
-    pub split_judges : (heap : Global) (new : Cursor) (result : Result Bool Failure) → JudgesSides n owed known (left - 1) row mid new result → JudgesCover n owed known left old new result
-    split_judges heap new (Ok met) h = sides_judged heap new met h
-    split_judges heap new (Err f) h = sides_fail f h
+    pub split_checks : (heap : Global) (new : Cursor) (result : Result Bool Failure) → ChecksSides n owed known (left - 1) row mid new result → ChecksCover n owed known left old new result
+    split_checks heap new (Ok met) h = sides_checked heap new met h
+    split_checks heap new (Err f) h = sides_fail f h
 
   module _ (known : List Known) (left : ℕ) (old : Cursor) where
-    pub empty_judged : (new : Cursor) (ms : Vec ℤ) → IsBehind heads.Empty ms.items old new → length ms.items ≡ length known → (met : Bool) → (IsTrue met ↔ Refutes n known ms.items) → JudgedCover n owed known left old new met
-    empty_judged new ms at many met told = record { tree = Empty ms; within = record { shape = many; shallow = omega arith }; took = at.front; told = told }
+    pub empty_checked : (new : Cursor) (ms : Vec ℤ) → IsBehind heads.Empty ms.items old new → length ms.items ≡ length known → (met : Bool) → (IsTrue met ↔ Refutes n known ms.items) → CheckedCover n owed known left old new met
+    empty_checked new ms at many met told = record { tree = Empty ms; within = record { shape = many; shallow = omega arith }; took = at.front; told = told }
 
     module _ (mid : Cursor) (zs : List ℤ) (at : IsBehind heads.Into zs old mid) (k j : ℕ) (rows : List Known) (text : zs ≡ pos k ∷ pos j ∷ []) (owes : owed k j ≡ Some rows) where
       target : IsTarget (owed_count owed) zs k j (length rows)
@@ -105,12 +105,12 @@ module _ (n : ℕ) (owed : ℕ → ℕ → Option (List Known)) where
       pub rows_fail : (f : Failure) → FailsBy (many (length rows) (by (length known + 1))) mid f → Fails known left old f
       rows_fail f h = lists_stop n (owed_count owed) (length known) left old mid zs at k j (length rows) target f h
 
-      pub into_judged : (heap : Global) (new : Cursor) (met : Bool) → JudgedLists n known rows mid new met → JudgedCover n owed known left old new met
-      into_judged heap new met h =
+      pub into_checked : (heap : Global) (new : Cursor) (met : Bool) → CheckedLists n known rows mid new met → CheckedCover n owed known left old new met
+      into_checked heap new met h =
           let lists = vector heap h.lists (few_taken h.lists mid new h.took) in
           let r = into_read n (owed_count owed) (length known) left old mid zs at k j (length rows) target lists new h.many h.took (Into k j lists) refl in
           record { tree = Into k j lists; within = r.0; took = r.1; told = subst (λ o. IsTrue met ↔ ShownAt n known o (numbers_in h.lists)) (sym owes) h.told }
 
-      pub into_judges : (heap : Global) (new : Cursor) (result : Result Bool Failure) → JudgesLists n known rows mid new result → JudgesCover n owed known left old new result
-      into_judges heap new (Ok met) h = into_judged heap new met h
-      into_judges heap new (Err f) h = rows_fail f h
+      pub into_checks : (heap : Global) (new : Cursor) (result : Result Bool Failure) → ChecksLists n known rows mid new result → ChecksCover n owed known left old new result
+      into_checks heap new (Ok met) h = into_checked heap new met h
+      into_checks heap new (Err f) h = rows_fail f h

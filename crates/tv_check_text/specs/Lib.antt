@@ -1,6 +1,6 @@
 pub mod Owed
 pub mod Targets
-pub mod Judging
+pub mod Checking
 pub mod Settling
 pub mod Rest
 pub mod Texts

@@ -3,7 +3,7 @@ use Rattle.std.specs.Prelude.{◌≡◌, ℕ, ◌+◌, ◌-◌, Bool, true, fals
 use Rattle.tv_cert.specs.Obligations.{Entry, AllMet}
 use Rattle.tv_cert.specs.declared.failing.Failing.{Failing}
 use Rattle.tv_cert.specs.FirstFailing.{IsFirstFailing}
-use Rattle.tv_check_text.specs.declared.judge.Judge.{Judge}
+use Rattle.tv_check_text.specs.declared.checker.Checker.{Checker}
 
 -- Where `from` entries come before the list: one that is not met before it stays the first, else it is the first of the list.
 abbrev pub Settles : ℕ → Option Failing → List Entry → Option Failing → Type 0
@@ -17,11 +17,11 @@ first_failing (Some earlier) met f = Some earlier
 first_failing None true f = None
 first_failing None false f = Some f
 
--- an obligation is judged by its proof
-pub record Judges (old : Judge) (e : Entry) (new : Judge) : Type 0 where
+-- an obligation is checked by its proof
+pub record ChecksEntry (old : Checker) (e : Entry) (new : Checker) : Type 0 where
   pub seen : new.seen ≡ old.seen + 1
   pub settles : Settles old.seen old.failing (e ∷ []) new.failing
 
 -- how many obligations more can be counted
-abbrev pub uncounted : Judge → ℕ
-uncounted judge = 18446744073709551615 - judge.seen
+abbrev pub uncounted : Checker → ℕ
+uncounted checker = 18446744073709551615 - checker.seen

@@ -5,7 +5,7 @@ use Rattle.std.specs.Option.{option_map}
 use Rattle.tv_linear.specs.Linear.{Linear}
 use Rattle.tv_linear.specs.Known.{Known}
 use Rattle.tv_linear.specs.Covers.{no_target}
-use Rattle.tv_cert.specs.Listed.{pieces_list}
+use Rattle.tv_cert.specs.NodeViews.{pieces_list}
 use Rattle.tv_cert.specs.Obligations.{truth_targets}
 use Rattle.tv_cert.specs.Targets.{owed_into, no_fall}
 use Rattle.tv_shape.specs.Counts.{falls_past}

@@ -9,7 +9,7 @@ ghost use Rattle.tv_refute.specs.Frames.{known_at};
 ghost use Rattle.tv_shape.specs.Counts.{AreFewAt};
 ghost use Rattle.tv_cert_reader.specs.declared.cursor.Cursor.{Cursor};
 ghost use Rattle.tv_cert_reader.specs.Covers.{IsBehind};
-ghost use Rattle.tv_check_text.specs.Judging.{JudgesChoice, JudgesChoiceSides, JudgesStop, JudgesStops};
+ghost use Rattle.tv_check_text.specs.Checking.{ChecksChoice, ChecksChoiceSides, ChecksStop, ChecksStops};
 
 use crate::covers::Covering;
 use crate::empty::is_empty;
@@ -21,10 +21,10 @@ use tv_lines::Head;
 use tv_refute::{Built, Change, Frames};
 use tv_shape::Targets;
 
-/// What choices are read and judged with: the piece at which they are made, where they lead, and whether they may show that there is
+/// What choices are read and checked with: the piece at which they are made, where they lead, and whether they may show that there is
 /// no step.
 #[derive(Drop)]
-pub struct Choosing<'a> {
+pub struct ChoiceCheck<'a> {
     pub context: Context<'a>,
     pub piece: &'a Marked,
     pub stop: bool,
@@ -44,7 +44,7 @@ fn stop_is_met(
     requires draws { case.now.draws ≤ 64 }
     requires counted { known ≡ length (known_at frames.now) }
     requires room { known < 2 ^ 125 }
-    ensures { JudgesStop (cases_of context.now.about.now).variables (known_at frames.now) left (case_view case.now) cursor.old cursor.new result }
+    ensures { ChecksStop (cases_of context.now.about.now).variables (known_at frames.now) left (case_view case.now) cursor.old cursor.new result }
 {
     let covering = Covering {
         alloc: context.alloc,
@@ -73,7 +73,7 @@ fn stops_are_met(
     requires counted { known ≡ length (known_at frames.now) }
     requires room { known < 2 ^ 125 }
     ensures { let system = cases_of context.now.about.now in
-        JudgesStops system.variables (known_at frames.now) left (leaving location system.cases) cursor.old cursor.new result }
+        ChecksStops system.variables (known_at frames.now) left (leaving location system.cases) cursor.old cursor.new result }
 {
     let mut met = true;
     let mut k = 0;
@@ -85,7 +85,7 @@ fn stops_are_met(
     Ok(met)
 }
 
-impl Choosing<'_> {
+impl ChoiceCheck<'_> {
     /// Whether the lines behind one that says that there is no step show it.
     fn no_step_is_met(
         &self,
@@ -99,7 +99,7 @@ impl Choosing<'_> {
         requires room { known < 2 ^ 125 }
         ensures { let system = cases_of self.now.context.about.now in
             (old : Cursor) → IsBehind Head.NoStep [] old cursor.old →
-            JudgesChoice system self.now.piece.now self.now.stop self.now.destination.now (known_at frames.now) left old cursor.new result }
+            ChecksChoice system self.now.piece.now self.now.stop self.now.destination.now (known_at frames.now) left old cursor.new result }
     {
         if !self.stop {
             return Err(Failure::Fault(LineKind::Shape, cursor.taken));
@@ -123,7 +123,7 @@ impl Choosing<'_> {
         requires counted { known ≡ length (known_at frames.now) }
         requires room { known + left + 1 < 2 ^ 125 }
         ensures { let system = cases_of self.now.context.about.now in
-            JudgesChoiceSides system self.now.piece.now self.now.stop self.now.destination.now (known_at frames.now) left row.now cursor.old cursor.new result }
+            ChecksChoiceSides system self.now.piece.now self.now.stop self.now.destination.now (known_at frames.now) left row.now cursor.old cursor.new result }
     {
         let given = Built::Given(RowView::of(row));
         let denied = Built::Denied(&given);
@@ -157,7 +157,7 @@ impl Choosing<'_> {
         requires counted { known ≡ length (known_at frames.now) }
         requires room { known + left < 2 ^ 125 }
         ensures { let system = cases_of self.now.context.about.now in
-            JudgesChoice system self.now.piece.now self.now.stop self.now.destination.now (known_at frames.now) left cursor.old cursor.new result }
+            ChecksChoice system self.now.piece.now self.now.stop self.now.destination.now (known_at frames.now) left cursor.old cursor.new result }
     {
         let (head, numbers) = take(self.context.alloc, cursor)?;
         let columns = self.context.about.variables();

@@ -7,7 +7,7 @@ ghost use Rattle.tv_refute.specs.Frames.{known_at};
 ghost use Rattle.tv_shape.specs.Counts.{AreFew};
 ghost use Rattle.tv_cert_reader.specs.declared.cursor.Cursor.{Cursor};
 ghost use Rattle.tv_cert_reader.specs.Covers.{IsBehind};
-ghost use Rattle.tv_check_text.specs.Judging.{EntersNone, IsEntered, JudgesCover, JudgesSides};
+ghost use Rattle.tv_check_text.specs.Checking.{EntersNone, IsEntered, ChecksCover, ChecksSides};
 ghost use Rattle.tv_check_text.specs.Targets.{owed_at};
 
 use crate::empty::is_empty;
@@ -21,7 +21,7 @@ use tv_lines::Head;
 use tv_refute::{Built, Change, Frames};
 use tv_shape::Targets;
 
-/// What covers are read and judged with: how many columns the rows of their places have, and what they lead into.
+/// What covers are read and checked with: how many columns the rows of their places have, and what they lead into.
 #[derive(Drop)]
 pub struct Covering<'a> {
     pub alloc: Global,
@@ -58,7 +58,7 @@ impl Covering<'_> {
         requires room { known < 2 ^ 127 }
         ensures { (left : ℕ) (old : Cursor) → IsBehind Head.Into numbers.now old cursor.old →
             let owed = owed_at (change_of self.now.change.now) self.now.targets.now in
-            JudgesCover self.now.columns owed (known_at frames.now) left old cursor.new result }
+            ChecksCover self.now.columns owed (known_at frames.now) left old cursor.new result }
     {
         let Some(entered) = self.entered_by(numbers) else {
             return Err(Failure::Fault(LineKind::Shape, cursor.taken));
@@ -94,7 +94,7 @@ impl Covering<'_> {
         requires counted { known ≡ length (known_at frames.now) }
         requires room { known + left + 1 < 2 ^ 127 }
         ensures { let owed = owed_at (change_of self.now.change.now) self.now.targets.now in
-            JudgesSides self.now.columns owed (known_at frames.now) left row.now cursor.old cursor.new result }
+            ChecksSides self.now.columns owed (known_at frames.now) left row.now cursor.old cursor.new result }
     {
         let given = Built::Given(RowView::of(row));
         let denied = Built::Denied(&given);
@@ -127,7 +127,7 @@ impl Covering<'_> {
         requires counted { known ≡ length (known_at frames.now) }
         requires room { known + left < 2 ^ 127 }
         ensures { let owed = owed_at (change_of self.now.change.now) self.now.targets.now in
-            JudgesCover self.now.columns owed (known_at frames.now) left cursor.old cursor.new result }
+            ChecksCover self.now.columns owed (known_at frames.now) left cursor.old cursor.new result }
     {
         let (head, numbers) = take(self.alloc, cursor)?;
         match head {

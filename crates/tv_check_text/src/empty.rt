@@ -6,7 +6,7 @@ ghost use Rattle.tv_cert.specs.declared.owes.Destination.{Destination};
 ghost use Rattle.tv_refute.specs.Frames.{known_at};
 ghost use Rattle.tv_cert_reader.specs.declared.cursor.Cursor.{Cursor};
 ghost use Rattle.tv_cert_reader.specs.Covers.{IsBehind};
-ghost use Rattle.tv_check_text.specs.Judging.{JudgesChoice, JudgesCover};
+ghost use Rattle.tv_check_text.specs.Checking.{ChecksChoice, ChecksCover};
 
 use tv_cert_reader::{Failure, LineKind};
 use tv_lines::Head;
@@ -23,10 +23,10 @@ pub fn is_empty(
     requires counted { known ≡ length (known_at frames.now) }
     ensures cover { (owed : ℕ → ℕ → Option (List Known)) (left : ℕ) (old new : Cursor) →
         IsBehind Head.Empty multipliers.items old new → new.taken ≡ line →
-        JudgesCover columns owed (known_at frames.now) left old new result }
+        ChecksCover columns owed (known_at frames.now) left old new result }
     ensures choice { (system : CaseSystem) (piece : Marked) (stop : Bool) (destination : Destination) (left : ℕ) (old new : Cursor) →
         columns ≡ system.variables → IsBehind Head.Empty multipliers.items old new → new.taken ≡ line →
-        JudgesChoice system piece stop destination (known_at frames.now) left old new result }
+        ChecksChoice system piece stop destination (known_at frames.now) left old new result }
 {
     if multipliers.len() as u128 == known {
         Ok(refutes(columns as usize, frames, &multipliers))

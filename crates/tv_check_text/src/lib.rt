@@ -1,13 +1,13 @@
 //! The text of a certificate, checked while it is read, so that no proof of it is held in memory.
 #![tactic(auto)]
 
+mod checker;
 mod choices;
 mod covers;
 mod empty;
 mod fall;
-mod judge;
-mod judging;
 mod owed;
+mod proof;
 mod rest;
 mod shown;
 mod takes;

@@ -4,48 +4,52 @@ ghost use Rattle.tv_cert.specs.AimViews.{aim_states};
 ghost use Rattle.tv_cert.specs.declared.node.Kind.TheVariants as kinds;
 ghost use Rattle.tv_cert_reader.specs.Texts.{sides_of};
 ghost use Rattle.tv_check_text.specs.Settling.{first_failing};
-ghost use Rattle.tv_check_text.specs.Rest.{IsFresh, JudgesProved, JudgesDenied, JudgesWhole};
+ghost use Rattle.tv_check_text.specs.Rest.{IsFresh, ChecksProved, ChecksDenied, ChecksWhole};
 
-use crate::judge::Judge;
-use crate::judging::judged_start;
+use crate::checker::Checker;
+use crate::proof::start_is_covered;
 use crate::visiting::first_failing;
 use tv_cert::{Aim, Claim, Failing, Kind};
 use tv_cert_reader::{Context, Failure, LineKind, Sort, Walk, finish, numbers, said, values};
 use tv_check::is_inside;
 
 /// Takes note of the last obligation, which is the root's.
-fn settle_root(judge: &mut Judge, met: bool)
-    requires { judge.old.seen < 2 ^ 32 }
-    ensures seen { judge.new.seen ≡ judge.old.seen + 1 }
-    ensures failing { judge.new.failing ≡ first_failing judge.old.failing met (record { number = judge.old.seen + 1; node = 0; kind = kinds.Root }) }
+fn settle_root(checker: &mut Checker, met: bool)
+    requires { checker.old.seen < 2 ^ 32 }
+    ensures seen { checker.new.seen ≡ checker.old.seen + 1 }
+    ensures failing { checker.new.failing ≡ first_failing checker.old.failing met (record { number = checker.old.seen + 1; node = 0; kind = kinds.Root }) }
 {
-    let number = judge.seen + 1;
+    let number = checker.seen + 1;
     let failing = Failing {
         number,
         node: 0,
         kind: Kind::Root,
     };
-    judge.failing = first_failing(judge.failing, met, failing);
-    judge.seen = number;
+    checker.failing = first_failing(checker.failing, met, failing);
+    checker.seen = number;
 }
 
-/// Reads and judges what stands behind the line that says that the property is proved.
-fn judge_proved(context: &Context, walk: &mut Walk<Judge>, aim: &Aim) -> Result<(), Failure>
+/// Reads and checks what stands behind the line that says that the property is proved.
+fn check_proved(context: &Context, walk: &mut Walk<Checker>, aim: &Aim) -> Result<(), Failure>
     requires { IsFresh walk.old }
-    ensures { JudgesProved (cases_of context.now.about.now) (aim_states aim.now) walk.old walk.new.taker result }
+    ensures { ChecksProved (cases_of context.now.about.now) (aim_states aim.now) walk.old walk.new.taker result }
 {
     let root = walk.node(context.about, aim)?;
-    let met = judged_start(context, &mut walk.cursor, &root.pieces)?;
+    let met = start_is_covered(context, &mut walk.cursor, &root.pieces)?;
     settle_root(&mut walk.taker, met);
     numbers(context.alloc, &mut walk.cursor, Sort::End, 0)?;
     finish(context.alloc, &mut walk.cursor)?;
     Ok(())
 }
 
-/// Reads and judges what stands behind the line that says that the property is disproved; the values at which it is.
-fn judge_denied(context: &Context, walk: &mut Walk<Judge>, aim: &Aim) -> Result<Vec<i128>, Failure>
+/// Reads and checks what stands behind the line that says that the property is disproved; the values at which it is.
+fn check_denied(
+    context: &Context,
+    walk: &mut Walk<Checker>,
+    aim: &Aim,
+) -> Result<Vec<i128>, Failure>
     requires { IsFresh walk.old }
-    ensures { JudgesDenied (cases_of context.now.about.now) (aim_states aim.now) walk.old walk.new.taker result }
+    ensures { ChecksDenied (cases_of context.now.about.now) (aim_states aim.now) walk.old walk.new.taker result }
 {
     let about = context.about;
     let root = walk.node(about, aim)?;
@@ -64,21 +68,21 @@ fn judge_denied(context: &Context, walk: &mut Walk<Judge>, aim: &Aim) -> Result<
     Ok(values)
 }
 
-/// Reads and judges a whole certificate of what is claimed; the values at which it is disproved, if it is.
-pub fn judge_whole(
+/// Reads and checks a whole certificate of what is claimed; the values at which it is disproved, if it is.
+pub fn check_whole(
     context: &Context,
-    walk: &mut Walk<Judge>,
+    walk: &mut Walk<Checker>,
     claim: &Claim,
 ) -> Result<Option<Vec<i128>>, Failure>
     requires fresh { IsFresh walk.old }
-    ensures { JudgesWhole (cases_of context.now.about.now) (sides_of claim.now) walk.old walk.new.taker result }
+    ensures { ChecksWhole (cases_of context.now.about.now) (sides_of claim.now) walk.old walk.new.taker result }
 {
     numbers(context.alloc, &mut walk.cursor, Sort::Header, 0)?;
     if said(context.alloc, &mut walk.cursor)? {
-        judge_proved(context, walk, claim.proved_aim())?;
+        check_proved(context, walk, claim.proved_aim())?;
         Ok(None)
     } else {
-        let values = judge_denied(context, walk, claim.denied_aim())?;
+        let values = check_denied(context, walk, claim.denied_aim())?;
         Ok(Some(values))
     }
 }

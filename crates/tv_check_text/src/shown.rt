@@ -1,6 +1,6 @@
 ghost use Rattle.std.specs.Prelude.{◌≡◌, ◌<◌, ◌+◌, ◌^◌, length};
 ghost use Rattle.tv_refute.specs.Frames.{known_at};
-ghost use Rattle.tv_check_text.specs.Judging.{JudgesLists};
+ghost use Rattle.tv_check_text.specs.Checking.{ChecksLists};
 ghost use Rattle.tv_check_text.specs.Owed.{owed_listed};
 
 use crate::owed::OwedRows;
@@ -19,7 +19,7 @@ pub fn rows_are_shown(
 ) -> Result<bool, Failure>
     requires counted { known ≡ length (known_at frames.now) }
     requires room { known < 2 ^ 127 }
-    ensures { JudgesLists columns (known_at frames.now) (owed_listed owed.now) cursor.old cursor.new result }
+    ensures { ChecksLists columns (known_at frames.now) (owed_listed owed.now) cursor.old cursor.new result }
 {
     let mut met = true;
     'rows: for place in 0..owed.count() {

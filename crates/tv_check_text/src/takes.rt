@@ -3,14 +3,14 @@ ghost use Rattle.tv_linear.specs.Known.{Known};
 ghost use Rattle.tv_cases.specs.Systems.{cases_of};
 ghost use Rattle.tv_cases.specs.Views.{case_view};
 ghost use Rattle.tv_cert.specs.Choices.{drawn_guards};
-ghost use Rattle.tv_cert.specs.Owing.{destination_owes};
+ghost use Rattle.tv_cert.specs.OwesViews.{destination_owes};
 ghost use Rattle.tv_refute.specs.Frames.{known_at};
 ghost use Rattle.tv_shape.specs.Counts.{AreFewAt};
 ghost use Rattle.tv_cert_reader.specs.declared.cursor.Cursor.{Cursor};
 ghost use Rattle.tv_cert_reader.specs.Covers.{IsBehind};
-ghost use Rattle.tv_check_text.specs.Judging.{JudgesChoice, JudgesLists};
+ghost use Rattle.tv_check_text.specs.Checking.{ChecksChoice, ChecksLists};
 
-use crate::choices::Choosing;
+use crate::choices::ChoiceCheck;
 use crate::owed::OwedRows;
 use crate::shown::rows_are_shown;
 use crate::targets::{entered, targets_after};
@@ -19,7 +19,7 @@ use tv_linear::Row;
 use tv_lines::Head;
 use tv_refute::{Change, Frames, Terms};
 
-impl<'a> Choosing<'a> {
+impl<'a> ChoiceCheck<'a> {
     /// Whether the lines that stand next show the guards of a case that is taken, with these terms for its draws, and what is owed.
     fn is_shown(
         &self,
@@ -36,7 +36,7 @@ impl<'a> Choosing<'a> {
             IsSome (owes (case_view taken.now.case.now) draws.now taken.now.target taken.now.fall) }
         ensures { let n = (cases_of self.now.context.about.now).variables in
             let case = case_view taken.now.case.now in
-            (rows : List Known) → destination_owes n self.now.piece.now self.now.destination.now case draws.now taken.now.target taken.now.fall ≡ Some rows → JudgesLists n (known_at frames.now) (drawn_guards n case draws.now ++ rows) cursor.old cursor.new result }
+            (rows : List Known) → destination_owes n self.now.piece.now self.now.destination.now case draws.now taken.now.target taken.now.fall ≡ Some rows → ChecksLists n (known_at frames.now) (drawn_guards n case draws.now ++ rows) cursor.old cursor.new result }
     {
         let columns = self.context.about.variables();
         let case = taken.case;
@@ -80,7 +80,7 @@ impl<'a> Choosing<'a> {
         requires room { known < 2 ^ 126 }
         ensures { let system = cases_of self.now.context.about.now in
             (left : ℕ) (old : Cursor) → IsBehind Head.Take numbers.now old cursor.old →
-            JudgesChoice system self.now.piece.now self.now.stop self.now.destination.now (known_at frames.now) left old cursor.new result }
+            ChecksChoice system self.now.piece.now self.now.stop self.now.destination.now (known_at frames.now) left old cursor.new result }
     {
         let Some(taken) = self.context.taken_of(numbers, self.piece, self.destination) else {
             return Err(Failure::Fault(LineKind::Shape, cursor.taken));

@@ -4,7 +4,7 @@ ghost use Rattle.tv_linear.specs.Known.{Known, as_given};
 ghost use Rattle.tv_linear.specs.Falls.{fall_rows};
 ghost use Rattle.tv_cases.specs.Views.{case_view};
 ghost use Rattle.tv_cert.specs.Choices.{drawn_change};
-ghost use Rattle.tv_cert.specs.Owing.{destination_owes, falls_where};
+ghost use Rattle.tv_cert.specs.OwesViews.{destination_owes, falls_where};
 ghost use Rattle.tv_cert.specs.Targets.{target_rows};
 ghost use Rattle.tv_shape.specs.Counts.{falls_past};
 ghost use Rattle.tv_check_text.specs.Owed.{entered_listed, fall_listed};

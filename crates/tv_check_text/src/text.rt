@@ -3,8 +3,8 @@ ghost use Rattle.tv_cases.specs.Systems.{cases_of};
 ghost use Rattle.tv_cert.specs.Claims.{claim_variables};
 ghost use Rattle.tv_check_text.specs.Texts.{IsAcceptedText, IsAcceptedWith, IsUnaccepted, failing_of};
 
-use crate::judge::Judge;
-use crate::rest::judge_whole;
+use crate::checker::Checker;
+use crate::rest::check_whole;
 use std::alloc::Global;
 use tv_cases::Cases;
 use tv_cert::{Claim, Failing};
@@ -81,7 +81,7 @@ pub fn check_text(
     requires variables { claim_variables claim.now ≡ (cases_of about.now).variables }
     // The text is that of a certificate all of whose obligations are met.
     ensures accepted { IfOk result (λ a. IsAcceptedText (cases_of about.now) claim.now text.now a) }
-    // Else the first line at fault is told, or the first obligation that is not met, unless memory is wanting.
+    // Else the first line at fault is told, or the first obligation that is not met, unless memory runs out.
     ensures refused { IfErr result (λ f. IsUnaccepted (cases_of about.now) claim.now text.now f) }
 {
     let context = Context { alloc, about };
@@ -93,14 +93,14 @@ pub fn check_text(
         alloc,
         cursor,
         nodes: 0,
-        taker: Judge {
+        taker: Checker {
             seen: 0,
             failing: None,
         },
         proofs: Vec::new(alloc),
         failure: None,
     };
-    match judge_whole(&context, &mut walk, claim) {
+    match check_whole(&context, &mut walk, claim) {
         Err(failure) => Err(failing_of(failure)),
         Ok(values) => match walk.taker.failing {
             Some(failing) => Err(TextFailing::Obligation(failing)),

@@ -1,12 +1,12 @@
 ghost use Rattle.std.specs.Prelude.{◌≡◌, false};
-ghost use Rattle.tv_check_text.specs.Settling.{first_failing, Judges, uncounted};
+ghost use Rattle.tv_check_text.specs.Settling.{first_failing, ChecksEntry, uncounted};
 
-use crate::judge::Judge;
-use crate::judging::judged;
+use crate::checker::Checker;
+use crate::proof::proof_is_met;
 use tv_cert::{Failing, Kind, Owes, Proof};
 use tv_cert_reader::{Context, Cursor, Failure, Taker};
 
-/// The first obligation that is not met, where `failing` is the last that was judged.
+/// The first obligation that is not met, where `failing` is the last that was checked.
 pub fn first_failing(earlier: Option<Failing>, met: bool, failing: Failing) -> Option<Failing>
     ensures { result ≡ first_failing earlier met failing }
 {
@@ -16,8 +16,8 @@ pub fn first_failing(earlier: Option<Failing>, met: bool, failing: Failing) -> O
     }
 }
 
-impl Taker for Judge {
-    ghost takes = { Judges };
+impl Taker for Checker {
+    ghost takes = { ChecksEntry };
 
     ghost room = { uncounted };
 
@@ -35,7 +35,7 @@ impl Taker for Judge {
         kind: Kind,
         owes: &Owes,
     ) -> Result<Option<Proof>, Failure> {
-        let met = judged(context, cursor, owes)?;
+        let met = proof_is_met(context, cursor, owes)?;
         let number = self.seen + 1;
         let failing = Failing { number, node, kind };
         self.failing = first_failing(self.failing, met, failing);

@@ -9,7 +9,7 @@ use Rattle.tv_linear.specs.declared.region.Piece.{Piece}
 use Rattle.tv_linear.proofs.ListLaws.{true_test}
 use Rattle.tv_cases.specs.LinearCases.{LinearCase, CaseSystem, from_of, leaving}
 use Rattle.tv_cases.specs.Before.{before}
-use Rattle.tv_cases.proofs.Listed.{Contains-here, Contains-later, Contains-map, Contains-from_map}
+use Rattle.tv_cases.proofs.ContainsLemmas.{Contains-here, Contains-later, Contains-map, Contains-from_map}
 use Rattle.tv_farkas.specs.declared.branch.Branch.{Branch}
 use Rattle.tv_farkas.specs.declared.fault.CoverFault.TheVariants.{Splits, Solve, Wide, Memory}
 use Rattle.tv_farkas.specs.Paths.{rows_after, at_most_row, at_least_row}

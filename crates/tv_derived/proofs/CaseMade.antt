@@ -7,7 +7,7 @@ use Rattle.tv_linear.specs.Linear.{Linear}
 use Rattle.tv_linear.specs.Arithmetic.{zeros, denial}
 use Rattle.tv_cases.specs.LinearCases.{LinearCase, CaseSystem}
 use Rattle.tv_cases.specs.Before.{before}
-use Rattle.tv_cases.proofs.Listed.{Contains-here, Contains-later, Contains-map, Contains-from_map}
+use Rattle.tv_cases.proofs.ContainsLemmas.{Contains-here, Contains-later, Contains-map, Contains-from_map}
 use Rattle.tv_derived.specs.Scopes.{over_case, at_location, with_more, placed}
 use Rattle.tv_derived.specs.Derived.{IsDerived, AreUnsplit, handed, guard, derived}
 use Rattle.tv_derived.specs.CaseQuestions.{handed_rows, known_rows, case_rows, IsAsked, KnownAreDerived, OwedIsPut, OwedIsDenied, EmptyRefusesCase}

@@ -8,7 +8,7 @@ use Rattle.tv_linear.specs.Tight.{gcd, divisor_from, divided_unless_zero, tight}
 use Rattle.tv_linear.proofs.PlainLists.{get_or-zeros}
 use Rattle.tv_cases.specs.LinearCases.{CaseSystem}
 use Rattle.tv_cases.specs.EdgeCases.{columns_from}
-use Rattle.tv_cases.proofs.Listed.{Contains-none}
+use Rattle.tv_cases.proofs.ContainsLemmas.{Contains-none}
 use Rattle.tv_derived.specs.Scopes.{Scope, Placed}
 use Rattle.tv_derived.specs.Derived.{IsDerived, IsMade, coefficient, handed, never, guard, made, longer, shorter, settled, denied, tightened, composed, added, taken_off, cancelled, drawn}
 use Rattle.tv_derived.specs.Laws.{IsBlank}

@@ -66,7 +66,7 @@ abbrev pub Unless : Reason → Type 0 → Type 0
 Unless Memory p = Unit {0}
 Unless _ p = p
 
--- What is answered, seen by view, and what is left are what the grammar reads, or memory is wanting.
+-- What is answered, seen by view, and what is left are what the grammar reads, or memory runs out.
 abbrev pub Gives : {X Y : Type 0} → (X → Y) → Result X Reason → List Seen → Result (Y × List Seen) (Fault Seen Kind) → Type 0
 Gives view (Ok x) left read = read ≡ Ok (view x, left)
 Gives view (Err e) left read = Unless e (read ≡ fault (kind_of e) left)

@@ -39,7 +39,7 @@ pub record IsFirstFault (p : System) (text : List ℕ) (k : Kind) (at : ℕ) : T
   pub place : (or_end (first behind)).at ≡ at
   pub refuses : Refuses text_at 64 k (seen_all (words_of p) text tokens) (seen_all (words_of p) text behind)
 
--- what a refusal says of the text, unless memory is wanting
+-- what a refusal says of the text, unless memory runs out
 abbrev pub IsRefusal : System → List ℕ → FormulaFault → Type 0
 IsRefusal p text (faults.Syntax at) = IsFirstFault p text Syntax at
 IsRefusal p text (faults.UnknownName at) = IsFirstFault p text UnknownName at
@@ -49,7 +49,7 @@ IsRefusal p text (faults.Deep at) = IsFirstFault p text Deep at
 IsRefusal p text faults.Long = Unit {0}
 IsRefusal p text faults.Memory = Unit {0}
 
--- unless memory is wanting, there is a value, which has P
+-- unless memory runs out, there is a value, which has P
 abbrev pub IsGiven : {X : Type 0} → Result X FormulaFault → (X → Type 0) → Type 0
 IsGiven (Ok x) P = P x
 IsGiven (Err faults.Memory) P = Unit {0}

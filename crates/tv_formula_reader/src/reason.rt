@@ -53,7 +53,7 @@ pub fn reason_of(fault: PartFault) -> Reason
     }
 }
 
-/// Whether memory is wanting.
+/// Whether memory runs out.
 pub fn is_memory(reason: Reason) -> bool
     ensures { result ≡ is_memory reason }
 {

@@ -46,7 +46,7 @@ fn append_operator(out: &mut Vec<u8>, path: Path, letter: u8) -> Result<(), Allo
     append_text(out, &[b'[', path_letter(path), letter, b']'])
 }
 
-/// The label of a location is added; one that has none is passed over.
+/// The label of a location is added; one that has none is ignored.
 fn append_place(out: &mut Vec<u8>, labels: &Names, location: u32) -> Result<(), AllocError>
     ensures { OnOk result (out.new.items ≡ out.old.items ++ (codes "at(" ++ (slice_index_or labels.now location [] ++ codes ")"))) }
 {
@@ -116,7 +116,7 @@ fn append_comparison(
     append_sum(words.alloc, out, right, words.variables)
 }
 
-/// The text of a formula is added, without brackets round the whole. Where memory is wanting, a front of it may have been added.
+/// The text of a formula is added, without brackets round the whole. Where memory runs out, a prefix of it may have been added.
 #[cycle(formulas)]
 fn append_formula(words: &Words, out: &mut Vec<u8>, tree: &Tree) -> Result<(), AllocError>
     ensures { OnOk result (out.new.items ≡ out.old.items ++ formula_text words.now.variables.now words.now.labels.now (property tree.now)) }

@@ -11,7 +11,7 @@ use Rattle.tv_invariant.specs.Rows.{IsStronger}
 use Rattle.tv_invariant.specs.Places.{row_of, place_of, rows_at}
 use Rattle.tv_invariant.specs.Passes.{AreOver}
 use Rattle.tv_invariant.specs.Pieces.{IsPieceOf, AreInPlace}
-use Rattle.tv_cases.proofs.Listed.{Contains-here, Contains-later, Contains-cases, Contains-none}
+use Rattle.tv_cases.proofs.ContainsLemmas.{Contains-here, Contains-later, Contains-cases, Contains-none}
 use Rattle.tv_invariant.proofs.ListLemmas.{all_by}
 
 old_or_last : {A : Type 0} (xs : List A) (y x : A) (k : ℕ) → slice_get (xs ++ y ∷ []) k ≡ Some x → (slice_get xs k ≡ Some x) ⊎ ((k ≡ length xs) × (y ≡ x))

@@ -14,7 +14,7 @@ use Rattle.tv_linear.proofs.ListLaws.{table-push, true_test}
 use Rattle.tv_program.specs.Steps.{State}
 use Rattle.tv_program.specs.Runs.{IsRun, last_of}
 use Rattle.tv_cases.specs.LinearCases.{LinearCase, CaseSystem, CaseDoes, CaseSteps, from_of, leaving}
-use Rattle.tv_cases.proofs.Listed.{Contains-here, Contains-later}
+use Rattle.tv_cases.proofs.ContainsLemmas.{Contains-here, Contains-later}
 use Rattle.tv_candidates.specs.declared.candidate.Candidate.{Candidate}
 use Rattle.tv_candidates.proofs.OnRuns.{on_runs}
 use Rattle.tv_invariant.specs.declared.reached.Reached.{Reached}

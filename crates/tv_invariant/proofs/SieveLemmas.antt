@@ -5,7 +5,7 @@ use Rattle.std.proofs.lemmas.List.Elements.{All-nil, All-cons}
 use Rattle.tv_candidates.specs.declared.candidate.Candidate.{Candidate}
 use Rattle.tv_candidates.specs.Inductive.{IsPart}
 use Rattle.tv_invariant.specs.Sieves.{Sieved, none, stay, fall}
-use Rattle.tv_cases.proofs.Listed.{Contains-here, Contains-later, Contains-cases}
+use Rattle.tv_cases.proofs.ContainsLemmas.{Contains-here, Contains-later, Contains-cases}
 
 module _ (stays falls : Candidate → Type 0) where
   pub one_stays : (old new : List Candidate) (c : Candidate) → stays c → Sieved stays falls old new → Sieved stays falls (old ++ c ∷ []) (new ++ c ∷ [])

@@ -22,7 +22,7 @@ use Rattle.tv_invariant.specs.Seen.{IsSettled}
 use Rattle.tv_invariant.specs.Sieves.{Sieved}
 use Rattle.tv_invariant.specs.Falling.{KeptBy, IsFallen, IsUnmade, IsStepRefusal}
 use Rattle.tv_invariant.specs.Passes.{AreOver}
-use Rattle.tv_cases.proofs.Listed.{Contains-cases, Contains-here, Contains-later, Contains-none}
+use Rattle.tv_cases.proofs.ContainsLemmas.{Contains-cases, Contains-here, Contains-later, Contains-none}
 use Rattle.tv_invariant.proofs.ListLemmas.{all_by, length-front, length-back}
 use Rattle.tv_invariant.proofs.SieveLemmas.{sieved_map}
 use Rattle.std.specs.Prelude.{Vec, Result, Ok, Err, IfOk}

@@ -27,7 +27,7 @@ impl Seen {
     }
 }
 
-/// Whether the row is not met at one of the points. A point at which its value leaves 128 bits is passed over.
+/// Whether the row is not met at one of the points. A point at which its value leaves 128 bits is ignored.
 pub fn fails_at(points: &[Vec<i128>], row: &Row) -> bool
     requires { All (λ xs. length xs ≡ width row.now) (map (λ p. p.items) points.now) }
     ensures { IsTrue result → FailsAt (map (λ p. p.items) points.now) row.now }

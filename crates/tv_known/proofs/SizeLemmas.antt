@@ -7,7 +7,7 @@ use Rattle.tv_formula.specs.Properties.{Property, truth, compare, at, term, nega
 use Rattle.tv_formula.specs.Normal.{normal, negation}
 use Rattle.tv_cases.specs.LinearCases.{LinearCase, CaseSystem, from_of, leaving}
 use Rattle.tv_cases.proofs.AmountLemmas.{sum-cons}
-use Rattle.tv_cases.proofs.Listed.{Contains-cases, Contains-none}
+use Rattle.tv_cases.proofs.ContainsLemmas.{Contains-cases, Contains-none}
 use Rattle.tv_known.specs.Subformulas.{subformulas, all_subformulas}
 use Rattle.tv_known.specs.Sizes.{product, some_count, all_count, stop_count, round_count, greatest_up_to, count, negated_count, greatest_of_negated, greatest_count, greatest_counts, greatest_below, size_bound}
 use Rattle.tv_known.specs.Laws.{SizeBoundsCounts, SizeBoundsRounds, EachCaseCounts}

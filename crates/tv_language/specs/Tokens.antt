@@ -41,7 +41,7 @@ answer_by ts (Some t) = Err (refusal_of t.kind t.at)
 abbrev pub answer_for : List Token → Result (List Token) TokenFault
 answer_for ts = answer_by ts (find is_fault ts)
 
--- the answer is that for the tokens of the text, or memory is wanting
+-- the answer is that for the tokens of the text, or memory runs out
 abbrev pub IsAnswer : List ℕ → Result (Vec Token Global) TokenFault → Type 0
 IsAnswer text (Ok list) = IsTokens 0 text list.items × (answer_for list.items ≡ Ok list.items)
 IsAnswer text (Err faults.Memory) = Unit {0}

@@ -39,7 +39,7 @@ pub enum TokenKind {
     Number,
     /// `AT(..)`, which stands for nothing.
     Mark,
-    /// A section `CUTPOINT: ..;`, `ERROR: ..;` or `SHADOW: ..;`, which is passed over.
+    /// A section `CUTPOINT: ..;`, `ERROR: ..;` or `SHADOW: ..;`, which is ignored.
     Passed,
     /// The end of the text.
     End,

@@ -27,7 +27,7 @@ use Rattle.tv_farkas.specs.Paths.{IsWholePoint}
 use Rattle.tv_farkas.specs.Trees.{TreeRows}
 use Rattle.tv_rank.specs.Ways.{Way, way_of, case_at, rows_at}
 use Rattle.tv_cover.specs.Single.{IsCoverInto}
-use Rattle.tv_cases.proofs.Listed.{Contains-from_map}
+use Rattle.tv_cases.proofs.ContainsLemmas.{Contains-from_map}
 use Rattle.tv_cases.proofs.BeforeLemmas.{all_before_same}
 use Rattle.tv_lexrank.specs.declared.fault.RankFault.{RankFault}
 use Rattle.tv_lexrank.specs.declared.fault.RankFault.TheVariants as fault

@@ -10,7 +10,7 @@ use Rattle.tv_linear.specs.declared.fault.RowFault.TheVariants as row
 use Rattle.tv_linear.specs.declared.region.Piece.{Piece}
 use Rattle.tv_cases.specs.LinearCases.{LinearCase, CaseSystem}
 use Rattle.tv_cases.specs.Before.{before, FitsBefore, rows_before}
-use Rattle.tv_cases.proofs.Listed.{Contains-map, Contains-from_map}
+use Rattle.tv_cases.proofs.ContainsLemmas.{Contains-map, Contains-from_map}
 use Rattle.tv_farkas.specs.declared.budget.Budget.{Budget}
 use Rattle.tv_farkas.specs.declared.fault.CoverFault.{CoverFault}
 use Rattle.tv_farkas.specs.declared.fault.CoverFault.TheVariants.{Splits, Solve, Wide, Memory}

@@ -16,7 +16,7 @@ use Rattle.tv_cases.specs.LinearCases.{LinearCase, CaseSystem}
 use Rattle.tv_cert.specs.declared.node.Marked.{Marked}
 use Rattle.tv_cert.specs.Pieces.{place_of, rows_of, ranks_of, goes, pieces_at}
 use Rattle.tv_cert.specs.Targets.{target_rows, no_fall}
-use Rattle.tv_cert.specs.Owing.{falls_where}
+use Rattle.tv_cert.specs.OwesViews.{falls_where}
 use Rattle.tv_cert.specs.Choices.{drawn_guards, drawn_change, TakeMet}
 use Rattle.tv_cert.specs.Shapes.{ListsShape, TakeShape}
 use Rattle.tv_shape.specs.Narrow.{AreNarrow, ListsNarrow, RowNarrow}

@@ -10,7 +10,7 @@ use Rattle.tv_cases.specs.Systems.{cases_of}
 use Rattle.tv_cert.specs.declared.node.Marked.{Marked}
 use Rattle.tv_cert.specs.Pieces.{place_of, rows_of, ranks_of, goes, pieces_at}
 use Rattle.tv_cert.specs.Targets.{owed_into}
-use Rattle.tv_cert.specs.Owing.{falls_where}
+use Rattle.tv_cert.specs.OwesViews.{falls_where}
 use Rattle.tv_cert.specs.Choices.{drawn_guards, drawn_change, IsMetChoice}
 use Rattle.tv_cert.specs.Shapes.{ChoiceShape}
 use Rattle.tv_shape.specs.Narrow.{ChoiceNarrow}

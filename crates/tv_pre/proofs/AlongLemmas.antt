@@ -8,7 +8,7 @@ use Rattle.tv_program.specs.Steps.{State}
 use Rattle.tv_linear.specs.declared.region.Piece.{Piece}
 use Rattle.tv_linear.specs.declared.region.Region.{Region}
 use Rattle.tv_cases.specs.LinearCases.{CaseSystem, CaseSteps, IsCase}
-use Rattle.tv_cases.proofs.Listed.{Contains-here, Contains-later, Contains-cases, Contains-none}
+use Rattle.tv_cases.proofs.ContainsLemmas.{Contains-here, Contains-later, Contains-cases, Contains-none}
 use Rattle.tv_cert.specs.Obligations.{hold_side}
 use Rattle.tv_cert.specs.Statements.{Statement}
 use Rattle.tv_known.specs.Cycles.{IsStateOf}

@@ -10,7 +10,7 @@ use Rattle.tv_formula.specs.declared.tree.Shape.TheVariants.{Until, Weak, Releas
 use Rattle.tv_linear.specs.declared.region.Piece.{Piece}
 use Rattle.tv_linear.specs.declared.region.Region.{Region}
 use Rattle.tv_cases.specs.LinearCases.{CaseSystem}
-use Rattle.tv_cases.proofs.Listed.{Contains-here, Contains-later, Contains-cases, Contains-none}
+use Rattle.tv_cases.proofs.ContainsLemmas.{Contains-here, Contains-later, Contains-cases, Contains-none}
 use Rattle.tv_cert.specs.Obligations.{hold_side, end_sides}
 use Rattle.tv_cert.specs.Statements.{Statement}
 use Rattle.tv_pre.specs.declared.sides.Sides.{Sides}

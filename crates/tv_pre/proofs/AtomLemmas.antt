@@ -29,7 +29,7 @@ use Rattle.tv_pre.specs.Atoms.{test_lists, IsTestOf, atom_piece, atom_pieces, Is
 use Rattle.tv_pre.specs.declared.test.Test.{Test}
 use Rattle.tv_pre.specs.declared.test.Test.TheVariants.{Rows, Here, Elsewhere}
 use Rattle.tv_pre.specs.Making.{IsMade, plain_pieces}
-use Rattle.tv_cert.specs.Listed.{pieces_list}
+use Rattle.tv_cert.specs.NodeViews.{pieces_list}
 use Rattle.tv_cert.specs.Nodes.{parts, piece_of}
 use Rattle.tv_pre.specs.Parts.{IsPart, AreParts}
 use Rattle.tv_pre.proofs.ShapeLemmas.{flat_same}

@@ -14,7 +14,7 @@ use Rattle.tv_linear.specs.declared.region.Region.{Region}
 use Rattle.tv_farkas.specs.Paths.{IsWholePoint}
 use Rattle.tv_meaning.specs.Meaning.{Holds}
 use Rattle.tv_cases.specs.LinearCases.{CaseSystem, CaseSteps}
-use Rattle.tv_cases.proofs.Listed.{Contains-here, Contains-later, Contains-cases, Contains-none}
+use Rattle.tv_cases.proofs.ContainsLemmas.{Contains-here, Contains-later, Contains-cases, Contains-none}
 use Rattle.tv_cert.specs.Statements.{Statement}
 use Rattle.tv_choice.specs.Leading.{piece_rows, state}
 use Rattle.tv_cover.specs.Covering.{IsHole}

@@ -31,8 +31,8 @@ use Rattle.tv_pre.specs.Offers.{ShowsChoice}
 use Rattle.tv_pre.specs.Questions.{query_of}
 use Rattle.tv_pre.proofs.OfferLemmas.{lists_marked, got_mapped, nil_behind}
 
-abbrev pub Owing : Type 0
-Owing = LinearCase → List Linear → ℕ → ℕ → Option (List Known)
+abbrev pub RowsOwed : Type 0
+RowsOwed = LinearCase → List Linear → ℕ → ℕ → Option (List Known)
 
 -- ---- where what is owed is told in another way
 pub at_same : (n : ℕ) (ks : List Known) (a b : Option (List Known)) → OwedSame n a b → (lists : List (List ℤ)) → ShownAt n ks a lists → ShownAt n ks b lists
@@ -45,7 +45,7 @@ guards_before n guards None b e = tt
 guards_before n guards (Some xs) None e = absurd e
 guards_before n guards (Some xs) (Some ys) e = same_append n guards guards xs ys (all_same n guards) e
 
-take_same : (n l : ℕ) (owed wanted : Owing) → ((c : LinearCase) (ds : List Linear) (k j : ℕ) → OwedSame n (owed c ds k j) (wanted c ds k j)) → (ks : List Known) (found : Option LinearCase) (k j : ℕ) (draws : List Linear) (lists : List (List ℤ)) → TakeMet n l owed ks found k j draws lists → TakeMet n l wanted ks found k j draws lists
+take_same : (n l : ℕ) (owed wanted : RowsOwed) → ((c : LinearCase) (ds : List Linear) (k j : ℕ) → OwedSame n (owed c ds k j) (wanted c ds k j)) → (ks : List Known) (found : Option LinearCase) (k j : ℕ) (draws : List Linear) (lists : List (List ℤ)) → TakeMet n l owed ks found k j draws lists → TakeMet n l wanted ks found k j draws lists
 take_same n l owed wanted e ks None k j draws lists h = absurd h
 take_same n l owed wanted e ks (Some c) k j draws lists h = (
   h.0,
@@ -53,7 +53,7 @@ take_same n l owed wanted e ks (Some c) k j draws lists h = (
   at_same n ks (option_map (λ rows. drawn_guards n c draws ++ rows) (owed c draws k j)) (option_map (λ rows. drawn_guards n c draws ++ rows) (wanted c draws k j)) (guards_before n (drawn_guards n c draws) (owed c draws k j) (wanted c draws k j) (e c draws k j)) lists h.2,
 )
 
-pub choice_same : (n : ℕ) (cases : List LinearCase) (l : ℕ) (stop : Bool) (owed wanted : Owing) → ((c : LinearCase) (ds : List Linear) (k j : ℕ) → OwedSame n (owed c ds k j) (wanted c ds k j)) → (ks : List Known) (tree : ChoiceTree) → IsMetChoice n cases l stop owed ks tree → IsMetChoice n cases l stop wanted ks tree
+pub choice_same : (n : ℕ) (cases : List LinearCase) (l : ℕ) (stop : Bool) (owed wanted : RowsOwed) → ((c : LinearCase) (ds : List Linear) (k j : ℕ) → OwedSame n (owed c ds k j) (wanted c ds k j)) → (ks : List Known) (tree : ChoiceTree) → IsMetChoice n cases l stop owed ks tree → IsMetChoice n cases l stop wanted ks tree
 choice_same n cases l stop owed wanted e ks (Split' r p a q b) h = (
   choice_same n cases l stop owed wanted e (ks ++ given r ∷ []) a h.0,
   choice_same n cases l stop owed wanted e (ks ++ denied (given r) ∷ []) b h.1,
@@ -74,7 +74,7 @@ lists_shape n known c draws (Some rows) lists h =
     let s = shown_shape n known (drawn_guards n c draws ++ rows) lists h in
     (s.0 ∙ length-append (drawn_guards n c draws) rows ∙ ap (λ m. m + length rows) (length-map c.guards _), s.1)
 
-take_shape : (n l : ℕ) (owed wanted : Owing) (known : List Known) (found : Option LinearCase) (k j i : ℕ) (draws : List Linear) (before lists : List (List ℤ)) → TakeShape n l owed (length known) found k i draws before → TakeMet n l wanted known found k j draws lists → TakeShape n l wanted (length known) found k j draws lists
+take_shape : (n l : ℕ) (owed wanted : RowsOwed) (known : List Known) (found : Option LinearCase) (k j i : ℕ) (draws : List Linear) (before lists : List (List ℤ)) → TakeShape n l owed (length known) found k i draws before → TakeMet n l wanted known found k j draws lists → TakeShape n l wanted (length known) found k j draws lists
 take_shape n l owed wanted known None k j i draws before lists s m = absurd m
 take_shape n l owed wanted known (Some c) k j i draws before lists s m = (m.0, m.1, s.2, lists_shape n known c draws (wanted c draws k j) lists m.2)
 
@@ -82,7 +82,7 @@ one_more : (known : List Known) (x : Known) → length (known ++ x ∷ []) ≡ l
 one_more known x = length-append known (x ∷ [])
 
 -- the shape is kept where the same choice is met by what is owed otherwise
-pub choice_shape : (n : ℕ) (cases : List LinearCase) (l : ℕ) (stop : Bool) (owed wanted : Owing) (known : List Known) (tree : ChoiceTree) → ChoiceShape n cases l stop owed (length known) tree → IsMetChoice n cases l stop wanted known tree → ChoiceShape n cases l stop wanted (length known) tree
+pub choice_shape : (n : ℕ) (cases : List LinearCase) (l : ℕ) (stop : Bool) (owed wanted : RowsOwed) (known : List Known) (tree : ChoiceTree) → ChoiceShape n cases l stop owed (length known) tree → IsMetChoice n cases l stop wanted known tree → ChoiceShape n cases l stop wanted (length known) tree
 choice_shape n cases l stop owed wanted known (Split' r p a q b) s m = (
   s.0,
   subst (λ k. ChoiceShape n cases l stop wanted k a) (one_more known (given r)) (choice_shape n cases l stop owed wanted (known ++ given r ∷ []) a (subst (λ k. ChoiceShape n cases l stop owed k a) (sym (one_more known (given r))) s.1) m.0),
@@ -139,7 +139,7 @@ shows_choice about q stop into tree met shape narrow shallow number k p ps m ms 
     n : ℕ
     n = about.variables
 
-    wanted : Owing
+    wanted : RowsOwed
     wanted = choice_into (about_with about) ps (λ c draws. no_fall)
 
     own_met : IsMetChoice about.variables about.cases q.location stop (choice_into (about_with about) ps (λ c draws. no_fall)) (as_given (piece_rows q)) tree

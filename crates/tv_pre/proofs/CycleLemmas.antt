@@ -6,7 +6,7 @@ use Rattle.std.proofs.lemmas.List.Elements.{Contains-get_or, All-more, All-conta
 use Rattle.tv_cases.specs.LinearCases.{LinearCase, CaseSystem, AreCases, IsCase}
 use Rattle.tv_cases.specs.declared.case.Case.{Case}
 use Rattle.tv_cases.specs.Views.{case_view, case_views}
-use Rattle.tv_cases.proofs.Listed.{Contains-map, Contains-from_map}
+use Rattle.tv_cases.proofs.ContainsLemmas.{Contains-map, Contains-from_map}
 use Rattle.tv_graph.specs.declared.Arc.{Arc}
 use Rattle.tv_graph.specs.Graph.{Reaches, here, along, AreStronglyConnected}
 use Rattle.tv_known.specs.Cycles.{Leads, HasCycle, case_at, no_case}

@@ -36,7 +36,7 @@ use Rattle.tv_region.proofs.AlgebraLemmas.{state_in}
 use Rattle.tv_region.proofs.MetLemmas.{all_met-all}
 use Rattle.tv_region.specs.Met as met
 use Rattle.tv_rounds.proofs.InsideLemmas.{out_of_targets}
-use Rattle.tv_cases.proofs.Listed.{some_passes}
+use Rattle.tv_cases.proofs.ContainsLemmas.{some_passes}
 
 -- the statement of an aim that is handed in is that of the claim
 pub states_of : (about : CaseSystem) (n : ℕ) (t : Statement) (f : Property) → t ≡ stated (comparison_lists n) f → n ≡ about.variables → States about t f

@@ -38,7 +38,7 @@ use Rattle.tv_lexrank.proofs.OfferLemmas.{met_shape}
 use Rattle.tv_pre.specs.Offers.{ShowsStep, ShowsChoice}
 use Rattle.tv_pre.specs.Pieces.{AreMarked, marked_as}
 use Rattle.tv_pre.specs.Ranked.{IsFallingEntry, IsFallingCover, first_past, IsFallingChoice, NeverStops, ShowsFallingStep, ShowsFallingChoice}
-use Rattle.tv_pre.proofs.ChoiceLemmas.{Owing, guards_before, lists_shape, lists_filtered}
+use Rattle.tv_pre.proofs.ChoiceLemmas.{RowsOwed, guards_before, lists_shape, lists_filtered}
 use Rattle.tv_pre.proofs.FallLemmas.{WithFalls, FallsOwed, falls_owed, case_keeps, drawn_keeps}
 use Rattle.tv_pre.proofs.OfferLemmas.{lists_marked}
 use Rattle.tv_pre.proofs.PieceLemmas.{are_marked}
@@ -69,7 +69,7 @@ guarded n first guards owed wanted f = record {
 }
 
 -- ---- choices
-module _ (about : CaseSystem) (l : ℕ) (done : List Piece) (owed wanted : Owing) (f : (c : LinearCase) (draws : List Linear) → FallsOwed about.variables (length (filter (λ p. p.location == c.to) done)) (owed c draws) (wanted c draws)) where
+module _ (about : CaseSystem) (l : ℕ) (done : List Piece) (owed wanted : RowsOwed) (f : (c : LinearCase) (draws : List Linear) → FallsOwed about.variables (length (filter (λ p. p.location == c.to) done)) (owed c draws) (wanted c draws)) where
   abbrev n : ℕ
   n = about.variables
 
@@ -218,10 +218,10 @@ shows_falling_choice about q done into count old new many shows falling number p
     n : ℕ
     n = about.variables
 
-    plain_owed : Owing
+    plain_owed : RowsOwed
     plain_owed = choice_into (about_with about) (h.dones ++ h.ranked) (λ c draws. no_fall)
 
-    wanted : Owing
+    wanted : RowsOwed
     wanted = choice_into (about_with about) all (choice_fall (about_with about) p)
 
     plain : IsOffered (choice_of number kind.Choice (about_with about) p false (choice_into (about_with about) (h.dones ++ h.ranked) (λ c draws. no_fall))) (Chosen old)
@@ -240,7 +240,7 @@ shows_falling_choice about q done into count old new many shows falling number p
     met = choice_falls about (place_of p) done plain_owed wanted owed count (as_given (rows_of p)) old new (length-given (rows_of p) ∙ ap length h.marked.1 ∙ sym many) (given_held n (rows_of p)) plain.narrow falling plain.met
 
 -- ---- no choice stops where none may
-shape_goes : (n : ℕ) (cases : List LinearCase) (l : ℕ) (owed : Owing) (count : ℕ) (tree : ChoiceTree) → ChoiceShape n cases l false owed count tree → NeverStops tree
+shape_goes : (n : ℕ) (cases : List LinearCase) (l : ℕ) (owed : RowsOwed) (count : ℕ) (tree : ChoiceTree) → ChoiceShape n cases l false owed count tree → NeverStops tree
 shape_goes n cases l owed count (choice.Split' r p a q b) h = (shape_goes n cases l owed (count + 1) a h.1, shape_goes n cases l owed (count + 1) b h.2)
 shape_goes n cases l owed count (choice.Empty ms) h = tt
 shape_goes n cases l owed count (choice.NoStep covers) h = (let x = h.0 in let no : ⊥ = cc in absurd no)

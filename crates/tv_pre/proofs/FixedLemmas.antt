@@ -13,7 +13,7 @@ use Rattle.tv_cert.specs.declared.node.Marked.{Marked}
 use Rattle.tv_cert.specs.declared.node.Node.{Node}
 use Rattle.tv_cert.specs.declared.node.Proof.{Proof}
 use Rattle.tv_cert.specs.Claims.{about_with}
-use Rattle.tv_cert.specs.Listed.{pieces_list}
+use Rattle.tv_cert.specs.NodeViews.{pieces_list}
 use Rattle.tv_cert.specs.Obligations.{Obligation, fix_of, first_of, second_of}
 use Rattle.tv_cert.specs.Pieces.{goes, is_go}
 use Rattle.tv_cert.specs.Shapes.{may_rank}

@@ -11,7 +11,7 @@ use Rattle.tv_linear.specs.declared.region.Region.{Region}
 use Rattle.tv_cases.specs.Comparisons.{comparison_lists}
 use Rattle.tv_cases.specs.LinearCases.{CaseSystem, CaseSteps, IsCase}
 use Rattle.tv_program.specs.Runs.{Ends}
-use Rattle.tv_cases.proofs.Listed.{Contains-none}
+use Rattle.tv_cases.proofs.ContainsLemmas.{Contains-none}
 use Rattle.tv_cert.specs.declared.node.Node.{Node}
 use Rattle.tv_cert.specs.declared.aim.Aim.{Aim}
 use Rattle.tv_cert.specs.AimViews.{statements_of, aim_states, aims_state}

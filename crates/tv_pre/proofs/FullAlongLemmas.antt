@@ -12,7 +12,7 @@ use Rattle.tv_program.specs.Runs.{IsRun, last_of, Must, reached, further, AtOne,
 use Rattle.tv_meaning.specs.Meaning.{Holds, FixHolds}
 use Rattle.tv_linear.specs.declared.region.Region.{Region}
 use Rattle.tv_cases.specs.LinearCases.{CaseSystem, CaseSteps, IsCase}
-use Rattle.tv_cases.proofs.Listed.{Contains-here, Contains-later}
+use Rattle.tv_cases.proofs.ContainsLemmas.{Contains-here, Contains-later}
 use Rattle.tv_known.specs.Cycles.{IsStateOf}
 use Rattle.tv_known.specs.Laws.{Decides}
 use Rattle.tv_known.specs.Rounds.{HoldSide, EndSides, HoldsBy, must_end}

@@ -11,7 +11,7 @@ use Rattle.tv_formula.specs.declared.tree.Shape.TheVariants.{Until, Weak, Releas
 use Rattle.tv_formula.specs.Properties.{Property, truth, compare, at, term, negated, all_of, some_of, next, fix, Properties, none, more}
 use Rattle.tv_formula.specs.Normal.{opposite, other_path, other_shape, negation, normal, negations, normals}
 use Rattle.tv_known.specs.Subformulas.{subformulas, all_subformulas}
-use Rattle.tv_cases.proofs.Listed.{Contains-here, Contains-later, Contains-cases, Contains-none}
+use Rattle.tv_cases.proofs.ContainsLemmas.{Contains-here, Contains-later, Contains-cases, Contains-none}
 use Rattle.std.proofs.Math.Bool.{not-not}
 
 pub opposite_twice : (r : Relation) → opposite (opposite r) ≡ r

@@ -10,7 +10,7 @@ use Rattle.tv_cases.specs.LinearCases.{CaseSystem}
 use Rattle.tv_cert.specs.declared.node.Marked.{Marked}
 use Rattle.tv_cert.specs.declared.node.Node.{Node, Node', Row_of-Node, end_of-Node, more_of-Node}
 use Rattle.tv_cert.specs.Claims.{about_with}
-use Rattle.tv_cert.specs.Listed.{pieces_list}
+use Rattle.tv_cert.specs.NodeViews.{pieces_list}
 use Rattle.tv_cert.specs.Nodes.{pieces_of}
 use Rattle.tv_cert.specs.Obligations.{About}
 use Rattle.tv_cert.specs.Pieces.{place_of, rows_of, pieces_at}

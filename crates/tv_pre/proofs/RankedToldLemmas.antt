@@ -15,7 +15,7 @@ use Rattle.tv_meaning.specs.Meaning.{Holds}
 use Rattle.tv_meaning.proofs.Negation.{negation_excludes}
 use Rattle.tv_cases.specs.Comparisons.{comparison_lists}
 use Rattle.tv_cases.specs.LinearCases.{CaseSystem, CaseSteps, IsCase, AreCases}
-use Rattle.tv_cases.proofs.Listed.{Contains-cases, Contains-none}
+use Rattle.tv_cases.proofs.ContainsLemmas.{Contains-cases, Contains-none}
 use Rattle.tv_cert.specs.declared.claim.Claim.{Claim}
 use Rattle.tv_cert.specs.AimViews.{aim_states}
 use Rattle.tv_cert.specs.Claims.{claim_variables}

@@ -10,7 +10,7 @@ use Rattle.tv_program.specs.Steps.{State}
 use Rattle.tv_linear.specs.declared.region.Piece.{Piece}
 use Rattle.tv_linear.specs.declared.region.Region.{Region}
 use Rattle.tv_cases.specs.LinearCases.{CaseSystem}
-use Rattle.tv_cases.proofs.Listed.{Contains-cases, Contains-none}
+use Rattle.tv_cases.proofs.ContainsLemmas.{Contains-cases, Contains-none}
 use Rattle.tv_known.specs.Cycles.{IsStateOf}
 use Rattle.tv_known.specs.Rounds.{HoldSide, EndSides}
 use Rattle.tv_cert.specs.Obligations.{hold_side}

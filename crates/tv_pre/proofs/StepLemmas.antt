@@ -20,7 +20,7 @@ use Rattle.tv_farkas.specs.Trees.{TreeRows}
 use Rattle.tv_cases.specs.Before.{before, FitsBefore, rows_before}
 use Rattle.tv_cases.specs.LinearCases.{LinearCase, CaseSystem, IsCase}
 use Rattle.tv_cases.proofs.BeforeValue.{before-value}
-use Rattle.tv_cases.proofs.Listed.{Contains-here, Contains-later, Contains-map}
+use Rattle.tv_cases.proofs.ContainsLemmas.{Contains-here, Contains-later, Contains-map}
 use Rattle.tv_cases.proofs.BeforeLemmas.{all_before_same, all_before_even}
 use Rattle.tv_cert.specs.declared.node.Marked.{Marked}
 use Rattle.tv_cert.specs.Obligations.{case_change}

@@ -6,7 +6,7 @@ use Rattle.tv_linear.specs.Linear.{Linear}
 use Rattle.tv_linear.specs.Known.{term_value}
 use Rattle.tv_linear.specs.Terms.{terms_after}
 use Rattle.tv_cases.specs.LinearCases.{LinearCase, CaseSystem, CaseDoes}
-use Rattle.tv_cases.proofs.Listed.{Contains-here, Contains-later, Contains-cases, Contains-none}
+use Rattle.tv_cases.proofs.ContainsLemmas.{Contains-here, Contains-later, Contains-cases, Contains-none}
 use Rattle.tv_cert.specs.Statements.{Statement}
 use Rattle.tv_known.specs.Rounds.{Goes}
 use Rattle.tv_known.specs.Laws.{Decides}

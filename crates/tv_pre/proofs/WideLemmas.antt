@@ -7,7 +7,7 @@ use Rattle.tv_formula.specs.Properties.{Property, truth, compare, at, term, nega
 use Rattle.tv_formula.specs.Views.{property, properties, properties_of}
 use Rattle.tv_formula.specs.declared.tree.Tree.{Tree}
 use Rattle.tv_formula.specs.Limits.{property_fits, properties_fit, part_fits}
-use Rattle.tv_cases.proofs.Listed.{Contains-here, Contains-later}
+use Rattle.tv_cases.proofs.ContainsLemmas.{Contains-here, Contains-later}
 use Rattle.tv_known.specs.Subformulas.{subformulas, all_subformulas}
 use Rattle.tv_pre.specs.declared.wide.Comparisons.TheVariants.{HaveRows}
 use Rattle.tv_pre.specs.Full.{HasRows, AllHaveRows}

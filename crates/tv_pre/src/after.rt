@@ -15,7 +15,7 @@ ghost use Rattle.tv_pre.specs.Around.{next_of};
 ghost use Rattle.tv_pre.specs.Parts.{IsPart, AreParts};
 
 use crate::plain::plain_part;
-use crate::proving::{Owing, prove_choice, prove_steps};
+use crate::proving::{PieceProver, prove_choice, prove_steps};
 use crate::{Part, Setting};
 use tv_cert::{Node, Proof};
 use tv_farkas::CoverFault;
@@ -29,7 +29,7 @@ pub(crate) struct Before<'a> {
     pub child: &'a Region,
 }
 
-impl Owing for Before<'_> {
+impl PieceProver for Before<'_> {
     ghost of = { λ s about q. IsPieceOf about.variables about.locations q × IsRegion about.variables about.locations s.child.now
         × OfPiece about q (LeadsTo about s.path (InState s.child.now)) };
 
@@ -80,8 +80,8 @@ pub fn next(
     ensures refusals { let system = cases_of setting.now.about.now in
         IfErr result (IsRefusal system setting.now.budget.now (AsksOf (λ q. AsksNext system path q child.now.pieces.items) region.pieces.items)) }
 {
-    let owing = Before { path, child };
-    match plain_part(setting, &owing, region, children) {
+    let prover = Before { path, child };
+    match plain_part(setting, &prover, region, children) {
         Err(fault) => Err(fault),
         Ok(part) => Ok(part),
     }

@@ -22,7 +22,7 @@ ghost use Rattle.tv_pre.specs.Ranked.{IsLayered};
 use crate::atoms::{atom, whole_lists};
 use crate::falls::{choice_falling, step_falling};
 use crate::inside::choice_inside;
-use crate::proving::{Owing, prove_cover};
+use crate::proving::{PieceProver, prove_cover};
 use crate::{Setting, Test};
 use std::alloc::{AllocError, Global};
 use tv_cases::Cases;
@@ -144,7 +144,7 @@ fn prove_coming(
     }
 }
 
-impl Owing for Round<'_> {
+impl PieceProver for Round<'_> {
     ghost of = { λ s about q. IsPieceOf about.variables about.locations q
         × IsRegion about.variables about.locations s.hold.now × IsEverywhere about s.anywhere.now
         × ArePieces about s.earlier.now.pieces.items × OfPiece about q (InState s.hold.now)

@@ -17,7 +17,7 @@ ghost use Rattle.tv_pre.specs.Ranked.{IsLayered};
 use crate::coming::prove_falling_steps;
 use crate::growing::{Grown, with_layer};
 use crate::plain::part_of;
-use crate::proving::{Owing, prove_all};
+use crate::proving::{PieceProver, prove_all};
 use crate::{Part, Setting};
 use tv_cert::Proof;
 use tv_farkas::CoverFault;
@@ -29,7 +29,7 @@ struct Descending<'a> {
     earlier: &'a [Piece],
 }
 
-impl Owing for Descending<'_> {
+impl PieceProver for Descending<'_> {
     ghost of = { λ s about q. IsPieceOf about.variables about.locations q × ArePieces about s.earlier.now
         × OfPiece about q (LeadsTo about Every (InPieces s.earlier.now)) };
 
@@ -89,10 +89,10 @@ fn ended_by(setting: &Setting, grown: Grown, layer: Region) -> Result<Grown, Cov
         pieces,
         mut proofs,
     } = grown;
-    let owing = Descending {
+    let prover = Descending {
         earlier: &region.pieces,
     };
-    match prove_all(setting, &owing, &layer.pieces, &mut proofs) {
+    match prove_all(setting, &prover, &layer.pieces, &mut proofs) {
         Err(fault) => return Err(fault),
         Ok(()) => {}
     }

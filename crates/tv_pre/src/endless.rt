@@ -36,11 +36,11 @@ pub fn never_ends(setting: &Setting, region: Region) -> Result<Part, CoverFault>
 {
     let alloc = setting.alloc;
     let mut proofs = Vec::new(alloc);
-    let owing = Before {
+    let prover = Before {
         path: Path::Any,
         child: &region,
     };
-    match prove_all(setting, &owing, &region.pieces, &mut proofs) {
+    match prove_all(setting, &prover, &region.pieces, &mut proofs) {
         Err(fault) => return Err(fault),
         Ok(()) => {}
     }

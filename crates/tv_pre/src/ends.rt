@@ -12,7 +12,7 @@ ghost use Rattle.tv_pre.specs.Inclusions.{OfPiece};
 ghost use Rattle.tv_pre.specs.Around.{two_ends};
 ghost use Rattle.tv_pre.specs.Questions.{AsksEach};
 
-use crate::proving::{Owing, prove_cover};
+use crate::proving::{PieceProver, prove_cover};
 use crate::{Setting, Sides};
 use tv_cert::Proof;
 use tv_farkas::CoverFault;
@@ -47,7 +47,7 @@ pub(crate) struct Ends<'a> {
     pub second: &'a Region,
 }
 
-impl Owing for Ends<'_> {
+impl PieceProver for Ends<'_> {
     ghost of = { λ s about q. IsPieceOf about.variables about.locations q
         × IsRegion about.variables about.locations s.first.now × IsRegion about.variables about.locations s.second.now
         × OfPiece about q (EndSides s.shape (InState s.first.now) (InState s.second.now)) };

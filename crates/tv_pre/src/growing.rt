@@ -152,7 +152,7 @@ fn grown_by(
     } = grown;
     let list: &[Piece] = &region.pieces;
     let (done, _rest) = list.split_at(count);
-    let owing = Round {
+    let prover = Round {
         path: sides.path,
         shape: sides.shape,
         hold: hold_of(sides),
@@ -160,7 +160,7 @@ fn grown_by(
         earlier: &region,
         done,
     };
-    match prove_all(setting, &owing, &layer.pieces, &mut proofs) {
+    match prove_all(setting, &prover, &layer.pieces, &mut proofs) {
         Err(fault) => return Err(fault),
         Ok(()) => {}
     }

@@ -20,7 +20,7 @@ ghost use Rattle.tv_pre.specs.Parts.{IsPart, AreParts, joined_pieces};
 
 use crate::inside::cover_joined;
 use crate::plain::plain_part;
-use crate::proving::{Owing, prove_cover};
+use crate::proving::{PieceProver, prove_cover};
 use crate::{Part, Setting};
 use tv_cert::{Node, Proof};
 use tv_farkas::CoverFault;
@@ -32,7 +32,7 @@ struct InEach<'a> {
     regions: &'a [Region],
 }
 
-impl Owing for InEach<'_> {
+impl PieceProver for InEach<'_> {
     ghost of = { λ s about q. IsPieceOf about.variables about.locations q
         × All (λ (r : Region). IsRegion about.variables about.locations r × OfPiece about q (InState r)) s.regions.now };
 
@@ -64,7 +64,7 @@ struct InSome<'a> {
     regions: &'a [Region],
 }
 
-impl Owing for InSome<'_> {
+impl PieceProver for InSome<'_> {
     ghost of = { λ s about q. let pieces = joined_pieces s.regions.now in
         IsPieceOf about.variables about.locations q × ArePieces about pieces × OfPiece about q (InPieces pieces) };
 
@@ -109,8 +109,8 @@ pub fn each_of(
     ensures refusals { let system = cases_of setting.now.about.now in
         IfErr result (IsRefusal system setting.now.budget.now (AsksOf (λ q. AsksEach q regions.now) region.pieces.items)) }
 {
-    let owing = InEach { regions };
-    match plain_part(setting, &owing, region, children) {
+    let prover = InEach { regions };
+    match plain_part(setting, &prover, region, children) {
         Err(fault) => Err(fault),
         Ok(part) => Ok(part),
     }
@@ -135,8 +135,8 @@ pub fn one_of(
     ensures refusals { let system = cases_of setting.now.about.now in
         IfErr result (IsRefusal system setting.now.budget.now (AsksOf (λ q a. a ≡ lies q (joined_pieces regions.now)) region.pieces.items)) }
 {
-    let owing = InSome { regions };
-    match plain_part(setting, &owing, region, children) {
+    let prover = InSome { regions };
+    match plain_part(setting, &prover, region, children) {
         Err(fault) => Err(fault),
         Ok(part) => Ok(part),
     }

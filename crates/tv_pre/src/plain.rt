@@ -9,7 +9,7 @@ ghost use Rattle.tv_pre.specs.Making.{ArePiecesOf, IsMade, IsPlainPart, plain_pi
 ghost use Rattle.tv_pre.specs.Questions.{IsRefusal, AsksOf};
 
 use crate::marking::push_marked;
-use crate::proving::{Owing, prove_all};
+use crate::proving::{PieceProver, prove_all};
 use crate::{Part, Setting};
 use std::alloc::{AllocError, Global};
 use tv_cases::Cases;
@@ -59,23 +59,23 @@ pub(crate) fn plain_with(
 }
 
 /// The part of a region whose pieces owe what is proved, and go on without ranks.
-pub(crate) fn plain_part<O: Owing>(
+pub(crate) fn plain_part<O: PieceProver>(
     setting: &Setting,
-    owing: &O,
+    prover: &O,
     region: Region,
     children: Vec<Node>,
 ) -> Result<Part, CoverFault>
     requires splits { setting.now.budget.now.splits ≤ 128 }
     requires over { IsRegion (cases_of setting.now.about.now).variables (cases_of setting.now.about.now).locations region }
-    requires of { All (O.of owing.now (cases_of setting.now.about.now)) region.pieces.items }
+    requires of { All (O.of prover.now (cases_of setting.now.about.now)) region.pieces.items }
     ensures region { IfOk result (λ part. part.region ≡ region) }
     ensures plain { let system = cases_of setting.now.about.now in
-        IfOk result (λ part. IsPlainPart (O.fits owing.now system) (O.owes owing.now system) system region children.items part.node) }
+        IfOk result (λ part. IsPlainPart (O.fits prover.now system) (O.owes prover.now system) system region children.items part.node) }
     ensures refusals { let system = cases_of setting.now.about.now in
-        IfErr result (IsRefusal system setting.now.budget.now (AsksOf (O.asks owing.now system) region.pieces.items)) }
+        IfErr result (IsRefusal system setting.now.budget.now (AsksOf (O.asks prover.now system) region.pieces.items)) }
 {
     let mut proofs = Vec::new(setting.alloc);
-    match prove_all(setting, owing, &region.pieces, &mut proofs) {
+    match prove_all(setting, prover, &region.pieces, &mut proofs) {
         Err(fault) => return Err(fault),
         Ok(()) => {}
     }

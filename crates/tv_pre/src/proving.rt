@@ -107,7 +107,7 @@ pub(crate) fn prove_steps(
 }
 
 /// What each piece of a list owes, with proofs of it.
-pub(crate) trait Owing {
+pub(crate) trait PieceProver {
     /// The pieces that are spoken of.
     ghost of: { Self → CaseSystem → Piece → Type 0 };
 
@@ -137,22 +137,22 @@ pub(crate) trait Owing {
 }
 
 /// Adds the proofs of what all pieces of a list owe.
-pub(crate) fn prove_all<O: Owing>(
+pub(crate) fn prove_all<O: PieceProver>(
     setting: &Setting,
-    owing: &O,
+    prover: &O,
     pieces: &[Piece],
     proofs: &mut Vec<Proof>,
 ) -> Result<(), CoverFault>
     requires splits { setting.now.budget.now.splits ≤ 128 }
-    requires of { All (O.of owing.now (cases_of setting.now.about.now)) pieces.now }
+    requires of { All (O.of prover.now (cases_of setting.now.about.now)) pieces.now }
     ensures adds { let system = cases_of setting.now.about.now in
-        IfOk result (λ _. (a : Around) (ps : List Marked) → AllZip (O.fits owing.now system a) ps pieces.now →
-        Adds (flat_map (O.owes owing.now system a) ps) proofs.old.items proofs.new.items) }
+        IfOk result (λ _. (a : Around) (ps : List Marked) → AllZip (O.fits prover.now system a) ps pieces.now →
+        Adds (flat_map (O.owes prover.now system a) ps) proofs.old.items proofs.new.items) }
     ensures refusals { let system = cases_of setting.now.about.now in
-        IfErr result (IsRefusal system setting.now.budget.now (AsksOf (O.asks owing.now system) pieces.now)) }
+        IfErr result (IsRefusal system setting.now.budget.now (AsksOf (O.asks prover.now system) pieces.now)) }
 {
     'pieces: for piece in pieces {
-        match owing.prove(setting, piece, proofs) {
+        match prover.prove(setting, piece, proofs) {
             Err(fault) => return Err(fault),
             Ok(()) => {}
         }

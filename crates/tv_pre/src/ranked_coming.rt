@@ -29,7 +29,7 @@ use crate::ends::{Ends, hold_of};
 use crate::joining::joined;
 use crate::marking::push_marked;
 use crate::plain::part_of;
-use crate::proving::{Owing, prove_all, prove_cover};
+use crate::proving::{PieceProver, prove_all, prove_cover};
 use crate::ranked_marking::push_ranked;
 use crate::ranked_steps::prove_ranked_steps;
 use crate::{Part, RankedCases, Setting, Sides};
@@ -49,7 +49,7 @@ struct Ranked<'a> {
     ranking: &'a RankedCases<'a>,
 }
 
-impl Owing for Ranked<'_> {
+impl PieceProver for Ranked<'_> {
     ghost of = { λ s about q. IsPieceOf about.variables about.locations q
         × IsRegion about.variables about.locations s.hold.now × IsEverywhere about s.anywhere.now × ArePieces about s.own.now
         × AreShown about [] (pieces_of s.ranking.now.node.now) s.ranking.now.shown.now

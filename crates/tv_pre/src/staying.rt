@@ -24,7 +24,7 @@ use crate::ends::{Ends, hold_of};
 use crate::joining::joined;
 use crate::marking::push_marked;
 use crate::plain::part_of;
-use crate::proving::{Owing, prove_all, prove_choice, prove_cover, prove_steps};
+use crate::proving::{PieceProver, prove_all, prove_choice, prove_cover, prove_steps};
 use crate::{Part, Setting, Sides};
 use tv_cert::{Mark, Node, Proof};
 use tv_farkas::CoverFault;
@@ -71,7 +71,7 @@ struct Onward<'a> {
     own: &'a Region,
 }
 
-impl Owing for Onward<'_> {
+impl PieceProver for Onward<'_> {
     ghost of = { λ s about q. IsPieceOf about.variables about.locations q
         × IsRegion about.variables about.locations s.hold.now × IsRegion about.variables about.locations s.own.now
         × OfPiece about q (InState s.hold.now) × OfPiece about q (StaysIn (CaseSteps about) s.path (InState s.own.now)) };

@@ -22,7 +22,7 @@ use Rattle.tv_rank.specs.RankingSystem.{unit_at, after, entered, left, entry, ri
 use Rattle.tv_rank.specs.Rankings.{change_row, bound_row, IsShownBy, fall_of, IsFamily}
 use Rattle.tv_rank.specs.Reading.{difference, differences, term_read, read_at, terms_read, multipliers_read, line_read, lines_read, all_read}
 use Rattle.tv_rank.proofs.Over.{Inside, if_true}
-use Rattle.tv_rank.proofs.Listed.{all_first, all_second, all_by_place, of_lines, of_step_lines, of_terms, of_identity, of_steps}
+use Rattle.tv_rank.proofs.UnknownLists.{all_first, all_second, all_by_place, of_lines, of_step_lines, of_terms, of_identity, of_steps}
 use Rattle.tv_rank.proofs.Barriers.{line, row_of, width}
 use Rattle.tv_rank.proofs.Locals.{local-read, all-read}
 use Rattle.tv_rank.proofs.Lengths.{length-differences, steps-more, steps-within}

@@ -16,7 +16,7 @@ use Rattle.tv_rank.specs.Ways.{Way}
 use Rattle.tv_rank.specs.RankingSystem.{entry, right_of, terms_below, steps_below, identity_unknowns, unknowns, columns_below, identity_lines, step_lines, lines, ranking_system}
 use Rattle.tv_rank.specs.Rankings.{HasPoint, NoneRanks}
 use Rattle.tv_rank.proofs.Over.{over}
-use Rattle.tv_rank.proofs.Listed.{all_first, all_second, all_by_place, of_terms, of_identity, of_steps, weighted, weighted-append, weighted-last, weighted-total, flat_at}
+use Rattle.tv_rank.proofs.UnknownLists.{all_first, all_second, all_by_place, of_terms, of_identity, of_steps, weighted, weighted-append, weighted-last, weighted-total, flat_at}
 use Rattle.tv_rank.proofs.Barriers.{line, width, Balance, row_sum, column_sum, multiplier_sum, slack_sum, last_multiplier_sum, last_slack_sum, right_sum, balanced}
 use Rattle.tv_rank.proofs.Excluded.{excluded}
 use Rattle.tv_rank.proofs.Points.{pointed, ranks_at, terms_wide, numbers_at}

@@ -1,5 +1,5 @@
 pub mod Over
-pub mod Listed
+pub mod UnknownLists
 pub mod Barriers
 pub mod Excluded
 pub mod Points

@@ -24,7 +24,7 @@ use Rattle.tv_rank.specs.Ways.{Way, met_rows, touches}
 use Rattle.tv_rank.specs.RankingSystem.{unit_at, number_of, after, entered, left, term_entry, entry, right_of, pairs_below, term_unknowns, terms_below, multipliers_below, identity_unknowns, steps_below, unknowns, lines, step_lines, identity_lines, ranking_system}
 use Rattle.tv_rank.specs.Reading.{difference, differences, term_read, read_at}
 use Rattle.tv_rank.proofs.Over.{over, Inside, over-same, over-less, over-zero, if_true, if_false, picked}
-use Rattle.tv_rank.proofs.Listed.{all_first, all_second, all_by_place, of_lines, of_step_lines, weighted, weighted-append, weighted-last, weighted-total}
+use Rattle.tv_rank.proofs.UnknownLists.{all_first, all_second, all_by_place, of_lines, of_step_lines, weighted, weighted-append, weighted-last, weighted-total}
 use Rattle.tv_rank.proofs.Barriers.{line, row_of, width, over_put, over_opposite, picked_turned}
 use Rattle.tv_rank.proofs.Lengths.{length-pairs, length-multipliers, length-differences}
 use Rattle.tv_rank.proofs.Flattened.{entry_of}

@@ -12,7 +12,7 @@ use Rattle.tv_rank.specs.declared.unknown.Line.{Line}
 use Rattle.tv_rank.specs.Given.{IsPlaced, IsBetween, AreNumbered}
 use Rattle.tv_rank.specs.Ways.{Way, way_at, no_case}
 use Rattle.tv_rank.specs.RankingSystem.{entry, right_of, terms_below, steps_below, identity_unknowns, unknowns, columns_below, lines, step_lines, identity_lines, ranking_system}
-use Rattle.tv_rank.proofs.Listed.{all_both, length-flat}
+use Rattle.tv_rank.proofs.UnknownLists.{all_both, length-flat}
 use Rattle.tv_rank.proofs.Lengths.{length-identity}
 use Rattle.tv_rank.proofs.Barriers.{line, width}
 use Rattle.tv_rank.proofs.Flattened.{length-lines}

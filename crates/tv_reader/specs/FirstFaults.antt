@@ -69,12 +69,12 @@ IsFirstFault text (TooMany what line column) = (fault : HasFault text marks.TooM
 IsFirstFault text (Deep line column) = HasFault text marks.Deep line column
 IsFirstFault text Memory = ⊥
 
--- the fault is the first one of the text, or memory is wanting
+-- the fault is the first one of the text, or memory runs out
 abbrev pub IsRefused : List ℕ → ReadFault → Type 0
 IsRefused text Memory = Unit {0}
 IsRefused text fault = IsFirstFault text fault
 
--- what is read is this program, or memory is wanting
+-- what is read is this program, or memory runs out
 abbrev pub IsReadAs : System → Result Program ReadFault → Type 0
 IsReadAs p (Ok program) = system_of program ≡ p
 IsReadAs p (Err Memory) = Unit {0}

@@ -106,7 +106,7 @@ is_fixed kind = is_passing kind
 
 -- ---- what it answers
 
--- the kind of a fault, where memory is not wanting
+-- the kind of a fault, where memory does not run out
 abbrev pub kind_of : Reason → Kind
 kind_of Syntax = marks.Syntax
 kind_of Wide = marks.Wide
@@ -130,7 +130,7 @@ abbrev pub Unless : Reason → Type 0 → Type 0
 Unless Memory p = Unit {0}
 Unless _ p = p
 
--- What is answered, seen by view, and what is left are what the grammar reads, or memory is wanting.
+-- What is answered, seen by view, and what is left are what the grammar reads, or memory runs out.
 abbrev pub Gives : {X Y : Type 0} → (X → Y) → Result X Reason → List Mark → Result (Y × List Mark) (Fault Mark Kind) → Type 0
 Gives view (Ok x) rest read = read ≡ Ok (view x, rest)
 Gives view (Err e) rest read = Unless e (read ≡ fault (kind_of e) rest)
@@ -141,12 +141,12 @@ Turned view (Ok (On x)) rest cases s ms = (goes_at (cases s) (next ms) ≡ true)
 Turned view (Ok (Off x)) rest cases s ms = (goes_at (cases s) (next ms) ≡ false) × (view x ≡ s) × (rest ≡ ms)
 Turned view (Err e) rest cases s ms = Unless e ((goes_at (cases s) (next ms) ≡ true) × (headed_read marks.Syntax (cases s) ms ≡ fault (kind_of e) rest))
 
--- memory is wanting, or p holds
+-- memory runs out, or p holds
 abbrev pub Settled : {X : Type 0} → Result X Reason → Type 0 → Type 0
 Settled (Ok x) p = p
 Settled (Err e) p = Unless e p
 
--- unless memory is wanting, what reading does not change is the same
+-- unless memory runs out, what reading does not change is the same
 abbrev pub Keeps : {X : Type 0} → Result X Reason → Reader → Reader → Type 0
 Keeps result r s = (x : Fixture) → fixture r ≡ x → Settled result (fixture s ≡ x)
 

@@ -9,7 +9,7 @@ use Rattle.tv_reading.specs.declared.reason.Reason.TheVariants.{Syntax, Wide, De
 use Rattle.tv_reading.specs.declared.reason.Turn.{Turn}
 use Rattle.tv_reading.specs.declared.reason.Turn.TheVariants.{On, Off}
 
--- the kind of a fault, where memory is not wanting
+-- the kind of a fault, where memory does not run out
 abbrev pub kind_of : Reason → Kind
 kind_of Syntax = marks.Syntax
 kind_of Wide = marks.Wide
@@ -23,7 +23,7 @@ abbrev pub Unless : Reason → Type 0 → Type 0
 Unless Memory p = Unit {0}
 Unless _ p = p
 
--- What is answered, seen by view, and what is left are what the grammar reads, or memory is wanting.
+-- What is answered, seen by view, and what is left are what the grammar reads, or memory runs out.
 abbrev pub Gives : {X Y : Type 0} → (X → Y) → Result X Reason → List Mark → Result (Y × List Mark) (Fault Mark Kind) → Type 0
 Gives view (Ok x) left read = read ≡ Ok (view x, left)
 Gives view (Err e) left read = Unless e (read ≡ fault (kind_of e) left)

@@ -63,7 +63,7 @@ condition_levels s = cond s.grows 63 (64 - s.level)
 
 -- ---- what it answers
 
--- the kind of a fault, where memory is not wanting
+-- the kind of a fault, where memory does not run out
 abbrev pub kind_of : PartFault → Kind
 kind_of (Syntax at) = marks.Syntax
 kind_of (Wide at) = marks.Wide
@@ -88,7 +88,7 @@ abbrev pub IsTold : Reason → PartFault → ℕ → Type 0
 IsTold reasons.Memory f place = f ≡ Memory
 IsTold reason f place = IsFault f (answers.kind_of reason) place
 
--- What is answered, seen by view, and where reading then stands are what the grammar reads, or memory is wanting. A fault has the
+-- What is answered, seen by view, and where reading then stands are what the grammar reads, or memory runs out. A fault has the
 -- place of the token at which reading then stands.
 abbrev pub IsRead : {X Y : Type 0} → (X → Y) → Result X PartFault → Stand → Result (Y × List Mark) (Fault Mark Kind) → Type 0
 IsRead view (Ok x) now read = read ≡ Ok (view x, left now)
@@ -101,7 +101,7 @@ IsPlaced (Ok x) now = Unit {0}
 IsPlaced (Err Memory) now = Unit {0}
 IsPlaced (Err e) now = IsFault e (kind_of e) (token_at now).at
 
--- unless memory is wanting, there is a value, which has P
+-- unless memory runs out, there is a value, which has P
 abbrev pub IsGiven : {X : Type 0} → Result X PartFault → (X → Type 0) → Type 0
 IsGiven (Ok x) P = P x
 IsGiven (Err Memory) P = Unit {0}

@@ -29,7 +29,7 @@ use Rattle.tv_known.specs.Recurrences.{IsKeptLoop, IsEntered, HasSimpleRecurrenc
 use Rattle.tv_known.proofs.RankedEnds.{values_kept}
 use Rattle.tv_points.specs.Nodes.{IsInside}
 use Rattle.tv_recur.specs.Making.{rows_put, drawn_terms}
-use Rattle.tv_recur.specs.Owing.{Enters, IsLeft}
+use Rattle.tv_recur.specs.OwedRows.{Enters, IsLeft}
 use Rattle.tv_recur.specs.Choosing.{LeadsInto, IsChoiceAt}
 use Rattle.tv_recur.specs.Staying.{NeverStaysBelow}
 use Rattle.tv_recur.specs.Keeping.{IsKeptBy, entering_rows, AreEntering, IsEntry, IsStem, NoEntryBelow, NoLoopAt, NoLoopBelow}

@@ -13,7 +13,7 @@ use Rattle.tv_cases.specs.Before.{rows_before}
 use Rattle.tv_cover.specs.Covering.{IsHole}
 use Rattle.tv_cover.specs.Single.{IsCoverInto}
 use Rattle.tv_recur.specs.Making.{rows_put, number_rows, drawn_terms}
-use Rattle.tv_recur.specs.Owing.{AreOwed, IsLeft, IsTaking}
+use Rattle.tv_recur.specs.OwedRows.{AreOwed, IsLeft, IsTaking}
 use Rattle.tv_recur.specs.Choosing.{IsChoiceOf, LeadsInto}
 use Rattle.tv_recur.specs.Covering.{IsTakenBy}
 use Rattle.tv_recur.specs.declared.taking.Taking.{Taking}

@@ -2,7 +2,7 @@
 use Rattle.std.proofs.Common.{◌≡◌, ℕ, zero, suc, ◌+◌, ◌<◌, List, [], ◌∷◌, length, get_or, All, Option, Some, slice_get, arith, ap, subst}
 use Rattle.tv_linear.specs.Linear.{columns}
 use Rattle.tv_cases.specs.LinearCases.{CaseSystem, LinearCase, AreCases, IsCase}
-use Rattle.tv_recur.specs.Owing.{IsTaking}
+use Rattle.tv_recur.specs.OwedRows.{IsTaking}
 use Rattle.tv_recur.specs.declared.taking.Taking.{Taking}
 use Rattle.tv_cases.specs.Systems.{cases_of}
 use Rattle.tv_cases.specs.Views.{case_view}

@@ -24,7 +24,7 @@ use Rattle.tv_derived.proofs.Listing.{empty_refusal}
 use Rattle.tv_cover_refusals.proofs.Refusals.{refusal}
 use Rattle.tv_recur.specs.Making.{FitsPut, rows_put, ArePut, number_rows, drawn_terms, IsUnmade, RefusesBefore, RefusesPut}
 use Rattle.tv_recur.specs.Keeping.{AreEntering}
-use Rattle.tv_recur.specs.Owing.{AreOwed}
+use Rattle.tv_recur.specs.OwedRows.{AreOwed}
 use Rattle.tv_recur.specs.Refusing.{IsSpent, IsRefusal, AreFrom, MayPut, MayPutAt, IsUnmadeUpdate, IsUnmadeAmong}
 use Rattle.tv_recur.specs.Staying.{added, taken_off, unchanged_rows, staying_rows}
 

@@ -15,7 +15,7 @@ use Rattle.tv_linear.proofs.ListLaws.{test_true, test_false, true_test, map-tabl
 use Rattle.tv_cases.specs.LinearCases.{LinearCase, CaseSystem, IsCase, ascends}
 use Rattle.tv_farkas.specs.Paths.{IsWholePoint}
 use Rattle.tv_recur.specs.Making.{rows_put, drawn_terms}
-use Rattle.tv_recur.specs.Owing.{Enters, IsLeft}
+use Rattle.tv_recur.specs.OwedRows.{Enters, IsLeft}
 use Rattle.tv_recur.specs.Staying.{added, taken_off, unchanged_rows, staying_rows, NeverStays}
 use Rattle.tv_recur.proofs.OwedLemmas.{put_met_back}
 use Rattle.tv_cases.proofs.SameSteps.{front-get_or}

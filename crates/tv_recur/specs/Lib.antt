@@ -1,5 +1,5 @@
 pub mod Making
-pub mod Owing
+pub mod OwedRows
 pub mod Choosing
 pub mod Covering
 pub mod Staying

@@ -42,6 +42,6 @@ IsUnmadeUpdate w u (Solve kept fault) = ⊥
 IsUnmadeUpdate w u (Wide column) = GivesRow (added w u) (Err (row.Wide column)) ⊎ GivesRow (taken_off w u) (Err (row.Wide column))
 IsUnmadeUpdate w u Memory = Unit {0}
 
--- so it is with one of the updates, or memory is wanting
+-- so it is with one of the updates, or memory runs out
 abbrev pub IsUnmadeAmong : ℕ → List Update → CoverFault → Type 0
 IsUnmadeAmong w us fault = (fault ≡ Memory) ⊎ ((u : Update) × Contains us u × IsUnmadeUpdate w u fault)

@@ -7,7 +7,7 @@ mod entering;
 mod keeping;
 mod making;
 mod node;
-mod owing;
+mod owed_rows;
 mod recurrence;
 mod searching;
 mod staying;

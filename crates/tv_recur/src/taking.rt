@@ -11,12 +11,12 @@ ghost use Rattle.tv_cover.specs.Single.{IsCoveredByOne};
 ghost use Rattle.tv_derived.specs.Scopes.{at_location};
 ghost use Rattle.tv_recur.specs.Choosing.{LeadsInto};
 ghost use Rattle.tv_recur.specs.Covering.{IsTakenBy};
-ghost use Rattle.tv_recur.specs.Owing.{IsLeft, IsTaking};
+ghost use Rattle.tv_recur.specs.OwedRows.{IsLeft, IsTaking};
 ghost use Rattle.tv_recur.specs.Refusing.{IsRefusal, AreFrom};
 
 use crate::choosing::{Entered, choice_of};
 use crate::making::numbers_as_rows;
-use crate::owing::owed;
+use crate::owed_rows::owed_rows;
 use std::alloc::{AllocError, Global};
 use tv_cases::{Case, Cases};
 use tv_cover::{Covered, cover_one};
@@ -100,7 +100,7 @@ pub(crate) fn leading(
         (LeadsInto (cases_of taking.now.about.now) case taking.now.place from.now.rows.items into.now)) }
     ensures refusals { IfErr result (IsRefusal (cases_of taking.now.about.now) taking.now.budget.now) }
 {
-    let target = match owed(taking, into) {
+    let target = match owed_rows(taking, into) {
         Ok(target) => target,
         Err(fault) => return Err(fault),
     };

@@ -14,7 +14,7 @@ use Rattle.tv_farkas.specs.Refuting.{IsSystemFault}
 use Rattle.tv_linear.specs.declared.row.Row.{Row}
 use Rattle.tv_linear.proofs.ListLaws.{true_test, test_true}
 use Rattle.tv_cases.specs.Given.{row_lists}
-use Rattle.tv_cases.proofs.Listed.{Contains-here, Contains-later, Contains-cases, Contains-none}
+use Rattle.tv_cases.proofs.ContainsLemmas.{Contains-here, Contains-later, Contains-cases, Contains-none}
 use Rattle.tv_region.specs.Met.{all_met, some_met, InSome}
 use Rattle.tv_region.specs.Adding.{AreReduced, IsProduct, IsUnion, IsComplement, IsDenied, IsWideDenial, IsListFault, row_product}
 use Rattle.tv_region.specs.Regions.{IsPieceOf, IsRegion, lists_at, count_at, HasRowAt, HasRow, IsReduced, capped, IsSameFault, IsRegionFault, IsAssembled}

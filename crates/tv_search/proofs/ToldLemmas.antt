@@ -1,7 +1,7 @@
 -- what all proposers tell is what they gave
 use Rattle.std.proofs.Common.{◌≡◌, ℕ, ℤ, List, [], ◌∷◌, Option, None, Some, refl, ap, subst}
 use Rattle.std.specs.List.{AllByRecursion}
-use Rattle.tv_cases.proofs.Listed.{Contains-here, Contains-later}
+use Rattle.tv_cases.proofs.ContainsLemmas.{Contains-here, Contains-later}
 use Rattle.std.specs.List.{AllZip, Contains}
 use Rattle.tv_cases.specs.LinearCases.{CaseSystem}
 use Rattle.tv_candidates.specs.declared.candidate.Candidate.{Candidate}

@@ -7,7 +7,7 @@ use Rattle.tv_linear.specs.declared.region.Piece.{Piece}
 use Rattle.tv_linear.specs.declared.region.Region.{Region}
 use Rattle.tv_program.specs.Steps.{State}
 use Rattle.tv_cases.specs.LinearCases.{LinearCase, CaseSystem, AreCases}
-use Rattle.tv_cases.proofs.Listed.{Contains-here, Contains-later}
+use Rattle.tv_cases.proofs.ContainsLemmas.{Contains-here, Contains-later}
 use Rattle.tv_candidates.specs.declared.candidate.Candidate.{Candidate}
 use Rattle.tv_candidates.specs.Inductive.{MeetsAll, IsInductive}
 use Rattle.tv_invariant.specs.Rows.{IsStronger}

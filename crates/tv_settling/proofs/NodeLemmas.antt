@@ -12,7 +12,7 @@ use Rattle.tv_formula.specs.Properties.{truth, at, negated}
 use Rattle.tv_cert.specs.declared.node.Marked.{Marked}
 use Rattle.tv_cert.specs.declared.node.Node.{Node}
 use Rattle.tv_cert.specs.declared.node.Proof.{Proof}
-use Rattle.tv_cert.specs.Listed.{pieces_list}
+use Rattle.tv_cert.specs.NodeViews.{pieces_list}
 use Rattle.tv_cert.specs.Obligations.{Obligation, atom_of, truth_targets}
 use Rattle.tv_cert.specs.Nodes.{piece_of, own_of}
 use Rattle.tv_cert.specs.Pieces.{pieces_at}

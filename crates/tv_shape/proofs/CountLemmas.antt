@@ -8,7 +8,7 @@ use Rattle.tv_linear.specs.Linear.{Linear}
 use Rattle.tv_linear.specs.Known.{Known, given, as_given}
 use Rattle.tv_linear.specs.Falls.{fall_rows, fall_rows_at}
 use Rattle.tv_cert.specs.declared.node.Marked.{Marked}
-use Rattle.tv_cert.specs.Owing.{falls_where}
+use Rattle.tv_cert.specs.OwesViews.{falls_where}
 use Rattle.tv_cert.specs.Pieces.{rows_of, ranks_of, goes, pieces_at}
 use Rattle.tv_cert.specs.Shapes.{owed_count}
 use Rattle.tv_cert.specs.Targets.{owed_into, target_rows, no_fall}

@@ -4,12 +4,12 @@ use Rattle.std.specs.Prelude.{Result, Ok, Err, MatchResult}
 use Rattle.tv_formula.specs.Properties.{Property}
 use Rattle.tv_cert.specs.declared.node.Marked.{Marked}
 use Rattle.tv_cert.specs.declared.node.Node.{Node, Node', Row_of-Node, end_of-Node, more_of-Node, items-the_row-Node, outs-Node'}
-use Rattle.tv_cert.specs.Listed.{pieces_list}
+use Rattle.tv_cert.specs.NodeViews.{pieces_list}
 use Rattle.tv_cert.specs.Obligations.{About}
 use Rattle.tv_cert.specs.Nodes.{parts, kid_pieces, size, pieces_of}
 use Rattle.tv_cert.specs.declared.node.Verdict.{Verdict}
 use Rattle.tv_cert.specs.declared.node.Verdict.TheVariants.{Proved, Disproved}
-use Rattle.tv_cert.specs.Plain.{about_of}
+use Rattle.tv_cert.specs.AboutSystem.{about_of}
 use Rattle.tv_cert.specs.Shapes.{VerdictShape, OwnShape, NodeShape, KidsShape}
 use Rattle.tv_cert.specs.Statements.{Statement, Statements, no_statement, statement, stated, parts_of, count}
 use Rattle.tv_cert.proofs.NodeLemmas.{out_is, kid_pieces_are}

@@ -15,7 +15,7 @@ use Rattle.tv_cert.specs.declared.node.Marked.{Marked}
 use Rattle.tv_cert.specs.Pieces.{place_of, goes}
 use Rattle.tv_cert.specs.Obligations.{About, Obligation, cover_of, step_of, steps_of, choice_of, hold_side, end_sides, go_of, fix_of, first_of, second_of, step_fall}
 use Rattle.tv_cert.specs.Targets.{owed_nothing, no_fall}
-use Rattle.tv_cert.specs.Plain.{about_of}
+use Rattle.tv_cert.specs.AboutSystem.{about_of}
 use Rattle.tv_cert.specs.Statements.{Statement, rows, here, elsewhere, ends, never_ends, each_of, one_of, after, along, unsaid}
 use Rattle.tv_cert.specs.Nodes.{piece_owes, node_owes}
 use Rattle.tv_shape.specs.Narrow.{CountNarrow, RowNarrow}

@@ -7,7 +7,7 @@ use Rattle.tv_linear.specs.Known.{Known, given}
 use Rattle.tv_cert.specs.declared.node.Marked.{Marked}
 use Rattle.tv_cert.specs.declared.owes.Destination.{Destination}
 use Rattle.tv_cert.specs.declared.owes.Destination.TheVariants.{Anywhere, Into}
-use Rattle.tv_cert.specs.Listed.{pieces_list}
+use Rattle.tv_cert.specs.NodeViews.{pieces_list}
 use Rattle.tv_cert.specs.Obligations.{truth_targets}
 use Rattle.tv_cert.specs.Pieces.{ranks_of}
 use Rattle.tv_cert.specs.Shapes.{owed_count}

@@ -5,7 +5,7 @@ use Rattle.tv_formula.specs.Properties.{Property}
 use Rattle.tv_cert.specs.declared.node.Marked.{Marked}
 use Rattle.tv_cert.specs.declared.node.Proof.{Proof}
 use Rattle.tv_cert.specs.declared.node.Node.{Node, out-Node}
-use Rattle.tv_cert.specs.Listed.{pieces_list}
+use Rattle.tv_cert.specs.NodeViews.{pieces_list}
 use Rattle.tv_cert.specs.Nodes.{entries}
 use Rattle.tv_cert.specs.Obligations.{About, Obligation, OwedMet, AllMet}
 use Rattle.tv_cert.specs.Shapes.{ProofShape, HasShape}

@@ -6,7 +6,7 @@ ghost use Rattle.tv_linear.specs.Covers.{no_target};
 ghost use Rattle.tv_cases.specs.LinearCases.{leaving};
 ghost use Rattle.tv_cases.specs.Systems.{cases_of};
 ghost use Rattle.tv_cases.specs.Views.{case_view};
-ghost use Rattle.tv_cert.specs.Owing.{destination_owes};
+ghost use Rattle.tv_cert.specs.OwesViews.{destination_owes};
 ghost use Rattle.tv_cert.specs.Shapes.{ChoiceShape, CoverShape, NoStepShape, TakeShape, owed_count};
 ghost use Rattle.tv_shape.specs.Counts.{counts_of, AreFew, AreFewAt};
 

@@ -4,7 +4,7 @@ ghost use Rattle.tv_cases.specs.Systems.{cases_of};
 ghost use Rattle.tv_cert.specs.AimViews.{aim_states};
 ghost use Rattle.tv_cert.specs.Nodes.{size};
 ghost use Rattle.tv_cert.specs.Obligations.{About};
-ghost use Rattle.tv_cert.specs.Plain.{about_of};
+ghost use Rattle.tv_cert.specs.AboutSystem.{about_of};
 ghost use Rattle.tv_cert.specs.Statements.{stated};
 ghost use Rattle.tv_shape.specs.Fitting.{Fits, IsFirstFault, IsVerdictFault, VerdictFits, VerdictShallow};
 

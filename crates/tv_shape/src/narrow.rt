@@ -1,5 +1,5 @@
 ghost use Rattle.std.specs.Prelude.{◌↔◌, IsTrue, All};
-ghost use Rattle.tv_cert.specs.Listed.{pieces_list};
+ghost use Rattle.tv_cert.specs.NodeViews.{pieces_list};
 ghost use Rattle.tv_shape.specs.Narrow.{AreNarrow, CountNarrow, ListsNarrow, RowNarrow, CoverNarrow, ChoiceNarrow, ProofNarrow, PieceNarrow, PartsNarrow};
 ghost use Rattle.tv_shape.specs.Parts.{proofs_of, ranks_at};
 

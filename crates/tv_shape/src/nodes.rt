@@ -2,7 +2,7 @@ ghost use Rattle.std.specs.Prelude.{◌≡◌, ◌↔◌, ◌<◌, ◌^◌, ℕ,
 ghost use Rattle.std.specs.List.{AllZip};
 ghost use Rattle.tv_cases.specs.Systems.{cases_of};
 ghost use Rattle.tv_cert.specs.AimViews.{aim_states, aims_state};
-ghost use Rattle.tv_cert.specs.Listed.{pieces_list};
+ghost use Rattle.tv_cert.specs.NodeViews.{pieces_list};
 ghost use Rattle.tv_cert.specs.Nodes.{node_owes};
 ghost use Rattle.tv_cert.specs.Shapes.{ProofShape, OwnShape, may_be_done, may_rank};
 ghost use Rattle.tv_cert.specs.Statements.{Statement, count, parts_of};

@@ -3,7 +3,7 @@ ghost use Rattle.tv_linear.specs.Depth.{splits};
 ghost use Rattle.tv_linear.specs.ChoiceDepth.{choice_splits};
 ghost use Rattle.tv_cases.specs.Systems.{cases_of};
 ghost use Rattle.tv_cert.specs.declared.node.Proof.TheVariants.{Covered, Chosen};
-ghost use Rattle.tv_cert.specs.Owing.{owed_by};
+ghost use Rattle.tv_cert.specs.OwesViews.{owed_by};
 ghost use Rattle.tv_cert.specs.Shapes.{ProofShape};
 ghost use Rattle.tv_shape.specs.Offered.{FirstShape};
 

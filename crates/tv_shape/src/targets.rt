@@ -3,7 +3,7 @@ ghost use Rattle.std.specs.Option.{option_map};
 ghost use Rattle.tv_linear.specs.Known.{Known, as_given, given};
 ghost use Rattle.tv_linear.specs.Linear.{Linear};
 ghost use Rattle.tv_linear.specs.Falls.{fall_rows};
-ghost use Rattle.tv_cert.specs.Owing.{falls_where};
+ghost use Rattle.tv_cert.specs.OwesViews.{falls_where};
 ghost use Rattle.tv_cert.specs.Pieces.{ranks_of};
 ghost use Rattle.tv_cert.specs.Shapes.{owed_count};
 ghost use Rattle.tv_cert.specs.Targets.{target_rows, owed_into, no_fall};

@@ -4,7 +4,7 @@ ghost use Rattle.tv_cases.specs.Systems.{cases_of};
 ghost use Rattle.tv_cert.specs.declared.node.Proof.TheVariants.{Covered};
 ghost use Rattle.tv_cert.specs.Obligations.{a_cover};
 ghost use Rattle.tv_cert.specs.Pieces.{pieces_at};
-ghost use Rattle.tv_cert.specs.Plain.{about_of};
+ghost use Rattle.tv_cert.specs.AboutSystem.{about_of};
 ghost use Rattle.tv_cert.specs.Shapes.{ProofShape};
 ghost use Rattle.tv_cert.specs.Targets.{owed_into, no_fall};
 ghost use Rattle.tv_shape.specs.Fitting.{VerdictFits, VerdictShallow};

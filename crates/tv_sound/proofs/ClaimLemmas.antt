@@ -17,7 +17,7 @@ use Rattle.tv_cert.specs.Nodes.{pieces_of, root_entry, obligations, entries, nod
 use Rattle.tv_cert.specs.FirstFailing.{IsFirstFailing}
 use Rattle.tv_cert.specs.Obligations.{AllMet}
 use Rattle.tv_sound.proofs.NodesSound.{AllMet-left, AllMet-right}
-use Rattle.tv_cert.specs.Plain.{about_of}
+use Rattle.tv_cert.specs.AboutSystem.{about_of}
 use Rattle.tv_cert.specs.Shapes.{HasShape, VerdictShape}
 use Rattle.tv_cert.specs.Statements.{Statement, stated}
 use Rattle.tv_cert.proofs.EntryLists.{fits_parts}

@@ -24,7 +24,7 @@ use Rattle.tv_cert.specs.Choices.{drawn_change, TakeMet, IsMetChoice}
 use Rattle.tv_cert.specs.Obligations.{About, Obligation, AllMet, OwedMet, choice_of, choice_into, paired}
 use Rattle.tv_cert.specs.declared.node.Kind.TheVariants as kind
 use Rattle.tv_cert.proofs.PieceLemmas.{piece_got}
-use Rattle.tv_cases.proofs.Listed.{Contains-later}
+use Rattle.tv_cases.proofs.ContainsLemmas.{Contains-later}
 use Rattle.tv_sound.specs.Following.{Spot, offered, offered_at, chosen_at, after_case, entering, taking, going, onward, followed}
 use Rattle.tv_sound.proofs.Entering.{Entered, joined_is, seen, wide_after}
 use Rattle.tv_sound.proofs.Choosing.{Taken, TakenInto, taken_into, Stepped, taken_step, stepped_in, drawn}

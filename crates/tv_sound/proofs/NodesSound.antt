@@ -16,7 +16,7 @@ use Rattle.tv_formula.specs.declared.tree.Shape.TheVariants.{Until, Weak, Releas
 use Rattle.tv_formula.specs.Properties.{Property, truth, compare, at, term, negated, all_of, some_of, next, fix, Properties, none, more}
 use Rattle.tv_meaning.specs.Meaning.{FixHolds, Holds, AllHold, SomeHolds}
 use Rattle.tv_cases.specs.LinearCases.{LinearCase, CaseSteps}
-use Rattle.tv_cases.proofs.Listed.{Contains-here, Contains-later, Contains-map}
+use Rattle.tv_cases.proofs.ContainsLemmas.{Contains-here, Contains-later, Contains-map}
 use Rattle.tv_cert.specs.declared.node.Kind.{Kind}
 use Rattle.tv_cert.specs.declared.node.Kind.TheVariants as kind
 use Rattle.tv_cert.specs.declared.node.Marked.{Marked}

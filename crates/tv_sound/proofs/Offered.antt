@@ -21,7 +21,7 @@ use Rattle.tv_cert.specs.Targets.{owed_lists}
 use Rattle.tv_cert.specs.Choices.{IsMetChoice, ChoiceFits}
 use Rattle.tv_cert.specs.Obligations.{About, a_cover, a_choice, Obligation, OwedMet, AllMet, cover_of, atom_of, step_of, steps_of, choice_of, paired}
 use Rattle.tv_cert.specs.Fits.{ProofFits}
-use Rattle.tv_cases.proofs.Listed.{Contains-here, Contains-later, Contains-map}
+use Rattle.tv_cases.proofs.ContainsLemmas.{Contains-here, Contains-later, Contains-map}
 use Rattle.tv_sound.proofs.Membership.{Contains-filter, Contains-flat_map}
 use Rattle.tv_sound.proofs.Shown.{PieceCovered, AtomCovered, AllStepsCovered, HasChoice}
 use Rattle.tv_sound.proofs.Entering.{seen}

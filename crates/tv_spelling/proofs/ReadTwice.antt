@@ -16,7 +16,7 @@ use Rattle.tv_reading.specs.declared.fault.PartFault.TheVariants as faults
 use Rattle.tv_reading.specs.Texts.{IsLongest}
 use Rattle.tv_spelling.specs.ReadAgain.{AreNames, Went, IsSumReadAgain, IsConditionReadAgain}
 
--- where a value is given unless memory is wanting, a refusal is for want of memory
+-- where a value is given unless memory runs out, a refusal is for want of memory
 pub memory_alone : {X : Type 0} (P : X → Type 0) (f : PartFault) → IsGiven {X = X} (Err f) P → f ≡ faults.Memory
 memory_alone P faults.Memory h = refl
 memory_alone P f h = absurd h

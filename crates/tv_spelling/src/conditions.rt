@@ -70,7 +70,7 @@ fn append_comparison(
     append_sum(alloc, out, right, names)
 }
 
-/// The text of a condition is added, without brackets round the whole. Where memory is wanting, a front of it may have been added.
+/// The text of a condition is added, without brackets round the whole. Where memory runs out, a prefix of it may have been added.
 #[cycle(conditions)]
 pub fn append_condition(
     alloc: Global,

@@ -25,7 +25,7 @@ fn is_product(expr: &Expr) -> bool
 
 /// The text of an expression is added, without brackets round the whole.
 ///
-/// A draw is written as `nondet()`, a negative number with its sign. Where memory is wanting, a front of it may have been added.
+/// A draw is written as `nondet()`, a negative number with its sign. Where memory runs out, a prefix of it may have been added.
 #[cycle(sums)]
 pub fn append_sum(
     alloc: Global,

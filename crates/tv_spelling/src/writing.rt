@@ -40,7 +40,7 @@ fn word_of(names: &Names, variable: u32) -> &[u8]
     }
 }
 
-/// The word with this number is added; a number that has none is passed over.
+/// The word with this number is added; a number that has none is ignored.
 pub fn append_name(out: &mut Vec<u8>, names: &Names, variable: u32) -> Result<(), AllocError>
     ensures { OnOk result (out.new.items ≡ out.old.items ++ slice_index_or names.now variable []) }
 {

@@ -12,7 +12,7 @@ pub enum ReadError {
     Fault,
     /// More bytes came than the limit allows.
     TooLong,
-    /// Memory was wanting.
+    /// Memory ran out.
     Memory,
 }
 

@@ -18,10 +18,10 @@ use Rattle.tv_sound.specs.Settled.{IsSettled}
 use Rattle.tv_top.specs.declared.answer.Answer.{Answer}
 use Rattle.tv_top.specs.declared.answer.Answer.TheVariants.{Proved, Disproved, Obligation, CertificateLine, Words, TooLong, Text, Property as Unnamed, WideEdge, TooManyInEdge, Unknown, ReadFault, Memory}
 use Rattle.tv_top.specs.Answers.{without_certificate}
-use Rattle.tv_top.specs.Judging.{Accepted, IsProved, Judges, Says, SaysHolds, SaysValues}
+use Rattle.tv_top.specs.CertificateChecks.{Accepted, IsProved, AnswersCheck, Says, SaysHolds, SaysValues}
 
 -- what a text is answered that is not accepted as a certificate
-pub no_certificate : (p : System) (f : Property) (system : CaseSystem) (text : List ℕ) (claim : Claim) → IsClaim claim f → (failing : TextFailing) → IsUnaccepted system claim text failing → Judges p f system text (without_certificate failing)
+pub no_certificate : (p : System) (f : Property) (system : CaseSystem) (text : List ℕ) (claim : Claim) → IsClaim claim f → (failing : TextFailing) → IsUnaccepted system claim text failing → AnswersCheck p f system text (without_certificate failing)
 no_certificate p f system text claim is (certs.Syntax line) h = record { claim = claim; is_claim = is; kind = kinds.Syntax; at_fault = h }
 no_certificate p f system text claim is (certs.Wide line) h = record { claim = claim; is_claim = is; kind = kinds.Wide; at_fault = h }
 no_certificate p f system text claim is (certs.Deep line) h = record { claim = claim; is_claim = is; kind = kinds.Deep; at_fault = h }
@@ -31,7 +31,7 @@ no_certificate p f system text claim is certs.Memory h = tt
 
 -- the values at which an answer says that the property is disproved
 values_so : (p : System) (f : Property) (system : CaseSystem) (text : List ℕ) (accepted : Accepted f system text) (piece : ℕ) (values : _) → accepted.offer.certificate.verdict ≡ verdicts.Disproved piece values → IsSettled p f (verdicts.Disproved piece values)
-    → (normal f ≡ term → FollowsFrom p system accepted.offer.certificate.root (verdicts.Disproved piece values)) → (answer : Answer) → SaysValues p values.items answer → Judges p f system text answer
+    → (normal f ≡ term → FollowsFrom p system accepted.offer.certificate.root (verdicts.Disproved piece values)) → (answer : Answer) → SaysValues p values.items answer → AnswersCheck p f system text answer
 values_so p f system text accepted piece values is settled along (Disproved at certificate) says =
     (record { accepted = accepted; piece = piece; values = values; says = is; names = says.0; same = says.1; fails = settled; endless = along }, says.2)
 values_so p f system text accepted piece values is settled along Memory says = tt
@@ -48,7 +48,7 @@ values_so p f system text accepted piece values is settled along (Unknown cause)
 values_so p f system text accepted piece values is settled along ReadFault says = absurd says
 
 -- the property is proved
-holds_so : (p : System) (f : Property) (system : CaseSystem) (text : List ℕ) → IsProved p f system text → (answer : Answer) → SaysHolds answer → Judges p f system text answer
+holds_so : (p : System) (f : Property) (system : CaseSystem) (text : List ℕ) → IsProved p f system text → (answer : Answer) → SaysHolds answer → AnswersCheck p f system text answer
 holds_so p f system text proved (Proved certificate) says = (proved, says)
 holds_so p f system text proved (Disproved at certificate) says = absurd says
 holds_so p f system text proved Memory says = absurd says
@@ -65,7 +65,7 @@ holds_so p f system text proved ReadFault says = absurd says
 
 -- what is said of a certificate all of whose obligations are met is so
 pub said_is_so : (p : System) (f : Property) (system : CaseSystem) (text : List ℕ) (accepted : Accepted f system text) (verdict : Verdict) → accepted.offer.certificate.verdict ≡ verdict → IsSettled p f verdict
-    → (normal f ≡ term → FollowsFrom p system accepted.offer.certificate.root verdict) → (answer : Answer) → Says p (says verdict) (values_of verdict) answer → Judges p f system text answer
+    → (normal f ≡ term → FollowsFrom p system accepted.offer.certificate.root verdict) → (answer : Answer) → Says p (says verdict) (values_of verdict) answer → AnswersCheck p f system text answer
 said_is_so p f system text accepted (verdicts.Proved start) is settled along answer said =
     holds_so p f system text (record { accepted = accepted; start = start; says = is; holds = settled }) answer said
 said_is_so p f system text accepted (verdicts.Disproved piece values) is settled along answer said = values_so p f system text accepted piece values is settled along answer said

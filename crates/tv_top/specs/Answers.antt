@@ -177,7 +177,7 @@ ended (ends.Cover fault) = uncovered fault
 ended (ends.Rank set barriers) = Unknown (Unranked set barriers)
 ended ends.Memory = Memory
 
--- the answer with a cause, unless memory is wanting
+-- the answer with a cause, unless memory runs out
 abbrev pub unknown : Result Cause AllocError → Answer
 unknown (Ok cause) = Unknown cause
 unknown (Err e) = Memory

@@ -107,7 +107,7 @@ pub record TellsClaim (p : System) (f : Property) (about : CaseSystem) (c : Cert
   pub settled : IsSettled p f c.verdict
   pub followed : normal f ≡ term → FollowsFrom p about c.root c.verdict
 
--- what a verdict says, with this text behind it, or memory is wanting
+-- what a verdict says, with this text behind it, or memory runs out
 abbrev pub SaysVerdict : System → Verdict → List ℕ → Answer → Type 0
 SaysVerdict p (verdicts.Proved start) text (answers.Proved certificate) = certificate.items ≡ text
 SaysVerdict p (verdicts.Disproved piece values) text (answers.Disproved at certificate) = (at.names ≡ p.variables) × (at.values.items ≡ values.items) × (certificate.items ≡ text)

@@ -17,7 +17,7 @@ use Rattle.tv_top.specs.declared.answer.Answer.TheVariants.{Proved, Disproved, O
 use Rattle.tv_top.specs.declared.status.Status.{Status}
 use Rattle.tv_top.specs.declared.status.Status.TheVariants as statuses
 use Rattle.tv_top.specs.Answers.{lines_of, status_of}
-use Rattle.tv_top.specs.Judging.{Judges}
+use Rattle.tv_top.specs.CertificateChecks.{AnswersCheck}
 use Rattle.tv_top.specs.Properties.{IsNamed, IsUnnamed}
 use Rattle.tv_top.specs.Generated.{generated_text}
 use Rattle.tv_top.specs.Tasks.{Task, made_loops, task_of}
@@ -48,7 +48,7 @@ pub record Asked (task : Task) (bytes : List ℕ) : Type 0 where
 
 -- what the answer says of a property of a program over its cases: of the certificate's text that is to be checked, or what was found
 abbrev pub Tells : Bool → Offers → Task → System → Formula → CaseSystem → List ℕ → Answer → Type 0
-Tells true offers task p f cases text answer = Judges p f cases text answer
+Tells true offers task p f cases text answer = AnswersCheck p f cases text answer
 Tells false offers task p f cases text answer = Finds offers task p f cases answer
 
 -- The answer says this where the words name a property of the program. The cases are the program's.

@@ -6,7 +6,7 @@ pub mod Views
 pub mod CauseLines
 pub mod Answers
 pub mod Properties
-pub mod Judging
+pub mod CertificateChecks
 pub mod Finding
 pub mod Searching
 pub mod Headline

@@ -53,7 +53,7 @@ IsUnnamed p (safety label) fault = (number_of label p.locations ≡ None) × (fa
 IsUnnamed p termination fault = ⊥
 IsUnnamed p (ctl text) fault = IsNoFormula p text fault
 
--- P, unless memory is wanting
+-- P, unless memory runs out
 abbrev pub UnlessMemory : FormulaFault → Type 0 → Type 0
 UnlessMemory faults.Memory P = Unit {0}
 UnlessMemory fault P = P

@@ -56,7 +56,7 @@ IsReachedOrNot s f found answer =
 
 -- ---- formulas over paths
 
--- the answer tells of so many pieces at a location, unless memory is wanting
+-- the answer tells of so many pieces at a location, unless memory runs out
 pub record AnswersPieces (p : System) (l count : ℕ) (answer : Answer) : Type 0 where
   pub cause : Result Cause AllocError
   pub is : answer ≡ unknown cause

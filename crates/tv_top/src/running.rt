@@ -8,8 +8,8 @@ ghost use Rattle.tv_top.specs.Finding.{offers_of};
 ghost use Rattle.tv_top.specs.Headline.{most_bytes, AreTexts, Means, IsAnswer, Concludes};
 
 use crate::answer::Answer;
+use crate::certificate_check::check_certificate;
 use crate::finding::find;
-use crate::judging::judge;
 use crate::making::generated;
 use crate::property::property;
 use crate::status::Status;
@@ -87,7 +87,7 @@ fn decide(
         Err(fault) => return without_cases(fault),
     };
     if task.checks {
-        judge(alloc, &program, &property, &about, certificate)
+        check_certificate(alloc, &program, &property, &about, certificate)
     } else {
         find(alloc, task, &program, &property, &about, proposers)
     }

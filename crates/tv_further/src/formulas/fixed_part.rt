@@ -46,7 +46,7 @@ fn first_ending(
     }
 }
 
-/// What the ways find of a fixed point that comes to the end: at least the end, and layers from there on where areas may be wanting.
+/// What the ways find of a fixed point that comes to the end: at least the end, and layers from there on where areas may be missing.
 fn ending(
     question: &Question,
     path: &Path,

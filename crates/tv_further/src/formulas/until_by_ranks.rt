@@ -118,7 +118,7 @@ pub(crate) fn going_passages(
 enum Until {
     /// The ranks and the proofs.
     Shown { ranks: Ranks, proofs: Vec<Proof> },
-    /// From the areas at these places a step may be wanting, or lead out.
+    /// From the areas at these places a step may be missing, or lead out.
     Open(Vec<usize>),
     /// The ranks do not fall.
     Stuck(Stuck),
@@ -285,7 +285,7 @@ fn next_stages(
 }
 
 /// Until by ranks that fall over every step: over every path, or over some path since some step is always there. Areas from which a step may
-/// be wanting or lead out are cut a few times, and then left out; those between which no ranks fall are split a few times, and then left out.
+/// be missing or lead out are cut a few times, and then left out; those between which no ranks fall are split a few times, and then left out.
 pub(crate) fn until_by_ranks(
     question: &Question,
     path: &Path,

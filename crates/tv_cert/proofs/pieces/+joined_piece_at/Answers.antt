@@ -1,7 +1,7 @@
 use Rattle.std.proofs.Common.{◌≡◌, ◌-◌, ◌<◌, length, subst, sym, arith, Some, None}
 use Rattle.std.specs.Prelude.{MatchOption}
 use Rattle.tv_cert.specs.Pieces.{pieces_at}
-use Rattle.tv_cert.specs.Listed.{pieces_list}
+use Rattle.tv_cert.specs.NodeViews.{pieces_list}
 use Rattle.tv_cert.proofs.JoinedLemmas.{joined_here, joined_later}
 use Rattle.tv_cert.proofs.pieces.+joined_piece_at.Goals as goal
 

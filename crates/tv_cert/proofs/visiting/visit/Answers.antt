@@ -1,5 +1,5 @@
 use Rattle.tv_cases.specs.Systems.{cases_of}
-use Rattle.tv_cert.specs.Owing.{obligation_by}
+use Rattle.tv_cert.specs.OwesViews.{obligation_by}
 use Rattle.tv_cert.proofs.VisitLemmas.{visits_one}
 use Rattle.tv_cert.proofs.visiting.visit.Goals as goal
 

@@ -2,8 +2,8 @@ use Rattle.std.proofs.Common.{map}
 use Rattle.tv_cases.specs.Systems.{cases_of}
 use Rattle.tv_cert.specs.declared.node.Kind.TheVariants as kind
 use Rattle.tv_cert.specs.Obligations.{cover_of}
-use Rattle.tv_cert.specs.Plain.{about_of}
-use Rattle.tv_cert.specs.Listed.{pieces_list}
+use Rattle.tv_cert.specs.AboutSystem.{about_of}
+use Rattle.tv_cert.specs.NodeViews.{pieces_list}
 use Rattle.tv_cert.proofs.VisitLemmas.{Ahead}
 use Rattle.tv_cert.proofs.visiting.visit_children.Given as goal
 

@@ -2,7 +2,7 @@ use Rattle.std.proofs.Common.{◌∷◌, [], subst, sym, map, false}
 use Rattle.tv_cases.specs.Systems.{cases_of}
 use Rattle.tv_cert.specs.declared.node.Kind.TheVariants as kind
 use Rattle.tv_cert.specs.Obligations.{cover_of}
-use Rattle.tv_cert.specs.Plain.{about_of}
+use Rattle.tv_cert.specs.AboutSystem.{about_of}
 use Rattle.tv_cert.specs.Visits.{Visits}
 use Rattle.tv_cert.proofs.VisitLemmas.{visits_then, visits_fails}
 use Rattle.tv_cert.proofs.VisitedCases.{sides_both}

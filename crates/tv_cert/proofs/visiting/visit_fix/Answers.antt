@@ -3,7 +3,7 @@ use Rattle.tv_cases.specs.Systems.{cases_of}
 use Rattle.tv_cert.specs.declared.node.Kind.TheVariants as kind
 use Rattle.tv_cert.specs.Pieces.{is_go, goes}
 use Rattle.tv_cert.specs.Obligations.{cover_of, hold_side, go_of, fix_of}
-use Rattle.tv_cert.specs.Plain.{about_of}
+use Rattle.tv_cert.specs.AboutSystem.{about_of}
 use Rattle.tv_cert.specs.Visits.{Visits}
 use Rattle.tv_cert.proofs.VisitLemmas.{visits_then, visits_fails}
 use Rattle.tv_cert.proofs.visiting.visit_fix.Goals as goal

@@ -2,7 +2,7 @@ use Rattle.std.proofs.Common.{◌≡◌, ◌<◌, ◌≤◌, List, length, get_o
 use Rattle.tv_cert.specs.declared.node.Marked.{Marked}
 use Rattle.std.specs.List.{flat_map}
 use Rattle.tv_cases.specs.Systems.{cases_of}
-use Rattle.tv_cert.specs.Listed.{pieces_list}
+use Rattle.tv_cert.specs.NodeViews.{pieces_list}
 use Rattle.tv_cert.specs.AimViews.{aim_states}
 use Rattle.tv_cert.specs.Nodes.{piece_owes}
 use Rattle.tv_cert.specs.Visits.{Visits}

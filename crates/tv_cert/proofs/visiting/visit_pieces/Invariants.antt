@@ -1,7 +1,7 @@
 use Rattle.std.proofs.Common.{map}
 use Rattle.std.specs.List.{flat_map}
 use Rattle.tv_cases.specs.Systems.{cases_of}
-use Rattle.tv_cert.specs.Listed.{pieces_list}
+use Rattle.tv_cert.specs.NodeViews.{pieces_list}
 use Rattle.tv_cert.specs.AimViews.{aim_states}
 use Rattle.tv_cert.specs.Nodes.{piece_owes}
 use Rattle.tv_cert.proofs.VisitLemmas.{Ahead}

@@ -3,7 +3,7 @@ use Rattle.tv_cases.specs.Systems.{cases_of}
 use Rattle.tv_cert.specs.declared.node.Kind.TheVariants as kind
 use Rattle.tv_cert.specs.Targets.{owed_nothing}
 use Rattle.tv_cert.specs.Obligations.{choice_of, steps_of, step_fall}
-use Rattle.tv_cert.specs.Plain.{about_of}
+use Rattle.tv_cert.specs.AboutSystem.{about_of}
 use Rattle.tv_cert.specs.Visits.{Visits}
 use Rattle.tv_cert.proofs.VisitLemmas.{visits_then, visits_fails}
 use Rattle.tv_cert.proofs.visiting.visit_ranked.Goals as goal

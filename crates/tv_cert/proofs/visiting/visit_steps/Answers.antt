@@ -5,8 +5,8 @@ use Rattle.tv_cases.specs.Views.{case_view}
 use Rattle.tv_cases.proofs.LeavingLemmas.{case_among, case_within, case_there}
 use Rattle.tv_cert.specs.Pieces.{place_of}
 use Rattle.tv_cert.specs.Obligations.{step_of}
-use Rattle.tv_cert.specs.Plain.{about_of}
-use Rattle.tv_cert.specs.Owing.{case_falls}
+use Rattle.tv_cert.specs.AboutSystem.{about_of}
+use Rattle.tv_cert.specs.OwesViews.{case_falls}
 use Rattle.tv_cert.specs.Visits.{Visits}
 use Rattle.tv_cert.proofs.VisitLemmas.{ahead_end, ahead_fails, ahead_next, ahead_room}
 use Rattle.tv_cert.proofs.visiting.visit_steps.Goals as goal

@@ -3,8 +3,8 @@ use Rattle.tv_cases.specs.LinearCases.{leaving}
 use Rattle.tv_cases.specs.Systems.{cases_of}
 use Rattle.tv_cert.specs.Pieces.{place_of}
 use Rattle.tv_cert.specs.Obligations.{step_of}
-use Rattle.tv_cert.specs.Plain.{about_of}
-use Rattle.tv_cert.specs.Owing.{case_falls}
+use Rattle.tv_cert.specs.AboutSystem.{about_of}
+use Rattle.tv_cert.specs.OwesViews.{case_falls}
 use Rattle.tv_cert.proofs.VisitLemmas.{Ahead}
 use Rattle.tv_cert.proofs.visiting.visit_steps.Given as goal
 

@@ -7,7 +7,7 @@ use Rattle.tv_cert_reader.specs.CertificateLines.{piece_lines, proof_lines}
 use Rattle.tv_lines.specs.Lines.{formed}
 use Rattle.tv_lines.specs.declared.head.Head.TheVariants as heads
 use Rattle.tv_cert.specs.declared.node.Node.{out-Node}
-use Rattle.tv_cert.specs.Listed.{pieces_list}
+use Rattle.tv_cert.specs.NodeViews.{pieces_list}
 use Rattle.tv_cert_spelling.specs.Spelling.{spelled, all_spelled, first_kind}
 use Rattle.tv_cert_spelling.proofs.NodeLines.{kids_with, lines_are, size_left, none_left, sizes_left, parts_added}
 use Rattle.tv_cert_spelling.proofs.nodes.+append_node.Goals as goal

@@ -2,7 +2,7 @@ use Rattle.tv_cases.specs.Systems.{cases_of}
 use Rattle.tv_cert.specs.declared.node.Verdict.TheVariants.{Disproved}
 use Rattle.tv_cert.specs.AimViews.{aim_states}
 use Rattle.tv_cert.specs.Nodes.{pieces_of, root_entry, node_entries}
-use Rattle.tv_cert.specs.Plain.{about_of}
+use Rattle.tv_cert.specs.AboutSystem.{about_of}
 use Rattle.tv_cert.proofs.FailingLemmas.{failing_left}
 use Rattle.tv_check.proofs.SettlingLemmas.{last_settled}
 use Rattle.tv_check.proofs.checking.check_disproved.Goals as goal

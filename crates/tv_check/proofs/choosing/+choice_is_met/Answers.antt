@@ -4,7 +4,7 @@ use Rattle.tv_refute.specs.Frames.{known_at}
 use Rattle.tv_cases.specs.Systems.{cases_of}
 use Rattle.tv_cert.specs.Pieces.{place_of}
 use Rattle.tv_cert.specs.Choices.{IsMetChoice}
-use Rattle.tv_cert.specs.Owing.{destination_owes}
+use Rattle.tv_cert.specs.OwesViews.{destination_owes}
 use Rattle.tv_check.proofs.choosing.+choice_is_met.Goals as goal
 
 pub returns-then-choice_is_met : goal.returns-then-choice_is_met

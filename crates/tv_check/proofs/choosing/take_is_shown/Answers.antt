@@ -6,7 +6,7 @@ use Rattle.tv_linear.specs.Terms.{draw_terms}
 use Rattle.tv_refute.specs.Frames.{known_at}
 use Rattle.tv_cases.specs.Views.{case_view}
 use Rattle.tv_cert.specs.Choices.{drawn_guards}
-use Rattle.tv_cert.specs.Owing.{destination_owes}
+use Rattle.tv_cert.specs.OwesViews.{destination_owes}
 use Rattle.tv_check.proofs.ShownLemmas.{few_at, shown_with, lists_split}
 use Rattle.tv_check.proofs.choosing.take_is_shown.Goals as goal
 

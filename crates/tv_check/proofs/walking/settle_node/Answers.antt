@@ -2,7 +2,7 @@ use Rattle.std.proofs.Common.{◌≡◌, ◌∙◌, ◌+◌, map, length, ap, sy
 use Rattle.tv_cases.specs.Systems.{cases_of}
 use Rattle.tv_cert.specs.Obligations.{AllMet, paired}
 use Rattle.tv_cert.specs.AimViews.{aim_states}
-use Rattle.tv_cert.specs.Listed.{pieces_list}
+use Rattle.tv_cert.specs.NodeViews.{pieces_list}
 use Rattle.tv_cert.specs.Nodes.{node_owes, own_entries}
 use Rattle.tv_cert.specs.FirstFailing.{IsFirstFailing}
 use Rattle.tv_cert.specs.declared.failing.Failing.{Failing}

@@ -6,7 +6,7 @@ use Rattle.tv_cases.specs.Systems.{cases_of}
 use Rattle.tv_cases.specs.Views.{case_view}
 use Rattle.tv_cases.proofs.LeavingLemmas.{case_among, case_within}
 use Rattle.tv_cert_reader.proofs.ReadingLemmas.{at_exit}
-use Rattle.tv_check_text.specs.Judging.{JudgesStops}
+use Rattle.tv_check_text.specs.Checking.{ChecksStops}
 use Rattle.tv_check_text.proofs.ShownLemmas.{joined_true, joined_false}
 use Rattle.tv_check_text.proofs.StopLemmas.{stops_fail, stops_next, stops_end}
 use Rattle.tv_check_text.proofs.choices.stops_are_met.Goals as goal
@@ -24,7 +24,7 @@ returns-in_err-stuck c =
     let known = known_at c.args.frames.now in
     let all = leaving c.args.location system.cases in
     let f = c.in_err-stuck.field-0.0 in
-    at_exit (JudgesStops system.variables known c.args.left all c.args.cursor.now c.stop_is_met.new.cursor) c.from_residual.result f c.from_residual.ensures.1
+    at_exit (ChecksStops system.variables known c.args.left all c.args.cursor.now c.stop_is_met.new.cursor) c.from_residual.result f c.from_residual.ensures.1
     (stops_fail system.variables known c.args.left all c.args.cursor.now c.cases.k c.cases.cursor c.cases.met c.cases.invariant (case_view c.in-Some.case.now) c.in-Some.ensures.case f c.in_err-stuck.ensures)
 
 pub overflow_add-k : goal.overflow_add-k

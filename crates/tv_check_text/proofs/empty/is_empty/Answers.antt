@@ -15,7 +15,7 @@ use Rattle.tv_check_text.proofs.empty.is_empty.Goals as goal
 
 pub returns-then-len-known-clause-cover : goal.returns-then-len-known-clause-cover
 returns-then-len-known-clause-cover c = λ owed left old new at e.
-    cover_trees.empty_judged c.args.columns owed (known_at c.args.frames.now) left old new c.args.multipliers at (let h = c.if-len-known.true in let k = c.len.ensures in let n = c.requires.counted in omega (arith, h, k, n)) c.refutes.result
+    cover_trees.empty_checked c.args.columns owed (known_at c.args.frames.now) left old new c.args.multipliers at (let h = c.if-len-known.true in let k = c.len.ensures in let n = c.requires.counted in omega (arith, h, k, n)) c.refutes.result
     (subst (λ (x : Type 0). x) (λ i. IsTrue c.refutes.result ↔ Refutes c.args.columns (known_at c.args.frames.now) (c.deref.ensures.value i)) c.refutes.ensures.exact)
 
 pub returns-clause-cover : goal.returns-clause-cover
@@ -26,7 +26,7 @@ returns-clause-cover c = λ owed left old new at e.
 
 pub returns-then-len-known-clause-choice : goal.returns-then-len-known-clause-choice
 returns-then-len-known-clause-choice c = λ system piece stop destination left old new wide at e.
-    choice_trees.empty_judged system piece stop destination (known_at c.args.frames.now) left old new c.args.multipliers at (let h = c.if-len-known.true in let k = c.len.ensures in let n = c.requires.counted in omega (arith, h, k, n)) c.refutes.result
+    choice_trees.empty_checked system piece stop destination (known_at c.args.frames.now) left old new c.args.multipliers at (let h = c.if-len-known.true in let k = c.len.ensures in let n = c.requires.counted in omega (arith, h, k, n)) c.refutes.result
     (subst (λ (x : Type 0). x) (λ i. IsTrue c.refutes.result ↔ Refutes (wide i) (known_at c.args.frames.now) (c.deref.ensures.value i)) c.refutes.ensures.exact)
 
 pub returns-clause-choice : goal.returns-clause-choice

@@ -5,7 +5,7 @@ use Rattle.tv_cert_reader.specs.Sorts.{line_with}
 use Rattle.tv_cert_reader.specs.Reading.{FailsBy}
 use Rattle.tv_cert_reader.specs.Parts.{AreNumbers}
 use Rattle.tv_cert_reader.proofs.ReadingLemmas.{at_exit}
-use Rattle.tv_check_text.specs.Judging.{JudgesLists}
+use Rattle.tv_check_text.specs.Checking.{ChecksLists}
 use Rattle.tv_check_text.specs.Owed.{owed_listed, ShowsRow}
 use Rattle.tv_check_text.proofs.ShownLemmas.{lines_fail, lines_end, shown_next, joined_true, joined_false}
 use Rattle.tv_check_text.proofs.shown.rows_are_shown.Goals as goal
@@ -16,7 +16,7 @@ returns-in_err-multipliers c =
     let known = known_at c.args.frames.now in
     let rows = owed_listed c.args.owed.now in
     let f = c.in_err-multipliers.field-0.0 in
-    at_exit (JudgesLists c.args.columns known rows c.args.cursor.now c.numbers.new.cursor) c.from_residual.result f c.from_residual.ensures.1
+    at_exit (ChecksLists c.args.columns known rows c.args.cursor.now c.numbers.new.cursor) c.from_residual.result f c.from_residual.ensures.1
     (lines_fail c.args.columns known rows c.args.cursor.now c.rows.place c.rows.cursor c.rows.met c.rows.invariant f (let a = c.rows-test.true in let b = c.count-place-end.ensures in omega (arith, a, b))
     (subst (λ n. FailsBy (line_with By (n + 1)) c.rows.cursor f) c.requires.counted c.in_err-multipliers.ensures))
 

@@ -23,10 +23,10 @@ returns-in-Err-clause-refused c =
 pub returns-in-Some-clause-refused : goal.returns-in-Some-clause-refused
 returns-in-Some-clause-refused c =
     let h = c.in-Ok.ensures in
-    fails_first (cases_of c.args.about.now) c.args.claim.now c.requires.variables c.args.text.now c.args.alloc (is_proved c.in-Ok.values) (values_in c.in-Ok.values) h.0 c.judge_whole.new.walk.taker h.2 (sym c.new.ensures ∙ h.1) c.in-Some.failing c.in-Some.is
+    fails_first (cases_of c.args.about.now) c.args.claim.now c.requires.variables c.args.text.now c.args.alloc (is_proved c.in-Ok.values) (values_in c.in-Ok.values) h.0 c.check_whole.new.walk.taker h.2 (sym c.new.ensures ∙ h.1) c.in-Some.failing c.in-Some.is
 
 pub returns-clause-accepted : goal.returns-clause-accepted
 returns-clause-accepted c =
     let h = c.in-Ok.ensures in
     let a = c.accepted_with.ensures in
-    is_accepted (cases_of c.args.about.now) c.args.claim.now c.requires.variables c.args.text.now c.args.alloc (is_proved c.in-Ok.values) (values_in c.in-Ok.values) h.0 c.judge_whole.new.walk.taker h.2 (sym c.new.ensures ∙ h.1) c.in-None.is c.accepted_with.result a.proved a.at_values a.counted
+    is_accepted (cases_of c.args.about.now) c.args.claim.now c.requires.variables c.args.text.now c.args.alloc (is_proved c.in-Ok.values) (values_in c.in-Ok.values) h.0 c.check_whole.new.walk.taker h.2 (sym c.new.ensures ∙ h.1) c.in-None.is c.accepted_with.result a.proved a.at_values a.counted

@@ -1,7 +1,7 @@
 use Rattle.std.proofs.Common.{map, refl, false, [], ◌∷◌}
 use Rattle.tv_formula.specs.Properties as props
 use Rattle.tv_cases.specs.Systems.{cases_of}
-use Rattle.tv_cert.specs.Listed.{pieces_list}
+use Rattle.tv_cert.specs.NodeViews.{pieces_list}
 use Rattle.tv_cert.specs.Obligations.{first_of}
 use Rattle.tv_region.specs.StepRegions.{InState}
 use Rattle.tv_pre.specs.Pieces.{AreMarked}

@@ -7,7 +7,7 @@ use Rattle.tv_cases.specs.Systems.{cases_of}
 use Rattle.tv_cert.specs.declared.node.Mark.TheVariants.{Go}
 use Rattle.tv_cert.specs.declared.node.Marked.{Marked}
 use Rattle.tv_cert.specs.Claims.{about_with}
-use Rattle.tv_cert.specs.Listed.{pieces_list}
+use Rattle.tv_cert.specs.NodeViews.{pieces_list}
 use Rattle.tv_cert.specs.Nodes.{piece_of}
 use Rattle.tv_region.specs.Regions.{IsPieceOf, IsRegion}
 use Rattle.tv_region.specs.StepRegions.{InState}

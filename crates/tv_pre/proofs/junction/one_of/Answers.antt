@@ -1,7 +1,7 @@
 use Rattle.std.proofs.Common.{map, refl, false}
 use Rattle.tv_formula.specs.Properties.{some_of}
 use Rattle.tv_cases.specs.Systems.{cases_of}
-use Rattle.tv_cert.specs.Listed.{pieces_list}
+use Rattle.tv_cert.specs.NodeViews.{pieces_list}
 use Rattle.std.specs.List.{flat_map}
 use Rattle.tv_pre.specs.Parts.{joined_pieces}
 use Rattle.tv_pre.specs.Pieces.{AreMarked, InPieces}

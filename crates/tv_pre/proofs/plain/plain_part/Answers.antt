@@ -13,6 +13,6 @@ returns-clause-plain g c =
     record {
       proofs = proofs;
       made = c.in_ok-plain_with.ensures.made;
-      offers = λ a z. all_added (flat_map (g.O.Owing.owes c.args.owing.now about a) plain) c.new-proofs.result.items proofs c.new-proofs.ensures.items
-          (c.in-Ok.ensures.adds a plain (subst (AllZip (g.O.Owing.fits c.args.owing.now about a) plain) (sym c.deref.ensures.value) z));
+      offers = λ a z. all_added (flat_map (g.O.PieceProver.owes c.args.prover.now about a) plain) c.new-proofs.result.items proofs c.new-proofs.ensures.items
+          (c.in-Ok.ensures.adds a plain (subst (AllZip (g.O.PieceProver.fits c.args.prover.now about a) plain) (sym c.deref.ensures.value) z));
     }

@@ -8,5 +8,5 @@ use Rattle.tv_pre.proofs.proving.prove_all.Given as goal
 
 abbrev pub invariant-pieces : goal.invariant-pieces
 invariant-pieces g l =
-    (a : Around) (ps : List Marked) → AllZip (g.O.Owing.fits l.owing (cases_of l.setting.about.now) a) ps l.pieces →
-    Adds (flat_map (g.O.Owing.owes l.owing (cases_of l.setting.about.now) a) (take l.piece-index ps)) l.fn.proofs.items l.proofs.items
+    (a : Around) (ps : List Marked) → AllZip (g.O.PieceProver.fits l.prover (cases_of l.setting.about.now) a) ps l.pieces →
+    Adds (flat_map (g.O.PieceProver.owes l.prover (cases_of l.setting.about.now) a) (take l.piece-index ps)) l.fn.proofs.items l.proofs.items

@@ -3,7 +3,7 @@ use Rattle.std.proofs.lemmas.List.{length-map}
 use Rattle.tv_simplex.proofs.ScaleLemmas.{scaled_up}
 use Rattle.tv_rank.specs.Questions.{ways_of}
 use Rattle.tv_rank.specs.RankingSystem.{entry}
-use Rattle.tv_rank.proofs.Listed.{length-flat}
+use Rattle.tv_rank.proofs.UnknownLists.{length-flat}
 use Rattle.tv_rank.proofs.system.entry_list.Goals as goal
 
 pub push_row-requires-clause-size : goal.push_row-requires-clause-size

@@ -1,7 +1,7 @@
 use Rattle.std.proofs.Common.{sym, subst}
 use Rattle.std.specs.Prelude.{MatchResult}
-use Rattle.tv_cert.specs.Plain.{about_of}
-use Rattle.tv_cert.specs.Listed.{pieces_list}
+use Rattle.tv_cert.specs.AboutSystem.{about_of}
+use Rattle.tv_cert.specs.NodeViews.{pieces_list}
 use Rattle.tv_cert.proofs.NodeLemmas.{pieces_are}
 use Rattle.tv_shape.specs.Fitting.{IsVerdictFault, VerdictFits, VerdictShallow}
 use Rattle.tv_shape.specs.Stations.{stations, AreRight}

@@ -5,7 +5,7 @@ use Rattle.tv_cases.specs.Views.{case_view}
 use Rattle.tv_cert.specs.declared.node.Node.{out-Node}
 use Rattle.tv_shape.proofs.NumberLemmas.{own_within}
 use Rattle.tv_cert.specs.AimViews.{aim_states}
-use Rattle.tv_cert.specs.Listed.{pieces_list}
+use Rattle.tv_cert.specs.NodeViews.{pieces_list}
 use Rattle.tv_cert.specs.Nodes.{node_owes}
 use Rattle.tv_linear.proofs.ListLaws.{test_true, true_test}
 use Rattle.tv_shape.specs.Parts.{children_of, proofs_of}

@@ -3,7 +3,7 @@ use Rattle.std.proofs.lemmas.List.{length-map}
 use Rattle.tv_linear.specs.Known.{given, as_given}
 use Rattle.tv_cases.specs.Systems.{cases_of}
 use Rattle.tv_cert.specs.declared.node.Proof.TheVariants.{Chosen}
-use Rattle.tv_cert.specs.Owing.{owed_by, destination_owes}
+use Rattle.tv_cert.specs.OwesViews.{owed_by, destination_owes}
 use Rattle.tv_cert.specs.Pieces.{rows_of, place_of}
 use Rattle.tv_cert.specs.Shapes.{ProofShape}
 use Rattle.tv_shape.proofs.OfferedLemmas.{choice_owed}

@@ -5,9 +5,9 @@ use Rattle.tv_linear.specs.Known.{given, as_given}
 use Rattle.tv_cases.specs.Systems.{cases_of}
 use Rattle.tv_cases.specs.Views.{case_view}
 use Rattle.tv_cert.specs.declared.node.Proof.TheVariants.{Covered}
-use Rattle.tv_cert.specs.Listed.{pieces_list}
+use Rattle.tv_cert.specs.NodeViews.{pieces_list}
 use Rattle.tv_cert.specs.Obligations.{case_change}
-use Rattle.tv_cert.specs.Owing.{owed_by, falls_where}
+use Rattle.tv_cert.specs.OwesViews.{owed_by, falls_where}
 use Rattle.tv_cert.specs.Pieces.{rows_of, place_of}
 use Rattle.tv_cert.specs.Shapes.{ProofShape, owed_count}
 use Rattle.tv_cert.specs.Targets.{owed_into, owed_lists, no_fall}

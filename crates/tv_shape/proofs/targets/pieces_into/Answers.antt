@@ -1,6 +1,6 @@
 use Rattle.std.proofs.Common.{true, false, ap, ◌∙◌, sym}
 use Rattle.tv_linear.specs.Known.{given}
-use Rattle.tv_cert.specs.Owing.{falls_where}
+use Rattle.tv_cert.specs.OwesViews.{falls_where}
 use Rattle.tv_cert.specs.Shapes.{owed_count}
 use Rattle.tv_cert.specs.Targets.{owed_into}
 use Rattle.tv_shape.proofs.CountLemmas.{count_same}

@@ -7,7 +7,7 @@ use Rattle.tv_cert.specs.declared.node.Verdict.{Verdict}
 use Rattle.tv_cert.specs.AimViews.{aim_states}
 use Rattle.tv_cert.specs.Claims.{shown}
 use Rattle.tv_cert.specs.Nodes.{size, pieces_of, root_entry, node_entries, HasParts}
-use Rattle.tv_cert.specs.Plain.{about_of}
+use Rattle.tv_cert.specs.AboutSystem.{about_of}
 use Rattle.tv_cert.specs.Statements.{Statement}
 use Rattle.tv_cert.specs.declared.failing.Failing.{Failing}
 use Rattle.tv_cert.specs.FirstFailing.{Checks}

@@ -9,8 +9,8 @@ use Rattle.tv_top.specs.Views.{task_view}
 use Rattle.tv_top.proofs.Asking.{below_index, no_property, no_cases, told}
 use Rattle.tv_top.proofs.running.decide.Goals as goal
 
-pub judge-requires-clause-few : goal.judge-requires-clause-few
-judge-requires-clause-few g c = below_index c.args.task.now.checks (length c.texts_in.result.1.now) (length c.args.bytes.now) c.texts_in.ensures.certificate c.requires
+pub check_certificate-requires-clause-few : goal.check_certificate-requires-clause-few
+check_certificate-requires-clause-few g c = below_index c.args.task.now.checks (length c.texts_in.result.1.now) (length c.args.bytes.now) c.texts_in.ensures.certificate c.requires
 
 pub returns-in-Err-property : goal.returns-in-Err-property
 returns-in-Err-property g c =
@@ -54,8 +54,8 @@ returns-then-task g c =
     let asked : Asked task c.args.bytes.now = record { given = given; property = property_of c.in-Ok-property.property; named = c.in-Ok-property.ensures.named } in
     let about = cases_of c.in-Ok-cases.about in
     let offers : Offers = λ about. Gave (λ p. (goal.Proposer-dyn g (p.vtable, p.value)).rest p.value about) c.args.proposers.now.items in
-    told offers task c.args.bytes.now asked about c.in-Ok-cases.ensures.exact c.in-Ok-cases.ensures.same_program c.judge.result
-    (subst (λ checks. Tells checks offers task given.program asked.property about given.certificate_text c.judge.result) (sym c.if-task.true) c.judge.ensures)
+    told offers task c.args.bytes.now asked about c.in-Ok-cases.ensures.exact c.in-Ok-cases.ensures.same_program c.check_certificate.result
+    (subst (λ checks. Tells checks offers task given.program asked.property about given.certificate_text c.check_certificate.result) (sym c.if-task.true) c.check_certificate.ensures)
 
 pub returns : goal.returns
 returns g c =

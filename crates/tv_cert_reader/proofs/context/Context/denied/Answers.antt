@@ -4,7 +4,7 @@ use Rattle.tv_lines.specs.Lines.{formed}
 use Rattle.tv_lines.specs.declared.head.Head.TheVariants as heads
 use Rattle.tv_cases.specs.Systems.{cases_of}
 use Rattle.tv_cert.specs.AimViews.{aim_states}
-use Rattle.tv_cert.specs.Listed.{pieces_list}
+use Rattle.tv_cert.specs.NodeViews.{pieces_list}
 use Rattle.tv_cert.specs.Pieces.{pieces_at}
 use Rattle.tv_cert_reader.specs.Reading.{Takes, FailsBy}
 use Rattle.tv_cert_reader.specs.Wholes.{ReadsRest}

@@ -7,9 +7,9 @@ use Rattle.tv_linear.specs.Known.{given, as_given}
 use Rattle.tv_cases.specs.LinearCases.{IsCase}
 use Rattle.tv_cases.specs.Systems.{cases_of}
 use Rattle.tv_cases.specs.Views.{case_view}
-use Rattle.tv_cert.specs.Listed.{pieces_list}
+use Rattle.tv_cert.specs.NodeViews.{pieces_list}
 use Rattle.tv_cert.specs.Obligations.{a_cover, truth_targets}
-use Rattle.tv_cert.specs.Owing.{OwedIn, owed_by}
+use Rattle.tv_cert.specs.OwesViews.{OwedIn, owed_by}
 use Rattle.tv_cert.specs.Pieces.{rows_of, place_of}
 use Rattle.tv_cert.specs.Shapes.{owed_count}
 use Rattle.tv_cert.specs.Targets.{owed_into, owed_lists, no_fall}

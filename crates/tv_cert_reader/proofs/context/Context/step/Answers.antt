@@ -4,7 +4,7 @@ use Rattle.tv_linear.specs.Known.{given, as_given}
 use Rattle.tv_cases.specs.Systems.{cases_of}
 use Rattle.tv_cases.specs.Views.{case_view}
 use Rattle.tv_cert.specs.Obligations.{a_cover, case_change}
-use Rattle.tv_cert.specs.Owing.{falls_where}
+use Rattle.tv_cert.specs.OwesViews.{falls_where}
 use Rattle.tv_cert.specs.Pieces.{rows_of}
 use Rattle.tv_cert.specs.Targets.{owed_into}
 use Rattle.tv_cert_reader.specs.Proofs.{ReadsProof}

@@ -2,7 +2,7 @@ use Rattle.std.proofs.Common.{◌≡◌, ◌+◌, ◌<◌, ◌^◌, Err, List, [
 use Rattle.tv_cases.specs.Systems.{cases_of}
 use Rattle.tv_cert.specs.AimViews.{aim_states}
 use Rattle.tv_cert.specs.declared.node.Marked.{Marked}
-use Rattle.tv_cert.specs.Listed.{pieces_list}
+use Rattle.tv_cert.specs.NodeViews.{pieces_list}
 use Rattle.tv_cert.specs.Nodes.{node_owes}
 use Rattle.tv_cert.specs.Statements.{parts_of, part_at, count}
 use Rattle.tv_cert_reader.specs.NodeGrammar.{node}
@@ -67,15 +67,15 @@ children-preserved g t c =
       (let n = o.1 in omega (arith, few, n)),
     )
 
-pub own-requires-clause-few : goal.own-requires-clause-few
-own-requires-clause-few g t c =
+pub own_proofs-requires-clause-few : goal.own_proofs-requires-clause-few
+own_proofs-requires-clause-few g t c =
     let system = cases_of c.args.about.now in
     let s = aim_states c.args.aim.now in
     let h = few_parts g.T.Taker.takes g.T.Taker.room g.T.Taker.whole system s c.args.self.now c.children.self c.pieces.inside.list.items c.in_ok-pieces.ranks c.children.children.items c.children.invariant.0 in
     subst (λ (x : Type 0). x) (λ i. length (c.pieces.view_is i) + length (sym c.deref.ensures.value i) < 2 ^ 32) h
 
-pub own-requires-clause-room : goal.own-requires-clause-room
-own-requires-clause-room g t c = c.children.invariant.0.counted
+pub own_proofs-requires-clause-room : goal.own_proofs-requires-clause-room
+own_proofs-requires-clause-room g t c = c.children.invariant.0.counted
 
 pub returns-in_err-proofs-clause-walked : goal.returns-in_err-proofs-clause-walked
 returns-in_err-proofs-clause-walked g t c =
@@ -85,9 +85,9 @@ returns-in_err-proofs-clause-walked g t c =
     let f = c.in_err-proofs.field-0.0 in
     let stands = subst (λ (ps : List Marked). Stands g.T.Taker.takes g.T.Taker.room g.T.Taker.whole system s c.args.self.now c.children.self ps c.in_ok-pieces.ranks c.children.children.items) c.pieces.view_is o.0 in
     let many : length c.children.children.items ≡ count (parts_of s) = (let e = c.argument_count-i-end.ensures in let b = c.children-test.false in let n = o.1 in let m = o.2 in omega (arith, e, b, n, m)) in
-    at_exit (Walks g.T.Taker.takes g.T.Taker.room g.T.Taker.whole system s c.args.self.now c.own.new.self) c.from_residual-in_err-proofs.result f c.from_residual-in_err-proofs.ensures.1
+    at_exit (Walks g.T.Taker.takes g.T.Taker.room g.T.Taker.whole system s c.args.self.now c.own_proofs.new.self) c.from_residual-in_err-proofs.result f c.from_residual-in_err-proofs.ensures.1
     (own_stops g.T.Taker.takes g.T.Taker.room g.T.Taker.whole system s c.args.self.now c.children.self c.in_ok-pieces.pieces c.in_ok-pieces.ranks c.children.children.items stands many f
-    (subst (λ ks. TakesOwn g.T.Taker.takes g.T.Taker.whole (node_owes c.args.self.now.nodes system s c.in_ok-pieces.pieces (map pieces_list ks)) c.children.self c.own.new.self (Err f)) c.deref.ensures.value c.in_err-proofs.ensures.taken))
+    (subst (λ ks. TakesOwn g.T.Taker.takes g.T.Taker.whole (node_owes c.args.self.now.nodes system s c.in_ok-pieces.pieces (map pieces_list ks)) c.children.self c.own_proofs.new.self (Err f)) c.deref.ensures.value c.in_err-proofs.ensures.taken))
 
 pub returns-clause-walked : goal.returns-clause-walked
 returns-clause-walked g t c =
@@ -96,8 +96,8 @@ returns-clause-walked g t c =
     let o = c.children.invariant in
     let stands = subst (λ (ps : List Marked). Stands g.T.Taker.takes g.T.Taker.room g.T.Taker.whole system s c.args.self.now c.children.self ps c.in_ok-pieces.ranks c.children.children.items) c.pieces.view_is o.0 in
     let many : length c.children.children.items ≡ count (parts_of s) = (let e = c.argument_count-i-end.ensures in let b = c.children-test.false in let n = o.1 in let m = o.2 in omega (arith, e, b, n, m)) in
-    node_walked g.T.Taker.takes g.T.Taker.room g.T.Taker.whole system s c.args.self.now c.children.self c.own.new.self c.in_ok-pieces.pieces c.in_ok-pieces.ranks c.children.children c.in_ok-proofs.proofs c.kind_of.ensures.said stands many
-    (subst (λ ks. AreTaken g.T.Taker.takes g.T.Taker.whole (node_owes c.args.self.now.nodes system s c.in_ok-pieces.pieces (map pieces_list ks)) c.children.self c.own.new.self [] c.in_ok-proofs.proofs.items) c.deref.ensures.value c.in_ok-proofs.ensures.taken)
+    node_walked g.T.Taker.takes g.T.Taker.room g.T.Taker.whole system s c.args.self.now c.children.self c.own_proofs.new.self c.in_ok-pieces.pieces c.in_ok-pieces.ranks c.children.children c.in_ok-proofs.proofs c.kind_of.ensures.said stands many
+    (subst (λ ks. AreTaken g.T.Taker.takes g.T.Taker.whole (node_owes c.args.self.now.nodes system s c.in_ok-pieces.pieces (map pieces_list ks)) c.children.self c.own_proofs.new.self [] c.in_ok-proofs.proofs.items) c.deref.ensures.value c.in_ok-proofs.ensures.taken)
     c.in_ok-proofs.ensures.room _ c.kept.ensures.whole c.kept.ensures.pieces
 
 pub returns-clause-few : goal.returns-clause-few
