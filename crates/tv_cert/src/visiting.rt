@@ -15,7 +15,7 @@ ghost use Rattle.tv_cert.specs.Visits.{Visits};
 use crate::aim::Aim;
 use crate::at::At;
 use crate::fixed_point::FixedPoint;
-use crate::node::{Kind, Mark, Marked, Node};
+use crate::node::{Kind, Mark, Node};
 use crate::owes::{Destination, Owes};
 use crate::pieces::Pieces;
 use crate::visitor::Visitor;
