@@ -14,7 +14,7 @@ use crate::choices::ChoiceCheck;
 use crate::owed::OwedRows;
 use crate::shown::rows_are_shown;
 use crate::targets::{entered, targets_after};
-use tv_cert_reader::{Cursor, Failure, LineKind, Sort, Taken, read_rows};
+use tv_cert_reader::{Cursor, Failure, LineKind, NumberLine, Taken, read_rows};
 use tv_linear::Row;
 use tv_lines::Head;
 use tv_refute::{Change, Frames, Terms};
@@ -87,7 +87,7 @@ impl<'a> ChoiceCheck<'a> {
         };
         let columns = self.context.about.variables();
         let count = taken.case.draws as u64;
-        let draws = read_rows(self.context.alloc, cursor, Sort::Draw, columns, count)?;
+        let draws = read_rows(self.context.alloc, cursor, NumberLine::Draw, columns, count)?;
         let shown = self.is_shown(cursor, frames, known, &taken, &draws)?;
         Ok(shown)
     }
