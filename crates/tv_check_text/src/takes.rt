@@ -36,7 +36,9 @@ impl<'a> ChoiceCheck<'a> {
             IsSome (owes (case_view taken.now.case.now) draws.now taken.now.target taken.now.fall) }
         ensures { let n = (cases_of self.now.context.about.now).variables in
             let case = case_view taken.now.case.now in
-            (rows : List Known) → destination_owes n self.now.piece.now self.now.destination.now case draws.now taken.now.target taken.now.fall ≡ Some rows → ChecksLists n (known_at frames.now) (drawn_guards n case draws.now ++ rows) cursor.old cursor.new result }
+            let owes = destination_owes n self.now.piece.now self.now.destination.now case draws.now in
+            (rows : List Known) → owes taken.now.target taken.now.fall ≡ Some rows →
+            ChecksLists n (known_at frames.now) (drawn_guards n case draws.now ++ rows) cursor.old cursor.new result }
     {
         let columns = self.context.about.variables();
         let case = taken.case;

@@ -17,7 +17,8 @@ use tv_check::is_inside;
 fn settle_root(checker: &mut Checker, met: bool)
     requires { checker.old.seen < 2 ^ 32 }
     ensures seen { checker.new.seen ≡ checker.old.seen + 1 }
-    ensures failing { checker.new.failing ≡ first_failing checker.old.failing met (record { number = checker.old.seen + 1; node = 0; kind = kinds.Root }) }
+    ensures failing { checker.new.failing ≡ first_failing checker.old.failing met
+        (record { number = checker.old.seen + 1; node = 0; kind = kinds.Root }) }
 {
     let number = checker.seen + 1;
     let failing = Failing {
