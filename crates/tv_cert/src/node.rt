@@ -90,6 +90,18 @@ impl Marked {
         }))
     }
 
+    pub fn copy(&self, alloc: Global) -> Result<Marked, AllocError>
+        ensures { IfOk result (λ copy. copy ≡ self.now) }
+    {
+        Ok(Marked {
+            location: self.location,
+            columns: self.columns,
+            mark: self.mark,
+            rows: self.rows,
+            numbers: Vec::from_slice(alloc, &self.numbers)?,
+        })
+    }
+
     pub fn location(&self) -> u32
         ensures { result ≡ self.now.location }
     {

@@ -1,57 +1,12 @@
-// Copies of pieces and of proofs, in which targets are counted among the pieces that stay.
+// Copies of proofs, in which targets are counted among the pieces that stay.
 
 use crate::entering::{Target, led_to};
 use crate::numbering::Numbering;
 use crate::owner::Among;
 use std::alloc::{AllocError, Global};
 use tv_cases::Cases;
-use tv_cert::{Marked, Proof};
-use tv_linear::{
-    Choice, ChoiceTree, Cover, CoverTree, Row, RowView, Rows, copies, copies_of_lists, widened,
-};
-
-/// A copy of the row; `None` where it has too many columns.
-fn row_of(alloc: Global, row: RowView) -> Result<Option<Row>, AllocError> {
-    if row.columns() >= 1 << 31 {
-        return Ok(None);
-    }
-    let coefficients = widened(alloc, row.coefficients())?;
-    Row::new(alloc, &coefficients, row.constant())
-}
-
-/// Copies of the rows; `None` where one has too many columns.
-fn rows_of(alloc: Global, rows: Rows) -> Result<Option<Vec<Row>>, AllocError> {
-    let mut list = Vec::new(alloc);
-    for place in 0..rows.len() {
-        match row_of(alloc, rows.row(place))? {
-            None => return Ok(None),
-            Some(row) => list.push(row)?,
-        }
-    }
-    Ok(Some(list))
-}
-
-/// A copy of the piece; `None` where it has too many columns.
-pub(crate) fn copy_of(alloc: Global, piece: &Marked) -> Result<Option<Marked>, AllocError> {
-    let columns = piece.columns();
-    if columns >= 1 << 31 {
-        return Ok(None);
-    }
-    let Some(rows) = rows_of(alloc, piece.rows())? else {
-        return Ok(None);
-    };
-    let Some(ranks) = rows_of(alloc, piece.ranks())? else {
-        return Ok(None);
-    };
-    Marked::from_rows(
-        alloc,
-        piece.location(),
-        piece.mark(),
-        columns,
-        &rows,
-        &ranks,
-    )
-}
+use tv_cert::Proof;
+use tv_linear::{Choice, ChoiceTree, Cover, CoverTree, copies, copies_of_lists};
 
 /// How the targets of a proof are counted.
 #[derive(Clone, Copy)]

@@ -1,6 +1,6 @@
 // Nodes without the pieces that are not needed.
 
-use crate::copying::{Counting, copy_of};
+use crate::copying::Counting;
 use crate::entering::{mark_target, push_targets};
 use crate::marks::Marks;
 use crate::numbering::Numbering;
@@ -185,10 +185,7 @@ fn rebuilt(
     let mut pieces = Vec::new(context.alloc);
     for (place, piece) in plan.node.pieces.list().iter().enumerate() {
         if numbering.own.is_needed(place) {
-            match copy_of(context.alloc, piece)? {
-                None => return Ok(None),
-                Some(piece) => pieces.push(piece)?,
-            }
+            pieces.push(piece.copy(context.alloc)?)?;
         }
     }
     match proofs_of(context, plan, numbering)? {
