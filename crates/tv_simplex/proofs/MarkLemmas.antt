@@ -1,16 +1,13 @@
-use Rattle.std.proofs.Common.{◌≡◌, inl, inr, ℕ, ◌+◌, ◌%◌, ◌-◌, ◌<◌, ◌≤◌, ◌^◌, List, [], ◌∷◌, ◌++◌, length, take, get_or, set, Vec, arith, refl, sym, ap, ◌∙◌, subst, pos, ◌<ℤ◌}
+use Rattle.std.proofs.Common.{◌≡◌, inl, inr, ℕ, ◌-◌, ◌<◌, ◌≤◌, ◌^◌, List, ◌++◌, length, take, Vec, arith, sym, ap, ◌∙◌, pos, ◌<ℤ◌}
 use Rattle.std.specs.Int.{bit_at}
 use Rattle.std.proofs.lemmas.Int.{ints}
-use Rattle.std.proofs.lemmas.Bool.{cases_eq}
-use Rattle.std.proofs.lemmas.List.{length-set, get_or-set_same, get_or-set_other}
 use Rattle.std.proofs.lemmas.Nat.Bits.{bit_at_ones}
 use Rattle.std.proofs.Math.Seq.{take-append_seam}
 use Rattle.tv_simplex.specs.declared.rows.Entry.{Entry}
-use Rattle.tv_simplex.specs.Ratios.{IsExchanged}
-use Rattle.tv_simplex.specs.Rows.{none, entry_in, row_of, read, IsSparse, IsGrid, IsColumn}
+use Rattle.tv_simplex.specs.Rows.{none, entry_in, row_of, read, IsSparse, IsColumn}
 use Rattle.tv_simplex.specs.Exchanges.{IsNext}
 use Rattle.tv_simplex.specs.Marks.{class_of, AreMarksOf, AreMarked, AreMarkedBut}
-use Rattle.tv_simplex.proofs.RowLemmas.{entry-here, entry-behind, none_before, entry_above, less_nothing, zero_is_left_out, sparse_from}
+use Rattle.tv_simplex.proofs.RowLemmas.{none_before, entry_above, less_nothing, zero_is_left_out}
 
 -- a bit that is not 1 is 0
 pub bit_unset : (bit : ℕ) → bit < 2 → (bit ≡ 1 → ⊥) → bit ≡ 0

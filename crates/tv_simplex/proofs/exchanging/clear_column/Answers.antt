@@ -2,7 +2,7 @@ use Rattle.std.proofs.Common.{◌+◌, ◌<◌, ◌∷◌, length, slice_index_o
 use Rattle.std.proofs.lemmas.Option.{MatchOption-at_none, MatchOption-at_some}
 use Rattle.tv_simplex.specs.Rows.{ratio, entry_in, row_of, IsSparse, IsRow, IsRestOf, IsWideBy, IsTaken}
 use Rattle.tv_simplex.proofs.RowLemmas.{first_and_others, left_front, left_gap, left_behind, left_ends}
-use Rattle.tv_simplex.proofs.TableLemmas.{ClearedTo, row_at, cleared_up, cleared_more, cleared_skip}
+use Rattle.tv_simplex.proofs.TableLemmas.{row_at, cleared_up, cleared_more, cleared_skip}
 use Rattle.tv_simplex.proofs.exchanging.clear_column.Goals as goal
 
 pub clear_row-requires-clause-row : goal.clear_row-requires-clause-row

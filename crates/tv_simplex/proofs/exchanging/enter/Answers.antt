@@ -1,4 +1,4 @@
-use Rattle.std.proofs.Common.{◌≡◌, ◌+◌, ◌<◌, ◌++◌, drop, length, arith, ap, sym, subst, ◌∙◌}
+use Rattle.std.proofs.Common.{◌≡◌, ◌+◌, drop, length, arith, ap, sym, subst, ◌∙◌}
 use Rattle.tv_simplex.specs.Rows.{IsGrid}
 use Rattle.tv_simplex.specs.Exchanges.{IsNext}
 use Rattle.tv_simplex.specs.Marks.{AreMarked, AreMarkedBut}

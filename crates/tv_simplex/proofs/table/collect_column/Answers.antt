@@ -1,10 +1,9 @@
-use Rattle.std.proofs.Common.{◌≡◌, ◌+◌, ◌<◌, ◌≤◌, ◌^◌, length, get_or, arith, sym, ap, subst, ◌∙◌}
+use Rattle.std.proofs.Common.{◌≡◌, ◌+◌, ◌<◌, length, get_or, arith, sym, ap, subst, ◌∙◌}
 use Rattle.std.specs.Int.{bit_at}
 use Rattle.std.proofs.lemmas.List.{get_or_default}
 use Rattle.std.proofs.lemmas.Nat.Bits.{bit_at-lt}
 use Rattle.std.proofs.lemmas.Result.{IfOk-weaker}
-use Rattle.tv_simplex.specs.Ratios.{Ratio}
-use Rattle.tv_simplex.specs.Rows.{ratio, none, row_of, IsRow, IsPut, IsColumn}
+use Rattle.tv_simplex.specs.Rows.{ratio, none, IsPut, IsColumn}
 use Rattle.tv_simplex.specs.Marks.{class_of}
 use Rattle.tv_simplex.specs.Tables.{shown}
 use Rattle.tv_simplex.proofs.RowLemmas.{row_put, row_wider, tested_false}
