@@ -1,4 +1,4 @@
-use Rattle.std.proofs.Common.{◌≡◌, ℕ, zero, suc, ◌⊎◌, inl, inr, ◌+◌, ◌-◌, ◌<◌, ◌≤◌, arith, sym, ap, ◌∙◌, ℤ, pos, ◌-ℤ◌, ◌*ℤ◌, ◌≤ℤ◌}
+use Rattle.std.proofs.Common.{◌≡◌, ℕ, zero, suc, inl, inr, ◌+◌, ◌-◌, ◌<◌, ◌≤◌, arith, refl, sym, ap, ◌∙◌, ℤ, pos, ◌-ℤ◌, ◌*ℤ◌, ◌≤ℤ◌}
 use Rattle.std.proofs.lemmas.Int.{ints}
 use Rattle.std.proofs.Math.IntN.{*ℤ_comm}
 use Rattle.tv_simplex.proofs.Ring.{by_sign, times_zero, zero_times, not_under_times, mul_swap, less_times}
@@ -7,9 +7,10 @@ use Rattle.tv_simplex.proofs.Objective.{times_taken, taken}
 use Rattle.tv_simplex.proofs.GoesOn.{cost-none, cost-not_under, total-not_under, delta-not_under}
 use Rattle.tv_simplex.specs.Sums.{total, delta}
 use Rattle.tv_simplex.specs.Tableaus.{Tableau}
-use Rattle.tv_simplex.specs.Chains.{cost, Solves, NoneNegative}
+use Rattle.tv_simplex.specs.Chains.{cost, objective, Solves, NoneNegative}
 use Rattle.tv_simplex.specs.Answers.{IsSolution, IsBarrier, values_of, barrier_of}
 use Rattle.std.proofs.lemmas.Bool.{cases_lt, cases_eq}
+use Rattle.tv_linear.proofs.ListLaws.{last_or_below}
 
 -- 1 at an artificial column
 pub cost-one : (m n i : ℕ) → i < m → cost m n (n + i) ≡ pos 1
@@ -23,6 +24,28 @@ cost-one m n i l = total-same m (λ k. delta (n + k) (n + i)) (λ k. delta k i *
 
 pub cost-right : (m n : ℕ) → cost m n (n + m) ≡ pos 0
 cost-right m n = total-zero m (λ k. delta (n + k) (n + m)) (λ k l. delta-other (n + k) (n + m) (λ e. absurd (omega arith)))
+
+-- ---- sums
+none_of_zero : (k : ℕ) (f : ℕ → ℤ) → ((i : ℕ) → i < k → pos 0 ≤ℤ f i) → total k f ≡ pos 0 → (i : ℕ) → i < k → f i ≡ pos 0
+none_of_zero zero f p e i l = absurd (omega arith)
+none_of_zero (suc k) f p e i l =
+    let u = total-not_under k f (λ q g. p q (omega arith)) in
+    let w = p k (omega arith) in
+    elim (last_or_below k i (omega arith)) [
+      | inl h ↦ (let s = ap f h in omega (arith, ints, u, w, s, e))
+      | inr h ↦ none_of_zero k f (λ q g. p q (omega arith)) (omega (arith, ints, u, w, e)) i h
+    ]
+
+-- where a sum is not 0 some part is not
+some_of_sum : (k : ℕ) (f : ℕ → ℤ) → (total k f ≡ pos 0 → ⊥) → (i : ℕ) × (i < k) × (f i ≡ pos 0 → ⊥)
+some_of_sum zero f h = absurd (h refl)
+some_of_sum (suc k) f h = elim (by_sign (f k)) [
+  | inl low ↦ (k, omega arith, λ e. absurd (omega (arith, ints, low, e)))
+  | inr w ↦ elim w [
+    | inl none ↦ (let p = some_of_sum k f (λ e. h (omega (arith, ints, e, none))) in (p.0, (let l = p.1 in omega (arith, l)), p.2))
+    | inr high ↦ (k, omega arith, λ e. absurd (omega (arith, ints, high, e)))
+  ]
+]
 
 -- ---- a basis that solves gives a solution
 module _ (a : ℕ → ℕ → ℤ) (m n : ℕ) (b : ℕ → ℕ) (x : Tableau a m n b) where
@@ -51,6 +74,35 @@ module _ (a : ℕ → ℕ → ℤ) (m n : ℕ) (b : ℕ → ℕ) (x : Tableau a 
             let w = zero_times (x.entry i (n + m)) (a k (b i)) z in
             omega (arith, ints, none, w))
       ]
+
+  -- ---- the values of the artificial columns of the basis
+  artificial_cost : (i : ℕ) → b i < n + m → n ≤ b i → cost m n (b i) ≡ pos 1
+  artificial_cost i l g = (let e : b i ≡ n + (b i - n) = omega arith in ap (cost m n) e) ∙ cost-one m n (b i - n) (omega arith)
+
+  -- where their sum is 0 each of them is
+  values_none : ((i : ℕ) → i < m → pos 0 ≤ℤ x.entry i (n + m)) → ((i : ℕ) → i < m → b i < n + m) → total m (λ i. x.entry i (n + m) *ℤ cost m n (b i)) ≡ pos 0 → (i : ℕ) → i < m → n ≤ b i → x.entry i (n + m) ≡ pos 0
+  values_none values inside e i l g =
+      let z = none_of_zero m (λ i. x.entry i (n + m) *ℤ cost m n (b i)) (λ i l. not_under_times (x.entry i (n + m)) (cost m n (b i)) (values i l) (cost-not_under m n (b i))) e i l in
+      let c = ap (λ y. x.entry i (n + m) *ℤ y) (artificial_cost i (inside i l) g) in
+      omega (arith, ints, z, c)
+
+  -- the right side of the objective row is 0 less their sum
+  objective_right : objective a m n b x (n + m) ≡ pos 0 -ℤ total m (λ i. x.entry i (n + m) *ℤ cost m n (b i))
+  objective_right = (let z = times_zero x.scale (cost m n (n + m)) (cost-right m n) in omega (arith, ints, z))
+
+  pub artificial_none : ((i : ℕ) → i < m → pos 0 ≤ℤ x.entry i (n + m)) → ((i : ℕ) → i < m → b i < n + m) → objective a m n b x (n + m) ≡ pos 0 → (i : ℕ) → i < m → n ≤ b i → x.entry i (n + m) ≡ pos 0
+  artificial_none values inside e = values_none values inside (let r = objective_right in omega (arith, ints, r, e))
+
+  not_of_system : (i : ℕ) → ((x.entry i (n + m) *ℤ cost m n (b i)) ≡ pos 0 → ⊥) → n ≤ b i
+  not_of_system i h = elim (cases_lt (b i) n) [
+    | inl g ↦ absurd (h (times_zero (x.entry i (n + m)) (cost m n (b i)) (cost-none m n (b i) g)))
+    | inr g ↦ g
+  ]
+
+  pub some_artificial : (objective a m n b x (n + m) ≡ pos 0 → ⊥) → (i : ℕ) × (i < m) × (n ≤ b i) × (x.entry i (n + m) ≡ pos 0 → ⊥)
+  some_artificial h =
+      let p = some_of_sum m (λ i. x.entry i (n + m) *ℤ cost m n (b i)) (λ e. h (objective_right ∙ omega (arith, ints, e))) in
+      (p.0, p.1, not_of_system p.0 p.2, λ e. p.2 (zero_times (x.entry p.0 (n + m)) (cost m n (b p.0)) e))
 
   -- what the objective row is a combination of
   barrier_is : (k : ℕ) → k < m → barrier_of a m n b x k ≡ pos 0 -ℤ times_taken a m n b x (cost m n) k
@@ -84,26 +136,7 @@ module _ (a : ℕ → ℕ → ℤ) (m n : ℕ) (b : ℕ → ℕ) (x : Tableau a 
           | inl low ↦ (let u = total-not_under m (λ i. x.entry i (n + m) *ℤ cost m n (b i)) (λ i l. not_under_times (x.entry i (n + m)) (cost m n (b i)) (values i l) (cost-not_under m n (b i))) in absurd (omega (arith, ints, u)))
           | inr w ↦ elim w [
             | inr high ↦ omega (arith, ints, s, high)
-            | inl e ↦ absurd (unsolved (record { values = values; artificial = λ i l g. at_zero e i l g }))
+            | inl e ↦ absurd (unsolved (record { values = values; artificial = values_none values inside e }))
           ]
         ]);
   }
-    where
-      none_of_zero : (k : ℕ) (f : ℕ → ℤ) → ((i : ℕ) → i < k → pos 0 ≤ℤ f i) → total k f ≡ pos 0 → (i : ℕ) → i < k → f i ≡ pos 0
-      none_of_zero zero f p e i l = absurd (omega arith)
-      none_of_zero (suc k) f p e i l = elim (last_or_below k i l) [
-        | inl h ↦ (let u = total-not_under k f (λ q g. p q (omega arith)) in let w = p k (omega arith) in let s = ap f h in omega (arith, ints, u, w, s, e))
-        | inr h ↦ none_of_zero k f (λ q g. p q (omega arith)) (let u = total-not_under k f (λ q g. p q (omega arith)) in let w = p k (omega arith) in omega (arith, ints, u, w, e)) i h
-      ]
-        where
-          last_or_below : (n j : ℕ) → j < suc n → (j ≡ n) ⊎ (j < n)
-          last_or_below n j h = grind arith
-
-      artificial_cost : (i : ℕ) → b i < n + m → n ≤ b i → cost m n (b i) ≡ pos 1
-      artificial_cost i l g = (let e : b i ≡ n + (b i - n) = omega arith in ap (cost m n) e) ∙ cost-one m n (b i - n) (omega arith)
-
-      at_zero : total m (λ i. x.entry i (n + m) *ℤ cost m n (b i)) ≡ pos 0 → (i : ℕ) → i < m → n ≤ b i → x.entry i (n + m) ≡ pos 0
-      at_zero e i l g =
-          let z = none_of_zero m (λ i. x.entry i (n + m) *ℤ cost m n (b i)) (λ i l. not_under_times (x.entry i (n + m)) (cost m n (b i)) (values i l) (cost-not_under m n (b i))) e i l in
-          let c = ap (λ y. x.entry i (n + m) *ℤ y) (artificial_cost i (inside i l) g) in
-          omega (arith, ints, z, c)

@@ -15,7 +15,7 @@ use Rattle.tv_simplex.specs.Chains.{order, column}
 use Rattle.tv_simplex.specs.Orders.{LeastOf, against}
 use Rattle.tv_simplex.specs.Ratios.{Ratio, IsRatio, IsQuotient, Shows}
 use Rattle.tv_simplex.specs.declared.rows.Entry.{Entry}
-use Rattle.tv_simplex.specs.Rows.{ratio, none, IsSparse, BeginsWith, IsNextColumn}
+use Rattle.tv_simplex.specs.Rows.{ratio, none, entry_in, IsSparse, BeginsWith, IsNextColumn, IsColumn}
 use Rattle.tv_simplex.specs.Choosing.{IsSignOf, ComparesAt, difference_at, IsLexicographic, Compares, NoneAbove, IsLeast}
 use Rattle.tv_linear.proofs.ListLaws.{last_or_below}
 use Rattle.std.proofs.lemmas.Bool.{cases_lt}
@@ -185,6 +185,26 @@ module _ (m n : ℕ) (read : ℕ → ℕ → Ratio) (c k : ℕ) (c_in : c ≤ n 
     above = h.above;
     least = λ a b bs x. absurd (never_tied a m n (column b) x.table c k r k_in (h.least a b bs x) (compared_in Equal r (let l = h.within in omega arith) less a b bs x));
   }
+
+-- a row that is not among the entries of the column has nothing above 0 there
+pub nothing_above : (height c : ℕ) (read : ℕ → ℕ → Ratio) (factors : List Entry) → IsColumn height c read factors → (i : ℕ) → i < height → entry_in factors i ≡ none → (read i c).numerator ≤ℤ pos 0
+nothing_above height c read factors of i l nothing = (let e = ap (λ f. f.numerator) (sym (of.each i l) ∙ nothing) in omega (arith, ints, e))
+
+-- further rows with nothing above 0
+best_further : (m n : ℕ) (read : ℕ → ℕ → Ratio) (c k d : ℕ) → c ≤ n + m → k + d ≤ m → (best : Option ℕ) → ((i : ℕ) → k ≤ i → i < k + d → (read i c).numerator ≤ℤ pos 0) →
+    MatchOption best (NoneAbove read c k) (λ r. IsLeast m n read c k r) → MatchOption best (NoneAbove read c (k + d)) (λ r. IsLeast m n read c (k + d) r)
+best_further m n read c k zero c_in high best low h = (let e : k ≡ k + 0 = omega arith in subst (λ z. MatchOption best (NoneAbove read c z) (λ r. IsLeast m n read c z r)) e h)
+best_further m n read c k (suc d) c_in high best low h =
+    let e : k + d + 1 ≡ k + suc d = omega arith in
+    subst (λ z. MatchOption best (NoneAbove read c z) (λ r. IsLeast m n read c z r)) e
+    (best_more m n read c (k + d) c_in (omega (arith, high)) best (low (k + d) (omega arith) (omega arith)) (best_further m n read c k d c_in (omega (arith, high)) best (λ i from up. low i from (omega (arith, up))) h))
+
+pub best_up : (m n : ℕ) (read : ℕ → ℕ → Ratio) (c k end : ℕ) → c ≤ n + m → k ≤ end → end ≤ m → (best : Option ℕ) → ((i : ℕ) → k ≤ i → i < end → (read i c).numerator ≤ℤ pos 0) →
+    MatchOption best (NoneAbove read c k) (λ r. IsLeast m n read c k r) → MatchOption best (NoneAbove read c end) (λ r. IsLeast m n read c end r)
+best_up m n read c k end c_in l high best low h =
+    let e : k + (end - k) ≡ end = omega (arith, l) in
+    subst (λ z. MatchOption best (NoneAbove read c z) (λ r. IsLeast m n read c z r)) e
+    (best_further m n read c k (end - k) c_in (omega (arith, l, high)) best (λ i from up. low i from (omega (arith, l, up))) h)
 
 pub not_above_as : (v w : ℤ) → v ≡ w → (pos 0 <ℤ v → ⊥) → w ≤ℤ pos 0
 not_above_as v w e h = elim (by_sign v) [

@@ -26,6 +26,7 @@ pub mod AnswersMet
 pub mod Transferred
 pub mod RowLemmas
 pub mod TableLemmas
+pub mod MarkLemmas
 pub mod LeavingLemmas
 pub mod ScaleLemmas
 pub mod StartLemmas

@@ -1,4 +1,4 @@
-use Rattle.std.proofs.Common.{Bool, true, false, IsTrue, cond, ◌≡◌, inl, inr, ℕ, zero, suc, ◌+◌, ◌-◌, ◌<◌, ◌≤◌, List, [], ◌∷◌, ◌++◌, length, get_or, take, drop, length-drop, take_all, arith, refl, sym, ap, ◌∙◌, subst, ℤ, pos, ◌*ℤ◌, ◌<ℤ◌, ◌≤ℤ◌, unsigned_abs}
+use Rattle.std.proofs.Common.{Bool, true, false, IsTrue, cond, ◌≡◌, inl, inr, ℕ, zero, suc, ◌+◌, ◌-◌, ◌<◌, ◌≤◌, List, [], ◌∷◌, ◌++◌, length, get_or, take, drop, length-drop, take_all, arith, refl, sym, ap, ◌∙◌, subst, ℤ, pos, ◌-ℤ◌, ◌*ℤ◌, ◌<ℤ◌, ◌≤ℤ◌, unsigned_abs}
 use Rattle.std.specs.Prelude.{nat_eq}
 use Rattle.std.proofs.lemmas.Int.{ints}
 use Rattle.std.proofs.lemmas.Bool.Decides.{nat_tests}
@@ -7,7 +7,7 @@ use Rattle.std.proofs.Math.Nat.{dvd-zero, dvd_refl}
 use Prim.Native.Nat.{◌∣◌}
 use Rattle.tv_linear.proofs.Ring.{mul_assoc_z}
 use Rattle.tv_fraction.specs.declared.Fraction.{Fraction}
-use Rattle.tv_simplex.proofs.Ring.{zero_times, times_zero, less_times, by_sign}
+use Rattle.tv_simplex.proofs.Ring.{zero_times, times_zero, less_times, by_sign, above_times, is_zero}
 use Rattle.tv_simplex.specs.Ratios.{Ratio, IsQuotient, IsLessProduct}
 use Rattle.tv_simplex.specs.declared.rows.Entry.{Entry}
 use Rattle.tv_simplex.specs.Rows.{ratio, ratio_of, none, entry_in, IsNarrowRatio, IsEntry, IsSparse, IsRow, IsRestOf, BeginsFrom, IsPut, IsDivided, IsTaken, IsMade}
@@ -194,6 +194,31 @@ less_product_zero g h k p e = record {
       let a = mul_assoc_z g.numerator d g.denominator ∙ ap (λ y. g.numerator *ℤ y) (*ℤ_comm d g.denominator) in
       omega (arith, ints, s, w, a));
 }
+
+-- a row stays where the factor is 0
+pub row_stays : (row pivots : List Entry) (factor : Ratio) (width : ℕ) → IsSparse 0 width row → factor.numerator ≡ pos 0 → IsRow (IsTaken row factor pivots) width row
+row_stays row pivots factor width sparse nothing = record {
+  sparse = sparse;
+  each = λ j l. less_product_zero (entry_in row j) factor (entry_in pivots j) (entry_above row j) (zero_times factor.numerator (entry_in pivots j).numerator nothing);
+}
+
+-- what is left of 0 where the factor is 0
+pub less_nothing : (f g h k : Ratio) → pos 0 <ℤ g.denominator → pos 0 <ℤ h.denominator → pos 0 <ℤ k.denominator → g.numerator ≡ pos 0 → h.numerator ≡ pos 0 → IsLessProduct f g h k → f.numerator ≡ pos 0
+less_nothing f g h k gp hp kp gz hz is =
+    let d = h.denominator *ℤ k.denominator in
+    let p = above_times g.denominator d gp (above_times h.denominator k.denominator hp kp) in
+    let a = zero_times g.numerator d gz in
+    let b = zero_times (h.numerator *ℤ k.numerator) g.denominator (zero_times h.numerator k.numerator hz) in
+    let c : g.numerator *ℤ d -ℤ (h.numerator *ℤ k.numerator) *ℤ g.denominator ≡ pos 0 = omega (arith, ints, a, b) in
+    is_zero (g.denominator *ℤ d) f.numerator p (*ℤ_comm (g.denominator *ℤ d) f.numerator ∙ is.same ∙ zero_times (g.numerator *ℤ d -ℤ (h.numerator *ℤ k.numerator) *ℤ g.denominator) f.denominator c)
+
+-- a number that is 0 is not kept
+pub zero_is_left_out : (first end : ℕ) (es : List Entry) (j : ℕ) → IsSparse first end es → (entry_in es j).numerator ≡ pos 0 → entry_in es j ≡ none
+zero_is_left_out first end [] j h z = refl
+zero_is_left_out first end (e ∷ es) j h z = elim (cases_eq e.column j) [
+  | inl g ↦ absurd (h.0.nonzero (sym (ap (λ r. r.numerator) (entry-here e es j g)) ∙ z))
+  | inr o ↦ entry-behind e es j o ∙ zero_is_left_out (e.column + 1) end es j h.1 (sym (ap (λ r. r.numerator) (entry-behind e es j o)) ∙ z)
+]
 
 pub less_product_of : {f g g' h k k' : Ratio} → g ≡ g' → k ≡ k' → IsLessProduct f g h k → IsLessProduct f g' h k'
 less_product_of {f = f} {g' = g'} {h = h} {k = k} e d r = subst (λ z. IsLessProduct f g' h z) d (subst (λ z. IsLessProduct f z h k) e r)

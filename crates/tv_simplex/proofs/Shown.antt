@@ -8,6 +8,7 @@ use Rattle.tv_simplex.proofs.Sums.{delta-other}
 use Rattle.tv_simplex.proofs.Steps.{next_tableau, feasible-any}
 use Rattle.tv_simplex.proofs.Chains.{last_of, exchange_of}
 use Rattle.tv_simplex.proofs.GoesOn.{leads_value}
+use Rattle.tv_simplex.proofs.Answered.{artificial_none, some_artificial}
 use Rattle.tv_simplex.specs.Orders.{Feasible}
 use Rattle.tv_simplex.specs.Sums.{delta}
 use Rattle.tv_simplex.specs.Tableaus.{Tableau, Exchange}
@@ -65,6 +66,29 @@ module _ (a : ℕ → ℕ → ℤ) (m n : ℕ) (sys : IsSystem a m n) (b : List 
         *ℤ_comm (read i (n + m)).denominator (shows.table.entry i (n + m)) ∙ sym (shows.rows i (n + m) l (omega arith)).same ∙ zero_times (read i (n + m)).numerator shows.table.scale (h i l g)
         );
   }
+
+  -- the right side of the objective row says whether an artificial column of the basis has another value than 0
+  pub read_solved : (read m (n + m)).numerator ≡ pos 0 → (i : ℕ) → i < m → n ≤ column b i → (read i (n + m)).numerator ≡ pos 0
+  read_solved h i l g =
+      let x = shows.table in
+      let last = last_of a m n sys b bs shows.chain in
+      let none = is_zero (read m (n + m)).denominator (objective a m n (column b) x (n + m)) (shows.objective_row (n + m) (omega arith)).positive (
+      *ℤ_comm (read m (n + m)).denominator (objective a m n (column b) x (n + m)) ∙ sym (shows.objective_row (n + m) (omega arith)).same ∙ zero_times (read m (n + m)).numerator x.scale h
+      ) in
+      num_zero (read i (n + m)) (x.entry i (n + m)) x.scale x.positive (shows.rows i (n + m) l (omega arith))
+      (artificial_none a m n (column b) x (λ k k_in. leads_value m (λ q. x.entry k (order m n q)) (feasible k k_in)) last.inside none i l g)
+
+  pub read_unsolved : ((read m (n + m)).numerator ≡ pos 0 → ⊥) → (i : ℕ) × (i < m) × (n ≤ column b i) × ((read i (n + m)).numerator ≡ pos 0 → ⊥)
+  read_unsolved h =
+      let x = shows.table in
+      let p = some_artificial a m n (column b) x (λ e. h (num_zero (read m (n + m)) (objective a m n (column b) x (n + m)) x.scale x.positive (shows.objective_row (n + m) (omega arith)) e)) in (
+        p.0,
+        p.1,
+        p.2,
+        λ e. p.3 (is_zero (read p.0 (n + m)).denominator (x.entry p.0 (n + m)) (shows.rows p.0 (n + m) p.1 (omega arith)).positive (
+            *ℤ_comm (read p.0 (n + m)).denominator (x.entry p.0 (n + m)) ∙ sym (shows.rows p.0 (n + m) p.1 (omega arith)).same ∙ zero_times (read p.0 (n + m)).numerator x.scale e
+            )),
+      )
 
   pub step_to : (c r : ℕ) → (Solves a m n (column b) shows.table → ⊥) → Enters a m n (column b) shows.table c → Leaves a m n (column b) shows.table c r → Step a m n b (set b r c)
   step_to c r never enters leaves = record {

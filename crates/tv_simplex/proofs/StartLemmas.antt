@@ -1,4 +1,4 @@
-use Rattle.std.proofs.Common.{◌≡◌, inl, inr, ℕ, ◌+◌, ◌-◌, ◌<◌, ◌≤◌, [], length, arith, refl, sym, ap, ◌∙◌, subst, ℤ, pos, ◌*ℤ◌}
+use Rattle.std.proofs.Common.{◌≡◌, inl, inr, ℕ, ◌+◌, ◌-◌, ◌<◌, ◌≤◌, List, [], length, Vec, arith, refl, sym, ap, ◌∙◌, subst, ℤ, pos, ◌*ℤ◌}
 use Rattle.std.proofs.lemmas.Int.{ints}
 use Rattle.std.proofs.lemmas.Bool.Decides.{nat_tests}
 use Rattle.tv_simplex.proofs.Starts.{shows_start}
@@ -9,6 +9,8 @@ use Rattle.tv_simplex.specs.Sums.{delta}
 use Rattle.tv_simplex.specs.Systems.{Equations, matrix, right_at}
 use Rattle.tv_simplex.specs.Chains.{cost, IsArtificial}
 use Rattle.tv_simplex.specs.Rows.{none, row_of, IsSparse, IsGrid}
+use Rattle.tv_simplex.specs.Marks.{AreMarked}
+use Rattle.tv_simplex.specs.declared.rows.Entry.{Entry}
 use Rattle.tv_simplex.specs.declared.table.Table.{Table}
 use Rattle.tv_simplex.specs.Tables.{shown, width_of}
 use Rattle.tv_simplex.specs.Outcomes.{IsNarrow, IsNarrowSystem, given}
@@ -67,21 +69,22 @@ objective_zero s j low high =
     one z = omega (arith, ints)
 
 -- ---- the table of the artificial basis stands
-module _ (s : Equations) (t : Table) (b : IsArtificial s.rows s.columns t.basis.items) (columns : t.columns ≡ s.columns) (h : IsFirstTable s t.rows.items) where
+pub first_grid : {A : Type 0} (s : Equations) (rows : List (Vec Entry A)) → IsFirstTable s rows → IsGrid (last s + 1) rows
+first_grid s rows h i l = elim (last_or_below s.rows i (let k = h.height in omega (arith, k, l))) [
+  | inl e ↦ subst (λ z. IsSparse 0 (last s + 1) (row_of rows z)) (sym e) h.objective.sparse
+  | inr g ↦ (h.row i g).sparse
+]
+
+module _ (s : Equations) (t : Table) (b : IsArtificial s.rows s.columns t.basis.items) (columns : t.columns ≡ s.columns) (h : IsFirstTable s t.rows.items) (marks : AreMarked t.columns (length t.basis.items) t.rows.items t.marks.items) where
   width : width_of t ≡ last s + 1
   width = (let n = b.size in omega (arith, n, columns))
-
-  grid : (i : ℕ) → i < length t.rows.items → IsSparse 0 (last s + 1) (row_of t.rows.items i)
-  grid i l = elim (last_or_below s.rows i (let k = h.height in omega (arith, k, l))) [
-    | inl e ↦ subst (λ z. IsSparse 0 (last s + 1) (row_of t.rows.items z)) (sym e) h.objective.sparse
-    | inr g ↦ (h.row i g).sparse
-  ]
 
   pub first_stands : StandsAt s 0 t
   first_stands = record {
     table = record {
       height = h.height ∙ (let n = b.size in let e : s.rows + 1 ≡ length t.basis.items + 1 = omega (arith, n) in e);
-      grid = subst (λ z. IsGrid z t.rows.items) (sym width) grid;
+      grid = subst (λ z. IsGrid z t.rows.items) (sym width) (first_grid s t.rows.items h);
+      marks = marks;
     };
     size = record { basis = b.size; columns = columns };
     earlier = [];

@@ -5,10 +5,11 @@ use Rattle.tv_simplex.specs.declared.rows.Entry.{Entry}
 use Rattle.tv_simplex.specs.declared.stop.Stop.{Stop}
 use Rattle.tv_simplex.specs.declared.stop.Stop.TheVariants.{Wide, Scale, Memory}
 use Rattle.tv_simplex.specs.Stops.{IsClearingStop, IsExchangeStop}
-use Rattle.tv_simplex.specs.Rows.{ratio, entry_in, row_of, read, IsSparse, IsRow, IsDivided, IsTaken, IsWideBy, AreCleared}
+use Rattle.tv_simplex.specs.Rows.{ratio, none, entry_in, row_of, read, IsSparse, IsGrid, IsRow, IsDivided, IsTaken, IsWideBy, AreCleared}
 use Rattle.tv_simplex.specs.Exchanges.{IsNext, IsWideNext}
+use Rattle.tv_simplex.proofs.RowLemmas.{row_stays}
 use Rattle.tv_linear.proofs.ListLaws.{last_or_below}
-use Rattle.std.proofs.lemmas.Bool.{cases_eq}
+use Rattle.std.proofs.lemmas.Bool.{cases_eq, cases_lt}
 
 pub row_set-same : {A : Type 0} (rows : List (Vec Entry A)) (i : ℕ) (v : Vec Entry A) → i < length rows → row_of (set rows i v) i ≡ v.items
 row_set-same [] i v h = absurd (omega arith)
@@ -35,6 +36,19 @@ pub record ClearedTo {A : Type 0} (width r : ℕ) (factor : ℕ → Ratio) (pivo
   pub after : (k : ℕ) → i ≤ k → row_of rows k ≡ row_of old k
 
 module _ {A : Type 0} (width r : ℕ) (factor : ℕ → Ratio) (pivots : List Entry) (i : ℕ) (old rows : List (Vec Entry A)) (h : ClearedTo width r factor pivots i old rows) where
+  -- the rows with the factor 0 stay
+  pub cleared_up : IsGrid width old → (k : ℕ) → i ≤ k → k ≤ length old → ((j : ℕ) → i ≤ j → j < k → factor j ≡ none) → ClearedTo width r factor pivots k old rows
+  cleared_up grid k low high gap = record {
+    size = h.size;
+    kept = h.kept;
+    before = λ j j_in o. elim (cases_lt j i) [
+      | inl g ↦ h.before j g o
+      | inr g ↦ subst (λ z. IsRow (IsTaken (row_of old j) (factor j) pivots) width z) (sym (h.after j g))
+          (row_stays (row_of old j) pivots (factor j) width (grid j (omega (arith, high, j_in))) (ap (λ f. f.numerator) (gap j g j_in)))
+    ];
+    after = λ j j_in. h.after j (omega (arith, low, j_in));
+  }
+
   pub cleared_skip : i ≡ r → ClearedTo width r factor pivots (i + 1) old rows
   cleared_skip e = record {
     size = h.size;

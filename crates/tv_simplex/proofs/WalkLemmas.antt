@@ -16,6 +16,7 @@ use Rattle.tv_simplex.specs.declared.table.Table.{Table}
 use Rattle.tv_simplex.specs.declared.stop.Stop.{Stop}
 use Rattle.tv_simplex.specs.declared.stop.Stop.TheVariants.{Wide, Scale, Memory}
 use Rattle.tv_simplex.specs.Rows.{ratio, IsGrid}
+use Rattle.tv_simplex.specs.Marks.{AreMarked}
 use Rattle.tv_simplex.specs.Tables.{shown, width_of}
 use Rattle.tv_simplex.specs.Exchanges.{IsNext, IsWideNext}
 use Rattle.tv_simplex.specs.Stops.{IsExchangeStop}
@@ -47,11 +48,12 @@ module _ (s : Equations) (n : ℕ) (t : Table) (st : StandsAt s n t) (c : ℕ) (
     does_leave = (let l = least.least (matrix s) t.basis.items st.earlier st.shows in record { within = l.within; above = l.above; least = l.least })
 
     -- the next basis
-    pub next_stands : (t' : Table) → t'.basis.items ≡ set t.basis.items r c → t'.columns ≡ t.columns → IsNext (width_of t) r c t.rows.items t'.rows.items → StandsAt s (n + 1) t'
-    next_stands t' basis columns next = record {
+    pub next_stands : (t' : Table) → t'.basis.items ≡ set t.basis.items r c → t'.columns ≡ t.columns → IsNext (width_of t) r c t.rows.items t'.rows.items → AreMarked t.columns (length t.basis.items) t'.rows.items t'.marks.items → StandsAt s (n + 1) t'
+    next_stands t' basis columns next marks = record {
       table = record {
         height = next.size ∙ st.table.height ∙ ap (λ k. k + 1) (sym size);
         grid = subst (λ k. IsGrid k t'.rows.items) (let e : width_of t ≡ width_of t' = omega (arith, size, columns) in e) next.grid;
+        marks = subst (λ k. AreMarked t'.columns k t'.rows.items t'.marks.items) (sym size) (subst (λ k. AreMarked k (length t.basis.items) t'.rows.items t'.marks.items) (sym columns) marks);
       };
       size = record { basis = size ∙ st.size.basis; columns = columns ∙ st.size.columns };
       earlier = t.basis.items ∷ st.earlier;

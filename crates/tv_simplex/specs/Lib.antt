@@ -10,6 +10,7 @@ pub mod Ratios
 pub mod Outcomes
 pub mod Views
 pub mod Rows
+pub mod Marks
 pub mod Tables
 pub mod Exchanges
 pub mod Stops

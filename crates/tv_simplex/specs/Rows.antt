@@ -130,6 +130,10 @@ IsWideOnce factor pivot entries made =
 abbrev pub IsGrid : {A : Type 0} → ℕ → List (Vec Entry A) → Type 0
 IsGrid width rows = (i : ℕ) → i < length rows → IsSparse 0 width (row_of rows i)
 
+-- the entries are those of a column: the numbers of the first rows there that are not 0, each with its row in place of a column
+abbrev pub IsColumn : ℕ → ℕ → (ℕ → ℕ → Ratio) → List Entry → Type 0
+IsColumn height column read entries = IsRow (λ i f. f ≡ read i column) height entries
+
 -- each row but row r is less its factor times the pivot row; row r stays
 pub record AreCleared {A : Type 0} (width r : ℕ) (factor : ℕ → Ratio) (pivots : List Entry) (old new : List (Vec Entry A)) : Type 0 where
   pub size : length new ≡ length old

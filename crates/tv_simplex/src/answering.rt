@@ -1,6 +1,6 @@
 // The answers of a basis that settles the system.
 
-ghost use Rattle.std.specs.Prelude.{◌≡◌, ◌+◌, ◌^◌, ◌<◌, ◌≤◌, ℕ, length, get_or, pos, IfOk, MatchOption, MatchResult, unsigned_abs};
+ghost use Rattle.std.specs.Prelude.{◌≡◌, ◌+◌, ◌^◌, ◌<◌, ◌≤◌, ℕ, length, get_or, pos, IsTrue, IfOk, MatchResult, unsigned_abs};
 ghost use Rattle.tv_simplex.specs.Systems.{IsWhole};
 ghost use Rattle.tv_simplex.specs.Outcomes.{IsShort};
 ghost use Rattle.tv_simplex.specs.Views.{equations};
@@ -137,22 +137,17 @@ fn barrier(alloc: Global, system: &System, table: &Table) -> Result<Answer, Stop
     }
 }
 
-/// The first row whose artificial column has another value than 0.
-fn unsolved_row(system: &System, table: &Table) -> Option<usize>
+/// Whether each artificial column of the basis has the value 0. The right side of the objective is 0 less the sum of
+/// these values, of which none is below 0.
+fn is_solved(system: &System, table: &Table) -> bool
     requires whole { IsWhole (equations system.now) }
     requires stands { Stands (equations system.now) table.now }
-    ensures { MatchOption result
-        (IsSolved (equations system.now) table.now)
-        (λ i. IsUnsolvedAt (equations system.now) table.now i) }
+    ensures solved { IsTrue result → IsSolved (equations system.now) table.now }
+    ensures unsolved { (IsTrue result → ⊥) → (i : ℕ) × IsUnsolvedAt (equations system.now) table.now i }
 {
     let columns = system.columns as usize;
     let rows = system.rows as usize;
-    'rows: for i in 0..rows {
-        if table.basis[i] as usize >= columns && !is_zero(&entry_at(table, i, columns + rows)) {
-            return Some(i);
-        }
-    }
-    None
+    is_zero(&entry_at(table, rows, columns + rows))
 }
 
 /// The answer, where the basis settles the system, or else the column that enters.
@@ -163,17 +158,17 @@ pub fn settle(alloc: Global, system: &System, table: &Table) -> Result<Settled, 
         (λ settled. IsSettledBy (equations system.now) table.now settled)
         (λ stop. IsAnswerStop (equations system.now) table.now.basis.items stop) }
 {
-    match unsolved_row(system, table) {
-        None => match solution(alloc, system, table) {
+    if is_solved(system, table) {
+        return match solution(alloc, system, table) {
             Err(stop) => Err(stop),
             Ok(answer) => Ok(Settled::Done(answer)),
-        },
-        Some(_) => match entering_column(table, system.rows as usize) {
-            Some(column) => Ok(Settled::Enters(column)),
-            None => match barrier(alloc, system, table) {
-                Err(stop) => Err(stop),
-                Ok(answer) => Ok(Settled::Done(answer)),
-            },
+        };
+    }
+    match entering_column(table, system.rows as usize) {
+        Some(column) => Ok(Settled::Enters(column)),
+        None => match barrier(alloc, system, table) {
+            Err(stop) => Err(stop),
+            Ok(answer) => Ok(Settled::Done(answer)),
         },
     }
 }

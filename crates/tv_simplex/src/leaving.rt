@@ -3,13 +3,12 @@
 ghost use Rattle.std.specs.Prelude.{◌≡◌, ℕ, ◌+◌, ◌^◌, ◌<◌, ◌≤◌, [], length, pos, ◌<ℤ◌, MatchOption};
 ghost use Rattle.tv_fraction.specs.Fraction.{numerator_of, IsNarrow};
 ghost use Rattle.std.specs.declared.cmp.Ordering.TheVariants.{Equal};
-ghost use Rattle.tv_simplex.specs.Rows.{ratio, IsNextColumn};
+ghost use Rattle.tv_simplex.specs.Rows.{ratio, IsNextColumn, IsColumn};
 ghost use Rattle.tv_simplex.specs.Tables.{shown, width_of, IsTable};
-ghost use Rattle.tv_simplex.specs.Walking.{AreOfColumn};
 ghost use Rattle.tv_simplex.specs.Choosing.{ComparesAt, OrdersQuotients, Compares, NoneAbove, IsLeast};
 
-use crate::fractions::{fraction_at, is_positive, is_zero, quotient};
-use crate::rows::{Entry, behind, entries_from, front_at, row_at};
+use crate::fractions::{is_positive, is_zero, quotient};
+use crate::rows::{Entry, behind, entries_from, fraction_of, front_at, row_at};
 use crate::table::{Table, entry_at};
 use std::cmp::Ordering;
 use tv_fraction::{Fraction, cmp};
@@ -101,27 +100,27 @@ fn compare_rows(table: &Table, first: usize, second: usize, column: usize) -> Or
     }
 }
 
-/// The row of the least quotients so far, after one more row.
+/// The row of the least quotients so far, after one more row, which has this entry in the column.
 fn better_row(
     table: &Table,
     column: usize,
-    factors: &[Fraction],
     best: Option<usize>,
     row: usize,
+    factor: &Fraction,
 ) -> Option<usize>
     requires table { IsTable table.now }
     requires few { width_of table.now ≤ 2 ^ 32 }
     requires column { column < table.now.columns }
-    requires factors { AreOfColumn (length table.now.rows.items) column (shown table.now) factors.now }
     requires row { row < length table.now.basis.items }
     requires best { MatchOption best
         (NoneAbove (shown table.now) column row)
         (λ r. IsLeast (length table.now.basis.items) table.now.columns (shown table.now) column row r) }
+    requires factor { ratio factor.now ≡ shown table.now row column }
     ensures { MatchOption result
         (NoneAbove (shown table.now) column (row + 1))
         (λ r. IsLeast (length table.now.basis.items) table.now.columns (shown table.now) column (row + 1) r) }
 {
-    if !is_positive(&fraction_at(factors, row)) {
+    if !is_positive(factor) {
         return best;
     }
     match best {
@@ -137,18 +136,24 @@ fn better_row(
 
 /// The row that leaves where the column enters: that of the least quotients among those with an entry above 0. The
 /// factors are the entries of the column.
-pub fn leaving_row(table: &Table, column: usize, factors: &[Fraction]) -> Option<usize>
+pub fn leaving_row(table: &Table, column: usize, factors: &[Entry]) -> Option<usize>
     requires table { IsTable table.now }
     requires few { width_of table.now ≤ 2 ^ 32 }
     requires column { column < table.now.columns }
-    requires factors { AreOfColumn (length table.now.rows.items) column (shown table.now) factors.now }
+    requires factors { IsColumn (length table.now.rows.items) column (shown table.now) factors.now }
     ensures { MatchOption result
         (NoneAbove (shown table.now) column (length table.now.basis.items))
         (λ r. IsLeast (length table.now.basis.items) table.now.columns (shown table.now) column (length table.now.basis.items) r) }
 {
     let mut best = None;
-    'rows: for row in 0..table.basis.len() {
-        best = better_row(table, column, factors, best, row);
+    let mut left = factors;
+    'factors: while let [first, rest @ ..] = left {
+        let row = first.column as usize;
+        if row >= table.basis.len() {
+            return best;
+        }
+        best = better_row(table, column, best, row, &fraction_of(first));
+        left = rest;
     }
     best
 }

@@ -15,6 +15,7 @@ mod fault;
 mod fractions;
 mod laws;
 mod leaving;
+mod marks;
 mod merging;
 mod numbers;
 mod rows;

@@ -8,6 +8,7 @@ ghost use Rattle.tv_simplex.specs.Outcomes.{IsFirstWide, IsNarrowSystem};
 ghost use Rattle.tv_simplex.specs.Stops.{HasNumberedPlace, IsFaultAt};
 ghost use Rattle.tv_simplex.specs.Views.{equations, IsAnswer, GivesAnswer, IsFault, IsFirstRefusal, IsNotSpent};
 
+use crate::marks::first_marks;
 use crate::numbers::first_wide;
 use crate::starting::{artificial_basis, first_rows};
 use crate::stop::Stop;
@@ -60,8 +61,13 @@ pub fn solve(alloc: Global, system: &System, pivots: u64) -> Result<Answer, Solv
         Ok(rows) => rows,
         Err(stop) => return Err(fault_at(stop, basis)),
     };
+    let marks = match first_marks(alloc, &rows, basis.len(), system.columns as usize) {
+        Ok(marks) => marks,
+        Err(_) => return Err(SolveFault::Memory),
+    };
     let mut table = Table {
         rows,
+        marks,
         basis,
         columns: system.columns as usize,
         spare: Spare {

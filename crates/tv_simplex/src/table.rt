@@ -1,13 +1,14 @@
 // The tableau of a basis.
 
-ghost use Rattle.std.specs.Prelude.{◌≡◌, ◌<◌, ◌≤◌, length, IfOk};
+ghost use Rattle.std.specs.Prelude.{◌≡◌, ◌^◌, ◌<◌, ◌≤◌, length, IfOk};
 ghost use Rattle.tv_fraction.specs.Fraction.{IsNarrow};
-ghost use Rattle.tv_simplex.specs.Rows.{ratio};
-ghost use Rattle.tv_simplex.specs.Tables.{shown, IsTable};
+ghost use Rattle.tv_simplex.specs.Rows.{ratio, IsColumn};
+ghost use Rattle.tv_simplex.specs.Tables.{shown, width_of, IsTable};
 ghost use Rattle.tv_simplex.specs.Walking.{AreOfColumn};
 
 use crate::Answer;
-use crate::rows::{Entry, fraction_in, row_at};
+use crate::marks::is_marked;
+use crate::rows::{Entry, fraction_in, put_last, row_at};
 use std::alloc::{AllocError, Global};
 use tv_fraction::Fraction;
 use tv_linear::push_item;
@@ -26,6 +27,8 @@ pub struct Spare {
 pub struct Table {
     /// The rows, the objective last: entries that are not 0, in the order of their columns.
     pub rows: Vec<Vec<Entry>>,
+    /// For each row but the objective a bit for each class of columns of the system, 1 where it may have a number in one of them.
+    pub marks: Vec<u64>,
     /// The column of each row.
     pub basis: Vec<u32>,
     /// How many columns the system has. The artificial ones and the right side follow.
@@ -68,4 +71,26 @@ pub fn column_of(
         push_item(&mut fractions, entry_at(table, row, column))?;
     }
     Ok(fractions)
+}
+
+/// Collects the numbers of the column that are not 0, those of the rows in order and then that of the objective. Each
+/// stands with its row in place of a column. Only rows with a mark are looked at.
+pub fn collect_column(
+    table: &Table,
+    column: usize,
+    entries: &mut Vec<Entry>,
+) -> Result<(), AllocError>
+    requires table { IsTable table.now }
+    requires few { width_of table.now ≤ 2 ^ 32 }
+    requires column { column < table.now.columns }
+    ensures { IfOk result (λ _. IsColumn (length table.now.rows.items) column (shown table.now) entries.new.items) }
+{
+    entries.clear();
+    let objective = table.marks.len();
+    'rows: for row in 0..objective {
+        if is_marked(table.marks[row], column) {
+            put_last(entries, row, entry_at(table, row, column))?;
+        }
+    }
+    put_last(entries, objective, entry_at(table, objective, column))
 }

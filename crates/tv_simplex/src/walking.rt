@@ -9,13 +9,20 @@ ghost use Rattle.tv_simplex.specs.Walking.{StandsAt, Stands, IsEntering, IsRight
 use crate::answering::settle;
 use crate::exchanging::enter;
 use crate::leaving::leaving_row;
+use crate::rows::Entry;
 use crate::stop::Stop;
-use crate::table::{Settled, Table, column_of};
+use crate::table::{Settled, Table, collect_column};
 use crate::{Answer, System};
 use std::alloc::Global;
 
-/// Goes on to the next basis of the chain, where the column enters. After a refusal the basis is that next one.
-fn step(alloc: Global, system: &System, table: &mut Table, column: usize) -> Result<(), Stop>
+/// Goes on to the next basis of the chain, where the column enters. After a refusal the basis is that next one. The
+/// factors are a list to write to.
+fn step(
+    system: &System,
+    table: &mut Table,
+    column: usize,
+    factors: &mut Vec<Entry>,
+) -> Result<(), Stop>
     requires whole { IsWhole (equations system.now) }
     requires stands { Stands (equations system.now) table.old }
     requires entering { IsEntering (equations system.now) table.old column }
@@ -23,10 +30,10 @@ fn step(alloc: Global, system: &System, table: &mut Table, column: usize) -> Res
         (λ _. (n : ℕ) → StandsAt (equations system.now) n table.old → StandsAt (equations system.now) (n + 1) table.new)
         (λ stop. IsStepStop (equations system.now) table.new.basis.items stop) }
 {
-    let factors = column_of(alloc, table, table.rows.len(), column)?;
-    match leaving_row(table, column, &factors) {
+    collect_column(table, column, factors)?;
+    match leaving_row(table, column, factors) {
         None => unreachable!(),
-        Some(row) => enter(table, row, column, &factors),
+        Some(row) => enter(table, row, column, factors),
     }
 }
 
@@ -44,12 +51,13 @@ pub fn walk(
         (λ found. MatchOption found (AreUnsettled (equations system.now) pivots) (λ a. IsRight (equations system.now) a))
         (λ stop. IsWalkStop (equations system.now) table.new.basis.items stop) }
 {
+    let mut factors = Vec::new(alloc);
     'bases: for _used in 0..pivots {
         match settle(alloc, system, table) {
             Err(stop) => return Err(stop),
             Ok(Settled::Done(answer)) => return Ok(Some(answer)),
             Ok(Settled::Enters(column)) => {
-                if let Err(stop) = step(alloc, system, table, column) {
+                if let Err(stop) = step(system, table, column, &mut factors) {
                     return Err(stop);
                 }
             }

@@ -1,8 +1,6 @@
-use Rattle.std.proofs.Common.{◌<◌, length, arith, ap, sym, subst, ◌∙◌}
+use Rattle.std.proofs.Common.{ap, sym, subst, ◌∙◌}
 use Rattle.std.proofs.lemmas.Option.{MatchOption-at_none, MatchOption-at_some}
-use Rattle.tv_simplex.specs.Rows.{ratio, entry_in, row_of, IsNarrowRatio, IsSparse, IsRow, IsWideBy, IsDivided}
-use Rattle.tv_simplex.specs.Scales.{ratio_at}
-use Rattle.tv_simplex.proofs.RowLemmas.{entry_narrow}
+use Rattle.tv_simplex.specs.Rows.{ratio, entry_in, row_of, IsSparse, IsRow, IsWideBy, IsDivided}
 use Rattle.tv_simplex.proofs.TableLemmas.{wide_quotient, wide_clearing, exchanged}
 use Rattle.tv_simplex.proofs.exchanging.exchange.Goals as goal
 
@@ -30,7 +28,7 @@ returns-in-Err c =
     let quotients = subst (λ z. IsRow (IsDivided (row_of rows r) d) width z) (sym c.deref.ensures.value)
     (subst (λ z. IsRow (IsDivided z d) width c.divide.new.made.items) c.row_at-2.ensures
     (MatchOption-at_none (IsRow (IsDivided row d) width c.divide.new.made.items) (λ j. IsWideBy (IsDivided row d) width j) c.in_default.is (c.in_ok-j.ensures width sparse))) in
-    wide_clearing width r c.args.column rows c.requires.inside d (c.fraction_in-pivot.ensures.is ∙ ap (λ z. entry_in z c.args.column) c.row_at.ensures) ps quotients (ratio_at c.args.factors.now) c.requires.factors.same c.in-Err.stop c.in-Err.ensures
+    wide_clearing width r c.args.column rows c.requires.inside d (c.fraction_in-pivot.ensures.is ∙ ap (λ z. entry_in z c.args.column) c.row_at.ensures) ps quotients (entry_in c.args.factors.now) c.requires.factors.each c.in-Err.stop c.in-Err.ensures
 
 pub returns-in-Ok : goal.returns-in-Ok
 returns-in-Ok c =
@@ -44,9 +42,4 @@ returns-in-Ok c =
     let quotients = subst (λ z. IsRow (IsDivided (row_of rows r) d) width z) (sym c.deref.ensures.value)
     (subst (λ z. IsRow (IsDivided z d) width c.divide.new.made.items) c.row_at-2.ensures
     (MatchOption-at_none (IsRow (IsDivided row d) width c.divide.new.made.items) (λ j. IsWideBy (IsDivided row d) width j) c.in_default.is (c.in_ok-j.ensures width sparse))) in
-    exchanged width r c.args.column rows c.requires.inside d (c.fraction_in-pivot.ensures.is ∙ ap (λ z. entry_in z c.args.column) c.row_at.ensures) ps quotients (ratio_at c.args.factors.now) c.requires.factors.same c.clear_column.new.rows c.swap.new.x (ap (λ z. z.items) c.swap.ensures.x_after ∙ sym c.deref.ensures.value) c.in-Ok.ensures
-
-pub clear_column-requires-clause-factors : goal.clear_column-requires-clause-factors
-clear_column-requires-clause-factors c = λ i l.
-    let i_in : i < length c.args.rows.now = (let n = c.requires.factors.size in omega (arith, n, l)) in
-    subst (λ z. IsNarrowRatio z) (sym (c.requires.factors.same i i_in)) (entry_narrow (row_of c.args.rows.now i) c.args.column)
+    exchanged width r c.args.column rows c.requires.inside d (c.fraction_in-pivot.ensures.is ∙ ap (λ z. entry_in z c.args.column) c.row_at.ensures) ps quotients (entry_in c.args.factors.now) c.requires.factors.each c.clear_column.new.rows c.swap.new.x (ap (λ z. z.items) c.swap.ensures.x_after ∙ sym c.deref.ensures.value) c.in-Ok.ensures

@@ -28,5 +28,5 @@ returns c =
     (subst (λ k. IsLeast k t.columns (shown t) col k r) st.size.basis
     (MatchOption-at_some (NoneAbove (shown t) col m) (λ q. IsLeast m t.columns (shown t) col m q) r c.in-Some.is c.leaving_row.ensures)) in
     MatchResult-weaker c.enter.result c.enter.ensures.entered
-    (λ x h. λ n at. next_stands s n t at col c.requires.entering r least _ c.enter.ensures.basis c.enter.ensures.columns h)
+    (λ x h. λ n at. next_stands s n t at col c.requires.entering r least _ c.enter.ensures.basis c.enter.ensures.columns h.0 h.1)
     (λ stop h. step_stops s c.requires.stands.0 t st col c.requires.entering r least _ stop c.enter.ensures.basis h)
