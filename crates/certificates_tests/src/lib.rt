@@ -4,7 +4,7 @@
 #[cfg(test)]
 mod accepted;
 #[cfg(test)]
-mod judged;
+mod checked;
 #[cfg(test)]
 mod pieces;
 #[cfg(test)]

@@ -1,4 +1,4 @@
-use crate::saying::{Said, answer_to};
+use crate::saying::{Outcome, answer_to};
 use std::test::Fail;
 
 /// The step is not bounded.
@@ -59,52 +59,52 @@ const FAR: &str =
     "START: 0; FROM: 0; assume(x > 1000); assume(y == x + 77); TO: 1; FROM: 1; TO: 1;";
 
 /// A program, a property of it, and what is said.
-const ROWS: &[(&str, &str, Said)] = &[
-    (UNBOUNDED, "term", Said::Disproved),
-    (UNBOUNDED, "[AF](x <= 0)", Said::Disproved),
-    (ODD, "term", Said::Disproved),
-    (DOUBLING, "term", Said::Disproved),
-    (TOKENS, "term", Said::Disproved),
-    (DRAWN, "term", Said::Disproved),
-    (DRAWN_BETWEEN, "term", Said::Disproved),
-    (TWELVE, "[AG](!at(2))", Said::Disproved),
-    (FORTY, "[AG](!at(2))", Said::Disproved),
-    (SIXTY, "[AG](!at(2))", Said::Disproved),
-    (SERVER, "[AG]([EF](at(work)))", Said::Disproved),
-    (SERVER, "[AG]([AF](at(idle)))", Said::Disproved),
-    (SERVER, "[AF](at(stopped))", Said::Disproved),
-    (SERVER, "[EG](at(idle))", Said::Disproved),
-    (SERVER, "[EG](!at(stopped))", Said::Proved),
-    (SERVER, "[AX](at(work))", Said::Disproved),
-    (SERVER, "[EX](at(idle))", Said::Disproved),
-    (ROUND, "[EF](x > 0)", Said::Disproved),
-    (ROUND, "[EG](x > 0)", Said::Disproved),
-    (ROUND, "[AF](at(0) && x < 0)", Said::Disproved),
-    (ROUND, "[AX](at(0)) || [AX](at(1))", Said::Proved),
-    (ROUND, "[AX](at(1) || x > 5)", Said::Disproved),
-    (ROUND, "[AW](at(0))(x > 0)", Said::Disproved),
-    (ROUND, "[ER](at(1))(x < 1)", Said::Disproved),
-    (ROUND, "[EM](x == 1)(x < 3)", Said::Disproved),
+const ROWS: &[(&str, &str, Outcome)] = &[
+    (UNBOUNDED, "term", Outcome::Disproved),
+    (UNBOUNDED, "[AF](x <= 0)", Outcome::Disproved),
+    (ODD, "term", Outcome::Disproved),
+    (DOUBLING, "term", Outcome::Disproved),
+    (TOKENS, "term", Outcome::Disproved),
+    (DRAWN, "term", Outcome::Disproved),
+    (DRAWN_BETWEEN, "term", Outcome::Disproved),
+    (TWELVE, "[AG](!at(2))", Outcome::Disproved),
+    (FORTY, "[AG](!at(2))", Outcome::Disproved),
+    (SIXTY, "[AG](!at(2))", Outcome::Disproved),
+    (SERVER, "[AG]([EF](at(work)))", Outcome::Disproved),
+    (SERVER, "[AG]([AF](at(idle)))", Outcome::Disproved),
+    (SERVER, "[AF](at(stopped))", Outcome::Disproved),
+    (SERVER, "[EG](at(idle))", Outcome::Disproved),
+    (SERVER, "[EG](!at(stopped))", Outcome::Proved),
+    (SERVER, "[AX](at(work))", Outcome::Disproved),
+    (SERVER, "[EX](at(idle))", Outcome::Disproved),
+    (ROUND, "[EF](x > 0)", Outcome::Disproved),
+    (ROUND, "[EG](x > 0)", Outcome::Disproved),
+    (ROUND, "[AF](at(0) && x < 0)", Outcome::Disproved),
+    (ROUND, "[AX](at(0)) || [AX](at(1))", Outcome::Proved),
+    (ROUND, "[AX](at(1) || x > 5)", Outcome::Disproved),
+    (ROUND, "[AW](at(0))(x > 0)", Outcome::Disproved),
+    (ROUND, "[ER](at(1))(x < 1)", Outcome::Disproved),
+    (ROUND, "[EM](x == 1)(x < 3)", Outcome::Disproved),
 ];
 
 /// The same, where graphs of single states do not do.
-const FAR_ROWS: &[(&str, &str, Said)] = &[
-    (GROWING, "term", Said::Disproved),
-    (GROWING, "[AF](at(2))", Said::Disproved),
-    (GROWING, "[AF](x <= 0)", Said::Disproved),
-    (GROWING, "[AG]([AF](at(2)))", Said::Disproved),
-    (GROWING, "[AG](x <= 0 || [AF](y > 100))", Said::Disproved),
-    (WAITING, "[AG]([AF](at(2)))", Said::Disproved),
-    (WAITING, "[AG]([AF](t == 0))", Said::Disproved),
+const FAR_ROWS: &[(&str, &str, Outcome)] = &[
+    (GROWING, "term", Outcome::Disproved),
+    (GROWING, "[AF](at(2))", Outcome::Disproved),
+    (GROWING, "[AF](x <= 0)", Outcome::Disproved),
+    (GROWING, "[AG]([AF](at(2)))", Outcome::Disproved),
+    (GROWING, "[AG](x <= 0 || [AF](y > 100))", Outcome::Disproved),
+    (WAITING, "[AG]([AF](at(2)))", Outcome::Disproved),
+    (WAITING, "[AG]([AF](t == 0))", Outcome::Disproved),
     (
         WAITING,
         "[AG](at(0) || [AF](at(2) || t < 3))",
-        Said::Disproved,
+        Outcome::Disproved,
     ),
-    (WAITING, "[AG](t < 40)", Said::Disproved),
-    (BRANCHING, "[AG](!at(2))", Said::Disproved),
-    (FAR, "term", Said::Disproved),
-    (FAR, "[AG](!at(1))", Said::Disproved),
+    (WAITING, "[AG](t < 40)", Outcome::Disproved),
+    (BRANCHING, "[AG](!at(2))", Outcome::Disproved),
+    (FAR, "term", Outcome::Disproved),
+    (FAR, "[AG](!at(1))", Outcome::Disproved),
 ];
 
 #[test]

@@ -1,4 +1,4 @@
-use crate::saying::{Said, answer_to};
+use crate::saying::{Outcome, answer_to};
 use std::test::Fail;
 
 /// Goes towards 0 from either side.
@@ -29,17 +29,17 @@ const HALF: &str =
 const FALLING: &str = "START: 0; FROM: 0; assume(x > 0); x := x + y; y := y - 1; TO: 0;";
 
 /// A program, a property of it, and what is said.
-const ROWS: &[(&str, &str, Said)] = &[
-    (TOWARDS, "term", Said::Proved),
-    (CHOSEN, "term", Said::Proved),
-    (CLOSER, "term", Said::Proved),
-    (MEETING, "term", Said::Proved),
-    (MISSING, "term", Said::Disproved),
-    (HALF, "term", Said::Disproved),
-    (HALF, "x < 0 || term", Said::Proved),
-    (HALF, "[AG](at(1) || x < 0 || term)", Said::Proved),
-    (TOWARDS, "[AG](term)", Said::Proved),
-    (FALLING, "term", Said::Nothing),
+const ROWS: &[(&str, &str, Outcome)] = &[
+    (TOWARDS, "term", Outcome::Proved),
+    (CHOSEN, "term", Outcome::Proved),
+    (CLOSER, "term", Outcome::Proved),
+    (MEETING, "term", Outcome::Proved),
+    (MISSING, "term", Outcome::Disproved),
+    (HALF, "term", Outcome::Disproved),
+    (HALF, "x < 0 || term", Outcome::Proved),
+    (HALF, "[AG](at(1) || x < 0 || term)", Outcome::Proved),
+    (TOWARDS, "[AG](term)", Outcome::Proved),
+    (FALLING, "term", Outcome::Nothing),
 ];
 
 #[test]

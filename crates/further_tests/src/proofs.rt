@@ -1,4 +1,4 @@
-use crate::saying::{Said, answer_to};
+use crate::saying::{Outcome, answer_to};
 use std::test::Fail;
 
 /// Counts down, and then goes round.
@@ -18,22 +18,22 @@ const KEPT: &str =
     "START: 0; FROM: 0; x := x + 1; TO: 0; FROM: 0; assume(x > 10); TO: 1; FROM: 1; TO: 1;";
 
 /// A program, a property of it, and what is said.
-const ROWS: &[(&str, &str, Said)] = &[
-    (ROUND, "[AF](x <= 0)", Said::Proved),
-    (ROUND, "[AF](at(1))", Said::Proved),
-    (ROUND, "[AG]([AF](at(1)))", Said::Proved),
-    (ROUND, "[AG](x > 0 || [AF](at(1)))", Said::Proved),
-    (ROUND, "[AX](at(0) || at(1))", Said::Proved),
-    (ROUND, "[AG](at(0) || [AG](at(1)))", Said::Proved),
-    (FED, "[AF](at(2))", Said::Proved),
-    (FED, "[AF](at(2) && x <= 0)", Said::Proved),
-    (FED, "[AF]([AG](at(2)))", Said::Proved),
-    (SERVER, "[AG]([AF](at(idle)))", Said::Proved),
-    (SERVER, "[AG](at(idle) || [AF](w <= 0))", Said::Proved),
-    (KEPT, "[AF](x > 10)", Said::Proved),
-    (KEPT, "[AF](at(1))", Said::Disproved),
-    (KEPT, "[AG](x < 0 || [AG](x >= 0))", Said::Proved),
-    (KEPT, "[EF](x > 5)", Said::Proved),
+const ROWS: &[(&str, &str, Outcome)] = &[
+    (ROUND, "[AF](x <= 0)", Outcome::Proved),
+    (ROUND, "[AF](at(1))", Outcome::Proved),
+    (ROUND, "[AG]([AF](at(1)))", Outcome::Proved),
+    (ROUND, "[AG](x > 0 || [AF](at(1)))", Outcome::Proved),
+    (ROUND, "[AX](at(0) || at(1))", Outcome::Proved),
+    (ROUND, "[AG](at(0) || [AG](at(1)))", Outcome::Proved),
+    (FED, "[AF](at(2))", Outcome::Proved),
+    (FED, "[AF](at(2) && x <= 0)", Outcome::Proved),
+    (FED, "[AF]([AG](at(2)))", Outcome::Proved),
+    (SERVER, "[AG]([AF](at(idle)))", Outcome::Proved),
+    (SERVER, "[AG](at(idle) || [AF](w <= 0))", Outcome::Proved),
+    (KEPT, "[AF](x > 10)", Outcome::Proved),
+    (KEPT, "[AF](at(1))", Outcome::Disproved),
+    (KEPT, "[AG](x < 0 || [AG](x >= 0))", Outcome::Proved),
+    (KEPT, "[EF](x > 5)", Outcome::Proved),
 ];
 
 #[test]

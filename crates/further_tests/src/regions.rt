@@ -1,4 +1,4 @@
-use crate::saying::{Said, answer_to};
+use crate::saying::{Outcome, answer_to};
 use std::test::Fail;
 
 /// Counts down, and then goes round.
@@ -45,105 +45,121 @@ const BURNING: &str =
      FROM: 0; assume(f <= 0); TO: 1; FROM: 1; TO: 1;";
 
 /// Steps, untils and what is kept, over some path and every path: a program, a property of it, and what is said.
-const PATHS: &[(&str, &str, Said)] = &[
-    (ROUND, "[EX](at(1) || x < 100)", Said::Disproved),
-    (ROUND, "[EX](at(1) || at(0))", Said::Proved),
-    (ROUND, "[AG]([EX](at(1) || at(0)))", Said::Proved),
+const PATHS: &[(&str, &str, Outcome)] = &[
+    (ROUND, "[EX](at(1) || x < 100)", Outcome::Disproved),
+    (ROUND, "[EX](at(1) || at(0))", Outcome::Proved),
+    (ROUND, "[AG]([EX](at(1) || at(0)))", Outcome::Proved),
     (
         ROUND,
         "[AG]([EX](at(1) || [EX](at(1) || x > -5)))",
-        Said::Proved,
+        Outcome::Proved,
     ),
-    (ROUND, "[EG](x > 0 || at(1) || [EX](at(1)))", Said::Proved),
-    (ROUND, "[AG](at(0) || [EG](at(1)))", Said::Proved),
-    (ROUND, "[EF](x > 10) || x <= 10", Said::Proved),
-    (DRAWING, "[EF](at(2))", Said::Proved),
-    (DRAWING, "[EF](at(1) && x == 7)", Said::Proved),
-    (DRAWING, "[EF](at(2) && x == 0)", Said::Proved),
-    (DRAWING, "[EF]([EG](at(2)))", Said::Proved),
-    (DRAWING, "[EF](at(1) && [EG](x <= 3))", Said::Proved),
-    (DRAWING, "[AG](at(0) || at(1) || [AG](at(2)))", Said::Proved),
-    (DRAWING, "[AX]([EX](at(2)))", Said::Disproved),
-    (DRAWING, "[EX]([EX](at(2)))", Said::Proved),
-    (DRAWING, "[EX]([AX](at(1)))", Said::Proved),
-    (DRAWING, "[AX]([AX](at(1)))", Said::Disproved),
-    (DRAWING, "[AX](at(1) && x > 0)", Said::Disproved),
-    (CONTROLLER, "[AG]([EF](at(reset)))", Said::Proved),
-    (CONTROLLER, "[AG]([EF](at(reset) && t == 3))", Said::Proved),
-    (CONTROLLER, "[EG](!at(reset))", Said::Disproved),
-    (CONTROLLER, "[AG]([EF](at(reset) && t > 5))", Said::Proved),
-    (CONTROLLER, "[AW](!at(stop))(at(stop))", Said::Proved),
+    (
+        ROUND,
+        "[EG](x > 0 || at(1) || [EX](at(1)))",
+        Outcome::Proved,
+    ),
+    (ROUND, "[AG](at(0) || [EG](at(1)))", Outcome::Proved),
+    (ROUND, "[EF](x > 10) || x <= 10", Outcome::Proved),
+    (DRAWING, "[EF](at(2))", Outcome::Proved),
+    (DRAWING, "[EF](at(1) && x == 7)", Outcome::Proved),
+    (DRAWING, "[EF](at(2) && x == 0)", Outcome::Proved),
+    (DRAWING, "[EF]([EG](at(2)))", Outcome::Proved),
+    (DRAWING, "[EF](at(1) && [EG](x <= 3))", Outcome::Proved),
+    (
+        DRAWING,
+        "[AG](at(0) || at(1) || [AG](at(2)))",
+        Outcome::Proved,
+    ),
+    (DRAWING, "[AX]([EX](at(2)))", Outcome::Disproved),
+    (DRAWING, "[EX]([EX](at(2)))", Outcome::Proved),
+    (DRAWING, "[EX]([AX](at(1)))", Outcome::Proved),
+    (DRAWING, "[AX]([AX](at(1)))", Outcome::Disproved),
+    (DRAWING, "[AX](at(1) && x > 0)", Outcome::Disproved),
+    (CONTROLLER, "[AG]([EF](at(reset)))", Outcome::Proved),
+    (
+        CONTROLLER,
+        "[AG]([EF](at(reset) && t == 3))",
+        Outcome::Proved,
+    ),
+    (CONTROLLER, "[EG](!at(reset))", Outcome::Disproved),
+    (
+        CONTROLLER,
+        "[AG]([EF](at(reset) && t > 5))",
+        Outcome::Proved,
+    ),
+    (CONTROLLER, "[AW](!at(stop))(at(stop))", Outcome::Proved),
     (
         CONTROLLER,
         "[AG](!at(stop) || [AW](at(stop) || at(reset))(at(wait)))",
-        Said::Proved,
+        Outcome::Proved,
     ),
     (
         CONTROLLER,
         "[AG](!at(stop) || [AF](at(wait)))",
-        Said::Proved,
+        Outcome::Proved,
     ),
-    (CONTROLLER, "[EU](!at(reset))(at(stop))", Said::Proved),
+    (CONTROLLER, "[EU](!at(reset))(at(stop))", Outcome::Proved),
     (
         CONTROLLER,
         "[EW](at(wait) || at(run))(at(stop))",
-        Said::Proved,
+        Outcome::Proved,
     ),
 ];
 
 /// The same of a number that grows.
-const GROWN: &[(&str, &str, Said)] = &[
-    (GROWING, "[AG](at(0) || x < 4 )", Said::Proved),
-    (GROWING, "[EF](at(1))", Said::Proved),
+const GROWN: &[(&str, &str, Outcome)] = &[
+    (GROWING, "[AG](at(0) || x < 4 )", Outcome::Proved),
+    (GROWING, "[EF](at(1))", Outcome::Proved),
     (
         GROWING,
         "[AG](at(1) || x <= 0 || [EX](x > 77))",
-        Said::Disproved,
+        Outcome::Disproved,
     ),
 ];
 
 /// Release and strong release.
-const RELEASES: &[(&str, &str, Said)] = &[
+const RELEASES: &[(&str, &str, Outcome)] = &[
     (
         ROUND,
         "[AR](at(1))(x > 0 || at(1) || [AX](at(1)))",
-        Said::Proved,
+        Outcome::Proved,
     ),
-    (ROUND, "[AR](at(1))(x > 0 || at(1))", Said::Disproved),
-    (ROUND, "[AM](at(1))(x < 10)", Said::Disproved),
-    (ROUND, "[AM](at(1))(at(0) || x <= 0)", Said::Proved),
-    (ROUND, "[ER](at(1))(at(0) || x <= 0)", Said::Proved),
-    (DRAWING, "[EM](at(2))(at(0) || x <= 3)", Said::Proved),
+    (ROUND, "[AR](at(1))(x > 0 || at(1))", Outcome::Disproved),
+    (ROUND, "[AM](at(1))(x < 10)", Outcome::Disproved),
+    (ROUND, "[AM](at(1))(at(0) || x <= 0)", Outcome::Proved),
+    (ROUND, "[ER](at(1))(at(0) || x <= 0)", Outcome::Proved),
+    (DRAWING, "[EM](at(2))(at(0) || x <= 3)", Outcome::Proved),
     (
         DRAWING,
         "[EM](at(2) && x > 3)(at(0) || x <= 3)",
-        Said::Disproved,
+        Outcome::Disproved,
     ),
     (
         DRAWING,
         "[ER](at(2) && x > 3)(at(0) || x <= 3)",
-        Said::Proved,
+        Outcome::Proved,
     ),
-    (DRAWING, "[AM](at(1))(at(0) || at(1))", Said::Proved),
+    (DRAWING, "[AM](at(1))(at(0) || at(1))", Outcome::Proved),
 ];
 
 /// Locations that are never reached, where no single list of rows at each location shows it.
-const SAFE: &[(&str, &str, Said)] = &[
-    (LOCK, "[AG](!at(bad))", Said::Proved),
-    (LOCK, "[AG](!at(3) || l == 1)", Said::Proved),
-    (PHASES, "[AG](!at(bad))", Said::Proved),
-    (COUNTERS, "[AG](!at(2))", Said::Nothing),
+const SAFE: &[(&str, &str, Outcome)] = &[
+    (LOCK, "[AG](!at(bad))", Outcome::Proved),
+    (LOCK, "[AG](!at(3) || l == 1)", Outcome::Proved),
+    (PHASES, "[AG](!at(bad))", Outcome::Proved),
+    (COUNTERS, "[AG](!at(2))", Outcome::Nothing),
 ];
 
 /// A number that stays in bounds since what takes from it must stop before.
-const STOPPING: &[(&str, &str, Said)] = &[
-    (SPENDING, "x < n || x < 0 || [AG](x >= 0)", Said::Proved),
+const STOPPING: &[(&str, &str, Outcome)] = &[
+    (SPENDING, "x < n || x < 0 || [AG](x >= 0)", Outcome::Proved),
     (
         SPENDING,
         "[AG](x < n || x < 0 || [AG](x >= 0))",
-        Said::Proved,
+        Outcome::Proved,
     ),
-    (BURNING, "f < 0 || h < f || [AG](h >= 0)", Said::Proved),
+    (BURNING, "f < 0 || h < f || [AG](h >= 0)", Outcome::Proved),
 ];
 
 #[test]

@@ -20,7 +20,7 @@ use tv_shape::Certificate;
 
 /// What is said of a property.
 #[derive(Clone, Copy, Debug, PartialEq, Eq)]
-pub(crate) enum Said {
+pub(crate) enum Outcome {
     Nothing,
     Proved,
     Disproved,
@@ -34,7 +34,7 @@ fn said_by(
     about: &Cases,
     claim: &Claim,
     certificate: &Certificate,
-) -> Result<Said, Fail>
+) -> Result<Outcome, Fail>
     requires variables { claim_variables claim.now ≡ (cases_of about.now).variables }
     requires settling { IsSettling (cases_of about.now) claim.now certificate.now }
 {
@@ -43,26 +43,26 @@ fn said_by(
         return Err(Fail::from("too long"));
     }
     match check_text(alloc, &text, about, claim) {
-        Err(_) => Ok(Said::Refused),
+        Err(_) => Ok(Outcome::Refused),
         Ok(_) => match certificate.verdict() {
-            Verdict::Proved(_) => Ok(Said::Proved),
-            Verdict::Disproved { .. } => Ok(Said::Disproved),
+            Verdict::Proved(_) => Ok(Outcome::Proved),
+            Verdict::Disproved { .. } => Ok(Outcome::Disproved),
         },
     }
 }
 
 /// What is said of the claim.
-fn said_of_claim(alloc: Global, about: &Cases, claim: &Claim) -> Result<Said, Fail>
+fn said_of_claim(alloc: Global, about: &Cases, claim: &Claim) -> Result<Outcome, Fail>
     requires variables { claim_variables claim.now ≡ (cases_of about.now).variables }
 {
     match further(alloc, about, claim, &[], &Budget::usual())? {
-        None => Ok(Said::Nothing),
+        None => Ok(Outcome::Nothing),
         Some(found) => said_by(alloc, about, claim, &found.certificate),
     }
 }
 
 /// What is said of the claim over the program.
-fn said_of_program(alloc: Global, program: &Program, claim: &Claim) -> Result<Said, Fail>
+fn said_of_program(alloc: Global, program: &Program, claim: &Claim) -> Result<Outcome, Fail>
     requires variables { claim_variables claim.now ≡ length (system_of program.now).variables }
 {
     match cases(alloc, program) {
@@ -72,7 +72,7 @@ fn said_of_program(alloc: Global, program: &Program, claim: &Claim) -> Result<Sa
 }
 
 /// What is said of the property of the program.
-fn said_of(alloc: Global, program: &Program, property: &[u8]) -> Result<Said, Fail>
+fn said_of(alloc: Global, program: &Program, property: &[u8]) -> Result<Outcome, Fail>
     requires short { length property.now ≤ 65536 }
 {
     let property = read_formula(alloc, property, program)?;
@@ -81,7 +81,7 @@ fn said_of(alloc: Global, program: &Program, property: &[u8]) -> Result<Said, Fa
 }
 
 /// What is said of the property of the program, both as texts.
-pub(crate) fn answer_to(alloc: Global, program: &str, property: &str) -> Result<Said, Fail> {
+pub(crate) fn answer_to(alloc: Global, program: &str, property: &str) -> Result<Outcome, Fail> {
     if program.len() > 65536 || property.len() > 65536 {
         return Err(Fail::from("too long"));
     }

@@ -1,4 +1,4 @@
-use crate::saying::{Said, answer_to};
+use crate::saying::{Outcome, answer_to};
 use std::test::Fail;
 
 /// Counts down, or does something else.
@@ -69,122 +69,130 @@ const LOOPS: &str =
      FROM: 8; assume(x > 0); x := x - 1; TO: 8; FROM: 8; assume(x <= 0); x := y; TO: 9;";
 
 /// A program, a property of it, and what is said: counters.
-const COUNTING: &[(&str, &str, Said)] = &[
-    (COUNTDOWN, "[EF](x <= 0)", Said::Proved),
-    (COUNTDOWN, "[AG](at(1) || [EF](x <= 0))", Said::Proved),
-    (COUNTDOWN, "[EU](at(0))(x <= 0)", Said::Proved),
-    (DRAW, "[EF](at(2))", Said::Proved),
-    (COUNTDOWN, "[EU](x < 10)(at(1))", Said::Disproved),
-    (COUNTDOWN, "[AG](x <= 0 || [EF](at(1)))", Said::Proved),
-    (COUNTDOWN, "[EF](x > 100)", Said::Disproved),
+const COUNTING: &[(&str, &str, Outcome)] = &[
+    (COUNTDOWN, "[EF](x <= 0)", Outcome::Proved),
+    (COUNTDOWN, "[AG](at(1) || [EF](x <= 0))", Outcome::Proved),
+    (COUNTDOWN, "[EU](at(0))(x <= 0)", Outcome::Proved),
+    (DRAW, "[EF](at(2))", Outcome::Proved),
+    (COUNTDOWN, "[EU](x < 10)(at(1))", Outcome::Disproved),
+    (COUNTDOWN, "[AG](x <= 0 || [EF](at(1)))", Outcome::Proved),
+    (COUNTDOWN, "[EF](x > 100)", Outcome::Disproved),
     (
         COUNTDOWN,
         "[AG](x <= 0 || at(1) || [EF](x > 100))",
-        Said::Proved,
+        Outcome::Proved,
     ),
-    (EVEN, "[EF](x == 0)", Said::Disproved),
+    (EVEN, "[EF](x == 0)", Outcome::Disproved),
 ];
 
 /// The same of the controller.
-const CONTROLLED: &[(&str, &str, Said)] = &[
-    (CONTROLLER, "[EF](at(cool))", Said::Proved),
-    (CONTROLLER, "[AG]([EF](at(reset)))", Said::Proved),
+const CONTROLLED: &[(&str, &str, Outcome)] = &[
+    (CONTROLLER, "[EF](at(cool))", Outcome::Proved),
+    (CONTROLLER, "[AG]([EF](at(reset)))", Outcome::Proved),
     (
         CONTROLLER,
         "[EM](t <= 10)(at(reset) || at(run))",
-        Said::Proved,
+        Outcome::Proved,
     ),
     (
         CONTROLLER,
         "[EM](t == 10)(at(reset) || at(run))",
-        Said::Proved,
+        Outcome::Proved,
     ),
     (
         CONTROLLER,
         "[EU](at(reset) || at(run))(t == 10)",
-        Said::Proved,
+        Outcome::Proved,
     ),
-    (CONTROLLER, "[AG]([EF](at(run) && t == 20))", Said::Proved),
+    (
+        CONTROLLER,
+        "[AG]([EF](at(run) && t == 20))",
+        Outcome::Proved,
+    ),
 ];
 
 /// The same of loops.
-const LOOPING: &[(&str, &str, Said)] = &[
-    (NESTED, "[EF](at(2))", Said::Proved),
-    (NESTED, "[AG]([EF](at(2)))", Said::Proved),
-    (PHASES, "[EF](at(2))", Said::Proved),
-    (GUARDED, "[EF](at(1))", Said::Proved),
+const LOOPING: &[(&str, &str, Outcome)] = &[
+    (NESTED, "[EF](at(2))", Outcome::Proved),
+    (NESTED, "[AG]([EF](at(2)))", Outcome::Proved),
+    (PHASES, "[EF](at(2))", Outcome::Proved),
+    (GUARDED, "[EF](at(1))", Outcome::Proved),
     (
         GUARDED,
         "[AG](y <= 0 || at(1) || [EF](x <= 0))",
-        Said::Proved,
+        Outcome::Proved,
     ),
 ];
 
 /// The same of cycles.
-const CYCLING: &[(&str, &str, Said)] = &[
+const CYCLING: &[(&str, &str, Outcome)] = &[
     (
         GROWING,
         "[AG](x <= 0 || y < 0 || at(2) || at(1) || [EG](x > 0))",
-        Said::Disproved,
+        Outcome::Disproved,
     ),
     (
         GROWING,
         "[AG](x <= 0 || y <= 0 || at(2) || [EG](x > 0))",
-        Said::Proved,
+        Outcome::Proved,
     ),
     (
         GROWING,
         "[AX](x <= 0 || y <= 0 || [EG](x > 0 && y > 0))",
-        Said::Proved,
+        Outcome::Proved,
     ),
-    (GROWING, "[EF](at(2) || [EG](x > 0 && y > 0))", Said::Proved),
-    (LIFT, "[AG]([EF](at(open)))", Said::Proved),
-    (LIFT, "[AG](!at(open) || [EG](at(open)))", Said::Proved),
-    (LIFT, "[EF]([EG](at(open)))", Said::Proved),
-    (LIFT, "[AG]([EF]([EG](at(open))))", Said::Proved),
-    (LIFT, "[ER](at(idle))(!at(moving))", Said::Proved),
+    (
+        GROWING,
+        "[EF](at(2) || [EG](x > 0 && y > 0))",
+        Outcome::Proved,
+    ),
+    (LIFT, "[AG]([EF](at(open)))", Outcome::Proved),
+    (LIFT, "[AG](!at(open) || [EG](at(open)))", Outcome::Proved),
+    (LIFT, "[EF]([EG](at(open)))", Outcome::Proved),
+    (LIFT, "[AG]([EF]([EG](at(open))))", Outcome::Proved),
+    (LIFT, "[ER](at(idle))(!at(moving))", Outcome::Proved),
 ];
 
 /// The same of every path.
-const EVERY: &[(&str, &str, Said)] = &[
-    (STOPPING, "[AG](y <= 0 || [AF](at(1)))", Said::Proved),
-    (STOPPING, "[AF](at(1) || y <= 0)", Said::Proved),
+const EVERY: &[(&str, &str, Outcome)] = &[
+    (STOPPING, "[AG](y <= 0 || [AF](at(1)))", Outcome::Proved),
+    (STOPPING, "[AF](at(1) || y <= 0)", Outcome::Proved),
     (
         LEAKING,
         "[AG](y == 7 || at(2) || [AF](at(1)))",
-        Said::Proved,
+        Outcome::Proved,
     ),
     (
         LEAKING,
         "[AX](y == 7 || [AF](at(1) && y != 7))",
-        Said::Proved,
+        Outcome::Proved,
     ),
 ];
 
 /// The same of every path through loops that change with a variable, or follow one another.
-const PARTED: &[(&str, &str, Said)] = &[
+const PARTED: &[(&str, &str, Outcome)] = &[
     (
         DIRECTED,
         "[AG](!at(moving) || [AF](at(open)))",
-        Said::Proved,
+        Outcome::Proved,
     ),
-    (DIRECTED, "[AG]([AF](at(idle)))", Said::Proved),
-    (FALLING, "[AF](at(1))", Said::Proved),
-    (LOOPS, "[AF](at(9))", Said::Proved),
-    (LOOPS, "[EF](at(9))", Said::Proved),
+    (DIRECTED, "[AG]([AF](at(idle)))", Outcome::Proved),
+    (FALLING, "[AF](at(1))", Outcome::Proved),
+    (LOOPS, "[AF](at(9))", Outcome::Proved),
+    (LOOPS, "[EF](at(9))", Outcome::Proved),
 ];
 
 /// The same of a number that falls over several areas in turn.
-const WAITING: &[(&str, &str, Said)] = &[
-    (WAITERS, "[EF](w == 10)", Said::Proved),
-    (WAITERS, "[AG]([EF](w == 0))", Said::Proved),
-    (WAITERS, "[AG]([EF](w == 0 && at(free)))", Said::Proved),
-    (FALLING, "[EF](at(1))", Said::Proved),
-    (FALLING, "[AG](at(1) || [EF](at(1)))", Said::Proved),
+const WAITING: &[(&str, &str, Outcome)] = &[
+    (WAITERS, "[EF](w == 10)", Outcome::Proved),
+    (WAITERS, "[AG]([EF](w == 0))", Outcome::Proved),
+    (WAITERS, "[AG]([EF](w == 0 && at(free)))", Outcome::Proved),
+    (FALLING, "[EF](at(1))", Outcome::Proved),
+    (FALLING, "[AG](at(1) || [EF](at(1)))", Outcome::Proved),
 ];
 
 /// Compares what is said of each row.
-fn all_are_said(rt: &HostRuntime, rows: &[(&str, &str, Said)]) -> Result<(), Fail> {
+fn all_are_said(rt: &HostRuntime, rows: &[(&str, &str, Outcome)]) -> Result<(), Fail> {
     for (program, property, wanted) in rows {
         let answer = answer_to(rt.alloc(), program, property)?;
         if answer != *wanted {

@@ -211,7 +211,7 @@ const ROWS: &[(&str, &str, &str, Result<(), Failing>)] = &[
 ];
 
 /// What the check of the certificate answers, and whether the certificate is written as its text is.
-type Judged = (Result<(), Failing>, bool);
+type Checked = (Result<(), Failing>, bool);
 
 fn of_text(
     alloc: Global,
@@ -219,7 +219,7 @@ fn of_text(
     about: &Cases,
     claim: &Claim,
     text: &[u8],
-) -> Result<Judged, Fail>
+) -> Result<Checked, Fail>
     requires same_program { IsOfProgram (system_of program.now) (cases_of about.now) }
     requires same_steps { HaveSameSteps (system_of program.now) (cases_of about.now) }
     requires variables { claim_variables claim.now ≡ (cases_of about.now).variables }
@@ -231,7 +231,7 @@ fn of_text(
     Ok((answer, written.as_slice() == text))
 }
 
-fn of_claim(alloc: Global, program: &Program, claim: &Claim, text: &[u8]) -> Result<Judged, Fail>
+fn of_claim(alloc: Global, program: &Program, claim: &Claim, text: &[u8]) -> Result<Checked, Fail>
     requires variables { claim_variables claim.now ≡ length (system_of program.now).variables }
     requires few { length text.now < 2 ^ 32 - 1 }
 {
@@ -246,7 +246,7 @@ fn of_program(
     program: &Program,
     property: &[u8],
     text: &[u8],
-) -> Result<Judged, Fail>
+) -> Result<Checked, Fail>
     requires short { length property.now ≤ 65536 }
     requires few { length text.now < 2 ^ 32 - 1 }
 {
@@ -255,7 +255,7 @@ fn of_program(
     of_claim(alloc, program, &claim, text)
 }
 
-fn judged(alloc: Global, program: &str, property: &str, text: &str) -> Result<Judged, Fail> {
+fn checked(alloc: Global, program: &str, property: &str, text: &str) -> Result<Checked, Fail> {
     if program.len() > 65536 || property.len() > 65536 {
         return Err(Fail::from("too long"));
     }
@@ -269,7 +269,7 @@ fn judged(alloc: Global, program: &str, property: &str, text: &str) -> Result<Ju
 #[test]
 fn nodes_of_each_kind_are_checked(rt: HostRuntime) -> Result<(), Fail> {
     for (program, property, text, wanted) in ROWS {
-        let (answer, is_same) = judged(rt.alloc(), program, property, text)?;
+        let (answer, is_same) = checked(rt.alloc(), program, property, text)?;
         assert!(rt; is_same && answer == *wanted, "{property} {text}");
     }
     Ok(())

@@ -25,7 +25,7 @@ pub mod CountLemmas
 pub mod SideLemmas
 pub mod CoverLemmas
 pub mod NodeLemmas
-pub mod RestLemmas
+pub mod VerdictLemmas
 pub mod FitLines
 pub mod KindLemmas
 pub mod FitLemmas

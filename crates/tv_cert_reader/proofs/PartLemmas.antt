@@ -13,14 +13,14 @@ use Rattle.tv_cert_reader.specs.LineGrammar.{many}
 use Rattle.tv_cert_reader.proofs.CompleteParts.{sized_read, numbers_long}
 use Rattle.tv_cert_reader.specs.declared.cursor.Cursor.{Cursor}
 use Rattle.tv_cert_reader.specs.declared.failure.Failure.{Failure}
-use Rattle.tv_cert_reader.specs.declared.sort.Sort.{Sort}
-use Rattle.tv_cert_reader.specs.declared.sort.Sort.TheVariants as sorts
-use Rattle.tv_cert_reader.specs.Sorts.{head_of, tells, line_with}
+use Rattle.tv_cert_reader.specs.declared.number_line.NumberLine.{NumberLine}
+use Rattle.tv_cert_reader.specs.declared.number_line.NumberLine.TheVariants as sorts
+use Rattle.tv_cert_reader.specs.NumberLines.{head_of, tells, line_with}
 use Rattle.tv_cert_reader.specs.Reading.{Takes, FailsBy}
 use Rattle.tv_cert_reader.specs.Parts.{AreMany, AreNumbers, IsRowOf, IsWide, one_row, numbers_line}
 use Rattle.tv_cert_reader.proofs.ReadingLemmas.{Gathered, takes_as, many_fails}
 
-told : (s : Sort) → tells s (head_of s) ≡ true
+told : (s : NumberLine) → tells s (head_of s) ≡ true
 told sorts.Header = refl
 told sorts.Row = refl
 told sorts.Rank = refl
@@ -28,12 +28,12 @@ told sorts.Draw = refl
 told sorts.By = refl
 told sorts.End = refl
 
-pub numbers_read : (s : Sort) (count : ℕ) (zs : List ℤ) (r : List PlainLine) → length zs ≡ count → (line_with s count).read (numbers_line s zs ++ r) ≡ Ok (tt, r)
+pub numbers_read : (s : NumberLine) (count : ℕ) (zs : List ℤ) (r : List PlainLine) → length zs ≡ count → (line_with s count).read (numbers_line s zs ++ r) ≡ Ok (tt, r)
 numbers_read s count zs r e = sized_read (tells s) (head_of s) count zs r (told s) e
 
 -- ---- rows
 
-module _ (s : Sort) (width : ℕ) where
+module _ (s : NumberLine) (width : ℕ) where
   row_read : (row : Linear) (r : List PlainLine) → IsWide width row → (line_with s (width + 1)).read (one_row s row ++ r) ≡ Ok (tt, r)
   row_read row r e = sized_read (tells s) (head_of s) (width + 1) (row.coefficients ++ row.constant ∷ []) r (told s) (numbers_long width row e)
 

@@ -45,7 +45,7 @@ use Rattle.tv_cert_reader.specs.Reading.{Takes, FailsBy}
 use Rattle.tv_cert_reader.specs.Texts.{IsCertificateText, IsOfNone, IsAtFault, IsRefusedText, sides_of, fault_of}
 use Rattle.tv_cert_reader.specs.Wholes.{ReadsAll}
 use Rattle.tv_cert_reader.proofs.ReadingLemmas.{first_fails, second_fails}
-use Rattle.tv_cert_reader.proofs.RestLemmas.{ended, got_none}
+use Rattle.tv_cert_reader.proofs.VerdictLemmas.{ended, got_none}
 
 -- ---- there are no more lines than bytes
 

@@ -6,7 +6,7 @@ pub mod ChoiceGrammar
 pub mod NodeGrammar
 pub mod CertificateGrammar
 pub mod Reading
-pub mod Sorts
+pub mod NumberLines
 pub mod Parts
 pub mod Heads
 pub mod Regions

@@ -8,11 +8,11 @@ use Rattle.tv_linear.specs.Packed.{packed}
 use Rattle.tv_linear.specs.declared.row.Row.{Row}
 use Rattle.tv_cert_reader.specs.CertificateLines.{row_line, row_lines, by_lines}
 use Rattle.tv_cert_reader.specs.LineGrammar.{many}
-use Rattle.tv_cert_reader.specs.declared.sort.Sort.{Sort}
-use Rattle.tv_cert_reader.specs.declared.sort.Sort.TheVariants.{By}
+use Rattle.tv_cert_reader.specs.declared.number_line.NumberLine.{NumberLine}
+use Rattle.tv_cert_reader.specs.declared.number_line.NumberLine.TheVariants.{By}
 use Rattle.tv_cert_reader.specs.declared.cursor.Cursor.{Cursor}
 use Rattle.tv_cert_reader.specs.declared.failure.Failure.{Failure}
-use Rattle.tv_cert_reader.specs.Sorts.{head_of, line_with}
+use Rattle.tv_cert_reader.specs.NumberLines.{head_of, line_with}
 use Rattle.tv_cert_reader.specs.Reading.{Reads, Takes, FailsBy}
 
 -- the row has these numbers, the last of which is its constant, over so many columns
@@ -33,29 +33,29 @@ pub record AreNumbers (count : ℕ) (zs : List ℤ) : Type 0 where
 abbrev pub numbers_of : Vec ℤ → List ℤ
 numbers_of v = v.items
 
-abbrev pub numbers_line : Sort → List ℤ → List PlainLine
+abbrev pub numbers_line : NumberLine → List ℤ → List PlainLine
 numbers_line sort zs = formed (head_of sort) zs ∷ []
 
 -- a line of so many numbers is read
-abbrev pub ReadsNumbers : Sort → ℕ → Cursor → Cursor → Result (Vec ℤ) Failure → Type 0
+abbrev pub ReadsNumbers : NumberLine → ℕ → Cursor → Cursor → Result (Vec ℤ) Failure → Type 0
 ReadsNumbers sort count old new result = Reads numbers_of (AreNumbers count) (numbers_line sort) (line_with sort count) old new result
 
 -- a row over so many columns
 abbrev pub IsWide : ℕ → Linear → Type 0
 IsWide width r = columns r ≡ width
 
-abbrev pub one_row : Sort → Linear → List PlainLine
+abbrev pub one_row : NumberLine → Linear → List PlainLine
 one_row sort r = row_line (head_of sort) r ∷ []
 
 -- a row is read
-abbrev pub ReadsRow : Sort → ℕ → Cursor → Cursor → Result Row Failure → Type 0
+abbrev pub ReadsRow : NumberLine → ℕ → Cursor → Cursor → Result Row Failure → Type 0
 ReadsRow sort width old new result = Reads (λ r. r) (IsWide width) (one_row sort) (line_with sort (width + 1)) old new result
 
 abbrev pub rows_in : Vec Row → List Linear
 rows_in v = v.items
 
 -- so many rows are read
-abbrev pub ReadsRows : Sort → ℕ → ℕ → Cursor → Cursor → Result (Vec Row) Failure → Type 0
+abbrev pub ReadsRows : NumberLine → ℕ → ℕ → Cursor → Cursor → Result (Vec Row) Failure → Type 0
 ReadsRows sort width count old new result = Reads rows_in (AreMany (IsWide width) count) (row_lines (head_of sort)) (many count (line_with sort (width + 1))) old new result
 
 -- the numbers of a row over so many columns are put behind others
@@ -65,7 +65,7 @@ pub record IsAppended (width : ℕ) (zs ys : List ℤ) (row : Linear) : Type 0 w
   pub numbers : ys ≡ zs ++ (row.coefficients ++ row.constant ∷ [])
 
 -- a row is read, and its numbers are put behind others
-abbrev pub AppendsRow : Sort → ℕ → List ℤ → List ℤ → Cursor → Cursor → Result (Unit {0}) Failure → Type 0
+abbrev pub AppendsRow : NumberLine → ℕ → List ℤ → List ℤ → Cursor → Cursor → Result (Unit {0}) Failure → Type 0
 AppendsRow sort width zs ys old new (Ok done) = (row : Linear) × IsAppended width zs ys row × Takes (one_row sort row) old new
 AppendsRow sort width zs ys old new (Err f) = FailsBy (line_with sort (width + 1)) old f
 
@@ -76,7 +76,7 @@ pub record AreAppended (width count : ℕ) (zs ys : List ℤ) (rows : List Linea
   pub numbers : ys ≡ zs ++ packed rows
 
 -- so many rows are read, and their numbers are put behind others
-abbrev pub AppendsRows : Sort → ℕ → ℕ → List ℤ → List ℤ → Cursor → Cursor → Result (Unit {0}) Failure → Type 0
+abbrev pub AppendsRows : NumberLine → ℕ → ℕ → List ℤ → List ℤ → Cursor → Cursor → Result (Unit {0}) Failure → Type 0
 AppendsRows sort width count zs ys old new (Ok done) = (rows : List Linear) × AreAppended width count zs ys rows × Takes (row_lines (head_of sort) rows) old new
 AppendsRows sort width count zs ys old new (Err f) = FailsBy (many count (line_with sort (width + 1))) old f
 

@@ -10,8 +10,8 @@ use crate::failure::Failure;
 use crate::heads::{node_head, piece_head};
 use crate::kind::LineKind;
 use crate::lines::take;
+use crate::number_line::NumberLine;
 use crate::rows::{append_rows, room};
-use crate::sort::Sort;
 use tv_cert::{Mark, Marked, Pieces};
 use tv_lines::NodeKind;
 
@@ -47,8 +47,22 @@ impl Context<'_> {
         let columns = self.about.variables();
         let many = rank_count(ranks, mark);
         let mut packed = Vec::with_capacity(self.alloc, room_of(count, many, columns))?;
-        append_rows(self.alloc, cursor, Sort::Row, columns, count, &mut packed)?;
-        append_rows(self.alloc, cursor, Sort::Rank, columns, many, &mut packed)?;
+        append_rows(
+            self.alloc,
+            cursor,
+            NumberLine::Row,
+            columns,
+            count,
+            &mut packed,
+        )?;
+        append_rows(
+            self.alloc,
+            cursor,
+            NumberLine::Rank,
+            columns,
+            many,
+            &mut packed,
+        )?;
         packed.shrink_to_fit();
         let rows = count as u32;
         Ok(Marked::from_numbers(location, mark, columns, rows, packed))

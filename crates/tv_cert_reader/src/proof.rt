@@ -10,9 +10,9 @@ ghost use Rattle.tv_cert_reader.specs.Proofs.{ReadsProof};
 
 use crate::choices::ChoiceRead;
 use crate::context::Context;
+use crate::counts::{are_few, chosen_are_few};
 use crate::cursor::Cursor;
 use crate::failure::Failure;
-use crate::few::{are_few, chosen_are_few};
 use tv_cases::Case;
 use tv_cert::{Destination, Marked, Owes, Pieces, Proof};
 use tv_linear::{Choice, Cover, MAX_SPLITS};

@@ -11,9 +11,9 @@ use crate::cursor::Cursor;
 use crate::failure::Failure;
 use crate::fault::CertFault;
 use crate::kind::LineKind;
-use crate::rest::said;
+use crate::number_line::NumberLine;
 use crate::rows::numbers;
-use crate::sort::Sort;
+use crate::verdict::said;
 use std::alloc::Global;
 use tv_cases::Cases;
 use tv_cert::{Claim, Node, Verdict};
@@ -25,7 +25,7 @@ impl Context<'_> {
     fn whole(&self, cursor: &mut Cursor, claim: &Claim) -> Result<(Node, Verdict), Failure>
         ensures { ReadsAll (cases_of self.now.about.now) (sides_of claim.now) cursor.old result }
     {
-        numbers(self.alloc, cursor, Sort::Header, 0)?;
+        numbers(self.alloc, cursor, NumberLine::Header, 0)?;
         if said(self.alloc, cursor)? {
             self.proved(cursor, claim.proved_aim())
         } else {

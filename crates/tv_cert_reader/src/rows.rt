@@ -6,7 +6,7 @@ use crate::cursor::Cursor;
 use crate::failure::Failure;
 use crate::kind::LineKind;
 use crate::lines::take;
-use crate::sort::Sort;
+use crate::number_line::NumberLine;
 use std::alloc::Global;
 use tv_linear::Row;
 
@@ -14,7 +14,7 @@ use tv_linear::Row;
 pub fn numbers(
     alloc: Global,
     cursor: &mut Cursor,
-    sort: Sort,
+    sort: NumberLine,
     count: u128,
 ) -> Result<Vec<i64>, Failure>
     ensures { ReadsNumbers sort count cursor.old cursor.new result }
@@ -44,7 +44,7 @@ pub fn row_of(numbers: Vec<i64>, width: u32) -> Option<Row>
 }
 
 /// A term over so many columns.
-fn row(alloc: Global, cursor: &mut Cursor, sort: Sort, width: u32) -> Result<Row, Failure>
+fn row(alloc: Global, cursor: &mut Cursor, sort: NumberLine, width: u32) -> Result<Row, Failure>
     requires { width < 2 ^ 32 - 1 }
     ensures { ReadsRow sort width cursor.old cursor.new result }
 {
@@ -67,7 +67,7 @@ pub fn room(count: u128) -> usize
 pub fn rows(
     alloc: Global,
     cursor: &mut Cursor,
-    sort: Sort,
+    sort: NumberLine,
     width: u32,
     count: u64,
 ) -> Result<Vec<Row>, Failure>
@@ -86,7 +86,7 @@ pub fn rows(
 fn append_row(
     alloc: Global,
     cursor: &mut Cursor,
-    sort: Sort,
+    sort: NumberLine,
     width: u32,
     packed: &mut Vec<i64>,
 ) -> Result<(), Failure>
@@ -102,7 +102,7 @@ fn append_row(
 pub fn append_rows(
     alloc: Global,
     cursor: &mut Cursor,
-    sort: Sort,
+    sort: NumberLine,
     width: u32,
     count: u64,
     packed: &mut Vec<i64>,
@@ -127,7 +127,7 @@ pub fn lists(
 {
     let mut lists = Vec::with_capacity(alloc, room(count))?;
     'lists: for _ in 0..count {
-        let list = numbers(alloc, cursor, Sort::By, wide)?;
+        let list = numbers(alloc, cursor, NumberLine::By, wide)?;
         lists.push(list)?;
     }
     Ok(lists)

@@ -12,8 +12,8 @@ use crate::covers::small;
 use crate::cursor::Cursor;
 use crate::failure::Failure;
 use crate::kind::LineKind;
+use crate::number_line::NumberLine;
 use crate::rows::{lists, rows};
-use crate::sort::Sort;
 use tv_cases::Case;
 use tv_cert::{Destination, Marked};
 use tv_linear::ChoiceTree;
@@ -100,7 +100,13 @@ impl Context<'_> {
         };
         let case = taken.case;
         let columns = self.about.variables();
-        let draws = rows(self.alloc, cursor, Sort::Draw, columns, case.draws as u64)?;
+        let draws = rows(
+            self.alloc,
+            cursor,
+            NumberLine::Draw,
+            columns,
+            case.draws as u64,
+        )?;
         let count = case.guards.rows.len() as u128 + taken.owed as u128;
         let refutations = lists(self.alloc, cursor, known + 1, count)?;
         Ok(ChoiceTree::Take {

@@ -27,9 +27,11 @@ fn rest_of(proofs: &[Proof]) -> &[Proof]
 }
 
 impl Visitor for Settler<'_> {
-    ghost passes = { λ system v o w. OwedMet o.owed (first_proof v.proofs.now) × (w.proofs.now ≡ drop 1 v.proofs.now) × (w.seen ≡ v.seen + 1) };
+    ghost passes = { λ system v o w. OwedMet o.owed (first_proof v.proofs.now)
+        × (w.proofs.now ≡ drop 1 v.proofs.now) × (w.seen ≡ v.seen + 1) };
 
-    ghost stops = { λ system v o w. (¬ (OwedMet o.owed (first_proof v.proofs.now))) × (w.failing ≡ Some (record { number = v.seen + 1; node = o.node; kind = o.kind })) };
+    ghost stops = { λ system v o w. (¬ (OwedMet o.owed (first_proof v.proofs.now)))
+        × (w.failing ≡ Some (record { number = v.seen + 1; node = o.node; kind = o.kind })) };
 
     ghost room = { λ v. 18446744073709551615 - v.seen };
 

@@ -6,5 +6,5 @@ pub mod ChoiceLemmas
 pub mod ProofLemmas
 pub mod TargetLemmas
 pub mod SettlingLemmas
-pub mod RestLemmas
+pub mod VerdictLemmas
 pub mod TextLemmas

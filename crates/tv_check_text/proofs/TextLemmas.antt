@@ -28,7 +28,7 @@ use Rattle.tv_cert.specs.declared.failing.Failing.{Failing}
 use Rattle.tv_cert_reader.proofs.WalkLemmas.{vector}
 use Rattle.tv_check_text.specs.declared.checker.Checker.{Checker}
 use Rattle.tv_check_text.specs.declared.text.Accepted.{Accepted}
-use Rattle.tv_check_text.specs.Rest.{IsCheckedRest, all_entries}
+use Rattle.tv_check_text.specs.Verdicts.{IsCheckedRest, all_entries}
 use Rattle.tv_check_text.specs.Settling.{Settles}
 use Rattle.tv_check_text.specs.Texts.{owed, IsAcceptedText, IsUnaccepted, FailsFirst, failing_of}
 

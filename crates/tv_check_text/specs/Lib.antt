@@ -2,5 +2,5 @@ pub mod Owed
 pub mod Targets
 pub mod Checking
 pub mod Settling
-pub mod Rest
+pub mod Verdicts
 pub mod Texts

@@ -17,7 +17,7 @@ use Rattle.tv_cert.specs.FirstFailing.{IsFirstFailing}
 use Rattle.tv_check_text.specs.declared.text.Accepted.{Accepted}
 use Rattle.tv_check_text.specs.declared.text.TextFailing.{TextFailing}
 use Rattle.tv_check_text.specs.declared.text.TextFailing.TheVariants.{Syntax, Wide, Deep, Shape, Obligation, Memory}
-use Rattle.tv_check_text.specs.Rest.{is_proved, values_in, values_of}
+use Rattle.tv_check_text.specs.Verdicts.{is_proved, values_in, values_of}
 
 -- the obligations of the certificate, with their proofs
 abbrev pub owed : CaseSystem → Claim → Certificate → List Entry

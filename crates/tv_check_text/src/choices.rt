@@ -123,7 +123,8 @@ impl ChoiceCheck<'_> {
         requires counted { known ≡ length (known_at frames.now) }
         requires room { known + left + 1 < 2 ^ 125 }
         ensures { let system = cases_of self.now.context.about.now in
-            ChecksChoiceSides system self.now.piece.now self.now.stop self.now.destination.now (known_at frames.now) left row.now cursor.old cursor.new result }
+            let checks = ChecksChoiceSides system self.now.piece.now self.now.stop self.now.destination.now in
+            checks (known_at frames.now) left row.now cursor.old cursor.new result }
     {
         let given = Built::Given(RowView::of(row));
         let denied = Built::Denied(&given);

@@ -8,11 +8,11 @@ mod empty;
 mod fall;
 mod owed;
 mod proof;
-mod rest;
 mod shown;
 mod takes;
 mod targets;
 mod text;
+mod verdict;
 mod visiting;
 
 pub use text::{Accepted, TextFailing, check_text};

@@ -5,7 +5,7 @@ ghost use Rattle.tv_check_text.specs.Owed.{owed_listed};
 
 use crate::owed::OwedRows;
 use std::alloc::Global;
-use tv_cert_reader::{Cursor, Failure, Sort, numbers};
+use tv_cert_reader::{Cursor, Failure, NumberLine, numbers};
 use tv_refute::Frames;
 
 /// Reads a line of multipliers for each of the rows, and tells whether each line shows its row.
@@ -23,7 +23,7 @@ pub fn rows_are_shown(
 {
     let mut met = true;
     'rows: for place in 0..owed.count() {
-        let multipliers = numbers(alloc, cursor, Sort::By, known + 1)?;
+        let multipliers = numbers(alloc, cursor, NumberLine::By, known + 1)?;
         let shown = owed.is_shown(columns, frames, place, &multipliers);
         met = met && shown;
     }

@@ -14,7 +14,7 @@ use crate::choices::ChoiceCheck;
 use crate::owed::OwedRows;
 use crate::shown::rows_are_shown;
 use crate::targets::{entered, targets_after};
-use tv_cert_reader::{Cursor, Failure, LineKind, Sort, Taken, read_rows};
+use tv_cert_reader::{Cursor, Failure, LineKind, NumberLine, Taken, read_rows};
 use tv_linear::Row;
 use tv_lines::Head;
 use tv_refute::{Change, Frames, Terms};
@@ -36,7 +36,9 @@ impl<'a> ChoiceCheck<'a> {
             IsSome (owes (case_view taken.now.case.now) draws.now taken.now.target taken.now.fall) }
         ensures { let n = (cases_of self.now.context.about.now).variables in
             let case = case_view taken.now.case.now in
-            (rows : List Known) → destination_owes n self.now.piece.now self.now.destination.now case draws.now taken.now.target taken.now.fall ≡ Some rows → ChecksLists n (known_at frames.now) (drawn_guards n case draws.now ++ rows) cursor.old cursor.new result }
+            let owes = destination_owes n self.now.piece.now self.now.destination.now case draws.now in
+            (rows : List Known) → owes taken.now.target taken.now.fall ≡ Some rows →
+            ChecksLists n (known_at frames.now) (drawn_guards n case draws.now ++ rows) cursor.old cursor.new result }
     {
         let columns = self.context.about.variables();
         let case = taken.case;
@@ -87,7 +89,7 @@ impl<'a> ChoiceCheck<'a> {
         };
         let columns = self.context.about.variables();
         let count = taken.case.draws as u64;
-        let draws = read_rows(self.context.alloc, cursor, Sort::Draw, columns, count)?;
+        let draws = read_rows(self.context.alloc, cursor, NumberLine::Draw, columns, count)?;
         let shown = self.is_shown(cursor, frames, known, &taken, &draws)?;
         Ok(shown)
     }

@@ -4,7 +4,7 @@ ghost use Rattle.tv_cert.specs.Claims.{claim_variables};
 ghost use Rattle.tv_check_text.specs.Texts.{IsAcceptedText, IsAcceptedWith, IsUnaccepted, failing_of};
 
 use crate::checker::Checker;
-use crate::rest::check_whole;
+use crate::verdict::check_whole;
 use std::alloc::Global;
 use tv_cases::Cases;
 use tv_cert::{Claim, Failing};

@@ -34,7 +34,9 @@ pub fn next_token(source: &Source, reading: &Reading) -> Option<Token>
 
 /// The kind of a token, where it is neither a number below 2^62 nor a variable.
 fn kind_of(source: &Source, reading: &Reading, token: Token) -> TokenKind
-    ensures { result ≡ kind_seen (Some (seen (record { variables = reading.now.names; labels = source.now.labels.now }) (lexeme source.now.text.now token))) }
+    ensures { result ≡ kind_seen (Some (seen
+        (record { variables = reading.now.names; labels = source.now.labels.now })
+        (lexeme source.now.text.now token))) }
 {
     match token.kind {
         TokenKind::Name => {

@@ -15,9 +15,8 @@ pub(crate) const GUARDED: usize = 6;
 /// How many lists of values at the start are made by chance.
 pub(crate) const STARTS: usize = 60;
 
-/// How many graphs of single states are made, and how many where a large program is looked at before anything else.
-pub(crate) const GRAPHS: usize = 100;
-
+/// How many graphs of single states are made where a large program is looked at before anything else. Later there is one for each list of
+/// values at the start.
 pub(crate) const FIRST_GRAPHS: usize = 20;
 
 /// How many coefficients of the cases from its places one graph looks at, and all graphs of a search together, after which none is begun.

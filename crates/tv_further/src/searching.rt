@@ -12,7 +12,7 @@ use crate::formulas::ranked_regions::RankedRegions;
 use crate::graphs::explicit::ExplicitGraph;
 use crate::graphs::starting::constants_of;
 use crate::graphs::walks::Walks;
-use crate::limits::{FIRST_GRAPHS, GRAPHS};
+use crate::limits::FIRST_GRAPHS;
 use crate::question::Question;
 use crate::rows::solving::Effort;
 use crate::search::{Attempt, Search};
@@ -85,7 +85,7 @@ fn first_found(question: &Question, claim: &Claim) -> Result<Option<Further>, Al
         states: 0,
         calls: 0,
     };
-    let graphs = ExplicitGraph { graphs: GRAPHS };
+    let graphs = ExplicitGraph { graphs: usize::MAX };
     if let Some(found) = found_by(&graphs, question, claim, &mut spent)? {
         return Ok(Some(found));
     }

@@ -96,17 +96,44 @@ number-dropped first place zero ks p h l = refl
 number-dropped first place (suc i) [] p h l = refl
 number-dropped first place (suc i) (k ∷ ks) p h l = (let b = h.1 in number-dropped (k.place + 1) place i ks p h.2 l ∙ sym (number-behind k ks p (λ g. absurd (omega (arith, b, g, l)))))
 
-pub stretch_kept : (ks : List Kept) (n first count i m : ℕ) → AreOrdered 0 n ks → first + count ≤ n
-    → AreOrdered 0 first (take i ks) → AreOrdered first n (drop i ks)
-    → AreOrdered first (first + count) (take m (drop i ks)) → AreOrdered (first + count) n (drop m (drop i ks))
-    → AreKept (λ j. get_or (dense ks n) (first + j) (pos 0)) first 0 count (take m (drop i ks))
-stretch_kept ks n first count i m h l front back inside behind = record {
-  ordered = subst (λ z. AreOrdered z (first + count) (take m (drop i ks))) (let e : first ≡ first + 0 = omega arith in e) inside;
+pub stretch_kept : (ks near : List Kept) (n first count passed i m : ℕ) → near ≡ drop passed ks → AreOrdered 0 n ks → first + count ≤ n
+    → AreOrdered 0 first (take passed ks) → AreOrdered passed first (take i near) → AreOrdered first n (drop i near)
+    → AreOrdered first (first + count) (take m (drop i near)) → AreOrdered (first + count) n (drop m (drop i near))
+    → AreKept (λ j. get_or (dense ks n) (first + j) (pos 0)) first 0 count (take m (drop i near))
+stretch_kept ks near n first count passed i m e h l before front back inside behind = record {
+  ordered = subst (λ z. AreOrdered z (first + count) (take m (drop i near))) (let e : first ≡ first + 0 = omega arith in e) inside;
   same = λ j low up.
-      number-taken (first + count) n m (drop i ks) (first + j) first back behind (omega (arith, up))
-      ∙ number-dropped 0 first i ks (first + j) front (omega arith)
+      number-taken (first + count) n m (drop i near) (first + j) first back behind (omega (arith, up))
+      ∙ number-dropped passed first i near (first + j) front (omega arith)
+      ∙ ap (λ z. number_in z (first + j)) e
+      ∙ number-dropped 0 first passed ks (first + j) before (omega arith)
       ∙ sym (get_or-map-range_with_len (number_in ks) 0 n (first + j) (first + j) (pos 0) (omega (arith, l, up)) (omega arith));
 }
+
+-- ---- how many have room between two places
+pub places_fit : (first end : ℕ) (ks : List Kept) → AreOrdered first end ks → first ≤ end → first + length ks ≤ end
+places_fit first end [] h l = omega (arith, l)
+places_fit first end (k ∷ ks) h l = (let f = h.0 in let b = h.1 in let r = places_fit (k.place + 1) end ks h.2 (omega (arith, b)) in omega (arith, f, r))
+
+pub ordered_taken : (first end i : ℕ) (ks : List Kept) → AreOrdered first end ks → AreOrdered first end (take i ks)
+ordered_taken first end zero ks h = tt
+ordered_taken first end (suc i) [] h = tt
+ordered_taken first end (suc i) (k ∷ ks) h = (h.0, h.1, ordered_taken (k.place + 1) end i ks h.2)
+
+pub ordered_dropped : (first end later i : ℕ) (ks : List Kept) → AreOrdered first end ks → later ≤ first + i → AreOrdered later end (drop i ks)
+ordered_dropped first end later zero [] h l = tt
+ordered_dropped first end later zero (k ∷ ks) h l = (let f = h.0 in omega (arith, f, l), h.1, h.2)
+ordered_dropped first end later (suc i) [] h l = tt
+ordered_dropped first end later (suc i) (k ∷ ks) h l = (let f = h.0 in ordered_dropped (k.place + 1) end later i ks h.2 (omega (arith, f, l)))
+
+pub ordered_passed : (first end place i : ℕ) (ks : List Kept) → AreOrdered first end ks → (0 < i → end + i ≤ length ks + place) → AreOrdered first place (take i ks)
+ordered_passed first end place zero ks h l = tt
+ordered_passed first end place (suc i) [] h l = tt
+ordered_passed first end place (suc i) (k ∷ ks) h l =
+    let b = h.1 in
+    let r = l (omega arith) in
+    let f = places_fit (k.place + 1) end ks h.2 (omega (arith, b)) in
+    (h.0, omega (arith, r, f), ordered_passed (k.place + 1) end place i ks h.2 (λ p. omega (arith, r)))
 
 -- ---- the search for a place
 place_from : (first end i : ℕ) (ks : List Kept) (d : Kept) → AreOrdered first end ks → i < length ks → first ≤ (get_or ks i d).place
@@ -121,13 +148,21 @@ places_rise first end (k ∷ ks) h zero (suc j) d low l = (let g = place_from (k
 places_rise first end (k ∷ ks) h (suc i) zero d low l = absurd (omega (arith, low))
 places_rise first end (k ∷ ks) h (suc i) (suc j) d low l = places_rise (k.place + 1) end ks h.2 i j d (omega (arith, low)) (omega (arith, l))
 
-pub ordered_front : (first end place i : ℕ) (ks : List Kept) → AreOrdered first end ks → AllWithin (λ k. ltb k.place place ≡ true) ks 0 i → AreOrdered first place (take i ks)
-ordered_front first end place zero ks h w = tt
-ordered_front first end place (suc i) [] h w = tt
-ordered_front first end place (suc i) (k ∷ ks) h w = (h.0, ltb-true k.place place (w 0 k (omega arith) (omega arith)), ordered_front (k.place + 1) end place i ks h.2 (λ j d low up. w (suc j) d (omega arith) (omega (arith, up))))
+pub ordered_front : (first end place most i : ℕ) (ks : List Kept) → AreOrdered first end ks → i ≤ length (take most ks)
+    → AllWithin (λ k. ltb k.place place ≡ true) (take most ks) 0 i → AreOrdered first place (take i ks)
+ordered_front first end place most zero ks h l w = tt
+ordered_front first end place most (suc i) [] h l w = tt
+ordered_front first end place zero (suc i) (k ∷ ks) h l w = absurd (omega (arith, l))
+ordered_front first end place (suc most) (suc i) (k ∷ ks) h l w =
+    (h.0, ltb-true k.place place (w 0 k (omega arith) (omega arith)), ordered_front (k.place + 1) end place most i ks h.2 (omega (arith, l)) (λ j d low up. w (suc j) d (omega arith) (omega (arith, up))))
 
-pub ordered_back : (first end place i : ℕ) (ks : List Kept) → AreOrdered first end ks → AllWithin (λ k. ltb k.place place ≡ false) ks i (length ks) → AreOrdered place end (drop i ks)
-ordered_back first end place zero [] h w = tt
-ordered_back first end place zero (k ∷ ks) h w = (ltb-false k.place place (w 0 k (omega arith) (omega arith)), h.1, h.2)
-ordered_back first end place (suc i) [] h w = tt
-ordered_back first end place (suc i) (k ∷ ks) h w = ordered_back (k.place + 1) end place i ks h.2 (λ j d low up. w (suc j) d (omega (arith, low)) (omega (arith, up)))
+pub ordered_back : (first end place most i : ℕ) (ks : List Kept) → AreOrdered first end ks → (most < length ks → place ≤ first + most) → i ≤ length (take most ks)
+    → AllWithin (λ k. ltb k.place place ≡ false) (take most ks) i (length (take most ks)) → AreOrdered place end (drop i ks)
+ordered_back first end place most zero [] h room l w = tt
+ordered_back first end place zero zero (k ∷ ks) h room l w = (let f = h.0 in let r = room (omega arith) in omega (arith, f, r), h.1, h.2)
+ordered_back first end place (suc most) zero (k ∷ ks) h room l w = (ltb-false k.place place (w 0 k (omega arith) (omega arith)), h.1, h.2)
+ordered_back first end place most (suc i) [] h room l w = tt
+ordered_back first end place zero (suc i) (k ∷ ks) h room l w = absurd (omega (arith, l))
+ordered_back first end place (suc most) (suc i) (k ∷ ks) h room l w =
+    let f = h.0 in
+    ordered_back (k.place + 1) end place most i ks h.2 (λ b. let r = room (omega (arith, b)) in omega (arith, f, r)) (omega (arith, l)) (λ j d low up. w (suc j) d (omega (arith, low)) (omega (arith, up)))

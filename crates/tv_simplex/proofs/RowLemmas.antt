@@ -8,7 +8,7 @@ use Prim.Native.Nat.{◌∣◌}
 use Rattle.tv_linear.proofs.Ring.{mul_assoc_z}
 use Rattle.tv_fraction.specs.declared.Fraction.{Fraction}
 use Rattle.tv_simplex.proofs.Ring.{zero_times, times_zero, less_times, by_sign}
-use Rattle.tv_simplex.specs.Ratios.{Ratio, IsQuotient, IsRest}
+use Rattle.tv_simplex.specs.Ratios.{Ratio, IsQuotient, IsLessProduct}
 use Rattle.tv_simplex.specs.declared.rows.Entry.{Entry}
 use Rattle.tv_simplex.specs.Rows.{ratio, ratio_of, none, entry_in, IsNarrowRatio, IsEntry, IsSparse, IsRow, IsRestOf, BeginsFrom, IsPut, IsDivided, IsTaken, IsMade}
 use Rattle.tv_linear.proofs.ListLaws.{last_or_below}
@@ -183,8 +183,8 @@ made_ends rule old width from (e ∷ es) made l h gap = absurd (omega (arith, l)
 
 -- ---- what becomes of 0
 -- nothing is taken away where a factor is 0
-pub rest_zero : (g h k : Ratio) → pos 0 <ℤ g.denominator → (h.numerator *ℤ k.numerator) ≡ pos 0 → IsRest g g h k
-rest_zero g h k p e = record {
+pub less_product_zero : (g h k : Ratio) → pos 0 <ℤ g.denominator → (h.numerator *ℤ k.numerator) ≡ pos 0 → IsLessProduct g g h k
+less_product_zero g h k p e = record {
   positive = p;
   same = (
       let d = h.denominator *ℤ k.denominator in
@@ -195,8 +195,8 @@ rest_zero g h k p e = record {
       omega (arith, ints, s, w, a));
 }
 
-pub rest_of : {f g g' h k k' : Ratio} → g ≡ g' → k ≡ k' → IsRest f g h k → IsRest f g' h k'
-rest_of {f = f} {g' = g'} {h = h} {k = k} e d r = subst (λ z. IsRest f g' h z) d (subst (λ z. IsRest f z h k) e r)
+pub less_product_of : {f g g' h k k' : Ratio} → g ≡ g' → k ≡ k' → IsLessProduct f g h k → IsLessProduct f g' h k'
+less_product_of {f = f} {g' = g'} {h = h} {k = k} e d r = subst (λ z. IsLessProduct f g' h z) d (subst (λ z. IsLessProduct f z h k) e r)
 
 pub divided_none : (old : List Entry) (divisor : Ratio) (j : ℕ) → entry_in old j ≡ none → IsDivided old divisor j none
 divided_none old divisor j e = subst (λ z. IsQuotient none z divisor) (sym e) record {
@@ -206,7 +206,7 @@ divided_none old divisor j e = subst (λ z. IsQuotient none z divisor) (sym e) r
 
 -- where the pivot row has 0 the row stays
 pub taken_same : (old : List Entry) (factor : Ratio) (pivots : List Entry) (j : ℕ) → entry_in pivots j ≡ none → IsTaken old factor pivots j (entry_in old j)
-taken_same old factor pivots j e = subst (λ z. IsRest (entry_in old j) (entry_in old j) factor z) (sym e) (rest_zero (entry_in old j) factor none (entry_above old j) (times_zero factor.numerator (pos 0) refl))
+taken_same old factor pivots j e = subst (λ z. IsLessProduct (entry_in old j) (entry_in old j) factor z) (sym e) (less_product_zero (entry_in old j) factor none (entry_above old j) (times_zero factor.numerator (pos 0) refl))
 
 pub taken_none : (old : List Entry) (factor : Ratio) (pivots : List Entry) (j : ℕ) → entry_in pivots j ≡ none → entry_in old j ≡ none → IsTaken old factor pivots j none
 taken_none old factor pivots j e g = subst (IsTaken old factor pivots j) g (taken_same old factor pivots j e)

@@ -12,7 +12,7 @@ use Rattle.tv_simplex.specs.Orders.{Feasible}
 use Rattle.tv_simplex.specs.Sums.{delta}
 use Rattle.tv_simplex.specs.Tableaus.{Tableau, Exchange}
 use Rattle.tv_simplex.specs.Chains.{order, objective, cost, column, Enters, Leaves, Step, IsChain, IsSystem, NoneNegative, Solves}
-use Rattle.tv_simplex.specs.Ratios.{Ratio, IsRatio, IsQuotient, IsRest, Shows, compared, IsExchanged, Exchanges}
+use Rattle.tv_simplex.specs.Ratios.{Ratio, IsRatio, IsQuotient, IsLessProduct, Shows, compared, IsExchanged, Exchanges}
 
 -- two quotients are compared as the products of what they are
 pub crossed : (f g : Ratio) (v w p q : ℤ) → IsRatio f v p → IsRatio g w q → (p *ℤ q) *ℤ compared f g ≡ (f.denominator *ℤ g.denominator) *ℤ (q *ℤ v -ℤ p *ℤ w)
@@ -25,8 +25,8 @@ crossed f g v w p q h k =
     omega (arith, ints, h1, h2, h3, h4)
 
 -- a difference of two products over one scale
-pub rest : (f g h k : Ratio) (u v w t s p : ℤ) → IsRatio g u s → IsRatio h v s → IsRatio k w p → IsRest f g h k → IsRatio f (p *ℤ u -ℤ v *ℤ w) (s *ℤ p)
-rest f g h k u v w t s p rg rh rk q =
+pub less_product : (f g h k : Ratio) (u v w t s p : ℤ) → IsRatio g u s → IsRatio h v s → IsRatio k w p → IsLessProduct f g h k → IsRatio f (p *ℤ u -ℤ v *ℤ w) (s *ℤ p)
+less_product f g h k u v w t s p rg rh rk q =
     let multiplied : Ratio = record { numerator = h.numerator *ℤ k.numerator; denominator = h.denominator *ℤ k.denominator } in
     difference f g multiplied (p *ℤ u) (v *ℤ w) (s *ℤ p)
     (ratio_same g (p *ℤ u) (p *ℤ u) (p *ℤ s) (s *ℤ p) (ratio_times g u s p rg) refl (*ℤ_comm p s))
@@ -107,7 +107,7 @@ module _ (a : ℕ → ℕ → ℤ) (m n : ℕ) (sys : IsSystem a m n) (b : List 
         let x = shows.table in
         let z = times_zero x.scale (delta i r) (delta-other i r h.0) in
         ratio_same f _ _ _ _
-        (rest f (read i j) (read i c) h.1.0 (x.entry i j) (x.entry i c) (x.entry r j) (pos 0) x.scale (x.entry r c) (shows.rows i j i_in j_in) (shows.rows i c i_in c_in) (quotient_read j h.1.0 j_in h.1.1) h.1.2)
+        (less_product f (read i j) (read i c) h.1.0 (x.entry i j) (x.entry i c) (x.entry r j) (pos 0) x.scale (x.entry r c) (shows.rows i j i_in j_in) (shows.rows i c i_in c_in) (quotient_read j h.1.0 j_in h.1.1) h.1.2)
         (ap (λ y. x.entry r c *ℤ x.entry i j -ℤ y *ℤ x.entry r j) (let g : x.entry i c ≡ x.entry i c -ℤ x.scale *ℤ delta i r = omega (arith, ints, z) in g))
         refl
 
@@ -117,7 +117,7 @@ module _ (a : ℕ → ℕ → ℤ) (m n : ℕ) (sys : IsSystem a m n) (b : List 
     next_objective j f j_in (inr h) =
         let x = shows.table in
         ratio_same f (x.entry r c *ℤ objective a m n (column b) x j -ℤ objective a m n (column b) x c *ℤ x.entry r j) (objective a m n (column (set b r c)) (next_tableau a m n (column b) (column (set b r c)) x r c leaves moved) j) (x.scale *ℤ x.entry r c) (x.scale *ℤ x.entry r c)
-        (rest f (read m j) (read m c) h.1.0 (objective a m n (column b) x j) (objective a m n (column b) x c) (x.entry r j) (pos 0) x.scale (x.entry r c) (shows.objective_row j j_in) (shows.objective_row c c_in) (quotient_read j h.1.0 j_in h.1.1) h.1.2)
+        (less_product f (read m j) (read m c) h.1.0 (objective a m n (column b) x j) (objective a m n (column b) x c) (x.entry r j) (pos 0) x.scale (x.entry r c) (shows.objective_row j j_in) (shows.objective_row c c_in) (quotient_read j h.1.0 j_in h.1.1) h.1.2)
         (sym (reduced_after m (cost m n) (column b) (column (set b r c)) x.scale x.entry r c leaves.within moved j))
         refl
 

@@ -1,6 +1,6 @@
 use Rattle.std.proofs.Common.{◌≡◌, ◌⊎◌, inl, inr, ℕ, zero, suc, ◌+◌, ◌<◌, ◌≤◌, List, [], ◌∷◌, length, get_or, set, Vec, arith, refl, sym, ap, ◌∙◌, subst}
 use Rattle.std.proofs.lemmas.List.{length-set}
-use Rattle.tv_simplex.specs.Ratios.{Ratio, IsQuotient, IsRest, IsExchanged}
+use Rattle.tv_simplex.specs.Ratios.{Ratio, IsQuotient, IsLessProduct, IsExchanged}
 use Rattle.tv_simplex.specs.declared.rows.Entry.{Entry}
 use Rattle.tv_simplex.specs.declared.stop.Stop.{Stop}
 use Rattle.tv_simplex.specs.declared.stop.Stop.TheVariants.{Wide, Scale, Memory}
@@ -99,8 +99,8 @@ module _ {A : Type 0} (width r c : ℕ) (rows : List (Vec Entry A)) (l : r < len
           (
             entry_in pivots j,
             quotient_of (entry_in pivots j) j (quotients.each j j_in),
-            subst (λ z. IsRest (entry_in z j) (read rows i j) (read rows i c) (entry_in pivots j)) (sym (there i o))
-                (subst (λ z. IsRest (entry_in (row_of cleared i) j) (read rows i j) z (entry_in pivots j)) (factors i i_in) ((h.cleared i i_in o).each j j_in)),
+            subst (λ z. IsLessProduct (entry_in z j) (read rows i j) (read rows i c) (entry_in pivots j)) (sym (there i o))
+                (subst (λ z. IsLessProduct (entry_in (row_of cleared i) j) (read rows i j) z (entry_in pivots j)) (factors i i_in) ((h.cleared i i_in o).each j j_in)),
           ),
         )
 
@@ -114,6 +114,6 @@ module _ {A : Type 0} (width r c : ℕ) (rows : List (Vec Entry A)) (l : r < len
           row_within = h.0;
           column_within = w.within;
           fraction = w.fraction;
-          is = inr (h.1, (entry_in pivots j, quotient_of (entry_in pivots j) j (quotients.each j w.within), subst (λ z. IsRest (ratio w.fraction) (read rows i j) z (entry_in pivots j)) (factors i h.0) w.is));
+          is = inr (h.1, (entry_in pivots j, quotient_of (entry_in pivots j) j (quotients.each j w.within), subst (λ z. IsLessProduct (ratio w.fraction) (read rows i j) z (entry_in pivots j)) (factors i h.0) w.is));
           wide = w.wide;
         }

@@ -29,7 +29,7 @@ pub record IsDifference (f g h : Ratio) : Type 0 where
       ≡ (g.numerator *ℤ h.denominator -ℤ h.numerator *ℤ g.denominator) *ℤ f.denominator
 
 -- f is g - h * k
-pub record IsRest (f g h k : Ratio) : Type 0 where
+pub record IsLessProduct (f g h k : Ratio) : Type 0 where
   pub positive : pos 0 <ℤ f.denominator
   pub same : f.numerator *ℤ (g.denominator *ℤ (h.denominator *ℤ k.denominator))
       ≡ (g.numerator *ℤ (h.denominator *ℤ k.denominator) -ℤ (h.numerator *ℤ k.numerator) *ℤ g.denominator) *ℤ f.denominator
@@ -49,7 +49,7 @@ compared f g = f.numerator *ℤ g.denominator -ℤ g.numerator *ℤ f.denominato
 abbrev pub IsExchanged : ℕ → ℕ → (ℕ → ℕ → Ratio) → ℕ → ℕ → Ratio → Type 0
 IsExchanged r c read i j f =
     ((i ≡ r) × IsQuotient f (read r j) (read r c))
-    ⊎ ((i ≡ r → ⊥) × ((q : Ratio) × IsQuotient q (read r j) (read r c) × IsRest f (read i j) (read i c) q))
+    ⊎ ((i ≡ r → ⊥) × ((q : Ratio) × IsQuotient q (read r j) (read r c) × IsLessProduct f (read i j) (read i c) q))
 
 -- how the places of the next table come from those of the last
 abbrev pub Exchanges : ℕ → ℕ → ℕ → ℕ → (ℕ → ℕ → Ratio) → (ℕ → ℕ → Ratio) → Type 0

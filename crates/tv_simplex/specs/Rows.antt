@@ -1,6 +1,6 @@
 use Rattle.std.specs.Prelude.{◌≡◌, ◌⊎◌, ℕ, ◌+◌, ◌^◌, ◌<◌, ◌≤◌, List, [], ◌∷◌, ◌++◌, length, map, get_or, cond, nat_eq, Vec, pos, unsigned_abs}
 use Rattle.tv_fraction.specs.declared.Fraction.{Fraction}
-use Rattle.tv_simplex.specs.Ratios.{Ratio, IsQuotient, IsRest}
+use Rattle.tv_simplex.specs.Ratios.{Ratio, IsQuotient, IsLessProduct}
 use Rattle.tv_simplex.specs.declared.rows.Entry.{Entry}
 
 abbrev pub ratio : Fraction → Ratio
@@ -82,7 +82,7 @@ IsDivided old divisor j f = IsQuotient f (entry_in old j) divisor
 
 -- the fraction of the old row, less the factor times that of the pivot row
 abbrev pub IsTaken : List Entry → Ratio → List Entry → ℕ → Ratio → Type 0
-IsTaken old factor pivots j f = IsRest f (entry_in old j) factor (entry_in pivots j)
+IsTaken old factor pivots j f = IsLessProduct f (entry_in old j) factor (entry_in pivots j)
 
 -- in the column stands a fraction that is not narrow, by this rule
 pub record IsWideBy (rule : ℕ → Ratio → Type 0) (width j : ℕ) : Type 0 where

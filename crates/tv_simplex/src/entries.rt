@@ -30,13 +30,15 @@ impl Model for Entries {
     ghost invariant = { λ e. AreOrdered 0 e.length e.kept.items };
 }
 
-/// How many of the numbers stand before the place.
-fn count_before(kept: &[Kept], place: usize) -> usize
+/// How many of the numbers stand before the place. Each has a place of its own, so where at most so many places lie from
+/// the first number's to this one, only so many numbers are searched.
+fn count_before(kept: &[Kept], place: usize, most: usize) -> usize
     ensures inside { result ≤ length kept.now }
     ensures front { (first end : ℕ) → AreOrdered first end kept.now → AreOrdered first place (take result kept.now) }
-    ensures back { (first end : ℕ) → AreOrdered first end kept.now → AreOrdered place end (drop result kept.now) }
+    ensures back { (first end : ℕ) → AreOrdered first end kept.now → place ≤ first + most → AreOrdered place end (drop result kept.now) }
 {
-    kept.partition_point(|kept| kept.place < place)
+    let (near, _) = kept.split_at(most.min(kept.len()));
+    near.partition_point(|kept| kept.place < place)
 }
 
 impl Entries {
@@ -88,8 +90,12 @@ impl Entries {
         requires few { length self.now < 2 ^ 32 }
         ensures { AreKept (λ j. get_or self.now (first + j) (pos 0)) first 0 count result.now }
     {
-        let (_, behind) = self.kept.split_at(count_before(&self.kept, first));
-        let (stretch, _) = behind.split_at(count_before(behind, first + count));
+        // At most so many of the entries before the first are 0: the others are kept.
+        let zeros = self.length - self.kept.len();
+        let passed = first.saturating_sub(zeros);
+        let (_, near) = self.kept.split_at(passed);
+        let (_, behind) = near.split_at(count_before(near, first, first - passed));
+        let (stretch, _) = behind.split_at(count_before(behind, first + count, count));
         stretch
     }
 }

@@ -2,7 +2,7 @@
 
 ghost use Rattle.std.specs.Prelude.{◌≡◌, ◌<◌, length, pos, ◌<ℤ◌, IsTrue, ◌↔◌};
 ghost use Rattle.tv_fraction.specs.Fraction.{numerator_of, IsNarrow};
-ghost use Rattle.tv_simplex.specs.Ratios.{IsQuotient, IsRest};
+ghost use Rattle.tv_simplex.specs.Ratios.{IsQuotient, IsLessProduct};
 ghost use Rattle.tv_simplex.specs.Rows.{ratio};
 ghost use Rattle.tv_simplex.specs.Scales.{ratio_at};
 
@@ -45,11 +45,11 @@ pub fn quotient(fraction: &Fraction, divisor: &Fraction) -> Fraction
 }
 
 /// A fraction less a product of two.
-pub fn rest(fraction: &Fraction, factor: &Fraction, pivot: &Fraction) -> Fraction
+pub fn less_product(fraction: &Fraction, factor: &Fraction, pivot: &Fraction) -> Fraction
     requires fraction { IsNarrow fraction.now }
     requires factor { IsNarrow factor.now }
     requires pivot { IsNarrow pivot.now }
-    ensures { IsRest (ratio result) (ratio fraction.now) (ratio factor.now) (ratio pivot.now) }
+    ensures { IsLessProduct (ratio result) (ratio fraction.now) (ratio factor.now) (ratio pivot.now) }
 {
     mul_sub(fraction, factor, pivot)
 }

@@ -4,7 +4,7 @@ ghost use Rattle.std.specs.Prelude.{◌≡◌, ℕ, [], IfOk, MatchOption};
 ghost use Rattle.tv_fraction.specs.Fraction.{IsNarrow};
 ghost use Rattle.tv_simplex.specs.Rows.{ratio, IsSparse, IsRow, IsTaken, IsWideBy, IsCopied, IsTakenOnce, IsWideOnce};
 
-use crate::fractions::{is_zero, rest};
+use crate::fractions::{is_zero, less_product};
 use crate::rows::{Entry, behind, fraction_of, front_at, put_last};
 use std::alloc::AllocError;
 use std::mem;
@@ -47,7 +47,7 @@ fn take_entry<'a>(
 {
     let column = pivot.column as usize;
     let left = copy_below(entries, column, made)?;
-    let new = rest(&front_at(left, column), factor, &fraction_of(pivot));
+    let new = less_product(&front_at(left, column), factor, &fraction_of(pivot));
     if !new.is_narrow() {
         return Ok(None);
     }

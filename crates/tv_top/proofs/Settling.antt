@@ -11,7 +11,7 @@ use Rattle.tv_cert_reader.specs.declared.kind.LineKind.TheVariants as kinds
 use Rattle.tv_cert_reader.specs.Wholes.{says}
 use Rattle.tv_check_text.specs.declared.text.TextFailing.{TextFailing}
 use Rattle.tv_check_text.specs.declared.text.TextFailing.TheVariants as certs
-use Rattle.tv_check_text.specs.Rest.{values_of}
+use Rattle.tv_check_text.specs.Verdicts.{values_of}
 use Rattle.tv_check_text.specs.Texts.{IsUnaccepted}
 use Rattle.tv_sound.specs.Following.{FollowsFrom}
 use Rattle.tv_sound.specs.Settled.{IsSettled}

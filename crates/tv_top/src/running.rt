@@ -174,7 +174,8 @@ fn answer_to<S: Source>(
     }
 }
 
-/// Answers the question of the words about the text that the source holds, or about a program that is made of loops, with lines that are written at the end.
+/// Answers the question of the words about the text that the source holds, or about a program that is made of loops, with lines that are
+/// written at the end.
 ///
 /// Where rows that hold on every run are looked for, the proposers are asked for candidates.
 pub fn run<S: Source, K: Sink>(

@@ -1,7 +1,7 @@
 use Rattle.std.proofs.Common.{◌↔◌, ◌+◌, IsTrue, arith, subst}
 use Rattle.tv_refute.specs.Frames.{known_at}
-use Rattle.tv_cert_reader.specs.declared.sort.Sort.TheVariants.{By}
-use Rattle.tv_cert_reader.specs.Sorts.{line_with}
+use Rattle.tv_cert_reader.specs.declared.number_line.NumberLine.TheVariants.{By}
+use Rattle.tv_cert_reader.specs.NumberLines.{line_with}
 use Rattle.tv_cert_reader.specs.Reading.{FailsBy}
 use Rattle.tv_cert_reader.specs.Parts.{AreNumbers}
 use Rattle.tv_cert_reader.proofs.ReadingLemmas.{at_exit}

@@ -1,7 +1,7 @@
 use Rattle.std.proofs.Common.{length, refl, sym, ap, ◌∙◌, subst, arith}
 use Rattle.tv_cases.specs.Systems.{cases_of}
 use Rattle.tv_cert_reader.proofs.ReadLemmas.{lines_few, refused}
-use Rattle.tv_check_text.specs.Rest.{is_proved, values_in}
+use Rattle.tv_check_text.specs.Verdicts.{is_proved, values_in}
 use Rattle.tv_check_text.specs.Texts.{IsUnaccepted}
 use Rattle.tv_check_text.proofs.TextLemmas.{fails_first, is_accepted, unaccepted}
 use Rattle.tv_check_text.proofs.text.check_text.Goals as goal

@@ -11,7 +11,7 @@ use Rattle.tv_cert_reader.specs.Wholes.{ReadsRest}
 use Rattle.tv_cert_reader.proofs.ReadingLemmas.{at_exit}
 use Rattle.tv_cert_reader.specs.LineGrammar.{line}
 use Rattle.tv_cert_reader.specs.CertificateGrammar.{at_line}
-use Rattle.tv_cert_reader.proofs.RestLemmas.{none_past, none_by, some_by, denied_root_fails, values_stop, piece_missing, denied_last_fails, denied_end_fails}
+use Rattle.tv_cert_reader.proofs.VerdictLemmas.{none_past, none_by, some_by, denied_root_fails, values_stop, piece_missing, denied_last_fails, denied_end_fails}
 use Rattle.tv_cert_reader.proofs.context.Context.denied.Goals as goal
 use Rattle.tv_cases.proofs.BeforeValue.{no_columns}
 

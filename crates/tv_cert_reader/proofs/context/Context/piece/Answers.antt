@@ -6,8 +6,8 @@ use Rattle.tv_cert.specs.Shapes.{PieceShape}
 use Rattle.tv_cert.proofs.MarkedLemmas.{both_packed, marked_packed}
 use Rattle.tv_cert_reader.specs.CertificateLines.{piece_lines}
 use Rattle.tv_cert_reader.specs.LineGrammar.{many}
-use Rattle.tv_cert_reader.specs.declared.sort.Sort.TheVariants.{Row, Rank}
-use Rattle.tv_cert_reader.specs.Sorts.{line_with}
+use Rattle.tv_cert_reader.specs.declared.number_line.NumberLine.TheVariants.{Row, Rank}
+use Rattle.tv_cert_reader.specs.NumberLines.{line_with}
 use Rattle.tv_cert_reader.specs.Reading.{FailsBy, Takes}
 use Rattle.tv_cert_reader.specs.Parts.{AreMany, IsWide}
 use Rattle.tv_cert_reader.specs.Heads.{IsPieceHead}

@@ -6,7 +6,7 @@ use Rattle.tv_cert.specs.AimViews.{aim_states}
 use Rattle.tv_cert_reader.specs.Reading.{Takes}
 use Rattle.tv_cert_reader.specs.Wholes.{ReadsRest}
 use Rattle.tv_cert_reader.proofs.ReadingLemmas.{at_exit}
-use Rattle.tv_cert_reader.proofs.RestLemmas.{proved_root_fails, start_fails, last_fails, end_fails}
+use Rattle.tv_cert_reader.proofs.VerdictLemmas.{proved_root_fails, start_fails, last_fails, end_fails}
 use Rattle.tv_cert_reader.proofs.context.Context.proved.Goals as goal
 use Rattle.tv_cases.proofs.BeforeValue.{no_columns}
 

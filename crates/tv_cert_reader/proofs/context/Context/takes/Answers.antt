@@ -2,8 +2,8 @@ use Rattle.std.proofs.Common.{◌+◌, refl, ◌∙◌, subst}
 use Rattle.tv_cases.specs.Systems.{cases_of}
 use Rattle.tv_cases.specs.Views.{case_view}
 use Rattle.tv_cert_reader.specs.LineGrammar.{many}
-use Rattle.tv_cert_reader.specs.declared.sort.Sort.TheVariants.{Draw, By}
-use Rattle.tv_cert_reader.specs.Sorts.{line_with}
+use Rattle.tv_cert_reader.specs.declared.number_line.NumberLine.TheVariants.{Draw, By}
+use Rattle.tv_cert_reader.specs.NumberLines.{line_with}
 use Rattle.tv_cert_reader.specs.Reading.{FailsBy}
 use Rattle.tv_cert_reader.specs.Parts.{AreMany, AreNumbers, IsWide, lists_in}
 use Rattle.tv_cert_reader.specs.Choices.{ReadsChoice}

@@ -6,8 +6,8 @@ use Rattle.tv_cases.specs.Views.{case_view}
 use Rattle.tv_cert.specs.Choices.{drawn_guards}
 use Rattle.tv_cert.specs.OwesViews.{destination_owes}
 use Rattle.tv_cert_reader.specs.LineGrammar.{many, by}
-use Rattle.tv_cert_reader.specs.declared.sort.Sort.TheVariants.{Draw}
-use Rattle.tv_cert_reader.specs.Sorts.{line_with}
+use Rattle.tv_cert_reader.specs.declared.number_line.NumberLine.TheVariants.{Draw}
+use Rattle.tv_cert_reader.specs.NumberLines.{line_with}
 use Rattle.tv_cert_reader.specs.Reading.{FailsBy}
 use Rattle.tv_cert_reader.specs.Parts.{AreMany, IsWide}
 use Rattle.tv_cert_reader.proofs.ReadingLemmas.{at_exit}

@@ -76,7 +76,7 @@ fn is_told(alloc: Global, task: &Task, end: &str, wanted: Option<TextFailing>) -
 }
 
 #[test]
-fn a_cover_is_judged(rt: HostRuntime) -> Result<(), Fail> {
+fn a_cover_is_checked(rt: HostRuntime) -> Result<(), Fail> {
     let task = claimed(rt.alloc(), STANDING, "[AF](x > 5)")?;
     for (end, wanted) in COVERS {
         assert!(rt; is_told(rt.alloc(), &task, end, wanted)?, "{end}");
@@ -85,7 +85,7 @@ fn a_cover_is_judged(rt: HostRuntime) -> Result<(), Fail> {
 }
 
 #[test]
-fn a_choice_is_judged(rt: HostRuntime) -> Result<(), Fail> {
+fn a_choice_is_checked(rt: HostRuntime) -> Result<(), Fail> {
     let task = claimed(rt.alloc(), STANDING, "[AF](x > 5)")?;
     for (end, wanted) in CHOICES {
         assert!(rt; is_told(rt.alloc(), &task, end, wanted)?, "{end}");

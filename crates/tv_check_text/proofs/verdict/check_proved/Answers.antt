@@ -8,10 +8,10 @@ use Rattle.tv_cert_reader.specs.Covers.{IsCoverWithin}
 use Rattle.tv_cert_reader.specs.Reading.{Takes, FailsBy}
 use Rattle.tv_cert_reader.specs.Values.{start_counts}
 use Rattle.tv_cert_reader.proofs.ReadingLemmas.{at_exit}
-use Rattle.tv_cert_reader.proofs.RestLemmas.{proved_root_fails, start_fails, last_fails, end_fails}
-use Rattle.tv_check_text.specs.Rest.{ChecksProved}
-use Rattle.tv_check_text.proofs.RestLemmas.{proved_checked}
-use Rattle.tv_check_text.proofs.rest.check_proved.Goals as goal
+use Rattle.tv_cert_reader.proofs.VerdictLemmas.{proved_root_fails, start_fails, last_fails, end_fails}
+use Rattle.tv_check_text.specs.Verdicts.{ChecksProved}
+use Rattle.tv_check_text.proofs.VerdictLemmas.{proved_checked}
+use Rattle.tv_check_text.proofs.verdict.check_proved.Goals as goal
 use Rattle.tv_cases.proofs.BeforeValue.{no_columns}
 
 pub returns-in_err-root : goal.returns-in_err-root

@@ -1,11 +1,11 @@
 ghost use Rattle.std.specs.Prelude.{◌≡◌};
-ghost use Rattle.tv_cert_reader.specs.Sorts.{head_of};
+ghost use Rattle.tv_cert_reader.specs.NumberLines.{head_of};
 
 use tv_lines::Head;
 
 /// A line of numbers, of which it is told how many there are.
 #[derive(Clone, Copy)]
-pub enum Sort {
+pub enum NumberLine {
     Header,
     Row,
     Rank,
@@ -14,18 +14,18 @@ pub enum Sort {
     End,
 }
 
-impl Sort {
+impl NumberLine {
     /// What begins the line.
     pub fn head(self) -> Head
         ensures { result ≡ head_of self }
     {
         match self {
-            Sort::Header => Head::Header,
-            Sort::Row => Head::Row,
-            Sort::Rank => Head::Rank,
-            Sort::Draw => Head::Draw,
-            Sort::By => Head::By,
-            Sort::End => Head::End,
+            NumberLine::Header => Head::Header,
+            NumberLine::Row => Head::Row,
+            NumberLine::Rank => Head::Rank,
+            NumberLine::Draw => Head::Draw,
+            NumberLine::By => Head::By,
+            NumberLine::End => Head::End,
         }
     }
 }

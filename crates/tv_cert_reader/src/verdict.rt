@@ -10,8 +10,8 @@ use crate::failure::Failure;
 use crate::kind::LineKind;
 use crate::lines::take;
 use crate::natural::natural;
+use crate::number_line::NumberLine;
 use crate::rows::numbers;
-use crate::sort::Sort;
 use std::alloc::Global;
 use tv_cert::{Aim, Node, Pieces, Verdict};
 use tv_linear::{Cover, MAX_SPLITS, widened};
@@ -80,7 +80,7 @@ impl Context<'_> {
     {
         let root = self.node(cursor, aim)?;
         let start = self.start(cursor, &root.pieces)?;
-        numbers(self.alloc, cursor, Sort::End, 0)?;
+        numbers(self.alloc, cursor, NumberLine::End, 0)?;
         finish(self.alloc, cursor)?;
         Ok((root, Verdict::Proved(start)))
     }
@@ -98,7 +98,7 @@ impl Context<'_> {
         if root.pieces.at(self.about.start(), piece).is_none() {
             return Err(Failure::Fault(LineKind::Shape, cursor.taken));
         }
-        numbers(self.alloc, cursor, Sort::End, 0)?;
+        numbers(self.alloc, cursor, NumberLine::End, 0)?;
         finish(self.alloc, cursor)?;
         Ok((root, Verdict::Disproved { piece, values }))
     }

@@ -6,8 +6,8 @@ use Rattle.tv_cert_reader.specs.Reading.{Takes}
 use Rattle.tv_cert_reader.specs.Texts.{sides_of}
 use Rattle.tv_cert_reader.proofs.ReadingLemmas.{at_exit}
 use Rattle.tv_cert_reader.proofs.ReadLemmas.{opening_fails, saying_fails}
-use Rattle.tv_check_text.specs.Rest.{ChecksWhole}
-use Rattle.tv_check_text.proofs.rest.check_whole.Goals as goal
+use Rattle.tv_check_text.specs.Verdicts.{ChecksWhole}
+use Rattle.tv_check_text.proofs.verdict.check_whole.Goals as goal
 use Rattle.tv_cases.proofs.BeforeValue.{no_columns}
 
 pub returns-in_err-numbers : goal.returns-in_err-numbers

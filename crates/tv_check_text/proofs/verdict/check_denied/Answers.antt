@@ -12,10 +12,10 @@ use Rattle.tv_cert_reader.specs.LineGrammar.{line}
 use Rattle.tv_cert_reader.specs.CertificateGrammar.{at_line}
 use Rattle.tv_cert_reader.specs.Reading.{Takes, FailsBy}
 use Rattle.tv_cert_reader.proofs.ReadingLemmas.{at_exit}
-use Rattle.tv_cert_reader.proofs.RestLemmas.{none_past, none_by, some_by, denied_root_fails, values_stop, piece_missing, denied_last_fails, denied_end_fails}
-use Rattle.tv_check_text.specs.Rest.{ChecksDenied}
-use Rattle.tv_check_text.proofs.RestLemmas.{denied_checked, pieces_over, there_by}
-use Rattle.tv_check_text.proofs.rest.check_denied.Goals as goal
+use Rattle.tv_cert_reader.proofs.VerdictLemmas.{none_past, none_by, some_by, denied_root_fails, values_stop, piece_missing, denied_last_fails, denied_end_fails}
+use Rattle.tv_check_text.specs.Verdicts.{ChecksDenied}
+use Rattle.tv_check_text.proofs.VerdictLemmas.{denied_checked, pieces_over, there_by}
+use Rattle.tv_check_text.proofs.verdict.check_denied.Goals as goal
 use Rattle.tv_cases.proofs.BeforeValue.{no_columns}
 
 pub returns-in_err-root : goal.returns-in_err-root

@@ -4,20 +4,21 @@ ghost use Rattle.tv_cert.specs.AimViews.{aim_states};
 ghost use Rattle.tv_cert.specs.declared.node.Kind.TheVariants as kinds;
 ghost use Rattle.tv_cert_reader.specs.Texts.{sides_of};
 ghost use Rattle.tv_check_text.specs.Settling.{first_failing};
-ghost use Rattle.tv_check_text.specs.Rest.{IsFresh, ChecksProved, ChecksDenied, ChecksWhole};
+ghost use Rattle.tv_check_text.specs.Verdicts.{IsFresh, ChecksProved, ChecksDenied, ChecksWhole};
 
 use crate::checker::Checker;
 use crate::proof::start_is_covered;
 use crate::visiting::first_failing;
 use tv_cert::{Aim, Claim, Failing, Kind};
-use tv_cert_reader::{Context, Failure, LineKind, Sort, Walk, finish, numbers, said, values};
+use tv_cert_reader::{Context, Failure, LineKind, NumberLine, Walk, finish, numbers, said, values};
 use tv_check::is_inside;
 
 /// Takes note of the last obligation, which is the root's.
 fn settle_root(checker: &mut Checker, met: bool)
     requires { checker.old.seen < 2 ^ 32 }
     ensures seen { checker.new.seen ≡ checker.old.seen + 1 }
-    ensures failing { checker.new.failing ≡ first_failing checker.old.failing met (record { number = checker.old.seen + 1; node = 0; kind = kinds.Root }) }
+    ensures failing { checker.new.failing ≡ first_failing checker.old.failing met
+        (record { number = checker.old.seen + 1; node = 0; kind = kinds.Root }) }
 {
     let number = checker.seen + 1;
     let failing = Failing {
@@ -37,7 +38,7 @@ fn check_proved(context: &Context, walk: &mut Walk<Checker>, aim: &Aim) -> Resul
     let root = walk.node(context.about, aim)?;
     let met = start_is_covered(context, &mut walk.cursor, &root.pieces)?;
     settle_root(&mut walk.taker, met);
-    numbers(context.alloc, &mut walk.cursor, Sort::End, 0)?;
+    numbers(context.alloc, &mut walk.cursor, NumberLine::End, 0)?;
     finish(context.alloc, &mut walk.cursor)?;
     Ok(())
 }
@@ -63,7 +64,7 @@ fn check_denied(
     }
     let met = is_inside(&root.pieces, about.start(), piece, &values);
     settle_root(&mut walk.taker, met);
-    numbers(context.alloc, &mut walk.cursor, Sort::End, 0)?;
+    numbers(context.alloc, &mut walk.cursor, NumberLine::End, 0)?;
     finish(context.alloc, &mut walk.cursor)?;
     Ok(values)
 }
@@ -77,7 +78,7 @@ pub fn check_whole(
     requires fresh { IsFresh walk.old }
     ensures { ChecksWhole (cases_of context.now.about.now) (sides_of claim.now) walk.old walk.new.taker result }
 {
-    numbers(context.alloc, &mut walk.cursor, Sort::Header, 0)?;
+    numbers(context.alloc, &mut walk.cursor, NumberLine::Header, 0)?;
     if said(context.alloc, &mut walk.cursor)? {
         check_proved(context, walk, claim.proved_aim())?;
         Ok(None)

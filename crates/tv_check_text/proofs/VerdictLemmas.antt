@@ -33,7 +33,7 @@ use Rattle.tv_cert_reader.specs.declared.walk.Walk.{Walk}
 use Rattle.tv_cert_reader.specs.Walks.{IsWalked}
 use Rattle.tv_check_text.specs.declared.checker.Checker.{Checker}
 use Rattle.tv_check_text.specs.Checking.{CheckedCover}
-use Rattle.tv_check_text.specs.Rest.{IsFresh, IsCheckedRest, all_entries}
+use Rattle.tv_check_text.specs.Verdicts.{IsFresh, IsCheckedRest, all_entries}
 use Rattle.tv_check_text.specs.Settling.{Settles, first_failing, ChecksEntry, uncounted}
 use Rattle.tv_check_text.proofs.SettlingLemmas.{settles_both, settles_one, all_settled}
 
