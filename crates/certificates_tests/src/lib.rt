@@ -1,10 +1,12 @@
-//! The tests of certificates: of their pieces, their shape, and what is told of their texts. They go through public calls alone.
+//! The tests of certificates: of their pieces, their shape, their copies, and what is told of their texts. They go through public calls alone.
 #![tactic(auto)]
 
 #[cfg(test)]
 mod accepted;
 #[cfg(test)]
 mod checked;
+#[cfg(test)]
+mod copies;
 #[cfg(test)]
 mod pieces;
 #[cfg(test)]

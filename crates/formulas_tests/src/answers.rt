@@ -153,6 +153,28 @@ const TERMINATION: &[Example] = &[
     (BOTH_WAYS, "[EX](!term)", Wanted::Disproved),
 ];
 
+/// Arguments that are equal, of which the second is a copy of the first.
+const EQUAL: &[Example] = &[
+    (LOOP, "[AF](x <= 0) && [AF](x <= 0)", Wanted::Proved),
+    (LOOP, "[AF](x < 0) || [AF](x < 0)", Wanted::Disproved),
+    (
+        LOOP,
+        "[AU](x <= 0 || [AX](term))(x <= 0 || [AX](term))",
+        Wanted::Proved,
+    ),
+    (
+        CLIMBER,
+        "[EU](x > 0 && [EX](x > 1))(x > 0 && [EX](x > 1))",
+        Wanted::Disproved,
+    ),
+    (LOOP, "term && term", Wanted::Proved),
+    (
+        BOTH_WAYS,
+        "[AF](x == 100) || [AF](x == 100)",
+        Wanted::Open(1),
+    ),
+];
+
 /// Ends on every run of a ranked program, where no state is neither at the end nor on the way: the rows of such states have a rational point,
 /// and no whole one. In the last example that takes more splits than there are, and the rounds are open.
 const RANKED: &[Example] = &[
@@ -219,6 +241,17 @@ fn paths_are_told(rt: HostRuntime) -> Result<(), Fail> {
 #[test]
 fn termination_is_told(rt: HostRuntime) -> Result<(), Fail> {
     for (program, property, wanted) in TERMINATION {
+        assert!(rt;
+            is_said_of_texts(rt.alloc(), program, property, &AMPLE, wanted)?,
+            "{property}"
+        );
+    }
+    Ok(())
+}
+
+#[test]
+fn equal_arguments_are_told(rt: HostRuntime) -> Result<(), Fail> {
+    for (program, property, wanted) in EQUAL {
         assert!(rt;
             is_said_of_texts(rt.alloc(), program, property, &AMPLE, wanted)?,
             "{property}"

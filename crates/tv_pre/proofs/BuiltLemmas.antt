@@ -1,5 +1,5 @@
 -- Regions that are built of the atoms of a formula.
-use Rattle.std.proofs.Common.{◌<◌, length, get_or, ◌≡◌, inl, inr, ℕ, suc, ◌+◌, ◌-◌, ◌≤◌, List, [], ◌∷◌, refl, sym, subst, arith}
+use Rattle.std.proofs.Common.{◌<◌, length, get_or, ◌≡◌, inl, inr, ℕ, suc, ◌+◌, ◌≤◌, List, [], ◌∷◌, refl, sym, subst, arith}
 use Rattle.std.specs.Prelude.{Contains}
 use Rattle.std.proofs.lemmas.List.{append-nil}
 use Rattle.std.proofs.lemmas.List.Elements.{Contains-get_or}
@@ -20,7 +20,7 @@ use Rattle.tv_pre.specs.declared.fault.PreFault.{PreFault}
 use Rattle.tv_pre.specs.declared.fault.PreFault.TheVariants as faults
 use Rattle.tv_pre.specs.Questions.{Question}
 use Rattle.tv_pre.specs.Parts.{joined_pieces}
-use Rattle.tv_pre.specs.Built.{HasAtom, IsBuilt, of_atom, of_everywhere, of_nowhere, of_joined, of_both, of_either, of_rest, of_any, of_every, AreBuilt, ArePiecesBuilt, IsRefusedRegion, in_both, in_either, in_rest, in_any, in_every, IsAsked, of_place, of_steps, of_choice, IsPreFault}
+use Rattle.tv_pre.specs.Built.{HasAtom, IsBuilt, of_atom, of_everywhere, of_nowhere, of_joined, of_same, of_both, of_either, of_rest, of_any, of_every, AreBuilt, ArePiecesBuilt, IsRefusedRegion, in_both, in_either, in_rest, in_any, in_every, IsAsked, of_place, of_steps, of_choice, IsPreFault}
 use Rattle.tv_rounds.proofs.MadeLemmas.{lift_to}
 
 -- ---- more steps back
@@ -30,6 +30,7 @@ module _ (about : CaseSystem) where
   built_up s h _ (of_everywhere _ r is) = of_everywhere (suc h) r is
   built_up s h _ (of_nowhere _ r is) = of_nowhere (suc h) r is
   built_up s h _ (of_joined _ rs r each is) = of_joined (suc h) rs r (λ x m. built_up s h x (each x m)) is
+  built_up s h _ (of_same _ a r f e) = of_same (suc h) a r (built_up s h a f) e
   built_up s h _ (of_both _ a b r f g is) = of_both (suc h) a b r (built_up s h a f) (built_up s h b g) is
   built_up s h _ (of_either _ a b r f g is) = of_either (suc h) a b r (built_up s h a f) (built_up s h b g) is
   built_up s h _ (of_rest _ a r f is) = of_rest (suc h) a r (built_up s h a f) is
@@ -79,6 +80,7 @@ module _ (about : CaseSystem) where
     built_wider h _ (of_everywhere _ r is) = of_everywhere h r is
     built_wider h _ (of_nowhere _ r is) = of_nowhere h r is
     built_wider h _ (of_joined _ rs r each is) = of_joined h rs r (λ x m. built_wider h x (each x m)) is
+    built_wider h _ (of_same _ a r f e) = of_same h a r (built_wider h a f) e
     built_wider h _ (of_both _ a b r f g is) = of_both h a b r (built_wider h a f) (built_wider h b g) is
     built_wider h _ (of_either _ a b r f g is) = of_either h a b r (built_wider h a f) (built_wider h b g) is
     built_wider h _ (of_rest _ a r f is) = of_rest h a r (built_wider h a f) is

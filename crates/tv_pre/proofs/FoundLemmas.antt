@@ -1,7 +1,6 @@
 -- What is found of a formula, from what is found of its arguments.
-use Rattle.std.proofs.Common.{zero, ◌<◌, length, get_or, take, ◌≡◌, inl, inr, ℕ, suc, ◌+◌, ◌≤◌, List, [], ◌∷◌, ◌++◌, map, refl, sym, ap, ◌∙◌, subst, arith}
+use Rattle.std.proofs.Common.{zero, ◌<◌, length, get_or, ◌≡◌, inl, inr, ℕ, suc, ◌+◌, ◌≤◌, List, [], ◌∷◌, ◌++◌, refl, sym, ap, ◌∙◌, subst, arith}
 use Rattle.std.specs.Prelude.{All, Option, None, Some, IfSome, sum}
-use Rattle.std.proofs.lemmas.List.{take_more, map-append}
 use Rattle.std.proofs.lemmas.List.Elements.{All-nil, All-cons}
 use Rattle.tv_formula.specs.declared.tree.Path.{Path}
 use Rattle.tv_formula.specs.declared.tree.Shape.{Shape}
@@ -449,21 +448,18 @@ module _ (about : CaseSystem) (last : ℕ) where
   }
 
   -- ---- arguments one after the other
-  pub arguments_more : (aims : List Aim) (i : ℕ) (aim : Aim) (found : Found) (old new : Arguments) → i < length aims → aim ≡ get_or aims i aim → AreArguments about last (map aim_states (take i aims)) old → IsFound about last (aim_states aim) found →
-      new.regions.items ≡ old.regions.items ++ found.part.region ∷ [] → new.nodes.items ≡ old.nodes.items ++ found.part.node ∷ [] → new.size ≡ old.size + found.size → new.gap ≡ first_of old.gap (gap_behind (1 + old.size) found.gap) → AreArguments about last (map aim_states (take (i + 1) aims)) new
-  arguments_more aims i aim found old new l e h f r n z g =
-      let before = map aim_states (take i aims) in
-      let next : map aim_states (take (i + 1) aims) ≡ before ++ aim_states aim ∷ [] = ap (map aim_states) (take_more aims i aim l) ∙ map-append aim_states (take i aims) (get_or aims i aim ∷ []) ∙ ap (λ (a : Aim). before ++ aim_states a ∷ []) (sym e) in
-      subst (λ ss. AreArguments about last ss new) (sym next) (record {
-        each = subst (λ rs. AreEachArgument about last (before ++ aim_states aim ∷ []) rs new.nodes.items) (sym r)
-            (subst (λ ns. AreEachArgument about last (before ++ aim_states aim ∷ []) (old.regions.items ++ found.part.region ∷ []) ns) (sym n)
-            (argument_more before old.regions.items old.nodes.items (aim_states aim) found.part.region found.part.node h.each (found_argument (aim_states aim) found f)));
-        size = z ∙ (λ j. h.size j + f.size j) ∙ sym (total_more before (aim_states aim));
-        full = λ none.
-            (let so = none_of_two old.gap (gap_behind (1 + old.size) found.gap) (sym g ∙ none) in
-            subst (AreFullFor about (before ++ aim_states aim ∷ [])) (sym r) (full_more before old.regions.items (aim_states aim) found.part.region (h.full so.0) (f.full (none_behind (1 + old.size) found.gap so.1))));
-        gap = subst (λ o. IfSome o (IsGapAmong about last (statements_of (before ++ aim_states aim ∷ [])))) (sym g) (among_more about last before (aim_states aim) old.size h.size old.gap found.gap h.gap f.gap);
-      })
+  pub argument_added : (before : List Statement) (s : Statement) (found : Found) (old new : Arguments) → AreArguments about last before old → IsFound about last s found →
+      new.regions.items ≡ old.regions.items ++ found.part.region ∷ [] → new.nodes.items ≡ old.nodes.items ++ found.part.node ∷ [] → new.size ≡ old.size + found.size → new.gap ≡ first_of old.gap (gap_behind (1 + old.size) found.gap) → AreArguments about last (before ++ s ∷ []) new
+  argument_added before s found old new h f r n z g = record {
+    each = subst (λ rs. AreEachArgument about last (before ++ s ∷ []) rs new.nodes.items) (sym r)
+        (subst (λ ns. AreEachArgument about last (before ++ s ∷ []) (old.regions.items ++ found.part.region ∷ []) ns) (sym n)
+        (argument_more before old.regions.items old.nodes.items s found.part.region found.part.node h.each (found_argument s found f)));
+    size = z ∙ (λ j. h.size j + f.size j) ∙ sym (total_more before s);
+    full = λ none.
+        (let so = none_of_two old.gap (gap_behind (1 + old.size) found.gap) (sym g ∙ none) in
+        subst (AreFullFor about (before ++ s ∷ [])) (sym r) (full_more before old.regions.items s found.part.region (h.full so.0) (f.full (none_behind (1 + old.size) found.gap so.1))));
+    gap = subst (λ o. IfSome o (IsGapAmong about last (statements_of (before ++ s ∷ [])))) (sym g) (among_more about last before s old.size h.size old.gap found.gap h.gap f.gap);
+  }
 
   pub first_arguments : (new : Arguments) → new.regions.items ≡ [] → new.nodes.items ≡ [] → new.size ≡ 0 → new.gap ≡ None → AreArguments about last [] new
   first_arguments new r n z o = record {

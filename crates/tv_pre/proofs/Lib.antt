@@ -37,6 +37,9 @@ pub mod FormulaLemmas
 pub mod EvenLemmas
 pub mod SizedAtoms
 pub mod FoundLemmas
+pub mod ArgumentLemmas
+pub mod SameRegionLemmas
+pub mod SameFoundLemmas
 pub mod PassedLemmas
 pub mod RankedAlongLemmas
 pub mod BetweenLemmas

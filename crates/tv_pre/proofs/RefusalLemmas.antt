@@ -2,7 +2,6 @@
 use Rattle.std.proofs.Common.{◌≡◌, zero, suc, List, [], ◌∷◌, arith, refl, sym, subst}
 use Rattle.std.specs.Prelude.{Contains}
 use Rattle.tv_linear.specs.Linear.{Linear}
-use Rattle.tv_linear.specs.declared.fault.RowFault.TheVariants as row
 use Rattle.tv_linear.specs.declared.region.Piece.{Piece}
 use Rattle.tv_linear.specs.declared.region.Region.{Region}
 use Rattle.tv_cases.specs.LinearCases.{LinearCase, CaseSystem}

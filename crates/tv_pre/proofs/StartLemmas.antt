@@ -12,7 +12,6 @@ use Rattle.tv_linear.specs.Linear.{Linear, IsMet}
 use Rattle.tv_linear.specs.Known.{given, as_given}
 use Rattle.tv_linear.specs.Covers.{IsMetCover}
 use Rattle.tv_linear.specs.declared.cover.CoverTree.{CoverTree}
-use Rattle.tv_linear.specs.declared.cover.CoverTree as cover
 use Rattle.tv_linear.specs.declared.region.Piece.{Piece}
 use Rattle.tv_linear.specs.declared.region.Region.{Region}
 use Rattle.tv_linear.proofs.ListLaws.{test_true}

@@ -1,5 +1,5 @@
 -- Covers of steps, and why there is no hole where each step leads inside.
-use Rattle.std.proofs.Common.{◌≡◌, ℕ, zero, suc, ◌+◌, ◌-◌, ◌≤◌, List, [], ◌∷◌, ◌++◌, length, map, take, drop, All, Option, None, Some, Bool, true, false, cond, slice_get, ◌==◌, arith, refl, sym, ap, ◌∙◌, subst, ℤ, pos, ◌≤ℤ◌}
+use Rattle.std.proofs.Common.{◌≡◌, ℕ, zero, suc, ◌+◌, ◌≤◌, List, [], ◌∷◌, ◌++◌, length, map, take, drop, All, Option, None, Some, Bool, true, false, cond, slice_get, ◌==◌, arith, refl, sym, ap, ◌∙◌, subst, ℤ, pos, ◌≤ℤ◌}
 use Rattle.std.specs.Prelude.{Contains}
 use Rattle.std.specs.Option.{option_map}
 use Rattle.std.proofs.lemmas.List.Elements.{All-nil, All-cons, All-head, All-tail, All-contains}

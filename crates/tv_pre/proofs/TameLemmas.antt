@@ -13,9 +13,10 @@ use Rattle.tv_cert.specs.Statements.{Statement, rows, here, elsewhere, ends, nev
 use Rattle.tv_region.specs.Met.{InSome}
 use Rattle.tv_region.specs.Regions.{IsPieceOf, HasRow, lists_at}
 use Rattle.tv_region.specs.Differences.{IsDifference, AreOfDifferences, IsOfDifferences}
-use Rattle.tv_pre.specs.Built.{HasAtom, atom_lists, IsAtomRegion, IsBuilt, of_atom, of_everywhere, of_nowhere, of_joined, of_both, of_either, of_rest, of_any, of_every}
+use Rattle.tv_pre.specs.Built.{HasAtom, atom_lists, IsAtomRegion, IsBuilt, of_atom, of_everywhere, of_nowhere, of_joined, of_same, of_both, of_either, of_rest, of_any, of_every}
 use Rattle.tv_pre.specs.Finding.{AreAtomsOfDifferences, IsTameStatement, IsTameFor}
 use Rattle.tv_pre.specs.Parts.{joined_pieces}
+use Rattle.tv_pre.proofs.SameRegionLemmas.{same_lists}
 
 -- ---- rows of pieces
 
@@ -80,6 +81,8 @@ module _ (about : CaseSystem) (s : Statement) (atoms : AreAtomsOfDifferences s) 
     built_differences h _ (of_nowhere _ region is) = λ r m. absurd (subst (λ ps. InSome (lists_at m.0 ps) r) is.none m.1)
     built_differences h _ (of_joined _ regions region each is) = λ r m.
         (let w = joined_row m.0 regions r (subst (λ ps. InSome (lists_at m.0 ps) r) is.pieces m.1) in built_differences h w.0 (each w.0 w.1) r w.2)
+    built_differences h _ (of_same _ a region f e) = λ r m.
+        built_differences h a f r (m.0, subst (λ ls. InSome ls r) (same_lists m.0 a.pieces.items region.pieces.items e.pieces) m.1)
     built_differences h _ (of_both _ a b region f g is) = is.differences (built_differences h a f) (built_differences h b g)
     built_differences h _ (of_either _ a b region f g is) = is.differences (built_differences h a f) (built_differences h b g)
     built_differences h _ (of_rest _ a region f is) = is.differences (built_differences h a f)

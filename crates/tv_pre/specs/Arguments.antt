@@ -7,7 +7,8 @@ use Rattle.tv_cert.specs.AimViews.{statements_of}
 use Rattle.tv_cert.specs.Statements.{Statement}
 use Rattle.tv_region.specs.Regions.{IsRegion}
 use Rattle.tv_pre.specs.declared.finding.Arguments.{Arguments}
-use Rattle.tv_pre.specs.Finding.{IsGapAmong, IsPartFor, IsFullFor, steps_back, total_size}
+use Rattle.tv_pre.specs.declared.outcome.Found.{Found}
+use Rattle.tv_pre.specs.Finding.{IsGapAmong, IsPartFor, IsFullFor, IsFound, steps_back, total_size}
 use Rattle.tv_pre.specs.Built.{IsBuilt}
 use Rattle.tv_pre.specs.Sized.{IsFewFor}
 
@@ -44,3 +45,9 @@ pub record AreArguments (about : CaseSystem) (last : ℕ) (ss : List Statement) 
 -- their regions are over the cases
 abbrev pub AreArgumentsOf : CaseSystem → Arguments → Type 0
 AreArgumentsOf about arguments = All (IsRegion about.variables about.locations) arguments.regions.items
+
+-- what was found of the first of the statements, in order
+abbrev pub AreFoundFirst : CaseSystem → ℕ → List Statement → List Found → Type 0
+AreFoundFirst about last ss [] = Unit {0}
+AreFoundFirst about last [] (found ∷ founds) = ⊥
+AreFoundFirst about last (s ∷ ss) (found ∷ founds) = IsFound about last s found × AreFoundFirst about last ss founds

@@ -6,6 +6,7 @@ use Rattle.tv_linear.specs.declared.region.Region.{Region}
 use Rattle.tv_cases.specs.LinearCases.{LinearCase, CaseSystem}
 use Rattle.tv_cert.specs.Obligations.{truth_targets}
 use Rattle.tv_cert.specs.Statements.{Statement, rows, here, elsewhere, ends, never_ends, each_of, one_of, after, along, unsaid, Statements, no_statement, statement}
+use Rattle.tv_copy.specs.SameRegions.{SameRegion}
 use Rattle.tv_farkas.specs.declared.budget.Budget.{Budget}
 use Rattle.tv_farkas.specs.declared.fault.CoverFault.{CoverFault}
 use Rattle.tv_farkas.specs.declared.fault.CoverFault.TheVariants as covers
@@ -62,14 +63,15 @@ pub record IsAtomRegion (about : CaseSystem) (a : Statement) (region : Region) :
 
 -- ---- regions
 
--- The region is that of an atom of the statement, or has all states or none, or the pieces of such regions in order, or a call on such
--- regions gives it. On the way to it at most h times a step is gone back.
+-- The region is that of an atom of the statement, or has all states or none, or the pieces of such regions in order, or is a copy of such a
+-- region, or a call on such regions gives it. On the way to it at most h times a step is gone back.
 pub data IsBuilt (about : CaseSystem) (s : Statement) : ℕ → Region → Type 0 where
   of_atom : (h : ℕ) (a : Statement) (region : Region) → HasAtom s a → IsAtomRegion about a region → IsBuilt about s h region
   of_everywhere : (h : ℕ) (region : Region) → IsEverywhere about region → IsBuilt about s h region
   of_nowhere : (h : ℕ) (region : Region) → IsNowhere about region → IsBuilt about s h region
   of_joined : (h : ℕ) (regions : List Region) (region : Region) → ((r : Region) → Contains regions r → IsBuilt about s h r) →
       IsJoined about regions region → IsBuilt about s h region
+  of_same : (h : ℕ) (a region : Region) → IsBuilt about s h a → SameRegion a region → IsBuilt about s h region
   of_both : (h : ℕ) (a b region : Region) → IsBuilt about s h a → IsBuilt about s h b → IsBoth a b region → IsBuilt about s h region
   of_either : (h : ℕ) (a b region : Region) → IsBuilt about s h a → IsBuilt about s h b → IsEither a b region → IsBuilt about s h region
   of_rest : (h : ℕ) (a region : Region) → IsBuilt about s h a → IsRest a region → IsBuilt about s h region

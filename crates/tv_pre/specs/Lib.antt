@@ -25,6 +25,7 @@ pub mod Ending
 pub mod Lowering
 pub mod RankedUntil
 pub mod Search
+pub mod Copies
 pub mod Arguments
 pub mod RankedAlong
 pub mod Told

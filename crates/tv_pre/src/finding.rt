@@ -1,13 +1,16 @@
 // The region and the node of each subformula, from those of its arguments.
 
 ghost use Rattle.std.specs.Prelude.{◌≡◌, ◌≤◌, ◌+◌, ◌++◌, ◌∷◌, ℕ, None, List, [], map, IfOk, IfSome};
+ghost use Rattle.std.specs.List.{AllZip};
 ghost use Rattle.std.specs.Result.{IfErr};
 ghost use Rattle.tv_formula.specs.Properties.{Property};
+ghost use Rattle.tv_cases.specs.LinearCases.{CaseSystem};
 ghost use Rattle.tv_cases.specs.Systems.{cases_of};
 ghost use Rattle.tv_known.specs.Cycles.{IsLastRound};
 ghost use Rattle.tv_cert.specs.AimViews.{aim_states, aims_state, statements_of};
 ghost use Rattle.tv_cert.specs.Statements.{Statement};
 ghost use Rattle.tv_cert.specs.Statements as statements;
+ghost use Rattle.tv_lexrank.specs.Nodes.{IsRankedNode};
 ghost use Rattle.tv_region.specs.Regions.{IsRegion};
 ghost use Rattle.tv_region.specs.StepRegions.{IsTame};
 ghost use Rattle.tv_pre.specs.declared.fault.PreFault.TheVariants.{Memory};
@@ -21,6 +24,7 @@ ghost use Rattle.tv_pre.specs.Unserved.{IsUnranked};
 ghost use Rattle.tv_pre.specs.Arguments.{AreArguments, AreArgumentsOf};
 
 use crate::along::{Along, part_along};
+use crate::copying::{found_alike, found_before};
 use crate::empty::empty_part;
 use crate::gap::{added, first_gap, gap_after};
 use crate::ranking::{Ranking, Ranks, ranks_of};
@@ -31,6 +35,7 @@ use crate::{
 };
 use std::alloc::Global;
 use tv_cert::{Aim, Node};
+use tv_copy::copy_node;
 use tv_formula::{Path, Shape};
 use tv_linear::{Region, push_item};
 
@@ -87,6 +92,19 @@ fn with_argument(arguments: Arguments, found: Found) -> Result<Arguments, PreFau
     })
 }
 
+/// What was found of the arguments of a formula, from what was found of each.
+fn arguments_of(alloc: Global, founds: Vec<Found>) -> Result<Arguments, PreFault>
+    ensures arguments { IfOk result (λ a. (about : CaseSystem) → (last : ℕ) → (ss : List Statement) →
+        AllZip (IsFound about last) ss founds.items → AreArguments about last ss a) }
+    ensures memory { IfErr result (λ fault. fault ≡ Memory) }
+{
+    let mut arguments = no_arguments(alloc);
+    'founds: for found in founds {
+        arguments = with_argument(arguments, found)?;
+    }
+    Ok(arguments)
+}
+
 /// What is found of an atom.
 fn atom_found(search: &Search, test: &Test) -> Result<Found, PreFault>
     requires even { IsEvenTest (system_of search.now).variables test.now }
@@ -110,22 +128,42 @@ fn termination_found(search: &Search) -> Result<Found, PreFault>
     Ok(Found { part, gap, size: 1 })
 }
 
-/// What is found of termination where the ranks are looked for anew, as their node, or the fault of a system, is given away.
+/// What is found of termination where a node ranks all states: it holds everywhere.
+fn all_ended(search: &Search, node: Node) -> Result<Found, PreFault>
+    requires ranked { IsRankedNode (system_of search.now) node }
+    ensures found { IfOk result (IsFound (system_of search.now) search.now.last statements.ends) }
+    ensures memory { IfErr result (λ fault. fault ≡ Memory) }
+{
+    let part = ends_ranked(search.setting.alloc, search.setting.about, node)?;
+    let gap = None;
+    Ok(Found { part, gap, size: 1 })
+}
+
+/// What is found of termination where the ranks are looked for anew, as the fault of a system is given away.
 fn ends_anew(search: &Search) -> Result<Found, PreFault>
     ensures found { IfOk result (IsFound (system_of search.now) search.now.last statements.ends) }
     ensures refused { let about = system_of search.now in
         IfErr result (IsRefusedFor about search.now.setting.now.budget.now search.now.last statements.ends) }
     ensures counted { IfErr result (IsCountedFor (system_of search.now) statements.ends) }
 {
-    let setting = search.setting;
-    match ranks_of(setting)? {
-        Ranks::Known(ranking) => {
-            let part = ends_ranked(setting.alloc, setting.about, ranking.node)?;
-            let gap = None;
-            Ok(Found { part, gap, size: 1 })
-        }
+    match ranks_of(search.setting)? {
+        Ranks::Known(ranking) => Ok(all_ended(search, ranking.node)?),
         Ranks::Lacking => Ok(termination_found(search)?),
         Ranks::Refused { system, fault } => Err(PreFault::Rank { system, fault }),
+    }
+}
+
+/// What is found of termination where these are the ranks of the program: their node is copied.
+fn ends_known(search: &Search, ranking: &Ranking) -> Result<Found, PreFault>
+    requires ranking { IsRanking (system_of search.now) ranking.now }
+    ensures found { IfOk result (IsFound (system_of search.now) search.now.last statements.ends) }
+    ensures refused { let about = system_of search.now in
+        IfErr result (IsRefusedFor about search.now.setting.now.budget.now search.now.last statements.ends) }
+    ensures counted { IfErr result (IsCountedFor (system_of search.now) statements.ends) }
+{
+    match copy_node(search.setting.alloc, &ranking.node)? {
+        Some(node) => Ok(all_ended(search, node)?),
+        None => ends_anew(search),
     }
 }
 
@@ -138,6 +176,7 @@ fn ends_found(search: &Search) -> Result<Found, PreFault>
     ensures counted { IfErr result (IsCountedFor (system_of search.now) statements.ends) }
 {
     match &search.ranks {
+        Some(Ranks::Known(ranking)) => ends_known(search, ranking),
         Some(Ranks::Lacking) => Ok(termination_found(search)?),
         _ => ends_anew(search),
     }
@@ -322,7 +361,7 @@ fn along_found(
     Ok(Found { part, gap, size })
 }
 
-/// What is found of each of some formulas.
+/// What is found of each of some formulas. Of one that is equal to an earlier one it is a copy.
 #[cycle(finding)]
 fn all_found(search: &Search, aims: &[Aim]) -> Result<Arguments, PreFault>
     requires search { IsSearch search.now }
@@ -336,12 +375,16 @@ fn all_found(search: &Search, aims: &[Aim]) -> Result<Arguments, PreFault>
         IfErr result (IsRefusedFor about search.now.setting.now.budget.now search.now.last s) }
     ensures counted { IfErr result (AreCountedFor (system_of search.now) (aims_state aims.now)) }
 {
-    let mut arguments = no_arguments(search.setting.alloc);
+    let mut founds = Vec::new(search.setting.alloc);
     'aims: for aim in aims {
+        if let Some(again) = found_before(search, aims, &founds, aim)? {
+            push_item(&mut founds, again)?;
+            continue 'aims;
+        }
         let found = found_of(search, aim)?;
-        arguments = with_argument(arguments, found)?;
+        push_item(&mut founds, found)?;
     }
-    Ok(arguments)
+    arguments_of(search.setting.alloc, founds)
 }
 
 /// What is found of a formula.
@@ -373,14 +416,20 @@ fn found_of(search: &Search, aim: &Aim) -> Result<Found, PreFault>
             after_found(search, *path, child)
         }
         Aim::Along(path, shape, first, second) => {
-            let first = found_of(search, first)?;
-            let second = found_of(search, second)?;
-            along_found(search, *path, *shape, first, second)
+            let front = found_of(search, first)?;
+            match found_alike(search, first, &front, second)? {
+                Some(back) => along_found(search, *path, *shape, front, back),
+                None => {
+                    let back = found_of(search, second)?;
+                    along_found(search, *path, *shape, front, back)
+                }
+            }
         }
     }
 }
 
-/// The region where a formula is known to hold, with the node that shows it, each made from those of its arguments.
+/// The region where a formula is known to hold, with the node that shows it, each made from those of its arguments. Of equal arguments the
+/// first is searched for, and the others are copies.
 ///
 /// The region of an atom has its rows at each location; conjunctions and disjunctions have the states that each argument has, or one of
 /// them. A formula on the next states has those all of whose steps lead into the region of its argument, or some step. A fixed point has the

@@ -1,7 +1,6 @@
 // The pieces of a region as pieces of a node, with the ranks of another node at their locations.
 
 ghost use Rattle.std.specs.Prelude.{◌≡◌, ◌++◌, ◌-◌, ◌^◌, ◌<◌, map, IfOk};
-ghost use Rattle.tv_linear.specs.Views.{rows_seen};
 ghost use Rattle.tv_cert.specs.Nodes.{pieces_of};
 ghost use Rattle.tv_lexrank.specs.Shown.{ranks_there};
 ghost use Rattle.tv_pre.specs.RankedUntil.{ranked_as};
@@ -9,28 +8,15 @@ ghost use Rattle.tv_pre.specs.RankedUntil.{ranked_as};
 use crate::marking::marked_as;
 use std::alloc::{AllocError, Global};
 use tv_cert::{Mark, Marked, Node};
-use tv_linear::{Piece, Row, Rows, push_item};
-
-/// Copies of rows that are lent.
-fn copies_of(alloc: Global, rows: Rows) -> Result<Vec<Row>, AllocError>
-    ensures { IfOk result (λ v. v.items ≡ rows_seen rows.entry) }
-{
-    let mut copies = Vec::new(alloc);
-    let mut left = rows;
-    'rows: while let Some((row, rest)) = left.split_first() {
-        let coefficients = Vec::from_slice(alloc, row.coefficients())?;
-        push_item(&mut copies, Row::from_narrow(coefficients, row.constant))?;
-        left = rest;
-    }
-    Ok(copies)
-}
+use tv_copy::copy_rows;
+use tv_linear::{Piece, Row, push_item};
 
 /// The ranks of the first piece of the node at the location.
 fn ranks_at(alloc: Global, node: &Node, location: u32) -> Result<Vec<Row>, AllocError>
     ensures { IfOk result (λ v. v.items ≡ ranks_there (pieces_of node.now) location) }
 {
     match node.pieces.at(location, 0) {
-        Some(piece) => Ok(copies_of(alloc, piece.ranks())?),
+        Some(piece) => Ok(copy_rows(alloc, piece.ranks())?),
         None => Ok(Vec::new(alloc)),
     }
 }

@@ -1,4 +1,5 @@
 use Rattle.std.proofs.Common.{◌+◌, ◌≡◌, ◌∙◌, ◌≤◌, sym, ap, subst, arith, map}
+use Rattle.std.specs.Prelude.{IfSome}
 use Rattle.std.specs.Result.{IfErr}
 use Rattle.tv_cert.specs.declared.aim.Aim.{Aim, Aim-F, fold-roll-Aim}
 use Rattle.tv_cert.specs.declared.aim.Aim.TheVariants.{rolls-EachOf, rolls-OneOf, rolls-After, rolls-Along}
@@ -9,11 +10,12 @@ use Rattle.tv_pre.specs.Built.{IsPreFault}
 use Rattle.tv_pre.specs.Finding.{all_steps_back, IsRefusedFor}
 use Rattle.tv_pre.proofs.EvenLemmas.{even_later}
 use Rattle.tv_pre.proofs.PassedLemmas.{passed_on}
-use Rattle.tv_pre.proofs.FoundLemmas.{arguments_more, argument_fault, argument_over, after_argument, first_argument, second_argument}
-use Rattle.tv_region.proofs.AlgebraLemmas.{if_err}
+use Rattle.tv_pre.proofs.FoundLemmas.{argument_fault, argument_over, after_argument, first_argument, second_argument}
+use Rattle.tv_region.proofs.AlgebraLemmas.{if_ok, if_err}
 use Rattle.tv_pre.specs.Arguments.{AreArguments}
 use Rattle.tv_pre.specs.Finding.{IsFound}
 use Rattle.tv_pre.specs.Counted.{IsCountedFor, AreCountedFor}
+use Rattle.tv_pre.proofs.ArgumentLemmas.{one_first, all_first}
 use Rattle.tv_pre.proofs.CountedFormulas.{argument_counted, each_argument_counted, one_argument_counted, after_argument_counted, first_argument_counted, second_argument_counted}
 use Rattle.tv_pre.proofs.finding.+finding.Goals as goal
 
@@ -25,7 +27,7 @@ all_found-returns-in_err-found-clause-refused_each t c =
     let whole = statements.each_of (aims_state c.args.aims.now) in
     let k = all_steps_back last (aims_state c.args.aims.now) in
     let l : k ≤ k = omega arith in
-    passed_on (IsRefusedFor about budget last whole) c.from_residual.result c.from_residual.ensures.1
+    passed_on (IsRefusedFor about budget last whole) c.from_residual-in_err-found.result c.from_residual-in_err-found.ensures.1
     (λ r is. subst (IsPreFault about whole budget k) (sym is) (argument_fault about last budget c.args.aims.now c.aims.aim-index c.aim-item.result whole k c.in_err-found.field-0.0 c.aims-test.true c.aim-item.is (λ a x. x) l c.in_err-found.ensures.refused))
 
 pub all_found-returns-in_err-found-clause-refused_one : goal.all_found-returns-in_err-found-clause-refused_one
@@ -36,13 +38,14 @@ all_found-returns-in_err-found-clause-refused_one t c =
     let whole = statements.one_of (aims_state c.args.aims.now) in
     let k = all_steps_back last (aims_state c.args.aims.now) in
     let l : k ≤ k = omega arith in
-    passed_on (IsRefusedFor about budget last whole) c.from_residual.result c.from_residual.ensures.1
+    passed_on (IsRefusedFor about budget last whole) c.from_residual-in_err-found.result c.from_residual-in_err-found.ensures.1
     (λ r is. subst (IsPreFault about whole budget k) (sym is) (argument_fault about last budget c.args.aims.now c.aims.aim-index c.aim-item.result whole k c.in_err-found.field-0.0 c.aims-test.true c.aim-item.is (λ a x. x) l c.in_err-found.ensures.refused))
 
 pub all_found-aims-preserved : goal.all_found-aims-preserved
 all_found-aims-preserved t c =
-    let made = c.in_ok-arguments.ensures in
-    (arguments_more (system_of c.args.search.now) c.args.search.now.last c.args.aims.now c.aims.aim-index c.aim-item.result c.in_ok-found.found c.aims.arguments c.in_ok-arguments.arguments c.aims-test.true c.aim-item.is c.aims.invariant.0 c.in_ok-found.ensures.found made.regions made.nodes made.size made.gap, even_later (system_of c.args.search.now).variables c.args.aims.now (c.aims.aim-index + 1) c.requires.even)
+    let about = system_of c.args.search.now in
+    let more = one_first about c.args.search.now.last c.args.aims.now c.aims.founds.items c.push_item-in-aims.new.items.items c.aims.aim-index c.aim-item.result c.in_ok-found.found c.aims-test.true c.aim-item.is c.aims.invariant.1 c.aims.invariant.0 c.in_ok-found.ensures.found c.in_ok-push_item-2.ensures in
+    (more.0, more.1, even_later about.variables c.args.aims.now (c.aims.aim-index + 1) c.requires.even)
 
 pub found_of-each_found-requires-clause-arguments : goal.found_of-each_found-requires-clause-arguments
 found_of-each_found-requires-clause-arguments t c =
@@ -66,8 +69,8 @@ found_of-returns-in_err-child-in-After-clause-refused t c =
     (passed_on (IsRefusedFor about budget last (statements.after c.in-After.path s)) c.from_residual-in_err-child-in-After.result c.from_residual-in_err-child-in-After.ensures.1
     (λ r is. after_argument about last budget c.in-After.path s c.in_err-child-in-After.field-0.0 r is (subst (λ (a : Aim). IsRefusedFor about budget last (aim_states a) c.in_err-child-in-After.field-0.0) c.deref-in-After.ensures c.in_err-child-in-After.ensures.refused)))
 
-pub found_of-returns-in_err-first-in-Along-clause-refused : goal.found_of-returns-in_err-first-in-Along-clause-refused
-found_of-returns-in_err-first-in-Along-clause-refused t c =
+pub found_of-returns-in_err-front-in-Along-clause-refused : goal.found_of-returns-in_err-front-in-Along-clause-refused
+found_of-returns-in_err-front-in-Along-clause-refused t c =
     let about = system_of c.args.search.now in
     let budget = c.args.search.now.setting.now.budget.now in
     let last = c.args.search.now.last in
@@ -75,12 +78,12 @@ found_of-returns-in_err-first-in-Along-clause-refused t c =
     let o = aim_states c.in-Along.second.value in
     let e : aim_states c.args.aim.now ≡ statements.along c.in-Along.path c.in-Along.shape s o =
     ap aim_states c.in-Along.is ∙ ap aim_states (sym (rolls-Along c.in-Along.path c.in-Along.shape c.in-Along.first c.in-Along.second)) ∙ fold-roll-Aim statements.Statement aim_node (Aim-F.Along c.in-Along.path c.in-Along.shape c.in-Along.first c.in-Along.second) in
-    subst (λ (w : statements.Statement). IfErr c.from_residual-in_err-first-in-Along.result (IsRefusedFor about budget last w)) (sym e)
-    (passed_on (IsRefusedFor about budget last (statements.along c.in-Along.path c.in-Along.shape s o)) c.from_residual-in_err-first-in-Along.result c.from_residual-in_err-first-in-Along.ensures.1
-    (λ r is. first_argument about last budget c.in-Along.path c.in-Along.shape s o c.in_err-first-in-Along.field-0.0 r is (subst (λ (a : Aim). IsRefusedFor about budget last (aim_states a) c.in_err-first-in-Along.field-0.0) c.deref-in-Along.ensures c.in_err-first-in-Along.ensures.refused)))
+    subst (λ (w : statements.Statement). IfErr c.from_residual-in_err-front-in-Along.result (IsRefusedFor about budget last w)) (sym e)
+    (passed_on (IsRefusedFor about budget last (statements.along c.in-Along.path c.in-Along.shape s o)) c.from_residual-in_err-front-in-Along.result c.from_residual-in_err-front-in-Along.ensures.1
+    (λ r is. first_argument about last budget c.in-Along.path c.in-Along.shape s o c.in_err-front-in-Along.field-0.0 r is (subst (λ (a : Aim). IsRefusedFor about budget last (aim_states a) c.in_err-front-in-Along.field-0.0) c.deref-in-Along.ensures c.in_err-front-in-Along.ensures.refused)))
 
-pub found_of-returns-in_err-second-in-Along-clause-refused : goal.found_of-returns-in_err-second-in-Along-clause-refused
-found_of-returns-in_err-second-in-Along-clause-refused t c =
+pub found_of-returns-in_err-back-in-None-clause-refused : goal.found_of-returns-in_err-back-in-None-clause-refused
+found_of-returns-in_err-back-in-None-clause-refused t c =
     let about = system_of c.args.search.now in
     let budget = c.args.search.now.setting.now.budget.now in
     let last = c.args.search.now.last in
@@ -88,15 +91,15 @@ found_of-returns-in_err-second-in-Along-clause-refused t c =
     let o = aim_states c.in-Along.second.value in
     let e : aim_states c.args.aim.now ≡ statements.along c.in-Along.path c.in-Along.shape s o =
     ap aim_states c.in-Along.is ∙ ap aim_states (sym (rolls-Along c.in-Along.path c.in-Along.shape c.in-Along.first c.in-Along.second)) ∙ fold-roll-Aim statements.Statement aim_node (Aim-F.Along c.in-Along.path c.in-Along.shape c.in-Along.first c.in-Along.second) in
-    subst (λ (w : statements.Statement). IfErr c.from_residual-in_err-second-in-Along.result (IsRefusedFor about budget last w)) (sym e)
-    (passed_on (IsRefusedFor about budget last (statements.along c.in-Along.path c.in-Along.shape s o)) c.from_residual-in_err-second-in-Along.result c.from_residual-in_err-second-in-Along.ensures.1
-    (λ r is. second_argument about last budget c.in-Along.path c.in-Along.shape s o c.in_err-second-in-Along.field-0.0 r is (subst (λ (a : Aim). IsRefusedFor about budget last (aim_states a) c.in_err-second-in-Along.field-0.0) c.deref-in-Along-2.ensures c.in_err-second-in-Along.ensures.refused)))
+    subst (λ (w : statements.Statement). IfErr c.from_residual-in_err-back-in-None.result (IsRefusedFor about budget last w)) (sym e)
+    (passed_on (IsRefusedFor about budget last (statements.along c.in-Along.path c.in-Along.shape s o)) c.from_residual-in_err-back-in-None.result c.from_residual-in_err-back-in-None.ensures.1
+    (λ r is. second_argument about last budget c.in-Along.path c.in-Along.shape s o c.in_err-back-in-None.field-0.0 r is (subst (λ (a : Aim). IsRefusedFor about budget last (aim_states a) c.in_err-back-in-None.field-0.0) c.deref-in-None.ensures c.in_err-back-in-None.ensures.refused)))
 
 pub all_found-returns-in_err-found-clause-counted : goal.all_found-returns-in_err-found-clause-counted
 all_found-returns-in_err-found-clause-counted t c =
     let about = system_of c.args.search.now in
     let P = AreCountedFor about (aims_state c.args.aims.now) in
-    passed_on P c.from_residual.result c.from_residual.ensures.1
+    passed_on P c.from_residual-in_err-found.result c.from_residual-in_err-found.ensures.1
     (λ r is. subst P (sym is) (argument_counted about c.in_err-found.field-0.0 c.args.aims.now c.aims.aim-index c.aim-item.result c.aims-test.true c.aim-item.is c.in_err-found.ensures.counted))
 
 pub found_of-returns-in_err-child-in-After-clause-counted : goal.found_of-returns-in_err-child-in-After-clause-counted
@@ -110,31 +113,31 @@ found_of-returns-in_err-child-in-After-clause-counted t c =
     (passed_on (IsCountedFor about (statements.after c.in-After.path s)) c.from_residual-in_err-child-in-After.result c.from_residual-in_err-child-in-After.ensures.1
     (λ r is. subst (IsCountedFor about (statements.after c.in-After.path s)) (sym is) (after_argument_counted about fault c.in-After.path s (subst (λ (a : Aim). IsCountedFor about (aim_states a) fault) c.deref-in-After.ensures c.in_err-child-in-After.ensures.counted))))
 
-pub found_of-returns-in_err-first-in-Along-clause-counted : goal.found_of-returns-in_err-first-in-Along-clause-counted
-found_of-returns-in_err-first-in-Along-clause-counted t c =
+pub found_of-returns-in_err-front-in-Along-clause-counted : goal.found_of-returns-in_err-front-in-Along-clause-counted
+found_of-returns-in_err-front-in-Along-clause-counted t c =
     let about = system_of c.args.search.now in
     let s = aim_states c.in-Along.first.value in
     let o = aim_states c.in-Along.second.value in
-    let fault = c.in_err-first-in-Along.field-0.0 in
+    let fault = c.in_err-front-in-Along.field-0.0 in
     let whole = statements.along c.in-Along.path c.in-Along.shape s o in
     let e : aim_states c.args.aim.now ≡ whole =
     ap aim_states c.in-Along.is ∙ ap aim_states (sym (rolls-Along c.in-Along.path c.in-Along.shape c.in-Along.first c.in-Along.second)) ∙ fold-roll-Aim statements.Statement aim_node (Aim-F.Along c.in-Along.path c.in-Along.shape c.in-Along.first c.in-Along.second) in
-    subst (λ (w : statements.Statement). IfErr c.from_residual-in_err-first-in-Along.result (IsCountedFor about w)) (sym e)
-    (passed_on (IsCountedFor about whole) c.from_residual-in_err-first-in-Along.result c.from_residual-in_err-first-in-Along.ensures.1
-    (λ r is. subst (IsCountedFor about whole) (sym is) (first_argument_counted about fault c.in-Along.path c.in-Along.shape s o (subst (λ (a : Aim). IsCountedFor about (aim_states a) fault) c.deref-in-Along.ensures c.in_err-first-in-Along.ensures.counted))))
+    subst (λ (w : statements.Statement). IfErr c.from_residual-in_err-front-in-Along.result (IsCountedFor about w)) (sym e)
+    (passed_on (IsCountedFor about whole) c.from_residual-in_err-front-in-Along.result c.from_residual-in_err-front-in-Along.ensures.1
+    (λ r is. subst (IsCountedFor about whole) (sym is) (first_argument_counted about fault c.in-Along.path c.in-Along.shape s o (subst (λ (a : Aim). IsCountedFor about (aim_states a) fault) c.deref-in-Along.ensures c.in_err-front-in-Along.ensures.counted))))
 
-pub found_of-returns-in_err-second-in-Along-clause-counted : goal.found_of-returns-in_err-second-in-Along-clause-counted
-found_of-returns-in_err-second-in-Along-clause-counted t c =
+pub found_of-returns-in_err-back-in-None-clause-counted : goal.found_of-returns-in_err-back-in-None-clause-counted
+found_of-returns-in_err-back-in-None-clause-counted t c =
     let about = system_of c.args.search.now in
     let s = aim_states c.in-Along.first.value in
     let o = aim_states c.in-Along.second.value in
-    let fault = c.in_err-second-in-Along.field-0.0 in
+    let fault = c.in_err-back-in-None.field-0.0 in
     let whole = statements.along c.in-Along.path c.in-Along.shape s o in
     let e : aim_states c.args.aim.now ≡ whole =
     ap aim_states c.in-Along.is ∙ ap aim_states (sym (rolls-Along c.in-Along.path c.in-Along.shape c.in-Along.first c.in-Along.second)) ∙ fold-roll-Aim statements.Statement aim_node (Aim-F.Along c.in-Along.path c.in-Along.shape c.in-Along.first c.in-Along.second) in
-    subst (λ (w : statements.Statement). IfErr c.from_residual-in_err-second-in-Along.result (IsCountedFor about w)) (sym e)
-    (passed_on (IsCountedFor about whole) c.from_residual-in_err-second-in-Along.result c.from_residual-in_err-second-in-Along.ensures.1
-    (λ r is. subst (IsCountedFor about whole) (sym is) (second_argument_counted about fault c.in-Along.path c.in-Along.shape s o (subst (λ (a : Aim). IsCountedFor about (aim_states a) fault) c.deref-in-Along-2.ensures c.in_err-second-in-Along.ensures.counted))))
+    subst (λ (w : statements.Statement). IfErr c.from_residual-in_err-back-in-None.result (IsCountedFor about w)) (sym e)
+    (passed_on (IsCountedFor about whole) c.from_residual-in_err-back-in-None.result c.from_residual-in_err-back-in-None.ensures.1
+    (λ r is. subst (IsCountedFor about whole) (sym is) (second_argument_counted about fault c.in-Along.path c.in-Along.shape s o (subst (λ (a : Aim). IsCountedFor about (aim_states a) fault) c.deref-in-None.ensures c.in_err-back-in-None.ensures.counted))))
 
 pub found_of-returns-in_err-arguments-in-EachOf-clause-counted : goal.found_of-returns-in_err-arguments-in-EachOf-clause-counted
 found_of-returns-in_err-arguments-in-EachOf-clause-counted t c =
@@ -193,14 +196,43 @@ found_of-returns-in_ok-child-in-After-clause-counted t c =
     let told = subst (λ (a : Aim). IsFound about last (aim_states a) child) c.deref-in-After.ensures c.in_ok-child-in-After.ensures.found in
     subst (λ (w : statements.Statement). IfErr c.after_found.result (IsCountedFor about w)) (sym e) (if_err c.after_found.result (λ x h. h s told) c.after_found.ensures.counted)
 
-pub found_of-returns-in_ok-second-in-Along-clause-counted : goal.found_of-returns-in_ok-second-in-Along-clause-counted
-found_of-returns-in_ok-second-in-Along-clause-counted t c =
+pub found_of-returns-in_ok-back-in-None-clause-counted : goal.found_of-returns-in_ok-back-in-None-clause-counted
+found_of-returns-in_ok-back-in-None-clause-counted t c =
     let about = system_of c.args.search.now in
     let last = c.args.search.now.last in
     let s = aim_states c.in-Along.first.value in
     let o = aim_states c.in-Along.second.value in
     let e : aim_states c.args.aim.now ≡ statements.along c.in-Along.path c.in-Along.shape s o =
     ap aim_states c.in-Along.is ∙ ap aim_states (sym (rolls-Along c.in-Along.path c.in-Along.shape c.in-Along.first c.in-Along.second)) ∙ fold-roll-Aim statements.Statement aim_node (Aim-F.Along c.in-Along.path c.in-Along.shape c.in-Along.first c.in-Along.second) in
-    let one = subst (λ (a : Aim). IsFound about last (aim_states a) c.in_ok-first-in-Along.first) c.deref-in-Along.ensures c.in_ok-first-in-Along.ensures.found in
-    let other = subst (λ (a : Aim). IsFound about last (aim_states a) c.in_ok-second-in-Along.second) c.deref-in-Along-2.ensures c.in_ok-second-in-Along.ensures.found in
+    let one = subst (λ (a : Aim). IsFound about last (aim_states a) c.in_ok-front-in-Along.front) c.deref-in-Along.ensures c.in_ok-front-in-Along.ensures.found in
+    let other = subst (λ (a : Aim). IsFound about last (aim_states a) c.in_ok-back-in-None.back) c.deref-in-None.ensures c.in_ok-back-in-None.ensures.found in
+    subst (λ (w : statements.Statement). IfErr c.along_found-in-None.result (IsCountedFor about w)) (sym e) (if_err c.along_found-in-None.result (λ x h. h s o one other) c.along_found-in-None.ensures.counted)
+
+pub all_found-returns-clause-found : goal.all_found-returns-clause-found
+all_found-returns-clause-found t c =
+    let about = system_of c.args.search.now in
+    let last = c.args.search.now.last in
+    let aims = c.args.aims.now in
+    if_ok c.arguments_of.result (λ a h. h about last (map aim_states aims) (all_first about last aims c.aims.founds.items c.aims.aim-index c.aims-test.false c.aims.auto.aim-index-end c.aims.invariant.1 c.aims.invariant.0))
+    c.arguments_of.ensures.arguments
+
+pub all_found-aims-preserved-in-Some : goal.all_found-aims-preserved-in-Some
+all_found-aims-preserved-in-Some t c =
+    let about = system_of c.args.search.now in
+    let last = c.args.search.now.last in
+    let told = subst (λ o. IfSome o (IsFound about last (aim_states c.aim-item.result))) c.in-Some.is c.in_ok-again.ensures in
+    let more = one_first about last c.args.aims.now c.aims.founds.items c.push_item.new.items.items c.aims.aim-index c.aim-item.result c.in-Some.again c.aims-test.true c.aim-item.is c.aims.invariant.1 c.aims.invariant.0 told c.in_ok-push_item.ensures in
+    (more.0, more.1, even_later about.variables c.args.aims.now (c.aims.aim-index + 1) c.requires.even)
+
+pub found_of-returns-in-Some-clause-counted : goal.found_of-returns-in-Some-clause-counted
+found_of-returns-in-Some-clause-counted t c =
+    let about = system_of c.args.search.now in
+    let last = c.args.search.now.last in
+    let s = aim_states c.in-Along.first.value in
+    let o = aim_states c.in-Along.second.value in
+    let e : aim_states c.args.aim.now ≡ statements.along c.in-Along.path c.in-Along.shape s o =
+    ap aim_states c.in-Along.is ∙ ap aim_states (sym (rolls-Along c.in-Along.path c.in-Along.shape c.in-Along.first c.in-Along.second)) ∙ fold-roll-Aim statements.Statement aim_node (Aim-F.Along c.in-Along.path c.in-Along.shape c.in-Along.first c.in-Along.second) in
+    let one = subst (λ (a : Aim). IsFound about last (aim_states a) c.in_ok-front-in-Along.front) c.deref-in-Along.ensures c.in_ok-front-in-Along.ensures.found in
+    let again = subst (λ z. IfSome z (IsFound about last (aim_states c.deref-in-Along-3.result.now))) c.in-Some.is c.in_ok-back-in-Along.ensures in
+    let other = subst (λ (a : Aim). IsFound about last (aim_states a) c.in-Some.back) c.deref-in-Along-3.ensures again in
     subst (λ (w : statements.Statement). IfErr c.along_found.result (IsCountedFor about w)) (sym e) (if_err c.along_found.result (λ x h. h s o one other) c.along_found.ensures.counted)

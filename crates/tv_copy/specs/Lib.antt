@@ -1,0 +1,3 @@
+pub mod SameProofs
+pub mod SameNodes
+pub mod SameRegions

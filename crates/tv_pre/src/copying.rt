@@ -1,0 +1,71 @@
+// What was found of a formula, for another one that is equal to it.
+
+ghost use Rattle.std.specs.Prelude.{◌≡◌, map, IfOk, IfSome, MatchOption};
+ghost use Rattle.tv_copy.specs.SameNodes.{NodeHasFewColumns};
+ghost use Rattle.tv_cert.specs.AimViews.{aim_states};
+ghost use Rattle.tv_pre.specs.Arguments.{AreFoundFirst};
+ghost use Rattle.tv_pre.specs.Copies.{SameFound};
+ghost use Rattle.tv_pre.specs.Finding.{IsFound};
+ghost use Rattle.tv_pre.specs.Search.{system_of};
+
+use crate::equality::are_equal;
+use crate::search::Search;
+use crate::{Found, Part};
+use std::alloc::{AllocError, Global};
+use tv_cert::Aim;
+use tv_copy::{copy_node, copy_region};
+
+/// A copy of what was found; `None` where a piece has 2^32 - 1 columns or more.
+fn copy_found(alloc: Global, found: &Found) -> Result<Option<Found>, AllocError>
+    ensures { IfOk result (λ made. MatchOption made (¬ NodeHasFewColumns found.now.part.node) (SameFound found.now)) }
+{
+    match copy_node(alloc, &found.part.node)? {
+        None => Ok(None),
+        Some(node) => {
+            let region = copy_region(alloc, &found.part.region)?;
+            Ok(Some(Found {
+                part: Part { region, node },
+                gap: found.gap,
+                size: found.size,
+            }))
+        }
+    }
+}
+
+/// What is found of a formula where it is equal to an earlier one: a copy of what was found of that one.
+pub(crate) fn found_alike(
+    search: &Search,
+    earlier: &Aim,
+    found: &Found,
+    aim: &Aim,
+) -> Result<Option<Found>, AllocError>
+    requires found { IsFound (system_of search.now) search.now.last (aim_states earlier.now) found.now }
+    ensures { IfOk result (λ again. IfSome again (IsFound (system_of search.now) search.now.last (aim_states aim.now))) }
+{
+    if are_equal(earlier, aim) {
+        copy_found(search.setting.alloc, found)
+    } else {
+        Ok(None)
+    }
+}
+
+/// What is found of a formula where it is equal to one of those of the first of which this was found: a copy of it.
+pub(crate) fn found_before(
+    search: &Search,
+    aims: &[Aim],
+    founds: &[Found],
+    aim: &Aim,
+) -> Result<Option<Found>, AllocError>
+    requires first { AreFoundFirst (system_of search.now) search.now.last (map aim_states aims.now) founds.now }
+    ensures { IfOk result (λ again. IfSome again (IsFound (system_of search.now) search.now.last (aim_states aim.now))) }
+{
+    match (aims, founds) {
+        ([earlier, aims @ ..], [found, founds @ ..]) => {
+            match found_alike(search, earlier, found, aim)? {
+                Some(again) => Ok(Some(again)),
+                None => found_before(search, aims, founds, aim),
+            }
+        }
+        _ => Ok(None),
+    }
+}

@@ -1,0 +1,71 @@
+// Formulas that are equal.
+
+ghost use Rattle.std.specs.Prelude.{◌≡◌, IsTrue, map};
+ghost use Rattle.tv_cert.specs.AimViews.{aim_states};
+
+use tv_cert::Aim;
+use tv_farkas::is_same;
+use tv_linear::Row;
+
+/// Whether the two lists have the same rows.
+fn rows_are_equal(first: &[Row], second: &[Row]) -> bool
+    ensures { IsTrue result → first.now ≡ second.now }
+{
+    match (first, second) {
+        ([], []) => true,
+        ([row, rows @ ..], [other, others @ ..]) => {
+            is_same(row, other) && rows_are_equal(rows, others)
+        }
+        _ => false,
+    }
+}
+
+/// Whether the lists have the same rows, one by one.
+fn lists_are_equal(first: &[Vec<Row>], second: &[Vec<Row>]) -> bool
+    ensures { IsTrue result → map (λ l. l.items) first.now ≡ map (λ l. l.items) second.now }
+{
+    match (first, second) {
+        ([], []) => true,
+        ([list, lists @ ..], [other, others @ ..]) => {
+            rows_are_equal(list, other) && lists_are_equal(lists, others)
+        }
+        _ => false,
+    }
+}
+
+/// Whether the formulas are equal, one by one.
+#[cycle(equality)]
+fn all_are_equal(first: &[Aim], second: &[Aim]) -> bool
+    ensures { IsTrue result → map aim_states first.now ≡ map aim_states second.now }
+{
+    if first.len() != second.len() {
+        return false;
+    }
+    'aims: for place in 0..first.len() {
+        if !are_equal(&first[place], &second[place]) {
+            return false;
+        }
+    }
+    true
+}
+
+/// Whether the two formulas are equal: they have the same parts at the same places.
+#[cycle(equality)]
+pub(crate) fn are_equal(first: &Aim, second: &Aim) -> bool
+    ensures { IsTrue result → aim_states first.now ≡ aim_states second.now }
+{
+    match (first, second) {
+        (Aim::Rows(lists), Aim::Rows(others)) => lists_are_equal(lists, others),
+        (Aim::Here(location), Aim::Here(other)) => location == other,
+        (Aim::Elsewhere(location), Aim::Elsewhere(other)) => location == other,
+        (Aim::Ends, Aim::Ends) => true,
+        (Aim::NeverEnds, Aim::NeverEnds) => true,
+        (Aim::EachOf(aims), Aim::EachOf(others)) => all_are_equal(aims, others),
+        (Aim::OneOf(aims), Aim::OneOf(others)) => all_are_equal(aims, others),
+        (Aim::After(path, aim), Aim::After(way, other)) => path == way && are_equal(aim, other),
+        (Aim::Along(path, shape, hold, end), Aim::Along(way, form, stay, last)) => {
+            path == way && shape == form && are_equal(hold, stay) && are_equal(end, last)
+        }
+        _ => false,
+    }
+}
