@@ -4,7 +4,7 @@ use crate::sketches::{Part, into, leaf, refuted, take};
 use std::alloc::Global;
 use std::test::Fail;
 use tv_cert::{Mark, Marked, Node, Proof};
-use tv_copy::{copy_cover, copy_marked, copy_node, copy_proof, copy_region, copy_rows};
+use tv_copy::{copy_cover, copy_node, copy_proof, copy_region, copy_rows};
 use tv_linear::{ChoiceTree, Cover, CoverTree, Piece, Poly, Region, Row};
 
 /// Whether the cover has these multipliers alone.
@@ -113,7 +113,7 @@ fn is_copied(node: &Node) -> bool {
 #[test]
 fn nodes_are_copied(rt: HostRuntime) -> Result<(), Fail> {
     let node = node(rt.alloc())?;
-    let copy = copy_node(rt.alloc(), &node)?.ok_or("columns")?;
+    let copy = copy_node(rt.alloc(), &node)?;
     assert!(rt; is_copied(&copy));
     Ok(())
 }
@@ -122,7 +122,7 @@ fn nodes_are_copied(rt: HostRuntime) -> Result<(), Fail> {
 fn pieces_are_copied(rt: HostRuntime) -> Result<(), Fail> {
     let node = node(rt.alloc())?;
     for piece in node.pieces.list() {
-        let copy = copy_marked(rt.alloc(), piece)?.ok_or("columns")?;
+        let copy = piece.copy(rt.alloc())?;
         assert!(rt; is_at(&copy, 3, 2, 1));
     }
     Ok(())

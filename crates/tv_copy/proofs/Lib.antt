@@ -4,4 +4,3 @@ pub mod ChoiceLaws
 pub mod ProofLaws
 pub mod NodeLaws
 pub mod NodeParts
-pub mod PieceLemmas

@@ -1,9 +1,7 @@
 -- Nodes that are the same, by their lists.
 use Rattle.std.proofs.Common.{◌≡◌, ℕ, List, sym, ap, ◌∙◌, subst}
-use Rattle.std.specs.Prelude.{All}
 use Rattle.std.specs.Global.{Vec}
 use Rattle.std.specs.List.{AllZip}
-use Rattle.std.proofs.lemmas.List.Elements.{All-nil, All-cons}
 use Rattle.tv_cert.specs.declared.node.Marked.{Marked}
 use Rattle.tv_cert.specs.declared.node.Proof.{Proof}
 use Rattle.tv_cert.specs.declared.node.Node.{Node, Node', Row_of-Node, end_of-Node, more_of-Node, items-the_row-Node, outs-Node'}
@@ -12,7 +10,7 @@ use Rattle.tv_cert.proofs.NodeLemmas.{kids_of, proofs_list, out_is}
 use Rattle.tv_cert.specs.NodeViews.{pieces_list}
 use Rattle.tv_shape.specs.Parts.{ranks_at}
 use Rattle.tv_copy.specs.SameProofs.{SameProof}
-use Rattle.tv_copy.specs.SameNodes.{SameNode, SameKids, HasFewColumns, NodeHasFewColumns, KidsHaveFewColumns}
+use Rattle.tv_copy.specs.SameNodes.{SameNode, SameKids}
 
 kids_same : {j k : _} (kids : Row_of-Node j) (others : Row_of-Node k) → AllZip SameNode (items-the_row-Node j kids) (items-the_row-Node k others) → SameKids kids others
 kids_same end_of-Node end_of-Node h = tt
@@ -26,17 +24,6 @@ node_same (Node' ps m shape kids proofs) (Node' qs n form others offers) pieces 
   sym (ap (λ x. x.ranks) (outs-Node' qs n form others offers)) ∙ ranks ∙ ap (λ x. x.ranks) (outs-Node' ps m shape kids proofs),
   kids_same kids others (subst (λ z. AllZip SameNode z (items-the_row-Node _ others)) (out_is ps m shape kids proofs) (subst (λ z. AllZip SameNode (kids_of (Node' ps m shape kids proofs)) z) (out_is qs n form others offers) below)),
   subst (λ z. AllZip SameProof z offers.items) (ap (λ x. x.proofs.items) (outs-Node' ps m shape kids proofs)) (subst (λ z. AllZip SameProof (proofs_list (Node' ps m shape kids proofs)) z) (ap (λ x. x.proofs.items) (outs-Node' qs n form others offers)) same),
-)
-
-kids_few : {k : _} (kids : Row_of-Node k) → KidsHaveFewColumns kids → All NodeHasFewColumns (items-the_row-Node k kids)
-kids_few end_of-Node h = All-nil NodeHasFewColumns
-kids_few (more_of-Node a kids) h = All-cons NodeHasFewColumns a (items-the_row-Node _ kids) h.0 (kids_few kids h.1)
-
--- where the pieces of a node and of those below it have few columns, so have its own and those of each child
-pub node_few : (a : Node) → NodeHasFewColumns a → All HasFewColumns (pieces_list a) × All NodeHasFewColumns (kids_of a)
-node_few (Node' ps m shape kids proofs) h = (
-  subst (All HasFewColumns) (sym (ap (λ x. x.pieces) (outs-Node' ps m shape kids proofs))) h.0,
-  subst (All NodeHasFewColumns) (sym (out_is ps m shape kids proofs)) (kids_few kids h.1),
 )
 
 -- a node that is made of such parts is the same

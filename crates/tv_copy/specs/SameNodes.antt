@@ -1,7 +1,6 @@
 -- Nodes that are equal up to where their lists lie in memory.
-use Rattle.std.specs.Prelude.{◌≡◌, ◌-◌, ◌^◌, ◌<◌, All}
+use Rattle.std.specs.Prelude.{◌≡◌}
 use Rattle.std.specs.List.{AllZip}
-use Rattle.tv_cert.specs.declared.node.Marked.{Marked}
 use Rattle.tv_cert.specs.declared.node.Node.{Node, Node', Row_of-Node, end_of-Node, more_of-Node}
 use Rattle.tv_copy.specs.SameProofs.{SameProof}
 
@@ -16,16 +15,3 @@ abbrev mutual
   SameKids end_of-Node (more_of-Node b others) = ⊥
   SameKids (more_of-Node a kids) end_of-Node = ⊥
   SameKids (more_of-Node a kids) (more_of-Node b others) = SameNode a b × SameKids kids others
-
--- the columns of the piece are so few that the constant of a row has a column number of 32 bits too
-abbrev pub HasFewColumns : Marked → Type 0
-HasFewColumns p = p.columns < 2 ^ 32 - 1
-
-abbrev mutual
-  -- so do all pieces of the node and of those below it
-  pub NodeHasFewColumns : Node → Type 0
-  NodeHasFewColumns (Node' ps m shape kids proofs) = All HasFewColumns ps × KidsHaveFewColumns kids
-
-  pub KidsHaveFewColumns : {k : _} → Row_of-Node k → Type 0
-  KidsHaveFewColumns end_of-Node = Unit {0}
-  KidsHaveFewColumns (more_of-Node a kids) = NodeHasFewColumns a × KidsHaveFewColumns kids

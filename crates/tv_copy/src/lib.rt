@@ -12,6 +12,5 @@ mod rows;
 pub use choices::copy_choice;
 pub use covers::copy_cover;
 pub use nodes::{copy_node, copy_proof};
-pub use pieces::copy_marked;
 pub use regions::copy_region;
 pub use rows::copy_rows;

@@ -1,7 +1,7 @@
-ghost use Rattle.std.specs.Prelude.{◌≡◌, IfOk, MatchOption};
+ghost use Rattle.std.specs.Prelude.{IfOk};
 ghost use Rattle.std.specs.List.{AllZip};
 ghost use Rattle.tv_copy.specs.SameProofs.{SameProof};
-ghost use Rattle.tv_copy.specs.SameNodes.{SameNode, NodeHasFewColumns};
+ghost use Rattle.tv_copy.specs.SameNodes.{SameNode};
 
 use crate::choices::copy_choice;
 use crate::covers::copy_cover;
@@ -31,26 +31,20 @@ fn copy_proofs(alloc: Global, proofs: &[Proof]) -> Result<Vec<Proof>, AllocError
     Ok(copies)
 }
 
-/// A copy of the node and of those below it; `None` where one of their pieces has 2^32 - 1 columns or more.
-pub fn copy_node(alloc: Global, node: &Node) -> Result<Option<Node>, AllocError>
-    ensures { IfOk result (λ made. MatchOption made (¬ NodeHasFewColumns node.now) (SameNode node.now)) }
+/// A copy of the node and of those below it.
+pub fn copy_node(alloc: Global, node: &Node) -> Result<Node, AllocError>
+    ensures { IfOk result (SameNode node.now) }
 {
-    let pieces = match copy_all_marked(alloc, node.pieces.list())? {
-        None => return Ok(None),
-        Some(pieces) => pieces,
-    };
+    let pieces = copy_all_marked(alloc, node.pieces.list())?;
     let mut children = Vec::new(alloc);
     'children: for child in &node.children {
-        match copy_node(alloc, child)? {
-            None => return Ok(None),
-            Some(copy) => push_item(&mut children, copy)?,
-        }
+        push_item(&mut children, copy_node(alloc, child)?)?;
     }
     let proofs = copy_proofs(alloc, &node.proofs)?;
-    Ok(Some(Node {
+    Ok(Node {
         pieces: Pieces::new(alloc, pieces)?,
         ranks: node.ranks,
         children,
         proofs,
-    }))
+    })
 }

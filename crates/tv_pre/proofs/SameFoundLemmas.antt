@@ -1,6 +1,6 @@
 -- What is so of what was found is so of a copy.
 use Rattle.std.proofs.Common.{◌≡◌, ℕ, ◌≤◌, length, sym, ◌∙◌, subst}
-use Rattle.std.specs.Prelude.{List, Option, None, Some, IfSome, MatchOption}
+use Rattle.std.specs.Prelude.{List, IfSome}
 use Rattle.tv_formula.specs.Properties.{Property}
 use Rattle.tv_linear.specs.declared.region.Piece.{Piece}
 use Rattle.tv_linear.specs.declared.region.Region.{Region}
@@ -67,6 +67,5 @@ ends_same about known a b e h = record {
 }
 
 -- a copy of what was found of a statement is found of one that is equal
-pub copy_same : (about : CaseSystem) (last : ℕ) (s t : Statement) (a : Found) (made : Option Found) (none : Type 0) → s ≡ t → IsFound about last s a → MatchOption made none (SameFound a) → IfSome made (IsFound about last t)
-copy_same about last s t a None none e f h = tt
-copy_same about last s t a (Some b) none e f h = subst (λ z. IsFound about last z b) e (found_same about last s a b h f)
+pub copy_same : (about : CaseSystem) (last : ℕ) (s t : Statement) (a b : Found) → s ≡ t → IsFound about last s a → SameFound a b → IsFound about last t b
+copy_same about last s t a b e f h = subst (λ z. IsFound about last z b) e (found_same about last s a b h f)

@@ -1,7 +1,6 @@
 // What was found of a formula, for another one that is equal to it.
 
-ghost use Rattle.std.specs.Prelude.{◌≡◌, map, IfOk, IfSome, MatchOption};
-ghost use Rattle.tv_copy.specs.SameNodes.{NodeHasFewColumns};
+ghost use Rattle.std.specs.Prelude.{map, IfOk, IfSome};
 ghost use Rattle.tv_cert.specs.AimViews.{aim_states};
 ghost use Rattle.tv_pre.specs.Arguments.{AreFoundFirst};
 ghost use Rattle.tv_pre.specs.Copies.{SameFound};
@@ -15,21 +14,17 @@ use std::alloc::{AllocError, Global};
 use tv_cert::Aim;
 use tv_copy::{copy_node, copy_region};
 
-/// A copy of what was found; `None` where a piece has 2^32 - 1 columns or more.
-fn copy_found(alloc: Global, found: &Found) -> Result<Option<Found>, AllocError>
-    ensures { IfOk result (λ made. MatchOption made (¬ NodeHasFewColumns found.now.part.node) (SameFound found.now)) }
+/// A copy of what was found.
+fn copy_found(alloc: Global, found: &Found) -> Result<Found, AllocError>
+    ensures { IfOk result (SameFound found.now) }
 {
-    match copy_node(alloc, &found.part.node)? {
-        None => Ok(None),
-        Some(node) => {
-            let region = copy_region(alloc, &found.part.region)?;
-            Ok(Some(Found {
-                part: Part { region, node },
-                gap: found.gap,
-                size: found.size,
-            }))
-        }
-    }
+    let region = copy_region(alloc, &found.part.region)?;
+    let node = copy_node(alloc, &found.part.node)?;
+    Ok(Found {
+        part: Part { region, node },
+        gap: found.gap,
+        size: found.size,
+    })
 }
 
 /// What is found of a formula where it is equal to an earlier one: a copy of what was found of that one.
@@ -43,7 +38,7 @@ pub(crate) fn found_alike(
     ensures { IfOk result (λ again. IfSome again (IsFound (system_of search.now) search.now.last (aim_states aim.now))) }
 {
     if are_equal(earlier, aim) {
-        copy_found(search.setting.alloc, found)
+        Ok(Some(copy_found(search.setting.alloc, found)?))
     } else {
         Ok(None)
     }

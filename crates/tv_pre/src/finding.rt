@@ -161,10 +161,8 @@ fn ends_known(search: &Search, ranking: &Ranking) -> Result<Found, PreFault>
         IfErr result (IsRefusedFor about search.now.setting.now.budget.now search.now.last statements.ends) }
     ensures counted { IfErr result (IsCountedFor (system_of search.now) statements.ends) }
 {
-    match copy_node(search.setting.alloc, &ranking.node)? {
-        Some(node) => Ok(all_ended(search, node)?),
-        None => ends_anew(search),
-    }
+    let node = copy_node(search.setting.alloc, &ranking.node)?;
+    Ok(all_ended(search, node)?)
 }
 
 /// What is found of termination: where the program is ranked it holds everywhere; where it has no ranking so far nothing.

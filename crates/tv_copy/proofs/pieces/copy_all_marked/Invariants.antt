@@ -1,7 +1,5 @@
 use Rattle.std.proofs.Common.{◌≡◌, take}
-use Rattle.std.specs.Prelude.{All}
-use Rattle.tv_copy.specs.SameNodes.{HasFewColumns}
 use Rattle.tv_copy.proofs.pieces.copy_all_marked.Given as goal
 
 abbrev pub invariant-pieces : goal.invariant-pieces
-invariant-pieces l = (l.copies.items ≡ take l.piece-index l.pieces) × All HasFewColumns (take l.piece-index l.pieces)
+invariant-pieces l = l.copies.items ≡ take l.piece-index l.pieces
