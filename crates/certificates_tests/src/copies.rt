@@ -133,7 +133,9 @@ fn rows_are_copied(rt: HostRuntime) -> Result<(), Fail> {
     let node = node(rt.alloc())?;
     for piece in node.pieces.list() {
         let rows = copy_rows(rt.alloc(), piece.rows())?;
-        assert!(rt; rows.len() == 2 && rows[1].coefficients() == [-1] && rows[1].constant() == 2);
+        assert!(rt;
+            rows.len() == 2 && rows[1].coefficients() == [-1].as_slice() && rows[1].constant() == 2
+        );
     }
     Ok(())
 }

@@ -62,9 +62,17 @@ pub(crate) fn are_equal(first: &Aim, second: &Aim) -> bool
         (Aim::NeverEnds, Aim::NeverEnds) => true,
         (Aim::EachOf(aims), Aim::EachOf(others)) => all_are_equal(aims, others),
         (Aim::OneOf(aims), Aim::OneOf(others)) => all_are_equal(aims, others),
-        (Aim::After(path, aim), Aim::After(way, other)) => path == way && are_equal(aim, other),
-        (Aim::Along(path, shape, hold, end), Aim::Along(way, form, stay, last)) => {
-            path == way && shape == form && are_equal(hold, stay) && are_equal(end, last)
+        (Aim::After(path, inner), Aim::After(other_path, other)) => {
+            path == other_path && are_equal(inner, other)
+        }
+        (
+            Aim::Along(path, shape, front, back),
+            Aim::Along(other_path, other_shape, other_front, other_back),
+        ) => {
+            path == other_path
+                && shape == other_shape
+                && are_equal(front, other_front)
+                && are_equal(back, other_back)
         }
         _ => false,
     }
