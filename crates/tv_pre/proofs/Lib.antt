@@ -38,6 +38,7 @@ pub mod EvenLemmas
 pub mod SizedAtoms
 pub mod FoundLemmas
 pub mod ArgumentLemmas
+pub mod EqualityLemmas
 pub mod SameRegionLemmas
 pub mod SameFoundLemmas
 pub mod PassedLemmas

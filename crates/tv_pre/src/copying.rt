@@ -1,6 +1,6 @@
 // What was found of a formula, for another one that is equal to it.
 
-ghost use Rattle.std.specs.Prelude.{map, IfOk, IfSome};
+ghost use Rattle.std.specs.Prelude.{◌≡◌, ◌≢◌, None, Contains, length, map, take, IfOk, IfSome};
 ghost use Rattle.tv_cert.specs.AimViews.{aim_states};
 ghost use Rattle.tv_pre.specs.Arguments.{AreFoundFirst};
 ghost use Rattle.tv_pre.specs.Copies.{SameFound};
@@ -35,7 +35,8 @@ pub(crate) fn found_alike(
     aim: &Aim,
 ) -> Result<Option<Found>, AllocError>
     requires found { IsFound (system_of search.now) search.now.last (aim_states earlier.now) found.now }
-    ensures { IfOk result (λ again. IfSome again (IsFound (system_of search.now) search.now.last (aim_states aim.now))) }
+    ensures found { IfOk result (λ again. IfSome again (IsFound (system_of search.now) search.now.last (aim_states aim.now))) }
+    ensures other { IfOk result (λ again. again ≡ None → aim_states earlier.now ≢ aim_states aim.now) }
 {
     if are_equal(earlier, aim) {
         Ok(Some(copy_found(search.setting.alloc, found)?))
@@ -52,7 +53,9 @@ pub(crate) fn found_before(
     aim: &Aim,
 ) -> Result<Option<Found>, AllocError>
     requires first { AreFoundFirst (system_of search.now) search.now.last (map aim_states aims.now) founds.now }
-    ensures { IfOk result (λ again. IfSome again (IsFound (system_of search.now) search.now.last (aim_states aim.now))) }
+    ensures found { IfOk result (λ again. IfSome again (IsFound (system_of search.now) search.now.last (aim_states aim.now))) }
+    ensures others { let first = take (length founds.now) (map aim_states aims.now) in
+        IfOk result (λ again. again ≡ None → ¬ Contains first (aim_states aim.now)) }
 {
     match (aims, founds) {
         ([earlier, aims @ ..], [found, founds @ ..]) => {

@@ -1,6 +1,6 @@
 // Formulas that are equal.
 
-ghost use Rattle.std.specs.Prelude.{◌≡◌, IsTrue, map};
+ghost use Rattle.std.specs.Prelude.{◌≡◌, ◌↔◌, IsTrue, map};
 ghost use Rattle.tv_cert.specs.AimViews.{aim_states};
 
 use tv_cert::Aim;
@@ -9,7 +9,7 @@ use tv_linear::Row;
 
 /// Whether the two lists have the same rows.
 fn rows_are_equal(first: &[Row], second: &[Row]) -> bool
-    ensures { IsTrue result → first.now ≡ second.now }
+    ensures { IsTrue result ↔ first.now ≡ second.now }
 {
     match (first, second) {
         ([], []) => true,
@@ -22,7 +22,7 @@ fn rows_are_equal(first: &[Row], second: &[Row]) -> bool
 
 /// Whether the lists have the same rows, one by one.
 fn lists_are_equal(first: &[Vec<Row>], second: &[Vec<Row>]) -> bool
-    ensures { IsTrue result → map (λ l. l.items) first.now ≡ map (λ l. l.items) second.now }
+    ensures { IsTrue result ↔ map (λ l. l.items) first.now ≡ map (λ l. l.items) second.now }
 {
     match (first, second) {
         ([], []) => true,
@@ -36,7 +36,7 @@ fn lists_are_equal(first: &[Vec<Row>], second: &[Vec<Row>]) -> bool
 /// Whether the formulas are equal, one by one.
 #[cycle(equality)]
 fn all_are_equal(first: &[Aim], second: &[Aim]) -> bool
-    ensures { IsTrue result → map aim_states first.now ≡ map aim_states second.now }
+    ensures { IsTrue result ↔ map aim_states first.now ≡ map aim_states second.now }
 {
     if first.len() != second.len() {
         return false;
@@ -52,7 +52,7 @@ fn all_are_equal(first: &[Aim], second: &[Aim]) -> bool
 /// Whether the two formulas are equal: they have the same parts at the same places.
 #[cycle(equality)]
 pub(crate) fn are_equal(first: &Aim, second: &Aim) -> bool
-    ensures { IsTrue result → aim_states first.now ≡ aim_states second.now }
+    ensures { IsTrue result ↔ aim_states first.now ≡ aim_states second.now }
 {
     match (first, second) {
         (Aim::Rows(lists), Aim::Rows(others)) => lists_are_equal(lists, others),

@@ -220,7 +220,7 @@ pub all_found-aims-preserved-in-Some : goal.all_found-aims-preserved-in-Some
 all_found-aims-preserved-in-Some t c =
     let about = system_of c.args.search.now in
     let last = c.args.search.now.last in
-    let told = subst (λ o. IfSome o (IsFound about last (aim_states c.aim-item.result))) c.in-Some.is c.in_ok-again.ensures in
+    let told = subst (λ o. IfSome o (IsFound about last (aim_states c.aim-item.result))) c.in-Some.is c.in_ok-again.ensures.found in
     let more = one_first about last c.args.aims.now c.aims.founds.items c.push_item.new.items.items c.aims.aim-index c.aim-item.result c.in-Some.again c.aims-test.true c.aim-item.is c.aims.invariant.1 c.aims.invariant.0 told c.in_ok-push_item.ensures in
     (more.0, more.1, even_later about.variables c.args.aims.now (c.aims.aim-index + 1) c.requires.even)
 
@@ -233,6 +233,6 @@ found_of-returns-in-Some-clause-counted t c =
     let e : aim_states c.args.aim.now ≡ statements.along c.in-Along.path c.in-Along.shape s o =
     ap aim_states c.in-Along.is ∙ ap aim_states (sym (rolls-Along c.in-Along.path c.in-Along.shape c.in-Along.first c.in-Along.second)) ∙ fold-roll-Aim statements.Statement aim_node (Aim-F.Along c.in-Along.path c.in-Along.shape c.in-Along.first c.in-Along.second) in
     let one = subst (λ (a : Aim). IsFound about last (aim_states a) c.in_ok-front-in-Along.front) c.deref-in-Along.ensures c.in_ok-front-in-Along.ensures.found in
-    let again = subst (λ z. IfSome z (IsFound about last (aim_states c.deref-in-Along-3.result.now))) c.in-Some.is c.in_ok-back-in-Along.ensures in
+    let again = subst (λ z. IfSome z (IsFound about last (aim_states c.deref-in-Along-3.result.now))) c.in-Some.is c.in_ok-back-in-Along.ensures.found in
     let other = subst (λ (a : Aim). IsFound about last (aim_states a) c.in-Some.back) c.deref-in-Along-3.ensures again in
     subst (λ (w : statements.Statement). IfErr c.along_found.result (IsCountedFor about w)) (sym e) (if_err c.along_found.result (λ x h. h s o one other) c.along_found.ensures.counted)
