@@ -6,23 +6,8 @@ ghost use Rattle.tv_choice.specs.Ways.{lists_of, AreDifferentOf};
 
 use crate::ways::Way;
 use std::alloc::{AllocError, Global};
-use tv_farkas::is_same;
+use tv_farkas::are_same;
 use tv_linear::{Row, push_item};
-
-/// Whether the two lists have the same rows.
-fn are_same(first: &[Row], second: &[Row]) -> bool
-    ensures { IsTrue result → first.now ≡ second.now }
-{
-    if first.len() != second.len() {
-        return false;
-    }
-    'rows: for place in 0..first.len() {
-        if !is_same(&first[place], &second[place]) {
-            return false;
-        }
-    }
-    true
-}
 
 /// Whether some way is found to have these rows.
 fn has_way(ways: &[Way], rows: &[Row]) -> bool

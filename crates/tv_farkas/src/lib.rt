@@ -23,6 +23,6 @@ pub use judging::{judge, unsolved};
 pub use points::{divided, first_fraction, floor_of};
 pub use refuted::Refuted;
 pub use refuting::refute;
-pub use rows::{Distinct, at_least, at_most, is_among, is_same, take_once};
+pub use rows::{Distinct, are_same, at_least, at_most, is_among, is_same, take_once};
 pub use splitting::{Halves, halves_at_point, split_of};
 pub use stretching::stretch;

@@ -23,6 +23,17 @@ pub fn is_same(first: &Row, second: &Row) -> bool
     first.constant() == second.constant() && first.coefficients() == second.coefficients()
 }
 
+/// Whether the two lists have the same rows, one by one.
+pub fn are_same(first: &[Row], second: &[Row]) -> bool
+    ensures { IsTrue result ↔ first.now ≡ second.now }
+{
+    match (first, second) {
+        ([], []) => true,
+        ([row, rows @ ..], [other, others @ ..]) => is_same(row, other) && are_same(rows, others),
+        _ => false,
+    }
+}
+
 /// Whether the row is one of the list.
 pub fn is_among(rows: &[Row], row: &Row) -> bool
     ensures { IsTrue result ↔ Contains rows.now row.now }

@@ -7,7 +7,7 @@ use Rattle.tv_simplex.specs.Rows.{none, entry_in, row_of}
 abbrev pub class_of : ℕ → ℕ
 class_of column = column % 64
 
--- where the bit of a class is 0, the row has 0 in each of the first columns that are of this class
+-- where the bit of a class is 0, the row has 0 in each column of this class, of so many columns
 abbrev pub AreMarksOf : ℕ → List Entry → ℕ → Type 0
 AreMarksOf columns row marks = (column : ℕ) → column < columns → bit_at marks (class_of column) ≡ 0 → entry_in row column ≡ none
 
@@ -16,7 +16,7 @@ pub record AreMarked {A : Type 0} (columns height : ℕ) (rows : List (Vec Entry
   pub size : length marks ≡ height
   pub each : (i : ℕ) → i < height → AreMarksOf columns (row_of rows i) (get_or marks i 0)
 
--- each of the first rows has its marks, but perhaps those rows in which a column has these entries
+-- each of the first rows has its marks, except perhaps the rows of these entries of a column
 pub record AreMarkedBut {A : Type 0} (entries : List Entry) (columns height : ℕ) (rows : List (Vec Entry A)) (marks : List ℕ) : Type 0 where
   pub size : length marks ≡ height
   pub each : (i : ℕ) → i < height → entry_in entries i ≡ none → AreMarksOf columns (row_of rows i) (get_or marks i 0)

@@ -14,8 +14,8 @@ use crate::stop::Stop;
 use crate::table::{Spare, Table};
 use std::mem;
 
-/// Takes the pivot row out of each other row, as often as its factor says. The factors are the entries of a column, and the
-/// other list is one to write to.
+/// Takes the pivot row out of each other row, as often as its factor says. The factors are the entries of a column,
+/// and the other list is one to write to.
 fn clear_column(
     rows: &mut [Vec<Entry>],
     row: usize,

@@ -27,7 +27,7 @@ fn with_mark(marks: u64, column: usize) -> u64
     marks | 1 << (column % CLASSES)
 }
 
-/// The marks of a row, of which only the first columns count.
+/// The marks of a row, of which only the first columns count. Where each class has one, the later entries are not read.
 fn marks_of(row: &[Entry], columns: usize) -> u64
     requires { (width : ℕ) × IsSparse 0 width row.now }
     ensures { AreMarksOf columns row.now result }
@@ -66,7 +66,7 @@ pub fn first_marks(
     Ok(marks)
 }
 
-/// Marks the rows anew in which a column has these entries.
+/// Marks anew the rows of these entries of a column.
 pub fn mark_again(marks: &mut [u64], rows: &[Vec<Entry>], entries: &[Entry], columns: usize)
     requires rows { (width : ℕ) × IsGrid width rows.now }
     requires height { length marks.old ≤ length rows.now }

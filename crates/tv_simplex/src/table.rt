@@ -27,7 +27,8 @@ pub struct Spare {
 pub struct Table {
     /// The rows, the objective last: entries that are not 0, in the order of their columns.
     pub rows: Vec<Vec<Entry>>,
-    /// For each row but the objective a bit for each class of columns of the system, 1 where it may have a number in one of them.
+    /// For each row but the objective a bit for each class of columns of the system: 1 where the row may have a number
+    /// in one of them.
     pub marks: Vec<u64>,
     /// The column of each row.
     pub basis: Vec<u32>,

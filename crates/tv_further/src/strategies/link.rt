@@ -8,6 +8,7 @@ use crate::question::Question;
 use crate::rows::combining::all_put_in;
 use crate::rows::solving::Effort;
 use std::alloc::{AllocError, Global};
+use tv_farkas::are_same;
 use tv_linear::{Row, copies};
 
 /// A way that may be taken from one area into another.
@@ -19,14 +20,6 @@ pub(crate) struct Link {
     pub owed: Vec<Row>,
     /// The passage between the areas, whose case is taken as the way says.
     pub passage: Passage,
-}
-
-/// Whether the rows are the same, one by one.
-pub(crate) fn are_same(first: &[Row], second: &[Row]) -> bool {
-    first.len() == second.len()
-        && first.iter().zip(second).all(|(one, other)| {
-            one.coefficients() == other.coefficients() && one.constant() == other.constant()
-        })
 }
 
 /// The ways to take the cases of the program, each once.

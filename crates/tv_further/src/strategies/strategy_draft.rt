@@ -7,8 +7,9 @@ use crate::cycles::way::Way;
 use crate::limits::{AREAS, STRATEGY_CUTS};
 use crate::question::Question;
 use crate::rows::solving::Effort;
-use crate::strategies::link::{Link, are_same};
+use crate::strategies::link::Link;
 use std::alloc::{AllocError, Global};
+use tv_farkas::are_same;
 use tv_linear::{Row, copies};
 
 /// Areas for which a strategy is sought.
