@@ -4,21 +4,8 @@ ghost use Rattle.std.specs.Prelude.{◌≡◌, ◌↔◌, IsTrue, map};
 ghost use Rattle.tv_cert.specs.AimViews.{aim_states};
 
 use tv_cert::Aim;
-use tv_farkas::is_same;
+use tv_farkas::are_same;
 use tv_linear::Row;
-
-/// Whether the two lists have the same rows.
-fn rows_are_equal(first: &[Row], second: &[Row]) -> bool
-    ensures { IsTrue result ↔ first.now ≡ second.now }
-{
-    match (first, second) {
-        ([], []) => true,
-        ([row, rows @ ..], [other, others @ ..]) => {
-            is_same(row, other) && rows_are_equal(rows, others)
-        }
-        _ => false,
-    }
-}
 
 /// Whether the lists have the same rows, one by one.
 fn lists_are_equal(first: &[Vec<Row>], second: &[Vec<Row>]) -> bool
@@ -27,7 +14,7 @@ fn lists_are_equal(first: &[Vec<Row>], second: &[Vec<Row>]) -> bool
     match (first, second) {
         ([], []) => true,
         ([list, lists @ ..], [other, others @ ..]) => {
-            rows_are_equal(list, other) && lists_are_equal(lists, others)
+            are_same(list, other) && lists_are_equal(lists, others)
         }
         _ => false,
     }
