@@ -3,7 +3,7 @@ use Rattle.tv_pre.specs.Search.{system_of}
 use Rattle.tv_pre.proofs.SameFoundLemmas.{copy_same}
 use Rattle.tv_pre.proofs.copying.found_alike.Goals as goal
 
-pub returns-then-are_equal-clause-found : goal.returns-then-are_equal-clause-found
-returns-then-are_equal-clause-found c =
+pub returns-in_ok-copy_found-clause-found : goal.returns-in_ok-copy_found-clause-found
+returns-in_ok-copy_found-clause-found c =
     copy_same (system_of c.args.search.now) c.args.search.now.last (aim_states c.args.earlier.now) (aim_states c.args.aim.now) c.args.found.now
-    c.in_ok-copy_found.field-0 (c.are_equal.ensures c.if-are_equal.true) c.requires.found c.in_ok-copy_found.ensures
+    c.in_ok-copy_found.field-0 (c.are_equal.ensures.0 c.if-are_equal.true) c.requires.found c.in_ok-copy_found.ensures
