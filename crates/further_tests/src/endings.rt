@@ -28,6 +28,12 @@ const HALF: &str =
 /// Falls by a number that falls.
 const FALLING: &str = "START: 0; FROM: 0; assume(x > 0); x := x + y; y := y - 1; TO: 0;";
 
+/// Stays where it is.
+const IDLE: &str = "START: 0; FROM: 0; TO: 0;";
+
+/// Goes up without end from above 0.
+const RISING: &str = "START: 0; FROM: 0; assume(x > 0); x := x + 1; TO: 0;";
+
 /// A program, a property of it, and what is said.
 const ROWS: &[(&str, &str, Outcome)] = &[
     (TOWARDS, "term", Outcome::Proved),
@@ -45,6 +51,24 @@ const ROWS: &[(&str, &str, Outcome)] = &[
 #[test]
 fn runs_end_where_guards_split(rt: HostRuntime) -> Result<(), Fail> {
     for (program, property, wanted) in ROWS {
+        let answer = answer_to(rt.alloc(), program, property)?;
+        assert_eq!(rt; answer, *wanted, "{property} {program}");
+    }
+    Ok(())
+}
+
+/// The same of runs that never end.
+const ENDLESS: &[(&str, &str, Outcome)] = &[
+    (IDLE, "!term", Outcome::Proved),
+    (IDLE, "[AG]([EX](!term))", Outcome::Proved),
+    (RISING, "!term", Outcome::Disproved),
+    (RISING, "x <= 0 || !term", Outcome::Proved),
+    (HALF, "x >= 0 || !term", Outcome::Proved),
+];
+
+#[test]
+fn runs_never_end_on_closed_cycles(rt: HostRuntime) -> Result<(), Fail> {
+    for (program, property, wanted) in ENDLESS {
         let answer = answer_to(rt.alloc(), program, property)?;
         assert_eq!(rt; answer, *wanted, "{property} {program}");
     }

@@ -3,6 +3,7 @@
 pub(crate) mod atom_part;
 pub(crate) mod cycles_within;
 pub(crate) mod ending_part;
+pub(crate) mod endless_part;
 pub(crate) mod falling_choice;
 pub(crate) mod fixed_part;
 pub(crate) mod formula_part;

@@ -13,6 +13,8 @@ use tv_linear::Row;
 pub(crate) struct Sides<'a> {
     /// Where it may go on.
     pub hold: &'a [Area],
+    /// Whether a proof is owed that it may go on where it does. For endless runs none is.
+    pub owes_hold: bool,
     /// Where it is at the end.
     pub end: &'a [Area],
     /// The first argument, where it is to hold at the end too.
@@ -38,7 +40,7 @@ impl Sides<'_> {
         push_into(question, area, self.second, effort, proofs)
     }
 
-    /// Puts the proof that it may go on in the area at the end of the list; whether it was found.
+    /// Puts the proof that it may go on in the area at the end of the list, where one is owed; whether it was found.
     pub(crate) fn push_hold(
         &self,
         question: &Question,
@@ -46,6 +48,9 @@ impl Sides<'_> {
         effort: &mut Effort,
         proofs: &mut Vec<Proof>,
     ) -> Result<bool, AllocError> {
+        if !self.owes_hold {
+            return Ok(true);
+        }
         push_into(question, area, self.hold, effort, proofs)
     }
 }

@@ -23,7 +23,7 @@ enum Ending {
 }
 
 /// Each location, with the rows that are known there.
-fn first_areas(question: &Question) -> Result<Vec<Area>, AllocError> {
+pub(crate) fn first_areas(question: &Question) -> Result<Vec<Area>, AllocError> {
     let mut areas = Vec::new(question.alloc);
     for location in 0..question.about.locations() {
         let rows = question.known_at(location)?;

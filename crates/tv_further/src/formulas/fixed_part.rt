@@ -3,7 +3,7 @@
 use crate::areas::sides::{Sides, common_areas};
 use crate::formulas::cycles_within::with_cycles;
 use crate::formulas::found::{Ended, Found, better, end_alone, part_found};
-use crate::formulas::kept::{Seeking, with_kept};
+use crate::formulas::kept::{Seeking, Staying, with_kept};
 use crate::formulas::layers::with_layers;
 use crate::formulas::region_part::Part;
 use crate::formulas::stopping_rows::areas_asked;
@@ -82,10 +82,10 @@ fn first_keeping(
     }
 }
 
-/// What was found of a fixed point that may go on for ever, and areas of the hold side that stay: first with cuts, and then from whole areas.
-fn with_hold(
+/// What was found of runs that may go on for ever, and areas of the hold side that stay: first with cuts, and then from whole areas.
+pub(crate) fn with_hold(
     question: &Question,
-    path: &Path,
+    staying: Staying,
     sides: &Sides,
     found: Found,
     effort: &mut Effort,
@@ -94,7 +94,7 @@ fn with_hold(
     for rounds in [CUTS, 0] {
         let areas = sides.hold;
         let seeking = Seeking {
-            path,
+            staying,
             areas,
             rounds,
         };
@@ -114,7 +114,7 @@ fn with_stops(
         None => Ok(found),
         Some(areas) => {
             let seeking = Seeking {
-                path: &Path::Every,
+                staying: Staying::Every,
                 areas: &areas,
                 rounds: CUTS,
             };
@@ -133,10 +133,15 @@ fn keeping(
     let Some(first) = first_keeping(question, path, sides, effort)? else {
         return Ok(None);
     };
-    let found = with_hold(question, path, sides, first, effort)?;
     match path {
-        Path::Every => Ok(Some(with_stops(question, sides, found, effort)?)),
-        Path::Any => Ok(Some(found)),
+        Path::Every => {
+            let found = with_hold(question, Staying::Every, sides, first, effort)?;
+            Ok(Some(with_stops(question, sides, found, effort)?))
+        }
+        Path::Any => {
+            let found = with_hold(question, Staying::AnyOrNone, sides, first, effort)?;
+            Ok(Some(found))
+        }
     }
 }
 
@@ -168,6 +173,7 @@ fn found_with_both<'a>(
     };
     let sides = Sides {
         hold: &second.areas,
+        owes_hold: true,
         end: &end,
         first: Some(&first.areas),
         second: &second.areas,
@@ -186,6 +192,7 @@ fn found_with_second<'a>(
 ) -> Result<Option<Found>, AllocError> {
     let sides = Sides {
         hold: &first.areas,
+        owes_hold: true,
         end: &second.areas,
         first: None,
         second: &second.areas,

@@ -2,6 +2,7 @@
 
 use crate::formulas::atom_part::atom_part;
 use crate::formulas::ending_part::ending_part;
+use crate::formulas::endless_part::endless_part;
 use crate::formulas::fixed_part::fixed_part;
 use crate::formulas::joined_part::{each_of, one_of};
 use crate::formulas::next_part::{after_each, after_some};
@@ -47,7 +48,7 @@ pub(crate) fn part_of(
             fixed_part(question, path, shape, first, second, effort)
         }
         Aim::Ends => ending_part(question, effort),
-        Aim::NeverEnds => Ok(None),
+        Aim::NeverEnds => endless_part(question, effort),
     }
 }
 

@@ -1,4 +1,4 @@
-// Fixed points that may go on for ever: areas of the hold side are cut until from each of them every step, or some step, stays.
+// Runs that may go on for ever: areas are cut until from each of them every step, or some step, stays.
 
 use crate::areas::area::{Area, both, place_among, push_areas};
 use crate::areas::cutting::{cut_by_all, parts_outside, push_apart};
@@ -15,8 +15,18 @@ use crate::question::Question;
 use crate::rows::solving::Effort;
 use std::alloc::AllocError;
 use tv_cert::Proof;
-use tv_formula::Path;
 use tv_linear::Row;
+
+/// How runs are to stay in areas.
+#[derive(Clone, Copy)]
+pub(crate) enum Staying {
+    /// By every step.
+    Every,
+    /// By some step, or since there is none.
+    AnyOrNone,
+    /// By some step.
+    Any,
+}
 
 /// Areas some of which are known to hold.
 #[derive(Drop)]
@@ -49,9 +59,10 @@ fn keeping_of(
     })
 }
 
-/// The moves from the location into the areas, and where no step leads out of it.
+/// The moves from the location into the areas, and, where a run may stop, where no step leads out of it.
 fn moves_into(
     question: &Question,
+    staying: Staying,
     location: u32,
     areas: &[Area],
     effort: &mut Effort,
@@ -67,8 +78,10 @@ fn moves_into(
         let rows = entry.rows;
         moves.push(Move { rows, taken })?;
     }
-    for rows in stops_at(question, location, effort)? {
-        moves.push(Move { rows, taken: None })?;
+    if let Staying::AnyOrNone = staying {
+        for rows in stops_at(question, location, effort)? {
+            moves.push(Move { rows, taken: None })?;
+        }
     }
     Ok(moves)
 }
@@ -101,14 +114,15 @@ fn kept_every(
     }
 }
 
-/// What is kept of the area so that some step stays in the areas, or none leads out.
+/// What is kept of the area so that some step stays in the areas, or there is none, where a run may stop.
 fn kept_any(
     question: &Question,
+    staying: Staying,
     area: &Area,
     areas: &[Area],
     effort: &mut Effort,
 ) -> Result<Kept, AllocError> {
-    let moves = moves_into(question, area.location, areas, effort)?;
+    let moves = moves_into(question, staying, area.location, areas, effort)?;
     match choice_by(question, area, &moves, effort)? {
         Some(_) => Ok(Kept::Whole),
         None => Ok(Kept::Parts(lists_by(question, area, &moves, effort)?)),
@@ -135,14 +149,14 @@ fn lists_by(
 /// What is kept of the area.
 fn kept_of(
     question: &Question,
-    path: &Path,
+    staying: Staying,
     area: &Area,
     areas: &[Area],
     effort: &mut Effort,
 ) -> Result<Kept, AllocError> {
-    match path {
-        Path::Every => kept_every(question, area, areas, effort),
-        Path::Any => kept_any(question, area, areas, effort),
+    match staying {
+        Staying::Every => kept_every(question, area, areas, effort),
+        Staying::AnyOrNone | Staying::Any => kept_any(question, staying, area, areas, effort),
     }
 }
 
@@ -163,7 +177,7 @@ fn push_parts(
 /// Cuts the area at this place, of which the parts that are kept come to the end of the list; whether it was cut.
 fn cut_at(
     question: &Question,
-    path: &Path,
+    staying: Staying,
     areas: &mut Vec<Area>,
     place: usize,
     with_parts: bool,
@@ -173,7 +187,7 @@ fn cut_at(
         return Ok(false);
     };
     let location = area.location;
-    match kept_of(question, path, area, areas, effort)? {
+    match kept_of(question, staying, area, areas, effort)? {
         Kept::Whole => Ok(false),
         Kept::Parts(parts) => {
             areas.remove(place);
@@ -189,14 +203,14 @@ fn cut_at(
 /// Whether one was cut.
 fn cut_all(
     question: &Question,
-    path: &Path,
+    staying: Staying,
     now: &mut Keeping,
     with_parts: bool,
     effort: &mut Effort,
 ) -> Result<bool, AllocError> {
     let mut fewer = false;
     for place in (now.known..now.areas.len()).rev() {
-        if cut_at(question, path, &mut now.areas, place, with_parts, effort)? {
+        if cut_at(question, staying, &mut now.areas, place, with_parts, effort)? {
             fewer = true;
         }
     }
@@ -206,14 +220,14 @@ fn cut_all(
 /// The areas after at most so many rounds of cuts, and after that without those that are not kept whole; `None` where too many are left.
 fn settled(
     question: &Question,
-    path: &Path,
+    staying: Staying,
     start: Keeping,
     rounds: usize,
     effort: &mut Effort,
 ) -> Result<Option<Keeping>, AllocError> {
     let mut now = start;
     for round in 0..AREAS {
-        if !cut_all(question, path, &mut now, round < rounds, effort)? {
+        if !cut_all(question, staying, &mut now, round < rounds, effort)? {
             return Ok(Some(now));
         }
         if now.areas.len() > AREAS {
@@ -226,16 +240,16 @@ fn settled(
 /// Puts the proofs of an area that goes on at the end of the list; whether they were found.
 fn push_kept(
     question: &Question,
-    path: &Path,
+    staying: Staying,
     area: &Area,
     areas: &[Area],
     effort: &mut Effort,
     proofs: &mut Vec<Proof>,
 ) -> Result<bool, AllocError> {
-    match path {
-        Path::Every => push_steps_into(question, area, areas, effort, proofs),
-        Path::Any => {
-            let moves = moves_into(question, area.location, areas, effort)?;
+    match staying {
+        Staying::Every => push_steps_into(question, area, areas, effort, proofs),
+        Staying::AnyOrNone | Staying::Any => {
+            let moves = moves_into(question, staying, area.location, areas, effort)?;
             push_choice(question, area, &moves, effort, proofs)
         }
     }
@@ -244,7 +258,7 @@ fn push_kept(
 /// The proofs of the areas that were not known; `None` where one is not shown.
 fn kept_proofs(
     question: &Question,
-    path: &Path,
+    staying: Staying,
     sides: &Sides,
     keeping: &Keeping,
     effort: &mut Effort,
@@ -253,7 +267,7 @@ fn kept_proofs(
     for (place, area) in keeping.areas.iter().enumerate() {
         if place >= keeping.known
             && !(sides.push_hold(question, area, effort, &mut proofs)?
-                && push_kept(question, path, area, &keeping.areas, effort, &mut proofs)?)
+                && push_kept(question, staying, area, &keeping.areas, effort, &mut proofs)?)
         {
             return Ok(None);
         }
@@ -261,10 +275,10 @@ fn kept_proofs(
     Ok(Some(proofs))
 }
 
-/// From which areas on, over which paths and by how many rounds of cuts areas that stay are sought.
+/// From which areas on, how and by how many rounds of cuts areas that stay are sought.
 #[derive(Drop)]
 pub(crate) struct Seeking<'a> {
-    pub path: &'a Path,
+    pub staying: Staying,
     pub areas: &'a [Area],
     pub rounds: usize,
 }
@@ -277,13 +291,13 @@ pub(crate) fn with_kept(
     found: Found,
     effort: &mut Effort,
 ) -> Result<Found, AllocError> {
-    let path = seeking.path;
+    let staying = seeking.staying;
     let mut found = found;
     let Some(start) = keeping_of(question, seeking.areas, &found, effort)? else {
         return Ok(found);
     };
-    if let Some(keeping) = settled(question, path, start, seeking.rounds, effort)?
-        && let Some(mut proofs) = kept_proofs(question, path, sides, &keeping, effort)?
+    if let Some(keeping) = settled(question, staying, start, seeking.rounds, effort)?
+        && let Some(mut proofs) = kept_proofs(question, staying, sides, &keeping, effort)?
     {
         found.proofs.append(&mut proofs)?;
         found.stages.areas = keeping.areas;
