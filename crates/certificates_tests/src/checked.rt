@@ -7,6 +7,7 @@ use crate::texts::{STANDING, STAYING};
 use std::alloc::Global;
 use std::test::Fail;
 use tv_cert::{Failing, Kind};
+use tv_cert_reader::LineKind;
 use tv_check_text::{TextFailing, check_text};
 
 // What stands last in a certificate that x stays at most 5: that the piece of the root lies in that of its child, the step that is
@@ -35,9 +36,9 @@ const COVERS: [(&str, Option<TextFailing>); 6] = [
     ),
     (
         "into 0 0\nby 1 1 1\n",
-        Some(TextFailing::Shape { line: 13 }),
+        Some(TextFailing::Line(LineKind::Shape, 13)),
     ),
-    ("into 0 1\n", Some(TextFailing::Shape { line: 12 })),
+    ("into 0 1\n", Some(TextFailing::Line(LineKind::Shape, 12))),
 ];
 
 const CHOICES: [(&str, Option<TextFailing>); 4] = [
@@ -63,7 +64,7 @@ const CHOICES: [(&str, Option<TextFailing>); 4] = [
     ),
     (
         "into 0 0\nby 1 1\ntake 1 0 0\nby 1 1\n",
-        Some(TextFailing::Shape { line: 14 }),
+        Some(TextFailing::Line(LineKind::Shape, 14)),
     ),
 ];
 

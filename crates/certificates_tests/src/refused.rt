@@ -7,7 +7,7 @@ use crate::texts::{CLIMBER, COUNTDOWN, DOWN, ENDED, ENDLESS, LOOP, NEVER_BELOW};
 use std::alloc::Global;
 use std::test::Fail;
 use tv_cert::{Failing, Kind};
-use tv_cert_reader::read_certificate;
+use tv_cert_reader::{LineKind, read_certificate};
 use tv_check_text::{TextFailing, check_text};
 
 /// A certificate in two parts of a property over a program, and why it is not accepted. A line comes before an obligation.
@@ -37,21 +37,21 @@ const COUNTDOWNS: [Unmet; 4] = [
         property: "term",
         front: ENDED,
         end: "by 2 1\ninto 0 0\n",
-        wanted: TextFailing::Syntax { line: 18 },
+        wanted: TextFailing::Line(LineKind::Syntax, 18),
     },
     Unmet {
         program: COUNTDOWN,
         property: "term",
         front: ENDED,
         end: "by 2 1\ninto 1 0\nend\n",
-        wanted: TextFailing::Shape { line: 17 },
+        wanted: TextFailing::Line(LineKind::Shape, 17),
     },
     Unmet {
         program: COUNTDOWN,
         property: "term",
         front: ENDED,
         end: "by 2 1\ninto 0 4611686018427387904\nend\n",
-        wanted: TextFailing::Wide { line: 17 },
+        wanted: TextFailing::Line(LineKind::Wide, 17),
     },
 ];
 
@@ -72,7 +72,7 @@ const OTHERS: [Unmet; 5] = [
         property: "term",
         front: ENDLESS,
         end: "at 1 1\nend\n",
-        wanted: TextFailing::Shape { line: 13 },
+        wanted: TextFailing::Line(LineKind::Shape, 13),
     },
     // The case that is taken last leaves another location.
     Unmet {
@@ -80,7 +80,7 @@ const OTHERS: [Unmet; 5] = [
         property: "term",
         front: "T2CERT 1\ndisproved\nnode noterm 2 0\npiece 0 go 1\nrow -1 1\npiece 1 go 1\nrow -1 1\ntake 0 0 0\nby 1 1\ntake 0 0 0\nby 1 1\n",
         end: "at 0 1\nend\n",
-        wanted: TextFailing::Shape { line: 10 },
+        wanted: TextFailing::Line(LineKind::Shape, 10),
     },
     Unmet {
         program: LOOP,

@@ -9,7 +9,6 @@ use Rattle.tv_lines.specs.Lines.{PlainLine, formed, formless, wide}
 use Rattle.tv_lines.specs.declared.head.Head.{Head}
 use Rattle.tv_lines.specs.declared.head.Head.TheVariants as heads
 use Rattle.tv_lines.specs.declared.head.NodeKind.{NodeKind}
-use Rattle.tv_lines.specs.declared.head.NodeKind.TheVariants as kinds
 use Rattle.tv_lines.specs.declared.head.PieceMark.TheVariants as marks
 use Rattle.tv_linear.specs.Arithmetic.{zeros}
 use Rattle.tv_linear.proofs.PlainLists.{length-zeros}

@@ -39,10 +39,8 @@ use Rattle.tv_cert_reader.proofs.RightOrFaulty.{right_are_faultless}
 use Rattle.tv_cert_reader.specs.declared.cursor.Cursor.{Cursor}
 use Rattle.tv_cert_reader.specs.declared.failure.Failure.{Failure}
 use Rattle.tv_cert_reader.specs.declared.failure.Failure.TheVariants.{Fault, Memory}
-use Rattle.tv_cert_reader.specs.declared.fault.CertFault.{CertFault}
-use Rattle.tv_cert_reader.specs.declared.fault.CertFault.TheVariants as faults
 use Rattle.tv_cert_reader.specs.Reading.{Takes, FailsBy}
-use Rattle.tv_cert_reader.specs.Texts.{IsCertificateText, IsOfNone, IsAtFault, IsRefusedText, sides_of, fault_of}
+use Rattle.tv_cert_reader.specs.Texts.{IsCertificateText, IsOfNone, IsAtFault, IsRefusedText, sides_of}
 use Rattle.tv_cert_reader.specs.Wholes.{ReadsAll}
 use Rattle.tv_cert_reader.proofs.ReadingLemmas.{first_fails, second_fails}
 use Rattle.tv_cert_reader.proofs.VerdictLemmas.{ended, got_none}
@@ -133,14 +131,11 @@ module _ (system : CaseSystem) (some : 0 < system.locations) (claim : Claim) (va
   at_fault : (text : List ℕ) (k : LineKind) (number : ℕ) → IsFirstFault system (sides_of claim) (lines_of text) k number → IsAtFault system claim text k number
   at_fault text k number first = record { none = of_none text k number first; first = first }
 
-  pub refused : (text : List ℕ) (f : Failure) (c : Cursor) → c.lines ≡ lines_of text → c.taken ≡ 0 → ReadsAll system (sides_of claim) c (Err f) → IsRefusedText system claim text (fault_of f)
+  pub refused : (text : List ℕ) (f : Failure) (c : Cursor) → c.lines ≡ lines_of text → c.taken ≡ 0 → ReadsAll system (sides_of claim) c (Err f) → IsRefusedText system claim text f
   refused text Memory c is none h = tt
-  refused text (Fault kinds.Syntax number) c is none h = at_fault text kinds.Syntax number (subst (λ ls. IsFirstFault system (sides_of claim) ls kinds.Syntax number) is (h none))
-  refused text (Fault kinds.Wide number) c is none h = at_fault text kinds.Wide number (subst (λ ls. IsFirstFault system (sides_of claim) ls kinds.Wide number) is (h none))
-  refused text (Fault kinds.Deep number) c is none h = at_fault text kinds.Deep number (subst (λ ls. IsFirstFault system (sides_of claim) ls kinds.Deep number) is (h none))
-  refused text (Fault kinds.Shape number) c is none h = at_fault text kinds.Shape number (subst (λ ls. IsFirstFault system (sides_of claim) ls kinds.Shape number) is (h none))
+  refused text (Fault kind number) c is none h = at_fault text kind number (subst (λ ls. IsFirstFault system (sides_of claim) ls kind number) is (h none))
 
-  pub found : (text : List ℕ) (root : Node) (verdict : Verdict) (result : Result Certificate CertFault) → lines_of text ≡ lines_shown verdict root → MatchResult result (λ c. IsOf (about_with system) (shown claim verdict) c × (c.root ≡ root) × (c.verdict ≡ verdict)) (λ f. f ≡ faults.Memory) → IfOk result (λ c. IsCertificateText system claim text c)
+  pub found : (text : List ℕ) (root : Node) (verdict : Verdict) (result : Result Certificate Failure) → lines_of text ≡ lines_shown verdict root → MatchResult result (λ c. IsOf (about_with system) (shown claim verdict) c × (c.root ≡ root) × (c.verdict ≡ verdict)) (λ f. f ≡ Memory) → IfOk result (λ c. IsCertificateText system claim text c)
   found text root verdict (Ok c) lines h =
       let v = sym h.2 in
       let r = sym h.1 in

@@ -11,12 +11,9 @@ use Rattle.tv_cert_reader.specs.CertificateLines.{lines_about}
 use Rattle.tv_shape.specs.declared.certificate.Certificate.{Certificate}
 use Rattle.tv_shape.specs.Certificates.{IsOf}
 use Rattle.tv_cert_reader.specs.declared.kind.LineKind.{LineKind}
-use Rattle.tv_cert_reader.specs.declared.kind.LineKind.TheVariants as kinds
 use Rattle.tv_cert_reader.specs.CertificateGrammar.{Sides, IsFirstFault}
 use Rattle.tv_cert_reader.specs.declared.failure.Failure.{Failure}
-use Rattle.tv_cert_reader.specs.declared.failure.Failure.TheVariants as failures
-use Rattle.tv_cert_reader.specs.declared.fault.CertFault.{CertFault}
-use Rattle.tv_cert_reader.specs.declared.fault.CertFault.TheVariants.{Syntax, Wide, Deep, Shape, Memory}
+use Rattle.tv_cert_reader.specs.declared.failure.Failure.TheVariants.{Fault, Memory}
 
 -- The text is one of the certificate: its lines are the lines of the certificate, which fits the cases and what is claimed.
 pub record IsCertificateText (system : CaseSystem) (claim : Claim) (text : List ℕ) (c : Certificate) : Type 0 where
@@ -37,17 +34,6 @@ pub record IsAtFault (system : CaseSystem) (claim : Claim) (text : List ℕ) (k 
   pub first : IsFirstFault system (sides_of claim) (lines_of text) k number
 
 -- why the text is refused; want of memory says nothing of it
-abbrev pub IsRefusedText : CaseSystem → Claim → List ℕ → CertFault → Type 0
-IsRefusedText system claim text (Syntax number) = IsAtFault system claim text kinds.Syntax number
-IsRefusedText system claim text (Wide number) = IsAtFault system claim text kinds.Wide number
-IsRefusedText system claim text (Deep number) = IsAtFault system claim text kinds.Deep number
-IsRefusedText system claim text (Shape number) = IsAtFault system claim text kinds.Shape number
+abbrev pub IsRefusedText : CaseSystem → Claim → List ℕ → Failure → Type 0
+IsRefusedText system claim text (Fault kind number) = IsAtFault system claim text kind number
 IsRefusedText system claim text Memory = Unit {0}
-
--- the fault of a text in which this is at fault
-abbrev pub fault_of : Failure → CertFault
-fault_of (failures.Fault kinds.Syntax number) = Syntax number
-fault_of (failures.Fault kinds.Wide number) = Wide number
-fault_of (failures.Fault kinds.Deep number) = Deep number
-fault_of (failures.Fault kinds.Shape number) = Shape number
-fault_of failures.Memory = Memory

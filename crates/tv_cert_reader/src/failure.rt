@@ -1,8 +1,8 @@
 use crate::kind::LineKind;
 use std::alloc::{AllocError, AllocFailed};
 
-/// Why the reading of a part ended: the number of the line at fault, from 1, and what is at fault there.
-#[derive(Clone, Copy)]
+/// Why the reading ended: what is at fault at the first line that may not stand where it does, and its number, from 1.
+#[derive(Clone, Copy, Debug, PartialEq, Eq)]
 pub enum Failure {
     Fault(LineKind, u32),
     Memory,

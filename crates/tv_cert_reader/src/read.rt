@@ -3,14 +3,12 @@ ghost use Rattle.tv_cases.specs.Systems.{cases_of};
 ghost use Rattle.tv_cert.specs.Claims.{about_with, claim_variables, shown};
 ghost use Rattle.tv_shape.specs.Certificates.{IsOf};
 ghost use Rattle.tv_shape.specs.Fitting.{Fits};
-ghost use Rattle.tv_cert_reader.specs.Texts.{IsCertificateText, IsRefusedText, fault_of, sides_of};
+ghost use Rattle.tv_cert_reader.specs.Texts.{IsCertificateText, IsRefusedText, sides_of};
 ghost use Rattle.tv_cert_reader.specs.Wholes.{ReadsAll};
 
 use crate::context::Context;
 use crate::cursor::Cursor;
 use crate::failure::Failure;
-use crate::fault::CertFault;
-use crate::kind::LineKind;
 use crate::number_line::NumberLine;
 use crate::rows::numbers;
 use crate::verdict::said;
@@ -34,19 +32,6 @@ impl Context<'_> {
     }
 }
 
-/// The fault of a text in which this is at fault.
-fn fault_of(failure: Failure) -> CertFault
-    ensures { result ≡ fault_of failure }
-{
-    match failure {
-        Failure::Fault(LineKind::Syntax, line) => CertFault::Syntax { line },
-        Failure::Fault(LineKind::Wide, line) => CertFault::Wide { line },
-        Failure::Fault(LineKind::Deep, line) => CertFault::Deep { line },
-        Failure::Fault(LineKind::Shape, line) => CertFault::Shape { line },
-        Failure::Memory => CertFault::Memory,
-    }
-}
-
 /// The certificate of nodes that fit.
 fn certified(
     alloc: Global,
@@ -54,18 +39,18 @@ fn certified(
     claim: &Claim,
     root: Node,
     verdict: Verdict,
-) -> Result<Certificate, CertFault>
+) -> Result<Certificate, Failure>
     requires variables { claim_variables claim.now ≡ (cases_of about.now).variables }
     requires fits { Fits (about_with (cases_of about.now)) (shown claim.now verdict) root verdict }
     ensures { let system = cases_of about.now in
         let property = shown claim.now verdict in
         MatchResult result
         (λ c. IsOf (about_with system) property c × (c.root ≡ root) × (c.verdict ≡ verdict))
-        (λ f. f ≡ CertFault.Memory) }
+        (λ f. f ≡ Failure.Memory) }
 {
     match Certificate::new(alloc, about, claim, verdict, root) {
         Ok(certificate) => Ok(certificate),
-        Err(ShapeFault::Memory) => Err(CertFault::Memory),
+        Err(ShapeFault::Memory) => Err(Failure::Memory),
         Err(ShapeFault::Shape { .. }) => unreachable!(),
         Err(ShapeFault::Deep { .. }) => unreachable!(),
     }
@@ -78,7 +63,7 @@ pub fn read_certificate(
     text: &[u8],
     about: &Cases,
     claim: &Claim,
-) -> Result<Certificate, CertFault>
+) -> Result<Certificate, Failure>
     requires few { length text.now < 2 ^ 32 - 1 }
     requires variables { claim_variables claim.now ≡ (cases_of about.now).variables }
     // What is read is the certificate of the text.
@@ -93,6 +78,6 @@ pub fn read_certificate(
     };
     match context.whole(&mut cursor, claim) {
         Ok((root, verdict)) => certified(alloc, about, claim, root, verdict),
-        Err(failure) => Err(fault_of(failure)),
+        Err(failure) => Err(failure),
     }
 }

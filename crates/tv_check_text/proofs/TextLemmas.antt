@@ -17,10 +17,9 @@ use Rattle.tv_shape.specs.declared.certificate.Certificate.{Certificate}
 use Rattle.tv_shape.specs.Fitting.{Fits}
 use Rattle.tv_shape.specs.Kinds.{kinds_stated}
 use Rattle.tv_cert_reader.proofs.KindLemmas.{size_is_kinds}
-use Rattle.tv_cert_reader.specs.declared.kind.LineKind.TheVariants as kinds
 use Rattle.tv_cert_reader.specs.declared.failure.Failure.{Failure}
 use Rattle.tv_cert_reader.specs.declared.failure.Failure.TheVariants as failures
-use Rattle.tv_cert_reader.specs.Texts.{IsCertificateText, IsRefusedText, fault_of, sides_of}
+use Rattle.tv_cert_reader.specs.Texts.{IsCertificateText, IsRefusedText, sides_of}
 use Rattle.tv_cert_reader.specs.Wholes.{IsBehindSaid, begun, said_head, side, says}
 use Rattle.tv_cert_reader.proofs.FitLemmas.{shows, read_fits, read_lines}
 use Rattle.tv_cert_reader.proofs.FitLines.{AreFit, behind_two, text_fit}
@@ -94,9 +93,6 @@ module _ (system : CaseSystem) (claim : Claim) (variables : claim_variables clai
   }
 
 -- a text that is not read to its end
-pub unaccepted : (system : CaseSystem) (claim : Claim) (text : List ℕ) (f : Failure) → IsRefusedText system claim text (fault_of f) → IsUnaccepted system claim text (failing_of f)
-unaccepted system claim text (failures.Fault kinds.Syntax number) h = h
-unaccepted system claim text (failures.Fault kinds.Wide number) h = h
-unaccepted system claim text (failures.Fault kinds.Deep number) h = h
-unaccepted system claim text (failures.Fault kinds.Shape number) h = h
+pub unaccepted : (system : CaseSystem) (claim : Claim) (text : List ℕ) (f : Failure) → IsRefusedText system claim text f → IsUnaccepted system claim text (failing_of f)
+unaccepted system claim text (failures.Fault kind number) h = h
 unaccepted system claim text failures.Memory h = tt

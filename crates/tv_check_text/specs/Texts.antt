@@ -7,7 +7,6 @@ use Rattle.tv_cert.specs.Claims.{about_with, shown}
 use Rattle.tv_cert.specs.Nodes.{obligations}
 use Rattle.tv_cert.specs.Obligations.{Entry, AllMet}
 use Rattle.tv_shape.specs.declared.certificate.Certificate.{Certificate}
-use Rattle.tv_cert_reader.specs.declared.kind.LineKind.TheVariants as kinds
 use Rattle.tv_cert_reader.specs.declared.failure.Failure.{Failure}
 use Rattle.tv_cert_reader.specs.declared.failure.Failure.TheVariants as failures
 use Rattle.tv_cert_reader.specs.Texts.{IsCertificateText, IsAtFault}
@@ -16,7 +15,7 @@ use Rattle.tv_cert.specs.declared.failing.Failing.{Failing}
 use Rattle.tv_cert.specs.FirstFailing.{IsFirstFailing}
 use Rattle.tv_check_text.specs.declared.text.Accepted.{Accepted}
 use Rattle.tv_check_text.specs.declared.text.TextFailing.{TextFailing}
-use Rattle.tv_check_text.specs.declared.text.TextFailing.TheVariants.{Syntax, Wide, Deep, Shape, Obligation, Memory}
+use Rattle.tv_check_text.specs.declared.text.TextFailing.TheVariants.{Line, Obligation, Memory}
 use Rattle.tv_check_text.specs.Verdicts.{is_proved, values_in, values_of}
 
 -- the obligations of the certificate, with their proofs
@@ -40,19 +39,13 @@ pub record FailsFirst (system : CaseSystem) (claim : Claim) (text : List ℕ) (f
 
 -- why the text is not accepted; want of memory says nothing of it
 abbrev pub IsUnaccepted : CaseSystem → Claim → List ℕ → TextFailing → Type 0
-IsUnaccepted system claim text (Syntax number) = IsAtFault system claim text kinds.Syntax number
-IsUnaccepted system claim text (Wide number) = IsAtFault system claim text kinds.Wide number
-IsUnaccepted system claim text (Deep number) = IsAtFault system claim text kinds.Deep number
-IsUnaccepted system claim text (Shape number) = IsAtFault system claim text kinds.Shape number
+IsUnaccepted system claim text (Line kind number) = IsAtFault system claim text kind number
 IsUnaccepted system claim text (Obligation f) = FailsFirst system claim text f
 IsUnaccepted system claim text Memory = Unit {0}
 
 -- why a text is not accepted that is not read to its end
 abbrev pub failing_of : Failure → TextFailing
-failing_of (failures.Fault kinds.Syntax number) = Syntax number
-failing_of (failures.Fault kinds.Wide number) = Wide number
-failing_of (failures.Fault kinds.Deep number) = Deep number
-failing_of (failures.Fault kinds.Shape number) = Shape number
+failing_of (failures.Fault kind number) = Line kind number
 failing_of failures.Memory = Memory
 
 -- what is accepted with these values at which it is disproved, if it is

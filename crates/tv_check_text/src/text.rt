@@ -14,14 +14,8 @@ use tv_lines::Lines;
 /// Why the text is not accepted as a certificate. A fault at a line comes before an obligation that is not met.
 #[derive(Clone, Copy, Debug, PartialEq, Eq)]
 pub enum TextFailing {
-    /// A line that has none of the forms, a line that is missing, or one behind the last.
-    Syntax { line: u32 },
-    /// A number of 2^62 or more in magnitude.
-    Wide { line: u32 },
-    /// The 129th split on a path.
-    Deep { line: u32 },
-    /// A line of another form, with other numbers or more or fewer of them than is wanted there.
-    Shape { line: u32 },
+    /// What is at fault at the first line that may not stand where it does, and its number, from 1.
+    Line(LineKind, u32),
     /// The first obligation that is not met.
     Obligation(Failing),
     Memory,
@@ -43,10 +37,7 @@ fn failing_of(failure: Failure) -> TextFailing
     ensures { result ≡ failing_of failure }
 {
     match failure {
-        Failure::Fault(LineKind::Syntax, line) => TextFailing::Syntax { line },
-        Failure::Fault(LineKind::Wide, line) => TextFailing::Wide { line },
-        Failure::Fault(LineKind::Deep, line) => TextFailing::Deep { line },
-        Failure::Fault(LineKind::Shape, line) => TextFailing::Shape { line },
+        Failure::Fault(kind, line) => TextFailing::Line(kind, line),
         Failure::Memory => TextFailing::Memory,
     }
 }

@@ -7,7 +7,6 @@ use Rattle.tv_cert.specs.declared.claim.Claim.{Claim}
 use Rattle.tv_cert.specs.declared.node.Verdict.{Verdict}
 use Rattle.tv_cert.specs.declared.node.Verdict.TheVariants as verdicts
 use Rattle.tv_cert.specs.Claims.{IsClaim}
-use Rattle.tv_cert_reader.specs.declared.kind.LineKind.TheVariants as kinds
 use Rattle.tv_cert_reader.specs.Wholes.{says}
 use Rattle.tv_check_text.specs.declared.text.TextFailing.{TextFailing}
 use Rattle.tv_check_text.specs.declared.text.TextFailing.TheVariants as certs
@@ -22,10 +21,7 @@ use Rattle.tv_top.specs.CertificateChecks.{Accepted, IsProved, AnswersCheck, Say
 
 -- what a text is answered that is not accepted as a certificate
 pub no_certificate : (p : System) (f : Property) (system : CaseSystem) (text : List ℕ) (claim : Claim) → IsClaim claim f → (failing : TextFailing) → IsUnaccepted system claim text failing → AnswersCheck p f system text (without_certificate failing)
-no_certificate p f system text claim is (certs.Syntax line) h = record { claim = claim; is_claim = is; kind = kinds.Syntax; at_fault = h }
-no_certificate p f system text claim is (certs.Wide line) h = record { claim = claim; is_claim = is; kind = kinds.Wide; at_fault = h }
-no_certificate p f system text claim is (certs.Deep line) h = record { claim = claim; is_claim = is; kind = kinds.Deep; at_fault = h }
-no_certificate p f system text claim is (certs.Shape line) h = record { claim = claim; is_claim = is; kind = kinds.Shape; at_fault = h }
+no_certificate p f system text claim is (certs.Line kind line) h = record { claim = claim; is_claim = is; kind = kind; at_fault = h }
 no_certificate p f system text claim is (certs.Obligation failing) h = (record { claim = claim; is_claim = is; certificate = h.certificate; is_certificate = h.is_text }, h.first)
 no_certificate p f system text claim is certs.Memory h = tt
 

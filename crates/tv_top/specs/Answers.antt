@@ -189,9 +189,6 @@ too_wide points.Memory = Memory
 
 -- the answer for a text that is not accepted as a certificate
 abbrev pub without_certificate : TextFailing → Answer
-without_certificate (certs.Syntax line) = CertificateLine line
-without_certificate (certs.Wide line) = CertificateLine line
-without_certificate (certs.Deep line) = CertificateLine line
-without_certificate (certs.Shape line) = CertificateLine line
+without_certificate (certs.Line kind line) = CertificateLine line
 without_certificate (certs.Obligation failing) = Obligation failing
 without_certificate certs.Memory = Memory

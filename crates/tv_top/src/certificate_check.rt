@@ -23,10 +23,7 @@ fn without_certificate(failing: TextFailing) -> Answer
     ensures { result ≡ without_certificate failing }
 {
     match failing {
-        TextFailing::Syntax { line } => Answer::CertificateLine(line),
-        TextFailing::Wide { line } => Answer::CertificateLine(line),
-        TextFailing::Deep { line } => Answer::CertificateLine(line),
-        TextFailing::Shape { line } => Answer::CertificateLine(line),
+        TextFailing::Line(_, line) => Answer::CertificateLine(line),
         TextFailing::Obligation(failing) => Answer::Obligation(failing),
         TextFailing::Memory => Answer::Memory,
     }

@@ -2,7 +2,6 @@ use Rattle.std.proofs.Common.{[], length, refl, sym, ap, ◌∙◌, subst, arith
 use Rattle.tv_lines.specs.Lines.{formed}
 use Rattle.tv_lines.specs.declared.head.Head.TheVariants as heads
 use Rattle.tv_cases.specs.Systems.{cases_of}
-use Rattle.tv_cert_reader.specs.Texts.{IsRefusedText}
 use Rattle.tv_cert_reader.specs.Wholes.{says, said_head}
 use Rattle.tv_cert_reader.proofs.FitLemmas.{read_fits, read_lines}
 use Rattle.tv_cert_reader.proofs.FitLines.{AreFit, behind_two, text_fit}
@@ -30,5 +29,5 @@ pub returns-in-Err-clause-refused : goal.returns-in-Err-clause-refused
 returns-in-Err-clause-refused c =
     let system = cases_of c.args.about.now in
     let a = c.args.about.now.are_cases.starts in
-    subst (λ f. IsRefusedText system c.args.claim.now c.args.text.now f) (sym c.fault_of.ensures) (refused system (omega (arith, a)) c.args.claim.now c.requires.variables c.args.text.now c.in-Err.failure
-    (record { lines = c.new.result; taken = 0; room = (let f = lines_few c.args.text.now in let e = ap length c.new.ensures in let r = c.requires.few in omega (arith, f, e, r)) }) c.new.ensures refl c.in-Err.ensures)
+    refused system (omega (arith, a)) c.args.claim.now c.requires.variables c.args.text.now c.in-Err.failure
+    (record { lines = c.new.result; taken = 0; room = (let f = lines_few c.args.text.now in let e = ap length c.new.ensures in let r = c.requires.few in omega (arith, f, e, r)) }) c.new.ensures refl c.in-Err.ensures
