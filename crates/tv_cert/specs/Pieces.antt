@@ -1,6 +1,6 @@
 use Rattle.std.specs.Prelude.{◌≡◌, ℕ, List, All, Bool, true, false, Contains, ◌==◌}
 use Rattle.std.specs.List.{filter}
-use Rattle.tv_linear.specs.Linear.{Linear, IsMet}
+use Rattle.tv_linear.specs.Linear.{Linear, columns, IsMet}
 use Rattle.tv_program.specs.Steps.{State}
 use Rattle.tv_cert.specs.declared.node.Mark.{Mark}
 use Rattle.tv_cert.specs.declared.node.Mark.TheVariants.{Done, Go}
@@ -38,3 +38,7 @@ pub record InPieces (ps : List Marked) (s : State) : Type 0 where
 -- the pieces at a location, in order
 abbrev pub pieces_at : List Marked → ℕ → List Marked
 pieces_at ps l = filter (λ p. place_of p == l) ps
+
+-- the rows of the pieces are over n variables
+abbrev pub AreOver : ℕ → List Marked → Type 0
+AreOver n ps = (p : Marked) → Contains ps p → All (λ r. columns r ≡ n) (rows_of p)

@@ -1,6 +1,8 @@
-ghost use Rattle.std.specs.Prelude.{◌≡◌, [], IfOk, MatchOption, None, Some, slice_get, length, map};
+ghost use Rattle.std.specs.Prelude.{◌≡◌, ◌↔◌, [], IfOk, IsTrue, MatchOption, None, Some, slice_get, length, map};
 ghost use Rattle.std.specs.List.{flat_map};
-ghost use Rattle.tv_cert.specs.Pieces.{place_of, pieces_at};
+ghost use Rattle.std.specs.Option.{option_map};
+ghost use Rattle.tv_cert.specs.Pieces.{place_of, pieces_at, rows_of, AreOver};
+ghost use Rattle.tv_cert.specs.Obligations.{PointMet};
 ghost use Rattle.tv_cert.specs.Indexed.{IsIndexed};
 ghost use Rattle.tv_cert.specs.NodeViews.{pieces_list};
 
@@ -8,6 +10,7 @@ use crate::node::{Marked, Node};
 use std::alloc::{AllocError, Global};
 use std::marker::Model;
 use tv_places::{Stand, count_of, index, place_at};
+use tv_refute::meets_all;
 
 /// The pieces of a node, in order. Those at a location are found in time logarithmic in how many there are.
 #[derive(Drop)]
@@ -91,6 +94,18 @@ impl Pieces {
         match place_at(&self.index, location, k as usize) {
             None => None,
             Some(place) => self.list.get(place as usize),
+        }
+    }
+
+    /// Whether the values are in the piece at place `k` among those at the location.
+    pub fn hold(&self, location: u32, k: u32, values: &[i128]) -> bool
+        requires { AreOver (length values.now) self.now }
+        ensures { let there = slice_get (pieces_at self.now location) k in
+            IsTrue result ↔ PointMet values.now (option_map rows_of there) }
+    {
+        match self.at(location, k) {
+            None => false,
+            Some(piece) => meets_all(values, piece.rows()),
         }
     }
 

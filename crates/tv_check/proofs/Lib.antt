@@ -2,4 +2,3 @@ pub mod WalkLemmas
 pub mod SettlingLemmas
 pub mod ShownLemmas
 mod DestinationLemmas
-mod RowLemmas

@@ -10,16 +10,8 @@ use Rattle.tv_cert.specs.declared.node.Marked.{Marked}
 use Rattle.tv_cert.specs.Targets.{owed_into}
 use Rattle.tv_check.specs.Owes.{falls_of}
 use Rattle.std.proofs.lemmas.List.{map-append}
+use Rattle.tv_refute.proofs.ShownLemmas.{shown_join}
 use Rattle.tv_refute.proofs.Sums.{split_is}
-
--- rows joined are shown by lists joined
-pub shown_join : (n : ℕ) (known : List Known) (xs ys : List Known) (ls ms : List (List ℤ)) → length xs ≡ length ls → Shown n known (xs ++ ys) (ls ++ ms) ↔ (Shown n known xs ls × Shown n known ys ms)
-shown_join n known [] ys [] ms e = (λ h. (tt, h), λ h. h.1)
-shown_join n known [] ys (l ∷ ls) ms e = absurd (omega arith)
-shown_join n known (x ∷ xs) ys [] ms e = absurd (omega arith)
-shown_join n known (x ∷ xs) ys (l ∷ ls) ms e =
-    let h = shown_join n known xs ys ls ms (omega arith) in
-    (λ k. let r = h.0 k.1 in ((k.0, r.0), r.1), λ k. (k.0.0, h.1 (k.0.1, k.1)))
 
 few_lists : (n : ℕ) (known : List Known) (xs ys : List Known) (ls : List (List ℤ)) → Shown n known (xs ++ ys) ls → length xs ≤ length ls
 few_lists n known [] ys ls h = omega arith

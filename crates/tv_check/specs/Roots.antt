@@ -1,21 +1,16 @@
 -- The last obligation of a certificate.
-use Rattle.std.specs.Prelude.{◌≡◌, ℕ, ◌+◌, List, All, Contains, length, Result, MatchResult}
-use Rattle.tv_linear.specs.Linear.{columns}
+use Rattle.std.specs.Prelude.{◌≡◌, ℕ, ◌+◌, List, length, Result, MatchResult}
 use Rattle.tv_cases.specs.LinearCases.{CaseSystem}
 use Rattle.tv_cert.specs.declared.node.Kind.TheVariants as kind
 use Rattle.tv_cert.specs.declared.node.Marked.{Marked}
 use Rattle.tv_cert.specs.declared.node.Node.{Node}
 use Rattle.tv_cert.specs.declared.node.Verdict.{Verdict}
 use Rattle.tv_cert.specs.declared.node.Verdict.TheVariants.{Proved, Disproved}
-use Rattle.tv_cert.specs.Pieces.{rows_of}
+use Rattle.tv_cert.specs.Pieces.{AreOver}
 use Rattle.tv_cert.specs.Obligations.{IsMetEntry}
 use Rattle.tv_cert.specs.Nodes.{pieces_of, root_entry}
 use Rattle.tv_cert.specs.AboutSystem.{about_of}
 use Rattle.tv_cert.specs.declared.failing.Failing.{Failing}
-
--- the rows of the pieces are over n variables
-abbrev pub AreOver : ℕ → List Marked → Type 0
-AreOver n ps = (p : Marked) → Contains ps p → All (λ r. columns r ≡ n) (rows_of p)
 
 -- the rows of the root's pieces are over as many variables as there are values
 abbrev pub ValuesFit : Verdict → List Marked → Type 0

@@ -1,24 +1,19 @@
-ghost use Rattle.std.specs.Prelude.{◌≡◌, ◌↔◌, ◌+◌, ◌++◌, ◌∷◌, [], ◌<◌, ◌^◌, length, All, IsTrue, slice_get};
-ghost use Rattle.std.specs.Option.{option_map};
-ghost use Rattle.tv_linear.specs.Linear.{columns, IsMet};
+ghost use Rattle.std.specs.Prelude.{◌≡◌, ◌+◌, ◌++◌, ◌∷◌, [], ◌<◌, ◌^◌, length};
 ghost use Rattle.tv_cases.specs.Systems.{cases_of};
 ghost use Rattle.tv_cert.specs.declared.node.Verdict.TheVariants.{Proved, Disproved};
-ghost use Rattle.tv_cert.specs.Pieces.{rows_of, pieces_at};
-ghost use Rattle.tv_cert.specs.Obligations.{PointMet};
+ghost use Rattle.tv_cert.specs.Pieces.{AreOver};
 ghost use Rattle.tv_cert.specs.Nodes.{size, pieces_of, root_entry, node_entries, HasParts};
 ghost use Rattle.tv_cert.specs.AimViews.{aim_states};
 ghost use Rattle.tv_cert.specs.NodeViews.{pieces_list};
 ghost use Rattle.tv_cert.specs.AboutSystem.{about_of};
 ghost use Rattle.tv_cert.specs.FirstFailing.{Checks};
-ghost use Rattle.tv_check.specs.Roots.{AreOver, ValuesFit, SettlesRoot};
-ghost use Rattle.tv_linear.specs.Views.{rows_seen};
+ghost use Rattle.tv_check.specs.Roots.{ValuesFit, SettlesRoot};
 
 use crate::steps::rows_are_covered;
 use crate::walking::walk;
 use tv_cases::Cases;
-use tv_cert::{Aim, Failing, Kind, Node, Pieces, Verdict};
+use tv_cert::{Aim, Failing, Kind, Node, Verdict};
 use tv_linear::{Cover, Rows};
-use tv_refute::meets;
 
 /// Settles the last obligation where the property is proved: that the pieces of the root cover the start.
 fn check_start(about: &Cases, root: &Node, start: &Cover, seen: u64) -> Result<(), Failing>
@@ -50,30 +45,6 @@ fn root_failing(seen: u64) -> Failing
     }
 }
 
-/// Whether the values meet all of the rows.
-fn meets_all(values: &[i128], rows: Rows) -> bool
-    requires { All (λ r. columns r ≡ length values.now) (rows_seen rows) }
-    ensures { IsTrue result ↔ All (IsMet values.now) (rows_seen rows.entry) }
-{
-    for i in 0..rows.len() {
-        if !meets(values, rows.row(i)) {
-            return false;
-        }
-    }
-    true
-}
-
-/// Whether the values are in the piece at this place among those at the location.
-pub fn is_inside(pieces: &Pieces, location: u32, piece: u32, values: &[i128]) -> bool
-    requires { AreOver (length values.now) pieces.now }
-    ensures { IsTrue result ↔ PointMet values.now (option_map rows_of (slice_get (pieces_at pieces.now location) piece)) }
-{
-    match pieces.at(location, piece) {
-        None => false,
-        Some(inside) => meets_all(values, inside.rows()),
-    }
-}
-
 /// Settles the last obligation where the property is disproved: that the values are in this piece of the root at the start.
 fn check_values(
     about: &Cases,
@@ -86,7 +57,7 @@ fn check_values(
     requires over { AreOver (length values.now.items) (pieces_list root.now) }
     ensures { SettlesRoot (cases_of about.now) root.now (Disproved piece values.now) seen result }
 {
-    if is_inside(&root.pieces, about.start(), piece, values) {
+    if root.pieces.hold(about.start(), piece, values) {
         Ok(())
     } else {
         Err(root_failing(seen))

@@ -7,12 +7,9 @@ mod entering;
 mod falls;
 mod obligations;
 mod pieces;
-mod rank;
 mod ranks;
 mod settler;
 mod steps;
 mod walking;
 
-pub use checking::{check, is_inside};
-pub use falls::{shows_less, shows_not_below};
-pub use rank::Rank;
+pub use checking::check;

@@ -5,7 +5,7 @@ use Rattle.std.proofs.lemmas.List.{length-map, length-take-le, map-append, take_
 use Rattle.tv_linear.specs.Known.{Known, denied}
 use Rattle.tv_linear.specs.Covers.{Shown}
 use Rattle.tv_linear.specs.Refutation.{Refutes}
-use Rattle.tv_check.proofs.ShownLemmas.{shown_join}
+use Rattle.tv_refute.proofs.ShownLemmas.{shown_join}
 use Rattle.tv_cert_reader.specs.LineGrammar.{many, by}
 use Rattle.tv_cert_reader.specs.declared.cursor.Cursor.{Cursor}
 use Rattle.tv_cert_reader.specs.declared.failure.Failure.{Failure}

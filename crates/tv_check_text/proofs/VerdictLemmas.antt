@@ -23,7 +23,7 @@ use Rattle.tv_cert.specs.Shapes.{PieceShape, may_be_done, NodeShape}
 use Rattle.tv_cert.specs.Statements.{Statement}
 use Rattle.tv_cert.specs.Targets.{owed_into, no_fall}
 use Rattle.tv_cert.proofs.NodeLemmas.{pieces_are}
-use Rattle.tv_check.specs.Roots.{AreOver}
+use Rattle.tv_cert.specs.Pieces.{AreOver}
 use Rattle.tv_cert_reader.specs.CertificateLines.{cover_lines, node_lines}
 use Rattle.tv_cert_reader.specs.declared.cursor.Cursor.{Cursor}
 use Rattle.tv_cert_reader.specs.Reading.{Takes}

@@ -6,9 +6,8 @@ ghost use Rattle.tv_refute.specs.Frames.{known_at};
 ghost use Rattle.tv_check_text.specs.Owed.{entered_listed, fall_listed, owed_listed, ShowsRow};
 
 use crate::fall::Fall;
-use tv_check::{Rank, shows_less, shows_not_below};
 use tv_linear::{Row, RowView, Rows};
-use tv_refute::{Change, Frames, shows};
+use tv_refute::{Change, Frames, Rank, shows, shows_less, shows_not_below};
 
 /// The rows to be shown on entering a target: its own, and then those of a fall.
 #[derive(Drop)]

@@ -11,7 +11,6 @@ use crate::proof::start_is_covered;
 use crate::visiting::first_failing;
 use tv_cert::{Aim, Claim, Failing, Kind};
 use tv_cert_reader::{Context, Failure, LineKind, NumberLine, Walk, finish, numbers, said, values};
-use tv_check::is_inside;
 
 /// Takes note of the last obligation, which is the root's.
 fn settle_root(checker: &mut Checker, met: bool)
@@ -62,7 +61,7 @@ fn check_denied(
     if root.pieces.at(about.start(), piece).is_none() {
         return Err(Failure::Fault(LineKind::Shape, walk.cursor.taken));
     }
-    let met = is_inside(&root.pieces, about.start(), piece, &values);
+    let met = root.pieces.hold(about.start(), piece, &values);
     settle_root(&mut walk.taker, met);
     numbers(context.alloc, &mut walk.cursor, NumberLine::End, 0)?;
     finish(context.alloc, &mut walk.cursor)?;

@@ -8,3 +8,4 @@ pub mod ShownLemmas
 pub mod Soundness
 pub mod Refuting
 pub mod Wholes
+mod RowLemmas

@@ -10,6 +10,7 @@ mod addends;
 mod blocks;
 mod built;
 mod cover;
+mod falls;
 mod frames;
 mod met;
 mod refute;
@@ -19,8 +20,9 @@ mod terms;
 
 pub use built::{Built, number_of};
 pub use cover::{Targets, cover_is_met};
+pub use falls::{Rank, shows_less, shows_not_below};
 pub use frames::Frames;
-pub use met::meets;
+pub use met::{meets, meets_all};
 pub use refute::{refutes, refutes_denial};
 pub use shown::{Change, shown_rows, shows};
 pub use terms::Terms;

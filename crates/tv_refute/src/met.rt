@@ -1,9 +1,9 @@
-ghost use Rattle.std.specs.Prelude.{◌≡◌, ◌+◌, ◌^◌, ◌<◌, ◌≤◌, ◌↔◌, ◌+ℤ◌, ◌*ℤ◌, ◌≤ℤ◌, ◌<ℤ◌, pos, length, unsigned_abs, IsTrue};
+ghost use Rattle.std.specs.Prelude.{◌≡◌, ◌+◌, ◌^◌, ◌<◌, ◌≤◌, ◌↔◌, ◌+ℤ◌, ◌*ℤ◌, ◌≤ℤ◌, ◌<ℤ◌, pos, length, All, unsigned_abs, IsTrue};
 ghost use Rattle.tv_linear.specs.Linear.{columns, IsWithin, IsMet};
 ghost use Rattle.tv_refute.specs.Wide.{whole, whole_of, IsSmall};
-ghost use Rattle.tv_linear.specs.Views.{row_seen};
+ghost use Rattle.tv_linear.specs.Views.{row_seen, rows_seen};
 
-use tv_linear::RowView;
+use tv_linear::{RowView, Rows};
 
 const PART: i128 = 1 << 62;
 
@@ -30,6 +30,19 @@ pub fn meets(values: &[i128], row: RowView) -> bool
         total = plus(i, total, product(i128::from(coefficients[i]), values[i]));
     }
     is_at_most_zero(plus(values.len(), total, product(row.constant(), 1)))
+}
+
+/// Whether numbers meet all of the rows.
+pub fn meets_all(values: &[i128], rows: Rows) -> bool
+    requires { All (λ r. columns r ≡ length values.now) (rows_seen rows) }
+    ensures { IsTrue result ↔ All (IsMet values.now) (rows_seen rows.entry) }
+{
+    for i in 0..rows.len() {
+        if !meets(values, rows.row(i)) {
+            return false;
+        }
+    }
+    true
 }
 
 /// The quotient by 2^62, rounded down, and what is left.

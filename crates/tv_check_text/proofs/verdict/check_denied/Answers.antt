@@ -87,8 +87,8 @@ returns-in_err-finish c =
     (some_by (λ q. q.now) c.at.result (slice_get (pieces_at (pieces_list c.in_ok-root.root) c.start.result) c.in_ok-place.place) c.at.ensures c.if-is_none.ensures)) c.numbers.new.cursor f
     (subst (λ zs. Takes (formed heads.End zs ∷ []) c.values.new.cursor c.numbers.new.cursor) none c.in_ok-numbers.ensures.1) c.in_err-finish.ensures)
 
-pub is_inside-met-requires : goal.is_inside-met-requires
-is_inside-met-requires c =
+pub hold-met-requires : goal.hold-met-requires
+hold-met-requires c =
     let system = cases_of c.args.context.now.about.now in
     let j = c.in_ok-root.ensures.walked in
     pieces_over system (aim_states c.args.aim.now) j.node (pieces_list c.in_ok-root.root) (length c.deref.result.now) j.is_node j.pieces
@@ -102,9 +102,9 @@ returns c =
     let ps = pieces_list c.in_ok-root.root in
     let place = c.in_ok-place.place in
     let none = no_columns c.in_ok-numbers.field-0.items c.in_ok-numbers.ensures.0.many in
-    denied_checked system s c.args.walk.now c.node.new.self c.requires c.in_ok-root.root j _ c.is_inside-met.result c.settle_root.ensures.seen c.settle_root.ensures.failing
+    denied_checked system s c.args.walk.now c.node.new.self c.requires c.in_ok-root.root j _ c.hold-met.result c.settle_root.ensures.seen c.settle_root.ensures.failing
     c.values.new.cursor c.numbers.new.cursor place c.in_ok-place.values (record { many = c.in_ok-place.ensures.0.many ∙ c.variables.ensures.same; narrow = c.in_ok-place.ensures.0.narrow }) c.in_ok-place.ensures.1
     (subst (λ l. IsSome (slice_get (pieces_at ps l) place)) c.start.ensures.same (there_by (λ q. q.now) c.at.result (slice_get (pieces_at ps c.start.result) place) c.at.ensures c.if-is_none.ensures))
-    (subst (λ (x : Type 0). x) (λ i. IsTrue c.is_inside-met.result ↔ PointMet (c.deref.ensures.value i) (option_map rows_of (slice_get (pieces_at ps (c.start-2.ensures.same i)) place))) c.is_inside-met.ensures)
+    (subst (λ (x : Type 0). x) (λ i. IsTrue c.hold-met.result ↔ PointMet (c.deref.ensures.value i) (option_map rows_of (slice_get (pieces_at ps (c.start-2.ensures.same i)) place))) c.hold-met.ensures)
     (subst (λ zs. Takes (formed heads.End zs ∷ []) c.values.new.cursor c.numbers.new.cursor) none c.in_ok-numbers.ensures.1)
     c.in_ok-finish.ensures

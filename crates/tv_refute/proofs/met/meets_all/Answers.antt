@@ -1,8 +1,8 @@
 use Rattle.std.proofs.Common.{◌<◌, arith, length, refl}
 use Rattle.tv_linear.specs.Linear.{IsMet}
 use Rattle.tv_linear.specs.Views.{row_seen, rows_seen}
-use Rattle.tv_check.proofs.RowLemmas.{all_onward}
-use Rattle.tv_check.proofs.checking.meets_all.Goals as goal
+use Rattle.tv_refute.proofs.RowLemmas.{all_onward}
+use Rattle.tv_refute.proofs.met.meets_all.Goals as goal
 
 pub loop-i-preserved : goal.loop-i-preserved
 loop-i-preserved c =
