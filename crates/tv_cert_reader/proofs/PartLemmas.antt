@@ -14,19 +14,19 @@ use Rattle.tv_cert_reader.proofs.CompleteParts.{sized_read, numbers_long}
 use Rattle.tv_cert_reader.specs.declared.cursor.Cursor.{Cursor}
 use Rattle.tv_cert_reader.specs.declared.failure.Failure.{Failure}
 use Rattle.tv_cert_reader.specs.declared.number_line.NumberLine.{NumberLine}
-use Rattle.tv_cert_reader.specs.declared.number_line.NumberLine.TheVariants as sorts
+use Rattle.tv_cert_reader.specs.declared.number_line.NumberLine.TheVariants as kinds
 use Rattle.tv_cert_reader.specs.NumberLines.{head_of, tells, line_with}
 use Rattle.tv_cert_reader.specs.Reading.{Takes, FailsBy}
 use Rattle.tv_cert_reader.specs.Parts.{AreMany, AreNumbers, IsRowOf, IsWide, one_row, numbers_line}
 use Rattle.tv_cert_reader.proofs.ReadingLemmas.{Gathered, takes_as, many_fails}
 
 told : (s : NumberLine) → tells s (head_of s) ≡ true
-told sorts.Header = refl
-told sorts.Row = refl
-told sorts.Rank = refl
-told sorts.Draw = refl
-told sorts.By = refl
-told sorts.End = refl
+told kinds.Header = refl
+told kinds.Row = refl
+told kinds.Rank = refl
+told kinds.Draw = refl
+told kinds.By = refl
+told kinds.End = refl
 
 pub numbers_read : (s : NumberLine) (count : ℕ) (zs : List ℤ) (r : List PlainLine) → length zs ≡ count → (line_with s count).read (numbers_line s zs ++ r) ≡ Ok (tt, r)
 numbers_read s count zs r e = sized_read (tells s) (head_of s) count zs r (told s) e
@@ -64,8 +64,8 @@ lines_by [] = refl
 lines_by (v ∷ vs) = ap (λ ls. formed heads.By v.items ∷ ls) (lines_by vs)
 
 module _ (wide : ℕ) where
-  pub lists_fail : (n i : ℕ) (old now : Cursor) (vs : List (Vec ℤ)) (f : Failure) → Gathered (AreListed wide) by_line old i now vs → i < n → FailsBy (line_with sorts.By wide) now f → FailsBy (many n (line_with sorts.By wide)) old f
-  lists_fail n i old now vs f g few h = many_fails (line_with sorts.By wide) (AreListed wide) by_line (λ v r p. numbers_read sorts.By wide v.items r p.many) n i old now vs f g few h
+  pub lists_fail : (n i : ℕ) (old now : Cursor) (vs : List (Vec ℤ)) (f : Failure) → Gathered (AreListed wide) by_line old i now vs → i < n → FailsBy (line_with kinds.By wide) now f → FailsBy (many n (line_with kinds.By wide)) old f
+  lists_fail n i old now vs f g few h = many_fails (line_with kinds.By wide) (AreListed wide) by_line (λ v r p. numbers_read kinds.By wide v.items r p.many) n i old now vs f g few h
 
   pub lists_end : (n i : ℕ) (old now : Cursor) (vs : List (Vec ℤ)) → Gathered (AreListed wide) by_line old i now vs → i ≡ n → AreMany (AreNumbers wide) n (map (λ v. v.items) vs) × Takes (by_lines (map (λ v. v.items) vs)) old now
   lists_end n i old now vs g e = (

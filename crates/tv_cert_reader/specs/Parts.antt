@@ -34,29 +34,29 @@ abbrev pub numbers_of : Vec ℤ → List ℤ
 numbers_of v = v.items
 
 abbrev pub numbers_line : NumberLine → List ℤ → List PlainLine
-numbers_line sort zs = formed (head_of sort) zs ∷ []
+numbers_line kind zs = formed (head_of kind) zs ∷ []
 
 -- a line of so many numbers is read
 abbrev pub ReadsNumbers : NumberLine → ℕ → Cursor → Cursor → Result (Vec ℤ) Failure → Type 0
-ReadsNumbers sort count old new result = Reads numbers_of (AreNumbers count) (numbers_line sort) (line_with sort count) old new result
+ReadsNumbers kind count old new result = Reads numbers_of (AreNumbers count) (numbers_line kind) (line_with kind count) old new result
 
 -- a row over so many columns
 abbrev pub IsWide : ℕ → Linear → Type 0
 IsWide width r = columns r ≡ width
 
 abbrev pub one_row : NumberLine → Linear → List PlainLine
-one_row sort r = row_line (head_of sort) r ∷ []
+one_row kind r = row_line (head_of kind) r ∷ []
 
 -- a row is read
 abbrev pub ReadsRow : NumberLine → ℕ → Cursor → Cursor → Result Row Failure → Type 0
-ReadsRow sort width old new result = Reads (λ r. r) (IsWide width) (one_row sort) (line_with sort (width + 1)) old new result
+ReadsRow kind width old new result = Reads (λ r. r) (IsWide width) (one_row kind) (line_with kind (width + 1)) old new result
 
 abbrev pub rows_in : Vec Row → List Linear
 rows_in v = v.items
 
 -- so many rows are read
 abbrev pub ReadsRows : NumberLine → ℕ → ℕ → Cursor → Cursor → Result (Vec Row) Failure → Type 0
-ReadsRows sort width count old new result = Reads rows_in (AreMany (IsWide width) count) (row_lines (head_of sort)) (many count (line_with sort (width + 1))) old new result
+ReadsRows kind width count old new result = Reads rows_in (AreMany (IsWide width) count) (row_lines (head_of kind)) (many count (line_with kind (width + 1))) old new result
 
 -- the numbers of a row over so many columns are put behind others
 pub record IsAppended (width : ℕ) (zs ys : List ℤ) (row : Linear) : Type 0 where
@@ -66,8 +66,8 @@ pub record IsAppended (width : ℕ) (zs ys : List ℤ) (row : Linear) : Type 0 w
 
 -- a row is read, and its numbers are put behind others
 abbrev pub AppendsRow : NumberLine → ℕ → List ℤ → List ℤ → Cursor → Cursor → Result (Unit {0}) Failure → Type 0
-AppendsRow sort width zs ys old new (Ok done) = (row : Linear) × IsAppended width zs ys row × Takes (one_row sort row) old new
-AppendsRow sort width zs ys old new (Err f) = FailsBy (line_with sort (width + 1)) old f
+AppendsRow kind width zs ys old new (Ok done) = (row : Linear) × IsAppended width zs ys row × Takes (one_row kind row) old new
+AppendsRow kind width zs ys old new (Err f) = FailsBy (line_with kind (width + 1)) old f
 
 -- the numbers of so many rows over so many columns are put behind others
 pub record AreAppended (width count : ℕ) (zs ys : List ℤ) (rows : List Linear) : Type 0 where
@@ -77,8 +77,8 @@ pub record AreAppended (width count : ℕ) (zs ys : List ℤ) (rows : List Linea
 
 -- so many rows are read, and their numbers are put behind others
 abbrev pub AppendsRows : NumberLine → ℕ → ℕ → List ℤ → List ℤ → Cursor → Cursor → Result (Unit {0}) Failure → Type 0
-AppendsRows sort width count zs ys old new (Ok done) = (rows : List Linear) × AreAppended width count zs ys rows × Takes (row_lines (head_of sort) rows) old new
-AppendsRows sort width count zs ys old new (Err f) = FailsBy (many count (line_with sort (width + 1))) old f
+AppendsRows kind width count zs ys old new (Ok done) = (rows : List Linear) × AreAppended width count zs ys rows × Takes (row_lines (head_of kind) rows) old new
+AppendsRows kind width count zs ys old new (Err f) = FailsBy (many count (line_with kind (width + 1))) old f
 
 abbrev pub lists_in : Vec (Vec ℤ) → List (List ℤ)
 lists_in v = map (λ l. l.items) v.items

@@ -45,13 +45,9 @@ fn target_of(numbers: &[i64], targets: &Targets) -> Option<(u32, u32, usize)>
     requires { AreFew targets.now }
     ensures { MatchOption result (NamesNone (counts_of targets.now) numbers.now) (λ x. IsTarget (counts_of targets.now) numbers.now x.0 x.1 x.2) }
 {
-    let Some((target, fall)) = two_small(numbers) else {
-        return None;
-    };
-    match targets.rows(target, fall) {
-        Some(owed) => Some((target, fall, owed)),
-        None => None,
-    }
+    let (target, fall) = two_small(numbers)?;
+    let owed = targets.rows(target, fall)?;
+    Some((target, fall, owed))
 }
 
 /// A split at the row.

@@ -76,8 +76,6 @@ pub fn read_certificate(
         lines: Lines::new(text),
         taken: 0,
     };
-    match context.whole(&mut cursor, claim) {
-        Ok((root, verdict)) => certified(alloc, about, claim, root, verdict),
-        Err(failure) => Err(failure),
-    }
+    let (root, verdict) = context.whole(&mut cursor, claim)?;
+    certified(alloc, about, claim, root, verdict)
 }

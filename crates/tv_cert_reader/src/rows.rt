@@ -10,17 +10,17 @@ use crate::number_line::NumberLine;
 use std::alloc::Global;
 use tv_linear::Row;
 
-/// The numbers of a line of this sort that has so many.
+/// The numbers of a line of this kind that has so many.
 pub fn numbers(
     alloc: Global,
     cursor: &mut Cursor,
-    sort: NumberLine,
+    kind: NumberLine,
     count: u128,
 ) -> Result<Vec<i64>, Failure>
-    ensures { ReadsNumbers sort count cursor.old cursor.new result }
+    ensures { ReadsNumbers kind count cursor.old cursor.new result }
 {
     let (head, numbers) = take(alloc, cursor)?;
-    if head != sort.head() {
+    if head != kind.head() {
         return Err(Failure::Fault(LineKind::Shape, cursor.taken));
     }
     if numbers.len() as u128 != count {
@@ -44,11 +44,11 @@ pub fn row_of(numbers: Vec<i64>, width: u32) -> Option<Row>
 }
 
 /// A term over so many columns.
-fn row(alloc: Global, cursor: &mut Cursor, sort: NumberLine, width: u32) -> Result<Row, Failure>
+fn row(alloc: Global, cursor: &mut Cursor, kind: NumberLine, width: u32) -> Result<Row, Failure>
     requires { width < 2 ^ 32 - 1 }
-    ensures { ReadsRow sort width cursor.old cursor.new result }
+    ensures { ReadsRow kind width cursor.old cursor.new result }
 {
-    let numbers = numbers(alloc, cursor, sort, width as u128 + 1)?;
+    let numbers = numbers(alloc, cursor, kind, width as u128 + 1)?;
     match row_of(numbers, width) {
         Some(row) => Ok(row),
         None => unreachable!(),
@@ -67,16 +67,16 @@ pub fn room(count: u128) -> usize
 pub fn rows(
     alloc: Global,
     cursor: &mut Cursor,
-    sort: NumberLine,
+    kind: NumberLine,
     width: u32,
     count: u64,
 ) -> Result<Vec<Row>, Failure>
     requires { width < 2 ^ 32 - 1 }
-    ensures { ReadsRows sort width count cursor.old cursor.new result }
+    ensures { ReadsRows kind width count cursor.old cursor.new result }
 {
     let mut rows = Vec::with_capacity(alloc, room(count as u128))?;
     'rows: for _ in 0..count {
-        let row = row(alloc, cursor, sort, width)?;
+        let row = row(alloc, cursor, kind, width)?;
         rows.push(row)?;
     }
     Ok(rows)
@@ -86,14 +86,14 @@ pub fn rows(
 fn append_row(
     alloc: Global,
     cursor: &mut Cursor,
-    sort: NumberLine,
+    kind: NumberLine,
     width: u32,
     packed: &mut Vec<i64>,
 ) -> Result<(), Failure>
     requires { width < 2 ^ 32 - 1 }
-    ensures { AppendsRow sort width packed.old.items packed.new.items cursor.old cursor.new result }
+    ensures { AppendsRow kind width packed.old.items packed.new.items cursor.old cursor.new result }
 {
-    let numbers = numbers(alloc, cursor, sort, width as u128 + 1)?;
+    let numbers = numbers(alloc, cursor, kind, width as u128 + 1)?;
     packed.extend_from_slice(&numbers)?;
     Ok(())
 }
@@ -102,16 +102,16 @@ fn append_row(
 pub fn append_rows(
     alloc: Global,
     cursor: &mut Cursor,
-    sort: NumberLine,
+    kind: NumberLine,
     width: u32,
     count: u64,
     packed: &mut Vec<i64>,
 ) -> Result<(), Failure>
     requires { width < 2 ^ 32 - 1 }
-    ensures { AppendsRows sort width count packed.old.items packed.new.items cursor.old cursor.new result }
+    ensures { AppendsRows kind width count packed.old.items packed.new.items cursor.old cursor.new result }
 {
     'rows: for _ in 0..count {
-        append_row(alloc, cursor, sort, width, packed)?;
+        append_row(alloc, cursor, kind, width, packed)?;
     }
     Ok(())
 }

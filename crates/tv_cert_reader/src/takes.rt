@@ -60,25 +60,19 @@ impl Context<'_> {
             (λ x. IsTaken system piece.now destination.now numbers.now (case_view x.case.now) x.taken x.target x.fall x.owed) }
     {
         let list = self.about.list();
-        let Some((taken, target, fall)) = three_small(numbers) else {
-            return None;
-        };
-        let Some(case) = list.get(taken as usize) else {
-            return None;
-        };
+        let (taken, target, fall) = three_small(numbers)?;
+        let case = list.get(taken as usize)?;
         if case.from != piece.location() {
             return None;
         }
-        match taken_into(piece, case, destination).rows(target, fall) {
-            None => None,
-            Some(owed) => Some(Taken {
-                case,
-                taken,
-                target,
-                fall,
-                owed,
-            }),
-        }
+        let owed = taken_into(piece, case, destination).rows(target, fall)?;
+        Some(Taken {
+            case,
+            taken,
+            target,
+            fall,
+            owed,
+        })
     }
 
     /// A choice whose line that takes a case has these numbers.

@@ -64,7 +64,7 @@ parted (t ∷ ts) (m ∷ u) v e =
     record { front = t ∷ w.front; back = w.back; parts = ap (λ (us : List Seen). t ∷ us) w.parts; fronts = rw (same, w.fronts) refl; backs = w.backs }
 
 -- the back is the last of the tokens
-last_back : (ts : List Seen) (u v : List Mark) (w : Parted ts u v) → last (length v) ts ≡ w.back
+pub last_back : (ts : List Seen) (u v : List Mark) (w : Parted ts u v) → last (length v) ts ≡ w.back
 last_back ts u v w = rw w.parts (last_of w.front w.back (length v) (ap length (sym w.backs) ∙ length-marks w.back))
 
 -- two lists in two parts each

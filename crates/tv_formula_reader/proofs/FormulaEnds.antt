@@ -19,7 +19,9 @@ use Rattle.tv_formula_reader.specs.Choice.{Grammar, Behind, mark_at}
 use Rattle.tv_formula_reader.specs.declared.operators.Operator.{Operator}
 use Rattle.tv_formula_reader.specs.declared.operators.Operator.TheVariants.{One, Two}
 use Rattle.tv_formula_reader.specs.Operators.{operator_of, applied}
-use Rattle.tv_formula_reader.specs.FormulaGrammar.{at_kind, at_end, end_by, summed, relation_by, related_by, related, comparison, is_and, is_or, more_by, more_cases, conjunction_from, conjunction_over, formula_from, formula_over, plain_at, literal_at, formula_at, text_at, plain_over, plain_by, Under, ground, level, closed, close_by, opened, open_by, place, label_cases, word_by, argument, operator_by, behind_square, square_by, refuse_by}
+use Rattle.tv_reading.specs.SumGrammar.{refuse_by}
+use Rattle.tv_reading.specs.ConditionGrammar.{is_and, is_or}
+use Rattle.tv_formula_reader.specs.FormulaGrammar.{at_kind, at_end, end_by, summed, relation_by, related_by, related, comparison, more_by, more_cases, conjunction_from, conjunction_over, formula_from, formula_over, plain_at, literal_at, formula_at, text_at, plain_over, plain_by, Under, ground, level, closed, close_by, opened, open_by, place, label_cases, word_by, argument, operator_by, behind_square, square_by}
 use Rattle.tv_formula_reader.proofs.ChoiceLemmas.{either_outside}
 use Rattle.tv_formula_reader.proofs.FormulaLemmas.{related_goes}
 

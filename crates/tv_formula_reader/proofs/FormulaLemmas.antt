@@ -14,14 +14,15 @@ use Rattle.tv_grammar.proofs.ExactLemmas.{unit_exact, then_exact, mapped_exact, 
 use Rattle.tv_grammar.proofs.TurnLemmas.{turns_exact}
 use Rattle.tv_reading.specs.Marks.{Kind, Syntax, Wide, UnknownName, Mark, plain, refused}
 use Rattle.tv_reading.specs.SumGrammar.{sum_at, sum_goes}
-use Rattle.tv_reading.proofs.SumLemmas.{sum_exact}
+use Rattle.tv_reading.proofs.SumLemmas.{refuse_exact, sum_exact}
 use Rattle.tv_formula_reader.specs.Seen.{Seen}
 use Rattle.tv_formula_reader.specs.Choice.{Grammar, Behind}
 use Rattle.tv_formula_reader.specs.declared.operators.Operator.{Operator}
 use Rattle.tv_formula_reader.specs.declared.operators.Operator.TheVariants.{One, Two}
 use Rattle.tv_formula_reader.specs.Operators.{operator_of, applied}
 use Rattle.tv_formula_reader.specs.FormulaTexts.{joined}
-use Rattle.tv_formula_reader.specs.FormulaGrammar.{refuse_by, at_kind, open_by, close_by, square_by, end_by, opened, closed, behind_square, at_end, summed, relation_by, related_by, related, comparison, label_cases, place, word_by, argument, operator_by, operated, Under, ground, level, plain_by, plain_over, is_and, is_or, more_by, more_cases, conjunction_from, conjunction_over, formula_from, formula_over}
+use Rattle.tv_reading.specs.ConditionGrammar.{is_and, is_or}
+use Rattle.tv_formula_reader.specs.FormulaGrammar.{at_kind, open_by, close_by, square_by, end_by, opened, closed, behind_square, at_end, summed, relation_by, related_by, related, comparison, label_cases, place, word_by, argument, operator_by, operated, Under, ground, level, plain_by, plain_over, more_by, more_cases, conjunction_from, conjunction_over, formula_from, formula_over}
 use Rattle.tv_formula_reader.proofs.ChoiceLemmas.{lifted_exact}
 use Rattle.tv_formula_reader.proofs.SumHalts.{is_right_mark}
 
@@ -87,14 +88,10 @@ comparison_exact kept n = then_exact (summed kept n) (related (summed kept n)) (
 
 -- ---- plain formulas
 
-refuse_branch : {X : Type 0} (b : Bool) (k : Kind) (l : Grammar X) → Exact l → ExactBranch (refuse_by b k l)
-refuse_branch true k l h = tt
-refuse_branch false k l h = h
-
 label_branch : (kept : Kind → Bool) (m : Mark) → ExactBranch (label_cases kept m)
 label_branch kept (plain (label l)) = closed_exact (at l)
-label_branch kept (plain (fixed kinds.Wide)) = refuse_branch (kept Wide) Wide (closed (at 0)) (closed_exact (at 0))
-label_branch kept (refused k kinds.Name) = refuse_branch (kept UnknownName) UnknownName (closed (at 0)) (closed_exact (at 0))
+label_branch kept (plain (fixed kinds.Wide)) = refuse_exact (kept Wide) Wide (closed (at 0)) (closed_exact (at 0))
+label_branch kept (refused k kinds.Name) = refuse_exact (kept UnknownName) UnknownName (closed (at 0)) (closed_exact (at 0))
 label_branch kept _ = tt
 
 pub label_exact : (kept : Kind → Bool) → Exact (headed Syntax (λ t. label_cases kept t.label))

@@ -8,7 +8,7 @@ use Rattle.tv_program.specs.Words.{Word}
 use Rattle.tv_language.specs.Symbols.{label, fixed}
 use Rattle.tv_language.specs.Conditions.{relation_of}
 use Rattle.tv_formula.specs.Properties.{Property, truth, compare, at, term, negated, all_of, some_of, fix}
-use Rattle.tv_grammar.specs.Langs.{then, mapped, stop, headed, turns}
+use Rattle.tv_grammar.specs.Langs.{then, mapped, headed, turns}
 use Rattle.tv_grammar.specs.Exact.{Exact}
 use Rattle.tv_grammar.specs.Faults.{Loosens, LoosensBranch, LoosensTurn}
 use Rattle.tv_grammar.proofs.ExactLemmas.{mapped_exact}
@@ -17,14 +17,15 @@ use Rattle.tv_reading.specs.Marks.{Kind, Syntax, Wide, Deep, UnknownName, Mark, 
 use Rattle.tv_reading.specs.SumGrammar.{every, sum_at}
 use Rattle.tv_reading.specs.Refusals.{Levels}
 use Rattle.tv_reading.proofs.SumLemmas.{sum_exact}
-use Rattle.tv_reading.proofs.LooseSums.{levels_less, no_levels, sums_loose}
+use Rattle.tv_reading.proofs.LooseSums.{refuse_loose, levels_less, no_levels, sums_loose}
 use Rattle.tv_formula_reader.specs.Seen.{Seen}
 use Rattle.tv_formula_reader.specs.Choice.{Grammar, Behind}
 use Rattle.tv_formula_reader.specs.declared.operators.Operator.{Operator}
 use Rattle.tv_formula_reader.specs.declared.operators.Operator.TheVariants.{One, Two}
 use Rattle.tv_formula_reader.specs.Operators.{operator_of, applied}
 use Rattle.tv_formula_reader.specs.FormulaTexts.{joined}
-use Rattle.tv_formula_reader.specs.FormulaGrammar.{refuse_by, at_kind, open_by, close_by, square_by, end_by, opened, closed, behind_square, at_end, summed, relation_by, related_by, related, comparison, label_cases, place, word_by, argument, operator_by, operated, Under, ground, level, plain_by, plain_over, is_and, is_or, more_by, more_cases, conjunction_from, conjunction_over, formula_from, formula_over, plain_at, literal_at, formula_at, text_at}
+use Rattle.tv_reading.specs.ConditionGrammar.{is_and, is_or}
+use Rattle.tv_formula_reader.specs.FormulaGrammar.{at_kind, open_by, close_by, square_by, end_by, opened, closed, behind_square, at_end, summed, relation_by, related_by, related, comparison, label_cases, place, word_by, argument, operator_by, operated, Under, ground, level, plain_by, plain_over, more_by, more_cases, conjunction_from, conjunction_over, formula_from, formula_over, plain_at, literal_at, formula_at, text_at}
 use Rattle.tv_formula_reader.proofs.LooseChoice.{lifted_loose, either_loose}
 use Rattle.tv_formula_reader.proofs.FormulaLemmas.{closed_exact, end_exact, closing_exact, argument_exact, operated_exact, summed_exact, related_exact, conjunction_from_exact, conjunction_exact, formula_from_exact}
 use Rattle.tv_formula_reader.proofs.FormulaExact.{plain_exact, plain_halts, comparison_halts, literal_exact, formula_exact}
@@ -83,14 +84,10 @@ module _ (kept : Kind → Bool) (syntax : kept Syntax ≡ true) where
 
   -- ---- plain formulas
 
-  refuse_loose : {X : Type 0} (b : Bool) (k : Kind) → kept k ≡ b → (l : Grammar X) → Exact l → LoosensBranch kept (stop k) (refuse_by b k l)
-  refuse_loose true k e l h = (e, refl)
-  refuse_loose false k e l h = (e, h)
-
   label_loose : (m : Mark) → LoosensBranch kept (label_cases every m) (label_cases kept m)
   label_loose (plain (label l)) = closed_loose (at l)
-  label_loose (plain (fixed kinds.Wide)) = refuse_loose (kept Wide) Wide refl (closed (at 0)) (closed_exact (at 0))
-  label_loose (refused k kinds.Name) = refuse_loose (kept UnknownName) UnknownName refl (closed (at 0)) (closed_exact (at 0))
+  label_loose (plain (fixed kinds.Wide)) = refuse_loose kept (kept Wide) Wide refl (closed (at 0)) (closed_exact (at 0))
+  label_loose (refused k kinds.Name) = refuse_loose kept (kept UnknownName) UnknownName refl (closed (at 0)) (closed_exact (at 0))
   label_loose _ = (syntax, refl)
 
   place_loose : Loosens kept (place every) (place kept)

@@ -30,7 +30,8 @@ use Rattle.tv_formula_reader.specs.Choice.{Grammar, Behind}
 use Rattle.tv_formula_reader.specs.FormulaTexts as texts
 use Rattle.tv_formula_reader.specs.FormulaTexts.{joined, IsPlain, always, never, ends, located, denied, bracketed, IsArgument, enclosed, IsLiteral, comparison, AreLiterals, no_literal, and, IsConjunction, literals, AreConjunctions, no_conjunction, or, IsFormula, conjunctions}
 use Rattle.tv_formula_reader.specs.FormulaGrammar as grammar
-use Rattle.tv_formula_reader.specs.FormulaGrammar.{at_kind, opened, open_by, closed, close_by, behind_square, square_by, at_end, end_by, summed, relation_by, related_by, related, label_cases, labelled, place, word_by, word_cases, argument, operator_by, operated, of_one, of_two, plain_by, plain_over, below, is_and, is_or, more_by, more_cases, conjunction_from, conjunction_over, formula_from, plain_at, literal_at, formula_at, text_at}
+use Rattle.tv_reading.specs.ConditionGrammar.{is_and, is_or}
+use Rattle.tv_formula_reader.specs.FormulaGrammar.{at_kind, opened, open_by, closed, close_by, behind_square, square_by, at_end, end_by, summed, relation_by, related_by, related, label_cases, labelled, place, word_by, word_cases, argument, operator_by, operated, of_one, of_two, plain_by, plain_over, below, more_by, more_cases, conjunction_from, conjunction_over, formula_from, plain_at, literal_at, formula_at, text_at}
 use Rattle.tv_formula_reader.proofs.FormulaTexts.{sign_of, signs_of, symbols_same}
 use Rattle.tv_reading.proofs.ConditionSteps.{stands as relation_stands}
 

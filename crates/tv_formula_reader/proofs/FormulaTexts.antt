@@ -29,7 +29,8 @@ use Rattle.tv_formula_reader.specs.Choice.{Grammar, Marked}
 use Rattle.tv_formula_reader.specs.FormulaTexts as texts
 use Rattle.tv_formula_reader.specs.FormulaTexts.{joined, IsPlain, always, never, ends, located, denied, bracketed, IsArgument, enclosed, IsLiteral, comparison, AreLiterals, no_literal, and, IsConjunction, literals, AreConjunctions, no_conjunction, or, IsFormula, conjunctions}
 use Rattle.tv_formula_reader.specs.FormulaGrammar as grammar
-use Rattle.tv_formula_reader.specs.FormulaGrammar.{at_kind, open_by, opened, close_by, closed, square_by, behind_square, summed, relation_by, related_by, label_cases, labelled, place, word_by, argument, operator_by, operated, of_one, of_two, ground, level, plain_by, is_and, is_or, more_cases, conjunction_from, conjunction_over, formula_from, formula_over, plain_at, literal_at, formula_at}
+use Rattle.tv_reading.specs.ConditionGrammar.{is_and, is_or}
+use Rattle.tv_formula_reader.specs.FormulaGrammar.{at_kind, open_by, opened, close_by, closed, square_by, behind_square, summed, relation_by, related_by, label_cases, labelled, place, word_by, argument, operator_by, of_one, of_two, ground, level, plain_by, more_cases, conjunction_over, formula_over, plain_at, literal_at, formula_at}
 
 -- ---- the signs of tokens
 

@@ -8,6 +8,7 @@ pub mod PlainOrSum
 pub mod FormulaLoose
 pub mod SourceLemmas
 pub mod SumRead
+pub mod FormulaKinds
 pub mod Steps
 pub mod FormulaTexts
 pub mod FormulaParts

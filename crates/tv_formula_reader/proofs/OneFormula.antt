@@ -17,7 +17,8 @@ use Rattle.tv_reading.proofs.OneRefusal.{Refusal, not_refused, one_refusal}
 use Rattle.tv_formula_reader.specs.Seen.{Seen, seen, seen_all}
 use Rattle.tv_formula_reader.specs.FormulaGrammar.{formula_at, text_at}
 use Rattle.tv_formula_reader.specs.FormulaTexts.{words_of, IsFormulaText}
-use Rattle.tv_formula_reader.specs.Refusals.{Refuses, IsFirstFault}
+use Rattle.tv_reading.specs.Refusals.{Refuses}
+use Rattle.tv_formula_reader.specs.Refusals.{IsFirstFault}
 use Rattle.tv_formula_reader.proofs.FormulaExact.{formula_exact, text_exact}
 use Rattle.tv_formula_reader.proofs.FormulaEnds.{text_ends}
 use Rattle.tv_formula_reader.proofs.FormulaLoose.{text_loose}

@@ -16,23 +16,24 @@ use Rattle.tv_grammar.specs.Reads.{Fault, fault}
 use Rattle.tv_grammar.specs.Langs.{OfBranch}
 use Rattle.tv_grammar.proofs.ExactLemmas.{apart}
 use Rattle.tv_grammar.proofs.Results.{good, ok_is}
-use Rattle.tv_grammar.proofs.LooseLemmas.{none_in, begun}
+use Rattle.tv_grammar.proofs.LooseLemmas.{begun}
 use Rattle.tv_reading.specs.Marks.{Kind, Mark, plain, symbol_of, Stand, known_name, mark_by, is_formula_word, first}
 use Rattle.tv_reading.specs.SumGrammar.{every}
 use Rattle.tv_reading.specs.Readings as readings
 use Rattle.tv_reading.specs.Readings.{or_end, token_at}
-use Rattle.tv_reading.specs.Refusals.{upto, under}
-use Rattle.tv_reading.proofs.RefusalLemmas.{kept_itself, syntax_kept, itself_not, syntax_under}
+use Rattle.tv_reading.specs.Refusals.{Refuses}
+use Rattle.tv_reading.proofs.RefusalLemmas.{refuses}
 use Rattle.tv_formula_reader.specs.Signs.{Sign, sign, signs}
 use Rattle.tv_formula_reader.specs.Seen.{Seen, known_label, seen, seen_all}
 use Rattle.tv_formula_reader.specs.FormulaGrammar.{at_kind, end_by, at_end, formula_at, text_at}
 use Rattle.tv_formula_reader.specs.FormulaTexts.{IsFormula, words_of, ended, IsFormulaText}
-use Rattle.tv_formula_reader.specs.Refusals.{Refuses, IsFirstFault, IsRefusal, IsTold, IsGiven}
-use Rattle.tv_formula_reader.specs.Answers.{left, Stays, kind_of, Unless}
+use Rattle.tv_formula_reader.specs.Refusals.{IsFirstFault, IsRefusal, IsTold, IsGiven}
+use Rattle.tv_reading.specs.Answers.{kind_of, Unless}
+use Rattle.tv_formula_reader.specs.Answers.{left, Stays}
 use Rattle.tv_formula_reader.specs.declared.fault.FormulaFault.{FormulaFault}
 use Rattle.tv_formula_reader.specs.declared.fault.FormulaFault.TheVariants as faults
-use Rattle.tv_formula_reader.specs.declared.reason.Reason.{Reason}
-use Rattle.tv_formula_reader.specs.declared.reason.Reason.TheVariants as reasons
+use Rattle.tv_reading.specs.declared.reason.Reason.{Reason}
+use Rattle.tv_reading.specs.declared.reason.Reason.TheVariants as reasons
 use Rattle.tv_formula_reader.specs.declared.source.Source.{Source}
 use Rattle.tv_formula_reader.proofs.FormulaExact.{formula_exact, text_exact}
 use Rattle.tv_formula_reader.proofs.FormulaEnds.{text_ends}
@@ -163,15 +164,7 @@ text_given p text ts f r h e =
 -- ---- what is refused
 
 text_refuses : (n : ℕ) (k : Kind) (ts r : List Seen) → (text_at every n).read ts ≡ fault k r → Refuses text_at n k ts r
-text_refuses n k ts r e =
-    let f = (text_exact every n).least ts k r e in
-    record {
-      before = f.before;
-      parts = f.parts;
-      some = record { it = f.it; more = f.more; whole = f.whole };
-      none = λ m w. none_in (upto k) (text_at every n) (text_at (upto k) m) (text_exact (upto k) m) (text_ends (upto k) m) (text_loose (upto k) (syntax_kept k) n m w) k (kept_itself k) ts r f;
-      begun = λ not t first m w. begun (under k) (text_at every n) (text_at (under k) m) (text_exact (under k) m) (text_loose (under k) (syntax_under k not) n m w) k (itself_not k) ts r t first f;
-    }
+text_refuses n k ts r e = refuses text_at text_exact text_ends text_loose n k ts r e
 
 fronts : (ts : List Token) (n : ℕ) → ts ≡ take n ts ++ drop n ts
 fronts ts zero = refl
@@ -194,6 +187,8 @@ refusal_is p text ts n reasons.Syntax f h r t = rw t (first_fault p text ts n _ 
 refusal_is p text ts n reasons.Wide f h r t = rw t (first_fault p text ts n _ h r)
 refusal_is p text ts n reasons.Deep f h r t = rw t (first_fault p text ts n _ h r)
 refusal_is p text ts n reasons.NotLinear f h r t = rw t (first_fault p text ts n _ h r)
+refusal_is p text ts n reasons.TwoStarts f h r t = absurd t
+refusal_is p text ts n reasons.TooMany f h r t = absurd t
 refusal_is p text ts n reasons.UnknownName f h r t = rw t (first_fault p text ts n _ h r)
 refusal_is p text ts n reasons.Memory f h r t = rw t tt
 
@@ -246,6 +241,8 @@ only_memory P reasons.Syntax g at out f s o u t = absurd (not_refused f [] _ s (
 only_memory P reasons.Wide g at out f s o u t = absurd (not_refused f [] _ s (sym o ∙ u))
 only_memory P reasons.Deep g at out f s o u t = absurd (not_refused f [] _ s (sym o ∙ u))
 only_memory P reasons.NotLinear g at out f s o u t = absurd (not_refused f [] _ s (sym o ∙ u))
+only_memory P reasons.TwoStarts g at out f s o u t = absurd t
+only_memory P reasons.TooMany g at out f s o u t = absurd t
 only_memory P reasons.UnknownName g at out f s o u t = absurd (not_refused f [] _ s (sym o ∙ u))
 only_memory P reasons.Memory g at out f s o u t = memory_only g P t
 

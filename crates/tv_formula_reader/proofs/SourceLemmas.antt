@@ -13,7 +13,8 @@ use Rattle.tv_grammar.specs.Reads.{next}
 use Rattle.tv_reading.specs.Marks.{Stand, first}
 use Rattle.tv_reading.specs.Readings.{moved, taken}
 use Rattle.tv_formula_reader.specs.Seen.{seen, seen_all}
-use Rattle.tv_formula_reader.specs.Answers.{left, IsOver, Stays, kind_seen, is_last}
+use Rattle.tv_reading.specs.Views.{is_last}
+use Rattle.tv_formula_reader.specs.Answers.{left, IsOver, Stays, kind_seen}
 use Rattle.tv_formula_reader.specs.declared.source.Source.{Source}
 
 -- ---- tokens

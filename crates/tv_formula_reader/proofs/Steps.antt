@@ -1,32 +1,27 @@
 -- What one step of the code that reads formulas does.
-use Rattle.std.proofs.Common.{◌≡◌, ℕ, zero, suc, ◌<◌, ◌≤◌, true, false, List, [], ◌∷◌, drop, length, Some, Result, Ok, Err, refl, sym, ap, subst, ◌∙◌}
+use Rattle.std.proofs.Common.{◌≡◌, ℕ, zero, suc, ◌<◌, ◌≤◌, false, List, [], ◌∷◌, drop, length, Some, Ok, refl, sym, ap, subst, ◌∙◌}
 use Rattle.tv_language.specs.declared.token.TokenKind.{TokenKind}
 use Rattle.tv_language.specs.declared.token.TokenKind.TheVariants as kinds
 use Rattle.tv_language.specs.Symbols.{number, name, label, drawn, fixed}
 use Rattle.tv_program.specs.Words.{Word}
 use Rattle.tv_formula.specs.Properties.{Property, negated}
-use Rattle.tv_grammar.specs.Reads.{Fault, faulty, fault, next}
-use Rattle.tv_grammar.specs.Langs.{unit, branch_read, headed_read, goes_at, then, mapped, turns}
-use Rattle.tv_grammar.specs.Exact.{ExactBranch}
-use Rattle.tv_grammar.proofs.TurningLemmas.{loop_ends, loop_fails, loop_goes, turn_shrinks}
+use Rattle.tv_grammar.specs.Reads.{Fault, fault, next}
+use Rattle.tv_grammar.specs.Langs.{unit, branch_read, headed_read, then, mapped}
 use Rattle.tv_reading.specs.Marks as marks
 use Rattle.tv_reading.specs.Marks.{Kind, Mark, plain, refused}
 use Rattle.tv_reading.specs.Views.{kind_at}
 use Rattle.tv_reading.specs.SumGrammar.{every}
-use Rattle.tv_formula_reader.specs.declared.reason.Reason.{Reason}
-use Rattle.tv_formula_reader.specs.declared.reason.Reason.TheVariants.{Syntax, Wide, Deep, NotLinear, UnknownName, Memory}
-use Rattle.tv_reading.specs.declared.reason.Turn.TheVariants.{On, Off}
-use Rattle.tv_formula_reader.specs.Told.{is_memory}
+use Rattle.tv_reading.specs.declared.reason.Reason.{Reason}
+use Rattle.tv_reading.specs.declared.reason.Reason.TheVariants.{Syntax, Wide, Deep, NotLinear, TwoStarts, TooMany, UnknownName, Memory}
+use Rattle.tv_reading.proofs.AnswerLemmas.{unless_map}
 use Rattle.tv_grammar.proofs.Results.{ok_is}
 use Rattle.tv_formula_reader.specs.Seen.{Seen}
 use Rattle.tv_formula_reader.specs.Choice.{Grammar, Behind}
 use Rattle.tv_formula_reader.specs.FormulaGrammar.{at_kind, open_by, opened, closed, operated, plain_by, leaf_by, leaves, below, comparison, plain_at, literal_at, formula_at}
-use Rattle.tv_formula_reader.specs.Answers.{kind_seen, kind_of, Unless, Gives, Turned, the_nothing}
+use Rattle.tv_reading.specs.Answers.{kind_of, Unless}
+use Rattle.tv_formula_reader.specs.Answers.{kind_seen, is_memory, the_nothing}
 use Rattle.tv_formula_reader.proofs.ChoiceLemmas.{first_further, second_further}
 use Rattle.tv_formula_reader.proofs.PlainOrSum.{plain_read, nothing_read}
-
-pub gives_along : {X Y : Type 0} (view : X → Y) (r : Result X Reason) (left : List Seen) (a b : Result (Y × List Seen) (Fault Seen Kind)) → a ≡ b → Gives view r left b → Gives view r left a
-gives_along view r left a b e h = subst (Gives view r left) (sym e) h
 
 abbrev kind_of_mark : Mark → TokenKind
 kind_of_mark m = kind_at (Some m)
@@ -111,14 +106,6 @@ second_fault n ts s k r e f l = rw (e, f) (second_further s k r l)
 first_fault : (n : ℕ) (ts s : List Seen) (k : Kind) (r : List Seen) → (comparison every n).read ts ≡ fault marks.Syntax s → (plain_at every n).read ts ≡ fault k r → length s < length r → (literal_at every n).read ts ≡ fault marks.Syntax s
 first_fault n ts s k r e f l = rw (e, f) (first_further s k r l)
 
-unless_map : (e : Reason) (p q : Type 0) → (p → q) → Unless e p → Unless e q
-unless_map Memory p q f h = tt
-unless_map Syntax p q f h = f h
-unless_map Wide p q f h = f h
-unless_map Deep p q f h = f h
-unless_map NotLinear p q f h = f h
-unless_map UnknownName p q f h = f h
-
 pub literal_further : (n : ℕ) (ts s : List Seen) (e : Reason) (r : List Seen) → (comparison every n).read ts ≡ fault marks.Syntax s → length r ≤ length s → Unless e ((plain_at every n).read ts ≡ fault (kind_of e) r) → Unless e ((literal_at every n).read ts ≡ fault (kind_of e) r)
 literal_further n ts s e r c l h = unless_map e ((plain_at every n).read ts ≡ fault (kind_of e) r) ((literal_at every n).read ts ≡ fault (kind_of e) r) (λ f. second_fault n ts s (kind_of e) r c f l) h
 
@@ -132,6 +119,8 @@ again_at Syntax n p h = h
 again_at Wide n p h = h
 again_at Deep n p h = h
 again_at NotLinear n p h = h
+again_at TwoStarts n p h = h
+again_at TooMany n p h = h
 again_at UnknownName n p h = h
 
 pub literal_again : (n : ℕ) (ts s : List Seen) (e : Reason) (r : List Seen) → is_memory e ≡ false → (comparison every n).read ts ≡ fault marks.Syntax s → Unless e ((plain_at every n).read ts ≡ fault (kind_of e) r) → length s < length r → (literal_at every n).read ts ≡ (comparison every n).read ts
@@ -149,26 +138,3 @@ opened_on {X} l (t ∷ ts) us e = by t.mark e
     by : (m : Mark) → branch_read (at_kind (open_by (unit the_nothing)) m) (t ∷ ts) ts ≡ Ok (the_nothing, us) → branch_read (at_kind (open_by l) m) (t ∷ ts) ts ≡ l.read us
     by (plain (fixed kinds.LeftRound)) f = ap (λ (p : Unit {0} × List Seen). l.read p.1) (ok_is {E = Fault Seen Kind} (the_nothing, ts) (the_nothing, us) f)
     by _ f = absurd cc
-
--- ---- turns
-
-module _ {X S : Type 0} (view : X → S) (cases : S → Seen → Behind S) (h : (s : S) (t : Seen) → ExactBranch (cases s t)) (all : Result (S × List Seen) (Fault Seen Kind)) (s : S) (ts left : List Seen) (so_far : (turns cases s).read ts ≡ all) where
-  failed_by : (k : Kind) → (goes_at (cases s) (next ts) ≡ true) × (headed_read marks.Syntax (cases s) ts ≡ fault k left) → all ≡ fault k left
-  failed_by k t = sym so_far ∙ loop_fails cases h marks.Syntax s ts (faulty k left) t.0 t.1
-
-  pub turn_failed : (e : Reason) → Turned view (Err e) left cases s ts → Unless e (all ≡ fault (kind_of e) left)
-  turn_failed Memory t = tt
-  turn_failed Syntax t = failed_by _ t
-  turn_failed Wide t = failed_by _ t
-  turn_failed Deep t = failed_by _ t
-  turn_failed NotLinear t = failed_by _ t
-  turn_failed UnknownName t = failed_by _ t
-
-  pub turn_on : (x : X) → Turned view (Ok (On x)) left cases s ts → (turns cases (view x)).read left ≡ all
-  turn_on x t = sym (loop_goes cases h marks.Syntax s ts (view x) left t.0 t.1) ∙ so_far
-
-  pub turn_less : (x : X) → Turned view (Ok (On x)) left cases s ts → length left < length ts
-  turn_less x t = turn_shrinks cases h marks.Syntax s ts (view x) left t.1
-
-  pub turn_off : (x : X) → Turned view (Ok (Off x)) left cases s ts → all ≡ Ok (view x, left)
-  turn_off x t = sym so_far ∙ loop_ends cases h s ts t.0 ∙ rw (t.1, t.2) refl

@@ -9,7 +9,7 @@ use Rattle.tv_program.specs.Trees.{Expression}
 use Rattle.tv_language.specs.Symbols.{lexeme, Vocabulary}
 use Rattle.tv_grammar.specs.Reads.{fault}
 use Rattle.tv_reading.specs.Marks as marking
-use Rattle.tv_reading.specs.Marks.{Kind, Mark, Stand, Passes, mark_by, names_behind, draws_behind, marks_from}
+use Rattle.tv_reading.specs.Marks.{Kind, Stand, Passes, mark_by, draws_behind, marks_from}
 use Rattle.tv_reading.specs.SumGrammar.{every, sum_at}
 use Rattle.tv_reading.specs.Readings.{moved, sum_levels, IsKept, IsRead}
 use Rattle.tv_reading.specs.declared.fault.PartFault.{PartFault}
@@ -18,9 +18,8 @@ use Rattle.tv_reading.proofs.RoomLemmas.{passed_names}
 use Rattle.tv_formula_reader.specs.Seen.{Seen, seen, seen_all, marks}
 use Rattle.tv_formula_reader.specs.Choice.{last, lifted_read}
 use Rattle.tv_formula_reader.specs.FormulaGrammar.{summed}
-use Rattle.tv_formula_reader.specs.Answers.{left, IsOver, Stays, kind_of, Unless}
-use Rattle.tv_formula_reader.specs.Told.{IsReasonFor}
-use Rattle.tv_formula_reader.specs.declared.reason.Reason.{Reason}
+use Rattle.tv_reading.specs.Answers.{kind_of, reason_of, Unless}
+use Rattle.tv_formula_reader.specs.Answers.{left, IsOver, Stays}
 use Rattle.tv_formula_reader.specs.declared.source.Source.{Source}
 use Rattle.tv_formula_reader.proofs.ChoiceLemmas.{last_of, length-marks}
 use Rattle.tv_formula_reader.proofs.SourceLemmas.{words, none_at}
@@ -33,7 +32,7 @@ no_draws : (names : List Word) (draws : ℕ) (kind : TokenKind) (w : Word) → m
 no_draws names draws kinds.Nondet w = refl
 no_draws names draws kind w = refl
 
-marks_all : (v : Vocabulary) (text : List ℕ) (ts : List Token) (draws : ℕ) → marks (seen_all v text ts) ≡ marks_from text false v.variables draws ts
+pub marks_all : (v : Vocabulary) (text : List ℕ) (ts : List Token) (draws : ℕ) → marks (seen_all v text ts) ≡ marks_from text false v.variables draws ts
 unfolding marks_from
 marks_all v text [] draws = refl
 marks_all v text (t ∷ ts) draws = rw (no_draws v.variables draws t.kind (lexeme text t).word, marks_all v text ts (draws_behind t.kind draws)) refl
@@ -89,14 +88,14 @@ module _ (source : Source) (s u : Stand) (level : ℕ) (h : IsOver source s) (ke
   fault_given : (n : ℕ) → sum_levels (moved s s.at level) ≡ n → (k : Kind) → (sum_at every (sum_levels (moved s s.at level)) true).read (marking.left (moved s s.at level)) ≡ fault k (marking.left u) → (summed every n).read (left source s) ≡ fault k (left source u)
   fault_given n l k r = ap (lifted_read (left source s)) (read_same n l ∙ r) ∙ ap (λ (ts : List Seen). fault k ts) left_last
 
-  pub sum_refused : {X : Type 0} (view : X → Expression) (n : ℕ) → sum_levels (moved s s.at level) ≡ n → (f : PartFault) (e : Reason) → IsReasonFor f e → IsRead view (Err f) u ((sum_at every (sum_levels (moved s s.at level)) true).read (marking.left (moved s s.at level))) → Unless e ((summed every n).read (left source s) ≡ fault (kind_of e) (left source u))
-  sum_refused view n l (parts.Syntax at) e is r = rw is (fault_given n l marking.Syntax r.0)
-  sum_refused view n l (parts.Wide at) e is r = rw is (fault_given n l marking.Wide r.0)
-  sum_refused view n l (parts.Deep at) e is r = rw is (fault_given n l marking.Deep r.0)
-  sum_refused view n l (parts.NotLinear at) e is r = rw is (fault_given n l marking.NotLinear r.0)
-  sum_refused view n l (parts.TooMany at) e is r = absurd is
-  sum_refused view n l (parts.UnknownName at) e is r = rw is (fault_given n l marking.UnknownName r.0)
-  sum_refused view n l parts.Memory e is r = rw is tt
+  pub sum_refused : {X : Type 0} (view : X → Expression) (n : ℕ) → sum_levels (moved s s.at level) ≡ n → (f : PartFault) → IsRead view (Err f) u ((sum_at every (sum_levels (moved s s.at level)) true).read (marking.left (moved s s.at level))) → Unless (reason_of f) ((summed every n).read (left source s) ≡ fault (kind_of (reason_of f)) (left source u))
+  sum_refused view n l (parts.Syntax at) r = fault_given n l marking.Syntax r.0
+  sum_refused view n l (parts.Wide at) r = fault_given n l marking.Wide r.0
+  sum_refused view n l (parts.Deep at) r = fault_given n l marking.Deep r.0
+  sum_refused view n l (parts.NotLinear at) r = fault_given n l marking.NotLinear r.0
+  sum_refused view n l (parts.TooMany at) r = fault_given n l marking.TooMany r.0
+  sum_refused view n l (parts.UnknownName at) r = fault_given n l marking.UnknownName r.0
+  sum_refused view n l parts.Memory r = tt
 
 pub sum_at_end : (source : Source) (s : Stand) (n : ℕ) → IsOver source s → length source.list.now ≤ s.at → (summed every n).read (left source s) ≡ fault marking.Syntax (left source s)
 sum_at_end source s n h l =

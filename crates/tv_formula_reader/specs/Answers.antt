@@ -5,8 +5,7 @@ use Rattle.tv_language.specs.declared.token.TokenKind.{TokenKind}
 use Rattle.tv_language.specs.declared.token.TokenKind.TheVariants as kinds
 use Rattle.tv_language.specs.Tokens.{IsTokens}
 use Rattle.tv_program.specs.Words.{Word}
-use Rattle.tv_grammar.specs.Reads.{Fault, fault, next}
-use Rattle.tv_grammar.specs.Langs.{Branch, headed_read, goes_at}
+use Rattle.tv_grammar.specs.Reads.{Fault, fault}
 use Rattle.tv_reading.specs.Marks as marks
 use Rattle.tv_reading.specs.Marks.{Kind, Mark, plain, refused, Stand}
 use Rattle.tv_language.specs.Symbols.{label, fixed}
@@ -16,10 +15,9 @@ use Rattle.tv_formula.specs.Properties.{Property}
 use Rattle.tv_formula.specs.Views.{property}
 use Rattle.tv_formula_reader.specs.Seen.{Seen, seen_all}
 use Rattle.tv_formula_reader.specs.Choice.{mark_at}
-use Rattle.tv_formula_reader.specs.declared.reason.Reason.{Reason}
-use Rattle.tv_formula_reader.specs.declared.reason.Reason.TheVariants.{Syntax, Wide, Deep, NotLinear, UnknownName, Memory}
-use Rattle.tv_reading.specs.declared.reason.Turn.{Turn}
-use Rattle.tv_reading.specs.declared.reason.Turn.TheVariants.{On, Off}
+use Rattle.tv_reading.specs.Answers.{kind_of, Unless}
+use Rattle.tv_reading.specs.declared.reason.Reason.{Reason}
+use Rattle.tv_reading.specs.declared.reason.Reason.TheVariants.{Syntax, Wide, UnknownName, Memory}
 use Rattle.tv_formula_reader.specs.declared.source.Source.{Source}
 
 -- what is left to read
@@ -43,39 +41,14 @@ pub record Stays (source : Source) (s u : Stand) : Type 0 where
 abbrev pub kind_seen : Option Seen → TokenKind
 kind_seen t = kind_at (mark_at t)
 
--- the end of a text, or the first byte that no token can hold
-abbrev pub is_last : TokenKind → Bool
-is_last kinds.End = true
-is_last kinds.Unread = true
-is_last kind = false
-
 -- the bytes of a token that is a name
 abbrev pub word_seen : Option Seen → Word
 word_seen None = []
 word_seen (Some t) = t.word
 
-abbrev pub kind_of : Reason → Kind
-kind_of Syntax = marks.Syntax
-kind_of Wide = marks.Wide
-kind_of Deep = marks.Deep
-kind_of NotLinear = marks.NotLinear
-kind_of UnknownName = marks.UnknownName
-kind_of Memory = marks.Syntax
-
-abbrev pub Unless : Reason → Type 0 → Type 0
-Unless Memory p = Unit {0}
-Unless _ p = p
-
--- What is answered, seen by view, and what is left are what the grammar reads, or memory runs out.
-abbrev pub Gives : {X Y : Type 0} → (X → Y) → Result X Reason → List Seen → Result (Y × List Seen) (Fault Seen Kind) → Type 0
-Gives view (Ok x) left read = read ≡ Ok (view x, left)
-Gives view (Err e) left read = Unless e (read ≡ fault (kind_of e) left)
-
--- One turn of a loop at these tokens, in the state s.
-abbrev pub Turned : {X S : Type 0} → (X → S) → Result (Turn X) Reason → List Seen → (S → Seen → Branch Seen Kind S) → S → List Seen → Type 0
-Turned view (Ok (On x)) left cases s ts = (goes_at (cases s) (next ts) ≡ true) × (headed_read marks.Syntax (cases s) ts ≡ Ok (view x, left))
-Turned view (Ok (Off x)) left cases s ts = (goes_at (cases s) (next ts) ≡ false) × (view x ≡ s) × (left ≡ ts)
-Turned view (Err e) left cases s ts = Unless e ((goes_at (cases s) (next ts) ≡ true) × (headed_read marks.Syntax (cases s) ts ≡ fault (kind_of e) left))
+abbrev pub is_memory : Reason → Bool
+is_memory Memory = true
+is_memory reason = false
 
 abbrev pub trees_view : Vec Tree Global → List Property
 trees_view ts = map property ts.items

@@ -15,17 +15,14 @@ use Rattle.tv_formula_reader.specs.declared.operators.Single.{Single}
 use Rattle.tv_formula.specs.Properties.{Property, truth, compare, at, term, negated, all_of, some_of, fix}
 use Rattle.tv_grammar.specs.Langs.{unit, then, mapped, stop, go, headed, turns}
 use Rattle.tv_reading.specs.Marks.{Kind, Syntax, Wide, Deep, UnknownName, Mark, plain, refused}
-use Rattle.tv_reading.specs.SumGrammar.{sum_at}
+use Rattle.tv_reading.specs.SumGrammar.{refuse_by, sum_at}
+use Rattle.tv_reading.specs.ConditionGrammar.{is_and, is_or}
 use Rattle.tv_formula_reader.specs.Seen.{Seen}
 use Rattle.tv_formula_reader.specs.Choice.{Grammar, Behind, lifted, either}
 use Rattle.tv_formula_reader.specs.declared.operators.Operator.{Operator}
 use Rattle.tv_formula_reader.specs.declared.operators.Operator.TheVariants.{One, Two}
 use Rattle.tv_formula_reader.specs.Operators.{operator_of, applied}
 use Rattle.tv_formula_reader.specs.FormulaTexts.{joined}
-
-abbrev pub refuse_by : {X : Type 0} → Bool → Kind → Grammar X → Behind X
-refuse_by true k l = stop k
-refuse_by false k l = go l
 
 -- ---- one token
 
@@ -169,14 +166,6 @@ abbrev pub plain_over : (Kind → Bool) → Under → Grammar Property
 plain_over kept u = headed Syntax (λ t. at_kind (plain_by kept u t.word) t.mark)
 
 -- ---- joined by "&&" or "||"
-
-abbrev pub is_and : TokenKind → Bool
-is_and kinds.And = true
-is_and kind = false
-
-abbrev pub is_or : TokenKind → Bool
-is_or kinds.Or = true
-is_or kind = false
 
 abbrev pub more_by : Grammar Property → List Property → Bool → Behind (List Property)
 more_by item fs false = stop Syntax

@@ -5,6 +5,5 @@ pub mod Seen
 pub mod Choice
 pub mod FormulaGrammar
 pub mod Refusals
-pub mod Told
 pub mod Answers
 pub mod Laws

@@ -1,33 +1,18 @@
 -- The first fault of a text, and what its kind says.
-use Rattle.std.specs.Prelude.{◌≡◌, ℕ, Bool, List, [], ◌∷◌, ◌++◌, Some, Result, Ok, Err}
+use Rattle.std.specs.Prelude.{◌≡◌, ℕ, List, ◌++◌, Result, Ok, Err}
 use Rattle.tv_language.specs.declared.token.Token.{Token}
 use Rattle.tv_language.specs.Tokens.{IsTokens}
 use Rattle.tv_program.specs.Systems.{System}
-use Rattle.tv_grammar.specs.Reads.{next}
-use Rattle.tv_grammar.specs.Faults.{NoneIn, Begins}
 use Rattle.tv_reading.specs.Marks.{Kind, Syntax, Wide, Deep, NotLinear, UnknownName, first}
 use Rattle.tv_reading.specs.Readings.{or_end}
-use Rattle.tv_reading.specs.Refusals.{upto, under, Levels}
-use Rattle.tv_reading.specs.SumGrammar.{every}
-use Rattle.tv_formula_reader.specs.Seen.{Seen, seen_all}
-use Rattle.tv_formula_reader.specs.Choice.{Grammar}
+use Rattle.tv_reading.specs.Refusals.{Refuses}
+use Rattle.tv_formula_reader.specs.Seen.{seen_all}
 use Rattle.tv_formula_reader.specs.FormulaGrammar.{text_at}
 use Rattle.tv_formula_reader.specs.FormulaTexts.{words_of}
-use Rattle.tv_formula_reader.specs.declared.reason.Reason.{Reason}
-use Rattle.tv_formula_reader.specs.declared.reason.Reason.TheVariants as reasons
+use Rattle.tv_reading.specs.declared.reason.Reason.{Reason}
+use Rattle.tv_reading.specs.declared.reason.Reason.TheVariants as reasons
 use Rattle.tv_formula_reader.specs.declared.fault.FormulaFault.{FormulaFault}
 use Rattle.tv_formula_reader.specs.declared.fault.FormulaFault.TheVariants as faults
-
--- Reading is refused at the first of r with this kind, by a grammar of n levels, told which kinds of fault are kept.
-pub record Refuses {X : Type 0} (grammar : (Kind → Bool) → ℕ → Grammar X) (n : ℕ) (k : Kind) (ts r : List Seen) : Type 0 where
-  pub before : List Seen
-  pub parts : ts ≡ before ++ r
-  -- a text begins with what stands before
-  pub some : Begins (grammar every n) before
-  -- no text begins with the tokens up to r's first, also where only this kind and those before it are faults
-  pub none : (m : ℕ) → Levels (upto k Deep) n m → NoneIn (grammar (upto k) m) before r
-  -- where only the kinds before it are faults, one does
-  pub begun : (k ≡ Syntax → ⊥) → (t : Seen) → next r ≡ Some t → (m : ℕ) → Levels (under k Deep) n m → Begins (grammar (under k) m) (before ++ t ∷ [])
 
 -- The first fault of the text as a formula over the words of the program has this kind, and its token is at this place.
 pub record IsFirstFault (p : System) (text : List ℕ) (k : Kind) (at : ℕ) : Type 0 where
@@ -55,11 +40,13 @@ IsGiven (Ok x) P = P x
 IsGiven (Err faults.Memory) P = Unit {0}
 IsGiven (Err fault) P = ⊥
 
--- the fault for a reason, at this place
+-- the fault for a reason, at this place; a formula has no START, and nothing in it is one too many
 abbrev pub IsTold : Reason → FormulaFault → ℕ → Type 0
 IsTold reasons.Syntax f at = f ≡ faults.Syntax at
 IsTold reasons.Wide f at = f ≡ faults.Wide at
 IsTold reasons.Deep f at = f ≡ faults.Deep at
 IsTold reasons.NotLinear f at = f ≡ faults.NotLinear at
+IsTold reasons.TwoStarts f at = ⊥
+IsTold reasons.TooMany f at = ⊥
 IsTold reasons.UnknownName f at = f ≡ faults.UnknownName at
 IsTold reasons.Memory f at = f ≡ faults.Memory

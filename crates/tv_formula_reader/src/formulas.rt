@@ -1,20 +1,28 @@
-ghost use Rattle.std.specs.Prelude.{◌≤◌};
+ghost use Rattle.std.specs.Prelude.{◌≡◌, ◌≤◌};
 ghost use Rattle.tv_grammar.specs.Langs.{then, mapped, turns};
 ghost use Rattle.tv_formula.specs.Properties.{negated};
 ghost use Rattle.tv_formula.specs.Views.{property};
 ghost use Rattle.tv_reading.specs.SumGrammar.{every};
-ghost use Rattle.tv_formula_reader.specs.Answers.{left, IsOver, Stays, Gives, Turned, trees_view};
-ghost use Rattle.tv_formula_reader.specs.FormulaGrammar.{closed, argument, operated, plain_at, literal_at, conjunction_from, conjunction_over, formula_from, formula_at, is_and, is_or, more_cases, of_one, of_two};
+ghost use Rattle.tv_reading.specs.Answers.{Gives, Turned};
+ghost use Rattle.tv_formula_reader.specs.Answers.{left, IsOver, Stays, trees_view, is_memory};
+ghost use Rattle.tv_reading.specs.ConditionGrammar.{is_and, is_or};
+ghost use Rattle.tv_formula_reader.specs.FormulaGrammar.{closed, argument, operated, plain_at, literal_at, conjunction_from, conjunction_over, formula_from, formula_at, more_cases, of_one, of_two};
 
 use crate::operators::{Operator, Single};
 use crate::plain::{close, close_square, leaf, open, operator};
-use crate::reason::{Reason, is_memory};
 use crate::source::{Source, next_kind, pass_kind};
 use crate::sums::comparison;
 use crate::trees::{add_tree, all_of, applied, fixed_point, negation, some_of, trees_of};
 use tv_formula::{Path, Shape, Tree};
 use tv_language::TokenKind;
-use tv_reading::{Reading, Turn};
+use tv_reading::{Reading, Reason, Turn};
+
+/// Whether memory runs out.
+fn is_memory(reason: Reason) -> bool
+    ensures { result ≡ is_memory reason }
+{
+    matches!(reason, Reason::Memory)
+}
 
 /// A plain formula that nests at most `levels` deep.
 #[cycle(formulas)]

@@ -7,7 +7,6 @@ mod laws;
 mod operators;
 mod plain;
 mod read;
-mod reason;
 mod source;
 mod sums;
 mod trees;

@@ -5,18 +5,19 @@ ghost use Rattle.tv_language.specs.Symbols.{lexeme};
 ghost use Rattle.tv_formula.specs.Views.{property};
 ghost use Rattle.tv_reading.specs.Marks.{first};
 ghost use Rattle.tv_reading.specs.SumGrammar.{every};
-ghost use Rattle.tv_formula_reader.specs.Answers.{left, IsOver, Stays, Gives, nothing, the_nothing, is_last, kind_seen, word_seen, IsLabelOf, Ends};
+ghost use Rattle.tv_reading.specs.Views.{is_last};
+ghost use Rattle.tv_reading.specs.Answers.{Gives};
+ghost use Rattle.tv_formula_reader.specs.Answers.{left, IsOver, Stays, nothing, the_nothing, kind_seen, word_seen, IsLabelOf, Ends};
 ghost use Rattle.tv_formula_reader.specs.Seen.{label_by};
 ghost use Rattle.tv_formula_reader.specs.Signs.{word_in};
 ghost use Rattle.tv_formula_reader.specs.Operators.{operator_of};
 ghost use Rattle.tv_formula_reader.specs.FormulaGrammar.{opened, closed, behind_square, at_end, labelled, place, leaves, operator_word};
 
 use crate::operators::{Operator, operator_of};
-use crate::reason::Reason;
 use crate::source::{Source, next_kind, next_token, pass, pass_kind};
 use tv_formula::Tree;
 use tv_language::{Token, TokenKind, is_word, word_of};
-use tv_reading::{Reading, is_formula_word};
+use tv_reading::{Reading, Reason, is_formula_word};
 
 /// `(`.
 pub fn open(source: &Source, reading: &mut Reading) -> Result<(), Reason>

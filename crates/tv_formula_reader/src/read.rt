@@ -13,13 +13,12 @@ ghost use Rattle.tv_formula_reader.specs.Refusals.{IsRefusal, IsGiven, IsTold};
 use crate::fault::FormulaFault;
 use crate::formulas::formula;
 use crate::plain::end;
-use crate::reason::Reason;
 use crate::source::Source;
 use std::alloc::Global;
 use tv_formula::{Formula, Tree};
 use tv_language::scan;
 use tv_program::Program;
-use tv_reading::{MOST_LEVELS, Reading};
+use tv_reading::{MOST_LEVELS, Reading, Reason};
 
 /// How many bytes a formula has at most.
 const MOST_BYTES: usize = 65536;
@@ -36,6 +35,8 @@ fn whole(source: &Source, reading: &mut Reading) -> Result<Tree, Reason>
 
 /// The fault for a reason, at this place.
 fn fault_at(reason: Reason, at: u32) -> FormulaFault
+    requires one_start { reason ≢ Reason.TwoStarts }
+    requires room { reason ≢ Reason.TooMany }
     ensures { IsTold reason result at }
 {
     match reason {
@@ -43,6 +44,7 @@ fn fault_at(reason: Reason, at: u32) -> FormulaFault
         Reason::Wide => FormulaFault::Wide { at },
         Reason::Deep => FormulaFault::Deep { at },
         Reason::NotLinear => FormulaFault::NotLinear { at },
+        Reason::TwoStarts | Reason::TooMany => unreachable!(),
         Reason::UnknownName => FormulaFault::UnknownName { at },
         Reason::Memory => FormulaFault::Memory,
     }

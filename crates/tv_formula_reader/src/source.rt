@@ -3,7 +3,8 @@ ghost use Rattle.std.specs.Option.{option_map};
 ghost use Rattle.tv_language.specs.Symbols.{lexeme};
 ghost use Rattle.tv_grammar.specs.Reads.{next};
 ghost use Rattle.tv_reading.specs.Marks.{first};
-ghost use Rattle.tv_formula_reader.specs.Answers.{left, IsOver, Stays, kind_seen, is_last};
+ghost use Rattle.tv_reading.specs.Views.{is_last};
+ghost use Rattle.tv_formula_reader.specs.Answers.{left, IsOver, Stays, kind_seen};
 ghost use Rattle.tv_formula_reader.specs.Seen.{seen};
 
 use std::alloc::Global;

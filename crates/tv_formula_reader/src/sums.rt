@@ -2,16 +2,16 @@ ghost use Rattle.std.specs.Prelude.{◌≡◌, ◌-◌, ◌≤◌};
 ghost use Rattle.tv_program.specs.Views.{expression};
 ghost use Rattle.tv_formula.specs.Views.{property};
 ghost use Rattle.tv_reading.specs.SumGrammar.{every};
-ghost use Rattle.tv_formula_reader.specs.Answers.{left, IsOver, Stays, Gives};
+ghost use Rattle.tv_reading.specs.Answers.{Gives};
+ghost use Rattle.tv_formula_reader.specs.Answers.{left, IsOver, Stays};
 ghost use Rattle.tv_formula_reader.specs.FormulaGrammar.{summed, comparison};
 
-use crate::reason::{Reason, reason_of};
 use crate::source::{Source, next_kind, pass_kind};
 use crate::trees::compared;
 use tv_formula::Tree;
 use tv_language::relation_of;
 use tv_program::Expr;
-use tv_reading::{MOST_LEVELS, Reading};
+use tv_reading::{MOST_LEVELS, Reading, Reason};
 
 /// A sum that nests at most `levels` deep.
 fn sum(source: &Source, reading: &mut Reading, levels: u32) -> Result<Expr, Reason>
@@ -25,10 +25,7 @@ fn sum(source: &Source, reading: &mut Reading, levels: u32) -> Result<Expr, Reas
         return Err(Reason::Syntax);
     }
     reading.go(at, MOST_LEVELS - levels);
-    match reading.sum() {
-        Ok(expr) => Ok(expr),
-        Err(fault) => Err(reason_of(fault)),
-    }
+    Ok(reading.sum()?)
 }
 
 /// A comparison of two sums.

@@ -15,10 +15,9 @@ use Rattle.tv_reading.specs.declared.fault.PartFault.{PartFault}
 use Rattle.tv_reading.proofs.PassedLemmas.{passes_kept}
 use Rattle.tv_reading.proofs.SumLemmas.{sum_exact}
 use Rattle.tv_reading.proofs.ConditionLemmas.{condition_exact}
-use Rattle.tv_reader.specs.Readers.{Steady, Unless, kind_of, IsTold, Fixture}
-use Rattle.tv_reader.specs.declared.reason.Reason.{Reason}
+use Rattle.tv_reading.specs.Answers.{Unless, kind_of, reason_of}
+use Rattle.tv_reader.specs.Readers.{Steady, Fixture}
 use Rattle.tv_reader.proofs.StepLemmas.{left_of}
-use Rattle.tv_reading.proofs.KindsOfFaults.{sums_kinded, conditions_kinded}
 use Rattle.tv_reader.proofs.ReadLemmas.{Went, Found, found_there, reason_told, sum_body, sum_draws, condition_body, condition_draws}
 
 abbrev pub fixture_of : List Word → Stand → Fixture
@@ -35,17 +34,17 @@ module _ (labels : List Word) (s u : Stand) (passes : Passes s u) (steady : Stea
   sum_here : (result : Result Expr PartFault) → IsRead expression result u ((sum_at every (sum_levels s) true).read (marks.left s)) → IsRead expression result u ((sum_at every 64 true).read (marks.left s))
   sum_here result h = subst (λ (n : ℕ). IsRead expression result u ((sum_at every (64 - n) true).read (marks.left s))) steady.level h
 
-  pub sum_found : (x : Expr) → IsRead expression (Ok x) u ((sum_at every (sum_levels s) true).read (marks.left s)) → Found (sum_at every 64 true) (sum_exact every 64 true) (sum_body 64) (sums_kinded 64 true) draws_in (sum_draws 64) labels s u passes steady (expression x)
-  sum_found x h = found_there (sum_at every 64 true) (sum_exact every 64 true) (sum_body 64) (sums_kinded 64 true) draws_in (sum_draws 64) labels s u passes steady (expression x) (sum_here (Ok x) h)
+  pub sum_found : (x : Expr) → IsRead expression (Ok x) u ((sum_at every (sum_levels s) true).read (marks.left s)) → Found (sum_at every 64 true) (sum_exact every 64 true) (sum_body 64) draws_in (sum_draws 64) labels s u passes steady (expression x)
+  sum_found x h = found_there (sum_at every 64 true) (sum_exact every 64 true) (sum_body 64) draws_in (sum_draws 64) labels s u passes steady (expression x) (sum_here (Ok x) h)
 
-  pub sum_refused : (P : Kind → Type 0) → ((k : Kind) → Went labels s u → (sum_at every 64 true).read (left_of labels false s) ≡ fault k (left_of labels false u) → P k) → (f : PartFault) (e : Reason) → IsTold f e → IsRead expression (Err f) u ((sum_at every (sum_levels s) true).read (marks.left s)) → Unless e (P (kind_of e))
-  sum_refused P g f e told h = reason_told (sum_at every 64 true) (sum_exact every 64 true) (sum_body 64) (sums_kinded 64 true) draws_in (sum_draws 64) labels s u passes steady P (λ k r. g k r.went r.read) expression f e told (sum_here (Err f) h)
+  pub sum_refused : (P : Kind → Type 0) → ((k : Kind) → Went labels s u → (sum_at every 64 true).read (left_of labels false s) ≡ fault k (left_of labels false u) → P k) → (f : PartFault) → IsRead expression (Err f) u ((sum_at every (sum_levels s) true).read (marks.left s)) → Unless (reason_of f) (P (kind_of (reason_of f)))
+  sum_refused P g f h = reason_told (sum_at every 64 true) (sum_exact every 64 true) (sum_body 64) draws_in (sum_draws 64) labels s u passes steady P (λ k r. g k r.went r.read) expression f (sum_here (Err f) h)
 
   condition_here : (result : Result Cond PartFault) → IsRead condition result u ((condition_at every (condition_levels s)).read (marks.left s)) → IsRead condition result u ((condition_at every 63).read (marks.left s))
   condition_here result h = subst (λ (b : Bool). IsRead condition result u ((condition_at every (cond b 63 (64 - s.level))).read (marks.left s))) steady.grows h
 
-  pub condition_found : (x : Cond) → IsRead condition (Ok x) u ((condition_at every (condition_levels s)).read (marks.left s)) → Found (condition_at every 63) (condition_exact every 63) (condition_body 63) (conditions_kinded 63) draws_tested (condition_draws 63) labels s u passes steady (condition x)
-  condition_found x h = found_there (condition_at every 63) (condition_exact every 63) (condition_body 63) (conditions_kinded 63) draws_tested (condition_draws 63) labels s u passes steady (condition x) (condition_here (Ok x) h)
+  pub condition_found : (x : Cond) → IsRead condition (Ok x) u ((condition_at every (condition_levels s)).read (marks.left s)) → Found (condition_at every 63) (condition_exact every 63) (condition_body 63) draws_tested (condition_draws 63) labels s u passes steady (condition x)
+  condition_found x h = found_there (condition_at every 63) (condition_exact every 63) (condition_body 63) draws_tested (condition_draws 63) labels s u passes steady (condition x) (condition_here (Ok x) h)
 
-  pub condition_refused : (P : Kind → Type 0) → ((k : Kind) → Went labels s u → (condition_at every 63).read (left_of labels false s) ≡ fault k (left_of labels false u) → P k) → (f : PartFault) (e : Reason) → IsTold f e → IsRead condition (Err f) u ((condition_at every (condition_levels s)).read (marks.left s)) → Unless e (P (kind_of e))
-  condition_refused P g f e told h = reason_told (condition_at every 63) (condition_exact every 63) (condition_body 63) (conditions_kinded 63) draws_tested (condition_draws 63) labels s u passes steady P (λ k r. g k r.went r.read) condition f e told (condition_here (Err f) h)
+  pub condition_refused : (P : Kind → Type 0) → ((k : Kind) → Went labels s u → (condition_at every 63).read (left_of labels false s) ≡ fault k (left_of labels false u) → P k) → (f : PartFault) → IsRead condition (Err f) u ((condition_at every (condition_levels s)).read (marks.left s)) → Unless (reason_of f) (P (kind_of (reason_of f)))
+  condition_refused P g f h = reason_told (condition_at every 63) (condition_exact every 63) (condition_body 63) draws_tested (condition_draws 63) labels s u passes steady P (λ k r. g k r.went r.read) condition f (condition_here (Err f) h)

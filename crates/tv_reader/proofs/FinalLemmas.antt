@@ -26,13 +26,14 @@ use Rattle.tv_reader.specs.declared.fault.ReadFault.{ReadFault}
 use Rattle.tv_reader.specs.declared.fault.ReadFault.TheVariants as faults
 use Rattle.tv_reader.specs.declared.items.ItemsRead.{ItemsRead}
 use Rattle.tv_reader.specs.declared.reader.Reader.{Reader}
-use Rattle.tv_reader.specs.declared.reason.Reason.{Reason}
-use Rattle.tv_reader.specs.declared.reason.Reason.TheVariants as reasons
+use Rattle.tv_reading.specs.declared.reason.Reason.{Reason}
+use Rattle.tv_reading.specs.declared.reason.Reason.TheVariants as reasons
 use Rattle.tv_reader.specs.ProgramMarks.{vocabulary, draws_behind, marks_from, program_marks}
 use Rattle.tv_reader.specs.ProgramGrammar.{Items, program_at}
 use Rattle.tv_reader.specs.Places.{line_of, column_of}
-use Rattle.tv_reader.specs.Readers.{is_closed, are_known, left, Fixture, fixture, Steady, IsSteady, Unless, kind_of, starts_view, items_view}
-use Rattle.tv_reader.specs.FirstFaults.{ends_with_colon, brought_in, HasFault, IsRefused, IsReadAs, fault_at, IsMade}
+use Rattle.tv_reading.specs.Answers.{Unless, kind_of}
+use Rattle.tv_reader.specs.Readers.{is_closed, are_known, left, Fixture, fixture, Steady, IsSteady, starts_view, items_view}
+use Rattle.tv_reader.specs.FirstFaults.{ends_with_colon, brought_in, HasFault, IsRefused, IsReadAs, IsTold, IsMade}
 use Rattle.tv_reading.proofs.LinearLemmas.{and_left, and_right}
 use Rattle.tv_reader.proofs.WordLemmas.{has, has_all, has_each, take_all}
 use Rattle.tv_reader.proofs.TokenLemmas.{tokens_closed}
@@ -198,14 +199,18 @@ module _ (text : List ℕ) (tokens : List Token) (scanned : IsTokens 0 text toke
     never : (k : Kind) (rest : List Mark) → (program_at every 63).read (left r) ≡ fault k rest → ⊥
     never k rest h = clash {A = Items × List Mark} (record { starts = 0 ∷ []; edges = p.edges }, []) (faulty k rest) (sym whole_read ∙ h)
 
-    pub only_fault : (e : Reason) (rest : List Mark) (what : What) (line column : ℕ) → Unless e ((program_at every 63).read (left r) ≡ fault (kind_of e) rest) → IsReadAs p (Err (fault_at e what line column))
-    only_fault reasons.Memory rest what line column h = tt
-    only_fault reasons.Syntax rest what line column h = never marks.Syntax rest h
-    only_fault reasons.Wide rest what line column h = never marks.Wide rest h
-    only_fault reasons.Deep rest what line column h = never marks.Deep rest h
-    only_fault reasons.NotLinear rest what line column h = never marks.NotLinear rest h
-    only_fault reasons.TwoStarts rest what line column h = never marks.TwoStarts rest h
-    only_fault reasons.TooMany rest what line column h = never marks.TooMany rest h
+    only_memory : (f : ReadFault) → f ≡ faults.Memory → IsReadAs p (Err f)
+    only_memory f e = subst (λ (g : ReadFault). IsReadAs p (Err g)) (sym e) tt
+
+    pub only_fault : (e : Reason) (rest : List Mark) (what : What) (line column : ℕ) (f : ReadFault) → Unless e ((program_at every 63).read (left r) ≡ fault (kind_of e) rest) → IsTold e what line column f → IsReadAs p (Err f)
+    only_fault reasons.Memory rest what line column f h t = only_memory f t
+    only_fault reasons.Syntax rest what line column f h t = absurd (never marks.Syntax rest h)
+    only_fault reasons.Wide rest what line column f h t = absurd (never marks.Wide rest h)
+    only_fault reasons.Deep rest what line column f h t = absurd (never marks.Deep rest h)
+    only_fault reasons.NotLinear rest what line column f h t = absurd (never marks.NotLinear rest h)
+    only_fault reasons.TwoStarts rest what line column f h t = absurd (never marks.TwoStarts rest h)
+    only_fault reasons.TooMany rest what line column f h t = absurd (never marks.TooMany rest h)
+    only_fault reasons.UnknownName rest what line column f h t = absurd t
 
     pub only_found : (u : Reader) → fixture u ≡ fixture r → (x : ItemsRead) → (program_at every 63).read (left r) ≡ Ok (items_view x, []) → (result : Result Program ReadFault) → MatchResult result (λ q. IsMade u x q) (λ e. (e ≡ faults.NoStart) × (x.start ≡ None)) → IsReadAs p result
     only_found u same x reads (Ok q) m =
@@ -248,23 +253,25 @@ module _ (text : List ℕ) (tokens : List Token) (scanned : IsTokens 0 text toke
           sym h.is,
         )
 
-    pub fault_told : (e : Reason) (line column : ℕ) → Unless e ((program_at every 63).read (left r) ≡ fault (kind_of e) (left u)) → line ≡ line_of text (token_at u.reading).at → column ≡ column_of text (token_at u.reading).at → IsRefused text (fault_at e (brought_in (ends_with_colon false (take u.reading.at tokens)) (token_at u.reading).kind) line column)
-    fault_told reasons.Memory line column h is_line is_column = tt
-    fault_told reasons.Syntax line column h is_line is_column = (fault_here marks.Syntax h line column is_line is_column).0
-    fault_told reasons.Wide line column h is_line is_column = (fault_here marks.Wide h line column is_line is_column).0
-    fault_told reasons.Deep line column h is_line is_column = (fault_here marks.Deep h line column is_line is_column).0
-    fault_told reasons.NotLinear line column h is_line is_column = (fault_here marks.NotLinear h line column is_line is_column).0
-    fault_told reasons.TwoStarts line column h is_line is_column = (fault_here marks.TwoStarts h line column is_line is_column).0
-    fault_told reasons.TooMany line column h is_line is_column =
-        let f = fault_here marks.TooMany h line column is_line is_column in
-        (f.0, ap (λ (ts : List Token). brought_in (ends_with_colon false ts) (token_at u.reading).kind) (sym f.1) ∙ ap (λ (t : Token). brought_in (ends_with_colon false f.0.before) t.kind) (sym f.2))
+    pub fault_told : (e : Reason) (line column : ℕ) (f : ReadFault) → Unless e ((program_at every 63).read (left r) ≡ fault (kind_of e) (left u)) → line ≡ line_of text (token_at u.reading).at → column ≡ column_of text (token_at u.reading).at → IsTold e (brought_in (ends_with_colon false (take u.reading.at tokens)) (token_at u.reading).kind) line column f → IsRefused text f
+    fault_told reasons.Memory line column f h is_line is_column t = rw t tt
+    fault_told reasons.Syntax line column f h is_line is_column t = rw t (fault_here marks.Syntax h line column is_line is_column).0
+    fault_told reasons.Wide line column f h is_line is_column t = rw t (fault_here marks.Wide h line column is_line is_column).0
+    fault_told reasons.Deep line column f h is_line is_column t = rw t (fault_here marks.Deep h line column is_line is_column).0
+    fault_told reasons.NotLinear line column f h is_line is_column t = rw t (fault_here marks.NotLinear h line column is_line is_column).0
+    fault_told reasons.TwoStarts line column f h is_line is_column t = rw t (fault_here marks.TwoStarts h line column is_line is_column).0
+    fault_told reasons.TooMany line column f h is_line is_column t =
+        let g = fault_here marks.TooMany h line column is_line is_column in
+        rw t (g.0, ap (λ (ts : List Token). brought_in (ends_with_colon false ts) (token_at u.reading).kind) (sym g.1) ∙ ap (λ (t : Token). brought_in (ends_with_colon false g.0.before) t.kind) (sym g.2))
+    fault_told reasons.UnknownName line column f h is_line is_column t = absurd t
 
   -- the answer for a reason
-  pub fault_answer : (u : Reader) (e : Reason) (line column : ℕ) → Unless e (fixture u ≡ fixture r) → Unless e (IsSteady u) → Unless e ((program_at every 63).read (left r) ≡ fault (kind_of e) (left u)) → line ≡ line_of text (token_at u.reading).at → column ≡ column_of text (token_at u.reading).at → IsRefused text (fault_at e (brought_in (ends_with_colon false (take u.reading.at tokens)) (token_at u.reading).kind) line column)
-  fault_answer u reasons.Memory line column k s h is_line is_column = tt
-  fault_answer u reasons.Syntax line column k s h is_line is_column = fault_told u k s reasons.Syntax line column h is_line is_column
-  fault_answer u reasons.Wide line column k s h is_line is_column = fault_told u k s reasons.Wide line column h is_line is_column
-  fault_answer u reasons.Deep line column k s h is_line is_column = fault_told u k s reasons.Deep line column h is_line is_column
-  fault_answer u reasons.NotLinear line column k s h is_line is_column = fault_told u k s reasons.NotLinear line column h is_line is_column
-  fault_answer u reasons.TwoStarts line column k s h is_line is_column = fault_told u k s reasons.TwoStarts line column h is_line is_column
-  fault_answer u reasons.TooMany line column k s h is_line is_column = fault_told u k s reasons.TooMany line column h is_line is_column
+  pub fault_answer : (u : Reader) (e : Reason) (line column : ℕ) (f : ReadFault) → Unless e (fixture u ≡ fixture r) → Unless e (IsSteady u) → Unless e ((program_at every 63).read (left r) ≡ fault (kind_of e) (left u)) → line ≡ line_of text (token_at u.reading).at → column ≡ column_of text (token_at u.reading).at → IsTold e (brought_in (ends_with_colon false (take u.reading.at tokens)) (token_at u.reading).kind) line column f → IsRefused text f
+  fault_answer u reasons.Memory line column f k s h is_line is_column t = rw t tt
+  fault_answer u reasons.Syntax line column f k s h is_line is_column t = fault_told u k s reasons.Syntax line column f h is_line is_column t
+  fault_answer u reasons.Wide line column f k s h is_line is_column t = fault_told u k s reasons.Wide line column f h is_line is_column t
+  fault_answer u reasons.Deep line column f k s h is_line is_column t = fault_told u k s reasons.Deep line column f h is_line is_column t
+  fault_answer u reasons.NotLinear line column f k s h is_line is_column t = fault_told u k s reasons.NotLinear line column f h is_line is_column t
+  fault_answer u reasons.TwoStarts line column f k s h is_line is_column t = fault_told u k s reasons.TwoStarts line column f h is_line is_column t
+  fault_answer u reasons.TooMany line column f k s h is_line is_column t = fault_told u k s reasons.TooMany line column f h is_line is_column t
+  fault_answer u reasons.UnknownName line column f k s h is_line is_column t = absurd t

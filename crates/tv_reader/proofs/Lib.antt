@@ -15,5 +15,6 @@ pub mod MoreLemmas
 pub mod TurnSteps
 pub mod FitSteps
 pub mod TokenLemmas
+pub mod ProgramKinds
 pub mod FinalLemmas
 pub mod OneProgram

@@ -14,7 +14,7 @@ use Rattle.tv_reading.specs.Marks.{Kind, Syntax, Wide, Deep, TwoStarts, TooMany,
 use Rattle.tv_reading.specs.SumGrammar.{Grammar, every, refuse_by, sum_at}
 use Rattle.tv_reading.specs.ConditionGrammar.{condition_at}
 use Rattle.tv_reading.specs.Refusals.{Levels}
-use Rattle.tv_reading.proofs.LooseSums.{sums_loose}
+use Rattle.tv_reading.proofs.LooseSums.{refuse_loose, sums_loose}
 use Rattle.tv_reading.proofs.LooseConditions.{conditions_loose}
 use Rattle.tv_reader.specs.ProgramGrammar.{go_if, token_cases, token, is_semicolon, is_left, is_right, is_assign, ended, semicolon_cases, perhaps_ended, label_cases, place, assumption, assignment, command_cases, Items, no_items, with_start, with_edge, until, last_of_edge, edge, has_start, is_full, item_cases, last_of_program, program_at}
 use Rattle.tv_reader.proofs.UntilLemmas.{LoosensStep, until_loose}
@@ -25,10 +25,6 @@ levels_more true n m h = omega arith
 levels_more false n m h = omega arith
 
 module _ (kept : Kind → Bool) (syntax : kept Syntax ≡ true) where
-  refuse_loose : {X : Type 0} (b : Bool) (k : Kind) → kept k ≡ b → (l : Grammar X) → Exact l → LoosensBranch kept (stop k) (refuse_by b k l)
-  refuse_loose true k e l h = (e, refl)
-  refuse_loose false k e l h = (e, h)
-
   go_if_loose : {X : Type 0} (b : Bool) (l m : Grammar X) → Loosens kept l m → LoosensBranch kept (go_if b l) (go_if b m)
   go_if_loose true l m h = h
   go_if_loose false l m h = (syntax, refl)
@@ -53,8 +49,8 @@ module _ (kept : Kind → Bool) (syntax : kept Syntax ≡ true) where
 
   label_loose : (m : Mark) → LoosensBranch kept (label_cases every m) (label_cases kept m)
   label_loose (plain (label l)) = unit_loose kept l
-  label_loose (plain (fixed kinds.Wide)) = refuse_loose (kept Wide) Wide refl (unit 0) (unit_exact 0)
-  label_loose (refused k kinds.Number) = refuse_loose (kept k) k refl (unit 0) (unit_exact 0)
+  label_loose (plain (fixed kinds.Wide)) = refuse_loose kept (kept Wide) Wide refl (unit 0) (unit_exact 0)
+  label_loose (refused k kinds.Number) = refuse_loose kept (kept k) k refl (unit 0) (unit_exact 0)
   label_loose _ = (syntax, refl)
 
   place_loose : Loosens kept (place every) (place kept)

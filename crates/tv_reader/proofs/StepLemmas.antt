@@ -18,7 +18,8 @@ use Rattle.tv_reading.proofs.LinearLemmas.{and_left, and_right}
 use Rattle.tv_reading.proofs.PassedLemmas.{between, here_is, symbols-append, passes_kept}
 use Rattle.tv_reader.specs.ProgramMarks.{mark_by, draws_behind, marks_from}
 use Rattle.tv_reader.specs.ProgramMarks as own
-use Rattle.tv_reader.specs.Readers.{is_last, is_closed, are_known, is_passing, Steady}
+use Rattle.tv_reading.specs.Views.{is_last}
+use Rattle.tv_reader.specs.Readers.{is_closed, are_known, is_passing, Steady}
 use Rattle.tv_reading.proofs.SymbolLemmas.{body, all_body, draws_at, draws_at_all, draws-append}
 use Rattle.std.proofs.lemmas.Bool.{and_from}
 

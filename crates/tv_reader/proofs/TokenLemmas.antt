@@ -14,7 +14,8 @@ use Rattle.tv_language.specs.Numbers.{value_of_digits}
 use Rattle.tv_language.specs.WordTexts.{begins_name, continues_name, word_kind, command_kind}
 use Rattle.tv_language.specs.Fronts.{span, section, word_front, single_front, symbol_front, solid_front, gap_or, front_of}
 use Rattle.tv_language.specs.Tokens.{IsTokens, end, gap, solid, unread}
-use Rattle.tv_reader.specs.Readers.{is_last, is_closed}
+use Rattle.tv_reading.specs.Views.{is_last}
+use Rattle.tv_reader.specs.Readers.{is_closed}
 use Rattle.std.proofs.lemmas.Bool.{and_from}
 
 -- ---- no front ends a list as a token

@@ -1,5 +1,5 @@
 -- One turn of the commands of an edge, or of the items of a program.
-use Rattle.std.proofs.Common.{◌≡◌, ℕ, ◌^◌, ◌<◌, Bool, true, false, cond, List, [], ◌∷◌, length, Option, Some, None, Result, Ok, Err, refl, ap, sym, ◌∙◌}
+use Rattle.std.proofs.Common.{◌≡◌, ℕ, ◌^◌, Bool, true, false, cond, List, [], ◌∷◌, Option, Some, None, Result, Ok, refl, ap, ◌∙◌}
 use Rattle.std.specs.Prelude.{nat_lt, ◌&&◌, MatchOption}
 use Rattle.tv_language.specs.declared.token.TokenKind.{TokenKind}
 use Rattle.tv_language.specs.declared.token.TokenKind.TheVariants as kinds
@@ -7,10 +7,9 @@ use Rattle.tv_language.specs.Numbers.{value_of_digits}
 use Rattle.tv_program.specs.Words.{Word, number_of}
 use Rattle.tv_program.specs.Trees.{Instruction}
 use Rattle.tv_language.specs.Symbols.{number, name, drawn, fixed, Vocabulary}
-use Rattle.tv_grammar.specs.Reads.{Fault, faulty, fault, next, ◌>>=◌}
+use Rattle.tv_grammar.specs.Reads.{Fault, fault, next, ◌>>=◌}
 use Rattle.tv_grammar.specs.Langs.{is_go, branch_read, headed_read, headed, goes_at, turns, mapped}
-use Rattle.tv_grammar.specs.Exact.{ExactBranch}
-use Rattle.tv_grammar.proofs.TurningLemmas.{loop_ends, loop_fails, loop_goes, turn_shrinks}
+use Rattle.tv_grammar.proofs.TurningLemmas.{loop_ends, loop_goes}
 use Rattle.tv_reading.specs.Marks.{Mark, plain, refused, Syntax, TwoStarts, TooMany, Kind}
 use Rattle.tv_reading.specs.SumGrammar.{Grammar, Behind, every, refuse_by}
 use Rattle.tv_reading.specs.Views.{kind_at}
@@ -18,10 +17,8 @@ use Rattle.tv_reader.proofs.ProgramExact.{semicolon_branch}
 use Rattle.tv_reader.specs.ProgramMarks.{numbered, mark_by}
 use Rattle.tv_reader.specs.ProgramGrammar as grammar
 use Rattle.tv_reader.specs.ProgramGrammar.{command_cases, Items, with_start, place, perhaps_ended, semicolon_cases, last_of_edge, has_start, is_full, item_cases, last_of_program}
-use Rattle.tv_reader.specs.Readers.{Unless, kind_of, Turned}
-use Rattle.tv_reader.specs.declared.reason.Reason.{Reason}
-use Rattle.tv_reader.specs.declared.reason.Reason.TheVariants as reasons
-use Rattle.tv_reading.specs.declared.reason.Turn.TheVariants.{On, Off}
+use Rattle.tv_reading.specs.Answers.{Turned}
+use Rattle.tv_reading.specs.declared.reason.Turn.TheVariants.{On}
 use Rattle.std.proofs.Math.Bool.{and-true}
 
 -- ---- a turn that is taken
@@ -35,15 +32,6 @@ Begins cases s ms out = (goes_at (cases s) (next ms) ≡ true) × (headed_read S
 
 pub turn_given : {X S : Type 0} (view : X → S) (cases : S → Mark → Behind S) (s : S) (ms rest : List Mark) (x : X) (out : Out S) → Begins cases s ms out → out ≡ Ok (view x, rest) → Turned view (Ok (On x)) rest cases s ms
 turn_given view cases s ms rest x out b e = (b.0, b.1 ∙ e)
-
-unless_map : (e : Reason) (p q : Type 0) → (p → q) → Unless e p → Unless e q
-unless_map reasons.Syntax p q f h = f h
-unless_map reasons.Wide p q f h = f h
-unless_map reasons.Deep p q f h = f h
-unless_map reasons.NotLinear p q f h = f h
-unless_map reasons.TwoStarts p q f h = f h
-unless_map reasons.TooMany p q f h = f h
-unless_map reasons.Memory p q f h = tt
 
 -- ---- commands
 
@@ -177,21 +165,6 @@ pub semicolon_off : (ms : List Mark) → (kind_at (next ms) ≡ kinds.Semicolon 
 semicolon_off [] h = refl
 semicolon_off (plain (fixed kinds.Semicolon) ∷ us) h = absurd (h refl)
 semicolon_off (m ∷ us) h = refl
-
--- ---- loops of code
-
-module _ {X S : Type 0} (view : X → S) (cases : S → Mark → Behind S) (exact : (s : S) (m : Mark) → ExactBranch (cases s m)) (out : Out S) (s : S) (ms rest : List Mark) (whole : (turns cases s).read ms ≡ out) where
-  pub turn_failed : (e : Reason) → Turned view (Err e) rest cases s ms → Unless e (out ≡ fault (kind_of e) rest)
-  turn_failed e h = unless_map e ((goes_at (cases s) (next ms) ≡ true) × (headed_read Syntax (cases s) ms ≡ fault (kind_of e) rest)) (out ≡ fault (kind_of e) rest) (λ w. sym whole ∙ loop_fails cases exact Syntax s ms (faulty (kind_of e) rest) w.0 w.1) h
-
-  pub turn_on : (x : X) → Turned view (Ok (On x)) rest cases s ms → (turns cases (view x)).read rest ≡ out
-  turn_on x w = sym (loop_goes cases exact Syntax s ms (view x) rest w.0 w.1) ∙ whole
-
-  pub turn_less : (x : X) → Turned view (Ok (On x)) rest cases s ms → length rest < length ms
-  turn_less x w = turn_shrinks cases exact Syntax s ms (view x) rest w.1
-
-  pub turn_off : (x : X) → Turned view (Ok (Off x)) rest cases s ms → out ≡ Ok (view x, rest)
-  turn_off x w = sym whole ∙ loop_ends cases exact s ms w.0 ∙ ap (λ (y : S). Ok (y, ms)) (sym w.1) ∙ ap (λ (us : List Mark). Ok (view x, us)) (sym w.2)
 
 -- ---- a name
 

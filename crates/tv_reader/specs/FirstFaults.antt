@@ -17,8 +17,8 @@ use Rattle.tv_reader.specs.declared.fault.What.{What}
 use Rattle.tv_reader.specs.declared.fault.What.TheVariants.{Variables, Locations, Edges, Draws}
 use Rattle.tv_reader.specs.declared.fault.ReadFault.{ReadFault}
 use Rattle.tv_reader.specs.declared.fault.ReadFault.TheVariants.{Syntax, NoStart, TwoStarts, NotLinear, Wide, TooMany, Deep, Memory}
-use Rattle.tv_reader.specs.declared.reason.Reason.{Reason}
-use Rattle.tv_reader.specs.declared.reason.Reason.TheVariants as reasons
+use Rattle.tv_reading.specs.declared.reason.Reason.{Reason}
+use Rattle.tv_reading.specs.declared.reason.Reason.TheVariants as reasons
 use Rattle.tv_reader.specs.declared.items.ItemsRead.{ItemsRead}
 use Rattle.tv_reader.specs.declared.reader.Reader.{Reader}
 use Rattle.tv_program.specs.Views.{transitions}
@@ -82,15 +82,16 @@ IsReadAs p (Err fault) = ⊥
 
 -- ---- the answer for what was read
 
--- the refusal for a reason at this place
-abbrev pub fault_at : Reason → What → ℕ → ℕ → ReadFault
-fault_at reasons.Syntax what line column = Syntax line column
-fault_at reasons.Wide what line column = Wide line column
-fault_at reasons.Deep what line column = Deep line column
-fault_at reasons.NotLinear what line column = NotLinear line column
-fault_at reasons.TwoStarts what line column = TwoStarts line column
-fault_at reasons.TooMany what line column = TooMany what line column
-fault_at reasons.Memory what line column = Memory
+-- the refusal for a reason at this place; in a program no name is unknown
+abbrev pub IsTold : Reason → What → ℕ → ℕ → ReadFault → Type 0
+IsTold reasons.Syntax what line column f = f ≡ Syntax line column
+IsTold reasons.Wide what line column f = f ≡ Wide line column
+IsTold reasons.Deep what line column f = f ≡ Deep line column
+IsTold reasons.NotLinear what line column f = f ≡ NotLinear line column
+IsTold reasons.TwoStarts what line column f = f ≡ TwoStarts line column
+IsTold reasons.TooMany what line column f = f ≡ TooMany what line column
+IsTold reasons.UnknownName what line column f = ⊥
+IsTold reasons.Memory what line column f = f ≡ Memory
 
 -- the program of these items, one of which is START
 pub record IsMade (r : Reader) (x : ItemsRead) (p : Program) : Type 0 where

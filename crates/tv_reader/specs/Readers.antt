@@ -14,29 +14,22 @@ use Rattle.tv_program.specs.Views.{instruction, transition, transitions}
 use Rattle.tv_program.specs.Limits.{instruction_fits, transition_fits}
 use Rattle.tv_language.specs.Symbols.{Vocabulary, lexeme, lexemes, variable_words}
 use Rattle.tv_language.specs.Programs.{draws_counted}
-use Rattle.tv_grammar.specs.Reads.{Fault, fault, next}
-use Rattle.tv_grammar.specs.Langs.{Branch, headed, headed_read, goes_at}
+use Rattle.tv_grammar.specs.Reads.{fault}
+use Rattle.tv_grammar.specs.Langs.{headed}
 use Rattle.tv_reading.specs.Marks as marks
-use Rattle.tv_reading.specs.Marks.{Kind, Mark, Stand}
+use Rattle.tv_reading.specs.Marks.{Mark, Stand}
 use Rattle.tv_reading.specs.Readings.{token_at, IsWithin}
-use Rattle.tv_reading.specs.declared.fault.PartFault.{PartFault}
-use Rattle.tv_reading.specs.declared.fault.PartFault.TheVariants as parts
 use Rattle.tv_reader.specs.ProgramMarks.{mark_by, marks_from, led_by}
 use Rattle.tv_reader.specs.ProgramGrammar.{Items, last_of_program}
-use Rattle.tv_reader.specs.declared.reason.Reason.{Reason}
-use Rattle.tv_reader.specs.declared.reason.Reason.TheVariants.{Syntax, Wide, Deep, NotLinear, TwoStarts, TooMany, Memory}
+use Rattle.tv_reading.specs.declared.reason.Reason.{Reason}
+use Rattle.tv_reading.specs.Answers.{kind_of, Unless}
+use Rattle.tv_reading.specs.Views.{is_last}
 use Rattle.tv_reading.specs.declared.reason.Turn.{Turn}
 use Rattle.tv_reading.specs.declared.reason.Turn.TheVariants.{On, Off}
 use Rattle.tv_reader.specs.declared.items.ItemsRead.{ItemsRead}
 use Rattle.tv_reader.specs.declared.reader.Reader.{Reader}
 
 -- ---- tokens that are left
-
--- the tokens that end a list
-abbrev pub is_last : TokenKind → Bool
-is_last kinds.End = true
-is_last kinds.Unread = true
-is_last kind = false
 
 -- the last token, and no other, ends the list
 abbrev pub is_closed : List Token → Bool
@@ -105,41 +98,6 @@ is_fixed kinds.Wide = false
 is_fixed kind = is_passing kind
 
 -- ---- what it answers
-
--- the kind of a fault, where memory does not run out
-abbrev pub kind_of : Reason → Kind
-kind_of Syntax = marks.Syntax
-kind_of Wide = marks.Wide
-kind_of Deep = marks.Deep
-kind_of NotLinear = marks.NotLinear
-kind_of TwoStarts = marks.TwoStarts
-kind_of TooMany = marks.TooMany
-kind_of Memory = marks.Syntax
-
--- the reason for a fault of a sum or a condition, in which no name is unknown
-abbrev pub IsTold : PartFault → Reason → Type 0
-IsTold (parts.Syntax at) reason = reason ≡ Syntax
-IsTold (parts.Wide at) reason = reason ≡ Wide
-IsTold (parts.Deep at) reason = reason ≡ Deep
-IsTold (parts.NotLinear at) reason = reason ≡ NotLinear
-IsTold (parts.TooMany at) reason = reason ≡ TooMany
-IsTold (parts.UnknownName at) reason = Unit {0}
-IsTold parts.Memory reason = reason ≡ Memory
-
-abbrev pub Unless : Reason → Type 0 → Type 0
-Unless Memory p = Unit {0}
-Unless _ p = p
-
--- What is answered, seen by view, and what is left are what the grammar reads, or memory runs out.
-abbrev pub Gives : {X Y : Type 0} → (X → Y) → Result X Reason → List Mark → Result (Y × List Mark) (Fault Mark Kind) → Type 0
-Gives view (Ok x) rest read = read ≡ Ok (view x, rest)
-Gives view (Err e) rest read = Unless e (read ≡ fault (kind_of e) rest)
-
--- One turn of a loop at these marks, in the state s.
-abbrev pub Turned : {X S : Type 0} → (X → S) → Result (Turn X) Reason → List Mark → (S → Mark → Branch Mark Kind S) → S → List Mark → Type 0
-Turned view (Ok (On x)) rest cases s ms = (goes_at (cases s) (next ms) ≡ true) × (headed_read marks.Syntax (cases s) ms ≡ Ok (view x, rest))
-Turned view (Ok (Off x)) rest cases s ms = (goes_at (cases s) (next ms) ≡ false) × (view x ≡ s) × (rest ≡ ms)
-Turned view (Err e) rest cases s ms = Unless e ((goes_at (cases s) (next ms) ≡ true) × (headed_read marks.Syntax (cases s) ms ≡ fault (kind_of e) rest))
 
 -- memory runs out, or p holds
 abbrev pub Settled : {X : Type 0} → Result X Reason → Type 0 → Type 0

@@ -14,14 +14,14 @@ ghost use Rattle.tv_reading.specs.SumGrammar.{every};
 ghost use Rattle.tv_reading.specs.Views.{kind_at};
 ghost use Rattle.tv_reader.specs.ProgramGrammar as grammar;
 ghost use Rattle.tv_reader.specs.ProgramGrammar.{Items};
-ghost use Rattle.tv_reader.specs.Readers.{left, next_kind, IsKept, Keeps, Settled, IsSteady, Gives, Turned, turn_value, instructions, CommandsFit, edge_added};
+ghost use Rattle.tv_reading.specs.Answers.{Gives, Turned};
+ghost use Rattle.tv_reader.specs.Readers.{left, next_kind, IsKept, Keeps, Settled, IsSteady, turn_value, instructions, CommandsFit, edge_added};
 
 use crate::reader::Reader;
-use crate::reason::Reason;
 use std::alloc::AllocFailed;
 use tv_language::{TokenKind, word_of};
 use tv_program::{Command, Edge};
-use tv_reading::Turn;
+use tv_reading::{Reason, Turn};
 
 /// There is room for so many commands before their list grows.
 const ROOM: usize = 32;

@@ -9,7 +9,6 @@ mod place;
 mod program;
 mod read;
 mod reader;
-mod reason;
 mod words;
 
 pub use fault::{ReadFault, What};

@@ -1,10 +1,10 @@
-ghost use Rattle.std.specs.Prelude.{◌≡◌, ◌+◌, ◌^◌, ◌<◌, ◌≤◌, length, take, false, ◌==◌, if◌then◌else◌};
+ghost use Rattle.std.specs.Prelude.{◌≡◌, ◌≢◌, ◌+◌, ◌^◌, ◌<◌, ◌≤◌, length, take, false, ◌==◌, if◌then◌else◌};
 ghost use Rattle.tv_reader.specs.Places.{line_of, column_of};
-ghost use Rattle.tv_reader.specs.FirstFaults.{ends_with_colon, brought_in, fault_at};
+ghost use Rattle.tv_reader.specs.FirstFaults.{ends_with_colon, brought_in, IsTold};
 
 use crate::fault::{ReadFault, What};
-use crate::reason::Reason;
 use tv_language::{Token, TokenKind, is_colon};
+use tv_reading::Reason;
 
 /// The bytes before a place.
 fn front_of(text: &[u8], at: u32) -> &[u8]
@@ -73,7 +73,8 @@ fn brought_in(behind_colon: bool, kind: TokenKind) -> What
 }
 
 fn fault_at(reason: Reason, what: What, line: u32, column: u32) -> ReadFault
-    ensures { result ≡ fault_at reason what line column }
+    requires { reason ≢ Reason.UnknownName }
+    ensures { IsTold reason what line column result }
 {
     match reason {
         Reason::Syntax => ReadFault::Syntax { line, column },
@@ -82,15 +83,17 @@ fn fault_at(reason: Reason, what: What, line: u32, column: u32) -> ReadFault
         Reason::NotLinear => ReadFault::NotLinear { line, column },
         Reason::TwoStarts => ReadFault::TwoStarts { line, column },
         Reason::TooMany => ReadFault::TooMany { what, line, column },
+        Reason::UnknownName => unreachable!(),
         Reason::Memory => ReadFault::Memory,
     }
 }
 
 /// The refusal for a reason at this token, which has this number.
 pub fn located(text: &[u8], list: &[Token], index: usize, token: Token, reason: Reason) -> ReadFault
-    requires { length text.now + 1 < 2 ^ 32 }
+    requires short { length text.now + 1 < 2 ^ 32 }
+    requires known { reason ≢ Reason.UnknownName }
     ensures { let what = brought_in (ends_with_colon false (take index list.now)) token.kind in
-        result ≡ fault_at reason what (line_of text.now token.at) (column_of text.now token.at) }
+        IsTold reason what (line_of text.now token.at) (column_of text.now token.at) result }
 {
     let what = brought_in(is_behind_colon(list, index), token.kind);
     fault_at(

@@ -7,15 +7,15 @@ ghost use Rattle.tv_reading.specs.Marks as marks;
 ghost use Rattle.tv_reading.specs.SumGrammar.{every};
 ghost use Rattle.tv_reader.specs.ProgramGrammar as grammar;
 ghost use Rattle.tv_reader.specs.ProgramGrammar.{Items};
-ghost use Rattle.tv_reader.specs.Readers.{left, IsKept, Keeps, Settled, IsSteady, Gives, Turned, turn_value, items_view, ItemsFit, Ends, rest_of, edge_added};
+ghost use Rattle.tv_reading.specs.Answers.{Gives, Turned};
+ghost use Rattle.tv_reader.specs.Readers.{left, IsKept, Keeps, Settled, IsSteady, turn_value, items_view, ItemsFit, Ends, rest_of, edge_added};
 
 use crate::items::ItemsRead;
 use crate::reader::Reader;
-use crate::reason::Reason;
 use std::alloc::AllocFailed;
 use tv_language::TokenKind;
 use tv_program::Edge;
-use tv_reading::Turn;
+use tv_reading::{Reason, Turn};
 
 /// A program has at most so many edges.
 const MOST_EDGES: usize = 4096;

@@ -12,14 +12,14 @@ ghost use Rattle.tv_reading.specs.SumGrammar.{every, sum_at};
 ghost use Rattle.tv_reading.specs.ConditionGrammar.{condition_at};
 ghost use Rattle.tv_reading.specs.Views.{kind_at};
 ghost use Rattle.tv_reader.specs.ProgramGrammar as grammar;
-ghost use Rattle.tv_reader.specs.Readers.{left, next_kind, next_mark, IsKept, Keeps, Settled, IsSteady, is_passing, is_fixed, Gives, IsTold};
-ghost use Rattle.tv_reader.specs.declared.reason.Reason.TheVariants as reasons;
+ghost use Rattle.tv_reading.specs.Answers.{Gives};
+ghost use Rattle.tv_reader.specs.Readers.{left, next_kind, next_mark, IsKept, Keeps, Settled, IsSteady, is_passing, is_fixed};
+ghost use Rattle.tv_reading.specs.declared.reason.Reason.TheVariants as reasons;
 
-use crate::reason::Reason;
 use std::alloc::Global;
 use tv_language::{TokenKind, is_colon, word_of};
 use tv_program::{Cond, Expr, Names};
-use tv_reading::{PartFault, Reading};
+use tv_reading::{Reading, Reason};
 
 /// What reads a program from its tokens. The names of its variables are in the reading, and the labels beside it.
 #[derive(Drop)]
@@ -30,20 +30,6 @@ pub struct Reader<'a> {
     pub reading: Reading<'a>,
     /// The next token stands right behind a colon.
     pub behind_colon: bool,
-}
-
-/// Why reading stops, as told of a sum or a condition.
-fn reason_of(fault: PartFault) -> Reason
-    ensures { IsTold fault result }
-{
-    match fault {
-        PartFault::Syntax { at: _ } | PartFault::UnknownName { at: _ } => Reason::Syntax,
-        PartFault::Wide { at: _ } => Reason::Wide,
-        PartFault::Deep { at: _ } => Reason::Deep,
-        PartFault::NotLinear { at: _ } => Reason::NotLinear,
-        PartFault::TooMany { at: _ } => Reason::TooMany,
-        PartFault::Memory => Reason::Memory,
-    }
 }
 
 impl<'a> Reader<'a> {
@@ -161,10 +147,7 @@ impl<'a> Reader<'a> {
         ensures fits { IfOk result (λ e. IsTrue (expression_fits (length self.new.reading.names) self.new.reading.draws (expression e))) }
         ensures shallow { IfOk result (λ e. expression_depth (expression e) ≤ 400) }
     {
-        match self.reading.sum() {
-            Ok(expr) => Ok(expr),
-            Err(fault) => Err(reason_of(fault)),
-        }
+        Ok(self.reading.sum()?)
     }
 
     /// A condition inside an assumption.
@@ -179,9 +162,6 @@ impl<'a> Reader<'a> {
         ensures fits { IfOk result (λ c. IsTrue (condition_fits (length self.new.reading.names) self.new.reading.draws (condition c))) }
         ensures shallow { IfOk result (λ c. condition_depth (condition c) ≤ 400) }
     {
-        match self.reading.condition() {
-            Ok(cond) => Ok(cond),
-            Err(fault) => Err(reason_of(fault)),
-        }
+        Ok(self.reading.condition()?)
     }
 }

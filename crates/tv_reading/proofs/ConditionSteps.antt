@@ -15,21 +15,12 @@ use Rattle.tv_reading.specs.Marks.{Kind, Mark, plain, refused}
 use Rattle.tv_reading.specs.SumGrammar.{Grammar, Behind, every, closed, factor_cases, below, factor_at, sum_at}
 use Rattle.tv_reading.specs.ConditionGrammar.{Thing, value, tested, relation_by, compared, relation_cases, tail, after_factor, Under, ground, level, plain_cases, in_brackets, thing_cases, thing_at, plain_at, condition_at}
 use Rattle.tv_reading.specs.declared.reason.Reason.{Reason}
-use Rattle.tv_reading.specs.declared.reason.Reason.TheVariants.{Syntax, Wide, Deep, NotLinear, TooMany, UnknownName, Memory}
 use Rattle.tv_reading.specs.Views.{kind_at}
 use Rattle.tv_reading.specs.Answers.{kind_of, Unless}
 use Rattle.tv_reading.proofs.SumLemmas.{sum_exact}
 use Rattle.tv_reading.proofs.ConditionLemmas.{relation_branch}
+use Rattle.tv_reading.proofs.AnswerLemmas.{unless_map}
 use Rattle.tv_reading.proofs.SumSteps.{at_mark, factor_mark, none_read, kind_is}
-
-pub unless_map : (e : Reason) (p q : Type 0) → (p → q) → Unless e p → Unless e q
-unless_map Memory p q f h = tt
-unless_map Syntax p q f h = f h
-unless_map Wide p q f h = f h
-unless_map Deep p q f h = f h
-unless_map NotLinear p q f h = f h
-unless_map TooMany p q f h = f h
-unless_map UnknownName p q f h = f h
 
 -- ---- a relation behind a sum
 

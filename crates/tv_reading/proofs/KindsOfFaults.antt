@@ -1,4 +1,4 @@
--- A name is too many or not known only where a token is marked so.
+-- A second START, a name too many and one that is not known are told only where a token is marked so.
 use Rattle.std.proofs.Common.{◌≡◌, ℕ, zero, suc, Bool, true, false, List, [], ◌∷◌, ◌++◌, Option, Some, None, refl, pos}
 use Rattle.std.specs.Prelude.{◌&&◌}
 use Rattle.tv_language.specs.declared.token.TokenKind.{TokenKind}
@@ -11,11 +11,12 @@ use Rattle.tv_program.specs.Limits.{are_constant}
 use Rattle.tv_language.specs.Symbols.{number, name, drawn, fixed}
 use Rattle.tv_language.specs.Sums.{gathered}
 use Rattle.tv_language.specs.Conditions.{relation_of, joined}
-use Rattle.tv_grammar.specs.Langs.{unit, then, mapped, stop, go, turns}
+use Rattle.tv_grammar.specs.Reads.{next}
+use Rattle.tv_grammar.specs.Langs.{Lang, unit, then, mapped, stop, go, turns}
 use Rattle.tv_grammar.specs.Faults.{Kinded, KindedBranch, KindedTurn}
 use Rattle.tv_grammar.proofs.KindLemmas.{unit_kinded, then_kinded, mapped_kinded, headed_kinded, turns_kinded}
 use Rattle.tv_grammar.proofs.NarrowLemmas.{narrowed_kinded}
-use Rattle.tv_reading.specs.Marks.{Kind, Syntax, TooMany, UnknownName, Mark, plain, refused}
+use Rattle.tv_reading.specs.Marks.{Kind, Syntax, TwoStarts, TooMany, UnknownName, Mark, plain, refused}
 use Rattle.tv_reading.specs.SumGrammar.{Grammar, Behind, every, close_cases, open_cases, closed, brackets, named_by, refused_by, leaf_cases, Inner, bottom, deeper, factor_cases, below, star_cases, product_over, sum_cases, sum_over, factor_at, product_at, sum_at}
 use Rattle.tv_reading.specs.ConditionGrammar.{Thing, value, tested, relation_by, compared, relation_cases, tail, opened, as_test, literal_over, is_and, is_or, more_by, more_cases, conjunction_from, conjunction_over, condition_from, condition_over, continued, after_factor, Under, ground, level, plain_cases, in_brackets, thing_cases, thing_at, plain_at, literal_at, condition_at}
 
@@ -24,16 +25,22 @@ abbrev pub refusal : Option Mark → Option Kind
 refusal (Some (refused k kind)) = Some k
 refusal t = None
 
--- a fault of either kind comes only at a mark of it
+-- a fault of one of these kinds comes only at a mark of it
 abbrev pub Marked : Kind → Option Mark → Type 0
+Marked TwoStarts t = refusal t ≡ Some TwoStarts
 Marked TooMany t = refusal t ≡ Some TooMany
 Marked UnknownName t = refusal t ≡ Some UnknownName
 Marked k t = Unit {0}
+
+-- what holds of each fault holds where less is said of it
+pub kinded_by : {T X : Type 0} (P Q : Kind → Option T → Type 0) → ((k : Kind) (t : Option T) → P k t → Q k t) → (l : Lang T Kind X) → Kinded P l → Kinded Q l
+kinded_by P Q f l h = record { kind = λ ts k r e. f k (next r) (h.kind ts k r e) }
 
 none_such : (t : Option Mark) → Marked Syntax t
 none_such t = tt
 
 pub marked : (k : Kind) (kind : TokenKind) → Marked k (Some (refused k kind))
+marked TwoStarts kind = refl
 marked TooMany kind = refl
 marked UnknownName kind = refl
 marked k kind = tt

@@ -10,6 +10,7 @@ pub mod FurtherLemmas
 pub mod ConditionTexts
 pub mod ConditionsRead
 pub mod MarkLemmas
+pub mod AnswerLemmas
 pub mod SumSteps
 pub mod ConditionSteps
 pub mod LongestTexts
@@ -20,5 +21,6 @@ pub mod Told
 pub mod Vocabularies
 pub mod KindsOfFaults
 pub mod RoomLemmas
+pub mod StartLemmas
 pub mod SymbolLemmas
 pub mod OneRefusal

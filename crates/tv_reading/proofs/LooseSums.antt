@@ -8,7 +8,7 @@ use Rattle.tv_program.specs.Views.{parts_of}
 use Rattle.tv_program.specs.Limits.{are_constant}
 use Rattle.tv_language.specs.Symbols.{number, name, drawn, fixed}
 use Rattle.tv_language.specs.Sums.{gathered}
-use Rattle.tv_grammar.specs.Langs.{unit, mapped, stop, turns}
+use Rattle.tv_grammar.specs.Langs.{Lang, unit, mapped, stop, turns}
 use Rattle.tv_grammar.specs.Exact.{Exact}
 use Rattle.tv_grammar.specs.Faults.{Loosens, LoosensBranch, LoosensTurn}
 use Rattle.tv_grammar.proofs.ExactLemmas.{unit_exact, then_exact, mapped_exact}
@@ -26,11 +26,11 @@ pub no_levels : (b : Bool) (n : ℕ) → Levels b (suc n) zero → ⊥
 no_levels true n h = omega arith
 no_levels false n h = omega arith
 
-module _ (kept : Kind → Bool) (syntax : kept Syntax ≡ true) where
-  refuse_loose : {X : Type 0} (b : Bool) (k : Kind) → kept k ≡ b → (l : Grammar X) → Exact l → LoosensBranch kept (stop k) (refuse_by b k l)
-  refuse_loose true k e l h = (e, refl)
-  refuse_loose false k e l h = (e, h)
+pub refuse_loose : {T X : Type 0} (kept : Kind → Bool) (b : Bool) (k : Kind) → kept k ≡ b → (l : Lang T Kind X) → Exact l → LoosensBranch kept (stop k) (refuse_by b k l)
+refuse_loose kept true k e l h = (e, refl)
+refuse_loose kept false k e l h = (e, h)
 
+module _ (kept : Kind → Bool) (syntax : kept Syntax ≡ true) where
   close_loose : {X : Type 0} (x : X) (m : Mark) → LoosensBranch kept (close_cases x m) (close_cases x m)
   close_loose x (plain (fixed kinds.RightRound)) = unit_loose kept x
   close_loose x _ = (syntax, refl)
@@ -47,15 +47,15 @@ module _ (kept : Kind → Bool) (syntax : kept Syntax ≡ true) where
 
   named_loose : (free : Bool) (l : Grammar Expression) → Exact l → Loosens kept l l → LoosensBranch kept (named_by free true l) (named_by free (kept NotLinear) l)
   named_loose true l e h = h
-  named_loose false l e h = refuse_loose (kept NotLinear) NotLinear refl l e
+  named_loose false l e h = refuse_loose kept (kept NotLinear) NotLinear refl l e
 
   refused_loose : (free : Bool) (k : Kind) (l : Grammar Expression) → Exact l → LoosensBranch kept (refused_by every free k l) (refused_by kept free k l)
-  refused_loose true k l e = refuse_loose (kept k) k refl l e
-  refused_loose false k l e = refuse_loose (kept NotLinear) NotLinear refl l e
+  refused_loose true k l e = refuse_loose kept (kept k) k refl l e
+  refused_loose false k l e = refuse_loose kept (kept NotLinear) NotLinear refl l e
 
   leaf_loose : (free : Bool) (m : Mark) → LoosensBranch kept (leaf_cases every free m) (leaf_cases kept free m)
   leaf_loose free (plain (number k)) = unit_loose kept (trees.number (pos k))
-  leaf_loose free (plain (fixed kinds.Wide)) = refuse_loose (kept Wide) Wide refl (unit (trees.number (pos 0))) (unit_exact (trees.number (pos 0)))
+  leaf_loose free (plain (fixed kinds.Wide)) = refuse_loose kept (kept Wide) Wide refl (unit (trees.number (pos 0))) (unit_exact (trees.number (pos 0)))
   leaf_loose free (plain (name v)) = named_loose free (unit (trees.variable v)) (unit_exact (trees.variable v)) (unit_loose kept (trees.variable v))
   leaf_loose free (plain (drawn d)) = named_loose free (brackets (trees.draw d)) (brackets_exact (trees.draw d)) (brackets_loose (trees.draw d))
   leaf_loose free (refused k kinds.Name) = refused_loose free k (unit (trees.variable 0)) (unit_exact (trees.variable 0))

@@ -39,6 +39,7 @@ told_now view now read reasons.Syntax f h t = told_kind view now read marks.Synt
 told_now view now read reasons.Wide f h t = told_kind view now read marks.Wide f h t
 told_now view now read reasons.Deep f h t = told_kind view now read marks.Deep f h t
 told_now view now read reasons.NotLinear f h t = told_kind view now read marks.NotLinear f h t
+told_now view now read reasons.TwoStarts f h t = told_kind view now read marks.TwoStarts f h t
 told_now view now read reasons.TooMany f h t = told_kind view now read marks.TooMany f h t
 told_now view now read reasons.UnknownName f h t = told_kind view now read marks.UnknownName f h t
 

@@ -1,11 +1,12 @@
 -- What the kind of a refusal says, for each grammar that asks less where fewer kinds are kept.
 use Rattle.std.proofs.Common.{◌≡◌, ℕ, Bool, true, false, List, refl}
 use Rattle.tv_grammar.specs.Reads.{fault}
+use Rattle.tv_grammar.specs.Langs.{Lang}
 use Rattle.tv_grammar.specs.Exact.{Exact, Ends}
 use Rattle.tv_grammar.specs.Faults.{Loosens}
 use Rattle.tv_grammar.proofs.LooseLemmas.{none_in, begun}
-use Rattle.tv_reading.specs.Marks.{Kind, Syntax, Wide, Deep, NotLinear, TwoStarts, TooMany, UnknownName, Mark}
-use Rattle.tv_reading.specs.SumGrammar.{Grammar, every}
+use Rattle.tv_reading.specs.Marks.{Kind, Syntax, Wide, Deep, NotLinear, TwoStarts, TooMany, UnknownName}
+use Rattle.tv_reading.specs.SumGrammar.{every}
 use Rattle.tv_reading.specs.Refusals.{upto, under, Levels, Refuses}
 
 pub kept_itself : (k : Kind) → upto k k ≡ true
@@ -44,7 +45,7 @@ syntax_under TwoStarts n = refl
 syntax_under TooMany n = refl
 syntax_under UnknownName n = refl
 
-pub refuses : {X : Type 0} (grammar : (Kind → Bool) → ℕ → Grammar X) → ((kept : Kind → Bool) (n : ℕ) → Exact (grammar kept n)) → ((kept : Kind → Bool) (n : ℕ) → Ends (grammar kept n)) → ((kept : Kind → Bool) → kept Syntax ≡ true → (n m : ℕ) → Levels (kept Deep) n m → Loosens kept (grammar every n) (grammar kept m)) → (n : ℕ) (k : Kind) (ts r : List Mark) → (grammar every n).read ts ≡ fault k r → Refuses grammar n k ts r
+pub refuses : {T X : Type 0} (grammar : (Kind → Bool) → ℕ → Lang T Kind X) → ((kept : Kind → Bool) (n : ℕ) → Exact (grammar kept n)) → ((kept : Kind → Bool) (n : ℕ) → Ends (grammar kept n)) → ((kept : Kind → Bool) → kept Syntax ≡ true → (n m : ℕ) → Levels (kept Deep) n m → Loosens kept (grammar every n) (grammar kept m)) → (n : ℕ) (k : Kind) (ts r : List T) → (grammar every n).read ts ≡ fault k r → Refuses grammar n k ts r
 refuses grammar exact ends loose n k ts r e =
     let f = (exact every n).least ts k r e in
     record {

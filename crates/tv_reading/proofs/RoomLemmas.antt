@@ -52,7 +52,7 @@ mark_room names draws kinds.Number w = number_room (value_of_digits w)
 mark_room names draws kinds.Nondet w = λ e. cc
 mark_room names draws kind w = λ e. cc
 
-marks_room : (text : List ℕ) (names : List Word) (draws : ℕ) (ts : List Token) → HasRoom (next (marks_from text false names draws ts))
+pub marks_room : (text : List ℕ) (names : List Word) (draws : ℕ) (ts : List Token) → HasRoom (next (marks_from text false names draws ts))
 unfolding marks_from
 marks_room text names draws [] e = cc
 marks_room text names draws (t ∷ ts) e = mark_room names draws t.kind (lexeme text t).word e
@@ -71,7 +71,7 @@ name_kinded (plain (name v)) = unit_kinded Marked v
 name_kinded (refused k kinds.Name) = marked k kinds.Name
 name_kinded m = tt
 
-names_kinded : Kinded Marked one_name
+pub names_kinded : Kinded Marked one_name
 names_kinded = headed_kinded Marked Syntax name_cases tt name_kinded
 
 pub name_room : (old now : Stand) (result : Result ℕ PartFault) → IsRead (λ v. v) result now (one_name.read (left old)) → Passes old now → old.grows ≡ false → (at : ℕ) → result ≢ Err (faults.TooMany at)

@@ -8,7 +8,7 @@ use Rattle.tv_program.specs.Views.{parts_of}
 use Rattle.tv_program.specs.Limits.{are_constant}
 use Rattle.tv_language.specs.Symbols.{number, name, drawn, fixed}
 use Rattle.tv_language.specs.Sums.{gathered}
-use Rattle.tv_grammar.specs.Langs.{unit, then, mapped, headed, turns, OfBranch, goes_at}
+use Rattle.tv_grammar.specs.Langs.{Lang, unit, then, mapped, headed, turns, OfBranch, goes_at}
 use Rattle.tv_grammar.specs.Exact.{Exact, ExactBranch, Goes, BranchGoes, nowhere, Ends}
 use Rattle.tv_grammar.proofs.ExactLemmas.{unit_exact, then_exact, mapped_exact, headed_exact}
 use Rattle.tv_grammar.proofs.TurnLemmas.{turns_exact}
@@ -32,7 +32,7 @@ open_branch l h _ = tt
 pub brackets_exact : {X : Type 0} (x : X) → Exact (brackets x)
 brackets_exact x = headed_exact Syntax (open_cases (closed x)) (open_branch (closed x) (closed_exact x)) (plain (fixed kinds.LeftRound)) (closed_exact x).some
 
-pub refuse_exact : {X : Type 0} (b : Bool) (k : Kind) (l : Grammar X) → Exact l → ExactBranch (refuse_by b k l)
+pub refuse_exact : {T X : Type 0} (b : Bool) (k : Kind) (l : Lang T Kind X) → Exact l → ExactBranch (refuse_by b k l)
 refuse_exact true k l h = tt
 refuse_exact false k l h = h
 

@@ -1,27 +1,19 @@
 -- What one step of the code that reads sums does.
-use Rattle.std.proofs.Common.{◌≡◌, ℕ, zero, suc, ◌<◌, Bool, true, false, List, [], ◌∷◌, drop, length, Option, Some, None, Result, Ok, Err, refl, sym, ap, subst, ◌∙◌, arith}
+use Rattle.std.proofs.Common.{◌≡◌, ℕ, zero, suc, Bool, false, List, [], ◌∷◌, drop, Option, Some, None, Result, Ok, refl, sym, ap, subst, ◌∙◌, arith}
 use Rattle.tv_language.specs.declared.token.TokenKind.{TokenKind}
 use Rattle.tv_language.specs.declared.token.TokenKind.TheVariants as kinds
 use Rattle.tv_program.specs.Trees as trees
 use Rattle.tv_program.specs.Trees.{Expression}
 use Rattle.tv_language.specs.Symbols.{number, name, label, drawn, fixed}
 use Rattle.tv_language.specs.Sums.{gathered}
-use Rattle.tv_grammar.specs.Reads.{Fault, faulty, ◌>>=◌, fault, next}
+use Rattle.tv_grammar.specs.Reads.{Fault, ◌>>=◌, fault, next}
 use Rattle.tv_grammar.specs.Langs.{unit, branch_read, headed_read, goes_at, then, mapped, turns}
-use Rattle.tv_grammar.specs.Exact.{ExactBranch}
-use Rattle.tv_grammar.proofs.TurningLemmas.{loop_ends, loop_fails, loop_goes, turn_shrinks}
+use Rattle.tv_grammar.proofs.TurningLemmas.{loop_ends}
 use Rattle.tv_reading.specs.Marks as marks
 use Rattle.tv_reading.specs.Marks.{Kind, Mark, plain, refused}
 use Rattle.tv_reading.specs.SumGrammar.{Grammar, Behind, every, closed, leaf_cases, factor_cases, below, star_cases, sum_cases, factor_at, product_at, sum_at}
-use Rattle.tv_reading.specs.declared.reason.Reason.{Reason}
-use Rattle.tv_reading.specs.declared.reason.Reason.TheVariants.{Syntax, Wide, Deep, NotLinear, TooMany, UnknownName, Memory}
-use Rattle.tv_reading.specs.declared.reason.Turn.TheVariants.{On, Off}
 use Rattle.tv_reading.specs.Views.{kind_at}
-use Rattle.tv_reading.specs.Answers.{kind_of, Unless, Gives, Turned}
 use Rattle.tv_reading.proofs.SumLemmas.{star_branch, sum_branch, factor_exact, product_exact}
-
-pub gives_along : {X Y : Type 0} (view : X → Y) (r : Result X Reason) (left : List Mark) (a b : Result (Y × List Mark) (Fault Mark Kind)) → a ≡ b → Gives view r left b → Gives view r left a
-gives_along view r left a b e h = subst (Gives view r left) (sym e) h
 
 -- at a mark, and at the end
 pub at_mark : {X : Type 0} (cases : Mark → Behind X) (ts : List Mark) (m : Mark) → Some m ≡ next ts → headed_read marks.Syntax cases ts ≡ branch_read (cases m) ts (drop 1 ts)
@@ -75,30 +67,6 @@ kind_is (Some (plain (name v))) k e n = absurd (n e)
 kind_is (Some (plain (label v))) k e n = absurd (n e)
 kind_is (Some (plain (drawn v))) k e n = absurd (n e)
 kind_is (Some (refused j kind)) k e n = absurd (n e)
-
--- ---- turns
-
-module _ {X S : Type 0} (view : X → S) (cases : S → Mark → Behind S) (h : (s : S) (m : Mark) → ExactBranch (cases s m)) (all : Result (S × List Mark) (Fault Mark Kind)) (s : S) (ts left : List Mark) (so_far : (turns cases s).read ts ≡ all) where
-  failed_by : (k : Kind) → (goes_at (cases s) (next ts) ≡ true) × (headed_read marks.Syntax (cases s) ts ≡ fault k left) → all ≡ fault k left
-  failed_by k t = sym so_far ∙ loop_fails cases h marks.Syntax s ts (faulty k left) t.0 t.1
-
-  pub turn_failed : (e : Reason) → Turned view (Err e) left cases s ts → Unless e (all ≡ fault (kind_of e) left)
-  turn_failed Memory t = tt
-  turn_failed Syntax t = failed_by _ t
-  turn_failed Wide t = failed_by _ t
-  turn_failed Deep t = failed_by _ t
-  turn_failed NotLinear t = failed_by _ t
-  turn_failed TooMany t = failed_by _ t
-  turn_failed UnknownName t = failed_by _ t
-
-  pub turn_on : (x : X) → Turned view (Ok (On x)) left cases s ts → (turns cases (view x)).read left ≡ all
-  turn_on x t = sym (loop_goes cases h marks.Syntax s ts (view x) left t.0 t.1) ∙ so_far
-
-  pub turn_less : (x : X) → Turned view (Ok (On x)) left cases s ts → length left < length ts
-  turn_less x t = turn_shrinks cases h marks.Syntax s ts (view x) left t.1
-
-  pub turn_off : (x : X) → Turned view (Ok (Off x)) left cases s ts → all ≡ Ok (view x, left)
-  turn_off x t = sym so_far ∙ loop_ends cases h s ts t.0 ∙ rw (t.1, t.2) refl
 
 -- ---- a factor and a product with nothing behind them
 

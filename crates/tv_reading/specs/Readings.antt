@@ -65,13 +65,7 @@ condition_levels s = cond s.grows 63 (64 - s.level)
 
 -- the kind of a fault, where memory does not run out
 abbrev pub kind_of : PartFault → Kind
-kind_of (Syntax at) = marks.Syntax
-kind_of (Wide at) = marks.Wide
-kind_of (Deep at) = marks.Deep
-kind_of (NotLinear at) = marks.NotLinear
-kind_of (TooMany at) = marks.TooMany
-kind_of (UnknownName at) = marks.UnknownName
-kind_of Memory = marks.Syntax
+kind_of f = answers.kind_of (answers.reason_of f)
 
 -- a fault of this kind at this place
 abbrev pub IsFault : PartFault → Kind → ℕ → Type 0

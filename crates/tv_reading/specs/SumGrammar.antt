@@ -21,7 +21,7 @@ abbrev pub every : Kind → Bool
 every k = true
 
 -- a fault that is kept, or l
-abbrev pub refuse_by : {X : Type 0} → Bool → Kind → Grammar X → Behind X
+abbrev pub refuse_by : {T X : Type 0} → Bool → Kind → Lang T Kind X → Branch T Kind X
 refuse_by true k l = stop k
 refuse_by false k l = go l
 

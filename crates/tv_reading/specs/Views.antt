@@ -1,5 +1,5 @@
 -- What the program's values stand for.
-use Rattle.std.specs.Prelude.{List, map, Option, Some, Vec}
+use Rattle.std.specs.Prelude.{Bool, true, false, List, map, Option, Some, Vec}
 use Rattle.tv_language.specs.declared.token.TokenKind.{TokenKind}
 use Rattle.tv_language.specs.declared.token.TokenKind.TheVariants as kinds
 use Rattle.tv_language.specs.Symbols.{number, name, drawn, fixed}
@@ -31,6 +31,12 @@ mark_of (parts.Fixed kind) = plain (fixed kind)
 abbrev pub kind_at : Option Mark → TokenKind
 kind_at (Some (plain (fixed kind))) = kind
 kind_at _ = kinds.Unread
+
+-- the end of a text, or the first byte that no token can hold
+abbrev pub is_last : TokenKind → Bool
+is_last kinds.End = true
+is_last kinds.Unread = true
+is_last kind = false
 
 -- the token is a name or a draw
 abbrev pub IsNamed : Part → Type 0

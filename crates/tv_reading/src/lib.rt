@@ -19,4 +19,4 @@ mod trees;
 pub use fault::PartFault;
 pub use marks::{MOST_LEVELS, is_formula_word};
 pub use reading::Reading;
-pub use reason::Turn;
+pub use reason::{Reason, Turn};

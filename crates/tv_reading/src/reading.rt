@@ -79,6 +79,7 @@ fn name(source: &Source, cursor: &mut Cursor) -> Result<u32, Reason>
 
 /// The fault for a reason, at this place.
 fn fault_at(reason: Reason, at: u32) -> PartFault
+    requires { reason ≢ Reason.TwoStarts }
     ensures { IsTold reason result at }
 {
     match reason {
@@ -86,6 +87,7 @@ fn fault_at(reason: Reason, at: u32) -> PartFault
         Reason::Wide => PartFault::Wide { at },
         Reason::Deep => PartFault::Deep { at },
         Reason::NotLinear => PartFault::NotLinear { at },
+        Reason::TwoStarts => unreachable!(),
         Reason::TooMany => PartFault::TooMany { at },
         Reason::UnknownName => PartFault::UnknownName { at },
         Reason::Memory => PartFault::Memory,
@@ -199,6 +201,7 @@ impl<'a> Reading<'a> {
     }
 
     fn fault(&self, reason: Reason) -> PartFault
+        requires { reason ≢ Reason.TwoStarts }
         ensures { IsTold reason result (token_at self.now).at }
     {
         fault_at(reason, self.peek().at)

@@ -6,13 +6,16 @@ use Rattle.tv_grammar.specs.Langs.{then}
 use Rattle.tv_reading.specs.Marks as marks
 use Rattle.tv_reading.specs.Marks.{Stand}
 use Rattle.tv_reading.specs.SumGrammar.{every}
-use Rattle.tv_formula_reader.specs.Answers.{left, trees_view, kind_of, Unless}
+use Rattle.tv_reading.specs.Answers.{kind_of, Unless}
+use Rattle.tv_formula_reader.specs.Answers.{left, trees_view}
 use Rattle.tv_formula_reader.specs.Seen.{seen_all}
-use Rattle.tv_formula_reader.specs.FormulaGrammar.{closed, comparison, is_and, is_or, more_cases, conjunction_over, plain_at, literal_at, formula_at}
+use Rattle.tv_reading.specs.ConditionGrammar.{is_and, is_or}
+use Rattle.tv_formula_reader.specs.FormulaGrammar.{closed, comparison, more_cases, conjunction_over, plain_at, literal_at, formula_at}
 use Rattle.tv_formula_reader.proofs.FormulaLemmas.{turn_branch, conjunction_exact}
 use Rattle.tv_formula_reader.proofs.FormulaExact.{literal_exact}
 use Rattle.tv_formula_reader.proofs.SourceLemmas.{words, none_at, back_left, left_less, left_more}
-use Rattle.tv_formula_reader.proofs.Steps.{gives_along, opened_on, literal_none, literal_second, literal_further, literal_again, plain_left, plain_not, plain_square, deep_left, deep_not, deep_square, plain_flat, turn_failed, turn_on, turn_less, turn_off}
+use Rattle.tv_reading.proofs.AnswerLemmas.{gives_along, turn_failed, turn_on, turn_less, turn_off}
+use Rattle.tv_formula_reader.proofs.Steps.{opened_on, literal_none, literal_second, literal_further, literal_again, plain_left, plain_not, plain_square, deep_left, deep_not, deep_square, plain_flat}
 use Rattle.tv_formula_reader.proofs.formulas.+formulas.Goals as goal
 
 pub ands-returns-in_err-more-clause-reads : goal.ands-returns-in_err-more-clause-reads

@@ -2,7 +2,8 @@ use Rattle.std.proofs.Common.{◌≡◌, ◌+◌, ◌*◌, length}
 use Rattle.tv_grammar.specs.Langs.{turns}
 use Rattle.tv_reading.specs.SumGrammar.{every}
 use Rattle.tv_formula_reader.specs.Answers.{left, Stays, trees_view}
-use Rattle.tv_formula_reader.specs.FormulaGrammar.{is_and, is_or, more_cases, conjunction_over, literal_at}
+use Rattle.tv_reading.specs.ConditionGrammar.{is_and, is_or}
+use Rattle.tv_formula_reader.specs.FormulaGrammar.{more_cases, conjunction_over, literal_at}
 use Rattle.tv_formula_reader.proofs.formulas.+formulas.Given as goal
 
 abbrev pub decreases-plain : goal.decreases-plain

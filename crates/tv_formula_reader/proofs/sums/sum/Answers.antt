@@ -1,4 +1,5 @@
 use Rattle.std.proofs.Common.{◌≡◌, ℕ, ◌-◌, length, ap, subst, ◌∙◌, arith, true, Ok, Err}
+use Rattle.std.proofs.lemmas.Result.{err_from_is_err_and}
 use Rattle.tv_program.specs.Views.{expression}
 use Rattle.tv_reading.specs.Marks as marking
 use Rattle.tv_reading.specs.Marks.{Stand, Passes}
@@ -14,19 +15,19 @@ returns-then-at-source-clause-reads c =
     let at : c.place-at.result ≡ c.args.reading.now.at = c.place-at.ensures in
     sum_at_end c.args.source.now c.args.reading.now c.args.levels c.requires.over (omega arith)
 
-pub returns-in-Ok-clause-reads : goal.returns-in-Ok-clause-reads
-returns-in-Ok-clause-reads c =
+pub returns-clause-reads : goal.returns-clause-reads
+returns-clause-reads c =
     let s = c.args.reading.now in
     let inside = c.requires.over.inside in
     let at : c.place-at.result ≡ c.args.reading.now.at = c.place-at.ensures in
     let is : c.go.new.self ≡ moved s s.at (64 - c.args.levels) = c.go.ensures ∙ ap (λ (n : ℕ). moved s n (64 - c.args.levels)) at in
     sum_given c.args.source.now s c.sum.new.self (64 - c.args.levels) c.requires.over
     (subst (λ (g : Stand). IsKept g c.sum.new.self) is c.sum.ensures.kept) (subst (λ (g : Stand). Passes g c.sum.new.self) is c.sum.ensures.passed)
-    c.args.levels (omega arith) (expression c.in-Ok.expr)
-    (subst (λ (g : Stand). (sum_at every (sum_levels g) true).read (marking.left g) ≡ Ok (expression c.in-Ok.expr, marking.left c.sum.new.self)) is c.in-Ok.ensures.reads)
+    c.args.levels (omega arith) (expression c.in_ok-sum.field-0)
+    (subst (λ (g : Stand). (sum_at every (sum_levels g) true).read (marking.left g) ≡ Ok (expression c.in_ok-sum.field-0, marking.left c.sum.new.self)) is c.in_ok-sum.ensures.reads)
 
-pub returns-in-Ok-clause-stays : goal.returns-in-Ok-clause-stays
-returns-in-Ok-clause-stays c =
+pub returns-clause-stays : goal.returns-clause-stays
+returns-clause-stays c =
     let s = c.args.reading.now in
     let inside = c.requires.over.inside in
     let at : c.place-at.result ≡ c.args.reading.now.at = c.place-at.ensures in
@@ -34,19 +35,20 @@ returns-in-Ok-clause-stays c =
     sum_stays c.args.source.now s c.sum.new.self (64 - c.args.levels) c.requires.over
     (subst (λ (g : Stand). IsKept g c.sum.new.self) is c.sum.ensures.kept) (subst (λ (g : Stand). Passes g c.sum.new.self) is c.sum.ensures.passed)
 
-pub returns-in-Err-clause-reads : goal.returns-in-Err-clause-reads
-returns-in-Err-clause-reads c =
+pub returns-in_err-sum-clause-reads : goal.returns-in_err-sum-clause-reads
+returns-in_err-sum-clause-reads c =
     let s = c.args.reading.now in
     let inside = c.requires.over.inside in
     let at : c.place-at.result ≡ c.args.reading.now.at = c.place-at.ensures in
     let is : c.go.new.self ≡ moved s s.at (64 - c.args.levels) = c.go.ensures ∙ ap (λ (n : ℕ). moved s n (64 - c.args.levels)) at in
-    sum_refused c.args.source.now s c.sum.new.self (64 - c.args.levels) c.requires.over
+    let p = err_from_is_err_and c.from_residual.result c.from_residual.ensures.1 in
+    rw (p.1, p.2) (sum_refused c.args.source.now s c.sum.new.self (64 - c.args.levels) c.requires.over
     (subst (λ (g : Stand). IsKept g c.sum.new.self) is c.sum.ensures.kept) (subst (λ (g : Stand). Passes g c.sum.new.self) is c.sum.ensures.passed)
-    expression c.args.levels (omega arith) c.in-Err.fault c.reason_of.result c.reason_of.ensures
-    (subst (λ (g : Stand). IsRead expression (Err c.in-Err.fault) c.sum.new.self ((sum_at every (sum_levels g) true).read (marking.left g))) is c.in-Err.ensures.reads)
+    expression c.args.levels (omega arith) c.in_err-sum.field-0.0
+    (subst (λ (g : Stand). IsRead expression (Err c.in_err-sum.field-0.0) c.sum.new.self ((sum_at every (sum_levels g) true).read (marking.left g))) is c.in_err-sum.ensures.reads))
 
-pub returns-in-Err-clause-stays : goal.returns-in-Err-clause-stays
-returns-in-Err-clause-stays c =
+pub returns-in_err-sum-clause-stays : goal.returns-in_err-sum-clause-stays
+returns-in_err-sum-clause-stays c =
     let s = c.args.reading.now in
     let inside = c.requires.over.inside in
     let at : c.place-at.result ≡ c.args.reading.now.at = c.place-at.ensures in

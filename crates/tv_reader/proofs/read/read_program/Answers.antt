@@ -1,12 +1,13 @@
-use Rattle.std.proofs.Common.{◌≡◌, ◌≤◌, false, true, ℕ, List, length, take, Err, refl, ap, sym, subst, ◌∙◌}
+use Rattle.std.proofs.Common.{◌≡◌, ◌≤◌, false, true, ℕ, List, length, take, drop, refl, ap, sym, subst, ◌∙◌}
 use Rattle.tv_language.specs.declared.token.Token.{Token}
 use Rattle.tv_program.specs.Words.{Word}
 use Rattle.tv_language.specs.Symbols.{lexemes}
 use Rattle.tv_reading.specs.Readings.{begun, token_at}
 use Rattle.tv_reader.specs.ProgramMarks.{vocabulary}
-use Rattle.tv_reader.specs.Readers.{left, Fixture}
+use Rattle.tv_reader.specs.Readers.{words_of, left, Fixture}
 use Rattle.tv_reader.specs.Places.{line_of, column_of}
-use Rattle.tv_reader.specs.FirstFaults.{ends_with_colon, brought_in, fault_at, IsRefused, IsReadAs}
+use Rattle.tv_reader.specs.FirstFaults.{ends_with_colon, brought_in, IsTold}
+use Rattle.tv_reader.proofs.ProgramKinds.{known_names}
 use Rattle.tv_reader.proofs.FinalLemmas.{Begun, begun_steady, found_in, refused_in, only_found, only_fault, fault_answer}
 use Rattle.tv_reader.proofs.read.read_program.Goals as goal
 
@@ -22,6 +23,11 @@ program-requires-clause-steady c =
       behind = refl;
     } in
     begun_steady text tokens c.in_ok-list.ensures _ w
+
+pub located-requires-clause-known : goal.located-requires-clause-known
+located-requires-clause-known c =
+    let u = c.program.new.self in
+    known_names (words_of u) u.behind_colon u.reading.draws (lexemes u.reading.text (drop u.reading.at u.reading.tokens)) _ 63 c.in-Err.reason c.in-Err.ensures.reads
 
 pub finished-requires-clause-few : goal.finished-requires-clause-few
 finished-requires-clause-few c =
@@ -78,7 +84,7 @@ returns-clause-only c = λ p t.
       labels = c.in_ok-variables.ensures.labels ∙ ap (λ (ts : List Token). (vocabulary (lexemes text ts)).labels) c.deref.ensures.value;
       behind = refl;
     } in
-    subst (λ f. IsReadAs p (Err f)) (sym c.located.ensures) (only_fault text tokens c.in_ok-list.ensures _ w p t c.in-Err.reason (left c.program.new.self) _ _ _ c.in-Err.ensures.reads)
+    only_fault text tokens c.in_ok-list.ensures _ w p t c.in-Err.reason (left c.program.new.self) _ _ _ c.located.result c.in-Err.ensures.reads c.located.ensures
 
 pub returns-clause-refused : goal.returns-clause-refused
 returns-clause-refused c =
@@ -92,10 +98,8 @@ returns-clause-refused c =
       behind = refl;
     } in
     let u = c.program.new.self in
-    let answer = fault_answer text tokens c.in_ok-list.ensures _ w u c.in-Err.reason (line_of text (token_at u.reading).at) (column_of text (token_at u.reading).at) (c.in-Err.ensures.kept _ refl) c.in-Err.ensures.steady c.in-Err.ensures.reads refl refl in
-    let same : c.located.result ≡ fault_at c.in-Err.reason (brought_in (ends_with_colon false (take u.reading.at tokens)) (token_at u.reading).kind) (line_of text (token_at u.reading).at) (column_of text (token_at u.reading).at) =
-    c.located.ensures
-    ∙ ap (λ (ts : List Token). fault_at c.in-Err.reason (brought_in (ends_with_colon false (take c.place-place.result ts)) c.peek-token.result.kind) (line_of text c.peek-token.result.at) (column_of text c.peek-token.result.at)) c.deref-in-Err.ensures.value
-    ∙ ap (λ (n : ℕ). fault_at c.in-Err.reason (brought_in (ends_with_colon false (take n tokens)) c.peek-token.result.kind) (line_of text c.peek-token.result.at) (column_of text c.peek-token.result.at)) c.place-place.ensures
-    ∙ ap (λ (t : Token). fault_at c.in-Err.reason (brought_in (ends_with_colon false (take u.reading.at tokens)) t.kind) (line_of text t.at) (column_of text t.at)) c.peek-token.ensures in
-    subst (λ f. IsRefused text f) (sym same) answer
+    let told : IsTold c.in-Err.reason (brought_in (ends_with_colon false (take u.reading.at tokens)) (token_at u.reading).kind) (line_of text (token_at u.reading).at) (column_of text (token_at u.reading).at) c.located.result =
+    subst (λ (t : Token). IsTold c.in-Err.reason (brought_in (ends_with_colon false (take u.reading.at tokens)) t.kind) (line_of text t.at) (column_of text t.at) c.located.result) c.peek-token.ensures
+    (subst (λ (n : ℕ). IsTold c.in-Err.reason (brought_in (ends_with_colon false (take n tokens)) c.peek-token.result.kind) (line_of text c.peek-token.result.at) (column_of text c.peek-token.result.at) c.located.result) c.place-place.ensures
+    (subst (λ (ts : List Token). IsTold c.in-Err.reason (brought_in (ends_with_colon false (take c.place-place.result ts)) c.peek-token.result.kind) (line_of text c.peek-token.result.at) (column_of text c.peek-token.result.at) c.located.result) c.deref-in-Err.ensures.value c.located.ensures)) in
+    fault_answer text tokens c.in_ok-list.ensures _ w u c.in-Err.reason (line_of text (token_at u.reading).at) (column_of text (token_at u.reading).at) c.located.result (c.in-Err.ensures.kept _ refl) c.in-Err.ensures.steady c.in-Err.ensures.reads refl refl told

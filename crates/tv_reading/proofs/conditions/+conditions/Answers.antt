@@ -6,7 +6,7 @@ use Rattle.tv_reading.specs.SumGrammar.{every}
 use Rattle.tv_reading.specs.ConditionGrammar.{is_and, is_or, more_cases, conjunction_over, literal_at}
 use Rattle.tv_reading.specs.Views.{stand, kind_at, piece_view, conds_view}
 use Rattle.tv_reading.proofs.ConditionLemmas.{more_branch, literal_exact, conjunction_exact_over}
-use Rattle.tv_reading.proofs.SumSteps.{gives_along, turn_failed, turn_on, turn_less, turn_off}
+use Rattle.tv_reading.proofs.AnswerLemmas.{gives_along, turn_failed, turn_on, turn_less, turn_off}
 use Rattle.tv_reading.proofs.ConditionSteps.{thing_deep_left, thing_deep_not, thing_left, thing_not, thing_true, thing_false, thing_other, plain_deep_left, plain_deep_not, plain_left, plain_not, plain_true, plain_false, plain_other}
 use Rattle.tv_reading.proofs.conditions.+conditions.Goals as goal
 

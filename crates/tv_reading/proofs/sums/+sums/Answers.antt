@@ -6,7 +6,8 @@ use Rattle.tv_reading.specs.Marks.{left}
 use Rattle.tv_reading.specs.SumGrammar.{every, factor_at, product_at, star_cases, sum_cases}
 use Rattle.tv_reading.specs.Views.{stand, mark_of, kind_at, made_view, parts_view}
 use Rattle.tv_reading.proofs.SumLemmas.{star_branch, sum_branch, factor_exact, product_exact}
-use Rattle.tv_reading.proofs.SumSteps.{gives_along, deep_left, deep_minus, left_read, minus_read, none_read, leaf_read, kind_is, turn_failed, turn_on, turn_less, turn_off, one_factor, one_product}
+use Rattle.tv_reading.proofs.AnswerLemmas.{gives_along, turn_failed, turn_on, turn_less, turn_off}
+use Rattle.tv_reading.proofs.SumSteps.{deep_left, deep_minus, left_read, minus_read, none_read, leaf_read, kind_is, one_factor, one_product}
 use Rattle.tv_reading.proofs.sums.+sums.Goals as goal
 
 pub factor-returns-then-levels-eq0-clause-reads : goal.factor-returns-then-levels-eq0-clause-reads

@@ -4,28 +4,28 @@ use Rattle.tv_cases.specs.Systems.{cases_of}
 use Rattle.tv_cert_reader.proofs.TakenLemmas.{no_numbers, no_case, not_from, no_target, is_taken}
 use Rattle.tv_cert_reader.proofs.context.Context.taken_of.Goals as goal
 
-pub returns-in_default : goal.returns-in_default
-returns-in_default c = no_numbers (cases_of c.args.self.now.about.now) c.args.piece.now c.args.destination.now c.args.numbers.now c.requires c.list-list.ensures.limits.few_cases c.in_default.ensures
+pub returns-in_err-taken : goal.returns-in_err-taken
+returns-in_err-taken c = rw c.from_residual.ensures (no_numbers (cases_of c.args.self.now.about.now) c.args.piece.now c.args.destination.now c.args.numbers.now c.requires c.list-list.ensures.limits.few_cases c.in_err-taken.ensures)
 
-pub returns-in_default-get : goal.returns-in_default-get
-returns-in_default-get c =
-    no_case (cases_of c.args.self.now.about.now) c.args.piece.now c.args.destination.now c.args.numbers.now c.requires c.list-list.result.now c.list-list.ensures.same c.in-Some.taken c.in-Some.target c.in-Some.fall c.in-Some.ensures (slice_get_past c.list-list.result.now c.in-Some.taken c.in_default-get.ensures.lookup.3)
+pub returns-in_err-case : goal.returns-in_err-case
+returns-in_err-case c =
+    rw c.from_residual-in_err-case.ensures (no_case (cases_of c.args.self.now.about.now) c.args.piece.now c.args.destination.now c.args.numbers.now c.requires c.list-list.result.now c.list-list.ensures.same c.in_ok-taken.taken c.in_ok-taken.target c.in_ok-taken.fall c.in_ok-taken.ensures (slice_get_past c.list-list.result.now c.in_ok-taken.taken c.in_err-case.ensures.lookup.3))
 
 pub returns-then-case-location : goal.returns-then-case-location
 returns-then-case-location c =
     let system = cases_of c.args.self.now.about.now in
-    not_from system c.args.piece.now c.args.destination.now c.args.numbers.now c.requires c.list-list.result.now c.list-list.ensures.same c.in-Some.taken c.in-Some.target c.in-Some.fall c.in-Some.ensures c.in-Some-get.case.now (slice_get_read c.list-list.result.now (length c.list-list.result.now) c.in-Some.taken c.in-Some-get.case.now refl c.in-Some-get.ensures.lookup.3.0 c.in-Some-get.ensures.lookup.1)
+    not_from system c.args.piece.now c.args.destination.now c.args.numbers.now c.requires c.list-list.result.now c.list-list.ensures.same c.in_ok-taken.taken c.in_ok-taken.target c.in_ok-taken.fall c.in_ok-taken.ensures c.in_ok-case.case.now (slice_get_read c.list-list.result.now (length c.list-list.result.now) c.in_ok-taken.taken c.in_ok-case.case.now refl c.in_ok-case.ensures.lookup.3.0 c.in_ok-case.ensures.lookup.1)
     (λ e. c.if-case-location.true (e ∙ sym c.location.ensures))
 
-pub returns-in-None : goal.returns-in-None
-returns-in-None c =
+pub returns-in_err-owed : goal.returns-in_err-owed
+returns-in_err-owed c =
     let system = cases_of c.args.self.now.about.now in
-    no_target system c.args.piece.now c.args.destination.now c.args.numbers.now c.requires c.list-list.result.now c.list-list.ensures.same c.in-Some.taken c.in-Some.target c.in-Some.fall c.in-Some.ensures c.in-Some-get.case.now (slice_get_read c.list-list.result.now (length c.list-list.result.now) c.in-Some.taken c.in-Some-get.case.now refl c.in-Some-get.ensures.lookup.3.0 c.in-Some-get.ensures.lookup.1)
-    (sym (c.taken_into.ensures.counts system.variables [] c.in-Some.target c.in-Some.fall) ∙ sym c.in-None.ensures)
+    rw c.from_residual-in_err-owed.ensures (no_target system c.args.piece.now c.args.destination.now c.args.numbers.now c.requires c.list-list.result.now c.list-list.ensures.same c.in_ok-taken.taken c.in_ok-taken.target c.in_ok-taken.fall c.in_ok-taken.ensures c.in_ok-case.case.now (slice_get_read c.list-list.result.now (length c.list-list.result.now) c.in_ok-taken.taken c.in_ok-case.case.now refl c.in_ok-case.ensures.lookup.3.0 c.in_ok-case.ensures.lookup.1)
+    (sym (c.taken_into.ensures.counts system.variables [] c.in_ok-taken.target c.in_ok-taken.fall) ∙ sym c.in_err-owed.ensures))
 
-pub returns-in-Some-rows : goal.returns-in-Some-rows
-returns-in-Some-rows c =
+pub returns : goal.returns
+returns c =
     let system = cases_of c.args.self.now.about.now in
-    is_taken system c.args.piece.now c.args.destination.now c.args.numbers.now c.requires c.list-list.result.now c.list-list.ensures.same c.in-Some.taken c.in-Some.target c.in-Some.fall c.in-Some.ensures c.in-Some-get.case.now (slice_get_read c.list-list.result.now (length c.list-list.result.now) c.in-Some.taken c.in-Some-get.case.now refl c.in-Some-get.ensures.lookup.3.0 c.in-Some-get.ensures.lookup.1)
-    (c.if-case-location.false ∙ c.location.ensures) c.in-Some-rows.owed
-    (λ draws. sym (c.taken_into.ensures.counts system.variables draws c.in-Some.target c.in-Some.fall) ∙ sym c.in-Some-rows.ensures)
+    is_taken system c.args.piece.now c.args.destination.now c.args.numbers.now c.requires c.list-list.result.now c.list-list.ensures.same c.in_ok-taken.taken c.in_ok-taken.target c.in_ok-taken.fall c.in_ok-taken.ensures c.in_ok-case.case.now (slice_get_read c.list-list.result.now (length c.list-list.result.now) c.in_ok-taken.taken c.in_ok-case.case.now refl c.in_ok-case.ensures.lookup.3.0 c.in_ok-case.ensures.lookup.1)
+    (c.if-case-location.false ∙ c.location.ensures) c.in_ok-owed.owed
+    (λ draws. sym (c.taken_into.ensures.counts system.variables draws c.in_ok-taken.target c.in_ok-taken.fall) ∙ sym c.in_ok-owed.ensures)

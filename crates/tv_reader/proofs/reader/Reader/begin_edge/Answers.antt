@@ -4,7 +4,8 @@ use Rattle.tv_language.specs.Symbols.{is_colon, fixed, lexeme}
 use Rattle.tv_reading.specs.Marks.{Stand, plain}
 use Rattle.tv_reading.specs.Readings.{taken, at_edge, token_at}
 use Rattle.tv_reader.specs.ProgramMarks.{mark_by, draws_behind}
-use Rattle.tv_reader.specs.Readers.{Steady, is_last}
+use Rattle.tv_reading.specs.Views.{is_last}
+use Rattle.tv_reader.specs.Readers.{Steady}
 use Rattle.tv_reader.proofs.StepLemmas.{left_of, steady_taken, left_taken}
 use Rattle.tv_reader.proofs.TokenSteps.{from_mark}
 use Rattle.tv_reader.proofs.reader.Reader.begin_edge.Goals as goal

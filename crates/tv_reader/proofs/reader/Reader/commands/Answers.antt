@@ -3,7 +3,7 @@ use Rattle.tv_reading.specs.SumGrammar.{every}
 use Rattle.tv_reader.specs.ProgramGrammar.{command_cases}
 use Rattle.tv_reader.specs.Readers.{left, instructions}
 use Rattle.tv_reader.proofs.ProgramExact.{command_branch}
-use Rattle.tv_reader.proofs.TurnSteps.{turn_failed, turn_on, turn_less, turn_off}
+use Rattle.tv_reading.proofs.AnswerLemmas.{turn_failed, turn_on, turn_less, turn_off}
 use Rattle.tv_reader.proofs.reader.Reader.commands.Goals as goal
 
 pub returns-in_err-more-clause-reads : goal.returns-in_err-more-clause-reads

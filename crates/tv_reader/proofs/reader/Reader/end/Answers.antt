@@ -6,7 +6,8 @@ use Rattle.tv_reading.specs.Marks.{Syntax, plain}
 use Rattle.tv_reading.specs.Readings.{token_at}
 use Rattle.tv_reader.specs.ProgramMarks.{mark_by}
 use Rattle.tv_reader.specs.ProgramGrammar.{last_of_program}
-use Rattle.tv_reader.specs.Readers.{left, words_of, is_last}
+use Rattle.tv_reading.specs.Views.{is_last}
+use Rattle.tv_reader.specs.Readers.{left, words_of}
 use Rattle.tv_reader.proofs.StepLemmas.{next_is, last_alone}
 use Rattle.tv_reader.proofs.TurnSteps.{end_starts, end_many, end_syntax}
 use Rattle.tv_reader.proofs.reader.Reader.end.Goals as goal

@@ -3,7 +3,7 @@ use Rattle.tv_reading.specs.SumGrammar.{every}
 use Rattle.tv_reader.specs.ProgramGrammar.{item_cases}
 use Rattle.tv_reader.specs.Readers.{left, items_view}
 use Rattle.tv_reader.proofs.ProgramExact.{item_branch}
-use Rattle.tv_reader.proofs.TurnSteps.{turn_failed, turn_on, turn_less, turn_off}
+use Rattle.tv_reading.proofs.AnswerLemmas.{turn_failed, turn_on, turn_less, turn_off}
 use Rattle.tv_reader.proofs.reader.Reader.items.Goals as goal
 
 pub returns-in_err-more-clause-reads : goal.returns-in_err-more-clause-reads

@@ -2,7 +2,12 @@ use Rattle.tv_reading.specs.Marks.{left}
 use Rattle.tv_reading.specs.Views.{stand}
 use Rattle.tv_reading.specs.Readings.{one_name}
 use Rattle.tv_reading.proofs.ReadingLemmas.{passed_by, told}
+use Rattle.tv_reading.proofs.RoomLemmas.{names_kinded}
+use Rattle.tv_reading.proofs.StartLemmas.{no_start}
 use Rattle.tv_reading.proofs.reading.Reading.read_name.Goals as goal
+
+pub fault-requires : goal.fault-requires
+fault-requires c = no_start one_name names_kinded _ (stand c.self.inside.source c.name.new.cursor) c.in-Err.reason c.in-Err.ensures.reads
 
 pub returns-in-Ok-clause-passed : goal.returns-in-Ok-clause-passed
 returns-in-Ok-clause-passed c = passed_by c.self.inside.source c.self.inside.cursor c.name.new.cursor c.args.self.now c.self.view_is c.name.ensures.passed

@@ -1,8 +1,14 @@
-use Rattle.std.proofs.Common.{sym, ap, ◌∙◌}
+use Rattle.std.proofs.Common.{true, sym, ap, ◌∙◌}
 use Rattle.tv_program.specs.Views.{expression}
 use Rattle.tv_reading.specs.Views.{stand}
 use Rattle.tv_reading.proofs.ReadingLemmas.{passed_by, told, read_sum, same_sum, unless_along}
+use Rattle.tv_reading.proofs.KindsOfFaults.{sums_kinded}
+use Rattle.tv_reading.proofs.StartLemmas.{no_start}
+use Rattle.tv_reading.specs.SumGrammar.{every, sum_at}
 use Rattle.tv_reading.proofs.reading.Reading.read_sum.Goals as goal
+
+pub fault-requires : goal.fault-requires
+fault-requires c = no_start (sum_at every c.sum_levels-levels.result true) (sums_kinded c.sum_levels-levels.result true) _ (stand c.self.inside.source c.sum.new.cursor) c.in-Err.reason c.in-Err.ensures.reads
 
 pub returns-in-Ok-clause-reads : goal.returns-in-Ok-clause-reads
 returns-in-Ok-clause-reads c = ap read_sum (sym c.self.view_is) ∙ sym (same_sum (stand c.self.inside.source c.self.inside.cursor) c.sum_levels-levels.result c.sum_levels-levels.ensures) ∙ c.in-Ok.ensures.reads
