@@ -1,6 +1,10 @@
 use Rattle.std.proofs.Common.{[], length, refl, sym, ◌∙◌}
 use Rattle.std.proofs.lemmas.Option.{slice_get_past, slice_get_read}
 use Rattle.tv_cases.specs.Systems.{cases_of}
+use Rattle.tv_cases.specs.Views.{case_view}
+use Rattle.tv_cert.specs.Choices.{drawn_change}
+use Rattle.tv_cert.specs.OwesViews.{destination_owes}
+use Rattle.tv_cert.proofs.TargetLemmas.{counts_as}
 use Rattle.tv_cert_reader.proofs.TakenLemmas.{no_numbers, no_case, not_from, no_target, is_taken}
 use Rattle.tv_cert_reader.proofs.context.Context.taken_of.Goals as goal
 
@@ -21,11 +25,11 @@ pub returns-in-None : goal.returns-in-None
 returns-in-None c =
     let system = cases_of c.args.self.now.about.now in
     no_target system c.args.piece.now c.args.destination.now c.args.numbers.now c.requires c.list-list.result.now c.list-list.ensures.same c.in-Some.taken c.in-Some.target c.in-Some.fall c.in-Some.ensures c.in-Some-get.case.now (slice_get_read c.list-list.result.now (length c.list-list.result.now) c.in-Some.taken c.in-Some-get.case.now refl c.in-Some-get.ensures.lookup.3.0 c.in-Some-get.ensures.lookup.1)
-    (sym (c.taken_into.ensures.counts system.variables [] c.in-Some.target c.in-Some.fall) ∙ sym c.in-None.ensures)
+    (sym (counts_as (drawn_change system.variables (case_view c.in-Some-get.case.now) []) c.targets_after.result (destination_owes system.variables c.args.piece.now c.args.destination.now (case_view c.in-Some-get.case.now) []) (c.targets_after.ensures.owed system.variables []) c.in-Some.target c.in-Some.fall) ∙ sym c.in-None.ensures)
 
-pub returns-in-Some-rows : goal.returns-in-Some-rows
-returns-in-Some-rows c =
+pub returns-in-Some-count : goal.returns-in-Some-count
+returns-in-Some-count c =
     let system = cases_of c.args.self.now.about.now in
     is_taken system c.args.piece.now c.args.destination.now c.args.numbers.now c.requires c.list-list.result.now c.list-list.ensures.same c.in-Some.taken c.in-Some.target c.in-Some.fall c.in-Some.ensures c.in-Some-get.case.now (slice_get_read c.list-list.result.now (length c.list-list.result.now) c.in-Some.taken c.in-Some-get.case.now refl c.in-Some-get.ensures.lookup.3.0 c.in-Some-get.ensures.lookup.1)
-    (c.if-case-location.false ∙ c.location.ensures) c.in-Some-rows.owed
-    (λ draws. sym (c.taken_into.ensures.counts system.variables draws c.in-Some.target c.in-Some.fall) ∙ sym c.in-Some-rows.ensures)
+    (c.if-case-location.false ∙ c.location.ensures) c.in-Some-count.owed
+    (λ draws. sym (counts_as (drawn_change system.variables (case_view c.in-Some-get.case.now) draws) c.targets_after.result (destination_owes system.variables c.args.piece.now c.args.destination.now (case_view c.in-Some-get.case.now) draws) (c.targets_after.ensures.owed system.variables draws) c.in-Some.target c.in-Some.fall) ∙ sym c.in-Some-count.ensures)
