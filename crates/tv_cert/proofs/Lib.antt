@@ -13,3 +13,5 @@ pub mod AimLemmas
 pub mod AimedLemmas
 pub mod RoomLemmas
 pub mod FailingLemmas
+pub mod OwedLemmas
+pub mod TargetLemmas

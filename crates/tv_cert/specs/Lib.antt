@@ -14,6 +14,8 @@ pub mod Shapes
 pub mod Statements
 pub mod StatementSets
 pub mod AimViews
+pub mod TargetViews
+pub mod Entering
 pub mod OwesViews
 pub mod Visits
 pub mod Claims

@@ -1,6 +1,5 @@
 -- What is owed, as a piece and the cases have it.
-use Rattle.std.specs.Prelude.{ℕ, ◌+◌, ◌++◌, List, map, Bool, true, false, Option, Contains}
-use Rattle.std.specs.List.{flat_map}
+use Rattle.std.specs.Prelude.{ℕ, ◌+◌, ◌++◌, List, Bool, true, false, Option, None, Some, Contains}
 use Rattle.tv_linear.specs.Linear.{Linear}
 use Rattle.tv_linear.specs.Known.{Known, given, as_given}
 use Rattle.tv_cases.specs.LinearCases.{LinearCase, CaseSystem}
@@ -11,11 +10,12 @@ use Rattle.tv_cert.specs.declared.owes.Destination.{Destination}
 use Rattle.tv_cert.specs.declared.owes.Destination.TheVariants.{Anywhere, Into}
 use Rattle.tv_cert.specs.declared.owes.Owes.{Owes}
 use Rattle.tv_cert.specs.declared.owes.Owes.TheVariants as owes
+use Rattle.tv_cert.specs.declared.targets.Targets.{Targets}
 use Rattle.tv_cert.specs.Pieces.{place_of, rows_of, ranks_of}
-use Rattle.tv_cert.specs.Targets.{owed_into, owed_lists, owed_nothing, no_fall, fall_from}
+use Rattle.tv_cert.specs.Targets.{owed_into, owed_nothing, no_fall, fall_from}
+use Rattle.tv_cert.specs.TargetViews.{owed_at}
 use Rattle.tv_cert.specs.Choices.{drawn_change}
-use Rattle.tv_cert.specs.Obligations.{Obligation, Owed, a_cover, a_choice, case_change, truth_targets}
-use Rattle.tv_cert.specs.NodeViews.{pieces_list}
+use Rattle.tv_cert.specs.Obligations.{Obligation, Owed, a_cover, a_choice, case_change}
 
 -- the falls that are owed from a piece, where there are some
 abbrev pub falls_where : Bool → (Linear → Known) → Marked → Marked → ℕ → Option (List Known)
@@ -29,28 +29,24 @@ destination_owes n p (Into pieces falls) c draws = owed_into pieces.now c.to (dr
 
 -- what is owed
 abbrev pub owed_by : CaseSystem → Owes → Owed
-owed_by system (owes.Rows p lists) = a_cover system.variables (as_given (rows_of p.now)) (owed_lists (map (λ l. l.items) lists.now))
-owed_by system (owes.Truth p truth) = a_cover system.variables (as_given (rows_of p.now)) (owed_lists (truth_targets truth))
-owed_by system (owes.Pieces p into) = a_cover system.variables (as_given (rows_of p.now)) (owed_into into.now (place_of p.now) given no_fall)
-owed_by system (owes.Joined p nodes) =
-    a_cover system.variables (as_given (rows_of p.now)) (owed_into (flat_map (λ a. a) (map pieces_list nodes.now)) (place_of p.now) given no_fall)
-owed_by system (owes.Step p c into falls) =
-    a_cover (system.variables + c.now.draws) (as_given (rows_of p.now) ++ as_given c.now.guards.rows.items)
-    (owed_into into.now c.now.to (case_change system.variables (case_view c.now)) (falls_where falls (case_change system.variables (case_view c.now)) p.now))
+owed_by system (owes.Cover p None ts) = a_cover system.variables (as_given (rows_of p.now)) (owed_at given ts)
+owed_by system (owes.Cover p (Some c) ts) =
+    a_cover (system.variables + c.now.draws) (as_given (rows_of p.now) ++ as_given c.now.guards.rows.items) (owed_at (case_change system.variables (case_view c.now)) ts)
 owed_by system (owes.Choice p stop destination) =
     a_choice system.variables system.cases (place_of p.now) stop (destination_owes system.variables p.now destination) (as_given (rows_of p.now))
 
 -- what is owed is owed in the system: a step is one by a case of its own
 abbrev pub OwedIn : CaseSystem → Owes → Type 0
-OwedIn system (owes.Rows p lists) = Unit {0}
-OwedIn system (owes.Truth p truth) = Unit {0}
-OwedIn system (owes.Pieces p into) = Unit {0}
-OwedIn system (owes.Joined p nodes) = Unit {0}
-OwedIn system (owes.Step p c into falls) = Contains system.cases (case_view c.now)
+OwedIn system (owes.Cover p None ts) = Unit {0}
+OwedIn system (owes.Cover p (Some c) ts) = Contains system.cases (case_view c.now)
 OwedIn system (owes.Choice p stop destination) = Unit {0}
 
 abbrev pub obligation_by : CaseSystem → ℕ → Kind → Owes → Obligation
 obligation_by system number kind o = record { node = number; kind = kind; owed = owed_by system o }
+
+-- a cover of a piece into targets
+abbrev pub targets_of : ℕ → Kind → CaseSystem → Marked → Targets → Obligation
+targets_of number kind system p ts = record { node = number; kind = kind; owed = a_cover system.variables (as_given (rows_of p)) (owed_at given ts) }
 
 -- the falls that are owed over a case
 abbrev pub case_falls : Bool → CaseSystem → Marked → LinearCase → Marked → ℕ → Option (List Known)

@@ -9,7 +9,7 @@ ghost use Rattle.tv_cert.specs.AboutSystem.{about_of};
 ghost use Rattle.tv_cert.specs.NodeViews.{pieces_list};
 ghost use Rattle.tv_cert.specs.AimViews.{aim_states};
 ghost use Rattle.tv_cert.specs.Nodes.{piece_owes, node_owes};
-ghost use Rattle.tv_cert.specs.OwesViews.{OwedIn, case_falls, destination_owes, obligation_by};
+ghost use Rattle.tv_cert.specs.OwesViews.{OwedIn, case_falls, destination_owes, obligation_by, targets_of};
 ghost use Rattle.tv_cert.specs.Visits.{Visits};
 
 use crate::aim::Aim;
@@ -18,6 +18,7 @@ use crate::fixed_point::FixedPoint;
 use crate::node::{Kind, Mark, Node};
 use crate::owes::{Destination, Owes};
 use crate::pieces::Pieces;
+use crate::targets::{Targets, pieces_into};
 use crate::visitor::Visitor;
 use tv_cases::Cases;
 use tv_formula::{Path, Shape};
@@ -33,6 +34,44 @@ fn visit<V: Visitor>(visitor: &mut V, at: &At, kind: Kind, owes: &Owes) -> bool
     visitor.visit(at.about, at.number, kind, owes)
 }
 
+/// Visits a cover of a piece into these targets.
+fn visit_targets<'a, V: Visitor>(
+    visitor: &mut V,
+    at: &At<'a>,
+    kind: Kind,
+    targets: Targets<'a>,
+) -> bool
+    requires { let system = cases_of at.now.about.now in
+        length (targets_of at.now.number kind system at.now.piece.now targets ∷ []) ≤ V.room visitor.old }
+    ensures { let system = cases_of at.now.about.now in
+        let owed = targets_of at.now.number kind system at.now.piece.now targets.entry ∷ [] in
+        Visits (V.passes system) (V.stops system) V.room result visitor.old owed visitor.new }
+{
+    let owes = Owes::Cover {
+        piece: at.piece,
+        case: None,
+        targets,
+    };
+    visit(visitor, at, kind, &owes)
+}
+
+/// Visits a cover of a piece into the pieces of all children.
+fn visit_joined<V: Visitor>(visitor: &mut V, at: &At, children: &[Node]) -> bool
+    requires { let system = cases_of at.now.about.now in
+        let into = flat_map (λ a. a) (map pieces_list children.now) in
+        length (cover_of at.now.number Kind.Child (about_of system) at.now.piece.now into ∷ []) ≤ V.room visitor.old }
+    ensures { let system = cases_of at.now.about.now in
+        let into = flat_map (λ a. a) (map pieces_list children.now) in
+        let owed = cover_of at.now.number Kind.Child (about_of system) at.now.piece.now into ∷ [] in
+        Visits (V.passes system) (V.stops system) V.room result visitor.old owed visitor.new }
+{
+    let targets = Targets::Joined {
+        nodes: children,
+        location: at.piece.location(),
+    };
+    visit_targets(visitor, at, Kind::Child, targets)
+}
+
 /// Visits a cover of a piece into the pieces of a region.
 fn visit_cover<V: Visitor>(visitor: &mut V, at: &At, kind: Kind, into: &Pieces) -> bool
     requires { let system = cases_of at.now.about.now in
@@ -41,8 +80,12 @@ fn visit_cover<V: Visitor>(visitor: &mut V, at: &At, kind: Kind, into: &Pieces) 
         let owed = cover_of at.now.number kind (about_of system) at.now.piece.now into.now ∷ [] in
         Visits (V.passes system) (V.stops system) V.room result visitor.old owed visitor.new }
 {
-    let piece = at.piece;
-    visit(visitor, at, kind, &Owes::Pieces { piece, into })
+    let targets = Targets::Pieces {
+        from: None,
+        into,
+        location: at.piece.location(),
+    };
+    visit_targets(visitor, at, kind, targets)
 }
 
 /// Visits a cover of a piece by a location test that is true or false there.
@@ -53,8 +96,7 @@ fn visit_truth<V: Visitor>(visitor: &mut V, at: &At, truth: bool) -> bool
         let owed = atom_of at.now.number (about_of system) at.now.piece.now (truth_targets truth) ∷ [] in
         Visits (V.passes system) (V.stops system) V.room result visitor.old owed visitor.new }
 {
-    let piece = at.piece;
-    visit(visitor, at, Kind::Atom, &Owes::Truth { piece, truth })
+    visit_targets(visitor, at, Kind::Atom, Targets::Truth(truth))
 }
 
 /// Visits a choice at a piece.
@@ -110,11 +152,10 @@ fn visit_steps<V: Visitor>(visitor: &mut V, at: &At, into: &Pieces, falls: bool)
     let location = piece.location();
     let mut k = 0;
     'cases: while let Some(case) = at.about.leaving(location, k) {
-        let owes = Owes::Step {
+        let owes = Owes::Cover {
             piece,
-            case,
-            into,
-            falls,
+            case: Some(case),
+            targets: pieces_into(piece, into, case.to, falls),
         };
         if !visit(visitor, at, Kind::Step, &owes) {
             return false;
@@ -285,16 +326,13 @@ fn visit_piece<V: Visitor>(
     let first = first_pieces(children, &none);
     let piece = at.piece;
     match aim {
-        Aim::Rows(lists) => visit(visitor, at, Kind::Atom, &Owes::Rows { piece, lists }),
+        Aim::Rows(lists) => visit_targets(visitor, at, Kind::Atom, Targets::Lists(lists)),
         Aim::Here(l) => visit_truth(visitor, at, piece.location() == *l),
         Aim::Elsewhere(l) => visit_truth(visitor, at, piece.location() != *l),
         Aim::Ends => visit_steps(visitor, at, pieces, true),
         Aim::NeverEnds => visit_choice_into(visitor, at, pieces),
         Aim::EachOf(_) => visit_children(visitor, at, children),
-        Aim::OneOf(_) => {
-            let nodes = children;
-            visit(visitor, at, Kind::Child, &Owes::Joined { piece, nodes })
-        }
+        Aim::OneOf(_) => visit_joined(visitor, at, children),
         Aim::After(Path::Every, _) => visit_steps(visitor, at, first, false),
         Aim::After(Path::Any, _) => visit_choice_into(visitor, at, first),
         Aim::Along(path, shape, _, _) => {

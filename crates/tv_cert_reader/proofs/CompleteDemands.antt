@@ -27,7 +27,8 @@ use Rattle.tv_cert.specs.Nodes.{piece_owes, node_owes}
 use Rattle.tv_cert.specs.Shapes.{owed_count, PieceShape}
 use Rattle.tv_cert.specs.Statements.{Statement, rows, here, elsewhere, ends, never_ends, each_of, one_of, after, along, unsaid}
 use Rattle.tv_cert.proofs.PieceLemmas.{piece_got}
-use Rattle.tv_shape.proofs.CountLemmas.{count_same, fall_long, fall_some}
+use Rattle.tv_cert.proofs.TargetLemmas.{count_same}
+use Rattle.tv_shape.proofs.CountLemmas.{fall_long, fall_some}
 use Rattle.tv_cert_reader.specs.Demands.{outline, outlines, outlines_at, fall_count, entered_count, into_counts, list_counts, truth_counts, IsDrawFree}
 use Rattle.tv_linear.proofs.KnownLemmas.{length-given}
 

@@ -14,10 +14,10 @@ use Rattle.tv_cert.specs.declared.node.Marked.{Marked}
 use Rattle.tv_cert.specs.NodeViews.{pieces_list}
 use Rattle.tv_cert.specs.Obligations.{truth_targets}
 use Rattle.tv_cert.specs.Pieces.{place_of, rows_of, ranks_of, goes, pieces_at}
-use Rattle.tv_cert.specs.Targets.{target_rows, owed_into, owed_lists, no_fall, fall_from}
-use Rattle.tv_shape.specs.declared.targets.Targets.{Targets}
-use Rattle.tv_shape.specs.declared.targets.Targets.TheVariants as targets
-use Rattle.tv_shape.specs.Counts.{falls_past, counts_of, ranks_past, AreFew}
+use Rattle.tv_cert.specs.Targets.{target_rows, owed_into, no_fall, fall_from}
+use Rattle.tv_cert.specs.declared.targets.Targets.{Targets}
+use Rattle.tv_cert.specs.declared.targets.Targets.TheVariants as targets
+use Rattle.tv_cert.specs.TargetViews.{changed_lists, falls_past, counts_of, ranks_past, AreFew}
 use Rattle.tv_shape.proofs.CountLemmas.{fall_some, none_or}
 use Rattle.tv_cert_reader.specs.LineGrammar.{with_two}
 use Rattle.tv_cert_reader.specs.Covers.{IsTarget, NamesNone}
@@ -66,9 +66,9 @@ few_ranked p ps l k j n e =
     let m = few_left (λ p. place_of p == l) ps in
     (omega (arith, h.0, m), h.1)
 
-pub few_lists : (lists : List (List Linear)) (k j n : ℕ) → option_map length (owed_lists lists k j) ≡ Some n → (k < length lists) × (j ≡ 0)
+pub few_lists : (lists : List (List Linear)) (k j n : ℕ) → option_map length (changed_lists given lists k j) ≡ Some n → (k < length lists) × (j ≡ 0)
 few_lists lists k zero n e = (got (slice_get lists k) refl e, refl) where
-  got : (o : Option (List Linear)) → slice_get lists k ≡ o → option_map length (option_map as_given o) ≡ Some n → k < length lists
+  got : (o : Option (List Linear)) → slice_get lists k ≡ o → option_map length (option_map (map given) o) ≡ Some n → k < length lists
   got None is e = absurd (let h : ⊥ = cc in h)
   got (Some rows) is e = slice_get_within lists k rows is
 few_lists lists k (suc j) n e = absurd (let h : ⊥ = cc in h)

@@ -10,7 +10,7 @@ use Rattle.tv_cert.specs.declared.owes.Destination.{Destination}
 use Rattle.tv_cert.specs.OwesViews.{destination_owes}
 use Rattle.tv_cert.specs.Pieces.{place_of}
 use Rattle.tv_cert.specs.Shapes.{owed_count}
-use Rattle.tv_shape.specs.Counts.{AreFewAt}
+use Rattle.tv_cert.specs.TargetViews.{AreFewAt}
 use Rattle.tv_cert_reader.specs.Choices.{IsTaken, NamesNoCase}
 use Rattle.tv_cert_reader.proofs.ChoiceLemmas.{few_taken}
 use Rattle.std.proofs.lemmas.Option.{slice_get_within}

@@ -5,7 +5,7 @@ ghost use Rattle.tv_cases.specs.Systems.{cases_of};
 ghost use Rattle.tv_cases.specs.Views.{case_view};
 ghost use Rattle.tv_cert.specs.declared.node.Marked.{Marked};
 ghost use Rattle.tv_cert.specs.declared.owes.Destination.{Destination};
-ghost use Rattle.tv_shape.specs.Counts.{AreFewAt};
+ghost use Rattle.tv_cert.specs.TargetViews.{AreFewAt};
 ghost use Rattle.tv_cert_reader.specs.declared.cursor.Cursor.{Cursor};
 ghost use Rattle.tv_cert_reader.specs.Covers.{IsBehind};
 ghost use Rattle.tv_cert_reader.specs.Choices.{IsChoiceSplitOf, ReadsChoice, ReadsStop, ReadsStops};
@@ -18,10 +18,9 @@ use crate::lines::take;
 use crate::rows::row_of;
 use std::alloc::{AllocError, Global};
 use tv_cases::Case;
-use tv_cert::{Destination, Marked};
+use tv_cert::{Destination, Marked, Targets};
 use tv_linear::{ChoiceTree, Cover, Row};
 use tv_lines::Head;
-use tv_shape::Targets;
 
 /// What choices are read with: the piece at which they are made, where they lead, and whether they may show that there is no step.
 #[derive(Clone, Copy)]

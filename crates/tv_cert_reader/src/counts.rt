@@ -1,10 +1,9 @@
 ghost use Rattle.std.specs.Prelude.{◌↔◌, ◌≤◌, ◌<◌, ◌^◌, IsTrue, length, map};
 ghost use Rattle.std.specs.List.{flat_map};
 ghost use Rattle.tv_cert.specs.NodeViews.{pieces_list};
-ghost use Rattle.tv_shape.specs.Counts.{AreFew, AreFewAt, ranks_past};
+ghost use Rattle.tv_cert.specs.TargetViews.{AreFew, AreFewAt, ranks_past};
 
-use tv_cert::{Destination, Marked, Node};
-use tv_shape::Targets;
+use tv_cert::{Destination, Marked, Node, Targets};
 
 /// How many targets there may be at most, and falls into one: they have numbers of 32 bits.
 const MOST: usize = (1 << 32) - 1;

@@ -1,5 +1,5 @@
 ghost use Rattle.std.specs.Prelude.{◌≡◌, ◌+◌, ◌-◌, ◌<◌, ◌≤◌, ◌^◌, ℕ, ℤ, pos, List, [], ◌∷◌, All, Option, IfOk, MatchOption, length};
-ghost use Rattle.tv_shape.specs.Counts.{counts_of, AreFew};
+ghost use Rattle.tv_cert.specs.TargetViews.{counts_of, AreFew};
 ghost use Rattle.tv_cert_reader.specs.declared.cursor.Cursor.{Cursor};
 ghost use Rattle.tv_cert_reader.specs.Covers.{IsBehind, IsSplitOf, IsTarget, NamesNone, ReadsTree};
 
@@ -10,9 +10,9 @@ use crate::kind::LineKind;
 use crate::lines::take;
 use crate::rows::{lists, row_of};
 use std::alloc::{AllocError, Global};
+use tv_cert::Targets;
 use tv_linear::{CoverTree, Row};
 use tv_lines::Head;
-use tv_shape::Targets;
 
 /// A number of 32 bits.
 pub fn small(number: i64) -> Option<u32>
@@ -46,7 +46,7 @@ fn target_of(numbers: &[i64], targets: &Targets) -> Option<(u32, u32, usize)>
     ensures { MatchOption result (NamesNone (counts_of targets.now) numbers.now) (λ x. IsTarget (counts_of targets.now) numbers.now x.0 x.1 x.2) }
 {
     let (target, fall) = two_small(numbers)?;
-    let owed = targets.rows(target, fall)?;
+    let owed = targets.count(target, fall)?;
     Some((target, fall, owed))
 }
 

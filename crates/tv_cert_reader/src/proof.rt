@@ -1,11 +1,11 @@
-ghost use Rattle.std.specs.Prelude.{◌≡◌, ◌^◌, ◌-◌, ◌<◌, ◌≤◌, ℕ, List, Option, length};
+ghost use Rattle.std.specs.Prelude.{◌≡◌, ◌^◌, ◌-◌, ◌<◌, ◌≤◌, ℕ, List, Option, Some, length};
 ghost use Rattle.tv_linear.specs.Known.{Known};
 ghost use Rattle.tv_cases.specs.Systems.{cases_of};
 ghost use Rattle.tv_cert.specs.Obligations.{a_cover};
 ghost use Rattle.tv_cert.specs.OwesViews.{OwedIn, owed_by};
 ghost use Rattle.tv_cert.specs.Shapes.{owed_count};
 ghost use Rattle.tv_cert.specs.declared.owes.Owes.TheVariants as owing;
-ghost use Rattle.tv_shape.specs.Counts.{counts_of};
+ghost use Rattle.tv_cert.specs.TargetViews.{counts_of};
 ghost use Rattle.tv_cert_reader.specs.Proofs.{ReadsProof};
 
 use crate::choices::ChoiceRead;
@@ -14,9 +14,8 @@ use crate::counts::{are_few, chosen_are_few};
 use crate::cursor::Cursor;
 use crate::failure::Failure;
 use tv_cases::Case;
-use tv_cert::{Destination, Marked, Owes, Pieces, Proof};
+use tv_cert::{Destination, Marked, Owes, Proof, Targets};
 use tv_linear::{Choice, Cover, MAX_SPLITS};
-use tv_shape::{Targets, pieces_into};
 
 impl Context<'_> {
     /// A cover of a place with so many rows of so many columns.
@@ -51,17 +50,15 @@ impl Context<'_> {
         cursor: &mut Cursor,
         piece: &Marked,
         case: &Case,
-        into: &Pieces,
-        falls: bool,
+        targets: &Targets,
     ) -> Result<Proof, Failure>
         requires { case.now.draws ≤ 64 }
         ensures { let system = cases_of self.now.about.now in
-            ReadsProof (owed_by system (owing.Step piece.entry case.entry into.entry falls)) cursor.old cursor.new result }
+            ReadsProof (owed_by system (owing.Cover piece.entry (Some case.entry) targets.now)) cursor.old cursor.new result }
     {
         let columns = self.about.variables() + case.draws;
         let known = piece.rows().len() as u128 + case.guards.rows.len() as u128;
-        let targets = pieces_into(piece, into, case.to, falls);
-        self.cover(cursor, columns, known, &targets)
+        self.cover(cursor, columns, known, targets)
     }
 
     /// A choice at a piece.
@@ -95,32 +92,19 @@ impl Context<'_> {
         requires { OwedIn (cases_of self.now.about.now) owes.now }
         ensures { ReadsProof (owed_by (cases_of self.now.about.now) owes.now) cursor.old cursor.new result }
     {
-        let columns = self.about.variables();
         match owes {
-            Owes::Rows { piece, lists } => {
-                let known = piece.rows().len() as u128;
-                self.cover(cursor, columns, known, &Targets::Lists(lists))
-            }
-            Owes::Truth { piece, truth } => {
-                let known = piece.rows().len() as u128;
-                self.cover(cursor, columns, known, &Targets::Truth(*truth))
-            }
-            Owes::Pieces { piece, into } => {
-                let known = piece.rows().len() as u128;
-                let targets = pieces_into(piece, into, piece.location(), false);
-                self.cover(cursor, columns, known, &targets)
-            }
-            Owes::Joined { piece, nodes } => {
-                let known = piece.rows().len() as u128;
-                let location = piece.location();
-                self.cover(cursor, columns, known, &Targets::Joined { nodes, location })
-            }
-            Owes::Step {
+            Owes::Cover {
                 piece,
                 case,
-                into,
-                falls,
-            } => self.step(cursor, piece, case, into, *falls),
+                targets,
+            } => match case {
+                Some(case) => self.step(cursor, piece, case, targets),
+                None => {
+                    let columns = self.about.variables();
+                    let known = piece.rows().len() as u128;
+                    self.cover(cursor, columns, known, targets)
+                }
+            },
             Owes::Choice {
                 piece,
                 stop,

@@ -1,7 +1,7 @@
 ghost use Rattle.std.specs.Prelude.{◌≡◌, ◌+◌, ◌<◌, ◌^◌, ℕ, pos, [], ◌∷◌, MatchOption};
 ghost use Rattle.tv_cases.specs.Systems.{cases_of};
 ghost use Rattle.tv_cases.specs.Views.{case_view};
-ghost use Rattle.tv_shape.specs.Counts.{AreFewAt};
+ghost use Rattle.tv_cert.specs.TargetViews.{AreFewAt};
 ghost use Rattle.tv_cert_reader.specs.declared.cursor.Cursor.{Cursor};
 ghost use Rattle.tv_cert_reader.specs.Covers.{IsBehind};
 ghost use Rattle.tv_cert_reader.specs.Choices.{IsTaken, NamesNoCase, ReadsChoice};
@@ -15,10 +15,9 @@ use crate::kind::LineKind;
 use crate::number_line::NumberLine;
 use crate::rows::{lists, rows};
 use tv_cases::Case;
-use tv_cert::{Destination, Marked};
+use tv_cert::{Destination, Marked, targets_after};
 use tv_linear::ChoiceTree;
 use tv_lines::Head;
-use tv_shape::taken_into;
 
 /// Three numbers of 32 bits.
 fn three_small(numbers: &[i64]) -> Option<(u32, u32, u32)>
@@ -65,7 +64,7 @@ impl Context<'_> {
         if case.from != piece.location() {
             return None;
         }
-        let owed = taken_into(piece, case, destination).rows(target, fall)?;
+        let owed = targets_after(piece, case, destination).count(target, fall)?;
         Some(Taken {
             case,
             taken,

@@ -13,10 +13,9 @@ use crate::natural::natural;
 use crate::number_line::NumberLine;
 use crate::rows::numbers;
 use std::alloc::Global;
-use tv_cert::{Aim, Node, Pieces, Verdict};
+use tv_cert::{Aim, Node, Pieces, Targets, Verdict};
 use tv_linear::{Cover, MAX_SPLITS, widened};
 use tv_lines::Head;
-use tv_shape::Targets;
 
 /// Whether the next line says that the property is proved.
 pub fn said(alloc: Global, cursor: &mut Cursor) -> Result<bool, Failure>

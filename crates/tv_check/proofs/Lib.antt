@@ -1,4 +1,3 @@
 pub mod WalkLemmas
 pub mod SettlingLemmas
 pub mod ShownLemmas
-mod DestinationLemmas

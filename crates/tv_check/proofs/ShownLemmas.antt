@@ -1,38 +1,50 @@
-use Rattle.std.proofs.Common.{◌≡◌, ◌↔◌, ℕ, ◌≤◌, List, [], ◌∷◌, ◌++◌, length, map, take, drop, arith, sym, ap, ◌∙◌, subst, ℤ, Option, None, Some, Vec, Global, Bool, IsTrue}
-use Rattle.std.specs.Option.{option_map}
-use Rattle.tv_linear.specs.Known.{Known, given, composed}
-use Rattle.tv_linear.specs.Covers.{Shown, ShownAt, IsMetCover}
-use Rattle.tv_linear.specs.Terms.{terms_after}
-use Rattle.tv_linear.specs.declared.cover.CoverTree.{CoverTree}
-use Rattle.tv_linear.specs.declared.region.Update.{Update}
-use Rattle.tv_linear.specs.declared.rows.Rows.{Rows}
-use Rattle.tv_cert.specs.declared.node.Marked.{Marked}
-use Rattle.tv_cert.specs.Targets.{owed_into}
-use Rattle.tv_check.specs.Owes.{falls_of}
-use Rattle.std.proofs.lemmas.List.{map-append}
-use Rattle.tv_refute.proofs.ShownLemmas.{shown_join}
-use Rattle.tv_refute.proofs.Sums.{split_is}
+-- Rows that are shown one by one.
+use Rattle.std.proofs.Common.{◌≡◌, ◌↔◌, ℕ, zero, suc, ◌<◌, ◌≤◌, Bool, IsTrue, List, [], ◌∷◌, ◌++◌, length, drop, slice_get, ℤ, Some, Vec, Global, refl, sym, subst, arith}
+use Rattle.tv_linear.specs.Known.{Known, denied}
+use Rattle.tv_linear.specs.Covers.{Shown}
+use Rattle.tv_linear.specs.Refutation.{Refutes}
+use Rattle.tv_linear.proofs.ListLaws.{drop_past}
+use Rattle.tv_refute.proofs.ShownLemmas.{numbers}
+use Rattle.tv_cert.specs.Entering.{ShowsRow}
 
-few_lists : (n : ℕ) (known : List Known) (xs ys : List Known) (ls : List (List ℤ)) → Shown n known (xs ++ ys) ls → length xs ≤ length ls
-few_lists n known [] ys ls h = omega arith
-few_lists n known (x ∷ xs) ys [] h = absurd h
-few_lists n known (x ∷ xs) ys (l ∷ ls) h = let k = few_lists n known xs ys ls h.1 in omega arith
+module _ (n : ℕ) (known : List Known) where
+  -- the row and the list at a place, and what is behind them
+  shown_at : (rows : List Known) (lists : List (Vec ℤ Global)) (i : ℕ) (r : Known) (l : Vec ℤ Global) → slice_get rows i ≡ Some r → slice_get lists i ≡ Some l → Shown n known (drop i rows) (numbers (drop i lists)) ↔ (Refutes n (known ++ denied r ∷ []) l.items × Shown n known (drop (suc i) rows) (numbers (drop (suc i) lists)))
+  shown_at [] lists i r l p q = absurd (let h : ⊥ = cc in h)
+  shown_at (x ∷ rows) [] i r l p q = absurd (let h : ⊥ = cc in h)
+  shown_at (x ∷ rows) (y ∷ lists) zero r l p q =
+      let e : x ≡ r = cc in
+      let f : y ≡ l = cc in
+      (λ h. (subst (λ (t : Type 0). t) (λ i. Refutes n (known ++ denied (e i) ∷ []) (f i).items) h.0, h.1), λ h. (subst (λ (t : Type 0). t) (λ i. Refutes n (known ++ denied (sym e i) ∷ []) (sym f i).items) h.0, h.1))
+  shown_at (x ∷ rows) (y ∷ lists) (suc i) r l p q = shown_at rows lists i r l p q
 
--- there are at least as many lists as first rows
-pub few_at : (n : ℕ) (known : List Known) (xs : List Known) (falls : Option (List Known)) (ls : List (List ℤ)) → ShownAt n known (option_map (λ ys. xs ++ ys) falls) ls → length xs ≤ length ls
-few_at n known xs None ls h = absurd h
-few_at n known xs (Some ys) ls h = few_lists n known xs ys ls h
+abbrev got : {A : Type 0} (xs : List A) (i : ℕ) → i < length xs → (x : A) × (slice_get xs i ≡ Some x)
+got [] i h = absurd (omega (arith, h))
+got (x ∷ xs) zero h = (x, refl)
+got (x ∷ xs) (suc i) h = got xs i (omega (arith, h))
 
--- the first lists show the first rows, and the others what follows
-pub shown_with : (n : ℕ) (known : List Known) (xs : List Known) (falls : Option (List Known)) (all ls ms : List (List ℤ)) → all ≡ ls ++ ms → length xs ≡ length ls → ShownAt n known (option_map (λ ys. xs ++ ys) falls) all ↔ (Shown n known xs ls × ShownAt n known falls ms)
-shown_with n known xs None all ls ms p e = (λ h. absurd h, λ h. absurd h.1)
-shown_with n known xs (Some ys) all ls ms p e =
-    let j = shown_join n known xs ys ls ms e in
-    (λ h. j.0 (subst (Shown n known (xs ++ ys)) p h), λ h. subst (Shown n known (xs ++ ys)) (sym p) (j.1 h))
+module _ (n : ℕ) (known rows : List Known) (lists : List (Vec ℤ Global)) where
+  -- what is left to show from place i on
+  pub record Left (i : ℕ) : Type 0 where
+    pub same : Shown n known rows (numbers lists) ↔ Shown n known (drop i rows) (numbers (drop i lists))
+    pub many : length rows ≡ length lists
 
-pub lists_split : (lists front back : List (Vec ℤ Global)) (k : ℕ) → front ≡ take k lists → back ≡ drop k lists → map (λ l. l.items) lists ≡ map (λ l. l.items) front ++ map (λ l. l.items) back
-lists_split lists front back k p q = ap (map (λ l. l.items)) (split_is lists k ∙ (λ i. sym p i ++ sym q i)) ∙ map-append (λ l. l.items) front back
+  pub Left_none : (i : ℕ) → Left i → length lists ≤ i → Shown n known rows (numbers lists)
+  Left_none i h k =
+      let many = h.many in
+      let a = drop_past rows i (omega arith) in
+      let b = drop_past lists i k in
+      h.same.1 (subst (λ (t : Type 0). t) (sym (λ j. Shown n known (a j) (numbers (b j)))) tt)
 
--- the updates and the rows as they lie in the case
-pub updates_moved : (t : Bool) (n m : ℕ) (into : List Marked) (to : ℕ) (ranks : Option Rows) (known known' : List Known) (tree : CoverTree) (us vs : List Update) → us ≡ vs → known ≡ known' → (IsTrue t ↔ IsMetCover m (owed_into into to (λ r. composed (given r) (terms_after n us)) (falls_of (λ r. composed (given r) (terms_after n us)) ranks)) known tree) → IsTrue t ↔ IsMetCover m (owed_into into to (λ r. composed (given r) (terms_after n vs)) (falls_of (λ r. composed (given r) (terms_after n vs)) ranks)) known' tree
-updates_moved t n m into to ranks known known' tree us vs e k h = subst (λ (x : Type 0). x) (λ i. IsTrue t ↔ IsMetCover m (owed_into into to (λ r. composed (given r) (terms_after n (e i))) (falls_of (λ r. composed (given r) (terms_after n (e i))) ranks)) (k i) tree) h
+  module _ (i : ℕ) (h : Left i) (below : i < length rows) (l : Vec ℤ Global) (at : slice_get lists i ≡ Some l) (shown : Bool) (shows : ShowsRow n known rows i l.items shown) where
+    abbrev here : (r : Known) × (slice_get rows i ≡ Some r)
+    here = got rows i below
+
+    both : Shown n known (drop i rows) (numbers (drop i lists)) ↔ (Refutes n (known ++ denied here.0 ∷ []) l.items × Shown n known (drop (suc i) rows) (numbers (drop (suc i) lists)))
+    both = shown_at n known rows lists i here.0 l here.1 at
+
+    pub Left_next : IsTrue shown → Left (suc i)
+    Left_next t = record { same = (λ s. (both.0 (h.same.0 s)).1, λ s. h.same.1 (both.1 ((shows here.0 here.1).0 t, s))); many = h.many }
+
+    pub Left_stops : Shown n known rows (numbers lists) → IsTrue shown
+    Left_stops s = (shows here.0 here.1).1 (both.0 (h.same.0 s)).0

@@ -1,3 +1,2 @@
-pub mod Owes
 pub mod Settling
 pub mod Roots

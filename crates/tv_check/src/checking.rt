@@ -12,7 +12,7 @@ ghost use Rattle.tv_check.specs.Roots.{ValuesFit, SettlesRoot};
 use crate::steps::rows_are_covered;
 use crate::walking::walk;
 use tv_cases::Cases;
-use tv_cert::{Aim, Failing, Kind, Node, Verdict};
+use tv_cert::{Aim, Failing, Kind, Node, Targets, Verdict};
 use tv_linear::{Cover, Rows};
 
 /// Settles the last obligation where the property is proved: that the pieces of the root cover the start.
@@ -20,13 +20,12 @@ fn check_start(about: &Cases, root: &Node, start: &Cover, seen: u64) -> Result<(
     requires { seen + 1 < 2 ^ 64 }
     ensures { SettlesRoot (cases_of about.now) root.now (Proved start.now) seen result }
 {
-    if rows_are_covered(
-        about.variables(),
-        Rows::Each(&[]),
-        about.start(),
-        &root.pieces,
-        start.tree(),
-    ) {
+    let targets = Targets::Pieces {
+        from: None,
+        into: &root.pieces,
+        location: about.start(),
+    };
+    if rows_are_covered(about.variables(), Rows::Each(&[]), &targets, start.tree()) {
         Ok(())
     } else {
         Err(root_failing(seen))

@@ -7,102 +7,16 @@ ghost use Rattle.tv_refute.specs.Frames.{known_at};
 ghost use Rattle.tv_cases.specs.LinearCases.{LinearCase, leaving};
 ghost use Rattle.tv_cases.specs.Systems.{cases_of};
 ghost use Rattle.tv_cases.specs.Views.{case_view};
-ghost use Rattle.tv_cert.specs.Targets.{owed_into, owed_nothing};
-ghost use Rattle.tv_cert.specs.Choices.{NoStepMet, TakeMet, IsMetChoice, drawn_guards, drawn_change};
+ghost use Rattle.tv_cert.specs.Choices.{NoStepMet, TakeMet, IsMetChoice, drawn_guards};
 ghost use Rattle.tv_cert.specs.Pieces.{place_of};
 ghost use Rattle.tv_cert.specs.OwesViews.{destination_owes};
-ghost use Rattle.tv_check.specs.Owes.{falls_of};
 
-use crate::pieces::Entered;
+use crate::entering::Entering;
+use crate::shown::rows_are_shown;
 use tv_cases::{Case, Cases};
-use tv_cert::{Choosing, Destination, Pieces, Take};
-use tv_linear::{ChoiceTree, Cover, Row, RowView, Rows};
-use tv_refute::{Built, Change, Frames, Targets, Terms, cover_is_met, refutes, shown_rows};
-
-/// Whether the one target without rows is named, and no list is left.
-fn nothing_is_shown(target: u32, fall: u32, lists: &[Vec<i64>]) -> bool
-    ensures { (n : ℕ) → (known : List Known) → IsTrue result ↔ ShownAt n known (owed_nothing target fall) (map (λ l. l.items) lists.now) }
-{
-    target == 0 && fall == 0 && lists.is_empty()
-}
-
-/// Whether the refutations show a piece that is entered by the case, with terms for its draws, and a fall from these ranks where
-/// there are some.
-fn entering_is_shown(
-    columns: u32,
-    frames: &Frames,
-    case: &Case,
-    take: &Take,
-    into: &Pieces,
-    ranks: Option<Rows>,
-) -> bool
-    ensures { let taken = case_view case.now in
-        let change = drawn_change columns taken take.now.draws.now in
-        let owed = owed_into into.now case.now.to change (falls_of change ranks.entry) take.now.target take.now.fall in
-        IsTrue result ↔ ShownAt columns (known_at frames.now) owed (map (λ l. l.items) take.now.refutations.now) }
-{
-    let after = Terms::After {
-        columns,
-        updates: &case.updates,
-    };
-    let drawn = Terms::Drawn {
-        columns,
-        draws: take.draws,
-    };
-    let change = Change::Twice(&after, &drawn);
-    let targets = Entered {
-        pieces: into,
-        location: case.to,
-        change: &change,
-        ranks,
-    };
-    targets.are_shown(
-        columns as usize,
-        frames,
-        take.target,
-        take.fall,
-        take.refutations,
-    )
-}
-
-/// Whether the refutations show the target after the case, with terms for its draws.
-fn destination_is_shown(choosing: &Choosing, frames: &Frames, case: &Case, take: &Take) -> bool
-    ensures { let taken = case_view case.now in
-        let owes = destination_owes choosing.now.columns choosing.now.piece.now choosing.now.destination.now in
-        let rows = owes taken take.now.draws.now take.now.target take.now.fall in
-        IsTrue result ↔ ShownAt choosing.now.columns (known_at frames.now) rows (map (λ l. l.items) take.now.refutations.now) }
-{
-    match choosing.destination {
-        Destination::Anywhere => nothing_is_shown(take.target, take.fall, take.refutations),
-        Destination::Into { pieces, falls } => {
-            let ranks = if *falls {
-                Some(choosing.piece.ranks())
-            } else {
-                None
-            };
-            entering_is_shown(choosing.columns, frames, case, take, pieces, ranks)
-        }
-    }
-}
-
-/// No target at all.
-#[derive(Drop)]
-struct Nowhere;
-
-impl Targets for Nowhere {
-    ghost owed = { λ t. no_target };
-
-    fn are_shown(
-        &self,
-        columns: usize,
-        frames: &Frames,
-        target: u32,
-        fall: u32,
-        lists: &[Vec<i64>],
-    ) -> bool {
-        false
-    }
-}
+use tv_cert::{Choosing, OwedRows, Take, Targets, targets_after};
+use tv_linear::{ChoiceTree, Cover, RowView, Rows};
+use tv_refute::{Built, Change, Frames, Terms, cover_is_met, refutes};
 
 /// Whether the cover shows that the case cannot be taken.
 fn stop_is_met(columns: u32, frames: &Frames, case: &Case, cover: &Cover) -> bool
@@ -113,12 +27,12 @@ fn stop_is_met(columns: u32, frames: &Frames, case: &Case, cover: &Cover) -> boo
         rows: Rows::Each(&case.guards.rows),
         above: &*frames,
     };
-    cover_is_met(
-        columns as usize + case.draws as usize,
-        &place,
-        &Nowhere,
-        cover.tree(),
-    )
+    let entering = Entering {
+        targets: &Targets::Nowhere,
+        change: &Change::Kept,
+    };
+    let wide = columns as usize + case.draws as usize;
+    cover_is_met(wide, &place, &entering, cover.tree())
 }
 
 /// Whether the covers show that no case from the location can be taken.
@@ -153,28 +67,27 @@ fn take_is_shown(choosing: &Choosing, frames: &Frames, case: &Case, take: &Take)
         IsTrue result ↔ ShownAt choosing.now.columns (known_at frames.now) rows (map (λ l. l.items) take.now.refutations.now) }
 {
     let columns = choosing.columns;
-    let lists = take.refutations;
-    let guards: &[Row] = &case.guards.rows;
-    if lists.len() < guards.len() {
+    let targets = targets_after(choosing.piece, case, choosing.destination);
+    let Some(entered) = targets.entered(take.target, take.fall) else {
         return false;
-    }
-    let (first, rest) = lists.split_at(guards.len());
+    };
+    let after = Terms::After {
+        columns,
+        updates: &case.updates,
+    };
     let drawn = Terms::Drawn {
         columns,
         draws: take.draws,
     };
-    let change = Change::Once(&drawn);
-    if !shown_rows(columns as usize, frames, &change, Rows::Each(guards), first) {
-        return false;
-    }
-    let entering = Take {
-        taken: take.taken,
-        target: take.target,
-        fall: take.fall,
-        draws: take.draws,
-        refutations: rest,
+    let change = Change::Twice(&after, &drawn);
+    let guards_change = Change::Once(&drawn);
+    let owed = OwedRows {
+        guards: &case.guards.rows,
+        guards_change: &guards_change,
+        entered,
+        change: &change,
     };
-    destination_is_shown(choosing, frames, case, &entering)
+    rows_are_shown(columns as usize, frames, &owed, take.refutations)
 }
 
 /// Whether there is this case from the location, a term for each of its draws, and the refutations show its guards and the target.

@@ -4,11 +4,9 @@
 mod checking;
 mod choosing;
 mod entering;
-mod falls;
 mod obligations;
-mod pieces;
-mod ranks;
 mod settler;
+mod shown;
 mod steps;
 mod walking;
 

@@ -1,10 +1,8 @@
-pub mod OwedLemmas
 pub mod ShownLemmas
 pub mod TreeLemmas
 pub mod StopLemmas
 pub mod ChoiceLemmas
 pub mod ProofLemmas
-pub mod TargetLemmas
 pub mod SettlingLemmas
 pub mod VerdictLemmas
 pub mod TextLemmas

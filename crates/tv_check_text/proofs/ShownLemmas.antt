@@ -14,7 +14,7 @@ use Rattle.tv_cert_reader.specs.Parts.{AreNumbers}
 use Rattle.tv_cert_reader.proofs.PartLemmas.{AreListed, by_line, lists_fail, lists_end}
 use Rattle.tv_cert_reader.proofs.ReadingLemmas.{Gathered, gathered_next}
 use Rattle.tv_check_text.specs.Checking.{numbers_in, CheckedLists}
-use Rattle.tv_check_text.specs.Owed.{ShowsRow}
+use Rattle.tv_cert.specs.Entering.{ShowsRow}
 
 -- what is told of two
 pub joined_true : (a b both : Bool) → a ≡ true → both ≡ b → IsTrue both ↔ (IsTrue a × IsTrue b)

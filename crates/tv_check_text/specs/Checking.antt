@@ -28,8 +28,8 @@ use Rattle.tv_cert_reader.specs.Reading.{Takes, FailsBy}
 use Rattle.tv_cert_reader.specs.Parts.{AreMany, AreNumbers}
 use Rattle.tv_cert_reader.specs.Covers.{IsCoverWithin}
 use Rattle.tv_cert_reader.specs.Choices.{choosing_of, IsChoiceWithin, IsStop}
-use Rattle.tv_check_text.specs.declared.owed.Entered.{Entered}
-use Rattle.tv_check_text.specs.Owed.{entered_listed}
+use Rattle.tv_cert.specs.declared.owed.Entered.{Entered}
+use Rattle.tv_cert.specs.Entering.{entered_listed}
 
 -- ---- lines of multipliers
 

@@ -1,5 +1,3 @@
-pub mod Owed
-pub mod Targets
 pub mod Checking
 pub mod Settling
 pub mod Verdicts

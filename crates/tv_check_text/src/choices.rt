@@ -6,7 +6,7 @@ ghost use Rattle.tv_cases.specs.Views.{case_view};
 ghost use Rattle.tv_cert.specs.declared.node.Marked.{Marked};
 ghost use Rattle.tv_cert.specs.declared.owes.Destination.{Destination};
 ghost use Rattle.tv_refute.specs.Frames.{known_at};
-ghost use Rattle.tv_shape.specs.Counts.{AreFewAt};
+ghost use Rattle.tv_cert.specs.TargetViews.{AreFewAt};
 ghost use Rattle.tv_cert_reader.specs.declared.cursor.Cursor.{Cursor};
 ghost use Rattle.tv_cert_reader.specs.Covers.{IsBehind};
 ghost use Rattle.tv_check_text.specs.Checking.{ChecksChoice, ChecksChoiceSides, ChecksStop, ChecksStops};
@@ -14,12 +14,11 @@ ghost use Rattle.tv_check_text.specs.Checking.{ChecksChoice, ChecksChoiceSides, 
 use crate::covers::Covering;
 use crate::empty::is_empty;
 use tv_cases::Case;
-use tv_cert::{Destination, Marked};
+use tv_cert::{Destination, Marked, Targets};
 use tv_cert_reader::{Context, Cursor, Failure, LineKind, row_of, take};
 use tv_linear::{Row, RowView, Rows};
 use tv_lines::Head;
 use tv_refute::{Built, Change, Frames};
-use tv_shape::Targets;
 
 /// What choices are read and checked with: the piece at which they are made, where they lead, and whether they may show that there is
 /// no step.

@@ -4,34 +4,32 @@ ghost use Rattle.tv_lines.specs.Numbers.{IsNarrow};
 ghost use Rattle.tv_linear.specs.Known.{Known};
 ghost use Rattle.tv_refute.specs.Built.{change_of};
 ghost use Rattle.tv_refute.specs.Frames.{known_at};
-ghost use Rattle.tv_shape.specs.Counts.{AreFew};
+ghost use Rattle.tv_cert.specs.TargetViews.{AreFew};
 ghost use Rattle.tv_cert_reader.specs.declared.cursor.Cursor.{Cursor};
 ghost use Rattle.tv_cert_reader.specs.Covers.{IsBehind};
 ghost use Rattle.tv_check_text.specs.Checking.{EntersNone, IsEntered, ChecksCover, ChecksSides};
-ghost use Rattle.tv_check_text.specs.Targets.{owed_at};
+ghost use Rattle.tv_cert.specs.TargetViews.{owed_at};
 
 use crate::empty::is_empty;
-use crate::owed::{Entered, OwedRows};
 use crate::shown::rows_are_shown;
-use crate::targets::entered;
 use std::alloc::Global;
+use tv_cert::{Entered, OwedRows, Targets};
 use tv_cert_reader::{Cursor, Failure, LineKind, row_of, take, two_small};
 use tv_linear::{Row, RowView};
 use tv_lines::Head;
 use tv_refute::{Built, Change, Frames};
-use tv_shape::Targets;
 
 /// What covers are read and checked with: how many columns the rows of their places have, and what they lead into.
 #[derive(Drop)]
-pub struct Covering<'a> {
+pub struct Covering<'a, 'b> {
     pub alloc: Global,
     pub columns: u32,
     pub targets: &'a Targets<'a>,
     /// How the rows of the targets are changed.
-    pub change: &'a Change<'a>,
+    pub change: &'b Change<'b>,
 }
 
-impl Covering<'_> {
+impl Covering<'_, '_> {
     /// What is owed on entering the target and the fall that the numbers name.
     fn entered_by(&self, numbers: &[i64]) -> Option<Entered<'_>>
         requires { AreFew self.now.targets.now }
@@ -42,7 +40,7 @@ impl Covering<'_> {
         let Some((target, fall)) = two_small(numbers) else {
             return None;
         };
-        entered(self.targets, target, fall)
+        self.targets.entered(target, fall)
     }
 
     /// Whether the lines behind one into a target, which has these numbers, show what is owed.

@@ -1,4 +1,4 @@
-ghost use Rattle.std.specs.Prelude.{◌≡◌, ◌≤◌, ◌<◌, ◌-◌, ◌^◌, [], length};
+ghost use Rattle.std.specs.Prelude.{◌≡◌, ◌≤◌, ◌<◌, ◌-◌, ◌^◌, [], Some, length};
 ghost use Rattle.tv_linear.specs.Known.{given, as_given};
 ghost use Rattle.tv_cases.specs.Systems.{cases_of};
 ghost use Rattle.tv_cert.specs.Obligations.{a_cover};
@@ -9,17 +9,15 @@ ghost use Rattle.tv_cert.specs.declared.owes.Owes.TheVariants as owing;
 ghost use Rattle.tv_refute.specs.Built.{change_of};
 ghost use Rattle.tv_refute.specs.Frames.{known_at};
 ghost use Rattle.tv_check_text.specs.Checking.{ChecksCover, ChecksProof};
-ghost use Rattle.tv_check_text.specs.Targets.{owed_at};
+ghost use Rattle.tv_cert.specs.TargetViews.{owed_at};
 
 use crate::choices::ChoiceCheck;
 use crate::covers::Covering;
-use crate::targets::falling;
 use tv_cases::Case;
-use tv_cert::{Destination, Marked, Owes, Pieces};
+use tv_cert::{Destination, Marked, Owes, Pieces, Targets};
 use tv_cert_reader::{Context, Cursor, Failure, are_few, chosen_are_few};
 use tv_linear::{MAX_SPLITS, Rows};
 use tv_refute::{Change, Frames, Terms};
-use tv_shape::Targets;
 
 /// Whether the cover that stands next is met at a place with so many rows of so many columns.
 ///
@@ -66,28 +64,23 @@ fn piece_is_covered(
 }
 
 /// Whether the cover that stands next is met: one of a piece and the guards of a case.
-fn step_is_covered<'a>(
+fn step_is_covered(
     context: &Context,
     cursor: &mut Cursor,
-    piece: &'a Marked,
-    case: &'a Case,
-    into: &'a Pieces,
-    falls: bool,
+    piece: &Marked,
+    case: &Case,
+    targets: &Targets,
 ) -> Result<bool, Failure>
     requires { case.now.draws ≤ 64 }
     ensures { let system = cases_of context.now.about.now in
-        ChecksProof (owed_by system (owing.Step piece.entry case.entry into.entry falls)) cursor.old cursor.new result }
+        ChecksProof (owed_by system (owing.Cover piece.entry (Some case.entry) targets.now)) cursor.old cursor.new result }
 {
     let variables = context.about.variables();
     let terms = Terms::After {
         columns: variables,
         updates: &case.updates,
     };
-    let targets = Targets::Pieces {
-        from: falling(piece, falls),
-        into,
-        location: case.to,
-    };
+    let change = Change::Once(&terms);
     let end = Frames::End;
     let inside = Frames::Rows {
         rows: piece.rows(),
@@ -101,8 +94,8 @@ fn step_is_covered<'a>(
     let covering = Covering {
         alloc: context.alloc,
         columns: variables + case.draws,
-        targets: &targets,
-        change: &Change::Once(&terms),
+        targets,
+        change: &change,
     };
     cover_is_met(&covering, cursor, &place, known)
 }
@@ -138,31 +131,14 @@ pub fn proof_is_met(context: &Context, cursor: &mut Cursor, owes: &Owes) -> Resu
     ensures { ChecksProof (owed_by (cases_of context.now.about.now) owes.now) cursor.old cursor.new result }
 {
     match owes {
-        Owes::Rows { piece, lists } => {
-            piece_is_covered(context, cursor, piece, &Targets::Lists(lists))
-        }
-        Owes::Truth { piece, truth } => {
-            piece_is_covered(context, cursor, piece, &Targets::Truth(*truth))
-        }
-        Owes::Pieces { piece, into } => {
-            let location = piece.location();
-            let targets = Targets::Pieces {
-                from: None,
-                into,
-                location,
-            };
-            piece_is_covered(context, cursor, piece, &targets)
-        }
-        Owes::Joined { piece, nodes } => {
-            let location = piece.location();
-            piece_is_covered(context, cursor, piece, &Targets::Joined { nodes, location })
-        }
-        Owes::Step {
+        Owes::Cover {
             piece,
             case,
-            into,
-            falls,
-        } => step_is_covered(context, cursor, piece, case, into, *falls),
+            targets,
+        } => match case {
+            Some(case) => step_is_covered(context, cursor, piece, case, targets),
+            None => piece_is_covered(context, cursor, piece, targets),
+        },
         Owes::Choice {
             piece,
             stop,

@@ -1,10 +1,10 @@
 ghost use Rattle.std.specs.Prelude.{◌≡◌, ◌<◌, ◌+◌, ◌^◌, length};
 ghost use Rattle.tv_refute.specs.Frames.{known_at};
 ghost use Rattle.tv_check_text.specs.Checking.{ChecksLists};
-ghost use Rattle.tv_check_text.specs.Owed.{owed_listed};
+ghost use Rattle.tv_cert.specs.Entering.{owed_listed};
 
-use crate::owed::OwedRows;
 use std::alloc::Global;
+use tv_cert::OwedRows;
 use tv_cert_reader::{Cursor, Failure, NumberLine, numbers};
 use tv_refute::Frames;
 

@@ -5,15 +5,14 @@ ghost use Rattle.tv_cases.specs.Views.{case_view};
 ghost use Rattle.tv_cert.specs.Choices.{drawn_guards};
 ghost use Rattle.tv_cert.specs.OwesViews.{destination_owes};
 ghost use Rattle.tv_refute.specs.Frames.{known_at};
-ghost use Rattle.tv_shape.specs.Counts.{AreFewAt};
+ghost use Rattle.tv_cert.specs.TargetViews.{AreFewAt};
 ghost use Rattle.tv_cert_reader.specs.declared.cursor.Cursor.{Cursor};
 ghost use Rattle.tv_cert_reader.specs.Covers.{IsBehind};
 ghost use Rattle.tv_check_text.specs.Checking.{ChecksChoice, ChecksLists};
 
 use crate::choices::ChoiceCheck;
-use crate::owed::OwedRows;
 use crate::shown::rows_are_shown;
-use crate::targets::{entered, targets_after};
+use tv_cert::{OwedRows, targets_after};
 use tv_cert_reader::{Cursor, Failure, LineKind, NumberLine, Taken, read_rows};
 use tv_linear::Row;
 use tv_lines::Head;
@@ -49,7 +48,7 @@ impl<'a> ChoiceCheck<'a> {
         let drawn = Terms::Drawn { columns, draws };
         let change = Change::Twice(&after, &drawn);
         let targets = targets_after(self.piece, case, self.destination);
-        let Some(entered) = entered(&targets, taken.target, taken.fall) else {
+        let Some(entered) = targets.entered(taken.target, taken.fall) else {
             unreachable!();
         };
         let guards_change = Change::Once(&drawn);

@@ -1,4 +1,3 @@
-pub mod Counts
 pub mod Parts
 pub mod Narrow
 pub mod Depths

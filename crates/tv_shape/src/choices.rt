@@ -1,33 +1,18 @@
-ghost use Rattle.std.specs.Prelude.{◌≡◌, ◌↔◌, ◌+◌, ◌<◌, ◌^◌, ℕ, All, IsTrue, List, Some, length, map, slice_get};
+ghost use Rattle.std.specs.Prelude.{◌≡◌, ◌↔◌, ◌+◌, ◌<◌, ◌^◌, All, IsTrue, Some, length, map, slice_get};
 ghost use Rattle.std.specs.Option.{option_map};
 ghost use Rattle.tv_linear.specs.ChoiceDepth.{choice_splits};
-ghost use Rattle.tv_linear.specs.Linear.{Linear, columns as columns_of};
+ghost use Rattle.tv_linear.specs.Linear.{columns as columns_of};
 ghost use Rattle.tv_linear.specs.Covers.{no_target};
 ghost use Rattle.tv_cases.specs.LinearCases.{leaving};
 ghost use Rattle.tv_cases.specs.Systems.{cases_of};
 ghost use Rattle.tv_cases.specs.Views.{case_view};
 ghost use Rattle.tv_cert.specs.OwesViews.{destination_owes};
 ghost use Rattle.tv_cert.specs.Shapes.{ChoiceShape, CoverShape, NoStepShape, TakeShape, owed_count};
-ghost use Rattle.tv_shape.specs.Counts.{counts_of, AreFew, AreFewAt};
 
 use crate::covers::{cover_has_shape, have_length};
-use crate::targets::{Targets, pieces_into};
 use tv_cases::{Case, Cases};
-use tv_cert::{Choosing, Destination, Marked, Take};
+use tv_cert::{Choosing, Take, Targets, targets_after};
 use tv_linear::{ChoiceTree, Cover, Row, have_columns};
-
-/// Where a choice leads by a case.
-pub fn taken_into<'a>(piece: &'a Marked, case: &Case, destination: &Destination<'a>) -> Targets<'a>
-    ensures counts { let taken = case_view case.now in
-        (n : ℕ) → (draws : List Linear) → (target fall : ℕ) →
-        counts_of result target fall ≡ owed_count (destination_owes n piece.now destination.now taken draws) target fall }
-    ensures few { AreFewAt piece.now destination.now → AreFew result }
-{
-    match destination {
-        Destination::Anywhere => Targets::Truth(true),
-        Destination::Into { pieces, falls } => pieces_into(piece, pieces, case.to, *falls),
-    }
-}
 
 /// Whether the target after the case owes so many rows.
 fn destination_owes_rows(choosing: &Choosing, case: &Case, take: &Take, rows: usize) -> bool
@@ -35,8 +20,8 @@ fn destination_owes_rows(choosing: &Choosing, case: &Case, take: &Take, rows: us
         let owes = destination_owes choosing.now.columns choosing.now.piece.now choosing.now.destination.now in
         IsTrue result ↔ (owed_count (owes taken take.now.draws.now) take.now.target take.now.fall ≡ Some rows) }
 {
-    let targets = taken_into(choosing.piece, case, choosing.destination);
-    targets.rows(take.target, take.fall) == Some(rows)
+    let targets = targets_after(choosing.piece, case, choosing.destination);
+    targets.count(take.target, take.fall) == Some(rows)
 }
 
 /// Whether there are terms of so many columns for the draws of the case.

@@ -1,9 +1,9 @@
 ghost use Rattle.std.specs.Prelude.{◌≡◌, ◌↔◌, ◌+◌, ◌<◌, ◌^◌, IsTrue, All, length, map};
 ghost use Rattle.tv_linear.specs.Depth.{splits};
 ghost use Rattle.tv_cert.specs.Shapes.{CoverShape};
-ghost use Rattle.tv_shape.specs.Counts.{counts_of};
+ghost use Rattle.tv_cert.specs.TargetViews.{counts_of};
 
-use crate::targets::Targets;
+use tv_cert::Targets;
 use tv_linear::CoverTree;
 
 /// Whether each list has so many numbers.
@@ -37,7 +37,7 @@ pub fn cover_has_shape(tree: &CoverTree, columns: usize, known: u128, targets: &
             fall,
             refutations,
         } => {
-            targets.rows(*target, *fall) == Some(refutations.len())
+            targets.count(*target, *fall) == Some(refutations.len())
                 && have_length(refutations, known + 1)
         }
     }

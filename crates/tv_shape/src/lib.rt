@@ -16,15 +16,12 @@ mod nodes;
 mod offered;
 mod pieces;
 mod shaper;
-mod targets;
 mod verdicts;
 mod walking;
 
 pub use certificate::Certificate;
-pub use choices::taken_into;
 pub use fault::ShapeFault;
 pub use laws::{faulty_is_unfit, one_first_fault, right_nodes_fit};
 pub use made::node_of;
 pub use narrow::narrow_pieces;
 pub use nodes::{argument_count, may_be_done, may_rank};
-pub use targets::{Targets, pieces_into};

@@ -9,7 +9,6 @@ ghost use Rattle.tv_shape.specs.Offered.{FirstShape};
 
 use crate::choices::choice_has_shape;
 use crate::covers::cover_has_shape;
-use crate::targets::{Targets, pieces_into};
 use tv_cases::Cases;
 use tv_cert::{Choosing, Owes, Proof};
 use tv_linear::{ChoiceTree, CoverTree};
@@ -21,34 +20,19 @@ fn cover_is_owed(about: &Cases, owes: &Owes, tree: &CoverTree) -> bool
 {
     let columns = about.variables() as usize;
     match owes {
-        Owes::Rows { piece, lists } => {
-            let known = piece.rows().len() as u128;
-            cover_has_shape(tree, columns, known, &Targets::Lists(lists))
-        }
-        Owes::Truth { piece, truth } => {
-            let known = piece.rows().len() as u128;
-            cover_has_shape(tree, columns, known, &Targets::Truth(*truth))
-        }
-        Owes::Pieces { piece, into } => {
-            let known = piece.rows().len() as u128;
-            let location = piece.location();
-            let targets = pieces_into(piece, into, location, false);
-            cover_has_shape(tree, columns, known, &targets)
-        }
-        Owes::Joined { piece, nodes } => {
-            let known = piece.rows().len() as u128;
-            let location = piece.location();
-            cover_has_shape(tree, columns, known, &Targets::Joined { nodes, location })
-        }
-        Owes::Step {
+        Owes::Cover {
             piece,
             case,
-            into,
-            falls,
+            targets,
         } => {
-            let known = piece.rows().len() as u128 + case.guards.rows.len() as u128;
-            let targets = pieces_into(piece, into, case.to, *falls);
-            cover_has_shape(tree, columns + case.draws as usize, known, &targets)
+            let known = piece.rows().len() as u128;
+            match case {
+                None => cover_has_shape(tree, columns, known, targets),
+                Some(case) => {
+                    let guarded = known + case.guards.rows.len() as u128;
+                    cover_has_shape(tree, columns + case.draws as usize, guarded, targets)
+                }
+            }
         }
         Owes::Choice { .. } => false,
     }
@@ -74,7 +58,7 @@ fn choice_is_owed(about: &Cases, owes: &Owes, tree: &ChoiceTree) -> bool
             };
             choice_has_shape(&choosing, piece.rows().len() as u128, tree)
         }
-        _ => false,
+        Owes::Cover { .. } => false,
     }
 }
 

@@ -13,9 +13,8 @@ use crate::covers::cover_has_shape;
 use crate::depths::cover_goes_within;
 use crate::narrow::cover_is_narrow;
 use crate::nodes::MAX_DEPTH;
-use crate::targets::Targets;
 use tv_cases::Cases;
-use tv_cert::{Pieces, Verdict};
+use tv_cert::{Pieces, Targets, Verdict};
 use tv_linear::{Cover, are_narrow};
 
 /// Whether the cover has the shape of one of the start by these pieces.

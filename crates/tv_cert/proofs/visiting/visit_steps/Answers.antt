@@ -1,10 +1,13 @@
-use Rattle.std.proofs.Common.{◌≡◌, ℕ, List, ◌∷◌, [], length, map, refl, sym, ap, ◌∙◌, subst, arith, Option, None, Some, slice_get}
+use Rattle.std.proofs.Common.{◌≡◌, ℕ, ◌+◌, ◌++◌, Bool, List, ◌∷◌, [], length, map, refl, sym, ap, ◌∙◌, subst, arith, Option, None, Some, slice_get}
+use Rattle.tv_linear.specs.Known.{Known, as_given}
 use Rattle.tv_cases.specs.LinearCases.{LinearCase, leaving}
 use Rattle.tv_cases.specs.Systems.{cases_of}
 use Rattle.tv_cases.specs.Views.{case_view}
 use Rattle.tv_cases.proofs.LeavingLemmas.{case_among, case_within, case_there}
-use Rattle.tv_cert.specs.Pieces.{place_of}
-use Rattle.tv_cert.specs.Obligations.{step_of}
+use Rattle.tv_cert.specs.declared.node.Kind.TheVariants as kind
+use Rattle.tv_cert.specs.declared.node.Marked.{Marked}
+use Rattle.tv_cert.specs.Pieces.{place_of, rows_of}
+use Rattle.tv_cert.specs.Obligations.{About, Obligation, a_cover, case_change, step_of}
 use Rattle.tv_cert.specs.AboutSystem.{about_of}
 use Rattle.tv_cert.specs.OwesViews.{case_falls}
 use Rattle.tv_cert.specs.Visits.{Visits}
@@ -15,6 +18,12 @@ use Rattle.tv_places.proofs.PlaceLemmas.{past_end}
 -- the case from a location that is told
 case_at : (cases : List LinearCase) (k : ℕ) (case : Option LinearCase) (l m : ℕ) → l ≡ m → slice_get (leaving l cases) k ≡ case → slice_get (leaving m cases) k ≡ case
 case_at cases k case l m e h = ap (λ l. slice_get (leaving l cases) k) (sym e) ∙ h
+
+-- a step into the targets that are owed
+stepped : {S : Type 0} (passes stops : S → Obligation → S → Type 0) (room : S → ℕ) (t : Bool) (s u : S) (number : ℕ) (about : About) (p : Marked) (c : LinearCase) (owed wanted : ℕ → ℕ → Option (List Known)) → owed ≡ wanted
+    → Visits passes stops room t s (record { node = number; kind = kind.Step; owed = a_cover (about.system.variables + c.draws) (as_given (rows_of p) ++ as_given c.guards) owed } ∷ []) u
+    → Visits passes stops room t s (record { node = number; kind = kind.Step; owed = a_cover (about.system.variables + c.draws) (as_given (rows_of p) ++ as_given c.guards) wanted } ∷ []) u
+stepped passes stops room t s u number about p c owed wanted e h = subst (λ owed. Visits passes stops room t s (record { node = number; kind = kind.Step; owed = a_cover (about.system.variables + c.draws) (as_given (rows_of p) ++ as_given c.guards) owed } ∷ []) u) e h
 
 pub visit-requires-clause-owed : goal.visit-requires-clause-owed
 visit-requires-clause-owed g c = case_among (place_of c.args.at.now.piece.now) (cases_of c.args.at.now.about.now).cases c.cases.k (case_view c.in-Some.case.now) (case_at (cases_of c.args.at.now.about.now).cases c.cases.k (Some (case_view c.in-Some.case.now)) _ _ c.location-location.ensures c.in-Some.ensures.case)
@@ -38,7 +47,8 @@ returns-then-not-visit g c =
     let step = step_of c.args.at.now.number (about_of system) c.args.at.now.piece.now c.args.into.now (case_falls c.args.falls system c.args.at.now.piece.now) in
     ahead_fails passes stops g.V.Visitor.room (map step) refl (λ x xs. refl) (leaving l system.cases) c.args.visitor.now c.cases.visitor c.cases.k c.cases.invariant case
     (case_within l system.cases c.cases.k case (case_at (cases_of c.args.at.now.about.now).cases c.cases.k (Some (case_view c.in-Some.case.now)) _ _ c.location-location.ensures c.in-Some.ensures.case)) (case_there l system.cases c.cases.k case (case_at (cases_of c.args.at.now.about.now).cases c.cases.k (Some (case_view c.in-Some.case.now)) _ _ c.location-location.ensures c.in-Some.ensures.case)) c.visit.new.visitor
-    (subst (λ r. Visits passes stops g.V.Visitor.room r c.cases.visitor (step case ∷ []) c.visit.new.visitor) c.if-not-visit.true c.visit.ensures)
+    (subst (λ r. Visits passes stops g.V.Visitor.room r c.cases.visitor (step case ∷ []) c.visit.new.visitor) c.if-not-visit.true
+    (stepped passes stops g.V.Visitor.room c.visit.result c.cases.visitor c.visit.new.visitor c.args.at.now.number (about_of system) c.args.at.now.piece.now case _ _ (c.pieces_into.ensures.owed (case_change system.variables case)) c.visit.ensures))
 
 pub overflow_add-k : goal.overflow_add-k
 overflow_add-k g c =
@@ -64,7 +74,8 @@ cases-preserved g c =
     let step = step_of c.args.at.now.number (about_of system) c.args.at.now.piece.now c.args.into.now (case_falls c.args.falls system c.args.at.now.piece.now) in
     ahead_next passes stops g.V.Visitor.room (map step) refl (λ x xs. refl) (leaving l system.cases) c.args.visitor.now c.cases.visitor c.cases.k c.cases.invariant case
     (case_within l system.cases c.cases.k case (case_at (cases_of c.args.at.now.about.now).cases c.cases.k (Some (case_view c.in-Some.case.now)) _ _ c.location-location.ensures c.in-Some.ensures.case)) (case_there l system.cases c.cases.k case (case_at (cases_of c.args.at.now.about.now).cases c.cases.k (Some (case_view c.in-Some.case.now)) _ _ c.location-location.ensures c.in-Some.ensures.case)) c.visit.new.visitor
-    (subst (λ r. Visits passes stops g.V.Visitor.room r c.cases.visitor (step case ∷ []) c.visit.new.visitor) c.if-not-visit.false c.visit.ensures)
+    (subst (λ r. Visits passes stops g.V.Visitor.room r c.cases.visitor (step case ∷ []) c.visit.new.visitor) c.if-not-visit.false
+    (stepped passes stops g.V.Visitor.room c.visit.result c.cases.visitor c.visit.new.visitor c.args.at.now.number (about_of system) c.args.at.now.piece.now case _ _ (c.pieces_into.ensures.owed (case_change system.variables case)) c.visit.ensures))
 
 pub returns : goal.returns
 returns g c =

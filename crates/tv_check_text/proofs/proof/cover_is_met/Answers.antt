@@ -1,6 +1,6 @@
 use Rattle.tv_refute.specs.Built.{change_of}
 use Rattle.tv_refute.specs.Frames.{known_at}
-use Rattle.tv_check_text.specs.Targets.{owed_at}
+use Rattle.tv_cert.specs.TargetViews.{owed_at}
 use Rattle.tv_check_text.proofs.ProofLemmas.{cover_checks}
 use Rattle.tv_check_text.proofs.proof.cover_is_met.Goals as goal
 

@@ -2,7 +2,7 @@ use Rattle.std.proofs.Common.{subst}
 use Rattle.tv_linear.specs.Known.{given, as_given}
 use Rattle.tv_cert.specs.Obligations.{a_cover}
 use Rattle.tv_check_text.specs.Checking.{ChecksProof}
-use Rattle.tv_check_text.specs.Targets.{owed_at}
+use Rattle.tv_cert.specs.TargetViews.{owed_at}
 use Rattle.tv_check_text.proofs.proof.piece_is_covered.Goals as goal
 
 pub returns : goal.returns

@@ -6,7 +6,7 @@ use Rattle.tv_cert_reader.specs.Reading.{FailsBy}
 use Rattle.tv_cert_reader.specs.Parts.{AreNumbers}
 use Rattle.tv_cert_reader.proofs.ReadingLemmas.{at_exit}
 use Rattle.tv_check_text.specs.Checking.{ChecksLists}
-use Rattle.tv_check_text.specs.Owed.{owed_listed, ShowsRow}
+use Rattle.tv_cert.specs.Entering.{owed_listed, ShowsRow}
 use Rattle.tv_check_text.proofs.ShownLemmas.{lines_fail, lines_end, shown_next, joined_true, joined_false}
 use Rattle.tv_check_text.proofs.shown.rows_are_shown.Goals as goal
 use Rattle.tv_check_text.proofs.shown.rows_are_shown.Goals.{then-met, else-met}

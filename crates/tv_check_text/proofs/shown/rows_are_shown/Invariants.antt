@@ -1,5 +1,5 @@
 use Rattle.tv_refute.specs.Frames.{known_at}
-use Rattle.tv_check_text.specs.Owed.{owed_listed}
+use Rattle.tv_cert.specs.Entering.{owed_listed}
 use Rattle.tv_check_text.proofs.ShownLemmas.{ShownFirst}
 use Rattle.tv_check_text.proofs.shown.rows_are_shown.Given as goal
 

@@ -1,6 +1,6 @@
 use Rattle.std.proofs.Common.{refl, sym, subst}
 use Rattle.tv_lines.specs.declared.head.Head.TheVariants as heads
-use Rattle.tv_shape.specs.Counts.{counts_of}
+use Rattle.tv_cert.specs.TargetViews.{counts_of}
 use Rattle.tv_cert_reader.specs.declared.kind.LineKind.TheVariants.{Shape}
 use Rattle.tv_cert_reader.specs.Covers.{IsBehind, ReadsTree}
 use Rattle.tv_cert_reader.proofs.ReadingLemmas.{at_exit}

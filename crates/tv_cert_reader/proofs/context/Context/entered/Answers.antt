@@ -1,5 +1,5 @@
 use Rattle.std.proofs.Common.{refl}
-use Rattle.tv_shape.specs.Counts.{counts_of}
+use Rattle.tv_cert.specs.TargetViews.{counts_of}
 use Rattle.tv_cert_reader.specs.Covers.{ReadsTree}
 use Rattle.tv_cert_reader.proofs.ReadingLemmas.{at_exit}
 use Rattle.tv_cert_reader.proofs.CoverLemmas.{target_stops, lists_stop, into_read}

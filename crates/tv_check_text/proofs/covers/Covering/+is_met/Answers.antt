@@ -10,7 +10,7 @@ use Rattle.tv_cert_reader.proofs.CoverLemmas.{behind_as, cover_line_fails, cover
 use Rattle.tv_cert_reader.proofs.PartLemmas.{row_there, no_row}
 use Rattle.tv_linear.specs.Known.{given, denied}
 use Rattle.tv_check_text.specs.Checking.{CheckedCover, ChecksCover, ChecksSides}
-use Rattle.tv_check_text.specs.Targets.{owed_at}
+use Rattle.tv_cert.specs.TargetViews.{owed_at}
 use Rattle.tv_check_text.proofs.ShownLemmas.{joined_true, joined_false}
 use Rattle.tv_check_text.proofs.TreeLemmas.{outside_fails, split_checks}
 use Rattle.tv_check_text.proofs.covers.Covering.+is_met.Goals as goal

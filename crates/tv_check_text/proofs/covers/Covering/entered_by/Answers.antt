@@ -1,7 +1,11 @@
-use Rattle.tv_check_text.proofs.TargetLemmas.{few_at}
+use Rattle.std.proofs.Common.{length, sym, ap, ◌∙◌}
+use Rattle.std.specs.Option.{option_map}
+use Rattle.tv_cert.proofs.TargetLemmas.{counts_at}
+use Rattle.tv_cert_reader.proofs.CountLemmas.{few_targets}
 use Rattle.tv_check_text.proofs.covers.Covering.entered_by.Goals as goal
 
 pub returns-in_default : goal.returns-in_default
 returns-in_default c = λ change target fall rows text owes.
-    let few = few_at change c.args.self.now.targets.now target fall rows c.requires owes in
+    let ts = c.args.self.now.targets.now in
+    let few = few_targets ts target fall (length rows) c.requires (sym (counts_at change ts target fall) ∙ ap (option_map length) owes) in
     c.in_default.ensures target fall text few.0 few.1

@@ -3,8 +3,8 @@ use Rattle.tv_refute.specs.Built.{change_of}
 use Rattle.tv_refute.specs.Frames.{known_at}
 use Rattle.tv_cert.specs.Shapes.{owed_count}
 use Rattle.tv_cert_reader.proofs.CoverLemmas.{target_stops}
-use Rattle.tv_check_text.specs.Owed.{entered_listed}
-use Rattle.tv_check_text.specs.Targets.{owed_at}
+use Rattle.tv_cert.specs.Entering.{entered_listed}
+use Rattle.tv_cert.specs.TargetViews.{owed_at}
 use Rattle.tv_check_text.proofs.TreeLemmas.{names_none, into_checks}
 use Rattle.tv_check_text.proofs.covers.Covering.is_shown.Goals as goal
 
