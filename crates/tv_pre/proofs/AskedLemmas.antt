@@ -53,7 +53,7 @@ module _ (about : CaseSystem) (s : Statement) (h : ℕ) where
   come_asked Every own into q a f m g (inr w) = steps_asked own into q a f m g w
   come_asked Any own into q a f m g w = choice_asked own into q false a f m g w
 
-  append_built : (earlier : List Piece) (r : Region) → ArePiecesBuilt about s h earlier → IsBuilt about s h r → ArePiecesBuilt about s h (earlier ++ r.pieces.items)
+  pub append_built : (earlier : List Piece) (r : Region) → ArePiecesBuilt about s h earlier → IsBuilt about s h r → ArePiecesBuilt about s h (earlier ++ r.pieces.items)
   append_built earlier r f b = record {
     regions = f.regions ++ r ∷ [];
     built = λ x c. elim (Contains-append_cases f.regions (r ∷ []) x c) [

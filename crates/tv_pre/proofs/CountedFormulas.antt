@@ -39,7 +39,7 @@ use Rattle.std.proofs.lemmas.Nat.{mul-le}
 plus_one : (a b : ℕ) → 1 ≤ a → 1 ≤ a + b
 plus_one a b l = omega (arith, l)
 
-next_one : (cases : List LinearCase) (path : Path) (b : ℕ → ℕ) (l : ℕ) → 1 ≤ next_count cases path b l
+pub next_one : (cases : List LinearCase) (path : Path) (b : ℕ → ℕ) (l : ℕ) → 1 ≤ next_count cases path b l
 next_one cases Every b l = all_one cases b l
 next_one cases Any b l = some_one cases b l
 

@@ -27,11 +27,6 @@ owes_nothing about f number pieces kids proofs e d = subst (Offers (own_of numbe
 no_children : (about : CaseSystem) (nodes : List Node) → nodes ≡ [] → AreParts about none [] nodes
 no_children about nodes e = subst (AreParts about none []) (sym e) tt
 
-pub empty_ends : (about : CaseSystem) (region : Region) (node : Node) (nodes : List Node) (proofs : List Proof) → nodes ≡ [] → proofs ≡ [] → IsNowhere about region → ((ends : Bool) → IsMade about region ends 0 (plain_pieces about.variables region) nodes proofs node) → IsPart about term region node
-empty_ends about region node nodes proofs e d n made =
-    part_made about term region node 0 (plain_pieces about.variables region) [] nodes proofs (made false) tt (λ k. refl) (no_children about nodes e)
-    (λ number. owes_nothing about term number (plain_pieces about.variables region) (map pieces_list nodes) proofs (no_pieces about region n) d)
-
 pub empty_never_ends : (about : CaseSystem) (region : Region) (node : Node) (nodes : List Node) (proofs : List Proof) → nodes ≡ [] → proofs ≡ [] → IsNowhere about region → ((ends : Bool) → IsMade about region ends 0 (plain_pieces about.variables region) nodes proofs node) → IsPart about (negated term) region node
 empty_never_ends about region node nodes proofs e d n made =
     part_made about (negated term) region node 0 (plain_pieces about.variables region) [] nodes proofs (made false) tt (λ k. refl) (no_children about nodes e)

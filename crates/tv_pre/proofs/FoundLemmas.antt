@@ -8,8 +8,7 @@ use Rattle.tv_formula.specs.Properties.{Property, Properties, none, more}
 use Rattle.tv_formula.specs.Properties as props
 use Rattle.tv_linear.specs.declared.region.Region.{Region}
 use Rattle.tv_cases.specs.Comparisons.{comparison_lists}
-use Rattle.tv_cases.specs.LinearCases.{CaseSystem, CaseSteps, IsCase}
-use Rattle.tv_program.specs.Runs.{Ends}
+use Rattle.tv_cases.specs.LinearCases.{CaseSystem, IsCase}
 use Rattle.tv_cases.proofs.ContainsLemmas.{Contains-none}
 use Rattle.tv_cert.specs.declared.node.Node.{Node}
 use Rattle.tv_cert.specs.declared.aim.Aim.{Aim}
@@ -19,11 +18,10 @@ use Rattle.tv_cert.specs.Statements as statements
 use Rattle.tv_farkas.specs.declared.budget.Budget.{Budget}
 use Rattle.tv_farkas.specs.declared.fault.CoverFault.{CoverFault}
 use Rattle.tv_known.specs.Cycles.{IsLastRound, IsStateOf}
-use Rattle.tv_known.specs.Sizes.{product, fix_count, count, product_count, sum_count, term_count}
+use Rattle.tv_known.specs.Sizes.{product, fix_count, count, product_count, sum_count}
 use Rattle.tv_program.specs.Steps.{State}
 use Rattle.tv_region.specs.Regions.{IsRegion, count_at}
 use Rattle.tv_region.specs.StepRegions.{InState, IsTame, HasNoDraws}
-use Rattle.tv_rounds.specs.Calls.{IsNowhere}
 use Rattle.tv_pre.specs.declared.fault.PreFault.{PreFault}
 use Rattle.tv_pre.specs.declared.outcome.Found.{Found}
 use Rattle.tv_pre.specs.declared.test.Test.{Test}
@@ -40,18 +38,16 @@ use Rattle.tv_pre.specs.declared.gap.Gap.TheVariants.{Inexact, Open}
 use Rattle.tv_pre.specs.Finding.{IsGapFor, IsGapAmong, first_of, gap_behind, IsFullFor, ArePartsFor, steps_back, all_steps_back, size, total_size, IsFound, IsRefusedFor, test_statement}
 use Rattle.tv_pre.specs.Arguments.{IsArgument, AreEachArgument, AreFullFor, AreArguments}
 use Rattle.tv_pre.specs.declared.finding.Arguments.{Arguments}
-use Rattle.tv_pre.specs.Growing.{IsEverywhere}
 use Rattle.tv_pre.specs.Sized.{counts_at, IsFewBefore}
-use Rattle.tv_pre.specs.Built.{HasAtom, SomeHasAtom, atom_lists, IsAtomRegion, IsBuilt, of_atom, of_everywhere, of_nowhere, AreBuilt, IsBuiltOf, IsFaultOf, IsPreFault}
+use Rattle.tv_pre.specs.Built.{HasAtom, SomeHasAtom, atom_lists, IsAtomRegion, IsBuilt, of_atom, AreBuilt, IsBuiltOf, IsFaultOf, IsPreFault}
 use Rattle.tv_pre.proofs.BuiltLemmas.{built_to, built_wider, fault_to, fault_wider, one_built, more_built, pieces_of, joined_of, first_built}
 use Rattle.tv_pre.proofs.PassedLemmas.{cover_fault}
 use Rattle.tv_pre.proofs.AskedLemmas.{each_asked, place_asked, next_asked}
 use Rattle.tv_pre.proofs.FullLemmas.{atom_full, each_full, some_full, next_full}
-use Rattle.tv_pre.proofs.FullAlongLemmas.{all_full}
 use Rattle.tv_pre.proofs.GapLemmas.{gap_weaker, among_more, each_gap, one_gap}
-use Rattle.tv_pre.proofs.FormulaLemmas.{each_is, one_is, after_is, along_is, ends_is, never_is}
+use Rattle.tv_pre.proofs.FormulaLemmas.{each_is, one_is, after_is, along_is}
 use Rattle.tv_pre.proofs.SizedAtoms.{test_few, tested_few}
-use Rattle.tv_pre.proofs.SizedLemmas.{none_less, none_summed, more_summed, everywhere_few, nowhere_few, term_one}
+use Rattle.tv_pre.proofs.SizedLemmas.{none_summed, more_summed}
 use Rattle.tv_known.proofs.SizeLemmas.{trans}
 use Rattle.std.proofs.lemmas.Nat.{mul-le}
 
@@ -400,51 +396,6 @@ module _ (about : CaseSystem) (last : ℕ) where
     size = z ∙ sym (one_size t);
     full = λ gap f e rows. atom_full about t f found.part.region (test_states t f e) rows h;
     few = λ plain m is f e l. tested_few about t found.part.region h (count about.cases m f l) l (test_few about m t f (test_states t f e) l);
-  }
-
-  -- ---- termination
-  pub ends_is_found : (found : Found) → IsNowhere about found.part.region → IsPart about props.term found.part.region found.part.node → found.size ≡ 1 → (found.gap ≡ None → ⊥) → IfSome found.gap (IsGapFor about last statements.ends) → IsFound about last statements.ends found
-  ends_is_found found n p z gap of = record {
-    gap = of;
-    over = n.fits;
-    shows = λ f e. subst (λ g. IsPart about g found.part.region found.part.node) (sym (ends_is (comparison_lists about.variables) f e)) p;
-    built = of_nowhere ((last + 2) + (last + 2)) found.part.region n;
-    size = z;
-    full = λ none f e rows. absurd (gap none);
-    few = λ plain m is f e l. trans (count_at l found.part.region) 0 (count about.cases m f l) (nowhere_few about found.part.region n l) (none_less (count about.cases m f l));
-  }
-
-  pub all_end_found : (found : Found) → IsEverywhere about found.part.region → IsPart about props.term found.part.region found.part.node → found.size ≡ 1 → IfSome found.gap (IsGapFor about last statements.ends) → IsFound about last statements.ends found
-  all_end_found found e p z of = record {
-    gap = of;
-    over = e.over;
-    shows = λ f w. subst (λ g. IsPart about g found.part.region found.part.node) (sym (ends_is (comparison_lists about.variables) f w)) p;
-    built = of_everywhere ((last + 2) + (last + 2)) found.part.region e;
-    size = z;
-    full = λ none f w rows. all_full about f found.part.region (λ s q. e.all s q.location);
-    few = λ plain m is f w l. subst (λ g. count_at l found.part.region ≤ count about.cases m g l) (sym (ends_is (comparison_lists about.variables) f w)) (trans (count_at l found.part.region) 1 (term_count about.cases m l) (everywhere_few about found.part.region e l) (term_one about.cases m l));
-  }
-
-  pub never_is_found : (found : Found) → IsNowhere about found.part.region → IsPart about (props.negated props.term) found.part.region found.part.node → found.size ≡ 1 → (found.gap ≡ None → ⊥) → IfSome found.gap (IsGapFor about last statements.never_ends) → IsFound about last statements.never_ends found
-  never_is_found found n p z gap of = record {
-    gap = of;
-    over = n.fits;
-    shows = λ f e. subst (λ g. IsPart about g found.part.region found.part.node) (sym (never_is (comparison_lists about.variables) f e)) p;
-    built = of_nowhere ((last + 2) + (last + 2)) found.part.region n;
-    size = z;
-    full = λ none f e rows. absurd (gap none);
-    few = λ plain m is f e l. trans (count_at l found.part.region) 0 (count about.cases m f l) (nowhere_few about found.part.region n l) (none_less (count about.cases m f l));
-  }
-
-  pub none_never_found : (found : Found) → IsNowhere about found.part.region → IsPart about (props.negated props.term) found.part.region found.part.node → found.size ≡ 1 → IfSome found.gap (IsGapFor about last statements.never_ends) → ((s : State) → IsStateOf about s → Ends (CaseSteps about) s) → IsFound about last statements.never_ends found
-  none_never_found found n p z of all = record {
-    gap = of;
-    over = n.fits;
-    shows = λ f e. subst (λ g. IsPart about g found.part.region found.part.node) (sym (never_is (comparison_lists about.variables) f e)) p;
-    built = of_nowhere ((last + 2) + (last + 2)) found.part.region n;
-    size = z;
-    full = λ none f e rows. subst (λ g. IsFull about g found.part.region) (sym (never_is (comparison_lists about.variables) f e)) (λ s q m. all s q);
-    few = λ plain m is f e l. trans (count_at l found.part.region) 0 (count about.cases m f l) (nowhere_few about found.part.region n l) (none_less (count about.cases m f l));
   }
 
   -- ---- arguments one after the other

@@ -116,7 +116,7 @@ module _ (about : CaseSystem) (cases : All (IsCase about.variables about.locatio
       s p (subst (λ (z : Path). HoldsBy (not (must_end sides.shape)) (CaseSteps about) (other_path z) (λ t. ¬ (InState point.end.now t)) (λ t. ¬ (InState point.hold.now t) × ¬ (InState point.end.now t)) s) of.path x)
 
   -- the part has the states of a region out of which the fixed point fails
-  along_full : (round region : Region) → rounds.IsFull (must_end sides.shape) about point round → ((s : State) → IsStateOf about s → InState round s → InState region s) → IsFullAlong about sides region
+  pub along_full : (round region : Region) → rounds.IsFull (must_end sides.shape) about point round → ((s : State) → IsStateOf about s → InState round s → InState region s) → IsFullAlong about sides region
   along_full round region full inside f g first second s p n = fails_is f g first second s p (full s p (λ m. n (inside s p m)))
 
   -- ---- rounds that grow

@@ -85,8 +85,8 @@ module _ (about : CaseSystem) (last : ℕ) where
         subst (λ (z : Property). IsOpenAt about last (subformulas z) place) (sym k.2) (record {
           part = fix path shape k.0 k.1;
           there = subst (λ j. slice_get (subformulas (fix path shape k.0 k.1)) j ≡ Some (fix path shape k.0 k.1)) (sym o.0) refl;
-          unsettled = inl (fix_open about cases path shape k.0 k.1 first.part.region second.part.region first_exact second_exact last o.1);
-          denied = λ goes. inl (denied_open about cases path shape k.0 k.1 first.part.region second.part.region first_exact second_exact last o.1 h.over g.over one_full two_full goes);
+          unsettled = fix_open about cases path shape k.0 k.1 first.part.region second.part.region first_exact second_exact last o.1;
+          denied = λ goes. denied_open about cases path shape k.0 k.1 first.part.region second.part.region first_exact second_exact last o.1 h.over g.over one_full two_full goes;
           unserved = unserved_of path k.0 k.1 first_exact second_exact (u place e);
         }))
 

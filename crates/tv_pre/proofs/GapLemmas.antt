@@ -9,7 +9,9 @@ use Rattle.tv_cases.specs.LinearCases.{CaseSystem}
 use Rattle.tv_cert.specs.AimViews.{statements_of}
 use Rattle.tv_cert.specs.Statements.{Statement, rows, each_of, one_of, after, denial_of, Statements, statement, stated, stated_all}
 use Rattle.tv_cert.specs.Statements as statements
-use Rattle.tv_known.specs.Subformulas.{subformulas, all_subformulas}
+use Rattle.tv_known.specs.Laws.{Decides}
+use Rattle.tv_known.specs.Rounds.{Goes}
+use Rattle.tv_known.specs.Subformulas.{subformulas, all_subformulas, IsUnsettled}
 use Rattle.tv_pre.specs.Unserved.{IsUnranked}
 use Rattle.tv_pre.specs.declared.gap.Gap.{Gap}
 use Rattle.tv_pre.specs.declared.gap.Gap.TheVariants.{Inexact, Open}
@@ -171,11 +173,11 @@ module _ (about : CaseSystem) where
         subst (λ (z : Property). IsOpenAt about last (subformulas z) place) (sym k.1) (h (some_of k.0) k.0 k.2 (subst (HasRows about.variables) k.1 w)))
 
     -- ---- termination
-    pub ends_gap : IsUnranked about → IsGapFor about last statements.ends (Open 0)
-    ends_gap lacks f e w = subst (λ (z : Property). IsOpenAt about last (subformulas z) 0) (sym (ends_is (comparison_lists about.variables) f e)) (record { part = term; there = refl; unsettled = inr tt; denied = λ g. inr tt; unserved = lacks })
+    pub ends_gap : IsUnranked about → IsUnsettled about last term → (Decides about (Goes about) → IsUnsettled about last (negated term)) → IsGapFor about last statements.ends (Open 0)
+    ends_gap lacks u d f e w = subst (λ (z : Property). IsOpenAt about last (subformulas z) 0) (sym (ends_is (comparison_lists about.variables) f e)) (record { part = term; there = refl; unsettled = u; denied = d; unserved = lacks })
 
-    pub never_gap : IsUnranked about → IsGapFor about last statements.never_ends (Open 0)
-    never_gap lacks f e w = subst (λ (z : Property). IsOpenAt about last (subformulas z) 0) (sym (never_is (comparison_lists about.variables) f e)) (record { part = negated term; there = refl; unsettled = inr tt; denied = λ g. inr tt; unserved = lacks })
+    pub never_gap : IsUnranked about → IsUnsettled about last (negated term) → (Decides about (Goes about) → IsUnsettled about last term) → IsGapFor about last statements.never_ends (Open 0)
+    never_gap lacks u d f e w = subst (λ (z : Property). IsOpenAt about last (subformulas z) 0) (sym (never_is (comparison_lists about.variables) f e)) (record { part = negated term; there = refl; unsettled = u; denied = d; unserved = lacks })
 
     -- ---- next states
     pub after_gap : (path : Path) (s : Statement) (child own : Option Gap) → IfSome child (IsGapFor about last s) → IfSome own (IsGapFor about last (after path s)) → IfSome (first_of (gap_behind 1 child) own) (IsGapFor about last (after path s))

@@ -65,3 +65,9 @@ pub mod CountedLemmas
 pub mod CountedFormulas
 pub mod FarCounts
 pub mod WithinSize
+pub mod TerminationMeaning
+pub mod TerminationSides
+pub mod TerminationFound
+pub mod TerminationRounds
+pub mod EndsByRounds
+pub mod NeverByRounds

@@ -1,5 +1,5 @@
 -- Where no gap is told of a fixed point that is to come to its end on every run of a ranked program.
-use Rattle.std.proofs.Common.{◌≡◌, ◌⊎◌, inl, inr, ℕ, List, [], ◌∷◌, ◌++◌, refl, sym, ap, ◌∙◌, subst, true}
+use Rattle.std.proofs.Common.{◌≡◌, inl, inr, ℕ, List, [], ◌∷◌, ◌++◌, refl, sym, ap, ◌∙◌, subst, true}
 use Rattle.std.specs.Prelude.{All, Contains, Option, None, Some, IfSome}
 use Rattle.std.proofs.lemmas.List.Elements.{Contains-append_cases}
 use Rattle.tv_program.specs.Steps.{State}
@@ -32,7 +32,7 @@ use Rattle.tv_region.specs.StepRegions.{HasNoDraws}
 use Rattle.tv_rounds.proofs.InsideLemmas.{out_of_targets}
 use Rattle.tv_pre.specs.declared.gap.Gap.{Gap}
 use Rattle.tv_pre.specs.declared.gap.Gap.TheVariants.{Inexact, Open}
-use Rattle.tv_pre.specs.Finding.{IsGapFor, IsOpenAt, IsTerminal}
+use Rattle.tv_pre.specs.Finding.{IsGapFor, IsOpenAt}
 use Rattle.tv_pre.specs.Full.{HasRows}
 use Rattle.tv_pre.specs.Proving.{IsProofLeft}
 use Rattle.tv_pre.specs.Told.{IsClaimOn, RankedUntilIsTold}
@@ -43,44 +43,36 @@ use Rattle.tv_linear.proofs.ListLaws.{contains_at}
 
 -- ---- properties of one state
 module _ (about : CaseSystem) (last : ℕ) where
-  -- what is not settled, or says whether runs end
-  abbrev IsLater : Property → Type 0
-  IsLater f = IsUnsettled about last f ⊎ IsTerminal f
-
-  neither : ⊥ ⊎ ⊥ → ⊥
-  neither (inl wrong) = wrong
-  neither (inr wrong) = wrong
-
-  one_or_rest : (f : Property) (fs : List Property) (part : Property) → Contains (f ∷ fs) part → (IsLater f → ⊥) → (Contains fs part → IsLater part → ⊥) → IsLater part → ⊥
+  one_or_rest : (f : Property) (fs : List Property) (part : Property) → Contains (f ∷ fs) part → (IsUnsettled about last f → ⊥) → (Contains fs part → IsUnsettled about last part → ⊥) → IsUnsettled about last part → ⊥
   one_or_rest f fs part m a b later = elim (Contains-cases f part fs m) [
-    | inl e ↦ a (subst (λ g. IsUnsettled about last g ⊎ IsTerminal g) (sym e) later)
+    | inl e ↦ a (subst (IsUnsettled about last) (sym e) later)
     | inr k ↦ b k later
   ]
 
-  denied_now : (f : Property) → is_local f ≡ true → IsLater (negated f) → ⊥
-  denied_now (truth b) e later = neither later
-  denied_now (compare r a b) e later = neither later
-  denied_now (at l) e later = neither later
+  denied_now : (f : Property) → is_local f ≡ true → IsUnsettled about last (negated f) → ⊥
+  denied_now (truth b) e later = later
+  denied_now (compare r a b) e later = later
+  denied_now (at l) e later = later
   denied_now term e later = absurd cc
-  denied_now (negated f) e later = neither later
-  denied_now (all_of fs) e later = neither later
-  denied_now (some_of fs) e later = neither later
-  denied_now (next path f) e later = neither later
-  denied_now (fix path shape f g) e later = neither later
+  denied_now (negated f) e later = later
+  denied_now (all_of fs) e later = later
+  denied_now (some_of fs) e later = later
+  denied_now (next path f) e later = later
+  denied_now (fix path shape f g) e later = later
 
   mutual
-    local_now : (f : Property) → is_local f ≡ true → (part : Property) → Contains (subformulas f) part → IsLater part → ⊥
-    local_now (truth b) e part m = one_or_rest (truth b) [] part m (λ later. neither later) (λ k. absurd (Contains-none part k))
-    local_now (compare r a b) e part m = one_or_rest (compare r a b) [] part m (λ later. neither later) (λ k. absurd (Contains-none part k))
-    local_now (at l) e part m = one_or_rest (at l) [] part m (λ later. neither later) (λ k. absurd (Contains-none part k))
+    local_now : (f : Property) → is_local f ≡ true → (part : Property) → Contains (subformulas f) part → IsUnsettled about last part → ⊥
+    local_now (truth b) e part m = one_or_rest (truth b) [] part m (λ later. later) (λ k. absurd (Contains-none part k))
+    local_now (compare r a b) e part m = one_or_rest (compare r a b) [] part m (λ later. later) (λ k. absurd (Contains-none part k))
+    local_now (at l) e part m = one_or_rest (at l) [] part m (λ later. later) (λ k. absurd (Contains-none part k))
     local_now term e part m = absurd cc
     local_now (negated f) e part m = one_or_rest (negated f) [] part m (denied_now f e) (λ k. absurd (Contains-none part k))
-    local_now (all_of fs) e part m = one_or_rest (all_of fs) (all_subformulas fs) part m (λ later. neither later) (λ k. each_now fs e part k)
-    local_now (some_of fs) e part m = one_or_rest (some_of fs) (all_subformulas fs) part m (λ later. neither later) (λ k. each_now fs e part k)
+    local_now (all_of fs) e part m = one_or_rest (all_of fs) (all_subformulas fs) part m (λ later. later) (λ k. each_now fs e part k)
+    local_now (some_of fs) e part m = one_or_rest (some_of fs) (all_subformulas fs) part m (λ later. later) (λ k. each_now fs e part k)
     local_now (next path f) e part m = absurd cc
     local_now (fix path shape f g) e part m = absurd cc
 
-    each_now : (fs : Properties) → are_local fs ≡ true → (part : Property) → Contains (all_subformulas fs) part → IsLater part → ⊥
+    each_now : (fs : Properties) → are_local fs ≡ true → (part : Property) → Contains (all_subformulas fs) part → IsUnsettled about last part → ⊥
     each_now none e part m = absurd (Contains-none part m)
     each_now (more f fs) e part m = elim (Contains-append_cases (subformulas f) (all_subformulas fs) part m) [
       | inl k ↦ local_now f (left_true (is_local f) (are_local fs) e) part k
@@ -116,7 +108,7 @@ module _ (about : CaseSystem) (limits : AreCases about) (claim : Claim) (f : Pro
     | inr some ↦ (let w = some plain in elim (is.goes w.state w.is) [ inl e ↦ w.not_end e | inr g ↦ w.not_way g.0 g.1 ])
   ]
 
-  own_or_later : (part : Property) → Contains (subformulas (fix Every is.shape is.left is.right)) part → IsUnserved about part → IsUnsettled about last part ⊎ IsTerminal part → ⊥
+  own_or_later : (part : Property) → Contains (subformulas (fix Every is.shape is.left is.right)) part → IsUnserved about part → IsUnsettled about last part → ⊥
   own_or_later part m u later = elim (Contains-cases (fix Every is.shape is.left is.right) part (subformulas is.left ++ subformulas is.right) m) [
     | inl e ↦ served (subst (IsUnserved about) (sym e) u)
     | inr k ↦ elim (Contains-append_cases (subformulas is.left) (subformulas is.right) part k) [

@@ -3,7 +3,7 @@ use Rattle.std.proofs.Common.{◌≡◌, inl, inr, ℕ, List, refl, sym, ap, ◌
 use Rattle.std.specs.Prelude.{All, Option, None, Some, IfSome}
 use Rattle.tv_formula.specs.Formulas.{property_of}
 use Rattle.tv_formula.specs.Normal.{negation, normal}
-use Rattle.tv_formula.specs.Properties.{Property, truth, compare, at, term, negated, all_of, some_of, next, fix}
+use Rattle.tv_formula.specs.Properties.{Property}
 use Rattle.tv_farkas.specs.declared.budget.Budget.{Budget}
 use Rattle.tv_linear.specs.declared.region.Region.{Region}
 use Rattle.tv_cases.specs.LinearCases.{CaseSystem, IsCase}
@@ -20,12 +20,10 @@ use Rattle.tv_known.specs.Subformulas.{subformulas}
 use Rattle.tv_region.specs.Regions.{IsRegion}
 use Rattle.tv_pre.specs.declared.gap.Gap.{Gap}
 use Rattle.tv_pre.specs.declared.gap.Gap.TheVariants.{Inexact, Open}
-use Rattle.tv_pre.specs.Finding.{IsGapFor, IsOpenAt, IsTerminal, AreAtomsOfDifferences, IsTameStatement, IsPlainProgram, HasNoGapIfPlain, IsPartFor, IsFullFor, IsExactFor}
+use Rattle.tv_pre.specs.Finding.{IsGapFor, IsOpenAt, AreAtomsOfDifferences, IsTameStatement, IsPlainProgram, HasNoGapIfPlain, IsPartFor, IsFullFor, IsExactFor}
 use Rattle.tv_pre.specs.Full.{HasRows}
 use Rattle.tv_pre.specs.Proving.{IsTameClaim}
-use Rattle.tv_pre.specs.Unserved.{IsUnranked, IsUnserved}
 use Rattle.tv_pre.specs.Told.{AreSettled, IsClaimOn, SettledIsTold, PlainIsTold}
-use Rattle.tv_pre.proofs.AcyclicRanks.{acyclic_ranked}
 use Rattle.tv_pre.proofs.ContraryAtoms.{denied_atoms}
 use Rattle.tv_pre.proofs.NegationLemmas.{denied_stands}
 use Rattle.tv_pre.proofs.StepsTold.{tame_goes}
@@ -34,28 +32,9 @@ use Rattle.tv_pre.proofs.SettledRounds.{none_unsettled}
 use Rattle.tv_linear.proofs.ListLaws.{contains_at}
 
 -- ---- programs without cycles and draws
-terminal_unranked : (about : CaseSystem) (f : Property) → IsTerminal f → IsUnserved about f → IsUnranked about
-terminal_unranked about (truth b) t u = absurd t
-terminal_unranked about (compare r a b) t u = absurd t
-terminal_unranked about (at l) t u = absurd t
-terminal_unranked about term t u = u
-terminal_unranked about (negated (truth b)) t u = absurd t
-terminal_unranked about (negated (compare r a b)) t u = absurd t
-terminal_unranked about (negated (at l)) t u = absurd t
-terminal_unranked about (negated term) t u = u
-terminal_unranked about (negated (negated f)) t u = absurd t
-terminal_unranked about (negated (all_of fs)) t u = absurd t
-terminal_unranked about (negated (some_of fs)) t u = absurd t
-terminal_unranked about (negated (next path f)) t u = absurd t
-terminal_unranked about (negated (fix path shape f g)) t u = absurd t
-terminal_unranked about (all_of fs) t u = absurd t
-terminal_unranked about (some_of fs) t u = absurd t
-terminal_unranked about (next path f) t u = absurd t
-terminal_unranked about (fix path shape f g) t u = absurd t
-
 module _ (about : CaseSystem) (cases : All (IsCase about.variables about.locations) about.cases) where
   none_open : (HasCycle about → ⊥) → (fs : List Property) → (place : ℕ) → IsOpenAt about about.locations fs place → ⊥
-  none_open none fs place h = elim h.unsettled [ inl u ↦ none_unsettled about cases h.part none u | inr t ↦ terminal_unranked about h.part t h.unserved (acyclic_ranked about none) ]
+  none_open none fs place h = none_unsettled about cases h.part none h.unsettled
 
   plain_last : IsPlainProgram about → (last : ℕ) → IsLastRound about 8 last → last ≡ about.locations
   plain_last plain last (inl h) = absurd (plain.acyclic h.0)
@@ -74,25 +53,6 @@ module _ (about : CaseSystem) (cases : All (IsCase about.variables about.locatio
   ]
 
 -- ---- tame programs
-terminal_denied : (f : Property) → IsTerminal f → IsTerminal (negation f)
-terminal_denied (truth b) t = absurd t
-terminal_denied (compare r a b) t = absurd t
-terminal_denied (at l) t = absurd t
-terminal_denied term t = tt
-terminal_denied (negated (truth b)) t = absurd t
-terminal_denied (negated (compare r a b)) t = absurd t
-terminal_denied (negated (at l)) t = absurd t
-terminal_denied (negated term) t = tt
-terminal_denied (negated (negated f)) t = absurd t
-terminal_denied (negated (all_of fs)) t = absurd t
-terminal_denied (negated (some_of fs)) t = absurd t
-terminal_denied (negated (next path f)) t = absurd t
-terminal_denied (negated (fix path shape f g)) t = absurd t
-terminal_denied (all_of fs) t = absurd t
-terminal_denied (some_of fs) t = absurd t
-terminal_denied (next path f) t = absurd t
-terminal_denied (fix path shape f g) t = absurd t
-
 -- the negation is as tame as the normal form
 tame_claim : (about : CaseSystem) (claim : Claim) (f : Property) → IsClaimOn about claim f → HasRows about.variables (property_of claim.proved) → IsTameStatement about (aim_states claim.proved_aim) → IsTameClaim about claim
 tame_claim about claim f on rows (inl plain) = inl plain
@@ -109,7 +69,7 @@ none_settled about last fs h place o = h o.part (contains_at fs place o.part o.t
 -- nor does it settle what the negation has in place of one of these
 none_denied : (about : CaseSystem) (last : ℕ) (f : Property) → AreSettled about last (subformulas (normal f)) → Decides about (Goes about) → (place : ℕ) → IsOpenAt about last (subformulas (negation f)) place → ⊥
 none_denied about last f h goes place o =
-    h (negation o.part) (denied_stands f o.part (contains_at (subformulas (negation f)) place o.part o.there)) (elim (o.denied goes) [ inl u ↦ inl u | inr t ↦ inr (terminal_denied o.part t) ])
+    h (negation o.part) (denied_stands f o.part (contains_at (subformulas (negation f)) place o.part o.there)) (o.denied goes)
 
 pub settled_told : (about : CaseSystem) (claim : Claim) (f : Property) (budget : Budget) (gap : Gap) → SettledIsTold about claim f budget gap
 settled_told about claim f budget Inexact on tame last l settled h = h.1.tells last l (tame_claim about claim f on h.1.have_rows.0 tame)

@@ -1,6 +1,6 @@
 -- What is found of a formula, bottom-up.
 use Rattle.std.specs.Prelude.{◌≡◌, ◌⊎◌, ℕ, ◌+◌, ◌<◌, ◌≤◌, ◌≤ℤ◌, Option, None, Some, IfSome, List, ◌∷◌, length, map, All, Contains, ℤ, slice_get, slice_index, slice_index_or, pos}
-use Rattle.tv_formula.specs.Properties.{Property, Properties, term, negated}
+use Rattle.tv_formula.specs.Properties.{Property, Properties}
 use Rattle.tv_linear.specs.Linear.{Linear}
 use Rattle.tv_linear.specs.declared.region.Region.{Region}
 use Rattle.tv_cases.specs.Comparisons.{comparison_lists}
@@ -172,20 +172,14 @@ AreAtomsOfDifferences s = (lists : List (List Linear)) (r : Linear) → HasAtom 
 abbrev pub IsTameStatement : CaseSystem → Statement → Type 0
 IsTameStatement about s = HasNoDraws about ⊎ (AreOfDifferences about × AreAtomsOfDifferences s)
 
--- termination or its negation, of whose rounds nothing is said
-abbrev pub IsTerminal : Property → Type 0
-IsTerminal term = Unit {0}
-IsTerminal (negated term) = Unit {0}
-IsTerminal f = ⊥
-
--- The property with this number is a fixed point that round k does not settle, or termination or its negation. Where it can be told whether a
--- state has a step, round k does not settle the negation of the fixed point either. A fixed point that is to come to its end on every run is not
--- served by the ranks of the program.
+-- The property with this number is a fixed point, or termination or its negation, that round k does not settle. Where it can be told whether a
+-- state has a step, round k does not settle its negation either. If it is to come to its end on every run, or is termination or its negation,
+-- the ranks of the program do not serve for it.
 pub record IsOpenAt (about : CaseSystem) (k : ℕ) (fs : List Property) (place : ℕ) : Type 0 where
   pub part : Property
   pub there : slice_get fs place ≡ Some part
-  pub unsettled : IsUnsettled about k part ⊎ IsTerminal part
-  pub denied : Decides about (Goes about) → IsUnsettled about k (negation part) ⊎ IsTerminal part
+  pub unsettled : IsUnsettled about k part
+  pub denied : Decides about (Goes about) → IsUnsettled about k (negation part)
   pub unserved : IsUnserved about part
 
 -- what a gap says of the formula that the statement is of, where rounds are made up to the last and each comparison has rows: going back is

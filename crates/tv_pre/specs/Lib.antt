@@ -29,3 +29,4 @@ pub mod Copies
 pub mod Arguments
 pub mod RankedAlong
 pub mod Told
+pub mod Termination

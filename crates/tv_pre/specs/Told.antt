@@ -1,5 +1,5 @@
 -- When the search for a formula tells of no gap.
-use Rattle.std.specs.Prelude.{◌≡◌, ◌⊎◌, ℕ, ◌<◌, ◌≤◌, List, Contains}
+use Rattle.std.specs.Prelude.{◌≡◌, ℕ, ◌<◌, ◌≤◌, List, Contains}
 use Rattle.tv_program.specs.Steps.{State}
 use Rattle.tv_formula.specs.Normal.{normal}
 use Rattle.tv_formula.specs.Parts.{HasParts}
@@ -24,13 +24,13 @@ use Rattle.tv_simplex.specs.declared.fault.SolveFault.{SolveFault}
 use Rattle.tv_pre.specs.declared.gap.Gap.{Gap}
 use Rattle.tv_pre.specs.declared.deciding.Unproved.TheVariants as unproved
 use Rattle.tv_pre.specs.declared.fault.PreFault.TheVariants as faults
-use Rattle.tv_pre.specs.Finding.{IsTameStatement, IsTerminal, IsPlainProgram}
+use Rattle.tv_pre.specs.Finding.{IsTameStatement, IsPlainProgram}
 use Rattle.tv_pre.specs.Proving.{IsUnproved}
 use Rattle.tv_pre.specs.Unserved.{IsRankingRefused}
 
--- round k settles each fixed point among the properties, and none of them is termination or its negation
+-- round k settles each fixed point among the properties, and termination and its negation if they are among them
 abbrev pub AreSettled : CaseSystem → ℕ → List Property → Type 0
-AreSettled about k fs = (f : Property) → Contains fs f → IsUnsettled about k f ⊎ IsTerminal f → ⊥
+AreSettled about k fs = (f : Property) → Contains fs f → IsUnsettled about k f → ⊥
 
 -- the claim is one of the property, over the variables of the program
 pub record IsClaimOn (about : CaseSystem) (claim : Claim) (f : Property) : Type 0 where
@@ -38,7 +38,8 @@ pub record IsClaimOn (about : CaseSystem) (claim : Claim) (f : Property) : Type 
   pub variables : claim_variables claim ≡ about.variables
 
 -- where going back is exact for the normal form of a property - no case has a draw, or the cases and the comparisons are of differences - and
--- the last round settles each fixed point of it, no claim of the property is left open with a gap: nothing is asked of the negation
+-- the last round settles each fixed point of it, and termination where it stands in it, no claim of the property is left open with a gap:
+-- nothing is asked of the negation
 abbrev pub SettledIsTold : CaseSystem → Claim → Property → Budget → Gap → Type 0
 SettledIsTold about claim f budget gap =
     IsClaimOn about claim f → IsTameStatement about (aim_states claim.proved_aim) → (last : ℕ) → IsLastRound about 8 last

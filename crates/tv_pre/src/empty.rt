@@ -11,11 +11,10 @@ use crate::regions::nowhere;
 use crate::{Part, Setting};
 use std::alloc::AllocError;
 
-/// The part of termination, and of its negation, that says nothing: it has no pieces.
+/// The part of the negation of termination that says nothing: it has no pieces.
 pub(crate) fn empty_part(setting: &Setting) -> Result<Part, AllocError>
     ensures nowhere { IfOk result (λ part. IsNowhere (cases_of setting.now.about.now) part.region) }
-    ensures ends { IfOk result (λ part. IsPart (cases_of setting.now.about.now) term part.region part.node) }
-    ensures never_ends { IfOk result (λ part. IsPart (cases_of setting.now.about.now) (negated term) part.region part.node) }
+    ensures part { IfOk result (λ part. IsPart (cases_of setting.now.about.now) (negated term) part.region part.node) }
 {
     let alloc = setting.alloc;
     let region = nowhere(setting);

@@ -10,7 +10,6 @@ ghost use Rattle.tv_known.specs.Cycles.{IsLastRound};
 ghost use Rattle.tv_cert.specs.AimViews.{aim_states, aims_state, statements_of};
 ghost use Rattle.tv_cert.specs.Statements.{Statement};
 ghost use Rattle.tv_cert.specs.Statements as statements;
-ghost use Rattle.tv_lexrank.specs.Nodes.{IsRankedNode};
 ghost use Rattle.tv_region.specs.Regions.{IsRegion};
 ghost use Rattle.tv_region.specs.StepRegions.{IsTame};
 ghost use Rattle.tv_pre.specs.declared.fault.PreFault.TheVariants.{Memory};
@@ -19,23 +18,18 @@ ghost use Rattle.tv_pre.specs.Built.{IsBuilt};
 ghost use Rattle.tv_pre.specs.Finding.{States, IsEvenStatement, AreEvenStatements, steps_back, size, first_of, gap_behind, IsGapOf, IsGapFor, IsWildStep, IsPartFor, IsFullFor, IsExactFor, HasNoGapIfPlain, IsFound, test_statement, IsRefusedFor};
 ghost use Rattle.tv_pre.specs.Sized.{IsFewFor};
 ghost use Rattle.tv_pre.specs.Counted.{IsCountedFor, AreCountedFor};
-ghost use Rattle.tv_pre.specs.Search.{system_of, IsSearch, IsRanking};
-ghost use Rattle.tv_pre.specs.Unserved.{IsUnranked};
+ghost use Rattle.tv_pre.specs.Search.{system_of, IsSearch};
 ghost use Rattle.tv_pre.specs.Arguments.{AreArguments, AreArgumentsOf};
 
 use crate::along::{Along, part_along};
 use crate::copying::{found_alike, found_before};
-use crate::empty::empty_part;
 use crate::gap::{added, first_gap, gap_after};
-use crate::ranking::{Ranking, Ranks, ranks_of};
 use crate::regions::{back_into, intersection, union};
 use crate::search::{Search, search_in};
-use crate::{
-    Found, Gap, Part, PreFault, Setting, Sides, Test, atom, each_of, ends_ranked, next, one_of,
-};
+use crate::termination::{ends_found, never_found};
+use crate::{Found, Gap, Part, PreFault, Setting, Sides, Test, atom, each_of, next, one_of};
 use std::alloc::Global;
 use tv_cert::{Aim, Node};
-use tv_copy::copy_node;
 use tv_formula::{Path, Shape};
 use tv_linear::{Region, push_item};
 
@@ -114,110 +108,6 @@ fn atom_found(search: &Search, test: &Test) -> Result<Found, PreFault>
     let part = atom(search.setting.alloc, search.setting.about, test)?;
     let gap = None;
     Ok(Found { part, gap, size: 1 })
-}
-
-/// What is found of termination or of its negation in a program without a ranking: so far nothing.
-fn termination_found(search: &Search) -> Result<Found, PreFault>
-    requires unranked { IsUnranked (system_of search.now) }
-    ensures ends { IfOk result (IsFound (system_of search.now) search.now.last statements.ends) }
-    ensures never_ends { IfOk result (IsFound (system_of search.now) search.now.last statements.never_ends) }
-    ensures memory { IfErr result (λ fault. fault ≡ Memory) }
-{
-    let part = empty_part(search.setting)?;
-    let gap = Some(Gap::Open { place: 0 });
-    Ok(Found { part, gap, size: 1 })
-}
-
-/// What is found of termination where a node ranks all states: it holds everywhere.
-fn all_ended(search: &Search, node: Node) -> Result<Found, PreFault>
-    requires ranked { IsRankedNode (system_of search.now) node }
-    ensures found { IfOk result (IsFound (system_of search.now) search.now.last statements.ends) }
-    ensures memory { IfErr result (λ fault. fault ≡ Memory) }
-{
-    let part = ends_ranked(search.setting.alloc, search.setting.about, node)?;
-    let gap = None;
-    Ok(Found { part, gap, size: 1 })
-}
-
-/// What is found of termination where the ranks are looked for anew, as the fault of a system is given away.
-fn ends_anew(search: &Search) -> Result<Found, PreFault>
-    ensures found { IfOk result (IsFound (system_of search.now) search.now.last statements.ends) }
-    ensures refused { let about = system_of search.now in
-        IfErr result (IsRefusedFor about search.now.setting.now.budget.now search.now.last statements.ends) }
-    ensures counted { IfErr result (IsCountedFor (system_of search.now) statements.ends) }
-{
-    match ranks_of(search.setting)? {
-        Ranks::Known(ranking) => Ok(all_ended(search, ranking.node)?),
-        Ranks::Lacking => Ok(termination_found(search)?),
-        Ranks::Refused { system, fault } => Err(PreFault::Rank { system, fault }),
-    }
-}
-
-/// What is found of termination where these are the ranks of the program: their node is copied.
-fn ends_known(search: &Search, ranking: &Ranking) -> Result<Found, PreFault>
-    requires ranking { IsRanking (system_of search.now) ranking.now }
-    ensures found { IfOk result (IsFound (system_of search.now) search.now.last statements.ends) }
-    ensures refused { let about = system_of search.now in
-        IfErr result (IsRefusedFor about search.now.setting.now.budget.now search.now.last statements.ends) }
-    ensures counted { IfErr result (IsCountedFor (system_of search.now) statements.ends) }
-{
-    let node = copy_node(search.setting.alloc, &ranking.node)?;
-    Ok(all_ended(search, node)?)
-}
-
-/// What is found of termination: where the program is ranked it holds everywhere; where it has no ranking so far nothing.
-fn ends_found(search: &Search) -> Result<Found, PreFault>
-    requires search { IsSearch search.now }
-    ensures found { IfOk result (IsFound (system_of search.now) search.now.last statements.ends) }
-    ensures refused { let about = system_of search.now in
-        IfErr result (IsRefusedFor about search.now.setting.now.budget.now search.now.last statements.ends) }
-    ensures counted { IfErr result (IsCountedFor (system_of search.now) statements.ends) }
-{
-    match &search.ranks {
-        Some(Ranks::Known(ranking)) => ends_known(search, ranking),
-        Some(Ranks::Lacking) => Ok(termination_found(search)?),
-        _ => ends_anew(search),
-    }
-}
-
-/// What is found of the negation of termination in a ranked program: it holds nowhere.
-fn never_ranked(search: &Search, _ranking: &Ranking) -> Result<Found, PreFault>
-    requires ranking { IsRanking (system_of search.now) _ranking.now }
-    ensures found { IfOk result (IsFound (system_of search.now) search.now.last statements.never_ends) }
-    ensures memory { IfErr result (λ fault. fault ≡ Memory) }
-{
-    let part = empty_part(search.setting)?;
-    let gap = None;
-    Ok(Found { part, gap, size: 1 })
-}
-
-/// What is found of the negation of termination where the ranks are looked for anew, as the fault of a system is given away.
-fn never_anew(search: &Search) -> Result<Found, PreFault>
-    ensures found { IfOk result (IsFound (system_of search.now) search.now.last statements.never_ends) }
-    ensures refused { let about = system_of search.now in
-        IfErr result (IsRefusedFor about search.now.setting.now.budget.now search.now.last statements.never_ends) }
-    ensures counted { IfErr result (IsCountedFor (system_of search.now) statements.never_ends) }
-{
-    match ranks_of(search.setting)? {
-        Ranks::Known(ranking) => Ok(never_ranked(search, &ranking)?),
-        Ranks::Lacking => Ok(termination_found(search)?),
-        Ranks::Refused { system, fault } => Err(PreFault::Rank { system, fault }),
-    }
-}
-
-/// What is found of the negation of termination: where the program is ranked it holds nowhere; where it has no ranking so far nothing.
-fn never_found(search: &Search) -> Result<Found, PreFault>
-    requires search { IsSearch search.now }
-    ensures found { IfOk result (IsFound (system_of search.now) search.now.last statements.never_ends) }
-    ensures refused { let about = system_of search.now in
-        IfErr result (IsRefusedFor about search.now.setting.now.budget.now search.now.last statements.never_ends) }
-    ensures counted { IfErr result (IsCountedFor (system_of search.now) statements.never_ends) }
-{
-    match &search.ranks {
-        Some(Ranks::Known(ranking)) => Ok(never_ranked(search, ranking)?),
-        Some(Ranks::Lacking) => Ok(termination_found(search)?),
-        _ => never_anew(search),
-    }
 }
 
 /// What is found of a conjunction.
@@ -432,14 +322,15 @@ fn found_of(search: &Search, aim: &Aim) -> Result<Found, PreFault>
 /// The region of an atom has its rows at each location; conjunctions and disjunctions have the states that each argument has, or one of
 /// them. A formula on the next states has those all of whose steps lead into the region of its argument, or some step. A fixed point has the
 /// states at its end, and, where going back over the steps is exact, those of its rounds: up to the eighth in a program with a cycle, and
-/// else up to as many as it has locations. A `gap` says why the region may lack states: the program is not tame for the formula; or, if each
-/// comparison has rows, the subformula that it names is a fixed point that the last round does not settle, or termination or its negation.
-/// Where there is none, and each comparison has rows, the region has exactly the states where the formula holds, and at each other one its
-/// negation does.
+/// else up to as many as it has locations. Termination is the fixed point over every run that comes to a state without a step, and its
+/// negation the one over some run each state of which has a step. A `gap` says why the region may lack states: the program is not tame for
+/// the formula; or, if each comparison has rows, the subformula that it names is a fixed point, or termination or its negation, that the last
+/// round does not settle. Where there is none, and each comparison has rows, the region has exactly the states where the formula holds, and
+/// at each other one its negation does.
 ///
 /// Where the whole program has a lexicographic ranking, termination holds everywhere, and so does a fixed point over every run that must
 /// come to an end if each state is at its end, or on the way with a step. Where a system of the search for the ranking is refused, and the
-/// rounds of such a fixed point leave a gap, the refusal is given in place of the gap.
+/// rounds of such a fixed point, or of termination or its negation, leave a gap, the refusal is given in place of the gap.
 ///
 /// Any other refusal is of a call on regions, or of a question about their pieces, that are made of the atoms of the formula.
 pub fn found(setting: &Setting, aim: &Aim) -> Result<Found, PreFault>

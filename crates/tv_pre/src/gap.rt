@@ -8,7 +8,7 @@ use std::alloc::AllocError;
 pub enum Gap {
     /// Going back over the steps of the program is not exact for some subformula.
     Inexact,
-    /// No round of the fixed point, or of the endless runs, up to the last one equals the next.
+    /// No round of the fixed point up to the last one equals the next. Termination and its negation are such fixed points too.
     Open {
         /// The number of the subformula: each stands before its arguments, and these in order. A negation counts with what it negates as one.
         place: u32,

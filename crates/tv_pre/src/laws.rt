@@ -22,9 +22,9 @@ pub fn full_regions_tell()
     ensures tell { (about : CaseSystem) (f : Property) → FullTell about f }
 {}
 
-/// No claim is left open with a gap where the program is tame for the normal form, the last round settles each fixed point of it, and
-/// termination does not stand in it; nor where the program has neither a draw nor a cycle. Nothing is asked of the negation, as its rounds are
-/// the complements of those of the normal form.
+/// No claim is left open with a gap where the program is tame for the normal form, and the last round settles each fixed point of it, and
+/// termination and its negation where they stand in it; nor where the program has neither a draw nor a cycle. Nothing is asked of the
+/// negation, as its rounds are the complements of those of the normal form.
 pub fn settled_claims_are_told()
     ensures tame { (about : CaseSystem) (claim : Claim) (f : Property) (budget : Budget) (gap : Gap) → SettledIsTold about claim f budget gap }
     ensures plain { (about : CaseSystem) → AreProper about → (claim : Claim) (budget : Budget) (gap : Gap) → PlainIsTold about claim budget gap }

@@ -47,6 +47,7 @@ mod sides;
 mod starting;
 mod staying;
 mod targets;
+mod termination;
 mod test;
 mod trees;
 mod wide;

@@ -1,7 +1,7 @@
 use Rattle.std.proofs.Common.{[]}
 use Rattle.tv_pre.specs.Search.{system_of}
 use Rattle.tv_pre.proofs.SameFoundLemmas.{ends_same}
-use Rattle.tv_pre.proofs.finding.ends_known.Goals as goal
+use Rattle.tv_pre.proofs.termination.ends_known.Goals as goal
 
 pub all_ended-requires : goal.all_ended-requires
 all_ended-requires c = record {
