@@ -1,7 +1,9 @@
 //! What is proved of formulas, or why nothing is.
 
 use crate::claims::{Asks, is_said_of_texts};
-use crate::programs::{BESIDE, BOTH_WAYS, CHAIN, CLIMBER, DRAWN, EMPTY, HALF, LOOP, STEP};
+use crate::programs::{
+    BESIDE, BOTH_WAYS, CHAIN, CLIMBER, DRAWN, DRAWS, EMPTY, HALF, HALVES, IDLE, LEAVING, LOOP, STEP,
+};
 use std::test::Fail;
 use tv_cert::{Claim, Verdict};
 use tv_farkas::{Budget, CoverFault};
@@ -145,12 +147,29 @@ const PATHS: &[Example] = &[
     (DRAWN, "[AF](x < 0)", Wanted::Disproved),
 ];
 
-/// Termination inside formulas.
+/// Termination inside formulas, by ranks.
 const TERMINATION: &[Example] = &[
     (LOOP, "[AX](term)", Wanted::Proved),
     (LOOP, "[EX](!term)", Wanted::Disproved),
     (CHAIN, "[AX](term)", Wanted::Proved),
     (BOTH_WAYS, "[EX](!term)", Wanted::Disproved),
+];
+
+/// Termination inside formulas of programs without a ranking, by rounds.
+const ENDLESS: &[Example] = &[
+    (LEAVING, "[EF](term)", Wanted::Proved),
+    (LEAVING, "[AX](term)", Wanted::Disproved),
+    (LEAVING, "[EG](!term)", Wanted::Proved),
+    (LEAVING, "[AG](!term)", Wanted::Disproved),
+    (IDLE, "[AX](!term)", Wanted::Proved),
+    (IDLE, "[EG](!term)", Wanted::Proved),
+    (IDLE, "[EF](term)", Wanted::Disproved),
+    (CLIMBER, "x <= 0 || [AX](!term)", Wanted::Proved),
+    (CLIMBER, "x > 0 || (term && [AG](term))", Wanted::Proved),
+    (CLIMBER, "[EF](!term)", Wanted::Disproved),
+    (DRAWS, "[EX](term)", Wanted::Proved),
+    (DRAWS, "[EX](!term)", Wanted::Proved),
+    (DRAWS, "[AX](term)", Wanted::Disproved),
 ];
 
 /// Arguments that are equal, of which the second is a copy of the first.
@@ -195,12 +214,15 @@ const RANKED: &[Example] = &[
     ),
 ];
 
-/// Where ranks are not settled by so few bases. In the first two the rounds are open too, or there are none; in the others the formula is settled
-/// without ranks, or its negation is.
+/// Where ranks are not settled by so few bases. In the first three the rounds are open too; in the others the formula is settled without ranks,
+/// or its negation is.
 const UNRANKED: &[Example] = &[
     (LOOP, "[AF](x <= 0)", Wanted::Ranks(4)),
     (LOOP, "[AX](term)", Wanted::Ranks(4)),
+    (LOOP, "[EX](!term)", Wanted::Ranks(4)),
     (LOOP, "[AF](x < 0)", Wanted::Disproved),
+    (CLIMBER, "x <= 0 || [AX](!term)", Wanted::Proved),
+    (CLIMBER, "x > 0 || (term && [AG](term))", Wanted::Proved),
     (CHAIN, "[AF](at(1))", Wanted::Proved),
     (CHAIN, "[AX](term)", Wanted::Proved),
 ];
@@ -213,6 +235,9 @@ const LEFT: &[Example] = &[
     (HALF, "[EX](at(1))", Wanted::Inexact),
     (LOOP, "[AX](x < 4611686018427387903 + 1)", Wanted::Wide(1)),
     (BOTH_WAYS, "[AX](term)", Wanted::Open(1)),
+    (BOTH_WAYS, "x >= 0 || [EX](!term)", Wanted::Open(3)),
+    (HALVES, "[AX](term)", Wanted::Inexact),
+    (HALVES, "[EX](!term)", Wanted::Inexact),
     (BESIDE, "x <= 0 || [AF](x <= 0 && y != z)", Wanted::Open(2)),
 ];
 
@@ -241,6 +266,17 @@ fn paths_are_told(rt: HostRuntime) -> Result<(), Fail> {
 #[test]
 fn termination_is_told(rt: HostRuntime) -> Result<(), Fail> {
     for (program, property, wanted) in TERMINATION {
+        assert!(rt;
+            is_said_of_texts(rt.alloc(), program, property, &AMPLE, wanted)?,
+            "{property}"
+        );
+    }
+    Ok(())
+}
+
+#[test]
+fn endless_runs_are_told(rt: HostRuntime) -> Result<(), Fail> {
+    for (program, property, wanted) in ENDLESS {
         assert!(rt;
             is_said_of_texts(rt.alloc(), program, property, &AMPLE, wanted)?,
             "{property}"

@@ -34,6 +34,19 @@ pub(crate) const DRAWN: &str =
 /// Draws half of a number, if there is one.
 pub(crate) const HALF: &str = "START: 0; FROM: 0; y := nondet(); assume(2*y == x); TO: 1;";
 
+/// Idles for ever.
+pub(crate) const IDLE: &str = "START: 0; FROM: 0; x := x; TO: 0;";
+
+/// Idles, or goes to where nothing steps.
+pub(crate) const LEAVING: &str = "START: 0; FROM: 0; x := x; TO: 0; FROM: 0; TO: 1;";
+
+/// Draws half of a number as long as there is one, which is for ever or never.
+pub(crate) const HALVES: &str = "START: 0; FROM: 0; y := nondet(); assume(2*y == x); TO: 0;";
+
+/// Draws a number and goes on for ever where it is above 0.
+pub(crate) const DRAWS: &str =
+    "START: 0; FROM: 0; x := nondet(); TO: 1; FROM: 1; assume(x > 0); TO: 1;";
+
 /// The program in the text.
 pub(crate) fn program_of(alloc: Global, text: &str) -> Result<Program, Fail> {
     if text.len() > 65536 {
