@@ -8,8 +8,8 @@ use crate::words::{Fault, next_count, next_row, next_rows};
 use std::alloc::Global;
 use std::str::SplitWhitespace;
 use tv_linear::held::add_product;
-use tv_linear::{Row, Rows, Update};
-use tv_refute::{Change, Frames, Terms, shown_rows};
+use tv_linear::{Row, RowView, Rows, Update};
+use tv_refute::{Change, Frames, Terms, shows};
 
 /// What is done with the rows.
 #[derive(Clone, Copy)]
@@ -24,9 +24,9 @@ pub(crate) enum Way {
 struct Showing {
     columns: u32,
     known: Vec<Row>,
-    shown: Vec<Row>,
+    shown: Row,
     updates: Vec<Update>,
-    lists: Vec<Vec<i64>>,
+    multipliers: Vec<i64>,
 }
 
 /// So many multipliers.
@@ -63,18 +63,16 @@ fn showing_of(alloc: Global, words: &mut SplitWhitespace<'_>) -> Result<Showing,
     let columns = next_count(words)?;
     let count = next_count(words)?;
     let known = next_rows(alloc, words, count, columns)?;
-    let shown = next_rows(alloc, words, 1, columns)?;
+    let shown = next_row(alloc, words, columns)?;
     let assigned = next_count(words)?;
     let updates = next_updates(alloc, words, assigned, columns)?;
-    let mut lists = Vec::new(alloc);
     let multipliers = next_multipliers(alloc, words, count.saturating_add(1))?;
-    lists.push(multipliers)?;
     Ok(Showing {
         columns,
         known,
         shown,
         updates,
-        lists,
+        multipliers,
     })
 }
 
@@ -90,11 +88,11 @@ fn scanned(total: i128, factor: i128, row: &Row) -> Option<i128> {
     add_product(sum, factor, row.constant())
 }
 
-/// The same, of several rows.
-fn scanned_rows(start: i128, factor: i128, rows: &[Row]) -> Option<i128> {
+/// The same, of several rows, with 1 as the factor.
+fn scanned_rows(start: i128, rows: &[Row]) -> Option<i128> {
     let mut sum = start;
     for row in rows {
-        match scanned(sum, factor, row) {
+        match scanned(sum, 1, row) {
             None => return None,
             Some(next) => sum = next,
         }
@@ -116,18 +114,18 @@ fn is_done(way: Way, showing: &Showing, time: u64) -> bool {
         Way::Once => Change::Once(&terms),
         Way::Twice => Change::Twice(&terms, &terms),
         Way::Scan => {
-            return match scanned_rows(time as i128, 1, &showing.known) {
+            return match scanned_rows(time as i128, &showing.known) {
                 None => false,
-                Some(sum) => scanned_rows(sum, -1, &showing.shown).is_some(),
+                Some(sum) => scanned(sum, -1, &showing.shown).is_some(),
             };
         }
     };
-    shown_rows(
+    shows(
         showing.columns as usize,
         &known,
         &change,
-        Rows::Each(&showing.shown),
-        &showing.lists,
+        RowView::of(&showing.shown),
+        &showing.multipliers,
     )
 }
 

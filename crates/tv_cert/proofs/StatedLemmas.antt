@@ -1,5 +1,5 @@
 -- The arguments of a formula, and of what it states.
-use Rattle.std.proofs.Common.{◌≡◌, ℕ, ◌+◌, List, ◌++◌, refl, ap}
+use Rattle.std.proofs.Common.{◌≡◌, ℕ, zero, suc, ◌+◌, ◌<◌, List, ◌++◌, arith, refl, ap}
 use Rattle.tv_formula.specs.Properties.{Property, truth, compare, at, term, negated, all_of, some_of, next, fix}
 use Rattle.tv_cases.specs.LinearCases.{CaseSystem}
 use Rattle.tv_cert.specs.declared.node.Marked.{Marked}
@@ -10,7 +10,7 @@ use Rattle.tv_cert.specs.AboutSystem.{about_of}
 use Rattle.tv_cert.specs.declared.node.Node.{Node'}
 use Rattle.tv_cert.specs.Obligations.{About, paired}
 use Rattle.tv_cert.specs.Nodes.{parts, kid_pieces, entries, kid_entries, own_of, children_entries, root_entry}
-use Rattle.tv_cert.specs.Statements.{stated, stated_all, parts_of}
+use Rattle.tv_cert.specs.Statements.{Statements, no_statement, statement, stated, stated_all, parts_of, count, part_at}
 
 pub parts-stated : (about : About) (f : Property) → parts_of (stated about.tests f) ≡ stated_all about.tests (parts f)
 parts-stated about (truth b) = refl
@@ -40,3 +40,14 @@ entries_are number about f ps m shape kids proofs =
 pub root_same : (system : CaseSystem) (ps : List Marked) (verdict : Verdict) → root_entry (about_of system) ps verdict ≡ root_entry (about_with system) ps verdict
 root_same system ps (Proved start) = refl
 root_same system ps (Disproved k values) = refl
+
+-- ---- the statements behind the first i
+abbrev pub past : ℕ → Statements → Statements
+past zero ss = ss
+past (suc i) no_statement = no_statement
+past (suc i) (statement s ss) = past i ss
+
+pub past_more : (i : ℕ) (ss : Statements) → i < count ss → past i ss ≡ statement (part_at i ss) (past (suc i) ss)
+past_more i no_statement h = absurd (omega arith)
+past_more zero (statement s ss) h = refl
+past_more (suc i) (statement s ss) h = past_more i ss (omega arith)

@@ -15,8 +15,8 @@ use Rattle.tv_cert.specs.Obligations.{truth_targets}
 use Rattle.tv_cert.specs.Pieces.{rows_of, ranks_of, goes, pieces_at}
 use Rattle.tv_cert.specs.OwesViews.{falls_where}
 use Rattle.tv_cert.specs.Shapes.{owed_count}
-use Rattle.tv_cert.specs.Targets.{owed_into, owed_lists, target_rows, no_fall, fall_from}
-use Rattle.tv_cert.specs.TargetViews.{changed_lists, counts_of, falls_past, owed_at}
+use Rattle.tv_cert.specs.Targets.{changed_lists, owed_into, target_rows, no_fall, fall_from}
+use Rattle.tv_cert.specs.TargetViews.{counts_of, falls_past, owed_at}
 
 one_more : {A B : Type 0} (x : A) (y : B) (o : Option (List A)) (u : Option (List B)) → option_map length o ≡ option_map length u → option_map length (option_map (λ xs. x ∷ xs) o) ≡ option_map length (option_map (λ ys. y ∷ ys) u)
 one_more x y None None e = refl
@@ -81,13 +81,6 @@ module _ (f g : Linear → Known) where
 
 pub counts_at : (change : Linear → Known) (ts : Targets) (k j : ℕ) → owed_count (owed_at change ts) k j ≡ counts_of ts k j
 counts_at change ts k j = counts_same change given ts k j
-
--- lists of rows as they are given
-pub given_lists : (lists : List (List Linear)) → changed_lists given lists ≡ owed_lists lists
-given_lists lists = λ i k j. same k j i where
-  same : (k j : ℕ) → changed_lists given lists k j ≡ owed_lists lists k j
-  same k zero = refl
-  same k (suc j) = refl
 
 -- how many rows are owed, where it is known which
 pub counts_as : (change : Linear → Known) (ts : Targets) (owed : ℕ → ℕ → Option (List Known)) → owed_at change ts ≡ owed → (k j : ℕ) → counts_of ts k j ≡ owed_count owed k j

@@ -8,6 +8,7 @@ use Rattle.tv_refute.specs.Built.{change_of}
 use Rattle.tv_linear.specs.Views.{rows_seen}
 use Rattle.tv_cert.specs.declared.fall.Fall.{Fall}
 use Rattle.tv_cert.specs.declared.owed.Entered.{Entered}
+use Rattle.tv_cert.specs.declared.owed.TakenGuards.{TakenGuards}
 use Rattle.tv_cert.specs.declared.owed.OwedRows.{OwedRows}
 
 -- the rows, or none
@@ -24,9 +25,14 @@ fall_listed change (Some fall) = listed (fall_rows_at (as_given (rows_seen fall.
 abbrev pub entered_listed : (Linear → Known) → Entered → List Known
 entered_listed change entered = map change (rows_seen entered.rows) ++ fall_listed change entered.fall
 
--- the guards of the case that is taken, then the rows of the target and the fall
+-- the guards of the case that is taken, where one is, which are changed
+abbrev pub guards_listed : Option TakenGuards → List Known
+guards_listed None = []
+guards_listed (Some guards) = map (change_of guards.change.now) guards.rows.now
+
+-- the guards, then the rows of the target and the fall
 abbrev pub owed_listed : OwedRows → List Known
-owed_listed owed = map (change_of owed.guards_change.now) owed.guards.now ++ entered_listed (change_of owed.change.now) owed.entered
+owed_listed owed = guards_listed owed.guards ++ entered_listed (change_of owed.change.now) owed.entered
 
 -- it is told whether the multipliers show the row at a place, where n columns are known to meet these rows
 abbrev pub ShowsRow : ℕ → List Known → List Known → ℕ → List ℤ → Bool → Type 0

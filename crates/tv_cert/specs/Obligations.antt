@@ -16,7 +16,7 @@ use Rattle.tv_cert.specs.declared.node.Proof.TheVariants.{Covered, Chosen}
 use Rattle.tv_cert.specs.declared.node.Kind.{Kind}
 use Rattle.tv_cert.specs.declared.node.Kind.TheVariants as kind
 use Rattle.tv_cert.specs.Pieces.{place_of, rows_of, ranks_of}
-use Rattle.tv_cert.specs.Targets.{owed_into, owed_lists, owed_nothing, no_fall, fall_from}
+use Rattle.tv_cert.specs.Targets.{owed_into, changed_lists, owed_nothing, no_fall, fall_from}
 use Rattle.tv_cert.specs.Choices.{IsMetChoice, drawn_change}
 
 -- what a certificate is about: the cases of a program, and the lists of rows of a comparison, one of which is met where it is true
@@ -74,7 +74,7 @@ cover_of number k about p into =
 -- a cover of the piece into lists of rows
 abbrev pub atom_of : ℕ → About → Marked → List (List Linear) → Obligation
 atom_of number about p targets =
-    record { node = number; kind = kind.Atom; owed = a_cover about.system.variables (as_given (rows_of p)) (owed_lists targets) }
+    record { node = number; kind = kind.Atom; owed = a_cover about.system.variables (as_given (rows_of p)) (changed_lists given targets) }
 
 -- a row of a target after a case
 abbrev pub case_change : ℕ → LinearCase → Linear → Known

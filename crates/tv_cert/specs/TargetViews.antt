@@ -1,8 +1,7 @@
 -- The rows that are owed on entering a target, whatever is entered.
-use Rattle.std.specs.Prelude.{ℕ, zero, suc, ◌<◌, ◌^◌, List, [], length, map, slice_get, Option, None, Some}
+use Rattle.std.specs.Prelude.{ℕ, ◌<◌, ◌^◌, List, [], length, map, Option, None, Some}
 use Rattle.std.specs.Borrow.{Bor}
 use Rattle.std.specs.List.{flat_map}
-use Rattle.std.specs.Option.{option_map}
 use Rattle.tv_linear.specs.Linear.{Linear}
 use Rattle.tv_linear.specs.Known.{Known, given}
 use Rattle.tv_linear.specs.Covers.{no_target}
@@ -15,17 +14,12 @@ use Rattle.tv_cert.specs.NodeViews.{pieces_list}
 use Rattle.tv_cert.specs.Obligations.{truth_targets}
 use Rattle.tv_cert.specs.Pieces.{ranks_of}
 use Rattle.tv_cert.specs.Shapes.{owed_count}
-use Rattle.tv_cert.specs.Targets.{owed_into, no_fall, fall_from}
+use Rattle.tv_cert.specs.Targets.{changed_lists, owed_into, no_fall, fall_from}
 
 -- the falls that are owed from a piece, or none
 abbrev pub falls_past : (Linear → Known) → Option (Bor Marked) → Marked → ℕ → Option (List Known)
 falls_past change None = no_fall
 falls_past change (Some p) = fall_from change (ranks_of p.now)
-
--- the targets are lists of rows, each of which is changed
-abbrev pub changed_lists : (Linear → Known) → List (List Linear) → ℕ → ℕ → Option (List Known)
-changed_lists change lists k zero = option_map (map change) (slice_get lists k)
-changed_lists change lists k (suc j) = None
 
 -- the rows that are owed on entering a target by a fall, which are changed
 abbrev pub owed_at : (Linear → Known) → Targets → ℕ → ℕ → Option (List Known)

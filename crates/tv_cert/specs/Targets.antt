@@ -1,7 +1,7 @@
 use Rattle.std.specs.Prelude.{ℕ, zero, suc, List, [], ◌∷◌, ◌++◌, map, slice_get, Option, None, Some, if◌then◌else◌}
 use Rattle.std.specs.Option.{option_map}
 use Rattle.tv_linear.specs.Linear.{Linear}
-use Rattle.tv_linear.specs.Known.{Known, as_given}
+use Rattle.tv_linear.specs.Known.{Known, given, as_given}
 use Rattle.tv_linear.specs.Falls.{fall_rows}
 use Rattle.tv_cert.specs.declared.node.Marked.{Marked}
 use Rattle.tv_cert.specs.Pieces.{rows_of, ranks_of, goes, pieces_at}
@@ -16,14 +16,14 @@ target_rows change fall (Some q) j = option_map (λ falls. map change (rows_of q
 abbrev pub owed_into : List Marked → ℕ → (Linear → Known) → (Marked → ℕ → Option (List Known)) → ℕ → ℕ → Option (List Known)
 owed_into ps l change fall k j = target_rows change fall (slice_get (pieces_at ps l) k) j
 
--- the targets are lists of rows
-abbrev pub owed_lists : List (List Linear) → ℕ → ℕ → Option (List Known)
-owed_lists targets k zero = option_map as_given (slice_get targets k)
-owed_lists targets k (suc j) = None
+-- the targets are lists of rows, each of which is changed
+abbrev pub changed_lists : (Linear → Known) → List (List Linear) → ℕ → ℕ → Option (List Known)
+changed_lists change targets k zero = option_map (map change) (slice_get targets k)
+changed_lists change targets k (suc j) = None
 
 -- one target without rows
 abbrev pub owed_nothing : ℕ → ℕ → Option (List Known)
-owed_nothing = owed_lists ([] ∷ [])
+owed_nothing = changed_lists given ([] ∷ [])
 
 -- no fall is owed: j is 0
 abbrev pub no_fall : Marked → ℕ → Option (List Known)

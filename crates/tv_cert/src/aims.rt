@@ -101,7 +101,7 @@ fn aims_of(alloc: Global, parts: &[Tree], variables: u32) -> Result<Vec<Aim>, Al
 }
 
 /// What a normal formula states, its comparisons as lists of rows.
-pub fn aim_of(alloc: Global, formula: &Formula) -> Result<Aim, AllocError>
+pub(crate) fn aim_of(alloc: Global, formula: &Formula) -> Result<Aim, AllocError>
     requires few { variables_of formula.now < 2 ^ 32 - 1 }
     requires normal { IsTrue (is_normal (property_of formula.now)) }
     ensures { IfOk result (λ aim. aim_states aim ≡ stated (comparison_lists (variables_of formula.now)) (property_of formula.now)) }

@@ -20,15 +20,14 @@ mod visiting;
 mod visitor;
 
 pub use aim::Aim;
-pub use aims::aim_of;
 pub use choosing::Choosing;
 pub use claim::Claim;
 pub use failing::Failing;
 pub use node::{Kind, Mark, Marked, Node, Proof, Verdict};
-pub use owed::{Entered, OwedRows};
+pub use owed::{Entered, OwedRows, TakenGuards};
 pub use owes::{Destination, Owes};
 pub use parts::part;
-pub use pieces::{Pieces, joined_piece_at};
+pub use pieces::Pieces;
 pub use take::Take;
 pub use targets::{Targets, targets_after};
 pub use visiting::visit_pieces;

@@ -16,11 +16,17 @@ pub struct Entered<'a> {
     pub fall: Option<Fall<'a>>,
 }
 
-/// All rows to be shown by lines that follow one another: the guards of a case that is taken, and what is owed on entering a target.
+/// The guards of a case that is taken, and how they are changed.
+#[derive(Drop)]
+pub struct TakenGuards<'a, 'b> {
+    pub rows: &'a [Row],
+    pub change: &'b Change<'b>,
+}
+
+/// All rows to be shown by lines that follow one another: the guards of a case where one is taken, and what is owed on entering a target.
 #[derive(Drop)]
 pub struct OwedRows<'a, 'b> {
-    pub guards: &'a [Row],
-    pub guards_change: &'b Change<'b>,
+    pub guards: Option<TakenGuards<'a, 'b>>,
     pub entered: Entered<'a>,
     /// How the rows of the target and its ranks are changed.
     pub change: &'b Change<'b>,
@@ -105,7 +111,11 @@ impl OwedRows<'_, '_> {
     pub fn count(&self) -> u128
         ensures { result ≡ length (owed_listed self.now) }
     {
-        self.guards.len() as u128 + self.entered.count() as u128
+        let entered = self.entered.count() as u128;
+        match &self.guards {
+            None => entered,
+            Some(guards) => guards.rows.len() as u128 + entered,
+        }
     }
 
     /// Whether the multipliers show the row at a place.
@@ -119,13 +129,16 @@ impl OwedRows<'_, '_> {
         requires { place < length (owed_listed self.now) }
         ensures { ShowsRow columns (known_at frames.now) (owed_listed self.now) place multipliers.now result }
     {
-        let guards = self.guards.len() as u128;
-        if place < guards {
-            let row = RowView::of(&self.guards[place as usize]);
-            return shows(columns, frames, self.guards_change, row, multipliers);
+        let mut further = place;
+        if let Some(guards) = &self.guards {
+            let count = guards.rows.len() as u128;
+            if place < count {
+                let row = RowView::of(&guards.rows[place as usize]);
+                return shows(columns, frames, guards.change, row, multipliers);
+            }
+            further = place - count;
         }
-        let place = place - guards;
         self.entered
-            .is_shown(columns, frames, self.change, place, multipliers)
+            .is_shown(columns, frames, self.change, further, multipliers)
     }
 }

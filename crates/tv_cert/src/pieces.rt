@@ -145,7 +145,7 @@ fn count_at(pieces: &[Marked], location: u32) -> usize
 }
 
 /// The piece at place `k` among those of all nodes at the location, in the order of the nodes.
-pub fn joined_piece_at(nodes: &[Node], location: u32, k: u32) -> Option<&Marked>
+pub(crate) fn joined_piece_at(nodes: &[Node], location: u32, k: u32) -> Option<&Marked>
     ensures { let there = pieces_at (flat_map (λ a. a) (map pieces_list nodes.now)) location in
         MatchOption result (slice_get there k ≡ None) (λ q. slice_get there k ≡ Some q.now) }
 {

@@ -25,7 +25,7 @@ use Rattle.tv_cert.specs.Pieces.{place_of, ranks_of}
 use Rattle.tv_cert.specs.Shapes.{ChoiceShape, ListsShape, NoStepShape, TakeShape, owed_count}
 use Rattle.tv_cert.specs.Targets.{owed_into}
 use Rattle.tv_cert.specs.TargetViews.{AreFewAt}
-use Rattle.tv_cert.proofs.TargetLemmas.{count_same, given_lists}
+use Rattle.tv_cert.proofs.TargetLemmas.{count_same}
 use Rattle.tv_cert_reader.specs.CertificateLines.{row_lines, row_line, by_lines, cover_lines, choice_lines}
 use Rattle.tv_cert_reader.specs.declared.kind.LineKind.{LineKind}
 use Rattle.tv_cert_reader.specs.declared.kind.LineKind.TheVariants.{Syntax, Deep, Shape}
@@ -53,7 +53,7 @@ falls_few p into l k j n true a b e = (let h = few_ranked p into l k j n e in (o
 falls_few p into l k j n false a b e = (let h = few_into None into l k j n e in (omega (arith, h.0, a), omega (arith, h.1)))
 
 pub few_taken : (system : CaseSystem) (p : Marked) (destination : Destination) (case : LinearCase) (draws : List Linear) (k j n : ℕ) → AreFewAt p destination → owed_count (destination_owes system.variables p destination case draws) k j ≡ Some n → (k < 2 ^ 32) × (j < 2 ^ 32)
-few_taken system p Anywhere case draws k j n few e = (let h = few_lists ([] ∷ []) k j n (subst (λ o. option_map length (o k j) ≡ Some n) (sym (given_lists ([] ∷ []))) e) in (omega (arith, h.0), omega (arith, h.1)))
+few_taken system p Anywhere case draws k j n few e = (let h = few_lists ([] ∷ []) k j n e in (omega (arith, h.0), omega (arith, h.1)))
 few_taken system p (Into pieces falls) case draws k j n few e =
     falls_few p pieces.now case.to k j n falls few.0 few.1 (sym (count_same (drawn_change system.variables case draws) given falls p pieces.now case.to k j) ∙ e)
 

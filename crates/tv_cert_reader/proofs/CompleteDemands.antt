@@ -20,7 +20,7 @@ use Rattle.tv_cert.specs.declared.node.Kind.{Kind}
 use Rattle.tv_cert.specs.declared.node.Kind.TheVariants as kind
 use Rattle.tv_cert.specs.Pieces.{place_of, rows_of, ranks_of, goes, pieces_at}
 use Rattle.tv_cert.specs.AboutSystem.{about_of}
-use Rattle.tv_cert.specs.Targets.{owed_into, owed_lists, owed_nothing, target_rows, no_fall, fall_from}
+use Rattle.tv_cert.specs.Targets.{changed_lists, owed_into, owed_nothing, target_rows, no_fall, fall_from}
 use Rattle.tv_cert.specs.Choices.{drawn_change}
 use Rattle.tv_cert.specs.Obligations.{Obligation, step_fall, choice_fall, atom_of, cover_of, step_of, steps_of, choice_of, choice_into, truth_targets, hold_side, end_sides, go_of, fix_of, first_of, second_of}
 use Rattle.tv_cert.specs.Nodes.{piece_owes, node_owes}
@@ -28,7 +28,7 @@ use Rattle.tv_cert.specs.Shapes.{owed_count, PieceShape}
 use Rattle.tv_cert.specs.Statements.{Statement, rows, here, elsewhere, ends, never_ends, each_of, one_of, after, along, unsaid}
 use Rattle.tv_cert.proofs.PieceLemmas.{piece_got}
 use Rattle.tv_cert.proofs.TargetLemmas.{count_same}
-use Rattle.tv_shape.proofs.CountLemmas.{fall_long, fall_some}
+use Rattle.tv_cert_reader.proofs.FallLemmas.{fall_long, fall_some}
 use Rattle.tv_cert_reader.specs.Demands.{outline, outlines, outlines_at, fall_count, entered_count, into_counts, list_counts, truth_counts, IsDrawFree}
 use Rattle.tv_linear.proofs.KnownLemmas.{length-given}
 
@@ -153,7 +153,7 @@ into_falls system m done p h going into all l change = λ i k j. (at k j) i
         ∙ entered_falls system m done (ranks_of p) (ranks_there system m done p h going) (slice_get (pieces_at into l) k) (λ x got. All-contains (PieceShape system m done) into x all (piece_got into l k x got).1) j
         ∙ ap (λ o. entered_count (Some m) o j) (sym (outline_got into l k))
 
-pub lists_counted : (lists : List (List Linear)) (k j : ℕ) → owed_count (owed_lists lists) k j ≡ list_counts (map length lists) k j
+pub lists_counted : (lists : List (List Linear)) (k j : ℕ) → owed_count (changed_lists given lists) k j ≡ list_counts (map length lists) k j
 lists_counted lists k (suc j) = refl
 lists_counted lists k zero = each (slice_get lists k) ∙ sym (slice_get-map length lists k)
   where

@@ -14,15 +14,20 @@ use Rattle.tv_cert.specs.declared.node.Marked.{Marked}
 use Rattle.tv_cert.specs.NodeViews.{pieces_list}
 use Rattle.tv_cert.specs.Obligations.{truth_targets}
 use Rattle.tv_cert.specs.Pieces.{place_of, rows_of, ranks_of, goes, pieces_at}
-use Rattle.tv_cert.specs.Targets.{target_rows, owed_into, no_fall, fall_from}
+use Rattle.tv_cert.specs.Targets.{changed_lists, target_rows, owed_into, no_fall, fall_from}
 use Rattle.tv_cert.specs.declared.targets.Targets.{Targets}
 use Rattle.tv_cert.specs.declared.targets.Targets.TheVariants as targets
-use Rattle.tv_cert.specs.TargetViews.{changed_lists, falls_past, counts_of, ranks_past, AreFew}
-use Rattle.tv_shape.proofs.CountLemmas.{fall_some, none_or}
+use Rattle.tv_cert.specs.TargetViews.{falls_past, counts_of, ranks_past, AreFew}
+use Rattle.tv_cert_reader.proofs.FallLemmas.{fall_some}
 use Rattle.tv_cert_reader.specs.LineGrammar.{with_two}
 use Rattle.tv_cert_reader.specs.Covers.{IsTarget, NamesNone}
 use Rattle.tv_cert.proofs.RoomLemmas.{few_left}
 use Rattle.std.proofs.lemmas.Option.{slice_get_within}
+
+-- what is not there
+pub none_or : {X : Type 0} (o : Option X) → ((x : X) → o ≡ Some x → ⊥) → o ≡ None
+none_or None h = refl
+none_or (Some x) h = absurd (h x refl)
 
 -- ---- targets and falls that are there are few
 

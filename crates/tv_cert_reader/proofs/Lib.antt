@@ -21,6 +21,7 @@ pub mod PartLemmas
 pub mod AppendedLemmas
 pub mod HeadLemmas
 pub mod RegionLemmas
+pub mod FallLemmas
 pub mod CountLemmas
 pub mod SideLemmas
 pub mod CoverLemmas

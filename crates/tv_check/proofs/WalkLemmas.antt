@@ -8,21 +8,12 @@ use Rattle.tv_cert.specs.Nodes.{size, node_entries, own_entries, HasParts}
 use Rattle.tv_cert.specs.Statements.{Statement, Statements, no_statement, statement, parts_of, count, part_at}
 use Rattle.tv_cert.specs.declared.failing.Failing.{Failing}
 use Rattle.tv_cert.proofs.NodeLemmas.{sizes_list, kids_of, size_is}
+use Rattle.tv_cert.proofs.StatedLemmas.{past, past_more}
 use Rattle.tv_cert.proofs.EntryLists.{listed_entries, parts_list, node_entries_are}
 use Rattle.tv_cert.specs.FirstFailing.{IsFirstFailing}
 use Rattle.tv_cert.proofs.FailingLemmas.{failing_left, all_join, failing_right}
 
 -- ---- the loop over the children
-abbrev pub past : ℕ → Statements → Statements
-past zero ss = ss
-past (suc i) no_statement = no_statement
-past (suc i) (statement s ss) = past i ss
-
-past_more : (i : ℕ) (ss : Statements) → i < count ss → past i ss ≡ statement (part_at i ss) (past (suc i) ss)
-past_more i no_statement h = absurd (omega arith)
-past_more zero (statement s ss) h = refl
-past_more (suc i) (statement s ss) h = past_more i ss (omega arith)
-
 fits_many : (ss : Statements) (kids : List Node) → parts_list ss kids → count ss ≡ length kids
 fits_many no_statement [] h = refl
 fits_many no_statement (a ∷ kids) h = absurd h

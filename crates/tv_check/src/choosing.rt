@@ -14,7 +14,7 @@ ghost use Rattle.tv_cert.specs.OwesViews.{destination_owes};
 use crate::entering::Entering;
 use crate::shown::rows_are_shown;
 use tv_cases::{Case, Cases};
-use tv_cert::{Choosing, OwedRows, Take, Targets, targets_after};
+use tv_cert::{Choosing, OwedRows, Take, TakenGuards, Targets, targets_after};
 use tv_linear::{ChoiceTree, Cover, RowView, Rows};
 use tv_refute::{Built, Change, Frames, Terms, cover_is_met, refutes};
 
@@ -61,12 +61,13 @@ fn no_step_is_met(
 /// Whether the refutations show the guards of the case, with terms for its draws, and then the target.
 fn take_is_shown(choosing: &Choosing, frames: &Frames, case: &Case, take: &Take) -> bool
     ensures { let taken = case_view case.now in
-        let owes = destination_owes choosing.now.columns choosing.now.piece.now choosing.now.destination.now in
+        let n = (cases_of choosing.now.about.now).variables in
+        let owes = destination_owes n choosing.now.piece.now choosing.now.destination.now in
         let entered = owes taken take.now.draws.now take.now.target take.now.fall in
-        let rows = option_map (λ rows. drawn_guards choosing.now.columns taken take.now.draws.now ++ rows) entered in
-        IsTrue result ↔ ShownAt choosing.now.columns (known_at frames.now) rows (map (λ l. l.items) take.now.refutations.now) }
+        let rows = option_map (λ rows. drawn_guards n taken take.now.draws.now ++ rows) entered in
+        IsTrue result ↔ ShownAt n (known_at frames.now) rows (map (λ l. l.items) take.now.refutations.now) }
 {
-    let columns = choosing.columns;
+    let columns = choosing.about.variables();
     let targets = targets_after(choosing.piece, case, choosing.destination);
     let Some(entered) = targets.entered(take.target, take.fall) else {
         return false;
@@ -81,9 +82,12 @@ fn take_is_shown(choosing: &Choosing, frames: &Frames, case: &Case, take: &Take)
     };
     let change = Change::Twice(&after, &drawn);
     let guards_change = Change::Once(&drawn);
+    let guards = TakenGuards {
+        rows: &case.guards.rows,
+        change: &guards_change,
+    };
     let owed = OwedRows {
-        guards: &case.guards.rows,
-        guards_change: &guards_change,
+        guards: Some(guards),
         entered,
         change: &change,
     };
@@ -92,10 +96,11 @@ fn take_is_shown(choosing: &Choosing, frames: &Frames, case: &Case, take: &Take)
 
 /// Whether there is this case from the location, a term for each of its draws, and the refutations show its guards and the target.
 fn take_is_met(choosing: &Choosing, frames: &Frames, take: &Take) -> bool
-    ensures { let owes = destination_owes choosing.now.columns choosing.now.piece.now choosing.now.destination.now in
-        let case = slice_get (cases_of choosing.now.about.now).cases take.now.taken in
+    ensures { let system = cases_of choosing.now.about.now in
+        let owes = destination_owes system.variables choosing.now.piece.now choosing.now.destination.now in
+        let case = slice_get system.cases take.now.taken in
         let shown = map (λ l. l.items) take.now.refutations.now in
-        let met = TakeMet choosing.now.columns (place_of choosing.now.piece.now) owes (known_at frames.now) case in
+        let met = TakeMet system.variables (place_of choosing.now.piece.now) owes (known_at frames.now) case in
         IsTrue result ↔ met take.now.target take.now.fall take.now.draws.now shown }
 {
     match choosing.about.list().get(take.taken as usize) {
@@ -115,8 +120,8 @@ fn take_is_met(choosing: &Choosing, frames: &Frames, take: &Take) -> bool
 /// Whether the choice is met at the place.
 pub fn choice_is_met(choosing: &Choosing, frames: &Frames, tree: &ChoiceTree) -> bool
     ensures { let system = cases_of choosing.now.about.now in
-        let owes = destination_owes choosing.now.columns choosing.now.piece.now choosing.now.destination.now in
-        let met = IsMetChoice choosing.now.columns system.cases (place_of choosing.now.piece.now) choosing.now.stop owes in
+        let owes = destination_owes system.variables choosing.now.piece.now choosing.now.destination.now in
+        let met = IsMetChoice system.variables system.cases (place_of choosing.now.piece.now) choosing.now.stop owes in
         IsTrue result ↔ met (known_at frames.now) tree.now }
 {
     match tree {
@@ -133,9 +138,12 @@ pub fn choice_is_met(choosing: &Choosing, frames: &Frames, tree: &ChoiceTree) ->
             };
             choice_is_met(choosing, &met, holds) && choice_is_met(choosing, &not_met, fails)
         }
-        ChoiceTree::Empty(multipliers) => refutes(choosing.columns as usize, frames, multipliers),
+        ChoiceTree::Empty(multipliers) => {
+            let columns = choosing.about.variables() as usize;
+            refutes(columns, frames, multipliers)
+        }
         ChoiceTree::NoStep(covers) => {
-            let columns = choosing.columns;
+            let columns = choosing.about.variables();
             let location = choosing.piece.location();
             choosing.stop && no_step_is_met(columns, frames, location, choosing.about, covers)
         }

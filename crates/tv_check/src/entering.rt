@@ -29,8 +29,7 @@ impl tv_refute::Targets for Entering<'_, '_> {
             None => false,
             Some(entered) => {
                 let owed = OwedRows {
-                    guards: &[],
-                    guards_change: self.change,
+                    guards: None,
                     entered,
                     change: self.change,
                 };

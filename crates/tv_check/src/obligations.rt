@@ -34,7 +34,6 @@ fn piece_choice_is_met(
         above: &end,
     };
     let choosing = Choosing {
-        columns: about.variables(),
         about,
         piece,
         stop,

@@ -62,8 +62,7 @@ impl Covering<'_, '_> {
             return Err(Failure::Fault(LineKind::Shape, cursor.taken));
         };
         let owed = OwedRows {
-            guards: &[],
-            guards_change: self.change,
+            guards: None,
             entered,
             change: self.change,
         };

@@ -12,7 +12,7 @@ ghost use Rattle.tv_check_text.specs.Checking.{ChecksChoice, ChecksLists};
 
 use crate::choices::ChoiceCheck;
 use crate::shown::rows_are_shown;
-use tv_cert::{OwedRows, targets_after};
+use tv_cert::{OwedRows, TakenGuards, targets_after};
 use tv_cert_reader::{Cursor, Failure, LineKind, NumberLine, Taken, read_rows};
 use tv_linear::Row;
 use tv_lines::Head;
@@ -52,9 +52,12 @@ impl<'a> ChoiceCheck<'a> {
             unreachable!();
         };
         let guards_change = Change::Once(&drawn);
+        let guards = TakenGuards {
+            rows: &case.guards.rows,
+            change: &guards_change,
+        };
         let owed = OwedRows {
-            guards: &case.guards.rows,
-            guards_change: &guards_change,
+            guards: Some(guards),
             entered,
             change: &change,
         };

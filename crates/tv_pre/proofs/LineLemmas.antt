@@ -20,7 +20,7 @@ use Rattle.tv_cases.specs.LinearCases.{CaseSystem}
 use Rattle.tv_cert.specs.declared.node.Proof.TheVariants.{Covered}
 use Rattle.tv_cert.specs.Claims.{about_with}
 use Rattle.tv_cert.specs.Obligations.{atom_of}
-use Rattle.tv_cert.specs.Targets.{owed_lists}
+use Rattle.tv_cert.specs.Targets.{changed_lists}
 use Rattle.tv_shape.specs.Narrow.{AreNarrow, CountNarrow, CoverNarrow}
 use Rattle.tv_shape.specs.Made.{IsOffered}
 use Rattle.tv_lexrank.proofs.OfferLemmas.{met_shape}
@@ -153,11 +153,11 @@ lines_narrow : (count place k : ℕ) → All (All (IsWithin 62)) (own_lines coun
 lines_narrow count place zero = All-nil (All (IsWithin 62))
 lines_narrow count place (suc k) = All-cons (All (IsWithin 62)) (own_line count place) (own_lines count (suc place) k) (line_narrow place (count - place - 1)) (lines_narrow count (suc place) k)
 
-own_met : (n k : ℕ) (rows : List Linear) (lists : List (List Linear)) (tree : CoverTree) → slice_get lists k ≡ Some rows → All IsNarrow rows → IsOwnCover (length rows) k tree → IsMetCover n (owed_lists lists) (as_given rows) tree
+own_met : (n k : ℕ) (rows : List Linear) (lists : List (List Linear)) (tree : CoverTree) → slice_get lists k ≡ Some rows → All IsNarrow rows → IsOwnCover (length rows) k tree → IsMetCover n (changed_lists given lists) (as_given rows) tree
 own_met n k rows lists (cover.Split' r p a q b) got narrow h = absurd h
 own_met n k rows lists (cover.Empty ms) got narrow h = absurd h
 own_met n k rows lists (cover.Into target fall ls) got narrow h =
-    subst (λ x. x) (sym (λ i. ShownAt n (as_given rows) (owed_lists lists (h.0 i) (h.1 i)) (h.2 i)))
+    subst (λ x. x) (sym (λ i. ShownAt n (as_given rows) (changed_lists given lists (h.0 i) (h.1 i)) (h.2 i)))
     (subst (λ o. ShownAt n (as_given rows) (option_map as_given o) (own_lines (length rows) 0 (length rows))) (sym got) (own_shown n [] rows narrow))
 
 own_narrow : (count k : ℕ) (tree : CoverTree) → k < 2 ^ 32 → IsOwnCover count k tree → CoverNarrow tree
@@ -184,7 +184,7 @@ own_offered about number l k count rows lists tree got many few narrow own =
     let h = subst (λ c. IsOwnCover c k tree) many own in
     let met = own_met about.variables k rows lists tree got narrow h in
     record {
-      shape = (met_shape about.variables (owed_lists lists) (as_given rows) tree (own_even about.variables (length rows) k tree h) met, own_splits (length rows) k tree h);
+      shape = (met_shape about.variables (changed_lists given lists) (as_given rows) tree (own_even about.variables (length rows) k tree h) met, own_splits (length rows) k tree h);
       met = met;
       narrow = own_narrow (length rows) k tree few h;
     }

@@ -5,10 +5,6 @@ use Rattle.tv_linear.specs.Known.{Known, IsKnownMet}
 abbrev pub ShareNoPoint : ℕ → List Known → Type 0
 ShareNoPoint n rows = (xs : List ℤ) → length xs ≡ n → All (IsKnownMet xs) rows → ⊥
 
--- each point of n columns that meets the known rows meets these rows too
-abbrev pub ImplyAll : ℕ → List Known → List Known → Type 0
-ImplyAll n known rows = (xs : List ℤ) → length xs ≡ n → All (IsKnownMet xs) known → All (IsKnownMet xs) rows
-
 -- each point of n columns that meets the known rows meets this row too
 abbrev pub Imply : ℕ → List Known → Known → Type 0
 Imply n known row = (xs : List ℤ) → length xs ≡ n → All (IsKnownMet xs) known → IsKnownMet xs row

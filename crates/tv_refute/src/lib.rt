@@ -23,6 +23,6 @@ pub use cover::{Targets, cover_is_met};
 pub use falls::{Rank, shows_less, shows_not_below};
 pub use frames::Frames;
 pub use met::{meets, meets_all};
-pub use refute::{refutes, refutes_denial};
-pub use shown::{Change, shown_rows, shows};
+pub use refute::refutes;
+pub use shown::{Change, shows};
 pub use terms::Terms;

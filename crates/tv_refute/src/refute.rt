@@ -89,7 +89,12 @@ fn are_zero(numbers: &[i128], count: usize) -> bool
 }
 
 /// Whether the multipliers refute the known rows together with the denial of a row.
-pub fn refutes_denial(columns: usize, frames: &Frames, row: &Built, multipliers: &[i64]) -> bool
+pub(crate) fn refutes_denial(
+    columns: usize,
+    frames: &Frames,
+    row: &Built,
+    multipliers: &[i64],
+) -> bool
     ensures exact { let rows = known_at frames.now ++ denied (built row.now) ∷ [] in
         IsTrue result ↔ Refutes columns rows multipliers.now }
     ensures sound { IsTrue result → Imply columns (known_at frames.now) (built row.now) }

@@ -1,17 +1,16 @@
-ghost use Rattle.std.specs.Prelude.{◌↔◌, ◌++◌, ◌∷◌, [], IsTrue, map};
+ghost use Rattle.std.specs.Prelude.{◌↔◌, ◌++◌, ◌∷◌, [], IsTrue};
 ghost use Rattle.tv_linear.specs.Known.{denied};
 ghost use Rattle.tv_linear.specs.Refutation.{Refutes};
-ghost use Rattle.tv_linear.specs.Covers.{Shown};
 ghost use Rattle.tv_refute.specs.Built.{change_of};
 ghost use Rattle.tv_refute.specs.Frames.{known_at};
-ghost use Rattle.tv_refute.specs.Points.{Imply, ImplyAll};
-ghost use Rattle.tv_linear.specs.Views.{row_seen, rows_seen};
+ghost use Rattle.tv_refute.specs.Points.{Imply};
+ghost use Rattle.tv_linear.specs.Views.{row_seen};
 
 use crate::built::Built;
 use crate::frames::Frames;
 use crate::refute::refutes_denial;
 use crate::terms::Terms;
-use tv_linear::{RowView, Rows};
+use tv_linear::RowView;
 
 /// How the rows of a target are changed before they are shown: terms are put in for their columns, once or
 /// twice.
@@ -47,28 +46,4 @@ pub fn shows(
             refutes_denial(columns, frames, &third, multipliers)
         }
     }
-}
-
-/// Whether there is a list of multipliers for each row, and it shows the changed row.
-pub fn shown_rows(
-    columns: usize,
-    frames: &Frames,
-    change: &Change,
-    owed: Rows,
-    lists: &[Vec<i64>],
-) -> bool
-    ensures exact { IsTrue result ↔ Shown columns (known_at frames.now)
-        (map (change_of change.now) (rows_seen owed.entry)) (map (λ l. l.items) lists.now) }
-    ensures sound { IsTrue result →
-        ImplyAll columns (known_at frames.now) (map (change_of change.now) (rows_seen owed.entry)) }
-{
-    if owed.len() != lists.len() {
-        return false;
-    }
-    for (i, multipliers) in lists.iter().enumerate() {
-        if !shows(columns, frames, change, owed.row(i), multipliers) {
-            return false;
-        }
-    }
-    true
 }

@@ -16,7 +16,7 @@ cover_owed t n m k known owed counts tree p q same few h =
     let e : CoverShape n counts k tree ≡ CoverShape m (owed_count owed) (length known) tree = (λ i. CoverShape (p i) (λ x y. same x y i) (q i) tree) in
     (λ w. (subst (λ (x : Type 0). x) e (h.0 w), few), λ w. h.1 (subst (λ (x : Type 0). x) (sym e) w.0))
 
-pub choice_owed : (t : Bool) (n m l k : ℕ) (cases : List LinearCase) (known : List Known) (stop : Bool) (owed : ℕ → LinearCase → List Linear → ℕ → ℕ → Option (List Known)) (tree : ChoiceTree) → n ≡ m → k ≡ length known → choice_splits tree ≤ 128 → (IsTrue t ↔ ChoiceShape n cases l stop (owed n) k tree) → IsTrue t ↔ ProofShape (a_choice m cases l stop (owed m) known) (Chosen tree)
-choice_owed t n m l k cases known stop owed tree p q few h =
-    let e : ChoiceShape n cases l stop (owed n) k tree ≡ ChoiceShape m cases l stop (owed m) (length known) tree = (λ i. ChoiceShape (p i) cases l stop (owed (p i)) (q i) tree) in
+pub choice_owed : (t : Bool) (n l k : ℕ) (cases : List LinearCase) (known : List Known) (stop : Bool) (owed : LinearCase → List Linear → ℕ → ℕ → Option (List Known)) (tree : ChoiceTree) → k ≡ length known → choice_splits tree ≤ 128 → (IsTrue t ↔ ChoiceShape n cases l stop owed k tree) → IsTrue t ↔ ProofShape (a_choice n cases l stop owed known) (Chosen tree)
+choice_owed t n l k cases known stop owed tree q few h =
+    let e : ChoiceShape n cases l stop owed k tree ≡ ChoiceShape n cases l stop owed (length known) tree = (λ i. ChoiceShape n cases l stop owed (q i) tree) in
     (λ w. (subst (λ (x : Type 0). x) e (h.0 w), few), λ w. h.1 (subst (λ (x : Type 0). x) (sym e) w.0))

@@ -6,6 +6,7 @@ use Rattle.tv_cert.specs.declared.node.Node.{Node, Node', Row_of-Node, end_of-No
 use Rattle.tv_cert.specs.Nodes.{size}
 use Rattle.tv_cert.specs.Statements.{Statement, Statements, no_statement, statement, parts_of, count, part_at}
 use Rattle.tv_cert.proofs.NodeLemmas.{sizes_list, kids_of, out_is, size_is}
+use Rattle.tv_cert.proofs.StatedLemmas.{past, past_more}
 use Rattle.tv_shape.specs.Stations.{Station, station, stations, kid_stations, AreRight, IsRight, IsFaultAt, IsFirstMisshapen}
 use Rattle.tv_shape.specs.declared.fault.ShapeFault.{ShapeFault}
 
@@ -46,16 +47,6 @@ pub misshapen_here : (system : CaseSystem) (t : Station) (ts : List Station) (f 
 misshapen_here system t ts f h = record { before = []; wrong = t; after = ts; parts = refl; right = tt; fault = h }
 
 -- ---- the loop over the children
-abbrev pub past : ℕ → Statements → Statements
-past zero ss = ss
-past (suc i) no_statement = no_statement
-past (suc i) (statement s ss) = past i ss
-
-past_more : (i : ℕ) (ss : Statements) → i < count ss → past i ss ≡ statement (part_at i ss) (past (suc i) ss)
-past_more i no_statement h = absurd (omega arith)
-past_more zero (statement s ss) h = refl
-past_more (suc i) (statement s ss) h = past_more i ss (omega arith)
-
 -- where the walk stands before child i
 pub record Stands (system : CaseSystem) (ss : Statements) (kids : List Node) (start depth next i : ℕ) : Type 0 where
   pub done : List Station

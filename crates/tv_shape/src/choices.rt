@@ -17,7 +17,8 @@ use tv_linear::{ChoiceTree, Cover, Row, have_columns};
 /// Whether the target after the case owes so many rows.
 fn destination_owes_rows(choosing: &Choosing, case: &Case, take: &Take, rows: usize) -> bool
     ensures { let taken = case_view case.now in
-        let owes = destination_owes choosing.now.columns choosing.now.piece.now choosing.now.destination.now in
+        let system = cases_of choosing.now.about.now in
+        let owes = destination_owes system.variables choosing.now.piece.now choosing.now.destination.now in
         IsTrue result ↔ (owed_count (owes taken take.now.draws.now) take.now.target take.now.fall ≡ Some rows) }
 {
     let targets = targets_after(choosing.piece, case, choosing.destination);
@@ -35,9 +36,10 @@ fn draws_fit(columns: u32, case: &Case, draws: &[Row]) -> bool
 /// its guards and the target.
 fn take_has_shape(choosing: &Choosing, known: u128, take: &Take) -> bool
     requires { known < 2 ^ 65 }
-    ensures { let owes = destination_owes choosing.now.columns choosing.now.piece.now choosing.now.destination.now in
-        let case = slice_get (cases_of choosing.now.about.now).cases take.now.taken in
-        let shape = TakeShape choosing.now.columns choosing.now.piece.now.location owes known case in
+    ensures { let system = cases_of choosing.now.about.now in
+        let owes = destination_owes system.variables choosing.now.piece.now choosing.now.destination.now in
+        let case = slice_get system.cases take.now.taken in
+        let shape = TakeShape system.variables choosing.now.piece.now.location owes known case in
         IsTrue result ↔ shape take.now.target take.now.fall take.now.draws.now (map (λ l. l.items) take.now.refutations.now) }
 {
     match choosing.about.list().get(take.taken as usize) {
@@ -46,7 +48,7 @@ fn take_has_shape(choosing: &Choosing, known: u128, take: &Take) -> bool
             let guards = case.guards.rows.len();
             let lists = take.refutations;
             case.from == choosing.piece.location()
-                && draws_fit(choosing.columns, case, take.draws)
+                && draws_fit(choosing.about.variables(), case, take.draws)
                 && lists.len() >= guards
                 && destination_owes_rows(choosing, case, take, lists.len() - guards)
                 && have_length(lists, known + 1)
@@ -92,11 +94,11 @@ fn no_step_has_shape(
 pub fn choice_has_shape(choosing: &Choosing, known: u128, tree: &ChoiceTree) -> bool
     requires { known + choice_splits tree.now < 2 ^ 65 }
     ensures { let system = cases_of choosing.now.about.now in
-        let owes = destination_owes choosing.now.columns choosing.now.piece.now choosing.now.destination.now in
-        let shape = ChoiceShape choosing.now.columns system.cases choosing.now.piece.now.location choosing.now.stop owes known in
+        let owes = destination_owes system.variables choosing.now.piece.now choosing.now.destination.now in
+        let shape = ChoiceShape system.variables system.cases choosing.now.piece.now.location choosing.now.stop owes known in
         IsTrue result ↔ shape tree.now }
 {
-    let columns = choosing.columns;
+    let columns = choosing.about.variables();
     match tree {
         ChoiceTree::Split(row, holds, fails) => {
             row.columns() == columns

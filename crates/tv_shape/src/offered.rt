@@ -50,7 +50,6 @@ fn choice_is_owed(about: &Cases, owes: &Owes, tree: &ChoiceTree) -> bool
             destination,
         } => {
             let choosing = Choosing {
-                columns: about.variables(),
                 about,
                 piece,
                 stop: *stop,

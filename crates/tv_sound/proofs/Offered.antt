@@ -6,7 +6,7 @@ use Rattle.std.specs.Option.{option_map}
 use Rattle.tv_linear.specs.declared.cover.CoverTree.{CoverTree}
 use Rattle.tv_linear.specs.declared.choice.ChoiceTree.{ChoiceTree}
 use Rattle.tv_linear.specs.Linear.{Linear}
-use Rattle.tv_linear.specs.Known.{Known, IsKnownMet, as_given}
+use Rattle.tv_linear.specs.Known.{Known, given, IsKnownMet, as_given}
 use Rattle.tv_linear.specs.Covers.{IsMetCover}
 use Rattle.tv_linear.proofs.Covered.{covered}
 use Rattle.tv_linear.proofs.ListLaws.{test_true, contains_at}
@@ -17,7 +17,7 @@ use Rattle.tv_cert.specs.declared.node.Marked.{Marked}
 use Rattle.tv_cert.specs.declared.node.Proof.{Proof}
 use Rattle.tv_cert.specs.declared.node.Proof.TheVariants.{Covered, Chosen}
 use Rattle.tv_cert.specs.Pieces.{place_of, rows_of, InMarked}
-use Rattle.tv_cert.specs.Targets.{owed_lists}
+use Rattle.tv_cert.specs.Targets.{changed_lists}
 use Rattle.tv_cert.specs.Choices.{IsMetChoice, ChoiceFits}
 use Rattle.tv_cert.specs.Obligations.{About, a_cover, a_choice, Obligation, OwedMet, AllMet, cover_of, atom_of, step_of, steps_of, choice_of, paired}
 use Rattle.tv_cert.specs.Fits.{ProofFits}
@@ -91,7 +91,7 @@ target_is targets k (Some lines) rows e h = (lines, contains_at targets k lines 
     row_is : (p q : List Known) → ◌≡◌ {A = Option (List Known)} (Some p) (Some q) → p ≡ q
     row_is p q e = cc
 
-target_at : (targets : List (List Linear)) (k j : ℕ) (rows : List Known) → owed_lists targets k j ≡ Some rows → (lines : List Linear) × Contains targets lines × (as_given lines ≡ rows)
+target_at : (targets : List (List Linear)) (k j : ℕ) (rows : List Known) → changed_lists given targets k j ≡ Some rows → (lines : List Linear) × Contains targets lines × (as_given lines ≡ rows)
 target_at targets k zero rows h = target_is targets k (slice_get targets k) rows refl h
 target_at targets k (suc j) rows h = absurd (no_row rows h)
   where
@@ -101,6 +101,6 @@ target_at targets k (suc j) rows h = absurd (no_row rows h)
 -- a state of a piece with a met cover meets one of the lists
 pub atom_meets : (n : ℕ) (p : Marked) (targets : List (List Linear)) → AtomCovered n p targets → (s : State) → length s.values ≡ n → InMarked p s → (lines : List Linear) × Contains targets lines × All (IsKnownMet s.values) (as_given lines)
 atom_meets n p targets h s wide inside =
-    let c = covered n (owed_lists targets) (as_given (rows_of p)) h.tree s.values h.met wide (seen p s inside) in
+    let c = covered n (changed_lists given targets) (as_given (rows_of p)) h.tree s.values h.met wide (seen p s inside) in
     let t = target_at targets c.0 c.1 c.2 c.3 in
     (t.0, t.1, subst (All (IsKnownMet s.values)) (sym t.2) c.4)

@@ -8,7 +8,7 @@ use Rattle.tv_linear.specs.Covers.{IsMetCover}
 use Rattle.tv_cases.specs.LinearCases.{LinearCase}
 use Rattle.tv_cert.specs.declared.node.Marked.{Marked}
 use Rattle.tv_cert.specs.Pieces.{place_of, rows_of}
-use Rattle.tv_cert.specs.Targets.{owed_into, owed_lists, no_fall}
+use Rattle.tv_cert.specs.Targets.{changed_lists, owed_into, no_fall}
 use Rattle.tv_cert.specs.Choices.{IsMetChoice, ChoiceFits}
 use Rattle.tv_cert.specs.Obligations.{case_change}
 
@@ -20,7 +20,7 @@ pub record PieceCovered (n : ℕ) (p : Marked) (into : List Marked) : Type 0 whe
 -- a cover of the piece into lists of rows
 pub record AtomCovered (n : ℕ) (p : Marked) (targets : List (List Linear)) : Type 0 where
   pub tree : CoverTree
-  pub met : IsMetCover n (owed_lists targets) (as_given (rows_of p)) tree
+  pub met : IsMetCover n (changed_lists given targets) (as_given (rows_of p)) tree
 
 -- a step cover: the piece, over the case, into the pieces
 pub record StepCovered (n : ℕ) (p : Marked) (c : LinearCase) (into : List Marked) (fall : Marked → ℕ → Option (List Known)) : Type 0 where

@@ -9,7 +9,7 @@ use Rattle.tv_check.proofs.choosing.+choice_is_met.Goals as goal
 
 pub returns-then-choice_is_met : goal.returns-then-choice_is_met
 returns-then-choice_is_met t c =
-    let met = IsMetChoice c.args.choosing.now.columns (cases_of c.args.choosing.now.about.now).cases (place_of c.args.choosing.now.piece.now) c.args.choosing.now.stop (destination_owes c.args.choosing.now.columns c.args.choosing.now.piece.now c.args.choosing.now.destination.now) in
+    let met = IsMetChoice (cases_of c.args.choosing.now.about.now).variables (cases_of c.args.choosing.now.about.now).cases (place_of c.args.choosing.now.piece.now) c.args.choosing.now.stop (destination_owes (cases_of c.args.choosing.now.about.now).variables c.args.choosing.now.piece.now c.args.choosing.now.destination.now) in
     let known = known_at c.args.frames.now in
     let e = ap (met known) c.in-Split.is in (
       λ t. subst (λ (x : Type 0). x) (sym e) (
@@ -21,7 +21,7 @@ returns-then-choice_is_met t c =
 
 pub returns-else-choice_is_met : goal.returns-else-choice_is_met
 returns-else-choice_is_met t c =
-    let met = IsMetChoice c.args.choosing.now.columns (cases_of c.args.choosing.now.about.now).cases (place_of c.args.choosing.now.piece.now) c.args.choosing.now.stop (destination_owes c.args.choosing.now.columns c.args.choosing.now.piece.now c.args.choosing.now.destination.now) in
+    let met = IsMetChoice (cases_of c.args.choosing.now.about.now).variables (cases_of c.args.choosing.now.about.now).cases (place_of c.args.choosing.now.piece.now) c.args.choosing.now.stop (destination_owes (cases_of c.args.choosing.now.about.now).variables c.args.choosing.now.piece.now c.args.choosing.now.destination.now) in
     let known = known_at c.args.frames.now in
     let e = ap (met known) c.in-Split.is in
     (λ t. cc, λ h. let k = c.if-choice_is_met.ensures.1 (subst (λ (x : Type 0). x) (λ i. met (known ++ given (sym c.of.ensures i) ∷ []) (sym c.deref.ensures i)) (subst (λ (x : Type 0). x) e h).0) in cc)

@@ -13,5 +13,5 @@ pub returns-in-Choice : goal.returns-in-Choice
 returns-in-Choice c =
     let p = c.in-Choice.piece.now in
     subst (λ o. IsTrue c.choice_has_shape.result ↔ ProofShape (owed_by (cases_of c.args.about.now) o) (Chosen c.args.tree.now)) (sym c.in-Choice.is)
-    (choice_owed c.choice_has_shape.result c.variables.result _ (place_of p) c.len.result (cases_of c.args.about.now).cases (as_given (rows_of p)) c.in-Choice.stop (λ n. destination_owes n p c.in-Choice.destination) c.args.tree.now c.variables.ensures.same
+    (choice_owed c.choice_has_shape.result (cases_of c.args.about.now).variables (place_of p) c.len.result (cases_of c.args.about.now).cases (as_given (rows_of p)) c.in-Choice.stop (destination_owes (cases_of c.args.about.now).variables p c.in-Choice.destination) c.args.tree.now
     (c.len.ensures.counted ∙ ap length c.rows.ensures ∙ sym (length-map (rows_of p) given)) c.requires c.choice_has_shape.ensures)
