@@ -1,7 +1,6 @@
 -- Elements of lists.
 use Rattle.std.proofs.Common.{◌≡◌, inl, inr, ℕ, zero, suc, ◌+◌, ◌<◌, List, [], ◌∷◌, ◌++◌, length, map, take, drop, get_or, All, Bool, true, false, rules, arith, refl, sym, ap, ◌∙◌, subst}
 use Rattle.std.specs.List.{Contains}
-use Rattle.std.specs.Prelude.{IsTrue}
 use Rattle.tv_cases.proofs.ContainsLemmas.{Contains-here, Contains-later, Contains-cases, Contains-none}
 use Rattle.std.proofs.lemmas.List.Elements.{All-nil, All-cons, All-head, All-tail}
 
@@ -32,10 +31,6 @@ all_mapped P f (y ∷ xs) (suc k) x h l e = all_mapped P f xs k x (All-tail P (f
 pub all_mapped_push : {A B : Type 0} (P : B → Type 0) (f : A → B) (xs : List A) (x : A) → All P (map f xs) → P (f x) → All P (map f (xs ++ x ∷ []))
 all_mapped_push P f [] x h p = All-cons P (f x) [] p (All-nil P)
 all_mapped_push P f (y ∷ xs) x h p = All-cons P (f y) (map f (xs ++ x ∷ [])) (All-head P (f y) (map f xs) h) (all_mapped_push P f xs x (All-tail P (f y) (map f xs) h) p)
-
-pub said_yes : (b : Bool) (P : Type 0) → b ≡ true → (IsTrue b → P) → P
-said_yes true P e f = f (search rules)
-said_yes false P e f = absurd cc
 
 -- what is written back of as many items is these items
 pub written_back : {A : Type 0} (xs ys : List A) (n : ℕ) → length xs ≡ n → length ys ≡ n → take n (xs ++ drop (length xs) ys) ≡ xs

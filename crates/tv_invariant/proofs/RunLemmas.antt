@@ -1,19 +1,17 @@
 -- Runs, step by step.
-use Rattle.std.proofs.Common.{◌≡◌, ℕ, zero, suc, ◌+◌, ◌∙◌, List, [], ◌∷◌, ◌++◌, length, map, All, ℤ, Some, refl, sym, ap, subst, add-one, Bool, true, false, cond, ◌==◌}
+use Rattle.std.proofs.Common.{◌≡◌, ℕ, zero, suc, ◌+◌, ◌∙◌, List, [], ◌∷◌, ◌++◌, length, map, All, ℤ, Some, refl, sym, ap, subst, Bool, true, false, cond, ◌==◌}
 use Rattle.std.specs.Prelude.{Vec, Result, Ok, Err, IfOk}
 use Rattle.std.specs.Global.{Global}
 use Rattle.std.proofs.lemmas.List.Elements.{All-push}
 use Rattle.std.specs.List.{Contains, slice_get}
-use Rattle.std.proofs.lemmas.List.{length-map, map_push}
 use Rattle.tv_linear.specs.Linear.{IsMet}
 use Rattle.tv_linear.specs.Known.{term_value}
-use Rattle.tv_linear.specs.Terms.{update_of, terms_after}
-use Rattle.tv_linear.specs.declared.region.Update.{Update}
-use Rattle.tv_linear.proofs.PlainLists.{length-table}
-use Rattle.tv_linear.proofs.ListLaws.{table-push, true_test}
+use Rattle.tv_linear.specs.Terms.{terms_after}
+use Rattle.tv_linear.proofs.ListLaws.{true_test}
 use Rattle.tv_program.specs.Steps.{State}
 use Rattle.tv_program.specs.Runs.{IsRun, last_of}
 use Rattle.tv_cases.specs.LinearCases.{LinearCase, CaseSystem, CaseDoes, CaseSteps, from_of, leaving}
+use Rattle.tv_cases.proofs.BeforeValue.{length-terms}
 use Rattle.tv_cases.proofs.ContainsLemmas.{Contains-here, Contains-later}
 use Rattle.tv_candidates.specs.declared.candidate.Candidate.{Candidate}
 use Rattle.tv_candidates.proofs.OnRuns.{on_runs}
@@ -34,14 +32,6 @@ drawn_none list = record { drawn = []; counted = refl; parts = sym (append-nil l
     append-nil : (xs : List ℤ) → xs ++ [] ≡ xs
     append-nil [] = refl
     append-nil (x ∷ xs) = ap (λ ys. x ∷ ys) (append-nil xs)
-
--- ---- values after a case, one by one
-
-pub values-push : (point : List ℤ) (us : List Update) (n : ℕ) → map (term_value point) (terms_after (n + 1) us) ≡ map (term_value point) (terms_after n us) ++ term_value point (update_of us n) ∷ []
-values-push point us n =
-    ap (λ k. map (term_value point) (terms_after k us)) (add-one n)
-    ∙ ap (map (term_value point)) (table-push n (update_of us))
-    ∙ map_push (term_value point) (terms_after n us) (update_of us n)
 
 -- ---- runs
 
@@ -82,7 +72,7 @@ module _ (about : CaseSystem) where
           steps = run_on (CaseSteps about) h.first h.run (state_of t) h.from_start.steps (subst (λ s. CaseSteps about s (state_of t)) (sym h.ends) step);
         };
         ends = last_on h.first h.run (state_of t);
-        counted = ap length values ∙ length-map (terms_after about.variables c.updates) (term_value (r.values.items ++ ds)) ∙ length-table about.variables (update_of c.updates);
+        counted = ap length values ∙ length-terms (term_value (r.values.items ++ ds)) c.updates about.variables;
       }
 
   -- a candidate that is not met at a state that a run comes to

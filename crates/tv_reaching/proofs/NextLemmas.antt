@@ -9,7 +9,7 @@ use Rattle.tv_points.specs.declared.state.State.{State}
 use Rattle.tv_points.specs.declared.fault.PointFault.{PointFault}
 use Rattle.tv_reaching.specs.FoundRuns.{Takes, state_at}
 use Rattle.tv_reaching.specs.Making.{AreNumbers, IsNext, IsWideValue}
-use Rattle.tv_reaching.proofs.ValueLemmas.{length-values}
+use Rattle.tv_cases.proofs.BeforeValue.{length-terms}
 use Rattle.tv_points.proofs.PlaceLemmas.{got_one, got_all}
 
 -- the state is what the case computes at the point of values and draws
@@ -33,7 +33,7 @@ module _ (about : CaseSystem) (c : LinearCase) (number n : ℕ) (draws point : L
         state = record {
           place = subst (λ l. l < about.locations) (sym place) (got_all (IsCase about.variables about.locations) about.cases number c limits.cases found).enters;
           point = record {
-            many = ap length numbers.same ∙ length-values point c.updates n ∙ counted;
+            many = ap length numbers.same ∙ length-terms (term_value point) c.updates n ∙ counted;
             narrow = numbers.narrow;
           };
         };

@@ -1,15 +1,16 @@
 -- values of variables after a case
-use Rattle.std.proofs.Common.{◌≡◌, ℕ, ◌+◌, ◌-◌, ◌<◌, ◌≤◌, ◌∙◌, List, [], ◌∷◌, ◌++◌, length, map, take, drop, get_or, All, ℤ, pos, ◌+ℤ◌, ◌*ℤ◌, sym, ap, subst, arith, add-one}
+use Rattle.std.proofs.Common.{◌≡◌, ℕ, ◌+◌, ◌-◌, ◌<◌, ◌≤◌, ◌∙◌, List, [], ◌∷◌, ◌++◌, length, map, take, drop, get_or, All, ℤ, pos, ◌+ℤ◌, ◌*ℤ◌, sym, ap, subst, arith}
 use Rattle.std.proofs.lemmas.List.Elements.{All-get_or}
 use Rattle.tv_linear.specs.Linear.{IsWithin, dot}
 use Rattle.tv_linear.specs.Known.{term_value}
 use Rattle.tv_linear.specs.Terms.{update_of, terms_after}
 use Rattle.tv_linear.specs.declared.region.Update.{Update}
 use Rattle.tv_linear.proofs.PlainLists.{length-table}
-use Rattle.tv_linear.proofs.ListLaws.{table-push, get_or-table}
+use Rattle.tv_linear.proofs.ListLaws.{get_or-table}
+use Rattle.tv_cases.proofs.BeforeValue.{length-terms}
 use Rattle.tv_reaching.specs.FoundRuns.{IsWideAt}
 use Rattle.std.proofs.Math.Seq.{take-length}
-use Rattle.std.proofs.lemmas.List.{get_or-map, length-map, map_push}
+use Rattle.std.proofs.lemmas.List.{get_or-map}
 
 -- ---- lists without their first item
 abbrev pub rest_of : {A : Type 0} → List A → List A
@@ -32,15 +33,6 @@ dot_first (d ∷ cs) (y ∷ xs) c x h k e f = (λ i. (sym e i *ℤ sym f i) +ℤ
 
 -- ---- terms one by one
 
-pub values-push : (point : List ℤ) (us : List Update) (n : ℕ) → map (term_value point) (terms_after (n + 1) us) ≡ map (term_value point) (terms_after n us) ++ term_value point (update_of us n) ∷ []
-values-push point us n =
-    ap (λ k. map (term_value point) (terms_after k us)) (add-one n)
-    ∙ ap (map (term_value point)) (table-push n (update_of us))
-    ∙ map_push (term_value point) (terms_after n us) (update_of us n)
-
-pub length-values : (point : List ℤ) (us : List Update) (n : ℕ) → length (map (term_value point) (terms_after n us)) ≡ n
-length-values point us n = length-map (terms_after n us) (term_value point) ∙ length-table n (update_of us)
-
 value_at : (point : List ℤ) (us : List Update) (n v : ℕ) → v < n → get_or (map (term_value point) (terms_after n us)) v (pos 0) ≡ term_value point (update_of us v)
 value_at point us n v h =
     let l = length-table n (update_of us) in
@@ -50,9 +42,9 @@ value_at point us n v h =
 -- the first value that is too wide
 pub wide_here : (point : List ℤ) (us : List Update) (n v : ℕ) (items : List ℤ) → v < n → items ≡ map (term_value point) (terms_after v us) → All (IsWithin 62) items → ¬ IsWithin 62 (term_value point (update_of us v)) → IsWideAt v (map (term_value point) (terms_after n us))
 wide_here point us n v items h same narrow k = record {
-  inside = (let l = length-values point us n in omega (arith, h, l));
+  inside = (let l = length-terms (term_value point) us n in omega (arith, h, l));
   wide = subst (λ z. ¬ IsWithin 62 z) (sym (value_at point us n v h)) k;
   earlier = λ i j. subst (IsWithin 62)
       (ap (λ zs. get_or zs i (pos 0)) same ∙ value_at point us v i j ∙ sym (value_at point us n i (omega (arith, h, j))))
-      (All-get_or (IsWithin 62) items i (pos 0) (let l = ap length same ∙ length-values point us v in omega (arith, j, l)) narrow);
+      (All-get_or (IsWithin 62) items i (pos 0) (let l = ap length same ∙ length-terms (term_value point) us v in omega (arith, j, l)) narrow);
 }

@@ -2,7 +2,6 @@ use Rattle.std.proofs.Common.{◌≡◌, ◌++◌, ◌∷◌, ◌∙◌, [], Lis
 use Rattle.std.specs.List.{Contains}
 use Rattle.std.specs.Option.{option_to_list}
 use Rattle.tv_linear.specs.Linear.{Linear, IsMet}
-use Rattle.tv_invariant.proofs.ListLemmas.{said_yes}
 use Rattle.tv_invariant.proofs.RowLemmas.{rest_from, kept_from, kept_met, dropped_met}
 use Rattle.tv_invariant.proofs.rows.last_first.Goals as goal
 
@@ -30,7 +29,7 @@ rows-preserved c =
     let popped : c.rows.rows.items ≡ rest ++ row ∷ [] = c.pop.ensures.items ∙ ap (λ o. rest ++ option_to_list o) c.in-Some.is in
     let held = subst (λ rs. (r : Linear) → Contains rs r → Contains all r) popped c.rows.invariant.rest in
     let met = subst (λ rs. (xs : List ℤ) → All (IsMet xs) rs → All (IsMet xs) kept → All (IsMet xs) all) popped c.rows.invariant.met in
-    let implied : (xs : List ℤ) → All (IsMet xs) c.deref.result.now → IsMet xs row = said_yes c.is_implied.result ((xs : List ℤ) → All (IsMet xs) c.deref.result.now → IsMet xs row) c.if-not-is_implied.false c.is_implied.ensures in
+    let implied : (xs : List ℤ) → All (IsMet xs) c.deref.result.now → IsMet xs row = c.is_implied.ensures c.if-not-is_implied.false in
     record {
       rest = rest_from all rest kept row held;
       from = c.rows.invariant.from;
