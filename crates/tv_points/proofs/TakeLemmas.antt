@@ -50,7 +50,7 @@ pub numbers_narrow : (n : ℕ) (ds : List ℤ) → All (IsWithin 62) ds → All 
 numbers_narrow n [] h = All-nil RowNarrow
 numbers_narrow n (d ∷ ds) h = All-cons RowNarrow (constant_row n d) (number_rows n ds) (record { coefficients = zeros_narrow n; constant = All-head (IsWithin 62) d ds h }) (numbers_narrow n ds (All-tail (IsWithin 62) d ds h))
 
-numbers_wide : (n : ℕ) (ds : List ℤ) → All (λ r. columns r ≡ n) (number_rows n ds)
+pub numbers_wide : (n : ℕ) (ds : List ℤ) → All (λ r. columns r ≡ n) (number_rows n ds)
 numbers_wide n [] = All-nil (λ r. columns r ≡ n)
 numbers_wide n (d ∷ ds) = All-cons (λ r. columns r ≡ n) (constant_row n d) (number_rows n ds) (length-zeros n) (numbers_wide n ds)
 

@@ -17,17 +17,15 @@ use Rattle.tv_cases.specs.LinearCases.{LinearCase}
 use Rattle.tv_cases.specs.Before.{before as case_before, FitsBefore, rows_before}
 use Rattle.tv_cases.proofs.BeforeLemmas.{IsTerm, AreTerms, PutIn, composed_same, kept_term, put_term, before_same, before_even, terms_append}
 use Rattle.tv_cert.specs.Choices.{drawn_change}
-use Rattle.tv_recur.specs.Making.{FitsPut, rows_put, number_rows, drawn_terms}
+use Rattle.tv_points.specs.PointRows.{number_rows}
+use Rattle.tv_points.proofs.TakeLemmas.{numbers_wide}
+use Rattle.tv_recur.specs.Making.{FitsPut, rows_put, drawn_terms}
 use Rattle.tv_cases.proofs.SameSteps.{length-columns_from}
 use Rattle.tv_derived.proofs.Widths.{columns_from-wide, width_is, no_columns}
 
 -- ---- the terms
-pub number_rows-wide : (n : ℕ) (ds : List ℤ) → All (λ r. columns r ≡ n) (number_rows n ds)
-number_rows-wide n [] = All-nil (λ r. columns r ≡ n)
-number_rows-wide n (d ∷ ds) = All-cons (λ r. columns r ≡ n) (constant_row n d) (number_rows n ds) (length-zeros n) (number_rows-wide n ds)
-
 pub terms-wide : (n : ℕ) (ds : List ℤ) → All (λ r. columns r ≡ n) (drawn_terms n ds)
-terms-wide n ds = All-append (λ r. columns r ≡ n) (columns_from n 0 n) (number_rows n ds) (columns_from-wide n 0 n) (number_rows-wide n ds)
+terms-wide n ds = All-append (λ r. columns r ≡ n) (columns_from n 0 n) (number_rows n ds) (columns_from-wide n 0 n) (numbers_wide n ds)
 
 pub terms-length : (n : ℕ) (ds : List ℤ) → length (drawn_terms n ds) ≡ n + length ds
 terms-length n ds = length-append (columns_from n 0 n) (number_rows n ds) ∙ (λ i. length-columns_from n 0 n i + length-map ds (λ d. constant_row n d) i)

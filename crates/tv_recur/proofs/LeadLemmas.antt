@@ -12,13 +12,15 @@ use Rattle.tv_cases.specs.Views.{case_view}
 use Rattle.tv_cases.specs.Before.{rows_before}
 use Rattle.tv_cover.specs.Covering.{IsHole}
 use Rattle.tv_cover.specs.Single.{IsCoverInto}
-use Rattle.tv_recur.specs.Making.{rows_put, number_rows, drawn_terms}
+use Rattle.tv_points.specs.PointRows.{number_rows}
+use Rattle.tv_recur.specs.Making.{rows_put, drawn_terms}
 use Rattle.tv_recur.specs.OwedRows.{AreOwed, IsLeft, IsTaking}
 use Rattle.tv_recur.specs.Choosing.{IsChoiceOf, LeadsInto}
 use Rattle.tv_recur.specs.Covering.{IsTakenBy}
 use Rattle.tv_recur.specs.declared.taking.Taking.{Taking}
 use Rattle.tv_recur.proofs.ChoiceLemmas.{leads_into}
-use Rattle.tv_recur.proofs.DrawLemmas.{all_put_wide, number_rows-wide}
+use Rattle.tv_points.proofs.TakeLemmas.{numbers_wide}
+use Rattle.tv_recur.proofs.DrawLemmas.{all_put_wide}
 use Rattle.tv_recur.proofs.OwedLemmas.{owed_same, left_at}
 use Rattle.tv_recur.proofs.ReadLemmas.{taking_case}
 
@@ -44,7 +46,7 @@ module _ (t : Taking) (taking : IsTaking t) (m : ℕ) (over : m ≡ (cases_of t.
       taking.found
       (length-map t.draws.now (λ d. constant_row n d) ∙ taking.counted)
       (owed_same n case t.draws.now into target taking.counted (taking_case t taking).guards (taking_case t taking).terms wide owed)
-      (number_rows-wide n t.draws.now)
+      (numbers_wide n t.draws.now)
       (subst (All IsNarrow) by.numbers by.narrow)
       small near
       (subst (λ k. IsCoverInto k from target old) over h)

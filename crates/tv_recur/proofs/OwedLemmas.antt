@@ -14,7 +14,8 @@ use Rattle.tv_cases.proofs.BeforeValue.{before-value}
 use Rattle.tv_cert.specs.Choices.{drawn_change, drawn_guards}
 use Rattle.tv_cover.specs.Covering.{IsHole}
 use Rattle.tv_cover.specs.Targets.{IsOutside}
-use Rattle.tv_recur.specs.Making.{rows_put, number_rows, drawn_terms}
+use Rattle.tv_points.specs.PointRows.{number_rows}
+use Rattle.tv_recur.specs.Making.{rows_put, drawn_terms}
 use Rattle.tv_recur.specs.OwedRows.{owed_rows, AreOwed, Enters, IsLeft}
 use Rattle.tv_recur.proofs.DrawLemmas.{guards_same, into_same, put_value, terms-wide, terms-width, terms-length}
 

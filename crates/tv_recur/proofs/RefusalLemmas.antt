@@ -22,7 +22,8 @@ use Rattle.tv_derived.proofs.Carried.{monotone}
 use Rattle.tv_derived.proofs.Steps.{narrow_all, after_step, after_before, after_terms}
 use Rattle.tv_derived.proofs.Listing.{empty_refusal}
 use Rattle.tv_cover_refusals.proofs.Refusals.{refusal}
-use Rattle.tv_recur.specs.Making.{FitsPut, rows_put, ArePut, number_rows, drawn_terms, IsUnmade, RefusesBefore, RefusesPut}
+use Rattle.tv_points.specs.PointRows.{number_rows}
+use Rattle.tv_recur.specs.Making.{FitsPut, rows_put, ArePut, drawn_terms, IsUnmade, RefusesBefore, RefusesPut}
 use Rattle.tv_recur.specs.Keeping.{AreEntering}
 use Rattle.tv_recur.specs.OwedRows.{AreOwed}
 use Rattle.tv_recur.specs.Refusing.{IsSpent, IsRefusal, AreFrom, MayPut, MayPutAt, IsUnmadeUpdate, IsUnmadeAmong}

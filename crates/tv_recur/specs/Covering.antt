@@ -4,7 +4,7 @@ use Rattle.tv_linear.specs.Linear.{Linear, IsNarrow}
 use Rattle.tv_linear.specs.declared.cover.CoverTree.{CoverTree}
 use Rattle.tv_linear.specs.declared.choice.ChoiceTree.{ChoiceTree}
 use Rattle.tv_cases.specs.Systems.{cases_of}
-use Rattle.tv_recur.specs.Making.{number_rows}
+use Rattle.tv_points.specs.PointRows.{number_rows}
 use Rattle.tv_recur.specs.Choosing.{IsChoiceOf}
 use Rattle.tv_recur.specs.declared.taking.Taking.{Taking}
 

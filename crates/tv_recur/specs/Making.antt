@@ -1,13 +1,14 @@
 -- Rows made of others: before a case, and with numbers put in for the draws.
 use Rattle.std.specs.Prelude.{◌≡◌, ℕ, ◌+◌, ◌≤◌, List, ◌++◌, map, Contains, All, ℤ, Err}
 use Rattle.tv_linear.specs.Linear.{Linear, columns}
-use Rattle.tv_linear.specs.Arithmetic.{constant_row, composed}
+use Rattle.tv_linear.specs.Arithmetic.{composed}
 use Rattle.tv_linear.specs.Fits.{FitsComposed, GivesComposed}
 use Rattle.tv_linear.specs.declared.fault.RowFault.{RowFault}
 use Rattle.tv_linear.specs.declared.fault.RowFault.TheVariants as row
 use Rattle.tv_cases.specs.Before.{before, GivesBefore}
 use Rattle.tv_cases.specs.EdgeCases.{columns_from}
 use Rattle.tv_cases.specs.LinearCases.{LinearCase}
+use Rattle.tv_points.specs.PointRows.{number_rows}
 use Rattle.tv_farkas.specs.declared.fault.CoverFault.{CoverFault}
 use Rattle.tv_farkas.specs.declared.fault.CoverFault.TheVariants.{Splits, Solve, Wide, Memory}
 
@@ -24,10 +25,6 @@ rows_put terms rows = map (λ r. composed r terms) rows
 pub record ArePut (terms rows made : List Linear) : Type 0 where
   pub exact : made ≡ rows_put terms rows
   pub fits : All (FitsPut terms) rows
-
--- the rows of numbers
-abbrev pub number_rows : ℕ → List ℤ → List Linear
-number_rows n ds = map (λ d. constant_row n d) ds
 
 -- n variables, each its own term, and then the numbers of the draws
 abbrev pub drawn_terms : ℕ → List ℤ → List Linear

@@ -14,7 +14,7 @@ use Rattle.tv_derived.specs.Faults.{IsRefusalOf}
 use Rattle.tv_derived.specs.Questions.{IsSpentOnRows}
 use Rattle.tv_derived.specs.Scopes.{Scope, over_case}
 use Rattle.tv_cover_refusals.specs.Covers.{IsSpentOnTargets}
-use Rattle.tv_recur.specs.Making.{number_rows}
+use Rattle.tv_points.specs.PointRows.{number_rows}
 use Rattle.tv_recur.specs.Staying.{added, taken_off}
 
 -- a path that has spent so many splits, on a cover of one target or on a whole point

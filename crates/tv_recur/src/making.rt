@@ -7,7 +7,8 @@ ghost use Rattle.tv_linear.specs.Arithmetic.{width_of};
 ghost use Rattle.tv_cases.specs.EdgeCases.{columns_from};
 ghost use Rattle.tv_cases.specs.Views.{case_view};
 ghost use Rattle.tv_cases.specs.Before.{AreRowsBefore};
-ghost use Rattle.tv_recur.specs.Making.{ArePut, number_rows, drawn_terms, IsUnmade, RefusesBefore, RefusesPut, IsHandedOn};
+ghost use Rattle.tv_points.specs.PointRows.{number_rows};
+ghost use Rattle.tv_recur.specs.Making.{ArePut, drawn_terms, IsUnmade, RefusesBefore, RefusesPut, IsHandedOn};
 
 use std::alloc::{AllocError, Global};
 use tv_cases::{Case, all_before};

@@ -1,5 +1,5 @@
 use Rattle.std.proofs.Common.{◌≡◌, take}
-use Rattle.tv_recur.specs.Making.{number_rows}
+use Rattle.tv_points.specs.PointRows.{number_rows}
 use Rattle.tv_recur.proofs.making.numbers_as_rows.Given as goal
 
 abbrev pub invariant-numbers : goal.invariant-numbers
