@@ -25,7 +25,7 @@ pub emptied_chain : (about : CaseSystem) (known : List Piece) (set : List ℕ) (
 emptied_chain about known set rounds h = subst (λ z. Chain about known set z) (append-nil rounds) (lead_then about known set rounds [] [] h end)
 
 -- what is not taken out is still there
-still_there : (xs : List ℕ) (p j : ℕ) → j < length xs → (get_or xs p 0 ≡ get_or xs j 0 → ⊥) → (i : ℕ) × (i < length (without xs p)) × (get_or (without xs p) i 0 ≡ get_or xs j 0)
+pub still_there : (xs : List ℕ) (p j : ℕ) → j < length xs → (get_or xs p 0 ≡ get_or xs j 0 → ⊥) → (i : ℕ) × (i < length (without xs p)) × (get_or (without xs p) i 0 ≡ get_or xs j 0)
 still_there [] p j h n = absurd (omega (arith, h))
 still_there (x ∷ xs) zero zero h n = absurd (n refl)
 still_there (x ∷ xs) zero (suc j) h n = (j, omega (arith, h), refl)

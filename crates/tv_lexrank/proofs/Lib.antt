@@ -15,6 +15,7 @@ pub mod AttemptLemmas
 pub mod FirstLemmas
 pub mod NodeLemmas
 pub mod ShowLemmas
+pub mod RankedSets
 pub mod OfferLemmas
 pub mod RankedLemmas
 pub mod CertifiedLemmas

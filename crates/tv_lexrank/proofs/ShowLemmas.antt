@@ -155,7 +155,7 @@ parts_few about known numbers ps few h c = by_either (grind arith)
     by_either (inr l) = subst (λ z. length z ≤ 8192) (sym (none_there ps c l)) (omega arith)
 
 -- ---- the terms are over the variables
-local_wide : (v : ℕ) (ts : List LocalTerm) (l : ℕ) → All (λ t. columns t.row ≡ v) ts → columns (local_term v ts l) ≡ v
+pub local_wide : (v : ℕ) (ts : List LocalTerm) (l : ℕ) → All (λ t. columns t.row ≡ v) ts → columns (local_term v ts l) ≡ v
 local_wide v [] l h = length-zeros v
 local_wide v (t ∷ ts) l h = by_test (t.location == l) (local_wide v ts l (All-tail (λ t. columns t.row ≡ v) t ts h))
   where

@@ -5,7 +5,7 @@ ghost use Rattle.std.specs.Result.{IfErr};
 ghost use Rattle.tv_cases.specs.Systems.{cases_of};
 ghost use Rattle.tv_cases.specs.Views.{case_views};
 ghost use Rattle.tv_known.specs.Ranking.{HasLexicographicRanking};
-ghost use Rattle.tv_lexrank.specs.Known.{AreKnown};
+ghost use Rattle.tv_lexrank.specs.Known.{AreBare, AreKnown};
 ghost use Rattle.tv_lexrank.specs.Attempt.{AreBelow, PartsFrom};
 ghost use Rattle.tv_lexrank.specs.Closing.{RefusesClosed};
 ghost use Rattle.tv_lexrank.specs.First.{arc_of, AreComponents, IsOutcome, IsNode, RefusesFirst};
@@ -72,6 +72,7 @@ fn ranked_parts(
     requires splits { budget.now.splits ≤ 128 }
     ensures ranked { IfOk result (IsAnswer (cases_of about.now) known.now.pieces.items) }
     ensures node { IfOk result IsNode }
+    ensures lexicographic { AreBare known.now.pieces.items → IfOk result (λ _. HasLexicographicRanking (cases_of about.now)) }
     ensures refusals { IfErr result (RefusesClosed (cases_of about.now) known.now.pieces.items budget.now) }
 {
     let count = rank_count(parts);
@@ -114,7 +115,7 @@ fn components_of(alloc: Global, about: &Cases) -> Result<Vec<u32>, AllocError>
 ///
 /// Each round is that of A. Podelski and A. Rybalchenko, "A complete method for the synthesis of linear ranking functions",
 /// VMCAI 2004. Where no family falls over any case that is left, the set is stuck; where the cases have a lexicographic linear
-/// ranking over the rationals this never comes.
+/// ranking over the rationals this never comes. Where no rows are known, a node is answered only where they have one.
 ///
 /// `Open` comes where a case leaves the known rows, `Cover` where it is not settled whether one does, and `Solve` where the named system is
 /// not settled.
@@ -128,6 +129,7 @@ pub fn lex_rank(
     requires splits { budget.now.splits ≤ 128 }
     ensures ranked { IfOk result (IsAnswer (cases_of about.now) known.now.pieces.items) }
     ensures never_stuck { HasLexicographicRanking (cases_of about.now) → IfOk result IsNode }
+    ensures lexicographic { AreBare known.now.pieces.items → IfOk result (λ r. IsNode r → HasLexicographicRanking (cases_of about.now)) }
     ensures refusals { IfErr result (Refuses (cases_of about.now) known.now.pieces.items budget.now) }
 {
     let numbers = components_of(alloc, about)?;
@@ -148,6 +150,7 @@ pub fn lex_rank(
 pub fn first_attempt(alloc: Global, about: &Cases, pivots: u64) -> Result<Ranked, RankFault>
     ensures ranked { IfOk result (λ r. IsOutcome (cases_of about.now) r) }
     ensures never_stuck { HasLexicographicRanking (cases_of about.now) → IfOk result IsNode }
+    ensures lexicographic { IfOk result (λ r. IsNode r → HasLexicographicRanking (cases_of about.now)) }
     ensures refusals { IfErr result (λ e. RefusesFirst (cases_of about.now) pivots e) }
 {
     let known = bare_region(alloc, about.variables(), about.locations())?;

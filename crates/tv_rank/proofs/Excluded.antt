@@ -114,7 +114,15 @@ module _ (v many : ℕ) (ways : ℕ → Way) (falling : ℕ) (falling_in : falli
         omega (arith, ints, r))
   ]
 
--- a sum of numbers that are at most 0, one of them at most -z
+-- a sum of numbers that are at most 0
+pub total-low : (n : ℕ) (g : ℕ → ℤ) → ((k : ℕ) → k < n → g k ≤ℤ pos 0) → total n g ≤ℤ pos 0
+total-low zero g h = omega (arith, ints)
+total-low (suc n) g h =
+    let here = h n (omega arith) in
+    let others = total-low n g (λ k l. h k (omega arith)) in
+    omega (arith, ints, here, others)
+
+-- a sum of such numbers, one of them at most -z
 total-falls : (m : ℕ) (g : ℕ → ℤ) (r : ℕ) (z : ℤ) → r < m → ((k : ℕ) → k < m → g k ≤ℤ pos 0) → (g r +ℤ z) ≤ℤ pos 0 → (total m g +ℤ z) ≤ℤ pos 0
 total-falls zero g r z l h e = absurd (omega arith)
 total-falls (suc m) g r z l h e = elim (last_or_below m r l) [
@@ -130,13 +138,6 @@ total-falls (suc m) g r z l h e = elim (last_or_below m r l) [
   where
     last_or_below : (n j : ℕ) → j < suc n → (j ≡ n) ⊎ (j < n)
     last_or_below n j h = grind arith
-
-    total-low : (n : ℕ) (g : ℕ → ℤ) → ((k : ℕ) → k < n → g k ≤ℤ pos 0) → total n g ≤ℤ pos 0
-    total-low zero g h = omega (arith, ints)
-    total-low (suc n) g h =
-        let here = h n (omega arith) in
-        let others = total-low n g (λ k l. h k (omega arith)) in
-        omega (arith, ints, here, others)
 
 -- where each way has a point, a barrier excludes every family of terms
 pub excluded : (v many : ℕ) (ways : ℕ → Way) (falling : ℕ) → falling < many → ((k : ℕ) → k < many → (p : Option ℕ → ℤ) × IsPoint v (ways k) p) → (p : ℕ → Option ℕ → ℤ) (last : Option ℕ → ℤ) → Balance v many ways falling p last → (f : ℕ → Option ℕ → ℤ) → RanksAt v many ways falling f → ⊥

@@ -29,6 +29,7 @@ use Rattle.tv_rank.proofs.Lengths.{length-differences, steps-more, steps-within}
 use Rattle.tv_rank.proofs.Flattened.{entry_of}
 use Rattle.tv_rank.proofs.Solved.{get-differences, of_term_number, rows_sum, slack_of, step_start, step_sum, bound_sum, step_row, bound_row_is}
 use Rattle.tv_rank.proofs.ShownRows.{places_held, shown}
+use Rattle.tv_rank.proofs.Rational.{solution_ranks}
 use Rattle.std.proofs.lemmas.Bool.{or_right, cases_lt, or_left}
 use Rattle.tv_simplex.proofs.Counting.{last_or_below}
 
@@ -286,6 +287,7 @@ module _ (v locations many : ℕ) (ways : ℕ → Way) (falling : ℕ) (falling_
     steps = λ k k_in. subst (λ z. IsShownBy v (ways k) z (get_or (all_read ways many falling xs s) k [])) (sym (step_same k k_in)) (subst (λ z. IsShownBy v (ways k) (less (changed k k_in) (given (before k k_in)) (fall_of falling k)) z) (sym (get_or-left (lines_read ways xs s many) (line_read xs (s + length (steps_below ways many)) (ways falling) ∷ []) k [] (let e = length-lines ways xs s many in omega (arith, e, k_in)) ∙ line-read ways xs s many k k_in)) (step_shown k k_in));
     bound = subst (λ z. IsShownBy v (ways falling) z (get_or (all_read ways many falling xs s) many [])) (sym bound_same) (subst (λ z. IsShownBy v (ways falling) (less (given zero_row) (given last) (pos 0)) z) (sym (get_or-right (lines_read ways xs s many) (line_read xs (s + length (steps_below ways many)) (ways falling) ∷ []) many 0 [] (let e = length-lines ways xs s many in omega (arith, e)))) bound_shown);
     narrow = All-push (All (IsWithin 62)) (lines_read ways xs s many) (line_read xs (s + length (steps_below ways many)) (ways falling)) (lines_short s many) (line_short (s + length (steps_below ways many)) (ways falling));
+    ranks = solution_ranks v locations many ways falling falling_in xs scale h positive from_in to_in;
   }
     where
       s : ℕ

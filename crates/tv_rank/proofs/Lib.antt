@@ -7,6 +7,7 @@ pub mod Flattened
 pub mod Lengths
 pub mod Solved
 pub mod ShownRows
+pub mod Rational
 pub mod Families
 pub mod Wholes
 pub mod Locals

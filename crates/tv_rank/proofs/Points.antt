@@ -1,4 +1,4 @@
-use Rattle.std.proofs.Common.{inl, inr, ◌≡◌, ℕ, zero, suc, ◌+◌, ◌<◌, ◌≤◌, List, [], ◌∷◌, length, map, get_or, All, Option, None, Some, Bool, true, false, ◌==◌, if◌then◌else◌, arith, refl, sym, ap, ◌∙◌, subst, ℤ, pos, ◌+ℤ◌, ◌*ℤ◌, ◌≤ℤ◌}
+use Rattle.std.proofs.Common.{inl, inr, ◌≡◌, ℕ, zero, suc, ◌+◌, ◌<◌, ◌≤◌, List, [], ◌∷◌, length, get_or, All, Option, None, Some, Bool, true, false, ◌==◌, if◌then◌else◌, arith, refl, sym, ap, ◌∙◌, subst, ℤ, pos, ◌+ℤ◌, ◌*ℤ◌, ◌≤ℤ◌}
 use Rattle.std.proofs.lemmas.Int.{ints}
 use Rattle.tv_linear.specs.Linear.{Linear, linear, columns, dot, scaled_value}
 use Rattle.tv_linear.specs.Known.{Term, kept, put, number}
@@ -14,7 +14,7 @@ use Rattle.tv_rank.specs.Rankings.{term_at, scaled_term, value_before, value_aft
 use Rattle.tv_rank.proofs.Over.{over, Inside, over-same, unit_times}
 use Rattle.tv_rank.proofs.Barriers.{value, width, row_of, there_before, there_after, before_at, after_at}
 use Rattle.tv_rank.proofs.Excluded.{IsPoint, RanksAt}
-use Rattle.tv_linear.proofs.ListLaws.{get_or-table, map-table}
+use Rattle.tv_linear.proofs.ListLaws.{get_or-table, map-table, table_of}
 use Rattle.std.proofs.lemmas.Bool.{cases_lt}
 use Rattle.std.proofs.lemmas.List.Elements.{All-from_get_or}
 
@@ -67,14 +67,14 @@ listed_point v w p h = record {
 }
 
 -- and the other way round
+pub pointed_at : (v : ℕ) (w : Way) (xs : List ℤ) (z : ℤ) → IsWayPoint v w xs z → IsPoint v w (point_of xs z)
+pointed_at v w xs z h = record {
+  meets = λ i l. subst (λ n. value n (row_of w i) (point_of xs z) ≤ℤ pos 0) h.width (subst (λ y. y ≤ℤ pos 0) (value_pointed (get_or (met_rows w) i (linear [] (pos 0))) xs z) (at_of (λ r. scaled_value r xs z ≤ℤ pos 0) (met_rows w) (linear [] (pos 0)) h.meets.met i l));
+  positive = h.meets.positive;
+}
+
 pub pointed : (v : ℕ) (w : Way) → HasPoint v w → (p : Option ℕ → ℤ) × IsPoint v w p
-pointed v w (xs, z, h) = (
-  point_of xs z,
-  record {
-    meets = λ i l. subst (λ n. value n (row_of w i) (point_of xs z) ≤ℤ pos 0) h.width (subst (λ y. y ≤ℤ pos 0) (value_pointed (get_or (met_rows w) i (linear [] (pos 0))) xs z) (at_of (λ r. scaled_value r xs z ≤ℤ pos 0) (met_rows w) (linear [] (pos 0)) h.meets.met i l));
-    positive = h.meets.positive;
-  },
-)
+pointed v w (xs, z, h) = (point_of xs z, pointed_at v w xs z h)
 
 -- ---- the terms at points
 -- what holds of a kept variable and of every row holds of what the updates put for it
@@ -127,6 +127,31 @@ ranks_at v many ways falling terms wide h = record {
       let g = h.falls (list_of (width v (ways falling)) p) (p None) (listed_point v (ways falling) p q) in
       let a = after_listed v terms (ways falling) p in
       let b = before_listed v terms (ways falling) p (wide (ways falling).taken.from) in
+      omega (arith, ints, g, a, b);
+}
+
+-- and the other way round
+before_pointed : (v : ℕ) (terms : List Linear) (w : Way) (xs : List ℤ) (z : ℤ) → columns (term_at terms w.taken.from) ≤ v → length xs ≡ width v w → value_before terms w xs z ≡ before_at v (numbers_at terms) w (point_of xs z)
+before_pointed v terms w xs z h e = subst (λ ys. value_before terms w ys z ≡ before_at v (numbers_at terms) w (point_of xs z)) (table_of (width v w) xs e) (before_listed v terms w (point_of xs z) h)
+
+after_pointed : (v : ℕ) (terms : List Linear) (w : Way) (xs : List ℤ) (z : ℤ) → length xs ≡ width v w → value_after v terms w xs z ≡ after_at v (numbers_at terms) w (point_of xs z)
+after_pointed v terms w xs z e = subst (λ ys. value_after v terms w ys z ≡ after_at v (numbers_at terms) w (point_of xs z)) (table_of (width v w) xs e) (after_listed v terms w (point_of xs z))
+
+pub ranks_listed : (v many : ℕ) (ways : ℕ → Way) (falling : ℕ) (terms : List Linear) → ((l : ℕ) → columns (term_at terms l) ≤ v) → RanksAt v many ways falling (numbers_at terms) → Ranks v many ways falling terms
+ranks_listed v many ways falling terms wide h = record {
+  grows_nowhere = λ k l xs z q.
+      let g = h.grows_nowhere k l (point_of xs z) (pointed_at v (ways k) xs z q) in
+      let a = after_pointed v terms (ways k) xs z q.width in
+      let b = before_pointed v terms (ways k) xs z (wide (ways k).taken.from) q.width in
+      omega (arith, ints, g, a, b);
+  bounded = λ xs z q.
+      let g = h.bounded (point_of xs z) (pointed_at v (ways falling) xs z q) in
+      let b = before_pointed v terms (ways falling) xs z (wide (ways falling).taken.from) q.width in
+      omega (arith, ints, g, b);
+  falls = λ xs z q.
+      let g = h.falls (point_of xs z) (pointed_at v (ways falling) xs z q) in
+      let a = after_pointed v terms (ways falling) xs z q.width in
+      let b = before_pointed v terms (ways falling) xs z (wide (ways falling).taken.from) q.width in
       omega (arith, ints, g, a, b);
 }
 

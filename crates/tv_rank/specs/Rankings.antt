@@ -2,7 +2,7 @@ use Rattle.std.specs.Prelude.{◌≡◌, ℕ, ◌+◌, ◌<◌, List, [], ◌∷
 use Rattle.tv_linear.specs.Linear.{Linear, linear, columns, scaled_value, IsScaledPoint, IsWithin}
 use Rattle.tv_linear.specs.Arithmetic.{constant_row}
 use Rattle.tv_linear.specs.Known.{Term, kept, put, Known, given, denied, composed, less, as_given}
-use Rattle.tv_linear.specs.Terms.{terms_after}
+use Rattle.tv_linear.specs.Terms.{table, terms_after}
 use Rattle.tv_linear.specs.Falls.{zero_row}
 use Rattle.tv_linear.specs.Refutation.{Refutes}
 use Rattle.tv_rank.specs.declared.found.LocalTerm.{LocalTerm}
@@ -52,6 +52,10 @@ abbrev pub local_term : ℕ → List LocalTerm → ℕ → Linear
 local_term v [] l = constant_row v (pos 0)
 local_term v (t ∷ ts) l = if t.location == l then t.row else local_term v ts l
 
+-- the terms at the locations, one each, in their order
+abbrev pub listed_terms : ℕ → ℕ → List LocalTerm → List Linear
+listed_terms v locations terms = table locations (local_term v terms)
+
 -- the row of the term after a way less the term before it, plus a number
 abbrev pub change_row : ℕ → List LocalTerm → Way → ℤ → Known
 change_row v terms w z =
@@ -70,7 +74,8 @@ abbrev pub fall_of : ℕ → ℕ → ℤ
 fall_of falling k = if k == falling then pos 1 else pos 0
 
 -- Terms at locations, and multipliers for each way and then once more for the falling one: they show that the term does not
--- grow over the way, and falls by at least 1 over the falling one, and that it is not below 0 before that.
+-- grow over the way, and falls by at least 1 over the falling one, and that it is not below 0 before that. The same holds at all
+-- rational points.
 pub record IsFamily (v locations many : ℕ) (ways : ℕ → Way) (falling : ℕ) (terms : List LocalTerm) (multipliers : List (List ℤ)) : Type 0 where
   pub each : All (λ t. t.location < locations) terms
   pub wide : All (λ t. columns t.row ≡ v) terms
@@ -78,3 +83,4 @@ pub record IsFamily (v locations many : ℕ) (ways : ℕ → Way) (falling : ℕ
   pub steps : (k : ℕ) → k < many → IsShownBy v (ways k) (change_row v terms (ways k) (fall_of falling k)) (get_or multipliers k [])
   pub bound : IsShownBy v (ways falling) (bound_row v terms (ways falling)) (get_or multipliers many [])
   pub narrow : All (All (IsWithin 62)) multipliers
+  pub ranks : Ranks v many ways falling (listed_terms v locations terms)

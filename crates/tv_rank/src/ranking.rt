@@ -129,8 +129,8 @@ pub fn rank_place(
 }
 
 /// A term for each location that grows over no case of the set, and falls over one case of it by at least 1 from a value of at
-/// least 0, at all points that meet the rows known where the case starts and its guards; or a barrier, which excludes every such
-/// family over the rationals.
+/// least 0, at all rational points that meet the rows known where the case starts and its guards; or a barrier, which excludes
+/// every such family over the rationals.
 ///
 /// The known rows stand in a piece for each location, in the order of the locations. The refusals are those of the ranking
 /// system. A system of more than 4,000,000 entries is refused by its size.
