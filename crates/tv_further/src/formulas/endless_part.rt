@@ -1,29 +1,15 @@
 // Where a run begins that never ends: closed cycles, and areas that are cut until from each of them some step stays.
 
-use crate::areas::ranks::Ranks;
 use crate::areas::sides::Sides;
-use crate::areas::stages::Stages;
 use crate::formulas::cycles_within::with_cycles;
 use crate::formulas::ending_part::first_areas;
 use crate::formulas::fixed_part::with_hold;
-use crate::formulas::found::Found;
+use crate::formulas::found::{Found, end_alone};
 use crate::formulas::kept::Staying;
 use crate::formulas::region_part::{Part, plain_part};
 use crate::question::Question;
 use crate::rows::solving::Effort;
-use std::alloc::{AllocError, Global};
-
-/// No areas yet.
-fn nothing_found(alloc: Global) -> Result<Found, AllocError> {
-    Ok(Found {
-        stages: Stages {
-            done: 0,
-            areas: Vec::new(alloc),
-        },
-        ranks: Ranks::new(alloc, 0, 0)?,
-        proofs: Vec::new(alloc),
-    })
-}
+use std::alloc::AllocError;
 
 /// Where a run is shown to begin that never ends, which may be nowhere.
 pub(crate) fn endless_part(
@@ -38,7 +24,9 @@ pub(crate) fn endless_part(
         first: None,
         second: &[],
     };
-    let first = nothing_found(question.alloc)?;
+    let Some(first) = end_alone(question, &sides, 0, effort)? else {
+        return Ok(None);
+    };
     let found = with_cycles(question, &sides, first, effort)?;
     let found = with_hold(question, Staying::Any, &sides, found, effort)?;
     let Found {
