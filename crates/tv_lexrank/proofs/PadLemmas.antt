@@ -26,7 +26,8 @@ pads_sum p [] zs ys (m ∷ ms) ns e = absurd (omega (arith, e))
 pads_sum p (x ∷ xs) zs ys [] ns e = absurd (omega (arith, e))
 pads_sum p (x ∷ xs) zs ys (m ∷ ms) ns e = ap (λ s. (m *ℤ p x) +ℤ s) (pads_sum p xs zs ys ms ns (omega (arith, e)))
 
-abbrev EachHeld : (Known → Type 0) → List Known → Type 0
+-- a test holds of each row
+abbrev pub EachHeld : (Known → Type 0) → List Known → Type 0
 EachHeld held [] = Unit {0}
 EachHeld held (k ∷ ks) = held k × EachHeld held ks
 
@@ -47,11 +48,11 @@ pads_held held p sum [] zs ys (m ∷ ms) ns e s h g = absurd (omega (arith, e))
 pads_held held p sum (x ∷ xs) zs ys [] ns e s h g = absurd (omega (arith, e))
 pads_held held p sum (x ∷ xs) zs ys (m ∷ ms) ns e s h g = (g.0, g.1, g.2, pads_held held p (sum +ℤ m *ℤ p x) xs zs ys ms ns (omega (arith, e)) g.2 h g.3)
 
-each_inner : (n j : ℕ) (ks : List Known) → j < n → AllHeld n ks → EachHeld (λ k. KnownHeld k (Some j)) ks
+pub each_inner : (n j : ℕ) (ks : List Known) → j < n → AllHeld n ks → EachHeld (λ k. KnownHeld k (Some j)) ks
 each_inner n j [] l h = tt
 each_inner n j (k ∷ ks) l h = (h.0 j l, each_inner n j ks l h.2)
 
-each_constant : (n : ℕ) (ks : List Known) → AllHeld n ks → EachHeld (λ k. KnownHeld k None) ks
+pub each_constant : (n : ℕ) (ks : List Known) → AllHeld n ks → EachHeld (λ k. KnownHeld k None) ks
 each_constant n [] h = tt
 each_constant n (k ∷ ks) h = (h.1, each_constant n ks h.2)
 

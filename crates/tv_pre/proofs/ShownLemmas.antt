@@ -23,7 +23,7 @@ use Rattle.tv_pre.specs.Ranked.{last_line, IsFallingEntry, IsFallingCover}
 use Rattle.tv_pre.proofs.ChoiceLemmas.{at_same}
 use Rattle.tv_pre.proofs.FallLemmas.{IsAlways, WithFalls, FallsOwed}
 use Rattle.tv_cases.proofs.ProductLemmas.{zero_times}
-use Rattle.tv_lexrank.proofs.PadLemmas.{nothing}
+use Rattle.tv_lexrank.proofs.PadLemmas.{nothing, EachHeld, each_inner, each_constant}
 use Rattle.tv_choice.proofs.StopLemmas.{one_more}
 use Rattle.tv_linear.proofs.ListLaws.{all_unmapped}
 
@@ -48,10 +48,6 @@ last_sum p ks q =
     ∙ ap (λ m. dot (zeros m ++ pos 1 ∷ []) (map p ks ++ p q ∷ [])) (sym (mapped_length p ks))
     ∙ last_dot (map p ks) (p q)
 
-abbrev EachHeld : (Known → Type 0) → List Known → Type 0
-EachHeld held [] = Unit {0}
-EachHeld held (k ∷ ks) = held k × EachHeld held ks
-
 last_held : (held : Known → Type 0) (p : Known → ℤ) (ks : List Known) (q : Known) → EachHeld held ks → held q → IsHeld (p q) → RowsHeld held (pos 0) p (zeros (length ks) ++ pos 1 ∷ []) (ks ++ q ∷ [])
 last_held held p [] q h g s = (
   g,
@@ -71,14 +67,6 @@ last_held held p (k ∷ ks) q h g s =
 none_below : (ks : List Known) → All (λ m. pos 0 ≤ℤ m) (zeros (length ks) ++ pos 1 ∷ [])
 none_below [] = All-cons (λ m. pos 0 ≤ℤ m) (pos 1) [] (omega (arith, ints)) (All-nil (λ m. pos 0 ≤ℤ m))
 none_below (k ∷ ks) = All-cons (λ m. pos 0 ≤ℤ m) (pos 0) (zeros (length ks) ++ pos 1 ∷ []) (omega (arith, ints)) (none_below ks)
-
-each_inner : (n j : ℕ) (ks : List Known) → j < n → AllHeld n ks → EachHeld (λ k. KnownHeld k (Some j)) ks
-each_inner n j [] l h = tt
-each_inner n j (k ∷ ks) l h = (h.0 j l, each_inner n j ks l h.2)
-
-each_constant : (n : ℕ) (ks : List Known) → AllHeld n ks → EachHeld (λ k. KnownHeld k None) ks
-each_constant n [] h = tt
-each_constant n (k ∷ ks) h = (h.1, each_constant n ks h.2)
 
 pub always_refuted : (n : ℕ) (ks : List Known) (f : Known) → AllHeld n ks → IsAlways n f → Refutes n (ks ++ denied f ∷ []) (zeros (length ks) ++ pos 1 ∷ [])
 always_refuted n ks f h a = record {

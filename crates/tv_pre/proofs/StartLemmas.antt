@@ -5,7 +5,6 @@ use Rattle.std.proofs.lemmas.Bool.Decides.{nat_tests}
 use Rattle.std.specs.Prelude.{Contains}
 use Rattle.std.proofs.lemmas.List.{take_all}
 use Rattle.std.proofs.lemmas.List.Elements.{Contains-append_cases}
-use Rattle.tv_formula.specs.Formulas.{property_of}
 use Rattle.tv_formula.specs.Limits.{operators, IsFormula}
 use Rattle.tv_formula.specs.Properties.{Property}
 use Rattle.tv_linear.specs.Linear.{Linear, IsMet}
@@ -17,14 +16,10 @@ use Rattle.tv_linear.specs.declared.region.Region.{Region}
 use Rattle.tv_linear.proofs.ListLaws.{test_true}
 use Rattle.tv_farkas.specs.Paths.{IsWholePoint}
 use Rattle.tv_cases.specs.LinearCases.{CaseSystem}
-use Rattle.tv_cert.specs.declared.claim.Claim.{Claim}
 use Rattle.tv_cert.specs.declared.node.Kind.TheVariants as kind
 use Rattle.tv_cert.specs.declared.node.Mark.TheVariants.{Go}
 use Rattle.tv_cert.specs.declared.node.Marked.{Marked}
 use Rattle.tv_cert.specs.declared.node.Node.{Node}
-use Rattle.tv_cert.specs.declared.node.Verdict.{Verdict}
-use Rattle.tv_cert.specs.declared.node.Verdict.TheVariants.{Proved, Disproved}
-use Rattle.tv_cert.specs.Claims.{shown}
 use Rattle.tv_cert.specs.Nodes.{pieces_of}
 use Rattle.tv_cert.specs.Pieces.{rows_of, pieces_at}
 use Rattle.tv_cert.specs.Targets.{owed_into, no_fall}
@@ -36,7 +31,7 @@ use Rattle.tv_cover.specs.Targets.{IsInTarget}
 use Rattle.tv_region.specs.Regions.{lists_at}
 use Rattle.tv_region.proofs.RegionLemmas.{lists_at-here, lists_at-there}
 use Rattle.tv_choice.specs.Leading.{piece_rows}
-use Rattle.tv_lexrank.specs.Certified.{IsRoot, SaysProved}
+use Rattle.tv_lexrank.specs.Certified.{IsRoot}
 use Rattle.tv_points.specs.Nodes as points
 use Rattle.tv_pre.specs.Pieces.{AreMarked, marked_as}
 use Rattle.tv_pre.specs.Offers.{ShowsInside}
@@ -82,11 +77,6 @@ inside_of about pieces ps found ms h =
       found = m.1;
       met = subst (λ rows. All (IsMet found.values.items) rows) (sym m.2) h.point.met;
     }
-
--- ---- what a certificate settles
-shown_proved : (claim : Claim) (verdict : Verdict) → SaysProved verdict → shown claim verdict ≡ property_of claim.proved
-shown_proved claim (Proved start) says = refl
-shown_proved claim (Disproved k values) says = absurd says
 
 -- the limits of a formula leave room for its operators
 pub few_operators : (n m : ℕ) (f : Property) → IsFormula n m f → operators f ≤ 200

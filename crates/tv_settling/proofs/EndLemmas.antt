@@ -1,14 +1,8 @@
 -- Certificates and refusals, as they are handed on.
-use Rattle.std.proofs.Common.{◌≡◌, inl, inr, List, refl}
+use Rattle.std.proofs.Common.{inl, inr, List}
 use Rattle.std.specs.Prelude.{Result, Ok, Err}
 use Rattle.std.specs.Result.{IfErr}
-use Rattle.tv_formula.specs.Formulas.{property_of}
 use Rattle.tv_cases.specs.LinearCases.{CaseSystem}
-use Rattle.tv_cert.specs.declared.claim.Claim.{Claim}
-use Rattle.tv_cert.specs.declared.node.Verdict.{Verdict}
-use Rattle.tv_cert.specs.declared.node.Verdict.TheVariants.{Proved, Disproved}
-use Rattle.tv_cert.specs.Claims.{shown}
-use Rattle.tv_lexrank.specs.Certified.{SaysProved}
 use Rattle.tv_farkas.specs.declared.budget.Budget.{Budget}
 use Rattle.tv_farkas.specs.declared.fault.CoverFault.{CoverFault}
 use Rattle.tv_farkas.specs.declared.fault.CoverFault.TheVariants as covers
@@ -23,11 +17,6 @@ use Rattle.tv_lexrank.specs.declared.fault.RankFault.TheVariants as ranking
 use Rattle.tv_lexrank.specs.Outcomes.{Refuses}
 use Rattle.tv_settling.specs.Closed.{AreKept}
 use Rattle.tv_settling.specs.Ends.{IsUncovered, RefusesUnder, handed_on, IsClosed, unranked, AreFound, RefusesFound}
-
--- what a certificate that says proved shows is what is claimed
-pub shown_proved : (claim : Claim) (verdict : Verdict) → SaysProved verdict → shown claim verdict ≡ property_of claim.proved
-shown_proved claim (Proved start) says = refl
-shown_proved claim (Disproved k values) says = absurd says
 
 -- ---- refusals
 pub under_handed : (about : CaseSystem) (list : List Candidate) (budget : Budget) (known : Region) → ArePiecesOf about list known → (f : CoverFault) → IsUncovered about budget f known → RefusesUnder about list budget (handed_on f)
