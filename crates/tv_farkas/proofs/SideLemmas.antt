@@ -9,11 +9,12 @@ use Rattle.tv_linear.specs.Fits.{IsHeld}
 use Rattle.tv_linear.specs.Linear.{Linear, dot, value, IsMet, IsWithin, scaled_value, IsScaledPoint}
 use Rattle.tv_linear.specs.Known.{Known, given, denied, as_given, KnownHeld}
 use Rattle.tv_linear.proofs.Ring.{mul_assoc_z, distribute_right_z}
-use Rattle.tv_simplex.proofs.Ring.{by_sign, above_times, less_times, zero_times}
+use Rattle.tv_simplex.proofs.Ring.{by_sign, less_times, zero_times}
 use Rattle.tv_simplex.specs.Outcomes.{IsShort}
 use Rattle.tv_farkas.specs.Paths.{at_most_row, at_least_row}
 use Rattle.tv_farkas.specs.Stretching.{IsSide, AreSides}
 use Rattle.tv_farkas.proofs.SystemLemmas.{at_of}
+use Rattle.tv_fraction.proofs.Products.{product_above}
 
 -- ---- the rows of a split
 pub unit_value : (n c : ℕ) (xs : List ℤ) → length xs ≡ n → dot (unit n c) xs ≡ get_or xs c (pos 0)
@@ -113,6 +114,6 @@ whole_met r values xs z p e h m =
       | inl low ↦ omega (arith, ints, low)
       | inr w ↦ elim w [
         | inl same ↦ omega (arith, ints, same)
-        | inr high ↦ (let k = above_times (value r xs) z high p in absurd (omega (arith, ints, k, d, f, m)))
+        | inr high ↦ (let k = product_above (value r xs) z high p in absurd (omega (arith, ints, k, d, f, m)))
       ]
     ]

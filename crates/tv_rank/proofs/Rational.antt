@@ -16,7 +16,7 @@ use Rattle.tv_farkas.proofs.SystemLemmas.{at_of, dot-total, known-given}
 use Rattle.tv_simplex.specs.Sums.{total}
 use Rattle.tv_simplex.specs.Outcomes.{IsSolutionOf}
 use Rattle.tv_simplex.proofs.Sums.{total-same, total-times, total-zero}
-use Rattle.tv_simplex.proofs.Ring.{less_times, not_under_times, above_times}
+use Rattle.tv_simplex.proofs.Ring.{less_times, not_under_times}
 use Rattle.tv_rank.specs.declared.unknown.Identity.TheVariants.{Step}
 use Rattle.tv_rank.specs.Ways.{Way, met_rows}
 use Rattle.tv_rank.specs.RankingSystem.{unit_at, after, right_of, ranking_system}
@@ -28,6 +28,7 @@ use Rattle.tv_rank.proofs.Excluded.{IsPoint, RanksAt, change_at, total-low}
 use Rattle.tv_rank.proofs.Points.{numbers_at, pointed, ranks_listed, terms_wide}
 use Rattle.tv_rank.proofs.Locals.{local-read}
 use Rattle.tv_rank.proofs.Solved.{unit-number, after-number, rows_sum, slack_of, step_start, term_width, step_sum, bound_sum, step_row, bound_row_is}
+use Rattle.tv_fraction.proofs.Products.{product_above}
 
 -- ---- sums at a point
 turned : (a b c : ℤ) → (a *ℤ b) *ℤ c ≡ b *ℤ (a *ℤ c)
@@ -90,7 +91,7 @@ refuted_way v w ms h point =
     let low = rows_low (width v w) (length (met_rows w)) (λ i. get_or ms i (pos 0)) (row_of w) p
     (λ i l. at_of (λ m. pos 0 ≤ℤ m) ms (pos 0) h.none_negative i (let e = as_many in omega (arith, e, l))) q.meets in
     let sum = over-same (width v w) (λ c. total (length (met_rows w)) (λ i. row_of w i c *ℤ get_or ms i (pos 0)) *ℤ p c) (λ c. (pos 1 *ℤ column c) *ℤ p c) (λ c l. ap (λ z. z *ℤ p c) (sum_is c l)) ∙ right_there (width v w) (pos 1) column p (λ j. refl) in
-    let above = above_times (column_sum ms (as_given (met_rows w)) None) (p None) h.constant q.positive in
+    let above = product_above (column_sum ms (as_given (met_rows w)) None) (p None) h.constant q.positive in
     let one = ap (λ z. z *ℤ p None) (let e : pos 1 *ℤ column None ≡ column None = omega (arith, ints) in e) in
     absurd (omega (arith, ints, low, sum, above, one))
   where
@@ -181,7 +182,7 @@ module _ (v locations many : ℕ) (ways : ℕ → Way) (falling : ℕ) (falling_
   scaled_fall z = ap (λ y. y *ℤ z) (let e : scale *ℤ neg_ℤ (pos 1) ≡ neg_ℤ scale = omega (arith, ints) in e) ∙ neg_times_z scale z
 
   right_low : (b : Bool) (z : ℤ) → pos 0 <ℤ z → ((scale *ℤ (if b then neg_ℤ (pos 1) else pos 0)) *ℤ z) ≤ℤ pos 0
-  right_low true z l = (let e = scaled_fall z in let a = above_times scale z h.positive l in omega (arith, ints, e, a))
+  right_low true z l = (let e = scaled_fall z in let a = product_above scale z h.positive l in omega (arith, ints, e, a))
   right_low false z l = (let e : (scale *ℤ pos 0) *ℤ z ≡ pos 0 = ap (λ y. y *ℤ z) (let f : scale *ℤ pos 0 ≡ pos 0 = omega (arith, ints) in f) ∙ omega (arith, ints) in omega (arith, ints, e))
 
   right_falls : (b : Bool) (z : ℤ) → b ≡ true → pos 0 <ℤ z → ((scale *ℤ (if b then neg_ℤ (pos 1) else pos 0)) *ℤ z +ℤ z) ≤ℤ pos 0

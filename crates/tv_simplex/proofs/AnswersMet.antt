@@ -1,7 +1,7 @@
 use Rattle.std.proofs.Common.{◌≡◌, ℕ, ◌<◌, List, get_or, inl, inr, arith, sym, ap, ◌∙◌, subst, ℤ, pos, ◌*ℤ◌, ◌<ℤ◌, ◌≤ℤ◌}
 use Rattle.std.proofs.lemmas.Int.{ints}
 use Rattle.std.proofs.Math.IntN.{*ℤ_comm}
-use Rattle.tv_simplex.proofs.Ring.{mul_swap, same_factor, by_sign, under_times, above_times, times_zero}
+use Rattle.tv_simplex.proofs.Ring.{mul_swap, same_factor, by_sign, under_times, times_zero}
 use Rattle.tv_simplex.proofs.Sums.{total-same, total-times}
 use Rattle.tv_simplex.proofs.Chains.{last_of}
 use Rattle.tv_simplex.proofs.Steps.{feasible-any}
@@ -14,6 +14,7 @@ use Rattle.tv_simplex.specs.Systems.{Equations, entry_at, right_at, matrix}
 use Rattle.tv_simplex.specs.Chains.{column, order}
 use Rattle.tv_simplex.specs.Answers.{IsBarrier, barrier_of}
 use Rattle.tv_simplex.specs.Outcomes.{IsShort, IsSolutionOf, IsBarrierOf, InChain, EndsInBarrier, GivesSolution, GivesBarrier, solution_number, barrier_number}
+use Rattle.tv_fraction.proofs.Products.{product_above}
 
 -- a factor above 0 keeps the sign
 pub at_least : (a v : ℤ) → pos 0 <ℤ a → pos 0 ≤ℤ (a *ℤ v) → pos 0 ≤ℤ v
@@ -30,7 +31,7 @@ is_below a v h e = elim (by_sign v) [
   | inl n ↦ n
   | inr w ↦ elim w [
     | inl z ↦ (let k = times_zero a v z in absurd (omega (arith, ints, k, e)))
-    | inr p ↦ (let k = above_times a v h p in absurd (omega (arith, ints, k, e)))
+    | inr p ↦ (let k = product_above a v h p in absurd (omega (arith, ints, k, e)))
   ]
 ]
 

@@ -2,11 +2,12 @@ use Rattle.std.proofs.Common.{◌≡◌, ℕ, ◌+◌, ◌<◌, inl, inr, arith,
 use Rattle.std.proofs.lemmas.Int.{ints}
 use Rattle.std.proofs.Math.IntN.{*ℤ_comm}
 use Rattle.tv_linear.proofs.Ring.{mul_assoc_z}
-use Rattle.tv_simplex.proofs.Ring.{mul_swap, times_zero, zero_times, above_times, less_times, times_less}
+use Rattle.tv_simplex.proofs.Ring.{mul_swap, times_zero, zero_times, less_times, times_less}
 use Rattle.tv_simplex.proofs.Sums.{total-same, total-times, total-add, total-less, total-two, total-delta, delta-swap, delta-same, delta-other}
 use Rattle.tv_simplex.specs.Sums.{total, delta}
 use Rattle.tv_simplex.specs.Tableaus.{Tableau, reduced, Exchange}
 use Rattle.std.proofs.lemmas.Bool.{cases_eq}
+use Rattle.tv_fraction.proofs.Products.{product_above}
 
 -- the table after an exchange at row r and column c, times a further scale
 abbrev pub after : ℤ → (ℕ → ℕ → ℤ) → ℕ → ℕ → ℕ → ℕ → ℤ
@@ -111,7 +112,7 @@ module _ (a : ℕ → ℕ → ℤ) (m n : ℕ) (b b' : ℕ → ℕ) (x : Tableau
   exchanged = record {
     scale = x.scale *ℤ x.entry r c;
     entry = after x.scale x.entry r c;
-    positive = above_times x.scale (x.entry r c) x.positive above;
+    positive = product_above x.scale (x.entry r c) x.positive above;
     combined = after_combined;
     unit = after_unit;
     spanned = λ k j k_in.

@@ -1,7 +1,8 @@
 use Rattle.std.proofs.Common.{◌≡◌, ℕ, ◌⊎◌, inl, inr, ◌<◌, ◌≤◌, arith, sym, ◌∙◌, subst, ℤ, pos, ◌+ℤ◌, ◌-ℤ◌, ◌*ℤ◌, ◌<ℤ◌, ◌≤ℤ◌}
 use Rattle.std.proofs.lemmas.Int.{ints}
-use Rattle.tv_simplex.proofs.Ring.{is_zero, is_above, times_zero, above_times, by_sign, zero_times, less_times}
+use Rattle.tv_simplex.proofs.Ring.{is_zero, is_above, times_zero, by_sign, zero_times, less_times}
 use Rattle.tv_simplex.specs.Chains.{LeadsAbove}
+use Rattle.tv_fraction.proofs.Products.{product_above}
 
 pub leads-same : (m : ℕ) (v w : ℕ → ℤ) → LeadsAbove m v → ((q : ℕ) → q ≤ m → v q ≡ w q) → LeadsAbove m w
 leads-same m v w h e = record {
@@ -16,7 +17,7 @@ leads-times m a v p h = record {
   place = h.place;
   within = h.within;
   before = λ q l. times_zero a (v q) (h.before q l);
-  here = above_times a (v h.place) p h.here;
+  here = product_above a (v h.place) p h.here;
 }
 
 pub leads-divide : (m : ℕ) (a : ℤ) (v : ℕ → ℤ) → pos 0 <ℤ a → LeadsAbove m (λ q. a *ℤ v q) → LeadsAbove m v

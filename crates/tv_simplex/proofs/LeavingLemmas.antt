@@ -6,7 +6,7 @@ use Rattle.std.proofs.lemmas.Cmp.{int_ranked}
 use Rattle.std.proofs.lemmas.Int.{ints}
 use Rattle.tv_fraction.specs.declared.Fraction.{Fraction}
 use Rattle.std.proofs.Math.IntN.{*ℤ_comm}
-use Rattle.tv_simplex.proofs.Ring.{zero_times, by_sign, above_times, is_above, is_zero, times_zero, times_less}
+use Rattle.tv_simplex.proofs.Ring.{zero_times, by_sign, is_above, is_zero, times_zero, times_less}
 use Rattle.tv_simplex.proofs.RatioLemmas.{value_above, num_above}
 use Rattle.tv_simplex.proofs.Shown.{quotients_compared}
 use Rattle.tv_simplex.proofs.GoesOn.{least_first, least_skips, least_stays, least_taken, never_tied}
@@ -19,6 +19,7 @@ use Rattle.tv_simplex.specs.Rows.{ratio, none, entry_in, IsSparse, BeginsWith, I
 use Rattle.tv_simplex.specs.Choosing.{IsSignOf, ComparesAt, difference_at, IsLexicographic, Compares, NoneAbove, IsLeast}
 use Rattle.tv_linear.proofs.ListLaws.{last_or_below}
 use Rattle.std.proofs.lemmas.Bool.{cases_lt}
+use Rattle.tv_fraction.proofs.Products.{product_above}
 
 turned : (k e x y w d : ℤ) → k *ℤ (x -ℤ y) ≡ e *ℤ w → d ≡ pos 0 -ℤ w → k *ℤ (y -ℤ x) ≡ e *ℤ d
 turned k e x y w d h g =
@@ -30,10 +31,10 @@ turned k e x y w d h g =
     omega (arith, ints, h, a, b, p, q, z)
 
 sign_of : (o : Ordering) (x y k e w d : ℤ) → MatchOrdering o (x <ℤ y) (x ≡ y) (y <ℤ x) → pos 0 <ℤ k → pos 0 <ℤ e → k *ℤ (x -ℤ y) ≡ e *ℤ w → d ≡ pos 0 -ℤ w → IsSignOf o d
-sign_of Less x y k e w d m pk pe h g = is_above e d pe (let p = above_times k (y -ℤ x) pk (omega (arith, ints, m)) in subst (λ z. pos 0 <ℤ z) (turned k e x y w d h g) p)
+sign_of Less x y k e w d m pk pe h g = is_above e d pe (let p = product_above k (y -ℤ x) pk (omega (arith, ints, m)) in subst (λ z. pos 0 <ℤ z) (turned k e x y w d h g) p)
 sign_of Equal x y k e w d m pk pe h g = is_zero e d pe (sym (turned k e x y w d h g) ∙ times_zero k (y -ℤ x) (omega (arith, ints, m)))
 sign_of Greater x y k e w d m pk pe h g =
-    let p = subst (λ z. pos 0 <ℤ z) h (above_times k (x -ℤ y) pk (omega (arith, ints, m))) in
+    let p = subst (λ z. pos 0 <ℤ z) h (product_above k (x -ℤ y) pk (omega (arith, ints, m))) in
     let q = is_above e w pe p in
     omega (arith, ints, q, g)
 
@@ -45,8 +46,8 @@ pub compares_at : (last c o : ℕ) (first second : ℕ → Ratio) (p q : Fractio
 compares_at last c o first second p q result c_in o_in pf ps hp hq e u v scale positive fs gs =
     sign_of result (p.numerator *ℤ q.denominator) (q.numerator *ℤ p.denominator) (u c *ℤ v c) (p.denominator *ℤ q.denominator) (v c *ℤ u o -ℤ u c *ℤ v o) (difference_at c u v o)
     (int_ranked (p.numerator *ℤ q.denominator) (q.numerator *ℤ p.denominator) result e)
-    (above_times (u c) (v c) (value_above (first c) (u c) scale positive (fs c c_in) pf) (value_above (second c) (v c) scale positive (gs c c_in) ps))
-    (above_times p.denominator q.denominator p.positive q.positive)
+    (product_above (u c) (v c) (value_above (first c) (u c) scale positive (fs c c_in) pf) (value_above (second c) (v c) scale positive (gs c c_in) ps))
+    (product_above p.denominator q.denominator p.positive q.positive)
     (quotients_compared last c scale positive first second u v c_in fs gs o o_in (ratio p) (ratio q) hp hq)
     (omega (arith, ints))
 

@@ -1,7 +1,7 @@
 use Rattle.std.proofs.Common.{◌≡◌, ℕ, ◌⊎◌, inl, inr, ◌<◌, List, [], ◌∷◌, length, set, arith, refl, sym, ap, ◌∙◌, subst, ℤ, pos, ◌+ℤ◌, ◌-ℤ◌, ◌*ℤ◌, ◌<ℤ◌}
 use Rattle.std.proofs.lemmas.Int.{ints}
 use Rattle.tv_linear.proofs.Ring.{mul_assoc_z}
-use Rattle.tv_simplex.proofs.Ring.{times_zero, above_times, is_above, mul_swap, times_less}
+use Rattle.tv_simplex.proofs.Ring.{times_zero, is_above, mul_swap, times_less}
 use Rattle.tv_simplex.proofs.Leads.{leads-times, leads-add, leads-never}
 use Rattle.tv_simplex.proofs.Unique.{same_tableau}
 use Rattle.tv_simplex.proofs.Steps.{same_objective}
@@ -9,9 +9,10 @@ use Rattle.tv_simplex.specs.Tableaus.{Tableau}
 use Rattle.tv_simplex.specs.Chains.{order, objective, column, Enters, Leaves, Step, IsChain}
 use Rattle.std.proofs.lemmas.Grind.{same_number_lists}
 use Rattle.std.proofs.lemmas.Bool.{cases_eq}
+use Rattle.tv_fraction.proofs.Products.{product_above}
 
 above_too : (p q u v : ℤ) → pos 0 <ℤ p → pos 0 <ℤ q → p *ℤ u ≡ q *ℤ v → pos 0 <ℤ u → pos 0 <ℤ v
-above_too p q u v h k e l = let a = above_times p u h l in is_above q v k (omega (arith, ints, a, e))
+above_too p q u v h k e l = let a = product_above p u h l in is_above q v k (omega (arith, ints, a, e))
 
 below_too : (p q u v : ℤ) → pos 0 <ℤ p → pos 0 <ℤ q → p *ℤ u ≡ q *ℤ v → u <ℤ pos 0 → v <ℤ pos 0
 below_too p q u v h k e l =
@@ -41,8 +42,8 @@ module _ (a : ℕ → ℕ → ℤ) (m n : ℕ) (b : ℕ → ℕ) (x y : Tableau 
       let e = same_tableau a m n b x y in
       let up = above_too x.scale y.scale (y.entry r' c) (x.entry r' c) x.positive y.positive (sym (e r' c k.within)) k.above in
       let up' = above_too y.scale x.scale (x.entry r c) (y.entry r c) y.positive x.positive (e r c h.within) h.above in
-      let p = leads-times m (y.scale *ℤ y.scale) (λ q. x.entry r c *ℤ x.entry r' (order m n q) -ℤ x.entry r' c *ℤ x.entry r (order m n q)) (above_times y.scale y.scale y.positive y.positive) (h.least r' k.within o up) in
-      let q = leads-times m (x.scale *ℤ x.scale) (λ q. y.entry r' c *ℤ y.entry r (order m n q) -ℤ y.entry r c *ℤ y.entry r' (order m n q)) (above_times x.scale x.scale x.positive x.positive) (k.least r h.within (λ s. o (sym s)) up') in
+      let p = leads-times m (y.scale *ℤ y.scale) (λ q. x.entry r c *ℤ x.entry r' (order m n q) -ℤ x.entry r' c *ℤ x.entry r (order m n q)) (product_above y.scale y.scale y.positive y.positive) (h.least r' k.within o up) in
+      let q = leads-times m (x.scale *ℤ x.scale) (λ q. y.entry r' c *ℤ y.entry r (order m n q) -ℤ y.entry r c *ℤ y.entry r' (order m n q)) (product_above x.scale x.scale x.positive x.positive) (k.least r h.within (λ s. o (sym s)) up') in
       leads-never m (λ q. (y.scale *ℤ y.scale) *ℤ (x.entry r c *ℤ x.entry r' (order m n q) -ℤ x.entry r' c *ℤ x.entry r (order m n q)) +ℤ (x.scale *ℤ x.scale) *ℤ (y.entry r' c *ℤ y.entry r (order m n q) -ℤ y.entry r c *ℤ y.entry r' (order m n q)))
       (leads-add m (λ q. (y.scale *ℤ y.scale) *ℤ (x.entry r c *ℤ x.entry r' (order m n q) -ℤ x.entry r' c *ℤ x.entry r (order m n q))) (λ q. (x.scale *ℤ x.scale) *ℤ (y.entry r' c *ℤ y.entry r (order m n q) -ℤ y.entry r c *ℤ y.entry r' (order m n q))) p q)
       (λ q l. none (order m n q))

@@ -2,8 +2,9 @@ use Rattle.std.proofs.Common.{◌≡◌, inl, inr, arith, refl, sym, ap, ◌∙�
 use Rattle.std.proofs.lemmas.Int.{ints}
 use Rattle.std.proofs.Math.IntN.{*ℤ_comm}
 use Rattle.tv_linear.proofs.Ring.{mul_assoc_z}
-use Rattle.tv_simplex.proofs.Ring.{by_sign, zero_times, above_times, is_above, is_zero, mul_swap, times_less, less_times, same_factor}
+use Rattle.tv_simplex.proofs.Ring.{by_sign, zero_times, is_above, is_zero, mul_swap, times_less, less_times, same_factor}
 use Rattle.tv_simplex.specs.Ratios.{Ratio, IsRatio, IsQuotient, IsProduct, IsDifference}
+use Rattle.tv_fraction.proofs.Products.{product_above}
 
 -- ---- products of four
 pub four : (a b c d : ℤ) → (a *ℤ b) *ℤ (c *ℤ d) ≡ (a *ℤ c) *ℤ (b *ℤ d)
@@ -18,7 +19,7 @@ ratio_same f v w s t h e g = record { positive = h.positive; same = ap (λ z. f.
 -- g is v / s and h is w / s, so g / h is v / w
 pub quotient : (f g h : Ratio) (v w s : ℤ) → pos 0 <ℤ s → IsRatio g v s → IsRatio h w s → IsQuotient f g h → IsRatio f v w
 quotient f g h v w s p rg rh q =
-    let k = above_times g.denominator h.denominator rg.positive rh.positive in
+    let k = product_above g.denominator h.denominator rg.positive rh.positive in
     -- s * (f.numerator * (g.denominator * h.numerator)) = f.numerator * ((w * h.denominator) * g.denominator)
     let e1 : s *ℤ (f.numerator *ℤ (g.denominator *ℤ h.numerator)) ≡ (g.denominator *ℤ h.denominator) *ℤ (f.numerator *ℤ w) =
     mul_swap s f.numerator (g.denominator *ℤ h.numerator)
@@ -36,7 +37,7 @@ quotient f g h v w s p rg rh q =
 -- g is v / s and h is w / t, so g * h is (v * w) / (s * t)
 pub product : (f g h : Ratio) (v w s t : ℤ) → IsRatio g v s → IsRatio h w t → IsProduct f g h → IsRatio f (v *ℤ w) (s *ℤ t)
 product f g h v w s t rg rh q =
-    let k = above_times g.denominator h.denominator rg.positive rh.positive in
+    let k = product_above g.denominator h.denominator rg.positive rh.positive in
     let e1 : (s *ℤ t) *ℤ ((g.numerator *ℤ h.numerator) *ℤ f.denominator) ≡ (g.denominator *ℤ h.denominator) *ℤ ((v *ℤ w) *ℤ f.denominator) =
     sym (mul_assoc_z (s *ℤ t) (g.numerator *ℤ h.numerator) f.denominator)
     ∙ ap (λ z. z *ℤ f.denominator) (four s t g.numerator h.numerator ∙ (λ i. (*ℤ_comm s g.numerator ∙ rg.same ∙ *ℤ_comm v g.denominator) i *ℤ (*ℤ_comm t h.numerator ∙ rh.same ∙ *ℤ_comm w h.denominator) i) ∙ four g.denominator v h.denominator w)
@@ -50,7 +51,7 @@ product f g h v w s t rg rh q =
 
 pub difference : (f g h : Ratio) (v w s : ℤ) → IsRatio g v s → IsRatio h w s → IsDifference f g h → IsRatio f (v -ℤ w) s
 difference f g h v w s rg rh q =
-    let k = above_times g.denominator h.denominator rg.positive rh.positive in
+    let k = product_above g.denominator h.denominator rg.positive rh.positive in
     let e1 : s *ℤ (g.numerator *ℤ h.denominator -ℤ h.numerator *ℤ g.denominator) ≡ (g.denominator *ℤ h.denominator) *ℤ (v -ℤ w) =
     times_less s (g.numerator *ℤ h.denominator) (h.numerator *ℤ g.denominator)
     ∙ (λ i. (sym (mul_assoc_z s g.numerator h.denominator) ∙ ap (λ z. z *ℤ h.denominator) (*ℤ_comm s g.numerator ∙ rg.same ∙ *ℤ_comm v g.denominator) ∙ mul_assoc_z g.denominator v h.denominator ∙ ap (λ z. g.denominator *ℤ z) (*ℤ_comm v h.denominator) ∙ sym (mul_assoc_z g.denominator h.denominator v)) i -ℤ (sym (mul_assoc_z s h.numerator g.denominator) ∙ ap (λ z. z *ℤ g.denominator) (*ℤ_comm s h.numerator ∙ rh.same ∙ *ℤ_comm w h.denominator) ∙ *ℤ_comm (h.denominator *ℤ w) g.denominator ∙ sym (mul_assoc_z g.denominator h.denominator w)) i)
@@ -66,10 +67,10 @@ difference f g h v w s rg rh q =
 
 -- ---- signs
 pub num_above : (f : Ratio) (v s : ℤ) → pos 0 <ℤ s → IsRatio f v s → pos 0 <ℤ v → pos 0 <ℤ f.numerator
-num_above f v s p h l = let a = above_times v f.denominator l h.positive in let e = h.same in let c = *ℤ_comm f.numerator s in is_above s f.numerator p (omega (arith, ints, a, e, c))
+num_above f v s p h l = let a = product_above v f.denominator l h.positive in let e = h.same in let c = *ℤ_comm f.numerator s in is_above s f.numerator p (omega (arith, ints, a, e, c))
 
 pub value_above : (f : Ratio) (v s : ℤ) → pos 0 <ℤ s → IsRatio f v s → pos 0 <ℤ f.numerator → pos 0 <ℤ v
-value_above f v s p h l = let a = above_times f.numerator s l p in let e = h.same in let c = *ℤ_comm v f.denominator in is_above f.denominator v h.positive (omega (arith, ints, a, e, c))
+value_above f v s p h l = let a = product_above f.numerator s l p in let e = h.same in let c = *ℤ_comm v f.denominator in is_above f.denominator v h.positive (omega (arith, ints, a, e, c))
 
 pub ratio_neg : (f : Ratio) (v s : ℤ) → IsRatio f v s → IsRatio (record { numerator = pos 0 -ℤ f.numerator; denominator = f.denominator }) (pos 0 -ℤ v) s
 ratio_neg f v s h = record {

@@ -2,6 +2,7 @@ use Rattle.std.proofs.Common.{◌≡◌, zero, suc, ◌⊎◌, inl, inr, ℤ, po
 use Rattle.std.proofs.lemmas.Int.{ints}
 use Rattle.std.proofs.Math.IntN.{*ℤ_comm}
 use Rattle.tv_linear.proofs.Ring.{mul_assoc_z, distribute_right_z}
+use Rattle.tv_fraction.proofs.Products.{product_above}
 
 pub mul_swap : (a b c : ℤ) → a *ℤ (b *ℤ c) ≡ b *ℤ (a *ℤ c)
 mul_swap a b c = sym (mul_assoc_z a b c) ∙ ap (λ z. z *ℤ c) (*ℤ_comm a b) ∙ mul_assoc_z b a c
@@ -22,12 +23,6 @@ under_times a b h k = grind (arith, ints)
 pub not_under_times : (a b : ℤ) → pos 0 ≤ℤ a → pos 0 ≤ℤ b → pos 0 ≤ℤ (a *ℤ b)
 not_under_times a b h k = grind (arith, ints)
 
-pub above_times : (a b : ℤ) → pos 0 <ℤ a → pos 0 <ℤ b → pos 0 <ℤ (a *ℤ b)
-above_times a b h k =
-    let more = not_under_times (a -ℤ pos 1) b (omega (arith, ints)) (omega (arith, ints)) in
-    let d = less_times a (pos 1) b in
-    omega (arith, ints, more, d)
-
 pub times_zero : (a b : ℤ) → b ≡ pos 0 → a *ℤ b ≡ pos 0
 times_zero a b e = ap (λ z. a *ℤ z) e ∙ omega (arith, ints)
 
@@ -44,7 +39,7 @@ is_zero a v h e = elim (by_sign v) [
   | inl n ↦ (let k = under_times v a n h in let c = *ℤ_comm a v in absurd (omega (arith, ints, k, c, e)))
   | inr w ↦ elim w [
     | inl z ↦ z
-    | inr p ↦ (let k = above_times a v h p in absurd (omega (arith, ints, k, e)))
+    | inr p ↦ (let k = product_above a v h p in absurd (omega (arith, ints, k, e)))
   ]
 ]
 

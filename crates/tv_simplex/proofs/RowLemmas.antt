@@ -7,12 +7,13 @@ use Rattle.std.proofs.Math.Nat.{dvd-zero, dvd_refl}
 use Prim.Native.Nat.{◌∣◌}
 use Rattle.tv_linear.proofs.Ring.{mul_assoc_z}
 use Rattle.tv_fraction.specs.declared.Fraction.{Fraction}
-use Rattle.tv_simplex.proofs.Ring.{zero_times, times_zero, less_times, by_sign, above_times, is_zero}
+use Rattle.tv_simplex.proofs.Ring.{zero_times, times_zero, less_times, by_sign, is_zero}
 use Rattle.tv_simplex.specs.Ratios.{Ratio, IsQuotient, IsLessProduct}
 use Rattle.tv_simplex.specs.declared.rows.Entry.{Entry}
 use Rattle.tv_simplex.specs.Rows.{ratio, ratio_of, none, entry_in, IsNarrowRatio, IsEntry, IsSparse, IsRow, IsRestOf, BeginsFrom, IsPut, IsDivided, IsTaken, IsMade}
 use Rattle.tv_linear.proofs.ListLaws.{last_or_below}
 use Rattle.std.proofs.lemmas.Bool.{cases_lt, cases_eq}
+use Rattle.tv_fraction.proofs.Products.{product_above}
 
 -- ---- the fraction in a column
 pub entry-here : (e : Entry) (es : List Entry) (j : ℕ) → e.column ≡ j → entry_in (e ∷ es) j ≡ ratio_of e
@@ -206,7 +207,7 @@ row_stays row pivots factor width sparse nothing = record {
 pub less_nothing : (f g h k : Ratio) → pos 0 <ℤ g.denominator → pos 0 <ℤ h.denominator → pos 0 <ℤ k.denominator → g.numerator ≡ pos 0 → h.numerator ≡ pos 0 → IsLessProduct f g h k → f.numerator ≡ pos 0
 less_nothing f g h k gp hp kp gz hz is =
     let d = h.denominator *ℤ k.denominator in
-    let p = above_times g.denominator d gp (above_times h.denominator k.denominator hp kp) in
+    let p = product_above g.denominator d gp (product_above h.denominator k.denominator hp kp) in
     let a = zero_times g.numerator d gz in
     let b = zero_times (h.numerator *ℤ k.numerator) g.denominator (zero_times h.numerator k.numerator hz) in
     let c : g.numerator *ℤ d -ℤ (h.numerator *ℤ k.numerator) *ℤ g.denominator ≡ pos 0 = omega (arith, ints, a, b) in

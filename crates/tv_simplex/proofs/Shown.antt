@@ -1,7 +1,7 @@
 use Rattle.std.proofs.Common.{◌≤ℤ◌, ◌≡◌, ℕ, inl, inr, ◌+◌, ◌<◌, ◌≤◌, List, ◌∷◌, set, arith, refl, sym, ap, ◌∙◌, subst, ℤ, pos, ◌-ℤ◌, ◌*ℤ◌, ◌<ℤ◌}
 use Rattle.std.proofs.lemmas.Int.{ints}
 use Rattle.std.proofs.Math.IntN.{*ℤ_comm}
-use Rattle.tv_simplex.proofs.Ring.{times_zero, zero_times, above_times, is_zero, times_less}
+use Rattle.tv_simplex.proofs.Ring.{times_zero, zero_times, is_zero, times_less}
 use Rattle.tv_simplex.proofs.RatioLemmas.{four, ratio_times, ratio_same, quotient, product, difference, value_below, value_not_under, num_zero}
 use Rattle.tv_simplex.proofs.Exchanged.{after, after_at, reduced_after, exchanged}
 use Rattle.tv_simplex.proofs.Sums.{delta-other}
@@ -14,6 +14,7 @@ use Rattle.tv_simplex.specs.Sums.{delta}
 use Rattle.tv_simplex.specs.Tableaus.{Tableau, Exchange}
 use Rattle.tv_simplex.specs.Chains.{order, objective, cost, column, Enters, Leaves, Step, IsChain, IsSystem, NoneNegative, Solves}
 use Rattle.tv_simplex.specs.Ratios.{Ratio, IsRatio, IsQuotient, IsLessProduct, Shows, compared, IsExchanged, Exchanges}
+use Rattle.tv_fraction.proofs.Products.{product_above}
 
 -- two quotients are compared as the products of what they are
 pub crossed : (f g : Ratio) (v w p q : ℤ) → IsRatio f v p → IsRatio g w q → (p *ℤ q) *ℤ compared f g ≡ (f.denominator *ℤ g.denominator) *ℤ (q *ℤ v -ℤ p *ℤ w)
@@ -31,7 +32,7 @@ less_product f g h k u v w t s p rg rh rk q =
     let multiplied : Ratio = record { numerator = h.numerator *ℤ k.numerator; denominator = h.denominator *ℤ k.denominator } in
     difference f g multiplied (p *ℤ u) (v *ℤ w) (s *ℤ p)
     (ratio_same g (p *ℤ u) (p *ℤ u) (p *ℤ s) (s *ℤ p) (ratio_times g u s p rg) refl (*ℤ_comm p s))
-    (product multiplied h k v w s p rh rk (record { positive = above_times h.denominator k.denominator rh.positive rk.positive; same = refl }))
+    (product multiplied h k v w s p rh rk (record { positive = product_above h.denominator k.denominator rh.positive rk.positive; same = refl }))
     (record { positive = q.positive; same = q.same })
 
 -- what is read of a row, over a scale

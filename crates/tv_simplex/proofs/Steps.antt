@@ -2,7 +2,7 @@ use Rattle.std.proofs.Common.{◌≡◌, ℕ, zero, suc, inl, inr, ◌+◌, ◌<
 use Rattle.std.proofs.lemmas.Int.{ints}
 use Rattle.std.proofs.Math.IntN.{*ℤ_comm}
 use Rattle.tv_linear.proofs.Ring.{mul_assoc_z}
-use Rattle.tv_simplex.proofs.Ring.{mul_swap, times_zero, above_times, by_sign, less_times, times_less}
+use Rattle.tv_simplex.proofs.Ring.{mul_swap, times_zero, by_sign, less_times, times_less}
 use Rattle.tv_simplex.proofs.Sums.{total-same, total-delta, delta-swap, delta-same, delta-other, delta-above}
 use Rattle.tv_simplex.proofs.Leads.{leads-same, leads-times, leads-divide, leads-add, leads-less, leads-never}
 use Rattle.tv_simplex.proofs.Unique.{same_tableau}
@@ -13,6 +13,7 @@ use Rattle.tv_simplex.specs.Tableaus.{Tableau, reduced, Exchange}
 use Rattle.tv_simplex.specs.Chains.{LeadsAbove, order, cost, objective, Leaves, IsSystem}
 use Rattle.tv_simplex.specs.Orders.{Feasible, ObjectiveBelow}
 use Rattle.std.proofs.lemmas.Bool.{cases_eq}
+use Rattle.tv_fraction.proofs.Products.{product_above}
 
 -- ---- one exchange
 module _ (a : ℕ → ℕ → ℤ) (m n : ℕ) (b b' : ℕ → ℕ) (x : Tableau a m n b) (r c : ℕ) (leaves : Leaves a m n b x c r) (e : Exchange m b b' r c) where
@@ -41,7 +42,7 @@ module _ (a : ℕ → ℕ → ℤ) (m n : ℕ) (b b' : ℕ → ℕ) (x : Tableau
   unfolding next_tableau exchanged
   next_above f negative =
       leads-same m (λ q. (x.scale *ℤ (pos 0 -ℤ objective a m n b x c)) *ℤ x.entry r (order m n q)) (λ q. x.scale *ℤ objective a m n b' next_tableau (order m n q) -ℤ (x.scale *ℤ x.entry r c) *ℤ objective a m n b x (order m n q))
-      (leads-times m (x.scale *ℤ (pos 0 -ℤ objective a m n b x c)) (λ q. x.entry r (order m n q)) (above_times x.scale (pos 0 -ℤ objective a m n b x c) x.positive (omega (arith, ints))) (f r leaves.within))
+      (leads-times m (x.scale *ℤ (pos 0 -ℤ objective a m n b x c)) (λ q. x.entry r (order m n q)) (product_above x.scale (pos 0 -ℤ objective a m n b x c) x.positive (omega (arith, ints))) (f r leaves.within))
       (λ q l. change (order m n q))
     where
       change : (j : ℕ) → (x.scale *ℤ (pos 0 -ℤ objective a m n b x c)) *ℤ x.entry r j ≡ x.scale *ℤ reduced m (cost m n) b' (x.scale *ℤ x.entry r c) (after x.scale x.entry r c) j -ℤ (x.scale *ℤ x.entry r c) *ℤ objective a m n b x j
