@@ -2,7 +2,8 @@
 
 use crate::claims::{Asks, is_said_of_texts};
 use crate::programs::{
-    BESIDE, BOTH_WAYS, CHAIN, CLIMBER, DRAWN, DRAWS, EMPTY, HALF, HALVES, IDLE, LEAVING, LOOP, STEP,
+    BESIDE, BOTH_WAYS, CHAIN, CLIMBER, DRAWN, DRAWS, EMPTY, FALLING, HALF, HALVES, IDLE, LEAVING,
+    LOOP, STEP,
 };
 use std::test::Fail;
 use tv_cert::{Claim, Verdict};
@@ -147,6 +148,27 @@ const PATHS: &[Example] = &[
     (DRAWN, "[AF](x < 0)", Wanted::Disproved),
 ];
 
+/// Weak untils that the last round leaves open. By itself, or in an until, one has the states at its end. In a weak until it has none, so that
+/// the outer one settles: with the states from 10 on its rounds would go on shrinking.
+const OPEN_INSIDE: &[Example] = &[
+    (FALLING, "x < 10 || [AW](x > 0)(x >= 10)", Wanted::Proved),
+    (
+        FALLING,
+        "x < 10 || [AF]([AW](x > 0)(x >= 10))",
+        Wanted::Proved,
+    ),
+    (
+        FALLING,
+        "y <= 0 || [AG](y > 0 || [AW](x > 0)(x >= 10))",
+        Wanted::Proved,
+    ),
+    (
+        FALLING,
+        "[AG](y > 0 || [AW](x > 0)(x >= 10))",
+        Wanted::Disproved,
+    ),
+];
+
 /// Termination inside formulas, by ranks.
 const TERMINATION: &[Example] = &[
     (LOOP, "[AX](term)", Wanted::Proved),
@@ -255,6 +277,17 @@ fn states_are_told(rt: HostRuntime) -> Result<(), Fail> {
 #[test]
 fn paths_are_told(rt: HostRuntime) -> Result<(), Fail> {
     for (program, property, wanted) in PATHS {
+        assert!(rt;
+            is_said_of_texts(rt.alloc(), program, property, &AMPLE, wanted)?,
+            "{property}"
+        );
+    }
+    Ok(())
+}
+
+#[test]
+fn open_arguments_are_told(rt: HostRuntime) -> Result<(), Fail> {
+    for (program, property, wanted) in OPEN_INSIDE {
         assert!(rt;
             is_said_of_texts(rt.alloc(), program, property, &AMPLE, wanted)?,
             "{property}"

@@ -20,6 +20,9 @@ pub(crate) const CLIMBER: &str = "START: 0; FROM: 0; assume(x > 0); x := x + 1; 
 pub(crate) const BESIDE: &str =
     "START: 0; FROM: 0; assume(x > 0); x := x - 1; y := y; z := z; w := w; TO: 0;";
 
+/// Counts down for ever, beside a number that stays.
+pub(crate) const FALLING: &str = "START: 0; FROM: 0; x := x - 1; y := y; TO: 0;";
+
 /// One step that changes nothing.
 pub(crate) const STEP: &str = "START: 0; FROM: 0; x := x; TO: 1;";
 

@@ -1,5 +1,5 @@
 -- Fixed points by their rounds.
-use Rattle.std.proofs.Common.{Vec, ◌≡◌, ◌⊎◌, inl, inr, ℕ, suc, ◌+◌, ◌≤◌, List, [], ◌∷◌, ◌++◌, length, sym, subst, arith, true, false}
+use Rattle.std.proofs.Common.{Vec, ◌≡◌, ◌⊎◌, inl, inr, ℕ, suc, ◌+◌, ◌≤◌, List, [], ◌∷◌, ◌++◌, length, sym, ap, ◌∙◌, subst, arith, true, false, append-nil}
 use Rattle.std.specs.Prelude.{All}
 use Rattle.std.proofs.lemmas.List.Elements.{Contains-append_left, Contains-append_right}
 use Rattle.tv_formula.specs.declared.tree.Path.{Path}
@@ -29,7 +29,8 @@ use Rattle.tv_cert.specs.declared.node.Node.{Node}
 use Rattle.tv_formula.specs.Properties.{Property, none, more}
 use Rattle.tv_formula.specs.Properties as props
 use Rattle.tv_rounds.specs.Calls.{IsNowhere}
-use Rattle.tv_pre.specs.Fixed.{AreOver, AreStaying, IsJoined, AsksEnds, AsksStaying}
+use Rattle.tv_pre.specs.Inclusions.{OfPieces}
+use Rattle.tv_pre.specs.Fixed.{AreOver, AtEnd, AreStaying, IsJoined, AsksEnds, AsksStaying}
 use Rattle.std.specs.Global.{Global}
 use Rattle.tv_region.specs.Regions.{IsRegion}
 use Rattle.tv_region.specs.Differences.{IsOfDifferences}
@@ -37,7 +38,7 @@ use Rattle.tv_pre.specs.Growing.{AreNextLayers, AsksLayers}
 use Rattle.tv_pre.specs.Questions.{Question}
 use Rattle.tv_pre.specs.Finding.{IsTameFor}
 use Rattle.tv_pre.specs.Along.{arguments, IsOfSides, AreRoundsOf, AreOnward, AreAtEnd, IsAlong}
-use Rattle.tv_pre.specs.Built.{IsBuilt, of_joined, AreBuilt, IsAsked, IsBuiltOf, IsFaultOf, IsPreFault}
+use Rattle.tv_pre.specs.Built.{IsBuilt, of_nowhere, of_joined, AreBuilt, IsAsked, IsBuiltOf, IsFaultOf, IsPreFault}
 use Rattle.tv_farkas.specs.declared.budget.Budget.{Budget}
 use Rattle.tv_pre.specs.declared.fault.PreFault.{PreFault}
 use Rattle.tv_pre.proofs.BuiltLemmas.{fault_to, built_to, all_built_to, asked_to, made_built, hold_built, first_built, rest_built, more_built, one_built, pieces_of, joined_of}
@@ -49,7 +50,7 @@ module _ (about : CaseSystem) (cases : All (IsCase about.variables about.locatio
   goes_more Every P Q s is w h = (h.0, λ t st. w t (stays_state about cases s t is st) (h.1 t st))
   goes_more Any P Q s is w h = (h.0, h.1, w h.0 (stays_state about cases s h.0 is h.1) h.2)
 
-  stays_more : (path : Path) (P Q : State → Type 0) (s : State) → IsStateOf about s → ((t : State) → IsStateOf about t → P t → Q t) → StaysIn (CaseSteps about) path P s → StaysIn (CaseSteps about) path Q s
+  pub stays_more : (path : Path) (P Q : State → Type 0) (s : State) → IsStateOf about s → ((t : State) → IsStateOf about t → P t → Q t) → StaysIn (CaseSteps about) path P s → StaysIn (CaseSteps about) path Q s
   stays_more Every P Q s is w h = λ t st. w t (stays_state about cases s t is st) (h t st)
   stays_more Any P Q s is w (inl h) = inl (h.0, h.1, w h.0 (stays_state about cases s h.0 is h.1) h.2)
   stays_more Any P Q s is w (inr h) = inr h
@@ -136,9 +137,27 @@ pub given_less : (about : CaseSystem) (budget : Budget) (k n : ℕ) (end : Regio
 given_less about budget k n end given fault r l i e f = λ s h m.
     subst (IsPreFault about s budget (n + h)) (sym i) (fault_to about s budget (k + (0 + h)) (n + h) fault (omega (arith, l)) (f s (0 + h) (end_and_given about end given e s h m)))
 
-pub no_onward : (about : CaseSystem) (sides : Sides) (end onward : Region) → AreAtEnd about sides end → IsNowhere about onward → AreStaying about sides end.pieces.items onward.pieces.items (joined_pieces (end ∷ onward ∷ []))
+-- ---- no states in place of those at the end
+module _ (about : CaseSystem) (sides : Sides) (end none : Region) (n : IsNowhere about none) where
+  pub none_at_end : OfPieces about none.pieces.items (AtEnd sides)
+  none_at_end s p m = absurd (no_piece none.pieces.items s n.none m)
+
+  none_given : (s : Statement) (h : ℕ) → AreBuilt about s h (end ∷ arguments sides) → AreBuilt about s (0 + h) (none ∷ arguments sides)
+  none_given s h m = more_built about s (0 + h) none (arguments sides) (of_nowhere (0 + h) none n) (all_built_to about s h (0 + h) (arguments sides) (omega arith) (rest_built about s h end (arguments sides) m))
+
+  pub none_along : (children : List Node) (part : Part) → IsAlong about 0 (none ∷ arguments sides) sides children part → IsAlong about 0 (end ∷ arguments sides) sides children part
+  none_along children part a = along_more about 0 0 (none ∷ arguments sides) (end ∷ arguments sides) sides children part (omega arith) none_given a
+
+  pub none_fault : (budget : Budget) (fault r : PreFault) → r ≡ fault → IsFaultOf about budget 1 (none ∷ arguments sides) fault → IsFaultOf about budget 1 (end ∷ arguments sides) r
+  none_fault budget fault r e f = λ s h m. subst (IsPreFault about s budget (1 + h)) (sym e) (fault_to about s budget (1 + (0 + h)) (1 + h) fault (omega arith) (f s (0 + h) (none_given s h m)))
+
+-- the pieces of a region and of none behind it
+pub one_joined : (end : Region) (rest : List Region) (qs : List Piece) → joined_pieces rest ≡ [] → qs ≡ joined_pieces (end ∷ rest) → qs ≡ end.pieces.items
+one_joined end rest qs bare e = e ∙ ap (λ ps. end.pieces.items ++ ps) bare ∙ append-nil end.pieces.items
+
+pub no_onward : (about : CaseSystem) (sides : Sides) (end onward : Region) → OfPieces about end.pieces.items (AtEnd sides) → IsNowhere about onward → AreStaying about sides end.pieces.items onward.pieces.items (joined_pieces (end ∷ onward ∷ []))
 no_onward about sides end onward e n = record {
-  ends = λ s p m. e.right s p m;
+  ends = λ s p m. e s p m;
   hold = λ s p m. absurd (no_piece onward.pieces.items s n.none m);
   stays = λ s p m. absurd (no_piece onward.pieces.items s n.none m);
 }
@@ -178,6 +197,9 @@ open_rounds about last sides end answer region layers e h = let told = subst (Is
 
 pub settled_round : (about : CaseSystem) (last : ℕ) (sides : Sides) (end : Region) (answer : Rounds) (region : Region) (at : ℕ) (layers : Vec Region Global) → answer ≡ Settled region at layers → must_end sides.shape ≡ false → (h : AreRoundsOf about last sides end answer) → IsSettledAt false about h.point last region at layers.items
 settled_round about last sides end answer region at layers e t h = subst (λ b. IsAnswer b about h.point last (Settled region at layers)) t (subst (IsAnswer (must_end sides.shape) about h.point last) e h.rounds)
+
+pub open_round : (about : CaseSystem) (last : ℕ) (sides : Sides) (end : Region) (answer : Rounds) (region : Region) (layers : Vec Region Global) → answer ≡ Open region layers → must_end sides.shape ≡ false → (h : AreRoundsOf about last sides end answer) → IsOpenAt false about h.point last region layers.items
+open_round about last sides end answer region layers e t h = subst (λ b. IsAnswer b about h.point last (Open region layers)) t (subst (IsAnswer (must_end sides.shape) about h.point last) e h.rounds)
 
 -- ---- what is asked of the parts that are made of rounds
 module _ (about : CaseSystem) (last : ℕ) (sides : Sides) (end : Region) (s : Statement) (h : ℕ) (m : AreBuilt about s h (end ∷ arguments sides)) where

@@ -1,5 +1,5 @@
 -- What is found of the arguments of a formula, one after the other.
-use Rattle.std.proofs.Common.{◌≡◌, ℕ, zero, suc, ◌+◌, ◌<◌, ◌≤◌, List, [], ◌∷◌, ◌++◌, length, map, get_or, arith, refl, sym, ap, ◌∙◌, subst, append-nil, append_assoc, length-append, None}
+use Rattle.std.proofs.Common.{◌≡◌, Bool, ℕ, zero, suc, ◌+◌, ◌<◌, ◌≤◌, List, [], ◌∷◌, ◌++◌, length, map, get_or, arith, refl, sym, ap, ◌∙◌, subst, append-nil, append_assoc, length-append, None}
 use Rattle.std.specs.List.{AllZip}
 use Rattle.std.proofs.lemmas.List.{length-map}
 use Rattle.tv_cases.specs.LinearCases.{CaseSystem}
@@ -8,9 +8,43 @@ use Rattle.tv_cert.specs.AimViews.{aim_states}
 use Rattle.tv_cert.specs.Statements.{Statement}
 use Rattle.tv_pre.specs.declared.finding.Arguments.{Arguments}
 use Rattle.tv_pre.specs.declared.outcome.Found.{Found}
-use Rattle.tv_pre.specs.Arguments.{AreArguments, AreFoundFirst}
+use Rattle.tv_linear.specs.declared.region.Region.{Region}
+use Rattle.tv_pre.specs.Arguments.{AreArguments, AreFoundFirst, AreKnownFirst, regions_of}
+use Rattle.tv_pre.specs.KnownStates.{HasKnownStates, AreKnownFor}
 use Rattle.tv_pre.specs.Finding.{IsFound, first_of, gap_behind}
 use Rattle.tv_pre.proofs.FoundLemmas.{argument_added, first_arguments}
+
+-- ---- their regions
+pub one_region : (founds rest later : List Found) (found : Found) (old new : List Region) → rest ≡ found ∷ later → regions_of founds ≡ old ++ regions_of rest → new ≡ old ++ found.part.region ∷ [] → regions_of founds ≡ new ++ regions_of later
+one_region founds rest later found old new e h r =
+    h ∙ ap (λ fs. old ++ regions_of fs) e ∙ sym (append_assoc old (found.part.region ∷ []) (regions_of later)) ∙ ap (λ rs. rs ++ regions_of later) (sym r)
+
+pub all_regions : (founds rest : List Found) (regions : List Region) → rest ≡ [] → regions_of founds ≡ regions ++ regions_of rest → regions ≡ regions_of founds
+all_regions founds rest regions e h = sym (h ∙ ap (λ fs. regions ++ regions_of fs) e ∙ append-nil regions)
+
+-- ---- what they have
+module _ (about : CaseSystem) (last : ℕ) (alone : Bool) where
+  known_more : (aims : List Aim) (founds : List Found) (i : ℕ) (aim : Aim) (found : Found) → i < length aims → aim ≡ get_or aims i aim → length founds ≡ i → AreKnownFirst about last alone (map aim_states aims) founds → HasKnownStates about last alone (aim_states aim) found →
+      AreKnownFirst about last alone (map aim_states aims) (founds ++ found ∷ [])
+  known_more [] founds i aim found below is many h f = absurd (omega (arith, below))
+  known_more (a ∷ aims) [] zero aim found below is many h f = (subst (λ (z : Aim). HasKnownStates about last alone (aim_states z) found) is f, tt)
+  known_more (a ∷ aims) [] (suc i) aim found below is many h f = absurd (omega (arith, many))
+  known_more (a ∷ aims) (b ∷ founds) zero aim found below is many h f = absurd (omega (arith, many))
+  known_more (a ∷ aims) (b ∷ founds) (suc i) aim found below is many h f = (h.0, known_more aims founds i aim found (omega (arith, below)) is (omega (arith, many)) h.1 f)
+
+  pub one_known : (aims : List Aim) (founds pushed : List Found) (i : ℕ) (aim : Aim) (found : Found) → i < length aims → aim ≡ get_or aims i aim → length founds ≡ i → AreKnownFirst about last alone (map aim_states aims) founds → HasKnownStates about last alone (aim_states aim) found →
+      pushed ≡ founds ++ found ∷ [] → AreKnownFirst about last alone (map aim_states aims) pushed
+  one_known aims founds pushed i aim found below is many h f e = subst (AreKnownFirst about last alone (map aim_states aims)) (sym e) (known_more aims founds i aim found below is many h f)
+
+  known_all : (ss : List Statement) (founds : List Found) → length founds ≡ length ss → AreKnownFirst about last alone ss founds → AreKnownFor about last alone ss (regions_of founds)
+  known_all [] [] many h = tt
+  known_all [] (b ∷ founds) many h = absurd h
+  known_all (s ∷ ss) [] many h = absurd (omega (arith, many))
+  known_all (s ∷ ss) (b ∷ founds) many h = (h.0.states, known_all ss founds (omega (arith, many)) h.1)
+
+  pub all_known : (aims : List Aim) (founds : List Found) (regions : List Region) (i : ℕ) → length aims ≤ i → i ≤ length aims → length founds ≡ i → AreKnownFirst about last alone (map aim_states aims) founds → regions ≡ regions_of founds → AreKnownFor about last alone (map aim_states aims) regions
+  all_known aims founds regions i past within many h e =
+      subst (AreKnownFor about last alone (map aim_states aims)) (sym e) (known_all (map aim_states aims) founds (let k = length-map aims aim_states in omega (arith, k, past, within, many)) h)
 
 module _ (about : CaseSystem) (last : ℕ) where
   -- one more is found

@@ -31,7 +31,7 @@ use Rattle.tv_pre.specs.Inclusions.{OfPiece, OfPieces}
 use Rattle.tv_pre.specs.Parts.{joined_pieces}
 use Rattle.tv_pre.specs.Pieces.{InPieces}
 use Rattle.tv_pre.specs.Questions.{Question, lies, AsksOf}
-use Rattle.tv_pre.specs.RankedAlong.{HasAll, AreGoing, IsBesideIfPlain}
+use Rattle.tv_pre.specs.RankedAlong.{HasAll, AreGoing, IsBesideIfTame}
 use Rattle.tv_pre.specs.Unserved.{SomeIsOutside, IsUnservedBy}
 use Rattle.tv_pre.proofs.AskedLemmas.{place_asked}
 use Rattle.tv_pre.proofs.BuiltLemmas.{pieces_of, joined_of}
@@ -88,12 +88,12 @@ module _ (about : CaseSystem) (first second : Region) where
   all_between all e h s is = h s is (e.all s is.location)
 
 -- so some state is neither at the end nor on the way with a step
-pub beside_of : (about : CaseSystem) (sides : Sides) (end onward : Region) → AreAtEnd about sides end → AreGoing about sides onward → SomeIsOutside about end onward → IsBesideIfPlain about sides
-beside_of about sides end onward e o out plain = record {
+pub beside_of : (about : CaseSystem) (sides : Sides) (end onward : Region) → AreAtEnd about sides end → AreGoing about sides onward → SomeIsOutside about end onward → IsBesideIfTame about sides
+beside_of about sides end onward e o out tame = record {
   state = out.state;
   is = out.is;
   not_end = λ m. out.not_first (e.all tt out.state out.is m);
-  not_way = λ m goes. out.not_second (o.all plain out.state out.is (m, goes));
+  not_way = λ m goes. out.not_second (o.all tame out.state out.is (m, goes));
 }
 
 -- ---- what is asked
@@ -102,13 +102,13 @@ between_asked about s h own first second b each a w =
     place_asked about s h own.pieces.items (joined_pieces (first ∷ second ∷ [])) w.0 a (pieces_of about s h own b) w.1 (joined_of about s h (first ∷ second ∷ []) each) w.2
 
 -- ---- other sets
-end_other : (shape : Shape) (P Q R S : State → Type 0) (s : State) → (P s → R s) → (Q s → S s) → EndSides shape P Q s → EndSides shape R S s
+pub end_other : (shape : Shape) (P Q R S : State → Type 0) (s : State) → (P s → R s) → (Q s → S s) → EndSides shape P Q s → EndSides shape R S s
 end_other Until P Q R S s f g h = g h
 end_other Weak P Q R S s f g h = g h
 end_other Release P Q R S s f g h = (f h.0, g h.1)
 end_other Strong P Q R S s f g h = (f h.0, g h.1)
 
-hold_other : (shape : Shape) (P Q R S : State → Type 0) (s : State) → (P s → R s) → (Q s → S s) → HoldSide shape P Q s → HoldSide shape R S s
+pub hold_other : (shape : Shape) (P Q R S : State → Type 0) (s : State) → (P s → R s) → (Q s → S s) → HoldSide shape P Q s → HoldSide shape R S s
 hold_other Until P Q R S s f g h = f h
 hold_other Weak P Q R S s f g h = f h
 hold_other Release P Q R S s f g h = g h

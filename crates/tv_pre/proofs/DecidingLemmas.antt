@@ -1,5 +1,5 @@
 -- What came of a claim at the start.
-use Rattle.std.proofs.Common.{◌≡◌, inl, inr, ℕ, ◌<◌, List, length, None, Some, Option, ◌∙◌, refl, sym, ap, subst, ℤ}
+use Rattle.std.proofs.Common.{◌≡◌, inl, inr, ℕ, ◌<◌, List, length, false, None, Some, Option, ◌∙◌, refl, sym, ap, subst, ℤ}
 use Rattle.std.specs.Prelude.{IfSome}
 use Rattle.tv_formula.specs.Properties.{Property}
 use Rattle.tv_cases.specs.Comparisons.{comparison_lists}
@@ -17,6 +17,7 @@ use Rattle.tv_pre.specs.declared.gap.Gap.{Gap}
 use Rattle.tv_pre.specs.declared.gap.Gap.TheVariants.{Inexact, Open}
 use Rattle.tv_pre.specs.Finding.{first_of}
 use Rattle.tv_pre.specs.Full.{HasRows}
+use Rattle.tv_pre.specs.KnownStates.{IsKnownFor}
 use Rattle.tv_pre.specs.Starting.{HasNoStart}
 use Rattle.tv_pre.proofs.GapLemmas.{gap_in_order, gap_weaker}
 use Rattle.tv_formula.specs.Formulas.{property_of}
@@ -43,15 +44,15 @@ pub states_of : (about : CaseSystem) (n : ℕ) (t : Statement) (f : Property) �
 states_of about n t f e v = e ∙ ap (λ m. stated (comparison_lists m) f) v
 
 -- what a search says of its answer, whatever the last round is
-pub found_of : (about : CaseSystem) (t s : Statement) (found : Found) → t ≡ s → IsRegion about.variables about.locations found.part.region → IsPartFor about t found.part.region found.part.node → ((last : ℕ) → IsLastRound about 8 last → IsBuilt about t (steps_back last t) found.part.region) → found.size ≡ size t → IfSome found.gap (IsGapOf about) → ((last : ℕ) → IsLastRound about 8 last → IfSome found.gap (IsGapFor about last t)) → (found.gap ≡ None → IsFullFor about t found.part.region) → IsFoundOf about s found
-found_of about t s found e over part built many gap tells full = subst (λ u. IsFoundOf about u found) e (record { over = over; shows = part; built = built; size = many; gap = gap; tells = tells; full = full })
+pub found_of : (about : CaseSystem) (t s : Statement) (found : Found) → t ≡ s → IsRegion about.variables about.locations found.part.region → IsPartFor about t found.part.region found.part.node → ((last : ℕ) → IsLastRound about 8 last → IsBuilt about t (steps_back last t) found.part.region) → found.size ≡ size t → IfSome found.gap (IsGapOf about) → ((last : ℕ) → IsLastRound about 8 last → IfSome found.gap (IsGapFor about last t)) → (found.gap ≡ None → IsFullFor about t found.part.region) → ((last : ℕ) → IsLastRound about 8 last → IsKnownFor about last false t found.part.region) → IsFoundOf about s found
+found_of about t s found e over part built many gap tells full known = subst (λ u. IsFoundOf about u found) e (record { over = over; shows = part; built = built; size = many; gap = gap; tells = tells; full = full; known = known })
 
 pub fault_of : (about : CaseSystem) (t s : Statement) (budget : Budget) (fault : PreFault) → t ≡ s → ((last : ℕ) → IsLastRound about 8 last → IsPreFault about t budget (steps_back last t) fault) → (last : ℕ) → IsLastRound about 8 last → IsPreFault about s budget (steps_back last s) fault
 fault_of about t s budget fault e h = subst (λ u. (last : ℕ) → IsLastRound about 8 last → IsPreFault about u budget (steps_back last u) fault) e h
 
 -- ---- where the start tells nothing of either side
 -- no point of the start lies in lists none of which has one
-out_of_none : (about : CaseSystem) (region : Region) (xs : List ℤ) → HasNoStart about region.pieces.items → length xs ≡ about.variables → InState region (state about.start xs) → ⊥
+pub out_of_none : (about : CaseSystem) (region : Region) (xs : List ℤ) → HasNoStart about region.pieces.items → length xs ≡ about.variables → InState region (state about.start xs) → ⊥
 out_of_none about region xs none wide m =
     let w = some_passes (met.all_met xs) (lists_at about.start region.pieces.items) (state_in about.start xs region m) in
     none w.0 w.1 xs (record { width = wide; met = all_met-all xs w.0 w.2 })

@@ -29,7 +29,7 @@ use Rattle.tv_pre.specs.Built.{of_everywhere, of_nowhere, of_joined, AreBuilt, I
 use Rattle.tv_pre.specs.Counted.{IsWithin, IsCountedFor, IsCountedAlong}
 use Rattle.tv_pre.specs.Ending.{AreEndLayers, AsksEndLayers}
 use Rattle.tv_pre.specs.Faults.{IsOfCover}
-use Rattle.tv_pre.specs.Finding.{IsTameFor, IsGapFor, IsFound, IsRefusedFor}
+use Rattle.tv_pre.specs.Finding.{IsTameFor, IsTameStatement, IsGapFor, IsFound, IsRefusedFor}
 use Rattle.tv_pre.specs.Fixed.{AreOver, IsJoined}
 use Rattle.tv_pre.specs.Full.{IsFull}
 use Rattle.tv_pre.specs.Growing.{IsEverywhere}
@@ -130,9 +130,11 @@ module _ (about : CaseSystem) (last : ℕ) (none stops : Region) (n : IsNowhere 
       cover_fault about budget statements.ends ((last + 2) + (last + 2)) (AsksEndLayers about [] (stops ∷ layers))
       (λ a w. ends_asked about statements.ends 1 ((last + 2) + (last + 2)) (stops ∷ layers) a (omega arith) alone_made w) fault f is refusal
 
+  pub ends_wild : (anywhere : Region) → IsEverywhere about anywhere → (IsTameFor about anywhere stops → ⊥) → IsTameStatement about statements.ends → ⊥
+  ends_wild anywhere all wild tame = wild (tame_built about statements.ends tame 1 1 anywhere stops (of_everywhere 1 anywhere all) (back_built about none stops built statements.ends (of_nowhere 0 none n)))
+
   pub alone_found : (anywhere : Region) → IsEverywhere about anywhere → (IsTameFor about anywhere stops → ⊥) → (found : Found) → IsJoined about (stops ∷ layers) found.part.region → IsPart about term found.part.region found.part.node → found.size ≡ 1 → found.gap ≡ Some Inexact → IsFound about last statements.ends found
   alone_found anywhere all wild found j part size gap =
       term_found about last found j.over part (built_to about statements.ends 1 ((last + 2) + (last + 2)) found.part.region (omega arith) (of_joined 1 (stops ∷ layers) found.part.region alone_made j)) size
-      (subst (λ o. IfSome o (IsGapFor about last statements.ends)) (sym gap)
-      (λ tame. wild (tame_built about statements.ends tame 1 1 anywhere stops (of_everywhere 1 anywhere all) (back_built about none stops built statements.ends (of_nowhere 0 none n)))))
+      (subst (λ o. IfSome o (IsGapFor about last statements.ends)) (sym gap) (ends_wild anywhere all wild))
       (λ whole. absurd (let other : Some Inexact ≡ None = sym gap ∙ whole in cc)) (λ plain m is l. absurd (wild (inl plain)))

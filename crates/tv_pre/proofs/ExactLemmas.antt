@@ -118,14 +118,14 @@ module _ (about : CaseSystem) where
       end_same : (s : State) → IsStateOf about s → InState point.end.now s ↔ EndSides sides.shape (InState sides.first.now) (InState sides.second.now) s
       end_same s is = (λ m. ends.right s is (subst (λ r. InState r s) of.ends m), λ m. subst (λ r. InState r s) (sym of.ends) (ends.all tt s is m))
 
-      to_sides : (j : ℕ) (s : State) → IsStateOf about s → RoundOf (must_end sides.shape) about point j s → FixRound about sides.path sides.shape (InState sides.first.now) (InState sides.second.now) j s
+      pub to_sides : (j : ℕ) (s : State) → IsStateOf about s → RoundOf (must_end sides.shape) about point j s → FixRound about sides.path sides.shape (InState sides.first.now) (InState sides.second.now) j s
       to_sides j s is r =
           round_wider (CaseSteps about) (IsStateOf about) (λ t u q st. stays_state about cases t u q st) sides.path (InState point.hold.now) (InState point.end.now)
           (HoldSide sides.shape (InState sides.first.now) (InState sides.second.now)) (EndSides sides.shape (InState sides.first.now) (InState sides.second.now))
           (λ t q x. (way_same t q).0 x) (λ t q x. (end_same t q).0 x) (must_end sides.shape) j s is
           (subst (λ (q : Path). RoundBy (must_end sides.shape) (CaseSteps about) q (InState point.hold.now) (InState point.end.now) j s) of.path r)
 
-      from_sides : (j : ℕ) (s : State) → IsStateOf about s → FixRound about sides.path sides.shape (InState sides.first.now) (InState sides.second.now) j s → RoundOf (must_end sides.shape) about point j s
+      pub from_sides : (j : ℕ) (s : State) → IsStateOf about s → FixRound about sides.path sides.shape (InState sides.first.now) (InState sides.second.now) j s → RoundOf (must_end sides.shape) about point j s
       from_sides j s is r =
           subst (λ (q : Path). RoundBy (must_end sides.shape) (CaseSteps about) q (InState point.hold.now) (InState point.end.now) j s) (sym of.path)
           (round_wider (CaseSteps about) (IsStateOf about) (λ t u q st. stays_state about cases t u q st) sides.path

@@ -336,7 +336,7 @@ module _ (about : CaseSystem) (last : ℕ) where
   denied_elsewhere k (props.next path f) e = absurd cc
   denied_elsewhere k (props.fix path shape f g) e = absurd cc
 
-  test_states : (t : Test) (f : Property) → test_statement t ≡ stated (comparison_lists about.variables) f → IsTestOf about.variables t f
+  pub test_states : (t : Test) (f : Property) → test_statement t ≡ stated (comparison_lists about.variables) f → IsTestOf about.variables t f
   test_states (Rows lists) (props.truth b) e = cc
   test_states (Rows lists) (props.compare r a b) e = cc
   test_states (Rows lists) (props.at l) e = absurd cc

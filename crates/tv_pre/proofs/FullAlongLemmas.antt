@@ -105,6 +105,23 @@ module _ (about : CaseSystem) (cases : All (IsCase about.variables about.locatio
   shape_fails Strong path way ends s p x = with_weak (CaseSteps about) path P Q s (holds_wider about cases Apart Neither P Q
       (λ t q y. elim (told_first t q) [ inl m ↦ inr (second t q (λ o. y (ends t q (m, o)))) | inr m ↦ inl (first t q m) ]) (λ t q y. second t q (λ m. y.0 (way t q m))) false path s p x)
 
+-- ---- rounds and what they add
+module _ (about : CaseSystem) (sides : Sides) (end : Region) (point : FixedPoint) (of : IsOfSides sides end point) where
+  layers_have : (k : ℕ) (layers : List Region) → AreLayers about point k layers → (s : State) → IsStateOf about s → RoundOf true about point (k + length layers) s → RoundOf true about point k s ⊎ ((r : Region) × Contains layers r × InState r s)
+  layers_have k [] h s p m = inl (subst (λ j. RoundOf true about point j s) (let e : k + 0 ≡ k = omega arith in e) m)
+  layers_have k (layer ∷ layers) h s p m =
+      elim (layers_have (suc k) layers h.1 s p (subst (λ j. RoundOf true about point j s) (let e : k + suc (length layers) ≡ suc k + length layers = omega arith in e) m)) [
+        | inl x ↦ elim x [ inl y ↦ inl y | inr y ↦ inr (layer, Contains-here layer layers, (h.0.set.same s p).1 y) ]
+        | inr x ↦ inr (x.0, Contains-later layer x.0 layers x.1, x.2)
+      ]
+
+  -- the last of them has the states of the end and of the layers
+  pub grown_inside : (layers : List Region) → AreLayers about point 0 layers → (s : State) → IsStateOf about s → RoundOf true about point (length layers) s → InPieces (joined_pieces (end ∷ layers)) s
+  grown_inside layers each s p m = elim (layers_have 0 layers each s p (subst (λ j. RoundOf true about point j s) (let e : length layers ≡ 0 + length layers = omega arith in e) m)) [
+    | inl x ↦ in_joined (end ∷ layers) end s (Contains-here end layers) (subst (λ r. InState r s) of.ends x)
+    | inr x ↦ in_joined (end ∷ layers) x.0 s (Contains-later end x.0 layers x.1) x.2
+  ]
+
 -- ---- parts of fixed points
 module _ (about : CaseSystem) (cases : All (IsCase about.variables about.locations) about.cases) (sides : Sides) (end : Region) (point : FixedPoint) (of : IsOfSides sides end point) (over : AreOver about sides) (ends : AreAtEnd about sides end) where
   fails_is : (f g : Property) → IsFull about f sides.first.now → IsFull about g sides.second.now → (s : State) → IsStateOf about s → FailsAt (must_end sides.shape) about point s → Holds (CaseSteps about) (negation (fix sides.path sides.shape f g)) s
@@ -120,21 +137,9 @@ module _ (about : CaseSystem) (cases : All (IsCase about.variables about.locatio
   along_full round region full inside f g first second s p n = fails_is f g first second s p (full s p (λ m. n (inside s p m)))
 
   -- ---- rounds that grow
-  layers_have : (k : ℕ) (layers : List Region) → AreLayers about point k layers → (s : State) → IsStateOf about s → RoundOf true about point (k + length layers) s → RoundOf true about point k s ⊎ ((r : Region) × Contains layers r × InState r s)
-  layers_have k [] h s p m = inl (subst (λ j. RoundOf true about point j s) (let e : k + 0 ≡ k = omega arith in e) m)
-  layers_have k (layer ∷ layers) h s p m =
-      elim (layers_have (suc k) layers h.1 s p (subst (λ j. RoundOf true about point j s) (let e : k + suc (length layers) ≡ suc k + length layers = omega arith in e) m)) [
-        | inl x ↦ elim x [ inl y ↦ inl y | inr y ↦ inr (layer, Contains-here layer layers, (h.0.set.same s p).1 y) ]
-        | inr x ↦ inr (x.0, Contains-later layer x.0 layers x.1, x.2)
-      ]
-
   pub grown_full : (last : ℕ) (round region : Region) (at : ℕ) (layers : List Region) → must_end sides.shape ≡ true → IsSettledAt true about point last round at layers → rounds.IsFull (must_end sides.shape) about point round → IsJoined about (end ∷ layers) region → IsFullAlong about sides region
-  grown_full last round region at layers shape told full joined = along_full round region full (λ s p m. subst (λ qs. InPieces qs s) (sym joined.pieces) (whole s p ((told.round.set.same s p).0 m))) where
-    whole : (s : State) → IsStateOf about s → RoundOf true about point at s → InPieces (joined_pieces (end ∷ layers)) s
-    whole s p m = elim (layers_have 0 layers told.layers.each s p (subst (λ j. RoundOf true about point j s) (let w = told.layers.many in let e : at ≡ 0 + length layers = omega (arith, w) in e) m)) [
-      | inl x ↦ in_joined (end ∷ layers) end s (Contains-here end layers) (subst (λ r. InState r s) of.ends x)
-      | inr x ↦ in_joined (end ∷ layers) x.0 s (Contains-later end x.0 layers x.1) x.2
-    ]
+  grown_full last round region at layers shape told full joined =
+      along_full round region full (λ s p m. subst (λ qs. InPieces qs s) (sym joined.pieces) (grown_inside about sides end point of layers told.layers.each s p (subst (λ j. RoundOf true about point j s) (sym told.layers.many) ((told.round.set.same s p).0 m))))
 
   -- ---- rounds that shrink
   pub shrunk_full : (k : ℕ) (round onward region : Region) → IsRound false about point k round → IsSettledBy false about point k → AreTame about point → AreOnward about sides round onward → rounds.IsFull (must_end sides.shape) about point round → IsJoined about (end ∷ onward ∷ []) region → IsFullAlong about sides region

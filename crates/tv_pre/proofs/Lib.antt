@@ -38,6 +38,7 @@ pub mod EvenLemmas
 pub mod SizedAtoms
 pub mod FoundLemmas
 pub mod ArgumentLemmas
+pub mod InnerLemmas
 pub mod EqualityLemmas
 pub mod SameRegionLemmas
 pub mod SameFoundLemmas
@@ -53,7 +54,9 @@ pub mod TameLemmas
 pub mod ExactLemmas
 pub mod GapLemmas
 pub mod GapAlongLemmas
+pub mod KnownFormulas
 pub mod ToldLemmas
+pub mod DecidedLemmas
 pub mod RankedToldLemmas
 pub mod OppositeRounds
 pub mod NegationLemmas
@@ -71,3 +74,6 @@ pub mod TerminationFound
 pub mod TerminationRounds
 pub mod EndsByRounds
 pub mod NeverByRounds
+pub mod KnownRounds
+pub mod KnownAlongLemmas
+pub mod KnownTermination

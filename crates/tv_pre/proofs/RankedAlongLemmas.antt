@@ -5,12 +5,13 @@ use Rattle.tv_formula.specs.declared.tree.Path.{Path}
 use Rattle.tv_formula.specs.declared.tree.Path.TheVariants.{Every, Any}
 use Rattle.tv_linear.specs.declared.region.Region.{Region}
 use Rattle.tv_cases.specs.LinearCases.{CaseSystem, IsCase}
+use Rattle.tv_cases.proofs.ContainsLemmas.{Contains-cases, Contains-none}
 use Rattle.tv_cert.specs.Obligations.{hold_side}
 use Rattle.tv_cert.specs.Statements.{Statement}
 use Rattle.tv_known.proofs.RoundLemmas.{stays_state}
 use Rattle.tv_region.specs.Algebra.{IsBoth}
-use Rattle.tv_region.specs.Regions.{IsRegion}
-use Rattle.tv_region.specs.StepRegions.{InState}
+use Rattle.tv_region.specs.Regions.{IsRegion, lists_at}
+use Rattle.tv_region.specs.StepRegions.{InState, IsTame}
 use Rattle.tv_rounds.proofs.SetLemmas.{own_set, both_set}
 use Rattle.tv_pre.specs.declared.sides.Sides.{Sides}
 use Rattle.tv_pre.specs.Along.{arguments, AreBefore, AreAtEnd}
@@ -21,15 +22,20 @@ use Rattle.tv_pre.specs.Fixed.{AsksWay}
 use Rattle.tv_pre.specs.Growing.{IsEverywhere, AsksCome}
 use Rattle.tv_pre.specs.Parts.{joined_pieces}
 use Rattle.tv_pre.specs.Questions.{Question, AsksOf}
-use Rattle.tv_pre.specs.RankedAlong.{HasAll, AreGoing}
+use Rattle.tv_pre.specs.RankedAlong.{HasAll, AreTameCases, AreGoing, AllGo}
 use Rattle.tv_pre.specs.RankedUntil.{AreComing, AsksComing}
 use Rattle.tv_pre.proofs.AskedLemmas.{ends_asked, layers_asked}
 use Rattle.tv_pre.proofs.BuiltLemmas.{asked_to, built_to, all_built_to, first_built, rest_built, more_built, one_built, pieces_of, joined_of, hold_built, fault_to}
-use Rattle.tv_pre.proofs.SetLemmas.{hold_on}
+use Rattle.tv_pre.proofs.SetLemmas.{joined_in, hold_on}
 use Rattle.tv_pre.proofs.SideLemmas.{hold_in}
+use Rattle.tv_pre.proofs.TameLemmas.{bare_rows}
 
 module _ (about : CaseSystem) where
   -- ---- states with a step
+  everywhere_tame : (anywhere : Region) → IsEverywhere about anywhere → AreTameCases about → IsTame about anywhere
+  everywhere_tame anywhere e (inl plain) = inl plain
+  everywhere_tame anywhere e (inr d) = inr (d, λ r m. absurd (bare_rows (lists_at m.0 anywhere.pieces.items) (e.bare m.0) r m.1))
+
   pub going_is : All (IsCase about.variables about.locations) about.cases → (sides : Sides) (anywhere goes hold region : Region) → IsEverywhere about anywhere → hold ≡ hold_side sides.shape sides.first.now sides.second.now → IsRegion about.variables about.locations hold →
       AreBefore about Any anywhere goes → IsBoth hold goes region → AreGoing about sides region
   going_is cases sides anywhere goes hold region every e f b is =
@@ -39,9 +45,9 @@ module _ (about : CaseSystem) where
           hold_on sides.shape sides.first.now sides.second.now s (subst (λ r. InState r s) e ((w.same s p).0 m).0),
           (let step = b.right s p ((w.same s p).0 m).1 in (step.0, step.1)),
         );
-        all = λ plain s p h. (w.same s p).1 (
+        all = λ tame s p h. (w.same s p).1 (
           subst (λ r. InState r s) (sym e) (hold_in sides.shape sides.first.now sides.second.now s h.0),
-          b.all (inl plain) s p (h.1.0, h.1.1, every.all h.1.0 (stays_state about cases s h.1.0 p h.1.1).location),
+          b.all (everywhere_tame anywhere every tame) s p (h.1.0, h.1.1, every.all h.1.0 (stays_state about cases s h.1.0 p h.1.1).location),
         );
       }
 
@@ -66,6 +72,17 @@ module _ (about : CaseSystem) where
 
   -- ---- the ranked node
   module _ (sides : Sides) (end onward : Region) where
+    pub all_go : AreAtEnd about sides end → AreGoing about sides onward → HasAll about (joined_pieces (end ∷ onward ∷ [])) → AllGo about sides
+    all_go e o all s is =
+        let w = joined_in (end ∷ onward ∷ []) s (all s is) in
+        elim (Contains-cases end w.0 (onward ∷ []) w.1) [
+          | inl same ↦ inl (e.right s is (subst (λ x. InState x s) (sym same) w.2))
+          | inr n ↦ elim (Contains-cases onward w.0 [] n) [
+            | inl same ↦ inr (o.right s is (subst (λ x. InState x s) (sym same) w.2))
+            | inr none ↦ absurd (Contains-none w.0 none)
+          ]
+        ]
+
     pub coming_is : All (IsCase about.variables about.locations) about.cases → AreAtEnd about sides end → AreGoing about sides onward → HasAll about (joined_pieces (end ∷ onward ∷ [])) →
         AreComing about sides end.pieces.items onward.pieces.items (joined_pieces (end ∷ onward ∷ []))
     coming_is cases e o all = record {

@@ -1,5 +1,5 @@
 -- What is so of what was found is so of a copy.
-use Rattle.std.proofs.Common.{◌≡◌, ℕ, ◌≤◌, length, sym, ◌∙◌, subst}
+use Rattle.std.proofs.Common.{◌≡◌, ℕ, ◌≤◌, length, sym, ◌∙◌, subst, Bool}
 use Rattle.std.specs.Prelude.{List, IfSome}
 use Rattle.tv_formula.specs.Properties.{Property}
 use Rattle.tv_linear.specs.declared.region.Piece.{Piece}
@@ -21,9 +21,10 @@ use Rattle.tv_pre.specs.declared.outcome.Found.{Found}
 use Rattle.tv_pre.specs.Built.{of_same}
 use Rattle.tv_pre.specs.Copies.{SameFound}
 use Rattle.tv_pre.specs.Finding.{IsGapFor, IsFound, steps_back}
+use Rattle.tv_pre.specs.KnownStates.{HasKnownStates}
 use Rattle.tv_pre.specs.Parts.{Shows}
 use Rattle.tv_pre.specs.Pieces.{IsMarked, AreMarked}
-use Rattle.tv_pre.proofs.SameRegionLemmas.{same_over, same_state, same_count}
+use Rattle.tv_pre.proofs.SameRegionLemmas.{same_over, same_state, state_same, same_count}
 
 shows_same : (about : CaseSystem) (f : Property) (a b : Node) → SameNode a b → Shows about f a → Shows about f b
 shows_same about f a b e h = record {
@@ -69,3 +70,14 @@ ends_same about known a b e h = record {
 -- a copy of what was found of a statement is found of one that is equal
 pub copy_same : (about : CaseSystem) (last : ℕ) (s t : Statement) (a b : Found) → s ≡ t → IsFound about last s a → SameFound a b → IsFound about last t b
 copy_same about last s t a b e f h = subst (λ z. IsFound about last z b) e (found_same about last s a b h f)
+
+-- and it has the known states as that one has them
+pub copy_known : (about : CaseSystem) (last : ℕ) (alone : Bool) (s t : Statement) (a b : Found) → s ≡ t → HasKnownStates about last alone s a → SameFound a b → HasKnownStates about last alone t b
+copy_known about last alone s t a b e h same =
+    subst (λ z. HasKnownStates about last alone z b) e (record {
+      states = λ tame f w rows.
+          (let set = h.states tame f w rows in record {
+            all = λ u is k. same_state a.part.region b.part.region u same.region (set.all u is k);
+            only = λ so u is m. set.only so u is (state_same a.part.region b.part.region u same.region m);
+          });
+    })

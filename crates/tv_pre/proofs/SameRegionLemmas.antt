@@ -1,5 +1,5 @@
 -- Regions that are the same have the same lists and states.
-use Rattle.std.proofs.Common.{◌≡◌, inl, inr, ℕ, ◌<◌, List, [], ◌∷◌, length, ℤ, cond, ◌==◌, refl, sym, ap, ◌∙◌, subst}
+use Rattle.std.proofs.Common.{◌≡◌, inl, inr, ℕ, ◌<◌, List, [], ◌∷◌, length, ℤ, cond, ◌==◌, refl, sym, ap, ◌∙◌, subst, true}
 use Rattle.std.specs.Prelude.{All, Contains}
 use Rattle.std.specs.List.{AllZip}
 use Rattle.tv_program.specs.Steps.{State}
@@ -12,6 +12,8 @@ use Rattle.tv_copy.specs.SameRegions.{SamePiece, SameRegion}
 use Rattle.tv_copy.proofs.Carrying.{all_carried}
 use Rattle.tv_region.specs.Regions.{IsPieceOf, IsRegion, lists_at, count_at}
 use Rattle.tv_region.specs.StepRegions.{InState}
+use Rattle.tv_region.specs.Met.{some_met}
+use Rattle.tv_region.proofs.AlgebraLemmas.{state_in, in_state}
 
 pub same_lists : (l : ℕ) (ps qs : List Piece) → AllZip SamePiece ps qs → lists_at l qs ≡ lists_at l ps
 same_lists l [] [] h = refl
@@ -42,3 +44,8 @@ same_piece l xs (a ∷ ps) (b ∷ qs) p h c i =
 
 pub same_state : (a b : Region) (s : State) → SameRegion a b → InState a s → InState b s
 same_state a b s e m = same_piece s.location s.values a.pieces.items b.pieces.items m.0 e.pieces m.1 m.2
+
+-- and the other way
+pub state_same : (a b : Region) (s : State) → SameRegion a b → InState b s → InState a s
+state_same a b s e m =
+    in_state s.location s.values a (subst (λ ls. some_met s.values ls ≡ true) (same_lists s.location a.pieces.items b.pieces.items e.pieces) (state_in s.location s.values b m))

@@ -1,7 +1,7 @@
 -- Regions made of those of the arguments of a formula, as sets of states.
 use Rattle.std.proofs.Common.{◌≡◌, inl, inr, ℕ, ◌+◌, ◌<◌, ◌≤◌, List, [], ◌∷◌, length, get_or, take, sym, subst, arith, true, false}
 use Rattle.std.specs.Prelude.{All, Contains, sum}
-use Rattle.std.proofs.lemmas.List.Elements.{All-nil, All-get_or, All-weaker, All-more, Contains-get_or, Contains-append_left, Contains-append_right}
+use Rattle.std.proofs.lemmas.List.Elements.{All-nil, All-get_or, All-weaker, All-more, Contains-get_or, Contains-append_left, Contains-append_right, Contains-append_cases}
 use Rattle.tv_formula.specs.declared.tree.Path.{Path}
 use Rattle.tv_formula.specs.declared.tree.Path.TheVariants.{Every, Any}
 use Rattle.tv_formula.specs.declared.tree.Shape.{Shape}
@@ -10,7 +10,7 @@ use Rattle.tv_program.specs.Steps.{State}
 use Rattle.tv_linear.specs.declared.region.Piece.{Piece}
 use Rattle.tv_linear.specs.declared.region.Region.{Region}
 use Rattle.tv_cases.specs.LinearCases.{CaseSystem}
-use Rattle.tv_cases.proofs.ContainsLemmas.{Contains-cases, Contains-none}
+use Rattle.tv_cases.proofs.ContainsLemmas.{Contains-here, Contains-later, Contains-cases, Contains-none}
 use Rattle.tv_known.specs.Cycles.{IsStateOf}
 use Rattle.tv_known.specs.Rounds.{HoldSide, EndSides}
 use Rattle.tv_cert.specs.Obligations.{hold_side}
@@ -59,6 +59,14 @@ in_joined [] r s c h = absurd (Contains-none r c)
 in_joined (x ∷ xs) r s c h = elim (Contains-cases x r xs c) [
   | inl e ↦ (let p = h.0 in (p, Contains-append_left x.pieces.items (joined_pieces xs) p (subst (λ (z : Region). Contains z.pieces.items p) (sym e) h.1), h.2))
   | inr k ↦ (let w = in_joined xs r s k h in (w.0, Contains-append_right x.pieces.items (joined_pieces xs) w.0 w.1, w.2))
+]
+
+-- a state of the pieces of some regions is in one of them
+pub joined_in : (regions : List Region) (s : State) → InPieces (joined_pieces regions) s → (r : Region) × Contains regions r × InState r s
+joined_in [] s m = absurd (Contains-none m.0 m.1)
+joined_in (x ∷ regions) s m = elim (Contains-append_cases x.pieces.items (joined_pieces regions) m.0 m.1) [
+  | inl k ↦ (x, Contains-here x regions, (m.0, k, m.2))
+  | inr k ↦ (let w = joined_in regions s (m.0, k, m.2) in (w.0, Contains-later x w.0 regions w.1, w.2))
 ]
 
 -- ---- sides

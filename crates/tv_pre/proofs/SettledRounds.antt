@@ -17,11 +17,11 @@ use Rattle.tv_known.proofs.RoundLemmas.{stays_state}
 use Rattle.tv_pre.proofs.ShortPaths.{IsShort, acyclic_short}
 
 module _ {S : Type 0} (step : S → S → Type 0) where
-  goes_by : (path : Path) (P Q : S → Type 0) (s : S) → ((t : S) → step s t → P t → Q t) → GoesInto step path P s → GoesInto step path Q s
+  pub goes_by : (path : Path) (P Q : S → Type 0) (s : S) → ((t : S) → step s t → P t → Q t) → GoesInto step path P s → GoesInto step path Q s
   goes_by Every P Q s w h = (h.0, λ t st. w t st (h.1 t st))
   goes_by Any P Q s w h = (h.0, h.1, w h.0 h.1 h.2)
 
-  stays_by : (path : Path) (P Q : S → Type 0) (s : S) → ((t : S) → step s t → P t → Q t) → StaysIn step path P s → StaysIn step path Q s
+  pub stays_by : (path : Path) (P Q : S → Type 0) (s : S) → ((t : S) → step s t → P t → Q t) → StaysIn step path P s → StaysIn step path Q s
   stays_by Every P Q s w h = λ t st. w t st (h t st)
   stays_by Any P Q s w (inl h) = inl (h.0, h.1, w h.0 h.1 h.2)
   stays_by Any P Q s w (inr h) = inr h

@@ -53,7 +53,7 @@ truth_rows true r (inl m) = m
 truth_rows true r (inr m) = m
 truth_rows false r m = m
 
-bare_rows : (lists : List (List Linear)) → (lists ≡ [] ∷ []) ⊎ (lists ≡ []) → (r : Linear) → InSome lists r → ⊥
+pub bare_rows : (lists : List (List Linear)) → (lists ≡ [] ∷ []) ⊎ (lists ≡ []) → (r : Linear) → InSome lists r → ⊥
 bare_rows lists (inl e) r m = truth_rows true r (subst (λ ls. InSome ls r) e m)
 bare_rows lists (inr e) r m = subst (λ ls. InSome ls r) e m
 

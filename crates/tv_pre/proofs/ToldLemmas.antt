@@ -54,7 +54,7 @@ module _ (about : CaseSystem) (cases : All (IsCase about.variables about.locatio
 
 -- ---- tame programs
 -- the negation is as tame as the normal form
-tame_claim : (about : CaseSystem) (claim : Claim) (f : Property) → IsClaimOn about claim f → HasRows about.variables (property_of claim.proved) → IsTameStatement about (aim_states claim.proved_aim) → IsTameClaim about claim
+pub tame_claim : (about : CaseSystem) (claim : Claim) (f : Property) → IsClaimOn about claim f → HasRows about.variables (property_of claim.proved) → IsTameStatement about (aim_states claim.proved_aim) → IsTameClaim about claim
 tame_claim about claim f on rows (inl plain) = inl plain
 tame_claim about claim f on rows (inr d) =
     let n = claim_variables claim in

@@ -1,5 +1,5 @@
 -- What is found of the arguments of a formula.
-use Rattle.std.specs.Prelude.{◌≡◌, ℕ, None, IfSome, List, [], ◌∷◌, All}
+use Rattle.std.specs.Prelude.{◌≡◌, ℕ, None, IfSome, List, [], ◌∷◌, All, Bool}
 use Rattle.tv_linear.specs.declared.region.Region.{Region}
 use Rattle.tv_cases.specs.LinearCases.{CaseSystem}
 use Rattle.tv_cert.specs.declared.node.Node.{Node}
@@ -10,6 +10,7 @@ use Rattle.tv_pre.specs.declared.finding.Arguments.{Arguments}
 use Rattle.tv_pre.specs.declared.outcome.Found.{Found}
 use Rattle.tv_pre.specs.Finding.{IsGapAmong, IsPartFor, IsFullFor, IsFound, steps_back, total_size}
 use Rattle.tv_pre.specs.Built.{IsBuilt}
+use Rattle.tv_pre.specs.KnownStates.{HasKnownStates}
 use Rattle.tv_pre.specs.Sized.{IsFewFor}
 
 -- the region and the node of one argument
@@ -51,3 +52,14 @@ abbrev pub AreFoundFirst : CaseSystem → ℕ → List Statement → List Found 
 AreFoundFirst about last ss [] = Unit {0}
 AreFoundFirst about last [] (found ∷ founds) = ⊥
 AreFoundFirst about last (s ∷ ss) (found ∷ founds) = IsFound about last s found × AreFoundFirst about last ss founds
+
+-- the regions that were found
+abbrev pub regions_of : List Found → List Region
+regions_of [] = []
+regions_of (found ∷ founds) = found.part.region ∷ regions_of founds
+
+-- those of the first of the statements have the states that the rounds up to the last tell of
+abbrev pub AreKnownFirst : CaseSystem → ℕ → Bool → List Statement → List Found → Type 0
+AreKnownFirst about last alone ss [] = Unit {0}
+AreKnownFirst about last alone [] (found ∷ founds) = ⊥
+AreKnownFirst about last alone (s ∷ ss) (found ∷ founds) = HasKnownStates about last alone s found × AreKnownFirst about last alone ss founds

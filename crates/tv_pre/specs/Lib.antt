@@ -20,6 +20,7 @@ pub mod Sized
 pub mod Counted
 pub mod Finding
 pub mod Along
+pub mod KnownStates
 pub mod Proving
 pub mod Ending
 pub mod Lowering

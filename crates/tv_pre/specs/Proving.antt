@@ -1,5 +1,5 @@
 -- What came of a claim at the start, and why there is no certificate.
-use Rattle.std.specs.Prelude.{◌≡◌, ◌⊎◌, ℕ, List, [], ℤ, Option, None, Some, IfSome}
+use Rattle.std.specs.Prelude.{◌≡◌, ◌⊎◌, ℕ, List, [], ℤ, Option, None, Some, IfSome, false}
 use Rattle.tv_formula.specs.Formulas.{property_of}
 use Rattle.tv_farkas.specs.declared.budget.Budget.{Budget}
 use Rattle.tv_farkas.specs.declared.fault.CoverFault.{CoverFault}
@@ -26,6 +26,7 @@ use Rattle.tv_pre.specs.Built.{IsBuilt, IsPreFault}
 use Rattle.tv_pre.specs.Counted.{IsCountedFor}
 use Rattle.tv_pre.specs.Finding.{IsGapOf, first_of, IsPartFor, IsFullFor, steps_back, size, AreAtomsOfDifferences, IsOpenAt, IsGapFor}
 use Rattle.tv_pre.specs.Full.{HasRows}
+use Rattle.tv_pre.specs.KnownStates.{IsKnownFor}
 use Rattle.tv_region.specs.Differences.{AreOfDifferences}
 use Rattle.tv_region.specs.StepRegions.{HasNoDraws}
 use Rattle.tv_pre.specs.declared.gap.Gap.TheVariants.{Inexact, Open}
@@ -42,6 +43,7 @@ pub record IsFoundOf (about : CaseSystem) (s : Statement) (found : Found) : Type
   pub gap : IfSome found.gap (IsGapOf about)
   pub tells : (last : ℕ) → IsLastRound about 8 last → IfSome found.gap (IsGapFor about last s)
   pub full : found.gap ≡ None → IsFullFor about s found.part.region
+  pub known : (last : ℕ) → IsLastRound about 8 last → IsKnownFor about last false s found.part.region
 
 abbrev pub pieces_of : Found → List Piece
 pieces_of found = found.part.region.pieces.items

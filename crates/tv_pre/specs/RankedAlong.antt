@@ -1,5 +1,5 @@
 -- Fixed points that are to come to an end, in programs whose states are all ranked.
-use Rattle.std.specs.Prelude.{◌≡◌, List, ◌∷◌, true}
+use Rattle.std.specs.Prelude.{◌≡◌, ◌⊎◌, List, ◌∷◌, true}
 use Rattle.tv_program.specs.Steps.{State}
 use Rattle.tv_formula.specs.declared.tree.Path.TheVariants.{Every}
 use Rattle.tv_linear.specs.declared.region.Piece.{Piece}
@@ -8,6 +8,7 @@ use Rattle.tv_cases.specs.LinearCases.{CaseSystem}
 use Rattle.tv_cert.specs.declared.node.Node.{Node}
 use Rattle.tv_known.specs.Cycles.{IsStateOf}
 use Rattle.tv_known.specs.Rounds.{Goes, must_end}
+use Rattle.tv_region.specs.Differences.{AreOfDifferences}
 use Rattle.tv_region.specs.StepRegions.{HasNoDraws, InState}
 use Rattle.tv_pre.specs.declared.ranked_along.RankedAlong.{RankedAlong}
 use Rattle.tv_pre.specs.declared.ranked_along.RankedAlong.TheVariants.{Everywhere, Unsettled, Untold}
@@ -23,11 +24,23 @@ use Rattle.tv_pre.specs.Unserved.{SomeIsBeside, IsUnservedBy}
 abbrev pub HasAll : CaseSystem → List Piece → Type 0
 HasAll about qs = (s : State) → IsStateOf about s → InPieces qs s
 
--- the states on the way with a step; all of them where no case has a draw
-abbrev pub AreGoing : CaseSystem → Sides → Region → Type 0
-AreGoing about sides region = AreWithin about (HasNoDraws about) (λ s. OnWay sides s × Goes about s) region
+-- going back into all states is exact: no case has a draw, or all are of differences
+abbrev pub AreTameCases : CaseSystem → Type 0
+AreTameCases about = HasNoDraws about ⊎ AreOfDifferences about
 
--- where no case has a draw, some state is neither at the end nor on the way with a step
+-- the states on the way with a step; all of them where going back is exact
+abbrev pub AreGoing : CaseSystem → Sides → Region → Type 0
+AreGoing about sides region = AreWithin about (AreTameCases about) (λ s. OnWay sides s × Goes about s) region
+
+-- each state of the program is at the end, or on the way with a step
+abbrev pub AllGo : CaseSystem → Sides → Type 0
+AllGo about sides = (s : State) → IsStateOf about s → AtEnd sides s ⊎ (OnWay sides s × Goes about s)
+
+-- where going back is exact, some state is neither at the end nor on the way with a step
+abbrev pub IsBesideIfTame : CaseSystem → Sides → Type 0
+IsBesideIfTame about sides = AreTameCases about → SomeIsBeside about (λ s. OnWay sides s) (λ s. AtEnd sides s)
+
+-- so it is where no case has a draw
 abbrev pub IsBesideIfPlain : CaseSystem → Sides → Type 0
 IsBesideIfPlain about sides = HasNoDraws about → SomeIsBeside about (λ s. OnWay sides s) (λ s. AtEnd sides s)
 
@@ -36,13 +49,13 @@ abbrev pub IsUnservedAlong : CaseSystem → Sides → Type 0
 IsUnservedAlong about sides =
     sides.path ≡ Every → must_end sides.shape ≡ true → IsUnservedBy about sides.shape (InState sides.first.now) (InState sides.second.now)
 
--- The part of the fixed point has all states; or the nodes of its arguments and the states at its end are given back, and some state is neither
--- at the end nor on the way with a step, or that was not settled.
+-- The part of the fixed point has all states, and each is at the end or on the way with a step; or the nodes of its arguments and the states at
+-- its end are given back, and some state is neither, where going back is exact, or that was not settled.
 abbrev pub IsRankedAlong : CaseSystem → Sides → List Node → Region → RankedAlong → Type 0
 IsRankedAlong about sides children end (Everywhere part) =
-    IsAlong about 1 (end ∷ arguments sides) sides children part × HasAll about part.region.pieces.items
+    IsAlong about 1 (end ∷ arguments sides) sides children part × HasAll about part.region.pieces.items × AllGo about sides
 IsRankedAlong about sides children end (Untold nodes region fault) = (nodes.items ≡ children) × (region ≡ end)
-IsRankedAlong about sides children end (Unsettled nodes region) = (nodes.items ≡ children) × (region ≡ end) × IsBesideIfPlain about sides
+IsRankedAlong about sides children end (Unsettled nodes region) = (nodes.items ≡ children) × (region ≡ end) × IsBesideIfTame about sides
 
 -- what it shows that it was not settled whether some state is neither
 abbrev pub IsUntoldAlong : CaseSystem → Budget → Sides → Region → RankedAlong → Type 0

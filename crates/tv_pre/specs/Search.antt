@@ -3,6 +3,7 @@ use Rattle.std.specs.Prelude.{ℕ, ◌≤◌, ◌↔◌, [], IsTrue, IfSome}
 use Rattle.tv_cases.specs.LinearCases.{CaseSystem}
 use Rattle.tv_cases.specs.Systems.{cases_of}
 use Rattle.tv_known.specs.Cycles.{IsLastRound}
+use Rattle.tv_known.specs.Ranking.{HasLexicographicRanking}
 use Rattle.tv_region.specs.Differences.{AreOfDifferences}
 use Rattle.tv_region.specs.StepRegions.{HasNoDraws}
 use Rattle.tv_lexrank.specs.Nodes.{IsRankedBy}
@@ -15,9 +16,10 @@ use Rattle.tv_pre.specs.Unserved.{IsUnranked, IsRankingRefused}
 abbrev pub system_of : Search → CaseSystem
 system_of search = cases_of search.setting.now.about.now
 
--- the node ranks all states of the program, and each case is shown
-abbrev pub IsRanking : CaseSystem → Ranking → Type 0
-IsRanking about ranking = IsRankedBy about [] ranking.node ranking.shown.items
+-- the node ranks all states of the program, and each case is shown; the cases have a lexicographic ranking
+pub record IsRanking (about : CaseSystem) (ranking : Ranking) : Type 0 where
+  pub ranked : IsRankedBy about [] ranking.node ranking.shown.items
+  pub lexicographic : HasLexicographicRanking about
 
 -- what is known of the ranks of the cases, where the search for them goes on for so many pivots
 abbrev pub AreRanks : CaseSystem → ℕ → Ranks → Type 0
@@ -31,4 +33,4 @@ pub record IsSearch (search : Search) : Type 0 where
   pub last : IsLastRound (system_of search) 8 search.last
   pub plain : IsTrue search.plain ↔ HasNoDraws (system_of search)
   pub differences : IsTrue search.differences ↔ AreOfDifferences (system_of search)
-  pub ranks : IfSome search.ranks (AreRanks (system_of search) search.setting.now.budget.now.pivots)
+  pub ranks : IfSome search.ranks.now (AreRanks (system_of search) search.setting.now.budget.now.pivots)

@@ -12,6 +12,7 @@ use Rattle.tv_cert.specs.declared.claim.Claim.{Claim}
 use Rattle.tv_cert.specs.AimViews.{aim_states}
 use Rattle.tv_cert.specs.Claims.{IsClaim, claim_variables}
 use Rattle.tv_known.specs.Cycles.{HasCycle, IsLastRound}
+use Rattle.tv_known.specs.Known.{IsDecided}
 use Rattle.tv_known.specs.Laws.{IsRankedUntil}
 use Rattle.tv_known.specs.Ranking.{HasLexicographicRanking}
 use Rattle.tv_known.specs.Rounds.{IsSettled}
@@ -49,6 +50,13 @@ SettledIsTold about claim f budget gap =
 abbrev pub PlainIsTold : CaseSystem → Claim → Budget → Gap → Type 0
 PlainIsTold about claim budget gap =
     IsPlainProgram about → IsUnproved about claim budget (unproved.Left gap) → ⊥
+
+-- nor where going back is exact for the normal form, and the rounds up to the last tell of each state at the start that the property holds there,
+-- or of one that its negation does
+abbrev pub DecidedIsTold : CaseSystem → Claim → Property → Budget → Gap → Type 0
+DecidedIsTold about claim f budget gap =
+    IsClaimOn about claim f → IsTameStatement about (aim_states claim.proved_aim) → IsDecided about f → (last : ℕ) → IsLastRound about 8 last
+    → IsUnproved about claim budget (unproved.Left gap) → ⊥
 
 -- Where the property is to come to its end on every run of a program without draws that has a lexicographic ranking, its arguments are of one
 -- state each, and each state is at the end, or on the way with a step, no claim of it is left open with a gap.

@@ -2,9 +2,10 @@
 
 ghost use Rattle.std.specs.Prelude.{◌≡◌, ◌≢◌, None, Contains, length, map, take, IfOk, IfSome};
 ghost use Rattle.tv_cert.specs.AimViews.{aim_states};
-ghost use Rattle.tv_pre.specs.Arguments.{AreFoundFirst};
+ghost use Rattle.tv_pre.specs.Arguments.{AreFoundFirst, AreKnownFirst};
 ghost use Rattle.tv_pre.specs.Copies.{SameFound};
 ghost use Rattle.tv_pre.specs.Finding.{IsFound};
+ghost use Rattle.tv_pre.specs.KnownStates.{HasKnownStates};
 ghost use Rattle.tv_pre.specs.Search.{system_of};
 
 use crate::equality::are_equal;
@@ -35,7 +36,10 @@ pub(crate) fn found_alike(
     aim: &Aim,
 ) -> Result<Option<Found>, AllocError>
     requires found { IsFound (system_of search.now) search.now.last (aim_states earlier.now) found.now }
+    requires known { HasKnownStates (system_of search.now) search.now.last search.now.alone (aim_states earlier.now) found.now }
     ensures found { IfOk result (λ again. IfSome again (IsFound (system_of search.now) search.now.last (aim_states aim.now))) }
+    ensures known { let s = aim_states aim.now in
+        IfOk result (λ again. IfSome again (HasKnownStates (system_of search.now) search.now.last search.now.alone s)) }
     ensures other { IfOk result (λ again. again ≡ None → aim_states earlier.now ≢ aim_states aim.now) }
 {
     if are_equal(earlier, aim) {
@@ -53,7 +57,10 @@ pub(crate) fn found_before(
     aim: &Aim,
 ) -> Result<Option<Found>, AllocError>
     requires first { AreFoundFirst (system_of search.now) search.now.last (map aim_states aims.now) founds.now }
+    requires known { AreKnownFirst (system_of search.now) search.now.last search.now.alone (map aim_states aims.now) founds.now }
     ensures found { IfOk result (λ again. IfSome again (IsFound (system_of search.now) search.now.last (aim_states aim.now))) }
+    ensures known { let s = aim_states aim.now in
+        IfOk result (λ again. IfSome again (HasKnownStates (system_of search.now) search.now.last search.now.alone s)) }
     ensures others { let first = take (length founds.now) (map aim_states aims.now) in
         IfOk result (λ again. again ≡ None → ¬ Contains first (aim_states aim.now)) }
 {

@@ -1,6 +1,6 @@
 // The region and the node of each subformula, from those of its arguments.
 
-ghost use Rattle.std.specs.Prelude.{◌≡◌, ◌≤◌, ◌+◌, ◌++◌, ◌∷◌, ℕ, None, List, [], map, IfOk, IfSome};
+ghost use Rattle.std.specs.Prelude.{◌≡◌, ◌≤◌, ◌+◌, ◌++◌, ◌∷◌, ℕ, None, List, [], map, Bool, false, IfOk, IfSome};
 ghost use Rattle.std.specs.List.{AllZip};
 ghost use Rattle.std.specs.Result.{IfErr};
 ghost use Rattle.tv_formula.specs.Properties.{Property};
@@ -19,13 +19,14 @@ ghost use Rattle.tv_pre.specs.Finding.{States, IsEvenStatement, AreEvenStatement
 ghost use Rattle.tv_pre.specs.Sized.{IsFewFor};
 ghost use Rattle.tv_pre.specs.Counted.{IsCountedFor, AreCountedFor};
 ghost use Rattle.tv_pre.specs.Search.{system_of, IsSearch};
-ghost use Rattle.tv_pre.specs.Arguments.{AreArguments, AreArgumentsOf};
+ghost use Rattle.tv_pre.specs.Arguments.{AreArguments, AreArgumentsOf, regions_of};
+ghost use Rattle.tv_pre.specs.KnownStates.{IsAloneIn, IsKnownFor, HasKnownStates, AreKnownFor};
 
 use crate::along::{Along, part_along};
 use crate::copying::{found_alike, found_before};
 use crate::gap::{added, first_gap, gap_after};
 use crate::regions::{back_into, intersection, union};
-use crate::search::{Search, search_in};
+use crate::search::{Search, ranks_for, search_in};
 use crate::termination::{ends_found, never_found};
 use crate::{Found, Gap, Part, PreFault, Setting, Sides, Test, atom, each_of, next, one_of};
 use std::alloc::Global;
@@ -90,6 +91,7 @@ fn with_argument(arguments: Arguments, found: Found) -> Result<Arguments, PreFau
 fn arguments_of(alloc: Global, founds: Vec<Found>) -> Result<Arguments, PreFault>
     ensures arguments { IfOk result (λ a. (about : CaseSystem) → (last : ℕ) → (ss : List Statement) →
         AllZip (IsFound about last) ss founds.items → AreArguments about last ss a) }
+    ensures regions { IfOk result (λ a. a.regions.items ≡ regions_of founds.items) }
     ensures memory { IfErr result (λ fault. fault ≡ Memory) }
 {
     let mut arguments = no_arguments(alloc);
@@ -103,6 +105,8 @@ fn arguments_of(alloc: Global, founds: Vec<Found>) -> Result<Arguments, PreFault
 fn atom_found(search: &Search, test: &Test) -> Result<Found, PreFault>
     requires even { IsEvenTest (system_of search.now).variables test.now }
     ensures found { IfOk result (IsFound (system_of search.now) search.now.last (test_statement test.now)) }
+    ensures known { let about = system_of search.now in
+        IfOk result (HasKnownStates about search.now.last search.now.alone (test_statement test.now)) }
     ensures memory { IfErr result (λ fault. fault ≡ Memory) }
 {
     let part = atom(search.setting.alloc, search.setting.about, test)?;
@@ -117,6 +121,9 @@ fn each_found(search: &Search, arguments: Arguments) -> Result<Found, PreFault>
     ensures found { let about = system_of search.now in
         IfOk result (λ found. (ss : List Statement) → AreArguments about search.now.last ss arguments →
         IsFound about search.now.last (statements.each_of (statements_of ss)) found) }
+    ensures known { let about = system_of search.now in
+        IfOk result (λ found. (ss : List Statement) → AreKnownFor about search.now.last search.now.alone ss arguments.regions.items →
+        HasKnownStates about search.now.last search.now.alone (statements.each_of (statements_of ss)) found) }
     ensures refused { let about = system_of search.now in
         IfErr result (λ fault. (ss : List Statement) → AreArguments about search.now.last ss arguments →
         IsRefusedFor about search.now.setting.now.budget.now search.now.last (statements.each_of (statements_of ss)) fault) }
@@ -143,6 +150,9 @@ fn some_found(search: &Search, arguments: Arguments) -> Result<Found, PreFault>
     ensures found { let about = system_of search.now in
         IfOk result (λ found. (ss : List Statement) → AreArguments about search.now.last ss arguments →
         IsFound about search.now.last (statements.one_of (statements_of ss)) found) }
+    ensures known { let about = system_of search.now in
+        IfOk result (λ found. (ss : List Statement) → AreKnownFor about search.now.last search.now.alone ss arguments.regions.items →
+        HasKnownStates about search.now.last search.now.alone (statements.one_of (statements_of ss)) found) }
     ensures refused { let about = system_of search.now in
         IfErr result (λ fault. (ss : List Statement) → AreArguments about search.now.last ss arguments →
         IsRefusedFor about search.now.setting.now.budget.now search.now.last (statements.one_of (statements_of ss)) fault) }
@@ -182,6 +192,10 @@ fn after_found(search: &Search, path: Path, child: Found) -> Result<Found, PreFa
     ensures found { let about = system_of search.now in
         IfOk result (λ found. (s : Statement) → IsFound about search.now.last s child →
         IsFound about search.now.last (statements.after path s) found) }
+    ensures known { let about = system_of search.now in
+        IfOk result (λ found. (s : Statement) → IsFound about search.now.last s child →
+        HasKnownStates about search.now.last search.now.alone s child →
+        HasKnownStates about search.now.last search.now.alone (statements.after path s) found) }
     ensures refused { let about = system_of search.now in
         IfErr result (λ fault. (s : Statement) → IsFound about search.now.last s child →
         IsRefusedFor about search.now.setting.now.budget.now search.now.last (statements.after path s) fault) }
@@ -215,6 +229,11 @@ fn along_found(
     ensures found { let about = system_of search.now in
         IfOk result (λ found. (s t : Statement) → IsFound about search.now.last s first → IsFound about search.now.last t second →
         IsFound about search.now.last (statements.along path shape s t) found) }
+    ensures known { let about = system_of search.now in
+        IfOk result (λ found. (inner : Bool) → IsAloneIn search.now.alone shape inner →
+        (s t : Statement) → IsFound about search.now.last s first → IsFound about search.now.last t second →
+        HasKnownStates about search.now.last inner s first → HasKnownStates about search.now.last inner t second →
+        HasKnownStates about search.now.last search.now.alone (statements.along path shape s t) found) }
     ensures refused { let about = system_of search.now in
         IfErr result (λ fault. (s t : Statement) → IsFound about search.now.last s first → IsFound about search.now.last t second →
         IsRefusedFor about search.now.setting.now.budget.now search.now.last (statements.along path shape s t) fault) }
@@ -255,6 +274,8 @@ fn all_found(search: &Search, aims: &[Aim]) -> Result<Arguments, PreFault>
     requires search { IsSearch search.now }
     requires even { AreEvenStatements (system_of search.now).variables (aims_state aims.now) }
     ensures found { IfOk result (AreArguments (system_of search.now) search.now.last (map aim_states aims.now)) }
+    ensures known { let about = system_of search.now in
+        IfOk result (λ a. AreKnownFor about search.now.last search.now.alone (map aim_states aims.now) a.regions.items) }
     ensures refused_each { let about = system_of search.now in
         let s = statements.each_of (aims_state aims.now) in
         IfErr result (IsRefusedFor about search.now.setting.now.budget.now search.now.last s) }
@@ -281,6 +302,7 @@ fn found_of(search: &Search, aim: &Aim) -> Result<Found, PreFault>
     requires search { IsSearch search.now }
     requires even { IsEvenStatement (system_of search.now).variables (aim_states aim.now) }
     ensures found { IfOk result (IsFound (system_of search.now) search.now.last (aim_states aim.now)) }
+    ensures known { IfOk result (HasKnownStates (system_of search.now) search.now.last search.now.alone (aim_states aim.now)) }
     ensures refused { let about = system_of search.now in
         IfErr result (IsRefusedFor about search.now.setting.now.budget.now search.now.last (aim_states aim.now)) }
     ensures counted { IfErr result (IsCountedFor (system_of search.now) (aim_states aim.now)) }
@@ -304,11 +326,12 @@ fn found_of(search: &Search, aim: &Aim) -> Result<Found, PreFault>
             after_found(search, *path, child)
         }
         Aim::Along(path, shape, first, second) => {
-            let front = found_of(search, first)?;
-            match found_alike(search, first, &front, second)? {
+            let inner = search.of_arguments(*shape);
+            let front = found_of(&inner, first)?;
+            match found_alike(&inner, first, &front, second)? {
                 Some(back) => along_found(search, *path, *shape, front, back),
                 None => {
-                    let back = found_of(search, second)?;
+                    let back = found_of(&inner, second)?;
                     along_found(search, *path, *shape, front, back)
                 }
             }
@@ -327,6 +350,10 @@ fn found_of(search: &Search, aim: &Aim) -> Result<Found, PreFault>
 /// the formula; or, if each comparison has rows, the subformula that it names is a fixed point, or termination or its negation, that the last
 /// round does not settle. Where there is none, and each comparison has rows, the region has exactly the states where the formula holds, and
 /// at each other one its negation does.
+///
+/// Where the program is tame for the formula, and each comparison has rows, the region has all states that the rounds up to the last tell of,
+/// whether they settle or not. A weak until or a release whose last round is open has the states at its end besides, but not inside of an
+/// argument of a weak until or a release: whether the rounds of that one settle may change with each state more.
 ///
 /// Where the whole program has a lexicographic ranking, termination holds everywhere, and so does a fixed point over every run that must
 /// come to an end if each state is at its end, or on the way with a step. Where a system of the search for the ranking is refused, and the
@@ -351,6 +378,9 @@ pub fn found(setting: &Setting, aim: &Aim) -> Result<Found, PreFault>
         IfOk result (λ found. found.gap ≡ None → IsFullFor system (aim_states aim.now) found.part.region) }
     ensures exact { let system = cases_of setting.now.about.now in
         IfOk result (λ found. found.gap ≡ None → IsExactFor system (aim_states aim.now) found.part.region) }
+    ensures known { let system = cases_of setting.now.about.now in
+        let s = aim_states aim.now in
+        IfOk result (λ found. (last : ℕ) → IsLastRound system 8 last → IsKnownFor system last false s found.part.region) }
     ensures few { let system = cases_of setting.now.about.now in
         IfOk result (λ found. IsFewFor system (aim_states aim.now) found.part.region) }
     ensures plain { let system = cases_of setting.now.about.now in
@@ -362,6 +392,7 @@ pub fn found(setting: &Setting, aim: &Aim) -> Result<Found, PreFault>
 {
     // That the cases are proper is known by this call.
     let _variables = setting.about.variables();
-    let search = search_in(setting, aim)?;
+    let ranks = ranks_for(setting, aim)?;
+    let search = search_in(setting, &ranks)?;
     found_of(&search, aim)
 }

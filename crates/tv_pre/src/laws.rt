@@ -11,7 +11,7 @@ ghost use Rattle.tv_pre.specs.declared.gap.Gap.{Gap};
 ghost use Rattle.tv_linear.specs.declared.region.Region.{Region};
 ghost use Rattle.tv_pre.specs.Full.{FullHasAll, FullTell};
 ghost use Rattle.tv_pre.specs.Sized.{FewIsWithinSize};
-ghost use Rattle.tv_pre.specs.Told.{AcyclicIsSettled, NoneIsUnsettled, SettledIsTold, PlainIsTold, RankedUntilIsTold, AcyclicIsRanked, AcyclicIsUnrefused, RefusalIsWithinSize};
+ghost use Rattle.tv_pre.specs.Told.{AcyclicIsSettled, NoneIsUnsettled, SettledIsTold, DecidedIsTold, PlainIsTold, RankedUntilIsTold, AcyclicIsRanked, AcyclicIsUnrefused, RefusalIsWithinSize};
 
 use tv_known::Sides;
 
@@ -28,6 +28,14 @@ pub fn full_regions_tell()
 pub fn settled_claims_are_told()
     ensures tame { (about : CaseSystem) (claim : Claim) (f : Property) (budget : Budget) (gap : Gap) → SettledIsTold about claim f budget gap }
     ensures plain { (about : CaseSystem) → AreProper about → (claim : Claim) (budget : Budget) (gap : Gap) → PlainIsTold about claim budget gap }
+{}
+
+/// No claim is left open with a gap where the program is tame for the normal form, and the rounds up to the last tell of each state at the start
+/// that the property holds there, or of one that the negation does: whether other fixed points of it are settled or not, and of states that are
+/// not at the start.
+pub fn decided_claims_are_told()
+    ensures { (about : CaseSystem) → AreCases about → (claim : Claim) (f : Property) (budget : Budget) (gap : Gap) →
+        DecidedIsTold about claim f budget gap }
 {}
 
 /// Where a property that is to come to its end on every run has arguments of one state, the program has no draw and a lexicographic ranking,

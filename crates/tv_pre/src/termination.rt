@@ -16,6 +16,8 @@ ghost use Rattle.tv_pre.specs.Counted.{IsCountedFor};
 ghost use Rattle.tv_pre.specs.Parts.{IsPart};
 ghost use Rattle.tv_pre.specs.Questions.{IsRefusal};
 ghost use Rattle.tv_pre.specs.Search.{system_of, IsSearch, IsRanking};
+ghost use Rattle.tv_known.specs.Ranking.{HasLexicographicRanking};
+ghost use Rattle.tv_pre.specs.KnownStates.{IsKnownFor, IsKnownIfUnranked};
 ghost use Rattle.tv_pre.specs.Termination.{anything, stopping, nothing, going, AreSidesOf, IsFoundIfUnranked};
 
 use crate::along::rounds_of;
@@ -55,6 +57,7 @@ fn ends_in_rounds(search: &Search, anywhere: &Region, stops: Region) -> Result<F
     requires sides { AreSidesOf (system_of search.now) Every anything stopping anywhere.now stops }
     requires tame { IsTameFor (system_of search.now) anywhere.now stops }
     ensures found { IfOk result (IsFoundIfUnranked (system_of search.now) search.now.last statements.ends) }
+    ensures known { IfOk result (IsKnownIfUnranked (system_of search.now) search.now.last search.now.alone statements.ends) }
     ensures refused { let about = system_of search.now in
         IfErr result (IsRefusedFor about search.now.setting.now.budget.now search.now.last statements.ends) }
     ensures counted { IfErr result (IsCountedFor (system_of search.now) statements.ends) }
@@ -89,6 +92,7 @@ fn ends_in_rounds(search: &Search, anywhere: &Region, stops: Region) -> Result<F
 fn ends_unranked(search: &Search) -> Result<Found, PreFault>
     requires search { IsSearch search.now }
     ensures found { IfOk result (IsFoundIfUnranked (system_of search.now) search.now.last statements.ends) }
+    ensures known { IfOk result (IsKnownIfUnranked (system_of search.now) search.now.last search.now.alone statements.ends) }
     ensures refused { let about = system_of search.now in
         IfErr result (IsRefusedFor about search.now.setting.now.budget.now search.now.last statements.ends) }
     ensures counted { IfErr result (IsCountedFor (system_of search.now) statements.ends) }
@@ -114,6 +118,7 @@ fn never_in_rounds(search: &Search, none: &Region, goes: &Region) -> Result<Foun
     requires sides { AreSidesOf (system_of search.now) Any nothing going none.now goes.now }
     requires tame { IsTameFor (system_of search.now) goes.now none.now }
     ensures found { IfOk result (IsFoundIfUnranked (system_of search.now) search.now.last statements.never_ends) }
+    ensures known { IfOk result (IsKnownIfUnranked (system_of search.now) search.now.last search.now.alone statements.never_ends) }
     ensures refused { let about = system_of search.now in
         IfErr result (IsRefusedFor about search.now.setting.now.budget.now search.now.last statements.never_ends) }
     ensures counted { IfErr result (IsCountedFor (system_of search.now) statements.never_ends) }
@@ -151,6 +156,7 @@ fn never_in_rounds(search: &Search, none: &Region, goes: &Region) -> Result<Foun
 fn never_unranked(search: &Search) -> Result<Found, PreFault>
     requires search { IsSearch search.now }
     ensures found { IfOk result (IsFoundIfUnranked (system_of search.now) search.now.last statements.never_ends) }
+    ensures known { IfOk result (IsKnownIfUnranked (system_of search.now) search.now.last search.now.alone statements.never_ends) }
     ensures refused { let about = system_of search.now in
         IfErr result (IsRefusedFor about search.now.setting.now.budget.now search.now.last statements.never_ends) }
     ensures counted { IfErr result (IsCountedFor (system_of search.now) statements.never_ends) }
@@ -171,7 +177,10 @@ fn never_unranked(search: &Search) -> Result<Found, PreFault>
 /// What is found of termination where a node ranks all states: it holds everywhere.
 fn all_ended(search: &Search, node: Node) -> Result<Found, PreFault>
     requires ranked { IsRankedNode (system_of search.now) node }
+    requires lexicographic { HasLexicographicRanking (system_of search.now) }
     ensures found { IfOk result (IsFound (system_of search.now) search.now.last statements.ends) }
+    ensures known { let about = system_of search.now in
+        IfOk result (λ found. IsKnownFor about search.now.last search.now.alone statements.ends found.part.region) }
     ensures memory { IfErr result (λ fault. fault ≡ Memory) }
 {
     let part = ends_ranked(search.setting.alloc, search.setting.about, node)?;
@@ -184,6 +193,8 @@ fn all_ended(search: &Search, node: Node) -> Result<Found, PreFault>
 fn ends_anew(search: &Search) -> Result<Found, PreFault>
     requires search { IsSearch search.now }
     ensures found { IfOk result (IsFound (system_of search.now) search.now.last statements.ends) }
+    ensures known { let about = system_of search.now in
+        IfOk result (λ found. IsKnownFor about search.now.last search.now.alone statements.ends found.part.region) }
     ensures refused { let about = system_of search.now in
         IfErr result (IsRefusedFor about search.now.setting.now.budget.now search.now.last statements.ends) }
     ensures counted { IfErr result (IsCountedFor (system_of search.now) statements.ends) }
@@ -205,6 +216,8 @@ fn ends_anew(search: &Search) -> Result<Found, PreFault>
 fn ends_known(search: &Search, ranking: &Ranking) -> Result<Found, PreFault>
     requires ranking { IsRanking (system_of search.now) ranking.now }
     ensures found { IfOk result (IsFound (system_of search.now) search.now.last statements.ends) }
+    ensures known { let about = system_of search.now in
+        IfOk result (λ found. IsKnownFor about search.now.last search.now.alone statements.ends found.part.region) }
     ensures refused { let about = system_of search.now in
         IfErr result (IsRefusedFor about search.now.setting.now.budget.now search.now.last statements.ends) }
     ensures counted { IfErr result (IsCountedFor (system_of search.now) statements.ends) }
@@ -217,11 +230,13 @@ fn ends_known(search: &Search, ranking: &Ranking) -> Result<Found, PreFault>
 pub(crate) fn ends_found(search: &Search) -> Result<Found, PreFault>
     requires search { IsSearch search.now }
     ensures found { IfOk result (IsFound (system_of search.now) search.now.last statements.ends) }
+    ensures known { let about = system_of search.now in
+        IfOk result (λ found. IsKnownFor about search.now.last search.now.alone statements.ends found.part.region) }
     ensures refused { let about = system_of search.now in
         IfErr result (IsRefusedFor about search.now.setting.now.budget.now search.now.last statements.ends) }
     ensures counted { IfErr result (IsCountedFor (system_of search.now) statements.ends) }
 {
-    match &search.ranks {
+    match search.ranks {
         Some(Ranks::Known(ranking)) => ends_known(search, ranking),
         Some(Ranks::Lacking) => Ok(ends_unranked(search)?),
         _ => ends_anew(search),
@@ -232,8 +247,11 @@ pub(crate) fn ends_found(search: &Search) -> Result<Found, PreFault>
 fn never_ranked(search: &Search, _ranking: &Ranking) -> Result<Found, PreFault>
     requires ranking { IsRanking (system_of search.now) _ranking.now }
     ensures found { IfOk result (IsFound (system_of search.now) search.now.last statements.never_ends) }
+    ensures known { let about = system_of search.now in
+        IfOk result (λ found. IsKnownFor about search.now.last search.now.alone statements.never_ends found.part.region) }
     ensures memory { IfErr result (λ fault. fault ≡ Memory) }
 {
+    let _variables = search.setting.about.variables();
     let part = empty_part(search.setting)?;
     let gap = None;
     Ok(Found { part, gap, size: 1 })
@@ -244,6 +262,8 @@ fn never_ranked(search: &Search, _ranking: &Ranking) -> Result<Found, PreFault>
 fn never_anew(search: &Search) -> Result<Found, PreFault>
     requires search { IsSearch search.now }
     ensures found { IfOk result (IsFound (system_of search.now) search.now.last statements.never_ends) }
+    ensures known { let about = system_of search.now in
+        IfOk result (λ found. IsKnownFor about search.now.last search.now.alone statements.never_ends found.part.region) }
     ensures refused { let about = system_of search.now in
         IfErr result (IsRefusedFor about search.now.setting.now.budget.now search.now.last statements.never_ends) }
     ensures counted { IfErr result (IsCountedFor (system_of search.now) statements.never_ends) }
@@ -265,11 +285,13 @@ fn never_anew(search: &Search) -> Result<Found, PreFault>
 pub(crate) fn never_found(search: &Search) -> Result<Found, PreFault>
     requires search { IsSearch search.now }
     ensures found { IfOk result (IsFound (system_of search.now) search.now.last statements.never_ends) }
+    ensures known { let about = system_of search.now in
+        IfOk result (λ found. IsKnownFor about search.now.last search.now.alone statements.never_ends found.part.region) }
     ensures refused { let about = system_of search.now in
         IfErr result (IsRefusedFor about search.now.setting.now.budget.now search.now.last statements.never_ends) }
     ensures counted { IfErr result (IsCountedFor (system_of search.now) statements.never_ends) }
 {
-    match &search.ranks {
+    match search.ranks {
         Some(Ranks::Known(ranking)) => Ok(never_ranked(search, ranking)?),
         Some(Ranks::Lacking) => Ok(never_unranked(search)?),
         _ => never_anew(search),

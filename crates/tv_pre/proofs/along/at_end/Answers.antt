@@ -1,4 +1,4 @@
-use Rattle.std.proofs.Common.{◌⊎◌, inl, inr, ◌+◌, ◌∷◌, [], sym, subst, arith}
+use Rattle.std.proofs.Common.{◌⊎◌, inl, inr, ◌+◌, ◌∷◌, [], ◌++◌, sym, ap, subst, arith}
 use Rattle.tv_cases.specs.Systems.{cases_of}
 use Rattle.tv_pre.specs.Questions.{Question}
 use Rattle.tv_pre.specs.Along.{arguments}
@@ -9,7 +9,7 @@ use Rattle.tv_pre.specs.Built.{AreBuilt, IsFaultOf, of_nowhere}
 use Rattle.tv_pre.proofs.BuiltLemmas.{first_built, rest_built, first_alone, pieces_of, joined_of, more_built, one_built, asked_one, all_built_to}
 use Rattle.tv_pre.proofs.PassedLemmas.{passed_on, cover_fault}
 use Rattle.tv_pre.proofs.AskedLemmas.{ends_asked, staying_asked}
-use Rattle.tv_pre.proofs.AlongLemmas.{is_along, no_onward}
+use Rattle.tv_pre.proofs.AlongLemmas.{is_along, no_onward, one_joined}
 use Rattle.tv_pre.proofs.SizedLemmas.{ended_few, none_joined, nowhere_joined}
 use Rattle.tv_pre.specs.Counted.{IsCountedAlong}
 use Rattle.tv_pre.proofs.CountedLemmas.{cover_along}
@@ -37,7 +37,7 @@ returns-in_err-until-clause-refused c =
 pub weak-requires-clause-staying : goal.weak-requires-clause-staying
 weak-requires-clause-staying c =
     let about = cases_of c.args.setting.now.about.now in
-    no_onward about c.args.sides.now c.args.end c.nowhere.result c.requires.end c.nowhere.ensures
+    no_onward about c.args.sides.now c.args.end c.nowhere.result c.requires.ends c.nowhere.ensures
 
 pub returns-in_err-weak-clause-refused : goal.returns-in_err-weak-clause-refused
 returns-in_err-weak-clause-refused c =
@@ -75,6 +75,13 @@ returns-in_ok-weak-clause-along c =
     is_along about 0 sides c.args.children.items c.in_ok-weak.field-0 (end ∷ none ∷ []) (end ∷ arguments sides) c.in_ok-weak.ensures.region
     (λ f g w. c.in_ok-weak.ensures.part f g w)
     (λ s h m. all_built_to about s h (0 + h) (end ∷ none ∷ []) (omega arith) (more_built about s h end (none ∷ []) (first_built about s h end (arguments sides) m) (one_built about s h none (of_nowhere h none c.nowhere.ensures))))
+
+pub returns-in_ok-until-clause-pieces : goal.returns-in_ok-until-clause-pieces
+returns-in_ok-until-clause-pieces c = one_joined c.args.end c.new.result.items c.in_ok-until.field-0.region.pieces.items (ap joined_pieces c.new.ensures.items) c.in_ok-until.ensures.region.pieces
+
+pub returns-in_ok-weak-clause-pieces : goal.returns-in_ok-weak-clause-pieces
+returns-in_ok-weak-clause-pieces c =
+    one_joined c.args.end (c.nowhere.result ∷ []) c.in_ok-weak.field-0.region.pieces.items (ap (λ ps. ps ++ []) c.nowhere.ensures.none) c.in_ok-weak.ensures.region.pieces
 
 pub returns-in_ok-until-clause-few : goal.returns-in_ok-until-clause-few
 returns-in_ok-until-clause-few c =

@@ -1,6 +1,7 @@
 use Rattle.std.proofs.Common.{refl, ◌+◌, subst, arith}
 use Rattle.tv_pre.specs.Along.{arguments}
 use Rattle.tv_pre.specs.Built.{IsFaultOf}
+use Rattle.tv_pre.specs.KnownStates.{IsNotRanked}
 use Rattle.tv_pre.specs.RankedAlong.{IsRankedAlong, IsUntoldAlong}
 use Rattle.tv_pre.specs.Search.{system_of}
 use Rattle.tv_pre.specs.Sized.{IsFewRanked}
@@ -8,6 +9,7 @@ use Rattle.tv_pre.proofs.AlongLemmas.{along_less, given_less}
 use Rattle.tv_pre.proofs.PassedLemmas.{passed_on}
 use Rattle.tv_formula.specs.Properties.{fix}
 use Rattle.tv_pre.proofs.FullAlongLemmas.{all_full}
+use Rattle.tv_pre.proofs.KnownAlongLemmas.{everywhere_known, beside_none, tame_cases, whatever_gap, without_gap}
 use Rattle.tv_pre.specs.Counted.{IsUntoldCount}
 use Rattle.tv_pre.proofs.along.by_ranks.Goals as goal
 
@@ -52,3 +54,23 @@ returns-in-Everywhere-clause-few c = subst (IsFewRanked (system_of c.args.search
 
 pub returns-in-Some-clause-counted : goal.returns-in-Some-clause-counted
 returns-in-Some-clause-counted c = subst (IsUntoldCount (system_of c.args.search.now) c.args.sides.now) c.in-Untold.is c.in_ok-part.ensures.untold_count
+
+pub returns-in-Everywhere-clause-known : goal.returns-in-Everywhere-clause-known
+returns-in-Everywhere-clause-known c s h m tame =
+    let about = system_of c.args.search.now in
+    let sides = c.args.sides.now in
+    let told = subst (IsRankedAlong about sides c.args.children.items c.args.end) c.in-Everywhere.is c.in_ok-part.ensures.along in
+    everywhere_known about sides c.requires.path c.args.search.now.alone c.args.search.now.last c.in-Everywhere.part.region c.requires.shape c.requires.ranking.lexicographic told.2 told.1
+
+pub returns-in_ok-by_rounds-in-Unsettled-clause-known : goal.returns-in_ok-by_rounds-in-Unsettled-clause-known
+returns-in_ok-by_rounds-in-Unsettled-clause-known c s h m tame =
+    let about = system_of c.args.search.now in
+    let sides = c.args.sides.now in
+    let told = subst (IsRankedAlong about sides c.args.children.items c.args.end) c.in-Unsettled.is c.in_ok-part.ensures.along in
+    c.in_ok-by_rounds-in-Unsettled.ensures.known s h m tame
+    (whatever_gap (IsNotRanked about sides) c.in_ok-by_rounds-in-Unsettled.field-0.gap (beside_none about sides c.requires.path (tame_cases about s tame) told.2))
+
+pub returns-in-None-clause-known : goal.returns-in-None-clause-known
+returns-in-None-clause-known c s h m tame =
+    let none = without_gap (IsNotRanked (system_of c.args.search.now) c.args.sides.now) c.in_ok-along-in-Untold.along.gap c.in-None.is in
+    c.in_ok-along-in-Untold.ensures.known s h m tame none

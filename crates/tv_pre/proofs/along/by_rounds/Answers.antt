@@ -1,13 +1,11 @@
-use Rattle.std.proofs.Common.{◌+◌, sym, subst, arith}
-use Rattle.tv_cert.specs.Obligations.{hold_side}
+use Rattle.std.proofs.Common.{◌+◌, subst, arith}
 use Rattle.tv_pre.specs.Search.{system_of}
 use Rattle.tv_pre.specs.Along.{arguments}
 use Rattle.tv_pre.specs.Finding.{IsTameFor}
 use Rattle.tv_pre.specs.Built.{IsFaultOf}
 use Rattle.tv_pre.proofs.PassedLemmas.{passed_on}
-use Rattle.tv_pre.proofs.BuiltLemmas.{hold_built}
-use Rattle.tv_pre.proofs.TameLemmas.{tame_built}
 use Rattle.tv_pre.proofs.AlongLemmas.{along_less, given_less}
+use Rattle.tv_pre.proofs.KnownAlongLemmas.{sides_tame}
 use Rattle.tv_pre.proofs.along.by_rounds.Goals as goal
 
 pub returns-in_err-part-clause-refused : goal.returns-in_err-part-clause-refused
@@ -27,11 +25,7 @@ returns-then-not-is_tame-clause-along c =
 pub returns-then-not-is_tame-clause-gap : goal.returns-then-not-is_tame-clause-gap
 returns-then-not-is_tame-clause-gap c s h m tame =
     let about = system_of c.args.search.now in
-    let sides = c.args.sides.now in
-    let hold = hold_side sides.shape sides.first.now sides.second.now in
-    c.is_tame.ensures.wild c.if-not-is_tame.true
-    (subst (λ r. IsTameFor about r c.args.end) (sym c.hold_of.ensures)
-    (tame_built about s tame h (0 + h) hold c.args.end (hold_built about s h sides.shape sides.first.now sides.second.now m) (c.requires.built s h m)))
+    c.is_tame.ensures.wild c.if-not-is_tame.true (sides_tame about c.args.sides.now c.args.end c.hold_of.result.now c.hold_of.ensures c.requires.built s h m tame)
 
 pub growing-requires-clause-tame : goal.growing-requires-clause-tame
 growing-requires-clause-tame c =
@@ -72,3 +66,8 @@ returns-in_ok-shrinking-clause-along c =
     let about = system_of c.args.search.now in
     let last = c.args.search.now.last in
     along_less about (last + 1) (last + 2) c.args.end (arguments c.args.sides.now) c.args.sides.now c.args.children.items c.in_ok-shrinking.field-0.part (omega arith) c.requires.built c.in_ok-shrinking.ensures.along
+
+pub returns-then-not-is_tame-clause-known : goal.returns-then-not-is_tame-clause-known
+returns-then-not-is_tame-clause-known c s h m tame =
+    let about = system_of c.args.search.now in
+    absurd (c.is_tame.ensures.wild c.if-not-is_tame.true (sides_tame about c.args.sides.now c.args.end c.hold_of.result.now c.hold_of.ensures c.requires.built s h m tame))

@@ -11,6 +11,7 @@ use Rattle.tv_pre.proofs.AlongLemmas.{open_rounds, first_layers, settled_layers,
 use Rattle.tv_rounds.specs.Answers.{IsFullBy}
 use Rattle.tv_known.specs.Rounds.{must_end}
 use Rattle.tv_pre.proofs.FullAlongLemmas.{grown_full}
+use Rattle.tv_pre.proofs.KnownAlongLemmas.{settled_known, open_known}
 use Rattle.tv_pre.proofs.SizedLemmas.{grown_few, last_before}
 use Rattle.tv_pre.specs.Counted.{IsCountedAlong}
 use Rattle.tv_pre.proofs.CountedLemmas.{cover_along}
@@ -171,3 +172,30 @@ returns-in_err-part-in-Open-clause-counted c =
     let about = system_of c.args.search.now in
     let sides = c.args.sides.now in
     passed_on (IsCountedAlong about sides) c.from_residual-in_err-part-in-Open.result c.from_residual-in_err-part-in-Open.ensures.1 (cover_along about sides c.in_err-part-in-Open.field-0.0)
+
+pub returns-in-Settled-clause-known : goal.returns-in-Settled-clause-known
+returns-in-Settled-clause-known c none =
+    let about = system_of c.args.search.now in
+    let last = c.args.search.now.last in
+    let sides = c.args.sides.now in
+    let end = c.args.end in
+    let round = c.in-Settled.region in
+    let at = c.in-Settled.at in
+    let layers = c.in-Settled.layers.items in
+    let rounds = c.in_ok-layers.ensures.rounds in
+    let told = settled_layers about last sides end c.in_ok-layers.field-0 round at c.in-Settled.layers c.in-Settled.is c.requires.shape rounds in
+    settled_known about c.variables-variables.ensures.limits.cases sides end rounds.point rounds.of c.requires.end c.requires.shape layers told.layers.each c.in_ok-part-in-Settled.part.region c.in_ok-part-in-Settled.ensures.region
+    c.args.search.now.alone last at round told
+
+pub returns-clause-known : goal.returns-clause-known
+returns-clause-known c none =
+    let about = system_of c.args.search.now in
+    let last = c.args.search.now.last in
+    let sides = c.args.sides.now in
+    let end = c.args.end in
+    let round = c.in-Open.region in
+    let layers = c.in-Open.layers.items in
+    let rounds = c.in_ok-layers.ensures.rounds in
+    let told = open_layers about last sides end c.in_ok-layers.field-0 round c.in-Open.layers c.in-Open.is c.requires.shape rounds in
+    open_known about c.variables-variables.ensures.limits.cases sides end rounds.point rounds.of c.requires.end c.requires.shape layers told.layers.each c.in_ok-part-in-Open.part.region c.in_ok-part-in-Open.ensures.region
+    c.args.search.now.alone last round told none

@@ -7,10 +7,11 @@ use Rattle.tv_pre.specs.Built.{IsFaultOf, IsPreFault}
 use Rattle.tv_pre.proofs.BuiltLemmas.{all_built_to, fault_to}
 use Rattle.tv_pre.proofs.PassedLemmas.{passed_on, cover_fault, fault_again}
 use Rattle.tv_pre.proofs.ExactLemmas.{open_sides}
-use Rattle.tv_pre.proofs.AlongLemmas.{open_rounds, settled_stays, settled_round, round_sides, round_built, weak_built, weak_asked, is_along, along_more}
+use Rattle.tv_pre.proofs.AlongLemmas.{open_rounds, open_round, settled_stays, settled_round, round_sides, round_built, weak_built, weak_asked, is_along, along_more}
 use Rattle.tv_rounds.specs.Answers.{IsFullBy}
 use Rattle.tv_known.specs.Rounds.{must_end}
 use Rattle.tv_pre.proofs.FullAlongLemmas.{shrunk_full}
+use Rattle.tv_pre.proofs.KnownAlongLemmas.{shrunk_known, none_known}
 use Rattle.tv_pre.proofs.SizedLemmas.{shrunk_few, one_later}
 use Rattle.tv_pre.specs.Counted.{IsCountedAlong}
 use Rattle.tv_pre.proofs.CountedLemmas.{cover_along, onward_along}
@@ -157,3 +158,27 @@ returns-in_err-part-in-Settled-clause-counted c =
     let about = system_of c.args.search.now in
     let sides = c.args.sides.now in
     passed_on (IsCountedAlong about sides) c.from_residual-in_err-part-in-Settled.result c.from_residual-in_err-part-in-Settled.ensures.1 (cover_along about sides c.in_err-part-in-Settled.field-0.0)
+
+pub returns-in-Settled-clause-known : goal.returns-in-Settled-clause-known
+returns-in-Settled-clause-known c none =
+    let about = system_of c.args.search.now in
+    let last = c.args.search.now.last in
+    let sides = c.args.sides.now in
+    let end = c.args.end in
+    let round = c.in-Settled.region in
+    let at = c.in-Settled.at in
+    let rounds = c.in_ok-region.ensures.rounds in
+    let told = settled_round about last sides end c.in_ok-region.field-0 round at c.in-Settled.layers c.in-Settled.is c.requires.shape rounds in
+    shrunk_known about c.variables-variables.ensures.limits.cases sides end rounds.point rounds.of c.requires.end c.requires.shape c.args.search.now.alone last at round c.in_ok-more-in-Settled.more c.in_ok-part-in-Settled.part.region
+    c.in-Settled.layers.items told rounds.tame c.in_ok-more-in-Settled.ensures.onward c.in_ok-part-in-Settled.ensures.region
+
+pub returns-clause-known : goal.returns-clause-known
+returns-clause-known c none =
+    let about = system_of c.args.search.now in
+    let last = c.args.search.now.last in
+    let sides = c.args.sides.now in
+    let end = c.args.end in
+    let rounds = c.in_ok-region.ensures.rounds in
+    let told = open_round about last sides end c.in_ok-region.field-0 c.in-Open.region c.in-Open.layers c.in-Open.is c.requires.shape rounds in
+    none_known about c.variables-variables.ensures.limits.cases sides end rounds.point rounds.of c.requires.end c.requires.shape c.args.search.now.alone last c.in-Open.region c.in_ok-part-in-Open.part.region
+    c.in-Open.layers.items told c.in_ok-part-in-Open.ensures.none

@@ -27,7 +27,7 @@ returns-in-Err-first_inside-clause-refused c =
     let s = aim_states c.args.claim.now.denied_aim in
     let e : t ≡ s = c.denied_aim.ensures ∙ sym c.args.claim.now.denied_stated in
     let o = c.in-Ok.ensures in
-    of_start c.in-Ok.found c.in-Err-first_inside.fault (found_of about t s c.in-Ok.found e o.region o.part o.built o.size o.gap o.tells o.full)
+    of_start c.in-Ok.found c.in-Err-first_inside.fault (found_of about t s c.in-Ok.found e o.region o.part o.built o.size o.gap o.tells o.full o.known)
     (subst (λ qs. IsRefusal about c.args.setting.now.budget.now (AsksEmpty about qs) c.in-Err-first_inside.fault) c.deref.ensures.value c.in-Err-first_inside.ensures.refusals)
 
 pub returns-in-Ok-None-clause-tried : goal.returns-in-Ok-None-clause-tried
@@ -40,7 +40,7 @@ returns-in-Ok-None-clause-tried c =
     let pieces = c.deref.result.now in
     record {
       found = c.in-Ok.found;
-      is = found_of about t s c.in-Ok.found e o.region o.part o.built o.size o.gap o.tells o.full;
+      is = found_of about t s c.in-Ok.found e o.region o.part o.built o.size o.gap o.tells o.full o.known;
       same = refl;
       outside = subst (HasNoStart about) c.deref.ensures.value (subst (λ r. MatchOption r (HasNoStart about pieces) (IsInside about pieces)) c.in-Ok-None.field-0-is c.in-Ok-None.ensures.answer);
     }

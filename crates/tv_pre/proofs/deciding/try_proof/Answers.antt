@@ -26,7 +26,7 @@ returns-in-Err-start_covered-clause-refused c =
     let s = aim_states c.args.claim.now.proved_aim in
     let e : t ≡ s = c.proved_aim.ensures ∙ sym c.args.claim.now.proved_stated in
     let o = c.in-Ok.ensures in
-    of_start c.in-Ok.found c.in-Err-start_covered.fault (found_of about t s c.in-Ok.found e o.region o.part o.built o.size o.gap o.tells o.full) c.in-Err-start_covered.ensures.refusals
+    of_start c.in-Ok.found c.in-Err-start_covered.fault (found_of about t s c.in-Ok.found e o.region o.part o.built o.size o.gap o.tells o.full o.known) c.in-Err-start_covered.ensures.refusals
 
 pub returns-in-Ok-Hole-clause-tried : goal.returns-in-Ok-Hole-clause-tried
 returns-in-Ok-Hole-clause-tried c =
@@ -37,7 +37,7 @@ returns-in-Ok-Hole-clause-tried c =
     let o = c.in-Ok.ensures in
     record {
       found = c.in-Ok.found;
-      is = found_of about t s c.in-Ok.found e o.region o.part o.built o.size o.gap o.tells o.full;
+      is = found_of about t s c.in-Ok.found e o.region o.part o.built o.size o.gap o.tells o.full o.known;
       same = refl;
       values = c.in-Ok-Hole.field-0-0.items;
       outside = subst (StartAnswer about c.in-Ok.found.part.region.pieces.items) c.in-Ok-Hole.field-0-is c.in-Ok-Hole.ensures.answer;

@@ -1,8 +1,8 @@
 use Rattle.std.proofs.Common.{◌+◌, ◌≡◌, ◌∙◌, ◌≤◌, sym, ap, subst, arith, map}
-use Rattle.std.specs.Prelude.{IfSome}
+use Rattle.std.specs.Prelude.{IfOk, IfSome}
 use Rattle.std.specs.Result.{IfErr}
 use Rattle.tv_cert.specs.declared.aim.Aim.{Aim, Aim-F, fold-roll-Aim}
-use Rattle.tv_cert.specs.declared.aim.Aim.TheVariants.{rolls-EachOf, rolls-OneOf, rolls-After, rolls-Along}
+use Rattle.tv_cert.specs.declared.aim.Aim.TheVariants.{rolls-Ends, rolls-NeverEnds, rolls-EachOf, rolls-OneOf, rolls-After, rolls-Along}
 use Rattle.tv_cert.specs.AimViews.{aim_states, aims_state, aim_node}
 use Rattle.tv_cert.specs.Statements as statements
 use Rattle.tv_pre.specs.Search.{system_of}
@@ -13,9 +13,11 @@ use Rattle.tv_pre.proofs.PassedLemmas.{passed_on}
 use Rattle.tv_pre.proofs.FoundLemmas.{argument_fault, argument_over, after_argument, first_argument, second_argument}
 use Rattle.tv_region.proofs.AlgebraLemmas.{if_ok, if_err}
 use Rattle.tv_pre.specs.Arguments.{AreArguments}
+use Rattle.tv_pre.specs.KnownStates.{HasKnownStates, IsAloneIn}
 use Rattle.tv_pre.specs.Finding.{IsFound}
 use Rattle.tv_pre.specs.Counted.{IsCountedFor, AreCountedFor}
-use Rattle.tv_pre.proofs.ArgumentLemmas.{one_first, all_first}
+use Rattle.tv_pre.proofs.InnerLemmas.{counted_outer, found_outer, known_outer, refused_outer}
+use Rattle.tv_pre.proofs.ArgumentLemmas.{one_first, all_first, one_known, all_known}
 use Rattle.tv_pre.proofs.CountedFormulas.{argument_counted, each_argument_counted, one_argument_counted, after_argument_counted, first_argument_counted, second_argument_counted}
 use Rattle.tv_pre.proofs.finding.+finding.Goals as goal
 
@@ -44,8 +46,12 @@ all_found-returns-in_err-found-clause-refused_one t c =
 pub all_found-aims-preserved : goal.all_found-aims-preserved
 all_found-aims-preserved t c =
     let about = system_of c.args.search.now in
-    let more = one_first about c.args.search.now.last c.args.aims.now c.aims.founds.items c.push_item-in-aims.new.items.items c.aims.aim-index c.aim-item.result c.in_ok-found.found c.aims-test.true c.aim-item.is c.aims.invariant.1 c.aims.invariant.0 c.in_ok-found.ensures.found c.in_ok-push_item-2.ensures in
-    (more.0, more.1, even_later about.variables c.args.aims.now (c.aims.aim-index + 1) c.requires.even)
+    let more = one_first about c.args.search.now.last c.args.aims.now c.aims.founds.items c.push_item-in-aims.new.items.items c.aims.aim-index c.aim-item.result c.in_ok-found.found c.aims-test.true c.aim-item.is c.aims.invariant.1 c.aims.invariant.0 c.in_ok-found.ensures.found c.in_ok-push_item-2.ensures in (
+      more.0,
+      more.1,
+      even_later about.variables c.args.aims.now (c.aims.aim-index + 1) c.requires.even,
+      one_known about c.args.search.now.last c.args.search.now.alone c.args.aims.now c.aims.founds.items c.push_item-in-aims.new.items.items c.aims.aim-index c.aim-item.result c.in_ok-found.found c.aims-test.true c.aim-item.is c.aims.invariant.1 c.aims.invariant.3 c.in_ok-found.ensures.known c.in_ok-push_item-2.ensures,
+    )
 
 pub found_of-each_found-requires-clause-arguments : goal.found_of-each_found-requires-clause-arguments
 found_of-each_found-requires-clause-arguments t c =
@@ -72,6 +78,8 @@ found_of-returns-in_err-child-in-After-clause-refused t c =
 pub found_of-returns-in_err-front-in-Along-clause-refused : goal.found_of-returns-in_err-front-in-Along-clause-refused
 found_of-returns-in_err-front-in-Along-clause-refused t c =
     let about = system_of c.args.search.now in
+    let inner = c.of_arguments-inner.result in
+    let outer = c.of_arguments-inner.ensures in
     let budget = c.args.search.now.setting.now.budget.now in
     let last = c.args.search.now.last in
     let s = aim_states c.in-Along.first.value in
@@ -80,11 +88,15 @@ found_of-returns-in_err-front-in-Along-clause-refused t c =
     ap aim_states c.in-Along.is ∙ ap aim_states (sym (rolls-Along c.in-Along.path c.in-Along.shape c.in-Along.first c.in-Along.second)) ∙ fold-roll-Aim statements.Statement aim_node (Aim-F.Along c.in-Along.path c.in-Along.shape c.in-Along.first c.in-Along.second) in
     subst (λ (w : statements.Statement). IfErr c.from_residual-in_err-front-in-Along.result (IsRefusedFor about budget last w)) (sym e)
     (passed_on (IsRefusedFor about budget last (statements.along c.in-Along.path c.in-Along.shape s o)) c.from_residual-in_err-front-in-Along.result c.from_residual-in_err-front-in-Along.ensures.1
-    (λ r is. first_argument about last budget c.in-Along.path c.in-Along.shape s o c.in_err-front-in-Along.field-0.0 r is (subst (λ (a : Aim). IsRefusedFor about budget last (aim_states a) c.in_err-front-in-Along.field-0.0) c.deref-in-Along.ensures c.in_err-front-in-Along.ensures.refused)))
+    (λ r is. first_argument about last budget c.in-Along.path c.in-Along.shape s o c.in_err-front-in-Along.field-0.0 r is
+    (refused_outer c.args.search.now inner outer.setting outer.last s c.in_err-front-in-Along.field-0.0
+    (subst (λ (a : Aim). IsRefusedFor (system_of inner) inner.setting.now.budget.now inner.last (aim_states a) c.in_err-front-in-Along.field-0.0) c.deref-in-Along.ensures c.in_err-front-in-Along.ensures.refused))))
 
 pub found_of-returns-in_err-back-in-None-clause-refused : goal.found_of-returns-in_err-back-in-None-clause-refused
 found_of-returns-in_err-back-in-None-clause-refused t c =
     let about = system_of c.args.search.now in
+    let inner = c.of_arguments-inner.result in
+    let outer = c.of_arguments-inner.ensures in
     let budget = c.args.search.now.setting.now.budget.now in
     let last = c.args.search.now.last in
     let s = aim_states c.in-Along.first.value in
@@ -93,7 +105,9 @@ found_of-returns-in_err-back-in-None-clause-refused t c =
     ap aim_states c.in-Along.is ∙ ap aim_states (sym (rolls-Along c.in-Along.path c.in-Along.shape c.in-Along.first c.in-Along.second)) ∙ fold-roll-Aim statements.Statement aim_node (Aim-F.Along c.in-Along.path c.in-Along.shape c.in-Along.first c.in-Along.second) in
     subst (λ (w : statements.Statement). IfErr c.from_residual-in_err-back-in-None.result (IsRefusedFor about budget last w)) (sym e)
     (passed_on (IsRefusedFor about budget last (statements.along c.in-Along.path c.in-Along.shape s o)) c.from_residual-in_err-back-in-None.result c.from_residual-in_err-back-in-None.ensures.1
-    (λ r is. second_argument about last budget c.in-Along.path c.in-Along.shape s o c.in_err-back-in-None.field-0.0 r is (subst (λ (a : Aim). IsRefusedFor about budget last (aim_states a) c.in_err-back-in-None.field-0.0) c.deref-in-None.ensures c.in_err-back-in-None.ensures.refused)))
+    (λ r is. second_argument about last budget c.in-Along.path c.in-Along.shape s o c.in_err-back-in-None.field-0.0 r is
+    (refused_outer c.args.search.now inner outer.setting outer.last o c.in_err-back-in-None.field-0.0
+    (subst (λ (a : Aim). IsRefusedFor (system_of inner) inner.setting.now.budget.now inner.last (aim_states a) c.in_err-back-in-None.field-0.0) c.deref-in-None.ensures c.in_err-back-in-None.ensures.refused))))
 
 pub all_found-returns-in_err-found-clause-counted : goal.all_found-returns-in_err-found-clause-counted
 all_found-returns-in_err-found-clause-counted t c =
@@ -116,6 +130,8 @@ found_of-returns-in_err-child-in-After-clause-counted t c =
 pub found_of-returns-in_err-front-in-Along-clause-counted : goal.found_of-returns-in_err-front-in-Along-clause-counted
 found_of-returns-in_err-front-in-Along-clause-counted t c =
     let about = system_of c.args.search.now in
+    let inner = c.of_arguments-inner.result in
+    let outer = c.of_arguments-inner.ensures in
     let s = aim_states c.in-Along.first.value in
     let o = aim_states c.in-Along.second.value in
     let fault = c.in_err-front-in-Along.field-0.0 in
@@ -124,11 +140,14 @@ found_of-returns-in_err-front-in-Along-clause-counted t c =
     ap aim_states c.in-Along.is ∙ ap aim_states (sym (rolls-Along c.in-Along.path c.in-Along.shape c.in-Along.first c.in-Along.second)) ∙ fold-roll-Aim statements.Statement aim_node (Aim-F.Along c.in-Along.path c.in-Along.shape c.in-Along.first c.in-Along.second) in
     subst (λ (w : statements.Statement). IfErr c.from_residual-in_err-front-in-Along.result (IsCountedFor about w)) (sym e)
     (passed_on (IsCountedFor about whole) c.from_residual-in_err-front-in-Along.result c.from_residual-in_err-front-in-Along.ensures.1
-    (λ r is. subst (IsCountedFor about whole) (sym is) (first_argument_counted about fault c.in-Along.path c.in-Along.shape s o (subst (λ (a : Aim). IsCountedFor about (aim_states a) fault) c.deref-in-Along.ensures c.in_err-front-in-Along.ensures.counted))))
+    (λ r is. subst (IsCountedFor about whole) (sym is) (first_argument_counted about fault c.in-Along.path c.in-Along.shape s o
+    (counted_outer c.args.search.now inner outer.setting s fault (subst (λ (a : Aim). IsCountedFor (system_of inner) (aim_states a) fault) c.deref-in-Along.ensures c.in_err-front-in-Along.ensures.counted)))))
 
 pub found_of-returns-in_err-back-in-None-clause-counted : goal.found_of-returns-in_err-back-in-None-clause-counted
 found_of-returns-in_err-back-in-None-clause-counted t c =
     let about = system_of c.args.search.now in
+    let inner = c.of_arguments-inner.result in
+    let outer = c.of_arguments-inner.ensures in
     let s = aim_states c.in-Along.first.value in
     let o = aim_states c.in-Along.second.value in
     let fault = c.in_err-back-in-None.field-0.0 in
@@ -137,7 +156,8 @@ found_of-returns-in_err-back-in-None-clause-counted t c =
     ap aim_states c.in-Along.is ∙ ap aim_states (sym (rolls-Along c.in-Along.path c.in-Along.shape c.in-Along.first c.in-Along.second)) ∙ fold-roll-Aim statements.Statement aim_node (Aim-F.Along c.in-Along.path c.in-Along.shape c.in-Along.first c.in-Along.second) in
     subst (λ (w : statements.Statement). IfErr c.from_residual-in_err-back-in-None.result (IsCountedFor about w)) (sym e)
     (passed_on (IsCountedFor about whole) c.from_residual-in_err-back-in-None.result c.from_residual-in_err-back-in-None.ensures.1
-    (λ r is. subst (IsCountedFor about whole) (sym is) (second_argument_counted about fault c.in-Along.path c.in-Along.shape s o (subst (λ (a : Aim). IsCountedFor about (aim_states a) fault) c.deref-in-None.ensures c.in_err-back-in-None.ensures.counted))))
+    (λ r is. subst (IsCountedFor about whole) (sym is) (second_argument_counted about fault c.in-Along.path c.in-Along.shape s o
+    (counted_outer c.args.search.now inner outer.setting o fault (subst (λ (a : Aim). IsCountedFor (system_of inner) (aim_states a) fault) c.deref-in-None.ensures c.in_err-back-in-None.ensures.counted)))))
 
 pub found_of-returns-in_err-arguments-in-EachOf-clause-counted : goal.found_of-returns-in_err-arguments-in-EachOf-clause-counted
 found_of-returns-in_err-arguments-in-EachOf-clause-counted t c =
@@ -199,13 +219,15 @@ found_of-returns-in_ok-child-in-After-clause-counted t c =
 pub found_of-returns-in_ok-back-in-None-clause-counted : goal.found_of-returns-in_ok-back-in-None-clause-counted
 found_of-returns-in_ok-back-in-None-clause-counted t c =
     let about = system_of c.args.search.now in
+    let inner = c.of_arguments-inner.result in
+    let outer = c.of_arguments-inner.ensures in
     let last = c.args.search.now.last in
     let s = aim_states c.in-Along.first.value in
     let o = aim_states c.in-Along.second.value in
     let e : aim_states c.args.aim.now ≡ statements.along c.in-Along.path c.in-Along.shape s o =
     ap aim_states c.in-Along.is ∙ ap aim_states (sym (rolls-Along c.in-Along.path c.in-Along.shape c.in-Along.first c.in-Along.second)) ∙ fold-roll-Aim statements.Statement aim_node (Aim-F.Along c.in-Along.path c.in-Along.shape c.in-Along.first c.in-Along.second) in
-    let one = subst (λ (a : Aim). IsFound about last (aim_states a) c.in_ok-front-in-Along.front) c.deref-in-Along.ensures c.in_ok-front-in-Along.ensures.found in
-    let other = subst (λ (a : Aim). IsFound about last (aim_states a) c.in_ok-back-in-None.back) c.deref-in-None.ensures c.in_ok-back-in-None.ensures.found in
+    let one = found_outer c.args.search.now inner outer.setting outer.last s c.in_ok-front-in-Along.front (subst (λ (a : Aim). IsFound (system_of inner) inner.last (aim_states a) c.in_ok-front-in-Along.front) c.deref-in-Along.ensures c.in_ok-front-in-Along.ensures.found) in
+    let other = found_outer c.args.search.now inner outer.setting outer.last o c.in_ok-back-in-None.back (subst (λ (a : Aim). IsFound (system_of inner) inner.last (aim_states a) c.in_ok-back-in-None.back) c.deref-in-None.ensures c.in_ok-back-in-None.ensures.found) in
     subst (λ (w : statements.Statement). IfErr c.along_found-in-None.result (IsCountedFor about w)) (sym e) (if_err c.along_found-in-None.result (λ x h. h s o one other) c.along_found-in-None.ensures.counted)
 
 pub all_found-returns-clause-found : goal.all_found-returns-clause-found
@@ -222,17 +244,93 @@ all_found-aims-preserved-in-Some t c =
     let last = c.args.search.now.last in
     let told = subst (λ o. IfSome o (IsFound about last (aim_states c.aim-item.result))) c.in-Some.is c.in_ok-again.ensures.found in
     let more = one_first about last c.args.aims.now c.aims.founds.items c.push_item.new.items.items c.aims.aim-index c.aim-item.result c.in-Some.again c.aims-test.true c.aim-item.is c.aims.invariant.1 c.aims.invariant.0 told c.in_ok-push_item.ensures in
-    (more.0, more.1, even_later about.variables c.args.aims.now (c.aims.aim-index + 1) c.requires.even)
+    let known = subst (λ o. IfSome o (HasKnownStates about last c.args.search.now.alone (aim_states c.aim-item.result))) c.in-Some.is c.in_ok-again.ensures.known in (
+      more.0,
+      more.1,
+      even_later about.variables c.args.aims.now (c.aims.aim-index + 1) c.requires.even,
+      one_known about last c.args.search.now.alone c.args.aims.now c.aims.founds.items c.push_item.new.items.items c.aims.aim-index c.aim-item.result c.in-Some.again c.aims-test.true c.aim-item.is c.aims.invariant.1 c.aims.invariant.3 known c.in_ok-push_item.ensures,
+    )
 
 pub found_of-returns-in-Some-clause-counted : goal.found_of-returns-in-Some-clause-counted
 found_of-returns-in-Some-clause-counted t c =
     let about = system_of c.args.search.now in
+    let inner = c.of_arguments-inner.result in
+    let outer = c.of_arguments-inner.ensures in
     let last = c.args.search.now.last in
     let s = aim_states c.in-Along.first.value in
     let o = aim_states c.in-Along.second.value in
     let e : aim_states c.args.aim.now ≡ statements.along c.in-Along.path c.in-Along.shape s o =
     ap aim_states c.in-Along.is ∙ ap aim_states (sym (rolls-Along c.in-Along.path c.in-Along.shape c.in-Along.first c.in-Along.second)) ∙ fold-roll-Aim statements.Statement aim_node (Aim-F.Along c.in-Along.path c.in-Along.shape c.in-Along.first c.in-Along.second) in
-    let one = subst (λ (a : Aim). IsFound about last (aim_states a) c.in_ok-front-in-Along.front) c.deref-in-Along.ensures c.in_ok-front-in-Along.ensures.found in
-    let again = subst (λ z. IfSome z (IsFound about last (aim_states c.deref-in-Along-3.result.now))) c.in-Some.is c.in_ok-back-in-Along.ensures.found in
-    let other = subst (λ (a : Aim). IsFound about last (aim_states a) c.in-Some.back) c.deref-in-Along-3.ensures again in
+    let one = found_outer c.args.search.now inner outer.setting outer.last s c.in_ok-front-in-Along.front (subst (λ (a : Aim). IsFound (system_of inner) inner.last (aim_states a) c.in_ok-front-in-Along.front) c.deref-in-Along.ensures c.in_ok-front-in-Along.ensures.found) in
+    let again = subst (λ z. IfSome z (IsFound (system_of inner) inner.last (aim_states c.deref-in-Along-3.result.now))) c.in-Some.is c.in_ok-back-in-Along.ensures.found in
+    let other = found_outer c.args.search.now inner outer.setting outer.last o c.in-Some.back (subst (λ (a : Aim). IsFound (system_of inner) inner.last (aim_states a) c.in-Some.back) c.deref-in-Along-3.ensures again) in
     subst (λ (w : statements.Statement). IfErr c.along_found.result (IsCountedFor about w)) (sym e) (if_err c.along_found.result (λ x h. h s o one other) c.along_found.ensures.counted)
+
+pub all_found-returns-clause-known : goal.all_found-returns-clause-known
+all_found-returns-clause-known t c =
+    let about = system_of c.args.search.now in
+    let last = c.args.search.now.last in
+    let alone = c.args.search.now.alone in
+    let aims = c.args.aims.now in
+    if_ok c.arguments_of.result (λ a h. all_known about last alone aims c.aims.founds.items a.regions.items c.aims.aim-index c.aims-test.false c.aims.auto.aim-index-end c.aims.invariant.1 c.aims.invariant.3 h)
+    c.arguments_of.ensures.regions
+
+pub found_of-returns-in_ok-back-in-None-clause-known : goal.found_of-returns-in_ok-back-in-None-clause-known
+found_of-returns-in_ok-back-in-None-clause-known t c =
+    let about = system_of c.args.search.now in
+    let last = c.args.search.now.last in
+    let alone = c.args.search.now.alone in
+    let inner = c.of_arguments-inner.result in
+    let outer = c.of_arguments-inner.ensures in
+    let s = aim_states c.in-Along.first.value in
+    let o = aim_states c.in-Along.second.value in
+    let e : aim_states c.args.aim.now ≡ statements.along c.in-Along.path c.in-Along.shape s o =
+    ap aim_states c.in-Along.is ∙ ap aim_states (sym (rolls-Along c.in-Along.path c.in-Along.shape c.in-Along.first c.in-Along.second)) ∙ fold-roll-Aim statements.Statement aim_node (Aim-F.Along c.in-Along.path c.in-Along.shape c.in-Along.first c.in-Along.second) in
+    let one = found_outer c.args.search.now inner outer.setting outer.last s c.in_ok-front-in-Along.front (subst (λ (a : Aim). IsFound (system_of inner) inner.last (aim_states a) c.in_ok-front-in-Along.front) c.deref-in-Along.ensures c.in_ok-front-in-Along.ensures.found) in
+    let other = found_outer c.args.search.now inner outer.setting outer.last o c.in_ok-back-in-None.back (subst (λ (a : Aim). IsFound (system_of inner) inner.last (aim_states a) c.in_ok-back-in-None.back) c.deref-in-None.ensures c.in_ok-back-in-None.ensures.found) in
+    let one_known = known_outer c.args.search.now inner outer.setting outer.last inner.alone s c.in_ok-front-in-Along.front (subst (λ (a : Aim). HasKnownStates (system_of inner) inner.last inner.alone (aim_states a) c.in_ok-front-in-Along.front) c.deref-in-Along.ensures c.in_ok-front-in-Along.ensures.known) in
+    let other_known = known_outer c.args.search.now inner outer.setting outer.last inner.alone o c.in_ok-back-in-None.back (subst (λ (a : Aim). HasKnownStates (system_of inner) inner.last inner.alone (aim_states a) c.in_ok-back-in-None.back) c.deref-in-None.ensures c.in_ok-back-in-None.ensures.known) in
+    let within : IsAloneIn alone c.in-Along.shape inner.alone = record { kept = outer.alone; shrinking = outer.shrinking } in
+    subst (λ (w : statements.Statement). IfOk c.along_found-in-None.result (HasKnownStates about last alone w)) (sym e)
+    (if_ok c.along_found-in-None.result (λ x h. h inner.alone within s o one other one_known other_known) c.along_found-in-None.ensures.known)
+
+pub found_of-returns-in-Some-clause-known : goal.found_of-returns-in-Some-clause-known
+found_of-returns-in-Some-clause-known t c =
+    let about = system_of c.args.search.now in
+    let last = c.args.search.now.last in
+    let alone = c.args.search.now.alone in
+    let inner = c.of_arguments-inner.result in
+    let outer = c.of_arguments-inner.ensures in
+    let s = aim_states c.in-Along.first.value in
+    let o = aim_states c.in-Along.second.value in
+    let e : aim_states c.args.aim.now ≡ statements.along c.in-Along.path c.in-Along.shape s o =
+    ap aim_states c.in-Along.is ∙ ap aim_states (sym (rolls-Along c.in-Along.path c.in-Along.shape c.in-Along.first c.in-Along.second)) ∙ fold-roll-Aim statements.Statement aim_node (Aim-F.Along c.in-Along.path c.in-Along.shape c.in-Along.first c.in-Along.second) in
+    let one = found_outer c.args.search.now inner outer.setting outer.last s c.in_ok-front-in-Along.front (subst (λ (a : Aim). IsFound (system_of inner) inner.last (aim_states a) c.in_ok-front-in-Along.front) c.deref-in-Along.ensures c.in_ok-front-in-Along.ensures.found) in
+    let again = subst (λ z. IfSome z (IsFound (system_of inner) inner.last (aim_states c.deref-in-Along-3.result.now))) c.in-Some.is c.in_ok-back-in-Along.ensures.found in
+    let other = found_outer c.args.search.now inner outer.setting outer.last o c.in-Some.back (subst (λ (a : Aim). IsFound (system_of inner) inner.last (aim_states a) c.in-Some.back) c.deref-in-Along-3.ensures again) in
+    let one_known = known_outer c.args.search.now inner outer.setting outer.last inner.alone s c.in_ok-front-in-Along.front (subst (λ (a : Aim). HasKnownStates (system_of inner) inner.last inner.alone (aim_states a) c.in_ok-front-in-Along.front) c.deref-in-Along.ensures c.in_ok-front-in-Along.ensures.known) in
+    let again_known = subst (λ z. IfSome z (HasKnownStates (system_of inner) inner.last inner.alone (aim_states c.deref-in-Along-3.result.now))) c.in-Some.is c.in_ok-back-in-Along.ensures.known in
+    let other_known = known_outer c.args.search.now inner outer.setting outer.last inner.alone o c.in-Some.back (subst (λ (a : Aim). HasKnownStates (system_of inner) inner.last inner.alone (aim_states a) c.in-Some.back) c.deref-in-Along-3.ensures again_known) in
+    let within : IsAloneIn alone c.in-Along.shape inner.alone = record { kept = outer.alone; shrinking = outer.shrinking } in
+    subst (λ (w : statements.Statement). IfOk c.along_found.result (HasKnownStates about last alone w)) (sym e)
+    (if_ok c.along_found.result (λ x h. h inner.alone within s o one other one_known other_known) c.along_found.ensures.known)
+
+pub found_of-returns-in-Ends-clause-known : goal.found_of-returns-in-Ends-clause-known
+found_of-returns-in-Ends-clause-known t c =
+    let about = system_of c.args.search.now in
+    let last = c.args.search.now.last in
+    let alone = c.args.search.now.alone in
+    let e : aim_states c.args.aim.now ≡ statements.ends =
+    ap aim_states c.in-Ends.is ∙ ap aim_states (sym rolls-Ends) ∙ fold-roll-Aim statements.Statement aim_node Aim-F.Ends in
+    subst (λ (w : statements.Statement). IfOk c.ends_found.result (HasKnownStates about last alone w)) (sym e)
+    (if_ok c.ends_found.result (λ x h. record { states = λ tame f e rows. h tame f e rows }) c.ends_found.ensures.known)
+
+pub found_of-returns-in-NeverEnds-clause-known : goal.found_of-returns-in-NeverEnds-clause-known
+found_of-returns-in-NeverEnds-clause-known t c =
+    let about = system_of c.args.search.now in
+    let last = c.args.search.now.last in
+    let alone = c.args.search.now.alone in
+    let e : aim_states c.args.aim.now ≡ statements.never_ends =
+    ap aim_states c.in-NeverEnds.is ∙ ap aim_states (sym rolls-NeverEnds) ∙ fold-roll-Aim statements.Statement aim_node Aim-F.NeverEnds in
+    subst (λ (w : statements.Statement). IfOk c.never_found.result (HasKnownStates about last alone w)) (sym e)
+    (if_ok c.never_found.result (λ x h. record { states = λ tame f e rows. h tame f e rows }) c.never_found.ensures.known)

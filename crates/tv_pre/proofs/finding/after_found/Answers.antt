@@ -20,6 +20,8 @@ use Rattle.tv_known.specs.Sizes.{greatest_count}
 use Rattle.tv_pre.specs.Counted.{IsCountedFor, IsCountedBefore}
 use Rattle.tv_pre.proofs.CountedFormulas.{after_counted}
 use Rattle.tv_pre.proofs.CountedLemmas.{cover_within}
+use Rattle.tv_pre.specs.KnownStates.{IsKnownFor}
+use Rattle.tv_pre.proofs.KnownFormulas.{after_known}
 use Rattle.tv_pre.proofs.finding.after_found.Goals as goal
 
 pub returns-in_err-region-clause-refused : goal.returns-in_err-region-clause-refused
@@ -75,3 +77,13 @@ returns-in_err-part-clause-counted c =
     passed_on (λ fault. (s : Statement) → IsFound about last s c.args.child → IsCountedFor about (statements.after c.args.path s) fault)
     c.from_residual-in_err-part.result c.from_residual-in_err-part.ensures.1
     (λ r is s h plain m o f parts e. cover_within (greatest_count about.cases m f) c.in_err-part.field-0.0 r is)
+
+pub returns-clause-known : goal.returns-clause-known
+returns-clause-known c s h known =
+    let about = system_of c.args.search.now in
+    let last = c.args.search.now.last in
+    let alone = c.args.search.now.alone in
+    record {
+      states = subst (λ (r : Region). IsKnownFor about last alone (statements.after c.args.path s) r) (sym c.in_ok-part.ensures.region)
+          (after_known about last alone c.variables-variables.ensures.limits.cases c.args.path s (steps_back last s) c.args.child.part.region c.in_ok-region.region h.built c.in_ok-region.ensures.before known.states);
+    }

@@ -5,14 +5,15 @@ use Rattle.tv_cert.specs.Statements.{Statement}
 use Rattle.tv_cert.specs.Statements as statements
 use Rattle.tv_pre.specs.Parts.{AreParts}
 use Rattle.tv_pre.specs.Search.{system_of}
-use Rattle.tv_pre.specs.Finding.{first_of, gap_behind, IsGapFor, IsFound, IsRefusedFor}
+use Rattle.tv_pre.specs.Finding.{first_of, gap_behind, steps_back, IsGapFor, IsFound, IsRefusedFor}
 use Rattle.tv_pre.specs.declared.gap.Gap.TheVariants.{Inexact, Open}
 use Rattle.tv_pre.proofs.GapAlongLemmas.{along_gap, said_of}
 use Rattle.tv_pre.proofs.PassedLemmas.{passed_on}
-use Rattle.tv_pre.proofs.FoundLemmas.{along_is_found, along_fault, none_of_two, none_behind}
+use Rattle.tv_pre.proofs.FoundLemmas.{along_is_found, along_fault, none_of_two, none_behind, sides_built}
 use Rattle.tv_pre.specs.Counted.{IsWithin, IsCountedFor}
 use Rattle.tv_known.specs.Sizes.{fix_count}
 use Rattle.tv_pre.proofs.CountedFormulas.{along_counted}
+use Rattle.tv_pre.proofs.KnownFormulas.{along_known}
 use Rattle.tv_pre.proofs.finding.along_found.Goals as goal
 
 pub returns-in_err-part-clause-refused : goal.returns-in_err-part-clause-refused
@@ -62,3 +63,13 @@ returns-in_err-part-clause-counted c =
     (λ r is s t h g. along_counted about last r c.args.path c.args.shape s t c.args.first c.args.second h g
     (λ plain m o a b x y u v. subst (IsWithin (fix_count about.cases m c.args.path c.args.shape a b)) (sym is)
     (c.in_err-part.ensures.counted plain m o a b (record { counts = record { first = x; second = y }; some_first = u; some_second = v }))))
+
+pub returns-clause-known : goal.returns-clause-known
+returns-clause-known c inner within s t h g one two =
+    let about = system_of c.args.search.now in
+    let last = c.args.search.now.last in
+    record {
+      states = along_known about last c.args.search.now.alone c.variables-variables.ensures.limits.cases inner c.args.path c.args.shape s t (steps_back last s + steps_back last t)
+          c.args.first.part.region c.args.second.part.region c.in_ok-part.field-0.part.region within
+          (sides_built about last c.args.path c.args.shape s t c.args.first c.args.second h g) one.states two.states (λ w k built tame. c.in_ok-part.ensures.known w k built tame);
+    }

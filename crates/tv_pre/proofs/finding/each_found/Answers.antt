@@ -23,6 +23,8 @@ use Rattle.tv_known.specs.Sizes.{greatest_count}
 use Rattle.tv_pre.specs.Counted.{IsWithin, some_counts_at, IsCountedFor}
 use Rattle.tv_pre.proofs.CountedFormulas.{each_counted}
 use Rattle.tv_pre.proofs.CountedLemmas.{cover_within}
+use Rattle.tv_pre.specs.KnownStates.{IsKnownFor}
+use Rattle.tv_pre.proofs.KnownFormulas.{each_known}
 use Rattle.tv_pre.proofs.finding.each_found.Goals as goal
 
 pub returns-in_err-region-clause-refused : goal.returns-in_err-region-clause-refused
@@ -89,3 +91,16 @@ returns-in_err-part-clause-counted c =
     passed_on (λ fault. (ss : List Statement) → AreArguments about last ss arguments → IsCountedFor about (statements.each_of (statements_of ss)) fault)
     c.from_residual-in_err-part.result c.from_residual-in_err-part.ensures.1
     (λ r is ss h plain m o f parts e. cover_within (greatest_count about.cases m f) c.in_err-part.field-0.0 r is)
+
+pub returns-clause-known : goal.returns-clause-known
+returns-clause-known c ss h =
+    let about = system_of c.args.search.now in
+    let last = c.args.search.now.last in
+    let alone = c.args.search.now.alone in
+    let region = c.in_ok-region.region in
+    record {
+      states = subst (λ (r : Region). IsKnownFor about last alone (statements.each_of (statements_of ss)) r) (sym c.in_ok-part.ensures.region)
+          (each_known about last alone ss c.args.arguments.regions.items region h
+          (subst (λ rs. (s : State) → IsStateOf about s → All (λ x. InState x s) rs → InState region s) c.deref.ensures.value c.in_ok-region.ensures.all)
+          (subst (All (λ r. OfPieces about region.pieces.items (InState r))) c.deref.ensures.value c.in_ok-region.ensures.inside));
+    }

@@ -1,5 +1,5 @@
 use Rattle.std.proofs.Common.{◌≡◌, ℕ, sym, subst}
-use Rattle.std.specs.Prelude.{All, IfOk, IfSome, None}
+use Rattle.std.specs.Prelude.{All, IfOk, IfSome, None, false}
 use Rattle.tv_cases.specs.LinearCases.{IsCase}
 use Rattle.std.specs.Result.{IfErr}
 use Rattle.tv_known.specs.Cycles.{IsLastRound}
@@ -15,6 +15,8 @@ use Rattle.tv_pre.proofs.FoundLemmas.{one_last}
 use Rattle.tv_pre.proofs.ToldLemmas.{exact_for, no_gap}
 use Rattle.tv_pre.proofs.GapLemmas.{gap_weaker, gap_drawn}
 use Rattle.tv_pre.specs.Counted.{IsCountedFor}
+use Rattle.tv_pre.specs.KnownStates.{IsKnownFor}
+use Rattle.tv_pre.proofs.KnownFormulas.{known_so}
 use Rattle.tv_pre.proofs.finding.found.Goals as goal
 
 pub found_of-requires-clause-even : goal.found_of-requires-clause-even
@@ -104,3 +106,12 @@ returns-clause-counted c =
     let r = c.found_of.result in
     let s = aim_states c.args.aim.now in
     subst (λ (z : Setting). IfErr r (IsCountedFor (cases_of z.about.now) s)) c.in_ok-search.ensures.setting c.found_of.ensures.counted
+
+pub returns-clause-known : goal.returns-clause-known
+returns-clause-known c =
+    let r = c.found_of.result in
+    let s = aim_states c.args.aim.now in
+    let search = c.in_ok-search.search in
+    let about = cases_of search.setting.now.about.now in
+    subst (λ (z : Setting). IfOk r (λ found. (last : ℕ) → IsLastRound (cases_of z.about.now) 8 last → IsKnownFor (cases_of z.about.now) last false s found.part.region)) c.in_ok-search.ensures.setting
+    (if_ok r (λ x h last l. known_so about last search.alone s x.part.region (subst (λ n. IsKnownFor about n search.alone s x.part.region) (one_last about search.last last c.in_ok-search.ensures.search.last l) h.states)) c.found_of.ensures.known)

@@ -10,7 +10,7 @@ use Rattle.tv_pre.specs.RankedUntil.{AsksComing}
 use Rattle.tv_pre.proofs.AlongLemmas.{is_along}
 use Rattle.tv_pre.proofs.BuiltLemmas.{rest_built}
 use Rattle.tv_pre.proofs.PassedLemmas.{passed_on, cover_fault}
-use Rattle.tv_pre.proofs.RankedAlongLemmas.{sides_fault, ends_fault, coming_is, both_built, coming_asked}
+use Rattle.tv_pre.proofs.RankedAlongLemmas.{sides_fault, ends_fault, all_go, coming_is, both_built, coming_asked}
 use Rattle.tv_pre.proofs.BetweenLemmas.{beside_of}
 use Rattle.tv_pre.proofs.SizedLemmas.{came_few}
 use Rattle.tv_pre.specs.Counted.{IsCountedAlong}
@@ -69,6 +69,7 @@ returns-clause-along c =
           (λ f g w. subst (λ (p : Path). IsPart about (fix p sides.shape f g) part.region part.node) (sym c.requires.path) (c.in_ok-part.ensures.part f g w))
           (λ s h m. both_built about sides end onward s h m (c.in_ok-onward.ensures.built s h (rest_built about s h end (arguments sides) m))),
       subst (HasAll about) (sym c.in_ok-part.ensures.region.pieces) (c.in-Ok.ensures.all told),
+      all_go about sides end onward c.requires.end c.in_ok-onward.ensures.going (c.in-Ok.ensures.all told),
     )
 
 pub returns-clause-few : goal.returns-clause-few

@@ -1,6 +1,6 @@
 use Rattle.std.proofs.Common.{sym, subst}
 use Rattle.tv_cases.specs.Systems.{cases_of}
-use Rattle.tv_lexrank.specs.First.{IsNode, RefusesFirst}
+use Rattle.tv_lexrank.specs.First.{IsNode, IsOutcome, RefusesFirst}
 use Rattle.tv_region.proofs.AlgebraLemmas.{if_ok}
 use Rattle.tv_pre.specs.Search.{AreRanks}
 use Rattle.tv_pre.proofs.ranking.ranks_of.Goals as goal
@@ -26,3 +26,9 @@ unreachable-requires-in-Err-Cover c =
     let about = cases_of c.args.setting.now.about.now in
     let pivots = c.args.setting.now.budget.now.pivots in
     subst (RefusesFirst about pivots) c.in-Err-Cover.field-0-is c.in-Err-Cover.ensures.refusals
+
+pub returns-in-Ok-Node : goal.returns-in-Ok-Node
+returns-in-Ok-Node c = record {
+  ranked = subst (IsOutcome (cases_of c.args.setting.now.about.now)) c.in-Ok-Node.field-0-is c.in-Ok-Node.ensures.ranked;
+  lexicographic = c.in-Ok-Node.ensures.lexicographic (subst IsNode (sym c.in-Ok-Node.field-0-is) tt);
+}

@@ -11,6 +11,8 @@ use Rattle.tv_pre.proofs.AlongLemmas.{settled_layers, open_layers, open_rounds}
 use Rattle.tv_pre.proofs.EndsByRounds.{both_over, at_stops, open_gap, until_refused, until_counted, layers_end, layers_refused, layers_found}
 use Rattle.tv_pre.proofs.ExactLemmas.{open_sides}
 use Rattle.tv_pre.proofs.FullAlongLemmas.{grown_full}
+use Rattle.tv_pre.proofs.KnownAlongLemmas.{settled_known, open_known, unranked_none}
+use Rattle.tv_pre.proofs.KnownTermination.{ends_along}
 use Rattle.tv_pre.proofs.PassedLemmas.{passed_on}
 use Rattle.tv_pre.proofs.termination.ends_in_rounds.Goals as goal
 
@@ -127,3 +129,32 @@ returns-clause-found c lacks =
     (open_sides about cases _ c.args.stops rounds.point rounds.of (at_stops about cases last c.requires.search.last sides refl refl c.requires.sides) last
     (open_rounds about last _ c.args.stops answer c.in-Open.region c.in-Open.layers c.in-Open.is rounds)) lacks)
     (λ none. absurd cc)
+
+pub returns-in-Settled-clause-known : goal.returns-in-Settled-clause-known
+returns-in-Settled-clause-known c lacks =
+    let about = system_of c.args.search.now in
+    let last = c.args.search.now.last in
+    let alone = c.args.search.now.alone in
+    let cases = c.variables-variables.ensures.limits.cases in
+    let sides : Sides = record { path = Every; shape = Until; first = c.args.anywhere; second = record { ref_ptr = c.args.anywhere.ref_ptr; now = c.args.stops } } in
+    let round = c.in-Settled.region in
+    let rounds = c.in_ok-layers.ensures.rounds in
+    let region = c.in_ok-part-in-Settled.part.region in
+    let told = settled_layers about last _ c.args.stops c.in_ok-layers.field-0 round c.in-Settled.at c.in-Settled.layers c.in-Settled.is refl rounds in
+    ends_along about cases last alone region sides refl refl c.requires.sides
+    (settled_known about cases _ c.args.stops rounds.point rounds.of (at_stops about cases last c.requires.search.last sides refl refl c.requires.sides) refl c.in-Settled.layers.items told.layers.each region c.in_ok-part-in-Settled.ensures.region
+    alone last c.in-Settled.at round told)
+
+pub returns-clause-known : goal.returns-clause-known
+returns-clause-known c lacks =
+    let about = system_of c.args.search.now in
+    let last = c.args.search.now.last in
+    let alone = c.args.search.now.alone in
+    let cases = c.variables-variables.ensures.limits.cases in
+    let sides : Sides = record { path = Every; shape = Until; first = c.args.anywhere; second = record { ref_ptr = c.args.anywhere.ref_ptr; now = c.args.stops } } in
+    let rounds = c.in_ok-layers.ensures.rounds in
+    let region = c.in_ok-part-in-Open.part.region in
+    let told = open_layers about last _ c.args.stops c.in_ok-layers.field-0 c.in-Open.region c.in-Open.layers c.in-Open.is refl rounds in
+    ends_along about cases last alone region sides refl refl c.requires.sides
+    (open_known about cases _ c.args.stops rounds.point rounds.of (at_stops about cases last c.requires.search.last sides refl refl c.requires.sides) refl c.in-Open.layers.items told.layers.each region c.in_ok-part-in-Open.ensures.region
+    alone last c.in-Open.region told (unranked_none about sides refl lacks))

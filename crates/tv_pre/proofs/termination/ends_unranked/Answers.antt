@@ -5,7 +5,7 @@ use Rattle.tv_pre.specs.Built.{of_nowhere}
 use Rattle.tv_pre.specs.Counted.{IsCountedFor, IsCountedBefore}
 use Rattle.tv_pre.specs.Finding.{IsRefusedFor}
 use Rattle.tv_pre.specs.Search.{system_of}
-use Rattle.tv_pre.proofs.EndsByRounds.{alone_end, alone_refused, alone_found}
+use Rattle.tv_pre.proofs.EndsByRounds.{alone_end, alone_refused, alone_found, ends_wild}
 use Rattle.tv_pre.proofs.PassedLemmas.{passed_on}
 use Rattle.tv_pre.proofs.TerminationRounds.{back_refused, stops_counted}
 use Rattle.tv_pre.proofs.TerminationSides.{ends_sides}
@@ -53,3 +53,9 @@ returns-clause-found c lacks =
     let back = c.in_ok-stops.ensures in
     alone_found about c.args.search.now.last c.nowhere-none.result c.in_ok-stops.stops c.nowhere-none.ensures back.before back.built c.new.result.items c.new.ensures.items
     c.in_ok-anywhere.anywhere c.in_ok-anywhere.ensures (c.is_tame.ensures.wild c.if-is_tame.false) _ c.in_ok-part.ensures.region c.in_ok-part.ensures.part refl refl
+
+pub returns-clause-known : goal.returns-clause-known
+returns-clause-known c lacks tame =
+    let back = c.in_ok-stops.ensures in
+    absurd (ends_wild (system_of c.args.search.now) c.args.search.now.last c.nowhere-none.result c.in_ok-stops.stops c.nowhere-none.ensures back.before back.built c.new.result.items c.new.ensures.items
+    c.in_ok-anywhere.anywhere c.in_ok-anywhere.ensures (c.is_tame.ensures.wild c.if-is_tame.false) tame)

@@ -8,12 +8,15 @@ use Rattle.tv_rounds.specs.Answers.{IsFullBy}
 use Rattle.tv_pre.specs.declared.sides.Sides.{Sides}
 use Rattle.tv_pre.specs.Counted.{IsCountedFor}
 use Rattle.tv_pre.specs.Finding.{IsRefusedFor}
+use Rattle.tv_pre.specs.KnownStates.{IsKnownFor}
 use Rattle.tv_pre.specs.Parts.{IsPart}
 use Rattle.tv_pre.specs.Search.{system_of}
-use Rattle.tv_pre.proofs.AlongLemmas.{settled_round, open_rounds}
+use Rattle.tv_pre.proofs.AlongLemmas.{settled_round, open_rounds, open_round}
 use Rattle.tv_pre.proofs.ExactLemmas.{open_sides}
 use Rattle.tv_pre.proofs.FullAlongLemmas.{along_full}
 use Rattle.tv_pre.proofs.NeverByRounds.{both_over, at_none, none_few, open_gap, release_refused, release_counted, round_goes, round_refused, round_found}
+use Rattle.tv_pre.proofs.KnownAlongLemmas.{round_known, none_known}
+use Rattle.tv_pre.proofs.KnownTermination.{never_along}
 use Rattle.tv_pre.proofs.PassedLemmas.{passed_on}
 use Rattle.tv_pre.proofs.TerminationFound.{nowhere_found}
 use Rattle.tv_pre.proofs.termination.never_in_rounds.Goals as goal
@@ -103,3 +106,31 @@ returns-clause-found c lacks =
     (open_sides about cases _ c.args.none.now rounds.point rounds.of (at_none about cases last c.requires.search.last sides refl refl c.requires.nowhere c.requires.sides) last
     (open_rounds about last _ c.args.none.now c.in_ok-region.field-0 c.in-Open.region c.in-Open.layers c.in-Open.is rounds)) lacks)
     (λ none. absurd cc)
+
+pub returns-in-Settled-clause-known : goal.returns-in-Settled-clause-known
+returns-in-Settled-clause-known c lacks =
+    let about = system_of c.args.search.now in
+    let last = c.args.search.now.last in
+    let alone = c.args.search.now.alone in
+    let cases = c.variables-variables.ensures.limits.cases in
+    let sides : Sides = record { path = Any; shape = Release; first = c.args.none; second = c.args.goes } in
+    let round = c.in-Settled.region in
+    let rounds = c.in_ok-region.ensures.rounds in
+    let told = settled_round about last _ c.args.none.now c.in_ok-region.field-0 round c.in-Settled.at c.in-Settled.layers c.in-Settled.is refl rounds in
+    subst (λ (r : Region). IsKnownFor about last alone statements.never_ends r) (sym c.in_ok-part-in-Settled.ensures.region)
+    (never_along about cases last alone round sides refl refl c.requires.sides
+    (round_known about cases sides c.args.none.now rounds.point rounds.of (at_none about cases last c.requires.search.last sides refl refl c.requires.nowhere c.requires.sides) refl alone last c.in-Settled.at round c.in-Settled.layers.items told))
+
+pub returns-clause-known : goal.returns-clause-known
+returns-clause-known c lacks =
+    let about = system_of c.args.search.now in
+    let last = c.args.search.now.last in
+    let alone = c.args.search.now.alone in
+    let cases = c.variables-variables.ensures.limits.cases in
+    let sides : Sides = record { path = Any; shape = Release; first = c.args.none; second = c.args.goes } in
+    let rounds = c.in_ok-region.ensures.rounds in
+    let region = c.in_ok-part-in-Open.part.region in
+    let told = open_round about last _ c.args.none.now c.in_ok-region.field-0 c.in-Open.region c.in-Open.layers c.in-Open.is refl rounds in
+    never_along about cases last alone region sides refl refl c.requires.sides
+    (none_known about cases sides c.args.none.now rounds.point rounds.of (at_none about cases last c.requires.search.last sides refl refl c.requires.nowhere c.requires.sides) refl alone last c.in-Open.region region c.in-Open.layers.items told
+    (λ e. c.in_ok-part-in-Open.ensures.nowhere.none))

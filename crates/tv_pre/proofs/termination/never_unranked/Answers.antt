@@ -41,3 +41,8 @@ returns-clause-found c lacks =
     nowhere_found about last _ c.in_ok-part.ensures.nowhere c.in_ok-part.ensures.part refl
     (never_wild about last c.in_ok-anywhere.anywhere c.nowhere-none.result c.in_ok-goes.goes c.in_ok-anywhere.ensures c.nowhere-none.ensures c.in_ok-goes.ensures.built (c.is_tame.ensures.wild c.if-is_tame.false))
     (λ none. absurd cc)
+
+pub returns-clause-known : goal.returns-clause-known
+returns-clause-known c lacks tame =
+    absurd (never_wild (system_of c.args.search.now) c.args.search.now.last c.in_ok-anywhere.anywhere c.nowhere-none.result c.in_ok-goes.goes c.in_ok-anywhere.ensures c.nowhere-none.ensures c.in_ok-goes.ensures.built
+    (c.is_tame.ensures.wild c.if-is_tame.false) tame)
