@@ -14,7 +14,6 @@ use crate::search::Search;
 use crate::wanted::Wanted;
 use std::alloc::{AllocError, Global};
 use tv_candidates::Candidate;
-use tv_cert::Claim;
 use tv_farkas::CoverFault;
 use tv_further::{Budget, further, look};
 use tv_invariant::strengthen;
@@ -24,6 +23,9 @@ use tv_shape::Certificate;
 
 /// A program of more cases than that is looked at by single states before ranks, rows and regions are sought, which may take long there.
 const MANY_CASES: usize = 24;
+
+/// How many pieces of a region are kept at a location where the words do not say how many.
+const USUAL_PIECES: u32 = 256;
 
 /// Whether the program is looked at by single states first.
 fn is_looked_at(search: &Search) -> bool {
@@ -62,14 +64,18 @@ fn is_of_ranks(system: &Name) -> bool {
 }
 
 /// Whether a further search is begun after the answer: where no ranks, no rows or no rounds were found, and not where a limit of the search
-/// was met. Ranks of a formula that is not termination are but one way to show it, so there a limit that they met ends nothing.
-fn leaves_open(claim: &Claim, answer: &Answer) -> bool {
+/// was met. Ranks of a formula that is not termination are but one way to show it, so there a limit that they met ends nothing; and regions are
+/// but one way, so neither does their usual limit, or a greater one.
+fn leaves_open(search: &Search, answer: &Answer) -> bool {
     match answer {
         Answer::Unknown(Cause::Unsolved { system, fault: _ }) => {
-            if is_termination(claim.proved()) {
+            if is_termination(search.claim.proved()) {
                 return false;
             }
             is_of_ranks(system)
+        }
+        Answer::Unknown(Cause::TooManyPieces { .. }) => {
+            search.task.limits.disjuncts >= USUAL_PIECES
         }
         Answer::Unknown(Cause::Unranked { .. }) => true,
         Answer::Unknown(Cause::Weak { .. }) => true,
@@ -121,7 +127,7 @@ pub(crate) fn or_further(
     requires one { IsOfOne search.now }
     ensures { (f : Property) → IsClaim search.now.claim.now f → IsSameOrSettles search.now f answer result }
 {
-    if !leaves_open(search.claim, &answer) {
+    if !leaves_open(search, &answer) {
         return answer;
     }
     match found(alloc, search, proposers) {
