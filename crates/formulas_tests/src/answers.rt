@@ -3,7 +3,7 @@
 use crate::claims::{Asks, is_said_of_texts};
 use crate::programs::{
     BESIDE, BOTH_WAYS, CHAIN, CLIMBER, DRAWN, DRAWS, EMPTY, FALLING, HALF, HALVES, IDLE, LEAVING,
-    LOOP, STEP,
+    LOOP, RESTING, STEP,
 };
 use std::test::Fail;
 use tv_cert::{Claim, Verdict};
@@ -148,8 +148,9 @@ const PATHS: &[Example] = &[
     (DRAWN, "[AF](x < 0)", Wanted::Disproved),
 ];
 
-/// Weak untils that the last round leaves open. By itself, or in an until, one has the states at its end. In a weak until it has none, so that
-/// the outer one settles: with the states from 10 on its rounds would go on shrinking.
+/// Weak untils that the last round leaves open. By itself, or in an until, one has the states at its end, and so it has in a weak until that
+/// settles with them. In another weak until it has none, so that the outer one settles: with the states from 10 on its rounds would go on
+/// shrinking.
 const OPEN_INSIDE: &[Example] = &[
     (FALLING, "x < 10 || [AW](x > 0)(x >= 10)", Wanted::Proved),
     (
@@ -166,6 +167,11 @@ const OPEN_INSIDE: &[Example] = &[
         FALLING,
         "[AG](y > 0 || [AW](x > 0)(x >= 10))",
         Wanted::Disproved,
+    ),
+    (
+        RESTING,
+        "[AG](at(0) || [AW](x > 0)(x >= 10))",
+        Wanted::Proved,
     ),
 ];
 

@@ -23,6 +23,10 @@ pub(crate) const BESIDE: &str =
 /// Counts down for ever, beside a number that stays.
 pub(crate) const FALLING: &str = "START: 0; FROM: 0; x := x - 1; y := y; TO: 0;";
 
+/// Counts down for ever, or goes from 10 or more to where it idles for ever.
+pub(crate) const RESTING: &str =
+    "START: 0; FROM: 0; x := x - 1; TO: 0; FROM: 0; assume(x >= 10); TO: 1; FROM: 1; x := x; TO: 1;";
+
 /// One step that changes nothing.
 pub(crate) const STEP: &str = "START: 0; FROM: 0; x := x; TO: 1;";
 

@@ -109,13 +109,13 @@ module _ (about : CaseSystem) where
 
     -- the rounds of a fixed point of these sides differ where those of the regions of the arguments do
     module _ (sides : Sides) (end : Region) (point : FixedPoint) (of : IsOfSides sides end point) (ends : AreAtEnd about sides end) where
-      way_same : (s : State) → IsStateOf about s → InState point.hold.now s ↔ HoldSide sides.shape (InState sides.first.now) (InState sides.second.now) s
+      pub way_same : (s : State) → IsStateOf about s → InState point.hold.now s ↔ HoldSide sides.shape (InState sides.first.now) (InState sides.second.now) s
       way_same s is = (
         λ m. hold_on sides.shape sides.first.now sides.second.now s (subst (λ r. InState r s) of.hold m),
         λ m. subst (λ r. InState r s) (sym of.hold) (hold_in sides.shape sides.first.now sides.second.now s m),
       )
 
-      end_same : (s : State) → IsStateOf about s → InState point.end.now s ↔ EndSides sides.shape (InState sides.first.now) (InState sides.second.now) s
+      pub end_same : (s : State) → IsStateOf about s → InState point.end.now s ↔ EndSides sides.shape (InState sides.first.now) (InState sides.second.now) s
       end_same s is = (λ m. ends.right s is (subst (λ r. InState r s) of.ends m), λ m. subst (λ r. InState r s) (sym of.ends) (ends.all tt s is m))
 
       pub to_sides : (j : ℕ) (s : State) → IsStateOf about s → RoundOf (must_end sides.shape) about point j s → FixRound about sides.path sides.shape (InState sides.first.now) (InState sides.second.now) j s

@@ -1,6 +1,6 @@
 -- Regions of fixed points that have the states that rounds tell of.
-use Rattle.std.proofs.Common.{◌≡◌, inl, inr, ℕ, suc, ◌+◌, List, [], ◌∷◌, length, refl, sym, ◌∙◌, subst, arith, Bool, true, false}
-use Rattle.std.specs.Prelude.{All, Contains, ◌↔◌, Option, None, Some, IfSome}
+use Rattle.std.proofs.Common.{◌≡◌, inl, inr, ℕ, suc, ◌+◌, List, [], ◌∷◌, length, refl, sym, ◌∙◌, subst, arith, Bool, true, false, not}
+use Rattle.std.specs.Prelude.{All, Contains, ◌↔◌, Option, None, Some, IfSome, is_some}
 use Rattle.tv_formula.specs.declared.tree.Path.{Path}
 use Rattle.tv_formula.specs.declared.tree.Path.TheVariants.{Every, Any}
 use Rattle.tv_program.specs.Steps.{State}
@@ -13,10 +13,10 @@ use Rattle.tv_known.specs.Cycles.{IsStateOf}
 use Rattle.tv_known.specs.Known.{IsRankedOn}
 use Rattle.tv_known.specs.Ranking.{HasLexicographicRanking}
 use Rattle.tv_known.proofs.RoundLemmas as known
-use Rattle.tv_known.specs.Rounds.{ShrinkingRound, RoundBy, HoldSide, EndSides, must_end, FixRound, IsFixSettled}
+use Rattle.tv_known.specs.Rounds.{ShrinkingRound, RoundBy, HoldsBy, HoldSide, EndSides, must_end, FixRound, IsFixSettled}
 use Rattle.tv_region.specs.StepRegions.{InState}
 use Rattle.tv_rounds.specs.declared.fixed_point.FixedPoint.{FixedPoint}
-use Rattle.tv_rounds.specs.Sides.{AreTame, RoundOf, IsSettledBy}
+use Rattle.tv_rounds.specs.Sides.{AreTame, RoundOf, IsSettledBy, HoldsAt, IsSetOf}
 use Rattle.tv_rounds.specs.Answers.{IsRound, AreLayers, IsSettledAt, IsOpenAt}
 use Rattle.tv_pre.specs.declared.sides.Sides.{Sides}
 use Rattle.tv_pre.specs.declared.gap.Gap.{Gap}
@@ -24,15 +24,15 @@ use Rattle.tv_pre.specs.Along.{arguments, IsOfSides, AreAtEnd, AreOnward}
 use Rattle.tv_pre.specs.Built.{AreBuilt, IsBuiltOf}
 use Rattle.tv_pre.specs.Finding.{IsTameStatement, IsTameFor}
 use Rattle.tv_pre.specs.Fixed.{IsJoined}
-use Rattle.tv_pre.specs.KnownStates.{HasStates, known_along, IsNotRanked}
+use Rattle.tv_pre.specs.KnownStates.{HasStates, known_along, holds_along, IsNotRanked}
 use Rattle.tv_pre.specs.Parts.{joined_pieces}
 use Rattle.tv_pre.specs.Pieces.{InPieces}
 use Rattle.tv_pre.specs.RankedAlong.{AreTameCases, AllGo, HasAll, IsBesideIfTame}
 use Rattle.tv_pre.specs.Unserved.{IsUnranked}
 use Rattle.tv_pre.proofs.AlongLemmas.{settled_inside, stays_more}
 use Rattle.tv_pre.proofs.BuiltLemmas.{hold_built}
-use Rattle.tv_pre.proofs.ExactLemmas.{to_sides, from_sides}
-use Rattle.tv_pre.proofs.FullAlongLemmas.{grown_inside}
+use Rattle.tv_pre.proofs.ExactLemmas.{way_same, end_same, to_sides, from_sides}
+use Rattle.tv_pre.proofs.FullAlongLemmas.{grown_inside, holds_wider}
 use Rattle.tv_pre.proofs.KnownRounds.{grows_to, same_to, settled_alike, until_known, weak_known, ranked_round}
 use Rattle.tv_pre.proofs.SetLemmas.{joined_in, no_piece}
 use Rattle.tv_pre.proofs.TameLemmas.{tame_built}
@@ -75,6 +75,13 @@ module _ (about : CaseSystem) (cases : All (IsCase about.variables about.locatio
     λ r. (round_along grows e (suc k) s is).1 ((settled s is).0 ((round_along grows e k s is).0 r)),
     λ r. (round_along grows e k s is).1 ((settled s is).1 ((round_along grows e (suc k) s is).0 r)),
   )
+
+  -- the fixed point holds where that of the regions does
+  holds_point : (s : State) → IsStateOf about s → holds_along about sides s → HoldsAt (must_end sides.shape) about point s
+  holds_point s is h =
+      subst (λ (q : Path). HoldsBy (must_end sides.shape) (CaseSteps about) q (InState point.hold.now) (InState point.end.now) s) (sym of.path)
+      (holds_wider about cases (HoldSide sides.shape First Second) (EndSides sides.shape First Second) (InState point.hold.now) (InState point.end.now)
+      (λ t q x. inl ((way_same about cases sides end point of ends t q).1 x)) (λ t q x. (end_same about cases sides end point of ends t q).1 x) (must_end sides.shape) sides.path s is h)
 
   -- ---- rounds that grow
   in_layer : (k : ℕ) (layers : List Region) → AreLayers about point k layers → (r : Region) → Contains layers r → (s : State) → IsStateOf about s → InState r s → RoundOf true about point (k + length layers) s
@@ -181,6 +188,12 @@ module _ (about : CaseSystem) (cases : All (IsCase about.variables about.locatio
           λ r. subst (λ qs. InPieces qs s) (sym joined.pieces) (shrunk_in at round onward told.round tame o told.settled s is r),
         ))
 
+    -- a settled round has each state where the fixed point holds
+    pub shrunk_holding : (k : ℕ) (round onward region : Region) → IsRound false about point k round → AreTame about point → AreOnward about sides round onward → IsSettledBy false about point k →
+        IsSetOf about (HoldsAt (must_end sides.shape) about point) round → IsJoined about (end ∷ onward ∷ []) region → (s : State) → IsStateOf about s → holds_along about sides s → InState region s
+    shrunk_holding k round onward region r tame o settled exact joined s is h =
+        subst (λ qs. InPieces qs s) (sym joined.pieces) (settled_inside about cases sides end point of k round onward r settled tame o s is ((exact.same s is).1 (holds_point s is h)))
+
     -- where no round is settled, no state is known
     pub none_known : (alone : Bool) (last : ℕ) (round region : Region) (layers : List Region) → IsOpenAt false about point last round layers → (alone ≡ true → region.pieces.items ≡ []) → HasStates about alone (λ s. known_along about last sides s) region
     none_known alone last round region layers told none = record {
@@ -237,3 +250,8 @@ whatever_gap P (Some g) p = p
 
 pub without_gap : (P : Type 0) (gap : Option Gap) → gap ≡ None → IfSome gap (λ g. P)
 without_gap P gap e = subst (λ o. IfSome o (λ g. P)) (sym e) tt
+
+pub none_told : (gap : Option Gap) (b : Bool) → is_some gap ≡ not b → b ≡ true → gap ≡ None
+none_told None b e t = refl
+none_told (Some g) true e t = absurd cc
+none_told (Some g) false e t = absurd cc

@@ -18,7 +18,7 @@ use Rattle.tv_cert.specs.AimViews.{statements_of}
 use Rattle.tv_cert.specs.Statements.{Statement, each_of, one_of, after, along, stated, stated_all}
 use Rattle.tv_known.specs.Cycles.{IsStateOf}
 use Rattle.tv_known.specs.Known.{Known, AllKnown, SomeKnown, FixKnown}
-use Rattle.tv_known.specs.Rounds.{must_end}
+use Rattle.tv_known.specs.Rounds.{HoldSide, EndSides, SidesHold, must_end}
 use Rattle.tv_known.proofs.RoundLemmas.{stays_state}
 use Rattle.tv_region.specs.StepRegions.{InState, IsTame}
 use Rattle.tv_pre.specs.declared.test.Test.{Test}
@@ -38,7 +38,7 @@ use Rattle.tv_pre.proofs.FoundLemmas.{test_states}
 use Rattle.tv_pre.proofs.FullLemmas.{atom_full}
 use Rattle.tv_pre.proofs.GapLemmas.{tame_less}
 use Rattle.tv_pre.proofs.TameLemmas.{tame_built}
-use Rattle.tv_pre.proofs.KnownRounds.{until_wider, known_same}
+use Rattle.tv_pre.proofs.KnownRounds.{weak_holds, until_wider, known_same}
 
 module _ (about : CaseSystem) (last : ℕ) where
   -- whether or not it has these states alone, it has them
@@ -224,4 +224,22 @@ module _ (about : CaseSystem) (last : ℕ) where
                 (λ must. ((λ v q x. a.only (within.shrinking must) v q x), (λ v q x. b.only (within.shrinking must) v q x))) u p k);
             only = λ so u p m. fix_wider (InState first) (InState second) left right (λ v q x. a.only (within.kept so) v q x) (λ v q x. b.only (within.kept so) v q x) path shape
                 (λ must. ((λ v q x. a.all v q x), (λ v q x. b.all v q x))) u p (set.only so u p m);
+          })
+
+      -- It need not come to its end, and the region has each state where that of the regions holds. So it has the known ones, whatever others the
+      -- regions have too.
+      pub weak_known : (path : Path) (shape : Shape) (s t : Statement) (first second region : Region) → must_end shape ≡ false → IsKnownFor about last alone s first → IsKnownFor about last alone t second →
+          ((u : State) → IsStateOf about u → SidesHold about path shape (HoldSide shape (InState first) (InState second)) (EndSides shape (InState first) (InState second)) u → InState region u) →
+          IsKnownFor about last false (along path shape s t) region
+      weak_known path shape s t first second region may one two own tame f e rows =
+          let whole = along path shape s t in
+          let w = along_is (comparison_lists about.variables) path shape s t f e in
+          let kept = subst (HasRows about.variables) w.2 rows in
+          let a = one (tame_less about s whole (λ x y. inl y) tame) w.0 w.3 kept.0 in
+          let b = two (tame_less about t whole (λ x y. inr y) tame) w.1 w.4 kept.1 in
+          let left = λ (u : State). Known about last w.0 u in
+          let right = λ (u : State). Known about last w.1 u in
+          subst (λ (g : Property). HasStates about false (λ u. Known about last g u) region) (sym w.2) (record {
+            all = λ u p k. own u p (weak_holds about cases last path left right (InState first) (InState second) shape may (λ v q x. a.all v q x) (λ v q x. b.all v q x) u p k);
+            only = λ so. absurd cc;
           })

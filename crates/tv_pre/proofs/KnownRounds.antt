@@ -9,9 +9,9 @@ use Rattle.tv_program.specs.Steps.{State}
 use Rattle.tv_cases.specs.LinearCases.{CaseSystem, CaseSteps, IsCase}
 use Rattle.tv_known.specs.Cycles.{IsStateOf}
 use Rattle.tv_known.specs.Known.{IsRanked, InSettledRound, IsRankedOn, FixKnown}
-use Rattle.tv_known.specs.Rounds.{GrowingRound, ShrinkingRound, RoundBy, HoldsBy, HoldSide, EndSides, must_end, FixRound}
+use Rattle.tv_known.specs.Rounds.{GrowingRound, ShrinkingRound, RoundBy, HoldsBy, SidesHold, HoldSide, EndSides, must_end, FixRound}
 use Rattle.tv_known.proofs.KnownHolds.{fix_known}
-use Rattle.tv_known.proofs.RoundLemmas.{IsSettledBy, stays_state, round_all}
+use Rattle.tv_known.proofs.RoundLemmas.{IsSettledBy, stays_state, round_all, round_right}
 use Rattle.tv_rounds.proofs.MadeLemmas.{lift_to}
 use Rattle.tv_pre.proofs.BetweenLemmas.{end_other, hold_other}
 use Rattle.tv_pre.proofs.SettledRounds.{goes_by, stays_by, round_wider, fix_settled_same}
@@ -113,6 +113,14 @@ module _ (about : CaseSystem) (cases : All (IsCase about.variables about.locatio
   ranked_on_wider Any shape A B P Q a b r = r
 
   module _ (last : ℕ) (path : Path) (A B P Q : State → Type 0) where
+    -- where a round that shrinks is settled, the fixed point of wider sets holds
+    pub weak_holds : (shape : Shape) → must_end shape ≡ false → ((s : State) → IsStateOf about s → A s → P s) → ((s : State) → IsStateOf about s → B s → Q s) → (s : State) → IsStateOf about s → FixKnown about last path shape A B s →
+        SidesHold about path shape (HoldSide shape P Q) (EndSides shape P Q) s
+    weak_holds shape may a b s is k =
+        let known = (weak_known about last path A B shape may s).0 k in
+        round_right about cases (HoldSide shape A B) (EndSides shape A B) (HoldSide shape P Q) (EndSides shape P Q)
+        (λ t q x. hold_other shape A B P Q t (a t q) (b t q) x) (λ t q x. end_other shape A B P Q t (a t q) (b t q) x) (must_end shape) path known.round known.settled s is known.inside
+
     -- of rounds that grow, more is known of wider sets
     pub until_wider : (shape : Shape) → must_end shape ≡ true → ((s : State) → IsStateOf about s → A s → P s) → ((s : State) → IsStateOf about s → B s → Q s) → (s : State) → IsStateOf about s → FixKnown about last path shape A B s → FixKnown about last path shape P Q s
     until_wider shape must a b s is k = (until_known about last path P Q shape must s).1 (elim ((until_known about last path A B shape must s).0 k) [

@@ -1,5 +1,5 @@
 -- Regions that have the states that the rounds of a formula tell of.
-use Rattle.std.specs.Prelude.{◌≡◌, ℕ, List, [], ◌∷◌, Bool, true, false, IfSome}
+use Rattle.std.specs.Prelude.{◌≡◌, ℕ, List, [], ◌∷◌, Bool, true, false, None, IfSome}
 use Rattle.tv_program.specs.Steps.{State}
 use Rattle.tv_formula.specs.declared.tree.Shape.{Shape}
 use Rattle.tv_formula.specs.Properties.{Property}
@@ -8,7 +8,7 @@ use Rattle.tv_cases.specs.LinearCases.{CaseSystem}
 use Rattle.tv_cert.specs.Statements.{Statement}
 use Rattle.tv_known.specs.Cycles.{IsStateOf}
 use Rattle.tv_known.specs.Known.{Known, IsRankedOn, FixKnown}
-use Rattle.tv_known.specs.Rounds.{must_end}
+use Rattle.tv_known.specs.Rounds.{must_end, HoldSide, EndSides, SidesHold}
 use Rattle.tv_region.specs.StepRegions.{InState}
 use Rattle.tv_pre.specs.declared.along.Along.{Along}
 use Rattle.tv_pre.specs.declared.outcome.Found.{Found}
@@ -49,6 +49,18 @@ known_along about last sides s = FixKnown about last sides.path sides.shape (λ 
 abbrev pub IsKnownAlong : CaseSystem → ℕ → Bool → Sides → Region → Type 0
 IsKnownAlong about last alone sides region =
     (s : Statement) (h : ℕ) → AreBuilt about s h (arguments sides) → IsTameStatement about s → HasStates about alone (λ t. known_along about last sides t) region
+
+-- the fixed point of two regions holds
+abbrev pub holds_along : CaseSystem → Sides → State → Type 0
+holds_along about sides s =
+    let first = λ (t : State). InState sides.first.now t in
+    let second = λ (t : State). InState sides.second.now t in
+    SidesHold about sides.path sides.shape (λ t. HoldSide sides.shape first second t) (λ t. EndSides sides.shape first second t) s
+
+-- if it need not come to its end, and its rounds leave no gap, the part has each state where it holds
+abbrev pub HasHolding : CaseSystem → Sides → Along → Type 0
+HasHolding about sides along =
+    must_end sides.shape ≡ false → along.gap ≡ None → (s : State) → IsStateOf about s → holds_along about sides s → InState along.part.region s
 
 -- The regions of the arguments of a fixed point are to have the known states alone where its own region is, and where the fixed point need not
 -- come to its end.

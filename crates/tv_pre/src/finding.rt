@@ -1,12 +1,13 @@
 // The region and the node of each subformula, from those of its arguments.
 
-ghost use Rattle.std.specs.Prelude.{◌≡◌, ◌≤◌, ◌+◌, ◌++◌, ◌∷◌, ℕ, None, List, [], map, Bool, false, IfOk, IfSome};
+ghost use Rattle.std.specs.Prelude.{◌≡◌, ◌≤◌, ◌+◌, ◌++◌, ◌∷◌, ℕ, None, List, [], map, Bool, true, false, IfOk, IfSome};
 ghost use Rattle.std.specs.List.{AllZip};
 ghost use Rattle.std.specs.Result.{IfErr};
 ghost use Rattle.tv_formula.specs.Properties.{Property};
 ghost use Rattle.tv_cases.specs.LinearCases.{CaseSystem};
 ghost use Rattle.tv_cases.specs.Systems.{cases_of};
 ghost use Rattle.tv_known.specs.Cycles.{IsLastRound};
+ghost use Rattle.tv_known.specs.Rounds.{must_end};
 ghost use Rattle.tv_cert.specs.AimViews.{aim_states, aims_state, statements_of};
 ghost use Rattle.tv_cert.specs.Statements.{Statement};
 ghost use Rattle.tv_cert.specs.Statements as statements;
@@ -33,6 +34,7 @@ use std::alloc::Global;
 use tv_cert::{Aim, Node};
 use tv_formula::{Path, Shape};
 use tv_linear::{Region, push_item};
+use tv_rounds::must_end;
 
 /// What was found of the arguments of a formula, in order: their regions and nodes, the first gap, and how many subformulas they have.
 #[derive(Drop)]
@@ -215,6 +217,13 @@ fn after_found(search: &Search, path: Path, child: Found) -> Result<Found, PreFa
     Ok(Found { part, gap, size })
 }
 
+/// What is found of a fixed point, and whether its own rounds leave no gap, whatever gaps its arguments have.
+#[derive(Drop)]
+pub(crate) struct FoundAlong {
+    pub found: Found,
+    pub settled: bool,
+}
+
 /// What is found of a fixed point.
 fn along_found(
     search: &Search,
@@ -222,18 +231,22 @@ fn along_found(
     shape: Shape,
     first: Found,
     second: Found,
-) -> Result<Found, PreFault>
+) -> Result<FoundAlong, PreFault>
     requires search { IsSearch search.now }
     requires first { let about = system_of search.now in IsRegion about.variables about.locations first.part.region }
     requires second { let about = system_of search.now in IsRegion about.variables about.locations second.part.region }
     ensures found { let about = system_of search.now in
-        IfOk result (λ found. (s t : Statement) → IsFound about search.now.last s first → IsFound about search.now.last t second →
-        IsFound about search.now.last (statements.along path shape s t) found) }
+        IfOk result (λ along. (s t : Statement) → IsFound about search.now.last s first → IsFound about search.now.last t second →
+        IsFound about search.now.last (statements.along path shape s t) along.found) }
     ensures known { let about = system_of search.now in
-        IfOk result (λ found. (inner : Bool) → IsAloneIn search.now.alone shape inner →
+        IfOk result (λ along. (inner : Bool) → IsAloneIn search.now.alone shape inner →
         (s t : Statement) → IsFound about search.now.last s first → IsFound about search.now.last t second →
         HasKnownStates about search.now.last inner s first → HasKnownStates about search.now.last inner t second →
-        HasKnownStates about search.now.last search.now.alone (statements.along path shape s t) found) }
+        HasKnownStates about search.now.last search.now.alone (statements.along path shape s t) along.found) }
+    ensures settled { let about = system_of search.now in
+        IfOk result (λ along. search.now.alone ≡ false → must_end shape ≡ false → along.settled ≡ true → (s t : Statement) →
+        HasKnownStates about search.now.last search.now.alone s first → HasKnownStates about search.now.last search.now.alone t second →
+        HasKnownStates about search.now.last search.now.alone (statements.along path shape s t) along.found) }
     ensures refused { let about = system_of search.now in
         IfErr result (λ fault. (s t : Statement) → IsFound about search.now.last s first → IsFound about search.now.last t second →
         IsRefusedFor about search.now.setting.now.budget.now search.now.last (statements.along path shape s t) fault) }
@@ -263,9 +276,11 @@ fn along_found(
         first: &one,
         second: &other,
     };
-    let Along { part, gap } = part_along(search, &sides, children)?;
-    let gap = first_gap(first_gap(left, right), gap);
-    Ok(Found { part, gap, size })
+    let Along { part, gap: own } = part_along(search, &sides, children)?;
+    let settled = own.is_none();
+    let gap = first_gap(first_gap(left, right), own);
+    let found = Found { part, gap, size };
+    Ok(FoundAlong { found, settled })
 }
 
 /// What is found of each of some formulas. Of one that is equal to an earlier one it is a copy.
@@ -294,6 +309,25 @@ fn all_found(search: &Search, aims: &[Aim]) -> Result<Arguments, PreFault>
         push_item(&mut founds, found)?;
     }
     arguments_of(search.setting.alloc, founds)
+}
+
+/// What is found of a formula after an earlier one. If they are equal it is a copy of what was found of that one.
+#[cycle(finding)]
+fn found_next(search: &Search, aim: &Aim, earlier: &Aim, before: &Found) -> Result<Found, PreFault>
+    requires search { IsSearch search.now }
+    requires even { IsEvenStatement (system_of search.now).variables (aim_states aim.now) }
+    requires before { IsFound (system_of search.now) search.now.last (aim_states earlier.now) before.now }
+    requires known { HasKnownStates (system_of search.now) search.now.last search.now.alone (aim_states earlier.now) before.now }
+    ensures found { IfOk result (IsFound (system_of search.now) search.now.last (aim_states aim.now)) }
+    ensures known { IfOk result (HasKnownStates (system_of search.now) search.now.last search.now.alone (aim_states aim.now)) }
+    ensures refused { let about = system_of search.now in
+        IfErr result (IsRefusedFor about search.now.setting.now.budget.now search.now.last (aim_states aim.now)) }
+    ensures counted { IfErr result (IsCountedFor (system_of search.now) (aim_states aim.now)) }
+{
+    match found_alike(search, earlier, before, aim)? {
+        Some(again) => Ok(again),
+        None => found_of(search, aim),
+    }
 }
 
 /// What is found of a formula.
@@ -326,15 +360,19 @@ fn found_of(search: &Search, aim: &Aim) -> Result<Found, PreFault>
             after_found(search, *path, child)
         }
         Aim::Along(path, shape, first, second) => {
-            let inner = search.of_arguments(*shape);
-            let front = found_of(&inner, first)?;
-            match found_alike(&inner, first, &front, second)? {
-                Some(back) => along_found(search, *path, *shape, front, back),
-                None => {
-                    let back = found_of(&inner, second)?;
-                    along_found(search, *path, *shape, front, back)
+            if !search.alone && !must_end(*shape) {
+                let front = found_of(search, first)?;
+                let back = found_next(search, second, first, &front)?;
+                let wider = along_found(search, *path, *shape, front, back)?;
+                if wider.settled {
+                    return Ok(wider.found);
                 }
             }
+            let inner = search.of_arguments(*shape);
+            let front = found_of(&inner, first)?;
+            let back = found_next(&inner, second, first, &front)?;
+            let along = along_found(search, *path, *shape, front, back)?;
+            Ok(along.found)
         }
     }
 }
@@ -352,8 +390,9 @@ fn found_of(search: &Search, aim: &Aim) -> Result<Found, PreFault>
 /// at each other one its negation does.
 ///
 /// Where the program is tame for the formula, and each comparison has rows, the region has all states that the rounds up to the last tell of,
-/// whether they settle or not. A weak until or a release whose last round is open has the states at its end besides, but not inside of an
-/// argument of a weak until or a release: whether the rounds of that one settle may change with each state more.
+/// whether they settle or not. A weak until or a release whose last round is open has the states at its end besides. Inside of an argument of a
+/// weak until or a release it has them where the rounds of that one settle with all that the arguments have. Where these are open, the arguments
+/// are searched for again with the states alone that the rounds tell of: whether rounds settle may change with each state more.
 ///
 /// Where the whole program has a lexicographic ranking, termination holds everywhere, and so does a fixed point over every run that must
 /// come to an end if each state is at its end, or on the way with a step. Where a system of the search for the ranking is refused, and the

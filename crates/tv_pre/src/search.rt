@@ -84,8 +84,8 @@ pub(crate) fn search_in<'a>(
 }
 
 impl<'a> Search<'a> {
-    /// The search of the arguments of a fixed point of this shape. Those of a weak until or a release have the states alone that the rounds
-    /// tell of: whether such rounds settle may change with each state more.
+    /// The search of the arguments of a fixed point of this shape from which its region is made whether its rounds settle or not. Those of a
+    /// weak until or a release have the states alone that the rounds tell of: whether such rounds settle may change with each state more.
     pub(crate) fn of_arguments(&self, shape: Shape) -> Search<'a>
         requires search { IsSearch self.now }
         ensures search { IsSearch result }

@@ -8,10 +8,10 @@ use Rattle.tv_pre.proofs.BuiltLemmas.{all_built_to, fault_to}
 use Rattle.tv_pre.proofs.PassedLemmas.{passed_on, cover_fault, fault_again}
 use Rattle.tv_pre.proofs.ExactLemmas.{open_sides}
 use Rattle.tv_pre.proofs.AlongLemmas.{open_rounds, open_round, settled_stays, settled_round, round_sides, round_built, weak_built, weak_asked, is_along, along_more}
-use Rattle.tv_rounds.specs.Answers.{IsFullBy}
+use Rattle.tv_rounds.specs.Answers.{IsExactBy, IsFullBy}
 use Rattle.tv_known.specs.Rounds.{must_end}
 use Rattle.tv_pre.proofs.FullAlongLemmas.{shrunk_full}
-use Rattle.tv_pre.proofs.KnownAlongLemmas.{shrunk_known, none_known}
+use Rattle.tv_pre.proofs.KnownAlongLemmas.{shrunk_known, shrunk_holding, none_known}
 use Rattle.tv_pre.proofs.SizedLemmas.{shrunk_few, one_later}
 use Rattle.tv_pre.specs.Counted.{IsCountedAlong}
 use Rattle.tv_pre.proofs.CountedLemmas.{cover_along, onward_along}
@@ -182,3 +182,14 @@ returns-clause-known c none =
     let told = open_round about last sides end c.in_ok-region.field-0 c.in-Open.region c.in-Open.layers c.in-Open.is c.requires.shape rounds in
     none_known about c.variables-variables.ensures.limits.cases sides end rounds.point rounds.of c.requires.end c.requires.shape c.args.search.now.alone last c.in-Open.region c.in_ok-part-in-Open.part.region
     c.in-Open.layers.items told c.in_ok-part-in-Open.ensures.none
+
+pub returns-in-Settled-clause-holding : goal.returns-in-Settled-clause-holding
+returns-in-Settled-clause-holding c may none s is h =
+    let about = system_of c.args.search.now in
+    let sides = c.args.sides.now in
+    let end = c.args.end in
+    let round = c.in-Settled.region in
+    let rounds = c.in_ok-region.ensures.rounds in
+    let told = settled_round about c.args.search.now.last sides end c.in_ok-region.field-0 round c.in-Settled.at c.in-Settled.layers c.in-Settled.is c.requires.shape rounds in
+    shrunk_holding about c.variables-variables.ensures.limits.cases sides end rounds.point rounds.of c.requires.end c.requires.shape c.in-Settled.at round c.in_ok-more-in-Settled.more c.in_ok-part-in-Settled.part.region
+    told.round rounds.tame c.in_ok-more-in-Settled.ensures.onward told.settled (subst (IsExactBy (must_end sides.shape) about rounds.point) c.in-Settled.is rounds.exact) c.in_ok-part-in-Settled.ensures.region s is h

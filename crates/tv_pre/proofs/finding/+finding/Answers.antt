@@ -1,8 +1,9 @@
-use Rattle.std.proofs.Common.{◌+◌, ◌≡◌, ◌∙◌, ◌≤◌, sym, ap, subst, arith, map}
+use Rattle.std.proofs.Common.{◌+◌, ◌≡◌, ◌∙◌, ◌≤◌, sym, ap, subst, arith, map, false}
 use Rattle.std.specs.Prelude.{IfOk, IfSome}
 use Rattle.std.specs.Result.{IfErr}
 use Rattle.tv_cert.specs.declared.aim.Aim.{Aim, Aim-F, fold-roll-Aim}
 use Rattle.tv_cert.specs.declared.aim.Aim.TheVariants.{rolls-Ends, rolls-NeverEnds, rolls-EachOf, rolls-OneOf, rolls-After, rolls-Along}
+use Rattle.tv_known.specs.Rounds.{must_end}
 use Rattle.tv_cert.specs.AimViews.{aim_states, aims_state, aim_node}
 use Rattle.tv_cert.specs.Statements as statements
 use Rattle.tv_pre.specs.Search.{system_of}
@@ -75,40 +76,6 @@ found_of-returns-in_err-child-in-After-clause-refused t c =
     (passed_on (IsRefusedFor about budget last (statements.after c.in-After.path s)) c.from_residual-in_err-child-in-After.result c.from_residual-in_err-child-in-After.ensures.1
     (λ r is. after_argument about last budget c.in-After.path s c.in_err-child-in-After.field-0.0 r is (subst (λ (a : Aim). IsRefusedFor about budget last (aim_states a) c.in_err-child-in-After.field-0.0) c.deref-in-After.ensures c.in_err-child-in-After.ensures.refused)))
 
-pub found_of-returns-in_err-front-in-Along-clause-refused : goal.found_of-returns-in_err-front-in-Along-clause-refused
-found_of-returns-in_err-front-in-Along-clause-refused t c =
-    let about = system_of c.args.search.now in
-    let inner = c.of_arguments-inner.result in
-    let outer = c.of_arguments-inner.ensures in
-    let budget = c.args.search.now.setting.now.budget.now in
-    let last = c.args.search.now.last in
-    let s = aim_states c.in-Along.first.value in
-    let o = aim_states c.in-Along.second.value in
-    let e : aim_states c.args.aim.now ≡ statements.along c.in-Along.path c.in-Along.shape s o =
-    ap aim_states c.in-Along.is ∙ ap aim_states (sym (rolls-Along c.in-Along.path c.in-Along.shape c.in-Along.first c.in-Along.second)) ∙ fold-roll-Aim statements.Statement aim_node (Aim-F.Along c.in-Along.path c.in-Along.shape c.in-Along.first c.in-Along.second) in
-    subst (λ (w : statements.Statement). IfErr c.from_residual-in_err-front-in-Along.result (IsRefusedFor about budget last w)) (sym e)
-    (passed_on (IsRefusedFor about budget last (statements.along c.in-Along.path c.in-Along.shape s o)) c.from_residual-in_err-front-in-Along.result c.from_residual-in_err-front-in-Along.ensures.1
-    (λ r is. first_argument about last budget c.in-Along.path c.in-Along.shape s o c.in_err-front-in-Along.field-0.0 r is
-    (refused_outer c.args.search.now inner outer.setting outer.last s c.in_err-front-in-Along.field-0.0
-    (subst (λ (a : Aim). IsRefusedFor (system_of inner) inner.setting.now.budget.now inner.last (aim_states a) c.in_err-front-in-Along.field-0.0) c.deref-in-Along.ensures c.in_err-front-in-Along.ensures.refused))))
-
-pub found_of-returns-in_err-back-in-None-clause-refused : goal.found_of-returns-in_err-back-in-None-clause-refused
-found_of-returns-in_err-back-in-None-clause-refused t c =
-    let about = system_of c.args.search.now in
-    let inner = c.of_arguments-inner.result in
-    let outer = c.of_arguments-inner.ensures in
-    let budget = c.args.search.now.setting.now.budget.now in
-    let last = c.args.search.now.last in
-    let s = aim_states c.in-Along.first.value in
-    let o = aim_states c.in-Along.second.value in
-    let e : aim_states c.args.aim.now ≡ statements.along c.in-Along.path c.in-Along.shape s o =
-    ap aim_states c.in-Along.is ∙ ap aim_states (sym (rolls-Along c.in-Along.path c.in-Along.shape c.in-Along.first c.in-Along.second)) ∙ fold-roll-Aim statements.Statement aim_node (Aim-F.Along c.in-Along.path c.in-Along.shape c.in-Along.first c.in-Along.second) in
-    subst (λ (w : statements.Statement). IfErr c.from_residual-in_err-back-in-None.result (IsRefusedFor about budget last w)) (sym e)
-    (passed_on (IsRefusedFor about budget last (statements.along c.in-Along.path c.in-Along.shape s o)) c.from_residual-in_err-back-in-None.result c.from_residual-in_err-back-in-None.ensures.1
-    (λ r is. second_argument about last budget c.in-Along.path c.in-Along.shape s o c.in_err-back-in-None.field-0.0 r is
-    (refused_outer c.args.search.now inner outer.setting outer.last o c.in_err-back-in-None.field-0.0
-    (subst (λ (a : Aim). IsRefusedFor (system_of inner) inner.setting.now.budget.now inner.last (aim_states a) c.in_err-back-in-None.field-0.0) c.deref-in-None.ensures c.in_err-back-in-None.ensures.refused))))
-
 pub all_found-returns-in_err-found-clause-counted : goal.all_found-returns-in_err-found-clause-counted
 all_found-returns-in_err-found-clause-counted t c =
     let about = system_of c.args.search.now in
@@ -126,38 +93,6 @@ found_of-returns-in_err-child-in-After-clause-counted t c =
     subst (λ (w : statements.Statement). IfErr c.from_residual-in_err-child-in-After.result (IsCountedFor about w)) (sym e)
     (passed_on (IsCountedFor about (statements.after c.in-After.path s)) c.from_residual-in_err-child-in-After.result c.from_residual-in_err-child-in-After.ensures.1
     (λ r is. subst (IsCountedFor about (statements.after c.in-After.path s)) (sym is) (after_argument_counted about fault c.in-After.path s (subst (λ (a : Aim). IsCountedFor about (aim_states a) fault) c.deref-in-After.ensures c.in_err-child-in-After.ensures.counted))))
-
-pub found_of-returns-in_err-front-in-Along-clause-counted : goal.found_of-returns-in_err-front-in-Along-clause-counted
-found_of-returns-in_err-front-in-Along-clause-counted t c =
-    let about = system_of c.args.search.now in
-    let inner = c.of_arguments-inner.result in
-    let outer = c.of_arguments-inner.ensures in
-    let s = aim_states c.in-Along.first.value in
-    let o = aim_states c.in-Along.second.value in
-    let fault = c.in_err-front-in-Along.field-0.0 in
-    let whole = statements.along c.in-Along.path c.in-Along.shape s o in
-    let e : aim_states c.args.aim.now ≡ whole =
-    ap aim_states c.in-Along.is ∙ ap aim_states (sym (rolls-Along c.in-Along.path c.in-Along.shape c.in-Along.first c.in-Along.second)) ∙ fold-roll-Aim statements.Statement aim_node (Aim-F.Along c.in-Along.path c.in-Along.shape c.in-Along.first c.in-Along.second) in
-    subst (λ (w : statements.Statement). IfErr c.from_residual-in_err-front-in-Along.result (IsCountedFor about w)) (sym e)
-    (passed_on (IsCountedFor about whole) c.from_residual-in_err-front-in-Along.result c.from_residual-in_err-front-in-Along.ensures.1
-    (λ r is. subst (IsCountedFor about whole) (sym is) (first_argument_counted about fault c.in-Along.path c.in-Along.shape s o
-    (counted_outer c.args.search.now inner outer.setting s fault (subst (λ (a : Aim). IsCountedFor (system_of inner) (aim_states a) fault) c.deref-in-Along.ensures c.in_err-front-in-Along.ensures.counted)))))
-
-pub found_of-returns-in_err-back-in-None-clause-counted : goal.found_of-returns-in_err-back-in-None-clause-counted
-found_of-returns-in_err-back-in-None-clause-counted t c =
-    let about = system_of c.args.search.now in
-    let inner = c.of_arguments-inner.result in
-    let outer = c.of_arguments-inner.ensures in
-    let s = aim_states c.in-Along.first.value in
-    let o = aim_states c.in-Along.second.value in
-    let fault = c.in_err-back-in-None.field-0.0 in
-    let whole = statements.along c.in-Along.path c.in-Along.shape s o in
-    let e : aim_states c.args.aim.now ≡ whole =
-    ap aim_states c.in-Along.is ∙ ap aim_states (sym (rolls-Along c.in-Along.path c.in-Along.shape c.in-Along.first c.in-Along.second)) ∙ fold-roll-Aim statements.Statement aim_node (Aim-F.Along c.in-Along.path c.in-Along.shape c.in-Along.first c.in-Along.second) in
-    subst (λ (w : statements.Statement). IfErr c.from_residual-in_err-back-in-None.result (IsCountedFor about w)) (sym e)
-    (passed_on (IsCountedFor about whole) c.from_residual-in_err-back-in-None.result c.from_residual-in_err-back-in-None.ensures.1
-    (λ r is. subst (IsCountedFor about whole) (sym is) (second_argument_counted about fault c.in-Along.path c.in-Along.shape s o
-    (counted_outer c.args.search.now inner outer.setting o fault (subst (λ (a : Aim). IsCountedFor (system_of inner) (aim_states a) fault) c.deref-in-None.ensures c.in_err-back-in-None.ensures.counted)))))
 
 pub found_of-returns-in_err-arguments-in-EachOf-clause-counted : goal.found_of-returns-in_err-arguments-in-EachOf-clause-counted
 found_of-returns-in_err-arguments-in-EachOf-clause-counted t c =
@@ -216,20 +151,6 @@ found_of-returns-in_ok-child-in-After-clause-counted t c =
     let told = subst (λ (a : Aim). IsFound about last (aim_states a) child) c.deref-in-After.ensures c.in_ok-child-in-After.ensures.found in
     subst (λ (w : statements.Statement). IfErr c.after_found.result (IsCountedFor about w)) (sym e) (if_err c.after_found.result (λ x h. h s told) c.after_found.ensures.counted)
 
-pub found_of-returns-in_ok-back-in-None-clause-counted : goal.found_of-returns-in_ok-back-in-None-clause-counted
-found_of-returns-in_ok-back-in-None-clause-counted t c =
-    let about = system_of c.args.search.now in
-    let inner = c.of_arguments-inner.result in
-    let outer = c.of_arguments-inner.ensures in
-    let last = c.args.search.now.last in
-    let s = aim_states c.in-Along.first.value in
-    let o = aim_states c.in-Along.second.value in
-    let e : aim_states c.args.aim.now ≡ statements.along c.in-Along.path c.in-Along.shape s o =
-    ap aim_states c.in-Along.is ∙ ap aim_states (sym (rolls-Along c.in-Along.path c.in-Along.shape c.in-Along.first c.in-Along.second)) ∙ fold-roll-Aim statements.Statement aim_node (Aim-F.Along c.in-Along.path c.in-Along.shape c.in-Along.first c.in-Along.second) in
-    let one = found_outer c.args.search.now inner outer.setting outer.last s c.in_ok-front-in-Along.front (subst (λ (a : Aim). IsFound (system_of inner) inner.last (aim_states a) c.in_ok-front-in-Along.front) c.deref-in-Along.ensures c.in_ok-front-in-Along.ensures.found) in
-    let other = found_outer c.args.search.now inner outer.setting outer.last o c.in_ok-back-in-None.back (subst (λ (a : Aim). IsFound (system_of inner) inner.last (aim_states a) c.in_ok-back-in-None.back) c.deref-in-None.ensures c.in_ok-back-in-None.ensures.found) in
-    subst (λ (w : statements.Statement). IfErr c.along_found-in-None.result (IsCountedFor about w)) (sym e) (if_err c.along_found-in-None.result (λ x h. h s o one other) c.along_found-in-None.ensures.counted)
-
 pub all_found-returns-clause-found : goal.all_found-returns-clause-found
 all_found-returns-clause-found t c =
     let about = system_of c.args.search.now in
@@ -251,21 +172,6 @@ all_found-aims-preserved-in-Some t c =
       one_known about last c.args.search.now.alone c.args.aims.now c.aims.founds.items c.push_item.new.items.items c.aims.aim-index c.aim-item.result c.in-Some.again c.aims-test.true c.aim-item.is c.aims.invariant.1 c.aims.invariant.3 known c.in_ok-push_item.ensures,
     )
 
-pub found_of-returns-in-Some-clause-counted : goal.found_of-returns-in-Some-clause-counted
-found_of-returns-in-Some-clause-counted t c =
-    let about = system_of c.args.search.now in
-    let inner = c.of_arguments-inner.result in
-    let outer = c.of_arguments-inner.ensures in
-    let last = c.args.search.now.last in
-    let s = aim_states c.in-Along.first.value in
-    let o = aim_states c.in-Along.second.value in
-    let e : aim_states c.args.aim.now ≡ statements.along c.in-Along.path c.in-Along.shape s o =
-    ap aim_states c.in-Along.is ∙ ap aim_states (sym (rolls-Along c.in-Along.path c.in-Along.shape c.in-Along.first c.in-Along.second)) ∙ fold-roll-Aim statements.Statement aim_node (Aim-F.Along c.in-Along.path c.in-Along.shape c.in-Along.first c.in-Along.second) in
-    let one = found_outer c.args.search.now inner outer.setting outer.last s c.in_ok-front-in-Along.front (subst (λ (a : Aim). IsFound (system_of inner) inner.last (aim_states a) c.in_ok-front-in-Along.front) c.deref-in-Along.ensures c.in_ok-front-in-Along.ensures.found) in
-    let again = subst (λ z. IfSome z (IsFound (system_of inner) inner.last (aim_states c.deref-in-Along-3.result.now))) c.in-Some.is c.in_ok-back-in-Along.ensures.found in
-    let other = found_outer c.args.search.now inner outer.setting outer.last o c.in-Some.back (subst (λ (a : Aim). IsFound (system_of inner) inner.last (aim_states a) c.in-Some.back) c.deref-in-Along-3.ensures again) in
-    subst (λ (w : statements.Statement). IfErr c.along_found.result (IsCountedFor about w)) (sym e) (if_err c.along_found.result (λ x h. h s o one other) c.along_found.ensures.counted)
-
 pub all_found-returns-clause-known : goal.all_found-returns-clause-known
 all_found-returns-clause-known t c =
     let about = system_of c.args.search.now in
@@ -274,46 +180,6 @@ all_found-returns-clause-known t c =
     let aims = c.args.aims.now in
     if_ok c.arguments_of.result (λ a h. all_known about last alone aims c.aims.founds.items a.regions.items c.aims.aim-index c.aims-test.false c.aims.auto.aim-index-end c.aims.invariant.1 c.aims.invariant.3 h)
     c.arguments_of.ensures.regions
-
-pub found_of-returns-in_ok-back-in-None-clause-known : goal.found_of-returns-in_ok-back-in-None-clause-known
-found_of-returns-in_ok-back-in-None-clause-known t c =
-    let about = system_of c.args.search.now in
-    let last = c.args.search.now.last in
-    let alone = c.args.search.now.alone in
-    let inner = c.of_arguments-inner.result in
-    let outer = c.of_arguments-inner.ensures in
-    let s = aim_states c.in-Along.first.value in
-    let o = aim_states c.in-Along.second.value in
-    let e : aim_states c.args.aim.now ≡ statements.along c.in-Along.path c.in-Along.shape s o =
-    ap aim_states c.in-Along.is ∙ ap aim_states (sym (rolls-Along c.in-Along.path c.in-Along.shape c.in-Along.first c.in-Along.second)) ∙ fold-roll-Aim statements.Statement aim_node (Aim-F.Along c.in-Along.path c.in-Along.shape c.in-Along.first c.in-Along.second) in
-    let one = found_outer c.args.search.now inner outer.setting outer.last s c.in_ok-front-in-Along.front (subst (λ (a : Aim). IsFound (system_of inner) inner.last (aim_states a) c.in_ok-front-in-Along.front) c.deref-in-Along.ensures c.in_ok-front-in-Along.ensures.found) in
-    let other = found_outer c.args.search.now inner outer.setting outer.last o c.in_ok-back-in-None.back (subst (λ (a : Aim). IsFound (system_of inner) inner.last (aim_states a) c.in_ok-back-in-None.back) c.deref-in-None.ensures c.in_ok-back-in-None.ensures.found) in
-    let one_known = known_outer c.args.search.now inner outer.setting outer.last inner.alone s c.in_ok-front-in-Along.front (subst (λ (a : Aim). HasKnownStates (system_of inner) inner.last inner.alone (aim_states a) c.in_ok-front-in-Along.front) c.deref-in-Along.ensures c.in_ok-front-in-Along.ensures.known) in
-    let other_known = known_outer c.args.search.now inner outer.setting outer.last inner.alone o c.in_ok-back-in-None.back (subst (λ (a : Aim). HasKnownStates (system_of inner) inner.last inner.alone (aim_states a) c.in_ok-back-in-None.back) c.deref-in-None.ensures c.in_ok-back-in-None.ensures.known) in
-    let within : IsAloneIn alone c.in-Along.shape inner.alone = record { kept = outer.alone; shrinking = outer.shrinking } in
-    subst (λ (w : statements.Statement). IfOk c.along_found-in-None.result (HasKnownStates about last alone w)) (sym e)
-    (if_ok c.along_found-in-None.result (λ x h. h inner.alone within s o one other one_known other_known) c.along_found-in-None.ensures.known)
-
-pub found_of-returns-in-Some-clause-known : goal.found_of-returns-in-Some-clause-known
-found_of-returns-in-Some-clause-known t c =
-    let about = system_of c.args.search.now in
-    let last = c.args.search.now.last in
-    let alone = c.args.search.now.alone in
-    let inner = c.of_arguments-inner.result in
-    let outer = c.of_arguments-inner.ensures in
-    let s = aim_states c.in-Along.first.value in
-    let o = aim_states c.in-Along.second.value in
-    let e : aim_states c.args.aim.now ≡ statements.along c.in-Along.path c.in-Along.shape s o =
-    ap aim_states c.in-Along.is ∙ ap aim_states (sym (rolls-Along c.in-Along.path c.in-Along.shape c.in-Along.first c.in-Along.second)) ∙ fold-roll-Aim statements.Statement aim_node (Aim-F.Along c.in-Along.path c.in-Along.shape c.in-Along.first c.in-Along.second) in
-    let one = found_outer c.args.search.now inner outer.setting outer.last s c.in_ok-front-in-Along.front (subst (λ (a : Aim). IsFound (system_of inner) inner.last (aim_states a) c.in_ok-front-in-Along.front) c.deref-in-Along.ensures c.in_ok-front-in-Along.ensures.found) in
-    let again = subst (λ z. IfSome z (IsFound (system_of inner) inner.last (aim_states c.deref-in-Along-3.result.now))) c.in-Some.is c.in_ok-back-in-Along.ensures.found in
-    let other = found_outer c.args.search.now inner outer.setting outer.last o c.in-Some.back (subst (λ (a : Aim). IsFound (system_of inner) inner.last (aim_states a) c.in-Some.back) c.deref-in-Along-3.ensures again) in
-    let one_known = known_outer c.args.search.now inner outer.setting outer.last inner.alone s c.in_ok-front-in-Along.front (subst (λ (a : Aim). HasKnownStates (system_of inner) inner.last inner.alone (aim_states a) c.in_ok-front-in-Along.front) c.deref-in-Along.ensures c.in_ok-front-in-Along.ensures.known) in
-    let again_known = subst (λ z. IfSome z (HasKnownStates (system_of inner) inner.last inner.alone (aim_states c.deref-in-Along-3.result.now))) c.in-Some.is c.in_ok-back-in-Along.ensures.known in
-    let other_known = known_outer c.args.search.now inner outer.setting outer.last inner.alone o c.in-Some.back (subst (λ (a : Aim). HasKnownStates (system_of inner) inner.last inner.alone (aim_states a) c.in-Some.back) c.deref-in-Along-3.ensures again_known) in
-    let within : IsAloneIn alone c.in-Along.shape inner.alone = record { kept = outer.alone; shrinking = outer.shrinking } in
-    subst (λ (w : statements.Statement). IfOk c.along_found.result (HasKnownStates about last alone w)) (sym e)
-    (if_ok c.along_found.result (λ x h. h inner.alone within s o one other one_known other_known) c.along_found.ensures.known)
 
 pub found_of-returns-in-Ends-clause-known : goal.found_of-returns-in-Ends-clause-known
 found_of-returns-in-Ends-clause-known t c =
@@ -334,3 +200,234 @@ found_of-returns-in-NeverEnds-clause-known t c =
     ap aim_states c.in-NeverEnds.is ∙ ap aim_states (sym rolls-NeverEnds) ∙ fold-roll-Aim statements.Statement aim_node Aim-F.NeverEnds in
     subst (λ (w : statements.Statement). IfOk c.never_found.result (HasKnownStates about last alone w)) (sym e)
     (if_ok c.never_found.result (λ x h. record { states = λ tame f e rows. h tame f e rows }) c.never_found.ensures.known)
+
+pub found_of-returns-in_err-front-in-Along-clause-refused : goal.found_of-returns-in_err-front-in-Along-clause-refused
+found_of-returns-in_err-front-in-Along-clause-refused t c =
+    let about = system_of c.args.search.now in
+    let budget = c.args.search.now.setting.now.budget.now in
+    let last = c.args.search.now.last in
+    let s = aim_states c.in-Along.first.value in
+    let o = aim_states c.in-Along.second.value in
+    let fault = c.in_err-front-in-Along.field-0.0 in
+    let whole = statements.along c.in-Along.path c.in-Along.shape s o in
+    let e : aim_states c.args.aim.now ≡ whole =
+    ap aim_states c.in-Along.is ∙ ap aim_states (sym (rolls-Along c.in-Along.path c.in-Along.shape c.in-Along.first c.in-Along.second)) ∙ fold-roll-Aim statements.Statement aim_node (Aim-F.Along c.in-Along.path c.in-Along.shape c.in-Along.first c.in-Along.second) in
+    subst (λ (w : statements.Statement). IfErr c.from_residual-in_err-front-in-Along.result (IsRefusedFor about budget last w)) (sym e)
+    (passed_on (IsRefusedFor about budget last whole) c.from_residual-in_err-front-in-Along.result c.from_residual-in_err-front-in-Along.ensures.1
+    (λ r is. first_argument about last budget c.in-Along.path c.in-Along.shape s o fault r is (subst (λ (a : Aim). IsRefusedFor about budget last (aim_states a) fault) c.deref-then-not-must_end.ensures c.in_err-front-in-Along.ensures.refused)))
+
+pub found_of-returns-in_err-front-in-Along-clause-counted : goal.found_of-returns-in_err-front-in-Along-clause-counted
+found_of-returns-in_err-front-in-Along-clause-counted t c =
+    let about = system_of c.args.search.now in
+    let s = aim_states c.in-Along.first.value in
+    let o = aim_states c.in-Along.second.value in
+    let fault = c.in_err-front-in-Along.field-0.0 in
+    let whole = statements.along c.in-Along.path c.in-Along.shape s o in
+    let e : aim_states c.args.aim.now ≡ whole =
+    ap aim_states c.in-Along.is ∙ ap aim_states (sym (rolls-Along c.in-Along.path c.in-Along.shape c.in-Along.first c.in-Along.second)) ∙ fold-roll-Aim statements.Statement aim_node (Aim-F.Along c.in-Along.path c.in-Along.shape c.in-Along.first c.in-Along.second) in
+    subst (λ (w : statements.Statement). IfErr c.from_residual-in_err-front-in-Along.result (IsCountedFor about w)) (sym e)
+    (passed_on (IsCountedFor about whole) c.from_residual-in_err-front-in-Along.result c.from_residual-in_err-front-in-Along.ensures.1
+    (λ r is. subst (IsCountedFor about whole) (sym is) (first_argument_counted about fault c.in-Along.path c.in-Along.shape s o (subst (λ (a : Aim). IsCountedFor about (aim_states a) fault) c.deref-then-not-must_end.ensures c.in_err-front-in-Along.ensures.counted))))
+
+pub found_of-returns-in_err-back-in-Along-clause-refused : goal.found_of-returns-in_err-back-in-Along-clause-refused
+found_of-returns-in_err-back-in-Along-clause-refused t c =
+    let about = system_of c.args.search.now in
+    let budget = c.args.search.now.setting.now.budget.now in
+    let last = c.args.search.now.last in
+    let s = aim_states c.in-Along.first.value in
+    let o = aim_states c.in-Along.second.value in
+    let fault = c.in_err-back-in-Along.field-0.0 in
+    let whole = statements.along c.in-Along.path c.in-Along.shape s o in
+    let e : aim_states c.args.aim.now ≡ whole =
+    ap aim_states c.in-Along.is ∙ ap aim_states (sym (rolls-Along c.in-Along.path c.in-Along.shape c.in-Along.first c.in-Along.second)) ∙ fold-roll-Aim statements.Statement aim_node (Aim-F.Along c.in-Along.path c.in-Along.shape c.in-Along.first c.in-Along.second) in
+    subst (λ (w : statements.Statement). IfErr c.from_residual-in_err-back-in-Along.result (IsRefusedFor about budget last w)) (sym e)
+    (passed_on (IsRefusedFor about budget last whole) c.from_residual-in_err-back-in-Along.result c.from_residual-in_err-back-in-Along.ensures.1
+    (λ r is. second_argument about last budget c.in-Along.path c.in-Along.shape s o fault r is (subst (λ (a : Aim). IsRefusedFor about budget last (aim_states a) fault) c.deref-then-not-must_end-2.ensures c.in_err-back-in-Along.ensures.refused)))
+
+pub found_of-returns-in_err-back-in-Along-clause-counted : goal.found_of-returns-in_err-back-in-Along-clause-counted
+found_of-returns-in_err-back-in-Along-clause-counted t c =
+    let about = system_of c.args.search.now in
+    let s = aim_states c.in-Along.first.value in
+    let o = aim_states c.in-Along.second.value in
+    let fault = c.in_err-back-in-Along.field-0.0 in
+    let whole = statements.along c.in-Along.path c.in-Along.shape s o in
+    let e : aim_states c.args.aim.now ≡ whole =
+    ap aim_states c.in-Along.is ∙ ap aim_states (sym (rolls-Along c.in-Along.path c.in-Along.shape c.in-Along.first c.in-Along.second)) ∙ fold-roll-Aim statements.Statement aim_node (Aim-F.Along c.in-Along.path c.in-Along.shape c.in-Along.first c.in-Along.second) in
+    subst (λ (w : statements.Statement). IfErr c.from_residual-in_err-back-in-Along.result (IsCountedFor about w)) (sym e)
+    (passed_on (IsCountedFor about whole) c.from_residual-in_err-back-in-Along.result c.from_residual-in_err-back-in-Along.ensures.1
+    (λ r is. subst (IsCountedFor about whole) (sym is) (second_argument_counted about fault c.in-Along.path c.in-Along.shape s o (subst (λ (a : Aim). IsCountedFor about (aim_states a) fault) c.deref-then-not-must_end-2.ensures c.in_err-back-in-Along.ensures.counted))))
+
+pub found_of-returns-in_err-front-in-Along-2-clause-refused : goal.found_of-returns-in_err-front-in-Along-2-clause-refused
+found_of-returns-in_err-front-in-Along-2-clause-refused t c =
+    let about = system_of c.args.search.now in
+    let inner = c.of_arguments-inner.result in
+    let outer = c.of_arguments-inner.ensures in
+    let budget = c.args.search.now.setting.now.budget.now in
+    let last = c.args.search.now.last in
+    let s = aim_states c.in-Along.first.value in
+    let o = aim_states c.in-Along.second.value in
+    let fault = c.in_err-front-in-Along-2.field-0.0 in
+    let whole = statements.along c.in-Along.path c.in-Along.shape s o in
+    let e : aim_states c.args.aim.now ≡ whole =
+    ap aim_states c.in-Along.is ∙ ap aim_states (sym (rolls-Along c.in-Along.path c.in-Along.shape c.in-Along.first c.in-Along.second)) ∙ fold-roll-Aim statements.Statement aim_node (Aim-F.Along c.in-Along.path c.in-Along.shape c.in-Along.first c.in-Along.second) in
+    subst (λ (w : statements.Statement). IfErr c.from_residual-in_err-front-in-Along-2.result (IsRefusedFor about budget last w)) (sym e)
+    (passed_on (IsRefusedFor about budget last whole) c.from_residual-in_err-front-in-Along-2.result c.from_residual-in_err-front-in-Along-2.ensures.1
+    (λ r is. first_argument about last budget c.in-Along.path c.in-Along.shape s o fault r is
+    (refused_outer c.args.search.now inner outer.setting outer.last s fault (subst (λ (a : Aim). IsRefusedFor (system_of inner) inner.setting.now.budget.now inner.last (aim_states a) fault) c.deref-in-Along.ensures c.in_err-front-in-Along-2.ensures.refused))))
+
+pub found_of-returns-in_err-front-in-Along-2-clause-counted : goal.found_of-returns-in_err-front-in-Along-2-clause-counted
+found_of-returns-in_err-front-in-Along-2-clause-counted t c =
+    let about = system_of c.args.search.now in
+    let inner = c.of_arguments-inner.result in
+    let outer = c.of_arguments-inner.ensures in
+    let s = aim_states c.in-Along.first.value in
+    let o = aim_states c.in-Along.second.value in
+    let fault = c.in_err-front-in-Along-2.field-0.0 in
+    let whole = statements.along c.in-Along.path c.in-Along.shape s o in
+    let e : aim_states c.args.aim.now ≡ whole =
+    ap aim_states c.in-Along.is ∙ ap aim_states (sym (rolls-Along c.in-Along.path c.in-Along.shape c.in-Along.first c.in-Along.second)) ∙ fold-roll-Aim statements.Statement aim_node (Aim-F.Along c.in-Along.path c.in-Along.shape c.in-Along.first c.in-Along.second) in
+    subst (λ (w : statements.Statement). IfErr c.from_residual-in_err-front-in-Along-2.result (IsCountedFor about w)) (sym e)
+    (passed_on (IsCountedFor about whole) c.from_residual-in_err-front-in-Along-2.result c.from_residual-in_err-front-in-Along-2.ensures.1
+    (λ r is. subst (IsCountedFor about whole) (sym is) (first_argument_counted about fault c.in-Along.path c.in-Along.shape s o
+    (counted_outer c.args.search.now inner outer.setting s fault (subst (λ (a : Aim). IsCountedFor (system_of inner) (aim_states a) fault) c.deref-in-Along.ensures c.in_err-front-in-Along-2.ensures.counted)))))
+
+pub found_of-returns-in_err-back-in-Along-2-clause-refused : goal.found_of-returns-in_err-back-in-Along-2-clause-refused
+found_of-returns-in_err-back-in-Along-2-clause-refused t c =
+    let about = system_of c.args.search.now in
+    let inner = c.of_arguments-inner.result in
+    let outer = c.of_arguments-inner.ensures in
+    let budget = c.args.search.now.setting.now.budget.now in
+    let last = c.args.search.now.last in
+    let s = aim_states c.in-Along.first.value in
+    let o = aim_states c.in-Along.second.value in
+    let fault = c.in_err-back-in-Along-2.field-0.0 in
+    let whole = statements.along c.in-Along.path c.in-Along.shape s o in
+    let e : aim_states c.args.aim.now ≡ whole =
+    ap aim_states c.in-Along.is ∙ ap aim_states (sym (rolls-Along c.in-Along.path c.in-Along.shape c.in-Along.first c.in-Along.second)) ∙ fold-roll-Aim statements.Statement aim_node (Aim-F.Along c.in-Along.path c.in-Along.shape c.in-Along.first c.in-Along.second) in
+    subst (λ (w : statements.Statement). IfErr c.from_residual-in_err-back-in-Along-2.result (IsRefusedFor about budget last w)) (sym e)
+    (passed_on (IsRefusedFor about budget last whole) c.from_residual-in_err-back-in-Along-2.result c.from_residual-in_err-back-in-Along-2.ensures.1
+    (λ r is. second_argument about last budget c.in-Along.path c.in-Along.shape s o fault r is
+    (refused_outer c.args.search.now inner outer.setting outer.last o fault (subst (λ (a : Aim). IsRefusedFor (system_of inner) inner.setting.now.budget.now inner.last (aim_states a) fault) c.deref-in-Along-2.ensures c.in_err-back-in-Along-2.ensures.refused))))
+
+pub found_of-returns-in_err-back-in-Along-2-clause-counted : goal.found_of-returns-in_err-back-in-Along-2-clause-counted
+found_of-returns-in_err-back-in-Along-2-clause-counted t c =
+    let about = system_of c.args.search.now in
+    let inner = c.of_arguments-inner.result in
+    let outer = c.of_arguments-inner.ensures in
+    let s = aim_states c.in-Along.first.value in
+    let o = aim_states c.in-Along.second.value in
+    let fault = c.in_err-back-in-Along-2.field-0.0 in
+    let whole = statements.along c.in-Along.path c.in-Along.shape s o in
+    let e : aim_states c.args.aim.now ≡ whole =
+    ap aim_states c.in-Along.is ∙ ap aim_states (sym (rolls-Along c.in-Along.path c.in-Along.shape c.in-Along.first c.in-Along.second)) ∙ fold-roll-Aim statements.Statement aim_node (Aim-F.Along c.in-Along.path c.in-Along.shape c.in-Along.first c.in-Along.second) in
+    subst (λ (w : statements.Statement). IfErr c.from_residual-in_err-back-in-Along-2.result (IsCountedFor about w)) (sym e)
+    (passed_on (IsCountedFor about whole) c.from_residual-in_err-back-in-Along-2.result c.from_residual-in_err-back-in-Along-2.ensures.1
+    (λ r is. subst (IsCountedFor about whole) (sym is) (second_argument_counted about fault c.in-Along.path c.in-Along.shape s o
+    (counted_outer c.args.search.now inner outer.setting o fault (subst (λ (a : Aim). IsCountedFor (system_of inner) (aim_states a) fault) c.deref-in-Along-2.ensures c.in_err-back-in-Along-2.ensures.counted)))))
+
+pub found_of-returns-in_err-wider-in-Along-clause-counted : goal.found_of-returns-in_err-wider-in-Along-clause-counted
+found_of-returns-in_err-wider-in-Along-clause-counted t c =
+    let about = system_of c.args.search.now in
+    let last = c.args.search.now.last in
+    let s = aim_states c.in-Along.first.value in
+    let o = aim_states c.in-Along.second.value in
+    let whole = statements.along c.in-Along.path c.in-Along.shape s o in
+    let e : aim_states c.args.aim.now ≡ whole =
+    ap aim_states c.in-Along.is ∙ ap aim_states (sym (rolls-Along c.in-Along.path c.in-Along.shape c.in-Along.first c.in-Along.second)) ∙ fold-roll-Aim statements.Statement aim_node (Aim-F.Along c.in-Along.path c.in-Along.shape c.in-Along.first c.in-Along.second) in
+    let one = subst (λ (a : Aim). IsFound about last (aim_states a) c.in_ok-front-in-Along.front) c.deref-then-not-must_end.ensures c.in_ok-front-in-Along.ensures.found in
+    let other = subst (λ (a : Aim). IsFound about last (aim_states a) c.in_ok-back-in-Along.back) c.deref-then-not-must_end-2.ensures c.in_ok-back-in-Along.ensures.found in
+    subst (λ (w : statements.Statement). IfErr c.from_residual-in_err-wider-in-Along.result (IsCountedFor about w)) (sym e)
+    (passed_on (IsCountedFor about whole) c.from_residual-in_err-wider-in-Along.result c.from_residual-in_err-wider-in-Along.ensures.1 (λ r is. subst (IsCountedFor about whole) (sym is) (c.in_err-wider-in-Along.ensures.counted s o one other)))
+
+pub found_of-returns-in_err-along-in-Along-clause-counted : goal.found_of-returns-in_err-along-in-Along-clause-counted
+found_of-returns-in_err-along-in-Along-clause-counted t c =
+    let about = system_of c.args.search.now in
+    let inner = c.of_arguments-inner.result in
+    let outer = c.of_arguments-inner.ensures in
+    let last = c.args.search.now.last in
+    let s = aim_states c.in-Along.first.value in
+    let o = aim_states c.in-Along.second.value in
+    let whole = statements.along c.in-Along.path c.in-Along.shape s o in
+    let e : aim_states c.args.aim.now ≡ whole =
+    ap aim_states c.in-Along.is ∙ ap aim_states (sym (rolls-Along c.in-Along.path c.in-Along.shape c.in-Along.first c.in-Along.second)) ∙ fold-roll-Aim statements.Statement aim_node (Aim-F.Along c.in-Along.path c.in-Along.shape c.in-Along.first c.in-Along.second) in
+    let one = found_outer c.args.search.now inner outer.setting outer.last s c.in_ok-front-in-Along-2.front (subst (λ (a : Aim). IsFound (system_of inner) inner.last (aim_states a) c.in_ok-front-in-Along-2.front) c.deref-in-Along.ensures c.in_ok-front-in-Along-2.ensures.found) in
+    let other = found_outer c.args.search.now inner outer.setting outer.last o c.in_ok-back-in-Along-2.back (subst (λ (a : Aim). IsFound (system_of inner) inner.last (aim_states a) c.in_ok-back-in-Along-2.back) c.deref-in-Along-2.ensures c.in_ok-back-in-Along-2.ensures.found) in
+    subst (λ (w : statements.Statement). IfErr c.from_residual-in_err-along-in-Along.result (IsCountedFor about w)) (sym e)
+    (passed_on (IsCountedFor about whole) c.from_residual-in_err-along-in-Along.result c.from_residual-in_err-along-in-Along.ensures.1 (λ r is. subst (IsCountedFor about whole) (sym is) (c.in_err-along-in-Along.ensures.counted s o one other)))
+
+pub found_of-returns-in_err-along-in-Along-clause-refused : goal.found_of-returns-in_err-along-in-Along-clause-refused
+found_of-returns-in_err-along-in-Along-clause-refused t c =
+    let about = system_of c.args.search.now in
+    let inner = c.of_arguments-inner.result in
+    let outer = c.of_arguments-inner.ensures in
+    let budget = c.args.search.now.setting.now.budget.now in
+    let last = c.args.search.now.last in
+    let s = aim_states c.in-Along.first.value in
+    let o = aim_states c.in-Along.second.value in
+    let whole = statements.along c.in-Along.path c.in-Along.shape s o in
+    let e : aim_states c.args.aim.now ≡ whole =
+    ap aim_states c.in-Along.is ∙ ap aim_states (sym (rolls-Along c.in-Along.path c.in-Along.shape c.in-Along.first c.in-Along.second)) ∙ fold-roll-Aim statements.Statement aim_node (Aim-F.Along c.in-Along.path c.in-Along.shape c.in-Along.first c.in-Along.second) in
+    let one = found_outer c.args.search.now inner outer.setting outer.last s c.in_ok-front-in-Along-2.front (subst (λ (a : Aim). IsFound (system_of inner) inner.last (aim_states a) c.in_ok-front-in-Along-2.front) c.deref-in-Along.ensures c.in_ok-front-in-Along-2.ensures.found) in
+    let other = found_outer c.args.search.now inner outer.setting outer.last o c.in_ok-back-in-Along-2.back (subst (λ (a : Aim). IsFound (system_of inner) inner.last (aim_states a) c.in_ok-back-in-Along-2.back) c.deref-in-Along-2.ensures c.in_ok-back-in-Along-2.ensures.found) in
+    subst (λ (w : statements.Statement). IfErr c.from_residual-in_err-along-in-Along.result (IsRefusedFor about budget last w)) (sym e)
+    (passed_on (IsRefusedFor about budget last whole) c.from_residual-in_err-along-in-Along.result c.from_residual-in_err-along-in-Along.ensures.1 (λ r is. subst (IsRefusedFor about budget last whole) (sym is) (c.in_err-along-in-Along.ensures.refused s o one other)))
+
+pub found_of-returns-then-wider-clause-found : goal.found_of-returns-then-wider-clause-found
+found_of-returns-then-wider-clause-found t c =
+    let about = system_of c.args.search.now in
+    let last = c.args.search.now.last in
+    let s = aim_states c.in-Along.first.value in
+    let o = aim_states c.in-Along.second.value in
+    let e : aim_states c.args.aim.now ≡ statements.along c.in-Along.path c.in-Along.shape s o =
+    ap aim_states c.in-Along.is ∙ ap aim_states (sym (rolls-Along c.in-Along.path c.in-Along.shape c.in-Along.first c.in-Along.second)) ∙ fold-roll-Aim statements.Statement aim_node (Aim-F.Along c.in-Along.path c.in-Along.shape c.in-Along.first c.in-Along.second) in
+    let one = subst (λ (a : Aim). IsFound about last (aim_states a) c.in_ok-front-in-Along.front) c.deref-then-not-must_end.ensures c.in_ok-front-in-Along.ensures.found in
+    let other = subst (λ (a : Aim). IsFound about last (aim_states a) c.in_ok-back-in-Along.back) c.deref-then-not-must_end-2.ensures c.in_ok-back-in-Along.ensures.found in
+    subst (λ (w : statements.Statement). IsFound about last w c.in_ok-wider-in-Along.wider.found) (sym e) (c.in_ok-wider-in-Along.ensures.found s o one other)
+
+pub found_of-returns-then-wider-clause-known : goal.found_of-returns-then-wider-clause-known
+found_of-returns-then-wider-clause-known t c =
+    let about = system_of c.args.search.now in
+    let last = c.args.search.now.last in
+    let alone = c.args.search.now.alone in
+    let s = aim_states c.in-Along.first.value in
+    let o = aim_states c.in-Along.second.value in
+    let e : aim_states c.args.aim.now ≡ statements.along c.in-Along.path c.in-Along.shape s o =
+    ap aim_states c.in-Along.is ∙ ap aim_states (sym (rolls-Along c.in-Along.path c.in-Along.shape c.in-Along.first c.in-Along.second)) ∙ fold-roll-Aim statements.Statement aim_node (Aim-F.Along c.in-Along.path c.in-Along.shape c.in-Along.first c.in-Along.second) in
+    let one_known = subst (λ (a : Aim). HasKnownStates about last alone (aim_states a) c.in_ok-front-in-Along.front) c.deref-then-not-must_end.ensures c.in_ok-front-in-Along.ensures.known in
+    let other_known = subst (λ (a : Aim). HasKnownStates about last alone (aim_states a) c.in_ok-back-in-Along.back) c.deref-then-not-must_end-2.ensures c.in_ok-back-in-Along.ensures.known in
+    let may : must_end c.in-Along.shape ≡ false = sym c.must_end.ensures ∙ c.if-not-must_end.true in
+    subst (λ (w : statements.Statement). HasKnownStates about last alone w c.in_ok-wider-in-Along.wider.found) (sym e)
+    (c.in_ok-wider-in-Along.ensures.settled c.if-not-search.true may c.if-wider.true s o one_known other_known)
+
+pub found_of-returns-in_ok-along-in-Along-clause-found : goal.found_of-returns-in_ok-along-in-Along-clause-found
+found_of-returns-in_ok-along-in-Along-clause-found t c =
+    let about = system_of c.args.search.now in
+    let inner = c.of_arguments-inner.result in
+    let outer = c.of_arguments-inner.ensures in
+    let last = c.args.search.now.last in
+    let s = aim_states c.in-Along.first.value in
+    let o = aim_states c.in-Along.second.value in
+    let e : aim_states c.args.aim.now ≡ statements.along c.in-Along.path c.in-Along.shape s o =
+    ap aim_states c.in-Along.is ∙ ap aim_states (sym (rolls-Along c.in-Along.path c.in-Along.shape c.in-Along.first c.in-Along.second)) ∙ fold-roll-Aim statements.Statement aim_node (Aim-F.Along c.in-Along.path c.in-Along.shape c.in-Along.first c.in-Along.second) in
+    let one = found_outer c.args.search.now inner outer.setting outer.last s c.in_ok-front-in-Along-2.front (subst (λ (a : Aim). IsFound (system_of inner) inner.last (aim_states a) c.in_ok-front-in-Along-2.front) c.deref-in-Along.ensures c.in_ok-front-in-Along-2.ensures.found) in
+    let other = found_outer c.args.search.now inner outer.setting outer.last o c.in_ok-back-in-Along-2.back (subst (λ (a : Aim). IsFound (system_of inner) inner.last (aim_states a) c.in_ok-back-in-Along-2.back) c.deref-in-Along-2.ensures c.in_ok-back-in-Along-2.ensures.found) in
+    subst (λ (w : statements.Statement). IsFound about last w c.in_ok-along-in-Along.along.found) (sym e) (c.in_ok-along-in-Along.ensures.found s o one other)
+
+pub found_of-returns-in_ok-along-in-Along-clause-known : goal.found_of-returns-in_ok-along-in-Along-clause-known
+found_of-returns-in_ok-along-in-Along-clause-known t c =
+    let about = system_of c.args.search.now in
+    let inner = c.of_arguments-inner.result in
+    let outer = c.of_arguments-inner.ensures in
+    let last = c.args.search.now.last in
+    let alone = c.args.search.now.alone in
+    let s = aim_states c.in-Along.first.value in
+    let o = aim_states c.in-Along.second.value in
+    let e : aim_states c.args.aim.now ≡ statements.along c.in-Along.path c.in-Along.shape s o =
+    ap aim_states c.in-Along.is ∙ ap aim_states (sym (rolls-Along c.in-Along.path c.in-Along.shape c.in-Along.first c.in-Along.second)) ∙ fold-roll-Aim statements.Statement aim_node (Aim-F.Along c.in-Along.path c.in-Along.shape c.in-Along.first c.in-Along.second) in
+    let one = found_outer c.args.search.now inner outer.setting outer.last s c.in_ok-front-in-Along-2.front (subst (λ (a : Aim). IsFound (system_of inner) inner.last (aim_states a) c.in_ok-front-in-Along-2.front) c.deref-in-Along.ensures c.in_ok-front-in-Along-2.ensures.found) in
+    let other = found_outer c.args.search.now inner outer.setting outer.last o c.in_ok-back-in-Along-2.back (subst (λ (a : Aim). IsFound (system_of inner) inner.last (aim_states a) c.in_ok-back-in-Along-2.back) c.deref-in-Along-2.ensures c.in_ok-back-in-Along-2.ensures.found) in
+    let one_known = known_outer c.args.search.now inner outer.setting outer.last inner.alone s c.in_ok-front-in-Along-2.front (subst (λ (a : Aim). HasKnownStates (system_of inner) inner.last inner.alone (aim_states a) c.in_ok-front-in-Along-2.front) c.deref-in-Along.ensures c.in_ok-front-in-Along-2.ensures.known) in
+    let other_known = known_outer c.args.search.now inner outer.setting outer.last inner.alone o c.in_ok-back-in-Along-2.back (subst (λ (a : Aim). HasKnownStates (system_of inner) inner.last inner.alone (aim_states a) c.in_ok-back-in-Along-2.back) c.deref-in-Along-2.ensures c.in_ok-back-in-Along-2.ensures.known) in
+    let within : IsAloneIn alone c.in-Along.shape inner.alone = record { kept = outer.alone; shrinking = outer.shrinking } in
+    subst (λ (w : statements.Statement). HasKnownStates about last alone w c.in_ok-along-in-Along.along.found) (sym e)
+    (c.in_ok-along-in-Along.ensures.known inner.alone within s o one other one_known other_known)

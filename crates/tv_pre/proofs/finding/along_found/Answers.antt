@@ -1,4 +1,4 @@
-use Rattle.std.proofs.Common.{◌≡◌, ◌∙◌, [], ◌∷◌, ◌++◌, ap, sym, subst, ◌+◌}
+use Rattle.std.proofs.Common.{◌≡◌, ◌∙◌, [], ◌∷◌, ◌++◌, ap, sym, subst, ◌+◌, None}
 use Rattle.std.specs.Prelude.{IfSome}
 use Rattle.tv_formula.specs.Properties.{none, more}
 use Rattle.tv_cert.specs.Statements.{Statement}
@@ -13,7 +13,9 @@ use Rattle.tv_pre.proofs.FoundLemmas.{along_is_found, along_fault, none_of_two, 
 use Rattle.tv_pre.specs.Counted.{IsWithin, IsCountedFor}
 use Rattle.tv_known.specs.Sizes.{fix_count}
 use Rattle.tv_pre.proofs.CountedFormulas.{along_counted}
-use Rattle.tv_pre.proofs.KnownFormulas.{along_known}
+use Rattle.tv_pre.specs.KnownStates.{IsKnownFor}
+use Rattle.tv_pre.proofs.KnownAlongLemmas.{none_told}
+use Rattle.tv_pre.proofs.KnownFormulas.{along_known, weak_known}
 use Rattle.tv_pre.proofs.finding.along_found.Goals as goal
 
 pub returns-in_err-part-clause-refused : goal.returns-in_err-part-clause-refused
@@ -72,4 +74,17 @@ returns-clause-known c inner within s t h g one two =
       states = along_known about last c.args.search.now.alone c.variables-variables.ensures.limits.cases inner c.args.path c.args.shape s t (steps_back last s + steps_back last t)
           c.args.first.part.region c.args.second.part.region c.in_ok-part.field-0.part.region within
           (sides_built about last c.args.path c.args.shape s t c.args.first c.args.second h g) one.states two.states (λ w k built tame. c.in_ok-part.ensures.known w k built tame);
+    }
+
+pub returns-clause-settled : goal.returns-clause-settled
+returns-clause-settled c other may settled s t one two =
+    let about = system_of c.args.search.now in
+    let last = c.args.search.now.last in
+    let alone = c.args.search.now.alone in
+    let none : c.in_ok-part.field-0.gap ≡ None = none_told c.in_ok-part.field-0.gap c.is_none-settled.result c.is_none-settled.ensures settled in
+    let region = c.in_ok-part.field-0.part.region in
+    record {
+      states = subst (λ b. IsKnownFor about last b (statements.along c.args.path c.args.shape s t) region) (sym other)
+          (weak_known about last alone c.variables-variables.ensures.limits.cases c.args.path c.args.shape s t c.args.first.part.region c.args.second.part.region region may one.states two.states
+          (λ u p h. c.in_ok-part.ensures.holding may none u p h));
     }
