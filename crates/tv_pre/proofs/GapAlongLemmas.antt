@@ -1,6 +1,6 @@
 -- What gaps say of formulas on the next states and of fixed points.
-use Rattle.std.proofs.Common.{◌≡◌, inl, inr, ℕ, suc, ◌+◌, [], ◌∷◌, ◌++◌, length, refl, sym, ap, ◌∙◌, subst, arith, slice_get}
-use Rattle.std.specs.Prelude.{All, Option, None, Some, IfSome, true}
+use Rattle.std.proofs.Common.{◌≡◌, inl, inr, ℕ, suc, ◌+◌, [], ◌∷◌, ◌++◌, length, refl, sym, ap, ◌∙◌, subst, arith, slice_get, Bool, true, false, not}
+use Rattle.std.specs.Prelude.{All, Option, None, Some, IfSome, is_some}
 use Rattle.tv_formula.specs.declared.tree.Path.{Path}
 use Rattle.tv_formula.specs.declared.tree.Path.TheVariants.{Every, Any}
 use Rattle.tv_formula.specs.declared.tree.Shape.{Shape}
@@ -89,6 +89,15 @@ module _ (about : CaseSystem) (last : ℕ) where
           denied = λ goes. denied_open about cases path shape k.0 k.1 first.part.region second.part.region first_exact second_exact last o.1 h.over g.over one_full two_full goes;
           unserved = unserved_of path k.0 k.1 first_exact second_exact (u place e);
         }))
+
+    -- where there is one, and going back is exact, the last round has other states than the next one
+    pub own_open : (own : Option Gap) (b : Bool) → is_some own ≡ not b → b ≡ false →
+        (own ≡ Some Inexact → (u : Statement) (k : ℕ) → AreBuilt about u k (first.part.region ∷ second.part.region ∷ []) → IsTameStatement about u → ⊥) →
+        ((place : ℕ) → own ≡ Some (Open place) → (place ≡ 0) × Differ about (round last) (round (suc last))) → IsTameStatement about (along path shape s t) → Differ about (round last) (round (suc last))
+    own_open None true e out wild differs tame = absurd cc
+    own_open None false e out wild differs tame = absurd cc
+    own_open (Some Inexact) b e out wild differs tame = absurd (wild refl (along path shape s t) (steps_back last s + steps_back last t) (sides_built about last path shape s t first second h g) tame)
+    own_open (Some (Open place)) b e out wild differs tame = (differs place refl).1
 
     pub along_gap : (own : Option Gap) →
         (own ≡ Some Inexact → (u : Statement) (k : ℕ) → AreBuilt about u k (first.part.region ∷ second.part.region ∷ []) → IsTameStatement about u → ⊥) →

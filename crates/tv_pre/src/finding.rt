@@ -1,22 +1,23 @@
 // The region and the node of each subformula, from those of its arguments.
 
-ghost use Rattle.std.specs.Prelude.{◌≡◌, ◌≤◌, ◌+◌, ◌++◌, ◌∷◌, ℕ, None, List, [], map, Bool, true, false, IfOk, IfSome};
+ghost use Rattle.std.specs.Prelude.{◌≡◌, ◌≤◌, ◌+◌, ◌++◌, ◌∷◌, ℕ, suc, None, List, [], map, Bool, true, false, IfOk, IfSome};
 ghost use Rattle.std.specs.List.{AllZip};
 ghost use Rattle.std.specs.Result.{IfErr};
 ghost use Rattle.tv_formula.specs.Properties.{Property};
 ghost use Rattle.tv_cases.specs.LinearCases.{CaseSystem};
 ghost use Rattle.tv_cases.specs.Systems.{cases_of};
 ghost use Rattle.tv_known.specs.Cycles.{IsLastRound};
-ghost use Rattle.tv_known.specs.Rounds.{must_end};
+ghost use Rattle.tv_known.specs.Rounds.{must_end, FixRound};
 ghost use Rattle.tv_cert.specs.AimViews.{aim_states, aims_state, statements_of};
 ghost use Rattle.tv_cert.specs.Statements.{Statement};
 ghost use Rattle.tv_cert.specs.Statements as statements;
 ghost use Rattle.tv_region.specs.Regions.{IsRegion};
-ghost use Rattle.tv_region.specs.StepRegions.{IsTame};
+ghost use Rattle.tv_region.specs.StepRegions.{InState, IsTame};
+ghost use Rattle.tv_rounds.specs.Answers.{Differ};
 ghost use Rattle.tv_pre.specs.declared.fault.PreFault.TheVariants.{Memory};
 ghost use Rattle.tv_pre.specs.Atoms.{IsEvenTest};
 ghost use Rattle.tv_pre.specs.Built.{IsBuilt};
-ghost use Rattle.tv_pre.specs.Finding.{States, IsEvenStatement, AreEvenStatements, steps_back, size, first_of, gap_behind, IsGapOf, IsGapFor, IsWildStep, IsPartFor, IsFullFor, IsExactFor, HasNoGapIfPlain, IsFound, test_statement, IsRefusedFor};
+ghost use Rattle.tv_pre.specs.Finding.{States, IsEvenStatement, AreEvenStatements, steps_back, size, first_of, gap_behind, IsGapOf, IsGapFor, IsWildStep, IsPartFor, IsFullFor, IsExactFor, HasNoGapIfPlain, IsTameStatement, IsFound, test_statement, IsRefusedFor};
 ghost use Rattle.tv_pre.specs.Sized.{IsFewFor};
 ghost use Rattle.tv_pre.specs.Counted.{IsCountedFor, AreCountedFor};
 ghost use Rattle.tv_pre.specs.Search.{system_of, IsSearch};
@@ -247,6 +248,11 @@ fn along_found(
         IfOk result (λ along. search.now.alone ≡ false → must_end shape ≡ false → along.settled ≡ true → (s t : Statement) →
         HasKnownStates about search.now.last search.now.alone s first → HasKnownStates about search.now.last search.now.alone t second →
         HasKnownStates about search.now.last search.now.alone (statements.along path shape s t) along.found) }
+    ensures unsettled { let about = system_of search.now in
+        let round = FixRound about path shape (InState first.part.region) (InState second.part.region) in
+        IfOk result (λ along. along.settled ≡ false → (s t : Statement) → IsFound about search.now.last s first →
+        IsFound about search.now.last t second → IsTameStatement about (statements.along path shape s t) →
+        Differ about (round search.now.last) (round (suc search.now.last))) }
     ensures refused { let about = system_of search.now in
         IfErr result (λ fault. (s t : Statement) → IsFound about search.now.last s first → IsFound about search.now.last t second →
         IsRefusedFor about search.now.setting.now.budget.now search.now.last (statements.along path shape s t) fault) }
@@ -276,9 +282,9 @@ fn along_found(
         first: &one,
         second: &other,
     };
-    let Along { part, gap: own } = part_along(search, &sides, children)?;
-    let settled = own.is_none();
-    let gap = first_gap(first_gap(left, right), own);
+    let Along { part, gap } = part_along(search, &sides, children)?;
+    let settled = gap.is_none();
+    let gap = first_gap(first_gap(left, right), gap);
     let found = Found { part, gap, size };
     Ok(FoundAlong { found, settled })
 }

@@ -7,7 +7,7 @@ use Rattle.tv_pre.specs.Parts.{AreParts}
 use Rattle.tv_pre.specs.Search.{system_of}
 use Rattle.tv_pre.specs.Finding.{first_of, gap_behind, steps_back, IsGapFor, IsFound, IsRefusedFor}
 use Rattle.tv_pre.specs.declared.gap.Gap.TheVariants.{Inexact, Open}
-use Rattle.tv_pre.proofs.GapAlongLemmas.{along_gap, said_of}
+use Rattle.tv_pre.proofs.GapAlongLemmas.{along_gap, own_open, said_of}
 use Rattle.tv_pre.proofs.PassedLemmas.{passed_on}
 use Rattle.tv_pre.proofs.FoundLemmas.{along_is_found, along_fault, none_of_two, none_behind, sides_built}
 use Rattle.tv_pre.specs.Counted.{IsWithin, IsCountedFor}
@@ -88,3 +88,10 @@ returns-clause-settled c other may settled s t one two =
           (weak_known about last alone c.variables-variables.ensures.limits.cases c.args.path c.args.shape s t c.args.first.part.region c.args.second.part.region region may one.states two.states
           (λ u p h. c.in_ok-part.ensures.holding may none u p h));
     }
+
+pub returns-clause-unsettled : goal.returns-clause-unsettled
+returns-clause-unsettled c other s t h g tame =
+    let own = c.in_ok-part.field-0.gap in
+    let told = c.in_ok-part.ensures.gap in
+    own_open (system_of c.args.search.now) c.args.search.now.last c.variables-variables.ensures.limits.cases c.args.path c.args.shape s t c.args.first c.args.second h g own c.is_none-settled.result c.is_none-settled.ensures other
+    (λ x. said_of _ own Inexact x told) (λ place x. said_of _ own (Open place) x told) tame
