@@ -32,7 +32,6 @@ pub use failure::Failure;
 pub use kind::LineKind;
 pub use laws::{one_first_line_at_fault, right_lines_are_faultless, right_or_at_fault};
 pub use lines::take;
-pub use nodes::kind_of;
 pub use number_line::NumberLine;
 pub use read::read_certificate;
 pub use rows::{numbers, row_of, rows as read_rows};

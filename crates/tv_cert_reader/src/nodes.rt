@@ -7,7 +7,7 @@ use tv_cert::Aim;
 use tv_lines::NodeKind;
 
 /// The kind of a node that is to show this.
-pub fn kind_of(aim: &Aim) -> NodeKind
+pub(crate) fn kind_of(aim: &Aim) -> NodeKind
     ensures kind { result ≡ kind_of (aim_states aim.now) }
     ensures said { IsSaid (aim_states aim.now) }
 {

@@ -36,7 +36,7 @@ fn copy_tree(alloc: Global, tree: &ChoiceTree) -> Result<ChoiceTree, AllocError>
 }
 
 /// A copy of the choice.
-pub fn copy_choice(alloc: Global, choice: &Choice) -> Result<Choice, AllocError>
+pub(crate) fn copy_choice(alloc: Global, choice: &Choice) -> Result<Choice, AllocError>
     ensures { IfOk result (SameChoice choice.now) }
 {
     match Choice::new(copy_tree(alloc, choice.tree())?) {

@@ -9,7 +9,6 @@ mod pieces;
 mod regions;
 mod rows;
 
-pub use choices::copy_choice;
 pub use covers::copy_cover;
 pub use nodes::{copy_node, copy_proof};
 pub use regions::copy_region;

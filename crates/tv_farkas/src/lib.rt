@@ -20,7 +20,7 @@ pub use budget::Budget;
 pub use fault::{CoverFault, unmade};
 pub use judged::Judged;
 pub use judging::{judge, unsolved};
-pub use points::{divided, first_fraction, floor_of};
+pub use points::{divided, first_fraction};
 pub use refuted::Refuted;
 pub use refuting::refute;
 pub use rows::{Distinct, are_same, at_least, at_most, is_among, is_same, take_once};

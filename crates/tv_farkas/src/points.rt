@@ -8,7 +8,7 @@ use std::alloc::{AllocError, Global};
 use tv_linear::push_item;
 
 /// The whole number at or just below a number over a scale.
-pub fn floor_of(number: i128, scale: i128) -> i128
+pub(crate) fn floor_of(number: i128, scale: i128) -> i128
     requires number { IsShort number }
     requires scale { IsShort scale }
     requires positive { pos 0 <ℤ scale }

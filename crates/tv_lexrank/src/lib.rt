@@ -27,7 +27,7 @@ mod sorting;
 mod step;
 
 pub use certificate::{known_certificate, proved_certificate, ranked_certificate, start_cover};
-pub use closed::{closing, whole_cover};
+pub use closed::closing;
 pub use falling::{Fall, append_spread};
 pub use fault::RankFault;
 pub use known::{are_known, known_at};

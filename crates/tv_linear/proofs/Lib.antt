@@ -16,3 +16,4 @@ pub mod Copied
 pub mod SameLemmas
 pub mod PaddedLemmas
 pub mod ListLaws
+pub mod HeldLemmas

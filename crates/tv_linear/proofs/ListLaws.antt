@@ -12,6 +12,15 @@ use Rattle.std.proofs.lemmas.Int.{ints}
 pub last_or_below : (n j : ℕ) → j < n + 1 → (j ≡ n) ⊎ (j < n)
 last_or_below n j h = grind arith
 
+pub same_or_below : (n j : ℕ) → j < suc n → (j ≡ n) ⊎ (j < n)
+same_or_below n j h = grind arith
+
+pub below_or_not : (p q : ℕ) → (p < q) ⊎ (q ≤ p)
+below_or_not p q = grind arith
+
+pub in_order : (p q : ℕ) → (p < q) ⊎ ((p ≡ q) ⊎ (q < p))
+in_order p q = grind arith
+
 pub drop_past : {A : Type 0} (xs : List A) (i : ℕ) → length xs ≤ i → drop i xs ≡ []
 drop_past [] zero h = refl
 drop_past [] (suc i) h = refl
@@ -48,6 +57,12 @@ zip_push R [] [] x y h r = (r, tt)
 zip_push R [] (b ∷ ys) x y h r = absurd h
 zip_push R (a ∷ xs) [] x y h r = absurd h
 zip_push R (a ∷ xs) (b ∷ ys) x y h r = (h.0, zip_push R xs ys x y h.1 r)
+
+pub zip_both : {A B : Type 0} (R : A → B → Type 0) (xs us : List A) (ys vs : List B) → AllZip R xs ys → AllZip R us vs → AllZip R (xs ++ us) (ys ++ vs)
+zip_both R [] us [] vs h g = g
+zip_both R [] us (y ∷ ys) vs h g = absurd h
+zip_both R (x ∷ xs) us [] vs h g = absurd h
+zip_both R (x ∷ xs) us (y ∷ ys) vs h g = (h.0, zip_both R xs us ys vs h.1 g)
 
 pub all_back : {A : Type 0} (P : A → Type 0) (xs ys : List A) → All P (xs ++ ys) → All P ys
 all_back P [] ys h = h
@@ -96,3 +111,8 @@ pub take_more : {A : Type 0} (xs : List A) (k : ℕ) (x : A) → slice_get xs k 
 take_more [] k x h = absurd cc
 take_more (y ∷ ys) zero x h = (let e : y ≡ x = cc in ap (λ z. z ∷ []) e)
 take_more (y ∷ ys) (suc k) x h = ap (λ n. take n (y ∷ ys)) (let e : suc k + 1 ≡ suc (k + 1) = omega arith in e) ∙ ap (λ zs. y ∷ zs) (take_more ys k x h)
+
+pub get_or-past : {A : Type 0} (xs : List A) (i : ℕ) (d : A) → length xs ≤ i → get_or xs i d ≡ d
+get_or-past [] i d h = refl
+get_or-past (x ∷ xs) zero d h = absurd (omega arith)
+get_or-past (x ∷ xs) (suc i) d h = get_or-past xs i d (omega arith)

@@ -5,12 +5,11 @@ ghost use Rattle.tv_formula.specs.Formulas.{property_of};
 ghost use Rattle.tv_cases.specs.Systems.{cases_of};
 ghost use Rattle.tv_cert.specs.Claims.{about_with, claim_variables};
 ghost use Rattle.tv_cert.specs.Nodes.{pieces_of};
-ghost use Rattle.tv_points.specs.States.{ComesBack, ComesTo, StartsAt};
+ghost use Rattle.tv_points.specs.States.{ComesTo, StartsAt};
 ghost use Rattle.tv_points.specs.Lines.{IsLineFault};
 ghost use Rattle.tv_points.specs.RunLines.{run_lines};
-ghost use Rattle.tv_points.specs.Nodes.{endless, reaches, IsInside, IsDisproof, DisprovesFirst};
+ghost use Rattle.tv_points.specs.Nodes.{reaches, IsInside, IsDisproof, DisprovesFirst};
 
-use crate::endless::endless_node;
 use crate::fault::PointFault;
 use crate::reaching::reaching_node;
 use crate::state::State;
@@ -43,32 +42,6 @@ pub fn disproved_certificate(
         Err(ShapeFault::Shape { .. }) => unreachable!(),
         Err(ShapeFault::Deep { .. }) => unreachable!(),
     }
-}
-
-/// The certificate that a run which never ends begins at the first of the states: each of them has a step to one of them.
-///
-/// `Wide` comes as for `endless_node`.
-pub fn endless_certificate(
-    alloc: Global,
-    about: &Cases,
-    claim: &Claim,
-    states: &[State],
-    steps: &[Step],
-) -> Result<Certificate, PointFault>
-    requires variables { claim_variables claim.now ≡ (cases_of about.now).variables }
-    requires denied { property_of claim.now.denied ≡ endless }
-    requires run { ComesBack (cases_of about.now) states.now steps.now }
-    requires starts { StartsAt (cases_of about.now) states.now }
-    ensures { let cases = cases_of about.now in
-        MatchResult result (DisprovesFirst cases endless states.now) (IsLineFault (run_lines cases false states.now 0 steps.now)) }
-{
-    let node = match endless_node(alloc, about, states, steps) {
-        Err(fault) => return Err(fault),
-        Ok(node) => node,
-    };
-    let values = widened(alloc, &states[0].values)?;
-    let certificate = disproved_certificate(alloc, about, claim, node, 0, values)?;
-    Ok(certificate)
 }
 
 /// The certificate that a run from the first of the states comes to the location, where the last of them is.

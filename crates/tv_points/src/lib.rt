@@ -21,11 +21,9 @@ mod steps;
 mod taking;
 
 pub use bare::{bare_proof, whole, whole_node};
-pub use certificate::{disproved_certificate, endless_certificate, reaching_certificate};
+pub use certificate::{disproved_certificate, reaching_certificate};
 pub use endless::endless_node;
 pub use fault::PointFault;
-pub use reaching::reaching_node;
-pub use rows::point_rows;
 pub use state::State;
 pub use step::Step;
 pub use taking::case_at;

@@ -40,7 +40,7 @@ fn end_nodes(
 ///
 /// `Wide` names the first column of the first line that has a number of 2^127 or more in magnitude; the lines stand in the order of the
 /// states.
-pub fn reaching_node(
+pub(crate) fn reaching_node(
     alloc: Global,
     about: &Cases,
     states: &[State],

@@ -23,5 +23,4 @@ pub use certificate::Certificate;
 pub use fault::ShapeFault;
 pub use laws::{faulty_is_unfit, one_first_fault, right_nodes_fit};
 pub use made::node_of;
-pub use narrow::narrow_pieces;
 pub use nodes::{argument_count, may_be_done, may_rank};

@@ -46,7 +46,7 @@ fn narrow_piece(piece: &Marked)
 }
 
 /// So are those of these pieces.
-pub fn narrow_pieces(pieces: &[Marked])
+pub(crate) fn narrow_pieces(pieces: &[Marked])
     ensures { All PieceNarrow pieces.now }
 {
     for piece in pieces {
