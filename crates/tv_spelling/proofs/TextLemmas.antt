@@ -1,20 +1,16 @@
 -- What is left of a list of parts, and its text.
-use Rattle.std.proofs.Common.{◌≡◌, ℕ, ◌+◌, ◌<◌, List, ◌++◌, length, drop, get_or, sym, ap, ◌∙◌, append_assoc, add-one, drop-cons}
+use Rattle.std.proofs.Common.{◌≡◌, ℕ, ◌+◌, ◌<◌, List, ◌++◌, length, drop, get_or, sym, ap, ◌∙◌, append_assoc}
 use Rattle.std.specs.Prelude.{codes}
 use Rattle.tv_program.specs.declared.tree.Expr.{Expr}
 use Rattle.tv_program.specs.Words.{Word}
 use Rattle.tv_program.specs.Trees.{Expression, minus, Expressions, part}
 use Rattle.tv_program.specs.Views.{expression, expressions}
+use Rattle.tv_program.proofs.PartLemmas.{expressions-next}
 use Rattle.tv_spelling.specs.Sums.{as_part, expression_text, further_parts_text, further_part_text}
 
 further_is : (ws : List Word) (e : Expression) (es : Expressions) → further_parts_text ws (part e es) ≡ further_part_text ws e ++ further_parts_text ws es
 further_is ws (minus e) es = sym (append_assoc (codes " - ") (as_part e (expression_text ws e)) (further_parts_text ws es))
 further_is ws e es = sym (append_assoc (codes " + ") (as_part e (expression_text ws e)) (further_parts_text ws es))
-
-expressions-next : (es : List Expr) (i : ℕ) (item : Expr) → i < length es → item ≡ get_or es i item → expressions (drop i es) ≡ part (expression item) (expressions (drop (i + 1) es))
-expressions-next es i item h is =
-    ap expressions (drop-cons es i item h) ∙ ap (λ (k : ℕ). part (expression (get_or es i item)) (expressions (drop k es))) (sym (add-one i))
-    ∙ ap (λ (e : Expr). part (expression e) (expressions (drop (i + 1) es))) (sym is)
 
 -- one more part is written
 pub part_written : (ws : List Word) (es : List Expr) (i : ℕ) (item : Expr) (old new : List ℕ) → i < length es → item ≡ get_or es i item → new ≡ old ++ further_part_text ws (expression item)
