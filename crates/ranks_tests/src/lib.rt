@@ -6,6 +6,8 @@ mod attempts;
 #[cfg(test)]
 mod certificates;
 #[cfg(test)]
+mod families;
+#[cfg(test)]
 mod known;
 #[cfg(test)]
 mod programs;

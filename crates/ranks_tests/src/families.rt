@@ -1,0 +1,99 @@
+//! One ranking function for the first case of a program without guards.
+
+ghost use Rattle.std.specs.Prelude.{◌≡◌, ◌<◌, ◌∷◌, [], length, true, IfOk};
+ghost use Rattle.tv_cases.specs.Systems.{cases_of};
+ghost use Rattle.tv_linear.specs.declared.region.Region.{Region};
+ghost use Rattle.tv_rank.specs.Sets.{PointsOf};
+
+use crate::programs::{IDLE, about_of};
+use std::alloc::{AllocError, Global};
+use std::test::Fail;
+use tv_cases::Cases;
+use tv_linear::{Piece, Poly, Region};
+use tv_rank::{Found, weak_rank};
+use tv_simplex::SolveFault;
+
+const STEP: &str = "START: 0; FROM: 0; TO: 1;";
+
+/// All states: a piece without rows at each location.
+fn all_states(alloc: Global, about: &Cases) -> Result<Region, AllocError> {
+    let mut pieces = Vec::new(alloc);
+    for location in 0..about.locations() {
+        let poly = Poly {
+            columns: about.variables(),
+            rows: Vec::new(alloc),
+        };
+        pieces.push(Piece { location, poly })?;
+    }
+    Ok(Region {
+        variables: about.variables(),
+        locations: about.locations(),
+        pieces,
+    })
+}
+
+/// Whether there is a piece for each location, and the first case has no guards, nor the piece where it starts a row. So any point meets
+/// them.
+fn is_free(about: &Cases, known: &Region) -> bool
+    ensures some { result ≡ true → 0 < length (cases_of about.now).cases }
+    ensures pieces { result ≡ true → length known.now.pieces.items ≡ (cases_of about.now).locations }
+    ensures points { result ≡ true → PointsOf (cases_of about.now) known.now.pieces.items (0 ∷ []) }
+{
+    let list = about.list();
+    if list.is_empty() || known.pieces.len() != about.locations() as usize {
+        return false;
+    }
+    let case = &list[0];
+    let start = case.from as usize;
+    start < known.pieces.len()
+        && case.guards.rows.is_empty()
+        && known.pieces[start].poly.rows.is_empty()
+}
+
+/// What ranks the first case of the program in the text alone.
+fn rank_of(alloc: Global, text: &str, pivots: u64) -> Result<Result<Found, SolveFault>, Fail> {
+    let about = about_of(alloc, text)?;
+    let known = all_states(alloc, &about)?;
+    if !is_free(&about, &known) {
+        return Err(Fail::from("guards"));
+    }
+    Ok(weak_rank(alloc, &about, &[0], 0, &known, pivots))
+}
+
+fn is_family(found: &Result<Found, SolveFault>, terms: usize, lists: usize) -> bool {
+    match found {
+        Ok(
+            Found::Family {
+                terms: found,
+                multipliers,
+            },
+        ) => found.len() == terms && multipliers.len() == lists,
+        _ => false,
+    }
+}
+
+// A term at both ends of the step, and multipliers for the step and for its fall.
+#[test]
+fn a_step_is_ranked(rt: HostRuntime) -> Result<(), Fail> {
+    let found = rank_of(rt.alloc(), STEP, 1000)?;
+    assert!(rt; is_family(&found, 2, 2));
+    Ok(())
+}
+
+#[test]
+fn a_loop_without_guards_is_not_ranked(rt: HostRuntime) -> Result<(), Fail> {
+    match rank_of(rt.alloc(), IDLE, 1000)? {
+        Ok(Found::None { barrier }) => assert!(rt; !barrier.is_empty()),
+        _ => assert!(rt; false),
+    }
+    Ok(())
+}
+
+#[test]
+fn a_ranking_without_bases_is_refused(rt: HostRuntime) -> Result<(), Fail> {
+    match rank_of(rt.alloc(), STEP, 0)? {
+        Err(SolveFault::Pivots { bases }) => assert!(rt; bases == 0),
+        _ => assert!(rt; false),
+    }
+    Ok(())
+}
