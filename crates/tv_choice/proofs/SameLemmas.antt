@@ -13,8 +13,8 @@ use Rattle.tv_farkas.specs.Stretching.{AreSides}
 use Rattle.tv_farkas.proofs.SideLemmas.{get_or-neg}
 use Rattle.tv_choice.specs.Same.{AreKnown}
 use Rattle.tv_choice.specs.Looking.{AreShown}
-use Rattle.tv_cases.proofs.BeforeLemmas.{narrow_held}
 use Rattle.std.proofs.lemmas.Bool.{cases_lt}
+use Rattle.tv_linear.proofs.HeldLemmas.{narrow_held}
 
 -- ---- denials
 

@@ -18,8 +18,8 @@ use Rattle.tv_farkas.specs.Halving.{Keeps, ArePointSides}
 use Rattle.tv_cover.specs.Halving.{IsBare, AreRowSides}
 use Rattle.tv_cover.specs.Stepping.{AreHalves}
 use Rattle.tv_cover.proofs.PointLemmas.{point_above, point_front, open_above, shut_above, denied_new, met_new}
-use Rattle.tv_farkas.proofs.SystemLemmas.{get_or-past}
 use Rattle.std.proofs.Math.IntN.{neg_ℤ-neg_ℤ}
+use Rattle.tv_linear.proofs.ListLaws.{get_or-past}
 
 pub length-neg : (xs : List ℤ) → length (map neg_ℤ xs) ≡ length xs
 length-neg [] = refl

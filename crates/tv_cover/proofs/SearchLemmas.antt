@@ -13,7 +13,7 @@ use Rattle.tv_linear.specs.Depth.{splits}
 use Rattle.tv_linear.specs.Fits.{IsHeld}
 use Rattle.tv_linear.specs.Linear.{Linear, columns, IsMet, scaled_value}
 use Rattle.tv_linear.specs.Known.{Known, given, denied, as_given, KnownHeld, IsKnownMet}
-use Rattle.tv_linear.proofs.ListLaws.{all_front}
+use Rattle.tv_linear.proofs.ListLaws.{all_front, get_or-past}
 use Rattle.tv_farkas.specs.declared.branch.Branch.{Branch}
 use Rattle.tv_farkas.specs.declared.fault.CoverFault.{CoverFault}
 use Rattle.tv_farkas.specs.declared.fault.CoverFault.TheVariants as faults
@@ -40,7 +40,6 @@ use Rattle.tv_cover.proofs.PointLemmas.{all_kept, point_above, point_kept, point
 use Rattle.tv_cover.proofs.LookLemmas.{showing_short}
 use Rattle.tv_cover.proofs.HalfLemmas.{narrow_inner}
 use Rattle.std.proofs.lemmas.List.{append-nil}
-use Rattle.tv_farkas.proofs.SystemLemmas.{get_or-past}
 use Rattle.std.proofs.lemmas.Option.{same_Some}
 
 -- ---- a target that is entered

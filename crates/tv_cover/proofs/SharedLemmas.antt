@@ -8,7 +8,7 @@ use Rattle.tv_linear.specs.Known.{number, known_number, as_given, KnownHeld}
 use Rattle.tv_linear.specs.Refutation.{RowsHeld, column_sum, Refutes}
 use Rattle.tv_linear.proofs.PlainLists.{length-unit, unit-narrow}
 use Rattle.tv_simplex.proofs.Ring.{zero_times}
-use Rattle.tv_farkas.proofs.SystemLemmas.{at_of, get_or-past}
+use Rattle.tv_farkas.proofs.SystemLemmas.{at_of}
 use Rattle.tv_farkas.proofs.StretchLemmas.{stretched_short}
 use Rattle.tv_farkas.specs.Refuting.{AreShort}
 use Rattle.tv_farkas.proofs.SideLemmas.{get_or-neg}
@@ -17,6 +17,7 @@ use Rattle.tv_cover.specs.Targets.{IsNarrowRow}
 use Rattle.tv_cover.specs.Looking.{IsShowing}
 use Rattle.tv_cover.proofs.HalfLemmas.{narrow_inner}
 use Rattle.std.proofs.lemmas.List.{length-map}
+use Rattle.tv_linear.proofs.ListLaws.{get_or-past}
 
 -- ---- the sums
 zeros_sum : (column : Option ℕ) (kept : List Linear) (last : Linear) → column_sum (zeros (length kept) ++ pos 1 ∷ []) (as_given (kept ++ last ∷ [])) column ≡ number column last

@@ -1,4 +1,4 @@
-use Rattle.std.proofs.Common.{take, ◌≡◌, ℕ, zero, suc, ◌+◌, ◌<◌, ◌≤◌, List, [], ◌∷◌, ◌++◌, length, length-append, map, get_or, All, arith, refl, sym, ap, ◌∙◌, ℤ, pos, neg_ℤ, ◌*ℤ◌, ◌<ℤ◌, ◌≤ℤ◌}
+use Rattle.std.proofs.Common.{take, ◌≡◌, ℕ, zero, suc, ◌+◌, ◌<◌, List, [], ◌∷◌, ◌++◌, length, length-append, map, get_or, All, arith, refl, sym, ap, ◌∙◌, ℤ, pos, neg_ℤ, ◌*ℤ◌, ◌<ℤ◌, ◌≤ℤ◌}
 use Rattle.std.proofs.lemmas.Int.{ints}
 use Rattle.std.proofs.Math.IntN.{*ℤ_comm, neg_ℤ-neg_ℤ}
 use Rattle.tv_linear.specs.Linear.{Linear, columns, entry, scaled_value, IsScaledPoint}
@@ -8,9 +8,12 @@ use Rattle.tv_simplex.specs.Sums.{total}
 use Rattle.tv_simplex.specs.Systems.{entry_at, right_at}
 use Rattle.tv_simplex.specs.Outcomes.{IsBarrierOf}
 use Rattle.tv_farkas.specs.RefutationSystem.{refutation_system}
-use Rattle.tv_farkas.proofs.SystemLemmas.{row_at, get_or-any, at_of, entry_is, right_inner, right_last, total-last, dot-total}
+use Rattle.tv_farkas.proofs.SystemLemmas.{row_at, get_or-any, at_of, entry_is, right_inner, right_last, dot-total}
 use Rattle.std.proofs.lemmas.List.{get_or-map}
 use Rattle.std.proofs.lemmas.List.Elements.{All-from_get_or}
+use Rattle.tv_simplex.proofs.Sums.{total-last, total-zero}
+use Rattle.tv_linear.proofs.ListLaws.{get_or-past}
+use Rattle.tv_simplex.proofs.Ring.{times_zero}
 
 opposite_at : (xs : List ℤ) (k : ℕ) → k < length xs → get_or (map neg_ℤ xs) k (pos 0) ≡ neg_ℤ (get_or xs k (pos 0))
 opposite_at xs k l = get_or-map neg_ℤ xs k (pos 0) (pos 0) l
@@ -40,11 +43,6 @@ module _ (n : ℕ) (rows : List Linear) (even : All (λ r. columns r ≡ n) rows
       let s = total-last n (λ k. y k *ℤ entry_at (refutation_system n rows) k i) in
       omega (arith, ints, inner, d, e, s)
     where
-      get_or-past : (xs : List ℤ) (j : ℕ) (d : ℤ) → length xs ≤ j → get_or xs j d ≡ d
-      get_or-past [] j d g = refl
-      get_or-past (x ∷ xs) zero d g = absurd (omega arith)
-      get_or-past (x ∷ xs) (suc j) d g = get_or-past xs j d (omega arith)
-
       constant_is : (r : Linear) → columns r ≡ n → entry r n ≡ r.constant
       constant_is r e = get_or-past r.coefficients n r.constant (omega (arith, e))
 
@@ -57,18 +55,11 @@ module _ (n : ℕ) (rows : List Linear) (even : All (λ r. columns r ≡ n) rows
   scale_above : pos 0 <ℤ scale
   scale_above =
       let y = λ (k : ℕ). get_or (map neg_ℤ (values ++ scale ∷ [])) k (pos 0) in
-      let zero_sum = total-zero_right n (λ k. y k *ℤ right_at (refutation_system n rows) k) (λ k g. ap (λ z. y k *ℤ z) (right_inner n rows k g) ∙ times_zero_right (y k)) in
+      let zero_sum = total-zero n (λ k. y k *ℤ right_at (refutation_system n rows) k) (λ k g. ap (λ z. y k *ℤ z) (right_inner n rows k g) ∙ times_zero (y k) (pos 0) refl) in
       let e : y n *ℤ right_at (refutation_system n rows) n ≡ neg_ℤ scale = (λ q. last_is values scale n size q *ℤ right_last n rows q) ∙ omega (arith, ints) in
       let s = total-last n (λ k. y k *ℤ right_at (refutation_system n rows) k) in
       let b = h.below in
       omega (arith, ints, zero_sum, e, s, b)
-    where
-      times_zero_right : (z : ℤ) → z *ℤ pos 0 ≡ pos 0
-      times_zero_right z = omega (arith, ints)
-
-      total-zero_right : (m : ℕ) (f : ℕ → ℤ) → ((k : ℕ) → k < m → f k ≡ pos 0) → total m f ≡ pos 0
-      total-zero_right zero f g = refl
-      total-zero_right (suc m) f g = (let a = total-zero_right m f (λ k l. g k (omega arith)) in let b = g m (omega arith) in omega (arith, ints, a, b))
 
   -- the point of a barrier meets the rows
   pub point_meets : IsScaledPoint rows values scale

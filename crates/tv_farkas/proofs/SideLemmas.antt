@@ -15,6 +15,7 @@ use Rattle.tv_farkas.specs.Paths.{at_most_row, at_least_row}
 use Rattle.tv_farkas.specs.Stretching.{IsSide, AreSides}
 use Rattle.tv_farkas.proofs.SystemLemmas.{at_of}
 use Rattle.tv_fraction.proofs.Products.{product_above}
+use Rattle.tv_linear.proofs.HeldLemmas.{opposite_held}
 
 -- ---- the rows of a split
 pub unit_value : (n c : ℕ) (xs : List ℤ) → length xs ≡ n → dot (unit n c) xs ≡ get_or xs c (pos 0)
@@ -66,6 +67,9 @@ small_at [] h j = omega arith
 small_at (x ∷ xs) h zero = All-head (IsWithin 62) x xs h
 small_at (x ∷ xs) h (suc j) = small_at xs (All-tail (IsWithin 62) x xs h) j
 
+pub constant_held : (z : ℤ) → IsShort z → IsHeld (pos 1 -ℤ (pos 0 +ℤ neg_ℤ z))
+constant_held z h = omega (arith, ints, h)
+
 pub high_side : (n c : ℕ) (k : ℤ) → IsShort k → IsSide n (at_least_row n c k) (denied (given (at_most_row n c k)))
 high_side n c k short = record {
   inner = λ j l. sym (get_or-neg (unit n c) j);
@@ -73,12 +77,6 @@ high_side n c k short = record {
   held = held;
 }
   where
-    opposite_held : (z : ℤ) → unsigned_abs z < 2 ^ 62 → IsHeld (neg_ℤ z)
-    opposite_held z h = omega (arith, ints, h)
-
-    constant_held : (z : ℤ) → IsShort z → IsHeld (pos 1 -ℤ (pos 0 +ℤ neg_ℤ z))
-    constant_held z h = omega (arith, ints, h)
-
     held : (column : Option ℕ) → KnownHeld (denied (given (at_most_row n c k))) column
     held None = (tt, constant_held k short)
     held (Some j) = (tt, opposite_held (get_or (unit n c) j (pos 0)) (small_at (unit n c) (unit-narrow n c) j))

@@ -16,6 +16,7 @@ use Rattle.tv_simplex.proofs.SettleLemmas.{given_left}
 use Rattle.tv_farkas.specs.RefutationSystem.{numbers_below, refutation_system}
 use Rattle.std.proofs.lemmas.List.{get_or-map, length-map}
 use Rattle.tv_simplex.proofs.ScaleLemmas.{scaled_up}
+use Rattle.tv_linear.proofs.ListLaws.{get_or-past, same_or_below}
 
 abbrev pub row_at : List Linear → ℕ → Linear
 row_at rows i = get_or rows i (record { coefficients = []; constant = pos 0 })
@@ -25,11 +26,6 @@ pub get_or-any : (xs : List ℤ) (i : ℕ) (d e : ℤ) → i < length xs → get
 get_or-any [] i d e h = absurd (omega arith)
 get_or-any (x ∷ xs) zero d e h = refl
 get_or-any (x ∷ xs) (suc i) d e h = get_or-any xs i d e (omega arith)
-
-pub get_or-past : (xs : List ℤ) (i : ℕ) (d : ℤ) → length xs ≤ i → get_or xs i d ≡ d
-get_or-past [] i d h = refl
-get_or-past (x ∷ xs) zero d h = absurd (omega arith)
-get_or-past (x ∷ xs) (suc i) d h = get_or-past xs i d (omega arith)
 
 pub at_of : {A : Type 0} (P : A → Type 0) (xs : List A) (d : A) → All P xs → (i : ℕ) → i < length xs → P (get_or xs i d)
 at_of P [] d h i l = absurd (omega arith)
@@ -43,7 +39,7 @@ length-numbers (suc m) rows = length-append (numbers_below m rows) (map (λ r. e
 
 pub number_below : (m : ℕ) (rows : List Linear) (k i : ℕ) → k < m → i < length rows → get_or (numbers_below m rows) (k * length rows + i) (pos 0) ≡ entry (row_at rows i) k
 number_below zero rows k i l g = absurd (omega arith)
-number_below (suc m) rows k i l g = elim (last_or_below m k l) [
+number_below (suc m) rows k i l g = elim (same_or_below m k l) [
   | inl e ↦
       get_or-right (numbers_below m rows) (map (λ r. entry r m) rows) (k * length rows + i) i (pos 0) (let h = length-numbers m rows in let f = ap (λ z. z * length rows) e in omega (arith, h, f))
       ∙ get_or-map (λ r. entry r m) rows i (record { coefficients = []; constant = pos 0 }) (pos 0) g
@@ -53,9 +49,6 @@ number_below (suc m) rows k i l g = elim (last_or_below m k l) [
       ∙ number_below m rows k i b g
 ]
   where
-    last_or_below : (n j : ℕ) → j < suc n → (j ≡ n) ⊎ (j < n)
-    last_or_below n j h = grind arith
-
     row_within : (k m q i : ℕ) → k < m → i < q → k * q + i < m * q
     row_within k m q i h p = (let l = scaled_up (k + 1) m q (omega (arith, h)) in omega (arith, l, p))
 
@@ -72,9 +65,6 @@ right_last n rows = get_or-right (zeros n) (pos 1 ∷ []) n 0 (pos 0) (let h = l
 pub total-front : (n : ℕ) (f : ℕ → ℤ) → total (suc n) f ≡ f 0 +ℤ total n (λ k. f (suc k))
 total-front zero f = omega (arith, ints)
 total-front (suc n) f = (let h = total-front n f in omega (arith, ints, h))
-
-pub total-last : (n : ℕ) (f : ℕ → ℤ) → total (n + 1) f ≡ total n f +ℤ f n
-total-last n f = (let e : n + 1 ≡ suc n = omega arith in ap (λ z. total z f) e)
 
 pub dot-total : (cs xs : List ℤ) → length cs ≡ length xs → dot cs xs ≡ total (length cs) (λ k. get_or cs k (pos 0) *ℤ get_or xs k (pos 0))
 dot-total [] xs e = refl

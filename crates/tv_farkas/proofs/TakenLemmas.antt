@@ -1,15 +1,11 @@
-use Rattle.std.proofs.Common.{◌≡◌, ℕ, suc, ◌+◌, ◌<◌, List, [], ◌∷◌, ◌++◌, length, get_or, take, All, Bool, true, false, arith, refl, sym, ap, ◌∙◌, subst}
+use Rattle.std.proofs.Common.{◌≡◌, ℕ, ◌+◌, ◌<◌, List, [], ◌∷◌, ◌++◌, length, get_or, take, All, Bool, true, false, refl, sym, ap, ◌∙◌, subst}
 use Rattle.std.specs.List.{Contains}
-use Rattle.std.proofs.Math.Seq.{take-suc}
-use Rattle.std.proofs.lemmas.List.Elements.{All-nil, All-cons, All-head, All-tail, All-push}
+use Rattle.std.proofs.lemmas.List.Elements.{All-cons, All-head, All-tail, All-push}
 use Rattle.tv_linear.specs.Linear.{Linear, columns}
 use Rattle.tv_farkas.specs.Paths.{TakenOnce, none, first, again}
 use Rattle.tv_farkas.specs.Stretching.{IsTakenBy}
 use Rattle.tv_farkas.proofs.SystemLemmas.{at_of}
-
-pub all_front : {A : Type 0} (P : A → Type 0) (xs : List A) (x : A) → All P (xs ++ x ∷ []) → All P xs
-all_front P [] x h = All-nil P
-all_front P (y ∷ ys) x h = All-cons P y ys (All-head P y (ys ++ x ∷ []) h) (all_front P ys x (All-tail P y (ys ++ x ∷ []) h))
+use Rattle.tv_linear.proofs.ListLaws.{all_front, take_next}
 
 pub all_last : {A : Type 0} (P : A → Type 0) (xs : List A) (x : A) → All P (xs ++ x ∷ []) → P x
 all_last P [] x h = All-head P x [] h
@@ -21,7 +17,7 @@ all_among P xs x c h = subst P c.2 (at_of P xs x h c.0 c.1)
 -- what holds of the kept rows holds of all
 pub all_taken : (P : Linear → Type 0) (rows kept : List Linear) → TakenOnce rows kept → All P kept → All P rows
 all_taken P rows kept none h = h
-all_taken P rows kept (first rs ks r t never) h = All-push P rs r (all_taken P rs ks t (all_front P ks r h)) (all_last P ks r h)
+all_taken P rows kept (first rs ks r t never) h = All-push P rs r (all_taken P rs ks t (all_front P ks (r ∷ []) h)) (all_last P ks r h)
 all_taken P rows kept (again rs ks r t among) h = All-push P rs r (all_taken P rs ks t h) (all_among P ks r among h)
 
 -- the kept rows have as many columns as all
@@ -63,19 +59,16 @@ taken_none marks kept e g = record {
   marked = subst (λ m. IsTakenBy m [] kept) (sym e) g;
 }
 
-one_more_row : (rows : List Linear) (i : ℕ) (r : Linear) → i < length rows → r ≡ get_or rows i r → take (i + 1) rows ≡ take i rows ++ r ∷ []
-one_more_row rows i r l e = (let g : i + 1 ≡ suc i = omega arith in ap (λ k. take k rows) g) ∙ take-suc rows i r l ∙ ap (λ x. take i rows ++ x ∷ []) (sym e)
-
 pub taken_again : (rows : List Linear) (i : ℕ) (r : Linear) (marks new : List Bool) (kept : List Linear) → i < length rows → r ≡ get_or rows i r → new ≡ marks ++ true ∷ [] → Contains kept r → TakenTo (take i rows) marks kept → TakenTo (take (i + 1) rows) new kept
 taken_again rows i r marks new kept l e m among h =
-    subst (λ rs. TakenTo rs new kept) (sym (one_more_row rows i r l e)) (subst (λ b. TakenTo (take i rows ++ r ∷ []) b kept) (sym m) record {
+    subst (λ rs. TakenTo rs new kept) (sym (take_next rows i r l e)) (subst (λ b. TakenTo (take i rows ++ r ∷ []) b kept) (sym m) record {
       taken = again (take i rows) kept r h.taken among;
       marked = marked_again marks (take i rows) kept r h.marked;
     })
 
 pub taken_first : (rows : List Linear) (i : ℕ) (r : Linear) (marks new : List Bool) (kept more : List Linear) → i < length rows → r ≡ get_or rows i r → new ≡ marks ++ false ∷ [] → more ≡ kept ++ r ∷ [] → (Contains kept r → ⊥) → TakenTo (take i rows) marks kept → TakenTo (take (i + 1) rows) new more
 taken_first rows i r marks new kept more l e m k never h =
-    subst (λ rs. TakenTo rs new more) (sym (one_more_row rows i r l e)) (subst (λ b. TakenTo (take i rows ++ r ∷ []) b more) (sym m) (subst (λ q. TakenTo (take i rows ++ r ∷ []) (marks ++ false ∷ []) q) (sym k) record {
+    subst (λ rs. TakenTo rs new more) (sym (take_next rows i r l e)) (subst (λ b. TakenTo (take i rows ++ r ∷ []) b more) (sym m) (subst (λ q. TakenTo (take i rows ++ r ∷ []) (marks ++ false ∷ []) q) (sym k) record {
       taken = first (take i rows) kept r h.taken never;
       marked = marked_first marks (take i rows) kept r h.marked;
     }))

@@ -1,5 +1,5 @@
 -- What a question has: cases between the locations, and its system.
-use Rattle.std.proofs.Common.{◌≡◌, inl, inr, ℕ, ◌*◌, ◌<◌, ◌≤◌, List, length, ℤ, arith, sym, ◌∙◌, subst}
+use Rattle.std.proofs.Common.{◌≡◌, ℕ, ◌*◌, ◌<◌, ◌≤◌, List, length, ℤ, arith, sym, ◌∙◌, subst}
 use Rattle.std.proofs.lemmas.List.{length-map}
 use Rattle.tv_cases.specs.declared.case.Case.{Case}
 use Rattle.tv_cases.specs.Views.{case_view, case_views}
@@ -19,16 +19,13 @@ use Rattle.tv_rank.specs.Rankings.{IsFamily}
 use Rattle.tv_rank.specs.Answers.{IsAnswered}
 use Rattle.tv_rank.proofs.Families.{solution_is_family}
 use Rattle.tv_rank.proofs.Wholes.{between, few_unknowns}
-use Rattle.std.proofs.lemmas.Bool.{cases_lt}
+use Rattle.tv_simplex.proofs.ScaleLemmas.{not_below}
 
 numbered_views : (cases : List Case) (set : List ℕ) → AreNumbered (length cases) set → AreNumbered (length (case_views cases)) set
 numbered_views cases set h = λ k l. let e = length-map cases case_view in let a = h k l in omega (arith, e, a)
 
 pub asked_between : (q : Question) (k : ℕ) → k < many_of q → IsBetween q.locations (ways_of q k).taken
 asked_between q k l = between (case_views q.cases.now) q.known.now q.set.now q.locations (numbered_views q.cases.now q.set.now q.numbered) q.within k l
-
-pub not_above : (p q : ℕ) → (p < q → ⊥) → q ≤ p
-not_above p q h = elim (cases_lt p q) [ inl g ↦ absurd (h g) | inr g ↦ g ]
 
 -- the system that is built is that of the question, of at most so many entries
 pub is_asked : (q : Question) (s : Equations) (us : List Unknown) (ls : List Line) → s ≡ system_over (ways_of q) q.falling us ls → us ≡ unknowns_of q → ls ≡ lines (ways_of q) (many_of q) q.falling q.variables → s ≡ system_asked q

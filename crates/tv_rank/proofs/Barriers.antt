@@ -1,9 +1,9 @@
-use Rattle.std.proofs.Common.{[], ◌≡◌, ℕ, zero, suc, ◌⊎◌, inl, inr, ◌+◌, ◌<◌, Option, None, Some, Bool, true, false, ◌==◌, ◌||◌, if◌then◌else◌, length, get_or, arith, refl, sym, ap, ◌∙◌, ℤ, pos, neg_ℤ, ◌+ℤ◌, ◌-ℤ◌, ◌*ℤ◌, ◌<ℤ◌, ◌≤ℤ◌}
+use Rattle.std.proofs.Common.{[], ◌≡◌, ℕ, zero, suc, inl, inr, ◌+◌, ◌<◌, Option, None, Some, Bool, true, false, ◌==◌, ◌||◌, if◌then◌else◌, length, get_or, arith, refl, sym, ap, ◌∙◌, ℤ, pos, neg_ℤ, ◌+ℤ◌, ◌-ℤ◌, ◌*ℤ◌, ◌<ℤ◌, ◌≤ℤ◌}
 use Rattle.std.proofs.lemmas.Int.{ints}
 use Rattle.tv_linear.proofs.Ring.{neg_times_z}
 use Rattle.tv_linear.specs.Linear.{linear}
 use Rattle.tv_linear.specs.Known.{number}
-use Rattle.tv_linear.proofs.ListLaws.{test_true, test_false}
+use Rattle.tv_linear.proofs.ListLaws.{test_true, test_false, same_or_below}
 use Rattle.tv_simplex.specs.Sums.{total}
 use Rattle.tv_simplex.proofs.Sums.{total-same, total-less, total-times, total-zero, total-swap}
 use Rattle.tv_simplex.proofs.Ring.{times_less, less_times, times_zero}
@@ -14,7 +14,8 @@ use Rattle.tv_rank.specs.declared.unknown.Unknown.TheVariants.{Positive, Negativ
 use Rattle.tv_rank.specs.declared.unknown.Line.{Line}
 use Rattle.tv_rank.specs.Ways.{Way, met_rows, touches}
 use Rattle.tv_rank.specs.RankingSystem.{unit_at, after, entered, left, entry, right_of}
-use Rattle.tv_rank.proofs.Over.{over, Inside, over-same, over-less, over-zero, over-neg, over-total, if_false, picked, unit_times}
+use Rattle.tv_rank.proofs.Over.{over, Inside, over-same, over-less, over-zero, over-neg, over-total, if_false, picked, unit_times, opposite_is}
+use Rattle.std.proofs.lemmas.Bool.{cases_eq, or_parts}
 
 abbrev pub line : Identity → Option ℕ → Line
 line id c = record { identity = id; column = c }
@@ -57,10 +58,7 @@ pub record Balance (v many : ℕ) (ways : ℕ → Way) (falling : ℕ) (p : ℕ 
 
 -- ---- one place that counts
 turned : (a b : ℕ) → (a == b) ≡ (b == a)
-turned a b = elim (one a b) [ inl e ↦ test_true a b e ∙ sym (test_true b a (sym e)) | inr n ↦ test_false a b n ∙ sym (test_false b a (λ e. n (sym e))) ]
-  where
-    one : (a b : ℕ) → (a ≡ b) ⊎ ((a ≡ b) → ⊥)
-    one a b = grind arith
+turned a b = elim (cases_eq a b) [ inl e ↦ test_true a b e ∙ sym (test_true b a (sym e)) | inr n ↦ test_false a b n ∙ sym (test_false b a (λ e. n (sym e))) ]
 
 pub picked_turned : (n t : ℕ) (g : ℕ → ℤ) → t < n → total n (λ l. if l == t then g l else pos 0) ≡ g t
 picked_turned n t g h = total-same n (λ l. if l == t then g l else pos 0) (λ l. if t == l then g l else pos 0) (λ l k. ap (λ b. if b then g l else pos 0) (turned l t)) ∙ picked n t g h
@@ -79,23 +77,12 @@ over_opposite n x p = over-neg n (λ c. neg_ℤ (x c) *ℤ p c) (λ c. x c *ℤ 
 pub over_none : (n : ℕ) (p : Option ℕ → ℤ) → over n (λ c. pos 0 *ℤ p c) ≡ pos 0
 over_none n p = over-zero n (λ c. pos 0 *ℤ p c) (λ c l. omega (arith, ints))
 
-or_false_first : (a b : Bool) → (a || b) ≡ false → a ≡ false
-or_false_first true b e = cc
-or_false_first false b e = refl
-
-or_false_second : (a b : Bool) → (a || b) ≡ false → b ≡ false
-or_false_second true b e = cc
-or_false_second false b e = e
-
 untouched : (ways : ℕ → Way) (many k l : ℕ) → touches ways many l ≡ false → k < many → ((ways k).taken.from == l || (ways k).taken.to == l) ≡ false
 untouched ways zero k l e h = absurd (omega (arith, h))
-untouched ways (suc m) k l e h = elim (last_or_below m k h) [
-  | inl s ↦ ap (λ z. (ways z).taken.from == l || (ways z).taken.to == l) s ∙ or_false_second (touches ways m l) ((ways m).taken.from == l || (ways m).taken.to == l) e
-  | inr b ↦ untouched ways m k l (or_false_first (touches ways m l) ((ways m).taken.from == l || (ways m).taken.to == l) e) b
+untouched ways (suc m) k l e h = elim (same_or_below m k h) [
+  | inl s ↦ ap (λ z. (ways z).taken.from == l || (ways z).taken.to == l) s ∙ (or_parts (touches ways m l) ((ways m).taken.from == l || (ways m).taken.to == l) e).1
+  | inr b ↦ untouched ways m k l (or_parts (touches ways m l) ((ways m).taken.from == l || (ways m).taken.to == l) e).0 b
 ]
-  where
-    last_or_below : (n j : ℕ) → j < suc n → (j ≡ n) ⊎ (j < n)
-    last_or_below n j h = grind arith
 
 module _ (v locations many : ℕ) (ways : ℕ → Way) (falling : ℕ) (falling_in : falling < many) (p : ℕ → Option ℕ → ℤ) (q : Option ℕ → ℤ) where
   -- what the rows of the system, each times its number, add up to
@@ -170,14 +157,11 @@ module _ (v locations many : ℕ) (ways : ℕ → Way) (falling : ℕ) (falling_
 
   pub negative_sum : (l : ℕ) (m : Option ℕ) → column_sum (Negative l m) ≡ neg_ℤ (column_sum (Positive l m))
   negative_sum l m =
-      let a = total-same many (λ k. over (width v (ways k)) (λ c. entry ways falling (line (Step k) c) (Negative l m) *ℤ p k c)) (λ k. pos 0 -ℤ over (width v (ways k)) (λ c. entry ways falling (line (Step k) c) (Positive l m) *ℤ p k c)) (λ k g. over_opposite (width v (ways k)) (λ c. entry ways falling (line (Step k) c) (Positive l m)) (p k) ∙ minus (over (width v (ways k)) (λ c. entry ways falling (line (Step k) c) (Positive l m) *ℤ p k c))) in
+      let a = total-same many (λ k. over (width v (ways k)) (λ c. entry ways falling (line (Step k) c) (Negative l m) *ℤ p k c)) (λ k. pos 0 -ℤ over (width v (ways k)) (λ c. entry ways falling (line (Step k) c) (Positive l m) *ℤ p k c)) (λ k g. over_opposite (width v (ways k)) (λ c. entry ways falling (line (Step k) c) (Positive l m)) (p k) ∙ opposite_is (over (width v (ways k)) (λ c. entry ways falling (line (Step k) c) (Positive l m) *ℤ p k c))) in
       let b = total-less many (λ k. pos 0) (λ k. over (width v (ways k)) (λ c. entry ways falling (line (Step k) c) (Positive l m) *ℤ p k c)) in
       let z = total-zero many (λ k. pos 0) (λ k g. refl) in
       let d = over_opposite (width v (ways falling)) (λ c. entry ways falling (line Bound c) (Positive l m)) q in
       omega (arith, ints, a, b, z, d)
-    where
-      minus : (x : ℤ) → neg_ℤ x ≡ pos 0 -ℤ x
-      minus x = omega (arith, ints)
 
   module _ (from_in : (k : ℕ) → k < many → (ways k).taken.from < locations) (to_in : (k : ℕ) → k < many → (ways k).taken.to < locations) (terms : (l : ℕ) (m : Option ℕ) → l < locations → touches ways many l ≡ true → Inside v m → (pos 0 ≤ℤ column_sum (Positive l m)) × (pos 0 ≤ℤ column_sum (Negative l m))) where
     term_zero : (l : ℕ) (m : Option ℕ) → l < locations → Inside v m → term_sum l m ≡ pos 0
@@ -194,11 +178,11 @@ module _ (v locations many : ℕ) (ways : ℕ → Way) (falling : ℕ) (falling_
         by_touch false e =
             let each = total-zero many (λ k. put_after l m k -ℤ put_before l m k) (λ k k_in.
             let u = untouched ways many k l e k_in in
-            let x = if_false ((ways k).taken.to == l) (there_after v (ways k) (p k) m) (pos 0) (or_false_second ((ways k).taken.from == l) ((ways k).taken.to == l) u) in
-            let y = if_false ((ways k).taken.from == l) (there_before v (ways k) (p k) m) (pos 0) (or_false_first ((ways k).taken.from == l) ((ways k).taken.to == l) u) in
+            let x = if_false ((ways k).taken.to == l) (there_after v (ways k) (p k) m) (pos 0) (or_parts ((ways k).taken.from == l) ((ways k).taken.to == l) u).1 in
+            let y = if_false ((ways k).taken.from == l) (there_before v (ways k) (p k) m) (pos 0) (or_parts ((ways k).taken.from == l) ((ways k).taken.to == l) u).0 in
             omega (arith, ints, x, y)) in
             let u = untouched ways many falling l e falling_in in
-            let y = if_false ((ways falling).taken.from == l) (there_before v (ways falling) q m) (pos 0) (or_false_first ((ways falling).taken.from == l) ((ways falling).taken.to == l) u) in
+            let y = if_false ((ways falling).taken.from == l) (there_before v (ways falling) q m) (pos 0) (or_parts ((ways falling).taken.from == l) ((ways falling).taken.to == l) u).0 in
             omega (arith, ints, each, y)
 
     pub balanced : (f : ℕ → Option ℕ → ℤ) → total many (λ k. after_at v f (ways k) (p k) -ℤ before_at v f (ways k) (p k)) ≡ before_at v f (ways falling) q

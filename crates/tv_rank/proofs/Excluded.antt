@@ -7,6 +7,8 @@ use Rattle.tv_rank.specs.Ways.{Way}
 use Rattle.tv_rank.specs.RankingSystem.{unit_at, after}
 use Rattle.tv_rank.proofs.Over.{over-same, over-add, over-times}
 use Rattle.tv_rank.proofs.Barriers.{value, width, row_of, Meets, there_before, there_after, before_at, after_at, Balance}
+use Rattle.tv_linear.proofs.ListLaws.{same_or_below}
+use Rattle.tv_simplex.proofs.GoesOn.{total-not_above}
 
 -- a rational point of a way, over its scale
 pub record IsPoint (v : ℕ) (w : Way) (p : Option ℕ → ℤ) : Type 0 where
@@ -114,20 +116,12 @@ module _ (v many : ℕ) (ways : ℕ → Way) (falling : ℕ) (falling_in : falli
         omega (arith, ints, r))
   ]
 
--- a sum of numbers that are at most 0
-pub total-low : (n : ℕ) (g : ℕ → ℤ) → ((k : ℕ) → k < n → g k ≤ℤ pos 0) → total n g ≤ℤ pos 0
-total-low zero g h = omega (arith, ints)
-total-low (suc n) g h =
-    let here = h n (omega arith) in
-    let others = total-low n g (λ k l. h k (omega arith)) in
-    omega (arith, ints, here, others)
-
 -- a sum of such numbers, one of them at most -z
 total-falls : (m : ℕ) (g : ℕ → ℤ) (r : ℕ) (z : ℤ) → r < m → ((k : ℕ) → k < m → g k ≤ℤ pos 0) → (g r +ℤ z) ≤ℤ pos 0 → (total m g +ℤ z) ≤ℤ pos 0
 total-falls zero g r z l h e = absurd (omega arith)
-total-falls (suc m) g r z l h e = elim (last_or_below m r l) [
+total-falls (suc m) g r z l h e = elim (same_or_below m r l) [
   | inl s ↦ (
-      let others = total-low m g (λ k q. h k (omega arith)) in
+      let others = total-not_above m g (λ k q. h k (omega arith)) in
       let same = ap g s in
       omega (arith, ints, others, same, e))
   | inr q ↦ (
@@ -135,9 +129,6 @@ total-falls (suc m) g r z l h e = elim (last_or_below m r l) [
       let others = total-falls m g r z q (λ k u. h k (omega arith)) e in
       omega (arith, ints, here, others))
 ]
-  where
-    last_or_below : (n j : ℕ) → j < suc n → (j ≡ n) ⊎ (j < n)
-    last_or_below n j h = grind arith
 
 -- where each way has a point, a barrier excludes every family of terms
 pub excluded : (v many : ℕ) (ways : ℕ → Way) (falling : ℕ) → falling < many → ((k : ℕ) → k < many → (p : Option ℕ → ℤ) × IsPoint v (ways k) p) → (p : ℕ → Option ℕ → ℤ) (last : Option ℕ → ℤ) → Balance v many ways falling p last → (f : ℕ → Option ℕ → ℤ) → RanksAt v many ways falling f → ⊥

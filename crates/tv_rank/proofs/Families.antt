@@ -9,7 +9,7 @@ use Rattle.tv_linear.specs.Falls.{zero_row}
 use Rattle.tv_linear.specs.Linear.{Linear, columns, IsWithin}
 use Rattle.tv_linear.specs.Known.{Known, given, composed, less, number, known_number, term_number, KnownHeld, PlacesHeld, place_sum}
 use Rattle.tv_linear.specs.Terms.{table, update_of, terms_after}
-use Rattle.tv_linear.proofs.ListLaws.{test_true, get_or-table, map-table}
+use Rattle.tv_linear.proofs.ListLaws.{test_true, get_or-table, map-table, same_or_below}
 use Rattle.tv_refute.proofs.Places.{get_or-left, get_or-right}
 use Rattle.tv_simplex.proofs.SettleLemmas.{given_left}
 use Rattle.tv_simplex.specs.Outcomes.{IsShort, IsNarrow, IsSolutionOf, IsNarrowSystem}
@@ -31,7 +31,6 @@ use Rattle.tv_rank.proofs.Solved.{get-differences, of_term_number, rows_sum, sla
 use Rattle.tv_rank.proofs.ShownRows.{places_held, shown}
 use Rattle.tv_rank.proofs.Rational.{solution_ranks}
 use Rattle.std.proofs.lemmas.Bool.{or_right, cases_lt, or_left}
-use Rattle.tv_simplex.proofs.Counting.{last_or_below}
 
 -- ---- what is read stands at its place
 length-lines : (ways : ℕ → Way) (xs : List ℤ) (s n : ℕ) → length (lines_read ways xs s n) ≡ n
@@ -40,14 +39,14 @@ length-lines ways xs s (suc n) = length-append (lines_read ways xs s n) (line_re
 
 line-read : (ways : ℕ → Way) (xs : List ℤ) (s n k : ℕ) → k < n → get_or (lines_read ways xs s n) k [] ≡ line_read xs (s + length (steps_below ways k)) (ways k)
 line-read ways xs s zero k h = absurd (omega (arith, h))
-line-read ways xs s (suc n) k h = elim (last_or_below n k h) [
+line-read ways xs s (suc n) k h = elim (same_or_below n k h) [
   | inl e ↦ get_or-right (lines_read ways xs s n) (line_read xs (s + length (steps_below ways n)) (ways n) ∷ []) k 0 [] (let f = length-lines ways xs s n in omega (arith, e, f)) ∙ ap (λ z. line_read xs (s + length (steps_below ways z)) (ways z)) (sym e)
   | inr b ↦ get_or-left (lines_read ways xs s n) (line_read xs (s + length (steps_below ways n)) (ways n) ∷ []) k [] (let f = length-lines ways xs s n in omega (arith, b, f)) ∙ line-read ways xs s n k b
 ]
 
 pub touched_to : (ways : ℕ → Way) (many k : ℕ) → k < many → touches ways many (ways k).taken.to ≡ true
 touched_to ways zero k h = absurd (omega (arith, h))
-touched_to ways (suc m) k h = elim (last_or_below m k h) [
+touched_to ways (suc m) k h = elim (same_or_below m k h) [
   | inl e ↦ or_right (touches ways m (ways k).taken.to) ((ways m).taken.from == (ways k).taken.to || (ways m).taken.to == (ways k).taken.to) (or_right ((ways m).taken.from == (ways k).taken.to) ((ways m).taken.to == (ways k).taken.to) (test_true (ways m).taken.to (ways k).taken.to (ap (λ z. (ways z).taken.to) (sym e))))
   | inr b ↦ or_left (touches ways m (ways k).taken.to) ((ways m).taken.from == (ways k).taken.to || (ways m).taken.to == (ways k).taken.to) (touched_to ways m k b)
 ]

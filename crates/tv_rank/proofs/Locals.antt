@@ -4,13 +4,12 @@ use Rattle.std.proofs.lemmas.List.{append-nil}
 use Rattle.std.proofs.lemmas.List.Elements.{All-nil, All-cons, All-append}
 use Rattle.tv_linear.specs.Linear.{Linear}
 use Rattle.tv_linear.specs.Arithmetic.{constant_row}
-use Rattle.tv_linear.proofs.ListLaws.{test_true, test_false}
+use Rattle.tv_linear.proofs.ListLaws.{test_true, test_false, same_or_below}
 use Rattle.tv_rank.specs.declared.found.LocalTerm.{LocalTerm}
 use Rattle.tv_rank.specs.Ways.{Way, touches}
 use Rattle.tv_rank.specs.RankingSystem.{term_unknowns, terms_below}
 use Rattle.tv_rank.specs.Reading.{term_read, read_at, term_there, terms_read}
 use Rattle.tv_rank.specs.Rankings.{local_term}
-use Rattle.tv_simplex.proofs.Counting.{last_or_below}
 
 row_if : (b : Bool) (x y : Linear) → b ≡ true → (if b then x else y) ≡ x
 row_if true x y e = refl
@@ -56,7 +55,7 @@ module _ (ways : ℕ → Way) (many v : ℕ) (xs : List ℤ) where
 
   pub local-read : (n l : ℕ) → l < n → local_term v (terms_read ways many v xs n) l ≡ read_at ways many v xs l
   local-read zero l h = absurd (omega (arith, h))
-  local-read (suc n) l h = elim (last_or_below n l h) [
+  local-read (suc n) l h = elim (same_or_below n l h) [
     | inl e ↦ nowhere_left v l (terms_read ways many v xs n) (term_there ways many v xs n) (none_past n l (omega (arith, e))) ∙ subst (λ z. local_term v (term_there ways many v xs z) l ≡ read_at ways many v xs l) e (by_test (touches ways many l))
     | inr b ↦ nowhere_right v l (terms_read ways many v xs n) (term_there ways many v xs n) (elsewhere n l (λ e. omega (arith, b, e))) ∙ local-read n l b
   ]

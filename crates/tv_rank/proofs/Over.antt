@@ -1,9 +1,9 @@
-use Rattle.std.proofs.Common.{◌≡◌, ℕ, zero, suc, ◌⊎◌, inl, inr, ◌<◌, ◌≤◌, Option, None, Some, Bool, true, false, ◌==◌, if◌then◌else◌, arith, refl, sym, ap, ℤ, pos, neg_ℤ, ◌+ℤ◌, ◌-ℤ◌, ◌*ℤ◌}
+use Rattle.std.proofs.Common.{◌≡◌, ℕ, zero, suc, inl, inr, ◌<◌, ◌≤◌, Option, None, Some, Bool, true, false, ◌==◌, if◌then◌else◌, arith, refl, ap, ℤ, pos, neg_ℤ, ◌+ℤ◌, ◌-ℤ◌, ◌*ℤ◌}
 use Rattle.std.proofs.lemmas.Int.{ints}
 use Rattle.tv_simplex.specs.Sums.{total}
 use Rattle.tv_simplex.proofs.Sums.{total-same, total-less, total-add, total-times, total-zero, total-swap}
 use Rattle.tv_linear.proofs.Ring.{distribute_z}
-use Rattle.tv_linear.proofs.ListLaws.{test_true, test_false}
+use Rattle.tv_linear.proofs.ListLaws.{test_true, test_false, same_or_below}
 use Rattle.tv_rank.specs.RankingSystem.{unit_at}
 
 -- ---- sums over the first n columns and the constant
@@ -51,8 +51,12 @@ pub if_false : (b : Bool) (x y : ℤ) → b ≡ false → (if b then x else y) �
 if_false true x y e = cc
 if_false false x y e = refl
 
-same_or_below : (n r : ℕ) → r < suc n → (n ≡ r) ⊎ (r < n)
-same_or_below n r h = grind arith
+pub if_times : (b : Bool) (x : ℤ) → (if b then pos 1 else pos 0) *ℤ x ≡ (if b then x else pos 0)
+if_times true x = omega (arith, ints)
+if_times false x = omega (arith, ints)
+
+pub opposite_is : (x : ℤ) → neg_ℤ x ≡ pos 0 -ℤ x
+opposite_is x = omega (arith, ints)
 
 -- ---- one place of a sum
 none_picked : (n t : ℕ) (g : ℕ → ℤ) → n ≤ t → total n (λ l. if t == l then g l else pos 0) ≡ pos 0
@@ -63,7 +67,7 @@ picked zero t g h = absurd (omega (arith, h))
 picked (suc n) t g h = elim (same_or_below n t h) [
   | inl e ↦ (
       let a = none_picked n t g (omega (arith, e)) in
-      let b = if_true (t == n) (g n) (pos 0) (test_true t n (sym e)) in
+      let b = if_true (t == n) (g n) (pos 0) (test_true t n e) in
       let c = ap g e in
       omega (arith, ints, a, b, c))
   | inr l ↦ (
@@ -75,11 +79,7 @@ picked (suc n) t g h = elim (same_or_below n t h) [
 pub unit_times : (n : ℕ) (m : Option ℕ) (p : Option ℕ → ℤ) → Inside n m → over n (λ c. unit_at m c *ℤ p c) ≡ p m
 unit_times n None p h = (let a = total-zero n (λ c. unit_at None (Some c) *ℤ p (Some c)) (λ c l. omega (arith, ints)) in omega (arith, ints, a))
 unit_times n (Some j) p h =
-    let a = total-same n (λ c. unit_at (Some j) (Some c) *ℤ p (Some c)) (λ c. if j == c then p (Some c) else pos 0) (λ c l. one (j == c) (p (Some c))) in
+    let a = total-same n (λ c. unit_at (Some j) (Some c) *ℤ p (Some c)) (λ c. if j == c then p (Some c) else pos 0) (λ c l. if_times (j == c) (p (Some c))) in
     let b = picked n j (λ c. p (Some c)) h in
     let z : unit_at (Some j) None *ℤ p None ≡ pos 0 = omega (arith, ints) in
     omega (arith, ints, a, b, z)
-  where
-    one : (b : Bool) (x : ℤ) → (if b then pos 1 else pos 0) *ℤ x ≡ (if b then x else pos 0)
-    one true x = omega (arith, ints)
-    one false x = omega (arith, ints)

@@ -24,11 +24,12 @@ use Rattle.tv_rank.specs.Rankings.{term_at, local_term, listed_terms, HasPoint, 
 use Rattle.tv_rank.specs.Reading.{read_at, terms_read}
 use Rattle.tv_rank.proofs.Over.{over, Inside, over-same, over-less, over-add, over-times, over-total, unit_times}
 use Rattle.tv_rank.proofs.Barriers.{value, width, row_of, before_at, after_at, there_before, there_after}
-use Rattle.tv_rank.proofs.Excluded.{IsPoint, RanksAt, change_at, total-low}
+use Rattle.tv_rank.proofs.Excluded.{IsPoint, RanksAt, change_at}
 use Rattle.tv_rank.proofs.Points.{numbers_at, pointed, ranks_listed, terms_wide}
 use Rattle.tv_rank.proofs.Locals.{local-read}
 use Rattle.tv_rank.proofs.Solved.{unit-number, after-number, rows_sum, slack_of, step_start, term_width, step_sum, bound_sum, step_row, bound_row_is}
 use Rattle.tv_fraction.proofs.Products.{product_above}
+use Rattle.tv_simplex.proofs.GoesOn.{total-not_above}
 
 -- ---- sums at a point
 turned : (a b c : ℤ) → (a *ℤ b) *ℤ c ≡ b *ℤ (a *ℤ c)
@@ -46,7 +47,7 @@ rows_there n m y rows p =
 
 -- where the point meets the rows and no number is negative, they add up to at most 0
 rows_low : (n m : ℕ) (y : ℕ → ℤ) (rows : ℕ → Option ℕ → ℤ) (p : Option ℕ → ℤ) → ((i : ℕ) → i < m → pos 0 ≤ℤ y i) → ((i : ℕ) → i < m → value n (rows i) p ≤ℤ pos 0) → over n (λ c. total m (λ i. rows i c *ℤ y i) *ℤ p c) ≤ℤ pos 0
-rows_low n m y rows p positive meets = subst (λ z. z ≤ℤ pos 0) (sym (rows_there n m y rows p)) (total-low m (λ i. y i *ℤ value n (rows i) p) (λ i l. not_above (y i) (value n (rows i) p) (positive i l) (meets i l)))
+rows_low n m y rows p positive meets = subst (λ z. z ≤ℤ pos 0) (sym (rows_there n m y rows p)) (total-not_above m (λ i. y i *ℤ value n (rows i) p) (λ i l. not_above (y i) (value n (rows i) p) (positive i l) (meets i l)))
 
 -- the numbers of a term, each by what it stands before, at a point
 numbers_there : (n v : ℕ) (a : Option ℕ → Option ℕ → ℤ) (f p : Option ℕ → ℤ) → over n (λ c. over v (λ m. a m c *ℤ f m) *ℤ p c) ≡ over v (λ m. f m *ℤ value n (a m) p)

@@ -1,4 +1,4 @@
-use Rattle.std.proofs.Common.{◌≡◌, ◌⊎◌, inl, inr, ℕ, zero, suc, ◌+◌, ◌*◌, ◌^◌, ◌<◌, ◌≤◌, List, [], ◌∷◌, ◌++◌, length, length-append, map, get_or, All, Option, None, Some, arith, refl, sym, ap, ◌∙◌, subst, ℤ, pos, neg_ℤ, ◌+ℤ◌, ◌-ℤ◌, ◌*ℤ◌, ◌≤ℤ◌, ◌<ℤ◌, unsigned_abs}
+use Rattle.std.proofs.Common.{◌≡◌, inl, inr, ℕ, zero, suc, ◌+◌, ◌*◌, ◌^◌, ◌<◌, ◌≤◌, List, [], ◌∷◌, ◌++◌, length, length-append, map, get_or, All, Option, None, Some, arith, refl, sym, ap, ◌∙◌, subst, ℤ, pos, neg_ℤ, ◌+ℤ◌, ◌-ℤ◌, ◌*ℤ◌, ◌≤ℤ◌, ◌<ℤ◌, unsigned_abs}
 use Rattle.std.proofs.lemmas.Int.{ints, unsigned_abs-mul}
 use Rattle.std.proofs.lemmas.List.{length-map, map-append, get_or-map}
 use Rattle.std.proofs.lemmas.List.Elements.{All-head, All-tail, All-from_get_or}
@@ -19,6 +19,9 @@ use Rattle.tv_rank.specs.Reading.{multipliers_read, line_read}
 use Rattle.tv_rank.proofs.Over.{Inside}
 use Rattle.tv_rank.proofs.Barriers.{row_of, width}
 use Rattle.tv_rank.proofs.Solved.{rows_sum}
+use Rattle.tv_linear.proofs.ListLaws.{same_or_below, last_or_below}
+use Rattle.tv_simplex.proofs.ScaleLemmas.{scaled_up}
+use Rattle.tv_simplex.proofs.Ring.{one_times_z}
 
 -- ---- lists with a last item
 dot-last : (ms rs : List ℤ) (m r : ℤ) → length ms ≡ length rs → dot (ms ++ m ∷ []) (rs ++ r ∷ []) ≡ dot ms rs +ℤ m *ℤ r
@@ -33,23 +36,17 @@ length-read xs s (suc n) = length-append (multipliers_read xs s n) (get_or xs (s
 
 pub get-read : (xs : List ℤ) (s n i : ℕ) → i < n → get_or (multipliers_read xs s n) i (pos 0) ≡ get_or xs (s + i) (pos 0)
 get-read xs s zero i h = absurd (omega (arith, h))
-get-read xs s (suc n) i h = elim (last_or_below n i h) [
+get-read xs s (suc n) i h = elim (same_or_below n i h) [
   | inl e ↦ get_or-right (multipliers_read xs s n) (get_or xs (s + n) (pos 0) ∷ []) i 0 (pos 0) (let l = length-read xs s n in omega (arith, e, l)) ∙ ap (λ z. get_or xs (s + z) (pos 0)) (sym e)
   | inr b ↦ get_or-left (multipliers_read xs s n) (get_or xs (s + n) (pos 0) ∷ []) i (pos 0) (let l = length-read xs s n in omega (arith, b, l)) ∙ get-read xs s n i b
 ]
-  where
-    last_or_below : (n j : ℕ) → j < suc n → (j ≡ n) ⊎ (j < n)
-    last_or_below n j h = grind arith
 
 -- ---- numbers that are held
 small_product : (a b : ℤ) → unsigned_abs a < 2 ^ 62 → unsigned_abs b < 2 ^ 41 → unsigned_abs (a *ℤ b) < 2 ^ 103
 small_product a b h g = (let e = unsigned_abs-mul a b in let f = less_product (unsigned_abs a) (unsigned_abs b) h g in omega (arith, e, f))
   where
-    grown : (a b x : ℕ) → a ≤ b → a * x ≤ b * x
-    grown a b x h = grind arith
-
     less_product : (x y : ℕ) → x < 2 ^ 62 → y < 2 ^ 41 → x * y < 2 ^ 103
-    less_product x y u v = (let w : x * y ≤ 2 ^ 62 * y = grown x (2 ^ 62) y (omega (arith, u)) in omega (arith, w, v))
+    less_product x y u v = (let w : x * y ≤ 2 ^ 62 * y = scaled_up x (2 ^ 62) y (omega (arith, u)) in omega (arith, w, v))
 
 sum_below : (a b : ℤ) (n : ℕ) → unsigned_abs a ≤ n * 2 ^ 103 → unsigned_abs b < 2 ^ 103 → unsigned_abs (a +ℤ b) ≤ (n + 1) * 2 ^ 103
 sum_below a b n h g = omega (arith, ints, h, g)
@@ -108,10 +105,7 @@ module _ (v : ℕ) (w : Way) (row : Known) (xs : List ℤ) (s : ℕ) where
   sum_is c =
       ap (dot (line_read xs s w)) (map-append (λ k. known_number k c) (as_given (met_rows w)) (denied row ∷ []) ∙ ap (λ zs. zs ++ known_number (denied row) c ∷ []) (known-given c (met_rows w)))
       ∙ dot-last ms (map (λ r. number c r) (met_rows w)) (pos 1) (known_number (denied row) c) (length-read xs s n ∙ sym (length-map (met_rows w) (λ r. number c r)))
-      ∙ (λ i. dot_is c i +ℤ one (known_number (denied row) c) i)
-    where
-      one : (z : ℤ) → pos 1 *ℤ z ≡ z
-      one z = omega (arith, ints)
+      ∙ (λ i. dot_is c i +ℤ one_times_z (known_number (denied row) c) i)
 
   -- the multipliers that are read show a row, where it has in each column what the rows that are met add up to, and less
   -- than 1 more in the constant
@@ -135,13 +129,10 @@ module _ (v : ℕ) (w : Way) (row : Known) (xs : List ℤ) (s : ℕ) where
   })
     where
       sign : (i : ℕ) → i < length (line_read xs s w) → pos 0 ≤ℤ get_or (line_read xs s w) i (pos 0)
-      sign i l = elim (by_number i n (let e = length-read xs s n in let f = length-append ms (pos 1 ∷ []) in omega (arith, e, f, l))) [
-        | inl b ↦ subst (λ z. pos 0 ≤ℤ z) (sym (get_or-left ms (pos 1 ∷ []) i (pos 0) (let e = length-read xs s n in omega (arith, e, b)) ∙ get-read xs s n i b)) (positive i b)
-        | inr e ↦ subst (λ z. pos 0 ≤ℤ z) (sym (get_or-right ms (pos 1 ∷ []) i 0 (pos 0) (let f = length-read xs s n in omega (arith, e, f)))) (omega (arith, ints))
+      sign i l = elim (last_or_below n i (let e = length-read xs s n in let f = length-append ms (pos 1 ∷ []) in omega (arith, e, f, l))) [
+        | inl e ↦ subst (λ z. pos 0 ≤ℤ z) (sym (get_or-right ms (pos 1 ∷ []) i 0 (pos 0) (let f = length-read xs s n in omega (arith, e, f)))) (omega (arith, ints))
+        | inr b ↦ subst (λ z. pos 0 ≤ℤ z) (sym (get_or-left ms (pos 1 ∷ []) i (pos 0) (let e = length-read xs s n in omega (arith, e, b)) ∙ get-read xs s n i b)) (positive i b)
       ]
-        where
-          by_number : (i m : ℕ) → i < m + 1 → (i < m) ⊎ (i ≡ m)
-          by_number i m h = grind arith
 
       rows_held : (c : Option ℕ) → Inside (width v w) c → unsigned_abs (rows_sum w xs s c +ℤ known_number (denied row) c) < 2 ^ 127 → KnownHeld (denied row) c → ColumnHeld (line_read xs s w) (as_given (met_rows w) ++ denied row ∷ []) c
       rows_held c c_in end denial = rows_held_last c row 0 (pos 0) ms (met_rows w) (length-read xs s n) (omega (arith, few)) (omega arith)

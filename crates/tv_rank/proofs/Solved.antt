@@ -1,4 +1,4 @@
-use Rattle.std.proofs.Common.{◌≡◌, ◌⊎◌, inl, inr, ℕ, zero, suc, ◌+◌, ◌*◌, ◌<◌, ◌≤◌, List, [], ◌∷◌, ◌++◌, length, length-append, map, get_or, Option, None, Some, Bool, true, false, ◌==◌, if◌then◌else◌, arith, refl, sym, ap, ◌∙◌, ℤ, pos, neg_ℤ, ◌+ℤ◌, ◌-ℤ◌, ◌*ℤ◌}
+use Rattle.std.proofs.Common.{◌≡◌, inl, inr, ℕ, zero, suc, ◌+◌, ◌*◌, ◌<◌, List, [], ◌∷◌, ◌++◌, length, length-append, map, get_or, Option, None, Some, Bool, true, false, ◌==◌, if◌then◌else◌, arith, refl, sym, ap, ◌∙◌, ℤ, pos, neg_ℤ, ◌+ℤ◌, ◌-ℤ◌, ◌*ℤ◌}
 use Rattle.std.proofs.lemmas.Int.{ints}
 use Rattle.std.specs.List.{AllByRecursion}
 use Rattle.std.proofs.Math.IntN.{*ℤ_comm}
@@ -8,7 +8,7 @@ use Rattle.tv_linear.specs.Arithmetic.{constant_row}
 use Rattle.tv_linear.specs.Linear.{Linear, columns}
 use Rattle.tv_linear.specs.Known.{Term, kept, put, number, given, composed, known_number, term_number, place_sum}
 use Rattle.tv_linear.specs.Terms.{table, update_of, terms_after}
-use Rattle.tv_linear.proofs.ListLaws.{test_true, test_false, map-table}
+use Rattle.tv_linear.proofs.ListLaws.{test_true, test_false, map-table, same_or_below, below_or_not}
 use Rattle.tv_refute.proofs.Places.{get_or-left, get_or-right, unit_same, unit_other}
 use Rattle.tv_simplex.specs.Sums.{total}
 use Rattle.tv_simplex.specs.Systems.{entry_at}
@@ -23,24 +23,22 @@ use Rattle.tv_rank.specs.declared.unknown.Line.{Line}
 use Rattle.tv_rank.specs.Ways.{Way, met_rows, touches}
 use Rattle.tv_rank.specs.RankingSystem.{unit_at, number_of, after, entered, left, term_entry, entry, right_of, pairs_below, term_unknowns, terms_below, multipliers_below, identity_unknowns, steps_below, unknowns, lines, step_lines, identity_lines, ranking_system}
 use Rattle.tv_rank.specs.Reading.{difference, differences, term_read, read_at}
-use Rattle.tv_rank.proofs.Over.{over, Inside, over-same, over-less, over-zero, if_true, if_false, picked}
+use Rattle.tv_rank.proofs.Over.{over, Inside, over-same, over-less, over-zero, if_true, if_false, picked, if_times, opposite_is}
 use Rattle.tv_rank.proofs.UnknownLists.{all_first, all_second, all_by_place, of_lines, of_step_lines, weighted, weighted-append, weighted-last, weighted-total}
 use Rattle.tv_rank.proofs.Barriers.{line, row_of, width, over_put, over_opposite, picked_turned}
 use Rattle.tv_rank.proofs.Lengths.{length-pairs, length-multipliers, length-differences}
 use Rattle.tv_rank.proofs.Flattened.{entry_of}
 use Rattle.std.proofs.lemmas.List.{get_or-map, get_or_past}
 use Rattle.tv_farkas.proofs.SystemLemmas.{total-front}
+use Rattle.std.proofs.lemmas.Bool.{cases_eq}
 
 -- ---- the numbers that are read
 pub get-differences : (xs : List ℤ) (s v j : ℕ) → j < v → get_or (differences xs s v) j (pos 0) ≡ difference xs s j
 get-differences xs s zero j h = absurd (omega (arith, h))
-get-differences xs s (suc v) j h = elim (last_or_below v j h) [
+get-differences xs s (suc v) j h = elim (same_or_below v j h) [
   | inl e ↦ get_or-right (differences xs s v) (difference xs s v ∷ []) j 0 (pos 0) (let l = length-differences xs s v in omega (arith, e, l)) ∙ ap (difference xs s) (sym e)
   | inr b ↦ get_or-left (differences xs s v) (difference xs s v ∷ []) j (pos 0) (let l = length-differences xs s v in omega (arith, b, l)) ∙ get-differences xs s v j b
 ]
-  where
-    last_or_below : (n j : ℕ) → j < suc n → (j ≡ n) ⊎ (j < n)
-    last_or_below n j h = grind arith
 
 pair_product : (x a b : ℤ) → x *ℤ a +ℤ neg_ℤ x *ℤ b ≡ x *ℤ (a -ℤ b)
 pair_product x a b = (let t = times_less x a b in let n = neg_times_z x b in omega (arith, ints, t, n))
@@ -92,33 +90,23 @@ terms-sum g x positive negative xs ways many v (suc l) =
 -- ---- the number of a term in a column
 pub unit-number : (v : ℕ) (c : Option ℕ) (f : Linear) → columns f ≡ v → over v (λ m. unit_at m c *ℤ number m f) ≡ number c f
 unit-number v None f e = (let z = total-zero v (λ m. pos 0 *ℤ number (Some m) f) (λ m l. omega (arith, ints)) in omega (arith, ints, z))
-unit-number v (Some j) f e = elim (below_or_past j v) [
+unit-number v (Some j) f e = elim (below_or_not j v) [
   | inl l ↦ (
-      let a = total-same v (λ m. unit_at (Some m) (Some j) *ℤ number (Some m) f) (λ m. if m == j then number (Some m) f else pos 0) (λ m k. one (m == j) (number (Some m) f)) in
+      let a = total-same v (λ m. unit_at (Some m) (Some j) *ℤ number (Some m) f) (λ m. if m == j then number (Some m) f else pos 0) (λ m k. if_times (m == j) (number (Some m) f)) in
       let b = picked_turned v j (λ m. number (Some m) f) l in
       omega (arith, ints, a, b))
   | inr p ↦ (
-      let a = total-zero v (λ m. unit_at (Some m) (Some j) *ℤ number (Some m) f) (λ m k. one (m == j) (number (Some m) f) ∙ if_false (m == j) (number (Some m) f) (pos 0) (test_false m j (λ q. omega (arith, q, k, p)))) in
+      let a = total-zero v (λ m. unit_at (Some m) (Some j) *ℤ number (Some m) f) (λ m k. if_times (m == j) (number (Some m) f) ∙ if_false (m == j) (number (Some m) f) (pos 0) (test_false m j (λ q. omega (arith, q, k, p)))) in
       let b = get_or_past f.coefficients j (pos 0) (omega (arith, e, p)) in
       omega (arith, ints, a, b))
 ]
-  where
-    below_or_past : (l n : ℕ) → (l < n) ⊎ (n ≤ l)
-    below_or_past l n = grind arith
-
-    one : (b : Bool) (y : ℤ) → (if b then pos 1 else pos 0) *ℤ y ≡ (if b then y else pos 0)
-    one true y = omega (arith, ints)
-    one false y = omega (arith, ints)
 
 pub of_term_number : (t : Term) (c : Option ℕ) → number_of c t ≡ term_number c t
 of_term_number (kept w) None = refl
-of_term_number (kept w) (Some j) = elim (same_or_other w j) [
+of_term_number (kept w) (Some j) = elim (cases_eq w j) [
   | inl e ↦ if_true (w == j) (pos 1) (pos 0) (test_true w j e) ∙ unit_same j w (sym e)
   | inr n ↦ if_false (w == j) (pos 1) (pos 0) (test_false w j n) ∙ unit_other j w (λ e. n (sym e))
 ]
-  where
-    same_or_other : (a b : ℕ) → (a ≡ b) ⊎ ((a ≡ b) → ⊥)
-    same_or_other a b = grind arith
 of_term_number (put r) None = refl
 of_term_number (put r) (Some j) = refl
 
@@ -166,13 +154,10 @@ identity-sum ways falling id w xs s x u g b multiplier slack =
 
     by_test : (b : Bool) → (total n (λ i. (if b then neg_ℤ (x i) else pos 0) *ℤ get_or xs (s + i) (pos 0)) +ℤ (if b then u else pos 0) *ℤ get_or xs (s + n) (pos 0)) ≡ (if b then u *ℤ slack_of w xs s -ℤ total n (λ i. x i *ℤ get_or xs (s + i) (pos 0)) else pos 0)
     by_test true =
-        let a = total-same n (λ i. neg_ℤ (x i) *ℤ get_or xs (s + i) (pos 0)) (λ i. pos 0 -ℤ x i *ℤ get_or xs (s + i) (pos 0)) (λ i l. neg_times_z (x i) (get_or xs (s + i) (pos 0)) ∙ minus (x i *ℤ get_or xs (s + i) (pos 0))) in
+        let a = total-same n (λ i. neg_ℤ (x i) *ℤ get_or xs (s + i) (pos 0)) (λ i. pos 0 -ℤ x i *ℤ get_or xs (s + i) (pos 0)) (λ i l. neg_times_z (x i) (get_or xs (s + i) (pos 0)) ∙ opposite_is (x i *ℤ get_or xs (s + i) (pos 0))) in
         let d = total-less n (λ i. pos 0) (λ i. x i *ℤ get_or xs (s + i) (pos 0)) in
         let z = total-zero n (λ i. pos 0) (λ i l. refl) in
         omega (arith, ints, a, d, z)
-      where
-        minus : (y : ℤ) → neg_ℤ y ≡ pos 0 -ℤ y
-        minus y = omega (arith, ints)
     by_test false =
         let z = total-zero n (λ i. pos 0 *ℤ get_or xs (s + i) (pos 0)) (λ i l. omega (arith, ints)) in
         omega (arith, ints, z)
@@ -242,14 +227,11 @@ module _ (v locations many : ℕ) (ways : ℕ → Way) (falling : ℕ) (falling_
       let t = terms-sum g (λ l m. term_entry (ways falling).taken l m Bound c) (λ l m. refl) (λ l m. refl) xs ways many v locations in
       let s = steps-sum g ways many xs base ∙ total-zero many (λ j. weighted g (identity_unknowns (Step j) (ways j)) xs (step_start j)) (λ j l. identity-sum ways falling (Step j) (ways j) xs (step_start j) (λ i. row_of (ways falling) i c) (unit_at None c) g false (λ i. refl) refl) in
       let b = identity-sum ways falling Bound (ways falling) xs (step_start many) (λ i. row_of (ways falling) i c) (unit_at None c) g true (λ i. refl) refl in
-      let u = total-same locations (λ l. over v (λ m. neg_ℤ (left (ways falling).taken l m c) *ℤ number m (term l))) (λ l. pos 0 -ℤ over v (λ m. left (ways falling).taken l m c *ℤ number m (term l))) (λ l q. over_opposite v (λ m. left (ways falling).taken l m c) (λ m. number m (term l)) ∙ minus (over v (λ m. left (ways falling).taken l m c *ℤ number m (term l)))) in
+      let u = total-same locations (λ l. over v (λ m. neg_ℤ (left (ways falling).taken l m c) *ℤ number m (term l))) (λ l. pos 0 -ℤ over v (λ m. left (ways falling).taken l m c *ℤ number m (term l))) (λ l q. over_opposite v (λ m. left (ways falling).taken l m c) (λ m. number m (term l)) ∙ opposite_is (over v (λ m. left (ways falling).taken l m c *ℤ number m (term l)))) in
       let d = total-less locations (λ l. pos 0) (λ l. over v (λ m. left (ways falling).taken l m c *ℤ number m (term l))) in
       let z = total-zero locations (λ l. pos 0) (λ l q. refl) in
       let f = one_term v locations (ways falling).taken.from (λ m. unit_at m c) (λ l m. number m (term l)) from_in ∙ unit-number v c (term (ways falling).taken.from) (term_width (ways falling).taken.from) in
       omega (arith, ints, a, t, s, b, u, d, z, f)
-    where
-      minus : (y : ℤ) → neg_ℤ y ≡ pos 0 -ℤ y
-      minus y = omega (arith, ints)
 
   -- ---- the equations of a solution
   module _ (scale : ℤ) (h : IsSolutionOf (ranking_system ways many falling v locations) xs scale) where

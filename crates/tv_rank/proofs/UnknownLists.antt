@@ -13,8 +13,8 @@ use Rattle.tv_rank.specs.Ways.{Way, met_rows, touches}
 use Rattle.tv_rank.specs.RankingSystem.{pairs_below, term_unknowns, terms_below, multipliers_below, identity_unknowns, steps_below, columns_below, identity_lines, step_lines}
 use Rattle.tv_rank.proofs.Over.{Inside}
 use Rattle.tv_cases.proofs.AmountLemmas.{suc-times}
-use Rattle.tv_simplex.proofs.Counting.{last_or_below}
 use Rattle.tv_farkas.proofs.SystemLemmas.{total-front}
+use Rattle.tv_linear.proofs.ListLaws.{same_or_below}
 
 -- ---- what holds of each item
 pub all_first : {A : Type 0} (P : A → Type 0) (xs ys : List A) → AllByRecursion P (xs ++ ys) → AllByRecursion P xs
@@ -37,7 +37,7 @@ all_by_place P (x ∷ xs) d h = (h 0 (omega arith), all_by_place P xs d (λ k l.
 module _ (P : Unknown → Type 0) where
   of_pairs : (l v j : ℕ) → AllByRecursion P (pairs_below l v) → j < v → P (Positive l (Some j)) × P (Negative l (Some j))
   of_pairs l zero j h g = absurd (omega (arith, g))
-  of_pairs l (suc v) j h g = elim (last_or_below v j g) [
+  of_pairs l (suc v) j h g = elim (same_or_below v j g) [
     | inl e ↦ (let t = all_second P (pairs_below l v) (Positive l (Some v) ∷ Negative l (Some v) ∷ []) h in subst (λ z. P (Positive l (Some z)) × P (Negative l (Some z))) (sym e) (t.0, t.1.0))
     | inr b ↦ of_pairs l v j (all_first P (pairs_below l v) (Positive l (Some v) ∷ Negative l (Some v) ∷ []) h) b
   ]
@@ -52,14 +52,14 @@ module _ (P : Unknown → Type 0) where
 
   pub of_terms : (ways : ℕ → Way) (many v locations l : ℕ) (n : Option ℕ) → AllByRecursion P (terms_below ways many v locations) → l < locations → touches ways many l ≡ true → Inside v n → P (Positive l n) × P (Negative l n)
   of_terms ways many v zero l n h k t g = absurd (omega (arith, k))
-  of_terms ways many v (suc m) l n h k t g = elim (last_or_below m l k) [
+  of_terms ways many v (suc m) l n h k t g = elim (same_or_below m l k) [
     | inl e ↦ of_term l v n (of_if (touches ways many l) (term_unknowns v l) t (subst (λ z. AllByRecursion P (if touches ways many z then term_unknowns v z else [])) (sym e) (all_second P (terms_below ways many v m) (if touches ways many m then term_unknowns v m else []) h))) g
     | inr b ↦ of_terms ways many v m l n (all_first P (terms_below ways many v m) (if touches ways many m then term_unknowns v m else []) h) b t g
   ]
 
   of_multipliers : (id : Identity) (m i : ℕ) → AllByRecursion P (multipliers_below id m) → i < m → P (Multiplier id i)
   of_multipliers id zero i h g = absurd (omega (arith, g))
-  of_multipliers id (suc m) i h g = elim (last_or_below m i g) [
+  of_multipliers id (suc m) i h g = elim (same_or_below m i g) [
     | inl e ↦ subst (λ z. P (Multiplier id z)) (sym e) (all_second P (multipliers_below id m) (Multiplier id m ∷ []) h).0
     | inr b ↦ of_multipliers id m i (all_first P (multipliers_below id m) (Multiplier id m ∷ []) h) b
   ]
@@ -72,7 +72,7 @@ module _ (P : Unknown → Type 0) where
 
   pub of_steps : (ways : ℕ → Way) (many k : ℕ) → AllByRecursion P (steps_below ways many) → k < many → AllByRecursion P (identity_unknowns (Step k) (ways k))
   of_steps ways zero k h g = absurd (omega (arith, g))
-  of_steps ways (suc m) k h g = elim (last_or_below m k g) [
+  of_steps ways (suc m) k h g = elim (same_or_below m k g) [
     | inl e ↦ subst (λ z. AllByRecursion P (identity_unknowns (Step z) (ways z))) (sym e) (all_second P (steps_below ways m) (identity_unknowns (Step m) (ways m)) h)
     | inr b ↦ of_steps ways m k (all_first P (steps_below ways m) (identity_unknowns (Step m) (ways m)) h) b
   ]
@@ -81,7 +81,7 @@ module _ (P : Unknown → Type 0) where
 module _ (P : Line → Type 0) where
   of_columns : (id : Identity) (n j : ℕ) → AllByRecursion P (columns_below id n) → j < n → P (record { identity = id; column = Some j })
   of_columns id zero j h g = absurd (omega (arith, g))
-  of_columns id (suc n) j h g = elim (last_or_below n j g) [
+  of_columns id (suc n) j h g = elim (same_or_below n j g) [
     | inl e ↦ subst (λ z. P (record { identity = id; column = Some z })) (sym e) (all_second P (columns_below id n) (record { identity = id; column = Some n } ∷ []) h).0
     | inr b ↦ of_columns id n j (all_first P (columns_below id n) (record { identity = id; column = Some n } ∷ []) h) b
   ]
@@ -92,7 +92,7 @@ module _ (P : Line → Type 0) where
 
   pub of_step_lines : (ways : ℕ → Way) (v many k : ℕ) → AllByRecursion P (step_lines ways v many) → k < many → AllByRecursion P (identity_lines v (Step k) (ways k))
   of_step_lines ways v zero k h g = absurd (omega (arith, g))
-  of_step_lines ways v (suc m) k h g = elim (last_or_below m k g) [
+  of_step_lines ways v (suc m) k h g = elim (same_or_below m k g) [
     | inl e ↦ subst (λ z. AllByRecursion P (identity_lines v (Step z) (ways z))) (sym e) (all_second P (step_lines ways v m) (identity_lines v (Step m) (ways m)) h)
     | inr b ↦ of_step_lines ways v m k (all_first P (step_lines ways v m) (identity_lines v (Step m) (ways m)) h) b
   ]

@@ -16,6 +16,7 @@ use Rattle.tv_rank.proofs.UnknownLists.{all_both, length-flat}
 use Rattle.tv_rank.proofs.Lengths.{length-identity}
 use Rattle.tv_rank.proofs.Barriers.{line, width}
 use Rattle.tv_rank.proofs.Flattened.{length-lines}
+use Rattle.tv_cases.proofs.AmountLemmas.{suc-times}
 
 -- ---- the rows speak of places of the set
 abbrev Placed : ℕ → Line → Type 0
@@ -55,10 +56,7 @@ fewer a (suc b) m l h = (let e = more a b in omega (arith, e, h))
 
 fewer_right : (a b m : ℕ) → 1 ≤ a → a * b ≤ m → b ≤ m
 fewer_right zero b m l h = absurd (omega (arith, l))
-fewer_right (suc a) b m l h = (let e = more a b in omega (arith, e, h))
-  where
-    more : (a b : ℕ) → suc a * b ≡ b + a * b
-    more a b = grind arith
+fewer_right (suc a) b m l h = (let e = suc-times a b in omega (arith, e, h))
 
 pub few_unknowns : (ways : ℕ → Way) (many falling v locations : ℕ) → length (lines ways many falling v) * length (unknowns ways many falling v locations) ≤ 4000000 → length (unknowns ways many falling v locations) ≤ 4000000
 few_unknowns ways many falling v locations h = fewer_right (length (lines ways many falling v)) (length (unknowns ways many falling v locations)) 4000000 (some_lines ways many falling v) h

@@ -1,8 +1,9 @@
-use Rattle.std.proofs.Common.{◌≡◌, ◌↔◌, ℕ, zero, suc, ◌+◌, ◌<◌, ◌≤◌, List, [], ◌∷◌, map, length, drop, get_or, arith, refl, sym, ap, ◌∙◌, ℤ, pos, ◌+ℤ◌, ◌*ℤ◌, subst, Option, Some, drop-cons}
+use Rattle.std.proofs.Common.{◌≡◌, ◌↔◌, ℕ, suc, ◌+◌, ◌<◌, ◌≤◌, List, [], ◌∷◌, map, length, drop, get_or, arith, refl, sym, ap, ◌∙◌, ℤ, pos, ◌+ℤ◌, ◌*ℤ◌, subst, Option, Some, drop-cons}
 use Rattle.std.proofs.lemmas.Int.{ints}
 use Rattle.tv_linear.specs.Fits.{IsHeld}
 use Rattle.tv_linear.specs.Known.{Term, kept, term_number, place_sum, PlacesHeld, Known, KnownHeld, known_number}
 use Rattle.std.proofs.lemmas.List.{get_or-map}
+use Rattle.tv_linear.proofs.ListLaws.{drop_past}
 
 -- the sum of f j times the number at j - v
 abbrev pub place_from : ℕ → (ℕ → ℤ) → List ℤ → ℤ
@@ -46,12 +47,6 @@ module _ (told : ℕ → Type 0) (f : ℕ → ℤ) (xs : List ℤ) where
           let w : place_from v f (drop v xs) ≡ f v *ℤ x +ℤ place_from (v + 1) f (drop (v + 1) xs) = ap (place_from v f) here ∙ ap (λ k. f v *ℤ x +ℤ place_from k f (drop (v + 1) xs)) next in
           omega (arith, ints, w, t));
     }
-
-  drop_past : {A : Type 0} (ys : List A) (i : ℕ) → length ys ≤ i → drop i ys ≡ []
-  drop_past [] zero k = refl
-  drop_past [] (suc i) k = refl
-  drop_past (y ∷ ys) zero k = absurd (omega arith)
-  drop_past (y ∷ ys) (suc i) k = drop_past ys i (omega arith)
 
   pub Going_end : (sum : ℤ) (v : ℕ) → length xs ≤ v → Going sum v → PlacesHeld told f (pos 0) 0 xs × (sum ≡ place_sum f xs)
   Going_end sum v l h =

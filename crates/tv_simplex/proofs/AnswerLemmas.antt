@@ -4,7 +4,7 @@ use Rattle.std.proofs.lemmas.Int.{ints, fits_signed_from_abs}
 use Rattle.std.proofs.lemmas.List.{length-set, get_or-set_same, get_or-set_other}
 use Rattle.tv_fraction.specs.declared.Fraction.{Fraction}
 use Rattle.tv_simplex.proofs.Ring.{zero_times}
-use Rattle.tv_simplex.proofs.Sums.{total-zero, delta-same, delta-other}
+use Rattle.tv_simplex.proofs.Sums.{total-zero, delta-same, delta-other, total-last}
 use Rattle.tv_simplex.specs.Sums.{total, delta}
 use Rattle.tv_simplex.specs.Systems.{Equations, sign}
 use Rattle.tv_simplex.specs.Chains.{column}
@@ -57,19 +57,16 @@ values_more n columns basis numbers values count n_in distinct inside short h = 
         let none = total-zero n (λ i. delta (column basis i) j *ℤ get_or numbers i (pos 0)) (λ i g. zero_times (delta (column basis i) j) (get_or numbers i (pos 0)) (delta-other (column basis i) j (λ k. distinct n i n_in g (sym e ∙ sym k)))) in
         let one : delta (column basis n) j ≡ pos 1 = ap (λ z. delta (column basis n) z) e ∙ delta-same (column basis n) in
         let m = ap (λ z. z *ℤ get_or numbers n (pos 0)) one in
-        let s = more n (λ i. delta (column basis i) j *ℤ get_or numbers i (pos 0)) in
+        let s = total-last n (λ i. delta (column basis i) j *ℤ get_or numbers i (pos 0)) in
         at e ∙ omega (arith, ints, none, m, s)
     | inr o ↦
         let m = zero_times (delta (column basis n) j) (get_or numbers n (pos 0)) (delta-other (column basis n) j (λ k. o (sym k))) in
-        let s = more n (λ i. delta (column basis i) j *ℤ get_or numbers i (pos 0)) in
+        let s = total-last n (λ i. delta (column basis i) j *ℤ get_or numbers i (pos 0)) in
         let v = h.sums j l in
         other j o ∙ v ∙ omega (arith, ints, m, s)
   ];
 }
   where
-    more : (k : ℕ) (f : ℕ → ℤ) → total (k + 1) f ≡ total k f +ℤ f k
-    more k f = (let e : k + 1 ≡ suc k = omega arith in ap (λ z. total z f) e)
-
     at : {j : ℕ} → j ≡ column basis n → get_or (set values (column basis n) (get_or numbers n (pos 0))) j (pos 0) ≡ get_or numbers n (pos 0)
     at {j = j} e = ap (λ z. get_or (set values (column basis n) (get_or numbers n (pos 0))) z (pos 0)) e ∙ get_or-set_same values (column basis n) (get_or numbers n (pos 0)) (pos 0) (let s = h.size in omega (arith, s, inside))
 

@@ -3,6 +3,7 @@ use Rattle.std.proofs.lemmas.Bool.Decides.{nat_tests}
 use lib.Dec.{eqb}
 use Rattle.tv_simplex.specs.Choices.{choices}
 use Rattle.std.proofs.lemmas.Bool.{cases_Bool}
+use Rattle.tv_linear.proofs.ListLaws.{same_or_below}
 
 choices-more : (n k : ℕ) → choices n k ≤ choices (suc n) k
 choices-more n zero = omega arith
@@ -46,9 +47,6 @@ rank-below (suc n) f = elim (cases_Bool (f n)) [
       omega arith)
 ]
 
-pub last_or_below : (n j : ℕ) → j < suc n → (j ≡ n) ⊎ (j < n)
-last_or_below n j h = grind arith
-
 pub rank-same : (n : ℕ) (f g : ℕ → Bool) → count n f ≡ count n g → rank n f ≡ rank n g → (j : ℕ) → j < n → f j ≡ g j
 rank-same zero f g c r j l = absurd (omega arith)
 rank-same (suc n) f g c r j l = elim (cases_Bool (f n)) [
@@ -91,7 +89,7 @@ rank-same (suc n) f g c r j l = elim (cases_Bool (f n)) [
 ]
   where
     further : (count n f ≡ count n g → rank n f ≡ rank n g → j < n → f j ≡ g j) → count n f ≡ count n g → rank n f ≡ rank n g → f n ≡ g n → f j ≡ g j
-    further again p q e = elim (last_or_below n j l) [
+    further again p q e = elim (same_or_below n j l) [
       | inl h ↦ ap f h ∙ e ∙ ap g (sym h)
       | inr h ↦ again p q h
     ]
@@ -118,7 +116,7 @@ is_column-from (suc m) b j h = elim (or_true (eqb (b m) j) (is_column m b j) h) 
 
 pub is_column-at : (m : ℕ) (b : ℕ → ℕ) (l : ℕ) → l < m → is_column m b (b l) ≡ true
 is_column-at zero b l h = absurd (omega arith)
-is_column-at (suc m) b l h = elim (last_or_below m l h) [
+is_column-at (suc m) b l h = elim (same_or_below m l h) [
   | inl e ↦ (let q : eqb (b m) (b l) ≡ true = grind (arith, nat_tests, ap b e) in ap (λ t. t || is_column m b (b l)) q)
   | inr k ↦ or_right (eqb (b m) (b l)) (is_column m b (b l)) (is_column-at m b l k)
 ]
@@ -134,7 +132,7 @@ count-past (suc n) p f h =
 
 pub count-one_more : (n p : ℕ) (f : ℕ → Bool) → p < n → f p ≡ false → count n (λ j. eqb p j || f j) ≡ suc (count n f)
 count-one_more zero p f h e = absurd (omega arith)
-count-one_more (suc n) p f h e = elim (last_or_below n p h) [
+count-one_more (suc n) p f h e = elim (same_or_below n p h) [
   | inl k ↦ (
       let q : eqb p n ≡ true = grind (arith, nat_tests) in
       let a = count-true n (λ j. eqb p j || f j) (ap (λ t. t || f n) q) in

@@ -5,7 +5,7 @@ use Rattle.std.proofs.lemmas.Bool.Decides.{nat_tests}
 use Rattle.std.proofs.Math.IntN.{*ℤ_comm}
 use Rattle.tv_linear.proofs.Ring.{mul_assoc_z}
 use Rattle.tv_fraction.specs.declared.Fraction.{Fraction}
-use Rattle.tv_simplex.proofs.Ring.{mul_swap, same_factor, times_zero, zero_times, less_times}
+use Rattle.tv_simplex.proofs.Ring.{mul_swap, same_factor, times_zero, zero_times, less_times, times_less, one_times_z}
 use Rattle.tv_simplex.proofs.Sums.{total-same, total-delta, delta-same, delta-other}
 use Rattle.tv_simplex.proofs.Bounded.{columns_apart}
 use Rattle.tv_simplex.proofs.Matrices.{matrix_is_system}
@@ -25,6 +25,7 @@ use Rattle.tv_simplex.specs.Tables.{shown}
 use Rattle.tv_simplex.specs.Choosing.{NoneNegative as NoneBelow}
 use Rattle.tv_simplex.specs.Scales.{AreScaled, HaveScale, IsScalingStop, numerator_at, denominator_at, ratio_at}
 use Rattle.tv_simplex.specs.Walking.{AreOfColumn, AreOfObjective, AreDistinct, AreValues, AreSigned, StandsAt, IsSolved, IsUnsolvedAt, IsAnswerStop}
+use Rattle.tv_linear.proofs.ListLaws.{in_order, below_or_not}
 
 -- w over a scale is a fraction, which is e / d
 over_scale : (w den scale num d e : ℤ) → pos 0 <ℤ den → w *ℤ den ≡ scale *ℤ num → num *ℤ d ≡ e *ℤ den → w *ℤ d ≡ scale *ℤ e
@@ -112,11 +113,8 @@ module _ (s : Equations) (n : ℕ) (t : Table) (st : StandsAt s n t) where
         total-same s.rows (λ k. delta (column t.basis.items k) (column t.basis.items i) *ℤ st.shows.table.entry k (s.columns + s.rows)) (λ k. delta k i *ℤ st.shows.table.entry k (s.columns + s.rows)) (λ k g. ap (λ z. z *ℤ st.shows.table.entry k (s.columns + s.rows)) (same k g))
         ∙ total-delta s.rows i (λ k. st.shows.table.entry k (s.columns + s.rows)) l
       where
-        order : (p q : ℕ) → (p < q) ⊎ ((p ≡ q) ⊎ (q < p))
-        order p q = grind arith
-
         same : (k : ℕ) → k < s.rows → delta (column t.basis.items k) (column t.basis.items i) ≡ delta k i
-        same k g = elim (order k i) [
+        same k g = elim (in_order k i) [
           | inl less ↦ delta-other (column t.basis.items k) (column t.basis.items i) (λ e. basis_distinct i k l less (sym e)) ∙ sym (delta-other k i (λ e. absurd (omega arith)))
           | inr w ↦ elim w [
             | inl e ↦ ap (λ z. delta (column t.basis.items z) (column t.basis.items i)) e ∙ delta-same (column t.basis.items i) ∙ sym (ap (λ z. delta z i) e ∙ delta-same i)
@@ -135,9 +133,6 @@ module _ (s : Equations) (n : ℕ) (t : Table) (st : StandsAt s n t) where
       short = λ i l. short i (below_or_not (column t.basis.items i) s.columns);
     }
       where
-        below_or_not : (p q : ℕ) → (p < q) ⊎ (q ≤ p)
-        below_or_not p q = grind arith
-
         same : (i : ℕ) → i < s.rows → (column t.basis.items i < s.columns) ⊎ (s.columns ≤ column t.basis.items i) → whole_at s.columns t.basis.items h.whole i *ℤ denominator_at fractions i ≡ h.scale *ℤ numerator_at fractions i
         same i l (inl g) =
             ap (λ z. z *ℤ denominator_at fractions i) (inside s.columns t.basis.items h.whole i g)
@@ -168,11 +163,8 @@ module _ (s : Equations) (n : ℕ) (t : Table) (st : StandsAt s n t) where
         less_one : (x dx y dy v d : ℤ) → pos 0 <ℤ dy → x *ℤ dy ≡ (y -ℤ dy) *ℤ dx → y *ℤ d ≡ v *ℤ dy → x *ℤ d ≡ (v -ℤ d) *ℤ dx
         less_one x dx y dy v d p h g = same_factor dy (x *ℤ d) ((v -ℤ d) *ℤ dx) p (
             mul_swap dy x d ∙ sym (mul_assoc_z x dy d) ∙ ap (λ z. z *ℤ d) h ∙ mul_assoc_z (y -ℤ dy) dx d ∙ ap (λ z. (y -ℤ dy) *ℤ z) (*ℤ_comm dx d) ∙ sym (mul_assoc_z (y -ℤ dy) d dx)
-            ∙ ap (λ z. z *ℤ dx) (less_times y dy d ∙ (let c = *ℤ_comm v dy in let e = times_less_of dy v d in omega (arith, ints, g, c, e))) ∙ mul_assoc_z dy (v -ℤ d) dx
+            ∙ ap (λ z. z *ℤ dx) (less_times y dy d ∙ (let c = *ℤ_comm v dy in let e = times_less dy v d in omega (arith, ints, g, c, e))) ∙ mul_assoc_z dy (v -ℤ d) dx
             )
-          where
-            times_less_of : (a b c : ℤ) → a *ℤ (b -ℤ c) ≡ a *ℤ b -ℤ a *ℤ c
-            times_less_of a b c = *ℤ_comm a (b -ℤ c) ∙ less_times b c a ∙ (λ q. *ℤ_comm b a q -ℤ *ℤ_comm c a q)
 
     pub gives_barrier : (numbers y : List ℤ) (scale : ℤ) → AreScaled fractions numbers scale → AreSigned s s.rows numbers y → GivesBarrier s y
     gives_barrier numbers y scale scaled v = record {
@@ -203,15 +195,12 @@ module _ (s : Equations) (n : ℕ) (t : Table) (st : StandsAt s n t) where
           let k_in : k < s.rows = (let z = of.size in omega (arith, z, l)) in
           let b = barrier_of (matrix s) s.rows s.columns (column t.basis.items) x k in
           from_scale (sign s k *ℤ h.whole k) (denominator_at fractions k) h.scale (numerator_at fractions k) x.scale b x.positive
-          (mul_assoc_z (sign s k) (h.whole k) x.scale ∙ ap (λ z. sign s k *ℤ z) (h.same k k_in) ∙ mul_swap (sign s k) h.scale (sign s k *ℤ b) ∙ ap (λ z. h.scale *ℤ z) (sym (mul_assoc_z (sign s k) (sign s k) b) ∙ ap (λ z. z *ℤ b) (sign-twice s k) ∙ one b))
+          (mul_assoc_z (sign s k) (h.whole k) x.scale ∙ ap (λ z. sign s k *ℤ z) (h.same k k_in) ∙ mul_swap (sign s k) h.scale (sign s k *ℤ b) ∙ ap (λ z. h.scale *ℤ z) (sym (mul_assoc_z (sign s k) (sign s k) b) ∙ ap (λ z. z *ℤ b) (sign-twice s k) ∙ one_times_z b))
           (factor_read k k_in).same;
       short = λ k l. (let k_in : k < s.rows = (let z = of.size in omega (arith, z, l)) in let m = unsigned_abs-mul (sign s k) (h.whole k) in let o = sign_size s k in let w = h.whole_short k k_in in
           subst (λ z. z < 2 ^ 62) (sym (m ∙ ap (λ z. z * unsigned_abs (h.whole k)) o ∙ one_times (unsigned_abs (h.whole k)))) w);
     }
       where
-        one : (z : ℤ) → pos 1 *ℤ z ≡ z
-        one z = omega (arith, ints)
-
         one_times : (z : ℕ) → 1 * z ≡ z
         one_times z = omega arith
 

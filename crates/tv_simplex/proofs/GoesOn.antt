@@ -10,8 +10,8 @@ use Rattle.tv_simplex.specs.Sums.{total, delta}
 use Rattle.tv_simplex.specs.Tableaus.{Tableau}
 use Rattle.tv_simplex.specs.Chains.{LeadsAbove, order, cost, objective, column, Step, Solves, Settles}
 use Rattle.tv_simplex.specs.Orders.{Feasible, against, LeastOf}
-use Rattle.tv_simplex.proofs.Counting.{last_or_below}
 use Rattle.std.proofs.lemmas.Bool.{cases_lt, cases_eq}
+use Rattle.tv_linear.proofs.ListLaws.{same_or_below}
 
 -- ---- the first number below 0
 pub first_negative : (n : ℕ) (f : ℕ → ℤ) → ((j : ℕ) → j < n → pos 0 ≤ℤ f j) ⊎ ((c : ℕ) × (c < n) × (f c <ℤ pos 0) × ((j : ℕ) → j < c → pos 0 ≤ℤ f j))
@@ -20,7 +20,7 @@ first_negative (suc n) f = elim (first_negative n f) [
   | inr w ↦ inr (w.0, (let l = w.1 in omega arith), w.2, w.3)
   | inl none ↦ elim (by_sign (f n)) [
     | inl h ↦ inr (n, omega arith, h, none)
-    | inr w ↦ inl (λ j l. elim (last_or_below n j l) [
+    | inr w ↦ inl (λ j l. elim (same_or_below n j l) [
       | inr k ↦ none j k
       | inl k ↦ subst (λ z. pos 0 ≤ℤ z) (ap f (sym k)) (elim w [ inl e ↦ omega (arith, ints, e) | inr p ↦ omega (arith, ints) ])
     ])
@@ -43,14 +43,14 @@ leads-cases (suc m) v = elim (leads-cases m v) [
     | inr none ↦ elim (by_sign (v (suc m))) [
       | inl h ↦ inr (inl (record { place = suc m; within = omega arith; before = λ q l. (let k = none q (omega arith) in omega (arith, ints, k)); here = omega (arith, ints) }))
       | inr u ↦ elim u [
-        | inl e ↦ inr (inr (λ q l. elim (last_or_below (suc m) q (omega arith)) [ inl k ↦ ap v k ∙ e | inr k ↦ none q (omega arith) ]))
+        | inl e ↦ inr (inr (λ q l. elim (same_or_below (suc m) q (omega arith)) [ inl k ↦ ap v k ∙ e | inr k ↦ none q (omega arith) ]))
         | inr h ↦ inl (record { place = suc m; within = omega arith; before = λ q l. none q (omega arith); here = h })
       ]
     ]
   ]
 ]
 
-total-not_above : (n : ℕ) (f : ℕ → ℤ) → ((k : ℕ) → k < n → f k ≤ℤ pos 0) → total n f ≤ℤ pos 0
+pub total-not_above : (n : ℕ) (f : ℕ → ℤ) → ((k : ℕ) → k < n → f k ≤ℤ pos 0) → total n f ≤ℤ pos 0
 total-not_above zero f h = omega (arith, ints)
 total-not_above (suc n) f h =
     let here = h n (omega arith) in
@@ -119,7 +119,7 @@ module _ (a : ℕ → ℕ → ℤ) (m n : ℕ) (b : ℕ → ℕ) (x : Tableau a 
   least_first c k p none = record {
     within = omega arith;
     above = p;
-    least = λ i l o q. elim (last_or_below k i l) [
+    least = λ i l o q. elim (same_or_below k i l) [
       | inl e ↦ absurd (o e)
       | inr g ↦ (let u = none i g in absurd (omega (arith, ints, u)))
     ];
@@ -130,7 +130,7 @@ module _ (a : ℕ → ℕ → ℤ) (m n : ℕ) (b : ℕ → ℕ) (x : Tableau a 
   least_skips c k r low old = record {
     within = (let l = old.within in omega arith);
     above = old.above;
-    least = λ i l o p. elim (last_or_below k i l) [
+    least = λ i l o p. elim (same_or_below k i l) [
       | inl e ↦ (let u = ap (λ y. x.entry y c) e in absurd (omega (arith, ints, u)))
       | inr g ↦ old.least i g o p
     ];
@@ -141,7 +141,7 @@ module _ (a : ℕ → ℕ → ℤ) (m n : ℕ) (b : ℕ → ℕ) (x : Tableau a 
   least_stays c k r up old = record {
     within = (let l = old.within in omega arith);
     above = old.above;
-    least = λ i l o q. elim (last_or_below k i l) [
+    least = λ i l o q. elim (same_or_below k i l) [
       | inl e ↦ subst (λ y. LeadsAbove m (ratio c r y)) (sym e) up
       | inr g ↦ old.least i g o q
     ];
@@ -152,7 +152,7 @@ module _ (a : ℕ → ℕ → ℤ) (m n : ℕ) (b : ℕ → ℕ) (x : Tableau a 
   least_taken c k r p turned old = record {
     within = omega arith;
     above = p;
-    least = λ i l o q. elim (last_or_below k i l) [
+    least = λ i l o q. elim (same_or_below k i l) [
       | inl e ↦ absurd (o e)
       | inr g ↦ elim (cases_eq i r) [
         | inl e ↦ subst (λ y. LeadsAbove m (ratio c k y)) (sym e) turned
@@ -179,7 +179,7 @@ module _ (a : ℕ → ℕ → ℤ) (m n : ℕ) (b : ℕ → ℕ) (x : Tableau a 
   ]
     where
       skip : x.entry k c ≤ℤ pos 0 → ((i : ℕ) → i < k → x.entry i c ≤ℤ pos 0) ⊎ ((r : ℕ) × LeastOf a m n b x c k r) → ((i : ℕ) → i < suc k → x.entry i c ≤ℤ pos 0) ⊎ ((r : ℕ) × LeastOf a m n b x c (suc k) r)
-      skip low (inl none) = inl (λ i l. elim (last_or_below k i l) [ inl e ↦ subst (λ y. x.entry y c ≤ℤ pos 0) (sym e) low | inr g ↦ none i g ])
+      skip low (inl none) = inl (λ i l. elim (same_or_below k i l) [ inl e ↦ subst (λ y. x.entry y c ≤ℤ pos 0) (sym e) low | inr g ↦ none i g ])
       skip low (inr old) = inr (old.0, least_skips c k old.0 low old.1)
 
       better : pos 0 <ℤ x.entry k c → (r : ℕ) → LeastOf a m n b x c k r → (s : ℕ) × LeastOf a m n b x c (suc k) s
@@ -198,7 +198,7 @@ all_or_one (suc k) P h = elim (all_or_one k P (λ i l. h i (omega arith))) [
   | inr never ↦ inr (λ f. never (λ i l. f i (omega arith)))
   | inl each ↦ elim (h k (omega arith)) [
     | inr never ↦ inr (λ f. never (f k (omega arith)))
-    | inl here ↦ inl (λ i l. elim (last_or_below k i l) [ inl e ↦ subst P (sym e) here | inr g ↦ each i g ])
+    | inl here ↦ inl (λ i l. elim (same_or_below k i l) [ inl e ↦ subst P (sym e) here | inr g ↦ each i g ])
   ]
 ]
 

@@ -1,8 +1,9 @@
-use Rattle.std.proofs.Common.{◌≡◌, ℕ, ◌⊎◌, inl, inr, ◌<◌, ◌≤◌, arith, sym, ◌∙◌, subst, ℤ, pos, ◌+ℤ◌, ◌-ℤ◌, ◌*ℤ◌, ◌<ℤ◌, ◌≤ℤ◌}
+use Rattle.std.proofs.Common.{◌≡◌, ℕ, inl, inr, ◌≤◌, arith, sym, ◌∙◌, subst, ℤ, pos, ◌+ℤ◌, ◌-ℤ◌, ◌*ℤ◌, ◌<ℤ◌, ◌≤ℤ◌}
 use Rattle.std.proofs.lemmas.Int.{ints}
 use Rattle.tv_simplex.proofs.Ring.{is_zero, is_above, times_zero, by_sign, zero_times, less_times}
 use Rattle.tv_simplex.specs.Chains.{LeadsAbove}
 use Rattle.tv_fraction.proofs.Products.{product_above}
+use Rattle.tv_linear.proofs.ListLaws.{in_order}
 
 pub leads-same : (m : ℕ) (v w : ℕ → ℤ) → LeadsAbove m v → ((q : ℕ) → q ≤ m → v q ≡ w q) → LeadsAbove m w
 leads-same m v w h e = record {
@@ -51,9 +52,6 @@ leads-add m v w h k = elim (in_order h.place k.place) [
     }
   ]
 ]
-  where
-    in_order : (p q : ℕ) → (p < q) ⊎ ((p ≡ q) ⊎ (q < p))
-    in_order p q = grind arith
 
 -- a > 0 times the one less g <= 0 times the other
 pub leads-less : (m : ℕ) (a g : ℤ) (v w : ℕ → ℤ) → pos 0 <ℤ a → g ≤ℤ pos 0 → LeadsAbove m v → LeadsAbove m w → LeadsAbove m (λ q. a *ℤ v q -ℤ g *ℤ w q)

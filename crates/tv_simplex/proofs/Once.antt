@@ -1,4 +1,4 @@
-use Rattle.std.proofs.Common.{◌≡◌, ℕ, ◌⊎◌, inl, inr, ◌<◌, List, [], ◌∷◌, length, set, arith, refl, sym, ap, ◌∙◌, subst, ℤ, pos, ◌+ℤ◌, ◌-ℤ◌, ◌*ℤ◌, ◌<ℤ◌}
+use Rattle.std.proofs.Common.{◌≡◌, ℕ, inl, inr, ◌<◌, List, [], ◌∷◌, length, set, arith, refl, sym, ap, ◌∙◌, subst, ℤ, pos, ◌+ℤ◌, ◌-ℤ◌, ◌*ℤ◌, ◌<ℤ◌}
 use Rattle.std.proofs.lemmas.Int.{ints}
 use Rattle.tv_linear.proofs.Ring.{mul_assoc_z}
 use Rattle.tv_simplex.proofs.Ring.{times_zero, is_above, mul_swap, times_less}
@@ -10,6 +10,7 @@ use Rattle.tv_simplex.specs.Chains.{order, objective, column, Enters, Leaves, St
 use Rattle.std.proofs.lemmas.Grind.{same_number_lists}
 use Rattle.std.proofs.lemmas.Bool.{cases_eq}
 use Rattle.tv_fraction.proofs.Products.{product_above}
+use Rattle.tv_linear.proofs.ListLaws.{in_order}
 
 above_too : (p q u v : ℤ) → pos 0 <ℤ p → pos 0 <ℤ q → p *ℤ u ≡ q *ℤ v → pos 0 <ℤ u → pos 0 <ℤ v
 above_too p q u v h k e l = let a = product_above p u h l in is_above q v k (omega (arith, ints, a, e))
@@ -56,9 +57,6 @@ module _ (a : ℕ → ℕ → ℤ) (m n : ℕ) (b : ℕ → ℕ) (x y : Tableau 
           let h3 = both y.scale x.scale (x.entry r c) (y.entry r c) (x.entry r' j) (y.entry r' j) (e r c h.within) (e r' j k.within) in
           let h4 = both y.scale x.scale (x.entry r' c) (y.entry r' c) (x.entry r j) (y.entry r j) (e r' c k.within) (e r j h.within) in
           omega (arith, ints, h1, h2, h3, h4)
-
-in_order : (p q : ℕ) → (p < q) ⊎ ((p ≡ q) ⊎ (q < p))
-in_order p q = grind arith
 
 -- the next basis is one
 pub one_step : (a : ℕ → ℕ → ℤ) (m n : ℕ) (old new new' : List ℕ) → Step a m n old new → Step a m n old new' → new ≡ new'

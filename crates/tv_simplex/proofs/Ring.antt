@@ -29,6 +29,9 @@ times_zero a b e = ap (λ z. a *ℤ z) e ∙ omega (arith, ints)
 pub zero_times : (a b : ℤ) → a ≡ pos 0 → a *ℤ b ≡ pos 0
 zero_times a b e = ap (λ z. z *ℤ b) e ∙ omega (arith, ints)
 
+pub one_times_z : (z : ℤ) → pos 1 *ℤ z ≡ z
+one_times_z z = omega (arith, ints)
+
 pub by_sign : (v : ℤ) → (v <ℤ pos 0) ⊎ ((v ≡ pos 0) ⊎ (pos 0 <ℤ v))
 by_sign (pos zero) = inr (inl refl)
 by_sign (pos (suc n)) = inr (inr (omega (arith, ints)))

@@ -155,6 +155,9 @@ no_scale fractions none h =
     let s = h.scale_short in
     absurd (omega (arith, w, s))
 
+pub not_below : (p q : ℕ) → (p < q → ⊥) → q ≤ p
+not_below p q h = grind (arith, h)
+
 pub scaled_up : (s k x : ℕ) → s ≤ k → s * x ≤ k * x
 scaled_up s k x h = grind arith
 

@@ -1,8 +1,9 @@
-use Rattle.std.proofs.Common.{◌≡◌, ℕ, zero, suc, ◌⊎◌, inl, inr, ◌<◌, ◌≤◌, arith, refl, sym, ap, ◌∙◌, ℤ, pos, ◌+ℤ◌, ◌-ℤ◌, ◌*ℤ◌}
+use Rattle.std.proofs.Common.{◌≡◌, ℕ, zero, suc, inl, inr, ◌+◌, ◌<◌, ◌≤◌, arith, refl, sym, ap, ◌∙◌, ℤ, pos, ◌+ℤ◌, ◌-ℤ◌, ◌*ℤ◌}
 use Rattle.std.proofs.lemmas.Int.{ints}
 use Rattle.tv_linear.proofs.Ring.{distribute_z, mul_assoc_z}
 use Rattle.tv_simplex.proofs.Ring.{less_times, zero_times}
 use Rattle.tv_simplex.specs.Sums.{total, delta}
+use Rattle.tv_linear.proofs.ListLaws.{same_or_below}
 
 pub total-same : (n : ℕ) (f g : ℕ → ℤ) → ((k : ℕ) → k < n → f k ≡ g k) → total n f ≡ total n g
 total-same zero f g h = refl
@@ -32,6 +33,9 @@ total-zero (suc n) f h =
     let here = h n (omega arith) in
     let before = total-zero n f (λ k l. h k (omega arith)) in
     omega (arith, ints, here, before)
+
+pub total-last : (n : ℕ) (f : ℕ → ℤ) → total (n + 1) f ≡ total n f +ℤ f n
+total-last n f = (let e : n + 1 ≡ suc n = omega arith in ap (λ z. total z f) e)
 
 -- the sums of a * f - b * g, each times h
 pub total-two : (n : ℕ) (a b : ℤ) (f g h : ℕ → ℤ) → total n (λ k. (a *ℤ f k -ℤ b *ℤ g k) *ℤ h k) ≡ a *ℤ total n (λ k. f k *ℤ h k) -ℤ b *ℤ total n (λ k. g k *ℤ h k)
@@ -71,7 +75,7 @@ total-delta zero r f h = absurd (omega arith)
 total-delta (suc n) r f h = elim (same_or_below n r h) [
   | inl e ↦ (
       let none = total-delta-none n r f (omega arith) in
-      let one = ap (λ k. delta n k *ℤ f n) (sym e) ∙ ap (λ z. z *ℤ f n) (delta-same n) in
+      let one = ap (λ k. delta n k *ℤ f n) e ∙ ap (λ z. z *ℤ f n) (delta-same n) in
       let f_same = ap f e in
       omega (arith, ints, none, one, f_same))
   | inr l ↦ (
@@ -79,9 +83,6 @@ total-delta (suc n) r f h = elim (same_or_below n r h) [
       let none = zero_times (delta n r) (f n) (delta-above n r l) in
       omega (arith, ints, before, none))
 ]
-  where
-    same_or_below : (n r : ℕ) → r < suc n → (n ≡ r) ⊎ (r < n)
-    same_or_below n r h = grind arith
 
 pub delta-swap : (i j : ℕ) → delta i j ≡ delta j i
 delta-swap zero zero = refl

@@ -1,4 +1,4 @@
-use Rattle.std.proofs.Common.{ℕ, ◌⊎◌, inl, inr, ◌+◌, ◌*◌, ◌<◌, ◌≤◌, length, subst, arith}
+use Rattle.std.proofs.Common.{◌+◌, ◌*◌, length, subst}
 use Rattle.tv_simplex.specs.Outcomes.{IsSolutionOf, IsBarrierOf, GivesBarrier, IsNarrowSystem}
 use Rattle.tv_simplex.specs.Views.{equations, IsAnswer, GivesAnswer}
 use Rattle.tv_simplex.proofs.RowLemmas.{tested_false}
@@ -6,17 +6,12 @@ use Rattle.tv_farkas.specs.Refuting.{IsOppositePoint}
 use Rattle.tv_farkas.proofs.SystemLemmas.{solution_refutes}
 use Rattle.tv_farkas.proofs.RefusalLemmas.{point_answers, point_gives, point_short}
 use Rattle.tv_farkas.proofs.refuting.refute.Goals as goal
-
-below_or_not : (p q : ℕ) → (p < q) ⊎ (q ≤ p)
-below_or_not p q = grind arith
-
-not_above : (p q : ℕ) → (p < q → ⊥) → q ≤ p
-not_above p q h = elim (below_or_not p q) [ inl g ↦ absurd (h g) | inr g ↦ g ]
+use Rattle.tv_simplex.proofs.ScaleLemmas.{not_below}
 
 pub returns-in-Ok-Solution-clause-answers : goal.returns-in-Ok-Solution-clause-answers
 returns-in-Ok-Solution-clause-answers c =
     let e = c.in-Ok.ensures.same in
-    let size = not_above 4000000 ((c.args.columns + 1) * length c.args.rows.now) (tested_false c.is_large.result c.is_large.ensures c.if-is_large.false) in
+    let size = not_below 4000000 ((c.args.columns + 1) * length c.args.rows.now) (tested_false c.is_large.result c.is_large.ensures c.if-is_large.false) in
     let answer = subst (λ a. IsAnswer (equations c.in-Ok.system) a) c.in-Ok-Solution.field-0-is c.in-Ok-Solution.ensures.answers in
     solution_refutes c.args.columns c.args.rows.now c.in-Ok-Solution.values.items c.in-Ok-Solution.field-0-1 c.requires.even size (subst (λ s. IsNarrowSystem s) e c.in-Ok-Solution.ensures.narrow)
     (subst (λ s. IsSolutionOf s c.in-Ok-Solution.values.items c.in-Ok-Solution.field-0-1) e answer)

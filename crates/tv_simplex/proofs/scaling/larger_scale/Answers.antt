@@ -1,21 +1,15 @@
-use Rattle.std.proofs.Common.{ℕ, ◌<◌, ◌≤◌, ◌*◌, ◌/◌, ◌^◌, ◌⊎◌, inl, inr, arith, subst, sym}
+use Rattle.std.proofs.Common.{◌<◌, ◌≤◌, ◌*◌, ◌/◌, ◌^◌, arith, subst, sym}
 use Rattle.tv_fraction.proofs.LowestTerms.{gcd_above}
 use Rattle.tv_simplex.specs.Scales.{IsLarger}
-use Rattle.tv_simplex.proofs.ScaleLemmas.{is_larger, no_larger}
+use Rattle.tv_simplex.proofs.ScaleLemmas.{is_larger, no_larger, not_below}
 use Rattle.tv_simplex.proofs.scaling.larger_scale.Goals as goal
 
 pub nonzero_div-scale : goal.nonzero_div-scale
 nonzero_div-scale c = gcd_above c.args.scale c.args.denominator c.gcd-common.result c.requires.denominator c.gcd-common.ensures
 
-below_or_not : (p q : ℕ) → (p < q) ⊎ (q ≤ p)
-below_or_not p q = grind arith
-
-not_below : (p q r : ℕ) → r ≤ q → (p < q → ⊥) → r ≤ p
-not_below p q r l h = elim (below_or_not p q) [ inl g ↦ absurd (h g) | inr g ↦ omega (arith, l, g) ]
-
 pub returns-in-None : goal.returns-in-None
 returns-in-None c = no_larger c.args.scale c.args.denominator c.gcd-common.result c.requires.scale c.requires.denominator c.gcd-common.ensures
-    (not_below (c.args.scale / c.gcd-common.result * c.args.denominator) (2 ^ 128) (2 ^ 62) (omega arith) c.in-None.ensures)
+    (let wide = not_below (c.args.scale / c.gcd-common.result * c.args.denominator) (2 ^ 128) c.in-None.ensures in omega (arith, wide))
 
 pub returns-then-larger : goal.returns-then-larger
 returns-then-larger c =
