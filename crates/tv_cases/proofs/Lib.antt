@@ -1,3 +1,4 @@
+pub mod OptionLemmas
 pub mod ContainsLemmas
 pub mod NarrowRows
 pub mod RowValues

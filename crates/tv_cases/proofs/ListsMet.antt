@@ -17,7 +17,7 @@ use Rattle.tv_cases.specs.Linearity.{is_linear, condition_is_linear, conditions_
 use Rattle.tv_cases.specs.Forms.{form}
 use Rattle.tv_cases.specs.Lists.{pairs, difference, at_most, compared, relation_for, agrees, truth_lists, lists_of, paired, joined}
 use Rattle.tv_cases.proofs.FormValues.{values, form-value}
-use Rattle.std.proofs.Math.Bool.{and-true}
+use Rattle.std.proofs.Math.Bool.{and-true, or-false, and-false}
 use Rattle.tv_linear.proofs.RowValues.{value-plus, value-opposite, value-raised}
 use Rattle.std.proofs.lemmas.Bool.{and_parts}
 
@@ -49,14 +49,6 @@ or_and : (a b c : Bool) → ((a || b) && c) ≡ ((a && c) || (b && c))
 or_and true true c = grind arith
 or_and true false c = grind arith
 or_and false b c = refl
-
-pub or_false : (a : Bool) → (a || false) ≡ a
-or_false true = refl
-or_false false = refl
-
-and_false : (a : Bool) → (a && false) ≡ false
-and_false true = refl
-and_false false = refl
 
 one_list : (a : Bool) → ((a && true) || false) ≡ a
 one_list true = refl
@@ -95,7 +87,7 @@ some_met-append point [] ms = refl
 some_met-append point (l ∷ ls) ms = ap (λ b. all_met point l || b) (some_met-append point ls ms) ∙ sym (or_assoc (all_met point l) (some_met point ls) (some_met point ms))
 
 some_met-map : (point : List ℤ) (l : List Linear) (ms : List (List Linear)) → some_met point (map (λ m. l ++ m) ms) ≡ (all_met point l && some_met point ms)
-some_met-map point l [] = sym (and_false (all_met point l))
+some_met-map point l [] = sym (and-false (all_met point l))
 some_met-map point l (m ∷ ms) =
     (λ i. all_met-append point l m i || some_met-map point l ms i) ∙ sym (and_or (all_met point l) (all_met point m) (some_met point ms))
 
@@ -204,7 +196,7 @@ module _ (n w : ℕ) (point ds : List ℤ) (terms : List Linear) (wide : length 
         ∙ ap (λ b. some_met point so_far && b) (not_or (truth_of c (values point terms) ds) (some_true cs (values point terms) ds))
 
     joined-true : (so_far : List (List Linear)) (cs : Conditions) → conditions_are_linear cs ≡ true → some_met point (joined n w terms true so_far cs) ≡ (some_met point so_far || some_true cs (values point terms) ds)
-    joined-true so_far no_test l = sym (or_false (some_met point so_far))
+    joined-true so_far no_test l = sym (or-false (some_met point so_far))
     joined-true so_far (test c cs) l =
         let both = and_parts (condition_is_linear c) (conditions_are_linear cs) l in
         joined-true (so_far ++ lists_of n w terms true c) cs both.1
@@ -213,7 +205,7 @@ module _ (n w : ℕ) (point ds : List ℤ) (terms : List Linear) (wide : length 
         ∙ or_assoc (some_met point so_far) (truth_of c (values point terms) ds) (some_true cs (values point terms) ds)
 
     joined-false : (so_far : List (List Linear)) (cs : Conditions) → conditions_are_linear cs ≡ true → some_met point (joined n w terms false so_far cs) ≡ (some_met point so_far || not (all_true cs (values point terms) ds))
-    joined-false so_far no_test l = sym (or_false (some_met point so_far))
+    joined-false so_far no_test l = sym (or-false (some_met point so_far))
     joined-false so_far (test c cs) l =
         let both = and_parts (condition_is_linear c) (conditions_are_linear cs) l in
         joined-false (so_far ++ lists_of n w terms false c) cs both.1

@@ -1,10 +1,10 @@
 -- Rows of cases, and ways made of them.
-use Rattle.std.proofs.Common.{◌≡◌, ℕ, zero, suc, ◌+◌, ◌-◌, ◌<◌, ◌≤◌, List, [], ◌∷◌, ◌++◌, length, map, get_or, take, drop, drop-cons, All, Some, arith, refl, sym, ap, ◌∙◌, subst, ℤ, pos, ◌+ℤ◌, ◌-ℤ◌, ◌≤ℤ◌, length-append, append_assoc, ◌⊎◌, inl, inr}
+use Rattle.std.proofs.Common.{◌≡◌, ℕ, zero, suc, ◌+◌, ◌-◌, ◌<◌, ◌≤◌, List, [], ◌∷◌, ◌++◌, length, map, get_or, take, drop, drop-cons, All, Some, arith, refl, sym, ap, ◌∙◌, subst, ℤ, pos, ◌+ℤ◌, ◌-ℤ◌, ◌≤ℤ◌, length-append, append_assoc, ◌⊎◌, inl, inr, neg_ℤ}
 use Rattle.std.specs.Prelude.{slice_get, Result, Ok, Err, IfOk}
 use Rattle.std.specs.Result.{IfErr}
 use Rattle.std.proofs.lemmas.Option.{slice_get_read, slice_get_within, get_or_from_slice_get}
 use Rattle.std.proofs.lemmas.Int.{ints}
-use Rattle.std.proofs.lemmas.List.{get_or_past, map-append, append-nil, take-append-drop}
+use Rattle.std.proofs.lemmas.List.{get_or_past, map-append, append-nil, take-append-drop, length-map}
 use Rattle.std.proofs.lemmas.List.Elements.{All-nil, All-cons, All-head, All-tail, All-push, All-append}
 use Rattle.tv_linear.specs.Linear.{Linear, columns, value, IsMet, IsWithin, IsNarrow}
 use Rattle.tv_linear.specs.Arithmetic.{unit, column_row, composed as composed_row}
@@ -39,7 +39,6 @@ use Rattle.tv_choice.specs.ChoicePaths.{AreDrawTerms, IsWayIn}
 use Rattle.tv_choice.specs.Ways.{AreCaseRows, AreComposed, IsWayOf, IsWay, IsUnmade}
 use Rattle.tv_choice.proofs.ComposeLemmas.{drawn_terms, put_drawn, length-put_terms}
 use Rattle.tv_cases.proofs.SameSteps.{front-get_or}
-use Rattle.tv_cover.proofs.HalfLemmas.{length-neg}
 
 -- ---- lists
 pub next_of : (j : ℕ) → j + 1 ≡ suc j
@@ -96,7 +95,7 @@ pub fixes_even : (w column : ℕ) (xs : List ℤ) → All (λ r. columns r ≡ w
 fixes_even w column [] = All-nil (λ r. columns r ≡ w)
 fixes_even w column (x ∷ xs) =
     All-cons (λ r. columns r ≡ w) (at_most_row w column x) (at_least_row w column (x -ℤ pos 1) ∷ fixes w (suc column) xs) (length-unit w column)
-    (All-cons (λ r. columns r ≡ w) (at_least_row w column (x -ℤ pos 1)) (fixes w (suc column) xs) (length-neg (unit w column) ∙ length-unit w column) (fixes_even w (suc column) xs))
+    (All-cons (λ r. columns r ≡ w) (at_least_row w column (x -ℤ pos 1)) (fixes w (suc column) xs) (length-map (unit w column) neg_ℤ ∙ length-unit w column) (fixes_even w (suc column) xs))
 
 low_value : (w c : ℕ) (k : ℤ) (zs : List ℤ) → length zs ≡ w → value (at_most_row w c k) zs ≡ get_or zs c (pos 0) -ℤ k
 low_value w c k zs e = let h = value-column_row w c zs (omega (arith, e)) in omega (arith, ints, h)

@@ -3,7 +3,6 @@ use Rattle.std.specs.List.{Contains}
 use Rattle.std.proofs.lemmas.Int.{ints}
 use Rattle.tv_linear.specs.Linear.{Linear, columns, IsMet, scaled_value, IsScaledPoint}
 use Rattle.tv_linear.specs.Arithmetic.{unit, denial}
-use Rattle.tv_linear.specs.Fits.{IsHeld}
 use Rattle.tv_linear.specs.Known.{given, denied, KnownHeld}
 use Rattle.tv_linear.proofs.PlainLists.{length-unit}
 use Rattle.tv_farkas.specs.Paths.{TakenOnce, IsWholePoint, IsFirstFraction, IsPointSplit, at_most_row, at_least_row}
@@ -20,10 +19,8 @@ use Rattle.tv_cover.specs.Stepping.{AreHalves}
 use Rattle.tv_cover.proofs.PointLemmas.{point_above, point_front, open_above, shut_above, denied_new, met_new}
 use Rattle.std.proofs.Math.IntN.{neg_ℤ-neg_ℤ}
 use Rattle.tv_linear.proofs.ListLaws.{get_or-past}
-
-pub length-neg : (xs : List ℤ) → length (map neg_ℤ xs) ≡ length xs
-length-neg [] = refl
-length-neg (x ∷ xs) = ap suc (length-neg xs)
+use Rattle.tv_linear.proofs.HeldLemmas.{opposite_held, less_held}
+use Rattle.std.proofs.lemmas.List.{length-map}
 
 -- ---- a row and its denial
 pub narrow_inner : (cs : List ℤ) (k : ℤ) → ((column : ℕ) → column ≤ length cs → unsigned_abs (get_or cs column k) < 2 ^ 62) → (j : ℕ) → unsigned_abs (get_or cs j (pos 0)) < 2 ^ 62
@@ -31,25 +28,19 @@ narrow_inner [] k h j = omega arith
 narrow_inner (c ∷ cs) k h zero = h 0 (omega arith)
 narrow_inner (c ∷ cs) k h (suc j) = narrow_inner cs k (λ i l. h (suc i) (omega (arith, l))) j
 
+pub less_twice : (k : ℤ) → pos 1 -ℤ (pos 1 -ℤ k) ≡ k
+less_twice k = omega (arith, ints)
+
 -- the row has the numbers of its denial's denial
 row_side : (n : ℕ) (row : Linear) → IsNarrowRow (denial row) → IsSide n row (denied (given (denial row)))
 row_side n row narrow = record {
   inner = λ j l. ap neg_ℤ (get_or-neg row.coefficients j) ∙ neg_ℤ-neg_ℤ (get_or row.coefficients j (pos 0));
-  constant = twice row.constant;
+  constant = less_twice row.constant;
   held = held;
 }
   where
-    twice : (k : ℤ) → pos 1 -ℤ (pos 1 -ℤ k) ≡ k
-    twice k = omega (arith, ints)
-
-    opposite_held : (z : ℤ) → unsigned_abs z < 2 ^ 62 → IsHeld (neg_ℤ z)
-    opposite_held z h = omega (arith, ints, h)
-
-    constant_held : (z : ℤ) → unsigned_abs z < 2 ^ 62 → IsHeld (pos 1 -ℤ z)
-    constant_held z h = omega (arith, ints, h)
-
     held : (column : Option ℕ) → KnownHeld (denied (given (denial row))) column
-    held None = (tt, constant_held (pos 1 -ℤ row.constant) (subst (λ z. unsigned_abs z < 2 ^ 62) (get_or-past (map neg_ℤ row.coefficients) (columns (denial row)) (pos 1 -ℤ row.constant) (omega arith)) (narrow (columns (denial row)) (omega arith))))
+    held None = (tt, less_held (pos 1 -ℤ row.constant) (subst (λ z. unsigned_abs z < 2 ^ 62) (get_or-past (map neg_ℤ row.coefficients) (columns (denial row)) (pos 1 -ℤ row.constant) (omega arith)) (narrow (columns (denial row)) (omega arith))))
     held (Some j) = (tt, opposite_held (get_or (map neg_ℤ row.coefficients) j (pos 0)) (narrow_inner (map neg_ℤ row.coefficients) (pos 1 -ℤ row.constant) narrow j))
 
 bare_splits : (n : ℕ) (lists : List (List Linear)) (above : List Linear) (row : Linear) {A : Type 0} (o : Option (Vec ℤ A × ℤ)) → IsBare o → IsRowSplit n lists above row → SplitsBy n lists above row o
@@ -63,7 +54,7 @@ keeps_splits n lists above row values scale (Some p) b h = subst (λ v. IsCoordi
 -- ---- the sides of a row
 pub row_halves : (n : ℕ) (lists : List (List Linear)) (kept : List Linear) (row : Linear) (halves : Halves) → AreRowSides row halves → columns row ≡ n → IsTargetRow lists row → HasPoint n (kept ++ row ∷ []) → HasPoint n (kept ++ denial row ∷ []) → All (IsLeftOpen n kept) lists → AreHalves n lists kept halves
 row_halves n lists kept row halves s e of_target met is_denied left_open = record {
-  first_even = subst (λ r. columns r ≡ n) (sym s.first_row) (length-neg row.coefficients ∙ e);
+  first_even = subst (λ r. columns r ≡ n) (sym s.first_row) (length-map row.coefficients neg_ℤ ∙ e);
   second_even = subst (λ r. columns r ≡ n) (sym s.second_row) e;
   first_new = subst (λ r. Contains kept r → ⊥) (sym s.first_row) (met_new n kept row met);
   second_new = subst (λ r. Contains kept r → ⊥) (sym s.second_row) (denied_new n kept row is_denied);
@@ -157,7 +148,7 @@ module _ (n : ℕ) (lists : List (List Linear)) (kept : List Linear) (c : ℕ) (
 pub point_halves : (n : ℕ) (lists : List (List Linear)) (kept : List Linear) (c : ℕ) (values : List ℤ) (scale : ℤ) (halves : Halves) → ArePointSides n c values scale halves → IsFractionAt n kept c values scale → All (IsShut n kept) lists → All (IsLeftOpen n kept) lists → AreHalves n lists kept halves
 point_halves n lists kept c values scale halves s f shut left_open = record {
   first_even = subst (λ r. columns r ≡ n) (sym s.first_row) (length-unit n c);
-  second_even = subst (λ r. columns r ≡ n) (sym s.second_row) (length-neg (unit n c) ∙ length-unit n c);
+  second_even = subst (λ r. columns r ≡ n) (sym s.second_row) (length-map (unit n c) neg_ℤ ∙ length-unit n c);
   first_new = subst (λ r. Contains kept r → ⊥) (sym s.first_row) (low_new n lists kept c values scale s.floor f s.is_floor);
   second_new = subst (λ r. Contains kept r → ⊥) (sym s.second_row) (high_new n lists kept c values scale s.floor f s.is_floor);
   opposite = subst (λ r. IsSide n r (denied (given halves.first.row))) (sym s.second_row) (subst (λ r. IsSide n (at_least_row n c s.floor) (denied (given r))) (sym s.first_row) (high_side n c s.floor s.short));

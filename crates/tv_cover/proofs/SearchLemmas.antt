@@ -10,7 +10,6 @@ use Rattle.tv_linear.specs.Covers.{Shown, ShownAt, IsMetCover}
 use Rattle.tv_linear.specs.declared.cover.CoverTree.{CoverTree, Split', Empty, Into}
 use Rattle.tv_linear.specs.Refutation.{Refutes}
 use Rattle.tv_linear.specs.Depth.{splits}
-use Rattle.tv_linear.specs.Fits.{IsHeld}
 use Rattle.tv_linear.specs.Linear.{Linear, columns, IsMet, scaled_value}
 use Rattle.tv_linear.specs.Known.{Known, given, denied, as_given, KnownHeld, IsKnownMet}
 use Rattle.tv_linear.proofs.ListLaws.{all_front, get_or-past}
@@ -41,6 +40,7 @@ use Rattle.tv_cover.proofs.LookLemmas.{showing_short}
 use Rattle.tv_cover.proofs.HalfLemmas.{narrow_inner}
 use Rattle.std.proofs.lemmas.List.{append-nil}
 use Rattle.std.proofs.lemmas.Option.{same_Some}
+use Rattle.tv_linear.proofs.HeldLemmas.{narrow_held}
 
 -- ---- a target that is entered
 in_target : (lists : List (List Linear)) (k j : ℕ) (rows : List Known) (xs : List ℤ) → owed_lists lists k j ≡ Some rows → All (IsKnownMet xs) rows → IsInTarget lists xs
@@ -165,6 +165,10 @@ side_found n lists rows left old mid inner new b (Tree tree) h g p gr gp =
 side_found n lists rows left old mid inner new b (Hole values) h g p gr gp = h
 
 -- ---- leaves
+pub less_and_more : (k : ℕ) → (k ≡ 0 → ⊥) → k - 1 + 1 ≡ k
+less_and_more zero g = absurd (g refl)
+less_and_more (suc k) g = omega arith
+
 denial_side : (n : ℕ) (row : Linear) → IsNarrowRow (denial row) → IsSide n (denial row) (denied (given row))
 denial_side n row narrow = record {
   inner = λ j l. sym (get_or-neg row.coefficients j);
@@ -172,12 +176,9 @@ denial_side n row narrow = record {
   held = held;
 }
   where
-    held_of : (z : ℤ) → unsigned_abs z < 2 ^ 62 → IsHeld z
-    held_of z h = omega (arith, h)
-
     held : (column : Option ℕ) → KnownHeld (denied (given row)) column
-    held None = (tt, held_of (pos 1 -ℤ row.constant) (subst (λ z. unsigned_abs z < 2 ^ 62) (get_or-past (map neg_ℤ row.coefficients) (columns (denial row)) (pos 1 -ℤ row.constant) (omega arith)) (narrow (columns (denial row)) (omega arith))))
-    held (Some j) = (tt, held_of (neg_ℤ (get_or row.coefficients j (pos 0))) (subst (λ z. unsigned_abs z < 2 ^ 62) (get_or-neg row.coefficients j) (narrow_inner (map neg_ℤ row.coefficients) (pos 1 -ℤ row.constant) narrow j)))
+    held None = (tt, narrow_held (pos 1 -ℤ row.constant) (subst (λ z. unsigned_abs z < 2 ^ 62) (get_or-past (map neg_ℤ row.coefficients) (columns (denial row)) (pos 1 -ℤ row.constant) (omega arith)) (narrow (columns (denial row)) (omega arith))))
+    held (Some j) = (tt, narrow_held (neg_ℤ (get_or row.coefficients j (pos 0))) (subst (λ z. unsigned_abs z < 2 ^ 62) (get_or-neg row.coefficients j) (narrow_inner (map neg_ℤ row.coefficients) (pos 1 -ℤ row.constant) narrow j)))
 
 module _ (n : ℕ) (marks : List Bool) (rows kept first path : List Linear) (sides : List Known) (marked : IsTakenBy marks rows first) (parts : kept ≡ first ++ path) (s : AreSides n path sides) where
   one_shown : (row : Linear) (numbers : List ℤ) → IsShowing n marks kept row numbers → Refutes n ((as_given rows ++ sides) ++ denied (given row) ∷ []) numbers

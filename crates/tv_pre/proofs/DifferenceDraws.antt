@@ -12,7 +12,7 @@ use Rattle.tv_region.specs.Made.{last_of, shortened, cancelled, IsOpposite}
 use Rattle.tv_region.specs.Met.{meets, all_met, Has}
 use Rattle.tv_region.proofs.Between.{between}
 use Rattle.tv_region.proofs.DifferenceLemmas.{shortened_difference, sum_difference, tight_difference}
-use Rattle.tv_region.proofs.DrawLemmas.{all_met-from, recursion_has, has_recursion}
+use Rattle.tv_region.proofs.DrawLemmas.{all_met-from, recursion_has, has_recursion, no_draws}
 use Rattle.tv_region.proofs.MetLemmas.{is_met, met_is, all_met-has, has_left, has_right, has_append}
 use Rattle.tv_region.proofs.SumLemmas.{value-last, columns-shortened, met_sum, sum_met, columns-sum}
 use Rattle.tv_rounds.proofs.SetLemmas.{in_or_out}
@@ -268,15 +268,11 @@ module _ (n : ℕ) (rows : List Linear) (differ : AreDifferences rows) (over : A
 -- ---- several columns
 free_none : (n : ℕ) (rows : List Linear) → AreDifferences rows → AreOver (n + 0) rows → IsFree n 0 rows rows
 free_none n rows differ over = record {
-  met = λ xs ds e f h. nothing xs ds f h;
+  met = λ xs ds e f h. no_draws rows xs ds f h;
   lifted = λ xs e h. ([], refl, subst (λ ys. all_met ys rows ≡ true) (sym (append-nil xs)) h);
   differences = differ;
   over = λ r m. (let e = over r m in omega (arith, e));
 }
-  where
-    nothing : (xs ds : List ℤ) → length ds ≡ 0 → all_met (xs ++ ds) rows ≡ true → all_met xs rows ≡ true
-    nothing xs [] f h = subst (λ ys. all_met ys rows ≡ true) (append-nil xs) h
-    nothing xs (d ∷ ds) f h = absurd (omega (arith, f))
 
 free_more : (n k : ℕ) (rows middle out : List Linear) → IsFree (n + 1) k rows middle → IsFree n 1 middle out → IsFree n (suc k) rows out
 free_more n k rows middle out h g = record {

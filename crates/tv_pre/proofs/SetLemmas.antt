@@ -14,11 +14,9 @@ use Rattle.tv_cases.proofs.ContainsLemmas.{Contains-here, Contains-later, Contai
 use Rattle.tv_known.specs.Cycles.{IsStateOf}
 use Rattle.tv_known.specs.Rounds.{HoldSide, EndSides}
 use Rattle.tv_cert.specs.Obligations.{hold_side}
-use Rattle.tv_linear.specs.Linear.{Linear}
 use Rattle.tv_linear.proofs.ListLaws.{take_past}
-use Rattle.tv_region.specs.Met.{InSome}
 use Rattle.tv_known.specs.Sizes.{product}
-use Rattle.tv_region.specs.Regions.{IsRegion, lists_at, count_at}
+use Rattle.tv_region.specs.Regions.{IsRegion, count_at}
 use Rattle.tv_region.specs.Algebra.{IsBoth, IsEither}
 use Rattle.tv_region.specs.StepRegions as steps
 use Rattle.tv_region.specs.StepRegions.{InState, IsTame, IsBefore, IsBeforeAll}
@@ -37,6 +35,7 @@ use Rattle.tv_pre.specs.Sized.{counts_at}
 use Rattle.tv_pre.proofs.BuiltLemmas.{built_to}
 use Rattle.tv_pre.proofs.SizedLemmas.{everywhere_few, first_whole, more_common, more_whole}
 use Rattle.tv_pre.proofs.SideLemmas.{hold_in}
+use Rattle.tv_rounds.proofs.MadeLemmas.{no_pieces}
 
 -- the region has only states of the first so many regions, has the states that all regions have, and is made of them
 pub record IsCommon (about : CaseSystem) (regions : List Region) (count : ℕ) (common : Region) : Type 0 where
@@ -190,12 +189,9 @@ module _ (about : CaseSystem) where
   pub any_others : (into region : Region) → IsBefore about into region → OthersLeadOut about Any into region
   any_others into region b tame s p n = λ t st m. n (b.all tame s (there s p) (t, st, m))
 
-  no_rows : (l : ℕ) (pieces : List Piece) → pieces ≡ [] → (r : Linear) → InSome (lists_at l pieces) r → ⊥
-  no_rows l pieces e r m = subst (λ ps. InSome (lists_at l ps) r) e m
-
   nowhere_tame : (into none : Region) → IsNowhere about none → IsTame about into → IsTame about none
   nowhere_tame into none n (inl plain) = inl plain
-  nowhere_tame into none n (inr d) = inr (d.0, λ r m. absurd (no_rows m.0 none.pieces.items n.none r m.1))
+  nowhere_tame into none n (inr d) = inr (d.0, λ r m. absurd (no_pieces m.0 none.pieces.items n.none r m.1))
 
   -- a state whose steps all lead nowhere has none
   pub every_stays : (into back : Region) → AreBefore about Every into back → AreBeforeOrStop about Every into back

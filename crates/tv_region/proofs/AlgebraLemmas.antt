@@ -27,7 +27,7 @@ use Rattle.tv_region.specs.declared.fault.RegionFault.{RegionFault}
 use Rattle.tv_region.specs.declared.fault.RegionFault.TheVariants as regions
 use Rattle.tv_region.specs.declared.fault.RegionFault.TheVariants.{Memory}
 use Rattle.tv_region.specs.Differences.{IsDifference, IsOfDifferences}
-use Rattle.tv_region.proofs.MetLemmas.{all_met-all, all-all_met, has_all}
+use Rattle.tv_region.proofs.MetLemmas.{all_met-all, all-all_met, has_all, no_and_yes}
 use Rattle.tv_region.proofs.AddLemmas.{none_reduced, denied_more}
 use Rattle.tv_region.proofs.DifferenceLemmas.{denial_difference}
 use Rattle.std.proofs.lemmas.Bool.{or_right, cases_lt, and_parts, and_from, or_cases, or_left}
@@ -226,10 +226,6 @@ either_region a b region h = record {
   differences = λ d f r m. of_both a b d f m.0 r (row_made a.variables a.locations (InEither a b) (OutOfEither a b) (OfEither a b) (λ l k. k ≤ count_at l a + count_at l b) region h m.0 r m.1);
 }
 
-not_true : (b : Bool) → not b ≡ true → b ≡ true → ⊥
-not_true true h k = cc
-not_true false h k = cc
-
 true_not : (b : Bool) → (b ≡ true → ⊥) → not b ≡ true
 true_not true h = absurd (h refl)
 true_not false h = refl
@@ -238,7 +234,7 @@ pub rest_region : (a region : Region) → IsAssembled a.variables a.locations (I
 rest_region a region h = record {
   fits = h.fits;
   exact = λ l xs p. (
-    λ k j. not_true (has_state a l xs) ((h.at l p.location).only xs p.values (state_in l xs region k)) (state_in l xs a j),
+    λ k j. no_and_yes (has_state a l xs) ((h.at l p.location).only xs p.values (state_in l xs region k)) (state_in l xs a j),
     λ k. in_state l xs region (not_out (has_state region l xs) (not (has_state a l xs)) ((h.at l p.location).out xs p.values) (true_not (has_state a l xs) (λ j. k (in_state l xs a j)))),
   );
   reduced = reduced_pieces a.variables a.locations (InRest a) (OutOfRest a) (OfRest a) (λ l k. k ≤ denied_count a l) region h;

@@ -164,18 +164,18 @@ drawn_drawn w m rows middle h _ r (drawn_one _ k) = h r k
 drawn_drawn w m rows middle h _ _ (drawn_sum n p q o z f t k l) = drawn_sum n p q o z f t (drawn_drawn w m rows middle h (n + 1) p k) (drawn_drawn w m rows middle h (n + 1) q l)
 drawn_drawn w m rows middle h _ _ (drawn_short n r z k) = drawn_short n r z (drawn_drawn w m rows middle h (n + 1) r k)
 
+pub no_draws : (rows : List Linear) (xs ds : List ℤ) → length ds ≡ 0 → all_met (xs ++ ds) rows ≡ true → all_met xs rows ≡ true
+no_draws rows xs [] f h = subst (λ ys. all_met ys rows ≡ true) (append-nil xs) h
+no_draws rows xs (d ∷ ds) f h = absurd (omega (arith, f))
+
 pub projected_none : (n : ℕ) (rows : List Linear) → IsProjected n 0 rows rows true
 projected_none n rows = record {
-  met = λ xs ds e f h. nothing xs ds f h;
+  met = λ xs ds e f h. no_draws rows xs ds f h;
   lifted = λ x xs e h. ([], refl, subst (λ ys. all_met ys rows ≡ true) (sym (append-nil xs)) h);
   differences = λ d. refl;
   from = λ r h. (let e : n ≡ n + 0 = omega arith in subst (λ w. Drawn w rows n r) e (drawn_one r h));
   wide = λ w r h. (let k = w r h in omega (arith, k));
 }
-  where
-    nothing : (xs ds : List ℤ) → length ds ≡ 0 → all_met (xs ++ ds) rows ≡ true → all_met xs rows ≡ true
-    nothing xs [] f h = subst (λ ys. all_met ys rows ≡ true) (append-nil xs) h
-    nothing xs (d ∷ ds) f h = absurd (omega (arith, f))
 
 pub projected_more : (n k : ℕ) (rows middle out : List Linear) (first then_ : Bool) → IsProjected (n + 1) k rows middle first → IsProjected n 1 middle out then_ → IsProjected n (k + 1) rows out (first && then_)
 projected_more n k rows middle out first then_ h g = record {

@@ -1,4 +1,4 @@
-use Rattle.std.proofs.Common.{◌≡◌, ◌+◌, ◌-◌, ℕ, zero, suc, length, sym, subst, refl, arith}
+use Rattle.std.proofs.Common.{◌≡◌, ◌+◌, ◌-◌, length, sym, subst, refl, arith}
 use Rattle.std.proofs.lemmas.Result.{MatchResult-weaker}
 use Rattle.tv_farkas.specs.Stretching.{IsSplitOf}
 use Rattle.tv_cover.specs.declared.covering.Place.{Place}
@@ -6,7 +6,7 @@ use Rattle.tv_cover.specs.Targets.{lists_of}
 use Rattle.tv_cover.specs.Covering.{IsCoverFault}
 use Rattle.tv_cover.specs.Stepping.{IsStep, AreHalves}
 use Rattle.tv_cover.specs.Searching.{IsFound, IsSideFound}
-use Rattle.tv_cover.proofs.SearchLemmas.{leaf_tree, hole_found, place_fault, first_side, second_side, side_search, pushed, side_found, same_search, one_branch, split_tree, same_found, split_row}
+use Rattle.tv_cover.proofs.SearchLemmas.{leaf_tree, hole_found, place_fault, first_side, second_side, side_search, pushed, side_found, same_search, one_branch, split_tree, same_found, split_row, less_and_more}
 use Rattle.tv_cover.proofs.covering.+searching.Goals as goal
 
 pub settle-returns-in-Err : goal.settle-returns-in-Err
@@ -57,15 +57,11 @@ settle-returns-else-left-eq0 t c = λ rows s.
     let lists = lists_of c.args.question.now.targets.now in
     let marks = c.args.question.now.repeated.now in
     let l = c.if-left-eq0.false in
-    let e : c.args.left - 1 + 1 ≡ c.args.left = back c.args.left l in
+    let e : c.args.left - 1 + 1 ≡ c.args.left = less_and_more c.args.left l in
     let mid : Place = record { rows = c.next_step.new.rows; path = c.args.place.now.path } in
     MatchResult-weaker c.split.result (c.split.ensures rows (same_search n lists rows marks c.args.place.now mid c.in-Ok-Split.ensures.0 refl s))
     (λ found h. subst (λ k. IsFound n lists rows k c.args.place.now c.split.new.place found) e (same_found n lists rows (c.args.left - 1 + 1) c.args.place.now mid c.split.new.place found c.in-Ok-Split.ensures.0 refl h))
     (λ fault h. subst (λ k. IsCoverFault n lists rows c.args.question.now.pivots (length c.args.place.now.path.items + k) fault) e h)
-  where
-    back : (k : ℕ) → (k ≡ 0 → ⊥) → k - 1 + 1 ≡ k
-    back zero g = absurd (g refl)
-    back (suc k) g = omega arith
 
 pub settle_side-settle-requires : goal.settle_side-settle-requires
 settle_side-settle-requires t c =
