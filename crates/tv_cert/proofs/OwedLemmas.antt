@@ -6,13 +6,11 @@ use Rattle.tv_linear.specs.Known.{Known, given, denied, less, as_given}
 use Rattle.tv_linear.specs.Falls.{fall_rows, fall_rows_at, zero_row}
 use Rattle.tv_linear.specs.Refutation.{Refutes}
 use Rattle.tv_cert.specs.Entering.{listed, ShowsRow}
-
-some_is : (a b : Known) → Some a ≡ Some b → a ≡ b
-some_is a b e = cc
+use Rattle.tv_cases.proofs.OptionLemmas.{some_same}
 
 -- the row at the place is this one
 pub shows_as : (n : ℕ) (known rows : List Known) (place : ℕ) (ms : List ℤ) (shown : Bool) (row : Known) → slice_get rows place ≡ Some row → (IsTrue shown ↔ Refutes n (known ++ denied row ∷ []) ms) → ShowsRow n known rows place ms shown
-shows_as n known rows place ms shown row at h = λ other there. subst (λ r. IsTrue shown ↔ Refutes n (known ++ denied r ∷ []) ms) (some_is row other (sym at ∙ there)) h
+shows_as n known rows place ms shown row at h = λ other there. subst (λ r. IsTrue shown ↔ Refutes n (known ++ denied r ∷ []) ms) (some_same row other (sym at ∙ there)) h
 
 -- ---- one list behind another
 

@@ -6,11 +6,10 @@ use Rattle.std.proofs.lemmas.List.Elements.{All-nil, All-cons, All-head, All-tai
 use Rattle.tv_linear.specs.Linear.{Linear, columns}
 use Rattle.tv_linear.specs.Arithmetic.{opposite}
 use Rattle.tv_linear.specs.declared.region.Piece.{Piece}
-use Rattle.tv_linear.proofs.ListLaws.{test_true, test_false, length-front}
+use Rattle.tv_linear.proofs.ListLaws.{test_true, test_false, length-front, drop_past, contains_at}
 use Rattle.tv_cases.specs.declared.case.Case.{Case}
 use Rattle.tv_cases.specs.LinearCases.{LinearCase, leaving}
 use Rattle.tv_cases.specs.Views.{case_view, case_views}
-use Rattle.std.proofs.lemmas.Option.{slice_get_within, get_or_from_slice_get}
 use Rattle.tv_choice.specs.declared.ways.Way.{Way}
 use Rattle.tv_choice.specs.declared.ways.Entry.{Entry}
 use Rattle.tv_choice.specs.Rows.{put_rows, put_terms, ArePut, IsWideBefore, IsWidePut}
@@ -21,6 +20,7 @@ use Rattle.tv_choice.specs.Ways.{IsEntered, AreCaseRows, IsWayOf, IsWay}
 use Rattle.tv_choice.specs.Targets.{front, term_by, term_of, one_term, terms_given, draw_choices, targets_into, targets_by, targets_from, AreMadeInto, IsFirstWidePut, with_later, IsWideInto, IsFirstWideInto, into_this, into_later, IsFirstWideFrom, by_this, by_later}
 use Rattle.tv_choice.proofs.WayLemmas.{drop_more, is_way, in_way}
 use Rattle.tv_cases.proofs.LeavingLemmas.{none_left, first_left as get_drop}
+use Rattle.tv_cases.proofs.OptionLemmas.{some_same}
 
 -- ---- one term
 pub plus_one : (c : ℤ) (rest : Linear) → c ≡ pos 1 → term_by c rest ≡ Some (opposite rest)
@@ -44,15 +44,9 @@ given_more n rows i r old new all l e en h =
 -- ---- what the terms are
 even_term : (n : ℕ) (c : ℤ) (rest t : Linear) → columns rest ≡ n → term_by c rest ≡ Some t → columns t ≡ n
 even_term n (pos zero) rest t e h = cc
-even_term n (pos (suc zero)) rest t e h = ap columns (sym (some_is (opposite rest) t h)) ∙ length-map rest.coefficients neg_ℤ ∙ e
-  where
-    some_is : (a b : Linear) → ◌≡◌ {A = Option Linear} (Some a) (Some b) → a ≡ b
-    some_is a b g = cc
+even_term n (pos (suc zero)) rest t e h = ap columns (sym (some_same (opposite rest) t h)) ∙ length-map rest.coefficients neg_ℤ ∙ e
 even_term n (pos (suc (suc k))) rest t e h = cc
-even_term n (negsuc zero) rest t e h = ap columns (sym (some_is rest t h)) ∙ e
-  where
-    some_is : (a b : Linear) → ◌≡◌ {A = Option Linear} (Some a) (Some b) → a ≡ b
-    some_is a b g = cc
+even_term n (negsuc zero) rest t e h = ap columns (sym (some_same rest t h)) ∙ e
 even_term n (negsuc (suc k)) rest t e h = cc
 
 -- so many terms over n columns
@@ -130,24 +124,15 @@ cases_skip n ps l cs i c all now b e from h =
     ∙ ap (λ t. now ++ targets_from n ps (cond t (case_view c ∷ leaving l (case_views (drop (i + 1) cs))) (leaving l (case_views (drop (i + 1) cs))))) (test_false c.from l from)
 
 pub cases_done : (n : ℕ) (ps : List Piece) (l : ℕ) (cs : List Case) (i : ℕ) (all now : List (List Linear)) → length cs ≤ i → all ≡ now ++ targets_from n ps (leaving l (case_views (drop i cs))) → now ≡ all
-cases_done n ps l cs i all now b h = sym (h ∙ ap (λ vs. now ++ targets_from n ps (leaving l (case_views vs))) (drop_end cs i b) ∙ append-nil now)
-  where
-    drop_end : {A : Type 0} (xs : List A) (i : ℕ) → length xs ≤ i → drop i xs ≡ []
-    drop_end [] zero l = refl
-    drop_end [] (suc i) l = refl
-    drop_end (x ∷ xs) zero l = absurd (omega (arith, l))
-    drop_end (x ∷ xs) (suc i) l = drop_end xs i (omega (arith, l))
+cases_done n ps l cs i all now b h = sym (h ∙ ap (λ vs. now ++ targets_from n ps (leaving l (case_views vs))) (drop_past cs i b) ∙ append-nil now)
 
 -- ---- entries
 pub entry_is : (q : Query) (e : Entry) → IsEntered q e → IsEntry q (case_view e.case.now) e.piece.now
 entry_is q e h = record {
-  among = got_in q.system.cases e.taken (case_view e.case.now) h.taken;
+  among = contains_at q.system.cases e.taken (case_view e.case.now) h.taken;
   leaves = h.from;
-  enters = got_in (pieces_at q.pieces e.case.now.to) e.target e.piece.now h.target;
+  enters = contains_at (pieces_at q.pieces e.case.now.to) e.target e.piece.now h.target;
 }
-  where
-    got_in : {A : Type 0} (xs : List A) (i : ℕ) (x : A) → slice_get xs i ≡ Some x → Contains xs x
-    got_in xs i x g = (i, slice_get_within xs i x g, get_or_from_slice_get xs i x x g)
 
 -- a way of the entry, with terms that its rows give
 pub drawn_way : (n : ℕ) (q : Query) (e : Entry) (rows draws : List Linear) (w : Way) → IsEntered q e → All (λ r. columns r ≡ n) (piece_rows e.piece.now) → AreCaseRows n (case_view e.case.now) (piece_rows e.piece.now) rows → AreTermsFor n e.case.now.draws draws → Contains (draw_choices e.case.now.draws n rows) draws → IsWayOf n e.taken e.target rows draws w → IsWay n q [] w

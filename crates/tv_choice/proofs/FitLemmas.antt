@@ -1,8 +1,7 @@
 -- Numbers that have 128 bits, and places.
-use Rattle.std.proofs.Common.{FitsSigned, ◌≡◌, ℕ, zero, suc, ◌+◌, ◌<◌, ◌≤◌, ◌^◌, List, [], ◌∷◌, ◌++◌, length, take, All, arith, refl, sym, ap, ◌∙◌, subst, ℤ, pos, ◌-ℤ◌, unsigned_abs, Option, None, Some, slice_get, Bool, cond, true, false, ◌==◌, ◌⊎◌, inl, inr}
+use Rattle.std.proofs.Common.{FitsSigned, ◌≡◌, ℕ, zero, suc, ◌+◌, ◌<◌, ◌≤◌, ◌^◌, List, [], ◌∷◌, ◌++◌, length, take, All, arith, refl, sym, subst, ℤ, pos, ◌-ℤ◌, unsigned_abs, None, Some, slice_get, Bool, cond, true, false, ◌==◌, ◌⊎◌, inl, inr}
 use Rattle.std.specs.Int.{w128}
 use Rattle.std.specs.Prelude.{Contains}
-use Rattle.std.specs.List.{filter}
 use Rattle.std.proofs.lemmas.Int.{ints, fits_signed_from_abs}
 use Rattle.std.proofs.lemmas.Option.{slice_get_within, get_or_from_slice_get, slice_get_read}
 use Rattle.std.proofs.lemmas.List.Elements.{filter_passes}
@@ -13,6 +12,7 @@ use Rattle.tv_linear.proofs.ListLaws.{take_past, true_test, test_true, take_more
 use Rattle.tv_cases.specs.LinearCases.{LinearCase, IsCase, from_of, leaving}
 use Rattle.tv_choice.specs.Leading.{place_of, pieces_at, piece_rows}
 use Rattle.tv_places.proofs.PlaceLemmas.{past_end}
+use Rattle.tv_cases.proofs.ContainsLemmas.{Contains-filter}
 
 pub less_fits : (z : ℤ) → IsShort z → FitsSigned w128 (z -ℤ pos 1)
 less_fits z h = fits_signed_from_abs w128 (z -ℤ pos 1) (let l : unsigned_abs (z -ℤ pos 1) < 2 ^ 127 = omega (arith, ints, h) in l)
@@ -37,12 +37,6 @@ pub all_below : {A : Type 0} (P : A → Type 0) (xs : List A) (k : ℕ) → slic
 all_below P xs k e h x c =
     let m = past_end xs k e in
     h c.0 x (let l = c.1 in omega (arith, m, l)) (slice_get_read xs (length xs) c.0 x refl c.1 (sym c.2))
-
-pub last_or_below : (j k : ℕ) → j < k + 1 → (j ≡ k) ⊎ (j < k)
-last_or_below j k h = grind arith
-
-some_same : {A : Type 0} (x y : A) → ◌≡◌ {A = Option A} (Some x) (Some y) → x ≡ y
-some_same x y e = cc
 
 -- ---- cases
 pub is_case : (v m : ℕ) (cases : List LinearCase) (i : ℕ) (c : LinearCase) → All (IsCase v m) cases → slice_get cases i ≡ Some c → IsCase v m c
@@ -80,18 +74,6 @@ leaving_from l cs k c e =
     let is = get_or_from_slice_get (leaving l cs) k c c e in
     true_test (from_of c) l (subst (λ q. test q ≡ true) is (filter_passes test cs k c within))
 
--- what passes the test stays
-pub contains_filter : {A : Type 0} (test : A → Bool) (xs : List A) (x : A) → test x ≡ true → Contains xs x → Contains (filter test xs) x
-contains_filter test [] x t c = absurd (let l = c.1 in omega (arith, l))
-contains_filter test (a ∷ xs) x t (zero, l, e) =
-    let ta : test a ≡ true = ap test e ∙ t in
-    subst (λ b. Contains (cond b (a ∷ filter test xs) (filter test xs)) x) (sym ta) (0, omega arith, e)
-contains_filter test (a ∷ xs) x t (suc k, l, e) = kept_later (test a) a x (filter test xs) (contains_filter test xs x t (k, omega (arith, l), e))
-  where
-    kept_later : {A : Type 0} (b : Bool) (a x : A) (xs : List A) → Contains xs x → Contains (cond b (a ∷ xs) xs) x
-    kept_later true a x xs c = (suc c.0, (let l = c.1 in omega (arith, l)), c.2)
-    kept_later false a x xs c = c
-
 -- a case from the location is among those that leave it
 pub Contains-leaving : (l : ℕ) (cases : List LinearCase) (c : LinearCase) → c.from ≡ l → Contains cases c → Contains (leaving l cases) c
-Contains-leaving l cases c e h = contains_filter (λ q. from_of q == l) cases c (test_true (from_of c) l e) h
+Contains-leaving l cases c e h = Contains-filter (λ q. from_of q == l) cases c (test_true (from_of c) l e) h

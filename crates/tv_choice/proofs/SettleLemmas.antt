@@ -48,9 +48,10 @@ use Rattle.tv_choice.specs.Stopping.{AreStopTrees}
 use Rattle.tv_choice.specs.Settling.{IsTreeAt, IsHoleAt, IsSplitOf, IsTakeOf, IsGoing}
 use Rattle.tv_choice.proofs.SameLemmas.{known_more, shown_same}
 use Rattle.tv_choice.proofs.PieceLemmas.{piece_got}
-use Rattle.tv_choice.proofs.FitLemmas.{contains_filter, place_fits}
-use Rattle.tv_choice.proofs.WayLemmas.{put_met, met_before}
+use Rattle.tv_choice.proofs.FitLemmas.{place_fits}
+use Rattle.tv_choice.proofs.WayLemmas.{put_met, met_before, all_map}
 use Rattle.tv_shape.proofs.NumberLemmas.{narrow_count, rows_narrow}
+use Rattle.tv_cases.proofs.ContainsLemmas.{Contains-filter}
 
 -- ---- rows and denials
 met_or_not : (z : ℤ) → (z ≤ℤ pos 0) ⊎ (z ≤ℤ pos 0 → ⊥)
@@ -288,7 +289,7 @@ module _ (n : ℕ) (q : Query) where
           let d = s.step.does in
           let gives = d.gives ∙ ap (λ k. map (term_value (xs ++ s.step.draws)) (terms_after k c.updates)) g.inside.width in
           h c s.step.among (sym d.leaves) s.piece
-          (contains_filter (λ p. place_of p == c.to) q.pieces s.piece (test_true (place_of s.piece) c.to (sym s.inside.place ∙ d.enters)) s.among)
+          (Contains-filter (λ p. place_of p == c.to) q.pieces s.piece (test_true (place_of s.piece) c.to (sym s.inside.place ∙ d.enters)) s.among)
           s.step.draws d.drawn d.guards (subst (λ vs. All (IsMet vs) (piece_rows s.piece)) gives s.inside.inside)
 
   whole_scaled : (rows : List Linear) (xs : List ℤ) → All (IsMet xs) rows → All (λ r. scaled_value r xs (pos 1) ≤ℤ pos 0) rows
@@ -305,9 +306,6 @@ module _ (n : ℕ) (q : Query) where
       none record { values = xs; scale = pos 1; size = g.inside.width; meets = record { positive = omega (arith, ints); met = whole_scaled (rows ++ r ∷ []) xs (All-push (IsMet xs) rows r g.inside.met met) } }
 
   -- ---- the whole point of rows
-  all_map : (P Q : Linear → Type 0) (xs : List Linear) → ((x : Linear) → P x → Q x) → All P xs → All Q xs
-  all_map P Q [] f h = All-nil Q
-  all_map P Q (x ∷ xs) f h = All-cons Q x xs (f x (All-head P x xs h)) (all_map P Q xs f (All-tail P x xs h))
 
   pub whole_going : (rows : List Linear) (values : List ℤ) (scale : ℤ) (xs : List ℤ) → IsPointAt n rows values scale → AreDivided n values scale xs → (IsTrue q.stop → ⊥) → IsGoing n q rows xs
   whole_going rows values scale xs h d s = record {

@@ -1,11 +1,9 @@
 -- The two sides of a split.
-use Rattle.std.proofs.Common.{◌≡◌, ℕ, ◌<◌, ◌^◌, List, [], ◌∷◌, ◌++◌, length, get_or, All, Option, None, Some, inl, inr, arith, refl, sym, ap, ◌∙◌, subst, ℤ, pos, neg_ℤ, ◌-ℤ◌, ◌+ℤ◌, ◌≤ℤ◌, unsigned_abs, Vec}
+use Rattle.std.proofs.Common.{◌≡◌, ℕ, ◌<◌, List, [], ◌∷◌, ◌++◌, length, get_or, All, Option, None, Some, inl, inr, arith, refl, sym, ap, ◌∙◌, subst, ℤ, pos, neg_ℤ, ◌≤ℤ◌, Vec}
 use Rattle.std.specs.Prelude.{Contains}
-use Rattle.std.proofs.lemmas.Int.{ints}
 use Rattle.std.proofs.lemmas.List.{length-map, get_or_default}
 use Rattle.tv_linear.specs.Linear.{Linear, columns, IsMet, scaled_value}
 use Rattle.tv_linear.specs.Arithmetic.{denial, unit}
-use Rattle.tv_linear.specs.Fits.{IsHeld}
 use Rattle.tv_linear.specs.Known.{given, denied}
 use Rattle.tv_linear.proofs.PlainLists.{length-unit, unit-narrow}
 use Rattle.tv_linear.specs.Same.{SameNumbers}
@@ -15,7 +13,7 @@ use Rattle.tv_farkas.specs.Judging.{IsPointAt}
 use Rattle.tv_farkas.specs.Stretching.{IsFloor, IsFirstOpen}
 use Rattle.tv_farkas.specs.Halving.{IsFractionAt, Keeps, ArePointSides}
 use Rattle.tv_farkas.specs.declared.splitting.Halves.{Halves}
-use Rattle.tv_farkas.proofs.SideLemmas.{small_at, get_or-neg}
+use Rattle.tv_farkas.proofs.SideLemmas.{small_at, get_or-neg, constant_held}
 use Rattle.tv_cover.specs.Targets.{HasPoint, IsNarrowRow}
 use Rattle.tv_cover.specs.CoverPaths.{IsLeftOpen, IsShut}
 use Rattle.tv_cover.specs.Halving.{IsBare, AreRowSides}
@@ -28,17 +26,10 @@ use Rattle.tv_choice.specs.Settling.{AreHalves}
 use Rattle.tv_choice.proofs.SameLemmas.{small_number, small_constant}
 use Rattle.tv_choice.proofs.SettleLemmas.{denial_met, row_met}
 use Rattle.std.proofs.Math.IntN.{neg_ℤ-neg_ℤ}
+use Rattle.tv_linear.proofs.HeldLemmas.{opposite_held, less_held}
+use Rattle.tv_cover.proofs.HalfLemmas.{less_twice}
 
 -- ---- the numbers of the second side
-opposite_held : (z : ℤ) → unsigned_abs z < 2 ^ 62 → IsHeld (neg_ℤ z)
-opposite_held z h = omega (arith, ints, h)
-
-less_held : (z : ℤ) → unsigned_abs z < 2 ^ 62 → IsHeld (pos 1 -ℤ z)
-less_held z h = omega (arith, ints, h)
-
-less_twice : (z : ℤ) → pos 1 -ℤ (pos 1 -ℤ z) ≡ z
-less_twice z = omega (arith, ints)
-
 -- a row has the numbers of its denial's denial
 row_opposite : (w : ℕ) (row : Linear) → IsNarrowRow (denial row) → SameNumbers w (given row) (denied (given (denial row)))
 row_opposite w row narrow = record {
@@ -56,9 +47,6 @@ high_opposite w n c k short = record {
   inner_held = λ j l g. (tt, opposite_held (get_or (unit n c) j (pos 0)) (small_at (unit n c) (unit-narrow n c) j));
   constant_held = λ g. (tt, constant_held k short);
 }
-  where
-    constant_held : (z : ℤ) → IsShort z → IsHeld (pos 1 -ℤ (pos 0 +ℤ neg_ℤ z))
-    constant_held z h = omega (arith, ints, h)
 
 -- ---- the rule of each side
 bare_splits : (n : ℕ) (q : Query) (above : List Linear) (row : Linear) {A : Type 0} (o : Option (Vec ℤ A × ℤ)) → IsBare o → IsRowSplit n q above row → SplitsBy n q above row o

@@ -33,10 +33,9 @@ use Rattle.tv_linear.proofs.SameLemmas.{cover_same, same_append, are_same_then, 
 use Rattle.tv_linear.proofs.KnownLemmas.{as_given-append}
 use Rattle.tv_linear.proofs.PaddedLemmas.{padded_same, padded_met, met_padded}
 use Rattle.tv_linear.proofs.ListLaws.{length-front, length-back, all_front, all_back}
+use Rattle.tv_cases.proofs.AmountLemmas.{one_more}
 
 -- ---- trees without targets
-pub one_more : (known : List Known) (x : Known) (count : ℕ) → length known ≡ count → length (known ++ x ∷ []) ≡ count + 1
-one_more known x count e = length-append known (x ∷ []) ∙ ap (λ m. m + 1) e
 
 pub cover_shape : (n count : ℕ) (known : List Known) (tree : CoverTree) → length known ≡ count → IsMetCover n no_target known tree → TreeRows (λ r. columns r ≡ n) tree → CoverShape n (owed_count no_target) count tree
 cover_shape n count known (Split' r p a q b) e m h = (

@@ -7,9 +7,8 @@ use Rattle.tv_linear.specs.Linear.{Linear, columns, dot, value}
 use Rattle.tv_linear.specs.Arithmetic.{unit, constant_row}
 use Rattle.tv_linear.proofs.PlainLists.{length-zeros}
 use Rattle.tv_linear.proofs.RowValues.{value-constant_row, dot-zeros, dot-opposite}
-use Rattle.tv_linear.proofs.ListLaws.{length-back, length-front}
+use Rattle.tv_linear.proofs.ListLaws.{length-back, length-front, last_or_below}
 use Rattle.tv_choice.specs.ChoicePaths.{GivesAlone, IsTermAt, number, tight, AreTermsAt}
-use Rattle.tv_choice.proofs.FitLemmas.{last_or_below}
 
 -- ---- what a row gives
 dot-front : (n : ℕ) (cs zs : List ℤ) → dot cs zs ≡ dot (take n cs) (take n zs) +ℤ dot (drop n cs) (drop n zs)
@@ -99,7 +98,7 @@ get_or-before (y ∷ xs) x other (suc j) l = get_or-before xs x other j (omega (
 pub terms_more : (n d : ℕ) (rows : List Linear) (zs : List ℤ) (count : ℕ) (draws new : List Linear) (t : Linear) → new ≡ draws ++ t ∷ [] → IsTermAt n d rows zs count t → AreTermsTo n d rows zs count draws → AreTermsTo n d rows zs (count + 1) new
 terms_more n d rows zs count draws new t e h k = subst (AreTermsTo n d rows zs (count + 1)) (sym e) record {
   many = length-append draws (t ∷ []) ∙ ap (λ m. m + 1) k.many;
-  each = λ j other l. elim (last_or_below j count l) [
+  each = λ j other l. elim (last_or_below count j l) [
     | inl same ↦ subst (λ x. IsTermAt n d rows zs j x) (sym (ap (λ i. get_or (draws ++ t ∷ []) i other) (same ∙ sym k.many) ∙ get_or-last draws t other)) (subst (λ i. IsTermAt n d rows zs i t) (sym same) h)
     | inr before ↦ subst (IsTermAt n d rows zs j) (sym (get_or-before draws t other j (let m = k.many in omega (arith, before, m)))) (k.each j other before)
   ];

@@ -1,5 +1,5 @@
 -- Rows of cases, and ways made of them.
-use Rattle.std.proofs.Common.{◌≡◌, ℕ, zero, suc, ◌+◌, ◌-◌, ◌<◌, ◌≤◌, List, [], ◌∷◌, ◌++◌, length, map, get_or, take, drop, drop-cons, All, Some, arith, refl, sym, ap, ◌∙◌, subst, ℤ, pos, ◌+ℤ◌, ◌-ℤ◌, ◌≤ℤ◌, length-append, append_assoc, ◌⊎◌, inl, inr, neg_ℤ}
+use Rattle.std.proofs.Common.{◌≡◌, ℕ, zero, suc, ◌+◌, ◌-◌, ◌<◌, ◌≤◌, List, [], ◌∷◌, ◌++◌, length, map, get_or, take, drop, drop-cons, All, Some, arith, refl, sym, ap, ◌∙◌, subst, ℤ, pos, ◌+ℤ◌, ◌-ℤ◌, ◌≤ℤ◌, length-append, append_assoc, inl, inr, neg_ℤ}
 use Rattle.std.specs.Prelude.{slice_get, Result, Ok, Err, IfOk}
 use Rattle.std.specs.Result.{IfErr}
 use Rattle.std.proofs.lemmas.Option.{slice_get_read, slice_get_within, get_or_from_slice_get}
@@ -21,7 +21,7 @@ use Rattle.tv_linear.proofs.RowValues.{value-column_row, value-denial, value-com
 use Rattle.tv_linear.specs.Same.{SameNumbers, AreSame}
 use Rattle.tv_linear.proofs.SameLemmas.{all_same, same_push}
 use Rattle.tv_linear.proofs.KnownLemmas.{as_given-append}
-use Rattle.tv_linear.proofs.ListLaws.{all_back, all_front, take_next}
+use Rattle.tv_linear.proofs.ListLaws.{all_back, all_front, take_next, below_or_not}
 use Rattle.tv_farkas.specs.Paths.{at_most_row, at_least_row, IsWholePoint}
 use Rattle.tv_farkas.specs.Unmade.{IsUnmadeBy}
 use Rattle.tv_cases.specs.EdgeCases.{columns_from}
@@ -48,18 +48,15 @@ pub drop_more : {A : Type 0} (xs : List A) (i : ℕ) (x : A) → i < length xs �
 drop_more xs i x l e = drop-cons xs i x l ∙ (λ j. sym e j ∷ drop (sym (next_of i) j) xs)
 
 -- ---- narrow rows
-all_map : (P Q : Linear → Type 0) (xs : List Linear) → ((x : Linear) → P x → Q x) → All P xs → All Q xs
+pub all_map : (P Q : Linear → Type 0) (xs : List Linear) → ((x : Linear) → P x → Q x) → All P xs → All Q xs
 all_map P Q [] f h = All-nil Q
 all_map P Q (x ∷ xs) f h = All-cons Q x xs (f x (All-head P x xs h)) (all_map P Q xs f (All-tail P x xs h))
 
 narrow_at : (r : Linear) → IsNarrow r → IsNarrowRow r
-narrow_at r h column l = elim (inside_or_last column (columns r) l) [
+narrow_at r h column l = elim (below_or_not column (columns r)) [
   | inl i ↦ h.coefficients column r.constant i
   | inr p ↦ subst (IsWithin 62) (sym (get_or_past r.coefficients column r.constant p)) h.constant
 ]
-  where
-    inside_or_last : (j n : ℕ) → j ≤ n → (j < n) ⊎ (n ≤ j)
-    inside_or_last j n l = grind arith
 
 -- ---- rows that were not made
 pub not_made : (Fits : ℕ → Type 0) (last : ℕ) (wide : ℕ → Type 0) (row_fault : RowFault) (fault : CoverFault) → IsUnmadeBy row_fault fault → IsFaultWhere Fits last row_fault → ((column : ℕ) → IsFirstWide Fits last column → wide column) → IsUnmade wide fault

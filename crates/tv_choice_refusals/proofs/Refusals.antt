@@ -31,6 +31,7 @@ use Rattle.tv_derived.proofs.Carried.{monotone}
 use Rattle.tv_derived.proofs.Steps.{listed_over, with_none, none_more}
 use Rattle.tv_derived.proofs.Listing.{one_more, handed_list, path_listed, point_split, goes_on, target_listed}
 use Rattle.tv_choice_refusals.specs.Choices.{asked_of, ChoiceRefuses}
+use Rattle.tv_cases.proofs.OptionLemmas.{some_same}
 
 found_among : (rows : List Linear) (k : ℕ) (r : Linear) → slice_get rows k ≡ Some r → Contains rows r
 found_among rows k r e = (k, slice_get_within rows k r e, get_or_from_slice_get rows k r r e)
@@ -60,20 +61,17 @@ data GivesTerm (n : ℕ) (r : Linear) : Linear → Type 0 where
   plus : r ≡ with_more (front n r) (pos 1 ∷ []) → GivesTerm n r (opposite (front n r))
   minus : r ≡ with_more (front n r) (negsuc 0 ∷ []) → GivesTerm n r (front n r)
 
-some_is : (a b : Linear) → ◌≡◌ {A = Option Linear} (Some a) (Some b) → a ≡ b
-some_is a b e = cc
-
 term_given : (n : ℕ) (r t : Linear) (z : ℤ) → columns r ≡ n + 1 → get_or r.coefficients n (pos 0) ≡ z → term_by z (front n r) ≡ Some t → GivesTerm n r t
 term_given n r t (pos zero) l e h = absurd (no_term t h)
   where
     no_term : (t : Linear) → ◌≡◌ {A = Option Linear} None (Some t) → ⊥
     no_term t e = cc
-term_given n r t (pos (suc zero)) l e h = subst (GivesTerm n r) (some_is (opposite (front n r)) t h) (plus (with_one n r (pos 1) l e))
+term_given n r t (pos (suc zero)) l e h = subst (GivesTerm n r) (some_same (opposite (front n r)) t h) (plus (with_one n r (pos 1) l e))
 term_given n r t (pos (suc (suc k))) l e h = absurd (no_term t h)
   where
     no_term : (t : Linear) → ◌≡◌ {A = Option Linear} None (Some t) → ⊥
     no_term t e = cc
-term_given n r t (negsuc zero) l e h = subst (GivesTerm n r) (some_is (front n r) t h) (minus (with_one n r (negsuc 0) l e))
+term_given n r t (negsuc zero) l e h = subst (GivesTerm n r) (some_same (front n r) t h) (minus (with_one n r (negsuc 0) l e))
 term_given n r t (negsuc (suc k)) l e h = absurd (no_term t h)
   where
     no_term : (t : Linear) → ◌≡◌ {A = Option Linear} None (Some t) → ⊥

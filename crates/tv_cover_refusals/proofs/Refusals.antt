@@ -67,7 +67,7 @@ module _ (about : CaseSystem) (base : List Placed) (f : Scope) (h : ℕ) (lists 
 
 -- ---- the cover that shows that a case keeps a row
 
-one_target : (about : CaseSystem) (base : List Placed) (f : Scope) (h : ℕ) (row : Linear) → IsDerived about base f h row → (target : List Linear) → Contains ((row ∷ []) ∷ []) target → AreDerived about base f h target
+pub one_target : (about : CaseSystem) (base : List Placed) (f : Scope) (h : ℕ) (row : Linear) → IsDerived about base f h row → (target : List Linear) → Contains ((row ∷ []) ∷ []) target → AreDerived about base f h target
 one_target about base f h row d target among r of =
     subst (λ x. IsDerived about base f h x) (one_of row r (subst (λ t. Contains t r) (only target among) of)) d where
       only : (t : List Linear) → Contains ((row ∷ []) ∷ []) t → t ≡ row ∷ []

@@ -7,13 +7,14 @@ use Rattle.tv_linear.specs.Linear.{Linear, columns}
 use Rattle.tv_linear.specs.Arithmetic.{constant_row}
 use Rattle.tv_linear.specs.Terms.{table}
 use Rattle.tv_linear.proofs.PlainLists.{length-zeros}
-use Rattle.tv_linear.proofs.ListLaws.{zip_push, table-push}
+use Rattle.tv_linear.proofs.ListLaws.{zip_push, table-push, drop_past}
 use Rattle.tv_cases.specs.LinearCases.{CaseSystem}
 use Rattle.tv_candidates.specs.declared.candidate.Candidate.{Candidate}
 use Rattle.tv_candidates.specs.Inductive.{IsInductive, IsPart, IsLargestInductive}
 use Rattle.tv_candidates.specs.Offered.{candidate, fits, joined, false_candidates, offered}
 use Rattle.tv_propose.specs.Rests.{IsGiven}
 use Rattle.tv_invariant.specs.Asking.{IsTold, Gave, AreTaken, HaveNoMore}
+use Rattle.std.proofs.lemmas.List.{nil_from_length}
 
 -- ---- one proposer
 
@@ -102,10 +103,7 @@ module _ {A : Type 0} (about : CaseSystem) (rest : A → Option (List Candidate)
       kept (x ∷ xs) y = refl
 
   pub all_end : (now : List A) (list : List Candidate) → AskedAll now list → length now ≡ 0 → (lists : List (List Candidate)) × Gave rest all lists × AreTaken about old (joined lists) list
-  all_end now list h l = (h.2.0, subst (λ ps. Gave rest ps h.2.0) (none_behind all h.0 (sym h.1 ∙ none now l)) h.2.1, h.2.2) where
-    none : (xs : List A) → length xs ≡ 0 → xs ≡ []
-    none [] e = refl
-    none (x ∷ xs) e = absurd (omega (arith, e))
+  all_end now list h l = (h.2.0, subst (λ ps. Gave rest ps h.2.0) (none_behind all h.0 (sym h.1 ∙ nil_from_length now l)) h.2.1, h.2.2)
 
 module _ {A : Type 0} (left : A → ℕ) where
   no_more_each : (xs : List A) → AllZip (λ p q. left q ≤ left p) xs xs
@@ -116,10 +114,7 @@ module _ {A : Type 0} (left : A → ℕ) where
   no_more_same xs = (0, no_more_each xs)
 
   pub no_more_none : (xs : List A) → HaveNoMore left xs []
-  no_more_none xs = (length xs, subst (λ ys. AllZip (λ p q. left q ≤ left p) ys []) (sym (past xs)) tt) where
-    past : (ys : List A) → drop (length ys) ys ≡ []
-    past [] = refl
-    past (y ∷ ys) = past ys
+  no_more_none xs = (length xs, subst (λ ys. AllZip (λ p q. left q ≤ left p) ys []) (sym (drop_past xs (length xs) (omega arith))) tt)
 
   first_less : (now : List A) (first second : A) → 0 < length now → first ≡ get_or now 0 first → left second ≤ left first → AllZip (λ p q. left q ≤ left p) now (set now 0 second)
   first_less [] first second l e m = absurd (omega (arith, l))

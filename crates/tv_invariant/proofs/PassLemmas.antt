@@ -20,7 +20,7 @@ use Rattle.tv_program.specs.Steps.{State}
 use Rattle.tv_invariant.proofs.ListLemmas.{all_by}
 use Rattle.tv_invariant.proofs.SieveLemmas.{sieved_part, sieved_stay, sieved_fall, sieved_length, sieved_same, sieved_again}
 use Rattle.tv_propose.proofs.TableLemmas.{length-views}
-use Rattle.tv_linear.proofs.ListLaws.{contains_at}
+use Rattle.tv_linear.proofs.ListLaws.{contains_at, last_or_below}
 use Rattle.tv_cases.proofs.LeavingLemmas.{case_at as case_there}
 
 left_all : (about : CaseSystem) (now : List Candidate) → IsLeft about now now
@@ -123,11 +123,8 @@ passed_closed about count old new before after h shut = record {
   left = h.left;
   shorter = h.shorter;
   closed = h.closed;
-  settled = λ l. let s = h.settled l in (s.0, λ k m. elim (last_or_less k count m) [ inl e ↦ subst (IsClosed after) (sym e) shut | inr n ↦ s.1 k n ]);
+  settled = λ l. let s = h.settled l in (s.0, λ k m. elim (last_or_below count k m) [ inl e ↦ subst (IsClosed after) (sym e) shut | inr n ↦ s.1 k n ]);
 }
-  where
-    last_or_less : (k n : ℕ) → k < n + 1 → (k ≡ n) ⊎ (k < n)
-    last_or_less k n m = grind arith
 
 pub passed_tried : (about : CaseSystem) (count : ℕ) (old mid new : List Candidate) (before between after : List Bool) → IsPassed about count old mid before between → IsTried about count mid new between after → IsPassed about (count + 1) old new before after
 passed_tried about count old mid new before between after h t =
@@ -140,11 +137,8 @@ passed_tried about count old mid new before between after h t =
       settled = λ l.
           let s = h.settled (omega (arith, l, n)) in
           let u = t.settled (omega (arith, l, m)) in
-          (u.0 ∙ s.0, λ k w. u.1 k (elim (last_or_less k count w) [ inl e ↦ inr e | inr i ↦ inl (s.1 k i) ]));
+          (u.0 ∙ s.0, λ k w. u.1 k (elim (last_or_below count k w) [ inl e ↦ inr e | inr i ↦ inl (s.1 k i) ]));
     }
-  where
-    last_or_less : (k n : ℕ) → k < n + 1 → (k ≡ n) ⊎ (k < n)
-    last_or_less k n m = grind arith
 
 pub passed_part : (about : CaseSystem) (count : ℕ) (old new : List Candidate) (before after : List Bool) → IsPassed about count old new before after → IsPart new old
 passed_part about count old new before after h = left_part about old new (h.left old (left_all about old))

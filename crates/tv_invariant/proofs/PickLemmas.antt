@@ -1,5 +1,5 @@
 -- Marked items of the front of a list.
-use Rattle.std.proofs.Common.{◌≡◌, ◌⊎◌, inl, inr, ℕ, ℤ, Vec, Global, map, zero, suc, List, [], ◌∷◌, ◌++◌, take, get_or, Bool, true, false, cond, Some, ◌+◌, ◌<◌, length, add-one, append-nil, length-append, subst, arith, rules, refl, sym, ap, ◌∙◌}
+use Rattle.std.proofs.Common.{◌≡◌, inl, inr, ℕ, ℤ, Vec, Global, map, zero, suc, List, [], ◌∷◌, ◌++◌, take, get_or, Bool, true, false, cond, Some, ◌+◌, ◌<◌, length, add-one, append-nil, length-append, subst, arith, rules, refl, sym, ap, ◌∙◌}
 use Rattle.std.proofs.lemmas.Option.{slice_get-get_or}
 use Rattle.std.specs.Prelude.{slice_get}
 use Rattle.std.specs.Prelude.{◌↔◌, IsTrue}
@@ -7,6 +7,7 @@ use Rattle.std.proofs.lemmas.List.{get_or_append_left}
 use Rattle.tv_linear.specs.declared.cover.CoverTree.{CoverTree, Into}
 use Rattle.tv_simplex.proofs.ScaleLemmas.{get_or-append-last}
 use Rattle.tv_invariant.specs.Thinning.{AreMarks, IsThinned, Uses, picked}
+use Rattle.tv_linear.proofs.ListLaws.{last_or_below}
 
 pub picked-none : {A : Type 0} (marks : List Bool) → picked {A = A} marks [] ≡ []
 picked-none [] = refl
@@ -51,14 +52,11 @@ marks-more tree k marks more b old e h =
     subst (λ c. IsTrue c ↔ Uses tree i) (sym (get_or_append_left marks (b ∷ []) false i (subst (λ n. i < n) (sym old.each) l))) (old.used i l) in
     record {
       each = all;
-      used = λ i l. subst (λ ms. IsTrue (get_or ms i false) ↔ Uses tree i) (sym e) (elim (last_or_less i k l) [
+      used = λ i l. subst (λ ms. IsTrue (get_or ms i false) ↔ Uses tree i) (sym e) (elim (last_or_below k i l) [
         | inl f ↦ subst (λ j. IsTrue (get_or (marks ++ b ∷ []) j false) ↔ Uses tree j) (sym f) last
         | inr g ↦ before i g
       ]);
     }
-  where
-    last_or_less : (j n : ℕ) → j < n + 1 → (j ≡ n) ⊎ (j < n)
-    last_or_less j n m = grind arith
 
 -- a tree that enters a target is thinned where its lists are
 pub thinned-into : (marks : List Bool) (tree : CoverTree) (target fall : ℕ) (lists thin : Vec (Vec ℤ Global) Global) → tree ≡ Into target fall lists → map (λ l. l.items) thin.items ≡ map (λ l. picked marks l.items) lists.items

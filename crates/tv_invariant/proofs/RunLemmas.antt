@@ -17,6 +17,7 @@ use Rattle.tv_candidates.specs.declared.candidate.Candidate.{Candidate}
 use Rattle.tv_candidates.proofs.OnRuns.{on_runs}
 use Rattle.tv_invariant.specs.declared.reached.Reached.{Reached}
 use Rattle.tv_invariant.specs.Reached.{state_of, IsReached, IsInNone, AreDrawn}
+use Rattle.std.proofs.lemmas.List.{append-nil}
 
 -- ---- lists
 
@@ -28,10 +29,6 @@ pushed_all P xs x all one (Err e) new h = tt
 
 pub drawn_none : (list : List ℤ) → AreDrawn 0 list list
 drawn_none list = record { drawn = []; counted = refl; parts = sym (append-nil list) }
-  where
-    append-nil : (xs : List ℤ) → xs ++ [] ≡ xs
-    append-nil [] = refl
-    append-nil (x ∷ xs) = ap (λ ys. x ∷ ys) (append-nil xs)
 
 -- ---- runs
 

@@ -1,5 +1,5 @@
 -- the rows that are asked of come from the candidates
-use Rattle.std.proofs.Common.{◌≡◌, inl, inr, ℕ, zero, suc, List, [], ◌∷◌, map, sym, subst, arith}
+use Rattle.std.proofs.Common.{◌≡◌, inl, inr, ℕ, List, [], ◌∷◌, map, sym, subst, arith}
 use Rattle.std.specs.Prelude.{Ok, Err}
 use Rattle.std.specs.List.{Contains}
 use Rattle.std.proofs.lemmas.List.Elements.{All-contains, Contains-append_cases}
@@ -12,12 +12,11 @@ use Rattle.tv_farkas.specs.declared.fault.CoverFault.TheVariants.{Splits, Solve,
 use Rattle.tv_candidates.specs.declared.candidate.Candidate.{Candidate}
 use Rattle.tv_candidates.specs.Inductive.{IsPart}
 use Rattle.tv_derived.specs.Scopes.{at_location, over_case}
-use Rattle.tv_derived.specs.Derived.{IsDerived, AreDerived, handed, guard, derived}
+use Rattle.tv_derived.specs.Derived.{IsDerived, handed, guard, derived}
 use Rattle.tv_derived.specs.Faults.{IsRefusalOf}
-use Rattle.tv_derived.proofs.Listing.{one_of}
 use Rattle.tv_derived.proofs.Steps.{after_before, over}
 use Rattle.tv_cover_refusals.specs.Covers.{IsSpentOnTargets}
-use Rattle.tv_cover_refusals.proofs.Refusals.{refusal}
+use Rattle.tv_cover_refusals.proofs.Refusals.{refusal, one_target}
 use Rattle.tv_invariant.specs.Places.{rows_at, step_rows}
 use Rattle.tv_invariant.specs.Falling.{IsUnmade, IsCoverRefusal}
 use Rattle.tv_invariant.proofs.StepLemmas.{all_at}
@@ -45,16 +44,9 @@ module _ (about : CaseSystem) (list : List Candidate) where
     unmade (Wide column) h = after_before c.row case among even (Err (rows.Wide column)) put h
     unmade Memory h = tt
 
-    one_target : (row : Linear) → IsDerived about (handed_candidates list) (over_case case) 1 row → (target : List Linear) → Contains ((row ∷ []) ∷ []) target → AreDerived about (handed_candidates list) (over_case case) 1 target
-    one_target row d target of r a =
-        subst (λ x. IsDerived about (handed_candidates list) (over_case case) 1 x) (one_of row r (subst (λ t. Contains t r) (only target of) a)) d where
-          only : (t : List Linear) → Contains ((row ∷ []) ∷ []) t → t ≡ row ∷ []
-          only t (zero, l, e) = sym e
-          only t (suc k, l, e) = absurd (omega arith)
-
     uncovered : (now : List Candidate) → IsPart now list → (fault : CoverFault) → IsCoverRefusal about.variables case now pivots splits c fault → IsRefusalOf about (handed_candidates list) 1 pivots (IsSpentOnTargets about (handed_candidates list) 1 1 splits) fault
     uncovered now part fault h =
-        refusal about (handed_candidates list) (over_case case) 1 ((h.row ∷ []) ∷ []) (one_target h.row (after_before c.row case among even (Ok h.row) put h.made)) 1 h.rows pivots splits fault
+        refusal about (handed_candidates list) (over_case case) 1 ((h.row ∷ []) ∷ []) (one_target about (handed_candidates list) (over_case case) 1 h.row (after_before c.row case among even (Ok h.row) put h.made)) 1 h.rows pivots splits fault
         (λ r a. derived r (over_derived case now among part r (h.from r a))) (omega arith) h.refused
 
 pub refuses : (about : CaseSystem) → InductiveRefuses about

@@ -1,6 +1,6 @@
 -- a simple recurrence leads along a run without an end
-use Rattle.std.proofs.Common.{◌≡◌, inl, inr, ◌∙◌, List, [], ◌∷◌, ◌++◌, map, length, refl, sym, ap, subst}
-use Rattle.std.specs.Prelude.{All, ℤ}
+use Rattle.std.proofs.Common.{◌≡◌, inl, inr, ◌∙◌, [], map, length, refl, sym, subst}
+use Rattle.std.specs.Prelude.{All}
 use Rattle.tv_linear.specs.Linear.{IsMet}
 use Rattle.tv_linear.specs.Known.{term_value}
 use Rattle.tv_linear.specs.Terms.{terms_after}
@@ -11,10 +11,7 @@ use Rattle.tv_meaning.proofs.RunLemmas.{Never_ends_by}
 use Rattle.tv_known.specs.Recurrences.{IsKeptLoop, MayTake, HasSimpleRecurrence}
 use Rattle.tv_known.specs.Laws.{SomeNeverEnds}
 use Rattle.tv_known.proofs.RankedEnds.{values_kept}
-
-nothing_behind : (xs : List ℤ) → xs ++ [] ≡ xs
-nothing_behind [] = refl
-nothing_behind (x ∷ xs) = ap (λ ys. x ∷ ys) (nothing_behind xs)
+use Rattle.std.proofs.lemmas.List.{append-nil}
 
 -- a state that steps to itself
 stays_there : (about : CaseSystem) (s : State) → CaseSteps about s s → Ends (CaseSteps about) s → ⊥
@@ -31,8 +28,8 @@ module _ (about : CaseSystem) (c : LinearCase) (loop : IsKeptLoop about c) where
     leaves = may.0;
     enters = refl;
     drawn = sym loop.no_draws;
-    guards = subst (λ xs. All (IsMet xs) c.guards) (sym (nothing_behind s.values)) may.1;
-    gives = (let back = sym (nothing_behind s.values) in let width = sym even in (λ i. map (term_value (back i)) (terms_after (width i) c.updates)));
+    guards = subst (λ xs. All (IsMet xs) c.guards) (sym (append-nil s.values)) may.1;
+    gives = (let back = sym (append-nil s.values) in let width = sym even in (λ i. map (term_value (back i)) (terms_after (width i) c.updates)));
   }
 
   again : (s : State) → MayTake c s → length s.values ≡ about.variables → MayTake c (next s)

@@ -26,6 +26,7 @@ use Rattle.tv_lexrank.specs.declared.falling.Fall.{Fall}
 use Rattle.tv_lexrank.proofs.PadLemmas.{spread_shown, nothing}
 use Rattle.tv_linear.proofs.ListLaws.{all_unmapped}
 use Rattle.tv_shape.proofs.NumberLemmas.{narrow_count}
+use Rattle.tv_linear.proofs.HeldLemmas.{opposite_held}
 
 -- ---- a split
 pub held_push : (n : ℕ) (ks : List Known) (k : Known) → AllHeld n ks → ((j : ℕ) → j < n → KnownHeld k (Some j)) → KnownHeld k None → AllHeld n (ks ++ k ∷ [])
@@ -35,12 +36,9 @@ held_push n (q ∷ ks) k h a b = (h.0, h.1, held_push n ks k h.2 a b)
 narrow_number : (r : Linear) (j : ℕ) → IsNarrow r → IsHeld (neg_ℤ (slice_index_or r.coefficients j (pos 0)))
 narrow_number r j h = by_place r.coefficients j h.coefficients
   where
-    small : (z : ℤ) → IsWithin 62 z → IsHeld (neg_ℤ z)
-    small z w = omega (arith, ints, w)
-
     by_place : (cs : List ℤ) (j : ℕ) → All (IsWithin 62) cs → IsHeld (neg_ℤ (slice_index_or cs j (pos 0)))
     by_place [] j w = nothing
-    by_place (c ∷ cs) zero w = small c (All-head (IsWithin 62) c cs w)
+    by_place (c ∷ cs) zero w = opposite_held c (All-head (IsWithin 62) c cs w)
     by_place (c ∷ cs) (suc j) w = by_place cs j (All-tail (IsWithin 62) c cs w)
 
 -- a property of a tree that is a split at a row

@@ -7,7 +7,7 @@ use Rattle.std.proofs.lemmas.Option.{slice_get_within, slice_get-get_or, get_or_
 use Rattle.tv_places.specs.Places.{places_from, places_of}
 use Rattle.tv_places.proofs.PlaceLemmas.{place_told, places_counted}
 use Rattle.tv_linear.specs.declared.region.Piece.{Piece}
-use Rattle.tv_linear.proofs.ListLaws.{test_true, true_test, take_more}
+use Rattle.tv_linear.proofs.ListLaws.{test_true, true_test, take_more, below_or_not}
 use Rattle.tv_cases.specs.LinearCases.{LinearCase, CaseSystem}
 use Rattle.tv_rank.specs.Ways.{case_at, no_case}
 use Rattle.tv_lexrank.specs.Inside.{inside_key, inside_keys, behind}
@@ -169,14 +169,11 @@ module _ (about : CaseSystem) (numbers : List ℕ) (component count : ℕ) where
         counted = s.counted;
         refuted = s.refuted;
         narrow = s.narrow;
-        each = λ k l inside. elim (before_or_past k (behind places p)) [
+        each = λ k l inside. elim (below_or_not k (behind places p)) [
           | inl b ↦ s.each k b inside
           | inr a ↦ absurd (g.none k (omega (arith, low, a)) (omega (arith, upper, e, l)) (ap (λ z. get_or keys z 0) (let q : k - 0 ≡ k = omega arith in q) ∙ key_at k (omega (arith, l, few)) ∙ inside_has_key (case_at about.cases k) inside))
         ];
       }
-    where
-      before_or_past : (k n : ℕ) → (k < n) ⊎ (n ≤ k)
-      before_or_past k n = grind arith
 
   pub sorted_all : (known : List Piece) (p : ℕ) (set empty : List ℕ) (refutations : List (List ℤ)) → p ≡ length places → AreSorted about known numbers component (behind places p) set empty refutations → AreSorted about known numbers component (length about.cases) set empty refutations
   sorted_all known p set empty refutations e s = sorted_until known p (length about.cases) set empty refutations (omega (arith, e)) (omega arith) (sym (get_or_past places p (length about.cases) (omega (arith, e)))) s

@@ -8,7 +8,7 @@ use Rattle.std.proofs.lemmas.Grind.{flat_map-append}
 use Rattle.tv_linear.specs.Linear.{columns}
 use Rattle.tv_linear.specs.Arithmetic.{constant_row}
 use Rattle.tv_linear.proofs.PlainLists.{length-zeros}
-use Rattle.tv_linear.proofs.ListLaws.{test_true, test_false}
+use Rattle.tv_linear.proofs.ListLaws.{test_true, test_false, same_or_below, zip_both}
 use Rattle.tv_cases.specs.LinearCases.{LinearCase, leaving}
 use Rattle.tv_cases.specs.Systems.{cases_of}
 use Rattle.tv_formula.specs.Properties.{term}
@@ -66,15 +66,12 @@ module _ (r : Ranking) where
   none_past zero l h = refl
   none_past (suc n) l h = filter-append (λ p. place_of p == l) (ranked_pieces r n) (ranked_piece r n ∷ []) ∙ (λ i. none_past n l (omega (arith, h)) i ++ none_at n l (λ e. omega (arith, h, e)) i)
 
-  last_or_below : (n j : ℕ) → j < suc n → (n ≡ j) ⊎ (j < n)
-  last_or_below n j h = grind arith
-
   one_there : (n l : ℕ) → l < n → pieces_at (ranked_pieces r n) l ≡ ranked_piece r l ∷ []
   one_there zero l h = absurd (omega (arith, h))
-  one_there (suc n) l h = filter-append (λ p. place_of p == l) (ranked_pieces r n) (ranked_piece r n ∷ []) ∙ by_place (last_or_below n l h) (λ b. one_there n l b)
+  one_there (suc n) l h = filter-append (λ p. place_of p == l) (ranked_pieces r n) (ranked_piece r n ∷ []) ∙ by_place (same_or_below n l h) (λ b. one_there n l b)
     where
-      by_place : (n ≡ l) ⊎ (l < n) → (l < n → pieces_at (ranked_pieces r n) l ≡ ranked_piece r l ∷ []) → pieces_at (ranked_pieces r n) l ++ pieces_at (ranked_piece r n ∷ []) l ≡ ranked_piece r l ∷ []
-      by_place (inl e) rest = (λ i. none_past n l (omega (arith, e)) i ++ one_at n l e i) ∙ ap (λ z. ranked_piece r z ∷ []) e
+      by_place : (l ≡ n) ⊎ (l < n) → (l < n → pieces_at (ranked_pieces r n) l ≡ ranked_piece r l ∷ []) → pieces_at (ranked_pieces r n) l ++ pieces_at (ranked_piece r n ∷ []) l ≡ ranked_piece r l ∷ []
+      by_place (inl e) rest = (λ i. none_past n l (omega (arith, e)) i ++ one_at n l (sym e) i) ∙ ap (λ z. ranked_piece r z ∷ []) (sym e)
       by_place (inr b) rest = (λ i. rest b i ++ none_at n l (λ e. omega (arith, b, e)) i)
 
   pub pieces_there : ArePieces r (ranked_pieces r (cases_of r.about.now).locations)
@@ -123,11 +120,6 @@ module _ (r : Ranking) where
   })
 
   -- ---- the proofs
-  zip_both : {A B : Type 0} (R : A → B → Type 0) (xs us : List A) (ys vs : List B) → AllZip R xs ys → AllZip R us vs → AllZip R (xs ++ us) (ys ++ vs)
-  zip_both R [] us [] vs h g = g
-  zip_both R [] us (y ∷ ys) vs h g = absurd h
-  zip_both R (x ∷ xs) us [] vs h g = absurd h
-  zip_both R (x ∷ xs) us (y ∷ ys) vs h g = (h.0, zip_both R xs us ys vs h.1 g)
 
   module _ (ps : List Marked) (pieces : ArePieces r ps) where
     steps_offered : (number l : ℕ) (cases : List LinearCase) (proofs : List Proof) → AllZip (IsOfferedAt r l) cases proofs → AllZip IsOffered (map (step_owed r number ps l) cases) proofs

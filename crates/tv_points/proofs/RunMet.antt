@@ -29,6 +29,7 @@ use Rattle.tv_points.specs.declared.state.State.{State}
 use Rattle.tv_shape.specs.Made.{HasOwn, IsOffered}
 use Rattle.tv_shape.proofs.MadeLemmas.{node_fitted}
 use Rattle.tv_points.proofs.BareMet.{LeadsInto, StatesLead, bare_offered, location_leads, truth_leads, truth_fitted, location_fitted}
+use Rattle.tv_linear.proofs.ListLaws.{zip_both}
 
 -- ---- the pieces of states
 rows_wide : (n v : ℕ) (ks : List ℤ) → All (λ r. columns r ≡ n) (rows_from n v ks)
@@ -110,11 +111,6 @@ endless_is about states node pieces proofs same own chosen each few = record {
 }
 
 -- ---- a run that comes to a location
-pub zip_both : {A B : Type 0} (R : A → B → Type 0) (xs us : List A) (ys vs : List B) → AllZip R xs ys → AllZip R us vs → AllZip R (xs ++ us) (ys ++ vs)
-zip_both R [] us [] vs h g = g
-zip_both R [] us (y ∷ ys) vs h g = absurd h
-zip_both R (x ∷ xs) us [] vs h g = absurd h
-zip_both R (x ∷ xs) us (y ∷ ys) vs h g = (h.0, zip_both R xs us ys vs h.1 g)
 
 module _ (about : CaseSystem) (l number : ℕ) (ps a b : List Marked) where
   two_offered : (p : Marked) (g : Bool) (x y : Proof) → IsBare x → IsSecond about ps p g y → LeadsInto b (place_of p) → (g ≡ false → LeadsInto a (place_of p)) → AllZip IsOffered (fix_of number (about_with about) Any Strong ps a b p g) (x ∷ y ∷ [])

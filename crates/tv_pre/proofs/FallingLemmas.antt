@@ -43,9 +43,9 @@ use Rattle.tv_pre.proofs.FallLemmas.{WithFalls, FallsOwed, falls_owed, case_keep
 use Rattle.tv_pre.proofs.OfferLemmas.{lists_marked}
 use Rattle.tv_pre.proofs.PieceLemmas.{are_marked}
 use Rattle.tv_pre.proofs.ShownLemmas.{entry_shown, given_more, denied_more, cover_falls, falling_even, falling_splits, falling_narrow, entry_narrow, all_mapped}
-use Rattle.tv_choice.proofs.StopLemmas.{one_more}
 use Rattle.tv_lexrank.proofs.MoreLemmas.{given_held}
 use Rattle.tv_linear.proofs.ListLaws.{all_unmapped}
+use Rattle.tv_cases.proofs.AmountLemmas.{one_more}
 
 -- ---- with the guards of a case before
 with_guards : (n : ℕ) (guards : List Known) (a b : Option (List Known)) → WithFalls n a b → WithFalls n (option_map (λ rows. guards ++ rows) a) (option_map (λ rows. guards ++ rows) b)

@@ -24,8 +24,8 @@ use Rattle.tv_pre.proofs.ChoiceLemmas.{at_same}
 use Rattle.tv_pre.proofs.FallLemmas.{IsAlways, WithFalls, FallsOwed}
 use Rattle.tv_cases.proofs.ProductLemmas.{zero_times}
 use Rattle.tv_lexrank.proofs.PadLemmas.{nothing, EachHeld, each_inner, each_constant}
-use Rattle.tv_choice.proofs.StopLemmas.{one_more}
 use Rattle.tv_linear.proofs.ListLaws.{all_unmapped}
+use Rattle.tv_cases.proofs.AmountLemmas.{one_more}
 
 one_times : (z : ℤ) → pos 1 *ℤ z ≡ z
 one_times z = omega (arith, ints)

@@ -32,6 +32,7 @@ use Rattle.tv_recur.specs.Choosing.{IsChoiceOf, entering, IsChoiceAt, LeadsInto}
 use Rattle.tv_farkas.proofs.StretchLemmas.{short_all}
 use Rattle.tv_linear.proofs.ListLaws.{all_unmapped}
 use Rattle.tv_shape.proofs.NumberLemmas.{narrow_count, row_narrow, rows_narrow}
+use Rattle.tv_cases.proofs.AmountLemmas.{one_more}
 
 -- ---- lists of lines
 shown_many : (n : ℕ) (known owed : List Known) (lists : List (List ℤ)) → Shown n known owed lists → length lists ≡ length owed
@@ -145,9 +146,6 @@ module _ (about : CaseSystem) (c : LinearCase) (k place : ℕ) (draws into targe
   choice_met known (cover.Into other none lines) (choice.NoStep covers) m h = absurd h
   choice_met known (cover.Into other none lines) (choice.Take taken to fall terms lists) m h =
       take_met known taken to fall terms.items (map (λ l. l.items) lists.items) (map (λ l. l.items) lines.items) h.0 h.1 h.2 h.3 h.4 (lines_owed known other none (map (λ l. l.items) lines.items) m)
-
-  one_more : (known : List Known) (x : Known) (count : ℕ) → length known ≡ count → length (known ++ x ∷ []) ≡ count + 1
-  one_more known x count e = length-append known (x ∷ []) ∙ ap (λ m. m + 1) e
 
   choice_shape : All (λ r. columns r ≡ n) draws → (count : ℕ) (known : List Known) (old : CoverTree) (new : ChoiceTree) → length known ≡ count → IsMetCover n (owed_lists (target ∷ [])) known old → TreeRows (λ r. columns r ≡ n) old → IsChoiceOf k place draws old new → ChoiceShape n about.cases c.from false (entering about ps) count new
   choice_shape wide count known (cover.Split' r p a q b) (choice.Split' s t x u y) e m even h = (

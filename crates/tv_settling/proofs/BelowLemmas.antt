@@ -3,13 +3,14 @@ use Rattle.std.proofs.Common.{◌≡◌, ◌⊎◌, inl, inr, ℕ, zero, suc, �
 use Rattle.std.specs.Prelude.{slice_get}
 use Rattle.std.proofs.lemmas.List.Elements.{All-nil, All-cons, All-head, All-tail, All-append, filter-append}
 use Rattle.tv_linear.specs.Known.{given}
-use Rattle.tv_linear.proofs.ListLaws.{test_true, test_false}
+use Rattle.tv_linear.proofs.ListLaws.{test_true, test_false, same_or_below}
 use Rattle.tv_cert.specs.declared.node.Marked.{Marked}
 use Rattle.tv_cert.specs.Pieces.{place_of, pieces_at}
 use Rattle.tv_cert.specs.Targets.{target_rows, no_fall}
 use Rattle.tv_points.specs.Nodes.{whole_piece}
 use Rattle.tv_points.proofs.BareMet.{LeadsInto}
 use Rattle.tv_settling.specs.Below.{pieces_below, elsewhere}
+use Rattle.std.proofs.lemmas.List.{append-nil}
 
 -- all of them are at the location
 abbrev pub AreAt : ℕ → List Marked → Type 0
@@ -40,20 +41,13 @@ module _ (there : ℕ → List Marked) (placed : (l : ℕ) → AreAt l (there l)
       filter-append (λ p. place_of p == l) (pieces_below there n) (there n)
       ∙ (λ i. none_past n l (omega (arith, h)) i ++ none_at n l (there n) (λ e. omega (arith, h, e)) (placed n) i)
 
-  last_or_below : (n j : ℕ) → j < suc n → (n ≡ j) ⊎ (j < n)
-  last_or_below n j h = grind arith
-
-  append-none : (ps : List Marked) → ps ++ [] ≡ ps
-  append-none [] = refl
-  append-none (p ∷ ps) = ap (λ qs. p ∷ qs) (append-none ps)
-
   pub found : (n l : ℕ) → l < n → pieces_at (pieces_below there n) l ≡ there l
   found zero l h = absurd (omega (arith, h))
-  found (suc n) l h = filter-append (λ p. place_of p == l) (pieces_below there n) (there n) ∙ by_place (last_or_below n l h) (λ b. found n l b)
+  found (suc n) l h = filter-append (λ p. place_of p == l) (pieces_below there n) (there n) ∙ by_place (same_or_below n l h) (λ b. found n l b)
     where
-      by_place : (n ≡ l) ⊎ (l < n) → (l < n → pieces_at (pieces_below there n) l ≡ there l) → pieces_at (pieces_below there n) l ++ pieces_at (there n) l ≡ there l
-      by_place (inl e) rest = (λ i. none_past n l (omega (arith, e)) i ++ all_at n l (there n) e (placed n) i) ∙ ap there e
-      by_place (inr b) rest = (λ i. rest b i ++ none_at n l (there n) (λ e. omega (arith, b, e)) (placed n) i) ∙ append-none (there l)
+      by_place : (l ≡ n) ⊎ (l < n) → (l < n → pieces_at (pieces_below there n) l ≡ there l) → pieces_at (pieces_below there n) l ++ pieces_at (there n) l ≡ there l
+      by_place (inl e) rest = (λ i. none_past n l (omega (arith, e)) i ++ all_at n l (there n) (sym e) (placed n) i) ∙ ap there (sym e)
+      by_place (inr b) rest = (λ i. rest b i ++ none_at n l (there n) (λ e. omega (arith, b, e)) (placed n) i) ∙ append-nil (there l)
 
   pub each_below : (P : Marked → Type 0) (n : ℕ) → ((l : ℕ) → l < n → All P (there l)) → All P (pieces_below there n)
   each_below P zero h = All-nil P

@@ -22,12 +22,12 @@ use Rattle.tv_lexrank.proofs.MetLemmas.{over_at}
 use Rattle.tv_points.specs.Nodes.{IsWholeNode, whole_piece}
 use Rattle.tv_points.proofs.BareMet.{atoms_offered, whole_shape}
 use Rattle.tv_shape.proofs.MadeLemmas.{node_fitted}
-use Rattle.tv_points.proofs.RunMet.{zip_both}
 use Rattle.tv_settling.specs.Below.{pieces_below, elsewhere}
 use Rattle.tv_settling.specs.Nodes.{system_of, asked, known_piece, known_there, known_pieces, pieces_elsewhere, owed_at, AreShownBelow, ShowsNever}
 use Rattle.tv_settling.specs.declared.barrier.Barrier.{Barrier}
 use Rattle.tv_settling.proofs.BelowLemmas.{each_below, length_below, elsewhere_placed, elsewhere_short, each_elsewhere}
 use Rattle.tv_settling.proofs.ShownLemmas.{known_placed, known_found}
+use Rattle.tv_linear.proofs.ListLaws.{zip_both}
 
 -- ---- the children
 module _ (b : Barrier) where

@@ -19,8 +19,10 @@ use Rattle.tv_cases.specs.LinearCases.{LinearCase, CaseSystem, CaseSteps, leavin
 use Rattle.tv_cert.specs.declared.node.Marked.{Marked}
 use Rattle.tv_cert.specs.Pieces.{rows_of, InMarked}
 use Rattle.tv_cert.specs.Choices.{drawn_change, drawn_guards, TakeMet, NoStepMet, IsMetChoice, ChoiceFits}
-use Rattle.tv_sound.proofs.Membership.{zip_some, Contains-filter}
+use Rattle.tv_sound.proofs.Membership.{zip_some}
 use Rattle.tv_sound.proofs.Entering.{Entered, value-longer, met-after, joined_is}
+use Rattle.tv_cases.proofs.ContainsLemmas.{Contains-filter}
+use Rattle.tv_cases.proofs.OptionLemmas.{none_or_some}
 
 kept_values : (n : ℕ) (xs : List ℤ) → length xs ≡ n → map (term_value xs) (table n (λ j. kept j)) ≡ xs
 kept_values n xs e = map-table (term_value xs) n (λ j. kept j) ∙ table_of n xs e
@@ -82,16 +84,13 @@ module _ (n : ℕ) (cases : List LinearCase) (l : ℕ) (owed : LinearCase → Li
 pub record Stopped (n : ℕ) (cases : List LinearCase) (l : ℕ) (xs : List ℤ) : Type 0 where
   pub none : (c : LinearCase) → Contains cases c → c.from ≡ l → (ds : List ℤ) → length ds ≡ c.draws → All (IsKnownMet (xs ++ ds)) (as_given c.guards) → ⊥
 
-no_rows_there : (rows : List Known) → ◌≡◌ {A = Option (List Known)} None (Some rows) → ⊥
-no_rows_there rows e = cc
-
 nostep_stops : (n : ℕ) (cases : List LinearCase) (l : ℕ) (known : List Known) (covers : List CoverTree) (xs : List ℤ) → NoStepMet n known (leaving l cases) covers → length xs ≡ n → ((ds : List ℤ) → All (IsKnownMet (xs ++ ds)) known) → Stopped n cases l xs
 nostep_stops n cases l known covers xs h e stays = record {
   none = λ c among from ds drawn guards. (
       let p = zip_some (λ c cover. IsMetCover (n + c.draws) no_target (known ++ as_given c.guards) cover) (leaving l cases) covers c h (Contains-filter (λ c. c.from == l) cases c (test_true c.from l from) among) in
       let long : length (xs ++ ds) ≡ n + c.draws = (let a = length-append xs ds in omega (arith, a, e, drawn)) in
       let w = covered (n + c.draws) no_target (known ++ as_given c.guards) p.0 (xs ++ ds) p.1 long (All-append (IsKnownMet (xs ++ ds)) known (as_given c.guards) (stays ds) guards) in
-      no_rows_there w.2 w.3);
+      none_or_some w.2 w.3);
 }
 
 -- what a row or its denial says of the variables stays with draws behind them

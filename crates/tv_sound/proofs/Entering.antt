@@ -1,5 +1,5 @@
 -- What a met cover shows of a state: it enters a piece, and the ranks fall.
-use Rattle.std.proofs.Common.{◌≡◌, ℕ, zero, suc, ◌+◌, ◌≤◌, List, [], ◌∷◌, ◌++◌, length, All, map, Option, None, Some, Bool, true, false, arith, refl, subst, sym, ap, ◌∙◌, ℤ, pos, ◌+ℤ◌, ◌*ℤ◌, ◌≤ℤ◌, slice_get, get_or, length-append}
+use Rattle.std.proofs.Common.{◌≡◌, ℕ, suc, ◌+◌, ◌≤◌, List, [], ◌∷◌, ◌++◌, length, All, map, Option, None, Some, Bool, true, false, arith, refl, subst, sym, ap, ◌∙◌, ℤ, pos, ◌+ℤ◌, ◌*ℤ◌, ◌≤ℤ◌, slice_get, length-append}
 use Rattle.std.specs.Prelude.{Contains}
 use Rattle.std.specs.Option.{option_map}
 use Rattle.std.proofs.lemmas.List.{length-map}
@@ -23,7 +23,7 @@ use Rattle.tv_cert.specs.Obligations.{case_change}
 use Rattle.tv_cert.specs.Fits.{PieceFits}
 use Rattle.tv_cert.proofs.PieceLemmas.{piece_got}
 use Rattle.tv_sound.proofs.Shown.{PieceCovered, StepCovered}
-use Rattle.tv_linear.proofs.ListLaws.{all_back, all_front}
+use Rattle.tv_linear.proofs.ListLaws.{all_back, all_front, get_or-past}
 
 -- ---- lists
 
@@ -89,13 +89,8 @@ place_sum-longer f (x ∷ xs) ds h =
     let later = place_sum-longer (λ j. f (suc j)) xs ds (λ j k. h (suc j) (omega arith)) in
     omega (arith, ints, later)
 
-get_or-past : (cs : List ℤ) (j : ℕ) → length cs ≤ j → get_or cs j (pos 0) ≡ pos 0
-get_or-past [] j h = refl
-get_or-past (c ∷ cs) zero h = absurd (omega arith)
-get_or-past (c ∷ cs) (suc j) h = get_or-past cs j (omega arith)
-
 pub value-longer : (xs ds : List ℤ) (r : Linear) → columns r ≤ length xs → known_value (xs ++ ds) (given r) ≡ known_value xs (given r)
-value-longer xs ds r h = ap (λ z. z +ℤ r.constant) (place_sum-longer (λ j. number (Some j) r) xs ds (λ j k. get_or-past r.coefficients j (omega arith)))
+value-longer xs ds r h = ap (λ z. z +ℤ r.constant) (place_sum-longer (λ j. number (Some j) r) xs ds (λ j k. get_or-past r.coefficients j (pos 0) (omega arith)))
 
 pub met-longer : (xs ds : List ℤ) (rows : List Linear) → All (λ r. columns r ≤ length xs) rows → All (IsKnownMet xs) (as_given rows) → All (IsKnownMet (xs ++ ds)) (as_given rows)
 met-longer xs ds [] w h = All-nil (IsKnownMet (xs ++ ds))

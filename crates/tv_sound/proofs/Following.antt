@@ -30,6 +30,7 @@ use Rattle.tv_sound.proofs.Entering.{Entered, joined_is, seen, wide_after}
 use Rattle.tv_sound.proofs.Choosing.{Taken, TakenInto, taken_into, Stepped, taken_step, stepped_in, drawn}
 use Rattle.tv_linear.proofs.ListLaws.{all_back, all_front, contains_at}
 use Rattle.tv_cases.proofs.SameSteps.{at_most-true}
+use Rattle.tv_cases.proofs.OptionLemmas.{some_same}
 
 pub never : IsTrue false → ⊥
 never h = cc
@@ -101,9 +102,6 @@ filter-firsts test (a ∷ xs) = kept_firsts (test a.0) a (filter (λ o. test o.0
 
 none_is : {X : Type 0} (x : X) → ◌≡◌ {A = Option X} None (Some x) → ⊥
 none_is x e = cc
-
-some_same : {X : Type 0} (x y : X) → ◌≡◌ {A = Option X} (Some x) (Some y) → x ≡ y
-some_same x y e = cc
 
 -- a piece that is entered, with what is offered there
 offer_got : {A B : Type 0} (os : List (A × B)) (k : ℕ) (a : A) (o : Option (A × B)) → slice_get os k ≡ o → option_map (λ o. o.0) o ≡ Some a → (b : B) × (slice_get os k ≡ Some (a, b))

@@ -21,19 +21,17 @@ use Rattle.tv_cert.specs.Targets.{changed_lists}
 use Rattle.tv_cert.specs.Choices.{IsMetChoice, ChoiceFits}
 use Rattle.tv_cert.specs.Obligations.{About, a_cover, a_choice, Obligation, OwedMet, AllMet, cover_of, atom_of, step_of, steps_of, choice_of, paired}
 use Rattle.tv_cert.specs.Fits.{ProofFits}
-use Rattle.tv_cases.proofs.ContainsLemmas.{Contains-here, Contains-later, Contains-map}
-use Rattle.tv_sound.proofs.Membership.{Contains-filter, Contains-flat_map}
+use Rattle.tv_cases.proofs.ContainsLemmas.{Contains-here, Contains-later, Contains-map, Contains-filter}
+use Rattle.tv_sound.proofs.Membership.{Contains-flat_map}
 use Rattle.tv_sound.proofs.Shown.{PieceCovered, AtomCovered, AllStepsCovered, HasChoice}
 use Rattle.tv_sound.proofs.Entering.{seen}
+use Rattle.tv_cases.proofs.OptionLemmas.{some_same, none_or_some}
 
 -- an obligation and what meets it
 pub record Met (o : Obligation) (proofs : List Proof) : Type 0 where
   pub proof : Option Proof
   pub met : OwedMet o.owed proof
   pub from : (p : Proof) → proof ≡ Some p → Contains proofs p
-
-some_is : (p q : Proof) → ◌≡◌ {A = Option Proof} (Some p) (Some q) → p ≡ q
-some_is p q e = cc
 
 no_proof : (p : Proof) → ◌≡◌ {A = Option Proof} None (Some p) → ⊥
 no_proof p e = cc
@@ -45,7 +43,7 @@ pub paired_some : (os : List Obligation) (proofs : List Proof) (o : Obligation) 
 paired_some [] proofs o h c = absurd (omega arith)
 paired_some (x ∷ os) [] o h (zero, l, e) = record { proof = None; met = subst (λ z. OwedMet z.owed None) e h.0; from = λ p k. absurd (no_proof p k) }
 paired_some (x ∷ os) [] o h (suc k, l, e) = paired_some os [] o h.1 (k, omega arith, e)
-paired_some (x ∷ os) (q ∷ proofs) o h (zero, l, e) = record { proof = Some q; met = subst (λ z. OwedMet z.owed (Some q)) e h.0; from = λ p k. subst (Contains (q ∷ proofs)) (some_is q p k) (Contains-here q proofs) }
+paired_some (x ∷ os) (q ∷ proofs) o h (zero, l, e) = record { proof = Some q; met = subst (λ z. OwedMet z.owed (Some q)) e h.0; from = λ p k. subst (Contains (q ∷ proofs)) (some_same q p k) (Contains-here q proofs) }
 paired_some (x ∷ os) (q ∷ proofs) o h (suc k, l, e) = later q o proofs (paired_some os proofs o h.1 (k, omega arith, e))
 
 cover_shown : (n : ℕ) (known : List Known) (owed : ℕ → ℕ → Option (List Known)) (proof : Option Proof) → OwedMet (a_cover n known owed) proof → (tree : CoverTree) × IsMetCover n owed known tree
@@ -82,21 +80,12 @@ module _ (number : ℕ) (about : About) (ps : List Marked) (os : Marked → List
 
 -- ---- covers into lists of rows
 target_is : (targets : List (List Linear)) (k : ℕ) (o : Option (List Linear)) (rows : List Known) → slice_get targets k ≡ o → option_map as_given o ≡ Some rows → (lines : List Linear) × Contains targets lines × (as_given lines ≡ rows)
-target_is targets k None rows e h = absurd (no_row rows h)
-  where
-    no_row : (rows : List Known) → ◌≡◌ {A = Option (List Known)} None (Some rows) → ⊥
-    no_row rows h = cc
-target_is targets k (Some lines) rows e h = (lines, contains_at targets k lines e, row_is (as_given lines) rows h)
-  where
-    row_is : (p q : List Known) → ◌≡◌ {A = Option (List Known)} (Some p) (Some q) → p ≡ q
-    row_is p q e = cc
+target_is targets k None rows e h = absurd (none_or_some rows h)
+target_is targets k (Some lines) rows e h = (lines, contains_at targets k lines e, some_same (as_given lines) rows h)
 
 target_at : (targets : List (List Linear)) (k j : ℕ) (rows : List Known) → changed_lists given targets k j ≡ Some rows → (lines : List Linear) × Contains targets lines × (as_given lines ≡ rows)
 target_at targets k zero rows h = target_is targets k (slice_get targets k) rows refl h
-target_at targets k (suc j) rows h = absurd (no_row rows h)
-  where
-    no_row : (rows : List Known) → ◌≡◌ {A = Option (List Known)} None (Some rows) → ⊥
-    no_row rows h = cc
+target_at targets k (suc j) rows h = absurd (none_or_some rows h)
 
 -- a state of a piece with a met cover meets one of the lists
 pub atom_meets : (n : ℕ) (p : Marked) (targets : List (List Linear)) → AtomCovered n p targets → (s : State) → length s.values ≡ n → InMarked p s → (lines : List Linear) × Contains targets lines × All (IsKnownMet s.values) (as_given lines)

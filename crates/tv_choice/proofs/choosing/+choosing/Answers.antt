@@ -1,4 +1,4 @@
-use Rattle.std.proofs.Common.{◌≡◌, ◌∙◌, ◌+◌, ◌-◌, ◌++◌, ◌∷◌, List, [], length, map, get_or, subst, sym, refl, arith, None, Some, ℕ, zero, suc}
+use Rattle.std.proofs.Common.{◌≡◌, ◌∙◌, ◌++◌, ◌∷◌, List, [], length, map, get_or, subst, sym, arith, None, Some, ℕ}
 use Rattle.std.specs.Prelude.{Bool, true, false, IsTrue}
 use Rattle.std.specs.Result.{IfErr, IfOk}
 use Rattle.std.specs.Int.{w128}
@@ -31,10 +31,7 @@ use Rattle.tv_choice.proofs.SettleLemmas.{empty_leaf, stop_leaf, take_leaf, spli
 use Rattle.tv_choice.proofs.SplitLemmas.{row_halves, point_halves, fraction_at}
 use Rattle.tv_choice.proofs.choosing.+choosing.Goals as goal
 use Rattle.tv_linear.proofs.ListLaws.{all_at}
-
-back : (k : ℕ) → (k ≡ 0 → ⊥) → k - 1 + 1 ≡ k
-back zero g = absurd (g refl)
-back (suc k) g = omega arith
+use Rattle.tv_cover.proofs.SearchLemmas.{less_and_more}
 
 same_at : {A : Type 0} (xs : List A) (i : ℕ) (x y : A) → IsAt xs i x → y ≡ get_or xs i y → x ≡ y
 same_at xs i x y h e = sym h.1 ∙ get_or_default xs i x y h.0 ∙ sym e
@@ -165,12 +162,12 @@ go_or_split-split-requires t c =
 pub go_or_split-returns-in_ok-halves-in-Some-clause-found : goal.go_or_split-returns-in_ok-halves-in-Some-clause-found
 go_or_split-returns-in_ok-halves-in-Some-clause-found t c =
     let q = c.args.question.now in
-    subst (λ k. IfOk c.split.result (IsFound q.columns (query_of q) c.args.rows.now k)) (back c.args.left c.if-left-eq0.false) c.split.ensures.found
+    subst (λ k. IfOk c.split.result (IsFound q.columns (query_of q) c.args.rows.now k)) (less_and_more c.args.left c.if-left-eq0.false) c.split.ensures.found
 
 pub go_or_split-returns-in_ok-halves-in-Some-clause-refusals : goal.go_or_split-returns-in_ok-halves-in-Some-clause-refusals
 go_or_split-returns-in_ok-halves-in-Some-clause-refusals t c =
     let q = c.args.question.now in
-    subst (λ k. IfErr c.split.result (IsChoiceFault q.columns (query_of q) c.args.rows.now q.pivots k)) (back c.args.left c.if-left-eq0.false) c.split.ensures.refusals
+    subst (λ k. IfErr c.split.result (IsChoiceFault q.columns (query_of q) c.args.rows.now q.pivots k)) (less_and_more c.args.left c.if-left-eq0.false) c.split.ensures.refusals
 
 -- ---- go_on
 pub go_on-returns-in-Err-clause-refusals : goal.go_on-returns-in-Err-clause-refusals
@@ -274,12 +271,12 @@ split_way-split-requires t c =
 pub split_way-returns-clause-found : goal.split_way-returns-clause-found
 split_way-returns-clause-found t c =
     let q = c.args.question.now in
-    subst (λ k. IfOk c.split.result (IsFound q.columns (query_of q) c.args.rows.now k)) (back c.args.left c.if-left-eq0.false) c.split.ensures.found
+    subst (λ k. IfOk c.split.result (IsFound q.columns (query_of q) c.args.rows.now k)) (less_and_more c.args.left c.if-left-eq0.false) c.split.ensures.found
 
 pub split_way-returns-clause-refusals : goal.split_way-returns-clause-refusals
 split_way-returns-clause-refusals t c =
     let q = c.args.question.now in
-    subst (λ k. IfErr c.split.result (IsChoiceFault q.columns (query_of q) c.args.rows.now q.pivots k)) (back c.args.left c.if-left-eq0.false) c.split.ensures.refusals
+    subst (λ k. IfErr c.split.result (IsChoiceFault q.columns (query_of q) c.args.rows.now q.pivots k)) (less_and_more c.args.left c.if-left-eq0.false) c.split.ensures.refusals
 
 -- ---- split
 pub split-returns-in-Ok-Hole-clause-found : goal.split-returns-in-Ok-Hole-clause-found

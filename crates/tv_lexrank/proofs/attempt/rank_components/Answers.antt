@@ -1,8 +1,9 @@
-use Rattle.std.proofs.Common.{◌≡◌, ◌∙◌, ℕ, ◌+◌, ◌++◌, ◌∷◌, [], List, length, length-append, ap, subst, arith}
+use Rattle.std.proofs.Common.{◌∙◌, length, ap, subst}
 use Rattle.tv_cases.specs.Systems.{cases_of}
 use Rattle.tv_lexrank.specs.Parts.{IsParted}
 use Rattle.tv_lexrank.proofs.AttemptLemmas.{parts_more, part_refused}
 use Rattle.tv_lexrank.proofs.attempt.rank_components.Goals as goal
+use Rattle.tv_cases.proofs.AmountLemmas.{one_more}
 
 pub returns-in-Err-clause-refusals : goal.returns-in-Err-clause-refusals
 returns-in-Err-clause-refusals c = part_refused (cases_of c.args.about.now) c.args.known.now.pieces.items c.args.numbers.now c.components.number c.args.pivots c.in-Err.fault c.in-Err.ensures.refusals
@@ -13,9 +14,6 @@ components-preserved c =
     let known = c.args.known.now.pieces.items in
     let p = subst (IsParted about known c.args.numbers.now c.components.number) c.in-Done.is c.in-Ok.ensures.parted in
     record {
-      as_many = ap length c.in_ok-push_item-in-Done.ensures ∙ longer c.components.parts.items c.in-Done.part c.components.number c.components.invariant.as_many;
+      as_many = ap length c.in_ok-push_item-in-Done.ensures ∙ one_more c.components.parts.items c.in-Done.part c.components.number c.components.invariant.as_many;
       parts = parts_more about known c.args.numbers.now c.components.number c.components.parts.items c.push_item.new.items.items c.in-Done.part c.components.invariant.parts c.components.invariant.as_many p c.in_ok-push_item-in-Done.ensures;
     }
-  where
-    longer : {A : Type 0} (xs : List A) (x : A) (n : ℕ) → length xs ≡ n → length (xs ++ x ∷ []) ≡ n + 1
-    longer xs x n e = length-append xs (x ∷ []) ∙ omega (arith, e)

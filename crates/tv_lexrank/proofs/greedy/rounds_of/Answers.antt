@@ -1,4 +1,4 @@
-use Rattle.std.proofs.Common.{◌≡◌, ◌∙◌, sym, ap, subst, ℕ, ◌+◌, length, length-append, arith, [], ◌∷◌, ◌++◌, List}
+use Rattle.std.proofs.Common.{◌∙◌, sym, ap, subst, length, arith}
 use Rattle.tv_rank.specs.Sets.{PointsOf}
 use Rattle.tv_cases.specs.Systems.{cases_of}
 use Rattle.tv_rank.specs.Given.{AreNumbered}
@@ -6,6 +6,7 @@ use Rattle.tv_lexrank.specs.Greedy.{IsTurn, Lead, none, without, RefusesTurn}
 use Rattle.tv_lexrank.proofs.Turns.{refused_round, one_more}
 use Rattle.tv_lexrank.proofs.Removing.{length-without, numbered_without, points_without}
 use Rattle.tv_lexrank.proofs.greedy.rounds_of.Goals as goal
+use Rattle.tv_cases.proofs.AmountLemmas.{one_more as one_longer}
 
 pub rounds-init : goal.rounds-init
 rounds-init c =
@@ -37,12 +38,9 @@ rounds-preserved c =
     let f = c.rounds.invariant.fewer in
     record {
       lead = one_more about known c.args.set.items c.rounds.left.items c.rounds.rounds.items c.push_item.new.items.items c.in-Took.taken c.in_ok-left-in-Took.left.items c.rounds.invariant.lead turn c.in_ok-push_item-in-Took.ensures rest;
-      as_many = ap length c.in_ok-push_item-in-Took.ensures ∙ (let a = c.rounds.invariant.as_many in longer c.rounds.rounds.items c.in-Took.taken c.rounds.round a);
+      as_many = ap length c.in_ok-push_item-in-Took.ensures ∙ (let a = c.rounds.invariant.as_many in one_longer c.rounds.rounds.items c.in-Took.taken c.rounds.round a);
       counted = c.rounds.invariant.counted;
       fewer = omega (arith, m, r, f);
       numbered = subst (AreNumbered (length about.cases)) (sym rest) (numbered_without (length about.cases) c.rounds.left.items c.in-Took.taken.place c.rounds.invariant.numbered);
       points = subst (λ z. PointsOf about known z) (sym rest) (points_without about known c.rounds.left.items c.in-Took.taken.place c.rounds.invariant.points);
     }
-  where
-    longer : {A : Type 0} (xs : List A) (x : A) (n : ℕ) → length xs ≡ n → length (xs ++ x ∷ []) ≡ n + 1
-    longer xs x n e = length-append xs (x ∷ []) ∙ omega (arith, e)
