@@ -1,5 +1,5 @@
 -- Settled rounds, and the states that rounds tell of.
-use Rattle.std.proofs.Common.{◌≡◌, ◌⊎◌, inl, inr, ℕ, zero, suc, ◌≤◌, refl, arith, Bool, true, false}
+use Rattle.std.proofs.Common.{◌≡◌, ◌⊎◌, inl, inr, ℕ, suc, ◌≤◌, refl, Bool, true, false}
 use Rattle.std.specs.Prelude.{All, ◌↔◌}
 use Rattle.tv_formula.specs.declared.tree.Path.{Path}
 use Rattle.tv_formula.specs.declared.tree.Path.TheVariants.{Every, Any}
@@ -15,11 +15,7 @@ use Rattle.tv_known.proofs.RoundLemmas.{IsSettledBy, stays_state, round_all, rou
 use Rattle.tv_rounds.proofs.MadeLemmas.{lift_to}
 use Rattle.tv_pre.proofs.BetweenLemmas.{end_other, hold_other}
 use Rattle.tv_pre.proofs.SettledRounds.{goes_by, stays_by, round_wider, fix_settled_same}
-
-pub one_later : (m n : ℕ) → (m ≤ n) ⊎ (n ≤ m)
-one_later zero n = inl (omega arith)
-one_later (suc m) zero = inr (omega arith)
-one_later (suc m) (suc n) = elim (one_later m n) [ inl l ↦ inl (omega (arith, l)) | inr l ↦ inr (omega (arith, l)) ]
+use Rattle.tv_region.proofs.RegionLemmas.{either_side}
 
 -- ---- known states
 module _ (about : CaseSystem) (last : ℕ) (path : Path) (f g : State → Type 0) where
@@ -72,7 +68,7 @@ module _ (about : CaseSystem) (cases : All (IsCase about.variables about.locatio
 
     -- two settled rounds have the same states
     pub settled_alike : (grows : Bool) (k n : ℕ) → IsSettledBy grows about path hold end k → IsSettledBy grows about path hold end n → (s : State) → IsStateOf about s → RoundBy grows (CaseSteps about) path hold end k s → RoundBy grows (CaseSteps about) path hold end n s
-    settled_alike grows k n one two s is r = elim (one_later k n) [
+    settled_alike grows k n one two s is r = elim (either_side k n) [
       | inl l ↦ (same_to grows k n l one s is).0 r
       | inr l ↦ (same_to grows n k l two s is).1 r
     ]

@@ -20,7 +20,7 @@ min_small a m h = omega arith
 min_large : (a m : ℕ) → m ≤ a → min a m ≡ m
 min_large a m h = omega arith
 
-either_side : (a m : ℕ) → (a ≤ m) ⊎ (m ≤ a)
+pub either_side : (a m : ℕ) → (a ≤ m) ⊎ (m ≤ a)
 either_side zero m = inl (omega arith)
 either_side (suc a) zero = inr (omega arith)
 either_side (suc a) (suc m) = elim (either_side a m) [ inl h ↦ inl (omega arith) | inr h ↦ inr (omega arith) ]

@@ -22,14 +22,17 @@ matrix-artificial s k i k_in i_in = inside (nat_lt (s.columns + i) s.columns) (n
       | inr o ↦ delta-other (s.columns + k) (s.columns + i) (λ e. o (let f : k ≡ i = omega arith in f)) ∙ sym (delta-other k i o)
     ]
 
-matrix-right : (s : Equations) (k : ℕ) → pos 0 ≤ℤ matrix s k (s.columns + s.rows)
-matrix-right s k = subst (λ z. pos 0 ≤ℤ z) (sym (outside (nat_lt (s.columns + s.rows) s.columns) (nat_lt (s.columns + s.rows) (s.columns + s.rows)) (grind (arith, nat_tests)) (grind (arith, nat_tests)))) (signed (right_at s k))
+pub matrix-right_is : (s : Equations) (k : ℕ) → matrix s k (s.columns + s.rows) ≡ sign s k *ℤ right_at s k
+matrix-right_is s k = outside (nat_lt (s.columns + s.rows) s.columns) (nat_lt (s.columns + s.rows) (s.columns + s.rows)) (grind (arith, nat_tests)) (grind (arith, nat_tests))
   where
     outside : (p q : Bool) → p ≡ false → q ≡ false → cond p (sign s k *ℤ entry_at s k (s.columns + s.rows)) (cond q (delta (s.columns + k) (s.columns + s.rows)) (sign s k *ℤ right_at s k)) ≡ sign s k *ℤ right_at s k
     outside true q e f = cc
     outside false true e f = cc
     outside false false e f = refl
 
+matrix-right : (s : Equations) (k : ℕ) → pos 0 ≤ℤ matrix s k (s.columns + s.rows)
+matrix-right s k = subst (λ z. pos 0 ≤ℤ z) (sym (matrix-right_is s k)) (signed (right_at s k))
+  where
     signed : (z : ℤ) → pos 0 ≤ℤ (cond (int_lt z (pos 0)) (neg_ℤ (pos 1)) (pos 1) *ℤ z)
     signed z = grind (arith, ints)
 

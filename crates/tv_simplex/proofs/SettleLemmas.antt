@@ -6,9 +6,9 @@ use Rattle.std.proofs.Math.IntN.{*ℤ_comm}
 use Rattle.tv_linear.proofs.Ring.{mul_assoc_z}
 use Rattle.tv_simplex.proofs.Ring.{mul_swap, same_factor}
 use Rattle.tv_simplex.proofs.Faults.{fewer}
-use Rattle.tv_simplex.proofs.Matrices.{matrix_is_system}
+use Rattle.tv_simplex.proofs.Matrices.{matrix_is_system, matrix-right_is}
 use Rattle.tv_simplex.proofs.Reduced.{lowest_narrow}
-use Rattle.tv_simplex.proofs.Signed.{matrix-entry, matrix-right_is}
+use Rattle.tv_simplex.proofs.Signed.{matrix-entry}
 use Rattle.tv_simplex.proofs.Starts.{shows_start}
 use Rattle.tv_simplex.specs.Choices.{choices}
 use Rattle.tv_simplex.specs.Systems.{Equations, IsWhole, entry_at, right_at, sign, matrix}

@@ -8,6 +8,7 @@ use Rattle.tv_simplex.proofs.Sums.{total-same, total-times}
 use Rattle.tv_simplex.specs.Sums.{total, delta}
 use Rattle.tv_simplex.specs.Answers.{IsBarrier, IsSolution}
 use Rattle.tv_simplex.specs.Systems.{Equations, right_at, entry_at, sign, matrix}
+use Rattle.tv_simplex.proofs.Matrices.{matrix-right_is}
 
 pub matrix-entry : (s : Equations) (k j : ℕ) → j < s.columns → matrix s k j ≡ sign s k *ℤ entry_at s k j
 matrix-entry s k j h = at (nat_lt j s.columns) (grind (arith, nat_tests))
@@ -15,14 +16,6 @@ matrix-entry s k j h = at (nat_lt j s.columns) (grind (arith, nat_tests))
     at : (p : Bool) → p ≡ true → cond p (sign s k *ℤ entry_at s k j) (cond (nat_lt j (s.columns + s.rows)) (delta (s.columns + k) j) (sign s k *ℤ right_at s k)) ≡ sign s k *ℤ entry_at s k j
     at true e = refl
     at false e = cc
-
-pub matrix-right_is : (s : Equations) (k : ℕ) → matrix s k (s.columns + s.rows) ≡ sign s k *ℤ right_at s k
-matrix-right_is s k = at (nat_lt (s.columns + s.rows) s.columns) (nat_lt (s.columns + s.rows) (s.columns + s.rows)) (grind (arith, nat_tests)) (grind (arith, nat_tests))
-  where
-    at : (p q : Bool) → p ≡ false → q ≡ false → cond p (sign s k *ℤ entry_at s k (s.columns + s.rows)) (cond q (delta (s.columns + k) (s.columns + s.rows)) (sign s k *ℤ right_at s k)) ≡ sign s k *ℤ right_at s k
-    at true q e f = cc
-    at false true e f = cc
-    at false false e f = refl
 
 pub sign-twice : (s : Equations) (k : ℕ) → sign s k *ℤ sign s k ≡ pos 1
 sign-twice s k = at (int_lt (right_at s k) (pos 0))

@@ -5,10 +5,10 @@ use Rattle.tv_simplex.specs.Systems.{entry_at, sign, matrix}
 use Rattle.tv_simplex.specs.Outcomes.{IsNarrow}
 use Rattle.tv_simplex.specs.Views.{equations}
 use Rattle.tv_simplex.proofs.AddingLemmas.{SumsTo, one_added, none_added, all_added, slot_inside, slot_last}
-use Rattle.tv_simplex.proofs.Signed.{matrix-right_is}
 use Rattle.tv_simplex.proofs.StartLemmas.{right_narrow}
 use Rattle.tv_simplex.proofs.KeptLemmas.{first_of, next_kept, none_kept, matrix_zeros, first_narrow, first_matrix}
 use Rattle.tv_simplex.proofs.adding.add_row.Goals as goal
+use Rattle.tv_simplex.proofs.Matrices.{matrix-right_is}
 
 pub signed_in-number-requires-clause-narrow : goal.signed_in-number-requires-clause-narrow
 signed_in-number-requires-clause-narrow c =

@@ -4,10 +4,10 @@ use Rattle.std.proofs.lemmas.Int.{to_z-of_z}
 use Rattle.tv_simplex.specs.Systems.{entry_at, sign, matrix}
 use Rattle.tv_simplex.specs.Outcomes.{IsNarrow}
 use Rattle.tv_simplex.specs.Views.{equations}
-use Rattle.tv_simplex.proofs.Signed.{matrix-right_is}
 use Rattle.tv_simplex.proofs.StartLemmas.{right_narrow, matrix_own, zero_under, zero_over}
 use Rattle.tv_simplex.proofs.KeptLemmas.{first_of, next_kept, none_kept, matrix_zeros, first_narrow, first_matrix, zeros_joined}
 use Rattle.tv_simplex.proofs.starting.first_row.Goals as goal
+use Rattle.tv_simplex.proofs.Matrices.{matrix-right_is}
 
 pub signed_in-number-requires-clause-narrow : goal.signed_in-number-requires-clause-narrow
 signed_in-number-requires-clause-narrow c =
