@@ -1,24 +1,20 @@
 use Rattle.std.proofs.Common.{◌≡◌, ℕ, ◌+◌, ◌<◌, List, [], ◌∷◌, ◌++◌, length, get_or, take, All, Bool, true, false, refl, sym, ap, ◌∙◌, subst}
 use Rattle.std.specs.List.{Contains}
-use Rattle.std.proofs.lemmas.List.Elements.{All-cons, All-head, All-tail, All-push}
+use Rattle.std.proofs.lemmas.List.Elements.{All-cons, All-head, All-tail, All-push, All-contains}
 use Rattle.tv_linear.specs.Linear.{Linear, columns}
 use Rattle.tv_farkas.specs.Paths.{TakenOnce, none, first, again}
 use Rattle.tv_farkas.specs.Stretching.{IsTakenBy}
-use Rattle.tv_farkas.proofs.SystemLemmas.{at_of}
 use Rattle.tv_linear.proofs.ListLaws.{all_front, take_next}
 
 pub all_last : {A : Type 0} (P : A → Type 0) (xs : List A) (x : A) → All P (xs ++ x ∷ []) → P x
 all_last P [] x h = All-head P x [] h
 all_last P (y ∷ ys) x h = all_last P ys x (All-tail P y (ys ++ x ∷ []) h)
 
-pub all_among : {A : Type 0} (P : A → Type 0) (xs : List A) (x : A) → Contains xs x → All P xs → P x
-all_among P xs x c h = subst P c.2 (at_of P xs x h c.0 c.1)
-
 -- what holds of the kept rows holds of all
 pub all_taken : (P : Linear → Type 0) (rows kept : List Linear) → TakenOnce rows kept → All P kept → All P rows
 all_taken P rows kept none h = h
 all_taken P rows kept (first rs ks r t never) h = All-push P rs r (all_taken P rs ks t (all_front P ks (r ∷ []) h)) (all_last P ks r h)
-all_taken P rows kept (again rs ks r t among) h = All-push P rs r (all_taken P rs ks t h) (all_among P ks r among h)
+all_taken P rows kept (again rs ks r t among) h = All-push P rs r (all_taken P rs ks t h) (All-contains P ks r h among)
 
 -- the kept rows have as many columns as all
 pub kept_even : (n : ℕ) (marks : List Bool) (rows kept : List Linear) → IsTakenBy marks rows kept → All (λ r. columns r ≡ n) rows → All (λ r. columns r ≡ n) kept

@@ -19,7 +19,6 @@ use Rattle.tv_rank.specs.Rankings.{IsFamily}
 use Rattle.tv_rank.specs.Answers.{IsAnswered}
 use Rattle.tv_rank.proofs.Families.{solution_is_family}
 use Rattle.tv_rank.proofs.Wholes.{between, few_unknowns}
-use Rattle.tv_simplex.proofs.ScaleLemmas.{not_below}
 
 numbered_views : (cases : List Case) (set : List ℕ) → AreNumbered (length cases) set → AreNumbered (length (case_views cases)) set
 numbered_views cases set h = λ k l. let e = length-map cases case_view in let a = h k l in omega (arith, e, a)
