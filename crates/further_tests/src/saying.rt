@@ -13,10 +13,11 @@ use tv_cert::{Claim, Verdict};
 use tv_cert_spelling::write_certificate;
 use tv_check_text::check_text;
 use tv_formula_reader::read_formula;
-use tv_further::{Budget, further};
+use tv_further::further;
 use tv_program::Program;
 use tv_reader::read_program;
 use tv_shape::Certificate;
+use tv_walks::Budget;
 
 /// What is said of a property.
 #[derive(Clone, Copy, Debug, PartialEq, Eq)]

@@ -10,9 +10,10 @@ use std::alloc::Global;
 use tv_cases::{Cases, cases};
 use tv_cert::{Claim, Verdict};
 use tv_formula_reader::read_formula;
-use tv_further::{Budget, Further, Name, further};
+use tv_further::{Further, further};
 use tv_program::Program;
 use tv_reader::read_program;
+use tv_walks::{Budget, Name};
 
 /// The search in words.
 fn name_of(name: Name) -> &'static str {

@@ -1,6 +1,5 @@
-use crate::budget::Spent;
-use crate::search::Name;
 use tv_shape::Certificate;
+use tv_walks::{Name, Spent};
 
 /// A certificate that a further search found and the checker accepted.
 #[derive(Drop)]

@@ -4,18 +4,10 @@
 
 mod answer;
 mod areas;
-mod budget;
-mod cycles;
 mod formulas;
-mod graphs;
 mod limits;
-mod question;
-mod rows;
-mod search;
 mod searching;
 mod strategies;
 
 pub use answer::Further;
-pub use budget::{Budget, Spent};
-pub use search::Name;
 pub use searching::{further, look};

@@ -6,22 +6,22 @@ ghost use Rattle.tv_cert.specs.Claims.{claim_variables};
 ghost use Rattle.tv_shape.specs.Certificates.{IsSettling};
 
 use crate::answer::Further;
-use crate::budget::{Budget, Spent};
-use crate::cycles::closed_cycles::ClosedCycles;
 use crate::formulas::ranked_regions::RankedRegions;
-use crate::graphs::explicit::ExplicitGraph;
-use crate::graphs::starting::constants_of;
-use crate::graphs::walks::Walks;
 use crate::limits::FIRST_GRAPHS;
-use crate::question::Question;
-use crate::rows::solving::Effort;
-use crate::search::{Attempt, Search};
 use std::alloc::{AllocError, Global};
 use tv_candidates::Candidate;
-use tv_cases::{Case, Cases};
+use tv_cases::Cases;
 use tv_cert::Claim;
-use tv_places::{Stand, index};
 use tv_sound::accepted;
+use tv_walks::{
+    Attempt, Budget, ClosedCycles, Effort, ExplicitGraph, Question, Search, Spent, Walks,
+};
+
+/// Adds what was spent besides.
+fn add(spent: &mut Spent, more: Spent) {
+    spent.states = spent.states.saturating_add(more.states);
+    spent.calls = spent.calls.saturating_add(more.calls);
+}
 
 /// What one search finds and the checker accepts, and what it took besides what was spent before.
 fn found_by<S: Search>(
@@ -35,7 +35,7 @@ fn found_by<S: Search>(
 {
     let mut effort = Effort::of(question.budget.calls);
     let attempt = search.attempt(question, &mut effort)?;
-    spent.add(effort.spent(question.budget));
+    add(spent, effort.spent(question.budget));
     let Some(Attempt { verdict, root }) = attempt else {
         return Ok(None);
     };
@@ -47,18 +47,6 @@ fn found_by<S: Search>(
             spent: *spent,
         })),
     }
-}
-
-/// Where the cases from each location stand in the list.
-fn index_of(alloc: Global, list: &[Case]) -> Result<Vec<Stand>, AllocError> {
-    let mut left = Vec::with_capacity(alloc, list.len())?;
-    for case in list {
-        left.push(case.from)?;
-    }
-    if left.len() >= 1 << 32 {
-        return Ok(Vec::new(alloc));
-    }
-    index(alloc, &left)
 }
 
 /// What is found by single states.
@@ -118,18 +106,7 @@ fn reached(
     requires variables { claim_variables claim.now ≡ (cases_of about.now).variables }
     ensures { IfOk result (λ found. IfSome found (λ f. IsSettling (cases_of about.now) claim.now f.certificate)) }
 {
-    let index = index_of(alloc, about.list())?;
-    let constants = constants_of(alloc, about)?;
-    let question = Question {
-        alloc,
-        about,
-        budget,
-        proved: claim.proved_aim(),
-        denied: claim.denied_aim(),
-        known,
-        index: &index,
-        constants: &constants,
-    };
+    let question = Question::of(alloc, about, claim, known, budget)?;
     match reach {
         Reach::States => by_states(&question, claim),
         Reach::All => first_found(&question, claim),

@@ -15,11 +15,12 @@ use crate::wanted::Wanted;
 use std::alloc::{AllocError, Global};
 use tv_candidates::Candidate;
 use tv_farkas::CoverFault;
-use tv_further::{Budget, further, look};
+use tv_further::{further, look};
 use tv_invariant::strengthen;
 use tv_propose::Proposer;
 use tv_rank::Name;
 use tv_shape::Certificate;
+use tv_walks::Budget;
 
 /// A program of more cases than that is looked at by single states before ranks, rows and regions are sought, which may take long there.
 const MANY_CASES: usize = 24;

@@ -1,9 +1,8 @@
 use crate::areas::cutting::push_strongest;
 use crate::limits::AREAS;
-use crate::question::Question;
-use crate::rows::solving::{Effort, denied, may_have_point};
 use std::alloc::{AllocError, Global};
 use tv_linear::{Row, copies};
+use tv_walks::{Effort, Question, denied, may_have_point};
 
 /// The states of a location that meet some rows.
 #[derive(Drop)]

@@ -1,13 +1,10 @@
 // How terms change over steps.
 
 use crate::areas::passage::{Effect, Passage, widened_row};
-use crate::graphs::proving::number_row;
-use crate::question::Question;
-use crate::rows::combining::{less, put_in};
-use crate::rows::solving::{Effort, is_known};
 use std::alloc::{AllocError, Global};
 use tv_cases::is_number;
 use tv_linear::Row;
+use tv_walks::{Effort, Question, is_known, less, number_row, put_in};
 
 /// How a term changes over a passage.
 #[derive(Clone, Copy, PartialEq, Eq)]

@@ -1,12 +1,11 @@
 // Covers and choices that are found by the solver.
 
 use crate::areas::area::{Area, lists_at};
-use crate::limits::{PIVOTS, SPLITS};
-use crate::rows::solving::Effort;
 use std::alloc::{AllocError, Global};
 use tv_cover::{Covered, are_even, cover, is_even};
 use tv_farkas::{Budget, CoverFault};
 use tv_linear::{Cover, CoverTree, Poly, Row, copies, copies_of_lists};
+use tv_walks::{Effort, PIVOTS, SPLITS};
 
 /// A target of a cover: its rows, and the number and the fall by which it is entered.
 #[derive(Drop)]

@@ -2,11 +2,10 @@
 
 use crate::areas::area::{Area, both, denials, list_of, lists_at};
 use crate::limits::AREAS;
-use crate::question::Question;
-use crate::rows::solving::{Effort, denied, shown};
 use std::alloc::{AllocError, Global};
 use tv_cases::is_number;
 use tv_linear::{Row, copies};
+use tv_walks::{Effort, Question, denied, shown};
 
 /// The place of the row with the same coefficients.
 fn place_of(rows: &[Row], row: &Row) -> Option<usize> {

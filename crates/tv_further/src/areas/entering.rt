@@ -3,15 +3,12 @@
 
 use crate::areas::area::Area;
 use crate::areas::passage::{rows_entered, width_of};
-use crate::graphs::proving::number_row;
-use crate::limits::{DRAW_LISTS, MANY_DRAWS};
-use crate::question::Question;
-use crate::rows::combining::{all_put_in, put_in, unit_rows};
-use crate::rows::drawing::coefficient_at;
+use crate::limits::DRAW_LISTS;
 use crate::rows::shadow::shadow;
 use std::alloc::{AllocError, Global};
 use tv_cases::Case;
 use tv_linear::{Row, copies};
+use tv_walks::{MANY_DRAWS, Question, all_put_in, coefficient_at, number_row, put_in, unit_rows};
 
 /// A way to take a case into an area.
 #[derive(Drop)]

@@ -3,12 +3,11 @@
 use crate::areas::area::Area;
 use crate::areas::cutting::{cut_by, cut_by_all};
 use crate::areas::passage::{rows_entered, rows_left, width_of};
-use crate::question::Question;
 use crate::rows::shadow::shadow;
-use crate::rows::solving::{Effort, may_have_point};
 use std::alloc::AllocError;
 use tv_cases::Case;
 use tv_linear::Row;
+use tv_walks::{Effort, Question, may_have_point};
 
 /// The steps by the case from the area, as one list of rows; `None` where a row is too wide.
 fn all_steps(

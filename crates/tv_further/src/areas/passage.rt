@@ -1,11 +1,8 @@
 use crate::areas::area::Area;
-use crate::cycles::way::term_of;
-use crate::question::Question;
-use crate::rows::combining::{all_put_in, put_in, unit_row};
-use crate::rows::solving::{Effort, may_have_point};
 use std::alloc::{AllocError, Global};
 use tv_cases::Case;
 use tv_linear::{Row, push_copies};
+use tv_walks::{Effort, Question, all_put_in, may_have_point, put_in, term_of, unit_row};
 
 /// What a step makes of the variables: the term of each after it, over so many columns, of which the variables before it are the first.
 #[derive(Drop)]

@@ -7,12 +7,10 @@ use crate::areas::changes::{Change, change_over, growth, not_below, raised};
 use crate::areas::passage::{Effect, Passage, effect_of};
 use crate::areas::reach::Reach;
 use crate::areas::terms::terms_of;
-use crate::graphs::proving::number_row;
 use crate::limits::RANK_ROUNDS;
-use crate::question::Question;
-use crate::rows::solving::Effort;
 use std::alloc::{AllocError, Global};
 use tv_linear::Row;
+use tv_walks::{Effort, Question, number_row};
 
 /// The places of the passages left inside the part of an area over which the term falls; `None` where it may grow over one of them.
 fn falling_in(

@@ -2,11 +2,10 @@
 
 use crate::areas::area::{Area, each_with_each, lists_at, push_areas};
 use crate::formulas::region_part::push_into;
-use crate::question::Question;
-use crate::rows::solving::Effort;
 use std::alloc::AllocError;
 use tv_cert::Proof;
 use tv_linear::Row;
+use tv_walks::{Effort, Question};
 
 /// The areas of the two arguments of a fixed point.
 #[derive(Drop)]

@@ -3,10 +3,9 @@
 use crate::areas::area::{Area, copy_of, each_with_each, lists_at, outside, push_areas};
 use crate::areas::sides::Sides;
 use crate::limits::AREAS;
-use crate::question::Question;
-use crate::rows::solving::Effort;
 use std::alloc::{AllocError, Global};
 use tv_linear::Row;
+use tv_walks::{Effort, Question};
 
 /// The pieces of a fixed point: the first so many are at the end, and the others go on.
 #[derive(Drop)]

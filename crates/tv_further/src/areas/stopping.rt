@@ -2,11 +2,10 @@
 
 use crate::areas::cutting::cut_by_all;
 use crate::areas::passage::width_of;
-use crate::question::Question;
 use crate::rows::shadow::shadow;
-use crate::rows::solving::Effort;
 use std::alloc::AllocError;
 use tv_linear::Row;
+use tv_walks::{Effort, Question};
 
 /// Lists of rows where no guards of a case from the location are met, whatever is drawn; none where there are too many.
 pub(crate) fn stops_at(

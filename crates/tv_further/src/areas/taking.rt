@@ -3,11 +3,10 @@
 use crate::areas::area::Area;
 use crate::areas::covers::{Target, cover_by};
 use crate::formulas::region_part::step_cover;
-use crate::question::Question;
-use crate::rows::solving::{Effort, denied};
 use std::alloc::{AllocError, Global};
 use tv_cert::Proof;
 use tv_linear::{Choice, ChoiceTree, Cover, CoverTree, Row, copies, copies_of_lists};
+use tv_walks::{Effort, Question, denied};
 
 /// A case that is taken into a target.
 #[derive(Drop)]

@@ -1,14 +1,11 @@
 // The terms that are tried as ranks: those that rows keep from falling below 0.
 
 use crate::areas::area::Area;
-use crate::graphs::expanding::is_without_draws;
-use crate::graphs::proving::number_row;
 use crate::limits::RANK_TERMS;
-use crate::question::Question;
-use crate::rows::combining::less;
 use std::alloc::{AllocError, Global};
 use tv_cases::is_number;
 use tv_linear::Row;
+use tv_walks::{Question, is_without_draws, less, number_row};
 
 /// Puts the opposite of the row at the end of the terms, unless it is among them.
 fn push_term(

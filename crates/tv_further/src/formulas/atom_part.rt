@@ -2,18 +2,17 @@
 
 use crate::areas::area::Area;
 use crate::areas::covers::{Target, cover_by};
+use crate::areas::known::known_at;
 use crate::formulas::region_part::{Part, Shown, plain_part, push_cover};
-use crate::question::Question;
-use crate::rows::conditions::conditions_at;
-use crate::rows::solving::{Effort, may_have_point};
 use std::alloc::AllocError;
 use tv_cert::{Aim, Proof};
 use tv_linear::{Row, copies};
+use tv_walks::{Effort, Question, conditions_at, may_have_point};
 
 /// The rows, and what is known at the location.
 fn with_known(question: &Question, location: u32, rows: &[Row]) -> Result<Vec<Row>, AllocError> {
     let mut all = copies(question.alloc, rows)?;
-    all.append(&mut question.known_at(location)?)?;
+    all.append(&mut known_at(question, location)?)?;
     Ok(all)
 }
 

@@ -3,18 +3,13 @@
 use crate::areas::area::{Area, place_among};
 use crate::areas::covers::cover_into;
 use crate::areas::sides::Sides;
-use crate::cycles::closing::closed;
-use crate::cycles::lasso::regions_of;
-use crate::cycles::walking::closed_walks;
-use crate::cycles::way::Way;
 use crate::formulas::found::Found;
 use crate::limits::{AREAS, TRIED_CYCLE_CALLS, TRIED_CYCLES};
-use crate::question::Question;
-use crate::rows::solving::{Effort, all_shown_by};
 use crate::strategies::link::{distinct_ways, owed_into};
 use std::alloc::{AllocError, Global};
 use tv_cert::Proof;
 use tv_linear::{Choice, ChoiceTree, Row, copies};
+use tv_walks::{Effort, Question, Way, all_shown_by, closed, closed_walks, regions_of};
 
 /// The same way, where these rows are asked of the values before it besides.
 fn way_inside(alloc: Global, way: &Way, rows: &[Row]) -> Result<Way, AllocError> {

@@ -1,6 +1,7 @@
 // Where every run ends: ranks of areas that fall over every step, where guards split the areas between which none falls at first.
 
 use crate::areas::area::Area;
+use crate::areas::known::known_at;
 use crate::areas::ranks::{Ranking, Ranks, ranks_of};
 use crate::areas::stages::{Stages, without};
 use crate::formulas::found::{Found, part_found};
@@ -8,10 +9,9 @@ use crate::formulas::region_part::Part;
 use crate::formulas::until_by_ranks::{Ranked, going_passages, push_falling};
 use crate::formulas::until_splits::{Stuck, split_by_guards};
 use crate::limits::{AREAS, ENDING_SPLITS};
-use crate::question::Question;
-use crate::rows::solving::Effort;
 use std::alloc::AllocError;
 use tv_cert::Proof;
+use tv_walks::{Effort, Question};
 
 /// An attempt to show that every run from the areas ends.
 #[derive(Drop)]
@@ -26,7 +26,7 @@ enum Ending {
 pub(crate) fn first_areas(question: &Question) -> Result<Vec<Area>, AllocError> {
     let mut areas = Vec::new(question.alloc);
     for location in 0..question.about.locations() {
-        let rows = question.known_at(location)?;
+        let rows = known_at(question, location)?;
         areas.push(Area { location, rows })?;
     }
     Ok(areas)

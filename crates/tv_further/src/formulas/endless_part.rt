@@ -7,9 +7,8 @@ use crate::formulas::fixed_part::with_hold;
 use crate::formulas::found::{Found, end_alone};
 use crate::formulas::kept::Staying;
 use crate::formulas::region_part::{Part, plain_part};
-use crate::question::Question;
-use crate::rows::solving::Effort;
 use std::alloc::AllocError;
+use tv_walks::{Effort, Question};
 
 /// Where a run is shown to begin that never ends, which may be nowhere.
 pub(crate) fn endless_part(

@@ -6,14 +6,12 @@ use crate::areas::passage::Effect;
 use crate::areas::ranks::push_fall_over;
 use crate::areas::stages::Stages;
 use crate::areas::taking::{Move, Taken, push_choice};
-use crate::cycles::way::way_of;
 use crate::formulas::until_by_ranks::Ranked;
-use crate::question::Question;
-use crate::rows::solving::Effort;
 use crate::strategies::link::effect_of_way;
 use std::alloc::AllocError;
 use tv_cert::Proof;
 use tv_linear::{Row, copies};
+use tv_walks::{Effort, Question, way_of};
 
 /// The number of the rank that falls over the passage by the case between the areas at these places.
 fn fall_between(ranked: &Ranked, from: usize, number: u32, to: usize) -> Option<u32> {

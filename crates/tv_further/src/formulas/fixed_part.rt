@@ -9,12 +9,11 @@ use crate::formulas::region_part::Part;
 use crate::formulas::stopping_rows::areas_asked;
 use crate::formulas::until_by_ranks::until_by_ranks;
 use crate::limits::CUTS;
-use crate::question::Question;
-use crate::rows::solving::Effort;
 use crate::strategies::strategy::any_until_by_strategy;
 use std::alloc::{AllocError, Global};
 use tv_cert::Node;
 use tv_formula::{Path, Shape};
+use tv_walks::{Effort, Question};
 
 /// What a strategy finds of until over some path; where it loses areas, what ranks over every step find, if that is more.
 fn any_until(

@@ -7,11 +7,10 @@ use crate::formulas::fixed_part::fixed_part;
 use crate::formulas::joined_part::{each_of, one_of};
 use crate::formulas::next_part::{after_each, after_some};
 use crate::formulas::region_part::Part;
-use crate::question::Question;
-use crate::rows::solving::Effort;
 use std::alloc::AllocError;
 use tv_cert::Aim;
 use tv_formula::Path;
+use tv_walks::{Effort, Question};
 
 /// The part where the formula is shown to hold; `None` where none was found.
 #[cycle(parts)]

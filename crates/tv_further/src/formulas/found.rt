@@ -4,12 +4,11 @@ use crate::areas::ranks::Ranks;
 use crate::areas::sides::Sides;
 use crate::areas::stages::{Stages, push_copied};
 use crate::formulas::region_part::{Part, piece_of};
-use crate::question::Question;
-use crate::rows::solving::Effort;
 use std::alloc::{AllocError, Global};
 use tv_cert::{Mark, Marked, Node, Proof};
 use tv_linear::Row;
 use tv_shape::node_of;
+use tv_walks::{Effort, Question};
 
 /// Areas where a fixed point holds, and what shows it.
 #[derive(Drop)]

@@ -6,11 +6,10 @@ use crate::areas::leaving::parts_staying;
 use crate::areas::stages::Stages;
 use crate::formulas::region_part::push_some_step;
 use crate::limits::AREAS;
-use crate::question::Question;
-use crate::rows::solving::Effort;
 use crate::strategies::link::distinct_ways;
 use std::alloc::AllocError;
 use tv_linear::Row;
+use tv_walks::{Effort, Question};
 
 /// The parts of an area where a way can be taken.
 fn parts_with_step(

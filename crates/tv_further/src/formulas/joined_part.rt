@@ -3,11 +3,10 @@
 use crate::areas::area::{Area, each_with_each, lists_at, push_areas};
 use crate::areas::stages::push_copied;
 use crate::formulas::region_part::{Part, Shown, plain_part, push_into};
-use crate::question::Question;
-use crate::rows::solving::Effort;
 use std::alloc::{AllocError, Global};
 use tv_cert::{Node, Proof};
 use tv_linear::Row;
+use tv_walks::{Effort, Question};
 
 /// The nodes of the parts.
 fn nodes_of(alloc: Global, parts: Vec<Part>) -> Result<Vec<Node>, AllocError> {

@@ -11,11 +11,10 @@ use crate::areas::taking::{Move, Taken, choice_by, push_choice};
 use crate::formulas::found::Found;
 use crate::formulas::region_part::push_steps_into;
 use crate::limits::AREAS;
-use crate::question::Question;
-use crate::rows::solving::Effort;
 use std::alloc::AllocError;
 use tv_cert::Proof;
 use tv_linear::Row;
+use tv_walks::{Effort, Question};
 
 /// How runs are to stay in areas.
 #[derive(Clone, Copy)]

@@ -10,13 +10,11 @@ use crate::areas::taking::{Move, Taken};
 use crate::formulas::found::Found;
 use crate::formulas::layers::{Layer, first_rank};
 use crate::formulas::region_part::{live_parts, push_cover, step_cover};
-use crate::graphs::proving::number_row;
-use crate::question::Question;
-use crate::rows::solving::Effort;
 use std::alloc::{AllocError, Global};
 use tv_cases::Case;
 use tv_cert::Proof;
 use tv_linear::{Row, copies};
+use tv_walks::{Effort, Question, number_row};
 
 /// An area that may belong to a layer.
 #[derive(Drop)]

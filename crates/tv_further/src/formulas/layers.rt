@@ -10,15 +10,13 @@ use crate::formulas::layer_steps::{
     Candidate, candidates_any, candidates_every, push_falling_steps,
 };
 use crate::formulas::region_part::push_some_step;
-use crate::graphs::proving::number_row;
 use crate::limits::{AREAS, LAYERS};
-use crate::question::Question;
-use crate::rows::solving::Effort;
 use std::alloc::{AllocError, Global};
 use tv_cases::is_number;
 use tv_cert::Proof;
 use tv_formula::Path;
 use tv_linear::Row;
+use tv_walks::{Effort, Question, number_row};
 
 /// A layer while it is made.
 #[derive(Drop)]

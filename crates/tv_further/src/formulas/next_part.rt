@@ -3,14 +3,14 @@
 use crate::areas::area::{Area, place_among};
 use crate::areas::cutting::{is_inside_any, push_strongest};
 use crate::areas::entering::{Entry, entries_from};
+use crate::areas::known::known_at;
 use crate::areas::leaving::parts_staying;
 use crate::areas::taking::{Move, Taken, push_choice};
 use crate::formulas::region_part::{Part, Shown, plain_part, push_steps_into};
 use crate::limits::AREAS;
-use crate::question::Question;
-use crate::rows::solving::{Effort, may_have_point};
 use std::alloc::{AllocError, Global};
 use tv_linear::Row;
+use tv_walks::{Effort, Question, may_have_point};
 
 /// The parts of the location, as far as it is known, from which every step leads into the areas; the whole of it where there are too many.
 fn parts_before(
@@ -19,7 +19,7 @@ fn parts_before(
     areas: &[Area],
     effort: &mut Effort,
 ) -> Result<Vec<Vec<Row>>, AllocError> {
-    let rows = question.known_at(location)?;
+    let rows = known_at(question, location)?;
     let whole = Area { location, rows };
     match parts_staying(question, &whole, areas, effort)? {
         Some(parts) => Ok(parts),

@@ -2,13 +2,11 @@ use crate::areas::area::lists_at;
 use crate::areas::covers::cover_into;
 use crate::formulas::formula_part::part_of;
 use crate::formulas::region_part::Part;
-use crate::limits::{AREAS, MANY_VARIABLES};
-use crate::question::Question;
-use crate::rows::solving::{Effort, whole_point};
-use crate::search::{Attempt, Name, Search};
+use crate::limits::AREAS;
 use std::alloc::AllocError;
 use tv_cert::Verdict;
 use tv_linear::widened;
+use tv_walks::{Attempt, Effort, MANY_VARIABLES, Name, Question, Search, whole_point};
 
 /// A region where the formula holds, made of regions where its parts do.
 #[derive(Drop)]

@@ -4,13 +4,12 @@ use crate::areas::cutting::push_apart;
 use crate::areas::entering::entries_from;
 use crate::areas::passage::{rows_entered, rows_left, width_of};
 use crate::areas::taking::{Move, Taken, choice_by, push_choice};
-use crate::question::Question;
-use crate::rows::solving::Effort;
 use std::alloc::{AllocError, Global};
 use tv_cases::Case;
 use tv_cert::{Mark, Marked, Node, Proof};
 use tv_linear::{Cover, Row};
 use tv_shape::node_of;
+use tv_walks::{Effort, Question};
 
 /// A formula where it is shown to hold: its node, and the areas of its pieces, in their order.
 #[derive(Drop)]

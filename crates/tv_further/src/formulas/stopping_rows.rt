@@ -5,17 +5,15 @@ use crate::areas::area::{Area, both, copy_of};
 use crate::areas::changes::growth;
 use crate::areas::cutting::is_inside_any;
 use crate::areas::passage::Effect;
-use crate::cycles::closing::{rows_of_walk, terms_of_walk};
-use crate::cycles::walking::closed_walks;
-use crate::cycles::way::Way;
 use crate::limits::{STOPPING_ROUNDS, TURNS};
-use crate::question::Question;
-use crate::rows::combining::{put_in, with_multiples};
-use crate::rows::solving::{Effort, is_known};
 use crate::strategies::link::distinct_ways;
 use std::alloc::AllocError;
 use tv_cases::is_number;
 use tv_linear::{Row, copies, push_copies};
+use tv_walks::{
+    Effort, Question, Way, closed_walks, is_known, put_in, rows_of_walk, terms_of_walk,
+    with_multiples,
+};
 
 /// A closed walk, read at its beginning.
 #[derive(Drop)]

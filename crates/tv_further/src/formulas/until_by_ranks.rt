@@ -12,12 +12,11 @@ use crate::formulas::going_cut::cut_at;
 use crate::formulas::region_part::{push_cover, push_some_step, step_cover, targets_after};
 use crate::formulas::until_splits::{Stuck, split_at};
 use crate::limits::{AREAS, STEP_CUTS, STEP_SPLITS};
-use crate::question::Question;
-use crate::rows::solving::Effort;
 use std::alloc::AllocError;
 use tv_cases::Case;
 use tv_cert::Proof;
 use tv_formula::Path;
+use tv_walks::{Effort, Question};
 
 /// Targets of a step by the case from an area, where the ranks fall: the areas at the end, and those that the passages enter.
 fn falling_targets(

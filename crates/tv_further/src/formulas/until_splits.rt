@@ -7,12 +7,10 @@ use crate::areas::cutting::halves_of;
 use crate::areas::passage::Passage;
 use crate::areas::stages::Stages;
 use crate::areas::terms::terms_of;
-use crate::graphs::expanding::is_without_draws;
 use crate::limits::AREAS;
-use crate::question::Question;
-use crate::rows::solving::Effort;
 use std::alloc::AllocError;
 use tv_linear::Row;
+use tv_walks::{Effort, Question, is_without_draws};
 
 /// Areas between which no rank falls.
 #[derive(Drop)]

@@ -1,10 +1,10 @@
 // Which term is favoured next: one that need not grow at any of some areas, and falls at one.
 
 use crate::areas::changes::Change;
-use crate::rows::solving::Effort;
 use crate::strategies::strategy_draft::Draft;
 use crate::strategies::strategy_order::Field;
 use std::alloc::AllocError;
+use tv_walks::Effort;
 
 /// Whether a link from the area does not let the term grow, and whether it falls over one between the areas at these places.
 fn outlook(

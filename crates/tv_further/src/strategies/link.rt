@@ -3,13 +3,10 @@
 use crate::areas::area::{Area, both};
 use crate::areas::passage::{Effect, Passage};
 use crate::areas::stages::Stages;
-use crate::cycles::way::{Way, ways_under};
-use crate::question::Question;
-use crate::rows::combining::all_put_in;
-use crate::rows::solving::Effort;
 use std::alloc::{AllocError, Global};
 use tv_farkas::are_same;
 use tv_linear::{Row, copies};
+use tv_walks::{Effort, Question, Way, all_put_in, ways_under};
 
 /// A way that may be taken from one area into another.
 #[derive(Drop)]

@@ -1,10 +1,10 @@
 // What is done at the states of an area: one link for each of them.
 
 use crate::areas::area::both;
-use crate::rows::solving::{Effort, denied, is_known};
 use crate::strategies::link::Link;
 use std::alloc::{AllocError, Global};
 use tv_linear::{Row, copies};
+use tv_walks::{Effort, denied, is_known};
 
 /// What is done at some states.
 #[derive(Drop)]

@@ -1,10 +1,10 @@
 // By which row areas are split where no term helps.
 
-use crate::rows::solving::Effort;
 use crate::strategies::strategy_draft::Draft;
 use crate::strategies::strategy_order::Field;
 use std::alloc::AllocError;
 use tv_linear::Row;
+use tv_walks::Effort;
 
 /// Areas at which a term was favoured, and did not help.
 #[derive(Drop)]

@@ -7,11 +7,8 @@ use crate::areas::ranks::{Ranking, ranks_among};
 use crate::areas::sides::Sides;
 use crate::areas::stages::stages_of;
 use crate::areas::terms::{push_terms, terms_of};
-use crate::cycles::way::Way;
 use crate::formulas::found::{Ended, Found, better};
 use crate::limits::{STRATEGY_CUTS, STRATEGY_ROUNDS, STRATEGY_SPLITS};
-use crate::question::Question;
-use crate::rows::solving::{Effort, denied};
 use crate::strategies::favouring::favour_next;
 use crate::strategies::link::{Between, Link, distinct_ways};
 use crate::strategies::plan::{Leaf, Plan, Planner, plan_of};
@@ -21,6 +18,7 @@ use crate::strategies::strategy_order::{Field, costs_of, options_from};
 use crate::strategies::strategy_proofs::{Proving, Strategy, proofs_of};
 use std::alloc::{AllocError, Global};
 use tv_linear::{Row, copies};
+use tv_walks::{Effort, Question, Way, denied};
 
 /// What is known of a draft.
 #[derive(Drop)]

@@ -3,14 +3,12 @@
 use crate::areas::area::{Area, both};
 use crate::areas::cutting::halves_of;
 use crate::areas::stages::Stages;
-use crate::cycles::way::Way;
 use crate::limits::{AREAS, STRATEGY_CUTS};
-use crate::question::Question;
-use crate::rows::solving::Effort;
 use crate::strategies::link::Link;
 use std::alloc::{AllocError, Global};
 use tv_farkas::are_same;
 use tv_linear::{Row, copies};
+use tv_walks::{Effort, Question, Way};
 
 /// Areas for which a strategy is sought.
 #[derive(Drop)]

@@ -3,12 +3,11 @@
 use crate::areas::changes::{Change, drift_over, steady_change};
 use crate::areas::reach::Reach;
 use crate::limits::AREAS;
-use crate::question::Question;
-use crate::rows::solving::{Effort, is_shown_at_once};
 use crate::strategies::link::Link;
 use crate::strategies::strategy_draft::Draft;
 use std::alloc::{AllocError, Global};
 use tv_linear::Row;
+use tv_walks::{Effort, Question, is_shown_at_once};
 
 /// What a link is worth.
 #[derive(Clone, Copy)]

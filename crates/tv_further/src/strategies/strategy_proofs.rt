@@ -6,14 +6,12 @@ use crate::areas::ranks::{Ranks, push_fall_over};
 use crate::areas::sides::Sides;
 use crate::areas::stages::Stages;
 use crate::areas::taking::split_choice;
-use crate::cycles::way::Way;
-use crate::question::Question;
-use crate::rows::solving::{Effort, all_shown_by};
 use crate::strategies::link::Link;
 use crate::strategies::plan::{Leaf, Plan};
 use std::alloc::AllocError;
 use tv_cert::Proof;
 use tv_linear::{Choice, ChoiceTree, Row, copies};
+use tv_walks::{Effort, Question, Way, all_shown_by};
 
 /// A plan for each area that goes on, and the ranks that fall over what is taken; without ranks none need fall.
 #[derive(Drop)]

@@ -29,11 +29,3 @@ pub struct Spent {
     /// How many calls of the solver they made.
     pub calls: usize,
 }
-
-impl Spent {
-    /// Adds what was spent besides.
-    pub(crate) fn add(&mut self, more: Spent) {
-        self.states = self.states.saturating_add(more.states);
-        self.calls = self.calls.saturating_add(more.calls);
-    }
-}

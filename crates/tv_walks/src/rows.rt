@@ -3,6 +3,5 @@
 pub(crate) mod combining;
 pub(crate) mod conditions;
 pub(crate) mod drawing;
-pub(crate) mod shadow;
 pub(crate) mod solving;
 pub(crate) mod values;

@@ -5,7 +5,7 @@ use tv_cert::{Node, Verdict};
 
 /// The parts of a certificate that nobody has checked.
 #[derive(Drop)]
-pub(crate) struct Attempt {
+pub struct Attempt {
     pub verdict: Verdict,
     pub root: Node,
 }
@@ -20,7 +20,7 @@ pub enum Name {
 }
 
 /// One way to look for a certificate. Nothing is promised of what it finds.
-pub(crate) trait Search {
+pub trait Search {
     fn name(&self) -> Name;
 
     /// An attempt at the question, where the search has one.

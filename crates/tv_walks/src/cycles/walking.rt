@@ -126,7 +126,7 @@ fn push_closed(
 }
 
 /// Closed walks, the shortest first: those that meet no location twice, and then others.
-pub(crate) fn closed_walks(alloc: Global, ways: &[Way]) -> Result<Vec<Vec<usize>>, AllocError> {
+pub fn closed_walks(alloc: Global, ways: &[Way]) -> Result<Vec<Vec<usize>>, AllocError> {
     let mut closed = Vec::new(alloc);
     let cycles = Wanted {
         longest: LONGEST_CYCLE,

@@ -13,7 +13,7 @@ use tv_simplex::SolveFault;
 
 /// What is left of a budget, and what was made of it.
 #[derive(Drop)]
-pub(crate) struct Effort {
+pub struct Effort {
     /// How many calls of the solver are left.
     pub left: usize,
     /// How many states there are in the graphs that were made.
@@ -22,7 +22,7 @@ pub(crate) struct Effort {
 
 impl Effort {
     /// An effort of so many calls of the solver.
-    pub(crate) fn of(calls: usize) -> Effort {
+    pub fn of(calls: usize) -> Effort {
         Effort {
             left: calls,
             states: 0,
@@ -30,7 +30,7 @@ impl Effort {
     }
 
     /// Takes one of the calls that are left; whether there was one.
-    pub(crate) fn spend(&mut self) -> bool {
+    pub fn spend(&mut self) -> bool {
         if self.left == 0 {
             return false;
         }
@@ -44,7 +44,7 @@ impl Effort {
     }
 
     /// What was spent of the budget.
-    pub(crate) fn spent(&self, budget: &SearchBudget) -> Spent {
+    pub fn spent(&self, budget: &SearchBudget) -> Spent {
         Spent {
             states: self.states,
             calls: budget.calls.saturating_sub(self.left),
@@ -142,7 +142,7 @@ fn halved(alloc: Global, numbers: &[i128]) -> Result<Option<Vec<i64>>, AllocErro
 }
 
 /// The denial of a row; `None` where it is not narrow.
-pub(crate) fn denied(alloc: Global, row: &Row) -> Result<Option<Row>, AllocError> {
+pub fn denied(alloc: Global, row: &Row) -> Result<Option<Row>, AllocError> {
     match row.deny(alloc) {
         Ok(denial) => Ok(Some(denial)),
         Err(RowFault::Wide { .. }) => Ok(None),
@@ -151,7 +151,7 @@ pub(crate) fn denied(alloc: Global, row: &Row) -> Result<Option<Row>, AllocError
 }
 
 /// The multipliers that show the row where the known rows are met, the denial's last; `None` where none were found.
-pub(crate) fn shown(
+pub fn shown(
     alloc: Global,
     known: &[Row],
     row: &Row,
@@ -177,7 +177,7 @@ fn place_showing(known: &[Row], row: &Row) -> Option<usize> {
 }
 
 /// Whether one of the rows alone shows the row.
-pub(crate) fn is_shown_at_once(known: &[Row], row: &Row) -> bool {
+pub fn is_shown_at_once(known: &[Row], row: &Row) -> bool {
     place_showing(known, row).is_some()
 }
 
@@ -209,7 +209,7 @@ pub(crate) fn shown_by(
 }
 
 /// The same of each of the rows; `None` where the multipliers of one were not found.
-pub(crate) fn all_shown_by(
+pub fn all_shown_by(
     alloc: Global,
     known: &[Row],
     rows: &[Row],
@@ -227,7 +227,7 @@ pub(crate) fn all_shown_by(
 }
 
 /// Whether the known rows, which some point meets, show the row.
-pub(crate) fn is_known(
+pub fn is_known(
     alloc: Global,
     known: &[Row],
     row: &Row,
@@ -269,7 +269,7 @@ fn is_excluded(rows: &[Row], row: &Row) -> bool {
 }
 
 /// Whether the rows may have a point.
-pub(crate) fn may_have_point(
+pub fn may_have_point(
     alloc: Global,
     rows: &[Row],
     columns: usize,
@@ -297,7 +297,7 @@ fn all_bounded(alloc: Global, numbers: &[i128]) -> Result<Option<Vec<i64>>, Allo
 }
 
 /// Whole numbers that meet the rows; `None` where none were found that are not too large.
-pub(crate) fn whole_point(
+pub fn whole_point(
     alloc: Global,
     rows: &[Row],
     columns: usize,

@@ -43,11 +43,7 @@ fn lists_copied(alloc: Global, lists: &[Vec<Row>]) -> Result<Vec<Vec<Row>>, Allo
 
 /// Lists of rows one of which is met where the formula holds at the location, as far as it can be told from values.
 #[cycle(conditions)]
-pub(crate) fn conditions_at(
-    alloc: Global,
-    aim: &Aim,
-    location: u32,
-) -> Result<Vec<Vec<Row>>, AllocError> {
+pub fn conditions_at(alloc: Global, aim: &Aim, location: u32) -> Result<Vec<Vec<Row>>, AllocError> {
     match aim {
         Aim::Rows(lists) => lists_copied(alloc, lists),
         Aim::Here(own) => lists_where(alloc, *own == location),

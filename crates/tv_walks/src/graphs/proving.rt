@@ -236,11 +236,7 @@ pub(crate) fn push_steps(
 }
 
 /// The row of a number over so many variables.
-pub(crate) fn number_row(
-    alloc: Global,
-    variables: usize,
-    number: i64,
-) -> Result<Option<Row>, AllocError> {
+pub fn number_row(alloc: Global, variables: usize, number: i64) -> Result<Option<Row>, AllocError> {
     let zeros = vec![in alloc; 0; variables]?;
     if zeros.len() >= 1 << 31 {
         return Ok(None);

@@ -16,7 +16,7 @@ use tv_linear::Row;
 
 /// Closed walks that can be gone through again and again from some state that is reached, and on which what is to be kept to holds.
 #[derive(Drop)]
-pub(crate) struct ClosedCycles;
+pub struct ClosedCycles;
 
 /// What is known while walks are closed.
 #[derive(Drop)]

@@ -113,7 +113,7 @@ fn push_state(
 }
 
 /// The rows that are met at each place of a closed walk, the last first, where these rows are met at its first.
-pub(crate) fn regions_of(
+pub fn regions_of(
     alloc: Global,
     columns: usize,
     ways: &[Way],

@@ -11,7 +11,7 @@ use tv_linear::{Row, copies, push_copies};
 
 /// A way to take a case: with terms for its draws, so that all rows are over the variables alone.
 #[derive(Drop)]
-pub(crate) struct Way {
+pub struct Way {
     /// The number of the case.
     pub number: u32,
     pub from: u32,
@@ -26,7 +26,7 @@ pub(crate) struct Way {
 }
 
 /// The term that the case gives a variable, over the variables and the draws; `None` where it keeps its value.
-pub(crate) fn term_of(case: &Case, variable: usize) -> Option<&Row> {
+pub fn term_of(case: &Case, variable: usize) -> Option<&Row> {
     for update in &case.updates {
         if update.variable as usize == variable {
             return Some(&update.term);
@@ -76,7 +76,7 @@ fn inputs_of(alloc: Global, columns: usize, draws: &[Row]) -> Result<Option<Vec<
 }
 
 /// The way to take the case with these terms for its draws; `None` where a row is too wide.
-pub(crate) fn way_of(
+pub fn way_of(
     alloc: Global,
     columns: usize,
     number: u32,
@@ -274,7 +274,7 @@ fn push_all_ways(
 }
 
 /// The ways to take the cases of the program, where the formula holds before each.
-pub(crate) fn ways_under(question: &Question, kept: Option<&Aim>) -> Result<Vec<Way>, AllocError> {
+pub fn ways_under(question: &Question, kept: Option<&Aim>) -> Result<Vec<Way>, AllocError> {
     let mut ways = Vec::new(question.alloc);
     let mut number: u32 = 0;
     for case in question.about.list() {

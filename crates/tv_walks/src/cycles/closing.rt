@@ -24,7 +24,7 @@ pub(crate) fn rows_before(
 }
 
 /// The guards of the walk and the rows at its end, read at its beginning.
-pub(crate) fn rows_of_walk(
+pub fn rows_of_walk(
     alloc: Global,
     columns: usize,
     ways: &[Way],
@@ -45,7 +45,7 @@ pub(crate) fn rows_of_walk(
 }
 
 /// The terms of the variables after the walk, over those before it.
-pub(crate) fn terms_of_walk(
+pub fn terms_of_walk(
     alloc: Global,
     columns: usize,
     ways: &[Way],
@@ -182,7 +182,7 @@ fn rows_at_first(
 }
 
 /// Rows where the walk can be gone through again and again; `None` where none were found.
-pub(crate) fn closed(
+pub fn closed(
     alloc: Global,
     columns: usize,
     ways: &[Way],

@@ -50,7 +50,7 @@ fn row_of(
 }
 
 /// The row with a term of so many columns put in for each of its columns.
-pub(crate) fn put_in(
+pub fn put_in(
     alloc: Global,
     columns: usize,
     row: &Row,
@@ -67,7 +67,7 @@ pub(crate) fn put_in(
 }
 
 /// Each of the rows with a term put in for each of its columns.
-pub(crate) fn all_put_in(
+pub fn all_put_in(
     alloc: Global,
     columns: usize,
     rows: &[Row],
@@ -84,7 +84,7 @@ pub(crate) fn all_put_in(
 }
 
 /// The first row less the second, over so many columns.
-pub(crate) fn less(
+pub fn less(
     alloc: Global,
     columns: usize,
     first: &Row,
@@ -107,7 +107,7 @@ pub(crate) fn less(
 }
 
 /// The sum of a multiple of each of two rows, over so many columns.
-pub(crate) fn with_multiples(
+pub fn with_multiples(
     alloc: Global,
     columns: usize,
     first: (&Row, i128),
@@ -135,11 +135,7 @@ fn sum_of(first: (i128, i128), second: (i128, i128)) -> Option<i128> {
 }
 
 /// The row that is 1 in one column; that of zeros past the last.
-pub(crate) fn unit_row(
-    alloc: Global,
-    columns: usize,
-    column: usize,
-) -> Result<Option<Row>, AllocError> {
+pub fn unit_row(alloc: Global, columns: usize, column: usize) -> Result<Option<Row>, AllocError> {
     let mut coefficients = vec![in alloc; 0; columns]?;
     if let Some(place) = coefficients.get_mut(column) {
         *place = 1;
@@ -148,7 +144,7 @@ pub(crate) fn unit_row(
 }
 
 /// The variables as terms of their own.
-pub(crate) fn unit_rows(alloc: Global, columns: usize) -> Result<Option<Vec<Row>>, AllocError> {
+pub fn unit_rows(alloc: Global, columns: usize) -> Result<Option<Vec<Row>>, AllocError> {
     let mut rows = Vec::new(alloc);
     for column in 0..columns {
         match unit_row(alloc, columns, column)? {

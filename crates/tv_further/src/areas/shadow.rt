@@ -2,10 +2,9 @@
 
 use crate::areas::cutting::push_strongest;
 use crate::limits::SHADOW_ROWS;
-use crate::rows::combining::{put_in, unit_rows, with_multiples};
-use crate::rows::drawing::coefficient_at;
 use std::alloc::{AllocError, Global};
 use tv_linear::Row;
+use tv_walks::{coefficient_at, put_in, unit_rows, with_multiples};
 
 /// The sum of multiples of a row that bounds the column from below and one that bounds it from above, in which the column has no part.
 fn between(
