@@ -21,7 +21,7 @@ use Rattle.tv_cases.specs.Answers.{Answers, HaveSameSteps}
 use Rattle.tv_cases.proofs.SameSteps.{cases_from-ok, IsPlain, same-steps}
 use Rattle.tv_cases.proofs.EdgeLimits.{edge-are_cases}
 use Rattle.tv_cases.proofs.EdgeRoom.{at_most-true}
-use Rattle.std.proofs.lemmas.Bool.{and_parts}
+use Rattle.std.proofs.lemmas.Bool.{and_parts, ltb-true}
 
 module _ (variables draws : ℕ) where
   mutual
@@ -77,9 +77,6 @@ module _ (variables draws : ℕ) where
       let rest = instructions-linear is both.1 in
       (λ j. here j && rest j)
 
-pub under : (a b : ℕ) → nat_lt a b ≡ true → a < b
-under a b h = grind (arith, nat_tests)
-
 -- what is known of an edge that fits
 pub record IsFit (variables locations : ℕ) (e : Transition) : Type 0 where
   pub from : e.from < locations
@@ -92,8 +89,8 @@ fits-edge variables locations e h =
     let two = and_parts (nat_lt e.from locations && nat_lt e.to locations) (nat_le e.draws 64) three.0 in
     let one = and_parts (nat_lt e.from locations) (nat_lt e.to locations) two.0 in
     record {
-      from = under e.from locations one.0;
-      to = under e.to locations one.1;
+      from = ltb-true e.from locations one.0;
+      to = ltb-true e.to locations one.1;
       linear = record { few_draws = at_most-true e.draws 64 two.1; linear = instructions-linear variables e.draws e.instructions three.1 };
     }
 
@@ -138,7 +135,7 @@ are-cases n locations start es all h ok =
     record {
       few_variables = at_most-true n 512 h.few_variables;
       few_locations = at_most-true locations 1024 h.few_locations;
-      starts = under start locations h.starts;
+      starts = ltb-true start locations h.starts;
       few_cases = at_most-true (length all) 8192 few.0;
       few_coefficients = at_most-true (sum (map coefficients all)) 8000000 few.1;
       cases = cases-are n locations 0 [] es all ok (fits-edges n locations es h.edges_fit) (All-nil (IsCase n locations));

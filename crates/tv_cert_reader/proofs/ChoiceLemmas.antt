@@ -4,6 +4,7 @@ use Rattle.std.specs.Prelude.{◌==◌}
 use Rattle.std.specs.Global.{Vec}
 use Rattle.std.specs.List.{AllZip, flat_map}
 use Rattle.std.specs.Option.{option_map, ForSome}
+use Rattle.std.proofs.lemmas.Bool.{eq-eqb, eqb-true, ne_eqb}
 use Rattle.tv_grammar.specs.Langs.{headed, mapped, each, go, stop}
 use Rattle.tv_lines.specs.Lines.{PlainLine, formed, count_of, FitsHead}
 use Rattle.tv_lines.specs.declared.head.Head.{Head}
@@ -14,7 +15,6 @@ use Rattle.tv_linear.specs.ChoiceDepth.{most_splits, choice_splits}
 use Rattle.tv_linear.specs.declared.row.Row.{Row}
 use Rattle.tv_linear.specs.declared.cover.CoverTree.{CoverTree}
 use Rattle.tv_linear.specs.declared.choice.ChoiceTree.{ChoiceTree, Split', Empty, NoStep, Take}
-use Rattle.tv_linear.proofs.ListLaws.{test_true, true_test, test_false}
 use Rattle.tv_cases.specs.LinearCases.{LinearCase, CaseSystem, leaving}
 use Rattle.tv_cert.specs.declared.node.Marked.{Marked}
 use Rattle.tv_cert.specs.declared.owes.Destination.{Destination}
@@ -65,7 +65,7 @@ where_true false t h = refl
 
 taken_none : (l : ℕ) (counts : LinearCase → ℕ → ℕ → Option ℕ) (o : Option LinearCase) (k j : ℕ) → ((case : LinearCase) (n : ℕ) → o ≡ Some case → case.from ≡ l → counts case k j ≡ Some n → ⊥) → taken_case l counts o k j ≡ None
 taken_none l counts None k j h = refl
-taken_none l counts (Some case) k j h = where_true (case.from == l) (taken_rows case (counts case k j)) (λ b. rows (counts case k j) (λ n e. h case n refl (true_test case.from l b) e)) where
+taken_none l counts (Some case) k j h = where_true (case.from == l) (taken_rows case (counts case k j)) (λ b. rows (counts case k j) (λ n e. h case n refl (eqb-true case.from l b) e)) where
   rows : (o : Option ℕ) → ((n : ℕ) → o ≡ Some n → ⊥) → taken_rows case o ≡ None
   rows None h = refl
   rows (Some n) h = absurd (h n refl)
@@ -147,7 +147,7 @@ module _ (system : CaseSystem) (p : Marked) (may_stop : Bool) (destination : Des
       named : with_three zs (λ c k j. taken_case x.place x.counts (slice_get system.cases c) k j) ≡ Some found
       named = ap (λ ys. with_three ys (λ c k j. taken_case x.place x.counts (slice_get system.cases c) k j)) is.numbers
           ∙ ap (λ o. taken_case x.place x.counts o k j) is.there
-          ∙ ap (λ b. only_where b (taken_rows case (x.counts case k j))) (test_true case.from (place_of p) is.from)
+          ∙ ap (λ b. only_where b (taken_rows case (x.counts case k j))) (eq-eqb case.from (place_of p) is.from)
           ∙ ap (taken_rows case) (is.owes [])
 
       abbrev terms : Grammar (Unit {0})
@@ -183,20 +183,20 @@ module _ (system : CaseSystem) (p : Marked) (may_stop : Bool) (destination : Des
     -- ---- a refutation, and a split
 
     pub empty_stops : (mid : Cursor) (zs : List ℤ) → IsBehind heads.Empty zs old mid → (length zs ≡ known → ⊥) → FaultAt (side known left) old Shape mid.taken
-    empty_stops mid zs at none = choice_stops mid heads.Empty zs at Shape (ap empty_behind (test_false (length zs) known none))
+    empty_stops mid zs at none = choice_stops mid heads.Empty zs at Shape (ap empty_behind (ne_eqb (length zs) known none))
 
     module _ (mid : Cursor) (zs : List ℤ) (at : IsBehind heads.Split zs old mid) where
       pub deep_stops : left ≡ 0 → FaultAt (side known left) old Deep mid.taken
       deep_stops e = choice_stops mid heads.Split zs at Deep (sides_deep side known left (length zs == system.variables + 1) e)
 
       pub row_stops : (left ≡ 0 → ⊥) → (length zs ≡ system.variables + 1 → ⊥) → FaultAt (side known left) old Shape mid.taken
-      row_stops some none = choice_stops mid heads.Split zs at Shape (sides_wrong side known left (length zs == system.variables + 1) some (test_false (length zs) (system.variables + 1) none))
+      row_stops some none = choice_stops mid heads.Split zs at Shape (sides_wrong side known left (length zs == system.variables + 1) some (ne_eqb (length zs) (system.variables + 1) none))
 
       module _ (row : Linear) (is : IsRowOf system.variables zs row) (some : left ≡ 0 → ⊥) where
         split_goes : cases (formed heads.Split zs) ≡ go (both (side (known + 1) (left - 1)) (side (known + 1) (left - 1)))
         split_goes =
             sides_go side known left (length zs == system.variables + 1) some
-            (test_true (length zs) (system.variables + 1) (ap length is.numbers ∙ numbers_long system.variables row is.wide))
+            (eq-eqb (length zs) (system.variables + 1) (ap length is.numbers ∙ numbers_long system.variables row is.wide))
 
         pub holds_fail : (f : Failure) → FailsBy (side (known + 1) (left - 1)) mid f → FailsBy (side known left) old f
         holds_fail f h =

@@ -1,6 +1,7 @@
 -- The lines of certificates that fit are read.
 use Rattle.std.proofs.Common.{◌≡◌, ℕ, pos, ℤ, Bool, true, false, List, [], ◌∷◌, ◌++◌, length, Ok, None, refl, ap, ◌∙◌, subst}
 use Rattle.std.specs.Global.{Vec}
+use Rattle.std.proofs.lemmas.Bool.{eq-eqb}
 use Rattle.tv_grammar.specs.Reads.{◌>>=◌}
 use Rattle.tv_grammar.specs.Langs.{unit, then, at_end, read_all}
 use Rattle.tv_lines.specs.Lines.{PlainLine, formed}
@@ -8,7 +9,6 @@ use Rattle.tv_lines.specs.declared.head.Head.TheVariants as heads
 use Rattle.tv_formula.specs.Properties.{Property}
 use Rattle.tv_linear.specs.Known.{given}
 use Rattle.tv_linear.specs.declared.cover.CoverTree.{CoverTree}
-use Rattle.tv_linear.proofs.ListLaws.{test_true}
 use Rattle.tv_cases.specs.LinearCases.{CaseSystem}
 use Rattle.tv_cert.specs.declared.node.Node.{Node}
 use Rattle.tv_cert.specs.declared.node.Verdict.TheVariants.{Proved, Disproved}
@@ -47,7 +47,7 @@ module _ (over : Bool) (system : CaseSystem) where
       ∙ last_read rest
 
   at_line_read : (k : ℕ) (values : List ℤ) (rest : List PlainLine) → length values ≡ system.variables → (line (at_line system.variables)).read (formed heads.At (pos k ∷ values) ∷ rest) ≡ Ok (k, rest)
-  at_line_read k values rest many = line_read (at_line system.variables) heads.At (pos k ∷ values) k rest (ap (λ b. guarded b k) (test_true (length values) system.variables many))
+  at_line_read k values rest many = line_read (at_line system.variables) heads.At (pos k ∷ values) k rest (ap (λ b. guarded b k) (eq-eqb (length values) system.variables many))
 
   -- the nodes of what is disproved, up to the values
   pub at_values_read : (s : Statement) (root : Node) (k : ℕ) (values : List ℤ) (rest : List PlainLine) → NodeShape system s root → length values ≡ system.variables → (at_values over system s).read (node_lines s root ++ (formed heads.At (pos k ∷ values) ∷ rest)) ≡ Ok ((outlines (pieces_of root), k), rest)

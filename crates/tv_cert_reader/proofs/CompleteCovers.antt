@@ -5,6 +5,7 @@ use Rattle.std.specs.List.{AllZip, flat_map}
 use Rattle.std.specs.Option.{option_map}
 use Rattle.std.proofs.lemmas.List.{append_assoc}
 use Rattle.std.proofs.lemmas.List.Elements.{All-head, All-tail}
+use Rattle.std.proofs.lemmas.Bool.{eq-eqb}
 use Rattle.tv_grammar.specs.Langs.{go, branch_read, each}
 use Rattle.tv_lines.specs.Lines.{PlainLine, formed}
 use Rattle.tv_lines.specs.declared.head.Head.TheVariants as heads
@@ -17,7 +18,6 @@ use Rattle.tv_linear.specs.declared.cover.CoverTree.{CoverTree}
 use Rattle.tv_linear.specs.declared.cover.CoverTree as cover_trees
 use Rattle.tv_linear.specs.declared.choice.ChoiceTree.{ChoiceTree}
 use Rattle.tv_linear.specs.declared.choice.ChoiceTree as choice_trees
-use Rattle.tv_linear.proofs.ListLaws.{test_true}
 use Rattle.tv_cases.specs.LinearCases.{LinearCase, leaving}
 use Rattle.tv_cert.specs.declared.node.Proof.{Proof}
 use Rattle.tv_cert.specs.declared.node.Proof.TheVariants.{Covered, Chosen}
@@ -39,14 +39,14 @@ both_read a b xs ys rest first second =
     ap (both a b).read (append_assoc xs ys rest) ∙ then_read a (λ _. b) (xs ++ (ys ++ rest)) tt (ys ++ rest) (first (ys ++ rest)) ∙ second
 
 empty_read : (known : ℕ) (ms : List ℤ) (here rest : List PlainLine) → length ms ≡ known → branch_read (empty_behind (length ms == known)) here rest ≡ Ok (tt, rest)
-empty_read known ms here rest e = ap (λ b. branch_read (empty_behind b) here rest) (test_true (length ms) known e)
+empty_read known ms here rest e = ap (λ b. branch_read (empty_behind b) here rest) (eq-eqb (length ms) known e)
 
 into_read : (known : ℕ) (owed : Option ℕ) (lists : List (List ℤ)) (here rest : List PlainLine) → ListsShape (known + 1) owed lists → branch_read (lists_behind known owed) here (by_lines lists ++ rest) ≡ Ok (tt, rest)
 into_read known None lists here rest h = absurd h
 into_read known (Some count) lists here rest h = lists_read (known + 1) count lists rest h.0 h.1
 
 sides_read : (width : ℕ) (r : Linear) (sides : Grammar (Unit {0})) (here behind : List PlainLine) → columns r ≡ width → branch_read (sides_behind (go sides) (length (r.coefficients ++ r.constant ∷ []) == width + 1)) here behind ≡ sides.read behind
-sides_read width r sides here behind e = ap (λ b. branch_read (sides_behind (go sides) b) here behind) (test_true (length (r.coefficients ++ r.constant ∷ [])) (width + 1) (numbers_long width r e))
+sides_read width r sides here behind e = ap (λ b. branch_read (sides_behind (go sides) b) here behind) (eq-eqb (length (r.coefficients ++ r.constant ∷ [])) (width + 1) (numbers_long width r e))
 
 -- ---- covers
 
@@ -96,7 +96,7 @@ module _ (n known : ℕ) (draws : List Linear) (lists : List (List ℤ)) (here r
   take_read : (l : ℕ) (owed : LinearCase → List Linear → ℕ → ℕ → Option (List Known)) → ((c : LinearCase) (draws : List Linear) → owed_count (owed c draws) ≡ owed_count (owed c [])) → (c : Option LinearCase) (k j : ℕ) → TakeShape n l owed known c k j draws lists → branch_read (take_behind n known (taken_case l (λ c. owed_count (owed c [])) c k j)) here ((row_lines heads.Draw draws ++ by_lines lists) ++ rest) ≡ Ok (tt, rest)
   take_read l owed free None k j h = absurd h
   take_read l owed free (Some c) k j h =
-      ap (λ b. branch_read (take_behind n known (only_where b (taken_rows c (owed_count (owed c []) k j)))) here ((row_lines heads.Draw draws ++ by_lines lists) ++ rest)) (test_true c.from l h.0)
+      ap (λ b. branch_read (take_behind n known (only_where b (taken_rows c (owed_count (owed c []) k j)))) here ((row_lines heads.Draw draws ++ by_lines lists) ++ rest)) (eq-eqb c.from l h.0)
       ∙ rows_taken c (owed c draws k j) (owed_count (owed c []) k j) h.1 h.2 h.3 (ap (λ f. f k j) (free c draws))
 
 -- how a choice is read

@@ -4,7 +4,7 @@ use Rattle.std.specs.Prelude.{◌==◌, ◌&&◌, ◌||◌}
 use Rattle.std.specs.List.{flat_map}
 use Rattle.std.proofs.lemmas.List.{append_assoc}
 use Rattle.std.proofs.lemmas.List.Concat.{flat_map_single}
-use Rattle.std.proofs.lemmas.Bool.{lt-ltb}
+use Rattle.std.proofs.lemmas.Bool.{lt-ltb, eq-eqb}
 use Rattle.tv_grammar.specs.Langs.{then, mapped, branch_read, times}
 use Rattle.tv_lines.specs.Lines.{PlainLine, formed}
 use Rattle.tv_lines.specs.declared.head.Head.{Head}
@@ -12,7 +12,6 @@ use Rattle.tv_lines.specs.declared.head.Head.TheVariants as heads
 use Rattle.tv_lines.specs.declared.head.NodeKind.{NodeKind}
 use Rattle.tv_lines.specs.declared.head.NodeKind.TheVariants as kinds
 use Rattle.tv_linear.specs.Linear.{Linear, columns}
-use Rattle.tv_linear.proofs.ListLaws.{test_true}
 use Rattle.tv_cases.specs.LinearCases.{CaseSystem}
 use Rattle.tv_cert.specs.declared.node.Mark.{Mark}
 use Rattle.tv_cert.specs.declared.node.Mark.TheVariants.{Done, Go}
@@ -33,7 +32,7 @@ line_read f head zs x rest e = ap (λ o. branch_read (line_branch o) (formed hea
 
 -- a line of such a head with so many numbers
 pub sized_read : (is : Head → Bool) (head : Head) (count : ℕ) (zs : List ℤ) (rest : List PlainLine) → is head ≡ true → length zs ≡ count → (line (sized is count)).read (formed head zs ∷ rest) ≡ Ok (tt, rest)
-sized_read is head count zs rest e many = let t = test_true (length zs) count many in line_read (sized is count) head zs tt rest (λ i. guarded (e i && t i) tt)
+sized_read is head count zs rest e many = let t = eq-eqb (length zs) count many in line_read (sized is count) head zs tt rest (λ i. guarded (e i && t i) tt)
 
 -- the numbers of a row
 pub numbers_long : (width : ℕ) (r : Linear) → columns r ≡ width → length (r.coefficients ++ r.constant ∷ []) ≡ width + 1
@@ -124,7 +123,7 @@ ranked m true h = either (m == 0)
     either : (b : Bool) → (b || true) ≡ true
     either true = refl
     either false = refl
-ranked m false h = ap (λ b. b || false) (test_true m 0 (h refl))
+ranked m false h = ap (λ b. b || false) (eq-eqb m 0 (h refl))
 
 -- the head of a node with so many pieces and ranks
 pub opening_read : (s : Statement) (m count : ℕ) (rest : List PlainLine) → (may_rank s ≡ false → m ≡ 0) → m < 2 ^ 32 → (line (node_line (kind_of s) (may_rank s))).read (formed (heads.Node (kind_of s)) (pos count ∷ pos m ∷ []) ∷ rest) ≡ Ok (record { pieces = count; ranks = m }, rest)

@@ -3,6 +3,7 @@ use Rattle.std.proofs.Common.{◌≡◌, ℕ, zero, suc, ◌+◌, ◌-◌, ℤ, 
 use Rattle.std.specs.Prelude.{◌==◌}
 use Rattle.std.specs.Global.{Vec}
 use Rattle.std.proofs.lemmas.List.Elements.{All-weaker}
+use Rattle.std.proofs.lemmas.Bool.{eq-eqb, ne_eqb}
 use Rattle.tv_grammar.specs.Langs.{headed, go, stop}
 use Rattle.tv_lines.specs.Lines.{PlainLine, formed}
 use Rattle.tv_lines.specs.declared.head.Head.{Head}
@@ -10,7 +11,6 @@ use Rattle.tv_lines.specs.declared.head.Head.TheVariants as heads
 use Rattle.tv_linear.specs.Linear.{Linear, columns}
 use Rattle.tv_linear.specs.Depth.{splits}
 use Rattle.tv_linear.specs.declared.cover.CoverTree.{CoverTree, Split', Empty, Into}
-use Rattle.tv_linear.proofs.ListLaws.{test_true, test_false}
 use Rattle.tv_cert.specs.Shapes.{CoverShape, ListsShape}
 use Rattle.tv_cert_reader.specs.CertificateLines.{row_line, by_lines, cover_lines}
 use Rattle.tv_cert_reader.specs.declared.kind.LineKind.{LineKind}
@@ -72,7 +72,7 @@ module _ (width : ℕ) (counts : ℕ → ℕ → Option ℕ) where
       deep_stops e = cover_stops mid heads.Split zs at Deep (sides_deep side known left (length zs == width + 1) e)
 
       pub row_stops : (left ≡ 0 → ⊥) → (length zs ≡ width + 1 → ⊥) → FaultAt (side known left) old Shape mid.taken
-      row_stops some none = cover_stops mid heads.Split zs at Shape (sides_wrong side known left (length zs == width + 1) some (test_false (length zs) (width + 1) none))
+      row_stops some none = cover_stops mid heads.Split zs at Shape (sides_wrong side known left (length zs == width + 1) some (ne_eqb (length zs) (width + 1) none))
 
       module _ (row : Linear) (is : IsRowOf width zs row) (some : left ≡ 0 → ⊥) where
         long : length zs ≡ width + 1
@@ -80,13 +80,13 @@ module _ (width : ℕ) (counts : ℕ → ℕ → Option ℕ) where
 
         pub holds_fail : (f : Failure) → FailsBy (side (known + 1) (left - 1)) mid f → FailsBy (side known left) old f
         holds_fail f h =
-            cover_goes mid heads.Split zs at (both (side (known + 1) (left - 1)) (side (known + 1) (left - 1))) f (sides_go side known left (length zs == width + 1) some (test_true (length zs) (width + 1) long))
+            cover_goes mid heads.Split zs at (both (side (known + 1) (left - 1)) (side (known + 1) (left - 1))) f (sides_go side known left (length zs == width + 1) some (eq-eqb (length zs) (width + 1) long))
             (first_fails (side (known + 1) (left - 1)) (λ _. side (known + 1) (left - 1)) mid f h)
 
         module _ (holds : CoverTree) (next : Cursor) (one : IsCoverWithin width counts (known + 1) (left - 1) holds) (first : Takes (cover_lines holds) mid next) where
           pub fails_fail : (f : Failure) → FailsBy (side (known + 1) (left - 1)) next f → FailsBy (side known left) old f
           fails_fail f h =
-              cover_goes mid heads.Split zs at (both (side (known + 1) (left - 1)) (side (known + 1) (left - 1))) f (sides_go side known left (length zs == width + 1) some (test_true (length zs) (width + 1) long))
+              cover_goes mid heads.Split zs at (both (side (known + 1) (left - 1)) (side (known + 1) (left - 1))) f (sides_go side known left (length zs == width + 1) some (eq-eqb (length zs) (width + 1) long))
               (second_fails (side (known + 1) (left - 1)) (λ _. side (known + 1) (left - 1)) tt mid next f
               (ap (side (known + 1) (left - 1)).read first.lines ∙ cover_read false (left - 1) width (known + 1) counts holds next.lines one.shape one.shallow) first.last h)
 
@@ -106,7 +106,7 @@ module _ (width : ℕ) (counts : ℕ → ℕ → Option ℕ) where
     -- ---- a refutation, and the lists of a target
 
     pub empty_stops : (mid : Cursor) (zs : List ℤ) → IsBehind heads.Empty zs old mid → (length zs ≡ known → ⊥) → FaultAt (side known left) old Shape mid.taken
-    empty_stops mid zs at none = cover_stops mid heads.Empty zs at Shape (ap empty_behind (test_false (length zs) known none))
+    empty_stops mid zs at none = cover_stops mid heads.Empty zs at Shape (ap empty_behind (ne_eqb (length zs) known none))
 
     pub target_stops : (mid : Cursor) (zs : List ℤ) → IsBehind heads.Into zs old mid → NamesNone counts zs → FaultAt (side known left) old Shape mid.taken
     target_stops mid zs at none = cover_stops mid heads.Into zs at Shape (ap (lists_behind known) (two_none counts zs none))

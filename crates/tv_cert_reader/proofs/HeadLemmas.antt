@@ -2,6 +2,8 @@
 use Rattle.std.proofs.Common.{◌≡◌, ℕ, ◌<◌, ◌^◌, ℤ, pos, negsuc, Bool, true, false, List, [], ◌∷◌, Some, None, refl, ap, ◌∙◌, arith}
 use Rattle.std.specs.Prelude.{◌==◌, ◌&&◌, ◌||◌, nat_lt}
 use Rattle.std.proofs.lemmas.Bool.Decides.{nat_tests}
+use Rattle.std.proofs.lemmas.Bool.{eqb-true, lt-ltb, ltb-true}
+use Rattle.tv_cases.proofs.ProductLemmas.{or_else}
 use Rattle.tv_lines.specs.declared.head.Head.{Head}
 use Rattle.tv_lines.specs.declared.head.Head.TheVariants as heads
 use Rattle.tv_lines.specs.declared.head.NodeKind.{NodeKind}
@@ -11,16 +13,11 @@ use Rattle.tv_lines.specs.declared.head.PieceMark.TheVariants as marks
 use Rattle.tv_cert.specs.declared.node.Mark.{Mark}
 use Rattle.tv_cert.specs.declared.node.Mark.TheVariants.{Done, Go}
 use Rattle.tv_cert.specs.Pieces.{is_go}
-use Rattle.tv_linear.proofs.ListLaws.{true_test}
 use Rattle.tv_cert_reader.specs.CertificateLines.{mark_named}
 use Rattle.tv_cert_reader.specs.Demands.{Outline}
 use Rattle.tv_cert_reader.specs.LineGrammar.{guarded, same_kind, NodeHead, node_line, is_going, piece_numbers, piece_line}
 use Rattle.tv_cert_reader.specs.Heads.{IsPieceHead, IsNodeHead}
-use Rattle.tv_cases.proofs.CaseLimits.{under}
 use Rattle.tv_cert_reader.proofs.CompleteParts.{mark_going, marked as either, kind_same, ranked as some_ranks}
-
-below : (a b : ℕ) → a < b → nat_lt a b ≡ true
-below a b h = grind (arith, nat_tests)
 
 two_none : {X : Type 0} (x : X) (a b : Bool) → (a ≡ true → b ≡ true → ⊥) → guarded (a && b) x ≡ None
 two_none x true true h = absurd (h refl refl)
@@ -50,7 +47,7 @@ back_going false marks.Done e f = absurd cc
 
 pub piece_none : (locations : ℕ) (done : Bool) (head : Head) (zs : List ℤ) → ((mark : Mark) (l count : ℕ) → IsPieceHead locations done head zs mark l count → ⊥) → piece_line locations done head zs ≡ None
 piece_none locations done (heads.Piece k) (pos l ∷ pos r ∷ []) h =
-    two_none _ (nat_lt l locations) (done || is_going k) (λ a b. h (mark_back k) l r (record { opening = ap heads.Piece (back_named k); numbers = refl; place = under l locations a; marked = back_going done k b }))
+    two_none _ (nat_lt l locations) (done || is_going k) (λ a b. h (mark_back k) l r (record { opening = ap heads.Piece (back_named k); numbers = refl; place = ltb-true l locations a; marked = back_going done k b }))
 piece_none locations done (heads.Piece k) (pos l ∷ negsuc r ∷ []) h = refl
 piece_none locations done (heads.Piece k) (negsuc l ∷ r ∷ []) h = refl
 piece_none locations done (heads.Piece k) [] h = refl
@@ -63,7 +60,7 @@ begun mark l count = record { place = l; going = is_go mark; rows = count }
 
 pub piece_some : (locations : ℕ) (done : Bool) (head : Head) (zs : List ℤ) (mark : Mark) (l count : ℕ) → IsPieceHead locations done head zs mark l count → piece_line locations done head zs ≡ Some (begun mark l count)
 piece_some locations done head zs mark l count is =
-    let place = below l locations is.place in
+    let place = lt-ltb l locations is.place in
     let goes = either done (is_go mark) is.marked in
     (λ i. piece_line locations done (is.opening i) (is.numbers i))
     ∙ ap (λ going. piece_numbers locations done going l count) (mark_going mark)
@@ -82,17 +79,14 @@ same_is kinds.NoTerm kinds.NoTerm e = refl
 same_is a b e = absurd cc
 
 no_ranks : (m : ℕ) (ranked : Bool) → ((m == 0) || ranked) ≡ true → ranked ≡ false → m ≡ 0
-no_ranks m ranked e f = true_test m 0 (kept (m == 0) ranked e f) where
-  kept : (a b : Bool) → (a || b) ≡ true → b ≡ false → a ≡ true
-  kept true b e f = refl
-  kept false b e f = absurd cc
+no_ranks m ranked e f = eqb-true m 0 (or_else (m == 0) ranked e f)
 
 abbrev pub counted : ℕ → ℕ → NodeHead
 counted count m = record { pieces = count; ranks = m }
 
 pub node_none : (kind : NodeKind) (ranked : Bool) (head : Head) (zs : List ℤ) → ((count m : ℕ) → IsNodeHead kind ranked head zs count m → ⊥) → node_line kind ranked head zs ≡ None
 node_none kind ranked (heads.Node k) (pos p ∷ pos m ∷ []) h =
-    three_none _ (same_kind kind k) ((m == 0) || ranked) (nat_lt m (2 ^ 32)) (λ a b c. h p m (record { opening = ap heads.Node (same_is kind k a); numbers = refl; ranks = no_ranks m ranked b; small = under m (2 ^ 32) c }))
+    three_none _ (same_kind kind k) ((m == 0) || ranked) (nat_lt m (2 ^ 32)) (λ a b c. h p m (record { opening = ap heads.Node (same_is kind k a); numbers = refl; ranks = no_ranks m ranked b; small = ltb-true m (2 ^ 32) c }))
 node_none kind ranked (heads.Node k) (pos p ∷ negsuc m ∷ []) h = refl
 node_none kind ranked (heads.Node k) (negsuc p ∷ m ∷ []) h = refl
 node_none kind ranked (heads.Node k) [] h = refl
@@ -104,5 +98,5 @@ pub node_some : (kind : NodeKind) (ranked : Bool) (head : Head) (zs : List ℤ) 
 node_some kind ranked head zs count m is =
     let a = kind_same kind in
     let b = some_ranks m ranked is.ranks in
-    let c = below m (2 ^ 32) is.small in
+    let c = lt-ltb m (2 ^ 32) is.small in
     (λ i. node_line kind ranked (is.opening i) (is.numbers i)) ∙ (λ i. guarded (a i && b i && c i) (counted count m))

@@ -4,6 +4,7 @@ use Rattle.std.specs.Prelude.{◌==◌}
 use Rattle.std.specs.Global.{Vec, Global}
 use Rattle.std.specs.Option.{option_map}
 use Rattle.std.proofs.lemmas.List.{length-map}
+use Rattle.std.proofs.lemmas.Bool.{eq-eqb}
 use Rattle.tv_grammar.specs.Langs.{mapped, each}
 use Rattle.tv_lines.specs.declared.head.Head.TheVariants as heads
 use Rattle.tv_linear.specs.Linear.{Linear}
@@ -13,7 +14,6 @@ use Rattle.tv_linear.specs.Refutation.{Refutes}
 use Rattle.tv_linear.specs.Terms.{draw_terms}
 use Rattle.tv_linear.specs.declared.row.Row.{Row}
 use Rattle.tv_linear.specs.declared.choice.ChoiceTree.{Split', Empty, NoStep, Take}
-use Rattle.tv_linear.proofs.ListLaws.{test_true}
 use Rattle.tv_cases.specs.LinearCases.{LinearCase, CaseSystem, leaving}
 use Rattle.tv_cert.specs.declared.node.Marked.{Marked}
 use Rattle.tv_cert.specs.declared.owes.Destination.{Destination}
@@ -63,7 +63,7 @@ module _ (system : CaseSystem) (p : Marked) (stop : Bool) (destination : Destina
     sides_fail : (f : Failure) → FailsBy (both (choice_side system p stop destination known (left - 1)) (choice_side system p stop destination known (left - 1))) mid f → FailsChoice known left old f
     sides_fail f h =
         choice_goes system p stop destination (length known) left old mid heads.Split zs at (both (choice_side system p stop destination known (left - 1)) (choice_side system p stop destination known (left - 1))) f
-        (sides_go (λ m l. choice false l (choosing_of system p stop destination) m) (length known) left (length zs == system.variables + 1) some (test_true (length zs) (system.variables + 1) (ap length is.numbers ∙ numbers_long system.variables row is.wide))) h
+        (sides_go (λ m l. choice false l (choosing_of system p stop destination) m) (length known) left (length zs == system.variables + 1) some (eq-eqb (length zs) (system.variables + 1) (ap length is.numbers ∙ numbers_long system.variables row is.wide))) h
 
     sides_checked : (heap : Global) (new : Cursor) (met : Bool) → CheckedChoiceSides system p stop destination known (left - 1) row mid new met → CheckedChoice system p stop destination known left old new met
     sides_checked heap new met h =

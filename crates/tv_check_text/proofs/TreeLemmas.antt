@@ -5,6 +5,7 @@ use Rattle.std.specs.Prelude.{◌==◌}
 use Rattle.std.specs.Global.{Vec, Box, Global}
 use Rattle.std.specs.Option.{option_map}
 use Rattle.std.proofs.lemmas.List.{length-map}
+use Rattle.std.proofs.lemmas.Bool.{eq-eqb}
 use Rattle.tv_lines.specs.Lines.{formed}
 use Rattle.tv_lines.specs.declared.head.Head.TheVariants as heads
 use Rattle.tv_linear.specs.Linear.{Linear}
@@ -12,7 +13,6 @@ use Rattle.tv_linear.specs.Known.{Known, given, denied}
 use Rattle.tv_linear.specs.Covers.{ShownAt}
 use Rattle.tv_linear.specs.Refutation.{Refutes}
 use Rattle.tv_linear.specs.declared.cover.CoverTree.{Split', Empty, Into}
-use Rattle.tv_linear.proofs.ListLaws.{test_true}
 use Rattle.tv_cert.specs.Shapes.{owed_count}
 use Rattle.tv_cert_reader.specs.CertificateLines.{by_lines}
 use Rattle.tv_cert_reader.specs.CoverGrammar.{both, cover}
@@ -78,7 +78,7 @@ module _ (n : ℕ) (owed : ℕ → ℕ → Option (List Known)) where
     sides_fail : (f : Failure) → FailsBy (both (cover_side n owed known (left - 1)) (cover_side n owed known (left - 1))) mid f → Fails known left old f
     sides_fail f h =
         cover_goes n (owed_count owed) (length known) left old mid heads.Split zs at (both (cover_side n owed known (left - 1)) (cover_side n owed known (left - 1))) f
-        (sides_go (λ m l. cover false l n m (owed_count owed)) (length known) left (length zs == n + 1) some (test_true (length zs) (n + 1) (ap length is.numbers ∙ numbers_long n row is.wide))) h
+        (sides_go (λ m l. cover false l n m (owed_count owed)) (length known) left (length zs == n + 1) some (eq-eqb (length zs) (n + 1) (ap length is.numbers ∙ numbers_long n row is.wide))) h
 
     sides_checked : (heap : Global) (new : Cursor) (met : Bool) → CheckedSides n owed known (left - 1) row mid new met → CheckedCover n owed known left old new met
     sides_checked heap new met h =

@@ -3,10 +3,11 @@ use Rattle.std.proofs.Common.{◌≡◌, ℕ, zero, suc, ◌+◌, ◌<◌, ◌�
 use Rattle.std.specs.Prelude.{slice_get, Contains}
 use Rattle.std.proofs.lemmas.List.{length-map, append-nil}
 use Rattle.std.proofs.lemmas.List.Elements.{All-nil, All-cons, All-head, All-tail, All-append, All-contains_itself}
+use Rattle.std.proofs.lemmas.Bool.{eq-eqb, ne_eqb}
 use Rattle.tv_linear.specs.Linear.{Linear, columns}
 use Rattle.tv_linear.specs.Arithmetic.{opposite}
 use Rattle.tv_linear.specs.declared.region.Piece.{Piece}
-use Rattle.tv_linear.proofs.ListLaws.{test_true, test_false, length-front, drop_past, contains_at}
+use Rattle.tv_linear.proofs.ListLaws.{length-front, drop_past, contains_at}
 use Rattle.tv_cases.specs.declared.case.Case.{Case}
 use Rattle.tv_cases.specs.LinearCases.{LinearCase, leaving}
 use Rattle.tv_cases.specs.Views.{case_view, case_views}
@@ -113,7 +114,7 @@ pub cases_next : (n : ℕ) (ps : List Piece) (l : ℕ) (cs : List Case) (i : ℕ
 cases_next n ps l cs i c all now new b e from en h =
     h
     ∙ ap (λ vs. now ++ targets_from n ps (leaving l vs)) (views_drop cs i c b e)
-    ∙ ap (λ t. now ++ targets_from n ps (cond t (case_view c ∷ leaving l (case_views (drop (i + 1) cs))) (leaving l (case_views (drop (i + 1) cs))))) (test_true c.from l from)
+    ∙ ap (λ t. now ++ targets_from n ps (cond t (case_view c ∷ leaving l (case_views (drop (i + 1) cs))) (leaving l (case_views (drop (i + 1) cs))))) (eq-eqb c.from l from)
     ∙ sym (append_assoc now (targets_by n (case_view c) (pieces_at ps c.to)) (targets_from n ps (leaving l (case_views (drop (i + 1) cs)))))
     ∙ ap (λ ls. ls ++ targets_from n ps (leaving l (case_views (drop (i + 1) cs)))) (sym en)
 
@@ -121,7 +122,7 @@ pub cases_skip : (n : ℕ) (ps : List Piece) (l : ℕ) (cs : List Case) (i : ℕ
 cases_skip n ps l cs i c all now b e from h =
     h
     ∙ ap (λ vs. now ++ targets_from n ps (leaving l vs)) (views_drop cs i c b e)
-    ∙ ap (λ t. now ++ targets_from n ps (cond t (case_view c ∷ leaving l (case_views (drop (i + 1) cs))) (leaving l (case_views (drop (i + 1) cs))))) (test_false c.from l from)
+    ∙ ap (λ t. now ++ targets_from n ps (cond t (case_view c ∷ leaving l (case_views (drop (i + 1) cs))) (leaving l (case_views (drop (i + 1) cs))))) (ne_eqb c.from l from)
 
 pub cases_done : (n : ℕ) (ps : List Piece) (l : ℕ) (cs : List Case) (i : ℕ) (all now : List (List Linear)) → length cs ≤ i → all ≡ now ++ targets_from n ps (leaving l (case_views (drop i cs))) → now ≡ all
 cases_done n ps l cs i all now b h = sym (h ∙ ap (λ vs. now ++ targets_from n ps (leaving l (case_views vs))) (drop_past cs i b) ∙ append-nil now)
@@ -184,10 +185,10 @@ pub record AreCasesLeft (n : ℕ) (ps : List Piece) (all rest : List LinearCase)
   pub wide : (column : ℕ) → IsFirstWideFrom n ps column rest → IsFirstWideFrom n ps column all
 
 leaving_here : (l : ℕ) (cs : List Case) (i : ℕ) (c : Case) → i < length cs → c ≡ get_or cs i c → c.from ≡ l → leaving l (case_views (drop i cs)) ≡ case_view c ∷ leaving l (case_views (drop (i + 1) cs))
-leaving_here l cs i c b e from = ap (leaving l) (views_drop cs i c b e) ∙ ap (λ t. cond t (case_view c ∷ leaving l (case_views (drop (i + 1) cs))) (leaving l (case_views (drop (i + 1) cs)))) (test_true c.from l from)
+leaving_here l cs i c b e from = ap (leaving l) (views_drop cs i c b e) ∙ ap (λ t. cond t (case_view c ∷ leaving l (case_views (drop (i + 1) cs))) (leaving l (case_views (drop (i + 1) cs)))) (eq-eqb c.from l from)
 
 leaving_not : (l : ℕ) (cs : List Case) (i : ℕ) (c : Case) → i < length cs → c ≡ get_or cs i c → (c.from ≡ l → ⊥) → leaving l (case_views (drop i cs)) ≡ leaving l (case_views (drop (i + 1) cs))
-leaving_not l cs i c b e from = ap (leaving l) (views_drop cs i c b e) ∙ ap (λ t. cond t (case_view c ∷ leaving l (case_views (drop (i + 1) cs))) (leaving l (case_views (drop (i + 1) cs)))) (test_false c.from l from)
+leaving_not l cs i c b e from = ap (leaving l) (views_drop cs i c b e) ∙ ap (λ t. cond t (case_view c ∷ leaving l (case_views (drop (i + 1) cs))) (leaving l (case_views (drop (i + 1) cs)))) (ne_eqb c.from l from)
 
 pub case_left : (n : ℕ) (ps : List Piece) (l : ℕ) (cs : List Case) (i : ℕ) (c : Case) (all : List LinearCase) → i < length cs → c ≡ get_or cs i c → c.from ≡ l → All (AreMadeInto n (case_view c)) (pieces_at ps c.to) → AreCasesLeft n ps all (leaving l (case_views (drop i cs))) → AreCasesLeft n ps all (leaving l (case_views (drop (i + 1) cs)))
 case_left n ps l cs i c all b e from fit h =

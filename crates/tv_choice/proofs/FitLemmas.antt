@@ -5,10 +5,11 @@ use Rattle.std.specs.Prelude.{Contains}
 use Rattle.std.proofs.lemmas.Int.{ints, fits_signed_from_abs}
 use Rattle.std.proofs.lemmas.Option.{slice_get_within, get_or_from_slice_get, slice_get_read}
 use Rattle.std.proofs.lemmas.List.Elements.{filter_passes}
+use Rattle.std.proofs.lemmas.Bool.{eq-eqb, eqb-true}
 use Rattle.tv_simplex.specs.Outcomes.{IsShort}
 use Rattle.tv_linear.specs.Linear.{columns}
 use Rattle.tv_linear.specs.declared.region.Piece.{Piece}
-use Rattle.tv_linear.proofs.ListLaws.{take_past, true_test, test_true, take_more}
+use Rattle.tv_linear.proofs.ListLaws.{take_past, take_more}
 use Rattle.tv_cases.specs.LinearCases.{LinearCase, IsCase, from_of, leaving}
 use Rattle.tv_choice.specs.Leading.{place_of, pieces_at, piece_rows}
 use Rattle.tv_places.proofs.PlaceLemmas.{past_end}
@@ -72,8 +73,8 @@ leaving_from l cs k c e =
     let test : LinearCase → Bool = λ q. from_of q == l in
     let within = slice_get_within (leaving l cs) k c e in
     let is = get_or_from_slice_get (leaving l cs) k c c e in
-    true_test (from_of c) l (subst (λ q. test q ≡ true) is (filter_passes test cs k c within))
+    eqb-true (from_of c) l (subst (λ q. test q ≡ true) is (filter_passes test cs k c within))
 
 -- a case from the location is among those that leave it
 pub Contains-leaving : (l : ℕ) (cases : List LinearCase) (c : LinearCase) → c.from ≡ l → Contains cases c → Contains (leaving l cases) c
-Contains-leaving l cases c e h = Contains-filter (λ q. from_of q == l) cases c (test_true (from_of c) l e) h
+Contains-leaving l cases c e h = Contains-filter (λ q. from_of q == l) cases c (eq-eqb (from_of c) l e) h

@@ -7,6 +7,7 @@ use Rattle.std.proofs.lemmas.Int.{ints}
 use Rattle.std.proofs.lemmas.List.{length-map, map-append}
 use Rattle.std.proofs.lemmas.Option.{slice_get_within, get_or_from_slice_get}
 use Rattle.std.proofs.lemmas.List.Elements.{All-nil, All-cons, All-head, All-tail, All-push, All-contains, All-contains_itself, Contains-append_left}
+use Rattle.std.proofs.lemmas.Bool.{eq-eqb}
 use Rattle.tv_linear.specs.Linear.{Linear, columns, value, IsMet, scaled_value}
 use Rattle.tv_linear.specs.Arithmetic.{denial}
 use Rattle.tv_linear.specs.Known.{Known, given, denied, as_given, term_value}
@@ -21,7 +22,7 @@ use Rattle.tv_linear.proofs.KnownLemmas.{refuted, met-as_given, length-given}
 use Rattle.tv_linear.proofs.RowValues.{value-denial}
 use Rattle.tv_linear.specs.Same.{SameNumbers, AreSame}
 use Rattle.tv_linear.proofs.SameLemmas.{same_self, refutes_same}
-use Rattle.tv_linear.proofs.ListLaws.{test_true, all_front, all_back}
+use Rattle.tv_linear.proofs.ListLaws.{all_front, all_back}
 use Rattle.tv_simplex.proofs.Ring.{by_sign}
 use Rattle.tv_farkas.specs.Refuting.{AreShort}
 use Rattle.tv_farkas.specs.Paths.{IsWholePoint}
@@ -289,7 +290,7 @@ module _ (n : ℕ) (q : Query) where
           let d = s.step.does in
           let gives = d.gives ∙ ap (λ k. map (term_value (xs ++ s.step.draws)) (terms_after k c.updates)) g.inside.width in
           h c s.step.among (sym d.leaves) s.piece
-          (Contains-filter (λ p. place_of p == c.to) q.pieces s.piece (test_true (place_of s.piece) c.to (sym s.inside.place ∙ d.enters)) s.among)
+          (Contains-filter (λ p. place_of p == c.to) q.pieces s.piece (eq-eqb (place_of s.piece) c.to (sym s.inside.place ∙ d.enters)) s.among)
           s.step.draws d.drawn d.guards (subst (λ vs. All (IsMet vs) (piece_rows s.piece)) gives s.inside.inside)
 
   whole_scaled : (rows : List Linear) (xs : List ℤ) → All (IsMet xs) rows → All (λ r. scaled_value r xs (pos 1) ≤ℤ pos 0) rows

@@ -6,6 +6,7 @@ use Rattle.std.proofs.lemmas.Option.{slice_get_read, slice_get_within, get_or_fr
 use Rattle.std.proofs.lemmas.Int.{ints}
 use Rattle.std.proofs.lemmas.List.{get_or_past, map-append, append-nil, take-append-drop, length-map}
 use Rattle.std.proofs.lemmas.List.Elements.{All-nil, All-cons, All-head, All-tail, All-push, All-append}
+use Rattle.std.proofs.lemmas.Bool.{cases_lt}
 use Rattle.tv_linear.specs.Linear.{Linear, columns, value, IsMet, IsWithin, IsNarrow}
 use Rattle.tv_linear.specs.Arithmetic.{unit, column_row, composed as composed_row}
 use Rattle.tv_linear.specs.Fits.{FitsComposed, IsFirstWide, IsFaultWhere}
@@ -21,7 +22,7 @@ use Rattle.tv_linear.proofs.RowValues.{value-column_row, value-denial, value-com
 use Rattle.tv_linear.specs.Same.{SameNumbers, AreSame}
 use Rattle.tv_linear.proofs.SameLemmas.{all_same, same_push}
 use Rattle.tv_linear.proofs.KnownLemmas.{as_given-append}
-use Rattle.tv_linear.proofs.ListLaws.{all_back, all_front, take_next, below_or_not}
+use Rattle.tv_linear.proofs.ListLaws.{all_back, all_front, take_next}
 use Rattle.tv_farkas.specs.Paths.{at_most_row, at_least_row, IsWholePoint}
 use Rattle.tv_farkas.specs.Unmade.{IsUnmadeBy}
 use Rattle.tv_cases.specs.EdgeCases.{columns_from}
@@ -53,7 +54,7 @@ all_map P Q [] f h = All-nil Q
 all_map P Q (x ∷ xs) f h = All-cons Q x xs (f x (All-head P x xs h)) (all_map P Q xs f (All-tail P x xs h))
 
 narrow_at : (r : Linear) → IsNarrow r → IsNarrowRow r
-narrow_at r h column l = elim (below_or_not column (columns r)) [
+narrow_at r h column l = elim (cases_lt column (columns r)) [
   | inl i ↦ h.coefficients column r.constant i
   | inr p ↦ subst (IsWithin 62) (sym (get_or_past r.coefficients column r.constant p)) h.constant
 ]

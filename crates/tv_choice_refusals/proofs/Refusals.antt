@@ -6,7 +6,6 @@ use Rattle.std.proofs.lemmas.List.Elements.{All-filter, All-contains_itself, fil
 use Rattle.tv_linear.specs.Linear.{Linear, linear, columns}
 use Rattle.tv_linear.specs.Arithmetic.{unit, opposite, denial, composed as with_terms, padded_row}
 use Rattle.tv_linear.specs.declared.region.Piece.{Piece}
-use Rattle.tv_linear.proofs.ListLaws.{true_test}
 use Rattle.tv_cases.specs.LinearCases.{LinearCase, CaseSystem, from_of, leaving}
 use Rattle.tv_cases.specs.Before.{before}
 use Rattle.tv_cases.proofs.ContainsLemmas.{Contains-here, Contains-later, Contains-map, Contains-from_map}
@@ -17,6 +16,7 @@ use Rattle.tv_farkas.specs.EmptyPaths.{IsWholePointOf, IsEmptyPath}
 use Rattle.tv_farkas.specs.Refuting.{IsSystemFault}
 use Rattle.tv_simplex.specs.declared.fault.SolveFault.{SolveFault}
 use Rattle.std.proofs.lemmas.Option.{slice_get_within, get_or_from_slice_get}
+use Rattle.std.proofs.lemmas.Bool.{eqb-true}
 use Rattle.tv_cover.specs.Targets.{AreEven, IsNarrowRow}
 use Rattle.tv_choice.specs.Rows.{fixes, case_rows, put_terms}
 use Rattle.tv_choice.specs.Leading.{IsServed, IsEntry, place_of, piece_rows, pieces_at}
@@ -139,7 +139,7 @@ module _ (about : CaseSystem) (base : List Placed) (h l : ℕ) (stop : Bool) (pi
       let k = e.enters.0 in
       let within = e.enters.1 in
       let is = e.enters.2 in
-      (true_test (place_of p) c.to (subst (λ x. test x ≡ true) is (filter_passes test pieces k p within)), subst (Contains pieces) is (All-filter test (Contains pieces) pieces (All-contains_itself pieces) k p within))
+      (eqb-true (place_of p) c.to (subst (λ x. test x ≡ true) is (filter_passes test pieces k p within)), subst (Contains pieces) is (All-filter test (Contains pieces) pieces (All-contains_itself pieces) k p within))
 
   owed_derived : (c : LinearCase) (p : Piece) (r : Linear) → IsEntry (asked_of about l stop pieces) c p → Contains (piece_rows p) r → IsDerived about base (at_location c.to) h r
   owed_derived c p r e among = let t = piece_there c p e in subst (λ k. IsDerived about base (at_location k) h r) t.0 (into p t.1 r among)
@@ -354,7 +354,7 @@ module _ (about : CaseSystem) (base : List Placed) (h l : ℕ) (stop : Bool) (pi
       let k = of.0 in
       let within = of.1 in
       let is = of.2 in
-      (subst (Contains about.cases) is (All-filter test (Contains about.cases) about.cases (All-contains_itself about.cases) k c within), true_test (from_of c) l (subst (λ x. test x ≡ true) is (filter_passes test about.cases k c within)))
+      (subst (Contains about.cases) is (All-filter test (Contains about.cases) about.cases (All-contains_itself about.cases) k c within), eqb-true (from_of c) l (subst (λ x. test x ≡ true) is (filter_passes test about.cases k c within)))
 
   choice_too_wide : (rows : List Linear) (column : ℕ) → AreListed about base (at_location l) (suc h) rows → IsWideChoice about.variables (asked_of about l stop pieces) rows column → IsWideStep about base (suc h) column
   choice_too_wide rows column listed (target w) = cases_too_wide column (leaving l about.cases) leaves_there w

@@ -18,9 +18,8 @@ use Rattle.tv_cover.specs.Halving.{IsBare, AreRowSides}
 use Rattle.tv_cover.specs.Stepping.{AreHalves}
 use Rattle.tv_cover.proofs.PointLemmas.{point_above, point_front, open_above, shut_above, denied_new, met_new}
 use Rattle.std.proofs.Math.IntN.{neg_ℤ-neg_ℤ}
-use Rattle.tv_linear.proofs.ListLaws.{get_or-past}
 use Rattle.tv_linear.proofs.HeldLemmas.{opposite_held, less_held}
-use Rattle.std.proofs.lemmas.List.{length-map}
+use Rattle.std.proofs.lemmas.List.{length-map, get_or_past}
 
 -- ---- a row and its denial
 pub narrow_inner : (cs : List ℤ) (k : ℤ) → ((column : ℕ) → column ≤ length cs → unsigned_abs (get_or cs column k) < 2 ^ 62) → (j : ℕ) → unsigned_abs (get_or cs j (pos 0)) < 2 ^ 62
@@ -40,7 +39,7 @@ row_side n row narrow = record {
 }
   where
     held : (column : Option ℕ) → KnownHeld (denied (given (denial row))) column
-    held None = (tt, less_held (pos 1 -ℤ row.constant) (subst (λ z. unsigned_abs z < 2 ^ 62) (get_or-past (map neg_ℤ row.coefficients) (columns (denial row)) (pos 1 -ℤ row.constant) (omega arith)) (narrow (columns (denial row)) (omega arith))))
+    held None = (tt, less_held (pos 1 -ℤ row.constant) (subst (λ z. unsigned_abs z < 2 ^ 62) (get_or_past (map neg_ℤ row.coefficients) (columns (denial row)) (pos 1 -ℤ row.constant) (omega arith)) (narrow (columns (denial row)) (omega arith))))
     held (Some j) = (tt, opposite_held (get_or (map neg_ℤ row.coefficients) j (pos 0)) (narrow_inner (map neg_ℤ row.coefficients) (pos 1 -ℤ row.constant) narrow j))
 
 bare_splits : (n : ℕ) (lists : List (List Linear)) (above : List Linear) (row : Linear) {A : Type 0} (o : Option (Vec ℤ A × ℤ)) → IsBare o → IsRowSplit n lists above row → SplitsBy n lists above row o

@@ -12,7 +12,7 @@ use Rattle.tv_linear.specs.Refutation.{Refutes}
 use Rattle.tv_linear.specs.Depth.{splits}
 use Rattle.tv_linear.specs.Linear.{Linear, columns, IsMet, scaled_value}
 use Rattle.tv_linear.specs.Known.{Known, given, denied, as_given, KnownHeld, IsKnownMet}
-use Rattle.tv_linear.proofs.ListLaws.{all_front, get_or-past}
+use Rattle.tv_linear.proofs.ListLaws.{all_front}
 use Rattle.tv_farkas.specs.declared.branch.Branch.{Branch}
 use Rattle.tv_farkas.specs.declared.fault.CoverFault.{CoverFault}
 use Rattle.tv_farkas.specs.declared.fault.CoverFault.TheVariants as faults
@@ -38,7 +38,7 @@ use Rattle.tv_cover.specs.Searching.{Searches, SearchesAt, IsTreeOf, IsSideTree,
 use Rattle.tv_cover.proofs.PointLemmas.{all_kept, point_above, point_kept, point_with}
 use Rattle.tv_cover.proofs.LookLemmas.{showing_short}
 use Rattle.tv_cover.proofs.HalfLemmas.{narrow_inner}
-use Rattle.std.proofs.lemmas.List.{append-nil}
+use Rattle.std.proofs.lemmas.List.{append-nil, get_or_past}
 use Rattle.std.proofs.lemmas.Option.{same_Some}
 use Rattle.tv_linear.proofs.HeldLemmas.{narrow_held}
 
@@ -177,7 +177,7 @@ denial_side n row narrow = record {
 }
   where
     held : (column : Option ℕ) → KnownHeld (denied (given row)) column
-    held None = (tt, narrow_held (pos 1 -ℤ row.constant) (subst (λ z. unsigned_abs z < 2 ^ 62) (get_or-past (map neg_ℤ row.coefficients) (columns (denial row)) (pos 1 -ℤ row.constant) (omega arith)) (narrow (columns (denial row)) (omega arith))))
+    held None = (tt, narrow_held (pos 1 -ℤ row.constant) (subst (λ z. unsigned_abs z < 2 ^ 62) (get_or_past (map neg_ℤ row.coefficients) (columns (denial row)) (pos 1 -ℤ row.constant) (omega arith)) (narrow (columns (denial row)) (omega arith))))
     held (Some j) = (tt, narrow_held (neg_ℤ (get_or row.coefficients j (pos 0))) (subst (λ z. unsigned_abs z < 2 ^ 62) (get_or-neg row.coefficients j) (narrow_inner (map neg_ℤ row.coefficients) (pos 1 -ℤ row.constant) narrow j)))
 
 module _ (n : ℕ) (marks : List Bool) (rows kept first path : List Linear) (sides : List Known) (marked : IsTakenBy marks rows first) (parts : kept ≡ first ++ path) (s : AreSides n path sides) where

@@ -16,8 +16,7 @@ use Rattle.tv_farkas.specs.Stretching.{stretched}
 use Rattle.tv_cover.specs.Targets.{IsNarrowRow}
 use Rattle.tv_cover.specs.Looking.{IsShowing}
 use Rattle.tv_cover.proofs.HalfLemmas.{narrow_inner}
-use Rattle.std.proofs.lemmas.List.{length-map}
-use Rattle.tv_linear.proofs.ListLaws.{get_or-past}
+use Rattle.std.proofs.lemmas.List.{length-map, get_or_past}
 
 -- ---- the sums
 zeros_sum : (column : Option ℕ) (kept : List Linear) (last : Linear) → column_sum (zeros (length kept) ++ pos 1 ∷ []) (as_given (kept ++ last ∷ [])) column ≡ number column last
@@ -116,7 +115,7 @@ pair_refutes n kept i row l e narrow = record {
     inner j = narrow_inner (map neg_ℤ row.coefficients) (pos 1 -ℤ row.constant) narrow j
 
     last : unsigned_abs (pos 1 -ℤ row.constant) < 2 ^ 62
-    last = subst (λ z. unsigned_abs z < 2 ^ 62) (get_or-past (map neg_ℤ row.coefficients) (columns (denial row)) (pos 1 -ℤ row.constant) (omega arith)) (narrow (columns (denial row)) (omega arith))
+    last = subst (λ z. unsigned_abs z < 2 ^ 62) (get_or_past (map neg_ℤ row.coefficients) (columns (denial row)) (pos 1 -ℤ row.constant) (omega arith)) (narrow (columns (denial row)) (omega arith))
 
     own : (a b : ℤ) → b ≡ neg_ℤ a → unsigned_abs b < 2 ^ 62 → unsigned_abs a < 2 ^ 64
     own a b g h = omega (arith, ints, g, h)

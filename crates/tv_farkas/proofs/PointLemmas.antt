@@ -9,10 +9,9 @@ use Rattle.tv_simplex.specs.Systems.{entry_at, right_at}
 use Rattle.tv_simplex.specs.Outcomes.{IsBarrierOf}
 use Rattle.tv_farkas.specs.RefutationSystem.{refutation_system}
 use Rattle.tv_farkas.proofs.SystemLemmas.{row_at, get_or-any, at_of, entry_is, right_inner, right_last, dot-total}
-use Rattle.std.proofs.lemmas.List.{get_or-map}
+use Rattle.std.proofs.lemmas.List.{get_or-map, get_or_past}
 use Rattle.std.proofs.lemmas.List.Elements.{All-from_get_or}
 use Rattle.tv_simplex.proofs.Sums.{total-last, total-zero}
-use Rattle.tv_linear.proofs.ListLaws.{get_or-past}
 use Rattle.tv_simplex.proofs.Ring.{times_zero}
 
 opposite_at : (xs : List ℤ) (k : ℕ) → k < length xs → get_or (map neg_ℤ xs) k (pos 0) ≡ neg_ℤ (get_or xs k (pos 0))
@@ -44,7 +43,7 @@ module _ (n : ℕ) (rows : List Linear) (even : All (λ r. columns r ≡ n) rows
       omega (arith, ints, inner, d, e, s)
     where
       constant_is : (r : Linear) → columns r ≡ n → entry r n ≡ r.constant
-      constant_is r e = get_or-past r.coefficients n r.constant (omega (arith, e))
+      constant_is r e = get_or_past r.coefficients n r.constant (omega (arith, e))
 
       each : (k : ℕ) → k < n → columns (row_at rows i) ≡ n → get_or (map neg_ℤ (values ++ scale ∷ [])) k (pos 0) *ℤ entry_at (refutation_system n rows) k i ≡ neg_ℤ (get_or (row_at rows i).coefficients k (pos 0) *ℤ get_or values k (pos 0))
       each k g cols =

@@ -14,9 +14,9 @@ use Rattle.tv_simplex.specs.Systems.{Equations, IsWhole, entry_at, right_at}
 use Rattle.tv_simplex.specs.Outcomes.{IsShort, IsSolutionOf, IsNarrowSystem}
 use Rattle.tv_simplex.proofs.SettleLemmas.{given_left}
 use Rattle.tv_farkas.specs.RefutationSystem.{numbers_below, refutation_system}
-use Rattle.std.proofs.lemmas.List.{get_or-map, length-map}
+use Rattle.std.proofs.lemmas.List.{get_or-map, length-map, get_or_past}
 use Rattle.tv_simplex.proofs.ScaleLemmas.{scaled_up}
-use Rattle.tv_linear.proofs.ListLaws.{get_or-past, same_or_below}
+use Rattle.tv_linear.proofs.ListLaws.{same_or_below}
 
 abbrev pub row_at : List Linear → ℕ → Linear
 row_at rows i = get_or rows i (record { coefficients = []; constant = pos 0 })
@@ -81,7 +81,7 @@ place_of n None = n
 place_of n (Some j) = j
 
 number_entry : (n : ℕ) (column : Option ℕ) (r : Linear) → columns r ≡ n → (place_of n column < n) ⊎ (column ≡ None) → number column r ≡ entry r (place_of n column)
-number_entry n None r e h = sym (get_or-past r.coefficients n r.constant (omega (arith, e)))
+number_entry n None r e h = sym (get_or_past r.coefficients n r.constant (omega (arith, e)))
 number_entry n (Some j) r e (inl l) = get_or-any r.coefficients j (pos 0) r.constant (omega (arith, e, l))
 number_entry n (Some j) r e (inr z) = cc
 

@@ -7,7 +7,7 @@ use Rattle.tv_formula.specs.Views.{properties_of}
 use Rattle.tv_formula.specs.Forms.{is_mark, is_normal, are_normal}
 use Rattle.tv_formula.specs.Normal.{negation, normal, negations, normals}
 use Rattle.tv_formula.specs.Limits.{property_fits, properties_fit, operators, most_operators, nots, most_nots, IsFormula}
-use Rattle.std.proofs.lemmas.Bool.{and_from}
+use Rattle.std.proofs.lemmas.Bool.{and_from, and_parts}
 
 -- the parts of a list, one by one
 pub negations_of : (fs : List Property) → negations (properties_of fs) ≡ properties_of (map negation fs)
@@ -61,14 +61,6 @@ mark_nots (some_of fs) h = absurd cc
 mark_nots (next p f) h = absurd cc
 mark_nots (fix p s f g) h = absurd cc
 
-pub left_true : (a b : Bool) → (a && b) ≡ true → a ≡ true
-left_true true b h = refl
-left_true false b h = absurd cc
-
-pub right_true : (a b : Bool) → (a && b) ≡ true → b ≡ true
-right_true true b h = h
-right_true false b h = absurd cc
-
 mutual
   normal_nots : (f : Property) → is_normal f ≡ true → nots f ≤ 1
   normal_nots (truth b) h = omega arith
@@ -79,11 +71,11 @@ mutual
   normal_nots (all_of fs) h = normals_nots fs h
   normal_nots (some_of fs) h = normals_nots fs h
   normal_nots (next p f) h = normal_nots f h
-  normal_nots (fix p s f g) h = let a = normal_nots f (left_true _ _ h) in let b = normal_nots g (right_true (is_normal f) _ h) in omega arith
+  normal_nots (fix p s f g) h = let a = normal_nots f ((and_parts _ _ h).0) in let b = normal_nots g ((and_parts (is_normal f) _ h).1) in omega arith
 
   normals_nots : (fs : Properties) → are_normal fs ≡ true → most_nots fs ≤ 1
   normals_nots none h = omega arith
-  normals_nots (more f fs) h = let a = normal_nots f (left_true _ _ h) in let b = normals_nots fs (right_true (is_normal f) _ h) in omega arith
+  normals_nots (more f fs) h = let a = normal_nots f ((and_parts _ _ h).0) in let b = normals_nots fs ((and_parts (is_normal f) _ h).1) in omega arith
 
 -- the same operators lie on a path
 mutual

@@ -3,6 +3,7 @@ use Rattle.std.proofs.Common.{◌≡◌, ◌⊎◌, inl, inr, ℕ, zero, suc, �
 use Rattle.std.proofs.lemmas.List.{append-nil}
 use Rattle.std.proofs.lemmas.Bool.Decides.{nat_tests}
 use Rattle.std.specs.Prelude.{nat_lt}
+use Rattle.std.proofs.lemmas.Bool.{lt-ltb, ltb-true}
 use Rattle.tv_grammar.specs.Reads.{Fault, faulty, fault, next}
 use Rattle.tv_grammar.specs.Exact.{Found, Least, Exact, Outside}
 use Rattle.tv_grammar.proofs.Results.{ok_is, next_same}
@@ -11,7 +12,6 @@ use Rattle.tv_reading.specs.Marks.{Kind, Syntax, Wide, Deep, NotLinear, TwoStart
 use Rattle.tv_reading.specs.SumGrammar as sums
 use Rattle.tv_formula_reader.specs.Seen.{Seen, marks}
 use Rattle.tv_formula_reader.specs.Choice.{Grammar, mark_at, last, lifted_read, Marked, lifted, OfEither, further, or_further, either_read, either}
-use Rattle.tv_reading.proofs.PassedLemmas.{less_is, is_less}
 
 -- ---- lists
 
@@ -193,7 +193,7 @@ pub shorter_not : (m n : ℕ) → nat_lt m n ≡ false → n ≤ m
 shorter_not m n e = grind (arith, nat_tests)
 
 pub first_further : {X : Type 0} (r : List Seen) (k : Kind) (s : List Seen) → length r < length s → further {X = X} r k s ≡ fault Syntax r
-first_further r k s l = rw (less_is (length r) (length s) l) refl
+first_further r k s l = rw (lt-ltb (length r) (length s) l) refl
 
 pub second_further : {X : Type 0} (r : List Seen) (k : Kind) (s : List Seen) → length s ≤ length r → further {X = X} r k s ≡ fault k s
 second_further r k s l = rw (not_shorter (length r) (length s) l) refl
@@ -280,7 +280,7 @@ module _ {X : Type 0} (a b : Grammar X) (h : Exact a) (i : Exact b) (halts : (d 
       at j u is true l g =
           let kind : Syntax ≡ k = cc in
           let left : s ≡ r = cc in
-          subst (λ (q : Kind × List Seen). Least (either a b) q.0 ts q.1) (ap (λ (z : Kind). (z, s)) kind ∙ ap (λ (z : List Seen). (k, z)) left) (first_least ts s j u e is (is_less (length s) (length u) l))
+          subst (λ (q : Kind × List Seen). Least (either a b) q.0 ts q.1) (ap (λ (z : Kind). (z, s)) kind ∙ ap (λ (z : List Seen). (k, z)) left) (first_least ts s j u e is (ltb-true (length s) (length u) l))
       at j u is false l g =
           let kind : j ≡ k = cc in
           let left : u ≡ r = cc in

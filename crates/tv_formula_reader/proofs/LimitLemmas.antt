@@ -26,9 +26,8 @@ use Rattle.tv_formula_reader.specs.FormulaTexts as texts
 use Rattle.tv_formula_reader.specs.FormulaTexts.{joined, IsPlain, always, never, ends, located, denied, bracketed, of_one, of_two, IsArgument, enclosed, IsLiteral, comparison, AreLiterals, no_literal, and, IsConjunction, literals, AreConjunctions, no_conjunction, or, conjunctions}
 use Rattle.tv_reading.specs.Marks.{plain, symbol_of, known_name, mark_by, is_formula_word}
 use Rattle.tv_reading.proofs.FitLemmas.{symbol_fits, all_fit, sum_fits, sum_shallow}
-use Rattle.tv_reading.proofs.LinearLemmas.{and_left, and_right}
 use Rattle.tv_formula_reader.proofs.FormulaTexts.{signs_of}
-use Rattle.std.proofs.lemmas.Bool.{and_from}
+use Rattle.std.proofs.lemmas.Bool.{and_from, and_parts}
 
 -- ---- how many operators and negations lie on a path
 
@@ -142,27 +141,27 @@ signs_fit variables locations (t ∷ ts) = sign_fits variables locations t && si
 module _ (v l : ℕ) where
   in_front : (a b : List Sign) → signs_fit v l (a ++ b) ≡ true → signs_fit v l a ≡ true
   in_front [] b h = refl
-  in_front (t ∷ a) b h = and_from _ _ (and_left _ _ h) (in_front a b (and_right (sign_fits v l t) _ h))
+  in_front (t ∷ a) b h = and_from _ _ ((and_parts _ _ h).0) (in_front a b ((and_parts (sign_fits v l t) _ h).1))
 
   behind : (a b : List Sign) → signs_fit v l (a ++ b) ≡ true → signs_fit v l b ≡ true
   behind [] b h = h
-  behind (t ∷ a) b h = behind a b (and_right (sign_fits v l t) _ h)
+  behind (t ∷ a) b h = behind a b ((and_parts (sign_fits v l t) _ h).1)
 
   symbols_fit : (ts : List Sign) → signs_fit v l ts ≡ true → all_fit v 0 (symbols_of ts) ≡ true
   symbols_fit [] h = refl
-  symbols_fit (t ∷ ts) h = and_from _ _ (and_left _ _ (and_left _ _ h)) (symbols_fit ts (and_right (sign_fits v l t) _ h))
+  symbols_fit (t ∷ ts) h = and_from _ _ ((and_parts _ _ ((and_parts _ _ h).0)).0) (symbols_fit ts ((and_parts (sign_fits v l t) _ h).1))
 
   tail : (t : Sign) (ts : List Sign) → signs_fit v l (t ∷ ts) ≡ true → signs_fit v l ts ≡ true
-  tail t ts h = and_right (sign_fits v l t) _ h
+  tail t ts h = (and_parts (sign_fits v l t) _ h).1
 
   all_fit_of : (fs : List Property) → properties_fit v l (properties_of fs) ≡ true → property_fits v l (joined all_of fs) ≡ true
   all_fit_of [] h = refl
-  all_fit_of (f ∷ []) h = and_left _ _ h
+  all_fit_of (f ∷ []) h = (and_parts _ _ h).0
   all_fit_of (f ∷ g ∷ fs) h = h
 
   some_fit_of : (fs : List Property) → properties_fit v l (properties_of fs) ≡ true → property_fits v l (joined some_of fs) ≡ true
   some_fit_of [] h = refl
-  some_fit_of (f ∷ []) h = and_left _ _ h
+  some_fit_of (f ∷ []) h = (and_parts _ _ h).0
   some_fit_of (f ∷ g ∷ fs) h = h
 
   applied_fits : (p : Path) (k : Single) (f : Property) → property_fits v l f ≡ true → property_fits v l (applied p k f) ≡ true
@@ -189,7 +188,7 @@ module _ (v l : ℕ) where
     plain_fit (ends {t = t} {rest = rest} e w) m h = (refl, tail t rest h)
     plain_fit (located {l = k} {a = a} {o = o} {t = t} {c = c} {rest = rest} x y z is w) m h =
         let i = tail o (t ∷ c ∷ rest) (tail a (o ∷ t ∷ c ∷ rest) h) in
-        (label_at k t.label is (and_right (symbol_fits v 0 t.symbol) _ (and_left _ _ i)), tail c rest (tail t (c ∷ rest) i))
+        (label_at k t.label is ((and_parts (symbol_fits v 0 t.symbol) _ ((and_parts _ _ i).0)).1), tail c rest (tail t (c ∷ rest) i))
     plain_fit (denied {t = t} {ts = ts} e p) m h = plain_fit p (omega arith) (tail t ts h)
     plain_fit (bracketed a) m h = argument_fit a (omega arith) h
     plain_fit (of_one {o = o} {t = t} {c = c} {p = p} {k = k} {f = f} {ts = ts} x y z a) m h =

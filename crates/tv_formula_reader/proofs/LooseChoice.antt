@@ -1,6 +1,7 @@
 -- A grammar that asks less, where it is one of marks or has two sides.
 use Rattle.std.proofs.Common.{◌≡◌, inl, inr, ℕ, ◌<◌, ◌≤◌, Bool, true, false, List, length, cond, Result, Ok, Err, refl, sym, ap, subst, ◌∙◌, length-append, arith}
 use Rattle.std.specs.Prelude.{nat_lt}
+use Rattle.std.proofs.lemmas.Bool.{ltb-true}
 use Rattle.tv_grammar.specs.Reads.{Fault, faulty, fault}
 use Rattle.tv_grammar.specs.Exact.{Exact}
 use Rattle.tv_grammar.specs.Faults.{Below, AfterFault, Follows, Loosens}
@@ -9,7 +10,6 @@ use Rattle.tv_reading.specs.SumGrammar as sums
 use Rattle.tv_formula_reader.specs.Seen.{Seen, marks}
 use Rattle.tv_formula_reader.specs.Choice.{Grammar, last, lifted_read, lifted, further, or_further, either_read, either}
 use Rattle.tv_formula_reader.proofs.ChoiceLemmas.{length-marks, length-last, Halts, IsOther, is_other, other_kept, first_further, second_further, shorter_not}
-use Rattle.tv_reading.proofs.PassedLemmas.{is_less}
 
 -- ---- a grammar of marks
 
@@ -93,7 +93,7 @@ module _ {X : Type 0} (kept : Kind → Bool) (syntax : kept Syntax ≡ true) (a 
           rw same (first_further {X = X × List Seen} r k u l)
 
       at : (k : Kind) (u : List Seen) → b.read ts ≡ fault k u → (t : Bool) → nat_lt (length r) (length u) ≡ t → AfterFault (kept k) k u (b'.read ts) → Follows kept (cond t (fault {X = X × List Seen} Syntax r) (fault k u)) (or_further r (b'.read ts))
-      at k u f true l w = first_after (kept Syntax) syntax r (or_further r (b'.read ts)) (still k u f (is_less (length r) (length u) l) w)
+      at k u f true l w = first_after (kept Syntax) syntax r (or_further r (b'.read ts)) (still k u f (ltb-true (length r) (length u) l) w)
       at k u f false l w = second_after ts (kept k) r k u (shorter_not (length r) (length u) l) w
 
       by : (out : Result (X × List Seen) (Fault Seen Kind)) → b.read ts ≡ out → Follows kept out (b'.read ts) → Follows kept (or_further r out) (or_further r (b'.read ts))

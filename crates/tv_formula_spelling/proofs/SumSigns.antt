@@ -15,7 +15,6 @@ use Rattle.tv_language.proofs.PlaceOfWords.{found}
 use Rattle.tv_reading.specs.Marks as marks
 use Rattle.tv_reading.specs.Marks.{plain, is_formula_word}
 use Rattle.tv_reading.proofs.FitLemmas.{all_fit, sum_fits}
-use Rattle.tv_reading.proofs.LinearLemmas.{and_left, and_right}
 use Rattle.tv_reading.proofs.LongestTexts.{plains}
 use Rattle.tv_reading.proofs.PassedLemmas.{symbols-append}
 use Rattle.tv_reading.proofs.SymbolLemmas.{sum_uses}
@@ -33,7 +32,7 @@ use Rattle.tv_spelling.proofs.KnownNames.{AreKnownIn, EachKnown, known_in}
 use Rattle.tv_spelling.proofs.SettledMarks.{AreFree, settled, all_settled, settled_before_end}
 use Rattle.tv_spelling.proofs.FoundAgain.{sum_to_end}
 use Rattle.tv_formula_spelling.proofs.FormulaReady.{AreGood, SumReady}
-use Rattle.std.proofs.lemmas.Bool.{and_from, not-true}
+use Rattle.std.proofs.lemmas.Bool.{and_from, not-true, and_parts}
 
 -- ---- the signs of words and spaces
 
@@ -126,9 +125,9 @@ symbols_as v d [] h = refl
 symbols_as v d (blank ∷ bs) h = symbols_as v d bs h
 symbols_as v d (line_feed ∷ bs) h = symbols_as v d bs h
 symbols_as v d (word kind w ∷ bs) h =
-    let one = one_as v d kind w (and_left _ _ h) in
+    let one = one_as v d kind w ((and_parts _ _ h).0) in
     let behind : pieces.symbols_of v (is_colon kind) (draws_behind kind d) bs ≡ pieces.symbols_of v false (draws_behind kind d) bs = ap (λ (b : Bool). pieces.symbols_of v b (draws_behind kind d) bs) one.no_colon in
-    let again = symbols_as v (draws_behind kind d) bs (ap (all_settled false v.variables) (sym behind) ∙ and_right _ _ h) in
+    let again = symbols_as v (draws_behind kind d) bs (ap (all_settled false v.variables) (sym behind) ∙ (and_parts _ _ h).1) in
     ap (λ (s : Symbol). s ∷ pieces.symbols_of v (is_colon kind) (draws_behind kind d) bs) one.symbol
     ∙ ap (λ (ss : List Symbol). symbol_in v.variables kind w ∷ ss) (behind ∙ again)
 

@@ -3,8 +3,8 @@ use Rattle.std.proofs.Common.{◌≡◌, ℕ, zero, suc, false, List, [], ◌∷
 use Rattle.tv_grammar.specs.Reads.{Fault, faulty, fault, next, first_or}
 use Rattle.tv_grammar.specs.Langs.{Lang, unit, then, mapped, Branch, stop, go, OfBranch, branch_text, branch_value, branch_goes_on, branch_read, headed_read, headed, times, each, refused}
 use Rattle.tv_grammar.specs.Exact.{Found, Least, Exact, ExactBranch}
-use Rattle.tv_grammar.proofs.Results.{bind_ok, bind_err, ok_is, next-append, next_same, not_left, not_right}
-use Rattle.std.proofs.lemmas.Bool.{or_from}
+use Rattle.tv_grammar.proofs.Results.{bind_ok, bind_err, ok_is, next-append, next_same}
+use Rattle.std.proofs.lemmas.Bool.{or_from, or_parts}
 
 -- what stands behind a derivation can be put apart
 pub apart : {T K X : Type 0} (l : Lang T K X) → Exact l → (d : l.Of) (r : List T) → l.text d r ≡ l.text d [] ++ r
@@ -38,8 +38,8 @@ module _ {T K X Y : Type 0} (a : Lang T K X) (b : X → Lang T K Y) (h : Exact a
   then_only : (d : (then a b).Of) (r : List T) → (then a b).goes_on d (next r) ≡ false → (then a b).read ((then a b).text d r) ≡ Ok ((then a b).value d, r)
   then_only d r s =
       let l : Lang T K Y = b (a.value d.0) in
-      let first : a.goes_on d.0 (next (l.text d.1 r)) ≡ false = ap (a.goes_on d.0) (next_behind l (i (a.value d.0)) d.1 r) ∙ not_right _ _ s in
-      rw (h.only d.0 (l.text d.1 r) first) ((i (a.value d.0)).only d.1 r (not_left _ _ s))
+      let first : a.goes_on d.0 (next (l.text d.1 r)) ≡ false = ap (a.goes_on d.0) (next_behind l (i (a.value d.0)) d.1 r) ∙ (or_parts _ _ s).1 in
+      rw (h.only d.0 (l.text d.1 r) first) ((i (a.value d.0)).only d.1 r ((or_parts _ _ s).0))
 
   then_found : (ts : List T) (y : Y) (r : List T) → (then a b).read ts ≡ Ok (y, r) → Found (then a b) ts y r
   then_found ts y r e =

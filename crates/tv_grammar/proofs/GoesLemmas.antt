@@ -1,6 +1,7 @@
 -- At which tokens a derivation could go on, where that does not depend on the derivation.
 use Rattle.std.proofs.Common.{◌≡◌, ℕ, zero, suc, Bool, true, false, List, [], ◌∷◌, Option, Some, None, refl, sym, ap, ◌∙◌}
 use Rattle.std.specs.Prelude.{◌||◌}
+use Rattle.std.proofs.Math.Bool.{or-false}
 use Rattle.tv_grammar.specs.Reads.{first_or}
 use Rattle.tv_grammar.specs.Langs.{Lang, unit, then, mapped, Branch, stop, go, OfBranch, branch_value, is_go, headed, Turns, done, turn, turns_text, turns_go_on, goes_at, turns, times, each}
 use Rattle.tv_grammar.specs.Exact.{Goes, BranchGoes, nowhere, Ends}
@@ -22,16 +23,12 @@ or_false : (a b : Bool) → b ≡ false → (a || b) ≡ a
 or_false true b e = refl
 or_false false b e = e
 
-pub none_or : (b : Bool) → (b || false) ≡ b
-none_or true = refl
-none_or false = refl
-
 -- where what stands behind begins with none of the tokens at which the front goes on
 pub then_goes : {T K X Y : Type 0} (a : Lang T K X) (b : X → Lang T K Y) (ga gb : Option T → Bool) → Goes a ga → ((x : X) → Goes (b x) gb) → ((x : X) (d : (b x).Of) (t : Option T) → ga (first_or ((b x).text d []) t) ≡ false) → Goes (then a b) gb
 then_goes a b ga gb h i split d t =
     ap (λ (v : Bool). v || a.goes_on d.0 (first_or ((b (a.value d.0)).text d.1 []) t)) (i (a.value d.0) d.1 t)
     ∙ ap (λ (v : Bool). gb t || v) (h d.0 (first_or ((b (a.value d.0)).text d.1 []) t) ∙ split (a.value d.0) d.1 t)
-    ∙ none_or (gb t)
+    ∙ or-false (gb t)
 
 -- where the front never goes on
 pub behind_goes : {T K X Y : Type 0} (a : Lang T K X) (b : X → Lang T K Y) (gb : Option T → Bool) → Goes a nowhere → ((x : X) → Goes (b x) gb) → Goes (then a b) gb
@@ -69,4 +66,4 @@ module _ {T K S : Type 0} (cases : S → T → Branch T K S) (c ga : Option T �
 
 -- where an item itself never goes on
 pub turns_goes : {T K S : Type 0} (cases : S → T → Branch T K S) (c : Option T → Bool) → ((s : S) (t : Option T) → goes_at (cases s) t ≡ c t) → ((s : S) (t : T) → BranchGoes (cases s t) nowhere) → (s : S) → Goes (turns cases s) c
-turns_goes cases c is item s d u = sym (none_or (turns_go_on cases s d u)) ∙ tail_goes cases c nowhere is item (λ t e. refl) s d u ∙ none_or (c u)
+turns_goes cases c is item s d u = sym (or-false (turns_go_on cases s d u)) ∙ tail_goes cases c nowhere is item (λ t e. refl) s d u ∙ or-false (c u)

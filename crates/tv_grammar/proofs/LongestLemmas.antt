@@ -6,10 +6,10 @@ use Rattle.tv_grammar.specs.Langs.{Lang, unit, then, mapped, Branch, stop, go, O
 use Rattle.tv_grammar.specs.Exact.{Exact, ExactBranch, Ends}
 use Rattle.tv_grammar.specs.Faults.{Begins}
 use Rattle.tv_grammar.specs.Longest.{IsLongest, Further}
-use Rattle.tv_grammar.proofs.Results.{ok_is, not_left, not_right}
+use Rattle.tv_grammar.proofs.Results.{ok_is}
 use Rattle.tv_grammar.proofs.ExactLemmas.{apart, branch_append}
 use Rattle.tv_grammar.proofs.NarrowLemmas.{Extended}
-use Rattle.std.proofs.lemmas.Bool.{or_cases}
+use Rattle.std.proofs.lemmas.Bool.{or_cases, or_parts}
 
 -- ---- the longest front is read, and no other
 
@@ -61,13 +61,13 @@ module _ {T K X Y : Type 0} (a : Lang T K X) (b : X → Lang T K Y) (h : Exact a
   pub then_further : Further (then a b)
   then_further d n t g = elim (or_cases _ _ g) [
     | inl x ↦
-        let w = fb (a.value d.0) d.1 (not_left _ _ n) t x in
+        let w = fb (a.value d.0) d.1 ((or_parts _ _ n).0) t x in
         record {
           it = (d.0, w.it);
           more = w.more;
           whole = ap (a.text d.0) w.whole ∙ h.append d.0 ((b (a.value d.0)).text d.1 [] ++ t ∷ []) w.more ∙ ap (λ (us : List T). us ++ w.more) (h.append d.0 ((b (a.value d.0)).text d.1 []) (t ∷ []));
         }
-    | inr x ↦ at_front d ((b (a.value d.0)).text d.1 []) refl (not_right _ _ n) t x
+    | inr x ↦ at_front d ((b (a.value d.0)).text d.1 []) refl ((or_parts _ _ n).1) t x
   ]
 
 pub mapped_further : {T K X Y : Type 0} (f : X → Y) (l : Lang T K X) → Further l → Further (mapped f l)
@@ -109,13 +109,13 @@ module _ {T K S : Type 0} (cases : S → T → Branch T K S) (h : (s : S) (t : T
   further_turns s (turn u d ds) n t g = elim (or_cases _ _ g) [
     | inl x ↦
         let v : S = branch_value (cases s u) d in
-        let w = further_turns v ds (not_left _ _ n) t x in
+        let w = further_turns v ds ((or_parts _ _ n).0) t x in
         record {
           it = turn u d w.it;
           more = w.more;
           whole = ap (λ (vs : List T). u ∷ vs) (ap (branch_text (cases s u) d) w.whole ∙ branch_append (cases s u) (h s u) d (turns_text cases v ds [] ++ t ∷ []) w.more ∙ ap (λ (us : List T). us ++ w.more) (branch_append (cases s u) (h s u) d (turns_text cases v ds []) (t ∷ [])));
         }
-    | inr x ↦ at_item s u d (turns_text cases (branch_value (cases s u) d) ds []) (not_right _ _ n) t x
+    | inr x ↦ at_item s u d (turns_text cases (branch_value (cases s u) d) ds []) ((or_parts _ _ n).1) t x
   ]
 
   pub turns_further : (s : S) → Further (turns cases s)

@@ -28,10 +28,3 @@ pub next_same : {T : Type 0} (a r s : List T) → next r ≡ next s → next (a 
 next_same [] r s e = e
 next_same (t ∷ a) r s e = refl
 
-pub not_left : (a b : Bool) → (a || b) ≡ false → a ≡ false
-not_left false b h = refl
-not_left true b h = absurd cc
-
-pub not_right : (a b : Bool) → (a || b) ≡ false → b ≡ false
-not_right false b h = h
-not_right true b h = absurd cc

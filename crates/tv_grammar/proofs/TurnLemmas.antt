@@ -3,9 +3,9 @@ use Rattle.std.proofs.Common.{◌≡◌, ℕ, zero, suc, ◌<◌, ◌≤◌, fal
 use Rattle.tv_grammar.specs.Reads.{Fault, faulty, Read, fault, next, first_or}
 use Rattle.tv_grammar.specs.Langs.{Branch, stop, go, OfBranch, branch_text, branch_value, branch_goes_on, is_go, Turns, done, turn, turns_text, turns_value, turns_go_on, goes_at, turn_read, turns_read, turns}
 use Rattle.tv_grammar.specs.Exact.{Exact, ExactBranch}
-use Rattle.tv_grammar.proofs.Results.{bind_ok, bind_err, ok_is, clash, next-append, next_same, not_left, not_right}
+use Rattle.tv_grammar.proofs.Results.{bind_ok, bind_err, ok_is, clash, next-append, next_same}
 use Rattle.tv_grammar.proofs.ExactLemmas.{branch_append}
-use Rattle.std.proofs.lemmas.Bool.{or_from}
+use Rattle.std.proofs.lemmas.Bool.{or_from, or_parts}
 
 turn_only : {T K S : Type 0} (b : Branch T K S) → ExactBranch b → (again : S → Read T K S) (s : S) (d : OfBranch b) (here us : List T) → branch_goes_on b d (next us) ≡ false → turn_read b again s here (branch_text b d us) ≡ again (branch_value b d) us
 turn_only (stop k) h again s d here us n = absurd d
@@ -71,8 +71,8 @@ module _ {T K S : Type 0} (cases : S → T → Branch T K S) (h : (s : S) (t : T
   turns_only s done (suc n) r off le = ends_at n s r off
   turns_only s (turn t d ds) (suc n) r off le =
       let us : List T = turns_text cases (branch_value (cases s t) d) ds r in
-      let stops : branch_goes_on (cases s t) d (next us) ≡ false = ap (branch_goes_on (cases s t) d) (behind (branch_value (cases s t) d) ds r) ∙ not_right _ _ off in
-      turn_only (cases s t) (h s t) (turns_read cases n) s d (t ∷ branch_text (cases s t) d us) us stops ∙ turns_only (branch_value (cases s t) d) ds n r (not_left _ _ off) (omega (arith, branch_long s t d us))
+      let stops : branch_goes_on (cases s t) d (next us) ≡ false = ap (branch_goes_on (cases s t) d) (behind (branch_value (cases s t) d) ds r) ∙ (or_parts _ _ off).1 in
+      turn_only (cases s t) (h s t) (turns_read cases n) s d (t ∷ branch_text (cases s t) d us) us stops ∙ turns_only (branch_value (cases s t) d) ds n r ((or_parts _ _ off).0) (omega (arith, branch_long s t d us))
 
   record TurnsFound (s : S) (ts : List T) (x : S × List T) : Type 0 where
     it : Turns cases s

@@ -3,9 +3,9 @@ use Rattle.std.proofs.Common.{◌≡◌, ◌⊎◌, inl, inr, ℕ, zero, suc, �
 use Rattle.std.specs.Prelude.{◌==◌}
 use Rattle.std.specs.List.{slice_get, filter, Contains}
 use Rattle.std.proofs.lemmas.List.Elements.{All-contains, All-filter, All-map, Contains-get_or}
+use Rattle.std.proofs.lemmas.Bool.{eq-eqb, eqb-true}
 use Rattle.tv_linear.specs.Linear.{Linear, columns}
 use Rattle.tv_linear.specs.declared.region.Piece.{Piece}
-use Rattle.tv_linear.proofs.ListLaws.{test_true, true_test}
 use Rattle.tv_candidates.specs.declared.candidate.Candidate.{Candidate}
 use Rattle.tv_invariant.specs.Rows.{IsStronger}
 use Rattle.tv_invariant.specs.Places.{row_of, place_of, rows_at}
@@ -49,7 +49,7 @@ module _ (l : ℕ) where
   pub in_rows : (list : List Candidate) (c : Candidate) → Contains list c → c.location ≡ l → Contains (rows_at l list) c.row
   in_rows [] c a e = absurd (Contains-none c a)
   in_rows (d ∷ list) c a e = elim (Contains-cases d c list a) [
-    | inl same ↦ subst (Contains (rows_at l (d ∷ list))) (ap row_of same) (cond_head (place_of d == l) d (filter (λ x. place_of x == l) list) (test_true (place_of d) l (ap place_of same ∙ e)))
+    | inl same ↦ subst (Contains (rows_at l (d ∷ list))) (ap row_of same) (cond_head (place_of d == l) d (filter (λ x. place_of x == l) list) (eq-eqb (place_of d) l (ap place_of same ∙ e)))
     | inr r ↦ cond_tail (place_of d == l) d (filter (λ x. place_of x == l) list) c.row (in_rows list c r e)
   ]
 
@@ -63,7 +63,7 @@ module _ (l : ℕ) where
 
       by_test : (b : Bool) → (place_of d == l) ≡ b → Contains (map row_of (cond b (d ∷ filter (λ x. place_of x == l) list) (filter (λ x. place_of x == l) list))) r → (Contains (rows_at l list) r → (c : Candidate) × Contains list c × (c.location ≡ l) × (c.row ≡ r)) → (c : Candidate) × Contains (d ∷ list) c × (c.location ≡ l) × (c.row ≡ r)
       by_test true e g rest = elim (Contains-cases d.row r (map row_of (filter (λ x. place_of x == l) list)) g) [
-        | inl same ↦ (d, Contains-here d list, true_test (place_of d) l e, same)
+        | inl same ↦ (d, Contains-here d list, eqb-true (place_of d) l e, same)
         | inr k ↦ behind (rest k)
       ]
       by_test false e g rest = behind (rest g)

@@ -7,7 +7,6 @@ use Rattle.std.specs.List.{Contains, slice_get}
 use Rattle.tv_linear.specs.Linear.{IsMet}
 use Rattle.tv_linear.specs.Known.{term_value}
 use Rattle.tv_linear.specs.Terms.{terms_after}
-use Rattle.tv_linear.proofs.ListLaws.{true_test}
 use Rattle.tv_program.specs.Steps.{State}
 use Rattle.tv_program.specs.Runs.{IsRun, last_of}
 use Rattle.tv_cases.specs.LinearCases.{LinearCase, CaseSystem, CaseDoes, CaseSteps, from_of, leaving}
@@ -18,6 +17,7 @@ use Rattle.tv_candidates.proofs.OnRuns.{on_runs}
 use Rattle.tv_invariant.specs.declared.reached.Reached.{Reached}
 use Rattle.tv_invariant.specs.Reached.{state_of, IsReached, IsInNone, AreDrawn}
 use Rattle.std.proofs.lemmas.List.{append-nil}
+use Rattle.std.proofs.lemmas.Bool.{eqb-true}
 
 -- ---- lists
 
@@ -83,7 +83,7 @@ module _ (l : ℕ) (c : LinearCase) where
   at_one : (d : LinearCase) (cs : List LinearCase) (b : Bool) → (from_of d == l) ≡ b → ((k : ℕ) → slice_get (leaving l cs) k ≡ Some c → Contains cs c × (c.from ≡ l)) → (k : ℕ) → slice_get (cond b (d ∷ leaving l cs) (leaving l cs)) k ≡ Some c → Contains (d ∷ cs) c × (c.from ≡ l)
   at_one d cs true t again zero e =
       let s : d ≡ c = cc in
-      (subst (Contains (d ∷ cs)) s (Contains-here d cs), sym (ap from_of s) ∙ true_test (from_of d) l t)
+      (subst (Contains (d ∷ cs)) s (Contains-here d cs), sym (ap from_of s) ∙ eqb-true (from_of d) l t)
   at_one d cs true t again (suc k) e = let r = again k e in (Contains-later d c cs r.0, r.1)
   at_one d cs false t again k e = let r = again k e in (Contains-later d c cs r.0, r.1)
 

@@ -7,7 +7,7 @@ use Rattle.tv_linear.specs.Arithmetic.{padded_row}
 use Rattle.tv_linear.specs.Known.{term_value}
 use Rattle.tv_linear.specs.Terms.{terms_after}
 use Rattle.tv_linear.proofs.PaddedLemmas.{value-padded, padded_even}
-use Rattle.tv_linear.proofs.ListLaws.{test_true, true_test, all_front, all_back}
+use Rattle.tv_linear.proofs.ListLaws.{all_front, all_back}
 use Rattle.tv_farkas.specs.Paths.{IsWholePoint}
 use Rattle.tv_farkas.specs.declared.fault.CoverFault.{CoverFault}
 use Rattle.tv_farkas.specs.declared.fault.CoverFault.TheVariants.{Memory}
@@ -28,6 +28,7 @@ use Rattle.tv_invariant.proofs.SieveLemmas.{sieved_map}
 use Rattle.std.specs.Prelude.{Vec, Result, Ok, Err, IfOk}
 use Rattle.std.specs.Result.{IfErr}
 use Rattle.std.proofs.lemmas.List.{take-append-drop}
+use Rattle.std.proofs.lemmas.Bool.{eq-eqb, eqb-true}
 
 module _ (w l : ℕ) where
   all_rows : List Candidate → List Linear
@@ -39,7 +40,7 @@ module _ (w l : ℕ) where
 
   pub all_at : (P : Linear → Type 0) (now : List Candidate) → ((c : Candidate) → Contains now c → c.location ≡ l → P (padded_row w c.row)) → All P (map (padded_row w) (rows_at l now))
   all_at P [] h = All-nil P
-  all_at P (c ∷ now) h = cond_all P (place_of c == l) c (filter (λ d. place_of d == l) now) (λ e. h c (Contains-here c now) (true_test (place_of c) l e)) (all_at P now (λ d a e. h d (Contains-later c d now a) e))
+  all_at P (c ∷ now) h = cond_all P (place_of c == l) c (filter (λ d. place_of d == l) now) (λ e. h c (Contains-here c now) (eqb-true (place_of c) l e)) (all_at P now (λ d a e. h d (Contains-later c d now a) e))
 
   cond_head : (b : Bool) (c : Candidate) (cs : List Candidate) → b ≡ true → Contains (map (padded_row w) (map row_of (cond b (c ∷ cs) cs))) (padded_row w c.row)
   cond_head true c cs e = Contains-here (padded_row w c.row) (map (padded_row w) (map row_of cs))
@@ -52,7 +53,7 @@ module _ (w l : ℕ) where
   pub in_rows : (now : List Candidate) (c : Candidate) → Contains now c → c.location ≡ l → Contains (map (padded_row w) (rows_at l now)) (padded_row w c.row)
   in_rows [] c a e = absurd (Contains-none c a)
   in_rows (d ∷ now) c a e = elim (Contains-cases d c now a) [
-    | inl same ↦ subst (λ r. Contains (map (padded_row w) (rows_at l (d ∷ now))) (padded_row w r)) (ap row_of same) (cond_head (place_of d == l) d (filter (λ x. place_of x == l) now) (test_true (place_of d) l (ap place_of same ∙ e)))
+    | inl same ↦ subst (λ r. Contains (map (padded_row w) (rows_at l (d ∷ now))) (padded_row w r)) (ap row_of same) (cond_head (place_of d == l) d (filter (λ x. place_of x == l) now) (eq-eqb (place_of d) l (ap place_of same ∙ e)))
     | inr r ↦ cond_tail (place_of d == l) d (filter (λ x. place_of x == l) now) (padded_row w c.row) (in_rows now c r e)
   ]
 

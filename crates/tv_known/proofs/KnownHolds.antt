@@ -1,6 +1,7 @@
 -- Known states are among those where the property holds.
 use Rattle.std.proofs.Common.{◌≡◌, ◌⊎◌, inl, inr, ℕ, true}
 use Rattle.std.specs.Prelude.{All}
+use Rattle.std.proofs.lemmas.Bool.{and_parts}
 use Rattle.tv_formula.specs.declared.tree.Path.{Path}
 use Rattle.tv_formula.specs.declared.tree.Path.TheVariants.{Every, Any}
 use Rattle.tv_formula.specs.declared.tree.Shape.{Shape}
@@ -17,7 +18,6 @@ use Rattle.tv_known.specs.Rounds.{ShrinkingRound, Goes, Stops}
 use Rattle.tv_known.specs.Known.{FixKnown, Known, AllKnown, SomeKnown, NotKnown}
 use Rattle.tv_known.proofs.RankedEnds.{every_run_ends}
 use Rattle.tv_known.proofs.RoundLemmas.{stays_state, growing_right, shrinking_right}
-use Rattle.tv_formula.proofs.NormalLemmas.{left_true, right_true}
 
 module _ (about : CaseSystem) (cases : All (IsCase about.variables about.locations) about.cases) where
   -- ---- a ranked fixed point is met at each state
@@ -88,16 +88,16 @@ module _ (about : CaseSystem) (cases : All (IsCase about.variables about.locatio
       known_holds (next p f) n s is h = next_known (λ t. Known about last f t) (λ t. Holds (CaseSteps about) f t) (λ t i k. known_holds f n t i k) p s is h
       known_holds (fix p w f g) n s is h =
           fix_known last (λ t. Known about last f t) (λ t. Known about last g t) (λ t. Holds (CaseSteps about) f t) (λ t. Holds (CaseSteps about) g t)
-          (λ t i k. known_holds f (left_true (is_normal f) (is_normal g) n) t i k)
-          (λ t i k. known_holds g (right_true (is_normal f) (is_normal g) n) t i k) p w s is h
+          (λ t i k. known_holds f ((and_parts (is_normal f) (is_normal g) n).0) t i k)
+          (λ t i k. known_holds g ((and_parts (is_normal f) (is_normal g) n).1) t i k) p w s is h
 
       all_known : (fs : Properties) → are_normal fs ≡ true → (s : State) → IsStateOf about s → AllKnown about last fs s → AllHold (CaseSteps about) fs s
       all_known none n s is h = tt
-      all_known (more f fs) n s is h = (known_holds f (left_true (is_normal f) (are_normal fs) n) s is h.0, all_known fs (right_true (is_normal f) (are_normal fs) n) s is h.1)
+      all_known (more f fs) n s is h = (known_holds f ((and_parts (is_normal f) (are_normal fs) n).0) s is h.0, all_known fs ((and_parts (is_normal f) (are_normal fs) n).1) s is h.1)
 
       some_known : (fs : Properties) → are_normal fs ≡ true → (s : State) → IsStateOf about s → SomeKnown about last fs s → SomeHolds (CaseSteps about) fs s
       some_known none n s is h = h
       some_known (more f fs) n s is h = elim h [
-        | inl k ↦ inl (known_holds f (left_true (is_normal f) (are_normal fs) n) s is k)
-        | inr k ↦ inr (some_known fs (right_true (is_normal f) (are_normal fs) n) s is k)
+        | inl k ↦ inl (known_holds f ((and_parts (is_normal f) (are_normal fs) n).0) s is k)
+        | inr k ↦ inr (some_known fs ((and_parts (is_normal f) (are_normal fs) n).1) s is k)
       ]

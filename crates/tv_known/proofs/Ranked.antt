@@ -1,13 +1,14 @@
 -- a ranked until is decided
 use Rattle.std.proofs.Common.{◌≡◌, inl, inr, ℕ, true, refl, sym, ap, subst, ◌∙◌}
 use Rattle.std.specs.Prelude.{◌&&◌}
+use Rattle.std.proofs.lemmas.Bool.{and_parts}
 use Rattle.tv_program.specs.Steps.{State}
 use Rattle.tv_formula.specs.declared.tree.Path.TheVariants.{Every}
 use Rattle.tv_formula.specs.declared.tree.Shape.{Shape}
 use Rattle.tv_formula.specs.declared.tree.Shape.TheVariants.{Until, Weak, Release, Strong}
 use Rattle.tv_formula.specs.Properties.{Property, truth, compare, at, term, negated, all_of, some_of, next, fix, Properties, none, more}
 use Rattle.tv_formula.specs.Forms.{is_normal, are_normal, is_local, are_local}
-use Rattle.tv_formula.proofs.NormalLemmas.{normal_normal, left_true, right_true}
+use Rattle.tv_formula.proofs.NormalLemmas.{normal_normal}
 use Rattle.tv_cases.specs.LinearCases.{CaseSystem, CaseSteps}
 use Rattle.tv_meaning.specs.Meaning.{Holds, AllHold, SomeHolds}
 use Rattle.tv_known.specs.Rounds.{HoldSide, EndSides}
@@ -39,15 +40,15 @@ module _ (about : CaseSystem) (last : ℕ) where
     all_known : (fs : Properties) → are_normal fs ≡ true → are_local fs ≡ true → (s : State) → AllHold (CaseSteps about) fs s → AllKnown about last fs s
     all_known none n l s h = tt
     all_known (more f fs) n l s h = (
-      local_known f (left_true (is_normal f) (are_normal fs) n) (left_true (is_local f) (are_local fs) l) s h.0,
-      all_known fs (right_true (is_normal f) (are_normal fs) n) (right_true (is_local f) (are_local fs) l) s h.1,
+      local_known f ((and_parts (is_normal f) (are_normal fs) n).0) ((and_parts (is_local f) (are_local fs) l).0) s h.0,
+      all_known fs ((and_parts (is_normal f) (are_normal fs) n).1) ((and_parts (is_local f) (are_local fs) l).1) s h.1,
     )
 
     some_known : (fs : Properties) → are_normal fs ≡ true → are_local fs ≡ true → (s : State) → SomeHolds (CaseSteps about) fs s → SomeKnown about last fs s
     some_known none n l s h = h
     some_known (more f fs) n l s h = elim h [
-      | inl k ↦ inl (local_known f (left_true (is_normal f) (are_normal fs) n) (left_true (is_local f) (are_local fs) l) s k)
-      | inr k ↦ inr (some_known fs (right_true (is_normal f) (are_normal fs) n) (right_true (is_local f) (are_local fs) l) s k)
+      | inl k ↦ inl (local_known f ((and_parts (is_normal f) (are_normal fs) n).0) ((and_parts (is_local f) (are_local fs) l).0) s k)
+      | inr k ↦ inr (some_known fs ((and_parts (is_normal f) (are_normal fs) n).1) ((and_parts (is_local f) (are_local fs) l).1) s k)
     ]
 
 -- sides that tell more
@@ -68,10 +69,10 @@ module _ (about : CaseSystem) (f : Property) (is : IsRankedUntil about f) where
   sides_normal = ap is_normal (sym is.same) ∙ normal_normal f
 
   left_known : (last : ℕ) (s : State) → Holds (CaseSteps about) is.left s → Known about last is.left s
-  left_known last s h = local_known about last is.left (left_true (is_normal is.left) (is_normal is.right) sides_normal) is.left_local s h
+  left_known last s h = local_known about last is.left ((and_parts (is_normal is.left) (is_normal is.right) sides_normal).0) is.left_local s h
 
   right_known : (last : ℕ) (s : State) → Holds (CaseSteps about) is.right s → Known about last is.right s
-  right_known last s h = local_known about last is.right (right_true (is_normal is.left) (is_normal is.right) sides_normal) is.right_local s h
+  right_known last s h = local_known about last is.right ((and_parts (is_normal is.left) (is_normal is.right) sides_normal).1) is.right_local s h
 
   ranked : (last : ℕ) → IsRanked about is.shape (λ t. Known about last is.left t) (λ t. Known about last is.right t)
   ranked last = record {

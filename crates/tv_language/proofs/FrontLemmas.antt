@@ -3,6 +3,7 @@ use Rattle.std.specs.Prelude.{◌==◌, if◌then◌else◌, cond, nat_lt, not}
 use Rattle.std.specs.List.{position, position_or_len}
 use Rattle.std.proofs.lemmas.List.{take_more, length-take-le}
 use Rattle.std.proofs.lemmas.Bool.Decides.{nat_tests}
+use Rattle.std.proofs.Math.Seq.{take-length}
 use Rattle.tv_language.specs.Fronts.{end_by, end_of_last}
 
 end_by-suc : (b : Bool) (n : ℕ) → 0 < n → end_by b n ≡ suc n
@@ -50,16 +51,12 @@ pub end_of_last-take : (close place end : ℕ) (text : List ℕ) → place < len
 end_of_last-take close place end text inside so_far =
     rw (take_more text place 0 inside, end_of_last-append close (get_or text place 0) (take place text), length-take-le place text (omega arith), so_far) refl
 
-all_taken : (bs : List ℕ) → take (length bs) bs ≡ bs
-all_taken [] = refl
-all_taken (b ∷ bs) = ap (λ (xs : List ℕ). b ∷ xs) (all_taken bs)
-
 -- told by the last byte
 pub end_of_last-last : (close : ℕ) (bs : List ℕ) → 1 ≤ length bs → end_of_last close bs ≡ (if get_or bs (length bs - 1) 0 == close then length bs else end_of_last close (take (length bs - 1) bs))
 end_of_last-last close bs some =
     let whole : length bs - 1 + 1 ≡ length bs = omega arith in
     let told : (if get_or bs (length bs - 1) 0 == close then length bs - 1 + 1 else end_of_last close (take (length bs - 1) bs)) ≡ end_of_last close (take (length bs - 1 + 1) bs) = end_of_last-take close (length bs - 1) (end_of_last close (take (length bs - 1) bs)) bs (omega arith) refl in
-    sym (ap (end_of_last close) (all_taken bs))
+    sym (ap (end_of_last close) (take-length bs))
     ∙ ap (λ (n : ℕ). end_of_last close (take n bs)) (sym whole)
     ∙ sym told
     ∙ ap (λ (n : ℕ). if get_or bs (length bs - 1) 0 == close then n else end_of_last close (take (length bs - 1) bs)) whole

@@ -1,11 +1,11 @@
 use Rattle.std.proofs.Common.{◌≡◌, ℕ, zero, suc, ◌+◌, ◌<◌, List, [], ◌∷◌, ◌++◌, length, map, get_or, Option, None, Some, Bool, true, false, ◌==◌, if◌then◌else◌, arith, refl, sym, ap, ◌∙◌, subst, ℤ, pos}
 use Rattle.std.proofs.lemmas.List.{append_assoc, append-nil}
 use Rattle.std.specs.Option.{option_map}
+use Rattle.std.proofs.lemmas.Bool.{eq-eqb, eqb-true, ne_eqb}
 use Rattle.tv_linear.specs.Known.{Known, as_given}
 use Rattle.tv_linear.specs.Falls.{fall_rows_at}
 use Rattle.tv_linear.specs.Covers.{Shown, ShownAt}
 use Rattle.tv_linear.specs.declared.region.Piece.{Piece}
-use Rattle.tv_linear.proofs.ListLaws.{test_true, test_false, true_test}
 use Rattle.tv_cases.specs.LinearCases.{CaseSystem}
 use Rattle.tv_rank.specs.Ways.{Way, way_of}
 use Rattle.tv_rank.specs.Rankings.{change_row, bound_row, IsShownBy, fall_of}
@@ -42,7 +42,7 @@ found_at (x ∷ xs) k j h e = by_test (x == k) refl (λ n. let i = later j h e n
     later (suc i) h e n = (i, omega (arith, h), e)
 
     by_test : (b : Bool) → (x == k) ≡ b → ((x ≡ k → ⊥) → (place_in xs k < length xs) × (get_or xs (place_in xs k) 0 ≡ k)) → ((if b then 0 else suc (place_in xs k)) < suc (length xs)) × (get_or (x ∷ xs) (if b then 0 else suc (place_in xs k)) 0 ≡ k)
-    by_test true t rest = (omega arith, true_test x k t)
+    by_test true t rest = (omega arith, eqb-true x k t)
     by_test false t rest =
         let r = rest (false_test x k t) in
         let l = r.0 in
@@ -69,14 +69,14 @@ chain_shown about known set rounds (next s r rs round chain) k j h e = by_test (
 
     by_test : (b : Bool) → (falling_of r == k) ≡ b → ((get_or s r.place 0 ≡ get_or s j 0 → ⊥) → ShownAt (about.variables + (way_of about.cases known k).taken.draws) (way_rows (way_of about.cases known k)) (fall_rows_at (as_given (terms_at about.variables rs (way_of about.cases known k).taken.from)) (map (changed about.variables (way_of about.cases known k)) (terms_at about.variables rs (way_of about.cases known k).taken.to)) (falls_in k rs)) (lines_of k rs)) → ShownAt (about.variables + (way_of about.cases known k).taken.draws) (way_rows (way_of about.cases known k)) (fall_rows_at (as_given (terms_at about.variables (r ∷ rs) (way_of about.cases known k).taken.from)) (map (changed about.variables (way_of about.cases known k)) (terms_at about.variables (r ∷ rs) (way_of about.cases known k).taken.to)) (if b then 0 else suc (falls_in k rs))) (if b then line_at r r.place ∷ line_at r (length r.set.items) ∷ [] else line_at r (place_in r.set.items k) ∷ lines_of k rs)
     by_test true t rest =
-        let f = sym falling_is ∙ true_test (falling_of r) k t in (
-          at_place r.place (pos 1) round.within f (if_true (r.place == r.place) (pos 1) (pos 0) (test_true r.place r.place refl)),
+        let f = sym falling_is ∙ eqb-true (falling_of r) k t in (
+          at_place r.place (pos 1) round.within f (if_true (r.place == r.place) (pos 1) (pos 0) (eq-eqb r.place r.place refl)),
           (subst (λ y. IsShownBy about.variables (way_of about.cases known k) (bound_row about.variables r.terms.items (way_of about.cases known k)) (line_at r (length y))) (sym round.set_is) (subst (λ y. IsShownBy about.variables (way_of about.cases known y) (bound_row about.variables r.terms.items (way_of about.cases known y)) (line_at r (length s))) f round.family.bound), tt),
         )
     by_test false t rest =
         let n = false_test (falling_of r) k t in
         let p = found_at s k j h e in
         let o : r.place ≡ place_in s k → ⊥ = λ q. n (falling_is ∙ ap (λ z. get_or s z 0) q ∙ p.1) in
-        let z = if_false (place_in s k == r.place) (pos 1) (pos 0) (test_false (place_in s k) r.place (λ q. o (sym q))) in
+        let z = if_false (place_in s k == r.place) (pos 1) (pos 0) (ne_eqb (place_in s k) r.place (λ q. o (sym q))) in
         let head = subst (λ y. IsShownBy about.variables (way_of about.cases known k) (change_row about.variables r.terms.items (way_of about.cases known k) (pos 0)) (line_at r (place_in y k))) (sym round.set_is) (at_place (place_in s k) (pos 0) p.0 p.1 z) in
         shown_more (about.variables + (way_of about.cases known k).taken.draws) (way_rows (way_of about.cases known k)) (change_row about.variables r.terms.items (way_of about.cases known k) (pos 0)) (fall_rows_at (as_given (terms_at about.variables rs (way_of about.cases known k).taken.from)) (map (changed about.variables (way_of about.cases known k)) (terms_at about.variables rs (way_of about.cases known k).taken.to)) (falls_in k rs)) (line_at r (place_in r.set.items k)) (lines_of k rs) (head, tt) (rest (λ q. n (falling_is ∙ q ∙ e)))

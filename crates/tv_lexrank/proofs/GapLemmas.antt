@@ -4,10 +4,11 @@ use Rattle.std.specs.Prelude.{slice_get, Some}
 use Rattle.std.specs.List.{filter}
 use Rattle.std.proofs.lemmas.List.{length-map, map-append, get_or-map, get_or_past}
 use Rattle.std.proofs.lemmas.Option.{slice_get_within, slice_get-get_or, get_or_from_slice_get}
+use Rattle.std.proofs.lemmas.Bool.{eq-eqb, eqb-true, cases_lt}
 use Rattle.tv_places.specs.Places.{places_from, places_of}
 use Rattle.tv_places.proofs.PlaceLemmas.{place_told, places_counted}
 use Rattle.tv_linear.specs.declared.region.Piece.{Piece}
-use Rattle.tv_linear.proofs.ListLaws.{test_true, true_test, take_more, below_or_not}
+use Rattle.tv_linear.proofs.ListLaws.{take_more}
 use Rattle.tv_cases.specs.LinearCases.{LinearCase, CaseSystem}
 use Rattle.tv_rank.specs.Ways.{case_at, no_case}
 use Rattle.tv_lexrank.specs.Inside.{inside_key, inside_keys, behind}
@@ -104,7 +105,7 @@ module _ (about : CaseSystem) (numbers : List ℕ) (component count : ℕ) where
   key_at k l = get_or-map (inside_key numbers count) about.cases k no_case 0 l
 
   inside_has_key : (c : LinearCase) → LeadsInside numbers component c → inside_key numbers count c ≡ component
-  inside_has_key c h = by_test (get_or numbers c.from 0 == get_or numbers c.to 0) (test_true (get_or numbers c.from 0) (get_or numbers c.to 0) (h.0 ∙ sym h.1))
+  inside_has_key c h = by_test (get_or numbers c.from 0 == get_or numbers c.to 0) (eq-eqb (get_or numbers c.from 0) (get_or numbers c.to 0) (h.0 ∙ sym h.1))
     where
       by_test : (b : Bool) → b ≡ true → (if b then get_or numbers c.from 0 else count) ≡ component
       by_test true e = h.0
@@ -114,7 +115,7 @@ module _ (about : CaseSystem) (numbers : List ℕ) (component count : ℕ) where
   key_is_inside c below h = by_test (get_or numbers c.from 0 == get_or numbers c.to 0) refl h
     where
       by_test : (b : Bool) → (get_or numbers c.from 0 == get_or numbers c.to 0) ≡ b → (if b then get_or numbers c.from 0 else count) ≡ component → LeadsInside numbers component c
-      by_test true t e = (e, sym (true_test (get_or numbers c.from 0) (get_or numbers c.to 0) t) ∙ e)
+      by_test true t e = (e, sym (eqb-true (get_or numbers c.from 0) (get_or numbers c.to 0) t) ∙ e)
       by_test false t e = absurd (omega (arith, e, below))
 
   -- the case at a place
@@ -146,7 +147,7 @@ module _ (about : CaseSystem) (numbers : List ℕ) (component count : ℕ) where
           let is = get_or_from_slice_get about.cases number (get_or kept p no_case) no_case stands in
           let found = there ∙ ap Some (sym is) in (
             slice_get_within about.cases number (get_or kept p no_case) stands,
-            true_test (inside_key numbers count (case_at about.cases number)) component (kept_holds (λ c. inside_key numbers count c == component) about.cases p (case_at about.cases number) found),
+            eqb-true (inside_key numbers count (case_at about.cases number)) component (kept_holds (λ c. inside_key numbers count c == component) about.cases p (case_at about.cases number) found),
           )
 
   behind_same : (p : ℕ) → behind_from 0 places p ≡ behind places p
@@ -169,7 +170,7 @@ module _ (about : CaseSystem) (numbers : List ℕ) (component count : ℕ) where
         counted = s.counted;
         refuted = s.refuted;
         narrow = s.narrow;
-        each = λ k l inside. elim (below_or_not k (behind places p)) [
+        each = λ k l inside. elim (cases_lt k (behind places p)) [
           | inl b ↦ s.each k b inside
           | inr a ↦ absurd (g.none k (omega (arith, low, a)) (omega (arith, upper, e, l)) (ap (λ z. get_or keys z 0) (let q : k - 0 ≡ k = omega arith in q) ∙ key_at k (omega (arith, l, few)) ∙ inside_has_key (case_at about.cases k) inside))
         ];

@@ -5,10 +5,11 @@ use Rattle.std.specs.List.{AllZip, flat_map}
 use Rattle.std.proofs.lemmas.List.{length-map, append-nil}
 use Rattle.std.proofs.lemmas.List.Elements.{All-nil, All-cons, All-push, All-append, filter-append}
 use Rattle.std.proofs.lemmas.Grind.{flat_map-append}
+use Rattle.std.proofs.lemmas.Bool.{eq-eqb, ne_eqb}
 use Rattle.tv_linear.specs.Linear.{columns}
 use Rattle.tv_linear.specs.Arithmetic.{constant_row}
 use Rattle.tv_linear.proofs.PlainLists.{length-zeros}
-use Rattle.tv_linear.proofs.ListLaws.{test_true, test_false, same_or_below, zip_both}
+use Rattle.tv_linear.proofs.ListLaws.{same_or_below, zip_both}
 use Rattle.tv_cases.specs.LinearCases.{LinearCase, leaving}
 use Rattle.tv_cases.specs.Systems.{cases_of}
 use Rattle.tv_formula.specs.Properties.{term}
@@ -51,13 +52,13 @@ module _ (r : Ranking) where
   drop_if false p e = refl
 
   one_at : (l m : ℕ) → l ≡ m → pieces_at (ranked_piece r l ∷ []) m ≡ ranked_piece r l ∷ []
-  one_at l m e = by_test (l == m) (test_true l m e)
+  one_at l m e = by_test (l == m) (eq-eqb l m e)
     where
       by_test : (b : _) → b ≡ true → (if b then ranked_piece r l ∷ [] else []) ≡ ranked_piece r l ∷ []
       by_test b e = keep_if b (ranked_piece r l) e
 
   none_at : (l m : ℕ) → (l ≡ m → ⊥) → pieces_at (ranked_piece r l ∷ []) m ≡ []
-  none_at l m n = by_test (l == m) (test_false l m n)
+  none_at l m n = by_test (l == m) (ne_eqb l m n)
     where
       by_test : (b : _) → b ≡ false → (if b then ranked_piece r l ∷ [] else []) ≡ []
       by_test b e = drop_if b (ranked_piece r l) e

@@ -4,7 +4,7 @@ use Rattle.std.proofs.Common.{◌≡◌, ℕ, zero, suc, ◌+◌, ◌<◌, List,
 use Rattle.std.specs.Prelude.{slice_get}
 use Rattle.std.specs.List.{AllZip, filter}
 use Rattle.std.proofs.lemmas.Option.{slice_get_within, slice_get-get_or, get_or_from_slice_get}
-use Rattle.tv_linear.proofs.ListLaws.{zip_push, true_test, take_more}
+use Rattle.tv_linear.proofs.ListLaws.{zip_push, take_more}
 use Rattle.tv_cases.specs.LinearCases.{LinearCase, from_of, leaving}
 use Rattle.tv_cases.specs.Systems.{cases_of}
 use Rattle.tv_cert.specs.declared.node.Proof.{Proof}
@@ -16,6 +16,7 @@ use Rattle.tv_lexrank.specs.declared.ranking.Ranking.{Ranking}
 use Rattle.tv_lexrank.specs.Offered.{IsStepProof, IsOfferedAt, step_owed, AreStepsShown, AreShownBelow}
 use Rattle.tv_lexrank.proofs.OfferLemmas.{step_offered}
 use Rattle.std.proofs.Math.Seq.{take-length}
+use Rattle.std.proofs.lemmas.Bool.{eqb-true}
 
 pub kept_holds : {A : Type 0} (p : A → Bool) (xs : List A) (k : ℕ) (y : A) → slice_get (filter p xs) k ≡ Some y → p y ≡ true
 kept_holds p [] k y h = absurd cc
@@ -44,7 +45,7 @@ leaving_at cases l k number h =
     record {
       within = slice_get_within cases number (get_or (leaving l cases) k no_case) stands;
       case = found;
-      leaves = true_test (case_at cases number).from l (kept_holds (λ c. from_of c == l) cases k (case_at cases number) found);
+      leaves = eqb-true (case_at cases number).from l (kept_holds (λ c. from_of c == l) cases k (case_at cases number) found);
     }
 
 proof_offered : (r : Ranking) (l number : ℕ) (p : Proof) → number < length (cases_of r.about.now).cases → (case_at (cases_of r.about.now).cases number).from ≡ l → IsStepProof r number p → IsOfferedAt r l (case_at (cases_of r.about.now).cases number) p

@@ -16,9 +16,9 @@ use Rattle.tv_lexrank.specs.Rounds.{Chain, end, next, place_in, falls_in, lines_
 use Rattle.std.specs.Option.{option_map}
 use Rattle.std.proofs.lemmas.List.{length-map, append-nil}
 use Rattle.std.proofs.lemmas.List.Elements.{All-nil, All-cons}
+use Rattle.std.proofs.lemmas.Bool.{eqb-true}
 use Rattle.tv_linear.specs.declared.cover.CoverTree.{CoverTree}
 use Rattle.tv_linear.specs.declared.cover.CoverTree as cover
-use Rattle.tv_linear.proofs.ListLaws.{true_test}
 use Rattle.tv_lexrank.specs.Greedy.{without, IsRound}
 use Rattle.tv_lexrank.specs.Covering.{IsLined}
 use Rattle.tv_lexrank.specs.Sorting.{StandsIn, LeadsInside, IsNeverTaken, AreSorted}
@@ -87,7 +87,7 @@ stands_if [] k h = absurd (omega (arith, h))
 stands_if (x ∷ xs) k h = by_test (x == k) refl h (λ l. stands_if xs k l)
   where
     by_test : (b : Bool) → (x == k) ≡ b → (if b then 0 else suc (place_in xs k)) < suc (length xs) → (place_in xs k < length xs → StandsIn xs k) → StandsIn (x ∷ xs) k
-    by_test true t l rest = (0, omega arith, true_test x k t)
+    by_test true t l rest = (0, omega arith, eqb-true x k t)
     by_test false t l rest = (let s = rest (omega (arith, l)) in (suc s.0, (let a = s.1 in let q : suc s.0 < suc (length xs) = omega (arith, a) in q), s.2))
 
 -- a case inside that does not stand in the set stands among those that are never taken, at its first place

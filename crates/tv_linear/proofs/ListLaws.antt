@@ -15,26 +15,11 @@ last_or_below n j h = grind arith
 pub same_or_below : (n j : ℕ) → j < suc n → (j ≡ n) ⊎ (j < n)
 same_or_below n j h = grind arith
 
-pub below_or_not : (p q : ℕ) → (p < q) ⊎ (q ≤ p)
-below_or_not p q = grind arith
-
-pub in_order : (p q : ℕ) → (p < q) ⊎ ((p ≡ q) ⊎ (q < p))
-in_order p q = grind arith
-
 pub drop_past : {A : Type 0} (xs : List A) (i : ℕ) → length xs ≤ i → drop i xs ≡ []
 drop_past [] zero h = refl
 drop_past [] (suc i) h = refl
 drop_past (x ∷ xs) zero h = absurd (omega arith)
 drop_past (x ∷ xs) (suc i) h = drop_past xs i (omega arith)
-
-pub test_true : (a b : ℕ) → a ≡ b → (a == b) ≡ true
-test_true a b h = grind (arith, nat_tests)
-
-pub true_test : (a b : ℕ) → (a == b) ≡ true → a ≡ b
-true_test a b h = grind (arith, nat_tests)
-
-pub test_false : (a b : ℕ) → (a ≡ b → ⊥) → (a == b) ≡ false
-test_false a b h = grind (arith, nat_tests)
 
 pub take_past : {A : Type 0} (xs : List A) (i : ℕ) → length xs ≤ i → take i xs ≡ xs
 take_past [] zero l = refl
@@ -112,7 +97,3 @@ take_more [] k x h = absurd cc
 take_more (y ∷ ys) zero x h = (let e : y ≡ x = cc in ap (λ z. z ∷ []) e)
 take_more (y ∷ ys) (suc k) x h = ap (λ n. take n (y ∷ ys)) (let e : suc k + 1 ≡ suc (k + 1) = omega arith in e) ∙ ap (λ zs. y ∷ zs) (take_more ys k x h)
 
-pub get_or-past : {A : Type 0} (xs : List A) (i : ℕ) (d : A) → length xs ≤ i → get_or xs i d ≡ d
-get_or-past [] i d h = refl
-get_or-past (x ∷ xs) zero d h = absurd (omega arith)
-get_or-past (x ∷ xs) (suc i) d h = get_or-past xs i d (omega arith)

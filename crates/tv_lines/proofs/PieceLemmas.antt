@@ -3,6 +3,7 @@ use Rattle.std.proofs.Common.{◌≡◌, ℕ, suc, ◌+◌, ◌-◌, ◌≤◌, 
 use Rattle.std.specs.Prelude.{not, count_by}
 use Rattle.std.specs.List.{prefix_len}
 use Rattle.std.proofs.lemmas.List.Sums.{sum_by-cons}
+use Rattle.std.proofs.Math.Seq.{take-length}
 use Rattle.tv_lines.specs.Pieces.{pieces, onto, behind_piece}
 
 -- there is a first piece
@@ -41,14 +42,10 @@ length-pieces c (b ∷ bs) = rw (sum_by-cons (λ x. cond (eqb x c) 1 0) b bs) (b
     by true h = omega arith
     by false h = let some : 1 ≤ length (pieces c bs) = omega arith in rw (length_onto b (pieces c bs) some) (omega arith)
 
-whole : (bs : List ℕ) → take (length bs) bs ≡ bs
-whole [] = refl
-whole (b ∷ bs) = ap (λ (cs : List ℕ). b ∷ cs) (whole bs)
-
 -- what the code's slice pattern takes apart
 pub behind_piece-tail : (c : ℕ) (bs : List ℕ) → 1 ≤ length bs → behind_piece c bs ≡ pieces c (take (length bs - 1) (drop 1 bs))
 behind_piece-tail c [] n = absurd (omega arith)
-behind_piece-tail c (b ∷ bs) n = let k : length (b ∷ bs) - 1 ≡ length bs = omega arith in rw (k, whole bs) refl
+behind_piece-tail c (b ∷ bs) n = let k : length (b ∷ bs) - 1 ≡ length bs = omega arith in rw (k, take-length bs) refl
 
 -- something is behind bytes
 pub some_behind : (c : ℕ) (bs : List ℕ) → 1 ≤ length bs → (p : List ℕ) × ((ps : List (List ℕ)) × (behind_piece c bs ≡ p ∷ ps))

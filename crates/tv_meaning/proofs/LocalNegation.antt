@@ -11,8 +11,7 @@ use Rattle.tv_formula.specs.Normal.{negation, normal, negations, normals, opposi
 use Rattle.tv_meaning.specs.Meaning.{Holds, AllHold, SomeHolds}
 use Rattle.tv_meaning.specs.Laws.{NormalSays, NegationSays}
 use Rattle.tv_meaning.proofs.Negation.{negation_excludes, normal_holds}
-use Rattle.tv_formula.proofs.NormalLemmas.{left_true, right_true}
-use Rattle.std.proofs.lemmas.Bool.{cases_eq}
+use Rattle.std.proofs.lemmas.Bool.{cases_eq, and_parts}
 
 one_of_two : (b : Bool) → IsTrue b ⊎ IsTrue (not b)
 one_of_two true = inl refl
@@ -46,16 +45,16 @@ module _ (step : State → State → Type 0) where
 
     all_decided : (fs : Properties) → are_local fs ≡ true → (s : State) → AllHold step (normals fs) s ⊎ SomeHolds step (negations fs) s
     all_decided none h s = inl tt
-    all_decided (more f fs) h s = elim (decided f (left_true _ _ h) s) [
-      | inl k ↦ elim (all_decided fs (right_true (is_local f) _ h) s) [ inl j ↦ inl (k, j) | inr j ↦ inr (inr j) ]
+    all_decided (more f fs) h s = elim (decided f ((and_parts _ _ h).0) s) [
+      | inl k ↦ elim (all_decided fs ((and_parts (is_local f) _ h).1) s) [ inl j ↦ inl (k, j) | inr j ↦ inr (inr j) ]
       | inr k ↦ inr (inl k)
     ]
 
     some_decided : (fs : Properties) → are_local fs ≡ true → (s : State) → SomeHolds step (normals fs) s ⊎ AllHold step (negations fs) s
     some_decided none h s = inr tt
-    some_decided (more f fs) h s = elim (decided f (left_true _ _ h) s) [
+    some_decided (more f fs) h s = elim (decided f ((and_parts _ _ h).0) s) [
       | inl k ↦ inl (inl k)
-      | inr k ↦ elim (some_decided fs (right_true (is_local f) _ h) s) [ inl j ↦ inl (inr j) | inr j ↦ inr (k, j) ]
+      | inr k ↦ elim (some_decided fs ((and_parts (is_local f) _ h).1) s) [ inl j ↦ inl (inr j) | inr j ↦ inr (k, j) ]
     ]
 
   pub normal_says : (f : Property) → NormalSays step f

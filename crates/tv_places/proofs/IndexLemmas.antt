@@ -12,16 +12,7 @@ use Rattle.std.specs.declared.cmp.Ordering.TheVariants.{Less, Equal, Greater}
 use Rattle.std.specs.Option.{option_map}
 use Rattle.tv_places.specs.declared.places.Stand.{Stand}
 use Rattle.tv_places.specs.Places.{places_from, places_of, number_of, place_of, stands_of, IsIndexOf, IsFrom}
-use Rattle.std.proofs.lemmas.Bool.{ltb-false, cases_Bool}
-
-test_true : (a b : ℕ) → a ≡ b → (a == b) ≡ true
-test_true a b h = grind (arith, nat_tests)
-
-test_false : (a b : ℕ) → (a ≡ b → ⊥) → (a == b) ≡ false
-test_false a b h = grind (arith, nat_tests)
-
-true_test : (a b : ℕ) → (a == b) ≡ true → a ≡ b
-true_test a b h = grind (arith, nat_tests)
+use Rattle.std.proofs.lemmas.Bool.{ltb-false, cases_Bool, eq-eqb, eqb-true, ne_eqb}
 
 pub false_test : (a b : ℕ) → (a == b) ≡ false → a ≡ b → ⊥
 false_test a b h e = grind (arith, nat_tests)
@@ -86,7 +77,7 @@ first_kept n l (x ∷ xs) rises least k =
       | inl e ↦ kept_first (λ y. n y == l) x xs k e (first_kept n l xs (IsNonDecreasingBy-drop n 1 (x ∷ xs) rises) (All-tail (λ y. l ≤ n y) x xs least))
       | inr e ↦
           let other = false_test (n x) l e in
-          let none : All (λ y. (n y == l) ≡ false) (x ∷ xs) = λ j d below. test_false (n (get_or (x ∷ xs) j d)) l (λ q. other (omega (arith, q, rises 0 j d (omega arith) below, least 0 x (omega arith)))) in
+          let none : All (λ y. (n y == l) ≡ false) (x ∷ xs) = λ j d below. ne_eqb (n (get_or (x ∷ xs) j d)) l (λ q. other (omega (arith, q, rises 0 j d (omega arith) below, least 0 x (omega arith)))) in
           ap (λ ys. slice_get ys k) (filter_none (λ y. n y == l) (x ∷ xs) none) ∙ sym (got_none (λ y. n y == l) (x ∷ xs) k none)
     ]
 
@@ -96,17 +87,17 @@ module _ (numbers : List ℕ) (stands rest : List Stand) (l : ℕ) (index : IsIn
   place_found k = ap (λ ps. slice_get ps k) (sym (index.places l)) ∙ ap (λ ss. slice_get (map place_of ss) k) (sym from.same) ∙ slice_get-map place_of (stands_of l rest) k ∙ ap (option_map place_of) (first_kept number_of l rest from.rises from.least k)
 
   pub place_here : (k : ℕ) (stand : Stand) → k < length rest → stand ≡ get_or rest k stand → number_of stand ≡ l → Some (place_of stand) ≡ slice_get (places_of l numbers) k
-  place_here k stand below is e = sym (place_found k ∙ ap (λ s. option_map place_of (option_filter (λ stand. number_of stand == l) s)) (slice_get_read rest (length rest) k stand refl below is) ∙ ap (λ b. option_map place_of (cond b (Some stand) None)) (test_true (number_of stand) l e))
+  place_here k stand below is e = sym (place_found k ∙ ap (λ s. option_map place_of (option_filter (λ stand. number_of stand == l) s)) (slice_get_read rest (length rest) k stand refl below is) ∙ ap (λ b. option_map place_of (cond b (Some stand) None)) (eq-eqb (number_of stand) l e))
 
   pub place_other : (k : ℕ) (stand : Stand) → k < length rest → stand ≡ get_or rest k stand → (number_of stand ≡ l → ⊥) → None ≡ slice_get (places_of l numbers) k
-  place_other k stand below is e = sym (place_found k ∙ ap (λ s. option_map place_of (option_filter (λ stand. number_of stand == l) s)) (slice_get_read rest (length rest) k stand refl below is) ∙ ap (λ b. option_map place_of (cond b (Some stand) None)) (test_false (number_of stand) l e))
+  place_other k stand below is e = sym (place_found k ∙ ap (λ s. option_map place_of (option_filter (λ stand. number_of stand == l) s)) (slice_get_read rest (length rest) k stand refl below is) ∙ ap (λ b. option_map place_of (cond b (Some stand) None)) (ne_eqb (number_of stand) l e))
 
   pub place_past : (k : ℕ) → length rest ≤ k → None ≡ slice_get (places_of l numbers) k
   place_past k past = sym (place_found k ∙ ap (λ s. option_map place_of (option_filter (λ stand. number_of stand == l) s)) (slice_get_past rest k past))
 
   -- the stands of the number come before the others
   pub parted : IsPartitionedBy (λ stand. number_of stand == l) rest
-  parted i j d le below t = test_true (number_of (get_or rest i d)) l (omega (arith, from.rises i j d le below, from.least i d (omega arith), true_test (number_of (get_or rest j d)) l t))
+  parted i j d le below t = eq-eqb (number_of (get_or rest i d)) l (omega (arith, from.rises i j d le below, from.least i d (omega arith), eqb-true (number_of (get_or rest j d)) l t))
 
   pub places_told : (count : ℕ) → count ≤ length rest → IsPartitionPoint (λ stand. (number_of stand == l) ≡ true) (λ stand. (number_of stand == l) ≡ false) rest count → count ≡ length (places_of l numbers)
   places_told count within point =

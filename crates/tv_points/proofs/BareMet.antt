@@ -4,13 +4,13 @@ use Rattle.std.specs.List.{AllZip, flat_map}
 use Rattle.std.specs.Option.{option_map}
 use Rattle.std.proofs.lemmas.List.{length-map}
 use Rattle.std.proofs.lemmas.List.Elements.{All-nil, All-cons, All-head, All-tail}
+use Rattle.std.proofs.lemmas.Bool.{eq-eqb}
 use Rattle.tv_linear.specs.Known.{Known, given}
 use Rattle.tv_linear.specs.Linear.{columns}
 use Rattle.tv_linear.specs.Covers.{ShownAt, IsMetCover}
 use Rattle.tv_linear.specs.Depth.{splits}
 use Rattle.tv_linear.specs.declared.cover.CoverTree.{CoverTree}
 use Rattle.tv_linear.specs.declared.cover.CoverTree as cover
-use Rattle.tv_linear.proofs.ListLaws.{test_true}
 use Rattle.tv_formula.specs.Properties.{truth, at}
 use Rattle.tv_cases.specs.LinearCases.{CaseSystem}
 use Rattle.tv_cert.specs.declared.node.Kind.{Kind}
@@ -124,7 +124,7 @@ location_fitted about depth l node shallow inside h =
       few = omega arith;
       each = All-cons (PieceShape about 0 false) p [] (whole_shape about false l inside) (All-nil (PieceShape about 0 false));
       offered = λ number. atoms_offered (about_with about) number (piece_of number (about_with about) (at l) ps []) ps h.proofs
-          (All-cons (λ q. piece_of number (about_with about) (at l) ps [] q ≡ atom_of number (about_with about) q ([] ∷ []) ∷ []) p [] (ap (λ b. atom_of number (about_with about) p (truth_targets b) ∷ []) (test_true l l refl)) (All-nil (λ q. piece_of number (about_with about) (at l) ps [] q ≡ atom_of number (about_with about) q ([] ∷ []) ∷ []))) h.bare;
+          (All-cons (λ q. piece_of number (about_with about) (at l) ps [] q ≡ atom_of number (about_with about) q ([] ∷ []) ∷ []) p [] (ap (λ b. atom_of number (about_with about) p (truth_targets b) ∷ []) (eq-eqb l l refl)) (All-nil (λ q. piece_of number (about_with about) (at l) ps [] q ≡ atom_of number (about_with about) q ([] ∷ []) ∷ []))) h.bare;
       below = tt;
       shallow = shallow;
     })
@@ -134,7 +134,7 @@ abbrev pub LeadsInto : List Marked → ℕ → Type 0
 LeadsInto ps l = owed_into ps l given no_fall 0 0 ≡ Some []
 
 pub location_leads : (n l : ℕ) → LeadsInto (whole_piece n l ∷ []) l
-location_leads n l = by_test (l == l) (test_true l l refl)
+location_leads n l = by_test (l == l) (eq-eqb l l refl)
   where
     by_test : (b : Bool) → b ≡ true → target_rows given no_fall (slice_get (if b then whole_piece n l ∷ [] else []) 0) 0 ≡ Some []
     by_test true e = refl
@@ -148,7 +148,7 @@ wholes_lead n l t states h = by_test (t.location == l)
     by_test false = h
 
 first_leads : (n : ℕ) (t : State) (states : List State) → LeadsInto (whole_pieces n (t ∷ states)) t.location
-first_leads n t states = by_test (t.location == t.location) (test_true t.location t.location refl)
+first_leads n t states = by_test (t.location == t.location) (eq-eqb t.location t.location refl)
   where
     by_test : (b : Bool) → b ≡ true → target_rows given no_fall (slice_get (if b then whole_piece n t.location ∷ pieces_at (whole_pieces n states) t.location else pieces_at (whole_pieces n states) t.location) 0) 0 ≡ Some []
     by_test true e = refl

@@ -4,6 +4,7 @@ use Rattle.std.proofs.lemmas.List.Elements.{All-head}
 use Rattle.std.specs.Prelude.{IsSome, Option}
 use Rattle.std.specs.Global.{Vec}
 use Rattle.std.specs.Option.{option_map}
+use Rattle.std.proofs.lemmas.Bool.{eq-eqb}
 use Rattle.tv_formula.specs.Properties.{Property}
 use Rattle.tv_cases.specs.LinearCases.{CaseSystem}
 use Rattle.tv_cert.specs.declared.node.Marked.{Marked}
@@ -21,7 +22,6 @@ use Rattle.tv_shape.specs.declared.certificate.Certificate.{Certificate}
 use Rattle.tv_shape.specs.declared.fault.ShapeFault.{ShapeFault}
 use Rattle.tv_shape.proofs.FaultLemmas.{unfit}
 use Rattle.tv_shape.specs.Made.{IsFitted}
-use Rattle.tv_linear.proofs.ListLaws.{test_true}
 use Rattle.tv_points.specs.Nodes.{IsInside, IsRunNode, SaysDisproved, IsDisproof}
 use Rattle.tv_points.specs.StatePieces.{state_piece, state_pieces}
 use Rattle.tv_points.specs.States.{IsState, StartsAt}
@@ -61,7 +61,7 @@ module _ (about : CaseSystem) (f : Property) (node : Node) (piece : ℕ) (values
 
 -- ---- the first state of a run
 first_found : (n start : ℕ) (ends : Bool) (first : State) (states : List State) → first.location ≡ start → slice_get (pieces_at (state_pieces n ends (first ∷ states)) start) 0 ≡ Some (state_piece n ends (length states) first)
-first_found n start ends first states e = by_test (first.location == start) (test_true first.location start e)
+first_found n start ends first states e = by_test (first.location == start) (eq-eqb first.location start e)
   where
     by_test : (b : Bool) → b ≡ true → slice_get (if b then state_piece n ends (length states) first ∷ pieces_at (state_pieces n ends states) start else pieces_at (state_pieces n ends states) start) 0 ≡ Some (state_piece n ends (length states) first)
     by_test true k = refl

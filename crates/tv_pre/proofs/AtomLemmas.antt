@@ -9,7 +9,7 @@ use Rattle.tv_linear.specs.Linear.{Linear, IsNarrow}
 use Rattle.tv_linear.specs.declared.cover.CoverTree.{CoverTree}
 use Rattle.tv_linear.specs.declared.region.Piece.{Piece}
 use Rattle.tv_linear.specs.declared.region.Region.{Region}
-use Rattle.tv_linear.proofs.ListLaws.{test_true, test_false, take_more}
+use Rattle.tv_linear.proofs.ListLaws.{take_more}
 use Rattle.tv_cases.specs.LinearCases.{CaseSystem}
 use Rattle.tv_cert.specs.declared.node.Mark.TheVariants.{Go}
 use Rattle.tv_cert.specs.declared.node.Marked.{Marked}
@@ -40,6 +40,7 @@ use Rattle.tv_pre.proofs.OfferLemmas.{lists_marked}
 use Rattle.tv_pre.proofs.PieceLemmas.{are_marked}
 use Rattle.tv_cert.proofs.JoinedLemmas.{pieces_at-append}
 use Rattle.std.proofs.lemmas.Grind.{flat_map-append}
+use Rattle.std.proofs.lemmas.Bool.{eq-eqb, ne_eqb}
 
 -- ---- one more piece
 pub one_atom : (about : CaseSystem) (l k count : ℕ) (lists : List (List Linear)) (rows : List Linear) (q : Piece) (tree : CoverTree) (pieces now new : List Piece) (proofs offered more : List Proof) →
@@ -205,11 +206,11 @@ cond_append false x all xs ys e = e
 
 here_lists : (n k l : ℕ) (ls : List (List Linear)) → k ≡ l → lists_there (map (atom_piece n k) ls) l ≡ ls
 here_lists n k l [] e = refl
-here_lists n k l (rs ∷ ls) e = ap (map rows_of) (cond_here (k == l) (atom_piece n k rs) (pieces_at (map (atom_piece n k) ls) l) (test_true k l e)) ∙ ap (λ zs. rs ∷ zs) (here_lists n k l ls e)
+here_lists n k l (rs ∷ ls) e = ap (map rows_of) (cond_here (k == l) (atom_piece n k rs) (pieces_at (map (atom_piece n k) ls) l) (eq-eqb k l e)) ∙ ap (λ zs. rs ∷ zs) (here_lists n k l ls e)
 
 other_lists : (n k l : ℕ) (ls : List (List Linear)) → (k ≡ l → ⊥) → pieces_at (map (atom_piece n k) ls) l ≡ []
 other_lists n k l [] e = refl
-other_lists n k l (rs ∷ ls) e = cond_none (k == l) (atom_piece n k rs) (pieces_at (map (atom_piece n k) ls) l) (test_false k l e) ∙ other_lists n k l ls e
+other_lists n k l (rs ∷ ls) e = cond_none (k == l) (atom_piece n k rs) (pieces_at (map (atom_piece n k) ls) l) (ne_eqb k l e) ∙ other_lists n k l ls e
 
 none_past : (n : ℕ) (test : Test) (k l : ℕ) → k ≤ l → pieces_at (atom_pieces n test k) l ≡ []
 none_past n test zero l h = refl
@@ -227,7 +228,7 @@ atoms_at n test (suc k) l h =
     by_place : (n : ℕ) (test : Test) (k l : ℕ) → l < suc k → (b : Bool) → nat_eq k l ≡ b → (l < k → lists_there (atom_pieces n test k) l ≡ test_lists test l) → lists_there (atom_pieces n test k) l ++ lists_there (map (atom_piece n k) (test_lists test k)) l ≡ test_lists test l
     by_place n test k l h true e rest = (let is : k ≡ l = grind (arith, nat_tests, e) in
         (λ i. map rows_of (none_past n test k l (omega (arith, is)) i) ++ here_lists n k l (test_lists test k) is i) ∙ ap (test_lists test) is)
-    by_place n test k l h false e rest = (let not_is : k ≡ l → ⊥ = λ is. differs (test_true k l is) e in
+    by_place n test k l h false e rest = (let not_is : k ≡ l → ⊥ = λ is. differs (eq-eqb k l is) e in
         (λ i. rest (below k l h not_is) i ++ map rows_of (other_lists n k l (test_lists test k) not_is i)) ∙ append-nil (test_lists test l))
       where
         differs : (k == l) ≡ true → nat_eq k l ≡ false → ⊥

@@ -6,7 +6,6 @@ use Rattle.std.proofs.lemmas.List.Elements.{All-head, All-tail, All-more}
 use Rattle.tv_linear.specs.Linear.{Linear}
 use Rattle.tv_linear.specs.declared.region.Piece.{Piece}
 use Rattle.tv_linear.specs.declared.region.Region.{Region}
-use Rattle.tv_linear.proofs.ListLaws.{test_true}
 use Rattle.tv_cases.specs.LinearCases.{LinearCase}
 use Rattle.tv_cases.specs.declared.case.Case.{Case}
 use Rattle.tv_cases.specs.Views.{case_view, case_views}
@@ -14,7 +13,7 @@ use Rattle.tv_region.specs.Met.{Has, InSome}
 use Rattle.tv_region.specs.Regions.{lists_at}
 use Rattle.tv_region.specs.Differences.{coefficient, IsDifference, IsShift, IsCaseOfDifferences, IsOfDifferences}
 use Rattle.tv_pre.specs.Finding.{AreBetweenNumbers, IsAtMostOnce}
-use Rattle.std.proofs.lemmas.Bool.{cases_lt}
+use Rattle.std.proofs.lemmas.Bool.{cases_lt, eq-eqb}
 
 beyond : (xs : List ℤ) (j : ℕ) → length xs ≤ j → slice_index_or xs j (pos 0) ≡ pos 0
 beyond [] j l = refl
@@ -94,7 +93,7 @@ IsBetween least most z = (least ≤ℤ z) × (z ≤ℤ most)
 pub piece_row : (pieces : List Piece) (i : ℕ) (p : Piece) → i < length pieces → p ≡ get_or pieces i p → (r : Linear) → Has p.poly.rows.items r → InSome (lists_at p.location pieces) r
 piece_row [] i p l e r m = absurd (omega (arith, l))
 piece_row (q ∷ qs) zero p l e r m =
-    subst (λ b. InSome (cond b (q.poly.rows.items ∷ lists_at p.location qs) (lists_at p.location qs)) r) (sym (test_true q.location p.location (ap (λ (z : Piece). z.location) (sym e))))
+    subst (λ b. InSome (cond b (q.poly.rows.items ∷ lists_at p.location qs) (lists_at p.location qs)) r) (sym (eq-eqb q.location p.location (ap (λ (z : Piece). z.location) (sym e))))
     (inl (subst (λ (z : Piece). Has z.poly.rows.items r) e m))
 piece_row (q ∷ qs) (suc i) p l e r m = behind (q.location == p.location) (piece_row qs i p (omega (arith, l)) e r m) where
   behind : (b : Bool) → InSome (lists_at p.location qs) r → InSome (cond b (q.poly.rows.items ∷ lists_at p.location qs) (lists_at p.location qs)) r

@@ -13,7 +13,6 @@ use Rattle.tv_meaning.specs.Meaning.{Holds, AllHold, SomeHolds}
 use Rattle.tv_meaning.proofs.Negation.{negation_excludes}
 use Rattle.tv_meaning.proofs.LocalNegation.{negation_says}
 use Rattle.tv_linear.specs.declared.region.Region.{Region}
-use Rattle.tv_linear.proofs.ListLaws.{test_true}
 use Rattle.tv_cases.specs.Comparisons.{has_rows, comparison_lists}
 use Rattle.tv_cases.specs.EdgeCases.{columns_from}
 use Rattle.tv_cases.specs.Lists.{lists_of}
@@ -37,7 +36,7 @@ use Rattle.tv_pre.specs.Along.{OthersLeadOut}
 use Rattle.tv_pre.specs.Atoms.{test_lists, IsTestOf, IsTested}
 use Rattle.tv_pre.specs.Full.{HasRows, IsFull, AreFull, FullHasAll, FullTell}
 use Rattle.tv_pre.specs.Inclusions.{OfPieces}
-use Rattle.std.proofs.lemmas.Bool.{and_parts}
+use Rattle.std.proofs.lemmas.Bool.{and_parts, eq-eqb}
 
 -- ---- atoms
 true_met : (b : Bool) (xs : List ℤ) → b ≡ true → some_met xs (truth_targets b) ≡ true
@@ -65,7 +64,7 @@ module _ (about : CaseSystem) where
   test_met (Rows lists) (fix path shape f g) h w s p m = absurd h
   test_met (Here k) (truth b) h w s p m = absurd h
   test_met (Here k) (compare r a b) h w s p m = absurd h
-  test_met (Here k) (at l) h w s p m = true_met (s.location == k) s.values (test_true s.location k (m ∙ h))
+  test_met (Here k) (at l) h w s p m = true_met (s.location == k) s.values (eq-eqb s.location k (m ∙ h))
   test_met (Here k) term h w s p m = absurd h
   test_met (Here k) (negated f) h w s p m = absurd h
   test_met (Here k) (all_of fs) h w s p m = absurd h

@@ -6,6 +6,7 @@ use Rattle.std.specs.List.{filter}
 use Rattle.std.specs.Option.{option_map}
 use Rattle.std.proofs.lemmas.List.{append_assoc, append-nil}
 use Rattle.std.proofs.lemmas.List.Elements.{All-append}
+use Rattle.std.proofs.lemmas.Bool.{eqb-true}
 use Rattle.tv_linear.specs.Linear.{Linear, columns, IsWithin}
 use Rattle.tv_linear.specs.Known.{Known, given, denied, as_given}
 use Rattle.tv_linear.specs.Refutation.{Refutes}
@@ -14,7 +15,7 @@ use Rattle.tv_linear.specs.Falls.{fall_rows}
 use Rattle.tv_linear.specs.declared.cover.CoverTree.{CoverTree}
 use Rattle.tv_linear.specs.declared.cover.CoverTree as cover
 use Rattle.tv_linear.specs.declared.region.Piece.{Piece}
-use Rattle.tv_linear.proofs.ListLaws.{true_test, all_unmapped}
+use Rattle.tv_linear.proofs.ListLaws.{all_unmapped}
 use Rattle.tv_farkas.specs.Stretching.{IsSplitOf}
 use Rattle.tv_cases.specs.LinearCases.{LinearCase, CaseSystem}
 use Rattle.tv_cert.specs.declared.node.Mark.TheVariants.{Go}
@@ -136,7 +137,7 @@ abbrev GoesWith : List Linear → Marked → Type 0
 GoesWith ranks p = (goes p ≡ true) × (ranks_of p ≡ ranks)
 
 kept_onward : (ranked : List Marked) (l : ℕ) (x : Marked) (xs : List Marked) (b : Bool) → (place_of x == l) ≡ b → IsRankedAs ranked x → EachOf (GoesWith (ranks_there ranked l)) xs → EachOf (GoesWith (ranks_there ranked l)) (cond b (x ∷ xs) xs)
-kept_onward ranked l x xs true e p h = ((p.0, p.1 ∙ ap (ranks_there ranked) (true_test (place_of x) l e)), h)
+kept_onward ranked l x xs true e p h = ((p.0, p.1 ∙ ap (ranks_there ranked) (eqb-true (place_of x) l e)), h)
 kept_onward ranked l x xs false e p h = h
 
 onward_at : (ranked : List Marked) (xs : List Marked) (l : ℕ) → EachOf (IsRankedAs ranked) xs → EachOf (GoesWith (ranks_there ranked l)) (pieces_at xs l)

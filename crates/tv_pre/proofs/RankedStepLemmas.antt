@@ -3,13 +3,14 @@ use Rattle.std.proofs.Common.{◌≡◌, ℕ, ◌+◌, ◌<◌, get_or, ◌++◌
 use Rattle.std.specs.Prelude.{Contains}
 use Rattle.std.proofs.lemmas.List.{append-nil, length-map}
 use Rattle.std.proofs.lemmas.List.Elements.{filter-append}
+use Rattle.std.proofs.lemmas.Bool.{eq-eqb, ne_eqb}
 use Rattle.tv_linear.specs.Known.{Known, as_given}
 use Rattle.tv_linear.specs.Covers.{IsMetCover}
 use Rattle.tv_linear.specs.Refutation.{Refutes}
 use Rattle.tv_linear.specs.declared.cover.CoverTree.{CoverTree}
 use Rattle.tv_linear.specs.declared.cover.CoverTree as cover
 use Rattle.tv_linear.specs.declared.region.Piece.{Piece}
-use Rattle.tv_linear.proofs.ListLaws.{test_true, test_false, take_more}
+use Rattle.tv_linear.proofs.ListLaws.{take_more}
 use Rattle.tv_cases.specs.LinearCases.{LinearCase, CaseSystem, from_of, leaving}
 use Rattle.tv_cases.specs.declared.case.Case.{Case}
 use Rattle.tv_cases.specs.Views.{case_view, case_views}
@@ -72,10 +73,10 @@ next_taken : (l : ℕ) (cs : List LinearCase) (k : ℕ) (c : LinearCase) → sli
 next_taken l cs k c e = ap (leaving l) (take_more cs k c e) ∙ filter-append (λ c. from_of c == l) (take k cs) (c ∷ [])
 
 pub leaving_kept : (l : ℕ) (cs : List LinearCase) (k : ℕ) (c : LinearCase) → slice_get cs k ≡ Some c → c.from ≡ l → leaving l (take (k + 1) cs) ≡ leaving l (take k cs) ++ c ∷ []
-leaving_kept l cs k c e t = next_taken l cs k c e ∙ ap (λ xs. leaving l (take k cs) ++ xs) (one_kept c (from_of c == l) (test_true c.from l t))
+leaving_kept l cs k c e t = next_taken l cs k c e ∙ ap (λ xs. leaving l (take k cs) ++ xs) (one_kept c (from_of c == l) (eq-eqb c.from l t))
 
 pub leaving_skipped : (l : ℕ) (cs : List LinearCase) (k : ℕ) (c : LinearCase) → slice_get cs k ≡ Some c → (c.from ≡ l → ⊥) → leaving l (take (k + 1) cs) ≡ leaving l (take k cs)
-leaving_skipped l cs k c e t = next_taken l cs k c e ∙ (ap (λ xs. leaving l (take k cs) ++ xs) (one_skipped c (from_of c == l) (test_false c.from l t)) ∙ append-nil (leaving l (take k cs)))
+leaving_skipped l cs k c e t = next_taken l cs k c e ∙ (ap (λ xs. leaving l (take k cs) ++ xs) (one_skipped c (from_of c == l) (ne_eqb c.from l t)) ∙ append-nil (leaving l (take k cs)))
 
 -- ---- the case with a number
 pub got_case : (list : List Case) (cases : List LinearCase) (k : ℕ) (x : Case) → case_views list ≡ cases → k < length list → x ≡ get_or list k x → slice_get cases k ≡ Some (case_view x)

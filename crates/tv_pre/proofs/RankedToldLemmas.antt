@@ -2,6 +2,7 @@
 use Rattle.std.proofs.Common.{◌≡◌, inl, inr, ℕ, List, [], ◌∷◌, ◌++◌, refl, sym, ap, ◌∙◌, subst, true}
 use Rattle.std.specs.Prelude.{All, Contains, Option, None, Some, IfSome}
 use Rattle.std.proofs.lemmas.List.Elements.{Contains-append_cases}
+use Rattle.std.proofs.lemmas.Bool.{and_parts}
 use Rattle.tv_program.specs.Steps.{State}
 use Rattle.tv_formula.specs.Formulas.{property_of}
 use Rattle.tv_formula.specs.Normal.{normal}
@@ -38,7 +39,6 @@ use Rattle.tv_pre.specs.Proving.{IsProofLeft}
 use Rattle.tv_pre.specs.Told.{IsClaimOn, RankedUntilIsTold}
 use Rattle.tv_pre.specs.Unserved.{IsUnserved}
 use Rattle.tv_pre.proofs.DecidingLemmas.{states_of}
-use Rattle.tv_formula.proofs.NormalLemmas.{left_true, right_true}
 use Rattle.tv_linear.proofs.ListLaws.{contains_at}
 
 -- ---- properties of one state
@@ -75,8 +75,8 @@ module _ (about : CaseSystem) (last : ℕ) where
     each_now : (fs : Properties) → are_local fs ≡ true → (part : Property) → Contains (all_subformulas fs) part → IsUnsettled about last part → ⊥
     each_now none e part m = absurd (Contains-none part m)
     each_now (more f fs) e part m = elim (Contains-append_cases (subformulas f) (all_subformulas fs) part m) [
-      | inl k ↦ local_now f (left_true (is_local f) (are_local fs) e) part k
-      | inr k ↦ each_now fs (right_true (is_local f) (are_local fs) e) part k
+      | inl k ↦ local_now f ((and_parts (is_local f) (are_local fs) e).0) part k
+      | inr k ↦ each_now fs ((and_parts (is_local f) (are_local fs) e).1) part k
     ]
 
 -- ---- it holds everywhere

@@ -5,6 +5,7 @@ use Rattle.std.proofs.lemmas.Bool.Decides.{nat_tests}
 use Rattle.std.specs.Prelude.{Contains}
 use Rattle.std.proofs.lemmas.List.{take_all}
 use Rattle.std.proofs.lemmas.List.Elements.{Contains-append_cases}
+use Rattle.std.proofs.lemmas.Bool.{eq-eqb}
 use Rattle.tv_formula.specs.Limits.{operators, IsFormula}
 use Rattle.tv_formula.specs.Properties.{Property}
 use Rattle.tv_linear.specs.Linear.{Linear, IsMet}
@@ -13,7 +14,6 @@ use Rattle.tv_linear.specs.Covers.{IsMetCover}
 use Rattle.tv_linear.specs.declared.cover.CoverTree.{CoverTree}
 use Rattle.tv_linear.specs.declared.region.Piece.{Piece}
 use Rattle.tv_linear.specs.declared.region.Region.{Region}
-use Rattle.tv_linear.proofs.ListLaws.{test_true}
 use Rattle.tv_farkas.specs.Paths.{IsWholePoint}
 use Rattle.tv_cases.specs.LinearCases.{CaseSystem}
 use Rattle.tv_cert.specs.declared.node.Kind.TheVariants as kind
@@ -96,7 +96,7 @@ pub place_there : (k : ℕ) (pieces : List Piece) (i : ℕ) (p : Piece) → i < 
 place_there k [] i p l e h = absurd (let no : ⊥ = omega (arith, l) in no)
 place_there k (q ∷ qs) zero p l e h =
     subst (λ z. slice_get (lists_at k (q ∷ qs)) 0 ≡ Some (piece_rows z)) (sym e)
-    (first_there (q.location == k) (piece_rows q) (lists_at k qs) (test_true q.location k (subst (λ z. z.location ≡ k) e h)))
+    (first_there (q.location == k) (piece_rows q) (lists_at k qs) (eq-eqb q.location k (subst (λ z. z.location ≡ k) e h)))
 place_there k (q ∷ qs) (suc i) p l e h =
     later_there (q.location == k) (piece_rows q) (piece_rows p) (lists_at k qs) (lists_at k (take i qs)) (place_there k qs i p (omega (arith, l)) e h)
 

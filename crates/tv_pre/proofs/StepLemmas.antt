@@ -15,7 +15,7 @@ use Rattle.tv_linear.specs.declared.region.Piece.{Piece}
 use Rattle.tv_linear.specs.Same.{AreSame, OwedSame}
 use Rattle.tv_linear.proofs.SameLemmas.{cover_same}
 use Rattle.tv_linear.proofs.PaddedLemmas.{padded_met}
-use Rattle.tv_linear.proofs.ListLaws.{test_true, length-back, length-front, all_back, all_front}
+use Rattle.tv_linear.proofs.ListLaws.{length-back, length-front, all_back, all_front}
 use Rattle.tv_farkas.specs.Trees.{TreeRows}
 use Rattle.tv_cases.specs.Before.{before, FitsBefore, rows_before}
 use Rattle.tv_cases.specs.LinearCases.{LinearCase, CaseSystem, IsCase}
@@ -42,6 +42,7 @@ use Rattle.tv_pre.specs.Questions.{step_rows}
 use Rattle.tv_pre.specs.Targets.{AreBefore}
 use Rattle.tv_pre.proofs.OfferLemmas.{lists_marked, got_mapped, no_hole}
 use Rattle.std.proofs.lemmas.List.{take-append-drop}
+use Rattle.std.proofs.lemmas.Bool.{eq-eqb}
 
 -- ---- the pieces at a location
 
@@ -52,7 +53,7 @@ kept_later false a ls x c = c
 pub listed : (qs : List Piece) (q : Piece) (l : ℕ) → q.location ≡ l → Contains qs q → Contains (lists_at l qs) (piece_rows q)
 listed [] q l e c = absurd (omega (arith, c))
 listed (a ∷ qs) q l e (zero, s, is) =
-    let t : (a.location == l) ≡ true = test_true a.location l (ap (λ p. p.location) is ∙ e) in
+    let t : (a.location == l) ≡ true = eq-eqb a.location l (ap (λ p. p.location) is ∙ e) in
     subst (λ b. Contains (cond b (piece_rows a ∷ lists_at l qs) (lists_at l qs)) (piece_rows q)) (sym t)
     (subst (λ p. Contains (piece_rows a ∷ lists_at l qs) (piece_rows p)) is (Contains-here (piece_rows a) (lists_at l qs)))
 listed (a ∷ qs) q l e (suc k, s, is) = kept_later (a.location == l) (piece_rows a) (lists_at l qs) (piece_rows q) (listed qs q l e (k, omega (arith, s), is))

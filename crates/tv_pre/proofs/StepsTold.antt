@@ -1,6 +1,7 @@
 -- Where going back is exact, it can be told whether a state has a step.
 use Rattle.std.proofs.Common.{◌≡◌, ◌⊎◌, inl, inr, List, [], ◌∷◌, ◌++◌, length, map, refl, sym, subst, ℤ, true, ◌==◌}
 use Rattle.std.specs.Prelude.{Contains}
+use Rattle.std.proofs.lemmas.Bool.{eq-eqb, eqb-true}
 use Rattle.tv_program.specs.Steps.{State}
 use Rattle.tv_linear.specs.Linear.{Linear}
 use Rattle.tv_linear.specs.Known.{term_value}
@@ -14,7 +15,6 @@ use Rattle.tv_region.specs.Differences.{AreOfDifferences}
 use Rattle.tv_region.specs.Met.{all_met}
 use Rattle.tv_region.specs.StepRegions.{HasNoDraws}
 use Rattle.tv_region.proofs.MetLemmas.{all_met-all, all-all_met}
-use Rattle.tv_linear.proofs.ListLaws.{true_test, test_true}
 use Rattle.tv_region.proofs.StepRegionLemmas.{contains_has}
 use Rattle.tv_pre.specs.Finding.{IsTameStatement}
 use Rattle.tv_pre.proofs.DifferenceDraws.{MeetsBehind, draws_told}
@@ -32,7 +32,7 @@ module _ (about : CaseSystem) (s : State) (tells : (c : LinearCase) → Contains
   -- whether a step by the case leads on
   case_told : (c : LinearCase) → Contains about.cases c → Goes about s ⊎ ((draws : List ℤ) (t : State) → CaseDoes c draws s t → ⊥)
   case_told c m = elim (in_or_out (s.location == c.from)) [
-    | inr n ↦ inr (λ draws t does. n (test_true s.location c.from does.leaves))
+    | inr n ↦ inr (λ draws t does. n (eq-eqb s.location c.from does.leaves))
     | inl here ↦ elim (tells c m) [
       | inr n ↦ inr (λ draws t does. n record { draws = draws; drawn = does.drawn; met = all-all_met (s.values ++ draws) c.guards does.guards })
       | inl w ↦ inl (
@@ -42,7 +42,7 @@ module _ (about : CaseSystem) (s : State) (tells : (c : LinearCase) → Contains
           among = m;
           draws = w.draws;
           does = record {
-            leaves = true_test s.location c.from here;
+            leaves = eqb-true s.location c.from here;
             enters = refl;
             drawn = w.drawn;
             guards = all_met-all (s.values ++ w.draws) c.guards w.met;

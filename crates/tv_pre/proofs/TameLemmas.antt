@@ -2,10 +2,10 @@
 use Rattle.std.proofs.Common.{◌≡◌, ◌⊎◌, inl, inr, ℕ, ◌<◌, List, [], ◌∷◌, ◌++◌, refl, subst, Bool, true, false, cond, ◌==◌, not}
 use Rattle.std.specs.Prelude.{All, Contains}
 use Rattle.std.proofs.lemmas.List.Elements.{All-head, All-tail}
+use Rattle.std.proofs.lemmas.Bool.{eqb-true}
 use Rattle.tv_linear.specs.Linear.{Linear}
 use Rattle.tv_linear.specs.declared.region.Piece.{Piece}
 use Rattle.tv_linear.specs.declared.region.Region.{Region}
-use Rattle.tv_linear.proofs.ListLaws.{true_test}
 use Rattle.tv_cases.specs.LinearCases.{CaseSystem}
 use Rattle.tv_cases.proofs.ContainsLemmas.{Contains-here, Contains-later}
 use Rattle.tv_cert.specs.Obligations.{truth_targets}
@@ -29,7 +29,7 @@ row_there : (n m l : ℕ) (pieces : List Piece) (r : Linear) → All (IsPieceOf 
 row_there n m l [] r h k = absurd k
 row_there n m l (p ∷ pieces) r h k =
     in_front (p.location == l) p.poly.rows.items (lists_at l pieces) r (l < m) (λ w. row_there n m l pieces r (All-tail (IsPieceOf n m) p pieces h) w)
-    (λ e. subst (λ x. x < m) (true_test p.location l e) (All-head (IsPieceOf n m) p pieces h).place) k
+    (λ e. subst (λ x. x < m) (eqb-true p.location l e) (All-head (IsPieceOf n m) p pieces h).place) k
 
 in_either : (l : ℕ) (ps qs : List Piece) (r : Linear) → InSome (lists_at l (ps ++ qs)) r → InSome (lists_at l ps) r ⊎ InSome (lists_at l qs) r
 in_either l [] qs r m = inr m

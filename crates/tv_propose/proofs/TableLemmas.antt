@@ -6,11 +6,12 @@ use Rattle.std.proofs.lemmas.Int.{ints}
 use Rattle.std.proofs.lemmas.Bool.Decides.{nat_tests}
 use Rattle.std.proofs.lemmas.List.{get_or-map, length-map}
 use Rattle.std.proofs.lemmas.List.Elements.{All-head, All-tail}
+use Rattle.std.proofs.lemmas.Bool.{ne_eqb}
 use Rattle.tv_linear.specs.Linear.{Linear, columns}
 use Rattle.tv_linear.specs.Arithmetic.{zeros, unit, plus_each}
 use Rattle.tv_linear.specs.Terms.{table}
 use Rattle.tv_linear.proofs.PlainLists.{length-table}
-use Rattle.tv_linear.proofs.ListLaws.{get_or-table, test_false}
+use Rattle.tv_linear.proofs.ListLaws.{get_or-table}
 use Rattle.tv_cases.specs.LinearCases.{LinearCase, CaseSystem, AreCases, IsCase}
 use Rattle.tv_cases.specs.declared.case.Case.{Case}
 use Rattle.tv_cases.specs.Views.{case_view, case_views}
@@ -146,7 +147,7 @@ one_of f false (suc (suc zero)) z e l h = ap (λ y. Some (f y)) (let g : pos 1 �
 one_of f false (suc (suc (suc k))) z e l h = absurd (omega (arith, l))
 
 one_difference : (n g p k : ℕ) (z : ℤ) → (g ≡ p → ⊥) → k ≤ 2 → z +ℤ pos 1 ≡ pos k → slice_get (difference_rows n g p) k ≡ Some (difference n g p z)
-one_difference n g p k z d l h = one_of (difference n g p) (g == p) k z (test_false g p d) l h
+one_difference n g p k z d l h = one_of (difference n g p) (g == p) k z (ne_eqb g p d) l h
 
 pub difference_there : (about : CaseSystem) (g p k n : ℕ) (row : Linear) (z : ℤ) → row ≡ difference n g p z → z +ℤ pos 1 ≡ pos k → g < about.variables → p < about.variables → n ≡ about.variables → (g ≡ p → ⊥) → k ≤ 2 → Some row ≡ slice_get (get_or (get_or (difference_table about) g []) p []) k
 difference_there about g p k n row z e h l m v d i =

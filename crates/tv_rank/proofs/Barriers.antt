@@ -3,7 +3,7 @@ use Rattle.std.proofs.lemmas.Int.{ints}
 use Rattle.tv_linear.proofs.Ring.{neg_times_z}
 use Rattle.tv_linear.specs.Linear.{linear}
 use Rattle.tv_linear.specs.Known.{number}
-use Rattle.tv_linear.proofs.ListLaws.{test_true, test_false, same_or_below}
+use Rattle.tv_linear.proofs.ListLaws.{same_or_below}
 use Rattle.tv_simplex.specs.Sums.{total}
 use Rattle.tv_simplex.proofs.Sums.{total-same, total-less, total-times, total-zero, total-swap}
 use Rattle.tv_simplex.proofs.Ring.{times_less, less_times, times_zero}
@@ -15,7 +15,7 @@ use Rattle.tv_rank.specs.declared.unknown.Line.{Line}
 use Rattle.tv_rank.specs.Ways.{Way, met_rows, touches}
 use Rattle.tv_rank.specs.RankingSystem.{unit_at, after, entered, left, entry, right_of}
 use Rattle.tv_rank.proofs.Over.{over, Inside, over-same, over-less, over-zero, over-neg, over-total, if_false, picked, unit_times, opposite_is}
-use Rattle.std.proofs.lemmas.Bool.{cases_eq, or_parts}
+use Rattle.std.proofs.lemmas.Bool.{cases_eq, or_parts, eq-eqb, ne_eqb}
 
 abbrev pub line : Identity → Option ℕ → Line
 line id c = record { identity = id; column = c }
@@ -58,7 +58,7 @@ pub record Balance (v many : ℕ) (ways : ℕ → Way) (falling : ℕ) (p : ℕ 
 
 -- ---- one place that counts
 turned : (a b : ℕ) → (a == b) ≡ (b == a)
-turned a b = elim (cases_eq a b) [ inl e ↦ test_true a b e ∙ sym (test_true b a (sym e)) | inr n ↦ test_false a b n ∙ sym (test_false b a (λ e. n (sym e))) ]
+turned a b = elim (cases_eq a b) [ inl e ↦ eq-eqb a b e ∙ sym (eq-eqb b a (sym e)) | inr n ↦ ne_eqb a b n ∙ sym (ne_eqb b a (λ e. n (sym e))) ]
 
 pub picked_turned : (n t : ℕ) (g : ℕ → ℤ) → t < n → total n (λ l. if l == t then g l else pos 0) ≡ g t
 picked_turned n t g h = total-same n (λ l. if l == t then g l else pos 0) (λ l. if t == l then g l else pos 0) (λ l k. ap (λ b. if b then g l else pos 0) (turned l t)) ∙ picked n t g h

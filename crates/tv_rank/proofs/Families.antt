@@ -9,7 +9,7 @@ use Rattle.tv_linear.specs.Falls.{zero_row}
 use Rattle.tv_linear.specs.Linear.{Linear, columns, IsWithin}
 use Rattle.tv_linear.specs.Known.{Known, given, composed, less, number, known_number, term_number, KnownHeld, PlacesHeld, place_sum}
 use Rattle.tv_linear.specs.Terms.{table, update_of, terms_after}
-use Rattle.tv_linear.proofs.ListLaws.{test_true, get_or-table, map-table, same_or_below}
+use Rattle.tv_linear.proofs.ListLaws.{get_or-table, map-table, same_or_below}
 use Rattle.tv_refute.proofs.Places.{get_or-left, get_or-right}
 use Rattle.tv_simplex.proofs.SettleLemmas.{given_left}
 use Rattle.tv_simplex.specs.Outcomes.{IsShort, IsNarrow, IsSolutionOf, IsNarrowSystem}
@@ -30,7 +30,7 @@ use Rattle.tv_rank.proofs.Flattened.{entry_of}
 use Rattle.tv_rank.proofs.Solved.{get-differences, of_term_number, rows_sum, slack_of, step_start, step_sum, bound_sum, step_row, bound_row_is}
 use Rattle.tv_rank.proofs.ShownRows.{places_held, shown}
 use Rattle.tv_rank.proofs.Rational.{solution_ranks}
-use Rattle.std.proofs.lemmas.Bool.{or_right, cases_lt, or_left}
+use Rattle.std.proofs.lemmas.Bool.{or_right, cases_lt, or_left, eq-eqb}
 
 -- ---- what is read stands at its place
 length-lines : (ways : ℕ → Way) (xs : List ℤ) (s n : ℕ) → length (lines_read ways xs s n) ≡ n
@@ -47,7 +47,7 @@ line-read ways xs s (suc n) k h = elim (same_or_below n k h) [
 pub touched_to : (ways : ℕ → Way) (many k : ℕ) → k < many → touches ways many (ways k).taken.to ≡ true
 touched_to ways zero k h = absurd (omega (arith, h))
 touched_to ways (suc m) k h = elim (same_or_below m k h) [
-  | inl e ↦ or_right (touches ways m (ways k).taken.to) ((ways m).taken.from == (ways k).taken.to || (ways m).taken.to == (ways k).taken.to) (or_right ((ways m).taken.from == (ways k).taken.to) ((ways m).taken.to == (ways k).taken.to) (test_true (ways m).taken.to (ways k).taken.to (ap (λ z. (ways z).taken.to) (sym e))))
+  | inl e ↦ or_right (touches ways m (ways k).taken.to) ((ways m).taken.from == (ways k).taken.to || (ways m).taken.to == (ways k).taken.to) (or_right ((ways m).taken.from == (ways k).taken.to) ((ways m).taken.to == (ways k).taken.to) (eq-eqb (ways m).taken.to (ways k).taken.to (ap (λ z. (ways z).taken.to) (sym e))))
   | inr b ↦ or_left (touches ways m (ways k).taken.to) ((ways m).taken.from == (ways k).taken.to || (ways m).taken.to == (ways k).taken.to) (touched_to ways m k b)
 ]
 
@@ -119,7 +119,7 @@ module _ (v locations many : ℕ) (ways : ℕ → Way) (falling : ℕ) (falling_
   row_narrow k i c k_in i_in c_in =
       let P = λ (u : Unknown). IsNarrow (entry ways falling (line (Step k) c) u) in
       let a = (of_identity P (Step k) (ways k) (of_steps P ways many k (all_second P (terms_below ways many v locations) (steps_below ways many) (narrow_terms k c k_in c_in)) k_in)).0 i i_in in
-      let e = if_true (k == k) (neg_ℤ (row_of (ways k) i c)) (pos 0) (test_true k k refl) in
+      let e = if_true (k == k) (neg_ℤ (row_of (ways k) i c)) (pos 0) (eq-eqb k k refl) in
       plain (row_of (ways k) i c) (subst IsNarrow e a)
     where
       plain : (z : ℤ) → unsigned_abs (neg_ℤ z) < 2 ^ 40 → unsigned_abs z < 2 ^ 41
@@ -130,7 +130,7 @@ module _ (v locations many : ℕ) (ways : ℕ → Way) (falling : ℕ) (falling_
       let P = λ (u : Unknown). IsNarrow (entry ways falling (line (Step k) c) u) in
       let l = (ways k).taken.to in
       let a = (of_terms P ways many v locations l (Some j) (all_first P (terms_below ways many v locations) (steps_below ways many) (narrow_terms k c k_in c_in)) (to_in k k_in) (touched_to ways many k k_in) j_in).0 in
-      let e = if_true (l == l) (after (ways k).taken (Some j) c) (pos 0) (test_true l l refl) in
+      let e = if_true (l == l) (after (ways k).taken (Some j) c) (pos 0) (eq-eqb l l refl) in
       let o = of_term_number (update_of (ways k).taken.updates j) c in
       let u = if_small ((ways k).taken.from == l) (unit_at (Some j) c) (unit_small (Some j) c) in
       plain (entered (ways k).taken l (Some j) c) (left (ways k).taken l (Some j) c) (term_number c (update_of (ways k).taken.updates j)) (e ∙ o) u a

@@ -2,9 +2,10 @@
 use Rattle.std.proofs.Common.{◌≡◌, inl, inr, ℕ, zero, suc, ◌+◌, ◌-◌, ◌<◌, ◌≤◌, List, [], ◌∷◌, ◌++◌, length, Bool, true, false, ◌==◌, if◌then◌else◌, All, arith, refl, ap, ◌∙◌, subst, ℤ, pos}
 use Rattle.std.proofs.lemmas.List.{append-nil}
 use Rattle.std.proofs.lemmas.List.Elements.{All-nil, All-cons, All-append}
+use Rattle.std.proofs.lemmas.Bool.{eq-eqb, ne_eqb}
 use Rattle.tv_linear.specs.Linear.{Linear}
 use Rattle.tv_linear.specs.Arithmetic.{constant_row}
-use Rattle.tv_linear.proofs.ListLaws.{test_true, test_false, same_or_below}
+use Rattle.tv_linear.proofs.ListLaws.{same_or_below}
 use Rattle.tv_rank.specs.declared.found.LocalTerm.{LocalTerm}
 use Rattle.tv_rank.specs.Ways.{Way, touches}
 use Rattle.tv_rank.specs.RankingSystem.{term_unknowns, terms_below}
@@ -31,14 +32,14 @@ nowhere_both l (t ∷ ts) us h g = (h.0, nowhere_both l ts us h.1 g)
 
 nowhere_left : (v l : ℕ) (ts us : List LocalTerm) → Nowhere l ts → local_term v (ts ++ us) l ≡ local_term v us l
 nowhere_left v l [] us h = refl
-nowhere_left v l (t ∷ ts) us h = row_else (t.location == l) t.row (local_term v (ts ++ us) l) (test_false t.location l h.0) ∙ nowhere_left v l ts us h.1
+nowhere_left v l (t ∷ ts) us h = row_else (t.location == l) t.row (local_term v (ts ++ us) l) (ne_eqb t.location l h.0) ∙ nowhere_left v l ts us h.1
 
 nowhere_right : (v l : ℕ) (ts us : List LocalTerm) → Nowhere l us → local_term v (ts ++ us) l ≡ local_term v ts l
 nowhere_right v l [] us h = none us h
   where
     none : (us : List LocalTerm) → Nowhere l us → local_term v us l ≡ constant_row v (pos 0)
     none [] h = refl
-    none (t ∷ us) h = row_else (t.location == l) t.row (local_term v us l) (test_false t.location l h.0) ∙ none us h.1
+    none (t ∷ us) h = row_else (t.location == l) t.row (local_term v us l) (ne_eqb t.location l h.0) ∙ none us h.1
 nowhere_right v l (t ∷ ts) us h = ap (λ r. if t.location == l then t.row else r) (nowhere_right v l ts us h)
 
 module _ (ways : ℕ → Way) (many v : ℕ) (xs : List ℤ) where
@@ -61,7 +62,7 @@ module _ (ways : ℕ → Way) (many v : ℕ) (xs : List ℤ) where
   ]
     where
       by_test : (b : Bool) → local_term v (if b then record { location = l; row = term_read v xs (length (terms_below ways many v l)) } ∷ [] else []) l ≡ (if b then term_read v xs (length (terms_below ways many v l)) else constant_row v (pos 0))
-      by_test true = row_if (l == l) (term_read v xs (length (terms_below ways many v l))) (constant_row v (pos 0)) (test_true l l refl)
+      by_test true = row_if (l == l) (term_read v xs (length (terms_below ways many v l))) (constant_row v (pos 0)) (eq-eqb l l refl)
       by_test false = refl
 
   -- each stands at one of the first locations, and is over the variables

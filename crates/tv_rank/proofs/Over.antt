@@ -1,9 +1,10 @@
 use Rattle.std.proofs.Common.{◌≡◌, ℕ, zero, suc, inl, inr, ◌<◌, ◌≤◌, Option, None, Some, Bool, true, false, ◌==◌, if◌then◌else◌, arith, refl, ap, ℤ, pos, neg_ℤ, ◌+ℤ◌, ◌-ℤ◌, ◌*ℤ◌}
 use Rattle.std.proofs.lemmas.Int.{ints}
+use Rattle.std.proofs.lemmas.Bool.{eq-eqb, ne_eqb}
 use Rattle.tv_simplex.specs.Sums.{total}
 use Rattle.tv_simplex.proofs.Sums.{total-same, total-less, total-add, total-times, total-zero, total-swap}
 use Rattle.tv_linear.proofs.Ring.{distribute_z}
-use Rattle.tv_linear.proofs.ListLaws.{test_true, test_false, same_or_below}
+use Rattle.tv_linear.proofs.ListLaws.{same_or_below}
 use Rattle.tv_rank.specs.RankingSystem.{unit_at}
 
 -- ---- sums over the first n columns and the constant
@@ -60,19 +61,19 @@ opposite_is x = omega (arith, ints)
 
 -- ---- one place of a sum
 none_picked : (n t : ℕ) (g : ℕ → ℤ) → n ≤ t → total n (λ l. if t == l then g l else pos 0) ≡ pos 0
-none_picked n t g h = total-zero n (λ l. if t == l then g l else pos 0) (λ l k. if_false (t == l) (g l) (pos 0) (test_false t l (λ e. omega (arith, e, h, k))))
+none_picked n t g h = total-zero n (λ l. if t == l then g l else pos 0) (λ l k. if_false (t == l) (g l) (pos 0) (ne_eqb t l (λ e. omega (arith, e, h, k))))
 
 pub picked : (n t : ℕ) (g : ℕ → ℤ) → t < n → total n (λ l. if t == l then g l else pos 0) ≡ g t
 picked zero t g h = absurd (omega (arith, h))
 picked (suc n) t g h = elim (same_or_below n t h) [
   | inl e ↦ (
       let a = none_picked n t g (omega (arith, e)) in
-      let b = if_true (t == n) (g n) (pos 0) (test_true t n e) in
+      let b = if_true (t == n) (g n) (pos 0) (eq-eqb t n e) in
       let c = ap g e in
       omega (arith, ints, a, b, c))
   | inr l ↦ (
       let a = picked n t g l in
-      let b = if_false (t == n) (g n) (pos 0) (test_false t n (λ e. omega (arith, e, l))) in
+      let b = if_false (t == n) (g n) (pos 0) (ne_eqb t n (λ e. omega (arith, e, l))) in
       omega (arith, ints, a, b))
 ]
 

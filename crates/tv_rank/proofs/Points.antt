@@ -14,9 +14,10 @@ use Rattle.tv_rank.specs.Rankings.{term_at, scaled_term, value_before, value_aft
 use Rattle.tv_rank.proofs.Over.{over, Inside, over-same, unit_times}
 use Rattle.tv_rank.proofs.Barriers.{value, width, row_of, there_before, there_after, before_at, after_at}
 use Rattle.tv_rank.proofs.Excluded.{IsPoint, RanksAt}
-use Rattle.tv_linear.proofs.ListLaws.{get_or-table, map-table, table_of, get_or-past}
+use Rattle.tv_linear.proofs.ListLaws.{get_or-table, map-table, table_of}
 use Rattle.std.proofs.lemmas.Bool.{cases_lt}
 use Rattle.std.proofs.lemmas.List.Elements.{All-from_get_or}
+use Rattle.std.proofs.lemmas.List.{get_or_past}
 
 -- the products of two lists, as many as the second has
 pub dot-by : (cs xs : List ℤ) → dot cs xs ≡ total (length xs) (λ c. get_or cs c (pos 0) *ℤ get_or xs c (pos 0))
@@ -35,7 +36,7 @@ total-short : (m n : ℕ) (cs : List ℤ) (g : ℕ → ℤ) → length cs ≤ n 
 total-short zero n cs g h = ap (λ z. total z (λ c. get_or cs c (pos 0) *ℤ g c)) (let e : n + 0 ≡ n = omega arith in e)
 total-short (suc m) n cs g h =
     ap (λ z. total z (λ c. get_or cs c (pos 0) *ℤ g c)) (let e : n + suc m ≡ suc (n + m) = omega arith in e)
-    ∙ (let a = total-short m n cs g h in let b = get_or-past cs (n + m) (pos 0) (omega (arith, h)) in let z : get_or cs (n + m) (pos 0) *ℤ g (n + m) ≡ pos 0 = ap (λ x. x *ℤ g (n + m)) b ∙ omega (arith, ints) in omega (arith, ints, a, z))
+    ∙ (let a = total-short m n cs g h in let b = get_or_past cs (n + m) (pos 0) (omega (arith, h)) in let z : get_or cs (n + m) (pos 0) *ℤ g (n + m) ≡ pos 0 = ap (λ x. x *ℤ g (n + m)) b ∙ omega (arith, ints) in omega (arith, ints, a, z))
 
 -- ---- points as lists and as functions
 abbrev pub list_of : ℕ → (Option ℕ → ℤ) → List ℤ

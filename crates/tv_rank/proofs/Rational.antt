@@ -4,12 +4,13 @@ use Rattle.std.proofs.lemmas.Int.{ints}
 use Rattle.std.proofs.lemmas.List.{length-map, get_or-map}
 use Rattle.std.proofs.lemmas.List.Elements.{All-from_get_or}
 use Rattle.std.proofs.Math.IntN.{*ℤ_comm}
+use Rattle.std.proofs.lemmas.Bool.{eq-eqb}
 use Rattle.tv_linear.specs.Linear.{Linear, linear, columns, dot}
 use Rattle.tv_linear.specs.Known.{number, given, composed, known_number, as_given}
 use Rattle.tv_linear.specs.Refutation.{Refutes, column_sum}
 use Rattle.tv_linear.specs.Terms.{terms_after}
 use Rattle.tv_linear.proofs.KnownLemmas.{length-given}
-use Rattle.tv_linear.proofs.ListLaws.{test_true, get_or-table}
+use Rattle.tv_linear.proofs.ListLaws.{get_or-table}
 use Rattle.tv_linear.proofs.PlainLists.{length-table}
 use Rattle.tv_linear.proofs.Ring.{distribute_right_z, mul_assoc_z, neg_times_z, not_above}
 use Rattle.tv_farkas.proofs.SystemLemmas.{at_of, dot-total, known-given}
@@ -199,7 +200,7 @@ module _ (v locations many : ℕ) (ways : ℕ → Way) (falling : ℕ) (falling_
   ranks_there = record {
     grows_nowhere = λ k k_in p q. let g = grows k p k_in q in let r = right_low (k == falling) (p None) q.positive in omega (arith, ints, g, r);
     bounded = not_below;
-    falls = λ p q. let g = grows falling p falling_in q in let r = right_falls (falling == falling) (p None) (test_true falling falling refl) q.positive in omega (arith, ints, g, r);
+    falls = λ p q. let g = grows falling p falling_in q in let r = right_falls (falling == falling) (p None) (eq-eqb falling falling refl) q.positive in omega (arith, ints, g, r);
   }
 
   -- ---- the same of the terms in a list

@@ -8,7 +8,7 @@ use Rattle.tv_linear.specs.Arithmetic.{constant_row}
 use Rattle.tv_linear.specs.Linear.{Linear, columns}
 use Rattle.tv_linear.specs.Known.{Term, kept, put, number, given, composed, known_number, term_number, place_sum}
 use Rattle.tv_linear.specs.Terms.{table, update_of, terms_after}
-use Rattle.tv_linear.proofs.ListLaws.{test_true, test_false, map-table, same_or_below, below_or_not}
+use Rattle.tv_linear.proofs.ListLaws.{map-table, same_or_below}
 use Rattle.tv_refute.proofs.Places.{get_or-left, get_or-right, unit_same, unit_other}
 use Rattle.tv_simplex.specs.Sums.{total}
 use Rattle.tv_simplex.specs.Systems.{entry_at}
@@ -30,7 +30,7 @@ use Rattle.tv_rank.proofs.Lengths.{length-pairs, length-multipliers, length-diff
 use Rattle.tv_rank.proofs.Flattened.{entry_of}
 use Rattle.std.proofs.lemmas.List.{get_or-map, get_or_past}
 use Rattle.tv_farkas.proofs.SystemLemmas.{total-front}
-use Rattle.std.proofs.lemmas.Bool.{cases_eq}
+use Rattle.std.proofs.lemmas.Bool.{cases_eq, eq-eqb, ne_eqb, cases_lt}
 
 -- ---- the numbers that are read
 pub get-differences : (xs : List ℤ) (s v j : ℕ) → j < v → get_or (differences xs s v) j (pos 0) ≡ difference xs s j
@@ -90,13 +90,13 @@ terms-sum g x positive negative xs ways many v (suc l) =
 -- ---- the number of a term in a column
 pub unit-number : (v : ℕ) (c : Option ℕ) (f : Linear) → columns f ≡ v → over v (λ m. unit_at m c *ℤ number m f) ≡ number c f
 unit-number v None f e = (let z = total-zero v (λ m. pos 0 *ℤ number (Some m) f) (λ m l. omega (arith, ints)) in omega (arith, ints, z))
-unit-number v (Some j) f e = elim (below_or_not j v) [
+unit-number v (Some j) f e = elim (cases_lt j v) [
   | inl l ↦ (
       let a = total-same v (λ m. unit_at (Some m) (Some j) *ℤ number (Some m) f) (λ m. if m == j then number (Some m) f else pos 0) (λ m k. if_times (m == j) (number (Some m) f)) in
       let b = picked_turned v j (λ m. number (Some m) f) l in
       omega (arith, ints, a, b))
   | inr p ↦ (
-      let a = total-zero v (λ m. unit_at (Some m) (Some j) *ℤ number (Some m) f) (λ m k. if_times (m == j) (number (Some m) f) ∙ if_false (m == j) (number (Some m) f) (pos 0) (test_false m j (λ q. omega (arith, q, k, p)))) in
+      let a = total-zero v (λ m. unit_at (Some m) (Some j) *ℤ number (Some m) f) (λ m k. if_times (m == j) (number (Some m) f) ∙ if_false (m == j) (number (Some m) f) (pos 0) (ne_eqb m j (λ q. omega (arith, q, k, p)))) in
       let b = get_or_past f.coefficients j (pos 0) (omega (arith, e, p)) in
       omega (arith, ints, a, b))
 ]
@@ -104,8 +104,8 @@ unit-number v (Some j) f e = elim (below_or_not j v) [
 pub of_term_number : (t : Term) (c : Option ℕ) → number_of c t ≡ term_number c t
 of_term_number (kept w) None = refl
 of_term_number (kept w) (Some j) = elim (cases_eq w j) [
-  | inl e ↦ if_true (w == j) (pos 1) (pos 0) (test_true w j e) ∙ unit_same j w (sym e)
-  | inr n ↦ if_false (w == j) (pos 1) (pos 0) (test_false w j n) ∙ unit_other j w (λ e. n (sym e))
+  | inl e ↦ if_true (w == j) (pos 1) (pos 0) (eq-eqb w j e) ∙ unit_same j w (sym e)
+  | inr n ↦ if_false (w == j) (pos 1) (pos 0) (ne_eqb w j n) ∙ unit_other j w (λ e. n (sym e))
 ]
 of_term_number (put r) None = refl
 of_term_number (put r) (Some j) = refl

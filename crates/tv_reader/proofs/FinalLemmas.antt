@@ -34,7 +34,6 @@ use Rattle.tv_reader.specs.Places.{line_of, column_of}
 use Rattle.tv_reading.specs.Answers.{Unless, kind_of}
 use Rattle.tv_reader.specs.Readers.{is_closed, are_known, left, Fixture, fixture, Steady, IsSteady, starts_view, items_view}
 use Rattle.tv_reader.specs.FirstFaults.{ends_with_colon, brought_in, HasFault, IsRefused, IsReadAs, IsTold, IsMade}
-use Rattle.tv_reading.proofs.LinearLemmas.{and_left, and_right}
 use Rattle.tv_reader.proofs.WordLemmas.{has, has_all, has_each, take_all}
 use Rattle.tv_reader.proofs.TokenLemmas.{tokens_closed}
 use Rattle.tv_reader.proofs.StepLemmas.{here}
@@ -43,7 +42,7 @@ use Rattle.tv_reader.proofs.ProgramEnds.{program_ends}
 use Rattle.tv_reader.proofs.ProgramLoose.{program_loose}
 use Rattle.tv_reader.proofs.WholeTexts.{program_found, IsReadWhole, program_only}
 use Rattle.std.proofs.lemmas.List.{take-append-drop}
-use Rattle.std.proofs.lemmas.Bool.{and_from}
+use Rattle.std.proofs.lemmas.Bool.{and_from, and_parts}
 
 -- ---- lists
 
@@ -71,7 +70,7 @@ drop_front (x ∷ b) c = drop_front b c
 
 all_known : (names ws : List Word) → has_all names ws ≡ true → are_known names ws ≡ true
 all_known names [] h = refl
-all_known names (w ∷ ws) h = and_from _ _ (first (has names w) (and_left _ _ h)) (all_known names ws (and_right _ _ h))
+all_known names (w ∷ ws) h = and_from _ _ (first (has names w) ((and_parts _ _ h).0)) (all_known names ws ((and_parts _ _ h).1))
   where
     first : (b : Bool) → b ≡ true → (b || nat_le 512 (length names)) ≡ true
     first true e = refl

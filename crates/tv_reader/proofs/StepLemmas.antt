@@ -14,14 +14,13 @@ use Rattle.tv_grammar.specs.Reads.{next}
 use Rattle.tv_reading.specs.Marks as marks
 use Rattle.tv_reading.specs.Marks.{Mark, plain, refused, symbol_of, symbols_of, TooMany, Stand, past, first, Passes, stay, pass}
 use Rattle.tv_reading.specs.Readings.{taken, token_at, or_end}
-use Rattle.tv_reading.proofs.LinearLemmas.{and_left, and_right}
 use Rattle.tv_reading.proofs.PassedLemmas.{between, here_is, symbols-append, passes_kept}
 use Rattle.tv_reader.specs.ProgramMarks.{mark_by, draws_behind, marks_from}
 use Rattle.tv_reader.specs.ProgramMarks as own
 use Rattle.tv_reading.specs.Views.{is_last}
 use Rattle.tv_reader.specs.Readers.{is_closed, are_known, is_passing, Steady}
 use Rattle.tv_reading.proofs.SymbolLemmas.{body, all_body, draws_at, draws_at_all, draws-append}
-use Rattle.std.proofs.lemmas.Bool.{and_from}
+use Rattle.std.proofs.lemmas.Bool.{and_from, and_parts}
 
 -- ---- the token that comes
 
@@ -43,7 +42,7 @@ behind_is s h = sym (drop-drop 1 s.at s.tokens) ∙ ap (drop 1) h.parts
 
 closed_behind : (t : Token) (ts : List Token) → is_closed (t ∷ ts) ≡ true → is_last t.kind ≡ false → is_closed ts ≡ true
 closed_behind t [] c l = absurd cc
-closed_behind t (u ∷ us) c l = and_right _ _ c
+closed_behind t (u ∷ us) c l = (and_parts _ _ c).1
 
 longer : (t : Token) (ts : List Token) → is_closed (t ∷ ts) ≡ true → is_last t.kind ≡ false → 1 < length (t ∷ ts)
 longer t [] c l = absurd cc
@@ -77,7 +76,7 @@ known_front : (names : List Word) (b : Bool) (kind : TokenKind) (w : Word) (ws :
 known_front names b kind w ws h = by (not b && symbols.is_name kind) h
   where
     by : (c : Bool) → are_known names (symbols.in_front c w ws) ≡ true → are_known names ws ≡ true
-    by true g = and_right _ _ g
+    by true g = (and_parts _ _ g).1
     by false g = g
 
 known_behind : (s : Stand) (b : Bool) (h : Here s) → are_known s.names (variable_words b (lexemes s.text (drop s.at s.tokens))) ≡ true → are_known s.names (variable_words (is_colon h.token.kind) (lexemes s.text h.rest)) ≡ true
@@ -143,7 +142,7 @@ kept_names (Some k) w names h = by (nat_lt (length names) 512)
 kept_names None w names h = let less : nat_lt (length names) 512 ≡ false = grind (arith, nat_tests) in ap (λ (b : Bool). cond b (with_new None w names) names) less
 
 same_mark : (names labels : List Word) (d : ℕ) (kind : TokenKind) (w : Word) (ws : List Word) → are_known names (variable_by false kind w ws) ≡ true → marks.mark_by true names d kind w ≡ mark_by (record { variables = names; labels = labels }) false d kind w
-same_mark names labels d kinds.Name w ws k = known_name (number_of w names) (length names) (and_left _ _ k)
+same_mark names labels d kinds.Name w ws k = known_name (number_of w names) (length names) ((and_parts _ _ k).0)
 same_mark names labels d kinds.Number w ws k = refl
 same_mark names labels d kinds.Nondet w ws k = refl
 same_mark names labels d kind w ws k = refl
@@ -173,7 +172,7 @@ number_counted true n d = omega arith
 number_counted false n d = omega arith
 
 inner : (names : List Word) (d : ℕ) (kind : TokenKind) (w : Word) (ws : List Word) → are_known names (variable_by false kind w ws) ≡ true → body (symbol_of (marks.mark_by true names d kind w)) ≡ true → Inner names d kind w
-inner names d kinds.Name w ws k h = record { colon = refl; last = refl; names_stay = kept_names (number_of w names) w names (and_left _ _ k); draws = refl; counted = name_counted true (number_of w names) (length names) d }
+inner names d kinds.Name w ws k h = record { colon = refl; last = refl; names_stay = kept_names (number_of w names) w names ((and_parts _ _ k).0); draws = refl; counted = name_counted true (number_of w names) (length names) d }
 inner names d kinds.Number w ws k h = record { colon = refl; last = refl; names_stay = refl; draws = refl; counted = number_counted (nat_lt (value_of_digits w) (2 ^ 62)) (value_of_digits w) d }
 inner names d kinds.Nondet w ws k h = record { colon = refl; last = refl; names_stay = refl; draws = refl; counted = draw_counted (nat_lt d 64) d h }
 inner names d kinds.Colon w ws k h = absurd cc
@@ -242,8 +241,8 @@ module _ (labels : List Word) (u : Stand) (t : Token) (at : first (drop u.at u.t
   one_draws = one_inner.counted ∙ ap (λ (b : Bool). u.draws + draws_at (symbol_of (marks.mark_by b u.names u.draws t.kind (lexeme u.text t).word))) (sym w.grows)
 
 body_parts : (a : List Mark) (m : Mark) → all_body (symbols_of (a ++ m ∷ [])) ≡ true → (all_body (symbols_of a) ≡ true) × (body (symbol_of m) ≡ true)
-body_parts [] m h = (refl, and_left _ _ h)
-body_parts (x ∷ a) m h = let w = body_parts a m (and_right _ _ h) in (and_from _ _ (and_left _ _ h) w.0, w.1)
+body_parts [] m h = (refl, (and_parts _ _ h).0)
+body_parts (x ∷ a) m h = let w = body_parts a m ((and_parts _ _ h).1) in (and_from _ _ ((and_parts _ _ h).0) w.0, w.1)
 
 pub travels : (labels : List Word) {s u : Stand} → Passes s u → Steady false s → (passed : List Mark) → marks.left s ≡ passed ++ marks.left u → all_body (symbols_of passed) ≡ true → Travels labels s u passed
 travels labels (stay s) w passed e h =
@@ -291,7 +290,7 @@ last_alone labels b s c l =
   where
     alone : (t : Token) (ts : List Token) → is_closed (t ∷ ts) ≡ true → is_last t.kind ≡ true → ts ≡ []
     alone t [] c l = refl
-    alone t (u ∷ us) c l = let first : not (is_last t.kind) ≡ true = and_left _ _ c in absurd (never (is_last t.kind) first l)
+    alone t (u ∷ us) c l = let first : not (is_last t.kind) ≡ true = (and_parts _ _ c).0 in absurd (never (is_last t.kind) first l)
       where
         never : (b : Bool) → not b ≡ true → b ≡ true → ⊥
         never true e f = cc

@@ -14,11 +14,10 @@ use Rattle.tv_language.specs.Symbols.{Symbol, number, name, label, drawn, fixed,
 use Rattle.tv_language.specs.Programs as programs
 use Rattle.tv_language.specs.Programs.{AreItems, no_item, start, passed, draws_counted}
 use Rattle.tv_reading.specs.Marks.{plain, refused, symbol_of, symbols_of, TooMany}
-use Rattle.tv_reading.proofs.LinearLemmas.{and_left, and_right}
 use Rattle.tv_reader.specs.ProgramMarks.{label_behind, start_word, numbered, mark_by, draws_behind, marks_from}
 use Rattle.tv_reading.proofs.SymbolLemmas.{body, all_body, sound, all_sound, commands_uses}
 use Rattle.tv_reader.proofs.WordLemmas.{has, has_all, has_behind, has_here}
-use Rattle.std.proofs.lemmas.Bool.{and_from}
+use Rattle.std.proofs.lemmas.Bool.{and_from, and_parts}
 
 -- ---- what stands in a program
 
@@ -39,7 +38,7 @@ body_fine s h = refl
 
 bodies_fine : (a rest : List Symbol) → all_body a ≡ true → all_fine rest ≡ true → all_fine (a ++ rest) ≡ true
 bodies_fine [] rest h i = i
-bodies_fine (s ∷ a) rest h i = and_from _ _ (body_fine s (and_left _ _ h)) (bodies_fine a rest (and_right _ _ h) i)
+bodies_fine (s ∷ a) rest h i = and_from _ _ (body_fine s ((and_parts _ _ h).0)) (bodies_fine a rest ((and_parts _ _ h).1) i)
 
 pub items_fine : {starts : List ℕ} {edges : List Transition} {ts : List Symbol} → AreItems starts edges ts → all_fine ts ≡ true
 items_fine no_item = refl
@@ -58,17 +57,17 @@ sound_more d (fixed k) le h = refl
 
 sounds_more : (d : ℕ) (a rest : List Symbol) → d ≤ 64 → all_sound d a ≡ true → all_sound 64 rest ≡ true → all_sound 64 (a ++ rest) ≡ true
 sounds_more d [] rest le h i = i
-sounds_more d (s ∷ a) rest le h i = and_from _ _ (sound_more d s le (and_left _ _ h)) (sounds_more d a rest le (and_right _ _ h) i)
+sounds_more d (s ∷ a) rest le h i = and_from _ _ (sound_more d s le ((and_parts _ _ h).0)) (sounds_more d a rest le ((and_parts _ _ h).1) i)
 
 pub items_sound : (v l : ℕ) {starts : List ℕ} {edges : List Transition} {ts : List Symbol} → AreItems starts edges ts → list_all (transition_fits v l) edges ≡ true → all_sound 64 ts ≡ true
 items_sound v l no_item h = refl
 items_sound v l (start are) h = items_sound v l are h
 items_sound v l (programs.AreItems.edge {m} {commands} {us} cs are) h =
     let u = commands_uses cs in
-    let fits = and_left _ _ h in
-    let few : nat_le (draws_counted commands) 64 ≡ true = and_right _ _ (and_left _ _ fits) in
+    let fits = (and_parts _ _ h).0 in
+    let few : nat_le (draws_counted commands) 64 ≡ true = (and_parts _ _ ((and_parts _ _ fits).0)).1 in
     let le : draws_counted commands ≤ 64 = grind (arith, nat_tests) in
-    ap (all_sound 64) u.parts ∙ sounds_more (draws_counted commands) u.used (fixed kinds.To ∷ fixed kinds.Colon ∷ label m ∷ fixed kinds.Semicolon ∷ us) le (u.soundly v (draws_counted commands) (and_right _ _ fits)) (items_sound v l are (and_right _ _ h))
+    ap (all_sound 64) u.parts ∙ sounds_more (draws_counted commands) u.used (fixed kinds.To ∷ fixed kinds.Colon ∷ label m ∷ fixed kinds.Semicolon ∷ us) le (u.soundly v (draws_counted commands) ((and_parts _ _ fits).1)) (items_sound v l are ((and_parts _ _ h).1))
 items_sound v l (passed are) h = items_sound v l are h
 items_sound v l (programs.AreItems.mark are) h = items_sound v l are h
 items_sound v l (programs.AreItems.ended_mark are) h = items_sound v l are h
@@ -111,9 +110,9 @@ pub marks_fine : (v : Vocabulary) (b : Bool) (d : ℕ) (xs : List Lexeme) → al
 unfolding marks_from
 marks_fine v b d [] h = refl
 marks_fine v b d (x ∷ xs) h =
-    let a = alike v b d x.kind x.word (and_left _ _ h) in
+    let a = alike v b d x.kind x.word ((and_parts _ _ h).0) in
     ap (λ (s : Symbol). s ∷ symbols_of (marks_from v (is_colon x.kind) (draws_behind x.kind d) xs)) a.0
-    ∙ ap (λ (ss : List Symbol). symbol_by v b d x.kind x.word ∷ ss) (marks_fine v (is_colon x.kind) (draws_behind x.kind d) xs (and_right _ _ h))
+    ∙ ap (λ (ss : List Symbol). symbol_by v b d x.kind x.word ∷ ss) (marks_fine v (is_colon x.kind) (draws_behind x.kind d) xs ((and_parts _ _ h).1))
     ∙ ap (λ (k : ℕ). symbol_by v b d x.kind x.word ∷ symbols_from v (is_colon x.kind) k xs) a.1
 
 number_sound : (b : Bool) (n : ℕ) → b ≡ true → fine (symbol_of (cond b (plain (number n)) (plain (fixed kinds.Wide)))) ≡ true
@@ -139,11 +138,11 @@ pub symbols_marked : (v : Vocabulary) (b : Bool) (d : ℕ) (xs : List Lexeme) �
 unfolding marks_from
 symbols_marked v b d [] h i = refl
 symbols_marked v b d (x ∷ xs) h i =
-    let f = fine_mark v b d x.kind x.word (and_left _ _ h) (and_left _ _ i) in
+    let f = fine_mark v b d x.kind x.word ((and_parts _ _ h).0) ((and_parts _ _ i).0) in
     let a = alike v b d x.kind x.word f in
     and_from _ _ f (symbols_marked v (is_colon x.kind) (draws_behind x.kind d) xs
-    (ap (λ (k : ℕ). all_fine (symbols_from v (is_colon x.kind) k xs)) a.1 ∙ and_right _ _ h)
-    (ap (λ (k : ℕ). all_sound 64 (symbols_from v (is_colon x.kind) k xs)) a.1 ∙ and_right _ _ i))
+    (ap (λ (k : ℕ). all_fine (symbols_from v (is_colon x.kind) k xs)) a.1 ∙ (and_parts _ _ h).1)
+    (ap (λ (k : ℕ). all_sound 64 (symbols_from v (is_colon x.kind) k xs)) a.1 ∙ (and_parts _ _ i).1))
 
 -- ---- each word of a text without a fault has a number
 
@@ -169,12 +168,12 @@ variables_by v true d kind w ws h i = i
 pub labels_numbered : (v : Vocabulary) (b : Bool) (d : ℕ) (xs : List Lexeme) → all_fine (symbols_of (marks_from v b d xs)) ≡ true → has_all v.labels (label_words b xs) ≡ true
 unfolding marks_from
 labels_numbered v b d [] h = refl
-labels_numbered v b d (x ∷ xs) h = labels_by v b d x.kind x.word (label_words (is_colon x.kind) xs) (and_left _ _ h) (labels_numbered v (is_colon x.kind) (draws_behind x.kind d) xs (and_right _ _ h))
+labels_numbered v b d (x ∷ xs) h = labels_by v b d x.kind x.word (label_words (is_colon x.kind) xs) ((and_parts _ _ h).0) (labels_numbered v (is_colon x.kind) (draws_behind x.kind d) xs ((and_parts _ _ h).1))
 
 pub variables_numbered : (v : Vocabulary) (b : Bool) (d : ℕ) (xs : List Lexeme) → all_fine (symbols_of (marks_from v b d xs)) ≡ true → has_all v.variables (variable_words b xs) ≡ true
 unfolding marks_from
 variables_numbered v b d [] h = refl
-variables_numbered v b d (x ∷ xs) h = variables_by v b d x.kind x.word (variable_words (is_colon x.kind) xs) (and_left _ _ h) (variables_numbered v (is_colon x.kind) (draws_behind x.kind d) xs (and_right _ _ h))
+variables_numbered v b d (x ∷ xs) h = variables_by v b d x.kind x.word (variable_words (is_colon x.kind) xs) ((and_parts _ _ h).0) (variables_numbered v (is_colon x.kind) (draws_behind x.kind d) xs ((and_parts _ _ h).1))
 
 -- ---- the label of START
 
@@ -197,7 +196,7 @@ no_start_by s ss later h = refl
 
 no_start : (a rest : List Symbol) → all_body a ≡ true → start_symbol (a ++ rest) ≡ start_symbol rest
 no_start [] rest h = refl
-no_start (s ∷ a) rest h = no_start_by s (a ++ rest) (start_symbol (a ++ rest)) (and_left _ _ h) ∙ no_start a rest (and_right _ _ h)
+no_start (s ∷ a) rest h = no_start_by s (a ++ rest) (start_symbol (a ++ rest)) ((and_parts _ _ h).0) ∙ no_start a rest ((and_parts _ _ h).1)
 
 abbrev first_of : List ℕ → Option ℕ
 first_of [] = None

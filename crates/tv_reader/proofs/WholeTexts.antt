@@ -8,7 +8,6 @@ use Rattle.tv_language.specs.declared.token.Token.{Token}
 use Rattle.tv_language.specs.Tokens.{IsTokens}
 use Rattle.tv_program.specs.Words.{Word, number_of, words_with, with_new}
 use Rattle.tv_program.specs.Systems.{System, IsLimited}
-use Rattle.tv_reading.proofs.LinearLemmas.{and_left, and_right}
 use Rattle.tv_language.specs.Symbols.{Symbol, Lexeme, lexemes, Vocabulary, symbols_from, variable_words, label_words, by_first_place}
 use Rattle.tv_language.specs.Programs.{AreItems, IsProgramText}
 use Rattle.tv_language.proofs.PlaceOfWords.{shifted, here_or, number_first, or_last, number_more}
@@ -22,13 +21,14 @@ use Rattle.tv_reader.proofs.WordLemmas.{has, has_all, has_each, among, all_first
 use Rattle.tv_reader.proofs.VocabularyLemmas.{all_fine, items_fine, items_sound, marks_fine, symbols_marked, labels_numbered, variables_numbered, Starts, items_starts}
 use Rattle.tv_reader.proofs.ProgramTexts.{program_is}
 use Rattle.tv_reader.proofs.ProgramsRead.{program_is_read}
-use Rattle.std.proofs.lemmas.Bool.{and_from}
+use Rattle.std.proofs.lemmas.Bool.{and_from, and_parts}
+use Rattle.std.proofs.Math.Bool.{or_assoc}
 
 -- ---- what is read is a program
 
 each_led : (o : Option Word) (ls ws : List Word) → has_all (led_by o ls) ws ≡ true → has_all ls ws ≡ true
 each_led o ls [] h = refl
-each_led o ls (w ∷ ws) h = and_from _ _ (led_has o ls w (and_left _ _ h)) (each_led o ls ws (and_right _ _ h))
+each_led o ls (w ∷ ws) h = and_from _ _ (led_has o ls w ((and_parts _ _ h).0)) (each_led o ls ws ((and_parts _ _ h).1))
 
 the_same : (l : ℕ) (o : Option ℕ) → o ≡ Some l → o ≡ Some 0 → l ≡ 0
 the_same l o e f = cc
@@ -97,10 +97,6 @@ length_with w ws = by (number_of w ws)
     by : (o : Option ℕ) → length (with_new o w ws) ≡ length ws + one (not (is_some o))
     by None = length-append ws (w ∷ [])
     by (Some n) = omega arith
-
-or_assoc : (a b c : Bool) → ((a || b) || c) ≡ (a || (b || c))
-or_assoc true b c = refl
-or_assoc false b c = refl
 
 -- the lengths after one more word, told whether it is the one in front, and whether it and that one were there
 step_same : (k f : ℕ) (there : Bool) → f + one there ≡ k + 1 → f + 0 + one (there || true) ≡ k + one (not there) + 1

@@ -10,9 +10,8 @@ use Rattle.tv_program.specs.Words.{Word, number_of, words_with, with_new}
 use Rattle.tv_language.specs.Symbols.{by_first_place}
 use Rattle.tv_language.proofs.PlaceOfWords.{shifted, here_or, number_first, or_last, number_more}
 use Rattle.tv_language.proofs.PlaceLemmas.{leads, leader-number}
-use Rattle.tv_reading.proofs.LinearLemmas.{and_left, and_right}
 use Rattle.tv_reader.specs.ProgramMarks.{moved_in_front, led_by}
-use Rattle.std.proofs.lemmas.Bool.{and_from}
+use Rattle.std.proofs.lemmas.Bool.{and_from, and_parts}
 
 -- whether the word has a number among these
 abbrev pub has : List Word → Word → Bool
@@ -63,10 +62,10 @@ has_of None false l h e = absurd cc
 -- where the one list has all words of the others, it has each word that is placed
 pub placed_among : (all known ws : List Word) (w : Word) → ((u : Word) → has known u ≡ true → has all u ≡ true) → has_all all ws ≡ true → has (by_first_place known ws) w ≡ true → has all w ≡ true
 placed_among all known [] w h i j = h w j
-placed_among all known (v ∷ ws) w h i j = placed_among all (words_with v known) ws w (λ u e. by u (number_of v known) e) (and_right _ _ i) j
+placed_among all known (v ∷ ws) w h i j = placed_among all (words_with v known) ws w (λ u e. by u (number_of v known) e) ((and_parts _ _ i).1) j
   where
     last : (u : Word) (b : Bool) → bytes_eq u v ≡ b → is_some (or_last (number_of u known) b (length known)) ≡ true → has all u ≡ true
-    last u true same e = subst (λ (x : Word). has all x ≡ true) (sym ((bytes_eq-Decides u v).0 same)) (and_left _ _ i)
+    last u true same e = subst (λ (x : Word). has all x ≡ true) (sym ((bytes_eq-Decides u v).0 same)) ((and_parts _ _ i).0)
     last u false same e = h u (has_of (number_of u known) false (length known) e refl)
 
     by : (u : Word) (o : Option ℕ) → is_some (number_of u (with_new o v known)) ≡ true → has all u ≡ true
@@ -99,7 +98,7 @@ take_all (w ∷ ws) (suc n) h = ap (λ (us : List Word). w ∷ us) (take_all ws 
 -- Where each word has a number among the first ones, these are all.
 pub all_first : (most : ℕ) (known ws : List Word) → length known ≤ most → has_all (take most (by_first_place known ws)) ws ≡ true → take most (by_first_place known ws) ≡ by_first_place known ws
 all_first most known [] few h = take_all known most few
-all_first most known (w ∷ ws) few h = by (number_of w known) refl (and_left _ _ h) (and_right _ _ h) (λ names l i. all_first most names ws l i)
+all_first most known (w ∷ ws) few h = by (number_of w known) refl ((and_parts _ _ h).0) ((and_parts _ _ h).1) (λ names l i. all_first most names ws l i)
   where
     full : (b : Bool) → nat_lt (length known) most ≡ b → number_of w known ≡ None → has (take most (by_first_place (known ++ w ∷ []) ws)) w ≡ true → has_all (take most (by_first_place (known ++ w ∷ []) ws)) ws ≡ true → ((names : List Word) → length names ≤ most → has_all (take most (by_first_place names ws)) ws ≡ true → take most (by_first_place names ws) ≡ by_first_place names ws) → take most (by_first_place (known ++ w ∷ []) ws) ≡ by_first_place (known ++ w ∷ []) ws
     full true lt e one rest again = let l : length known < most = grind (arith, nat_tests) in again (known ++ w ∷ []) (omega (arith, l, length-append known (w ∷ []))) rest
@@ -122,14 +121,14 @@ all_first most known (w ∷ ws) few h = by (number_of w known) refl (and_left _ 
 -- a word of a list all of whose words are among others
 pub among : (all us : List Word) (u : Word) → has us u ≡ true → has_all all us ≡ true → has all u ≡ true
 among all [] u h i = absurd cc
-among all (x ∷ us) u h i = by (bytes_eq u x) refl (sym (ap is_some (number_first u x us)) ∙ h) (λ j. among all us u j (and_right _ _ i))
+among all (x ∷ us) u h i = by (bytes_eq u x) refl (sym (ap is_some (number_first u x us)) ∙ h) (λ j. among all us u j ((and_parts _ _ i).1))
   where
     rest : (o : Option ℕ) → is_some (shifted o) ≡ true → is_some o ≡ true
     rest (Some n) e = refl
     rest None e = absurd cc
 
     by : (b : Bool) → bytes_eq u x ≡ b → is_some (here_or b (number_of u us)) ≡ true → (has us u ≡ true → has all u ≡ true) → has all u ≡ true
-    by true e w again = subst (λ (y : Word). has all y ≡ true) (sym ((bytes_eq-Decides u x).0 e)) (and_left _ _ i)
+    by true e w again = subst (λ (y : Word). has all y ≡ true) (sym ((bytes_eq-Decides u x).0 e)) ((and_parts _ _ i).0)
     by false e w again = again (rest (number_of u us) w)
 
 with_known : (w : Word) (ws : List Word) → has ws w ≡ true → words_with w ws ≡ ws
@@ -175,7 +174,7 @@ has_behind ws v u h = ap is_some (number_first u v ws) ∙ by (bytes_eq u v) (nu
 
 has_all_behind : (ws : List Word) (v : Word) (us : List Word) → has_all ws us ≡ true → has_all (v ∷ ws) us ≡ true
 has_all_behind ws v [] h = refl
-has_all_behind ws v (u ∷ us) h = and_from _ _ (has_behind ws v u (and_left _ _ h)) (has_all_behind ws v us (and_right _ _ h))
+has_all_behind ws v (u ∷ us) h = and_from _ _ (has_behind ws v u ((and_parts _ _ h).0)) (has_all_behind ws v us ((and_parts _ _ h).1))
 
 pub has_here : (ws : List Word) (v : Word) → has (v ∷ ws) v ≡ true
 has_here ws v = ap is_some (number_first v v ws) ∙ ap (λ (b : Bool). is_some (here_or b (number_of v ws))) ((bytes_eq-Decides v v).1 refl)

@@ -9,8 +9,7 @@ use Rattle.tv_language.specs.Symbols.{Symbol, number, name, drawn}
 use Rattle.tv_language.specs.Sums.{gathered, IsFactor, constant, variable, draw, bracketed, negative, AreFactors, no_factor, times, IsProduct, factors, AreProducts, no_product, plus, less, IsSum, products}
 use Rattle.tv_language.specs.Conditions as conditions
 use Rattle.tv_language.specs.Conditions.{joined, IsPlain, always, never, denied, IsLiteral, comparison, AreLiterals, no_literal, and, IsConjunction, literals, AreConjunctions, no_conjunction, or, IsCondition, conjunctions}
-use Rattle.tv_reading.proofs.LinearLemmas.{and_left, and_right}
-use Rattle.std.proofs.lemmas.Bool.{and_from}
+use Rattle.std.proofs.lemmas.Bool.{and_from, and_parts}
 
 -- ---- depth
 
@@ -100,20 +99,20 @@ all_fit variables draws (s ∷ ss) = symbol_fits variables draws s && all_fit va
 
 sum_fit : (v d : ℕ) (es : List Expression) → expressions_fit v d (parts_of es) ≡ true → expression_fits v d (gathered trees.sum es) ≡ true
 sum_fit v d [] h = refl
-sum_fit v d (e ∷ []) h = and_left _ _ h
+sum_fit v d (e ∷ []) h = (and_parts _ _ h).0
 sum_fit v d (e ∷ f ∷ es) h = h
 
 product_fit : (v d : ℕ) (es : List Expression) → is_linear_product (parts_of es) ≡ true → expressions_fit v d (parts_of es) ≡ true → expression_fits v d (gathered trees.product es) ≡ true
 product_fit v d [] l h = refl
-product_fit v d (e ∷ []) l h = and_left _ _ h
+product_fit v d (e ∷ []) l h = (and_parts _ _ h).0
 product_fit v d (e ∷ f ∷ es) l h = and_from _ _ l h
 
 module _ (v d : ℕ) where
   mutual
     factor_fits : {n : ℕ} {e : Expression} {ts rest : List Symbol} → IsFactor n e ts rest → all_fit v d ts ≡ true → (expression_fits v d e ≡ true) × (all_fit v d rest ≡ true)
-    factor_fits constant h = (and_left _ _ h, and_right _ _ h)
-    factor_fits variable h = (and_left _ _ h, and_right _ _ h)
-    factor_fits draw h = (and_left _ _ h, and_right _ _ h)
+    factor_fits constant h = and_parts _ _ h
+    factor_fits variable h = and_parts _ _ h
+    factor_fits draw h = and_parts _ _ h
     factor_fits (bracketed s) h = sum_fits s h
     factor_fits (negative f) h = factor_fits f h
 
@@ -134,12 +133,12 @@ module _ (v d : ℕ) where
 
 all_fit_of : (v d : ℕ) (cs : List Condition) → conditions_fit v d (tests_of cs) ≡ true → condition_fits v d (joined all_of cs) ≡ true
 all_fit_of v d [] h = refl
-all_fit_of v d (c ∷ []) h = and_left _ _ h
+all_fit_of v d (c ∷ []) h = (and_parts _ _ h).0
 all_fit_of v d (c ∷ e ∷ cs) h = h
 
 some_fit_of : (v d : ℕ) (cs : List Condition) → conditions_fit v d (tests_of cs) ≡ true → condition_fits v d (joined some_of cs) ≡ true
 some_fit_of v d [] h = refl
-some_fit_of v d (c ∷ []) h = and_left _ _ h
+some_fit_of v d (c ∷ []) h = (and_parts _ _ h).0
 some_fit_of v d (c ∷ e ∷ cs) h = h
 
 module _ (v d : ℕ) where

@@ -8,15 +8,7 @@ use Rattle.tv_program.specs.Views.{parts_of, expression, expressions}
 use Rattle.tv_program.specs.Limits.{is_constant, are_constant, is_linear_product}
 use Rattle.tv_language.specs.Sums.{gathered}
 use Rattle.std.proofs.Math.Bool.{and-true}
-use Rattle.std.proofs.lemmas.Bool.{and_from}
-
-pub and_left : (a b : Bool) → (a && b) ≡ true → a ≡ true
-and_left true b h = refl
-and_left false b h = absurd cc
-
-pub and_right : (a b : Bool) → (a && b) ≡ true → b ≡ true
-and_right true b h = h
-and_right false b h = absurd cc
+use Rattle.std.proofs.lemmas.Bool.{and_from, and_parts}
 
 -- ---- constant lists
 
@@ -42,16 +34,16 @@ pub constant_all : (es : List Expression) (e : Expression) → are_constant (par
 constant_all es e h i = constant-push es e ∙ and_from _ _ h i
 
 pub constant_first : (e : Expression) (es : List Expression) → are_constant (parts_of (e ∷ es)) ≡ true → is_constant e ≡ true
-constant_first e es h = and_left _ _ h
+constant_first e es h = (and_parts _ _ h).0
 
 pub constant_rest : (e : Expression) (es : List Expression) → are_constant (parts_of (e ∷ es)) ≡ true → are_constant (parts_of es) ≡ true
-constant_rest e es h = and_right (is_constant e) _ h
+constant_rest e es h = (and_parts (is_constant e) _ h).1
 
 -- ---- linear products
 
 constant_linear : (es : Expressions) → are_constant es ≡ true → is_linear_product es ≡ true
 constant_linear Expressions.no_part h = refl
-constant_linear (Expressions.part e es) h = either_right _ _ (and_right (is_constant e) _ h)
+constant_linear (Expressions.part e es) h = either_right _ _ ((and_parts (is_constant e) _ h).1)
   where
     either_right : (a b : Bool) → b ≡ true → (a || b) ≡ true
     either_right true b h = refl
@@ -93,8 +85,8 @@ splits true l k true l' ce h i f g = absurd cc
 splits false l k k' l' ce h i f g = (f h).1
 
 apart : (es : List Expression) (e : Expression) (more : List Expression) → are_constant (parts_of (es ++ e ∷ more)) ≡ true → (are_constant (parts_of es) ≡ true) × (is_constant e ≡ true)
-apart [] e more h = (refl, and_left _ _ h)
-apart (x ∷ es) e more h = let w = apart es e more (and_right (is_constant x) _ h) in (and_from _ _ (and_left _ _ h) w.0, w.1)
+apart [] e more h = (refl, (and_parts _ _ h).0)
+apart (x ∷ es) e more h = let w = apart es e more ((and_parts (is_constant x) _ h).1) in (and_from _ _ ((and_parts _ _ h).0) w.0, w.1)
 
 pub linear-split : (es : List Expression) (e : Expression) (more : List Expression) → is_linear_product (parts_of (es ++ e ∷ more)) ≡ true → are_constant (parts_of es) ≡ false → is_constant e ≡ true
 linear-split [] e more h i = absurd cc

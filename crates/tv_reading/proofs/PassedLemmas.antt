@@ -14,10 +14,9 @@ use Rattle.tv_language.specs.Symbols.{Symbol, number, name, label, drawn, fixed,
 use Rattle.tv_grammar.specs.Reads.{next}
 use Rattle.tv_reading.specs.Marks.{TooMany, Mark, plain, refused, symbol_of, symbols_of, new_name, known_name, draw_mark, number_mark, mark_by, names_behind, draws_behind, Stand, left, past, first, Passes, stay, pass, is_formula_word}
 use Rattle.tv_reading.specs.Readings.{IsWithin, IsKept}
-use Rattle.tv_reading.proofs.LinearLemmas.{and_left, and_right}
 use Rattle.tv_reading.proofs.MarkLemmas.{next_is, left_past}
 use Rattle.tv_reading.proofs.FitLemmas.{symbol_fits, all_fit}
-use Rattle.std.proofs.lemmas.Bool.{and_from}
+use Rattle.std.proofs.lemmas.Bool.{and_from, and_parts, lt-ltb, ltb-true}
 
 pub position_within : {X : Type 0} (p : X → Bool) (xs : List X) (k : ℕ) → position p xs ≡ Some k → k < length xs
 position_within p xs k e = by (nat_lt (position_or_len p xs) (length xs)) refl e
@@ -25,12 +24,6 @@ position_within p xs k e = by (nat_lt (position_or_len p xs) (length xs)) refl e
     by : (b : Bool) → nat_lt (position_or_len p xs) (length xs) ≡ b → cond b (Some (position_or_len p xs)) None ≡ Some k → k < length xs
     by true at is = let same : position_or_len p xs ≡ k = cc in grind (arith, nat_tests)
     by false at is = absurd cc
-
-pub less_is : (a b : ℕ) → a < b → nat_lt a b ≡ true
-less_is a b h = grind (arith, nat_tests)
-
-pub is_less : (a b : ℕ) → nat_lt a b ≡ true → a < b
-is_less a b h = grind (arith, nat_tests)
 
 -- ---- the names and draws only grow
 
@@ -58,7 +51,7 @@ draws_grow kind draws = omega arith
 -- ---- a mark fits behind it
 
 new_fits : (o : Option ℕ) (w : Word) (names : List Word) (d : ℕ) → o ≡ number_of w names → symbol_fits (length (cond (nat_lt (length names) 512) (with_new o w names) names)) d (symbol_of (new_name o (length names))) ≡ true
-new_fits (Some k) w names d e = less_is k (length (cond (nat_lt (length names) 512) names names)) (by (nat_lt (length names) 512))
+new_fits (Some k) w names d e = lt-ltb k (length (cond (nat_lt (length names) 512) names names)) (by (nat_lt (length names) 512))
   where
     by : (b : Bool) → k < length (cond b names names)
     by true = position_within (bytes_eq w) names k (sym e)
@@ -66,13 +59,13 @@ new_fits (Some k) w names d e = less_is k (length (cond (nat_lt (length names) 5
 new_fits None w names d e = by (nat_lt (length names) 512)
   where
     by : (b : Bool) → symbol_fits (length (cond b (names ++ w ∷ []) names)) d (symbol_of (cond b (plain (name (length names))) (refused TooMany kinds.Name))) ≡ true
-    by true = less_is (length names) (length (names ++ w ∷ [])) (omega (arith, length-append names (w ∷ [])))
+    by true = lt-ltb (length names) (length (names ++ w ∷ [])) (omega (arith, length-append names (w ∷ [])))
     by false = refl
 
 known_fits : (b : Bool) (o : Option ℕ) (w : Word) (names : List Word) (d : ℕ) → o ≡ number_of w names → symbol_fits (length names) d (symbol_of (known_name b o)) ≡ true
 known_fits true o w names d e = refl
 known_fits false None w names d e = refl
-known_fits false (Some k) w names d e = less_is k (length names) (position_within (bytes_eq w) names k (sym e))
+known_fits false (Some k) w names d e = lt-ltb k (length names) (position_within (bytes_eq w) names k (sym e))
 
 number_fits : (n v d : ℕ) → symbol_fits v d (symbol_of (number_mark n)) ≡ true
 number_fits n v d = by (nat_lt n (2 ^ 62)) refl
@@ -86,7 +79,7 @@ draw_fits false v draws = refl
 draw_fits true v draws = by (nat_lt draws 64)
   where
     by : (b : Bool) → symbol_fits v (cond b (suc draws) draws) (symbol_of (cond b (plain (drawn draws)) (refused TooMany kinds.Nondet))) ≡ true
-    by true = less_is draws (suc draws) (omega arith)
+    by true = lt-ltb draws (suc draws) (omega arith)
     by false = refl
 
 mark_fits : (grows : Bool) (names : List Word) (draws : ℕ) (kind : TokenKind) (w : Word) → symbol_fits (length (names_behind grows kind w names)) (draws_behind kind draws) (symbol_of (mark_by grows names draws kind w)) ≡ true
@@ -101,14 +94,14 @@ mark_fits false names draws kind w = refl
 
 symbol_more : (v d w e : ℕ) → v ≤ w → d ≤ e → (s : Symbol) → symbol_fits v d s ≡ true → symbol_fits w e s ≡ true
 symbol_more v d w e h i (number k) f = f
-symbol_more v d w e h i (name k) f = let l = is_less k v f in less_is k w (omega arith)
+symbol_more v d w e h i (name k) f = let l = ltb-true k v f in lt-ltb k w (omega arith)
 symbol_more v d w e h i (label k) f = refl
-symbol_more v d w e h i (drawn k) f = let l = is_less k d f in less_is k e (omega arith)
+symbol_more v d w e h i (drawn k) f = let l = ltb-true k d f in lt-ltb k e (omega arith)
 symbol_more v d w e h i (fixed kind) f = refl
 
 all_more : (v d w e : ℕ) → v ≤ w → d ≤ e → (ss : List Symbol) → all_fit v d ss ≡ true → all_fit w e ss ≡ true
 all_more v d w e h i [] f = refl
-all_more v d w e h i (s ∷ ss) f = and_from _ _ (symbol_more v d w e h i s (and_left _ _ f)) (all_more v d w e h i ss (and_right _ _ f))
+all_more v d w e h i (s ∷ ss) f = and_from _ _ (symbol_more v d w e h i s ((and_parts _ _ f).0)) (all_more v d w e h i ss ((and_parts _ _ f).1))
 
 -- ---- what is passed
 
@@ -123,7 +116,7 @@ symbols-append (m ∷ a) b = ap (λ (us : List Symbol). symbol_of m ∷ us) (sym
 
 all-append : (v d : ℕ) (a b : List Symbol) → all_fit v d a ≡ true → all_fit v d b ≡ true → all_fit v d (a ++ b) ≡ true
 all-append v d [] b h i = i
-all-append v d (s ∷ a) b h i = and_from _ _ (and_left _ _ h) (all-append v d a b (and_right _ _ h) i)
+all-append v d (s ∷ a) b h i = and_from _ _ ((and_parts _ _ h).0) (all-append v d a b ((and_parts _ _ h).1) i)
 
 starts_with : (ms : List Mark) (m : Mark) → next ms ≡ Some m → ms ≡ m ∷ drop 1 ms
 starts_with [] m e = absurd cc
@@ -166,7 +159,7 @@ few_by None w names = omega (arith, length-append names (w ∷ []))
 few_by (Some k) w names = omega arith
 
 few_names_by : (b : Bool) (w : Word) (names : List Word) → nat_lt (length names) 512 ≡ b → length names ≤ 512 → length (cond b (words_with w names) names) ≤ 512
-few_names_by true w names e h = let l = is_less (length names) 512 e in let g = few_by (number_of w names) w names in omega arith
+few_names_by true w names e h = let l = ltb-true (length names) 512 e in let g = few_by (number_of w names) w names in omega arith
 few_names_by false w names e h = h
 
 few_names : (grows : Bool) (kind : TokenKind) (w : Word) (names : List Word) → length names ≤ 512 → length (names_behind grows kind w names) ≤ 512
@@ -175,7 +168,7 @@ few_names false kind w names h = h
 few_names true kind w names h = h
 
 few_draws_by : (b : Bool) (draws : ℕ) → nat_lt draws 64 ≡ b → draws ≤ 64 → cond b (suc draws) draws ≤ 64
-few_draws_by true draws e h = let l = is_less draws 64 e in omega arith
+few_draws_by true draws e h = let l = ltb-true draws 64 e in omega arith
 few_draws_by false draws e h = h
 
 few_draws : (kind : TokenKind) (draws : ℕ) → draws ≤ 64 → draws_behind kind draws ≤ 64

@@ -1,6 +1,7 @@
 -- Sums are read exactly, and where they go on.
 use Rattle.std.proofs.Common.{◌≡◌, ℕ, zero, suc, Bool, true, false, List, [], ◌∷◌, ◌++◌, Option, Some, refl, ap, ◌∙◌, pos}
 use Rattle.std.specs.Prelude.{◌&&◌, ◌||◌}
+use Rattle.std.proofs.Math.Bool.{or-false}
 use Rattle.tv_language.specs.declared.token.TokenKind.TheVariants as kinds
 use Rattle.tv_program.specs.Trees as trees
 use Rattle.tv_program.specs.Trees.{Expression}
@@ -12,7 +13,7 @@ use Rattle.tv_grammar.specs.Langs.{Lang, unit, then, mapped, headed, turns, OfBr
 use Rattle.tv_grammar.specs.Exact.{Exact, ExactBranch, Goes, BranchGoes, nowhere, Ends}
 use Rattle.tv_grammar.proofs.ExactLemmas.{unit_exact, then_exact, mapped_exact, headed_exact}
 use Rattle.tv_grammar.proofs.TurnLemmas.{turns_exact}
-use Rattle.tv_grammar.proofs.GoesLemmas.{mapped_goes, headed_goes, then_turns_goes, goes_ends, none_or}
+use Rattle.tv_grammar.proofs.GoesLemmas.{mapped_goes, headed_goes, then_turns_goes, goes_ends}
 use Rattle.tv_reading.specs.Marks.{Kind, Syntax, Wide, NotLinear, Mark, plain, refused}
 use Rattle.tv_reading.specs.SumGrammar.{Grammar, refuse_by, close_cases, open_cases, closed, brackets, named_by, refused_by, leaf_cases, Inner, bottom, deeper, factor_cases, below, star_cases, product_over, sum_cases, sum_over, factor_at, product_at, sum_at, stars, signs, sum_goes}
 
@@ -203,7 +204,7 @@ either (Some (plain (fixed kinds.Star))) = refl
 either _ = refl
 
 pub product_goes_over : (factor : Bool → Grammar Expression) → ((free : Bool) → Goes (factor free) nowhere) → (free : Bool) → Goes (product_over factor free) stars
-product_goes_over factor h free d u = then_turns_goes (star_cases factor free) stars nowhere (star_is factor free) (star_goes factor h free) (λ t e. refl) (factor free) (λ e. e ∷ []) (gathered trees.product) (h free) d u ∙ none_or (stars u)
+product_goes_over factor h free d u = then_turns_goes (star_cases factor free) stars nowhere (star_is factor free) (star_goes factor h free) (λ t e. refl) (factor free) (λ e. e ∷ []) (gathered trees.product) (h free) d u ∙ or-false (stars u)
 
 pub sum_goes_over : (p : Grammar Expression) → Goes p stars → Goes (sum_over p) sum_goes
 sum_goes_over p h d u = then_turns_goes (sum_cases p) signs stars (sum_is p) (part_goes p h) apart p (λ e. e ∷ []) (gathered trees.sum) h d u ∙ either u

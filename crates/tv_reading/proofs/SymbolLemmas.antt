@@ -16,8 +16,7 @@ use Rattle.tv_language.specs.Conditions as conditions
 use Rattle.tv_language.specs.Conditions.{relation_of, joined, IsPlain, always, never, denied, IsLiteral, comparison, AreLiterals, no_literal, and, IsConjunction, literals, AreConjunctions, no_conjunction, or, IsCondition, conjunctions}
 use Rattle.tv_language.specs.Programs as programs
 use Rattle.tv_language.specs.Programs.{draws_in, draws_among, draws_tested, draws_of_tests, draws_of, draws_counted, IsCommand, assumption, assignment, AreCommands, no_command, command}
-use Rattle.tv_reading.proofs.LinearLemmas.{and_left, and_right}
-use Rattle.std.proofs.lemmas.Bool.{and_from}
+use Rattle.std.proofs.lemmas.Bool.{and_from, and_parts}
 
 -- the tokens that stand in commands
 abbrev pub body_kind : TokenKind → Bool
@@ -63,11 +62,11 @@ draws_at_all (s ∷ ss) = draws_at s + draws_at_all ss
 
 pub body-append : (a b : List Symbol) → all_body a ≡ true → all_body b ≡ true → all_body (a ++ b) ≡ true
 body-append [] b h i = i
-body-append (s ∷ a) b h i = and_from _ _ (and_left _ _ h) (body-append a b (and_right _ _ h) i)
+body-append (s ∷ a) b h i = and_from _ _ ((and_parts _ _ h).0) (body-append a b ((and_parts _ _ h).1) i)
 
 pub sound-append : (d : ℕ) (a b : List Symbol) → all_sound d a ≡ true → all_sound d b ≡ true → all_sound d (a ++ b) ≡ true
 sound-append d [] b h i = i
-sound-append d (s ∷ a) b h i = and_from _ _ (and_left _ _ h) (sound-append d a b (and_right _ _ h) i)
+sound-append d (s ∷ a) b h i = and_from _ _ ((and_parts _ _ h).0) (sound-append d a b ((and_parts _ _ h).1) i)
 
 pub draws-append : (a b : List Symbol) → draws_at_all (a ++ b) ≡ draws_at_all a + draws_at_all b
 draws-append [] b = omega arith
@@ -75,7 +74,7 @@ draws-append (s ∷ a) b = let again = draws-append a b in omega arith
 
 pub body_front : (a b : List Symbol) → all_body (a ++ b) ≡ true → all_body a ≡ true
 body_front [] b h = refl
-body_front (s ∷ a) b h = and_from _ _ (and_left _ _ h) (body_front a b (and_right _ _ h))
+body_front (s ∷ a) b h = and_from _ _ ((and_parts _ _ h).0) (body_front a b ((and_parts _ _ h).1))
 
 -- ts is these symbols, and rest; there are so many draws, and they are sound where fits says so
 pub record Uses (count : ℕ) (fits : ℕ → ℕ → Bool) (ts rest : List Symbol) : Type 0 where
@@ -107,7 +106,7 @@ both {rest} a b = record {
   parts = a.parts ∙ ap (λ (ss : List Symbol). a.used ++ ss) b.parts ∙ sym (append_assoc a.used b.used rest);
   plainly = body-append a.used b.used a.plainly b.plainly;
   counted = omega (arith, draws-append a.used b.used, a.counted, b.counted);
-  soundly = λ v d h. sound-append d a.used b.used (a.soundly v d (and_left _ _ h)) (b.soundly v d (and_right _ _ h));
+  soundly = λ v d h. sound-append d a.used b.used (a.soundly v d ((and_parts _ _ h).0)) (b.soundly v d ((and_parts _ _ h).1));
 }
 
 same : {j k : ℕ} {f g : ℕ → ℕ → Bool} {ts rest : List Symbol} → j ≡ k → ((v d : ℕ) → g v d ≡ true → f v d ≡ true) → Uses j f ts rest → Uses k g ts rest
@@ -139,7 +138,7 @@ mutual
   factors_uses (times f fs) = lead (fixed kinds.Star) (bare kinds.Star refl) (both (factor_uses f) (factors_uses fs))
 
   product_uses : {n : ℕ} {e : Expression} {ts rest : List Symbol} → IsProduct n e ts rest → Uses (draws_in e) (λ v d. expression_fits v d e) ts rest
-  product_uses (factors {e} {es} f fs l) = same (gathered_count trees.product (λ es. refl) e es) (gathered_fits trees.product (λ v d es h. and_right _ _ h) e es) (both (factor_uses f) (factors_uses fs))
+  product_uses (factors {e} {es} f fs l) = same (gathered_count trees.product (λ es. refl) e es) (gathered_fits trees.product (λ v d es h. (and_parts _ _ h).1) e es) (both (factor_uses f) (factors_uses fs))
 
   products_uses : {n : ℕ} {es : List Expression} {ts rest : List Symbol} → AreProducts n es ts rest → Uses (draws_among (parts_of es)) (λ v d. expressions_fit v d (parts_of es)) ts rest
   products_uses (no_product {rest}) = none rest
@@ -201,8 +200,8 @@ mutual
 -- ---- commands
 
 pub command_uses : {c : Instruction} {ts rest : List Symbol} → IsCommand c ts rest → Uses (draws_of c) (λ v d. instruction_fits v d c) ts rest
-command_uses (assumption {rest} w) = same (omega arith) (λ v d h. and_from _ _ (and_left _ _ h) refl) (lead (fixed kinds.Assume) (bare kinds.Assume refl) (lead (fixed kinds.LeftRound) (bare kinds.LeftRound refl) (both (condition_uses w) (lead (fixed kinds.RightRound) (bare kinds.RightRound refl) (lead (fixed kinds.Semicolon) (bare kinds.Semicolon refl) (none rest))))))
-command_uses (assignment {v = w} {rest} s) = same (omega arith) (λ v d h. and_from _ _ (and_right _ _ (and_left _ _ h)) refl) (lead (name w) (refl, refl, λ d. refl) (lead (fixed kinds.Assign) (bare kinds.Assign refl) (both (sum_uses s) (lead (fixed kinds.Semicolon) (bare kinds.Semicolon refl) (none rest)))))
+command_uses (assumption {rest} w) = same (omega arith) (λ v d h. and_from _ _ ((and_parts _ _ h).0) refl) (lead (fixed kinds.Assume) (bare kinds.Assume refl) (lead (fixed kinds.LeftRound) (bare kinds.LeftRound refl) (both (condition_uses w) (lead (fixed kinds.RightRound) (bare kinds.RightRound refl) (lead (fixed kinds.Semicolon) (bare kinds.Semicolon refl) (none rest))))))
+command_uses (assignment {v = w} {rest} s) = same (omega arith) (λ v d h. and_from _ _ ((and_parts _ _ ((and_parts _ _ h).0)).1) refl) (lead (name w) (refl, refl, λ d. refl) (lead (fixed kinds.Assign) (bare kinds.Assign refl) (both (sum_uses s) (lead (fixed kinds.Semicolon) (bare kinds.Semicolon refl) (none rest)))))
 
 pub commands_uses : {cs : List Instruction} {ts rest : List Symbol} → AreCommands cs ts rest → Uses (draws_counted cs) (λ v d. list_all (instruction_fits v d) cs) ts rest
 commands_uses (no_command {rest}) = none rest

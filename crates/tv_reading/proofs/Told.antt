@@ -1,6 +1,7 @@
 -- What the caller of a reading is told.
 use Rattle.std.proofs.Common.{◌≡◌, ℕ, ◌-◌, ◌≤◌, ◌<◌, Bool, true, false, List, [], ◌∷◌, ◌++◌, length, Result, Ok, Err, IfOk, sym, ap, ◌∙◌, arith, IsTrue, cond}
 use Rattle.std.proofs.lemmas.List.{append-nil}
+use Rattle.std.proofs.lemmas.Bool.{and_parts, ltb-true}
 use Rattle.tv_program.specs.declared.tree.Expr.{Expr}
 use Rattle.tv_program.specs.declared.tree.Cond.{Cond}
 use Rattle.tv_program.specs.Trees.{Expression, Condition}
@@ -31,8 +32,7 @@ use Rattle.tv_reading.proofs.FurtherLemmas.{sum_further, condition_further}
 use Rattle.tv_reading.proofs.RefusalLemmas.{refuses}
 use Rattle.tv_reading.proofs.LongestTexts.{text_found, text_only}
 use Rattle.tv_reading.proofs.FitLemmas.{all_fit, sum_fits, condition_fit, sum_shallow, condition_shallow}
-use Rattle.tv_reading.proofs.PassedLemmas.{passed_fit, is_less}
-use Rattle.tv_reading.proofs.LinearLemmas.{and_left}
+use Rattle.tv_reading.proofs.PassedLemmas.{passed_fit}
 use Rattle.tv_language.specs.declared.token.TokenKind.TheVariants as kinds
 
 module _ {X Y : Type 0} (view : X → Y) (now : Stand) (read : Result (Y × List Mark) (Fault Mark Kind)) where
@@ -76,7 +76,7 @@ name_passed (refused k kinds.Name ∷ ms) v r e = absurd cc
 name_passed (m ∷ ms) v r e = absurd cc
 
 pub name_fits : (old now : Stand) (result : Result ℕ PartFault) → IsRead (λ v. v) result now (one_name.read (left old)) → Passes old now → IfOk result (λ v. v < length now.names)
-name_fits old now (Ok v) h p = is_less v (length now.names) (and_left _ _ (passed_fit old now p (plain (name v) ∷ []) (name_passed (left old) v (left now) h)))
+name_fits old now (Ok v) h p = ltb-true v (length now.names) ((and_parts _ _ (passed_fit old now p (plain (name v) ∷ []) (name_passed (left old) v (left now) h))).0)
 name_fits old now (Err f) h p = tt
 
 -- ---- sums

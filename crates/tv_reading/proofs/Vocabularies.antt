@@ -18,10 +18,10 @@ use Rattle.tv_language.specs.Sums.{IsFactor, constant, variable, draw, bracketed
 use Rattle.tv_language.specs.Conditions as conditions
 use Rattle.tv_language.specs.Conditions.{relation_of, IsPlain, always, never, denied, IsLiteral, comparison, AreLiterals, no_literal, and, IsConjunction, literals, AreConjunctions, no_conjunction, or, IsCondition, conjunctions}
 use Rattle.tv_reading.specs.Marks.{Mark, plain, refused, symbol_of, symbols_of, TooMany, new_name, number_mark, draw_mark, mark_by, names_behind, draws_behind, Stand, past, first}
-use Rattle.tv_reading.proofs.PassedLemmas.{is_less, symbols-append}
+use Rattle.tv_reading.proofs.PassedLemmas.{symbols-append}
 use Rattle.tv_language.proofs.PlaceLemmas.{bytes-same}
 use Rattle.tv_reading.proofs.MarkLemmas.{starts}
-use Rattle.std.proofs.lemmas.Bool.{and_from}
+use Rattle.std.proofs.lemmas.Bool.{and_from, ltb-true}
 
 -- ---- symbols that sums and conditions have
 
@@ -127,7 +127,7 @@ placed : {X : Type 0} (p : X → Bool) (xs : List X) (k : ℕ) → position p xs
 placed p xs k e = by (nat_lt (position_or_len p xs) (length xs)) refl e
   where
     by : (b : Bool) → nat_lt (position_or_len p xs) (length xs) ≡ b → cond b (Some (position_or_len p xs)) None ≡ Some k → (position_or_len p xs ≡ k) × (k < length xs)
-    by true at is = let same : position_or_len p xs ≡ k = cc in let l = is_less (position_or_len p xs) (length xs) at in (same, omega (arith, same, l))
+    by true at is = let same : position_or_len p xs ≡ k = cc in let l = ltb-true (position_or_len p xs) (length xs) at in (same, omega (arith, same, l))
     by false at is = absurd cc
 
 not_placed : {X : Type 0} (p : X → Bool) (xs : List X) → position p xs ≡ None → position_or_len p xs < length xs → ⊥

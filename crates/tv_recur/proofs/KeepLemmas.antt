@@ -4,11 +4,11 @@ use Rattle.std.specs.Prelude.{Result, Ok, Err, IfOk, MatchOption}
 use Rattle.std.specs.List.{AllZip}
 use Rattle.std.proofs.lemmas.List.{append-nil}
 use Rattle.std.proofs.lemmas.List.Elements.{All-nil, All-cons, All-append}
+use Rattle.std.proofs.lemmas.Bool.{eq-eqb, ne_eqb}
 use Rattle.tv_linear.specs.Linear.{Linear, columns, IsMet, IsWithin}
 use Rattle.tv_linear.specs.Known.{term_value}
 use Rattle.tv_linear.specs.Terms.{terms_after}
 use Rattle.tv_linear.specs.declared.choice.ChoiceTree.{ChoiceTree}
-use Rattle.tv_linear.proofs.ListLaws.{test_true, test_false}
 use Rattle.tv_program.specs.Steps.{State}
 use Rattle.tv_cases.specs.LinearCases.{LinearCase, CaseSystem, CaseSteps}
 use Rattle.tv_cases.specs.Before.{rows_before}
@@ -101,10 +101,10 @@ by_no_test true x y xs e h = absurd cc
 by_no_test false x y xs e h = h
 
 pub first_there : (p : Marked) (ps : List Marked) (l : ℕ) → place_of p ≡ l → slice_get (pieces_at (p ∷ ps) l) 0 ≡ Some p
-first_there p ps l e = by_test (place_of p == l) p (pieces_at ps l) (test_true (place_of p) l e)
+first_there p ps l e = by_test (place_of p == l) p (pieces_at ps l) (eq-eqb (place_of p) l e)
 
 pub second_there : (p q : Marked) (l : ℕ) → place_of p ≢ l → place_of q ≡ l → slice_get (pieces_at (p ∷ q ∷ []) l) 0 ≡ Some q
-second_there p q l away e = by_no_test (place_of p == l) p q (pieces_at (q ∷ []) l) (test_false (place_of p) l away) (first_there q [] l e)
+second_there p q l away e = by_no_test (place_of p == l) p q (pieces_at (q ∷ []) l) (ne_eqb (place_of p) l away) (first_there q [] l e)
 
 pub piece_shape : (about : CaseSystem) (l : ℕ) (rows : List Linear) → l < about.locations → All (λ r. columns r ≡ about.variables) rows → PieceShape about 0 false (on_piece about.variables l rows)
 piece_shape about l rows inside wide = record {

@@ -11,7 +11,7 @@ use Rattle.tv_linear.specs.declared.region.Update.{Update}
 use Rattle.tv_linear.proofs.Entries.{columns-plus, columns-opposite}
 use Rattle.tv_linear.proofs.PlainLists.{length-unit}
 use Rattle.tv_linear.proofs.RowValues.{value-plus, value-opposite, value-column_row}
-use Rattle.tv_linear.proofs.ListLaws.{test_true, test_false, true_test, map-table}
+use Rattle.tv_linear.proofs.ListLaws.{map-table}
 use Rattle.tv_cases.specs.LinearCases.{LinearCase, CaseSystem, IsCase, ascends}
 use Rattle.tv_farkas.specs.Paths.{IsWholePoint}
 use Rattle.tv_recur.specs.Making.{rows_put, drawn_terms}
@@ -20,7 +20,7 @@ use Rattle.tv_recur.specs.Staying.{added, taken_off, unchanged_rows, staying_row
 use Rattle.tv_recur.proofs.OwedLemmas.{put_met_back}
 use Rattle.tv_cases.proofs.SameSteps.{front-get_or}
 use Rattle.tv_cases.proofs.EdgeRoom.{at_most-true}
-use Rattle.std.proofs.lemmas.Bool.{and_parts}
+use Rattle.std.proofs.lemmas.Bool.{and_parts, eq-eqb, eqb-true, ne_eqb}
 
 -- ---- one update
 -- the value of its term is that of its variable
@@ -74,7 +74,7 @@ term_kept : (p : List ℤ) (us : List Update) (v : ℕ) → All (Keeps p) us →
 term_kept p [] v h = refl
 term_kept p (u ∷ us) v h =
     either_term p (u.variable == v) (put u.term) (update_of us v) (get_or p v (pos 0))
-    (λ e. All-head (Keeps p) u us h ∙ ap (λ k. get_or p k (pos 0)) (true_test u.variable v e))
+    (λ e. All-head (Keeps p) u us h ∙ ap (λ k. get_or p k (pos 0)) (eqb-true u.variable v e))
     (term_kept p us v (All-tail (Keeps p) u us h))
 
 table_same : {A : Type 0} (n : ℕ) (f g : ℕ → A) → ((j : ℕ) → j < n → f j ≡ g j) → table n f ≡ table n g
@@ -119,7 +119,7 @@ later_first u all [] l h = All-nil (IsFirst (u ∷ all))
 later_first u all (w ∷ us) l h =
     let k = All-head (λ w. suc u.variable ≤ w.variable) w us l in
     All-cons (IsFirst (u ∷ all)) w us
-    (if_false (u.variable == w.variable) (put u.term) (update_of all w.variable) (test_false u.variable w.variable (λ e. absurd (omega (arith, e, k)))) ∙ All-head (IsFirst all) w us h)
+    (if_false (u.variable == w.variable) (put u.term) (update_of all w.variable) (ne_eqb u.variable w.variable (λ e. absurd (omega (arith, e, k)))) ∙ All-head (IsFirst all) w us h)
     (later_first u all us (All-tail (λ w. suc u.variable ≤ w.variable) w us l) (All-tail (IsFirst all) w us h))
 
 firsts : (v : ℕ) (us : List Update) → ascends v us ≡ true → All (IsFirst us) us
@@ -127,7 +127,7 @@ firsts v [] h = All-nil (IsFirst [])
 firsts v (u ∷ us) h =
     let k = and_parts (nat_le v u.variable) (ascends (suc u.variable) us) h in
     All-cons (IsFirst (u ∷ us)) u us
-    (if_true (u.variable == u.variable) (put u.term) (update_of us u.variable) (test_true u.variable u.variable refl))
+    (if_true (u.variable == u.variable) (put u.term) (update_of us u.variable) (eq-eqb u.variable u.variable refl))
     (later_first u us us (above (suc u.variable) us k.1) (firsts (suc u.variable) us k.1))
 
 in_table : {A : Type 0} (n : ℕ) (f : ℕ → A) (d : A) (v : ℕ) → v < n → get_or (table n f) v d ≡ f v

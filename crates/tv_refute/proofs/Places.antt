@@ -1,11 +1,12 @@
 use Rattle.std.proofs.Common.{◌≡◌, ℕ, zero, suc, ◌+◌, ◌<◌, List, [], ◌∷◌, ◌++◌, map, length, drop, get_or, arith, refl, sym, ap, ◌∙◌, pos, if◌then◌else◌, drop-cons, length-append}
 use Rattle.std.proofs.lemmas.List.{length-map, get_or-map}
+use Rattle.std.proofs.lemmas.Bool.{eq-eqb, ne_eqb}
 use Rattle.tv_linear.specs.Known.{kept, put, unit_number}
 use Rattle.tv_linear.specs.Linear.{Linear}
 use Rattle.tv_linear.specs.Terms.{update_of, table, draw_terms}
 use Rattle.tv_linear.specs.declared.region.Update.{Update}
 use Rattle.tv_linear.proofs.PlainLists.{length-table}
-use Rattle.tv_linear.proofs.ListLaws.{test_true, test_false, get_or-table}
+use Rattle.tv_linear.proofs.ListLaws.{get_or-table}
 
 pub unit_same : (j v : ℕ) → j ≡ v → pos 1 ≡ unit_number j v
 unit_same zero zero e = refl
@@ -42,9 +43,9 @@ length-draw_terms n draws = length-append (table n kept) (map (λ d. put d) draw
 pub update_here : (us : List Update) (i v : ℕ) (u : Update) → i < length us → u ≡ get_or us i u → u.variable ≡ v → update_of (drop i us) v ≡ put u.term
 update_here us i v u l e h =
     let a : drop i us ≡ u ∷ drop (suc i) us = drop-cons us i u l ∙ ap (λ x. x ∷ drop (suc i) us) (sym e) in
-    ap (λ xs. update_of xs v) a ∙ ap (λ t. if t then put u.term else update_of (drop (suc i) us) v) (test_true u.variable v h)
+    ap (λ xs. update_of xs v) a ∙ ap (λ t. if t then put u.term else update_of (drop (suc i) us) v) (eq-eqb u.variable v h)
 
 pub update_past : (us : List Update) (i v : ℕ) (u : Update) → i < length us → u ≡ get_or us i u → (u.variable ≡ v → ⊥) → update_of (drop i us) v ≡ update_of (drop (i + 1) us) v
 update_past us i v u l e h =
     let a : drop i us ≡ u ∷ drop (suc i) us = drop-cons us i u l ∙ ap (λ x. x ∷ drop (suc i) us) (sym e) in
-    ap (λ xs. update_of xs v) a ∙ ap (λ t. if t then put u.term else update_of (drop (suc i) us) v) (test_false u.variable v h) ∙ ap (λ k. update_of (drop k us) v) (let e : suc i ≡ i + 1 = omega arith in e)
+    ap (λ xs. update_of xs v) a ∙ ap (λ t. if t then put u.term else update_of (drop (suc i) us) v) (ne_eqb u.variable v h) ∙ ap (λ k. update_of (drop k us) v) (let e : suc i ≡ i + 1 = omega arith in e)

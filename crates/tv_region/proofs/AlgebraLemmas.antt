@@ -12,7 +12,6 @@ use Rattle.tv_linear.specs.declared.region.Region.{Region}
 use Rattle.tv_farkas.specs.declared.budget.Budget.{Budget}
 use Rattle.tv_farkas.specs.Refuting.{IsSystemFault}
 use Rattle.tv_linear.specs.declared.row.Row.{Row}
-use Rattle.tv_linear.proofs.ListLaws.{true_test, test_true}
 use Rattle.tv_cases.specs.Given.{row_lists}
 use Rattle.tv_cases.proofs.ContainsLemmas.{Contains-here, Contains-later, Contains-cases, Contains-none}
 use Rattle.tv_region.specs.Met.{all_met, some_met, InSome}
@@ -30,7 +29,7 @@ use Rattle.tv_region.specs.Differences.{IsDifference, IsOfDifferences}
 use Rattle.tv_region.proofs.MetLemmas.{all_met-all, all-all_met, has_all, no_and_yes}
 use Rattle.tv_region.proofs.AddLemmas.{none_reduced, denied_more}
 use Rattle.tv_region.proofs.DifferenceLemmas.{denial_difference}
-use Rattle.std.proofs.lemmas.Bool.{or_right, cases_lt, and_parts, and_from, or_cases, or_left}
+use Rattle.std.proofs.lemmas.Bool.{or_right, cases_lt, and_parts, and_from, or_cases, or_left, eq-eqb, eqb-true}
 
 -- ---- states of a region
 kept_in : (t : Bool) (xs : List ℤ) (rows : List Linear) (ls : List (List Linear)) → t ≡ true → all_met xs rows ≡ true → some_met xs (cond t (rows ∷ ls) ls) ≡ true
@@ -52,7 +51,7 @@ module _ (l : ℕ) (xs : List ℤ) where
       elim (Contains-cases q p pieces h) [
         | inl e ↦ (
             let j = subst (InPiece l xs) (sym e) k in
-            kept_in (q.location == l) xs q.poly.rows.items (lists_at l pieces) (test_true q.location l (sym j.place)) (all-all_met xs q.poly.rows.items j.inside))
+            kept_in (q.location == l) xs q.poly.rows.items (lists_at l pieces) (eq-eqb q.location l (sym j.place)) (all-all_met xs q.poly.rows.items j.inside))
         | inr m ↦ kept_later (q.location == l) xs q.poly.rows.items (lists_at l pieces) (met_in pieces p m k)
       ]
 
@@ -60,7 +59,7 @@ module _ (l : ℕ) (xs : List ℤ) where
   in_met [] h = cc
   in_met (q ∷ pieces) h =
       elim (kept_out (q.location == l) xs q.poly.rows.items (lists_at l pieces) h) [
-        | inl w ↦ (q, Contains-here q pieces, record { place = sym (true_test q.location l w.0); inside = all_met-all xs q.poly.rows.items w.1 })
+        | inl w ↦ (q, Contains-here q pieces, record { place = sym (eqb-true q.location l w.0); inside = all_met-all xs q.poly.rows.items w.1 })
         | inr k ↦ (let w = in_met pieces k in (w.0, Contains-later q w.0 pieces w.1, w.2))
       ]
 

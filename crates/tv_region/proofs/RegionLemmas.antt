@@ -3,10 +3,11 @@ use Rattle.std.proofs.Common.{◌≡◌, ◌⊎◌, inl, inr, ℕ, zero, suc, �
 use Rattle.std.specs.Prelude.{◌==◌}
 use Rattle.std.proofs.lemmas.List.{append-nil}
 use Rattle.std.proofs.lemmas.List.Elements.{All-nil, All-push}
+use Rattle.std.proofs.lemmas.Bool.{eq-eqb, ne_eqb}
 use borrow.Author.Count.{below_more}
 use Rattle.tv_linear.specs.Linear.{Linear, columns}
 use Rattle.tv_linear.specs.declared.region.Piece.{Piece}
-use Rattle.tv_linear.proofs.ListLaws.{test_true, test_false, take_next}
+use Rattle.tv_linear.proofs.ListLaws.{take_next}
 use Rattle.tv_region.specs.Adding.{row_product}
 use Rattle.tv_region.specs.Regions.{IsPieceOf, lists_at, capped, IsPlaced, IsAt, IsAssembledTo}
 use Rattle.tv_region.proofs.MetLemmas.{all_has}
@@ -56,10 +57,10 @@ pub lists_at-next : (k : ℕ) (pieces : List Piece) (i : ℕ) (p : Piece) → i 
 lists_at-next k pieces i p l e = ap (lists_at k) (take_next pieces i p l e) ∙ lists_at-push k (take i pieces) p
 
 pub lists_at-here : (k : ℕ) (pieces : List Piece) (i : ℕ) (p : Piece) → i < length pieces → p ≡ get_or pieces i p → p.location ≡ k → lists_at k (take (i + 1) pieces) ≡ lists_at k (take i pieces) ++ p.poly.rows.items ∷ []
-lists_at-here k pieces i p l e h = lists_at-next k pieces i p l e ∙ ap (λ t. lists_at k (take i pieces) ++ cond t (p.poly.rows.items ∷ []) []) (test_true p.location k h)
+lists_at-here k pieces i p l e h = lists_at-next k pieces i p l e ∙ ap (λ t. lists_at k (take i pieces) ++ cond t (p.poly.rows.items ∷ []) []) (eq-eqb p.location k h)
 
 pub lists_at-there : (k : ℕ) (pieces : List Piece) (i : ℕ) (p : Piece) → i < length pieces → p ≡ get_or pieces i p → (p.location ≡ k → ⊥) → lists_at k (take (i + 1) pieces) ≡ lists_at k (take i pieces)
-lists_at-there k pieces i p l e h = lists_at-next k pieces i p l e ∙ ap (λ t. lists_at k (take i pieces) ++ cond t (p.poly.rows.items ∷ []) []) (test_false p.location k h) ∙ append-nil (lists_at k (take i pieces))
+lists_at-there k pieces i p l e h = lists_at-next k pieces i p l e ∙ ap (λ t. lists_at k (take i pieces) ++ cond t (p.poly.rows.items ∷ []) []) (ne_eqb p.location k h) ∙ append-nil (lists_at k (take i pieces))
 
 -- ---- pieces that are placed
 no_lists : (t : Bool) → cond {A = List (List Linear)} t [] [] ≡ []
@@ -102,7 +103,7 @@ module _ (n m : ℕ) (Only Out : ℕ → List ℤ → Type 0) (Made : ℕ → Li
   }
     where
       other : (l : ℕ) → (k ≡ l → ⊥) → lists_at l new ≡ lists_at l pieces
-      other l c = p.at l ∙ ap (λ t. lists_at l pieces ++ cond t lists []) (test_false k l c) ∙ append-nil (lists_at l pieces)
+      other l c = p.at l ∙ ap (λ t. lists_at l pieces ++ cond t lists []) (ne_eqb k l c) ∙ append-nil (lists_at l pieces)
 
       here : lists_at k new ≡ lists
-      here = p.at k ∙ (λ i. h.none k (omega arith) i ++ cond (test_true k k refl i) lists [])
+      here = p.at k ∙ (λ i. h.none k (omega arith) i ++ cond (eq-eqb k k refl i) lists [])

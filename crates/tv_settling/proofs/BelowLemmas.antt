@@ -3,7 +3,7 @@ use Rattle.std.proofs.Common.{◌≡◌, ◌⊎◌, inl, inr, ℕ, zero, suc, �
 use Rattle.std.specs.Prelude.{slice_get}
 use Rattle.std.proofs.lemmas.List.Elements.{All-nil, All-cons, All-head, All-tail, All-append, filter-append}
 use Rattle.tv_linear.specs.Known.{given}
-use Rattle.tv_linear.proofs.ListLaws.{test_true, test_false, same_or_below}
+use Rattle.tv_linear.proofs.ListLaws.{same_or_below}
 use Rattle.tv_cert.specs.declared.node.Marked.{Marked}
 use Rattle.tv_cert.specs.Pieces.{place_of, pieces_at}
 use Rattle.tv_cert.specs.Targets.{target_rows, no_fall}
@@ -11,6 +11,7 @@ use Rattle.tv_points.specs.Nodes.{whole_piece}
 use Rattle.tv_points.proofs.BareMet.{LeadsInto}
 use Rattle.tv_settling.specs.Below.{pieces_below, elsewhere}
 use Rattle.std.proofs.lemmas.List.{append-nil}
+use Rattle.std.proofs.lemmas.Bool.{eq-eqb, ne_eqb}
 
 -- all of them are at the location
 abbrev pub AreAt : ℕ → List Marked → Type 0
@@ -19,7 +20,7 @@ AreAt l ps = All (λ p. place_of p ≡ l) ps
 all_at : (l m : ℕ) (ps : List Marked) → l ≡ m → AreAt l ps → pieces_at ps m ≡ ps
 all_at l m [] e h = refl
 all_at l m (p ∷ ps) e h =
-    by_test (place_of p == m) (test_true (place_of p) m (All-head (λ q. place_of q ≡ l) p ps h ∙ e)) (all_at l m ps e (All-tail (λ q. place_of q ≡ l) p ps h))
+    by_test (place_of p == m) (eq-eqb (place_of p) m (All-head (λ q. place_of q ≡ l) p ps h ∙ e)) (all_at l m ps e (All-tail (λ q. place_of q ≡ l) p ps h))
   where
     by_test : (b : Bool) → b ≡ true → pieces_at ps m ≡ ps → (if b then p ∷ pieces_at ps m else pieces_at ps m) ≡ p ∷ ps
     by_test true t g = ap (λ qs. p ∷ qs) g
@@ -28,7 +29,7 @@ all_at l m (p ∷ ps) e h =
 none_at : (l m : ℕ) (ps : List Marked) → (l ≡ m → ⊥) → AreAt l ps → pieces_at ps m ≡ []
 none_at l m [] n h = refl
 none_at l m (p ∷ ps) n h =
-    by_test (place_of p == m) (test_false (place_of p) m (λ e. n (sym (All-head (λ q. place_of q ≡ l) p ps h) ∙ e))) (none_at l m ps n (All-tail (λ q. place_of q ≡ l) p ps h))
+    by_test (place_of p == m) (ne_eqb (place_of p) m (λ e. n (sym (All-head (λ q. place_of q ≡ l) p ps h) ∙ e))) (none_at l m ps n (All-tail (λ q. place_of q ≡ l) p ps h))
   where
     by_test : (b : Bool) → b ≡ false → pieces_at ps m ≡ [] → (if b then p ∷ pieces_at ps m else pieces_at ps m) ≡ []
     by_test true t g = absurd cc
@@ -78,7 +79,7 @@ module _ (n location : ℕ) where
       by_test false = omega arith
 
   pub elsewhere_is : (l : ℕ) → (l ≡ location → ⊥) → elsewhere n location l ≡ whole_piece n l ∷ []
-  elsewhere_is l h = by_test (l == location) (test_false l location h)
+  elsewhere_is l h = by_test (l == location) (ne_eqb l location h)
     where
       by_test : (b : Bool) → b ≡ false → (if b then [] else whole_piece n l ∷ []) ≡ whole_piece n l ∷ []
       by_test true e = absurd cc

@@ -3,6 +3,7 @@ use Rattle.std.specs.Prelude.{nat_lt, int_lt, neg_ℤ, ◌*◌}
 use Rattle.std.proofs.lemmas.Int.{ints, unsigned_abs-mul}
 use Rattle.std.proofs.lemmas.Bool.Decides.{nat_tests}
 use Rattle.std.proofs.Math.IntN.{*ℤ_comm}
+use Rattle.std.proofs.lemmas.Bool.{cases_lt, cases_order}
 use Rattle.tv_linear.proofs.Ring.{mul_assoc_z}
 use Rattle.tv_fraction.specs.declared.Fraction.{Fraction}
 use Rattle.tv_simplex.proofs.Ring.{mul_swap, same_factor, times_zero, zero_times, less_times, times_less, one_times_z}
@@ -25,7 +26,6 @@ use Rattle.tv_simplex.specs.Tables.{shown}
 use Rattle.tv_simplex.specs.Choosing.{NoneNegative as NoneBelow}
 use Rattle.tv_simplex.specs.Scales.{AreScaled, HaveScale, IsScalingStop, numerator_at, denominator_at, ratio_at}
 use Rattle.tv_simplex.specs.Walking.{AreOfColumn, AreOfObjective, AreDistinct, AreValues, AreSigned, StandsAt, IsSolved, IsUnsolvedAt, IsAnswerStop}
-use Rattle.tv_linear.proofs.ListLaws.{in_order, below_or_not}
 
 -- w over a scale is a fraction, which is e / d
 over_scale : (w den scale num d e : ℤ) → pos 0 <ℤ den → w *ℤ den ≡ scale *ℤ num → num *ℤ d ≡ e *ℤ den → w *ℤ d ≡ scale *ℤ e
@@ -114,10 +114,10 @@ module _ (s : Equations) (n : ℕ) (t : Table) (st : StandsAt s n t) where
         ∙ total-delta s.rows i (λ k. st.shows.table.entry k (s.columns + s.rows)) l
       where
         same : (k : ℕ) → k < s.rows → delta (column t.basis.items k) (column t.basis.items i) ≡ delta k i
-        same k g = elim (in_order k i) [
-          | inl less ↦ delta-other (column t.basis.items k) (column t.basis.items i) (λ e. basis_distinct i k l less (sym e)) ∙ sym (delta-other k i (λ e. absurd (omega arith)))
+        same k g = elim (cases_order k i) [
+          | inl e ↦ ap (λ z. delta (column t.basis.items z) (column t.basis.items i)) e ∙ delta-same (column t.basis.items i) ∙ sym (ap (λ z. delta z i) e ∙ delta-same i)
           | inr w ↦ elim w [
-            | inl e ↦ ap (λ z. delta (column t.basis.items z) (column t.basis.items i)) e ∙ delta-same (column t.basis.items i) ∙ sym (ap (λ z. delta z i) e ∙ delta-same i)
+            | inl less ↦ delta-other (column t.basis.items k) (column t.basis.items i) (λ e. basis_distinct i k l less (sym e)) ∙ sym (delta-other k i (λ e. absurd (omega arith)))
             | inr more ↦ delta-other (column t.basis.items k) (column t.basis.items i) (λ e. basis_distinct k i g more e) ∙ sym (delta-other k i (λ e. absurd (omega arith)))
           ]
         ]
@@ -129,8 +129,8 @@ module _ (s : Equations) (n : ℕ) (t : Table) (st : StandsAt s n t) where
       whole = whole_at s.columns t.basis.items h.whole;
       positive = h.positive;
       scale_short = h.short;
-      same = λ i l. same i (let z = of.size in omega (arith, z, l)) (below_or_not (column t.basis.items i) s.columns);
-      short = λ i l. short i (below_or_not (column t.basis.items i) s.columns);
+      same = λ i l. same i (let z = of.size in omega (arith, z, l)) (cases_lt (column t.basis.items i) s.columns);
+      short = λ i l. short i (cases_lt (column t.basis.items i) s.columns);
     }
       where
         same : (i : ℕ) → i < s.rows → (column t.basis.items i < s.columns) ⊎ (s.columns ≤ column t.basis.items i) → whole_at s.columns t.basis.items h.whole i *ℤ denominator_at fractions i ≡ h.scale *ℤ numerator_at fractions i

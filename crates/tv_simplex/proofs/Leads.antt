@@ -1,9 +1,9 @@
 use Rattle.std.proofs.Common.{◌≡◌, ℕ, inl, inr, ◌≤◌, arith, sym, ◌∙◌, subst, ℤ, pos, ◌+ℤ◌, ◌-ℤ◌, ◌*ℤ◌, ◌<ℤ◌, ◌≤ℤ◌}
 use Rattle.std.proofs.lemmas.Int.{ints}
+use Rattle.std.proofs.lemmas.Bool.{cases_order}
 use Rattle.tv_simplex.proofs.Ring.{is_zero, is_above, times_zero, by_sign, zero_times, less_times}
 use Rattle.tv_simplex.specs.Chains.{LeadsAbove}
 use Rattle.tv_fraction.proofs.Products.{product_above}
-use Rattle.tv_linear.proofs.ListLaws.{in_order}
 
 pub leads-same : (m : ℕ) (v w : ℕ → ℤ) → LeadsAbove m v → ((q : ℕ) → q ≤ m → v q ≡ w q) → LeadsAbove m w
 leads-same m v w h e = record {
@@ -30,19 +30,19 @@ leads-divide m a v p h = record {
 }
 
 pub leads-add : (m : ℕ) (v w : ℕ → ℤ) → LeadsAbove m v → LeadsAbove m w → LeadsAbove m (λ q. v q +ℤ w q)
-leads-add m v w h k = elim (in_order h.place k.place) [
-  | inl l ↦ record {
+leads-add m v w h k = elim (cases_order h.place k.place) [
+  | inl e ↦ record {
     place = h.place;
     within = h.within;
     before = λ q g. (let x = h.before q g in let y = k.before q (omega arith) in omega (arith, ints, x, y));
-    here = (let x = h.here in let y = k.before h.place l in omega (arith, ints, x, y));
+    here = (let x = h.here in let y = subst (λ z. pos 0 <ℤ w z) (sym e) k.here in omega (arith, ints, x, y));
   }
   | inr c ↦ elim c [
-    | inl e ↦ record {
+    | inl l ↦ record {
       place = h.place;
       within = h.within;
       before = λ q g. (let x = h.before q g in let y = k.before q (omega arith) in omega (arith, ints, x, y));
-      here = (let x = h.here in let y = subst (λ z. pos 0 <ℤ w z) (sym e) k.here in omega (arith, ints, x, y));
+      here = (let x = h.here in let y = k.before h.place l in omega (arith, ints, x, y));
     }
     | inr l ↦ record {
       place = k.place;

@@ -8,9 +8,8 @@ use Rattle.tv_simplex.proofs.Steps.{same_objective}
 use Rattle.tv_simplex.specs.Tableaus.{Tableau}
 use Rattle.tv_simplex.specs.Chains.{order, objective, column, Enters, Leaves, Step, IsChain}
 use Rattle.std.proofs.lemmas.Grind.{same_number_lists}
-use Rattle.std.proofs.lemmas.Bool.{cases_eq}
+use Rattle.std.proofs.lemmas.Bool.{cases_eq, cases_order}
 use Rattle.tv_fraction.proofs.Products.{product_above}
-use Rattle.tv_linear.proofs.ListLaws.{in_order}
 
 above_too : (p q u v : ℤ) → pos 0 <ℤ p → pos 0 <ℤ q → p *ℤ u ≡ q *ℤ v → pos 0 <ℤ u → pos 0 <ℤ v
 above_too p q u v h k e l = let a = product_above p u h l in is_above q v k (omega (arith, ints, a, e))
@@ -60,14 +59,14 @@ module _ (a : ℕ → ℕ → ℤ) (m n : ℕ) (b : ℕ → ℕ) (x y : Tableau 
 
 -- the next basis is one
 pub one_step : (a : ℕ → ℕ → ℤ) (m n : ℕ) (old new new' : List ℕ) → Step a m n old new → Step a m n old new' → new ≡ new'
-one_step a m n old new new' s t = elim (in_order s.entering t.entering) [
-  | inl l ↦ absurd (entered a m n (column old) s.table t.table s.entering t.entering s.enters t.enters l)
+one_step a m n old new new' s t = elim (cases_order s.entering t.entering) [
+  | inl e ↦ elim (cases_eq t.leaving s.leaving) [
+    | inl f ↦ s.next ∙ (λ i. set old (sym f i) (e i)) ∙ sym t.next
+    | inr o ↦ absurd (left a m n (column old) s.table t.table s.entering s.leaving t.leaving s.leaves (subst (λ c. Leaves a m n (column old) t.table c t.leaving) (sym e) t.leaves) o)
+  ]
   | inr w ↦ elim w [
+    | inl l ↦ absurd (entered a m n (column old) s.table t.table s.entering t.entering s.enters t.enters l)
     | inr l ↦ absurd (entered a m n (column old) t.table s.table t.entering s.entering t.enters s.enters l)
-    | inl e ↦ elim (cases_eq t.leaving s.leaving) [
-      | inl f ↦ s.next ∙ (λ i. set old (sym f i) (e i)) ∙ sym t.next
-      | inr o ↦ absurd (left a m n (column old) s.table t.table s.entering s.leaving t.leaving s.leaves (subst (λ c. Leaves a m n (column old) t.table c t.leaving) (sym e) t.leaves) o)
-    ]
   ]
 ]
 

@@ -5,6 +5,7 @@ use Rattle.std.specs.Option.{option_map}
 use Rattle.std.proofs.lemmas.Int.{ints}
 use Rattle.std.proofs.lemmas.List.{length-map, map-append}
 use Rattle.std.proofs.lemmas.List.Elements.{All-nil, All-cons, All-head, All-tail, All-push, All-append}
+use Rattle.std.proofs.lemmas.Bool.{eq-eqb}
 use Rattle.tv_linear.specs.declared.cover.CoverTree.{CoverTree}
 use Rattle.tv_linear.specs.declared.choice.ChoiceTree.{ChoiceTree, Split', Empty, NoStep, Take}
 use Rattle.tv_linear.specs.Linear.{Linear, columns}
@@ -13,7 +14,7 @@ use Rattle.tv_linear.specs.Terms.{table, terms_after, draw_terms}
 use Rattle.tv_linear.specs.Covers.{no_target, IsMetCover}
 use Rattle.tv_linear.proofs.Covered.{covered, shown_at_met}
 use Rattle.tv_linear.proofs.KnownLemmas.{refuted, met_or_denied, value-composed, value-denied, value-given, met-as_given}
-use Rattle.tv_linear.proofs.ListLaws.{table_of, test_true, all_back, all_front, map-table, contains_at}
+use Rattle.tv_linear.proofs.ListLaws.{table_of, all_back, all_front, map-table, contains_at}
 use Rattle.tv_program.specs.Steps.{State}
 use Rattle.tv_cases.specs.LinearCases.{LinearCase, CaseSystem, CaseSteps, leaving}
 use Rattle.tv_cert.specs.declared.node.Marked.{Marked}
@@ -87,7 +88,7 @@ pub record Stopped (n : ℕ) (cases : List LinearCase) (l : ℕ) (xs : List ℤ)
 nostep_stops : (n : ℕ) (cases : List LinearCase) (l : ℕ) (known : List Known) (covers : List CoverTree) (xs : List ℤ) → NoStepMet n known (leaving l cases) covers → length xs ≡ n → ((ds : List ℤ) → All (IsKnownMet (xs ++ ds)) known) → Stopped n cases l xs
 nostep_stops n cases l known covers xs h e stays = record {
   none = λ c among from ds drawn guards. (
-      let p = zip_some (λ c cover. IsMetCover (n + c.draws) no_target (known ++ as_given c.guards) cover) (leaving l cases) covers c h (Contains-filter (λ c. c.from == l) cases c (test_true c.from l from) among) in
+      let p = zip_some (λ c cover. IsMetCover (n + c.draws) no_target (known ++ as_given c.guards) cover) (leaving l cases) covers c h (Contains-filter (λ c. c.from == l) cases c (eq-eqb c.from l from) among) in
       let long : length (xs ++ ds) ≡ n + c.draws = (let a = length-append xs ds in omega (arith, a, e, drawn)) in
       let w = covered (n + c.draws) no_target (known ++ as_given c.guards) p.0 (xs ++ ds) p.1 long (All-append (IsKnownMet (xs ++ ds)) known (as_given c.guards) (stays ds) guards) in
       none_or_some w.2 w.3);

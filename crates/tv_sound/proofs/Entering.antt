@@ -2,7 +2,7 @@
 use Rattle.std.proofs.Common.{◌≡◌, ℕ, suc, ◌+◌, ◌≤◌, List, [], ◌∷◌, ◌++◌, length, All, map, Option, None, Some, Bool, true, false, arith, refl, subst, sym, ap, ◌∙◌, ℤ, pos, ◌+ℤ◌, ◌*ℤ◌, ◌≤ℤ◌, slice_get, length-append}
 use Rattle.std.specs.Prelude.{Contains}
 use Rattle.std.specs.Option.{option_map}
-use Rattle.std.proofs.lemmas.List.{length-map}
+use Rattle.std.proofs.lemmas.List.{length-map, get_or_past}
 use Rattle.std.proofs.lemmas.Int.{ints}
 use Rattle.std.proofs.lemmas.List.Elements.{All-nil, All-cons, All-head, All-tail, All-append}
 use Rattle.tv_linear.specs.declared.cover.CoverTree.{CoverTree}
@@ -23,7 +23,7 @@ use Rattle.tv_cert.specs.Obligations.{case_change}
 use Rattle.tv_cert.specs.Fits.{PieceFits}
 use Rattle.tv_cert.proofs.PieceLemmas.{piece_got}
 use Rattle.tv_sound.proofs.Shown.{PieceCovered, StepCovered}
-use Rattle.tv_linear.proofs.ListLaws.{all_back, all_front, get_or-past}
+use Rattle.tv_linear.proofs.ListLaws.{all_back, all_front}
 
 -- ---- lists
 
@@ -90,7 +90,7 @@ place_sum-longer f (x ∷ xs) ds h =
     omega (arith, ints, later)
 
 pub value-longer : (xs ds : List ℤ) (r : Linear) → columns r ≤ length xs → known_value (xs ++ ds) (given r) ≡ known_value xs (given r)
-value-longer xs ds r h = ap (λ z. z +ℤ r.constant) (place_sum-longer (λ j. number (Some j) r) xs ds (λ j k. get_or-past r.coefficients j (pos 0) (omega arith)))
+value-longer xs ds r h = ap (λ z. z +ℤ r.constant) (place_sum-longer (λ j. number (Some j) r) xs ds (λ j k. get_or_past r.coefficients j (pos 0) (omega arith)))
 
 pub met-longer : (xs ds : List ℤ) (rows : List Linear) → All (λ r. columns r ≤ length xs) rows → All (IsKnownMet xs) (as_given rows) → All (IsKnownMet (xs ++ ds)) (as_given rows)
 met-longer xs ds [] w h = All-nil (IsKnownMet (xs ++ ds))

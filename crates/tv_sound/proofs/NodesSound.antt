@@ -4,7 +4,6 @@ use Rattle.std.specs.Prelude.{Contains}
 use Rattle.std.specs.List.{flat_map}
 use Rattle.tv_linear.specs.Linear.{Linear}
 use Rattle.tv_linear.specs.Known.{Known, IsKnownMet, as_given}
-use Rattle.tv_linear.proofs.ListLaws.{true_test, test_true}
 use Rattle.tv_program.specs.declared.tree.Relation.{Relation}
 use Rattle.tv_program.specs.Trees.{Expression}
 use Rattle.tv_program.specs.Meaning.{value_of, compares}
@@ -34,6 +33,7 @@ use Rattle.tv_sound.proofs.Entering.{piece_covered}
 use Rattle.tv_sound.proofs.Regions.{Placed, lands, onward, term_sound, noterm_sound, weak_every_sound, until_every_sound, until_any_sound, weak_any_sound}
 use Rattle.tv_sound.proofs.Offered.{has_cover, has_atom, has_steps, has_choice, atom_meets}
 use Rattle.std.proofs.lemmas.List.Elements.{Contains-append_cases}
+use Rattle.std.proofs.lemmas.Bool.{eq-eqb, eqb-true}
 
 -- the lists of rows of each comparison show it
 pub record TestsShow (about : About) : Type 0 where
@@ -52,11 +52,11 @@ truth_target true lines h = refl
 truth_target false lines h = absurd (omega arith)
 
 same_place : (here l : ℕ) → IsTrue (here == l) → here ≡ l
-same_place here l h = true_test here l h
+same_place here l h = eqb-true here l h
 
 not_same : (here l : ℕ) (b : Bool) → (here == l) ≡ b → IsTrue (not b) → here ≡ l → ⊥
 not_same here l true e h k = cc
-not_same here l false e h k = let t = test_true here l k in cc
+not_same here l false e h k = let t = eq-eqb here l k in cc
 
 placed : (n : ℕ) (ps : List Marked) (s : State) → length s.values ≡ n → (h : InPieces ps s) → Placed n ps s
 placed n ps s wide h = record { piece = h.piece; among = h.among; inside = h.inside; wide = wide }

@@ -3,13 +3,14 @@ use Rattle.std.proofs.Common.{◌≡◌, ℕ, zero, suc, List, [], ◌∷◌, le
 use Rattle.std.specs.Prelude.{slice_get, Contains}
 use Rattle.std.specs.List.{flat_map}
 use Rattle.std.specs.Option.{option_map}
+use Rattle.std.proofs.lemmas.Bool.{eq-eqb}
 use Rattle.tv_linear.specs.declared.cover.CoverTree.{CoverTree}
 use Rattle.tv_linear.specs.declared.choice.ChoiceTree.{ChoiceTree}
 use Rattle.tv_linear.specs.Linear.{Linear}
 use Rattle.tv_linear.specs.Known.{Known, given, IsKnownMet, as_given}
 use Rattle.tv_linear.specs.Covers.{IsMetCover}
 use Rattle.tv_linear.proofs.Covered.{covered}
-use Rattle.tv_linear.proofs.ListLaws.{test_true, contains_at}
+use Rattle.tv_linear.proofs.ListLaws.{contains_at}
 use Rattle.tv_program.specs.Steps.{State}
 use Rattle.tv_cases.specs.LinearCases.{LinearCase, leaving}
 use Rattle.tv_cert.specs.declared.node.Kind.{Kind}
@@ -68,7 +69,7 @@ module _ (number : ℕ) (about : About) (ps : List Marked) (os : Marked → List
 
   pub has_steps : (p : Marked) → Contains ps p → (into : List Marked) (fall : LinearCase → Marked → ℕ → Option (List Known)) → ((o : Obligation) → Contains (steps_of number about p into fall) o → Contains (os p) o) → AllStepsCovered about.system.variables about.system.cases p into fall
   has_steps p among into fall within c ca from =
-      let w = found p among (step_of number about p into fall c) (within _ (Contains-map (step_of number about p into fall) (leaving (place_of p) about.system.cases) c (Contains-filter (λ c. c.from == place_of p) about.system.cases c (test_true c.from (place_of p) from) ca))) in
+      let w = found p among (step_of number about p into fall c) (within _ (Contains-map (step_of number about p into fall) (leaving (place_of p) about.system.cases) c (Contains-filter (λ c. c.from == place_of p) about.system.cases c (eq-eqb c.from (place_of p) from) ca))) in
       let t = cover_shown _ _ _ w.proof w.met in
       record { tree = t.0; met = t.1 }
 

@@ -10,10 +10,9 @@ use Rattle.tv_language.specs.Symbols as symbols
 use Rattle.tv_language.specs.Symbols.{Symbol, number, name, label, drawn, fixed, lexeme, lexemes, Vocabulary, numbered, symbol_by, is_colon, symbols_from}
 use Rattle.tv_language.proofs.PlaceOfWords.{found}
 use Rattle.tv_reading.specs.Marks.{Mark, plain, symbol_of, symbols_of, is_formula_word, new_name, known_name, number_mark, mark_by, names_behind, draws_behind, marks_from}
-use Rattle.tv_reading.proofs.LinearLemmas.{and_left, and_right}
 use Rattle.tv_reading.proofs.SymbolLemmas.{body_kind, all_body, all_sound, draws_at_all}
 use Rattle.tv_spelling.proofs.Mentioned.{variables_in}
-use Rattle.std.proofs.lemmas.Bool.{and_from, not-true}
+use Rattle.std.proofs.lemmas.Bool.{and_from, not-true, and_parts}
 
 -- ---- symbols that are marks
 
@@ -45,11 +44,11 @@ settled_kind grows words kind h = refl
 -- symbols of a sum or a condition without draws, and the end of the text
 pub settled_before_end : (grows : Bool) (words : List Word) (d : ℕ) (ss : List Symbol) → all_body ss ≡ true → draws_at_all ss ≡ 0 → all_sound d ss ≡ true → AreFree grows words (variables_in (ss ++ fixed kinds.End ∷ [])) → all_settled grows words (ss ++ fixed kinds.End ∷ []) ≡ true
 settled_before_end grows words d [] b n w f = refl
-settled_before_end grows words d (number k ∷ ss) b n w f = and_from _ _ (and_left _ _ w) (settled_before_end grows words d ss b (omega (arith, n)) (and_right _ _ w) f)
+settled_before_end grows words d (number k ∷ ss) b n w f = and_from _ _ ((and_parts _ _ w).0) (settled_before_end grows words d ss b (omega (arith, n)) ((and_parts _ _ w).1) f)
 settled_before_end grows words d (name v ∷ ss) b n w f = and_from _ _ f.0 (settled_before_end grows words d ss b (omega (arith, n)) w f.1)
 settled_before_end grows words d (label l ∷ ss) b n w f = cc
 settled_before_end grows words d (drawn k ∷ ss) b n w f = absurd (omega (arith, n))
-settled_before_end grows words d (fixed kind ∷ ss) b n w f = and_from (settled grows words (fixed kind)) (all_settled grows words (ss ++ fixed kinds.End ∷ [])) (settled_kind grows words kind (and_left (body_kind kind) (all_body ss) b)) (settled_before_end grows words d ss (and_right (body_kind kind) (all_body ss) b) (omega (arith, n)) w f)
+settled_before_end grows words d (fixed kind ∷ ss) b n w f = and_from (settled grows words (fixed kind)) (all_settled grows words (ss ++ fixed kinds.End ∷ [])) (settled_kind grows words kind ((and_parts (body_kind kind) (all_body ss) b).0)) (settled_before_end grows words d ss ((and_parts (body_kind kind) (all_body ss) b).1) (omega (arith, n)) w f)
 
 -- ---- the mark of one token
 
@@ -98,9 +97,9 @@ marks_are grows v text d draws [] h = refl
 marks_are grows v text d draws (t ∷ ts) h =
     let w : Word = (lexeme text t).word in
     let s : Symbol = symbol_by v false d t.kind w in
-    let one = token_is grows v d draws t.kind w (and_left _ _ h) in
+    let one = token_is grows v d draws t.kind w ((and_parts _ _ h).0) in
     let behind : symbols_from v (is_colon t.kind) (symbols.draws_behind t.kind d) (lexemes text ts) ≡ symbols_from v false (symbols.draws_behind t.kind d) (lexemes text ts) = ap (λ (b : Bool). symbols_from v b (symbols.draws_behind t.kind d) (lexemes text ts)) one.no_colon in
-    let again = marks_are grows v text (symbols.draws_behind t.kind d) (draws_behind t.kind draws) ts (ap (all_settled grows v.variables) (sym behind) ∙ and_right _ _ h) in
+    let again = marks_are grows v text (symbols.draws_behind t.kind d) (draws_behind t.kind draws) ts (ap (all_settled grows v.variables) (sym behind) ∙ (and_parts _ _ h).1) in
     ap (λ (m : Mark). m ∷ marks_from text grows (names_behind grows t.kind w v.variables) (draws_behind t.kind draws) ts) one.mark
     ∙ ap (λ (ns : List Word). plain s ∷ marks_from text grows ns (draws_behind t.kind draws) ts) one.names
     ∙ ap (λ (ms : List Mark). plain s ∷ ms) (again ∙ ap (λ (us : List Symbol). map plain us) (sym behind))
@@ -148,11 +147,11 @@ marks_quiet text words draws (t ∷ ts) =
 
 pub quiet_front : (words : List Word) (a b : List Symbol) → all_quiet words (a ++ b) ≡ true → all_quiet words a ≡ true
 quiet_front words [] b h = refl
-quiet_front words (s ∷ a) b h = and_from _ _ (and_left _ _ h) (quiet_front words a b (and_right _ _ h))
+quiet_front words (s ∷ a) b h = and_from _ _ ((and_parts _ _ h).0) (quiet_front words a b ((and_parts _ _ h).1))
 
 pub quiet_free : (words : List Word) (ss : List Symbol) → all_quiet words ss ≡ true → AreFree false words (variables_in ss)
 quiet_free words [] h = tt
-quiet_free words (name v ∷ ss) h = (and_left _ _ h, quiet_free words ss (and_right _ _ h))
+quiet_free words (name v ∷ ss) h = ((and_parts _ _ h).0, quiet_free words ss ((and_parts _ _ h).1))
 quiet_free words (number k ∷ ss) h = quiet_free words ss h
 quiet_free words (label l ∷ ss) h = quiet_free words ss h
 quiet_free words (drawn d ∷ ss) h = absurd cc
@@ -162,7 +161,7 @@ pub quiet_undrawn : (words : List Word) (ss : List Symbol) → all_quiet words s
 quiet_undrawn words [] h = refl
 quiet_undrawn words (drawn d ∷ ss) h = absurd cc
 quiet_undrawn words (number k ∷ ss) h = omega (arith, quiet_undrawn words ss h)
-quiet_undrawn words (name v ∷ ss) h = omega (arith, quiet_undrawn words ss (and_right _ _ h))
+quiet_undrawn words (name v ∷ ss) h = omega (arith, quiet_undrawn words ss ((and_parts _ _ h).1))
 quiet_undrawn words (label l ∷ ss) h = omega (arith, quiet_undrawn words ss h)
 quiet_undrawn words (fixed kind ∷ ss) h = omega (arith, quiet_undrawn words ss h)
 

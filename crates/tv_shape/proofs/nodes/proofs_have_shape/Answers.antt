@@ -1,5 +1,6 @@
 use Rattle.std.proofs.Common.{arith, ap, ◌^◌, ◌<◌, ◌≡◌, ◌∙◌, length, map, sym, subst}
 use Rattle.std.proofs.lemmas.List.{length-map}
+use Rattle.std.proofs.lemmas.Bool.{eq-eqb, eqb-true}
 use Rattle.tv_cases.specs.Systems.{cases_of}
 use Rattle.tv_cases.specs.Views.{case_view}
 use Rattle.tv_cert.specs.declared.node.Node.{out-Node}
@@ -7,7 +8,6 @@ use Rattle.tv_shape.proofs.NumberLemmas.{own_within}
 use Rattle.tv_cert.specs.AimViews.{aim_states}
 use Rattle.tv_cert.specs.NodeViews.{pieces_list}
 use Rattle.tv_cert.specs.Nodes.{node_owes}
-use Rattle.tv_linear.proofs.ListLaws.{test_true, true_test}
 use Rattle.tv_shape.specs.Parts.{children_of, proofs_of}
 use Rattle.tv_shape.proofs.ShaperLemmas.{Offered, taken_all, taken_fails, none_left, left_none}
 use Rattle.tv_shape.proofs.nodes.proofs_have_shape.Goals as goal
@@ -40,6 +40,6 @@ returns c =
     let same : Offered os c.deref.result.now ≡ Offered (node_owes 0 system s (pieces_list node) (map pieces_list (children_of node))) (proofs_of node) = (λ i. Offered (node_owes 0 system s (pieces_list c.args.node.now) (map pieces_list (c.deref-2.ensures.value i))) (c.deref.ensures.value i)) in
     let all = taken_all os _ c.visit_pieces.new.visitor c.if-not-visit_pieces.ensures.0 in
     let left = c.visit_pieces.new.visitor.proofs.now in (
-      λ t. subst (λ (x : Type 0). x) same (all.0 (none_left left (true_test (length left) 0 (sym c.is_empty.ensures ∙ t)))),
-      λ h. c.is_empty.ensures ∙ test_true (length left) 0 (left_none left (all.1 (subst (λ (x : Type 0). x) (sym same) h))),
+      λ t. subst (λ (x : Type 0). x) same (all.0 (none_left left (eqb-true (length left) 0 (sym c.is_empty.ensures ∙ t)))),
+      λ h. c.is_empty.ensures ∙ eq-eqb (length left) 0 (left_none left (all.1 (subst (λ (x : Type 0). x) (sym same) h))),
     )
