@@ -1,8 +1,7 @@
 -- what the limits of a program say of its edges and its cases
-use Rattle.std.proofs.Common.{◌≡◌, ℕ, suc, ◌<◌, ◌∙◌, List, [], ◌∷◌, ◌++◌, map, length, refl, sym, ap, arith, true, subst}
+use Rattle.std.proofs.Common.{◌≡◌, ℕ, suc, ◌<◌, ◌∙◌, List, [], ◌∷◌, ◌++◌, map, length, refl, sym, ap, true, subst}
 use Rattle.std.specs.Prelude.{◌&&◌, nat_le, nat_lt, All, Result, Ok, Err, sum}
 use Rattle.std.specs.List.{list_all}
-use Rattle.std.proofs.lemmas.Bool.Decides.{nat_tests}
 use Rattle.std.proofs.lemmas.List.Elements.{All-nil, All-cons, All-head, All-tail, All-append}
 use Rattle.tv_program.specs.declared.tree.Edge.{Edge}
 use Rattle.tv_program.specs.Views.{transition, transitions}

@@ -1,7 +1,6 @@
 -- Laws of lists and of tests of numbers.
-use Rattle.std.proofs.Common.{◌≡◌, ℕ, zero, suc, ◌+◌, ◌<◌, ◌≤◌, ◌⊎◌, ◌==◌, true, false, List, [], ◌∷◌, ◌++◌, length, take, drop, get_or, All, arith, refl, ap, ◌∙◌, ℤ, pos, map, sym, Some, slice_get, subst, ◌≤ℤ◌}
+use Rattle.std.proofs.Common.{◌≡◌, ℕ, zero, suc, ◌+◌, ◌<◌, ◌≤◌, ◌⊎◌, true, List, [], ◌∷◌, ◌++◌, length, take, drop, get_or, All, arith, refl, ap, ◌∙◌, ℤ, pos, map, sym, Some, slice_get, subst, ◌≤ℤ◌}
 use Rattle.std.specs.List.{AllZip, Contains}
-use Rattle.std.proofs.lemmas.Bool.Decides.{nat_tests}
 use Rattle.std.proofs.lemmas.List.Elements.{All-nil, All-cons, All-head, All-tail, All-get_or}
 use Rattle.tv_linear.specs.Terms.{table}
 use Rattle.std.proofs.Math.Seq.{take-suc}
