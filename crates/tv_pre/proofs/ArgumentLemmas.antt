@@ -9,18 +9,21 @@ use Rattle.tv_cert.specs.Statements.{Statement}
 use Rattle.tv_pre.specs.declared.finding.Arguments.{Arguments}
 use Rattle.tv_pre.specs.declared.outcome.Found.{Found}
 use Rattle.tv_linear.specs.declared.region.Region.{Region}
-use Rattle.tv_pre.specs.Arguments.{AreArguments, AreFoundFirst, AreKnownFirst, regions_of}
+use Rattle.tv_pre.specs.Arguments.{AreArguments, AreFoundFirst, AreKnownFirst}
 use Rattle.tv_pre.specs.KnownStates.{HasKnownStates, AreKnownFor}
 use Rattle.tv_pre.specs.Finding.{IsFound, first_of, gap_behind}
 use Rattle.tv_pre.proofs.FoundLemmas.{argument_added, first_arguments}
 
 -- ---- their regions
-pub one_region : (founds rest later : List Found) (found : Found) (old new : List Region) → rest ≡ found ∷ later → regions_of founds ≡ old ++ regions_of rest → new ≡ old ++ found.part.region ∷ [] → regions_of founds ≡ new ++ regions_of later
-one_region founds rest later found old new e h r =
-    h ∙ ap (λ fs. old ++ regions_of fs) e ∙ sym (append_assoc old (found.part.region ∷ []) (regions_of later)) ∙ ap (λ rs. rs ++ regions_of later) (sym r)
+abbrev region_of : Found → Region
+region_of found = found.part.region
 
-pub all_regions : (founds rest : List Found) (regions : List Region) → rest ≡ [] → regions_of founds ≡ regions ++ regions_of rest → regions ≡ regions_of founds
-all_regions founds rest regions e h = sym (h ∙ ap (λ fs. regions ++ regions_of fs) e ∙ append-nil regions)
+pub one_region : (founds rest later : List Found) (found : Found) (old new : List Region) → rest ≡ found ∷ later → map region_of founds ≡ old ++ map region_of rest → new ≡ old ++ found.part.region ∷ [] → map region_of founds ≡ new ++ map region_of later
+one_region founds rest later found old new e h r =
+    h ∙ ap (λ fs. old ++ map region_of fs) e ∙ sym (append_assoc old (found.part.region ∷ []) (map region_of later)) ∙ ap (λ rs. rs ++ map region_of later) (sym r)
+
+pub all_regions : (founds rest : List Found) (regions : List Region) → rest ≡ [] → map region_of founds ≡ regions ++ map region_of rest → regions ≡ map region_of founds
+all_regions founds rest regions e h = sym (h ∙ ap (λ fs. regions ++ map region_of fs) e ∙ append-nil regions)
 
 -- ---- what they have
 module _ (about : CaseSystem) (last : ℕ) (alone : Bool) where
@@ -36,13 +39,13 @@ module _ (about : CaseSystem) (last : ℕ) (alone : Bool) where
       pushed ≡ founds ++ found ∷ [] → AreKnownFirst about last alone (map aim_states aims) pushed
   one_known aims founds pushed i aim found below is many h f e = subst (AreKnownFirst about last alone (map aim_states aims)) (sym e) (known_more aims founds i aim found below is many h f)
 
-  known_all : (ss : List Statement) (founds : List Found) → length founds ≡ length ss → AreKnownFirst about last alone ss founds → AreKnownFor about last alone ss (regions_of founds)
+  known_all : (ss : List Statement) (founds : List Found) → length founds ≡ length ss → AreKnownFirst about last alone ss founds → AreKnownFor about last alone ss (map region_of founds)
   known_all [] [] many h = tt
   known_all [] (b ∷ founds) many h = absurd h
   known_all (s ∷ ss) [] many h = absurd (omega (arith, many))
   known_all (s ∷ ss) (b ∷ founds) many h = (h.0.states, known_all ss founds (omega (arith, many)) h.1)
 
-  pub all_known : (aims : List Aim) (founds : List Found) (regions : List Region) (i : ℕ) → length aims ≤ i → i ≤ length aims → length founds ≡ i → AreKnownFirst about last alone (map aim_states aims) founds → regions ≡ regions_of founds → AreKnownFor about last alone (map aim_states aims) regions
+  pub all_known : (aims : List Aim) (founds : List Found) (regions : List Region) (i : ℕ) → length aims ≤ i → i ≤ length aims → length founds ≡ i → AreKnownFirst about last alone (map aim_states aims) founds → regions ≡ map region_of founds → AreKnownFor about last alone (map aim_states aims) regions
   all_known aims founds regions i past within many h e =
       subst (AreKnownFor about last alone (map aim_states aims)) (sym e) (known_all (map aim_states aims) founds (let k = length-map aims aim_states in omega (arith, k, past, within, many)) h)
 

@@ -200,10 +200,6 @@ cond_here false x xs e = absurd (let no : ⊥ = cc in no)
 abbrev lists_there : List Marked → ℕ → List (List Linear)
 lists_there ps l = map rows_of (pieces_at ps l)
 
-pub cond_append : (b : Bool) (x : Marked) (all xs ys : List Marked) → all ≡ xs ++ ys → cond b (x ∷ all) all ≡ cond b (x ∷ xs) xs ++ ys
-cond_append true x all xs ys e = ap (λ zs. x ∷ zs) e
-cond_append false x all xs ys e = e
-
 here_lists : (n k l : ℕ) (ls : List (List Linear)) → k ≡ l → lists_there (map (atom_piece n k) ls) l ≡ ls
 here_lists n k l [] e = refl
 here_lists n k l (rs ∷ ls) e = ap (map rows_of) (cond_here (k == l) (atom_piece n k rs) (pieces_at (map (atom_piece n k) ls) l) (eq-eqb k l e)) ∙ ap (λ zs. rs ∷ zs) (here_lists n k l ls e)

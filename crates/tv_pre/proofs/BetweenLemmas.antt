@@ -118,8 +118,8 @@ hold_other Strong P Q R S s f g h = g h
 pub unserved_same : (about : CaseSystem) (shape : Shape) (f g : Property) (a b : Region) → IsExactly about f a → IsExactly about g b → IsUnservedBy about shape (InState a) (InState b) →
     IsUnservedBy about shape (λ s. Holds (CaseSteps about) f s) (λ s. Holds (CaseSteps about) g s)
 unserved_same about shape f g a b first second (inl none) = inl none
-unserved_same about shape f g a b first second (inr some) = inr (λ plain. (
-    let w = some plain in
+unserved_same about shape f g a b first second (inr some) = inr (λ tame. (
+    let w = some tame in
     let s = w.state in
     record {
       state = s;

@@ -59,19 +59,15 @@ pub goes_anywhere : (about : CaseSystem) (region : Region) (s : State) → AreCa
 goes_anywhere about region s limits any (t, step) =
     inl (t, step, any.all t (let c = case_of_system about step.taken limits step.among in subst (λ l. l < about.locations) (sym step.does.enters) c.enters))
 
+pub first_bare : (p : Marked) → rows_of p ∷ [] ≡ [] ∷ [] → rows_of p ≡ []
+first_bare p e = cc
+
 nothing_owed : (n : ℕ) (change : Linear → Known) (xs : List Marked) → (map rows_of xs ≡ [] ∷ []) ⊎ (map rows_of xs ≡ []) → (k j : ℕ) → OwedSame n (target_rows change no_fall (slice_get xs k) j) (owed_nothing k j)
 nothing_owed n change [] h k zero = tt
 nothing_owed n change [] h k (suc j) = tt
 nothing_owed n change (x ∷ xs) (inr e) k j = absurd (let l = ap length e in omega (arith, l))
 nothing_owed n change (x ∷ y ∷ xs) (inl e) k j = absurd (let l = ap length e in omega (arith, l))
-nothing_owed n change (x ∷ []) (inl e) zero zero = subst (λ rs. OwedSame n (Some (map change rs ++ [])) (owed_nothing 0 0)) (sym (first e)) tt
-  where
-    first : rows_of x ∷ [] ≡ [] ∷ [] → rows_of x ≡ []
-    first e = ap (λ ls. head_of ls) e
-      where
-        head_of : List (List Linear) → List Linear
-        head_of [] = []
-        head_of (z ∷ zs) = z
+nothing_owed n change (x ∷ []) (inl e) zero zero = subst (λ rs. OwedSame n (Some (map change rs ++ [])) (owed_nothing 0 0)) (sym (first_bare x e)) tt
 nothing_owed n change (x ∷ []) (inl e) zero (suc j) = tt
 nothing_owed n change (x ∷ []) (inl e) (suc k) zero = tt
 nothing_owed n change (x ∷ []) (inl e) (suc k) (suc j) = tt

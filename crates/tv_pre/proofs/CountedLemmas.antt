@@ -39,7 +39,7 @@ use Rattle.tv_pre.specs.Growing.{IsEverywhere}
 use Rattle.tv_pre.specs.Sized.{counts_at, hold_count, end_count, IsFewBefore, IsFewStaying, IsFewEnd}
 use Rattle.tv_pre.proofs.SizedLemmas.{none_less, product_last, sum_last, counts_more, everywhere_few, nowhere_few, all_of_none, stops_few, side_few, sides_counted, one_end_of, two_ends_of, within, grown_within, shrunk_within, first_round, last_is_one, one_later, plus}
 use Rattle.tv_cases.proofs.ProductLemmas.{larger}
-use Rattle.tv_known.proofs.SizeLemmas.{trans, two_ones}
+use Rattle.tv_known.proofs.SizeLemmas.{trans, times_one, two_ones}
 use Rattle.std.proofs.lemmas.Nat.{mul-le}
 
 -- ---- faults that are kept
@@ -64,9 +64,7 @@ within_more b c w faults.Memory h = tt
 -- ---- regions together
 some_product : (l : ℕ) (regions : List Region) → 1 ≤ product (some_counts_at l regions)
 some_product l [] = le_refl 1
-some_product l (r ∷ rs) = trans 1 (max 1 (count_at l r)) (max 1 (count_at l r) * product (some_counts_at l rs)) (le-max_left 1 (count_at l r)) (times_some (max 1 (count_at l r)) (product (some_counts_at l rs)) (some_product l rs)) where
-  times_some : (a b : ℕ) → 1 ≤ b → a ≤ a * b
-  times_some a b h = grind arith
+some_product l (r ∷ rs) = trans 1 (max 1 (count_at l r)) (max 1 (count_at l r) * product (some_counts_at l rs)) (le-max_left 1 (count_at l r)) (times_one (max 1 (count_at l r)) (product (some_counts_at l rs)) (some_product l rs))
 
 taken_product : (l : ℕ) (regions : List Region) (j : ℕ) → product (counts_at l (take j regions)) ≤ product (some_counts_at l regions)
 taken_product l [] zero = le_refl 1
@@ -195,12 +193,9 @@ module _ (about : CaseSystem) (sides : Sides) where
       within_more (λ l. hold l * some l) (fix_count about.cases last sides.path sides.shape f g)
       (λ l.
       (let all = all_count about.cases ends l in
-      let m = mul-le (hold l) (some l) (hold l) (some l * all) (le_refl (hold l)) (times_some (some l) all (all_one about.cases ends l)) in
+      let m = mul-le (hold l) (some l) (hold l) (some l * all) (le_refl (hold l)) (times_one (some l) all (all_one about.cases ends l)) in
       let one : hold l * some l ≤ growing_count about.cases Every hold ends 1 l = omega (arith, m) in
       grown_within about sides f g last l must (hold l * some l) 1 (last_is_one about last start is) (subst (λ (p : Path). hold l * some l ≤ growing_count about.cases p hold ends 1 l) (sym path) one))) r (h plain f g full)
-    where
-      times_some : (a b : ℕ) → 1 ≤ b → a ≤ a * b
-      times_some a b h = grind arith
 
   module _ (end : Region) (few : IsFewEnd sides end) (point : FixedPoint) (of : IsOfSides sides end point) where
     -- a settled round that shrinks is followed by one more

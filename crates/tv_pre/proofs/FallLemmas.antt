@@ -17,6 +17,7 @@ use Rattle.tv_cert.specs.Choices.{drawn_change}
 use Rattle.tv_cert.specs.Obligations.{case_change}
 use Rattle.tv_cert.specs.Pieces.{place_of, rows_of, ranks_of, goes, pieces_at}
 use Rattle.tv_cert.specs.Targets.{owed_into, target_rows, no_fall, fall_from}
+use Rattle.tv_cert.proofs.JoinedLemmas.{pieces_at-append}
 use Rattle.tv_pre.specs.Ranked.{EachOf, IsRankBelow}
 use Rattle.tv_cases.proofs.ProductLemmas.{zero_times}
 use Rattle.tv_lexrank.proofs.ZeroLines.{places_zero}
@@ -66,6 +67,11 @@ KeepsNumbers n change = (b : ℤ) → pos 0 ≤ℤ b → IsWithin 62 b → IsNum
 pub record AreLayers (n : ℕ) (a : ℤ) (dones goes_on : List Marked) : Type 0 where
   pub done_with : EachOf (λ p. goes p ≡ false) dones
   pub ranked : EachOf (IsRankBelow n a) goes_on
+
+-- without falls a target has a first list of rows alone
+pub only_zero : (change : Linear → Known) (found : Option Marked) (j : ℕ) → target_rows change no_fall found (suc j) ≡ None
+only_zero change None j = refl
+only_zero change (Some q) j = refl
 
 zero_held : (told : ℕ → Type 0) (f : ℕ → ℤ) (v : ℕ) (xs : List ℤ) → ((v : ℕ) → told v) → ((v : ℕ) → f v ≡ pos 0) → PlacesHeld told f (pos 0) v xs
 zero_held told f v [] t h = tt
@@ -174,14 +180,6 @@ module _ (N n : ℕ) (a : ℤ) (change : Linear → Known) (keeps : KeepsNumbers
   onward_owed (x ∷ xs) ys zs h zero l = absurd (omega (arith, l))
   onward_owed (x ∷ xs) ys zs h (suc k) l = onward_owed xs ys zs h k (omega (arith, l))
 
-  at_append : (xs ys : List Marked) (l : ℕ) → pieces_at (xs ++ ys) l ≡ pieces_at xs l ++ pieces_at ys l
-  at_append [] ys l = refl
-  at_append (x ∷ xs) ys l = cond_append (place_of x == l) x (pieces_at (xs ++ ys) l) (pieces_at xs l) (pieces_at ys l) (at_append xs ys l)
-    where
-      cond_append : (b : Bool) (x : Marked) (all xs ys : List Marked) → all ≡ xs ++ ys → cond b (x ∷ all) all ≡ cond b (x ∷ xs) xs ++ ys
-      cond_append true x all xs ys e = ap (λ zs. x ∷ zs) e
-      cond_append false x all xs ys e = e
-
   each_at : (P : Marked → Type 0) (xs : List Marked) (l : ℕ) → EachOf P xs → EachOf P (pieces_at xs l)
   each_at P [] l h = tt
   each_at P (x ∷ xs) l h = kept (place_of x == l) x (pieces_at xs l) h.0 (each_at P xs l h.1)
@@ -190,14 +188,10 @@ module _ (N n : ℕ) (a : ℤ) (change : Linear → Known) (keeps : KeepsNumbers
       kept true x xs p h = (p, h)
       kept false x xs p h = h
 
-  only_zero : (found : Option Marked) (j : ℕ) → target_rows change no_fall found (suc j) ≡ None
-  only_zero None j = refl
-  only_zero (Some q) j = refl
-
   pub falls_owed : (dones ranked later : List Marked) (l : ℕ) → AreLayers n a dones ranked → FallsOwed N (length (pieces_at dones l)) (owed_into (dones ++ ranked) l change no_fall) (owed_into (dones ++ (ranked ++ later)) l change (fall_from change (constant_row n a ∷ [])))
   falls_owed dones ranked later l h =
-      let front = at_append dones ranked l in
-      let whole = at_append dones (ranked ++ later) l ∙ ap (λ ps. pieces_at dones l ++ ps) (at_append ranked later l) in
+      let front = pieces_at-append dones ranked l in
+      let whole = pieces_at-append dones (ranked ++ later) l ∙ ap (λ ps. pieces_at dones l ++ ps) (pieces_at-append ranked later l) in
       record {
         before = λ k s.
             subst (λ ps. OwedSame N (target_rows change no_fall (slice_get ps k) 0) (target_rows change fall_of (slice_get (pieces_at (dones ++ (ranked ++ later)) l) k) 0)) (sym front)
@@ -207,5 +201,5 @@ module _ (N n : ℕ) (a : ℤ) (change : Linear → Known) (keeps : KeepsNumbers
             subst (λ ps. WithFalls N (target_rows change no_fall (slice_get ps k) 0) (target_rows change fall_of (slice_get (pieces_at (dones ++ (ranked ++ later)) l) k) 1)) (sym front)
             (subst (λ ps. WithFalls N (target_rows change no_fall (slice_get (pieces_at dones l ++ pieces_at ranked l) k) 0) (target_rows change fall_of (slice_get ps k) 1)) (sym whole)
             (onward_owed (pieces_at dones l) (pieces_at ranked l) (pieces_at later l) (each_at (IsRankBelow n a) ranked l h.ranked) k s));
-        only = λ k j. only_zero (slice_get (pieces_at (dones ++ ranked) l) k) j;
+        only = λ k j. only_zero change (slice_get (pieces_at (dones ++ ranked) l) k) j;
       }

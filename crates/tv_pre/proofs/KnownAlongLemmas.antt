@@ -27,8 +27,8 @@ use Rattle.tv_pre.specs.Fixed.{IsJoined}
 use Rattle.tv_pre.specs.KnownStates.{HasStates, known_along, holds_along, IsNotRanked}
 use Rattle.tv_pre.specs.Parts.{joined_pieces}
 use Rattle.tv_pre.specs.Pieces.{InPieces}
-use Rattle.tv_pre.specs.RankedAlong.{AreTameCases, AllGo, HasAll, IsBesideIfTame}
-use Rattle.tv_pre.specs.Unserved.{IsUnranked}
+use Rattle.tv_pre.specs.RankedAlong.{AllGo, HasAll, IsBesideIfTame}
+use Rattle.tv_pre.specs.Unserved.{AreTameCases, IsUnranked}
 use Rattle.tv_pre.proofs.AlongLemmas.{settled_inside, stays_more}
 use Rattle.tv_pre.proofs.BuiltLemmas.{hold_built}
 use Rattle.tv_pre.proofs.ExactLemmas.{way_same, end_same, to_sides, from_sides}

@@ -39,6 +39,7 @@ use Rattle.tv_pre.specs.Offers.{ShowsStep}
 use Rattle.tv_pre.specs.Pieces.{marked_as}
 use Rattle.tv_pre.specs.Ranked.{EachOf}
 use Rattle.tv_pre.specs.Lowering.{IsOwedWith, IsLowered, IsRankedAs, ShowsRankedStep, FallsFrom}
+use Rattle.tv_pre.proofs.FallLemmas.{only_zero}
 use Rattle.tv_pre.proofs.FallingLemmas.{done_count, shape_even}
 use Rattle.tv_pre.proofs.PieceLemmas.{are_marked}
 use Rattle.tv_pre.proofs.ShownLemmas.{all_mapped, denied_more, given_more}
@@ -182,10 +183,6 @@ module _ (N : ℕ) (change : Linear → Known) (old new : List Linear) (fall : F
   onward_extends (x ∷ xs) ys h zero rows l e = absurd (omega (arith, l))
   onward_extends (x ∷ xs) ys h (suc k) rows l e = onward_extends xs ys h k rows (omega (arith, l)) e
 
-  only_zero : (found : Option Marked) (j : ℕ) → target_rows change no_fall found (suc j) ≡ None
-  only_zero None j = refl
-  only_zero (Some q) j = refl
-
   pub ranks_owed : (dones onward : List Marked) (l : ℕ) → EachOf (λ p. goes p ≡ false) (pieces_at dones l) → EachOf (GoesWith new) (pieces_at onward l) →
       IsOwedWith N (length (pieces_at dones l)) base fall (owed_into (dones ++ onward) l change no_fall) (owed_into (dones ++ onward) l change (fall_from change old))
   ranks_owed dones onward l d o =
@@ -196,7 +193,7 @@ module _ (N : ℕ) (change : Linear → Known) (old new : List Linear) (fall : F
         onward = λ k rows s e.
             subst (λ ps. Extends rows (target_rows change fall_of (slice_get ps k) fall.number)) (sym split)
             (onward_extends (pieces_at dones l) (pieces_at onward l) o k rows s (subst (λ ps. target_rows change no_fall (slice_get ps k) 0 ≡ Some rows) split e));
-        only = λ k j. only_zero (slice_get (pieces_at (dones ++ onward) l) k) j;
+        only = λ k j. only_zero change (slice_get (pieces_at (dones ++ onward) l) k) j;
       }
 
 -- ---- what the cover is offered for

@@ -22,7 +22,8 @@ use Rattle.tv_pre.specs.Fixed.{AsksWay}
 use Rattle.tv_pre.specs.Growing.{IsEverywhere, AsksCome}
 use Rattle.tv_pre.specs.Parts.{joined_pieces}
 use Rattle.tv_pre.specs.Questions.{Question, AsksOf}
-use Rattle.tv_pre.specs.RankedAlong.{HasAll, AreTameCases, AreGoing, AllGo}
+use Rattle.tv_pre.specs.RankedAlong.{HasAll, AreGoing, AllGo}
+use Rattle.tv_pre.specs.Unserved.{AreTameCases}
 use Rattle.tv_pre.specs.RankedUntil.{AreComing, AsksComing}
 use Rattle.tv_pre.proofs.AskedLemmas.{ends_asked, layers_asked}
 use Rattle.tv_pre.proofs.BuiltLemmas.{asked_to, built_to, all_built_to, first_built, rest_built, more_built, one_built, pieces_of, joined_of, hold_built, fault_to}

@@ -3,7 +3,7 @@ use Rattle.std.proofs.Common.{◌≡◌, ℕ, suc, ◌+◌, ◌<◌, ◌≤◌, 
 use Rattle.std.proofs.Math.Seq.{take-suc}
 use Rattle.std.proofs.lemmas.List.Elements.{All-nil, All-cons, All-head, All-tail, All-push}
 use Rattle.tv_formula.specs.Properties.{term, none}
-use Rattle.tv_linear.specs.Linear.{Linear, columns}
+use Rattle.tv_linear.specs.Linear.{columns}
 use Rattle.tv_linear.specs.declared.region.Piece.{Piece}
 use Rattle.tv_linear.specs.declared.region.Region.{Region}
 use Rattle.tv_cases.specs.LinearCases.{CaseSystem}
@@ -24,7 +24,7 @@ use Rattle.tv_pre.specs.Growing.{IsEverywhere}
 use Rattle.tv_pre.specs.Parts.{IsPart}
 use Rattle.tv_pre.specs.Pieces.{ArePieces, IsMarked, AreMarked}
 use Rattle.tv_pre.specs.Ranked.{EachOf}
-use Rattle.tv_pre.proofs.ComingLemmas.{everywhere_is}
+use Rattle.tv_pre.proofs.ComingLemmas.{everywhere_is, first_bare}
 use Rattle.tv_pre.proofs.OfferLemmas.{lists_marked}
 use Rattle.tv_pre.proofs.PieceLemmas.{marked_append}
 use Rattle.tv_linear.proofs.ListLaws.{take_past}
@@ -49,11 +49,7 @@ one_bare (p ∷ []) q l e b = ap (λ rows. rows ∷ []) (ap rows_of (got e) ∙ 
 bare_there : (ps : List Marked) → map rows_of ps ≡ [] ∷ [] → IsBareList ps
 bare_there [] e = tt
 bare_there (p ∷ r ∷ ps) e = absurd (let l = ap length e in omega (arith, l))
-bare_there (p ∷ []) e = (ap head_of e, tt)
-  where
-    head_of : List (List Linear) → List Linear
-    head_of [] = []
-    head_of (z ∷ zs) = z
+bare_there (p ∷ []) e = (first_bare p e, tt)
 
 pub single_bare : (about : CaseSystem) (node : Node) → IsRankedNode about node → (l : ℕ) → l < about.locations → map rows_of (pieces_at (pieces_of node) l) ≡ [] ∷ []
 single_bare about node h l d =

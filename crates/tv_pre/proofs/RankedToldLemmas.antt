@@ -105,7 +105,7 @@ module _ (about : CaseSystem) (limits : AreCases about) (claim : Claim) (f : Pro
   served : IsUnserved about (fix Every is.shape is.left is.right) → ⊥
   served u = elim (u (comes is.shape is.must)) [
     | inl lacks ↦ lacks is.ranking
-    | inr some ↦ (let w = some plain in elim (is.goes w.state w.is) [ inl e ↦ w.not_end e | inr g ↦ w.not_way g.0 g.1 ])
+    | inr some ↦ (let w = some (inl plain) in elim (is.goes w.state w.is) [ inl e ↦ w.not_end e | inr g ↦ w.not_way g.0 g.1 ])
   ]
 
   own_or_later : (part : Property) → Contains (subformulas (fix Every is.shape is.left is.right)) part → IsUnserved about part → IsUnsettled about last part → ⊥

@@ -53,11 +53,6 @@ AreFoundFirst about last ss [] = Unit {0}
 AreFoundFirst about last [] (found ∷ founds) = ⊥
 AreFoundFirst about last (s ∷ ss) (found ∷ founds) = IsFound about last s found × AreFoundFirst about last ss founds
 
--- the regions that were found
-abbrev pub regions_of : List Found → List Region
-regions_of [] = []
-regions_of (found ∷ founds) = found.part.region ∷ regions_of founds
-
 -- those of the first of the statements have the states that the rounds up to the last tell of
 abbrev pub AreKnownFirst : CaseSystem → ℕ → Bool → List Statement → List Found → Type 0
 AreKnownFirst about last alone ss [] = Unit {0}

@@ -8,8 +8,7 @@ use Rattle.tv_cases.specs.LinearCases.{CaseSystem}
 use Rattle.tv_cert.specs.declared.node.Node.{Node}
 use Rattle.tv_known.specs.Cycles.{IsStateOf}
 use Rattle.tv_known.specs.Rounds.{Goes, must_end}
-use Rattle.tv_region.specs.Differences.{AreOfDifferences}
-use Rattle.tv_region.specs.StepRegions.{HasNoDraws, InState}
+use Rattle.tv_region.specs.StepRegions.{InState}
 use Rattle.tv_pre.specs.declared.ranked_along.RankedAlong.{RankedAlong}
 use Rattle.tv_pre.specs.declared.ranked_along.RankedAlong.TheVariants.{Everywhere, Unsettled, Untold}
 use Rattle.tv_pre.specs.declared.sides.Sides.{Sides}
@@ -18,15 +17,11 @@ use Rattle.tv_pre.specs.Along.{arguments, AreWithin, IsAlong}
 use Rattle.tv_pre.specs.Built.{IsFaultOf}
 use Rattle.tv_pre.specs.Fixed.{OnWay, AtEnd}
 use Rattle.tv_pre.specs.Pieces.{InPieces}
-use Rattle.tv_pre.specs.Unserved.{SomeIsBeside, IsUnservedBy}
+use Rattle.tv_pre.specs.Unserved.{AreTameCases, SomeIsBeside, IsUnservedBy}
 
 -- each state of the program is in the pieces
 abbrev pub HasAll : CaseSystem → List Piece → Type 0
 HasAll about qs = (s : State) → IsStateOf about s → InPieces qs s
-
--- going back into all states is exact: no case has a draw, or all are of differences
-abbrev pub AreTameCases : CaseSystem → Type 0
-AreTameCases about = HasNoDraws about ⊎ AreOfDifferences about
 
 -- the states on the way with a step; all of them where going back is exact
 abbrev pub AreGoing : CaseSystem → Sides → Region → Type 0
@@ -39,10 +34,6 @@ AllGo about sides = (s : State) → IsStateOf about s → AtEnd sides s ⊎ (OnW
 -- where going back is exact, some state is neither at the end nor on the way with a step
 abbrev pub IsBesideIfTame : CaseSystem → Sides → Type 0
 IsBesideIfTame about sides = AreTameCases about → SomeIsBeside about (λ s. OnWay sides s) (λ s. AtEnd sides s)
-
--- so it is where no case has a draw
-abbrev pub IsBesideIfPlain : CaseSystem → Sides → Type 0
-IsBesideIfPlain about sides = HasNoDraws about → SomeIsBeside about (λ s. OnWay sides s) (λ s. AtEnd sides s)
 
 -- the ranks do not serve for the fixed point of these sides, if it is to come to its end on every run
 abbrev pub IsUnservedAlong : CaseSystem → Sides → Type 0

@@ -13,6 +13,7 @@ use Rattle.tv_known.specs.Cycles.{IsStateOf}
 use Rattle.tv_known.specs.Ranking.{HasLexicographicRanking}
 use Rattle.tv_known.specs.Rounds.{HoldSide, EndSides, Goes, must_end}
 use Rattle.tv_rank.specs.declared.name.Name.{Name}
+use Rattle.tv_region.specs.Differences.{AreOfDifferences}
 use Rattle.tv_region.specs.StepRegions.{HasNoDraws, InState}
 use Rattle.tv_lexrank.specs.First.{RefusesFirst}
 use Rattle.tv_lexrank.specs.declared.fault.RankFault.TheVariants as ranks
@@ -24,7 +25,13 @@ pub record IsRankingRefused (about : CaseSystem) (pivots : ℕ) (system : Name) 
   pub refuses : RefusesFirst about pivots (ranks.Solve system fault)
   pub is_no_want : fault ≡ solving.Memory → ⊥
 
--- the cases have no lexicographic ranking
+-- ---- the cases
+
+-- going back into all states is exact: no case has a draw, or all are of differences
+abbrev pub AreTameCases : CaseSystem → Type 0
+AreTameCases about = HasNoDraws about ⊎ AreOfDifferences about
+
+-- they have no lexicographic ranking
 abbrev pub IsUnranked : CaseSystem → Type 0
 IsUnranked about = HasLexicographicRanking about → ⊥
 
@@ -46,9 +53,9 @@ pub record SomeIsBeside (about : CaseSystem) (hold end : State → Type 0) : Typ
 
 -- ---- the fixed point
 
--- of two sets: there is no ranking; or, where no case has a draw, some state is neither at the end of the fixed point nor on the way with a step
+-- of two sets: there is no ranking; or, where going back is exact, some state is neither at the end of the fixed point nor on the way with a step
 abbrev pub IsUnservedBy : CaseSystem → Shape → (State → Type 0) → (State → Type 0) → Type 0
-IsUnservedBy about shape f g = IsUnranked about ⊎ (HasNoDraws about → SomeIsBeside about (λ s. HoldSide shape f g s) (λ s. EndSides shape f g s))
+IsUnservedBy about shape f g = IsUnranked about ⊎ (AreTameCases about → SomeIsBeside about (λ s. HoldSide shape f g s) (λ s. EndSides shape f g s))
 
 -- so it is with the property, if it is such a fixed point; if it is termination or its negation, there is no ranking
 abbrev pub IsUnserved : CaseSystem → Property → Type 0

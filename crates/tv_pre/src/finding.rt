@@ -21,7 +21,7 @@ ghost use Rattle.tv_pre.specs.Finding.{States, IsEvenStatement, AreEvenStatement
 ghost use Rattle.tv_pre.specs.Sized.{IsFewFor};
 ghost use Rattle.tv_pre.specs.Counted.{IsCountedFor, AreCountedFor};
 ghost use Rattle.tv_pre.specs.Search.{system_of, IsSearch};
-ghost use Rattle.tv_pre.specs.Arguments.{AreArguments, AreArgumentsOf, regions_of};
+ghost use Rattle.tv_pre.specs.Arguments.{AreArguments, AreArgumentsOf};
 ghost use Rattle.tv_pre.specs.KnownStates.{IsAloneIn, IsKnownFor, HasKnownStates, AreKnownFor};
 
 use crate::along::{Along, part_along};
@@ -94,7 +94,7 @@ fn with_argument(arguments: Arguments, found: Found) -> Result<Arguments, PreFau
 fn arguments_of(alloc: Global, founds: Vec<Found>) -> Result<Arguments, PreFault>
     ensures arguments { IfOk result (λ a. (about : CaseSystem) → (last : ℕ) → (ss : List Statement) →
         AllZip (IsFound about last) ss founds.items → AreArguments about last ss a) }
-    ensures regions { IfOk result (λ a. a.regions.items ≡ regions_of founds.items) }
+    ensures regions { IfOk result (λ a. a.regions.items ≡ map (λ found. found.part.region) founds.items) }
     ensures memory { IfErr result (λ fault. fault ≡ Memory) }
 {
     let mut arguments = no_arguments(alloc);
