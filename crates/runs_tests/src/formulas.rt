@@ -274,6 +274,34 @@ fn pieces_are_counted(rt: HostRuntime) {
     expect_said(&rt, rt.alloc(), COUNTED);
 }
 
+/// A step that uses nine variables.
+const NINE: &str = "START: 0; FROM: 0; a := b + c + d + e + f + g + h + i; TO: 1;";
+
+/// None of the nine is 0: each may be below or above, so there are 2^9 pieces.
+const NONE_IS_ZERO: &str =
+    "a != 0 && b != 0 && c != 0 && d != 0 && e != 0 && f != 0 && g != 0 && h != 0 && i != 0";
+
+/// More pieces than are kept: a further search follows where the limit is the usual one, and none where it is lower.
+const MANY_PIECES: &[Asked] = &[
+    (
+        &["--ctl", NONE_IS_ZERO, "--disjuncts", "255"],
+        &[NINE],
+        "Unknown disjuncts\nlocation 0 count 256\n",
+        Status::Unknown,
+    ),
+    (
+        &["--ctl", NONE_IS_ZERO],
+        &[NINE],
+        "Disproved\na = 0\nb = 0\nc = 0\nd = 0\ne = 0\nf = 0\ng = 0\nh = 0\ni = 0\n",
+        Status::Disproved,
+    ),
+];
+
+#[test]
+fn a_further_search_follows_the_usual_limit_of_pieces(rt: HostRuntime) {
+    expect_said(&rt, rt.alloc(), MANY_PIECES);
+}
+
 /// Whether a line of the text begins so.
 fn has_line(text: &[u8], begins: &str) -> bool {
     match str::from_utf8(text) {

@@ -1,5 +1,4 @@
 pub mod Asking
-pub mod Denying
 pub mod Found
 pub mod Settling
 pub mod Drawn

@@ -10,6 +10,7 @@ ghost use Rattle.tv_top.specs.Searching.{IsOfOne, IsSameOrSettles};
 use crate::answer::Answer;
 use crate::cause::Cause;
 use crate::finding::{budget_of, is_termination, told};
+use crate::limits::USUAL_PIECES;
 use crate::search::Search;
 use crate::wanted::Wanted;
 use std::alloc::{AllocError, Global};
@@ -24,9 +25,6 @@ use tv_walks::Budget;
 
 /// A program of more cases than that is looked at by single states before ranks, rows and regions are sought, which may take long there.
 const MANY_CASES: usize = 24;
-
-/// How many pieces of a region are kept at a location where the words do not say how many.
-const USUAL_PIECES: u32 = 256;
 
 /// Whether the program is looked at by single states first.
 fn is_looked_at(search: &Search) -> bool {

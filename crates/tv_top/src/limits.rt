@@ -1,5 +1,8 @@
 ghost use Rattle.std.specs.Prelude.{◌≤◌};
 
+/// How many pieces of a region are kept at a location where the words do not say how many.
+pub(crate) const USUAL_PIECES: u32 = 256;
+
 /// How far a search goes.
 #[derive(Clone, Copy)]
 pub struct Limits {

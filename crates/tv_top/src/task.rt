@@ -5,7 +5,7 @@ ghost use Rattle.tv_top.specs.Tasks.{is_given, query_named, query_in, limits_in,
 ghost use Rattle.tv_top.specs.Views.{query_of, limits_of, wanted_view, task_view};
 
 use crate::command::command;
-use crate::limits::Limits;
+use crate::limits::{Limits, USUAL_PIECES};
 use crate::numbers::{limit_of, number_within};
 use crate::wanted::{Loops, Wanted};
 use clap::ArgMatches;
@@ -131,7 +131,7 @@ fn limits_in(matches: &ArgMatches) -> Option<Limits>
 {
     let pivots = limit_of(value_of(matches, "pivots"), 1_000_000, 100_000)?;
     let splits = limit_of(value_of(matches, "splits"), 128, 64)?;
-    let disjuncts = limit_of(value_of(matches, "disjuncts"), 4096, 256)?;
+    let disjuncts = limit_of(value_of(matches, "disjuncts"), 4096, USUAL_PIECES)?;
     Some(Limits {
         pivots,
         splits,

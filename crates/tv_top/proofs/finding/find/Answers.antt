@@ -1,7 +1,7 @@
 use Rattle.std.proofs.Common.{◌∙◌, ap, sym}
 use Rattle.tv_formula.specs.Formulas.{property_of}
 use Rattle.tv_formula.specs.Normal.{negation}
-use Rattle.tv_top.proofs.Denying.{negation_of_normal}
+use Rattle.tv_pre.proofs.NegationLemmas.{negation_of_normal}
 use Rattle.tv_top.proofs.finding.find.Goals as goal
 
 pub settle-requires : goal.settle-requires
