@@ -1,11 +1,11 @@
 -- What is read of choices.
-use Rattle.std.proofs.Common.{◌≡◌, ℕ, zero, suc, ◌+◌, ◌-◌, ◌<◌, ◌≤◌, ◌^◌, ℤ, pos, negsuc, Bool, true, false, List, [], ◌∷◌, ◌++◌, length, Option, Some, None, refl, sym, ap, ◌∙◌, subst, arith, slice_get}
+use Rattle.std.proofs.Common.{◌≡◌, ℕ, zero, suc, ◌+◌, ◌-◌, ◌<◌, ◌≤◌, ◌^◌, ℤ, pos, negsuc, Bool, true, false, List, [], ◌∷◌, ◌++◌, length, Option, Some, None, Ok, refl, sym, ap, ◌∙◌, subst, arith, slice_get}
 use Rattle.std.specs.Prelude.{◌==◌}
 use Rattle.std.specs.Global.{Vec}
 use Rattle.std.specs.List.{AllZip, flat_map}
 use Rattle.std.specs.Option.{option_map, ForSome}
-use Rattle.std.proofs.lemmas.Bool.{eq-eqb, eqb-true, ne_eqb}
-use Rattle.tv_grammar.specs.Langs.{headed, mapped, each, go, stop}
+use Rattle.std.proofs.lemmas.Bool.{eq-eqb, eqb-true}
+use Rattle.tv_grammar.specs.Langs.{headed, mapped, each, stop}
 use Rattle.tv_lines.specs.Lines.{PlainLine, formed, count_of, FitsHead}
 use Rattle.tv_lines.specs.declared.head.Head.{Head}
 use Rattle.tv_lines.specs.declared.head.Head.TheVariants as heads
@@ -27,23 +27,22 @@ use Rattle.tv_cert.specs.Targets.{owed_into}
 use Rattle.tv_cert.specs.TargetViews.{AreFewAt}
 use Rattle.tv_cert.proofs.TargetLemmas.{count_same}
 use Rattle.tv_cert_reader.specs.CertificateLines.{row_lines, row_line, by_lines, cover_lines, choice_lines}
-use Rattle.tv_cert_reader.specs.declared.kind.LineKind.{LineKind}
-use Rattle.tv_cert_reader.specs.declared.kind.LineKind.TheVariants.{Syntax, Deep, Shape}
+use Rattle.tv_cert_reader.specs.declared.kind.LineKind.TheVariants.{Syntax, Shape}
 use Rattle.tv_cert_reader.specs.LineGrammar.{Grammar, Behind, many, by, draw, with_three}
-use Rattle.tv_cert_reader.specs.CoverGrammar.{both, empty_behind}
+use Rattle.tv_cert_reader.specs.CoverGrammar.{both}
 use Rattle.tv_cert_reader.specs.ChoiceGrammar.{Choosing, choice, choice_cases, stop_cover, no_step, no_step_behind, only_where, taken_rows, taken_case, take_behind, Taken}
-use Rattle.tv_cert_reader.proofs.CompleteParts.{draws_read, numbers_long}
+use Rattle.tv_cert_reader.proofs.CompleteParts.{draws_read}
 use Rattle.tv_cert_reader.proofs.CompleteCovers.{choice_read}
 use Rattle.tv_cert_reader.specs.declared.cursor.Cursor.{Cursor}
 use Rattle.tv_cert_reader.specs.declared.failure.Failure.{Failure}
-use Rattle.tv_cert_reader.specs.declared.failure.Failure.TheVariants.{Fault}
-use Rattle.tv_cert_reader.specs.Reading.{Takes, FaultAt, FailsBy, IsFailedLine}
+use Rattle.tv_cert_reader.specs.Reading.{Takes, FaultAt, FailsBy}
 use Rattle.tv_cert_reader.specs.Parts.{AreMany, AreNumbers, IsWide, IsRowOf, lists_in}
 use Rattle.tv_cert_reader.specs.Covers.{IsBehind}
 use Rattle.tv_cert_reader.specs.Choices.{choosing_of, IsChoiceSplitOf, IsChoiceWithin, IsStop, IsTaken, NamesNoCase}
-use Rattle.tv_cert_reader.proofs.ReadingLemmas.{line_fails, line_stops, behind_fails, first_fails, second_fails, takes_both, takes_as}
-use Rattle.tv_cert_reader.proofs.SideLemmas.{sides_at, sides_deep, sides_wrong, sides_go}
+use Rattle.tv_cert_reader.proofs.ReadingLemmas.{first_fails, second_fails, takes_both, takes_as}
+use Rattle.tv_cert_reader.proofs.SideLemmas.{sides_at}
 use Rattle.tv_cert_reader.proofs.CountLemmas.{few_into, few_ranked, few_lists}
+use Rattle.tv_cert_reader.proofs.TreeLemmas.{IsTree, tree_stops, tree_goes}
 use Rattle.tv_cert_reader.proofs.CoverLemmas.{listed_wide}
 
 -- ---- a case that is taken, its target and its fall are few
@@ -115,30 +114,36 @@ module _ (system : CaseSystem) (p : Marked) (may_stop : Bool) (destination : Des
   abbrev pub side : ℕ → ℕ → Grammar (Unit {0})
   side known left = choice false left x known
 
-  pub choice_fails : (known left : ℕ) (c : Cursor) (f : Failure) → FailsBy (headed Syntax (choice_cases (sides_at side known left) (no_step false left x known) x known)) c f → FailsBy (side known left) c f
+  choice_fails : (known left : ℕ) (c : Cursor) (f : Failure) → FailsBy (headed Syntax (choice_cases (sides_at side known left) (no_step false left x known) x known)) c f → FailsBy (side known left) c f
   unfolding choice
   choice_fails known zero c f h = h
   choice_fails known (suc left) c f h = h
 
-  module _ (known left : ℕ) (old : Cursor) where
+  -- the lines of a choice are read
+  pub choice_taken : {known left : ℕ} (tree : ChoiceTree) → IsChoiceWithin system p may_stop destination known left tree → (rest : List PlainLine) → (side known left).read (choice_lines tree ++ rest) ≡ Ok (tt, rest)
+  choice_taken {known = known} {left = left} tree one rest =
+      choice_read false system.variables system.cases (place_of p) may_stop (destination_owes system.variables p destination) (owes_free system.variables p destination) left known tree rest one.shape one.shallow
+
+  module _ (known left : ℕ) where
     abbrev cases : PlainLine → Behind (Unit {0})
     cases = choice_cases (sides_at side known left) (no_step false left x known) x known
 
-    pub choice_line_fails : (f : Failure) → IsFailedLine old f → FailsBy (side known left) old f
-    choice_line_fails f h = choice_fails known left old f (line_fails cases old f refl refl h)
+    pub choice_tree : IsTree system.variables side known left cases
+    choice_tree = record { fails = choice_fails known left; of_formless = refl; of_wide = refl; of_split = λ zs. refl; of_empty = λ zs. refl }
 
-    module _ (mid : Cursor) (head : Head) (zs : List ℤ) (at : IsBehind head zs old mid) where
-      pub choice_stops : (k : LineKind) → cases (formed head zs) ≡ stop k → FaultAt (side known left) old k mid.taken
-      choice_stops k e = choice_fails known left old (Fault k mid.taken) (line_stops cases old mid head zs k at.front at.one e)
+    pub other_head : (head : Head) (zs : List ℤ) → (head ≡ heads.Split → ⊥) → (head ≡ heads.Empty → ⊥) → (head ≡ heads.NoStep → ⊥) → (head ≡ heads.Take → ⊥) → cases (formed head zs) ≡ stop Shape
+    other_head heads.Split zs a b c d = absurd (a refl)
+    other_head heads.Empty zs a b c d = absurd (b refl)
+    other_head heads.NoStep zs a b c d = absurd (c refl)
+    other_head heads.Take zs a b c d = absurd (d refl)
+    other_head head zs a b c d = refl
 
-      pub choice_goes : (g : Grammar (Unit {0})) (f : Failure) → cases (formed head zs) ≡ go g → FailsBy g mid f → FailsBy (side known left) old f
-      choice_goes g f e h = choice_fails known left old f (behind_fails cases g old mid head zs f at.front e h)
-
+  module _ (known left : ℕ) (old : Cursor) where
     -- ---- a case that is taken
 
     pub take_stops : (mid : Cursor) (zs : List ℤ) → IsBehind heads.Take zs old mid → NamesNoCase system p destination zs → FaultAt (side known left) old Shape mid.taken
     take_stops mid zs at none =
-        choice_stops mid heads.Take zs at Shape (ap (take_behind system.variables known) (three_none (place_of p) system.cases x.counts zs none))
+        tree_stops (choice_tree known left) old mid heads.Take zs at Shape (ap (take_behind system.variables known) (three_none (place_of p) system.cases x.counts zs none))
 
     module _ (mid : Cursor) (zs : List ℤ) (at : IsBehind heads.Take zs old mid) (case : LinearCase) (c k j n : ℕ) (is : IsTaken system p destination zs case c k j n) where
       abbrev found : Taken
@@ -157,12 +162,12 @@ module _ (system : CaseSystem) (p : Marked) (may_stop : Bool) (destination : Des
       shown = many (length case.guards + n) (by (known + 1))
 
       pub draws_stop : (f : Failure) → FailsBy terms mid f → FailsBy (side known left) old f
-      draws_stop f h = choice_goes mid heads.Take zs at (both terms shown) f (ap (take_behind system.variables known) named) (first_fails terms (λ _. shown) mid f h)
+      draws_stop f h = tree_goes (choice_tree known left) old mid heads.Take zs at (both terms shown) f (ap (take_behind system.variables known) named) (first_fails terms (λ _. shown) mid f h)
 
       module _ (draws : Vec Row) (next : Cursor) (are : AreMany (IsWide system.variables) case.draws draws.items) (first : Takes (row_lines heads.Draw draws.items) mid next) where
         pub shown_stop : (f : Failure) → FailsBy shown next f → FailsBy (side known left) old f
         shown_stop f h =
-            choice_goes mid heads.Take zs at (both terms shown) f (ap (take_behind system.variables known) named)
+            tree_goes (choice_tree known left) old mid heads.Take zs at (both terms shown) f (ap (take_behind system.variables known) named)
             (second_fails terms (λ _. shown) tt mid next f (ap terms.read first.lines ∙ draws_read system.variables case.draws draws.items next.lines are.many are.each) first.last h)
 
         pub take_read : (lists : Vec (Vec ℤ)) (new : Cursor) → AreMany (AreNumbers (known + 1)) (length case.guards + n) (lists_in lists) → Takes (by_lines (lists_in lists)) next new → (tree : ChoiceTree) → tree ≡ Take c k j draws lists → IsChoiceWithin system p may_stop destination known left tree × Takes (choice_lines tree) old new
@@ -180,63 +185,36 @@ module _ (system : CaseSystem) (p : Marked) (may_stop : Bool) (destination : Des
               (takes_both (formed heads.Take zs ∷ []) (row_lines heads.Draw draws.items ++ by_lines (lists_in lists)) old mid new at.front (takes_both (row_lines heads.Draw draws.items) (by_lines (lists_in lists)) mid next new first t)),
         )
 
-    -- ---- a refutation, and a split
+    -- ---- a split
 
-    pub empty_stops : (mid : Cursor) (zs : List ℤ) → IsBehind heads.Empty zs old mid → (length zs ≡ known → ⊥) → FaultAt (side known left) old Shape mid.taken
-    empty_stops mid zs at none = choice_stops mid heads.Empty zs at Shape (ap empty_behind (ne_eqb (length zs) known none))
+    module _ (mid : Cursor) (zs : List ℤ) (at : IsBehind heads.Split zs old mid) (row : Linear) (is : IsRowOf system.variables zs row) (some : left ≡ 0 → ⊥) (holds : ChoiceTree) (next : Cursor) (one : IsChoiceWithin system p may_stop destination (known + 1) (left - 1) holds) (first : Takes (choice_lines holds) mid next) where
+      pub split_read : (fails tree : ChoiceTree) (new : Cursor) → IsChoiceWithin system p may_stop destination (known + 1) (left - 1) fails → Takes (choice_lines fails) next new → IsChoiceSplitOf row holds fails tree → IsChoiceWithin system p may_stop destination known left tree × Takes (choice_lines tree) old new
+      split_read fails (Split' r q a s b) new two second split = (
+        record {
+          shape = (
+            ap columns split.0 ∙ is.wide,
+            subst (ChoiceShape system.variables system.cases (place_of p) may_stop (destination_owes system.variables p destination) (known + 1)) (sym split.1) one.shape,
+            subst (ChoiceShape system.variables system.cases (place_of p) may_stop (destination_owes system.variables p destination) (known + 1)) (sym split.2) two.shape,
+          );
+          shallow = (let x = ap choice_splits split.1 in let y = ap choice_splits split.2 in omega (arith, x, y, one.shallow, two.shallow, some));
+        },
+        takes_as ((formed heads.Split zs ∷ []) ++ (choice_lines holds ++ choice_lines fails)) (choice_lines (Split' r q a s b)) old new
+            ((λ i. formed heads.Split (is.numbers i) ∷ (choice_lines holds ++ choice_lines fails)) ∙ (λ i. row_line heads.Split (sym split.0 i) ∷ (choice_lines (sym split.1 i) ++ choice_lines (sym split.2 i))))
+            (takes_both (formed heads.Split zs ∷ []) (choice_lines holds ++ choice_lines fails) old mid new at.front (takes_both (choice_lines holds) (choice_lines fails) mid next new first second)),
+      )
+      split_read fails (Empty ms) new two second split = absurd split
+      split_read fails (NoStep covers) new two second split = absurd split
+      split_read fails (Take c k j draws lists) new two second split = absurd split
 
-    module _ (mid : Cursor) (zs : List ℤ) (at : IsBehind heads.Split zs old mid) where
-      pub deep_stops : left ≡ 0 → FaultAt (side known left) old Deep mid.taken
-      deep_stops e = choice_stops mid heads.Split zs at Deep (sides_deep side known left (length zs == system.variables + 1) e)
-
-      pub row_stops : (left ≡ 0 → ⊥) → (length zs ≡ system.variables + 1 → ⊥) → FaultAt (side known left) old Shape mid.taken
-      row_stops some none = choice_stops mid heads.Split zs at Shape (sides_wrong side known left (length zs == system.variables + 1) some (ne_eqb (length zs) (system.variables + 1) none))
-
-      module _ (row : Linear) (is : IsRowOf system.variables zs row) (some : left ≡ 0 → ⊥) where
-        split_goes : cases (formed heads.Split zs) ≡ go (both (side (known + 1) (left - 1)) (side (known + 1) (left - 1)))
-        split_goes =
-            sides_go side known left (length zs == system.variables + 1) some
-            (eq-eqb (length zs) (system.variables + 1) (ap length is.numbers ∙ numbers_long system.variables row is.wide))
-
-        pub holds_fail : (f : Failure) → FailsBy (side (known + 1) (left - 1)) mid f → FailsBy (side known left) old f
-        holds_fail f h =
-            choice_goes mid heads.Split zs at (both (side (known + 1) (left - 1)) (side (known + 1) (left - 1))) f split_goes (first_fails (side (known + 1) (left - 1)) (λ _. side (known + 1) (left - 1)) mid f h)
-
-        module _ (holds : ChoiceTree) (next : Cursor) (one : IsChoiceWithin system p may_stop destination (known + 1) (left - 1) holds) (first : Takes (choice_lines holds) mid next) where
-          pub fails_fail : (f : Failure) → FailsBy (side (known + 1) (left - 1)) next f → FailsBy (side known left) old f
-          fails_fail f h =
-              choice_goes mid heads.Split zs at (both (side (known + 1) (left - 1)) (side (known + 1) (left - 1))) f split_goes
-              (second_fails (side (known + 1) (left - 1)) (λ _. side (known + 1) (left - 1)) tt mid next f
-              (ap (side (known + 1) (left - 1)).read first.lines
-              ∙ choice_read false system.variables system.cases (place_of p) may_stop (destination_owes system.variables p destination) (owes_free system.variables p destination) (left - 1) (known + 1) holds next.lines one.shape one.shallow) first.last h)
-
-          pub split_read : (fails tree : ChoiceTree) (new : Cursor) → IsChoiceWithin system p may_stop destination (known + 1) (left - 1) fails → Takes (choice_lines fails) next new → IsChoiceSplitOf row holds fails tree → IsChoiceWithin system p may_stop destination known left tree × Takes (choice_lines tree) old new
-          split_read fails (Split' r q a s b) new two second split = (
-            record {
-              shape = (
-                ap columns split.0 ∙ is.wide,
-                subst (ChoiceShape system.variables system.cases (place_of p) may_stop (destination_owes system.variables p destination) (known + 1)) (sym split.1) one.shape,
-                subst (ChoiceShape system.variables system.cases (place_of p) may_stop (destination_owes system.variables p destination) (known + 1)) (sym split.2) two.shape,
-              );
-              shallow = (let x = ap choice_splits split.1 in let y = ap choice_splits split.2 in omega (arith, x, y, one.shallow, two.shallow, some));
-            },
-            takes_as ((formed heads.Split zs ∷ []) ++ (choice_lines holds ++ choice_lines fails)) (choice_lines (Split' r q a s b)) old new
-                ((λ i. formed heads.Split (is.numbers i) ∷ (choice_lines holds ++ choice_lines fails)) ∙ (λ i. row_line heads.Split (sym split.0 i) ∷ (choice_lines (sym split.1 i) ++ choice_lines (sym split.2 i))))
-                (takes_both (formed heads.Split zs ∷ []) (choice_lines holds ++ choice_lines fails) old mid new at.front (takes_both (choice_lines holds) (choice_lines fails) mid next new first second)),
-          )
-          split_read fails (Empty ms) new two second split = absurd split
-          split_read fails (NoStep covers) new two second split = absurd split
-          split_read fails (Take c k j draws lists) new two second split = absurd split
-
-    -- ---- no step, and a line that begins no choice
+    -- ---- no step
 
     module _ (mid : Cursor) (at : IsBehind heads.NoStep [] old mid) where
       pub no_step_stops : may_stop ≡ false → FaultAt (side known left) old Shape mid.taken
-      no_step_stops never = choice_stops mid heads.NoStep [] at Shape (ap (no_step_behind (no_step false left x known)) never)
+      no_step_stops never = tree_stops (choice_tree known left) old mid heads.NoStep [] at Shape (ap (no_step_behind (no_step false left x known)) never)
 
       module _ (may : may_stop ≡ true) where
         pub covers_fail : (f : Failure) → FailsBy (mapped (λ all. tt {0}) (each (stop_cover false left system.variables known) (leaving (place_of p) system.cases))) mid f → FailsBy (side known left) old f
-        covers_fail f h = choice_goes mid heads.NoStep [] at (no_step false left x known) f (ap (no_step_behind (no_step false left x known)) may) h
+        covers_fail f h = tree_goes (choice_tree known left) old mid heads.NoStep [] at (no_step false left x known) f (ap (no_step_behind (no_step false left x known)) may) h
 
         pub covers_read : (covers : Vec CoverTree) (new : Cursor) → AllZip (IsStop system.variables known left) (leaving (place_of p) system.cases) covers.items → Takes (flat_map cover_lines covers.items) mid new → IsChoiceWithin system p may_stop destination known left (NoStep covers) × Takes (choice_lines (NoStep covers)) old new
         covers_read covers new all t =
@@ -247,10 +225,3 @@ module _ (system : CaseSystem) (p : Marked) (may_stop : Bool) (destination : Des
               },
               takes_both (formed heads.NoStep [] ∷ []) (flat_map cover_lines covers.items) old mid new at.front t,
             )
-
-    pub other_head : (head : Head) (zs : List ℤ) → (head ≡ heads.Split → ⊥) → (head ≡ heads.Empty → ⊥) → (head ≡ heads.NoStep → ⊥) → (head ≡ heads.Take → ⊥) → cases (formed head zs) ≡ stop Shape
-    other_head heads.Split zs a b c d = absurd (a refl)
-    other_head heads.Empty zs a b c d = absurd (b refl)
-    other_head heads.NoStep zs a b c d = absurd (c refl)
-    other_head heads.Take zs a b c d = absurd (d refl)
-    other_head head zs a b c d = refl

@@ -1,10 +1,8 @@
 -- What is read of covers.
-use Rattle.std.proofs.Common.{◌≡◌, ℕ, zero, suc, ◌+◌, ◌-◌, ℤ, false, List, [], ◌∷◌, ◌++◌, length, All, Option, refl, sym, ap, ◌∙◌, subst, arith}
-use Rattle.std.specs.Prelude.{◌==◌}
+use Rattle.std.proofs.Common.{◌≡◌, ℕ, zero, suc, ◌+◌, ◌-◌, ℤ, false, List, [], ◌∷◌, ◌++◌, length, All, Option, Ok, refl, sym, ap, ◌∙◌, subst, arith}
 use Rattle.std.specs.Global.{Vec}
 use Rattle.std.proofs.lemmas.List.Elements.{All-weaker}
-use Rattle.std.proofs.lemmas.Bool.{eq-eqb, ne_eqb}
-use Rattle.tv_grammar.specs.Langs.{headed, go, stop}
+use Rattle.tv_grammar.specs.Langs.{headed, stop}
 use Rattle.tv_lines.specs.Lines.{PlainLine, formed}
 use Rattle.tv_lines.specs.declared.head.Head.{Head}
 use Rattle.tv_lines.specs.declared.head.Head.TheVariants as heads
@@ -13,21 +11,19 @@ use Rattle.tv_linear.specs.Depth.{splits}
 use Rattle.tv_linear.specs.declared.cover.CoverTree.{CoverTree, Split', Empty, Into}
 use Rattle.tv_cert.specs.Shapes.{CoverShape, ListsShape}
 use Rattle.tv_cert_reader.specs.CertificateLines.{row_line, by_lines, cover_lines}
-use Rattle.tv_cert_reader.specs.declared.kind.LineKind.{LineKind}
-use Rattle.tv_cert_reader.specs.declared.kind.LineKind.TheVariants.{Syntax, Deep, Shape}
+use Rattle.tv_cert_reader.specs.declared.kind.LineKind.TheVariants.{Syntax, Shape}
 use Rattle.tv_cert_reader.specs.LineGrammar.{Grammar, Behind, many, by}
-use Rattle.tv_cert_reader.specs.CoverGrammar.{cover, cover_cases, both, lists_behind, empty_behind}
-use Rattle.tv_cert_reader.proofs.CompleteParts.{numbers_long}
+use Rattle.tv_cert_reader.specs.CoverGrammar.{cover, cover_cases, lists_behind}
 use Rattle.tv_cert_reader.proofs.CompleteCovers.{cover_read}
 use Rattle.tv_cert_reader.specs.declared.cursor.Cursor.{Cursor}
 use Rattle.tv_cert_reader.specs.declared.failure.Failure.{Failure}
-use Rattle.tv_cert_reader.specs.declared.failure.Failure.TheVariants.{Fault}
-use Rattle.tv_cert_reader.specs.Reading.{Takes, FaultAt, FailsBy, IsFailedLine}
+use Rattle.tv_cert_reader.specs.Reading.{Takes, FaultAt, FailsBy}
 use Rattle.tv_cert_reader.specs.Parts.{AreMany, AreNumbers, IsRowOf, lists_in}
 use Rattle.tv_cert_reader.specs.Covers.{IsBehind, IsSplitOf, IsCoverWithin, IsTarget, NamesNone}
-use Rattle.tv_cert_reader.proofs.ReadingLemmas.{line_fails, line_stops, behind_fails, first_fails, second_fails, takes_both, takes_as}
-use Rattle.tv_cert_reader.proofs.SideLemmas.{sides_at, sides_deep, sides_wrong, sides_go}
+use Rattle.tv_cert_reader.proofs.ReadingLemmas.{takes_both, takes_as}
+use Rattle.tv_cert_reader.proofs.SideLemmas.{sides_at}
 use Rattle.tv_cert_reader.proofs.CountLemmas.{two_none, two_some}
+use Rattle.tv_cert_reader.proofs.TreeLemmas.{IsTree, tree_stops, tree_goes}
 
 pub listed_wide : (wide : ℕ) (ls : List (List ℤ)) → All (AreNumbers wide) ls → All (λ ms. length ms ≡ wide) ls
 listed_wide wide ls h = All-weaker (AreNumbers wide) (λ ms. length ms ≡ wide) (λ ms n. n.many) ls h
@@ -40,24 +36,21 @@ module _ (width : ℕ) (counts : ℕ → ℕ → Option ℕ) where
   abbrev pub side : ℕ → ℕ → Grammar (Unit {0})
   side known left = cover false left width known counts
 
-  pub cover_fails : (known left : ℕ) (c : Cursor) (f : Failure) → FailsBy (headed Syntax (cover_cases (sides_at side known left) width known counts)) c f → FailsBy (side known left) c f
+  cover_fails : (known left : ℕ) (c : Cursor) (f : Failure) → FailsBy (headed Syntax (cover_cases (sides_at side known left) width known counts)) c f → FailsBy (side known left) c f
   unfolding cover
   cover_fails known zero c f h = h
   cover_fails known (suc left) c f h = h
 
-  module _ (known left : ℕ) (old : Cursor) where
+  -- the lines of a cover are read
+  pub cover_taken : {known left : ℕ} (tree : CoverTree) → IsCoverWithin width counts known left tree → (rest : List PlainLine) → (side known left).read (cover_lines tree ++ rest) ≡ Ok (tt, rest)
+  cover_taken {known = known} {left = left} tree one rest = cover_read false left width known counts tree rest one.shape one.shallow
+
+  module _ (known left : ℕ) where
     abbrev cases : PlainLine → Behind (Unit {0})
     cases = cover_cases (sides_at side known left) width known counts
 
-    pub cover_line_fails : (f : Failure) → IsFailedLine old f → FailsBy (side known left) old f
-    cover_line_fails f h = cover_fails known left old f (line_fails cases old f refl refl h)
-
-    module _ (mid : Cursor) (head : Head) (zs : List ℤ) (at : IsBehind head zs old mid) where
-      pub cover_stops : (k : LineKind) → cases (formed head zs) ≡ stop k → FaultAt (side known left) old k mid.taken
-      cover_stops k e = cover_fails known left old (Fault k mid.taken) (line_stops cases old mid head zs k at.front at.one e)
-
-      pub cover_goes : (g : Grammar (Unit {0})) (f : Failure) → cases (formed head zs) ≡ go g → FailsBy g mid f → FailsBy (side known left) old f
-      cover_goes g f e h = cover_fails known left old f (behind_fails cases g old mid head zs f at.front e h)
+    pub cover_tree : IsTree width side known left cases
+    cover_tree = record { fails = cover_fails known left; of_formless = refl; of_wide = refl; of_split = λ zs. refl; of_empty = λ zs. refl }
 
     pub other_head : (head : Head) (zs : List ℤ) → (head ≡ heads.Split → ⊥) → (head ≡ heads.Empty → ⊥) → (head ≡ heads.Into → ⊥) → cases (formed head zs) ≡ stop Shape
     other_head heads.Split zs a b c = absurd (a refl)
@@ -65,55 +58,31 @@ module _ (width : ℕ) (counts : ℕ → ℕ → Option ℕ) where
     other_head heads.Into zs a b c = absurd (c refl)
     other_head head zs a b c = refl
 
+  module _ (known left : ℕ) (old : Cursor) where
     -- ---- a split
 
-    module _ (mid : Cursor) (zs : List ℤ) (at : IsBehind heads.Split zs old mid) where
-      pub deep_stops : left ≡ 0 → FaultAt (side known left) old Deep mid.taken
-      deep_stops e = cover_stops mid heads.Split zs at Deep (sides_deep side known left (length zs == width + 1) e)
+    module _ (mid : Cursor) (zs : List ℤ) (at : IsBehind heads.Split zs old mid) (row : Linear) (is : IsRowOf width zs row) (some : left ≡ 0 → ⊥) (holds : CoverTree) (next : Cursor) (one : IsCoverWithin width counts (known + 1) (left - 1) holds) (first : Takes (cover_lines holds) mid next) where
+      pub split_read : (fails tree : CoverTree) (new : Cursor) → IsCoverWithin width counts (known + 1) (left - 1) fails → Takes (cover_lines fails) next new → IsSplitOf row holds fails tree → IsCoverWithin width counts known left tree × Takes (cover_lines tree) old new
+      split_read fails (Split' r p a q b) new two second split = (
+        record {
+          shape = (ap columns split.0 ∙ is.wide, subst (CoverShape width counts (known + 1)) (sym split.1) one.shape, subst (CoverShape width counts (known + 1)) (sym split.2) two.shape);
+          shallow = (let x = ap splits split.1 in let y = ap splits split.2 in omega (arith, x, y, one.shallow, two.shallow, some));
+        },
+        takes_as ((formed heads.Split zs ∷ []) ++ (cover_lines holds ++ cover_lines fails)) (cover_lines (Split' r p a q b)) old new
+            ((λ i. formed heads.Split (is.numbers i) ∷ (cover_lines holds ++ cover_lines fails)) ∙ (λ i. row_line heads.Split (sym split.0 i) ∷ (cover_lines (sym split.1 i) ++ cover_lines (sym split.2 i))))
+            (takes_both (formed heads.Split zs ∷ []) (cover_lines holds ++ cover_lines fails) old mid new at.front (takes_both (cover_lines holds) (cover_lines fails) mid next new first second)),
+      )
+      split_read fails (Empty ms) new two second split = absurd split
+      split_read fails (Into k j lists) new two second split = absurd split
 
-      pub row_stops : (left ≡ 0 → ⊥) → (length zs ≡ width + 1 → ⊥) → FaultAt (side known left) old Shape mid.taken
-      row_stops some none = cover_stops mid heads.Split zs at Shape (sides_wrong side known left (length zs == width + 1) some (ne_eqb (length zs) (width + 1) none))
-
-      module _ (row : Linear) (is : IsRowOf width zs row) (some : left ≡ 0 → ⊥) where
-        long : length zs ≡ width + 1
-        long = ap length is.numbers ∙ numbers_long width row is.wide
-
-        pub holds_fail : (f : Failure) → FailsBy (side (known + 1) (left - 1)) mid f → FailsBy (side known left) old f
-        holds_fail f h =
-            cover_goes mid heads.Split zs at (both (side (known + 1) (left - 1)) (side (known + 1) (left - 1))) f (sides_go side known left (length zs == width + 1) some (eq-eqb (length zs) (width + 1) long))
-            (first_fails (side (known + 1) (left - 1)) (λ _. side (known + 1) (left - 1)) mid f h)
-
-        module _ (holds : CoverTree) (next : Cursor) (one : IsCoverWithin width counts (known + 1) (left - 1) holds) (first : Takes (cover_lines holds) mid next) where
-          pub fails_fail : (f : Failure) → FailsBy (side (known + 1) (left - 1)) next f → FailsBy (side known left) old f
-          fails_fail f h =
-              cover_goes mid heads.Split zs at (both (side (known + 1) (left - 1)) (side (known + 1) (left - 1))) f (sides_go side known left (length zs == width + 1) some (eq-eqb (length zs) (width + 1) long))
-              (second_fails (side (known + 1) (left - 1)) (λ _. side (known + 1) (left - 1)) tt mid next f
-              (ap (side (known + 1) (left - 1)).read first.lines ∙ cover_read false (left - 1) width (known + 1) counts holds next.lines one.shape one.shallow) first.last h)
-
-          pub split_read : (fails tree : CoverTree) (new : Cursor) → IsCoverWithin width counts (known + 1) (left - 1) fails → Takes (cover_lines fails) next new → IsSplitOf row holds fails tree → IsCoverWithin width counts known left tree × Takes (cover_lines tree) old new
-          split_read fails (Split' r p a q b) new two second split = (
-            record {
-              shape = (ap columns split.0 ∙ is.wide, subst (CoverShape width counts (known + 1)) (sym split.1) one.shape, subst (CoverShape width counts (known + 1)) (sym split.2) two.shape);
-              shallow = (let x = ap splits split.1 in let y = ap splits split.2 in omega (arith, x, y, one.shallow, two.shallow, some));
-            },
-            takes_as ((formed heads.Split zs ∷ []) ++ (cover_lines holds ++ cover_lines fails)) (cover_lines (Split' r p a q b)) old new
-                ((λ i. formed heads.Split (is.numbers i) ∷ (cover_lines holds ++ cover_lines fails)) ∙ (λ i. row_line heads.Split (sym split.0 i) ∷ (cover_lines (sym split.1 i) ++ cover_lines (sym split.2 i))))
-                (takes_both (formed heads.Split zs ∷ []) (cover_lines holds ++ cover_lines fails) old mid new at.front (takes_both (cover_lines holds) (cover_lines fails) mid next new first second)),
-          )
-          split_read fails (Empty ms) new two second split = absurd split
-          split_read fails (Into k j lists) new two second split = absurd split
-
-    -- ---- a refutation, and the lists of a target
-
-    pub empty_stops : (mid : Cursor) (zs : List ℤ) → IsBehind heads.Empty zs old mid → (length zs ≡ known → ⊥) → FaultAt (side known left) old Shape mid.taken
-    empty_stops mid zs at none = cover_stops mid heads.Empty zs at Shape (ap empty_behind (ne_eqb (length zs) known none))
+    -- ---- the lists of a target
 
     pub target_stops : (mid : Cursor) (zs : List ℤ) → IsBehind heads.Into zs old mid → NamesNone counts zs → FaultAt (side known left) old Shape mid.taken
-    target_stops mid zs at none = cover_stops mid heads.Into zs at Shape (ap (lists_behind known) (two_none counts zs none))
+    target_stops mid zs at none = tree_stops (cover_tree known left) old mid heads.Into zs at Shape (ap (lists_behind known) (two_none counts zs none))
 
     module _ (mid : Cursor) (zs : List ℤ) (at : IsBehind heads.Into zs old mid) (k j n : ℕ) (is : IsTarget counts zs k j n) where
       pub lists_stop : (f : Failure) → FailsBy (many n (by (known + 1))) mid f → FailsBy (side known left) old f
-      lists_stop f h = cover_goes mid heads.Into zs at (many n (by (known + 1))) f (ap (lists_behind known) (two_some counts zs k j n is)) h
+      lists_stop f h = tree_goes (cover_tree known left) old mid heads.Into zs at (many n (by (known + 1))) f (ap (lists_behind known) (two_some counts zs k j n is)) h
 
       pub into_read : (lists : Vec (Vec ℤ)) (new : Cursor) → AreMany (AreNumbers (known + 1)) n (lists_in lists) → Takes (by_lines (lists_in lists)) mid new → (tree : CoverTree) → tree ≡ Into k j lists → IsCoverWithin width counts known left tree × Takes (cover_lines tree) old new
       into_read lists new are t tree made = subst (λ t. IsCoverWithin width counts known left t × Takes (cover_lines t) old new) (sym made) (

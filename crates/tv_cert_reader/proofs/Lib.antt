@@ -24,6 +24,7 @@ pub mod RegionLemmas
 pub mod FallLemmas
 pub mod CountLemmas
 pub mod SideLemmas
+pub mod TreeLemmas
 pub mod CoverLemmas
 pub mod NodeLemmas
 pub mod VerdictLemmas

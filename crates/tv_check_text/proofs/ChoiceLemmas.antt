@@ -1,10 +1,8 @@
 -- The choices that lines are those of.
 use Rattle.std.proofs.Common.{◌≡◌, ◌↔◌, ℕ, ◌+◌, ◌-◌, ◌≤◌, ℤ, Bool, true, false, IsTrue, List, [], ◌∷◌, ◌++◌, length, Some, Result, Ok, Err, refl, sym, ap, ◌∙◌, subst, arith, length-append}
-use Rattle.std.specs.Prelude.{◌==◌}
 use Rattle.std.specs.Global.{Vec, Global}
 use Rattle.std.specs.Option.{option_map}
 use Rattle.std.proofs.lemmas.List.{length-map}
-use Rattle.std.proofs.lemmas.Bool.{eq-eqb}
 use Rattle.tv_grammar.specs.Langs.{mapped, each}
 use Rattle.tv_lines.specs.declared.head.Head.TheVariants as heads
 use Rattle.tv_linear.specs.Linear.{Linear}
@@ -24,7 +22,6 @@ use Rattle.tv_cert_reader.specs.CertificateLines.{row_lines}
 use Rattle.tv_cert_reader.specs.ChoiceGrammar.{choice, stop_cover}
 use Rattle.tv_cert_reader.specs.CoverGrammar.{both}
 use Rattle.tv_cert_reader.specs.LineGrammar.{Grammar, many, by}
-use Rattle.tv_cert_reader.proofs.CompleteParts.{numbers_long}
 use Rattle.tv_cert_reader.proofs.CompleteCovers.{choice_read}
 use Rattle.tv_cert_reader.specs.declared.cursor.Cursor.{Cursor}
 use Rattle.tv_cert_reader.specs.declared.failure.Failure.{Failure}
@@ -32,9 +29,9 @@ use Rattle.tv_cert_reader.specs.Reading.{Takes, FailsBy}
 use Rattle.tv_cert_reader.specs.Parts.{IsRowOf, AreMany, AreNumbers, IsWide}
 use Rattle.tv_cert_reader.specs.Covers.{IsBehind}
 use Rattle.tv_cert_reader.specs.Choices.{choosing_of, IsChoiceWithin, IsStop, IsTaken}
-use Rattle.tv_cert_reader.proofs.ChoiceLemmas.{choice_goes, owes_free, split_read, covers_fail, covers_read, shown_stop, take_read}
+use Rattle.tv_cert_reader.proofs.ChoiceLemmas.{choice_tree, owes_free, split_read, covers_fail, covers_read, shown_stop, take_read}
+use Rattle.tv_cert_reader.proofs.TreeLemmas.{sides_fail}
 use Rattle.tv_cert_reader.proofs.ReadingLemmas.{first_fails, second_fails}
-use Rattle.tv_cert_reader.proofs.SideLemmas.{sides_go}
 use Rattle.tv_check_text.specs.Checking.{choice_side, numbers_in, CheckedChoice, CheckedChoiceSides, CheckedLists, CheckedStops, ChecksChoice, ChecksChoiceSides, ChecksStops}
 use Rattle.tv_cert_reader.proofs.WalkLemmas.{vector}
 use Rattle.tv_check_text.proofs.TreeLemmas.{room_at, few_taken, one_more}
@@ -60,11 +57,6 @@ module _ (system : CaseSystem) (p : Marked) (stop : Bool) (destination : Destina
         (subst (λ m. FailsBy (choice false left (choosing_of system p stop destination) m) next f) (one_more known (denied (given row))) h)
 
   module _ (known : List Known) (left : ℕ) (old mid : Cursor) (zs : List ℤ) (at : IsBehind heads.Split zs old mid) (row : Linear) (is : IsRowOf system.variables zs row) (some : left ≡ 0 → ⊥) where
-    sides_fail : (f : Failure) → FailsBy (both (choice_side system p stop destination known (left - 1)) (choice_side system p stop destination known (left - 1))) mid f → FailsChoice known left old f
-    sides_fail f h =
-        choice_goes system p stop destination (length known) left old mid heads.Split zs at (both (choice_side system p stop destination known (left - 1)) (choice_side system p stop destination known (left - 1))) f
-        (sides_go (λ m l. choice false l (choosing_of system p stop destination) m) (length known) left (length zs == system.variables + 1) some (eq-eqb (length zs) (system.variables + 1) (ap length is.numbers ∙ numbers_long system.variables row is.wide))) h
-
     sides_checked : (heap : Global) (new : Cursor) (met : Bool) → CheckedChoiceSides system p stop destination known (left - 1) row mid new met → CheckedChoice system p stop destination known left old new met
     sides_checked heap new met h =
         let one = h.holds in
@@ -77,7 +69,7 @@ module _ (system : CaseSystem) (p : Marked) (stop : Bool) (destination : Destina
 
     pub split_checks : (heap : Global) (new : Cursor) (result : Result Bool Failure) → ChecksChoiceSides system p stop destination known (left - 1) row mid new result → ChecksChoice system p stop destination known left old new result
     split_checks heap new (Ok met) h = sides_checked heap new met h
-    split_checks heap new (Err f) h = sides_fail f h
+    split_checks heap new (Err f) h = sides_fail (choice_tree system p stop destination (length known) left) old mid zs at row is some f h
 
   module _ (known : List Known) (left : ℕ) (old : Cursor) where
     pub empty_checked : (new : Cursor) (ms : Vec ℤ) → IsBehind heads.Empty ms.items old new → length ms.items ≡ length known → (met : Bool) → (IsTrue met ↔ Refutes system.variables known ms.items) → CheckedChoice system p stop destination known left old new met

@@ -1,11 +1,9 @@
 -- The covers that lines are those of.
 use Rattle.std.proofs.Common.{◌≡◌, ◌↔◌, ℕ, ◌+◌, ◌-◌, ◌<◌, ◌^◌, ℤ, pos, Bool, false, IsTrue, List, [], ◌∷◌, ◌++◌, length, Option, None, Some, Result, Ok, Err, refl, sym, ap, ◌∙◌, subst, arith, length-append}
 use denote.RawPtr.{null_ptr}
-use Rattle.std.specs.Prelude.{◌==◌}
 use Rattle.std.specs.Global.{Vec, Box, Global}
 use Rattle.std.specs.Option.{option_map}
 use Rattle.std.proofs.lemmas.List.{length-map}
-use Rattle.std.proofs.lemmas.Bool.{eq-eqb}
 use Rattle.tv_lines.specs.Lines.{formed}
 use Rattle.tv_lines.specs.declared.head.Head.TheVariants as heads
 use Rattle.tv_linear.specs.Linear.{Linear}
@@ -17,16 +15,15 @@ use Rattle.tv_cert.specs.Shapes.{owed_count}
 use Rattle.tv_cert_reader.specs.CertificateLines.{by_lines}
 use Rattle.tv_cert_reader.specs.CoverGrammar.{both, cover}
 use Rattle.tv_cert_reader.specs.LineGrammar.{Grammar, many, by}
-use Rattle.tv_cert_reader.proofs.CompleteParts.{numbers_long}
 use Rattle.tv_cert_reader.proofs.CompleteCovers.{cover_read}
 use Rattle.tv_cert_reader.specs.declared.cursor.Cursor.{Cursor}
 use Rattle.tv_cert_reader.specs.declared.failure.Failure.{Failure}
 use Rattle.tv_cert_reader.specs.Reading.{Takes, FailsBy}
 use Rattle.tv_cert_reader.specs.Parts.{IsRowOf}
 use Rattle.tv_cert_reader.specs.Covers.{IsBehind, IsCoverWithin, IsTarget, NamesNone}
-use Rattle.tv_cert_reader.proofs.CoverLemmas.{cover_goes, split_read, into_read, lists_stop}
+use Rattle.tv_cert_reader.proofs.CoverLemmas.{cover_tree, split_read, into_read, lists_stop}
+use Rattle.tv_cert_reader.proofs.TreeLemmas.{sides_fail}
 use Rattle.tv_cert_reader.proofs.ReadingLemmas.{first_fails, second_fails}
-use Rattle.tv_cert_reader.proofs.SideLemmas.{sides_go}
 use Rattle.tv_cert_reader.proofs.WalkLemmas.{vector}
 use Rattle.tv_check_text.specs.Checking.{numbers_in, cover_side, EntersNone, CheckedCover, CheckedLists, CheckedSides, ChecksCover, ChecksLists, ChecksSides}
 
@@ -75,11 +72,6 @@ module _ (n : ℕ) (owed : ℕ → ℕ → Option (List Known)) where
         (subst (λ m. FailsBy (cover false left n m (owed_count owed)) next f) (one_more known (denied (given row))) h)
 
   module _ (known : List Known) (left : ℕ) (old mid : Cursor) (zs : List ℤ) (at : IsBehind heads.Split zs old mid) (row : Linear) (is : IsRowOf n zs row) (some : left ≡ 0 → ⊥) where
-    sides_fail : (f : Failure) → FailsBy (both (cover_side n owed known (left - 1)) (cover_side n owed known (left - 1))) mid f → Fails known left old f
-    sides_fail f h =
-        cover_goes n (owed_count owed) (length known) left old mid heads.Split zs at (both (cover_side n owed known (left - 1)) (cover_side n owed known (left - 1))) f
-        (sides_go (λ m l. cover false l n m (owed_count owed)) (length known) left (length zs == n + 1) some (eq-eqb (length zs) (n + 1) (ap length is.numbers ∙ numbers_long n row is.wide))) h
-
     sides_checked : (heap : Global) (new : Cursor) (met : Bool) → CheckedSides n owed known (left - 1) row mid new met → CheckedCover n owed known left old new met
     sides_checked heap new met h =
         let one = h.holds in
@@ -92,7 +84,7 @@ module _ (n : ℕ) (owed : ℕ → ℕ → Option (List Known)) where
 
     pub split_checks : (heap : Global) (new : Cursor) (result : Result Bool Failure) → ChecksSides n owed known (left - 1) row mid new result → ChecksCover n owed known left old new result
     split_checks heap new (Ok met) h = sides_checked heap new met h
-    split_checks heap new (Err f) h = sides_fail f h
+    split_checks heap new (Err f) h = sides_fail (cover_tree n (owed_count owed) (length known) left) old mid zs at row is some f h
 
   module _ (known : List Known) (left : ℕ) (old : Cursor) where
     pub empty_checked : (new : Cursor) (ms : Vec ℤ) → IsBehind heads.Empty ms.items old new → length ms.items ≡ length known → (met : Bool) → (IsTrue met ↔ Refutes n known ms.items) → CheckedCover n owed known left old new met

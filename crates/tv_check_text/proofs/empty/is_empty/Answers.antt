@@ -7,8 +7,9 @@ use Rattle.tv_cert_reader.specs.ChoiceGrammar.{choice}
 use Rattle.tv_cert_reader.specs.CoverGrammar.{cover}
 use Rattle.tv_cert_reader.specs.Reading.{FaultAt}
 use Rattle.tv_cert_reader.specs.Choices.{choosing_of}
-use Rattle.tv_cert_reader.proofs.CoverLemmas as covers
-use Rattle.tv_cert_reader.proofs.ChoiceLemmas as choices
+use Rattle.tv_cert_reader.proofs.CoverLemmas.{cover_tree}
+use Rattle.tv_cert_reader.proofs.ChoiceLemmas.{choice_tree}
+use Rattle.tv_cert_reader.proofs.TreeLemmas.{empty_stops}
 use Rattle.tv_check_text.proofs.TreeLemmas as cover_trees
 use Rattle.tv_check_text.proofs.ChoiceLemmas as choice_trees
 use Rattle.tv_check_text.proofs.empty.is_empty.Goals as goal
@@ -22,7 +23,7 @@ pub returns-clause-cover : goal.returns-clause-cover
 returns-clause-cover c = λ owed left old new at e.
     let known = length (known_at c.args.frames.now) in
     subst (FaultAt (cover false left c.args.columns known (owed_count owed)) old Shape) e
-    (covers.empty_stops c.args.columns (owed_count owed) known left old new c.args.multipliers.items at (λ h. let f = c.if-len-known.false in let k = c.len.ensures in let n = c.requires.counted in omega (arith, h, f, k, n)))
+    (empty_stops (cover_tree c.args.columns (owed_count owed) known left) old new c.args.multipliers.items at (λ h. let f = c.if-len-known.false in let k = c.len.ensures in let n = c.requires.counted in omega (arith, h, f, k, n)))
 
 pub returns-then-len-known-clause-choice : goal.returns-then-len-known-clause-choice
 returns-then-len-known-clause-choice c = λ system piece stop destination left old new wide at e.
@@ -33,4 +34,4 @@ pub returns-clause-choice : goal.returns-clause-choice
 returns-clause-choice c = λ system piece stop destination left old new wide at e.
     let known = length (known_at c.args.frames.now) in
     subst (FaultAt (choice false left (choosing_of system piece stop destination) known) old Shape) e
-    (choices.empty_stops system piece stop destination known left old new c.args.multipliers.items at (λ h. let f = c.if-len-known.false in let k = c.len.ensures in let n = c.requires.counted in omega (arith, h, f, k, n)))
+    (empty_stops (choice_tree system piece stop destination known left) old new c.args.multipliers.items at (λ h. let f = c.if-len-known.false in let k = c.len.ensures in let n = c.requires.counted in omega (arith, h, f, k, n)))

@@ -7,25 +7,26 @@ use Rattle.tv_cert_reader.specs.Covers.{IsBehind}
 use Rattle.tv_cert_reader.specs.Choices.{ReadsChoice}
 use Rattle.tv_cert_reader.proofs.ReadingLemmas.{at_exit}
 use Rattle.tv_cert_reader.proofs.CoverLemmas.{behind_as}
-use Rattle.tv_cert_reader.proofs.ChoiceLemmas.{choice_line_fails, choice_stops, other_head, no_numbers_fit, deep_stops, row_stops, holds_fail, fails_fail, split_read}
+use Rattle.tv_cert_reader.proofs.ChoiceLemmas.{choice_taken, choice_tree, other_head, no_numbers_fit, split_read}
+use Rattle.tv_cert_reader.proofs.TreeLemmas.{tree_line_fails, tree_stops, deep_stops, row_stops, holds_fail, fails_fail}
 use Rattle.tv_cert_reader.proofs.PartLemmas.{row_there, no_row}
 use Rattle.tv_cert_reader.proofs.context.Context.+choice_tree.Goals as goal
 
 pub returns-in_err-head : goal.returns-in_err-head
 returns-in_err-head t c =
     at_exit (ReadsChoice (cases_of c.args.self.now.about.now) c.args.choosing.now.piece.now c.args.choosing.now.stop c.args.choosing.now.destination.now c.args.known c.args.left c.args.cursor.now c.take.new.cursor) c.from_residual.result c.in_err-head.field-0.0 c.from_residual.ensures.1
-    (choice_line_fails (cases_of c.args.self.now.about.now) c.args.choosing.now.piece.now c.args.choosing.now.stop c.args.choosing.now.destination.now c.args.known c.args.left c.args.cursor.now c.in_err-head.field-0.0 c.in_err-head.ensures.line)
+    (tree_line_fails (choice_tree (cases_of c.args.self.now.about.now) c.args.choosing.now.piece.now c.args.choosing.now.stop c.args.choosing.now.destination.now c.args.known c.args.left) c.args.cursor.now c.in_err-head.field-0.0 c.in_err-head.ensures.line)
 
 pub returns-then-left-eq0 : goal.returns-then-left-eq0
 returns-then-left-eq0 t c =
     let at = behind_as c.in_ok-head.head heads.Split c.in_ok-head.numbers.items c.args.cursor.now c.take.new.cursor c.in-Split.is c.in_ok-head.ensures.line.0 c.in_ok-head.ensures.line.1 in
-    deep_stops (cases_of c.args.self.now.about.now) c.args.choosing.now.piece.now c.args.choosing.now.stop c.args.choosing.now.destination.now c.args.known c.args.left c.args.cursor.now c.take.new.cursor c.in_ok-head.numbers.items at c.if-left-eq0.true
+    deep_stops (choice_tree (cases_of c.args.self.now.about.now) c.args.choosing.now.piece.now c.args.choosing.now.stop c.args.choosing.now.destination.now c.args.known c.args.left) c.args.cursor.now c.take.new.cursor c.in_ok-head.numbers.items at c.if-left-eq0.true
 
 pub returns-in_default-row_of : goal.returns-in_default-row_of
 returns-in_default-row_of t c =
     let at = behind_as c.in_ok-head.head heads.Split c.in_ok-head.numbers.items c.args.cursor.now c.take.new.cursor c.in-Split.is c.in_ok-head.ensures.line.0 c.in_ok-head.ensures.line.1 in
     let none = no_row c.variables.result c.in_ok-head.numbers.items c.row_of.result c.row_of.ensures c.in_default-row_of.is in
-    row_stops (cases_of c.args.self.now.about.now) c.args.choosing.now.piece.now c.args.choosing.now.stop c.args.choosing.now.destination.now c.args.known c.args.left c.args.cursor.now c.take.new.cursor c.in_ok-head.numbers.items at c.if-left-eq0.false (subst (λ n. length c.in_ok-head.numbers.items ≡ n + 1 → ⊥) c.variables.ensures.same none)
+    row_stops (choice_tree (cases_of c.args.self.now.about.now) c.args.choosing.now.piece.now c.args.choosing.now.stop c.args.choosing.now.destination.now c.args.known c.args.left) c.args.cursor.now c.take.new.cursor c.in_ok-head.numbers.items at c.if-left-eq0.false (subst (λ n. length c.in_ok-head.numbers.items ≡ n + 1 → ⊥) c.variables.ensures.same none)
 
 pub returns-in_err-holds-in-Split : goal.returns-in_err-holds-in-Split
 returns-in_err-holds-in-Split t c =
@@ -33,7 +34,7 @@ returns-in_err-holds-in-Split t c =
     let of_line = row_there c.variables.result c.in_ok-head.numbers.items c.row_of.result c.row_of.ensures c.in-Some.row c.in-Some.is in
     let is = subst (λ n. IsRowOf n c.in_ok-head.numbers.items c.in-Some.row) c.variables.ensures.same of_line in
     at_exit (ReadsChoice (cases_of c.args.self.now.about.now) c.args.choosing.now.piece.now c.args.choosing.now.stop c.args.choosing.now.destination.now c.args.known c.args.left c.args.cursor.now c.choice_tree.new.cursor) c.from_residual-in_err-holds-in-Split.result c.in_err-holds-in-Split.field-0.0 c.from_residual-in_err-holds-in-Split.ensures.1
-    (holds_fail (cases_of c.args.self.now.about.now) c.args.choosing.now.piece.now c.args.choosing.now.stop c.args.choosing.now.destination.now c.args.known c.args.left c.args.cursor.now c.take.new.cursor c.in_ok-head.numbers.items at c.in-Some.row is c.if-left-eq0.false c.in_err-holds-in-Split.field-0.0 c.in_err-holds-in-Split.ensures)
+    (holds_fail (choice_tree (cases_of c.args.self.now.about.now) c.args.choosing.now.piece.now c.args.choosing.now.stop c.args.choosing.now.destination.now c.args.known c.args.left) c.args.cursor.now c.take.new.cursor c.in_ok-head.numbers.items at c.in-Some.row is c.if-left-eq0.false c.in_err-holds-in-Split.field-0.0 c.in_err-holds-in-Split.ensures)
 
 pub returns-in_err-fails-in-Split : goal.returns-in_err-fails-in-Split
 returns-in_err-fails-in-Split t c =
@@ -41,7 +42,8 @@ returns-in_err-fails-in-Split t c =
     let of_line = row_there c.variables.result c.in_ok-head.numbers.items c.row_of.result c.row_of.ensures c.in-Some.row c.in-Some.is in
     let is = subst (λ n. IsRowOf n c.in_ok-head.numbers.items c.in-Some.row) c.variables.ensures.same of_line in
     at_exit (ReadsChoice (cases_of c.args.self.now.about.now) c.args.choosing.now.piece.now c.args.choosing.now.stop c.args.choosing.now.destination.now c.args.known c.args.left c.args.cursor.now c.choice_tree-in-Split.new.cursor) c.from_residual-in_err-fails-in-Split.result c.in_err-fails-in-Split.field-0.0 c.from_residual-in_err-fails-in-Split.ensures.1
-    (fails_fail (cases_of c.args.self.now.about.now) c.args.choosing.now.piece.now c.args.choosing.now.stop c.args.choosing.now.destination.now c.args.known c.args.left c.args.cursor.now c.take.new.cursor c.in_ok-head.numbers.items at c.in-Some.row is c.if-left-eq0.false c.in_ok-holds-in-Split.holds c.choice_tree.new.cursor c.in_ok-holds-in-Split.ensures.0 c.in_ok-holds-in-Split.ensures.1 c.in_err-fails-in-Split.field-0.0 c.in_err-fails-in-Split.ensures)
+    (fails_fail (choice_tree (cases_of c.args.self.now.about.now) c.args.choosing.now.piece.now c.args.choosing.now.stop c.args.choosing.now.destination.now c.args.known c.args.left) c.args.cursor.now c.take.new.cursor c.in_ok-head.numbers.items at c.in-Some.row is c.if-left-eq0.false c.choice_tree.new.cursor c.in_ok-holds-in-Split.ensures.1
+    (choice_taken (cases_of c.args.self.now.about.now) c.args.choosing.now.piece.now c.args.choosing.now.stop c.args.choosing.now.destination.now c.in_ok-holds-in-Split.holds c.in_ok-holds-in-Split.ensures.0) c.in_err-fails-in-Split.field-0.0 c.in_err-fails-in-Split.ensures)
 
 pub returns-in_ok-split-in-Split : goal.returns-in_ok-split-in-Split
 returns-in_ok-split-in-Split t c =
@@ -71,5 +73,5 @@ returns-in-Take t c =
 pub returns-in_default : goal.returns-in_default
 returns-in_default t c =
     let at : IsBehind c.in_ok-head.head c.in_ok-head.numbers.items c.args.cursor.now c.take.new.cursor = record { front = c.in_ok-head.ensures.line.0; one = c.in_ok-head.ensures.line.1 } in
-    choice_stops (cases_of c.args.self.now.about.now) c.args.choosing.now.piece.now c.args.choosing.now.stop c.args.choosing.now.destination.now c.args.known c.args.left c.args.cursor.now c.take.new.cursor c.in_ok-head.head c.in_ok-head.numbers.items at Shape
-    (other_head (cases_of c.args.self.now.about.now) c.args.choosing.now.piece.now c.args.choosing.now.stop c.args.choosing.now.destination.now c.args.known c.args.left c.args.cursor.now c.in_ok-head.head c.in_ok-head.numbers.items c.in_default.not-Split c.in_default.not-Empty c.in_default.not-NoStep c.in_default.not-Take)
+    tree_stops (choice_tree (cases_of c.args.self.now.about.now) c.args.choosing.now.piece.now c.args.choosing.now.stop c.args.choosing.now.destination.now c.args.known c.args.left) c.args.cursor.now c.take.new.cursor c.in_ok-head.head c.in_ok-head.numbers.items at Shape
+    (other_head (cases_of c.args.self.now.about.now) c.args.choosing.now.piece.now c.args.choosing.now.stop c.args.choosing.now.destination.now c.args.known c.args.left c.in_ok-head.head c.in_ok-head.numbers.items c.in_default.not-Split c.in_default.not-Empty c.in_default.not-NoStep c.in_default.not-Take)

@@ -4,7 +4,8 @@ use Rattle.tv_cert.specs.TargetViews.{counts_of}
 use Rattle.tv_cert_reader.specs.declared.kind.LineKind.TheVariants.{Shape}
 use Rattle.tv_cert_reader.specs.Covers.{IsBehind, ReadsTree}
 use Rattle.tv_cert_reader.proofs.ReadingLemmas.{at_exit}
-use Rattle.tv_cert_reader.proofs.CoverLemmas.{behind_as, cover_line_fails, cover_stops, other_head, deep_stops, row_stops, holds_fail, fails_fail, split_read}
+use Rattle.tv_cert_reader.proofs.CoverLemmas.{behind_as, cover_taken, cover_tree, other_head, split_read}
+use Rattle.tv_cert_reader.proofs.TreeLemmas.{tree_line_fails, tree_stops, deep_stops, row_stops, holds_fail, fails_fail}
 use Rattle.tv_cert_reader.proofs.PartLemmas.{row_there, no_row}
 use Rattle.tv_cert_reader.proofs.context.Context.+cover_tree.Goals as goal
 
@@ -12,18 +13,18 @@ pub returns-in_err-head : goal.returns-in_err-head
 returns-in_err-head t c =
     let counts = counts_of c.args.targets.now in
     at_exit (ReadsTree c.args.width counts c.args.known c.args.left c.args.cursor.now c.take.new.cursor) c.from_residual.result c.in_err-head.field-0.0 c.from_residual.ensures.1
-    (cover_line_fails c.args.width counts c.args.known c.args.left c.args.cursor.now c.in_err-head.field-0.0 c.in_err-head.ensures.line)
+    (tree_line_fails (cover_tree c.args.width counts c.args.known c.args.left) c.args.cursor.now c.in_err-head.field-0.0 c.in_err-head.ensures.line)
 
 pub returns-then-left-eq0 : goal.returns-then-left-eq0
 returns-then-left-eq0 t c =
     let at = behind_as c.in_ok-head.head heads.Split c.in_ok-head.numbers.items c.args.cursor.now c.take.new.cursor c.in-Split.is c.in_ok-head.ensures.line.0 c.in_ok-head.ensures.line.1 in
-    deep_stops c.args.width (counts_of c.args.targets.now) c.args.known c.args.left c.args.cursor.now c.take.new.cursor c.in_ok-head.numbers.items at c.if-left-eq0.true
+    deep_stops (cover_tree c.args.width (counts_of c.args.targets.now) c.args.known c.args.left) c.args.cursor.now c.take.new.cursor c.in_ok-head.numbers.items at c.if-left-eq0.true
 
 pub returns-in_default-row_of : goal.returns-in_default-row_of
 returns-in_default-row_of t c =
     let at = behind_as c.in_ok-head.head heads.Split c.in_ok-head.numbers.items c.args.cursor.now c.take.new.cursor c.in-Split.is c.in_ok-head.ensures.line.0 c.in_ok-head.ensures.line.1 in
     let none = no_row c.args.width c.in_ok-head.numbers.items c.row_of.result c.row_of.ensures c.in_default-row_of.is in
-    row_stops c.args.width (counts_of c.args.targets.now) c.args.known c.args.left c.args.cursor.now c.take.new.cursor c.in_ok-head.numbers.items at c.if-left-eq0.false none
+    row_stops (cover_tree c.args.width (counts_of c.args.targets.now) c.args.known c.args.left) c.args.cursor.now c.take.new.cursor c.in_ok-head.numbers.items at c.if-left-eq0.false none
 
 pub returns-in_err-holds-in-Split : goal.returns-in_err-holds-in-Split
 returns-in_err-holds-in-Split t c =
@@ -31,7 +32,7 @@ returns-in_err-holds-in-Split t c =
     let at = behind_as c.in_ok-head.head heads.Split c.in_ok-head.numbers.items c.args.cursor.now c.take.new.cursor c.in-Split.is c.in_ok-head.ensures.line.0 c.in_ok-head.ensures.line.1 in
     let is = row_there c.args.width c.in_ok-head.numbers.items c.row_of.result c.row_of.ensures c.in-Some.row c.in-Some.is in
     at_exit (ReadsTree c.args.width counts c.args.known c.args.left c.args.cursor.now c.cover_tree.new.cursor) c.from_residual-in_err-holds-in-Split.result c.in_err-holds-in-Split.field-0.0 c.from_residual-in_err-holds-in-Split.ensures.1
-    (holds_fail c.args.width counts c.args.known c.args.left c.args.cursor.now c.take.new.cursor c.in_ok-head.numbers.items at c.in-Some.row is c.if-left-eq0.false c.in_err-holds-in-Split.field-0.0 c.in_err-holds-in-Split.ensures)
+    (holds_fail (cover_tree c.args.width counts c.args.known c.args.left) c.args.cursor.now c.take.new.cursor c.in_ok-head.numbers.items at c.in-Some.row is c.if-left-eq0.false c.in_err-holds-in-Split.field-0.0 c.in_err-holds-in-Split.ensures)
 
 pub returns-in_err-fails-in-Split : goal.returns-in_err-fails-in-Split
 returns-in_err-fails-in-Split t c =
@@ -39,7 +40,8 @@ returns-in_err-fails-in-Split t c =
     let at = behind_as c.in_ok-head.head heads.Split c.in_ok-head.numbers.items c.args.cursor.now c.take.new.cursor c.in-Split.is c.in_ok-head.ensures.line.0 c.in_ok-head.ensures.line.1 in
     let is = row_there c.args.width c.in_ok-head.numbers.items c.row_of.result c.row_of.ensures c.in-Some.row c.in-Some.is in
     at_exit (ReadsTree c.args.width counts c.args.known c.args.left c.args.cursor.now c.cover_tree-in-Split.new.cursor) c.from_residual-in_err-fails-in-Split.result c.in_err-fails-in-Split.field-0.0 c.from_residual-in_err-fails-in-Split.ensures.1
-    (fails_fail c.args.width counts c.args.known c.args.left c.args.cursor.now c.take.new.cursor c.in_ok-head.numbers.items at c.in-Some.row is c.if-left-eq0.false c.in_ok-holds-in-Split.holds c.cover_tree.new.cursor c.in_ok-holds-in-Split.ensures.0 c.in_ok-holds-in-Split.ensures.1 c.in_err-fails-in-Split.field-0.0 c.in_err-fails-in-Split.ensures)
+    (fails_fail (cover_tree c.args.width counts c.args.known c.args.left) c.args.cursor.now c.take.new.cursor c.in_ok-head.numbers.items at c.in-Some.row is c.if-left-eq0.false c.cover_tree.new.cursor c.in_ok-holds-in-Split.ensures.1
+    (cover_taken c.args.width counts c.in_ok-holds-in-Split.holds c.in_ok-holds-in-Split.ensures.0) c.in_err-fails-in-Split.field-0.0 c.in_err-fails-in-Split.ensures)
 
 pub returns-in_ok-split-in-Split : goal.returns-in_ok-split-in-Split
 returns-in_ok-split-in-Split t c =
@@ -53,8 +55,8 @@ pub returns-in_default : goal.returns-in_default
 returns-in_default t c =
     let counts = counts_of c.args.targets.now in
     let at : IsBehind c.in_ok-head.head c.in_ok-head.numbers.items c.args.cursor.now c.take.new.cursor = record { front = c.in_ok-head.ensures.line.0; one = c.in_ok-head.ensures.line.1 } in
-    cover_stops c.args.width counts c.args.known c.args.left c.args.cursor.now c.take.new.cursor c.in_ok-head.head c.in_ok-head.numbers.items at Shape
-    (other_head c.args.width counts c.args.known c.args.left c.args.cursor.now c.in_ok-head.head c.in_ok-head.numbers.items c.in_default.not-Split c.in_default.not-Empty c.in_default.not-Into)
+    tree_stops (cover_tree c.args.width counts c.args.known c.args.left) c.args.cursor.now c.take.new.cursor c.in_ok-head.head c.in_ok-head.numbers.items at Shape
+    (other_head c.args.width counts c.args.known c.args.left c.in_ok-head.head c.in_ok-head.numbers.items c.in_default.not-Split c.in_default.not-Empty c.in_default.not-Into)
 
 pub returns-in-Empty : goal.returns-in-Empty
 returns-in-Empty t c =

@@ -7,7 +7,8 @@ use Rattle.tv_cert_reader.specs.Parts.{IsRowOf}
 use Rattle.tv_cert_reader.specs.Covers.{IsBehind}
 use Rattle.tv_cert_reader.proofs.ReadingLemmas.{at_exit}
 use Rattle.tv_cert_reader.proofs.CoverLemmas.{behind_as}
-use Rattle.tv_cert_reader.proofs.ChoiceLemmas.{choice_line_fails, choice_stops, other_head, no_numbers_fit, deep_stops, row_stops}
+use Rattle.tv_cert_reader.proofs.ChoiceLemmas.{choice_tree, other_head, no_numbers_fit}
+use Rattle.tv_cert_reader.proofs.TreeLemmas.{tree_line_fails, tree_stops, deep_stops, row_stops}
 use Rattle.tv_cert_reader.proofs.PartLemmas.{row_there, no_row}
 use Rattle.tv_linear.specs.Known.{given, denied}
 use Rattle.tv_check_text.specs.Checking.{CheckedChoice, ChecksChoice, ChecksChoiceSides}
@@ -21,20 +22,20 @@ is_met-returns-in_err-head t c =
     let system = cases_of s.context.about.now in
     let known = known_at c.args.frames.now in
     at_exit (ChecksChoice system s.piece.now s.stop s.destination.now known c.args.left c.args.cursor.now c.take.new.cursor) c.from_residual.result c.in_err-head.field-0.0 c.from_residual.ensures.1
-    (choice_line_fails system s.piece.now s.stop s.destination.now (length known) c.args.left c.args.cursor.now c.in_err-head.field-0.0 c.in_err-head.ensures.line)
+    (tree_line_fails (choice_tree system s.piece.now s.stop s.destination.now (length known) c.args.left) c.args.cursor.now c.in_err-head.field-0.0 c.in_err-head.ensures.line)
 
 pub is_met-returns-then-left-eq0 : goal.is_met-returns-then-left-eq0
 is_met-returns-then-left-eq0 t c =
     let s = c.args.self.now in
     let at = behind_as c.in_ok-head.head heads.Split c.in_ok-head.numbers.items c.args.cursor.now c.take.new.cursor c.in-Split.is c.in_ok-head.ensures.line.0 c.in_ok-head.ensures.line.1 in
-    deep_stops (cases_of s.context.about.now) s.piece.now s.stop s.destination.now (length (known_at c.args.frames.now)) c.args.left c.args.cursor.now c.take.new.cursor c.in_ok-head.numbers.items at c.if-left-eq0.true
+    deep_stops (choice_tree (cases_of s.context.about.now) s.piece.now s.stop s.destination.now (length (known_at c.args.frames.now)) c.args.left) c.args.cursor.now c.take.new.cursor c.in_ok-head.numbers.items at c.if-left-eq0.true
 
 pub is_met-returns-in_default-row_of : goal.is_met-returns-in_default-row_of
 is_met-returns-in_default-row_of t c =
     let s = c.args.self.now in
     let at = behind_as c.in_ok-head.head heads.Split c.in_ok-head.numbers.items c.args.cursor.now c.take.new.cursor c.in-Split.is c.in_ok-head.ensures.line.0 c.in_ok-head.ensures.line.1 in
     let none = no_row c.variables-columns.result c.in_ok-head.numbers.items c.row_of.result c.row_of.ensures c.in_default-row_of.is in
-    row_stops (cases_of s.context.about.now) s.piece.now s.stop s.destination.now (length (known_at c.args.frames.now)) c.args.left c.args.cursor.now c.take.new.cursor c.in_ok-head.numbers.items at c.if-left-eq0.false (subst (λ n. length c.in_ok-head.numbers.items ≡ n + 1 → ⊥) c.variables-columns.ensures.same none)
+    row_stops (choice_tree (cases_of s.context.about.now) s.piece.now s.stop s.destination.now (length (known_at c.args.frames.now)) c.args.left) c.args.cursor.now c.take.new.cursor c.in_ok-head.numbers.items at c.if-left-eq0.false (subst (λ n. length c.in_ok-head.numbers.items ≡ n + 1 → ⊥) c.variables-columns.ensures.same none)
 
 pub is_met-returns-in-Some : goal.is_met-returns-in-Some
 is_met-returns-in-Some t c =
@@ -66,8 +67,8 @@ pub is_met-returns-in_default : goal.is_met-returns-in_default
 is_met-returns-in_default t c =
     let s = c.args.self.now in
     let at : IsBehind c.in_ok-head.head c.in_ok-head.numbers.items c.args.cursor.now c.take.new.cursor = record { front = c.in_ok-head.ensures.line.0; one = c.in_ok-head.ensures.line.1 } in
-    choice_stops (cases_of s.context.about.now) s.piece.now s.stop s.destination.now (length (known_at c.args.frames.now)) c.args.left c.args.cursor.now c.take.new.cursor c.in_ok-head.head c.in_ok-head.numbers.items at Shape
-    (other_head (cases_of s.context.about.now) s.piece.now s.stop s.destination.now (length (known_at c.args.frames.now)) c.args.left c.args.cursor.now c.in_ok-head.head c.in_ok-head.numbers.items c.in_default.not-Split c.in_default.not-Empty c.in_default.not-NoStep c.in_default.not-Take)
+    tree_stops (choice_tree (cases_of s.context.about.now) s.piece.now s.stop s.destination.now (length (known_at c.args.frames.now)) c.args.left) c.args.cursor.now c.take.new.cursor c.in_ok-head.head c.in_ok-head.numbers.items at Shape
+    (other_head (cases_of s.context.about.now) s.piece.now s.stop s.destination.now (length (known_at c.args.frames.now)) c.args.left c.in_ok-head.head c.in_ok-head.numbers.items c.in_default.not-Split c.in_default.not-Empty c.in_default.not-NoStep c.in_default.not-Take)
 
 pub sides_are_met-returns-in_err-fails : goal.sides_are_met-returns-in_err-fails
 sides_are_met-returns-in_err-fails t c =

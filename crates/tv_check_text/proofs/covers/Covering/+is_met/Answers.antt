@@ -6,7 +6,8 @@ use Rattle.tv_cert.specs.Shapes.{owed_count}
 use Rattle.tv_cert_reader.specs.declared.kind.LineKind.TheVariants.{Shape}
 use Rattle.tv_cert_reader.specs.Covers.{IsBehind}
 use Rattle.tv_cert_reader.proofs.ReadingLemmas.{at_exit}
-use Rattle.tv_cert_reader.proofs.CoverLemmas.{behind_as, cover_line_fails, cover_stops, other_head, deep_stops, row_stops}
+use Rattle.tv_cert_reader.proofs.CoverLemmas.{behind_as, cover_tree, other_head}
+use Rattle.tv_cert_reader.proofs.TreeLemmas.{tree_line_fails, tree_stops, deep_stops, row_stops}
 use Rattle.tv_cert_reader.proofs.PartLemmas.{row_there, no_row}
 use Rattle.tv_linear.specs.Known.{given, denied}
 use Rattle.tv_check_text.specs.Checking.{CheckedCover, ChecksCover, ChecksSides}
@@ -21,14 +22,14 @@ is_met-returns-in_err-head t c =
     let owed = owed_at (change_of s.change.now) s.targets.now in
     let known = known_at c.args.frames.now in
     at_exit (ChecksCover s.columns owed known c.args.left c.args.cursor.now c.take.new.cursor) c.from_residual.result c.in_err-head.field-0.0 c.from_residual.ensures.1
-    (cover_line_fails s.columns (owed_count owed) (length known) c.args.left c.args.cursor.now c.in_err-head.field-0.0 c.in_err-head.ensures.line)
+    (tree_line_fails (cover_tree s.columns (owed_count owed) (length known) c.args.left) c.args.cursor.now c.in_err-head.field-0.0 c.in_err-head.ensures.line)
 
 pub is_met-returns-then-left-eq0 : goal.is_met-returns-then-left-eq0
 is_met-returns-then-left-eq0 t c =
     let s = c.args.self.now in
     let owed = owed_at (change_of s.change.now) s.targets.now in
     let at = behind_as c.in_ok-head.head heads.Split c.in_ok-head.numbers.items c.args.cursor.now c.take.new.cursor c.in-Split.is c.in_ok-head.ensures.line.0 c.in_ok-head.ensures.line.1 in
-    deep_stops s.columns (owed_count owed) (length (known_at c.args.frames.now)) c.args.left c.args.cursor.now c.take.new.cursor c.in_ok-head.numbers.items at c.if-left-eq0.true
+    deep_stops (cover_tree s.columns (owed_count owed) (length (known_at c.args.frames.now)) c.args.left) c.args.cursor.now c.take.new.cursor c.in_ok-head.numbers.items at c.if-left-eq0.true
 
 pub is_met-returns-in_default-row_of : goal.is_met-returns-in_default-row_of
 is_met-returns-in_default-row_of t c =
@@ -36,7 +37,7 @@ is_met-returns-in_default-row_of t c =
     let owed = owed_at (change_of s.change.now) s.targets.now in
     let at = behind_as c.in_ok-head.head heads.Split c.in_ok-head.numbers.items c.args.cursor.now c.take.new.cursor c.in-Split.is c.in_ok-head.ensures.line.0 c.in_ok-head.ensures.line.1 in
     let none = no_row s.columns c.in_ok-head.numbers.items c.row_of.result c.row_of.ensures c.in_default-row_of.is in
-    row_stops s.columns (owed_count owed) (length (known_at c.args.frames.now)) c.args.left c.args.cursor.now c.take.new.cursor c.in_ok-head.numbers.items at c.if-left-eq0.false none
+    row_stops (cover_tree s.columns (owed_count owed) (length (known_at c.args.frames.now)) c.args.left) c.args.cursor.now c.take.new.cursor c.in_ok-head.numbers.items at c.if-left-eq0.false none
 
 pub is_met-returns-in-Some : goal.is_met-returns-in-Some
 is_met-returns-in-Some t c =
@@ -63,8 +64,8 @@ is_met-returns-in_default t c =
     let s = c.args.self.now in
     let owed = owed_at (change_of s.change.now) s.targets.now in
     let at : IsBehind c.in_ok-head.head c.in_ok-head.numbers.items c.args.cursor.now c.take.new.cursor = record { front = c.in_ok-head.ensures.line.0; one = c.in_ok-head.ensures.line.1 } in
-    cover_stops s.columns (owed_count owed) (length (known_at c.args.frames.now)) c.args.left c.args.cursor.now c.take.new.cursor c.in_ok-head.head c.in_ok-head.numbers.items at Shape
-    (other_head s.columns (owed_count owed) (length (known_at c.args.frames.now)) c.args.left c.args.cursor.now c.in_ok-head.head c.in_ok-head.numbers.items c.in_default.not-Split c.in_default.not-Empty c.in_default.not-Into)
+    tree_stops (cover_tree s.columns (owed_count owed) (length (known_at c.args.frames.now)) c.args.left) c.args.cursor.now c.take.new.cursor c.in_ok-head.head c.in_ok-head.numbers.items at Shape
+    (other_head s.columns (owed_count owed) (length (known_at c.args.frames.now)) c.args.left c.in_ok-head.head c.in_ok-head.numbers.items c.in_default.not-Split c.in_default.not-Empty c.in_default.not-Into)
 
 pub sides_are_met-returns-in_err-fails : goal.sides_are_met-returns-in_err-fails
 sides_are_met-returns-in_err-fails t c =
