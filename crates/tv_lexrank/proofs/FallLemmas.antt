@@ -33,13 +33,13 @@ pub held_push : (n : ℕ) (ks : List Known) (k : Known) → AllHeld n ks → ((j
 held_push n [] k h a b = (a, b, tt)
 held_push n (q ∷ ks) k h a b = (h.0, h.1, held_push n ks k h.2 a b)
 
+pub opposite_held_at : (cs : List ℤ) (j : ℕ) → All (IsWithin 62) cs → IsHeld (neg_ℤ (slice_index_or cs j (pos 0)))
+opposite_held_at [] j w = nothing
+opposite_held_at (c ∷ cs) zero w = opposite_held c (All-head (IsWithin 62) c cs w)
+opposite_held_at (c ∷ cs) (suc j) w = opposite_held_at cs j (All-tail (IsWithin 62) c cs w)
+
 narrow_number : (r : Linear) (j : ℕ) → IsNarrow r → IsHeld (neg_ℤ (slice_index_or r.coefficients j (pos 0)))
-narrow_number r j h = by_place r.coefficients j h.coefficients
-  where
-    by_place : (cs : List ℤ) (j : ℕ) → All (IsWithin 62) cs → IsHeld (neg_ℤ (slice_index_or cs j (pos 0)))
-    by_place [] j w = nothing
-    by_place (c ∷ cs) zero w = opposite_held c (All-head (IsWithin 62) c cs w)
-    by_place (c ∷ cs) (suc j) w = by_place cs j (All-tail (IsWithin 62) c cs w)
+narrow_number r j h = opposite_held_at r.coefficients j h.coefficients
 
 -- a property of a tree that is a split at a row
 split_is : (P : CoverTree → Type 0) (r : Linear) (a b new : CoverTree) → IsSplitOf r a b new → ((p q : _) → P (Split' r p a q b)) → P new

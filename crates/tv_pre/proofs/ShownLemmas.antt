@@ -18,7 +18,7 @@ use Rattle.tv_linear.proofs.SameLemmas.{all_same, shown_same}
 use Rattle.tv_farkas.specs.Trees.{TreeRows}
 use Rattle.tv_shape.specs.Narrow.{AreNarrow, CountNarrow, RowNarrow, CoverNarrow}
 use Rattle.tv_lexrank.specs.Falling.{AllHeld}
-use Rattle.tv_lexrank.proofs.FallLemmas.{held_push, shown_append}
+use Rattle.tv_lexrank.proofs.FallLemmas.{held_push, shown_append, opposite_held_at}
 use Rattle.tv_pre.specs.Ranked.{last_line, IsFallingEntry, IsFallingCover}
 use Rattle.tv_pre.proofs.ChoiceLemmas.{at_same}
 use Rattle.tv_pre.proofs.FallLemmas.{IsAlways, WithFalls, FallsOwed}
@@ -92,15 +92,7 @@ falls_at n ks (Some rows) (Some owed) lists h w s =
     (always_refuted n ks w.first h w.first_always, (always_refuted n ks w.second h w.second_always, tt)))
 
 narrow_number : (r : Linear) (j : ℕ) → RowNarrow r → IsHeld (neg_ℤ (slice_index_or r.coefficients j (pos 0)))
-narrow_number r j h = by_place r.coefficients j h.coefficients
-  where
-    small : (z : ℤ) → IsWithin 62 z → IsHeld (neg_ℤ z)
-    small z w = omega (arith, ints, w)
-
-    by_place : (cs : List ℤ) (j : ℕ) → All (IsWithin 62) cs → IsHeld (neg_ℤ (slice_index_or cs j (pos 0)))
-    by_place [] j w = nothing
-    by_place (c ∷ cs) zero w = small c (w 0 c (omega arith))
-    by_place (c ∷ cs) (suc j) w = by_place cs j (λ i d l. w (suc i) d (omega (arith, l)))
+narrow_number r j h = opposite_held_at r.coefficients j h.coefficients
 
 -- ---- covers
 pub entry_shown : (n first count k fall m i : ℕ) (lists new : List (List ℤ)) (owed wanted : ℕ → ℕ → Option (List Known)) (known : List Known) → length known ≡ count → AllHeld n known → FallsOwed n first owed wanted → IsFallingEntry first count k fall m i lists new → ShownAt n known (owed k fall) lists → ShownAt n known (wanted m i) new
