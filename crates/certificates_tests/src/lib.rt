@@ -1,4 +1,5 @@
-//! The tests of certificates: of their pieces, their shape, their copies, and what is told of their texts. They go through public calls alone.
+//! The tests of certificates: of their pieces, their shape, their copies, and what is reported of their texts. They go through public calls
+//! alone.
 #![tactic(auto)]
 
 #[cfg(test)]

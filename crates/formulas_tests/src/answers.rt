@@ -242,8 +242,8 @@ const RANKED: &[Example] = &[
     ),
 ];
 
-/// Where ranks are not settled by so few bases. In the first three the rounds are open too; in the others the formula is settled without ranks,
-/// or its negation is.
+/// Where ranks are not settled by so few bases. In the first three the rounds are open too; in the others the formula is settled without
+/// ranks, or its negation is.
 const UNRANKED: &[Example] = &[
     (LOOP, "[AF](x <= 0)", Wanted::Ranks(4)),
     (LOOP, "[AX](term)", Wanted::Ranks(4)),

@@ -203,7 +203,7 @@ fn cases_follow_the_edges(rt: HostRuntime) {
     assert!(rt; are_of_two_edges(rt.alloc()));
 }
 
-/// How often a test stands on an edge, what stands behind it, and how many cases there are, or why there are none.
+/// How often a test stands on an edge, what follows it, and how many cases there are, or why there are none.
 type Limit = (u32, &'static str, Result<usize, CaseFault>);
 
 const LIMITS: &[Limit] = &[

@@ -42,7 +42,7 @@ fn every_run_ends(rt: HostRuntime) {
     expect_said(&rt, rt.alloc(), ENDING);
 }
 
-/// An idle loop behind a guard that no whole number meets: one that is odd and even is found by its rounded bounds.
+/// An idle loop after a guard that no whole number meets: one that is odd and even is found by its rounded bounds.
 const HALF: &str = "START: 0; FROM: 0; assume(2*x == 1); TO: 1; FROM: 1; TO: 1;";
 
 /// Two guards that no whole numbers meet, which no split shows.
@@ -183,7 +183,7 @@ fn certificates_that_are_written_are_accepted(rt: HostRuntime) {
     expect_shown(&rt, rt.alloc(), UNDER_ROWS);
 }
 
-/// Programs with runs that never end, and the lines behind the verdict.
+/// Programs with runs that never end, and the lines after the verdict.
 const ENDLESS: &[Asked] = &[
     (
         TERMINATION,

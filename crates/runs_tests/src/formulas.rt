@@ -232,7 +232,7 @@ const OTHERS: &[Asked] = &[
     ),
 ];
 
-/// Each formula is to be answered so, and the certificate that is written behind the answer accepted.
+/// Each formula is to be answered so, and the certificate that is written after the answer accepted.
 fn expect_settled(rt: &impl Abort, alloc: Global, list: &[Asked]) {
     expect_said(rt, alloc, list);
     expect_shown(rt, alloc, list);

@@ -9,7 +9,7 @@ const EDGE: &str = "START: 0; FROM: 0; ";
 
 const DRAWN: &str = "TO: 0; FROM: 0; x := nondet(); TO: 0;";
 
-/// What closes 64 brackets behind a number.
+/// What closes 64 brackets after a number.
 const CLOSED: &str = "1)))))))))))))))))))))))))))))))))))))))))))))))))))))))))))))))); TO: 0;";
 
 /// How a run ends that writes this line: a certificate is wanted and none is there, or the text is refused.
@@ -152,7 +152,7 @@ fn many_bytes_begin_no_token(rt: HostRuntime) {
     assert!(rt; count == 176);
 }
 
-/// Whether the byte is refused alone behind a START, and read in a comment, where each byte may stand.
+/// Whether the byte is refused alone after a START, and read in a comment, where each byte may stand.
 fn stands_in_comments_alone(alloc: Global, byte: u8) -> bool {
     let refused = "Refused text syntax line 1 column 11\n";
     says_around(alloc, "START: 0; ", byte, "", refused) == Ok(true)

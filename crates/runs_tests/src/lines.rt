@@ -22,7 +22,7 @@ fn says_with_line(
     )
 }
 
-/// A line of the certificate of the countdown, what stands in its place, and the line that is told.
+/// A line of the certificate of the countdown, what stands in its place, and the line that is reported.
 const FORMS: &[(u32, &str, u32)] = &[
     (1, "T2CERT 2\n", 1),
     (1, "t2cert 1\n", 1),
@@ -74,7 +74,7 @@ const FORMS: &[(u32, &str, u32)] = &[
     (17, "split 1\n", 17),
 ];
 
-/// Whether the line is told where another one stands in the place of that with the number.
+/// Whether the line is reported where another one stands in the place of that with the number.
 fn is_told(alloc: Global, number: u32, line: &str, told: u32) -> Result<bool, AllocError> {
     let written = format!(in alloc; "Certificate refused line {told}\n")?;
     says_with_line(alloc, number, line, ENDED, &written)
@@ -88,7 +88,7 @@ fn each_form_of_line_is_told(rt: HostRuntime) {
     }
 }
 
-/// A line of the certificate of the countdown, what stands in its place, the end, and what is told.
+/// A line of the certificate of the countdown, what stands in its place, the end, and what is reported.
 const ENDS: &[(u32, &str, &str, &str)] = &[
     (
         16,
@@ -125,7 +125,7 @@ fn lines_come_before_obligations(rt: HostRuntime) {
     }
 }
 
-/// Whether the line behind so many lines of the certificate of the countdown is told.
+/// Whether the line after so many lines of the certificate of the countdown is reported.
 fn is_missing(alloc: Global, count: u32, missing: u32) -> Result<bool, AllocError> {
     let text = with_lines(alloc, COUNTDOWN, UNENDED, count)?;
     let written = format!(in alloc; "Certificate refused line {missing}\n")?;
@@ -180,7 +180,7 @@ fn says_of_splits(
     says(alloc, TERMINATION, text, written, status)
 }
 
-// 128 of them are met; the 129th is told.
+// 128 of them are met; the 129th is reported.
 #[test]
 fn splits_lie_128_deep(rt: HostRuntime) {
     let told = "Certificate refused line 145\n";

@@ -223,7 +223,7 @@ fn of_text(
     requires same_program { IsOfProgram (system_of program.now) (cases_of about.now) }
     requires same_steps { HaveSameSteps (system_of program.now) (cases_of about.now) }
     requires variables { claim_variables claim.now ≡ (cases_of about.now).variables }
-    requires few { length text.now < 2 ^ 32 - 1 }
+    requires bounded { length text.now < 2 ^ 32 - 1 }
 {
     let certificate = read_certificate(alloc, text, about, claim)?;
     let answer = check_claim(program, about, claim, &certificate);
@@ -233,7 +233,7 @@ fn of_text(
 
 fn of_claim(alloc: Global, program: &Program, claim: &Claim, text: &[u8]) -> Result<Checked, Fail>
     requires variables { claim_variables claim.now ≡ length (system_of program.now).variables }
-    requires few { length text.now < 2 ^ 32 - 1 }
+    requires bounded { length text.now < 2 ^ 32 - 1 }
 {
     match cases(alloc, program) {
         Ok(about) => of_text(alloc, program, &about, claim, text),
@@ -248,7 +248,7 @@ fn of_program(
     text: &[u8],
 ) -> Result<Checked, Fail>
     requires short { length property.now ≤ 65536 }
-    requires few { length text.now < 2 ^ 32 - 1 }
+    requires bounded { length text.now < 2 ^ 32 - 1 }
 {
     let property = read_formula(alloc, property, program)?;
     let claim = Claim::new(alloc, &property)?;

@@ -61,7 +61,7 @@ pub(crate) const SETTLED: &[Asked] = &[
     (SAFETY_2, &[FAR], "Disproved\nx = 0\n", Status::Disproved),
 ];
 
-/// The verdict is written, and the certificate that is written behind it is accepted.
+/// The verdict is written, and the certificate that is written after it is accepted.
 #[test]
 fn whether_runs_come_to_a_location_is_settled(rt: HostRuntime) {
     expect_said(&rt, rt.alloc(), SETTLED);
@@ -131,7 +131,7 @@ fn candidates(alloc: Global, list: &[Placed], times: u32) -> Result<Vec<Candidat
     Ok(candidates)
 }
 
-/// A proposer of these rows, each so many times, behind the others.
+/// A proposer of these rows, each so many times, after the others.
 fn push_offering(
     alloc: Global,
     proposers: &mut Vec<Box<dyn Proposer>>,

@@ -115,7 +115,7 @@ pub(crate) fn joined(alloc: Global, texts: &[&str]) -> Result<Vec<u8>, AllocErro
     Ok(text)
 }
 
-/// The words, and one more behind them.
+/// The words, and one more after them.
 fn with_word<'a>(
     alloc: Global,
     words: &[&'a str],
@@ -136,7 +136,7 @@ fn output_with_certificate(
     output(alloc, &words, texts)
 }
 
-/// The texts in a row, and the certificate behind them.
+/// The texts in a row, and the certificate after them.
 fn with_certificate(
     alloc: Global,
     texts: &[&str],
@@ -156,7 +156,7 @@ fn is_checked(alloc: Global, asked: &Asked, certificate: &[u8]) -> Result<bool, 
     says(alloc, &words, text, lines, *status)
 }
 
-/// Whether the certificate that is written behind the lines of the verdict is accepted, with the same lines.
+/// Whether the certificate that is written after the lines of the verdict is accepted, with the same lines.
 fn shows(alloc: Global, asked: &Asked) -> Result<bool, AllocError> {
     let (words, texts, lines, _) = asked;
     let written = output_with_certificate(alloc, words, texts)?;
@@ -170,14 +170,14 @@ fn is_shown(alloc: Global, asked: &Asked) -> bool {
     shows(alloc, asked) == Ok(true)
 }
 
-/// The certificate that each run writes behind its verdict is to be accepted, with the same verdict.
+/// The certificate that each run writes after its verdict is to be accepted, with the same verdict.
 pub(crate) fn expect_shown(rt: &impl Abort, alloc: Global, list: &[Asked]) {
     for asked in list {
         assert!(rt; is_shown(alloc, asked), "{asked:?}");
     }
 }
 
-/// The front, and behind it the lines of the certificate, with this text in place of the line with the number.
+/// The front, and after it the lines of the certificate, with this text in place of the line with the number.
 pub(crate) fn with_line(
     alloc: Global,
     front: &str,
@@ -201,7 +201,7 @@ pub(crate) fn with_line(
     Ok(text)
 }
 
-/// The front, and behind it so many lines of the certificate.
+/// The front, and after it so many lines of the certificate.
 pub(crate) fn with_lines(
     alloc: Global,
     front: &str,

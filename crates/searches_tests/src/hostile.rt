@@ -16,7 +16,7 @@ pub struct Hostile {
     pub location: u32,
     pub columns: u32,
     ghost some: { 0 < less },
-    ghost few: { columns < 2 ^ 32 - 1 },
+    ghost bounded: { columns < 2 ^ 32 - 1 },
 }
 
 impl Proposer for Hostile {

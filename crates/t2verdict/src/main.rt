@@ -12,7 +12,7 @@ use tv_top::{Status, run};
 /// How many rows each kind of proposer offers at most.
 const MOST_ROWS: u64 = 2000;
 
-/// The words behind the program's name, or none where one of them is no text: no question has such a word.
+/// The words after the program's name, or none where one of them is no text: no question has such a word.
 fn given_words(rt: &HostRuntime) -> Result<Vec<String>, AllocError> {
     let mut words = Vec::new(rt.alloc());
     match env::args(rt) {

@@ -116,7 +116,7 @@ fn conditions_keep_the_limits(rt: HostRuntime) {
     }
 }
 
-/// How many tokens the sum of 1 behind so many signs has.
+/// How many tokens the sum of 1 after so many signs has.
 fn signs_taken(alloc: Global, times: u32) -> Result<u32, PartFault> {
     match repeated(alloc, b"-", times, b"1") {
         Ok(text) => sum_taken(alloc, &text),

@@ -315,14 +315,14 @@ fn begins_no_token(byte: u8) -> bool {
     !byte.is_ascii_alphanumeric() && !b" \t\r\n\x0c_:;()[]+-*<>!".contains(&byte)
 }
 
-/// The fault of a text with this byte behind a START.
+/// The fault of a text with this byte after a START.
 fn fault_behind(alloc: Global, byte: u8) -> Result<Option<ReadFault>, AllocError> {
     let mut text = b"START: 0;\n ".as_slice().to_vec(alloc)?;
     text.push(byte)?;
     Ok(fault_of(alloc, &text))
 }
 
-// Each byte that no token can hold, behind a START.
+// Each byte that no token can hold, after a START.
 #[test]
 fn refuses_bytes_that_no_token_holds(rt: HostRuntime) {
     for byte in 0..=255u8 {

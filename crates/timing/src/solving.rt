@@ -1,7 +1,7 @@
 //! Linear equations that are settled.
 //!
-//! The text is how many rows and columns there are, and then the rows: how many numbers besides 0 each has, these, each after its column and in the
-//! order of their columns, and the right side.
+//! The text is how many rows and columns there are, and then the rows: how many numbers besides 0 each has, these, each after its column
+//! and in the order of their columns, and the right side.
 
 ghost use Rattle.std.specs.Prelude.{IsTrue};
 ghost use Rattle.tv_simplex.specs.Views.{equations};

@@ -115,11 +115,11 @@ linear-edges variables locations start edges h = each edges h.edges_fit where
 
 -- ---- the limits of the cases
 
-cases-few : (n k : ℕ) (before : List LinearCase) (es : List Transition) (all : List LinearCase) → cases_from n k before es ≡ Ok all → are_few before ≡ true → are_few all ≡ true
-cases-few n k before [] all h few = let e : before ≡ all = cc in ap are_few (sym e) ∙ few
-cases-few n k before (e ∷ es) all h few =
+cases-bounded : (n k : ℕ) (before : List LinearCase) (es : List Transition) (all : List LinearCase) → cases_from n k before es ≡ Ok all → are_few before ≡ true → are_few all ≡ true
+cases-bounded n k before [] all h bounded = let e : before ≡ all = cc in ap are_few (sym e) ∙ bounded
+cases-bounded n k before (e ∷ es) all h bounded =
     let r = cases_from-ok n k before all e es h in
-    cases-few n (suc k) (before ++ edge_cases n e) es all r.later r.few
+    cases-bounded n (suc k) (before ++ edge_cases n e) es all r.later r.bounded
 
 cases-are : (n locations k : ℕ) (before : List LinearCase) (es : List Transition) (all : List LinearCase) → cases_from n k before es ≡ Ok all → All (IsFit n locations) es → All (IsCase n locations) before → All (IsCase n locations) all
 cases-are n locations k before [] all h fit cases = let e : before ≡ all = cc in subst (All (IsCase n locations)) e cases
@@ -130,13 +130,13 @@ cases-are n locations k before (e ∷ es) all h fit cases =
 
 pub are-cases : (n locations start : ℕ) (es : List Transition) (all : List LinearCase) → IsWithinLimits n locations start es → cases_from n 0 [] es ≡ Ok all → AreCases (record { variables = n; locations = locations; start = start; cases = all })
 are-cases n locations start es all h ok =
-    let few = and_parts (nat_le (length all) 8192) (nat_le (sum (map coefficients all)) 8000000) (cases-few n 0 [] es all ok refl) in
+    let bounded = and_parts (nat_le (length all) 8192) (nat_le (sum (map coefficients all)) 8000000) (cases-bounded n 0 [] es all ok refl) in
     record {
       few_variables = at_most-true n 512 h.few_variables;
       few_locations = at_most-true locations 1024 h.few_locations;
       starts = ltb-true start locations h.starts;
-      few_cases = at_most-true (length all) 8192 few.0;
-      few_coefficients = at_most-true (sum (map coefficients all)) 8000000 few.1;
+      few_cases = at_most-true (length all) 8192 bounded.0;
+      few_coefficients = at_most-true (sum (map coefficients all)) 8000000 bounded.1;
       cases = cases-are n locations 0 [] es all ok (fits-edges n locations es h.edges_fit) (All-nil (IsCase n locations));
     }
 

@@ -29,7 +29,7 @@ from_zero z a e = omega (arith, ints)
 from_one : (z a : ℤ) → z ≡ pos 1 → z *ℤ a ≡ a
 from_one z a e = ap (λ y. y *ℤ a) e ∙ omega (arith, ints)
 
--- the point has one number for each column, and the draws behind the first n
+-- the point has one number for each column, and the draws after the first n
 module _ (n w : ℕ) (point ds : List ℤ) (terms : List Linear) (wide : length point ≤ w) (drawn : (d : ℕ) → get_or point (n + d) (pos 0) ≡ get_or ds d (pos 0)) where
   mutual
     pub form-value : (e : Expression) → is_linear e ≡ true → value (form n w terms e) point ≡ value_of e (values point terms) ds

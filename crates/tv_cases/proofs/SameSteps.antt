@@ -122,13 +122,13 @@ edge_cases-ends n e c among =
 -- ---- the program
 
 pub record AllOf (n k : ℕ) (before all : List LinearCase) (e : Transition) (es : List Transition) : Type 0 where
-  pub few : are_few (before ++ edge_cases n e) ≡ true
+  pub bounded : are_few (before ++ edge_cases n e) ≡ true
   pub later : cases_from n (suc k) (before ++ edge_cases n e) es ≡ Ok all
 
 pub cases_from-ok : (n k : ℕ) (before all : List LinearCase) (e : Transition) (es : List Transition) → cases_from n k before (e ∷ es) ≡ Ok all → AllOf n k before all e es
 cases_from-ok n k before all e es h = by_width (edge_is_narrow n e) h where
   by_count : (b : Bool) → are_few (before ++ edge_cases n e) ≡ b → cond b (cases_from n (suc k) (before ++ edge_cases n e) es) (Err (too_many k)) ≡ Ok all → AllOf n k before all e es
-  by_count true is h = record { few = is; later = h }
+  by_count true is h = record { bounded = is; later = h }
   by_count false is h = cc
 
   by_width : (b : Bool) → cond b (cond (are_few (before ++ edge_cases n e)) (cases_from n (suc k) (before ++ edge_cases n e) es) (Err (too_many k))) (Err (wide k)) ≡ Ok all → AllOf n k before all e es

@@ -32,7 +32,7 @@ Lists n edges answer = MatchResult answer (λ v. cases_from n 0 [] edges ≡ Ok 
 
 -- there are few cases so far, and their coefficients are counted
 pub record IsCollected (c : Collected) : Type 0 where
-  pub few : are_few (case_views c.cases.items) ≡ true
+  pub bounded : are_few (case_views c.cases.items) ≡ true
   pub counted : c.coefficients ≡ sum (map coefficients (case_views c.cases.items))
 
 -- what was collected is the cases before and those of a narrow edge

@@ -17,7 +17,7 @@ use std::alloc::Global;
 use tv_linear::{Row, Total};
 use tv_program::Expr;
 
-/// The linear form of an expression over the terms of the variables; the draws are the columns behind the variables.
+/// The linear form of an expression over the terms of the variables; the draws are the columns after the variables.
 #[cycle(forms)]
 pub(crate) fn form_of(
     alloc: Global,
@@ -25,7 +25,7 @@ pub(crate) fn form_of(
     terms: &Terms,
     width: u32,
 ) -> Result<Row, PartFault>
-    requires few { width < 2 ^ 32 - 1 }
+    requires bounded { width < 2 ^ 32 - 1 }
     requires even { All (λ t. columns t ≡ width) terms.now }
     requires linear { IsTrue (is_linear (expression expr.now)) }
     ensures exact { let n = length terms.now in
@@ -48,7 +48,7 @@ pub(crate) fn form_of(
 
 #[cycle(forms)]
 fn sum_of(alloc: Global, parts: &[Expr], terms: &Terms, width: u32) -> Result<Row, PartFault>
-    requires few { width < 2 ^ 32 - 1 }
+    requires bounded { width < 2 ^ 32 - 1 }
     requires even { All (λ t. columns t ≡ width) terms.now }
     requires linear { IsTrue (is_linear (sum (expressions parts.now))) }
     ensures exact { let n = length terms.now in
@@ -72,7 +72,7 @@ fn sum_of(alloc: Global, parts: &[Expr], terms: &Terms, width: u32) -> Result<Ro
 
 #[cycle(forms)]
 fn product_of(alloc: Global, parts: &[Expr], terms: &Terms, width: u32) -> Result<Row, PartFault>
-    requires few { width < 2 ^ 32 - 1 }
+    requires bounded { width < 2 ^ 32 - 1 }
     requires even { All (λ t. columns t ≡ width) terms.now }
     requires linear { IsTrue (is_linear (product (expressions parts.now))) }
     ensures exact { let n = length terms.now in
@@ -99,7 +99,7 @@ fn product_of(alloc: Global, parts: &[Expr], terms: &Terms, width: u32) -> Resul
 
 /// The term of a variable, 0 where it is none of them.
 fn variable_row(alloc: Global, terms: &Terms, variable: u32, width: u32) -> Result<Row, PartFault>
-    requires few { width < 2 ^ 32 - 1 }
+    requires bounded { width < 2 ^ 32 - 1 }
     requires even { All (λ t. columns t ≡ width) terms.now }
     ensures exact { let term = slice_index_or terms.now variable (constant_row width (pos 0)) in Gives (is_narrow term) term result }
     ensures even { IfOk result (λ row. columns row ≡ width) }
@@ -110,9 +110,9 @@ fn variable_row(alloc: Global, terms: &Terms, variable: u32, width: u32) -> Resu
     }
 }
 
-/// The column of a draw, behind the columns of the variables.
+/// The column of a draw, after the columns of the variables.
 fn draw_row(alloc: Global, variables: usize, draw: u32, width: u32) -> Result<Row, PartFault>
-    requires few { width < 2 ^ 32 - 1 }
+    requires bounded { width < 2 ^ 32 - 1 }
     requires short { variables < 2 ^ 63 }
     ensures exact { Gives (is_narrow (column_row width (variables + draw))) (column_row width (variables + draw)) result }
     ensures even { IfOk result (λ row. columns row ≡ width) }

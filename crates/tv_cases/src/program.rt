@@ -32,7 +32,7 @@ pub(crate) struct Collected {
 /// How many variables are assigned.
 fn assigned_variables(commands: &[Command], variables: u32) -> u64
     ensures is { result ≡ assigned_below (map instruction commands.now) variables }
-    ensures few { result ≤ variables }
+    ensures bounded { result ≤ variables }
 {
     let mut count = 0;
     for variable in 0..variables {
@@ -46,7 +46,7 @@ fn assigned_variables(commands: &[Command], variables: u32) -> u64
 /// The coefficients of so many lists, each with so many updates.
 fn all_coefficients(amount: Amount, updates: u64, width: u64) -> u64
     requires capped { IsCapped amount }
-    requires few { updates ≤ 512 }
+    requires bounded { updates ≤ 512 }
     requires narrow { width ≤ 576 }
     ensures { result ≡ capped ((amount.rows + amount.lists * updates) * width) }
 {
@@ -55,7 +55,7 @@ fn all_coefficients(amount: Amount, updates: u64, width: u64) -> u64
 
 /// How many coefficients the cases of an edge will have.
 fn edge_coefficients(edge: &Edge, count: Amount, variables: u32) -> u64
-    requires few { variables ≤ 512 }
+    requires bounded { variables ≤ 512 }
     requires draws { edge.now.draws ≤ 64 }
     requires capped { IsCapped count }
     requires counted { count ≡ amount_after (amount 1 0) (transition edge.now).instructions }
@@ -86,7 +86,7 @@ fn appended(mut first: Vec<Case>, second: Vec<Case>) -> Result<Vec<Case>, AllocE
 
 /// The fault of an edge with which there are too many cases.
 fn too_many(alloc: Global, edge: &Edge, variables: u32) -> EdgeFault
-    requires few { variables ≤ 512 }
+    requires bounded { variables ≤ 512 }
     requires linear { IsLinearEdge (transition edge.now) }
     ensures { IsEdgeFault (edge_is_narrow variables (transition edge.now)) false result }
 {
@@ -103,7 +103,7 @@ fn with_edge(
     edge: &Edge,
     variables: u32,
 ) -> Result<Collected, EdgeFault>
-    requires few { variables ≤ 512 }
+    requires bounded { variables ≤ 512 }
     requires linear { IsLinearEdge (transition edge.now) }
     requires so_far { IsCollected so_far }
     ensures { AddsEdge variables (case_views so_far.cases.items) (transition edge.now) result }
@@ -136,7 +136,7 @@ fn with_edge(
 
 /// The cases of the edges, in order.
 fn listed(alloc: Global, edges: &[Edge], variables: u32) -> Result<Vec<Case>, CaseFault>
-    requires few { length edges.now < 2 ^ 32 }
+    requires bounded { length edges.now < 2 ^ 32 }
     requires variables { variables ≤ 512 }
     requires linear { All (λ e. IsLinearEdge (transition e)) edges.now }
     ensures { Lists variables (transitions edges.now) result }
@@ -183,7 +183,7 @@ fn of_edges(
 /// The linear cases of a program: it steps exactly where one of them does.
 ///
 /// Each command is executed on linear terms over the variables and the draws. An assumption becomes lists of rows, one of
-/// which has to be met whole; each list of an edge is one case. Of several faults that of the first edge is told, and of two
+/// which has to be met whole; each list of an edge is one case. Of several faults that of the first edge is reported, and of two
 /// at one edge `Wide`.
 pub fn cases(alloc: Global, program: &Program) -> Result<Cases, CaseFault>
     ensures exact { Answers (system_of program.now) result }

@@ -49,7 +49,7 @@ pub(crate) fn one_row(alloc: Global, width: u32) -> Result<Row, PartFault>
 }
 
 pub(crate) fn column_row(alloc: Global, width: u32, column: u32) -> Result<Row, PartFault>
-    requires few { width < 2 ^ 32 - 1 }
+    requires bounded { width < 2 ^ 32 - 1 }
     requires inside { column < width }
     ensures exact { Gives (is_narrow (column_row width column)) (column_row width column) result }
     ensures even { IfOk result (λ row. columns row ≡ width) }

@@ -10,7 +10,7 @@ use Rattle.tv_linear.proofs.PackedLemmas.{length-packed, narrow-packed, unpacked
 use Rattle.tv_cert.specs.declared.node.Mark.{Mark}
 use Rattle.tv_cert.specs.MarkedRows.{marked, marked_in}
 
--- the rows behind others
+-- the rows after others
 pub ranks_enough : (n count : ℕ) (zs : List ℤ) → (length zs / (n + 1) - count) * (n + 1) ≤ length (drop (count * (n + 1)) zs)
 ranks_enough n count zs = let e = div-mul-le_self (length zs) (n + 1) in omega (arith, e, length-drop (count * (n + 1)) zs, times (length zs / (n + 1)) count (n + 1))
   where
@@ -18,7 +18,7 @@ ranks_enough n count zs = let e = div-mul-le_self (length zs) (n + 1) in omega (
     times q c w = omega (arith, mul-sub w q c)
 
 pub ranks_packed : (n count : ℕ) (zs : List ℤ) → ArePacked n count zs → ArePacked n (length zs / (n + 1) - count) (drop (count * (n + 1)) zs)
-ranks_packed n count zs h = record { enough = ranks_enough n count zs; narrow = All-drop (IsWithin 62) (count * (n + 1)) zs h.narrow; few = h.few }
+ranks_packed n count zs h = record { enough = ranks_enough n count zs; narrow = All-drop (IsWithin 62) (count * (n + 1)) zs h.narrow; bounded = h.bounded }
 
 pub rows_columns : (n count : ℕ) (zs : List ℤ) → ArePacked n count zs → All (λ r. columns r ≡ n) (unpacked n count zs)
 rows_columns n count zs h = unpacked-columns n count zs h.enough
@@ -35,12 +35,12 @@ unpacked_narrow n (suc count) zs h =
     (record {
       coefficients = All-take (IsWithin 62) n zs h.narrow;
       constant = All-get_or (IsWithin 62) zs n (pos 0) (omega (arith, enough)) h.narrow;
-      few = (let w = length-take-le n zs (omega (arith, enough)) in let f = h.few in omega (arith, f, w));
+      bounded = (let w = length-take-le n zs (omega (arith, enough)) in let f = h.bounded in omega (arith, f, w));
     })
     (unpacked_narrow n count (drop (suc n) zs) (record {
       enough = (let d = length-drop (suc n) zs in omega (arith, enough, d));
       narrow = All-drop (IsWithin 62) (suc n) zs h.narrow;
-      few = h.few;
+      bounded = h.bounded;
     }))
 
 module _ (n : ℕ) (rows ranks : List Linear) (even : All (λ r. columns r ≡ n) rows) (level : All (λ r. columns r ≡ n) ranks) where
@@ -48,10 +48,10 @@ module _ (n : ℕ) (rows ranks : List Linear) (even : All (λ r. columns r ≡ n
   many = let a = length-packed n rows even in let b = length-packed n ranks level in omega (arith, a, b, length-append (packed rows) (packed ranks))
 
   pub both_packed : n < 2 ^ 32 - 1 → All IsNarrow rows → All IsNarrow ranks → ArePacked n (length rows) (packed rows ++ packed ranks)
-  both_packed few a b = record {
+  both_packed bounded a b = record {
     enough = (let e = many in omega arith);
     narrow = All-append (IsWithin 62) (packed rows) (packed ranks) (narrow-packed rows a) (narrow-packed ranks b);
-    few = few;
+    bounded = bounded;
   }
 
   -- the piece is found again in its numbers

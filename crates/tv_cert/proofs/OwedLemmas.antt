@@ -12,7 +12,7 @@ use Rattle.tv_cases.proofs.OptionLemmas.{some_same}
 pub shows_as : (n : ℕ) (known rows : List Known) (place : ℕ) (ms : List ℤ) (shown : Bool) (row : Known) → slice_get rows place ≡ Some row → (IsTrue shown ↔ Refutes n (known ++ denied row ∷ []) ms) → ShowsRow n known rows place ms shown
 shows_as n known rows place ms shown row at h = λ other there. subst (λ r. IsTrue shown ↔ Refutes n (known ++ denied r ∷ []) ms) (some_same row other (sym at ∙ there)) h
 
--- ---- one list behind another
+-- ---- one list after another
 
 pub get_second : {A : Type 0} (xs ys : List A) (i j : ℕ) → i ≡ length xs + j → slice_get (xs ++ ys) i ≡ slice_get ys j
 get_second [] ys i j e = (let k : i ≡ j = omega (arith, e) in ap (λ m. slice_get ys m) k)

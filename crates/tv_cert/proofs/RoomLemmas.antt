@@ -39,8 +39,8 @@ few_joined f most each (x ∷ xs) =
 pub steps_few : (number : ℕ) (about : About) (p : Marked) (ps : List Marked) (fall : LinearCase → Marked → ℕ → Option (List Known)) → length (steps_of number about p ps fall) ≤ length about.system.cases
 steps_few number about p ps fall =
     let many = length-map (leaving (place_of p) about.system.cases) (step_of number about p ps fall) in
-    let few = few_left (λ c. c.from == place_of p) about.system.cases in
-    omega (arith, many, few)
+    let bounded = few_left (λ c. c.from == place_of p) about.system.cases in
+    omega (arith, many, bounded)
 
 go_few : (number : ℕ) (about : About) (path : Path) (shape : Shape) (ps : List Marked) (p : Marked) → length (go_of number about path shape ps p) ≤ 1 + length about.system.cases
 go_few number about Every Until ps p = omega (arith, steps_few number about p ps (step_fall about p))

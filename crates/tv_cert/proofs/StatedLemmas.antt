@@ -41,7 +41,7 @@ pub root_same : (system : CaseSystem) (ps : List Marked) (verdict : Verdict) →
 root_same system ps (Proved start) = refl
 root_same system ps (Disproved k values) = refl
 
--- ---- the statements behind the first i
+-- ---- the statements after the first i
 abbrev pub past : ℕ → Statements → Statements
 past zero ss = ss
 past (suc i) no_statement = no_statement

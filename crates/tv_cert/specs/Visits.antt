@@ -17,7 +17,7 @@ pub record Stopped {S : Type 0} (passes stops : S → Obligation → S → Type 
   pub passed : Passed passes s before at
   pub stopped : stops at last u
 
--- whether the visit of the obligations went on behind the last, and that room was taken for no more than these
+-- whether the visit of the obligations went on after the last, and that room was taken for no more than these
 abbrev pub Visits : {S : Type 0} → (S → Obligation → S → Type 0) → (S → Obligation → S → Type 0) → (S → ℕ) → Bool → S → List Obligation → S → Type 0
 Visits passes stops room true s os u = Passed passes s os u × (room s ≤ room u + length os)
 Visits passes stops room false s os u = Stopped passes stops s os u × (room s ≤ room u + length os)

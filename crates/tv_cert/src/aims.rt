@@ -60,7 +60,7 @@ fn along(
 
 #[cycle(aims)]
 fn aim_of_tree(alloc: Global, tree: &Tree, variables: u32) -> Result<Aim, AllocError>
-    requires few { variables < 2 ^ 32 - 1 }
+    requires bounded { variables < 2 ^ 32 - 1 }
     requires statable { IsStatable (property tree.now) }
     ensures { IfOk result (λ aim. aim_states aim ≡ stated (comparison_lists variables) (property tree.now)) }
 {
@@ -89,7 +89,7 @@ fn aim_of_tree(alloc: Global, tree: &Tree, variables: u32) -> Result<Aim, AllocE
 
 #[cycle(aims)]
 fn aims_of(alloc: Global, parts: &[Tree], variables: u32) -> Result<Vec<Aim>, AllocError>
-    requires few { variables < 2 ^ 32 - 1 }
+    requires bounded { variables < 2 ^ 32 - 1 }
     requires statable { AreStatable (properties parts.now) }
     ensures { IfOk result (λ aims. aims_state aims.items ≡ stated_all (comparison_lists variables) (properties parts.now)) }
 {
@@ -102,7 +102,7 @@ fn aims_of(alloc: Global, parts: &[Tree], variables: u32) -> Result<Vec<Aim>, Al
 
 /// What a normal formula states, its comparisons as lists of rows.
 pub(crate) fn aim_of(alloc: Global, formula: &Formula) -> Result<Aim, AllocError>
-    requires few { variables_of formula.now < 2 ^ 32 - 1 }
+    requires bounded { variables_of formula.now < 2 ^ 32 - 1 }
     requires normal { IsTrue (is_normal (property_of formula.now)) }
     ensures { IfOk result (λ aim. aim_states aim ≡ stated (comparison_lists (variables_of formula.now)) (property_of formula.now)) }
 {

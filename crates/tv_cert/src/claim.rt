@@ -29,7 +29,7 @@ impl Claim {
 
     /// The claim of a property.
     pub fn new(alloc: Global, property: &Formula) -> Result<Claim, AllocError>
-        requires few { variables_of property.now < 2 ^ 32 - 1 }
+        requires bounded { variables_of property.now < 2 ^ 32 - 1 }
         ensures of_property { IfOk result (λ c. IsClaim c (property_of property.now)) }
         ensures variables { IfOk result (λ c. claim_variables c ≡ variables_of property.now) }
         ensures locations { IfOk result (λ c. claim_locations c ≡ locations_of property.now) }

@@ -11,5 +11,5 @@ pub struct Fall<'a> {
     pub place: usize,
     pub ghost before: { place < length (rows_seen old) },
     pub ghost after: { place < length (rows_seen new) },
-    pub ghost few: { place < 2 ^ 32 },
+    pub ghost bounded: { place < 2 ^ 32 },
 }

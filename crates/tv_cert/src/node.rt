@@ -24,7 +24,7 @@ pub struct Marked {
     mark: Mark,
     /// How many rows there are before the ranks.
     rows: u32,
-    /// The numbers of the rows and then of the ranks, each constant behind the coefficients of its row.
+    /// The numbers of the rows and then of the ranks, each constant after the coefficients of its row.
     numbers: Vec<i64>,
 }
 
@@ -40,7 +40,7 @@ impl Model for Marked {
 }
 
 impl Marked {
-    /// The piece of so many rows with which the numbers begin; its ranks stand behind them. It takes no memory, and keeps the list's.
+    /// The piece of so many rows with which the numbers begin; its ranks stand after them. It takes no memory, and keeps the list's.
     pub fn from_numbers(
         location: u32,
         mark: Mark,

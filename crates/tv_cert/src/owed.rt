@@ -35,7 +35,7 @@ pub struct OwedRows<'a, 'b> {
 impl Fall<'_> {
     fn count(&self) -> usize
         ensures many { (change : Linear → Known) → result ≡ length (fall_listed change (Some self.now)) }
-        ensures few { result < 2 ^ 33 }
+        ensures bounded { result < 2 ^ 33 }
     {
         self.place + 2
     }

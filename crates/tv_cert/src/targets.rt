@@ -51,7 +51,7 @@ pub fn pieces_into<'a>(
 ) -> Targets<'a>
     ensures owed { (change : Linear → Known) →
         owed_at change result ≡ owed_into into.now location change (falls_where falls change piece.now) }
-    ensures few { length into.now < 2 ^ 32 → length (ranks_of piece.now) < 2 ^ 32 → AreFew result }
+    ensures bounded { length into.now < 2 ^ 32 → length (ranks_of piece.now) < 2 ^ 32 → AreFew result }
 {
     if falls {
         let from = Some(piece);
@@ -79,7 +79,7 @@ pub fn targets_after<'a>(
     ensures owed { let taken = case_view case.now in
         (n : ℕ) → (draws : List Linear) →
         owed_at (drawn_change n taken draws) result ≡ destination_owes n piece.now destination.now taken draws }
-    ensures few { AreFewAt piece.now destination.now → AreFew result }
+    ensures bounded { AreFewAt piece.now destination.now → AreFew result }
 {
     match destination {
         Destination::Anywhere => Targets::Truth(true),

@@ -20,7 +20,7 @@ pub trait Visitor {
     /// How many obligations more it has room for.
     ghost room: { Self → ℕ };
 
-    /// Whether the visitor goes on behind this obligation of the node.
+    /// Whether the visitor goes on after this obligation of the node.
     fn visit(&mut self, about: &Cases, node: u32, kind: Kind, owes: &Owes) -> bool
         requires owed { OwedIn (cases_of about.now) owes.now }
         requires room { 0 < room self.old }

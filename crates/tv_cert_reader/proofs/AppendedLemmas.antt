@@ -1,4 +1,4 @@
--- What is read of rows whose numbers stand one behind another.
+-- What is read of rows whose numbers stand one after another.
 use Rattle.std.proofs.Common.{◌≡◌, ℕ, ◌+◌, ◌-◌, ◌^◌, ◌<◌, ℤ, pos, List, [], ◌∷◌, ◌++◌, length, take, get_or, arith, refl, sym, ap, ◌∙◌, subst}
 use Rattle.std.specs.Prelude.{All}
 use Rattle.std.proofs.lemmas.List.{append-nil, flat_map_more, take_all, take_more, length-take-le}
@@ -20,20 +20,20 @@ module _ (width : ℕ) (ns : List ℤ) (many : length ns ≡ width + 1) where
   row_whole = sym (take_all (width + 1) ns (omega (arith, many))) ∙ take_more ns width (pos 0) (omega (arith, many))
 
   row_narrow : width < 2 ^ 32 - 1 → All (IsWithin 62) ns → IsNarrow (first_row width ns)
-  row_narrow few narrow = record {
+  row_narrow bounded narrow = record {
     coefficients = All-take (IsWithin 62) width ns narrow;
     constant = All-get_or (IsWithin 62) ns width (pos 0) (omega (arith, many)) narrow;
-    few = omega (arith, few, length-take-le width ns (omega (arith, many)));
+    bounded = omega (arith, bounded, length-take-le width ns (omega (arith, many)));
   }
 
   pub row_appended : (s : NumberLine) (zs ys : List ℤ) (old new : Cursor) → width < 2 ^ 32 - 1 → All (IsWithin 62) ns → ys ≡ zs ++ ns → Takes (numbers_line s ns) old new → (row : Linear) × IsAppended width zs ys row × Takes (one_row s row) old new
-  row_appended s zs ys old new few narrow more t = (
+  row_appended s zs ys old new bounded narrow more t = (
     first_row width ns,
-    record { wide = length-take-le width ns (omega (arith, many)); narrow = row_narrow few narrow; numbers = more ∙ ap (λ xs. zs ++ xs) row_whole },
+    record { wide = length-take-le width ns (omega (arith, many)); narrow = row_narrow bounded narrow; numbers = more ∙ ap (λ xs. zs ++ xs) row_whole },
     subst (λ xs. Takes (numbers_line s xs) old new) row_whole t,
   )
 
--- rows that are read so far, and whose numbers stand behind others
+-- rows that are read so far, and whose numbers stand after others
 abbrev pub Appended : NumberLine → ℕ → List ℤ → List ℤ → Cursor → ℕ → Cursor → Type 0
 Appended s width zs ys old i now = (rows : List Linear) × Gathered (IsWide width) (one_row s) old i now rows × All IsNarrow rows × (ys ≡ zs ++ packed rows)
 

@@ -52,9 +52,9 @@ falls_few p into l k j n true a b e = (let h = few_ranked p into l k j n e in (o
 falls_few p into l k j n false a b e = (let h = few_into None into l k j n e in (omega (arith, h.0, a), omega (arith, h.1)))
 
 pub few_taken : (system : CaseSystem) (p : Marked) (destination : Destination) (case : LinearCase) (draws : List Linear) (k j n : ℕ) → AreFewAt p destination → owed_count (destination_owes system.variables p destination case draws) k j ≡ Some n → (k < 2 ^ 32) × (j < 2 ^ 32)
-few_taken system p Anywhere case draws k j n few e = (let h = few_lists ([] ∷ []) k j n e in (omega (arith, h.0), omega (arith, h.1)))
-few_taken system p (Into pieces falls) case draws k j n few e =
-    falls_few p pieces.now case.to k j n falls few.0 few.1 (sym (count_same (drawn_change system.variables case draws) given falls p pieces.now case.to k j) ∙ e)
+few_taken system p Anywhere case draws k j n bounded e = (let h = few_lists ([] ∷ []) k j n e in (omega (arith, h.0), omega (arith, h.1)))
+few_taken system p (Into pieces falls) case draws k j n bounded e =
+    falls_few p pieces.now case.to k j n falls bounded.0 bounded.1 (sym (count_same (drawn_change system.variables case draws) given falls p pieces.now case.to k j) ∙ e)
 
 -- ---- the numbers of a line that takes a case
 

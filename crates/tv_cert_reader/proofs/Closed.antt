@@ -1,4 +1,4 @@
--- Nothing in a certificate goes on behind its last line, whatever stands there.
+-- Nothing in a certificate goes on after its last line, whatever stands there.
 use Rattle.std.proofs.Common.{ℕ, zero, suc, ◌+◌, ℤ, Bool, true, false, List, [], ◌∷◌, length, Option, Some, None, refl}
 use Rattle.std.specs.Prelude.{slice_get, ◌==◌}
 use Rattle.tv_grammar.specs.Langs.{unit, then, mapped, stop, go, headed, times, each}

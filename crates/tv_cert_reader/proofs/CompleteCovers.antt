@@ -32,7 +32,7 @@ use Rattle.tv_cert_reader.specs.ChoiceGrammar.{Choosing, stop_cover, no_step, no
 use Rattle.tv_cert_reader.proofs.CompleteReads.{then_read, mapped_read, each_read}
 use Rattle.tv_cert_reader.proofs.CompleteParts.{numbers_long, draws_read, lists_read}
 
--- ---- what stands behind a first line
+-- ---- what follows a first line
 
 pub both_read : (a b : Grammar (Unit {0})) (xs ys rest : List PlainLine) → ((r : List PlainLine) → a.read (xs ++ r) ≡ Ok (tt, r)) → b.read (ys ++ rest) ≡ Ok (tt, rest) → (both a b).read ((xs ++ ys) ++ rest) ≡ Ok (tt, rest)
 both_read a b xs ys rest first second =

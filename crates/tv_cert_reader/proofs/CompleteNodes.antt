@@ -24,7 +24,7 @@ use Rattle.tv_cert_reader.proofs.CompleteDemands.{draw_free}
 use Rattle.tv_cert_reader.proofs.CompleteWanted.{demands_same}
 
 module _ (over : Bool) (system : CaseSystem) where
-  -- ---- one node, told its children
+  -- ---- one node, given its children
   module _ (s : Statement) (m : ℕ) (ps : List Marked) (kids : List (List Marked)) (offered : List Proof) (h : OwnShape system s m ps kids offered) where
     pub node_proofs_read : (rest : List PlainLine) → (proofs over system s (region_of m (outlines ps)) (map outlines kids)).read (flat_map proof_lines offered ++ rest) ≡ Ok (tt, rest)
     node_proofs_read rest =

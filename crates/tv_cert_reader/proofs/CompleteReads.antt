@@ -6,7 +6,7 @@ use Rattle.std.proofs.lemmas.List.Elements.{All-head, All-tail}
 use Rattle.tv_grammar.specs.Reads.{◌>>=◌}
 use Rattle.tv_grammar.specs.Langs.{Lang, unit, then, mapped, times, each}
 
--- behind a front that is read
+-- after a front that is read
 pub then_read : {T K X Y : Type 0} (a : Lang T K X) (b : X → Lang T K Y) (ts : List T) (x : X) (r : List T) → a.read ts ≡ Ok (x, r) → (then a b).read ts ≡ (b x).read r
 then_read a b ts x r e = ap (λ o. o >>= λ p. (b p.0).read p.1) e
 

@@ -83,11 +83,11 @@ few_truths true = omega arith
 few_truths false = omega arith
 
 pub few_targets : (ts : Targets) (k j n : ℕ) → AreFew ts → counts_of ts k j ≡ Some n → (k < 2 ^ 32) × (j < 2 ^ 32)
-few_targets targets.Nowhere k j n few e = absurd (let h : ⊥ = cc in h)
-few_targets (targets.Lists lists) k j n few e = (let h = few_lists (map (λ l. l.items) lists.now) k j n e in let m = length-map lists.now (λ (l : Vec Row). l.items) in (omega (arith, h.0, m, few), omega (arith, h.1)))
-few_targets (targets.Truth t) k j n few e = (let h = few_lists (truth_targets t) k j n e in let m = few_truths t in (omega (arith, h.0, m), omega (arith, h.1)))
-few_targets (targets.Joined nodes l) k j n few e = (let h = few_into None (flat_map (λ a. a) (map pieces_list nodes.now)) l k j n e in (omega (arith, h.0, few), omega (arith, h.1)))
-few_targets (targets.Pieces from into l) k j n few e = (let h = few_into from into.now l k j n e in (omega (arith, h.0, few.0), omega (arith, h.1, few.1)))
+few_targets targets.Nowhere k j n bounded e = absurd (let h : ⊥ = cc in h)
+few_targets (targets.Lists lists) k j n bounded e = (let h = few_lists (map (λ l. l.items) lists.now) k j n e in let m = length-map lists.now (λ (l : Vec Row). l.items) in (omega (arith, h.0, m, bounded), omega (arith, h.1)))
+few_targets (targets.Truth t) k j n bounded e = (let h = few_lists (truth_targets t) k j n e in let m = few_truths t in (omega (arith, h.0, m), omega (arith, h.1)))
+few_targets (targets.Joined nodes l) k j n bounded e = (let h = few_into None (flat_map (λ a. a) (map pieces_list nodes.now)) l k j n e in (omega (arith, h.0, bounded), omega (arith, h.1)))
+few_targets (targets.Pieces from into l) k j n bounded e = (let h = few_into from into.now l k j n e in (omega (arith, h.0, bounded.0), omega (arith, h.1, bounded.1)))
 
 -- ---- the numbers of a target and a fall
 

@@ -57,7 +57,7 @@ module _ (system : CaseSystem) (some : 0 < system.locations) (sides : Sides) whe
   both_read : (ls us rest other : List PlainLine) (os : List Outline) → ls ≡ disproved us → (node false system sides.denied).read us ≡ Ok (os, rest) → (a : NamesNoPiece system sides ls other) → ◌≡◌ {A = List Outline × List PlainLine} ((node false system sides.denied).value a.nodes, other) (os, rest)
   both_read ls us rest other os is e a = ok_is {E = Fault PlainLine LineKind} {A = List Outline × List PlainLine} ((node false system sides.denied).value a.nodes, other) (os, rest) (sym (nodes_read ls us other is a) ∙ e)
 
-  -- where what stands behind the nodes is no line of values
+  -- where what follows the nodes is no line of values
   pub line_fails : (ls us rest : List PlainLine) (os : List Outline) → ls ≡ disproved us → (node false system sides.denied).read us ≡ Ok (os, rest) → ((place : ℕ) (values : List ℤ) (behind : List PlainLine) → length values ≡ system.variables → rest ≡ formed heads.At (pos place ∷ values) ∷ behind → ⊥) → NamesPieces system sides ls
   line_fails ls us rest os is e none other a =
       let left : other ≡ rest = ap (λ (p : List Outline × List PlainLine). p.1) (both_read ls us rest other os is e a) in

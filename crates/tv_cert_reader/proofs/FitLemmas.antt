@@ -53,14 +53,14 @@ parts_short depth (fix path shape f g) h =
 
 mutual
   goes_within : (about : About) (f : Property) (n : Node) (depth : ℕ) → HasShape about f n → depth + operators f ≤ 256 → GoesWithin depth n
-  goes_within about f (Node' ps m shape kids proofs) depth h few =
-      (omega (arith, few), shapes_shallow depth _ proofs.items (omega (arith, few)) h.0.offered, kids_within about (parts f) kids (depth + 1) (subst (λ ss. KidsShape about.system ss kids) (parts-stated about f) h.1) (parts_short depth f few))
+  goes_within about f (Node' ps m shape kids proofs) depth h bounded =
+      (omega (arith, bounded), shapes_shallow depth _ proofs.items (omega (arith, bounded)) h.0.offered, kids_within about (parts f) kids (depth + 1) (subst (λ ss. KidsShape about.system ss kids) (parts-stated about f) h.1) (parts_short depth f bounded))
 
   kids_within : {k : _} (about : About) (fs : Properties) (kids : Row_of-Node k) (depth : ℕ) → HaveShapes about fs kids → AreShort depth fs → KidsGoWithin depth kids
-  kids_within about none end_of-Node depth h few = tt
-  kids_within about none (more_of-Node a kids) depth h few = absurd h
-  kids_within about (more f fs) end_of-Node depth h few = absurd h
-  kids_within about (more f fs) (more_of-Node a kids) depth h few = (goes_within about f a depth h.0 few.0, kids_within about fs kids depth h.1 few.1)
+  kids_within about none end_of-Node depth h bounded = tt
+  kids_within about none (more_of-Node a kids) depth h bounded = absurd h
+  kids_within about (more f fs) end_of-Node depth h bounded = absurd h
+  kids_within about (more f fs) (more_of-Node a kids) depth h bounded = (goes_within about f a depth h.0 bounded.0, kids_within about fs kids depth h.1 bounded.1)
 
 few_steps : (n : ℕ) → IsTrue (nat_le n 200) → 1 + n ≤ 256
 few_steps n h = grind (arith, nat_tests)

@@ -70,7 +70,7 @@ module _ (P : LineKind → Option PlainLine → Type 0) (allows : Allows P) wher
   take_kinded head zs n known None = allows.shape head zs
   take_kinded head zs n known (Some t) = both_kinded _ _ (many_kinded t.case.draws (draw n) (line_kinded _)) (many_kinded (length t.case.guards + t.owed) (by (known + 1)) (line_kinded _))
 
-  -- what may stand behind a split is told of whichever numbers it has
+  -- what may stand after a split is told of whichever numbers it has
   abbrev Sides_told : (Bool → Behind (Unit {0})) → Type 0
   Sides_told sides = (zs : List ℤ) (wanted : Bool) → KindedBranch P (formed heads.Split zs) (sides wanted)
 

@@ -68,7 +68,7 @@ take_loose n known (Some t) = same_loose not_deep _ (both_kinded (AllKept not_de
 
 -- ---- covers
 
--- what may stand behind a split asks less, whichever numbers it has
+-- what may stand after a split asks less, whichever numbers it has
 abbrev SidesLooser : (Bool → Behind (Unit {0})) → (Bool → Behind (Unit {0})) → Type 0
 SidesLooser b c = (wanted : Bool) → LooserBranch (b wanted) (c wanted)
 

@@ -68,12 +68,12 @@ weight_is (along path shape s t) = omega arith
 weight_is unsaid = refl
 
 lighter : (i : ℕ) (ss : Statements) → i < count ss → weight (part_at i ss) < weights ss
-lighter i no_statement few = absurd (omega (arith, few))
-lighter zero (statement s ss) few = omega arith
-lighter (suc i) (statement s ss) few = (let h = lighter i ss (omega (arith, few)) in omega (arith, h))
+lighter i no_statement bounded = absurd (omega (arith, bounded))
+lighter zero (statement s ss) bounded = omega arith
+lighter (suc i) (statement s ss) bounded = (let h = lighter i ss (omega (arith, bounded)) in omega (arith, h))
 
 pub part_lighter : (i : ℕ) (s : Statement) → i < count (parts_of s) → weight (part_at i (parts_of s)) < weight s
-part_lighter i s few = (let h = lighter i (parts_of s) few in let e = weight_is s in omega (arith, h, e))
+part_lighter i s bounded = (let h = lighter i (parts_of s) bounded in let e = weight_is s in omega (arith, h, e))
 
 -- ---- children as a list
 
@@ -85,18 +85,18 @@ module _ (system : CaseSystem) where
   first_row (statement s ss) (more_of-Node a kids) h n = (h.0, first_row ss kids h.1 (omega (arith, n)))
 
   pub first_next : (ss : Statements) (kids : List Node) (a : Node) → AreFirstOf system ss kids → length kids < count ss → NodeShape system (part_at (length kids) ss) a → AreFirstOf system ss (kids ++ a ∷ [])
-  first_next no_statement kids a h few n = absurd (omega (arith, few))
-  first_next (statement s ss) [] a h few n = (n, tt)
-  first_next (statement s ss) (b ∷ kids) a h few n = (h.0, first_next ss kids a h.1 (omega (arith, few)) n)
+  first_next no_statement kids a h bounded n = absurd (omega (arith, bounded))
+  first_next (statement s ss) [] a h bounded n = (n, tt)
+  first_next (statement s ss) (b ∷ kids) a h bounded n = (h.0, first_next ss kids a h.1 (omega (arith, bounded)) n)
 
   -- the next child fails
   nodes_fault : (ss : Statements) (kids : List Node) (now r : List PlainLine) (k : _) → AreFirstOf system ss kids → length kids < count ss → (node false system (part_at (length kids) ss)).read now ≡ fault k r → (nodes false system ss).read (nodes_lines ss kids ++ now) ≡ fault k r
-  nodes_fault no_statement kids now r k h few e = absurd (omega (arith, few))
-  nodes_fault (statement s ss) [] now r k h few e = ap (λ o. o >>= λ x. (mapped (λ xs. x.0 ∷ xs) (nodes false system ss)).read x.1) e
-  nodes_fault (statement s ss) (a ∷ kids) now r k h few e =
+  nodes_fault no_statement kids now r k h bounded e = absurd (omega (arith, bounded))
+  nodes_fault (statement s ss) [] now r k h bounded e = ap (λ o. o >>= λ x. (mapped (λ xs. x.0 ∷ xs) (nodes false system ss)).read x.1) e
+  nodes_fault (statement s ss) (a ∷ kids) now r k h bounded e =
       ap (nodes false system (statement s ss)).read (append_assoc (node_lines s a) (nodes_lines ss kids) now)
       ∙ then_read (node false system s) (λ os. mapped (λ xs. os ∷ xs) (nodes false system ss)) (node_lines s a ++ (nodes_lines ss kids ++ now)) (outlines (pieces_of a)) (nodes_lines ss kids ++ now) (node_read false system s a (nodes_lines ss kids ++ now) h.0)
-      ∙ ap (λ o. o >>= λ y. Ok (outlines (pieces_of a) ∷ y.0, y.1)) (nodes_fault ss kids now r k h.1 (omega (arith, few)) e)
+      ∙ ap (λ o. o >>= λ y. Ok (outlines (pieces_of a) ∷ y.0, y.1)) (nodes_fault ss kids now r k h.1 (omega (arith, bounded)) e)
 
   -- all children are read
   all_read : (ss : Statements) (kids : List Node) (r : List PlainLine) → AreFirstOf system ss kids → length kids ≡ count ss → (nodes false system ss).read (nodes_lines ss kids ++ r) ≡ Ok (map outlines (map pieces_list kids), r)
@@ -158,17 +158,17 @@ module _ (system : CaseSystem) (s : Statement) (old : Cursor) where
   })
 
   lines_next : (ss : Statements) (kids : List Node) (a : Node) → AreFirstOf system ss kids → length kids < count ss → nodes_lines ss kids ++ node_lines (part_at (length kids) ss) a ≡ nodes_lines ss (kids ++ a ∷ [])
-  lines_next no_statement kids a h few = absurd (omega (arith, few))
-  lines_next (statement t ss) [] a h few = sym (append-nil (node_lines t a))
-  lines_next (statement t ss) (b ∷ kids) a h few =
-      append_assoc (node_lines t b) (nodes_lines ss kids) (node_lines (part_at (length kids) ss) a) ∙ ap (λ ls. node_lines t b ++ ls) (lines_next ss kids a h.1 (omega (arith, few)))
+  lines_next no_statement kids a h bounded = absurd (omega (arith, bounded))
+  lines_next (statement t ss) [] a h bounded = sym (append-nil (node_lines t a))
+  lines_next (statement t ss) (b ∷ kids) a h bounded =
+      append_assoc (node_lines t b) (nodes_lines ss kids) (node_lines (part_at (length kids) ss) a) ∙ ap (λ ls. node_lines t b ++ ls) (lines_next ss kids a h.1 (omega (arith, bounded)))
 
   pub opened_next : (now new : Cursor) (ps : List Marked) (m : ℕ) (kids more_kids : List Node) (a : Node) → Opened system s old now ps m kids → length kids < count (parts_of s) → NodeShape system (part_at (length kids) (parts_of s)) a → Takes (node_lines (part_at (length kids) (parts_of s)) a) now new → more_kids ≡ kids ++ a ∷ [] → Opened system s old new ps m more_kids
-  opened_next now new ps m kids more_kids a o few n took is = subst (Opened system s old new ps m) (sym is) (record {
+  opened_next now new ps m kids more_kids a o bounded n took is = subst (Opened system s old new ps m) (sym is) (record {
     region = o.region;
-    first = first_next system (parts_of s) kids a o.first few n;
+    first = first_next system (parts_of s) kids a o.first bounded n;
     took = takes_as ((region_lines (kind_of s) (ps, m) ++ nodes_lines (parts_of s) kids) ++ node_lines (part_at (length kids) (parts_of s)) a) (region_lines (kind_of s) (ps, m) ++ nodes_lines (parts_of s) (kids ++ a ∷ [])) old new
-        (append_assoc (region_lines (kind_of s) (ps, m)) (nodes_lines (parts_of s) kids) (node_lines (part_at (length kids) (parts_of s)) a) ∙ ap (λ ls. region_lines (kind_of s) (ps, m) ++ ls) (lines_next (parts_of s) kids a o.first few))
+        (append_assoc (region_lines (kind_of s) (ps, m)) (nodes_lines (parts_of s) kids) (node_lines (part_at (length kids) (parts_of s)) a) ∙ ap (λ ls. region_lines (kind_of s) (ps, m) ++ ls) (lines_next (parts_of s) kids a o.first bounded))
         (takes_both (region_lines (kind_of s) (ps, m) ++ nodes_lines (parts_of s) kids) (node_lines (part_at (length kids) (parts_of s)) a) old now new o.took took);
   })
 
@@ -184,12 +184,12 @@ module _ (system : CaseSystem) (s : Statement) (old : Cursor) where
 
     pub child_fails : (f : Failure) → length kids < count (parts_of s) → FailsBy (node false system (part_at (length kids) (parts_of s))) now f → FailsBy (node false system s) old f
     unfolding behind
-    child_fails (Fault k line) few h = record {
+    child_fails (Fault k line) bounded h = record {
       rest = h.rest;
-      read = opened_read ∙ ap (λ r. r >>= λ x. (mapped (λ _. outlines ps) (proofs false system s (region_of m (outlines ps)) x.0)).read x.1) (nodes_fault system (parts_of s) kids now.lines h.rest k o.first few h.read);
+      read = opened_read ∙ ap (λ r. r >>= λ x. (mapped (λ _. outlines ps) (proofs false system s (region_of m (outlines ps)) x.0)).read x.1) (nodes_fault system (parts_of s) kids now.lines h.rest k o.first bounded h.read);
       counted = (let e = o.took.last in let c = h.counted in omega (arith, e, c));
     }
-    child_fails Memory few h = tt
+    child_fails Memory bounded h = tt
 
     module _ (many : length kids ≡ count (parts_of s)) where
       all_opened : (node false system s).read old.lines ≡ (mapped (λ _. outlines ps) (proofs false system s (region_of m (outlines ps)) (map outlines (map pieces_list kids)))).read now.lines

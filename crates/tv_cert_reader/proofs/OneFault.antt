@@ -34,7 +34,7 @@ module _ {T K X : Type 0} (l : Lang T K X) (h : Exact l) (closed : (d : l.Of) (t
   pub left_one : (d e : l.Of) (r s : List T) → l.text d r ≡ l.text e s → r ≡ s
   left_one d e r s is = ap (λ (p : X × List T). p.1) (read_one d e r s is)
 
-  -- no text begins with a whole one and a token behind it
+  -- no text begins with a whole one and a token after it
   ended_stops : (ts r : List T) (t : T) → next r ≡ Some t → (k : K) → Ended l k k ts r → StopsAt l ts r
   ended_stops ts r t at k e = record {
     before = l.text e.it [];

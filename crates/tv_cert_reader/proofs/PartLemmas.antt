@@ -38,7 +38,7 @@ module _ (s : NumberLine) (width : ℕ) where
   row_read row r e = sized_read (tells s) (head_of s) (width + 1) (row.coefficients ++ row.constant ∷ []) r (told s) (numbers_long width row e)
 
   pub rows_fail : (n i : ℕ) (old now : Cursor) (xs : List Linear) (f : Failure) → Gathered (IsWide width) (one_row s) old i now xs → i < n → FailsBy (line_with s (width + 1)) now f → FailsBy (many n (line_with s (width + 1))) old f
-  rows_fail n i old now xs f g few h = many_fails (line_with s (width + 1)) (IsWide width) (one_row s) row_read n i old now xs f g few h
+  rows_fail n i old now xs f g bounded h = many_fails (line_with s (width + 1)) (IsWide width) (one_row s) row_read n i old now xs f g bounded h
 
   pub rows_end : (n i : ℕ) (old now : Cursor) (xs : List Linear) → Gathered (IsWide width) (one_row s) old i now xs → i ≡ n → AreMany (IsWide width) n xs × Takes (row_lines (head_of s) xs) old now
   rows_end n i old now xs g e = (record { many = g.many ∙ e; each = g.each }, takes_as _ (row_lines (head_of s) xs) old now (flat_map_single (row_line (head_of s)) xs) g.took)
@@ -65,7 +65,7 @@ lines_by (v ∷ vs) = ap (λ ls. formed heads.By v.items ∷ ls) (lines_by vs)
 
 module _ (wide : ℕ) where
   pub lists_fail : (n i : ℕ) (old now : Cursor) (vs : List (Vec ℤ)) (f : Failure) → Gathered (AreListed wide) by_line old i now vs → i < n → FailsBy (line_with kinds.By wide) now f → FailsBy (many n (line_with kinds.By wide)) old f
-  lists_fail n i old now vs f g few h = many_fails (line_with kinds.By wide) (AreListed wide) by_line (λ v r p. numbers_read kinds.By wide v.items r p.many) n i old now vs f g few h
+  lists_fail n i old now vs f g bounded h = many_fails (line_with kinds.By wide) (AreListed wide) by_line (λ v r p. numbers_read kinds.By wide v.items r p.many) n i old now vs f g bounded h
 
   pub lists_end : (n i : ℕ) (old now : Cursor) (vs : List (Vec ℤ)) → Gathered (AreListed wide) by_line old i now vs → i ≡ n → AreMany (AreNumbers wide) n (map (λ v. v.items) vs) × Takes (by_lines (map (λ v. v.items) vs)) old now
   lists_end n i old now vs g e = (

@@ -31,7 +31,7 @@ one_longer (t ∷ a) r (u ∷ b) s e =
       | inr x ↦ inr (longer_other t u a r b s is (longer_by t b s a r x))
     ]
 
--- no text goes on behind the place where one stops
+-- no text goes on after the place where one stops
 nothing_between : {T K X : Type 0} (l : Lang T K X) (ts r more : List T) (stop : StopsAt l ts r) (b s between : List T) → b ≡ stop.before ++ between → r ≡ between ++ s → (d : l.Of) → l.text d [] ≡ b ++ more → between ≡ []
 nothing_between l ts r more stop b s [] front left d text = refl
 nothing_between {T} l ts r more stop b s (t ∷ us) front left d text = absurd (stop.none d (t ∷ (us ++ more)) (ap next (sym left)) (text ∙ ap (λ (x : List T). x ++ more) front ∙ append_assoc stop.before (t ∷ us) more))

@@ -24,7 +24,7 @@ use Rattle.tv_cert_reader.specs.Reading.{last_number, Takes, FaultAt, FailsBy, I
 pub at_exit : {X : Type 0} (P : Result X Failure → Type 0) (result : Result X Failure) (e : Failure) → IsErrAnd result (λ d. d ≡ e) → P (Err e) → P result
 at_exit P result e is h = let p = err_from_is_err_and result is in subst P (sym (p.1 ∙ ap Err p.2)) h
 
--- ---- a line and what stands behind it
+-- ---- a line and what follows it
 
 failed_read : {V : Type 0} (cases : PlainLine → Behind V) (ls : List PlainLine) (k : LineKind) → cases formless ≡ stop Syntax → cases wide ≡ stop Wide → IsLineFault k ls → (headed Syntax cases).read ls ≡ fault k ls
 failed_read cases [] k a b h = ap (λ k. fault k []) (sym h)
@@ -45,7 +45,7 @@ line_stops cases old new head zs k t one is = record {
   counted = omega (arith, t.last);
 }
 
--- what stands behind a line fails
+-- what follows a line fails
 pub behind_fails : {V : Type 0} (cases : PlainLine → Behind V) (g : Grammar V) (old new : Cursor) (head : Head) (zs : List ℤ) (f : Failure) → Takes (formed head zs ∷ []) old new → cases (formed head zs) ≡ go g → FailsBy g new f → FailsBy (headed Syntax cases) old f
 behind_fails cases g old new head zs (Fault k line) t is h = record {
   rest = h.rest;
@@ -54,7 +54,7 @@ behind_fails cases g old new head zs (Fault k line) t is h = record {
 }
 behind_fails cases g old new head zs Memory t is h = tt
 
--- ---- a front and what stands behind it
+-- ---- a front and what follows it
 
 pub first_fails : {X Y : Type 0} (a : Grammar X) (b : X → Grammar Y) (c : Cursor) (f : Failure) → FailsBy a c f → FailsBy (then a b) c f
 first_fails a b c (Fault k line) h = record { rest = h.rest; read = ap (λ o. o >>= λ p. (b p.0).read p.1) h.read; counted = h.counted }
@@ -111,20 +111,20 @@ module _ {A : Type 0} (P : A → Type 0) (text : A → List PlainLine) (old : Cu
 module _ {A X : Type 0} (l : Grammar X) (P : A → Type 0) (text : A → List PlainLine) (value : A → X) (reads : (a : A) (r : List PlainLine) → P a → l.read (text a ++ r) ≡ Ok (value a, r)) where
   times_fault : (n : ℕ) (xs : List A) (now r : List PlainLine) (k : LineKind) → length xs < n → All P xs → l.read now ≡ fault k r → (times n l).read (flat_map text xs ++ now) ≡ fault k r
   unfolding times
-  times_fault zero xs now r k few all e = absurd (omega (arith, few))
-  times_fault (suc n) [] now r k few all e = ap (λ o. o >>= λ x. (mapped (λ xs. x.0 ∷ xs) (times n l)).read x.1) e
-  times_fault (suc n) (a ∷ xs) now r k few all e =
+  times_fault zero xs now r k bounded all e = absurd (omega (arith, bounded))
+  times_fault (suc n) [] now r k bounded all e = ap (λ o. o >>= λ x. (mapped (λ xs. x.0 ∷ xs) (times n l)).read x.1) e
+  times_fault (suc n) (a ∷ xs) now r k bounded all e =
       ap (times (suc n) l).read (append_assoc (text a) (flat_map text xs) now)
       ∙ then_read l (λ x. mapped (λ more. x ∷ more) (times n l)) (text a ++ (flat_map text xs ++ now)) (value a) (flat_map text xs ++ now) (reads a (flat_map text xs ++ now) (All-head P a xs all))
-      ∙ ap (λ o. o >>= λ y. Ok (value a ∷ y.0, y.1)) (times_fault n xs now r k (omega (arith, few)) (All-tail P a xs all) e)
+      ∙ ap (λ o. o >>= λ y. Ok (value a ∷ y.0, y.1)) (times_fault n xs now r k (omega (arith, bounded)) (All-tail P a xs all) e)
 
   pub times_fails : (n i : ℕ) (old now : Cursor) (xs : List A) (f : Failure) → Gathered P text old i now xs → i < n → FailsBy l now f → FailsBy (times n l) old f
-  times_fails n i old now xs (Fault k line) g few h = record {
+  times_fails n i old now xs (Fault k line) g bounded h = record {
     rest = h.rest;
-    read = ap (times n l).read g.took.lines ∙ times_fault n xs now.lines h.rest k (let e = g.many in omega (arith, e, few)) g.each h.read;
+    read = ap (times n l).read g.took.lines ∙ times_fault n xs now.lines h.rest k (let e = g.many in omega (arith, e, bounded)) g.each h.read;
     counted = omega (arith, g.took.last, h.counted);
   }
-  times_fails n i old now xs Memory g few h = tt
+  times_fails n i old now xs Memory g bounded h = tt
 
 pub many_fails : {A : Type 0} (l : Grammar (Unit {0})) (P : A → Type 0) (text : A → List PlainLine) → ((a : A) (r : List PlainLine) → P a → l.read (text a ++ r) ≡ Ok (tt, r)) → (n i : ℕ) (old now : Cursor) (xs : List A) (f : Failure) → Gathered P text old i now xs → i < n → FailsBy l now f → FailsBy (many n l) old f
-many_fails l P text reads n i old now xs f g few h = mapped_fails (λ all. tt) (times n l) old f (times_fails l P text (λ a. tt) reads n i old now xs f g few h)
+many_fails l P text reads n i old now xs f g bounded h = mapped_fails (λ all. tt) (times n l) old f (times_fails l P text (λ a. tt) reads n i old now xs f g bounded h)

@@ -83,7 +83,7 @@ module _ (system : CaseSystem) (m : ℕ) (done : Bool) (old mid next new : Curso
 
 module _ (system : CaseSystem) (m : ℕ) (done : Bool) where
   pub pieces_fail : (n i : ℕ) (old now : Cursor) (ps : List Marked) (f : Failure) → Gathered (PieceShape system m done) piece_lines old i now ps → i < n → FailsBy (piece system m done) now f → FailsBy (times n (piece system m done)) old f
-  pieces_fail n i old now ps f g few h = times_fails (piece system m done) (PieceShape system m done) piece_lines outline (piece_read system m done) n i old now ps f g few h
+  pieces_fail n i old now ps f g bounded h = times_fails (piece system m done) (PieceShape system m done) piece_lines outline (piece_read system m done) n i old now ps f g bounded h
 
   pub pieces_end : (n i : ℕ) (old now : Cursor) (ps : List Marked) → Gathered (PieceShape system m done) piece_lines old i now ps → i ≡ n → AreMany (PieceShape system m done) n ps × Takes (flat_map piece_lines ps) old now
   pieces_end n i old now ps g e = (record { many = g.many ∙ e; each = g.each }, g.took)

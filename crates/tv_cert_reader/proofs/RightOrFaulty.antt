@@ -37,7 +37,7 @@ some_is x y e = cc
 not_none : {X : Type 0} (x : X) → ◌≡◌ {A = Option X} (Some x) None → ⊥
 not_none x e = cc
 
--- a place and values, and what stands behind them
+-- a place and values, and what follows them
 record Values : Type 0 where
   place : ℕ
   values : List ℤ
@@ -68,7 +68,7 @@ module _ (system : CaseSystem) (some : 0 < system.locations) (sides : Sides) whe
   by_piece ls us rest os place values behind is e at many None none = inr (rest, no_piece_fault system some sides ls us rest os place values behind is e at many none)
   by_piece ls us rest os place values behind is e at many (Some o) there = inl (piece_there system some sides ls us rest os place values behind is e at (λ none. not_none o (sym there ∙ none)))
 
-  -- told what stands behind the nodes
+  -- told what follows the nodes
   by_values : (ls us rest : List PlainLine) (os : List Outline) → ls ≡ disproved us → (node false system sides.denied).read us ≡ Ok (os, rest) → (v : Option Values) → values_of rest ≡ v → Named ls
   unfolding Named
   by_values ls us rest os is e None none = inl (line_fails system some sides ls us rest os is e (λ place values behind many at. not_none (record { place = place; values = values; behind = behind }) (sym (at_has rest place values behind at) ∙ none)))

@@ -1,4 +1,4 @@
--- What stands behind a split.
+-- What follows a split.
 use Rattle.std.proofs.Common.{◌≡◌, ℕ, zero, suc, ◌+◌, ◌-◌, Bool, true, false, ap, ◌∙◌, refl, arith}
 use Rattle.tv_grammar.specs.Langs.{go, stop}
 use Rattle.tv_cert_reader.specs.declared.kind.LineKind.TheVariants.{Deep, Shape}

@@ -32,10 +32,10 @@ third_is a b c x y z e = cc
 case_is : (a b : LinearCase) → Some a ≡ Some b → a ≡ b
 case_is a b e = cc
 
-module _ (system : CaseSystem) (p : Marked) (destination : Destination) (zs : List ℤ) (few : AreFewAt p destination) where
+module _ (system : CaseSystem) (p : Marked) (destination : Destination) (zs : List ℤ) (bounded : AreFewAt p destination) where
   pub no_numbers : length system.cases ≤ 8192 → ((c k j : ℕ) → zs ≡ pos c ∷ pos k ∷ pos j ∷ [] → c < 2 ^ 32 → k < 2 ^ 32 → j < 2 ^ 32 → ⊥) → NamesNoCase system p destination zs
   no_numbers many none case c k j n text there from owes =
-      let h = few_taken system p destination case [] k j n few owes in
+      let h = few_taken system p destination case [] k j n bounded owes in
       let w = slice_get_within system.cases c case there in
       none c k j text (omega (arith, w, many)) h.0 h.1
 

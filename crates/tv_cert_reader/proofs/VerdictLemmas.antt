@@ -1,4 +1,4 @@
--- What is read behind the line that says whether a certificate proves or disproves.
+-- What is read after the line that says whether a certificate proves or disproves.
 use Rattle.std.proofs.Common.{◌≡◌, ℕ, zero, suc, cond, ◌+◌, ◌<◌, ◌≤◌, ℤ, true, false, Bool, List, [], ◌∷◌, ◌++◌, length, Ok, Err, None, Some, Option, refl, sym, ap, ◌∙◌, subst, arith}
 use Rattle.std.specs.Prelude.{slice_get, ◌==◌, MatchOption}
 use Rattle.std.specs.Option.{option_map, is_some}
@@ -52,7 +52,7 @@ pub got_none : (o : Option Marked) → option_map outline o ≡ None → o ≡ N
 got_none None e = refl
 got_none (Some p) e = absurd cc
 
--- behind the last there is none
+-- after the last there is none
 past : (ps : List Marked) (k : ℕ) → length ps ≤ k → slice_get ps k ≡ None
 past [] k h = refl
 past (p ∷ ps) zero h = absurd (omega (arith, h))

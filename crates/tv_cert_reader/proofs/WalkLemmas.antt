@@ -44,10 +44,10 @@ use Rattle.tv_cert_reader.proofs.NodeLemmas.{Opened, took_long, pieces_long, sta
 -- ---- the entries of one child after another
 
 said_list_next : (number : ℕ) (system : CaseSystem) (ss : Statements) (kids : List Node) (a : Node) → length kids < count ss → listed_entries number system ss (kids ++ a ∷ []) ≡ listed_entries number system ss kids ++ node_entries (number + sizes_list kids) system (part_at (length kids) ss) a
-said_list_next number system no_statement kids a few = absurd (omega (arith, few))
-said_list_next number system (statement s ss) [] a few = append-nil (node_entries number system s a) ∙ (let e : number ≡ number + 0 = omega arith in ap (λ n. node_entries n system s a) e)
-said_list_next number system (statement s ss) (b ∷ kids) a few =
-    ap (λ es. node_entries number system s b ++ es) (said_list_next (number + size b) system ss kids a (omega (arith, few)))
+said_list_next number system no_statement kids a bounded = absurd (omega (arith, bounded))
+said_list_next number system (statement s ss) [] a bounded = append-nil (node_entries number system s a) ∙ (let e : number ≡ number + 0 = omega arith in ap (λ n. node_entries n system s a) e)
+said_list_next number system (statement s ss) (b ∷ kids) a bounded =
+    ap (λ es. node_entries number system s b ++ es) (said_list_next (number + size b) system ss kids a (omega (arith, bounded)))
     ∙ sym (append_assoc (node_entries number system s b) (listed_entries (number + size b) system ss kids) (node_entries (number + size b + sizes_list kids) system (part_at (length kids) ss) a))
     ∙ (let e : number + size b + sizes_list kids ≡ number + (size b + sizes_list kids) = omega arith in ap (λ n. (node_entries number system s b ++ listed_entries (number + size b) system ss kids) ++ node_entries n system (part_at (length kids) ss) a) e)
 
@@ -63,7 +63,7 @@ through_both (e ∷ es) fs u v w (further {v = t} h rest) k = further h (through
 
 -- a list of some length as a vector, wherever it lies
 abbrev pub vector : {X : Type 0} → Global → (xs : List X) → length xs < 2 ^ 63 → Vec X
-vector heap xs few = record { ptr = null_ptr; len = length xs; cap = length xs; alloc = heap; items = xs; ok = (refl, omega arith); small = few }
+vector heap xs bounded = record { ptr = null_ptr; len = length xs; cap = length xs; alloc = heap; items = xs; ok = (refl, omega arith); small = bounded }
 
 -- ---- the children so far; their heads are what is kept of them
 
@@ -117,13 +117,13 @@ module _ {T : Type 0} (takes : T → Entry → T → Type 0) (room : T → ℕ) 
     as_many = sym (length-map heads pieces_list) ∙ ap length h.pieces ∙ length-map h.kids pieces_list
 
     pub child_stops : (f : Failure) → length heads < count (parts_of s) → FailsBy (node false system (part_at (length heads) (parts_of s))) now.cursor f → FailsBy (node false system s) old.cursor f
-    child_stops f few k =
-        child_fails system s old.cursor now.cursor ps m h.kids h.opened f (let e = as_many in omega (arith, e, few)) (subst (λ i. FailsBy (node false system (part_at i (parts_of s))) now.cursor f) as_many k)
+    child_stops f bounded k =
+        child_fails system s old.cursor now.cursor ps m h.kids h.opened f (let e = as_many in omega (arith, e, bounded)) (subst (λ i. FailsBy (node false system (part_at i (parts_of s))) now.cursor f) as_many k)
 
     pub stands_next : (new : Walk T) (more_heads : List Node) (a : Node) → length heads < count (parts_of s) → IsWalked takes room whole system (part_at (length heads) (parts_of s)) now new a → more_heads ≡ heads ++ a ∷ [] → Stands takes room whole system s old new ps m more_heads
-    stands_next new more_heads a few k is =
+    stands_next new more_heads a bounded k is =
         let b = k.node in
-        let few_kids : length h.kids < count (parts_of s) = (let e = as_many in omega (arith, e, few)) in
+        let few_kids : length h.kids < count (parts_of s) = (let e = as_many in omega (arith, e, bounded)) in
         let part = ap (λ i. part_at i (parts_of s)) as_many in
         let next = said_list_next (old.nodes + 1) system (parts_of s) h.kids b few_kids in
         let there = node_entries (old.nodes + 1 + sizes_list h.kids) system (part_at (length h.kids) (parts_of s)) b in
@@ -197,17 +197,17 @@ few_items v = (let o = v.ok in let s = v.small in omega (arith, o, s))
 
 -- two factors whose sum is below 2^32
 few_pairs : (a b : ℕ) → a + b < 2 ^ 32 → a * (b + 8194) ≤ 2 ^ 63 + 2 ^ 46
-few_pairs a b few = by (nat_le a (2 ^ 31)) refl
+few_pairs a b bounded = by (nat_le a (2 ^ 31)) refl
   where
     by : (t : Bool) → nat_le a (2 ^ 31) ≡ t → a * (b + 8194) ≤ 2 ^ 63 + 2 ^ 46
-    by true e = (let h = mul-le a (b + 8194) (2 ^ 31) (2 ^ 32 + 8194) (grind (arith, nat_tests, e)) (omega (arith, few)) in omega (arith, h))
-    by false e = (let over : 2 ^ 31 < a = grind (arith, nat_tests, e) in let h = mul-le a (b + 8194) (2 ^ 32) (2 ^ 31 + 8194) (omega (arith, few)) (omega (arith, few, over)) in omega (arith, h))
+    by true e = (let h = mul-le a (b + 8194) (2 ^ 31) (2 ^ 32 + 8194) (grind (arith, nat_tests, e)) (omega (arith, bounded)) in omega (arith, h))
+    by false e = (let over : 2 ^ 31 < a = grind (arith, nat_tests, e) in let h = mul-le a (b + 8194) (2 ^ 32) (2 ^ 31 + 8194) (omega (arith, bounded)) (omega (arith, bounded, over)) in omega (arith, h))
 
 pub own_room : (number : ℕ) (system : CaseSystem) (s : Statement) (ps : List Marked) (kids : List (List Marked)) (taken left : ℕ) → length ps + length kids < 2 ^ 32 → length system.cases ≤ 8192 → taken < 2 ^ 32 → 2 ^ 64 ≤ left + taken + 1 → length (node_owes number system s ps kids) ≤ left
-own_room number system s ps kids taken left few cases low room =
+own_room number system s ps kids taken left bounded cases low room =
     let most = own_few number system ps kids s in
     let each = mul-le (length ps) (length kids + length system.cases + 2) (length ps) (length kids + 8194) (omega arith) (omega (arith, cases)) in
-    let all = few_pairs (length ps) (length kids) few in
+    let all = few_pairs (length ps) (length kids) bounded in
     omega (arith, most, each, all, low, room)
 
 -- the proofs have lines of their own

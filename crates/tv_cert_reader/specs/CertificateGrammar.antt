@@ -94,7 +94,7 @@ pub data IsFault (system : CaseSystem) (sides : Sides) (ls rest : List PlainLine
   behind_the_last : (t : PlainLine) → next rest ≡ Some t → Ended (certificate false system sides) Syntax Syntax ls rest → IsFault system sides ls rest Syntax
   no_piece : NamesNoPiece system sides ls rest → IsFault system sides ls rest Shape
 
--- The first line at fault has this number, from 1. The lines behind one that names a piece that is not there may be at fault too.
+-- The first line at fault has this number, from 1. The lines after one that names a piece that is not there may be at fault too.
 pub record IsFirstFault (system : CaseSystem) (sides : Sides) (ls : List PlainLine) (k : LineKind) (number : ℕ) : Type 0 where
   pub rest : List PlainLine
   pub fault : IsFault system sides ls rest k

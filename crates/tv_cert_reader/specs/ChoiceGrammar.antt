@@ -10,7 +10,7 @@ use Rattle.tv_cert_reader.specs.LineGrammar.{Grammar, Behind, many, by, draw, wi
 use Rattle.tv_cert_reader.specs.CoverGrammar.{cover, both, empty_behind, sides_behind, too_deep}
 
 -- what a choice is read with: how many variables there are, the cases, its location, whether it may show that there is no step, and how
--- many rows a target and fall owe behind a case
+-- many rows a target and fall owe after a case
 pub record Choosing : Type 0 where
   pub variables : ℕ
   pub cases : List LinearCase
@@ -53,7 +53,7 @@ abbrev pub take_behind : ℕ → ℕ → Option Taken → Behind (Unit {0})
 take_behind n known None = stop Shape
 take_behind n known (Some t) = go (both (many t.case.draws (draw n)) (many (length t.case.guards + t.owed) (by (known + 1))))
 
--- what may stand behind the first line of a choice
+-- what may stand after the first line of a choice
 abbrev pub choice_cases : (Bool → Behind (Unit {0})) → Grammar (Unit {0}) → Choosing → ℕ → PlainLine → Behind (Unit {0})
 choice_cases sides covers x known (formed heads.Split zs) = sides (length zs == x.variables + 1)
 choice_cases sides covers x known (formed heads.Empty zs) = empty_behind (length zs == known)

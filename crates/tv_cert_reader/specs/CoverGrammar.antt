@@ -22,7 +22,7 @@ sides_behind (stop k) wanted = stop k
 sides_behind (go sides) true = go sides
 sides_behind (go sides) false = stop Shape
 
--- What may stand behind the first line of a cover at a place with so many rows. Its split rows have so many columns; `sides` is for a
+-- What may stand after the first line of a cover at a place with so many rows. Its split rows have so many columns; `sides` is for a
 -- split, told whether its row has them.
 abbrev pub cover_cases : (Bool → Behind (Unit {0})) → ℕ → ℕ → (ℕ → ℕ → Option ℕ) → PlainLine → Behind (Unit {0})
 cover_cases sides width known counts (formed heads.Split zs) = sides (length zs == width + 1)

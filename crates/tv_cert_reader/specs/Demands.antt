@@ -31,7 +31,7 @@ outlines ps = map outline ps
 abbrev pub outlines_at : List Outline → ℕ → List Outline
 outlines_at os l = filter (λ o. o.place == l) os
 
--- ---- how many rows are owed on entering a target, told its number and that of the fall
+-- ---- how many rows are owed on entering a target, given its number and that of the fall
 
 -- how many rows a fall owes: where there are m ranks, fall 1 to m on entering a piece that goes on, and else none
 abbrev pub fall_count : Option ℕ → Bool → ℕ → Option ℕ
@@ -70,7 +70,7 @@ pub data Demand : Type 0 where
   -- a cover: how many columns its split rows have, how many rows are known, and how many a target and fall owe
   a_cover : ℕ → ℕ → (ℕ → ℕ → Option ℕ) → Demand
   -- a choice over so many variables, with these cases, at a location, where it may show that there is no step or may not; how many rows
-  -- are known, and how many a target and fall owe behind a case
+  -- are known, and how many a target and fall owe after a case
   a_choice : ℕ → List LinearCase → ℕ → Bool → ℕ → (LinearCase → ℕ → ℕ → Option ℕ) → Demand
 
 -- what is wanted for what is owed

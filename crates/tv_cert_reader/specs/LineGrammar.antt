@@ -19,7 +19,7 @@ use Rattle.tv_cert_reader.specs.Demands.{Outline}
 abbrev pub Grammar : Type 0 → Type 1
 Grammar X = Lang PlainLine LineKind X
 
--- what may stand behind a line
+-- what may stand after a line
 abbrev pub Behind : Type 0 → Type 1
 Behind X = Branch PlainLine LineKind X
 

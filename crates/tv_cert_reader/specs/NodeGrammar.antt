@@ -7,11 +7,11 @@ use Rattle.tv_cert_reader.specs.Demands.{Outline, demands}
 use Rattle.tv_cert_reader.specs.LineGrammar.{Grammar, Region, region}
 use Rattle.tv_cert_reader.specs.ChoiceGrammar.{demanded}
 
--- the proofs of a node that is to show this, told its pieces and those of its children
+-- the proofs of a node that is to show this, given its pieces and those of its children
 abbrev pub proofs : Bool → CaseSystem → Statement → Region → List (List Outline) → Grammar (Unit {0})
 proofs over system s g kids = mapped (λ all. tt) (each (demanded over) (demands system s g.ranks g.pieces kids))
 
--- a node, told its children; it stands for its pieces
+-- a node, given its children; it stands for its pieces
 abbrev pub over_children : Bool → CaseSystem → Statement → Grammar (List (List Outline)) → Grammar (List Outline)
 over_children over system s children = then (region system s) (λ g. then children (λ kids. mapped (λ _. g.pieces) (proofs over system s g kids)))
 

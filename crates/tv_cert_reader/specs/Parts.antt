@@ -58,24 +58,24 @@ rows_in v = v.items
 abbrev pub ReadsRows : NumberLine → ℕ → ℕ → Cursor → Cursor → Result (Vec Row) Failure → Type 0
 ReadsRows kind width count old new result = Reads rows_in (AreMany (IsWide width) count) (row_lines (head_of kind)) (many count (line_with kind (width + 1))) old new result
 
--- the numbers of a row over so many columns are put behind others
+-- the numbers of a row over so many columns are put after others
 pub record IsAppended (width : ℕ) (zs ys : List ℤ) (row : Linear) : Type 0 where
   pub wide : columns row ≡ width
   pub narrow : IsNarrowRow row
   pub numbers : ys ≡ zs ++ (row.coefficients ++ row.constant ∷ [])
 
--- a row is read, and its numbers are put behind others
+-- a row is read, and its numbers are put after others
 abbrev pub AppendsRow : NumberLine → ℕ → List ℤ → List ℤ → Cursor → Cursor → Result (Unit {0}) Failure → Type 0
 AppendsRow kind width zs ys old new (Ok done) = (row : Linear) × IsAppended width zs ys row × Takes (one_row kind row) old new
 AppendsRow kind width zs ys old new (Err f) = FailsBy (line_with kind (width + 1)) old f
 
--- the numbers of so many rows over so many columns are put behind others
+-- the numbers of so many rows over so many columns are put after others
 pub record AreAppended (width count : ℕ) (zs ys : List ℤ) (rows : List Linear) : Type 0 where
   pub wide : AreMany (IsWide width) count rows
   pub narrow : All IsNarrowRow rows
   pub numbers : ys ≡ zs ++ packed rows
 
--- so many rows are read, and their numbers are put behind others
+-- so many rows are read, and their numbers are put after others
 abbrev pub AppendsRows : NumberLine → ℕ → ℕ → List ℤ → List ℤ → Cursor → Cursor → Result (Unit {0}) Failure → Type 0
 AppendsRows kind width count zs ys old new (Ok done) = (rows : List Linear) × AreAppended width count zs ys rows × Takes (row_lines (head_of kind) rows) old new
 AppendsRows kind width count zs ys old new (Err f) = FailsBy (many count (line_with kind (width + 1))) old f

@@ -1,4 +1,4 @@
--- What is read behind the root of a certificate.
+-- What is read after the root of a certificate.
 use Rattle.std.specs.Prelude.{◌≡◌, ℕ, ◌+◌, ℤ, pos, List, [], ◌∷◌, length, All, Option, Result, Ok, Err}
 use Rattle.std.specs.Global.{Vec}
 use Rattle.tv_lines.specs.Lines.{PlainLine, formed}

@@ -48,7 +48,7 @@ abbrev pub PassesProof : {T : Type 0} → (T → Entry → T → Type 0) → Boo
 PassesProof takes whole o v w (Ok done) = IsPassed takes whole o v w
 PassesProof takes whole o v w (Err f) = FailsBy (demanded false (demand_of o.owed)) v.cursor f
 
--- one for each obligation, in order; those that are kept stand behind others
+-- one for each obligation, in order; those that are kept stand after others
 pub record AreTaken {T : Type 0} (takes : T → Entry → T → Type 0) (whole : Bool) (os : List Obligation) (old new : Walk T) (before after : List Proof) : Type 0 where
   pub proofs : List Proof
   pub are : AreProofsOf os proofs

@@ -29,15 +29,15 @@ said_head false = formed heads.Disproved []
 abbrev pub Anything : Bool → Type 0
 Anything b = Unit {0}
 
-abbrev pub ReadsSaid : Cursor → Cursor → Result Bool Failure → Type 0
-ReadsSaid old new result = Reads (λ b. b) Anything (λ b. said_head b ∷ []) (line said_line) old new result
+abbrev pub ReadsProved : Cursor → Cursor → Result Bool Failure → Type 0
+ReadsProved old new result = Reads (λ b. b) Anything (λ b. said_head b ∷ []) (line said_line) old new result
 
 -- what is said over the pieces of a root fits
 abbrev pub IsVerdictOver : CaseSystem → Node → Verdict → Type 0
 IsVerdictOver system root (Proved tree) = IsCoverWithin system.variables (owed_count (owed_into (pieces_list root) system.start given no_fall)) 0 128 tree
 IsVerdictOver system root (Disproved k values) = (length values.items ≡ system.variables) × IsSome (slice_get (pieces_at (pieces_list root) system.start) k)
 
--- the lines behind the root
+-- the lines after the root
 abbrev pub behind_root : Verdict → List PlainLine
 behind_root (Proved tree) = cover_lines tree ++ formed heads.End [] ∷ []
 behind_root (Disproved k values) = formed heads.At (pos k ∷ values.items) ∷ formed heads.End [] ∷ []
@@ -46,7 +46,7 @@ abbrev pub says : Verdict → Bool
 says (Proved tree) = true
 says (Disproved k values) = false
 
--- the root shows this, and these are all lines behind the one that says whether it is proved
+-- the root shows this, and these are all lines after the one that says whether it is proved
 pub record IsBehindSaid (system : CaseSystem) (s : Statement) (proved : Bool) (ls : List PlainLine) (root : Node) (verdict : Verdict) : Type 0 where
   pub root_is : NodeShape system s root
   pub said : says verdict ≡ proved
@@ -62,7 +62,7 @@ abbrev pub side : Sides → Bool → Statement
 side sides true = sides.proved
 side sides false = sides.denied
 
--- the rest of a text is read behind the line that says whether it is proved
+-- the rest of a text is read after the line that says whether it is proved
 abbrev pub ReadsRest : CaseSystem → Statement → Bool → Cursor → Result (Node × Verdict) Failure → Type 0
 ReadsRest system s proved old (Ok x) = IsBehindSaid system s proved old.lines x.0 x.1
 ReadsRest system s proved old (Err (Fault k number)) = (sides : Sides) → side sides proved ≡ s → old.taken ≡ 2 → IsFirstFault system sides (begun proved old.lines) k number

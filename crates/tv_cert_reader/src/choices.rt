@@ -134,7 +134,7 @@ impl Context<'_> {
         choosing: &ChoiceRead,
         known: u128,
     ) -> Result<ChoiceTree, Failure>
-        requires few { AreFewAt choosing.now.piece.now choosing.now.destination.now }
+        requires bounded { AreFewAt choosing.now.piece.now choosing.now.destination.now }
         requires shallow { left ≤ 128 }
         requires room { known + left < 2 ^ 125 }
         ensures { let reads = ReadsChoice (cases_of self.now.about.now) choosing.now.piece.now choosing.now.stop choosing.now.destination.now in

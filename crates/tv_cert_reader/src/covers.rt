@@ -86,7 +86,7 @@ impl Context<'_> {
         known: u128,
         targets: &Targets,
     ) -> Result<CoverTree, Failure>
-        requires few { AreFew targets.now }
+        requires bounded { AreFew targets.now }
         requires room { known < 2 ^ 127 }
         ensures { (width left : ℕ) (old : Cursor) → IsBehind Head.Into numbers.now old cursor.old →
             ReadsTree width (counts_of targets.now) known left old cursor.new result }
@@ -112,7 +112,7 @@ impl Context<'_> {
         targets: &Targets,
     ) -> Result<CoverTree, Failure>
         requires narrow { width < 2 ^ 32 - 1 }
-        requires few { AreFew targets.now }
+        requires bounded { AreFew targets.now }
         requires room { known + left < 2 ^ 127 }
         ensures { ReadsTree width (counts_of targets.now) known left cursor.old cursor.new result }
     {

@@ -1,7 +1,7 @@
 /// Why a line may not stand where it does. At one line the order is the one here.
 #[derive(Clone, Copy, Debug, PartialEq, Eq)]
 pub enum LineKind {
-    /// It has none of the forms, or is missing, or stands behind the last line.
+    /// It has none of the forms, or is missing, or comes after the last line.
     Syntax,
     /// It has a number of 2^62 or more in magnitude.
     Wide,

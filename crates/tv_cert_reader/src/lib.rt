@@ -37,5 +37,5 @@ pub use read::read_certificate;
 pub use rows::{numbers, row_of, rows as read_rows};
 pub use taker::Taker;
 pub use takes::Taken;
-pub use verdict::{finish, said, values};
+pub use verdict::{finish, says_proved, values};
 pub use walk::Walk;

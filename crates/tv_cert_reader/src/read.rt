@@ -11,7 +11,7 @@ use crate::cursor::Cursor;
 use crate::failure::Failure;
 use crate::number_line::NumberLine;
 use crate::rows::numbers;
-use crate::verdict::said;
+use crate::verdict::says_proved;
 use std::alloc::Global;
 use tv_cases::Cases;
 use tv_cert::{Claim, Node, Verdict};
@@ -24,7 +24,7 @@ impl Context<'_> {
         ensures { ReadsAll (cases_of self.now.about.now) (sides_of claim.now) cursor.old result }
     {
         numbers(self.alloc, cursor, NumberLine::Header, 0)?;
-        if said(self.alloc, cursor)? {
+        if says_proved(self.alloc, cursor)? {
             self.proved(cursor, claim.proved_aim())
         } else {
             self.denied(cursor, claim.denied_aim())
@@ -64,11 +64,11 @@ pub fn read_certificate(
     about: &Cases,
     claim: &Claim,
 ) -> Result<Certificate, Failure>
-    requires few { length text.now < 2 ^ 32 - 1 }
+    requires bounded { length text.now < 2 ^ 32 - 1 }
     requires variables { claim_variables claim.now ≡ (cases_of about.now).variables }
     // What is read is the certificate of the text.
     ensures found { IfOk result (λ c. IsCertificateText (cases_of about.now) claim.now text.now c) }
-    // Else the text is one of no certificate, and the first line at fault is told, unless memory runs out.
+    // Else the text is one of no certificate, and the first line at fault is reported, unless memory runs out.
     ensures refused { IfErr result (λ fault. IsRefusedText (cases_of about.now) claim.now text.now fault) }
 {
     let context = Context { alloc, about };

@@ -31,7 +31,7 @@ pub fn numbers(
 
 /// The row of these numbers, the last of which is its constant, over so many columns.
 pub fn row_of(numbers: Vec<i64>, width: u32) -> Option<Row>
-    requires few { width < 2 ^ 32 - 1 }
+    requires bounded { width < 2 ^ 32 - 1 }
     requires narrow { All IsNarrow numbers.items }
     ensures { MatchOption result (¬ (length numbers.items ≡ width + 1)) (IsRowOf width numbers.items) }
 {
@@ -82,7 +82,7 @@ pub fn rows(
     Ok(rows)
 }
 
-/// Reads a row or a rank over so many columns, and puts its numbers behind others.
+/// Reads a row or a rank over so many columns, and puts its numbers after others.
 fn append_row(
     alloc: Global,
     cursor: &mut Cursor,

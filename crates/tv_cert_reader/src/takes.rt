@@ -82,7 +82,7 @@ impl Context<'_> {
         choosing: &ChoiceRead,
         known: u128,
     ) -> Result<ChoiceTree, Failure>
-        requires few { AreFewAt choosing.now.piece.now choosing.now.destination.now }
+        requires bounded { AreFewAt choosing.now.piece.now choosing.now.destination.now }
         requires room { known < 2 ^ 126 }
         ensures { let system = cases_of self.now.about.now in
             let reads = ReadsChoice system choosing.now.piece.now choosing.now.stop choosing.now.destination.now known in

@@ -45,7 +45,7 @@ impl Context<'_> {
     /// A node that is to show this, and those below it.
     pub fn node(&self, cursor: &mut Cursor, aim: &Aim) -> Result<Node, Failure>
         ensures read { ReadsNode (cases_of self.now.about.now) (aim_states aim.now) cursor.old cursor.new result }
-        ensures few { IfOk result (λ n. length (pieces_list n) < 2 ^ 32) }
+        ensures bounded { IfOk result (λ n. length (pieces_list n) < 2 ^ 32) }
     {
         let nothing = Cursor {
             lines: Lines::new(&[]),

@@ -2,7 +2,7 @@ ghost use Rattle.std.specs.Prelude.{◌^◌, ◌<◌, length, true, false};
 ghost use Rattle.tv_cases.specs.Systems.{cases_of};
 ghost use Rattle.tv_cert.specs.AimViews.{aim_states};
 ghost use Rattle.tv_cert_reader.specs.Values.{ReadsStart, ReadsValues, ReadsEnd};
-ghost use Rattle.tv_cert_reader.specs.Wholes.{ReadsRest, ReadsSaid};
+ghost use Rattle.tv_cert_reader.specs.Wholes.{ReadsRest, ReadsProved};
 
 use crate::context::Context;
 use crate::cursor::Cursor;
@@ -18,8 +18,8 @@ use tv_linear::{Cover, MAX_SPLITS, widened};
 use tv_lines::Head;
 
 /// Whether the next line says that the property is proved.
-pub fn said(alloc: Global, cursor: &mut Cursor) -> Result<bool, Failure>
-    ensures { ReadsSaid cursor.old cursor.new result }
+pub fn says_proved(alloc: Global, cursor: &mut Cursor) -> Result<bool, Failure>
+    ensures { ReadsProved cursor.old cursor.new result }
 {
     let (head, _) = take(alloc, cursor)?;
     match head {
@@ -73,7 +73,7 @@ impl Context<'_> {
         }
     }
 
-    /// What stands behind the line that says that the property is proved.
+    /// What follows the line that says that the property is proved.
     pub fn proved(&self, cursor: &mut Cursor, aim: &Aim) -> Result<(Node, Verdict), Failure>
         ensures { ReadsRest (cases_of self.now.about.now) (aim_states aim.now) true cursor.old result }
     {
@@ -84,7 +84,7 @@ impl Context<'_> {
         Ok((root, Verdict::Proved(start)))
     }
 
-    /// What stands behind the line that says that the property is disproved.
+    /// What follows the line that says that the property is disproved.
     pub fn denied(&self, cursor: &mut Cursor, aim: &Aim) -> Result<(Node, Verdict), Failure>
         ensures { ReadsRest (cases_of self.now.about.now) (aim_states aim.now) false cursor.old result }
     {

@@ -52,7 +52,7 @@ impl<T: Taker> Visitor for Walk<'_, T> {
 }
 
 impl<T: Taker> Walk<'_, T> {
-    /// Hands on the proof that stands next.
+    /// Hands on the proof that comes next.
     fn pass(&mut self, about: &Cases, node: u32, kind: Kind, owes: &Owes) -> Result<(), Failure>
         requires owed { OwedIn (cases_of about.now) owes.now }
         requires room { 0 < T.room self.old.taker }
@@ -75,7 +75,7 @@ impl<T: Taker> Walk<'_, T> {
         }
     }
 
-    /// Hands on the proofs of the node with this number, told its pieces and its children. Those that are kept come back.
+    /// Hands on the proofs of the node with this number, given its pieces and its children. Those that are kept come back.
     fn own_proofs(
         &mut self,
         about: &Cases,
@@ -84,7 +84,7 @@ impl<T: Taker> Walk<'_, T> {
         pieces: &Pieces,
         children: &[Node],
     ) -> Result<Vec<Proof>, Failure>
-        requires few { length pieces.now + length children.now < 2 ^ 32 }
+        requires bounded { length pieces.now + length children.now < 2 ^ 32 }
         requires room { HasRoom T.room self.old }
         ensures taken { let system = cases_of about.now in
             let states = aim_states aim.now in
@@ -129,7 +129,7 @@ impl<T: Taker> Walk<'_, T> {
     pub fn node(&mut self, about: &Cases, aim: &Aim) -> Result<Node, Failure>
         requires { HasRoom T.room self.old }
         ensures walked { Walks T.takes T.room T.whole (cases_of about.now) (aim_states aim.now) self.old self.new result }
-        ensures few { IfOk result (λ n. length (pieces_list n) < 2 ^ 32) }
+        ensures bounded { IfOk result (λ n. length (pieces_list n) < 2 ^ 32) }
     {
         let context = Context {
             alloc: self.alloc,

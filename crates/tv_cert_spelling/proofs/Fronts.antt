@@ -1,4 +1,4 @@
--- What stands at the front of a list of lines tells a value, and what stands behind it.
+-- What stands at the front of a list of lines tells a value, and what follows it.
 use Rattle.std.proofs.Common.{◌≡◌, List, [], ◌∷◌, ◌++◌, length, map, All, refl, sym, ◌∙◌, arith}
 use Rattle.std.specs.List.{AllZip, flat_map}
 use Rattle.std.proofs.lemmas.List.{append_assoc}
@@ -10,11 +10,11 @@ same_head t u ts us e = cc
 pub same_tail : {T : Type 0} (t u : T) (ts us : List T) → t ∷ ts ≡ u ∷ us → ts ≡ us
 same_tail t u ts us e = cc
 
--- behind one of two texts
+-- after one of two texts
 pub behind_first : {T : Type 0} (ts us vs ws xs ys : List T) → (ts ++ us) ++ xs ≡ (vs ++ ws) ++ ys → ts ++ (us ++ xs) ≡ vs ++ (ws ++ ys)
 behind_first ts us vs ws xs ys e = sym (append_assoc ts us xs) ∙ e ∙ append_assoc vs ws ys
 
--- of two values with texts at the front of one list, both are the same, and so is what stands behind them
+-- of two values with texts at the front of one list, both are the same, and so is what follows them
 abbrev pub Told : {T A V : Type 0} → (A → List T) → (A → V) → (A → Type 0) → Type 0
 Told {T} {A} {V} text value P = (a b : A) (xs ys : List T) → P a → P b → text a ++ xs ≡ text b ++ ys → (value a ≡ value b) × (xs ≡ ys)
 

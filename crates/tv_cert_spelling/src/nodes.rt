@@ -19,7 +19,7 @@ fn first_kind(kinds: &[NodeKind]) -> NodeKind
     }
 }
 
-/// Adds a node with those below it, told their kinds, each before its children. It answers how many nodes they are.
+/// Adds a node with those below it, given their kinds, each before its children. It answers how many nodes they are.
 pub fn append_node(
     alloc: Global,
     out: &mut Vec<u8>,

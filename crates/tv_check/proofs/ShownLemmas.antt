@@ -8,7 +8,7 @@ use Rattle.tv_refute.proofs.ShownLemmas.{numbers}
 use Rattle.tv_cert.specs.Entering.{ShowsRow}
 
 module _ (n : ℕ) (known : List Known) where
-  -- the row and the list at a place, and what is behind them
+  -- the row and the list at a place, and what is after them
   shown_at : (rows : List Known) (lists : List (Vec ℤ Global)) (i : ℕ) (r : Known) (l : Vec ℤ Global) → slice_get rows i ≡ Some r → slice_get lists i ≡ Some l → Shown n known (drop i rows) (numbers (drop i lists)) ↔ (Refutes n (known ++ denied r ∷ []) l.items × Shown n known (drop (suc i) rows) (numbers (drop (suc i) lists)))
   shown_at [] lists i r l p q = absurd (let h : ⊥ = cc in h)
   shown_at (x ∷ rows) [] i r l p q = absurd (let h : ⊥ = cc in h)

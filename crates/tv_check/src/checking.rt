@@ -32,7 +32,7 @@ fn check_start(about: &Cases, root: &Node, start: &Cover, seen: u64) -> Result<(
     }
 }
 
-/// The root's obligation, where it is not met behind so many others.
+/// The root's obligation, where it is not met after so many others.
 fn root_failing(seen: u64) -> Failing
     requires { seen + 1 < 2 ^ 64 }
     ensures { result ≡ record { number = seen + 1; node = 0; kind = Kind.Root } }
@@ -63,7 +63,8 @@ fn check_values(
     }
 }
 
-/// Checks a certificate that what the root is to show holds at the start: `Ok` where all its obligations are met, and else the first that is not.
+/// Checks a certificate that what the root is to show holds at the start: `Ok` where all its obligations are met, and else the first that
+/// is not.
 ///
 /// It takes no memory.
 fn check_proved(about: &Cases, aim: &Aim, root: &Node, start: &Cover) -> Result<(), Failing>

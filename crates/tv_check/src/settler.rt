@@ -16,7 +16,7 @@ pub struct Settler<'a> {
     pub failing: Option<Failing>,
 }
 
-/// The proofs behind the first.
+/// The proofs after the first.
 fn rest_of(proofs: &[Proof]) -> &[Proof]
     ensures { result.now ≡ drop 1 proofs.now }
 {

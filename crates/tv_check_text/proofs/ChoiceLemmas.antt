@@ -82,15 +82,15 @@ module _ (system : CaseSystem) (p : Marked) (stop : Bool) (destination : Destina
       stops_fail f h = covers_fail system p stop destination (length known) left old mid at may f h
 
       pub stops_checked : (heap : Global) (new : Cursor) (met : Bool) → length (leaving (place_of p) system.cases) ≤ 8192 → CheckedStops system.variables known left (leaving (place_of p) system.cases) mid new met → CheckedChoice system p stop destination known left old new met
-      stops_checked heap new met few h =
+      stops_checked heap new met bounded h =
           let many = zip_many (IsStop system.variables (length known) left) (leaving (place_of p) system.cases) h.covers h.zip in
-          let covers = vector heap h.covers (omega (arith, few, many)) in
+          let covers = vector heap h.covers (omega (arith, bounded, many)) in
           let r = covers_read system p stop destination (length known) left old mid at may covers new h.zip h.took in
           record { tree = NoStep covers; within = r.0; took = r.1; told = (λ t. (may, h.told.0 t), λ m. h.told.1 m.1) }
 
       pub stops_checks : (heap : Global) (new : Cursor) (result : Result Bool Failure) → length (leaving (place_of p) system.cases) ≤ 8192 → ChecksStops system.variables known left (leaving (place_of p) system.cases) mid new result → ChecksChoice system p stop destination known left old new result
-      stops_checks heap new (Ok met) few h = stops_checked heap new met few h
-      stops_checks heap new (Err f) few h = stops_fail f h
+      stops_checks heap new (Ok met) bounded h = stops_checked heap new met bounded h
+      stops_checks heap new (Err f) bounded h = stops_fail f h
 
     -- ---- a case that is taken
 

@@ -44,7 +44,7 @@ module _ (n : ℕ) (known rows : List Known) (old : Cursor) where
 
   module _ (i : ℕ) (now : Cursor) (met : Bool) (h : ShownFirst i now met) where
     pub lines_fail : (f : Failure) → i < length rows → FailsBy (by (length known + 1)) now f → FailsBy (many (length rows) (by (length known + 1))) old f
-    lines_fail f few k = lists_fail (length known + 1) (length rows) i old now h.lists f h.gathered few k
+    lines_fail f bounded k = lists_fail (length known + 1) (length rows) i old now h.lists f h.gathered bounded k
 
     pub lines_end : length rows ≤ i → CheckedLists n known rows old now met
     lines_end past =

@@ -52,7 +52,7 @@ there_by now (Some x) v m e = subst IsSome (sym m) refl
 
 -- ---- the last obligation
 
--- the checker stands behind the root, and its pieces are kept
+-- the checker stands after the root, and its pieces are kept
 module _ (system : CaseSystem) (s : Statement) (old mid : Walk Checker) (fresh : IsFresh old) (head : Node) (h : IsWalked ChecksEntry uncounted false system s old mid head) where
   pub kept : pieces_of h.node ≡ pieces_list head
   kept = pieces_are h.node ∙ sym h.pieces

@@ -43,7 +43,7 @@ pub record CheckedLists (n : ℕ) (known rows : List Known) (old new : Cursor) (
   pub took : Takes (by_lines (numbers_in lists)) old new
   pub told : IsTrue met ↔ Shown n known rows (numbers_in lists)
 
--- they are read, or the first fault is told
+-- they are read, or the first fault is reported
 abbrev pub ChecksLists : ℕ → List Known → List Known → Cursor → Cursor → Result Bool Failure → Type 0
 ChecksLists n known rows old new (Ok met) = CheckedLists n known rows old new met
 ChecksLists n known rows old new (Err f) = FailsBy (many (length rows) (by (length known + 1))) old f

@@ -11,7 +11,7 @@ Settles from (Some f) es told = told ≡ Some f
 Settles from None es None = AllMet es
 Settles from None es (Some f) = IsFirstFailing es from f
 
--- the first that is not met, behind one more obligation
+-- the first that is not met, after one more obligation
 abbrev pub first_failing : Option Failing → Bool → Failing → Option Failing
 first_failing (Some earlier) met f = Some earlier
 first_failing None true f = None

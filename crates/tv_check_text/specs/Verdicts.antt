@@ -32,7 +32,7 @@ abbrev pub values_of : Verdict → List ℤ
 values_of (Proved tree) = []
 values_of (Disproved k values) = values.items
 
--- these are all lines behind the one that says whether it is proved, and what is owed is checked
+-- these are all lines after the one that says whether it is proved, and what is owed is checked
 pub record IsCheckedRest (system : CaseSystem) (s : Statement) (proved : Bool) (values : List ℤ) (ls : List PlainLine) (new : Checker) : Type 0 where
   pub root : Node
   pub verdict : Verdict

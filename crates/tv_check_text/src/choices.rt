@@ -30,7 +30,7 @@ pub struct ChoiceCheck<'a> {
     pub destination: &'a Destination<'a>,
 }
 
-/// Whether the cover that stands next is met: one without targets, of the place and the guards of a case.
+/// Whether the cover that comes next is met: one without targets, of the place and the guards of a case.
 fn stop_is_met(
     context: &Context,
     cursor: &mut Cursor,
@@ -85,7 +85,7 @@ fn stops_are_met(
 }
 
 impl ChoiceCheck<'_> {
-    /// Whether the lines behind one that says that there is no step show it.
+    /// Whether the lines after one that says that there is no step show it.
     fn no_step_is_met(
         &self,
         cursor: &mut Cursor,
@@ -117,7 +117,7 @@ impl ChoiceCheck<'_> {
         known: u128,
         row: &Row,
     ) -> Result<bool, Failure>
-        requires few { AreFewAt self.now.piece.now self.now.destination.now }
+        requires bounded { AreFewAt self.now.piece.now self.now.destination.now }
         requires shallow { left < 128 }
         requires counted { known ≡ length (known_at frames.now) }
         requires room { known + left + 1 < 2 ^ 125 }
@@ -140,7 +140,7 @@ impl ChoiceCheck<'_> {
         Ok(holds && fails)
     }
 
-    /// Whether the choice that stands next is met at a place with so many rows. At most `left` splits may lie on a path, counting into
+    /// Whether the choice that comes next is met at a place with so many rows. At most `left` splits may lie on a path, counting into
     /// its covers.
     ///
     /// It is read to its end also where a part of it is not met.
@@ -152,7 +152,7 @@ impl ChoiceCheck<'_> {
         frames: &Frames,
         known: u128,
     ) -> Result<bool, Failure>
-        requires few { AreFewAt self.now.piece.now self.now.destination.now }
+        requires bounded { AreFewAt self.now.piece.now self.now.destination.now }
         requires shallow { left ≤ 128 }
         requires counted { known ≡ length (known_at frames.now) }
         requires room { known + left < 2 ^ 125 }

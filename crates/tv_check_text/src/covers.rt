@@ -43,7 +43,7 @@ impl Covering<'_, '_> {
         self.targets.entered(target, fall)
     }
 
-    /// Whether the lines behind one into a target, which has these numbers, show what is owed.
+    /// Whether the lines after one into a target, which has these numbers, show what is owed.
     fn is_shown(
         &self,
         cursor: &mut Cursor,
@@ -51,7 +51,7 @@ impl Covering<'_, '_> {
         known: u128,
         numbers: &[i64],
     ) -> Result<bool, Failure>
-        requires few { AreFew self.now.targets.now }
+        requires bounded { AreFew self.now.targets.now }
         requires counted { known ≡ length (known_at frames.now) }
         requires room { known < 2 ^ 127 }
         ensures { (left : ℕ) (old : Cursor) → IsBehind Head.Into numbers.now old cursor.old →
@@ -87,7 +87,7 @@ impl Covering<'_, '_> {
         row: &Row,
     ) -> Result<bool, Failure>
         requires narrow { self.now.columns < 2 ^ 32 - 1 }
-        requires few { AreFew self.now.targets.now }
+        requires bounded { AreFew self.now.targets.now }
         requires counted { known ≡ length (known_at frames.now) }
         requires room { known + left + 1 < 2 ^ 127 }
         ensures { let owed = owed_at (change_of self.now.change.now) self.now.targets.now in
@@ -108,7 +108,7 @@ impl Covering<'_, '_> {
         Ok(holds && fails)
     }
 
-    /// Whether the cover that stands next is met at a place with so many rows. At most `left` splits may lie on a path.
+    /// Whether the cover that comes next is met at a place with so many rows. At most `left` splits may lie on a path.
     ///
     /// It is read to its end also where a part of it is not met.
     #[cycle(is_met)]
@@ -120,7 +120,7 @@ impl Covering<'_, '_> {
         known: u128,
     ) -> Result<bool, Failure>
         requires narrow { self.now.columns < 2 ^ 32 - 1 }
-        requires few { AreFew self.now.targets.now }
+        requires bounded { AreFew self.now.targets.now }
         requires counted { known ≡ length (known_at frames.now) }
         requires room { known + left < 2 ^ 127 }
         ensures { let owed = owed_at (change_of self.now.change.now) self.now.targets.now in

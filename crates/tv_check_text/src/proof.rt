@@ -19,7 +19,7 @@ use tv_cert_reader::{Context, Cursor, Failure, are_few, chosen_are_few};
 use tv_linear::{MAX_SPLITS, Rows};
 use tv_refute::{Change, Frames, Terms};
 
-/// Whether the cover that stands next is met at a place with so many rows of so many columns.
+/// Whether the cover that comes next is met at a place with so many rows of so many columns.
 ///
 /// More targets than can be counted with 32 bits are more than memory holds.
 fn cover_is_met(
@@ -40,7 +40,7 @@ fn cover_is_met(
     covering.is_met(cursor, MAX_SPLITS, frames, known)
 }
 
-/// Whether the cover of a piece that stands next is met.
+/// Whether the cover of a piece that comes next is met.
 fn piece_is_covered(
     context: &Context,
     cursor: &mut Cursor,
@@ -63,7 +63,7 @@ fn piece_is_covered(
     cover_is_met(&covering, cursor, &place, rows.len() as u128)
 }
 
-/// Whether the cover that stands next is met: one of a piece and the guards of a case.
+/// Whether the cover that comes next is met: one of a piece and the guards of a case.
 fn step_is_covered(
     context: &Context,
     cursor: &mut Cursor,
@@ -100,7 +100,7 @@ fn step_is_covered(
     cover_is_met(&covering, cursor, &place, known)
 }
 
-/// Whether the choice at a piece that stands next is met.
+/// Whether the choice at a piece that comes next is met.
 fn is_chosen(
     context: &Context,
     cursor: &mut Cursor,

@@ -71,7 +71,7 @@ impl<'a> ChoiceCheck<'a> {
         )
     }
 
-    /// Whether the lines behind one that takes a case, which has these numbers, show its guards and what is owed.
+    /// Whether the lines after one that takes a case, which has these numbers, show its guards and what is owed.
     pub fn take_is_met(
         &self,
         cursor: &mut Cursor,
@@ -79,7 +79,7 @@ impl<'a> ChoiceCheck<'a> {
         known: u128,
         numbers: &[i64],
     ) -> Result<bool, Failure>
-        requires few { AreFewAt self.now.piece.now self.now.destination.now }
+        requires bounded { AreFewAt self.now.piece.now self.now.destination.now }
         requires counted { known ≡ length (known_at frames.now) }
         requires room { known < 2 ^ 126 }
         ensures { let system = cases_of self.now.context.about.now in

@@ -68,11 +68,11 @@ pub fn check_text(
     about: &Cases,
     claim: &Claim,
 ) -> Result<Accepted, TextFailing>
-    requires few { length text.now < 2 ^ 32 - 1 }
+    requires bounded { length text.now < 2 ^ 32 - 1 }
     requires variables { claim_variables claim.now ≡ (cases_of about.now).variables }
     // The text is that of a certificate all of whose obligations are met.
     ensures accepted { IfOk result (λ a. IsAcceptedText (cases_of about.now) claim.now text.now a) }
-    // Else the first line at fault is told, or the first obligation that is not met, unless memory runs out.
+    // Else the first line at fault is reported, or the first obligation that is not met, unless memory runs out.
     ensures refused { IfErr result (λ f. IsUnaccepted (cases_of about.now) claim.now text.now f) }
 {
     let context = Context { alloc, about };

@@ -10,7 +10,9 @@ use crate::checker::Checker;
 use crate::proof::start_is_covered;
 use crate::visiting::first_failing;
 use tv_cert::{Aim, Claim, Failing, Kind};
-use tv_cert_reader::{Context, Failure, LineKind, NumberLine, Walk, finish, numbers, said, values};
+use tv_cert_reader::{
+    Context, Failure, LineKind, NumberLine, Walk, finish, numbers, says_proved, values,
+};
 
 /// Takes note of the last obligation, which is the root's.
 fn settle_root(checker: &mut Checker, met: bool)
@@ -29,7 +31,7 @@ fn settle_root(checker: &mut Checker, met: bool)
     checker.seen = number;
 }
 
-/// Reads and checks what stands behind the line that says that the property is proved.
+/// Reads and checks what follows the line that says that the property is proved.
 fn check_proved(context: &Context, walk: &mut Walk<Checker>, aim: &Aim) -> Result<(), Failure>
     requires { IsFresh walk.old }
     ensures { ChecksProved (cases_of context.now.about.now) (aim_states aim.now) walk.old walk.new.taker result }
@@ -42,7 +44,7 @@ fn check_proved(context: &Context, walk: &mut Walk<Checker>, aim: &Aim) -> Resul
     Ok(())
 }
 
-/// Reads and checks what stands behind the line that says that the property is disproved; the values at which it is.
+/// Reads and checks what follows the line that says that the property is disproved; the values at which it is.
 fn check_denied(
     context: &Context,
     walk: &mut Walk<Checker>,
@@ -78,7 +80,7 @@ pub fn check_whole(
     ensures { ChecksWhole (cases_of context.now.about.now) (sides_of claim.now) walk.old walk.new.taker result }
 {
     numbers(context.alloc, &mut walk.cursor, NumberLine::Header, 0)?;
-    if said(context.alloc, &mut walk.cursor)? {
+    if says_proved(context.alloc, &mut walk.cursor)? {
         check_proved(context, walk, claim.proved_aim())?;
         Ok(None)
     } else {

@@ -31,7 +31,7 @@ pub piece_within : (ps : List Piece) (l k : ℕ) (p : Piece) → slice_get (piec
 piece_within ps l k p e = slice_get_within (pieces_at ps l) k p e
 
 pub place_fits : (ps : List Piece) (l k : ℕ) (p : Piece) → length ps < 2 ^ 32 → slice_get (pieces_at ps l) k ≡ Some p → k + 1 < 2 ^ 32
-place_fits ps l k p few e = (let a = piece_within ps l k p e in let b = fewer_at ps l in omega (arith, a, b, few))
+place_fits ps l k p bounded e = (let a = piece_within ps l k p e in let b = fewer_at ps l in omega (arith, a, b, bounded))
 
 -- what holds of the pieces at the places below one past the last holds of each
 pub all_below : {A : Type 0} (P : A → Type 0) (xs : List A) (k : ℕ) → slice_get xs k ≡ None → ((j : ℕ) (x : A) → j < k → slice_get xs j ≡ Some x → P x) → (x : A) → Contains xs x → P x

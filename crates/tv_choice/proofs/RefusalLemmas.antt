@@ -43,7 +43,7 @@ module _ (n : ℕ) (q : Query) where
   look_fault above pivots left (Wide column) h = h
   look_fault above pivots left Memory h = tt
 
-  -- ---- behind no path
+  -- ---- after no path
   pub here_fault : (rows : List Linear) (pivots left : ℕ) (fault : CoverFault) → IsFaultHere n q rows pivots left fault → IsChoiceFault n q rows pivots left fault
   here_fault rows pivots left (Splits path) h = (record { own = []; behind = path.items; parts = refl; is_path = tt; inner = h.0 }, h.1)
   here_fault rows pivots left (Solve kept fault) h = record { own = []; is_path = tt; here = h }
@@ -64,7 +64,7 @@ module _ (n : ℕ) (q : Query) where
   wide_before rows b column r (target h) = target h
   wide_before rows b column r (behind path is h) = behind (b ∷ path) (r, is) h
 
-  -- ---- behind one more split
+  -- ---- after one more split
   pub side_refused : (rows : List Linear) (pivots left : ℕ) (b : Branch) (fault new : CoverFault) → IsSplit n q rows b → IsChoiceFault n q (rows ++ b.row ∷ []) pivots left fault → IsPutBefore b fault new → IsChoiceFault n q rows pivots (left + 1) new
   side_refused rows pivots left b (Splits path) (Splits whole) r h p = (
     record { own = b ∷ h.0.own; behind = h.0.behind; parts = p ∙ ap (λ k. b ∷ k) h.0.parts; is_path = (r, h.0.is_path); inner = h.0.inner },

@@ -152,7 +152,7 @@ shown_short n rows (r ∷ owed) [] h = absurd h
 shown_short n rows (r ∷ owed) (ms ∷ lists) h = All-cons (λ (l : Vec ℤ Global). AreNarrow l.items) ms lists (short_all ms.items h.0.short) (shown_short n rows owed lists h.1)
 
 fewer_pieces : (ps : List Piece) (l k : ℕ) (p : Piece) → length ps < 2 ^ 32 → slice_get (pieces_at ps l) k ≡ Some p → k < 2 ^ 32
-fewer_pieces ps l k p few e = (let a = place_fits ps l k p few e in omega (arith, a))
+fewer_pieces ps l k p bounded e = (let a = place_fits ps l k p bounded e in omega (arith, a))
 
 module _ (n : ℕ) (q : Query) where
   -- ---- trees
@@ -210,10 +210,10 @@ module _ (n : ℕ) (q : Query) where
       )
 
   pub take_leaf : (rows : List Linear) (left : ℕ) (w : Way) (all : Vec (Vec ℤ Global) Global) (tree : ChoiceTree) → length q.system.cases ≤ 8192 → length q.pieces < 2 ^ 32 → IsWay n q rows w → AreShown n rows (way_rows w) (map (λ x. x.items) all.items) → IsTakeOf w all tree → IsTreeAt n q rows left tree
-  take_leaf rows left w all (Split' r p a z b) few pieces h s e = absurd e
-  take_leaf rows left w all (Empty ms) few pieces h s e = absurd e
-  take_leaf rows left w all (NoStep covers) few pieces h s e = absurd e
-  take_leaf rows left w all (Take taken target fall draws lists) few pieces h s (et, eg, ef, ed, el, en) = record {
+  take_leaf rows left w all (Split' r p a z b) bounded pieces h s e = absurd e
+  take_leaf rows left w all (Empty ms) bounded pieces h s e = absurd e
+  take_leaf rows left w all (NoStep covers) bounded pieces h s e = absurd e
+  take_leaf rows left w all (Take taken target fall draws lists) bounded pieces h s (et, eg, ef, ed, el, en) = record {
     met = λ known k.
         subst (λ i. TakeMet n q.location (region_owes n q.pieces) known (slice_get q.system.cases i) target fall draws.items (map (λ x. x.items) lists.items)) (sym et)
         (subst (λ i. TakeMet n q.location (region_owes n q.pieces) known (slice_get q.system.cases w.taken) i fall draws.items (map (λ x. x.items) lists.items)) (sym eg)
@@ -230,7 +230,7 @@ module _ (n : ℕ) (q : Query) where
         (subst (λ i. TakeShape n q.location (region_owes n q.pieces) (length rows) (slice_get q.system.cases w.taken) w.target 0 w.draws.items (map (λ x. x.items) i.items)) (sym el)
         (way_shaped rows w (map (λ x. x.items) all.items) h s)))));
     narrow = (
-      subst CountNarrow (sym et) (narrow_count w.taken (let l = slice_get_within q.system.cases w.taken h.case h.found in omega (arith, l, few))),
+      subst CountNarrow (sym et) (narrow_count w.taken (let l = slice_get_within q.system.cases w.taken h.case h.found in omega (arith, l, bounded))),
       subst CountNarrow (sym eg) (narrow_count w.target (fewer_pieces q.pieces h.case.to w.target h.piece pieces h.enters)),
       subst CountNarrow (sym ef) (narrow_count 0 (omega arith)),
       subst (All RowNarrow) (sym ed) (rows_narrow w.draws.items en),

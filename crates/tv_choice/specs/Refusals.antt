@@ -36,7 +36,7 @@ pub record IsTried (n : ℕ) (q : Query) (above : List Linear) (row : Linear) : 
   pub among : Contains rows at
   pub is : (row ≡ at) ⊎ ((row ≡ denial at) × IsNarrowRow (denial at))
 
--- The refutation system of the kept rows has the fault. They are the rows above, each taken once, perhaps with a row that is tried behind
+-- The refutation system of the kept rows has the fault. They are the rows above, each taken once, perhaps with a row that is tried after
 -- them; or those at the end of a path of `empty` over the columns of a case.
 pub data IsUnsolvedHere (n : ℕ) (q : Query) (above kept : List Linear) (pivots : ℕ) (fault : SolveFault) : Type 0 where
   place : TakenOnce above kept → IsSystemFault n kept pivots fault → IsUnsolvedHere n q above kept pivots fault
@@ -58,9 +58,9 @@ IsFaultHere n q above pivots left (Solve kept fault) = IsUnsolvedHere n q above 
 IsFaultHere n q above pivots left (Wide column) = IsWideHere n q above column
 IsFaultHere n q above pivots left Memory = Unit {0}
 
--- ---- behind a path
+-- ---- after a path
 
--- the splits of the choice, and behind them perhaps those of `empty` over the columns of a case
+-- the splits of the choice, and after them perhaps those of `empty` over the columns of a case
 pub record IsJoinedPath (n : ℕ) (q : Query) (rows : List Linear) (path : List Branch) : Type 0 where
   pub own : List Branch
   pub behind : List Branch

@@ -110,7 +110,7 @@ fn term_alone(
     draws: u32,
     draw: u32,
 ) -> Result<Option<Row>, AllocError>
-    requires few { draws < 2 ^ 32 - 1 }
+    requires bounded { draws < 2 ^ 32 - 1 }
     requires inside { draw < draws }
     requires even { width row.now ≡ columns + draws }
     ensures { IfOk result (λ o. IfSome o (GivesAlone columns draws row.now draw)) }
@@ -137,7 +137,7 @@ fn term_for(
     draw: u32,
     values: &[i128],
 ) -> Result<Row, AllocError>
-    requires few { columns + draws < 2 ^ 32 - 1 }
+    requires bounded { columns + draws < 2 ^ 32 - 1 }
     requires inside { draw < draws }
     requires even { All (λ r. width r ≡ columns + draws) rows.now }
     requires size { length values.now ≡ columns + draws }
@@ -162,7 +162,7 @@ pub fn terms_at(
     draws: u32,
     values: &[i128],
 ) -> Result<Vec<Row>, AllocError>
-    requires few { columns + draws < 2 ^ 32 - 1 }
+    requires bounded { columns + draws < 2 ^ 32 - 1 }
     requires even { All (λ r. width r ≡ columns + draws) rows.now }
     requires size { length values.now ≡ columns + draws }
     requires short { AreShort values.now }

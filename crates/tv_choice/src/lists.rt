@@ -19,7 +19,7 @@ pub fn with_row(alloc: Global, rows: &[Row], row: &Row) -> Result<Vec<Row>, Allo
 
 /// Rows that fix the first columns at these numbers.
 pub fn fixing(alloc: Global, columns: u32, values: &[i128]) -> Result<Vec<Row>, AllocError>
-    requires few { columns < 2 ^ 32 - 1 }
+    requires bounded { columns < 2 ^ 32 - 1 }
     requires inside { length values.now ≤ columns }
     requires short { AreShort values.now }
     ensures { IfOk result (λ v. v.items ≡ fixes columns 0 values.now) }

@@ -38,7 +38,7 @@ fn stepping_rows(
     point: &[i128],
     rows: &[Row],
 ) -> Result<Vec<Row>, AllocError>
-    requires few { columns < 2 ^ 32 - 1 }
+    requires bounded { columns < 2 ^ 32 - 1 }
     requires inside { length point.now ≤ columns }
     requires short { AreShort point.now }
     ensures { IfOk result (λ v. v.items ≡ fixes columns 0 point.now ++ rows.now) }
@@ -55,7 +55,7 @@ fn way_at(
     rows: &[Row],
     values: &[i128],
 ) -> Result<Way, CoverFault>
-    requires few { question.now.columns + entry.now.case.now.draws < 2 ^ 32 - 1 }
+    requires bounded { question.now.columns + entry.now.case.now.draws < 2 ^ 32 - 1 }
     requires even { All (λ r. width r ≡ question.now.columns + entry.now.case.now.draws) rows.now }
     requires size { length values.now ≡ question.now.columns + entry.now.case.now.draws }
     requires short { AreShort values.now }

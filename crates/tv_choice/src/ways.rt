@@ -47,7 +47,7 @@ pub fn case_rows(
     owed: &[Row],
     columns: u32,
 ) -> Result<Vec<Row>, CoverFault>
-    requires few { columns + case.now.draws < 2 ^ 32 - 1 }
+    requires bounded { columns + case.now.draws < 2 ^ 32 - 1 }
     requires guards { All (λ r. width r ≡ columns + case.now.draws) (case_view case.now).guards }
     requires terms { All (λ u. width u.term ≡ columns + case.now.draws) (case_view case.now).updates }
     requires owed { All (λ r. width r ≡ columns) owed.now }
@@ -68,7 +68,7 @@ pub fn case_rows(
 
 /// The terms that are put into rows of a case: the columns of the variables, and then the draws.
 fn terms_of(alloc: Global, columns: u32, draws: &[Row]) -> Result<Vec<Row>, AllocError>
-    requires few { columns < 2 ^ 32 - 1 }
+    requires bounded { columns < 2 ^ 32 - 1 }
     ensures { IfOk result (λ v. v.items ≡ put_terms columns draws.now) }
 {
     let mut terms = Vec::new(alloc);
@@ -104,7 +104,7 @@ pub fn way_of(
     rows: &[Row],
     draws: Vec<Row>,
 ) -> Result<Way, CoverFault>
-    requires few { columns < 2 ^ 32 - 1 }
+    requires bounded { columns < 2 ^ 32 - 1 }
     requires each { All (λ r. width r ≡ columns + length draws.items) rows.now }
     requires even { All (λ t. width t ≡ columns) draws.items }
     ensures way { IfOk result (λ w. IsWayOf columns entry.now.taken entry.now.target rows.now draws.items w) }

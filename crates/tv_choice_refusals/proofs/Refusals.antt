@@ -181,7 +181,7 @@ module _ (about : CaseSystem) (base : List Placed) (h l : ℕ) (stop : Bool) (pi
     pub listed : AreListed about base scope_of (suc h) rows
     pub zs : List ℤ
     pub whole : IsWholePointOf (width_at about scope_of) rows zs
-    pub few : length xs ≤ about.variables
+    pub bounded : length xs ≤ about.variables
     pub same : (j : ℕ) → j < length xs → get_or xs j (pos 0) ≡ get_or zs j (pos 0)
 
   point_from : (above : List Linear) (xs : List ℤ) → AreListed about base (at_location l) (suc h) above → IsPointHere about.variables (asked_of about l stop pieces) above xs → IsPointFrom xs
@@ -191,7 +191,7 @@ module _ (about : CaseSystem) (base : List Placed) (h l : ℕ) (stop : Bool) (pi
     listed = listed;
     zs = ys;
     whole = subst (λ k. IsWholePointOf k above ys) (sym (none_more about.variables)) w;
-    few = (let e = w.as_many in omega (arith, e));
+    bounded = (let e = w.as_many in omega (arith, e));
     same = λ j i. refl;
   }
   point_from above xs listed (start_point c zs s among from w) = record {
@@ -200,7 +200,7 @@ module _ (about : CaseSystem) (base : List Placed) (h l : ℕ) (stop : Bool) (pi
     listed = starting_listed above c among from listed;
     zs = zs;
     whole = w;
-    few = length-take about.variables zs;
+    bounded = length-take about.variables zs;
     same = λ j i. get_or-take about.variables zs j (let a = length-take about.variables zs in omega (arith, i, a));
   }
 
@@ -209,7 +209,7 @@ module _ (about : CaseSystem) (base : List Placed) (h l : ℕ) (stop : Bool) (pi
     | inl fix ↦
         let f = fix_of (about.variables + c.draws) 0 xs r fix in
         let o = point_from above xs listed here in
-        unsplit r (fixed o.scope_of f.place r o.rows o.zs (let a = f.inside in let b = o.few in omega (arith, a, b)) o.listed o.whole
+        unsplit r (fixed o.scope_of f.place r o.rows o.zs (let a = f.inside in let b = o.bounded in omega (arith, a, b)) o.listed o.whole
         (subst (λ z. IsFixing (width_at about (over_case c)) f.place z r) (o.same f.place f.inside)
         (subst (λ k. IsFixing (about.variables + c.draws) k (get_or xs f.place (pos 0)) r) (let g : 0 + f.place ≡ f.place = omega arith in g) f.fixing)))
     | inr row ↦ unsplit r (derived r (case_derived c p w r row))

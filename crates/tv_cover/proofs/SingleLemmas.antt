@@ -22,10 +22,10 @@ rows_even n lists (cover.Empty ms) h = tt
 rows_even n lists (cover.Into target fall ls) h = tt
 
 pub covered_one : (n most : ℕ) (rows target : List Linear) (lists : List (List Linear)) (found : Covered) → lists ≡ target ∷ [] → most ≤ 128 → IsCovered n lists rows found → IsShallow most found → IsShortCovered found → HasSplitRows n lists found → IsCoveredByOne n rows target found
-covered_one n most rows target lists (Tree tree) e few met shallow short split = record {
+covered_one n most rows target lists (Tree tree) e bounded met shallow short split = record {
   met = subst (λ z. IsMetCover n (owed_lists z) (as_given rows) tree) e met;
-  shallow = omega (arith, shallow, few);
+  shallow = omega (arith, shallow, bounded);
   short = short;
   even = rows_even n lists tree split;
 }
-covered_one n most rows target lists (Hole values) e few hole shallow short split = subst (λ z. IsHole n z rows values.items) e hole
+covered_one n most rows target lists (Hole values) e bounded hole shallow short split = subst (λ z. IsHole n z rows values.items) e hole

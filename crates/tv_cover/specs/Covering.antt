@@ -83,7 +83,7 @@ HasSplitRows n lists (Hole values) = Unit {0}
 abbrev pub IsOneMore : List (List Linear) → List Linear → Type 0
 IsOneMore lists more = (more ≡ []) ⊎ ((r : Linear) × IsRowOrDenial lists r × (more ≡ r ∷ []))
 
--- the rows at the end of such a path, perhaps with a row of a target or the denial of one behind them, each taken once;
+-- the rows at the end of such a path, perhaps with a row of a target or the denial of one after them, each taken once;
 -- their refutation system has the fault
 pub record IsUnsolved (n : ℕ) (lists : List (List Linear)) (rows kept : List Linear) (holds : List Linear → Type 0) : Type 0 where
   pub path : List Branch

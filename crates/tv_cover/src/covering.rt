@@ -35,7 +35,7 @@ enum Found {
 /// Settles a place below which so many splits may lie.
 #[cycle(searching)]
 fn settle(question: &Question, place: &mut Place, left: u32) -> Result<Found, CoverFault>
-    requires few { question.now.columns < 2 ^ 32 - 1 }
+    requires bounded { question.now.columns < 2 ^ 32 - 1 }
     requires count { length question.now.targets.now < 2 ^ 32 - 1 }
     requires same { All (AreEven question.now.columns) (lists_of question.now.targets.now) }
     requires searches { IsPlace question.now.columns (lists_of question.now.targets.now) question.now.repeated.now place.old }
@@ -69,7 +69,7 @@ fn split(
     left: u32,
     halves: Halves,
 ) -> Result<Found, CoverFault>
-    requires few { question.now.columns < 2 ^ 32 - 1 }
+    requires bounded { question.now.columns < 2 ^ 32 - 1 }
     requires count { length question.now.targets.now < 2 ^ 32 - 1 }
     requires same { All (AreEven question.now.columns) (lists_of question.now.targets.now) }
     requires searches { IsPlace question.now.columns (lists_of question.now.targets.now) question.now.repeated.now place.old }
@@ -105,7 +105,7 @@ fn settle_side(
     left: u32,
     branch: Branch,
 ) -> Result<Found, CoverFault>
-    requires few { question.now.columns < 2 ^ 32 - 1 }
+    requires bounded { question.now.columns < 2 ^ 32 - 1 }
     requires count { length question.now.targets.now < 2 ^ 32 - 1 }
     requires same { All (AreEven question.now.columns) (lists_of question.now.targets.now) }
     requires searches { let n = question.now.columns in
@@ -138,7 +138,7 @@ fn search(
     targets: &[Poly],
     budget: &Budget,
 ) -> Result<Found, CoverFault>
-    requires few { columns < 2 ^ 32 - 1 }
+    requires bounded { columns < 2 ^ 32 - 1 }
     requires even { AreEven columns rows.now }
     requires same { All (AreEven columns) (lists_of targets.now) }
     requires count { length targets.now < 2 ^ 32 - 1 }
@@ -176,7 +176,7 @@ pub fn cover_of(
     targets: &[Poly],
     budget: &Budget,
 ) -> Result<Covered, CoverFault>
-    requires few { columns < 2 ^ 32 - 1 }
+    requires bounded { columns < 2 ^ 32 - 1 }
     requires even { AreEven columns rows.now }
     requires same { All (AreEven columns) (lists_of targets.now) }
     requires count { length targets.now < 2 ^ 32 - 1 }
@@ -219,7 +219,7 @@ pub fn cover(
     targets: &[Poly],
     budget: &Budget,
 ) -> Result<Covered, CoverFault>
-    requires few { ambient.now.columns < 2 ^ 32 - 1 }
+    requires bounded { ambient.now.columns < 2 ^ 32 - 1 }
     requires even { AreEven ambient.now.columns ambient.now.rows.items }
     requires same { All (AreEven ambient.now.columns) (lists_of targets.now) }
     requires count { length targets.now < 2 ^ 32 - 1 }

@@ -22,7 +22,7 @@ pub fn empty(
     columns: u32,
     budget: &Budget,
 ) -> Result<Emptied, CoverFault>
-    requires few { columns < 2 ^ 32 - 1 }
+    requires bounded { columns < 2 ^ 32 - 1 }
     requires even { AreEven columns rows.now }
     requires splits { budget.now.splits ≤ 128 }
     ensures answers { IfOk result (IsEmptied columns rows.now) }

@@ -23,7 +23,7 @@ fn show(
     points: &mut Vec<Witness>,
     row: &Row,
 ) -> Result<Option<Vec<i64>>, CoverFault>
-    requires few { question.now.columns < 2 ^ 32 - 1 }
+    requires bounded { question.now.columns < 2 ^ 32 - 1 }
     requires even { AreEven question.now.columns rows.old.items }
     requires same { width row.now ≡ question.now.columns }
     requires target { IsTargetRow (lists_of question.now.targets.now) row.now }
@@ -69,7 +69,7 @@ fn excludes(
     points: &mut Vec<Witness>,
     row: &Row,
 ) -> Result<bool, CoverFault>
-    requires few { question.now.columns < 2 ^ 32 - 1 }
+    requires bounded { question.now.columns < 2 ^ 32 - 1 }
     requires even { AreEven question.now.columns rows.old.items }
     requires same { width row.now ≡ question.now.columns }
     requires target { IsTargetRow (lists_of question.now.targets.now) row.now }
@@ -111,7 +111,7 @@ pub fn show_all(
     points: &mut Vec<Witness>,
     target: &[Row],
 ) -> Result<Shown, CoverFault>
-    requires few { question.now.columns < 2 ^ 32 - 1 }
+    requires bounded { question.now.columns < 2 ^ 32 - 1 }
     requires even { AreEven question.now.columns rows.old.items }
     requires same { AreEven question.now.columns target.now }
     requires target { Contains (lists_of question.now.targets.now) target.now }
@@ -142,7 +142,7 @@ pub fn is_shut(
     points: &mut Vec<Witness>,
     target: &[Row],
 ) -> Result<bool, CoverFault>
-    requires few { question.now.columns < 2 ^ 32 - 1 }
+    requires bounded { question.now.columns < 2 ^ 32 - 1 }
     requires even { AreEven question.now.columns rows.old.items }
     requires same { AreEven question.now.columns target.now }
     requires target { Contains (lists_of question.now.targets.now) target.now }

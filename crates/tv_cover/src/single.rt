@@ -19,7 +19,7 @@ pub fn cover_one(
     target: Vec<Row>,
     budget: &Budget,
 ) -> Result<Covered, CoverFault>
-    requires few { ambient.now.columns < 2 ^ 32 - 1 }
+    requires bounded { ambient.now.columns < 2 ^ 32 - 1 }
     requires even { AreEven ambient.now.columns ambient.now.rows.items }
     requires same { AreEven ambient.now.columns target.items }
     requires splits { budget.now.splits ≤ 128 }

@@ -15,7 +15,7 @@ pub fn refute_with(
     rows: &mut Vec<Row>,
     row: Row,
 ) -> Result<Refuted, CoverFault>
-    requires few { question.now.columns < 2 ^ 32 - 1 }
+    requires bounded { question.now.columns < 2 ^ 32 - 1 }
     requires even { All (λ r. width r ≡ question.now.columns) rows.old.items }
     requires same { width row ≡ question.now.columns }
     ensures { MatchResult result

@@ -36,7 +36,7 @@ fn first_shown(
     rows: &mut Vec<Row>,
     points: &mut Vec<Witness>,
 ) -> Result<Look, CoverFault>
-    requires few { question.now.columns < 2 ^ 32 - 1 }
+    requires bounded { question.now.columns < 2 ^ 32 - 1 }
     requires count { length question.now.targets.now < 2 ^ 32 - 1 }
     requires even { AreEven question.now.columns rows.old.items }
     requires same { All (AreEven question.now.columns) (lists_of question.now.targets.now) }
@@ -71,7 +71,7 @@ fn first_entered(
     rows: &mut Vec<Row>,
     points: &mut Vec<Witness>,
 ) -> Result<Option<usize>, CoverFault>
-    requires few { question.now.columns < 2 ^ 32 - 1 }
+    requires bounded { question.now.columns < 2 ^ 32 - 1 }
     requires even { AreEven question.now.columns rows.old.items }
     requires same { All (AreEven question.now.columns) (lists_of question.now.targets.now) }
     requires points { AreWitnesses question.now.columns rows.old.items points.old.items }
@@ -105,7 +105,7 @@ pub enum Step {
 /// What is done at a point of a place where each target is shut: the point is a hole where it is whole, and else the
 /// place is split at its first coordinate that is not.
 fn leave(question: &Question, values: &[i128], scale: i128) -> Result<Step, AllocError>
-    requires few { question.now.columns < 2 ^ 32 - 1 }
+    requires bounded { question.now.columns < 2 ^ 32 - 1 }
     requires point { (kept : List Linear) × IsPointAt question.now.columns kept values.now scale }
     ensures { IfOk result (λ step. (lists : List (List Linear)) (kept : List Linear) →
         IsPointAt question.now.columns kept values.now scale → All (IsShut question.now.columns kept) lists →
@@ -148,7 +148,7 @@ fn step_at(
     values: &[i128],
     scale: i128,
 ) -> Result<Step, CoverFault>
-    requires few { question.now.columns < 2 ^ 32 - 1 }
+    requires bounded { question.now.columns < 2 ^ 32 - 1 }
     requires count { length question.now.targets.now < 2 ^ 32 - 1 }
     requires even { AreEven question.now.columns rows.old.items }
     requires same { All (AreEven question.now.columns) (lists_of question.now.targets.now) }
@@ -188,7 +188,7 @@ fn step_at(
 
 /// What is done at a place.
 pub fn next_step(question: &Question, rows: &mut Vec<Row>) -> Result<Step, CoverFault>
-    requires few { question.now.columns < 2 ^ 32 - 1 }
+    requires bounded { question.now.columns < 2 ^ 32 - 1 }
     requires count { length question.now.targets.now < 2 ^ 32 - 1 }
     requires even { AreEven question.now.columns rows.old.items }
     requires same { All (AreEven question.now.columns) (lists_of question.now.targets.now) }

@@ -43,15 +43,15 @@ module _ (about : CaseSystem) (base : List Placed) (f : Scope) (h : ℕ) (lists 
   ]
 
   pub refusal : (many : ℕ) (rows : List Linear) (pivots splits : ℕ) (fault : CoverFault) → AreUnsplit about base f h rows → length lists ≤ many → IsCoverFault (width_at about f) lists rows pivots splits fault → IsRefusalOf about base h pivots (IsSpentOnTargets about base many h splits) fault
-  refusal many rows pivots splits (Splits path) are few is = record {
+  refusal many rows pivots splits (Splits path) are bounded is = record {
     scope = f;
     rows = rows;
     targets = lists;
-    question = record { ambient = are; into = into; are_few = few };
+    question = record { ambient = are; into = into; are_few = bounded };
     is_path = is.0;
     spent = is.1;
   }
-  refusal many rows pivots splits (Solve kept fault) are few is = (
+  refusal many rows pivots splits (Solve kept fault) are bounded is = (
     f,
     record {
       list = handed_list (rows_after rows is.path ++ is.more) kept.items is.taken
@@ -59,11 +59,11 @@ module _ (about : CaseSystem) (base : List Placed) (f : Scope) (h : ℕ) (lists 
       unsolved = is.fault;
     },
   )
-  refusal many rows pivots splits (Wide column) are few is =
+  refusal many rows pivots splits (Wide column) are bounded is =
       let at = is.wide.here in
       let target = contains_at lists is.wide.number is.wide.target is.wide.found in
       number f (denial at.row) (denied at.row (into is.wide.target target at.row (contains_at is.wide.target at.place at.row at.found))) at.wide.inside at.wide.wide
-  refusal many rows pivots splits Memory are few is = tt
+  refusal many rows pivots splits Memory are bounded is = tt
 
 -- ---- the cover that shows that a case keeps a row
 

@@ -7,7 +7,7 @@ use Rattle.tv_derived.specs.Scopes.{Scope, Placed}
 use Rattle.tv_derived.specs.Derived.{IsDerived, AllNarrow, handed, never, guard, made, longer, shorter, settled}
 use Rattle.tv_derived.specs.Laws.{AreNarrowlyHanded}
 
--- each number of the list, and the one behind it, is below 2^62 in magnitude
+-- each number of the list, and the one after it, is below 2^62 in magnitude
 abbrev pub AreWithin : List ℤ → ℤ → Type 0
 AreWithin cs k = (column : ℕ) → column ≤ length cs → IsWithin 62 (get_or cs column k)
 

@@ -30,7 +30,7 @@ abbrev mutual
       is_exact e xs ds && (is_held (total *ℤ value_of e xs ds) && multiplies_exactly (total *ℤ value_of e xs ds) es xs ds)
 
 abbrev mutual
-  -- whether each comparison in a condition is of exact expressions, also behind a part that settles the condition
+  -- whether each comparison in a condition is of exact expressions, also after a part that settles the condition
   pub is_exact_test : Condition → List ℤ → List ℤ → Bool
   is_exact_test (truth b) xs ds = true
   is_exact_test (compare r e f) xs ds = is_exact e xs ds && is_exact f xs ds

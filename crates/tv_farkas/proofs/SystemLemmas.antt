@@ -141,14 +141,14 @@ solution_refutes n rows ms scale even size narrow h = record {
   constant_held = held None (inr refl);
 }
   where
-    few : length rows ≤ 4000000
-    few = fewer n (length rows) size
+    bounded : length rows ≤ 4000000
+    bounded = fewer n (length rows) size
       where
         fewer : (a b : ℕ) → (a + 1) * b ≤ 4000000 → b ≤ 4000000
         fewer a b k = omega (arith, k)
 
     held : (column : Option ℕ) → (place_of n column < n) ⊎ (column ≡ None) → ColumnHeld ms (as_given rows) column
-    held column k = rows_held column 0 (pos 0) ms rows (omega (arith, few)) (omega arith)
+    held column k = rows_held column 0 (pos 0) ms rows (omega (arith, bounded)) (omega arith)
         (All-from_get_or IsShort ms (pos 0) (λ i l. h.short i (let e = h.as_many in omega (arith, e, l))))
         (All-from_get_or (λ r. unsigned_abs (number column r) < 2 ^ 40) rows (record { coefficients = []; constant = pos 0 }) (λ i l.
         subst (λ z. unsigned_abs z < 2 ^ 40) (sym (number_entry n column (row_at rows i) (at_of (λ r. columns r ≡ n) rows (record { coefficients = []; constant = pos 0 }) even i l) k))
@@ -164,10 +164,10 @@ length-right : (n : ℕ) → length (zeros n ++ pos 1 ∷ []) ≡ n + 1
 length-right n = length-append (zeros n) (pos 1 ∷ []) ∙ (let h = length-zeros n in let e : length (zeros n) + 1 ≡ n + 1 = omega (arith, h) in e)
 
 pub refutation_whole : (n : ℕ) (rows : List Linear) → n < 2 ^ 32 - 1 → (n + 1) * length rows ≤ 4000000 → IsWhole (refutation_system n rows)
-refutation_whole n rows few size = record {
+refutation_whole n rows bounded size = record {
   entries = length-numbers (n + 1) rows;
   right = length-right n;
-  few_rows = omega (arith, few);
+  few_rows = omega (arith, bounded);
   few_columns = (let h = fewer n (length rows) size in omega (arith, h));
   size = size;
 }
@@ -176,4 +176,4 @@ refutation_whole n rows few size = record {
     fewer a b k = omega (arith, k)
 
 pub system_whole : (n : ℕ) (rows : List Linear) (s : Equations) → s ≡ refutation_system n rows → n < 2 ^ 32 - 1 → (n + 1) * length rows ≤ 4000000 → IsWhole s
-system_whole n rows s e few size = subst (λ q. IsWhole q) (sym e) (refutation_whole n rows few size)
+system_whole n rows s e bounded size = subst (λ q. IsWhole q) (sym e) (refutation_whole n rows bounded size)

@@ -15,7 +15,7 @@ IsTakenBy (true ∷ marks) (r ∷ rows) kept = IsTakenBy marks rows kept
 IsTakenBy (false ∷ marks) (r ∷ rows) [] = ⊥
 IsTakenBy (false ∷ marks) (r ∷ rows) (k ∷ kept) = (k ≡ r) × IsTakenBy marks rows kept
 
--- the multipliers with 0 at each repeated row; those that are left stand behind
+-- the multipliers with 0 at each repeated row; those that are left stand after them
 abbrev pub stretched : List Bool → List ℤ → List ℤ
 stretched [] ms = ms
 stretched (true ∷ marks) ms = pos 0 ∷ stretched marks ms

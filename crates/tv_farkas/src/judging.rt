@@ -27,7 +27,7 @@ pub fn unsolved(rows: Vec<Row>, fault: SolveFault) -> CoverFault
 ///
 /// The refusals are `Solve`, with the rows each taken once, and `Memory`.
 pub fn judge(alloc: Global, rows: &[Row], columns: u32, pivots: u64) -> Result<Judged, CoverFault>
-    requires few { columns < 2 ^ 32 - 1 }
+    requires bounded { columns < 2 ^ 32 - 1 }
     requires even { All (λ r. width r ≡ columns) rows.now }
     ensures answers { IfOk result (λ j. IsJudged columns rows.now j) }
     ensures refusals { IfErr result (λ e. IsJudgeFault columns rows.now pivots e) }

@@ -63,7 +63,7 @@ pub fn is_large(rows: &[Row], columns: u32) -> bool
 
 /// The system whose solutions refute the rows.
 pub fn refutation_of(alloc: Global, rows: &[Row], columns: u32) -> Result<System, AllocError>
-    requires few { columns < 2 ^ 32 - 1 }
+    requires bounded { columns < 2 ^ 32 - 1 }
     requires size { (columns + 1) * length rows.now ≤ 4000000 }
     ensures same { IfOk result (λ s. equations s ≡ refutation_system columns rows.now) }
     ensures whole { IfOk result (λ s. IsWhole (equations s)) }

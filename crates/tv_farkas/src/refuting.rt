@@ -45,7 +45,7 @@ fn point_of(alloc: Global, y: &[i128], columns: u32) -> Result<Refuted, AllocErr
 ///
 /// The refusals are those of that system. A system of more than 4,000,000 entries is refused by its size.
 pub fn refute(alloc: Global, rows: &[Row], columns: u32, pivots: u64) -> Result<Refuted, SolveFault>
-    requires few { columns < 2 ^ 32 - 1 }
+    requires bounded { columns < 2 ^ 32 - 1 }
     requires even { All (λ r. width r ≡ columns) rows.now }
     ensures answers { IfOk result (λ r. IsRefuted columns rows.now r) }
     ensures short { IfOk result IsShortRefuted }

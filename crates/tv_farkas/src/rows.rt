@@ -68,7 +68,7 @@ pub fn take_once(alloc: Global, rows: &[Row]) -> Result<Distinct, AllocError>
 
 /// The row `x - floor` of a column.
 pub fn at_most(alloc: Global, columns: u32, column: u32, floor: i128) -> Result<Row, AllocError>
-    requires few { columns < 2 ^ 32 - 1 }
+    requires bounded { columns < 2 ^ 32 - 1 }
     requires column { column < columns }
     requires short { IsWithin 62 floor }
     ensures { IfOk result (λ r. r ≡ at_most_row columns column floor) }
@@ -78,7 +78,7 @@ pub fn at_most(alloc: Global, columns: u32, column: u32, floor: i128) -> Result<
 
 /// The row `floor + 1 - x` of a column.
 pub fn at_least(alloc: Global, columns: u32, column: u32, floor: i128) -> Result<Row, AllocError>
-    requires few { columns < 2 ^ 32 - 1 }
+    requires bounded { columns < 2 ^ 32 - 1 }
     requires column { column < columns }
     requires short { IsWithin 62 (floor +ℤ pos 1) }
     ensures { IfOk result (λ r. r ≡ at_least_row columns column floor) }

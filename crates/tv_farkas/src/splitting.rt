@@ -40,7 +40,7 @@ pub fn halves_at_point(
     values: &[i128],
     scale: i128,
 ) -> Result<Halves, AllocError>
-    requires few { columns < 2 ^ 32 - 1 }
+    requires bounded { columns < 2 ^ 32 - 1 }
     requires fraction { (kept : List Linear) × IsFractionAt columns kept column values.now scale }
     ensures { IfOk result (ArePointSides columns column values.now scale) }
 {

@@ -67,7 +67,7 @@ closed_outside x d t e = by d.0.mark d.1
     by (plain (fixed kinds.RightRound)) b = refl
     by _ b = absurd b
 
--- the first token of what stands behind is no token of the set
+-- the first token of what follows is no token of the set
 closed_first : {X : Type 0} (g : Option Mark → Bool) → g (Some (plain (fixed kinds.RightRound))) ≡ false → (x : X) (d : (closed x).Of) → g (Some d.0.mark) ≡ false
 closed_first g e x d = by d.0.mark d.1
   where

@@ -32,7 +32,7 @@ module _ (kept : Kind → Bool) (n : ℕ) (w : Levelled kept n) where
   formula_exact_of : Exact (formula_at kept n)
   formula_exact_of = formula_exact_over (literal_at kept n) literal_exact_of
 
-  -- behind a bracket, a literal is no sum that is closed
+  -- after a bracket, a literal is no sum that is closed
   literal_halts : (t : Seen) → t.mark ≡ plain (fixed kinds.LeftRound) → (d : OfEither (comparison kept n) (plain_at kept n)) (x : List Seen) → Halts (summed kept (suc n)) (t ∷ text_of_either (comparison kept n) (plain_at kept n) d x) x
   literal_halts t m (inl c) x =
       let behind : List Seen = (related (summed kept n) ((summed kept n).value c.0)).text c.1 x in

@@ -26,7 +26,7 @@ use Rattle.tv_formula_reader.specs.FormulaGrammar.{at_kind, open_by, close_by, s
 use Rattle.tv_formula_reader.proofs.ChoiceLemmas.{lifted_exact}
 use Rattle.tv_formula_reader.proofs.SumHalts.{is_right_mark}
 
--- a text is no shorter than what stands behind it
+-- a text is no shorter than what follows it
 pub text_longer : {X : Type 0} (l : Grammar X) → Exact l → (d : l.Of) (r : List Seen) → length r ≤ length (l.text d r)
 text_longer l h d r = omega (arith, ap length (h.append d [] r), length-append (l.text d []) r)
 
@@ -180,7 +180,7 @@ no_relation : (a : Expression) (sum : Grammar Expression) (o : Option Relation) 
 no_relation a sum None e d = d
 no_relation a sum (Some r) e d = absurd cc
 
--- behind the token of a relation no sum goes on
+-- after the token of a relation no sum goes on
 pub related_goes : (a : Expression) (sum : Grammar Expression) (m : Mark) → OfBranch (at_kind (related_by a sum) m) → sum_goes (Some m) ≡ false
 related_goes a sum (plain (fixed kinds.Star)) d = absurd (no_relation a sum (relation_of kinds.Star) refl d)
 related_goes a sum (plain (fixed kinds.Plus)) d = absurd (no_relation a sum (relation_of kinds.Plus) refl d)

@@ -118,7 +118,7 @@ AreFormula n l = (d : l.Of) (rest : List Seen) → IsFormula n (l.value d) (sign
 abbrev ArePlain : ℕ → Grammar Property → Type 0
 ArePlain n l = (d : l.Of) (rest : List Seen) → IsPlain n (l.value d) (signs_of (l.text d rest)) (signs_of rest)
 
--- behind the bracket that opens
+-- after the bracket that opens
 closing_is : (n : ℕ) (l : Grammar Property) → AreFormula n l → (d : (then l closed).Of) (rest : List Seen) (o : Sign) → o.symbol ≡ fixed kinds.LeftRound → IsArgument n ((then l closed).value d) (o ∷ signs_of ((then l closed).text d rest)) (signs_of rest)
 closing_is n l h d rest o e =
     let c = closing_of (l.value d.0) d.1 in

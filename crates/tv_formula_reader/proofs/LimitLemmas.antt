@@ -252,12 +252,12 @@ seen_fit : (v : Vocabulary) (text : List ℕ) (ts : List Token) → signs_fit (l
 seen_fit v text [] = refl
 seen_fit v text (t ∷ ts) = and_from _ _ (and_from _ _ (mark_fits v.variables t.kind (lexeme text t).word) (labels_fit v.labels t.kind (lexeme text t).word)) (seen_fit v text ts)
 
-few : (n m : ℕ) → n ≤ m → nat_le n m ≡ true
-few n m h = grind (arith, nat_tests)
+bounded : (n m : ℕ) → n ≤ m → nat_le n m ≡ true
+bounded n m h = grind (arith, nat_tests)
 
 pub formula_limits : (v : Vocabulary) (text : List ℕ) (ts : List Token) (f : Property) (rest : List Sign) → texts.IsFormula 64 f (signs_of (seen_all v text ts)) rest → IsFormula (length v.variables) (length v.labels) f
 formula_limits v text ts f rest h = record {
   fits = (formula_fit (length v.variables) (length v.labels) h (omega arith) (seen_fit v text ts)).0;
-  few_operators = few (operators f) 200 (let o = formula_operators h in omega arith);
-  few_nots = few (nots f) 64 (formula_nots h);
+  few_operators = bounded (operators f) 200 (let o = formula_operators h in omega arith);
+  few_nots = bounded (nots f) 64 (formula_nots h);
 }

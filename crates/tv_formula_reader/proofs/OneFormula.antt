@@ -45,7 +45,7 @@ faultless p text f k at t h =
     let w = (text_exact every 64).found (seen_all (words_of p) text h.tokens) f [] (text_read p text h.tokens f h.scanned t) in
     never k h.refuses.before _ (refusal k _ _ h.refuses) w.it (sym w.text ∙ h.refuses.parts)
 
--- ---- a fault is at a token: no text goes on behind the last one
+-- ---- a fault is at a token: no text goes on after the last one
 
 behind_nothing : {X : Type 0} (a : List X) (x : X) (xs : List X) → [] ≡ a ++ x ∷ xs → ⊥
 behind_nothing [] x xs e = cc

@@ -49,7 +49,7 @@ module _ (kept : Kind → Bool) where
   nothing_read zero = refl
   nothing_read (suc n) = refl
 
-  -- a bracket, and a formula behind it
+  -- a bracket, and a formula after it
   abbrev Inner : ℕ → Grammar Property
   Inner n = then (formula_at kept n) closed
 
@@ -59,7 +59,7 @@ module _ (kept : Kind → Bool) where
   inner_fails : (n : ℕ) (ts : List Seen) (k : Kind) (r : List Seen) → (literal_at kept n).read ts ≡ fault k r → (Inner n).read ts ≡ fault k r
   inner_fails n ts k r e = rw e refl
 
-  -- what stands behind a literal
+  -- what follows a literal
   abbrev Behind : ℕ → Property → Grammar Property
   Behind n f = then (conjunction_from (literal_at kept n) f) (λ c. then (formula_from (conjunction_over (literal_at kept n)) c) closed)
 
@@ -70,7 +70,7 @@ module _ (kept : Kind → Bool) where
   inner_goes : (n : ℕ) (ts : List Seen) (f : Property) (v : List Seen) → (literal_at kept n).read ts ≡ Ok (f, v) → (Inner n).read ts ≡ (Behind n f).read v
   inner_goes n ts f v e = rw e (bind_assoc ((conjunction_from (literal_at kept n) f).read v) (λ x. (formula_from (conjunction_over (literal_at kept n)) x.0).read x.1) (λ x. (closed x.0).read x.1))
 
-  -- a fault behind a literal
+  -- a fault after a literal
   inner_behind : (n : ℕ) (ts : List Seen) (f : Property) (v : List Seen) (k : Kind) (u : List Seen) → (literal_at kept n).read ts ≡ Ok (f, v) → (Inner n).read ts ≡ fault k u → length u ≤ length v
   inner_behind n ts f v k u e is =
       let w = (behind_exact n f).least v k u (sym (inner_goes n ts f v e) ∙ is) in

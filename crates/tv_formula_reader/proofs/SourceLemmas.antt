@@ -44,7 +44,7 @@ one_left t u zero e h i = let same : u ≡ t = cc in not_both (sym h ∙ ap (λ 
 one_left t u (suc zero) e h i = absurd cc
 one_left t u (suc (suc n)) e h i = absurd cc
 
--- behind a token that is none of these there is another
+-- after a token that is none of these there is another
 inner_token : (at : ℕ) (text : List ℕ) (ts : List Token) (t : Token) (n : ℕ) → IsTokens at text ts → first (drop n ts) ≡ Some t → is_last t.kind ≡ false → n + 1 < length ts
 inner_token at text ts t n (end h) e i = absurd (one_left t (token at 0 kinds.End) n e refl i)
 inner_token at text ts t n (unread h) e i = absurd (one_left t (token at 0 kinds.Unread) n e refl i)

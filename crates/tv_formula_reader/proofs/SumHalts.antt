@@ -47,7 +47,7 @@ module _ (kept : Kind → Bool) where
   closes_not e (plain (fixed kinds.RightRound) ∷ r) h = absurd cc
   closes_not e (m ∷ r) h = refl
 
-  -- behind a bracket: what the sum in it does
+  -- after a bracket: what the sum in it does
   opened_fails : (n : ℕ) (k : Kind) (ms r : List Mark) → (sum_at kept n true).read ms ≡ fault k r → (sum_at kept (suc n) true).read (plain (fixed kinds.LeftRound) ∷ ms) ≡ fault k r
   opened_fails n k ms r e = rw (factor_read (suc n) (plain (fixed kinds.LeftRound)) ms, e) refl
 
@@ -106,14 +106,14 @@ module _ (kept : Kind → Bool) where
   lifted_fault : (n : ℕ) (ts : List Seen) (k : Kind) (r : List Mark) → (sum_at kept n true).read (marks ts) ≡ fault k r → (summed kept n).read ts ≡ fault k (last (length r) ts)
   lifted_fault n ts k r e = ap (lifted_read ts) e
 
-  -- a bracket, and a sum behind it that is at fault
+  -- a bracket, and a sum after it that is at fault
   pub sum_opens : (n : ℕ) (t : Seen) (ts : List Seen) (k : Kind) (r : List Seen) → t.mark ≡ plain (fixed kinds.LeftRound) → (summed kept n).read ts ≡ fault k r → (summed kept (suc n)).read (t ∷ ts) ≡ fault k r
   sum_opens n t ts k r m e =
       let w = told n ts k r e in
       lifted_fault (suc n) (t ∷ ts) k w.left (ap (sum_at kept (suc n) true).read (left_mark t ts m) ∙ opened_fails n k (marks ts) w.left w.read)
       ∙ ap (λ (us : List Seen). fault k us) (last_behind t ts (length w.left) w.within ∙ sym w.same)
 
-  -- a bracket, and a sum behind it that is not closed
+  -- a bracket, and a sum after it that is not closed
   pub sum_unclosed : (n : ℕ) (t : Seen) (ts : List Seen) (v : Expression) (r : List Seen) → t.mark ≡ plain (fixed kinds.LeftRound) → (summed kept n).read ts ≡ Ok (v, r) → is_right_at (mark_at (next r)) ≡ false → (summed kept (suc n)).read (t ∷ ts) ≡ fault Syntax r
   sum_unclosed n t ts v r m e h =
       let w = given n ts v r e in

@@ -1,4 +1,4 @@
--- The grammar of formulas as it is read from left to right: behind a bracket it may be a sum or a formula that comes. Faults of the kinds
+-- The grammar of formulas as it is read from left to right: after a bracket it may be a sum or a formula that comes. Faults of the kinds
 -- that are not kept are none.
 use Rattle.std.specs.Prelude.{ℕ, zero, suc, Bool, true, false, List, [], ◌∷◌, ◌++◌, Option, Some, None, codes}
 use Rattle.std.specs.Str.{bytes_eq}
@@ -111,7 +111,7 @@ word_cases kept w = word_by kept (bytes_eq w (codes "at")) (bytes_eq w (codes "t
 abbrev pub argument : Grammar Property → Grammar Property
 argument formula = opened (then formula closed)
 
--- what stands behind an operator
+-- what follows an operator
 abbrev pub of_one : Grammar Property → Path → Single → Grammar Property
 of_one formula p k = behind_square (mapped (applied p k) (argument formula))
 
@@ -131,7 +131,7 @@ operator_cases (Some o) = go (unit o)
 abbrev pub operator_word : Grammar Operator
 operator_word = headed Syntax (λ t. operator_cases (operator_of t.word))
 
--- what stands behind a "["
+-- what follows a "["
 abbrev pub operated : Grammar Property → Grammar Property
 operated formula = headed Syntax (λ t. operator_by formula (operator_of t.word))
 

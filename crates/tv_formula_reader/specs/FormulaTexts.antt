@@ -50,7 +50,7 @@ mutual
 
   pub data IsLiteral : ℕ → Property → List Sign → List Sign → Type 0 where
     plain : {n : ℕ} {f : Property} {ts rest : List Sign} → IsPlain n f ts rest → IsLiteral n f ts rest
-    -- the signs before and behind that of the relation are a sum each
+    -- the signs before and after that of the relation are a sum each
     comparison : {n : ℕ} {a b : Expression} {kind : TokenKind} {relation : Relation} {rest : List Sign} (left : List Sign) (t : Sign) (right : List Sign) → IsSum n a (symbols_of left) [] → t.symbol ≡ fixed kind → relation_of kind ≡ Some relation → IsSum n b (symbols_of right) [] → IsLiteral n (compare relation a b) (left ++ (t ∷ (right ++ rest))) rest
 
   -- { "&&" literal }

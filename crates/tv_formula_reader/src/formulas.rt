@@ -28,7 +28,7 @@ fn is_memory(reason: Reason) -> bool
 #[cycle(formulas)]
 fn plain(source: &Source, reading: &mut Reading, levels: u32) -> Result<Tree, Reason>
     requires over { IsOver source.now reading.old }
-    requires few { levels ≤ 64 }
+    requires bounded { levels ≤ 64 }
     ensures reads { Gives property result (left source.now reading.new) ((plain_at every levels).read (left source.now reading.old)) }
     ensures stays { Stays source.now reading.old reading.new }
 {
@@ -58,11 +58,11 @@ fn plain(source: &Source, reading: &mut Reading, levels: u32) -> Result<Tree, Re
     }
 }
 
-/// What stands behind a `!`.
+/// What follows a `!`.
 #[cycle(formulas)]
 fn denied(source: &Source, reading: &mut Reading, levels: u32) -> Result<Tree, Reason>
     requires over { IsOver source.now reading.old }
-    requires few { levels ≤ 64 }
+    requires bounded { levels ≤ 64 }
     ensures reads { Gives property result (left source.now reading.new) ((mapped negated (plain_at every levels)).read (left source.now reading.old)) }
     ensures stays { Stays source.now reading.old reading.new }
 {
@@ -70,11 +70,11 @@ fn denied(source: &Source, reading: &mut Reading, levels: u32) -> Result<Tree, R
     Ok(negation(source.alloc, tree)?)
 }
 
-/// A formula behind a `(`, and the `)`.
+/// A formula after a `(`, and the `)`.
 #[cycle(formulas)]
 fn enclosed(source: &Source, reading: &mut Reading, levels: u32) -> Result<Tree, Reason>
     requires over { IsOver source.now reading.old }
-    requires few { levels ≤ 64 }
+    requires bounded { levels ≤ 64 }
     ensures reads { Gives property result (left source.now reading.new) ((then (formula_at every levels) closed).read (left source.now reading.old)) }
     ensures stays { Stays source.now reading.old reading.new }
 {
@@ -86,7 +86,7 @@ fn enclosed(source: &Source, reading: &mut Reading, levels: u32) -> Result<Tree,
 #[cycle(formulas)]
 fn argument(source: &Source, reading: &mut Reading, levels: u32) -> Result<Tree, Reason>
     requires over { IsOver source.now reading.old }
-    requires few { levels ≤ 64 }
+    requires bounded { levels ≤ 64 }
     ensures reads { Gives property result (left source.now reading.new) ((argument (formula_at every levels)).read (left source.now reading.old)) }
     ensures stays { Stays source.now reading.old reading.new }
 {
@@ -94,7 +94,7 @@ fn argument(source: &Source, reading: &mut Reading, levels: u32) -> Result<Tree,
     enclosed(source, reading, levels)
 }
 
-/// What stands behind the word of an operator of one argument.
+/// What follows the word of an operator of one argument.
 #[cycle(formulas)]
 fn with_one(
     source: &Source,
@@ -104,7 +104,7 @@ fn with_one(
     single: Single,
 ) -> Result<Tree, Reason>
     requires over { IsOver source.now reading.old }
-    requires few { levels ≤ 64 }
+    requires bounded { levels ≤ 64 }
     ensures reads { let before = left source.now reading.old in
         let after = left source.now reading.new in
         Gives property result after ((of_one (formula_at every levels) path single).read before) }
@@ -115,7 +115,7 @@ fn with_one(
     Ok(applied(source.alloc, path, single, tree)?)
 }
 
-/// What stands behind the word of an operator of two arguments.
+/// What follows the word of an operator of two arguments.
 #[cycle(formulas)]
 fn with_two(
     source: &Source,
@@ -125,7 +125,7 @@ fn with_two(
     shape: Shape,
 ) -> Result<Tree, Reason>
     requires over { IsOver source.now reading.old }
-    requires few { levels ≤ 64 }
+    requires bounded { levels ≤ 64 }
     ensures reads { let before = left source.now reading.old in
         let after = left source.now reading.new in
         Gives property result after ((of_two (formula_at every levels) path shape).read before) }
@@ -137,11 +137,11 @@ fn with_two(
     Ok(fixed_point(source.alloc, path, shape, first, second)?)
 }
 
-/// What stands behind a `[`.
+/// What follows a `[`.
 #[cycle(formulas)]
 fn operated(source: &Source, reading: &mut Reading, levels: u32) -> Result<Tree, Reason>
     requires over { IsOver source.now reading.old }
-    requires few { levels ≤ 64 }
+    requires bounded { levels ≤ 64 }
     ensures reads { Gives property result (left source.now reading.new) ((operated (formula_at every levels)).read (left source.now reading.old)) }
     ensures stays { Stays source.now reading.old reading.new }
 {
@@ -155,7 +155,7 @@ fn operated(source: &Source, reading: &mut Reading, levels: u32) -> Result<Tree,
 #[cycle(formulas)]
 fn literal(source: &Source, reading: &mut Reading, levels: u32) -> Result<Tree, Reason>
     requires over { IsOver source.now reading.old }
-    requires few { levels ≤ 64 }
+    requires bounded { levels ≤ 64 }
     ensures reads { Gives property result (left source.now reading.new) ((literal_at every levels).read (left source.now reading.old)) }
     ensures stays { Stays source.now reading.old reading.new }
 {
@@ -194,7 +194,7 @@ fn and(
     trees: Vec<Tree>,
 ) -> Result<Turn<Vec<Tree>>, Reason>
     requires over { IsOver source.now reading.old }
-    requires few { levels ≤ 64 }
+    requires bounded { levels ≤ 64 }
     ensures reads { let before = left source.now reading.old in
         let after = left source.now reading.new in
         Turned trees_view result after (more_cases is_and (literal_at every levels)) (trees_view trees) before }
@@ -210,7 +210,7 @@ fn and(
     }
 }
 
-/// The literals behind the first ones of a conjunction.
+/// The literals after the first ones of a conjunction.
 #[cycle(formulas)]
 fn ands(
     source: &Source,
@@ -219,7 +219,7 @@ fn ands(
     first: Vec<Tree>,
 ) -> Result<Vec<Tree>, Reason>
     requires over { IsOver source.now reading.old }
-    requires few { levels ≤ 64 }
+    requires bounded { levels ≤ 64 }
     ensures reads { let before = left source.now reading.old in
         let after = left source.now reading.new in
         Gives trees_view result after ((turns (more_cases is_and (literal_at every levels)) (trees_view first)).read before) }
@@ -237,7 +237,7 @@ fn ands(
 #[cycle(formulas)]
 fn conjunction(source: &Source, reading: &mut Reading, levels: u32) -> Result<Tree, Reason>
     requires over { IsOver source.now reading.old }
-    requires few { levels ≤ 64 }
+    requires bounded { levels ≤ 64 }
     ensures reads { let before = left source.now reading.old in
         let after = left source.now reading.new in
         Gives property result after ((conjunction_over (literal_at every levels)).read before) }
@@ -255,7 +255,7 @@ fn conjunction_from(
     first: Tree,
 ) -> Result<Tree, Reason>
     requires over { IsOver source.now reading.old }
-    requires few { levels ≤ 64 }
+    requires bounded { levels ≤ 64 }
     ensures reads { let before = left source.now reading.old in
         let after = left source.now reading.new in
         Gives property result after ((conjunction_from (literal_at every levels) (property first)).read before) }
@@ -273,7 +273,7 @@ fn or(
     trees: Vec<Tree>,
 ) -> Result<Turn<Vec<Tree>>, Reason>
     requires over { IsOver source.now reading.old }
-    requires few { levels ≤ 64 }
+    requires bounded { levels ≤ 64 }
     ensures reads { let before = left source.now reading.old in
         let after = left source.now reading.new in
         let more = more_cases is_or (conjunction_over (literal_at every levels)) in
@@ -290,7 +290,7 @@ fn or(
     }
 }
 
-/// The conjunctions behind the first ones of a formula.
+/// The conjunctions after the first ones of a formula.
 #[cycle(formulas)]
 fn ors(
     source: &Source,
@@ -299,7 +299,7 @@ fn ors(
     first: Vec<Tree>,
 ) -> Result<Vec<Tree>, Reason>
     requires over { IsOver source.now reading.old }
-    requires few { levels ≤ 64 }
+    requires bounded { levels ≤ 64 }
     ensures reads { let before = left source.now reading.old in
         let after = left source.now reading.new in
         let more = more_cases is_or (conjunction_over (literal_at every levels)) in
@@ -319,7 +319,7 @@ fn ors(
 #[cycle(formulas)]
 pub fn formula(source: &Source, reading: &mut Reading, levels: u32) -> Result<Tree, Reason>
     requires over { IsOver source.now reading.old }
-    requires few { levels ≤ 64 }
+    requires bounded { levels ≤ 64 }
     ensures reads { Gives property result (left source.now reading.new) ((formula_at every levels).read (left source.now reading.old)) }
     ensures stays { Stays source.now reading.old reading.new }
 {
@@ -335,7 +335,7 @@ fn formula_from(
     first: Tree,
 ) -> Result<Tree, Reason>
     requires over { IsOver source.now reading.old }
-    requires few { levels ≤ 64 }
+    requires bounded { levels ≤ 64 }
     ensures reads { let before = left source.now reading.old in
         let after = left source.now reading.new in
         Gives property result after ((formula_from (conjunction_over (literal_at every levels)) (property first)).read before) }

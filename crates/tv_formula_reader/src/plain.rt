@@ -34,7 +34,7 @@ pub fn open(source: &Source, reading: &mut Reading) -> Result<(), Reason>
     }
 }
 
-/// `)` behind what is read.
+/// `)` after what is read.
 pub fn close(source: &Source, reading: &mut Reading, tree: Tree) -> Result<Tree, Reason>
     requires over { IsOver source.now reading.old }
     ensures reads { Gives property result (left source.now reading.new) ((closed (property tree)).read (left source.now reading.old)) }
@@ -96,7 +96,7 @@ fn label_of(source: &Source, token: Token) -> Result<u32, Reason>
     }
 }
 
-/// A label, and the `)` behind it.
+/// A label, and the `)` after it.
 fn label(source: &Source, reading: &mut Reading) -> Result<Tree, Reason>
     requires over { IsOver source.now reading.old }
     ensures reads { Gives property result (left source.now reading.new) ((labelled every).read (left source.now reading.old)) }
@@ -112,7 +112,7 @@ fn label(source: &Source, reading: &mut Reading) -> Result<Tree, Reason>
     }
 }
 
-/// What stands behind `at`.
+/// What follows `at`.
 pub fn place(source: &Source, reading: &mut Reading) -> Result<Tree, Reason>
     requires over { IsOver source.now reading.old }
     ensures reads { Gives property result (left source.now reading.new) ((place every).read (left source.now reading.old)) }
@@ -122,7 +122,7 @@ pub fn place(source: &Source, reading: &mut Reading) -> Result<Tree, Reason>
     label(source, reading)
 }
 
-/// The operator behind a `[`.
+/// The operator after a `[`.
 pub fn operator(source: &Source, reading: &mut Reading) -> Result<Operator, Reason>
     requires over { IsOver source.now reading.old }
     ensures reads { Gives (λ o. o) result (left source.now reading.new) (operator_word.read (left source.now reading.old)) }
@@ -150,7 +150,7 @@ fn operator_at(source: &Source, token: Token) -> Option<Operator>
     }
 }
 
-/// The end of the text behind a formula.
+/// The end of the text after a formula.
 pub fn end(source: &Source, reading: &mut Reading, tree: Tree) -> Result<Tree, Reason>
     requires over { IsOver source.now reading.old }
     ensures same { reading.new ≡ reading.old }

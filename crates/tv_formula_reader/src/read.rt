@@ -90,7 +90,7 @@ pub fn read_formula(alloc: Global, text: &[u8], program: &Program) -> Result<For
     // The text of a formula is read, unless it is long.
     ensures only { (f : Property) → length text.now ≤ 65536 → IsFormulaText (system_of program.now) text.now f →
         IsGiven result (λ g. property_of g ≡ f) }
-    // Else the first fault is told, with the first kind of fault that it is.
+    // Else the first fault is reported, with the first kind of fault that it is.
     ensures refused { IfErr result (λ fault. IsRefusal (system_of program.now) text.now fault) }
     // Whatever else is answered, the text has at most 65,536 bytes.
     ensures long { (result ≡ Err FormulaFault.Long) ↔ (65536 < length text.now) }

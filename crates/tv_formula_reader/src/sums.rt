@@ -16,7 +16,7 @@ use tv_reading::{MOST_LEVELS, Reading, Reason};
 /// A sum that nests at most `levels` deep.
 fn sum(source: &Source, reading: &mut Reading, levels: u32) -> Result<Expr, Reason>
     requires over { IsOver source.now reading.old }
-    requires few { levels ≤ 64 }
+    requires bounded { levels ≤ 64 }
     ensures reads { Gives expression result (left source.now reading.new) ((summed every levels).read (left source.now reading.old)) }
     ensures stays { Stays source.now reading.old reading.new }
 {
@@ -31,7 +31,7 @@ fn sum(source: &Source, reading: &mut Reading, levels: u32) -> Result<Expr, Reas
 /// A comparison of two sums.
 pub fn comparison(source: &Source, reading: &mut Reading, levels: u32) -> Result<Tree, Reason>
     requires over { IsOver source.now reading.old }
-    requires few { levels ≤ 64 }
+    requires bounded { levels ≤ 64 }
     ensures reads { Gives property result (left source.now reading.new) ((comparison every levels).read (left source.now reading.old)) }
     ensures stays { Stays source.now reading.old reading.new }
 {

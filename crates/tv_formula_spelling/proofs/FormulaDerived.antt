@@ -231,7 +231,7 @@ shown_some v fs shown =
       as_plain = enclosed;
     }
 
--- formulas behind the first
+-- formulas after the first
 abbrev ShowsLiterals : Vocabulary → Properties → Type 0
 ShowsLiterals v fs = (n : ℕ) (rest : List Piece) → all_levels fs ≤ n → AreLiterals n (listed fs) (signs_of v (further_all_pieces v.variables v.labels fs rest)) (signs_of v rest)
 

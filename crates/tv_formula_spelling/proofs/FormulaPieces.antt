@@ -71,7 +71,7 @@ abbrev mutual
 place_bytes : (ls : List Word) (l : ℕ) → Writes (place_pieces ls l) (codes "at(" ++ (slice_index_or ls l [] ++ codes ")"))
 place_bytes ls l rest = ap (λ (x : List ℕ). codes "at(" ++ x) (sym (append_assoc (slice_index_or ls l []) (codes ")") (bytes rest)))
 
--- behind the letters of an operator
+-- after the letters of an operator
 behind_operator : (p : Path) (letter : ℕ) (behind : List Piece) (text : List ℕ) (rest : List Piece) → bytes behind ≡ text ++ bytes rest → bytes (operator_pieces p letter behind) ≡ (operator_text p letter ++ text) ++ bytes rest
 behind_operator p letter behind text rest e = ap (λ (x : List ℕ). operator_text p letter ++ x) e
 

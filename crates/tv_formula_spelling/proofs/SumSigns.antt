@@ -141,7 +141,7 @@ alone n e ss d =
     let same : marks.symbols_of w.passed ≡ ss = append_cancel_right (marks.symbols_of w.passed) ss (fixed kinds.End ∷ []) parts in
     subst (λ (us : List Symbol). IsSum n e us []) (append-nil (marks.symbols_of w.passed) ∙ same) (w.is [])
 
--- the signs of the sum, which stand before those of whatever is behind it
+-- the signs of the sum, which stand before those of whatever is after it
 pub record SumSigns (v : Vocabulary) (e : Expression) (n : ℕ) : Type 0 where
   pub front : List Sign
   pub parts : (rest : List Piece) → signs_of v (expression_pieces v.variables e rest) ≡ front ++ signs_of v rest

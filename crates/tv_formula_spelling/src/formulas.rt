@@ -55,7 +55,7 @@ fn append_place(out: &mut Vec<u8>, labels: &Names, location: u32) -> Result<(), 
     append_text(out, b")")
 }
 
-/// Whether the formula stands in brackets behind `!`.
+/// Whether the formula stands in brackets after `!`.
 fn is_joined(tree: &Tree) -> bool
     ensures { result ≡ is_joined (property tree.now) }
 {

@@ -115,8 +115,8 @@ fn reached(
 
 /// A certificate of the claim that a further search finds and the checker accepts: that of the first search that finds one.
 ///
-/// The known rows may be put into its pieces: they are of use where they hold whenever a run is at their location, and do no harm where they do
-/// not. Nothing is promised of when there is a certificate. It depends on the program, the claim, the rows and the budget alone.
+/// The known rows may be put into its pieces: they are of use where they hold whenever a run is at their location, and do no harm where
+/// they do not. Nothing is promised of when there is a certificate. It depends on the program, the claim, the rows and the budget alone.
 pub fn further(
     alloc: Global,
     about: &Cases,

@@ -6,7 +6,7 @@ use Rattle.tv_grammar.specs.Exact.{Found, Least, Exact, ExactBranch}
 use Rattle.tv_grammar.proofs.Results.{bind_ok, bind_err, ok_is, next-append, next_same}
 use Rattle.std.proofs.lemmas.Bool.{or_from, or_parts}
 
--- what stands behind a derivation can be put apart
+-- what follows a derivation can be put apart
 pub apart : {T K X : Type 0} (l : Lang T K X) → Exact l → (d : l.Of) (r : List T) → l.text d r ≡ l.text d [] ++ r
 apart l h d r = h.append d [] r
 
@@ -96,7 +96,7 @@ module _ {T K X Y : Type 0} (a : Lang T K X) (b : X → Lang T K Y) (h : Exact a
 pub mapped_exact : {T K X Y : Type 0} (f : X → Y) (l : Lang T K X) → Exact l → Exact (mapped f l)
 mapped_exact f l h = then_exact l (λ x. unit (f x)) h (λ x. unit_exact (f x))
 
--- ---- what stands behind a token
+-- ---- what follows a token
 
 pub branch_append : {T K X : Type 0} (b : Branch T K X) → ExactBranch b → (d : OfBranch b) (u v : List T) → branch_text b d (u ++ v) ≡ branch_text b d u ++ v
 branch_append (stop k) h d u v = absurd d

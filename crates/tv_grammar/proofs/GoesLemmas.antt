@@ -23,7 +23,7 @@ or_false : (a b : Bool) → b ≡ false → (a || b) ≡ a
 or_false true b e = refl
 or_false false b e = e
 
--- where what stands behind begins with none of the tokens at which the front goes on
+-- where what follows begins with none of the tokens at which the front goes on
 pub then_goes : {T K X Y : Type 0} (a : Lang T K X) (b : X → Lang T K Y) (ga gb : Option T → Bool) → Goes a ga → ((x : X) → Goes (b x) gb) → ((x : X) (d : (b x).Of) (t : Option T) → ga (first_or ((b x).text d []) t) ≡ false) → Goes (then a b) gb
 then_goes a b ga gb h i split d t =
     ap (λ (v : Bool). v || a.goes_on d.0 (first_or ((b (a.value d.0)).text d.1 []) t)) (i (a.value d.0) d.1 t)

@@ -46,7 +46,7 @@ pub unit_further : {T X : Type 0} (K : Type 0) (x : X) → Further {T = T} {K = 
 unit_further K x d n t e = absurd cc
 
 module _ {T K X Y : Type 0} (a : Lang T K X) (b : X → Lang T K Y) (h : Exact a) (i : (x : X) → Exact (b x)) (fa : Further a) (fb : (x : X) → Further (b x)) where
-  -- what stands behind is empty where the front goes on past it
+  -- what follows is empty where the front goes on past it
   at_front : (d : (then a b).Of) (us : List T) → (b (a.value d.0)).text d.1 [] ≡ us → a.goes_on d.0 (first_or us None) ≡ false → (t : T) → a.goes_on d.0 (first_or us (Some t)) ≡ true → Begins (then a b) (a.text d.0 us ++ t ∷ [])
   at_front d [] e n t g =
       let w = fa d.0 n t g in
@@ -94,7 +94,7 @@ some_of (stop k) h e = absurd cc
 some_of (go l) h e = h.some
 
 module _ {T K S : Type 0} (cases : S → T → Branch T K S) (h : (s : S) (t : T) → ExactBranch (cases s t)) (f : (s : S) (t : T) → FurtherBranch (cases s t)) where
-  -- the turns go on at t behind the item d, or behind themselves
+  -- the turns go on at t after the item d, or after themselves
   record TurnsBegin (s : S) (ts : List T) : Type 0 where
     it : Turns cases s
     more : List T
@@ -130,7 +130,7 @@ narrowed_further {T} {K} {X} {Y} k f l extends h d n t g = let w = h d.0 n t g i
         record { it = (b.it, b.taken); more = w.more ++ b.more; whole = b.text ∙ ap (λ (us : List T). us ++ b.more) w.whole ∙ append_assoc (l.text d.0 [] ++ t ∷ []) w.more b.more }
     by w (Some y) e = record { it = (w.it, rw e tt); more = w.more; whole = w.whole }
 
--- ---- what stands behind the next token changes nothing
+-- ---- what follows the next token changes nothing
 
 pub elsewhere_ok : {T K X : Type 0} (l : Lang T K X) → Exact l → (before r s : List T) (x : X) → next s ≡ next r → l.read (before ++ r) ≡ Ok (x, r) → l.read (before ++ s) ≡ Ok (x, s)
 elsewhere_ok {T} {K} {X} l h before r s x same e =

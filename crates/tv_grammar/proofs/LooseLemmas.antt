@@ -56,7 +56,7 @@ same_by {T} {K} {X} kept (Err (faulty k s)) h = subst (λ (b : Bool). AfterFault
 pub same_loose : {T K X : Type 0} (kept : K → Bool) (l : Lang T K X) → Kinded (AllKept kept) l → Loosens kept l l
 same_loose kept l h = record { at = λ ts. same_by kept (l.read ts) (λ k s e. h.kind ts k s e) }
 
--- ---- behind a token
+-- ---- after a token
 
 branch_loose : {T K X : Type 0} (kept : K → Bool) (b c : Branch T K X) → LoosensBranch kept b c → (t : T) (us : List T) → Follows kept (branch_read b (t ∷ us) us) (branch_read c (t ∷ us) us)
 branch_loose kept (stop k) (stop j) h t us = rw (h.0, h.1) refl

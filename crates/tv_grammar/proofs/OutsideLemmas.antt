@@ -17,7 +17,7 @@ mapped_outside f l g h d t e = h d.0 t e
 pub headed_outside : {T K X : Type 0} (missing : K) (cases : T → Branch T K X) (g : Option T → Bool) → ((t : T) → BranchOutside (cases t) g) → Outside (headed missing cases) g
 headed_outside missing cases g h d t e = h d.0 d.1 t e
 
--- where what stands behind begins with none of the tokens at which the front goes on
+-- where what follows begins with none of the tokens at which the front goes on
 pub then_outside : {T K X Y : Type 0} (a : Lang T K X) (b : X → Lang T K Y) (ga gb : Option T → Bool) → Outside a ga → ((x : X) → Outside (b x) gb) → ((x : X) (d : (b x).Of) (t : Option T) → gb t ≡ false → ga (first_or ((b x).text d []) t) ≡ false) → Outside (then a b) gb
 then_outside a b ga gb h i split d t e = or_from _ _ (i (a.value d.0) d.1 t e) (h d.0 (first_or ((b (a.value d.0)).text d.1 []) t) (split (a.value d.0) d.1 t e))
 

@@ -26,4 +26,3 @@ next-append (t ∷ a) r = refl
 pub next_same : {T : Type 0} (a r s : List T) → next r ≡ next s → next (a ++ r) ≡ next (a ++ s)
 next_same [] r s e = e
 next_same (t ∷ a) r s e = refl
-

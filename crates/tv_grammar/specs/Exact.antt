@@ -10,7 +10,7 @@ pub record Found {T K X : Type 0} (l : Lang T K X) (ts : List T) (x : X) (r : Li
   pub is : l.value it ≡ x
   pub stops : l.goes_on it (next r) ≡ false
 
--- Reading stops at r, whatever stands behind the next token; what stands before it goes on.
+-- Reading stops at r, whatever stands after the next token; what stands before it goes on.
 pub record Least {T K X : Type 0} (l : Lang T K X) (k : K) (ts r : List T) : Type 0 where
   pub before : List T
   pub parts : ts ≡ before ++ r
@@ -66,7 +66,7 @@ pub record StopsAt {T K X : Type 0} (l : Lang T K X) (ts r : List T) : Type 0 wh
   pub none : (d : l.Of) (other : List T) → next other ≡ next r → l.text d [] ≡ before ++ other → ⊥
   pub some : (d : l.Of) × ((more : List T) × (l.text d [] ≡ before ++ more))
 
--- a whole text, and a token behind it
+-- a whole text, and a token after it
 pub record Ended {T K X : Type 0} (l : Lang T K X) (after k : K) (ts r : List T) : Type 0 where
   pub is : k ≡ after
   pub it : l.Of

@@ -23,7 +23,7 @@ unit {T} {K} {X} x = record {
   read = λ ts. Ok (x, ts);
 }
 
--- a front, and what its value asks for behind it
+-- a front, and what its value asks for after it
 abbrev pub then : {T K X Y : Type 0} → Lang T K X → (X → Lang T K Y) → Lang T K Y
 then {T} {K} {X} {Y} a b = record {
   Of = (d : a.Of) × (b (a.value d)).Of;
@@ -36,7 +36,7 @@ then {T} {K} {X} {Y} a b = record {
 abbrev pub mapped : {T K X Y : Type 0} → (X → Y) → Lang T K X → Lang T K Y
 mapped f l = then l (λ x. unit (f x))
 
--- what may stand behind a token, or why the token may not stand here
+-- what may stand after a token, or why the token may not stand here
 pub data Branch (T K X : Type 0) : Type 1 where
   stop : K → Branch T K X
   go : Lang T K X → Branch T K X
@@ -57,7 +57,7 @@ abbrev pub branch_goes_on : {T K X : Type 0} (b : Branch T K X) → OfBranch b �
 branch_goes_on (stop k) d t = false
 branch_goes_on (go l) d t = l.goes_on d t
 
--- the tokens from the one at hand on, and those behind it
+-- the tokens from the one at hand on, and those after it
 abbrev pub branch_read : {T K X : Type 0} → Branch T K X → List T → List T → Result (X × List T) (Fault T K)
 branch_read (stop k) here behind = fault k here
 branch_read (go l) here behind = l.read behind
@@ -71,7 +71,7 @@ abbrev pub headed_read : {T K X : Type 0} → K → (T → Branch T K X) → Rea
 headed_read missing cases [] = fault missing []
 headed_read missing cases (t ∷ ts) = branch_read (cases t) (t ∷ ts) ts
 
--- a token, and what may stand behind it
+-- a token, and what may stand after it
 abbrev pub headed : {T K X : Type 0} → K → (T → Branch T K X) → Lang T K X
 headed {T} {K} {X} missing cases = record {
   Of = (t : T) × OfBranch (cases t);
@@ -81,7 +81,7 @@ headed {T} {K} {X} missing cases = record {
   read = headed_read missing cases;
 }
 
--- { token, and what may stand behind it }, where each turn makes a state of the one before
+-- { token, and what may stand after it }, where each turn makes a state of the one before
 pub data Turns {T K S : Type 0} (cases : S → T → Branch T K S) : S → Type 0 where
   done : {s : S} → Turns cases s
   turn : {s : S} (t : T) (d : OfBranch (cases s t)) → Turns cases (branch_value (cases s t) d) → Turns cases s
@@ -156,7 +156,7 @@ abbrev pub narrow : {T K X : Type 0} → K → Option X → List T → Result (X
 narrow k None rest = fault k rest
 narrow k (Some x) rest = Ok (x, rest)
 
--- texts of l whose value f takes; what it does not take is at fault behind the text
+-- texts of l whose value f takes; what it does not take is at fault after the text
 abbrev pub narrowed : {T K X Y : Type 0} → K → (X → Option Y) → Lang T K X → Lang T K Y
 narrowed {T} {K} {X} {Y} k f l = record {
   Of = (d : l.Of) × Is (f (l.value d));
@@ -166,7 +166,7 @@ narrowed {T} {K} {X} {Y} k f l = record {
   read = λ ts. l.read ts >>= λ x. narrow k (f x.0) x.1;
 }
 
--- nothing may stand behind a whole text; the kind is for a token that does
+-- nothing may stand after a whole text; the kind is for a token that does
 abbrev pub at_end : {T K X : Type 0} → K → X → List T → Result (X × List T) (Fault T K)
 at_end after x [] = Ok (x, [])
 at_end after x (t ∷ ts) = fault after (t ∷ ts)

@@ -79,7 +79,7 @@ enters_valid arcs x y node g e new inside path =
           (λ i h. subst (λ xs. Has xs i) (sym e.boundaries) (has_old x.boundaries.items (length x.path.items) i h))
           (subst (λ xs. Has xs (length x.path.items)) (sym e.boundaries) (has_new x.boundaries.items (length x.path.items)))
           path);
-      few = (let h : length x.marks.items ≤ 1024 = g.few in omega arith);
+      bounded = (let h : length x.marks.items ≤ 1024 = g.bounded in omega arith);
       cursors = ap length e.cursors ∙ (g.cursors ∙ sym nodes);
       rising_waiting = subst IsRising (sym e.waiting) (rising_push x.waiting.items (length x.path.items) g.rising_waiting (λ i h. g.state.within i h));
       rising_boundaries = subst IsRising (sym e.boundaries) (rising_push x.boundaries.items (length x.path.items) g.rising_boundaries (λ i h. g.state.within i (g.state.boundaries i h)));
@@ -110,7 +110,7 @@ closes_valid arcs x y p g e some top_b top_w over =
           (λ i h. let l : i < get_or x.boundaries.items (length x.boundaries.items - 1) 0 = has_below x.boundaries.items i g.rising_boundaries (subst (λ xs. Has xs i) e.boundaries h) in omega arith))
           (λ i. get_or y.path.items i 0)
           (λ i lt. ap (λ xs. get_or xs i 0) e.path ∙ get_or-take p x.path.items i 0 lt));
-      few = (let h : length x.marks.items ≤ 1024 = g.few in omega arith);
+      bounded = (let h : length x.marks.items ≤ 1024 = g.bounded in omega arith);
       cursors = ap length e.cursors ∙ (g.cursors ∙ sym nodes);
       rising_waiting = subst IsRising (sym e.waiting) (rising_take (length x.waiting.items - 1) x.waiting.items g.rising_waiting);
       rising_boundaries = subst IsRising (sym e.boundaries) (rising_take (length x.boundaries.items - 1) x.boundaries.items g.rising_boundaries);
@@ -159,7 +159,7 @@ follows_open arcs x y place a at k is cuts low =
         state = cuts_state (length arcs) (from_at arcs) (to_at arcs) (Reaches arcs) (mark_at x.marks.items) (λ u. get_or x.cursors.items u 0) (λ i. get_or x.path.items i 0) (length x.path.items) x.count (Has x.waiting.items) r place at seat.0
             (both (Reaches arcs) (r.arc a k.arc) (get_or x.path.items place 0) (get_or x.path.items at 0) seat.1 head.1)
             x.boundaries.items y.boundaries.items cuts k.valid.rising_boundaries k.top k.valid.state;
-        few = k.valid.few;
+        bounded = k.valid.bounded;
         cursors = k.valid.cursors;
         rising_waiting = k.valid.rising_waiting;
         rising_boundaries = rises;
@@ -198,7 +198,7 @@ steps_on arcs x y z place a e k am inside was last set =
     record {
       valid = record {
         state = followed k.valid.state (λ u. get_or z.cursors.items u 0) a e place k.here k.waits was_y is off last.past k.ahead;
-        few = k.valid.few;
+        bounded = k.valid.bounded;
         cursors = ap length set ∙ (length-set y.cursors.items (from_at arcs a) e ∙ k.valid.cursors);
         rising_waiting = k.valid.rising_waiting;
         rising_boundaries = k.valid.rising_boundaries;
@@ -244,7 +244,7 @@ steps_back arcs x z p g wait plain over cut =
             plain (omega arith))
             (λ i h. has_less (length x.waiting.items - 1) x.waiting.items i (subst (λ xs. Has xs i) cut h))
             (λ i h. elim (has_rest x.waiting.items i h) [ inl r ↦ inl (subst (λ xs. Has xs i) (sym cut) r) | inr r ↦ inr (r ∙ sym top_w) ]);
-        few = g.few;
+        bounded = g.bounded;
         cursors = g.cursors;
         rising_waiting = subst IsRising (sym cut) (rising_take (length x.waiting.items - 1) x.waiting.items g.rising_waiting);
         rising_boundaries = g.rising_boundaries;
@@ -261,7 +261,7 @@ has_none x h = (let l : h.0 < length {A = ℕ} [] = h.1 in omega arith)
 
 -- a search that reached no node
 pub start_valid : (arcs : List Arc) (y : PathSearch) (nodes : ℕ) → nodes ≤ 1024 → InRange nodes arcs → y.marks.items ≡ replicate nodes New → y.path.items ≡ [] → y.waiting.items ≡ [] → y.boundaries.items ≡ [] → y.count ≡ 0 → length y.cursors.items ≡ nodes → length y.marks.items ≡ nodes → ((u : ℕ) → u < nodes → IsPastLast arcs u (length arcs) (get_or y.cursors.items u 0)) → IsValid arcs y
-start_valid arcs y nodes few range marks path waiting boundaries count cursors many last =
+start_valid arcs y nodes bounded range marks path waiting boundaries count cursors many last =
     let all_new : (u : ℕ) → mark_at y.marks.items u ≡ New = λ u. ap (λ ms. mark_at ms u) marks ∙ elim (cases_lt u nodes) [
       | inl l ↦ get_or-replicate nodes u New New l
       | inr g ↦ sym (ap (λ ms. mark_at ms u) marks) ∙ get_or_past y.marks.items u New (omega arith)
@@ -288,7 +288,7 @@ start_valid arcs y nodes few range marks path waiting boundaries count cursors m
         boundaries = λ b h. absurd (no_bound b h);
         bottom = λ lt. absurd (omega arith);
       };
-      few = omega arith;
+      bounded = omega arith;
       cursors = cursors ∙ sym many;
       rising_waiting = subst IsRising (sym waiting) rising_none;
       rising_boundaries = subst IsRising (sym boundaries) rising_none;

@@ -11,7 +11,7 @@ use Rattle.tv_graph.specs.Invariant.{IsSearchState, IsAhead}
 -- the state of the search holds of its vectors, which rise and are long enough, and its cursors are links to arcs
 pub record IsValid (arcs : List Arc) (x : PathSearch) : Type 0 where
   pub state : IsSearchState (length arcs) (from_at arcs) (to_at arcs) (Reaches arcs) (mark_at x.marks.items) (λ u. slice_index x.cursors.items u) (λ i. slice_index x.path.items i) (length x.path.items) x.count (Has x.waiting.items) (Has x.boundaries.items)
-  pub few : length x.marks.items ≤ 1024
+  pub bounded : length x.marks.items ≤ 1024
   pub cursors : length x.cursors.items ≡ length x.marks.items
   pub rising_waiting : IsRising x.waiting.items
   pub rising_boundaries : IsRising x.boundaries.items

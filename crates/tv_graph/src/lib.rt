@@ -31,7 +31,7 @@ pub struct Arc {
 /// biconnected components", Information Processing Letters 74 (2000). Its time is linear in the
 /// nodes and arcs. It keeps its stacks in vectors and never recurses.
 pub fn components(alloc: Global, nodes: u32, arcs: &[Arc]) -> Result<Vec<u32>, AllocError>
-    requires few { nodes ≤ 1024 }
+    requires bounded { nodes ≤ 1024 }
     requires in_range { All (IsBetween nodes) arcs.now }
     ensures one_each { IfOk result (λ numbers. length numbers.items ≡ nodes) }
 

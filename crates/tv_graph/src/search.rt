@@ -51,7 +51,7 @@ impl PathSearch {
         arcs: &[Arc],
         latest: Vec<usize>,
     ) -> Result<Self, AllocError>
-        requires few { nodes ≤ 1024 }
+        requires bounded { nodes ≤ 1024 }
         requires range { InRange nodes arcs.now }
         requires latest { HasLatest nodes arcs.now latest.items }
         ensures valid { IfOk result (λ search. IsValid arcs.now search) }

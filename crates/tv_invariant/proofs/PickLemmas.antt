@@ -20,7 +20,7 @@ none_there (suc k) x e = search rules
 only_some : {A : Type 0} {y x : A} → Some y ≡ Some x → y ≡ x
 only_some e = search rules
 
--- one item more is taken where it is marked, or behind the marks
+-- one item more is taken where it is marked, or after the marks
 pub picked-more : {A : Type 0} (marks : List Bool) (xs : List A) (k : ℕ) (x : A) → slice_get xs k ≡ Some x
     → picked marks (take (suc k) xs) ≡ picked marks (take k xs) ++ cond (get_or marks k true) (x ∷ []) []
 picked-more [] [] k x e = absurd (none_there k x e)

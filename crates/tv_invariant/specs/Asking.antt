@@ -18,7 +18,7 @@ IsTold (Some told) given = given ≡ told
 abbrev pub Gave : {A : Type 0} → (A → Option (List Candidate)) → List A → List (List Candidate) → Type 0
 Gave rest proposers lists = AllZip (λ p given. IsTold (rest p) given) proposers lists
 
--- those that were given and fit are put behind the old ones
+-- those that were given and fit are put after the old ones
 abbrev pub AreTaken : CaseSystem → List Candidate → List Candidate → List Candidate → Type 0
 AreTaken about old given new = new ≡ old ++ filter (fits about) given
 

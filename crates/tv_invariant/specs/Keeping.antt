@@ -5,7 +5,7 @@ use Rattle.tv_linear.specs.declared.cover.CoverTree.{CoverTree}
 use Rattle.tv_invariant.specs.declared.kept.Kept.{Kept}
 use Rattle.tv_invariant.specs.Thinning.{AreMarks, IsThinned, Shows, picked}
 
--- behind those that were kept before, the row is kept with these rows
+-- after those that were kept before, the row is kept with these rows
 pub record AddsKept (n : ℕ) (from : List Linear) (row : Linear) (before after : List Kept) : Type 0 where
   pub more : Kept
   pub added : after ≡ before ++ more ∷ []

@@ -26,7 +26,7 @@ pub record AreMarks (tree : CoverTree) (count : ℕ) (marks : List Bool) : Type 
   pub each : length marks ≡ count
   pub used : (i : ℕ) → i < count → IsTrue (get_or marks i false) ↔ Uses tree i
 
--- the marked items, and those behind the marks
+-- the marked items, and those after the marks
 abbrev pub picked : {A : Type 0} → List Bool → List A → List A
 picked [] xs = xs
 picked (mark ∷ marks) [] = []

@@ -21,7 +21,7 @@ pub struct Judge<'a> {
     /// What holds over the case.
     pub ambient: &'a Poly,
     pub budget: &'a Budget,
-    pub ghost few: { ambient.now.columns < 2 ^ 32 - 1 },
+    pub ghost bounded: { ambient.now.columns < 2 ^ 32 - 1 },
     pub ghost even: { AreEven ambient.now.columns ambient.now.rows.items },
     pub ghost terms: { All (λ u. width u.term ≡ ambient.now.columns) case.now.updates.items },
     pub ghost splits: { budget.now.splits ≤ 128 },

@@ -18,7 +18,7 @@ use tv_linear::{Poly, Row, push_item};
 
 /// A proof that each whole point of the rows meets the row, or one that does not.
 fn asked(alloc: Global, ambient: &Poly, row: Row, budget: &Budget) -> Result<Covered, CoverFault>
-    requires few { ambient.now.columns < 2 ^ 32 - 1 }
+    requires bounded { ambient.now.columns < 2 ^ 32 - 1 }
     requires even { AreEven ambient.now.columns ambient.now.rows.items }
     requires same { width row ≡ ambient.now.columns }
     requires splits { budget.now.splits ≤ 128 }
@@ -43,7 +43,7 @@ pub fn is_met_by_all(
     kept: &mut Vec<Kept>,
     budget: &Budget,
 ) -> Result<bool, CoverFault>
-    requires few { ambient.now.columns < 2 ^ 32 - 1 }
+    requires bounded { ambient.now.columns < 2 ^ 32 - 1 }
     requires even { AreEven ambient.now.columns ambient.now.rows.items }
     requires same { width row ≡ ambient.now.columns }
     requires seen { IsSeen ambient.now.columns ambient.now.rows.items seen.old }

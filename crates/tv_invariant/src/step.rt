@@ -84,7 +84,7 @@ pub fn step(
     budget: &Budget,
 ) -> Result<Vec<Candidate>, CoverFault>
     requires over { AreOver variables now.items }
-    requires few { variables ≤ 512 }
+    requires bounded { variables ≤ 512 }
     requires case { (locations : ℕ) × IsCase variables locations (case_view case.now) }
     requires splits { budget.now.splits ≤ 128 }
     ensures sieved { let taken = case_view case.now in

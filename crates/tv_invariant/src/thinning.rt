@@ -45,7 +45,7 @@ pub fn marks_of(alloc: Global, tree: &CoverTree, count: usize) -> Result<Vec<boo
     Ok(marks)
 }
 
-/// Whether the item at a place is marked, or behind the marks.
+/// Whether the item at a place is marked, or after the marks.
 fn is_picked(marks: &[bool], place: usize) -> bool
     ensures { result ≡ get_or marks.now place true }
 {
@@ -65,7 +65,7 @@ pub fn marked(alloc: Global, rows: &[Row], marks: &[bool]) -> Result<Vec<Row>, A
     Ok(kept)
 }
 
-/// The multipliers of the marked rows, and of those behind the list.
+/// The multipliers of the marked rows, and of those after the list.
 fn thin(alloc: Global, multipliers: &[i64], marks: &[bool]) -> Result<Vec<i64>, AllocError>
     ensures { IfOk result (λ v. v.items ≡ picked marks.now multipliers.now) }
 {

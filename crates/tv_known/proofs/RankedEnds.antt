@@ -31,7 +31,7 @@ scaled_met xs [] h = All-nil (λ r. scaled_value r xs (pos 1) ≤ℤ pos 0)
 scaled_met xs (r ∷ rows) h =
     All-cons (λ q. scaled_value q xs (pos 1) ≤ℤ pos 0) r rows (subst (λ z. z ≤ℤ pos 0) (sym (one_scale r xs)) (All-head (IsMet xs) r rows h)) (scaled_met xs rows (All-tail (IsMet xs) r rows h))
 
--- a row does not see what stands behind its columns
+-- a row does not see what follows its columns
 dot_front : (cs xs ys : List ℤ) → length cs ≤ length xs → dot cs (xs ++ ys) ≡ dot cs xs
 dot_front [] xs ys l = refl
 dot_front (c ∷ cs) [] ys l = absurd (omega arith)

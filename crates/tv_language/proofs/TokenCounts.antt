@@ -1,4 +1,4 @@
--- How many tokens a text has, and that nothing stands behind its end.
+-- How many tokens a text has, and that nothing stands after its end.
 use Rattle.std.proofs.Common.{◌≡◌, ℕ, ◌+◌, ◌<◌, ◌≤◌, Bool, true, false, List, [], ◌∷◌, ◌++◌, length, drop, take, Option, Some, None, refl, sym, ap, subst, ◌∙◌, cond, arith, length-drop}
 use Rattle.std.specs.Prelude.{◌==◌, ◌&&◌, ◌^◌, nat_le, slice_index}
 use Rattle.std.specs.List.{prefix_len}

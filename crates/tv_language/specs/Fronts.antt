@@ -10,7 +10,7 @@ use Rattle.tv_language.specs.Gaps.{gap_of, gap_length}
 use Rattle.tv_language.specs.Numbers.{value_of_digits}
 use Rattle.tv_language.specs.WordTexts.{begins_name, continues_name, word_kind}
 
--- how many bytes there are up to the first `close` behind the blanks, the comments and the byte `opening`
+-- how many bytes there are up to the first `close` after the blanks, the comments and the byte `opening`
 abbrev pub span : ℕ → ℕ → List ℕ → Option ℕ
 span opening close text =
     if slice_index (drop (gap_length text) text) 0 == opening
@@ -21,7 +21,7 @@ abbrev pub end_by : Bool → ℕ → ℕ
 end_by b zero = if b then 1 else 0
 end_by b (suc n) = suc (suc n)
 
--- the place behind the last such byte, 0 where there is none
+-- the place after the last such byte, 0 where there is none
 abbrev pub end_of_last : ℕ → List ℕ → ℕ
 end_of_last close [] = 0
 end_of_last close (b ∷ bs) = end_by (b == close) (end_of_last close bs)
@@ -31,7 +31,7 @@ abbrev pub section : TokenKind → TokenKind → ℕ → Option ℕ → Front
 section whole bare n None = Token bare n
 section whole bare n (Some more) = Token whole (n + more)
 
--- what a word of n bytes is, with the text behind it
+-- what a word of n bytes is, with the text after it
 abbrev pub word_front : TokenKind → ℕ → List ℕ → Front
 word_front Cutpoint n rest = section Passed Cutpoint n (span 58 59 rest)
 word_front Error n rest = section Passed Error n (span 58 59 rest)

@@ -39,7 +39,7 @@ abbrev pub numbered : (ℕ → Symbol) → Option ℕ → Symbol
 numbered make None = fixed Unread
 numbered make (Some n) = make n
 
--- a token is a label where it stands right behind a colon
+-- a token is a label where it comes right after a colon
 abbrev pub symbol_by : Vocabulary → Bool → ℕ → TokenKind → Word → Symbol
 symbol_by v true draws Name w = numbered label (number_of w v.labels)
 symbol_by v true draws Number w = numbered label (number_of w v.labels)
@@ -58,7 +58,7 @@ draws_behind From draws = 0
 draws_behind Nondet draws = suc draws
 draws_behind kind draws = draws
 
--- the symbols of the tokens that are left, told whether they stand right behind a colon, and how many draws come before
+-- the symbols of the tokens that are left, told whether they stand right after a colon, and how many draws come before
 abbrev pub symbols_from : Vocabulary → Bool → ℕ → List Lexeme → List Symbol
 symbols_from v behind_colon draws [] = []
 symbols_from v behind_colon draws (x ∷ xs) =
@@ -100,7 +100,7 @@ abbrev pub label_words : Bool → List Lexeme → List Word
 label_words behind_colon [] = []
 label_words behind_colon (x ∷ xs) = label_by behind_colon x.kind x.word (label_words (is_colon x.kind) xs)
 
--- these words behind those that are known, each once, by its first place
+-- these words after those that are known, each once, by its first place
 abbrev pub by_first_place : List Word → List Word → List Word
 by_first_place known [] = known
 by_first_place known (w ∷ ws) = by_first_place (words_with w known) ws

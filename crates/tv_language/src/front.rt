@@ -18,7 +18,7 @@ pub enum Front {
     Unread,
 }
 
-/// How far into a text there is still a `;` and a `)`: behind these places none stands.
+/// How far into a text there is still a `;` and a `)`: after these places there is none.
 #[derive(Clone, Copy, Debug, PartialEq, Eq)]
 pub struct Reach {
     pub semicolon: usize,
@@ -37,7 +37,7 @@ fn place_of(bytes: &[u8], close: u8, reach: usize) -> Option<usize>
     bytes.iter().position(|byte| *byte == close)
 }
 
-/// How many bytes there are up to the first `close` behind the blanks, the comments and the byte `opening`.
+/// How many bytes there are up to the first `close` after the blanks, the comments and the byte `opening`.
 fn span(text: &[u8], opening: u8, close: u8, reach: usize) -> Option<usize>
     requires short { length text.now + 1 < 2 ^ 32 }
     requires opens { 0 < opening }
@@ -57,7 +57,7 @@ fn span(text: &[u8], opening: u8, close: u8, reach: usize) -> Option<usize>
     }
 }
 
-/// A word of `len` bytes, with what belongs to it in the text behind it.
+/// A word of `len` bytes, with what belongs to it in the text after it.
 fn section(whole: TokenKind, bare: TokenKind, len: usize, more: Option<usize>) -> Front
     requires positive { 0 < len }
     requires short { len < 2 ^ 32 }
@@ -70,7 +70,7 @@ fn section(whole: TokenKind, bare: TokenKind, len: usize, more: Option<usize>) -
     }
 }
 
-/// What a word of `len` bytes is, with the text behind it.
+/// What a word of `len` bytes is, with the text after it.
 #[inline(always)]
 fn word_front(kind: TokenKind, len: usize, rest: &[u8], reach: Reach) -> Front
     requires positive { 0 < len }

@@ -35,7 +35,7 @@ pub fn find_near(names: &Names, recent: Recent, word: &[u8]) -> Option<u32>
     names.find(word)
 }
 
-/// The recent numbers behind this one.
+/// The recent numbers after this one.
 #[inline(always)]
 pub fn behind(recent: Recent, number: u32) -> Recent
     ensures kept { (number ≡ recent.last) ⊎ (number ≡ recent.before) → result ≡ recent }

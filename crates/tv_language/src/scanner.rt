@@ -6,7 +6,7 @@ use crate::front::{Front, Reach, front_at};
 use crate::token::{Token, TokenFault, TokenKind};
 use std::alloc::{AllocError, Global};
 
-/// The place behind the last such byte, 0 where there is none.
+/// The place after the last such byte, 0 where there is none.
 fn end_of_last(text: &[u8], close: u8) -> usize
     requires { length text.now < 2 ^ 32 }
     ensures exact { result ≡ end_of_last close text.now }

@@ -66,7 +66,7 @@ whole_root about node tree starts ranked bare = record {
   narrow = bare_narrow tree bare;
 }
 
--- the cover of the start by the known rows, with no fall behind it, is met by the piece there
+-- the cover of the start by the known rows, with no fall after it, is met by the piece there
 pub known_root : (about : CaseSystem) (known : List Piece) (node : Node) (fall : Fall) (base tree : CoverTree) → about.start < about.locations → ShowsEnd about known node → fall.number ≡ 0 → lists fall.lines.items ≡ [] → IsStartCover about.variables (rows_at known about.start) base → HasFall fall 0 base tree → IsRoot about term node tree
 known_root about known node fall base tree starts ranked number lines begins h = record {
   fits = ranked.fits;

@@ -156,7 +156,7 @@ module _ (about : CaseSystem) (numbers : List ℕ) (component count : ℕ) where
 
   -- sorted up to the next place, where no case inside is passed over
   pub sorted_until : (known : List Piece) (p many : ℕ) (set empty : List ℕ) (refutations : List (List ℤ)) → p ≤ length places → many ≤ length about.cases → many ≡ get_or places p (length about.cases) → AreSorted about known numbers component (behind places p) set empty refutations → AreSorted about known numbers component many set empty refutations
-  sorted_until known p many set empty refutations h few e s =
+  sorted_until known p many set empty refutations h bounded e s =
       let g = gap_from component 0 keys p h in
       let low = behind_same p in
       let upper = ap (get_or places p) (let n = length-map about.cases (inside_key numbers count) in let q : 0 + length keys ≡ length about.cases = omega (arith, n) in q) in
@@ -172,7 +172,7 @@ module _ (about : CaseSystem) (numbers : List ℕ) (component count : ℕ) where
         narrow = s.narrow;
         each = λ k l inside. elim (cases_lt k (behind places p)) [
           | inl b ↦ s.each k b inside
-          | inr a ↦ absurd (g.none k (omega (arith, low, a)) (omega (arith, upper, e, l)) (ap (λ z. get_or keys z 0) (let q : k - 0 ≡ k = omega arith in q) ∙ key_at k (omega (arith, l, few)) ∙ inside_has_key (case_at about.cases k) inside))
+          | inr a ↦ absurd (g.none k (omega (arith, low, a)) (omega (arith, upper, e, l)) (ap (λ z. get_or keys z 0) (let q : k - 0 ≡ k = omega arith in q) ∙ key_at k (omega (arith, l, bounded)) ∙ inside_has_key (case_at about.cases k) inside))
         ];
       }
 

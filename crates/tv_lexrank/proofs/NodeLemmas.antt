@@ -1,4 +1,4 @@
--- Further ranks behind change nothing of what is owed.
+-- Further ranks at the end change nothing of what is owed.
 use Rattle.std.proofs.Common.{◌≡◌, ℕ, zero, suc, List, [], ◌∷◌, ◌++◌, map, Option, None, Some, refl, sym, ap, ◌∙◌, subst, pos}
 use Rattle.std.specs.Option.{option_map}
 use Rattle.std.proofs.lemmas.List.{map-append}
@@ -22,7 +22,7 @@ rows_padded (f ∷ old) (g ∷ new) more more' (suc j) rows h = by_rest (fall_ro
     by_rest None e k rest = absurd cc
     by_rest (Some rs) e k rest = ap (option_map (λ rs. less g f (pos 0) ∷ rs)) (rest rs e) ∙ k
 
--- further ranks behind do not change a fall
+-- further ranks at the end do not change a fall
 pub fall_padded : (v : ℕ) (w : Way) (old new more more' : List Linear) (j : ℕ) (rows : List Known) → owed_fall v w old new j ≡ Some rows → owed_fall v w (old ++ more) (new ++ more') j ≡ Some rows
 fall_padded v w old new more more' zero rows h = absurd cc
 fall_padded v w old new more more' (suc j) rows h =

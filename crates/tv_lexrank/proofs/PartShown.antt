@@ -25,7 +25,7 @@ use Rattle.tv_lexrank.specs.Pieces.{zero_ranks, all_ranks, ranked_piece}
 use Rattle.tv_lexrank.specs.Offered.{ArePieces}
 use Rattle.tv_lexrank.proofs.NodeLemmas.{fall_padded}
 
--- further ranks behind do not change what shows a case
+-- further ranks at the end do not change what shows a case
 shown_padded : (v : ℕ) (w : Way) (old new more more' : List Linear) (s : CaseShown) → IsShownBy v w old new s → IsShownBy v w (old ++ more) (new ++ more') s
 shown_padded v w old new more more' (Untaken ms) h = h
 shown_padded v w old new more more' (Falls fall) h = record { shown = by_owed (owed_fall v w old new fall.number) refl h.shown; narrow = h.narrow }

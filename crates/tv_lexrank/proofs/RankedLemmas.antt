@@ -176,8 +176,8 @@ node_ranked r ranked node pieces proofs same own shown located = record {
     fitted = node_fitted (asked r) term 1 node (all_pieces r) r.count [] proofs given (record {
       said = tt;
       ranked = λ e. absurd cc;
-      small = (let f = r.few in omega (arith, f));
-      few = (let n = length-ranked_pieces r (cases_of r.about.now).locations in omega (arith, n, located));
+      small = (let f = r.bounded in omega (arith, f));
+      bounded = (let n = length-ranked_pieces r (cases_of r.about.now).locations in omega (arith, n, located));
       each = pieces_shaped r ranked (cases_of r.about.now).locations (omega arith);
       offered = λ number. all_offered r (all_pieces r) (pieces_there r) number (cases_of r.about.now).locations proofs shown;
       below = tt;

@@ -27,7 +27,7 @@ numbered_without many xs p h = λ k l. let s = stood xs p k l in subst (λ z. z 
 pub points_without : (about : CaseSystem) (known : List Piece) (xs : List ℕ) (p : ℕ) → PointsOf about known xs → PointsOf about known (without xs p)
 points_without about known xs p h = λ k l. let s = stood xs p k l in subst (λ z. HasPoint about.variables (way_of about.cases known z)) (sym s.2) (h s.0 s.1)
 
--- the items before a place and behind it
+-- the items before a place and after it
 pub taken_apart : (xs : List ℕ) (k : ℕ) → k < length xs → without xs k ≡ take k xs ++ drop (k + 1) xs
 taken_apart [] k h = absurd (omega (arith, h))
 taken_apart (x ∷ xs) zero h = refl

@@ -107,10 +107,10 @@ module _ (r : Ranking) (k : ℕ) where
       let l = (of_case about k r.about.now.are_cases k_in).leaves in
       let m = r.located in
       let u = r.below w.taken.from (omega (arith, l, m)) in
-      let few = r.few_parts in
+      let bounded = r.few_parts in
       moved (ranks_of r w.taken.from) (ranks_of r w.taken.to) fall refl refl
       (subst (λ z. ShownAt (v + w.taken.draws) (way_rows w) (owed_fall v w (ranks_of r w.taken.from) (ranks_of r w.taken.to) z) (lists fall.lines.items)) (sym f.0)
-      (leaving_falls v w from to (rounds_in r.parts.now from) (rounds_in r.parts.now to) less (omega (arith, u, few)) (lists fall.lines.items) f.1))
+      (leaving_falls v w from to (rounds_in r.parts.now from) (rounds_in r.parts.now to) less (omega (arith, u, bounded)) (lists fall.lines.items) f.1))
       (subst AreNarrowLines (sym f.1) (All-cons (All Narrow) zero (zero ∷ []) (zero_narrow (length (met_rows w))) (All-cons (All Narrow) zero [] (zero_narrow (length (met_rows w))) (All-nil (All Narrow)))))
     where
       below_of : (a b : ℕ) → a ≤ b → (a ≡ b → ⊥) → a < b
@@ -137,10 +137,10 @@ chain_length about known set rounds (next s r rs round chain) =
     q
 
 part_few : (about : CaseSystem) (known : List Piece) (numbers : List ℕ) (c : ℕ) (p : Part) → length about.cases ≤ 8192 → IsPart about known numbers c p → length p.rounds.items ≤ 8192
-part_few about known numbers c p few h =
+part_few about known numbers c p bounded h =
     let a = chain_length about known p.sorted.set.items p.rounds.items h.chain in
     let b = few_below (length about.cases) p.sorted.set.items h.sorted.ascends h.sorted.numbered in
-    omega (arith, a, b, few)
+    omega (arith, a, b, bounded)
 
 none_there : (ps : List Part) (c : ℕ) → length ps ≤ c → rounds_in ps c ≡ []
 none_there [] c h = refl
@@ -148,10 +148,10 @@ none_there (p ∷ ps) zero h = absurd (omega (arith, h))
 none_there (p ∷ ps) (suc c) h = none_there ps c (omega (arith, h))
 
 pub parts_few : (about : CaseSystem) (known : List Piece) (numbers : List ℕ) (ps : List Part) → length about.cases ≤ 8192 → PartsFrom about known numbers 0 ps → (c : ℕ) → length (rounds_in ps c) ≤ 8192
-parts_few about known numbers ps few h c = by_either (grind arith)
+parts_few about known numbers ps bounded h c = by_either (grind arith)
   where
     by_either : (c < length ps) ⊎ (length ps ≤ c) → length (rounds_in ps c) ≤ 8192
-    by_either (inl l) = let s = rounds_chain about known numbers 0 c ps h l in subst (λ z. length z ≤ 8192) s.2 (part_few about known numbers (0 + c) s.0 few s.1)
+    by_either (inl l) = let s = rounds_chain about known numbers 0 c ps h l in subst (λ z. length z ≤ 8192) s.2 (part_few about known numbers (0 + c) s.0 bounded s.1)
     by_either (inr l) = subst (λ z. length z ≤ 8192) (sym (none_there ps c l)) (omega arith)
 
 -- ---- the terms are over the variables

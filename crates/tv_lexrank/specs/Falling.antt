@@ -1,4 +1,4 @@
--- Falls of the ranks behind what covers show.
+-- Falls of the ranks after what covers show.
 use Rattle.std.specs.Prelude.{◌≡◌, ℕ, ◌-◌, ◌<◌, List, [], ◌∷◌, ◌++◌, length, take, drop, All, ℤ, Option, Some, None}
 use Rattle.tv_linear.specs.Arithmetic.{zeros}
 use Rattle.tv_linear.specs.Linear.{columns, IsWithin}

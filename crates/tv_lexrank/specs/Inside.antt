@@ -9,7 +9,7 @@ inside_key numbers count c = if get_or numbers c.from 0 == get_or numbers c.to 0
 abbrev pub inside_keys : CaseSystem → List ℕ → ℕ → List ℕ
 inside_keys about numbers count = map (inside_key numbers count) about.cases
 
--- what is behind the first places of a list of ascending numbers: one more than the last of them, and 0 before any
+-- what is after the first places of a list of ascending numbers: one more than the last of them, and 0 before any
 abbrev pub behind : List ℕ → ℕ → ℕ
 behind places zero = 0
 behind places (suc p) = get_or places p 0 + 1

@@ -33,7 +33,7 @@ step_owed r number ps l c =
 abbrev pub IsOfferedAt : Ranking → ℕ → LinearCase → Proof → Type 0
 IsOfferedAt r l c p = (number : ℕ) (ps : List Marked) → ArePieces r ps → IsOffered (step_owed r number ps l c) p
 
--- behind the old proofs the new ones have one for each of the cases from a location
+-- after the old proofs the new ones have one for each of the cases from a location
 pub record AreStepsShown (r : Ranking) (l : ℕ) (cases : List LinearCase) (old new : List Proof) : Type 0 where
   pub more : List Proof
   pub parts : new ≡ old ++ more

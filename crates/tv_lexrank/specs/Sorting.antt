@@ -65,7 +65,7 @@ LeadsInside numbers component c = (get_or numbers c.from 0 ≡ component) × (ge
 abbrev pub StandsIn : List ℕ → ℕ → Type 0
 StandsIn xs k = (j : ℕ) × (j < length xs) × (get_or xs j 0 ≡ k)
 
--- each number is less than those behind it
+-- each number is less than those after it
 abbrev pub Ascends : List ℕ → Type 0
 Ascends xs = (i j : ℕ) → i < j → j < length xs → get_or xs i 0 < get_or xs j 0
 

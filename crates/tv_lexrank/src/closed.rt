@@ -43,7 +43,7 @@ fn rows_before(
     case: &Case,
     variables: u32,
 ) -> Result<Vec<Row>, RankFault>
-    requires few { variables + case.now.draws < 2 ^ 32 - 1 }
+    requires bounded { variables + case.now.draws < 2 ^ 32 - 1 }
     requires terms { All (λ u. width u.term ≡ variables + case.now.draws) (case_view case.now).updates }
     requires even { All (λ r. width r ≡ variables) rows.now }
     ensures rows { IfOk result (λ v. AreRowsBefore (case_view case.now) rows.now v.items) }
@@ -66,7 +66,7 @@ fn cover_into(
     taken: u32,
     budget: &Budget,
 ) -> Result<Cover, RankFault>
-    requires few { ambient.now.columns < 2 ^ 32 - 1 }
+    requires bounded { ambient.now.columns < 2 ^ 32 - 1 }
     requires even { AreEven ambient.now.columns ambient.now.rows.items }
     requires same { AreEven ambient.now.columns target.items }
     requires splits { budget.now.splits ≤ 128 }

@@ -52,7 +52,7 @@ pub struct Fallen {
     pub round: usize,
 }
 
-/// Puts the multipliers of a case in the rounds up to its fall behind a first list.
+/// Puts the multipliers of a case in the rounds up to its fall after a first list.
 pub fn fall_of(
     alloc: Global,
     rounds: &[Round],

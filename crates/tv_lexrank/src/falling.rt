@@ -1,4 +1,4 @@
-// A fall of the ranks behind what a cover shows.
+// A fall of the ranks after what a cover shows.
 
 ghost use Rattle.std.specs.Prelude.{◌≡◌, ◌+◌, ◌^◌, ◌<◌, ◌++◌, map, min, IfOk};
 ghost use Rattle.tv_linear.specs.Arithmetic.{zeros};
@@ -37,7 +37,7 @@ fn lesser(a: usize, b: usize) -> usize
     if a < b { a } else { b }
 }
 
-/// The numbers with so many zeros put in at a place, or behind them all.
+/// The numbers with so many zeros put in at a place, or after them all.
 pub fn put_in(
     alloc: Global,
     line: &[i64],
@@ -83,7 +83,7 @@ fn number_of(fall: &Fall) -> u32
     fall.number
 }
 
-/// The cover, below so many splits, with the lines of the fall behind those of each target.
+/// The cover, below so many splits, with the lines of the fall after those of each target.
 pub fn with_fall(
     alloc: Global,
     tree: &CoverTree,

@@ -136,7 +136,7 @@ fn take_turn(
 /// Takes cases out of the set round by round, until it is empty or stuck.
 pub fn rounds_of(alloc: Global, component: &Component, set: Vec<u32>) -> Result<Greedy, RankFault>
     requires numbered { AreNumbered (length (cases_of component.now.about.now).cases) set.items }
-    requires few { length set.items < 2 ^ 32 }
+    requires bounded { length set.items < 2 ^ 32 }
     requires points { PointsIn component.now set.items }
     ensures greedy { IfOk result (λ g. IsGreedyIn component.now set.items g) }
     ensures refusals { IfErr result (λ e. RefusesGreedyIn component.now set.items e) }

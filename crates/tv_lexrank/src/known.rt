@@ -64,7 +64,7 @@ pub fn rows_with(
     guards: &[Row],
     draws: u32,
 ) -> Result<Vec<Row>, AllocError>
-    requires few { All (λ r. width r + draws < 2 ^ 32 - 1) known.now }
+    requires bounded { All (λ r. width r + draws < 2 ^ 32 - 1) known.now }
     ensures { IfOk result (λ v. v.items ≡ map (padded_row draws) known.now ++ guards.now) }
 {
     let mut rows = all_padded(alloc, known, draws)?;

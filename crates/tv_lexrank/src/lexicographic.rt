@@ -44,7 +44,7 @@ pub fn arcs_of(alloc: Global, list: &[Case]) -> Result<Vec<Arc>, AllocError>
 fn count_of(numbers: &[u32]) -> u32
     requires { All (λ n. n < 1024) numbers.now }
     ensures below { AreBelow result numbers.now }
-    ensures few { result ≤ 1024 }
+    ensures bounded { result ≤ 1024 }
 {
     let mut count = 0;
     'numbers: for number in numbers {
@@ -67,7 +67,7 @@ fn ranked_parts(
     requires known { AreKnown (cases_of about.now) known.now.pieces.items }
     requires components { AreComponents (cases_of about.now) numbers.now }
     requires below { AreBelow (length parts.now) numbers.now }
-    requires few { length parts.now ≤ 1024 }
+    requires bounded { length parts.now ≤ 1024 }
     requires parts { PartsFrom (cases_of about.now) known.now.pieces.items numbers.now 0 parts.now }
     requires splits { budget.now.splits ≤ 128 }
     ensures ranked { IfOk result (IsAnswer (cases_of about.now) known.now.pieces.items) }

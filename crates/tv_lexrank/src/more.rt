@@ -38,7 +38,7 @@ fn fall_under(alloc: Global, fall: &Fall, place: usize, many: usize) -> Result<F
     })
 }
 
-/// What shows a case under more rows that are known where it starts: so many more, behind the first `place` of those under which it was
+/// What shows a case under more rows that are known where it starts: so many more, after the first `place` of those under which it was
 /// shown. Their multipliers are 0.
 pub fn under_more(
     alloc: Global,

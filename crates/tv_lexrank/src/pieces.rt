@@ -62,7 +62,7 @@ fn ranks_of(
     location: u32,
     count: u32,
 ) -> Result<Vec<Row>, AllocError>
-    requires few { variables < 2 ^ 32 - 1 }
+    requires bounded { variables < 2 ^ 32 - 1 }
     requires enough { length rounds.now + 1 ≤ count }
     ensures { IfOk result (λ v. v.items ≡ padded_ranks variables component rounds.now location count) }
 {
@@ -92,7 +92,7 @@ fn piece_of(
     rows: &[Row],
     ranks: &[Row],
 ) -> Result<Marked, AllocError>
-    requires few { variables < 2 ^ 32 - 1 }
+    requires bounded { variables < 2 ^ 32 - 1 }
     ensures { IfOk result (λ piece. piece ≡ marked location variables Go rows.now ranks.now) }
 {
     match Marked::from_rows(alloc, location, Mark::Go, variables, rows, ranks)? {

@@ -30,7 +30,7 @@ pub struct Ranking<'a> {
     pub ghost below: { AreBelow (length parts.now) numbers.now },
     pub ghost never_rises: { NeverRises (cases_of about.now) numbers.now },
     pub ghost enough: { (number : ℕ) → length (rounds_in parts.now number) + 1 ≤ count },
-    pub ghost few: { count ≤ 8193 },
+    pub ghost bounded: { count ≤ 8193 },
     pub ghost few_parts: { length parts.now ≤ 1024 },
 }
 
@@ -61,7 +61,7 @@ impl Ranking<'_> {
     pub fn rounds(&self, number: u32) -> &[Round]
         requires { number < length self.now.parts.now }
         ensures is { result.now ≡ rounds_in self.now.parts.now number }
-        ensures few { length result.now + 1 ≤ self.now.count }
+        ensures bounded { length result.now + 1 ≤ self.now.count }
     {
         &part_at(self.parts, number).rounds
     }
@@ -88,7 +88,7 @@ fn greater(a: u32, b: u32) -> u32
 pub fn rank_count(parts: &[Part]) -> u32
     requires { AreFew parts.now }
     ensures enough { (number : ℕ) → length (rounds_in parts.now number) + 1 ≤ result }
-    ensures few { result ≤ 8193 }
+    ensures bounded { result ≤ 8193 }
 {
     let mut count = 1;
     'parts: for part in parts {

@@ -30,7 +30,7 @@ pub enum CaseShown {
 /// The fall of a case that the rounds take out: the number of the component stays, and the term of its round falls.
 fn inside_fall(alloc: Global, rounds: &[Round], number: u32, met: usize) -> Result<Fall, AllocError>
     requires lined { AreLined rounds.now }
-    requires few { length rounds.now ≤ 8192 }
+    requires bounded { length rounds.now ≤ 8192 }
     ensures { IfOk result (IsFall (falls_in number rounds.now + 2) ((zeros met ++ pos 1 ∷ []) ∷ lines_of number rounds.now)) }
 {
     let first = zero_line(alloc, met)?;

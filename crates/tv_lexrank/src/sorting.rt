@@ -38,7 +38,7 @@ fn settle_guards(
     number: u32,
     pivots: u64,
 ) -> Result<Option<Vec<i64>>, RankFault>
-    requires few { columns < 2 ^ 32 - 1 }
+    requires bounded { columns < 2 ^ 32 - 1 }
     requires even { All (λ r. width r ≡ columns) guards.now }
     ensures settled { IfOk result (λ o. IsSettled columns guards.now o) }
     ensures refusals { IfErr result (λ e. RefusesGuards columns guards.now pivots number e) }
@@ -68,7 +68,7 @@ fn settle_rows(
     columns: u32,
     pivots: u64,
 ) -> Result<Option<Vec<i64>>, RankFault>
-    requires few { columns < 2 ^ 32 - 1 }
+    requires bounded { columns < 2 ^ 32 - 1 }
     requires even { All (λ r. width r ≡ columns) rows.now }
     ensures settled { IfOk result (λ o. IsSettled columns rows.now o) }
     ensures refusals { IfErr result (λ e. RefusesRows columns rows.now pivots e) }
@@ -103,7 +103,7 @@ pub fn case_of(about: &Cases, number: u32) -> &Case
     requires { number < length (cases_of about.now).cases }
     ensures is { case_view result.now ≡ case_at (cases_of about.now).cases number }
     ensures limits { IsCase (cases_of about.now).variables (cases_of about.now).locations (case_view result.now) }
-    ensures few { (cases_of about.now).variables ≤ 512 }
+    ensures bounded { (cases_of about.now).variables ≤ 512 }
 {
     case_in(about.list(), number)
 }

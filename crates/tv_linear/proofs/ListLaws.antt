@@ -95,4 +95,3 @@ pub take_more : {A : Type 0} (xs : List A) (k : ℕ) (x : A) → slice_get xs k 
 take_more [] k x h = absurd cc
 take_more (y ∷ ys) zero x h = (let e : y ≡ x = cc in ap (λ z. z ∷ []) e)
 take_more (y ∷ ys) (suc k) x h = ap (λ n. take n (y ∷ ys)) (let e : suc k + 1 ≡ suc (k + 1) = omega arith in e) ∙ ap (λ zs. y ∷ zs) (take_more ys k x h)
-

@@ -9,7 +9,7 @@ pub length-unpacked : (n count : ℕ) (zs : List ℤ) → length (unpacked n cou
 length-unpacked n zero zs = refl
 length-unpacked n (suc count) zs = ap suc (length-unpacked n count (drop (suc n) zs))
 
--- the row at a place begins behind the rows before it
+-- the row at a place begins after the rows before it
 pub get_or-unpacked : (n count : ℕ) (zs : List ℤ) (i : ℕ) (d : Linear) → i < count → get_or (unpacked n count zs) i d ≡ first_row n (drop (i * (n + 1)) zs)
 get_or-unpacked n zero zs i d h = absurd (omega arith)
 get_or-unpacked n (suc count) zs zero d h = let e : 0 ≡ 0 * (n + 1) = omega arith in ap (λ k. first_row n (drop k zs)) e
@@ -41,7 +41,7 @@ length-packed n (r ∷ rows) even =
     let later = length-packed n rows (All-tail (λ r. columns r ≡ n) r rows even) in
     omega (arith, here, later, length-append (r.coefficients ++ r.constant ∷ []) (packed rows), length-append r.coefficients (r.constant ∷ []))
 
--- rows are found again in their numbers, whatever stands behind these
+-- rows are found again in their numbers, whatever stands after these
 pub unpacked-packed : (n : ℕ) (rows : List Linear) (zs : List ℤ) → All (λ r. columns r ≡ n) rows → unpacked n (length rows) (packed rows ++ zs) ≡ rows
 unpacked-packed n [] zs even = refl
 unpacked-packed n (r ∷ rows) zs even =
@@ -57,7 +57,7 @@ unpacked-packed n (r ∷ rows) zs even =
     dropped (c ∷ cs) k ys zero e = absurd (omega arith)
     dropped (c ∷ cs) k ys (suc n) e = dropped cs k ys n (omega arith)
 
--- the rows behind others are found behind their numbers
+-- the rows after others are found after their numbers
 pub drop-packed : (n : ℕ) (rows : List Linear) (zs : List ℤ) → All (λ r. columns r ≡ n) rows → drop (length rows * (n + 1)) (packed rows ++ zs) ≡ zs
 drop-packed n rows zs even = drop_at (packed rows) zs (length rows * (n + 1)) (length-packed n rows even)
 

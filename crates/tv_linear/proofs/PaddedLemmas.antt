@@ -41,7 +41,7 @@ dot-padded m [] xs = dot-zeros m xs
 dot-padded m (c ∷ cs) [] = refl
 dot-padded m (c ∷ cs) (x ∷ xs) = ap (λ z. (c *ℤ x) +ℤ z) (dot-padded m cs xs)
 
--- the numbers behind the columns of a row do not count
+-- the numbers after the columns of a row do not count
 pub dot-take : (n : ℕ) (cs xs : List ℤ) → length cs ≡ n → dot cs (take n xs) ≡ dot cs xs
 dot-take n [] xs e = refl
 dot-take zero (c ∷ cs) xs e = absurd (omega (arith, e))
@@ -64,7 +64,7 @@ padded_met n more (r ∷ rows) zs e h =
     let m = All-head (IsMet zs) (padded_row more r) (map (padded_row more) rows) h in
     All-cons (IsMet (take n zs)) r rows (omega (arith, ints, d, f, m)) (padded_met n more rows zs (All-tail (λ r. columns r ≡ n) r rows e) (All-tail (IsMet zs) (padded_row more r) (map (padded_row more) rows) h))
 
--- and the other way, with numbers behind a point
+-- and the other way, with numbers after a point
 pub met_padded : (n more : ℕ) (rows : List Linear) (xs ds : List ℤ) → All (λ r. columns r ≡ n) rows → length xs ≡ n → All (IsMet xs) rows → All (IsMet (xs ++ ds)) (map (padded_row more) rows)
 met_padded n more [] xs ds e w h = All-nil (IsMet (xs ++ ds))
 met_padded n more (r ∷ rows) xs ds e w h =

@@ -25,7 +25,7 @@ IsWithin bits z = unsigned_abs z < 2 ^ bits
 pub record IsNarrow (r : Linear) : Type 0 where
   pub coefficients : All (IsWithin 62) r.coefficients
   pub constant : IsWithin 62 r.constant
-  pub few : length r.coefficients < 2 ^ 32 - 1
+  pub bounded : length r.coefficients < 2 ^ 32 - 1
 
 -- the sum of the products, column by column
 abbrev pub dot : List ℤ → List ℤ → ℤ

@@ -19,4 +19,4 @@ unpacked n (suc count) zs = first_row n zs ∷ unpacked n count (drop (suc n) zs
 pub record ArePacked (n count : ℕ) (zs : List ℤ) : Type 0 where
   pub enough : count * (n + 1) ≤ length zs
   pub narrow : All (IsWithin 62) zs
-  pub few : n < 2 ^ 32 - 1
+  pub bounded : n < 2 ^ 32 - 1

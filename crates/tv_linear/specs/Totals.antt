@@ -10,4 +10,4 @@ pub record Sum : Type 0 where
 pub record IsSmall (parts : ℕ) (r : Linear) : Type 0 where
   pub coefficients : All (λ z. unsigned_abs z ≤ parts * 2 ^ 62) r.coefficients
   pub constant : unsigned_abs r.constant ≤ parts * 2 ^ 62
-  pub few : length r.coefficients < 2 ^ 32 - 1
+  pub bounded : length r.coefficients < 2 ^ 32 - 1

@@ -20,7 +20,7 @@ pub trait Columns {
 
     fn width(&self) -> usize
         ensures is { result ≡ columns (meant self.now) }
-        ensures few { result < 2 ^ 32 - 1 };
+        ensures bounded { result < 2 ^ 32 - 1 };
 
     fn number(&self, column: usize) -> Option<i128>
         requires { column ≤ columns (meant self.now) }
@@ -110,7 +110,7 @@ impl Columns for Difference<'_> {
 pub struct Constant {
     pub columns: u32,
     pub number: i128,
-    ghost few: { columns < 2 ^ 32 - 1 },
+    ghost bounded: { columns < 2 ^ 32 - 1 },
 }
 
 impl Columns for Constant {

@@ -48,7 +48,7 @@ pub fn joined(alloc: Global, first: &[Row], second: &[Row]) -> Result<Vec<Row>, 
 
 /// Each row with so many columns more.
 pub fn all_padded(alloc: Global, rows: &[Row], more: u32) -> Result<Vec<Row>, AllocError>
-    requires few { All (λ r. columns r + more < 2 ^ 32 - 1) rows.now }
+    requires bounded { All (λ r. columns r + more < 2 ^ 32 - 1) rows.now }
     ensures exact { IfOk result (λ v. v.items ≡ map (padded_row more) rows.now) }
 {
     let mut all = Vec::new(alloc);

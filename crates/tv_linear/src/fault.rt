@@ -2,7 +2,7 @@ use std::alloc::{AllocError, AllocFailed};
 
 /// Why a row was not made.
 ///
-/// The constant has the column number behind the last coefficient.
+/// The constant has the column number after the last coefficient.
 #[derive(Clone, Copy, Debug, PartialEq, Eq)]
 pub enum RowFault {
     Wide { column: u32 },

@@ -77,7 +77,7 @@ pub fn difference(left: i128, right: i128, more: i128) -> i128
 /// A number that is as small as a sum of so many narrow ones, and one more.
 pub fn one_more(parts: u64, total: i128, number: i128) -> i128
     requires total { unsigned_abs total ≤ parts * 2 ^ 62 }
-    requires few { parts < 2 ^ 64 - 1 }
+    requires bounded { parts < 2 ^ 64 - 1 }
     requires narrow { IsWithin 62 number }
     ensures exact { result ≡ total +ℤ number }
     ensures small { unsigned_abs result ≤ (parts + 1) * 2 ^ 62 }

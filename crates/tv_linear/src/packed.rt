@@ -8,7 +8,7 @@ use crate::view::RowView;
 fn first_row(columns: usize, numbers: &[i64]) -> RowView<'_>
     requires long { columns < length numbers.now }
     requires narrow { All (IsWithin 62) numbers.now }
-    requires few { columns < 2 ^ 32 - 1 }
+    requires bounded { columns < 2 ^ 32 - 1 }
     ensures { linear result.coefficients.now result.constant ≡ first_row columns numbers.now }
 {
     let (coefficients, _) = numbers.split_at(columns);
@@ -44,7 +44,7 @@ impl<'a> PackedRows<'a> {
 
     pub fn len(self) -> usize
         ensures counted { result ≡ length (rows_packed self.entry) }
-        ensures few { result < 2 ^ 63 }
+        ensures bounded { result < 2 ^ 63 }
     {
         self.count
     }
@@ -59,7 +59,7 @@ impl<'a> PackedRows<'a> {
         first_row(width, numbers)
     }
 
-    /// The first row and the rows behind it.
+    /// The first row and the rows after it.
     pub fn split_first(self) -> Option<(RowView<'a>, PackedRows<'a>)>
         ensures { MatchOption result (rows_packed self.entry ≡ [])
             (λ parts. rows_packed self.entry ≡ row_seen parts.0 ∷ rows_packed parts.1) }

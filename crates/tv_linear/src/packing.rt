@@ -5,7 +5,7 @@ ghost use Rattle.tv_linear.specs.Packed.{packed};
 use crate::Row;
 use std::alloc::AllocError;
 
-/// Puts the numbers of rows behind others, each constant behind the coefficients of its row.
+/// Puts the numbers of rows after others, each constant after the coefficients of its row.
 pub fn append_rows(numbers: &mut Vec<i64>, rows: &[Row]) -> Result<(), AllocError>
     ensures appended { OnOk result (numbers.new.items ≡ numbers.old.items ++ packed rows.now) }
     ensures narrow { OnOk result (All IsNarrow rows.now) }

@@ -101,7 +101,7 @@ impl Row {
 
     /// The row of a number that is narrow.
     pub fn narrow_number(alloc: Global, columns: u32, number: i128) -> Result<Row, AllocError>
-        requires few { columns < 2 ^ 32 - 1 }
+        requires bounded { columns < 2 ^ 32 - 1 }
         requires narrow { IsWithin 62 number }
         ensures { IfOk result (λ row. row ≡ constant_row columns number) }
     {
@@ -137,7 +137,7 @@ impl Row {
 
     /// The row whose value is the number in one column.
     pub fn column(alloc: Global, columns: u32, column: u32) -> Result<Row, AllocError>
-        requires few { columns < 2 ^ 32 - 1 }
+        requires bounded { columns < 2 ^ 32 - 1 }
         requires inside { column < columns }
         ensures { IfOk result (λ row. row ≡ column_row columns column) }
     {

@@ -18,7 +18,7 @@ impl<'a> Rows<'a> {
 
     pub fn len(self) -> usize
         ensures counted { result ≡ length (rows_seen self.entry) }
-        ensures few { result < 2 ^ 63 }
+        ensures bounded { result < 2 ^ 63 }
     {
         match self {
             Rows::Each(rows) => rows.len(),
@@ -43,7 +43,7 @@ impl<'a> Rows<'a> {
         }
     }
 
-    /// The first row and the rows behind it.
+    /// The first row and the rows after it.
     pub fn split_first(self) -> Option<(RowView<'a>, Rows<'a>)>
         ensures { MatchOption result (rows_seen self.entry ≡ [])
             (λ parts. rows_seen self.entry ≡ row_seen parts.0 ∷ rows_seen parts.1) }

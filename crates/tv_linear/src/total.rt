@@ -46,7 +46,7 @@ impl Total {
     /// Adds a row.
     pub fn add(&mut self, row: &Row)
         requires even { columns self.old.row ≡ columns row.now }
-        requires few { self.old.parts < 2 ^ 64 - 1 }
+        requires bounded { self.old.parts < 2 ^ 64 - 1 }
         ensures row { self.new.row ≡ plus self.old.row row.now }
         ensures one_more { self.new.parts ≡ self.old.parts + 1 }
     {
@@ -77,7 +77,7 @@ fn wide_zeros(alloc: Global, columns: u32) -> Result<Vec<i128>, AllocError>
 fn add_each(parts: u64, totals: &mut [i128], numbers: &[i64])
     requires even { length totals.old ≡ length numbers.now }
     requires small { All (λ z. unsigned_abs z ≤ parts * 2 ^ 62) totals.old }
-    requires few { parts < 2 ^ 64 - 1 }
+    requires bounded { parts < 2 ^ 64 - 1 }
     requires narrow { All (IsWithin 62) numbers.now }
     ensures exact { totals.new ≡ plus_each totals.old numbers.now }
     ensures small { All (λ z. unsigned_abs z ≤ (parts + 1) * 2 ^ 62) totals.new }

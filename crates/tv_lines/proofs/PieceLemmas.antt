@@ -47,7 +47,7 @@ pub behind_piece-tail : (c : ℕ) (bs : List ℕ) → 1 ≤ length bs → behind
 behind_piece-tail c [] n = absurd (omega arith)
 behind_piece-tail c (b ∷ bs) n = let k : length (b ∷ bs) - 1 ≡ length bs = omega arith in rw (k, take-length bs) refl
 
--- something is behind bytes
+-- something is after bytes
 pub some_behind : (c : ℕ) (bs : List ℕ) → 1 ≤ length bs → (p : List ℕ) × ((ps : List (List ℕ)) × (behind_piece c bs ≡ p ∷ ps))
 some_behind c [] n = absurd (omega arith)
 some_behind c (b ∷ bs) n = first_piece c bs

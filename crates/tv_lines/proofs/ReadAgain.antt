@@ -160,7 +160,7 @@ words_again heads.End zs f = counted_again heads.End 0 zs (f.counted 0 refl) f.n
 pub line_again : (head : Head) (zs : List ℤ) → FitsHead head zs → line_of (spelling head zs) ≡ formed head zs
 line_again head zs f = worded_again (line_words head zs) (are_words head zs f.narrow) ∙ words_again head zs f
 
--- a text that begins with the spelling of a line and an LF has that line in front of the lines behind it
+-- a text that begins with the spelling of a line and an LF has that line in front of the lines after it
 pub text_again : (head : Head) (zs : List ℤ) (rest : List ℕ) → FitsHead head zs → lines_of (spelling head zs ++ 10 ∷ rest) ≡ formed head zs ∷ lines_of rest
 text_again head zs rest f =
     let printed = joined_above (line_words head zs) (are_words head zs f.narrow) in

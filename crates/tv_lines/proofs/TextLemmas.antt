@@ -1,4 +1,4 @@
--- A text is its first line and the lines behind it.
+-- A text is its first line and the lines after it.
 use Rattle.std.proofs.Common.{◌≡◌, ℕ, ◌<◌, false, List, [], ◌∷◌, length, map, refl, sym, ap, ◌∙◌, arith}
 use Rattle.std.specs.Prelude.{◌==◌}
 use Rattle.tv_lines.specs.Pieces.{pieces, behind_piece}

@@ -34,15 +34,15 @@ plain lines.Wide = wide
 abbrev pub line_with : Head → List ℤ → PlainLine
 line_with head zs = if list_all is_narrow zs then formed head zs else wide
 
--- a head and any words behind it, each to be a number
+-- a head and any words after it, each to be a number
 abbrev pub numbered : Head → List (List ℕ) → PlainLine
 numbered head words = if list_all is_number words then line_with head (map number_of words) else formless
 
--- a head and so many words behind it, each to be a number
+-- a head and so many words after it, each to be a number
 abbrev pub counted : Head → ℕ → List (List ℕ) → PlainLine
 counted head count words = if length words == count then numbered head words else formless
 
--- `T2CERT` and the words behind it, which are to be the version
+-- `T2CERT` and the words after it, which are to be the version
 abbrev pub header_line : List (List ℕ) → PlainLine
 header_line (version ∷ []) = if bytes_eq version (codes "1") then formed heads.Header [] else formless
 header_line _ = formless
@@ -52,7 +52,7 @@ abbrev pub kind_line : Option NodeKind → List (List ℕ) → PlainLine
 kind_line None words = formless
 kind_line (Some kind) words = counted (heads.Node kind) 2 words
 
--- `node` and the words behind it: the kind of the node and two numbers
+-- `node` and the words after it: the kind of the node and two numbers
 abbrev pub node_line : List (List ℕ) → PlainLine
 node_line [] = formless
 node_line (kind ∷ words) = kind_line (kind_of kind) words
@@ -62,12 +62,12 @@ abbrev pub mark_line : Option PieceMark → List (List ℕ) → PlainLine
 mark_line None words = formless
 mark_line (Some mark) words = numbered (heads.Piece mark) words
 
--- `piece` and the words behind it: a number, the mark of the piece and another number
+-- `piece` and the words after it: a number, the mark of the piece and another number
 abbrev pub piece_line : List (List ℕ) → PlainLine
 piece_line (location ∷ mark ∷ count ∷ []) = mark_line (mark_of mark) (location ∷ count ∷ [])
 piece_line _ = formless
 
--- what begins the line, and the words behind it
+-- what begins the line, and the words after it
 abbrev pub opened : Opening → List (List ℕ) → PlainLine
 opened openings.Header words = header_line words
 opened openings.Proved words = counted heads.Proved 0 words

@@ -11,7 +11,7 @@ unfoldable pub pieces : ℕ → List ℕ → List (List ℕ)
 pieces c [] = [] ∷ []
 pieces c (b ∷ bs) = if b == c then [] ∷ pieces c bs else onto b (pieces c bs)
 
--- the pieces behind the first one, told the bytes from the one that ends it
+-- the pieces after the first one, told the bytes from the one that ends it
 abbrev pub behind_piece : ℕ → List ℕ → List (List ℕ)
 behind_piece c [] = []
 behind_piece c (b ∷ bs) = pieces c bs

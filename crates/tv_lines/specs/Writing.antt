@@ -32,7 +32,7 @@ abbrev pub piece_mark : Head → Option PieceMark
 piece_mark (heads.Piece mark) = Some mark
 piece_mark _ = None
 
--- the words of a line; the mark of a piece stands behind its first number
+-- the words of a line; the mark of a piece stands after its first number
 abbrev pub line_words : Head → List ℤ → List (List ℕ)
 line_words (heads.Piece mark) (z ∷ zs) =
     opening_word openings.Piece ∷ signed_decimal z ∷ mark_word mark ∷ map signed_decimal zs
@@ -42,7 +42,7 @@ line_words head zs = head_words head ++ map signed_decimal zs
 abbrev pub spelling : Head → List ℤ → List ℕ
 spelling head zs = joined 32 (line_words head zs)
 
--- numbers, each behind a space
+-- numbers, each after a space
 abbrev pub spaced : List ℤ → List ℕ
 spaced [] = []
 spaced (z ∷ zs) = 32 ∷ signed_decimal z ++ spaced zs

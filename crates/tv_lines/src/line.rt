@@ -18,7 +18,7 @@ pub enum Line {
     Wide,
 }
 
-/// A head and any words behind it, each to be a number.
+/// A head and any words after it, each to be a number.
 fn numbered(alloc: Global, head: Head, behind: &[u8]) -> Result<Line, AllocError>
     ensures { IfOk result (λ line. plain line ≡ numbered head (behind_piece 32 behind.now)) }
 {
@@ -41,7 +41,7 @@ fn numbered(alloc: Global, head: Head, behind: &[u8]) -> Result<Line, AllocError
     Ok(Line::Formed(head, numbers))
 }
 
-/// A head and so many words behind it, each to be a number.
+/// A head and so many words after it, each to be a number.
 fn counted(alloc: Global, head: Head, count: usize, behind: &[u8]) -> Result<Line, AllocError>
     ensures { IfOk result (λ line. plain line ≡ counted head count (behind_piece 32 behind.now)) }
 {

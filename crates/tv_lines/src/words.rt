@@ -20,7 +20,7 @@ pub(crate) fn cut(text: &[u8], separator: u8) -> (&[u8], &[u8])
     text.split_at(length)
 }
 
-/// The next word, and what stands behind it. A space begins `behind`, unless nothing is left.
+/// The next word, and what follows it. A space begins `behind`, unless nothing is left.
 pub(crate) fn next_word(behind: &[u8]) -> Option<(&[u8], &[u8])>
     ensures next { MatchOption result (behind_piece 32 behind.now ≡ [])
         (λ next. behind_piece 32 behind.now ≡ next.0.now ∷ behind_piece 32 next.1.now) }

@@ -70,7 +70,7 @@ fn append_number(alloc: Global, out: &mut Vec<u8>, number: i128) -> Result<(), A
     out.extend_from_slice(text.as_bytes())
 }
 
-/// The numbers are added, each behind a space.
+/// The numbers are added, each after a space.
 fn append_numbers(alloc: Global, out: &mut Vec<u8>, numbers: &[i128]) -> Result<(), AllocError>
     ensures { OnOk result (out.new.items ≡ out.old.items ++ spaced numbers.now) }
 {
@@ -82,7 +82,7 @@ fn append_numbers(alloc: Global, out: &mut Vec<u8>, numbers: &[i128]) -> Result<
     Ok(())
 }
 
-/// A piece with its mark behind its first number.
+/// A piece with its mark after its first number.
 fn piece_text(
     alloc: Global,
     mark: PieceMark,
@@ -100,7 +100,7 @@ fn piece_text(
     Ok(text)
 }
 
-/// A line whose numbers stand behind all words of its head.
+/// A line whose numbers stand after all words of its head.
 fn plain_text(alloc: Global, head: Head, numbers: &[i128]) -> Result<Vec<u8>, AllocError>
     ensures { IfOk result (λ text. text.items ≡ joined 32 (head_words head) ++ spaced numbers.now) }
 {

@@ -100,13 +100,13 @@ wholes_shape about ends (s ∷ states) h =
     All-cons (PieceShape about 0 ends) (whole_piece about.variables s.location) (whole_pieces about.variables states) (whole_shape about ends s.location (All-head (IsState about) s states h).place) (wholes_shape about ends states (All-tail (IsState about) s states h))
 
 pub truth_fitted : (about : CaseSystem) (depth : ℕ) (states : List State) (node : Node) → depth ≤ 256 → length states < 2 ^ 32 → All (IsState about) states → IsWholeNode node (whole_pieces about.variables states) → IsFitted (about_with about) (truth true) depth node
-truth_fitted about depth states node shallow few each h =
+truth_fitted about depth states node shallow bounded each h =
     let ps = whole_pieces about.variables states in
     node_fitted (about_with about) (truth true) depth node ps 0 [] h.proofs h.own (record {
       said = tt;
       ranked = λ e. refl;
       small = omega arith;
-      few = (let l = length-map states (λ s. whole_piece about.variables s.location) in omega (arith, l, few));
+      bounded = (let l = length-map states (λ s. whole_piece about.variables s.location) in omega (arith, l, bounded));
       each = wholes_shape about false states each;
       offered = λ number. atoms_offered (about_with about) number (piece_of number (about_with about) (truth true) ps []) ps h.proofs (for_each (λ q. piece_of number (about_with about) (truth true) ps [] q ≡ atom_of number (about_with about) q ([] ∷ []) ∷ []) ps (λ q. refl)) h.bare;
       below = tt;
@@ -121,7 +121,7 @@ location_fitted about depth l node shallow inside h =
       said = tt;
       ranked = λ e. refl;
       small = omega arith;
-      few = omega arith;
+      bounded = omega arith;
       each = All-cons (PieceShape about 0 false) p [] (whole_shape about false l inside) (All-nil (PieceShape about 0 false));
       offered = λ number. atoms_offered (about_with about) number (piece_of number (about_with about) (at l) ps []) ps h.proofs
           (All-cons (λ q. piece_of number (about_with about) (at l) ps [] q ≡ atom_of number (about_with about) q ([] ∷ []) ∷ []) p [] (ap (λ b. atom_of number (about_with about) p (truth_targets b) ∷ []) (eq-eqb l l refl)) (All-nil (λ q. piece_of number (about_with about) (at l) ps [] q ≡ atom_of number (about_with about) q ([] ∷ []) ∷ []))) h.bare;

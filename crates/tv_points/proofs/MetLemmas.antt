@@ -22,7 +22,7 @@ use Rattle.tv_points.specs.declared.state.State.{State}
 use Rattle.tv_points.proofs.FlatLemmas.{IsLone, AreNarrowUpdates, guard_flat, changed_flat, less_flat, not_below_flat, at_most_lone, opposite_lone}
 use Rattle.std.proofs.lemmas.List.{map-append}
 
--- ---- the numbers for the draws stand behind the values
+-- ---- the numbers for the draws stand after the values
 
 draw_values : (n : ℕ) (xs ds : List ℤ) → map (term_value xs) (map (λ d. put d) (number_rows n ds)) ≡ ds
 draw_values n xs [] = refl

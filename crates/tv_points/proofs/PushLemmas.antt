@@ -11,7 +11,7 @@ use Rattle.tv_points.specs.declared.fault.PointFault.{PointFault}
 use Rattle.tv_points.specs.declared.fault.PointFault.TheVariants.{Wide, Memory}
 
 -- ---- refusals
--- lines behind change nothing
+-- lines after change nothing
 pub fault_before : (ls more : List Line) (x : PointFault) → IsLineFault ls x → IsLineFault (ls ++ more) x
 fault_before ls more (Wide c) h = record {
   before = h.before;

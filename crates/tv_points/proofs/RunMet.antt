@@ -96,12 +96,12 @@ choices_offered about number ps kids (q ∷ qs) (Chosen tree ∷ proofs) h =
     (record { shape = (h.0.shape, (let f = h.0.flat in omega (arith, f))); met = h.0.met; narrow = h.0.narrow }, choices_offered about number ps kids qs proofs h.1)
 
 pub endless_is : (about : CaseSystem) (states : List State) (node : Node) (pieces : List Marked) (proofs : List Proof) → pieces ≡ state_pieces about.variables false states → HasOwn node pieces 0 [] proofs → AllZip (IsChosenAt about pieces false) pieces proofs → All (IsState about) states → length states < 2 ^ 32 - 1 → IsRunNode about endless false states node
-endless_is about states node pieces proofs same own chosen each few = record {
+endless_is about states node pieces proofs same own chosen each bounded = record {
   fitted = node_fitted (about_with about) endless 1 node pieces 0 [] proofs own (record {
     said = tt;
     ranked = λ e. refl;
     small = omega arith;
-    few = (let l = ap length same in let k = states_length about.variables false states in omega (arith, l, k, few));
+    bounded = (let l = ap length same in let k = states_length about.variables false states in omega (arith, l, k, bounded));
     each = subst (All (PieceShape about 0 false)) (sym same) (states_shape about false states each);
     offered = λ number. choices_offered about number pieces [] pieces proofs chosen;
     below = tt;
@@ -168,19 +168,19 @@ all_there b n l last (s ∷ states) steps many at e h =
     targets_there b n l s last states at (subst (λ k. slice_get (s ∷ states) k ≡ Some last) (let k : steps ≡ length states = omega (arith, many) in k) e) h
 
 pub reaching_is : (about : CaseSystem) (l : ℕ) (states : List State) (last : State) (node : Node) (pieces : List Marked) (nodes : List Node) (proofs : List Proof) → pieces ≡ state_pieces about.variables true states → HasOwn node pieces 1 nodes proofs → AreEnds about.variables states l nodes → AreTwo about pieces pieces proofs → All (IsState about) states → length states < 2 ^ 32 - 1 → (steps : ℕ) → length states ≡ steps + 1 → slice_get states steps ≡ Some last → last.location ≡ l → l < about.locations → IsRunNode about (reaches l) true states node
-reaching_is about l states last node pieces nodes proofs same own ends two each few steps many here at inside = record {
+reaching_is about l states last node pieces nodes proofs same own ends two each bounded steps many here at inside = record {
   fitted = node_fitted (about_with about) (reaches l) 1 node pieces 1 (ends.end ∷ ends.truth_of ∷ []) proofs (subst (λ ns. HasOwn node pieces 1 ns proofs) ends.parts own) (record {
     said = tt;
     ranked = λ e. absurd cc;
     small = omega arith;
-    few = (let k = ap length same in let m = states_length about.variables true states in omega (arith, k, m, few));
+    bounded = (let k = ap length same in let m = states_length about.variables true states in omega (arith, k, m, bounded));
     each = subst (All (PieceShape about 1 true)) (sym same) (states_shape about true states each);
     offered = λ number. subst (λ a. AllZip IsOffered (flat_map (λ p. fix_of number (about_with about) Any Strong pieces a (pieces_list ends.truth_of) p (goes p)) pieces) proofs) (sym ends.end_is.own.pieces_are)
         (subst (λ b. AllZip IsOffered (flat_map (λ p. fix_of number (about_with about) Any Strong pieces (whole_piece about.variables l ∷ []) b p (goes p)) pieces) proofs) (sym ends.truth_is.own.pieces_are)
         (all_offered about l number pieces (whole_piece about.variables l ∷ []) (whole_pieces about.variables states) pieces proofs
         (subst (All (HasEnds (whole_pieces about.variables states) about.variables l)) (sym same)
         (all_there (whole_pieces about.variables states) about.variables l last states steps many at here (truth_leads about.variables states))) two));
-    below = (location_fitted about 2 l ends.end (omega arith) inside ends.end_is, (truth_fitted about 2 states ends.truth_of (omega arith) (omega (arith, few)) each ends.truth_is, tt));
+    below = (location_fitted about 2 l ends.end (omega arith) inside ends.end_is, (truth_fitted about 2 states ends.truth_of (omega arith) (omega (arith, bounded)) each ends.truth_is, tt));
     shallow = omega arith;
   });
   pieces = pieces_are node ∙ own.pieces_are ∙ same;
@@ -188,13 +188,13 @@ reaching_is about l states last node pieces nodes proofs same own ends two each 
 
 -- ---- the same of what was pushed
 pub endless_made : (about : CaseSystem) (states : List State) (node : Node) (pieces seen : List Marked) (kids : List Node) (old proofs more : List Proof) → seen ≡ pieces → pieces ≡ state_pieces about.variables false states → HasOwn node pieces 0 kids proofs → kids ≡ [] → proofs ≡ old ++ more → old ≡ [] → AllZip (IsChosenAt about seen false) seen more → All (IsState about) states → length states < 2 ^ 32 - 1 → IsRunNode about endless false states node
-endless_made about states node pieces seen kids old proofs more same are own none parts empty chosen each few =
+endless_made about states node pieces seen kids old proofs more same are own none parts empty chosen each bounded =
     let all : AllZip (IsChosenAt about pieces false) pieces more = subst (λ ps. AllZip (IsChosenAt about ps false) ps more) same chosen in
     let given : proofs ≡ more = parts ∙ ap (λ os. os ++ more) empty in
-    endless_is about states node pieces proofs are (subst (λ ks. HasOwn node pieces 0 ks proofs) none own) (subst (AllZip (IsChosenAt about pieces false) pieces) (sym given) all) each few
+    endless_is about states node pieces proofs are (subst (λ ks. HasOwn node pieces 0 ks proofs) none own) (subst (AllZip (IsChosenAt about pieces false) pieces) (sym given) all) each bounded
 
 pub reaching_made : (about : CaseSystem) (l : ℕ) (states : List State) (last : State) (node : Node) (pieces seen : List Marked) (nodes : List Node) (old proofs more : List Proof) → seen ≡ pieces → pieces ≡ state_pieces about.variables true states → HasOwn node pieces 1 nodes proofs → AreEnds about.variables states l nodes → proofs ≡ old ++ more → old ≡ [] → AreTwo about seen seen more → All (IsState about) states → length states < 2 ^ 32 - 1 → (steps : ℕ) → length states ≡ steps + 1 → slice_get states steps ≡ Some last → last.location ≡ l → l < about.locations → IsRunNode about (reaches l) true states node
-reaching_made about l states last node pieces seen nodes old proofs more same are own ends parts empty two each few steps many here at inside =
+reaching_made about l states last node pieces seen nodes old proofs more same are own ends parts empty two each bounded steps many here at inside =
     let all : AreTwo about pieces pieces more = subst (λ ps. AreTwo about ps ps more) same two in
     let given : proofs ≡ more = parts ∙ ap (λ os. os ++ more) empty in
-    reaching_is about l states last node pieces nodes proofs are own ends (subst (AreTwo about pieces pieces) (sym given) all) each few steps many here at inside
+    reaching_is about l states last node pieces nodes proofs are own ends (subst (AreTwo about pieces pieces) (sym given) all) each bounded steps many here at inside

@@ -23,7 +23,7 @@ mark_of true (suc left) = Go
 abbrev pub state_piece : ℕ → Bool → ℕ → State → MarkedRows
 state_piece n ends left s = marked s.location n (mark_of ends left) (point_rows s.values.items) (rank_rows n ends left)
 
--- the pieces of the states of a run, from which as many steps are left as states stand behind
+-- the pieces of the states of a run, from which as many steps are left as states stand after
 abbrev pub state_pieces : ℕ → Bool → List State → List MarkedRows
 state_pieces n ends [] = []
 state_pieces n ends (s ∷ states) = state_piece n ends (length states) s ∷ state_pieces n ends states

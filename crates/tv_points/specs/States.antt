@@ -40,7 +40,7 @@ abbrev pub AreSteps : CaseSystem → List State → ℕ → List Step → Type 0
 AreSteps about states place [] = Unit {0}
 AreSteps about states place (step ∷ steps) = IsStepAt about states place step × AreSteps about states (place + 1) steps
 
--- each of the steps leads to the state behind its own
+-- each of the steps leads to the state after its own
 abbrev pub AreInOrder : ℕ → List Step → Type 0
 AreInOrder place [] = Unit {0}
 AreInOrder place (step ∷ steps) = (step.next ≡ place + 1) × AreInOrder (place + 1) steps
@@ -48,7 +48,7 @@ AreInOrder place (step ∷ steps) = (step.next ≡ place + 1) × AreInOrder (pla
 -- states of a program, few enough to be told by 32 bits
 pub record AreStates (about : CaseSystem) (states : List State) : Type 0 where
   pub each : All (IsState about) states
-  pub few : length states < 2 ^ 32 - 1
+  pub bounded : length states < 2 ^ 32 - 1
 
 -- a step from each of the states leads to one of them
 pub record ComesBack (about : CaseSystem) (states : List State) (steps : List Step) : Type 0 where

@@ -40,7 +40,7 @@ fn push_bare(alloc: Global, pieces: &[Marked], proofs: &mut Vec<Proof>) -> Resul
 
 /// The piece of all states at a location.
 pub fn whole(alloc: Global, columns: u32, location: u32) -> Result<Marked, AllocError>
-    requires few { columns < 2 ^ 32 - 1 }
+    requires bounded { columns < 2 ^ 32 - 1 }
     ensures { IfOk result (λ p. p ≡ whole_piece columns location) }
 {
     match Marked::from_rows(alloc, location, Mark::Go, columns, &[], &[])? {
@@ -56,7 +56,7 @@ fn push_whole(
     states: &[State],
     pieces: &mut Vec<Marked>,
 ) -> Result<(), AllocError>
-    requires few { columns < 2 ^ 32 - 1 }
+    requires bounded { columns < 2 ^ 32 - 1 }
     ensures { IfOk result (λ _. pieces.new.items ≡ pieces.old.items ++ whole_pieces columns states.now) }
 {
     match states {
@@ -79,7 +79,7 @@ pub fn whole_node(alloc: Global, pieces: Vec<Marked>) -> Result<Node, AllocError
 
 /// The node of `true` where the states are.
 pub(crate) fn truth_node(alloc: Global, columns: u32, states: &[State]) -> Result<Node, AllocError>
-    requires few { columns < 2 ^ 32 - 1 }
+    requires bounded { columns < 2 ^ 32 - 1 }
     ensures { IfOk result (λ node. IsWholeNode node (whole_pieces columns states.now)) }
 {
     let mut pieces = Vec::new(alloc);
@@ -89,7 +89,7 @@ pub(crate) fn truth_node(alloc: Global, columns: u32, states: &[State]) -> Resul
 
 /// The node of the test that the state is at the location.
 pub(crate) fn location_node(alloc: Global, columns: u32, location: u32) -> Result<Node, AllocError>
-    requires few { columns < 2 ^ 32 - 1 }
+    requires bounded { columns < 2 ^ 32 - 1 }
     ensures { IfOk result (λ node. IsWholeNode node (whole_piece columns location ∷ [])) }
 {
     let mut pieces = Vec::new(alloc);

@@ -32,7 +32,7 @@ fn push_less(
     new: RowView,
     lists: &mut Vec<Vec<i64>>,
 ) -> Result<(), PointFault>
-    requires few { length point.now < 2 ^ 32 - 1 }
+    requires bounded { length point.now < 2 ^ 32 - 1 }
     requires showable { IsShowable point.now (less_row (change_of change.now) (row_seen old) (row_seen new)) }
     ensures { let row = less_row (change_of change.now) (row_seen old.entry) (row_seen new.entry) in
         GivesLines point.now (row ∷ []) lists.old.items lists.new.items result }
@@ -60,7 +60,7 @@ fn push_not_below(
     old: RowView,
     lists: &mut Vec<Vec<i64>>,
 ) -> Result<(), PointFault>
-    requires few { length point.now < 2 ^ 32 - 1 }
+    requires bounded { length point.now < 2 ^ 32 - 1 }
     requires showable { IsShowable point.now (not_below_row (row_seen old)) }
     ensures { let row = not_below_row (row_seen old.entry) in
         GivesLines point.now (row ∷ []) lists.old.items lists.new.items result }
@@ -78,7 +78,7 @@ fn push_fall(
     new: RowView,
     lists: &mut Vec<Vec<i64>>,
 ) -> Result<(), PointFault>
-    requires few { length point.now < 2 ^ 32 - 1 }
+    requires bounded { length point.now < 2 ^ 32 - 1 }
     requires showable { All (IsShowable point.now) (fall_rows (change_of change.now) (row_seen old) (row_seen new)) }
     ensures { let rows = fall_rows (change_of change.now) (row_seen old.entry) (row_seen new.entry) in
         GivesLines point.now rows lists.old.items lists.new.items result }
@@ -106,7 +106,7 @@ fn push_owed(
     entering: &Entering,
     lists: &mut Vec<Vec<i64>>,
 ) -> Result<(), PointFault>
-    requires few { length point.now < 2 ^ 32 - 1 }
+    requires bounded { length point.now < 2 ^ 32 - 1 }
     requires showable { All (IsShowable point.now) (owed_falls entering.now) }
     ensures { GivesLines point.now (owed_falls entering.now) lists.old.items lists.new.items result }
 {
@@ -129,7 +129,7 @@ pub(crate) fn push_entered(
     entering: &Entering,
     lists: &mut Vec<Vec<i64>>,
 ) -> Result<(), PointFault>
-    requires few { length point.now < 2 ^ 32 - 1 }
+    requires bounded { length point.now < 2 ^ 32 - 1 }
     requires showable { All (IsShowable point.now) (entering_rows entering.now) }
     ensures { GivesLines point.now (entering_rows entering.now) lists.old.items lists.new.items result }
 {

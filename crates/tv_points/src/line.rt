@@ -57,7 +57,7 @@ fn push_from(
     point: &[i64],
     multipliers: &mut Vec<i64>,
 ) -> Result<(), AllocError>
-    requires few { first + length point.now < 2 ^ 32 - 1 }
+    requires bounded { first + length point.now < 2 ^ 32 - 1 }
     requires narrow { AreNarrowBetween (built row.now) first (first + length point.now) }
     ensures { let more = multipliers_from (coefficient_of (built row.now)) first point.now in
         IfOk result (λ _. multipliers.new.items ≡ multipliers.old.items ++ more) }
@@ -75,7 +75,7 @@ fn push_from(
 
 /// The multipliers at the rows of the point.
 fn multipliers_of(alloc: Global, point: &[i64], row: &Built) -> Result<Vec<i64>, AllocError>
-    requires few { length point.now < 2 ^ 32 - 1 }
+    requires bounded { length point.now < 2 ^ 32 - 1 }
     requires narrow { (column : ℕ) → column < length point.now → IsNarrowIn (built row.now) column }
     ensures { IfOk result (λ ms. ms.items ≡ multipliers_from (coefficient_of (built row.now)) 0 point.now) }
 {
@@ -138,7 +138,7 @@ pub(crate) fn multipliers_at(
     point: &[i64],
     row: &Built,
 ) -> Result<Vec<i64>, PointFault>
-    requires few { length point.now < 2 ^ 32 - 1 }
+    requires bounded { length point.now < 2 ^ 32 - 1 }
     requires showable { IsShowable point.now (built row.now) }
     ensures { MatchResult result (λ ms. ShowsAt point.now (built row.now) ms.items) (IsLineFault (line point.now (built row.now) ∷ [])) }
 {

@@ -18,7 +18,7 @@ pub(crate) fn push_line(
     row: &Built,
     lists: &mut Vec<Vec<i64>>,
 ) -> Result<(), PointFault>
-    requires few { length point.now < 2 ^ 32 - 1 }
+    requires bounded { length point.now < 2 ^ 32 - 1 }
     requires showable { IsShowable point.now (built row.now) }
     ensures { GivesLines point.now (built row.now ∷ []) lists.old.items lists.new.items result }
 {
@@ -39,7 +39,7 @@ fn push_changed(
     row: RowView,
     lists: &mut Vec<Vec<i64>>,
 ) -> Result<(), PointFault>
-    requires few { length point.now < 2 ^ 32 - 1 }
+    requires bounded { length point.now < 2 ^ 32 - 1 }
     requires showable { IsShowable point.now (change_of change.now (row_seen row)) }
     ensures { GivesLines point.now (change_of change.now (row_seen row.entry) ∷ []) lists.old.items lists.new.items result }
 {
@@ -62,7 +62,7 @@ pub(crate) fn push_lines(
     rows: Rows,
     lists: &mut Vec<Vec<i64>>,
 ) -> Result<(), PointFault>
-    requires few { length point.now < 2 ^ 32 - 1 }
+    requires bounded { length point.now < 2 ^ 32 - 1 }
     requires showable { All (IsShowable point.now) (map (change_of change.now) (rows_seen rows)) }
     ensures { GivesLines point.now (map (change_of change.now) (rows_seen rows.entry)) lists.old.items lists.new.items result }
 {

@@ -14,7 +14,7 @@ use tv_linear::{Row, push_item};
 
 /// The ranks of a state with so many steps left.
 fn ranks_of(alloc: Global, columns: u32, ends: bool, left: u32) -> Result<Vec<Row>, AllocError>
-    requires few { columns < 2 ^ 32 - 1 }
+    requires bounded { columns < 2 ^ 32 - 1 }
     ensures { IfOk result (λ ranks. ranks.items ≡ rank_rows columns ends left) }
 {
     let mut ranks = Vec::new(alloc);
@@ -44,7 +44,7 @@ fn piece_of(
     left: u32,
     state: &State,
 ) -> Result<Marked, AllocError>
-    requires few { columns < 2 ^ 31 - 1 }
+    requires bounded { columns < 2 ^ 31 - 1 }
     requires point { IsPointOf columns state.now }
     ensures { IfOk result (λ p. p ≡ state_piece columns ends left state.now) }
 {
@@ -71,7 +71,7 @@ fn push_pieces(
     states: &[State],
     pieces: &mut Vec<Marked>,
 ) -> Result<(), AllocError>
-    requires few { columns < 2 ^ 31 - 1 }
+    requires bounded { columns < 2 ^ 31 - 1 }
     requires many { length states.now < 2 ^ 32 - 1 }
     requires points { All (IsPointOf columns) states.now }
     ensures { IfOk result (λ _. pieces.new.items ≡ pieces.old.items ++ state_pieces columns ends states.now) }
@@ -93,7 +93,7 @@ pub(crate) fn pieces_of(
     ends: bool,
     states: &[State],
 ) -> Result<Vec<Marked>, AllocError>
-    requires few { columns < 2 ^ 31 - 1 }
+    requires bounded { columns < 2 ^ 31 - 1 }
     requires many { length states.now < 2 ^ 32 - 1 }
     requires points { All (IsPointOf columns) states.now }
     ensures { IfOk result (λ pieces. pieces.items ≡ state_pieces columns ends states.now) }
@@ -116,7 +116,7 @@ fn count_at(pieces: &[Marked], location: u32) -> usize
 /// The place of a piece among those at its location.
 pub(crate) fn place_among(pieces: &[Marked], i: usize) -> u32
     requires inside { i < length pieces.now }
-    requires few { length pieces.now < 2 ^ 32 - 1 }
+    requires bounded { length pieces.now < 2 ^ 32 - 1 }
     ensures { (p : Marked) → slice_get pieces.now i ≡ Some p → slice_get (pieces_at pieces.now (place_of p)) result ≡ Some p }
 {
     let location = pieces[i].location();

@@ -26,7 +26,7 @@ fn end_nodes(
     states: &[State],
     location: u32,
 ) -> Result<Vec<Node>, AllocError>
-    requires few { columns < 2 ^ 32 - 1 }
+    requires bounded { columns < 2 ^ 32 - 1 }
     ensures { IfOk result (λ nodes. AreEnds columns states.now location nodes.items) }
 {
     let mut nodes = Vec::new(alloc);
@@ -36,7 +36,7 @@ fn end_nodes(
 }
 
 /// The node that shows that from each of the states some run comes to the location: the last of them is there, and each other has a step to
-/// the one behind it, with the number of steps that are left as its rank. There is a piece for each state, in their order.
+/// the one after it, with the number of steps that are left as its rank. There is a piece for each state, in their order.
 ///
 /// `Wide` names the first column of the first line that has a number of 2^127 or more in magnitude; the lines stand in the order of the
 /// states.

@@ -48,7 +48,7 @@ fn push_numbers(
     numbers: &[i64],
     rows: &mut Vec<Row>,
 ) -> Result<(), AllocError>
-    requires few { columns < 2 ^ 32 - 1 }
+    requires bounded { columns < 2 ^ 32 - 1 }
     requires narrow { All (IsWithin 62) numbers.now }
     ensures { IfOk result (λ _. rows.new.items ≡ rows.old.items ++ number_rows columns numbers.now) }
 {
@@ -64,7 +64,7 @@ fn push_numbers(
 
 /// A row for each number.
 fn rows_of_numbers(alloc: Global, columns: u32, numbers: &[i64]) -> Result<Vec<Row>, AllocError>
-    requires few { columns < 2 ^ 32 - 1 }
+    requires bounded { columns < 2 ^ 32 - 1 }
     requires narrow { All (IsWithin 62) numbers.now }
     ensures { IfOk result (λ rows. rows.items ≡ number_rows columns numbers.now) }
 {
@@ -106,7 +106,7 @@ fn push_taken(
     draws: &[Row],
     lists: &mut Vec<Vec<i64>>,
 ) -> Result<(), PointFault>
-    requires few { length (taking_point taking.now) < 2 ^ 32 - 1 }
+    requires bounded { length (taking_point taking.now) < 2 ^ 32 - 1 }
     requires showable { All (IsShowable (taking_point taking.now)) (case_rows taking.now (case_view case.now) draws.now) }
     ensures { let rows = case_rows taking.now (case_view case.now) draws.now in
         GivesLines (taking_point taking.now) rows lists.old.items lists.new.items result }

@@ -151,7 +151,7 @@ module _ (about : CaseSystem) (sides : Sides) (end none : Region) (n : IsNowhere
   pub none_fault : (budget : Budget) (fault r : PreFault) → r ≡ fault → IsFaultOf about budget 1 (none ∷ arguments sides) fault → IsFaultOf about budget 1 (end ∷ arguments sides) r
   none_fault budget fault r e f = λ s h m. subst (IsPreFault about s budget (1 + h)) (sym e) (fault_to about s budget (1 + (0 + h)) (1 + h) fault (omega arith) (f s (0 + h) (none_given s h m)))
 
--- the pieces of a region and of none behind it
+-- the pieces of a region and of none after it
 pub one_joined : (end : Region) (rest : List Region) (qs : List Piece) → joined_pieces rest ≡ [] → qs ≡ joined_pieces (end ∷ rest) → qs ≡ end.pieces.items
 one_joined end rest qs bare e = e ∙ ap (λ ps. end.pieces.items ++ ps) bare ∙ append-nil end.pieces.items
 

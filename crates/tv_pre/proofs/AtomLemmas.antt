@@ -48,7 +48,7 @@ pub one_atom : (about : CaseSystem) (l k count : ℕ) (lists : List (List Linear
     q.location ≡ l → q.poly.columns ≡ about.variables → piece_rows q ≡ rows → count ≡ length rows → IsOwnCover count k tree →
     new ≡ now ++ q ∷ [] → more ≡ offered ++ Covered tree ∷ [] →
     AreAtoms about l lists (take k lists) pieces proofs now offered → AreAtoms about l lists (take (k + 1) lists) pieces proofs new more
-one_atom about l k count lists rows q tree pieces now new proofs offered more inside few got even narrow place wide same many own e f h = record {
+one_atom about l k count lists rows q tree pieces now new proofs offered more inside bounded got even narrow place wide same many own e f h = record {
   over = subst (ArePieces about) (sym e) (All-push (IsPieceOf about.variables about.locations) now q h.over (record {
     place = subst (λ z. z < about.locations) (sym place) inside;
     width = wide;
@@ -60,7 +60,7 @@ one_atom about l k count lists rows q tree pieces now new proofs offered more in
       ∙ append_assoc (map mark pieces) (map piece (take k lists)) (piece rows ∷ [])
       ∙ ap (λ ps. map mark pieces ++ ps) (sym (ap (map piece) taken ∙ map_push piece (take k lists) rows));
   adds = λ number. one_done (λ rs. atom_of number (about_with about) (piece rs) lists) lists k rows proofs offered more got
-      (adds_one (atom_of number (about_with about) (piece rows) lists) (Covered tree) offered more f (own_offered about number l k count rows lists tree got many few narrow own)) (h.adds number);
+      (adds_one (atom_of number (about_with about) (piece rows) lists) (Covered tree) offered more f (own_offered about number l k count rows lists tree got many bounded narrow own)) (h.adds number);
 }
   where
     mark : Piece → Marked

@@ -170,7 +170,7 @@ module _ (about : CaseSystem) where
         let first : t ≡ stated (comparison_lists about.variables) f = cc in
         let rest : statements_of ss ≡ stated_all (comparison_lists about.variables) fs = cc in
         mul-le (max 1 (count_at l q)) (product (some_counts_at l rs)) (count about.cases m f l) (product_count about.cases m fs l)
-        (max-le (count_one about.cases m l f parts.0) (h.0.few plain m is f first l)) (some_argument_product plain m is l ss rs ns h.1 fs parts.1 rest)
+        (max-le (count_one about.cases m l f parts.0) (h.0.bounded plain m is f first l)) (some_argument_product plain m is l ss rs ns h.1 fs parts.1 rest)
 
     pub each_counted : (ss : List Statement) (rs : List Region) (ns : List Node) → AreEachArgument about last ss rs ns → IsWithin (λ l. product (some_counts_at l rs)) fault → IsCountedFor about (each_of (statements_of ss)) fault
     each_counted ss rs ns h k plain m is f parts e =
@@ -193,7 +193,7 @@ module _ (about : CaseSystem) where
         let whole = next path w.0 in
         let b = λ (j : ℕ). count about.cases m w.0 j in
         subst (λ g. IsWithin (greatest_count about.cases m g) fault) (sym w.1)
-        (within_more (next_count about.cases path b) (greatest_count about.cases m whole) (λ l. le-max_left (next_count about.cases path b l) (greatest_count about.cases m w.0 l)) fault (k plain b (λ j. h.few plain m is w.0 w.2 j)))
+        (within_more (next_count about.cases path b) (greatest_count about.cases m whole) (λ l. le-max_left (next_count about.cases path b l) (greatest_count about.cases m w.0 l)) fault (k plain b (λ j. h.bounded plain m is w.0 w.2 j)))
 
     pub along_counted : (path : Path) (shape : Shape) (s t : Statement) (first second : Found) → IsFound about last s first → IsFound about last t second →
         (HasNoDraws about → (m : ℕ) → IsLastRound about 9 m → (a b : ℕ → ℕ) → ((l : ℕ) → count_at l first.part.region ≤ a l) → ((l : ℕ) → count_at l second.part.region ≤ b l) → ((l : ℕ) → 1 ≤ a l) → ((l : ℕ) → 1 ≤ b l) → IsWithin (fix_count about.cases m path shape a b) fault) → IsCountedFor about (along path shape s t) fault
@@ -206,4 +206,4 @@ module _ (about : CaseSystem) where
         subst (λ z. IsWithin (greatest_count about.cases m z) fault) (sym w.2)
         (within_more (fix_count about.cases m path shape a b) (greatest_count about.cases m whole)
         (λ l. le-max_left (fix_count about.cases m path shape a b l) (max (greatest_count about.cases m w.0 l) (greatest_count about.cases m w.1 l))) fault
-        (k plain m is a b (λ j. h.few plain m is w.0 w.3 j) (λ j. g.few plain m is w.1 w.4 j) (λ j. count_one about.cases m j w.0 have.0) (λ j. count_one about.cases m j w.1 have.1)))
+        (k plain m is a b (λ j. h.bounded plain m is w.0 w.3 j) (λ j. g.bounded plain m is w.1 w.4 j) (λ j. count_one about.cases m j w.0 have.0) (λ j. count_one about.cases m j w.1 have.1)))

@@ -82,39 +82,39 @@ taken_sum l (r ∷ rs) (suc j) =
     (plus (count_at l r) (sum (counts_at l (take j rs))) (count_at l r) (sum (counts_at l rs)) (le_refl (count_at l r)) (taken_sum l rs j)))
 
 pub common_counted : (regions : List Region) (i : ℕ) (common r : Region) (budget : Budget) (fault : RegionFault) → i < length regions → r ≡ get_or regions i r → ((l : ℕ) → count_at l common ≤ product (counts_at l (take i regions))) → IsBothFault common r budget fault → IsFaultWithin (λ l. product (some_counts_at l regions)) fault
-common_counted regions i common r budget fault n e few h =
+common_counted regions i common r budget fault n e bounded h =
     both_counted common r budget (λ l. product (some_counts_at l regions))
     (λ l. trans (count_at l common * count_at l r) (product (counts_at l (take i regions)) * count_at l r) (product (some_counts_at l regions))
-    (mul-le (count_at l common) (count_at l r) (product (counts_at l (take i regions))) (count_at l r) (few l) (le_refl (count_at l r)))
+    (mul-le (count_at l common) (count_at l r) (product (counts_at l (take i regions))) (count_at l r) (bounded l) (le_refl (count_at l r)))
     (subst (λ k. k ≤ product (some_counts_at l regions)) (ap product (counts_more l regions i r n e) ∙ product_last (counts_at l (take i regions)) (count_at l r)) (taken_product l regions (i + 1)))) fault h
 
 pub whole_counted : (regions : List Region) (i : ℕ) (whole r : Region) (budget : Budget) (fault : RegionFault) → i < length regions → r ≡ get_or regions i r → ((l : ℕ) → count_at l whole ≤ sum (counts_at l (take i regions))) → IsEitherFault whole r budget fault → IsFaultWithin (λ l. sum (counts_at l regions)) fault
-whole_counted regions i whole r budget fault n e few h =
+whole_counted regions i whole r budget fault n e bounded h =
     either_counted whole r budget (λ l. sum (counts_at l regions))
     (λ l. trans (count_at l whole + count_at l r) (sum (counts_at l (take i regions)) + count_at l r) (sum (counts_at l regions))
-    (plus (count_at l whole) (count_at l r) (sum (counts_at l (take i regions))) (count_at l r) (few l) (le_refl (count_at l r)))
+    (plus (count_at l whole) (count_at l r) (sum (counts_at l (take i regions))) (count_at l r) (bounded l) (le_refl (count_at l r)))
     (subst (λ k. k ≤ sum (counts_at l regions)) (ap sum (counts_more l regions i r n e) ∙ sum_last (counts_at l (take i regions)) (count_at l r)) (taken_sum l regions (i + 1)))) fault h
 
 -- ---- going back
 module _ (about : CaseSystem) where
   pub before_counted : (path : Path) (into : Region) (budget : Budget) (fault : RegionFault) (r : PreFault) → IsOfRegion fault r → IsBackFault about path into budget fault → IsCountedBefore about path into r
-  before_counted path into budget fault r is h plain b few = region_within (next_count about.cases path b) fault r is (back_counted about into budget fault plain b few path h)
+  before_counted path into budget fault r is h plain b bounded = region_within (next_count about.cases path b) fault r is (back_counted about into budget fault plain b bounded path h)
 
   pub before_staying : (path : Path) (into : Region) (r : PreFault) → IsCountedBefore about path into r → IsCountedStaying about path into r
-  before_staying path into r h plain b few = within_more (next_count about.cases path b) (staying_count about.cases path b) (next_staying about.cases path b) r (h plain b few)
+  before_staying path into r h plain b bounded = within_more (next_count about.cases path b) (staying_count about.cases path b) (next_staying about.cases path b) r (h plain b bounded)
 
   pub stops_staying : (path : Path) (into none : Region) (r : PreFault) → path ≡ Any → IsNowhere about none → IsCountedBefore about Every none r → IsCountedStaying about path into r
   stops_staying Every into none r e n h = absurd cc
-  stops_staying Any into none r e n h = λ plain b few.
+  stops_staying Any into none r e n h = λ plain b bounded.
       within_more (all_count about.cases (λ k. 0)) (staying_count about.cases Any b)
       (λ l. (let z = all_of_none about.cases l in omega (arith, z))) r (h plain (λ k. 0) (nowhere_few about none n))
 
   pub stay_counted : (path : Path) (into back none stops : Region) (budget : Budget) (fault : RegionFault) (r : PreFault) → path ≡ Any → IsNowhere about none → IsFewBefore about path into back → IsFewBefore about Every none stops → IsOfRegion fault r → IsEitherFault back stops budget fault → IsCountedStaying about path into r
-  stay_counted Every into back none stops budget fault r e n few stop is h = absurd cc
-  stay_counted Any into back none stops budget fault r e n few stop is h = λ plain b w.
+  stay_counted Every into back none stops budget fault r e n bounded stop is h = absurd cc
+  stay_counted Any into back none stops budget fault r e n bounded stop is h = λ plain b w.
       region_within (staying_count about.cases Any b) fault r is
       (either_counted back stops budget (staying_count about.cases Any b)
-      (λ l. plus (count_at l back) (count_at l stops) (some_count about.cases b l) (stop_count about.cases l) (few plain b w l) (stops_few about none stops n plain stop l)) fault h)
+      (λ l. plus (count_at l back) (count_at l stops) (some_count about.cases b l) (stop_count about.cases l) (bounded plain b w l) (stops_few about none stops n plain stop l)) fault h)
 
 -- ---- sides
 hold_one : (shape : Shape) (f g : ℕ → ℕ) (l : ℕ) → 1 ≤ f l → 1 ≤ g l → 1 ≤ hold_count shape f g l
@@ -130,32 +130,32 @@ end_one Release f g l h k = two_ones (f l) (g l) h k
 end_one Strong f g l h k = two_ones (f l) (g l) h k
 
 pub one_end_counted : (about : CaseSystem) (sides : Sides) (none : Region) (budget : Budget) (fault : RegionFault) (r : PreFault) → IsNowhere about none → two_ends sides.shape ≡ false → IsOfRegion fault r → IsEitherFault sides.second.now none budget fault → IsCountedEnd sides r
-one_end_counted about sides none budget fault r n t is h f g few =
+one_end_counted about sides none budget fault r n t is h f g bounded =
     region_within (end_count sides.shape f g) fault r is
     (either_counted sides.second.now none budget (end_count sides.shape f g)
     (λ l. subst (λ k. count_at l sides.second.now + count_at l none ≤ k) (sym (one_end_of sides.shape f g l t))
-    (let z = nowhere_few about none n l in let s = few.second l in omega (arith, z, s))) fault h)
+    (let z = nowhere_few about none n l in let s = bounded.second l in omega (arith, z, s))) fault h)
 
 pub two_ends_counted : (sides : Sides) (budget : Budget) (fault : RegionFault) (r : PreFault) → two_ends sides.shape ≡ true → IsOfRegion fault r → IsBothFault sides.first.now sides.second.now budget fault → IsCountedEnd sides r
-two_ends_counted sides budget fault r t is h f g few =
+two_ends_counted sides budget fault r t is h f g bounded =
     region_within (end_count sides.shape f g) fault r is
     (both_counted sides.first.now sides.second.now budget (end_count sides.shape f g)
     (λ l. subst (λ k. count_at l sides.first.now * count_at l sides.second.now ≤ k) (sym (two_ends_of sides.shape f g l t))
-    (mul-le (count_at l sides.first.now) (count_at l sides.second.now) (f l) (g l) (few.first l) (few.second l))) fault h)
+    (mul-le (count_at l sides.first.now) (count_at l sides.second.now) (f l) (g l) (bounded.first l) (bounded.second l))) fault h)
 
 module _ (about : CaseSystem) (sides : Sides) where
   -- ---- those on the way
   pub staying_onward : (into : Region) (r : PreFault) → IsCountedStaying about sides.path into r → IsCountedOnward about sides into r
-  staying_onward into r h plain f g b full few =
+  staying_onward into r h plain f g b full bounded =
       let staying = staying_count about.cases sides.path b in
-      within_more staying (λ l. hold_count sides.shape f g l * staying l) (λ l. larger (hold_count sides.shape f g l) (staying l) (hold_one sides.shape f g l (full.some_first l) (full.some_second l))) r (h plain b few)
+      within_more staying (λ l. hold_count sides.shape f g l * staying l) (λ l. larger (hold_count sides.shape f g l) (staying l) (hold_one sides.shape f g l (full.some_first l) (full.some_second l))) r (h plain b bounded)
 
   pub onward_counted : (into stays hold : Region) (budget : Budget) (fault : RegionFault) (r : PreFault) → hold ≡ hold_side sides.shape sides.first.now sides.second.now → IsFewStaying about sides.path into stays → IsOfRegion fault r → IsBothFault hold stays budget fault → IsCountedOnward about sides into r
-  onward_counted into stays hold budget fault r e few is h plain f g b full w =
+  onward_counted into stays hold budget fault r e bounded is h plain f g b full w =
       let bound = λ (l : ℕ). hold_count sides.shape f g l * staying_count about.cases sides.path b l in
       region_within bound fault r is
       (both_counted hold stays budget bound
-      (λ l. mul-le (count_at l hold) (count_at l stays) (hold_count sides.shape f g l) (staying_count about.cases sides.path b l) (side_few sides f g full.counts hold e l) (few plain b w l)) fault h)
+      (λ l. mul-le (count_at l hold) (count_at l stays) (hold_count sides.shape f g l) (staying_count about.cases sides.path b l) (side_few sides f g full.counts hold e l) (bounded plain b w l)) fault h)
 
   pub goes_going : (all : Region) (r : PreFault) → IsEverywhere about all → IsCountedBefore about Any all r → IsCountedGoing about sides r
   goes_going all r a h plain f g full =
@@ -163,11 +163,11 @@ module _ (about : CaseSystem) (sides : Sides) where
       within_more some (λ l. hold_count sides.shape f g l * some l) (λ l. larger (hold_count sides.shape f g l) (some l) (hold_one sides.shape f g l (full.some_first l) (full.some_second l))) r (h plain (λ k. 1) (everywhere_few about all a))
 
   pub going_counted : (all goes hold : Region) (budget : Budget) (fault : RegionFault) (r : PreFault) → IsEverywhere about all → hold ≡ hold_side sides.shape sides.first.now sides.second.now → IsFewBefore about Any all goes → IsOfRegion fault r → IsBothFault hold goes budget fault → IsCountedGoing about sides r
-  going_counted all goes hold budget fault r a e few is h plain f g full =
+  going_counted all goes hold budget fault r a e bounded is h plain f g full =
       let bound = λ (l : ℕ). hold_count sides.shape f g l * some_count about.cases (λ k. 1) l in
       region_within bound fault r is
       (both_counted hold goes budget bound
-      (λ l. mul-le (count_at l hold) (count_at l goes) (hold_count sides.shape f g l) (some_count about.cases (λ k. 1) l) (side_few sides f g full.counts hold e l) (few plain (λ k. 1) (everywhere_few about all a) l)) fault h)
+      (λ l. mul-le (count_at l hold) (count_at l goes) (hold_count sides.shape f g l) (some_count about.cases (λ k. 1) l) (side_few sides f g full.counts hold e l) (bounded plain (λ k. 1) (everywhere_few about all a) l)) fault h)
 
   -- ---- the fixed point
   pub cover_along : (fault : CoverFault) (r : PreFault) → IsOfCover fault r → IsCountedAlong about sides r
@@ -197,14 +197,14 @@ module _ (about : CaseSystem) (sides : Sides) where
       let one : hold l * some l ≤ growing_count about.cases Every hold ends 1 l = omega (arith, m) in
       grown_within about sides f g last l must (hold l * some l) 1 (last_is_one about last start is) (subst (λ (p : Path). hold l * some l ≤ growing_count about.cases p hold ends 1 l) (sym path) one))) r (h plain f g full)
 
-  module _ (end : Region) (few : IsFewEnd sides end) (point : FixedPoint) (of : IsOfSides sides end point) where
+  module _ (end : Region) (bounded : IsFewEnd sides end) (point : FixedPoint) (of : IsOfSides sides end point) where
     -- a settled round that shrinks is followed by one more
     pub onward_along : must_end sides.shape ≡ false → (k : ℕ) (round : Region) → IsRound false about point k round → ((last : ℕ) → IsLastRound about 9 last → suc k ≤ last) → (r : PreFault) → IsCountedOnward about sides round r → IsCountedAlong about sides r
     onward_along must k round is_round early r h plain last is f g full =
         let hold = hold_count sides.shape f g in
         let ends = end_count sides.shape f g in
         let b = shrinking_count about.cases sides.path hold ends k in
-        let rounds : (i : ℕ) → count_at i round ≤ b i = λ i. subst (λ (p : Path). count_at i round ≤ shrinking_count about.cases p hold ends k i) of.path (is_round.few plain hold ends (sides_counted sides f g full.counts end point of few) i) in
+        let rounds : (i : ℕ) → count_at i round ≤ b i = λ i. subst (λ (p : Path). count_at i round ≤ shrinking_count about.cases p hold ends k i) of.path (is_round.bounded plain hold ends (sides_counted sides f g full.counts end point of bounded) i) in
         let bound = λ (l : ℕ). hold l * staying_count about.cases sides.path b l in
         within_more bound (fix_count about.cases last sides.path sides.shape f g)
         (λ l. shrunk_within about sides f g last l must (bound l) (suc k) (early last is) (later (ends l) (bound l))) r (h plain f g b full rounds)
@@ -220,8 +220,8 @@ module _ (about : CaseSystem) (sides : Sides) where
         let w = subst (IsCountedBy (must_end sides.shape) about point n) is h in
         calls.within_more (round_bound (must_end sides.shape) about.cases point.path (suc w.at) hold ends) (fix_count about.cases last sides.path sides.shape f g)
         (λ x. by_growth (must_end sides.shape) refl (suc w.at) (one_later about cases n last w.at start l o w.early (must_end sides.shape) point w.open_before) x) k
-        (w.few plain hold ends (record {
-          counts = sides_counted sides f g full.counts end point of few;
+        (w.bounded plain hold ends (record {
+          counts = sides_counted sides f g full.counts end point of bounded;
           some_hold = λ x. hold_one sides.shape f g x (full.some_first x) (full.some_second x);
           some_end = λ x. end_one sides.shape f g x (full.some_first x) (full.some_second x);
         }))

@@ -1,4 +1,4 @@
--- It can be told whether some numbers, put behind a point, meet rows that are differences.
+-- It can be told whether some numbers, put after a point, meet rows that are differences.
 use Rattle.std.proofs.Common.{◌≡◌, ◌⊎◌, inl, inr, ℕ, zero, suc, ◌+◌, List, [], ◌∷◌, ◌++◌, length, map, refl, sym, ap, ◌∙◌, subst, arith, ℤ, pos, negsuc, neg_ℤ, ◌+ℤ◌, ◌-ℤ◌, ◌*ℤ◌, ◌≤ℤ◌, true, slice_index_or, length-append, append_assoc}
 use Rattle.std.specs.Prelude.{◌&&◌}
 use Rattle.std.specs.Int.RustNames.{int_le}
@@ -348,7 +348,7 @@ fitted_met n xs e (r ∷ rows) = (λ i. same i && fitted_met n xs e rows i) wher
   same = ap (λ z. int_le (z +ℤ r.constant) (pos 0)) (subst (λ k. dot (fitted_numbers k r.coefficients) xs ≡ dot r.coefficients xs) e (dot-fitted r.coefficients xs))
 
 -- ---- whether some numbers serve
--- so many numbers behind the point meet the rows
+-- so many numbers after the point meet the rows
 pub record MeetsBehind (k : ℕ) (rows : List Linear) (xs : List ℤ) : Type 0 where
   pub draws : List ℤ
   pub drawn : length draws ≡ k

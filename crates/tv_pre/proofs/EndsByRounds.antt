@@ -73,9 +73,9 @@ module _ (about : CaseSystem) (cases : All (IsCase about.variables about.locatio
   full_term region full = term_full about cases h.goes region (as_until (λ q w. IsFull about (fix q w anything stopping) region) (full anything stopping h.first_full h.second_full))
 
   few_term : (region : Region) → IsFewAlong about sides region → HasNoDraws about → (m : ℕ) → IsLastRound about 9 m → (l : ℕ) → count_at l region ≤ term_count about.cases m l
-  few_term region few plain m is l =
+  few_term region bounded plain m is l =
       let back = next_count about.cases Every (λ k. 1) in
-      as_until (λ q w. count_at l region ≤ fix_count about.cases m q w (λ k. 1) back l) (few plain m is (λ k. 1) back (counted_sides about Every anything stopping sides h plain) l)
+      as_until (λ q w. count_at l region ≤ fix_count about.cases m q w (λ k. 1) back l) (bounded plain m is (λ k. 1) back (counted_sides about Every anything stopping sides h plain) l)
 
   pub open_gap : IsOpenAlong about last sides → IsUnranked about → IsGapFor about last statements.ends (Open 0)
   open_gap open_here lacks =

@@ -71,7 +71,7 @@ one_last about n m (inr a) (inr b) = a.1 ∙ sym b.1
 module _ (about : CaseSystem) (last : ℕ) where
   -- ---- arguments
   pub found_argument : (s : Statement) (found : Found) → IsFound about last s found → IsArgument about last s found.part.region found.part.node
-  found_argument s found h = record { over = h.over; shows = h.shows; built = h.built; few = h.few }
+  found_argument s found h = record { over = h.over; shows = h.shows; built = h.built; bounded = h.bounded }
 
   pub argument_more : (ss : List Statement) (rs : List Region) (ns : List Node) (s : Statement) (r : Region) (n : Node) → AreEachArgument about last ss rs ns → IsArgument about last s r n → AreEachArgument about last (ss ++ s ∷ []) (rs ++ r ∷ []) (ns ++ n ∷ [])
   argument_more [] [] [] s r n h k = (k, tt)
@@ -137,7 +137,7 @@ module _ (about : CaseSystem) (last : ℕ) where
     argument_product (t ∷ ss) (q ∷ rs) (n ∷ ns) h (more f fs) e =
         let first : t ≡ stated (comparison_lists about.variables) f = cc in
         let rest : statements_of ss ≡ stated_all (comparison_lists about.variables) fs = cc in
-        mul-le (count_at l q) (product (counts_at l rs)) (count about.cases m f l) (product_count about.cases m fs l) (h.0.few plain m is f first l) (argument_product ss rs ns h.1 fs rest)
+        mul-le (count_at l q) (product (counts_at l rs)) (count about.cases m f l) (product_count about.cases m fs l) (h.0.bounded plain m is f first l) (argument_product ss rs ns h.1 fs rest)
 
     pub argument_sum : (ss : List Statement) (rs : List Region) (ns : List Node) → AreEachArgument about last ss rs ns → (fs : Properties) → statements_of ss ≡ stated_all (comparison_lists about.variables) fs → sum (counts_at l rs) ≤ sum_count about.cases m fs l
     argument_sum [] [] [] h none e = none_summed
@@ -150,7 +150,7 @@ module _ (about : CaseSystem) (last : ℕ) where
     argument_sum (t ∷ ss) (q ∷ rs) (n ∷ ns) h (more f fs) e =
         let first : t ≡ stated (comparison_lists about.variables) f = cc in
         let rest : statements_of ss ≡ stated_all (comparison_lists about.variables) fs = cc in
-        more_summed (count_at l q) (counts_at l rs) (count about.cases m f l) (sum_count about.cases m fs l) (h.0.few plain m is f first l) (argument_sum ss rs ns h.1 fs rest)
+        more_summed (count_at l q) (counts_at l rs) (count about.cases m f l) (sum_count about.cases m fs l) (h.0.bounded plain m is f first l) (argument_sum ss rs ns h.1 fs rest)
 
   full_more : (ss : List Statement) (rs : List Region) (s : Statement) (r : Region) → AreFullFor about ss rs → IsFullFor about s r → AreFullFor about (ss ++ s ∷ []) (rs ++ r ∷ [])
   full_more [] [] s r h k = (k, tt)
@@ -169,10 +169,10 @@ module _ (about : CaseSystem) (last : ℕ) where
     pub each_is_found : (found : Found) → IsRegion about.variables about.locations found.part.region → ((fs : Properties) → AreParts about fs rs ns → IsPart about (props.all_of fs) found.part.region found.part.node) → IsBuiltOf about 0 rs found.part.region → found.size ≡ 1 + total_size (statements_of ss) →
         (found.gap ≡ None → AreFullFor about ss rs) → ((s : State) → IsStateOf about s → All (λ x. InState x s) rs → InState found.part.region s) → IfSome found.gap (IsGapAmong about last (statements_of ss)) →
         ((l : ℕ) → count_at l found.part.region ≤ product (counts_at l rs)) → IsFound about last (each_of (statements_of ss)) found
-    each_is_found found over p b z full all of few = record {
-      few = λ plain m is f e l.
+    each_is_found found over p b z full all of bounded = record {
+      bounded = λ plain m is f e l.
           (let w = each_is (comparison_lists about.variables) (statements_of ss) f e in
-          subst (λ g. count_at l found.part.region ≤ count about.cases m g l) (sym w.1) (trans (count_at l found.part.region) (product (counts_at l rs)) (product_count about.cases m w.0 l) (few l) (argument_product plain m is l ss rs ns h w.0 w.2)));
+          subst (λ g. count_at l found.part.region ≤ count about.cases m g l) (sym w.1) (trans (count_at l found.part.region) (product (counts_at l rs)) (product_count about.cases m w.0 l) (bounded l) (argument_product plain m is l ss rs ns h w.0 w.2)));
       gap = gap_weaker (IsGapAmong about last (statements_of ss)) (IsGapFor about last (each_of (statements_of ss))) found.gap (each_gap about last (statements_of ss)) of;
       over = over;
       shows = λ f e. (let w = each_is (comparison_lists about.variables) (statements_of ss) f e in subst (λ g. IsPart about g found.part.region found.part.node) (sym w.1) (p w.0 (argument_parts ss rs ns h w.0 w.2)));
@@ -187,10 +187,10 @@ module _ (about : CaseSystem) (last : ℕ) where
     pub some_is_found : (found : Found) → IsRegion about.variables about.locations found.part.region → ((fs : Properties) → AreParts about fs rs ns → IsPart about (props.some_of fs) found.part.region found.part.node) → IsBuiltOf about 0 rs found.part.region → found.size ≡ 1 + total_size (statements_of ss) →
         (found.gap ≡ None → AreFullFor about ss rs) → All (λ x. OfPieces about x.pieces.items (InState found.part.region)) rs → IfSome found.gap (IsGapAmong about last (statements_of ss)) →
         ((l : ℕ) → count_at l found.part.region ≤ sum (counts_at l rs)) → IsFound about last (one_of (statements_of ss)) found
-    some_is_found found over p b z full all of few = record {
-      few = λ plain m is f e l.
+    some_is_found found over p b z full all of bounded = record {
+      bounded = λ plain m is f e l.
           (let w = one_is (comparison_lists about.variables) (statements_of ss) f e in
-          subst (λ g. count_at l found.part.region ≤ count about.cases m g l) (sym w.1) (trans (count_at l found.part.region) (sum (counts_at l rs)) (sum_count about.cases m w.0 l) (few l) (argument_sum plain m is l ss rs ns h w.0 w.2)));
+          subst (λ g. count_at l found.part.region ≤ count about.cases m g l) (sym w.1) (trans (count_at l found.part.region) (sum (counts_at l rs)) (sum_count about.cases m w.0 l) (bounded l) (argument_sum plain m is l ss rs ns h w.0 w.2)));
       gap = gap_weaker (IsGapAmong about last (statements_of ss)) (IsGapFor about last (one_of (statements_of ss))) found.gap (one_gap about last (statements_of ss)) of;
       over = over;
       shows = λ f e. (let w = one_is (comparison_lists about.variables) (statements_of ss) f e in subst (λ g. IsPart about g found.part.region found.part.node) (sym w.1) (p w.0 (argument_parts ss rs ns h w.0 w.2)));
@@ -235,10 +235,10 @@ module _ (about : CaseSystem) (last : ℕ) where
     pub after_is_found : (found : Found) → IsRegion about.variables about.locations found.part.region → ((f : Property) → AreParts about (more f none) (child.part.region ∷ []) (child.part.node ∷ []) → IsPart about (props.next path f) found.part.region found.part.node) → IsBuiltOf about 1 (child.part.region ∷ []) found.part.region → found.size ≡ 1 + child.size →
         All (IsCase about.variables about.locations) about.cases → (found.gap ≡ None → IsTame about child.part.region × (child.gap ≡ None)) → OthersLeadOut about path child.part.region found.part.region → IfSome found.gap (IsGapFor about last (after path s)) →
         IsFewBefore about path child.part.region found.part.region → IsFound about last (after path s) found
-    after_is_found found over p b z cases told others of few = record {
-      few = λ plain m is f e l.
+    after_is_found found over p b z cases told others of bounded = record {
+      bounded = λ plain m is f e l.
           (let w = after_is (comparison_lists about.variables) path s f e in
-          subst (λ g. count_at l found.part.region ≤ count about.cases m g l) (sym w.1) (few plain (λ k. count about.cases m w.0 k) (λ k. h.few plain m is w.0 w.2 k) l));
+          subst (λ g. count_at l found.part.region ≤ count about.cases m g l) (sym w.1) (bounded plain (λ k. count about.cases m w.0 k) (λ k. h.bounded plain m is w.0 w.2 k) l));
       gap = of;
       over = over;
       shows = λ f e. (let w = after_is (comparison_lists about.variables) path s f e in subst (λ g. IsPart about g found.part.region found.part.node) (sym w.1) (p w.0 (h.shows w.0 w.2, tt)));
@@ -282,11 +282,11 @@ module _ (about : CaseSystem) (last : ℕ) where
         (found.gap ≡ None → (first.gap ≡ None) × (second.gap ≡ None) × ((f k : Property) → IsFull about f first.part.region → IsFull about k second.part.region → IsFull about (props.fix path shape f k) found.part.region)) → IfSome found.gap (IsGapFor about last (along path shape s t)) →
         (HasNoDraws about → (m : ℕ) → IsLastRound about 9 m → (a b : ℕ → ℕ) → ((l : ℕ) → count_at l first.part.region ≤ a l) → ((l : ℕ) → count_at l second.part.region ≤ b l) → (l : ℕ) → count_at l found.part.region ≤ fix_count about.cases m path shape a b l) →
         IsFound about last (along path shape s t) found
-    along_is_found found over p b z told of few = record {
-      few = λ plain m is f e l.
+    along_is_found found over p b z told of bounded = record {
+      bounded = λ plain m is f e l.
           (let w = along_is (comparison_lists about.variables) path shape s t f e in
           subst (λ z. count_at l found.part.region ≤ count about.cases m z l) (sym w.2)
-          (few plain m is (λ k. count about.cases m w.0 k) (λ k. count about.cases m w.1 k) (λ k. h.few plain m is w.0 w.3 k) (λ k. g.few plain m is w.1 w.4 k) l));
+          (bounded plain m is (λ k. count about.cases m w.0 k) (λ k. count about.cases m w.1 k) (λ k. h.bounded plain m is w.0 w.3 k) (λ k. g.bounded plain m is w.1 w.4 k) l));
       gap = of;
       over = over;
       shows = λ f e. (let w = along_is (comparison_lists about.variables) path shape s t f e in subst (λ z. IsPart about z found.part.region found.part.node) (sym w.2) (p w.0 w.1 (h.shows w.0 w.3, (g.shows w.1 w.4, tt))));
@@ -395,7 +395,7 @@ module _ (about : CaseSystem) (last : ℕ) where
     built = no_steps t found (of_atom 0 (test_statement t) found.part.region (own_atom t) (test_region t found.part.region h));
     size = z ∙ sym (one_size t);
     full = λ gap f e rows. atom_full about t f found.part.region (test_states t f e) rows h;
-    few = λ plain m is f e l. tested_few about t found.part.region h (count about.cases m f l) l (test_few about m t f (test_states t f e) l);
+    bounded = λ plain m is f e l. tested_few about t found.part.region h (count about.cases m f l) l (test_few about m t f (test_states t f e) l);
   }
 
   -- ---- arguments one after the other

@@ -40,7 +40,7 @@ module _ (about : CaseSystem) (cases : All (IsCase about.variables about.locatio
     pub grows_to : (k n : ℕ) → k ≤ n → (s : State) → GrowingRound (CaseSteps about) path hold end k s → GrowingRound (CaseSteps about) path hold end n s
     grows_to k n l s r = lift_to (λ i. GrowingRound (CaseSteps about) path hold end i s) (λ i x. inl x) k n l r
 
-    -- a round behind a settled one is settled too
+    -- a round after a settled one is settled too
     settled_next : (grows : Bool) (k : ℕ) → IsSettledBy grows about path hold end k → IsSettledBy grows about path hold end (suc k)
     settled_next true k settled s is = (
       λ r. inl r,

@@ -161,10 +161,10 @@ own_met n k rows lists (cover.Into target fall ls) got narrow h =
     (subst (λ o. ShownAt n (as_given rows) (option_map as_given o) (own_lines (length rows) 0 (length rows))) (sym got) (own_shown n [] rows narrow))
 
 own_narrow : (count k : ℕ) (tree : CoverTree) → k < 2 ^ 32 → IsOwnCover count k tree → CoverNarrow tree
-own_narrow count k (cover.Split' r p a q b) few h = absurd h
-own_narrow count k (cover.Empty ms) few h = absurd h
-own_narrow count k (cover.Into target fall ls) few h = (
-  subst CountNarrow (sym h.0) (omega (arith, few)),
+own_narrow count k (cover.Split' r p a q b) bounded h = absurd h
+own_narrow count k (cover.Empty ms) bounded h = absurd h
+own_narrow count k (cover.Into target fall ls) bounded h = (
+  subst CountNarrow (sym h.0) (omega (arith, bounded)),
   subst CountNarrow (sym h.1) (omega arith),
   all_unmapped AreNarrow (λ l. l.items) ls.items (subst (All AreNarrow) (sym h.2) (lines_narrow count 0 count)),
 )
@@ -180,11 +180,11 @@ own_splits count k (cover.Empty ms) h = absurd h
 own_splits count k (cover.Into target fall ls) h = omega arith
 
 pub own_offered : (about : CaseSystem) (number l k count : ℕ) (rows : List Linear) (lists : List (List Linear)) (tree : CoverTree) → slice_get lists k ≡ Some rows → count ≡ length rows → k < 2 ^ 32 → All IsNarrow rows → IsOwnCover count k tree → IsOffered (atom_of number (about_with about) (atom_piece about.variables l rows) lists) (Covered tree)
-own_offered about number l k count rows lists tree got many few narrow own =
+own_offered about number l k count rows lists tree got many bounded narrow own =
     let h = subst (λ c. IsOwnCover c k tree) many own in
     let met = own_met about.variables k rows lists tree got narrow h in
     record {
       shape = (met_shape about.variables (changed_lists given lists) (as_given rows) tree (own_even about.variables (length rows) k tree h) met, own_splits (length rows) k tree h);
       met = met;
-      narrow = own_narrow (length rows) k tree few h;
+      narrow = own_narrow (length rows) k tree bounded h;
     }

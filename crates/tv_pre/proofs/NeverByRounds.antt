@@ -83,9 +83,9 @@ module _ (about : CaseSystem) (cases : All (IsCase about.variables about.locatio
   full_never region full = never_full about region (as_release (λ q w. IsFull about (fix q w nothing going) region) (full nothing going h.first_full h.second_full))
 
   few_never : (region : Region) → IsFewAlong about sides region → HasNoDraws about → (m : ℕ) → IsLastRound about 9 m → (l : ℕ) → count_at l region ≤ no_term_count about.cases m l
-  few_never region few plain m is l =
+  few_never region bounded plain m is l =
       let back = next_count about.cases Any (λ k. 1) in
-      as_release (λ q w. count_at l region ≤ fix_count about.cases m q w (λ k. 1) back l) (few plain m is (λ k. 1) back (counted_sides about Any nothing going sides h plain) l)
+      as_release (λ q w. count_at l region ≤ fix_count about.cases m q w (λ k. 1) back l) (bounded plain m is (λ k. 1) back (counted_sides about Any nothing going sides h plain) l)
 
   pub open_gap : IsOpenAlong about last sides → IsUnranked about → IsGapFor about last statements.never_ends (Open 0)
   open_gap open_here lacks =

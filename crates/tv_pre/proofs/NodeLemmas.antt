@@ -101,7 +101,7 @@ part_made about f region (Node' ps m' shape row list) m pieces regions kids proo
     shape = (own_shape, subst (λ ss. KidsShape about ss row) (sym (parts-stated (about_with about) f)) (kids_shape about (parts f) regions row row_parts));
     narrow = (
       record {
-        count = (let e = ap length pieces_same in let few = made.few in omega (arith, e, few));
+        count = (let e = ap length pieces_same in let bounded = made.bounded in omega (arith, e, bounded));
         ranks = (let e = ranks_same in let small = made.small in omega (arith, e, small));
         pieces = subst (All PieceNarrow) (sym pieces_same) made.own.narrow;
         offered = subst (All ProofNarrow) (sym proofs_same) (all_narrow (own_of 0 (about_with about) f pieces (map pieces_list kids)) proofs (offers 0));

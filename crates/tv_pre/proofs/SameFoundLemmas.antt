@@ -51,7 +51,7 @@ found_same about last s a b e h = record {
   size = e.size ∙ h.size;
   gap = subst (λ g. IfSome g (IsGapFor about last s)) (sym e.gap) h.gap;
   full = λ none f w rows t is out. h.full (sym e.gap ∙ none) f w rows t is (λ m. out (same_state a.part.region b.part.region t e.region m));
-  few = λ plain m is f w l. subst (λ k. k ≤ count about.cases m f l) (sym (same_count l a.part.region b.part.region e.region)) (h.few plain m is f w l);
+  bounded = λ plain m is f w l. subst (λ k. k ≤ count about.cases m f l) (sym (same_count l a.part.region b.part.region e.region)) (h.bounded plain m is f w l);
 }
 
 -- a copy of a node that shows that every run ends shows it too

@@ -43,7 +43,7 @@ pub record IsCommon (about : CaseSystem) (regions : List Region) (count : ℕ) (
   pub inside : All (λ x. OfPieces about common.pieces.items (InState x)) (take count regions)
   pub all : (s : State) → IsStateOf about s → All (λ x. InState x s) regions → InState common s
   pub built : IsBuiltOf about 0 regions common
-  pub few : (l : ℕ) → count_at l common ≤ product (counts_at l (take count regions))
+  pub bounded : (l : ℕ) → count_at l common ≤ product (counts_at l (take count regions))
 
 -- the region has only states of the regions together, and those of the first so many
 pub record IsWhole (about : CaseSystem) (regions : List Region) (count : ℕ) (whole : Region) : Type 0 where
@@ -51,7 +51,7 @@ pub record IsWhole (about : CaseSystem) (regions : List Region) (count : ℕ) (w
   pub inside : OfPieces about whole.pieces.items (InPieces (joined_pieces regions))
   pub all : All (λ x. OfPieces about x.pieces.items (InState whole)) (take count regions)
   pub built : IsBuiltOf about 0 regions whole
-  pub few : (l : ℕ) → count_at l whole ≤ sum (counts_at l (take count regions))
+  pub bounded : (l : ℕ) → count_at l whole ≤ sum (counts_at l (take count regions))
 
 pub in_joined : (regions : List Region) (r : Region) (s : State) → Contains regions r → InState r s → InPieces (joined_pieces regions) s
 in_joined [] r s c h = absurd (Contains-none r c)
@@ -109,7 +109,7 @@ module _ (about : CaseSystem) (regions : List Region) where
     inside = All-nil (λ x. OfPieces about common.pieces.items (InState x));
     all = λ s p k. e.all s p.location;
     built = λ s h m. of_everywhere (0 + h) common e;
-    few = everywhere_few about common e;
+    bounded = everywhere_few about common e;
   }
 
   pub common_more : (i : ℕ) (common r new : Region) → i < length regions → r ≡ get_or regions i r → IsRegion about.variables about.locations r → IsCommon about regions i common → IsBoth common r new → IsCommon about regions (i + 1) new
@@ -121,14 +121,14 @@ module _ (about : CaseSystem) (regions : List Region) where
             (subst (λ x. OfPieces about new.pieces.items (InState x)) e (λ s p m. ((w.same s p).0 m).1));
         all = λ s p k. (w.same s p).1 (g.all s p k, subst (λ x. InState x s) (sym e) (All-get_or (λ x. InState x s) regions i r l k));
         built = λ s h m. of_both (0 + h) common r new (g.built s h m) (built_to about s h (0 + h) r (omega arith) (m r (subst (Contains regions) (sym e) (Contains-get_or regions i r l)))) b;
-        few = λ k. more_common regions i common r new l e b k (g.few k);
+        bounded = λ k. more_common regions i common r new l e b k (g.bounded k);
       }
 
   pub common_all : (i : ℕ) (common : Region) → length regions ≤ i → IsCommon about regions i common → All (λ x. OfPieces about common.pieces.items (InState x)) regions
   common_all i common l g = subst (All (λ x. OfPieces about common.pieces.items (InState x))) (take_past regions i l) g.inside
 
   pub common_few : (i : ℕ) (common : Region) → length regions ≤ i → IsCommon about regions i common → (l : ℕ) → count_at l common ≤ product (counts_at l regions)
-  common_few i common l g k = subst (λ rs. count_at k common ≤ product (counts_at k rs)) (take_past regions i l) (g.few k)
+  common_few i common l g k = subst (λ rs. count_at k common ≤ product (counts_at k rs)) (take_past regions i l) (g.bounded k)
 
   pub item_over : (i : ℕ) (r : Region) → i < length regions → r ≡ get_or regions i r → All (IsRegion about.variables about.locations) regions → IsRegion about.variables about.locations r
   item_over i r l e all = subst (IsRegion about.variables about.locations) (sym e) (all i r l)
@@ -139,7 +139,7 @@ module _ (about : CaseSystem) (regions : List Region) where
     inside = λ s p m. absurd (((nowhere_set about whole n).same s p).0 m);
     all = All-nil (λ x. OfPieces about x.pieces.items (InState whole));
     built = λ s h m. of_nowhere (0 + h) whole n;
-    few = first_whole about whole n;
+    bounded = first_whole about whole n;
   }
 
   pub whole_more : (i : ℕ) (whole r new : Region) → i < length regions → r ≡ get_or regions i r → IsRegion about.variables about.locations r → IsWhole about regions i whole → IsEither whole r new → IsWhole about regions (i + 1) new
@@ -152,11 +152,11 @@ module _ (about : CaseSystem) (regions : List Region) where
             (All-weaker (λ x. OfPieces about x.pieces.items (InState whole)) (λ x. OfPieces about x.pieces.items (InState new)) (λ x k s p m. (w.same s p).1 (inl (k s p m))) (take i regions) g.all)
             (subst (λ x. OfPieces about x.pieces.items (InState new)) e (λ s p m. (w.same s p).1 (inr m)));
         built = λ s h m. of_either (0 + h) whole r new (g.built s h m) (built_to about s h (0 + h) r (omega arith) (m r c)) b;
-        few = λ k. more_whole regions i whole r new l e b k (g.few k);
+        bounded = λ k. more_whole regions i whole r new l e b k (g.bounded k);
       }
 
   pub whole_few : (i : ℕ) (whole : Region) → length regions ≤ i → IsWhole about regions i whole → (l : ℕ) → count_at l whole ≤ sum (counts_at l regions)
-  whole_few i whole l g k = subst (λ rs. count_at k whole ≤ sum (counts_at k rs)) (take_past regions i l) (g.few k)
+  whole_few i whole l g k = subst (λ rs. count_at k whole ≤ sum (counts_at k rs)) (take_past regions i l) (g.bounded k)
 
   pub whole_all : (i : ℕ) (whole : Region) → length regions ≤ i → IsWhole about regions i whole → All (λ x. OfPieces about x.pieces.items (InState whole)) regions
   whole_all i whole l g = subst (All (λ x. OfPieces about x.pieces.items (InState whole))) (take_past regions i l) g.all

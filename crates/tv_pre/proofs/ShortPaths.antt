@@ -76,8 +76,8 @@ module _ (cases : List LinearCase) where
     short : (k : ℕ) (vs : List ℕ) (l : ℕ) → l < n → n ≤ k + length vs → AreApart vs → ((q : ℕ) → IsAmong q vs → (q < n) × LeadsOn q l) → IsShort cases k l
     short zero vs l in_range many apart way =
         let new : IsAmong l vs → ⊥ = λ h. none (has_cycle l (way l h).1) in
-        let few : length (l ∷ vs) ≤ n = few_apart (l ∷ vs) n (new, apart) (λ q h. elim h [ inl e ↦ subst (λ x. x < n) (sym e) in_range | inr m ↦ (way q m).0 ]) in
-        omega (arith, few, many)
+        let bounded : length (l ∷ vs) ≤ n = few_apart (l ∷ vs) n (new, apart) (λ q h. elim h [ inl e ↦ subst (λ x. x < n) (sym e) in_range | inr m ↦ (way q m).0 ]) in
+        omega (arith, bounded, many)
     short (suc k) vs l in_range many apart way = λ c m e.
         (let new : IsAmong l vs → ⊥ = λ h. none (has_cycle l (way l h).1) in
         let step : Leads cases l c.to = subst (λ x. Leads cases x c.to) e (one_step c m) in

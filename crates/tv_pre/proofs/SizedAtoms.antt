@@ -62,7 +62,7 @@ module _ (about : CaseSystem) where
 
   -- at a location of the program, and past the last one
   pub tested_few : (t : Test) (region : Region) → IsTested about t region → (n l : ℕ) → length (test_lists t l) ≤ n → count_at l region ≤ n
-  tested_few t region h n l few = by_place (nat_lt l about.locations) refl where
+  tested_few t region h n l bounded = by_place (nat_lt l about.locations) refl where
     by_place : (b : Bool) → nat_lt l about.locations ≡ b → count_at l region ≤ n
-    by_place true e = subst (λ ls. length ls ≤ n) (sym (h.lists l (let k : l < about.locations = grind (arith, nat_tests, e) in k))) few
+    by_place true e = subst (λ ls. length ls ≤ n) (sym (h.lists l (let k : l < about.locations = grind (arith, nat_tests, e) in k))) bounded
     by_place false e = subst (λ ls. length ls ≤ n) (sym (past_lists about.variables about.locations l region.pieces.items h.over.pieces (let k : about.locations ≤ l = grind (arith, nat_tests, e) in k))) (none_less n)

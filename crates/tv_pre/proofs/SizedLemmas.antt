@@ -102,14 +102,14 @@ more_common regions i common r new n e b l h =
     let so_far = counts_at l (take i regions) in
     subst (λ ns. count_at l new ≤ product ns) (sym (counts_more l regions i r n e))
     (subst (λ k. count_at l new ≤ k) (sym (product_last so_far (count_at l r)))
-    (trans (count_at l new) (count_at l common * count_at l r) (product so_far * count_at l r) (b.few l) (mul-le (count_at l common) (count_at l r) (product so_far) (count_at l r) h (le_refl (count_at l r)))))
+    (trans (count_at l new) (count_at l common * count_at l r) (product so_far * count_at l r) (b.bounded l) (mul-le (count_at l common) (count_at l r) (product so_far) (count_at l r) h (le_refl (count_at l r)))))
 
 pub more_whole : (regions : List Region) (i : ℕ) (whole r new : Region) → i < length regions → r ≡ get_or regions i r → IsEither whole r new → (l : ℕ) → count_at l whole ≤ sum (counts_at l (take i regions)) → count_at l new ≤ sum (counts_at l (take (i + 1) regions))
 more_whole regions i whole r new n e b l h =
     let so_far = counts_at l (take i regions) in
     subst (λ ns. count_at l new ≤ sum ns) (sym (counts_more l regions i r n e))
     (subst (λ k. count_at l new ≤ k) (sym (sum_last so_far (count_at l r)))
-    (trans (count_at l new) (count_at l whole + count_at l r) (sum so_far + count_at l r) (b.few l) (plus (count_at l whole) (count_at l r) (sum so_far) (count_at l r) h (le_refl (count_at l r)))))
+    (trans (count_at l new) (count_at l whole + count_at l r) (sum so_far + count_at l r) (b.bounded l) (plus (count_at l whole) (count_at l r) (sum so_far) (count_at l r) h (le_refl (count_at l r)))))
 
 pub first_whole : (about : CaseSystem) (whole : Region) → IsNowhere about whole → (l : ℕ) → count_at l whole ≤ sum []
 first_whole about whole n l = trans (count_at l whole) 0 (sum []) (nowhere_few about whole n l) (none_less (sum []))
@@ -140,23 +140,23 @@ comparison_few n r a b = by_width (has_rows n r a b) where
 
 -- ---- steps back from a region, and from no states
 pub every_back_few : (about : CaseSystem) (into region : Region) → IsBeforeAll about into region → IsFewBefore about Every into region
-every_back_few about into region h plain b few l = back_few about b into region few l Every plain h
+every_back_few about into region h plain b bounded l = back_few about b into region bounded l Every plain h
 
 pub any_back_few : (about : CaseSystem) (into region : Region) → IsBefore about into region → IsFewBefore about Any into region
-any_back_few about into region h plain b few l = back_few about b into region few l Any plain h
+any_back_few about into region h plain b bounded l = back_few about b into region bounded l Any plain h
 
 pub stops_few : (about : CaseSystem) (none stops : Region) → IsNowhere about none → HasNoDraws about → IsFewBefore about Every none stops → (l : ℕ) → count_at l stops ≤ stop_count about.cases l
-stops_few about none stops n plain few l = trans (count_at l stops) (all_count about.cases (λ k. 0) l) (stop_count about.cases l) (few plain (λ k. 0) (nowhere_few about none n) l) (all_of_none about.cases l)
+stops_few about none stops n plain bounded l = trans (count_at l stops) (all_count about.cases (λ k. 0) l) (stop_count about.cases l) (bounded plain (λ k. 0) (nowhere_few about none n) l) (all_of_none about.cases l)
 
 pub every_few : (about : CaseSystem) (path : Path) (into back : Region) → path ≡ Every → IsFewBefore about path into back → IsFewStaying about path into back
-every_few about Every into back e few = few
-every_few about Any into back e few = absurd cc
+every_few about Every into back e bounded = bounded
+every_few about Any into back e bounded = absurd cc
 
 pub any_few : (about : CaseSystem) (path : Path) (into back none stops region : Region) → path ≡ Any → IsNowhere about none → IsFewBefore about path into back → IsFewBefore about Every none stops → IsEither back stops region → IsFewStaying about path into region
-any_few about Every into back none stops region e n few stop is = absurd cc
-any_few about Any into back none stops region e n few stop is = λ plain b h l.
-    trans (count_at l region) (count_at l back + count_at l stops) (some_count about.cases b l + stop_count about.cases l) (is.few l)
-    (plus (count_at l back) (count_at l stops) (some_count about.cases b l) (stop_count about.cases l) (few plain b h l) (stops_few about none stops n plain stop l))
+any_few about Every into back none stops region e n bounded stop is = absurd cc
+any_few about Any into back none stops region e n bounded stop is = λ plain b h l.
+    trans (count_at l region) (count_at l back + count_at l stops) (some_count about.cases b l + stop_count about.cases l) (is.bounded l)
+    (plus (count_at l back) (count_at l stops) (some_count about.cases b l) (stop_count about.cases l) (bounded plain b h l) (stops_few about none stops n plain stop l))
 
 -- ---- sides
 hold_few : (shape : Shape) (a b : Region) (f g : ℕ → ℕ) (l : ℕ) → count_at l a ≤ f l → count_at l b ≤ g l → count_at l (hold_side shape a b) ≤ hold_count shape f g l
@@ -170,20 +170,20 @@ module _ (sides : Sides) (f g : ℕ → ℕ) (h : AreCounted sides f g) where
   side_few hold e l = subst (λ r. count_at l r ≤ hold_count sides.shape f g l) (sym e) (hold_few sides.shape sides.first.now sides.second.now f g l (h.first l) (h.second l))
 
   pub sides_counted : (end : Region) (point : FixedPoint) → IsOfSides sides end point → IsFewEnd sides end → AreCounts point (hold_count sides.shape f g) (end_count sides.shape f g)
-  sides_counted end point of few = record {
+  sides_counted end point of bounded = record {
     hold = side_few point.hold.now of.hold;
-    end = λ l. subst (λ r. count_at l r ≤ end_count sides.shape f g l) (sym of.ends) (few f g h l);
+    end = λ l. subst (λ r. count_at l r ≤ end_count sides.shape f g l) (sym of.ends) (bounded f g h l);
   }
 
 pub onward_few : (about : CaseSystem) (sides : Sides) (into stays hold region : Region) → hold ≡ hold_side sides.shape sides.first.now sides.second.now → IsFewStaying about sides.path into stays → IsBoth hold stays region → IsFewOnward about sides into region
-onward_few about sides into stays hold region e few is plain f g b h w l =
-    trans (count_at l region) (count_at l hold * count_at l stays) (hold_count sides.shape f g l * staying_count about.cases sides.path b l) (is.few l)
-    (mul-le (count_at l hold) (count_at l stays) (hold_count sides.shape f g l) (staying_count about.cases sides.path b l) (side_few sides f g h hold e l) (few plain b w l))
+onward_few about sides into stays hold region e bounded is plain f g b h w l =
+    trans (count_at l region) (count_at l hold * count_at l stays) (hold_count sides.shape f g l * staying_count about.cases sides.path b l) (is.bounded l)
+    (mul-le (count_at l hold) (count_at l stays) (hold_count sides.shape f g l) (staying_count about.cases sides.path b l) (side_few sides f g h hold e l) (bounded plain b w l))
 
 pub going_few : (about : CaseSystem) (sides : Sides) (all goes hold region : Region) → IsEverywhere about all → hold ≡ hold_side sides.shape sides.first.now sides.second.now → IsFewBefore about Any all goes → IsBoth hold goes region → IsFewGoing about sides region
-going_few about sides all goes hold region a e few is plain f g h l =
-    trans (count_at l region) (count_at l hold * count_at l goes) (hold_count sides.shape f g l * some_count about.cases (λ k. 1) l) (is.few l)
-    (mul-le (count_at l hold) (count_at l goes) (hold_count sides.shape f g l) (some_count about.cases (λ k. 1) l) (side_few sides f g h hold e l) (few plain (λ k. 1) (everywhere_few about all a) l))
+going_few about sides all goes hold region a e bounded is plain f g h l =
+    trans (count_at l region) (count_at l hold * count_at l goes) (hold_count sides.shape f g l * some_count about.cases (λ k. 1) l) (is.bounded l)
+    (mul-le (count_at l hold) (count_at l goes) (hold_count sides.shape f g l) (some_count about.cases (λ k. 1) l) (side_few sides f g h hold e l) (bounded plain (λ k. 1) (everywhere_few about all a) l))
 
 -- ---- the end
 pub one_end_of : (shape : Shape) (f g : ℕ → ℕ) (l : ℕ) → two_ends shape ≡ false → end_count shape f g l ≡ g l
@@ -201,12 +201,12 @@ two_ends_of Strong f g l e = refl
 pub one_end_few : (about : CaseSystem) (sides : Sides) (none end : Region) → IsNowhere about none → two_ends sides.shape ≡ false → IsEither sides.second.now none end → IsFewEnd sides end
 one_end_few about sides none end n t is f g h l =
     subst (λ k. count_at l end ≤ k) (sym (one_end_of sides.shape f g l t))
-    (let a = is.few l in let b = nowhere_few about none n l in let c = h.second l in omega (arith, a, b, c))
+    (let a = is.bounded l in let b = nowhere_few about none n l in let c = h.second l in omega (arith, a, b, c))
 
 pub two_ends_few : (sides : Sides) (end : Region) → two_ends sides.shape ≡ true → IsBoth sides.first.now sides.second.now end → IsFewEnd sides end
 two_ends_few sides end t is f g h l =
     subst (λ k. count_at l end ≤ k) (sym (two_ends_of sides.shape f g l t))
-    (trans (count_at l end) (count_at l sides.first.now * count_at l sides.second.now) (f l * g l) (is.few l) (mul-le (count_at l sides.first.now) (count_at l sides.second.now) (f l) (g l) (h.first l) (h.second l)))
+    (trans (count_at l end) (count_at l sides.first.now * count_at l sides.second.now) (f l * g l) (is.bounded l) (mul-le (count_at l sides.first.now) (count_at l sides.second.now) (f l) (g l) (h.first l) (h.second l)))
 
 -- ---- rounds
 growing_round : (shape : Shape) → must_end shape ≡ true → (cases : List LinearCase) (path : Path) (f g : ℕ → ℕ) (k l : ℕ) → growing_count cases path (hold_count shape f g) (end_count shape f g) k l ≡ round_count cases path shape f g k l
@@ -244,13 +244,13 @@ module _ (about : CaseSystem) (sides : Sides) (f g : ℕ → ℕ) (last l : ℕ)
   pub shrunk_within : must_end sides.shape ≡ false → (n k : ℕ) → k ≤ last → n ≤ shrinking_count about.cases sides.path (hold_count sides.shape f g) (end_count sides.shape f g) k l → n ≤ fix_count about.cases last sides.path sides.shape f g l
   shrunk_within must n k early h = within n k early (subst (λ j. n ≤ j) (shrinking_round sides.shape must about.cases sides.path f g k l) h)
 
--- the pieces of layers behind those of the round before them
+-- the pieces of layers after those of the round before them
 layers_few : (about : CaseSystem) → HasNoDraws about → (point : FixedPoint) (h e : ℕ → ℕ) → AreCounts point h e → (l k n m : ℕ) (layers : List Region) → k + length layers ≡ n → m ≤ growing_count about.cases point.path h e k l → AreLayers about point k layers →
     m + length (lists_at l (joined_pieces layers)) ≤ growing_count about.cases point.path h e n l
 layers_few about plain point h e counts l k n m [] same base each =
     subst (λ j. m + 0 ≤ growing_count about.cases point.path h e j l) (let q : k ≡ n = omega (arith, same) in q) (omega (arith, base))
 layers_few about plain point h e counts l k n m (r ∷ rs) same base each =
-    let grown : m + count_at l r ≤ growing_count about.cases point.path h e (suc k) l = plus m (count_at l r) (growing_count about.cases point.path h e k l) (added_bound about.cases point.path k h e l) base (each.0.few plain h e counts l) in
+    let grown : m + count_at l r ≤ growing_count about.cases point.path h e (suc k) l = plus m (count_at l r) (growing_count about.cases point.path h e k l) (added_bound about.cases point.path k h e l) base (each.0.bounded plain h e counts l) in
     let rest = layers_few about plain point h e counts l (suc k) n (m + count_at l r) rs (omega (arith, same)) grown each.1 in
     let q = joined_count l r rs in
     omega (arith, rest, q)
@@ -259,13 +259,13 @@ pub last_is_one : (about : CaseSystem) (m : ℕ) → about.start < about.locatio
 last_is_one about m s (inl b) = (let y = b.1 in omega (arith, y))
 last_is_one about m s (inr b) = (let y = b.1 in omega (arith, y, s))
 
-module _ (about : CaseSystem) (sides : Sides) (end region : Region) (few : IsFewEnd sides end) where
+module _ (about : CaseSystem) (sides : Sides) (end region : Region) (bounded : IsFewEnd sides end) where
   -- the end alone
   pub ended_few : (rest : List Region) → ((l : ℕ) → length (lists_at l (joined_pieces rest)) ≤ 0) → IsJoined about (end ∷ rest) region → IsFewAlong about sides region
   ended_few rest none j plain last is f g h l =
       let q = joined_count l end rest in
       let z = none l in
-      let e = few f g h l in
+      let e = bounded f g h l in
       let all : count_at l region ≤ end_count sides.shape f g l = subst (λ ps. length (lists_at l ps) ≤ end_count sides.shape f g l) (sym j.pieces) (omega (arith, q, z, e)) in
       within about sides f g last l (count_at l region) 0 (none_less last) (trans (count_at l region) (end_count sides.shape f g l) (round_count about.cases sides.path sides.shape f g 0 l) all (first_round sides.shape about.cases sides.path f g l))
 
@@ -276,7 +276,7 @@ module _ (about : CaseSystem) (sides : Sides) (end region : Region) (few : IsFew
       let ends = end_count sides.shape f g in
       let n = length layers in
       let q = joined_count l end layers in
-      let all = layers_few about plain point hold ends (sides_counted sides f g h end point of few) l 0 n (count_at l end) layers (omega arith) (few f g h l) each in
+      let all = layers_few about plain point hold ends (sides_counted sides f g h end point of bounded) l 0 n (count_at l end) layers (omega arith) (bounded f g h l) each in
       let bound : count_at l region ≤ growing_count about.cases point.path hold ends n l = subst (λ ps. length (lists_at l ps) ≤ growing_count about.cases point.path hold ends n l) (sym j.pieces) (omega (arith, q, all)) in
       grown_within about sides f g last l must (count_at l region) n (early last is) (subst (λ (p : Path). count_at l region ≤ growing_count about.cases p hold ends n l) of.path bound)
 
@@ -286,8 +286,8 @@ module _ (about : CaseSystem) (sides : Sides) (end region : Region) (few : IsFew
       let hold = hold_count sides.shape f g in
       let ends = end_count sides.shape f g in
       let b = shrinking_count about.cases sides.path hold ends k in
-      let rounds : (i : ℕ) → count_at i round ≤ b i = λ i. subst (λ (p : Path). count_at i round ≤ shrinking_count about.cases p hold ends k i) of.path (is_round.few plain hold ends (sides_counted sides f g h end point of few) i) in
-      let first = few f g h l in
+      let rounds : (i : ℕ) → count_at i round ≤ b i = λ i. subst (λ (p : Path). count_at i round ≤ shrinking_count about.cases p hold ends k i) of.path (is_round.bounded plain hold ends (sides_counted sides f g h end point of bounded) i) in
+      let first = bounded f g h l in
       let second = onward plain f g b h rounds l in
       let q = joined_count l end (more ∷ []) in
       let r = joined_count l more [] in
@@ -302,7 +302,7 @@ module _ (about : CaseSystem) (sides : Sides) (end region : Region) (few : IsFew
       let ends = end_count sides.shape f g in
       let some = some_count about.cases (λ k. 1) l in
       let all = all_count about.cases ends l in
-      let first = few f g h l in
+      let first = bounded f g h l in
       let second = trans (count_at l onward) (hold l * some) (hold l * (some * all)) (going plain f g h l) (mul-le (hold l) some (hold l) (some * all) (le_refl (hold l)) (times_one some all (all_one about.cases ends l))) in
       let q = joined_count l end (onward ∷ []) in
       let r = joined_count l onward [] in
@@ -342,6 +342,6 @@ module _ (about : CaseSystem) (cases : All (IsCase about.variables about.locatio
 
 -- ---- the size
 pub within_size : (about : CaseSystem) (f part : Property) (region : Region) → FewIsWithinSize about f part region
-within_size about f part region plain stands few n size l inside =
-    let bound = trans (count_at l region) (count about.cases size.0 part l) (size_bound about size.0 f) (few plain size.0 size.1 part refl l) (bounds_counts about size.0 f part l stands inside) in
+within_size about f part region plain stands bounded n size l inside =
+    let bound = trans (count_at l region) (count about.cases size.0 part l) (size_bound about size.0 f) (bounded plain size.0 size.1 part refl l) (bounds_counts about size.0 f part l stands inside) in
     subst (λ k. count_at l region ≤ k) (sym size.2) bound

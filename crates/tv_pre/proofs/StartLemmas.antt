@@ -50,10 +50,10 @@ start_met about ps q tree start h =
 
 -- a node that shows a formula where its pieces are, and a cover of the start by them
 pub root_of : (about : CaseSystem) (f : Property) (region : Region) (node : Node) (q : Piece) (tree : CoverTree) → IsPart about f region node → operators f ≤ 200 → IsStart about q → ShowsInside about q region.pieces.items tree → IsRoot about f node tree
-root_of about f region node q tree part few start shows =
+root_of about f region node q tree part bounded start shows =
     let o : IsOffered _ _ = shows 0 kind.Root (marked_as about.variables Go [] q) (pieces_of node) (refl, refl) part.pieces in
     record {
-      fits = record { shape = part.shows.shape; narrow = part.shows.narrow; depth = part.shows.within 1 (omega (arith, few)) };
+      fits = record { shape = part.shows.shape; narrow = part.shows.narrow; depth = part.shows.within 1 (omega (arith, bounded)) };
       nodes = part.shows.met 0;
       met = start_met about (pieces_of node) q tree start o.met;
       shallow = o.shape.1;

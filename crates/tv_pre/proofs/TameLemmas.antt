@@ -20,7 +20,7 @@ use Rattle.tv_pre.proofs.SameRegionLemmas.{same_lists}
 
 -- ---- rows of pieces
 
--- a piece at the location or one behind it has the row
+-- a piece at the location or one after it has the row
 in_front : (b : Bool) (rs : List Linear) (rest : List (List Linear)) (r : Linear) (P : Type 0) → (InSome rest r → P) → (b ≡ true → P) → InSome (cond b (rs ∷ rest) rest) r → P
 in_front true rs rest r P later now m = now refl
 in_front false rs rest r P later now m = later m

@@ -31,26 +31,26 @@ module _ (about : CaseSystem) (last : ℕ) where
 
   pub term_found : (found : Found) → IsRegion about.variables about.locations found.part.region → IsPart about term found.part.region found.part.node → IsBuilt about statements.ends ((last + 2) + (last + 2)) found.part.region → found.size ≡ 1 →
       IfSome found.gap (IsGapFor about last statements.ends) → (found.gap ≡ None → IsFull about term found.part.region) → IsFewBy (term_count about.cases) found.part.region → IsFound about last statements.ends found
-  term_found found over part built size gap full few = record {
+  term_found found over part built size gap full bounded = record {
     gap = gap;
     over = over;
     shows = λ f e. subst (λ g. IsPart about g found.part.region found.part.node) (sym (ends_is (comparison_lists about.variables) f e)) part;
     built = built;
     size = size;
     full = λ none f e rows. subst (λ g. IsFull about g found.part.region) (sym (ends_is (comparison_lists about.variables) f e)) (full none);
-    few = λ plain m is f e l. subst (λ g. count_at l found.part.region ≤ count about.cases m g l) (sym (ends_is (comparison_lists about.variables) f e)) (few plain m is l);
+    bounded = λ plain m is f e l. subst (λ g. count_at l found.part.region ≤ count about.cases m g l) (sym (ends_is (comparison_lists about.variables) f e)) (bounded plain m is l);
   }
 
   pub never_found : (found : Found) → IsRegion about.variables about.locations found.part.region → IsPart about (negated term) found.part.region found.part.node → IsBuilt about statements.never_ends ((last + 2) + (last + 2)) found.part.region → found.size ≡ 1 →
       IfSome found.gap (IsGapFor about last statements.never_ends) → (found.gap ≡ None → IsFull about (negated term) found.part.region) → IsFewBy (no_term_count about.cases) found.part.region → IsFound about last statements.never_ends found
-  never_found found over part built size gap full few = record {
+  never_found found over part built size gap full bounded = record {
     gap = gap;
     over = over;
     shows = λ f e. subst (λ g. IsPart about g found.part.region found.part.node) (sym (never_is (comparison_lists about.variables) f e)) part;
     built = built;
     size = size;
     full = λ none f e rows. subst (λ g. IsFull about g found.part.region) (sym (never_is (comparison_lists about.variables) f e)) (full none);
-    few = λ plain m is f e l. subst (λ g. count_at l found.part.region ≤ count about.cases m g l) (sym (never_is (comparison_lists about.variables) f e)) (few plain m is l);
+    bounded = λ plain m is f e l. subst (λ g. count_at l found.part.region ≤ count about.cases m g l) (sym (never_is (comparison_lists about.variables) f e)) (bounded plain m is l);
   }
 
   -- ---- everywhere and nowhere

@@ -56,7 +56,7 @@ module _ (about : CaseSystem) where
     end_layers sides e (earlier ++ layer.pieces.items) layers h.1,
   )
 
-  -- behind the states without a step
+  -- after the states without a step
   pub stops_first : (stops : Region) (layers : List Region) → IsRegion about.variables about.locations stops → ((s : State) → IsStateOf about s → InState stops s → Stops about s) → AreEndLayers about stops.pieces.items layers → AreEndLayers about [] (stops ∷ layers)
   stops_first stops layers over none h = (record { over = over; leads = λ s p m t st. absurd (none s p m t st) }, h)
 
@@ -116,7 +116,7 @@ module _ (about : CaseSystem) where
     pub sides_made : (s : Statement) (end : Region) → IsBuilt about s 1 end → AreBuilt about s 1 (end ∷ arguments sides)
     sides_made s end m = more_built about s 1 end (arguments sides) m (more_built about s 1 sides.first.now (sides.second.now ∷ []) (h.first_built s) (one_built about s 1 sides.second.now (h.second_built s)))
 
-  module _ (cases : All (IsCase about.variables about.locations) about.cases) (last : ℕ) (search : IsLastRound about 8 last) (sides : Sides) (end : Region) (few : IsFewEnd sides end) (answer : Rounds) (r : AreRoundsOf about last sides end answer) where
+  module _ (cases : All (IsCase about.variables about.locations) about.cases) (last : ℕ) (search : IsLastRound about 8 last) (sides : Sides) (end : Region) (bounded : IsFewEnd sides end) (answer : Rounds) (r : AreRoundsOf about last sides end answer) where
     -- ---- rounds that grow
     module _ (layers : List Region) (each : AreLayers about r.point 0 layers) (short : length layers ≤ last) where
       pub behind_stops : sides.path ≡ Every → IsRegion about.variables about.locations end → ((s : State) → IsStateOf about s → InState end s → Stops about s) → AreEndLayers about [] (end ∷ layers)
@@ -130,7 +130,7 @@ module _ (about : CaseSystem) where
           built_to about s ((last + 1) + 1) ((last + 2) + (last + 2)) region (omega arith) (of_joined ((last + 1) + 1) (end ∷ layers) region (layers_made s m) j)
 
       pub joined_few : must_end sides.shape ≡ true → (region : Region) → IsJoined about (end ∷ layers) region → IsFewAlong about sides region
-      joined_few must region j = grown_few about sides end region few must r.point r.of layers each (λ m is. last_before about last m (length layers) search is short) j
+      joined_few must region j = grown_few about sides end region bounded must r.point r.of layers each (λ m is. last_before about last m (length layers) search is short) j
 
     -- ---- rounds that shrink
     module _ (k : ℕ) (round : Region) (early : k ≤ last) (is_round : IsRound false about r.point k round) where
@@ -139,7 +139,7 @@ module _ (about : CaseSystem) where
           let hold = hold_count sides.shape f g in
           let ends = end_count sides.shape f g in
           shrunk_within about sides f g m l must (count_at l round) k (last_before about last m k search is early)
-          (subst (λ (p : Path). count_at l round ≤ shrinking_count about.cases p hold ends k l) r.of.path (is_round.few plain hold ends (sides_counted sides f g h end r.point r.of few) l))
+          (subst (λ (p : Path). count_at l round ≤ shrinking_count about.cases p hold ends k l) r.of.path (is_round.bounded plain hold ends (sides_counted sides f g h end r.point r.of bounded) l))
 
       -- from each state of a settled round some step leads into it, where none is at the end and each on the way has a step
       pub round_leads : sides.path ≡ Any → ((s : State) → InState end s → ⊥) → ((s : State) → IsStateOf about s → InState (hold_side sides.shape sides.first.now sides.second.now) s → Goes about s) → IsSettledBy false about r.point k → OfPieces about round.pieces.items (LeadsTo about Any (InState round))

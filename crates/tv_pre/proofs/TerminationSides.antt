@@ -47,7 +47,7 @@ module _ (about : CaseSystem) where
 
   module _ (cases : All (IsCase about.variables about.locations) about.cases) (anywhere none back : Region) (e : IsEverywhere about anywhere) (n : IsNowhere about none) where
     pub ends_sides : AreBefore about Every none back → OthersLeadOut about Every none back → IsFewBefore about Every none back → IsBuiltOf about 1 (none ∷ []) back → IsTameFor about anywhere back → AreSidesOf about Every anything stopping anywhere back
-    ends_sides before others few built tame =
+    ends_sides before others bounded built tame =
         let into = tame_into anywhere back none tame (of_nowhere 0 none n) in record {
           first_over = e.over;
           second_over = before.over;
@@ -58,12 +58,12 @@ module _ (about : CaseSystem) where
           first_built = λ s. of_everywhere 1 anywhere e;
           second_built = λ s. back_built none back built s (of_nowhere 0 none n);
           first_few = everywhere_few about anywhere e;
-          second_few = λ plain l. few plain (λ k. 1) (none_at none n) l;
+          second_few = λ plain l. bounded plain (λ k. 1) (none_at none n) l;
           goes = tame_goes about statements.ends (tame_ends anywhere back tame);
         }
 
     pub never_sides : AreBefore about Any anywhere back → OthersLeadOut about Any anywhere back → IsFewBefore about Any anywhere back → IsBuiltOf about 1 (anywhere ∷ []) back → IsTameFor about back none → AreSidesOf about Any nothing going none back
-    never_sides before others few built tame =
+    never_sides before others bounded built tame =
         let into = tame_into back none anywhere tame (of_everywhere 0 anywhere e) in record {
           first_over = n.fits;
           second_over = before.over;
@@ -77,6 +77,6 @@ module _ (about : CaseSystem) where
           first_built = λ s. of_nowhere 1 none n;
           second_built = λ s. back_built anywhere back built s (of_everywhere 0 anywhere e);
           first_few = none_at none n;
-          second_few = λ plain l. few plain (λ k. 1) (everywhere_few about anywhere e) l;
+          second_few = λ plain l. bounded plain (λ k. 1) (everywhere_few about anywhere e) l;
           goes = tame_goes about statements.ends (tame_ends back none tame);
         }

@@ -18,7 +18,7 @@ pub record IsArgument (about : CaseSystem) (last : ℕ) (s : Statement) (region 
   pub over : IsRegion about.variables about.locations region
   pub shows : IsPartFor about s region node
   pub built : IsBuilt about s (steps_back last s) region
-  pub few : IsFewFor about s region
+  pub bounded : IsFewFor about s region
 
 -- those of each, in order
 abbrev pub AreEachArgument : CaseSystem → ℕ → List Statement → List Region → List Node → Type 0

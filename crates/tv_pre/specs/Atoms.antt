@@ -78,7 +78,7 @@ IsOwnCover count place (cover.Split' r p a q b) = ⊥
 IsOwnCover count place (cover.Empty ms) = ⊥
 IsOwnCover count place (cover.Into target fall lines) = (target ≡ place) × (fall ≡ 0) × (map (λ l. l.items) lines.items ≡ own_lines count 0 count)
 
--- behind some pieces those of these rows at a location were added, which are among the lists, and proofs of what they owe
+-- after some pieces those of these rows at a location were added, which are among the lists, and proofs of what they owe
 pub record AreAtoms (about : CaseSystem) (l : ℕ) (lists rows : List (List Linear)) (pieces : List Piece) (proofs : List Proof) (more : List Piece) (offered : List Proof) : Type 0 where
   pub over : ArePieces about more
   pub marked : map (marked_as about.variables Go []) more ≡ map (marked_as about.variables Go []) pieces ++ map (atom_piece about.variables l) rows

@@ -217,4 +217,4 @@ pub record IsFound (about : CaseSystem) (last : ℕ) (s : Statement) (found : Fo
   pub size : found.size ≡ size s
   pub gap : IfSome found.gap (IsGapFor about last s)
   pub full : found.gap ≡ None → IsFullFor about s found.part.region
-  pub few : IsFewFor about s found.part.region
+  pub bounded : IsFewFor about s found.part.region

@@ -23,7 +23,7 @@ pub record ArePiecesOf (about : CaseSystem) (region : Region) (ends : Bool) (ran
 pub record IsMade (about : CaseSystem) (region : Region) (ends : Bool) (ranks : ℕ) (pieces : List Marked) (children : List Node) (proofs : List Proof) (node : Node) : Type 0 where
   pub own : HasOwn node pieces ranks children proofs
   pub are : ArePiecesOf about region ends ranks pieces
-  pub few : length pieces < 2 ^ 32
+  pub bounded : length pieces < 2 ^ 32
   pub small : ranks < 2 ^ 32
 
 -- the pieces of a region, each of which goes on without ranks

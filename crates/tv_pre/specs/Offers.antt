@@ -16,7 +16,7 @@ use Rattle.std.specs.Prelude.{Bool, false}
 use Rattle.tv_shape.specs.Made.{IsOffered, Offers}
 use Rattle.tv_pre.specs.Pieces.{IsMarked, AreMarked}
 
--- behind proofs of any obligations, those of these ones were added
+-- after proofs of any obligations, those of these ones were added
 abbrev pub Adds : List Obligation → List Proof → List Proof → Type 0
 Adds obligations old new = (before : List Obligation) → Offers before old → Offers (before ++ obligations) new
 

@@ -77,7 +77,7 @@ fn piece_of(alloc: Global, variables: u32, location: u32, rows: &[Row]) -> Resul
     Ok(Piece { location, poly })
 }
 
-/// Puts a piece for each of the lists at a location behind others, with the proof that it lies in its own list.
+/// Puts a piece for each of the lists at a location after others, with the proof that it lies in its own list.
 fn push_atoms(
     alloc: Global,
     about: &Cases,
@@ -86,7 +86,7 @@ fn push_atoms(
     made: &mut Made,
 ) -> Result<(), AllocError>
     requires place { location < (cases_of about.now).locations }
-    requires few { length lists.now < 2 ^ 32 }
+    requires bounded { length lists.now < 2 ^ 32 }
     requires even { All (AreEven (cases_of about.now).variables) (map (λ v. v.items) lists.now) }
     requires over { let about = cases_of about.now in
         All (IsPieceOf about.variables about.locations) made.old.pieces.items }

@@ -395,10 +395,11 @@ fn found_of(search: &Search, aim: &Aim) -> Result<Found, PreFault>
 /// round does not settle. Where there is none, and each comparison has rows, the region has exactly the states where the formula holds, and
 /// at each other one its negation does.
 ///
-/// Where the program is tame for the formula, and each comparison has rows, the region has all states that the rounds up to the last tell of,
-/// whether they settle or not. A weak until or a release whose last round is open has the states at its end besides. Inside of an argument of a
-/// weak until or a release it has them where the rounds of that one settle with all that the arguments have. Where these are open, the arguments
-/// are searched for again with the states alone that the rounds tell of: whether rounds settle may change with each state more.
+/// Where the program is tame for the formula, and each comparison has rows, the region has all states that the rounds up to the last tell
+/// of, whether they settle or not. A weak until or a release whose last round is open has the states at its end besides. Inside of an
+/// argument of a weak until or a release it has them where the rounds of that one settle with all that the arguments have. Where these are
+/// open, the arguments are searched for again with the states alone that the rounds tell of: whether rounds settle may change with each
+/// state more.
 ///
 /// Where the whole program has a lexicographic ranking, termination holds everywhere, and so does a fixed point over every run that must
 /// come to an end if each state is at its end, or on the way with a step. Where a system of the search for the ranking is refused, and the
@@ -426,7 +427,7 @@ pub fn found(setting: &Setting, aim: &Aim) -> Result<Found, PreFault>
     ensures known { let system = cases_of setting.now.about.now in
         let s = aim_states aim.now in
         IfOk result (λ found. (last : ℕ) → IsLastRound system 8 last → IsKnownFor system last false s found.part.region) }
-    ensures few { let system = cases_of setting.now.about.now in
+    ensures bounded { let system = cases_of setting.now.about.now in
         IfOk result (λ found. IsFewFor system (aim_states aim.now) found.part.region) }
     ensures plain { let system = cases_of setting.now.about.now in
         IfOk result (λ found. HasNoGapIfPlain system (aim_states aim.now) found.gap) }

@@ -30,17 +30,17 @@ pub fn settled_claims_are_told()
     ensures plain { (about : CaseSystem) → AreProper about → (claim : Claim) (budget : Budget) (gap : Gap) → PlainIsTold about claim budget gap }
 {}
 
-/// No claim is left open with a gap where the program is tame for the normal form, and the rounds up to the last tell of each state at the start
-/// that the property holds there, or of one that the negation does: whether other fixed points of it are settled or not, and of states that are
-/// not at the start.
+/// No claim is left open with a gap where the program is tame for the normal form, and the rounds up to the last tell of each state at the
+/// start that the property holds there, or of one that the negation does: whether other fixed points of it are settled or not, and of
+/// states that are not at the start.
 pub fn decided_claims_are_told()
     ensures { (about : CaseSystem) → AreCases about → (claim : Claim) (f : Property) (budget : Budget) (gap : Gap) →
         DecidedIsTold about claim f budget gap }
 {}
 
-/// Where a property that is to come to its end on every run has arguments of one state, the program has no draw and a lexicographic ranking,
-/// and each state is at the end, or on the way with a step, no claim of it is left open with a gap. Where a system of the search for the ranking
-/// is refused, that refusal is told.
+/// Where a property that is to come to its end on every run has arguments of one state, the program has no draw and a lexicographic
+/// ranking, and each state is at the end, or on the way with a step, no claim of it is left open with a gap. Where a system of the search
+/// for the ranking is refused, that refusal is reported.
 pub fn ranked_untils_are_told()
     ensures { (about : CaseSystem) → AreCases about → (claim : Claim) (f : Property) (budget : Budget) (gap : Gap) →
         RankedUntilIsTold about claim f budget gap }
@@ -64,8 +64,8 @@ pub fn regions_are_within_size()
     ensures { (about : CaseSystem) (f part : Property) (region : Region) → FewIsWithinSize about f part region }
 {}
 
-/// Where no case has a draw, a claim of a property whose conjunctions and disjunctions have parts is refused for too many pieces only where the
-/// limit is below the size of the property: the number that is told is above the limit, and no greater than the size.
+/// Where no case has a draw, a claim of a property whose conjunctions and disjunctions have parts is refused for too many pieces only where
+/// the limit is below the size of the property: the number that is reported is above the limit, and no greater than the size.
 pub fn refusals_are_within_size()
     ensures { (about : CaseSystem) → AreCases about → (claim : Claim) (f : Property) (budget : Budget) →
         RefusalIsWithinSize about claim f budget }

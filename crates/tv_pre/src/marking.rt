@@ -15,7 +15,7 @@ pub(crate) fn marked_as(
     mark: Mark,
     ranks: &[Row],
 ) -> Result<Marked, AllocError>
-    requires few { variables < 2 ^ 32 - 1 }
+    requires bounded { variables < 2 ^ 32 - 1 }
     ensures { IfOk result (λ p. p ≡ marked_as variables mark ranks.now piece.now) }
 {
     match Marked::from_rows(
@@ -40,7 +40,7 @@ pub(crate) fn push_marked(
     ranks: &[Row],
     list: &mut Vec<Marked>,
 ) -> Result<(), AllocError>
-    requires few { variables < 2 ^ 32 - 1 }
+    requires bounded { variables < 2 ^ 32 - 1 }
     ensures { IfOk result (λ _. list.new.items ≡ list.old.items ++ map (marked_as variables mark ranks.now) pieces.now) }
 {
     'pieces: for piece in pieces {

@@ -48,7 +48,7 @@ pub(crate) enum RankedAlong {
 fn going(setting: &Setting, sides: &Sides) -> Result<Region, PreFault>
     requires sides { AreOver (cases_of setting.now.about.now) sides.now }
     ensures going { IfOk result (AreGoing (cases_of setting.now.about.now) sides.now) }
-    ensures few { IfOk result (IsFewGoing (cases_of setting.now.about.now) sides.now) }
+    ensures bounded { IfOk result (IsFewGoing (cases_of setting.now.about.now) sides.now) }
     ensures built { IfOk result (IsBuiltOf (cases_of setting.now.about.now) 1 (arguments sides.now)) }
     ensures refused { IfErr result (IsFaultOf (cases_of setting.now.about.now) setting.now.budget.now 1 (arguments sides.now)) }
     ensures counted { IfErr result (IsCountedGoing (cases_of setting.now.about.now) sides.now) }
@@ -91,7 +91,7 @@ pub(crate) fn ranked_along(
     requires end_few { IsFewEnd sides.now end }
     requires ranked { IsRankedBy (cases_of setting.now.about.now) [] ranking.now.node.now ranking.now.shown.now }
     ensures along { IfOk result (IsRankedAlong (cases_of setting.now.about.now) sides.now children.items end) }
-    ensures few { IfOk result (IsFewRanked (cases_of setting.now.about.now) sides.now) }
+    ensures bounded { IfOk result (IsFewRanked (cases_of setting.now.about.now) sides.now) }
     ensures untold { IfOk result (IsUntoldAlong (cases_of setting.now.about.now) setting.now.budget.now sides.now end) }
     ensures untold_count { IfOk result (IsUntoldCount (cases_of setting.now.about.now) sides.now) }
     ensures refused { IfErr result (IsFaultOf (cases_of setting.now.about.now) setting.now.budget.now 2 (end ∷ arguments sides.now)) }

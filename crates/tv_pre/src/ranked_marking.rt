@@ -29,7 +29,7 @@ pub(crate) fn push_ranked(
     pieces: &[Piece],
     list: &mut Vec<Marked>,
 ) -> Result<(), AllocError>
-    requires few { variables < 2 ^ 32 - 1 }
+    requires bounded { variables < 2 ^ 32 - 1 }
     ensures { IfOk result (λ _. list.new.items ≡ list.old.items ++ map (ranked_as variables (pieces_of node.now)) pieces.now) }
 {
     'pieces: for piece in pieces {

@@ -44,7 +44,7 @@ pub(crate) fn intersection(setting: &Setting, regions: &[Region]) -> Result<Regi
         IfOk result (λ r. All (λ x. OfPieces about r.pieces.items (InState x)) regions.now) }
     ensures all { let about = cases_of setting.now.about.now in
         IfOk result (λ r. (s : State) → IsStateOf about s → All (λ x. InState x s) regions.now → InState r s) }
-    ensures few { IfOk result (λ r. (l : ℕ) → count_at l r ≤ product (counts_at l regions.now)) }
+    ensures bounded { IfOk result (λ r. (l : ℕ) → count_at l r ≤ product (counts_at l regions.now)) }
     ensures built { IfOk result (IsBuiltOf (cases_of setting.now.about.now) 0 regions.now) }
     ensures refused { IfErr result (IsFaultOf (cases_of setting.now.about.now) setting.now.budget.now 0 regions.now) }
     ensures counted { IfErr result (IsWithin (λ l. product (some_counts_at l regions.now))) }
@@ -65,7 +65,7 @@ pub(crate) fn union(setting: &Setting, regions: &[Region]) -> Result<Region, Pre
         IfOk result (λ r. OfPieces about r.pieces.items (InPieces (joined_pieces regions.now))) }
     ensures all { let about = cases_of setting.now.about.now in
         IfOk result (λ r. All (λ x. OfPieces about x.pieces.items (InState r)) regions.now) }
-    ensures few { IfOk result (λ r. (l : ℕ) → count_at l r ≤ sum (counts_at l regions.now)) }
+    ensures bounded { IfOk result (λ r. (l : ℕ) → count_at l r ≤ sum (counts_at l regions.now)) }
     ensures built { IfOk result (IsBuiltOf (cases_of setting.now.about.now) 0 regions.now) }
     ensures refused { IfErr result (IsFaultOf (cases_of setting.now.about.now) setting.now.budget.now 0 regions.now) }
     ensures counted { IfErr result (IsWithin (λ l. sum (counts_at l regions.now))) }
@@ -83,7 +83,7 @@ pub(crate) fn back_into(setting: &Setting, path: Path, region: &Region) -> Resul
     requires over { IsRegion (cases_of setting.now.about.now).variables (cases_of setting.now.about.now).locations region.now }
     ensures before { IfOk result (AreBefore (cases_of setting.now.about.now) path region.now) }
     ensures others { IfOk result (OthersLeadOut (cases_of setting.now.about.now) path region.now) }
-    ensures few { IfOk result (IsFewBefore (cases_of setting.now.about.now) path region.now) }
+    ensures bounded { IfOk result (IsFewBefore (cases_of setting.now.about.now) path region.now) }
     ensures built { IfOk result (IsBuiltOf (cases_of setting.now.about.now) 1 (region.now ∷ [])) }
     ensures refused { IfErr result (IsFaultOf (cases_of setting.now.about.now) setting.now.budget.now 1 (region.now ∷ [])) }
     ensures counted { IfErr result (IsCountedBefore (cases_of setting.now.about.now) path region.now) }
@@ -98,7 +98,7 @@ pub(crate) fn back_into(setting: &Setting, path: Path, region: &Region) -> Resul
 pub(crate) fn end_of(setting: &Setting, sides: &Sides) -> Result<Region, PreFault>
     requires sides { AreOver (cases_of setting.now.about.now) sides.now }
     ensures end { IfOk result (AreAtEnd (cases_of setting.now.about.now) sides.now) }
-    ensures few { IfOk result (IsFewEnd sides.now) }
+    ensures bounded { IfOk result (IsFewEnd sides.now) }
     ensures built { IfOk result (IsBuiltOf (cases_of setting.now.about.now) 0 (arguments sides.now)) }
     ensures refused { IfErr result (IsFaultOf (cases_of setting.now.about.now) setting.now.budget.now 0 (arguments sides.now)) }
     ensures counted { IfErr result (IsCountedEnd sides.now) }

@@ -19,7 +19,7 @@ pub(crate) fn rows_before(
     case: &Case,
     variables: u32,
 ) -> Result<Vec<Row>, CoverFault>
-    requires few { variables + case.now.draws < 2 ^ 32 - 1 }
+    requires bounded { variables + case.now.draws < 2 ^ 32 - 1 }
     requires terms { All (λ u. width u.term ≡ variables + case.now.draws) (case_view case.now).updates }
     requires even { All (λ r. width r ≡ variables) rows.now }
     ensures rows { IfOk result (λ v. AreRowsBefore (case_view case.now) rows.now v.items) }

@@ -46,7 +46,7 @@ pub(crate) fn targets_at(
     location: u32,
 ) -> Result<Vec<Poly>, AllocError>
     ensures targets { IfOk result (λ v. lists_of v.items ≡ lists_at location pieces.now) }
-    ensures few { IfOk result (λ v. length v.items < 2 ^ 32 - 1) }
+    ensures bounded { IfOk result (λ v. length v.items < 2 ^ 32 - 1) }
 {
     let mut targets = Vec::new(alloc);
     push_targets(alloc, pieces, location, &mut targets)?;
@@ -63,7 +63,7 @@ pub(crate) fn targets_in(
     location: u32,
 ) -> Result<Vec<Poly>, AllocError>
     ensures targets { IfOk result (λ v. lists_of v.items ≡ lists_at location (joined_pieces regions.now)) }
-    ensures few { IfOk result (λ v. length v.items < 2 ^ 32 - 1) }
+    ensures bounded { IfOk result (λ v. length v.items < 2 ^ 32 - 1) }
 {
     let mut targets = Vec::new(alloc);
     'regions: for region in regions {
@@ -83,7 +83,7 @@ pub(crate) fn targets_of_two(
     location: u32,
 ) -> Result<Vec<Poly>, AllocError>
     ensures targets { IfOk result (λ v. lists_of v.items ≡ lists_at location (joined_pieces (first.now ∷ second.now ∷ []))) }
-    ensures few { IfOk result (λ v. length v.items < 2 ^ 32 - 1) }
+    ensures bounded { IfOk result (λ v. length v.items < 2 ^ 32 - 1) }
 {
     let mut targets = Vec::new(alloc);
     push_targets(alloc, &first.pieces, location, &mut targets)?;
@@ -101,11 +101,11 @@ pub(crate) fn targets_before(
     case: &Case,
     variables: u32,
 ) -> Result<Vec<Poly>, CoverFault>
-    requires few { variables + case.now.draws < 2 ^ 32 - 1 }
+    requires bounded { variables + case.now.draws < 2 ^ 32 - 1 }
     requires terms { All (λ u. width u.term ≡ variables + case.now.draws) (case_view case.now).updates }
     requires even { All (λ p. All (λ r. width r ≡ variables) (piece_rows p)) pieces.now }
     ensures targets { IfOk result (λ v. AreBefore (case_view case.now) (lists_at case.now.to pieces.now) (lists_of v.items)) }
-    ensures few { IfOk result (λ v. length v.items < 2 ^ 32 - 1) }
+    ensures bounded { IfOk result (λ v. length v.items < 2 ^ 32 - 1) }
     ensures refusals { IfErr result (IsUnmade (case_view case.now) (lists_at case.now.to pieces.now)) }
 {
     let mut targets = Vec::new(alloc);

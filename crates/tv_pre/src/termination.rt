@@ -34,7 +34,7 @@ use tv_formula::{Path, Shape};
 use tv_linear::{Region, push_item};
 use tv_rounds::Rounds;
 
-/// The part of termination of the states without a step and of layers behind them.
+/// The part of termination of the states without a step and of layers after them.
 fn ended_after(setting: &Setting, stops: Region, layers: Vec<Region>) -> Result<Part, CoverFault>
     requires splits { setting.now.budget.now.splits ≤ 128 }
     requires layers { AreEndLayers (cases_of setting.now.about.now) [] (stops ∷ layers.items) }

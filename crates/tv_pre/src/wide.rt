@@ -23,7 +23,7 @@ pub(crate) enum Comparisons {
     Wide { place: u32 },
 }
 
-/// The comparisons among subformulas and those behind them.
+/// The comparisons among subformulas and those after them.
 fn joined(front: Comparisons, back: Comparisons) -> Result<Comparisons, AllocError>
     ensures { (n : ℕ) (xs ys : List Property) → AreTold n xs front → AreTold n ys back → IfOk result (AreTold n (xs ++ ys)) }
 {
@@ -51,7 +51,7 @@ fn of_comparison(
     right: &Expr,
     variables: u32,
 ) -> Result<Comparisons, AllocError>
-    requires few { variables < 2 ^ 32 - 1 }
+    requires bounded { variables < 2 ^ 32 - 1 }
     requires linear { IsTrue (is_linear (expression left.now) && is_linear (expression right.now)) }
     ensures { let f = compare relation (expression left.now) (expression right.now) in
         IfOk result (AreTold variables (f ∷ [])) }
@@ -71,7 +71,7 @@ pub(crate) fn comparisons_of(
     tree: &Tree,
     variables: u32,
 ) -> Result<Comparisons, AllocError>
-    requires few { variables < 2 ^ 32 - 1 }
+    requires bounded { variables < 2 ^ 32 - 1 }
     requires linear { IsLinear (property tree.now) }
     ensures { IfOk result (AreTold variables (subformulas (property tree.now))) }
 {
@@ -102,7 +102,7 @@ fn comparisons_of_all(
     trees: &[Tree],
     variables: u32,
 ) -> Result<Comparisons, AllocError>
-    requires few { variables < 2 ^ 32 - 1 }
+    requires bounded { variables < 2 ^ 32 - 1 }
     requires linear { AreLinear (properties trees.now) }
     ensures { IfOk result (AreTold variables (all_subformulas (properties trees.now))) }
 {

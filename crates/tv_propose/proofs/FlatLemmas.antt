@@ -11,7 +11,7 @@ flat_next_suc f d e [] (suc k) = sym (ap (λ ys. ys ++ []) e)
 flat_next_suc f d e (x ∷ xs) zero = refl
 flat_next_suc f d e (x ∷ xs) (suc k) = flat_next_suc f d e xs k
 
--- the list at a place, and those behind it
+-- the list at a place, and those after it
 pub flat_next : {X A : Type 0} (f : X → List A) (d : X) → f d ≡ [] → (xs : List X) (k : ℕ) → flat_map f (drop k xs) ≡ f (get_or xs k d) ++ flat_map f (drop (k + 1) xs)
 flat_next f d e xs k = flat_next_suc f d e xs k ∙ ap (λ i. f (get_or xs k d) ++ flat_map f (drop i xs)) (sym (next_of k))
 

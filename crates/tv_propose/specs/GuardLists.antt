@@ -9,11 +9,11 @@ use Rattle.tv_candidates.specs.declared.candidate.Candidate.{Candidate}
 use Rattle.tv_propose.specs.Everywhere.{everywhere}
 use Rattle.tv_propose.specs.Walks.{rows_of}
 
--- each coefficient behind the first n is 0
+-- each coefficient after the first n is 0
 abbrev pub has_no_draw : ℕ → Linear → Bool
 has_no_draw n r = list_all is_zero (drop n r.coefficients)
 
--- the row without the coefficients behind the first n
+-- the row without the coefficients after the first n
 abbrev pub over_variables : ℕ → Linear → Linear
 over_variables n r = linear (take n r.coefficients) r.constant
 

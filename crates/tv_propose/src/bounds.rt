@@ -18,7 +18,7 @@ use tv_linear::Row;
 
 /// The row `x - bound` of a column.
 fn upper_bound(alloc: Global, columns: u32, x: u32, bound: i128) -> Result<Row, AllocError>
-    requires few { columns < 2 ^ 32 - 1 }
+    requires bounded { columns < 2 ^ 32 - 1 }
     requires x { x < columns }
     requires narrow { IsWithin 62 bound }
     ensures { IfOk result (λ r. r ≡ upper_bound columns x bound) }
@@ -28,7 +28,7 @@ fn upper_bound(alloc: Global, columns: u32, x: u32, bound: i128) -> Result<Row, 
 
 /// The row `-x + bound` of a column.
 fn lower_bound(alloc: Global, columns: u32, x: u32, bound: i128) -> Result<Row, AllocError>
-    requires few { columns < 2 ^ 32 - 1 }
+    requires bounded { columns < 2 ^ 32 - 1 }
     requires x { x < columns }
     requires narrow { IsWithin 62 bound }
     ensures { IfOk result (λ r. r ≡ lower_bound columns x bound) }

@@ -16,7 +16,7 @@ use tv_linear::Row;
 
 /// The row `x - y + more` of two columns.
 fn difference(alloc: Global, columns: u32, x: u32, y: u32, more: i64) -> Result<Row, AllocError>
-    requires few { columns < 2 ^ 32 - 1 }
+    requires bounded { columns < 2 ^ 32 - 1 }
     requires x { x < columns }
     requires y { y < columns }
     requires different { x ≡ y → ⊥ }

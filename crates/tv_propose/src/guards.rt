@@ -14,7 +14,7 @@ use tv_candidates::Candidate;
 use tv_cases::{Cases, is_zero};
 use tv_linear::{Row, is_narrow};
 
-/// Whether each coefficient behind those of the variables is 0.
+/// Whether each coefficient after those of the variables is 0.
 fn has_no_draw(row: &Row, variables: u32) -> bool
     requires { variables ≤ width row.now }
     ensures { result ≡ has_no_draw variables row.now }
@@ -23,7 +23,7 @@ fn has_no_draw(row: &Row, variables: u32) -> bool
     draws.iter().all(|number| is_zero(i128::from(*number)))
 }
 
-/// The row without the coefficients behind those of the variables.
+/// The row without the coefficients after those of the variables.
 fn over_variables(alloc: Global, row: &Row, variables: u32) -> Result<Row, AllocError>
     requires { variables ≤ width row.now }
     ensures { IfOk result (λ r. r ≡ over_variables variables row.now) }

@@ -30,5 +30,5 @@ pub trait Table {
         requires place { at.now.place < length (get_or (rows self.now (cases_of about.now)) at.now.group []) }
         ensures is { let places = get_or (rows self.now (cases_of about.now)) at.now.group [] in
             IfOk result (λ r. r ≡ slice_get (get_or places at.now.place []) at.now.row) }
-        ensures few { IfOk result (λ r. IsSome r → at.now.row < 4) };
+        ensures bounded { IfOk result (λ r. IsSome r → at.now.row < 4) };
 }

@@ -36,7 +36,7 @@ read_answers q values scale s last narrow small (found.Family terms multipliers)
   found =
       subst (λ z. IsFamily q.variables q.locations (many_of q) (ways_of q) q.falling z (lists multipliers.items)) (sym t)
       (subst (λ z. IsFamily q.variables q.locations (many_of q) (ways_of q) q.falling (terms_of q values) z) (sym m)
-      (solution_is_family q.variables q.locations (many_of q) (ways_of q) q.falling q.falls values scale s narrow (λ k l. (asked_between q k l).leaves) (λ k l. (asked_between q k l).enters) q.few (few_unknowns (ways_of q) (many_of q) q.falling q.variables q.locations small)));
+      (solution_is_family q.variables q.locations (many_of q) (ways_of q) q.falling q.falls values scale s narrow (λ k l. (asked_between q k l).leaves) (λ k l. (asked_between q k l).enters) q.bounded (few_unknowns (ways_of q) (many_of q) q.falling q.variables q.locations small)));
   last = record { values = values; scale = scale; last = last; terms_are = t; multipliers_are = m };
 }
 read_answers q values scale s last narrow small (found.None barrier) h = absurd h

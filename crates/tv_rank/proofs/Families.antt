@@ -65,7 +65,7 @@ if_small : (b : Bool) (z : ℤ) → unsigned_abs z ≤ 1 → unsigned_abs (if b 
 if_small true z h = h
 if_small false z h = omega arith
 
-module _ (v locations many : ℕ) (ways : ℕ → Way) (falling : ℕ) (falling_in : falling < many) (xs : List ℤ) (scale : ℤ) (h : IsSolutionOf (ranking_system ways many falling v locations) xs scale) (narrow : IsNarrowSystem (ranking_system ways many falling v locations)) (from_in : (k : ℕ) → k < many → (ways k).taken.from < locations) (to_in : (k : ℕ) → k < many → (ways k).taken.to < locations) (few : v ≤ 512) (size : length (unknowns ways many falling v locations) ≤ 4000000) where
+module _ (v locations many : ℕ) (ways : ℕ → Way) (falling : ℕ) (falling_in : falling < many) (xs : List ℤ) (scale : ℤ) (h : IsSolutionOf (ranking_system ways many falling v locations) xs scale) (narrow : IsNarrowSystem (ranking_system ways many falling v locations)) (from_in : (k : ℕ) → k < many → (ways k).taken.from < locations) (to_in : (k : ℕ) → k < many → (ways k).taken.to < locations) (bounded : v ≤ 512) (size : length (unknowns ways many falling v locations) ≤ 4000000) where
   -- ---- each number of the solution is short and at least 0, past the end too
   short : (j : ℕ) → IsShort (get_or xs j (pos 0))
   short j = elim (cases_lt j (length xs)) [
@@ -161,7 +161,7 @@ module _ (v locations many : ℕ) (ways : ℕ → Way) (falling : ℕ) (falling_
     before = read_at ways many v xs (ways k).taken.from
 
     places : (c : Option ℕ) → Inside (width v (ways k)) c → PlacesHeld (λ w. Unit {0}) (λ w. number (Some w) (read_at ways many v xs (ways k).taken.to)) (pos 0) 0 (map (term_number c) (terms_after v (ways k).taken.updates)) × (unsigned_abs (pos 0 +ℤ place_sum (λ j. number (Some (0 + j)) (read_at ways many v xs (ways k).taken.to)) (map (term_number c) (terms_after v (ways k).taken.updates))) ≤ (0 + length (map (term_number c) (terms_after v (ways k).taken.updates))) * 2 ^ 103)
-    places c c_in = places_held (λ w. number (Some w) (read_at ways many v xs (ways k).taken.to)) (map (term_number c) (terms_after v (ways k).taken.updates)) 0 0 (pos 0) (let e = many_terms c in omega (arith, e, few)) (omega arith) (λ w. term_short (ways k).taken.to (Some w)) (updates_narrow k c k_in c_in)
+    places c c_in = places_held (λ w. number (Some w) (read_at ways many v xs (ways k).taken.to)) (map (term_number c) (terms_after v (ways k).taken.updates)) 0 0 (pos 0) (let e = many_terms c in omega (arith, e, bounded)) (omega arith) (λ w. term_short (ways k).taken.to (Some w)) (updates_narrow k c k_in c_in)
       where
         many_terms : (c : Option ℕ) → length (map (term_number c) (terms_after v (ways k).taken.updates)) ≡ v
         many_terms c = length-map (terms_after v (ways k).taken.updates) (term_number c) ∙ length-table v (update_of (ways k).taken.updates)
@@ -171,7 +171,7 @@ module _ (v locations many : ℕ) (ways : ℕ → Way) (falling : ℕ) (falling_
         let b = (places c c_in).1 in
         let e = length-map (terms_after v (ways k).taken.updates) (term_number c) ∙ length-table v (update_of (ways k).taken.updates) in
         let p : place_sum (λ j. number (Some (0 + j)) (read_at ways many v xs (ways k).taken.to)) (map (term_number c) (terms_after v (ways k).taken.updates)) ≡ place_sum (λ j. number (Some j) (read_at ways many v xs (ways k).taken.to)) (map (term_number c) (terms_after v (ways k).taken.updates)) = (λ i. place_sum (λ j. number (Some (plain j i)) (read_at ways many v xs (ways k).taken.to)) (map (term_number c) (terms_after v (ways k).taken.updates))) in
-        omega (arith, ints, b, e, few, p)
+        omega (arith, ints, b, e, bounded, p)
       where
         plain : (j : ℕ) → 0 + j ≡ j
         plain j = omega arith

@@ -119,13 +119,13 @@ module _ (v : ℕ) (w : Way) (row : Known) (xs : List ℤ) (s : ℕ) where
       → ((c : Option ℕ) → Inside (width v w) c → KnownHeld row c)
       → ((c : Option ℕ) → Inside (width v w) c → unsigned_abs (known_number row c) < 2 ^ 126)
       → IsShownBy v w row (line_read xs s w)
-  shown few short positive narrow columns constant bounded held small = subst (λ zs. Refutes (width v w) (zs ++ denied row ∷ []) (line_read xs s w)) (as_given-append w.known w.taken.guards) (record {
+  shown bounded short positive narrow columns constant below held small = subst (λ zs. Refutes (width v w) (zs ++ denied row ∷ []) (line_read xs s w)) (as_given-append w.known w.taken.guards) (record {
     as_many = length-append ms (pos 1 ∷ []) ∙ (let a = length-read xs s n in let b = length-append (as_given (met_rows w)) (denied row ∷ []) in let d = length-given (met_rows w) in omega (arith, a, b, d));
     none_negative = All-from_get_or (λ m. pos 0 ≤ℤ m) (line_read xs s w) (pos 0) (λ i l. sign i l);
     columns = λ j l. sum_is (Some j) ∙ (let e = columns j l in omega (arith, ints, e));
     constant = (let e = sum_is None in omega (arith, ints, e, constant));
     columns_held = λ j l. rows_held (Some j) l (let e = columns j l in omega (arith, ints, e)) (held (Some j) l, (let b = small (Some j) l in let w : unsigned_abs (neg_ℤ (known_number row (Some j))) < 2 ^ 127 = omega (arith, ints, b) in w));
-    constant_held = rows_held None tt (omega (arith, ints, constant, bounded)) (held None tt, (let b = small None tt in let w : unsigned_abs (pos 1 -ℤ known_number row None) < 2 ^ 127 = omega (arith, ints, b) in w));
+    constant_held = rows_held None tt (omega (arith, ints, constant, below)) (held None tt, (let b = small None tt in let w : unsigned_abs (pos 1 -ℤ known_number row None) < 2 ^ 127 = omega (arith, ints, b) in w));
   })
     where
       sign : (i : ℕ) → i < length (line_read xs s w) → pos 0 ≤ℤ get_or (line_read xs s w) i (pos 0)
@@ -135,7 +135,7 @@ module _ (v : ℕ) (w : Way) (row : Known) (xs : List ℤ) (s : ℕ) where
       ]
 
       rows_held : (c : Option ℕ) → Inside (width v w) c → unsigned_abs (rows_sum w xs s c +ℤ known_number (denied row) c) < 2 ^ 127 → KnownHeld (denied row) c → ColumnHeld (line_read xs s w) (as_given (met_rows w) ++ denied row ∷ []) c
-      rows_held c c_in end denial = rows_held_last c row 0 (pos 0) ms (met_rows w) (length-read xs s n) (omega (arith, few)) (omega arith)
+      rows_held c c_in end denial = rows_held_last c row 0 (pos 0) ms (met_rows w) (length-read xs s n) (omega (arith, bounded)) (omega arith)
           (All-from_get_or IsShort ms (pos 0) (λ i l. subst IsShort (sym (get-read xs s n i (at i l))) (short i (at i l))))
           (All-from_get_or (λ r. unsigned_abs (number c r) < 2 ^ 41) (met_rows w) (linear [] (pos 0)) (λ i l. narrow i c l c_in))
           denial

@@ -4,7 +4,7 @@ use Rattle.tv_rank.specs.declared.span.Span.{Span}
 use Rattle.tv_rank.specs.Questions.{ways_of, many_of}
 use Rattle.tv_rank.specs.Ways.{Way, touches}
 
--- the second span has all locations of the first, and this one, and it ends where the first does or behind this one
+-- the second span has all locations of the first, and this one, and it ends where the first does or after this one
 pub record Reaches (span : Span) (location : ℕ) (further : Span) : Type 0 where
   pub low : further.low ≤ span.low
   pub high : span.high ≤ further.high

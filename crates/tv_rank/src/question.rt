@@ -20,7 +20,7 @@ pub struct Question<'a> {
     pub falling: usize,
     pub variables: u32,
     pub locations: u32,
-    pub ghost few: { variables ≤ 512 },
+    pub ghost bounded: { variables ≤ 512 },
     pub ghost numbered: { AreNumbered (length cases.now) set.now },
     pub ghost started: { AreStarted (case_views cases.now) known.now },
     pub ghost within: { All (IsBetween locations) (case_views cases.now) },

@@ -24,7 +24,7 @@ fn short(number: i128) -> i64
     number as i64
 }
 
-/// The positive part that stands at a place, less the negative part behind it.
+/// The positive part that stands at a place, less the negative part after it.
 fn difference(values: &[i128], start: usize, pair: usize) -> i64
     requires inside { start + 2 * pair + 1 < length values.now }
     requires parts { AreParts values.now }
@@ -52,7 +52,7 @@ fn push_difference(
 
 /// The term whose pairs stand from a place on.
 fn term_of(alloc: Global, values: &[i128], start: usize, variables: u32) -> Result<Row, AllocError>
-    requires few { variables < 2 ^ 32 - 1 }
+    requires bounded { variables < 2 ^ 32 - 1 }
     requires inside { start + 2 * variables + 1 < length values.now }
     requires parts { AreParts values.now }
     ensures { IfOk result (λ r. r ≡ term_read variables values.now start) }
@@ -83,7 +83,7 @@ fn line_of(
     Ok(multipliers)
 }
 
-/// Puts the term at a location where a case of the set starts or ends at the end of the list, and tells the place behind its pairs.
+/// Puts the term at a location where a case of the set starts or ends at the end of the list, and tells the place after its pairs.
 fn push_term(
     terms: &mut Vec<LocalTerm>,
     alloc: Global,
@@ -106,7 +106,7 @@ fn push_term(
     Ok(place)
 }
 
-/// The terms of the locations, and the place behind their pairs.
+/// The terms of the locations, and the place after their pairs.
 pub fn read_terms(
     alloc: Global,
     asked: &Question,
@@ -126,7 +126,7 @@ pub fn read_terms(
     Ok((terms, place))
 }
 
-/// Puts the multipliers of the case at a place of the set at the end of the list, and tells the place behind its slack.
+/// Puts the multipliers of the case at a place of the set at the end of the list, and tells the place after its slack.
 fn push_line(
     lines: &mut Vec<Vec<i64>>,
     alloc: Global,

@@ -90,9 +90,9 @@ module _ (about : CaseSystem) (found : Found) (h : IsFoundRun about found) where
       let taken : length steps ≡ length found.path.now = sym (length-map steps (λ (s : Step). s.taken)) ∙ ap length parts.path in
       let same : length rest ≡ length steps = many ∙ lengths.1 ∙ sym taken in
       let l = last_is s rest in
-      let few = h.few in
+      let bounded = h.bounded in
       record {
-        states_are = record { each = each; few = omega (arith, many, lengths.1, few) };
+        states_are = record { each = each; bounded = omega (arith, many, lengths.1, bounded) };
         as_many = omega (arith, same);
         leads = steps_lead about (s ∷ rest) 0 steps s rest (λ k. ap (slice_get (s ∷ rest)) (let e : 0 + k ≡ k = omega arith in e))
             (subst (λ p. IsAlong about p (draws_of steps) (seen s) (map seen rest)) (sym parts.path)

@@ -16,7 +16,7 @@ use Rattle.tv_reaching.specs.FoundRuns.{IsAlong, Takes, IsWideRun, lists_of}
 use Rattle.tv_reaching.specs.Making.{IsNext, IsWideValue, CanRun, ArePushed}
 use Rattle.tv_reaching.proofs.ValueLemmas.{rest_of, rest_is}
 
--- the first step of a run, and the steps behind it
+-- the first step of a run, and the steps after it
 pub record Front (about : CaseSystem) (k : ℕ) (ds : List ℤ) (path : List ℕ) (draws : List (List ℤ)) (s : programs.State) (run : List programs.State) : Type 0 where
   pub next : programs.State
   pub later : List programs.State
@@ -39,7 +39,7 @@ front about (i ∷ path) (w ∷ draws) k v s (t ∷ run) l m e f h = record {
   along = subst (λ p. IsAlong about p (lists_of (rest_of (w ∷ draws))) t run) (sym (rest_is i path)) (subst (λ (ds : List (Vec ℤ)). IsAlong about path (lists_of ds) t run) (sym (rest_is w draws)) h.1);
 }
 
--- the draws of the first step, and of those behind it
+-- the draws of the first step, and of those after it
 pub narrow_front : (draws : List (Vec ℤ)) (v : Vec ℤ) → 1 ≤ length draws → v ≡ get_or draws 0 v → All (All (IsWithin 62)) (lists_of draws) → All (IsWithin 62) v.items
 narrow_front [] v l f h = absurd (omega (arith, l))
 narrow_front (w ∷ draws) v l f h = subst (λ (u : Vec ℤ). All (IsWithin 62) u.items) (sym f) (All-head (All (IsWithin 62)) w.items (lists_of draws) h)

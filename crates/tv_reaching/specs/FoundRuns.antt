@@ -53,7 +53,7 @@ pub record IsFoundRun (about : CaseSystem) (found : Found) : Type 0 where
   pub counted : length found.values.now ≡ about.variables
   pub narrow : All (IsWithin 62) found.values.now
   pub narrow_draws : All (All (IsWithin 62)) (lists_of found.draws.now)
-  pub few : length found.path.now < 2 ^ 32 - 2
+  pub bounded : length found.path.now < 2 ^ 32 - 2
 
 -- the variable with this column is the first with a value of 2^62 or more in magnitude
 pub record IsWideAt (column : ℕ) (values : List ℤ) : Type 0 where

@@ -53,7 +53,7 @@ abbrev pub GivesStates : {A : Type 0} → CaseSystem → List ℕ → List (List
 GivesStates about path draws s old new result =
     (run : List programs.State) → IsAlong about path draws s run → MatchResult result (λ _. ArePushed about (s ∷ run) old new) (IsWideRun run)
 
--- steps by these cases and draws, each to the state behind its own, were pushed
+-- steps by these cases and draws, each to the state after its own, were pushed
 pub record AreStepsPushed (path : List ℕ) (draws : List (List ℤ)) (place : ℕ) (old new : List Step) : Type 0 where
   pub more : List Step
   pub parts : new ≡ old ++ more

@@ -9,7 +9,7 @@ use std::alloc::{AllocError, Global};
 use tv_linear::{push_item, shortened};
 use tv_points::Step;
 
-/// Puts the steps by these cases, each to the state behind its own, at the end of the list.
+/// Puts the steps by these cases, each to the state after its own, at the end of the list.
 pub(crate) fn push_steps(
     alloc: Global,
     path: &[u32],
@@ -19,7 +19,7 @@ pub(crate) fn push_steps(
 ) -> Result<(), AllocError>
     requires draws { All (All (IsWithin 62)) (lists_of draws.now) }
     requires even { length draws.now ≡ length path.now }
-    requires few { place + length path.now < 2 ^ 32 }
+    requires bounded { place + length path.now < 2 ^ 32 }
     ensures { IfOk result (λ _. AreStepsPushed path.now (lists_of draws.now) place steps.old.items steps.new.items) }
 {
     match path {

@@ -98,8 +98,8 @@ known_first ws = by (nat_le (length (by_first_place [] ws)) 512) refl
   where
     by : (b : Bool) → nat_le (length (by_first_place [] ws)) 512 ≡ b → are_known (take 512 (by_first_place [] ws)) ws ≡ true
     by true e =
-        let few : length (by_first_place [] ws) ≤ 512 = grind (arith, nat_tests) in
-        ap (λ (names : List Word). are_known names ws) (take_all (by_first_place [] ws) 512 few) ∙ all_known (by_first_place [] ws) ws (has_each [] ws)
+        let bounded : length (by_first_place [] ws) ≤ 512 = grind (arith, nat_tests) in
+        ap (λ (names : List Word). are_known names ws) (take_all (by_first_place [] ws) 512 bounded) ∙ all_known (by_first_place [] ws) ws (has_each [] ws)
     by false e =
         let many : 512 ≤ length (by_first_place [] ws) = grind (arith, nat_tests) in
         let counted = length_take (by_first_place [] ws) 512 many in

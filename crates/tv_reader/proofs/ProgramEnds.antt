@@ -1,4 +1,4 @@
--- Where a program may end: nothing in it goes on at the tokens behind it.
+-- Where a program may end: nothing in it goes on at the tokens after it.
 use Rattle.std.proofs.Common.{◌≡◌, ℕ, suc, Bool, true, false, List, [], ◌∷◌, ◌++◌, Option, Some, None, refl}
 use Rattle.std.specs.Prelude.{◌&&◌}
 use Rattle.tv_language.specs.declared.token.TokenKind.{TokenKind}
@@ -41,7 +41,7 @@ token_stops is l h = headed_outside Syntax (token_cases is l) nowhere (token_bra
 ended_stops : {X : Type 0} (x : X) → Stops (ended x)
 ended_stops x = token_stops is_semicolon (unit x) (unit_stops x)
 
--- behind what never goes on
+-- after what never goes on
 behind_stops : {X Y : Type 0} (a : Grammar X) (b : X → Grammar Y) → Stops a → ((x : X) → Stops (b x)) → Stops (then a b)
 behind_stops a b h i = then_outside a b nowhere nowhere h i (λ x d t e. refl)
 

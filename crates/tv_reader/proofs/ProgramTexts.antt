@@ -30,7 +30,7 @@ opened : {X : Type 0} (b : Bool) (l : Grammar X) (d : OfBranch (go_if b l)) → 
 opened true l d = record { it = d; text = λ rest. refl; value = refl; is = refl }
 opened false l d = absurd d
 
--- the token stands in front, and a derivation of l behind it
+-- the token stands in front, and a derivation of l after it
 pub record Taken {X : Type 0} (is : TokenKind → Bool) (kind : TokenKind) (l : Grammar X) (d : (token is l).Of) : Type 0 where
   pub it : l.Of
   pub text : (rest : List Mark) → (token is l).text d rest ≡ plain (fixed kind) ∷ l.text it rest

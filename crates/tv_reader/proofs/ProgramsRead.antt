@@ -140,7 +140,7 @@ not_started [] more l h = refl
 not_started (k ∷ ls) more l h = absurd (omega (arith, length-append ls (l ∷ more)))
 
 not_full : (es more : List Transition) (e : Transition) → length es + length (e ∷ more) ≤ 4096 → (is_full es && true) ≡ false
-not_full es more e h = let few : nat_lt (length es) 4096 ≡ true = grind (arith, nat_tests) in rw few refl
+not_full es more e h = let bounded : nat_lt (length es) 4096 ≡ true = grind (arith, nat_tests) in rw bounded refl
 
 record Listing (s : Items) (starts : List ℕ) (edges : List Transition) (ms : List Mark) : Type 0 where
   it : Turns (item_cases every 63) s
@@ -166,9 +166,9 @@ items_back s starts edges ts (start {l} {starts = more} {ts = us} are) h i ms e 
     let value : all ≡ with_start s l = w.value ∙ ap (with_start s) b.is in
     let starts_are : all.starts ++ more ≡ s.starts ++ l ∷ more = ap (λ (x : Items). x.starts ++ more) value ∙ append_assoc s.starts (l ∷ []) more in
     let edges_are : all.edges ≡ s.edges = ap (λ (x : Items). x.edges) value in
-    let few : length (all.starts ++ more) ≤ 1 = rw starts_are h in
+    let bounded : length (all.starts ++ more) ≤ 1 = rw starts_are h in
     let fits : length all.edges + length edges ≤ 4096 = rw edges_are i in
-    let z = items_back all more edges us are few fits b.left b.same in
+    let z = items_back all more edges us are bounded fits b.left b.same in
     record {
       it = turn (plain (fixed kinds.Start)) w.it z.it;
       text = a.text ∙ ap (λ (us : List Mark). plain (fixed kinds.Start) ∷ us) (b.text ∙ sym (w.text b.left) ∙ ap (branch_text (refuse_by (has_start s.starts && true) TwoStarts one) w.it) z.text);
@@ -185,10 +185,10 @@ items_back s starts edges ts (programs.AreItems.edge {l} {m} {commands} {edges =
     let value : all ≡ with_edge s l commands m = w.value ∙ b.is in
     let starts_are : all.starts ≡ s.starts = ap (λ (x : Items). x.starts) value in
     let edges_are : all.edges ≡ s.edges ++ it ∷ [] = ap (λ (x : Items). x.edges) value in
-    let few : length (all.starts ++ starts) ≤ 1 = rw starts_are h in
+    let bounded : length (all.starts ++ starts) ≤ 1 = rw starts_are h in
     let counted : length all.edges ≡ length s.edges + 1 = ap length edges_are ∙ length-append s.edges (it ∷ []) in
     let fits : length all.edges + length more ≤ 4096 = omega (arith, counted, i) in
-    let z = items_back all starts more vs are few fits b.left b.same in
+    let z = items_back all starts more vs are bounded fits b.left b.same in
     record {
       it = turn (plain (fixed kinds.From)) w.it z.it;
       text = a.text ∙ ap (λ (us : List Mark). plain (fixed kinds.From) ∷ us) (b.text ∙ sym (w.text b.left) ∙ ap (branch_text (refuse_by (is_full s.edges && true) TooMany one) w.it) z.text);

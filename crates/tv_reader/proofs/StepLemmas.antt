@@ -82,7 +82,7 @@ known_front names b kind w ws h = by (not b && symbols.is_name kind) h
 known_behind : (s : Stand) (b : Bool) (h : Here s) → are_known s.names (variable_words b (lexemes s.text (drop s.at s.tokens))) ≡ true → are_known s.names (variable_words (is_colon h.token.kind) (lexemes s.text h.rest)) ≡ true
 known_behind s b h k = known_front s.names b h.token.kind (lexeme s.text h.token).word (variable_words (is_colon h.token.kind) (lexemes s.text h.rest)) (ap (λ (ts : List Token). are_known s.names (variable_words b (lexemes s.text ts))) (sym h.parts) ∙ k)
 
--- behind a token that is taken
+-- after a token that is taken
 pub steady_taken : (b : Bool) (s : Stand) → Steady b s → is_last (token_at s).kind ≡ false → Steady (is_colon (token_at s).kind) (taken s)
 steady_taken b s w l =
     let h = here s w.closed in
@@ -110,7 +110,7 @@ passing_draws kind d e = refl
 pub steady_passing : (b : Bool) (s : Stand) → Steady b s → is_passing (token_at s).kind ≡ true → Steady (is_colon (token_at s).kind) (taken s)
 steady_passing b s w p = steady_taken b s w (passing_last (token_at s).kind p)
 
--- the token that is taken, and those behind it, whose draws are counted from here on
+-- the token that is taken, and those after it, whose draws are counted from here on
 pub left_taken : (labels : List Word) (b : Bool) (s : Stand) (d : ℕ) → Steady b s → is_last (token_at s).kind ≡ false → draws_behind (token_at s).kind s.draws ≡ d → left_of labels b s ≡ mark_of labels b s ∷ marks_from (record { variables = s.names; labels = labels }) (is_colon (token_at s).kind) d (lexemes s.text (drop (taken s).at s.tokens))
 unfolding marks_from
 left_taken labels b s d w l e =

@@ -65,7 +65,7 @@ items_sound v l (start are) h = items_sound v l are h
 items_sound v l (programs.AreItems.edge {m} {commands} {us} cs are) h =
     let u = commands_uses cs in
     let fits = (and_parts _ _ h).0 in
-    let few : nat_le (draws_counted commands) 64 ≡ true = (and_parts _ _ ((and_parts _ _ fits).0)).1 in
+    let bounded : nat_le (draws_counted commands) 64 ≡ true = (and_parts _ _ ((and_parts _ _ fits).0)).1 in
     let le : draws_counted commands ≤ 64 = grind (arith, nat_tests) in
     ap (all_sound 64) u.parts ∙ sounds_more (draws_counted commands) u.used (fixed kinds.To ∷ fixed kinds.Colon ∷ label m ∷ fixed kinds.Semicolon ∷ us) le (u.soundly v (draws_counted commands) ((and_parts _ _ fits).1)) (items_sound v l are ((and_parts _ _ h).1))
 items_sound v l (passed are) h = items_sound v l are h
@@ -74,7 +74,7 @@ items_sound v l (programs.AreItems.ended_mark are) h = items_sound v l are h
 
 -- ---- marks and symbols
 
--- the mark has the symbol of the token, and the draws behind it are counted alike
+-- the mark has the symbol of the token, and the draws after it are counted alike
 abbrev Alike : Vocabulary → Bool → ℕ → TokenKind → Word → Type 0
 Alike v b d kind w = (symbol_of (mark_by v b d kind w) ≡ symbol_by v b d kind w) × (draws_behind kind d ≡ symbols.draws_behind kind d)
 
@@ -185,7 +185,7 @@ abbrev start_by : Symbol → List Symbol → Option ℕ → Option ℕ
 start_by (fixed kinds.Start) ss later = second_label ss
 start_by s ss later = later
 
--- the label behind the first START
+-- the label after the first START
 abbrev start_symbol : List Symbol → Option ℕ
 start_symbol [] = None
 start_symbol (s ∷ ss) = start_by s ss (start_symbol ss)

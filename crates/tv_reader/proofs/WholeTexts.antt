@@ -168,11 +168,11 @@ program_only text p w =
     let few_names : length (by_first_place [] names) ≤ 512 = let n : nat_le (length p.variables) 512 ≡ true = w.limits.few_variables in let l : length p.variables ≤ 512 = grind (arith, nat_tests) in subst (λ (ws : List Word). length ws ≤ 512) w.variables l in
     let few_labels : length p.locations ≤ 1024 = let n : nat_le (length p.locations) 1024 ≡ true = w.limits.few_locations in grind (arith, nat_tests) in
     let fewer : length (by_first_place [] labels) ≤ length (by_first_place (w.start_label ∷ []) labels) = no_fewer w.start_label [] (w.start_label ∷ []) labels refl (alone w.start_label) in
-    let few : length (by_first_place [] labels) ≤ 1024 = let e : length p.locations ≡ length (by_first_place (w.start_label ∷ []) labels) = ap length w.locations in omega (arith, fewer, few_labels, e) in
+    let bounded : length (by_first_place [] labels) ≤ 1024 = let e : length p.locations ≡ length (by_first_place (w.start_label ∷ []) labels) = ap length w.locations in omega (arith, fewer, few_labels, e) in
     let s : Starts own false xs 0 = items_starts own xs w.items in
     let leader = leads w.start_label (w.start_label ∷ []) labels (record { behind = []; same = refl }) in
     let word_is : s.word ≡ w.start_label = first_word s.word w.start_label leader.behind (ap (number_of s.word) (sym leader.same) ∙ ap (number_of s.word) (sym w.locations) ∙ s.numbered) in
-    let firsts : take 1024 (by_first_place [] labels) ≡ by_first_place [] labels = take_all (by_first_place [] labels) 1024 few in
+    let firsts : take 1024 (by_first_place [] labels) ≡ by_first_place [] labels = take_all (by_first_place [] labels) 1024 bounded in
     let inside : has (by_first_place [] labels) s.word ≡ true = among (by_first_place [] labels) labels s.word s.among (has_each [] labels) in
     let locations : (vocabulary xs).labels ≡ p.locations =
     ap (λ (o : Option Word). led_by o (take 1024 (by_first_place [] labels))) s.is

@@ -97,14 +97,14 @@ take_all (w ∷ ws) (suc n) h = ap (λ (us : List Word). w ∷ us) (take_all ws 
 
 -- Where each word has a number among the first ones, these are all.
 pub all_first : (most : ℕ) (known ws : List Word) → length known ≤ most → has_all (take most (by_first_place known ws)) ws ≡ true → take most (by_first_place known ws) ≡ by_first_place known ws
-all_first most known [] few h = take_all known most few
-all_first most known (w ∷ ws) few h = by (number_of w known) refl ((and_parts _ _ h).0) ((and_parts _ _ h).1) (λ names l i. all_first most names ws l i)
+all_first most known [] bounded h = take_all known most bounded
+all_first most known (w ∷ ws) bounded h = by (number_of w known) refl ((and_parts _ _ h).0) ((and_parts _ _ h).1) (λ names l i. all_first most names ws l i)
   where
     full : (b : Bool) → nat_lt (length known) most ≡ b → number_of w known ≡ None → has (take most (by_first_place (known ++ w ∷ []) ws)) w ≡ true → has_all (take most (by_first_place (known ++ w ∷ []) ws)) ws ≡ true → ((names : List Word) → length names ≤ most → has_all (take most (by_first_place names ws)) ws ≡ true → take most (by_first_place names ws) ≡ by_first_place names ws) → take most (by_first_place (known ++ w ∷ []) ws) ≡ by_first_place (known ++ w ∷ []) ws
     full true lt e one rest again = let l : length known < most = grind (arith, nat_tests) in again (known ++ w ∷ []) (omega (arith, l, length-append known (w ∷ []))) rest
     full false lt e one rest again =
         let l : most ≤ length known = grind (arith, nat_tests) in
-        let same : length known ≡ most = omega (arith, l, few) in
+        let same : length known ≡ most = omega (arith, l, bounded) in
         let b = begins known ws in
         let c = begins (known ++ w ∷ []) ws in
         let cut : take most (by_first_place (known ++ w ∷ []) ws) ≡ known = ap (λ (n : ℕ). take n (by_first_place (known ++ w ∷ []) ws)) (sym same) ∙ ap (take (length known)) (c.1 ∙ append_assoc known (w ∷ []) c.0) ∙ take_front known (w ∷ c.0) in
@@ -113,7 +113,7 @@ all_first most known (w ∷ ws) few h = by (number_of w known) refl ((and_parts 
         absurd cc
 
     by : (o : Option ℕ) → number_of w known ≡ o → has (take most (by_first_place (with_new o w known) ws)) w ≡ true → has_all (take most (by_first_place (with_new o w known) ws)) ws ≡ true → ((names : List Word) → length names ≤ most → has_all (take most (by_first_place names ws)) ws ≡ true → take most (by_first_place names ws) ≡ by_first_place names ws) → take most (by_first_place (with_new o w known) ws) ≡ by_first_place (with_new o w known) ws
-    by (Some n) e one rest again = again known few rest
+    by (Some n) e one rest again = again known bounded rest
     by None e one rest again = full (nat_lt (length known) most) refl e one rest again
 
 -- ---- placed again
@@ -142,7 +142,7 @@ pub place-append : (known a b : List Word) → by_first_place known (a ++ b) ≡
 place-append known [] b = refl
 place-append known (w ∷ a) b = place-append (words_with w known) a b
 
--- Words by their first place, placed behind others, are placed as the words themselves are.
+-- Words by their first place, placed after others, are placed as the words themselves are.
 pub place-place : (known names ws : List Word) → by_first_place known (by_first_place names ws) ≡ by_first_place (by_first_place known names) ws
 place-place known names [] = refl
 place-place known names (w ∷ ws) = place-place known (words_with w names) ws ∙ ap (λ (us : List Word). by_first_place us ws) (by (number_of w names) refl)
@@ -217,7 +217,7 @@ length_more known w = by (number_of w known)
     by (Some n) = omega arith
     by None = omega (arith, length-append known (w ∷ []))
 
--- the word behind those that are placed
+-- the word after those that are placed
 pub place_next : (known ws : List Word) (n : ℕ) (w : Word) → slice_get ws n ≡ Some w → by_first_place known (take (suc n) ws) ≡ words_with w (by_first_place known (take n ws))
 place_next known [] n w e = absurd cc
 place_next known (x ∷ ws) zero w e = let is : x ≡ w = cc in ap (λ (y : Word). words_with y known) is

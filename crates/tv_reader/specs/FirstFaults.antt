@@ -31,7 +31,7 @@ abbrev pub ends_with_colon : Bool → List Token → Bool
 ends_with_colon colon [] = colon
 ends_with_colon colon (t ∷ ts) = ends_with_colon (is_colon t.kind) ts
 
--- what a token brings in, told whether it stands right behind a colon
+-- what a token brings in, given whether it comes right after a colon
 abbrev pub brought_in : Bool → TokenKind → What
 brought_in true kind = Locations
 brought_in false From = Edges

@@ -20,7 +20,7 @@ abbrev pub token_cases : {X : Type 0} → (TokenKind → Bool) → Grammar X →
 token_cases is l (plain (fixed kind)) = go_if (is kind) l
 token_cases is l _ = stop Syntax
 
--- a token of this kind, and l behind it
+-- a token of this kind, and l after it
 abbrev pub token : {X : Type 0} → (TokenKind → Bool) → Grammar X → Grammar X
 token is l = headed Syntax (token_cases is l)
 
@@ -103,7 +103,7 @@ with_start s l = record { starts = s.starts ++ l ∷ []; edges = s.edges }
 abbrev pub with_edge : Items → ℕ → List Instruction → ℕ → Items
 with_edge s from cs to = record { starts = s.starts; edges = s.edges ++ edge_of from to cs ∷ [] }
 
--- turns up to a token that ends them, and what stands behind it
+-- turns up to a token that ends them, and what follows it
 abbrev pub until : {S X : Type 0} → (S → Mark → Behind S) → (S → Mark → Behind X) → S → Grammar X
 until cases last s = then (turns cases s) (λ x. headed Syntax (last x))
 

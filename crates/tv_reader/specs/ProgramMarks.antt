@@ -49,7 +49,7 @@ abbrev pub numbered : TokenKind → (ℕ → Symbol) → Option ℕ → Mark
 numbered kind make None = refused TooMany kind
 numbered kind make (Some n) = plain (make n)
 
--- A name or a number is a label right behind a colon. A label one too many is marked as a number, as no other number is.
+-- A name or a number is a label right after a colon. A label one too many is marked as a number, as no other number is.
 abbrev pub mark_by : Vocabulary → Bool → ℕ → TokenKind → Word → Mark
 mark_by v true draws Name w = numbered Number label (number_of w v.labels)
 mark_by v true draws Number w = numbered Number label (number_of w v.labels)

@@ -69,7 +69,7 @@ fixture r = record { text = r.reading.text; tokens = r.reading.tokens; names = r
 abbrev pub IsKept : Reader → Reader → Type 0
 IsKept r s = (x : Fixture) → fixture r ≡ x → fixture s ≡ x
 
--- A reading where names are added: all of them are known, and it has not passed the end. It is told whether it stands behind a colon.
+-- A reading where names are added: all of them are known, and it has not passed the end. It is told whether it stands after a colon.
 pub record Steady (b : Bool) (s : Stand) : Type 0 where
   pub grows : s.grows ≡ true
   pub level : s.level ≡ 0
@@ -136,10 +136,10 @@ edge_added s e = record { starts = s.starts; edges = s.edges ++ transition e ∷
 -- the items so far fit: there are not too many edges, and each fits; the location of START is one of those that have labels
 pub record ItemsFit (r : Reader) (x : ItemsRead) : Type 0 where
   pub edges : list_all (transition_fits (length r.reading.names) (length r.labels)) (transitions x.edges.items) ≡ true
-  pub few : length x.edges.items ≤ 4096
+  pub bounded : length x.edges.items ≤ 4096
   pub started : IfSome x.start (λ l. l < length r.labels)
 
--- the end of the text comes, and nothing else is left, or what comes is at fault behind these items
+-- the end of the text comes, and nothing else is left, or what comes is at fault after these items
 abbrev pub Ends : Items → Result (Unit {0}) Reason → List Mark → Type 0
 Ends s (Ok x) ms = (headed marks.Syntax (last_of_program s)).read ms ≡ Ok (s, [])
 Ends s (Err e) ms = Unless e ((headed marks.Syntax (last_of_program s)).read ms ≡ fault (kind_of e) ms)

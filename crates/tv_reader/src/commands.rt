@@ -116,7 +116,7 @@ impl Reader<'_> {
         let _ = self.expect(TokenKind::Semicolon);
     }
 
-    /// Adds the assumption behind its word.
+    /// Adds the assumption after its word.
     fn assumed(&mut self, commands: Vec<Command>) -> Result<Vec<Command>, Reason>
         requires steady { IsSteady self.old }
         requires behind { self.old.behind_colon ≡ false }
@@ -131,7 +131,7 @@ impl Reader<'_> {
         Ok(with_command(commands, command)?)
     }
 
-    /// Adds the assignment behind its variable.
+    /// Adds the assignment after its variable.
     #[inline(always)]
     fn assigned(&mut self, variable: u32, commands: Vec<Command>) -> Result<Vec<Command>, Reason>
         requires steady { IsSteady self.old }
@@ -228,7 +228,7 @@ impl Reader<'_> {
         }
     }
 
-    /// The edge behind its `FROM`.
+    /// The edge after its `FROM`.
     pub fn edge(&mut self) -> Result<Edge, Reason>
         requires steady { IsSteady self.old }
         requires behind { self.old.behind_colon ≡ false }

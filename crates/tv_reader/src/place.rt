@@ -26,7 +26,7 @@ fn line_of(text: &[u8], at: u32) -> u32
     ends as u32 + 1
 }
 
-/// The column behind a byte.
+/// The column after a byte.
 fn column_behind(column: u32, byte: u8) -> u32
     requires { column + 1 < 2 ^ 32 }
     ensures { result ≡ (if byte == 10 then 1 else column + 1) }
@@ -46,7 +46,7 @@ fn column_of(text: &[u8], at: u32) -> u32
     column
 }
 
-/// Whether the token with this number stands right behind a colon.
+/// Whether the token with this number comes right after a colon.
 fn is_behind_colon(list: &[Token], index: usize) -> bool
     ensures { result ≡ ends_with_colon false (take index list.now) }
 {
@@ -58,7 +58,7 @@ fn is_behind_colon(list: &[Token], index: usize) -> bool
     colon
 }
 
-/// What a token brings in, told whether it stands right behind a colon.
+/// What a token brings in, given whether it comes right after a colon.
 fn brought_in(behind_colon: bool, kind: TokenKind) -> What
     ensures { result ≡ brought_in behind_colon kind }
 {

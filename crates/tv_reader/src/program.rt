@@ -30,7 +30,7 @@ fn with_edge(items: ItemsRead, edge: Edge) -> Result<ItemsRead, AllocFailed<Edge
 }
 
 impl Reader<'_> {
-    /// Adds the location behind `START`.
+    /// Adds the location after `START`.
     fn started(&mut self, items: ItemsRead) -> Result<ItemsRead, Reason>
         requires steady { IsSteady self.old }
         requires first { (items_view items).starts ≡ [] }
@@ -49,12 +49,12 @@ impl Reader<'_> {
         })
     }
 
-    /// Adds the edge behind its `FROM`.
+    /// Adds the edge after its `FROM`.
     fn connected(&mut self, items: ItemsRead) -> Result<ItemsRead, Reason>
         requires steady { IsSteady self.old }
         requires behind { self.old.behind_colon ≡ false }
         requires begun { self.old.reading.draws ≡ 0 }
-        requires few { vec_len items.edges < 4096 }
+        requires bounded { vec_len items.edges < 4096 }
         requires fits { ItemsFit self.old items }
         ensures steady { Settled result (IsSteady self.new) }
         ensures kept { Keeps result self.old self.new }

@@ -19,7 +19,7 @@ use tv_reading::Reading;
 /// The program of all items, if one of them is START.
 fn finished(reader: Reader, items: ItemsRead) -> Result<Program, ReadFault>
     requires steady { IsSteady reader }
-    requires few { length reader.labels ≤ 1024 }
+    requires bounded { length reader.labels ≤ 1024 }
     requires fits { ItemsFit reader items }
     ensures { MatchResult result (λ p. IsMade reader.entry items p) (λ e. (e ≡ faults.NoStart) × (items.start ≡ None)) }
 {
@@ -39,7 +39,7 @@ pub fn read_program(alloc: Global, text: &[u8]) -> Result<Program, ReadFault>
     ensures found { IfOk result (λ program. IsProgramText text.now (system_of program)) }
     // The text of a program is read as this program.
     ensures only { (p : System) → IsProgramText text.now p → IsReadAs p result }
-    // Else the first fault is told, with the first kind of fault that it is.
+    // Else the first fault is reported, with the first kind of fault that it is.
     ensures refused { IfErr result (λ fault. IsRefused text.now fault) }
 {
     let list = scan(alloc, text)?;

@@ -28,7 +28,7 @@ pub struct Reader<'a> {
     pub text: &'a [u8],
     pub labels: Names,
     pub reading: Reading<'a>,
-    /// The next token stands right behind a colon.
+    /// The next token comes right after a colon.
     pub behind_colon: bool,
 }
 

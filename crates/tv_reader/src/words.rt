@@ -24,7 +24,7 @@ pub struct Known {
 /// Adds a word, where fewer than `most` are there.
 #[inline(always)]
 fn put_within(names: &mut Names, word: &[u8], most: u32) -> Result<(), AllocError>
-    requires few { most ≤ 1024 }
+    requires bounded { most ≤ 1024 }
     requires within { length names.old ≤ most }
     ensures within { length names.new ≤ most }
     ensures added { OnOk result ((ws : List Word) → let all = words_with word.now names.old in
@@ -93,7 +93,7 @@ fn second_word<'a>(text: &'a [u8], list: &[Token]) -> Option<&'a [u8]>
     }
 }
 
-/// The word of the label behind the first `START`, if there is one.
+/// The word of the label after the first `START`, if there is one.
 fn start_word<'a>(text: &'a [u8], list: &[Token]) -> Option<&'a [u8]>
     ensures { let first = start_word (lexemes text.now list.now) in
         MatchOption result (first ≡ None) (λ word. first ≡ Some word.now) }
@@ -110,10 +110,10 @@ fn start_word<'a>(text: &'a [u8], list: &[Token]) -> Option<&'a [u8]>
 
 /// The labels with one of them in front.
 fn moved_in_front(alloc: Global, labels: &Names, word: &[u8]) -> Result<Names, AllocError>
-    requires few { length labels.now ≤ 1024 }
+    requires bounded { length labels.now ≤ 1024 }
     requires among { IsSome (number_of word.now labels.now) }
     ensures moved { IfOk result (λ names. names ≡ by_first_place (word.now ∷ []) labels.now) }
-    ensures few { IfOk result (λ names. length names ≤ 1024) }
+    ensures bounded { IfOk result (λ names. length names ≤ 1024) }
 {
     let mut names = Names::new(alloc);
     names.put(word)?;
@@ -125,9 +125,9 @@ fn moved_in_front(alloc: Global, labels: &Names, word: &[u8]) -> Result<Names, A
 
 /// The labels with this one in front, if it is one of them.
 fn led(alloc: Global, labels: Names, start: Option<&[u8]>) -> Result<Names, AllocError>
-    requires few { length labels ≤ 1024 }
+    requires bounded { length labels ≤ 1024 }
     ensures led { IfOk result (λ names. names ≡ led start.entry labels) }
-    ensures few { IfOk result (λ names. length names ≤ 1024) }
+    ensures bounded { IfOk result (λ names. length names ≤ 1024) }
 {
     match start {
         Some(word) => match labels.find(word) {

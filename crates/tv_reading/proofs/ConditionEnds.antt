@@ -86,7 +86,7 @@ not_and : (t : Option Mark) → or_goes t ≡ false → and_goes t ≡ false
 not_and (Some (plain (fixed kind))) e = kind_or kind e
 not_and _ e = refl
 
--- ---- behind a factor
+-- ---- after a factor
 
 sign_split : (p : Grammar Expression) (es : List Expression) (m : Mark) → OfBranch (sum_cases p es m) → stars (Some m) ≡ false
 sign_split p es (plain (fixed kinds.Plus)) d = refl

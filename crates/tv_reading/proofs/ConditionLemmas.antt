@@ -46,7 +46,7 @@ opened_exact kept n (value e) = tail_exact kept n e
 abbrev pub Extends : Grammar Thing → Type 0
 Extends thing = (d : thing.Of) → as_test (thing.value d) ≡ None → Extended as_test thing d
 
--- the same behind any front
+-- the same after any front
 record Longer (l : Grammar Thing) (d : l.Of) : Type 0 where
   it : l.Of
   taken : Is (as_test (l.value it))

@@ -22,7 +22,7 @@ use Rattle.tv_reading.proofs.ConditionLemmas.{relation_branch}
 use Rattle.tv_reading.proofs.AnswerLemmas.{unless_map}
 use Rattle.tv_reading.proofs.SumSteps.{at_mark, factor_mark, none_read, kind_is}
 
--- ---- a relation behind a sum
+-- ---- a relation after a sum
 
 abbrev Cases : ℕ → Thing → Mark → Behind Thing
 Cases n = relation_cases (sum_at every n true)

@@ -72,13 +72,13 @@ back_turn joins item kind on cs c all ms ts us rest f p q =
 abbrev Sums : ℕ → Grammar Expression
 Sums n = sum_at every n true
 
--- a thing that is a sum and the relation behind it
+-- a thing that is a sum and the relation after it
 record ThingOf (n : ℕ) (s : (Sums n).Of) (d : Turns (relation_cases (Sums n)) (value ((Sums n).value s))) : Type 0 where
   it : (thing_at every n).Of
   text : (r : List Mark) → (thing_at every n).text it r ≡ (Sums n).text s (turns_text (relation_cases (Sums n)) (value ((Sums n).value s)) d r)
   is : (thing_at every n).value it ≡ turns_value (relation_cases (Sums n)) (value ((Sums n).value s)) d
 
--- the derivation of a branch behind a factor
+-- the derivation of a branch after a factor
 record After (n : ℕ) (b : Behind Expression) (fd : OfBranch b) (t : (tail every n (branch_value b fd)).Of) : Type 0 where
   it : OfBranch (after_factor every n b)
   text : (r : List Mark) → branch_text (after_factor every n b) it r ≡ branch_text b fd ((tail every n (branch_value b fd)).text t r)
@@ -107,7 +107,7 @@ zero_thing (plain (fixed kinds.True)) fd t = absurd fd
 zero_thing (plain (fixed kinds.False)) fd t = absurd fd
 zero_thing m fd t = same_after 0 m fd t
 
--- in brackets, behind which a product, a sum and a relation may go on
+-- in brackets, after which a product, a sum and a relation may go on
 record Enclosed (n : ℕ) (lit : Grammar Condition) (x : Thing) (a : Expression) (t : (tail every n a).Of) : Type 0 where
   it : (then (continued lit x) (λ y. then (closed y) (opened every n))).Of
   text : (r : List Mark) → (then (continued lit x) (λ y. then (closed y) (opened every n))).text it r ≡ plain (fixed kinds.RightRound) ∷ (tail every n a).text t r

@@ -74,7 +74,7 @@ linear-push [] e h i = at (is_constant e)
     at false = refl
 linear-push (x ∷ es) e h i = joins (is_constant x) (is_linear_product (parts_of es)) (are_constant (parts_of es)) (is_linear_product (parts_of (es ++ e ∷ []))) (are_constant (parts_of (es ++ e ∷ []))) (is_constant e) h i (constant-push es e) (constant_linear (parts_of es)) (linear-push es e)
 
--- behind factors that are not all constant each one is
+-- after factors that are not all constant each one is
 splits : (c l k k' l' ce : Bool) → ((c && l) || k) ≡ true → (c && k') ≡ false → (k ≡ true → (k' ≡ true) × (ce ≡ true)) → (l ≡ true → k' ≡ false → ce ≡ true) → ce ≡ true
 splits true l k false l' ce h i f g = from l k h f g
   where

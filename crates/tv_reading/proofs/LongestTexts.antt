@@ -21,13 +21,13 @@ no_symbols [] e = refl
 no_symbols (m ∷ ms) e = absurd cc
 
 module _ {X : Type 0} (l : Grammar X) (IsText : X → List Symbol → List Symbol → Type 0) (exact : Exact l) (ends : Ends l) (further : Further l) (found : (d : l.Of) (rest : List Mark) → IsText (l.value d) (symbols_of (l.text d rest)) (symbols_of rest)) (back : (x : X) (ts rest : List Symbol) → IsText x ts rest → (ms : List Mark) → symbols_of ms ≡ ts → Back l x ms rest) where
-  -- a text behind which anything may stand
+  -- a text after which anything may stand
   anywhere : (d : l.Of) (rest : List Symbol) → IsText (l.value d) (symbols_of (l.text d []) ++ rest) rest
   anywhere d rest =
       let is : symbols_of (l.text d (map plain rest)) ≡ symbols_of (l.text d []) ++ rest = ap symbols_of (apart l exact d (map plain rest)) ∙ symbols-append (l.text d []) (map plain rest) ∙ ap (λ (us : List Symbol). symbols_of (l.text d []) ++ us) (plains rest) in
       subst (λ (us : List Symbol). IsText (l.value d) us rest) is (subst (λ (us : List Symbol). IsText (l.value d) (symbols_of (l.text d (map plain rest))) us) (plains rest) (found d (map plain rest)))
 
-  -- the text without what stands behind it
+  -- the text without what follows it
   alone : (x : X) (ms : List Mark) → IsText x (symbols_of ms) [] → (d : l.Of) × (ms ≡ l.text d []) × (l.value d ≡ x)
   alone x ms is = let b = back x (symbols_of ms) [] is ms refl in (b.it, b.text ∙ ap (l.text b.it) (no_symbols b.left b.same), b.is)
 

@@ -27,7 +27,7 @@ left_past s t e = rw (← drop-drop 1 s.at s.tokens) (rw (starts (drop s.at s.to
 pub same_left : (s : Stand) → first (drop s.at s.tokens) ≡ None → left s ≡ drop 1 (left s)
 same_left s e = rw (none_is s.text s.grows s.names s.draws (drop s.at s.tokens) e) refl
 
--- behind a token, with these names and draws
+-- after a token, with these names and draws
 abbrev pub counted : Stand → List Word → ℕ → Stand
 counted s names draws = record { text = s.text; tokens = s.tokens; grows = s.grows; level = s.level; at = s.at + 1; names = names; draws = draws }
 

@@ -60,7 +60,7 @@ pub record AreOne {T : Type 0} (j k : Kind) (before front r s : List T) : Type 0
   pub rest : r ≡ s
 
 module _ {T X : Type 0} (grammar : (Kind → Bool) → ℕ → Lang T Kind X) (exact : (kept : Kind → Bool) (n : ℕ) → Exact (grammar kept n)) (ends : (kept : Kind → Bool) (n : ℕ) → Ends (grammar kept n)) (loose : (kept : Kind → Bool) → kept Syntax ≡ true → (n m : ℕ) → Levels (kept Deep) n m → Loosens kept (grammar every n) (grammar kept m)) (n : ℕ) where
-  -- no text begins with the refused token behind what stands before it
+  -- no text begins with the refused token after what stands before it
   not_further : (k : Kind) (before r : List T) (t : T) (rest : List T) → Refusal grammar n k before r → next r ≡ Some t → Begins (grammar every n) (before ++ t ∷ rest) → ⊥
   not_further k before r t rest h is b =
       let m = levels_of (upto k Deep) n in

@@ -1,4 +1,4 @@
--- What is passed is within the bounds of the names and draws behind it.
+-- What is passed is within the bounds of the names and draws after it.
 use Rattle.std.proofs.Common.{◌≡◌, ℕ, zero, suc, ◌+◌, ◌^◌, ◌≤◌, ◌<◌, Bool, true, false, List, [], ◌∷◌, ◌++◌, drop, length, Option, Some, None, cond, refl, sym, ap, subst, ◌∙◌, append_assoc, length-append, arith}
 use Rattle.std.proofs.lemmas.List.{append_cancel_right}
 use Rattle.std.proofs.lemmas.Bool.Decides.{nat_tests}
@@ -48,7 +48,7 @@ draws_grow : (kind : TokenKind) (draws : ℕ) → draws ≤ draws_behind kind dr
 draws_grow kinds.Nondet draws = draws_by (nat_lt draws 64) draws
 draws_grow kind draws = omega arith
 
--- ---- a mark fits behind it
+-- ---- a mark fits after it
 
 new_fits : (o : Option ℕ) (w : Word) (names : List Word) (d : ℕ) → o ≡ number_of w names → symbol_fits (length (cond (nat_lt (length names) 512) (with_new o w names) names)) d (symbol_of (new_name o (length names))) ≡ true
 new_fits (Some k) w names d e = lt-ltb k (length (cond (nat_lt (length names) 512) names names)) (by (nat_lt (length names) 512))

@@ -68,7 +68,7 @@ kind_is (Some (plain (label v))) k e n = absurd (n e)
 kind_is (Some (plain (drawn v))) k e n = absurd (n e)
 kind_is (Some (refused j kind)) k e n = absurd (n e)
 
--- ---- a factor and a product with nothing behind them
+-- ---- a factor and a product with nothing after them
 
 no_star : (factor : Bool → Grammar Expression) (free : Bool) (es : List Expression) (o : Option Mark) → (kind_at o ≡ kinds.Star → ⊥) → goes_at (star_cases factor free es) o ≡ false
 no_star factor free es None s = refl

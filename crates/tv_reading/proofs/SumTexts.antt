@@ -223,7 +223,7 @@ draw_back (suc n) true k h ms rest f =
     record { it = (plain (drawn k), (plain (fixed kinds.LeftRound), (plain (fixed kinds.RightRound), tt))); left = i.rest; text = f.text ∙ ap (λ (us : List Mark). plain (drawn k) ∷ us) (g.text ∙ ap (λ (us : List Mark). plain (fixed kinds.LeftRound) ∷ us) i.text); same = i.same; is = refl }
 draw_back n false k h ms rest f = let e : false ≡ true = h refl in absurd cc
 
--- "(" in front and ")" behind
+-- "(" in front and ")" after
 pub enclosed : {X : Type 0} (l : Grammar X) (x : X) (ms : List Mark) (rest : List Symbol) → Back l x ms (fixed kinds.RightRound ∷ rest) → Back (then l closed) x ms rest
 enclosed l x ms rest b =
     let g = front (fixed kinds.RightRound) b.left rest (λ e. cc) b.same in

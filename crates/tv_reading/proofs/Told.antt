@@ -159,5 +159,5 @@ module _ (old now : Stand) (result : Result Cond PartFault) (reads : IsRead cond
   condition_depth_now = by result condition_found
     where
       by : (r : Result Cond PartFault) → IfOk r (λ c. IsLongest (IsCondition (condition_levels old)) (condition c) (left old) (left now)) → IfOk r (λ c. condition_depth (condition c) ≤ 400)
-      by (Ok c) w = let h = condition_shallow (w.is []) in let few = condition_few old.grows old.level in omega arith
+      by (Ok c) w = let h = condition_shallow (w.is []) in let bounded = condition_few old.grows old.level in omega arith
       by (Err f) w = tt

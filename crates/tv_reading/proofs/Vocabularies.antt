@@ -1,4 +1,4 @@
--- The symbols of the tokens that a sum or a condition has, under each vocabulary that the names behind it begin.
+-- The symbols of the tokens that a sum or a condition has, under each vocabulary that the names after it begin.
 use Rattle.std.proofs.Common.{◌≡◌, ℕ, suc, ◌+◌, ◌^◌, ◌<◌, Bool, true, false, List, [], ◌∷◌, ◌++◌, drop, length, Option, Some, None, cond, refl, sym, ap, subst, ◌∙◌, append_assoc, length-append, arith}
 use Rattle.std.proofs.lemmas.List.{drop-drop}
 use Rattle.std.proofs.lemmas.Bool.Decides.{nat_tests}
@@ -166,7 +166,7 @@ number_by n h = by (nat_lt n (2 ^ 62)) h
     by true g = refl
     by false g = absurd cc
 
--- the symbol of a token, the draws behind it, and that it is no colon
+-- the symbol of a token, the draws after it, and that it is no colon
 record Same (v : Vocabulary) (names : List Word) (draws : ℕ) (kind : TokenKind) (w : Word) : Type 0 where
   symbol : symbol_by v false draws kind w ≡ symbol_of (mark_by true names draws kind w)
   no_colon : is_colon kind ≡ false
@@ -222,7 +222,7 @@ one_more v s u t passed text grows e b h w =
 
 -- ---- what is read, as a text over a vocabulary
 
--- The tokens from the one place to the other are a text that stands for x, over the vocabulary, whatever stands behind them.
+-- The tokens from the one place to the other are a text that stands for x, over the vocabulary, whatever stands after them.
 pub record ReadOver {X : Type 0} (IsText : X → List Symbol → List Symbol → Type 0) (x : X) (v : Vocabulary) (s u : Stand) : Type 0 where
   pub tokens : List Token
   pub parts : drop s.at s.tokens ≡ tokens ++ drop u.at u.tokens

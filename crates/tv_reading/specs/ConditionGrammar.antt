@@ -1,4 +1,4 @@
--- The grammar of conditions as it is read: behind a bracket it may be a value or a test that comes.
+-- The grammar of conditions as it is read: after a bracket it may be a value or a test that comes.
 use Rattle.std.specs.Prelude.{ℕ, zero, suc, Bool, true, false, List, [], ◌∷◌, ◌++◌, Option, Some, None}
 use Rattle.tv_language.specs.declared.token.TokenKind.{TokenKind}
 use Rattle.tv_language.specs.declared.token.TokenKind.TheVariants as kinds
@@ -12,12 +12,12 @@ use Rattle.tv_grammar.specs.Langs.{unit, then, mapped, stop, go, headed, turns, 
 use Rattle.tv_reading.specs.Marks.{Kind, Syntax, Deep, Mark, plain}
 use Rattle.tv_reading.specs.SumGrammar.{Grammar, Behind, closed, factor_cases, below, star_cases, sum_cases, factor_at, product_at, sum_at}
 
--- a sum without a relation behind it, or a part of a condition
+-- a sum without a relation after it, or a part of a condition
 pub data Thing : Type 0 where
   value : Expression → Thing
   tested : Condition → Thing
 
--- behind a value: a relation, if one comes
+-- after a value: a relation, if one comes
 abbrev pub relation_by : {X : Type 0} → Option Relation → (Relation → Expression → X) → Grammar Expression → Behind X
 relation_by None make sum = stop Syntax
 relation_by (Some r) make sum = go (mapped (make r) sum)
@@ -30,7 +30,7 @@ relation_cases sum (value a) (plain (fixed kind)) = relation_by (relation_of kin
 relation_cases sum (value a) _ = stop Syntax
 relation_cases sum (tested c) _ = stop Syntax
 
--- behind a factor: the rest of its product, of its sum, and a relation
+-- after a factor: the rest of its product, of its sum, and a relation
 abbrev pub tail : (Kind → Bool) → ℕ → Expression → Grammar Thing
 tail kept n f =
     then (mapped (gathered trees.product) (turns (star_cases (factor_at kept n) true) (f ∷ []))) (λ p.
@@ -41,7 +41,7 @@ abbrev pub opened : (Kind → Bool) → ℕ → Thing → Grammar Thing
 opened kept n (tested c) = unit (tested c)
 opened kept n (value e) = tail kept n e
 
--- where a test is wanted, a value without a relation is at fault behind it
+-- where a test is wanted, a value without a relation is at fault after it
 abbrev pub as_test : Thing → Option Condition
 as_test (value e) = None
 as_test (tested c) = Some c
@@ -81,7 +81,7 @@ condition_from conjunction c = mapped (joined some_of) (turns (more_cases is_or 
 abbrev pub condition_over : Grammar Condition → Grammar Condition
 condition_over literal = then (conjunction_over literal) (condition_from (conjunction_over literal))
 
--- behind a "(": a value, or a test and what is joined to it
+-- after a "(": a value, or a test and what is joined to it
 abbrev pub continued : Grammar Condition → Thing → Grammar Thing
 continued literal (value a) = unit (value a)
 continued literal (tested c) = then (conjunction_from literal c) (λ d. mapped tested (condition_from (conjunction_over literal) d))

@@ -97,7 +97,7 @@ marks_from text grows names draws (t ∷ ts) =
 abbrev pub left : Stand → List Mark
 left s = marks_from s.text s.grows s.names s.draws (drop s.at s.tokens)
 
--- behind a token that is read
+-- after a token that is read
 abbrev pub past : Stand → Token → Stand
 past s t = record {
   text = s.text;

@@ -24,7 +24,7 @@ begun text tokens names grows = record { text = text; tokens = tokens; grows = g
 abbrev pub moved : Stand → ℕ → ℕ → Stand
 moved s at level = record { text = s.text; tokens = s.tokens; grows = s.grows; level = level; at = at; names = s.names; draws = s.draws }
 
--- behind one more token, whose name is not counted; the last token stays
+-- after one more token, whose name is not counted; the last token stays
 abbrev pub taken : Stand → Stand
 taken s = moved s (cond (nat_lt s.at (length s.tokens - 1)) (s.at + 1) s.at) s.level
 

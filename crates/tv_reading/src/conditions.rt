@@ -19,7 +19,7 @@ use crate::trees::Made;
 use tv_language::{TokenKind, relation_of};
 use tv_program::Cond;
 
-/// A relation behind a sum, if one comes.
+/// A relation after a sum, if one comes.
 fn related(source: &Source, cursor: &mut Cursor, levels: u32, made: Made) -> Result<Piece, Reason>
     ensures reads { let before = left (stand source.now cursor.old) in
         let after = left (stand source.now cursor.new) in
@@ -36,7 +36,7 @@ fn related(source: &Source, cursor: &mut Cursor, levels: u32, made: Made) -> Res
     }
 }
 
-/// The rest of a product, of a sum, and a relation behind a factor.
+/// The rest of a product, of a sum, and a relation after a factor.
 fn tail(source: &Source, cursor: &mut Cursor, levels: u32, first: Made) -> Result<Piece, Reason>
     ensures reads { let before = left (stand source.now cursor.old) in
         let after = left (stand source.now cursor.new) in
@@ -118,7 +118,7 @@ fn thing(source: &Source, cursor: &mut Cursor, levels: u32) -> Result<Piece, Rea
     }
 }
 
-/// What stands behind a `(`, the `)`, and what may follow it, where a value may stand in the brackets.
+/// What follows a `(`, the `)`, and what may follow it, where a value may stand in the brackets.
 #[cycle(conditions)]
 fn bracketed(source: &Source, cursor: &mut Cursor, levels: u32) -> Result<Piece, Reason>
     requires deeper { levels + 1 < 2 ^ 32 }
@@ -155,7 +155,7 @@ fn continued(
     }
 }
 
-/// What stands behind a `!` at the front of a thing.
+/// What follows a `!` at the front of a thing.
 #[cycle(conditions)]
 fn denied(source: &Source, cursor: &mut Cursor, levels: u32) -> Result<Piece, Reason>
     ensures reads { let before = left (stand source.now cursor.old) in
@@ -167,7 +167,7 @@ fn denied(source: &Source, cursor: &mut Cursor, levels: u32) -> Result<Piece, Re
     Ok(Piece::Test(negation(source.alloc, cond)?))
 }
 
-/// What stands behind a `!`.
+/// What follows a `!`.
 #[cycle(conditions)]
 fn negated(source: &Source, cursor: &mut Cursor, levels: u32) -> Result<Cond, Reason>
     ensures reads { let before = left (stand source.now cursor.old) in
@@ -206,7 +206,7 @@ fn plain(source: &Source, cursor: &mut Cursor, levels: u32) -> Result<Cond, Reas
     }
 }
 
-/// A condition behind a `(`, and the `)`.
+/// A condition after a `(`, and the `)`.
 #[cycle(conditions)]
 fn enclosed(source: &Source, cursor: &mut Cursor, levels: u32) -> Result<Cond, Reason>
     ensures reads { let before = left (stand source.now cursor.old) in
@@ -251,7 +251,7 @@ fn and(
     }
 }
 
-/// The literals behind the first ones of a conjunction.
+/// The literals after the first ones of a conjunction.
 #[cycle(conditions)]
 fn ands(
     source: &Source,
@@ -323,7 +323,7 @@ fn or(
     }
 }
 
-/// The conjunctions behind the first ones of a condition.
+/// The conjunctions after the first ones of a condition.
 #[cycle(conditions)]
 fn ors(
     source: &Source,

@@ -22,7 +22,7 @@ pub struct Cursor {
     pub recent: Recent,
 }
 
-/// A name, told those that are known.
+/// A name, given those that are known.
 #[inline(always)]
 fn name(grows: bool, names: &Names, recent: Recent, word: &[u8]) -> Part
     ensures { mark_of result ≡ name_mark grows word.now names.now }

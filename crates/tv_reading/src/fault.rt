@@ -9,7 +9,7 @@ pub enum PartFault {
     Deep { at: u32 },
     /// A name or a draw in a product of which an earlier factor has one.
     NotLinear { at: u32 },
-    /// A name beside 512 others, or a draw behind 64 others.
+    /// A name beside 512 others, or a draw after 64 others.
     TooMany { at: u32 },
     /// A name that is not known, where none is added.
     UnknownName { at: u32 },

@@ -7,7 +7,7 @@ use crate::trees::Made;
 use std::alloc::{AllocError, AllocFailed, Global};
 use tv_program::{Cond, Relation};
 
-/// A sum without a relation behind it, or a part of a condition.
+/// A sum without a relation after it, or a part of a condition.
 #[derive(Drop)]
 pub enum Piece {
     Value(Made),

@@ -14,7 +14,7 @@ pub enum Part {
     /// A name beside 512 others.
     NameTooMany,
     UnknownName,
-    /// A draw behind 64 others.
+    /// A draw after 64 others.
     DrawTooMany,
     Fixed(TokenKind),
 }
@@ -67,7 +67,7 @@ pub fn is_formula_word(word: &[u8]) -> bool
     is_word(word, b"at") || is_word(word, b"term")
 }
 
-/// The word `nondet`, told how many draws there are before it.
+/// The word `nondet`, given how many draws there are before it.
 #[inline(always)]
 pub fn draw(grows: bool, draws: u32) -> Part
     ensures { mark_of result ≡ draw_mark grows draws }

@@ -95,7 +95,7 @@ fn fault_at(reason: Reason, at: u32) -> PartFault
 }
 
 impl<'a> Reading<'a> {
-    /// A reading at the front of a text, told its tokens by `tv_language::scan`.
+    /// A reading at the front of a text, given its tokens by `tv_language::scan`.
     ///
     /// Where `grows` is true, a name that is not known is added, up to 512 of them, and there may be draws. Else no name is added,
     /// `nondet` stands in no text, and `at` and `term` are no names.
@@ -108,7 +108,7 @@ impl<'a> Reading<'a> {
     ) -> Reading<'a>
         requires short { length text.now + 1 < 2 ^ 32 }
         requires scanned { IsTokens 0 text.now list.now }
-        requires few { length names ≤ 512 }
+        requires bounded { length names ≤ 512 }
         ensures { result ≡ begun text.now list.now names grows }
     {
         Reading {
@@ -174,11 +174,11 @@ impl<'a> Reading<'a> {
         self.cursor.draws
     }
 
-    /// Goes to the place behind so many tokens, and counts brackets from this level on.
+    /// Goes to the place after so many tokens, and counts brackets from this level on.
     pub fn go(&mut self, place: u32, level: u32)
         requires fixed { self.old.grows ≡ false }
         requires within { place < length self.old.tokens }
-        requires few { level ≤ 64 }
+        requires bounded { level ≤ 64 }
         ensures { self.new ≡ moved self.old place level }
     {
         self.cursor.at = place;
@@ -262,7 +262,7 @@ impl<'a> Reading<'a> {
         // Such a sum is read.
         ensures only { (e : Expression) (rest : List Mark) → IsLongest (IsSum (sum_levels self.old)) e (left self.old) rest →
             IsGiven result (λ f. (expression f ≡ e) × (left self.new ≡ rest)) }
-        // Else the first token at fault is told, with the first kind of fault that it is.
+        // Else the first token at fault is reported, with the first kind of fault that it is.
         ensures refused { OnRefusal result (λ k. Refuses (λ kept n. sum_at kept n true) (sum_levels self.old) k (left self.old) (left self.new)) }
         ensures placed { IsPlaced result self.new }
         ensures passed { Passes self.old self.new }

@@ -12,5 +12,5 @@ pub struct Source<'a> {
     pub level: u32,
     pub alloc: Global,
     // The number of a token fits 32 bits.
-    ghost few: { length list.now < 2 ^ 32 },
+    ghost bounded: { length list.now < 2 ^ 32 },
 }

@@ -18,7 +18,7 @@ use crate::trees::{
 };
 use tv_language::TokenKind;
 
-/// `)` behind what is read.
+/// `)` after what is read.
 pub fn close<T: Drop>(source: &Source, cursor: &mut Cursor, value: T) -> Result<T, Reason>
     ensures reads { Gives (λ v. v) result (left (stand source.now cursor.new)) ((closed value).read (left (stand source.now cursor.old))) }
     ensures passed { Keeps source.now cursor.old cursor.new }
@@ -32,7 +32,7 @@ pub fn close<T: Drop>(source: &Source, cursor: &mut Cursor, value: T) -> Result<
     }
 }
 
-/// `()` behind `nondet`.
+/// `()` after `nondet`.
 fn draw_brackets(source: &Source, cursor: &mut Cursor, made: Made) -> Result<Made, Reason>
     ensures reads { Gives made_view result (left (stand source.now cursor.new)) ((brackets (made_view made)).read (left (stand source.now cursor.old))) }
     ensures passed { Keeps source.now cursor.old cursor.new }
@@ -126,7 +126,7 @@ pub fn factor(source: &Source, cursor: &mut Cursor, levels: u32, free: bool) -> 
     }
 }
 
-/// What stands behind a `(`.
+/// What follows a `(`.
 #[cycle(sums)]
 fn bracketed(source: &Source, cursor: &mut Cursor, levels: u32, free: bool) -> Result<Made, Reason>
     ensures reads { let before = left (stand source.now cursor.old) in
@@ -138,7 +138,7 @@ fn bracketed(source: &Source, cursor: &mut Cursor, levels: u32, free: bool) -> R
     close(source, cursor, made)
 }
 
-/// What stands behind a sign.
+/// What follows a sign.
 #[cycle(sums)]
 fn signed(source: &Source, cursor: &mut Cursor, levels: u32, free: bool) -> Result<Made, Reason>
     ensures reads { let before = left (stand source.now cursor.old) in
@@ -174,7 +174,7 @@ fn star(
     }
 }
 
-/// The factors behind the first ones of a product.
+/// The factors after the first ones of a product.
 #[cycle(sums)]
 fn stars(
     source: &Source,
@@ -264,7 +264,7 @@ fn sign(
     }
 }
 
-/// The products behind the first ones of a sum.
+/// The products after the first ones of a sum.
 #[cycle(sums)]
 fn signs(
     source: &Source,

@@ -26,12 +26,12 @@ offered about number ps (q ∷ qs) (Chosen tree ∷ proofs) h = (
 )
 
 pub endless_fitted : (about : CaseSystem) (node : Node) (pieces : List Marked) (proofs : List Proof) → HasOwn node pieces 0 [] proofs → length pieces < 2 ^ 32 → All (PieceShape about 0 false) pieces → AllZip (GoesOn about pieces) pieces proofs → IsEndlessNode about pieces node
-endless_fitted about node pieces proofs own few each on = record {
+endless_fitted about node pieces proofs own bounded each on = record {
   fitted = node_fitted (about_with about) endless 1 node pieces 0 [] proofs own (record {
     said = tt;
     ranked = λ e. refl;
     small = omega arith;
-    few = few;
+    bounded = bounded;
     each = each;
     offered = λ number. offered about number pieces pieces proofs on;
     below = tt;

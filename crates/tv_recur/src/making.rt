@@ -32,7 +32,7 @@ pub(crate) fn rows_before(
     case: &Case,
     variables: u32,
 ) -> Result<Vec<Row>, CoverFault>
-    requires few { variables + case.now.draws < 2 ^ 32 - 1 }
+    requires bounded { variables + case.now.draws < 2 ^ 32 - 1 }
     requires terms { All (λ u. width u.term ≡ variables + case.now.draws) (case_view case.now).updates }
     requires even { All (λ r. width r ≡ variables) rows.now }
     ensures rows { IfOk result (λ v. AreRowsBefore (case_view case.now) rows.now v.items) }
@@ -65,7 +65,7 @@ pub(crate) fn rows_put(alloc: Global, rows: &[Row], terms: &[Row]) -> Result<Vec
 
 /// The variables as terms of their own.
 fn variable_rows(alloc: Global, columns: u32) -> Result<Vec<Row>, AllocError>
-    requires few { columns < 2 ^ 32 - 1 }
+    requires bounded { columns < 2 ^ 32 - 1 }
     ensures { IfOk result (λ v. v.items ≡ columns_from columns 0 columns) }
 {
     let mut rows = Vec::new(alloc);
@@ -81,7 +81,7 @@ pub(crate) fn numbers_as_rows(
     columns: u32,
     numbers: &[i128],
 ) -> Result<Vec<Row>, AllocError>
-    requires few { columns < 2 ^ 32 - 1 }
+    requires bounded { columns < 2 ^ 32 - 1 }
     requires narrow { All (IsWithin 62) numbers.now }
     ensures { IfOk result (λ v. v.items ≡ number_rows columns numbers.now) }
 {
@@ -98,7 +98,7 @@ pub(crate) fn drawn_terms(
     columns: u32,
     draws: &[i128],
 ) -> Result<Vec<Row>, AllocError>
-    requires few { columns < 2 ^ 32 - 1 }
+    requires bounded { columns < 2 ^ 32 - 1 }
     requires narrow { All (IsWithin 62) draws.now }
     ensures { IfOk result (λ v. v.items ≡ drawn_terms columns draws.now) }
 {

@@ -19,7 +19,7 @@ pub(crate) fn piece_of(
     location: u32,
     rows: &[Row],
 ) -> Result<Marked, AllocError>
-    requires few { variables < 2 ^ 32 - 1 }
+    requires bounded { variables < 2 ^ 32 - 1 }
     ensures { IfOk result (λ piece. piece ≡ on_piece variables location rows.now) }
 {
     match Marked::from_rows(alloc, location, Mark::Go, variables, rows, &[])? {
@@ -35,7 +35,7 @@ pub(crate) fn endless_node(
     list: Vec<Marked>,
     proofs: Vec<Proof>,
 ) -> Result<Node, AllocError>
-    requires few { length list.items < 2 ^ 32 }
+    requires bounded { length list.items < 2 ^ 32 }
     requires shape { All (PieceShape (cases_of about.now) 0 false) list.items }
     requires goes_on { AllZip (GoesOn (cases_of about.now) list.items) list.items proofs.items }
     ensures { IfOk result (IsEndlessNode (cases_of about.now) list.items) }

@@ -33,7 +33,7 @@ fn push_unchanged(
     update: &Update,
     rows: &mut Vec<Row>,
 ) -> Result<(), CoverFault>
-    requires few { columns < 2 ^ 32 - 1 }
+    requires bounded { columns < 2 ^ 32 - 1 }
     requires even { width update.now.term ≡ columns }
     requires inside { update.now.variable < columns }
     ensures pushed { IfOk result (λ _. rows.new.items ≡ rows.old.items ++ added columns update.now ∷ taken_off columns update.now ∷ []) }
@@ -60,7 +60,7 @@ fn push_all_unchanged(
     updates: &[Update],
     rows: &mut Vec<Row>,
 ) -> Result<(), CoverFault>
-    requires few { columns < 2 ^ 32 - 1 }
+    requires bounded { columns < 2 ^ 32 - 1 }
     requires even { All (λ u. width u.term ≡ columns) updates.now }
     requires inside { All (λ u. u.variable < columns) updates.now }
     ensures pushed { IfOk result (λ _. rows.new.items ≡ rows.old.items ++ unchanged_rows columns updates.now) }

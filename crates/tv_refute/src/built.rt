@@ -53,7 +53,7 @@ pub(crate) fn read_numbers(
 ) -> bool
     requires size { count ≤ length numbers.old }
     requires some { 0 < count }
-    requires few { count ≤ 576 }
+    requires bounded { count ≤ 576 }
     ensures size { length numbers.new ≡ length numbers.old }
     ensures told { AreTold result count (λ k. KnownHeld (built known.now) (further column k))
         (λ k. known_number (built known.now) (further column k)) numbers.new }
@@ -93,7 +93,7 @@ fn lessen(
 ) -> bool
     requires size { count ≤ length numbers.old }
     requires some { 0 < count }
-    requires few { count ≤ 576 }
+    requires bounded { count ≤ 576 }
     ensures size { length numbers.new ≡ length numbers.old }
     ensures told { let k = built second.now in AreTold result count
         (λ i. KnownHeld k (further column i) × LessHeld column more (get_or numbers.old i (pos 0)) (known_number k (further column i)))
@@ -121,7 +121,7 @@ fn lessen_by(
     requires room { count ≤ length others.old }
     requires size { count ≤ length numbers.old }
     requires some { 0 < count }
-    requires few { count ≤ 576 }
+    requires bounded { count ≤ 576 }
     ensures size { length numbers.new ≡ length numbers.old }
     ensures told { let k = built second.now in AreTold result count
         (λ i. KnownHeld k (further column i) × LessHeld column more (get_or numbers.old i (pos 0)) (known_number k (further column i)))

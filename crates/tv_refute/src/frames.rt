@@ -41,7 +41,7 @@ pub(crate) fn sums_at(
     requires many { length multipliers.now ≡ length (known_at frames.now) }
     requires size { count ≤ length totals.old }
     requires some { 0 < count }
-    requires few { count ≤ 576 }
+    requires bounded { count ≤ 576 }
     ensures size { length totals.new ≡ length totals.old }
     ensures told { let rows = known_at frames.now in AreTold result count
         (λ k. ColumnHeld multipliers.now rows (further column k))
@@ -128,7 +128,7 @@ fn add_known(
 ) -> bool
     requires size { count ≤ length totals.old }
     requires some { 0 < count }
-    requires few { count ≤ 576 }
+    requires bounded { count ≤ 576 }
     requires held { AreHeld count totals.old }
     ensures size { length totals.new ≡ length totals.old }
     ensures told { let k = built row.now in AreTold result count
@@ -156,7 +156,7 @@ fn add_read(
     requires room { count ≤ length numbers.old }
     requires size { count ≤ length totals.old }
     requires some { 0 < count }
-    requires few { count ≤ 576 }
+    requires bounded { count ≤ 576 }
     requires held { AreHeld count totals.old }
     ensures size { length totals.new ≡ length totals.old }
     ensures told { let k = built row.now in AreTold result count

@@ -82,7 +82,7 @@ fn times(coefficient: i128, part: i128) -> i128
 
 /// The sum of a number that is a sum of so many products, and one more.
 fn plus(parts: usize, total: Wide, part: Wide) -> Wide
-    requires few { parts < 2 ^ 32 }
+    requires bounded { parts < 2 ^ 32 }
     requires total { IsSmall parts total }
     requires part { IsSmall 1 part }
     ensures whole { whole_of result ≡ whole_of total +ℤ whole_of part }

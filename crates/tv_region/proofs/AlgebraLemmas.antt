@@ -118,7 +118,7 @@ both_is a b l first second lists fa fb e f h = record {
   reduced = h.reduced;
   made = λ r m. elim (h.from r m) [ inl x ↦ inl (row_in a l first e r x) | inr x ↦ inr (row_in b l second f r x) ];
   wide = λ r m. elim (h.from r m) [ inl x ↦ width_in a.variables a.locations a fa l first e r x | inr x ↦ width_in a.variables a.locations b fb l second f r x ];
-  few = subst (λ x. length lists ≤ length x * length (lists_at l b.pieces.items)) e (subst (λ x. length lists ≤ length first * length x) f h.few);
+  bounded = subst (λ x. length lists ≤ length x * length (lists_at l b.pieces.items)) e (subst (λ x. length lists ≤ length first * length x) f h.bounded);
 }
   where
     same : (xs : List ℤ) → length xs ≡ a.variables → some_met xs lists ≡ (has_state a l xs && has_state b l xs)
@@ -131,7 +131,7 @@ either_is a b l first second lists fa fb e f h = record {
   reduced = h.reduced;
   made = λ r m. elim (h.from r m) [ inl x ↦ inl (row_in a l first e r x) | inr x ↦ inr (row_in b l second f r x) ];
   wide = λ r m. elim (h.from r m) [ inl x ↦ width_in a.variables a.locations a fa l first e r x | inr x ↦ width_in a.variables a.locations b fb l second f r x ];
-  few = subst (λ x. length lists ≤ length x + length (lists_at l b.pieces.items)) e (subst (λ x. length lists ≤ length first + length x) f h.few);
+  bounded = subst (λ x. length lists ≤ length x + length (lists_at l b.pieces.items)) e (subst (λ x. length lists ≤ length first + length x) f h.bounded);
 }
   where
     same : (xs : List ℤ) → length xs ≡ a.variables → some_met xs lists ≡ (has_state a l xs || has_state b l xs)
@@ -151,7 +151,7 @@ module _ (a : Region) (l : ℕ) (pieces : List (List Linear)) (f : IsRegion a.va
     reduced = h.reduced;
     made = λ r m. denied_in r (h.from r m);
     wide = λ r m. wide r (denied_in r (h.from r m));
-    few = subst (λ x. length lists ≤ row_product x) e h.few;
+    bounded = subst (λ x. length lists ≤ row_product x) e h.bounded;
   }
     where
       same : (xs : List ℤ) → length xs ≡ a.variables → some_met xs lists ≡ not (has_state a l xs)
@@ -175,7 +175,7 @@ all_there xs (rows ∷ ls) h = elim (zero_factor (length rows) (row_product ls) 
 
 -- a list without rows is met everywhere
 pub complement_zero : (n : ℕ) (ls : List (List Linear)) → row_product ls ≡ 0 → IsComplement n ls []
-complement_zero n ls z = record { met = λ xs e. ap not (sym (all_there xs ls z)); reduced = none_reduced n; from = λ r m. absurd m; few = omega arith }
+complement_zero n ls z = record { met = λ xs e. ap not (sym (all_there xs ls z)); reduced = none_reduced n; from = λ r m. absurd m; bounded = omega arith }
 
 -- ---- whole regions
 module _ (n m : ℕ) (Only Out : ℕ → List ℤ → Type 0) (Made : ℕ → Linear → Type 0) (Few : ℕ → ℕ → Type 0) (region : Region) (h : IsAssembled n m Only Out Made Few region) where
@@ -189,7 +189,7 @@ module _ (n m : ℕ) (Only Out : ℕ → List ℤ → Type 0) (Made : ℕ → Li
   ])
 
   pub few_pieces : ((l : ℕ) → Few l 0) → (l : ℕ) → Few l (count_at l region)
-  few_pieces zero_few l = elim (cases_lt l m) [ inl b ↦ (h.at l b).few | inr b ↦ subst (Few l) (sym (ap length (h.none l b))) (zero_few l) ]
+  few_pieces zero_few l = elim (cases_lt l m) [ inl b ↦ (h.at l b).bounded | inr b ↦ subst (Few l) (sym (ap length (h.none l b))) (zero_few l) ]
 
 not_out : (b goal : Bool) → (b ≡ false → goal ≡ false) → goal ≡ true → b ≡ true
 not_out true goal h k = refl
@@ -208,7 +208,7 @@ both_region a b region h = record {
   );
   reduced = reduced_pieces a.variables a.locations (InBoth a b) (OutOfBoth a b) (OfEither a b) (λ l k. k ≤ count_at l a * count_at l b) region h;
   from = row_made a.variables a.locations (InBoth a b) (OutOfBoth a b) (OfEither a b) (λ l k. k ≤ count_at l a * count_at l b) region h;
-  few = few_pieces a.variables a.locations (InBoth a b) (OutOfBoth a b) (OfEither a b) (λ l k. k ≤ count_at l a * count_at l b) region h (λ l. omega arith);
+  bounded = few_pieces a.variables a.locations (InBoth a b) (OutOfBoth a b) (OfEither a b) (λ l k. k ≤ count_at l a * count_at l b) region h (λ l. omega arith);
   differences = λ d f r m. of_both a b d f m.0 r (row_made a.variables a.locations (InBoth a b) (OutOfBoth a b) (OfEither a b) (λ l k. k ≤ count_at l a * count_at l b) region h m.0 r m.1);
 }
 
@@ -221,7 +221,7 @@ either_region a b region h = record {
   );
   reduced = reduced_pieces a.variables a.locations (InEither a b) (OutOfEither a b) (OfEither a b) (λ l k. k ≤ count_at l a + count_at l b) region h;
   from = row_made a.variables a.locations (InEither a b) (OutOfEither a b) (OfEither a b) (λ l k. k ≤ count_at l a + count_at l b) region h;
-  few = few_pieces a.variables a.locations (InEither a b) (OutOfEither a b) (OfEither a b) (λ l k. k ≤ count_at l a + count_at l b) region h (λ l. omega arith);
+  bounded = few_pieces a.variables a.locations (InEither a b) (OutOfEither a b) (OfEither a b) (λ l k. k ≤ count_at l a + count_at l b) region h (λ l. omega arith);
   differences = λ d f r m. of_both a b d f m.0 r (row_made a.variables a.locations (InEither a b) (OutOfEither a b) (OfEither a b) (λ l k. k ≤ count_at l a + count_at l b) region h m.0 r m.1);
 }
 
@@ -238,7 +238,7 @@ rest_region a region h = record {
   );
   reduced = reduced_pieces a.variables a.locations (InRest a) (OutOfRest a) (OfRest a) (λ l k. k ≤ denied_count a l) region h;
   from = row_made a.variables a.locations (InRest a) (OutOfRest a) (OfRest a) (λ l k. k ≤ denied_count a l) region h;
-  few = few_pieces a.variables a.locations (InRest a) (OutOfRest a) (OfRest a) (λ l k. k ≤ denied_count a l) region h (λ l. omega arith);
+  bounded = few_pieces a.variables a.locations (InRest a) (OutOfRest a) (OfRest a) (λ l k. k ≤ denied_count a l) region h (λ l. omega arith);
   differences = λ d r m. (let w = row_made a.variables a.locations (InRest a) (OutOfRest a) (OfRest a) (λ l k. k ≤ denied_count a l) region h m.0 r m.1 in subst IsDifference w.is (denial_difference w.row (d w.row (m.0, w.among))));
 }
 

@@ -21,7 +21,7 @@ pub record IsPruning (n : ℕ) (all left kept : List (List Linear)) : Type 0 whe
   pub apart_left : AreApart IsUnder all → AreApart IsUnder left
   pub apart_kept : AreApart IsUnder all → AreApart IsUnder kept
   pub apart : AreApart IsUnder all → (first second : List Linear) → Has left first → Has kept second → (IsUnder first second → ⊥) × (IsUnder second first → ⊥)
-  pub few : length left + length kept ≤ length all
+  pub bounded : length left + length kept ≤ length all
 
 or_dropped : (a l k : Bool) → (l ≡ true → k ≡ true) → (a || k) ≡ ((a || l) || k)
 or_dropped true l k h = refl
@@ -53,7 +53,7 @@ module _ (n : ℕ) (all left rest kept : List (List Linear)) (list : List Linear
     apart_left = λ o. (apart_rest o).0;
     apart_kept = h.apart_kept;
     apart = λ o l k m i. h.apart o l k (in_left l m) i;
-    few = (let d = length_push rest list in let g = ap (λ (ls : List (List Linear)). length ls) e in let f = h.few in omega (arith, d, g, f));
+    bounded = (let d = length_push rest list in let g = ap (λ (ls : List (List Linear)). length ls) e in let f = h.bounded in omega (arith, d, g, f));
   }
 
   pub pruning_kept : (new : List (List Linear)) → new ≡ kept ++ list ∷ [] → IsPruning n all rest new
@@ -64,7 +64,7 @@ module _ (n : ℕ) (all left rest kept : List (List Linear)) (list : List Linear
     apart_left = λ o. (apart_rest o).0;
     apart_kept = λ o. apart_push IsUnder kept list (h.apart_kept o) (λ l m. (let w = h.apart o list l last_left m in (w.1, w.0)));
     apart = λ o l k m i. elim (has_push kept list k i) [ inl j ↦ h.apart o l k (in_left l m) j | inr j ↦ subst (λ x. (IsUnder l x → ⊥) × (IsUnder x l → ⊥)) j ((apart_rest o).1 l m) ];
-    few = (let d = length_push rest list in let q = length_push kept list in let g = ap (λ (ls : List (List Linear)). length ls) e in let f = h.few in omega (arith, d, q, g, f));
+    bounded = (let d = length_push rest list in let q = length_push kept list in let g = ap (λ (ls : List (List Linear)). length ls) e in let f = h.bounded in omega (arith, d, q, g, f));
   }
 
 -- ---- what stays so
@@ -85,7 +85,7 @@ module _ (n : ℕ) (old new : List (List Linear)) (p : IsPruned n old new) where
     met = λ xs e. p.met xs e ∙ h.met xs e;
     reduced = reduced_stays h.reduced;
     from = λ r m. h.from r (row_stays r m);
-    few = (let a = p.few in let b = h.few in omega (arith, a, b));
+    bounded = (let a = p.bounded in let b = h.bounded in omega (arith, a, b));
   }
 
   pub union_pruned : (first second : List (List Linear)) → IsUnion n first second old → IsUnion n first second new
@@ -93,7 +93,7 @@ module _ (n : ℕ) (old new : List (List Linear)) (p : IsPruned n old new) where
     met = λ xs e. p.met xs e ∙ h.met xs e;
     reduced = reduced_stays h.reduced;
     from = λ r m. h.from r (row_stays r m);
-    few = (let a = p.few in let b = h.few in omega (arith, a, b));
+    bounded = (let a = p.bounded in let b = h.bounded in omega (arith, a, b));
   }
 
   pub any_pruned : (l : ℕ) (cs : List LinearCase) (target : List Piece) → IsBeforeAny n l cs target old → IsBeforeAny n l cs target new
@@ -102,10 +102,10 @@ module _ (n : ℕ) (old new : List (List Linear)) (p : IsPruned n old new) where
     all = λ tame xs e s. p.met xs e ∙ h.all tame xs e s;
     reduced = reduced_stays h.reduced;
     from = λ r m. h.from r (row_stays r m);
-    few = (let a = p.few in let b = h.few in omega (arith, a, b));
+    bounded = (let a = p.bounded in let b = h.bounded in omega (arith, a, b));
   }
 
--- lists that are added to none, and others behind them
+-- lists that are added to none, and others after them
 pub union_is : (n : ℕ) (first second kept new : List (List Linear)) → IsEach n [] [] first kept → IsEach n kept [] second new → IsUnion n first second new
 union_is n first second kept new g h = record {
   met = λ xs e. h.met xs e ∙ (λ i. g.met xs e i || some_met xs second);
@@ -114,5 +114,5 @@ union_is n first second kept new g h = record {
     | inl x ↦ elim (g.from r x) [ inl y ↦ absurd y | inr y ↦ elim y [ inl z ↦ absurd z | inr z ↦ inl z ] ]
     | inr x ↦ elim x [ inl z ↦ absurd z | inr z ↦ inr z ]
   ];
-  few = (let a = g.few in let b = h.few in omega (arith, a, b));
+  bounded = (let a = g.bounded in let b = h.bounded in omega (arith, a, b));
 }

@@ -28,7 +28,7 @@ pub record IsBoth (a b region : Region) : Type 0 where
   pub exact : (l : ℕ) (xs : List ℤ) → IsPlaceOf a l xs → InRegion l xs region ↔ (InRegion l xs a × InRegion l xs b)
   pub reduced : IsReduced region
   pub from : (l : ℕ) (r : Linear) → HasRowAt region l r → OfEither a b l r
-  pub few : (l : ℕ) → count_at l region ≤ count_at l a * count_at l b
+  pub bounded : (l : ℕ) → count_at l region ≤ count_at l a * count_at l b
   pub differences : IsOfDifferences a → IsOfDifferences b → IsOfDifferences region
 
 -- the region has the states that one of the two has
@@ -37,7 +37,7 @@ pub record IsEither (a b region : Region) : Type 0 where
   pub exact : (l : ℕ) (xs : List ℤ) → IsPlaceOf a l xs → InRegion l xs region ↔ (InRegion l xs a ⊎ InRegion l xs b)
   pub reduced : IsReduced region
   pub from : (l : ℕ) (r : Linear) → HasRowAt region l r → OfEither a b l r
-  pub few : (l : ℕ) → count_at l region ≤ count_at l a + count_at l b
+  pub bounded : (l : ℕ) → count_at l region ≤ count_at l a + count_at l b
   pub differences : IsOfDifferences a → IsOfDifferences b → IsOfDifferences region
 
 -- how many pieces the complement has at a location if none is left out
@@ -50,7 +50,7 @@ pub record IsRest (a region : Region) : Type 0 where
   pub exact : (l : ℕ) (xs : List ℤ) → IsPlaceOf a l xs → InRegion l xs region ↔ (¬ InRegion l xs a)
   pub reduced : IsReduced region
   pub from : (l : ℕ) (r : Linear) → HasRowAt region l r → OfRest a l r
-  pub few : (l : ℕ) → count_at l region ≤ denied_count a l
+  pub bounded : (l : ℕ) → count_at l region ≤ denied_count a l
   pub differences : IsOfDifferences a → IsOfDifferences region
 
 -- what a refusal shows

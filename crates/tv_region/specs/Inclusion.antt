@@ -21,4 +21,4 @@ pub record IsPruned (n : ℕ) (old new : List (List Linear)) : Type 0 where
   pub met : (xs : List ℤ) → length xs ≡ n → some_met xs new ≡ some_met xs old
   pub among : (list : List Linear) → Has new list → Has old list
   pub apart : AreApart IsUnder old → AreApart IsUnder new
-  pub few : length new ≤ length old
+  pub bounded : length new ≤ length old

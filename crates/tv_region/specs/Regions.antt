@@ -87,7 +87,7 @@ pub record IsAt (n : ℕ) (Only Out : List ℤ → Type 0) (Made : Linear → Ty
   pub reduced : AreReduced n lists
   pub made : (r : Linear) → InSome lists r → Made r
   pub wide : (r : Linear) → InSome lists r → columns r ≡ n
-  pub few : Few (length lists)
+  pub bounded : Few (length lists)
 
 -- the region has such lists at each location
 pub record IsAssembled (n m : ℕ) (Only Out : ℕ → List ℤ → Type 0) (Made : ℕ → Linear → Type 0) (Few : ℕ → ℕ → Type 0) (region : Region) : Type 0 where

@@ -23,7 +23,7 @@ fn both_at(
     location: u32,
     budget: &Budget,
 ) -> Result<Vec<Vec<Row>>, RegionFault>
-    requires few { a.now.variables < 2 ^ 32 - 1 }
+    requires bounded { a.now.variables < 2 ^ 32 - 1 }
     requires first { IsRegion a.now.variables a.now.locations a.now }
     requires second { IsRegion a.now.variables a.now.locations b.now }
     ensures at { IfOk result (λ v. IsBothAt a.now b.now location (lists v)) }
@@ -42,7 +42,7 @@ fn either_at(
     location: u32,
     budget: &Budget,
 ) -> Result<Vec<Vec<Row>>, RegionFault>
-    requires few { a.now.variables < 2 ^ 32 - 1 }
+    requires bounded { a.now.variables < 2 ^ 32 - 1 }
     requires first { IsRegion a.now.variables a.now.locations a.now }
     requires second { IsRegion a.now.variables a.now.locations b.now }
     ensures at { IfOk result (λ v. IsEitherAt a.now b.now location (lists v)) }
@@ -60,7 +60,7 @@ pub(crate) fn rest_at(
     location: u32,
     budget: &Budget,
 ) -> Result<Vec<Vec<Row>>, RegionFault>
-    requires few { a.now.variables < 2 ^ 32 - 1 }
+    requires bounded { a.now.variables < 2 ^ 32 - 1 }
     requires fits { IsRegion a.now.variables a.now.locations a.now }
     ensures at { IfOk result (λ v. IsRestAt a.now location (lists v)) }
     ensures refused { IfErr result (IsRestFault a.now budget.now) }
@@ -74,7 +74,7 @@ struct BothOf<'a> {
     a: &'a Region,
     b: &'a Region,
     budget: &'a Budget,
-    ghost few: { a.now.variables < 2 ^ 32 - 1 },
+    ghost bounded: { a.now.variables < 2 ^ 32 - 1 },
     ghost first: { IsRegion a.now.variables a.now.locations a.now },
     ghost second: { IsRegion a.now.variables a.now.locations b.now },
 }
@@ -90,7 +90,7 @@ impl Located for BothOf<'_> {
 
     ghost made = { λ s l r. OfEither s.a.now s.b.now l r };
 
-    ghost few = { λ s l k. k ≤ count_at l s.a.now * count_at l s.b.now };
+    ghost bounded = { λ s l k. k ≤ count_at l s.a.now * count_at l s.b.now };
 
     ghost refused = { λ s fault. IsBothFault s.a.now s.b.now s.budget.now fault };
 
@@ -104,7 +104,7 @@ struct EitherOf<'a> {
     a: &'a Region,
     b: &'a Region,
     budget: &'a Budget,
-    ghost few: { a.now.variables < 2 ^ 32 - 1 },
+    ghost bounded: { a.now.variables < 2 ^ 32 - 1 },
     ghost first: { IsRegion a.now.variables a.now.locations a.now },
     ghost second: { IsRegion a.now.variables a.now.locations b.now },
 }
@@ -120,7 +120,7 @@ impl Located for EitherOf<'_> {
 
     ghost made = { λ s l r. OfEither s.a.now s.b.now l r };
 
-    ghost few = { λ s l k. k ≤ count_at l s.a.now + count_at l s.b.now };
+    ghost bounded = { λ s l k. k ≤ count_at l s.a.now + count_at l s.b.now };
 
     ghost refused = { λ s fault. IsEitherFault s.a.now s.b.now s.budget.now fault };
 
@@ -133,7 +133,7 @@ impl Located for EitherOf<'_> {
 struct RestOf<'a> {
     a: &'a Region,
     budget: &'a Budget,
-    ghost few: { a.now.variables < 2 ^ 32 - 1 },
+    ghost bounded: { a.now.variables < 2 ^ 32 - 1 },
     ghost fits: { IsRegion a.now.variables a.now.locations a.now },
 }
 
@@ -148,7 +148,7 @@ impl Located for RestOf<'_> {
 
     ghost made = { λ s l r. OfRest s.a.now l r };
 
-    ghost few = { λ s l k. k ≤ denied_count s.a.now l };
+    ghost bounded = { λ s l k. k ≤ denied_count s.a.now l };
 
     ghost refused = { λ s fault. IsRestFault s.a.now s.budget.now fault };
 
@@ -159,7 +159,7 @@ impl Located for RestOf<'_> {
 
 /// The states that both regions have.
 pub fn both(alloc: Global, a: &Region, b: &Region, budget: &Budget) -> Result<Region, RegionFault>
-    requires few { a.now.variables < 2 ^ 32 - 1 }
+    requires bounded { a.now.variables < 2 ^ 32 - 1 }
     requires first { IsRegion a.now.variables a.now.locations a.now }
     requires second { IsRegion a.now.variables a.now.locations b.now }
     ensures both { IfOk result (λ region. IsBoth a.now b.now region) }
@@ -170,7 +170,7 @@ pub fn both(alloc: Global, a: &Region, b: &Region, budget: &Budget) -> Result<Re
 
 /// The states that one of the regions has.
 pub fn either(alloc: Global, a: &Region, b: &Region, budget: &Budget) -> Result<Region, RegionFault>
-    requires few { a.now.variables < 2 ^ 32 - 1 }
+    requires bounded { a.now.variables < 2 ^ 32 - 1 }
     requires first { IsRegion a.now.variables a.now.locations a.now }
     requires second { IsRegion a.now.variables a.now.locations b.now }
     ensures either { IfOk result (λ region. IsEither a.now b.now region) }
@@ -181,7 +181,7 @@ pub fn either(alloc: Global, a: &Region, b: &Region, budget: &Budget) -> Result<
 
 /// The states that the region does not have.
 pub fn complement(alloc: Global, a: &Region, budget: &Budget) -> Result<Region, RegionFault>
-    requires few { a.now.variables < 2 ^ 32 - 1 }
+    requires bounded { a.now.variables < 2 ^ 32 - 1 }
     requires fits { IsRegion a.now.variables a.now.locations a.now }
     ensures rest { IfOk result (λ region. IsRest a.now region) }
     ensures refused { IfErr result (IsRestFault a.now budget.now) }

@@ -32,7 +32,7 @@ pub(crate) fn product_at(
     columns: u32,
     budget: &Budget,
 ) -> Result<Vec<Vec<Row>>, RegionFault>
-    requires few { columns < 2 ^ 32 - 1 }
+    requires bounded { columns < 2 ^ 32 - 1 }
     requires first { (r : Linear) → InSome (row_lists first.now) r → width r ≡ columns }
     requires second { (r : Linear) → InSome (row_lists second.now) r → width r ≡ columns }
     ensures product { IfOk result (λ v. IsProduct columns (row_lists first.now) (row_lists second.now) (lists v)) }
@@ -58,7 +58,7 @@ pub(crate) fn sum_at(
     columns: u32,
     budget: &Budget,
 ) -> Result<Vec<Vec<Row>>, RegionFault>
-    requires few { columns < 2 ^ 32 - 1 }
+    requires bounded { columns < 2 ^ 32 - 1 }
     requires first { (r : Linear) → InSome (row_lists first.now) r → width r ≡ columns }
     requires second { (r : Linear) → InSome (row_lists second.now) r → width r ≡ columns }
     ensures union { IfOk result (λ v. IsUnion columns (row_lists first.now) (row_lists second.now) (lists v)) }
@@ -83,7 +83,7 @@ pub(crate) fn rest_of(
     columns: u32,
     budget: &Budget,
 ) -> Result<Vec<Vec<Row>>, RegionFault>
-    requires few { columns < 2 ^ 32 - 1 }
+    requires bounded { columns < 2 ^ 32 - 1 }
     requires wide { (r : Linear) → InSome (row_lists first.now) r → width r ≡ columns }
     ensures complement { IfOk result (λ v. IsComplement columns (row_lists first.now) (lists v)) }
     ensures refused { let ones = row_lists first.now in

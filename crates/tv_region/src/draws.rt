@@ -286,7 +286,7 @@ pub(crate) fn project(
     columns: u32,
     draws: u32,
 ) -> Result<Shadow, ListFault>
-    requires few { columns + draws < 2 ^ 32 }
+    requires bounded { columns + draws < 2 ^ 32 }
     requires wide { (r : Linear) → Has rows.items r → width r ≡ columns + draws }
     ensures projected { IfOk result (λ s. IsProjected columns draws rows.items s.rows.items s.exact) }
     ensures refused { IfErr result (IsRowFault (IsWideDrawn columns (columns + draws) rows.items)) }

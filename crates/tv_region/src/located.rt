@@ -29,7 +29,7 @@ pub(crate) trait Located {
     ghost made: { Self → ℕ → Linear → Type 0 };
 
     /// What is so of how many pieces there are at a location.
-    ghost few: { Self → ℕ → ℕ → Type 0 };
+    ghost bounded: { Self → ℕ → ℕ → Type 0 };
 
     /// What a refusal shows.
     ghost refused: { Self → RegionFault → Type 0 };
@@ -37,7 +37,7 @@ pub(crate) trait Located {
     fn lists(&self, alloc: Global, location: u32) -> Result<Vec<Vec<Row>>, RegionFault>
         requires { location < locations self.now }
         ensures at { let made_here = made self.now location in
-            let few_here = few self.now location in
+            let few_here = bounded self.now location in
             IfOk result (λ v. IsAt (variables self.now) (only self.now location) (out self.now location) made_here few_here (lists v)) }
         ensures refused { IfErr result (refused self.now) };
 }
@@ -52,7 +52,7 @@ pub(crate) fn assemble<L: Located>(
     requires variables { variables ≡ L.variables located.now }
     requires locations { locations ≡ L.locations located.now }
     ensures assembled { let by = located.now in
-        IfOk result (λ r. IsAssembled (L.variables by) (L.locations by) (L.only by) (L.out by) (L.made by) (L.few by) r) }
+        IfOk result (λ r. IsAssembled (L.variables by) (L.locations by) (L.only by) (L.out by) (L.made by) (L.bounded by) r) }
     ensures refused { IfErr result (λ fault. (fault ≡ Memory) ⊎ L.refused located.now fault) }
 {
     let mut pieces = Vec::new(alloc);

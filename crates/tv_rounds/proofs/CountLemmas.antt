@@ -57,18 +57,18 @@ module _ (l : ℕ) (target : List Piece) (g : LinearCase → ℕ) where
 -- ---- of the regions
 module _ (about : CaseSystem) where
   -- going back from a region that has at most so many pieces
-  module _ (bound : ℕ → ℕ) (target region : Region) (few : (l : ℕ) → count_at l target ≤ bound l) (l : ℕ) where
+  module _ (bound : ℕ → ℕ) (target region : Region) (bounded : (l : ℕ) → count_at l target ≤ bound l) (l : ℕ) where
     some_few : IsBefore about target region → count_at l region ≤ some_count about.cases bound l
     some_few h =
         let s = sum (map (λ (c : LinearCase). bound c.to) (leaving l about.cases)) in
-        trans (count_at l region) (regions.some_count l about.cases target.pieces.items) (max 1 s) (h.few l)
-        (trans (regions.some_count l about.cases target.pieces.items) s (max 1 s) (some_sum l target.pieces.items (λ c. bound c.to) about.cases (λ c. few c.to)) (le-max_right 1 s))
+        trans (count_at l region) (regions.some_count l about.cases target.pieces.items) (max 1 s) (h.bounded l)
+        (trans (regions.some_count l about.cases target.pieces.items) s (max 1 s) (some_sum l target.pieces.items (λ c. bound c.to) about.cases (λ c. bounded c.to)) (le-max_right 1 s))
 
     all_few : HasNoDraws about → IsBeforeAll about target region → count_at l region ≤ all_count about.cases bound l
     all_few plain h =
-        trans (count_at l region) (regions.every_count l about.cases target.pieces.items) (all_count about.cases bound l) (h.few l plain)
+        trans (count_at l region) (regions.every_count l about.cases target.pieces.items) (all_count about.cases bound l) (h.bounded l plain)
         (every_product l target.pieces.items (λ c. max 1 (length c.guards + bound c.to)) about.cases plain
-        (λ c. trans (length c.guards + count_at c.to target) (length c.guards + bound c.to) (max 1 (length c.guards + bound c.to)) (let f = few c.to in omega (arith, f)) (le-max_right 1 (length c.guards + bound c.to))))
+        (λ c. trans (length c.guards + count_at c.to target) (length c.guards + bound c.to) (max 1 (length c.guards + bound c.to)) (let f = bounded c.to in omega (arith, f)) (le-max_right 1 (length c.guards + bound c.to))))
 
     pub back_few : (path : Path) → HasNoDraws about → IsBack about path target region → count_at l region ≤ next_count about.cases path bound l
     back_few Every plain h = all_few plain h
@@ -78,13 +78,13 @@ module _ (about : CaseSystem) where
   none_at a n l = subst (λ ps. length (lists_at l ps) ≤ 0) (sym n.none) (omega arith)
 
   pub one_at : (a b : Region) → IsNowhere about a → IsRest a b → (l : ℕ) → count_at l b ≤ 1
-  one_at a b n h l = subst (λ ps. count_at l b ≤ row_product (lists_at l ps)) n.none (h.few l)
+  one_at a b n h l = subst (λ ps. count_at l b ≤ row_product (lists_at l ps)) n.none (h.bounded l)
 
   pub going_few : (region : Region) → IsGoing about region → (l : ℕ) → count_at l region ≤ some_count about.cases (λ k. 1) l
   going_few region h l = some_few (λ k. 1) h.everywhere region (one_at h.nowhere h.everywhere h.none h.all) l h.before
 
   pub stopping_few : (region : Region) → HasNoDraws about → IsStopping about region → (l : ℕ) → count_at l region ≤ stop_count about.cases l
   stopping_few region plain h l =
-      trans (count_at l region) (regions.every_count l about.cases h.nowhere.pieces.items) (stop_count about.cases l) (h.before.few l plain)
+      trans (count_at l region) (regions.every_count l about.cases h.nowhere.pieces.items) (stop_count about.cases l) (h.before.bounded l plain)
       (every_product l h.nowhere.pieces.items (λ c. max 1 (length c.guards)) about.cases plain
       (λ c. trans (length c.guards + count_at c.to h.nowhere) (length c.guards) (max 1 (length c.guards)) (let z = none_at h.nowhere h.none c.to in omega (arith, z)) (le-max_right 1 (length c.guards))))

@@ -67,11 +67,11 @@ module _ (about : CaseSystem) where
 
   module _ (target : Region) (budget : Budget) (fault : RegionFault) where
     any_counted : (b : ℕ → ℕ) → ((l : ℕ) → count_at l target ≤ b l) → IsAnyFault about target budget fault → IsFaultWithin (some_count about.cases b) fault
-    any_counted b few h =
+    any_counted b bounded h =
         fault_within about.variables (MadeBefore about target) (IsWideBefore about target) (IsCount (λ l. regions.some_count l about.cases target.pieces.items)) budget (some_count about.cases b)
         (λ l k e. (let s = sum (map (λ (c : LinearCase). b c.to) (leaving l about.cases)) in
         told_less k (regions.some_count l about.cases target.pieces.items) (max 1 s) e
-        (trans (regions.some_count l about.cases target.pieces.items) s (max 1 s) (some_sum l target.pieces.items (λ c. b c.to) about.cases (λ c. few c.to)) (le-max_right 1 s)))) fault h
+        (trans (regions.some_count l about.cases target.pieces.items) s (max 1 s) (some_sum l target.pieces.items (λ c. b c.to) about.cases (λ c. bounded c.to)) (le-max_right 1 s)))) fault h
 
     module _ (plain : HasNoDraws about) where
       each_told : (bound : ℕ → ℕ) → ((l : ℕ) → regions.every_count l about.cases target.pieces.items ≤ bound l) → (l k : ℕ) → IsEveryCount about target.pieces.items l k → k ≤ bound l
@@ -84,15 +84,15 @@ module _ (about : CaseSystem) where
           fault_within about.variables (MadeBefore about target) (IsWideBefore about target) (IsEveryCount about target.pieces.items) budget bound (each_told bound w) fault h
 
       all_counted : (b : ℕ → ℕ) → ((l : ℕ) → count_at l target ≤ b l) → IsEveryFault about target budget fault → IsFaultWithin (all_count about.cases b) fault
-      all_counted b few h =
+      all_counted b bounded h =
           every_counted (all_count about.cases b)
           (λ l. every_product l target.pieces.items (λ c. max 1 (length c.guards + b c.to)) about.cases plain
-          (λ c. trans (length c.guards + count_at c.to target) (length c.guards + b c.to) (max 1 (length c.guards + b c.to)) (let f = few c.to in omega (arith, f)) (le-max_right 1 (length c.guards + b c.to)))) h
+          (λ c. trans (length c.guards + count_at c.to target) (length c.guards + b c.to) (max 1 (length c.guards + b c.to)) (let f = bounded c.to in omega (arith, f)) (le-max_right 1 (length c.guards + b c.to)))) h
 
       -- going back into a region that has at most so many pieces
       pub back_counted : (b : ℕ → ℕ) → ((l : ℕ) → count_at l target ≤ b l) → (path : Path) → IsBackFault about path target budget fault → IsFaultWithin (next_count about.cases path b) fault
-      back_counted b few Every h = all_counted b few h
-      back_counted b few Any h = any_counted b few h
+      back_counted b bounded Every h = all_counted b bounded h
+      back_counted b bounded Any h = any_counted b bounded h
 
       none_counted : IsNowhere about target → IsEveryFault about target budget fault → IsFaultWithin (stop_count about.cases) fault
       none_counted n h =

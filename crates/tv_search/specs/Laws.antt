@@ -14,7 +14,7 @@ use Rattle.tv_search.specs.declared.search_fault.SearchFault.{SearchFault}
 use Rattle.tv_search.specs.declared.search_fault.SearchFault.TheVariants.{Invariant, Paths, Cover, Memory}
 use Rattle.tv_search.specs.Answers.{HasNoPoint, IsLeftPoint, IsUnsearched}
 
--- each proposer told its rest, and no whole point at the location meets the greatest inductive part of what they told
+-- each proposer given its rest, and no whole point at the location meets the greatest inductive part of what they told
 pub record ShutsOut {A : Type 0} (rest : A → Option (List Candidate)) (proposers : List A) (about : CaseSystem) (l : ℕ) : Type 0 where
   pub lists : List (List Candidate)
   pub told : AllZip (λ p given. rest p ≡ Some given) proposers lists

@@ -15,7 +15,7 @@ pub fn shut_out_leaves_none<P>()
 {}
 
 /// Where a search ends with `Invariant`, the invariants are too weak, and where it ends with `Paths`, there are too many paths: each is the
-/// cause that an unknown answer tells.
+/// cause that an unknown answer reports.
 pub fn faults_are_causes<P>()
     ensures { (rest : P → Option (List Candidate)) (ps : List P) (about : CaseSystem) (l : ℕ) (budget : Budget) (fault : SearchFault) →
         IsCauseOf rest ps about l budget fault }

@@ -43,10 +43,10 @@ module _ (b : Barrier) where
     said = tt;
     ranked = λ e. refl;
     small = omega arith;
-    few = (
+    bounded = (
         let many = length_below (elsewhere n b.location) (elsewhere_placed n b.location) (system_of b).locations (elsewhere_short n b.location) in
-        let few = b.about.now.are_cases.few_locations in
-        omega (arith, many, few)
+        let bounded = b.about.now.are_cases.few_locations in
+        omega (arith, many, bounded)
         );
     each = each_elsewhere n b.location (PieceShape (system_of b) 0 false) (system_of b).locations (λ l inside other. whole_shape (system_of b) false l inside);
     offered = λ number. atoms_offered (asked b) number (piece_of number (asked b) (negated (at b.location)) (pieces_elsewhere b) []) (pieces_elsewhere b) h.proofs
@@ -61,7 +61,7 @@ module _ (b : Barrier) where
     said = tt;
     ranked = λ e. refl;
     small = omega arith;
-    few = omega arith;
+    bounded = omega arith;
     each = All-nil (PieceShape (system_of b) 0 false);
     offered = λ number. atoms_offered (asked b) number (piece_of number (asked b) (truth false) [] []) [] h.proofs (All-nil (λ q. piece_of number (asked b) (truth false) [] [] q ≡ atom_of number (asked b) q ([] ∷ []) ∷ [])) h.bare;
     below = tt;
@@ -104,10 +104,10 @@ module _ (b : Barrier) where
       said = tt;
       ranked = λ e. refl;
       small = omega arith;
-      few = (
+      bounded = (
           let many = length_below (known_there b) (known_placed b) (system_of b).locations (λ l. omega arith) in
-          let few = b.about.now.are_cases.few_locations in
-          omega (arith, many, few)
+          let bounded = b.about.now.are_cases.few_locations in
+          omega (arith, many, bounded)
           );
       each = each_below (known_there b) (known_placed b) (PieceShape (system_of b) 0 true) (system_of b).locations
           (λ l inside. All-cons (PieceShape (system_of b) 0 true) (known_piece b l) [] (known_shape l inside) (All-nil (PieceShape (system_of b) 0 true)));

@@ -66,13 +66,13 @@ IsStepAt b l c p = (number : ℕ) → IsOffered (owed_step b number l c) p
 abbrev pub IsStepProof : Barrier → ℕ → Proof → Type 0
 IsStepProof b k p = let c = case_at (system_of b).cases k in IsStepAt b c.from c p
 
--- behind the old proofs the new ones have one for each of the cases from a location
+-- after the old proofs the new ones have one for each of the cases from a location
 pub record AreStepsShown (b : Barrier) (l : ℕ) (cases : List LinearCase) (old new : List Proof) : Type 0 where
   pub more : List Proof
   pub parts : new ≡ old ++ more
   pub each : AllZip (IsStepAt b l) cases more
 
--- behind the old proofs the new ones have one for all that is owed at a location
+-- after the old proofs the new ones have one for all that is owed at a location
 pub record AreShownAt (b : Barrier) (l : ℕ) (old new : List Proof) : Type 0 where
   pub more : List Proof
   pub parts : new ≡ old ++ more

@@ -92,7 +92,7 @@ pub record IsRight (about : About) (f : Property) (depth : ℕ) (pieces : List M
   pub said : IsSaid (stated about.tests f)
   pub ranked : may_rank (stated about.tests f) ≡ false → ranks ≡ 0
   pub small : ranks < 2 ^ 32
-  pub few : length pieces < 2 ^ 32
+  pub bounded : length pieces < 2 ^ 32
   pub each : All (PieceShape about.system ranks (may_be_done (stated about.tests f))) pieces
   pub offered : (number : ℕ) → Offers (own_of number about f pieces (map pieces_list kids)) proofs
   pub below : AllFitted about (parts f) (depth + 1) kids
@@ -103,7 +103,7 @@ node_fitted about f depth (Node' ps m shape row list) pieces ranks kids proofs o
   shape = (own_shape, subst (λ ss. KidsShape about.system ss row) (sym (parts-stated about f)) (kids_shape about (parts f) (depth + 1) row below));
   narrow = (
     record {
-      count = (let e = ap length pieces_same in let n = right.few in omega (arith, e, n));
+      count = (let e = ap length pieces_same in let n = right.bounded in omega (arith, e, n));
       ranks = (let e = ranks_same in let n = right.small in omega (arith, e, n));
       pieces = subst (All PieceNarrow) (sym pieces_same) own.narrow;
       offered = subst (All ProofNarrow) (sym proofs_same) (all_narrow (own_of 0 about f pieces (map pieces_list kids)) proofs (right.offered 0));

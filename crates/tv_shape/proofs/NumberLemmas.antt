@@ -76,9 +76,9 @@ own_many n system s ps kids = ap length (own_renumbered n system s ps kids) ∙ 
 -- there is room for what a node owes, whose lists lie in memory
 pub own_within : (n : ℕ) (system : CaseSystem) (s : Statement) (ps : List Marked) (kids : List (List Marked)) → length ps < 2 ^ 63 → length kids < 2 ^ 63 → length system.cases < 2 ^ 63 → length (node_owes n system s ps kids) ≤ 2 ^ 200
 own_within n system s ps kids a b c =
-    let few = own_few n system ps kids s in
+    let bounded = own_few n system ps kids s in
     let most = mul-le (length ps) (length kids + length system.cases + 2) (2 ^ 63) (2 ^ 65) (omega (arith, a)) (omega (arith, b, c)) in
-    omega (arith, few, most)
+    omega (arith, bounded, most)
 
 pub narrow_count : (n : ℕ) → n < 2 ^ 32 → CountNarrow n
 narrow_count n h = omega (arith, h)

@@ -6,7 +6,7 @@ use std::alloc::{AllocError, Global};
 use tv_cert::Aim;
 use tv_lines::NodeKind;
 
-/// Puts one kind behind the others.
+/// Puts one kind after the others.
 fn push_kind(kinds: &mut Vec<NodeKind>, kind: NodeKind) -> Result<(), AllocError>
     ensures { IfOk result (λ _. kinds.new.items ≡ kinds.old.items ++ kind ∷ []) }
 {
@@ -14,7 +14,7 @@ fn push_kind(kinds: &mut Vec<NodeKind>, kind: NodeKind) -> Result<(), AllocError
     Ok(())
 }
 
-/// Puts the kind of the node of an aim and of those below it behind the others, each before its children.
+/// Puts the kind of the node of an aim and of those below it after the others, each before its children.
 #[cycle(kinds)]
 fn push_kinds(kinds: &mut Vec<NodeKind>, aim: &Aim) -> Result<(), AllocError>
     ensures { IfOk result (λ _. kinds.new.items ≡ kinds.old.items ++ kinds_stated (aim_states aim.now)) }
@@ -43,7 +43,7 @@ fn push_kinds(kinds: &mut Vec<NodeKind>, aim: &Aim) -> Result<(), AllocError>
     }
 }
 
-/// Puts the kinds of all of the aims behind the others.
+/// Puts the kinds of all of the aims after the others.
 #[cycle(kinds)]
 fn push_all_kinds(kinds: &mut Vec<NodeKind>, aims: &[Aim]) -> Result<(), AllocError>
     ensures { IfOk result (λ _. kinds.new.items ≡ kinds.old.items ++ all_kinds (aims_state aims.now)) }

@@ -11,7 +11,7 @@ pub struct Shaper<'a> {
     pub proofs: &'a [Proof],
 }
 
-/// The proofs behind the first.
+/// The proofs after the first.
 fn rest_of(proofs: &[Proof]) -> &[Proof]
     ensures { result.now ≡ drop 1 proofs.now }
 {

@@ -14,7 +14,7 @@ use Rattle.tv_simplex.specs.Starting.{AreZero}
 abbrev pub first_of : List Kept → Kept
 first_of ks = get_or ks 0 (record { place = 0; number = pos 0 })
 
--- a column, and what is behind it: the number there is this one, and those before it are 0
+-- a column, and what is after it: the number there is this one, and those before it are 0
 pub record IsNextKept (numbers : ℕ → ℤ) (start first end column : ℕ) (number : ℤ) (rest : List Kept) : Type 0 where
   pub from : first ≤ column
   pub below : column < end

@@ -27,13 +27,13 @@ use Rattle.tv_simplex.proofs.EndLemmas.{sign_size}
 use Rattle.tv_simplex.proofs.ScaleLemmas.{above_size}
 
 -- the columns are counted by 32 bits, the artificial ones and the right side too
-few : (r c : ℕ) → r < 2 ^ 32 → c < 2 ^ 32 → r * c ≤ 4000000 → c + r < 2 ^ 32
-few zero c h k l = omega (arith, k)
-few (suc r) zero h k l = omega (arith, h)
-few (suc r) (suc c) h k l = omega (arith, l)
+bounded : (r c : ℕ) → r < 2 ^ 32 → c < 2 ^ 32 → r * c ≤ 4000000 → c + r < 2 ^ 32
+bounded zero c h k l = omega (arith, k)
+bounded (suc r) zero h k l = omega (arith, h)
+bounded (suc r) (suc c) h k l = omega (arith, l)
 
 pub few_columns : (s : Equations) → IsWhole s → s.columns + s.rows < 2 ^ 32
-few_columns s w = few s.rows s.columns w.few_rows w.few_columns w.size
+few_columns s w = bounded s.rows s.columns w.few_rows w.few_columns w.size
 
 -- ---- the artificial basis
 abbrev start_number : Equations → ℕ → ℕ → ℤ

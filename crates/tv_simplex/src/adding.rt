@@ -14,7 +14,7 @@ use std::alloc::{AllocError, Global};
 fn with_number(sum: i128, number: i128, row: usize) -> i128
     requires sum { unsigned_abs sum ≤ 2 ^ 40 * row }
     requires number { IsNarrow number }
-    requires few { row < 2 ^ 32 }
+    requires bounded { row < 2 ^ 32 }
     ensures value { result ≡ sum +ℤ number }
     ensures bound { unsigned_abs result ≤ 2 ^ 40 * (row + 1) }
 {
@@ -34,7 +34,7 @@ fn add_at(sums: &mut [i128], slot: usize, number: i128, row: usize)
     requires slot { slot < length sums.old }
     requires sum { unsigned_abs (get_or sums.old slot (pos 0)) ≤ 2 ^ 40 * row }
     requires number { IsNarrow number }
-    requires few { row < 2 ^ 32 }
+    requires bounded { row < 2 ^ 32 }
     ensures value { sums.new ≡ set sums.old slot (get_or sums.old slot (pos 0) +ℤ number) }
     ensures bound { unsigned_abs (get_or sums.old slot (pos 0) +ℤ number) ≤ 2 ^ 40 * (row + 1) }
 {

@@ -40,7 +40,7 @@ fn objective_of(
     rows: usize,
     columns: usize,
 ) -> Result<Vec<Fraction>, AllocError>
-    requires few { (rows < 2 ^ 32) × (columns < 2 ^ 32) }
+    requires bounded { (rows < 2 ^ 32) × (columns < 2 ^ 32) }
     requires table { IsTable table.now }
     requires height { rows < length table.now.rows.items }
     ensures { IfOk result (λ v. AreOfObjective rows columns (shown table.now rows) v.items) }

@@ -87,7 +87,7 @@ impl Entries {
     /// The numbers that are kept of so many entries from a place on.
     pub(crate) fn stretch(&self, first: usize, count: usize) -> &[Kept]
         requires within { first + count ≤ length self.now }
-        requires few { length self.now < 2 ^ 32 }
+        requires bounded { length self.now < 2 ^ 32 }
         ensures { AreKept (λ j. get_or self.now (first + j) (pos 0)) first 0 count result.now }
     {
         // At most so many of the entries before the first are 0: the others are kept.

@@ -81,7 +81,7 @@ fn exchange(
 pub fn enter(table: &mut Table, row: usize, column: usize, factors: &[Entry]) -> Result<(), Stop>
     requires table { IsTable table.old }
     requires factors { IsColumn (length table.old.rows.items) column (shown table.old) factors.now }
-    requires few { (width_of table.old ≤ 2 ^ 32) × (column < 2 ^ 32) }
+    requires bounded { (width_of table.old ≤ 2 ^ 32) × (column < 2 ^ 32) }
     requires row { row < length table.old.basis.items }
     requires above { pos 0 <ℤ (shown table.old row column).numerator }
     ensures basis { table.new.basis.items ≡ slice_set table.old.basis.items row column }

@@ -85,7 +85,7 @@ fn compare_rows(table: &Table, first: usize, second: usize, column: usize) -> Or
     requires rows { (first < length table.now.rows.items) × (second < length table.now.rows.items) }
     requires column { column < table.now.columns }
     requires above { (pos 0 <ℤ (shown table.now first column).numerator) × (pos 0 <ℤ (shown table.now second column).numerator) }
-    requires few { width_of table.now ≤ 2 ^ 32 }
+    requires bounded { width_of table.now ≤ 2 ^ 32 }
     ensures { Compares (length table.now.basis.items) table.now.columns column (shown table.now first) (shown table.now second) result }
 {
     let last = table.columns + table.basis.len();
@@ -109,7 +109,7 @@ fn better_row(
     factor: &Fraction,
 ) -> Option<usize>
     requires table { IsTable table.now }
-    requires few { width_of table.now ≤ 2 ^ 32 }
+    requires bounded { width_of table.now ≤ 2 ^ 32 }
     requires column { column < table.now.columns }
     requires row { row < length table.now.basis.items }
     requires best { MatchOption best
@@ -138,7 +138,7 @@ fn better_row(
 /// factors are the entries of the column.
 pub fn leaving_row(table: &Table, column: usize, factors: &[Entry]) -> Option<usize>
     requires table { IsTable table.now }
-    requires few { width_of table.now ≤ 2 ^ 32 }
+    requires bounded { width_of table.now ≤ 2 ^ 32 }
     requires column { column < table.now.columns }
     requires factors { IsColumn (length table.now.rows.items) column (shown table.now) factors.now }
     ensures { MatchOption result

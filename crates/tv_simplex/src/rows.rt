@@ -93,10 +93,10 @@ pub fn front_at(entries: &[Entry], column: usize) -> Fraction
     }
 }
 
-/// The entries behind the column, which is no later than that of the first.
+/// The entries after the column, which is no later than that of the first.
 pub fn behind(entries: &[Entry], column: usize) -> &[Entry]
     ensures rest { (width : ℕ) → IsSparse column width entries.now → IsRestOf (entry_in entries.now) (column + 1) width result.now }
-    ensures few { length result.now ≤ length entries.now }
+    ensures bounded { length result.now ≤ length entries.now }
     ensures fewer { BeginsWith entries.now column → length result.now < length entries.now }
 {
     match entries {

@@ -82,7 +82,7 @@ pub fn collect_column(
     entries: &mut Vec<Entry>,
 ) -> Result<(), AllocError>
     requires table { IsTable table.now }
-    requires few { width_of table.now ≤ 2 ^ 32 }
+    requires bounded { width_of table.now ≤ 2 ^ 32 }
     requires column { column < table.now.columns }
     ensures { IfOk result (λ _. IsColumn (length table.now.rows.items) column (shown table.now) entries.new.items) }
 {

@@ -94,7 +94,7 @@ nostep_stops n cases l known covers xs h e stays = record {
       none_or_some w.2 w.3);
 }
 
--- what a row or its denial says of the variables stays with draws behind them
+-- what a row or its denial says of the variables stays with draws after them
 stays_given : (xs ds : List ℤ) (r : Linear) → columns r ≤ length xs → IsKnownMet xs (given r) → IsKnownMet (xs ++ ds) (given r)
 stays_given xs ds r w h = subst (λ z. z ≤ℤ pos 0) (sym (value-longer xs ds r w)) h
 

@@ -77,7 +77,7 @@ entered n xs into l change fall known tree met e k =
     let c = covered n (owed_into into l change fall) known tree xs met e k in
     entered_at xs into l change fall c.0 c.1 c.2 c.4 (slice_get (pieces_at into l) c.0) refl c.3
 
--- ---- a point with draws behind the values
+-- ---- a point with draws after the values
 
 place_sum-longer : (f : ℕ → ℤ) (xs ds : List ℤ) → ((j : ℕ) → length xs ≤ j → f j ≡ pos 0) → place_sum f (xs ++ ds) ≡ place_sum f xs
 place_sum-longer f [] [] h = refl

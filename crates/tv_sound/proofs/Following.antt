@@ -145,7 +145,7 @@ drawn_values : (xs : List ℤ) (draws : List Linear) → drawn xs draws ≡ map 
 drawn_values xs [] = refl
 drawn_values xs (d ∷ draws) = (λ i. value-given xs d i ∷ drawn_values xs draws i)
 
--- the state behind a case that is taken
+-- the state after a case that is taken
 next_is : (n : ℕ) (system : CaseSystem) (s : State) (c : LinearCase) (draws : List Linear) (t : Stepped n system s c draws) → t.next ≡ after_case n c draws s
 next_is n system s c draws t = (λ i. record { location = t.at i; values = (t.is ∙ ap (λ ds. map (term_value (s.values ++ ds)) (terms_after n c.updates)) (drawn_values s.values draws)) i })
 

@@ -44,7 +44,7 @@ chosen_at xs (Empty ms) = Empty ms
 chosen_at xs (NoStep covers) = NoStep covers
 chosen_at xs (Take k target j draws lists) = Take k target j draws lists
 
--- the state behind a case over n variables, whose draws have the values of these terms
+-- the state after a case over n variables, whose draws have the values of these terms
 abbrev pub after_case : ℕ → LinearCase → List Linear → State → State
 after_case n c draws s = record { location = c.to; values = map (term_value (s.values ++ map (λ d. value d s.values) draws)) (terms_after n c.updates) }
 
@@ -53,12 +53,12 @@ abbrev pub entering : Option (Marked × Proof) → State → Spot → Spot
 entering None t here = here
 entering (Some o) t here = record { piece = o.0; proof = o.1; state = t }
 
--- behind a case that is taken into a target
+-- after a case that is taken into a target
 abbrev pub taking : CaseSystem → List (Marked × Proof) → Option LinearCase → ℕ → List Linear → Spot → Spot
 taking system all None target draws here = here
 taking system all (Some c) target draws here = entering (slice_get (offered_at all c.to) target) (after_case system.variables c draws here.state) here
 
--- behind what a choice ends in
+-- after what a choice ends in
 abbrev pub going : CaseSystem → List (Marked × Proof) → ChoiceTree → Spot → Spot
 going system all (Split' r p a q b) here = here
 going system all (Empty ms) here = here
@@ -74,7 +74,7 @@ going_by system all (Chosen tree) here = going system all (chosen_at here.state.
 abbrev pub onward : CaseSystem → List (Marked × Proof) → Spot → Spot
 onward system all here = going_by system all here.proof here
 
--- the states behind the first, after so many turns of a rule
+-- the states after the first, after so many turns of a rule
 abbrev pub followed : (Spot → Spot) → Spot → ℕ → List State
 followed rule here zero = []
 followed rule here (suc n) = followed rule here n ++ (follow rule here (suc n)).state ∷ []

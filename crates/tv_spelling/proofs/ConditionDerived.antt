@@ -135,7 +135,7 @@ shown_some v cs shown =
       as_denied = denied;
     }
 
--- conditions behind the first
+-- conditions after the first
 abbrev pub ShowsLiterals : Vocabulary → Conditions → Type 0
 ShowsLiterals v cs = (n draws : ℕ) (rest : List Piece) → AreOrderedTests cs draws → all_levels cs ≤ n
     → AreLiterals n (listed cs) (symbols_of v false draws (further_all_pieces v.variables cs rest)) (symbols_of v false (draws_after_tests cs draws) rest)

@@ -57,7 +57,7 @@ solid_word kind bare b w x begins goes is stops =
     rw (begins, passed continues_name w x goes stops)
     (ap (λ (k : TokenKind). word_front k (1 + length w) (drop (length w) (w ++ x))) (ap word_kind whole ∙ is) ∙ bare (1 + length w) (drop (length w) (w ++ x)))
 
--- a word of a kind with which nothing behind it belongs
+-- a word of a kind with which nothing after it belongs
 pub word_at_front : (kind : TokenKind) → ((n : ℕ) (rest : List ℕ) → word_front kind n rest ≡ fronts.Token kind n) → (b : ℕ) (w x : List ℕ) → begins_name b ≡ true → list_all continues_name w ≡ true
     → word_kind (b ∷ w) ≡ kind → continues_name (slice_index x 0) ≡ false → front_of (b ∷ (w ++ x)) ≡ fronts.Token kind (suc (length w))
 unfolding front_of

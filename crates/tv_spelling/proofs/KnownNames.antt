@@ -28,7 +28,7 @@ EachKnown ws [] = Unit {0}
 EachKnown ws (v ∷ vs) = IsKnown ws v × EachKnown ws vs
 
 mutual
-  -- the variables of the tree, and those behind them
+  -- the variables of the tree, and those after them
   pub known_in : (ws : List Word) (e : Expression) (vs : List ℕ) → EachKnown ws (variables_of e vs) → AreKnownIn ws e × EachKnown ws vs
   known_in ws (number z) vs h = (tt, h)
   known_in ws (variable v) vs h = h

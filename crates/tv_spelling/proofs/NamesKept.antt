@@ -1,4 +1,4 @@
--- Where reading begins with names, there are names behind what it reads.
+-- Where reading begins with names, there are names after what it reads.
 use Rattle.std.proofs.Common.{◌≡◌, ℕ, zero, suc, Bool, true, false, cond, List, [], ◌∷◌, length, drop, Some, refl, sym, subst, arith}
 use Rattle.std.specs.Prelude.{slice_index_or, EachIndex, nat_lt}
 use Rattle.tv_language.specs.declared.token.TokenKind.{TokenKind}

@@ -91,7 +91,7 @@ behind_relation : (kind : TokenKind) (r : Relation) (draws : ℕ) (ss : List Sym
 behind_relation From r draws ss is h = absurd cc
 behind_relation kind r draws ss is h = h
 
--- the draws of a part of the text are ordered, and those behind it go on
+-- the draws of a part of the text are ordered, and those after it go on
 abbrev pub GoesOn : Type 0 → ℕ → List Symbol → Type 0
 GoesOn ordered draws rest = ordered × AreNumbered draws rest
 

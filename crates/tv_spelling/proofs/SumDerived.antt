@@ -94,7 +94,7 @@ signed : (v : Vocabulary) (e : Expression) → IsShown v e → ShowsFactor v (ex
 signed v e shown zero draws rest o l = absurd (omega arith)
 signed v e shown (suc n) draws rest o l = grammar.negative (shown.as_factor n draws rest o (omega arith))
 
--- parts behind the first, and factors behind the first
+-- parts after the first, and factors after the first
 abbrev pub ShowsParts : Vocabulary → Expressions → Type 0
 ShowsParts v es = (n draws : ℕ) (rest : List Piece) → AreOrdered es draws → further_levels es ≤ n
     → AreProducts n (listed es) (symbols_of v false draws (further_parts_pieces v.variables es rest)) (symbols_of v false (draws_after_all es draws) rest)

@@ -199,9 +199,9 @@ mutual
 pub expression_fronts : (ws : List Word) (ds : ℕ) → AreNames ws → (e : Expression) → IsTrue (expression_fits (length ws) ds e) → Lays (expression_pieces ws e)
 expression_fronts ws ds names e h = known_fronts ws ds e h (known_by_fits ws ds names e h)
 
--- ---- what stands behind them stays
+-- ---- what follows them stays
 
--- the pieces, and others behind them
+-- the pieces, and others after them
 abbrev pub Leads : (List Piece → List Piece) → Type 0
 Leads pieces = (rest : List Piece) → pieces rest ≡ pieces [] ++ rest
 

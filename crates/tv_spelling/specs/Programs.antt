@@ -20,7 +20,7 @@ abbrev pub commands_text : List Word → List Instruction → List ℕ
 commands_text words [] = []
 commands_text words (c ∷ cs) = command_text words c ++ commands_text words cs
 
--- the line that names a location, behind a word that says which
+-- the line that names a location, after a word that says which
 abbrev pub location_text : List ℕ → List Word → ℕ → List ℕ
 location_text word labels l = word ++ (codes ": " ++ (slice_index_or labels l [] ++ line_end))
 

@@ -28,7 +28,7 @@ pub record AreNames (words : List Word) : Type 0 where
   pub differ : EachIndex words (λ v. number_of (slice_index_or words v []) words ≡ Some v)
 
 abbrev mutual
-  -- how many draws there are behind an expression, with so many before it
+  -- how many draws there are after an expression, with so many before it
   pub draws_after : Expression → ℕ → ℕ
   draws_after (number z) draws = draws
   draws_after (variable v) draws = draws
@@ -103,7 +103,7 @@ IsConditionAgain words c text =
 
 -- ---- as it is read
 
--- A reading from the front of the text, with these names, has the expression in front of it, and behind it the end of the text.
+-- A reading from the front of the text, with these names, has the expression in front of it, and after it the end of the text.
 abbrev pub IsSumInFront : Bool → List Word → Expression → List ℕ → Type 0
 IsSumInFront grows words e text = (tokens : List Token) → IsTokens 0 text tokens → IsLongest (IsSum (sum_levels (begun text tokens words grows))) e (left (begun text tokens words grows)) (plain (fixed End) ∷ [])
 

@@ -39,7 +39,7 @@ abbrev mutual
   sum_text words no_part = []
   sum_text words (part e es) = as_part e (expression_text words e) ++ further_parts_text words es
 
-  -- behind the first part, what is negative is taken off
+  -- after the first part, what is negative is taken off
   pub further_parts_text : List Word → Expressions → List ℕ
   further_parts_text words no_part = []
   further_parts_text words (part (minus e) es) = codes " - " ++ (as_part e (expression_text words e) ++ further_parts_text words es)
@@ -53,7 +53,7 @@ abbrev mutual
   further_factors_text words no_part = []
   further_factors_text words (part e es) = codes " * " ++ (as_factor e (expression_text words e) ++ further_factors_text words es)
 
--- a part behind the first, with the sign before it
+-- a part after the first, with the sign before it
 abbrev pub further_part_text : List Word → Expression → List ℕ
 further_part_text words (minus e) = codes " - " ++ as_part e (expression_text words e)
 further_part_text words e = codes " + " ++ as_part e (expression_text words e)

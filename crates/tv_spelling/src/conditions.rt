@@ -190,7 +190,7 @@ pub fn write_condition(alloc: Global, written: &Cond, names: &Names) -> Result<V
     ensures spelled { IfOk result (λ text. text.items ≡ condition_text names.now (condition written.now)) }
     // Where some text stands for the condition, this one does.
     ensures again { IfOk result (λ text. IsConditionAgain names.now (condition written.now) text.items) }
-    // What a reading with these names found is found again, with the end of the text behind it.
+    // What a reading with these names found is found again, with the end of the text after it.
     ensures read { IfOk result (λ text. IsConditionReadAgain names.now (condition written.now) text.items) }
 {
     let mut text = Vec::new(alloc);

@@ -99,7 +99,7 @@ fn append_factor(
     )
 }
 
-/// A part behind the first, with its sign.
+/// A part after the first, with its sign.
 #[cycle(sums)]
 fn append_further_part(
     alloc: Global,
@@ -171,7 +171,7 @@ pub fn write_sum(alloc: Global, expr: &Expr, names: &Names) -> Result<Vec<u8>, A
     ensures spelled { IfOk result (λ text. text.items ≡ expression_text names.now (expression expr.now)) }
     // Where some text stands for the expression, this one does.
     ensures again { IfOk result (λ text. IsSumAgain names.now (expression expr.now) text.items) }
-    // What a reading with these names found is found again, with the end of the text behind it.
+    // What a reading with these names found is found again, with the end of the text after it.
     ensures read { IfOk result (λ text. IsSumReadAgain names.now (expression expr.now) text.items) }
 {
     let mut text = Vec::new(alloc);

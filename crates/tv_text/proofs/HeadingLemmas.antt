@@ -17,7 +17,7 @@ no_more text rest at_end = omega arith
 no_more text rest feed = omega arith
 no_more text rest return_and_feed = omega arith
 
--- what is left behind a heading is no longer than the text
+-- what is left after a heading is no longer than the text
 pub left_within : (text rest : List ℕ) (at : ℕ) → IsHeadingAt text at rest → length rest ≤ length text
 left_within text rest at h =
     let heading = codes "CERTIFICATE:" in

@@ -19,7 +19,7 @@ pub record GaveSome (old new : Seen) : Type 0 where
   pub bytes : List ℕ
   pub gave : Gave old new bytes
 
--- between two states of a sink its calls took exactly these bytes, and it holds them behind the others
+-- between two states of a sink its calls took exactly these bytes, and it holds them after the others
 pub record Took (old new : Seen) (bytes : List ℕ) : Type 0 where
   pub told : new.told ≡ old.told ++ bytes
   pub held : Appends old.known new.known bytes

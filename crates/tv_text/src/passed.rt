@@ -24,7 +24,7 @@ impl Passed {
         }
     }
 
-    /// These bytes have passed, behind the others.
+    /// These bytes have passed, after the others.
     pub(crate) fn add(&mut self, _bytes: &[u8])
         ensures { self.new.bytes ≡ self.old.bytes ++ _bytes.now }
     {}

@@ -1,7 +1,7 @@
 ghost use Rattle.std.specs.Prelude.{◌≡◌, ◌∷◌, [], ℕ, ◌≤◌, List, length, MatchOption};
 ghost use Rattle.tv_text.specs.Headings.{EndsLine, BeginsWithHeading, starts_line, IsHeadingAt, IsSplit};
 
-/// The first byte, and what is left behind it.
+/// The first byte, and what is left after it.
 fn first_of(text: &[u8]) -> Option<(u8, &[u8])>
     ensures { MatchOption result (text.now ≡ []) (λ first. text.now ≡ first.0 ∷ first.1.now) }
 {
@@ -11,7 +11,7 @@ fn first_of(text: &[u8]) -> Option<(u8, &[u8])>
     }
 }
 
-/// What is left behind the end of a line, where one stands at the front.
+/// What is left after the end of a line, where one stands at the front.
 fn behind_end(text: &[u8]) -> Option<&[u8]>
     ensures { MatchOption result ((rest : List ℕ) → EndsLine text.now rest → ⊥) (λ rest. EndsLine text.now rest.now) }
 {

@@ -324,7 +324,7 @@ is_found about run h =
       counted = h.counted;
       narrow = all_front (IsWithin 62) run.values.now (searched.joined (lists_of run.draws.now)) all;
       narrow_draws = all_parts (IsWithin 62) (lists_of run.draws.now) (all_back (IsWithin 62) run.values.now (searched.joined (lists_of run.draws.now)) all);
-      few = (let e = h.few in omega (arith, e));
+      bounded = (let e = h.bounded in omega (arith, e));
     }
 
 -- the rows that were found keep runs from the location

@@ -16,7 +16,7 @@ no_values : (names : List Word) → value_lines names [] ≡ []
 no_values [] = refl
 no_values (w ∷ names) = refl
 
--- behind the values there are no lines
+-- after the values there are no lines
 pub no_lines : (names : List Word) (values : List ℤ) (n : ℕ) → length values ≤ n → value_lines names (drop n values) ≡ []
 no_lines names values n h = ap (λ vs. value_lines names vs) (drop_all n values h) ∙ no_values names
 
@@ -24,7 +24,7 @@ on_ok : {X E : Type 0} (r : Result X E) (P Q : Type 0) → (P → Q) → OnOk r 
 on_ok (Ok x) P Q f h = f h
 on_ok (Err e) P Q f h = h
 
--- where the line of a variable was added, those behind it are left
+-- where the line of a variable was added, those after it are left
 pub line_added : {E : Type 0} (r : Result (Unit {0}) E) (names : List Word) (values : List ℤ) (n : ℕ) (w : Word) (v : ℤ) (old new : List ℕ) → slice_get names n ≡ Some w → slice_get values n ≡ Some v → OnOk r (new ≡ old ++ value_line w v)
     → OnOk r (new ++ value_lines (drop (n + 1) names) (drop (n + 1) values) ≡ old ++ value_lines (drop n names) (drop n values))
 line_added r names values n w v old new e h = on_ok r _ _ (λ added.
@@ -32,7 +32,7 @@ line_added r names values n w v old new e h = on_ok r _ _ (λ added.
     ∙ append_assoc old (value_line w v) (value_lines (drop (n + 1) names) (drop (n + 1) values))
     ∙ ap (λ (bytes : List ℕ). old ++ bytes) (sym (next_line names values n w v e h)))
 
--- behind the values nothing is left
+-- after the values nothing is left
 pub none_left : (names : List Word) (values : List ℤ) (n : ℕ) (old : List ℕ) → length values ≤ n
     → old ++ value_lines (drop (n + 1) names) (drop (n + 1) values) ≡ old ++ value_lines (drop n names) (drop n values)
 none_left names values n old h = ap (λ (bytes : List ℕ). old ++ bytes) (no_lines (drop (n + 1) names) values (n + 1) (omega (arith, h)) ∙ sym (no_lines (drop n names) values n h))

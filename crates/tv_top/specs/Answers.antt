@@ -109,7 +109,7 @@ plain_line (Unknown cause) = cause_line cause
 plain_line ReadFault = []
 plain_line Memory = []
 
--- the lines behind the first: those of the state at which the property fails, of a certificate, or of the cause of an unknown answer
+-- the lines after the first: those of the state at which the property fails, of a certificate, or of the cause of an unknown answer
 abbrev pub further_lines : Answer → List ℕ
 further_lines (Proved certificate) = certificate.items
 further_lines (Disproved at certificate) = value_lines at.names at.values.items ++ certificate.items

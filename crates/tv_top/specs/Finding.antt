@@ -67,7 +67,7 @@ budget_of l = record { pivots = l.pivots; splits = l.splits; disjuncts = l.disju
 abbrev pub obligation_count : CaseSystem → Claim → Certificate → ℕ
 obligation_count about claim c = length (obligations (about_with about) (shown claim c.verdict) c.root c.verdict)
 
--- what is written behind the verdict: nothing, a text of the certificate, or the numbers of loops, cases and obligations
+-- what is written after the verdict: nothing, a text of the certificate, or the numbers of loops, cases and obligations
 abbrev pub IsTextOf : Wanted → CaseSystem → Claim → Certificate → List ℕ → Type 0
 IsTextOf nothing_more about claim c text = text ≡ []
 IsTextOf its_text about claim c text = IsCertificateText about claim text c
@@ -107,7 +107,7 @@ pub record TellsClaim (p : System) (f : Property) (about : CaseSystem) (c : Cert
   pub settled : IsSettled p f c.verdict
   pub followed : normal f ≡ term → FollowsFrom p about c.root c.verdict
 
--- what a verdict says, with this text behind it, or memory runs out
+-- what a verdict says, with this text after it, or memory runs out
 abbrev pub SaysVerdict : System → Verdict → List ℕ → Answer → Type 0
 SaysVerdict p (verdicts.Proved start) text (answers.Proved certificate) = certificate.items ≡ text
 SaysVerdict p (verdicts.Disproved piece values) text (answers.Disproved at certificate) = (at.names ≡ p.variables) × (at.values.items ≡ values.items) × (certificate.items ≡ text)

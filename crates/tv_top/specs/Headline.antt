@@ -27,7 +27,7 @@ use Rattle.tv_top.specs.Finding.{Offers, Finds}
 abbrev pub most_bytes : Bool → ℕ
 most_bytes checks = if checks then 16777216 else 1048576
 
--- the bytes are the text of a program and, where one is to be checked, that of a certificate behind it
+-- the bytes are the text of a program and, where one is to be checked, that of a certificate after it
 abbrev pub AreTexts : Bool → List ℕ → List ℕ → List ℕ → Type 0
 AreTexts true bytes program_text certificate_text = IsSplit bytes program_text certificate_text
 AreTexts false bytes program_text certificate_text = (program_text ≡ bytes) × (certificate_text ≡ [])

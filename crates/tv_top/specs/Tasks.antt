@@ -28,7 +28,7 @@ pub record Limits : Type 0 where
   -- how many pieces a region has
   pub disjuncts : ℕ
 
--- what is written behind `Proved`, or behind `Disproved` and its values
+-- what is written after `Proved`, or after `Disproved` and its values
 pub data Wanted : Type 0 where
   nothing_more : Wanted
   -- the text of the certificate that is found
@@ -101,7 +101,7 @@ query_in rows =
     query_of_made (first_of (codes "generate") rows) (is_given (codes "termination") rows) (first_of (codes "safety") rows)
     (first_of (codes "ctl") rows)
 
--- what is written behind the verdict: of a program that is made, numbers alone
+-- what is written after the verdict: of a program that is made, numbers alone
 abbrev pub wanted_of : Bool → Option Text → Option Wanted
 wanted_of writes None = Some (if writes then its_text else nothing_more)
 wanted_of true (Some loops) = None

@@ -24,7 +24,7 @@ pub(crate) fn check_claim_text(
     requires same_program { IsOfProgram (system_of program.now) (cases_of about.now) }
     requires same_steps { HaveSameSteps (system_of program.now) (cases_of about.now) }
     requires variables { claim_variables claim.now ≡ (cases_of about.now).variables }
-    requires few { length text.now < 2 ^ 32 - 1 }
+    requires bounded { length text.now < 2 ^ 32 - 1 }
     // The property holds at every initial state, or it fails at the values.
     ensures accepted { IfOk result (λ a. IsAcceptedClaim (system_of program.now) (cases_of about.now) claim.now text.now a) }
     ensures refused { IfErr result (λ f. IsUnaccepted (cases_of about.now) claim.now text.now f) }

@@ -14,7 +14,7 @@ pub struct Assignment {
     values: Vec<i128>,
 }
 
-/// What stands behind a variable on its line.
+/// What follows a variable on its line.
 fn value_text(alloc: Global, value: i128) -> Result<String, AllocError>
     ensures { IfOk result (λ text. string_bytes text ≡ codes " = " ++ (signed_decimal value ++ 10 ∷ [])) }
 {

@@ -30,7 +30,7 @@ fn without_certificate(failing: TextFailing) -> Answer
 }
 
 /// The answer for what a certificate says all of whose obligations are met.
-fn said(alloc: Global, program: &Program, accepted: &Accepted) -> Answer
+fn accepted_answer(alloc: Global, program: &Program, accepted: &Accepted) -> Answer
     ensures { Says (system_of program.now) accepted.now.proved accepted.now.values.items result }
 {
     if accepted.proved {
@@ -50,11 +50,11 @@ fn settle(alloc: Global, program: &Program, claim: &Claim, about: &Cases, text: 
     requires variables { claim_variables claim.now ≡ (cases_of about.now).variables }
     requires same_program { IsOfProgram (system_of program.now) (cases_of about.now) }
     requires same_steps { HaveSameSteps (system_of program.now) (cases_of about.now) }
-    requires few { length text.now < 2 ^ 32 - 1 }
+    requires bounded { length text.now < 2 ^ 32 - 1 }
     ensures { (f : Property) → IsClaim claim.now f → AnswersCheck (system_of program.now) f (cases_of about.now) text.now result }
 {
     match check_claim_text(alloc, program, about, claim, text) {
-        Ok(accepted) => said(alloc, program, &accepted),
+        Ok(accepted) => accepted_answer(alloc, program, &accepted),
         Err(failing) => without_certificate(failing),
     }
 }
@@ -70,7 +70,7 @@ pub fn check_certificate(
     requires variables { variables_of property.now ≡ length (system_of program.now).variables }
     requires same_program { IsOfProgram (system_of program.now) (cases_of about.now) }
     requires same_steps { HaveSameSteps (system_of program.now) (cases_of about.now) }
-    requires few { length text.now < 2 ^ 32 - 1 }
+    requires bounded { length text.now < 2 ^ 32 - 1 }
     ensures { AnswersCheck (system_of program.now) (property_of property.now) (cases_of about.now) text.now result }
 {
     match Claim::new(alloc, property) {

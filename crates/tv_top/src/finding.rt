@@ -81,7 +81,7 @@ pub(crate) fn is_termination(formula: &Formula) -> bool
     }
 }
 
-/// What is written behind the verdict of the certificate.
+/// What is written after the verdict of the certificate.
 fn text_of(
     alloc: Global,
     wanted: Wanted,
@@ -117,7 +117,7 @@ fn ensure_met(search: &Search, certificate: &Certificate)
 }
 
 /// The answer of what a verdict says, with the text of its certificate.
-fn said(alloc: Global, program: &Program, verdict: &Verdict, text: Vec<u8>) -> Answer
+fn verdict_answer(alloc: Global, program: &Program, verdict: &Verdict, text: Vec<u8>) -> Answer
     ensures { SaysVerdict (system_of program.now) verdict.now text.items result }
 {
     match verdict {
@@ -147,7 +147,7 @@ fn told_by(alloc: Global, search: &Search, certificate: &Certificate) -> Answer
         search.claim,
         certificate,
     ) {
-        Ok(text) => said(alloc, search.program, certificate.verdict(), text),
+        Ok(text) => verdict_answer(alloc, search.program, certificate.verdict(), text),
         Err(_) => Answer::Memory,
     }
 }
@@ -184,7 +184,7 @@ pub(crate) fn told(alloc: Global, search: &Search, certificate: Certificate) -> 
 /// How far a search goes.
 pub(crate) fn budget_of(limits: &Limits) -> Budget
     ensures exact { result ≡ budget_of (limits_of limits.now) }
-    ensures few { result.splits ≤ 128 }
+    ensures bounded { result.splits ≤ 128 }
 {
     Budget {
         pivots: u64::from(limits.pivots),

@@ -63,8 +63,8 @@ fn is_of_ranks(system: &Name) -> bool {
 }
 
 /// Whether a further search is begun after the answer: where no ranks, no rows or no rounds were found, and not where a limit of the search
-/// was met. Ranks of a formula that is not termination are but one way to show it, so there a limit that they met ends nothing; and regions are
-/// but one way, so neither does their usual limit, or a greater one.
+/// was met. Ranks of a formula that is not termination are but one way to show it, so there a limit that they met ends nothing; and regions
+/// are but one way, so neither does their usual limit, or a greater one.
 fn leaves_open(search: &Search, answer: &Answer) -> bool {
     match answer {
         Answer::Unknown(Cause::Unsolved { system, fault: _ }) => {

@@ -12,5 +12,5 @@ pub struct Limits {
     pub splits: u32,
     /// How many pieces a region has.
     pub disjuncts: u32,
-    ghost few: { splits ≤ 128 },
+    ghost bounded: { splits ≤ 128 },
 }

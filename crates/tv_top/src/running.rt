@@ -49,7 +49,7 @@ fn without_property(fault: FormulaFault) -> Answer
     }
 }
 
-/// The text of the program and, where one is to be checked, that of the certificate behind it.
+/// The text of the program and, where one is to be checked, that of the certificate after it.
 fn texts_in(bytes: &[u8], checks: bool) -> (&[u8], &[u8])
     ensures texts { AreTexts checks bytes.now result.0.now result.1.now }
     ensures program { length result.0.now ≤ length bytes.now }

@@ -102,7 +102,7 @@ fn question_in<'a>(matches: &ArgMatches<'a>) -> Option<Question<'a>>
     }
 }
 
-/// What is written behind the verdict.
+/// What is written after the verdict.
 fn wanted_in(matches: &ArgMatches) -> Option<Wanted>
     ensures { option_map wanted_view result ≡ wanted_in (rows_of (found_of matches.now)) }
 {

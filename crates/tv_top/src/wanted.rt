@@ -4,10 +4,10 @@ ghost use Rattle.std.specs.Prelude.{◌≤◌};
 #[derive(Clone, Copy)]
 pub struct Loops {
     pub count: u32,
-    ghost few: { count ≤ 1000 },
+    ghost bounded: { count ≤ 1000 },
 }
 
-/// What is written behind `Proved`, or behind `Disproved` and its values.
+/// What is written after `Proved`, or after `Disproved` and its values.
 #[derive(Clone, Copy)]
 pub enum Wanted {
     Nothing,

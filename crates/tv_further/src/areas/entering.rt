@@ -1,5 +1,5 @@
-// Ways to enter areas, with terms for the draws. Where each draw's coefficients are 1, 0 or -1, some list of terms does wherever some draws do:
-// a draw is at one of its bounds.
+// Ways to enter areas, with terms for the draws. Where each draw's coefficients are 1, 0 or -1, some list of terms does wherever some draws
+// do: a draw is at one of its bounds.
 
 use crate::areas::area::Area;
 use crate::areas::passage::{rows_entered, width_of};

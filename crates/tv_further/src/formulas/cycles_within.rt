@@ -113,7 +113,7 @@ fn choice_into(
     }))
 }
 
-/// The number of an area of the cycle as a target, where its areas stand behind others.
+/// The number of an area of the cycle as a target, where its areas stand after others.
 fn target_of(known: &[Area], cycle: &Cycle, place: usize) -> u32 {
     let Some(area) = cycle.areas.get(place) else {
         return 0;
@@ -127,7 +127,7 @@ fn target_of(known: &[Area], cycle: &Cycle, place: usize) -> u32 {
     number
 }
 
-/// The proofs of a cycle whose areas stand behind the known ones; `None` where one was not found.
+/// The proofs of a cycle whose areas stand after the known ones; `None` where one was not found.
 fn proofs_of(
     question: &Question,
     sides: &Sides,

@@ -1,5 +1,5 @@
-// Rows that are lost over a turn of a loop, but not for ever, since the turn must stop before: one of its guards is lost over it too. In place
-// of the row one is asked that the turn keeps: the row after the turn less a multiple of the guard.
+// Rows that are lost over a turn of a loop, but not for ever, since the turn must stop before: one of its guards is lost over it too. In
+// place of the row one is asked that the turn keeps: the row after the turn less a multiple of the guard.
 
 use crate::areas::area::{Area, both, copy_of};
 use crate::areas::changes::growth;

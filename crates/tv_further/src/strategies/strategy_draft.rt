@@ -131,7 +131,8 @@ impl Draft {
         }
     }
 
-    /// Whether no other way can show more: no area was lost or dropped. Where there are draws, not all of them are tried before areas are cut.
+    /// Whether no other way can show more: no area was lost or dropped. Where there are draws, not all of them are tried before areas are
+    /// cut.
     pub(crate) fn is_whole(&self, question: &Question) -> bool {
         let is_exact = self.cuts == 0 || question.about.list().iter().all(|case| case.draws == 0);
         self.lost == 0 && self.dropped == 0 && is_exact

@@ -10,8 +10,8 @@ both-requires c =
     let region = c.args.region.now in
     let over = c.requires.over in
     let e = over.variables in
-    let few = c.variables-variables.ensures.limits.few_variables in record {
-      few = omega (arith, e, few);
+    let bounded = c.variables-variables.ensures.limits.few_variables in record {
+      bounded = omega (arith, e, bounded);
       first = as_first about region region over over;
       second = as_first about region region over over;
     }

@@ -11,8 +11,8 @@ both-requires c =
     let second = c.args.sides.now.second.now in
     let over = c.requires.sides in
     let e = over.first.variables in
-    let few = c.variables-variables.ensures.limits.few_variables in record {
-      few = omega (arith, e, few);
+    let bounded = c.variables-variables.ensures.limits.few_variables in record {
+      bounded = omega (arith, e, bounded);
       first = as_first about first first over.first over.first;
       second = as_first about first second over.first over.second;
     }

@@ -25,7 +25,7 @@ pub returns-in-Ok-sum : goal.returns-in-Ok-sum
 returns-in-Ok-sum c =
     let e = expression c.in-Ok.expr in
     let u = c.sum.new.self in
-    let few = c.if-draws-gt0.false in
+    let bounded = c.if-draws-gt0.false in
     let zero : u.draws ≡ 0 = omega (arith, c.draws.ensures) in
     let undrawn = none_in (length u.names) e (subst (λ (d : ℕ). IsTrue (expression_fits (length u.names) d e)) zero c.in-Ok.ensures.fits) in
     let scanned = subst (λ (ts : List Token). IsTokens 0 c.args.text.now ts) (sym c.deref.ensures.value) c.in_ok-list.ensures in
@@ -38,7 +38,7 @@ pub no_memory-requires : goal.no_memory-requires
 no_memory-requires c =
     let e = expression c.in-Ok.expr in
     let u = c.sum.new.self in
-    let few = c.if-draws-gt0.false in
+    let bounded = c.if-draws-gt0.false in
     let zero : u.draws ≡ 0 = omega (arith, c.draws.ensures) in
     let undrawn = none_in (length u.names) e (subst (λ (d : ℕ). IsTrue (expression_fits (length u.names) d e)) zero c.in-Ok.ensures.fits) in
     let scanned = subst (λ (ts : List Token). IsTokens 0 c.args.text.now ts) (sym c.deref.ensures.value) c.in_ok-list.ensures in

@@ -8,8 +8,8 @@ use Rattle.tv_cert.proofs.pieces.+joined_piece_at.Goals as goal
 pub returns-then-k-here : goal.returns-then-k-here
 returns-then-k-here t c =
     let l = c.args.location in
-    let few : c.args.k < length (pieces_at (pieces_list c.node-item.result) l) = subst (λ n. c.args.k < n) c.count_at-here.ensures c.if-k-here.true in
-    let same = joined_here c.args.nodes.now c.node-item.result c.in-len1-up.len_at_least c.node-item.is l c.args.k few in
+    let bounded : c.args.k < length (pieces_at (pieces_list c.node-item.result) l) = subst (λ n. c.args.k < n) c.count_at-here.ensures c.if-k-here.true in
+    let same = joined_here c.args.nodes.now c.node-item.result c.in-len1-up.len_at_least c.node-item.is l c.args.k bounded in
     subst (λ o. MatchOption c.at.result (o ≡ None) (λ q. o ≡ Some q.now)) (sym same) c.at.ensures
 
 pub returns-else-k-here : goal.returns-else-k-here

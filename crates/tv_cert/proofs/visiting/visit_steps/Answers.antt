@@ -54,9 +54,9 @@ pub overflow_add-k : goal.overflow_add-k
 overflow_add-k g c =
     let system = cases_of c.args.at.now.about.now in
     let below = case_within (place_of c.args.at.now.piece.now) system.cases c.cases.k (case_view c.in-Some.case.now) (case_at (cases_of c.args.at.now.about.now).cases c.cases.k (Some (case_view c.in-Some.case.now)) _ _ c.location-location.ensures c.in-Some.ensures.case) in
-    let few = c.in-Some.ensures.few in
+    let bounded = c.in-Some.ensures.bounded in
     let same = ap (λ l. length (leaving l system.cases)) c.location-location.ensures in
-    omega (arith, below, few, same)
+    omega (arith, below, bounded, same)
 
 pub cases-smaller : goal.cases-smaller
 cases-smaller g c =

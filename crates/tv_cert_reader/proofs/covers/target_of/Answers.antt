@@ -3,5 +3,5 @@ use Rattle.tv_cert_reader.proofs.covers.target_of.Goals as goal
 
 pub returns-in_err-target : goal.returns-in_err-target
 returns-in_err-target c = rw c.from_residual.ensures (λ target fall rows text owes.
-    let few = few_targets c.args.targets.now target fall rows c.requires owes in
-    c.in_err-target.ensures target fall text few.0 few.1)
+    let bounded = few_targets c.args.targets.now target fall rows c.requires owes in
+    c.in_err-target.ensures target fall text bounded.0 bounded.1)

@@ -13,7 +13,7 @@ use Rattle.tv_cert_reader.proofs.read.read_certificate.Goals as goal
 
 pub invariant_of-cursor : goal.invariant_of-cursor
 invariant_of-cursor c = record {
-  room = (let f = lines_few c.args.text.now in let e = ap length c.new.ensures in let r = c.requires.few in omega (arith, f, e, r));
+  room = (let f = lines_few c.args.text.now in let e = ap length c.new.ensures in let r = c.requires.bounded in omega (arith, f, e, r));
 }
 
 pub certified-requires-clause-fits : goal.certified-requires-clause-fits
@@ -34,4 +34,4 @@ returns-in_err-root-clause-refused c =
     let a = c.args.about.now.are_cases.starts in
     at_exit (λ r. IfErr r (λ f. IsRefusedText system c.args.claim.now c.args.text.now f)) c.from_residual.result c.in_err-root.field-0.0 c.from_residual.ensures.1
     (refused system (omega (arith, a)) c.args.claim.now c.requires.variables c.args.text.now c.in_err-root.field-0.0
-    (record { lines = c.new.result; taken = 0; room = (let f = lines_few c.args.text.now in let e = ap length c.new.ensures in let r = c.requires.few in omega (arith, f, e, r)) }) c.new.ensures refl c.in_err-root.ensures)
+    (record { lines = c.new.result; taken = 0; room = (let f = lines_few c.args.text.now in let e = ap length c.new.ensures in let r = c.requires.bounded in omega (arith, f, e, r)) }) c.new.ensures refl c.in_err-root.ensures)

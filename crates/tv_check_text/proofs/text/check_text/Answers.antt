@@ -8,7 +8,7 @@ use Rattle.tv_check_text.proofs.text.check_text.Goals as goal
 
 pub invariant_of-cursor : goal.invariant_of-cursor
 invariant_of-cursor c = record {
-  room = (let f = lines_few c.args.text.now in let e = ap length c.new.ensures in let r = c.requires.few in omega (arith, f, e, r));
+  room = (let f = lines_few c.args.text.now in let e = ap length c.new.ensures in let r = c.requires.bounded in omega (arith, f, e, r));
 }
 
 pub returns-in-Err-clause-refused : goal.returns-in-Err-clause-refused
@@ -18,7 +18,7 @@ returns-in-Err-clause-refused c =
     let a = c.args.about.now.are_cases.starts in
     subst (IsUnaccepted system claim c.args.text.now) (sym c.failing_of.ensures) (unaccepted system claim c.args.text.now c.in-Err.failure
     (refused system (omega (arith, a)) claim c.requires.variables c.args.text.now c.in-Err.failure
-    (record { lines = c.new.result; taken = 0; room = (let f = lines_few c.args.text.now in let e = ap length c.new.ensures in let r = c.requires.few in omega (arith, f, e, r)) }) c.new.ensures refl c.in-Err.ensures))
+    (record { lines = c.new.result; taken = 0; room = (let f = lines_few c.args.text.now in let e = ap length c.new.ensures in let r = c.requires.bounded in omega (arith, f, e, r)) }) c.new.ensures refl c.in-Err.ensures))
 
 pub returns-in-Some-clause-refused : goal.returns-in-Some-clause-refused
 returns-in-Some-clause-refused c =

@@ -45,7 +45,7 @@ returns-then-place c =
     piece_missing system (omega (arith, a)) s c.args.walk.now.cursor j.node c.node.new.self.cursor j.is_node j.took c.in_ok-place.place c.in_ok-place.values.items c.values.new.cursor
     (c.in_ok-place.ensures.0.many ∙ c.variables.ensures.same) c.in_ok-place.ensures.1
     (subst (λ ps. slice_get (pieces_at ps system.start) c.in_ok-place.place ≡ None) j.pieces
-    (none_past (pieces_list c.in_ok-root.root) system.start c.in_ok-place.place (let f = c.in_ok-root.ensures.few in let h = c.if-place.true in omega (arith, f, h))))
+    (none_past (pieces_list c.in_ok-root.root) system.start c.in_ok-place.place (let f = c.in_ok-root.ensures.bounded in let h = c.if-place.true in omega (arith, f, h))))
 
 pub returns-then-is_none : goal.returns-then-is_none
 returns-then-is_none c =

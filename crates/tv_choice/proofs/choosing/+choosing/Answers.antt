@@ -65,7 +65,7 @@ settle-returns-in-Ok-Take-clause-found t c =
     let way = c.index.result.now in
     let same = same_at c.args.ways.now.items c.in-Ok-Take.way b'.0 way b'.1 c.index.ensures in
     let is = all_at (IsWay q.columns (query_of q) c.args.rows.now) c.args.ways.now.items c.in-Ok-Take.way way c.requires.ways.each b'.1.0 c.index.ensures in
-    take_leaf q.columns (query_of q) c.args.rows.now c.args.left way c.in-Ok-Take.lists c.in_ok-take_of-in-Ok-Take.field-0 q.limits.few_cases q.few is (subst (λ w. AreShown q.columns c.args.rows.now (way_rows w) (map (λ x. x.items) c.in-Ok-Take.lists.items)) same b'.2) c.in_ok-take_of-in-Ok-Take.ensures
+    take_leaf q.columns (query_of q) c.args.rows.now c.args.left way c.in-Ok-Take.lists c.in_ok-take_of-in-Ok-Take.field-0 q.limits.few_cases q.bounded is (subst (λ w. AreShown q.columns c.args.rows.now (way_rows w) (map (λ x. x.items) c.in-Ok-Take.lists.items)) same b'.2) c.in_ok-take_of-in-Ok-Take.ensures
 
 pub settle-split_way-requires : goal.settle-split_way-requires
 settle-split_way-requires t c =
@@ -206,7 +206,7 @@ go_on-returns-in-Ok-Shown-clause-found t c =
     let some = subst (IsStepInto q.columns (query_of q) c.args.rows.now c.deref.result.now) c.in-Ok-Some.field-0-is c.in-Ok-Some.ensures.step in
     let look = subst (IsLook q.columns c.args.rows.now c.deref-3.result.now) c.in-Ok-Shown.field-0-is c.in-Ok-Shown.ensures.look in
     let look' = subst (λ rs. IsLook q.columns c.args.rows.now rs (looks.Shown c.in-Ok-Shown.lists)) c.deref-3.ensures.value look in
-    take_leaf q.columns (query_of q) c.args.rows.now c.args.left c.in-Ok-Some.way c.in-Ok-Shown.lists c.in_ok-take_of-in-Ok-Shown.field-0 q.limits.few_cases q.few some.way look' c.in_ok-take_of-in-Ok-Shown.ensures
+    take_leaf q.columns (query_of q) c.args.rows.now c.args.left c.in-Ok-Some.way c.in-Ok-Shown.lists c.in_ok-take_of-in-Ok-Shown.field-0 q.limits.few_cases q.bounded some.way look' c.in_ok-take_of-in-Ok-Shown.ensures
 
 pub go_on-unreachable-requires : goal.go_on-unreachable-requires
 go_on-unreachable-requires t c =

@@ -10,7 +10,7 @@ use Rattle.tv_choice.proofs.ways.push_case.Goals as goal
 
 pub overflow_add-target : goal.overflow_add-target
 overflow_add-target c =
-    let l = place_fits c.args.question.now.pieces.now c.args.case.now.to c.pieces.target c.in-Some.piece.now c.args.question.now.few c.in-Some.ensures in
+    let l = place_fits c.args.question.now.pieces.now c.args.case.now.to c.pieces.target c.in-Some.piece.now c.args.question.now.bounded c.in-Some.ensures in
     omega (arith, l)
 
 pub pieces-smaller : goal.pieces-smaller

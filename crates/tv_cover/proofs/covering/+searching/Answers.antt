@@ -37,7 +37,7 @@ settle-split-requires t c =
     let mid : Place = record { rows = c.next_step.new.rows; path = c.args.place.now.path } in (
       (let d = c.decreases in let l = c.if-left-eq0.false in omega (arith, d, l)),
       (
-        c.requires.few,
+        c.requires.bounded,
         (
           c.requires.count,
           (
@@ -71,7 +71,7 @@ settle_side-settle-requires t c =
     let s = c.requires.searches in (
       (let d = c.decreases in omega (arith, d)),
       (
-        c.requires.few,
+        c.requires.bounded,
         (
           c.requires.count,
           (
@@ -132,7 +132,7 @@ split-settle_side-requires-2 t c =
     let holds = subst (λ x. IsSideFound n lists rows c.args.left place mid halves.first.row x) c.in-Ok-Tree.field-0-is (c.in-Ok-Tree.ensures rows s (first_side n lists rows marks place halves s c.requires.halves)) in (
       (let d = c.decreases in omega (arith, d)),
       (
-        c.requires.few,
+        c.requires.bounded,
         (
           c.requires.count,
           (

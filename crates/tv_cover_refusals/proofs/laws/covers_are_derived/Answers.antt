@@ -3,6 +3,6 @@ use Rattle.tv_cover_refusals.proofs.laws.covers_are_derived.Goals as goal
 
 pub returns : goal.returns
 returns c = record {
-  refusals = λ about base f h many lists rows pivots splits fault are into few is. refusal about base f h lists into many rows pivots splits fault are few is;
+  refusals = λ about base f h many lists rows pivots splits fault are into bounded is. refusal about base f h lists into many rows pivots splits fault are bounded is;
   case = λ about d rows owed asked. case_refusal about d rows owed asked;
 }

@@ -12,10 +12,10 @@ invariant_of-judge c =
     let front = c.in_ok-rows.ensures ∙ ap (λ cs. map (padded_row c.args.case.now.draws) (rows_at c.args.case.now.from cs)) c.deref.ensures.value in
     let rows : c.push_copies.new.list.items ≡ step_rows case c.args.now.items = c.in_ok-push_copies.ensures.copied ∙ (λ i. front i ++ c.deref-2.ensures.value i) in
     let strong = subst (λ rs. IsStronger rs c.in_ok-strongest.field-0.items) rows c.in_ok-strongest.ensures in
-    let few = c.requires.few in
+    let bounded = c.requires.bounded in
     let draws = c.requires.case.1.few_draws in
     record {
-      few = omega (arith, few, draws);
+      bounded = omega (arith, bounded, draws);
       even = step_even c.args.variables case c.args.now.items c.in_ok-strongest.field-0.items c.requires.over c.requires.case.1.guards strong;
       terms = c.requires.case.1.terms;
       splits = c.requires.splits;

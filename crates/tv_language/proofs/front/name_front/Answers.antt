@@ -3,7 +3,7 @@ use Rattle.tv_language.specs.Fronts.{end_of_last}
 use Rattle.tv_language.proofs.FrontLemmas.{end_of_last-drop}
 use Rattle.tv_language.proofs.front.name_front.Goals as goal
 
--- what is left behind the first byte and n more
+-- what is left after the first byte and n more
 behind : (close reach r n : ℕ) (text rest back : List ℕ) → (byte : ℕ) × (text ≡ byte ∷ rest) → reach ≡ end_of_last close text → back ≡ drop n rest → r ≡ reach - (1 + n) → r ≡ end_of_last close back
 behind close reach r n text rest back first h e d =
     let again : end_of_last close (drop (suc n) text) ≡ end_of_last close (drop n rest) = ap (λ t. end_of_last close (drop (suc n) t)) first.1 in

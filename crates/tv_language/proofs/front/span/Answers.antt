@@ -3,7 +3,7 @@ use Rattle.tv_language.specs.Fronts.{end_of_last}
 use Rattle.tv_language.proofs.FrontLemmas.{end_of_last-drop}
 use Rattle.tv_language.proofs.front.span.Goals as goal
 
--- what is left behind n bytes and one more
+-- what is left after n bytes and one more
 behind : (close reach r n : ℕ) (text rest back : List ℕ) → reach ≡ end_of_last close text → rest ≡ drop n text → back ≡ drop 1 rest → r ≡ reach - (n + 1) → r ≡ end_of_last close back
 behind close reach r n text rest back h e f d =
     d ∙ sym (ap (end_of_last close) f ∙ end_of_last-drop close 1 rest ∙ ap (λ t. end_of_last close t - 1) e ∙ omega (arith, h, end_of_last-drop close n text))

@@ -31,9 +31,9 @@ rows_with-requires c =
     let started = c.known_at-started.ensures ∙ (λ i. rows_at (c.deref-2.ensures.value i) (case i).from) in
     let all = over_at about.variables known (case_at about.cases k).from c.requires.known.over in
     let draws = c.case_of-case.ensures.limits.few_draws in
-    let variables = c.case_of-case.ensures.few in
+    let variables = c.case_of-case.ensures.bounded in
     record {
-      few = have_room about.variables c.case_of-case.result.now.draws c.known_at-started.result.now (omega (arith, draws, variables))
+      bounded = have_room about.variables c.case_of-case.result.now.draws c.known_at-started.result.now (omega (arith, draws, variables))
           (subst (All (λ r. columns r ≡ about.variables)) (sym started) all);
     }
 

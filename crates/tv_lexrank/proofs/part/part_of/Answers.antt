@@ -15,15 +15,15 @@ rounds_of-requires-clause-points c =
     let e : c.in-Ok-from_slice.set.items ≡ c.in-Ok.sorted.set.items = search rules in
     subst (PointsOf (cases_of c.args.component.now.about.now) c.args.component.now.known.now.pieces.items) (sym e) c.in-Ok.ensures.sorted.points
 
-pub rounds_of-requires-clause-few : goal.rounds_of-requires-clause-few
-rounds_of-requires-clause-few c =
+pub rounds_of-requires-clause-bounded : goal.rounds_of-requires-clause-bounded
+rounds_of-requires-clause-bounded c =
     let about = cases_of c.args.component.now.about.now in
     let e : c.in-Ok-from_slice.set.items ≡ c.in-Ok.sorted.set.items = search rules in
     let l = ap length e in
     let s = c.in-Ok.ensures.sorted in
-    let few = few_below (length about.cases) c.in-Ok.sorted.set.items s.ascends s.numbered in
+    let bounded = few_below (length about.cases) c.in-Ok.sorted.set.items s.ascends s.numbered in
     let most = c.args.component.now.about.now.are_cases.few_cases in
-    omega (arith, l, few, most)
+    omega (arith, l, bounded, most)
 
 pub returns-in-Ok-Emptied-clause-parted : goal.returns-in-Ok-Emptied-clause-parted
 returns-in-Ok-Emptied-clause-parted c =

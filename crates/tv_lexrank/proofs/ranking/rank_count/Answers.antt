@@ -32,10 +32,10 @@ parts-preserved c =
     let a = c.greater-count.ensures.first in
     let b = c.greater-count.ensures.second in
     let some = c.parts.invariant.some in
-    let few = c.parts.invariant.few in
+    let bounded = c.parts.invariant.bounded in
     record {
       some = omega (arith, a, some);
-      few = c.greater-count.ensures.least 8193 few (omega (arith, e, f, l, o));
+      bounded = c.greater-count.ensures.least 8193 bounded (omega (arith, e, f, l, o));
       enough = λ number h. elim (last_or_below i number h) [
         | inl q ↦ (let g = ap (λ z. length (rounds_in c.args.parts.now z)) q in omega (arith, e, l, o, b, g))
         | inr q ↦ (let g = c.parts.invariant.enough number q in omega (arith, a, g))

@@ -5,6 +5,6 @@ use Rattle.tv_lexrank.proofs.ranking.rank_count.Given as goal
 abbrev pub invariant-parts : goal.invariant-parts
 invariant-parts l = record {
   some : 1 ≤ l.count;
-  few : l.count ≤ 8193;
+  bounded : l.count ≤ 8193;
   enough : (number : ℕ) → number < l.part-index → length (rounds_in l.parts number) + 1 ≤ l.count;
 }

@@ -17,11 +17,11 @@ inside_fall-requires-clause-lined c =
     let p = c.part-part.result.now in
     subst (All IsLined) (sym c.deref-then-place_in-len.ensures.value) (chain_lined (cases_of r.about.now) r.known.now.pieces.items p.sorted.set.items p.rounds.items c.part-part.ensures.part.chain)
 
-pub inside_fall-requires-clause-few : goal.inside_fall-requires-clause-few
-inside_fall-requires-clause-few c =
+pub inside_fall-requires-clause-bounded : goal.inside_fall-requires-clause-bounded
+inside_fall-requires-clause-bounded c =
     let r = c.args.ranking.now in
     let a = r.enough c.args.component in
-    let b = r.few in
+    let b = r.bounded in
     let d = ap length (c.deref-then-place_in-len.ensures.value ∙ c.part-part.ensures.rounds) in
     omega (arith, a, b, d)
 

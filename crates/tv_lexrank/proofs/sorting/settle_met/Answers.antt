@@ -18,9 +18,9 @@ rows_with-requires c =
     let rows = c.known_at-known.ensures ∙ (λ i. rows_at (c.deref.ensures.value i) (case i).from) in
     let all = over_at about.variables known (case_at about.cases k).from q.known_rows.over in
     let draws = c.case_of-case.ensures.limits.few_draws in
-    let variables = c.case_of-case.ensures.few in
+    let variables = c.case_of-case.ensures.bounded in
     record {
-      few = have_room about.variables c.case_of-case.result.now.draws c.known_at-known.result.now (omega (arith, draws, variables))
+      bounded = have_room about.variables c.case_of-case.result.now.draws c.known_at-known.result.now (omega (arith, draws, variables))
           (subst (All (λ r. columns r ≡ about.variables)) (sym rows) all);
     }
 

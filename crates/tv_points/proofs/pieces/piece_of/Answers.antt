@@ -11,6 +11,6 @@ unreachable-requires c =
     let n = c.args.columns in
     let rows_are : c.deref-2.result.now ≡ point_rows xs = c.deref-2.ensures.value ∙ c.in_ok-rows.ensures ∙ ap point_rows c.deref.ensures.value in
     let ranks_are : c.deref-3.result.now ≡ rank_rows n c.args.ends c.args.left = c.deref-3.ensures.value ∙ c.in_ok-ranks.ensures in
-    let few : length c.deref-2.result.now < 2 ^ 32 = (let a = ap length rows_are in let b = point_length xs in let m = c.requires.point.many in let f = c.requires.few in omega (arith, a, b, m, f)) in
+    let bounded : length c.deref-2.result.now < 2 ^ 32 = (let a = ap length rows_are in let b = point_length xs in let m = c.requires.point.many in let f = c.requires.bounded in omega (arith, a, b, m, f)) in
     let made = c.in_ok-piece.ensures in
-    (rw c.in-None.is at made) (few, subst (All (λ r. columns r ≡ n)) (sym rows_are) (point_wide n xs c.requires.point.many), subst (All (λ r. columns r ≡ n)) (sym ranks_are) (ranks_wide n c.args.ends c.args.left))
+    (rw c.in-None.is at made) (bounded, subst (All (λ r. columns r ≡ n)) (sym rows_are) (point_wide n xs c.requires.point.many), subst (All (λ r. columns r ≡ n)) (sym ranks_are) (ranks_wide n c.args.ends c.args.left))

@@ -16,5 +16,5 @@ returns c =
     (c.in_ok-pieces.ensures ∙ ap (λ n. state_pieces n true c.args.states.now) c.variables-columns.ensures.same)
     c.in_ok-node.ensures
     (subst (λ n. AreEnds n c.args.states.now c.args.location c.in_ok-ends.ends.items) c.variables-columns.ensures.same c.in_ok-ends.ensures)
-    c.in-Ok.ensures.parts c.new-proofs.ensures.items c.in-Ok.ensures.each r.states_are.each r.states_are.few _ r.as_many r.ends r.at
+    c.in-Ok.ensures.parts c.new-proofs.ensures.items c.in-Ok.ensures.each r.states_are.each r.states_are.bounded _ r.as_many r.ends r.at
     (subst (λ l. l < about.locations) r.at (got_all (IsState about) c.args.states.now _ r.last r.states_are.each r.ends).place)

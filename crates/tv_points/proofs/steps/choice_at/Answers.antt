@@ -15,8 +15,8 @@ bounds-run-next c = let l = slice_get_within c.args.run.now.states.now c.args.st
 pub place_among-requires-clause-inside : goal.place_among-requires-clause-inside
 place_among-requires-clause-inside c = let l = slice_get_within c.args.run.now.states.now c.args.step.now.next c.requires.leads.after c.requires.leads.there in let m = as_many c.args.run.now c.requires.made in omega (arith, l, m)
 
-pub place_among-requires-clause-few : goal.place_among-requires-clause-few
-place_among-requires-clause-few c = let m = as_many c.args.run.now c.requires.made in let f = c.requires.made.states.few in omega (arith, f, m)
+pub place_among-requires-clause-bounded : goal.place_among-requires-clause-bounded
+place_among-requires-clause-bounded c = let m = as_many c.args.run.now c.requires.made in let f = c.requires.made.states.bounded in omega (arith, f, m)
 
 pub take-requires : goal.take-requires
 take-requires c =

@@ -83,12 +83,12 @@ pub returns-in_ok-weak-clause-pieces : goal.returns-in_ok-weak-clause-pieces
 returns-in_ok-weak-clause-pieces c =
     one_joined c.args.end (c.nowhere.result ∷ []) c.in_ok-weak.field-0.region.pieces.items (ap (λ ps. ps ++ []) c.nowhere.ensures.none) c.in_ok-weak.ensures.region.pieces
 
-pub returns-in_ok-until-clause-few : goal.returns-in_ok-until-clause-few
-returns-in_ok-until-clause-few c =
+pub returns-in_ok-until-clause-bounded : goal.returns-in_ok-until-clause-bounded
+returns-in_ok-until-clause-bounded c =
     ended_few (cases_of c.args.setting.now.about.now) c.args.sides.now c.args.end c.in_ok-until.field-0.region c.requires.end_few c.new.result.items (none_joined c.new.result.items c.new.ensures.items) c.in_ok-until.ensures.region
 
-pub returns-in_ok-weak-clause-few : goal.returns-in_ok-weak-clause-few
-returns-in_ok-weak-clause-few c =
+pub returns-in_ok-weak-clause-bounded : goal.returns-in_ok-weak-clause-bounded
+returns-in_ok-weak-clause-bounded c =
     let about = cases_of c.args.setting.now.about.now in
     let none = c.nowhere.result in
     ended_few about c.args.sides.now c.args.end c.in_ok-weak.field-0.region c.requires.end_few (none ∷ []) (nowhere_joined about none c.nowhere.ensures) c.in_ok-weak.ensures.region

@@ -49,8 +49,8 @@ returns-in-Some-clause-refused c =
     let told = subst (IsUntoldAlong about budget sides c.args.end) c.in-Untold.is c.in_ok-part.ensures.untold in
     given_less about budget 2 (last + 2) c.args.end given c.in-Untold.fault c.in-Untold.fault (omega arith) refl c.requires.built told
 
-pub returns-in-Everywhere-clause-few : goal.returns-in-Everywhere-clause-few
-returns-in-Everywhere-clause-few c = subst (IsFewRanked (system_of c.args.search.now) c.args.sides.now) c.in-Everywhere.is c.in_ok-part.ensures.few
+pub returns-in-Everywhere-clause-bounded : goal.returns-in-Everywhere-clause-bounded
+returns-in-Everywhere-clause-bounded c = subst (IsFewRanked (system_of c.args.search.now) c.args.sides.now) c.in-Everywhere.is c.in_ok-part.ensures.bounded
 
 pub returns-in-Some-clause-counted : goal.returns-in-Some-clause-counted
 returns-in-Some-clause-counted c = subst (IsUntoldCount (system_of c.args.search.now) c.args.sides.now) c.in-Untold.is c.in_ok-part.ensures.untold_count

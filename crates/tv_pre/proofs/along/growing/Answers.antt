@@ -47,10 +47,10 @@ returns-in_err-part-in-Settled-clause-refused c =
     let told = settled_layers about last sides end c.in_ok-layers.field-0 c.in-Settled.region c.in-Settled.at c.in-Settled.layers c.in-Settled.is c.requires.shape rounds in
     let count = told.layers.many in
     let early = told.early in
-    let few : length layers ≤ last = omega (arith, count, early) in
+    let bounded : length layers ≤ last = omega (arith, count, early) in
     let asks = λ (a : Question). (AsksEnds sides end.pieces.items a ⊎ AsksLayers about sides end.pieces.items layers a) in
     passed_on (IsFaultOf about budget (last + 2) (end ∷ arguments sides)) c.from_residual-in_err-part-in-Settled.result c.from_residual-in_err-part-in-Settled.ensures.1
-    (λ r is s h m. cover_fault about budget s ((last + 2) + h) asks (until_asked about last sides end s h m layers (answer_built about last sides end s h m c.in_ok-layers.field-0 rounds layers few told.layers.each c.variables-variables.ensures.limits.cases)) c.in_err-part-in-Settled.field-0.0 r is c.in_err-part-in-Settled.ensures.refusals)
+    (λ r is s h m. cover_fault about budget s ((last + 2) + h) asks (until_asked about last sides end s h m layers (answer_built about last sides end s h m c.in_ok-layers.field-0 rounds layers bounded told.layers.each c.variables-variables.ensures.limits.cases)) c.in_err-part-in-Settled.field-0.0 r is c.in_err-part-in-Settled.ensures.refusals)
 
 pub returns-in-Settled-clause-along : goal.returns-in-Settled-clause-along
 returns-in-Settled-clause-along c =
@@ -63,10 +63,10 @@ returns-in-Settled-clause-along c =
     let told = settled_layers about last sides end c.in_ok-layers.field-0 c.in-Settled.region c.in-Settled.at c.in-Settled.layers c.in-Settled.is c.requires.shape rounds in
     let count = told.layers.many in
     let early = told.early in
-    let few : length layers ≤ last = omega (arith, count, early) in
+    let bounded : length layers ≤ last = omega (arith, count, early) in
     is_along about (last + 1) sides c.args.children.items c.in_ok-part-in-Settled.part (end ∷ layers) (end ∷ arguments sides) c.in_ok-part-in-Settled.ensures.region
     (λ f g w. c.in_ok-part-in-Settled.ensures.part f g w)
-    (λ s h m. until_built about last sides end s h m layers (answer_built about last sides end s h m c.in_ok-layers.field-0 rounds layers few told.layers.each c.variables-variables.ensures.limits.cases))
+    (λ s h m. until_built about last sides end s h m layers (answer_built about last sides end s h m c.in_ok-layers.field-0 rounds layers bounded told.layers.each c.variables-variables.ensures.limits.cases))
 
 pub returns-in-Settled-clause-full : goal.returns-in-Settled-clause-full
 returns-in-Settled-clause-full c none =
@@ -101,10 +101,10 @@ returns-in_err-part-in-Open-clause-refused c =
     let told = open_layers about last sides end c.in_ok-layers.field-0 c.in-Open.region c.in-Open.layers c.in-Open.is c.requires.shape rounds in
     let count = told.layers.many in
     let early : last ≤ last = omega arith in
-    let few : length layers ≤ last = omega (arith, count, early) in
+    let bounded : length layers ≤ last = omega (arith, count, early) in
     let asks = λ (a : Question). (AsksEnds sides end.pieces.items a ⊎ AsksLayers about sides end.pieces.items layers a) in
     passed_on (IsFaultOf about budget (last + 2) (end ∷ arguments sides)) c.from_residual-in_err-part-in-Open.result c.from_residual-in_err-part-in-Open.ensures.1
-    (λ r is s h m. cover_fault about budget s ((last + 2) + h) asks (until_asked about last sides end s h m layers (answer_built about last sides end s h m c.in_ok-layers.field-0 rounds layers few told.layers.each c.variables-variables.ensures.limits.cases)) c.in_err-part-in-Open.field-0.0 r is c.in_err-part-in-Open.ensures.refusals)
+    (λ r is s h m. cover_fault about budget s ((last + 2) + h) asks (until_asked about last sides end s h m layers (answer_built about last sides end s h m c.in_ok-layers.field-0 rounds layers bounded told.layers.each c.variables-variables.ensures.limits.cases)) c.in_err-part-in-Open.field-0.0 r is c.in_err-part-in-Open.ensures.refusals)
 
 pub returns-clause-along : goal.returns-clause-along
 returns-clause-along c =
@@ -117,10 +117,10 @@ returns-clause-along c =
     let told = open_layers about last sides end c.in_ok-layers.field-0 c.in-Open.region c.in-Open.layers c.in-Open.is c.requires.shape rounds in
     let count = told.layers.many in
     let early : last ≤ last = omega arith in
-    let few : length layers ≤ last = omega (arith, count, early) in
+    let bounded : length layers ≤ last = omega (arith, count, early) in
     is_along about (last + 1) sides c.args.children.items c.in_ok-part-in-Open.part (end ∷ layers) (end ∷ arguments sides) c.in_ok-part-in-Open.ensures.region
     (λ f g w. c.in_ok-part-in-Open.ensures.part f g w)
-    (λ s h m. until_built about last sides end s h m layers (answer_built about last sides end s h m c.in_ok-layers.field-0 rounds layers few told.layers.each c.variables-variables.ensures.limits.cases))
+    (λ s h m. until_built about last sides end s h m layers (answer_built about last sides end s h m c.in_ok-layers.field-0 rounds layers bounded told.layers.each c.variables-variables.ensures.limits.cases))
 
 pub returns-clause-gap : goal.returns-clause-gap
 returns-clause-gap c =
@@ -131,8 +131,8 @@ returns-clause-gap c =
           (open_rounds about c.args.search.now.last c.args.sides.now c.args.end c.in_ok-layers.field-0 c.in-Open.region c.in-Open.layers c.in-Open.is rounds),
     )
 
-pub returns-in-Settled-clause-few : goal.returns-in-Settled-clause-few
-returns-in-Settled-clause-few c =
+pub returns-in-Settled-clause-bounded : goal.returns-in-Settled-clause-bounded
+returns-in-Settled-clause-bounded c =
     let about = system_of c.args.search.now in
     let last = c.args.search.now.last in
     let sides = c.args.sides.now in
@@ -142,12 +142,12 @@ returns-in-Settled-clause-few c =
     let told = settled_layers about last sides end c.in_ok-layers.field-0 c.in-Settled.region c.in-Settled.at c.in-Settled.layers c.in-Settled.is c.requires.shape rounds in
     let count = told.layers.many in
     let early = told.early in
-    let few : length layers ≤ last = omega (arith, count, early) in
+    let bounded : length layers ≤ last = omega (arith, count, early) in
     grown_few about sides end c.in_ok-part-in-Settled.part.region c.requires.end_few c.requires.shape rounds.point rounds.of layers told.layers.each
-    (λ m is. last_before about last m (length layers) c.requires.search.last is few) c.in_ok-part-in-Settled.ensures.region
+    (λ m is. last_before about last m (length layers) c.requires.search.last is bounded) c.in_ok-part-in-Settled.ensures.region
 
-pub returns-clause-few : goal.returns-clause-few
-returns-clause-few c =
+pub returns-clause-bounded : goal.returns-clause-bounded
+returns-clause-bounded c =
     let about = system_of c.args.search.now in
     let last = c.args.search.now.last in
     let sides = c.args.sides.now in
@@ -157,9 +157,9 @@ returns-clause-few c =
     let told = open_layers about last sides end c.in_ok-layers.field-0 c.in-Open.region c.in-Open.layers c.in-Open.is c.requires.shape rounds in
     let count = told.layers.many in
     let early : last ≤ last = omega arith in
-    let few : length layers ≤ last = omega (arith, count, early) in
+    let bounded : length layers ≤ last = omega (arith, count, early) in
     grown_few about sides end c.in_ok-part-in-Open.part.region c.requires.end_few c.requires.shape rounds.point rounds.of layers told.layers.each
-    (λ m is. last_before about last m (length layers) c.requires.search.last is few) c.in_ok-part-in-Open.ensures.region
+    (λ m is. last_before about last m (length layers) c.requires.search.last is bounded) c.in_ok-part-in-Open.ensures.region
 
 pub returns-in_err-part-in-Settled-clause-counted : goal.returns-in_err-part-in-Settled-clause-counted
 returns-in_err-part-in-Settled-clause-counted c =

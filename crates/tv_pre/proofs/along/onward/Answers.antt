@@ -26,8 +26,8 @@ both-requires c =
     let sides = c.args.sides.now in
     let over : IsRegion about.variables about.locations c.hold_of.result.now = hold_over about sides c.hold_of.result.now c.hold_of.ensures c.requires.sides in
     let e = over.variables in
-    let few = c.variables-variables.ensures.limits.few_variables in record {
-      few = omega (arith, e, few);
+    let bounded = c.variables-variables.ensures.limits.few_variables in record {
+      bounded = omega (arith, e, bounded);
       first = as_first about c.hold_of.result.now c.hold_of.result.now over over;
       second = as_first about c.hold_of.result.now c.in_ok-stays.stays over c.in_ok-stays.ensures.stays.over;
     }
@@ -65,8 +65,8 @@ returns-clause-built c =
     built_to about s h (1 + h) hold l (subst (IsBuilt about s h) (sym c.hold_of.ensures) (hold_built about s h sides.shape sides.first.now sides.second.now (rest_built about s h region (arguments sides) m))))
     (c.in_ok-stays.ensures.built s h (first_alone about s h region (arguments sides) m)) c.in_ok-both.ensures.both)
 
-pub returns-clause-few : goal.returns-clause-few
-returns-clause-few c = onward_few (cases_of c.args.setting.now.about.now) c.args.sides.now c.args.region.now c.in_ok-stays.stays c.hold_of.result.now c.in_ok-both.field-0 c.hold_of.ensures c.in_ok-stays.ensures.few c.in_ok-both.ensures.both
+pub returns-clause-bounded : goal.returns-clause-bounded
+returns-clause-bounded c = onward_few (cases_of c.args.setting.now.about.now) c.args.sides.now c.args.region.now c.in_ok-stays.stays c.hold_of.result.now c.in_ok-both.field-0 c.hold_of.ensures c.in_ok-stays.ensures.bounded c.in_ok-both.ensures.both
 
 pub returns-in_err-stays-clause-counted : goal.returns-in_err-stays-clause-counted
 returns-in_err-stays-clause-counted c =
@@ -83,4 +83,4 @@ returns-in_err-both-clause-counted c =
     let sides = c.args.sides.now in
     let region = c.args.region.now in
     passed_on (IsCountedOnward about sides region) c.from_residual-in_err-both.result c.from_residual-in_err-both.ensures.1
-    (λ r is. onward_counted about sides region c.in_ok-stays.stays c.hold_of.result.now c.args.setting.now.budget.now c.in_err-both.field-0.0 r c.hold_of.ensures c.in_ok-stays.ensures.few is c.in_err-both.ensures.refused)
+    (λ r is. onward_counted about sides region c.in_ok-stays.stays c.hold_of.result.now c.args.setting.now.budget.now c.in_err-both.field-0.0 r c.hold_of.ensures c.in_ok-stays.ensures.bounded is c.in_err-both.ensures.refused)

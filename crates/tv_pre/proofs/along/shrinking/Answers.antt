@@ -121,8 +121,8 @@ returns-clause-gap c =
           (open_rounds about c.args.search.now.last c.args.sides.now c.args.end c.in_ok-region.field-0 c.in-Open.region c.in-Open.layers c.in-Open.is rounds),
     )
 
-pub returns-in-Settled-clause-few : goal.returns-in-Settled-clause-few
-returns-in-Settled-clause-few c =
+pub returns-in-Settled-clause-bounded : goal.returns-in-Settled-clause-bounded
+returns-in-Settled-clause-bounded c =
     let about = system_of c.args.search.now in
     let last = c.args.search.now.last in
     let sides = c.args.sides.now in
@@ -132,7 +132,7 @@ returns-in-Settled-clause-few c =
     let rounds = c.in_ok-region.ensures.rounds in
     let limits = c.variables-variables.ensures.limits in
     let told = settled_round about last sides end c.in_ok-region.field-0 round at c.in-Settled.layers c.in-Settled.is c.requires.shape rounds in
-    shrunk_few about sides end c.in_ok-part-in-Settled.part.region c.requires.end_few c.requires.shape rounds.point rounds.of at round c.in_ok-more-in-Settled.more told.round c.in_ok-more-in-Settled.ensures.few
+    shrunk_few about sides end c.in_ok-part-in-Settled.part.region c.requires.end_few c.requires.shape rounds.point rounds.of at round c.in_ok-more-in-Settled.more told.round c.in_ok-more-in-Settled.ensures.bounded
     (λ m is. one_later about limits.cases last m at limits.starts c.requires.search.last is told.early false rounds.point told.open_before) c.in_ok-part-in-Settled.ensures.region
 
 pub returns-in_err-more-in-Settled-clause-counted : goal.returns-in_err-more-in-Settled-clause-counted

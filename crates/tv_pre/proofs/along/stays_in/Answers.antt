@@ -46,13 +46,13 @@ returns-in_ok-either-in-Any-clause-built c =
     let none = c.nowhere.result in
     (λ s h m. of_either (1 + h) c.in_ok-back.back c.in_ok-stops-in-Any.stops c.in_ok-either-in-Any.field-0 (c.in_ok-back.ensures.built s h m) (c.in_ok-stops-in-Any.ensures.built s h (one_built about s h none (of_nowhere h none c.nowhere.ensures))) c.in_ok-either-in-Any.ensures.either)
 
-pub returns-in-Every-clause-few : goal.returns-in-Every-clause-few
-returns-in-Every-clause-few c = every_few (cases_of c.args.setting.now.about.now) c.args.path c.args.region.now c.in_ok-back.back c.in-Every.is c.in_ok-back.ensures.few
+pub returns-in-Every-clause-bounded : goal.returns-in-Every-clause-bounded
+returns-in-Every-clause-bounded c = every_few (cases_of c.args.setting.now.about.now) c.args.path c.args.region.now c.in_ok-back.back c.in-Every.is c.in_ok-back.ensures.bounded
 
-pub returns-in_ok-either-in-Any-clause-few : goal.returns-in_ok-either-in-Any-clause-few
-returns-in_ok-either-in-Any-clause-few c =
+pub returns-in_ok-either-in-Any-clause-bounded : goal.returns-in_ok-either-in-Any-clause-bounded
+returns-in_ok-either-in-Any-clause-bounded c =
     let about = cases_of c.args.setting.now.about.now in
-    any_few about c.args.path c.args.region.now c.in_ok-back.back c.nowhere.result c.in_ok-stops-in-Any.stops c.in_ok-either-in-Any.field-0 c.in-Any.is c.nowhere.ensures c.in_ok-back.ensures.few c.in_ok-stops-in-Any.ensures.few c.in_ok-either-in-Any.ensures.either
+    any_few about c.args.path c.args.region.now c.in_ok-back.back c.nowhere.result c.in_ok-stops-in-Any.stops c.in_ok-either-in-Any.field-0 c.in-Any.is c.nowhere.ensures c.in_ok-back.ensures.bounded c.in_ok-stops-in-Any.ensures.bounded c.in_ok-either-in-Any.ensures.either
 
 pub returns-in_err-back-clause-counted : goal.returns-in_err-back-clause-counted
 returns-in_err-back-clause-counted c =
@@ -75,4 +75,4 @@ returns-in_err-either-in-Any-clause-counted c =
     let about = cases_of c.args.setting.now.about.now in
     let region = c.args.region.now in
     passed_on (IsCountedStaying about c.args.path region) c.from_residual-in_err-either-in-Any.result c.from_residual-in_err-either-in-Any.ensures.1
-    (λ r is. stay_counted about c.args.path region c.in_ok-back.back c.nowhere.result c.in_ok-stops-in-Any.stops c.args.setting.now.budget.now c.in_err-either-in-Any.field-0.0 r c.in-Any.is c.nowhere.ensures c.in_ok-back.ensures.few c.in_ok-stops-in-Any.ensures.few is c.in_err-either-in-Any.ensures.refused)
+    (λ r is. stay_counted about c.args.path region c.in_ok-back.back c.nowhere.result c.in_ok-stops-in-Any.stops c.args.setting.now.budget.now c.in_err-either-in-Any.field-0.0 r c.in-Any.is c.nowhere.ensures c.in_ok-back.ensures.bounded c.in_ok-stops-in-Any.ensures.bounded is c.in_err-either-in-Any.ensures.refused)

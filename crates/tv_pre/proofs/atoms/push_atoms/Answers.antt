@@ -21,11 +21,11 @@ lists-preserved c =
     let e = c.deref-rows.ensures.value in
     let got = got_mapped (λ v. v.items) vs k ∙ ap (option_map (λ v. v.items)) (got_at vs k v c.lists-test.true c.index-lists-place.is) in
     let even = all_at (λ v. AreEven about.variables v.items) vs k v (all_unmapped (AreEven about.variables) (λ v. v.items) vs c.requires.even) c.lists-test.true c.index-lists-place.is in
-    let few = c.requires.few in
+    let bounded = c.requires.bounded in
     let l = c.lists-test.true in
     let made = c.in_ok-piece_of.ensures in
     one_atom about c.args.location k (length c.deref-rows.result.now) lists v.items c.in_ok-piece_of.field-0 c.in_ok-own_cover.field-0 c.args.made.now.pieces.items c.lists.made.pieces.items c.push_item.new.items.items c.args.made.now.proofs.items c.lists.made.proofs.items c.push_item-in-lists.new.items.items
-    c.requires.place (omega (arith, few, l)) got even (subst (All IsNarrow) e c.narrow_rows.ensures) made.place (made.columns ∙ c.variables-variables.ensures.same) (made.rows ∙ e) (ap length e) c.in_ok-own_cover.ensures
+    c.requires.place (omega (arith, bounded, l)) got even (subst (All IsNarrow) e c.narrow_rows.ensures) made.place (made.columns ∙ c.variables-variables.ensures.same) (made.rows ∙ e) (ap length e) c.in_ok-own_cover.ensures
     c.in_ok-push_item.ensures c.in_ok-push_item-2.ensures c.lists.invariant
 
 pub returns : goal.returns

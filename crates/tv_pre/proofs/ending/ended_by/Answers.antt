@@ -53,8 +53,8 @@ returns-clause-grown c =
     let has = c.in_ok-with_layer.ensures in
     let ranks : List Linear = constant_row n (pos new.round) ∷ [] in
     let added : List Marked = map (marked_as n Go ranks) qs in
-    let few = has.small in
-    let small : IsWithin 62 (pos new.round) = omega (arith, few) in
+    let bounded = has.small in
+    let small : IsWithin 62 (pos new.round) = omega (arith, bounded) in
     end_next about old new c.prove_all.new.proofs c.args.layer g c.requires.layer.over has
     (λ number later.
     let all : List Marked = new.pieces.items ++ later in

@@ -60,7 +60,7 @@ returns-clause-found c s h =
     (subst (λ o. IfSome o (IsGapFor about last (statements.after c.args.path s))) (sym c.first_gap-gap.ensures)
     (subst (λ o. IfSome (first_of o c.gap_before.result) (IsGapFor about last (statements.after c.args.path s))) (sym c.in_ok-inner.ensures)
     (after_gap about last c.args.path s child.gap c.gap_before.result h.gap (step_gap about last c.args.path s (steps_back last s) child.part.region h.built c.gap_before.result c.gap_before.ensures.some))))
-    (subst (IsFewBefore about c.args.path child.part.region) same c.in_ok-region.ensures.few)
+    (subst (IsFewBefore about c.args.path child.part.region) same c.in_ok-region.ensures.bounded)
 
 pub returns-in_err-region-clause-counted : goal.returns-in_err-region-clause-counted
 returns-in_err-region-clause-counted c =

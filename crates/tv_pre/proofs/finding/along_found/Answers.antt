@@ -54,7 +54,7 @@ returns-clause-found c s t h g =
     (λ e. said_of _ own Inexact e told)
     (λ place e. said_of _ own (Open place) e told)
     (λ place e. said_of _ own (Open place) e c.in_ok-part.ensures.unserved)))))))
-    (λ plain m is a b x y l. c.in_ok-part.ensures.few plain m is a b (record { first = x; second = y }) l)
+    (λ plain m is a b x y l. c.in_ok-part.ensures.bounded plain m is a b (record { first = x; second = y }) l)
 
 pub returns-in_err-part-clause-counted : goal.returns-in_err-part-clause-counted
 returns-in_err-part-clause-counted c =

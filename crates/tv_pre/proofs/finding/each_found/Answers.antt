@@ -71,7 +71,7 @@ returns-clause-found c ss h =
     (subst (λ (r : Region). (s : State) → IsStateOf about s → All (λ x. InState x s) arguments.regions.items → InState r s) same
     (subst (λ rs. (s : State) → IsStateOf about s → All (λ x. InState x s) rs → InState c.in_ok-region.region s) c.deref.ensures.value c.in_ok-region.ensures.all)) h.gap
     (subst (λ (r : Region). (l : ℕ) → count_at l r ≤ product (counts_at l arguments.regions.items)) same
-    (subst (λ rs. (l : ℕ) → count_at l c.in_ok-region.region ≤ product (counts_at l rs)) c.deref.ensures.value c.in_ok-region.ensures.few))
+    (subst (λ rs. (l : ℕ) → count_at l c.in_ok-region.region ≤ product (counts_at l rs)) c.deref.ensures.value c.in_ok-region.ensures.bounded))
 
 pub returns-in_err-region-clause-counted : goal.returns-in_err-region-clause-counted
 returns-in_err-region-clause-counted c =

@@ -94,12 +94,12 @@ returns-clause-refused c =
     subst (λ (z : Setting). IfErr r (λ fault. (last : ℕ) → IsLastRound (cases_of z.about.now) 8 last → IsRefusedFor (cases_of z.about.now) z.budget.now last s fault)) c.in_ok-search.ensures.setting
     (if_err r (λ x h last l. subst (λ n. IsRefusedFor about search.setting.now.budget.now n s x) (one_last about search.last last c.in_ok-search.ensures.search.last l) h) c.found_of.ensures.refused)
 
-pub returns-clause-few : goal.returns-clause-few
-returns-clause-few c =
+pub returns-clause-bounded : goal.returns-clause-bounded
+returns-clause-bounded c =
     let r = c.found_of.result in
     let s = aim_states c.args.aim.now in
     subst (λ (z : Setting). IfOk r (λ found. IsFewFor (cases_of z.about.now) s found.part.region)) c.in_ok-search.ensures.setting
-    (if_ok r (λ x h. h.few) c.found_of.ensures.found)
+    (if_ok r (λ x h. h.bounded) c.found_of.ensures.found)
 
 pub returns-clause-counted : goal.returns-clause-counted
 returns-clause-counted c =

@@ -70,7 +70,7 @@ returns-clause-found c ss h =
     (subst (λ (r : Region). All (λ x. OfPieces about x.pieces.items (InState r)) arguments.regions.items) same
     (subst (All (λ x. OfPieces about x.pieces.items (InState c.in_ok-region.region))) c.deref.ensures.value c.in_ok-region.ensures.all)) h.gap
     (subst (λ (r : Region). (l : ℕ) → count_at l r ≤ sum (counts_at l arguments.regions.items)) same
-    (subst (λ rs. (l : ℕ) → count_at l c.in_ok-region.region ≤ sum (counts_at l rs)) c.deref.ensures.value c.in_ok-region.ensures.few))
+    (subst (λ rs. (l : ℕ) → count_at l c.in_ok-region.region ≤ sum (counts_at l rs)) c.deref.ensures.value c.in_ok-region.ensures.bounded))
 
 pub returns-in_err-region-clause-counted : goal.returns-in_err-region-clause-counted
 returns-in_err-region-clause-counted c =

@@ -81,8 +81,8 @@ returns-clause-grown c =
     let ranks : List Linear = constant_row n (pos new.round) ∷ [] in
     let added : List Marked = map (marked_as n Go ranks) qs in
     let front = c.split_at.ensures.front ∙ ((λ i. take (g.count i) ((c.deref-list.ensures.value ∙ g.whole) i)) ∙ take-append_seam g.done g.rest) in
-    let few = has.small in
-    let small : IsWithin 62 (pos new.round) = omega (arith, few) in
+    let bounded = has.small in
+    let small : IsWithin 62 (pos new.round) = omega (arith, bounded) in
     grown_next about sides old new layer g c.requires.layer.over has.count has.round has.variables has.locations has.whole has.pieces (row_columns n (pos new.round))
     (λ number first second later a b.
     let all : List Marked = new.pieces.items ++ later in

@@ -34,4 +34,4 @@ returns-in-Ok-Tree-clause-shows c =
     (subst (IsChosen about.variables q (piece_rows piece)) is g.answers)
     (subst (HasShape about.variables q (length (piece_rows piece))) is g.shape)
     (subst IsShortChosen is g.short)
-    (let s = subst (IsShallow c.args.setting.now.budget.now.splits) is g.shallow in let few = c.requires.splits in omega (arith, s, few))
+    (let s = subst (IsShallow c.args.setting.now.budget.now.splits) is g.shallow in let bounded = c.requires.splits in omega (arith, s, bounded))

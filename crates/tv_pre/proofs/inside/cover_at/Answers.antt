@@ -42,7 +42,7 @@ returns-in-Ok-Tree-clause-answers c =
           (subst (IsCovered n lists (piece_rows piece)) is c.in-Ok-Tree.ensures.answers)
           (rows_even n lists tree (subst (HasSplitRows n lists) is c.in-Ok-Tree.ensures.split_rows))
           (subst CoverNarrow c.tree.ensures.same c.narrow_tree.ensures)
-          (let s = subst (IsShallow c.args.setting.now.budget.now.splits) is c.in-Ok-Tree.ensures.shallow in let few = c.requires.splits in omega (arith, s, few));
+          (let s = subst (IsShallow c.args.setting.now.budget.now.splits) is c.in-Ok-Tree.ensures.shallow in let bounded = c.requires.splits in omega (arith, s, bounded));
       inside = λ xs point.
           subst (HasNoHole n lists (piece_rows piece)) is c.in-Ok-Tree.ensures.none xs (record { width = point.width ∙ sym c.requires.piece.width; met = point.met });
     }

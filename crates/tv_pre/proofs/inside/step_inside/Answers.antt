@@ -110,4 +110,4 @@ returns-clause-shows c =
     (subst (IsCovered n lists rows) is c.in-Ok-Tree.ensures.answers)
     (rows_even n lists tree (subst (HasSplitRows n lists) is c.in-Ok-Tree.ensures.split_rows))
     (subst CoverNarrow c.tree.ensures.same c.narrow_tree.ensures)
-    (let s = subst (IsShallow c.args.setting.now.budget.now.splits) is c.in-Ok-Tree.ensures.shallow in let few = c.requires.splits in omega (arith, s, few))
+    (let s = subst (IsShallow c.args.setting.now.budget.now.splits) is c.in-Ok-Tree.ensures.shallow in let bounded = c.requires.splits in omega (arith, s, bounded))

@@ -32,8 +32,8 @@ returns-in-Err-clause-refusals c =
 pub overflow_add-k : goal.overflow_add-k
 overflow_add-k c =
     let below = case_within c.args.piece.now.location (cases_of c.args.setting.now.about.now).cases c.cases.k (case_view c.in-Some.case.now) c.in-Some.ensures.case in
-    let few = c.in-Some.ensures.few in
-    omega (arith, below, few)
+    let bounded = c.in-Some.ensures.bounded in
+    omega (arith, below, bounded)
 
 pub cases-smaller : goal.cases-smaller
 cases-smaller c =

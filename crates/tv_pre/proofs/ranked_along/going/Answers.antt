@@ -48,8 +48,8 @@ returns-clause-built c =
     (λ s h m. of_both (1 + h) hold c.in_ok-goes.goes c.in_ok-both.field-0 (hold_side_at about sides hold c.hold_of.ensures s h m)
     (c.in_ok-goes.ensures.built s h (one_built about s h all (of_everywhere h all c.in_ok-anywhere.ensures))) c.in_ok-both.ensures.both)
 
-pub returns-clause-few : goal.returns-clause-few
-returns-clause-few c = going_few (cases_of c.args.setting.now.about.now) c.args.sides.now c.in_ok-anywhere.anywhere c.in_ok-goes.goes c.hold_of.result.now c.in_ok-both.field-0 c.in_ok-anywhere.ensures c.hold_of.ensures c.in_ok-goes.ensures.few c.in_ok-both.ensures.both
+pub returns-clause-bounded : goal.returns-clause-bounded
+returns-clause-bounded c = going_few (cases_of c.args.setting.now.about.now) c.args.sides.now c.in_ok-anywhere.anywhere c.in_ok-goes.goes c.hold_of.result.now c.in_ok-both.field-0 c.in_ok-anywhere.ensures c.hold_of.ensures c.in_ok-goes.ensures.bounded c.in_ok-both.ensures.both
 
 pub returns-in_err-goes-clause-counted : goal.returns-in_err-goes-clause-counted
 returns-in_err-goes-clause-counted c =
@@ -64,4 +64,4 @@ returns-in_err-both-clause-counted c =
     let about = cases_of c.args.setting.now.about.now in
     let sides = c.args.sides.now in
     passed_on (IsCountedGoing about sides) c.from_residual-in_err-both.result c.from_residual-in_err-both.ensures.1
-    (λ r is. going_counted about sides c.in_ok-anywhere.anywhere c.in_ok-goes.goes c.hold_of.result.now c.args.setting.now.budget.now c.in_err-both.field-0.0 r c.in_ok-anywhere.ensures c.hold_of.ensures c.in_ok-goes.ensures.few is c.in_err-both.ensures.refused)
+    (λ r is. going_counted about sides c.in_ok-anywhere.anywhere c.in_ok-goes.goes c.hold_of.result.now c.args.setting.now.budget.now c.in_err-both.field-0.0 r c.in_ok-anywhere.ensures c.hold_of.ensures c.in_ok-goes.ensures.bounded is c.in_err-both.ensures.refused)

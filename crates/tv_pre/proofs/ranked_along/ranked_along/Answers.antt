@@ -72,8 +72,8 @@ returns-clause-along c =
       all_go about sides end onward c.requires.end c.in_ok-onward.ensures.going (c.in-Ok.ensures.all told),
     )
 
-pub returns-clause-few : goal.returns-clause-few
-returns-clause-few c = came_few (cases_of c.args.setting.now.about.now) c.args.sides.now c.args.end c.in_ok-part.part.region c.requires.end_few c.requires.shape c.requires.path c.in_ok-onward.onward c.in_ok-onward.ensures.few c.variables-variables.ensures.limits.starts c.in_ok-part.ensures.region
+pub returns-clause-bounded : goal.returns-clause-bounded
+returns-clause-bounded c = came_few (cases_of c.args.setting.now.about.now) c.args.sides.now c.args.end c.in_ok-part.part.region c.requires.end_few c.requires.shape c.requires.path c.in_ok-onward.onward c.in_ok-onward.ensures.bounded c.variables-variables.ensures.limits.starts c.in_ok-part.ensures.region
 
 pub returns-in_err-onward-clause-counted : goal.returns-in_err-onward-clause-counted
 returns-in_err-onward-clause-counted c =

@@ -66,15 +66,15 @@ returns-in_ok-before_any-in-Any-clause-others c =
     let back = c.in_ok-before_any-in-Any.field-0 in
     subst (λ (p : Path). OthersLeadOut about p region back) (sym c.in-Any.is) (any_others about region back c.in_ok-before_any-in-Any.ensures.before)
 
-pub returns-in_ok-before_every-in-Every-clause-few : goal.returns-in_ok-before_every-in-Every-clause-few
-returns-in_ok-before_every-in-Every-clause-few c =
+pub returns-in_ok-before_every-in-Every-clause-bounded : goal.returns-in_ok-before_every-in-Every-clause-bounded
+returns-in_ok-before_every-in-Every-clause-bounded c =
     let about = cases_of c.args.setting.now.about.now in
     let region = c.args.region.now in
     let back = c.in_ok-before_every-in-Every.field-0 in
     subst (λ (p : Path). IsFewBefore about p region back) (sym c.in-Every.is) (every_back_few about region back c.in_ok-before_every-in-Every.ensures.before)
 
-pub returns-in_ok-before_any-in-Any-clause-few : goal.returns-in_ok-before_any-in-Any-clause-few
-returns-in_ok-before_any-in-Any-clause-few c =
+pub returns-in_ok-before_any-in-Any-clause-bounded : goal.returns-in_ok-before_any-in-Any-clause-bounded
+returns-in_ok-before_any-in-Any-clause-bounded c =
     let about = cases_of c.args.setting.now.about.now in
     let region = c.args.region.now in
     let back = c.in_ok-before_any-in-Any.field-0 in

@@ -53,13 +53,13 @@ returns-in_ok-either-clause-built c =
     let sides = c.args.sides.now in
     (λ s h m. of_either (0 + h) sides.second.now c.nowhere.result c.in_ok-either.field-0 (second_of_two about s h sides.first.now sides.second.now m) (of_nowhere (0 + h) c.nowhere.result c.nowhere.ensures) c.in_ok-either.ensures.either)
 
-pub returns-in_ok-both-clause-few : goal.returns-in_ok-both-clause-few
-returns-in_ok-both-clause-few c =
+pub returns-in_ok-both-clause-bounded : goal.returns-in_ok-both-clause-bounded
+returns-in_ok-both-clause-bounded c =
     let told : two_ends c.args.sides.now.shape ≡ true = sym c.has_two_ends.ensures ∙ c.if-has_two_ends.true in
     two_ends_few c.args.sides.now c.in_ok-both.field-0 told c.in_ok-both.ensures.both
 
-pub returns-in_ok-either-clause-few : goal.returns-in_ok-either-clause-few
-returns-in_ok-either-clause-few c =
+pub returns-in_ok-either-clause-bounded : goal.returns-in_ok-either-clause-bounded
+returns-in_ok-either-clause-bounded c =
     let told : two_ends c.args.sides.now.shape ≡ false = sym c.has_two_ends.ensures ∙ c.if-has_two_ends.false in
     one_end_few (cases_of c.args.setting.now.about.now) c.args.sides.now c.nowhere.result c.in_ok-either.field-0 c.nowhere.ensures told c.in_ok-either.ensures.either
 

@@ -19,8 +19,8 @@ both-requires c =
     let over = c.regions.invariant.over in
     let item = item_over about c.args.regions.now c.regions.region-index c.region-item.result c.regions-test.true c.region-item.is c.requires.regions in
     let e = over.variables in
-    let few = c.variables-variables.ensures.limits.few_variables in record {
-      few = omega (arith, e, few);
+    let bounded = c.variables-variables.ensures.limits.few_variables in record {
+      bounded = omega (arith, e, bounded);
       first = as_first about c.regions.common c.regions.common over over;
       second = as_first about c.regions.common c.region-item.result over item;
     }
@@ -45,8 +45,8 @@ regions-preserved c =
 pub returns-clause-inside : goal.returns-clause-inside
 returns-clause-inside c = common_all (cases_of c.args.setting.now.about.now) c.args.regions.now c.regions.region-index c.regions.common c.regions-test.false c.regions.invariant
 
-pub returns-clause-few : goal.returns-clause-few
-returns-clause-few c = common_few (cases_of c.args.setting.now.about.now) c.args.regions.now c.regions.region-index c.regions.common c.regions-test.false c.regions.invariant
+pub returns-clause-bounded : goal.returns-clause-bounded
+returns-clause-bounded c = common_few (cases_of c.args.setting.now.about.now) c.args.regions.now c.regions.region-index c.regions.common c.regions-test.false c.regions.invariant
 
 pub returns-in_err-common-2-clause-counted : goal.returns-in_err-common-2-clause-counted
 returns-in_err-common-2-clause-counted c =
@@ -55,4 +55,4 @@ returns-in_err-common-2-clause-counted c =
     let bound = λ (l : ℕ). product (some_counts_at l regions) in
     passed_on (IsWithin bound) c.from_residual-in_err-common-2.result c.from_residual-in_err-common-2.ensures.1
     (λ r is. region_within bound fault r is
-    (common_counted regions c.regions.region-index c.regions.common c.region-item.result c.args.setting.now.budget.now fault c.regions-test.true c.region-item.is c.regions.invariant.few c.in_err-common-2.ensures.refused))
+    (common_counted regions c.regions.region-index c.regions.common c.region-item.result c.args.setting.now.budget.now fault c.regions-test.true c.region-item.is c.regions.invariant.bounded c.in_err-common-2.ensures.refused))

@@ -20,8 +20,8 @@ either-requires c =
     let over = c.regions.invariant.over in
     let item = item_over about c.args.regions.now c.regions.region-index c.region-item.result c.regions-test.true c.region-item.is c.requires.regions in
     let e = over.variables in
-    let few = c.variables-variables.ensures.limits.few_variables in record {
-      few = omega (arith, e, few);
+    let bounded = c.variables-variables.ensures.limits.few_variables in record {
+      bounded = omega (arith, e, bounded);
       first = as_first about c.regions.whole c.regions.whole over over;
       second = as_first about c.regions.whole c.region-item.result over item;
     }
@@ -46,8 +46,8 @@ regions-preserved c =
 pub returns-clause-all : goal.returns-clause-all
 returns-clause-all c = whole_all (cases_of c.args.setting.now.about.now) c.args.regions.now c.regions.region-index c.regions.whole c.regions-test.false c.regions.invariant
 
-pub returns-clause-few : goal.returns-clause-few
-returns-clause-few c = whole_few (cases_of c.args.setting.now.about.now) c.args.regions.now c.regions.region-index c.regions.whole c.regions-test.false c.regions.invariant
+pub returns-clause-bounded : goal.returns-clause-bounded
+returns-clause-bounded c = whole_few (cases_of c.args.setting.now.about.now) c.args.regions.now c.regions.region-index c.regions.whole c.regions-test.false c.regions.invariant
 
 pub returns-in_err-whole-clause-counted : goal.returns-in_err-whole-clause-counted
 returns-in_err-whole-clause-counted c =
@@ -56,4 +56,4 @@ returns-in_err-whole-clause-counted c =
     let bound = λ (l : ℕ). sum (counts_at l regions) in
     passed_on (IsWithin bound) c.from_residual.result c.from_residual.ensures.1
     (λ r is. region_within bound fault r is
-    (whole_counted regions c.regions.region-index c.regions.whole c.region-item.result c.args.setting.now.budget.now fault c.regions-test.true c.region-item.is c.regions.invariant.few c.in_err-whole.ensures.refused))
+    (whole_counted regions c.regions.region-index c.regions.whole c.region-item.result c.args.setting.now.budget.now fault c.regions-test.true c.region-item.is c.regions.invariant.bounded c.in_err-whole.ensures.refused))

@@ -31,7 +31,7 @@ pub ends_in_rounds-requires-clause-sides : goal.ends_in_rounds-requires-clause-s
 ends_in_rounds-requires-clause-sides c =
     let back = c.in_ok-stops.ensures in
     ends_sides (system_of c.args.search.now) c.variables-variables.ensures.limits.cases c.in_ok-anywhere.anywhere c.nowhere-none.result c.in_ok-stops.stops c.in_ok-anywhere.ensures c.nowhere-none.ensures
-    back.before back.others back.few back.built (c.is_tame.ensures.tame c.if-is_tame.true)
+    back.before back.others back.bounded back.built (c.is_tame.ensures.tame c.if-is_tame.true)
 
 pub ended_after-requires-clause-layers : goal.ended_after-requires-clause-layers
 ended_after-requires-clause-layers c =

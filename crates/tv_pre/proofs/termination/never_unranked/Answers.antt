@@ -32,7 +32,7 @@ pub never_in_rounds-requires-clause-sides : goal.never_in_rounds-requires-clause
 never_in_rounds-requires-clause-sides c =
     let back = c.in_ok-goes.ensures in
     never_sides (system_of c.args.search.now) c.variables-variables.ensures.limits.cases c.in_ok-anywhere.anywhere c.nowhere-none.result c.in_ok-goes.goes c.in_ok-anywhere.ensures c.nowhere-none.ensures
-    back.before back.others back.few back.built (c.is_tame.ensures.tame c.if-is_tame.true)
+    back.before back.others back.bounded back.built (c.is_tame.ensures.tame c.if-is_tame.true)
 
 pub returns-clause-found : goal.returns-clause-found
 returns-clause-found c lacks =

@@ -14,5 +14,5 @@ push_steps-requires t c =
     let p = length-rest c.args.path.now c.in-len1-up.len_at_least in
     let e = length-rest c.args.draws.now c.in-len1-up-draws.len_at_least in
     let even = c.requires.even in
-    let few = c.requires.few in
-    (omega (arith, d, p), (narrow_rest c.args.draws.now c.in-len1-up-draws.len_at_least c.requires.draws, (omega (arith, p, e, even), omega (arith, p, few))))
+    let bounded = c.requires.bounded in
+    (omega (arith, d, p), (narrow_rest c.args.draws.now c.in-len1-up-draws.len_at_least c.requires.draws, (omega (arith, p, e, even), omega (arith, p, bounded))))

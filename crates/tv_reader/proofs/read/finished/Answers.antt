@@ -12,12 +12,12 @@ pub new-requires : goal.new-requires
 new-requires c =
     let r = c.args.reader in
     let names : length c.finish.result ≤ 512 = subst (λ (ns : List Word). length ns ≤ 512) (sym c.finish.ensures) c.requires.steady.reads.within.0 in
-    let few : length c.args.items.edges.items ≤ 4096 = c.requires.fits.few in
+    let bounded : length c.args.items.edges.items ≤ 4096 = c.requires.fits.bounded in
     let counted : length (transitions c.args.items.edges.items) ≡ length c.args.items.edges.items = length-map c.args.items.edges.items transition in
-    let edges : length (transitions c.args.items.edges.items) ≤ 4096 = omega (arith, few, counted) in
+    let edges : length (transitions c.args.items.edges.items) ≤ 4096 = omega (arith, bounded, counted) in
     let first = subst (λ o. IfSome o (λ (l : ℕ). l < length r.labels)) c.in-Some.is c.requires.fits.started in
     let some : 0 < length r.labels = omega (arith, first) in
-    let locations : length r.labels ≤ 1024 = c.requires.few in
+    let locations : length r.labels ≤ 1024 = c.requires.bounded in
     record {
       few_variables = grind (arith, nat_tests);
       few_locations = grind (arith, nat_tests);

@@ -29,8 +29,8 @@ located-requires-clause-known c =
     let u = c.program.new.self in
     known_names (words_of u) u.behind_colon u.reading.draws (lexemes u.reading.text (drop u.reading.at u.reading.tokens)) _ 63 c.in-Err.reason c.in-Err.ensures.reads
 
-pub finished-requires-clause-few : goal.finished-requires-clause-few
-finished-requires-clause-few c =
+pub finished-requires-clause-bounded : goal.finished-requires-clause-bounded
+finished-requires-clause-bounded c =
     let kept = c.in-Ok.ensures.kept _ refl in
     subst (λ (ls : List Word). length ls ≤ 1024) (sym (ap (λ (x : Fixture). x.labels) kept)) c.in_ok-variables.ensures.few_labels
 

@@ -5,5 +5,5 @@ use Rattle.tv_reader.proofs.words.moved_in_front.Given as goal
 abbrev pub invariant-loop-number : goal.invariant-loop-number
 invariant-loop-number l = record {
   placed : l.names ≡ by_first_place (l.word ∷ []) (take l.number l.labels);
-  few : length l.names ≤ l.number + 1;
+  bounded : length l.names ≤ l.number + 1;
 }

@@ -23,8 +23,8 @@ pub rows_put-requires-clause-even : goal.rows_put-requires-clause-even
 rows_put-requires-clause-even c =
     terms_even c.variables-variables.result c.args.taking.now.draws.now c.deref-2.result.now (c.deref-2.ensures.value ∙ c.in_ok-terms.ensures)
 
-pub rows_before-requires-clause-few : goal.rows_before-requires-clause-few
-rows_before-requires-clause-few c =
+pub rows_before-requires-clause-bounded : goal.rows_before-requires-clause-bounded
+rows_before-requires-clause-bounded c =
     let d = (taking_case c.args.taking.now c.requires.taking).few_draws in
     let n = c.variables-variables.ensures.limits.few_variables in
     let v = c.variables-variables.ensures.same in

@@ -42,8 +42,8 @@ returns-in-Err-clause-refusals c =
     updates_refused about b case (contains_at about.cases c.args.number case c.in-Some.ensures) (c.if-case-start.false ∙ c.start.ensures.same) (c.if-case-start-2.false ∙ c.start-else-case-start.ensures.same)
     (c.variables.result + case.draws) c.deref-2.result.now c.in-Err.fault (ap (λ k. k + case.draws) c.variables.ensures.same) c.deref-2.ensures.value c.in-Err.ensures.refusals
 
-pub empty-requires-clause-few : goal.empty-requires-clause-few
-empty-requires-clause-few c =
+pub empty-requires-clause-bounded : goal.empty-requires-clause-bounded
+empty-requires-clause-bounded c =
     let about = cases_of c.args.search.now.about.now in
     let d = (case_is about c.args.number (case_view c.in-Some.case.now) c.args.search.now.about.now.are_cases c.in-Some.ensures).few_draws in
     let n = c.args.search.now.about.now.are_cases.few_variables in

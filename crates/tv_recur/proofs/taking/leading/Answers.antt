@@ -18,9 +18,9 @@ cover_one-requires-clause-same c =
 pub returns-in-Ok-Tree-clause-found : goal.returns-in-Ok-Tree-clause-found
 returns-in-Ok-Tree-clause-found c =
     let t = c.args.taking.now in
-    let few = t.about.now.are_cases.few_cases in
+    let bounded = t.about.now.are_cases.few_cases in
     let inside = slice_get_within (cases_of t.about.now).cases t.number (case_view t.case.now) c.requires.taking.found in
-    let small : t.number < 2 ^ 32 = omega (arith, few, inside) in
+    let small : t.number < 2 ^ 32 = omega (arith, bounded, inside) in
     let covered = subst (IsCoveredByOne c.args.from.now.columns c.args.from.now.rows.items c.in-Ok.target.items) c.in-Ok-Tree.field-0-is c.in-Ok-Tree.ensures.answers in
     lead_by t c.requires.taking c.args.from.now.columns c.requires.over c.args.from.now.rows.items c.args.into.now c.in-Ok.target.items c.requires.same c.in-Ok.ensures.owed c.in-Ok-Tree.cover c.in_ok-choice-in-Ok-Tree.choice small c.requires.taking.near covered c.in_ok-choice-in-Ok-Tree.ensures
 

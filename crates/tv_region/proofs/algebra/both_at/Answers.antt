@@ -12,7 +12,7 @@ product_at-requires c =
     let a = c.args.a.now in
     let b = c.args.b.now in
     let l = c.args.location in record {
-      few = c.requires.few;
+      bounded = c.requires.bounded;
       first = width_in a.variables a.locations a c.requires.first l (row_lists c.deref-3.result.now) (ap row_lists c.deref-3.ensures.value ∙ c.in_ok-first.ensures ∙ ap (lists_at l) c.deref.ensures.value);
       second = width_in a.variables a.locations b c.requires.second l (row_lists c.deref-4.result.now) (ap row_lists c.deref-4.ensures.value ∙ c.in_ok-second.ensures ∙ ap (lists_at l) c.deref-2.ensures.value);
     }

@@ -12,7 +12,7 @@ pub rest_of-requires : goal.rest_of-requires
 rest_of-requires c =
     let a = c.args.a.now in
     let l = c.args.location in record {
-      few = c.requires.few;
+      bounded = c.requires.bounded;
       wide = width_in a.variables a.locations a c.requires.fits l (row_lists c.deref-2.result.now) (ap row_lists c.deref-2.ensures.value ∙ c.in_ok-pieces.ensures ∙ ap (lists_at l) c.deref.ensures.value);
     }
 

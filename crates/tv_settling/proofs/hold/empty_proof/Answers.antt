@@ -33,9 +33,9 @@ returns-in-Ok-Tree-clause-shows c =
     let met : IsMetCover n no_target (as_given rows) tree = subst (IsEmptied n rows) is given.answers in
     let even : TreeRows (λ r. columns r ≡ n) tree = subst (HasEvenSplits n) is given.split_rows in
     let shallow = subst (IsShallow b.budget.now.splits) is given.shallow in
-    let few = b.splits in
+    let bounded = b.splits in
     empty_holds b tree
     (subst (λ rs. IsMetCover v no_target (as_given rs) tree) are (subst (λ m. IsMetCover m no_target (as_given rows) tree) same met))
-    (omega (arith, shallow, few))
+    (omega (arith, shallow, bounded))
     (subst (λ m. TreeRows (λ r. columns r ≡ m) tree) same even)
     (subst CoverNarrow c.tree.ensures.same c.narrow_tree.ensures)

@@ -11,8 +11,8 @@ index-requires c =
     let about = cases_of c.args.barrier.now.about.now in
     let e = ap length (c.deref.ensures.value ∙ c.in_ok-starts.ensures ∙ ap (map from_of) c.list.ensures.same) in
     let m = length-map about.cases from_of in
-    let few = c.list.ensures.limits.few_cases in
-    omega (arith, e, m, few)
+    let bounded = c.list.ensures.limits.few_cases in
+    omega (arith, e, m, bounded)
 
 pub push_proofs-requires-clause-stands : goal.push_proofs-requires-clause-stands
 push_proofs-requires-clause-stands c =

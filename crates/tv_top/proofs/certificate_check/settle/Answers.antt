@@ -15,7 +15,7 @@ returns-in-Ok c = λ f is.
     record { claim = c.args.claim.now; is_claim = is; certificate = a.certificate; is_certificate = a.is_text } in
     said_is_so p f system c.args.text.now (record { offer = offer; met = a.met }) a.certificate.verdict refl (h.settled f is)
     (h.followed f is)
-    c.said.result (subst (λ (x : Type 0). x) (λ i. Says p (a.proved i) (a.at_values i) c.said.result) c.said.ensures)
+    c.accepted_answer.result (subst (λ (x : Type 0). x) (λ i. Says p (a.proved i) (a.at_values i) c.accepted_answer.result) c.accepted_answer.ensures)
 
 pub returns-in-Err : goal.returns-in-Err
 returns-in-Err c = λ f is.

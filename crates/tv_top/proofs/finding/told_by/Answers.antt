@@ -11,4 +11,4 @@ returns-in-Ok c = λ f is.
     let p = system_of search.program.now in
     let about = cases_of search.about.now in
     said_so (wanted_view search.task.now.wanted) p f about search.claim.now is c.args.certificate.now c.requires.settling (c.ensure_met.ensures f is) c.verdict.result.now c.in-Ok.text.items
-    (sym c.verdict.ensures) c.in-Ok.ensures c.said.result c.said.ensures
+    (sym c.verdict.ensures) c.in-Ok.ensures c.verdict_answer.result c.verdict_answer.ensures

@@ -9,8 +9,8 @@ use Rattle.tv_top.specs.Views.{task_view}
 use Rattle.tv_top.proofs.Asking.{below_index, no_property, no_cases, told}
 use Rattle.tv_top.proofs.running.decide.Goals as goal
 
-pub check_certificate-requires-clause-few : goal.check_certificate-requires-clause-few
-check_certificate-requires-clause-few g c = below_index c.args.task.now.checks (length c.texts_in.result.1.now) (length c.args.bytes.now) c.texts_in.ensures.certificate c.requires
+pub check_certificate-requires-clause-bounded : goal.check_certificate-requires-clause-bounded
+check_certificate-requires-clause-bounded g c = below_index c.args.task.now.checks (length c.texts_in.result.1.now) (length c.args.bytes.now) c.texts_in.ensures.certificate c.requires
 
 pub returns-in-Err-property : goal.returns-in-Err-property
 returns-in-Err-property g c =

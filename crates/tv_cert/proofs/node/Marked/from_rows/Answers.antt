@@ -19,5 +19,5 @@ returns c =
     let numbers : c.shrink_to_fit.new.self.items ≡ packed c.args.rows.now ++ packed c.args.ranks.now = c.shrink_to_fit.ensures.items ∙ c.in_ok-append_rows-2.ensures.appended ∙ ap (λ xs. xs ++ packed ranks) (c.in_ok-append_rows.ensures.appended ∙ ap (λ xs. xs ++ packed rows) c.new-numbers.ensures.items) in
     let even = c.if-not-have_columns.ensures.0 refl in
     let level = c.if-not-have_columns-2.ensures.0 refl in
-    let few : length rows < 2 ^ 32 = search rules in
-    ((few, even, level), ap (marked_in c.args.location c.args.columns c.args.mark (length rows)) numbers ∙ marked_packed c.args.columns rows ranks even level c.args.location c.args.mark)
+    let bounded : length rows < 2 ^ 32 = search rules in
+    ((bounded, even, level), ap (marked_in c.args.location c.args.columns c.args.mark (length rows)) numbers ∙ marked_packed c.args.columns rows ranks even level c.args.location c.args.mark)

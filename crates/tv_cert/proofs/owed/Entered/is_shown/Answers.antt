@@ -15,8 +15,8 @@ overflow_cast-further c =
     let a = length-append (map change (rows_seen x.rows)) (fall_listed change x.fall) in
     let b = length-map (rows_seen x.rows) change in
     let r = c.requires in
-    let few = f.few in
-    omega (arith, many, a, b, r, few)
+    let bounded = f.bounded in
+    omega (arith, many, a, b, r, bounded)
 
 pub returns : goal.returns
 returns c =

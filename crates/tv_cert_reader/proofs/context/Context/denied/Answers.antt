@@ -39,7 +39,7 @@ returns-then-place c =
     let a = c.args.self.now.about.now.are_cases.starts in
     piece_missing system (omega (arith, a)) s c.args.cursor.now c.in_ok-root.root c.node.new.cursor c.in_ok-root.ensures.read.0 c.in_ok-root.ensures.read.1 c.in_ok-place.place c.in_ok-place.values.items c.values.new.cursor
     (c.in_ok-place.ensures.0.many ∙ c.variables.ensures.same) c.in_ok-place.ensures.1
-    (none_past (pieces_list c.in_ok-root.root) system.start c.in_ok-place.place (let f = c.in_ok-root.ensures.few in let h = c.if-place.true in omega (arith, f, h)))
+    (none_past (pieces_list c.in_ok-root.root) system.start c.in_ok-place.place (let f = c.in_ok-root.ensures.bounded in let h = c.if-place.true in omega (arith, f, h)))
 
 pub returns-then-is_none : goal.returns-then-is_none
 returns-then-is_none c =

@@ -48,9 +48,9 @@ from_numbers-requires c =
     let read = c.in_ok-append_rows.ensures in
     let ranked = c.in_ok-append_rows-2.ensures in
     let numbers : c.shrink_to_fit.new.self.items ≡ packed read.0 ++ packed ranked.0 = c.shrink_to_fit.ensures.items ∙ ranked.1.numbers ∙ ap (λ xs. xs ++ packed ranked.0) (read.1.numbers ∙ ap (λ xs. xs ++ packed read.0) c.in_ok-packed.ensures.items) in
-    let few : c.variables-columns.result < 2 ^ 32 - 1 = search rules in
+    let bounded : c.variables-columns.result < 2 ^ 32 - 1 = search rules in
     subst (λ (x : Type 0). x) (λ i. ArePacked c.variables-columns.result (read.1.wide.many i) (sym numbers i))
-    (both_packed c.variables-columns.result read.0 ranked.0 read.1.wide.each ranked.1.wide.each few read.1.narrow ranked.1.narrow)
+    (both_packed c.variables-columns.result read.0 ranked.0 read.1.wide.each ranked.1.wide.each bounded read.1.narrow ranked.1.narrow)
 
 pub returns : goal.returns
 returns c =

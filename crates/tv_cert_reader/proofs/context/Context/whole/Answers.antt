@@ -18,12 +18,12 @@ returns-in_err-numbers c =
     at_exit (ReadsAll system sides c.args.cursor.now) c.from_residual.result c.in_err-numbers.field-0.0 c.from_residual.ensures.1
     (opening_fails system (omega (arith, a)) sides c.args.cursor.now c.in_err-numbers.field-0.0 c.in_err-numbers.ensures)
 
-pub returns-in_err-said : goal.returns-in_err-said
-returns-in_err-said c =
+pub returns-in_err-says_proved : goal.returns-in_err-says_proved
+returns-in_err-says_proved c =
     let system = cases_of c.args.self.now.about.now in
     let sides = sides_of c.args.claim.now in
     let a = c.args.self.now.about.now.are_cases.starts in
     let none = no_columns c.in_ok-numbers.field-0.items c.in_ok-numbers.ensures.0.many in
-    at_exit (ReadsAll system sides c.args.cursor.now) c.from_residual-in_err-said.result c.in_err-said.field-0.0 c.from_residual-in_err-said.ensures.1
-    (saying_fails system (omega (arith, a)) sides c.args.cursor.now c.numbers.new.cursor c.in_err-said.field-0.0
-    (subst (λ zs. Takes (formed heads.Header zs ∷ []) c.args.cursor.now c.numbers.new.cursor) none c.in_ok-numbers.ensures.1) c.in_err-said.ensures)
+    at_exit (ReadsAll system sides c.args.cursor.now) c.from_residual-in_err-says_proved.result c.in_err-says_proved.field-0.0 c.from_residual-in_err-says_proved.ensures.1
+    (saying_fails system (omega (arith, a)) sides c.args.cursor.now c.numbers.new.cursor c.in_err-says_proved.field-0.0
+    (subst (λ zs. Takes (formed heads.Header zs ∷ []) c.args.cursor.now c.numbers.new.cursor) none c.in_ok-numbers.ensures.1) c.in_err-says_proved.ensures)

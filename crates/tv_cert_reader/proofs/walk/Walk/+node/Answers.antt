@@ -36,8 +36,8 @@ children-init g t c =
 pub node-requires : goal.node-requires
 node-requires g t c =
     let s = aim_states c.args.aim.now in
-    let few : c.children.i < count (parts_of s) = (let e = c.argument_count-i-end.ensures in let b = c.children-test.true in omega (arith, e, b)) in
-    let smaller : weight (aim_states c.part.result.now) < weight s = subst (λ p. weight p < weight s) (sym c.part.ensures) (part_lighter c.children.i s few) in
+    let bounded : c.children.i < count (parts_of s) = (let e = c.argument_count-i-end.ensures in let b = c.children-test.true in omega (arith, e, b)) in
+    let smaller : weight (aim_states c.part.result.now) < weight s = subst (λ p. weight p < weight s) (sym c.part.ensures) (part_lighter c.children.i s bounded) in
     let d = c.decreases in
     λ κs within. (omega (arith, smaller, d), (within, c.children.invariant.0.counted))
 
@@ -47,9 +47,9 @@ returns-in_err-child-clause-walked g t c =
     let s = aim_states c.args.aim.now in
     let o = c.children.invariant in
     let f = c.in_err-child.field-0.0 in
-    let few : length c.children.children.items < count (parts_of s) = (let e = c.argument_count-i-end.ensures in let b = c.children-test.true in let n = o.1 in omega (arith, e, b, n)) in
+    let bounded : length c.children.children.items < count (parts_of s) = (let e = c.argument_count-i-end.ensures in let b = c.children-test.true in let n = o.1 in omega (arith, e, b, n)) in
     at_exit (Walks g.T.Taker.takes g.T.Taker.room g.T.Taker.whole system s c.args.self.now c.node.new.self) c.from_residual-in_err-child.result f c.from_residual-in_err-child.ensures.1
-    (child_stops g.T.Taker.takes g.T.Taker.room g.T.Taker.whole system s c.args.self.now c.children.self c.pieces.inside.list.items c.in_ok-pieces.ranks c.children.children.items o.0 f few
+    (child_stops g.T.Taker.takes g.T.Taker.room g.T.Taker.whole system s c.args.self.now c.children.self c.pieces.inside.list.items c.in_ok-pieces.ranks c.children.children.items o.0 f bounded
     (subst (λ p. FailsBy (node false system p) c.children.self.cursor f) (c.part.ensures ∙ ap (λ i. part_at i (parts_of s)) (sym o.1)) c.in_err-child.ensures.walked))
 
 pub children-preserved : goal.children-preserved
@@ -57,18 +57,18 @@ children-preserved g t c =
     let system = cases_of c.args.about.now in
     let s = aim_states c.args.aim.now in
     let o = c.children.invariant in
-    let few : length c.children.children.items < count (parts_of s) = (let e = c.argument_count-i-end.ensures in let b = c.children-test.true in let n = o.1 in omega (arith, e, b, n)) in
+    let bounded : length c.children.children.items < count (parts_of s) = (let e = c.argument_count-i-end.ensures in let b = c.children-test.true in let n = o.1 in omega (arith, e, b, n)) in
     let part = c.part.ensures ∙ ap (λ i. part_at i (parts_of s)) (sym o.1) in
     let long = ap length c.in_ok-push.ensures.items ∙ length-append c.children.children.items (c.in_ok-child.child ∷ []) in (
-      stands_next g.T.Taker.takes g.T.Taker.room g.T.Taker.whole system s c.args.self.now c.children.self c.pieces.inside.list.items c.in_ok-pieces.ranks c.children.children.items o.0 c.node.new.self c.push.new.self.items c.in_ok-child.child few
+      stands_next g.T.Taker.takes g.T.Taker.room g.T.Taker.whole system s c.args.self.now c.children.self c.pieces.inside.list.items c.in_ok-pieces.ranks c.children.children.items o.0 c.node.new.self c.push.new.self.items c.in_ok-child.child bounded
           (subst (λ p. IsWalked g.T.Taker.takes g.T.Taker.room g.T.Taker.whole system p c.children.self c.node.new.self c.in_ok-child.child) part c.in_ok-child.ensures.walked)
           c.in_ok-push.ensures.items,
       (let n = o.1 in omega (arith, long, n)),
-      (let n = o.1 in omega (arith, few, n)),
+      (let n = o.1 in omega (arith, bounded, n)),
     )
 
-pub own_proofs-requires-clause-few : goal.own_proofs-requires-clause-few
-own_proofs-requires-clause-few g t c =
+pub own_proofs-requires-clause-bounded : goal.own_proofs-requires-clause-bounded
+own_proofs-requires-clause-bounded g t c =
     let system = cases_of c.args.about.now in
     let s = aim_states c.args.aim.now in
     let h = few_parts g.T.Taker.takes g.T.Taker.room g.T.Taker.whole system s c.args.self.now c.children.self c.pieces.inside.list.items c.in_ok-pieces.ranks c.children.children.items c.children.invariant.0 in
@@ -100,8 +100,8 @@ returns-clause-walked g t c =
     (subst (λ ks. AreTaken g.T.Taker.takes g.T.Taker.whole (node_owes c.args.self.now.nodes system s c.in_ok-pieces.pieces (map pieces_list ks)) c.children.self c.own_proofs.new.self [] c.in_ok-proofs.proofs.items) c.deref.ensures.value c.in_ok-proofs.ensures.taken)
     c.in_ok-proofs.ensures.room _ c.kept.ensures.whole c.kept.ensures.pieces
 
-pub returns-clause-few : goal.returns-clause-few
-returns-clause-few g t c =
+pub returns-clause-bounded : goal.returns-clause-bounded
+returns-clause-bounded g t c =
     let system = cases_of c.args.about.now in
     let s = aim_states c.args.aim.now in
     let stands = subst (λ (ps : List Marked). Stands g.T.Taker.takes g.T.Taker.room g.T.Taker.whole system s c.args.self.now c.children.self ps c.in_ok-pieces.ranks c.children.children.items) c.pieces.view_is c.children.invariant.0 in

@@ -14,9 +14,9 @@ pub visit_pieces-requires : goal.visit_pieces-requires
 visit_pieces-requires g c =
     let system = cases_of c.args.about.now in
     let kids = map pieces_list c.args.children.now in
-    let few : length c.args.pieces.now + length kids < 2 ^ 32 = (let e = length-map c.args.children.now pieces_list in let r = c.requires.few in omega (arith, e, r)) in
+    let bounded : length c.args.pieces.now + length kids < 2 ^ 32 = (let e = length-map c.args.children.now pieces_list in let r = c.requires.bounded in omega (arith, e, r)) in
     let w = c.args.self.now in
-    own_room c.args.number system (aim_states c.args.aim.now) c.args.pieces.now kids w.cursor.taken (g.T.Taker.room w.taker) few c.args.about.now.are_cases.few_cases (let r = w.cursor.room in omega (arith, r)) c.requires.room.left
+    own_room c.args.number system (aim_states c.args.aim.now) c.args.pieces.now kids w.cursor.taken (g.T.Taker.room w.taker) bounded c.args.about.now.are_cases.few_cases (let r = w.cursor.room in omega (arith, r)) c.requires.room.left
 
 pub returns-then-visit_pieces-clause-taken : goal.returns-then-visit_pieces-clause-taken
 returns-then-visit_pieces-clause-taken g c =

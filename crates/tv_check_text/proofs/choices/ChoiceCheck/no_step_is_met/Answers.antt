@@ -18,7 +18,7 @@ pub returns : goal.returns
 returns c = λ old at.
     let s = c.args.self.now in
     let system = cases_of s.context.about.now in
-    let few = s.context.about.now.are_cases.few_cases in
+    let bounded = s.context.about.now.are_cases.few_cases in
     let fewer = fewer_leaving (place_of s.piece.now) system.cases in
-    stops_checks system s.piece.now s.stop s.destination.now (known_at c.args.frames.now) c.args.left old c.args.cursor.now at c.if-not-self.false s.context.alloc c.stops_are_met.new.cursor c.stops_are_met.result (omega (arith, few, fewer))
+    stops_checks system s.piece.now s.stop s.destination.now (known_at c.args.frames.now) c.args.left old c.args.cursor.now at c.if-not-self.false s.context.alloc c.stops_are_met.new.cursor c.stops_are_met.result (omega (arith, bounded, fewer))
     (subst (λ l. ChecksStops system.variables (known_at c.args.frames.now) c.args.left (leaving l system.cases) c.args.cursor.now c.stops_are_met.new.cursor c.stops_are_met.result) c.location-location.ensures c.stops_are_met.ensures)

@@ -7,9 +7,9 @@ use Rattle.tv_linear.proofs.packed.PackedRows.row.Goals as goal
 pub overflow_mul-i : goal.overflow_mul-i
 overflow_mul-i c =
     let rows = c.args.self in
-    let few : length c.args.self.numbers.now < 2 ^ 64 = search rules in
+    let bounded : length c.args.self.numbers.now < 2 ^ 64 = search rules in
     let ends = row_ends rows.columns rows.count c.args.i rows.numbers.now rows.packed.enough (omega (arith, c.requires, length-unpacked rows.columns rows.count rows.numbers.now)) in
-    omega (arith, few, ends)
+    omega (arith, bounded, ends)
 
 pub split_at-requires : goal.split_at-requires
 split_at-requires c =

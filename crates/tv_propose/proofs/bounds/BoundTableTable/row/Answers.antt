@@ -11,8 +11,8 @@ overflow_cast-variable c =
     let about = cases_of c.args.about.now in
     let numbers = c.args.self.now.constants.now.numbers in
     let g : c.args.at.now.group < about.variables = subst (λ n. c.args.at.now.group < n) (bound_groups about numbers.items) c.requires.group in
-    let few = c.variables-columns.ensures.limits.few_variables in
-    omega (arith, g, few)
+    let bounded = c.variables-columns.ensures.limits.few_variables in
+    omega (arith, g, bounded)
 
 pub index-bound-requires : goal.index-bound-requires
 index-bound-requires c =

@@ -21,8 +21,8 @@ returns-then-at-clause-is c =
 pub overflow_cast-at : goal.overflow_cast-at
 overflow_cast-at c =
     let l = subst (λ n. c.args.at.now.group < n) (difference_groups (cases_of c.args.about.now)) c.requires.group in
-    let few = c.variables-columns.ensures.limits.few_variables in
-    omega (arith, l, few)
+    let bounded = c.variables-columns.ensures.limits.few_variables in
+    omega (arith, l, bounded)
 
 pub overflow_cast-at-2 : goal.overflow_cast-at-2
 overflow_cast-at-2 c =
@@ -30,8 +30,8 @@ overflow_cast-at-2 c =
     let w = c.args.at.now in
     let l : w.group < about.variables = subst (λ n. w.group < n) (difference_groups about) c.requires.group in
     let m : w.place < about.variables = subst (λ n. w.place < n) (difference_places about w.group l) c.requires.place in
-    let few = c.variables-columns.ensures.limits.few_variables in
-    omega (arith, m, few)
+    let bounded = c.variables-columns.ensures.limits.few_variables in
+    omega (arith, m, bounded)
 
 pub difference-requires-clause-x : goal.difference-requires-clause-x
 difference-requires-clause-x c = subst (λ n. c.args.at.now.group < n) (difference_groups (cases_of c.args.about.now) ∙ sym c.variables-columns.ensures.same) c.requires.group
@@ -49,6 +49,6 @@ returns-clause-is c =
     let w = c.args.at.now in
     let l : w.group < about.variables = subst (λ n. w.group < n) (difference_groups about) c.requires.group in
     let m : w.place < about.variables = subst (λ n. w.place < n) (difference_places about w.group l) c.requires.place in
-    let few = c.if-at-gt2.false in
+    let bounded = c.if-at-gt2.false in
     let from = c.from-more.ensures in
-    difference_there about w.group w.place w.row c.variables-columns.result c.in_ok-row.row _ c.in_ok-row.ensures (omega (arith, ints, from, few)) l m c.variables-columns.ensures.same c.if-at.false few
+    difference_there about w.group w.place w.row c.variables-columns.result c.in_ok-row.row _ c.in_ok-row.ensures (omega (arith, ints, from, bounded)) l m c.variables-columns.ensures.same c.if-at.false bounded

@@ -1,7 +1,7 @@
 use Rattle.std.proofs.Common.{[], ◌∷◌, subst, refl}
 use Rattle.tv_lines.specs.Lines.{formed, FitsHead}
 use Rattle.tv_cert_reader.specs.Reading.{Takes}
-use Rattle.tv_cert_reader.proofs.verdict.said.Goals as goal
+use Rattle.tv_cert_reader.proofs.verdict.says_proved.Goals as goal
 use Rattle.tv_cases.proofs.BeforeValue.{no_columns}
 
 pub returns-in-Proved : goal.returns-in-Proved
