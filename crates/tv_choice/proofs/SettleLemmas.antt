@@ -4,7 +4,7 @@ use Rattle.std.specs.Prelude.{Contains}
 use Rattle.std.specs.Global.{Global}
 use Rattle.std.specs.Option.{option_map}
 use Rattle.std.proofs.lemmas.Int.{ints}
-use Rattle.std.proofs.lemmas.List.{length-map, map-append}
+use Rattle.std.proofs.lemmas.List.{length-map, map-append, length_push}
 use Rattle.std.proofs.lemmas.Option.{slice_get_within, get_or_from_slice_get}
 use Rattle.std.proofs.lemmas.List.Elements.{All-nil, All-cons, All-head, All-tail, All-push, All-contains, All-contains_itself, Contains-append_left}
 use Rattle.std.proofs.lemmas.Bool.{eq-eqb}
@@ -239,9 +239,6 @@ module _ (n : ℕ) (q : Query) where
     none = λ xs p hole. hole.none (way_leads n q rows w xs h p.width (shown_met n rows (way_rows w) (map (λ x. x.items) all.items) xs s p));
   }
 
-  one_more : (rows : List Linear) (r : Linear) → length (rows ++ r ∷ []) ≡ length rows + 1
-  one_more rows r = length-append rows (r ∷ [])
-
   pub split_leaf : (rows : List Linear) (left : ℕ) (row second : Linear) (holds fails tree : ChoiceTree) → columns row ≡ n → ((w : ℕ) → SameNumbers w (given second) (denied (given row))) → ((xs : List ℤ) → (IsMet xs row → ⊥) → IsMet xs second) → IsTreeAt n q (rows ++ row ∷ []) left holds → IsTreeAt n q (rows ++ second ∷ []) left fails → IsSplitOf row holds fails tree → IsTreeAt n q rows (left + 1) tree
   split_leaf rows left row second holds fails (Split' r p a z b) wide opposite either h g (er, ea, eb, en) = record {
     met = λ known k. (
@@ -253,8 +250,8 @@ module _ (n : ℕ) (q : Query) where
     shallow = (let x = subst (λ t. choice_splits t ≤ left) (sym ea) h.shallow in let y = subst (λ t. choice_splits t ≤ left) (sym eb) g.shallow in grind (arith, x, y));
     shape = (
       ap columns er ∙ wide,
-      subst (λ t. ChoiceShape n q.system.cases q.location q.stop (region_owes n q.pieces) (length rows + 1) t) (sym ea) (subst (λ k. ChoiceShape n q.system.cases q.location q.stop (region_owes n q.pieces) k holds) (one_more rows row) h.shape),
-      subst (λ t. ChoiceShape n q.system.cases q.location q.stop (region_owes n q.pieces) (length rows + 1) t) (sym eb) (subst (λ k. ChoiceShape n q.system.cases q.location q.stop (region_owes n q.pieces) k fails) (one_more rows second) g.shape),
+      subst (λ t. ChoiceShape n q.system.cases q.location q.stop (region_owes n q.pieces) (length rows + 1) t) (sym ea) (subst (λ k. ChoiceShape n q.system.cases q.location q.stop (region_owes n q.pieces) k holds) (length_push rows row) h.shape),
+      subst (λ t. ChoiceShape n q.system.cases q.location q.stop (region_owes n q.pieces) (length rows + 1) t) (sym eb) (subst (λ k. ChoiceShape n q.system.cases q.location q.stop (region_owes n q.pieces) k fails) (length_push rows second) g.shape),
     );
     narrow = (
       subst RowNarrow (sym er) record { coefficients = en.coefficients; constant = en.constant },

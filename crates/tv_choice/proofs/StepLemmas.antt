@@ -1,5 +1,5 @@
 -- Steps from a whole point.
-use Rattle.std.proofs.Common.{◌≡◌, ℕ, ◌+◌, List, [], ◌∷◌, ◌++◌, length, map, All, refl, sym, ap, ◌∙◌, subst, ℤ}
+use Rattle.std.proofs.Common.{◌≡◌, ℕ, ◌+◌, List, [], ◌++◌, length, map, All, sym, ap, ◌∙◌, subst, ℤ}
 use Rattle.tv_linear.specs.Linear.{Linear, columns, value, IsMet}
 use Rattle.tv_farkas.specs.Paths.{IsWholePoint}
 use Rattle.tv_farkas.specs.EmptyPaths.{IsWholePointOf}
@@ -15,6 +15,7 @@ use Rattle.tv_choice.specs.Refusals.{IsWideHere}
 use Rattle.tv_choice.proofs.TermLemmas.{terms_even, terms_values}
 use Rattle.tv_choice.proofs.DrawLemmas.{draw_wide}
 use Rattle.tv_choice.proofs.WayLemmas.{is_way, in_way, way_met, answered_front, answered_met, asked_met}
+use Rattle.std.proofs.lemmas.List.{append-nil}
 
 module _ (n : ℕ) (q : Query) (above : List Linear) (e : Entry) (h : IsEntered q e) (rows : List Linear) (are : AreCaseRows n (case_view e.case.now) (piece_rows e.piece.now) rows) (owed : All (λ r. columns r ≡ n) (piece_rows e.piece.now)) (xs : List ℤ) (size : length xs ≡ n) (here : IsPointHere n q above xs) where
   d : ℕ
@@ -34,11 +35,7 @@ module _ (n : ℕ) (q : Query) (above : List Linear) (e : Entry) (h : IsEntered 
 
   pub point_terms : (asked : List Linear) (zs : List ℤ) (draws : List Linear) → asked ≡ fixes (n + e.case.now.draws) 0 xs ++ rows → IsWholePointOf (n + e.case.now.draws) asked zs → AreTermsAt n e.case.now.draws rows zs draws → AreDrawTerms n q above (case_view e.case.now) e.piece.now draws
   point_terms asked zs draws g origin t =
-      at_point draws above [] xs zs (sym (append-none above)) here (subst (λ rs. IsWholePointOf (n + e.case.now.draws) rs zs) (asked_is asked g) origin) (subst (λ rs. AreTermsAt n e.case.now.draws rs zs draws) are.exact t)
-    where
-      append-none : {A : Type 0} (ys : List A) → ys ++ [] ≡ ys
-      append-none [] = refl
-      append-none (y ∷ ys) = ap (λ zs. y ∷ zs) (append-none ys)
+      at_point draws above [] xs zs (sym (append-nil above)) here (subst (λ rs. IsWholePointOf (n + e.case.now.draws) rs zs) (asked_is asked g) origin) (subst (λ rs. AreTermsAt n e.case.now.draws rs zs draws) are.exact t)
 
   -- what is too wide at a whole point of them
   pub wide_there : (asked : List Linear) (zs : List ℤ) (column : ℕ) → asked ≡ fixes (n + e.case.now.draws) 0 xs ++ rows → IsWholePointOf (n + e.case.now.draws) asked zs → IsWideAtPoint n e.case.now.draws rows zs column → IsWideHere n q above column

@@ -1,5 +1,5 @@
 -- The rows that are met where a case is taken, over its columns.
-use Rattle.std.proofs.Common.{◌≡◌, ℕ, zero, suc, ◌+◌, ◌-◌, ◌<◌, ◌≤◌, ◌^◌, List, [], ◌∷◌, length, map, All, Option, None, Some, Vec, Bool, true, false, ◌==◌, arith, refl, sym, subst, ℤ, pos, ◌≤ℤ◌}
+use Rattle.std.proofs.Common.{◌≡◌, ℕ, zero, suc, ◌+◌, ◌-◌, ◌<◌, ◌≤◌, ◌^◌, List, [], ◌∷◌, length, map, All, Option, None, Some, Vec, Bool, true, false, ◌==◌, arith, sym, subst, ℤ, pos, ◌≤ℤ◌}
 use Rattle.std.specs.Global.{Global}
 use Rattle.std.proofs.lemmas.Bool.Decides.{nat_tests}
 use Rattle.std.proofs.lemmas.List.Elements.{All-nil, All-head, All-tail, All-append, All-weaker}
@@ -14,6 +14,7 @@ use Rattle.tv_linear.proofs.PaddedLemmas.{padded_same, padded_even, padded_below
 use Rattle.tv_rank.specs.Ways.{Way, rows_at}
 use Rattle.tv_lexrank.specs.Known.{piece_rows, way_rows, padded_rows}
 use Rattle.tv_lexrank.specs.Sorting.{IsSettled, IsTaken}
+use Rattle.std.proofs.lemmas.List.{nil_from_length}
 
 -- ---- lists that are empty or not
 pub not_empty : {A : Type 0} (xs : List A) (b : Bool) → b ≡ (length xs == 0) → b ≡ false → 0 < length xs
@@ -21,11 +22,7 @@ not_empty [] b e n = absurd (grind (arith, nat_tests, e, n))
 not_empty (x ∷ xs) b e n = omega arith
 
 pub is_none : {A : Type 0} (xs : List A) (b : Bool) → b ≡ (length xs == 0) → b ≡ true → xs ≡ []
-is_none xs b e t = none_of xs (grind (arith, nat_tests, e, t))
-  where
-    none_of : {A : Type 0} (xs : List A) → length xs ≡ 0 → xs ≡ []
-    none_of [] h = refl
-    none_of (x ∷ xs) h = absurd (omega (arith, h))
+is_none xs b e t = nil_from_length xs (grind (arith, nat_tests, e, t))
 
 -- ---- rows over more columns
 

@@ -17,6 +17,7 @@ use Rattle.tv_region.specs.Made.{Place, at_place, over_draws, Made, of_given, of
 use Rattle.tv_region.specs.Draws.{Drawn, drawn_one, drawn_sum, drawn_short}
 use Rattle.tv_region.specs.Differences.{coefficient, IsDifference, IsShift, IsCaseOfDifferences}
 use Rattle.tv_region.proofs.SumLemmas.{multiples_are}
+use Rattle.tv_linear.proofs.ListLaws.{same_or_below}
 
 -- ---- numbers by column
 -- 1 in the one column, 0 elsewhere
@@ -71,12 +72,6 @@ record IsFound (f : ℕ → ℤ) (z : ℤ) : Type 0 where
   here : (j : ℕ) → f j ≡ z → unit_of place j ≡ pos 1
   away : (j : ℕ) → (f j ≡ z → ⊥) → unit_of place j ≡ pos 0
 
-pub before_or_at : (j n : ℕ) → j < suc n → (j < n) ⊎ (j ≡ n)
-before_or_at zero zero h = inr refl
-before_or_at zero (suc n) h = inl (omega arith)
-before_or_at (suc j) zero h = absurd (omega arith)
-before_or_at (suc j) (suc n) h = elim (before_or_at j n (omega arith)) [ inl k ↦ inl (omega arith) | inr e ↦ inr (ap suc e) ]
-
 search_below : (f : ℕ → ℤ) (z : ℤ) → ((j : ℕ) → (f j ≡ z) ⊎ (f j ≡ z → ⊥)) → (n : ℕ) → ((p : ℕ) × (f p ≡ z)) ⊎ ((j : ℕ) → j < n → f j ≡ z → ⊥)
 search_below f z d zero = inr (λ j h. absurd (omega arith))
 search_below f z d (suc n) =
@@ -84,7 +79,7 @@ search_below f z d (suc n) =
       | inl w ↦ inl w
       | inr none ↦ elim (d n) [
         | inl here ↦ inl (n, here)
-        | inr not_here ↦ inr (λ j h e. elim (before_or_at j n h) [ inl less ↦ none j less e | inr same ↦ not_here (subst (λ x. f x ≡ z) same e) ])
+        | inr not_here ↦ inr (λ j h e. elim (same_or_below n j h) [ inl same ↦ not_here (subst (λ x. f x ≡ z) same e) | inr less ↦ none j less e ])
       ]
     ]
 

@@ -10,6 +10,7 @@ use Rattle.tv_cert.specs.Statements.{count}
 use Rattle.tv_cert.specs.Visits.{Passed, none, one, Stopped}
 use Rattle.tv_shape.specs.declared.shaper.Shaper.{Shaper}
 use Rattle.tv_shape.specs.Offered.{FirstShape}
+use Rattle.std.proofs.lemmas.List.{append-nil}
 
 abbrev pub Takes : Shaper → Obligation → Shaper → Type 0
 Takes v o w = FirstShape o.owed v.proofs.now × (w.proofs.now ≡ drop 1 v.proofs.now)
@@ -31,15 +32,11 @@ went (o ∷ os) more v w (one {t = t} h rest) =
     let here = one_taken o (os ++ more) v.proofs.now t.proofs.now h.0 h.1 in
     (λ k. here.0 (later.0 k), λ k. later.1 (here.1 k))
 
-nothing_more : (os : List Obligation) → os ++ [] ≡ os
-nothing_more [] = refl
-nothing_more (o ∷ os) = ap (λ xs. o ∷ xs) (nothing_more os)
-
 -- each obligation has its proof, where none is left
 pub taken_all : (os : List Obligation) (v w : Shaper) → Passed Takes v os w → Offered [] w.proofs.now ↔ Offered os v.proofs.now
 taken_all os v w h =
     let all = went os [] v w h in
-    let same = ap (λ xs. Offered xs v.proofs.now) (nothing_more os) in
+    let same = ap (λ xs. Offered xs v.proofs.now) (append-nil os) in
     (λ k. subst (λ (x : Type 0). x) same (all.0 k), λ k. all.1 (subst (λ (x : Type 0). x) (sym same) k))
 
 first_is : (o : Obligation) (os : List Obligation) (ps : List Proof) → Offered (o ∷ os) ps → FirstShape o.owed ps

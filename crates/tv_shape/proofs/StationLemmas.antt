@@ -9,6 +9,7 @@ use Rattle.tv_cert.proofs.NodeLemmas.{sizes_list, kids_of, out_is, size_is}
 use Rattle.tv_cert.proofs.StatedLemmas.{past, past_more}
 use Rattle.tv_shape.specs.Stations.{Station, station, stations, kid_stations, AreRight, IsRight, IsFaultAt, IsFirstMisshapen}
 use Rattle.tv_shape.specs.declared.fault.ShapeFault.{ShapeFault}
+use Rattle.std.proofs.lemmas.List.{append-nil}
 
 abbrev pub station_list : ℕ → ℕ → Statements → List Node → List Station
 station_list number depth ss [] = []
@@ -89,10 +90,6 @@ module _ (system : CaseSystem) (ss : Statements) (kids : List Node) (start depth
         nodes = (let z = ap (λ j. sizes_list (drop j kids)) one in omega (arith, n, sizes_there, k, z));
       }
 
-append_nil : (ts : List Station) → ts ++ [] ≡ ts
-append_nil [] = refl
-append_nil (t ∷ ts) = ap (λ us. t ∷ us) (append_nil ts)
-
 no_kids : (next depth : ℕ) (ss : Statements) → station_list next depth ss [] ≡ []
 no_kids next depth no_statement = refl
 no_kids next depth (statement s ss) = refl
@@ -101,7 +98,7 @@ no_kids next depth (statement s ss) = refl
 pub stands_ends : (system : CaseSystem) (ss : Statements) (kids : List Node) (start depth next i : ℕ) → length kids ≤ i → Stands system ss kids start depth next i → AreRight system (station_list start depth ss kids) × (next ≡ start + sizes_list kids)
 stands_ends system ss kids start depth next i l h =
     let last = drop_past kids i l in
-    let all : station_list start depth ss kids ≡ h.done = h.whole ∙ ap (λ ks. h.done ++ station_list next depth (past i ss) ks) last ∙ ap (λ ts. h.done ++ ts) (no_kids next depth (past i ss)) ∙ append_nil h.done in
+    let all : station_list start depth ss kids ≡ h.done = h.whole ∙ ap (λ ks. h.done ++ station_list next depth (past i ss) ks) last ∙ ap (λ ts. h.done ++ ts) (no_kids next depth (past i ss)) ∙ append-nil h.done in
     let n = h.nodes in
     let z : sizes_list (drop i kids) ≡ 0 = ap sizes_list last in
     (subst (AreRight system) (sym all) h.right, omega (arith, n, z))
