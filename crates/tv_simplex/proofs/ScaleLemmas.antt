@@ -11,6 +11,7 @@ use Rattle.tv_fraction.specs.Coprime.{AreCoprime}
 use Rattle.tv_fraction.specs.declared.Fraction.{Fraction}
 use Rattle.tv_simplex.specs.Rows.{ratio}
 use Rattle.tv_simplex.specs.Scales.{ratio_at, numerator_at, denominator_at, IsMultiple, IsCommon, HasNoCommon, IsLarger, HasNoLarger, IsTimes, HaveScale}
+use Rattle.std.proofs.lemmas.Bool.{cases_lt}
 use Rattle.tv_linear.proofs.ListLaws.{last_or_below}
 
 pub get_or-append-last : {A : Type 0} (xs : List A) (x : A) (n : ℕ) (d : A) → length xs ≡ n → get_or (xs ++ x ∷ []) n d ≡ x
@@ -156,7 +157,7 @@ no_scale fractions none h =
     absurd (omega (arith, w, s))
 
 pub not_below : (p q : ℕ) → (p < q → ⊥) → q ≤ p
-not_below p q h = grind (arith, h)
+not_below p q h = elim (cases_lt p q) [ inl g ↦ absurd (h g) | inr g ↦ g ]
 
 pub scaled_up : (s k x : ℕ) → s ≤ k → s * x ≤ k * x
 scaled_up s k x h = grind arith
