@@ -25,9 +25,8 @@ pub use graphs::walks::Walks;
 pub use limits::{MANY_DRAWS, MANY_VARIABLES, PIVOTS, SPLITS};
 pub use question::Question;
 pub use rows::combining::{all_put_in, less, put_in, unit_row, unit_rows, with_multiples};
-pub use rows::conditions::conditions_at;
 pub use rows::drawing::coefficient_at;
 pub use rows::solving::{
-    Effort, all_shown_by, denied, is_known, is_shown_at_once, may_have_point, shown, whole_point,
+    Effort, all_shown_by, denied, is_known, may_have_point, shown, whole_point,
 };
 pub use search::{Attempt, Name, Search};

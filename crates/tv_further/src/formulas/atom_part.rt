@@ -4,10 +4,10 @@ use crate::areas::area::Area;
 use crate::areas::covers::{Target, cover_by};
 use crate::areas::known::known_at;
 use crate::formulas::region_part::{Part, Shown, plain_part, push_cover};
-use std::alloc::AllocError;
+use std::alloc::{AllocError, Global};
 use tv_cert::{Aim, Proof};
 use tv_linear::{Row, copies};
-use tv_walks::{Effort, Question, conditions_at, may_have_point};
+use tv_walks::{Effort, Question, may_have_point};
 
 /// The rows, and what is known at the location.
 fn with_known(question: &Question, location: u32, rows: &[Row]) -> Result<Vec<Row>, AllocError> {
@@ -51,6 +51,22 @@ fn add_plain(
     Ok(is_shown)
 }
 
+/// Lists of rows one of which is met where the formula, which has no arguments, holds at the location.
+fn lists_where(alloc: Global, aim: &Aim, location: u32) -> Result<Vec<Vec<Row>>, AllocError> {
+    let mut lists = Vec::new(alloc);
+    match aim {
+        Aim::Rows(wanted) => {
+            for rows in wanted {
+                lists.push(copies(alloc, rows)?)?;
+            }
+        }
+        Aim::Here(own) if *own == location => lists.push(Vec::new(alloc))?,
+        Aim::Elsewhere(own) if *own != location => lists.push(Vec::new(alloc))?,
+        _ => {}
+    }
+    Ok(lists)
+}
+
 /// Adds the areas of the location and what shows them; whether all are shown.
 fn add_all_plain(
     question: &Question,
@@ -60,7 +76,7 @@ fn add_all_plain(
     shown: &mut Shown,
 ) -> Result<bool, AllocError> {
     let mut number: u32 = 0;
-    for rows in conditions_at(question.alloc, aim, location)? {
+    for rows in lists_where(question.alloc, aim, location)? {
         let target = Target {
             rows,
             target: number,

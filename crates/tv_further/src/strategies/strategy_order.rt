@@ -7,7 +7,7 @@ use crate::strategies::link::Link;
 use crate::strategies::strategy_draft::Draft;
 use std::alloc::{AllocError, Global};
 use tv_linear::Row;
-use tv_walks::{Effort, Question, is_shown_at_once};
+use tv_walks::{Effort, Question};
 
 /// What a link is worth.
 #[derive(Clone, Copy)]
@@ -287,6 +287,13 @@ fn away_from(question: &Question, link: &Link, owed: &[Row]) -> Result<u32, Allo
         }
     }
     Ok(away)
+}
+
+/// Whether one of the rows alone shows the row, since it is no less at each point.
+fn is_shown_at_once(known: &[Row], row: &Row) -> bool {
+    known.iter().any(|other| {
+        other.coefficients() == row.coefficients() && other.constant() >= row.constant()
+    })
 }
 
 /// The rows that are owed by the cheapest link from the area and that its own rows do not show at once.

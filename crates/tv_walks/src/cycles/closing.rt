@@ -1,5 +1,7 @@
 // Rows that hold again each time a closed walk is gone through.
 
+ghost use Rattle.std.specs.Prelude.{◌≡◌, ◌≤◌, All, IfOk, IfSome, length};
+
 use crate::cycles::way::Way;
 use crate::limits::{ADDED_ROWS, TRIES};
 use crate::rows::combining::{all_put_in, less, push_all_tight, push_tight, put_in, unit_rows};
@@ -13,7 +15,9 @@ pub(crate) fn rows_before(
     columns: usize,
     way: &Way,
     rows: &[Row],
-) -> Result<Option<Vec<Row>>, AllocError> {
+) -> Result<Option<Vec<Row>>, AllocError>
+    ensures { IfOk result (λ made. IfSome made (λ all. length rows.now ≤ length all.items)) }
+{
     let Some(mut before) = all_put_in(alloc, columns, rows, &way.terms)? else {
         return Ok(None);
     };
@@ -30,7 +34,9 @@ pub fn rows_of_walk(
     ways: &[Way],
     walk: &[usize],
     end: &[Row],
-) -> Result<Option<Vec<Row>>, AllocError> {
+) -> Result<Option<Vec<Row>>, AllocError>
+    ensures { IfOk result (λ made. IfSome made (λ all. length end.now ≤ length all.items)) }
+{
     let mut rows = copies(alloc, end)?;
     for place in walk.iter().rev() {
         let Some(way) = ways.get(*place) else {
@@ -50,7 +56,10 @@ pub fn terms_of_walk(
     columns: usize,
     ways: &[Way],
     walk: &[usize],
-) -> Result<Option<Vec<Row>>, AllocError> {
+) -> Result<Option<Vec<Row>>, AllocError>
+    ensures counted { IfOk result (λ made. IfSome made (λ terms. length terms.items ≡ columns)) }
+    ensures even { IfOk result (λ made. IfSome made (λ terms. All (λ row. length row.coefficients ≡ columns) terms.items)) }
+{
     let Some(mut terms) = unit_rows(alloc, columns)? else {
         return Ok(None);
     };
@@ -74,20 +83,15 @@ struct Closing<'a> {
     terms: &'a [Row],
 }
 
-/// What is left of the work on one walk.
-#[derive(Drop)]
-struct Tries<'a> {
-    left: usize,
-    effort: &'a mut Effort,
-}
-
 /// The first of the rows that is not shown to hold again after the walk, and what it is after it; `None` in its place where all do.
 fn first_lost(
     alloc: Global,
     closing: &Closing,
     rows: &[Row],
     effort: &mut Effort,
-) -> Result<Option<Lost>, AllocError> {
+) -> Result<Option<Lost>, AllocError>
+    ensures fewer { effort.new.left ≤ effort.old.left }
+{
     for (place, row) in rows.iter().enumerate() {
         let Some(after) = put_in(alloc, closing.columns, row, closing.terms)? else {
             return Ok(Some(Lost::Wide));
@@ -115,7 +119,9 @@ fn with_row(
     rows: &[Row],
     row: &Row,
     effort: &mut Effort,
-) -> Result<Option<Vec<Row>>, AllocError> {
+) -> Result<Option<Vec<Row>>, AllocError>
+    ensures fewer { effort.new.left ≤ effort.old.left }
+{
     let mut more = copies(alloc, rows)?;
     if !push_tight(alloc, row, &mut more)? || more.len() == rows.len() {
         return Ok(None);
@@ -127,19 +133,22 @@ fn with_row(
     }
 }
 
-/// Rows with these among them that hold again after the walk; `None` where none were found.
+/// Rows with these among them that hold again after the walk, within so many tries; `None` where none were found.
 fn closed_rows(
     alloc: Global,
     closing: &Closing,
     rows: Vec<Row>,
     added: u32,
-    tries: &mut Tries,
-) -> Result<Option<Vec<Row>>, AllocError> {
-    if tries.left == 0 {
+    tries: &mut usize,
+    effort: &mut Effort,
+) -> Result<Option<Vec<Row>>, AllocError>
+    ensures fewer { effort.new.left ≤ effort.old.left }
+{
+    if *tries == 0 {
         return Ok(None);
     }
-    tries.left -= 1;
-    let (place, after) = match first_lost(alloc, closing, &rows, tries.effort)? {
+    *tries -= 1;
+    let (place, after) = match first_lost(alloc, closing, &rows, effort)? {
         None => return Ok(Some(rows)),
         Some(Lost::Wide) => return Ok(None),
         Some(Lost::Row { place, after }) => (place, after),
@@ -149,14 +158,14 @@ fn closed_rows(
     }
     if let Some(row) = rows.get(place)
         && let Some(change) = less(alloc, closing.columns, &after, row)?
-        && let Some(more) = with_row(alloc, closing, &rows, &change, tries.effort)?
-        && let Some(found) = closed_rows(alloc, closing, more, added - 1, tries)?
+        && let Some(more) = with_row(alloc, closing, &rows, &change, effort)?
+        && let Some(found) = closed_rows(alloc, closing, more, added - 1, tries, effort)?
     {
         return Ok(Some(found));
     }
-    match with_row(alloc, closing, &rows, &after, tries.effort)? {
+    match with_row(alloc, closing, &rows, &after, effort)? {
         None => Ok(None),
-        Some(more) => closed_rows(alloc, closing, more, added - 1, tries),
+        Some(more) => closed_rows(alloc, closing, more, added - 1, tries, effort),
     }
 }
 
@@ -167,7 +176,9 @@ fn rows_at_first(
     ways: &[Way],
     walk: &[usize],
     effort: &mut Effort,
-) -> Result<Option<Vec<Row>>, AllocError> {
+) -> Result<Option<Vec<Row>>, AllocError>
+    ensures fewer { effort.new.left ≤ effort.old.left }
+{
     let Some(guards) = rows_of_walk(alloc, columns, ways, walk, &[])? else {
         return Ok(None);
     };
@@ -188,7 +199,9 @@ pub fn closed(
     ways: &[Way],
     walk: &[usize],
     effort: &mut Effort,
-) -> Result<Option<Vec<Row>>, AllocError> {
+) -> Result<Option<Vec<Row>>, AllocError>
+    ensures fewer { effort.new.left ≤ effort.old.left }
+{
     let Some(terms) = terms_of_walk(alloc, columns, ways, walk)? else {
         return Ok(None);
     };
@@ -199,9 +212,6 @@ pub fn closed(
         columns,
         terms: &terms,
     };
-    let mut tries = Tries {
-        left: TRIES,
-        effort,
-    };
-    closed_rows(alloc, &closing, rows, ADDED_ROWS, &mut tries)
+    let mut tries = TRIES;
+    closed_rows(alloc, &closing, rows, ADDED_ROWS, &mut tries, effort)
 }

@@ -1,5 +1,7 @@
 // Graphs of runs that end in a closed walk: single states, and then regions round the walk.
 
+ghost use Rattle.std.specs.Prelude.{◌≡◌, IfOk, IfSome, length};
+
 use crate::cycles::closing::rows_before;
 use crate::cycles::way::Way;
 use crate::graphs::graph::{Graph, Step};
@@ -119,7 +121,9 @@ pub fn regions_of(
     ways: &[Way],
     walk: &[usize],
     rows: &[Row],
-) -> Result<Option<Vec<Vec<Row>>>, AllocError> {
+) -> Result<Option<Vec<Vec<Row>>>, AllocError>
+    ensures { IfOk result (λ made. IfSome made (λ regions. length regions.items ≡ length walk.now)) }
+{
     let mut regions: Vec<Vec<Row>> = Vec::new(alloc);
     for number in walk.iter().rev() {
         let Some(way) = ways.get(*number) else {

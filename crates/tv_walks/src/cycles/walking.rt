@@ -1,5 +1,7 @@
 // Closed walks over the locations of a program.
 
+ghost use Rattle.std.specs.Prelude.{◌≤◌, ◌+◌, IfOk, length};
+
 use crate::cycles::way::Way;
 use crate::limits::{CYCLES, LONGEST_CYCLE, LONGEST_WALK, PATHS, WALKS};
 use std::alloc::{AllocError, Global};
@@ -105,7 +107,9 @@ fn push_closed(
     ways: &[Way],
     wanted: Wanted,
     closed: &mut Vec<Vec<usize>>,
-) -> Result<(), AllocError> {
+) -> Result<(), AllocError>
+    ensures { length closed.new.items ≤ length closed.old.items + wanted.most }
+{
     let mut walks = short_walks(alloc, ways)?;
     let mut count = 0;
     for place in 0..PATHS {
@@ -126,7 +130,9 @@ fn push_closed(
 }
 
 /// Closed walks, the shortest first: those that meet no location twice, and then others.
-pub fn closed_walks(alloc: Global, ways: &[Way]) -> Result<Vec<Vec<usize>>, AllocError> {
+pub fn closed_walks(alloc: Global, ways: &[Way]) -> Result<Vec<Vec<usize>>, AllocError>
+    ensures { IfOk result (λ walks. length walks.items ≤ 500) }
+{
     let mut closed = Vec::new(alloc);
     let cycles = Wanted {
         longest: LONGEST_CYCLE,

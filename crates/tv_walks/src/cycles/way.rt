@@ -1,3 +1,7 @@
+ghost use Rattle.std.specs.Prelude.{◌≡◌, ◌≤◌, All, IfOk, IfSome, MatchOption, length};
+ghost use Rattle.tv_linear.specs.Known.{kept, put};
+ghost use Rattle.tv_linear.specs.Terms.{update_of};
+
 use crate::graphs::proving::number_row;
 use crate::limits::{DRAW_TERMS, MANY_DRAWS, WAYS};
 use crate::question::Question;
@@ -5,7 +9,7 @@ use crate::rows::combining::{all_put_in, put_in, unit_row, unit_rows};
 use crate::rows::conditions::conditions_at;
 use crate::rows::drawing::coefficient_at;
 use std::alloc::{AllocError, Global};
-use tv_cases::Case;
+use tv_cases::{Case, Update};
 use tv_cert::Aim;
 use tv_linear::{Row, copies, push_copies};
 
@@ -25,14 +29,25 @@ pub struct Way {
     pub terms: Vec<Row>,
 }
 
-/// The term that the case gives a variable, over the variables and the draws; `None` where it keeps its value.
-pub fn term_of(case: &Case, variable: usize) -> Option<&Row> {
-    for update in &case.updates {
+/// The term that the updates give a variable; `None` where it keeps its value.
+fn updated(updates: &[Update], variable: usize) -> Option<&Row>
+    ensures { let after = update_of updates.now variable in
+        MatchOption result (after ≡ kept variable) (λ term. after ≡ put term.now) }
+{
+    for update in updates {
         if update.variable as usize == variable {
             return Some(&update.term);
         }
     }
     None
+}
+
+/// The term that the case gives a variable, over the variables and the draws; `None` where it keeps its value.
+pub fn term_of(case: &Case, variable: usize) -> Option<&Row>
+    ensures { let after = update_of case.now.updates.items variable in
+        MatchOption result (after ≡ kept variable) (λ term. after ≡ put term.now) }
+{
+    updated(&case.updates, variable)
 }
 
 /// The term of a variable after the case, over the variables alone.
@@ -42,7 +57,9 @@ fn term_after(
     case: &Case,
     variable: usize,
     inputs: &[Row],
-) -> Result<Option<Row>, AllocError> {
+) -> Result<Option<Row>, AllocError>
+    ensures { IfOk result (λ made. IfSome made (λ row. length row.coefficients ≡ columns)) }
+{
     match term_of(case, variable) {
         None => unit_row(alloc, columns, variable),
         Some(term) => put_in(alloc, columns, term, inputs),
@@ -55,7 +72,10 @@ fn terms_after(
     columns: usize,
     case: &Case,
     inputs: &[Row],
-) -> Result<Option<Vec<Row>>, AllocError> {
+) -> Result<Option<Vec<Row>>, AllocError>
+    ensures counted { IfOk result (λ made. IfSome made (λ terms. length terms.items ≡ columns)) }
+    ensures even { IfOk result (λ made. IfSome made (λ terms. All (λ row. length row.coefficients ≡ columns) terms.items)) }
+{
     let mut terms = Vec::new(alloc);
     for variable in 0..columns {
         match term_after(alloc, columns, case, variable, inputs)? {
@@ -82,7 +102,13 @@ pub fn way_of(
     number: u32,
     case: &Case,
     draws: Vec<Row>,
-) -> Result<Option<Way>, AllocError> {
+) -> Result<Option<Way>, AllocError>
+    ensures from { IfOk result (λ made. IfSome made (λ way. way.from ≡ case.now.from)) }
+    ensures to { IfOk result (λ made. IfSome made (λ way. way.to ≡ case.now.to)) }
+    ensures number { IfOk result (λ made. IfSome made (λ way. way.number ≡ number)) }
+    ensures counted { IfOk result (λ made. IfSome made (λ way. length way.terms.items ≡ columns)) }
+    ensures even { IfOk result (λ made. IfSome made (λ way. All (λ row. length row.coefficients ≡ columns) way.terms.items)) }
+{
     let Some(inputs) = inputs_of(alloc, columns, &draws)? else {
         return Ok(None);
     };
@@ -106,7 +132,10 @@ fn guards_and_terms(
     columns: usize,
     case: &Case,
     inputs: &[Row],
-) -> Result<Option<(Vec<Row>, Vec<Row>)>, AllocError> {
+) -> Result<Option<(Vec<Row>, Vec<Row>)>, AllocError>
+    ensures counted { IfOk result (λ made. IfSome made (λ both. length (both.1).items ≡ columns)) }
+    ensures even { IfOk result (λ made. IfSome made (λ both. All (λ row. length row.coefficients ≡ columns) (both.1).items)) }
+{
     let Some(guards) = all_put_in(alloc, columns, &case.guards.rows, inputs)? else {
         return Ok(None);
     };
@@ -215,7 +244,10 @@ fn push_ways(
     draws: &[Row],
     kept: Option<&Aim>,
     ways: &mut Vec<Way>,
-) -> Result<(), AllocError> {
+) -> Result<(), AllocError>
+    requires { length ways.old.items ≤ 300 }
+    ensures { length ways.new.items ≤ 300 }
+{
     let columns = question.about.variables() as usize;
     for rows in conditions_of(question.alloc, kept, case.from)? {
         let own = copies(question.alloc, draws)?;
@@ -263,7 +295,10 @@ fn push_all_ways(
     case: &Case,
     kept: Option<&Aim>,
     ways: &mut Vec<Way>,
-) -> Result<(), AllocError> {
+) -> Result<(), AllocError>
+    requires { length ways.old.items ≤ 300 }
+    ensures { length ways.new.items ≤ 300 }
+{
     let columns = question.about.variables() as usize;
     let count = tried_terms(case);
     for list in 0..count {
@@ -274,7 +309,9 @@ fn push_all_ways(
 }
 
 /// The ways to take the cases of the program, where the formula holds before each.
-pub fn ways_under(question: &Question, kept: Option<&Aim>) -> Result<Vec<Way>, AllocError> {
+pub fn ways_under(question: &Question, kept: Option<&Aim>) -> Result<Vec<Way>, AllocError>
+    ensures { IfOk result (λ ways. length ways.items ≤ 300) }
+{
     let mut ways = Vec::new(question.alloc);
     let mut number: u32 = 0;
     for case in question.about.list() {

@@ -1,5 +1,7 @@
 // Covers at the pieces of a graph: each is one leaf.
 
+ghost use Rattle.std.specs.Prelude.{◌≡◌, IfOk, IfSome, length};
+
 use crate::graphs::expanding::is_without_draws;
 use crate::graphs::graph::{Graph, Step};
 use crate::graphs::holding::met_list;
@@ -236,7 +238,9 @@ pub(crate) fn push_steps(
 }
 
 /// The row of a number over so many variables.
-pub fn number_row(alloc: Global, variables: usize, number: i64) -> Result<Option<Row>, AllocError> {
+pub fn number_row(alloc: Global, variables: usize, number: i64) -> Result<Option<Row>, AllocError>
+    ensures { IfOk result (λ made. IfSome made (λ row. length row.coefficients ≡ variables)) }
+{
     let zeros = vec![in alloc; 0; variables]?;
     if zeros.len() >= 1 << 31 {
         return Ok(None);

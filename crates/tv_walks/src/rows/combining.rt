@@ -1,5 +1,7 @@
 // Rows made of others. What does not fit is no row.
 
+ghost use Rattle.std.specs.Prelude.{◌≡◌, All, IfOk, IfSome, length};
+
 use crate::rows::drawing::coefficient_at;
 use std::alloc::{AllocError, Global};
 use tv_cases::is_number;
@@ -39,7 +41,9 @@ fn row_of(
     alloc: Global,
     coefficients: &[i128],
     constant: Option<i128>,
-) -> Result<Option<Row>, AllocError> {
+) -> Result<Option<Row>, AllocError>
+    ensures { IfOk result (λ made. IfSome made (λ row. length row.coefficients ≡ length coefficients.now)) }
+{
     let Some(constant) = constant else {
         return Ok(None);
     };
@@ -55,7 +59,9 @@ pub fn put_in(
     columns: usize,
     row: &Row,
     terms: &[Row],
-) -> Result<Option<Row>, AllocError> {
+) -> Result<Option<Row>, AllocError>
+    ensures { IfOk result (λ made. IfSome made (λ row. length row.coefficients ≡ columns)) }
+{
     let mut coefficients = Vec::new(alloc);
     for column in 0..columns {
         match coefficient_of(row, terms, column) {
@@ -72,7 +78,10 @@ pub fn all_put_in(
     columns: usize,
     rows: &[Row],
     terms: &[Row],
-) -> Result<Option<Vec<Row>>, AllocError> {
+) -> Result<Option<Vec<Row>>, AllocError>
+    ensures counted { IfOk result (λ made. IfSome made (λ all. length all.items ≡ length rows.now)) }
+    ensures even { IfOk result (λ made. IfSome made (λ all. All (λ row. length row.coefficients ≡ columns) all.items)) }
+{
     let mut all = Vec::new(alloc);
     for row in rows {
         match put_in(alloc, columns, row, terms)? {
@@ -89,7 +98,9 @@ pub fn less(
     columns: usize,
     first: &Row,
     second: &Row,
-) -> Result<Option<Row>, AllocError> {
+) -> Result<Option<Row>, AllocError>
+    ensures { IfOk result (λ made. IfSome made (λ row. length row.coefficients ≡ columns)) }
+{
     let mut coefficients = Vec::new(alloc);
     for column in 0..columns {
         let left = i128::from(coefficient_at(first, column));
@@ -112,7 +123,9 @@ pub fn with_multiples(
     columns: usize,
     first: (&Row, i128),
     second: (&Row, i128),
-) -> Result<Option<Row>, AllocError> {
+) -> Result<Option<Row>, AllocError>
+    ensures { IfOk result (λ made. IfSome made (λ row. length row.coefficients ≡ columns)) }
+{
     let mut coefficients = Vec::new(alloc);
     for column in 0..columns {
         let left = i128::from(coefficient_at(first.0, column));
@@ -135,7 +148,9 @@ fn sum_of(first: (i128, i128), second: (i128, i128)) -> Option<i128> {
 }
 
 /// The row that is 1 in one column; that of zeros past the last.
-pub fn unit_row(alloc: Global, columns: usize, column: usize) -> Result<Option<Row>, AllocError> {
+pub fn unit_row(alloc: Global, columns: usize, column: usize) -> Result<Option<Row>, AllocError>
+    ensures { IfOk result (λ made. IfSome made (λ row. length row.coefficients ≡ columns)) }
+{
     let mut coefficients = vec![in alloc; 0; columns]?;
     if let Some(place) = coefficients.get_mut(column) {
         *place = 1;
@@ -144,7 +159,10 @@ pub fn unit_row(alloc: Global, columns: usize, column: usize) -> Result<Option<R
 }
 
 /// The variables as terms of their own.
-pub fn unit_rows(alloc: Global, columns: usize) -> Result<Option<Vec<Row>>, AllocError> {
+pub fn unit_rows(alloc: Global, columns: usize) -> Result<Option<Vec<Row>>, AllocError>
+    ensures counted { IfOk result (λ made. IfSome made (λ all. length all.items ≡ columns)) }
+    ensures even { IfOk result (λ made. IfSome made (λ all. All (λ row. length row.coefficients ≡ columns) all.items)) }
+{
     let mut rows = Vec::new(alloc);
     for column in 0..columns {
         match unit_row(alloc, columns, column)? {

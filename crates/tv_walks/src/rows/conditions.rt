@@ -43,7 +43,11 @@ fn lists_copied(alloc: Global, lists: &[Vec<Row>]) -> Result<Vec<Vec<Row>>, Allo
 
 /// Lists of rows one of which is met where the formula holds at the location, as far as it can be told from values.
 #[cycle(conditions)]
-pub fn conditions_at(alloc: Global, aim: &Aim, location: u32) -> Result<Vec<Vec<Row>>, AllocError> {
+pub(crate) fn conditions_at(
+    alloc: Global,
+    aim: &Aim,
+    location: u32,
+) -> Result<Vec<Vec<Row>>, AllocError> {
     match aim {
         Aim::Rows(lists) => lists_copied(alloc, lists),
         Aim::Here(own) => lists_where(alloc, *own == location),

@@ -1,5 +1,12 @@
 // What the solver says, within what is left of an effort.
 
+ghost use Rattle.std.specs.Prelude.{◌≡◌, ◌≤◌, ◌<◌, ◌-◌, ◌↔◌, ◌++◌, ◌∷◌, [], IfOk, IfSome, IsTrue, length};
+ghost use Rattle.tv_linear.specs.Arithmetic.{denial};
+ghost use Rattle.tv_linear.specs.Known.{as_given};
+ghost use Rattle.tv_linear.specs.Refutation.{Refutes};
+ghost use Rattle.tv_farkas.specs.Refuting.{IsRefuted};
+ghost use Rattle.tv_farkas.specs.Paths.{IsWholePoint};
+
 use crate::budget::{Budget as SearchBudget, Spent};
 use crate::limits::{PIVOTS, SPLITS};
 use crate::rows::drawing::coefficient_at;
@@ -22,7 +29,9 @@ pub struct Effort {
 
 impl Effort {
     /// An effort of so many calls of the solver.
-    pub fn of(calls: usize) -> Effort {
+    pub fn of(calls: usize) -> Effort
+        ensures { result ≡ record { left = calls; states = 0 } }
+    {
         Effort {
             left: calls,
             states: 0,
@@ -30,7 +39,10 @@ impl Effort {
     }
 
     /// Takes one of the calls that are left; whether there was one.
-    pub fn spend(&mut self) -> bool {
+    pub fn spend(&mut self) -> bool
+        ensures was { IsTrue result ↔ 0 < self.old.left }
+        ensures takes { self.new ≡ record self.old { left = self.old.left - 1 } }
+    {
         if self.left == 0 {
             return false;
         }
@@ -44,7 +56,9 @@ impl Effort {
     }
 
     /// What was spent of the budget.
-    pub fn spent(&self, budget: &SearchBudget) -> Spent {
+    pub fn spent(&self, budget: &SearchBudget) -> Spent
+        ensures { result ≡ record { states = self.now.states; calls = budget.now.calls - self.now.left } }
+    {
         Spent {
             states: self.states,
             calls: budget.calls.saturating_sub(self.left),
@@ -111,7 +125,10 @@ fn refuted(
     rows: &[Row],
     columns: usize,
     effort: &mut Effort,
-) -> Result<Option<Refuted>, AllocError> {
+) -> Result<Option<Refuted>, AllocError>
+    ensures answers { IfOk result (λ answer. IfSome answer (IsRefuted columns rows.now)) }
+    ensures fewer { effort.new.left ≤ effort.old.left }
+{
     if are_met_somewhere(alloc, rows, columns)? || columns >= 1 << 31 || !effort.spend() {
         return Ok(None);
     }
@@ -127,7 +144,9 @@ fn refuted(
 }
 
 /// The numbers in half the bits; `None` where one is not narrow.
-fn halved(alloc: Global, numbers: &[i128]) -> Result<Option<Vec<i64>>, AllocError> {
+fn halved(alloc: Global, numbers: &[i128]) -> Result<Option<Vec<i64>>, AllocError>
+    ensures { IfOk result (λ half. IfSome half (λ list. list.items ≡ numbers.now)) }
+{
     let mut half = Vec::new(alloc);
     for number in numbers {
         if !is_narrow(*number) {
@@ -142,7 +161,9 @@ fn halved(alloc: Global, numbers: &[i128]) -> Result<Option<Vec<i64>>, AllocErro
 }
 
 /// The denial of a row; `None` where it is not narrow.
-pub fn denied(alloc: Global, row: &Row) -> Result<Option<Row>, AllocError> {
+pub fn denied(alloc: Global, row: &Row) -> Result<Option<Row>, AllocError>
+    ensures { IfOk result (λ made. IfSome made (λ denied. denied ≡ denial row.now)) }
+{
     match row.deny(alloc) {
         Ok(denial) => Ok(Some(denial)),
         Err(RowFault::Wide { .. }) => Ok(None),
@@ -157,7 +178,10 @@ pub fn shown(
     row: &Row,
     columns: usize,
     effort: &mut Effort,
-) -> Result<Option<Vec<i64>>, AllocError> {
+) -> Result<Option<Vec<i64>>, AllocError>
+    ensures refuting { IfOk result (λ found. IfSome found (λ line. Refutes columns (as_given (known.now ++ denial row.now ∷ [])) line.items)) }
+    ensures fewer { effort.new.left ≤ effort.old.left }
+{
     let Some(denial) = denied(alloc, row)? else {
         return Ok(None);
     };
@@ -174,11 +198,6 @@ fn place_showing(known: &[Row], row: &Row) -> Option<usize> {
     known.iter().position(|other| {
         other.coefficients() == row.coefficients() && other.constant() >= row.constant()
     })
-}
-
-/// Whether one of the rows alone shows the row.
-pub fn is_shown_at_once(known: &[Row], row: &Row) -> bool {
-    place_showing(known, row).is_some()
 }
 
 /// The multipliers of so many rows and a denial, which are 1 at the place and at the denial, and 0 else.
@@ -198,7 +217,9 @@ pub(crate) fn shown_by(
     row: &Row,
     columns: usize,
     effort: &mut Effort,
-) -> Result<Option<Vec<i64>>, AllocError> {
+) -> Result<Option<Vec<i64>>, AllocError>
+    ensures fewer { effort.new.left ≤ effort.old.left }
+{
     if is_number(row) && row.constant() <= 0 {
         return Ok(Some(pair_of(alloc, known.len(), known.len())?));
     }
@@ -215,7 +236,10 @@ pub fn all_shown_by(
     rows: &[Row],
     columns: usize,
     effort: &mut Effort,
-) -> Result<Option<Vec<Vec<i64>>>, AllocError> {
+) -> Result<Option<Vec<Vec<i64>>>, AllocError>
+    ensures counted { IfOk result (λ found. IfSome found (λ lines. length lines.items ≡ length rows.now)) }
+    ensures fewer { effort.new.left ≤ effort.old.left }
+{
     let mut lines = Vec::new(alloc);
     for row in rows {
         match shown_by(alloc, known, row, columns, effort)? {
@@ -233,7 +257,9 @@ pub fn is_known(
     row: &Row,
     columns: usize,
     effort: &mut Effort,
-) -> Result<bool, AllocError> {
+) -> Result<bool, AllocError>
+    ensures fewer { effort.new.left ≤ effort.old.left }
+{
     if is_number(row) {
         return Ok(row.constant() <= 0);
     }
@@ -274,7 +300,9 @@ pub fn may_have_point(
     rows: &[Row],
     columns: usize,
     effort: &mut Effort,
-) -> Result<bool, AllocError> {
+) -> Result<bool, AllocError>
+    ensures fewer { effort.new.left ≤ effort.old.left }
+{
     if rows.iter().any(|row| is_excluded(rows, row)) {
         return Ok(false);
     }
@@ -285,7 +313,9 @@ pub fn may_have_point(
 }
 
 /// The numbers, where none is too large for a graph.
-fn all_bounded(alloc: Global, numbers: &[i128]) -> Result<Option<Vec<i64>>, AllocError> {
+fn all_bounded(alloc: Global, numbers: &[i128]) -> Result<Option<Vec<i64>>, AllocError>
+    ensures { IfOk result (λ found. IfSome found (λ values. values.items ≡ numbers.now)) }
+{
     let mut values = Vec::new(alloc);
     for number in numbers {
         match bounded(*number) {
@@ -302,7 +332,10 @@ pub fn whole_point(
     rows: &[Row],
     columns: usize,
     effort: &mut Effort,
-) -> Result<Option<Vec<i64>>, AllocError> {
+) -> Result<Option<Vec<i64>>, AllocError>
+    ensures met { IfOk result (λ found. IfSome found (λ point. IsWholePoint columns rows.now point.items)) }
+    ensures fewer { effort.new.left ≤ effort.old.left }
+{
     if columns >= 1 << 31 || !effort.spend() {
         return Ok(None);
     }

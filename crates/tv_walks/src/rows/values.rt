@@ -1,5 +1,7 @@
 // Values of rows at points.
 
+ghost use Rattle.std.specs.Prelude.{◌≡◌, IfSome};
+
 use crate::limits::LARGEST;
 use std::alloc::{AllocError, Global};
 use tv_cases::Case;
@@ -46,7 +48,9 @@ pub(crate) fn are_met_at(rows: &[Row], values: &[i64], draws: &[i64]) -> bool {
 }
 
 /// The number in half the bits, where it is not too large for a graph.
-pub(crate) fn bounded(number: i128) -> Option<i64> {
+pub(crate) fn bounded(number: i128) -> Option<i64>
+    ensures { IfSome result (λ value. value ≡ number) }
+{
     if number < -LARGEST {
         return None;
     }
