@@ -1,15 +1,16 @@
 //! One ranking function for the first case of a program without guards.
 
-ghost use Rattle.std.specs.Prelude.{◌≡◌, ◌<◌, ◌∷◌, [], length, true, IfOk};
+ghost use Rattle.std.specs.Prelude.{◌≡◌, ◌<◌, ◌∷◌, [], length, true};
 ghost use Rattle.tv_cases.specs.Systems.{cases_of};
-ghost use Rattle.tv_linear.specs.declared.region.Region.{Region};
+ghost use Rattle.tv_cases.specs.Views.{case_views};
 ghost use Rattle.tv_rank.specs.Sets.{PointsOf};
+ghost use Rattle.tv_rank.specs.Ways.{case_at, rows_at};
 
 use crate::programs::{IDLE, about_of};
 use std::alloc::{AllocError, Global};
 use std::test::Fail;
-use tv_cases::Cases;
-use tv_linear::{Piece, Poly, Region};
+use tv_cases::{Case, Cases};
+use tv_linear::{Piece, Poly, Region, Row};
 use tv_rank::{Found, weak_rank};
 use tv_simplex::SolveFault;
 
@@ -32,8 +33,37 @@ fn all_states(alloc: Global, about: &Cases) -> Result<Region, AllocError> {
     })
 }
 
-/// Whether there is a piece for each location, and the first case has no guards, nor the piece where it starts a row. So any point meets
-/// them.
+/// Where the first case starts.
+fn start_of(list: &[Case]) -> u32
+    requires { 0 < length list.now }
+    ensures { result ≡ (case_at (case_views list.now) 0).from }
+{
+    list[0].from
+}
+
+/// The guards of the first case.
+fn guards_of(list: &[Case]) -> &[Row]
+    requires { 0 < length list.now }
+    ensures { result.now ≡ (case_at (case_views list.now) 0).guards }
+{
+    &list[0].guards.rows
+}
+
+/// The rows that are known at a location.
+fn known_at(known: &[Piece], location: u32) -> &[Row]
+    requires { location < length known.now }
+    ensures { result.now ≡ rows_at known.now location }
+{
+    &known[location as usize].poly.rows
+}
+
+fn are_none(rows: &[Row]) -> bool
+    ensures { result ≡ true → rows.now ≡ [] }
+{
+    rows.is_empty()
+}
+
+/// Whether there is a piece for each location, the first case has no guards, and no row is known where it starts: any point meets these.
 fn is_free(about: &Cases, known: &Region) -> bool
     ensures some { result ≡ true → 0 < length (cases_of about.now).cases }
     ensures pieces { result ≡ true → length known.now.pieces.items ≡ (cases_of about.now).locations }
@@ -43,11 +73,11 @@ fn is_free(about: &Cases, known: &Region) -> bool
     if list.is_empty() || known.pieces.len() != about.locations() as usize {
         return false;
     }
-    let case = &list[0];
-    let start = case.from as usize;
-    start < known.pieces.len()
-        && case.guards.rows.is_empty()
-        && known.pieces[start].poly.rows.is_empty()
+    let start = start_of(list);
+    if start as usize >= known.pieces.len() || !are_none(guards_of(list)) {
+        return false;
+    }
+    are_none(known_at(&known.pieces, start))
 }
 
 /// What ranks the first case of the program in the text alone.
