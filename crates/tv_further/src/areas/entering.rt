@@ -3,8 +3,8 @@
 
 use crate::areas::area::Area;
 use crate::areas::passage::{rows_entered, width_of};
+use crate::areas::shadow::shadow;
 use crate::limits::DRAW_LISTS;
-use crate::rows::shadow::shadow;
 use std::alloc::{AllocError, Global};
 use tv_cases::Case;
 use tv_linear::{Row, copies};

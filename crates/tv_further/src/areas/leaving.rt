@@ -3,7 +3,7 @@
 use crate::areas::area::Area;
 use crate::areas::cutting::{cut_by, cut_by_all};
 use crate::areas::passage::{rows_entered, rows_left, width_of};
-use crate::rows::shadow::shadow;
+use crate::areas::shadow::shadow;
 use std::alloc::AllocError;
 use tv_cases::Case;
 use tv_linear::Row;

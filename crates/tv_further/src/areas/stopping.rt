@@ -2,7 +2,7 @@
 
 use crate::areas::cutting::cut_by_all;
 use crate::areas::passage::width_of;
-use crate::rows::shadow::shadow;
+use crate::areas::shadow::shadow;
 use std::alloc::AllocError;
 use tv_linear::Row;
 use tv_walks::{Effort, Question};
