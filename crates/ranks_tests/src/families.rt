@@ -102,6 +102,20 @@ fn is_family(found: &Result<Found, SolveFault>, terms: usize, lists: usize) -> b
     }
 }
 
+fn is_barrier(found: &Result<Found, SolveFault>) -> bool {
+    match found {
+        Ok(Found::None { barrier }) => !barrier.is_empty(),
+        _ => false,
+    }
+}
+
+fn is_spent(found: &Result<Found, SolveFault>, wanted: u64) -> bool {
+    match found {
+        Err(SolveFault::Pivots { bases }) => *bases == wanted,
+        _ => false,
+    }
+}
+
 // A term at both ends of the step, and multipliers for the step and for its fall.
 #[test]
 fn a_step_is_ranked(rt: HostRuntime) -> Result<(), Fail> {
@@ -112,18 +126,14 @@ fn a_step_is_ranked(rt: HostRuntime) -> Result<(), Fail> {
 
 #[test]
 fn a_loop_without_guards_is_not_ranked(rt: HostRuntime) -> Result<(), Fail> {
-    match rank_of(rt.alloc(), IDLE, 1000)? {
-        Ok(Found::None { barrier }) => assert!(rt; !barrier.is_empty()),
-        _ => assert!(rt; false),
-    }
+    let found = rank_of(rt.alloc(), IDLE, 1000)?;
+    assert!(rt; is_barrier(&found));
     Ok(())
 }
 
 #[test]
 fn a_ranking_without_bases_is_refused(rt: HostRuntime) -> Result<(), Fail> {
-    match rank_of(rt.alloc(), STEP, 0)? {
-        Err(SolveFault::Pivots { bases }) => assert!(rt; bases == 0),
-        _ => assert!(rt; false),
-    }
+    let found = rank_of(rt.alloc(), STEP, 0)?;
+    assert!(rt; is_spent(&found, 0));
     Ok(())
 }
