@@ -2,8 +2,8 @@
 
 use crate::claims::{Asks, is_said_of_texts};
 use crate::programs::{
-    BESIDE, BOTH_WAYS, CHAIN, CLIMBER, DRAWN, DRAWS, EMPTY, FALLING, HALF, HALVES, IDLE, LEAVING,
-    LOOP, RESTING, STEP,
+    BESIDE, BOTH_WAYS, CHAIN, CLIMBER, DRAWN, DRAWN_BESIDE, DRAWS, EMPTY, FALLING, HALF, HALVES,
+    IDLE, LEAVING, LOOP, RESTING, STEP,
 };
 use std::test::Fail;
 use tv_cert::{Claim, Verdict};
@@ -269,6 +269,20 @@ const LEFT: &[Example] = &[
     (BESIDE, "x <= 0 || [AF](x <= 0 && y != z)", Wanted::Open(2)),
 ];
 
+/// Where going back over the draw is not exact, that is the cause, whichever part stands first.
+const DRAWN_LEFT: &[Example] = &[
+    (
+        DRAWN_BESIDE,
+        "[EG](z > 5) || [EX](3*x >= y && 3*x <= y + 2)",
+        Wanted::Inexact,
+    ),
+    (
+        DRAWN_BESIDE,
+        "[EX](3*x >= y && 3*x <= y + 2) || [EG](z > 5)",
+        Wanted::Inexact,
+    ),
+];
+
 #[test]
 fn states_are_told(rt: HostRuntime) -> Result<(), Fail> {
     for (program, property, wanted) in STATES {
@@ -349,6 +363,17 @@ fn ends_of_ranked_programs_are_told(rt: HostRuntime) -> Result<(), Fail> {
 #[test]
 fn what_is_left_has_its_cause(rt: HostRuntime) -> Result<(), Fail> {
     for (program, property, wanted) in LEFT {
+        assert!(rt;
+            is_said_of_texts(rt.alloc(), program, property, &AMPLE, wanted)?,
+            "{property}"
+        );
+    }
+    Ok(())
+}
+
+#[test]
+fn a_draw_is_told_before_what_is_open(rt: HostRuntime) -> Result<(), Fail> {
+    for (program, property, wanted) in DRAWN_LEFT {
         assert!(rt;
             is_said_of_texts(rt.alloc(), program, property, &AMPLE, wanted)?,
             "{property}"

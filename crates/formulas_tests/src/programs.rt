@@ -41,6 +41,10 @@ pub(crate) const DRAWN: &str =
 /// Draws half of a number, if there is one.
 pub(crate) const HALF: &str = "START: 0; FROM: 0; y := nondet(); assume(2*y == x); TO: 1;";
 
+/// Draws a number beside one that stays, and then counts another one down.
+pub(crate) const DRAWN_BESIDE: &str =
+    "START: 0; FROM: 0; y := y; x := nondet(); TO: 1; FROM: 1; assume(z > 0); z := z - 1; TO: 1;";
+
 /// Idles for ever.
 pub(crate) const IDLE: &str = "START: 0; FROM: 0; x := x; TO: 0;";
 

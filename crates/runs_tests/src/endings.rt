@@ -14,7 +14,7 @@ const DRAWN_COUNTDOWN: &str =
 const DRAWN_FALL: &str =
     "START: 0; FROM: 0; assume(x > 0); y := nondet(); assume(y < x); x := y; TO: 0;";
 
-const NESTED: &str =
+pub(crate) const NESTED: &str =
     "START: 0; FROM: 0; assume(x > 0); x := x - 1; y := nondet(); TO: 0; FROM: 0; assume(y > 0); y := y - 1; TO: 0;";
 
 const CLIMBER: &str = "START: 0; FROM: 0; TO: 1; FROM: 1; assume(x > 0); x := x + 1; TO: 1;";

@@ -26,6 +26,8 @@ mod nodes;
 #[cfg(test)]
 mod outside;
 #[cfg(test)]
+mod processes;
+#[cfg(test)]
 mod proving;
 #[cfg(test)]
 mod safety;

@@ -1,14 +1,13 @@
-use crate::safety::{BACK, COUNTER, FRONT, HEADING, STEP};
-use crate::texts::joined;
+use crate::words::COUNTDOWN;
 use std::alloc::{AllocError, Global};
 use tv_text::{MemSink, MemSource};
 use tv_top::{Status, run};
 
-const WORDS: [&str; 3] = ["--check", "--safety", "2"];
+const WORDS: [&str; 1] = ["--termination"];
 
-/// A program with a certificate of 330 bytes in all, over so many bytes a call, of which one fails.
+/// A program of 68 bytes in pieces of at most this size. One call fails.
 fn source(alloc: Global, piece: usize, failing: u64) -> Result<MemSource, AllocError> {
-    let text = joined(alloc, &[COUNTER, HEADING, FRONT, STEP, BACK])?;
+    let text = Vec::from_slice(alloc, COUNTDOWN.as_bytes())?;
     let fails = vec![in alloc; failing]?;
     Ok(MemSource::new(text, piece.max(1), fails))
 }
@@ -37,10 +36,10 @@ fn is_read_fault(alloc: Global, call: u64) -> Result<bool, AllocError> {
     Ok(writes(alloc, source, sink, "", Status::ReadFault))
 }
 
-// Each call of the source.
+// Each call of the source: seven bring the text, and the eighth finds its end.
 #[test]
 fn a_read_fault_writes_nothing(rt: HostRuntime) {
-    for call in 1..35u64 {
+    for call in 1..9u64 {
         assert!(rt; is_read_fault(rt.alloc(), call) == Ok(true), "{call}");
     }
 }

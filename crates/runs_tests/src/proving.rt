@@ -25,7 +25,7 @@ const FAR: &str =
     "START: 0; FROM: 0; x := 0; TO: 1; FROM: 1; x := x + 1; TO: 1; FROM: 1; assume(x == 9); TO: 2;";
 
 /// The second number is always twice the first, which no bound and no difference of the two says.
-const TWICE: &str =
+pub(crate) const TWICE: &str =
     "START: 0; FROM: 0; x := 0; y := 0; TO: 1; FROM: 1; x := x + 1; y := y + 2; TO: 1; FROM: 1; assume(x == 3); assume(y != 6); TO: 2;";
 
 /// Two ways to each step, over even numbers.
@@ -96,7 +96,7 @@ fn why_it_is_not_settled_is_told(rt: HostRuntime) {
 }
 
 /// A location, and a row by its coefficients and its constant.
-type Placed = (u32, &'static [i128], i128);
+pub(crate) type Placed = (u32, &'static [i128], i128);
 
 fn candidate(alloc: Global, placed: &Placed) -> Result<Candidate, Fail> {
     if placed.1.len() > 3 {
@@ -132,7 +132,7 @@ fn candidates(alloc: Global, list: &[Placed], times: u32) -> Result<Vec<Candidat
 }
 
 /// A proposer of these rows, each so many times, after the others.
-fn push_offering(
+pub(crate) fn push_offering(
     alloc: Global,
     proposers: &mut Vec<Box<dyn Proposer>>,
     list: &[Placed],
@@ -142,6 +142,9 @@ fn push_offering(
     proposers.push(Box::new(alloc, Scripted::new(candidates))?)?;
     Ok(())
 }
+
+/// The second number is at most twice the first, and at least.
+pub(crate) const BOTH_WAYS: &[Placed] = &[(1, &[-2, 1], 0), (1, &[2, -1], 0)];
 
 /// A program, and what is offered alone.
 type Offer = (&'static str, &'static [Placed]);
@@ -157,7 +160,7 @@ const OFFERED: &[Offer] = &[
         COUNTER,
         &[(1, &[1], 0), (9, &[1], -5), (1, &[1], -5), (2, &[0], 1)],
     ),
-    (TWICE, &[(1, &[-2, 1], 0), (1, &[2, -1], 0)]),
+    (TWICE, BOTH_WAYS),
 ];
 
 /// A proposer of these rows alone.
@@ -183,7 +186,7 @@ fn rows_that_are_offered_are_looked_at(rt: HostRuntime) -> Result<(), Fail> {
 }
 
 /// Rows that do not hold, are about no location or have another number of columns.
-const USELESS: &[Placed] = &[
+pub(crate) const USELESS: &[Placed] = &[
     (1, &[1], 0),
     (0, &[0], 1),
     (9, &[1], -5),
@@ -192,7 +195,7 @@ const USELESS: &[Placed] = &[
 ];
 
 /// A row that does not hold, though it does at first.
-const ONE_ROW: &[Placed] = &[(1, &[1], -5)];
+pub(crate) const ONE_ROW: &[Placed] = &[(1, &[1], -5)];
 
 /// Proposers of what is of no use, again and again, and those of rows of each kind.
 fn useless(alloc: Global) -> Result<Vec<Box<dyn Proposer>>, Fail> {

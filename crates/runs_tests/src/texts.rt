@@ -24,7 +24,7 @@ pub(crate) fn add_proposers(
 }
 
 /// What offers rows of each kind, and nothing else.
-fn all_proposers(alloc: Global) -> Result<Vec<Box<dyn Proposer>>, AllocError> {
+pub(crate) fn all_proposers(alloc: Global) -> Result<Vec<Box<dyn Proposer>>, AllocError> {
     let mut proposers = Vec::new(alloc);
     add_proposers(alloc, &mut proposers)?;
     Ok(proposers)
@@ -54,6 +54,20 @@ pub(crate) fn says_under(
     let mut sink = MemSink::new(alloc, 2000, 4096, Vec::new(alloc))?;
     let found = run_into(alloc, words, text, &mut sink, proposers);
     Ok(found == status && sink.written() == written.as_bytes())
+}
+
+/// Whether a run with the words on the text, under what these proposers offer, writes this line first, and ends so.
+pub(crate) fn begins_under(
+    alloc: Global,
+    words: &[&str],
+    text: Vec<u8>,
+    proposers: Vec<Box<dyn Proposer>>,
+    line: &str,
+    status: Status,
+) -> Result<bool, AllocError> {
+    let mut sink = MemSink::new(alloc, 2000, 4096, Vec::new(alloc))?;
+    let found = run_into(alloc, words, text, &mut sink, proposers);
+    Ok(found == status && sink.written().starts_with(line.as_bytes()))
 }
 
 /// Whether a run with the words on the text writes this, and ends so.

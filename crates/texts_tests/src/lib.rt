@@ -12,6 +12,8 @@ mod names;
 #[cfg(test)]
 mod parts;
 #[cfg(test)]
+mod processes;
+#[cfg(test)]
 mod programs;
 #[cfg(test)]
 mod spelling;

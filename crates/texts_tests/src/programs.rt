@@ -32,7 +32,7 @@ fn append_part(text: &mut Vec<u8>, part: &[u8], number: u32) -> Result<(), Alloc
 }
 
 /// A front, so many parts, and an end.
-fn text_of(
+pub(crate) fn text_of(
     alloc: Global,
     front: &str,
     part: &str,

@@ -5,7 +5,7 @@ use Rattle.tv_lexrank.specs.declared.fault.RankFault.{RankFault}
 use Rattle.tv_lexrank.specs.declared.fault.RankFault.TheVariants as fault
 use Rattle.tv_lexrank.specs.declared.part.Part.{Part}
 use Rattle.tv_lexrank.specs.Parts.{IsPart, RefusesPart}
-use Rattle.tv_lexrank.specs.Attempt.{PartsFrom, rounds_in, RefusesAttempt}
+use Rattle.tv_lexrank.specs.Attempt.{PartsFrom, rounds_in, AreRankedBefore, RefusesAttempt}
 use Rattle.std.proofs.lemmas.List.{get_or-map}
 
 parts_from : (about : CaseSystem) (known : List Piece) (numbers : List ℕ) (c d : ℕ) (ps : List Part) (p : Part) → PartsFrom about known numbers c ps → d ≡ c + length ps → IsPart about known numbers d p → PartsFrom about known numbers c (ps ++ p ∷ [])
@@ -26,8 +26,8 @@ part_is about known numbers k ps p h l e = subst (λ z. IsPart about known numbe
 pub rounds_are : (k : ℕ) (ps : List Part) (p : Part) → k < length ps → p ≡ get_or ps k p → rounds_in ps k ≡ p.rounds.items
 rounds_are k ps p l e = get_or-map (λ q. q.rounds.items) ps k p [] l ∙ ap (λ q. q.rounds.items) (sym e)
 
-pub part_refused : (about : CaseSystem) (known : List Piece) (numbers : List ℕ) (component pivots : ℕ) (e : RankFault) → RefusesPart about known numbers component pivots e → RefusesAttempt about known numbers pivots e
-part_refused about known numbers component pivots (fault.Solve system e) h = (component, h)
-part_refused about known numbers component pivots (fault.Open taken values) h = absurd h
-part_refused about known numbers component pivots (fault.Cover f) h = absurd h
-part_refused about known numbers component pivots fault.Memory h = tt
+pub part_refused : (about : CaseSystem) (known : List Piece) (numbers : List ℕ) (component pivots : ℕ) (e : RankFault) → AreRankedBefore about known numbers component → RefusesPart about known numbers component pivots e → RefusesAttempt about known numbers pivots e
+part_refused about known numbers component pivots (fault.Solve system e) before h = (component, h, before)
+part_refused about known numbers component pivots (fault.Open taken values) before h = absurd h
+part_refused about known numbers component pivots (fault.Cover f) before h = absurd h
+part_refused about known numbers component pivots fault.Memory before h = tt

@@ -5,7 +5,7 @@ use Rattle.tv_farkas.proofs.SystemLemmas.{at_of}
 use Rattle.tv_linear.specs.declared.region.Piece.{Piece}
 use Rattle.tv_cases.specs.LinearCases.{LinearCase, CaseSystem, AreCases}
 use Rattle.tv_graph.specs.declared.Arc.{Arc}
-use Rattle.tv_graph.specs.Graph.{IsBetween, Reaches, here, along, AreStronglyConnected}
+use Rattle.tv_graph.specs.Graph.{IsBetween, Reaches, here, along, AreStronglyConnected, HasNoGap}
 use Rattle.tv_rank.specs.Ways.{case_at, no_case, rows_at}
 use Rattle.tv_lexrank.specs.declared.fault.RankFault.{RankFault}
 use Rattle.tv_lexrank.specs.declared.fault.RankFault.TheVariants as fault
@@ -55,11 +55,12 @@ leads cases u v (along arc t (k, l, e) r) =
     let a = sym (arc_at cases k arc q) ∙ e in
     subst (λ z. Leads cases z.from t) a (cycles.along k t q (subst (λ z. Leads cases z.to t) (sym a) (leads cases arc.to t r)))
 
-pub are_components : (about : CaseSystem) (numbers : List ℕ) → length numbers ≡ about.locations → ((u v : ℕ) → u < about.locations → v < about.locations → (slice_index numbers u ≡ slice_index numbers v) ↔ AreStronglyConnected (map arc_of about.cases) u v) → All (λ arc. slice_index numbers arc.to ≤ slice_index numbers arc.from) (map arc_of about.cases) → AreComponents about numbers
-are_components about numbers e s n = record {
+pub are_components : (about : CaseSystem) (numbers : List ℕ) → length numbers ≡ about.locations → ((u v : ℕ) → u < about.locations → v < about.locations → (slice_index numbers u ≡ slice_index numbers v) ↔ AreStronglyConnected (map arc_of about.cases) u v) → All (λ arc. slice_index numbers arc.to ≤ slice_index numbers arc.from) (map arc_of about.cases) → HasNoGap numbers → AreComponents about numbers
+are_components about numbers e s n g = record {
   one_each = e;
   grouped = λ u v a b q. let r = (s u v a b).0 q in (leads about.cases u v r.0, leads about.cases v u r.1);
   never_rises = never_rises about numbers n;
+  no_gap = g;
 }
 
 -- a set that is stuck under pieces without rows is stuck without known rows
@@ -69,6 +70,7 @@ stuck_bare about known set barriers bare h =
     record {
       nonempty = h.nonempty;
       ascends = h.ascends;
+      inside = h.inside;
       points = subst (λ w. (k : ℕ) → k < length set → HasPoint about.variables (w k)) e h.points;
       each_barred = record {
         as_many = h.each_barred.as_many;

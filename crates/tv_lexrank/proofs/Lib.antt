@@ -24,3 +24,4 @@ pub mod PartShown
 pub mod MoreLemmas
 pub mod PieceLemmas
 pub mod GapLemmas
+pub mod MemoryLemmas

@@ -6,12 +6,11 @@ use Rattle.tv_cases.specs.LinearCases.{LinearCase, CaseSystem}
 use Rattle.tv_rank.specs.Ways.{case_at, way_at}
 use Rattle.tv_rank.specs.Rankings.{IsWayPoint, Ranks}
 use Rattle.tv_lexrank.specs.declared.round.Round.{Round}
-use Rattle.tv_lexrank.specs.declared.greedy.Greedy.{Greedy}
-use Rattle.tv_lexrank.specs.declared.greedy.Greedy.TheVariants as greedy
-use Rattle.tv_lexrank.specs.Greedy.{without, Lead, none, more, IsGreedy, IsEmptied}
+use Rattle.tv_lexrank.specs.Greedy.{without, Lead, none, more}
 use Rattle.tv_known.specs.Cycles.{AreTogether}
 use Rattle.tv_known.specs.Ranking.{IsCasePoint, RanksCases, case_in, AreInside, HasLexicographicRanking}
 use Rattle.tv_lexrank.specs.Known.{AreBare}
+use Rattle.tv_lexrank.specs.Parts.{IsStuck}
 use Rattle.tv_lexrank.proofs.Removing.{stood}
 
 inside_without : (about : CaseSystem) (xs : List ℕ) (p : ℕ) → AreInside about xs → AreInside about (without xs p)
@@ -50,10 +49,8 @@ ranks_known v many about known set falling terms h = record {
   falls = λ xs z p. h.falls xs z (point_of_guards v about known set falling xs z p);
 }
 
--- where the cases have a ranking, nothing is stuck
-pub never_left : (about : CaseSystem) (known : List Piece) (set : List ℕ) (g : Greedy) → AreInside about set → HasLexicographicRanking about → IsGreedy about known set g → IsEmptied g
-never_left about known set (greedy.Emptied rounds) inside ranking h = tt
-never_left about known set (greedy.Left left barriers) inside ranking (rounds, lead, nonempty, points, bars) =
-    let r = ranking left.items nonempty (inside_left about known set rounds left.items lead inside)
-    (λ k l. let (xs, z, p) = points k l in (xs, z, point_of_guards about.variables about known left.items k xs z p)) in
-    absurd (bars.excluded r.0 r.1 r.2 r.3 (ranks_known about.variables (length left.items) about known left.items r.0 r.2 r.4))
+-- where the cases have a ranking, no set is stuck
+pub stuck_unranked : (about : CaseSystem) (known : List Piece) (set : List ℕ) (barriers : List (List ℤ)) → IsStuck about known set barriers → HasLexicographicRanking about → ⊥
+stuck_unranked about known set barriers stuck ranking =
+    let r = ranking set stuck.nonempty stuck.inside (λ k l. let (xs, z, p) = stuck.points k l in (xs, z, point_of_guards about.variables about known set k xs z p)) in
+    stuck.each_barred.excluded r.0 r.1 r.2 r.3 (ranks_known about.variables (length set) about known set r.0 r.2 r.4)

@@ -2,8 +2,6 @@ use Rattle.std.proofs.Common.{◌∙◌, ℕ, List, length, get_or, Vec, ℤ, sy
 use Rattle.tv_linear.specs.declared.region.Piece.{Piece}
 use Rattle.tv_cases.specs.LinearCases.{CaseSystem, AreCases}
 use Rattle.tv_rank.specs.Ways.{case_at}
-use Rattle.tv_rank.specs.declared.name.Name.TheVariants as name
-use Rattle.tv_lexrank.specs.declared.fault.RankFault.TheVariants as fault
 use Rattle.std.specs.Global.{Global}
 use Rattle.tv_rank.specs.Given.{lists}
 use Rattle.tv_lexrank.specs.declared.greedy.Greedy.TheVariants as greedy
@@ -11,6 +9,7 @@ use Rattle.tv_lexrank.specs.Greedy.{IsGreedy}
 use Rattle.tv_known.specs.Ranking.{AreInside}
 use Rattle.tv_lexrank.specs.Sorting.{Ascends, AreSorted}
 use Rattle.tv_lexrank.specs.Parts.{AreGrouped, IsStuck}
+use Rattle.tv_lexrank.proofs.NotStuck.{inside_left}
 use Rattle.tv_lexrank.proofs.Removing.{ascends_left}
 use Rattle.tv_lexrank.proofs.SortLemmas.{of_case}
 
@@ -26,10 +25,11 @@ are_inside about known numbers component set empty refutations limits grouped h 
 }
 
 -- what is left is stuck
-pub stuck_left : (about : CaseSystem) (known : List Piece) (set : List ℕ) (left : Vec ℕ Global) (barriers : Vec (Vec ℤ Global) Global) → Ascends set → IsGreedy about known set (greedy.Left left barriers) → IsStuck about known left.items (lists barriers.items)
-stuck_left about known set left barriers h (rounds, lead, nonempty, points, bars) = record {
+pub stuck_left : (about : CaseSystem) (known : List Piece) (set : List ℕ) (left : Vec ℕ Global) (barriers : Vec (Vec ℤ Global) Global) → Ascends set → AreInside about set → IsGreedy about known set (greedy.Left left barriers) → IsStuck about known left.items (lists barriers.items)
+stuck_left about known set left barriers h within (rounds, lead, nonempty, points, bars) = record {
   nonempty = nonempty;
   ascends = ascends_left about known set rounds left.items lead h;
+  inside = inside_left about known set rounds left.items lead within;
   points = points;
   each_barred = bars;
 }

@@ -18,7 +18,6 @@ use Rattle.std.proofs.lemmas.List.{length-map, append-nil}
 use Rattle.std.proofs.lemmas.List.Elements.{All-nil, All-cons}
 use Rattle.std.proofs.lemmas.Bool.{eqb-true}
 use Rattle.tv_linear.specs.declared.cover.CoverTree.{CoverTree}
-use Rattle.tv_linear.specs.declared.cover.CoverTree as cover
 use Rattle.tv_lexrank.specs.Greedy.{without, IsRound}
 use Rattle.tv_lexrank.specs.Covering.{IsLined}
 use Rattle.tv_lexrank.specs.Sorting.{StandsIn, LeadsInside, IsNeverTaken, AreSorted}

@@ -1,4 +1,4 @@
-use Rattle.std.proofs.Common.{◌≡◌, inl, inr, ℕ, ◌+◌, List, [], ◌∷◌, ◌++◌, length, length-append, get_or, Vec, arith, sym, ap, ◌∙◌, subst, ℤ}
+use Rattle.std.proofs.Common.{◌≡◌, inl, inr, ℕ, ◌+◌, ◌<◌, List, [], ◌∷◌, ◌++◌, length, length-append, get_or, Vec, arith, sym, ap, ◌∙◌, subst, ℤ}
 use Rattle.std.specs.Global.{Global}
 use Rattle.std.proofs.lemmas.List.{map-append}
 use Rattle.tv_linear.specs.declared.region.Piece.{Piece}
@@ -6,19 +6,22 @@ use Rattle.tv_linear.proofs.ListLaws.{last_or_below}
 use Rattle.tv_cases.specs.LinearCases.{CaseSystem}
 use Rattle.tv_refute.proofs.Places.{get_or-left, get_or-right}
 use Rattle.tv_simplex.specs.Outcomes.{IsBarrierOf}
+use Rattle.tv_simplex.specs.declared.fault.SolveFault.{SolveFault}
+use Rattle.tv_simplex.specs.declared.fault.SolveFault.TheVariants as solve
 use Rattle.tv_rank.specs.declared.name.Name.{Name}
 use Rattle.tv_rank.specs.declared.name.Name.TheVariants as name
 use Rattle.tv_rank.specs.declared.found.Found.{Found}
 use Rattle.tv_rank.specs.declared.found.Found.TheVariants as found
 use Rattle.tv_rank.specs.Given.{lists}
-use Rattle.tv_rank.specs.Answers.{IsFound}
+use Rattle.tv_rank.specs.Answers.{IsFound, IsRefusal, IsSystemFault}
 use Rattle.tv_rank.specs.Sets.{IsRankedAt, system_of_set}
 use Rattle.tv_rank.specs.Ways.{way_at}
 use Rattle.tv_rank.specs.Rankings.{NoneRanks}
 use Rattle.tv_lexrank.specs.declared.fault.RankFault.{RankFault}
 use Rattle.tv_lexrank.specs.declared.fault.RankFault.TheVariants as fault
 use Rattle.tv_lexrank.specs.declared.round.Round.{Round}
-use Rattle.tv_lexrank.specs.Greedy.{without, IsRound, AreFirst, Lead, more, RefusesFalling, RefusesTurn, RefusesGreedy}
+use Rattle.tv_lexrank.specs.Greedy.{without, IsRound, AreFirst, Lead, more, RefusesFalling, NamesTurn, IsNameOf, RefusesTurn, RefusesGreedy}
+use Rattle.tv_lexrank.specs.Refusing.{refusal_of}
 
 -- one more barrier
 pub first_more : (about : CaseSystem) (known : List Piece) (set : List ℕ) (n : ℕ) (bs : List (Vec ℤ Global)) (b : Vec ℤ Global) (f : Found) (news : List (Vec ℤ Global)) → AreFirst about known set n (lists bs) → IsRankedAt about known set n f → f ≡ found.None b → news ≡ bs ++ b ∷ [] → AreFirst about known set (n + 1) (lists news)
@@ -36,6 +39,24 @@ first_more about known set n bs b f news h r e m = subst (λ z. AreFirst about k
   where
     both : IsBarrierOf (system_of_set about known set n) b.items × NoneRanks about.variables (length set) (way_at about.cases known set) n
     both = subst (λ z. IsFound about.variables about.locations (length set) (way_at about.cases known set) n z) e r.found
+
+-- the refusal of the ranking system of a set, where the case at a place falls
+module _ (about : CaseSystem) (known : List Piece) (set : List ℕ) (pivots component round place : ℕ) (within : place < length set) (before : (k : ℕ) → k < place → NoneRanks about.variables (length set) (way_at about.cases known set) k) where
+  falling_refused : (falling : ℕ) (e : SolveFault) → falling ≡ get_or set place 0 → IsSystemFault (system_of_set about known set place) pivots e → RefusesFalling about known set pivots falling e
+  falling_refused falling e is h = record { place = place; within = within; is = sym is; before = before; refuses = h }
+
+  named_turn : (named : Name) (e : SolveFault) → IsNameOf known set component round (get_or set place 0) named → IsSystemFault (system_of_set about known set place) pivots e → NamesTurn about known set pivots component round named e
+  named_turn (name.Empty k) e is h = absurd is
+  named_turn (name.Rank c r falling) e is h = (is.0, is.1, is.2, falling_refused falling e is.3 h)
+  named_turn (name.Rows rows) e is h = absurd is
+  named_turn (name.Later s falling) e is h = (is.0, is.1, falling_refused falling e is.2 h)
+
+  pub turn_refused : (named : Name) (e : SolveFault) → IsNameOf known set component round (get_or set place 0) named → IsRefusal (system_of_set about known set place) pivots e → RefusesTurn about known set pivots component round (refusal_of named e)
+  turn_refused named (solve.Width basis row column) is h = named_turn named (solve.Width basis row column) is h
+  turn_refused named (solve.Scale basis) is h = named_turn named (solve.Scale basis) is h
+  turn_refused named (solve.Pivots bases) is h = named_turn named (solve.Pivots bases) is h
+  turn_refused named (solve.Size height width) is h = named_turn named (solve.Size height width) is h
+  turn_refused named solve.Memory is h = tt
 
 -- the refusal of a round, named as the rounds before lead to it
 pub refused_round : (about : CaseSystem) (known : List Piece) (set : List ℕ) (pivots component : ℕ) (rounds : List Round) (left : List ℕ) (round : ℕ) → Lead about known set rounds left → length rounds ≡ round → (e : RankFault) → RefusesTurn about known left pivots component round e → RefusesGreedy about known set pivots component e

@@ -47,9 +47,15 @@ abbrev pub IsWhole : Attempt → Type 0
 IsWhole (Whole parts) = Unit {0}
 IsWhole (Stuck set barriers) = ⊥
 
--- a refusal is of the system that it names, of some component
+-- the components with lesser numbers are ranked
+abbrev pub AreRankedBefore : CaseSystem → List Piece → List ℕ → ℕ → Type 0
+AreRankedBefore about known numbers component =
+    (parts : List Part) × (length parts ≡ component) × PartsFrom about known numbers 0 parts
+
+-- a refusal is of the system that it names, of the first component that is not ranked
 abbrev pub RefusesAttempt : CaseSystem → List Piece → List ℕ → ℕ → RankFault → Type 0
-RefusesAttempt about known numbers pivots (fault.Solve system e) = (component : ℕ) × NamesPart about known numbers component pivots system e
+RefusesAttempt about known numbers pivots (fault.Solve system e) =
+    (component : ℕ) × NamesPart about known numbers component pivots system e × AreRankedBefore about known numbers component
 RefusesAttempt about known numbers pivots (fault.Open taken values) = ⊥
 RefusesAttempt about known numbers pivots (fault.Cover f) = ⊥
 RefusesAttempt about known numbers pivots fault.Memory = Unit {0}

@@ -8,9 +8,8 @@ use Rattle.tv_linear.specs.Covers.{IsMetCover}
 use Rattle.tv_linear.specs.Depth.{splits}
 use Rattle.tv_linear.specs.declared.cover.CoverTree.{CoverTree}
 use Rattle.tv_linear.specs.declared.cover.CoverTree as cover
-use Rattle.tv_linear.specs.declared.fault.RowFault.TheVariants as row
 use Rattle.tv_linear.specs.declared.region.Piece.{Piece}
-use Rattle.tv_cases.specs.Before.{before, FitsBefore, rows_before, IsTooWide}
+use Rattle.tv_cases.specs.Before.{FitsBefore, rows_before, IsTooWide}
 use Rattle.tv_cases.specs.LinearCases.{LinearCase, CaseSystem, CaseDoes}
 use Rattle.tv_farkas.specs.Refuting.{AreShort}
 use Rattle.tv_farkas.specs.Trees.{TreeRows, TreeNumbers}

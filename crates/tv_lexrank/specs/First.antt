@@ -2,6 +2,7 @@ use Rattle.std.specs.Prelude.{◌≡◌, ℕ, List, [], length}
 use Rattle.tv_linear.specs.declared.region.Piece.{Piece}
 use Rattle.tv_cases.specs.LinearCases.{LinearCase, CaseSystem}
 use Rattle.tv_graph.specs.declared.Arc.{Arc}
+use Rattle.tv_graph.specs.Graph.{HasNoGap}
 use Rattle.tv_lexrank.specs.declared.fault.RankFault.{RankFault}
 use Rattle.tv_lexrank.specs.declared.fault.RankFault.TheVariants as fault
 use Rattle.tv_rank.specs.Given.{lists}
@@ -16,11 +17,13 @@ use Rattle.tv_lexrank.specs.Attempt.{NeverRises, RefusesAttempt}
 abbrev pub arc_of : LinearCase → Arc
 arc_of c = record { from = c.from; to = c.to }
 
--- Numbers of the components: one for each location, locations with one number reach each other, and no case leads to a greater number.
+-- Numbers of the components, from 0 up to some number without a gap: one for each location; locations with one number reach each other, and
+-- no case leads to a greater number, so that locations that reach each other have one number.
 pub record AreComponents (about : CaseSystem) (numbers : List ℕ) : Type 0 where
   pub one_each : length numbers ≡ about.locations
   pub grouped : AreGrouped about numbers
   pub never_rises : NeverRises about numbers
+  pub no_gap : HasNoGap numbers
 
 -- what the first attempt gives: a node that shows that every run ends, with what shows each case, or a set of cases that is stuck without
 -- known rows

@@ -8,7 +8,7 @@ use Rattle.tv_rank.specs.declared.name.Name.TheVariants as name
 use Rattle.tv_rank.specs.Given.{lists}
 use Rattle.tv_rank.specs.Ways.{way_at}
 use Rattle.tv_rank.specs.Rankings.{IsFamily, NoneRanks}
-use Rattle.tv_rank.specs.Answers.{IsRefusal}
+use Rattle.tv_rank.specs.Answers.{IsRefusal, IsSystemFault}
 use Rattle.tv_rank.specs.Sets.{system_of_set, PointsOf}
 use Rattle.tv_cases.specs.Systems.{cases_of}
 use Rattle.tv_lexrank.specs.Known.{AreBare, HaveRows}
@@ -62,13 +62,14 @@ IsGreedy about known set (greedy.Emptied rounds) = Lead about known set rounds.i
 IsGreedy about known set (greedy.Left left barriers) =
     (rounds : List Round) × Lead about known set rounds left.items × (0 < length left.items) × PointsOf about known left.items × AreBarriers about known left.items (lists barriers.items)
 
--- a refusal of one round: that of the ranking system of the set, where the named case falls; over no case before it some family falls
+-- A refusal of one round: the ranking system of the set, where the named case falls, has the fault, which is no want of memory; over no case
+-- before it some family falls.
 pub record RefusesFalling (about : CaseSystem) (known : List Piece) (set : List ℕ) (pivots falling : ℕ) (e : SolveFault) : Type 0 where
   pub place : ℕ
   pub within : place < length set
   pub is : get_or set place 0 ≡ falling
   pub before : (k : ℕ) → k < place → NoneRanks about.variables (length set) (way_at about.cases known set) k
-  pub refuses : IsRefusal (system_of_set about known set place) pivots e
+  pub refuses : IsSystemFault (system_of_set about known set place) pivots e
 
 -- the system is named by the component and the round where no rows are known, and else by the set
 abbrev pub NamesTurn : CaseSystem → List Piece → List ℕ → ℕ → ℕ → ℕ → Name → SolveFault → Type 0
@@ -140,6 +141,6 @@ PointsIn c set = PointsOf (cases_of c.about.now) c.known.now.pieces.items set
 abbrev pub ForFirst : Component → List ℕ → ℕ → Type 0
 ForFirst c set place = (k : ℕ) → k < place → NoneRanks (cases_of c.about.now).variables (length set) (way_at (cases_of c.about.now).cases c.known.now.pieces.items set) k
 
--- the ranking system of the set, where the case at a place falls, has the fault
+-- the ranking system of the set, where the case at a place falls, has the fault, or there is no memory
 abbrev pub IsUnsolvedAt : Component → List ℕ → ℕ → SolveFault → Type 0
 IsUnsolvedAt c set place e = IsRefusal (system_of_set (cases_of c.about.now) c.known.now.pieces.items set place) c.pivots e

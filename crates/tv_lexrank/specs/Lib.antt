@@ -1,4 +1,5 @@
 pub mod Known
+pub mod Refusing
 pub mod Inside
 pub mod Greedy
 pub mod Rounds

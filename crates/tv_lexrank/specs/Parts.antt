@@ -15,6 +15,7 @@ use Rattle.tv_lexrank.specs.declared.part.Parted.{Parted}
 use Rattle.tv_lexrank.specs.declared.part.Parted.TheVariants.{Done, Stuck}
 use Rattle.tv_lexrank.specs.Greedy.{AreBarriers, IsNamed}
 use Rattle.tv_known.specs.Cycles.{AreTogether}
+use Rattle.tv_known.specs.Ranking.{AreInside}
 use Rattle.tv_lexrank.specs.Rounds.{Chain}
 use Rattle.tv_lexrank.specs.Sorting.{Ascends, IsSorted, NamesInside, AreSorted}
 
@@ -23,11 +24,12 @@ pub record IsPart (about : CaseSystem) (known : List Piece) (numbers : List ℕ)
   pub sorted : IsSorted about known numbers component (length about.cases) p.sorted
   pub chain : Chain about known p.sorted.set.items p.rounds.items
 
--- A set of cases that no family of terms ranks: it is not empty, and ascends; each case of it has a rational point, and for each case of it
--- there is a barrier of the ranking system in which it falls, and no family over the rationals does.
+-- A set of cases that no family of terms ranks: it is not empty, ascends, and lies inside one component; each case of it has a rational
+-- point, and for each case of it there is a barrier of the ranking system in which it falls, and no family over the rationals does.
 pub record IsStuck (about : CaseSystem) (known : List Piece) (set : List ℕ) (barriers : List (List ℤ)) : Type 0 where
   pub nonempty : 0 < length set
   pub ascends : Ascends set
+  pub inside : AreInside about set
   pub points : PointsOf about known set
   pub each_barred : AreBarriers about known set barriers
 

@@ -8,7 +8,7 @@ use Rattle.tv_cases.specs.LinearCases.{LinearCase, CaseSystem}
 use Rattle.tv_cases.specs.Systems.{cases_of}
 use Rattle.tv_simplex.specs.declared.fault.SolveFault.{SolveFault}
 use Rattle.tv_farkas.specs.Paths.{TakenOnce}
-use Rattle.tv_farkas.specs.Refuting.{IsRefusal, IsSystemFault}
+use Rattle.tv_farkas.specs.Refuting.{IsSystemFault}
 use Rattle.tv_rank.specs.declared.name.Name.{Name}
 use Rattle.tv_rank.specs.declared.name.Name.TheVariants as name
 use Rattle.tv_rank.specs.Given.{lists, AreNumbered}
@@ -31,9 +31,9 @@ IsSettled n rows o =
 abbrev pub IsTaken : ℕ → Way → Option (Vec ℤ Global) → Type 0
 IsTaken v w o = MatchOption o (HasPoint v w) (λ m. Refutes (v + w.taken.draws) (way_rows w) m.items × All (IsWithin 62) m.items)
 
--- a refusal of the refutation system of the guards of a case, which is named by the case
+-- the refutation system of the guards of a case, which is named by the case, has the fault
 abbrev pub NamesGuards : ℕ → List Linear → ℕ → ℕ → Name → SolveFault → Type 0
-NamesGuards n rows pivots k (name.Empty number) e = (number ≡ k) × IsRefusal n rows pivots e
+NamesGuards n rows pivots k (name.Empty number) e = (number ≡ k) × IsSystemFault n rows pivots e
 NamesGuards n rows pivots k (name.Rank c round falling) e = ⊥
 NamesGuards n rows pivots k (name.Rows rs) e = ⊥
 NamesGuards n rows pivots k (name.Later s falling) e = ⊥
@@ -100,17 +100,43 @@ IsSortedIn c many s = IsSorted (cases_of c.about.now) c.known.now.pieces.items c
 abbrev pub way_inside : Component → ℕ → Way
 way_inside c k = way_of (cases_of c.about.now).cases c.known.now.pieces.items k
 
--- A refusal of the system that is asked whether a case inside the component is ever taken: where no rows are known, the refutation system of
--- its guards, which is named by the case; and else that of the known rows and the guards, each taken once, which is named by these.
+-- A refusal of the system that is asked whether a case is ever taken: where no rows are known, the refutation system of its guards, which is
+-- named by the case; and else that of the known rows and the guards, each taken once, which is named by these.
+abbrev pub NamesCase : CaseSystem → List Piece → ℕ → ℕ → Name → SolveFault → Type 0
+NamesCase about known pivots k (name.Empty number) e =
+    AreBare known × (number ≡ k) × IsSystemFault (about.variables + (case_at about.cases k).draws) (case_at about.cases k).guards pivots e
+NamesCase about known pivots k (name.Rank c round falling) e = ⊥
+NamesCase about known pivots k (name.Rows rows) e =
+    HaveRows known × TakenOnce (padded_rows (way_of about.cases known k)) rows.items
+    × IsSystemFault (about.variables + (case_at about.cases k).draws) rows.items pivots e
+NamesCase about known pivots k (name.Later s falling) e = ⊥
+
+abbrev pub RefusesCase : CaseSystem → List Piece → ℕ → ℕ → RankFault → Type 0
+RefusesCase about known pivots k (fault.Solve system e) = NamesCase about known pivots k system e
+RefusesCase about known pivots k (fault.Open taken values) = ⊥
+RefusesCase about known pivots k (fault.Cover f) = ⊥
+RefusesCase about known pivots k fault.Memory = Unit {0}
+
+abbrev pub RefusesCaseIn : Component → ℕ → RankFault → Type 0
+RefusesCaseIn c k e = RefusesCase (cases_of c.about.now) c.known.now.pieces.items c.pivots k e
+
+-- the cases inside the component that stand before this one are sorted
+abbrev pub AreSortedBefore : CaseSystem → List Piece → List ℕ → ℕ → ℕ → Type 0
+AreSortedBefore about known numbers component k =
+    (set : List ℕ) × (empty : List ℕ) × (refutations : List (List ℤ)) × AreSorted about known numbers component k set empty refutations
+
+-- such a refusal of a case inside the component, where those inside that stand before it are sorted
 abbrev pub NamesInside : CaseSystem → List Piece → List ℕ → ℕ → ℕ → Name → SolveFault → Type 0
 NamesInside about known numbers component pivots (name.Empty k) e =
     AreBare known × (k < length about.cases) × LeadsInside numbers component (case_at about.cases k)
-    × IsRefusal (about.variables + (case_at about.cases k).draws) (case_at about.cases k).guards pivots e
+    × IsSystemFault (about.variables + (case_at about.cases k).draws) (case_at about.cases k).guards pivots e
+    × AreSortedBefore about known numbers component k
 NamesInside about known numbers component pivots (name.Rank c round falling) e = ⊥
 NamesInside about known numbers component pivots (name.Rows rows) e =
     HaveRows known × ((k : ℕ) × (k < length about.cases) × LeadsInside numbers component (case_at about.cases k)
     × TakenOnce (padded_rows (way_of about.cases known k)) rows.items
-    × IsSystemFault (about.variables + (case_at about.cases k).draws) rows.items pivots e)
+    × IsSystemFault (about.variables + (case_at about.cases k).draws) rows.items pivots e
+    × AreSortedBefore about known numbers component k)
 NamesInside about known numbers component pivots (name.Later s falling) e = ⊥
 
 abbrev pub RefusesSorting : CaseSystem → List Piece → List ℕ → ℕ → ℕ → RankFault → Type 0

@@ -65,8 +65,9 @@ pub fn rank_components(
 ) -> Result<Attempt, RankFault>
     requires locations { length numbers.now ≡ (cases_of about.now).locations }
     requires known { AreKnown (cases_of about.now) known.now.pieces.items }
+    requires grouped { AreGrouped (cases_of about.now) numbers.now }
     ensures attempt { IfOk result (λ a. IsAttempt (cases_of about.now) known.now.pieces.items numbers.now count a) }
-    ensures never_stuck { AreGrouped (cases_of about.now) numbers.now → HasLexicographicRanking (cases_of about.now) → IfOk result IsWhole }
+    ensures never_stuck { HasLexicographicRanking (cases_of about.now) → IfOk result IsWhole }
     ensures refusals { IfErr result (λ e. RefusesAttempt (cases_of about.now) known.now.pieces.items numbers.now pivots e) }
 {
     let stands = stands_inside(alloc, about, numbers, count)?;

@@ -7,6 +7,7 @@ ghost use Rattle.tv_rank.specs.Given.{AreNumbered};
 ghost use Rattle.tv_lexrank.specs.Greedy.{without as spec_without, IsNameIn, ForFirst, IsUnsolvedAt, PointsIn, IsTurnIn, IsGreedyIn, RefusesTurnIn, RefusesGreedyIn};
 
 use crate::component::Component;
+use crate::fault::refusal_of;
 use crate::{RankFault, Round};
 use std::alloc::{AllocError, Global};
 use tv_linear::push_item;
@@ -91,7 +92,7 @@ fn refusal(
     ensures { RefusesTurnIn component.now set.now round result }
 {
     match name_of(alloc, component, set, round, set[place]) {
-        Ok(system) => RankFault::Solve { system, fault },
+        Ok(system) => refusal_of(system, fault),
         Err(_) => RankFault::Memory,
     }
 }

@@ -31,9 +31,9 @@ pub enum Parted {
 
 /// Ranks the cases inside a component.
 pub fn part_of(alloc: Global, component: &Component) -> Result<Parted, RankFault>
+    requires grouped { AreGrouped (cases_of component.now.about.now) component.now.numbers.now }
     ensures parted { IfOk result (λ p. IsPartedIn component.now p) }
-    ensures never_stuck { let about = cases_of component.now.about.now in
-        AreGrouped about component.now.numbers.now → HasLexicographicRanking about → IfOk result IsDone }
+    ensures never_stuck { HasLexicographicRanking (cases_of component.now.about.now) → IfOk result IsDone }
     ensures refusals { IfErr result (λ e. RefusesPartIn component.now e) }
 {
     let sorted = match sort_cases(alloc, component) {

@@ -8,10 +8,11 @@ ghost use Rattle.tv_cases.specs.Views.{case_view, case_views};
 ghost use Rattle.tv_cases.specs.LinearCases.{IsCase};
 ghost use Rattle.tv_rank.specs.Ways.{case_at};
 ghost use Rattle.tv_lexrank.specs.Known.{HaveRows};
-ghost use Rattle.tv_lexrank.specs.Sorting.{IsSettled, IsTaken, RefusesGuards, RefusesRows, LeadsInside, way_inside, IsSortedIn, RefusesSortingIn};
+ghost use Rattle.tv_lexrank.specs.Sorting.{IsSettled, IsTaken, RefusesGuards, RefusesRows, LeadsInside, way_inside, IsSortedIn, RefusesCaseIn, RefusesSortingIn};
 
 use crate::RankFault;
 use crate::component::Component;
+use crate::fault::refusal_of;
 use crate::known::{known_at, rows_with};
 use std::alloc::Global;
 use tv_cases::{Case, Cases};
@@ -44,10 +45,7 @@ fn settle_guards(
     ensures refusals { IfErr result (λ e. RefusesGuards columns guards.now pivots number e) }
 {
     match refute(alloc, guards, columns, pivots) {
-        Err(fault) => Err(RankFault::Solve {
-            system: Name::Empty(number),
-            fault,
-        }),
+        Err(fault) => Err(refusal_of(Name::Empty(number), fault)),
         Ok(
             Refuted::Point {
                 values: _,
@@ -115,10 +113,9 @@ fn settle_met(
     number: u32,
 ) -> Result<Option<Vec<i64>>, RankFault>
     requires number { number < length (cases_of component.now.about.now).cases }
-    requires inside { LeadsInside component.now.numbers.now component.now.number (case_at (cases_of component.now.about.now).cases number) }
     requires rows { HaveRows component.now.known.now.pieces.items }
     ensures settled { IfOk result (λ o. IsTaken (cases_of component.now.about.now).variables (way_inside component.now number) o) }
-    ensures refusals { IfErr result (λ e. RefusesSortingIn component.now e) }
+    ensures refusals { IfErr result (λ e. RefusesCaseIn component.now number e) }
 {
     let case = case_of(component.about, number);
     let columns = component.about.variables() + case.draws;
@@ -137,9 +134,8 @@ fn settle_number(
     number: u32,
 ) -> Result<Option<Vec<i64>>, RankFault>
     requires number { number < length (cases_of component.now.about.now).cases }
-    requires inside { LeadsInside component.now.numbers.now component.now.number (case_at (cases_of component.now.about.now).cases number) }
     ensures settled { IfOk result (λ o. IsTaken (cases_of component.now.about.now).variables (way_inside component.now number) o) }
-    ensures refusals { IfErr result (λ e. RefusesSortingIn component.now e) }
+    ensures refusals { IfErr result (λ e. RefusesCaseIn component.now number e) }
 {
     if !component.is_bare() {
         return settle_met(alloc, component, number);
@@ -162,7 +158,7 @@ fn sort_inside(
     requires number { number < length (cases_of component.now.about.now).cases }
     requires inside { LeadsInside component.now.numbers.now component.now.number (case_at (cases_of component.now.about.now).cases number) }
     ensures sorted { IfOk result (λ _. IsSortedIn component.now number sorted.old → IsSortedIn component.now (number + 1) sorted.new) }
-    ensures refusals { IfErr result (λ e. RefusesSortingIn component.now e) }
+    ensures refusals { IfErr result (λ e. RefusesCaseIn component.now number e) }
 {
     let settled = match settle_number(alloc, component, number) {
         Ok(settled) => settled,

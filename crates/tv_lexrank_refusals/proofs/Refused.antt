@@ -106,7 +106,7 @@ pub start_refuses : (about : CaseSystem) → StartRefuses about
 start_refuses about known pivots splits fault h = start_refused about known pivots splits fault h
 
 pub rows_refuse : (about : CaseSystem) → RowsRefuse about
-rows_refuse about known numbers component pivots rows e fits (have, (k, k_in, inside, taken, unsolved)) = (
+rows_refuse about known numbers component pivots rows e fits (have, (k, k_in, inside, taken, unsolved, before)) = (
   over_case (case_at about.cases k),
   record {
     list = handed_list (padded_rows (way_of about.cases known k)) rows.items taken

@@ -1,5 +1,5 @@
 -- Fixed points by their rounds.
-use Rattle.std.proofs.Common.{Vec, ◌≡◌, ◌⊎◌, inl, inr, ℕ, suc, ◌+◌, ◌≤◌, List, [], ◌∷◌, ◌++◌, length, sym, ap, ◌∙◌, subst, arith, true, false, append-nil}
+use Rattle.std.proofs.Common.{Vec, ◌≡◌, ◌⊎◌, inl, inr, ℕ, suc, ◌+◌, ◌<◌, ◌≤◌, List, [], ◌∷◌, ◌++◌, length, sym, ap, ◌∙◌, subst, arith, true, false, append-nil}
 use Rattle.std.specs.Prelude.{All}
 use Rattle.std.proofs.lemmas.List.Elements.{Contains-append_left, Contains-append_right}
 use Rattle.tv_formula.specs.declared.tree.Path.{Path}
@@ -108,13 +108,13 @@ module _ (about : CaseSystem) (cases : All (IsCase about.variables about.locatio
       ]
 
 -- ---- parts
-pub is_along : (about : CaseSystem) (k : ℕ) (sides : Sides) (children : List Node) (part : Part) (regions given : List Region) → IsJoined about regions part.region →
+pub is_along : (about : CaseSystem) (k n : ℕ) (sides : Sides) (children : List Node) (part : Part) (regions given : List Region) → k < n → length regions ≤ k + 2 → IsJoined about regions part.region →
     ((f g : Property) → AreParts about (more f (more g none)) (arguments sides) children → IsPart about (props.fix sides.path sides.shape f g) part.region part.node) →
-    ((s : Statement) (h : ℕ) → AreBuilt about s h given → AreBuilt about s (k + h) regions) → IsAlong about k given sides children part
-is_along about k sides children part regions given j p b = record {
+    ((s : Statement) (h : ℕ) → AreBuilt about s h given → AreBuilt about s (k + h) regions) → IsAlong about n given sides children part
+is_along about k n sides children part regions given less few j p b = record {
   over = j.over;
   shows = p;
-  built = λ s h m. of_joined (k + h) regions part.region (b s h m) j;
+  built = λ s h m. built_to about s (suc (k + h)) (n + h) part.region (omega (arith, less)) (of_joined (k + h) regions part.region (b s h m) (omega (arith, few)) j);
 }
 
 -- a part that is made of regions which are made of others
@@ -145,8 +145,8 @@ module _ (about : CaseSystem) (sides : Sides) (end none : Region) (n : IsNowhere
   none_given : (s : Statement) (h : ℕ) → AreBuilt about s h (end ∷ arguments sides) → AreBuilt about s (0 + h) (none ∷ arguments sides)
   none_given s h m = more_built about s (0 + h) none (arguments sides) (of_nowhere (0 + h) none n) (all_built_to about s h (0 + h) (arguments sides) (omega arith) (rest_built about s h end (arguments sides) m))
 
-  pub none_along : (children : List Node) (part : Part) → IsAlong about 0 (none ∷ arguments sides) sides children part → IsAlong about 0 (end ∷ arguments sides) sides children part
-  none_along children part a = along_more about 0 0 (none ∷ arguments sides) (end ∷ arguments sides) sides children part (omega arith) none_given a
+  pub none_along : (children : List Node) (part : Part) → IsAlong about 1 (none ∷ arguments sides) sides children part → IsAlong about 1 (end ∷ arguments sides) sides children part
+  none_along children part a = along_more about 1 1 (none ∷ arguments sides) (end ∷ arguments sides) sides children part (omega arith) none_given a
 
   pub none_fault : (budget : Budget) (fault r : PreFault) → r ≡ fault → IsFaultOf about budget 1 (none ∷ arguments sides) fault → IsFaultOf about budget 1 (end ∷ arguments sides) r
   none_fault budget fault r e f = λ s h m. subst (IsPreFault about s budget (1 + h)) (sym e) (fault_to about s budget (1 + (0 + h)) (1 + h) fault (omega arith) (f s (0 + h) (none_given s h m)))

@@ -29,7 +29,7 @@ module _ (about : CaseSystem) where
   built_up s h _ (of_atom _ a r m is) = of_atom (suc h) a r m is
   built_up s h _ (of_everywhere _ r is) = of_everywhere (suc h) r is
   built_up s h _ (of_nowhere _ r is) = of_nowhere (suc h) r is
-  built_up s h _ (of_joined _ rs r each is) = of_joined (suc h) rs r (λ x m. built_up s h x (each x m)) is
+  built_up s _ _ (of_joined h rs r each few is) = of_joined (suc h) rs r (λ x m. built_up s h x (each x m)) (omega (arith, few)) is
   built_up s h _ (of_same _ a r f e) = of_same (suc h) a r (built_up s h a f) e
   built_up s h _ (of_both _ a b r f g is) = of_both (suc h) a b r (built_up s h a f) (built_up s h b g) is
   built_up s h _ (of_either _ a b r f g is) = of_either (suc h) a b r (built_up s h a f) (built_up s h b g) is
@@ -79,7 +79,7 @@ module _ (about : CaseSystem) where
     built_wider h _ (of_atom _ a r m is) = of_atom h a r (more a m) is
     built_wider h _ (of_everywhere _ r is) = of_everywhere h r is
     built_wider h _ (of_nowhere _ r is) = of_nowhere h r is
-    built_wider h _ (of_joined _ rs r each is) = of_joined h rs r (λ x m. built_wider h x (each x m)) is
+    built_wider _ _ (of_joined h rs r each few is) = of_joined h rs r (λ x m. built_wider h x (each x m)) few is
     built_wider h _ (of_same _ a r f e) = of_same h a r (built_wider h a f) e
     built_wider h _ (of_both _ a b r f g is) = of_both h a b r (built_wider h a f) (built_wider h b g) is
     built_wider h _ (of_either _ a b r f g is) = of_either h a b r (built_wider h a f) (built_wider h b g) is

@@ -11,14 +11,14 @@ use Rattle.tv_cert.specs.AimViews.{aim_states}
 use Rattle.tv_cert.specs.Claims.{claim_variables}
 use Rattle.tv_choice.specs.Leading.{state}
 use Rattle.tv_known.specs.Cycles.{IsLastRound, IsInitialAt}
-use Rattle.tv_known.specs.Known.{Known}
+use Rattle.tv_known.specs.Known.{Known, IsDecided}
 use Rattle.tv_region.specs.Regions.{lists_at}
 use Rattle.tv_rounds.proofs.InsideLemmas.{out_of_targets}
 use Rattle.tv_pre.specs.declared.gap.Gap.{Gap}
 use Rattle.tv_pre.specs.Finding.{IsTameStatement}
 use Rattle.tv_pre.specs.Full.{HasRows}
-use Rattle.tv_pre.specs.Proving.{IsProofLeft, IsDisproofLeft}
-use Rattle.tv_pre.specs.Told.{DecidedIsTold}
+use Rattle.tv_pre.specs.Proving.{IsProofLeft, IsDisproofLeft, IsLeft, IsTameClaim, ClaimHasRows}
+use Rattle.tv_pre.specs.Told.{IsClaimOn, DecidedIsTold}
 use Rattle.tv_pre.proofs.DecidingLemmas.{states_of, out_of_none}
 use Rattle.tv_pre.proofs.ToldLemmas.{tame_claim}
 
@@ -40,12 +40,16 @@ module _ (about : CaseSystem) (claim : Claim) (same : claim_variables claim ≡ 
       let inside = set.all s (record { location = subst (λ l. l < about.locations) (sym initial.place) starts; values = initial.counted }) known in
       out_of_none about region s.values left.outside initial.counted (subst (λ l. InRegion l s.values region) initial.place inside)
 
+-- neither side is left where the rounds tell of the start
+pub decided_left : (about : CaseSystem) → about.start < about.locations → (claim : Claim) (f : Property) → IsClaimOn about claim f → IsTameClaim about claim → IsDecided about f → (last : ℕ) → IsLastRound about 8 last → ClaimHasRows about claim → (first second : Option Gap) → IsLeft about claim first second → ⊥
+decided_left about starts claim f on tame decided last l rows first second left =
+    let proved : IsTameStatement about (aim_states claim.proved_aim) = elim tame [ inl plain ↦ inl plain | inr d ↦ inr (d.0, d.1) ] in
+    let denied : IsTameStatement about (aim_states claim.denied_aim) = elim tame [ inl plain ↦ inl plain | inr d ↦ inr (d.0, d.2) ] in
+    elim decided [
+      | inl all ↦ no_proof_left about claim on.variables starts last l proved rows.0 (λ s i. subst (λ (g : Property). Known about last g s) (sym on.is.proved) (all s i last l)) first left.proof
+      | inr some ↦ no_disproof_left about claim on.variables starts last l denied rows.1 some.0 some.1 (subst (λ (g : Property). Known about last g some.0) (sym on.is.denied) (some.2 last l)) second left.disproof
+    ]
+
 pub decided_told : (about : CaseSystem) → AreCases about → (claim : Claim) (f : Property) (budget : Budget) (gap : Gap) → DecidedIsTold about claim f budget gap
 decided_told about limits claim f budget gap on tame decided last l h =
-    let left = h.1.left in
-    let rows = h.1.have_rows in
-    let denied : IsTameStatement about (aim_states claim.denied_aim) = elim (tame_claim about claim f on rows.0 tame) [ inl plain ↦ inl plain | inr d ↦ inr (d.0, d.2) ] in
-    elim decided [
-      | inl all ↦ no_proof_left about claim on.variables limits.starts last l tame rows.0 (λ s i. subst (λ (g : Property). Known about last g s) (sym on.is.proved) (all s i last l)) h.1.first left.proof
-      | inr some ↦ no_disproof_left about claim on.variables limits.starts last l denied rows.1 some.0 some.1 (subst (λ (g : Property). Known about last g some.0) (sym on.is.denied) (some.2 last l)) h.1.second left.disproof
-    ]
+    decided_left about limits.starts claim f on (tame_claim about claim f on h.1.have_rows.0 tame) decided last l h.1.have_rows h.1.first h.1.second h.1.left

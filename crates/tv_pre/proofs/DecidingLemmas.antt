@@ -1,5 +1,5 @@
 -- What came of a claim at the start.
-use Rattle.std.proofs.Common.{◌≡◌, inl, inr, ℕ, ◌<◌, List, length, false, None, Some, Option, ◌∙◌, refl, sym, ap, subst, ℤ}
+use Rattle.std.proofs.Common.{◌≡◌, ℕ, ◌<◌, List, length, false, None, Some, Option, ◌∙◌, refl, sym, ap, subst, ℤ}
 use Rattle.std.specs.Prelude.{IfSome}
 use Rattle.tv_formula.specs.Properties.{Property}
 use Rattle.tv_cases.specs.Comparisons.{comparison_lists}
@@ -12,14 +12,13 @@ use Rattle.tv_pre.specs.declared.fault.PreFault.{PreFault}
 use Rattle.tv_pre.specs.declared.outcome.Found.{Found}
 use Rattle.tv_pre.specs.Built.{IsBuilt, IsPreFault}
 use Rattle.tv_pre.specs.Finding.{IsGapOf, IsGapFor, States, IsPartFor, IsFullFor, steps_back, size}
-use Rattle.tv_pre.specs.Proving.{IsFoundOf, IsLeft, ClaimHasRows, IsGapOfClaim, IsLeftBy}
+use Rattle.tv_pre.specs.Proving.{IsFoundOf, IsLeft}
 use Rattle.tv_pre.specs.declared.gap.Gap.{Gap}
-use Rattle.tv_pre.specs.declared.gap.Gap.TheVariants.{Inexact, Open}
 use Rattle.tv_pre.specs.Finding.{first_of}
 use Rattle.tv_pre.specs.Full.{HasRows}
 use Rattle.tv_pre.specs.KnownStates.{IsKnownFor}
 use Rattle.tv_pre.specs.Starting.{HasNoStart}
-use Rattle.tv_pre.proofs.GapLemmas.{gap_in_order, gap_weaker}
+use Rattle.tv_pre.proofs.GapLemmas.{gap_in_order}
 use Rattle.tv_formula.specs.Formulas.{property_of}
 use Rattle.tv_formula.specs.Normal.{negation}
 use Rattle.tv_meaning.proofs.Negation.{negation_excludes}
@@ -79,35 +78,6 @@ left_gap about claim first second gap left e =
     let a = subst (λ o. IfSome o (IsGapOf about)) (sym left.proof.same) left.proof.is.gap in
     let b = subst (λ o. IfSome o (IsGapOf about)) (sym left.disproof.same) left.disproof.is.gap in
     subst (λ o. IfSome o (IsGapOf about)) (sym e) (gap_in_order (IsGapOf about) first second a (λ n. b))
-
--- and of the claim
-proof_tells : (about : CaseSystem) (claim : Claim) (last : ℕ) → claim_variables claim ≡ about.variables → HasRows about.variables (property_of claim.proved) → (gap : Gap) → IsGapFor about last (aim_states claim.proved_aim) gap → IsGapOfClaim about claim last gap
-proof_tells about claim last same rows Inexact h = λ tame. h (elim tame [ inl plain ↦ inl plain | inr d ↦ inr (d.0, d.1) ])
-proof_tells about claim last same rows (Open place) h =
-    let f = property_of claim.proved in
-    inl (h f (states_of about (claim_variables claim) (aim_states claim.proved_aim) f claim.proved_stated same) rows)
-
-disproof_tells : (about : CaseSystem) (claim : Claim) (last : ℕ) → claim_variables claim ≡ about.variables → HasRows about.variables (property_of claim.denied) → (gap : Gap) → IsGapFor about last (aim_states claim.denied_aim) gap → IsGapOfClaim about claim last gap
-disproof_tells about claim last same rows Inexact h = λ tame. h (elim tame [ inl plain ↦ inl plain | inr d ↦ inr (d.0, d.2) ])
-disproof_tells about claim last same rows (Open place) h =
-    let f = property_of claim.denied in
-    inr (h f (states_of about (claim_variables claim) (aim_states claim.denied_aim) f claim.denied_stated same) rows)
-
-pub left_by : (about : CaseSystem) (claim : Claim) → claim_variables claim ≡ about.variables → ClaimHasRows about claim → (first second : Option Gap) (gap : Gap) → IsLeft about claim first second → Some gap ≡ first_of first second → IsLeftBy about claim gap
-left_by about claim same rows first second gap left e = record {
-  first = first;
-  second = second;
-  left = left;
-  is_first = e;
-  have_rows = rows;
-  tells = λ last l.
-      (let whole = IsGapOfClaim about claim last in
-      let a = subst (λ o. IfSome o (IsGapFor about last (aim_states claim.proved_aim))) (sym left.proof.same) (left.proof.is.tells last l) in
-      let b = subst (λ o. IfSome o (IsGapFor about last (aim_states claim.denied_aim))) (sym left.disproof.same) (left.disproof.is.tells last l) in
-      subst (λ o. IfSome o whole) (sym e)
-      (gap_in_order whole first second (gap_weaker (IsGapFor about last (aim_states claim.proved_aim)) whole first (proof_tells about claim last same rows.0) a)
-      (λ n. gap_weaker (IsGapFor about last (aim_states claim.denied_aim)) whole second (disproof_tells about claim last same rows.1) b)));
-}
 
 pub left_none : (about : CaseSystem) (claim : Claim) (first second : Option Gap) → None ≡ first_of first second → IsLeft about claim first second → IsLeft about claim None None
 left_none about claim None None e left = left

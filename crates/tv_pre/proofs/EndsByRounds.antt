@@ -122,6 +122,9 @@ module _ (about : CaseSystem) (last : ℕ) (none stops : Region) (n : IsNowhere 
       stops_first about stops layers before.over (λ s p m t st. no_piece none.pieces.items t n.none (before.right s p m t st))
       (subst (AreEndLayers about stops.pieces.items) (sym e) tt)
 
+  alone_few : length (stops ∷ layers) ≤ 1 + 2
+  alone_few = subst (λ ls. length (stops ∷ ls) ≤ 1 + 2) (sym e) (omega arith)
+
   alone_made : AreBuilt about statements.ends 1 (stops ∷ layers)
   alone_made = subst (λ ls. AreBuilt about statements.ends 1 (stops ∷ ls)) (sym e) (one_built about statements.ends 1 stops (back_built about none stops built statements.ends (of_nowhere 0 none n)))
 
@@ -135,6 +138,6 @@ module _ (about : CaseSystem) (last : ℕ) (none stops : Region) (n : IsNowhere 
 
   pub alone_found : (anywhere : Region) → IsEverywhere about anywhere → (IsTameFor about anywhere stops → ⊥) → (found : Found) → IsJoined about (stops ∷ layers) found.part.region → IsPart about term found.part.region found.part.node → found.size ≡ 1 → found.gap ≡ Some Inexact → IsFound about last statements.ends found
   alone_found anywhere all wild found j part size gap =
-      term_found about last found j.over part (built_to about statements.ends 1 ((last + 2) + (last + 2)) found.part.region (omega arith) (of_joined 1 (stops ∷ layers) found.part.region alone_made j)) size
-      (subst (λ o. IfSome o (IsGapFor about last statements.ends)) (sym gap) (ends_wild anywhere all wild))
+      term_found about last found j.over part (built_to about statements.ends (suc 1) ((last + 2) + (last + 2)) found.part.region (omega arith) (of_joined 1 (stops ∷ layers) found.part.region alone_made alone_few j)) size
+      (subst (λ o. IfSome o (IsGapFor about last statements.ends)) (sym gap) (record { wild = ends_wild anywhere all wild; moves = λ l. l }))
       (λ whole. absurd (let other : Some Inexact ≡ None = sym gap ∙ whole in cc)) (λ plain m is l. absurd (wild (inl plain)))

@@ -24,7 +24,7 @@ use Rattle.tv_pre.specs.Finding.{first_of, gap_behind, steps_back, size, IsTameS
 use Rattle.tv_pre.proofs.ExactLemmas.{part_exact, fix_open, denied_open}
 use Rattle.tv_pre.proofs.FormulaLemmas.{along_is}
 use Rattle.tv_pre.proofs.FoundLemmas.{none_of_two, none_behind, sides_built}
-use Rattle.tv_pre.proofs.GapLemmas.{gap_in_order, gap_later, tame_less, size_is, front_open, back_open, inner_open}
+use Rattle.tv_pre.proofs.GapLemmas.{gap_in_order, gap_later, tame_less, wild_more, size_is, front_open, back_open, inner_open}
 use Rattle.tv_pre.proofs.TameLemmas.{tame_built}
 use Rattle.tv_pre.proofs.BetweenLemmas.{unserved_same}
 
@@ -32,7 +32,7 @@ module _ (about : CaseSystem) (last : ℕ) where
   -- ---- next states
   pub step_gap : (path : Path) (s : Statement) (k : ℕ) (into : Region) → IsBuilt about s k into → (own : Option Gap) → IfSome own (IsWildStep about into) → IfSome own (IsGapFor about last (after path s))
   step_gap path s k into b None h = tt
-  step_gap path s k into b (Some Inexact) h = λ tame. h.1 (tame_built about s (tame_less about s (after path s) (λ a x. x) tame) k k into into b b)
+  step_gap path s k into b (Some Inexact) h = record { wild = λ tame. h.1 (tame_built about s (tame_less about s (after path s) (λ a x. x) tame) k k into into b b); moves = λ l. l }
   step_gap path s k into b (Some (Open place)) h = absurd (let e = h.0 in cc)
 
   -- ---- fixed points
@@ -42,7 +42,7 @@ module _ (about : CaseSystem) (last : ℕ) where
 
     left_gap : IfSome (gap_behind 1 first.gap) (IsGapFor about last (along path shape s t))
     left_gap =
-        gap_later (IsGapFor about last s) (IsGapFor about last (along path shape s t)) 1 first.gap (λ inexact tame. inexact (tame_less about s (along path shape s t) (λ a k. inl k) tame))
+        gap_later (IsGapFor about last s) (IsGapFor about last (along path shape s t)) 1 first.gap (λ inexact. wild_more about s (along path shape s t) (λ a k. inl k) (λ l. absurd l) inexact)
         (λ place x f e w.
         (let k = along_is (comparison_lists about.variables) path shape s t f e in
         let kept = subst (HasRows about.variables) k.2 w in
@@ -51,7 +51,7 @@ module _ (about : CaseSystem) (last : ℕ) where
 
     right_gap : IfSome (gap_behind (1 + first.size) second.gap) (IsGapFor about last (along path shape s t))
     right_gap =
-        gap_later (IsGapFor about last t) (IsGapFor about last (along path shape s t)) (1 + first.size) second.gap (λ inexact tame. inexact (tame_less about t (along path shape s t) (λ a k. inr k) tame))
+        gap_later (IsGapFor about last t) (IsGapFor about last (along path shape s t)) (1 + first.size) second.gap (λ inexact. wild_more about t (along path shape s t) (λ a k. inr k) (λ l. absurd l) inexact)
         (λ place x f e w.
         (let k = along_is (comparison_lists about.variables) path shape s t f e in
         let kept = subst (HasRows about.variables) k.2 w in
@@ -73,7 +73,10 @@ module _ (about : CaseSystem) (last : ℕ) where
         ((place : ℕ) → own ≡ Some (Open place) → (place ≡ 0) × Differ about (round last) (round (suc last))) →
         ((place : ℕ) → own ≡ Some (Open place) → IsUnservedHere path) → IfSome gap (IsGapFor about last (along path shape s t))
     own_gap own None e one two a b u = tt
-    own_gap own (Some Inexact) e one two a b u = a e (along path shape s t) (steps_back last s + steps_back last t) (sides_built about last path shape s t first second h g)
+    own_gap own (Some Inexact) e one two a b u = record {
+      wild = λ tame. a e (along path shape s t) (steps_back last s + steps_back last t) (sides_built about last path shape s t first second h g) tame;
+      moves = λ l. l;
+    }
     own_gap own (Some (Open place)) e one two a b u = λ f x w.
         (let k = along_is (comparison_lists about.variables) path shape s t f x in
         let kept = subst (HasRows about.variables) k.2 w in

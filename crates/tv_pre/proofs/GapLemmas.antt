@@ -17,7 +17,8 @@ use Rattle.tv_pre.specs.declared.gap.Gap.{Gap}
 use Rattle.tv_pre.specs.declared.gap.Gap.TheVariants.{Inexact, Open}
 use Rattle.tv_pre.specs.Built.{HasAtom, SomeHasAtom}
 use Rattle.tv_pre.specs.Full.{HasRows, AllHaveRows}
-use Rattle.tv_pre.specs.Finding.{IsGapOf, first_of, gap_behind, size, total_size, IsTameStatement, IsOpenAt, IsGapFor, IsGapAmong}
+use Rattle.tv_pre.specs.Finding.{IsGapOf, first_of, gap_behind, size, total_size, IsTameStatement, IsWildStatement, IsOpenAt, IsGapFor, IsGapAmong}
+use Rattle.tv_pre.specs.Tame.{IsLocalStatement, AreLocalStatements}
 use Rattle.tv_pre.proofs.FormulaLemmas.{each_is, one_is, after_is, ends_is, never_is}
 use Rattle.tv_pre.proofs.WideLemmas.{left_get, right_get}
 
@@ -109,13 +110,25 @@ atoms_last : (ss : List Statement) (s a : Statement) → HasAtom s a → SomeHas
 atoms_last [] s a h = inl h
 atoms_last (t ∷ ss) s a h = inr (atoms_last ss s a h)
 
+local_before : (ss : List Statement) (s : Statement) → AreLocalStatements (statements_of (ss ++ s ∷ [])) → AreLocalStatements (statements_of ss)
+local_before [] s h = tt
+local_before (t ∷ ss) s h = (h.0, local_before ss s h.1)
+
+local_last : (ss : List Statement) (s : Statement) → AreLocalStatements (statements_of (ss ++ s ∷ [])) → IsLocalStatement s
+local_last [] s h = h.0
+local_last (t ∷ ss) s h = local_last ss s h.1
+
 module _ (about : CaseSystem) where
   pub tame_less : (s t : Statement) → ((a : Statement) → HasAtom s a → HasAtom t a) → IsTameStatement about t → IsTameStatement about s
   tame_less s t w (inl h) = inl h
   tame_less s t w (inr h) = inr (h.0, λ lists r k m. h.1 lists r (w (rows lists) k) m)
 
+  -- a statement with these atoms, and others, is as wild
+  pub wild_more : (s t : Statement) → ((a : Statement) → HasAtom s a → HasAtom t a) → (IsLocalStatement t → IsLocalStatement s) → IsWildStatement about s → IsWildStatement about t
+  wild_more s t w m h = record { wild = λ tame. h.wild (tame_less s t w tame); moves = λ l. h.moves (m l) }
+
   pub gap_drawn : (last : ℕ) (s : Statement) (gap : Gap) → IsGapFor about last s gap → IsGapOf about gap
-  gap_drawn last s Inexact h = λ plain. h (inl plain)
+  gap_drawn last s Inexact h = λ plain. h.wild (inl plain)
   gap_drawn last s (Open place) h = tt
 
   module _ (last : ℕ) where
@@ -137,7 +150,7 @@ module _ (about : CaseSystem) where
 
     -- ---- arguments one after the other
     old_among : (ss : List Statement) (s : Statement) (gap : Gap) → IsGapAmong about last (statements_of ss) gap → IsGapAmong about last (statements_of (ss ++ s ∷ [])) gap
-    old_among ss s Inexact h = λ tame. h (tame_less (each_of (statements_of ss)) (each_of (statements_of (ss ++ s ∷ []))) (λ a k. atoms_before ss s a k) tame)
+    old_among ss s Inexact h = wild_more (each_of (statements_of ss)) (each_of (statements_of (ss ++ s ∷ []))) (λ a k. atoms_before ss s a k) (λ l. local_before ss s l) h
     old_among ss s (Open place) h = λ f fs e w.
         (let split = split_last about.variables ss s fs e w in
         subst (λ xs. IsOpenAt about last (f ∷ xs) place) (sym split.same) (front_open (f ∷ all_subformulas split.front) (subformulas split.back) place (h f split.front split.front_states split.front_rows)))
@@ -157,7 +170,7 @@ module _ (about : CaseSystem) where
         gap_in_order (IsGapAmong about last whole) old (gap_behind (1 + count) found)
         (gap_weaker (IsGapAmong about last (statements_of ss)) (IsGapAmong about last whole) old (old_among ss s) h)
         (λ e. gap_later (IsGapFor about last s) (IsGapAmong about last whole) (1 + count) found
-        (λ inexact tame. inexact (tame_less s (each_of whole) (λ a k. atoms_last ss s a k) tame)) (new_among ss s count c) g)
+        (λ inexact. wild_more s (each_of whole) (λ a k. atoms_last ss s a k) (λ l. local_last ss s l) inexact) (new_among ss s count c) g)
 
     -- ---- conjunctions and disjunctions
     pub each_gap : (ss : Statements) (gap : Gap) → IsGapAmong about last ss gap → IsGapFor about last (each_of ss) gap
@@ -167,7 +180,7 @@ module _ (about : CaseSystem) where
         subst (λ (z : Property). IsOpenAt about last (subformulas z) place) (sym k.1) (h (all_of k.0) k.0 k.2 (subst (HasRows about.variables) k.1 w)))
 
     pub one_gap : (ss : Statements) (gap : Gap) → IsGapAmong about last ss gap → IsGapFor about last (one_of ss) gap
-    one_gap ss Inexact h = λ tame. h (tame_less (each_of ss) (one_of ss) (λ a k. k) tame)
+    one_gap ss Inexact h = wild_more (each_of ss) (one_of ss) (λ a k. k) (λ l. l) h
     one_gap ss (Open place) h = λ f e w.
         (let k = one_is (comparison_lists about.variables) ss f e in
         subst (λ (z : Property). IsOpenAt about last (subformulas z) place) (sym k.1) (h (some_of k.0) k.0 k.2 (subst (HasRows about.variables) k.1 w)))
@@ -183,7 +196,7 @@ module _ (about : CaseSystem) where
     pub after_gap : (path : Path) (s : Statement) (child own : Option Gap) → IfSome child (IsGapFor about last s) → IfSome own (IsGapFor about last (after path s)) → IfSome (first_of (gap_behind 1 child) own) (IsGapFor about last (after path s))
     after_gap path s child own h g =
         gap_in_order (IsGapFor about last (after path s)) (gap_behind 1 child) own
-        (gap_later (IsGapFor about last s) (IsGapFor about last (after path s)) 1 child (λ inexact tame. inexact (tame_less s (after path s) (λ a k. k) tame))
+        (gap_later (IsGapFor about last s) (IsGapFor about last (after path s)) 1 child (λ inexact. wild_more s (after path s) (λ a k. k) (λ l. absurd l) inexact)
         (λ place x f e w.
         (let k = after_is (comparison_lists about.variables) path s f e in
         subst (λ (z : Property). IsOpenAt about last (subformulas z) (1 + place)) (sym k.1) (inner_open (next path k.0) (subformulas k.0) place (x k.0 k.2 (subst (HasRows about.variables) k.1 w))))) h)

@@ -19,6 +19,7 @@ pub mod FallingLemmas
 pub mod ComingLemmas
 pub mod GrowingLemmas
 pub mod StartLemmas
+pub mod LocalLemmas
 pub mod DecidingLemmas
 pub mod EndingLemmas
 pub mod RankedEndLemmas
@@ -52,11 +53,13 @@ pub mod ShortPaths
 pub mod SettledRounds
 pub mod TameLemmas
 pub mod ExactLemmas
+pub mod TameAims
 pub mod GapLemmas
 pub mod GapAlongLemmas
 pub mod KnownFormulas
 pub mod ToldLemmas
 pub mod DecidedLemmas
+pub mod LeftLemmas
 pub mod RankedToldLemmas
 pub mod OppositeRounds
 pub mod NegationLemmas

@@ -133,5 +133,7 @@ module _ (about : CaseSystem) (cases : All (IsCase about.variables about.locatio
 
 -- ---- nothing, where going back is not exact
 pub never_wild : (about : CaseSystem) (last : ℕ) (anywhere none goes : Region) → IsEverywhere about anywhere → IsNowhere about none → IsBuiltOf about 1 (anywhere ∷ []) goes → (IsTameFor about goes none → ⊥) → IsGapFor about last statements.never_ends Inexact
-never_wild about last anywhere none goes e n built wild tame =
-    wild (tame_built about statements.never_ends tame 1 1 goes none (back_built about anywhere goes built statements.never_ends (of_everywhere 0 anywhere e)) (of_nowhere 1 none n))
+never_wild about last anywhere none goes e n built wild = record {
+  wild = λ tame. wild (tame_built about statements.never_ends tame 1 1 goes none (back_built about anywhere goes built statements.never_ends (of_everywhere 0 anywhere e)) (of_nowhere 1 none n));
+  moves = λ l. l;
+}

@@ -1,13 +1,11 @@
 -- Where no gap is told of a fixed point that is to come to its end on every run of a ranked program.
-use Rattle.std.proofs.Common.{◌≡◌, inl, inr, ℕ, List, [], ◌∷◌, ◌++◌, refl, sym, ap, ◌∙◌, subst, true}
+use Rattle.std.proofs.Common.{◌≡◌, inl, inr, ℕ, ◌++◌, refl, sym, ap, ◌∙◌, subst, true}
 use Rattle.std.specs.Prelude.{All, Contains, Option, None, Some, IfSome}
 use Rattle.std.proofs.lemmas.List.Elements.{Contains-append_cases}
-use Rattle.std.proofs.lemmas.Bool.{and_parts}
 use Rattle.tv_program.specs.Steps.{State}
 use Rattle.tv_formula.specs.Formulas.{property_of}
 use Rattle.tv_formula.specs.Normal.{normal}
-use Rattle.tv_formula.specs.Forms.{is_local, are_local}
-use Rattle.tv_formula.specs.Properties.{Property, truth, compare, at, term, negated, all_of, some_of, next, fix, Properties, none, more}
+use Rattle.tv_formula.specs.Properties.{Property, fix}
 use Rattle.tv_formula.specs.declared.tree.Path.TheVariants.{Every}
 use Rattle.tv_formula.specs.declared.tree.Shape.{Shape}
 use Rattle.tv_formula.specs.declared.tree.Shape.TheVariants.{Until, Weak, Release, Strong}
@@ -16,7 +14,7 @@ use Rattle.tv_meaning.specs.Meaning.{Holds}
 use Rattle.tv_meaning.proofs.Negation.{negation_excludes}
 use Rattle.tv_cases.specs.Comparisons.{comparison_lists}
 use Rattle.tv_cases.specs.LinearCases.{CaseSystem, CaseSteps, IsCase, AreCases}
-use Rattle.tv_cases.proofs.ContainsLemmas.{Contains-cases, Contains-none}
+use Rattle.tv_cases.proofs.ContainsLemmas.{Contains-cases}
 use Rattle.tv_cert.specs.declared.claim.Claim.{Claim}
 use Rattle.tv_cert.specs.AimViews.{aim_states}
 use Rattle.tv_cert.specs.Claims.{claim_variables}
@@ -26,7 +24,7 @@ use Rattle.tv_known.specs.Cycles.{IsLastRound, IsStateOf}
 use Rattle.tv_known.specs.Laws.{MustReach, GoesOn, IsRankedUntil}
 use Rattle.tv_known.specs.Ranking.{HasLexicographicRanking}
 use Rattle.tv_known.specs.Rounds.{must_end}
-use Rattle.tv_known.specs.Subformulas.{subformulas, all_subformulas, IsUnsettled}
+use Rattle.tv_known.specs.Subformulas.{subformulas, IsUnsettled}
 use Rattle.tv_known.proofs.KnownHolds.{fix_known}
 use Rattle.tv_region.specs.Regions.{lists_at}
 use Rattle.tv_region.specs.StepRegions.{HasNoDraws}
@@ -39,45 +37,8 @@ use Rattle.tv_pre.specs.Proving.{IsProofLeft}
 use Rattle.tv_pre.specs.Told.{IsClaimOn, RankedUntilIsTold}
 use Rattle.tv_pre.specs.Unserved.{IsUnserved}
 use Rattle.tv_pre.proofs.DecidingLemmas.{states_of}
+use Rattle.tv_pre.proofs.LocalLemmas.{local_now}
 use Rattle.tv_linear.proofs.ListLaws.{contains_at}
-
--- ---- properties of one state
-module _ (about : CaseSystem) (last : ℕ) where
-  one_or_rest : (f : Property) (fs : List Property) (part : Property) → Contains (f ∷ fs) part → (IsUnsettled about last f → ⊥) → (Contains fs part → IsUnsettled about last part → ⊥) → IsUnsettled about last part → ⊥
-  one_or_rest f fs part m a b later = elim (Contains-cases f part fs m) [
-    | inl e ↦ a (subst (IsUnsettled about last) (sym e) later)
-    | inr k ↦ b k later
-  ]
-
-  denied_now : (f : Property) → is_local f ≡ true → IsUnsettled about last (negated f) → ⊥
-  denied_now (truth b) e later = later
-  denied_now (compare r a b) e later = later
-  denied_now (at l) e later = later
-  denied_now term e later = absurd cc
-  denied_now (negated f) e later = later
-  denied_now (all_of fs) e later = later
-  denied_now (some_of fs) e later = later
-  denied_now (next path f) e later = later
-  denied_now (fix path shape f g) e later = later
-
-  mutual
-    local_now : (f : Property) → is_local f ≡ true → (part : Property) → Contains (subformulas f) part → IsUnsettled about last part → ⊥
-    local_now (truth b) e part m = one_or_rest (truth b) [] part m (λ later. later) (λ k. absurd (Contains-none part k))
-    local_now (compare r a b) e part m = one_or_rest (compare r a b) [] part m (λ later. later) (λ k. absurd (Contains-none part k))
-    local_now (at l) e part m = one_or_rest (at l) [] part m (λ later. later) (λ k. absurd (Contains-none part k))
-    local_now term e part m = absurd cc
-    local_now (negated f) e part m = one_or_rest (negated f) [] part m (denied_now f e) (λ k. absurd (Contains-none part k))
-    local_now (all_of fs) e part m = one_or_rest (all_of fs) (all_subformulas fs) part m (λ later. later) (λ k. each_now fs e part k)
-    local_now (some_of fs) e part m = one_or_rest (some_of fs) (all_subformulas fs) part m (λ later. later) (λ k. each_now fs e part k)
-    local_now (next path f) e part m = absurd cc
-    local_now (fix path shape f g) e part m = absurd cc
-
-    each_now : (fs : Properties) → are_local fs ≡ true → (part : Property) → Contains (all_subformulas fs) part → IsUnsettled about last part → ⊥
-    each_now none e part m = absurd (Contains-none part m)
-    each_now (more f fs) e part m = elim (Contains-append_cases (subformulas f) (all_subformulas fs) part m) [
-      | inl k ↦ local_now f ((and_parts (is_local f) (are_local fs) e).0) part k
-      | inr k ↦ each_now fs ((and_parts (is_local f) (are_local fs) e).1) part k
-    ]
 
 -- ---- it holds everywhere
 comes : (shape : Shape) → MustReach shape → must_end shape ≡ true
@@ -121,7 +82,7 @@ module _ (about : CaseSystem) (limits : AreCases about) (claim : Claim) (f : Pro
   open_place place o = own_or_later o.part (contains_at (subformulas (fix Every is.shape is.left is.right)) place o.part o.there) o.unserved o.unsettled
 
   by_gap : (gap : Gap) → IsGapFor about last (aim_states claim.proved_aim) gap → ⊥
-  by_gap Inexact h = h (inl plain)
+  by_gap Inexact h = h.wild (inl plain)
   by_gap (Open place) h = open_place place (subst (λ g. IsOpenAt about last (subformulas g) place) is.same (h (normal f) states rows))
 
   holds_at : (s : State) → IsStateOf about s → Holds (CaseSteps about) (normal f) s

@@ -79,7 +79,7 @@ module _ (about : CaseSystem) (s : Statement) (atoms : AreAtomsOfDifferences s) 
     built_differences h _ (of_atom _ a region has is) = atom_differences a region has is
     built_differences h _ (of_everywhere _ region is) = λ r m. absurd (bare_rows (lists_at m.0 region.pieces.items) (is.bare m.0) r m.1)
     built_differences h _ (of_nowhere _ region is) = λ r m. absurd (subst (λ ps. InSome (lists_at m.0 ps) r) is.none m.1)
-    built_differences h _ (of_joined _ regions region each is) = λ r m.
+    built_differences _ _ (of_joined h regions region each few is) = λ r m.
         (let w = joined_row m.0 regions r (subst (λ ps. InSome (lists_at m.0 ps) r) is.pieces m.1) in built_differences h w.0 (each w.0 w.1) r w.2)
     built_differences h _ (of_same _ a region f e) = λ r m.
         built_differences h a f r (m.0, subst (λ ls. InSome ls r) (same_lists m.0 a.pieces.items region.pieces.items e.pieces) m.1)

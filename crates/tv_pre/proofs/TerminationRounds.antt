@@ -127,7 +127,8 @@ module _ (about : CaseSystem) where
 
       pub joined_made : (s : Statement) (region : Region) → AreBuilt about s 1 (end ∷ arguments sides) → IsJoined about (end ∷ layers) region → IsBuilt about s ((last + 2) + (last + 2)) region
       joined_made s region m j =
-          built_to about s ((last + 1) + 1) ((last + 2) + (last + 2)) region (omega arith) (of_joined ((last + 1) + 1) (end ∷ layers) region (layers_made s m) j)
+          built_to about s (suc ((last + 1) + 1)) ((last + 2) + (last + 2)) region (omega arith)
+          (of_joined ((last + 1) + 1) (end ∷ layers) region (layers_made s m) (let few : length (end ∷ layers) ≤ ((last + 1) + 1) + 2 = omega (arith, short) in few) j)
 
       pub joined_few : must_end sides.shape ≡ true → (region : Region) → IsJoined about (end ∷ layers) region → IsFewAlong about sides region
       joined_few must region j = grown_few about sides end region bounded must r.point r.of layers each (λ m is. last_before about last m (length layers) search is short) j

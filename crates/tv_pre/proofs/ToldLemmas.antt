@@ -42,12 +42,12 @@ module _ (about : CaseSystem) (cases : All (IsCase about.variables about.locatio
 
   pub no_gap : (last : ℕ) → IsLastRound about 8 last → (s : Statement) (gap : Option Gap) → IfSome gap (IsGapFor about last s) → HasNoGapIfPlain about s gap
   no_gap last l s None h plain f e w = refl
-  no_gap last l s (Some Inexact) h plain f e w = absurd (h (inl plain.draws))
+  no_gap last l s (Some Inexact) h plain f e w = absurd (h.wild (inl plain.draws))
   no_gap last l s (Some (Open place)) h plain f e w = absurd (none_open plain.acyclic (subformulas f) place (subst (λ k. IsOpenAt about k (subformulas f) place) (plain_last plain last l) (h f e w)))
 
   pub plain_told : (claim : Claim) (budget : Budget) (gap : Gap) → PlainIsTold about claim budget gap
-  plain_told claim budget Inexact plain h = h.1.tells about.locations (inr (plain.acyclic, refl)) (inl plain.draws)
-  plain_told claim budget (Open place) plain h = elim (h.1.tells about.locations (inr (plain.acyclic, refl))) [
+  plain_told claim budget Inexact plain h = (h.1.tells about.locations (inr (plain.acyclic, refl))).0 (inl plain.draws)
+  plain_told claim budget (Open place) plain h = elim (h.1.tells about.locations (inr (plain.acyclic, refl))).unsettled [
     | inl o ↦ none_open plain.acyclic (subformulas (property_of claim.proved)) place o
     | inr o ↦ none_open plain.acyclic (subformulas (property_of claim.denied)) place o
   ]
@@ -72,8 +72,8 @@ none_denied about last f h goes place o =
     h (negation o.part) (denied_stands f o.part (contains_at (subformulas (negation f)) place o.part o.there)) (o.denied goes)
 
 pub settled_told : (about : CaseSystem) (claim : Claim) (f : Property) (budget : Budget) (gap : Gap) → SettledIsTold about claim f budget gap
-settled_told about claim f budget Inexact on tame last l settled h = h.1.tells last l (tame_claim about claim f on h.1.have_rows.0 tame)
-settled_told about claim f budget (Open place) on tame last l settled h = elim (h.1.tells last l) [
+settled_told about claim f budget Inexact on tame last l settled h = (h.1.tells last l).0 (tame_claim about claim f on h.1.have_rows.0 tame)
+settled_told about claim f budget (Open place) on tame last l settled h = elim (h.1.tells last l).unsettled [
   | inl o ↦ none_settled about last (subformulas (normal f)) settled place (subst (λ g. IsOpenAt about last (subformulas g) place) on.is.proved o)
   | inr o ↦ none_denied about last f settled (tame_goes about (aim_states claim.proved_aim) tame) place (subst (λ g. IsOpenAt about last (subformulas g) place) on.is.denied o)
 ]

@@ -1,5 +1,5 @@
 -- Regions that are made of the atoms of a formula, and what a refusal shows of them.
-use Rattle.std.specs.Prelude.{◌≡◌, ◌⊎◌, ◌==◌, ℕ, suc, ◌+◌, ◌<◌, List, [], Contains, Bool, not}
+use Rattle.std.specs.Prelude.{◌≡◌, ◌⊎◌, ◌==◌, ℕ, suc, ◌+◌, ◌<◌, ◌≤◌, List, [], length, Contains, Bool, not}
 use Rattle.tv_linear.specs.Linear.{Linear}
 use Rattle.tv_linear.specs.declared.region.Piece.{Piece}
 use Rattle.tv_linear.specs.declared.region.Region.{Region}
@@ -63,14 +63,15 @@ pub record IsAtomRegion (about : CaseSystem) (a : Statement) (region : Region) :
 
 -- ---- regions
 
--- The region is that of an atom of the statement, or has all states or none, or the pieces of such regions in order, or is a copy of such a
--- region, or a call on such regions gives it. On the way to it at most h times a step is gone back.
+-- The region is that of an atom of the statement, or has all states or none, or is a copy of such a region, or a call on such regions gives it,
+-- or it has the pieces of the layers of a fixed point in order. On the way to it at most h times a step is gone back; joining layers counts as
+-- one step more, and there are at most two more of them than steps before.
 pub data IsBuilt (about : CaseSystem) (s : Statement) : ℕ → Region → Type 0 where
   of_atom : (h : ℕ) (a : Statement) (region : Region) → HasAtom s a → IsAtomRegion about a region → IsBuilt about s h region
   of_everywhere : (h : ℕ) (region : Region) → IsEverywhere about region → IsBuilt about s h region
   of_nowhere : (h : ℕ) (region : Region) → IsNowhere about region → IsBuilt about s h region
   of_joined : (h : ℕ) (regions : List Region) (region : Region) → ((r : Region) → Contains regions r → IsBuilt about s h r) →
-      IsJoined about regions region → IsBuilt about s h region
+      length regions ≤ h + 2 → IsJoined about regions region → IsBuilt about s (suc h) region
   of_same : (h : ℕ) (a region : Region) → IsBuilt about s h a → SameRegion a region → IsBuilt about s h region
   of_both : (h : ℕ) (a b region : Region) → IsBuilt about s h a → IsBuilt about s h b → IsBoth a b region → IsBuilt about s h region
   of_either : (h : ℕ) (a b region : Region) → IsBuilt about s h a → IsBuilt about s h b → IsEither a b region → IsBuilt about s h region

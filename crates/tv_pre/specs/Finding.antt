@@ -29,6 +29,7 @@ use Rattle.tv_pre.specs.declared.test.Test.TheVariants.{Rows, Here, Elsewhere}
 use Rattle.tv_pre.specs.Built.{HasAtom, IsBuilt, IsPreFault}
 use Rattle.tv_pre.specs.Unserved.{IsUnserved}
 use Rattle.tv_pre.specs.Sized.{IsFewFor}
+use Rattle.tv_pre.specs.Tame.{IsLocalStatement}
 
 -- ---- the program
 
@@ -182,15 +183,20 @@ pub record IsOpenAt (about : CaseSystem) (k : ℕ) (fs : List Property) (place :
   pub denied : Decides about (Goes about) → IsUnsettled about k (negation part)
   pub unserved : IsUnserved about part
 
+-- going back is not exact for all that is made of the statement, which is not of one state
+pub record IsWildStatement (about : CaseSystem) (s : Statement) : Type 0 where
+  pub wild : IsTameStatement about s → ⊥
+  pub moves : IsLocalStatement s → ⊥
+
 -- what a gap says of the formula that the statement is of, where rounds are made up to the last and each comparison has rows: going back is
 -- not exact, or the last round does not settle the subformula with the number
 abbrev pub IsGapFor : CaseSystem → ℕ → Statement → Gap → Type 0
-IsGapFor about last s Inexact = IsTameStatement about s → ⊥
+IsGapFor about last s Inexact = IsWildStatement about s
 IsGapFor about last s (Open place) = (f : Property) → States about s f → HasRows about.variables f → IsOpenAt about last (subformulas f) place
 
 -- the same of the arguments of a formula, which has the number 0
 abbrev pub IsGapAmong : CaseSystem → ℕ → Statements → Gap → Type 0
-IsGapAmong about last ss Inexact = IsTameStatement about (each_of ss) → ⊥
+IsGapAmong about last ss Inexact = IsWildStatement about (each_of ss)
 IsGapAmong about last ss (Open place) =
     (f : Property) (fs : Properties) → ss ≡ stated_all (comparison_lists about.variables) fs → AllHaveRows about.variables fs
     → IsOpenAt about last (f ∷ all_subformulas fs) place

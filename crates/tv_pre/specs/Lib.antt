@@ -18,6 +18,7 @@ pub mod Faults
 pub mod Unserved
 pub mod Sized
 pub mod Counted
+pub mod Tame
 pub mod Finding
 pub mod Along
 pub mod KnownStates

@@ -1,13 +1,17 @@
 -- What came of a claim at the start, and why there is no certificate.
-use Rattle.std.specs.Prelude.{◌≡◌, ◌⊎◌, ℕ, List, [], ℤ, Option, None, Some, IfSome, false}
+use Rattle.std.specs.Prelude.{◌≡◌, ◌⊎◌, ℕ, List, [], ℤ, Option, None, Some, IfSome, IsTrue, false}
 use Rattle.tv_formula.specs.Formulas.{property_of}
+use Rattle.tv_formula.specs.Forms.{is_local}
+use Rattle.tv_formula.specs.Properties.{Property}
 use Rattle.tv_farkas.specs.declared.budget.Budget.{Budget}
 use Rattle.tv_farkas.specs.declared.fault.CoverFault.{CoverFault}
 use Rattle.tv_cases.specs.LinearCases.{CaseSystem}
 use Rattle.tv_cert.specs.declared.claim.Claim.{Claim}
 use Rattle.tv_cert.specs.AimViews.{aim_states}
+use Rattle.tv_cert.specs.Claims.{IsClaim}
 use Rattle.tv_cert.specs.Statements.{Statement}
 use Rattle.tv_known.specs.Cycles.{IsLastRound}
+use Rattle.tv_known.specs.Known.{IsDecided}
 use Rattle.tv_known.specs.Subformulas.{subformulas}
 use Rattle.tv_cover.specs.Covering.{IsHole}
 use Rattle.tv_region.specs.Regions.{IsRegion, lists_at}
@@ -110,19 +114,40 @@ abbrev pub IsTameClaim : CaseSystem → Claim → Type 0
 IsTameClaim about claim =
     HasNoDraws about ⊎ (AreOfDifferences about × AreAtomsOfDifferences (aim_states claim.proved_aim) × AreAtomsOfDifferences (aim_states claim.denied_aim))
 
--- the program is not tame for the claim; or the last round does not settle the subformula with the number, of the normal form or of the
--- negation
-abbrev pub IsGapOfClaim : CaseSystem → Claim → ℕ → Gap → Type 0
-IsGapOfClaim about claim last Inexact = IsTameClaim about claim → ⊥
-IsGapOfClaim about claim last (Open place) =
-    IsOpenAt about last (subformulas (property_of claim.proved)) place ⊎ IsOpenAt about last (subformulas (property_of claim.denied)) place
+-- the property of the claim has a next state, a fixed point or termination
+abbrev pub IsMovingClaim : Claim → Type 0
+IsMovingClaim claim = (f : Property) → IsClaim claim f → IsTrue (is_local f) → ⊥
 
--- the gap is the first of the two, and it is so what it says
+-- the rounds do not tell of the start whether the property of the claim holds
+abbrev pub IsUndecidedClaim : CaseSystem → Claim → Type 0
+IsUndecidedClaim about claim = (f : Property) → IsClaim claim f → IsDecided about f → ⊥
+
+-- the program is tame for the claim, which is undecided, and the last round does not settle the subformula with the number, of the normal form
+-- or of the negation
+pub record IsOpenClaim (about : CaseSystem) (claim : Claim) (last place : ℕ) : Type 0 where
+  pub tame : IsTameClaim about claim
+  pub undecided : IsUndecidedClaim about claim
+  pub unsettled : IsOpenAt about last (subformulas (property_of claim.proved)) place ⊎ IsOpenAt about last (subformulas (property_of claim.denied)) place
+
+-- the program is not tame for the claim, which is not of one state; or a subformula is open
+abbrev pub IsGapOfClaim : CaseSystem → Claim → ℕ → Gap → Type 0
+IsGapOfClaim about claim last Inexact = (IsTameClaim about claim → ⊥) × IsMovingClaim claim
+IsGapOfClaim about claim last (Open place) = IsOpenClaim about claim last place
+
+-- where the program is tame for the claim, the second gap is the first one; elsewhere it is that of the draws
+abbrev pub IsReported : CaseSystem → Claim → Gap → Gap → Type 0
+IsReported about claim gap reported =
+    (IsTameClaim about claim × (reported ≡ gap)) ⊎ ((IsTameClaim about claim → ⊥) × (reported ≡ Inexact))
+
+-- The gap is the first of the two, or in place of it that of the draws where the program is not tame for the claim; and it is so what it
+-- says.
 pub record IsLeftBy (about : CaseSystem) (claim : Claim) (gap : Gap) : Type 0 where
   pub first : Option Gap
   pub second : Option Gap
   pub left : IsLeft about claim first second
-  pub is_first : Some gap ≡ first_of first second
+  pub known : Gap
+  pub is_first : Some known ≡ first_of first second
+  pub reported : IsReported about claim known gap
   pub have_rows : ClaimHasRows about claim
   pub tells : (last : ℕ) → IsLastRound about 8 last → IsGapOfClaim about claim last gap
 

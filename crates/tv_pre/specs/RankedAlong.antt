@@ -44,7 +44,7 @@ IsUnservedAlong about sides =
 -- its end are given back, and some state is neither, where going back is exact, or that was not settled.
 abbrev pub IsRankedAlong : CaseSystem → Sides → List Node → Region → RankedAlong → Type 0
 IsRankedAlong about sides children end (Everywhere part) =
-    IsAlong about 1 (end ∷ arguments sides) sides children part × HasAll about part.region.pieces.items × AllGo about sides
+    IsAlong about 2 (end ∷ arguments sides) sides children part × HasAll about part.region.pieces.items × AllGo about sides
 IsRankedAlong about sides children end (Untold nodes region fault) = (nodes.items ≡ children) × (region ≡ end)
 IsRankedAlong about sides children end (Unsettled nodes region) = (nodes.items ≡ children) × (region ≡ end) × IsBesideIfTame about sides
 

@@ -7,10 +7,11 @@ ghost use Rattle.tv_formula.specs.Normal.{negation};
 ghost use Rattle.tv_cases.specs.Systems.{cases_of};
 ghost use Rattle.tv_cert.specs.Claims.{claim_variables};
 ghost use Rattle.tv_shape.specs.Certificates.{IsSettling};
-ghost use Rattle.tv_pre.specs.Proving.{IsProofTried, IsDisproofTried, IsProofFault, IsDisproofFault, IsLeft, ClaimHasRows, IsWideIn, IsUnproved};
+ghost use Rattle.tv_pre.specs.Proving.{IsProofTried, IsDisproofTried, IsProofFault, IsDisproofFault, IsLeft, IsReported, ClaimHasRows, IsWideIn, IsUnproved};
 
 use crate::gap::first_gap;
 use crate::starting::{Inside, first_inside, start_covered};
+use crate::tame::is_tame_claim;
 use crate::wide::{Comparisons, comparisons_of};
 use crate::{Found, Gap, Part, PreFault, Setting, found};
 use std::alloc::AllocError;
@@ -114,8 +115,19 @@ fn first_wide(setting: &Setting, claim: &Claim) -> Result<Option<u32>, AllocErro
     }
 }
 
-/// Why there is no certificate, where the start tells nothing of either side: a comparison has no rows; or the first gap. One is known of, as
-/// else the formula and its negation would both fail at a state at the start.
+/// The gap that is reported: where the program is not tame for the claim, that of the draws, whichever stands first.
+fn reported(setting: &Setting, claim: &Claim, gap: Gap) -> Gap
+    ensures { IsReported (cases_of setting.now.about.now) claim.now gap result }
+{
+    if is_tame_claim(setting.about, claim) {
+        gap
+    } else {
+        Gap::Inexact
+    }
+}
+
+/// Why there is no certificate, where the start tells nothing of either side: a comparison has no rows; or the first gap, or that of the
+/// draws. One is known of, as else the formula and its negation would both fail at a state at the start.
 fn left(setting: &Setting, claim: &Claim, first: Option<Gap>, second: Option<Gap>) -> Unproved
     requires variables { claim_variables claim.now ≡ (cases_of setting.now.about.now).variables }
     requires denies { property_of claim.now.denied ≡ negation (property_of claim.now.proved) }
@@ -128,7 +140,7 @@ fn left(setting: &Setting, claim: &Claim, first: Option<Gap>, second: Option<Gap
         Err(_) => Unproved::Refused(PreFault::Memory),
         Ok(Some(place)) => Unproved::Wide { place },
         Ok(None) => match first_gap(first, second) {
-            Some(gap) => Unproved::Left(gap),
+            Some(gap) => Unproved::Left(reported(setting, claim, gap)),
             None => unreachable!(),
         },
     }
@@ -155,7 +167,7 @@ fn or_disproof(setting: &Setting, claim: &Claim, fault: PreFault) -> Result<Cert
 ///
 /// A region and a node are made of each subformula, bottom-up: of the normal form first, and where its region does not have all initial
 /// states, or a system of ranks is refused, of its negation. Where neither region lacks states for a known gap, and each comparison has rows,
-/// one of the two tells.
+/// one of the two tells. A subformula is named as open only where the program is tame for the claim, and the rounds do not decide it.
 pub fn prove(setting: &Setting, claim: &Claim) -> Result<Certificate, Unproved>
     requires splits { setting.now.budget.now.splits ≤ 128 }
     requires variables { claim_variables claim.now ≡ (cases_of setting.now.about.now).variables }

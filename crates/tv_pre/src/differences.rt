@@ -66,7 +66,8 @@ fn is_difference(row: &Row) -> bool
     is_at_most_once(numbers, -1)
 }
 
-fn are_differences(rows: &[Row]) -> bool
+/// Whether each of the rows is a difference.
+pub(crate) fn are_differences(rows: &[Row]) -> bool
     ensures found { IsTrue result → All IsDifference rows.now }
     ensures all { All IsDifference rows.now → IsTrue result }
 {

@@ -46,6 +46,7 @@ mod setting;
 mod sides;
 mod starting;
 mod staying;
+mod tame;
 mod targets;
 mod termination;
 mod test;

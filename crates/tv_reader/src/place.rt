@@ -15,7 +15,8 @@ fn front_of(text: &[u8], at: u32) -> &[u8]
     front
 }
 
-fn line_of(text: &[u8], at: u32) -> u32
+/// The line of a place of the text.
+pub fn line_of(text: &[u8], at: u32) -> u32
     requires { length text.now + 1 < 2 ^ 32 }
     ensures { result ≡ line_of text.now at }
 {
@@ -34,7 +35,8 @@ fn column_behind(column: u32, byte: u8) -> u32
     if byte == b'\n' { 1 } else { column + 1 }
 }
 
-fn column_of(text: &[u8], at: u32) -> u32
+/// The column of a place of the text.
+pub fn column_of(text: &[u8], at: u32) -> u32
     requires { length text.now + 1 < 2 ^ 32 }
     ensures { result ≡ column_of text.now at }
 {

@@ -24,7 +24,7 @@ use Rattle.tv_settling.specs.declared.fault.EndFault.{EndFault}
 use Rattle.tv_settling.specs.declared.fault.EndFault.TheVariants.{Solve, Cover, Rank, Memory}
 use Rattle.tv_shape.specs.Certificates.{IsSettling}
 
--- some cases of the program, each with a rational point, have a barrier each: no linear terms rank them
+-- some cases of the program inside one component, each with a rational point, have a barrier each: no linear terms rank them
 pub record IsStuckAlone (about : CaseSystem) : Type 0 where
   pub set : List ℕ
   pub barriers : List (List ℤ)

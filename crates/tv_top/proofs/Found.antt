@@ -45,6 +45,12 @@ use Rattle.tv_search.specs.Runs as searched
 use Rattle.tv_invariant.proofs.PieceLemmas.{in_rows}
 use Rattle.tv_linear.specs.Linear.{columns, IsMet, IsWithin}
 use Rattle.tv_linear.proofs.ListLaws.{all_front, all_back}
+use Rattle.tv_simplex.specs.declared.fault.SolveFault.{SolveFault}
+use Rattle.tv_simplex.specs.declared.fault.SolveFault.TheVariants as solving
+use Rattle.tv_rank.specs.declared.name.Name.{Name}
+use Rattle.tv_rank.specs.declared.name.Name.TheVariants.{Rows}
+use Rattle.tv_top.specs.declared.system_fault.SystemFault.{SystemFault}
+use Rattle.tv_top.specs.declared.system_fault.SystemFault.TheVariants as kept
 use Rattle.tv_top.specs.declared.cause.Cause.{Cause}
 use Rattle.tv_top.specs.declared.cause.Cause.TheVariants.{Unsolved, Spent, Composed, Unranked, Weak, TooManyPaths, TooManyPieces, Drawn, Unsettled, WideComparison}
 use Rattle.tv_shape.specs.Certificates.{IsSettling}
@@ -60,9 +66,9 @@ use Rattle.tv_pre.specs.declared.deciding.Unproved.{Unproved}
 use Rattle.tv_pre.specs.declared.deciding.Unproved.TheVariants.{Refused, Left, Wide}
 use Rattle.tv_pre.proofs.WithinSize.{refusal_within_size}
 use Rattle.tv_top.specs.Searching.{AnswersRegion, AnswersRefusal, AnswersLeft, AnswersUnproved}
-use Rattle.tv_top.specs.Answers.{ended, uncovered, unknown, too_wide}
+use Rattle.tv_top.specs.Answers.{ended, unsolved, uncovered, unknown, too_wide}
 use Rattle.tv_top.specs.Tasks.{Wanted, Task}
-use Rattle.tv_top.specs.Finding.{Offers, Finds, Settles, TellsClaim, SaysVerdict, IsTextOf, IsOpenEnd, IsEndFault, alone, round, found, IsSearchFault, IsWeakAt, AreTooManyAt, KeepsFrom, of_ends, of_safety, of_formula, budget_of, IsOther, IsUnprovedOf, AreTooMany, AreTooManyPieces}
+use Rattle.tv_top.specs.Finding.{of_solver, Offers, Finds, Settles, TellsClaim, SaysVerdict, IsTextOf, IsOpenEnd, IsEndFault, alone, round, found, IsSearchFault, IsWeakAt, AreTooManyAt, KeepsFrom, of_ends, of_safety, of_formula, budget_of, IsOther, IsUnprovedOf, AreTooMany, AreTooManyPieces}
 use Rattle.tv_farkas.proofs.StretchLemmas.{short_all}
 
 met_there : (before after : List Entry) (e : Entry) → AllMet (before ++ e ∷ after) → (P : Type 0) → (AllMet (e ∷ after) → P) → P
@@ -149,6 +155,15 @@ settles_found offers task p f about (WideEdge edge) h = h
 settles_found offers task p f about (TooManyInEdge edge) h = h
 settles_found offers task p f about ReadFault h = h
 
+-- a system that was not settled is answered, where each reason for it is found
+unsolved_so : (offers : Offers) (task : Task) (p : System) (f : Property) (about : CaseSystem) (system : Name) (fault : SolveFault)
+    → ((e : SystemFault) → of_solver e ≡ fault → Finds offers task p f about (Unknown (Unsolved system e))) → Finds offers task p f about (unsolved system fault)
+unsolved_so offers task p f about system (solving.Width basis row column) h = h (kept.Width basis row column) refl
+unsolved_so offers task p f about system (solving.Scale basis) h = h (kept.Scale basis) refl
+unsolved_so offers task p f about system (solving.Pivots bases) h = h (kept.Pivots bases) refl
+unsolved_so offers task p f about system (solving.Size rows columns) h = h (kept.Size rows columns) refl
+unsolved_so offers task p f about system solving.Memory h = tt
+
 -- ---- why it is not known whether every run ends
 module _ (offers : Offers) (task : Task) (p : System) (f : Property) (about : CaseSystem) (n : normal f ≡ term) where
   abbrev budget : Budget
@@ -156,12 +171,14 @@ module _ (offers : Offers) (task : Task) (p : System) (f : Property) (about : Ca
 
   uncovered_end : (fault : CoverFault) → IsEndFault about (offers about) budget (ends.Cover fault) → Finds offers task p f about (uncovered fault)
   uncovered_end (covers.Splits path) h = of_ends n h
-  uncovered_end (covers.Solve rows fault) h = of_ends n (inr (rows, refl, h))
+  uncovered_end (covers.Solve rows fault) h =
+      unsolved_so offers task p f about (Rows rows) fault (λ e same. of_ends n (inr (rows, refl, subst (λ k. IsEndFault about (offers about) budget (ends.Cover (covers.Solve rows k))) (sym same) h)))
   uncovered_end (covers.Wide column) h = of_ends n h
   uncovered_end covers.Memory h = tt
 
   ended_so : (fault : EndFault) → IsEndFault about (offers about) budget fault → Finds offers task p f about (ended fault)
-  ended_so (ends.Solve system fault) h = of_ends n (inl h)
+  ended_so (ends.Solve system fault) h =
+      unsolved_so offers task p f about system fault (λ e same. of_ends n (inl (subst (λ k. IsEndFault about (offers about) budget (ends.Solve system k)) (sym same) h)))
   ended_so (ends.Cover fault) h = uncovered_end fault h
   ended_so (ends.Rank set barriers) h = of_ends n h
   ended_so ends.Memory h = tt
@@ -185,7 +202,8 @@ module _ (offers : Offers) (task : Task) (p : System) (f : Property) (about : Ca
 
   pub uncovered_near : (fault : CoverFault) → IsSearchFault about (offers about) limit l fault → Finds offers task p f about (uncovered fault)
   uncovered_near (covers.Splits path) h = of_safety l n h
-  uncovered_near (covers.Solve rows fault) h = of_safety l n (rows, refl, h)
+  uncovered_near (covers.Solve rows fault) h =
+      unsolved_so offers task p f about (Rows rows) fault (λ e same. of_safety l n (rows, refl, subst (λ k. IsSearchFault about (offers about) limit l (covers.Solve rows k)) (sym same) h))
   uncovered_near (covers.Wide column) h = of_safety l n (inl h)
   uncovered_near covers.Memory h = tt
 
@@ -259,19 +277,27 @@ module _ (offers : Offers) (task : Task) (p : System) (f : Property) (about : Ca
   region_so : (fault : RegionFault) (answer : Answer) → AnswersRegion p fault answer → IsUnprovedOf about f spent (Refused (faults.Region fault)) → Finds offers task p f about answer
   region_so (regions.Disjuncts l count) answer a h = subst (Finds offers task p f about) (sym a.is) (pieces_so a.cause l count a.many h)
   region_so (regions.Wide column) answer a h = subst (Finds offers task p f about) (sym a) (of_formula other (inl h))
-  region_so (regions.Solve rows e) answer a h = subst (Finds offers task p f about) (sym a) (of_formula other (inl (rows, refl, inl h)))
+  region_so (regions.Solve rows fault) answer a h =
+      subst (Finds offers task p f about) (sym a)
+      (unsolved_so offers task p f about (Rows rows) fault (λ e same.
+      of_formula other (inl (rows, refl, inl (subst (λ k. IsUnprovedOf about f spent (Refused (faults.Region (regions.Solve rows k)))) (sym same) h)))))
   region_so regions.Memory answer a h = subst (Finds offers task p f about) (sym a) tt
 
   question_so : (fault : CoverFault) → IsUnprovedOf about f spent (Refused (faults.Cover fault)) → Finds offers task p f about (uncovered fault)
   question_so (covers.Splits path) h = of_formula other h
-  question_so (covers.Solve rows e) h = of_formula other (inl (rows, refl, inr h))
+  question_so (covers.Solve rows fault) h =
+      unsolved_so offers task p f about (Rows rows) fault (λ e same.
+      of_formula other (inl (rows, refl, inr (subst (λ k. IsUnprovedOf about f spent (Refused (faults.Cover (covers.Solve rows k)))) (sym same) h))))
   question_so (covers.Wide column) h = of_formula other (inr h)
   question_so covers.Memory h = tt
 
   refused_so : (fault : PreFault) (answer : Answer) → AnswersRefusal p fault answer → IsUnprovedOf about f spent (Refused fault) → Finds offers task p f about answer
   refused_so (faults.Region fault) answer a h = region_so fault answer a h
   refused_so (faults.Cover fault) answer a h = subst (Finds offers task p f about) (sym a) (question_so fault h)
-  refused_so (faults.Rank system e) answer a h = subst (Finds offers task p f about) (sym a) (of_formula other (inr h))
+  refused_so (faults.Rank system fault) answer a h =
+      subst (Finds offers task p f about) (sym a)
+      (unsolved_so offers task p f about system fault (λ e same.
+      of_formula other (inr (subst (λ k. IsUnprovedOf about f spent (Refused (faults.Rank system k))) (sym same) h))))
   refused_so faults.Memory answer a h = subst (Finds offers task p f about) (sym a) tt
 
   left_so : (gap : Gap) (answer : Answer) → AnswersLeft about gap answer → IsUnprovedOf about f spent (Left gap) → Finds offers task p f about answer

@@ -9,12 +9,13 @@ use Rattle.tv_cases.specs.declared.case.CaseFault.{CaseFault}
 use Rattle.tv_cases.specs.declared.case.CaseFault.TheVariants as cases
 use Rattle.tv_reader.specs.declared.fault.What.{What}
 use Rattle.tv_reader.specs.declared.fault.What.TheVariants.{Variables, Locations, Edges, Draws}
-use Rattle.tv_reader.specs.declared.fault.ReadFault.{ReadFault as TextFault}
+use Rattle.tv_reader.specs.declared.fault.ReadFault.{ReadFault as ProgramFault}
 use Rattle.tv_reader.specs.declared.fault.ReadFault.TheVariants as faults
 use Rattle.tv_formula_reader.specs.declared.fault.FormulaFault.{FormulaFault}
 use Rattle.tv_formula_reader.specs.declared.fault.FormulaFault.TheVariants as formulas
 use Rattle.tv_farkas.specs.declared.fault.CoverFault.{CoverFault}
 use Rattle.tv_farkas.specs.declared.fault.CoverFault.TheVariants as covers
+use Rattle.tv_rank.specs.declared.name.Name.{Name}
 use Rattle.tv_rank.specs.declared.name.Name.TheVariants.{Rows}
 use Rattle.tv_points.specs.declared.fault.PointFault.{PointFault}
 use Rattle.tv_points.specs.declared.fault.PointFault.TheVariants as points
@@ -22,12 +23,19 @@ use Rattle.tv_settling.specs.declared.fault.EndFault.{EndFault}
 use Rattle.tv_settling.specs.declared.fault.EndFault.TheVariants as ends
 use Rattle.tv_check_text.specs.declared.text.TextFailing.{TextFailing}
 use Rattle.tv_check_text.specs.declared.text.TextFailing.TheVariants as certs
+use Rattle.tv_interleave.specs.declared.fault.InterFault.{InterFault}
+use Rattle.tv_interleave.specs.declared.fault.InterFault.TheVariants as joint
+use Rattle.tv_interleave.specs.declared.texts.TextFault.{TextFault}
+use Rattle.tv_interleave.specs.declared.texts.TextFault.TheVariants as texts
 use Rattle.tv_top.specs.declared.answer.Answer.{Answer}
 use Rattle.tv_top.specs.declared.answer.Answer.TheVariants.{Proved, Disproved, Obligation, CertificateLine, Words, TooLong, Text, Property, WideEdge, TooManyInEdge, Unknown, ReadFault, Memory}
 use Rattle.tv_top.specs.declared.cause.Cause.{Cause}
 use Rattle.tv_top.specs.declared.cause.Cause.TheVariants.{Unsolved, Spent, Composed, Unranked}
 use Rattle.tv_top.specs.declared.status.Status.{Status}
 use Rattle.tv_top.specs.declared.status.Status.TheVariants as statuses
+use Rattle.tv_top.specs.declared.system_fault.SystemFault.TheVariants as kept
+use Rattle.tv_simplex.specs.declared.fault.SolveFault.{SolveFault}
+use Rattle.tv_simplex.specs.declared.fault.SolveFault.TheVariants as solving
 use Rattle.tv_top.specs.CauseLines.{cause_line, detail_line}
 
 -- the word of a kind of obligations
@@ -58,16 +66,37 @@ placed_line cause line column = codes "Refused text " ++ (cause ++ (codes " line
 abbrev pub too_many_line : What → ℕ → ℕ → List ℕ
 too_many_line what line column = codes "Refused text too many " ++ (what_word what ++ (codes " line " ++ (decimal line ++ (codes " column " ++ (decimal column ++ 10 ∷ [])))))
 
+-- the line for the first fault of a text of one program
+abbrev pub program_line : ProgramFault → List ℕ
+program_line (faults.Syntax line column) = placed_line (codes "syntax") line column
+program_line faults.NoStart = codes "Refused text no start" ++ 10 ∷ []
+program_line (faults.TwoStarts line column) = placed_line (codes "two starts") line column
+program_line (faults.NotLinear line column) = placed_line (codes "not linear") line column
+program_line (faults.Wide line column) = placed_line (codes "wide") line column
+program_line (faults.TooMany what line column) = too_many_line what line column
+program_line (faults.Deep line column) = placed_line (codes "deep") line column
+program_line faults.Memory = []
+
+-- the line with a number at its end
+abbrev pub counted_line : List ℕ → ℕ → List ℕ
+counted_line what count = codes "Refused text " ++ (what ++ (codes " " ++ (decimal count ++ 10 ∷ [])))
+
+-- the line for the first fault of a text of several processes
+abbrev pub processes_line : InterFault → List ℕ
+processes_line (joint.Syntax line column) = placed_line (codes "syntax") line column
+processes_line (joint.Processes count) = counted_line (codes "processes") count
+processes_line (joint.Part part fault) = program_line fault
+processes_line (joint.Label line column) = placed_line (codes "label") line column
+processes_line (joint.Variables count) = counted_line (codes "variables") count
+processes_line (joint.Locations count) = counted_line (codes "product locations") count
+processes_line (joint.Edges count) = counted_line (codes "product edges") count
+processes_line joint.Memory = []
+
 -- the line for the first fault of a text
 abbrev pub text_line : TextFault → List ℕ
-text_line (faults.Syntax line column) = placed_line (codes "syntax") line column
-text_line faults.NoStart = codes "Refused text no start" ++ 10 ∷ []
-text_line (faults.TwoStarts line column) = placed_line (codes "two starts") line column
-text_line (faults.NotLinear line column) = placed_line (codes "not linear") line column
-text_line (faults.Wide line column) = placed_line (codes "wide") line column
-text_line (faults.TooMany what line column) = too_many_line what line column
-text_line (faults.Deep line column) = placed_line (codes "deep") line column
-text_line faults.Memory = []
+text_line (texts.Program fault) = program_line fault
+text_line (texts.Processes fault) = processes_line fault
+text_line texts.Memory = []
 
 -- the line for a fault of a formula at a byte, counted from 0; columns count from 1
 abbrev pub column_line : List ℕ → ℕ → List ℕ
@@ -163,16 +192,24 @@ without_property (formulas.Deep at) = Property (formulas.Deep at)
 without_property formulas.Long = Property formulas.Long
 without_property formulas.Memory = Memory
 
+-- the answer where a linear system was not settled: why, and where memory ran out, that alone
+abbrev pub unsolved : Name → SolveFault → Answer
+unsolved system (solving.Width basis row column) = Unknown (Unsolved system (kept.Width basis row column))
+unsolved system (solving.Scale basis) = Unknown (Unsolved system (kept.Scale basis))
+unsolved system (solving.Pivots bases) = Unknown (Unsolved system (kept.Pivots bases))
+unsolved system (solving.Size rows columns) = Unknown (Unsolved system (kept.Size rows columns))
+unsolved system solving.Memory = Memory
+
 -- the answer where a question of whole points was not settled
 abbrev pub uncovered : CoverFault → Answer
 uncovered (covers.Splits path) = Unknown (Spent path)
-uncovered (covers.Solve rows fault) = Unknown (Unsolved (Rows rows) fault)
+uncovered (covers.Solve rows fault) = unsolved (Rows rows) fault
 uncovered (covers.Wide column) = Unknown (Composed column)
 uncovered covers.Memory = Memory
 
 -- the answer where it is not known whether every run ends
 abbrev pub ended : EndFault → Answer
-ended (ends.Solve system fault) = Unknown (Unsolved system fault)
+ended (ends.Solve system fault) = unsolved system fault
 ended (ends.Cover fault) = uncovered fault
 ended (ends.Rank set barriers) = Unknown (Unranked set barriers)
 ended ends.Memory = Memory

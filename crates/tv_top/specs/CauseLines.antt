@@ -2,8 +2,8 @@
 use Rattle.std.specs.Prelude.{ℕ, ℤ, List, [], ◌∷◌, ◌++◌, length, map, codes, decimal}
 use Rattle.std.specs.Fmt.{signed_decimal}
 use Rattle.tv_program.specs.Words.{Word}
-use Rattle.tv_simplex.specs.declared.fault.SolveFault.{SolveFault}
-use Rattle.tv_simplex.specs.declared.fault.SolveFault.TheVariants as solving
+use Rattle.tv_top.specs.declared.system_fault.SystemFault.{SystemFault}
+use Rattle.tv_top.specs.declared.system_fault.SystemFault.TheVariants as kept
 use Rattle.tv_rank.specs.declared.name.Name.{Name}
 use Rattle.tv_rank.specs.declared.name.Name.TheVariants as systems
 use Rattle.tv_top.specs.declared.cause.Cause.{Cause}
@@ -17,12 +17,11 @@ system_words (systems.Rows rows) = codes "rows " ++ decimal (length rows.items)
 system_words (systems.Later set falling) = codes "later " ++ decimal (length set.items)
 
 -- the line of the cause for which a linear system was not settled
-abbrev pub unsolved_line : SolveFault → List ℕ
-unsolved_line (solving.Width basis row column) = codes "Unknown width" ++ 10 ∷ []
-unsolved_line (solving.Scale basis) = codes "Unknown width" ++ 10 ∷ []
-unsolved_line (solving.Pivots bases) = codes "Unknown pivots" ++ 10 ∷ []
-unsolved_line (solving.Size rows columns) = codes "Unknown size" ++ 10 ∷ []
-unsolved_line solving.Memory = []
+abbrev pub unsolved_line : SystemFault → List ℕ
+unsolved_line (kept.Width basis row column) = codes "Unknown width" ++ 10 ∷ []
+unsolved_line (kept.Scale basis) = codes "Unknown width" ++ 10 ∷ []
+unsolved_line (kept.Pivots bases) = codes "Unknown pivots" ++ 10 ∷ []
+unsolved_line (kept.Size rows columns) = codes "Unknown size" ++ 10 ∷ []
 
 -- the line of a system with one number
 abbrev pub numbered_detail : List ℕ → List ℕ → ℕ → List ℕ
@@ -34,12 +33,11 @@ two_numbers_detail system plural rows columns =
     codes "system " ++ (system ++ (codes " row" ++ (plural ++ (codes " " ++ (decimal rows ++ (codes " column" ++ (plural ++ (codes " " ++ (decimal columns ++ 10 ∷ [])))))))))
 
 -- the line that says which system it is, and where or how it was not settled
-abbrev pub system_line : Name → SolveFault → List ℕ
-system_line system (solving.Width basis row column) = two_numbers_detail (system_words system) [] row column
-system_line system (solving.Scale basis) = codes "system " ++ (system_words system ++ (codes " scale" ++ 10 ∷ []))
-system_line system (solving.Pivots bases) = numbered_detail (system_words system) (codes "bases") bases
-system_line system (solving.Size rows columns) = two_numbers_detail (system_words system) (codes "s") rows columns
-system_line system solving.Memory = []
+abbrev pub system_line : Name → SystemFault → List ℕ
+system_line system (kept.Width basis row column) = two_numbers_detail (system_words system) [] row column
+system_line system (kept.Scale basis) = codes "system " ++ (system_words system ++ (codes " scale" ++ 10 ∷ []))
+system_line system (kept.Pivots bases) = numbered_detail (system_words system) (codes "bases") bases
+system_line system (kept.Size rows columns) = two_numbers_detail (system_words system) (codes "s") rows columns
 
 -- words, each with a space before it, up to the end of a line
 abbrev pub spaced : List (List ℕ) → List ℕ

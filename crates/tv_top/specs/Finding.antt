@@ -26,6 +26,7 @@ use Rattle.tv_farkas.specs.declared.fault.CoverFault.TheVariants as covers
 use Rattle.tv_rank.specs.declared.name.Name.{Name}
 use Rattle.tv_rank.specs.declared.name.Name.TheVariants as systems
 use Rattle.tv_simplex.specs.declared.fault.SolveFault.{SolveFault}
+use Rattle.tv_simplex.specs.declared.fault.SolveFault.TheVariants as solving
 use Rattle.tv_cert.specs.declared.claim.Claim.{Claim}
 use Rattle.tv_cert.specs.declared.node.Verdict.{Verdict}
 use Rattle.tv_cert.specs.declared.node.Verdict.TheVariants as verdicts
@@ -55,6 +56,8 @@ use Rattle.tv_top.specs.Generated.{count_lines}
 use Rattle.tv_top.specs.Tasks.{Limits, Wanted, nothing_more, its_text, its_counts, Task}
 use Rattle.tv_top.specs.declared.assignment.Assignment.{Assignment}
 use Rattle.tv_top.specs.declared.cause.Cause.{Cause}
+use Rattle.tv_top.specs.declared.system_fault.SystemFault.{SystemFault}
+use Rattle.tv_top.specs.declared.system_fault.SystemFault.TheVariants as kept
 use Rattle.tv_top.specs.declared.cause.Cause.TheVariants.{Unsolved, Spent, Composed, Unranked, Weak, TooManyPaths, TooManyPieces, Drawn, Unsettled, WideComparison}
 use Rattle.tv_top.specs.declared.answer.Answer.{Answer}
 use Rattle.tv_top.specs.declared.answer.Answer.TheVariants as answers
@@ -129,9 +132,16 @@ Offers = CaseSystem → List (List Candidate) → Type 0
 abbrev pub offers_of : {A : Type 0} → (A → CaseSystem → Option (List Candidate)) → List A → Offers
 offers_of rest proposers about = Gave (λ p. rest p about) proposers
 
+-- the fault of the solver of which this is the reason
+abbrev pub of_solver : SystemFault → SolveFault
+of_solver (kept.Width basis row column) = solving.Width basis row column
+of_solver (kept.Scale basis) = solving.Scale basis
+of_solver (kept.Pivots bases) = solving.Pivots bases
+of_solver (kept.Size rows columns) = solving.Size rows columns
+
 -- a question of whole points that was not settled, as it is answered
 abbrev pub IsUncovered : (CoverFault → Type 0) → Cause → Type 0
-IsUncovered Is (Unsolved system e) = (rows : _) × (system ≡ systems.Rows rows) × Is (covers.Solve rows e)
+IsUncovered Is (Unsolved system e) = (rows : _) × (system ≡ systems.Rows rows) × Is (covers.Solve rows (of_solver e))
 IsUncovered Is (Spent path) = Is (covers.Splits path)
 IsUncovered Is (Composed column) = Is (covers.Wide column)
 IsUncovered Is cause = ⊥
@@ -150,7 +160,7 @@ pub data IsEndFault (about : CaseSystem) (Given : List (List Candidate) → Type
   found : IsOpenEnd about → RefusesFound about Given budget e → IsEndFault about Given budget e
 
 abbrev pub IsEndCause : CaseSystem → (List (List Candidate) → Type 0) → Budget → Cause → Type 0
-IsEndCause about Given budget (Unsolved system e) = IsEndFault about Given budget (ends.Solve system e) ⊎ IsUncovered (λ f. IsEndFault about Given budget (ends.Cover f)) (Unsolved system e)
+IsEndCause about Given budget (Unsolved system e) = IsEndFault about Given budget (ends.Solve system (of_solver e)) ⊎ IsUncovered (λ f. IsEndFault about Given budget (ends.Cover f)) (Unsolved system e)
 IsEndCause about Given budget (Unranked set barriers) = IsEndFault about Given budget (ends.Rank set barriers)
 IsEndCause about Given budget cause = IsUncovered (λ f. IsEndFault about Given budget (ends.Cover f)) cause
 
@@ -250,7 +260,7 @@ AreTooMany about f budget l count =
     IsUnprovedOf about f budget (Refused (faults.Region (regions.Disjuncts l count))) × IsWithinSize about f budget count
 
 abbrev pub IsFormulaCause : System → CaseSystem → Property → Budget → Cause → Type 0
-IsFormulaCause p about f budget (Unsolved system e) = IsUnsolved about f budget system e
+IsFormulaCause p about f budget (Unsolved system e) = IsUnsolved about f budget system (of_solver e)
 IsFormulaCause p about f budget (Spent path) = IsUnprovedOf about f budget (Refused (faults.Cover (covers.Splits path)))
 IsFormulaCause p about f budget (Composed column) = IsEither about f budget (regions.Wide column) (covers.Wide column)
 IsFormulaCause p about f budget (TooManyPieces label count) = (l : ℕ) × IsLabelAt p l label.items × AreTooMany about f budget l count

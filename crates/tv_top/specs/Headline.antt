@@ -4,9 +4,6 @@ use Rattle.std.specs.Io.KnownBytes.{IsAtEnd}
 use Rattle.tv_text.specs.Stream.{Seen, Gave, GaveSome, Took}
 use Rattle.tv_text.specs.Headings.{IsSplit}
 use Rattle.tv_program.specs.Systems.{System}
-use Rattle.tv_language.specs.Programs.{IsProgramText}
-use Rattle.tv_reader.specs.declared.fault.ReadFault.{ReadFault as TextFault}
-use Rattle.tv_reader.specs.FirstFaults.{IsFirstFault}
 use Rattle.tv_formula.specs.Properties.{Property as Formula}
 use Rattle.tv_formula_reader.specs.declared.fault.FormulaFault.{FormulaFault}
 use Rattle.tv_cases.specs.LinearCases.{CaseSystem}
@@ -18,6 +15,8 @@ use Rattle.tv_top.specs.declared.status.Status.{Status}
 use Rattle.tv_top.specs.declared.status.Status.TheVariants as statuses
 use Rattle.tv_top.specs.Answers.{lines_of, status_of}
 use Rattle.tv_top.specs.CertificateChecks.{AnswersCheck}
+use Rattle.tv_interleave.specs.declared.texts.TextFault.{TextFault}
+use Rattle.tv_interleave.specs.Texts.{IsProgramOf, IsFirstFault}
 use Rattle.tv_top.specs.Properties.{IsNamed, IsUnnamed}
 use Rattle.tv_top.specs.Generated.{generated_text}
 use Rattle.tv_top.specs.Tasks.{Task, made_loops, task_of}
@@ -32,13 +31,13 @@ abbrev pub AreTexts : Bool → List ℕ → List ℕ → List ℕ → Type 0
 AreTexts true bytes program_text certificate_text = IsSplit bytes program_text certificate_text
 AreTexts false bytes program_text certificate_text = (program_text ≡ bytes) × (certificate_text ≡ [])
 
--- the bytes are the texts of a program and of a certificate
+-- the bytes are the texts of a program, or of processes whose product it is, and of a certificate
 pub record Given (task : Task) (bytes : List ℕ) : Type 0 where
   pub program_text : List ℕ
   pub certificate_text : List ℕ
   pub texts : AreTexts task.checks bytes program_text certificate_text
   pub program : System
-  pub is_program : IsProgramText program_text program
+  pub is_program : IsProgramOf program_text program
 
 -- the words name a property of the program
 pub record Asked (task : Task) (bytes : List ℕ) : Type 0 where

@@ -31,7 +31,7 @@ use Rattle.tv_pre.specs.declared.deciding.Unproved.TheVariants as unproved
 use Rattle.tv_top.specs.declared.answer.Answer.TheVariants as answers
 use Rattle.tv_top.specs.declared.cause.Cause.{Cause}
 use Rattle.tv_top.specs.declared.cause.Cause.TheVariants as causes
-use Rattle.tv_top.specs.Answers.{uncovered, too_wide, unknown}
+use Rattle.tv_top.specs.Answers.{unsolved, uncovered, too_wide, unknown}
 use Rattle.tv_top.specs.Finding.{Offers, Finds, Settles, budget_of, AreTooManyPieces, IsDrawnAt, IsUnprovedOf}
 use Rattle.tv_top.specs.Views.{wanted_view, task_view}
 
@@ -66,14 +66,14 @@ pub record AnswersPieces (p : System) (l count : ℕ) (answer : Answer) : Type 0
 abbrev pub AnswersRegion : System → RegionFault → Answer → Type 0
 AnswersRegion p (regions.Disjuncts l count) answer = AnswersPieces p l count answer
 AnswersRegion p (regions.Wide column) answer = answer ≡ answers.Unknown (causes.Composed column)
-AnswersRegion p (regions.Solve rows e) answer = answer ≡ answers.Unknown (causes.Unsolved (systems.Rows rows) e)
+AnswersRegion p (regions.Solve rows e) answer = answer ≡ unsolved (systems.Rows rows) e
 AnswersRegion p regions.Memory answer = answer ≡ answers.Memory
 
 -- or a question of regions, or a system of the search for ranks
 abbrev pub AnswersRefusal : System → PreFault → Answer → Type 0
 AnswersRefusal p (faults.Region fault) answer = AnswersRegion p fault answer
 AnswersRefusal p (faults.Cover fault) answer = answer ≡ uncovered fault
-AnswersRefusal p (faults.Rank system e) answer = answer ≡ answers.Unknown (causes.Unsolved system e)
+AnswersRefusal p (faults.Rank system e) answer = answer ≡ unsolved system e
 AnswersRefusal p faults.Memory answer = answer ≡ answers.Memory
 
 -- where a region may lack states, since going back is not exact: the answer names a case with a draw

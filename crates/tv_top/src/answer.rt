@@ -1,5 +1,5 @@
 ghost use Rattle.std.specs.Prelude.{◌≡◌, ◌++◌, ◌∷◌, [], IfOk, decimal, string_bytes};
-ghost use Rattle.tv_top.specs.Answers.{kind_word, obligation_line, what_word, placed_line, too_many_line, text_line, column_line, property_line, plain_line, lines_of, status_of};
+ghost use Rattle.tv_top.specs.Answers.{kind_word, obligation_line, what_word, placed_line, too_many_line, program_line, counted_line, processes_line, text_line, column_line, property_line, plain_line, lines_of, status_of};
 
 use crate::assignment::Assignment;
 use crate::cause::Cause;
@@ -8,6 +8,7 @@ use itoa::Buffer;
 use std::alloc::{AllocError, Global};
 use tv_cert::{Failing, Kind};
 use tv_formula_reader::FormulaFault;
+use tv_interleave::{InterFault, TextFault};
 use tv_reader::{ReadFault, What};
 
 /// What is written, and how the run ends.
@@ -26,7 +27,7 @@ pub enum Answer {
     Words,
     TooLong,
     /// The program's text is refused.
-    Text(ReadFault),
+    Text(TextFault),
     /// The words name no property of the program.
     Property(FormulaFault),
     /// A number of the linear form of an edge is too wide.
@@ -108,8 +109,9 @@ fn too_many(alloc: Global, what: What, line: u32, column: u32) -> Result<String,
     format!(in alloc; "Refused text too many {word} line {line} column {column}\n")
 }
 
-fn text_refusal(alloc: Global, fault: ReadFault) -> Result<String, AllocError>
-    ensures { IfOk result (λ line. string_bytes line ≡ text_line fault) }
+/// A refusal of the text of a program.
+fn program_refusal(alloc: Global, fault: ReadFault) -> Result<String, AllocError>
+    ensures { IfOk result (λ line. string_bytes line ≡ program_line fault) }
 {
     match fault {
         ReadFault::Syntax { line, column } => placed(alloc, "syntax", line, column),
@@ -120,6 +122,42 @@ fn text_refusal(alloc: Global, fault: ReadFault) -> Result<String, AllocError>
         ReadFault::TooMany { what, line, column } => too_many(alloc, what, line, column),
         ReadFault::Deep { line, column } => placed(alloc, "deep", line, column),
         ReadFault::Memory => Ok(String::new(alloc)),
+    }
+}
+
+/// A refusal of the text with a number at its end.
+fn counted(alloc: Global, what: &str, count: u128) -> Result<String, AllocError>
+    ensures { IfOk result (λ text. string_bytes text ≡ counted_line what.now count) }
+{
+    let mut digits = Buffer::new();
+    let count = digits.format(count);
+    format!(in alloc; "Refused text {what} {count}\n")
+}
+
+/// A refusal of the text of several processes.
+fn processes_refusal(alloc: Global, fault: InterFault) -> Result<String, AllocError>
+    ensures { IfOk result (λ line. string_bytes line ≡ processes_line fault) }
+{
+    match fault {
+        InterFault::Syntax { line, column } => placed(alloc, "syntax", line, column),
+        InterFault::Processes { count } => counted(alloc, "processes", u128::from(count)),
+        InterFault::Part { part: _, fault } => program_refusal(alloc, fault),
+        InterFault::Label { line, column } => placed(alloc, "label", line, column),
+        InterFault::Variables { count } => counted(alloc, "variables", u128::from(count)),
+        InterFault::Locations { count } => counted(alloc, "product locations", count),
+        InterFault::Edges { count } => counted(alloc, "product edges", count),
+        InterFault::Memory => Ok(String::new(alloc)),
+    }
+}
+
+/// A refusal of the program's text.
+fn text_refusal(alloc: Global, fault: TextFault) -> Result<String, AllocError>
+    ensures { IfOk result (λ line. string_bytes line ≡ text_line fault) }
+{
+    match fault {
+        TextFault::Program(fault) => program_refusal(alloc, fault),
+        TextFault::Processes(fault) => processes_refusal(alloc, fault),
+        TextFault::Memory => Ok(String::new(alloc)),
     }
 }
 

@@ -1,6 +1,6 @@
+use crate::system_fault::SystemFault;
 use tv_farkas::Branch;
 use tv_rank::Name;
-use tv_simplex::SolveFault;
 
 /// Why it is not known whether the property holds.
 #[derive(Drop)]
@@ -8,7 +8,7 @@ pub enum Cause {
     /// A linear system of the search was not settled.
     Unsolved {
         system: Name,
-        fault: SolveFault,
+        fault: SystemFault,
     },
     /// Whether rows have a whole point was not settled by so many splits.
     Spent {

@@ -5,10 +5,10 @@ ghost use Rattle.std.specs.Fmt.{signed_decimal};
 ghost use Rattle.tv_top.specs.CauseLines.{system_words, unsolved_line, numbered_detail, two_numbers_detail, system_line, spaced, point_line, count_line, cause_line, detail_line};
 
 use crate::cause::Cause;
+use crate::system_fault::SystemFault;
 use itoa::Buffer;
 use std::alloc::{AllocError, Global};
 use tv_rank::Name;
-use tv_simplex::SolveFault;
 
 /// The words that name a system.
 fn system_words(alloc: Global, system: &Name) -> Result<String, AllocError>
@@ -75,33 +75,31 @@ fn two_numbers_detail(
 }
 
 /// The line of the cause for which a system was not settled.
-fn unsolved_line(alloc: Global, fault: &SolveFault) -> Result<String, AllocError>
+fn unsolved_line(alloc: Global, fault: &SystemFault) -> Result<String, AllocError>
     ensures { IfOk result (λ text. string_bytes text ≡ unsolved_line fault.now) }
 {
     match fault {
-        SolveFault::Width { .. } => format!(in alloc; "Unknown width\n"),
-        SolveFault::Scale { .. } => format!(in alloc; "Unknown width\n"),
-        SolveFault::Pivots { .. } => format!(in alloc; "Unknown pivots\n"),
-        SolveFault::Size { .. } => format!(in alloc; "Unknown size\n"),
-        SolveFault::Memory => Ok(String::new(alloc)),
+        SystemFault::Width { .. } => format!(in alloc; "Unknown width\n"),
+        SystemFault::Scale { .. } => format!(in alloc; "Unknown width\n"),
+        SystemFault::Pivots { .. } => format!(in alloc; "Unknown pivots\n"),
+        SystemFault::Size { .. } => format!(in alloc; "Unknown size\n"),
     }
 }
 
 /// The line that says which system it is, and where or how it was not settled.
-fn system_line(alloc: Global, system: &Name, fault: &SolveFault) -> Result<String, AllocError>
+fn system_line(alloc: Global, system: &Name, fault: &SystemFault) -> Result<String, AllocError>
     ensures { IfOk result (λ text. string_bytes text ≡ system_line system.now fault.now) }
 {
     let words = system_words(alloc, system)?;
     match fault {
-        SolveFault::Width { row, column, .. } => {
+        SystemFault::Width { row, column, .. } => {
             two_numbers_detail(alloc, &words, "", u64::from(*row), u64::from(*column))
         }
-        SolveFault::Scale { .. } => format!(in alloc; "system {words} scale\n"),
-        SolveFault::Pivots { bases } => numbered_detail(alloc, &words, "bases", *bases),
-        SolveFault::Size { rows, columns } => {
+        SystemFault::Scale { .. } => format!(in alloc; "system {words} scale\n"),
+        SystemFault::Pivots { bases } => numbered_detail(alloc, &words, "bases", *bases),
+        SystemFault::Size { rows, columns } => {
             two_numbers_detail(alloc, &words, "s", *rows, *columns)
         }
-        SolveFault::Memory => Ok(String::new(alloc)),
     }
 }
 

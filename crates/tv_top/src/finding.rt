@@ -21,12 +21,13 @@ use crate::answer::Answer;
 use crate::assignment::Assignment;
 use crate::cause::Cause;
 use crate::excluded::excluded;
-use crate::further::{looked_at, or_further};
+use crate::further::{looked_at, or_further, or_looked};
 use crate::limits::Limits;
 use crate::making::count_lines;
 use crate::paths::over_paths;
 use crate::safety::safe;
 use crate::search::Search;
+use crate::system_fault::unsolved;
 use crate::task::Task;
 use crate::wanted::Wanted;
 use std::alloc::{AllocError, Global};
@@ -50,10 +51,7 @@ pub(crate) fn uncovered(fault: CoverFault) -> Answer
 {
     match fault {
         CoverFault::Splits { path } => Answer::Unknown(Cause::Spent { path }),
-        CoverFault::Solve { rows, fault } => Answer::Unknown(Cause::Unsolved {
-            system: Name::Rows(rows),
-            fault,
-        }),
+        CoverFault::Solve { rows, fault } => unsolved(Name::Rows(rows), fault),
         CoverFault::Wide { column } => Answer::Unknown(Cause::Composed { column }),
         CoverFault::Memory => Answer::Memory,
     }
@@ -64,7 +62,7 @@ fn ended(fault: EndFault) -> Answer
     ensures { result ≡ ended fault }
 {
     match fault {
-        EndFault::Solve { system, fault } => Answer::Unknown(Cause::Unsolved { system, fault }),
+        EndFault::Solve { system, fault } => unsolved(system, fault),
         EndFault::Cover { fault } => uncovered(fault),
         EndFault::Rank { set, barriers } => Answer::Unknown(Cause::Unranked { set, barriers }),
         EndFault::Memory => Answer::Memory,
@@ -250,7 +248,29 @@ fn ends_later(
     }
 }
 
-/// The answer to whether every run ends, which is claimed.
+/// The answer to whether every run ends, where ranks alone do not show it: of a program with many cases, single states may tell.
+fn ends_unranked(
+    alloc: Global,
+    search: &Search,
+    proposers: &mut Vec<Box<dyn Proposer>>,
+    budget: &Budget,
+) -> Answer
+    requires one { IsOfOne search.now }
+    requires ends { property_of search.now.claim.now.proved ≡ term }
+    requires stuck { IsStuckAlone (cases_of search.now.about.now) }
+    requires budget { budget.now ≡ budget_of (task_view search.now.task.now).limits }
+    requires splits { budget.now.splits ≤ 128 }
+    ensures { (f : Property) → IsClaim search.now.claim.now f →
+        Answers (offers_of (λ p. rest p) proposers.old.items) search.now f result }
+{
+    match looked_at(alloc, search) {
+        Ok(Some(certificate)) => told(alloc, search, certificate),
+        Ok(None) => ends_later(alloc, search, proposers, budget),
+        Err(_) => Answer::Memory,
+    }
+}
+
+/// The answer to whether every run ends, which is claimed. Ranks come first, since they are found soon where there are any.
 fn ends(alloc: Global, search: &Search, proposers: &mut Vec<Box<dyn Proposer>>) -> Answer
     requires one { IsOfOne search.now }
     requires ends { property_of search.now.claim.now.proved ≡ term }
@@ -260,20 +280,18 @@ fn ends(alloc: Global, search: &Search, proposers: &mut Vec<Box<dyn Proposer>>) 
     let budget = budget_of(&search.task.limits);
     match first_end(alloc, search.about, search.claim, &budget) {
         Ok(Some(certificate)) => told(alloc, search, certificate),
-        Ok(None) => ends_later(alloc, search, proposers, &budget),
-        Err(fault) => ended(fault),
+        Ok(None) => ends_unranked(alloc, search, proposers, &budget),
+        Err(fault) => or_looked(alloc, search, ended(fault)),
     }
 }
 
-/// The answer to what is claimed, by the search for its kind of property.
-fn settle_once(alloc: Global, search: &Search, proposers: &mut Vec<Box<dyn Proposer>>) -> Answer
-    requires { IsOfOne search.now }
+/// The answer to what is claimed, which is not that every run ends.
+fn settle_other(alloc: Global, search: &Search, proposers: &mut Vec<Box<dyn Proposer>>) -> Answer
+    requires one { IsOfOne search.now }
+    requires other { property_of search.now.claim.now.proved ≡ term → ⊥ }
     ensures { (f : Property) → IsClaim search.now.claim.now f → HasParts f →
         Answers (offers_of (λ p. rest p) proposers.old.items) search.now f result }
 {
-    if is_termination(search.claim.proved()) {
-        return ends(alloc, search, proposers);
-    }
     match excluded(search.claim.proved()) {
         Some(location) => {
             if location < search.about.locations() {
@@ -286,17 +304,29 @@ fn settle_once(alloc: Global, search: &Search, proposers: &mut Vec<Box<dyn Propo
     }
 }
 
+/// The answer to what is claimed, by the search for its kind of property. A program with many cases is looked at by single states before rows
+/// and regions are sought.
+fn settle_once(alloc: Global, search: &Search, proposers: &mut Vec<Box<dyn Proposer>>) -> Answer
+    requires { IsOfOne search.now }
+    ensures { (f : Property) → IsClaim search.now.claim.now f → HasParts f →
+        Answers (offers_of (λ p. rest p) proposers.old.items) search.now f result }
+{
+    if is_termination(search.claim.proved()) {
+        return ends(alloc, search, proposers);
+    }
+    match looked_at(alloc, search) {
+        Ok(Some(certificate)) => told(alloc, search, certificate),
+        Ok(None) => settle_other(alloc, search, proposers),
+        Err(_) => Answer::Memory,
+    }
+}
+
 /// The answer to what is claimed.
 fn settle(alloc: Global, search: &Search, proposers: &mut Vec<Box<dyn Proposer>>) -> Answer
     requires { IsOfOne search.now }
     ensures { (f : Property) → IsClaim search.now.claim.now f → HasParts f →
         Answers (offers_of (λ p. rest p) proposers.old.items) search.now f result }
 {
-    match looked_at(alloc, search) {
-        Ok(Some(certificate)) => return told(alloc, search, certificate),
-        Ok(None) => {}
-        Err(_) => return Answer::Memory,
-    }
     let answer = settle_once(alloc, search, proposers);
     or_further(alloc, search, proposers, answer)
 }

@@ -23,7 +23,7 @@ use tv_rank::Name;
 use tv_shape::Certificate;
 use tv_walks::Budget;
 
-/// A program of more cases than that is looked at by single states before ranks, rows and regions are sought, which may take long there.
+/// A program of more cases than that is looked at by single states before rows and regions are sought, which may take long there.
 const MANY_CASES: usize = 24;
 
 /// Whether the program is looked at by single states first.
@@ -45,6 +45,18 @@ pub(crate) fn looked_at(alloc: Global, search: &Search) -> Result<Option<Certifi
     match look(alloc, search.about, search.claim, &Budget::usual())? {
         None => Ok(None),
         Some(found) => Ok(Some(found.certificate)),
+    }
+}
+
+/// The answer that single states give, where the program is looked at by them and they give one, and else the answer that was there.
+pub(crate) fn or_looked(alloc: Global, search: &Search, answer: Answer) -> Answer
+    requires one { IsOfOne search.now }
+    ensures { (f : Property) → IsClaim search.now.claim.now f → IsSameOrSettles search.now f answer result }
+{
+    match looked_at(alloc, search) {
+        Ok(Some(certificate)) => told(alloc, search, certificate),
+        Ok(None) => answer,
+        Err(_) => Answer::Memory,
     }
 }
 

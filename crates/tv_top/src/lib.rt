@@ -21,6 +21,7 @@ mod running;
 mod safety;
 mod search;
 mod status;
+mod system_fault;
 mod task;
 mod wanted;
 

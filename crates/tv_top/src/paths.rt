@@ -17,6 +17,7 @@ use crate::cause::Cause;
 use crate::finding::{budget_of, told, uncovered};
 use crate::safety::unknown;
 use crate::search::Search;
+use crate::system_fault::unsolved;
 use std::alloc::{AllocError, Global};
 use tv_cases::Cases;
 use tv_pre::{Gap, PreFault, Setting, Unproved, prove};
@@ -58,10 +59,7 @@ fn unregioned(alloc: Global, program: &Program, fault: RegionFault) -> Answer
             unknown(too_many_pieces(alloc, program, location, count))
         }
         RegionFault::Wide { column } => Answer::Unknown(Cause::Composed { column }),
-        RegionFault::Solve { rows, fault } => Answer::Unknown(Cause::Unsolved {
-            system: Name::Rows(rows),
-            fault,
-        }),
+        RegionFault::Solve { rows, fault } => unsolved(Name::Rows(rows), fault),
         RegionFault::Memory => Answer::Memory,
     }
 }
@@ -73,7 +71,7 @@ fn refused(alloc: Global, program: &Program, fault: PreFault) -> Answer
     match fault {
         PreFault::Region { fault } => unregioned(alloc, program, fault),
         PreFault::Cover { fault } => uncovered(fault),
-        PreFault::Rank { system, fault } => Answer::Unknown(Cause::Unsolved { system, fault }),
+        PreFault::Rank { system, fault } => unsolved(system, fault),
         PreFault::Memory => Answer::Memory,
     }
 }

@@ -18,8 +18,8 @@ use crate::wanted::{Loops, Wanted};
 use std::alloc::Global;
 use tv_cases::{CaseFault, cases};
 use tv_formula_reader::FormulaFault;
+use tv_interleave::{TextFault, read_text};
 use tv_propose::Proposer;
-use tv_reader::{ReadFault, read_program};
 use tv_text::{ReadError, Sink, Source, read_all, split_texts, write_all};
 
 /// How many bytes are read at most, of a program and a certificate.
@@ -73,9 +73,9 @@ fn decide(
     ensures { Means (offers_of (λ p. rest p) proposers.old.items) (task_view task.now) bytes.now result }
 {
     let (text, certificate) = texts_in(bytes, task.checks);
-    let program = match read_program(alloc, text) {
+    let program = match read_text(alloc, text) {
         Ok(program) => program,
-        Err(ReadFault::Memory) => return Answer::Memory,
+        Err(TextFault::Memory) => return Answer::Memory,
         Err(fault) => return Answer::Text(fault),
     };
     let property = match property(alloc, task.question, &program) {

@@ -6,7 +6,7 @@ use Rattle.tv_lexrank.proofs.attempt.rank_components.Goals as goal
 use Rattle.tv_cases.proofs.AmountLemmas.{one_more}
 
 pub returns-in-Err-clause-refusals : goal.returns-in-Err-clause-refusals
-returns-in-Err-clause-refusals c = part_refused (cases_of c.args.about.now) c.args.known.now.pieces.items c.args.numbers.now c.components.number c.args.pivots c.in-Err.fault c.in-Err.ensures.refusals
+returns-in-Err-clause-refusals c = part_refused (cases_of c.args.about.now) c.args.known.now.pieces.items c.args.numbers.now c.components.number c.args.pivots c.in-Err.fault (c.components.parts.items, c.components.invariant.as_many, c.components.invariant.parts) c.in-Err.ensures.refusals
 
 pub components-preserved : goal.components-preserved
 components-preserved c =

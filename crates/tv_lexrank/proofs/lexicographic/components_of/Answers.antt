@@ -21,3 +21,4 @@ returns-clause-components c =
     (subst (λ a. (u v : ℕ) → u < about.locations → v < about.locations → (slice_index numbers u ≡ slice_index numbers v) ↔ AreStronglyConnected a u v) arcs
     (subst (λ l. (u v : ℕ) → u < l → v < l → (slice_index numbers u ≡ slice_index numbers v) ↔ AreStronglyConnected c.deref.result.now u v) c.locations.ensures.same c.in_ok-numbers.ensures.same_number))
     (subst (All (λ arc. slice_index numbers arc.to ≤ slice_index numbers arc.from)) arcs c.in_ok-numbers.ensures.never_greater)
+    c.in_ok-numbers.ensures.no_gap

@@ -2,10 +2,10 @@ use Rattle.std.proofs.Common.{rules, ◌≡◌, length, ap, sym, subst, arith}
 use Rattle.tv_rank.specs.Sets.{PointsOf}
 use Rattle.tv_cases.specs.Systems.{cases_of}
 use Rattle.tv_rank.specs.Given.{lists}
-use Rattle.tv_lexrank.specs.Greedy.{IsGreedy, IsEmptied}
+use Rattle.tv_lexrank.specs.Greedy.{IsGreedy}
 use Rattle.tv_lexrank.specs.Rounds.{Chain}
 use Rattle.tv_lexrank.proofs.Chained.{emptied_chain}
-use Rattle.tv_lexrank.proofs.NotStuck.{never_left}
+use Rattle.tv_lexrank.proofs.NotStuck.{stuck_unranked}
 use Rattle.tv_lexrank.proofs.SortLemmas.{few_below}
 use Rattle.tv_lexrank.proofs.PartLemmas.{are_inside, stuck_left}
 use Rattle.tv_lexrank.proofs.part.part_of.Goals as goal
@@ -37,13 +37,14 @@ returns-in-Ok-Emptied-clause-parted c =
     }
 
 pub returns-in-Ok-Left-clause-never_stuck : goal.returns-in-Ok-Left-clause-never_stuck
-returns-in-Ok-Left-clause-never_stuck c = λ grouped ranking.
+returns-in-Ok-Left-clause-never_stuck c =
     let about = cases_of c.args.component.now.about.now in
     let known = c.args.component.now.known.now.pieces.items in
     let e : c.in-Ok-from_slice.set.items ≡ c.in-Ok.sorted.set.items = search rules in
-    let g = subst (λ z. IsGreedy about known z c.in-Ok-Left.field-0) e c.in-Ok-Left.ensures.greedy in
-    subst IsEmptied c.in-Ok-Left.field-0-is (never_left about known c.in-Ok.sorted.set.items c.in-Ok-Left.field-0
-    (are_inside about known c.args.component.now.numbers.now c.args.component.now.number c.in-Ok.sorted.set.items c.in-Ok.sorted.empty.items (lists c.in-Ok.sorted.refutations.items) c.args.component.now.about.now.are_cases grouped c.in-Ok.ensures.sorted) ranking g)
+    let g = subst (λ z. IsGreedy about known c.in-Ok.sorted.set.items z) c.in-Ok-Left.field-0-is (subst (λ z. IsGreedy about known z c.in-Ok-Left.field-0) e c.in-Ok-Left.ensures.greedy) in
+    stuck_unranked about known c.in-Ok-Left.left.items (lists c.in-Ok-Left.barriers.items)
+    (stuck_left about known c.in-Ok.sorted.set.items c.in-Ok-Left.left c.in-Ok-Left.barriers c.in-Ok.ensures.sorted.ascends
+    (are_inside about known c.args.component.now.numbers.now c.args.component.now.number c.in-Ok.sorted.set.items c.in-Ok.sorted.empty.items (lists c.in-Ok.sorted.refutations.items) c.args.component.now.about.now.are_cases c.requires.grouped c.in-Ok.ensures.sorted) g)
 
 pub returns-in-Ok-Left-clause-parted : goal.returns-in-Ok-Left-clause-parted
 returns-in-Ok-Left-clause-parted c =
@@ -51,4 +52,5 @@ returns-in-Ok-Left-clause-parted c =
     let known = c.args.component.now.known.now.pieces.items in
     let e : c.in-Ok-from_slice.set.items ≡ c.in-Ok.sorted.set.items = search rules in
     let g = subst (λ z. IsGreedy about known c.in-Ok.sorted.set.items z) c.in-Ok-Left.field-0-is (subst (λ z. IsGreedy about known z c.in-Ok-Left.field-0) e c.in-Ok-Left.ensures.greedy) in
-    stuck_left about known c.in-Ok.sorted.set.items c.in-Ok-Left.left c.in-Ok-Left.barriers c.in-Ok.ensures.sorted.ascends g
+    stuck_left about known c.in-Ok.sorted.set.items c.in-Ok-Left.left c.in-Ok-Left.barriers c.in-Ok.ensures.sorted.ascends
+    (are_inside about known c.args.component.now.numbers.now c.args.component.now.number c.in-Ok.sorted.set.items c.in-Ok.sorted.empty.items (lists c.in-Ok.sorted.refutations.items) c.args.component.now.about.now.are_cases c.requires.grouped c.in-Ok.ensures.sorted) g

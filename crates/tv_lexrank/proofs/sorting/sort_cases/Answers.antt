@@ -7,6 +7,7 @@ use Rattle.tv_rank.specs.Given.{lists}
 use Rattle.tv_lexrank.specs.Inside.{inside_keys}
 use Rattle.tv_lexrank.specs.Sorting.{AreSorted}
 use Rattle.tv_lexrank.proofs.GapLemmas.{inside_at, sorted_next, sorted_all, behind_next}
+use Rattle.tv_lexrank.proofs.SettleLemmas.{case_refused}
 use Rattle.tv_lexrank.proofs.sorting.sort_cases.Goals as goal
 
 pub sort_inside-requires-clause-number : goal.sort_inside-requires-clause-number
@@ -33,6 +34,17 @@ places-preserved c =
     let n = c.sort_inside.new.sorted in
     let until = sorted_next about q.numbers.now q.number q.count q.known.now.pieces.items c.places.place c.in-Some.number s.set.items s.empty.items (lists s.refutations.items) h at c.places.invariant in
     subst (λ z. AreSorted about q.known.now.pieces.items q.numbers.now q.number z n.set.items n.empty.items (lists n.refutations.items)) (behind_next about q.numbers.now q.number q.count c.places.place c.in-Some.number at) (c.in-Ok.ensures.sorted until)
+
+pub returns-in-Err-clause-refusals : goal.returns-in-Err-clause-refusals
+returns-in-Err-clause-refusals c =
+    let q = c.args.component.now in
+    let about = cases_of q.about.now in
+    let known = q.known.now.pieces.items in
+    let h = sym (c.place_at.ensures (inside_keys about q.numbers.now q.count) q.indexed) ∙ c.in-Some.is in
+    let at = inside_at about q.numbers.now q.number q.count c.places.place c.in-Some.number q.below h in
+    let s = c.places.sorted in
+    let until = sorted_next about q.numbers.now q.number q.count known c.places.place c.in-Some.number s.set.items s.empty.items (lists s.refutations.items) h at c.places.invariant in
+    case_refused about known q.numbers.now q.number q.pivots c.in-Some.number c.in-Err.fault at.within at.inside (s.set.items, s.empty.items, lists s.refutations.items, until) c.in-Err.ensures.refusals
 
 none_not_some : (o : Option ℕ) (x : ℕ) → o ≡ None → o ≡ Some x → ⊥
 none_not_some o x e f = absurd cc

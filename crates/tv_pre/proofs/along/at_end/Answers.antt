@@ -1,4 +1,4 @@
-use Rattle.std.proofs.Common.{◌⊎◌, inl, inr, ◌+◌, ◌∷◌, [], ◌++◌, sym, ap, subst, arith}
+use Rattle.std.proofs.Common.{◌⊎◌, inl, inr, ◌+◌, ◌∷◌, [], ◌++◌, sym, ap, subst, arith, length, ◌≤◌}
 use Rattle.tv_cases.specs.Systems.{cases_of}
 use Rattle.tv_pre.specs.Questions.{Question}
 use Rattle.tv_pre.specs.Along.{arguments}
@@ -62,7 +62,8 @@ returns-in_ok-until-clause-along c =
     let about = cases_of c.args.setting.now.about.now in
     let sides = c.args.sides.now in
     let end = c.args.end in
-    is_along about 0 sides c.args.children.items c.in_ok-until.field-0 (end ∷ c.new.result.items) (end ∷ arguments sides) c.in_ok-until.ensures.region
+    let few : length (end ∷ c.new.result.items) ≤ 0 + 2 = subst (λ ls. length (end ∷ ls) ≤ 0 + 2) (sym c.new.ensures.items) (omega arith) in
+    is_along about 0 1 sides c.args.children.items c.in_ok-until.field-0 (end ∷ c.new.result.items) (end ∷ arguments sides) (omega arith) few c.in_ok-until.ensures.region
     (λ f g w. c.in_ok-until.ensures.part f g w)
     (λ s h m. subst (λ ls. AreBuilt about s (0 + h) (end ∷ ls)) (sym c.new.ensures.items) (all_built_to about s h (0 + h) (end ∷ []) (omega arith) (first_alone about s h end (arguments sides) m)))
 
@@ -72,7 +73,7 @@ returns-in_ok-weak-clause-along c =
     let sides = c.args.sides.now in
     let end = c.args.end in
     let none = c.nowhere.result in
-    is_along about 0 sides c.args.children.items c.in_ok-weak.field-0 (end ∷ none ∷ []) (end ∷ arguments sides) c.in_ok-weak.ensures.region
+    is_along about 0 1 sides c.args.children.items c.in_ok-weak.field-0 (end ∷ none ∷ []) (end ∷ arguments sides) (omega arith) (omega arith) c.in_ok-weak.ensures.region
     (λ f g w. c.in_ok-weak.ensures.part f g w)
     (λ s h m. all_built_to about s h (0 + h) (end ∷ none ∷ []) (omega arith) (more_built about s h end (none ∷ []) (first_built about s h end (arguments sides) m) (one_built about s h none (of_nowhere h none c.nowhere.ensures))))
 

@@ -30,7 +30,7 @@ returns-in-Everywhere-clause-along c =
     let children = c.args.children.items in
     let end = c.args.end in
     let told = subst (IsRankedAlong about sides children end) c.in-Everywhere.is c.in_ok-part.ensures.along in
-    along_less about 1 (last + 2) end (arguments sides) sides children c.in-Everywhere.part (omega arith) c.requires.built told.0
+    along_less about 2 (last + 2) end (arguments sides) sides children c.in-Everywhere.part (omega arith) c.requires.built told.0
 
 pub returns-in-Everywhere-clause-full : goal.returns-in-Everywhere-clause-full
 returns-in-Everywhere-clause-full c none f g x y =

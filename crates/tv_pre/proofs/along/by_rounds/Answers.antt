@@ -20,7 +20,7 @@ returns-in_err-part-clause-refused c =
 pub returns-then-not-is_tame-clause-along : goal.returns-then-not-is_tame-clause-along
 returns-then-not-is_tame-clause-along c =
     let about = system_of c.args.search.now in
-    along_less about 0 (c.args.search.now.last + 2) c.args.end (arguments c.args.sides.now) c.args.sides.now c.args.children.items c.in_ok-part.part (omega arith) c.requires.built c.in_ok-part.ensures.along
+    along_less about 1 (c.args.search.now.last + 2) c.args.end (arguments c.args.sides.now) c.args.sides.now c.args.children.items c.in_ok-part.part (omega arith) c.requires.built c.in_ok-part.ensures.along
 
 pub returns-then-not-is_tame-clause-gap : goal.returns-then-not-is_tame-clause-gap
 returns-then-not-is_tame-clause-gap c s h m tame =
@@ -50,7 +50,7 @@ pub returns-in_ok-growing-clause-along : goal.returns-in_ok-growing-clause-along
 returns-in_ok-growing-clause-along c =
     let about = system_of c.args.search.now in
     let last = c.args.search.now.last in
-    along_less about (last + 1) (last + 2) c.args.end (arguments c.args.sides.now) c.args.sides.now c.args.children.items c.in_ok-growing.field-0.part (omega arith) c.requires.built c.in_ok-growing.ensures.along
+    along_less about (last + 2) (last + 2) c.args.end (arguments c.args.sides.now) c.args.sides.now c.args.children.items c.in_ok-growing.field-0.part (omega arith) c.requires.built c.in_ok-growing.ensures.along
 
 pub returns-in_err-shrinking-clause-refused : goal.returns-in_err-shrinking-clause-refused
 returns-in_err-shrinking-clause-refused c =
@@ -65,7 +65,7 @@ pub returns-in_ok-shrinking-clause-along : goal.returns-in_ok-shrinking-clause-a
 returns-in_ok-shrinking-clause-along c =
     let about = system_of c.args.search.now in
     let last = c.args.search.now.last in
-    along_less about (last + 1) (last + 2) c.args.end (arguments c.args.sides.now) c.args.sides.now c.args.children.items c.in_ok-shrinking.field-0.part (omega arith) c.requires.built c.in_ok-shrinking.ensures.along
+    along_less about (last + 2) (last + 2) c.args.end (arguments c.args.sides.now) c.args.sides.now c.args.children.items c.in_ok-shrinking.field-0.part (omega arith) c.requires.built c.in_ok-shrinking.ensures.along
 
 pub returns-then-not-is_tame-clause-known : goal.returns-then-not-is_tame-clause-known
 returns-then-not-is_tame-clause-known c s h m tame =

@@ -64,7 +64,7 @@ returns-in-Settled-clause-along c =
     let count = told.layers.many in
     let early = told.early in
     let bounded : length layers ≤ last = omega (arith, count, early) in
-    is_along about (last + 1) sides c.args.children.items c.in_ok-part-in-Settled.part (end ∷ layers) (end ∷ arguments sides) c.in_ok-part-in-Settled.ensures.region
+    is_along about (last + 1) (last + 2) sides c.args.children.items c.in_ok-part-in-Settled.part (end ∷ layers) (end ∷ arguments sides) (omega arith) (omega (arith, bounded)) c.in_ok-part-in-Settled.ensures.region
     (λ f g w. c.in_ok-part-in-Settled.ensures.part f g w)
     (λ s h m. until_built about last sides end s h m layers (answer_built about last sides end s h m c.in_ok-layers.field-0 rounds layers bounded told.layers.each c.variables-variables.ensures.limits.cases))
 
@@ -118,7 +118,7 @@ returns-clause-along c =
     let count = told.layers.many in
     let early : last ≤ last = omega arith in
     let bounded : length layers ≤ last = omega (arith, count, early) in
-    is_along about (last + 1) sides c.args.children.items c.in_ok-part-in-Open.part (end ∷ layers) (end ∷ arguments sides) c.in_ok-part-in-Open.ensures.region
+    is_along about (last + 1) (last + 2) sides c.args.children.items c.in_ok-part-in-Open.part (end ∷ layers) (end ∷ arguments sides) (omega arith) (omega (arith, bounded)) c.in_ok-part-in-Open.ensures.region
     (λ f g w. c.in_ok-part-in-Open.ensures.part f g w)
     (λ s h m. until_built about last sides end s h m layers (answer_built about last sides end s h m c.in_ok-layers.field-0 rounds layers bounded told.layers.each c.variables-variables.ensures.limits.cases))
 

@@ -85,7 +85,7 @@ returns-in-Settled-clause-along c =
     let onward = c.in_ok-more-in-Settled.more in
     let rounds = c.in_ok-region.ensures.rounds in
     let told = settled_round about last sides end c.in_ok-region.field-0 round c.in-Settled.at c.in-Settled.layers c.in-Settled.is c.requires.shape rounds in
-    is_along about (last + 1) sides c.args.children.items c.in_ok-part-in-Settled.part (end ∷ onward ∷ []) (end ∷ arguments sides) c.in_ok-part-in-Settled.ensures.region
+    is_along about (last + 1) (last + 2) sides c.args.children.items c.in_ok-part-in-Settled.part (end ∷ onward ∷ []) (end ∷ arguments sides) (omega arith) (omega arith) c.in_ok-part-in-Settled.ensures.region
     (λ f g w. c.in_ok-part-in-Settled.ensures.part f g w)
     (λ s h m. weak_built about last sides end s h m onward (c.in_ok-more-in-Settled.ensures.built s (last + h) (round_sides about last sides end s h m round (round_built about last sides end s h m c.in_ok-region.field-0 rounds c.in-Settled.at round told.early told.round))))
 
@@ -110,7 +110,7 @@ returns-in_err-part-in-Open-clause-refused c =
     (λ r is. fault_again about budget 1 (last + 2) given c.in_err-part-in-Open.field-0.0 r (omega arith) is c.in_err-part-in-Open.ensures.refused)
 
 pub returns-clause-along : goal.returns-clause-along
-returns-clause-along c = along_more (system_of c.args.search.now) 0 (c.args.search.now.last + 1) (c.args.end ∷ arguments c.args.sides.now) (c.args.end ∷ arguments c.args.sides.now) c.args.sides.now c.args.children.items c.in_ok-part-in-Open.part (omega arith) (λ s h m. all_built_to (system_of c.args.search.now) s h (0 + h) (c.args.end ∷ arguments c.args.sides.now) (omega arith) m) c.in_ok-part-in-Open.ensures.along
+returns-clause-along c = along_more (system_of c.args.search.now) 1 (c.args.search.now.last + 2) (c.args.end ∷ arguments c.args.sides.now) (c.args.end ∷ arguments c.args.sides.now) c.args.sides.now c.args.children.items c.in_ok-part-in-Open.part (omega arith) (λ s h m. all_built_to (system_of c.args.search.now) s h (0 + h) (c.args.end ∷ arguments c.args.sides.now) (omega arith) m) c.in_ok-part-in-Open.ensures.along
 
 pub returns-clause-gap : goal.returns-clause-gap
 returns-clause-gap c =

@@ -4,7 +4,8 @@ use Rattle.tv_cases.specs.Systems.{cases_of}
 use Rattle.tv_pre.specs.declared.fault.PreFault.TheVariants.{Memory}
 use Rattle.tv_pre.specs.Finding.{first_of}
 use Rattle.tv_pre.specs.Proving.{of_formula, ClaimHasRows, IsWideIn}
-use Rattle.tv_pre.proofs.DecidingLemmas.{left_none, left_gap, left_by, not_left}
+use Rattle.tv_pre.proofs.DecidingLemmas.{left_none, not_left}
+use Rattle.tv_pre.proofs.LeftLemmas.{left_by, reported_gap}
 use Rattle.tv_pre.proofs.deciding.left.Goals as goal
 
 pub returns-in-Err : goal.returns-in-Err
@@ -22,7 +23,10 @@ returns-in-Some c =
     let claim = c.args.claim.now in
     let rows = subst (λ o. MatchOption o (ClaimHasRows about claim) (IsWideIn about claim)) c.in-Ok-None.field-0-is c.in-Ok-None.ensures in
     let first : Some c.in-Some.gap ≡ first_of c.args.first c.args.second = sym c.in-Some.is ∙ c.first_gap.ensures in
-    (left_gap about claim c.args.first c.args.second c.in-Some.gap c.requires.left first, left_by about claim c.requires.variables rows c.args.first c.args.second c.in-Some.gap c.requires.left first)
+    let starts = c.variables-variables.ensures.limits.starts in (
+      reported_gap about claim c.args.first c.args.second c.in-Some.gap c.reported.result c.requires.left first c.reported.ensures,
+      left_by about claim c.requires.variables starts rows c.args.first c.args.second c.in-Some.gap c.reported.result c.requires.left first c.reported.ensures,
+    )
 
 pub unreachable-requires : goal.unreachable-requires
 unreachable-requires c =

@@ -1,4 +1,4 @@
-use Rattle.std.proofs.Common.{refl, sym, subst, ◌+◌, ◌∷◌, [], rules, IsTrue, IsFalse}
+use Rattle.std.proofs.Common.{refl, sym, subst, ◌+◌, ◌∷◌, [], rules, arith, IsTrue, IsFalse}
 use Rattle.tv_formula.specs.declared.tree.Path.{Path}
 use Rattle.tv_formula.specs.Properties.{fix}
 use Rattle.tv_cases.specs.Systems.{cases_of}
@@ -65,7 +65,7 @@ returns-clause-along c =
     let onward = c.in_ok-onward.onward in
     let part = c.in_ok-part.part in
     let told : IsTrue c.in-Ok.all = search rules in (
-      is_along about 1 sides c.args.children.items part (end ∷ onward ∷ []) (end ∷ arguments sides) c.in_ok-part.ensures.region
+      is_along about 1 2 sides c.args.children.items part (end ∷ onward ∷ []) (end ∷ arguments sides) (omega arith) (omega arith) c.in_ok-part.ensures.region
           (λ f g w. subst (λ (p : Path). IsPart about (fix p sides.shape f g) part.region part.node) (sym c.requires.path) (c.in_ok-part.ensures.part f g w))
           (λ s h m. both_built about sides end onward s h m (c.in_ok-onward.ensures.built s h (rest_built about s h end (arguments sides) m))),
       subst (HasAll about) (sym c.in_ok-part.ensures.region.pieces) (c.in-Ok.ensures.all told),

@@ -44,5 +44,5 @@ returns-clause-found c lacks =
 
 pub returns-clause-known : goal.returns-clause-known
 returns-clause-known c lacks tame =
-    absurd (never_wild (system_of c.args.search.now) c.args.search.now.last c.in_ok-anywhere.anywhere c.nowhere-none.result c.in_ok-goes.goes c.in_ok-anywhere.ensures c.nowhere-none.ensures c.in_ok-goes.ensures.built
-    (c.is_tame.ensures.wild c.if-is_tame.false) tame)
+    absurd ((never_wild (system_of c.args.search.now) c.args.search.now.last c.in_ok-anywhere.anywhere c.nowhere-none.result c.in_ok-goes.goes c.in_ok-anywhere.ensures c.nowhere-none.ensures c.in_ok-goes.ensures.built
+    (c.is_tame.ensures.wild c.if-is_tame.false)).wild tame)

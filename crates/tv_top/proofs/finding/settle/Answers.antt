@@ -3,14 +3,8 @@ use Rattle.tv_cases.specs.Systems.{cases_of}
 use Rattle.tv_invariant.specs.Asking.{Gave}
 use Rattle.tv_top.specs.Finding.{Offers}
 use Rattle.tv_top.specs.Views.{task_view}
-use Rattle.tv_top.proofs.Found.{settles_found, further_so}
+use Rattle.tv_top.proofs.Found.{further_so}
 use Rattle.tv_top.proofs.finding.settle.Goals as goal
-
-pub returns-in-Ok-Some : goal.returns-in-Ok-Some
-returns-in-Ok-Some g c = λ f is parts.
-    let search = c.args.search.now in
-    let offers : Offers = λ about. Gave (λ p. (goal.Proposer-dyn g (p.vtable, p.value)).rest p.value about) c.args.proposers.now.items in
-    settles_found offers (task_view search.task.now) (system_of search.program.now) f (cases_of search.about.now) c.told.result (c.told.ensures f is)
 
 pub returns : goal.returns
 returns g c = λ f is parts.

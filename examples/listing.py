@@ -1,0 +1,28 @@
+#!/usr/bin/env python3
+"""Lists what the numbers in answers and certificates mean: the locations, edges and linear cases of a program in its own names, and the
+subformulas of a property.
+
+Status: 0, 2 where the words are wrong, 3 where the program or the property cannot be read."""
+import argparse
+
+from t2.command import given, parser, run
+from t2.listing import listing
+
+ABOUT = "Lists the locations, edges and linear cases of a program by their numbers, and the subformulas of a property."
+
+
+def words() -> argparse.Namespace:
+    made = parser(ABOUT)
+    made.add_argument("program", metavar="PROGRAM", nargs="?", help="the program text; standard input where it is not given")
+    return made.parse_args()
+
+
+def main() -> int:
+    args = words()
+    about = given(args, args.program)
+    print("\n".join(listing(about.program, about.cases, about.proved, about.denied)))
+    return 0
+
+
+if __name__ == "__main__":
+    run("listing.py", main)

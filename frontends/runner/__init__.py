@@ -1,0 +1,1 @@
+"""One command from a file to YES, NO or MAYBE."""

@@ -1,0 +1,1 @@
+"""The translator from C to program texts."""
